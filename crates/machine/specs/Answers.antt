@@ -1,0 +1,58 @@
+-- The answers' numbers: the two words that a run writes for a tick, and back.
+use mathlib.Core.Path.{_≡_}
+use mathlib.Core.Option.{Option, some, none as nothing}
+use Prim.Native.Nat.{ℕ}
+use Rattle.machine.specs.declared.Answer.{Answer}
+use Rattle.machine.specs.declared.Answer.the-variants.{Going, Pushed, Bag, Empty, Full, Yes, No, Refused}
+use Rattle.machine.specs.Choice.{_≟_, if_then_else_}
+
+-- 01: 0 going, 1 pushed, 2 bag, 3 empty, 4 full, 5 yes, 6 no. A refusal, which a run does not write, is kind 7.
+abbrev pub kindOf : Answer → ℕ
+kindOf Going = 0
+kindOf Pushed = 1
+kindOf (Bag b) = 2
+kindOf Empty = 3
+kindOf Full = 4
+kindOf Yes = 5
+kindOf No = 6
+kindOf (Refused n) = 7
+
+-- 01: then the bag or 0. Of a refusal: its number.
+abbrev pub payloadOf : Answer → ℕ
+payloadOf Going = 0
+payloadOf Pushed = 0
+payloadOf (Bag b) = b
+payloadOf Empty = 0
+payloadOf Full = 0
+payloadOf Yes = 0
+payloadOf No = 0
+payloadOf (Refused n) = n
+
+-- The number of a refusal; nothing for a tick that was made.
+abbrev pub refusalOf : Answer → Option ℕ
+refusalOf Going = nothing
+refusalOf Pushed = nothing
+refusalOf (Bag b) = nothing
+refusalOf Empty = nothing
+refusalOf Full = nothing
+refusalOf Yes = nothing
+refusalOf No = nothing
+refusalOf (Refused n) = some n
+
+-- The answer other than a bag that a kind stands for, or nothing.
+unfoldable pub plainAnswerOf : (kind : ℕ) → Option Answer
+plainAnswerOf kind =
+    if kind ≟ 0 then some Going else
+    if kind ≟ 1 then some Pushed else
+    if kind ≟ 3 then some Empty else
+    if kind ≟ 4 then some Full else
+    if kind ≟ 5 then some Yes else
+    if kind ≟ 6 then some No else
+    nothing
+
+-- The answer that two words of a run stand for, or nothing.
+unfoldable pub answerOf : (kind payload : ℕ) → Option Answer
+answerOf kind payload =
+    if kind ≟ 2 then some (Bag payload) else
+    if payload ≟ 0 then plainAnswerOf kind else
+    nothing

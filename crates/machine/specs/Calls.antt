@@ -1,0 +1,255 @@
+-- The five calls: for every table and all numbers, the answer and every lent word afterwards.
+use mathlib.Core.Path.{_≡_}
+use mathlib.Core.Bool.{Bool, true, false, _&&_}
+use mathlib.Core.List.{List, [], _∷_, _++_}
+use mathlib.Core.Option.{Option, some, none as nothing, Option·map}
+use Prim.Native.Nat.{ℕ, zero, suc, _+_, _-_, _%_, _^_}
+use lib.Dec.{leb, ltb, eqb}
+use lib.ListN.{length, drop}
+use Rattle.machine.specs.declared.Answer.{Answer}
+use Rattle.machine.specs.declared.Answer.the-variants.{Refused}
+use Rattle.machine.specs.declared.Reply.{Reply}
+use Rattle.machine.specs.declared.Reply.the-variants.{Accepted, Refused as Reply-Refused}
+use Rattle.machine.specs.declared.Reading.{Reading}
+use Rattle.machine.specs.declared.Reading.the-variants.{Count, Refused as Reading-Refused}
+use Rattle.machine.specs.declared.Ran.{Ran}
+use Rattle.machine.specs.Choice.{_≟_, if_then_else_}
+use Rattle.machine.specs.Sides.{Side, left, right, opposite, sideOf}
+use Rattle.machine.specs.Values.{Value, never, bag, N, X, Y}
+use Rattle.machine.specs.Operations.{Operation, idle, push, pop, add, remove, operationOf, argumentOk}
+use Rattle.machine.specs.Steps.{firstStep}
+use Rattle.machine.specs.Tasks.{Task, fresh, none, wordsOf, goal}
+use Rattle.machine.specs.Table.{
+  tableLength,
+  nodeCount,
+  taskCount,
+  growth,
+  hat,
+  tickCount,
+  headerWords,
+  nodeWords,
+  link,
+  value,
+  task,
+  setTickCount,
+  setTask,
+}
+use Rattle.machine.specs.Shape.{sizesOk, lengthOk, shapeOk}
+use Rattle.machine.specs.Allocate.{allocate}
+use Rattle.machine.specs.Lines.{Effect, seen, writeAll, act}
+use Rattle.machine.specs.Answers.{kindOf, payloadOf, refusalOf}
+
+-- ---- Refusals, in the order of 01's table.
+
+-- n where the test fails; where it passes, what the tests after it give.
+abbrev pub unless : Bool → ℕ → Option ℕ → Option ℕ
+unless true n others = others
+unless false n others = some n
+
+abbrev pub isIdle : Operation → Bool
+isIdle idle = true
+isIdle push = false
+isIdle pop = false
+isIdle add = false
+isIdle remove = false
+
+abbrev pub isBusy : Operation → Bool
+isBusy idle = false
+isBusy push = true
+isBusy pop = true
+isBusy add = true
+isBusy remove = true
+
+abbrev pub startRefusal : List ℕ → (S T growth : ℕ) → Option ℕ
+startRefusal ws S T g =
+    unless (sizesOk S T g) 1
+    (unless (eqb (length ws) (tableLength S T)) 2 nothing)
+
+-- The tests that all the other calls begin with.
+abbrev pub tableRefusal : List ℕ → Option ℕ → Option ℕ
+tableRefusal ws others = unless (lengthOk ws) 3 (unless (shapeOk ws) 4 others)
+
+abbrev pub beginRefusal : List ℕ → (k operation side argument : ℕ) → Option ℕ
+beginRefusal ws k op side argument =
+    tableRefusal ws
+    (unless (ltb k (taskCount ws)) 5
+    (unless (leb 1 op && leb op 4 && leb side 1) 6
+    (unless (argumentOk (operationOf op) argument) 7
+    (unless (isIdle (task ws k .operation)) 8 nothing))))
+
+-- The tests of a tick on a table that has passed 3 and 4. (11 is the lines' own: `through` in Lines.)
+abbrev pub tickRefusal : List ℕ → (k hint : ℕ) → Option ℕ
+tickRefusal ws k h =
+    unless (ltb k (taskCount ws)) 5
+    (unless (ltb h (nodeCount ws)) 9
+    (unless (isBusy (task ws k .operation)) 10 nothing))
+
+abbrev pub runRefusal : List ℕ → (list answers : List ℕ) → Option ℕ
+runRefusal ws list answers =
+    tableRefusal ws
+    (unless (eqb (length list % 2) 0 && leb (length list) 8192) 13
+    (unless (leb (length list) (length answers)) 14 nothing))
+
+-- ---- start and begin.
+pub record Changed : Type 0 where
+  pub reply : Reply
+  pub words : List ℕ
+
+-- A refusal leaves the words as they were.
+abbrev pub changed : Option ℕ → (before after : List ℕ) → Changed
+changed (some n) before after = record { reply = Reply-Refused n; words = before }
+changed nothing before after = record { reply = Accepted; words = after }
+
+-- A list n times over.
+unfoldable pub times : ℕ → List ℕ → List ℕ
+times zero l = []
+times (suc n) l = l ++ times n l
+
+-- 01: slot 0 as L none, R 1, V LX and slot 1 as L 0, R none, V RX. The hats are 0 and 1, other slots have no links and
+-- V 0, the tick count is 0 and all tasks are idle.
+unfoldable pub startWords : (S T growth : ℕ) → List ℕ
+startWords S T g =
+    headerWords S T g 0 1 0
+    ++ (nodeWords none 1 (X left)
+    ++ (nodeWords 0 none (X right)
+    ++ (times (S - 2) (nodeWords none none never)
+    ++ times T (wordsOf fresh))))
+
+unfoldable pub start : List ℕ → (S T growth : ℕ) → Changed
+start ws S T g = changed (startRefusal ws S T g) ws (startWords S T g)
+
+-- 01: begin writes a fresh record with operation, side, argument and first step.
+abbrev pub begunTask : Operation → Side → ℕ → Task
+begunTask op s argument =
+    record {
+      operation = op;
+      step = firstStep op;
+      side = s;
+      argument = argument;
+      counted = 0;
+      value = never;
+      A = none;
+      B = none;
+      C = none;
+      D = none;
+    }
+
+unfoldable pub begin : List ℕ → (k operation side argument : ℕ) → Changed
+begin ws k op side argument =
+    changed (beginRefusal ws k op side argument) ws (setTask k (begunTask (operationOf op) (sideOf side) argument) ws)
+
+-- ---- tick.
+pub record Ticked : Type 0 where
+  pub answer : Answer
+  pub words : List ℕ
+
+-- The effect of the line at which a task stands.
+unfoldable pub effectOf : List ℕ → (k hint : ℕ) → Effect
+effectOf ws k h =
+    let t = task ws k in
+    act (t .step) (t .side) (opposite (t .side)) (seen (t .side) ws) t (goal (growth ws) t) (allocate ws h)
+
+-- 01: the tick count rises by 1 with each tick made and goes from 4,294,967,295 to 0.
+abbrev pub counted : List ℕ → List ℕ
+counted ws = setTickCount ((tickCount ws + 1) % 2 ^ 32) ws
+
+-- The table after an effect of a task on side s; a refusal leaves it as it was.
+unfoldable pub applied : Side → List ℕ → ℕ → Effect → Ticked
+applied s ws k e =
+    elim (refusalOf (e .answer)) as (λ _. Ticked) [
+      | some n ↦ record { answer = e .answer; words = ws }
+      | nothing ↦ record { answer = e .answer; words = counted (setTask k (e .task) (writeAll s (e .writes) ws)) }
+    ]
+
+-- A tick on a table that has passed 3 and 4.
+unfoldable pub tickOn : List ℕ → (k hint : ℕ) → Ticked
+tickOn ws k h =
+    elim (tickRefusal ws k h) as (λ _. Ticked) [
+      | some n ↦ record { answer = Refused n; words = ws }
+      | nothing ↦ applied (task ws k .side) ws k (effectOf ws k h)
+    ]
+
+unfoldable pub tick : List ℕ → (k hint : ℕ) → Ticked
+tick ws k h =
+    elim (tableRefusal ws nothing) as (λ _. Ticked) [
+      | some n ↦ record { answer = Refused n; words = ws }
+      | nothing ↦ tickOn ws k h
+    ]
+
+-- ---- run.
+pub record RunDone : Type 0 where
+  pub ran : Ran
+  pub words : List ℕ
+  pub answers : List ℕ
+
+abbrev pub stopped : ℕ → (ws answers : List ℕ) → RunDone
+stopped n ws answers = record { ran = record { made = 0; refusal = n }; words = ws; answers = answers }
+
+-- One tick more, made first, with its two words.
+abbrev pub afterTick : Answer → RunDone → RunDone
+afterTick a r =
+    record {
+      ran = record { made = suc (r .ran .made); refusal = r .ran .refusal };
+      words = r .words;
+      answers = kindOf a ∷ payloadOf a ∷ r .answers;
+    }
+
+-- 01: a run takes (task, hint) pairs and stops at the first refused tick; per tick made it writes two words.
+unfoldable pub runOn : (list : List ℕ) (ws answers : List ℕ) → RunDone
+runOn [] ws answers = stopped 0 ws answers
+runOn (k ∷ []) ws answers = stopped 0 ws answers
+runOn (k ∷ h ∷ list) ws answers =
+    let one = tickOn ws k h in
+    elim (refusalOf (one .answer)) as (λ _. RunDone) [
+      | some n ↦ stopped n ws answers
+      | nothing ↦ afterTick (one .answer) (runOn list (one .words) (drop 2 answers))
+    ]
+
+unfoldable pub run : List ℕ → (list answers : List ℕ) → RunDone
+run ws list answers =
+    elim (runRefusal ws list answers) as (λ _. RunDone) [
+      | some n ↦ stopped n ws answers
+      | nothing ↦ runOn list ws answers
+    ]
+
+-- ---- Reading the lane.
+
+-- The bag numbers from node x on along R, in n nodes at most; nothing where a link is none, or n bags have no end.
+unfoldable pub laneFrom : List ℕ → (n x : ℕ) → Option (List ℕ)
+laneFrom ws zero x = nothing
+laneFrom ws (suc n) x =
+    if x ≟ none then nothing else
+    elim (value ws x) as (λ _. Option (List ℕ)) [
+      | never ↦ some []
+      | bag b ↦ Option·map (_∷_ b) (laneFrom ws n (link ws right x))
+      | N z ↦ some []
+      | X z ↦ some []
+      | Y z ↦ some []
+    ]
+
+-- 01: the lane is read from the left hat's R along R while V is a bag.
+unfoldable pub lane : List ℕ → Option (List ℕ)
+lane ws = laneFrom ws (nodeCount ws) (link ws right (hat ws left))
+
+pub record ReadDone : Type 0 where
+  pub reading : Reading
+  pub out : List ℕ
+
+abbrev pub unread : ℕ → List ℕ → ReadDone
+unread n out = record { reading = Reading-Refused n; out = out }
+
+-- 01: the read writes bags in order, answers their count, and touches no later word.
+unfoldable pub readInto : Option (List ℕ) → List ℕ → ReadDone
+readInto nothing out = unread 11 out
+readInto (some bags) out =
+    elim (leb (length bags) (length out)) as (λ _. ReadDone) [
+      | true ↦ record { reading = Count (length bags); out = bags ++ drop (length bags) out }
+      | false ↦ unread 12 out
+    ]
+
+unfoldable pub read : List ℕ → (out : List ℕ) → ReadDone
+read ws out =
+    elim (tableRefusal ws nothing) as (λ _. ReadDone) [
+      | some n ↦ unread n out
+      | nothing ↦ readInto (lane ws) out
+    ]

@@ -1,0 +1,134 @@
+-- Demand 3: one claim about a list of calls on one table, and nothing but the table and the row in it.
+use mathlib.Core.Path.{_≡_}
+use mathlib.Core.Bool.{Bool, true, false, cond, _&&_}
+use mathlib.Core.List.{List, [], _∷_}
+use mathlib.Core.Option.{Option, some, none as nothing}
+use Prim.Native.Nat.{ℕ, zero, suc, _≤_}
+use lib.Dec.{leb, ltb, eqb}
+use lib.ListN.{length, take}
+use Rattle.machine.specs.declared.Answer.{Answer}
+use Rattle.machine.specs.declared.Reply.{Reply}
+use Rattle.machine.specs.declared.Reply.the-variants.{Accepted, Refused as Reply-Refused}
+use Rattle.machine.specs.declared.Reading.{Reading}
+use Rattle.machine.specs.declared.Reading.the-variants.{Count, Refused as Reading-Refused}
+use Rattle.machine.specs.declared.Ran.{Ran}
+use Rattle.machine.specs.Sides.{sideOf}
+use Rattle.machine.specs.Operations.{operationOf}
+use Rattle.machine.specs.Shape.{sameWords}
+use Rattle.machine.specs.Answers.{refusalOf}
+use Rattle.machine.specs.Calls.{
+  Changed,
+  start,
+  begin,
+  Ticked,
+  tick,
+  tickOn,
+  RunDone,
+  run,
+  lane,
+  ReadDone,
+  read,
+}
+use Rattle.machine.specs.Row.{Row, emptyRow, Note, noted, feedMade, feedRun}
+
+-- 01: the list holds start, begin, tick, run and reading the lane, with any arguments. A run's list and answer slice and
+-- a read's out slice are that call's own: here by their contents when the call is made.
+pub data Call : Type 0 where
+  start-call : (S T growth : ℕ) → Call
+  begin-call : (k operation side argument : ℕ) → Call
+  tick-call : (k hint : ℕ) → Call
+  run-call : (list answers : List ℕ) → Call
+  read-call : (out : List ℕ) → Call
+
+-- What a call gives back: its answer, with the words that it wrote into a slice of its own.
+abbrev pub Given : Call → Type 0
+Given (start-call S T g) = Reply
+Given (begin-call k op side argument) = Reply
+Given (tick-call k h) = Answer
+Given (run-call list answers) = Ran × List ℕ
+Given (read-call out) = Reading × List ℕ
+
+abbrev pub given : (c : Call) → List ℕ → Given c
+given (start-call S T g) ws = start ws S T g .reply
+given (begin-call k op side argument) ws = begin ws k op side argument .reply
+given (tick-call k h) ws = tick ws k h .answer
+given (run-call list answers) ws = (run ws list answers .ran, run ws list answers .answers)
+given (read-call out) ws = (read ws out .reading, read ws out .out)
+
+-- The table as a call leaves it.
+abbrev pub after : Call → List ℕ → List ℕ
+after (start-call S T g) ws = start ws S T g .words
+after (begin-call k op side argument) ws = begin ws k op side argument .words
+after (tick-call k h) ws = tick ws k h .words
+after (run-call list answers) ws = run ws list answers .words
+after (read-call out) ws = ws
+
+-- ---- The row, fed a call and what it gave back: the row afterwards, or nothing where the row does not give that.
+abbrev pub feedStart : Row → Reply → Option Row
+feedStart ρ Accepted = some emptyRow
+feedStart ρ (Reply-Refused n) = some ρ
+
+abbrev pub feedBegin : Row → ℕ → Note → Reply → Option Row
+feedBegin ρ k n Accepted = some (noted ρ k (some n))
+feedBegin ρ k n (Reply-Refused r) = some ρ
+
+-- 01: a refused tick leaves the note.
+unfoldable pub feedTick : Row → ℕ → Answer → Option Row
+feedTick ρ k a =
+    elim (refusalOf a) as (λ _. Option Row) [ some n ↦ some ρ | nothing ↦ feedMade ρ k a ]
+
+-- 01: reading: the row's count and the row in order, or 12 exactly when the out slice is too short for it; never 3, 4
+-- or 11.
+abbrev pub feedRead : Row → List ℕ → Reading → List ℕ → Option Row
+feedRead ρ out (Count n) written =
+    cond (eqb n (length (ρ .bags)) && leb n (length out) && sameWords (take n written) (ρ .bags)) (some ρ) nothing
+feedRead ρ out (Reading-Refused n) written =
+    cond (eqb n 12 && ltb (length out) (length (ρ .bags))) (some ρ) nothing
+
+abbrev pub feed : Row → (c : Call) → Given c → Option Row
+feed ρ (start-call S T g) r = feedStart ρ r
+feed ρ (begin-call k op side argument) r =
+    feedBegin ρ k (record { operation = operationOf op; side = sideOf side; argument = argument }) r
+feed ρ (tick-call k h) a = feedTick ρ k a
+feed ρ (run-call list answers) r = feedRun ρ (r .0 .made) list (r .1)
+feed ρ (read-call out) r = feedRead ρ out (r .0) (r .1)
+
+-- ---- The claim.
+
+-- The lane in the table is the row.
+abbrev pub LaneIs : List ℕ → Row → Type 0
+LaneIs ws ρ = lane ws ≡ some (ρ .bags)
+
+-- The table after the first i ticks of a list of pairs.
+unfoldable pub afterTicks : (i : ℕ) → (list ws : List ℕ) → List ℕ
+afterTicks zero list ws = ws
+afterTicks (suc i) [] ws = ws
+afterTicks (suc i) (k ∷ []) ws = ws
+afterTicks (suc i) (k ∷ h ∷ list) ws = afterTicks i list (tickOn ws k h .words)
+
+-- After every tick made inside a run, the lane is the row fed the run's words so far.
+abbrev pub Within : (c : Call) → List ℕ → Row → Type 0
+Within (run-call list answers) ws ρ =
+    (i : ℕ)
+    → i ≤ run ws list answers .ran .made
+    → (ρᵢ : Row) × (feedRun ρ i list (run ws list answers .answers) ≡ some ρᵢ) × LaneIs (afterTicks i list ws) ρᵢ
+Within (start-call S T g) ws ρ = Unit {0}
+Within (begin-call k op side argument) ws ρ = Unit {0}
+Within (tick-call k h) ws ρ = Unit {0}
+Within (read-call out) ws ρ = Unit {0}
+
+-- The row explains a list of calls, each on the table as the one before left it.
+abbrev pub Explained : List Call → List ℕ → Row → Type 0
+Explained [] ws ρ = LaneIs ws ρ
+Explained (c ∷ cs) ws ρ =
+    LaneIs ws ρ
+    × Within c ws ρ
+    × ((ρ′ : Row) × (feed ρ c (given c ws) ≡ some ρ′) × Explained cs (after c ws) ρ′)
+
+-- 01: the first call gets the table as an accepted start left it.
+abbrev pub Demand3 : Type 0
+Demand3 =
+    (S T growth : ℕ) (old : List ℕ)
+    → start old S T growth .reply ≡ Accepted
+    → (calls : List Call)
+    → Explained calls (start old S T growth .words) emptyRow

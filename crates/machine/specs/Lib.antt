@@ -1,0 +1,15 @@
+pub mod Choice
+pub mod Sides
+pub mod Values
+pub mod Operations
+pub mod Steps
+pub mod Tasks
+pub mod Table
+pub mod Shape
+pub mod Reach
+pub mod Allocate
+pub mod Lines
+pub mod Answers
+pub mod Calls
+pub mod Row
+pub mod Demand3

@@ -1,0 +1,117 @@
+-- The plain row of bags: what it keeps, and which answers it gives. It is fed arguments and answers, never the table.
+use mathlib.Core.Path.{_≡_}
+use mathlib.Core.Bool.{Bool, true, false, cond, _&&_}
+use mathlib.Core.List.{List, [], _∷_, _++_, reverse}
+use mathlib.Core.Option.{Option, some, none as nothing, Option·map, bind}
+use Prim.Native.Nat.{ℕ, zero, suc}
+use lib.Dec.{leb, ltb, eqb}
+use lib.ListN.{length, take}
+use Rattle.machine.specs.declared.Answer.{Answer}
+use Rattle.machine.specs.declared.Answer.the-variants.{Going, Pushed, Bag, Empty, Full, Yes, No, Refused}
+use Rattle.machine.specs.Choice.{_≟_, if_then_else_}
+use Rattle.machine.specs.Sides.{Side, left, right}
+use Rattle.machine.specs.Operations.{Operation, idle, push, pop, add, remove}
+use Rattle.machine.specs.Answers.{answerOf}
+
+-- 01: the task's note is the operation, side and argument.
+pub record Note : Type 0 where
+  pub operation : Operation
+  pub side : Side
+  pub argument : ℕ
+
+-- 01: it keeps a row of bags, left end first, and for each task a note or none.
+pub record Row : Type 0 where
+  pub bags : List ℕ
+  pub notes : ℕ → Option Note
+
+-- 01: at first the row is empty and there are no notes.
+abbrev pub emptyRow : Row
+emptyRow = record { bags = []; notes = λ k. nothing }
+
+abbrev pub noted : Row → ℕ → Option Note → Row
+noted ρ k n = record { bags = ρ .bags; notes = λ j. if j ≟ k then n else ρ .notes j }
+
+-- A bag put at a side's end.
+abbrev pub put : Side → ℕ → List ℕ → List ℕ
+put left b bags = b ∷ bags
+put right b bags = bags ++ (b ∷ [])
+
+-- The bags without the one at a side's end, where that one is b.
+abbrev pub takeFirst : ℕ → List ℕ → Option (List ℕ)
+takeFirst b [] = nothing
+takeFirst b (x ∷ xs) = if x ≟ b then some xs else nothing
+
+abbrev pub takeBag : Side → ℕ → List ℕ → Option (List ℕ)
+takeBag left b bags = takeFirst b bags
+takeBag right b bags = Option·map reverse (takeFirst b (reverse bags))
+
+-- The row that a push, and a pop, of the note leaves with its answer; nothing where the row does not give that answer.
+unfoldable pub pushAnswered : Note → Answer → List ℕ → Option (List ℕ)
+pushAnswered n Pushed bags = some (put (n .side) (n .argument) bags)
+pushAnswered n Full bags = some bags
+pushAnswered n Going bags = nothing
+pushAnswered n (Bag b) bags = nothing
+pushAnswered n Empty bags = nothing
+pushAnswered n Yes bags = nothing
+pushAnswered n No bags = nothing
+pushAnswered n (Refused r) bags = nothing
+
+unfoldable pub popAnswered : Note → Answer → List ℕ → Option (List ℕ)
+popAnswered n (Bag b) bags = takeBag (n .side) b bags
+popAnswered n Empty [] = some []
+popAnswered n Empty (b ∷ bags) = nothing
+popAnswered n Going bags = nothing
+popAnswered n Pushed bags = nothing
+popAnswered n Full bags = nothing
+popAnswered n Yes bags = nothing
+popAnswered n No bags = nothing
+popAnswered n (Refused r) bags = nothing
+
+-- 01: "yes" and "no": only to an add or remove. The row stays.
+unfoldable pub sizeAnswered : Answer → List ℕ → Option (List ℕ)
+sizeAnswered Yes bags = some bags
+sizeAnswered No bags = some bags
+sizeAnswered Going bags = nothing
+sizeAnswered Pushed bags = nothing
+sizeAnswered (Bag b) bags = nothing
+sizeAnswered Empty bags = nothing
+sizeAnswered Full bags = nothing
+sizeAnswered (Refused r) bags = nothing
+
+abbrev pub answeredBy : Operation → Note → Answer → List ℕ → Option (List ℕ)
+answeredBy idle n a bags = nothing
+answeredBy push n a bags = pushAnswered n a bags
+answeredBy pop n a bags = popAnswered n a bags
+answeredBy add n a bags = sizeAnswered a bags
+answeredBy remove n a bags = sizeAnswered a bags
+
+abbrev pub answered : Note → Answer → List ℕ → Option (List ℕ)
+answered n a bags = answeredBy (n .operation) n a bags
+
+abbrev pub isGoing : Answer → Bool
+isGoing Going = true
+isGoing Pushed = false
+isGoing (Bag b) = false
+isGoing Empty = false
+isGoing Full = false
+isGoing Yes = false
+isGoing No = false
+isGoing (Refused n) = false
+
+-- A tick that was made. 01: a tick answers the call in its task's note, so a task without one gets no answer, "going"
+-- neither; after each tick's answer but "going" the task has no note.
+unfoldable pub feedMade : Row → ℕ → Answer → Option Row
+feedMade ρ k a =
+    bind (ρ .notes k)
+    (λ n. cond (isGoing a) (some ρ)
+    (Option·map (λ bags. noted (record { bags = bags; notes = ρ .notes }) k nothing) (answered n a (ρ .bags))))
+
+-- 01: run: the ticks it reports made, by its pairs and the words it wrote, one after another.
+unfoldable pub feedRun : Row → (made : ℕ) → (list answers : List ℕ) → Option Row
+feedRun ρ zero list answers = some ρ
+feedRun ρ (suc n) [] answers = nothing
+feedRun ρ (suc n) (k ∷ []) answers = nothing
+feedRun ρ (suc n) (k ∷ h ∷ list) [] = nothing
+feedRun ρ (suc n) (k ∷ h ∷ list) (kind ∷ []) = nothing
+feedRun ρ (suc n) (k ∷ h ∷ list) (kind ∷ payload ∷ answers) =
+    bind (answerOf kind payload) (λ a. bind (feedMade ρ k a) (λ ρ′. feedRun ρ′ n list answers))

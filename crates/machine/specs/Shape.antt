@@ -1,0 +1,114 @@
+-- Which tables are accepted: the sizes and the length (refusal 3), the shape (refusal 4).
+use mathlib.Core.Bool.{Bool, true, false, cond, _&&_, _||_}
+use mathlib.Core.List.{List, [], _∷_}
+use Prim.Native.Nat.{ℕ, zero, suc}
+use lib.Dec.{leb, ltb, eqb}
+use lib.ListN.{length, getD}
+use Rattle.machine.specs.Sides.{Side, left, right, opposite, sideOf}
+use Rattle.machine.specs.Values.{N, X, encode, bagOk, valueOk}
+use Rattle.machine.specs.Operations.{Operation, operationOf, argumentOk, goalOf}
+use Rattle.machine.specs.Steps.{
+  line31,
+  line48,
+  line51,
+  line54,
+  line56,
+  line58,
+  stepNumber,
+  stepsOf,
+  isStepIn,
+}
+use Rattle.machine.specs.Tasks.{none, fresh, wordsOf}
+use Rattle.machine.specs.Table.{
+  tableLength,
+  nodeCount,
+  taskCount,
+  growth,
+  hat,
+  sixth,
+  seventh,
+  linkWord,
+  valueWord,
+  recordWords,
+}
+
+-- 01: S slots (2 to 1,024), T tasks (1 to 16), growth (0 to 64).
+abbrev pub sizesOk : (S T growth : ℕ) → Bool
+sizesOk S T g = leb 2 S && leb S 1024 && leb 1 T && leb T 16 && leb g 64
+
+-- Refusal 3: under 24 words, header S, T or growth out of range, or length not matching.
+abbrev pub lengthOk : List ℕ → Bool
+lengthOk ws =
+    leb 24 (length ws)
+    && sizesOk (nodeCount ws) (taskCount ws) (growth ws)
+    && eqb (length ws) (tableLength (nodeCount ws) (taskCount ws))
+
+-- Every number below n passes a test.
+unfoldable pub allBelow : ℕ → (ℕ → Bool) → Bool
+allBelow zero test = true
+allBelow (suc n) test = allBelow n test && test n
+
+-- Two lists of words are the same.
+unfoldable pub sameWords : List ℕ → List ℕ → Bool
+sameWords [] [] = true
+sameWords [] (y ∷ ys) = false
+sameWords (x ∷ xs) [] = false
+sameWords (x ∷ xs) (y ∷ ys) = eqb x y && sameWords xs ys
+
+-- 01: a slot number below S, or none.
+abbrev pub nodeOrNone : (S x : ℕ) → Bool
+nodeOrNone S x = ltb x S || eqb x none
+
+-- 01: both last header words are 0, hats are below S.
+abbrev pub headerOk : List ℕ → Bool
+headerOk ws =
+    eqb (sixth ws) 0
+    && eqb (seventh ws) 0
+    && ltb (hat ws left) (nodeCount ws)
+    && ltb (hat ws right) (nodeCount ws)
+
+-- 01: links and V are as above.
+unfoldable pub nodeOk : List ℕ → ℕ → Bool
+nodeOk ws x =
+    nodeOrNone (nodeCount ws) (linkWord ws left x)
+    && nodeOrNone (nodeCount ws) (linkWord ws right x)
+    && valueOk (valueWord ws x)
+
+-- 01: value read is as V may be (a bag at 51; LN or LX at 48, mirrored on the left).
+abbrev pub valueReadOk : Side → (step word : ℕ) → Bool
+valueReadOk s step w =
+    cond (eqb step (stepNumber line51)) (bagOk w)
+    (cond (eqb step (stepNumber line48)) (eqb w (encode (N (opposite s))) || eqb w (encode (X (opposite s))))
+    (valueOk w))
+
+-- 01: counted is 0 at step 54, below the goal at steps 31, 56, 58 and at most the goal elsewhere.
+abbrev pub countedOk : (step goal counted : ℕ) → Bool
+countedOk step goal n =
+    cond (eqb step (stepNumber line54)) (eqb n 0)
+    (cond (isStepIn (line31 ∷ line56 ∷ line58 ∷ []) step) (ltb n goal)
+    (leb n goal))
+
+-- The ten words of a task that is in a call.
+unfoldable pub busyOk : (S growth : ℕ) → List ℕ → Bool
+busyOk S g r =
+    leb (getD r 0 0) 4
+    && leb (getD r 2 0) 1
+    && isStepIn (stepsOf (operationOf (getD r 0 0))) (getD r 1 0)
+    && argumentOk (operationOf (getD r 0 0)) (getD r 3 0)
+    && countedOk (getD r 1 0) (goalOf (operationOf (getD r 0 0)) g (getD r 3 0)) (getD r 4 0)
+    && valueReadOk (sideOf (getD r 2 0)) (getD r 1 0) (getD r 5 0)
+    && nodeOrNone S (getD r 6 0)
+    && nodeOrNone S (getD r 7 0)
+    && nodeOrNone S (getD r 8 0)
+    && nodeOrNone S (getD r 9 0)
+
+-- 01: an idle record is fresh, and the step is of its operation.
+unfoldable pub recordOk : (S growth : ℕ) → List ℕ → Bool
+recordOk S g r = cond (eqb (getD r 0 0) 0) (sameWords r (wordsOf fresh)) (busyOk S g r)
+
+-- 01: the shape, of a table whose sizes and length are right.
+unfoldable pub shapeOk : List ℕ → Bool
+shapeOk ws =
+    headerOk ws
+    && allBelow (nodeCount ws) (nodeOk ws)
+    && allBelow (taskCount ws) (λ k. recordOk (nodeCount ws) (growth ws) (recordWords ws k))
