@@ -1,3 +1,8 @@
+pub mod Choices
+pub mod Tests
+pub mod ValueLaws
+pub mod StepLaws
+pub mod RecordLaws
 pub mod Marking
 pub mod Reached
 pub mod FirstFree

@@ -1,0 +1,4 @@
+pub mod Tables
+pub mod ValueWords
+pub mod NodeWords
+pub mod RecordStores

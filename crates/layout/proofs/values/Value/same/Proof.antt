@@ -1,0 +1,13 @@
+-- `layout::values::Value::same` meets its contract.
+use Rattle.layout.proofs.ValueWords.{same-word}
+use Rattle.layout.proofs.values.Value.same.Statement.{statement}
+use Rattle.layout.proofs.values.Value.same.Tie as tie
+
+returns : tie.Need-returns
+returns c =
+    let a = c .before .before .args in
+    let h = c .before .before .pre in
+    same-word (a .self .word) (a .other .word) (h .0) (h .1)
+
+pub same-spec : {M : Type 1} → statement M
+same-spec = tie.close (tie.spec returns)

@@ -1,0 +1,30 @@
+-- A decision whose outcome is known: rewriting by these makes a choice compute.
+use mathlib.Core.Path.{_≡_, refl, ap}
+use mathlib.Core.Logic.{_≢_}
+use mathlib.Core.HLevel.{hedberg, ¬-prop}
+use Prim.Native.Nat.{ℕ}
+use native.Mathlib.Nat.{ℕ-set}
+use Rattle.machine.specs.Choice.{_≟_}
+use Rattle.machine.specs.Values.{Value, Value-discrete, _≟ᵛ_}
+
+decided-yes : {P : Type 0} → IsProp P → (d : Dec P) (h : P) → d ≡ yes h
+decided-yes p (yes g) h = ap yes (p g h)
+decided-yes p (no g) h = absurd (g h)
+
+decided-no : {P : Type 0} (d : Dec P) (h : ¬ P) → d ≡ no h
+decided-no (yes g) h = absurd (h g)
+decided-no (no g) h = ap no (¬-prop g h)
+
+-- Two numbers known to be equal, or not.
+pub equal : {x y : ℕ} (h : x ≡ y) → (x ≟ y) ≡ yes h
+equal {x} {y} h = decided-yes (ℕ-set x y) (x ≟ y) h
+
+pub unequal : {x y : ℕ} (h : x ≢ y) → (x ≟ y) ≡ no h
+unequal {x} {y} h = decided-no (x ≟ y) h
+
+-- Two values known to be equal, or not.
+pub equalᵛ : {u v : Value} (h : u ≡ v) → (u ≟ᵛ v) ≡ yes h
+equalᵛ {u} {v} h = decided-yes (hedberg Value-discrete u v) (u ≟ᵛ v) h
+
+pub unequalᵛ : {u v : Value} (h : u ≢ v) → (u ≟ᵛ v) ≡ no h
+unequalᵛ {u} {v} h = decided-no (u ≟ᵛ v) h
