@@ -1,0 +1,58 @@
+//! Which nodes are reachable, and the first that is not.
+
+use crate::table::{header, node, record, Sizes};
+
+/// The first free node from the hint upward, going round past the last.
+///
+/// The table's shape holds and the hint is below the number of nodes.
+pub fn first_free(table: &[u32], sizes: Sizes, hint: u32) -> Option<u32> {
+    let reached = reachable(table, sizes);
+    (hint..sizes.nodes)
+        .chain(0..hint)
+        .find(|&number| !reached[number as usize])
+}
+
+/// Marks every node to which a chain of links leads from a hat or a register.
+fn reachable(table: &[u32], sizes: Sizes) -> [bool; Sizes::MAX_NODES] {
+    let mut work = Worklist {
+        reached: [false; Sizes::MAX_NODES],
+        pending: [0; Sizes::MAX_NODES],
+        length: 0,
+    };
+    work.add(table[header::LEFT_HAT]);
+    work.add(table[header::RIGHT_HAT]);
+    for task in table[sizes.record(0)..].chunks_exact(record::WORDS) {
+        for &register in &task[record::A..] {
+            work.add(register);
+        }
+    }
+    while let Some(number) = work.take() {
+        let at = sizes.node(number);
+        work.add(table[at + node::LEFT]);
+        work.add(table[at + node::RIGHT]);
+    }
+    work.reached
+}
+
+/// Nodes reached, and those among them whose links are still to be followed.
+struct Worklist {
+    reached: [bool; Sizes::MAX_NODES],
+    pending: [u16; Sizes::MAX_NODES],
+    length: usize,
+}
+
+impl Worklist {
+    /// A node enters only once, so `pending` cannot overflow; none is no index.
+    fn add(&mut self, number: u32) {
+        if let Some(reached @ false) = self.reached.get_mut(number as usize) {
+            *reached = true;
+            self.pending[self.length] = number as u16;
+            self.length += 1;
+        }
+    }
+
+    fn take(&mut self) -> Option<u32> {
+        self.length = self.length.checked_sub(1)?;
+        Some(u32::from(self.pending[self.length]))
+    }
+}

@@ -1,0 +1,140 @@
+//! The five public calls: their refusals in order, then their work.
+
+use crate::answer::Answer;
+use crate::refusal;
+use crate::shape;
+use crate::step;
+use crate::table::{self, header, node, record, Sizes, LX, NONE, RX};
+
+/// Longest schedule of a run, in words.
+const MAX_SCHEDULE: usize = 8192;
+
+/// Writes an empty deque of two sentinels, with all tasks idle.
+pub fn start(table: &mut [u32], slots: u32, tasks: u32, growth: u32) -> Result<(), u32> {
+    let sizes = Sizes::new(slots, tasks, growth).ok_or(refusal::START_SIZES)?;
+    if table.len() != sizes.words() {
+        return Err(refusal::START_LENGTH);
+    }
+    let (head, rest) = table.split_at_mut(header::WORDS);
+    let (nodes, records) = rest.split_at_mut(node::WORDS * slots as usize);
+    head.copy_from_slice(&[slots, tasks, growth, 0, 1, 0, 0, 0]);
+    for node in nodes.chunks_exact_mut(node::WORDS) {
+        node.copy_from_slice(&[NONE, NONE, 0]);
+    }
+    nodes[..2 * node::WORDS].copy_from_slice(&[NONE, 1, LX, 0, NONE, RX]);
+    for task in records.chunks_exact_mut(record::WORDS) {
+        task.copy_from_slice(&record::FRESH);
+    }
+    Ok(())
+}
+
+/// Gives an idle task an operation.
+pub fn begin(
+    table: &mut [u32],
+    task: u32,
+    operation: u32,
+    side: u32,
+    argument: u32,
+) -> Result<(), u32> {
+    let sizes = shape::check(table)?;
+    if task >= sizes.tasks {
+        return Err(refusal::TASK);
+    }
+    if !(table::PUSH..=table::REMOVE).contains(&operation) || side > 1 {
+        return Err(refusal::OPERATION);
+    }
+    if !table::argument_fits(operation, argument) {
+        return Err(refusal::ARGUMENT);
+    }
+    let at = sizes.record(task);
+    if table[at + record::OPERATION] != table::IDLE {
+        return Err(refusal::BUSY);
+    }
+    let mut words = record::FRESH;
+    words[record::OPERATION] = operation;
+    words[record::STEP] = table::first_step(operation);
+    words[record::SIDE] = side;
+    words[record::ARGUMENT] = argument;
+    table[at..at + record::WORDS].copy_from_slice(&words);
+    Ok(())
+}
+
+/// Makes one tick of a busy task.
+pub fn tick(table: &mut [u32], task: u32, hint: u32) -> Result<Answer, u32> {
+    let sizes = shape::check(table)?;
+    checked_tick(table, sizes, task, hint)
+}
+
+/// Makes the ticks of a schedule of (task, hint) pairs up to the first refused;
+/// returns how many were made, and the refusal or 0.
+pub fn run(table: &mut [u32], list: &[u32], answers: &mut [u32]) -> (u32, u32) {
+    let sizes = match run_sizes(table, list, answers) {
+        Ok(sizes) => sizes,
+        Err(number) => return (0, number),
+    };
+    let mut made = 0;
+    for (pair, words) in list.chunks_exact(2).zip(answers.chunks_exact_mut(2)) {
+        // A tick keeps the shape, so it was tested once for all of them.
+        match checked_tick(table, sizes, pair[0], pair[1]) {
+            Ok(answer) => words.copy_from_slice(&answer.words()),
+            Err(number) => return (made, number),
+        }
+        made += 1;
+    }
+    (made, 0)
+}
+
+/// Writes the values of the deque, leftmost first, and returns their count.
+pub fn read(table: &[u32], out: &mut [u32]) -> Result<u32, u32> {
+    let sizes = shape::check(table)?;
+    // The whole walk comes before the first write.
+    let mut count = 0;
+    let mut number = next(table, sizes, table[header::LEFT_HAT])?;
+    while table::is_value(table[sizes.node(number) + node::VALUE]) {
+        count += 1;
+        if count == sizes.nodes {
+            return Err(refusal::NO_NODE);
+        }
+        number = next(table, sizes, number)?;
+    }
+    let out = out.get_mut(..count as usize).ok_or(refusal::OUT_LENGTH)?;
+    let mut number = table[header::LEFT_HAT];
+    for word in out {
+        number = next(table, sizes, number)?;
+        *word = table[sizes.node(number) + node::VALUE];
+    }
+    Ok(count)
+}
+
+/// The node to the right; none has no place in the deque.
+fn next(table: &[u32], sizes: Sizes, number: u32) -> Result<u32, u32> {
+    match table[sizes.node(number) + node::RIGHT] {
+        NONE => Err(refusal::NO_NODE),
+        next => Ok(next),
+    }
+}
+
+fn run_sizes(table: &[u32], list: &[u32], answers: &[u32]) -> Result<Sizes, u32> {
+    let sizes = shape::check(table)?;
+    if list.len() & 1 == 1 || list.len() > MAX_SCHEDULE {
+        return Err(refusal::SCHEDULE);
+    }
+    if answers.len() < list.len() {
+        return Err(refusal::ANSWERS);
+    }
+    Ok(sizes)
+}
+
+/// A tick on a table whose shape is known to hold.
+fn checked_tick(table: &mut [u32], sizes: Sizes, task: u32, hint: u32) -> Result<Answer, u32> {
+    if task >= sizes.tasks {
+        return Err(refusal::TASK);
+    }
+    if hint >= sizes.nodes {
+        return Err(refusal::HINT);
+    }
+    if table[sizes.record(task) + record::OPERATION] == table::IDLE {
+        return Err(refusal::IDLE);
+    }
+    step::advance(table, sizes, task, hint)
+}

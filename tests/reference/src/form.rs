@@ -1,0 +1,127 @@
+//! Reads one line of the line program as a form.
+
+use crate::table;
+
+/// A call written as a line.
+#[derive(Clone, Copy, Debug, PartialEq, Eq)]
+pub enum Form {
+    /// Start with these sizes.
+    Start { nodes: u32, tasks: u32, growth: u32 },
+    /// Begin an operation.
+    Begin {
+        task: u32,
+        operation: u32,
+        side: u32,
+        argument: u32,
+    },
+    /// Make ticks, at most `times`, which is in range.
+    Tick { task: u32, hint: u32, times: u32 },
+    /// Read the deque.
+    Read,
+}
+
+/// The form on a line without its line feed; none if it cannot be read.
+pub fn parse(line: &[u8]) -> Option<Form> {
+    let mut rest = Rest(line);
+    let form = rest.form()?;
+    rest.0.is_empty().then_some(form)
+}
+
+/// What is left of the line.
+struct Rest<'a>(&'a [u8]);
+
+impl Rest<'_> {
+    fn form(&mut self) -> Option<Form> {
+        if self.skip("(start ") {
+            self.start()
+        } else if self.skip("(begin ") {
+            self.begin()
+        } else if self.skip("(tick ") {
+            self.tick()
+        } else {
+            self.expect("(lane)")?;
+            Some(Form::Read)
+        }
+    }
+
+    fn start(&mut self) -> Option<Form> {
+        self.expect("(slots ")?;
+        let nodes = self.number()?;
+        self.expect(") (tasks ")?;
+        let tasks = self.number()?;
+        self.expect(") (growth ")?;
+        let growth = self.number()?;
+        self.expect("))")?;
+        Some(Form::Start {
+            nodes,
+            tasks,
+            growth,
+        })
+    }
+
+    fn begin(&mut self) -> Option<Form> {
+        let task = self.number()?;
+        self.expect(" (")?;
+        let operation = self.word(&[
+            ("push ", table::PUSH),
+            ("pop ", table::POP),
+            ("add ", table::ADD),
+            ("remove ", table::REMOVE),
+        ])?;
+        let side = self.word(&[("left ", 0), ("right ", 1)])?;
+        let argument = self.number()?;
+        self.expect("))")?;
+        Some(Form::Begin {
+            task,
+            operation,
+            side,
+            argument,
+        })
+    }
+
+    fn tick(&mut self) -> Option<Form> {
+        let task = self.number()?;
+        self.expect(" ")?;
+        let hint = self.number()?;
+        self.expect(" ")?;
+        let times = self.number()?;
+        self.expect(")")?;
+        (1..=1000)
+            .contains(&times)
+            .then_some(Form::Tick { task, hint, times })
+    }
+
+    fn skip(&mut self, text: &str) -> bool {
+        match self.0.strip_prefix(text.as_bytes()) {
+            Some(rest) => {
+                self.0 = rest;
+                true
+            }
+            None => false,
+        }
+    }
+
+    fn expect(&mut self, text: &str) -> Option<()> {
+        self.skip(text).then_some(())
+    }
+
+    fn word(&mut self, words: &[(&str, u32)]) -> Option<u32> {
+        words
+            .iter()
+            .find(|(text, _)| self.skip(text))
+            .map(|&(_, number)| number)
+    }
+
+    /// One digit or more; leading zeros are digits like others.
+    fn number(&mut self) -> Option<u32> {
+        let length = self.0.iter().take_while(|c| c.is_ascii_digit()).count();
+        let (digits, rest) = self.0.split_at(length);
+        if digits.is_empty() {
+            return None;
+        }
+        self.0 = rest;
+        digits.iter().try_fold(0u32, |number, digit| {
+            number.checked_mul(10)?.checked_add(u32::from(digit - b'0'))
+        })
+    }
+}

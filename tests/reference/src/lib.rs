@@ -1,0 +1,24 @@
+//! A second, independent program for the same paper: words in, words out.
+//!
+//! It was written from the paper alone, so that a difference between its words
+//! and those of the verified program points at a mistake in one of the two.
+//! Nothing here is proved; it is plain Rust over the lent slices, with no
+//! allocation per tick, and also serves as the baseline for speed.
+
+#![forbid(unsafe_code)]
+#![warn(missing_docs)]
+
+mod alloc;
+mod answer;
+mod calls;
+mod form;
+pub mod lines;
+mod machine;
+pub mod refusal;
+mod shape;
+mod side;
+mod step;
+pub mod table;
+
+pub use answer::Answer;
+pub use calls::{begin, read, run, start, tick};

@@ -1,0 +1,105 @@
+//! The line program: one form a line in, one answer a line out.
+
+use std::io::{self, BufRead, Write};
+
+use crate::answer::Answer;
+use crate::calls;
+use crate::form::{self, Form};
+use crate::table::Sizes;
+
+/// Answers every line of the input and flushes each answer.
+pub fn serve(mut input: impl BufRead, mut output: impl Write) -> io::Result<()> {
+    let mut program = Program::default();
+    let mut line = Vec::new();
+    while input.read_until(b'\n', &mut line)? > 0 {
+        if line.last() == Some(&b'\n') {
+            line.pop();
+        }
+        writeln!(output, "{}", program.answer(&line))?;
+        output.flush()?;
+        line.clear();
+    }
+    Ok(())
+}
+
+/// The table between lines; empty, and so refused, until a start is accepted.
+#[derive(Default)]
+pub struct Program {
+    table: Vec<u32>,
+}
+
+impl Program {
+    /// The answer to one line, both without a line feed.
+    pub fn answer(&mut self, line: &[u8]) -> String {
+        match form::parse(line) {
+            Some(form) => self
+                .call(form)
+                .unwrap_or_else(|number| format!("(refused {number})")),
+            None => String::from("(unread)"),
+        }
+    }
+
+    fn call(&mut self, form: Form) -> Result<String, u32> {
+        match form {
+            Form::Start {
+                nodes,
+                tasks,
+                growth,
+            } => self.start(nodes, tasks, growth),
+            Form::Begin {
+                task,
+                operation,
+                side,
+                argument,
+            } => {
+                calls::begin(&mut self.table, task, operation, side, argument)?;
+                Ok(String::from("(ok)"))
+            }
+            Form::Tick { task, hint, times } => self.tick(task, hint, times),
+            Form::Read => self.read(),
+        }
+    }
+
+    /// A refused start keeps the table that was there.
+    fn start(&mut self, nodes: u32, tasks: u32, growth: u32) -> Result<String, u32> {
+        let words = Sizes::new(nodes, tasks, growth).map_or(0, Sizes::words);
+        let mut table = vec![0; words];
+        calls::start(&mut table, nodes, tasks, growth)?;
+        self.table = table;
+        Ok(String::from("(ok)"))
+    }
+
+    fn tick(&mut self, task: u32, hint: u32, times: u32) -> Result<String, u32> {
+        let mut answer = Answer::Going;
+        for _ in 0..times {
+            answer = calls::tick(&mut self.table, task, hint)?;
+            if answer != Answer::Going {
+                break;
+            }
+        }
+        Ok(print(answer))
+    }
+
+    fn read(&self) -> Result<String, u32> {
+        let mut values = [0; Sizes::MAX_NODES];
+        let count = calls::read(&self.table, &mut values)?;
+        let mut text = String::from("(lane");
+        for value in &values[..count as usize] {
+            text.push_str(&format!(" {value}"));
+        }
+        text.push(')');
+        Ok(text)
+    }
+}
+
+fn print(answer: Answer) -> String {
+    match answer {
+        Answer::Going => String::from("(going)"),
+        Answer::Pushed => String::from("(pushed)"),
+        Answer::Bag(value) => format!("(bag {value})"),
+        Answer::Empty => String::from("(empty)"),
+        Answer::Full => String::from("(full)"),
+        Answer::Yes => String::from("(yes)"),
+        Answer::No => String::from("(no)"),
+    }
+}

@@ -1,0 +1,166 @@
+//! The words of the table as the ticking task sees them, from its side.
+
+use crate::alloc;
+use crate::refusal;
+use crate::side::Side;
+use crate::table::record::{self, A, COUNTED, D};
+use crate::table::{self, header, node, Sizes, NONE, PUSH};
+
+/// A task of a table whose shape holds.
+pub struct Machine<'a> {
+    table: &'a mut [u32],
+    sizes: Sizes,
+    record: usize,
+    /// The side of the task's operation.
+    pub side: &'static Side,
+}
+
+/// One word of a compare and swap, by its index in the table.
+pub struct Swap {
+    at: usize,
+    old: u32,
+    new: u32,
+}
+
+/// The swap of one word.
+pub fn swap(at: usize, old: u32, new: u32) -> Swap {
+    Swap { at, old, new }
+}
+
+impl<'a> Machine<'a> {
+    /// The view of a task below the number of tasks.
+    pub fn new(table: &'a mut [u32], sizes: Sizes, task: u32) -> Machine<'a> {
+        let record = sizes.record(task);
+        let side = Side::numbered(table[record + record::SIDE]);
+        Machine {
+            table,
+            sizes,
+            record,
+            side,
+        }
+    }
+
+    /// A field of the task's record.
+    pub fn get(&self, field: usize) -> u32 {
+        self.table[self.record + field]
+    }
+
+    /// Sets a field of the task's record.
+    pub fn set(&mut self, field: usize, word: u32) {
+        self.table[self.record + field] = word;
+    }
+
+    /// Makes the task idle.
+    pub fn clear(&mut self) {
+        self.table[self.record..self.record + record::WORDS].copy_from_slice(&record::FRESH);
+    }
+
+    /// Counts the tick.
+    pub fn count_tick(&mut self) {
+        let ticks = &mut self.table[header::TICKS];
+        *ticks = ticks.wrapping_add(1);
+    }
+
+    /// The hat of this side.
+    pub fn hat(&self) -> u32 {
+        self.table[self.side.hat]
+    }
+
+    /// How many nodes the operation chains or passes.
+    pub fn goal(&self) -> u32 {
+        table::goal(
+            self.get(record::OPERATION),
+            self.get(record::ARGUMENT),
+            self.sizes.growth,
+        )
+    }
+
+    /// Counts one node and says whether the goal is reached.
+    pub fn count_node(&mut self) -> bool {
+        let counted = self.get(COUNTED) + 1;
+        self.set(COUNTED, counted);
+        counted == self.goal()
+    }
+
+    /// Whether the operation is a push, not an add.
+    pub fn is_push(&self) -> bool {
+        self.get(record::OPERATION) == PUSH
+    }
+
+    /// Where an unspur returns to: its push, or the add that holds a chain.
+    pub fn back(&self) -> u32 {
+        if self.is_push() && self.get(D) == NONE {
+            2
+        } else {
+            15
+        }
+    }
+
+    /// Index of a node's first word.
+    pub fn node(&self, number: u32) -> usize {
+        self.sizes.node(number)
+    }
+
+    /// Index of a word of the node in a register.
+    pub fn at(&self, register: usize, field: usize) -> Result<usize, u32> {
+        match self.get(register) {
+            NONE => Err(refusal::NO_NODE),
+            number => Ok(self.node(number) + field),
+        }
+    }
+
+    /// A word of the node in a register.
+    pub fn load(&self, register: usize, field: usize) -> Result<u32, u32> {
+        Ok(self.table[self.at(register, field)?])
+    }
+
+    /// Writes a word by its index.
+    pub fn store(&mut self, at: usize, word: u32) {
+        self.table[at] = word;
+    }
+
+    /// Reads a link of the node in one register into another.
+    pub fn follow(&mut self, from: usize, link: usize, into: usize) -> Result<u32, u32> {
+        let next = self.load(from, link)?;
+        self.set(into, next);
+        Ok(next)
+    }
+
+    /// The swap of the hat from A to a register; a hat never becomes none.
+    pub fn move_hat(&self, to: usize) -> Result<Swap, u32> {
+        match self.get(to) {
+            NONE => Err(refusal::NO_NODE),
+            new => Ok(swap(self.side.hat, self.get(A), new)),
+        }
+    }
+
+    /// Compares a word and writes it if equal.
+    pub fn cas(&mut self, one: Swap) -> bool {
+        let equal = self.table[one.at] == one.old;
+        if equal {
+            self.table[one.at] = one.new;
+        }
+        equal
+    }
+
+    /// Compares both words before it writes either; should both be one word,
+    /// the second write stands.
+    pub fn dcas(&mut self, first: Swap, second: Swap) -> bool {
+        let equal = self.table[first.at] == first.old && self.table[second.at] == second.old;
+        if equal {
+            self.table[first.at] = first.new;
+            self.table[second.at] = second.new;
+        }
+        equal
+    }
+
+    /// Takes a free node, without links, if there is one.
+    pub fn allocate(&mut self, hint: u32, mark: u32) -> Option<u32> {
+        let number = alloc::first_free(self.table, self.sizes, hint)?;
+        let at = self.node(number);
+        self.table[at + node::LEFT] = NONE;
+        self.table[at + node::RIGHT] = NONE;
+        self.table[at + node::VALUE] = mark;
+        Some(number)
+    }
+}

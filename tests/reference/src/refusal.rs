@@ -1,0 +1,30 @@
+//! The refusal numbers, in the order in which they are tested.
+
+/// Start: a size is out of range.
+pub const START_SIZES: u32 = 1;
+/// Start: the slice does not have the length the sizes ask for.
+pub const START_LENGTH: u32 = 2;
+/// The header's sizes are out of range or do not match the slice.
+pub const SIZES: u32 = 3;
+/// Some word holds a value it may not hold.
+pub const SHAPE: u32 = 4;
+/// No such task.
+pub const TASK: u32 = 5;
+/// No such operation or side.
+pub const OPERATION: u32 = 6;
+/// The argument is out of its operation's range.
+pub const ARGUMENT: u32 = 7;
+/// The task is in the middle of an operation.
+pub const BUSY: u32 = 8;
+/// The hint names no node.
+pub const HINT: u32 = 9;
+/// The task has nothing to do.
+pub const IDLE: u32 = 10;
+/// A link or register that is needed is none, or the deque has no end.
+pub const NO_NODE: u32 = 11;
+/// The out slice is shorter than the deque.
+pub const OUT_LENGTH: u32 = 12;
+/// The schedule has an odd length or is too long.
+pub const SCHEDULE: u32 = 13;
+/// The answer slice is too short for the schedule.
+pub const ANSWERS: u32 = 14;

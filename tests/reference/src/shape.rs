@@ -1,0 +1,91 @@
+//! Refusals 3 and 4: whether a lent slice is a table at all.
+
+use crate::refusal;
+use crate::side::Side;
+use crate::table::{self, header, node, record, Sizes, NONE};
+
+/// The sizes of a table whose shape holds, or the refusal.
+pub fn check(table: &[u32]) -> Result<Sizes, u32> {
+    let sizes = sizes(table).ok_or(refusal::SIZES)?;
+    if holds(table, sizes) {
+        Ok(sizes)
+    } else {
+        Err(refusal::SHAPE)
+    }
+}
+
+fn sizes(table: &[u32]) -> Option<Sizes> {
+    if table.len() < Sizes::MIN_WORDS {
+        return None;
+    }
+    Sizes::new(
+        table[header::NODES],
+        table[header::TASKS],
+        table[header::GROWTH],
+    )
+    .filter(|sizes| sizes.words() == table.len())
+}
+
+fn holds(table: &[u32], sizes: Sizes) -> bool {
+    let (head, rest) = table.split_at(header::WORDS);
+    let (nodes, records) = rest.split_at(sizes.node(sizes.nodes) - header::WORDS);
+    head[header::ZEROS..] == [0, 0]
+        && head[header::LEFT_HAT] < sizes.nodes
+        && head[header::RIGHT_HAT] < sizes.nodes
+        && nodes
+            .chunks_exact(node::WORDS)
+            .all(|node| node_holds(node, sizes))
+        && records
+            .chunks_exact(record::WORDS)
+            .all(|task| record_holds(task, sizes))
+}
+
+fn is_link(word: u32, sizes: Sizes) -> bool {
+    word < sizes.nodes || word == NONE
+}
+
+fn node_holds(node: &[u32], sizes: Sizes) -> bool {
+    is_link(node[node::LEFT], sizes)
+        && is_link(node[node::RIGHT], sizes)
+        && table::is_content(node[node::VALUE])
+}
+
+fn record_holds(task: &[u32], sizes: Sizes) -> bool {
+    let operation = task[record::OPERATION];
+    if operation == table::IDLE {
+        return task == record::FRESH;
+    }
+    // An unknown operation has no argument that fits and no step.
+    task[record::SIDE] <= 1
+        && table::step_belongs(operation, task[record::STEP])
+        && table::argument_fits(operation, task[record::ARGUMENT])
+        && counted_holds(task, sizes)
+        && value_holds(task)
+        && task[record::A..].iter().all(|&word| is_link(word, sizes))
+}
+
+fn counted_holds(task: &[u32], sizes: Sizes) -> bool {
+    let counted = task[record::COUNTED];
+    let goal = table::goal(
+        task[record::OPERATION],
+        task[record::ARGUMENT],
+        sizes.growth,
+    );
+    match task[record::STEP] {
+        54 => counted == 0,
+        31 | 56 | 58 => counted < goal,
+        _ => counted <= goal,
+    }
+}
+
+fn value_holds(task: &[u32]) -> bool {
+    let value = task[record::VALUE];
+    match task[record::STEP] {
+        48 => {
+            let side = Side::numbered(task[record::SIDE]);
+            value == side.far_null || value == side.far_terminator
+        }
+        51 => table::is_value(value),
+        _ => table::is_content(value),
+    }
+}

@@ -1,0 +1,375 @@
+//! The paper's eight cases, word for word, and the left mirror of each.
+
+mod common;
+
+use common::tables::sizes;
+use reference::table::{
+    header, mirror, node, record, ADD, LX, NONE, POP, PUSH, REMOVE, RN, RX, RY,
+};
+use reference::{begin, read, start, tick, Answer};
+
+const RIGHT: u32 = 1;
+const LEFT: u32 = 0;
+
+/// One thing a case does or finds.
+#[derive(Clone)]
+enum Act {
+    /// Start on a slice of so many words, with the refusal or 0.
+    Start {
+        words: usize,
+        nodes: u32,
+        tasks: u32,
+        growth: u32,
+        refused: u32,
+    },
+    /// Begin (task, operation, side, argument), with the refusal or 0.
+    Begin(u32, u32, u32, u32, u32),
+    /// Exactly so many ticks of a task with hint 0, all going.
+    Going(u32, u32),
+    /// The answer comes at exactly this tick.
+    Answers(u32, u32, Answer),
+    /// The hat of a side is on this node.
+    Hat(u32, u32),
+    /// A node's link to the left, link to the right and content.
+    Node(u32, [u32; 3]),
+    /// A node was never used.
+    Unused(u32),
+    /// Register of a task, by its offset in the record.
+    Register(u32, usize, u32),
+    /// All tasks but these are idle.
+    Busy(Vec<u32>),
+    /// The deque's values, leftmost first.
+    Values(Vec<u32>),
+    /// The tick count.
+    Ticks(u32),
+}
+use Act::*;
+
+/// The act seen from the other side. The start is its own mirror once nodes 0
+/// and 1 change names.
+fn mirror_act(act: &Act) -> Act {
+    let name = |number: u32| if number < 2 { 1 - number } else { number };
+    match act.clone() {
+        Begin(task, operation, side, argument, refused) => {
+            Begin(task, operation, 1 - side, argument, refused)
+        }
+        Hat(side, number) => Hat(1 - side, name(number)),
+        Node(number, [left, right, value]) => {
+            Node(name(number), [name(right), name(left), mirror(value)])
+        }
+        Register(task, register, number) => Register(task, register, name(number)),
+        Values(mut values) => {
+            values.reverse();
+            Values(values)
+        }
+        other => other,
+    }
+}
+
+fn play(acts: &[Act]) {
+    let mut table = Vec::new();
+    for (at, act) in acts.iter().enumerate() {
+        play_act(&mut table, act, at);
+    }
+}
+
+fn play_act(table: &mut Vec<u32>, act: &Act, at: usize) {
+    match act {
+        &Start {
+            words,
+            nodes,
+            tasks,
+            growth,
+            refused,
+        } => {
+            let mut fresh = vec![5; words];
+            let found = start(&mut fresh, nodes, tasks, growth);
+            assert_eq!(found, expected(refused), "act {at}");
+            if refused == 0 {
+                *table = fresh;
+            } else {
+                assert_eq!(fresh, vec![5; words], "act {at}");
+            }
+        }
+        &Begin(task, operation, side, argument, refused) => {
+            let before = table.clone();
+            let found = begin(table, task, operation, side, argument);
+            assert_eq!(found, expected(refused), "act {at}");
+            if refused != 0 {
+                assert_eq!(*table, before, "act {at}");
+            }
+        }
+        &Going(task, count) => {
+            for number in 1..=count {
+                let found = tick(table, task, 0);
+                assert_eq!(found, Ok(Answer::Going), "act {at}, tick {number}");
+            }
+        }
+        &Answers(task, count, answer) => {
+            play_act(table, &Going(task, count - 1), at);
+            assert_eq!(tick(table, task, 0), Ok(answer), "act {at}");
+        }
+        &Hat(side, number) => {
+            let hat = [header::LEFT_HAT, header::RIGHT_HAT][side as usize];
+            assert_eq!(table[hat], number, "act {at}");
+        }
+        &Node(number, words) => {
+            let from = sizes(table).node(number);
+            assert_eq!(table[from..from + node::WORDS], words, "act {at}");
+        }
+        &Unused(number) => play_act(table, &Node(number, [NONE, NONE, 0]), at),
+        &Register(task, register, number) => {
+            let from = sizes(table).record(task);
+            assert_eq!(table[from + register], number, "act {at}");
+        }
+        Busy(busy) => {
+            let sizes = sizes(table);
+            for task in 0..sizes.tasks {
+                let from = sizes.record(task);
+                let idle = table[from..from + record::WORDS] == record::FRESH;
+                assert_eq!(idle, !busy.contains(&task), "act {at}, task {task}");
+            }
+        }
+        Values(values) => {
+            let mut out = vec![9; values.len() + 1];
+            assert_eq!(read(table, &mut out), Ok(values.len() as u32), "act {at}");
+            assert_eq!(out[..values.len()], values[..], "act {at}");
+            assert_eq!(out[values.len()], 9, "act {at}");
+        }
+        &Ticks(count) => assert_eq!(table[header::TICKS], count, "act {at}"),
+    }
+}
+
+fn expected(refused: u32) -> Result<(), u32> {
+    if refused == 0 {
+        Ok(())
+    } else {
+        Err(refused)
+    }
+}
+
+fn accepted(nodes: u32, tasks: u32, growth: u32) -> Act {
+    Start {
+        words: 8 + 3 * nodes as usize + 10 * tasks as usize,
+        nodes,
+        tasks,
+        growth,
+        refused: 0,
+    }
+}
+
+fn started_words() -> Vec<Act> {
+    vec![
+        Hat(LEFT, 0),
+        Hat(RIGHT, 1),
+        Node(0, [NONE, 1, LX]),
+        Node(1, [0, NONE, RX]),
+        Busy(vec![]),
+        Values(vec![]),
+        Ticks(0),
+    ]
+}
+
+/// The acts, then the same from the left.
+fn both_sides(acts: &[Act]) {
+    play(acts);
+    let mirror: Vec<Act> = acts.iter().map(mirror_act).collect();
+    play(&mirror);
+}
+
+#[test]
+fn case_1_push_and_two_pops() {
+    let mut acts = vec![accepted(4, 1, 0)];
+    acts.extend(started_words());
+    acts.extend([
+        Begin(0, PUSH, RIGHT, 51, 0),
+        Going(0, 10),
+        Ticks(10),
+        Values(vec![]),
+        Answers(0, 1, Answer::Pushed),
+        Ticks(11),
+        Busy(vec![]),
+        Values(vec![51]),
+        Hat(LEFT, 0),
+        Hat(RIGHT, 2),
+        Node(0, [NONE, 1, LX]),
+        Node(1, [0, 2, 51]),
+        Node(2, [1, NONE, RX]),
+        Unused(3),
+        Begin(0, POP, LEFT, 0, 0),
+        Answers(0, 4, Answer::Bag(51)),
+        Ticks(15),
+        Values(vec![]),
+        Hat(LEFT, 1),
+        Hat(RIGHT, 2),
+        Node(1, [0, 2, mirror(RN)]),
+        Begin(0, POP, RIGHT, 0, 0),
+        Answers(0, 4, Answer::Empty),
+        Ticks(19),
+        Values(vec![]),
+        Busy(vec![]),
+    ]);
+    both_sides(&acts);
+}
+
+#[test]
+fn case_2_full() {
+    let mut acts = vec![
+        accepted(2, 1, 0),
+        Begin(0, PUSH, RIGHT, 51, 0),
+        Answers(0, 4, Answer::Full),
+        Ticks(4),
+    ];
+    // Nothing but the tick count is left of it.
+    acts.extend(
+        started_words()
+            .into_iter()
+            .filter(|act| !matches!(act, Ticks(_))),
+    );
+    both_sides(&acts);
+}
+
+#[test]
+fn case_3_one_node_gained() {
+    both_sides(&[
+        accepted(3, 1, 0),
+        Begin(0, ADD, RIGHT, 2, 0),
+        Answers(0, 6, Answer::Yes),
+        // The old terminator became a null node before the new terminator.
+        Node(0, [NONE, 1, LX]),
+        Node(1, [0, 2, RN]),
+        Node(2, [1, NONE, RX]),
+        Hat(LEFT, 0),
+        Hat(RIGHT, 1),
+        Values(vec![]),
+        Busy(vec![]),
+        Ticks(6),
+    ]);
+}
+
+#[test]
+fn case_4_remove_says_no() {
+    both_sides(&[
+        accepted(8, 1, 0),
+        Begin(0, ADD, RIGHT, 0, 0),
+        Answers(0, 5, Answer::Yes),
+        Node(1, [0, 2, RN]),
+        Node(2, [1, NONE, RX]),
+        Unused(3),
+        Begin(0, REMOVE, RIGHT, 0, 0),
+        Answers(0, 3, Answer::No),
+        Node(0, [NONE, 1, LX]),
+        Node(1, [0, 2, RN]),
+        Node(2, [1, NONE, RX]),
+        Unused(3),
+        Busy(vec![]),
+        Ticks(8),
+    ]);
+}
+
+#[test]
+fn case_5_the_spur() {
+    both_sides(&[
+        accepted(8, 2, 0),
+        Begin(0, ADD, RIGHT, 2, 0),
+        Answers(0, 7, Answer::Yes),
+        Node(0, [NONE, 1, LX]),
+        Node(1, [0, 4, RN]),
+        Node(4, [1, 3, RN]),
+        Node(3, [4, 2, RN]),
+        Node(2, [3, NONE, RX]),
+        Unused(5),
+        Begin(1, PUSH, RIGHT, 51, 0),
+        Going(1, 2),
+        Register(1, record::A, 1),
+        Register(1, record::B, 4),
+        Begin(0, REMOVE, RIGHT, 0, 0),
+        Answers(0, 14, Answer::Yes),
+        Node(1, [0, NONE, RX]),
+        Node(4, [1, NONE, RY]),
+        Node(3, [4, NONE, RY]),
+        Node(2, [3, NONE, RY]),
+        Busy(vec![1]),
+        // The stalled push holds node 4; 2 and 3 are free, and 2 is first.
+        Begin(0, ADD, RIGHT, 0, 0),
+        Going(0, 1),
+        Register(0, record::D, 2),
+        Node(2, [NONE, NONE, RX]),
+        Answers(0, 4, Answer::Yes),
+        Node(1, [0, 2, RN]),
+        Node(2, [1, NONE, RX]),
+        Node(4, [1, NONE, RY]),
+        Hat(RIGHT, 1),
+        Values(vec![]),
+        Answers(1, 1, Answer::Pushed),
+        // The hat is on the node that was cut off.
+        Hat(RIGHT, 4),
+        Node(4, [1, NONE, RY]),
+        Node(1, [0, 2, 51]),
+        Values(vec![51]),
+        Busy(vec![]),
+        Begin(0, PUSH, RIGHT, 52, 0),
+        Going(0, 8),
+        Hat(RIGHT, 2),
+        Answers(0, 11, Answer::Pushed),
+        Values(vec![51, 52]),
+        Hat(LEFT, 0),
+        Hat(RIGHT, 3),
+        Node(0, [NONE, 1, LX]),
+        Node(1, [0, 2, 51]),
+        Node(2, [1, 3, 52]),
+        Node(3, [2, NONE, RX]),
+        Node(4, [1, NONE, RY]),
+        Unused(5),
+        Unused(6),
+        Unused(7),
+        Busy(vec![]),
+        Ticks(7 + 2 + 14 + 5 + 1 + 19),
+    ]);
+}
+
+#[test]
+fn case_6_the_shortest_table() {
+    let exact = Start {
+        words: 24,
+        nodes: 2,
+        tasks: 1,
+        growth: 0,
+        refused: 0,
+    };
+    let mut acts = vec![exact];
+    acts.extend(started_words());
+    acts.push(Start {
+        words: 23,
+        nodes: 2,
+        tasks: 1,
+        growth: 0,
+        refused: 2,
+    });
+    both_sides(&acts);
+}
+
+#[test]
+fn case_7_too_many_nodes() {
+    both_sides(&[Start {
+        words: 8 + 3 * 1025 + 10,
+        nodes: 1025,
+        tasks: 1,
+        growth: 0,
+        refused: 1,
+    }]);
+}
+
+#[test]
+fn case_8_limits_of_a_value() {
+    both_sides(&[
+        accepted(4, 1, 0),
+        Begin(0, PUSH, RIGHT, 0, 7),
+        Begin(0, PUSH, RIGHT, 1_000_000_000, 7),
+        Busy(vec![]),
+        Begin(0, PUSH, RIGHT, 999_999_999, 0),
+        Busy(vec![0]),
+        Answers(0, 11, Answer::Pushed),
+        Values(vec![999_999_999]),
+    ]);
+}

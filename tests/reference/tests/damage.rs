@@ -1,0 +1,187 @@
+//! Damaged tables, wrong lengths and any numbers: no panic, and a refusal
+//! changes no word.
+
+mod common;
+
+use common::random::Random;
+use common::tables::{shaped, started};
+use reference::table::{PUSH, REMOVE};
+use reference::{begin, read, run, start, tick};
+
+/// Makes one call with arbitrary arguments and checks what it leaves.
+fn call(random: &mut Random, table: &mut [u32], counts: &mut [u32; 15]) {
+    let before = table.to_vec();
+    let number = match random.below(5) {
+        0 => {
+            let (nodes, tasks, growth) = if random.once_in(2) {
+                (random.word(), random.word(), random.word())
+            } else {
+                (2 + random.below(8), 1 + random.below(3), random.below(66))
+            };
+            let number = refused(start(table, nodes, tasks, growth));
+            if number == 0 {
+                assert_eq!(run(table, &[], &mut []), (0, 0));
+            }
+            number
+        }
+        1 => {
+            let number = refused(begin(
+                table,
+                near(random, 4),
+                near(random, 5),
+                near(random, 2),
+                random.word(),
+            ));
+            if number == 0 {
+                assert_eq!(run(table, &[], &mut []), (0, 0));
+            }
+            number
+        }
+        2 => {
+            let number = refused(tick(table, near(random, 4), near(random, 6)).map(|_| ()));
+            if number == 0 {
+                // A tick made keeps the shape.
+                assert_eq!(run(table, &[], &mut []), (0, 0));
+            }
+            number
+        }
+        3 => {
+            let list: Vec<u32> = (0..random.below(40)).map(|_| near(random, 4)).collect();
+            let mut answers = vec![8; random.below(50) as usize];
+            let (made, number) = run(table, &list, &mut answers);
+            let made = made as usize;
+            assert!(2 * made <= list.len());
+            assert!(answers.iter().skip(2 * made).all(|&word| word == 8));
+            if made > 0 {
+                assert!(matches!(number, 0 | 5 | 9 | 10 | 11));
+                counts[0] += 1;
+                return;
+            }
+            number
+        }
+        _ => {
+            let mut out = vec![8; random.below(12) as usize];
+            let found = read(table, &mut out);
+            let written = found.unwrap_or(0) as usize;
+            assert!(out[written..].iter().all(|&word| word == 8));
+            assert_eq!(table, before);
+            refused(found.map(|_| ()))
+        }
+    };
+    counts[number as usize] += 1;
+    if number != 0 {
+        assert_eq!(table, before, "refused with {number}");
+    }
+}
+
+fn refused(found: Result<(), u32>) -> u32 {
+    found.err().unwrap_or(0)
+}
+
+/// Mostly a number below the bound, sometimes any.
+fn near(random: &mut Random, bound: u32) -> u32 {
+    if random.once_in(8) {
+        random.word()
+    } else {
+        random.below(bound)
+    }
+}
+
+#[test]
+fn slices_of_any_words() {
+    let mut random = Random::new(11);
+    let mut counts = [0; 15];
+    for _ in 0..20_000 {
+        let length = random.below(70) as usize;
+        let mut table: Vec<u32> = (0..length).map(|_| random.word()).collect();
+        call(&mut random, &mut table, &mut counts);
+    }
+    for number in 1..=3 {
+        assert!(counts[number] > 0, "{counts:?}");
+    }
+}
+
+#[test]
+fn started_tables_with_damaged_words() {
+    let mut random = Random::new(12);
+    let mut counts = [0; 15];
+    for _ in 0..6_000 {
+        let mut table = started(2 + random.below(5), 1 + random.below(3), random.below(3));
+        begin_some(&mut random, &mut table);
+        for _ in 0..random.below(3) {
+            let at = random.below(table.len() as u32) as usize;
+            table[at] = random.word();
+        }
+        match random.below(12) {
+            0 => table.truncate(random.below(80) as usize),
+            1 => table.push(random.word()),
+            _ => {}
+        }
+        for _ in 0..8 {
+            call(&mut random, &mut table, &mut counts);
+        }
+    }
+    assert!(counts.iter().all(|&count| count > 0), "{counts:?}");
+}
+
+#[test]
+fn tables_of_good_shape_and_no_sense() {
+    let mut random = Random::new(13);
+    let mut counts = [0; 15];
+    for _ in 0..10_000 {
+        let mut table = shaped(&mut random);
+        assert_eq!(run(&mut table, &[], &mut []), (0, 0), "shape");
+        for _ in 0..10 {
+            call(&mut random, &mut table, &mut counts);
+        }
+    }
+    for number in [0, 1, 2, 5, 6, 7, 8, 9, 10, 11, 12, 13, 14] {
+        assert!(counts[number] > 0, "{counts:?}");
+    }
+    assert_eq!((counts[3], counts[4]), (0, 0));
+}
+
+#[test]
+fn a_run_is_its_ticks_on_any_table() {
+    let mut random = Random::new(14);
+    let mut stopped = 0;
+    for _ in 0..8_000 {
+        let mut table = shaped(&mut random);
+        let mut single = table.clone();
+        let list: Vec<u32> = (0..2 * random.below(20))
+            .map(|_| {
+                let bound = if random.once_in(30) { 9 } else { 2 };
+                random.below(bound)
+            })
+            .collect();
+        let mut answers = vec![8; list.len()];
+        let found = run(&mut table, &list, &mut answers);
+        let mut wanted = (0, 0);
+        for (pair, words) in list.chunks(2).zip(answers.chunks(2)) {
+            match tick(&mut single, pair[0], pair[1]) {
+                Ok(answer) => {
+                    assert_eq!(words, answer.words());
+                    wanted.0 += 1;
+                }
+                Err(number) => {
+                    wanted.1 = number;
+                    stopped += 1;
+                    break;
+                }
+            }
+        }
+        assert_eq!(found, wanted);
+        assert_eq!(table, single);
+    }
+    assert!(stopped > 100);
+}
+
+fn begin_some(random: &mut Random, table: &mut [u32]) {
+    for task in 0..3 {
+        let operation = PUSH + random.below(REMOVE);
+        let _ = begin(table, task, operation, random.below(2), random.below(2));
+        for _ in 0..random.below(12) {
+            let _ = tick(table, task, 0);
+        }
+    }
+}

@@ -1,0 +1,331 @@
+//! Every step's words, the same from the left, and the choice of a free node.
+
+mod common;
+
+use common::random::Random;
+use common::tables::{mirrored, shaped, sizes, started};
+use reference::table::{
+    header, node, record, Sizes, ADD, LN, LX, LY, NONE, POP, PUSH, REMOVE, RN, RX, RY,
+};
+use reference::{begin, run, tick, Answer};
+
+/// A word by its name, seen by a task of the right side.
+#[derive(Clone, Copy)]
+enum Word {
+    Hat,
+    L(u32),
+    R(u32),
+    V(u32),
+    A,
+    B,
+    C,
+    D,
+    Value,
+    Counted,
+}
+use Word::*;
+
+/// Where the tick leads: a step, or an answer that leaves the record fresh.
+enum Next {
+    To(u32),
+    Done(Answer),
+}
+use Next::*;
+
+type Words = &'static [(Word, u32)];
+
+/// Operation, argument, step, words set before, words changed, and the end.
+type Row = (u32, u32, u32, Words, Words, Next);
+
+#[rustfmt::skip]
+const ROWS: &[Row] = &[
+    (PUSH, 51, 2, &[], &[(A, 1)], To(3)),
+    (PUSH, 51, 2, &[(Hat, 3), (A, 1)], &[(A, 3)], To(3)),
+    (PUSH, 51, 3, &[(A, 1)], &[(B, 2)], To(5)),
+    (PUSH, 51, 3, &[(A, 3), (B, 2)], &[(B, NONE)], To(8)),
+    (PUSH, 51, 5, &[(A, 1), (B, 2)], &[(Hat, 2), (V(1), 51)], Done(Answer::Pushed)),
+    // The link is not read again: the hat goes to B wherever that is.
+    (PUSH, 51, 5, &[(A, 1), (B, 5)], &[(Hat, 5), (V(1), 51)], Done(Answer::Pushed)),
+    (PUSH, 51, 5, &[(A, 2), (B, 3)], &[], To(8)),
+    (PUSH, 51, 5, &[(A, 1), (B, 2), (V(1), RX)], &[], To(8)),
+    (PUSH, 51, 8, &[(A, 3)], &[], To(28)),
+    (PUSH, 51, 8, &[(A, 1)], &[], To(67)),
+    (PUSH, 51, 8, &[(A, 1), (V(1), RY)], &[], To(67)),
+    (PUSH, 51, 67, &[(Hat, 2), (A, 1)], &[(A, 2)], To(68)),
+    (PUSH, 51, 68, &[(A, 1), (V(1), RY)], &[], To(69)),
+    (PUSH, 51, 68, &[(A, 1)], &[], To(2)),
+    (PUSH, 51, 68, &[(A, 1), (D, 4)], &[], To(15)),
+    (ADD, 2, 68, &[(A, 1), (D, 4)], &[], To(15)),
+    (ADD, 2, 68, &[(A, 1)], &[], To(15)),
+    (PUSH, 51, 69, &[(A, 1)], &[(B, 0)], To(70)),
+    (PUSH, 51, 69, &[(A, 0), (B, 2)], &[(B, NONE)], To(70)),
+    (PUSH, 51, 70, &[(B, 0)], &[(C, 1)], To(72)),
+    (PUSH, 51, 70, &[(B, 3), (C, 2)], &[(C, NONE)], To(2)),
+    (PUSH, 51, 70, &[(B, 3), (D, 4)], &[], To(15)),
+    (PUSH, 51, 72, &[(A, 1), (C, 3)], &[(Hat, 3)], To(2)),
+    (PUSH, 51, 72, &[(A, 1), (C, 3), (D, 5)], &[(Hat, 3)], To(15)),
+    (ADD, 2, 72, &[(A, 1), (C, 3)], &[(Hat, 3)], To(15)),
+    (PUSH, 51, 72, &[(A, 2), (C, 3)], &[], To(2)),
+    (PUSH, 51, 72, &[(C, 3)], &[], To(2)),
+    (PUSH, 51, 28, &[(L(4), 2), (R(4), 3), (V(4), 77), (Counted, 2)], &[(L(4), NONE), (R(4), NONE), (V(4), RX), (D, 4), (Counted, 0)], To(31)),
+    (ADD, 2, 28, &[], &[(V(4), RX), (D, 4)], To(31)),
+    (ADD, 0, 28, &[], &[(V(4), RX), (D, 4)], To(15)),
+    // The register's own old node is not free, nor what it leads to.
+    (ADD, 0, 28, &[(D, 4)], &[(V(5), RX), (D, 5)], To(15)),
+    (ADD, 0, 28, &[(D, 4), (L(4), 5)], &[], Done(Answer::No)),
+    (ADD, 0, 28, &[(D, 4), (R(4), 5)], &[], Done(Answer::No)),
+    (PUSH, 51, 28, &[(A, 4), (B, 5)], &[], Done(Answer::Full)),
+    (PUSH, 51, 28, &[(C, 5), (R(5), 4)], &[], Done(Answer::Full)),
+    (PUSH, 51, 31, &[(D, 4), (V(4), RX), (L(5), 0), (R(5), 1), (V(5), 9)], &[(V(5), RN), (L(5), NONE), (R(5), 4), (L(4), 5), (D, 5), (Counted, 1)], To(31)),
+    (ADD, 2, 31, &[(D, 4), (V(4), RX), (Counted, 1)], &[(V(5), RN), (R(5), 4), (L(4), 5), (D, 5), (Counted, 2)], To(15)),
+    (ADD, 2, 31, &[(D, 4), (C, 5), (Counted, 1)], &[], To(15)),
+    (PUSH, 51, 31, &[(D, 4), (C, 5)], &[], To(15)),
+    (ADD, 0, 15, &[(Hat, 2)], &[(A, 2)], To(17)),
+    (ADD, 0, 17, &[(A, 1)], &[(Value, RN)], To(18)),
+    (ADD, 0, 17, &[(A, 1), (V(1), RY)], &[(Value, RY)], To(67)),
+    (ADD, 0, 17, &[(A, 3)], &[(Value, RX)], To(24)),
+    (ADD, 0, 17, &[(A, 0)], &[(Value, LX)], To(15)),
+    (ADD, 0, 17, &[(A, 4), (Value, RX)], &[(Value, 0)], To(15)),
+    (ADD, 0, 17, &[(A, 1), (V(1), 7)], &[(Value, 7)], To(15)),
+    (ADD, 0, 17, &[(A, 1), (V(1), LN)], &[(Value, LN)], To(15)),
+    (ADD, 0, 18, &[(A, 1)], &[(A, 2)], To(17)),
+    (ADD, 0, 18, &[(A, 3)], &[(A, NONE)], To(15)),
+    (ADD, 0, 24, &[(A, 3), (D, 4), (B, 2)], &[(L(4), 3), (B, NONE)], To(25)),
+    (ADD, 0, 24, &[(A, 1), (D, 4)], &[(L(4), 1), (B, 2)], To(25)),
+    (ADD, 0, 25, &[(A, 3), (D, 4)], &[(R(3), 4), (V(3), RN)], Done(Answer::Yes)),
+    (ADD, 0, 25, &[(A, 3)], &[(V(3), RN)], Done(Answer::Yes)),
+    (PUSH, 51, 25, &[(A, 3), (D, 4), (C, 2), (Counted, 2), (Value, RX)], &[(R(3), 4), (V(3), RN), (D, NONE), (Counted, 0)], To(2)),
+    (PUSH, 51, 25, &[(A, 3), (B, 2), (D, 4), (Counted, 1)], &[], To(15)),
+    (ADD, 0, 25, &[(A, 3), (B, 2), (D, 4)], &[], To(15)),
+    (ADD, 0, 25, &[(A, 1), (B, 2), (D, 4)], &[], To(15)),
+    (POP, 0, 39, &[(Hat, 2)], &[(A, 2)], To(40)),
+    (POP, 0, 40, &[(A, 1)], &[(B, 0)], To(42)),
+    (POP, 0, 40, &[(A, 0), (B, 2)], &[(B, NONE)], To(39)),
+    (POP, 0, 42, &[(B, 0)], &[(Value, LX)], To(48)),
+    (POP, 0, 42, &[(B, 0), (V(0), LN)], &[(Value, LN)], To(48)),
+    (POP, 0, 42, &[(B, 0), (V(0), 51)], &[(Value, 51)], To(51)),
+    (POP, 0, 42, &[(B, 0), (V(0), LY)], &[(Value, LY)], To(39)),
+    (POP, 0, 42, &[(B, 1)], &[(Value, RN)], To(39)),
+    (POP, 0, 42, &[(B, 3)], &[(Value, RX)], To(39)),
+    (POP, 0, 42, &[(B, 3), (V(3), RY)], &[(Value, RY)], To(39)),
+    (POP, 0, 42, &[(B, 4), (Value, 5)], &[(Value, 0)], To(39)),
+    (POP, 0, 48, &[(A, 1), (B, 0), (Value, LX)], &[], Done(Answer::Empty)),
+    (POP, 0, 48, &[(A, 2), (B, 0), (Value, LX)], &[], To(39)),
+    (POP, 0, 48, &[(A, 1), (B, 0), (Value, LN)], &[], To(39)),
+    (POP, 0, 48, &[(B, 0), (Value, LX)], &[], To(39)),
+    (POP, 0, 51, &[(A, 1), (B, 0), (V(0), 51), (Value, 51)], &[(Hat, 0), (V(0), RN)], Done(Answer::Bag(51))),
+    (POP, 0, 51, &[(A, 2), (B, 0), (V(0), 51), (Value, 51)], &[], To(39)),
+    (POP, 0, 51, &[(A, 1), (B, 0), (V(0), 52), (Value, 51)], &[], To(39)),
+    (POP, 0, 51, &[(B, 0), (V(0), 51), (Value, 51)], &[], To(39)),
+    (REMOVE, 0, 54, &[], &[(A, 1)], To(60)),
+    (REMOVE, 2, 54, &[(A, 3)], &[(A, 1)], To(56)),
+    (REMOVE, 2, 56, &[(A, 3)], &[], Done(Answer::Yes)),
+    (REMOVE, 2, 56, &[(A, 1)], &[], To(58)),
+    (REMOVE, 2, 56, &[(A, 1), (V(1), RY)], &[], To(58)),
+    (REMOVE, 2, 58, &[(A, 1)], &[(A, 2), (Counted, 1)], To(56)),
+    (REMOVE, 2, 58, &[(A, 1), (Counted, 1)], &[(A, 2), (Counted, 2)], To(60)),
+    (REMOVE, 2, 58, &[(A, 3), (Counted, 1)], &[], Done(Answer::Yes)),
+    (REMOVE, 0, 60, &[(A, 1)], &[(B, 2)], To(62)),
+    (REMOVE, 0, 60, &[(A, 3)], &[], Done(Answer::Yes)),
+    (REMOVE, 0, 62, &[(A, 1), (B, 2)], &[(V(1), RX), (V(2), RY)], To(64)),
+    // Both words are one: the second write stands.
+    (REMOVE, 0, 62, &[(A, 1), (B, 1)], &[(V(1), RY)], To(64)),
+    (REMOVE, 0, 62, &[(A, 2), (B, 3)], &[], Done(Answer::No)),
+    (REMOVE, 0, 62, &[(A, 3), (B, 2)], &[], Done(Answer::No)),
+    (REMOVE, 0, 64, &[(A, 1), (B, 2)], &[(R(1), NONE)], To(74)),
+    (REMOVE, 0, 64, &[(A, 1), (B, 3)], &[], To(74)),
+    (REMOVE, 0, 64, &[(A, 3)], &[], To(74)),
+    (REMOVE, 0, 74, &[(A, 1), (B, 2)], &[(A, 2), (B, 3)], To(77)),
+    (REMOVE, 0, 74, &[(B, 3)], &[(A, 3), (B, NONE)], To(82)),
+    (REMOVE, 0, 77, &[(B, 2)], &[(Value, RN)], To(78)),
+    (REMOVE, 0, 78, &[(B, 2), (Value, RN)], &[(V(2), RY)], To(79)),
+    (REMOVE, 0, 78, &[(B, 2), (Value, RX)], &[], To(77)),
+    (REMOVE, 0, 79, &[(A, 1), (B, 2)], &[(R(1), NONE), (A, 2)], To(81)),
+    (REMOVE, 0, 79, &[(A, 1)], &[(R(1), NONE), (A, NONE)], To(81)),
+    (REMOVE, 0, 81, &[(A, 1), (Value, RN)], &[(B, 2)], To(77)),
+    (REMOVE, 0, 81, &[(A, 1), (Value, RX)], &[(B, 2)], To(82)),
+    (REMOVE, 0, 81, &[(A, 3), (B, 1), (Value, RN)], &[(B, NONE)], To(82)),
+    (REMOVE, 0, 82, &[(A, 1)], &[(R(1), NONE)], Done(Answer::Yes)),
+];
+
+/// Six nodes: a terminator, two nulls and a terminator, and two never used.
+fn base() -> Vec<u32> {
+    let mut table = started(6, 2, 2);
+    table[8..8 + 12].copy_from_slice(&[NONE, 1, LX, 0, 2, RN, 1, 3, RN, 2, NONE, RX]);
+    table
+}
+
+fn set(table: &mut [u32], words: &[(Word, u32)]) {
+    let sizes = sizes(table);
+    let task = sizes.record(1);
+    for &(word, value) in words {
+        let at = match word {
+            Hat => header::RIGHT_HAT,
+            L(number) => sizes.node(number) + node::LEFT,
+            R(number) => sizes.node(number) + node::RIGHT,
+            V(number) => sizes.node(number) + node::VALUE,
+            A => task + record::A,
+            B => task + record::B,
+            C => task + record::C,
+            D => task + record::D,
+            Value => task + record::VALUE,
+            Counted => task + record::COUNTED,
+        };
+        table[at] = value;
+    }
+}
+
+#[test]
+fn every_step_writes_its_words_and_no_other() {
+    for (row, (operation, argument, step, before, after, next)) in ROWS.iter().enumerate() {
+        let mut table = base();
+        let task = sizes(&table).record(1);
+        begin(&mut table, 1, *operation, 1, *argument).expect("begin");
+        table[task + record::STEP] = *step;
+        table[header::TICKS] = u32::MAX;
+        set(&mut table, before);
+        let mut wanted = table.clone();
+        set(&mut wanted, after);
+        wanted[header::TICKS] = 0;
+        let answer = match next {
+            To(step) => {
+                wanted[task + record::STEP] = *step;
+                Answer::Going
+            }
+            Done(answer) => {
+                wanted[task..task + record::WORDS].copy_from_slice(&record::FRESH);
+                *answer
+            }
+        };
+        let mut left = mirrored(&table);
+        assert_eq!(tick(&mut table, 1, 0), Ok(answer), "row {row}, step {step}");
+        assert_eq!(table, wanted, "row {row}, step {step}");
+        assert_eq!(
+            tick(&mut left, 1, 0),
+            Ok(answer),
+            "left row {row}, step {step}"
+        );
+        assert_eq!(left, mirrored(&wanted), "left row {row}, step {step}");
+    }
+}
+
+#[test]
+fn every_step_has_a_row() {
+    for operation in [PUSH, POP, ADD, REMOVE] {
+        for step in common::tables::steps_of(operation) {
+            assert!(ROWS.iter().any(|row| row.2 == step), "step {step}");
+        }
+    }
+}
+
+#[test]
+fn both_sides_are_one_machine() {
+    let mut random = Random::new(21);
+    let mut made = 0;
+    for _ in 0..30_000 {
+        let mut right = shaped(&mut random);
+        let mut left = mirrored(&right);
+        for _ in 0..6 {
+            let task = random.below(right[header::TASKS]);
+            let hint = random.below(right[header::NODES]);
+            let found = tick(&mut right, task, hint);
+            assert_eq!(tick(&mut left, task, hint), found);
+            assert_eq!(left, mirrored(&right));
+            made += u32::from(found.is_ok());
+        }
+    }
+    assert!(made > 20_000, "{made}");
+}
+
+/// Reachability in the words of the paper: spread until nothing changes.
+fn free_by_spreading(table: &[u32], hint: u32) -> Option<u32> {
+    let sizes = sizes(table);
+    let mut reached = vec![false; sizes.nodes as usize];
+    let mut reach = |number: u32| {
+        if number != NONE {
+            reached[number as usize] = true;
+        }
+    };
+    reach(table[header::LEFT_HAT]);
+    reach(table[header::RIGHT_HAT]);
+    for task in 0..sizes.tasks {
+        for register in record::A..record::WORDS {
+            reach(table[sizes.record(task) + register]);
+        }
+    }
+    let mut changed = true;
+    while changed {
+        changed = false;
+        for number in 0..sizes.nodes {
+            if reached[number as usize] {
+                for link in [node::LEFT, node::RIGHT] {
+                    let next = table[sizes.node(number) + link];
+                    if next != NONE && !reached[next as usize] {
+                        reached[next as usize] = true;
+                        changed = true;
+                    }
+                }
+            }
+        }
+    }
+    (0..sizes.nodes)
+        .map(|step| (hint + step) % sizes.nodes)
+        .find(|&number| !reached[number as usize])
+}
+
+#[test]
+fn the_first_free_node_from_the_hint() {
+    let mut random = Random::new(22);
+    let mut none = 0;
+    for _ in 0..10_000 {
+        let mut table = shaped(&mut random);
+        // Fewer links, so that nodes are free.
+        let sizes = sizes(&table);
+        for number in 0..sizes.nodes {
+            for link in [node::LEFT, node::RIGHT] {
+                if !random.once_in(3) {
+                    table[sizes.node(number) + link] = NONE;
+                }
+            }
+        }
+        let at = sizes.record(0);
+        let words = [ADD, 28, random.below(2), random.below(2), 0, 0];
+        table[at..at + 6].copy_from_slice(&words);
+        for hint in 0..sizes.nodes {
+            let wanted = free_by_spreading(&table, hint);
+            let mut ticked = table.clone();
+            match (tick(&mut ticked, 0, hint), wanted) {
+                (Ok(Answer::Going), Some(number)) => {
+                    assert_eq!(ticked[at + record::D], number);
+                }
+                (Ok(Answer::No), None) => none += 1,
+                (found, wanted) => panic!("{found:?}, {wanted:?}"),
+            }
+        }
+    }
+    assert!(none > 0);
+}
+
+#[test]
+fn the_largest_table_fills_up() {
+    let mut table = started(1024, 16, 64);
+    let mut added = 0;
+    loop {
+        begin(&mut table, 15, ADD, added % 2, 63).expect("begin");
+        let mut answers = vec![0; 8192];
+        let (made, number) = run(&mut table, &[[15, 1023]; 4096].concat(), &mut answers);
+        // Idle after its answer, the task is refused.
+        assert_eq!(number, 10);
+        match answers[2 * made as usize - 2] {
+            5 => added += 1,
+            6 => break,
+            other => panic!("{other}"),
+        }
+    }
+    // 15 chains of 64, and one of the 62 nodes left.
+    assert_eq!(added, 16);
+    let sizes = Sizes::new(1024, 16, 64).expect("sizes in range");
+    assert!((0..1024).all(|number| table[sizes.node(number) + node::VALUE] != 0));
+    let marks = [LN, LX, RN, RX];
+    assert!((0..1024).all(|number| marks.contains(&table[sizes.node(number) + node::VALUE])));
+}
