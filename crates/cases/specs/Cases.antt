@@ -1,7 +1,7 @@
 -- 01's starred cases as one list of data: what is done to a table, and what must come out.
-use mathlib.Core.Bool.{Bool, true, false}
+use mathlib.Core.Bool.{true, false}
 use mathlib.Core.List.{List, [], _∷_, map}
-use mathlib.Core.Option.{Option, some, none as nothing}
+use mathlib.Core.Option.{Option, some}
 use Prim.Native.Nat.{ℕ, zero, suc}
 use lib.ListN.{replicate}
 use Rattle.machine.specs.declared.Answer.{Answer}
@@ -10,6 +10,7 @@ use Rattle.machine.specs.declared.Reply.{Reply}
 use Rattle.machine.specs.declared.Reply.the-variants.{Accepted, Refused as Reply-Refused}
 use Rattle.machine.specs.Sides.{Side, left, right}
 use Rattle.machine.specs.Values.{Value, N, X, Y}
+use Rattle.machine.specs.Tasks.{none}
 use Rattle.machine.specs.Table.{hat, link, value}
 use Rattle.machine.specs.Row.{isGoing}
 use Rattle.machine.specs.Calls.{start, begin, tick, lane}
@@ -23,7 +24,7 @@ pub data Action : Type 0 where
   looks-at-hat : Side → Action
   looks-at-node : ℕ → Action
 
--- What comes out: a reply; an answer and the ticks made for it; the lane; a hat; a node's L, R and V.
+-- What comes out: a reply; an answer and at which tick, counted from 1; the lane; a hat; a node's L, R and V.
 pub data Outcome : Type 0 where
   replies : Reply → Outcome
   answers : (at-tick : ℕ) → Answer → Outcome
@@ -78,10 +79,6 @@ outcomes c = plays (c .script) (replicate (c .words) 7)
 
 abbrev pub expectations : Case → List Outcome
 expectations c = map (λ (e : Expected). e .outcome) (c .script)
-
--- 01's numbers.
-abbrev pub none : ℕ
-none = 65535
 
 abbrev pub ok : Outcome
 ok = replies Accepted

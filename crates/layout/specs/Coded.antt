@@ -1,5 +1,4 @@
 -- How the code holds what the definitions speak of: a value and a task record as structs, the nodes as words.
-use mathlib.Core.Path.{_≡_}
 use mathlib.Core.Bool.{Bool, true, false}
 use mathlib.Core.List.{List, [], _∷_}
 use Prim.Native.Nat.{ℕ, _+_, _*_, _<_}
@@ -7,7 +6,7 @@ use lib.ListN.{length, getD, set}
 use Rattle.layout.specs.declared.values.Value as Values
 use Rattle.layout.specs.declared.tasks.Task as Tasks
 use Rattle.machine.specs.Choice.{if_then_else_}
-use Rattle.machine.specs.Sides.{Side, left, right, sideNumber, sideOf}
+use Rattle.machine.specs.Sides.{Side, left, right, sideNumber}
 use Rattle.machine.specs.Values.{Value, never, bag, N, X, Y, encode, decode, mirror, _≟ᵛ_}
 use Rattle.machine.specs.Operations.{operationNumber}
 use Rattle.machine.specs.Steps.{stepNumber}

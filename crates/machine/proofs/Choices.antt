@@ -1,5 +1,5 @@
 -- A decision whose outcome is known: rewriting by these makes a choice compute.
-use mathlib.Core.Path.{_≡_, refl, ap}
+use mathlib.Core.Path.{_≡_, ap}
 use mathlib.Core.Logic.{_≢_}
 use mathlib.Core.HLevel.{hedberg, ¬-prop}
 use Prim.Native.Nat.{ℕ}

@@ -1,11 +1,11 @@
 -- The slot rule, computed: marking what is reachable, and the first node without a mark from a hint on.
 -- proofs/Reached.antt shows that the marks are exactly the reachable nodes.
-use mathlib.Core.Bool.{Bool, true, false, cond}
+use mathlib.Core.Bool.{true, false, cond}
 use mathlib.Core.List.{List, [], _∷_, _++_}
 use Prim.Native.Nat.{ℕ, zero, suc, _+_}
 use lib.Dec.{ltb, eqb}
 use lib.ListN.{getD, set, replicate}
-use Rattle.machine.specs.Sides.{Side, left, right}
+use Rattle.machine.specs.Sides.{left, right}
 use Rattle.machine.specs.Tasks.{Task, none}
 use Rattle.machine.specs.Table.{nodeCount, taskCount, hat, link, task}
 

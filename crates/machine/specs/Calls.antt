@@ -1,5 +1,4 @@
 -- The five calls: for every table and all numbers, the answer and every lent word afterwards.
-use mathlib.Core.Path.{_≡_}
 use mathlib.Core.Bool.{Bool, true, false, _&&_}
 use mathlib.Core.List.{List, [], _∷_, _++_}
 use mathlib.Core.Option.{Option, some, none as nothing, Option·map}
@@ -15,7 +14,7 @@ use Rattle.machine.specs.declared.Reading.the-variants.{Count, Refused a
 use Rattle.machine.specs.declared.Ran.{Ran}
 use Rattle.machine.specs.Choice.{_≟_, if_then_else_}
 use Rattle.machine.specs.Sides.{Side, left, right, opposite, sideOf}
-use Rattle.machine.specs.Values.{Value, never, bag, N, X, Y}
+use Rattle.machine.specs.Values.{never, bag, N, X, Y}
 use Rattle.machine.specs.Operations.{Operation, idle, push, pop, add, remove, operationOf, argumentOk}
 use Rattle.machine.specs.Steps.{firstStep}
 use Rattle.machine.specs.Tasks.{Task, fresh, none, wordsOf, goal}

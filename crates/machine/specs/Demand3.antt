@@ -1,6 +1,6 @@
 -- Demand 3: one claim about a list of calls on one table, and nothing but the table and the row in it.
 use mathlib.Core.Path.{_≡_}
-use mathlib.Core.Bool.{Bool, true, false, cond, _&&_}
+use mathlib.Core.Bool.{cond, _&&_}
 use mathlib.Core.List.{List, [], _∷_}
 use mathlib.Core.Option.{Option, some, none as nothing}
 use Prim.Native.Nat.{ℕ, zero, suc, _≤_}
@@ -16,19 +16,7 @@ use Rattle.machine.specs.Sides.{sideOf}
 use Rattle.machine.specs.Operations.{operationOf}
 use Rattle.machine.specs.Shape.{sameWords}
 use Rattle.machine.specs.Answers.{refusalOf}
-use Rattle.machine.specs.Calls.{
-  Changed,
-  start,
-  begin,
-  Ticked,
-  tick,
-  tickOn,
-  RunDone,
-  run,
-  lane,
-  ReadDone,
-  read,
-}
+use Rattle.machine.specs.Calls.{start, begin, tick, tickOn, run, lane, read}
 use Rattle.machine.specs.Row.{Row, emptyRow, Note, noted, feedMade, feedRun}
 
 -- 01: the list holds start, begin, tick, run and reading the lane, with any arguments. A run's list and answer slice and

@@ -1,6 +1,5 @@
 -- The operations of a task: their numbers, first steps, arguments and goals.
-use mathlib.Core.Path.{_≡_}
-use mathlib.Core.Bool.{Bool, true, false}
+use mathlib.Core.Bool.{Bool}
 use Prim.Native.Nat.{ℕ}
 use lib.Dec.{leb, eqb}
 use Rattle.machine.specs.Choice.{_≟_, if_then_else_}

@@ -1,5 +1,4 @@
 -- Which nodes are reachable: the slot rule, as a predicate.
-use mathlib.Core.Path.{_≡_}
 use mathlib.Core.Logic.{_≢_}
 use mathlib.Core.List.{List}
 use Prim.Native.Nat.{ℕ, _<_}

@@ -1,11 +1,8 @@
 -- The plain row of bags: what it keeps, and which answers it gives. It is fed arguments and answers, never the table.
-use mathlib.Core.Path.{_≡_}
-use mathlib.Core.Bool.{Bool, true, false, cond, _&&_}
+use mathlib.Core.Bool.{Bool, true, false, cond}
 use mathlib.Core.List.{List, [], _∷_, _++_, reverse}
 use mathlib.Core.Option.{Option, some, none as nothing, Option·map, bind}
 use Prim.Native.Nat.{ℕ, zero, suc}
-use lib.Dec.{leb, ltb, eqb}
-use lib.ListN.{length, take}
 use Rattle.machine.specs.declared.Answer.{Answer}
 use Rattle.machine.specs.declared.Answer.the-variants.{Going, Pushed, Bag, Empty, Full, Yes, No, Refused}
 use Rattle.machine.specs.Choice.{_≟_, if_then_else_}

@@ -6,7 +6,7 @@ use lib.Dec.{leb, ltb, eqb}
 use lib.ListN.{length, getD}
 use Rattle.machine.specs.Sides.{Side, left, right, opposite, sideOf}
 use Rattle.machine.specs.Values.{N, X, encode, bagOk, valueOk}
-use Rattle.machine.specs.Operations.{Operation, operationOf, argumentOk, goalOf}
+use Rattle.machine.specs.Operations.{operationOf, argumentOk, goalOf}
 use Rattle.machine.specs.Steps.{
   line31,
   line48,
@@ -88,7 +88,7 @@ countedOk step goal n =
     (cond (isStepIn (line31 ∷ line56 ∷ line58 ∷ []) step) (ltb n goal)
     (leb n goal))
 
--- The ten words of a task that is in a call.
+-- The ten words of a task that is in a call. 01: the step is of its operation.
 unfoldable pub busyOk : (S growth : ℕ) → List ℕ → Bool
 busyOk S g r =
     leb (getD r 0 0) 4
@@ -102,7 +102,7 @@ busyOk S g r =
     && nodeOrNone S (getD r 8 0)
     && nodeOrNone S (getD r 9 0)
 
--- 01: an idle record is fresh, and the step is of its operation.
+-- 01: an idle record is fresh.
 unfoldable pub recordOk : (S growth : ℕ) → List ℕ → Bool
 recordOk S g r = cond (eqb (getD r 0 0) 0) (sameWords r (wordsOf fresh)) (busyOk S g r)
 

@@ -1,5 +1,4 @@
 -- The two sides of the deque and their numbers.
-use mathlib.Core.Path.{_≡_}
 use Prim.Native.Nat.{ℕ}
 use Rattle.machine.specs.Choice.{_≟_, if_then_else_}
 

@@ -1,12 +1,11 @@
 -- The table of words: where each word stands, what is read there and what a write changes.
--- Nothing in the files after this one mentions a place in the table.
-use mathlib.Core.Path.{_≡_}
+-- No file after this one mentions a place in the table; `Shape` tests the ten words of a record by their order.
 use mathlib.Core.List.{List, [], _∷_}
-use Prim.Native.Nat.{ℕ, _+_, _*_, _<_}
-use lib.ListN.{length, getD, set}
+use Prim.Native.Nat.{ℕ, _+_, _*_}
+use lib.ListN.{getD, set}
 use lib.Seq.{sets}
 use Rattle.machine.specs.Choice.{_<?_, if_then_else_}
-use Rattle.machine.specs.Sides.{Side, left, right, sideNumber}
+use Rattle.machine.specs.Sides.{Side, sideNumber}
 use Rattle.machine.specs.Values.{Value, encode, decode}
 use Rattle.machine.specs.Tasks.{Task, fresh, none, wordsOf, taskOf}
 

@@ -1,5 +1,4 @@
 -- The task record: its ten words, and what they mean.
-use mathlib.Core.Path.{_≡_}
 use mathlib.Core.List.{List, [], _∷_}
 use Prim.Native.Nat.{ℕ}
 use lib.ListN.{getD}

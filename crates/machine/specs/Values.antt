@@ -1,9 +1,8 @@
 -- What a node's word V means: never used, a bag, or one of the six marks.
 use mathlib.Core.Path.{_≡_}
-use mathlib.Core.Bool.{Bool, true, false, _&&_, _||_}
-use mathlib.Core.List.{List, [], _∷_}
+use mathlib.Core.Bool.{Bool, _&&_, _||_}
 use Prim.Native.Nat.{ℕ}
-use lib.Dec.{leb, ltb}
+use lib.Dec.{leb}
 use native.Mathlib.Decide.{ℕ-discrete}
 use Rattle.machine.specs.Choice.{_≟_, _≤?_, if_then_else_}
 use Rattle.machine.specs.Sides.{Side, left, right, opposite, Side-discrete}

@@ -1,4 +1,4 @@
-// The answers of the five calls, by value. Their numbers in document 01 are given by specs/Answers.antt.
+// The answers of the five calls, by value. specs/Answers.antt gives their numbers in document 01.
 
 // What a tick answers.
 pub enum Answer {
