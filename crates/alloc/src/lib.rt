@@ -1,0 +1,201 @@
+// The search for a free node: what the hats and the tasks reach is marked, and the first node without a mark is it.
+// In each function t is the table and n the number of its nodes. The marks, one a node, and the queue of marked nodes,
+// which ends at tail, have a place for each of the 1,024 nodes that a table may have.
+use layout::nodes::link;
+use layout::tasks::Task;
+ghost use mathlib.Core.Path.{_≡_};
+ghost use mathlib.Core.List.{[], _∷_};
+ghost use Prim.Native.Nat.{_<_, _≤_};
+ghost use Rattle.machine.specs.Table.{nodeCount, taskCount};
+ghost use Rattle.machine.specs.Allocate.{
+  heldBy,
+  heldFrom,
+  largestCount,
+  mark,
+  markAll,
+  visit,
+  visitFrom,
+  following,
+  firstUnmarked,
+  allocate,
+};
+ghost use Rattle.machine.proofs.Marking.{Room};
+ghost use Rattle.layout.specs.Coded.{taskMeant};
+ghost use Rattle.alloc.specs.Tables.{Sized, markingOf, hats};
+
+// Where the words of the header stand, and where the nodes begin.
+const NODE_COUNT: usize = 0;
+
+const TASK_COUNT: usize = 1;
+
+const LEFT_HAT: usize = 3;
+
+const RIGHT_HAT: usize = 4;
+
+const NODES: usize = 8;
+
+// How many words a node and a task record have.
+const NODE_WORDS: usize = 3;
+
+const RECORD_WORDS: usize = 10;
+
+// Marks x and puts it at the end of the queue, unless it is no node or has a mark. Answers where the queue now ends,
+// as every function does that marks.
+fn mark(marks: &mut [u8; 1024], queue: &mut [u32; 1024], tail: usize, n: usize, x: u32) -> usize
+    requires { ⌜ Room n (markingOf (now marks) (now queue) tail) ⌝ }
+    ensures { λ r. ⌜ markingOf (now (marks .exit)) (now (queue .exit)) r
+        ≡ mark n (markingOf (now (marks .entry)) (now (queue .entry)) tail) x ⌝ }
+{
+    let i = x as usize;
+    if i < n {
+        if marks[i] == 0 {
+            marks[i] = 1;
+            queue[tail] = x;
+            return tail + 1;
+        }
+    }
+    tail
+}
+
+// Marks two numbers.
+fn mark_both(
+    marks: &mut [u8; 1024],
+    queue: &mut [u32; 1024],
+    tail: usize,
+    n: usize,
+    x: u32,
+    y: u32,
+) -> usize
+    requires { ⌜ Room n (markingOf (now marks) (now queue) tail) ⌝ }
+    ensures { λ r. ⌜ markingOf (now (marks .exit)) (now (queue .exit)) r
+        ≡ markAll n (markingOf (now (marks .entry)) (now (queue .entry)) tail) (x ∷ y ∷ []) ⌝ }
+{
+    let next = mark(marks, queue, tail, n, x);
+    mark(marks, queue, next, n, y)
+}
+
+// Marks both hats.
+fn mark_hats(t: &[u32], marks: &mut [u8; 1024], queue: &mut [u32; 1024], tail: usize) -> usize
+    requires { ⌜ Sized (now t) × Room (nodeCount (now t)) (markingOf (now marks) (now queue) tail) ⌝ }
+    ensures { λ r. ⌜ markingOf (now (marks .exit)) (now (queue .exit)) r
+        ≡ markAll (nodeCount (now (t .entry))) (markingOf (now (marks .entry)) (now (queue .entry)) tail)
+        (hats (now (t .entry))) ⌝ }
+{
+    let n = t[NODE_COUNT] as usize;
+    let l = t[LEFT_HAT];
+    let r = t[RIGHT_HAT];
+    mark_both(marks, queue, tail, n, l, r)
+}
+
+// Marks what a task holds: its four registers.
+fn mark_held(
+    marks: &mut [u8; 1024],
+    queue: &mut [u32; 1024],
+    tail: usize,
+    n: usize,
+    task: Task,
+) -> usize
+    requires { ⌜ Room n (markingOf (now marks) (now queue) tail) ⌝ }
+    ensures { λ r. ⌜ markingOf (now (marks .exit)) (now (queue .exit)) r
+        ≡ markAll n (markingOf (now (marks .entry)) (now (queue .entry)) tail) (heldBy (taskMeant task)) ⌝ }
+{
+    let a = task.registers[Task::A];
+    let b = task.registers[Task::B];
+    let c = task.registers[Task::C];
+    let d = task.registers[Task::D];
+    let next = mark_both(marks, queue, tail, n, a, b);
+    mark_both(marks, queue, next, n, c, d)
+}
+
+// Marks what each task holds.
+fn mark_tasks(t: &[u32], marks: &mut [u8; 1024], queue: &mut [u32; 1024], mut tail: usize) -> usize
+    requires { ⌜ Sized (now t) × Room (nodeCount (now t)) (markingOf (now marks) (now queue) tail) ⌝ }
+    ensures { λ r. ⌜ markingOf (now (marks .exit)) (now (queue .exit)) r
+        ≡ markAll (nodeCount (now (t .entry))) (markingOf (now (marks .entry)) (now (queue .entry)) tail)
+        (heldFrom (now (t .entry)) (taskCount (now (t .entry))) 0) ⌝ }
+{
+    let n = t[NODE_COUNT] as usize;
+    let count = t[TASK_COUNT] as usize;
+    let mut k = 0;
+    while k < count {
+        let task = Task::read(t, NODES + NODE_WORDS * n + RECORD_WORDS * k);
+        tail = mark_held(marks, queue, tail, n, task);
+        k += 1;
+    }
+    tail
+}
+
+// Marks both links of the node at a place of the queue.
+fn visit(
+    t: &[u32],
+    marks: &mut [u8; 1024],
+    queue: &mut [u32; 1024],
+    tail: usize,
+    place: usize,
+) -> usize
+    requires { ⌜ Sized (now t) × Room (nodeCount (now t)) (markingOf (now marks) (now queue) tail) × (place < tail) ⌝ }
+    ensures { λ r. ⌜ markingOf (now (marks .exit)) (now (queue .exit)) r
+        ≡ visit (now (t .entry)) (markingOf (now (marks .entry)) (now (queue .entry)) tail) place ⌝ }
+{
+    let n = t[NODE_COUNT] as usize;
+    let x = queue[place];
+    let l = link(&t[NODES..], 0, x);
+    let r = link(&t[NODES..], 1, x);
+    mark_both(marks, queue, tail, n, l, r)
+}
+
+// Visits the queue until its end, which moves on as nodes are marked.
+fn spread(t: &[u32], marks: &mut [u8; 1024], queue: &mut [u32; 1024], mut tail: usize) -> usize
+    requires { ⌜ Sized (now t) × Room (nodeCount (now t)) (markingOf (now marks) (now queue) tail) ⌝ }
+    ensures { λ r. ⌜ markingOf (now (marks .exit)) (now (queue .exit)) r
+        ≡ visitFrom (now (t .entry)) largestCount 0 (markingOf (now (marks .entry)) (now (queue .entry)) tail) ⌝ }
+{
+    let mut head = 0;
+    while head < tail {
+        tail = visit(t, marks, queue, tail, head);
+        head += 1;
+    }
+    tail
+}
+
+// The node after node i, going round past n - 1 to 0.
+fn following(n: usize, i: usize) -> usize
+    requires { ⌜ (n ≤ largestCount) × (i < n) ⌝ }
+    ensures { λ r. ⌜ (r ≡ following n i) × (r < n) ⌝ }
+{
+    if i + 1 < n {
+        return i + 1;
+    }
+    0
+}
+
+// The first of n nodes from the hint on, going round, that has no mark, or none.
+fn search(marks: &[u8; 1024], n: usize, hint: usize) -> u32
+    requires { ⌜ (n ≤ largestCount) × (hint < n) ⌝ }
+    ensures { λ r. ⌜ r ≡ firstUnmarked n (now (marks .entry)) n hint ⌝ }
+{
+    let mut k = 0;
+    let mut i = hint;
+    while k < n {
+        if marks[i] == 0 {
+            return i as u32;
+        }
+        i = following(n, i);
+        k += 1;
+    }
+    Task::NONE
+}
+
+// The first free node from the hint on, going round, or none.
+pub fn first_free(t: &[u32], hint: usize) -> u32
+    requires { ⌜ Sized (now t) × (hint < nodeCount (now t)) ⌝ }
+    ensures { λ r. ⌜ r ≡ allocate (now (t .entry)) hint ⌝ }
+{
+    let n = t[NODE_COUNT] as usize;
+    let mut marks = [0u8; 1024];
+    let mut queue = [0u32; 1024];
+    let hats_end = mark_hats(t, &mut marks, &mut queue, 0);
+    let roots_end = mark_tasks(t, &mut marks, &mut queue, hats_end);
+    spread(t, &mut marks, &mut queue, roots_end);
+    search(&marks, n, hint)
+}
