@@ -1,7 +1,7 @@
 -- The record of a task and its ten words: each gives back the other.
 use mathlib.Core.Path.{_≡_, refl, ap, sym, _∙_}
 use mathlib.Core.Logic.{inl, inr}
-use mathlib.Core.Bool.{Bool, true, false, cond, _&&_, _||_}
+use mathlib.Core.Bool.{Bool, true, false, cond, _||_}
 use mathlib.Core.List.{List, [], _∷_}
 use Prim.Native.Nat.{ℕ, _+_, _≤_}
 use lib.Dec.{leb, eqb}
@@ -11,7 +11,7 @@ use native.Mathlib.Decide.{ℕ-discrete}
 use borrow.Author.Tests.{leb-true, eqb-true}
 use Rattle.machine.specs.Choice.{_≟_, if_then_else_}
 use Rattle.machine.specs.Sides.{Side, left, right, opposite, sideNumber, sideOf}
-use Rattle.machine.specs.Values.{Value, N, X, encode, decode, bagOk, valueOk}
+use Rattle.machine.specs.Values.{N, X, encode, bagOk, valueOk}
 use Rattle.machine.specs.Operations.{
   Operation,
   idle,
@@ -22,7 +22,7 @@ use Rattle.machine.specs.Operations.{
   operationNumber,
   operationOf,
 }
-use Rattle.machine.specs.Steps.{Step, stepNumber, stepOf, stepsOf, isStepIn}
+use Rattle.machine.specs.Steps.{stepsOf, isStepIn}
 use Rattle.machine.specs.Tasks.{Task, fresh, wordsOf, taskOf}
 use Rattle.machine.specs.Table.{tenFrom}
 use Rattle.machine.specs.Shape.{sameWords, valueReadOk, busyOk, recordOk}
@@ -164,5 +164,7 @@ module _ (S g : ℕ) (ws : List ℕ) (i : ℕ) where
       r = tenFrom ws i
 
       go : (t : Bool) → cond t (sameWords r (wordsOf fresh)) (busyOk S g r) ≡ true → wordsOf (taskOf r) ≡ r
-      go true h = let e = same-words r (wordsOf fresh) h in ap (λ l. wordsOf (taskOf l)) e ∙ ap wordsOf fresh-of-words ∙ sym e
+      go true h =
+          let e = same-words r (wordsOf fresh) h in
+          ap (λ l. wordsOf (taskOf l)) e ∙ ap wordsOf fresh-of-words ∙ sym e
       go false h = words-of-busy h

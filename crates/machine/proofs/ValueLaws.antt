@@ -1,14 +1,14 @@
 -- The word of a value and the value of a word: each gives back the other.
 use mathlib.Core.Path.{_≡_, refl, ap, sym, _∙_}
-use mathlib.Core.Logic.{_≢_, _⊎_, inl, inr}
-use mathlib.Core.Bool.{Bool, true, false, _&&_, _||_}
-use Prim.Native.Nat.{ℕ, _+_, _≤_, _<_}
+use mathlib.Core.Logic.{_⊎_, inl, inr}
+use mathlib.Core.Bool.{true, _&&_}
+use Prim.Native.Nat.{ℕ, _+_, _≤_}
 use lib.Dec.{leb}
 use native.Mathlib.Omega.{arith}
 use native.Mathlib.Decide.{ℕ-discrete, decLe}
 use borrow.Author.Tests.{leb-true, le-leb}
 use Rattle.machine.specs.Choice.{_≟_, _≤?_, if_then_else_}
-use Rattle.machine.specs.Sides.{Side, left, right, opposite}
+use Rattle.machine.specs.Sides.{Side, left, right}
 use Rattle.machine.specs.Values.{
   Value,
   never,
@@ -23,7 +23,7 @@ use Rattle.machine.specs.Values.{
   valueOk,
   mirror,
 }
-use Rattle.machine.proofs.Tests.{clash, and-left, and-right, or-either, or-left, or-right}
+use Rattle.machine.proofs.Tests.{clash, and-left, and-right, or-either, or-left}
 
 -- The value can be read back from its word.
 abbrev pub HasWord : Value → Type 0

@@ -1,0 +1,120 @@
+-- Every line of the figure fits: on a table of the right shape it writes what keeps the shape.
+use mathlib.Core.Path.{refl}
+use Prim.Native.Nat.{ℕ}
+use Rattle.machine.specs.Steps.{
+  Step,
+  rest,
+  line2,
+  line3,
+  line5,
+  line8,
+  line15,
+  line17,
+  line18,
+  line24,
+  line25,
+  line28,
+  line31,
+  line39,
+  line40,
+  line42,
+  line48,
+  line51,
+  line54,
+  line56,
+  line58,
+  line60,
+  line62,
+  line64,
+  line67,
+  line68,
+  line69,
+  line70,
+  line72,
+  line74,
+  line77,
+  line78,
+  line79,
+  line81,
+  line82,
+  isStepIn,
+}
+use Rattle.machine.specs.Tasks.{Task}
+use Rattle.machine.specs.Lines.{Memory, act}
+use Rattle.machine.proofs.BusyLaws.{NodeOrNone}
+use Rattle.machine.proofs.Fits.{goes-on, MemoryFits, LineFits}
+use Rattle.machine.proofs.Moves.{lands, part, moves}
+use Rattle.machine.proofs.PushFits.{line2-fits, line3-fits, line5-fits, line8-fits}
+use Rattle.machine.proofs.AddFits.{
+  line15-fits,
+  line17-fits,
+  line18-fits,
+  line24-fits,
+  line25-fits,
+  line28-fits,
+  line31-fits,
+  line67-fits,
+  line68-fits,
+  line69-fits,
+  line70-fits,
+  line72-fits,
+}
+use Rattle.machine.proofs.PopFits.{
+  line39-fits,
+  line40-fits,
+  line42-fits,
+  line48-fits,
+  line51-fits,
+}
+use Rattle.machine.proofs.RemoveFits.{
+  line54-fits,
+  line56-fits,
+  line58-fits,
+  line60-fits,
+  line62-fits,
+  line64-fits,
+  line74-fits,
+  line77-fits,
+  line78-fits,
+  line79-fits,
+  line81-fits,
+  line82-fits,
+}
+
+module _ (S g : ℕ) (m : Memory) (M : MemoryFits S m) (t : Task) (f : ℕ) (f-ok : NodeOrNone S f) where
+  pub line-fits : (st : Step) → LineFits S g m t f st
+  unfolding act isStepIn
+  line-fits rest F = goes-on tt (moves F (lands (part F) refl))
+  line-fits line2 F = line2-fits S g m M t f F
+  line-fits line3 F = line3-fits S g m M t f F
+  line-fits line5 F = line5-fits S g m M t f F
+  line-fits line8 F = line8-fits S g m M t f F
+  line-fits line15 F = line15-fits S g m M t f F
+  line-fits line17 F = line17-fits S g m M t f F
+  line-fits line18 F = line18-fits S g m M t f F
+  line-fits line24 F = line24-fits S g m M t f F
+  line-fits line25 F = line25-fits S g m M t f F
+  line-fits line28 F = line28-fits S g m M t f f-ok F
+  line-fits line31 F = line31-fits S g m M t f f-ok F
+  line-fits line39 F = line39-fits S g m M t f F
+  line-fits line40 F = line40-fits S g m M t f F
+  line-fits line42 F = line42-fits S g m M t f F
+  line-fits line48 F = line48-fits S g m M t f F
+  line-fits line51 F = line51-fits S g m M t f F
+  line-fits line54 F = line54-fits S g m M t f F
+  line-fits line56 F = line56-fits S g m M t f F
+  line-fits line58 F = line58-fits S g m M t f F
+  line-fits line60 F = line60-fits S g m M t f F
+  line-fits line62 F = line62-fits S g m M t f F
+  line-fits line64 F = line64-fits S g m M t f F
+  line-fits line67 F = line67-fits S g m M t f F
+  line-fits line68 F = line68-fits S g m M t f F
+  line-fits line69 F = line69-fits S g m M t f F
+  line-fits line70 F = line70-fits S g m M t f F
+  line-fits line72 F = line72-fits S g m M t f F
+  line-fits line74 F = line74-fits S g m M t f F
+  line-fits line77 F = line77-fits S g m M t f F
+  line-fits line78 F = line78-fits S g m M t f F
+  line-fits line79 F = line79-fits S g m M t f F
+  line-fits line81 F = line81-fits S g m M t f F
+  line-fits line82 F = line82-fits S g m M t f F
