@@ -41,7 +41,7 @@ use Rattle.machine.specs.Shape.{
   recordOk,
 }
 use Rattle.machine.specs.Calls.{isBusy}
-use Rattle.machine.proofs.Tests.{bot, and-left, and-right, or-either, or-left, or-right}
+use Rattle.machine.proofs.Tests.{and-left, and-right, or-either, or-left, or-right}
 use Rattle.machine.proofs.ValueLaws.{HasWord, N-mark, X-mark, bag-has-word, mark-has-word}
 use Rattle.machine.proofs.RecordLaws.{
   operation-of-number,
@@ -49,6 +49,7 @@ use Rattle.machine.proofs.RecordLaws.{
   same-words,
   read-value-ok,
 }
+use Rattle.machine.proofs.Contradiction.{refute}
 
 -- ---- A node or none.
 abbrev pub NodeOrNone : (S x : ℕ) → Type 0
@@ -161,7 +162,7 @@ idle-of-record S g t h e =
 -- ---- What the facts say at a step.
 module _ {S g : ℕ} {st : Step} {t : Task} where
   pub not-idle : BusyAt S g st t → t .operation ≢ idle
-  not-idle F e = let b = F .busy in bot (cc)
+  not-idle F e = let b = F .busy in refute (cc)
 
   -- At every step the value read is as V may be, and counted is at most the goal.
   pub value-read-ok : BusyAt S g st t → valueOk (encode (t .value)) ≡ true

@@ -22,7 +22,7 @@ use Rattle.machine.specs.Table.{
   recordWords,
 }
 use Rattle.machine.specs.Lines.{Memory, Write, out≔, inn≔, val≔, hat≔}
-use Rattle.machine.proofs.Memories.{upd, is-upd, updSide}
+use Rattle.machine.proofs.Updates.{is-update, update, updateSide}
 
 -- A function below a bound, with one value from the bound on.
 abbrev pub column : {T : Type 0} → ℕ → T → (ℕ → T) → ℕ → T
@@ -84,7 +84,7 @@ putHat s x c =
       nodeCount = c .nodeCount;
       taskCount = c .taskCount;
       growth = c .growth;
-      hats = updSide (c .hats) s x;
+      hats = updateSide (c .hats) s x;
       tickCount = c .tickCount;
       sixth = c .sixth;
       seventh = c .seventh;
@@ -120,7 +120,7 @@ putLink s x y c =
       tickCount = c .tickCount;
       sixth = c .sixth;
       seventh = c .seventh;
-      links = updSide (c .links) s (upd (c .links s) x y);
+      links = updateSide (c .links) s (update (c .links s) x y);
       values = c .values;
       records = c .records;
     }
@@ -137,7 +137,7 @@ putValue x w c =
       sixth = c .sixth;
       seventh = c .seventh;
       links = c .links;
-      values = upd (c .values) x w;
+      values = update (c .values) x w;
       records = c .records;
     }
 
@@ -154,7 +154,7 @@ putRecord k r c =
       seventh = c .seventh;
       links = c .links;
       values = c .values;
-      records = upd (c .records) k r;
+      records = update (c .records) k r;
     }
 
 -- One write of a task on side s, and several in order.
@@ -211,9 +211,9 @@ module _ {T : Type 0} (other : T) (f f′ : ℕ → T) {n n′ : ℕ} (bound : n
       → y < n
       → f′ y ≡ v
       → ((x : ℕ) → x < n → x ≢ y → f′ x ≡ f x)
-      → column n′ other f′ ≡ upd (column n other f) y v
+      → column n′ other f′ ≡ update (column n other f) y v
   column-written y v l here same =
-      ap (λ m. column m other f′) bound ∙ is-upd (column n other f) y v (column n other f′) (at-y (y <? n)) elsewhere
+      ap (λ m. column m other f′) bound ∙ is-update (column n other f) y v (column n other f′) (at-y (y <? n)) elsewhere
     where
       at-y : (d : Dec (y < n)) → (if d then f′ y else other) ≡ v
       at-y (yes h) = here

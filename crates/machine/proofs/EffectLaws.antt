@@ -19,7 +19,8 @@ use Rattle.machine.specs.Lines.{seen, Write, out≔, inn≔, val≔, hat
 use Rattle.machine.specs.Calls.{counted}
 use Rattle.machine.proofs.ValueLaws.{HasWord}
 use Rattle.machine.proofs.RecordLaws.{task-of-words, fresh-of-words}
-use Rattle.machine.proofs.Memories.{upd, map-upd, write, writes, view, memory-equal}
+use Rattle.machine.proofs.Updates.{map-update, update}
+use Rattle.machine.proofs.Memories.{memory-equal, view, write, written}
 use Rattle.machine.proofs.Columns.{
   Columns,
   columns,
@@ -96,17 +97,17 @@ memory-put-one S right (out≔ x y) c h = refl
 memory-put-one S left (inn≔ x y) c h = refl
 memory-put-one S right (inn≔ x y) c h = refl
 memory-put-one S s (val≔ x v) c h =
-    memory-equal refl refl (map-upd decode (c .values) x (encode v) v (h .1)) refl refl
+    memory-equal refl refl (map-update decode (c .values) x (encode v) v (h .1)) refl refl
 memory-put-one S left (hat≔ x) c h = refl
 memory-put-one S right (hat≔ x) c h = refl
 
 memory-put-all :
     (S : ℕ) (s : Side) (l : List Write) (c : Columns)
     → AllInRange S l
-    → memory s (putAll s l c) ≡ writes l (memory s c)
+    → memory s (putAll s l c) ≡ written l (memory s c)
 memory-put-all S s [] c h = refl
 memory-put-all S s (w ∷ l) c h =
-    memory-put-all S s l (putOne s w c) (h .1) ∙ ap (writes l) (memory-put-one S s w c (h .0))
+    memory-put-all S s l (putOne s w c) (h .1) ∙ ap (written l) (memory-put-one S s w c (h .0))
 
 -- ---- On the words.
 module _ (s : Side) where
@@ -139,7 +140,7 @@ module _ (s : Side) where
       (l : List Write) (ws : List ℕ)
       → Sized (columns ws)
       → AllInRange (nodeCount ws) l
-      → seen s (writeAll s l ws) ≡ writes l (seen s ws)
+      → seen s (writeAll s l ws) ≡ written l (seen s ws)
   unfolding value
   seen-write-all l ws sized h =
       ap (memory s) (columns-write-all l ws sized h) ∙ memory-put-all (nodeCount ws) s l (columns ws) h
@@ -168,8 +169,8 @@ task-by-columns ws = fun-ext (λ k. go k (k <? taskCount ws))
     go k (no h) = sym fresh-of-words
 
 tasks-put-record :
-    (k : ℕ) (t : Task) (c : Columns) → HasWord (t .value) → tasks (putRecord k (wordsOf t) c) ≡ upd (tasks c) k t
-tasks-put-record k t c h = map-upd taskOf (c .records) k (wordsOf t) t (task-of-words t h)
+    (k : ℕ) (t : Task) (c : Columns) → HasWord (t .value) → tasks (putRecord k (wordsOf t) c) ≡ update (tasks c) k t
+tasks-put-record k t c h = map-update taskOf (c .records) k (wordsOf t) t (task-of-words t h)
 
 -- ---- A record written: begin.
 module _ (ws : List ℕ) (sized : Sized (columns ws)) (k : ℕ) (is-task : k < taskCount ws) (t : Task) where
@@ -177,12 +178,12 @@ module _ (ws : List ℕ) (sized : Sized (columns ws)) (k : ℕ) (is-task : k < t
   unfolding value
   seen-set-task s = ap (memory s) (columns-setTask ws sized k t is-task)
 
-  pub task-set-task : HasWord (t .value) → task (setTask k t ws) ≡ upd (task ws) k t
+  pub task-set-task : HasWord (t .value) → task (setTask k t ws) ≡ update (task ws) k t
   task-set-task h =
       task-by-columns (setTask k t ws)
       ∙ ap tasks (columns-setTask ws sized k t is-task)
       ∙ tasks-put-record k t (columns ws) h
-      ∙ ap (λ (f : ℕ → Task). upd f k t) (sym (task-by-columns ws))
+      ∙ ap (λ (f : ℕ → Task). update f k t) (sym (task-by-columns ws))
 
 -- ---- A whole effect: the words that `applied` gives where the answer is no refusal.
 abbrev pub effectWords : Side → List Write → (k : ℕ) → Task → List ℕ → List ℕ
@@ -198,15 +199,15 @@ module _
     (is-task : k < taskCount ws)
     (t : Task) where
   -- The columns once the writes are made, and once the record is set too.
-  written : columns (writeAll s l ws) ≡ putAll s l (columns ws)
-  written = columns-write-all s l ws sized in-range
+  columns-written : columns (writeAll s l ws) ≡ putAll s l (columns ws)
+  columns-written = columns-write-all s l ws sized in-range
 
   recorded : columns (setTask k t (writeAll s l ws)) ≡ putRecord k (wordsOf t) (putAll s l (columns ws))
   recorded =
       let z = put-all-sizes s l (columns ws) in
-      let sized′ = subst Sized (sym written) (rw (z .0, z .1, z .2) sized) in
-      let is-task′ : k < taskCount (writeAll s l ws) = rw (ap (λ c. c .taskCount) written, z .2) is-task in
-      columns-setTask (writeAll s l ws) sized′ k t is-task′ ∙ ap (putRecord k (wordsOf t)) written
+      let sized′ = subst Sized (sym columns-written) (rw (z .0, z .1, z .2) sized) in
+      let is-task′ : k < taskCount (writeAll s l ws) = rw (ap (λ c. c .taskCount) columns-written, z .2) is-task in
+      columns-setTask (writeAll s l ws) sized′ k t is-task′ ∙ ap (putRecord k (wordsOf t)) columns-written
 
   pub columns-effect :
       columns (effectWords s l k t ws)
@@ -224,20 +225,20 @@ module _
   effect-sizes =
       subst (λ c. SameSizes c (columns ws)) (sym columns-effect) (put-all-sizes s l (columns ws))
 
-  pub seen-effect : seen right (effectWords s l k t ws) ≡ view s (writes l (view s (seen right ws)))
+  pub seen-effect : seen right (effectWords s l k t ws) ≡ view s (written l (view s (seen right ws)))
   unfolding value
   seen-effect =
       let c = columns ws in
       ap (memory right) columns-effect
       ∙ view-memory s (putAll s l c)
       ∙ ap (view s) (memory-put-all (nodeCount ws) s l c in-range)
-      ∙ ap (λ m. view s (writes l m)) (sym (view-seen s ws))
+      ∙ ap (λ m. view s (written l m)) (sym (view-seen s ws))
 
-  pub task-effect : HasWord (t .value) → task (effectWords s l k t ws) ≡ upd (task ws) k t
+  pub task-effect : HasWord (t .value) → task (effectWords s l k t ws) ≡ update (task ws) k t
   task-effect h =
       let c = columns ws in
       task-by-columns (effectWords s l k t ws)
       ∙ ap tasks columns-effect
       ∙ tasks-put-record k t (putAll s l c) h
-      ∙ ap (λ (r : ℕ → List ℕ). upd (λ j. taskOf (r j)) k t) (put-all-rest s l c .0)
-      ∙ ap (λ (f : ℕ → Task). upd f k t) (sym (task-by-columns ws))
+      ∙ ap (λ (r : ℕ → List ℕ). update (λ j. taskOf (r j)) k t) (put-all-rest s l c .0)
+      ∙ ap (λ (f : ℕ → Task). update f k t) (sym (task-by-columns ws))

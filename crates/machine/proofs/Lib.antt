@@ -1,8 +1,10 @@
+pub mod Contradiction
 pub mod Choices
 pub mod Tests
 pub mod ValueLaws
 pub mod StepLaws
 pub mod RecordLaws
+pub mod Updates
 pub mod Memories
 pub mod Columns
 pub mod Stretches
@@ -25,3 +27,4 @@ pub mod ShapeKept
 pub mod Marking
 pub mod Reached
 pub mod FirstFree
+pub mod Linearizability

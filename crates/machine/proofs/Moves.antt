@@ -33,7 +33,7 @@ use Rattle.machine.specs.Tasks.{
 }
 use Rattle.machine.specs.Shape.{valueReadOk, countedOk}
 use Rattle.machine.specs.Lines.{backOf, back}
-use Rattle.machine.proofs.Tests.{by-if, and-left, and-right}
+use Rattle.machine.proofs.Tests.{and-left, and-right}
 use Rattle.machine.proofs.ValueLaws.{HasWord}
 use Rattle.machine.proofs.StepLaws.{growing, partOf, hasPart, step-in-part}
 use Rattle.machine.proofs.BusyLaws.{
@@ -44,6 +44,7 @@ use Rattle.machine.proofs.BusyLaws.{
   counted-at-most,
 }
 use Rattle.machine.proofs.Fits.{ValueFits}
+use Rattle.machine.proofs.Choices.{by-if}
 
 -- ---- Steps to which a task may go.
 

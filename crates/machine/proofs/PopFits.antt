@@ -11,19 +11,10 @@ use Rattle.machine.specs.Steps.{line39, line40, line42, line48, line51, 
 use Rattle.machine.specs.Tasks.{Task, none, goto, withValue}
 use Rattle.machine.specs.Shape.{valueReadOk}
 use Rattle.machine.specs.Lines.{Memory, afterRead, act}
-use Rattle.machine.proofs.Tests.{by-if, or-left, or-right}
+use Rattle.machine.proofs.Tests.{or-left, or-right}
 use Rattle.machine.proofs.ValueLaws.{HasWord, decoded-bag}
 use Rattle.machine.proofs.BusyLaws.{BusyAt, BusyFacts}
-use Rattle.machine.proofs.Fits.{
-  ValueFits,
-  goes-on,
-  ends,
-  MemoryFits,
-  N-fits,
-  LineFits,
-  by-through,
-  by-dcas,
-}
+use Rattle.machine.proofs.Fits.{ValueFits, goes-on, ends, MemoryFits, N-fits, LineFits, by-through, by-dcas}
 use Rattle.machine.proofs.Moves.{
   lands,
   lands-if,
@@ -34,6 +25,7 @@ use Rattle.machine.proofs.Moves.{
   moves-B,
   moves-value,
 }
+use Rattle.machine.proofs.Choices.{by-if}
 
 module _ (S g : ℕ) (m : Memory) (M : MemoryFits S m) (t : Task) (f : ℕ) where
   pub line39-fits : LineFits S g m t f line39

@@ -8,18 +8,10 @@ use Rattle.machine.specs.Operations.{Operation, idle, push, pop, add, re
 use Rattle.machine.specs.Steps.{line2, line3, line5, line8, isStepIn}
 use Rattle.machine.specs.Tasks.{Task, none}
 use Rattle.machine.specs.Lines.{Memory, act}
-use Rattle.machine.proofs.Tests.{clash}
+use Rattle.machine.proofs.Contradiction.{clash}
 use Rattle.machine.proofs.ValueLaws.{bag-has-word, bag-value-ok}
 use Rattle.machine.proofs.StepLaws.{pushing, growing, hasPart}
-use Rattle.machine.proofs.Fits.{
-  ValueFits,
-  goes-on,
-  ends,
-  MemoryFits,
-  LineFits,
-  by-through,
-  by-dcas,
-}
+use Rattle.machine.proofs.Fits.{ValueFits, goes-on, ends, MemoryFits, LineFits, by-through, by-dcas}
 use Rattle.machine.proofs.Moves.{lands, lands-if, part, moves, moves-A, moves-B}
 
 -- Only a push has these lines: it may go on to those of an add, and its argument is a bag.

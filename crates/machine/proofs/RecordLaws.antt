@@ -26,7 +26,7 @@ use Rattle.machine.specs.Steps.{stepsOf, isStepIn}
 use Rattle.machine.specs.Tasks.{Task, fresh, wordsOf, taskOf}
 use Rattle.machine.specs.Table.{tenFrom}
 use Rattle.machine.specs.Shape.{sameWords, valueReadOk, busyOk, recordOk}
-use Rattle.machine.proofs.Tests.{clash, and-left, and-right, or-either}
+use Rattle.machine.proofs.Tests.{and-left, and-right, or-either}
 use Rattle.machine.proofs.ValueLaws.{
   HasWord,
   N-mark,
@@ -37,6 +37,7 @@ use Rattle.machine.proofs.ValueLaws.{
   mark-value-ok,
 }
 use Rattle.machine.proofs.StepLaws.{step-of-number, number-of-step}
+use Rattle.machine.proofs.Contradiction.{clash}
 
 -- ---- Operations and sides.
 pub operation-of-number : (op : Operation) → operationOf (operationNumber op) ≡ op

@@ -22,21 +22,9 @@ use Rattle.machine.specs.Steps.{
 }
 use Rattle.machine.specs.Tasks.{Task, none, goal, goto, withA, withCounted}
 use Rattle.machine.specs.Lines.{Memory, act}
-use Rattle.machine.proofs.Tests.{by-if}
+use Rattle.machine.proofs.Choices.{by-if}
 use Rattle.machine.proofs.BusyLaws.{BusyFacts}
-use Rattle.machine.proofs.Fits.{
-  WritesFit,
-  Fits,
-  goes-on,
-  ends,
-  MemoryFits,
-  X-fits,
-  Y-fits,
-  none-fits,
-  LineFits,
-  by-through,
-  by-dcas,
-}
+use Rattle.machine.proofs.Fits.{WritesFit, Fits, goes-on, ends, MemoryFits, X-fits, Y-fits, none-fits, LineFits, by-through, by-dcas}
 use Rattle.machine.proofs.Moves.{
   Lands,
   lands,

@@ -58,7 +58,7 @@ use Rattle.machine.specs.Demand3.{
   read-call,
   after,
 }
-use Rattle.machine.proofs.Tests.{and-left, and-right, by-if, test-passed, tests-left}
+use Rattle.machine.proofs.Tests.{and-left, and-right, test-passed, tests-left}
 use Rattle.machine.proofs.ValueLaws.{never-has-word}
 use Rattle.machine.proofs.Columns.{columns}
 use Rattle.machine.proofs.TableLaws.{columns-setTask}
@@ -82,6 +82,7 @@ use Rattle.machine.proofs.ShapeLaws.{
 use Rattle.machine.proofs.Fits.{none-fits}
 use Rattle.machine.proofs.WritesKeep.{put-record-shaped, same-sizes-kept}
 use Rattle.machine.proofs.TickKeeps.{Kept, unchanged, tick-kept}
+use Rattle.machine.proofs.Choices.{by-if}
 
 -- The table passes the tests of refusals 3 and 4.
 pub record Accepted (ws : List ℕ) : Type 0 where

@@ -25,7 +25,7 @@ use Rattle.machine.specs.Table.{
   recordWords,
 }
 use Rattle.machine.specs.Shape.{lengthOk, allBelow, nodeOrNone, nodeOk, recordOk, shapeOk}
-use Rattle.machine.proofs.Tests.{and-left, and-right, if-yes}
+use Rattle.machine.proofs.Tests.{and-left, and-right}
 use Rattle.machine.proofs.Columns.{Columns, columns, column, Sized}
 use Rattle.machine.proofs.BusyLaws.{
   NodeOrNone,
@@ -33,6 +33,7 @@ use Rattle.machine.proofs.BusyLaws.{
   node-or-none-ok,
   record-of-fresh,
 }
+use Rattle.machine.proofs.Choices.{if-yes}
 
 -- ---- The sizes and the length.
 pub record WellSized (c : Columns) : Type 0 where

@@ -26,10 +26,10 @@ use Rattle.machine.specs.Table.{
 }
 use Rattle.machine.specs.Lines.{Memory, seen}
 use Rattle.machine.specs.Calls.{times, startWords}
-use Rattle.machine.proofs.Tests.{by-if, if-yes, if-no}
+use Rattle.machine.proofs.Choices.{by-if, if-no, if-yes}
+use Rattle.machine.proofs.Memories.{memory-equal}
 use Rattle.machine.proofs.ValueLaws.{HasWord, X-mark, never-has-word, mark-has-word}
 use Rattle.machine.proofs.RecordLaws.{fresh-of-words}
-use Rattle.machine.proofs.Memories.{memory-equal}
 use Rattle.machine.proofs.Columns.{Columns, columns, columns-equal, Sized, memory, tasks}
 use Rattle.machine.proofs.Stretches.{ten-same, side-small}
 use Rattle.machine.proofs.EffectLaws.{task-by-columns}

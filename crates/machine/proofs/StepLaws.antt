@@ -50,7 +50,8 @@ use Rattle.machine.specs.Steps.{
   stepOf,
   isStepIn,
 }
-use Rattle.machine.proofs.Tests.{clash, or-either}
+use Rattle.machine.proofs.Tests.{or-either}
+use Rattle.machine.proofs.Contradiction.{clash}
 
 -- ---- Steps and numbers.
 pub step-of-number : (st : Step) → stepOf (stepNumber st) ≡ st

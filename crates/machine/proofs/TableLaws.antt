@@ -28,7 +28,7 @@ use Rattle.machine.specs.Table.{
   setValue,
   setTask,
 }
-use Rattle.machine.proofs.Memories.{upd, updSide, is-updSide}
+use Rattle.machine.proofs.Updates.{is-updateSide, update, updateSide}
 use Rattle.machine.proofs.Columns.{
   columns,
   Sized,
@@ -63,9 +63,9 @@ module _ (ws : List ℕ) (sized : Sized (columns ws)) (s : Side) (x : ℕ) where
   hats-apart left e = absurd (omega arith)
   hats-apart right e = absurd (omega arith)
 
-  hat-after : hat (setHat s x ws) ≡ updSide (hat ws) s x
+  hat-after : hat (setHat s x ws) ≡ updateSide (hat ws) s x
   hat-after =
-      is-updSide (hat ws) (hat (setHat s x ws)) s x
+      is-updateSide (hat ws) (hat (setHat s x ws)) s x
       (getD-set-same ws (hatAt s) x 0 (omega (arith, side-small s)))
       (getD-set-other ws (hatAt s) (hatAt (opposite s)) x 0 (hats-apart s))
 
@@ -98,7 +98,7 @@ module _ (ws : List ℕ) (sized : Sized (columns ws)) (s : Side) (x y : ℕ) (is
   link-wrote : Wrote ws (setLink s x y ws) (linkAt s x) 1
   link-wrote = set-wrote ws (linkAt s x) y
 
-  own-link-after : link (setLink s x y ws) s ≡ upd (link ws s) x y
+  own-link-after : link (setLink s x y ws) s ≡ update (link ws s) x y
   unfolding link
   own-link-after =
       let p = linkAt s x in
@@ -124,8 +124,8 @@ module _ (ws : List ℕ) (sized : Sized (columns ws)) (s : Side) (x y : ℕ) (is
   pub columns-setLink : columns (setLink s x y ws) ≡ putLink s x y (columns ws)
   columns-setLink =
       let b = side-small s in
-      let new = upd (link ws s) x y in
-      let links = is-updSide (link ws) (link (setLink s x y ws)) s new own-link-after far-link-after in
+      let new = update (link ws s) x y in
+      let links = is-updateSide (link ws) (link (setLink s x y ws)) s new own-link-after far-link-after in
       let records = records-off link-wrote (omega arith) (omega arith) in
       past-header link-wrote (omega arith) (omega arith) links values-after-link records
 
@@ -141,7 +141,7 @@ module _ (ws : List ℕ) (sized : Sized (columns ws)) (x : ℕ) (v : Value) (is-
       column-kept none (linkWord ws s) (linkWord (setValue x v ws) s) (same-nodes value-wrote (omega arith))
       (λ z l. getD-set-other ws (valueAt x) (linkAt s z) (encode v) 0 (λ e. absurd (omega (arith, side-small s)))))
 
-  values-after : columns (setValue x v ws) .values ≡ upd (columns ws .values) x (encode v)
+  values-after : columns (setValue x v ws) .values ≡ update (columns ws .values) x (encode v)
   values-after =
       let p = valueAt x in
       let w = encode v in
@@ -183,7 +183,7 @@ module _ (ws : List ℕ) (sized : Sized (columns ws)) (k : ℕ) (t : Task) (is-t
       apart : (c : ℕ) → c < 10 → (at j + c < at k) ⊎ (at k + 10 ≤ at j + c)
       apart c q = elim (j <? k) [ yes l ↦ inl (omega arith) | no l ↦ inr (omega arith) ]
 
-  records-after : columns (setTask k t ws) .records ≡ upd (columns ws .records) k (wordsOf t)
+  records-after : columns (setTask k t ws) .records ≡ update (columns ws .records) k (wordsOf t)
   unfolding at
   records-after =
       column-written (wordsOf fresh) (recordWords ws) (recordWords (setTask k t ws))

@@ -27,7 +27,7 @@ use Rattle.machine.specs.Allocate.{following, firstUnmarked, marked, all
 use Rattle.machine.specs.Lines.{seen, Write, Effect}
 use Rattle.machine.specs.Answers.{refusalOf}
 use Rattle.machine.specs.Calls.{isBusy, tickRefusal, effectOf, Ticked, applied, tickOn}
-use Rattle.machine.proofs.Tests.{by-if, if-yes, test-passed, tests-left}
+use Rattle.machine.proofs.Tests.{test-passed, tests-left}
 use Rattle.machine.proofs.ValueLaws.{HasWord, never-has-word, decoded-has-word, decoded-value-ok}
 use Rattle.machine.proofs.RecordLaws.{task-of-words, fresh-of-words, words-of-task}
 use Rattle.machine.proofs.Columns.{columns, putAll}
@@ -47,15 +47,7 @@ use Rattle.machine.proofs.BusyLaws.{
   idle-of-record,
 }
 use Rattle.machine.proofs.ShapeLaws.{WellSized, WellShaped}
-use Rattle.machine.proofs.Fits.{
-  WritesFit,
-  Fits,
-  turns-back,
-  goes-on,
-  ends,
-  MemoryFits,
-  none-fits,
-}
+use Rattle.machine.proofs.Fits.{WritesFit, Fits, turns-back, goes-on, ends, MemoryFits, none-fits}
 use Rattle.machine.proofs.LinesFit.{line-fits}
 use Rattle.machine.proofs.WritesKeep.{
   all-in-range,
@@ -64,6 +56,7 @@ use Rattle.machine.proofs.WritesKeep.{
   put-all-shaped,
   same-sizes-kept,
 }
+use Rattle.machine.proofs.Choices.{by-if, if-yes}
 
 -- ---- The node that a search finds.
 following-node : (S i : ℕ) → i < S → following S i < S

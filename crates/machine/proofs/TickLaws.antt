@@ -8,9 +8,10 @@ use Rattle.machine.specs.Table.{nodeCount, growth, task}
 use Rattle.machine.specs.Lines.{seen, Effect}
 use Rattle.machine.specs.Answers.{refusalOf}
 use Rattle.machine.specs.Calls.{tickRefusal, effectOf, Ticked, applied, tickOn}
-use Rattle.machine.proofs.Tests.{clash}
+use Rattle.machine.proofs.Contradiction.{clash}
+use Rattle.machine.proofs.Updates.{update}
+use Rattle.machine.proofs.Memories.{view, written}
 use Rattle.machine.proofs.ValueLaws.{HasWord, never-has-word}
-use Rattle.machine.proofs.Memories.{upd, writes, view}
 use Rattle.machine.proofs.Columns.{columns}
 use Rattle.machine.proofs.EffectLaws.{AllInRange, effectWords, seen-effect, task-effect}
 use Rattle.machine.proofs.ShapeLaws.{WellSized, WellShaped}
@@ -67,14 +68,14 @@ module _ (ws : List ℕ) (k h : ℕ) (allowed : tickRefusal ws k h ≡ nothing) 
 
     pub tick-seen :
         seen right (tickOn ws k h .words)
-        ≡ view (task ws k .side) (writes (effectOf ws k h .writes) (view (task ws k .side) (seen right ws)))
+        ≡ view (task ws k .side) (written (effectOf ws k h .writes) (view (task ws k .side) (seen right ws)))
     tick-seen =
         let e = effectOf ws k h in
         let is-task = tick-allowed ws k h allowed .0 in
         ap (seen right) tick-words
         ∙ seen-effect ws (Z .sized) (task ws k .side) (e .writes) (tick-in-range .0) k is-task (e .task)
 
-    pub tick-task : task (tickOn ws k h .words) ≡ upd (task ws) k (effectOf ws k h .task)
+    pub tick-task : task (tickOn ws k h .words) ≡ update (task ws) k (effectOf ws k h .task)
     tick-task =
         let e = effectOf ws k h in
         let s = task ws k .side in

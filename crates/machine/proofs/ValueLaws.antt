@@ -23,7 +23,8 @@ use Rattle.machine.specs.Values.{
   valueOk,
   mirror,
 }
-use Rattle.machine.proofs.Tests.{clash, and-left, and-right, or-either, or-left}
+use Rattle.machine.proofs.Tests.{and-left, and-right, or-either, or-left}
+use Rattle.machine.proofs.Contradiction.{clash}
 
 -- The value can be read back from its word.
 abbrev pub HasWord : Value → Type 0

@@ -7,7 +7,7 @@ use Rattle.machine.specs.Sides.{Side, opposite}
 use Rattle.machine.specs.Values.{valueOk, encode}
 use Rattle.machine.specs.Shape.{recordOk}
 use Rattle.machine.specs.Lines.{Write, out≔, inn≔, val≔, hat≔}
-use Rattle.machine.proofs.Memories.{upd, upd-all, updSide-all}
+use Rattle.machine.proofs.Updates.{update, update-all, updateSide-all}
 use Rattle.machine.proofs.Columns.{
   Columns,
   putHat,
@@ -41,7 +41,7 @@ module _ (c : Columns) (W : WellShaped c) where
       record {
         sixth-zero = W .sixth-zero;
         seventh-zero = W .seventh-zero;
-        hats-ok = updSide-all (c .hats) s x (λ y. y < c .nodeCount) h (W .hats-ok);
+        hats-ok = updateSide-all (c .hats) s x (λ y. y < c .nodeCount) h (W .hats-ok);
         links-ok = W .links-ok;
         values-ok = W .values-ok;
         records-ok = W .records-ok;
@@ -55,8 +55,8 @@ module _ (c : Columns) (W : WellShaped c) where
         seventh-zero = W .seventh-zero;
         hats-ok = W .hats-ok;
         links-ok =
-            updSide-all (c .links) s (upd (c .links s) x y) (λ f. (z : ℕ) → NodeOrNone S (f z))
-            (upd-all (c .links s) x y (NodeOrNone S) h (W .links-ok s)) (W .links-ok);
+            updateSide-all (c .links) s (update (c .links s) x y) (λ f. (z : ℕ) → NodeOrNone S (f z))
+            (update-all (c .links s) x y (NodeOrNone S) h (W .links-ok s)) (W .links-ok);
         values-ok = W .values-ok;
         records-ok = W .records-ok;
       }
@@ -68,7 +68,7 @@ module _ (c : Columns) (W : WellShaped c) where
         seventh-zero = W .seventh-zero;
         hats-ok = W .hats-ok;
         links-ok = W .links-ok;
-        values-ok = upd-all (c .values) x w (λ u. valueOk u ≡ true) h (W .values-ok);
+        values-ok = update-all (c .values) x w (λ u. valueOk u ≡ true) h (W .values-ok);
         records-ok = W .records-ok;
       }
 
@@ -82,7 +82,7 @@ module _ (c : Columns) (W : WellShaped c) where
         links-ok = W .links-ok;
         values-ok = W .values-ok;
         records-ok =
-            upd-all (c .records) k r (λ q. recordOk (c .nodeCount) (c .growth) q ≡ true) h (W .records-ok);
+            update-all (c .records) k r (λ q. recordOk (c .nodeCount) (c .growth) q ≡ true) h (W .records-ok);
       }
 
   pub put-ticks-shaped : (n : ℕ) → WellShaped (putTickCount n c)

@@ -1,0 +1,60 @@
+-- Demand 3: every list of calls on a table that our start began is explained by the plain row.
+use mathlib.Core.Path.{_≡_, refl}
+use mathlib.Core.List.{List, [], _∷_}
+use mathlib.Core.Option.{Option, some, none as nothing}
+use Prim.Native.Nat.{ℕ}
+use Rattle.machine.specs.declared.Reply.the-variants.{Accepted}
+use Rattle.machine.specs.Calls.{startRefusal, changed, startWords, start}
+use Rattle.machine.specs.Row.{Row, emptyRow}
+use Rattle.machine.specs.Demand3.{Call, start-call, begin-call, tick-call, run-call, read-call, Within, Explained, Demand3}
+use Rattle.machine.proofs.Contradiction.{clash}
+use Rattle.machine.proofs.Tests.{test-passed}
+use Rattle.machine.proofs.Linearizability.Agreement.{Agrees, lane-is-row}
+use Rattle.machine.proofs.Linearizability.CallsAgree.{
+  Explains,
+  start-agrees,
+  start-explained,
+  begin-explained,
+  tick-explained,
+  read-explained,
+}
+use Rattle.machine.proofs.Linearizability.Runs.{run-explained, run-within}
+
+-- One call, and the ticks inside it.
+pub call-explained : {ws : List ℕ} {ρ : Row} → Agrees ws ρ → (c : Call) → Explains ws ρ c
+call-explained A (start-call S T g) = start-explained A S T g
+call-explained A (begin-call k op side argument) = begin-explained A k op side argument
+call-explained A (tick-call k h) = tick-explained A k h
+call-explained A (run-call list answers) = run-explained A list answers
+call-explained A (read-call out) = read-explained A out
+
+call-within : {ws : List ℕ} {ρ : Row} → Agrees ws ρ → (c : Call) → Within c ws ρ
+call-within A (start-call S T g) = tt
+call-within A (begin-call k op side argument) = tt
+call-within A (tick-call k h) = tt
+call-within A (run-call list answers) = run-within A list answers
+call-within A (read-call out) = tt
+
+-- Where table and row agree, the row explains whatever is called.
+pub explained : (cs : List Call) {ws : List ℕ} {ρ : Row} → Agrees ws ρ → Explained cs ws ρ
+explained [] A = lane-is-row A
+explained (c ∷ cs) A =
+    let E = call-explained A c in
+    (lane-is-row A, call-within A c, (E .row, E .given-by-row, explained cs (E .agrees)))
+
+-- An accepted start makes a table that agrees with the empty row.
+pub started-agrees :
+    (S T g : ℕ) (old : List ℕ) → start old S T g .reply ≡ Accepted → Agrees (start old S T g .words) emptyRow
+unfolding start
+started-agrees S T g old = go (startRefusal old S T g) refl
+  where
+    go :
+        (r : Option ℕ)
+        → startRefusal old S T g ≡ r
+        → changed r old (startWords S T g) .reply ≡ Accepted
+        → Agrees (changed r old (startWords S T g) .words) emptyRow
+    go (some n) e q = clash (cc)
+    go nothing e q = start-agrees S T g (search test-passed)
+
+pub demand3 : Demand3
+demand3 S T g old accepted calls = explained calls (started-agrees S T g old accepted)
