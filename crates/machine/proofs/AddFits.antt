@@ -27,7 +27,19 @@ use Rattle.machine.specs.Tasks.{Task, none, goal, goto, withD, withCount
 use Rattle.machine.specs.Lines.{Memory, Write, out≔, val≔, spliced, act}
 use Rattle.machine.proofs.Choices.{by-if}
 use Rattle.machine.proofs.BusyLaws.{NodeOrNone, BusyAt, BusyFacts}
-use Rattle.machine.proofs.Fits.{WritesFit, Fits, goes-on, ends, MemoryFits, N-fits, X-fits, none-fits, LineFits, by-through, by-dcas}
+use Rattle.machine.proofs.Fits.{
+  WritesFit,
+  Fits,
+  goes-on,
+  ends,
+  MemoryFits,
+  N-fits,
+  X-fits,
+  none-fits,
+  LineFits,
+  by-through,
+  by-dcas,
+}
 use Rattle.machine.proofs.Moves.{
   Lands,
   lands,

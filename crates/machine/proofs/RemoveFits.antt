@@ -24,7 +24,19 @@ use Rattle.machine.specs.Tasks.{Task, none, goal, goto, withA, withCount
 use Rattle.machine.specs.Lines.{Memory, act}
 use Rattle.machine.proofs.Choices.{by-if}
 use Rattle.machine.proofs.BusyLaws.{BusyFacts}
-use Rattle.machine.proofs.Fits.{WritesFit, Fits, goes-on, ends, MemoryFits, X-fits, Y-fits, none-fits, LineFits, by-through, by-dcas}
+use Rattle.machine.proofs.Fits.{
+  WritesFit,
+  Fits,
+  goes-on,
+  ends,
+  MemoryFits,
+  X-fits,
+  Y-fits,
+  none-fits,
+  LineFits,
+  by-through,
+  by-dcas,
+}
 use Rattle.machine.proofs.Moves.{
   Lands,
   lands,

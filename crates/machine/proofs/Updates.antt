@@ -51,7 +51,8 @@ pub map-update :
     → h v ≡ u
     → (λ (y : ℕ). h (update f x v y)) ≡ update (λ (y : ℕ). h (f y)) x u
 map-update h f x v u e =
-    is-update (λ y. h (f y)) x u (λ y. h (update f x v y)) (ap h (update-same f x v) ∙ e) (λ y n. ap h (update-other f x v y n))
+    is-update (λ y. h (f y)) x u (λ y. h (update f x v y)) (ap h (update-same f x v) ∙ e)
+    (λ y n. ap h (update-other f x v y n))
 
 -- ---- A function of the side with one side written.
 abbrev pub updateSide : {T : Type 0} → (Side → T) → Side → T → Side → T

@@ -50,7 +50,8 @@ markAll S m (x ∷ xs) = markAll S (mark S m x) xs
 -- Both links of the node at a place of the queue marked.
 unfoldable pub visit : List ℕ → Marking → ℕ → Marking
 visit ws m i =
-    mark (nodeCount ws) (mark (nodeCount ws) m (link ws left (getD (m .queue) i 0))) (link ws right (getD (m .queue) i 0))
+    let x = getD (m .queue) i 0 in
+    mark (nodeCount ws) (mark (nodeCount ws) m (link ws left x)) (link ws right x)
 
 -- The queue visited from a place on, for n places at most.
 unfoldable pub visitFrom : List ℕ → (n i : ℕ) → Marking → Marking

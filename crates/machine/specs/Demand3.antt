@@ -19,8 +19,8 @@ use Rattle.machine.specs.Answers.{refusalOf}
 use Rattle.machine.specs.Calls.{start, begin, tick, tickOn, run, lane, read}
 use Rattle.machine.specs.Row.{Row, emptyRow, Note, noted, feedMade, feedRun}
 
--- 01: the list holds start, begin, tick, run and reading the lane, with any arguments. A run's list and answer slice and
--- a read's out slice are that call's own: here by their contents when the call is made.
+-- 01: the list holds start, begin, tick, run and reading the lane, with any arguments. A run's list and answer slice
+-- and a read's out slice are that call's own: here by their contents when the call is made.
 pub data Call : Type 0 where
   start-call : (S T growth : ℕ) → Call
   begin-call : (k operation side argument : ℕ) → Call

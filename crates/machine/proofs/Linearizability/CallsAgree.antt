@@ -16,9 +16,39 @@ use Rattle.machine.specs.Operations.{Operation, idle, push, pop, add, re
 use Rattle.machine.specs.Tasks.{Task}
 use Rattle.machine.specs.Table.{task, setTask}
 use Rattle.machine.specs.Shape.{sizesOk, sameWords}
-use Rattle.machine.specs.Calls.{isIdle, startRefusal, beginRefusal, tickRefusal, Changed, changed, startWords, start, begunTask, begin, Ticked, tickOn, tick, ReadDone, readInto, read}
+use Rattle.machine.specs.Calls.{
+  isIdle,
+  startRefusal,
+  beginRefusal,
+  tickRefusal,
+  Changed,
+  changed,
+  startWords,
+  start,
+  begunTask,
+  begin,
+  Ticked,
+  tickOn,
+  tick,
+  ReadDone,
+  readInto,
+  read,
+}
 use Rattle.machine.specs.Row.{Note, Row, emptyRow, noted}
-use Rattle.machine.specs.Demand3.{start-call, begin-call, tick-call, read-call, Call, given, after, feedStart, feedBegin, feedTick, feedRead, feed}
+use Rattle.machine.specs.Demand3.{
+  start-call,
+  begin-call,
+  tick-call,
+  read-call,
+  Call,
+  given,
+  after,
+  feedStart,
+  feedBegin,
+  feedTick,
+  feedRead,
+  feed,
+}
 use Rattle.machine.proofs.Contradiction.{clash}
 use Rattle.machine.proofs.Choices.{by-if}
 use Rattle.machine.proofs.Tests.{and-left, and-right, test-passed}
@@ -181,9 +211,6 @@ module _ {ws : List ℕ} {ρ : Row} (A : Agrees ws ρ) where
       Result : ReadDone → Type 0
       Result r = (ρ′ : Row) × (feedRead ρ out (r .reading) (r .out) ≡ some ρ′) × Agrees ws ρ′
 
-      row-long : ℕ
-      row-long = length (ρ .bags)
-
       go : (b : Bool) → leb (length (ρ .bags)) (length out) ≡ b → Result (readInto (some (ρ .bags)) out)
       go true e =
           rw (e, readInto) (
@@ -197,7 +224,10 @@ module _ {ws : List ℕ} {ρ : Row} (A : Agrees ws ρ) where
             A,
           )
       go false e =
-          rw (e, readInto) (ρ, rw (lt-ltb (length out) (length (ρ .bags)) (leb-false (length (ρ .bags)) (length out) e)), A)
+          rw (e, readInto)
+          (ρ, rw (lt-ltb (length out) (length (ρ .bags)) (leb-false (length (ρ .bags)) (length out) e)), A)
 
       passed : Result (read ws out)
-      passed = rw (table-passes ws (A .accepted) nothing, read, lane-is-row A) (go (leb (length (ρ .bags)) (length out)) refl)
+      passed =
+          rw (table-passes ws (A .accepted) nothing, read, lane-is-row A)
+          (go (leb (length (ρ .bags)) (length out)) refl)

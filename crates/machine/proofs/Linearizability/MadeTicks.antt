@@ -52,7 +52,8 @@ module _ {ws : List ℕ} (A : Accepted ws) where
   registers-ok : (k : ℕ) (r : Register) → NodeOrNone (nodeCount ws) (register (task ws k) r)
   registers-ok k r = go (task ws k .operation) refl
     where
-      of-busy : (r : Register) → isBusy (task ws k .operation) ≡ true → NodeOrNone (nodeCount ws) (register (task ws k) r)
+      of-busy :
+          (r : Register) → isBusy (task ws k .operation) ≡ true → NodeOrNone (nodeCount ws) (register (task ws k) r)
       of-busy inA b = busy-facts ws shape k b .A-ok
       of-busy inB b = busy-facts ws shape k b .B-ok
       of-busy inC b = busy-facts ws shape k b .C-ok
@@ -201,7 +202,8 @@ module _ {ws : List ℕ} {ρ : Row} (A : Agrees ws ρ) (k h : ℕ) (passes : tic
   notes-going : noteOf (effectOf ws k h .task) ≡ noteOf (task ws k) → (j : ℕ) → ρ .notes j ≡ noteIn (tasks-after j)
   notes-going same j =
       elim (j ≟ k) [
-        | yes e ↦ ap (ρ .notes) e ∙ A .notes k ∙ same-note ∙ sym (ap noteIn (ap tasks-after e ∙ update-same (task ws) k _))
+        | yes e ↦
+            ap (ρ .notes) e ∙ A .notes k ∙ same-note ∙ sym (ap noteIn (ap tasks-after e ∙ update-same (task ws) k _))
         | no n ↦ A .notes j ∙ sym (ap noteIn (update-other (task ws) k _ j n))
       ]
     where

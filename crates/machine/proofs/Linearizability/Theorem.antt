@@ -6,7 +6,17 @@ use Prim.Native.Nat.{ℕ}
 use Rattle.machine.specs.declared.Reply.the-variants.{Accepted}
 use Rattle.machine.specs.Calls.{startRefusal, changed, startWords, start}
 use Rattle.machine.specs.Row.{Row, emptyRow}
-use Rattle.machine.specs.Demand3.{Call, start-call, begin-call, tick-call, run-call, read-call, Within, Explained, Demand3}
+use Rattle.machine.specs.Demand3.{
+  Call,
+  start-call,
+  begin-call,
+  tick-call,
+  run-call,
+  read-call,
+  Within,
+  Explained,
+  Demand3,
+}
 use Rattle.machine.proofs.Contradiction.{clash}
 use Rattle.machine.proofs.Tests.{test-passed}
 use Rattle.machine.proofs.Linearizability.Agreement.{Agrees, lane-is-row}
