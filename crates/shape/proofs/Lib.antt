@@ -1,0 +1,5 @@
+pub mod Chains
+pub mod StepTable
+pub mod RecordWords
+pub mod TableWords
+pub mod Below

@@ -1,0 +1,73 @@
+-- The invariant: all nodes below the loop's number have passed.
+use mathlib.Core.Path.{_≡_, ap, sym, _∙_}
+use mathlib.Core.Bool.{true}
+use Prim.Native.Nat.{_-_, _≤_}
+use native.Mathlib.Omega.{arith}
+use borrow.Author.Tests.{not-true, not-false}
+use Rattle.machine.specs.Table.{nodeCount}
+use Rattle.machine.specs.Shape.{allBelow, nodeOk}
+use Rattle.shape.proofs.TableWords.{sized}
+use Rattle.shape.proofs.Below.{none-below, one-more, one-fails}
+use Rattle.shape.proofs.nodes_ok.Statement.{statement}
+use Rattle.shape.proofs.nodes_ok.Tie as tie
+
+abbrev Inv-loop : tie.InvT-loop
+Inv-loop t n x₀ x = (x ≤ nodeCount t) × (allBelow x (nodeOk t) ≡ true)
+
+abbrev μ-loop : tie.MeasureT-loop
+μ-loop t n x₀ x = nodeCount t - x
+
+shared-slice-read-n : tie.Need-shared-slice-read-n Inv-loop μ-loop
+shared-slice-read-n c = omega (arith, sized (c .before .before .args .t .now) (c .before .before .pre))
+
+loop-holds : tie.Need-loop-holds Inv-loop μ-loop
+loop-holds c =
+    let t = c .before .before .args .t .now in
+    (omega arith, none-below (nodeOk t))
+
+node-ok-requires : tie.Need-node-ok-requires Inv-loop μ-loop
+node-ok-requires c κs =
+    let s = c .before .before .before .before in
+    omega (arith, sized (s .args .t .now) (s .pre))
+
+returns : tie.Need-returns Inv-loop μ-loop
+returns c =
+    let t = c .before .before .before .before .before .before .args .t .now in
+    let l = c .before .before .before .loop in
+    let r = c .before .node-ok in
+    one-fails (nodeOk t) (nodeCount t) (l .x) (omega arith) (sym (r .ensures) ∙ not-true (r .result) (c .if1 .taken))
+
+add-x : tie.Need-add-x Inv-loop μ-loop
+add-x c = let s = c .before .before .before .before .before .before in omega (arith, sized (s .args .t .now) (s .pre))
+
+loop-less : tie.Need-loop-less Inv-loop μ-loop
+loop-less c = omega arith
+
+loop-again : tie.Need-loop-again Inv-loop μ-loop
+loop-again c =
+    let t = c .before .before .before .before .before .before .args .t .now in
+    let l = c .before .before .before .loop in
+    let r = c .before .node-ok in
+    (omega arith, one-more (nodeOk t) (l .x) (l .inv .1) (sym (r .ensures) ∙ not-false (r .result) (c .if1 .left)))
+
+returns-2 : tie.Need-returns-2 Inv-loop μ-loop
+returns-2 c =
+    let t = c .before .before .before .before .args .t .now in
+    let l = c .before .loop in
+    let e : l .x ≡ nodeCount t = omega arith in
+    sym (l .inv .1) ∙ ap (λ n. allBelow n (nodeOk t)) e
+
+pub nodes-ok-spec : {M : Type 1} → statement M
+nodes-ok-spec =
+    tie.close
+    (tie.spec
+    Inv-loop
+    μ-loop
+    shared-slice-read-n
+    loop-holds
+    node-ok-requires
+    returns
+    add-x
+    loop-less
+    loop-again
+    returns-2)

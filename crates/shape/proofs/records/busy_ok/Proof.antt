@@ -1,0 +1,104 @@
+-- The flag of the chain is followed from test to test.
+use mathlib.Core.Path.{_≡_, refl, ap, _∙_}
+use Rattle.machine.specs.Shape.{countedOk}
+use Rattle.shape.proofs.Chains.{passed, failed, met}
+use Rattle.shape.proofs.RecordWords.{callOk, operation-fails, side-fails, busy-tests}
+use borrow.Author.Needs.{needs}
+use Rattle.shape.proofs.records.argument_ok.Reads as argument-ok-reads
+use Rattle.shape.proofs.records.counted_ok.Reads as counted-ok-reads
+use Rattle.shape.proofs.records.goal_of.Reads as goal-of-reads
+use Rattle.shape.proofs.records.registers_ok.Reads as registers-ok-reads
+use Rattle.shape.proofs.records.value_read_ok.Reads as value-read-ok-reads
+use Rattle.shape.proofs.steps.is_step_of.Reads as is-step-of-reads
+use Rattle.shape.proofs.records.busy_ok.Statement.{statement}
+use Rattle.shape.proofs.records.busy_ok.Tie as tie
+use Rattle.shape.proofs.records.busy_ok.Reads as reads
+use Rattle.shape.proofs.records.busy_ok.Lts as lts
+
+flag :
+    (c :
+    lts.Joined5 (
+      goal-of-reads.Asked,
+      goal-of-reads.Learnt,
+      is-step-of-reads.Asked,
+      is-step-of-reads.Learnt,
+      argument-ok-reads.Asked,
+      argument-ok-reads.Learnt,
+      counted-ok-reads.Asked,
+      counted-ok-reads.Learnt,
+      value-read-ok-reads.Asked,
+      value-read-ok-reads.Learnt,
+      registers-ok-reads.Asked,
+      registers-ok-reads.Learnt,
+    ) reads.Pre reads.Post)
+    → let a = c .before .before .before .before .before .before .before .before .before .before .before .args in
+    c .if5 .if6 ≡ callOk (a .growth) (a .t)
+flag c =
+    let t = c .before .before .before .before .before .before .before .before .before .before .before .args .t in
+    let goal = c .before .before .before .before .before .before .goal-of .ensures in
+    met _ (c .if5 .came) (λ p. (p .0 .taken, p .2 ∙ p .1 .ensures)) (λ p. (p .0 .left, p .1))
+    (met _ (c .before .if4 .came)
+    (λ p. (p .0 .taken, p .2 ∙ p .1 .ensures ∙ ap (λ n. countedOk (t .step) n (t .counted)) goal))
+    (λ p. (p .0 .left, p .1))
+    (met _ (c .before .before .if3 .came) (λ p. (p .0 .taken, p .2 ∙ p .1 .ensures)) (λ p. (p .0 .left, p .1))
+    (c .before .before .before .is-step-of .ensures)))
+
+returns : tie.Need-returns
+returns c =
+    let a = c .before .before .args in
+    operation-fails (a .slots) (a .growth) (a .t) (c .if1 .taken)
+
+returns-2 : tie.Need-returns-2
+returns-2 c =
+    let e = c .before .before in
+    let a = e .before .before .args in
+    side-fails (a .slots) (a .growth) (a .t) (e .if1 .left) (c .if2 .taken)
+
+goal-of-requires : tie.Need-goal-of-requires
+goal-of-requires c κs = search needs
+
+is-step-of-requires : tie.Need-is-step-of-requires
+is-step-of-requires c κs = search needs
+
+argument-ok-requires : tie.Need-argument-ok-requires
+argument-ok-requires c κs = search needs
+
+counted-ok-requires : tie.Need-counted-ok-requires
+counted-ok-requires c κs = search needs
+
+value-read-ok-requires : tie.Need-value-read-ok-requires
+value-read-ok-requires c κs = search needs
+
+registers-ok-requires : tie.Need-registers-ok-requires
+registers-ok-requires c κs = search needs
+
+returns-3 : tie.Need-returns-3
+returns-3 c =
+    let f = c .before .before .before .before .before .before .before .before .before in
+    let e = f .before .before in
+    let a = e .before .before .args in
+    passed (flag (c .before .before)) (c .before .if6 .taken) (c .registers-ok .ensures)
+    ∙ busy-tests (a .slots) (a .growth) (a .t) (e .if1 .left) (f .if2 .left)
+
+returns-4 : tie.Need-returns-4
+returns-4 c =
+    let f = c .before .before .before .before .before .before .before .before in
+    let e = f .before .before in
+    let a = e .before .before .args in
+    failed _ (flag (c .before)) (c .if6 .left) refl
+    ∙ busy-tests (a .slots) (a .growth) (a .t) (e .if1 .left) (f .if2 .left)
+
+pub busy-ok-spec : {M : Type 1} → statement M
+busy-ok-spec =
+    tie.close
+    (tie.spec
+    returns
+    returns-2
+    goal-of-requires
+    is-step-of-requires
+    argument-ok-requires
+    counted-ok-requires
+    value-read-ok-requires
+    registers-ok-requires
+    returns-3
+    returns-4)

@@ -1,0 +1,13 @@
+-- Each way out of the chain has decided the first test.
+use borrow.Author.Tests.{lt-ltb, le-ltb}
+use Rattle.shape.proofs.records.node_or_none.Statement.{statement}
+use Rattle.shape.proofs.records.node_or_none.Tie as tie
+
+returns : tie.Need-returns
+returns c = rw (lt-ltb _ _ (c .if1 .taken))
+
+returns-2 : tie.Need-returns-2
+returns-2 c = rw (le-ltb _ _ (c .if1 .left))
+
+pub node-or-none-spec : {M : Type 1} → statement M
+node-or-none-spec = tie.close (tie.spec returns returns-2)

@@ -1,0 +1,31 @@
+-- The flag of the chain is followed from test to test.
+use mathlib.Core.Path.{_≡_, refl}
+use mathlib.Core.Bool.{_&&_}
+use lib.Dec.{leb}
+use borrow.Author.Tests.{le-leb, lt-leb}
+use Rattle.shape.proofs.Chains.{passed, failed, met}
+use Rattle.shape.proofs.sizes_ok.Statement.{statement}
+use Rattle.shape.proofs.sizes_ok.Tie as tie
+use Rattle.shape.proofs.sizes_ok.Reads as reads
+use Rattle.shape.proofs.sizes_ok.Lts as lts
+
+flag :
+    (c : lts.Joined3 reads.Pre reads.Post)
+    → let a = c .before .before .before .args in
+    c .if3 .if4 ≡ leb 2 (a .slots) && leb (a .slots) 1024 && leb 1 (a .tasks) && leb (a .tasks) 16
+flag c =
+    met _ (c .if3 .came) (λ p. (p .0 .taken, p .1)) (λ p. (p .0 .left, p .1))
+    (met _ (c .before .if2 .came) (λ p. (p .0 .taken, p .1)) (λ p. (p .0 .left, p .1))
+    (met _ (c .before .before .if1 .came)
+    (λ p. (le-leb _ _ (p .0 .taken), p .1))
+    (λ p. (lt-leb _ _ (p .0 .left), p .1))
+    refl))
+
+returns : tie.Need-returns
+returns c = passed (flag (c .before)) (c .if4 .taken) refl
+
+returns-2 : tie.Need-returns-2
+returns-2 c = failed _ (flag (c .before)) (c .if4 .left) refl
+
+pub sizes-ok-spec : {M : Type 1} → statement M
+sizes-ok-spec = tie.close (tie.spec returns returns-2)

@@ -1,0 +1,16 @@
+-- Names for the contracts of this crate.
+use mathlib.Core.Bool.{Bool}
+use mathlib.Core.List.{List}
+use mathlib.Core.Option.{Option, some, none as nothing}
+use Prim.Native.Nat.{ℕ}
+use Rattle.machine.specs.Table.{nodeCount, growth, recordWords}
+use Rattle.machine.specs.Shape.{recordOk}
+
+-- The test of task k's record in a table.
+abbrev pub taskOk : List ℕ → ℕ → Bool
+taskOk ws k = recordOk (nodeCount ws) (growth ws) (recordWords ws k)
+
+-- The number of a refusal; 0, which is none of 01's, where a call is not refused.
+abbrev pub numberOf : Option ℕ → ℕ
+numberOf nothing = 0
+numberOf (some n) = n
