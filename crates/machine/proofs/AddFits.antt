@@ -1,4 +1,6 @@
 -- The lines of an add fit: 67 to 72, 28 and 31, 15 to 25. A push that meets the end of the lane takes them too.
+use Rattle.machine.specs.Answers.{refusalOf}
+use mathlib.Core.Option.{none as nothing}
 use mathlib.Core.Path.{_≡_, refl}
 use mathlib.Core.List.{List, [], _∷_}
 use Prim.Native.Nat.{ℕ, suc, _<_}
@@ -24,7 +26,7 @@ use Rattle.machine.specs.Steps.{
   isStepIn,
 }
 use Rattle.machine.specs.Tasks.{Task, none, goal, goto, withD, withCounted}
-use Rattle.machine.specs.Lines.{Memory, Write, out≔, val≔, spliced, act}
+use Rattle.machine.specs.Lines.{Memory, Write, out≔, val≔, spliced, act, noNode}
 use Rattle.machine.proofs.Choices.{by-if}
 use Rattle.machine.proofs.BusyLaws.{NodeOrNone, BusyAt, BusyFacts}
 use Rattle.machine.proofs.Fits.{
@@ -88,11 +90,18 @@ module _ (S g : ℕ) (m : Memory) (M : MemoryFits S m) (t : Task) (f : ℕ) wher
       (moves F (back-lands t (part F))))
 
 -- ---- 28 and 31: nodes are taken for a chain.
+no-node-answers : (op : Operation) → refusalOf (noNode op) ≡ nothing
+no-node-answers idle = refl
+no-node-answers push = refl
+no-node-answers pop = refl
+no-node-answers add = refl
+no-node-answers remove = refl
+
 module _ (S g : ℕ) (m : Memory) (M : MemoryFits S m) (t : Task) (f : ℕ) (f-ok : NodeOrNone S f) where
   pub line28-fits : LineFits S g m t f line28
   unfolding act isStepIn
   line28-fits F =
-      by-if (Fits S g) (f ≟ none) (λ _. ends tt) (λ nf.
+      by-if (Fits S g) (f ≟ none) (λ _. ends tt (no-node-answers (t .operation))) (λ nf.
       goes-on ((f-ok nf, none-fits), ((f-ok nf, none-fits), ((f-ok nf, X-fits (t .side)), tt)))
       (by-if (λ st. BusyFacts S g (goto t′ st)) (goal g t ≟ 0) alone more))
     where
@@ -182,14 +191,14 @@ module _ (S g : ℕ) (m : Memory) (M : MemoryFits S m) (t : Task) (f : ℕ) wher
   spliced-fits F l w = go (t .operation) refl
     where
       go : (op : Operation) → t .operation ≡ op → Fits S g (spliced op l t)
-      go idle e = ends w
+      go idle e = ends w refl
       go push e =
           goes-on w
           (stands F line2 (rw e) (le-leb 0 (goal g t) (omega arith)) (F .value-ok) (F .has-word)
           (F .A-ok) (F .B-ok) (F .C-ok) none-fits)
-      go pop e = ends w
-      go add e = ends w
-      go remove e = ends w
+      go pop e = ends w refl
+      go add e = ends w refl
+      go remove e = ends w refl
 
   pub line25-fits : LineFits S g m t f line25
   unfolding act isStepIn

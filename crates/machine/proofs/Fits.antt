@@ -1,4 +1,6 @@
 -- Effects that fit a table of the right shape, and how a line's tests are taken apart to show that.
+use Rattle.machine.specs.Answers.{refusalOf}
+use mathlib.Core.Option.{none as nothing}
 use mathlib.Core.Path.{_≡_, refl}
 use mathlib.Core.Logic.{_≢_}
 use mathlib.Core.Bool.{true}
@@ -59,6 +61,7 @@ pub data Fits (S growth : ℕ) : Effect → Type 0 where
   ends :
       {l : List Write} {a : Answer}
       → WritesFit S l
+      → refusalOf a ≡ nothing
       → Fits S growth (record { writes = l; task = fresh; answer = a })
 
 pub record MemoryFits (S : ℕ) (m : Memory) : Type 0 where

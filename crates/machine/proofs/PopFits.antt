@@ -88,7 +88,7 @@ module _ (S g : ℕ) (m : Memory) (M : MemoryFits S m) (t : Task) (f : ℕ) wher
   line48-fits F =
       by-through S g (t .B) t (λ _.
       by-dcas S g (m .hat ≟ t .A) (m .val (t .B) ≟ᵛ t .value)
-      (ends tt)
+      (ends tt refl)
       (goes-on tt (moves F (lands (part F) refl))))
 
   pub line51-fits : LineFits S g m t f line51
@@ -96,5 +96,5 @@ module _ (S g : ℕ) (m : Memory) (M : MemoryFits S m) (t : Task) (f : ℕ) wher
   line51-fits F =
       by-through S g (t .B) t (λ nB.
       by-dcas S g (m .hat ≟ t .A) (m .val (t .B) ≟ᵛ t .value)
-      (ends (F .B-ok nB, ((F .B-ok nB, N-fits (t .side)), tt)))
+      (ends (F .B-ok nB, ((F .B-ok nB, N-fits (t .side)), tt)) refl)
       (goes-on tt (moves F (lands (part F) refl))))

@@ -51,7 +51,7 @@ module _ (S g : ℕ) (m : Memory) (M : MemoryFits S m) (t : Task) (f : ℕ) wher
       by-through S g (t .A) t (λ nA.
       by-through S g (t .B) t (λ nB.
       by-dcas S g (m .hat ≟ t .A) (m .val (t .A) ≟ᵛ N (t .side))
-      (ends (F .B-ok nB, ((F .A-ok nA, fits), tt)))
+      (ends (F .B-ok nB, ((F .A-ok nA, fits), tt)) refl)
       (goes-on tt (moves F (lands (part F) refl)))))
 
   pub line8-fits : LineFits S g m t f line8

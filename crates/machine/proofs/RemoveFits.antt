@@ -74,7 +74,7 @@ module _ (S g : ℕ) (m : Memory) (M : MemoryFits S m) (t : Task) (f : ℕ) wher
   unfolding act isStepIn
   line56-fits F =
       by-through S g (t .A) t (λ _.
-      by-if (Fits S g) (m .val (t .A) ≟ᵛ X (t .side)) (λ _. ends tt) (λ _.
+      by-if (Fits S g) (m .val (t .A) ≟ᵛ X (t .side)) (λ _. ends tt refl) (λ _.
       goes-on tt
       (stands F line58 (part F) (F .counted-ok) (F .value-ok) (F .has-word)
       (F .A-ok) (F .B-ok) (F .C-ok) (F .D-ok))))
@@ -83,7 +83,7 @@ module _ (S g : ℕ) (m : Memory) (M : MemoryFits S m) (t : Task) (f : ℕ) wher
   unfolding act isStepIn
   line58-fits F =
       by-through S g (t .A) t (λ _.
-      by-if (Fits S g) (a ≟ none) (λ _. ends tt) (λ _.
+      by-if (Fits S g) (a ≟ none) (λ _. ends tt refl) (λ _.
       goes-on tt (by-if (λ st. BusyFacts S g (goto t′ st)) (n ≟ goal g t) done more)))
     where
       a : ℕ
@@ -112,7 +112,7 @@ module _ (S g : ℕ) (m : Memory) (M : MemoryFits S m) (t : Task) (f : ℕ) wher
   unfolding act isStepIn
   line60-fits F =
       by-through S g (t .A) t (λ _.
-      by-if (Fits S g) (m .out (t .A) ≟ none) (λ _. ends tt)
+      by-if (Fits S g) (m .out (t .A) ≟ none) (λ _. ends tt refl)
       (λ _. goes-on tt (moves-B F (lands (part F) refl) (M .out-ok (t .A)))))
 
   pub line62-fits : LineFits S g m t f line62
@@ -123,7 +123,7 @@ module _ (S g : ℕ) (m : Memory) (M : MemoryFits S m) (t : Task) (f : ℕ) wher
       by-dcas S g (m .val (t .A) ≟ᵛ N (t .side)) (m .val (t .B) ≟ᵛ N (t .side))
       (goes-on ((F .A-ok nA, X-fits (t .side)), ((F .B-ok nB, Y-fits (t .side)), tt))
       (moves F (lands (part F) refl)))
-      (ends tt)))
+      (ends tt refl)))
 
   pub line64-fits : LineFits S g m t f line64
   unfolding act isStepIn
@@ -180,4 +180,4 @@ module _ (S g : ℕ) (m : Memory) (M : MemoryFits S m) (t : Task) (f : ℕ) wher
 
   pub line82-fits : LineFits S g m t f line82
   unfolding act
-  line82-fits F = by-through S g (t .A) t (λ nA. ends ((F .A-ok nA, none-fits), tt))
+  line82-fits F = by-through S g (t .A) t (λ nA. ends ((F .A-ok nA, none-fits), tt) refl)

@@ -25,7 +25,6 @@ use Rattle.machine.specs.Table.{
 use Rattle.machine.specs.Shape.{recordOk}
 use Rattle.machine.specs.Allocate.{following, firstUnmarked, marked, allocate}
 use Rattle.machine.specs.Lines.{seen, Write, Effect}
-use Rattle.machine.specs.Answers.{refusalOf}
 use Rattle.machine.specs.Calls.{isBusy, tickRefusal, effectOf, Ticked, applied, tickOn}
 use Rattle.machine.proofs.Tests.{test-passed, tests-left}
 use Rattle.machine.proofs.ValueLaws.{HasWord, never-has-word, decoded-has-word, decoded-value-ok}
@@ -188,17 +187,8 @@ module _ (ws : List ℕ) (Z : WellSized (columns ws)) (W : WellShaped (columns w
     unfolding applied
     applied-kept turns-back = unchanged
     applied-kept (goes-on {l} {t} fit F) = effect-kept l t fit (record-of-busy (nodeCount ws) (growth ws) t F)
-    applied-kept (ends {l} {a} fit) = go (refusalOf a)
-      where
-        go :
-            (r : Option ℕ)
-            → Kept ws
-            (elim r as (λ _. Ticked) [
-              | some n ↦ record { answer = a; words = ws }
-              | nothing ↦ record { answer = a; words = effectWords s l k fresh ws }
-            ] .words)
-        go (some n) = unchanged
-        go nothing = effect-kept l fresh fit (record-of-fresh (nodeCount ws) (growth ws))
+    applied-kept (ends {l} fit answers) =
+        rw (answers, applied) (effect-kept l fresh fit (record-of-fresh (nodeCount ws) (growth ws)))
 
   pub tick-kept : (k h : ℕ) → Kept ws (tickOn ws k h .words)
   unfolding tickOn

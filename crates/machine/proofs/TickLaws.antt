@@ -27,7 +27,7 @@ fit-effect :
     → AllInRange S (e .writes) × HasWord (e .task .value)
 fit-effect S g turns-back made = clash (cc)
 fit-effect S g (goes-on {l} fit F) made = (all-in-range S l fit, F .has-word)
-fit-effect S g (ends {l} fit) made = (all-in-range S l fit, never-has-word)
+fit-effect S g (ends {l} fit answers) made = (all-in-range S l fit, never-has-word)
 
 applied-answer : (s : Side) (ws : List ℕ) (k : ℕ) (e : Effect) → applied s ws k e .answer ≡ e .answer
 unfolding applied
