@@ -57,3 +57,6 @@ pub mod MadeTicks
 pub mod CallsAgree
 pub mod Runs
 pub mod Theorem
+-- What follows from it.
+pub mod Histories
+pub mod Corollaries

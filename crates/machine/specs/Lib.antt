@@ -13,3 +13,4 @@ pub mod Answers
 pub mod Calls
 pub mod Row
 pub mod Demand3
+pub mod Begun

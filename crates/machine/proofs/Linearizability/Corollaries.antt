@@ -1,0 +1,264 @@
+-- Corollaries of demand 3: refusals that are never met, nodes that are never taken, runs by their ticks, bags counted.
+use mathlib.Core.Path.{_≡_, refl, sym, ap, _∙_, subst}
+use mathlib.Core.Logic.{_≢_}
+use mathlib.Core.Bool.{Bool, true, false, _&&_}
+use mathlib.Core.List.{List, [], _∷_, _++_}
+use mathlib.Core.Option.{Option, some, none as nothing}
+use Prim.Native.Nat.{ℕ, zero, suc, _+_, _%_, _≤_, _<_}
+use native.Mathlib.Omega.{arith}
+use lib.Dec.{leb, ltb, eqb}
+use lib.ListN.{length, drop}
+use borrow.Author.Tests.{le-leb, lt-leb}
+use Rattle.machine.specs.declared.Answer.the-variants.{Refused}
+use Rattle.machine.specs.declared.Reply.the-variants.{Accepted}
+use Rattle.machine.specs.declared.Reading.the-variants.{Count}
+use Rattle.machine.specs.Tasks.{none, Register, register}
+use Rattle.machine.specs.Table.{nodeCount, taskCount, task}
+use Rattle.machine.specs.Reach.{Reachable, from-register}
+use Rattle.machine.specs.Allocate.{allocate}
+use Rattle.machine.specs.Answers.{refusalOf}
+use Rattle.machine.specs.Calls.{
+  unless,
+  isBusy,
+  tableRefusal,
+  tickRefusal,
+  runRefusal,
+  start,
+  Ticked,
+  tickOn,
+  tick,
+  RunDone,
+  stopped,
+  afterTick,
+  runOn,
+  run,
+  lane,
+  unread,
+  readInto,
+  read,
+}
+use Rattle.machine.specs.Row.{Row, emptyRow}
+use Rattle.machine.specs.Demand3.{Call, tick-call, given, after, LaneIs, afterTicks, Explained}
+use Rattle.machine.specs.Begun.{
+  Begun,
+  by-start,
+  by-call,
+  afterAll,
+  History,
+  noHistory,
+  recordCall,
+  history,
+  count,
+  bagsPushed,
+  bagsPopped,
+}
+use Rattle.machine.proofs.Contradiction.{refute}
+use Rattle.machine.proofs.ShapeKept.{table-passes}
+use Rattle.machine.proofs.Reached.{node-not-none, reachable-node}
+use Rattle.machine.proofs.FirstFree.{allocate-first-free}
+use Rattle.machine.proofs.Linearizability.Agreement.{Agrees}
+use Rattle.machine.proofs.Linearizability.MadeTicks.{well-linked, made-tick}
+use Rattle.machine.proofs.Linearizability.CallsAgree.{tick-explained}
+use Rattle.machine.proofs.Linearizability.Theorem.{call-explained, started-agrees, demand3}
+use Rattle.machine.proofs.Linearizability.Histories.{
+  Balanced,
+  Recorded,
+  nothing-recorded,
+  call-recorded,
+}
+
+-- A table that our calls lead to agrees with a row.
+begun-agrees : {ws : List ℕ} → Begun ws → (ρ : Row) × Agrees ws ρ
+begun-agrees (by-start S T g old accepted) = (emptyRow, started-agrees S T g old accepted)
+begun-agrees (by-call B c) =
+    let E = call-explained (begun-agrees B .1) c in
+    (E .row, E .agrees)
+
+-- ---- Refusals that are never met.
+
+-- Begin, tick, run and reading the lane are refused by their own tests alone.
+pub no-call-refused-with-3-or-4 : {ws : List ℕ} → Begun ws → (others : Option ℕ) → tableRefusal ws others ≡ others
+no-call-refused-with-3-or-4 {ws} B = table-passes ws (begun-agrees B .1 .accepted)
+
+module _ {ws : List ℕ} {ρ : Row} (A : Agrees ws ρ) (k h : ℕ) where
+  tick-passes : tick ws k h ≡ tickOn ws k h
+  unfolding tick
+  tick-passes = rw (table-passes ws (A .accepted) nothing, tick)
+
+  tick-agrees : (ρ′ : Row) × Agrees (tickOn ws k h .words) ρ′
+  tick-agrees =
+      let E = tick-explained A k h in
+      (E .row, subst (λ (r : Ticked). Agrees (r .words) (E .row)) tick-passes (E .agrees))
+
+  -- The tests before the line have other numbers, and the line meets no none.
+  tick-not-11 : refusalOf (tickOn ws k h .answer) ≢ some 11
+  unfolding tickOn
+  tick-not-11 = go (tickRefusal ws k h) refl
+    where
+      other-number : (a b c : Bool) → unless a 5 (unless b 9 (unless c 10 nothing)) ≢ some 11
+      other-number false b c e = refute (cc)
+      other-number true false c e = refute (cc)
+      other-number true true false e = refute (cc)
+      other-number true true true e = refute (cc)
+
+      go : (r : Option ℕ) → tickRefusal ws k h ≡ r → refusalOf (tickOn ws k h .answer) ≢ some 11
+      go (some n) e =
+          let test = other-number (ltb k (taskCount ws)) (ltb h (nodeCount ws)) (isBusy (task ws k .operation)) in
+          rw (e, tickOn) (λ q. test (e ∙ q))
+      go nothing e = λ q. refute (cc (made-tick A k h e .no-number))
+
+pub no-tick-refused-with-11 : {ws : List ℕ} → Begun ws → (k h : ℕ) → tick ws k h .answer ≢ Refused 11
+no-tick-refused-with-11 B k h e =
+    let A = begun-agrees B .1 in
+    tick-not-11 A k h (ap (λ (r : Ticked). refusalOf (r .answer)) (sym (tick-passes A k h)) ∙ ap refusalOf e)
+
+-- A run is refused by its own tests, or by the tick at which it stops.
+ticks-not-11 : (list : List ℕ) {ws : List ℕ} {ρ : Row} (answers : List ℕ) → Agrees ws ρ
+    → runOn list ws answers .ran .refusal ≢ 11
+unfolding runOn
+ticks-not-11 [] answers A = λ e. omega arith
+ticks-not-11 (k ∷ []) answers A = λ e. omega arith
+ticks-not-11 (k ∷ h ∷ list) {ws} answers A =
+    go (refusalOf (tickOn ws k h .answer)) (tick-not-11 A k h)
+    (ticks-not-11 list (drop 2 answers) (tick-agrees A k h .1))
+  where
+    others : RunDone
+    others = runOn list (tickOn ws k h .words) (drop 2 answers)
+
+    go :
+        (r : Option ℕ)
+        → r ≢ some 11
+        → others .ran .refusal ≢ 11
+        → elim r as (λ _. RunDone) [
+          | some n ↦ stopped n ws answers
+          | nothing ↦ afterTick (tickOn ws k h .answer) others
+        ] .ran .refusal
+        ≢ 11
+    go (some n) f later = λ e. f (ap some e)
+    go nothing f later = later
+
+pub no-run-refused-with-11 : {ws : List ℕ} → Begun ws → (list answers : List ℕ)
+    → run ws list answers .ran .refusal ≢ 11
+unfolding run
+no-run-refused-with-11 {ws} B list answers =
+    let a = eqb (length list % 2) 0 && leb (length list) 8192 in
+    let b = leb (length list) (length answers) in
+    go (runRefusal ws list answers) (λ q. other-number a b (sym (no-call-refused-with-3-or-4 B _) ∙ q))
+  where
+    other-number : (a b : Bool) → unless a 13 (unless b 14 nothing) ≢ some 11
+    other-number false b e = refute (cc)
+    other-number true false e = refute (cc)
+    other-number true true e = refute (cc)
+
+    go :
+        (r : Option ℕ)
+        → r ≢ some 11
+        → elim r as (λ _. RunDone) [ some n ↦ stopped n ws answers | nothing ↦ runOn list ws answers ] .ran .refusal
+        ≢ 11
+    go (some n) f = λ e. f (ap some e)
+    go nothing f = ticks-not-11 list answers (begun-agrees B .1)
+
+-- Every table inside a run is one that our calls lead to, so what is said of those is said of it.
+pub begun-inside-runs : (i : ℕ) (list : List ℕ) {ws : List ℕ} → Begun ws → Begun (afterTicks i list ws)
+unfolding afterTicks
+begun-inside-runs zero list B = B
+begun-inside-runs (suc i) [] B = B
+begun-inside-runs (suc i) (k ∷ []) B = B
+begun-inside-runs (suc i) (k ∷ h ∷ list) {ws} B =
+    let ticked : Begun (tick ws k h .words) = by-call B (tick-call k h) in
+    begun-inside-runs i list (rw (tick-passes (begun-agrees B .1) k h) at ticked)
+
+-- ---- Nodes that are never taken.
+
+-- A take never gives a node that a hat or a task's register holds, or that is reached from there.
+pub held-node-never-taken : {ws : List ℕ} {hint x : ℕ} → Begun ws → hint < nodeCount ws → Reachable ws x
+    → allocate ws hint ≢ x
+held-node-never-taken {ws} {hint} B low held e =
+    let W = well-linked (begun-agrees B .1 .accepted) in
+    let found : allocate ws hint ≢ none = λ q. node-not-none (W .few) (reachable-node W held) (sym e ∙ q) in
+    allocate-first-free W low found .free .unreached (subst (Reachable ws) (sym e) held)
+
+pub register-never-taken : {ws : List ℕ} {hint : ℕ} → Begun ws → hint < nodeCount ws → (k : ℕ) (r : Register)
+    → register (task ws k) r ≢ none
+    → allocate ws hint ≢ register (task ws k) r
+register-never-taken B low k r n = held-node-never-taken B low (from-register k r n)
+
+-- ---- Runs by their ticks.
+ticks-of-run : (list ws answers : List ℕ)
+    → afterTicks (runOn list ws answers .ran .made) list ws ≡ runOn list ws answers .words
+unfolding runOn afterTicks
+ticks-of-run [] ws answers = refl
+ticks-of-run (k ∷ []) ws answers = refl
+ticks-of-run (k ∷ h ∷ list) ws answers =
+    go (refusalOf (tickOn ws k h .answer)) (ticks-of-run list (tickOn ws k h .words) (drop 2 answers))
+  where
+    others : RunDone
+    others = runOn list (tickOn ws k h .words) (drop 2 answers)
+
+    first : Option ℕ → RunDone
+    first r =
+        elim r as (λ _. RunDone) [
+          | some n ↦ stopped n ws answers
+          | nothing ↦ afterTick (tickOn ws k h .answer) others
+        ]
+
+    go :
+        (r : Option ℕ)
+        → afterTicks (others .ran .made) list (tickOn ws k h .words) ≡ others .words
+        → afterTicks (first r .ran .made) (k ∷ h ∷ list) ws ≡ first r .words
+    go (some n) e = refl
+    go nothing e = e
+
+-- The tables inside a run end where the run ends.
+pub run-is-its-ticks : (ws list answers : List ℕ)
+    → afterTicks (run ws list answers .ran .made) list ws ≡ run ws list answers .words
+unfolding run afterTicks
+run-is-its-ticks ws list answers = go (runRefusal ws list answers)
+  where
+    whole : Option ℕ → RunDone
+    whole r = elim r as (λ _. RunDone) [ some n ↦ stopped n ws answers | nothing ↦ runOn list ws answers ]
+
+    go : (r : Option ℕ) → afterTicks (whole r .ran .made) list ws ≡ whole r .words
+    go (some n) = refl
+    go nothing = ticks-of-run list ws answers
+
+-- ---- Reading the lane.
+
+-- Where the lane is the row: its count and the row in order where it fits into the out slice, and 12 where it does not.
+pub reading-gives-the-row : {ws : List ℕ} → Begun ws → (ρ : Row) → LaneIs ws ρ → (out : List ℕ)
+    → (length (ρ .bags) ≤ length out
+    → read ws out ≡ record { reading = Count (length (ρ .bags)); out = ρ .bags ++ drop (length (ρ .bags)) out })
+    × (length out < length (ρ .bags) → read ws out ≡ unread 12 out)
+unfolding read readInto
+reading-gives-the-row {ws} B ρ is out =
+    let passes = no-call-refused-with-3-or-4 B nothing in (
+      λ fits. rw (passes, read, is, le-leb _ _ fits, readInto),
+      λ short. rw (passes, read, is, lt-leb _ _ short, readInto),
+    )
+
+-- ---- Bags counted.
+explained-recorded : (cs : List Call) (ws : List ℕ) (ρ : Row) (η : History) → Explained cs ws ρ → Recorded ρ η
+    → (bags : List ℕ)
+    × (lane (afterAll cs ws) ≡ some bags)
+    × ((b : ℕ) → Balanced b bags (history cs ws η .finished))
+unfolding afterAll history
+explained-recorded [] ws ρ η E R = (ρ .bags, E, R .balanced)
+explained-recorded (c ∷ cs) ws ρ η E R =
+    let next = E .2 in
+    explained-recorded cs (after c ws) (next .0) (recordCall η c (given c ws)) (next .2)
+    (call-recorded c (given c ws) R (next .1))
+
+-- No bag is lost or doubled: after every list of calls each bag is in the lane as often as it was pushed and not popped
+-- since the latest start.
+pub bags-conserved :
+    (S T growth : ℕ) (old : List ℕ)
+    → start old S T growth .reply ≡ Accepted
+    → (calls : List Call)
+    → (bags : List ℕ)
+    × (lane (afterAll calls (start old S T growth .words)) ≡ some bags)
+    × ((b : ℕ)
+    → count b bags + count b (bagsPopped (history calls (start old S T growth .words) noHistory .finished))
+    ≡ count b (bagsPushed (history calls (start old S T growth .words) noHistory .finished)))
+bags-conserved S T g old accepted calls =
+    explained-recorded calls (start old S T g .words) emptyRow noHistory (demand3 S T g old accepted calls)
+    nothing-recorded

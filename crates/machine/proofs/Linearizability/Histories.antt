@@ -1,0 +1,271 @@
+-- What the row explains conserves the bags: the history of the calls beside the row, call by call, without a table.
+use mathlib.Core.Path.{_≡_, refl, sym, ap, _∙_, subst}
+use mathlib.Core.Bool.{Bool, true, false, cond, _&&_}
+use mathlib.Core.List.{List, [], _∷_, _++_, reverse, reverse-cons, reverse-reverse}
+use mathlib.Core.Option.{Option, some, none as nothing, Option·map, bind}
+use Prim.Native.Nat.{ℕ, zero, suc, _+_}
+use native.Mathlib.Omega.{arith}
+use lib.Dec.{leb, ltb, eqb}
+use lib.ListN.{length, take}
+use Rattle.machine.specs.declared.Answer.{Answer}
+use Rattle.machine.specs.declared.Answer.the-variants.{
+  Going,
+  Pushed,
+  Bag,
+  Empty,
+  Full,
+  Yes,
+  No,
+  Refused,
+}
+use Rattle.machine.specs.declared.Reply.the-variants.{Accepted, Refused as Reply-Refused}
+use Rattle.machine.specs.declared.Reading.{Reading}
+use Rattle.machine.specs.declared.Reading.the-variants.{Count, Refused as Reading-Refused}
+use Rattle.machine.specs.Choice.{_≟_, if_then_else_}
+use Rattle.machine.specs.Sides.{Side, left, right}
+use Rattle.machine.specs.Operations.{Operation, idle, push, pop, add, remove}
+use Rattle.machine.specs.Shape.{sameWords}
+use Rattle.machine.specs.Answers.{refusalOf, answerOf}
+use Rattle.machine.specs.Row.{
+  Note,
+  Row,
+  emptyRow,
+  noted,
+  put,
+  takeFirst,
+  takeBag,
+  pushAnswered,
+  popAnswered,
+  sizeAnswered,
+  answered,
+  isGoing,
+  feedMade,
+  feedRun,
+}
+use Rattle.machine.specs.Demand3.{
+  Call,
+  start-call,
+  begin-call,
+  tick-call,
+  run-call,
+  read-call,
+  Given,
+  feedTick,
+  feedRead,
+  feed,
+}
+use Rattle.machine.specs.Begun.{
+  Finished,
+  History,
+  noHistory,
+  withNote,
+  finish,
+  recordMade,
+  recordRun,
+  recordCall,
+  count,
+  bagsPushed,
+  bagsPopped,
+}
+use Rattle.machine.proofs.Contradiction.{clash}
+
+-- ---- Bags counted.
+
+-- A bag put at either end is in the row once more.
+count-put : (s : Side) (x b : ℕ) (bags : List ℕ) → count b (put s x bags) ≡ count b (x ∷ bags)
+unfolding count
+count-put left x b bags = refl
+count-put right x b [] = refl
+count-put right x b (y ∷ bags) = let e = count-put right x b bags in omega arith
+
+-- A bag taken from an end stood there.
+first-taken : (x : ℕ) (bags bags′ : List ℕ) → takeFirst x bags ≡ some bags′ → bags ≡ x ∷ bags′
+first-taken x [] bags′ e = clash (cc)
+first-taken x (y ∷ bags) bags′ e = go (y ≟ x) e
+  where
+    go : (d : Dec (y ≡ x)) → (if d then some bags else nothing) ≡ some bags′ → y ∷ bags ≡ x ∷ bags′
+    go (yes h) e = cc
+    go (no h) e = clash (cc)
+
+bag-taken : (s : Side) (x : ℕ) (bags bags′ : List ℕ) → takeBag s x bags ≡ some bags′ → bags ≡ put s x bags′
+bag-taken left x bags bags′ e = first-taken x bags bags′ e
+bag-taken right x bags bags′ e = go (takeFirst x (reverse bags)) refl e
+  where
+    go :
+        (o : Option (List ℕ))
+        → takeFirst x (reverse bags) ≡ o
+        → Option·map reverse o ≡ some bags′
+        → bags ≡ bags′ ++ (x ∷ [])
+    go nothing q e = clash (cc)
+    go (some l) q e =
+        let same : reverse l ≡ bags′ = cc in
+        sym (reverse-reverse bags)
+        ∙ ap reverse (first-taken x (reverse bags) l q)
+        ∙ reverse-cons x l
+        ∙ ap (λ (m : List ℕ). m ++ (x ∷ [])) same
+
+-- The bag b is as often in the row or popped as it was pushed.
+abbrev pub Balanced : (b : ℕ) → (bags : List ℕ) → List Finished → Type 0
+Balanced b bags fs = count b bags + count b (bagsPopped fs) ≡ count b (bagsPushed fs)
+
+module _ (b : ℕ) (s : Side) (v : ℕ) (bags bags′ : List ℕ) (fs : List Finished) (before : Balanced b bags fs) where
+  abbrev asked : Operation → Note
+  asked op = record { operation = op; side = s; argument = v }
+
+  abbrev Result : Operation → Answer → Type 0
+  Result op a =
+      answered (asked op) a bags ≡ some bags′
+      → Balanced b bags′ (record { note = asked op; answer = a } ∷ fs)
+
+  size-balanced : (a : Answer) → sizeAnswered a bags ≡ some bags′ → Balanced b bags′ fs
+  unfolding sizeAnswered
+  size-balanced Yes e = let q : bags ≡ bags′ = cc in rw (← q) before
+  size-balanced No e = let q : bags ≡ bags′ = cc in rw (← q) before
+  size-balanced Going e = clash (cc)
+  size-balanced Pushed e = clash (cc)
+  size-balanced (Bag x) e = clash (cc)
+  size-balanced Empty e = clash (cc)
+  size-balanced Full e = clash (cc)
+  size-balanced (Refused r) e = clash (cc)
+
+  push-balanced : (a : Answer) → Result push a
+  unfolding pushAnswered bagsPushed bagsPopped count
+  push-balanced Pushed e =
+      let q : put s v bags ≡ bags′ = cc in
+      let c = count-put s v b bags in
+      rw (← q) (omega arith)
+  push-balanced Full e = let q : bags ≡ bags′ = cc in rw (← q) before
+  push-balanced Going e = clash (cc)
+  push-balanced (Bag x) e = clash (cc)
+  push-balanced Empty e = clash (cc)
+  push-balanced Yes e = clash (cc)
+  push-balanced No e = clash (cc)
+  push-balanced (Refused r) e = clash (cc)
+
+  pop-balanced : (a : Answer) → Result pop a
+  unfolding popAnswered bagsPushed bagsPopped count
+  pop-balanced (Bag x) e =
+      let c = count-put s x b bags′ in
+      let same = rw (bag-taken s x bags bags′ e) at before in
+      omega arith
+  pop-balanced Empty e = go bags before e
+    where
+      go : (l : List ℕ) → Balanced b l fs → popAnswered (asked pop) Empty l ≡ some bags′ → Balanced b bags′ fs
+      go [] h q = let same : [] ≡ bags′ = cc in rw (← same) h
+      go (x ∷ l) h q = clash (cc)
+  pop-balanced Going e = clash (cc)
+  pop-balanced Pushed e = clash (cc)
+  pop-balanced Full e = clash (cc)
+  pop-balanced Yes e = clash (cc)
+  pop-balanced No e = clash (cc)
+  pop-balanced (Refused r) e = clash (cc)
+
+  answer-balanced : (op : Operation) (a : Answer) → Result op a
+  unfolding bagsPushed bagsPopped
+  answer-balanced idle a e = clash (cc)
+  answer-balanced push a e = push-balanced a e
+  answer-balanced pop a e = pop-balanced a e
+  answer-balanced add a e = size-balanced a e
+  answer-balanced remove a e = size-balanced a e
+
+-- ---- What the row keeps and what the history keeps, call by call.
+bound : {T U : Type 0} (o : Option T) (f : T → Option U) {y : U} → bind o f ≡ some y
+    → (x : T) × (o ≡ some x) × (f x ≡ some y)
+unfolding bind
+bound nothing f e = clash (cc)
+bound (some x) f e = (x, refl, e)
+
+mapped : {T U : Type 0} (o : Option T) (f : T → U) {y : U} → Option·map f o ≡ some y
+    → (x : T) × (o ≡ some x) × (f x ≡ y)
+mapped nothing f e = clash (cc)
+mapped (some x) f e = (x, refl, cc)
+
+-- The history has the row's notes, and every bag is balanced.
+pub record Recorded (ρ : Row) (η : History) : Type 0 where
+  pub same-notes : η .notes ≡ ρ .notes
+  pub balanced : (b : ℕ) → Balanced b (ρ .bags) (η .finished)
+
+pub nothing-recorded : Recorded emptyRow noHistory
+unfolding count bagsPushed bagsPopped
+nothing-recorded = record { same-notes = refl; balanced = λ b. refl }
+
+same-row : {ρ ρ′ : Row} {η : History} → some ρ ≡ some ρ′ → Recorded ρ η → Recorded ρ′ η
+same-row {ρ} {ρ′} {η} e R = let q : ρ ≡ ρ′ = cc in subst (λ (x : Row). Recorded x η) q R
+
+same-with : {f g : ℕ → Option Note} (k : ℕ) (n : Option Note) → f ≡ g → withNote f k n ≡ withNote g k n
+same-with k n e = ap (λ (f : ℕ → Option Note). withNote f k n) e
+
+-- A tick that was made.
+module _ {ρ : Row} {η : History} (R : Recorded ρ η) (k : ℕ) (a : Answer) where
+  finish-recorded : (n : Note) (bags : List ℕ) → answered n a (ρ .bags) ≡ some bags
+      → Recorded (noted (record { bags = bags; notes = ρ .notes }) k nothing) (finish η k (some n) a)
+  finish-recorded n bags e =
+      record {
+        same-notes = same-with k nothing (R .same-notes);
+        balanced =
+            λ b.
+            answer-balanced b (n .side) (n .argument) (ρ .bags) bags (η .finished) (R .balanced b) (n .operation) a e;
+      }
+
+  made-recorded : {ρ′ : Row} → feedMade ρ k a ≡ some ρ′ → Recorded ρ′ (recordMade η k a)
+  unfolding feedMade
+  made-recorded {ρ′} e =
+      let n = bound (ρ .notes k) _ e in
+      let noted-so = ap (λ (f : ℕ → Option Note). f k) (R .same-notes) ∙ n .1 in
+      rw noted-so (by-answer (n .0) (isGoing a) (n .2))
+    where
+      by-answer : (n : Note) (g : Bool)
+          → cond g (some ρ)
+          (Option·map (λ bags. noted (record { bags = bags; notes = ρ .notes }) k nothing) (answered n a (ρ .bags)))
+          ≡ some ρ′
+          → Recorded ρ′ (cond g η (finish η k (some n) a))
+      by-answer n true q = same-row q R
+      by-answer n false q =
+          let x = mapped (answered n a (ρ .bags)) _ q in
+          same-row (ap some (x .2)) (finish-recorded n (x .0) (x .1))
+
+-- The ticks that a run made.
+run-recorded : (n : ℕ) (list answers : List ℕ) {ρ ρ′ : Row} {η : History} → Recorded ρ η
+    → feedRun ρ n list answers ≡ some ρ′
+    → Recorded ρ′ (recordRun η n list answers)
+unfolding feedRun recordRun
+run-recorded zero list answers R e = same-row e R
+run-recorded (suc n) [] answers R e = clash (cc)
+run-recorded (suc n) (k ∷ []) answers R e = clash (cc)
+run-recorded (suc n) (k ∷ h ∷ list) [] R e = clash (cc)
+run-recorded (suc n) (k ∷ h ∷ list) (kind ∷ []) R e = clash (cc)
+run-recorded (suc n) (k ∷ h ∷ list) (kind ∷ payload ∷ answers) {ρ} R e =
+    let a = bound (answerOf kind payload) _ e in
+    let m = bound (feedMade ρ k (a .0)) _ (a .2) in
+    rw (a .1, recordRun) (run-recorded n list answers (made-recorded R k (a .0) (m .1)) (m .2))
+
+pub call-recorded : (c : Call) (r : Given c) {ρ ρ′ : Row} {η : History} → Recorded ρ η → feed ρ c r ≡ some ρ′
+    → Recorded ρ′ (recordCall η c r)
+unfolding feedTick
+call-recorded (start-call S T g) Accepted R e = same-row e nothing-recorded
+call-recorded (start-call S T g) (Reply-Refused n) R e = same-row e R
+call-recorded (begin-call k op side argument) Accepted R e =
+    same-row e
+    (record {
+      same-notes = same-with k _ (R .same-notes);
+      balanced = R .balanced;
+    })
+call-recorded (begin-call k op side argument) (Reply-Refused n) R e = same-row e R
+call-recorded (tick-call k h) a {ρ} {ρ′} {η} R e = go (refusalOf a) e
+  where
+    go : (o : Option ℕ)
+        → elim o as (λ _. Option Row) [ some n ↦ some ρ | nothing ↦ feedMade ρ k a ] ≡ some ρ′
+        → Recorded ρ′ (elim o as (λ _. History) [ some n ↦ η | nothing ↦ recordMade η k a ])
+    go (some n) q = same-row q R
+    go nothing q = made-recorded R k a q
+call-recorded (run-call list answers) r R e = run-recorded (r .0 .made) list (r .1) R e
+call-recorded (read-call out) r {ρ} {ρ′} {η} R e = go (r .0) e
+  where
+    kept : (b : Bool) → cond b (some ρ) nothing ≡ some ρ′ → Recorded ρ′ η
+    kept true q = same-row q R
+    kept false q = clash (cc)
+
+    go : (x : Reading) → feedRead ρ out x (r .1) ≡ some ρ′ → Recorded ρ′ η
+    go (Count n) q =
+        kept (eqb n (length (ρ .bags)) && leb n (length out) && sameWords (take n (r .1)) (ρ .bags)) q
+    go (Reading-Refused n) q = kept (eqb n 12 && ltb (length out) (length (ρ .bags))) q

@@ -1,0 +1,134 @@
+-- What the corollaries of demand 3 speak of: the tables that our calls lead to, the operations finished, the bags.
+use mathlib.Core.Path.{_≡_}
+use mathlib.Core.Bool.{Bool, cond, _&&_}
+use mathlib.Core.List.{List, [], _∷_}
+use mathlib.Core.Option.{Option, some, none as nothing}
+use Prim.Native.Nat.{ℕ, zero, suc, _+_}
+use lib.Dec.{eqb}
+use Rattle.machine.specs.declared.Answer.{Answer}
+use Rattle.machine.specs.declared.Answer.the-variants.{Pushed, Bag}
+use Rattle.machine.specs.declared.Reply.{Reply}
+use Rattle.machine.specs.declared.Reply.the-variants.{Accepted, Refused as Reply-Refused}
+use Rattle.machine.specs.Choice.{_≟_, if_then_else_}
+use Rattle.machine.specs.Sides.{sideOf}
+use Rattle.machine.specs.Operations.{Operation, push, pop, operationNumber, operationOf}
+use Rattle.machine.specs.Answers.{kindOf, payloadOf, refusalOf, answerOf}
+use Rattle.machine.specs.Calls.{start}
+use Rattle.machine.specs.Row.{Note, isGoing}
+use Rattle.machine.specs.Demand3.{
+  Call,
+  start-call,
+  begin-call,
+  tick-call,
+  run-call,
+  read-call,
+  Given,
+  given,
+  after,
+}
+
+-- ---- The tables.
+
+-- A table that an accepted start, on any slice, and then any calls lead to.
+pub data Begun : List ℕ → Type 0 where
+  by-start :
+      (S T growth : ℕ) (old : List ℕ)
+      → start old S T growth .reply ≡ Accepted
+      → Begun (start old S T growth .words)
+  by-call : {ws : List ℕ} → Begun ws → (c : Call) → Begun (after c ws)
+
+-- The table as a list of calls leaves it.
+unfoldable pub afterAll : List Call → List ℕ → List ℕ
+afterAll [] ws = ws
+afterAll (c ∷ cs) ws = afterAll cs (after c ws)
+
+-- ---- The operations finished since the latest start, by the calls' arguments and answers alone.
+
+-- What was asked of a task, and what it answered.
+pub record Finished : Type 0 where
+  pub note : Note
+  pub answer : Answer
+
+-- Each task's note, or none, and the operations finished, the latest first.
+pub record History : Type 0 where
+  pub notes : ℕ → Option Note
+  pub finished : List Finished
+
+-- An accepted start: no notes, and nothing is finished.
+abbrev pub noHistory : History
+noHistory = record { notes = λ k. nothing; finished = [] }
+
+-- The notes, with that of task k replaced.
+abbrev pub withNote : (ℕ → Option Note) → ℕ → Option Note → ℕ → Option Note
+withNote notes k n = λ j. if j ≟ k then n else notes j
+
+-- What a note asks of task k is finished with an answer, and the task has no note.
+abbrev pub finish : History → ℕ → Option Note → Answer → History
+finish η k nothing a = η
+finish η k (some n) a =
+    record {
+      notes = withNote (η .notes) k nothing;
+      finished = record { note = n; answer = a } ∷ η .finished;
+    }
+
+-- A tick of task k that was made, with its answer.
+abbrev pub recordMade : History → ℕ → Answer → History
+recordMade η k a = cond (isGoing a) η (finish η k (η .notes k) a)
+
+-- The ticks that a run made, by its pairs and the words that it wrote.
+unfoldable pub recordRun : History → (made : ℕ) → (list answers : List ℕ) → History
+recordRun η zero list answers = η
+recordRun η (suc n) [] answers = η
+recordRun η (suc n) (k ∷ []) answers = η
+recordRun η (suc n) (k ∷ h ∷ list) [] = η
+recordRun η (suc n) (k ∷ h ∷ list) (kind ∷ []) = η
+recordRun η (suc n) (k ∷ h ∷ list) (kind ∷ payload ∷ answers) =
+    elim (answerOf kind payload) as (λ _. History) [
+      | some a ↦ recordRun (recordMade η k a) n list answers
+      | nothing ↦ η
+    ]
+
+-- A start with its reply, and a begin of task k with a note and its reply.
+abbrev pub recordStart : History → Reply → History
+recordStart η Accepted = noHistory
+recordStart η (Reply-Refused n) = η
+
+abbrev pub recordBegin : History → ℕ → Note → Reply → History
+recordBegin η k n Accepted = record { notes = withNote (η .notes) k (some n); finished = η .finished }
+recordBegin η k n (Reply-Refused r) = η
+
+-- A call, with what it gave back.
+abbrev pub recordCall : History → (c : Call) → Given c → History
+recordCall η (start-call S T g) r = recordStart η r
+recordCall η (begin-call k op side argument) r =
+    recordBegin η k (record { operation = operationOf op; side = sideOf side; argument = argument }) r
+recordCall η (tick-call k h) a = elim (refusalOf a) as (λ _. History) [ some n ↦ η | nothing ↦ recordMade η k a ]
+recordCall η (run-call list answers) r = recordRun η (r .0 .made) list (r .1)
+recordCall η (read-call out) r = η
+
+-- A list of calls, each on the table as the one before left it.
+unfoldable pub history : List Call → List ℕ → History → History
+history [] ws η = η
+history (c ∷ cs) ws η = history cs (after c ws) (recordCall η c (given c ws))
+
+-- ---- The bags.
+
+-- How often a bag is in a list of bags.
+unfoldable pub count : ℕ → List ℕ → ℕ
+count b [] = 0
+count b (x ∷ xs) = (if x ≟ b then 1 else 0) + count b xs
+
+-- A finished operation is this one, with an answer of this kind.
+abbrev pub isOf : Operation → Answer → Finished → Bool
+isOf op a f = eqb (operationNumber (f .note .operation)) (operationNumber op) && eqb (kindOf (f .answer)) (kindOf a)
+
+-- The bags of the finished pushes answered "pushed".
+unfoldable pub bagsPushed : List Finished → List ℕ
+bagsPushed [] = []
+bagsPushed (f ∷ fs) = cond (isOf push Pushed f) (f .note .argument ∷ bagsPushed fs) (bagsPushed fs)
+
+-- The bags that the finished pops were answered with.
+unfoldable pub bagsPopped : List Finished → List ℕ
+bagsPopped [] = []
+bagsPopped (f ∷ fs) =
+    let b = payloadOf (f .answer) in cond (isOf pop (Bag b) f) (b ∷ bagsPopped fs) (bagsPopped fs)
