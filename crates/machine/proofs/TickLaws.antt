@@ -20,7 +20,7 @@ use Rattle.machine.proofs.WritesKeep.{all-in-range}
 use Rattle.machine.proofs.TickKeeps.{tick-allowed, effect-fits}
 
 -- An effect that fits and is no refusal stays in range.
-fit-effect :
+pub fit-effect :
     (S g : ℕ) {e : Effect}
     → Fits S g e
     → refusalOf (e .answer) ≡ nothing

@@ -1,0 +1,82 @@
+-- A step number that is one of a list is told by comparing it with all but the last.
+use mathlib.Core.Path.{_≡_, refl, sym, ap, _∙_}
+use mathlib.Core.Logic.{_≢_, inl, inr}
+use mathlib.Core.Bool.{Bool, true, false, not, _||_, _&&_}
+use mathlib.Core.List.{List, [], _∷_}
+use Prim.Native.Nat.{ℕ, _≤_}
+use lib.Dec.{eqb, leb}
+use borrow.Author.Tests.{eqb-true, le-leb, leb-true}
+use Rattle.machine.specs.Steps.{Step, stepNumber, stepOf, isStepIn}
+use Rattle.layout.specs.declared.tasks.Task as Tasks
+use Rattle.hattrick.specs.Lent.{lineOf}
+use Rattle.figure.specs.Groups.{allSteps, ReadyIn}
+use Rattle.machine.proofs.Contradiction.{clash}
+use Rattle.machine.proofs.Tests.{or-either, and-left, and-right}
+use Rattle.machine.proofs.StepLaws.{step-of-number}
+
+module _ (n : ℕ) (st : Step) (sts : List Step) (h : isStepIn (st ∷ sts) n ≡ true) where
+  pub not-first : n ≢ stepNumber st → isStepIn sts n ≡ true
+  unfolding isStepIn
+  not-first ne =
+      elim (or-either (eqb n (stepNumber st)) (isStepIn sts n) h) [
+        | inl e ↦ absurd (ne (eqb-true n (stepNumber st) e))
+        | inr e ↦ e
+      ]
+
+pub the-last : (n : ℕ) (st : Step) → isStepIn (st ∷ []) n ≡ true → n ≡ stepNumber st
+unfolding isStepIn
+the-last n st h =
+    elim (or-either (eqb n (stepNumber st)) false h) [
+      | inl e ↦ eqb-true n (stepNumber st) e
+      | inr e ↦ clash (cc)
+    ]
+
+-- The step of a number that is a step's.
+pub step-at : {n : ℕ} (st : Step) → n ≡ stepNumber st → st ≡ stepOf n
+step-at st e = sym (ap stepOf e ∙ step-of-number st)
+
+pub line-at :
+    (st : Step) {n : ℕ} → n ≡ stepNumber st → (ns : List ℕ) (h : ℕ) (t : Tasks.Task) (g f : ℕ)
+    → lineOf st ns h t g f ≡ lineOf (stepOf n) ns h t g f
+line-at st e ns h t g f = ap (λ (u : Step). lineOf u ns h t g f) (step-at st e)
+
+-- ---- A number that is a step's, and its group by its range: one computed test over all steps.
+abbrev pub every : (ℕ → Bool) → List Step → Bool
+every p [] = true
+every p (st ∷ sts) = p (stepNumber st) && every p sts
+
+pub each : (p : ℕ → Bool) (sts : List Step) (n : ℕ) → every p sts ≡ true → isStepIn sts n ≡ true → p n ≡ true
+unfolding isStepIn
+each p [] n h i = clash (cc)
+each p (st ∷ sts) n h i =
+    elim (or-either (eqb n (stepNumber st)) (isStepIn sts n) i) [
+      | inl e ↦ ap p (eqb-true n (stepNumber st) e) ∙ and-left (p (stepNumber st)) (every p sts) h
+      | inr e ↦ each p sts n (and-right (p (stepNumber st)) (every p sts) h) e
+    ]
+
+-- Between lo and hi only steps of the group stand.
+abbrev between : (lo hi : ℕ) → List Step → ℕ → Bool
+between lo hi group n = not (leb lo n && leb n hi) || isStepIn group n
+
+-- A ready task whose step is between lo and hi is ready in the group there.
+pub within :
+    (group : List Step) (lo hi : ℕ) {ns : List ℕ} {t : Tasks.Task} {found : ℕ}
+    → every (between lo hi group) allSteps ≡ true
+    → ReadyIn allSteps ns t found
+    → lo ≤ t .step
+    → t .step ≤ hi
+    → ReadyIn group ns t found
+within group lo hi {ns} {t} {found} all R l h =
+    record {
+      ready = R .ready;
+      in-group = narrowed (each (between lo hi group) allSteps (t .step) all (R .in-group));
+      bag-at-51 = R .bag-at-51;
+      found-node = R .found-node;
+    }
+  where
+    narrowed : between lo hi group (t .step) ≡ true → isStepIn group (t .step) ≡ true
+    narrowed e = rw (le-leb lo (t .step) l, le-leb (t .step) hi h) at e
+
+-- The last line is 82.
+pub step-bound : (n : ℕ) → isStepIn allSteps n ≡ true → n ≤ 82
+step-bound n i = leb-true n 82 (each (λ m. leb m 82) allSteps n refl i)

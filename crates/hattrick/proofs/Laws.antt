@@ -1,0 +1,6 @@
+pub mod Ready
+pub mod Compared
+pub mod Chosen
+pub mod Cases
+pub mod Choosing
+pub mod Swaps
