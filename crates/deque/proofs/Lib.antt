@@ -1,0 +1,10 @@
+pub mod Laid
+pub mod Lent
+pub mod Filling
+pub mod LineWords
+pub mod TickReady
+pub mod TickWords
+pub mod MadeTick
+pub mod TickTests
+pub mod Walk
+mod Refusals

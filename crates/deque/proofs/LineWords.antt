@@ -1,0 +1,86 @@
+-- The line that a tick makes in code is the line of the definitions: what it is given, and what it does to the words.
+use mathlib.Core.Path.{_≡_, refl, _∙_}
+use mathlib.Core.Logic.{_≢_, _⊎_, inl, inr}
+use Prim.Native.Nat.{ℕ, _<_}
+use Rattle.machine.specs.Sides.{Side}
+use Rattle.machine.specs.Steps.{Step, rest, line2, line3, line5, line8, line15, line17, line18, line24, line25, line28, line31, line39, line40, line42, line48, line51, line54, line56, line58, line60, line62, line64, line67, line68, line69, line70, line72, line74, line77, line78, line79, line81, line82, stepNumber}
+use Rattle.machine.specs.Choice.{_≟_, if_then_else_}
+use Rattle.machine.specs.Tasks.{Task, none}
+use Rattle.machine.specs.Lines.{Memory, act}
+use Rattle.machine.proofs.Choices.{unequal}
+use Rattle.deque.specs.Ticks.{taken}
+
+-- Only 28 and 31 look at the node found.
+module _ (s o : Side) (m : Memory) (t : Task) (g f f′ : ℕ) where
+  found-unseen : (st : Step) → stepNumber st ≢ 28 → stepNumber st ≢ 31 → act st s o m t g f ≡ act st s o m t g f′
+  unfolding act
+  found-unseen rest a b = refl
+  found-unseen line2 a b = refl
+  found-unseen line3 a b = refl
+  found-unseen line5 a b = refl
+  found-unseen line8 a b = refl
+  found-unseen line15 a b = refl
+  found-unseen line17 a b = refl
+  found-unseen line18 a b = refl
+  found-unseen line24 a b = refl
+  found-unseen line25 a b = refl
+  found-unseen line28 a b = absurd (a refl)
+  found-unseen line31 a b = absurd (b refl)
+  found-unseen line39 a b = refl
+  found-unseen line40 a b = refl
+  found-unseen line42 a b = refl
+  found-unseen line48 a b = refl
+  found-unseen line51 a b = refl
+  found-unseen line54 a b = refl
+  found-unseen line56 a b = refl
+  found-unseen line58 a b = refl
+  found-unseen line60 a b = refl
+  found-unseen line62 a b = refl
+  found-unseen line64 a b = refl
+  found-unseen line67 a b = refl
+  found-unseen line68 a b = refl
+  found-unseen line69 a b = refl
+  found-unseen line70 a b = refl
+  found-unseen line72 a b = refl
+  found-unseen line74 a b = refl
+  found-unseen line77 a b = refl
+  found-unseen line78 a b = refl
+  found-unseen line79 a b = refl
+  found-unseen line81 a b = refl
+  found-unseen line82 a b = refl
+
+pub taken-enough :
+    (s o : Side) (m : Memory) (t : Task) (g f n : ℕ) (st : Step)
+    → n ≡ stepNumber st
+    → act st s o m t g (taken n f) ≡ act st s o m t g f
+taken-enough s o m t g f n st e = go (n ≟ 28) (n ≟ 31)
+  where
+    go :
+        (d : Dec (n ≡ 28)) (d′ : Dec (n ≡ 31))
+        → act st s o m t g (if d then f else if d′ then f else none) ≡ act st s o m t g f
+    go (yes a) d′ = refl
+    go (no a) (yes b) = refl
+    go (no a) (no b) = found-unseen s o m t g none f st (λ q. a (e ∙ q)) (λ q. b (e ∙ q))
+
+-- Where a node is taken, and where none is.
+pub taken-at : (step f : ℕ) → (step ≡ 28) ⊎ (step ≡ 31) → f ≡ taken step f
+taken-at step f h = go (step ≟ 28) (step ≟ 31)
+  where
+    go : (d : Dec (step ≡ 28)) (d′ : Dec (step ≡ 31)) → f ≡ (if d then f else if d′ then f else none)
+    go (yes a) d′ = refl
+    go (no a) (yes b) = refl
+    go (no a) (no b) = elim h [ inl e ↦ absurd (a e) | inr e ↦ absurd (b e) ]
+
+pub taken-nowhere : (step f : ℕ) → step ≢ 28 → step ≢ 31 → none ≡ taken step f
+taken-nowhere step f a b = rw (unequal a, unequal b)
+
+pub taken-node : (S step f : ℕ) → (f ≢ none → f < S) → taken step f ≢ none → taken step f < S
+taken-node S step f h = go (step ≟ 28) (step ≟ 31)
+  where
+    go :
+        (d : Dec (step ≡ 28)) (d′ : Dec (step ≡ 31))
+        → (if d then f else if d′ then f else none) ≢ none
+        → (if d then f else if d′ then f else none) < S
+    go (yes a) d′ = h
+    go (no a) (yes b) = h
+    go (no a) (no b) = λ n. absurd (n refl)

@@ -1,0 +1,3 @@
+pub mod Lane
+pub mod Ticks
+pub mod Calls
