@@ -5,6 +5,9 @@ pub mod LineWords
 pub mod TickReady
 pub mod TickWords
 pub mod MadeTick
+pub mod PassedTable
 pub mod TickTests
+pub mod BeginTests
 pub mod Walk
-mod Refusals
+pub mod Refusals
+pub mod RunWords

@@ -13,7 +13,7 @@ use Rattle.machine.specs.declared.Reading.the-variants.{Refused as Reading-Refu
 use Rattle.machine.specs.declared.Reply.the-variants.{Accepted, Refused as Reply-Refused}
 use Rattle.machine.specs.Table.{tableLength}
 use Rattle.machine.specs.Shape.{sizesOk, lengthOk, shapeOk}
-use Rattle.machine.specs.Calls.{unless, tableRefusal, tickOn, tick, lane, readInto, read, startWords, start}
+use Rattle.machine.specs.Calls.{beginRefusal, begin, unless, tableRefusal, tickOn, tick, lane, readInto, read, startWords, start}
 use Rattle.machine.proofs.Tests.{and-left, and-right}
 use Rattle.shape.specs.Contracts.{numberOf}
 use Rattle.deque.specs.Calls.{changedOf}
@@ -51,6 +51,15 @@ module _ (ws : List ℕ) {n : ℕ} (is-number : n ≡ numberOf (tableRefusal ws 
   pub tick-goes-on : n ≡ 0 → (k h : ℕ) → tickOn ws k h ≡ tick ws k h
   unfolding tick
   tick-goes-on e k h = rw (passed e .length-passes, passed e .shape-passes, tick)
+
+  module _ (k op side argument : ℕ) where
+    begin-stopped :
+        beginRefusal ws k op side argument ≡ some n → changedOf (Reply-Refused n) ws ≡ begin ws k op side argument
+    unfolding begin
+    begin-stopped e = rw (e, begin)
+
+    pub begin-refused : n ≢ 0 → changedOf (Reply-Refused n) ws ≡ begin ws k op side argument
+    begin-refused h = begin-stopped (refused h _)
 
   pub read-refused : n ≢ 0 → (out : List ℕ) → readOf (Reading-Refused n) out ≡ read ws out
   unfolding read

@@ -1,3 +1,4 @@
 pub mod Lane
 pub mod Ticks
 pub mod Calls
+pub mod Runs

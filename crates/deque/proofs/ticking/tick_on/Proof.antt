@@ -2,7 +2,8 @@
 use mathlib.Core.Path.{refl, sym, ap, _∙_}
 use native.Mathlib.Omega.{arith}
 use Rattle.layout.specs.declared.tasks.Task as Tasks
-use Rattle.deque.proofs.TickTests.{header-long, few-nodes, few-tasks, record-long, tick-5, tick-9, tick-10, busy-task, tick-passes}
+use Rattle.deque.proofs.PassedTable.{header-long, few-nodes, few-tasks, record-long}
+use Rattle.deque.proofs.TickTests.{tick-5, tick-9, tick-10, busy-task, tick-passes}
 use borrow.Author.Needs.{needs}
 use Rattle.deque.proofs.ticking.tick_on.Statement.{statement}
 use Rattle.deque.proofs.ticking.tick_on.Tie as tie
@@ -62,7 +63,7 @@ read-requires : tie.Need-read-requires
 read-requires c κs =
     let p = c .before .before .before .before .before .before in
     let a = p .args in
-    record-long (a .t .now) (p .pre) (a .task) (a .hint) (c .before .before .if1 .left) (c .before .if2 .left)
+    record-long (a .t .now) (p .pre) (a .task) (c .before .before .if1 .left)
 
 same-length : tie.Need-same-length
 same-length c = search needs
@@ -83,7 +84,7 @@ make-requires c κs =
     let is-task = c .before .before .before .before .before .if1 .left in
     let is-hint = c .before .before .before .before .if2 .left in (
       (p .pre, is-hint, is-task),
-      ((refl, r), busy-task (a .t .now) (p .pre) (a .task) (a .hint) is-task is-hint (λ e. c .before .if3 .left (o ∙ e))),
+      ((refl, r), busy-task (a .t .now) (p .pre) (a .task) (a .hint) is-task (λ e. c .before .if3 .left (o ∙ e))),
     )
 
 same-length-2 : tie.Need-same-length-2

@@ -1,0 +1,72 @@
+// A begin: the tests of its numbers, and the record it writes.
+use layout::tasks::Task;
+use machine::Reply;
+use shape::records::argument_ok;
+ghost use mathlib.Core.Path.{_≡_};
+ghost use mathlib.Core.Bool.{_&&_};
+ghost use Prim.Native.Nat.{_≤_};
+ghost use lib.Dec.{leb};
+ghost use Rattle.machine.specs.Sides.{sideOf};
+ghost use Rattle.machine.specs.Operations.{operationOf};
+ghost use Rattle.machine.specs.Steps.{firstStep, stepNumber};
+ghost use Rattle.machine.specs.Calls.{begunTask, begin};
+ghost use Rattle.layout.specs.Coded.{codedTask};
+ghost use Rattle.deque.specs.Calls.{changedOf};
+ghost use Rattle.deque.specs.Ticks.{Passed};
+
+// The operation is push, pop, add or remove, and the side is left or right.
+fn call_ok(operation: u32, side: u32) -> bool
+    ensures { λ r. ⌜ r ≡ (leb 1 operation && leb operation 4 && leb side 1) ⌝ }
+{
+    1 <= operation && operation <= 4 && side <= 1
+}
+
+// The step at which an operation begins.
+fn first_step(operation: u32) -> u32
+    ensures { λ r. ⌜ r ≡ stepNumber (firstStep (operationOf operation)) ⌝ }
+{
+    match operation {
+        Task::IDLE => 0,
+        Task::PUSH => Task::FIRST_OF_PUSH,
+        Task::POP => Task::FIRST_OF_POP,
+        Task::ADD => Task::FIRST_OF_ADD,
+        _ => Task::FIRST_OF_REMOVE,
+    }
+}
+
+// 01: a fresh record with operation, side, argument and first step.
+fn begun(operation: u32, side: u32, argument: u32) -> Task
+    requires { ⌜ (operation ≤ 4) × (side ≤ 1) ⌝ }
+    ensures { λ r. ⌜ r ≡ codedTask (begunTask (operationOf operation) (sideOf side) argument) ⌝ }
+{
+    let mut k = Task::fresh().at(first_step(operation));
+    k.operation = operation;
+    k.side = side;
+    k.argument = argument;
+    k
+}
+
+// 01: checks 5, 6, 7 and 8, then the record.
+pub fn begin_on(t: &mut [u32], task: u32, operation: u32, side: u32, argument: u32) -> Reply
+    requires { ⌜ Passed (now t) ⌝ }
+    ensures { λ r. ⌜ changedOf r (now (t .exit)) ≡ begin (now (t .entry)) task operation side argument ⌝ }
+{
+    let slots = t[0];
+    let tasks = t[1];
+    if tasks <= task {
+        return Reply::Refused(5);
+    }
+    if !call_ok(operation, side) {
+        return Reply::Refused(6);
+    }
+    if !argument_ok(operation, argument) {
+        return Reply::Refused(7);
+    }
+    let at = 8 + 3 * (slots as usize) + 10 * (task as usize);
+    let running = t[at];
+    if running != Task::IDLE {
+        return Reply::Refused(8);
+    }
+    begun(operation, side, argument).write(t, at);
+    Reply::Accepted
+}

@@ -1,0 +1,74 @@
+// A run: the ticks of a list of (task, hint) pairs.
+use crate::ticking::tick_on;
+use machine::Answer;
+use machine::Ran;
+ghost use mathlib.Core.Path.{_≡_};
+ghost use Prim.Native.Nat.{_≤_, _%_};
+ghost use lib.ListN.{length};
+ghost use Rattle.machine.specs.Answers.{kindOf, payloadOf};
+ghost use Rattle.machine.specs.Calls.{runOn};
+ghost use Rattle.deque.specs.Ticks.{Passed};
+ghost use Rattle.deque.specs.Runs.{runDoneOf};
+
+// The kind of a refusal, which a run does not write.
+const REFUSED: u32 = 7;
+
+// 01: 0 going, 1 pushed, 2 bag, 3 empty, 4 full, 5 yes, 6 no.
+fn kind(a: Answer) -> u32
+    ensures { λ r. ⌜ r ≡ kindOf a ⌝ }
+{
+    match a {
+        Answer::Going => 0,
+        Answer::Pushed => 1,
+        Answer::Bag(_) => 2,
+        Answer::Empty => 3,
+        Answer::Full => 4,
+        Answer::Yes => 5,
+        Answer::No => 6,
+        Answer::Refused(_) => REFUSED,
+    }
+}
+
+// 01: then the bag or 0. Of a refusal: its number.
+fn payload(a: Answer) -> u32
+    ensures { λ r. ⌜ r ≡ payloadOf a ⌝ }
+{
+    match a {
+        Answer::Going => 0,
+        Answer::Pushed => 0,
+        Answer::Bag(b) => b,
+        Answer::Empty => 0,
+        Answer::Full => 0,
+        Answer::Yes => 0,
+        Answer::No => 0,
+        Answer::Refused(n) => n,
+    }
+}
+
+// The run of a table and a list that have passed the tests of 3, 4, 13 and 14.
+// 01: stops at the first refused tick; per tick made writes two words.
+pub fn run_on(t: &mut [u32], list: &[u32], answers: &mut [u32]) -> Ran
+    requires { ⌜ Passed (now t) × (length (now list) % 2 ≡ 0) × (length (now list) ≤ 8192) ⌝ }
+    requires { ⌜ length (now list) ≤ length (now answers) ⌝ }
+    ensures { λ r. ⌜ runDoneOf r (now (t .exit)) (now (answers .exit))
+        ≡ runOn (now (list .entry)) (now (t .entry)) (now (answers .entry)) ⌝ }
+{
+    let mut at = 0;
+    let mut made = 0;
+    while at < list.len() {
+        let answer = tick_on(t, list[at], list[at + 1]);
+        let first = kind(answer);
+        let second = payload(answer);
+        if first == REFUSED {
+            return Ran {
+                made,
+                refusal: second,
+            };
+        }
+        answers[at] = first;
+        answers[at + 1] = second;
+        at += 2;
+        made += 1;
+    }
+    Ran { made, refusal: 0 }
+}
