@@ -2,3 +2,4 @@ pub mod Lane
 pub mod Ticks
 pub mod Calls
 pub mod Runs
+pub mod Exports

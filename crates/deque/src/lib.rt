@@ -1,5 +1,6 @@
 // The five calls over one lent table of words: any slice, any numbers. A refusal changes no lent word.
 pub mod beginning;
+pub mod exports;
 pub mod fresh;
 pub mod reading;
 pub mod running;

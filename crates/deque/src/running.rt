@@ -14,7 +14,7 @@ ghost use Rattle.deque.specs.Runs.{runDoneOf};
 const REFUSED: u32 = 7;
 
 // 01: 0 going, 1 pushed, 2 bag, 3 empty, 4 full, 5 yes, 6 no.
-fn kind(a: Answer) -> u32
+pub fn kind(a: Answer) -> u32
     ensures { λ r. ⌜ r ≡ kindOf a ⌝ }
 {
     match a {
@@ -30,7 +30,7 @@ fn kind(a: Answer) -> u32
 }
 
 // 01: then the bag or 0. Of a refusal: its number.
-fn payload(a: Answer) -> u32
+pub fn payload(a: Answer) -> u32
     ensures { λ r. ⌜ r ≡ payloadOf a ⌝ }
 {
     match a {

@@ -1,0 +1,24 @@
+-- The answers as single numbers, for C and Rust.
+use Prim.Native.Nat.{ℕ, _+_, _*_, _^_}
+use Rattle.machine.specs.declared.Answer.{Answer}
+use Rattle.machine.specs.declared.Reading.{Reading}
+use Rattle.machine.specs.declared.Reading.the-variants.{Count, Refused}
+use Rattle.machine.specs.declared.Ran.{Ran}
+use Rattle.machine.specs.Answers.{kindOf, payloadOf}
+
+-- Two words in one number of 64 bits.
+abbrev pub pairOf : (high low : ℕ) → ℕ
+pairOf high low = high * 2 ^ 32 + low
+
+-- The kind with the bag, or with 0; a refusal is kind 7 with its number.
+abbrev pub answerNumber : Answer → ℕ
+answerNumber a = pairOf (kindOf a) (payloadOf a)
+
+-- The ticks made with the number that stopped the run, or with 0.
+abbrev pub ranNumber : Ran → ℕ
+ranNumber r = pairOf (r .made) (r .refusal)
+
+-- The count, or 2^32 plus the refusal.
+abbrev pub readingNumber : Reading → ℕ
+readingNumber (Count n) = n
+readingNumber (Refused n) = 4294967296 + n

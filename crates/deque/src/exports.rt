@@ -1,0 +1,93 @@
+// The five calls for C and Rust: tables, lists and out slices as a pointer and a length in words, answers as numbers.
+use crate::begin;
+use crate::read;
+use crate::run;
+use crate::running::kind;
+use crate::running::payload;
+use crate::start;
+use crate::tick;
+use machine::Reading;
+use machine::Reply;
+ghost use mathlib.Core.Path.{_≡_};
+ghost use Rattle.machine.specs.Answers.{replyNumber};
+ghost use Rattle.machine.specs.Calls as calls;
+ghost use Rattle.deque.specs.Exports.{pairOf, answerNumber, ranNumber, readingNumber};
+
+// Two words in one number of 64 bits.
+fn pair(high: u32, low: u32) -> u64
+    ensures { λ r. ⌜ r ≡ pairOf high low ⌝ }
+{
+    (high as u64) * 4_294_967_296 + (low as u64)
+}
+
+fn reply_number(r: Reply) -> u32
+    ensures { λ n. ⌜ n ≡ replyNumber r ⌝ }
+{
+    match r {
+        Reply::Accepted => 0,
+        Reply::Refused(n) => n,
+    }
+}
+
+fn reading_number(r: Reading) -> u64
+    ensures { λ n. ⌜ n ≡ readingNumber r ⌝ }
+{
+    match r {
+        Reading::Count(n) => n as u64,
+        Reading::Refused(n) => 4_294_967_296 + (n as u64),
+    }
+}
+
+// 0, or the refusal.
+#[no_mangle]
+pub extern "C" fn lane_start(t: &mut [u32], slots: u32, tasks: u32, growth: u32) -> u32
+    ensures { λ r. ⌜ r ≡ replyNumber (calls.start (now (t .entry)) slots tasks growth .reply) ⌝ }
+    ensures { λ r. ⌜ now (t .exit) ≡ calls.start (now (t .entry)) slots tasks growth .words ⌝ }
+{
+    reply_number(start(t, slots, tasks, growth))
+}
+
+// 0, or the refusal.
+#[no_mangle]
+pub extern "C" fn lane_begin(
+    t: &mut [u32],
+    task: u32,
+    operation: u32,
+    side: u32,
+    argument: u32,
+) -> u32
+    ensures { λ r. ⌜ r ≡ replyNumber (calls.begin (now (t .entry)) task operation side argument .reply) ⌝ }
+    ensures { λ r. ⌜ now (t .exit) ≡ calls.begin (now (t .entry)) task operation side argument .words ⌝ }
+{
+    reply_number(begin(t, task, operation, side, argument))
+}
+
+// The kind times 2^32 plus the bag or 0; kind 7 for a refusal, with its number.
+#[no_mangle]
+pub extern "C" fn lane_tick(t: &mut [u32], task: u32, hint: u32) -> u64
+    ensures { λ r. ⌜ r ≡ answerNumber (calls.tick (now (t .entry)) task hint .answer) ⌝ }
+    ensures { λ r. ⌜ now (t .exit) ≡ calls.tick (now (t .entry)) task hint .words ⌝ }
+{
+    let a = tick(t, task, hint);
+    pair(kind(a), payload(a))
+}
+
+// The ticks made times 2^32 plus the refusal that stopped the run, or 0.
+#[no_mangle]
+pub extern "C" fn lane_run(t: &mut [u32], list: &[u32], answers: &mut [u32]) -> u64
+    ensures { λ r. ⌜ r ≡ ranNumber (calls.run (now (t .entry)) (now (list .entry)) (now (answers .entry)) .ran) ⌝ }
+    ensures { λ r. ⌜ now (t .exit) ≡ calls.run (now (t .entry)) (now (list .entry)) (now (answers .entry)) .words ⌝ }
+    ensures { λ r. ⌜ now (answers .exit) ≡ calls.run (now (t .entry)) (now (list .entry)) (now (answers .entry)) .answers ⌝ }
+{
+    let ran = run(t, list, answers);
+    pair(ran.made, ran.refusal)
+}
+
+// The count of the bags, or 2^32 plus the refusal.
+#[no_mangle]
+pub extern "C" fn lane_read(t: &[u32], out: &mut [u32]) -> u64
+    ensures { λ r. ⌜ r ≡ readingNumber (calls.read (now (t .entry)) (now (out .entry)) .reading) ⌝ }
+    ensures { λ r. ⌜ now (out .exit) ≡ calls.read (now (t .entry)) (now (out .entry)) .out ⌝ }
+{
+    reading_number(read(t, out))
+}
