@@ -12,11 +12,13 @@ use Rattle.machine.specs.Table.{headerWords, nodeWords, nodeAt}
 use Rattle.machine.specs.Calls.{times, startWords}
 
 -- Words written at the end of the front lengthen it.
-pub front-grows : (t vs : List ℕ) (n : ℕ) → n + length vs ≤ length t → take (n + length vs) (sets t n vs) ≡ take n t ++ vs
+pub front-grows :
+    (t vs : List ℕ) (n : ℕ) → n + length vs ≤ length t → take (n + length vs) (sets t n vs) ≡ take n t ++ vs
 front-grows t vs n h =
     let long : length (take n t ++ vs) ≡ n + length vs
     = length-append (take n t) vs ∙ ap (λ (m : ℕ). m + length vs) (length-take-le n t (omega arith)) in
-    ap (take (n + length vs)) (sets-eq vs t n h) ∙ take-at (take n t ++ vs) (drop (n + length vs) t) (n + length vs) long
+    ap (take (n + length vs)) (sets-eq vs t n h)
+    ∙ take-at (take n t ++ vs) (drop (n + length vs) t) (n + length vs) long
 
 -- The front up to n, and m times the list e after it.
 abbrev pub filled : (t : List ℕ) (n m : ℕ) → List ℕ → List ℕ

@@ -3,7 +3,44 @@ use mathlib.Core.Path.{_≡_, refl, _∙_}
 use mathlib.Core.Logic.{_≢_, _⊎_, inl, inr}
 use Prim.Native.Nat.{ℕ, _<_}
 use Rattle.machine.specs.Sides.{Side}
-use Rattle.machine.specs.Steps.{Step, rest, line2, line3, line5, line8, line15, line17, line18, line24, line25, line28, line31, line39, line40, line42, line48, line51, line54, line56, line58, line60, line62, line64, line67, line68, line69, line70, line72, line74, line77, line78, line79, line81, line82, stepNumber}
+use Rattle.machine.specs.Steps.{
+  Step,
+  rest,
+  line2,
+  line3,
+  line5,
+  line8,
+  line15,
+  line17,
+  line18,
+  line24,
+  line25,
+  line28,
+  line31,
+  line39,
+  line40,
+  line42,
+  line48,
+  line51,
+  line54,
+  line56,
+  line58,
+  line60,
+  line62,
+  line64,
+  line67,
+  line68,
+  line69,
+  line70,
+  line72,
+  line74,
+  line77,
+  line78,
+  line79,
+  line81,
+  line82,
+  stepNumber,
+}
 use Rattle.machine.specs.Choice.{_≟_, if_then_else_}
 use Rattle.machine.specs.Tasks.{Task, none}
 use Rattle.machine.specs.Lines.{Memory, act}

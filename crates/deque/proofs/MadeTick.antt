@@ -152,7 +152,8 @@ module _ (ws : List ℕ) (P : Passed ws) (j hint : ℕ) (is-task : j < taskCount
     pub made-tick :
         {vs : List ℕ}
         → isRefused (d .answer) ≡ false
-        → vs ≡ stored (putMid 8 (8 + 3 * nodeCount ws - 8) ws ns) (K .side) (d .hat) (d .task) (recordAt (nodeCount ws) j)
+        → vs ≡ stored (putMid 8 (8 + 3 * nodeCount ws - 8) ws ns) (K .side) (d .hat) (d .task)
+        (recordAt (nodeCount ws) j)
         → tickedOf (d .answer) vs ≡ made ws j hint
     made-tick {vs} r q =
         let none-refused : refusalOf (effectOf ws j hint .answer) ≡ nothing
@@ -183,7 +184,8 @@ module _ (ws : List ℕ) (P : Passed ws) (j hint : ℕ) (is-task : j < taskCount
         ∙ ap (λ (z : Side). applied z ws j (effectOf ws j hint)) own-side
 
   -- ---- The same of the record that the code holds, at the place that it has.
-  module _ (k : Tasks.Task) (at : ℕ) (is-place : at ≡ recordAt (nodeCount ws) j) (is-record : k ≡ recordFrom ws at) where
+  module _ (k : Tasks.Task) (at : ℕ) (is-place : at ≡ recordAt (nodeCount ws) j)
+      (is-record : k ≡ recordFrom ws at) where
     same : k ≡ K
     same = is-record ∙ ap (recordFrom ws) is-place
 
@@ -226,5 +228,7 @@ module _ (ws : List ℕ) (P : Passed ws) (j hint : ℕ) (is-task : j < taskCount
       code-made r q =
           made-tick done-is r
           (q
-          ∙ ap (λ (u : Tasks.Task). stored (putMid 8 (8 + 3 * nodeCount ws - 8) ws ns) (u .side) (d .hat) (d .task) at) same
+          ∙ ap
+          (λ (u : Tasks.Task). stored (putMid 8 (8 + 3 * nodeCount ws - 8) ws ns) (u .side) (d .hat) (d .task) at)
+          same
           ∙ ap (stored (putMid 8 (8 + 3 * nodeCount ws - 8) ws ns) (K .side) (d .hat) (d .task)) is-place)

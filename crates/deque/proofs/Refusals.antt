@@ -13,7 +13,19 @@ use Rattle.machine.specs.declared.Reading.the-variants.{Refused as Reading-Refu
 use Rattle.machine.specs.declared.Reply.the-variants.{Accepted, Refused as Reply-Refused}
 use Rattle.machine.specs.Table.{tableLength}
 use Rattle.machine.specs.Shape.{sizesOk, lengthOk, shapeOk}
-use Rattle.machine.specs.Calls.{beginRefusal, begin, unless, tableRefusal, tickOn, tick, lane, readInto, read, startWords, start}
+use Rattle.machine.specs.Calls.{
+  beginRefusal,
+  begin,
+  unless,
+  tableRefusal,
+  tickOn,
+  tick,
+  lane,
+  readInto,
+  read,
+  startWords,
+  start,
+}
 use Rattle.machine.proofs.Tests.{and-left, and-right}
 use Rattle.shape.specs.Contracts.{numberOf}
 use Rattle.deque.specs.Calls.{changedOf}

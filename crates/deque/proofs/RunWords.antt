@@ -16,7 +16,21 @@ use Rattle.machine.specs.Sides.{Side}
 use Rattle.machine.specs.Table.{task, setTask}
 use Rattle.machine.specs.Lines.{Effect, writeAll}
 use Rattle.machine.specs.Answers.{kindOf, payloadOf, refusalOf}
-use Rattle.machine.specs.Calls.{tableRefusal, tickRefusal, runRefusal, effectOf, counted, Ticked, applied, tickOn, RunDone, stopped, afterTick, runOn, run}
+use Rattle.machine.specs.Calls.{
+  tableRefusal,
+  tickRefusal,
+  runRefusal,
+  effectOf,
+  counted,
+  Ticked,
+  applied,
+  tickOn,
+  RunDone,
+  stopped,
+  afterTick,
+  runOn,
+  run,
+}
 use Rattle.machine.proofs.Contradiction.{clash}
 use Rattle.machine.proofs.ShapeLaws.{well-sized, well-shaped, length-ok, shape-ok}
 use Rattle.machine.proofs.TickKeeps.{tick-kept}

@@ -55,7 +55,8 @@ goal-bound add g n h a = let q = leb-true n 64 a in omega arith
 goal-bound remove g n h a = leb-true n 1023 a
 
 -- The steps of a busy task's operation are steps.
-steps-of-busy : (op : Operation) (n : ℕ) → isBusy op ≡ true → isStepIn (stepsOf op) n ≡ true → isStepIn allSteps n ≡ true
+steps-of-busy :
+    (op : Operation) (n : ℕ) → isBusy op ≡ true → isStepIn (stepsOf op) n ≡ true → isStepIn allSteps n ≡ true
 unfolding isStepIn
 steps-of-busy idle n b h = clash (cc)
 steps-of-busy push n b h = each (isStepIn allSteps) (stepsOf push) n refl h
@@ -63,7 +64,8 @@ steps-of-busy pop n b h = each (isStepIn allSteps) (stepsOf pop) n refl h
 steps-of-busy add n b h = each (isStepIn allSteps) (stepsOf add) n refl h
 steps-of-busy remove n b h = each (isStepIn allSteps) (stepsOf remove) n refl h
 
-module _ (ws : List ℕ) (Z : WellSized (columns ws)) (W : WellShaped (columns ws)) (k : ℕ) (is-task : k < taskCount ws) where
+module _ (ws : List ℕ) (Z : WellSized (columns ws)) (W : WellShaped (columns ws)) (k : ℕ)
+    (is-task : k < taskCount ws) where
   abbrev pub record-at : Tasks.Task
   record-at = recordFrom ws (recordAt (nodeCount ws) k)
 
@@ -75,7 +77,8 @@ module _ (ws : List ℕ) (Z : WellSized (columns ws)) (W : WellShaped (columns w
   record-passes : recordOk (nodeCount ws) (growth ws) (recordWords ws k) ≡ true
   record-passes = rw (if-yes (k <? taskCount ws) (recordWords ws k) _ is-task) at (W .records-ok k)
 
-  canonical : codedTask (taskMeant (recordFrom ws (recordAt (nodeCount ws) k))) ≡ recordFrom ws (recordAt (nodeCount ws) k)
+  canonical :
+      codedTask (taskMeant (recordFrom ws (recordAt (nodeCount ws) k))) ≡ recordFrom ws (recordAt (nodeCount ws) k)
   canonical = ap structOf (words-of-task (nodeCount ws) (growth ws) ws (recordAt (nodeCount ws) k) record-passes)
 
   pub side-back : sideNumber (sideOf (record-at .side)) ≡ record-at .side
@@ -98,7 +101,10 @@ module _ (ws : List ℕ) (Z : WellSized (columns ws)) (W : WellShaped (columns w
     facts = subst (BusyFacts (nodeCount ws) (growth ws)) (sym meant-task) (busy-facts ws W k busy)
 
     registers-held :
-        (i : ℕ) → i < 4 → getD (record-at .registers) i 0 ≢ none → HoldsNode (nodesOf ws) (getD (record-at .registers) i 0)
+        (i : ℕ)
+        → i < 4
+        → getD (record-at .registers) i 0 ≢ none
+        → HoldsNode (nodesOf ws) (getD (record-at .registers) i 0)
     registers-held i h = by-place i h
       where
         by-place :

@@ -29,7 +29,8 @@ use Rattle.deque.proofs.Laid.{lay, writes-laid, laid-itself, set-in-hea
 use Rattle.deque.proofs.LineWords.{taken-enough}
 use Rattle.deque.proofs.TickReady.{meant-task, step-back}
 
-module _ (ws : List ℕ) (Z : WellSized (columns ws)) (W : WellShaped (columns ws)) (k : ℕ) (is-task : k < taskCount ws) where
+module _ (ws : List ℕ) (Z : WellSized (columns ws)) (W : WellShaped (columns ws)) (k : ℕ)
+    (is-task : k < taskCount ws) where
   abbrev t : Tasks.Task
   t = recordFrom ws (recordAt (nodeCount ws) k)
 
@@ -94,7 +95,8 @@ module _ (s : Side) (ws : List ℕ) (Z : WellSized (columns ws)) (k : ℕ) (e : 
       set-in-header (3 * nodeCount ws) ws ns header-room (hatAt s) h (hat-low s)
       ∙ ap (λ (l : List ℕ). putMid 8 (3 * nodeCount ws) (set ws (hatAt s) h) l) q
       ∙ ap (λ (x : ℕ). lay (nodeCount ws) s ws (writesIn s (e .writes) (nodesOf ws)) x) p
-      ∙ sym (writes-laid (nodeCount ws) s ws header-room (e .writes) (nodesOf ws) (hat ws s) (nodes-long ws (Z .sized)) fit)
+      ∙ sym
+      (writes-laid (nodeCount ws) s ws header-room (e .writes) (nodesOf ws) (hat ws s) (nodes-long ws (Z .sized)) fit)
       ∙ ap (writeAll s (e .writes)) (laid-itself (nodeCount ws) s ws header-room)
     where
       hat-low : (s : Side) → hatAt s < 8

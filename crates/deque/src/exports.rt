@@ -77,7 +77,8 @@ pub extern "C" fn lane_tick(t: &mut [u32], task: u32, hint: u32) -> u64
 pub extern "C" fn lane_run(t: &mut [u32], list: &[u32], answers: &mut [u32]) -> u64
     ensures { λ r. ⌜ r ≡ ranNumber (calls.run (now (t .entry)) (now (list .entry)) (now (answers .entry)) .ran) ⌝ }
     ensures { λ r. ⌜ now (t .exit) ≡ calls.run (now (t .entry)) (now (list .entry)) (now (answers .entry)) .words ⌝ }
-    ensures { λ r. ⌜ now (answers .exit) ≡ calls.run (now (t .entry)) (now (list .entry)) (now (answers .entry)) .answers ⌝ }
+    ensures { λ r. ⌜ now (answers .exit)
+        ≡ calls.run (now (t .entry)) (now (list .entry)) (now (answers .entry)) .answers ⌝ }
 {
     let ran = run(t, list, answers);
     pair(ran.made, ran.refusal)

@@ -38,7 +38,8 @@ fn write_node(t: &mut [u32], x: usize, l: u32, r: u32, v: Value)
 // The nodes from 2 on: no links, never used.
 fn write_unused(t: &mut [u32], slots: usize)
     requires { ⌜ (2 ≤ slots) × (nodeAt slots ≤ length (now t)) ⌝ }
-    ensures { λ _. ⌜ take (nodeAt slots) (now (t .exit)) ≡ take (nodeAt 2) (now (t .entry)) ++ times (slots - 2) (nodeWords none none never) ⌝ }
+    ensures { λ _. ⌜ take (nodeAt slots) (now (t .exit))
+        ≡ take (nodeAt 2) (now (t .entry)) ++ times (slots - 2) (nodeWords none none never) ⌝ }
 {
     let mut x = 2;
     while x < slots {

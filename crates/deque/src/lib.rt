@@ -1,10 +1,10 @@
 // The five calls over one lent table of words: any slice, any numbers. A refusal changes no lent word.
-pub mod beginning;
+mod beginning;
 pub mod exports;
-pub mod fresh;
-pub mod reading;
-pub mod running;
-pub mod ticking;
+mod fresh;
+mod reading;
+mod running;
+mod ticking;
 
 use beginning::begin_on;
 use fresh::write_all;

@@ -28,7 +28,8 @@ returns-2 c =
     let p = c .before .before .before .before .before .before .before .before in
     let a = p .args in
     c .before .before .read-lane .ensures
-    ∙ read-goes-on (a .t .now) (c .before .before .before .before .before .table-refusal .ensures) (c .before .before .before .before .if1 .left) (a .out .now)
+    ∙ read-goes-on (a .t .now) (c .before .before .before .before .before .table-refusal .ensures)
+    (c .before .before .before .before .if1 .left) (a .out .now)
 
 pub read-spec : {M : Type 1} → statement M
 read-spec =

@@ -30,7 +30,8 @@ returns-2 c =
     let p = c .before .before .before .before .before .before .before .before in
     let a = p .args in
     c .before .before .tick-on .ensures
-    ∙ tick-goes-on (a .t .now) (c .before .before .before .before .before .table-refusal .ensures) (c .before .before .before .before .if1 .left) (a .task) (a .hint)
+    ∙ tick-goes-on (a .t .now) (c .before .before .before .before .before .table-refusal .ensures)
+    (c .before .before .before .before .if1 .left) (a .task) (a .hint)
 
 pub tick-spec : {M : Type 1} → statement M
 tick-spec =

@@ -87,7 +87,8 @@ returns-7 c =
     let a = c .before .before .before .before .before .before .args in
     let r = c .before .before .before .before .match .rest in
     let h = c .before .before .before .before .before .before .pre .in-group in
-    let h1 = not-first (a .t .step) line15 (line17 ∷ line18 ∷ line24 ∷ line25 ∷ line28 ∷ line31 ∷ []) h (r .0 .0 .0 .0 .0 .1) in
+    let h1 = not-first (a .t .step) line15 (line17 ∷ line18 ∷ line24 ∷ line25 ∷ line28 ∷ line31 ∷ []) h
+    (r .0 .0 .0 .0 .0 .1) in
     let h2 = not-first (a .t .step) line17 (line18 ∷ line24 ∷ line25 ∷ line28 ∷ line31 ∷ []) h1 (r .0 .0 .0 .0 .1) in
     let h3 = not-first (a .t .step) line18 (line24 ∷ line25 ∷ line28 ∷ line31 ∷ []) h2 (r .0 .0 .0 .1) in
     let h4 = not-first (a .t .step) line24 (line25 ∷ line28 ∷ line31 ∷ []) h3 (r .0 .0 .1) in

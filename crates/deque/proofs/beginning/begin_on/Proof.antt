@@ -40,7 +40,8 @@ returns-2 c =
     let p = c .before .before .before .before .before .before in
     let a = p .args in
     let f = c .before .call-ok in
-    begin-6 (a .t .now) (p .pre) (a .task) (a .operation) (a .side) (a .argument) (c .before .before .if1 .left) (sym (f .ensures) ∙ not-true (f .result) (c .if2 .taken))
+    begin-6 (a .t .now) (p .pre) (a .task) (a .operation) (a .side) (a .argument) (c .before .before .if1 .left)
+    (sym (f .ensures) ∙ not-true (f .result) (c .if2 .taken))
 
 argument-ok-requires : tie.Need-argument-ok-requires
 argument-ok-requires c κs = search needs
@@ -52,26 +53,30 @@ returns-3 c =
     let f = c .before .before .before .call-ok in
     let call = sym (f .ensures) ∙ not-false (f .result) (c .before .before .if2 .left) in
     let g = c .before .argument-ok in
-    begin-7 (a .t .now) (p .pre) (a .task) (a .operation) (a .side) (a .argument) (c .before .before .before .before .if1 .left) call
+    begin-7 (a .t .now) (p .pre) (a .task) (a .operation) (a .side) (a .argument)
+    (c .before .before .before .before .if1 .left) call
     (sym (g .ensures) ∙ not-true (g .result) (c .if3 .taken))
 
 cast-at : tie.Need-cast-at
 cast-at c =
     let p = c .before .before .before .before .before .before .before .before in
     let a = p .args in
-    omega (arith, few-nodes (a .t .now) (p .pre), few-tasks (a .t .now) (p .pre), c .before .before .before .before .if1 .left)
+    omega
+    (arith, few-nodes (a .t .now) (p .pre), few-tasks (a .t .now) (p .pre), c .before .before .before .before .if1 .left)
 
 mul-at : tie.Need-mul-at
 mul-at c =
     let p = c .before .before .before .before .before .before .before .before in
     let a = p .args in
-    omega (arith, few-nodes (a .t .now) (p .pre), few-tasks (a .t .now) (p .pre), c .before .before .before .before .if1 .left)
+    omega
+    (arith, few-nodes (a .t .now) (p .pre), few-tasks (a .t .now) (p .pre), c .before .before .before .before .if1 .left)
 
 add-at : tie.Need-add-at
 add-at c =
     let p = c .before .before .before .before .before .before .before .before in
     let a = p .args in
-    omega (arith, few-nodes (a .t .now) (p .pre), few-tasks (a .t .now) (p .pre), c .before .before .before .before .if1 .left)
+    omega
+    (arith, few-nodes (a .t .now) (p .pre), few-tasks (a .t .now) (p .pre), c .before .before .before .before .if1 .left)
 
 mul-at-2 : tie.Need-mul-at-2
 mul-at-2 c = search needs
@@ -80,13 +85,15 @@ add-at-2 : tie.Need-add-at-2
 add-at-2 c =
     let p = c .before .before .before .before .before .before .before .before in
     let a = p .args in
-    omega (arith, few-nodes (a .t .now) (p .pre), few-tasks (a .t .now) (p .pre), c .before .before .before .before .if1 .left)
+    omega
+    (arith, few-nodes (a .t .now) (p .pre), few-tasks (a .t .now) (p .pre), c .before .before .before .before .if1 .left)
 
 mul-running : tie.Need-mul-running
 mul-running c =
     let p = c .before .before .before .before .before .before .before .before in
     let a = p .args in
-    omega (arith, few-nodes (a .t .now) (p .pre), few-tasks (a .t .now) (p .pre), c .before .before .before .before .if1 .left)
+    omega
+    (arith, few-nodes (a .t .now) (p .pre), few-tasks (a .t .now) (p .pre), c .before .before .before .before .if1 .left)
 
 slice-read-running : tie.Need-slice-read-running
 slice-read-running c =
@@ -102,7 +109,8 @@ returns-4 c =
     let call = sym (f .ensures) ∙ not-false (f .result) (c .before .before .before .before .if2 .left) in
     let g = c .before .before .before .argument-ok in
     let fits = sym (g .ensures) ∙ not-false (g .result) (c .before .before .if3 .left) in
-    begin-8 (a .t .now) (p .pre) (a .task) (a .operation) (a .side) (a .argument) (c .before .before .before .before .before .before .if1 .left) call fits (c .if4 .taken)
+    begin-8 (a .t .now) (p .pre) (a .task) (a .operation) (a .side) (a .argument)
+    (c .before .before .before .before .before .before .if1 .left) call fits (c .if4 .taken)
 
 begun-requires : tie.Need-begun-requires
 begun-requires c κs =
@@ -116,24 +124,30 @@ write-requires : tie.Need-write-requires
 write-requires c κs =
     let p = c .before .before .before .before .before .before .before .before .before .before .before .before in
     let a = p .args in
-    record-long (a .t .now) (p .pre) (a .task) (c .before .before .before .before .before .before .before .before .if1 .left)
+    record-long (a .t .now) (p .pre) (a .task)
+    (c .before .before .before .before .before .before .before .before .if1 .left)
 
 same-length : tie.Need-same-length
 same-length c = search needs
 
 returns-5 : tie.Need-returns-5
 returns-5 c =
-    let p = c .before .before .before .before .before .before .before .before .before .before .before .before .before .before .before in
+    let p = c .before .before .before .before .before .before .before .before .before
+    .before .before .before .before .before .before in
     let a = p .args in
     let f = c .before .before .before .before .before .before .before .before .before .before .call-ok in
-    let call = sym (f .ensures) ∙ not-false (f .result) (c .before .before .before .before .before .before .before .before .before .if2 .left) in
+    let call = sym (f .ensures) ∙ not-false (f .result)
+    (c .before .before .before .before .before .before .before .before .before .if2 .left) in
     let g = c .before .before .before .before .before .before .before .before .argument-ok in
-    let fits = sym (g .ensures) ∙ not-false (g .result) (c .before .before .before .before .before .before .before .if3 .left) in
+    let fits = sym (g .ensures) ∙ not-false (g .result)
+    (c .before .before .before .before .before .before .before .if3 .left) in
     ap (changedOf Accepted)
     (c .before .before .write .ensures
     ∙ ap (λ (t : Tasks.Task). sets (a .t .now) (recordAt (nodeCount (a .t .now)) (a .task)) (recordOf t))
     (c .before .before .before .before .begun .ensures))
-    ∙ begin-accepted (a .t .now) (p .pre) (a .task) (a .operation) (a .side) (a .argument) (c .before .before .before .before .before .before .before .before .before .before .before .if1 .left) call fits (c .before .before .before .before .before .if4 .left)
+    ∙ begin-accepted (a .t .now) (p .pre) (a .task) (a .operation) (a .side) (a .argument)
+    (c .before .before .before .before .before .before .before .before .before .before .before .if1 .left)
+    call fits (c .before .before .before .before .before .if4 .left)
 
 pub begin-on-spec : {M : Type 1} → statement M
 begin-on-spec =

@@ -31,19 +31,24 @@ fresh-requires : tie.Need-fresh-requires Inv-loop μ-loop
 fresh-requires c κs = search needs
 
 mul-write : tie.Need-mul-write Inv-loop μ-loop
-mul-write c = omega (arith, c .before .before .before .before .before .pre .0, c .before .before .before .before .before .pre .1)
+mul-write c = omega
+    (arith, c .before .before .before .before .before .pre .0, c .before .before .before .before .before .pre .1)
 
 add-write : tie.Need-add-write Inv-loop μ-loop
-add-write c = omega (arith, c .before .before .before .before .before .pre .0, c .before .before .before .before .before .pre .1)
+add-write c = omega
+    (arith, c .before .before .before .before .before .pre .0, c .before .before .before .before .before .pre .1)
 
 mul-write-2 : tie.Need-mul-write-2 Inv-loop μ-loop
-mul-write-2 c = omega (arith, c .before .before .before .before .before .pre .0, c .before .before .before .before .before .pre .1)
+mul-write-2 c = omega
+    (arith, c .before .before .before .before .before .pre .0, c .before .before .before .before .before .pre .1)
 
 add-write-2 : tie.Need-add-write-2 Inv-loop μ-loop
-add-write-2 c = omega (arith, c .before .before .before .before .before .pre .0, c .before .before .before .before .before .pre .1)
+add-write-2 c = omega
+    (arith, c .before .before .before .before .before .pre .0, c .before .before .before .before .before .pre .1)
 
 write-requires : tie.Need-write-requires Inv-loop μ-loop
-write-requires c κs = omega (arith, c .before .before .before .loop .inv .1, c .before .before .before .before .before .pre .2)
+write-requires c κs = omega
+    (arith, c .before .before .before .loop .inv .1, c .before .before .before .before .before .pre .2)
 
 add-k : tie.Need-add-k Inv-loop μ-loop
 add-k c = omega arith

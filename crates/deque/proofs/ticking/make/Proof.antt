@@ -4,7 +4,15 @@ use Prim.Native.Nat.{_+_, _*_, _-_}
 use native.Mathlib.Omega.{arith}
 use borrow.Rule.Slice.PartMut.{same-len-mid}
 use Rattle.machine.specs.Table.{nodeCount}
-use Rattle.deque.proofs.MadeTick.{header-room, part-room, code-side, code-room, code-ready, code-refused, code-made}
+use Rattle.deque.proofs.MadeTick.{
+  header-room,
+  part-room,
+  code-side,
+  code-room,
+  code-ready,
+  code-refused,
+  code-made,
+}
 use borrow.Author.Needs.{needs}
 use Rattle.deque.proofs.ticking.make.Statement.{statement}
 use Rattle.deque.proofs.ticking.make.Tie as tie
@@ -46,7 +54,8 @@ slice-read-hat c =
     let p = c .before .before .before .before .before .before .before in
     let a = p .args in
     let h = p .pre in
-    omega (arith, header-room (a .t .now) (h .0 .0) (a .j) (a .hint) (h .0 .2) (h .0 .1) (h .1 .1), code-side (a .t .now) (h .0 .0) (a .j) (a .hint) (h .0 .2) (h .0 .1) (h .1 .1) (a .k) (a .at) (h .1 .0 .0) (h .1 .0 .1))
+    omega
+    (arith, header-room (a .t .now) (h .0 .0) (a .j) (a .hint) (h .0 .2) (h .0 .1) (h .1 .1), code-side (a .t .now) (h .0 .0) (a .j) (a .hint) (h .0 .2) (h .0 .1) (h .1 .1) (a .k) (a .at) (h .1 .0 .0) (h .1 .0 .1))
 
 mul-line : tie.Need-mul-line
 mul-line c = search needs
@@ -72,7 +81,8 @@ line-requires c κs =
     let p = c .before .before .before .before .before .before .before .before in
     let a = p .args in
     let h = p .pre in
-    code-ready (a .t .now) (h .0 .0) (a .j) (a .hint) (h .0 .2) (h .0 .1) (h .1 .1) (a .k) (a .at) (h .1 .0 .0) (h .1 .0 .1) (c .before .before .found .ensures)
+    code-ready (a .t .now) (h .0 .0) (a .j) (a .hint) (h .0 .2) (h .0 .1) (h .1 .1) (a .k) (a .at) (h .1 .0 .0)
+    (h .1 .0 .1) (c .before .before .found .ensures)
 
 is-refusal-requires : tie.Need-is-refusal-requires
 is-refusal-requires c κs = search needs
@@ -89,15 +99,18 @@ returns c =
     let l = i .before .before .before in
     let g = l .before .before .before .before .before .goal-of .ensures in
     let f = l .before .before .before .found .ensures in
-    code-refused (a .t .now) (h .0 .0) (a .j) (a .hint) (h .0 .2) (h .0 .1) (h .1 .1) (a .k) (a .at) (h .1 .0 .0) (h .1 .0 .1) g f (l .line .ensures) (sym (i .is-refusal .ensures) ∙ c .if1 .taken)
+    code-refused (a .t .now) (h .0 .0) (a .j) (a .hint) (h .0 .2) (h .0 .1) (h .1 .1) (a .k) (a .at)
+    (h .1 .0 .0) (h .1 .0 .1) g f (l .line .ensures) (sym (i .is-refusal .ensures) ∙ c .if1 .taken)
 
 store-requires : tie.Need-store-requires
 store-requires c κs =
-    let p = c .before .before .before .before .before .before .before .before .before .before .before .before .before .before .before in
+    let p = c .before .before .before .before .before .before .before .before .before
+    .before .before .before .before .before .before in
     let a = p .args in
     let h = p .pre in
     let l = c .before .before .before .before .before .before in
-    let r = code-room (a .t .now) (h .0 .0) (a .j) (a .hint) (h .0 .2) (h .0 .1) (h .1 .1) (a .k) (a .at) (h .1 .0 .0) (h .1 .0 .1) in
+    let r = code-room (a .t .now) (h .0 .0) (a .j) (a .hint) (h .0 .2) (h .0 .1) (h .1 .1) (a .k) (a .at)
+    (h .1 .0 .0) (h .1 .0 .1) in
     (code-side (a .t .now) (h .0 .0) (a .j) (a .hint) (h .0 .2) (h .0 .1) (h .1 .1) (a .k) (a .at) (h .1 .0 .0) (h .1 .0 .1), r .0, rw (same-len-mid 8 (8 + 3 * nodeCount (a .t .now) - 8) (a .t .now) (l .line .last .0) (l .line .kept .0)) (r .1))
 
 same-length-2 : tie.Need-same-length-2
@@ -105,14 +118,17 @@ same-length-2 c = search needs
 
 returns-2 : tie.Need-returns-2
 returns-2 c =
-    let p = c .before .before .before .before .before .before .before .before .before .before .before .before .before .before .before .before .before .before in
+    let p = c .before .before .before .before .before .before .before .before .before
+    .before .before .before .before .before .before .before .before .before in
     let a = p .args in
     let h = p .pre in
     let i = c .before .before .before .before .before .before in
     let l = i .before .before .before in
     let g = l .before .before .before .before .before .goal-of .ensures in
     let f = l .before .before .before .found .ensures in
-    code-made (a .t .now) (h .0 .0) (a .j) (a .hint) (h .0 .2) (h .0 .1) (h .1 .1) (a .k) (a .at) (h .1 .0 .0) (h .1 .0 .1) g f (l .line .ensures) (sym (i .is-refusal .ensures) ∙ c .before .before .before .before .before .if1 .left)
+    code-made (a .t .now) (h .0 .0) (a .j) (a .hint) (h .0 .2) (h .0 .1) (h .1 .1) (a .k) (a .at) (h .1 .0 .0)
+    (h .1 .0 .1) g f (l .line .ensures)
+    (sym (i .is-refusal .ensures) ∙ c .before .before .before .before .before .if1 .left)
     (c .before .before .store .ensures)
 
 pub make-spec : {M : Type 1} → statement M

@@ -35,7 +35,8 @@ slice-write-t-2 c =
 same-length : tie.Need-same-length
 same-length c =
     let a = c .before .before .before .before .before .before .before .args in
-    simp length-set (c .before .before .before .before .write .kept .1 .0 ∙ length-set (a .t .now) (3 + a .side) (a .hat))
+    simp length-set
+    (c .before .before .before .before .write .kept .1 .0 ∙ length-set (a .t .now) (3 + a .side) (a .hat))
 
 returns : tie.Need-returns
 returns c = rw (c .wrapping-add-u32 .ensures, c .before .before .before .before .write .ensures)

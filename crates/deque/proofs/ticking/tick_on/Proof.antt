@@ -1,4 +1,4 @@
--- `deque::ticking::tick_on` meets its contract: each test is the definition's, and the tick that passes them is `make`'s.
+-- `deque::ticking::tick_on` meets its contract: each test is the definition's, and the tick that passes is `make`'s.
 use mathlib.Core.Path.{refl, sym, ap, _∙_}
 use native.Mathlib.Omega.{arith}
 use Rattle.layout.specs.declared.tasks.Task as Tasks
@@ -73,7 +73,8 @@ returns-3 c =
     let p = c .before .before .before .before .before .before .before .before in
     let a = p .args in
     let o = ap (λ (t : Tasks.Task). t .operation) (c .before .read .ensures) in
-    tick-10 (a .t .now) (p .pre) (a .task) (a .hint) (c .before .before .before .before .if1 .left) (c .before .before .before .if2 .left) (sym o ∙ c .if3 .taken)
+    tick-10 (a .t .now) (p .pre) (a .task) (a .hint) (c .before .before .before .before .if1 .left)
+    (c .before .before .before .if2 .left) (sym o ∙ c .if3 .taken)
 
 make-requires : tie.Need-make-requires
 make-requires c κs =
@@ -96,7 +97,10 @@ returns-4 c =
     let a = p .args in
     let o = ap (λ (t : Tasks.Task). t .operation) (c .before .before .before .before .before .read .ensures) in
     c .before .before .make .ensures
-    ∙ tick-passes (a .t .now) (p .pre) (a .task) (a .hint) (c .before .before .before .before .before .before .before .before .if1 .left) (c .before .before .before .before .before .before .before .if2 .left) (λ e. c .before .before .before .before .if3 .left (o ∙ e))
+    ∙ tick-passes (a .t .now) (p .pre) (a .task) (a .hint)
+    (c .before .before .before .before .before .before .before .before .if1 .left)
+    (c .before .before .before .before .before .before .before .if2 .left)
+    (λ e. c .before .before .before .before .if3 .left (o ∙ e))
 
 pub tick-on-spec : {M : Type 1} → statement M
 tick-on-spec =
