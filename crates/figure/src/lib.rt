@@ -22,7 +22,6 @@ ghost use Rattle.figure.specs.Groups.{
 };
 
 // A push at the hat.
-// A push at the hat.
 fn push_line(ns: &mut [u32], hat: u32, t: Task, goal: u32, found: u32) -> Done
     requires { ⌜ ReadyIn pushGroup (now ns) t found ⌝ }
     ensures { λ r. ⌜ outcomeOf (now (ns .exit)) r ≡ lineOf (stepOf (t .step)) (now (ns .entry)) hat t goal found ⌝ }
@@ -115,18 +114,19 @@ fn break_line(ns: &mut [u32], hat: u32, t: Task, goal: u32, found: u32) -> Done
     }
 }
 
-// 01: the tick decides by the step number, which is the figure's line number.
+// 01: the tick decides by the step number, which is the figure's line number. The ranges leave no gaps between them,
+// so that each group takes one compare; a step is never a number in between.
 pub fn line(ns: &mut [u32], hat: u32, t: Task, goal: u32, found: u32) -> Done
     requires { ⌜ ReadyIn allSteps (now ns) t found ⌝ }
     ensures { λ r. ⌜ outcomeOf (now (ns .exit)) r ≡ lineOf (stepOf (t .step)) (now (ns .entry)) hat t goal found ⌝ }
 {
     let step = t.step;
     match step {
-        2..=8 => push_line(ns, hat, t, goal, found),
-        15..=31 => add_line(ns, hat, t, goal, found),
-        39..=51 => pop_line(ns, hat, t, goal, found),
-        54..=64 => remove_line(ns, hat, t, goal, found),
-        67..=72 => unspur_line(ns, hat, t, goal, found),
+        0..=8 => push_line(ns, hat, t, goal, found),
+        9..=31 => add_line(ns, hat, t, goal, found),
+        32..=51 => pop_line(ns, hat, t, goal, found),
+        52..=64 => remove_line(ns, hat, t, goal, found),
+        65..=72 => unspur_line(ns, hat, t, goal, found),
         _ => break_line(ns, hat, t, goal, found),
     }
 }

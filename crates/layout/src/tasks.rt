@@ -103,12 +103,25 @@ impl Task {
         t[at + 9] = self.registers[3];
     }
 
-    // The record at another step.
-    pub fn at(mut self, step: u32) -> Self
+    // The record at another step. Written out word by word: every line ends here, and the compiler then keeps the
+    // whole record in registers and copies none of it through memory.
+    pub fn at(self, step: u32) -> Self
         ensures { λ r. ⌜ r ≡ atStep self step ⌝ }
     {
-        self.step = step;
-        self
+        let value = self.value;
+        let a = self.registers[Task::A];
+        let b = self.registers[Task::B];
+        let c = self.registers[Task::C];
+        let d = self.registers[Task::D];
+        Self {
+            operation: self.operation,
+            step,
+            side: self.side,
+            argument: self.argument,
+            counted: self.counted,
+            value,
+            registers: [a, b, c, d],
+        }
     }
 
     // The record with a register set.

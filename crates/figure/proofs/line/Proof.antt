@@ -1,6 +1,5 @@
--- `figure::line` meets its contract: in each range, and in each gap between them, one computed test names the group.
+-- `figure::line` meets its contract: in each range one computed test names the group.
 use mathlib.Core.Path.{refl}
-use mathlib.Core.Logic.{inl, inr}
 use native.Mathlib.Omega.{arith}
 use Rattle.machine.specs.Steps.{isStepIn}
 use Rattle.figure.specs.Groups.{pushGroup, addGroup, popGroup, removeGroup, unspurGroup, breakGroup}
@@ -11,41 +10,29 @@ use Rattle.figure.proofs.line.Tie as tie
 
 push-line-requires : tie.Need-push-line-requires
 unfolding isStepIn
-push-line-requires c κs = within pushGroup 2 8 refl (c .before .before .before .before .before .pre)
-    (omega arith) (omega arith)
+push-line-requires c κs = within pushGroup 0 8 refl (c .before .before .before .pre) (omega arith) (omega arith)
 
 add-line-requires : tie.Need-add-line-requires
 unfolding isStepIn
-add-line-requires c κs = within addGroup 15 31 refl
-    (c .before .before .before .before .before .before .before .pre) (omega arith) (omega arith)
+add-line-requires c κs = within addGroup 9 31 refl (c .before .before .before .before .pre) (omega arith) (omega arith)
 
 pop-line-requires : tie.Need-pop-line-requires
 unfolding isStepIn
-pop-line-requires c κs = within popGroup 39 51 refl
-    (c .before .before .before .before .before .before .before .before .pre) (omega arith) (omega arith)
+pop-line-requires c κs = within popGroup 32 51 refl (c .before .before .before .before .before .pre) (omega arith) (omega arith)
 
 remove-line-requires : tie.Need-remove-line-requires
 unfolding isStepIn
-remove-line-requires c κs = within removeGroup 54 64 refl (c .before .before .before .before .before .pre)
-    (omega arith) (omega arith)
+remove-line-requires c κs = within removeGroup 52 64 refl (c .before .before .before .before .before .before .pre) (omega arith) (omega arith)
 
 unspur-line-requires : tie.Need-unspur-line-requires
 unfolding isStepIn
-unspur-line-requires c κs = within unspurGroup 67 72 refl
-    (c .before .before .before .before .before .before .before .pre) (omega arith) (omega arith)
+unspur-line-requires c κs = within unspurGroup 65 72 refl (c .before .before .before .before .before .before .before .pre) (omega arith) (omega arith)
 
 break-line-requires : tie.Need-break-line-requires
 unfolding isStepIn
 break-line-requires c κs =
-    let p = c .before .before .before .pre in
-    elim (c .before .if1 .came) [
-      | inl x ↦ within breakGroup 0 1 refl p (omega arith) (omega arith)
-      | inr (inl x) ↦ within breakGroup 9 14 refl p (omega arith) (omega arith)
-      | inr (inr (inl x)) ↦ within breakGroup 32 38 refl p (omega arith) (omega arith)
-      | inr (inr (inr (inl x))) ↦ within breakGroup 52 53 refl p (omega arith) (omega arith)
-      | inr (inr (inr (inr (inl x)))) ↦ within breakGroup 65 66 refl p (omega arith) (omega arith)
-      | inr (inr (inr (inr (inr x)))) ↦ within breakGroup 73 82 refl p (omega arith) (step-bound _ (p .in-group))
-    ]
+    let p = c .before .before .before .before .before .before .before .pre in
+    within breakGroup 73 82 refl p (omega arith) (step-bound _ (p .in-group))
 
 same-length : tie.Need-same-length
 same-length c = search needs
