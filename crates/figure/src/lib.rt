@@ -1,12 +1,8 @@
 // The line of the figure that a tick makes, by the step number at which its task stands.
-use hattrick::add;
-use hattrick::breaking;
+use add::unspur;
 use hattrick::ends::Done;
-use hattrick::pop;
-use hattrick::push;
-use hattrick::remove;
-use hattrick::unspur;
 use layout::tasks::Task;
+use remove::breaking;
 ghost use mathlib.Core.Path.{_≡_};
 ghost use Rattle.machine.specs.Steps.{stepOf};
 ghost use Rattle.hattrick.specs.Lent.{lineOf, outcomeOf};

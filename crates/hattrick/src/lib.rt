@@ -1,9 +1,3 @@
-// The lines of the figure as single ticks over the nodes' words, a side's hat and a task record.
-pub mod add;
-pub mod breaking;
+// What the lines of the figure share: how a line ends, and whether a value is a mark of a side.
 pub mod ends;
 pub mod marks;
-pub mod pop;
-pub mod push;
-pub mod remove;
-pub mod unspur;

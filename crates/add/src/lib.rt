@@ -1,0 +1,162 @@
+// Lines 28, 31, 15, 17, 18, 24 and 25: a chain of new nodes is made and joined to the lane's end.
+pub mod unspur;
+
+use hattrick::ends;
+use hattrick::ends::Done;
+use hattrick::marks;
+use layout::nodes;
+use layout::tasks::Task;
+use layout::values::Value;
+use machine::Answer;
+ghost use mathlib.Core.Path.{_≡_};
+ghost use mathlib.Core.Logic.{_≢_};
+ghost use Rattle.machine.specs.Steps.{line15, line17, line18, line24, line25, line28, line31};
+ghost use Rattle.machine.specs.Tasks.{none};
+ghost use Rattle.layout.specs.Coded.{HoldsNode, codedTask, taskMeant};
+ghost use Rattle.hattrick.specs.Lent.{Ready, Does, DoesAnywhere, lineOf, outcomeOf};
+
+// 28: take a free slot, links none, V RX; D = it; counted 0; goal 0 then 15, else 31.
+// None free: push answers "full", add "no".
+pub fn line28(ns: &mut [u32], hat: u32, t: Task, goal: u32, found: u32) -> Done
+    requires { ⌜ Ready (now ns) t × (found ≢ none → HoldsNode (now ns) found) ⌝ }
+    ensures { λ r. ⌜ outcomeOf (now (ns .exit)) r ≡ lineOf line28 (now (ns .entry)) hat t goal found ⌝ }
+{
+    let operation = t.operation;
+    let side = t.side;
+    if found == Task::NONE {
+        if operation == Task::PUSH {
+            return ends::answers(hat, Answer::Full);
+        }
+        return ends::answers(hat, Answer::No);
+    }
+    let inward = ends::opposite(side);
+    nodes::set_link(ns, side, found, Task::NONE);
+    nodes::set_link(ns, inward, found, Task::NONE);
+    nodes::set_value(ns, found, Value::x_of(side));
+    ends::next(
+        hat,
+        t.with(Task::D, found).counting(0),
+        ends::either(goal == 0, 15, 31),
+    )
+}
+
+// 31: take a free slot N, V RN, N.L none, N.R = D, D.L = N, D = N, counted + 1; goal reached 15, else 31.
+// None free: 15 with the chain so far.
+pub fn line31(ns: &mut [u32], hat: u32, t: Task, goal: u32, found: u32) -> Done
+    requires { ⌜ Ready (now ns) t × (found ≢ none → HoldsNode (now ns) found) ⌝ }
+    ensures { λ r. ⌜ outcomeOf (now (ns .exit)) r ≡ lineOf line31 (now (ns .entry)) hat t goal found ⌝ }
+{
+    let d = t.registers[Task::D];
+    let side = t.side;
+    let counted = t.counted;
+    if d == Task::NONE {
+        return ends::refused(hat, t);
+    }
+    if found == Task::NONE {
+        return ends::next(hat, t, 15);
+    }
+    let inward = ends::opposite(side);
+    nodes::set_value(ns, found, Value::n_of(side));
+    nodes::set_link(ns, inward, found, Task::NONE);
+    nodes::set_link(ns, side, found, d);
+    nodes::set_link(ns, inward, d, found);
+    let count = counted + 1;
+    ends::next(
+        hat,
+        t.with(Task::D, found).counting(count),
+        ends::either(count == goal, 15, 31),
+    )
+}
+
+// 15: A = hat; 17.
+pub fn line15(hat: u32, t: Task) -> Done
+    requires { ⌜ codedTask (taskMeant t) ≡ t ⌝ }
+    ensures { λ r. ⌜ DoesAnywhere line15 hat t r ⌝ }
+{
+    ends::take_hat(hat, t, 17)
+}
+
+// 17: value = A.V; RN 18, RY 67, RX 24, else 15.
+pub fn line17(ns: &[u32], hat: u32, t: Task) -> Done
+    requires { ⌜ Ready (now ns) t ⌝ }
+    ensures { λ r. ⌜ Does line17 (now (ns .entry)) hat t (outcomeOf (now (ns .entry)) r) ⌝ }
+{
+    let a = t.registers[Task::A];
+    let side = t.side;
+    if a == Task::NONE {
+        return ends::refused(hat, t);
+    }
+    let v = nodes::value(ns, a);
+    let at_x = ends::either(marks::is_x(v, side), 24, 15);
+    let at_y = ends::either(marks::is_y(v, side), 67, at_x);
+    ends::next(
+        hat,
+        t.reading(v),
+        ends::either(marks::is_n(v, side), 18, at_y),
+    )
+}
+
+// 18: A = A.R; none 15, else 17.
+pub fn line18(ns: &[u32], hat: u32, t: Task) -> Done
+    requires { ⌜ Ready (now ns) t ⌝ }
+    ensures { λ r. ⌜ Does line18 (now (ns .entry)) hat t (outcomeOf (now (ns .entry)) r) ⌝ }
+{
+    let a = t.registers[Task::A];
+    let side = t.side;
+    if a == Task::NONE {
+        return ends::refused(hat, t);
+    }
+    let x = nodes::link(ns, side, a);
+    ends::next(
+        hat,
+        t.with(Task::A, x),
+        ends::either(x == Task::NONE, 15, 17),
+    )
+}
+
+// 24: D.L = A, B = A.R; 25.
+pub fn line24(ns: &mut [u32], hat: u32, t: Task) -> Done
+    requires { ⌜ Ready (now ns) t ⌝ }
+    ensures { λ r. ⌜ Does line24 (now (ns .entry)) hat t (outcomeOf (now (ns .exit)) r) ⌝ }
+{
+    let a = t.registers[Task::A];
+    let d = t.registers[Task::D];
+    let side = t.side;
+    if a == Task::NONE {
+        return ends::refused(hat, t);
+    }
+    if d == Task::NONE {
+        return ends::refused(hat, t);
+    }
+    let inward = ends::opposite(side);
+    let b = nodes::link(ns, side, a);
+    nodes::set_link(ns, inward, d, a);
+    ends::next(hat, t.with(Task::B, b), 25)
+}
+
+// 25: swap A.R from B to D and A.V RX to RN; failed 15;
+// done: add answers "yes", push sets D none, counted 0, goes to 2.
+pub fn line25(ns: &mut [u32], hat: u32, t: Task) -> Done
+    requires { ⌜ Ready (now ns) t ⌝ }
+    ensures { λ r. ⌜ Does line25 (now (ns .entry)) hat t (outcomeOf (now (ns .exit)) r) ⌝ }
+{
+    let operation = t.operation;
+    let a = t.registers[Task::A];
+    let b = t.registers[Task::B];
+    let d = t.registers[Task::D];
+    let side = t.side;
+    if a == Task::NONE {
+        return ends::refused(hat, t);
+    }
+    let outward = nodes::link(ns, side, a);
+    let x = marks::is_x(nodes::value(ns, a), side);
+    if ends::both(outward == b, x) {
+        nodes::set_link(ns, side, a, d);
+        nodes::set_value(ns, a, Value::n_of(side));
+        if operation == Task::PUSH {
+            return ends::next(hat, t.with(Task::D, Task::NONE).counting(0), 2);
+        }
+        return ends::answers(hat, Answer::Yes);
+    }
+    ends::next(hat, t, 15)
+}

@@ -1,0 +1,71 @@
+// Lines 2, 3, 5 and 8: a push at the hat.
+use hattrick::ends;
+use hattrick::ends::Done;
+use hattrick::marks;
+use layout::nodes;
+use layout::tasks::Task;
+use layout::values::Value;
+use machine::Answer;
+ghost use mathlib.Core.Path.{_≡_};
+ghost use Rattle.machine.specs.Steps.{line2, line3, line5, line8};
+ghost use Rattle.layout.specs.Coded.{codedTask, taskMeant};
+ghost use Rattle.hattrick.specs.Lent.{Ready, Does, DoesAnywhere, outcomeOf};
+
+// 2: A = hat; 3.
+pub fn line2(hat: u32, t: Task) -> Done
+    requires { ⌜ codedTask (taskMeant t) ≡ t ⌝ }
+    ensures { λ r. ⌜ DoesAnywhere line2 hat t r ⌝ }
+{
+    ends::take_hat(hat, t, 3)
+}
+
+// 3: B = A.R; none 8, else 5.
+pub fn line3(ns: &[u32], hat: u32, t: Task) -> Done
+    requires { ⌜ Ready (now ns) t ⌝ }
+    ensures { λ r. ⌜ Does line3 (now (ns .entry)) hat t (outcomeOf (now (ns .entry)) r) ⌝ }
+{
+    let a = t.registers[Task::A];
+    let side = t.side;
+    if a == Task::NONE {
+        return ends::refused(hat, t);
+    }
+    let b = nodes::link(ns, side, a);
+    ends::next(hat, t.with(Task::B, b), ends::either(b == Task::NONE, 8, 5))
+}
+
+// 5: swap hat A to B and A.V RN to the argument; done "pushed", failed 8.
+pub fn line5(ns: &mut [u32], hat: u32, t: Task) -> Done
+    requires { ⌜ Ready (now ns) t ⌝ }
+    ensures { λ r. ⌜ Does line5 (now (ns .entry)) hat t (outcomeOf (now (ns .exit)) r) ⌝ }
+{
+    let a = t.registers[Task::A];
+    let b = t.registers[Task::B];
+    let side = t.side;
+    let argument = t.argument;
+    if a == Task::NONE {
+        return ends::refused(hat, t);
+    }
+    if b == Task::NONE {
+        return ends::refused(hat, t);
+    }
+    let n = marks::is_n(nodes::value(ns, a), side);
+    if ends::both(hat == a, n) {
+        nodes::set_value(ns, a, Value { word: argument });
+        return ends::answers(b, Answer::Pushed);
+    }
+    ends::next(hat, t, 8)
+}
+
+// 8: A.V is RX 28, else 67.
+pub fn line8(ns: &[u32], hat: u32, t: Task) -> Done
+    requires { ⌜ Ready (now ns) t ⌝ }
+    ensures { λ r. ⌜ Does line8 (now (ns .entry)) hat t (outcomeOf (now (ns .entry)) r) ⌝ }
+{
+    let a = t.registers[Task::A];
+    let side = t.side;
+    if a == Task::NONE {
+        return ends::refused(hat, t);
+    }
+    let x = marks::is_x(nodes::value(ns, a), side);
+    ends::next(hat, t, ends::either(x, 28, 67))
+}

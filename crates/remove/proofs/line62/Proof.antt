@@ -1,0 +1,157 @@
+-- `remove::line62` meets its contract: both compares decide, then both values are written, A's first.
+use mathlib.Core.Path.{_≡_, sym, _∙_}
+use mathlib.Core.Bool.{true}
+use native.Mathlib.Omega.{arith}
+use lib.ListN.{length-set}
+use Rattle.machine.specs.Sides.{sideOf}
+use Rattle.machine.specs.Values.{N, valueOk}
+use Rattle.machine.specs.Lines.{act}
+use Rattle.machine.proofs.Choices.{equal, unequal}
+use Rattle.hattrick.specs.Lent.{lineOf, refusedDone}
+use Rattle.hattrick.proofs.Laws.Ready.{by-code, node-value-ok}
+use Rattle.hattrick.proofs.Laws.Compared.{told}
+use Rattle.hattrick.proofs.Laws.Swaps.{cut, not-cut}
+use borrow.Author.Needs.{needs}
+use Rattle.remove.proofs.line62.Statement.{statement}
+use Rattle.remove.proofs.line62.Tie as tie
+
+element-copy-out-a : tie.Need-element-copy-out-a
+element-copy-out-a c = search needs
+
+element-copy-out-b : tie.Need-element-copy-out-b
+element-copy-out-b c = search needs
+
+refused-requires : tie.Need-refused-requires
+refused-requires c κs = search needs
+
+returns : tie.Need-returns
+unfolding lineOf act
+returns c g f =
+    let p = c .before .before .before .before .before in
+    rw (c .refused .ensures, equal (c .before .if1 .taken)) (by-code (p .pre) (refusedDone (p .args .hat)))
+
+refused-requires-2 : tie.Need-refused-requires-2
+refused-requires-2 c κs = search needs
+
+returns-2 : tie.Need-returns-2
+unfolding lineOf act
+returns-2 c g f =
+    let p = c .before .before .before .before .before .before in
+    rw (c .refused2 .ensures, unequal (c .before .before .if1 .left), equal (c .before .if2 .taken))
+    (by-code (p .pre) (refusedDone (p .args .hat)))
+
+value-requires : tie.Need-value-requires
+value-requires c κs =
+    let p = c .before .before .before .before .before .before in
+    p .pre .held 0 (omega arith) (c .before .before .if1 .left)
+
+value-requires-2 : tie.Need-value-requires-2
+value-requires-2 c κs =
+    let some = c .before .before .before in
+    some .before .before .before .before .before .pre .held 1 (omega arith) (some .if2 .left)
+
+x-of-requires : tie.Need-x-of-requires
+x-of-requires c κs = search needs
+
+y-of-requires : tie.Need-y-of-requires
+y-of-requires c κs = search needs
+
+-- What was read of A and B is as V may be.
+values-ok :
+    (c : tie.After-value2)
+    → (valueOk (c .before .before .value .result .word) ≡ true) × (valueOk (c .value2 .result .word) ≡ true)
+values-ok c =
+    let some = c .before .before .before .before in
+    let R = some .before .before .before .before .before .pre in (
+      node-value-ok R 0 (omega arith) (some .before .if1 .left) (c .before .before .value .ensures),
+      node-value-ok R 1 (omega arith) (some .if2 .left) (c .value2 .ensures),
+    )
+
+is-n-requires : tie.Need-is-n-requires
+is-n-requires c κs = search (values-ok (c .before .before))
+
+is-n-requires-2 : tie.Need-is-n-requires-2
+is-n-requires-2 c κs = search (values-ok (c .before .before .before))
+
+both-requires : tie.Need-both-requires
+both-requires c κs = search needs
+
+set-value-requires : tie.Need-set-value-requires
+set-value-requires c κs =
+    let some = c .before .before .before .before .before .before .before .before .before .before .before in
+    some .before .before .before .before .before .pre .held 0 (omega arith) (some .before .if1 .left)
+
+set-value-requires-2 : tie.Need-set-value-requires-2
+set-value-requires-2 c κs =
+    let reads = c .before .before .before .before .before .before .before .before .before .before .before in
+    let some = reads .before .before .before .before in
+    let held = some .before .before .before .before .before .pre .held 1 (omega arith) (some .if2 .left) in
+    rw (c .before .before .before .set-value .ensures, length-set) held
+
+next-requires : tie.Need-next-requires
+next-requires c κs = search needs
+
+same-length : tie.Need-same-length
+same-length c = search needs
+
+returns-3 : tie.Need-returns-3
+returns-3 c g f =
+    let then3 = c .before .before .before .before .before .before .before .before .before in
+    let both = then3 .before in
+    let marks = both .before .before .before in
+    let reads = marks .before .before in
+    let some = reads .before .before .before .before in
+    let p = some .before .before .before .before .before in
+    let n = N (sideOf (p .args .t3 .side)) in
+    let A-n = told n (both .before .before .is-n .ensures) (reads .before .before .value .ensures) in
+    let B-n = told n (both .before .is-n2 .ensures) (reads .value2 .ensures) in
+    let tested = rw (A-n, B-n) at (sym (both .both .ensures) ∙ then3 .if3 .taken) in
+    let wrote = c .before .before .before .before .before .before .before .set-value .ensures in
+    rw (c .next .ensures)
+    (cut (p .pre) (p .args .hat) g f (some .before .if1 .left) (some .if2 .left) tested (marks .before .x-of .ensures)
+    (marks .y-of .ensures) wrote (c .before .before .before .set-value2 .ensures))
+
+answers-requires : tie.Need-answers-requires
+answers-requires c κs = search needs
+
+same-length-2 : tie.Need-same-length-2
+same-length-2 c = search needs
+
+returns-4 : tie.Need-returns-4
+returns-4 c g f =
+    let both = c .before .before in
+    let reads = both .before .before .before .before .before in
+    let some = reads .before .before .before .before in
+    let p = some .before .before .before .before .before in
+    let n = N (sideOf (p .args .t3 .side)) in
+    let A-n = told n (both .before .before .is-n .ensures) (reads .before .before .value .ensures) in
+    let B-n = told n (both .before .is-n2 .ensures) (reads .value2 .ensures) in
+    let tested = rw (A-n, B-n) at (sym (both .both .ensures) ∙ c .before .if3 .left) in
+    rw (c .answers .ensures)
+    (not-cut (p .pre) (p .args .hat) g f (some .before .if1 .left) (some .if2 .left) tested)
+
+pub line62-spec : {M : Type 1} → statement M
+line62-spec =
+    tie.close
+    (tie.spec
+    element-copy-out-a
+    element-copy-out-b
+    refused-requires
+    returns
+    refused-requires-2
+    returns-2
+    value-requires
+    value-requires-2
+    x-of-requires
+    y-of-requires
+    is-n-requires
+    is-n-requires-2
+    both-requires
+    set-value-requires
+    set-value-requires-2
+    next-requires
+    same-length
+    returns-3
+    answers-requires
+    same-length-2
+    returns-4)
