@@ -2,76 +2,15 @@
 
 mod common;
 
-use std::collections::{BTreeMap, VecDeque};
+use std::collections::BTreeMap;
 
 use common::random::Random;
+use common::row::{Note, Row};
 use common::tables::started;
 use reference::table::{argument_fits, header, record, Sizes, ADD, POP, PUSH, REMOVE};
-use reference::{begin, read, run, start, tick};
+use reference::{begin, run, start, tick};
 
 const LEFT: u32 = 0;
-
-#[derive(Clone, Copy)]
-struct Note {
-    operation: u32,
-    side: u32,
-    argument: u32,
-}
-
-/// The row of the paper: it never looks at the table.
-struct Row {
-    values: VecDeque<u32>,
-    notes: Vec<Option<Note>>,
-}
-
-impl Row {
-    fn new(tasks: u32) -> Row {
-        Row {
-            values: VecDeque::new(),
-            notes: vec![None; tasks as usize],
-        }
-    }
-
-    /// Explains the answer of a tick by the note of its task.
-    fn tick(&mut self, task: u32, words: [u32; 2]) {
-        let note = self.notes[task as usize].expect("a tick was made without a note");
-        let [kind, value] = words;
-        assert!(kind == 2 || value == 0, "second word of answer {kind}");
-        let side = note.side;
-        match (kind, note.operation) {
-            (0, _) => return,
-            (1, PUSH) if side == LEFT => self.values.push_front(note.argument),
-            (1, PUSH) => self.values.push_back(note.argument),
-            (2, POP) if side == LEFT => assert_eq!(self.values.pop_front(), Some(value)),
-            (2, POP) => assert_eq!(self.values.pop_back(), Some(value)),
-            (3, POP) => assert!(self.values.is_empty(), "empty, with {:?}", self.values),
-            (4, PUSH) => {}
-            (5 | 6, ADD | REMOVE) => {}
-            (_, operation) => panic!("answer {kind} to operation {operation}"),
-        }
-        self.notes[task as usize] = None;
-    }
-
-    fn check(&self, table: &[u32]) {
-        let mut out = [0; Sizes::MAX_NODES];
-        let count = read(table, &mut out);
-        assert_eq!(count, Ok(self.values.len() as u32));
-        assert!(self.values.iter().eq(&out[..self.values.len()]));
-    }
-
-    fn check_short(&self, table: &[u32], length: usize) {
-        let mut out = vec![3; length];
-        let count = self.values.len();
-        if length < count {
-            assert_eq!(read(table, &mut out), Err(12));
-            assert!(out.iter().all(|&word| word == 3));
-        } else {
-            assert_eq!(read(table, &mut out), Ok(count as u32));
-            assert!(self.values.iter().eq(&out[..count]));
-            assert!(out[count..].iter().all(|&word| word == 3));
-        }
-    }
-}
 
 /// What a list of calls came across, so that a test cannot pass on nothing.
 #[derive(Default)]

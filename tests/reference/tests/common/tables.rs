@@ -44,7 +44,7 @@ pub fn mirrored(table: &[u32]) -> Vec<u32> {
     result
 }
 
-/// A table whose shape holds and whose words are otherwise arbitrary.
+/// A small table whose shape holds and whose words are otherwise arbitrary.
 pub fn shaped(random: &mut Random) -> Vec<u32> {
     let sizes = Sizes::new(
         2 + random.below(7),
@@ -52,6 +52,11 @@ pub fn shaped(random: &mut Random) -> Vec<u32> {
         random.pick(&[0, 1, 2, 64]),
     )
     .expect("sizes in range");
+    shaped_of(random, sizes)
+}
+
+/// The same of given sizes.
+pub fn shaped_of(random: &mut Random, sizes: Sizes) -> Vec<u32> {
     let mut table = vec![0; sizes.words()];
     table[header::NODES] = sizes.nodes;
     table[header::TASKS] = sizes.tasks;

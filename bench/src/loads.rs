@@ -1,0 +1,134 @@
+//! The tables and tick lists that are measured, prepared by the second program.
+
+use reference::table::{node, Sizes, ADD, POP, PUSH, REMOVE};
+
+/// Tasks of every table.
+pub const TASKS: u32 = 16;
+/// Most ticks of a run.
+const MOST_TICKS: u32 = 4096;
+const LEFT: u32 = 0;
+const RIGHT: u32 = 1;
+
+/// A table, and the ticks to make on it.
+pub struct Load {
+    /// The words before the first tick.
+    pub table: Vec<u32>,
+    /// The (task, hint) pairs.
+    pub list: Vec<u32>,
+}
+
+impl Load {
+    /// The ticks of the list.
+    pub fn ticks(&self) -> usize {
+        self.list.len() / 2
+    }
+}
+
+/// 16 removes that walk along spare nodes; none answers and nothing is taken.
+pub fn walks(nodes: u32) -> Load {
+    let mut table = started(nodes);
+    while taken(&table, nodes) < nodes {
+        finish(&mut table, ADD, RIGHT, 64);
+    }
+    begin_all(&mut table, REMOVE, 1023);
+    // A walk of n spare nodes answers at tick 2n + 2.
+    let each = 2 * (nodes - 2);
+    let list = in_turn((TASKS * each).min(MOST_TICKS));
+    Load { table, list }
+}
+
+/// The first 64 ticks of the same, to be made one call each.
+pub fn short_walks(nodes: u32) -> Load {
+    let Load { table, mut list } = walks(nodes);
+    list.truncate(2 * 64);
+    Load { table, list }
+}
+
+/// 16 pops of an empty lane, all of which answer: four ticks each.
+pub fn pops(nodes: u32) -> Load {
+    let mut table = started(nodes);
+    begin_all(&mut table, POP, 0);
+    let list = in_turn(4 * TASKS);
+    Load { table, list }
+}
+
+/// 16 adds of 64 nodes until all nodes are taken: every tick takes one.
+pub fn takes(nodes: u32) -> Load {
+    let mut table = started(nodes);
+    begin_all(&mut table, ADD, 64);
+    let list = in_turn(nodes - 2);
+    Load { table, list }
+}
+
+/// 16 pushes at both ends of a lane half full, until each has answered or 4,096 ticks are made.
+pub fn pushes(nodes: u32) -> Load {
+    let mut table = filled(nodes, nodes / 2);
+    begin_all(&mut table, PUSH, 500);
+    let mut list = Vec::new();
+    let mut after = table.clone();
+    let mut busy = true;
+    while busy && list.len() < 2 * MOST_TICKS as usize {
+        busy = false;
+        for task in 0..TASKS {
+            if reference::tick(&mut after, task, 0).is_ok() {
+                list.extend([task, 0]);
+                busy = true;
+            }
+        }
+    }
+    Load { table, list }
+}
+
+/// The same table and no ticks: a run of them is the test of the shape alone.
+pub fn none(nodes: u32) -> Load {
+    Load {
+        list: Vec::new(),
+        ..pushes(nodes)
+    }
+}
+
+/// A lane of so many bags.
+pub fn filled(nodes: u32, bags: u32) -> Vec<u32> {
+    let mut table = started(nodes);
+    for bag in 1..=bags {
+        finish(&mut table, PUSH, RIGHT, bag);
+    }
+    table
+}
+
+fn started(nodes: u32) -> Vec<u32> {
+    let sizes = Sizes::new(nodes, TASKS, 0).expect("sizes in range");
+    let mut table = vec![0; sizes.words()];
+    reference::start(&mut table, nodes, TASKS, 0).expect("an accepted start");
+    table
+}
+
+/// Every task the same operation, at the left and the right in turn; a remove at the right, where the nodes are.
+fn begin_all(table: &mut [u32], operation: u32, argument: u32) {
+    for task in 0..TASKS {
+        let side = if operation == REMOVE || task % 2 == 1 {
+            RIGHT
+        } else {
+            LEFT
+        };
+        reference::begin(table, task, operation, side, argument).expect("an idle task");
+    }
+}
+
+/// A call of task 0, to its answer.
+fn finish(table: &mut [u32], operation: u32, side: u32, argument: u32) {
+    reference::begin(table, 0, operation, side, argument).expect("an idle task");
+    while let Ok(reference::Answer::Going) = reference::tick(table, 0, 0) {}
+}
+
+/// The nodes in use: those whose value was ever written.
+fn taken(table: &[u32], nodes: u32) -> u32 {
+    let sizes = Sizes::new(nodes, TASKS, 0).expect("sizes in range");
+    let value = |number: &u32| table[sizes.node(*number) + node::VALUE];
+    (0..nodes).filter(|number| value(number) != 0).count() as u32
+}
+
+/// So many ticks, the tasks in turn, every search from node 0.
+fn in_turn(ticks: u32) -> Vec<u32> {
+    (0..ticks).flat_map(|tick| [tick % TASKS, 0]).collect()
+}

@@ -1,0 +1,219 @@
+//! How fast the proved machine is beside the second program in Rust: one table of ratios, and the growth with S.
+
+#![forbid(unsafe_code)]
+
+mod loads;
+mod measure;
+mod programs;
+
+use std::hint::black_box;
+
+use loads::Load;
+use measure::{interleaved, nanoseconds, Figures};
+use programs::{Program, PROVED, RUST};
+
+/// Words of all copies of a table in one round: they stay in the nearest cache.
+const ROUND_WORDS: usize = 6000;
+const SIZES: [u32; 3] = [16, 128, 1024];
+const ALL_SIZES: [u32; 7] = [16, 32, 64, 128, 256, 512, 1024];
+
+/// What makes a load for so many nodes.
+type Make = fn(u32) -> Load;
+/// What measures a load in so many rounds.
+type Measure = fn(usize, &Load) -> Figures;
+
+const ROWS: [(&str, Make, Measure); 6] = [
+    (
+        "tick, no take: 16 removes that walk",
+        loads::walks,
+        run_tick,
+    ),
+    ("tick, no take: 16 pops, empty lane", loads::pops, run_tick),
+    ("tick, each takes a node: 16 adds", loads::takes, run_tick),
+    ("tick, some take a node: 16 pushes", loads::pushes, run_tick),
+    (
+        "single tick, with its shape test",
+        loads::short_walks,
+        single_tick,
+    ),
+    (
+        "shape test alone: a run of no ticks",
+        loads::none,
+        shape_test,
+    ),
+];
+
+fn main() {
+    let words: Vec<String> = std::env::args().skip(1).collect();
+    let rounds = match words.iter().map(String::as_str).collect::<Vec<_>>()[..] {
+        [] => 1001,
+        ["--quick"] => 101,
+        _ => {
+            eprintln!("usage: bench/run [--quick]");
+            std::process::exit(2);
+        }
+    };
+    println!("The proved machine beside the second program in Rust, T 16: ratio = proved / Rust.");
+    println!(
+        "Both built for release; medians of {rounds} rounds in turn, and the ratio of low deciles."
+    );
+    println!(
+        "Both gave the same words first. A table is copied afresh before each round, outside the"
+    );
+    println!(
+        "time; answer and out slices are not cleared. The ticks of a run share its one shape test."
+    );
+    println!();
+    ratios(rounds);
+    println!();
+    growth(rounds / 2);
+}
+
+/// The table of ratios.
+fn ratios(rounds: usize) {
+    println!(
+        "{:38} {:>5} {:>6} {:>9} {:>9} {:>6} {:>6}",
+        "nanoseconds", "S", "ticks", "proved", "Rust", "ratio", "low10"
+    );
+    for (name, make, measure) in ROWS {
+        for nodes in SIZES {
+            let load = make(nodes);
+            show(name, nodes, load.ticks(), &measure(rounds, &load));
+        }
+    }
+    let read = reading(rounds, &loads::filled(1024, 1000), 1000);
+    show("reading 1,000 bags, the whole call", 1024, 0, &read);
+}
+
+fn show(name: &str, nodes: u32, ticks: usize, figures: &Figures) {
+    let Figures {
+        proved,
+        rust,
+        low_ratio,
+    } = figures;
+    let ratio = figures.ratio();
+    println!(
+        "{name:38} {nodes:>5} {ticks:>6} {proved:>9.2} {rust:>9.2} {ratio:>6.2} {low_ratio:>6.2}"
+    );
+}
+
+/// A tick of a run, the run's one test of the shape shared among its ticks.
+fn run_tick(rounds: usize, load: &Load) -> Figures {
+    let mut answers = [vec![0; load.list.len()], vec![0; load.list.len()]];
+    let mut tables = [load.table.clone(), load.table.clone()];
+    let proved = (PROVED.run)(&mut tables[0], &load.list, &mut answers[0]);
+    let rust = (RUST.run)(&mut tables[1], &load.list, &mut answers[1]);
+    assert_eq!(proved, (load.ticks() as u64) << 32, "a tick was refused");
+    assert_eq!(proved, rust, "the programs differ in what a run returns");
+    assert_eq!(
+        tables[0], tables[1],
+        "the programs differ in the table after a run"
+    );
+    assert_eq!(
+        answers[0], answers[1],
+        "the programs differ in the answers of a run"
+    );
+    let copies = copies(load);
+    let units = (copies * load.ticks()) as f64;
+    let work = |program: &'static Program| {
+        let mut tables = vec![load.table.clone(); copies];
+        let mut answers = vec![0; load.list.len()];
+        move || {
+            for table in &mut tables {
+                table.copy_from_slice(&load.table);
+            }
+            nanoseconds(|| {
+                for table in &mut tables {
+                    black_box((program.run)(table, &load.list, &mut answers));
+                }
+            }) / units
+        }
+    };
+    interleaved(rounds, work(&PROVED), work(&RUST))
+}
+
+/// A tick called singly; it tests the whole table each time.
+fn single_tick(rounds: usize, load: &Load) -> Figures {
+    let mut tables = [load.table.clone(), load.table.clone()];
+    for pair in load.list.chunks_exact(2) {
+        let proved = (PROVED.tick)(&mut tables[0], pair[0], pair[1]);
+        let rust = (RUST.tick)(&mut tables[1], pair[0], pair[1]);
+        assert_eq!(proved, rust, "the programs differ in what a tick returns");
+        assert_eq!(
+            tables[0], tables[1],
+            "the programs differ in the table after a tick"
+        );
+    }
+    let work = |program: &'static Program| {
+        let mut table = load.table.clone();
+        move || {
+            table.copy_from_slice(&load.table);
+            nanoseconds(|| {
+                for pair in load.list.chunks_exact(2) {
+                    black_box((program.tick)(&mut table, pair[0], pair[1]));
+                }
+            }) / load.ticks() as f64
+        }
+    };
+    interleaved(rounds, work(&PROVED), work(&RUST))
+}
+
+/// A run of no ticks.
+fn shape_test(rounds: usize, load: &Load) -> Figures {
+    let times = copies(load);
+    let work = |program: &'static Program| {
+        let mut table = load.table.clone();
+        move || {
+            nanoseconds(|| {
+                for _ in 0..times {
+                    let made = (program.run)(black_box(&mut table), &[], &mut []);
+                    assert_eq!(made, 0, "the shape does not hold");
+                }
+            }) / times as f64
+        }
+    };
+    interleaved(rounds, work(&PROVED), work(&RUST))
+}
+
+/// A read of the whole lane.
+fn reading(rounds: usize, table: &[u32], bags: u64) -> Figures {
+    let mut outs = [vec![0; bags as usize], vec![0; bags as usize]];
+    assert_eq!((PROVED.read)(table, &mut outs[0]), bags);
+    assert_eq!((RUST.read)(table, &mut outs[1]), bags);
+    assert_eq!(outs[0], outs[1], "the programs differ in the bags read");
+    let work = |program: &'static Program| {
+        let mut out = vec![0; bags as usize];
+        move || {
+            nanoseconds(|| {
+                black_box((program.read)(black_box(table), &mut out));
+            })
+        }
+    };
+    interleaved(rounds, work(&PROVED), work(&RUST))
+}
+
+/// Copies of a load's table in one round.
+fn copies(load: &Load) -> usize {
+    (ROUND_WORDS / load.table.len()).max(1)
+}
+
+/// The times as S doubles: a tick without a take stays as it is, a take and the shape test grow with S.
+fn growth(rounds: usize) {
+    println!("Growth with S, nanoseconds: proved (Rust).");
+    println!(
+        "{:>5} {:>22} {:>22} {:>22}",
+        "S", "tick, no take", "tick that takes", "shape test"
+    );
+    for nodes in ALL_SIZES {
+        let cells = [
+            run_tick(rounds, &loads::walks(nodes)),
+            run_tick(rounds, &loads::takes(nodes)),
+            shape_test(rounds, &loads::none(nodes)),
+        ]
+        .map(|figures| format!("{:.2} ({:.2})", figures.proved, figures.rust));
+        println!(
+            "{nodes:>5} {:>22} {:>22} {:>22}",
+            cells[0], cells[1], cells[2]
+        );
+    }
+}

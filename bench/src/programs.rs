@@ -1,0 +1,40 @@
+//! The two programs under the same function types, so that both are called alike.
+
+use lane::ffi;
+
+/// The calls that are measured, answers as numbers of 64 bits.
+pub struct Program {
+    /// One tick with its test of the table's shape.
+    pub tick: fn(&mut [u32], u32, u32) -> u64,
+    /// A list of ticks.
+    pub run: fn(&mut [u32], &[u32], &mut [u32]) -> u64,
+    /// The bags of the lane.
+    pub read: fn(&[u32], &mut [u32]) -> u64,
+}
+
+/// The proved machine, from the static library.
+pub const PROVED: Program = Program {
+    tick: ffi::tick,
+    run: ffi::run,
+    read: ffi::read,
+};
+
+/// The second program in Rust.
+pub const RUST: Program = Program {
+    tick: |table, task, hint| match reference::tick(table, task, hint) {
+        Ok(answer) => pair(answer.words()[0], answer.words()[1]),
+        Err(number) => pair(7, number),
+    },
+    run: |table, list, answers| {
+        let (made, number) = reference::run(table, list, answers);
+        pair(made, number)
+    },
+    read: |table, out| match reference::read(table, out) {
+        Ok(count) => u64::from(count),
+        Err(number) => pair(1, number),
+    },
+};
+
+fn pair(high: u32, low: u32) -> u64 {
+    u64::from(high) << 32 | u64::from(low)
+}

@@ -1,0 +1,57 @@
+//! The belt run of the paper, printed as the paper prints it: `cargo run --example belt`.
+
+use lane::{Answer, Lane, Operation, Refusal, Side};
+
+fn main() {
+    let started = Lane::start(vec![0; lane::words(4, 1)], 4, 1, 0);
+    print_reply(&started);
+    let mut lane = started.expect("the sizes fit");
+    print_reply(&lane.begin(0, Operation::Push(51), Side::Right));
+    print_ticks(&mut lane, 10);
+    print_ticks(&mut lane, 1);
+    print_lane(&lane);
+    print_reply(&lane.begin(0, Operation::Pop, Side::Left));
+    print_ticks(&mut lane, 4);
+    print_reply(&lane.begin(0, Operation::Pop, Side::Right));
+    print_ticks(&mut lane, 4);
+    print_ticks(&mut lane, 1);
+}
+
+fn print_reply<T>(reply: &Result<T, Refusal>) {
+    match reply {
+        Ok(_) => println!("(ok)"),
+        Err(refusal) => println!("(refused {})", refusal.number()),
+    }
+}
+
+/// Ticks of task 0 until an answer, a refusal, or so many; prints the last outcome.
+fn print_ticks(lane: &mut Lane<Vec<u32>>, times: u32) {
+    let mut outcome = lane.tick(0, 0);
+    for _ in 1..times {
+        if outcome != Ok(Answer::Going) {
+            break;
+        }
+        outcome = lane.tick(0, 0);
+    }
+    match outcome {
+        Ok(Answer::Going) => println!("(going)"),
+        Ok(Answer::Pushed) => println!("(pushed)"),
+        Ok(Answer::Bag(bag)) => println!("(bag {bag})"),
+        Ok(Answer::Empty) => println!("(empty)"),
+        Ok(Answer::Full) => println!("(full)"),
+        Ok(Answer::Yes) => println!("(yes)"),
+        Ok(Answer::No) => println!("(no)"),
+        Err(refusal) => println!("(refused {})", refusal.number()),
+    }
+}
+
+fn print_lane(lane: &Lane<Vec<u32>>) {
+    let mut out = [0; 4];
+    match lane.read(&mut out) {
+        Ok(bags) => {
+            let bags: String = bags.iter().map(|bag| format!(" {bag}")).collect();
+            println!("(lane{bags})");
+        }
+        Err(refusal) => println!("(refused {})", refusal.number()),
+    }
+}

@@ -1,0 +1,203 @@
+//! What the machine answers: its numbers as enums, and back.
+
+use core::fmt;
+
+/// The answer of a tick that was made.
+#[derive(Clone, Copy, Debug, PartialEq, Eq, Hash)]
+pub enum Answer {
+    /// The call is not finished.
+    Going,
+    /// A push put its bag in the lane.
+    Pushed,
+    /// A pop took this bag.
+    Bag(u32),
+    /// A pop found the lane empty.
+    Empty,
+    /// A push found no free slot.
+    Full,
+    /// An add or remove did it.
+    Yes,
+    /// An add or remove did not.
+    No,
+}
+
+impl Answer {
+    /// The answer of two words as a run writes them; none for words that no run writes.
+    pub const fn from_words(words: [u32; 2]) -> Option<Answer> {
+        Some(match words {
+            [0, 0] => Answer::Going,
+            [1, 0] => Answer::Pushed,
+            [2, bag] => Answer::Bag(bag),
+            [3, 0] => Answer::Empty,
+            [4, 0] => Answer::Full,
+            [5, 0] => Answer::Yes,
+            [6, 0] => Answer::No,
+            _ => return None,
+        })
+    }
+
+    /// The two words that a run writes for it.
+    pub const fn words(self) -> [u32; 2] {
+        match self {
+            Answer::Going => [0, 0],
+            Answer::Pushed => [1, 0],
+            Answer::Bag(bag) => [2, bag],
+            Answer::Empty => [3, 0],
+            Answer::Full => [4, 0],
+            Answer::Yes => [5, 0],
+            Answer::No => [6, 0],
+        }
+    }
+}
+
+/// Why a call was refused. A refused call has changed no word.
+#[derive(Clone, Copy, Debug, PartialEq, Eq, Hash)]
+#[repr(u32)]
+pub enum Refusal {
+    /// Start: slots, tasks or growth out of range.
+    Sizes = 1,
+    /// Start: not as many words as the sizes ask for.
+    Length = 2,
+    /// The words are no table: too few, or the header does not match their number.
+    Table = 3,
+    /// The table's shape is broken.
+    Shape = 4,
+    /// No such task.
+    Task = 5,
+    /// No such operation or side. This crate's enums keep it out.
+    Operation = 6,
+    /// The argument is out of the operation's range.
+    Argument = 7,
+    /// Begin: the task is in the middle of a call.
+    Busy = 8,
+    /// The hint is not the number of a slot.
+    Hint = 9,
+    /// Tick: the task has no call.
+    Idle = 10,
+    /// A link or register that is needed is none, or the lane has no end; never on a table begun by start and written
+    /// by these calls alone.
+    NoSlot = 11,
+    /// Read: the out slice is too short for the bags.
+    Out = 12,
+    /// Run: more than 4,096 ticks.
+    List = 13,
+    /// Run: fewer places for answers than ticks.
+    Answers = 14,
+}
+
+impl Refusal {
+    const ALL: [Refusal; 14] = [
+        Refusal::Sizes,
+        Refusal::Length,
+        Refusal::Table,
+        Refusal::Shape,
+        Refusal::Task,
+        Refusal::Operation,
+        Refusal::Argument,
+        Refusal::Busy,
+        Refusal::Hint,
+        Refusal::Idle,
+        Refusal::NoSlot,
+        Refusal::Out,
+        Refusal::List,
+        Refusal::Answers,
+    ];
+
+    /// The refusal of a number; none for a number that no call gives.
+    pub const fn from_number(number: u32) -> Option<Refusal> {
+        match number {
+            1..=14 => Some(Refusal::ALL[number as usize - 1]),
+            _ => None,
+        }
+    }
+
+    /// Its number.
+    pub const fn number(self) -> u32 {
+        self as u32
+    }
+}
+
+impl fmt::Display for Refusal {
+    fn fmt(&self, formatter: &mut fmt::Formatter<'_>) -> fmt::Result {
+        let reason = match self {
+            Refusal::Sizes => "slots, tasks or growth out of range",
+            Refusal::Length => "not as many words as the sizes ask for",
+            Refusal::Table => "the words are no table",
+            Refusal::Shape => "the table's shape is broken",
+            Refusal::Task => "no such task",
+            Refusal::Operation => "no such operation or side",
+            Refusal::Argument => "argument out of range",
+            Refusal::Busy => "the task is busy",
+            Refusal::Hint => "the hint is not the number of a slot",
+            Refusal::Idle => "the task is idle",
+            Refusal::NoSlot => "a link or register that is needed is none, or the lane has no end",
+            Refusal::Out => "the out slice is too short for the bags",
+            Refusal::List => "a run takes at most 4,096 ticks",
+            Refusal::Answers => "fewer places for answers than ticks",
+        };
+        write!(formatter, "refused {}: {reason}", self.number())
+    }
+}
+
+impl core::error::Error for Refusal {}
+
+/// What a run did.
+#[derive(Clone, Copy, Debug)]
+pub struct Ran<'a> {
+    words: &'a [[u32; 2]],
+    refusal: Option<Refusal>,
+}
+
+impl<'a> Ran<'a> {
+    pub(crate) fn new(words: &'a [[u32; 2]], refusal: Option<Refusal>) -> Ran<'a> {
+        Ran { words, refusal }
+    }
+
+    /// The ticks made.
+    pub fn made(&self) -> usize {
+        self.words.len()
+    }
+
+    /// What stopped the run, if it did not come to its end.
+    pub fn refusal(&self) -> Option<Refusal> {
+        self.refusal
+    }
+
+    /// The answers of the ticks made, in order.
+    pub fn answers(&self) -> impl Iterator<Item = Answer> + 'a {
+        self.words
+            .iter()
+            .map(|&words| crate::known(Answer::from_words(words)))
+    }
+}
+
+#[cfg(test)]
+mod tests {
+    use super::*;
+
+    #[test]
+    fn every_kind_is_decoded_once_and_back() {
+        for kind in 0..=8 {
+            for value in [0, 1, 51, 999_999_999, u32::MAX] {
+                let words = [kind, value];
+                let written = kind == 2 || kind <= 6 && value == 0;
+                assert_eq!(Answer::from_words(words).is_some(), written, "{words:?}");
+                if let Some(answer) = Answer::from_words(words) {
+                    assert_eq!(answer.words(), words);
+                }
+            }
+        }
+        assert_eq!(Answer::from_words([u32::MAX, 0]), None);
+    }
+
+    #[test]
+    fn every_refusal_is_decoded_once_and_back() {
+        for number in 1..=14 {
+            let refusal = Refusal::from_number(number).expect("a refusal");
+            assert_eq!(refusal.number(), number);
+        }
+        for number in [0, 15, 16, u32::MAX] {
+            assert_eq!(Refusal::from_number(number), None);
+        }
+    }
+}

@@ -1,0 +1,55 @@
+//! What a task can be told to do, and the numbers that say so.
+
+/// An end of the lane.
+#[derive(Clone, Copy, Debug, PartialEq, Eq, Hash)]
+pub enum Side {
+    /// The left end, which a read gives first.
+    Left,
+    /// The right end.
+    Right,
+}
+
+impl Side {
+    /// The number in a task's record.
+    pub const fn number(self) -> u32 {
+        match self {
+            Side::Left => 0,
+            Side::Right => 1,
+        }
+    }
+}
+
+/// A call with its argument; begin refuses an argument out of range.
+#[derive(Clone, Copy, Debug, PartialEq, Eq, Hash)]
+pub enum Operation {
+    /// Put a bag, 1 to 999,999,999, at the end.
+    Push(u32),
+    /// Take the bag at the end.
+    Pop,
+    /// Add a spare slot at the end, and 0 to 64 more as long as there are free ones.
+    Add(u32),
+    /// Cut off the spare slots at the end but so many, 0 to 1,023. It says no where its swap failed.
+    Remove(u32),
+}
+
+impl Operation {
+    /// The number in a task's record.
+    pub const fn number(self) -> u32 {
+        match self {
+            Operation::Push(_) => 1,
+            Operation::Pop => 2,
+            Operation::Add(_) => 3,
+            Operation::Remove(_) => 4,
+        }
+    }
+
+    /// The argument in a task's record.
+    pub const fn argument(self) -> u32 {
+        match self {
+            Operation::Pop => 0,
+            Operation::Push(argument) | Operation::Add(argument) | Operation::Remove(argument) => {
+                argument
+            }
+        }
+    }
+}

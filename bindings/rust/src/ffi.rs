@@ -1,0 +1,71 @@
+//! The static library's five functions over any slices and any numbers, as it takes and gives them.
+//!
+//! For programs that keep their own words, and for tests that hand in damaged ones. All are safe to call: the library
+//! answers every table and every number, and a refusal leaves every lent word as it was. This module has the crate's
+//! only unsafe code.
+
+mod library {
+    // Nothing checks these lines against the library; `include/lane.h` has the same ones for C.
+    extern "C" {
+        pub fn lane_start(
+            table: *mut u32,
+            words: usize,
+            slots: u32,
+            tasks: u32,
+            growth: u32,
+        ) -> u32;
+        pub fn lane_begin(
+            table: *mut u32,
+            words: usize,
+            task: u32,
+            operation: u32,
+            side: u32,
+            argument: u32,
+        ) -> u32;
+        pub fn lane_tick(table: *mut u32, words: usize, task: u32, hint: u32) -> u64;
+        pub fn lane_run(
+            table: *mut u32,
+            words: usize,
+            list: *const u32,
+            list_words: usize,
+            answers: *mut u32,
+            answers_words: usize,
+        ) -> u64;
+        pub fn lane_read(table: *const u32, words: usize, out: *mut u32, out_words: usize) -> u64;
+    }
+}
+
+// Safety, for each call below: a slice is valid for its length and a mutable one is lent to nobody else; the library
+// touches no word outside the slices and keeps no pointer. It takes every length, 0 included.
+
+/// Writes an empty lane: 0, or the refusal.
+pub fn start(table: &mut [u32], slots: u32, tasks: u32, growth: u32) -> u32 {
+    let (pointer, words) = (table.as_mut_ptr(), table.len());
+    unsafe { library::lane_start(pointer, words, slots, tasks, growth) }
+}
+
+/// Gives an idle task a call: 0, or the refusal.
+pub fn begin(table: &mut [u32], task: u32, operation: u32, side: u32, argument: u32) -> u32 {
+    let (pointer, words) = (table.as_mut_ptr(), table.len());
+    unsafe { library::lane_begin(pointer, words, task, operation, side, argument) }
+}
+
+/// Makes one tick: the kind (0 to 6) times 2^32 plus the bag or 0; kind 7 for a refusal, with its number.
+pub fn tick(table: &mut [u32], task: u32, hint: u32) -> u64 {
+    let (pointer, words) = (table.as_mut_ptr(), table.len());
+    unsafe { library::lane_tick(pointer, words, task, hint) }
+}
+
+/// Makes the ticks of a list of (task, hint) pairs and writes two words for each: the ticks made times 2^32 plus the
+/// refusal that stopped the run, or 0.
+pub fn run(table: &mut [u32], list: &[u32], answers: &mut [u32]) -> u64 {
+    let (pointer, words) = (table.as_mut_ptr(), table.len());
+    let (out, out_words) = (answers.as_mut_ptr(), answers.len());
+    unsafe { library::lane_run(pointer, words, list.as_ptr(), list.len(), out, out_words) }
+}
+
+/// Writes the bags of the lane, left end first: their count, or 2^32 plus the refusal.
+pub fn read(table: &[u32], out: &mut [u32]) -> u64 {
+    let (pointer, words) = (table.as_ptr(), table.len());
+    unsafe { library::lane_read(pointer, words, out.as_mut_ptr(), out.len()) }
+}

@@ -1,0 +1,96 @@
+#!/usr/bin/env python3
+"""Draws docs/table.svg (where each word of the table stands) and docs/spur.svg (a hat on a spur)."""
+
+import pathlib
+
+HERE = pathlib.Path(__file__).parent
+INK, SOFT, PAPER = "#1f2933", "#7b8794", "#ffffff"
+FILLS = {"header": "#dceefb", "node": "#e3f9e5", "task": "#fff3c4", "spur": "#ffe3e3", "free": "#f5f7fa"}
+
+
+def text(x, y, words, size=13, anchor="middle", fill=INK, weight="normal"):
+    return (
+        f'<text x="{x}" y="{y}" font-size="{size}" text-anchor="{anchor}" fill="{fill}" '
+        f'font-weight="{weight}">{words}</text>'
+    )
+
+
+def box(x, y, w, h, fill, dash=""):
+    dashed = f' stroke-dasharray="{dash}"' if dash else ""
+    return f'<rect x="{x}" y="{y}" width="{w}" height="{h}" fill="{fill}" stroke="{INK}"{dashed}/>'
+
+
+def arrow(x1, y1, x2, y2, dash=""):
+    dashed = f' stroke-dasharray="{dash}"' if dash else ""
+    return f'<line x1="{x1}" y1="{y1}" x2="{x2}" y2="{y2}" stroke="{INK}"{dashed} marker-end="url(#head)"/>'
+
+
+def drawing(name, width, height, title, parts):
+    head = (
+        f'<svg xmlns="http://www.w3.org/2000/svg" width="{width}" height="{height}" '
+        f'viewBox="0 0 {width} {height}" font-family="sans-serif" role="img">\n<title>{title}</title>\n'
+        '<defs><marker id="head" viewBox="0 0 10 10" refX="9" refY="5" markerWidth="7" markerHeight="7" '
+        f'orient="auto-start-reverse"><path d="M 0 0 L 10 5 L 0 10 z" fill="{INK}"/></marker></defs>\n'
+        f'<rect width="{width}" height="{height}" fill="{PAPER}"/>\n'
+    )
+    (HERE / name).write_text(head + "\n".join(parts) + "\n</svg>\n")
+
+
+def row(y, place, label, words, fill, width):
+    """A strip of words with their places above and a label at the left."""
+    parts = [text(20, y + 24, label, 14, "start", weight="bold")]
+    for i, word in enumerate(words):
+        x = 190 + i * width
+        parts += [box(x, y, width, 38, fill), text(x + width / 2, y + 24, word, 12)]
+        parts.append(text(x + width / 2, y - 6, place(i), 10, fill=SOFT))
+    return parts
+
+
+def table():
+    header = ["S", "T", "growth", "left hat", "right hat", "ticks", "0", "0"]
+    node = ["L", "R", "V"]
+    task = ["operation", "step", "side", "argument", "counted", "value", "A", "B", "C", "D"]
+    parts = [text(20, 30, "A table of 8 + 3S + 10T words", 16, "start", weight="bold")]
+    parts += row(70, str, "header", header, FILLS["header"], 71)
+    parts += row(150, lambda i: f"8 + 3x + {i}", "node x, below S", node, FILLS["node"], 190)
+    parts += row(230, lambda i: f"+ {i}" if i else "8 + 3S + 10k", "task k, below T", task, FILLS["task"], 71)
+    notes = [
+        "The nodes' words, from word 8 on, are lent to a line as a mutable part: a line cannot touch the header or a record.",
+        "L, R and A to D are node numbers, or 65,535 for none. V is a bag number, a mark, or 0 for never used.",
+    ]
+    parts += [text(20, 300 + 17 * i, note, 12, "start", SOFT) for i, note in enumerate(notes)]
+    drawing("table.svg", 930, 335, "Where each word of the table stands", parts)
+
+
+def node(x, y, number, value, fill, dash=""):
+    return [
+        box(x, y, 90, 48, fill, dash),
+        text(x + 45, y + 30, value, 16, weight="bold"),
+        text(x + 45, y + 64, f"node {number}", 11, fill=SOFT),
+    ]
+
+
+def spur():
+    parts = [text(20, 30, "A hat on a spur (case 5, after task 1 has pushed 51)", 16, "start", weight="bold")]
+    for i, (number, value) in enumerate([(0, "LX"), (1, "51"), (2, "RX")]):
+        parts += node(60 + 200 * i, 100, number, value, FILLS["node"])
+    for i in range(2):
+        parts += [arrow(150 + 200 * i, 114, 258 + 200 * i, 114), text(205 + 200 * i, 108, "R", 11)]
+        parts += [arrow(260 + 200 * i, 134, 152 + 200 * i, 134), text(205 + 200 * i, 148, "L", 11)]
+    parts += node(460, 210, 4, "RY", FILLS["spur"])
+    parts += node(660, 210, 3, "RY", FILLS["free"], "4 3")
+    parts += [arrow(460, 230, 335, 152), text(385, 204, "L", 11)]
+    parts += [arrow(660, 234, 552, 234, "4 3"), text(606, 228, "L", 11)]
+    parts += [arrow(105, 62, 105, 98), text(105, 56, "left hat", 13)]
+    parts += [arrow(505, 305, 505, 282), text(505, 320, "right hat", 13)]
+    notes = [
+        "Task 1 stood at line 5 with A = node 1 and B = node 4 while task 0 removed 4, 3 and 2 and added 2 again. Its swap",
+        "moved the hat to node 4, which is no longer in the lane. Node 4 has RY and still leads back along L: lines 67",
+        "to 72 bring the hat back. Node 3 is free, since nothing leads to it; node 4 is not while the hat stands on it.",
+    ]
+    parts += [text(20, 352 + 17 * i, note, 12, "start", SOFT) for i, note in enumerate(notes)]
+    drawing("spur.svg", 800, 400, "A hat on a spur", parts)
+
+
+table()
+spur()

@@ -1,0 +1,62 @@
+/* The belt run of the paper from C, printed as the paper prints it: `make -C examples/c run`. */
+#include <inttypes.h>
+#include <stdio.h>
+
+#include "lane.h"
+
+enum { SLOTS = 4, TASKS = 1, WORDS = LANE_WORDS(SLOTS, TASKS) };
+
+static uint32_t table[WORDS];
+
+/* What start and begin return. */
+static void print_reply(uint32_t refusal) {
+    if (refusal == 0) {
+        puts("(ok)");
+    } else {
+        printf("(refused %" PRIu32 ")\n", refusal);
+    }
+}
+
+/* Ticks of task 0 until an answer, a refusal, or so many; prints the last outcome. */
+static void print_ticks(int times) {
+    static const char *const names[] = {"going", "pushed", "bag", "empty", "full", "yes", "no", "refused"};
+    uint64_t outcome;
+    do {
+        outcome = lane_tick(table, WORDS, 0, 0);
+        times--;
+    } while (LANE_HIGH(outcome) == LANE_GOING && times > 0);
+    uint32_t kind = LANE_HIGH(outcome);
+    if (kind == LANE_BAG || kind == LANE_REFUSED) {
+        printf("(%s %" PRIu32 ")\n", names[kind], LANE_LOW(outcome));
+    } else {
+        printf("(%s)\n", names[kind]);
+    }
+}
+
+static void print_lane(void) {
+    uint32_t out[SLOTS];
+    uint64_t reading = lane_read(table, WORDS, out, SLOTS);
+    if (LANE_HIGH(reading) != 0) {
+        print_reply(LANE_LOW(reading));
+        return;
+    }
+    printf("(lane");
+    for (uint32_t place = 0; place < LANE_LOW(reading); place++) {
+        printf(" %" PRIu32, out[place]);
+    }
+    puts(")");
+}
+
+int main(void) {
+    print_reply(lane_start(table, WORDS, SLOTS, TASKS, 0));
+    print_reply(lane_begin(table, WORDS, 0, LANE_PUSH, LANE_RIGHT, 51));
+    print_ticks(10);
+    print_ticks(1);
+    print_lane();
+    print_reply(lane_begin(table, WORDS, 0, LANE_POP, LANE_LEFT, 0));
+    print_ticks(4);
+    print_reply(lane_begin(table, WORDS, 0, LANE_POP, LANE_RIGHT, 0));
+    print_ticks(4);
+    print_ticks(1);
+    return 0;
+}

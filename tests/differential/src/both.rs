@@ -1,0 +1,214 @@
+//! The five calls made on both programs at once: answers, every lent word and the words around them are compared.
+
+use std::collections::VecDeque;
+use std::fmt;
+
+use lane::ffi;
+use reference::Answer;
+
+use crate::counts::Given;
+
+/// Words on each side of a lent slice that no call may touch.
+const MARGIN: usize = 4;
+const UNTOUCHED: u32 = 0xa5a5_a5a5;
+/// Calls that are shown when a comparison fails.
+const SHOWN: usize = 40;
+
+/// A call with its numbers, to be shown; of slices the lengths.
+#[derive(Debug)]
+#[allow(dead_code)]
+enum Call {
+    /// Slots, tasks, growth.
+    Start(u32, u32, u32),
+    /// Task, operation, side, argument.
+    Begin(u32, u32, u32, u32),
+    /// Task, hint.
+    Tick(u32, u32),
+    /// Words of the list, words of the answer slice.
+    Run(usize, usize),
+    /// Words of the out slice.
+    Read(usize),
+}
+
+/// Words lent to a call, with a margin on each side.
+#[derive(Clone, PartialEq, Eq)]
+struct Lent(Vec<u32>);
+
+impl Lent {
+    fn new(words: &[u32]) -> Lent {
+        let margin = [UNTOUCHED; MARGIN];
+        Lent([&margin, words, &margin].concat())
+    }
+
+    fn words(&self) -> &[u32] {
+        &self.0[MARGIN..self.0.len() - MARGIN]
+    }
+
+    fn words_mut(&mut self) -> &mut [u32] {
+        let end = self.0.len() - MARGIN;
+        &mut self.0[MARGIN..end]
+    }
+}
+
+/// One table in two copies, one for each program.
+pub struct Both {
+    proved: Lent,
+    second: Lent,
+    before: Lent,
+    calls: VecDeque<Call>,
+    /// What the calls gave.
+    pub given: Given,
+}
+
+impl Both {
+    /// Two copies of these words, whatever they are.
+    pub fn over(words: &[u32]) -> Both {
+        let lent = Lent::new(words);
+        Both {
+            proved: lent.clone(),
+            second: lent.clone(),
+            before: lent,
+            calls: VecDeque::new(),
+            given: Given::default(),
+        }
+    }
+
+    /// The table, the same in both copies.
+    pub fn table(&self) -> &[u32] {
+        self.second.words()
+    }
+
+    /// The table before the last call.
+    pub fn before(&self) -> &[u32] {
+        self.before.words()
+    }
+
+    pub fn start(&mut self, slots: u32, tasks: u32, growth: u32) -> Result<(), u32> {
+        self.note(Call::Start(slots, tasks, growth));
+        let proved = ffi::start(self.proved.words_mut(), slots, tasks, growth);
+        let second = reference::start(self.second.words_mut(), slots, tasks, growth);
+        let number = second.err().unwrap_or(0);
+        self.compare(proved, number);
+        self.done(0, number, second.is_ok());
+        second
+    }
+
+    pub fn begin(
+        &mut self,
+        task: u32,
+        operation: u32,
+        side: u32,
+        argument: u32,
+    ) -> Result<(), u32> {
+        self.note(Call::Begin(task, operation, side, argument));
+        let proved = ffi::begin(self.proved.words_mut(), task, operation, side, argument);
+        let second = reference::begin(self.second.words_mut(), task, operation, side, argument);
+        let number = second.err().unwrap_or(0);
+        self.compare(proved, number);
+        self.done(1, number, second.is_ok());
+        second
+    }
+
+    pub fn tick(&mut self, task: u32, hint: u32) -> Result<Answer, u32> {
+        self.note(Call::Tick(task, hint));
+        let proved = ffi::tick(self.proved.words_mut(), task, hint);
+        let second = reference::tick(self.second.words_mut(), task, hint);
+        let words = match second {
+            Ok(answer) => answer.words(),
+            Err(number) => [7, number],
+        };
+        self.compare(halves(proved), words);
+        self.done(2, second.err().unwrap_or(0), second.is_ok());
+        second
+    }
+
+    /// Gives the ticks made, the refusal or 0, and the answer slice, which had `content` in every word.
+    pub fn run(&mut self, list: &[u32], length: usize, content: u32) -> (u32, u32, Vec<u32>) {
+        self.note(Call::Run(list.len(), length));
+        let mut proved = Lent::new(&vec![content; length]);
+        let mut second = proved.clone();
+        let ran = ffi::run(self.proved.words_mut(), list, proved.words_mut());
+        let (made, number) = reference::run(self.second.words_mut(), list, second.words_mut());
+        self.compare(halves(ran), [made, number]);
+        assert!(proved == second, "the programs differ in a run's answers");
+        let rest = &second.words()[2 * made as usize..];
+        assert!(
+            rest.iter().all(|&word| word == content),
+            "a run wrote past its answers"
+        );
+        self.done(3, number, made > 0);
+        (made, number, second.words().to_vec())
+    }
+
+    /// Gives the bags, or the refusal; the out slice had `content` in every word.
+    pub fn read(&mut self, length: usize, content: u32) -> Result<Vec<u32>, u32> {
+        self.note(Call::Read(length));
+        let mut proved = Lent::new(&vec![content; length]);
+        let mut second = proved.clone();
+        let count = ffi::read(self.proved.words(), proved.words_mut());
+        let reading = reference::read(self.second.words(), second.words_mut());
+        let words = match reading {
+            Ok(count) => [0, count],
+            Err(number) => [1, number],
+        };
+        self.compare(halves(count), words);
+        assert!(proved == second, "the programs differ in the bags read");
+        let bags = reading.unwrap_or(0) as usize;
+        let rest = &second.words()[bags..];
+        assert!(
+            rest.iter().all(|&word| word == content),
+            "a read wrote past its bags"
+        );
+        self.done(4, reading.err().unwrap_or(0), false);
+        reading.map(|count| second.words()[..count as usize].to_vec())
+    }
+
+    fn note(&mut self, call: Call) {
+        self.before.0.copy_from_slice(&self.second.0);
+        if self.calls.len() == SHOWN {
+            self.calls.pop_front();
+        }
+        self.calls.push_back(call);
+    }
+
+    /// What the call gave, then every lent word and the margins.
+    fn compare<T: PartialEq + fmt::Debug>(&self, proved: T, second: T) {
+        assert_eq!(
+            proved, second,
+            "the programs differ in what a call gives (left: proved)"
+        );
+        if self.proved != self.second {
+            let place = self
+                .proved
+                .0
+                .iter()
+                .zip(&self.second.0)
+                .position(|(one, two)| one != two);
+            let place = place.unwrap_or(0) as isize - MARGIN as isize;
+            panic!("the programs differ in the table, first at word {place}");
+        }
+    }
+
+    /// Counts what the call gave; where it made nothing, it has changed nothing.
+    fn done(&mut self, call: usize, refusal: u32, made: bool) {
+        self.given[call][refusal as usize] += 1;
+        assert!(
+            made || self.second == self.before,
+            "a call that made nothing changed the table"
+        );
+    }
+}
+
+/// On a failed comparison: how the table came about.
+impl Drop for Both {
+    fn drop(&mut self) {
+        if std::thread::panicking() {
+            eprintln!("the last calls: {:?}", self.calls);
+            eprintln!("the table before the last one: {:?}", self.before());
+        }
+    }
+}
+
+fn halves(number: u64) -> [u32; 2] {
+    [(number >> 32) as u32, number as u32]
+}

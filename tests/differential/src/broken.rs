@@ -1,0 +1,145 @@
+//! Tables that no start reaches: well-shaped ones, damaged ones and any words, with any numbers.
+
+use reference::table::{header, is_value, node, record, Sizes};
+
+use crate::both::Both;
+use crate::common::random::Random;
+use crate::common::tables::{shaped_of, sizes};
+use crate::counts::{Counts, Origin};
+
+/// Calls on a well-shaped table, which stays well-shaped: never 3 or 4.
+pub fn shaped(random: &mut Random, counts: &mut Counts) {
+    let table = shaped_table(random);
+    let sizes = sizes(&table);
+    let mut both = Both::over(&table);
+    for _ in 0..random.below(12) {
+        let task = random.below(sizes.tasks + 1);
+        let hint = random.below(sizes.nodes + 1);
+        match random.below(8) {
+            0 => {
+                let length = random.below(sizes.nodes + 2) as usize;
+                let reading = both.read(length, 0);
+                assert!(!matches!(reading, Err(3 | 4)), "a tick broke the shape");
+            }
+            1 => run(random, &mut both),
+            2 => {
+                let _ = both.begin(task, random.below(6), random.below(3), random.word());
+            }
+            _ => {
+                let given = both.tick(task, hint);
+                if matches!(given, Ok(_) | Err(11)) {
+                    counts.tick(Origin::Anywhere, both.before(), both.table(), task, given);
+                }
+            }
+        }
+    }
+    counts.add(&both.given);
+}
+
+/// Each call on words that were a table, or never were.
+pub fn damaged(random: &mut Random, counts: &mut Counts) {
+    let words = damaged_words(random);
+    let mut both = Both::over(&words);
+    for _ in 0..random.below(6) {
+        let [one, two, three, four] = [(); 4].map(|()| random.word());
+        match random.below(8) {
+            0 => {
+                let _ = both.start(one, two, three);
+            }
+            1 => {
+                let (slots, tasks) = (words.first().copied(), words.get(1).copied());
+                let _ = both.start(slots.unwrap_or(2), tasks.unwrap_or(1), three);
+            }
+            2 | 3 => {
+                let _ = both.begin(one % 20, two % 8, three % 4, four);
+            }
+            4 => {
+                let _ = both.read(random.below(30) as usize, four);
+            }
+            5 => run(random, &mut both),
+            _ => {
+                let _ = both.tick(one % 20, two);
+            }
+        }
+    }
+    counts.add(&both.given);
+}
+
+/// A run of any numbers over slices of any length.
+fn run(random: &mut Random, both: &mut Both) {
+    let length = match random.below(40) {
+        0 => 8190 + random.below(4),
+        _ => random.below(30),
+    };
+    let list: Vec<u32> = (0..length)
+        .map(|_| {
+            if random.once_in(30) {
+                random.word()
+            } else {
+                random.below(3)
+            }
+        })
+        .collect();
+    let answers = match random.below(4) {
+        0 => random.below(length + 1),
+        _ => length,
+    };
+    let content = random.word();
+    both.run(&list, answers as usize, content);
+}
+
+fn any_sizes(random: &mut Random) -> Sizes {
+    let nodes = match random.below(300) {
+        0 => 1024,
+        1 => 2 + random.below(1023),
+        _ => 2 + random.below(11),
+    };
+    let [most, limit] = [[2, 4, 16], [1, 3, 65]].map(|bounds| random.pick(&bounds));
+    let (tasks, growth) = (1 + random.below(most), random.below(limit));
+    Sizes::new(nodes, tasks, growth).expect("sizes in range")
+}
+
+fn shaped_table(random: &mut Random) -> Vec<u32> {
+    let sizes = any_sizes(random);
+    let mut table = shaped_of(random, sizes);
+    // A lane without an end is rare by chance.
+    if random.once_in(20) {
+        for number in 0..sizes.nodes {
+            let value = &mut table[sizes.node(number) + node::VALUE];
+            if !is_value(*value) {
+                *value = 1 + random.below(3);
+            }
+        }
+    }
+    table
+}
+
+fn damaged_words(random: &mut Random) -> Vec<u32> {
+    if random.once_in(20) {
+        return (0..random.below(80)).map(|_| random.word()).collect();
+    }
+    let mut words = shaped_table(random);
+    match random.below(8) {
+        0 => words.truncate(random.below(words.len() as u32 + 1) as usize),
+        1 => words.extend((0..1 + random.below(12)).map(|_| random.word())),
+        2 => words[random.below(header::WORDS as u32) as usize] = random.word(),
+        3 => {
+            // One word of one record, where most rules of the shape are.
+            let sizes = sizes(&words);
+            let at = sizes.record(random.below(sizes.tasks));
+            words[at + random.below(record::WORDS as u32) as usize] = random.word();
+        }
+        4 => {}
+        _ => {
+            for _ in 0..1 + random.below(2) {
+                let place = random.below(words.len() as u32) as usize;
+                words[place] = match random.below(3) {
+                    0 => words[place].wrapping_add(1),
+                    1 => words[place].wrapping_sub(1),
+                    _ => random.word(),
+                };
+            }
+        }
+    }
+    words
+}

@@ -1,0 +1,167 @@
+//! How often each outcome of a tick and each refusal was seen, and which of them are missing.
+
+use reference::table::{header, record, Sizes};
+use reference::Answer;
+
+use crate::cause;
+use crate::outcomes::{Leads, Outcome, OUTCOMES};
+
+/// The calls, and what each can give by the paper; 0 stands for no refusal.
+const GIVEN: [(&str, &[usize]); 5] = [
+    ("start", &[0, 1, 2]),
+    ("begin", &[0, 3, 4, 5, 6, 7, 8]),
+    ("tick", &[0, 3, 4, 5, 9, 10, 11]),
+    ("run", &[0, 3, 4, 5, 9, 10, 11, 13, 14]),
+    ("read", &[0, 3, 4, 11, 12]),
+];
+const NAMES: [&str; 4] = ["push", "pop", "add", "remove"];
+
+/// By call and refusal.
+pub type Given = [[u64; 15]; 5];
+
+/// Where a table comes from.
+#[derive(Clone, Copy)]
+pub enum Origin {
+    /// From start and the calls.
+    Calls,
+    /// From anywhere; its shape holds.
+    Anywhere,
+}
+
+/// What was seen.
+pub struct Counts {
+    /// By origin, then by outcome, operation and side.
+    ticks: [Vec<[[u64; 2]; 4]>; 2],
+    given: Given,
+    /// Ticks at which the tick count went to 0.
+    wraps: u64,
+}
+
+impl Counts {
+    pub fn new() -> Counts {
+        let none = vec![[[0; 2]; 4]; OUTCOMES.len()];
+        Counts {
+            ticks: [none.clone(), none],
+            given: [[0; 15]; 5],
+            wraps: 0,
+        }
+    }
+
+    /// Adds what the calls on a table gave.
+    pub fn add(&mut self, given: &Given) {
+        for (sums, counts) in self.given.iter_mut().zip(given) {
+            for (sum, count) in sums.iter_mut().zip(counts) {
+                *sum += count;
+            }
+        }
+    }
+
+    /// Counts a tick of a busy task and holds it to the list of outcomes: what the table before the tick shows must
+    /// lead where the list says.
+    pub fn tick(
+        &mut self,
+        origin: Origin,
+        before: &[u32],
+        after: &[u32],
+        task: u32,
+        given: Result<Answer, u32>,
+    ) {
+        let sizes = Sizes::new(
+            before[header::NODES],
+            before[header::TASKS],
+            before[header::GROWTH],
+        );
+        let sizes = sizes.expect("a table");
+        let at = sizes.record(task);
+        let leads = match given {
+            Ok(Answer::Going) => Leads::To(after[at + record::STEP]),
+            Ok(answer) => Leads::Says(answer.words()[0]),
+            Err(_) => Leads::Refused,
+        };
+        // A search that found a node left it in D; one at 28 that found none answers.
+        let taken = after[at + record::D] != before[at + record::D] && given == Ok(Answer::Going);
+        let place = cause::outcome(before, sizes, task, taken);
+        let outcome = &OUTCOMES[place];
+        assert_eq!(
+            leads, outcome.leads,
+            "step {}, {}",
+            outcome.step, outcome.cause
+        );
+        let operation = before[at + record::OPERATION] as usize - 1;
+        let side = before[at + record::SIDE] as usize;
+        self.ticks[origin as usize][place][operation][side] += 1;
+        self.wraps += u64::from(after[header::TICKS] < before[header::TICKS]);
+    }
+
+    /// Prints all counts; gives what was to be seen and was not, or seen and was not to be.
+    pub fn report(&self) -> Vec<String> {
+        let mut faults = Vec::new();
+        println!(
+            "{:48} {:>23} {:>23}",
+            "", "from start, by calls", "any well-shaped table"
+        );
+        println!(
+            "{:5}{:7} {:28}{:>7} {:>11} {:>11} {:>11} {:>11}",
+            "step", "", "found", "leads", "left", "right", "left", "right"
+        );
+        for (place, outcome) in OUTCOMES.iter().enumerate() {
+            for &operation in outcome.operations {
+                let operation = operation as usize - 1;
+                let counts = [0, 1].map(|origin| self.ticks[origin][place][operation]);
+                report_outcome(outcome, NAMES[operation], counts, &mut faults);
+            }
+        }
+        self.report_given(&mut faults);
+        faults
+    }
+
+    fn report_given(&self, faults: &mut Vec<String>) {
+        println!();
+        println!("tick count gone round to 0: {}", self.wraps);
+        if self.wraps == 0 {
+            faults.push("the tick count never went round".to_string());
+        }
+        for ((name, wanted), counts) in GIVEN.iter().zip(&self.given) {
+            let seen: Vec<String> = (0..counts.len())
+                .filter(|&number| counts[number] > 0)
+                .map(|number| format!("{number}: {}", counts[number]))
+                .collect();
+            println!("{name:6} gave {}", seen.join(", "));
+            for (number, count) in counts.iter().enumerate() {
+                if (*count > 0) != wanted.contains(&number) {
+                    faults.push(format!("{name} gave {number} {count} times"));
+                }
+            }
+        }
+    }
+}
+
+/// Prints how often an outcome was seen, by origin and side.
+fn report_outcome(
+    outcome: &Outcome,
+    operation: &str,
+    [calls, anywhere]: [[u64; 2]; 2],
+    faults: &mut Vec<String>,
+) {
+    let leads = match outcome.leads {
+        Leads::To(step) => format!("{step}"),
+        Leads::Says(kind) => format!("says {kind}"),
+        Leads::Refused => "refused".to_string(),
+    };
+    let (step, cause) = (outcome.step, outcome.cause);
+    let line = format!("{step:<5}{operation:7} {cause:28}{leads:>7}");
+    let [left, right] = calls;
+    let [any_left, any_right] = anywhere;
+    println!("{line} {left:>11} {right:>11} {any_left:>11} {any_right:>11}");
+    if outcome.reachable && calls.contains(&0) {
+        faults.push(format!("never seen on a table from start: {line}"));
+    }
+    if !outcome.reachable && calls != [0, 0] {
+        faults.push(format!(
+            "seen on a table from start, listed as unreachable: {line}"
+        ));
+    }
+    if anywhere.contains(&0) {
+        faults.push(format!("never seen on a well-shaped table: {line}"));
+    }
+}

@@ -1,0 +1,103 @@
+//! The proved library against the second program in Rust, call by call and word by word.
+//!
+//! `differential [--seed N] [--seconds N]`: rounds with the seeds N, N + 1 and so on, for so many seconds or a fixed
+//! number of rounds. A round is made from its seed alone: `--seconds 0` with the seed printed last repeats a failure.
+//! It ends with status 1 if an outcome that can come was never seen; a few seconds are too short to see all.
+
+#![forbid(unsafe_code)]
+
+mod both;
+mod broken;
+mod cause;
+mod counts;
+mod outcomes;
+mod play;
+
+#[path = "../../reference/tests/common/mod.rs"]
+mod common;
+
+use std::process::ExitCode;
+use std::time::{Duration, Instant};
+
+use common::random::Random;
+use counts::Counts;
+use reference::table::Sizes;
+
+const ROUNDS: u64 = 24;
+
+struct Options {
+    seed: u64,
+    seconds: Option<u64>,
+}
+
+fn main() -> ExitCode {
+    let Some(Options { seed, seconds }) = options() else {
+        eprintln!("usage: differential [--seed N] [--seconds N]");
+        return ExitCode::from(2);
+    };
+    let begun = Instant::now();
+    let mut counts = Counts::new();
+    let mut rounds = 0;
+    loop {
+        round(&mut Random::new(seed.wrapping_add(rounds)), &mut counts);
+        rounds += 1;
+        let enough = match seconds {
+            Some(seconds) => begun.elapsed() >= Duration::from_secs(seconds),
+            None => rounds >= ROUNDS,
+        };
+        if enough {
+            break;
+        }
+    }
+    let faults = counts.report();
+    for fault in &faults {
+        println!("NOT AS LISTED: {fault}");
+    }
+    let time = begun.elapsed().as_secs();
+    println!(
+        "{rounds} rounds from seed {seed}, {time} s: no difference; {} outcomes not as listed",
+        faults.len()
+    );
+    ExitCode::from(u8::from(!faults.is_empty()))
+}
+
+fn options() -> Option<Options> {
+    let mut options = Options {
+        seed: 1,
+        seconds: None,
+    };
+    let mut words = std::env::args().skip(1);
+    while let Some(word) = words.next() {
+        let number = words.next()?.parse().ok()?;
+        match word.as_str() {
+            "--seed" => options.seed = number,
+            "--seconds" => options.seconds = Some(number),
+            _ => return None,
+        }
+    }
+    Some(options)
+}
+
+/// Small tables of every size with few and many tasks, a large one, and tables from anywhere.
+fn round(random: &mut Random, counts: &mut Counts) {
+    for nodes in 2..=12 {
+        let many = 9 + random.below(8);
+        for tasks in [1, 2, 3, 3, 4, 4, 5, 6, 8, many] {
+            let any = random.below(65);
+            let growth = random.pick(&[0, 0, 0, 1, 2, 3, any]);
+            play(random, counts, (nodes, tasks, growth), 600);
+        }
+    }
+    let (tasks, growth) = (1 + random.below(16), random.below(65));
+    play(random, counts, (1024, tasks, growth), 300);
+    for _ in 0..40_000 {
+        broken::shaped(random, counts);
+        broken::damaged(random, counts);
+    }
+}
+
+fn play(random: &mut Random, counts: &mut Counts, sizes: (u32, u32, u32), calls: u32) {
+    let (nodes, tasks, growth) = sizes;
+    let sizes = Sizes::new(nodes, tasks, growth).expect("sizes in range");
+    play::play(random, counts, sizes, calls);
+}

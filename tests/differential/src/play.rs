@@ -1,0 +1,308 @@
+//! Lists of calls on tables that start begins and the calls alone write, explained by the plain row.
+
+mod adversary;
+
+use reference::table::{header, record, Sizes, ADD, POP, PUSH, REMOVE};
+
+use crate::both::Both;
+use crate::common::random::Random;
+use crate::common::row::{Note, Row};
+use crate::counts::{Counts, Origin};
+
+/// Which operations prevail for a while.
+const MIXES: [&[u32]; 6] = [
+    &[PUSH, POP, ADD, REMOVE],
+    &[PUSH, ADD, REMOVE, REMOVE],
+    &[PUSH, PUSH, POP],
+    &[PUSH, POP, POP, REMOVE],
+    &[ADD, REMOVE],
+    &[PUSH, POP, REMOVE, REMOVE],
+];
+
+/// A table, the row beside it, and what prevails in the calls.
+pub struct Play<'a> {
+    random: &'a mut Random,
+    counts: &'a mut Counts,
+    both: Both,
+    row: Row,
+    sizes: Sizes,
+    next_bag: u32,
+    mix: &'static [u32],
+    /// The side that prevails.
+    side: u32,
+    /// The task that gets most ticks, so that others stall.
+    favourite: u32,
+}
+
+/// Plays so many calls on a table of these sizes.
+pub fn play(random: &mut Random, counts: &mut Counts, sizes: Sizes, calls: u32) {
+    let mut play = Play {
+        both: Both::over(&vec![random.word(); sizes.words()]),
+        row: Row::new(sizes.tasks),
+        mix: MIXES[0],
+        side: 0,
+        favourite: 0,
+        next_bag: 0,
+        random,
+        counts,
+        sizes,
+    };
+    play.start(sizes.nodes, sizes.tasks, sizes.growth);
+    for _ in 0..calls {
+        play.call();
+    }
+    play.drain();
+    play.counts.add(&play.both.given);
+}
+
+impl Play<'_> {
+    fn call(&mut self) {
+        match self.random.below(100) {
+            0..=54 => {
+                let (task, hint) = self.pair();
+                if matches!(self.row.notes.get(task as usize), Some(None)) {
+                    self.begin_some(task);
+                }
+                self.tick(task, hint);
+            }
+            55..=64 => {
+                let task = self.random.below(self.sizes.tasks);
+                self.begin_some(task);
+            }
+            65..=74 => self.run(),
+            75..=77 => self.read(),
+            78..=80 => self.any_numbers(),
+            81 | 82 => self.spur(),
+            83 => self.splice(),
+            84 => self.cut(),
+            85 => self.roll(),
+            86..=87 => {
+                self.mix = self.random.pick(&MIXES);
+                self.side = self.random.below(2);
+            }
+            88 if self.random.once_in(20) => self.start_again(),
+            _ => self.favourite = self.random.below(self.sizes.tasks),
+        }
+    }
+
+    /// Reading gives the row, and never 3, 4 or 11.
+    fn check(&mut self) {
+        let length = self.row.values.len() + self.random.below(2) as usize;
+        let bags = self.both.read(length, 0).expect("the lane is read");
+        assert!(
+            self.row.values.iter().eq(&bags),
+            "lane {bags:?}, row {:?}",
+            self.row.values
+        );
+    }
+
+    fn read(&mut self) {
+        let length = self.random.below(self.sizes.nodes + 2) as usize;
+        let content = self.random.word();
+        let short = length < self.row.values.len();
+        match self.both.read(length, content) {
+            Ok(bags) => assert!(!short && self.row.values.iter().eq(&bags), "lane {bags:?}"),
+            Err(number) => assert!(short && number == 12, "a read was refused with {number}"),
+        }
+    }
+
+    fn start(&mut self, slots: u32, tasks: u32, growth: u32) {
+        if self.both.start(slots, tasks, growth).is_ok() {
+            self.sizes = Sizes::new(slots, tasks, growth).expect("accepted sizes are in range");
+            self.row = Row::new(tasks);
+            self.favourite = 0;
+        }
+        self.check();
+    }
+
+    /// On the same words: the same sizes, or 10 slots for 3 tasks.
+    fn start_again(&mut self) {
+        let Sizes { nodes, tasks, .. } = self.sizes;
+        let growth = self.random.below(65);
+        let (slots, tasks) = match self.random.below(3) {
+            0 if tasks > 3 => (nodes + 10, tasks - 3),
+            1 if nodes > 11 => (nodes - 10, tasks + 3),
+            _ => (nodes, tasks),
+        };
+        self.start(slots, tasks, growth);
+    }
+
+    fn begin(&mut self, task: u32, operation: u32, side: u32, argument: u32) {
+        let note = self.row.notes.get(task as usize).copied();
+        match self.both.begin(task, operation, side, argument) {
+            Ok(()) => {
+                assert!(matches!(note, Some(None)), "begun on a busy task");
+                self.row.notes[task as usize] = Some(Note {
+                    operation,
+                    side,
+                    argument,
+                });
+            }
+            Err(8) => assert!(matches!(note, Some(Some(_))), "an idle task is busy"),
+            Err(number) => assert!(matches!(number, 5..=7), "begin was refused with {number}"),
+        }
+        self.check();
+    }
+
+    fn begin_some(&mut self, task: u32) {
+        let operation = self.random.pick(self.mix);
+        let side = if self.random.once_in(4) {
+            1 - self.side
+        } else {
+            self.side
+        };
+        self.begin_with(task, operation, side);
+    }
+
+    fn begin_with(&mut self, task: u32, operation: u32, side: u32) {
+        let argument = match operation {
+            PUSH => self.bag(),
+            POP => 0,
+            ADD if self.random.once_in(20) => self.random.below(65),
+            REMOVE if self.random.once_in(20) => self.random.below(1024),
+            _ => self.random.pick(&[0, 0, 0, 1, 1, 2, 3]),
+        };
+        self.begin(task, operation, side, argument);
+    }
+
+    /// Mostly new bags, but also the same number again.
+    fn bag(&mut self) -> u32 {
+        match self.random.below(4) {
+            0 => self.random.pick(&[1, 2, 999_999_999]),
+            _ => {
+                self.next_bag += 1;
+                self.next_bag
+            }
+        }
+    }
+
+    fn pair(&mut self) -> (u32, u32) {
+        let any = self.random.once_in(60);
+        let task = match self.random.below(4) {
+            0 if any => self.random.word(),
+            0 => self.random.below(self.sizes.tasks),
+            _ => self.favourite,
+        };
+        let hint = if any {
+            self.random.word()
+        } else {
+            self.random.below(self.sizes.nodes)
+        };
+        (task, hint)
+    }
+
+    fn tick(&mut self, task: u32, hint: u32) {
+        let given = self.both.tick(task, hint);
+        match given {
+            Ok(answer) => {
+                let (before, after) = (self.both.before(), self.both.table());
+                self.counts.tick(Origin::Calls, before, after, task, given);
+                self.row.tick(task, answer.words());
+            }
+            Err(number) => self.refused(task, hint, number),
+        }
+        self.check();
+    }
+
+    /// 5, 9 and 10 in this order, by the row's notes; never 11.
+    fn refused(&self, task: u32, hint: u32, number: u32) {
+        let wanted = match self.row.notes.get(task as usize) {
+            None => 5,
+            _ if hint >= self.sizes.nodes => 9,
+            Some(None) => 10,
+            Some(Some(_)) => 0,
+        };
+        assert_eq!(number, wanted, "a tick was refused");
+    }
+
+    fn tick_some(&mut self, task: u32, ticks: u32) {
+        for _ in 0..ticks {
+            if self.row.notes[task as usize].is_some() {
+                let hint = self.random.below(self.sizes.nodes);
+                self.tick(task, hint);
+            }
+        }
+    }
+
+    /// A task alone comes to its answer; 8S + 400 ticks are more than enough.
+    fn finish(&mut self, task: u32) {
+        self.tick_some(task, 8 * self.sizes.nodes + 400);
+        assert!(
+            self.row.notes[task as usize].is_none(),
+            "task {task} alone has no answer"
+        );
+    }
+
+    /// A run, and its ticks one by one on a copy.
+    fn run(&mut self) {
+        let count = match self.random.below(200) {
+            0 => 4095 + self.random.below(3),
+            _ => self.random.below(40),
+        };
+        let mut list: Vec<u32> = (0..count)
+            .flat_map(|_| <[u32; 2]>::from(self.pair()))
+            .collect();
+        if self.random.once_in(50) {
+            list.push(0);
+        }
+        let length = (list.len() + self.random.below(3) as usize)
+            .saturating_sub(self.random.below(2) as usize);
+        let content = self.random.word();
+        let (made, number, answers) = self.both.run(&list, length, content);
+        self.replay(&list, made as usize, number, &answers);
+        self.check();
+    }
+
+    fn replay(&mut self, list: &[u32], made: usize, number: u32, answers: &[u32]) {
+        let mut before = self.both.before().to_vec();
+        let mut after = before.clone();
+        for (pair, words) in list.chunks(2).zip(answers.chunks(2)).take(made) {
+            let given = reference::tick(&mut after, pair[0], pair[1]);
+            let answer = given.expect("the run made this tick");
+            assert_eq!(answer.words(), words, "the run's answer");
+            self.counts
+                .tick(Origin::Calls, &before, &after, pair[0], given);
+            self.row.tick(pair[0], answer.words());
+            self.row.check(&after);
+            before.copy_from_slice(&after);
+        }
+        assert!(
+            after == self.both.table(),
+            "the run's table is not that of its ticks"
+        );
+        match (number, list.get(2 * made..)) {
+            (0, rest) => assert_eq!(rest, Some(&[][..]), "the run stopped early"),
+            (13, _) => assert!(list.len() % 2 == 1 || list.len() > 8192),
+            (14, _) => assert!(answers.len() < list.len()),
+            (_, Some(&[task, hint, ..])) => self.refused(task, hint, number),
+            (_, rest) => panic!("refused {number} at {rest:?}"),
+        }
+    }
+
+    fn any_numbers(&mut self) {
+        let [one, two, three, four] = [(); 4].map(|()| self.random.word());
+        match self.random.below(4) {
+            0 => self.start(one, two, three),
+            1 => self.begin(one, two % 8, three % 4, four),
+            2 => self.begin(one % 20, two % 8, three % 4, four),
+            _ => self.tick(one, two),
+        }
+    }
+
+    /// Every task comes to its answer, and every bag is taken.
+    fn drain(&mut self) {
+        for task in 0..self.sizes.tasks {
+            self.finish(task);
+        }
+        while !self.row.values.is_empty() {
+            let length = self.row.values.len();
+            let side = self.random.below(2);
+            self.begin(0, POP, side, 0);
+            self.finish(0);
+            assert_eq!(self.row.values.len() + 1, length, "a pop took no bag");
+        }
+        let at = self.sizes.record(0);
+        assert_eq!(self.both.table()[at..at + record::WORDS], record::FRESH);
+        assert_eq!(self.both.table()[header::ZEROS..header::WORDS], [0, 0]);
+    }
+}

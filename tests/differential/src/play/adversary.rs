@@ -1,0 +1,182 @@
+//! Schedules that chance seldom makes: hats on spurs, removes inside spurs, and the lane moved on under stalled tasks.
+
+use reference::table::{record, ADD, NONE, POP, PUSH, REMOVE};
+
+use super::Play;
+
+impl Play<'_> {
+    /// A push stalls before its swap while the spare slots behind its back are removed and others added: the hat then
+    /// goes to a spur. The remove and a task with a chain of its own may stall too, and work on the spur later.
+    pub(super) fn spur(&mut self) {
+        let Some((side, [pusher, remover, adder, builder])) = self.cast() else {
+            return;
+        };
+        if builder != pusher {
+            self.build(builder, adder, side);
+        }
+        let spare = 1 + self.first_of(4);
+        self.operate(adder, ADD, side, spare);
+        self.finish(pusher);
+        self.begin_with(pusher, PUSH, side);
+        self.tick_some(pusher, 2);
+        self.finish(remover);
+        let keep = self.first_of(2);
+        self.begin(remover, REMOVE, side, keep);
+        let ticks = self.random.pick(&[3, 4, 5, 6, 7, 8, 10, 12, 15, 20, 100]);
+        self.tick_some(remover, ticks);
+        self.operate(adder, ADD, side, keep);
+        self.tick_some(pusher, 1);
+        if self.random.once_in(3) {
+            // The way back to the lane is cut off as the builder takes it.
+            self.until(builder, 70);
+            self.operate(adder, POP, side, 0);
+            self.operate(adder, ADD, side, 1);
+            self.operate(adder, REMOVE, side, 0);
+        }
+        self.on_the_spur([pusher, remover, adder, builder], side);
+    }
+
+    /// A push or add comes to hold a chain, and stalls.
+    fn build(&mut self, builder: u32, other: u32, side: u32) {
+        if self.random.once_in(2) {
+            self.operate(other, REMOVE, side, 0);
+        }
+        self.finish(builder);
+        let operation = self.random.pick(&[PUSH, PUSH, ADD]);
+        for _ in 0..4 {
+            self.begin_with(builder, operation, side);
+            let at = self.sizes.record(builder) + record::D;
+            for _ in 0..12 {
+                if self.both.table()[at] == NONE {
+                    self.tick_some(builder, 1);
+                }
+            }
+            if self.both.table()[at] != NONE {
+                return;
+            }
+            self.finish(builder);
+        }
+    }
+
+    /// A splice stalls at its swap while the slots that it goes by are cut off and broken up, or cut at its own slot.
+    pub(super) fn splice(&mut self) {
+        let Some((side, [builder, remover, other, last])) = self.cast() else {
+            return;
+        };
+        self.build(builder, other, side);
+        let spare = 1 + self.first_of(3);
+        self.operate(other, ADD, side, spare);
+        self.finish(remover);
+        let keep = self.first_of(2);
+        self.begin(remover, REMOVE, side, keep);
+        if self.random.once_in(2) {
+            self.until(remover, 64);
+        }
+        self.until(builder, 25);
+        let stop = self.random.pick(&[74, 77, 78, 79, 82]);
+        self.until(remover, stop);
+        self.tick_some(builder, 1);
+        self.tick_some(remover, 3);
+        self.on_the_spur([builder, remover, other, last], side);
+    }
+
+    /// A remove cuts inside the slots that another remove has cut off.
+    pub(super) fn cut(&mut self) {
+        let Some((side, [inner, outer, other, last])) = self.cast() else {
+            return;
+        };
+        self.operate(other, ADD, side, 4);
+        for task in [inner, outer] {
+            self.finish(task);
+        }
+        let keep = 1 + self.first_of(3);
+        self.begin(inner, REMOVE, side, keep);
+        self.until(inner, 62);
+        self.begin(outer, REMOVE, side, 0);
+        let stop = self.random.pick(&[64, 74, 77, 78]);
+        self.until(outer, stop);
+        self.tick_some(inner, 1);
+        self.until(outer, 81);
+        self.on_the_spur([inner, outer, other, last], side);
+    }
+
+    /// A side and four tasks, the first three different; none if there are not so many.
+    fn cast(&mut self) -> Option<(u32, [u32; 4])> {
+        let tasks = self.sizes.tasks;
+        let (side, first) = (self.random.below(2), self.random.below(tasks));
+        (tasks > 2).then(|| (side, [0, 1, 2, 3].map(|number| (first + number) % tasks)))
+    }
+
+    /// A busy task comes to a step, or to its answer.
+    fn until(&mut self, task: u32, step: u32) {
+        let at = self.sizes.record(task) + record::STEP;
+        for _ in 0..60 {
+            if self.both.table()[at] != step {
+                self.tick_some(task, 1);
+            }
+        }
+    }
+
+    /// The tasks go on, stop anywhere, and go on again while the end of the lane is moved, cut and made longer.
+    fn on_the_spur(&mut self, tasks: [u32; 4], side: u32) {
+        for _ in 0..self.first_of(12) {
+            let task = self.random.pick(&tasks);
+            if self.row.notes[task as usize].is_none() {
+                let operation = self.random.pick(&[PUSH, POP, POP, ADD, REMOVE, REMOVE]);
+                self.begin_with(task, operation, side);
+            }
+            let ticks = self.random.pick(&[1, 2, 3, 4, 5, 7, 60]);
+            self.tick_some(task, ticks);
+        }
+        self.side = side;
+        self.favourite = self.random.pick(&tasks);
+    }
+
+    /// Bags go in at one end and out at the other, with slots removed behind them and added in front: the slots that a
+    /// stalled task means come to stand in the lane, past its other end and outside.
+    pub(super) fn roll(&mut self) {
+        let Some((side, [worker, builder, ..])) = self.cast() else {
+            return;
+        };
+        self.build(builder, worker, side);
+        self.operate(worker, ADD, side, 1);
+        self.until(builder, 17);
+        for _ in 0..1 + self.first_of(8) {
+            match self.random.below(8) {
+                0 => self.operate(worker, REMOVE, side, 0),
+                1 => self.operate(worker, ADD, side, 1),
+                2..=3 => {
+                    let keep = self.first_of(2);
+                    self.operate(worker, REMOVE, 1 - side, keep);
+                }
+                _ => {
+                    let bag = self.bag();
+                    self.operate(worker, PUSH, side, bag);
+                    let keep = self.first_of(2) as usize;
+                    while self.row.values.len() > keep {
+                        self.operate(worker, POP, 1 - side, 0);
+                    }
+                }
+            }
+            // Another task may go on a little and stall again.
+            let task = self.random.below(self.sizes.tasks);
+            if task != worker {
+                let ticks = self.first_of(3);
+                self.tick_some(task, ticks);
+            }
+        }
+    }
+
+    /// A number below a bound, small ones more often.
+    fn first_of(&mut self, bound: u32) -> u32 {
+        let limit = 1 + self.random.below(bound);
+        self.random.below(limit)
+    }
+
+    /// A call of a task that has finished what it was at, to its answer.
+    fn operate(&mut self, task: u32, operation: u32, side: u32, argument: u32) {
+        self.finish(task);
+        self.begin(task, operation, side, argument);
+        self.finish(task);
+    }
+}

@@ -1,0 +1,71 @@
+//! The plain row of the paper, fed with arguments and answers alone.
+
+use std::collections::VecDeque;
+
+use reference::read;
+use reference::table::{Sizes, ADD, POP, PUSH, REMOVE};
+
+const LEFT: u32 = 0;
+
+/// The call that a task is in the middle of.
+#[derive(Clone, Copy)]
+pub struct Note {
+    pub operation: u32,
+    pub side: u32,
+    pub argument: u32,
+}
+
+/// The row of the paper: it never looks at the table.
+pub struct Row {
+    pub values: VecDeque<u32>,
+    pub notes: Vec<Option<Note>>,
+}
+
+impl Row {
+    pub fn new(tasks: u32) -> Row {
+        Row {
+            values: VecDeque::new(),
+            notes: vec![None; tasks as usize],
+        }
+    }
+
+    /// Explains the answer of a tick by the note of its task.
+    pub fn tick(&mut self, task: u32, words: [u32; 2]) {
+        let note = self.notes[task as usize].expect("a tick was made without a note");
+        let [kind, value] = words;
+        assert!(kind == 2 || value == 0, "second word of answer {kind}");
+        let side = note.side;
+        match (kind, note.operation) {
+            (0, _) => return,
+            (1, PUSH) if side == LEFT => self.values.push_front(note.argument),
+            (1, PUSH) => self.values.push_back(note.argument),
+            (2, POP) if side == LEFT => assert_eq!(self.values.pop_front(), Some(value)),
+            (2, POP) => assert_eq!(self.values.pop_back(), Some(value)),
+            (3, POP) => assert!(self.values.is_empty(), "empty, with {:?}", self.values),
+            (4, PUSH) => {}
+            (5 | 6, ADD | REMOVE) => {}
+            (_, operation) => panic!("answer {kind} to operation {operation}"),
+        }
+        self.notes[task as usize] = None;
+    }
+
+    pub fn check(&self, table: &[u32]) {
+        let mut out = [0; Sizes::MAX_NODES];
+        let count = read(table, &mut out);
+        assert_eq!(count, Ok(self.values.len() as u32));
+        assert!(self.values.iter().eq(&out[..self.values.len()]));
+    }
+
+    pub fn check_short(&self, table: &[u32], length: usize) {
+        let mut out = vec![3; length];
+        let count = self.values.len();
+        if length < count {
+            assert_eq!(read(table, &mut out), Err(12));
+            assert!(out.iter().all(|&word| word == 3));
+        } else {
+            assert_eq!(read(table, &mut out), Ok(count as u32));
+            assert!(self.values.iter().eq(&out[..count]));
+            assert!(out[count..].iter().all(|&word| word == 3));
+        }
+    }
+}
