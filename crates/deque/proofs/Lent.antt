@@ -9,43 +9,8 @@ use borrow.Rule.Slice.PartMut.{midOf}
 use Rattle.machine.specs.Choice.{_<?_, if_then_else_}
 use Rattle.machine.specs.Sides.{Side, left, right, opposite, sideNumber}
 use Rattle.machine.specs.Values.{Value, decode}
-use Rattle.machine.specs.Steps.{
-  Step,
-  rest,
-  line2,
-  line3,
-  line5,
-  line8,
-  line15,
-  line17,
-  line18,
-  line24,
-  line25,
-  line28,
-  line31,
-  line39,
-  line40,
-  line42,
-  line48,
-  line51,
-  line54,
-  line56,
-  line58,
-  line60,
-  line62,
-  line64,
-  line67,
-  line68,
-  line69,
-  line70,
-  line72,
-  line74,
-  line77,
-  line78,
-  line79,
-  line81,
-  line82,
-}
+use Rattle.machine.specs.Steps.{Step, rest}
+use Rattle.machine.specs.Steps as Steps
 use Rattle.machine.specs.Tasks.{Task, none}
 use Rattle.machine.specs.Table.{tableLength, nodeCount, taskCount, linkWord, valueWord, hat, link, value}
 use Rattle.machine.specs.Lines.{Memory, seen, act}
@@ -123,36 +88,36 @@ module _ (s o : Side) (out inn : ℕ → ℕ) (val : ℕ → Value) (h x y : ℕ
       ≡ act st s o (record { out = out; inn = inn; val = val; hat = h; far = y }) t g f
   unfolding act
   far-unseen rest = refl
-  far-unseen line2 = refl
-  far-unseen line3 = refl
-  far-unseen line5 = refl
-  far-unseen line8 = refl
-  far-unseen line15 = refl
-  far-unseen line17 = refl
-  far-unseen line18 = refl
-  far-unseen line24 = refl
-  far-unseen line25 = refl
-  far-unseen line28 = refl
-  far-unseen line31 = refl
-  far-unseen line39 = refl
-  far-unseen line40 = refl
-  far-unseen line42 = refl
-  far-unseen line48 = refl
-  far-unseen line51 = refl
-  far-unseen line54 = refl
-  far-unseen line56 = refl
-  far-unseen line58 = refl
-  far-unseen line60 = refl
-  far-unseen line62 = refl
-  far-unseen line64 = refl
-  far-unseen line67 = refl
-  far-unseen line68 = refl
-  far-unseen line69 = refl
-  far-unseen line70 = refl
-  far-unseen line72 = refl
-  far-unseen line74 = refl
-  far-unseen line77 = refl
-  far-unseen line78 = refl
-  far-unseen line79 = refl
-  far-unseen line81 = refl
-  far-unseen line82 = refl
+  far-unseen Steps.line2 = refl
+  far-unseen Steps.line3 = refl
+  far-unseen Steps.line5 = refl
+  far-unseen Steps.line8 = refl
+  far-unseen Steps.line15 = refl
+  far-unseen Steps.line17 = refl
+  far-unseen Steps.line18 = refl
+  far-unseen Steps.line24 = refl
+  far-unseen Steps.line25 = refl
+  far-unseen Steps.line28 = refl
+  far-unseen Steps.line31 = refl
+  far-unseen Steps.line39 = refl
+  far-unseen Steps.line40 = refl
+  far-unseen Steps.line42 = refl
+  far-unseen Steps.line48 = refl
+  far-unseen Steps.line51 = refl
+  far-unseen Steps.line54 = refl
+  far-unseen Steps.line56 = refl
+  far-unseen Steps.line58 = refl
+  far-unseen Steps.line60 = refl
+  far-unseen Steps.line62 = refl
+  far-unseen Steps.line64 = refl
+  far-unseen Steps.line67 = refl
+  far-unseen Steps.line68 = refl
+  far-unseen Steps.line69 = refl
+  far-unseen Steps.line70 = refl
+  far-unseen Steps.line72 = refl
+  far-unseen Steps.line74 = refl
+  far-unseen Steps.line77 = refl
+  far-unseen Steps.line78 = refl
+  far-unseen Steps.line79 = refl
+  far-unseen Steps.line81 = refl
+  far-unseen Steps.line82 = refl

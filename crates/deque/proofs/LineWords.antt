@@ -3,44 +3,8 @@ use mathlib.Core.Path.{_≡_, refl, _∙_}
 use mathlib.Core.Logic.{_≢_, _⊎_, inl, inr}
 use Prim.Native.Nat.{ℕ, _<_}
 use Rattle.machine.specs.Sides.{Side}
-use Rattle.machine.specs.Steps.{
-  Step,
-  rest,
-  line2,
-  line3,
-  line5,
-  line8,
-  line15,
-  line17,
-  line18,
-  line24,
-  line25,
-  line28,
-  line31,
-  line39,
-  line40,
-  line42,
-  line48,
-  line51,
-  line54,
-  line56,
-  line58,
-  line60,
-  line62,
-  line64,
-  line67,
-  line68,
-  line69,
-  line70,
-  line72,
-  line74,
-  line77,
-  line78,
-  line79,
-  line81,
-  line82,
-  stepNumber,
-}
+use Rattle.machine.specs.Steps.{Step, rest, stepNumber}
+use Rattle.machine.specs.Steps as Steps
 use Rattle.machine.specs.Choice.{_≟_, if_then_else_}
 use Rattle.machine.specs.Tasks.{Task, none}
 use Rattle.machine.specs.Lines.{Memory, act}
@@ -52,39 +16,39 @@ module _ (s o : Side) (m : Memory) (t : Task) (g f f′ : ℕ) where
   found-unseen : (st : Step) → stepNumber st ≢ 28 → stepNumber st ≢ 31 → act st s o m t g f ≡ act st s o m t g f′
   unfolding act
   found-unseen rest a b = refl
-  found-unseen line2 a b = refl
-  found-unseen line3 a b = refl
-  found-unseen line5 a b = refl
-  found-unseen line8 a b = refl
-  found-unseen line15 a b = refl
-  found-unseen line17 a b = refl
-  found-unseen line18 a b = refl
-  found-unseen line24 a b = refl
-  found-unseen line25 a b = refl
-  found-unseen line28 a b = absurd (a refl)
-  found-unseen line31 a b = absurd (b refl)
-  found-unseen line39 a b = refl
-  found-unseen line40 a b = refl
-  found-unseen line42 a b = refl
-  found-unseen line48 a b = refl
-  found-unseen line51 a b = refl
-  found-unseen line54 a b = refl
-  found-unseen line56 a b = refl
-  found-unseen line58 a b = refl
-  found-unseen line60 a b = refl
-  found-unseen line62 a b = refl
-  found-unseen line64 a b = refl
-  found-unseen line67 a b = refl
-  found-unseen line68 a b = refl
-  found-unseen line69 a b = refl
-  found-unseen line70 a b = refl
-  found-unseen line72 a b = refl
-  found-unseen line74 a b = refl
-  found-unseen line77 a b = refl
-  found-unseen line78 a b = refl
-  found-unseen line79 a b = refl
-  found-unseen line81 a b = refl
-  found-unseen line82 a b = refl
+  found-unseen Steps.line2 a b = refl
+  found-unseen Steps.line3 a b = refl
+  found-unseen Steps.line5 a b = refl
+  found-unseen Steps.line8 a b = refl
+  found-unseen Steps.line15 a b = refl
+  found-unseen Steps.line17 a b = refl
+  found-unseen Steps.line18 a b = refl
+  found-unseen Steps.line24 a b = refl
+  found-unseen Steps.line25 a b = refl
+  found-unseen Steps.line28 a b = absurd (a refl)
+  found-unseen Steps.line31 a b = absurd (b refl)
+  found-unseen Steps.line39 a b = refl
+  found-unseen Steps.line40 a b = refl
+  found-unseen Steps.line42 a b = refl
+  found-unseen Steps.line48 a b = refl
+  found-unseen Steps.line51 a b = refl
+  found-unseen Steps.line54 a b = refl
+  found-unseen Steps.line56 a b = refl
+  found-unseen Steps.line58 a b = refl
+  found-unseen Steps.line60 a b = refl
+  found-unseen Steps.line62 a b = refl
+  found-unseen Steps.line64 a b = refl
+  found-unseen Steps.line67 a b = refl
+  found-unseen Steps.line68 a b = refl
+  found-unseen Steps.line69 a b = refl
+  found-unseen Steps.line70 a b = refl
+  found-unseen Steps.line72 a b = refl
+  found-unseen Steps.line74 a b = refl
+  found-unseen Steps.line77 a b = refl
+  found-unseen Steps.line78 a b = refl
+  found-unseen Steps.line79 a b = refl
+  found-unseen Steps.line81 a b = refl
+  found-unseen Steps.line82 a b = refl
 
 pub taken-enough :
     (s o : Side) (m : Memory) (t : Task) (g f n : ℕ) (st : Step)

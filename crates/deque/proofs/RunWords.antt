@@ -34,6 +34,7 @@ use Rattle.machine.specs.Calls.{
 use Rattle.machine.proofs.Contradiction.{clash}
 use Rattle.machine.proofs.ShapeLaws.{well-sized, well-shaped, length-ok, shape-ok}
 use Rattle.machine.proofs.TickKeeps.{tick-kept}
+use Rattle.machine.proofs.RunLaws.{by-first, first-tick}
 use Rattle.shape.specs.Contracts.{numberOf}
 use Rattle.deque.specs.Ticks.{tickedOf, Passed}
 use Rattle.deque.specs.Runs.{runDoneOf}
@@ -113,25 +114,6 @@ refused-tick ws k h n = go (tickRefusal ws k h)
 
 -- ---- A run by its first tick.
 module _ (k h : ℕ) (list ws answers : List ℕ) where
-  by-first : Option ℕ → RunDone
-  by-first (some n) = stopped n ws answers
-  by-first nothing = afterTick (tickOn ws k h .answer) (runOn list (tickOn ws k h .words) (drop 2 answers))
-
-  first-tick : (r : Option ℕ) → refusalOf (tickOn ws k h .answer) ≡ r → runOn (k ∷ h ∷ list) ws answers ≡ by-first r
-  unfolding runOn by-first
-  first-tick r e =
-      by-outcome (refusalOf (tickOn ws k h .answer)) ∙ ap by-first e
-    where
-      by-outcome :
-          (r : Option ℕ)
-          → elim r as (λ _. RunDone) [
-            | some n ↦ stopped n ws answers
-            | nothing ↦ afterTick (tickOn ws k h .answer) (runOn list (tickOn ws k h .words) (drop 2 answers))
-          ]
-          ≡ by-first r
-      by-outcome (some n) = refl
-      by-outcome nothing = refl
-
   module _ (a : Answer) (vs : List ℕ) (ticked : tickedOf a vs ≡ tickOn ws k h) where
     answer-is : tickOn ws k h .answer ≡ a
     answer-is = sym (ap (λ (t : Ticked). t .answer) ticked)
@@ -143,13 +125,13 @@ module _ (k h : ℕ) (list ws answers : List ℕ) where
     unfolding by-first
     first-refused e =
         let r : refusalOf (tickOn ws k h .answer) ≡ some (payloadOf a) = ap refusalOf answer-is ∙ refused-kind a e in
-        first-tick (some (payloadOf a)) r
+        first-tick k h list ws answers (some (payloadOf a)) r
         ∙ ap (λ (l : List ℕ). stopped (payloadOf a) l answers) (sym (refused-tick ws k h (payloadOf a) r) ∙ words-are)
 
     first-made : kindOf a ≢ 7 → runOn (k ∷ h ∷ list) ws answers ≡ afterTick a (runOn list vs (drop 2 answers))
     unfolding by-first
     first-made e =
-        first-tick nothing (ap refusalOf answer-is ∙ made-kind a e)
+        first-tick k h list ws answers nothing (ap refusalOf answer-is ∙ made-kind a e)
         ∙ ap (λ (t : Ticked). afterTick (t .answer) (runOn list (t .words) (drop 2 answers))) (sym ticked)
 
 -- ---- The run of the pairs ahead, behind the ticks made.

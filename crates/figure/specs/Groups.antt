@@ -5,46 +5,8 @@ use mathlib.Core.Bool.{true}
 use mathlib.Core.List.{List, [], _∷_, _++_}
 use Prim.Native.Nat.{ℕ}
 use Rattle.machine.specs.Values.{bagOk}
-use Rattle.machine.specs.Steps.{
-  Step,
-  line2,
-  line3,
-  line5,
-  line8,
-  line15,
-  line17,
-  line18,
-  line24,
-  line25,
-  line28,
-  line31,
-  line39,
-  line40,
-  line42,
-  line48,
-  line51,
-  line54,
-  line56,
-  line58,
-  line60,
-  line62,
-  line64,
-  line67,
-  line68,
-  line69,
-  line70,
-  line72,
-  line74,
-  line77,
-  line78,
-  line79,
-  line81,
-  line82,
-  isStepIn,
-  pushSteps,
-  popSteps,
-  removeSteps,
-}
+use Rattle.machine.specs.Steps.{Step, isStepIn, pushSteps, popSteps, removeSteps}
+use Rattle.machine.specs.Steps as Steps
 use Rattle.machine.specs.Tasks.{none}
 use Rattle.layout.specs.declared.tasks.Task as Tasks
 use Rattle.layout.specs.Coded.{HoldsNode}
@@ -52,22 +14,22 @@ use Rattle.hattrick.specs.Lent.{Ready}
 
 -- push, add, pop, remove, unspur and break of the figure.
 abbrev pub pushGroup : List Step
-pushGroup = line2 ∷ line3 ∷ line5 ∷ line8 ∷ []
+pushGroup = Steps.line2 ∷ Steps.line3 ∷ Steps.line5 ∷ Steps.line8 ∷ []
 
 abbrev pub addGroup : List Step
-addGroup = line15 ∷ line17 ∷ line18 ∷ line24 ∷ line25 ∷ line28 ∷ line31 ∷ []
+addGroup = Steps.line15 ∷ Steps.line17 ∷ Steps.line18 ∷ Steps.line24 ∷ Steps.line25 ∷ Steps.line28 ∷ Steps.line31 ∷ []
 
 abbrev pub popGroup : List Step
-popGroup = line39 ∷ line40 ∷ line42 ∷ line48 ∷ line51 ∷ []
+popGroup = Steps.line39 ∷ Steps.line40 ∷ Steps.line42 ∷ Steps.line48 ∷ Steps.line51 ∷ []
 
 abbrev pub removeGroup : List Step
-removeGroup = line54 ∷ line56 ∷ line58 ∷ line60 ∷ line62 ∷ line64 ∷ []
+removeGroup = Steps.line54 ∷ Steps.line56 ∷ Steps.line58 ∷ Steps.line60 ∷ Steps.line62 ∷ Steps.line64 ∷ []
 
 abbrev pub unspurGroup : List Step
-unspurGroup = line67 ∷ line68 ∷ line69 ∷ line70 ∷ line72 ∷ []
+unspurGroup = Steps.line67 ∷ Steps.line68 ∷ Steps.line69 ∷ Steps.line70 ∷ Steps.line72 ∷ []
 
 abbrev pub breakGroup : List Step
-breakGroup = line74 ∷ line77 ∷ line78 ∷ line79 ∷ line81 ∷ line82 ∷ []
+breakGroup = Steps.line74 ∷ Steps.line77 ∷ Steps.line78 ∷ Steps.line79 ∷ Steps.line81 ∷ Steps.line82 ∷ []
 
 -- Every step of a busy task.
 abbrev pub allSteps : List Step

@@ -23,6 +23,7 @@ pub mod LinesFit
 pub mod WritesKeep
 pub mod TickKeeps
 pub mod TickLaws
+pub mod RunLaws
 pub mod ShapeKept
 pub mod Marking
 pub mod Reached

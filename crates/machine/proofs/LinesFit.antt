@@ -1,44 +1,8 @@
 -- Every line of the figure fits: on a table of the right shape it writes what keeps the shape.
 use mathlib.Core.Path.{refl}
 use Prim.Native.Nat.{ℕ}
-use Rattle.machine.specs.Steps.{
-  Step,
-  rest,
-  line2,
-  line3,
-  line5,
-  line8,
-  line15,
-  line17,
-  line18,
-  line24,
-  line25,
-  line28,
-  line31,
-  line39,
-  line40,
-  line42,
-  line48,
-  line51,
-  line54,
-  line56,
-  line58,
-  line60,
-  line62,
-  line64,
-  line67,
-  line68,
-  line69,
-  line70,
-  line72,
-  line74,
-  line77,
-  line78,
-  line79,
-  line81,
-  line82,
-  isStepIn,
-}
+use Rattle.machine.specs.Steps.{Step, rest, isStepIn}
+use Rattle.machine.specs.Steps as Steps
 use Rattle.machine.specs.Tasks.{Task}
 use Rattle.machine.specs.Lines.{Memory, act}
 use Rattle.machine.proofs.BusyLaws.{NodeOrNone}
@@ -85,36 +49,36 @@ module _ (S g : ℕ) (m : Memory) (M : MemoryFits S m) (t : Task) (f : ℕ) (f-o
   pub line-fits : (st : Step) → LineFits S g m t f st
   unfolding act isStepIn
   line-fits rest F = goes-on tt (moves F (lands (part F) refl))
-  line-fits line2 F = line2-fits S g m M t f F
-  line-fits line3 F = line3-fits S g m M t f F
-  line-fits line5 F = line5-fits S g m M t f F
-  line-fits line8 F = line8-fits S g m M t f F
-  line-fits line15 F = line15-fits S g m M t f F
-  line-fits line17 F = line17-fits S g m M t f F
-  line-fits line18 F = line18-fits S g m M t f F
-  line-fits line24 F = line24-fits S g m M t f F
-  line-fits line25 F = line25-fits S g m M t f F
-  line-fits line28 F = line28-fits S g m M t f f-ok F
-  line-fits line31 F = line31-fits S g m M t f f-ok F
-  line-fits line39 F = line39-fits S g m M t f F
-  line-fits line40 F = line40-fits S g m M t f F
-  line-fits line42 F = line42-fits S g m M t f F
-  line-fits line48 F = line48-fits S g m M t f F
-  line-fits line51 F = line51-fits S g m M t f F
-  line-fits line54 F = line54-fits S g m M t f F
-  line-fits line56 F = line56-fits S g m M t f F
-  line-fits line58 F = line58-fits S g m M t f F
-  line-fits line60 F = line60-fits S g m M t f F
-  line-fits line62 F = line62-fits S g m M t f F
-  line-fits line64 F = line64-fits S g m M t f F
-  line-fits line67 F = line67-fits S g m M t f F
-  line-fits line68 F = line68-fits S g m M t f F
-  line-fits line69 F = line69-fits S g m M t f F
-  line-fits line70 F = line70-fits S g m M t f F
-  line-fits line72 F = line72-fits S g m M t f F
-  line-fits line74 F = line74-fits S g m M t f F
-  line-fits line77 F = line77-fits S g m M t f F
-  line-fits line78 F = line78-fits S g m M t f F
-  line-fits line79 F = line79-fits S g m M t f F
-  line-fits line81 F = line81-fits S g m M t f F
-  line-fits line82 F = line82-fits S g m M t f F
+  line-fits Steps.line2 F = line2-fits S g m M t f F
+  line-fits Steps.line3 F = line3-fits S g m M t f F
+  line-fits Steps.line5 F = line5-fits S g m M t f F
+  line-fits Steps.line8 F = line8-fits S g m M t f F
+  line-fits Steps.line15 F = line15-fits S g m M t f F
+  line-fits Steps.line17 F = line17-fits S g m M t f F
+  line-fits Steps.line18 F = line18-fits S g m M t f F
+  line-fits Steps.line24 F = line24-fits S g m M t f F
+  line-fits Steps.line25 F = line25-fits S g m M t f F
+  line-fits Steps.line28 F = line28-fits S g m M t f f-ok F
+  line-fits Steps.line31 F = line31-fits S g m M t f f-ok F
+  line-fits Steps.line39 F = line39-fits S g m M t f F
+  line-fits Steps.line40 F = line40-fits S g m M t f F
+  line-fits Steps.line42 F = line42-fits S g m M t f F
+  line-fits Steps.line48 F = line48-fits S g m M t f F
+  line-fits Steps.line51 F = line51-fits S g m M t f F
+  line-fits Steps.line54 F = line54-fits S g m M t f F
+  line-fits Steps.line56 F = line56-fits S g m M t f F
+  line-fits Steps.line58 F = line58-fits S g m M t f F
+  line-fits Steps.line60 F = line60-fits S g m M t f F
+  line-fits Steps.line62 F = line62-fits S g m M t f F
+  line-fits Steps.line64 F = line64-fits S g m M t f F
+  line-fits Steps.line67 F = line67-fits S g m M t f F
+  line-fits Steps.line68 F = line68-fits S g m M t f F
+  line-fits Steps.line69 F = line69-fits S g m M t f F
+  line-fits Steps.line70 F = line70-fits S g m M t f F
+  line-fits Steps.line72 F = line72-fits S g m M t f F
+  line-fits Steps.line74 F = line74-fits S g m M t f F
+  line-fits Steps.line77 F = line77-fits S g m M t f F
+  line-fits Steps.line78 F = line78-fits S g m M t f F
+  line-fits Steps.line79 F = line79-fits S g m M t f F
+  line-fits Steps.line81 F = line81-fits S g m M t f F
+  line-fits Steps.line82 F = line82-fits S g m M t f F

@@ -8,48 +8,8 @@ use lib.Dec.{eqb}
 use native.Mathlib.Decide.{ℕ-discrete}
 use borrow.Author.Tests.{eqb-true}
 use Rattle.machine.specs.Operations.{Operation, idle, push, pop, add, remove}
-use Rattle.machine.specs.Steps.{
-  Step,
-  rest,
-  line2,
-  line3,
-  line5,
-  line8,
-  line15,
-  line17,
-  line18,
-  line24,
-  line25,
-  line28,
-  line31,
-  line39,
-  line40,
-  line42,
-  line48,
-  line51,
-  line54,
-  line56,
-  line58,
-  line60,
-  line62,
-  line64,
-  line67,
-  line68,
-  line69,
-  line70,
-  line72,
-  line74,
-  line77,
-  line78,
-  line79,
-  line81,
-  line82,
-  stepNumber,
-  stepIn,
-  stepsOf,
-  stepOf,
-  isStepIn,
-}
+use Rattle.machine.specs.Steps.{Step, rest, stepNumber, stepIn, stepsOf, stepOf, isStepIn}
+use Rattle.machine.specs.Steps as Steps
 use Rattle.machine.proofs.Tests.{or-either}
 use Rattle.machine.proofs.Contradiction.{clash}
 
@@ -57,39 +17,39 @@ use Rattle.machine.proofs.Contradiction.{clash}
 pub step-of-number : (st : Step) → stepOf (stepNumber st) ≡ st
 unfolding stepOf stepIn ℕ-discrete
 step-of-number rest = refl
-step-of-number line2 = refl
-step-of-number line3 = refl
-step-of-number line5 = refl
-step-of-number line8 = refl
-step-of-number line15 = refl
-step-of-number line17 = refl
-step-of-number line18 = refl
-step-of-number line24 = refl
-step-of-number line25 = refl
-step-of-number line28 = refl
-step-of-number line31 = refl
-step-of-number line39 = refl
-step-of-number line40 = refl
-step-of-number line42 = refl
-step-of-number line48 = refl
-step-of-number line51 = refl
-step-of-number line54 = refl
-step-of-number line56 = refl
-step-of-number line58 = refl
-step-of-number line60 = refl
-step-of-number line62 = refl
-step-of-number line64 = refl
-step-of-number line67 = refl
-step-of-number line68 = refl
-step-of-number line69 = refl
-step-of-number line70 = refl
-step-of-number line72 = refl
-step-of-number line74 = refl
-step-of-number line77 = refl
-step-of-number line78 = refl
-step-of-number line79 = refl
-step-of-number line81 = refl
-step-of-number line82 = refl
+step-of-number Steps.line2 = refl
+step-of-number Steps.line3 = refl
+step-of-number Steps.line5 = refl
+step-of-number Steps.line8 = refl
+step-of-number Steps.line15 = refl
+step-of-number Steps.line17 = refl
+step-of-number Steps.line18 = refl
+step-of-number Steps.line24 = refl
+step-of-number Steps.line25 = refl
+step-of-number Steps.line28 = refl
+step-of-number Steps.line31 = refl
+step-of-number Steps.line39 = refl
+step-of-number Steps.line40 = refl
+step-of-number Steps.line42 = refl
+step-of-number Steps.line48 = refl
+step-of-number Steps.line51 = refl
+step-of-number Steps.line54 = refl
+step-of-number Steps.line56 = refl
+step-of-number Steps.line58 = refl
+step-of-number Steps.line60 = refl
+step-of-number Steps.line62 = refl
+step-of-number Steps.line64 = refl
+step-of-number Steps.line67 = refl
+step-of-number Steps.line68 = refl
+step-of-number Steps.line69 = refl
+step-of-number Steps.line70 = refl
+step-of-number Steps.line72 = refl
+step-of-number Steps.line74 = refl
+step-of-number Steps.line77 = refl
+step-of-number Steps.line78 = refl
+step-of-number Steps.line79 = refl
+step-of-number Steps.line81 = refl
+step-of-number Steps.line82 = refl
 
 -- A number that passes the test of a list of steps is the number of a step.
 step-with-number : (sts : List Step) (n : ℕ) → isStepIn sts n ≡ true → (st : Step) × (n ≡ stepNumber st)
@@ -115,39 +75,39 @@ pub data Part : Type 0 where
 
 abbrev pub partOf : Step → Part
 partOf rest = resting
-partOf line2 = pushing
-partOf line3 = pushing
-partOf line5 = pushing
-partOf line8 = pushing
-partOf line15 = growing
-partOf line17 = growing
-partOf line18 = growing
-partOf line24 = growing
-partOf line25 = growing
-partOf line28 = growing
-partOf line31 = growing
-partOf line39 = popping
-partOf line40 = popping
-partOf line42 = popping
-partOf line48 = popping
-partOf line51 = popping
-partOf line54 = removing
-partOf line56 = removing
-partOf line58 = removing
-partOf line60 = removing
-partOf line62 = removing
-partOf line64 = removing
-partOf line67 = growing
-partOf line68 = growing
-partOf line69 = growing
-partOf line70 = growing
-partOf line72 = growing
-partOf line74 = removing
-partOf line77 = removing
-partOf line78 = removing
-partOf line79 = removing
-partOf line81 = removing
-partOf line82 = removing
+partOf Steps.line2 = pushing
+partOf Steps.line3 = pushing
+partOf Steps.line5 = pushing
+partOf Steps.line8 = pushing
+partOf Steps.line15 = growing
+partOf Steps.line17 = growing
+partOf Steps.line18 = growing
+partOf Steps.line24 = growing
+partOf Steps.line25 = growing
+partOf Steps.line28 = growing
+partOf Steps.line31 = growing
+partOf Steps.line39 = popping
+partOf Steps.line40 = popping
+partOf Steps.line42 = popping
+partOf Steps.line48 = popping
+partOf Steps.line51 = popping
+partOf Steps.line54 = removing
+partOf Steps.line56 = removing
+partOf Steps.line58 = removing
+partOf Steps.line60 = removing
+partOf Steps.line62 = removing
+partOf Steps.line64 = removing
+partOf Steps.line67 = growing
+partOf Steps.line68 = growing
+partOf Steps.line69 = growing
+partOf Steps.line70 = growing
+partOf Steps.line72 = growing
+partOf Steps.line74 = removing
+partOf Steps.line77 = removing
+partOf Steps.line78 = removing
+partOf Steps.line79 = removing
+partOf Steps.line81 = removing
+partOf Steps.line82 = removing
 
 -- A push that meets the end of the lane adds nodes, by the steps of an add.
 abbrev pub hasPart : Operation → Part → Bool
@@ -189,36 +149,36 @@ pub step-in-part :
     (st : Step) (op : Operation) → isStepIn (stepsOf op) (stepNumber st) ≡ hasPart op (partOf st)
 unfolding isStepIn
 step-in-part rest = every-operation _ refl refl refl refl refl
-step-in-part line2 = every-operation _ refl refl refl refl refl
-step-in-part line3 = every-operation _ refl refl refl refl refl
-step-in-part line5 = every-operation _ refl refl refl refl refl
-step-in-part line8 = every-operation _ refl refl refl refl refl
-step-in-part line15 = every-operation _ refl refl refl refl refl
-step-in-part line17 = every-operation _ refl refl refl refl refl
-step-in-part line18 = every-operation _ refl refl refl refl refl
-step-in-part line24 = every-operation _ refl refl refl refl refl
-step-in-part line25 = every-operation _ refl refl refl refl refl
-step-in-part line28 = every-operation _ refl refl refl refl refl
-step-in-part line31 = every-operation _ refl refl refl refl refl
-step-in-part line39 = every-operation _ refl refl refl refl refl
-step-in-part line40 = every-operation _ refl refl refl refl refl
-step-in-part line42 = every-operation _ refl refl refl refl refl
-step-in-part line48 = every-operation _ refl refl refl refl refl
-step-in-part line51 = every-operation _ refl refl refl refl refl
-step-in-part line54 = every-operation _ refl refl refl refl refl
-step-in-part line56 = every-operation _ refl refl refl refl refl
-step-in-part line58 = every-operation _ refl refl refl refl refl
-step-in-part line60 = every-operation _ refl refl refl refl refl
-step-in-part line62 = every-operation _ refl refl refl refl refl
-step-in-part line64 = every-operation _ refl refl refl refl refl
-step-in-part line67 = every-operation _ refl refl refl refl refl
-step-in-part line68 = every-operation _ refl refl refl refl refl
-step-in-part line69 = every-operation _ refl refl refl refl refl
-step-in-part line70 = every-operation _ refl refl refl refl refl
-step-in-part line72 = every-operation _ refl refl refl refl refl
-step-in-part line74 = every-operation _ refl refl refl refl refl
-step-in-part line77 = every-operation _ refl refl refl refl refl
-step-in-part line78 = every-operation _ refl refl refl refl refl
-step-in-part line79 = every-operation _ refl refl refl refl refl
-step-in-part line81 = every-operation _ refl refl refl refl refl
-step-in-part line82 = every-operation _ refl refl refl refl refl
+step-in-part Steps.line2 = every-operation _ refl refl refl refl refl
+step-in-part Steps.line3 = every-operation _ refl refl refl refl refl
+step-in-part Steps.line5 = every-operation _ refl refl refl refl refl
+step-in-part Steps.line8 = every-operation _ refl refl refl refl refl
+step-in-part Steps.line15 = every-operation _ refl refl refl refl refl
+step-in-part Steps.line17 = every-operation _ refl refl refl refl refl
+step-in-part Steps.line18 = every-operation _ refl refl refl refl refl
+step-in-part Steps.line24 = every-operation _ refl refl refl refl refl
+step-in-part Steps.line25 = every-operation _ refl refl refl refl refl
+step-in-part Steps.line28 = every-operation _ refl refl refl refl refl
+step-in-part Steps.line31 = every-operation _ refl refl refl refl refl
+step-in-part Steps.line39 = every-operation _ refl refl refl refl refl
+step-in-part Steps.line40 = every-operation _ refl refl refl refl refl
+step-in-part Steps.line42 = every-operation _ refl refl refl refl refl
+step-in-part Steps.line48 = every-operation _ refl refl refl refl refl
+step-in-part Steps.line51 = every-operation _ refl refl refl refl refl
+step-in-part Steps.line54 = every-operation _ refl refl refl refl refl
+step-in-part Steps.line56 = every-operation _ refl refl refl refl refl
+step-in-part Steps.line58 = every-operation _ refl refl refl refl refl
+step-in-part Steps.line60 = every-operation _ refl refl refl refl refl
+step-in-part Steps.line62 = every-operation _ refl refl refl refl refl
+step-in-part Steps.line64 = every-operation _ refl refl refl refl refl
+step-in-part Steps.line67 = every-operation _ refl refl refl refl refl
+step-in-part Steps.line68 = every-operation _ refl refl refl refl refl
+step-in-part Steps.line69 = every-operation _ refl refl refl refl refl
+step-in-part Steps.line70 = every-operation _ refl refl refl refl refl
+step-in-part Steps.line72 = every-operation _ refl refl refl refl refl
+step-in-part Steps.line74 = every-operation _ refl refl refl refl refl
+step-in-part Steps.line77 = every-operation _ refl refl refl refl refl
+step-in-part Steps.line78 = every-operation _ refl refl refl refl refl
+step-in-part Steps.line79 = every-operation _ refl refl refl refl refl
+step-in-part Steps.line81 = every-operation _ refl refl refl refl refl
+step-in-part Steps.line82 = every-operation _ refl refl refl refl refl

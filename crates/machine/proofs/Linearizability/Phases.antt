@@ -4,43 +4,8 @@ use mathlib.Core.Logic.{_⊎_}
 use Prim.Native.Nat.{ℕ}
 use Rattle.machine.specs.Sides.{Side}
 use Rattle.machine.specs.Operations.{Operation, idle, push, pop, add, remove}
-use Rattle.machine.specs.Steps.{
-  Step,
-  rest,
-  line2,
-  line3,
-  line5,
-  line8,
-  line15,
-  line17,
-  line18,
-  line24,
-  line25,
-  line28,
-  line31,
-  line39,
-  line40,
-  line42,
-  line48,
-  line51,
-  line54,
-  line56,
-  line58,
-  line60,
-  line62,
-  line64,
-  line67,
-  line68,
-  line69,
-  line70,
-  line72,
-  line74,
-  line77,
-  line78,
-  line79,
-  line81,
-  line82,
-}
+use Rattle.machine.specs.Steps.{Step, rest}
+use Rattle.machine.specs.Steps as Steps
 use Rattle.machine.specs.Tasks.{Task}
 use Rattle.machine.specs.Lines.{Memory}
 use Rattle.machine.proofs.Linearizability.Classes.{Class}
@@ -102,39 +67,39 @@ _during_ r p = record { reliance = r; phase = p }
 
 abbrev pub facts : Step → StepFacts
 facts rest = on-nothing during resting
-facts line2 = on-nothing during pushing
-facts line3 = on-old-A during pushing
-facts line5 = on-push-pair during pushing
-facts line8 = on-old-A during pushing
-facts line67 = on-nothing during unspurring
-facts line68 = on-old-A during unspurring
-facts line69 = on-Y during unspurring
-facts line70 = behind-Y during unspurring
-facts line72 = past-Y during unspurring
-facts line28 = on-nothing during growing
-facts line31 = on-nothing during building
-facts line15 = on-nothing during building
-facts line17 = on-old-A during building
-facts line18 = on-old-A during building
-facts line24 = on-old-A during building
-facts line25 = on-splice-point during building
-facts line39 = on-nothing during popping
-facts line40 = on-old-A during popping
-facts line42 = on-pop-pair during popping
-facts line48 = on-empty-pair during popping
-facts line51 = on-bag-pair during popping
-facts line54 = on-nothing during removing
-facts line56 = on-old-A during removing
-facts line58 = on-old-A during removing
-facts line60 = on-old-A during removing
-facts line62 = on-cut-pair during removing
-facts line64 = on-unlink-pair during removing
-facts line74 = on-spur-B during removing
-facts line77 = on-spur-pair during removing
-facts line78 = on-spur-pair during removing
-facts line79 = on-spur-pair during removing
-facts line81 = on-spur-A during removing
-facts line82 = on-spur-A during removing
+facts Steps.line2 = on-nothing during pushing
+facts Steps.line3 = on-old-A during pushing
+facts Steps.line5 = on-push-pair during pushing
+facts Steps.line8 = on-old-A during pushing
+facts Steps.line67 = on-nothing during unspurring
+facts Steps.line68 = on-old-A during unspurring
+facts Steps.line69 = on-Y during unspurring
+facts Steps.line70 = behind-Y during unspurring
+facts Steps.line72 = past-Y during unspurring
+facts Steps.line28 = on-nothing during growing
+facts Steps.line31 = on-nothing during building
+facts Steps.line15 = on-nothing during building
+facts Steps.line17 = on-old-A during building
+facts Steps.line18 = on-old-A during building
+facts Steps.line24 = on-old-A during building
+facts Steps.line25 = on-splice-point during building
+facts Steps.line39 = on-nothing during popping
+facts Steps.line40 = on-old-A during popping
+facts Steps.line42 = on-pop-pair during popping
+facts Steps.line48 = on-empty-pair during popping
+facts Steps.line51 = on-bag-pair during popping
+facts Steps.line54 = on-nothing during removing
+facts Steps.line56 = on-old-A during removing
+facts Steps.line58 = on-old-A during removing
+facts Steps.line60 = on-old-A during removing
+facts Steps.line62 = on-cut-pair during removing
+facts Steps.line64 = on-unlink-pair during removing
+facts Steps.line74 = on-spur-B during removing
+facts Steps.line77 = on-spur-pair during removing
+facts Steps.line78 = on-spur-pair during removing
+facts Steps.line79 = on-spur-pair during removing
+facts Steps.line81 = on-spur-A during removing
+facts Steps.line82 = on-spur-A during removing
 
 -- What holds of task k, at step st, seen from its side s.
 pub record TaskOk (k : ℕ) (s o : Side) (m : Memory) (class : ℕ → Class) (st : Step) (t : Task) : Type 0 where

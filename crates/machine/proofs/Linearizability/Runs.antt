@@ -22,6 +22,7 @@ use Rattle.machine.specs.Calls.{
 use Rattle.machine.specs.Row.{Row, feedRun}
 use Rattle.machine.specs.Demand3.{run-call, LaneIs, afterTicks, Within}
 use Rattle.machine.proofs.Contradiction.{clash}
+use Rattle.machine.proofs.RunLaws.{by-first, first-tick}
 use Rattle.machine.proofs.Linearizability.Agreement.{Agrees, lane-is-row}
 use Rattle.machine.proofs.Linearizability.MadeTicks.{MadeTick, made-tick}
 use Rattle.machine.proofs.Linearizability.CallsAgree.{Explains}
@@ -82,27 +83,6 @@ one-made {ws} {ρ} A k h list M r R =
     at (suc i) l =
         let x = R .within i (omega arith) in
         (x .0, rw (answer-back (tickOn ws k h .answer) (M .no-number), M .given) (x .1), x .2)
-
--- A run by its first tick.
-module _ (k h : ℕ) (list ws answers : List ℕ) where
-  by-first : Option ℕ → RunDone
-  by-first (some n) = stopped n ws answers
-  by-first nothing = afterTick (tickOn ws k h .answer) (runOn list (tickOn ws k h .words) (drop 2 answers))
-
-  first-tick : (r : Option ℕ) → refusalOf (tickOn ws k h .answer) ≡ r → runOn (k ∷ h ∷ list) ws answers ≡ by-first r
-  unfolding runOn by-first
-  first-tick r e =
-      by-outcome (refusalOf (tickOn ws k h .answer)) ∙ ap by-first e
-    where
-      by-outcome :
-          (r : Option ℕ)
-          → elim r as (λ _. RunDone) [
-            | some n ↦ stopped n ws answers
-            | nothing ↦ afterTick (tickOn ws k h .answer) (runOn list (tickOn ws k h .words) (drop 2 answers))
-          ]
-          ≡ by-first r
-      by-outcome (some n) = refl
-      by-outcome nothing = refl
 
 refused-tick : (ws : List ℕ) (k h n : ℕ) → tickRefusal ws k h ≡ some n → refusalOf (tickOn ws k h .answer) ≡ some n
 unfolding tickOn
