@@ -1,0 +1,5 @@
+pub mod SpaceLaws
+pub mod FormLaws
+pub mod LineLaws
+pub mod BeforeStart
+pub mod Worked

@@ -1,0 +1,37 @@
+-- The belt run of 01 prints what 01 says, computed over the definitions from the bytes read to the bytes printed.
+use mathlib.Core.Path.{_≡_, refl}
+use native.Mathlib.Decide.{ℕ-discrete, decLt, decLe}
+use Rattle.machine.specs.Values.{Value-discrete, decode}
+use Rattle.machine.specs.Steps.{stepIn, stepOf, isStepIn}
+use Rattle.machine.specs.Table.{link, value, task}
+use Rattle.machine.specs.Shape.{allBelow, sameWords, nodeOk, busyOk, recordOk, shapeOk}
+use Rattle.machine.specs.Allocate.{heldFrom, roots, mark, markAll, visit, visitFrom, marked, firstUnmarked, allocate}
+use Rattle.machine.specs.Lines.{writeAll, act}
+use Rattle.machine.specs.Calls.{
+  times,
+  startWords,
+  start,
+  begin,
+  effectOf,
+  applied,
+  tickOn,
+  tick,
+  laneFrom,
+  lane,
+  readInto,
+  read,
+}
+use Rattle.reader.specs.Scanned.{scanByte, scanBytes}
+use Rattle.reader.specs.Lines.{ticks, beginOr, beginOf, formOf, lineOf, lineRead}
+use Rattle.printer.specs.Lines.{digitsIn, spaced, textOf}
+use Rattle.belt.specs.Forms.{startLine, beginLine, tickLine, laneLine}
+use Rattle.belt.specs.Run.{answer, printed, linesOf, beltRun}
+use Rattle.belt.specs.Paper.{paperInput, paperOutput}
+
+pub worked : beltRun paperInput ≡ paperOutput
+unfolding beltRun linesOf printed answer startLine beginLine tickLine laneLine digitsIn spaced textOf scanByte
+    scanBytes ticks beginOr beginOf formOf lineOf lineRead ℕ-discrete decLt decLe Value-discrete decode stepIn stepOf
+    isStepIn link value task allBelow sameWords nodeOk busyOk recordOk shapeOk heldFrom roots mark markAll visit
+    visitFrom marked firstUnmarked allocate writeAll act times startWords start begin effectOf applied tickOn tick
+    laneFrom lane readInto read
+worked = refl

@@ -1,0 +1,4 @@
+pub mod Forms
+pub mod Run
+pub mod Space
+pub mod Paper

@@ -1,0 +1,4 @@
+pub mod WritingLaws
+pub mod Decimals
+pub mod Rows
+pub mod Examples

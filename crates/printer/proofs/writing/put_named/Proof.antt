@@ -1,0 +1,46 @@
+-- `printer::writing::put_named` meets its contract.
+use native.Mathlib.Omega.{arith}
+use borrow.Author.Needs.{needs}
+use Rattle.printer.proofs.WritingLaws.{written-append}
+use Rattle.printer.proofs.Decimals.{decimal-length}
+use Rattle.printer.proofs.writing.put_named.Statement.{statement}
+use Rattle.printer.proofs.writing.put_named.Tie as tie
+
+put-requires : tie.Need-put-requires
+put-requires c κs = search needs
+
+put-number-requires : tie.Need-put-number-requires
+put-number-requires c κs = search needs
+
+slice-aggregate-put : tie.Need-slice-aggregate-put
+slice-aggregate-put c = search needs
+
+put-requires-2 : tie.Need-put-requires-2
+put-requires-2 c κs =
+    let after-number = c .before .before .before .before in
+    let after-name = after-number .before .before .before .before in
+    let number = after-number .put-number in
+    let name = after-name .put in
+    let n = after-name .before .before .before .before .args .n in
+    omega
+    (arith, name .ensures .end, name .kept .0, number .ensures .end, number .kept .0, decimal-length n (omega arith))
+
+same-length : tie.Need-same-length
+same-length c = search needs
+
+returns : tie.Need-returns
+returns c =
+    let after-number = c .before .before .before .before .before .before .before in
+    let name = after-number .before .before .before .before .put .ensures in
+    written-append (written-append name (after-number .put-number .ensures)) (c .before .before .put2 .ensures)
+
+pub put-named-spec : {M : Type 1} → statement M
+put-named-spec =
+    tie.close
+    (tie.spec
+    put-requires
+    put-number-requires
+    slice-aggregate-put
+    put-requires-2
+    same-length
+    returns)

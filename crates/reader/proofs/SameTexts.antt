@@ -1,0 +1,71 @@
+-- When two texts are the same, and a text of which the first bytes are kept.
+use mathlib.Core.Bool.{Bool, true, false, _&&_}
+use mathlib.Core.List.{List, [], _∷_, _++_}
+use mathlib.Core.Path.{_≡_, refl, sym, ap, _∙_}
+use Prim.Native.Nat.{ℕ, zero, suc, _+_, _<_, _≤_, min}
+use native.Mathlib.Numerals.{add-one}
+use native.Mathlib.Omega.{arith}
+use borrow.Author.Tests.{eq-eqb, ne-eqb}
+use lib.Dec.{eqb}
+use lib.ListN.{length, getD, take, drop, set, length-append, length-take, drop-of-length-le}
+use lib.Seq.{drop-cons, take-suc-set, take-all, take-append-le}
+use Rattle.reader.specs.Text.{same}
+
+pub and-false : (b : Bool) → b && false ≡ false
+and-false true = refl
+and-false false = refl
+
+-- ---- Two texts compared byte by byte.
+pub same-lengths-differ : (xs ys : List ℕ) → (length xs ≡ length ys → ⊥) → same xs ys ≡ false
+same-lengths-differ [] [] h = absurd (h refl)
+same-lengths-differ [] (y ∷ ys) h = refl
+same-lengths-differ (x ∷ xs) [] h = refl
+same-lengths-differ (x ∷ xs) (y ∷ ys) h =
+    rw (same-lengths-differ xs ys (λ e. h (ap suc e))) (and-false (eqb x y))
+
+module _ (xs ys : List ℕ) (i : ℕ) (long : length xs ≡ length ys) (h : i < length ys) where
+  byte-first : same (drop i xs) (drop i ys)
+      ≡ (eqb (getD xs i 0) (getD ys i 0) && same (drop (suc i) xs) (drop (suc i) ys))
+  byte-first =
+      let g : i < length xs = omega arith in
+      rw (drop-cons xs i 0 g, drop-cons ys i 0 h)
+
+  pub same-rest : getD xs i 0 ≡ getD ys i 0 → same (drop (i + 1) xs) (drop (i + 1) ys) ≡ same (drop i xs) (drop i ys)
+  same-rest e = sym (rw (byte-first, eq-eqb _ _ e, add-one))
+
+  pub same-byte-differs : (getD xs i 0 ≡ getD ys i 0 → ⊥) → same (drop i xs) (drop i ys) ≡ false
+  same-byte-differs f = rw (byte-first, ne-eqb _ _ f)
+
+pub same-ends : (xs ys : List ℕ) (i : ℕ) → length xs ≡ length ys → length ys ≤ i → same (drop i xs) (drop i ys) ≡ true
+same-ends xs ys i long h =
+    let g : length xs ≤ i = omega arith in
+    rw (drop-of-length-le xs {i = i} g, drop-of-length-le ys {i = i} h)
+
+-- More bytes than the other text has are enough to tell.
+pub same-take : (m : ℕ) (xs ys : List ℕ) → length ys < m → same (take m xs) ys ≡ same xs ys
+same-take zero xs ys h = absurd (omega arith)
+same-take (suc m) [] ys h = refl
+same-take (suc m) (x ∷ xs) [] h = refl
+same-take (suc m) (x ∷ xs) (y ∷ ys) h = ap (λ (b : Bool). eqb x y && b) (same-take m xs ys (omega arith))
+
+-- ---- The first m bytes of a text l stand in a list t, n of them: a byte b more.
+module _ (m : ℕ) (t l : List ℕ) (n b : ℕ) (long : length t ≡ m) (small : n ≤ m) (e : take n t ≡ take m l) where
+  kept-length : n ≡ min m (length l)
+  kept-length =
+      let a : length (take n t) ≡ min n (length t) = length-take n t in
+      let b : length (take n t) ≡ min m (length l) = ap length e ∙ length-take m l in
+      omega arith
+
+  pub byte-kept : n < m → take (n + 1) (set t n b) ≡ take m (l ++ (b ∷ []))
+  byte-kept h =
+      let k = kept-length in
+      let f : n < length t = omega arith in
+      let g : length l ≤ m = omega arith in
+      let j : length (l ++ (b ∷ [])) ≤ m = simp length-append (omega arith) in
+      rw (add-one, take-suc-set t n b f, e, take-all m l g, take-all m (l ++ (b ∷ [])) j)
+
+  pub byte-passed : m ≤ n → take n t ≡ take m (l ++ (b ∷ []))
+  byte-passed h =
+      let k = kept-length in
+      let g : m ≤ length l = omega arith in
+      e ∙ sym (take-append-le m l (b ∷ []) g)

@@ -1,0 +1,46 @@
+-- Lines of the belt run and lines close to them, with what each says.
+use mathlib.Core.List.{List, [], _∷_}
+use Prim.Native.String.{String}
+use Rattle.reader.specs.declared.Line.{Line}
+use Rattle.reader.specs.declared.Line.the-variants.{Start, Begin, Tick, Lane, Unread}
+
+pub record Example : Type 0 where
+  pub line : String
+  pub says : Line
+
+infix 80 _reads-as_
+abbrev pub _reads-as_ : String → Line → Example
+line reads-as said = record { line = line; says = said }
+
+unfoldable pub examples : List Example
+examples =
+    "(start (slots 4) (tasks 1) (growth 0))" reads-as Start 4 1 0
+    ∷ "(begin 0 (push right 51))" reads-as Begin 0 1 1 51
+    ∷ "(begin 3 (pop left 0))" reads-as Begin 3 2 0 0
+    ∷ "(begin 0 (add right 64))" reads-as Begin 0 3 1 64
+    ∷ "(begin 12 (remove left 1023))" reads-as Begin 12 4 0 1_023
+    ∷ "(tick 0 0 10)" reads-as Tick 0 0 10
+    ∷ "(lane)" reads-as Lane
+    -- 01: "times (1 to 1,000)"
+    ∷ "(tick 0 0 0)" reads-as Unread
+    ∷ "(tick 0 0 1)" reads-as Tick 0 0 1
+    ∷ "(tick 0 0 1000)" reads-as Tick 0 0 1_000
+    ∷ "(tick 0 0 1001)" reads-as Unread
+    -- 01: "a number above 4,294,967,295"
+    ∷ "(tick 4294967295 0 1)" reads-as Tick 4_294_967_295 0 1
+    ∷ "(tick 4294967296 0 1)" reads-as Unread
+    -- 01: "a number is digits alone"
+    ∷ "(tick 00 0 000000000000000000001)" reads-as Tick 0 0 1
+    ∷ "(tick  0 1)" reads-as Unread
+    -- 01: "Spelling and single spaces are as shown"
+    ∷ "(tick 0  0 1)" reads-as Unread
+    ∷ "(tick 0 0 1) " reads-as Unread
+    ∷ "(lane)\r" reads-as Unread
+    ∷ "(LANE)" reads-as Unread
+    ∷ "(lane 1)" reads-as Unread
+    ∷ "(lane))" reads-as Unread
+    ∷ "(tick 0 0 1 4)" reads-as Unread
+    ∷ "(begin 0 (push up 5))" reads-as Unread
+    ∷ "(start (slots 4) (tasks 1) (growth 0)))" reads-as Unread
+    ∷ "" reads-as Unread
+    ∷ []

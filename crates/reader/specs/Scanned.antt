@@ -1,0 +1,60 @@
+-- A line scanned from left to right. 01: "a number is digits alone": each longest run of digits is one number, and
+-- stands in the line's text as the single digit 0. So a line is a text and a list of numbers, and its form is in its
+-- text alone.
+use mathlib.Core.Bool.{Bool, true, false, cond, _&&_}
+use mathlib.Core.List.{List, [], _∷_, _++_}
+use Prim.Native.Nat.{ℕ, _+_, _*_, _-_}
+use lib.Dec.{eqb, leb}
+use lib.ListN.{length, getD, set}
+
+-- what has been scanned: its text, its numbers in order, and whether its last byte is a digit
+pub record Scanned : Type 0 where
+  pub text : List ℕ
+  pub numbers : List ℕ
+  pub inNumber : Bool
+
+abbrev pub nothing : Scanned
+nothing = record { text = []; numbers = []; inNumber = false }
+
+-- the byte of the digit 0
+abbrev pub zeroDigit : ℕ
+zeroDigit = 48
+
+abbrev pub lineFeed : ℕ
+lineFeed = 10
+
+-- 0 to 9
+abbrev pub isDigit : ℕ → Bool
+isDigit b = leb 48 b && leb b 57
+
+-- a digit with the value d that opens a number
+abbrev pub opened : Scanned → ℕ → Scanned
+opened s d =
+    record { text = s .text ++ (zeroDigit ∷ []); numbers = s .numbers ++ (d ∷ []); inNumber = true }
+
+-- the number at a place with a further digit: 10 n + d for n
+abbrev pub withDigit : List ℕ → ℕ → ℕ → ℕ
+withDigit numbers place d = 10 * getD numbers place 0 + d
+
+-- a further digit with the value d of the last number
+abbrev pub extended : Scanned → ℕ → Scanned
+extended s d =
+    let last = length (s .numbers) - 1 in
+    record { text = s .text; numbers = set (s .numbers) last (withDigit (s .numbers) last d); inNumber = true }
+
+-- any other byte is of the text
+abbrev pub appended : Scanned → ℕ → Scanned
+appended s b = record { text = s .text ++ (b ∷ []); numbers = s .numbers; inNumber = false }
+
+unfoldable pub scanByte : Scanned → ℕ → Scanned
+scanByte s b =
+    cond (isDigit b) (cond (s .inNumber) (extended s (b - zeroDigit)) (opened s (b - zeroDigit))) (appended s b)
+
+unfoldable pub scanBytes : Scanned → List ℕ → Scanned
+scanBytes s [] = s
+scanBytes s (b ∷ bs) = scanBytes (scanByte s b) bs
+
+-- 01: "a line ends at a line feed or at the end of input": the bytes of the line that stands first
+unfoldable pub firstLine : List ℕ → List ℕ
+firstLine [] = []
+firstLine (b ∷ bs) = cond (eqb b lineFeed) [] (b ∷ firstLine bs)

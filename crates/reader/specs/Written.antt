@@ -1,0 +1,32 @@
+-- What a line's text and numbers are, with no order of scanning. 01: "a number is digits alone".
+use mathlib.Core.Bool.{Bool, true, false}
+use mathlib.Core.List.{List, [], _∷_, _++_}
+use mathlib.Core.Path.{_≡_}
+use Prim.Native.Nat.{ℕ, _+_, _*_, _-_}
+use Rattle.reader.specs.Scanned.{isDigit, zeroDigit}
+
+-- digits, at least one
+pub data Numeral : List ℕ → Type 0 where
+  last : {d : ℕ} → isDigit d ≡ true → Numeral (d ∷ [])
+  then : {d : ℕ} {ds : List ℕ} → isDigit d ≡ true → Numeral ds → Numeral (d ∷ ds)
+
+-- the value of decimal digits that follow a number
+unfoldable pub valueAfter : ℕ → List ℕ → ℕ
+valueAfter n [] = n
+valueAfter n (d ∷ ds) = valueAfter (10 * n + (d - zeroDigit)) ds
+
+unfoldable pub value : List ℕ → ℕ
+value ds = valueAfter 0 ds
+
+unfoldable pub beginsWithDigit : List ℕ → Bool
+beginsWithDigit [] = false
+beginsWithDigit (b ∷ l) = isDigit b
+
+-- A line, its text and its numbers: a byte that is no digit stands in the text as it is, and a numeral that no further
+-- digit follows stands there as the digit 0.
+pub data Written : List ℕ → List ℕ → List ℕ → Type 0 where
+  ended : Written [] [] []
+  byte : {b : ℕ} {line text numbers : List ℕ} → isDigit b ≡ false → Written line text numbers
+      → Written (b ∷ line) (b ∷ text) numbers
+  number : {ds line text numbers : List ℕ} → Numeral ds → beginsWithDigit line ≡ false → Written line text numbers
+      → Written (ds ++ line) (zeroDigit ∷ text) (value ds ∷ numbers)

@@ -1,0 +1,133 @@
+// The form of a line, by its text.
+use crate::Line;
+use crate::scanning::Numbers;
+ghost use mathlib.Core.Path.{_≡_};
+ghost use Rattle.reader.specs.Text.{same};
+ghost use Rattle.reader.specs.Lines.{ticks, beginOr, beginOf, formOf};
+
+// Whether two byte strings are the same.
+fn is_text(text: &[u8], want: &[u8]) -> bool
+    ensures { λ r. ⌜ r ≡ same (now (text .entry)) (now (want .entry)) ⌝ }
+{
+    if text.len() != want.len() {
+        return false;
+    }
+    let mut i = 0;
+    while i < want.len() {
+        if text[i] != want[i] {
+            return false;
+        }
+        i += 1;
+    }
+    true
+}
+
+// 01: "times (1 to 1,000)".
+fn ticks_of(task: u32, hint: u32, times: u32) -> Line
+    ensures { λ r. ⌜ r ≡ ticks task hint times ⌝ }
+{
+    if times < 1 {
+        return Line::Unread;
+    }
+    if times <= 1_000 {
+        return Line::Tick { task, hint, times };
+    }
+    Line::Unread
+}
+
+// A begin of an operation, on the side whose text this is, or else another line.
+fn begin_or(
+    text: &[u8],
+    left: &[u8],
+    right: &[u8],
+    operation: u32,
+    task: u32,
+    argument: u32,
+    other: Line,
+) -> Line
+    ensures { λ r. ⌜ r ≡ beginOr (now (text .entry)) (now (left .entry)) (now (right .entry)) operation task argument
+        other ⌝ }
+{
+    if is_text(text, left) {
+        return Line::Begin {
+            task,
+            operation,
+            side: 0,
+            argument,
+        };
+    }
+    if is_text(text, right) {
+        return Line::Begin {
+            task,
+            operation,
+            side: 1,
+            argument,
+        };
+    }
+    other
+}
+
+// The begin with this text, or no form.
+fn begin_of(text: &[u8], task: u32, argument: u32) -> Line
+    ensures { λ r. ⌜ r ≡ beginOf (now (text .entry)) task argument ⌝ }
+{
+    let remove = begin_or(
+        text,
+        b"(begin 0 (remove left 0))",
+        b"(begin 0 (remove right 0))",
+        4,
+        task,
+        argument,
+        Line::Unread,
+    );
+    let add = begin_or(
+        text,
+        b"(begin 0 (add left 0))",
+        b"(begin 0 (add right 0))",
+        3,
+        task,
+        argument,
+        remove,
+    );
+    let pop = begin_or(
+        text,
+        b"(begin 0 (pop left 0))",
+        b"(begin 0 (pop right 0))",
+        2,
+        task,
+        argument,
+        add,
+    );
+    begin_or(
+        text,
+        b"(begin 0 (push left 0))",
+        b"(begin 0 (push right 0))",
+        1,
+        task,
+        argument,
+        pop,
+    )
+}
+
+// The form with this text and these numbers.
+pub fn form_of(text: &[u8], numbers: &Numbers) -> Line
+    ensures { λ r. ⌜ r ≡ formOf (now (text .entry)) (now (numbers .entry)) ⌝ }
+{
+    let a = numbers[0];
+    let b = numbers[1];
+    let c = numbers[2];
+    if is_text(text, b"(tick 0 0 0)") {
+        return ticks_of(a, b, c);
+    }
+    if is_text(text, b"(lane)") {
+        return Line::Lane;
+    }
+    if is_text(text, b"(start (slots 0) (tasks 0) (growth 0))") {
+        return Line::Start {
+            slots: a,
+            tasks: b,
+            growth: c,
+        };
+    }
+    begin_of(text, a, b)
+}

@@ -1,0 +1,58 @@
+// The lines of the belt run: the bytes of a line are scanned in constant memory, and its form is read off.
+mod forms;
+pub mod scanning;
+
+use forms::form_of;
+use scanning::Numbers;
+use scanning::Scan;
+ghost use mathlib.Core.Path.{_≡_};
+ghost use Rattle.reader.specs.Scanned.{Scanned, firstLine};
+ghost use Rattle.reader.specs.Lines.{lineOf, lineRead};
+ghost use Rattle.reader.specs.Kept.{Kept, Represents};
+
+// What a line says. Operations are 1 push, 2 pop, 3 add, 4 remove; sides 0 left, 1 right.
+pub enum Line {
+    Start {
+        slots: u32,
+        tasks: u32,
+        growth: u32,
+    },
+    Begin {
+        task: u32,
+        operation: u32,
+        side: u32,
+        argument: u32,
+    },
+    Tick {
+        task: u32,
+        hint: u32,
+        times: u32,
+    },
+    Lane,
+    Unread,
+}
+
+// What a scanned line says.
+pub fn scanned_line(text: &[u8], numbers: &Numbers, s: Scan) -> Line
+    requires { ⌜ Kept (now text) (now numbers) s ⌝ }
+    ensures { λ r. ⌜ ((σ : Scanned) → Represents (now (text .entry)) (now (numbers .entry)) s σ → r ≡ lineOf σ) ⌝ }
+{
+    let fits = s.fits;
+    let length = s.length;
+    if fits {
+        return form_of(&text[..length], numbers);
+    }
+    Line::Unread
+}
+
+// What the line says that stands first in these bytes.
+pub fn parse(bytes: &[u8]) -> Line
+    ensures { λ r. ⌜ r ≡ lineRead (firstLine (now (bytes .entry))) ⌝ }
+{
+    let mut text = [0u8; scanning::TEXT_PLACES];
+    let mut numbers = [0u32; scanning::NUMBER_PLACES];
+    let s = scanning::start(&mut numbers);
+    let stop = scanning::scan_line(bytes, 0, &mut text, &mut numbers, s);
+    let done = stop.scan;
+    scanned_line(&text, &numbers, done)
+}
