@@ -46,6 +46,10 @@ unfoldable pub linesOf : List ℕ → List (List ℕ)
 linesOf [] = []
 linesOf (b ∷ bs) = cond (eqb b lineFeed) ([] ∷ linesOf bs) (inFront b (linesOf bs))
 
--- What an input prints: at first there is no table, and there is room for 1,024 bags.
+-- Places for the bags of a lane: no table has more nodes.
+abbrev pub mostBags : ℕ
+mostBags = 1024
+
+-- What an input prints. At first there is no table.
 unfoldable pub beltRun : List ℕ → List ℕ
-beltRun input = printed (map lineRead (linesOf input)) [] (replicate 1024 0)
+beltRun input = printed (map lineRead (linesOf input)) [] (replicate mostBags 0)

@@ -1,4 +1,5 @@
--- The answers' numbers: of start and begin, of a read, and the two words that a run writes for a tick, and back.
+-- The answers' numbers: of start and begin, of a read, the two words that a run writes for a tick, and the answer
+-- that two such words stand for.
 use mathlib.Core.Option.{Option, some, none as nothing}
 use Prim.Native.Nat.{ℕ}
 use Rattle.machine.specs.declared.Answer.{Answer}

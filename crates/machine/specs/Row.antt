@@ -95,8 +95,8 @@ isGoing Yes = false
 isGoing No = false
 isGoing (Refused n) = false
 
--- A tick that was made. 01: a tick answers the call in its task's note, so a task without one gets no answer, "going"
--- neither; after each tick's answer but "going" the task has no note.
+-- A tick that was made. 01: a tick answers the call in its task's note, so a task without one gets no answer, not
+-- even "going"; after each tick's answer but "going" the task has no note.
 unfoldable pub feedMade : Row → ℕ → Answer → Option Row
 feedMade ρ k a =
     bind (ρ .notes k)

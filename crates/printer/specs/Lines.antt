@@ -22,7 +22,8 @@ use Rattle.printer.specs.declared.Outcome.the-variants.{
   Unread,
 }
 
--- The digits of a number below 10^k: the number where it is below 10, else the digits of its tenth and then the last.
+-- The digits of a number below 10^k, where k is not 0: the number if it is below 10, else the digits of n / 10 and then
+-- the last digit.
 unfoldable pub digitsIn : (k n : ℕ) → List ℕ
 digitsIn zero n = []
 digitsIn (suc k) n =
@@ -40,7 +41,7 @@ unfoldable pub spaced : List ℕ → List ℕ
 spaced [] = []
 spaced (bag ∷ bags) = bytes " " ++ decimal bag ++ spaced bags
 
--- A name with a number.
+-- An opening text, a number and the end of the line.
 abbrev pub named : String → ℕ → List ℕ
 named name n = bytes name ++ decimal n ++ bytes ")\n"
 

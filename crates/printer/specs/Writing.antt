@@ -24,7 +24,7 @@ pub record Written (before : List ℕ) (at : ℕ) (text after : List ℕ) (next 
   pub buffer : after ≡ sets before at text
   pub end : next ≡ at + length text
 
--- How many bags a line names.
+-- How many bags of the lane a line names.
 abbrev pub countOf : Outcome → ℕ
 countOf Ok = 0
 countOf Going = 0
@@ -38,6 +38,7 @@ countOf (Refused n) = 0
 countOf (Lane n) = n
 countOf Unread = 0
 
--- The most bytes that a line takes: `(refused 4294967295)` and a line feed, or as many bags with their spaces.
+-- Room enough for a line: `(refused 4294967295)` with its line feed is the longest without a lane, and a bag of a lane
+-- takes 11 bytes at most.
 abbrev pub roomFor : (bags : ℕ) → ℕ
 roomFor n = 21 + 11 * n

@@ -1,4 +1,4 @@
--- Lines of the belt run and lines close to them, with what each says.
+-- Lines that are read and lines close to them, with what each says; `proofs/Worked` shows it.
 use mathlib.Core.List.{List, [], _∷_}
 use Prim.Native.String.{String}
 use Rattle.reader.specs.declared.Line.{Line}

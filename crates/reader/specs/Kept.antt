@@ -17,20 +17,21 @@ textPlaces = 39
 abbrev pub numberPlaces : ℕ
 numberPlaces = 4
 
--- the counts of a scan are within the two arrays
+-- the counts of a scan are within the two arrays, and a number that is open is counted
 pub record Counts (s : Scan) : Type 0 where
   pub short : s .length ≤ textPlaces
   pub few : s .count ≤ numberPlaces
   pub some : s .in_number ≡ true → 0 < s .count
 
--- what every scan keeps to
+-- what holds of the arrays and the scan at all times
 pub record Kept (text numbers : List ℕ) (s : Scan) : Type 0 where
   pub text-places : length text ≡ textPlaces
   pub number-places : length numbers ≡ numberPlaces
   pub counts : Counts s
 
 -- The arrays text and numbers with the scan s stand for what was scanned: the first bytes of its text; how many numbers
--- it has, up to 4; whether all of them fit, and if they do, the first three, and the last at the last place used.
+-- it has, up to 4; whether all of them fit, and if they do, the first three, 0 where there are fewer, and the last at the
+-- last place used.
 pub record Represents (text numbers : List ℕ) (s : Scan) (σ : Scanned) : Type 0 where
   pub text-kept : take (s .length) text ≡ take textPlaces (σ .text)
   pub counted : s .count ≡ min numberPlaces (length (σ .numbers))
@@ -40,13 +41,13 @@ pub record Represents (text numbers : List ℕ) (s : Scan) (σ : Scanned) : Type
   pub last : s .fits ≡ true → 0 < s .count
       → getD numbers (s .count - 1) 0 ≡ getD (σ .numbers) (length (σ .numbers) - 1) 0
 
--- Scanning bytes on from the first arrays and scan left the second: whatever the first stand for, the second stand for
--- that with the bytes scanned.
+-- Scanning these bytes turned the first arrays and scan into the second: whatever the first stand for, the second stand
+-- for that with the bytes scanned.
 pub record Scans (bytes text₀ numbers₀ : List ℕ) (s₀ : Scan) (text numbers : List ℕ) (s : Scan) : Type 0 where
   pub kept : Kept text numbers s
   pub scans : (σ : Scanned) → Represents text₀ numbers₀ s₀ σ → Represents text numbers s (scanBytes σ bytes)
 
--- The line that stands first from a place of the chunk is scanned on, up to its line feed or the end of the chunk.
+-- The chunk is scanned from a place up to the next line feed or its end.
 pub record ScansLine (chunk : List ℕ) (from : ℕ) (text₀ numbers₀ : List ℕ) (s₀ : Scan) (text numbers : List ℕ)
     (r : Stop) : Type 0 where
   pub stops : r .at ≡ from + length (firstLine (drop from chunk))

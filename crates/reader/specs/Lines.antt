@@ -26,7 +26,7 @@ ticks task hint times = cond (leb 1 times && leb times 1_000) (Tick task hint ti
 abbrev pub beginText : String → String → List ℕ
 beginText operation side = bytes ("(begin 0 (" ++ (operation ++ (" " ++ (side ++ " 0))"))))
 
--- a begin of the operation with this number, on the side whose text this is, or else another line
+-- a begin of the operation with this number on the side whose text matches; where neither does, the other line
 unfoldable pub beginOr : List ℕ → List ℕ → List ℕ → ℕ → ℕ → ℕ → Line → Line
 beginOr text left right operation task argument other =
     cond (same text left) (Begin task operation 0 argument)
@@ -40,7 +40,7 @@ beginOf text task argument =
     (beginOr text (beginText "add" "left") (beginText "add" "right") 3 task argument
     (beginOr text (beginText "remove" "left") (beginText "remove" "right") 4 task argument Unread)))
 
--- the form with this text and these numbers, of which a line has as many as its text has zeros
+-- the form with this text and these numbers; a scanned line has one number for each 0 in its text
 unfoldable pub formOf : List ℕ → List ℕ → Line
 formOf text ns =
     cond (same text (bytes "(tick 0 0 0)")) (ticks (getD ns 0 0) (getD ns 1 0) (getD ns 2 0))

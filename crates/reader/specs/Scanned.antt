@@ -32,17 +32,17 @@ abbrev pub opened : Scanned → ℕ → Scanned
 opened s d =
     record { text = s .text ++ (zeroDigit ∷ []); numbers = s .numbers ++ (d ∷ []); inNumber = true }
 
--- the number at a place with a further digit: 10 n + d for n
+-- the number at a place with a further digit: n becomes 10 n + d
 abbrev pub withDigit : List ℕ → ℕ → ℕ → ℕ
 withDigit numbers place d = 10 * getD numbers place 0 + d
 
--- a further digit with the value d of the last number
+-- the last number gets a further digit, of value d
 abbrev pub extended : Scanned → ℕ → Scanned
 extended s d =
     let last = length (s .numbers) - 1 in
     record { text = s .text; numbers = set (s .numbers) last (withDigit (s .numbers) last d); inNumber = true }
 
--- any other byte is of the text
+-- any other byte is added to the text
 abbrev pub appended : Scanned → ℕ → Scanned
 appended s b = record { text = s .text ++ (b ∷ []); numbers = s .numbers; inNumber = false }
 

@@ -1,4 +1,4 @@
--- What a line's text and numbers are, with no order of scanning. 01: "a number is digits alone".
+-- What a line's text and numbers are, described without scanning. 01: "a number is digits alone".
 use mathlib.Core.Bool.{Bool, true, false}
 use mathlib.Core.List.{List, [], _∷_, _++_}
 use mathlib.Core.Path.{_≡_}

@@ -1,0 +1,114 @@
+-- `lane::answer_chunk` meets its contract. The loop keeps what holds after each part of the chunk.
+use mathlib.Core.Path.{sym, _∙_}
+use lib.Seq.{length-take-le}
+use Prim.Native.Nat.{_-_}
+use native.Mathlib.Omega.{arith}
+use lib.ListN.{length}
+use borrow.Author.Needs.{needs}
+use Rattle.machine.proofs.Contradiction.{clash}
+use Rattle.session.specs.Held.{lentOf}
+use Rattle.lane.proofs.ChunkLaws.{Answering, answering-starts, answering-goes-on, answering-ends}
+use Rattle.lane.proofs.answer_chunk.Statement.{statement}
+use Rattle.lane.proofs.answer_chunk.Tie as tie
+
+abbrev Inv-loop : tie.InvT-loop
+Inv-loop chunk space₀ bags₀ text₀ numbers₀ out₀ left₀ from₀ space bags text numbers out left from =
+    Answering chunk (lentOf space₀ bags₀ text₀ numbers₀ left₀) out₀ from (lentOf space bags text numbers left) out
+
+abbrev μ-loop : tie.MeasureT-loop
+μ-loop chunk space₀ bags₀ text₀ numbers₀ out₀ left₀ from₀ space bags text numbers out left from =
+    length chunk - from
+
+loop-holds : tie.Need-loop-holds Inv-loop μ-loop
+loop-holds c = answering-starts _ (c .before .before .before .before .pre .0)
+
+serve-lines-requires : tie.Need-serve-lines-requires Inv-loop μ-loop
+serve-lines-requires c κs =
+    let loop = c .before .before .before .before .before .before in
+    let A = loop .loop .inv in
+    (A .within, (A .ready, omega (arith, A .same-out, loop .before .before .before .before .before .pre .1)))
+
+slice-reshare-prefix-write-all : tie.Need-slice-reshare-prefix-write-all Inv-loop μ-loop
+slice-reshare-prefix-write-all c =
+    let served = c .before .before .before .before .before .before .before in
+    omega (arith, served .serve-lines .ensures .1 .1)
+
+slice-aggregate-write-all : tie.Need-slice-aggregate-write-all Inv-loop μ-loop
+slice-aggregate-write-all c =
+    let served = c .before .before .before .before .before .before .before .before in
+    sym (length-take-le _ _ (served .serve-lines .ensures .1 .1))
+
+write-all-requires : tie.Need-write-all-requires Inv-loop μ-loop
+write-all-requires c κs = search needs
+
+same-length : tie.Need-same-length Inv-loop μ-loop
+same-length c =
+    let served = c .before .before .before .before .before .before .before .before .before .before in
+    let loop = served .before .before .before .before .before .before .before in
+    served .serve-lines .kept .1 .1 .0 ∙ loop .loop .inv .same-space
+
+same-length-2 : tie.Need-same-length-2 Inv-loop μ-loop
+same-length-2 c =
+    let served = c .before .before .before .before .before .before .before .before .before .before in
+    let loop = served .before .before .before .before .before .before .before in
+    served .serve-lines .kept .1 .1 .1 .0 ∙ loop .loop .inv .same-bags
+
+same-length-3 : tie.Need-same-length-3 Inv-loop μ-loop
+same-length-3 c =
+    let served = c .before .before .before .before .before .before .before .before .before .before in
+    let loop = served .before .before .before .before .before .before .before in
+    served .serve-lines .kept .1 .1 .1 .1 .1 .1 .1 .0 ∙ loop .loop .inv .same-out
+
+returns : tie.Need-returns Inv-loop μ-loop
+returns c = (λ e. clash (cc), λ e. clash (cc))
+
+loop-less : tie.Need-loop-less Inv-loop μ-loop
+loop-less c =
+    let served = c .before .before .before .before .before .before .before .before .before .before in
+    let test = served .before .before .before .before .before .before in
+    let onward = served .serve-lines .ensures .0 in
+    omega (arith, onward .within, onward .further (test .loop-test .taken))
+
+loop-again : tie.Need-loop-again Inv-loop μ-loop
+loop-again c =
+    let served = c .before .before .before .before .before .before .before .before .before .before in
+    let loop = served .before .before .before .before .before .before .before in
+    let kept = served .serve-lines .kept in
+    answering-goes-on _ (loop .loop .inv) _ (served .serve-lines .ensures .0) (served .serve-lines .ensures .1 .0)
+    (kept .1 .1 .0) (kept .1 .1 .1 .0) (kept .1 .1 .1 .1 .1 .1 .1 .0)
+
+same-length-4 : tie.Need-same-length-4 Inv-loop μ-loop
+same-length-4 c = c .before .loop .inv .same-space
+
+same-length-5 : tie.Need-same-length-5 Inv-loop μ-loop
+same-length-5 c = c .before .loop .inv .same-bags
+
+same-length-6 : tie.Need-same-length-6 Inv-loop μ-loop
+same-length-6 c = c .before .loop .inv .same-out
+
+returns-2 : tie.Need-returns-2 Inv-loop μ-loop
+returns-2 c =
+    let A = c .before .loop .inv in
+    (λ _. A .ready, λ _. answering-ends _ A (c .loop-test .left))
+
+pub answer-chunk-spec : {M : Type 1} → statement M
+answer-chunk-spec =
+    tie.close
+    (tie.spec
+    Inv-loop
+    μ-loop
+    loop-holds
+    serve-lines-requires
+    slice-reshare-prefix-write-all
+    slice-aggregate-write-all
+    write-all-requires
+    same-length
+    same-length-2
+    same-length-3
+    returns
+    loop-less
+    loop-again
+    same-length-4
+    same-length-5
+    same-length-6
+    returns-2)

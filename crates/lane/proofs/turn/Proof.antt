@@ -1,0 +1,90 @@
+-- `lane::turn` meets its contract: what came is answered, or the input is at its end.
+use mathlib.Core.Path.{sym}
+use lib.Seq.{length-take-le}
+use Rattle.machine.proofs.Contradiction.{clash}
+use borrow.Author.Needs.{needs}
+use Rattle.lane.proofs.turn.Statement.{statement}
+use Rattle.lane.proofs.turn.Tie as tie
+
+read-requires : tie.Need-read-requires
+read-requires c κs = search needs
+
+count-requires : tie.Need-count-requires
+count-requires c κs = search needs
+
+finish-requires : tie.Need-finish-requires
+finish-requires c κs = search needs
+
+slice-reshare-prefix-write-all : tie.Need-slice-reshare-prefix-write-all
+slice-reshare-prefix-write-all c = search needs
+
+slice-aggregate-write-all : tie.Need-slice-aggregate-write-all
+slice-aggregate-write-all c =
+    let finished = c .before .before .before .before .before .before .before in
+    sym (length-take-le _ _ (finished .finish .ensures .1))
+
+write-all-requires : tie.Need-write-all-requires
+write-all-requires c κs = search needs
+
+same-length : tie.Need-same-length
+same-length c = search needs
+
+same-length-2 : tie.Need-same-length-2
+same-length-2 c = search needs
+
+same-length-3 : tie.Need-same-length-3
+same-length-3 c = search needs
+
+same-length-4 : tie.Need-same-length-4
+same-length-4 c = search needs
+
+returns : tie.Need-returns
+returns c = λ e. clash (cc)
+
+slice-reshare-prefix-answer-chunk : tie.Need-slice-reshare-prefix-answer-chunk
+slice-reshare-prefix-answer-chunk c = search needs
+
+slice-aggregate-answer-chunk : tie.Need-slice-aggregate-answer-chunk
+slice-aggregate-answer-chunk c = search needs
+
+answer-chunk-requires : tie.Need-answer-chunk-requires
+answer-chunk-requires c κs = search needs
+
+same-length-5 : tie.Need-same-length-5
+same-length-5 c = search needs
+
+same-length-6 : tie.Need-same-length-6
+same-length-6 c = search needs
+
+same-length-7 : tie.Need-same-length-7
+same-length-7 c = search needs
+
+same-length-8 : tie.Need-same-length-8
+same-length-8 c = search needs
+
+returns-2 : tie.Need-returns-2
+returns-2 c = search needs
+
+pub turn-spec : {M : Type 1} → statement M
+turn-spec =
+    tie.close
+    (tie.spec
+    read-requires
+    count-requires
+    finish-requires
+    slice-reshare-prefix-write-all
+    slice-aggregate-write-all
+    write-all-requires
+    same-length
+    same-length-2
+    same-length-3
+    same-length-4
+    returns
+    slice-reshare-prefix-answer-chunk
+    slice-aggregate-answer-chunk
+    answer-chunk-requires
+    same-length-5
+    same-length-6
+    same-length-7
+    same-length-8
+    returns-2)

@@ -1,0 +1,5 @@
+pub mod Chunks
+pub mod WholeRun
+pub mod TakenLaws
+pub mod HeldLaws
+pub mod ServingLaws

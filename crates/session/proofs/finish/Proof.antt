@@ -1,0 +1,34 @@
+-- `session::finish` meets its contract: a line that has a byte is answered, and else nothing is printed.
+use native.Mathlib.Omega.{arith}
+use Rattle.session.proofs.HeldLaws.{last-line, no-last-line}
+use borrow.Author.Needs.{needs}
+use Rattle.session.proofs.finish.Statement.{statement}
+use Rattle.session.proofs.finish.Tie as tie
+
+end-line-requires : tie.Need-end-line-requires
+end-line-requires c κs = search needs
+
+same-length : tie.Need-same-length
+same-length c = search needs
+
+same-length-2 : tie.Need-same-length-2
+same-length-2 c = search needs
+
+same-length-3 : tie.Need-same-length-3
+same-length-3 c = search needs
+
+returns : tie.Need-returns
+returns c =
+    let ended = c .before .before .before .before .before .before in
+    let then = ended .before .before .before .before .before in (
+      λ s h. last-line h (then .if1 .taken) (ended .end-line .ensures .0),
+      omega (arith, ended .end-line .ensures .1, ended .end-line .kept .1 .1 .1 .1 .1 .0),
+    )
+
+returns-2 : tie.Need-returns-2
+returns-2 c = (λ s h. no-last-line h (c .if1 .left), omega arith)
+
+pub finish-spec : {M : Type 1} → statement M
+finish-spec =
+    tie.close
+    (tie.spec end-line-requires same-length same-length-2 same-length-3 returns returns-2)
