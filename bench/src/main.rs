@@ -2,6 +2,7 @@
 
 #![forbid(unsafe_code)]
 
+mod lines;
 mod loads;
 mod measure;
 mod programs;
@@ -45,9 +46,9 @@ const ROWS: [(&str, Make, Measure); 6] = [
 
 fn main() {
     let words: Vec<String> = std::env::args().skip(1).collect();
-    let rounds = match words.iter().map(String::as_str).collect::<Vec<_>>()[..] {
-        [] => 1001,
-        ["--quick"] => 101,
+    let (rounds, line_rounds) = match words.iter().map(String::as_str).collect::<Vec<_>>()[..] {
+        [] => (1001, 7),
+        ["--quick"] => (101, 3),
         _ => {
             eprintln!("usage: bench/run [--quick]");
             std::process::exit(2);
@@ -67,6 +68,8 @@ fn main() {
     ratios(rounds);
     println!();
     growth(rounds / 2);
+    println!();
+    lines::rows(line_rounds);
 }
 
 /// The table of ratios.

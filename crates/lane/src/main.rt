@@ -19,7 +19,7 @@ ghost use Rattle.belt.specs.Run.{mostBags};
 ghost use Rattle.session.specs.Session.{takeBytes};
 ghost use Rattle.session.specs.Held.{lentOf, Ready, Leads, lineRoom};
 
-// What a turn leaves: what is held, and whether the session goes on. It ends with its input, or when a write fails.
+// What a turn leaves: what is held, and whether the session goes on. It ends with its input, and when a write fails.
 struct Left {
     pub held: Held,
     pub going: bool,
@@ -37,30 +37,24 @@ fn answer_chunk(
 ) -> Left
     requires { ⌜ Ready (lentOf (now space) (now bags) (now text) (now numbers) held) ⌝ }
     requires { ⌜ lineRoom ≤ length (now out) ⌝ }
-    ensures { λ r. ⌜ (r .going ≡ true → Ready
-        (lentOf (now (space .exit)) (now (bags .exit)) (now (text .exit)) (now (numbers .exit)) (r .held))) ⌝ }
+    ensures { λ r. ⌜ Ready
+        (lentOf (now (space .exit)) (now (bags .exit)) (now (text .exit)) (now (numbers .exit)) (r .held)) ⌝ }
     ensures { λ r. ⌜ (r .going ≡ true → Leads (takeBytes (now (chunk .entry)))
         (lentOf (now (space .entry)) (now (bags .entry)) (now (text .entry)) (now (numbers .entry)) held)
         (lentOf (now (space .exit)) (now (bags .exit)) (now (text .exit)) (now (numbers .exit)) (r .held))) ⌝ }
 {
-    let mut left = held;
+    let mut held = held;
     let mut from = 0;
     while from < chunk.len() {
-        let served = serve_lines(chunk, from, space, bags, text, numbers, left, out);
-        left = served.held;
+        let served = serve_lines(chunk, from, space, bags, text, numbers, held, out);
+        held = served.held;
         from = served.from;
         let end = served.at;
         if !io::write_all(STDOUT_FILENO, &out[..end]) {
-            return Left {
-                held: left,
-                going: false,
-            };
+            return Left { held, going: false };
         }
     }
-    Left {
-        held: left,
-        going: true,
-    }
+    Left { held, going: true }
 }
 
 // Reads once, and answers what came before anything more is read. A read that fails ends the input.
@@ -75,13 +69,15 @@ fn turn(
 ) -> Left
     requires { ⌜ Ready (lentOf (now space) (now bags) (now text) (now numbers) held) ⌝ }
     requires { ⌜ lineRoom ≤ length (now out) ⌝ }
-    ensures { λ r. ⌜ (r .going ≡ true → Ready
-        (lentOf (now (space .exit)) (now (bags .exit)) (now (text .exit)) (now (numbers .exit)) (r .held))) ⌝ }
+    ensures { λ r. ⌜ Ready
+        (lentOf (now (space .exit)) (now (bags .exit)) (now (text .exit)) (now (numbers .exit)) (r .held)) ⌝ }
 {
     let got = libc::read(STDIN_FILENO, input);
     let n = io::count(got, input);
     if n == 0 {
-        let end = finish(space, bags, text, numbers, held, out);
+        let ended = finish(space, bags, text, numbers, held, out);
+        let held = ended.held;
+        let end = ended.at;
         io::write_all(STDOUT_FILENO, &out[..end]);
         return Left { held, going: false };
     }
@@ -118,6 +114,7 @@ fn run(
 
 fn main() {
     let mut input = io::large_buffer();
+    // The largest table has 8 + 3 * 1,024 + 10 * 16 words.
     let mut space = [0u32; 3240];
     let mut bags = [0u32; 1024];
     let mut text = [0u8; TEXT_PLACES];

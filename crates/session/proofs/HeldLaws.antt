@@ -1,6 +1,6 @@
 -- What the calls make of the state that is held.
 use mathlib.Core.Path.{_≡_, refl, sym, ap, _∙_}
-use mathlib.Core.Bool.{Bool, true, false, _||_}
+use mathlib.Core.Bool.{Bool, true, false, cond, _||_}
 use mathlib.Core.List.{List}
 use Prim.Native.Nat.{ℕ, _+_, _≤_, _<_}
 use native.Mathlib.Omega.{arith}
@@ -20,7 +20,7 @@ use Rattle.printer.proofs.WritingLaws.{written-append}
 use Rattle.belt.specs.Run.{LineDone, answer, mostBags}
 use Rattle.belt.specs.Space.{largestTable, doneOf, Answers}
 use Rattle.session.specs.declared.Held.{Held}
-use Rattle.session.specs.Session.{State, atFirst, endLine, takeBytes, lastText}
+use Rattle.session.specs.Session.{State, atFirst, endLine, silent, takeBytes, endInput}
 use Rattle.session.specs.Held.{Lent, lentOf, Ready, Holds, Leads, Makes, Onward}
 use Rattle.session.proofs.TakenLaws.{any-between, scannedOn, part-taken, whole-taken, parts-taken, none-taken}
 
@@ -172,12 +172,24 @@ module _ (chunk : List ℕ) (a : ℕ) {first : Lent} where
   all-leads zero all leads s h = rw (zero, all, take-length chunk) at (leads s h)
 
 -- ---- The end of the input.
-module _ {l : Lent} {s : State} (h : Holds l s) {out : List ℕ} where
-  pub last-line : l .held .begun ≡ true → {left : Lent} {out′ : List ℕ} {at′ : ℕ}
-      → Makes endLine l left out 0 out′ at′ → Written out 0 (lastText s) out′ at′
-  unfolding lastText endLine
-  last-line e made = rw (sym (h .begun) ∙ e) (made .prints s h)
+ends-by : (s : State) {b : Bool} → s .begun ≡ b → endInput s ≡ cond b (endLine s) (silent s)
+unfolding endInput
+ends-by s e = ap (λ (b : Bool). cond b (endLine s) (silent s)) e
 
-  pub no-last-line : l .held .begun ≡ false → Written out 0 (lastText s) out 0
-  unfolding lastText
-  no-last-line e = rw (sym (h .begun) ∙ e) (record { buffer = refl; end = refl })
+module _ {l : Lent} {out : List ℕ} where
+  pub last-line : l .held .begun ≡ true → {left : Lent} {out′ : List ℕ} {at : ℕ}
+      → Makes endLine l left out 0 out′ at → Makes endInput l left out 0 out′ at
+  last-line e made =
+      record {
+        ready = made .ready;
+        leads = λ s h. rw (ends-by s (sym (h .begun) ∙ e)) (made .leads s h);
+        prints = λ s h. rw (ends-by s (sym (h .begun) ∙ e)) (made .prints s h);
+      }
+
+  pub no-last-line : l .held .begun ≡ false → Ready l → Makes endInput l l out 0 out 0
+  no-last-line e ready =
+      record {
+        ready = ready;
+        leads = λ s h. rw (ends-by s (sym (h .begun) ∙ e)) h;
+        prints = λ s h. rw (ends-by s (sym (h .begun) ∙ e)) (record { buffer = refl; end = refl });
+      }

@@ -9,7 +9,7 @@ use lib.Dec.{eqb, ltb}
 use lib.ListN.{length, take, drop, length-drop, take-append-drop}
 use lib.Seq.{slice, slice-empty, take-nil, take-take, length-take-le, drop-append-le}
 use Rattle.reader.specs.Scanned.{lineFeed, scanBytes, firstLine}
-use Rattle.session.specs.Session.{State, Step, endLine, goOn, takeByte, after, takeBytes}
+use Rattle.session.specs.Session.{State, Step, endLine, silent, goOn, takeByte, after, takeBytes}
 use Rattle.session.proofs.Chunks.{takeBytes-append}
 
 abbrev any : List ℕ → Bool
@@ -30,9 +30,6 @@ scannedOn bytes s =
       line = scanBytes (s .line) bytes;
       begun = s .begun || any bytes;
     }
-
-abbrev pub silent : State → Step
-silent s = record { state = s; text = [] }
 
 -- The same state but for whether its line has a byte.
 begun-as : (s : State) {x y : Bool} → x ≡ y

@@ -16,7 +16,7 @@ use Rattle.session.specs.Session.{
   goOn,
   takeByte,
   takeBytes,
-  lastText,
+  endInput,
   printedFrom,
   session,
 }
@@ -29,7 +29,7 @@ linesFrom s (line ∷ lines) = lineOf (scanBytes (s .line) line) ∷ map lineRea
 
 -- What bytes and then the end of the input print.
 abbrev printedBy : List ℕ → State → List ℕ
-printedBy bytes s = takeBytes bytes s .text ++ lastText (takeBytes bytes s .state)
+printedBy bytes s = takeBytes bytes s .text ++ endInput (takeBytes bytes s .state) .text
 
 -- ---- The first line by the byte in front of it.
 goOn-lines : (b : ℕ) (s : State) (lines : List (List ℕ))
@@ -48,7 +48,7 @@ abbrev Whole : State → List ℕ → Type 0
 Whole s bytes = printedBy bytes s ≡ printed (linesFrom s (linesOf bytes)) (s .words) (s .bags)
 
 at-end : (s : State) → Whole s []
-unfolding takeBytes lastText endLine linesFrom linesOf printed
+unfolding takeBytes endInput endLine linesFrom linesOf printed
 at-end s = go (s .begun) refl
   where
     go : (begun : Bool) → s .begun ≡ begun → Whole s []
@@ -62,7 +62,7 @@ at-line-feed b bs s e left =
     let line = endLine s in
     let rest = takeBytes bs (line .state) in
     rw e
-    (append-assoc (line .text) (rest .text) (lastText (rest .state))
+    (append-assoc (line .text) (rest .text) (endInput (rest .state) .text)
     ∙ ap (λ (text : List ℕ). line .text ++ text)
     (left
     ∙ ap (λ (lines : List Line). printed lines (line .state .words) (line .state .bags))
@@ -99,8 +99,8 @@ chunks-joined (chunk ∷ chunks) s =
     let step = takeBytes chunk s in
     let rest = takeBytes (flatten chunks) (step .state) in
     ap (λ (text : List ℕ). step .text ++ text) (chunks-joined chunks (step .state))
-    ∙ sym (append-assoc (step .text) (rest .text) (lastText (rest .state)))
-    ∙ ap (λ (d : Step). d .text ++ lastText (d .state)) (sym (takeBytes-append chunk (flatten chunks) s))
+    ∙ sym (append-assoc (step .text) (rest .text) (endInput (rest .state) .text))
+    ∙ ap (λ (d : Step). d .text ++ endInput (d .state) .text) (sym (takeBytes-append chunk (flatten chunks) s))
 
 pub session-is-belt-run : (chunks : List (List ℕ)) → session chunks ≡ beltRun (flatten chunks)
 session-is-belt-run chunks = chunks-joined chunks atFirst ∙ whole-printed (flatten chunks)

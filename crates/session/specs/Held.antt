@@ -29,7 +29,8 @@ pub record Ready (l : Lent) : Type 0 where
   pub bag-places : length (l .bags) ≡ mostBags
   pub scan-kept : Kept (l .text) (l .numbers) (l .held .scan)
 
--- The state of a session that is held.
+-- The state of a session that is held. The further words of the space are of no account: whatever they are, a call does
+-- the same.
 pub record Holds (l : Lent) (s : State) : Type 0 where
   pub table : take (l .held .len) (l .space) ≡ s .words
   pub bags : l .bags ≡ s .bags

@@ -35,13 +35,13 @@ endLine s =
       text = textOf (done .outcome) (done .bags);
     }
 
+-- A step that prints nothing.
+abbrev pub silent : State → Step
+silent s = record { state = s; text = [] }
+
 -- A byte of a line.
 abbrev pub goOn : ℕ → State → Step
-goOn b s =
-    record {
-      state = record { words = s .words; bags = s .bags; line = scanByte (s .line) b; begun = true };
-      text = [];
-    }
+goOn b s = silent (record { words = s .words; bags = s .bags; line = scanByte (s .line) b; begun = true })
 
 -- 01: "a line ends at a line feed or at the end of input".
 unfoldable pub takeByte : ℕ → State → Step
@@ -52,16 +52,16 @@ abbrev pub after : List ℕ → Step → Step
 after text step = record { state = step .state; text = text ++ step .text }
 
 unfoldable pub takeBytes : List ℕ → State → Step
-takeBytes [] s = record { state = s; text = [] }
+takeBytes [] s = silent s
 takeBytes (b ∷ bs) s = let one = takeByte b s in after (one .text) (takeBytes bs (one .state))
 
 -- The end of the input ends a line that has a byte.
-unfoldable pub lastText : State → List ℕ
-lastText s = cond (s .begun) (endLine s .text) []
+unfoldable pub endInput : State → Step
+endInput s = cond (s .begun) (endLine s) (silent s)
 
 -- What chunks print from a state on, one after another, and then the end of the input.
 unfoldable pub printedFrom : List (List ℕ) → State → List ℕ
-printedFrom [] s = lastText s
+printedFrom [] s = endInput s .text
 printedFrom (chunk ∷ chunks) s =
     let step = takeBytes chunk s in
     step .text ++ printedFrom chunks (step .state)

@@ -15,10 +15,9 @@ ghost use lib.Dec.{ltb};
 ghost use lib.ListN.{length, replicate};
 ghost use lib.Seq.{slice};
 ghost use Rattle.reader.specs.Kept.{textPlaces};
-ghost use Rattle.printer.specs.Writing.{Written};
 ghost use Rattle.belt.specs.Space.{largestTable};
 ghost use Rattle.belt.specs.Run.{mostBags};
-ghost use Rattle.session.specs.Session.{State, atFirst, endLine, takeBytes, lastText};
+ghost use Rattle.session.specs.Session.{atFirst, endLine, takeBytes, endInput};
 ghost use Rattle.session.specs.Held.{lentOf, Ready, Holds, lineRoom, Makes, Onward};
 
 // The most bytes that one line prints: a lane of 1,024 bags.
@@ -131,28 +130,18 @@ fn serve(
     let scan = held.scan;
     let stop = scan_line(chunk, from, text, numbers, scan);
     let to = stop.at;
-    let scanned = stop.scan;
     let begun = has_byte(held.begun, from, to);
     let len = held.len;
-    let left = Held {
-        len,
-        scan: scanned,
-        begun,
-    };
+    let scan = stop.scan;
+    let held = Held { len, scan, begun };
     if to < chunk.len() {
-        let ended = end_line(space, bags, text, numbers, left, out, at);
-        let next = ended.held;
-        return Served {
-            from: to + 1,
-            held: next,
-            at: ended.at,
-        };
+        let ended = end_line(space, bags, text, numbers, held, out, at);
+        let from = to + 1;
+        let held = ended.held;
+        let at = ended.at;
+        return Served { from, held, at };
     }
-    Served {
-        from: to,
-        held: left,
-        at,
-    }
+    Served { from: to, held, at }
 }
 
 // Takes bytes of a chunk from a place on, line by line, until the chunk ends or the output has no room for a line more.
@@ -177,26 +166,18 @@ pub fn serve_lines(
     ensures { λ r. ⌜ r .at ≤ length (now (out .exit)) ⌝ }
 {
     let mut from = start;
-    let mut left = held;
+    let mut held = held;
     let mut at = 0;
     while from < chunk.len() {
         if out.len() < at + LINE_ROOM {
-            return Served {
-                from,
-                held: left,
-                at,
-            };
+            return Served { from, held, at };
         }
-        let served = serve(chunk, from, space, bags, text, numbers, left, out, at);
+        let served = serve(chunk, from, space, bags, text, numbers, held, out, at);
         from = served.from;
-        left = served.held;
+        held = served.held;
         at = served.at;
     }
-    Served {
-        from,
-        held: left,
-        at,
-    }
+    Served { from, held, at }
 }
 
 // The end of the input: a line that has a byte ends there.
@@ -207,18 +188,18 @@ pub fn finish(
     numbers: &mut Numbers,
     held: Held,
     out: &mut [u8],
-) -> usize
+) -> Ended
     requires { ⌜ Ready (lentOf (now space) (now bags) (now text) (now numbers) held) ⌝ }
     requires { ⌜ lineRoom ≤ length (now out) ⌝ }
-    ensures { λ r. ⌜ ((s : State)
-        → Holds (lentOf (now (space .entry)) (now (bags .entry)) (now (text .entry)) (now (numbers .entry)) held) s
-        → Written (now (out .entry)) 0 (lastText s) (now (out .exit)) r) ⌝ }
-    ensures { λ r. ⌜ r ≤ length (now (out .exit)) ⌝ }
+    ensures { λ r. ⌜ Makes endInput
+        (lentOf (now (space .entry)) (now (bags .entry)) (now (text .entry)) (now (numbers .entry)) held)
+        (lentOf (now (space .exit)) (now (bags .exit)) (now (text .entry)) (now (numbers .exit)) (r .held))
+        (now (out .entry)) 0 (now (out .exit)) (r .at) ⌝ }
+    ensures { λ r. ⌜ r .at ≤ length (now (out .exit)) ⌝ }
 {
     let begun = held.begun;
     if begun {
-        let ended = end_line(space, bags, text, numbers, held, out, 0);
-        return ended.at;
+        return end_line(space, bags, text, numbers, held, out, 0);
     }
-    0
+    Ended { held, at: 0 }
 }

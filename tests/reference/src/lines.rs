@@ -1,14 +1,18 @@
 //! The line program: one form a line in, one answer a line out.
 
-use std::io::{self, BufRead, Write};
+use std::io::{self, BufRead, BufReader, Read, Write};
 
 use crate::answer::Answer;
 use crate::calls;
 use crate::form::{self, Form};
 use crate::table::Sizes;
 
-/// Answers every line of the input and flushes each answer.
-pub fn serve(mut input: impl BufRead, mut output: impl Write) -> io::Result<()> {
+/// Bytes of a read.
+const READ: usize = 65_536;
+
+/// Answers every line of the input, and flushes the answers before a read that may have to wait.
+pub fn serve(input: impl Read, mut output: impl Write) -> io::Result<()> {
+    let mut input = BufReader::with_capacity(READ, input);
     let mut program = Program::default();
     let mut line = Vec::new();
     while input.read_until(b'\n', &mut line)? > 0 {
@@ -16,7 +20,9 @@ pub fn serve(mut input: impl BufRead, mut output: impl Write) -> io::Result<()> 
             line.pop();
         }
         writeln!(output, "{}", program.answer(&line))?;
-        output.flush()?;
+        if !input.buffer().contains(&b'\n') {
+            output.flush()?;
+        }
         line.clear();
     }
     Ok(())

@@ -12,11 +12,11 @@ use Rattle.lane.proofs.answer_chunk.Statement.{statement}
 use Rattle.lane.proofs.answer_chunk.Tie as tie
 
 abbrev Inv-loop : tie.InvT-loop
-Inv-loop chunk space₀ bags₀ text₀ numbers₀ out₀ left₀ from₀ space bags text numbers out left from =
-    Answering chunk (lentOf space₀ bags₀ text₀ numbers₀ left₀) out₀ from (lentOf space bags text numbers left) out
+Inv-loop chunk space₀ bags₀ text₀ numbers₀ out₀ held₀ from₀ space bags text numbers out held from =
+    Answering chunk (lentOf space₀ bags₀ text₀ numbers₀ held₀) out₀ from (lentOf space bags text numbers held) out
 
 abbrev μ-loop : tie.MeasureT-loop
-μ-loop chunk space₀ bags₀ text₀ numbers₀ out₀ left₀ from₀ space bags text numbers out left from =
+μ-loop chunk space₀ bags₀ text₀ numbers₀ out₀ held₀ from₀ space bags text numbers out held from =
     length chunk - from
 
 loop-holds : tie.Need-loop-holds Inv-loop μ-loop
@@ -60,7 +60,9 @@ same-length-3 c =
     served .serve-lines .kept .1 .1 .1 .1 .1 .1 .1 .0 ∙ loop .loop .inv .same-out
 
 returns : tie.Need-returns Inv-loop μ-loop
-returns c = (λ e. clash (cc), λ e. clash (cc))
+returns c =
+    let served = c .before .before .before .before .before .before .before .before .before .before in
+    (served .serve-lines .ensures .1 .0 .ready, λ e. clash (cc))
 
 loop-less : tie.Need-loop-less Inv-loop μ-loop
 loop-less c =
@@ -89,7 +91,7 @@ same-length-6 c = c .before .loop .inv .same-out
 returns-2 : tie.Need-returns-2 Inv-loop μ-loop
 returns-2 c =
     let A = c .before .loop .inv in
-    (λ _. A .ready, λ _. answering-ends _ A (c .loop-test .left))
+    (A .ready, λ _. answering-ends _ A (c .loop-test .left))
 
 pub answer-chunk-spec : {M : Type 1} → statement M
 answer-chunk-spec =

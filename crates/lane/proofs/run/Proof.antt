@@ -1,5 +1,4 @@
 -- `lane::run` meets its contract. The loop keeps what is lent ready; the turns left are its measure.
-use borrow.Author.Tests.{not-false}
 use mathlib.Core.Path.{_≡_, refl, _∙_}
 use native.Mathlib.Omega.{arith}
 use lib.ListN.{length}
@@ -68,12 +67,10 @@ loop-less c = omega arith
 
 loop-again : tie.Need-loop-again Inv-loop μ-loop
 loop-again c =
-    let else = c .before in
-    let turned = else .before .before .before .before .before .before .before .before .before in
+    let turned = c .before .before .before .before .before .before .before .before .before .before in
     let I = turned .before .before .before .before .before .before .before .before .loop .inv in
     let kept = turned .turn .kept in
-    let ready = turned .turn .ensures (not-false _ (else .if1 .left)) in
-    (ready, kept .0 ∙ I .1, kept .1 .0 ∙ I .2, kept .1 .1 .0 ∙ I .3, kept .1 .1 .1 .1 .1 .1 .0 ∙ I .4)
+    (turned .turn .ensures, kept .0 ∙ I .1, kept .1 .0 ∙ I .2, kept .1 .1 .0 ∙ I .3, kept .1 .1 .1 .1 .1 .1 .0 ∙ I .4)
 
 same-length-5 : tie.Need-same-length-5 Inv-loop μ-loop
 same-length-5 c = c .before .loop .inv .1

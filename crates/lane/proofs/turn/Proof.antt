@@ -1,7 +1,6 @@
 -- `lane::turn` meets its contract: what came is answered, or the input is at its end.
 use mathlib.Core.Path.{sym}
 use lib.Seq.{length-take-le}
-use Rattle.machine.proofs.Contradiction.{clash}
 use borrow.Author.Needs.{needs}
 use Rattle.lane.proofs.turn.Statement.{statement}
 use Rattle.lane.proofs.turn.Tie as tie
@@ -20,7 +19,7 @@ slice-reshare-prefix-write-all c = search needs
 
 slice-aggregate-write-all : tie.Need-slice-aggregate-write-all
 slice-aggregate-write-all c =
-    let finished = c .before .before .before .before .before .before .before in
+    let finished = c .before .before .before .before .before .before .before .before in
     sym (length-take-le _ _ (finished .finish .ensures .1))
 
 write-all-requires : tie.Need-write-all-requires
@@ -39,7 +38,9 @@ same-length-4 : tie.Need-same-length-4
 same-length-4 c = search needs
 
 returns : tie.Need-returns
-returns c = λ e. clash (cc)
+returns c =
+    let finished = c .before .before .before .before .before .before .before .before .before in
+    finished .finish .ensures .0 .ready
 
 slice-reshare-prefix-answer-chunk : tie.Need-slice-reshare-prefix-answer-chunk
 slice-reshare-prefix-answer-chunk c = search needs

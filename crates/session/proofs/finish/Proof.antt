@@ -20,13 +20,14 @@ same-length-3 c = search needs
 returns : tie.Need-returns
 returns c =
     let ended = c .before .before .before .before .before .before in
-    let then = ended .before .before .before .before .before in (
-      λ s h. last-line h (then .if1 .taken) (ended .end-line .ensures .0),
-      omega (arith, ended .end-line .ensures .1, ended .end-line .kept .1 .1 .1 .1 .1 .0),
-    )
+    let then = ended .before .before .before .before .before in
+    let done = ended .end-line in
+    (last-line (then .if1 .taken) (done .ensures .0), omega (arith, done .ensures .1, done .kept .1 .1 .1 .1 .1 .0))
 
 returns-2 : tie.Need-returns-2
-returns-2 c = (λ s h. no-last-line h (c .if1 .left), omega arith)
+returns-2 c =
+    let start = c .before .before .before .before in
+    (no-last-line (c .if1 .left) (start .pre .0), omega arith)
 
 pub finish-spec : {M : Type 1} → statement M
 finish-spec =

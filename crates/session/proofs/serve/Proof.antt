@@ -17,9 +17,9 @@ has-byte-requires c κs = search needs
 end-line-requires : tie.Need-end-line-requires
 end-line-requires c κs = search needs
 
-add-t31 : tie.Need-add-t31
-add-t31 c =
-    let ended = c .before .before .before .before .before .before .before in
+add-from : tie.Need-add-from
+add-from c =
+    let ended = c .before .before .before .before .before .before in
     let then = ended .before .before .before .before .before .before in
     let start = then .before .before .before .before .before .before .before .before .before .before .before in
     let h : then .before .before .before .scan-line .result .at < length (start .args .chunk .now) = then .if1 .taken in
@@ -43,7 +43,7 @@ returns c =
     let a = start .args in
     let l = lentOf (a .space .now) (a .bags .now) (a .text .now) (a .numbers .now) (a .held) in
     let made =
-    line-made l (start .pre .1 .0) (scanning .scan-line .ensures) (then .before .has-byte .ensures)
+    line-made l (start .pre .1 .0) (scanning .scan-line .ensures) (then .before .before .has-byte .ensures)
     (then .if1 .taken) (ended .end-line .ensures .0) in
     (line-onward (scanning .scan-line .ensures) (then .if1 .taken), (made, ended .end-line .ensures .1))
 
@@ -54,7 +54,7 @@ returns-2 c =
     let a = start .args in
     let l = lentOf (a .space .now) (a .bags .now) (a .text .now) (a .numbers .now) (a .held) in
     let made =
-    part-made l (start .pre .1 .0) (scanning .scan-line .ensures) (c .before .has-byte .ensures) (a .out .now)
+    part-made l (start .pre .1 .0) (scanning .scan-line .ensures) (c .before .before .has-byte .ensures) (a .out .now)
     (a .at) in
     (part-onward (scanning .scan-line .ensures) (c .if1 .left), (made, omega arith))
 
@@ -65,7 +65,7 @@ serve-spec =
     scan-line-requires
     has-byte-requires
     end-line-requires
-    add-t31
+    add-from
     same-length
     same-length-2
     same-length-3

@@ -8,12 +8,12 @@ use Rattle.session.proofs.serve_lines.Statement.{statement}
 use Rattle.session.proofs.serve_lines.Tie as tie
 
 abbrev Inv-loop : tie.InvT-loop
-Inv-loop chunk start space₀ bags₀ text₀ numbers₀ out₀ from₀ left₀ at₀ space bags text numbers out from left at =
-    let first = lentOf space₀ bags₀ text₀ numbers₀ left₀ in
-    Serving chunk start first out₀ from (lentOf space bags text numbers left) out at
+Inv-loop chunk start space₀ bags₀ text₀ numbers₀ out₀ from₀ held₀ at₀ space bags text numbers out from held at =
+    let first = lentOf space₀ bags₀ text₀ numbers₀ held₀ in
+    Serving chunk start first out₀ from (lentOf space bags text numbers held) out at
 
 abbrev μ-loop : tie.MeasureT-loop
-μ-loop chunk start space₀ bags₀ text₀ numbers₀ out₀ from₀ left₀ at₀ space bags text numbers out from left at =
+μ-loop chunk start space₀ bags₀ text₀ numbers₀ out₀ from₀ held₀ at₀ space bags text numbers out from held at =
     length chunk - from
 
 loop-holds : tie.Need-loop-holds Inv-loop μ-loop

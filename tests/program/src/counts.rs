@@ -1,0 +1,129 @@
+//! How often each outcome was seen, and which of them are missing.
+
+use std::collections::BTreeMap;
+
+/// What lines can reach. 2, 4, 6, 11 and above are not among them: a line makes its own table and spells its operation.
+const REACHED: [(&str, &[&str]); 5] = [
+    ("start", &["(ok)", "(refused 1)"]),
+    (
+        "begin",
+        &[
+            "(ok)",
+            "(refused 3)",
+            "(refused 5)",
+            "(refused 7)",
+            "(refused 8)",
+        ],
+    ),
+    (
+        "tick",
+        &[
+            "(going)",
+            "(pushed)",
+            "(bag ..)",
+            "(empty)",
+            "(full)",
+            "(yes)",
+            "(no)",
+            "(refused 3)",
+            "(refused 5)",
+            "(refused 9)",
+            "(refused 10)",
+        ],
+    ),
+    ("lane", &["(lane)", "(lane ..)", "(refused 3)"]),
+    ("other", &["(unread)"]),
+];
+
+/// What was seen.
+pub struct Counts {
+    /// By form and outcome.
+    seen: BTreeMap<(&'static str, String), usize>,
+    lines: usize,
+    most_bags: usize,
+}
+
+impl Counts {
+    pub fn new() -> Counts {
+        Counts {
+            seen: BTreeMap::new(),
+            lines: 0,
+            most_bags: 0,
+        }
+    }
+
+    /// The lines so far.
+    pub fn lines(&self) -> usize {
+        self.lines
+    }
+
+    /// Counts the lines of an input by their answers.
+    pub fn add(&mut self, input: &[u8], answers: &[u8]) {
+        let line_feed = |byte: &u8| *byte == b'\n';
+        for (line, answer) in input.split(line_feed).zip(answers.split(line_feed)) {
+            if answer.is_empty() {
+                break; // after the last line feed
+            }
+            let answer = String::from_utf8_lossy(answer);
+            let outcome = match answer.split_once(' ') {
+                Some((name @ ("(lane" | "(bag"), _)) => format!("{name} ..)"),
+                _ => answer.to_string(),
+            };
+            if outcome == "(lane ..)" {
+                self.most_bags = self.most_bags.max(answer.split(' ').count() - 1);
+            }
+            let form = if outcome == "(unread)" {
+                "other"
+            } else {
+                form(line)
+            };
+            *self.seen.entry((form, outcome)).or_default() += 1;
+            self.lines += 1;
+        }
+    }
+
+    /// Prints all counts; gives what was to be seen and was not, or seen and was not to be.
+    pub fn report(&self) -> Vec<String> {
+        let mut faults = Vec::new();
+        for (form, outcomes) in REACHED {
+            let counts: Vec<String> = outcomes
+                .iter()
+                .map(|outcome| {
+                    let count = self.seen.get(&(form, outcome.to_string()));
+                    let count = count.copied().unwrap_or(0);
+                    if count == 0 {
+                        faults.push(format!("never seen: {outcome} to a {form} line"));
+                    }
+                    format!("{outcome} {count}")
+                })
+                .collect();
+            println!("{form:5} gave {}", counts.join(", "));
+        }
+        for (form, outcome) in self.seen.keys() {
+            let listed = |(name, outcomes): &(&str, &[&str])| {
+                name == form && outcomes.contains(&outcome.as_str())
+            };
+            if !REACHED.iter().any(listed) {
+                faults.push(format!("seen: {outcome} to a {form} line"));
+            }
+        }
+        println!("the longest lane had {} bags", self.most_bags);
+        if self.most_bags < 1000 {
+            faults.push(String::from("no lane of 1,000 bags was seen"));
+        }
+        faults
+    }
+}
+
+/// The form of a line that was read.
+fn form(line: &[u8]) -> &'static str {
+    for (name, _) in REACHED {
+        if line
+            .get(1..)
+            .is_some_and(|rest| rest.starts_with(name.as_bytes()))
+        {
+            return name;
+        }
+    }
+    "other"
+}
