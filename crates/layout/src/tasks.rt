@@ -103,10 +103,10 @@ impl Task {
         t[at + 9] = self.registers[3];
     }
 
-    // The record at another step. Written out word by word: every line ends here, and the compiler then keeps the
-    // whole record in registers and copies none of it through memory.
-    pub fn at(self, step: u32) -> Self
-        ensures { λ r. ⌜ r ≡ atStep self step ⌝ }
+    // The same record, written out word by word: the compiler then keeps a record that a line changes in registers, and
+    // copies none of it through memory.
+    fn copied(self) -> Self
+        ensures { λ r. ⌜ r ≡ self ⌝ }
     {
         let value = self.value;
         let a = self.registers[Task::A];
@@ -115,7 +115,7 @@ impl Task {
         let d = self.registers[Task::D];
         Self {
             operation: self.operation,
-            step,
+            step: self.step,
             side: self.side,
             argument: self.argument,
             counted: self.counted,
@@ -124,28 +124,40 @@ impl Task {
         }
     }
 
+    // The record at another step.
+    pub fn at(self, step: u32) -> Self
+        ensures { λ r. ⌜ r ≡ atStep self step ⌝ }
+    {
+        let mut t = self.copied();
+        t.step = step;
+        t
+    }
+
     // The record with a register set.
-    pub fn with(mut self, register: usize, x: u32) -> Self
+    pub fn with(self, register: usize, x: u32) -> Self
         requires { ⌜ register < 4 ⌝ }
         ensures { λ r. ⌜ r ≡ withRegister self register x ⌝ }
     {
-        self.registers[register] = x;
-        self
+        let mut t = self.copied();
+        t.registers[register] = x;
+        t
     }
 
     // The record with another value read.
-    pub fn reading(mut self, v: Value) -> Self
+    pub fn reading(self, v: Value) -> Self
         ensures { λ r. ⌜ r ≡ withValueRead self v ⌝ }
     {
-        self.value = v;
-        self
+        let mut t = self.copied();
+        t.value = v;
+        t
     }
 
     // The record with another count.
-    pub fn counting(mut self, n: u32) -> Self
+    pub fn counting(self, n: u32) -> Self
         ensures { λ r. ⌜ r ≡ withCount self n ⌝ }
     {
-        self.counted = n;
-        self
+        let mut t = self.copied();
+        t.counted = n;
+        t
     }
 }
