@@ -28,8 +28,8 @@ pub record Leaves (before after : List ℕ) (len : ℕ) (outcome : Outcome) (ans
 abbrev pub doneOf : Outcome → (words bags : List ℕ) → LineDone
 doneOf o ws bags = record { outcome = o; words = ws; bags = bags }
 
--- The same for a line: the outcome, the first len words and the slice of the bags are what it comes to, every later word
--- is as before. No more bags are named than the slice has.
+-- The same for a line: the outcome, the first len words and the slice of the bags are what it comes to, every later
+-- word is as before. No more bags are named than the slice has.
 pub record Answers (before after : List ℕ) (len : ℕ) (outcome : Outcome) (bags : List ℕ) (done : LineDone)
     : Type 0 where
   pub answers : doneOf outcome (take len after) bags ≡ done

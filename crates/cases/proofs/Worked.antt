@@ -23,5 +23,7 @@ use Rattle.machine.specs.Calls.{
 }
 
 pub worked : map outcomes cases ≡ map expectations cases
-unfolding outcomes plays acts tickUntil ℕ-discrete decLt decLe Value-discrete decode stepIn stepOf isStepIn link value task allBelow sameWords nodeOk busyOk recordOk shapeOk heldFrom roots mark markAll visit visitFrom marked firstUnmarked allocate writeAll act times startWords start begin effectOf applied tickOn tick laneFrom lane
+unfolding outcomes plays acts tickUntil ℕ-discrete decLt decLe Value-discrete decode stepIn stepOf isStepIn link value
+    task allBelow sameWords nodeOk busyOk recordOk shapeOk heldFrom roots mark markAll visit visitFrom marked
+    firstUnmarked allocate writeAll act times startWords start begin effectOf applied tickOn tick laneFrom lane
 worked = refl

@@ -1,3 +1,4 @@
+-- What the proofs of the lines share.
 pub mod Ready
 pub mod Compared
 pub mod Chosen

@@ -30,8 +30,8 @@ pub record Kept (text numbers : List ℕ) (s : Scan) : Type 0 where
   pub counts : Counts s
 
 -- The arrays text and numbers with the scan s stand for what was scanned: the first bytes of its text; how many numbers
--- it has, up to 4; whether all of them fit, and if they do, the first three, 0 where there are fewer, and the last at the
--- last place used.
+-- it has, up to 4; whether all of them fit, and if they do, the first three, 0 where there are fewer, and the last at
+-- the last place used.
 pub record Represents (text numbers : List ℕ) (s : Scan) (σ : Scanned) : Type 0 where
   pub text-kept : take (s .length) text ≡ take textPlaces (σ .text)
   pub counted : s .count ≡ min numberPlaces (length (σ .numbers))

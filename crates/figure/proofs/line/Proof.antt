@@ -10,23 +10,33 @@ use Rattle.figure.proofs.line.Tie as tie
 
 push-line-requires : tie.Need-push-line-requires
 unfolding isStepIn
-push-line-requires c κs = within pushGroup 0 8 refl (c .before .before .before .pre) (omega arith) (omega arith)
+push-line-requires c κs =
+    let p = c .before .before .before .pre in
+    within pushGroup 0 8 refl p (omega arith) (omega arith)
 
 add-line-requires : tie.Need-add-line-requires
 unfolding isStepIn
-add-line-requires c κs = within addGroup 9 31 refl (c .before .before .before .before .pre) (omega arith) (omega arith)
+add-line-requires c κs =
+    let p = c .before .before .before .before .pre in
+    within addGroup 9 31 refl p (omega arith) (omega arith)
 
 pop-line-requires : tie.Need-pop-line-requires
 unfolding isStepIn
-pop-line-requires c κs = within popGroup 32 51 refl (c .before .before .before .before .before .pre) (omega arith) (omega arith)
+pop-line-requires c κs =
+    let p = c .before .before .before .before .before .pre in
+    within popGroup 32 51 refl p (omega arith) (omega arith)
 
 remove-line-requires : tie.Need-remove-line-requires
 unfolding isStepIn
-remove-line-requires c κs = within removeGroup 52 64 refl (c .before .before .before .before .before .before .pre) (omega arith) (omega arith)
+remove-line-requires c κs =
+    let p = c .before .before .before .before .before .before .pre in
+    within removeGroup 52 64 refl p (omega arith) (omega arith)
 
 unspur-line-requires : tie.Need-unspur-line-requires
 unfolding isStepIn
-unspur-line-requires c κs = within unspurGroup 65 72 refl (c .before .before .before .before .before .before .before .pre) (omega arith) (omega arith)
+unspur-line-requires c κs =
+    let p = c .before .before .before .before .before .before .before .pre in
+    within unspurGroup 65 72 refl p (omega arith) (omega arith)
 
 break-line-requires : tie.Need-break-line-requires
 unfolding isStepIn

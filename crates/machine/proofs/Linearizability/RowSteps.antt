@@ -52,7 +52,8 @@ module _ (n : Note) (r r′ : List ℕ) where
   abbrev Stepped : Answer → Type 0
   Stepped a = RowStep (n .operation) (n .argument) a (rowFrom (n .side) r) (rowFrom (n .side) r′)
 
-  by-operation : {op : Operation} (a : Answer) → n .operation ≡ op → answeredBy op n a r ≡ some r′ → answered n a r ≡ some r′
+  by-operation : {op : Operation} (a : Answer)
+      → n .operation ≡ op → answeredBy op n a r ≡ some r′ → answered n a r ≡ some r′
   by-operation a e h = ap (λ (op : Operation). answeredBy op n a r) e ∙ h
 
   kept-row : rowFrom (n .side) r′ ≡ rowFrom (n .side) r → r ≡ r′

@@ -66,7 +66,8 @@ returns-2 c g f =
     let v = meaning (p .args .t3 .value) in
     let same = told v (both .before .same .ensures) (both .before .before .value .ensures) in
     let tested = rw same at (sym (both .both .ensures) ∙ then2 .if2 .taken) in
-    rw (c .answers .ensures, c .before .before .before .set-value .ensures, c .before .before .before .before .n-of .ensures)
+    let set = c .before .before .before in
+    rw (c .answers .ensures, set .set-value .ensures, set .before .n-of .ensures)
     (popped (p .pre .0) (p .args .hat) g f (some .if1 .left) (p .pre .1) tested)
 
 next-requires : tie.Need-next-requires

@@ -60,23 +60,20 @@ returns-3 c =
 cast-at : tie.Need-cast-at
 cast-at c =
     let p = c .before .before .before .before .before .before .before .before in
-    let a = p .args in
-    omega
-    (arith, few-nodes (a .t .now) (p .pre), few-tasks (a .t .now) (p .pre), c .before .before .before .before .if1 .left)
+    let t = p .args .t .now in
+    omega (arith, few-nodes t (p .pre), few-tasks t (p .pre), c .before .before .before .before .if1 .left)
 
 mul-at : tie.Need-mul-at
 mul-at c =
     let p = c .before .before .before .before .before .before .before .before in
-    let a = p .args in
-    omega
-    (arith, few-nodes (a .t .now) (p .pre), few-tasks (a .t .now) (p .pre), c .before .before .before .before .if1 .left)
+    let t = p .args .t .now in
+    omega (arith, few-nodes t (p .pre), few-tasks t (p .pre), c .before .before .before .before .if1 .left)
 
 add-at : tie.Need-add-at
 add-at c =
     let p = c .before .before .before .before .before .before .before .before in
-    let a = p .args in
-    omega
-    (arith, few-nodes (a .t .now) (p .pre), few-tasks (a .t .now) (p .pre), c .before .before .before .before .if1 .left)
+    let t = p .args .t .now in
+    omega (arith, few-nodes t (p .pre), few-tasks t (p .pre), c .before .before .before .before .if1 .left)
 
 mul-at-2 : tie.Need-mul-at-2
 mul-at-2 c = search needs
@@ -84,16 +81,14 @@ mul-at-2 c = search needs
 add-at-2 : tie.Need-add-at-2
 add-at-2 c =
     let p = c .before .before .before .before .before .before .before .before in
-    let a = p .args in
-    omega
-    (arith, few-nodes (a .t .now) (p .pre), few-tasks (a .t .now) (p .pre), c .before .before .before .before .if1 .left)
+    let t = p .args .t .now in
+    omega (arith, few-nodes t (p .pre), few-tasks t (p .pre), c .before .before .before .before .if1 .left)
 
 mul-running : tie.Need-mul-running
 mul-running c =
     let p = c .before .before .before .before .before .before .before .before in
-    let a = p .args in
-    omega
-    (arith, few-nodes (a .t .now) (p .pre), few-tasks (a .t .now) (p .pre), c .before .before .before .before .if1 .left)
+    let t = p .args .t .now in
+    omega (arith, few-nodes t (p .pre), few-tasks t (p .pre), c .before .before .before .before .if1 .left)
 
 slice-read-running : tie.Need-slice-read-running
 slice-read-running c =

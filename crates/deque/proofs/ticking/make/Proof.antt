@@ -54,8 +54,10 @@ slice-read-hat c =
     let p = c .before .before .before .before .before .before .before in
     let a = p .args in
     let h = p .pre in
-    omega
-    (arith, header-room (a .t .now) (h .0 .0) (a .j) (a .hint) (h .0 .2) (h .0 .1) (h .1 .1), code-side (a .t .now) (h .0 .0) (a .j) (a .hint) (h .0 .2) (h .0 .1) (h .1 .1) (a .k) (a .at) (h .1 .0 .0) (h .1 .0 .1))
+    let room = header-room (a .t .now) (h .0 .0) (a .j) (a .hint) (h .0 .2) (h .0 .1) (h .1 .1) in
+    let side = code-side (a .t .now) (h .0 .0) (a .j) (a .hint) (h .0 .2) (h .0 .1) (h .1 .1) (a .k) (a .at)
+    (h .1 .0 .0) (h .1 .0 .1) in
+    omega (arith, room, side)
 
 mul-line : tie.Need-mul-line
 mul-line c = search needs
@@ -111,7 +113,10 @@ store-requires c κs =
     let l = c .before .before .before .before .before .before in
     let r = code-room (a .t .now) (h .0 .0) (a .j) (a .hint) (h .0 .2) (h .0 .1) (h .1 .1) (a .k) (a .at)
     (h .1 .0 .0) (h .1 .0 .1) in
-    (code-side (a .t .now) (h .0 .0) (a .j) (a .hint) (h .0 .2) (h .0 .1) (h .1 .1) (a .k) (a .at) (h .1 .0 .0) (h .1 .0 .1), r .0, rw (same-len-mid 8 (8 + 3 * nodeCount (a .t .now) - 8) (a .t .now) (l .line .last .0) (l .line .kept .0)) (r .1))
+    let side = code-side (a .t .now) (h .0 .0) (a .j) (a .hint) (h .0 .2) (h .0 .1) (h .1 .1) (a .k) (a .at)
+    (h .1 .0 .0) (h .1 .0 .1) in
+    let len = 8 + 3 * nodeCount (a .t .now) - 8 in
+    (side, r .0, rw (same-len-mid 8 len (a .t .now) (l .line .last .0) (l .line .kept .0)) (r .1))
 
 same-length-2 : tie.Need-same-length-2
 same-length-2 c = search needs
