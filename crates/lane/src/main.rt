@@ -1,4 +1,5 @@
 // The lane program: reads the lines of a belt run from standard input, and writes their answers to standard output.
+use libc::STDERR_FILENO;
 use libc::STDIN_FILENO;
 use libc::STDOUT_FILENO;
 use reader::scanning::NUMBER_PLACES;
@@ -23,6 +24,15 @@ ghost use Rattle.session.specs.Held.{lentOf, Ready, Leads, lineRoom};
 struct Left {
     pub held: Held,
     pub going: bool,
+}
+
+// Writes answers. Where they cannot be written, it says so on standard error.
+fn put(answers: &[u8]) -> bool {
+    if io::write_all(STDOUT_FILENO, answers) {
+        return true;
+    }
+    io::write_all(STDERR_FILENO, b"lane: standard output cannot be written\n");
+    false
 }
 
 // Answers the lines of a chunk, and writes the answers.
@@ -50,7 +60,7 @@ fn answer_chunk(
         held = served.held;
         from = served.from;
         let end = served.at;
-        if !io::write_all(STDOUT_FILENO, &out[..end]) {
+        if !put(&out[..end]) {
             return Left { held, going: false };
         }
     }
@@ -78,7 +88,7 @@ fn turn(
         let ended = finish(space, bags, text, numbers, held, out);
         let held = ended.held;
         let end = ended.at;
-        io::write_all(STDOUT_FILENO, &out[..end]);
+        put(&out[..end]);
         return Left { held, going: false };
     }
     answer_chunk(&input[..n], space, bags, text, numbers, held, out)

@@ -15,8 +15,8 @@ use Rattle.machine.specs.Table.{
   growth,
   hat,
   tickCount,
-  sixth,
-  seventh,
+  word6,
+  word7,
   link,
   valueWord,
   recordWords,
@@ -36,8 +36,8 @@ pub record Columns : Type 0 where
   pub growth : ℕ
   pub hats : Side → ℕ
   pub tickCount : ℕ
-  pub sixth : ℕ
-  pub seventh : ℕ
+  pub word6 : ℕ
+  pub word7 : ℕ
   pub links : Side → ℕ → ℕ
   pub values : ℕ → ℕ
   pub records : ℕ → List ℕ
@@ -51,8 +51,8 @@ columns ws =
       growth = growth ws;
       hats = hat ws;
       tickCount = tickCount ws;
-      sixth = sixth ws;
-      seventh = seventh ws;
+      word6 = word6 ws;
+      word7 = word7 ws;
       links = link ws;
       values = column (nodeCount ws) 0 (valueWord ws);
       records = column (taskCount ws) (wordsOf fresh) (recordWords ws);
@@ -86,8 +86,8 @@ putHat s x c =
       growth = c .growth;
       hats = updateSide (c .hats) s x;
       tickCount = c .tickCount;
-      sixth = c .sixth;
-      seventh = c .seventh;
+      word6 = c .word6;
+      word7 = c .word7;
       links = c .links;
       values = c .values;
       records = c .records;
@@ -102,8 +102,8 @@ putTickCount n c =
       growth = c .growth;
       hats = c .hats;
       tickCount = n;
-      sixth = c .sixth;
-      seventh = c .seventh;
+      word6 = c .word6;
+      word7 = c .word7;
       links = c .links;
       values = c .values;
       records = c .records;
@@ -118,8 +118,8 @@ putLink s x y c =
       growth = c .growth;
       hats = c .hats;
       tickCount = c .tickCount;
-      sixth = c .sixth;
-      seventh = c .seventh;
+      word6 = c .word6;
+      word7 = c .word7;
       links = updateSide (c .links) s (update (c .links s) x y);
       values = c .values;
       records = c .records;
@@ -134,8 +134,8 @@ putValue x w c =
       growth = c .growth;
       hats = c .hats;
       tickCount = c .tickCount;
-      sixth = c .sixth;
-      seventh = c .seventh;
+      word6 = c .word6;
+      word7 = c .word7;
       links = c .links;
       values = update (c .values) x w;
       records = c .records;
@@ -150,8 +150,8 @@ putRecord k r c =
       growth = c .growth;
       hats = c .hats;
       tickCount = c .tickCount;
-      sixth = c .sixth;
-      seventh = c .seventh;
+      word6 = c .word6;
+      word7 = c .word7;
       links = c .links;
       values = c .values;
       records = update (c .records) k r;
@@ -177,8 +177,8 @@ pub columns-equal :
     → b .growth ≡ c .growth
     → b .hats ≡ c .hats
     → b .tickCount ≡ c .tickCount
-    → b .sixth ≡ c .sixth
-    → b .seventh ≡ c .seventh
+    → b .word6 ≡ c .word6
+    → b .word7 ≡ c .word7
     → b .links ≡ c .links
     → b .values ≡ c .values
     → b .records ≡ c .records
@@ -191,8 +191,8 @@ columns-equal p q r s t u v w x y z =
       growth = s i;
       hats = t i;
       tickCount = u i;
-      sixth = v i;
-      seventh = w i;
+      word6 = v i;
+      word7 = w i;
       links = x i;
       values = y i;
       records = z i;

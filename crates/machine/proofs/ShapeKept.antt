@@ -118,8 +118,8 @@ module _ (S T g : ℕ) (h : sizesOk S T g ≡ true) where
   start-shaped : WellShaped (startColumns S T g)
   start-shaped =
       record {
-        sixth-zero = refl;
-        seventh-zero = refl;
+        word6-zero = refl;
+        word7-zero = refl;
         hats-ok = start-hat-ok S (start-sized .two-nodes);
         links-ok = start-link-ok S (start-sized .two-nodes);
         values-ok = start-value-ok;

@@ -17,8 +17,8 @@ use Rattle.machine.specs.Table.{
   taskCount,
   growth,
   hat,
-  sixth,
-  seventh,
+  word6,
+  word7,
   linkWord,
   valueWord,
   link,
@@ -97,8 +97,8 @@ below-all (suc n) test h x l =
 
 -- ---- The shape.
 pub record WellShaped (c : Columns) : Type 0 where
-  pub sixth-zero : c .sixth ≡ 0
-  pub seventh-zero : c .seventh ≡ 0
+  pub word6-zero : c .word6 ≡ 0
+  pub word7-zero : c .word7 ≡ 0
   pub hats-ok : (s : Side) → c .hats s < c .nodeCount
   pub links-ok : (s : Side) (x : ℕ) → NodeOrNone (c .nodeCount) (c .links s x)
   pub values-ok : (x : ℕ) → valueOk (c .values x) ≡ true
@@ -137,14 +137,14 @@ module _ (ws : List ℕ) where
       let T = taskCount ws in
       let nodes : allBelow S (nodeOk ws) ≡ true = search (and-left, and-right) in
       let records : allBelow T record-test ≡ true = search (and-left, and-right) in
-      let a : eqb (sixth ws) 0 ≡ true = search (and-left, and-right) depth 6 in
-      let b : eqb (seventh ws) 0 ≡ true = search (and-left, and-right) depth 6 in
+      let a : eqb (word6 ws) 0 ≡ true = search (and-left, and-right) depth 6 in
+      let b : eqb (word7 ws) 0 ≡ true = search (and-left, and-right) depth 6 in
       let c : ltb (hat ws left) S ≡ true = search (and-left, and-right) depth 6 in
       let d : ltb (hat ws right) S ≡ true = search (and-left, and-right) depth 6 in
       let node = below-all S (nodeOk ws) nodes in
       record {
-        sixth-zero = eqb-true (sixth ws) 0 a;
-        seventh-zero = eqb-true (seventh ws) 0 b;
+        word6-zero = eqb-true (word6 ws) 0 a;
+        word7-zero = eqb-true (word7 ws) 0 b;
         hats-ok = λ s. elim s [ left ↦ ltb-true (hat ws left) S c | right ↦ ltb-true (hat ws right) S d ];
         links-ok =
             λ s.
@@ -177,8 +177,8 @@ module _ (ws : List ℕ) where
     shape-ok =
         let S = nodeCount ws in
         rw (
-          eq-eqb (sixth ws) 0 (W .sixth-zero),
-          eq-eqb (seventh ws) 0 (W .seventh-zero),
+          eq-eqb (word6 ws) 0 (W .word6-zero),
+          eq-eqb (word7 ws) 0 (W .word7-zero),
           lt-ltb (hat ws left) S (W .hats-ok left),
           lt-ltb (hat ws right) S (W .hats-ok right),
           all-below S (nodeOk ws) shaped-node,

@@ -15,8 +15,8 @@ use Rattle.machine.specs.Table.{
   hatAt,
   hat,
   tickCount,
-  sixth,
-  seventh,
+  word6,
+  word7,
   linkWord,
   valueWord,
   link,
@@ -135,8 +135,8 @@ module _ {ws vs : List ℕ} {p n : ℕ} (W : Wrote ws vs p n) (past-sizes : 3 �
         growth = growth ws;
         hats = hat ws;
         tickCount = tickCount ws;
-        sixth = sixth ws;
-        seventh = seventh ws;
+        word6 = word6 ws;
+        word7 = word7 ws;
         links = links;
         values = values;
         records = records;

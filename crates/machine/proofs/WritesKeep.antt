@@ -39,8 +39,8 @@ module _ (c : Columns) (W : WellShaped c) where
   put-hat-shaped : (s : Side) (x : ℕ) → x < c .nodeCount → WellShaped (putHat s x c)
   put-hat-shaped s x h =
       record {
-        sixth-zero = W .sixth-zero;
-        seventh-zero = W .seventh-zero;
+        word6-zero = W .word6-zero;
+        word7-zero = W .word7-zero;
         hats-ok = updateSide-all (c .hats) s x (λ y. y < c .nodeCount) h (W .hats-ok);
         links-ok = W .links-ok;
         values-ok = W .values-ok;
@@ -51,8 +51,8 @@ module _ (c : Columns) (W : WellShaped c) where
   put-link-shaped s x y h =
       let S = c .nodeCount in
       record {
-        sixth-zero = W .sixth-zero;
-        seventh-zero = W .seventh-zero;
+        word6-zero = W .word6-zero;
+        word7-zero = W .word7-zero;
         hats-ok = W .hats-ok;
         links-ok =
             updateSide-all (c .links) s (update (c .links s) x y) (λ f. (z : ℕ) → NodeOrNone S (f z))
@@ -64,8 +64,8 @@ module _ (c : Columns) (W : WellShaped c) where
   put-value-shaped : (x w : ℕ) → valueOk w ≡ true → WellShaped (putValue x w c)
   put-value-shaped x w h =
       record {
-        sixth-zero = W .sixth-zero;
-        seventh-zero = W .seventh-zero;
+        word6-zero = W .word6-zero;
+        word7-zero = W .word7-zero;
         hats-ok = W .hats-ok;
         links-ok = W .links-ok;
         values-ok = update-all (c .values) x w (λ u. valueOk u ≡ true) h (W .values-ok);
@@ -76,8 +76,8 @@ module _ (c : Columns) (W : WellShaped c) where
       (k : ℕ) (r : List ℕ) → recordOk (c .nodeCount) (c .growth) r ≡ true → WellShaped (putRecord k r c)
   put-record-shaped k r h =
       record {
-        sixth-zero = W .sixth-zero;
-        seventh-zero = W .seventh-zero;
+        word6-zero = W .word6-zero;
+        word7-zero = W .word7-zero;
         hats-ok = W .hats-ok;
         links-ok = W .links-ok;
         values-ok = W .values-ok;
@@ -88,8 +88,8 @@ module _ (c : Columns) (W : WellShaped c) where
   pub put-ticks-shaped : (n : ℕ) → WellShaped (putTickCount n c)
   put-ticks-shaped n =
       record {
-        sixth-zero = W .sixth-zero;
-        seventh-zero = W .seventh-zero;
+        word6-zero = W .word6-zero;
+        word7-zero = W .word7-zero;
         hats-ok = W .hats-ok;
         links-ok = W .links-ok;
         values-ok = W .values-ok;

@@ -25,8 +25,8 @@ use Rattle.machine.specs.Table.{
   taskCount,
   growth,
   hat,
-  sixth,
-  seventh,
+  word6,
+  word7,
   linkWord,
   valueWord,
   recordWords,
@@ -62,8 +62,8 @@ nodeOrNone S x = ltb x S || eqb x none
 -- 01: both last header words are 0, hats are below S.
 abbrev pub headerOk : List ℕ → Bool
 headerOk ws =
-    eqb (sixth ws) 0
-    && eqb (seventh ws) 0
+    eqb (word6 ws) 0
+    && eqb (word7 ws) 0
     && ltb (hat ws left) (nodeCount ws)
     && ltb (hat ws right) (nodeCount ws)
 

@@ -32,11 +32,11 @@ hat ws s = getD ws (hatAt s) 0
 abbrev pub tickCount : List ℕ → ℕ
 tickCount ws = getD ws 5 0
 
-abbrev pub sixth : List ℕ → ℕ
-sixth ws = getD ws 6 0
+abbrev pub word6 : List ℕ → ℕ
+word6 ws = getD ws 6 0
 
-abbrev pub seventh : List ℕ → ℕ
-seventh ws = getD ws 7 0
+abbrev pub word7 : List ℕ → ℕ
+word7 ws = getD ws 7 0
 
 abbrev pub headerWords : (S T growth leftHat rightHat ticks : ℕ) → List ℕ
 headerWords S T g lh rh n = S ∷ T ∷ g ∷ lh ∷ rh ∷ n ∷ 0 ∷ 0 ∷ []

@@ -32,9 +32,9 @@ const LEFT_HAT: usize = 3;
 
 const RIGHT_HAT: usize = 4;
 
-const SIXTH: usize = 6;
+const WORD_6: usize = 6;
 
-const SEVENTH: usize = 7;
+const WORD_7: usize = 7;
 
 const HEADER: usize = 8;
 
@@ -65,7 +65,7 @@ fn header_ok(t: &[u32]) -> bool
     ensures { λ r. ⌜ r ≡ headerOk (now (t .entry)) ⌝ }
 {
     let slots = t[NODE_COUNT];
-    t[SIXTH] == 0 && t[SEVENTH] == 0 && t[LEFT_HAT] < slots && t[RIGHT_HAT] < slots
+    t[WORD_6] == 0 && t[WORD_7] == 0 && t[LEFT_HAT] < slots && t[RIGHT_HAT] < slots
 }
 
 // 01: links and V are as above.

@@ -28,18 +28,18 @@ serve-lines-requires c κs =
     let A = loop .loop .inv in
     (A .within, (A .ready, omega (arith, A .same-out, loop .before .before .before .before .before .pre .1)))
 
-slice-reshare-prefix-write-all : tie.Need-slice-reshare-prefix-write-all Inv-loop μ-loop
-slice-reshare-prefix-write-all c =
+slice-reshare-prefix-put : tie.Need-slice-reshare-prefix-put Inv-loop μ-loop
+slice-reshare-prefix-put c =
     let served = c .before .before .before .before .before .before .before in
     omega (arith, served .serve-lines .ensures .1 .1)
 
-slice-aggregate-write-all : tie.Need-slice-aggregate-write-all Inv-loop μ-loop
-slice-aggregate-write-all c =
+slice-aggregate-put : tie.Need-slice-aggregate-put Inv-loop μ-loop
+slice-aggregate-put c =
     let served = c .before .before .before .before .before .before .before .before in
     sym (length-take-le _ _ (served .serve-lines .ensures .1 .1))
 
-write-all-requires : tie.Need-write-all-requires Inv-loop μ-loop
-write-all-requires c κs = search needs
+put-requires : tie.Need-put-requires Inv-loop μ-loop
+put-requires c κs = search needs
 
 same-length : tie.Need-same-length Inv-loop μ-loop
 same-length c =
@@ -101,9 +101,9 @@ answer-chunk-spec =
     μ-loop
     loop-holds
     serve-lines-requires
-    slice-reshare-prefix-write-all
-    slice-aggregate-write-all
-    write-all-requires
+    slice-reshare-prefix-put
+    slice-aggregate-put
+    put-requires
     same-length
     same-length-2
     same-length-3

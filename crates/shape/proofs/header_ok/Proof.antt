@@ -4,7 +4,7 @@ use mathlib.Core.Bool.{_&&_}
 use lib.Dec.{eqb, ltb}
 use borrow.Author.Tests.{eq-eqb, ne-eqb}
 use Rattle.machine.specs.Sides.{left}
-use Rattle.machine.specs.Table.{nodeCount, hat, sixth, seventh}
+use Rattle.machine.specs.Table.{nodeCount, hat, word6, word7}
 use Rattle.shape.proofs.Chains.{passed, failed, met}
 use borrow.Author.Needs.{needs}
 use Rattle.shape.proofs.header_ok.Statement.{statement}
@@ -15,7 +15,7 @@ use Rattle.shape.proofs.header_ok.Lts as lts
 flag :
     (c : lts.Joined2 reads.Pre reads.Post)
     → let t = c .before .before .before .before .args .t .now in
-    c .if2 .if3 ≡ eqb (sixth t) 0 && eqb (seventh t) 0 && ltb (hat t left) (nodeCount t)
+    c .if2 .if3 ≡ eqb (word6 t) 0 && eqb (word7 t) 0 && ltb (hat t left) (nodeCount t)
 flag c =
     met _ (c .if2 .came) (λ p. (p .0 .taken, p .2)) (λ p. (p .0 .left, p .1))
     (met _ (c .before .if1 .came) (λ p. (eq-eqb _ _ (p .0 .taken), p .2)) (λ p. (ne-eqb _ _ (p .0 .left), p .1))
