@@ -103,8 +103,8 @@ impl Task {
         t[at + 9] = self.registers[3];
     }
 
-    // The same record, written out word by word: the compiler then keeps a record that a line changes in registers, and
-    // copies none of it through memory.
+    // The same record, written out word by word: the compiler then keeps a record that a line changes in the processor,
+    // and copies none of it through memory.
     fn copied(self) -> Self
         ensures { λ r. ⌜ r ≡ self ⌝ }
     {
