@@ -29,3 +29,4 @@ pub mod Marking
 pub mod Reached
 pub mod FirstFree
 pub mod Linearizability
+pub mod SoloBound

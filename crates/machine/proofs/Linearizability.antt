@@ -60,3 +60,5 @@ pub mod Theorem
 -- What follows from it.
 pub mod Histories
 pub mod Corollaries
+pub mod TableAfter
+pub mod Lasting

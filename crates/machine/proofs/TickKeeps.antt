@@ -7,7 +7,7 @@ use Prim.Native.Nat.{ℕ, zero, suc, _+_, _<_}
 use lib.Dec.{ltb, eqb}
 use lib.ListN.{getD}
 use native.Mathlib.Omega.{arith}
-use borrow.Author.Tests.{ltb-true}
+use borrow.Author.Tests.{ltb-true, lt-ltb}
 use Rattle.machine.specs.declared.Answer.the-variants.{Refused}
 use Rattle.machine.specs.Choice.{_<?_, if_then_else_}
 use Rattle.machine.specs.Sides.{Side, opposite}
@@ -26,6 +26,7 @@ use Rattle.machine.specs.Shape.{recordOk}
 use Rattle.machine.specs.Allocate.{following, firstUnmarked, marked, allocate}
 use Rattle.machine.specs.Lines.{seen, Write, Effect}
 use Rattle.machine.specs.Calls.{isBusy, tickRefusal, effectOf, Ticked, applied, tickOn}
+use Rattle.machine.proofs.Contradiction.{clash}
 use Rattle.machine.proofs.Tests.{test-passed, tests-left}
 use Rattle.machine.proofs.ValueLaws.{HasWord, never-has-word, decoded-has-word, decoded-value-ok}
 use Rattle.machine.proofs.RecordLaws.{task-of-words, fresh-of-words, words-of-task}
@@ -152,6 +153,22 @@ tick-allowed ws k h e =
     let hint-test : ltb h (nodeCount ws) ≡ true = search (test-passed, tests-left) in
     let busy-test : isBusy (task ws k .operation) ≡ true = search (test-passed, tests-left) in
     (ltb-true k (taskCount ws) task-test, ltb-true h (nodeCount ws) hint-test, busy-test)
+
+-- And the other way: a number that is no task has a fresh record, which is idle.
+busy-is-task : (ws : List ℕ) (k : ℕ) → isBusy (task ws k .operation) ≡ true → k < taskCount ws
+unfolding task
+busy-is-task ws k = go (k <? taskCount ws)
+  where
+    go :
+        (d : Dec (k < taskCount ws))
+        → isBusy ((if d then taskOf (recordWords ws k) else fresh) .operation) ≡ true
+        → k < taskCount ws
+    go (yes l) b = l
+    go (no l) b = clash (cc)
+
+pub busy-passes : (ws : List ℕ) (k h : ℕ) → isBusy (task ws k .operation) ≡ true → h < nodeCount ws
+    → tickRefusal ws k h ≡ nothing
+busy-passes ws k h b l = rw (lt-ltb k (taskCount ws) (busy-is-task ws k b), lt-ltb h (nodeCount ws) l, b)
 
 -- The words vs have the sizes of ws and the right shape.
 pub record Kept (ws vs : List ℕ) : Type 0 where

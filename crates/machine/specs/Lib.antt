@@ -14,3 +14,4 @@ pub mod Calls
 pub mod Row
 pub mod Demand3
 pub mod Begun
+pub mod Solo

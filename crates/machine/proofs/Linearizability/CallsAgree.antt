@@ -111,6 +111,14 @@ start-agrees S T g ok =
       notes = λ k. ap noteIn (sym (task-start S T g two k));
     }
 
+-- An operation that tests as idle is idle.
+pub idle-operation : (op : Operation) → isIdle op ≡ true → op ≡ idle
+idle-operation idle h = refl
+idle-operation push h = clash (cc)
+idle-operation pop h = clash (cc)
+idle-operation add h = clash (cc)
+idle-operation remove h = clash (cc)
+
 module _ {ws : List ℕ} {ρ : Row} (A : Agrees ws ρ) where
   pub start-explained : (S T g : ℕ) → Explains ws ρ (start-call S T g)
   unfolding start
@@ -124,13 +132,6 @@ module _ {ws : List ℕ} {ρ : Row} (A : Agrees ws ρ) where
       go nothing e = (emptyRow, refl, start-agrees S T g (search test-passed))
 
   -- ---- begin.
-  idle-operation : (op : Operation) → isIdle op ≡ true → op ≡ idle
-  idle-operation idle h = refl
-  idle-operation push h = clash (cc)
-  idle-operation pop h = clash (cc)
-  idle-operation add h = clash (cc)
-  idle-operation remove h = clash (cc)
-
   begun-note : (n : ℕ) → 1 ≤ n → (m : Note) → noteUnder (operationOf n) m ≡ some m
   begun-note n h m =
       by-if (λ op. noteUnder op m ≡ some m) (n ≟ 0) (λ e. absurd (omega arith)) (λ _.

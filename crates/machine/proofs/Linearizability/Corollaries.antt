@@ -68,7 +68,7 @@ use Rattle.machine.proofs.Linearizability.Histories.{
 }
 
 -- A table that our calls lead to agrees with a row.
-begun-agrees : {ws : List ℕ} → Begun ws → (ρ : Row) × Agrees ws ρ
+pub begun-agrees : {ws : List ℕ} → Begun ws → (ρ : Row) × Agrees ws ρ
 begun-agrees (by-start S T g old accepted) = (emptyRow, started-agrees S T g old accepted)
 begun-agrees (by-call B c) =
     let E = call-explained (begun-agrees B .1) c in
@@ -81,11 +81,11 @@ pub no-call-refused-with-3-or-4 : {ws : List ℕ} → Begun ws → (others : Opt
 no-call-refused-with-3-or-4 {ws} B = table-passes ws (begun-agrees B .1 .accepted)
 
 module _ {ws : List ℕ} {ρ : Row} (A : Agrees ws ρ) (k h : ℕ) where
-  tick-passes : tick ws k h ≡ tickOn ws k h
+  pub tick-passes : tick ws k h ≡ tickOn ws k h
   unfolding tick
   tick-passes = rw (table-passes ws (A .accepted) nothing, tick)
 
-  tick-agrees : (ρ′ : Row) × Agrees (tickOn ws k h .words) ρ′
+  pub tick-agrees : (ρ′ : Row) × Agrees (tickOn ws k h .words) ρ′
   tick-agrees =
       let E = tick-explained A k h in
       (E .row, subst (λ (r : Ticked). Agrees (r .words) (E .row)) tick-passes (E .agrees))
@@ -159,14 +159,16 @@ no-run-refused-with-11 {ws} B list answers =
     go nothing f = ticks-not-11 list answers (begun-agrees B .1)
 
 -- Every table inside a run is one that our calls lead to, so what is said of those is said of it.
+pub begun-ticked : {ws : List ℕ} → Begun ws → (k h : ℕ) → Begun (tickOn ws k h .words)
+begun-ticked B k h =
+    subst (λ (r : Ticked). Begun (r .words)) (tick-passes (begun-agrees B .1) k h) (by-call B (tick-call k h))
+
 pub begun-inside-runs : (i : ℕ) (list : List ℕ) {ws : List ℕ} → Begun ws → Begun (afterTicks i list ws)
 unfolding afterTicks
 begun-inside-runs zero list B = B
 begun-inside-runs (suc i) [] B = B
 begun-inside-runs (suc i) (k ∷ []) B = B
-begun-inside-runs (suc i) (k ∷ h ∷ list) {ws} B =
-    let ticked : Begun (tick ws k h .words) = by-call B (tick-call k h) in
-    begun-inside-runs i list (rw (tick-passes (begun-agrees B .1) k h) at ticked)
+begun-inside-runs (suc i) (k ∷ h ∷ list) B = begun-inside-runs i list (begun-ticked B k h)
 
 -- ---- Nodes that are never taken.
 

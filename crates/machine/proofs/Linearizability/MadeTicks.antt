@@ -82,7 +82,7 @@ module _ {ws : List ℕ} (A : Accepted ws) where
       }
 
   -- What the marking keeps is closed under links and holds the hats and the registers.
-  kept-roots : Roots (keeps ws) (seen right ws) (task ws)
+  pub kept-roots : Roots (keeps ws) (seen right ws) (task ws)
   kept-roots =
       let W = well-linked in
       record {
@@ -131,7 +131,7 @@ busy-note t = go (t .operation)
     go add b = refl
     go remove b = refl
 
-not-idle : (op : Operation) → isBusy op ≡ true → op ≢ idle
+pub not-idle : (op : Operation) → isBusy op ≡ true → op ≢ idle
 not-idle op b e = refute (cc)
 
 -- ---- The tick.
@@ -151,7 +151,7 @@ module _ {ws : List ℕ} {ρ : Row} (A : Agrees ws ρ) (k h : ℕ) (passes : tic
   is-busy : isBusy (task ws k .operation) ≡ true
   is-busy = tick-allowed ws k h passes .2
 
-  keeps-invariant : TickKeeps (seen right ws) (task ws) (ρ .bags) k (effectOf ws k h)
+  pub keeps-invariant : TickKeeps (seen right ws) (task ws) (ρ .bags) k (effectOf ws k h)
   unfolding effectOf
   keeps-invariant =
       let s = task ws k .side in
@@ -164,8 +164,9 @@ module _ {ws : List ℕ} {ρ : Row} (A : Agrees ws ρ) (k h : ℕ) (passes : tic
       (not-idle (task ws k .operation) is-busy)
       (allocate-not-kept (well-linked (A .accepted)) is-hint))
 
-  no-number : refusalOf (effectOf ws k h .answer) ≡ nothing
-  no-number = no-refusal (effectOf ws k h .answer) (never-refused keeps-invariant)
+  -- The line of a busy task does not refuse it.
+  pub effect-made : refusalOf (effectOf ws k h .answer) ≡ nothing
+  effect-made = no-refusal (effectOf ws k h .answer) (never-refused keeps-invariant)
 
   abbrev tasks-after : ℕ → Task
   tasks-after = update (task ws) k (effectOf ws k h .task)
@@ -181,8 +182,8 @@ module _ {ws : List ℕ} {ρ : Row} (A : Agrees ws ρ) (k h : ℕ) (passes : tic
       let W = shape (A .accepted) in
       let K = tick-kept ws Z W k h in
       let e = effectOf ws k h in
-      let seen-after = tick-seen ws k h passes Z W no-number in
-      let task-after = tick-task ws k h passes Z W no-number in
+      let seen-after = tick-seen ws k h passes Z W effect-made in
+      let task-after = tick-task ws k h passes Z W effect-made in
       record {
         accepted =
             record {
@@ -237,7 +238,7 @@ module _ {ws : List ℕ} {ρ : Row} (A : Agrees ws ρ) (k h : ℕ) (passes : tic
       s = task ws k .side
 
       no-answer-number : refusalOf (tickOn ws k h .answer) ≡ nothing
-      no-answer-number = ap refusalOf answer-is ∙ no-number
+      no-answer-number = ap refusalOf answer-is ∙ effect-made
 
       go : Kept (task ws k) (effectOf ws k h) → MadeTick ws ρ k h
       go (goes-on e same) =

@@ -1,0 +1,52 @@
+-- In every table that our calls lead to, all walks along links end.
+use mathlib.Core.Path.{refl}
+use mathlib.Core.List.{List}
+use Prim.Native.Nat.{ℕ, zero, suc}
+use native.Mathlib.Omega.{arith}
+use native.Mathlib.Decide.{ℕ-discrete}
+use Rattle.machine.specs.Choice.{_≟_}
+use Rattle.machine.specs.Sides.{Side, left, right, opposite}
+use Rattle.machine.specs.Tasks.{Task, none}
+use Rattle.machine.specs.Lines.{Memory, seen}
+use Rattle.machine.specs.Begun.{Begun}
+use Rattle.machine.proofs.Choices.{if-no}
+use Rattle.machine.proofs.Memories.{view, written}
+use Rattle.machine.proofs.StartLaws.{startLink}
+use Rattle.machine.proofs.Linearizability.Nodes.{inn-old}
+use Rattle.machine.proofs.Linearizability.LaneViews.{lane-view}
+use Rattle.machine.proofs.Linearizability.FreeNode.{take-ok}
+use Rattle.machine.proofs.Linearizability.Lasting.{effectIn, Lasts, begun-has}
+use Rattle.machine.proofs.SoloBound.Walks.{stops, goes-on, WalksEnd}
+use Rattle.machine.proofs.SoloBound.LinksEnd.{LinksEnd, links-end-after}
+
+-- The links, seen from either side.
+pub ends-view : (s : Side) (m : Memory) → LinksEnd m → LinksEnd (view s m)
+ends-view left m E = (E .1, E .0)
+ends-view right m E = E
+
+-- Start: one link each way.
+start-walks : (s : Side) → WalksEnd (startLink s)
+unfolding ℕ-discrete
+start-walks left zero = (0, stops refl)
+start-walks left (suc zero) = (1, goes-on refl (stops refl))
+start-walks left (suc (suc x)) = (0, stops (if-no (suc (suc x) ≟ 1) 0 none (λ e. omega arith)))
+start-walks right zero = (1, goes-on refl (stops refl))
+start-walks right (suc zero) = (0, stops refl)
+start-walks right (suc (suc x)) = (0, stops (if-no (suc (suc x) ≟ 0) 1 none (λ e. omega arith)))
+
+links-last : Lasts (λ (M : Memory) (ts : ℕ → Task). LinksEnd M)
+links-last =
+    record {
+      at-start = λ _. (start-walks right, start-walks left);
+      at-begin = λ E k was-fresh op s argument. E;
+      at-tick =
+          λ {M} {ts} {class} E I R k g f busy free-f.
+          let s = ts k .side in
+          let m = view s M in
+          ends-view s (written (effectIn M ts k g f .writes) m)
+          (links-end-after _ k s (opposite s) m class (inn-old (lane-view s (I .lane) .structure)) (ends-view s M E)
+          (ts k) g f (λ some. take-ok I R s f (free-f some)) (ts k .step) (I .task-ok k) .links-end);
+    }
+
+pub begun-ends : {ws : List ℕ} → Begun ws → LinksEnd (seen right ws)
+begun-ends B = begun-has links-last B

@@ -1,0 +1,156 @@
+-- The lines of remove: a walk outward, then the nodes cut off, one by one, to their end.
+use mathlib.Core.Path.{refl}
+use mathlib.Core.Logic.{_≢_, inl, inr}
+use Prim.Native.Nat.{ℕ, suc, _+_, _*_, _≤_}
+use native.Mathlib.Omega.{arith}
+use Rattle.machine.specs.Choice.{_≟_}
+use Rattle.machine.specs.Sides.{Side}
+use Rattle.machine.specs.Values.{N, X, _≟ᵛ_}
+use Rattle.machine.specs.Steps.{
+  Step,
+  line54,
+  line56,
+  line58,
+  line60,
+  line62,
+  line64,
+  line74,
+  line77,
+  line78,
+  line79,
+  line81,
+  line82,
+}
+use Rattle.machine.specs.Tasks.{Task, none, goto, withA, withB, withValue, withCounted}
+use Rattle.machine.specs.Lines.{Memory, Effect, next, writing, act}
+use Rattle.machine.proofs.Contradiction.{refute}
+use Rattle.machine.proofs.Updates.{Wrote, update-wrote}
+use Rattle.machine.proofs.Linearizability.Connectives.{ok-if}
+use Rattle.machine.proofs.SoloBound.Walks.{EndsWithin, ends-on, ends-cut}
+use Rattle.machine.proofs.SoloBound.Budget.{FourALink, Left, Spends}
+use Rattle.machine.proofs.SoloBound.Spending.{goes, answered, passing, swapping}
+
+-- The same walk with other numbers, the walk one link on, and the walk after a cut.
+module _ {out : ℕ → ℕ} {x c n : ℕ} (w : FourALink out x c n) where
+  same-walk : {d k : ℕ} → (4 * w .links + c ≤ n → 4 * w .links + d ≤ k) → FourALink out x d k
+  same-walk h = record { links = w .links; ends = w .ends; within = h (w .within) }
+
+  next-walk : {d k : ℕ} → out x ≢ none → ((j : ℕ) → 4 * suc j + c ≤ n → 4 * j + d ≤ k) → FourALink out (out x) d k
+  next-walk ne h =
+      let r = ends-on ne (w .ends) in
+      let e = r .1 in
+      record { links = r .0; ends = r .2; within = h (r .0) (rw e (w .within)) }
+
+  cut-walk : {d k a : ℕ} {out' : ℕ → ℕ} → Wrote out a none out' → (4 * w .links + c ≤ n → 4 * w .links + d ≤ k)
+      → FourALink out' x d k
+  cut-walk wrote h = record { links = w .links; ends = ends-cut wrote (w .ends); within = h (w .within) }
+
+module _ (S g : ℕ) (s o : Side) (m : Memory) (t : Task) (f n : ℕ)
+    (short : (x : ℕ) → EndsWithin (m .out) S x) where
+  abbrev Ok : Effect → Type 0
+  Ok e = Spends S g s m n e
+
+  abbrev LineOk : Step → Type 0
+  LineOk st = Left st S g s m t n → Ok (act st s o m t g f)
+
+  pub line54-spends : LineOk line54
+  unfolding act
+  line54-spends h =
+      ok-if Ok (λ st. next (withA t (m .hat)) st) (g ≟ 0)
+      (λ _. goes (goto (withA t (m .hat)) line60) (omega arith) (from-hat (omega arith)))
+      (λ _. goes (goto (withA t (m .hat)) line56) (omega arith) (from-hat (omega arith)))
+    where
+      from-hat : {c k : ℕ} → 4 * S + c ≤ k → FourALink (m .out) (m .hat) c k
+      from-hat l = record { links = S; ends = short (m .hat); within = l }
+
+  pub line56-spends : LineOk line56
+  unfolding act
+  line56-spends w =
+      passing t (t .A) (λ _.
+      ok-if Ok (λ e. e) (m .val (t .A) ≟ᵛ X s) (λ _. answered (λ q. refute (cc)))
+      (λ _. goes (goto t line58) (omega (arith, w .within)) (same-walk w (λ l. omega arith))))
+
+  pub line58-spends : LineOk line58
+  unfolding act
+  line58-spends w =
+      passing t (t .A) (λ _.
+      ok-if Ok (λ e. e) (m .out (t .A) ≟ none) (λ _. answered (λ q. refute (cc)))
+      (λ ne.
+      ok-if Ok (λ st. next (withCounted (withA t (m .out (t .A))) (suc (t .counted))) st) (suc (t .counted) ≟ g)
+      (λ _. goes _ (omega (arith, w .within)) (next-walk w ne (λ j l. omega arith)))
+      (λ _. goes _ (omega (arith, w .within)) (next-walk w ne (λ j l. omega arith)))))
+
+  pub line60-spends : LineOk line60
+  unfolding act
+  line60-spends w =
+      passing t (t .A) (λ _.
+      ok-if Ok (λ e. e) (m .out (t .A) ≟ none) (λ _. answered (λ q. refute (cc)))
+      (λ ne. goes _ (omega (arith, w .within)) (next-walk w ne (λ j l. omega arith))))
+
+  pub line62-spends : LineOk line62
+  unfolding act
+  line62-spends w =
+      passing t (t .A) (λ _. passing t (t .B) (λ _.
+      swapping (m .val (t .A) ≟ᵛ N s) (m .val (t .B) ≟ᵛ N s)
+      (λ _ _. goes (goto t line64) (omega (arith, w .within)) (same-walk w (λ l. omega arith)))
+      (λ _. answered (λ q. refute (cc)))))
+
+  pub line64-spends : LineOk line64
+  unfolding act
+  line64-spends w =
+      passing t (t .A) (λ _.
+      ok-if Ok (λ l. writing l (next t line74)) (m .out (t .A) ≟ t .B)
+      (λ _. goes (goto t line74) (omega (arith, w .within))
+      (cut-walk w (update-wrote (m .out) (t .A) none) (λ l. omega arith)))
+      (λ _. goes (goto t line74) (omega (arith, w .within)) (same-walk w (λ l. omega arith))))
+
+  pub line74-spends : LineOk line74
+  unfolding act
+  line74-spends w =
+      passing t (t .B) (λ _.
+      ok-if Ok (λ st. next (withB (withA t (t .B)) (m .out (t .B))) st) (m .out (t .B) ≟ none)
+      (λ _. goes _ (omega (arith, w .within)) (omega (arith, w .within)))
+      (λ ne. goes _ (omega (arith, w .within)) (next-walk w ne (λ j l. omega arith))))
+
+  pub line77-spends : LineOk line77
+  unfolding act
+  line77-spends w =
+      passing t (t .B) (λ _.
+      goes (goto (withValue t (m .val (t .B))) line78) (omega (arith, w .within))
+      (inl (refl, same-walk w (λ l. omega arith))))
+
+  pub line78-spends : LineOk line78
+  unfolding act
+  line78-spends (inl p) =
+      let w = p .1 in
+      passing t (t .B) (λ _.
+      ok-if Ok (λ e. e) (m .val (t .B) ≟ᵛ t .value)
+      (λ _. goes (goto t line79) (omega (arith, w .within)) (same-walk w (λ l. omega arith)))
+      (λ ne. absurd (ne (p .0))))
+  line78-spends (inr w) =
+      passing t (t .B) (λ _.
+      ok-if Ok (λ e. e) (m .val (t .B) ≟ᵛ t .value)
+      (λ _. goes (goto t line79) (omega (arith, w .within)) (same-walk w (λ l. omega arith)))
+      (λ _. goes (goto t line77) (omega (arith, w .within)) (same-walk w (λ l. omega arith))))
+
+  pub line79-spends : LineOk line79
+  unfolding act
+  line79-spends w =
+      passing t (t .A) (λ _.
+      goes (goto (withA t (t .B)) line81) (omega (arith, w .within))
+      (cut-walk w (update-wrote (m .out) (t .A) none) (λ l. omega arith)))
+
+  pub line81-spends : LineOk line81
+  unfolding act
+  line81-spends w =
+      passing t (t .A) (λ _.
+      ok-if Ok (λ st. next (withB t (m .out (t .A))) st) (m .out (t .A) ≟ none)
+      (λ _. goes _ (omega (arith, w .within)) (omega (arith, w .within)))
+      (λ ne.
+      ok-if Ok (λ st. next (withB t (m .out (t .A))) st) (t .value ≟ᵛ X s)
+      (λ _. goes _ (omega (arith, w .within)) (omega (arith, w .within)))
+      (λ _. goes _ (omega (arith, w .within)) (next-walk w ne (λ j l. omega arith)))))
+
+  pub line82-spends : LineOk line82
+  unfolding act
+  line82-spends h = passing t (t .A) (λ _. answered (λ q. refute (cc)))
