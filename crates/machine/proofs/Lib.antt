@@ -30,3 +30,4 @@ pub mod Reached
 pub mod FirstFree
 pub mod Linearizability
 pub mod SoloBound
+pub mod LockFree

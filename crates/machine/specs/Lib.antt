@@ -15,3 +15,4 @@ pub mod Row
 pub mod Demand3
 pub mod Begun
 pub mod Solo
+pub mod LockFree

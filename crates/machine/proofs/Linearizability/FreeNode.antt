@@ -36,7 +36,7 @@ module _ {held : ℕ → Bool} {M : Memory} {ts : ℕ → Task} (R : Roots held 
   view-inn-closed left = R .out-closed
   view-inn-closed right = R .inn-closed
 
-  view-out-closed : (s : Side) → Closed held (view s M .out)
+  pub view-out-closed : (s : Side) → Closed held (view s M .out)
   view-out-closed left = R .inn-closed
   view-out-closed right = R .out-closed
 

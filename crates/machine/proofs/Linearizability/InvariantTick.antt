@@ -35,7 +35,7 @@ use Rattle.machine.proofs.Linearizability.FreeNode.{view-inn-closed, ta
 use Rattle.machine.proofs.Linearizability.Tick.{tick-ok}
 
 -- ---- From the side of the task that ticks to the side of another, and to its own afterwards.
-guarantees-view : (s z : Side) (M m' : Memory) {held : ℕ → Bool} {k : ℕ} {class class' : ℕ → Class}
+pub guarantees-view : (s z : Side) (M m' : Memory) {held : ℕ → Bool} {k : ℕ} {class class' : ℕ → Class}
     → GuaranteesIn held k s (opposite s) (view s M) class m' class'
     → GuaranteesIn held k z (opposite z) (view z M) class (view z (view s m')) class'
 guarantees-view left left M m' G = G

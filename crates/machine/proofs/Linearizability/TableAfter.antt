@@ -1,6 +1,7 @@
 -- The table after a tick that was made: its sizes, its memory and its records.
 use mathlib.Core.Path.{_≡_, sym, ap, _∙_, subst}
 use mathlib.Core.Logic.{_≢_}
+use mathlib.Core.Bool.{true}
 use mathlib.Core.List.{List}
 use mathlib.Core.Option.{none as nothing}
 use Prim.Native.Nat.{ℕ}
@@ -8,13 +9,13 @@ use Rattle.machine.specs.Sides.{Side, right}
 use Rattle.machine.specs.Tasks.{Task}
 use Rattle.machine.specs.Table.{nodeCount, taskCount, growth, task}
 use Rattle.machine.specs.Lines.{Memory, seen}
-use Rattle.machine.specs.Calls.{tickRefusal, effectOf, tickOn}
+use Rattle.machine.specs.Calls.{isBusy, tickRefusal, effectOf, tickOn}
 use Rattle.machine.specs.Row.{Row, Note}
 use Rattle.machine.proofs.Updates.{update, update-same, update-other}
 use Rattle.machine.proofs.Memories.{view, view-view, written}
 use Rattle.machine.proofs.Columns.{columns}
 use Rattle.machine.proofs.ShapeLaws.{WellSized, WellShaped, well-sized, well-shaped}
-use Rattle.machine.proofs.TickKeeps.{tick-kept}
+use Rattle.machine.proofs.TickKeeps.{tick-allowed, tick-kept}
 use Rattle.machine.proofs.TickLaws.{tick-seen, tick-task}
 use Rattle.machine.proofs.Linearizability.Invariant.{noteOf}
 use Rattle.machine.proofs.Linearizability.Agreement.{Agrees}
@@ -80,3 +81,10 @@ module _ {ws : List ℕ} {ρ : Row} (A : Agrees ws ρ) (k h : ℕ) (passes : tic
       let side-same : effectOf ws k h .task .side ≡ s = ap (λ (n : Note). n .side) same in
       subst (λ (z : Side). Fact z (view z tickLeaves)) (sym side-same)
       (subst (λ (m : Memory). Fact s m) (sym (view-view s lineLeaves)) b)
+
+  -- It is busy as before.
+  pub own-busy : noteOf (effectOf ws k h .task) ≡ noteOf (task ws k) → isBusy (task after k .operation) ≡ true
+  own-busy same =
+      ap (λ (t : Task). isBusy (t .operation)) own-after
+      ∙ ap (λ (n : Note). isBusy (n .operation)) same
+      ∙ tick-allowed ws k h passes .2

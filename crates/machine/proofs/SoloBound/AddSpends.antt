@@ -29,9 +29,7 @@ use Rattle.machine.specs.Lines.{
   val≔,
   Effect,
   next,
-  answers,
   writing,
-  noNode,
   spliced,
   act,
 }
@@ -69,15 +67,15 @@ use Rattle.machine.proofs.SoloBound.Budget.{
   Left,
   Spends,
 }
-use Rattle.machine.proofs.SoloBound.Spending.{goes, answered, passing, swapping}
+use Rattle.machine.proofs.SoloBound.Spending.{no-node-answers, goes, answered, passing, swapping}
 
-module _ (S g : ℕ) (few : g ≤ 64) {s o : Side} {m : Memory} {class : ℕ → Class} {r : List ℕ}
+module _ (extra S g : ℕ) (few : g ≤ 64) {s o : Side} {m : Memory} {class : ℕ → Class} {r : List ℕ}
     (L : Lane s o m class r) (size : L .n ≤ S) (t : Task) (f n : ℕ) where
   abbrev Ok : Effect → Type 0
-  Ok e = Spends S g s m n e
+  Ok e = Spends extra S g s m n e
 
   abbrev LineOk : Step → Type 0
-  LineOk st = Left st S g s m t n → Ok (act st s o m t g f)
+  LineOk st = Left extra st S g s m t n → Ok (act st s o m t g f)
 
   -- ---- Taking nodes.
 
@@ -89,25 +87,18 @@ module _ (S g : ℕ) (few : g ≤ 64) {s o : Side} {m : Memory} {class : ℕ →
         | it-is-not e q ↦ ne (cc)
       ]
 
-  no-node : (op : Operation) → Ok (answers (noNode op))
-  no-node idle = answered (λ q. refute (cc))
-  no-node push = answered (λ q. refute (cc))
-  no-node pop = answered (λ q. refute (cc))
-  no-node add = answered (λ q. refute (cc))
-  no-node remove = answered (λ q. refute (cc))
-
   pub line28-spends : LineOk line28
   unfolding act
   line28-spends (soon ne h) =
       let off = still-off-Y f (X s) (λ q. refute (cc)) ne in
-      ok-if Ok (λ e. e) (f ≟ none) (λ _. no-node (t .operation)) (λ _.
+      ok-if Ok (λ e. e) (f ≟ none) (λ _. answered (no-node-answers (t .operation))) (λ _.
       ok-if Ok
       (λ st. writing (out≔ f none ∷ inn≔ f none ∷ val≔ f (X s) ∷ []) (next (withCounted (withD t f) 0) st)) (g ≟ 0)
       (λ _. goes (goto (withCounted (withD t f) 0) line15) (omega arith) (soon off (omega arith)))
       (λ some. goes (goto (withCounted (withD t f) 0) line31) (omega arith)
       (record { below = omega arith; when = soon off (omega arith) })))
   line28-spends (late h) =
-      ok-if Ok (λ e. e) (f ≟ none) (λ _. no-node (t .operation)) (λ _.
+      ok-if Ok (λ e. e) (f ≟ none) (λ _. answered (no-node-answers (t .operation))) (λ _.
       ok-if Ok
       (λ st. writing (out≔ f none ∷ inn≔ f none ∷ val≔ f (X s) ∷ []) (next (withCounted (withD t f) 0) st)) (g ≟ 0)
       (λ _. goes (goto (withCounted (withD t f) 0) line15) (omega arith) (late (omega arith)))
@@ -160,10 +151,10 @@ module _ (S g : ℕ) (few : g ≤ 64) {s o : Side} {m : Memory} {class : ℕ →
       ])
 
   -- Line 17 by the value that it reads.
-  by-value : (m .val (t .A) ≡ N s → Left line18 S g s m t (n - 1))
+  by-value : (m .val (t .A) ≡ N s → Left extra line18 S g s m t (n - 1))
       → (m .val (t .A) ≡ Y s → 2 * S + 82 ≤ n - 1)
-      → (m .val (t .A) ≡ X s → Left line24 S g s m t (n - 1))
-      → (m .val (t .A) ≢ N s → m .val (t .A) ≢ Y s → m .val (t .A) ≢ X s → Left line15 S g s m t (n - 1))
+      → (m .val (t .A) ≡ X s → Left extra line24 S g s m t (n - 1))
+      → (m .val (t .A) ≢ N s → m .val (t .A) ≢ Y s → m .val (t .A) ≢ X s → Left extra line15 S g s m t (n - 1))
       → 1 ≤ n
       → Ok (act line17 s o m t g f)
   unfolding act
@@ -222,7 +213,7 @@ module _ (S g : ℕ) (few : g ≤ 64) {s o : Side} {m : Memory} {class : ℕ →
   abbrev splice : List Write
   splice = out≔ (t .A) (t .D) ∷ val≔ (t .A) (N s) ∷ []
 
-  splices : 1 ≤ n → ((t' : Task) → Left line2 S g s (written splice m) t' (n - 1)) → (op : Operation)
+  splices : 1 ≤ n → ((t' : Task) → Left extra line2 S g s (written splice m) t' (n - 1)) → (op : Operation)
       → Ok (spliced op splice t)
   splices some h push = goes (goto (withCounted (withD t none) 0) line2) some (h t)
   splices some h idle = answered (λ q. refute (cc))

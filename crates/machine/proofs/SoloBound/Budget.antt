@@ -1,11 +1,14 @@
--- Within how many of its own ticks a task answers while no other task ticks: for each step the numbers n for which it
--- is so, by what the task's registers say of the table. S is the table's size, g the task's goal.
+-- Within how many of its own ticks a task answers while the other tasks do not disturb it: for each step the numbers n for
+-- which it is so, by what the task's registers say of the table. S is the table's size, g the task's goal. A remove takes
+-- four ticks for each link of its walk, and some extra where other tasks tick too: none where it is alone, two where a
+-- node may be marked by another remove between its own lines 77 and 78, once, since a Y stays.
 use mathlib.Core.Path.{_≡_}
-use mathlib.Core.Logic.{_≢_, _⊎_}
-use Prim.Native.Nat.{ℕ, _+_, _*_, _-_, _≤_, _<_}
+use mathlib.Core.Logic.{_≢_}
+use Prim.Native.Nat.{ℕ, zero, suc, _+_, _*_, _-_, _≤_, _<_}
+use native.Mathlib.Omega.{arith}
 use Rattle.machine.specs.declared.Answer.the-variants.{Going}
 use Rattle.machine.specs.Sides.{Side}
-use Rattle.machine.specs.Values.{N, X, Y}
+use Rattle.machine.specs.Values.{Value, N, X, Y}
 use Rattle.machine.specs.Steps.{Step, rest}
 use Rattle.machine.specs.Steps as Steps
 use Rattle.machine.specs.Tasks.{Task}
@@ -19,11 +22,34 @@ pub data SoonOrLate (P : Type 0) (a b n : ℕ) : Type 0 where
   soon : P → a ≤ n → SoonOrLate P a b n
   late : b ≤ n → SoonOrLate P a b n
 
--- ---- Remove: four ticks a link of the walk outward from x.
-pub record FourALink (out : ℕ → ℕ) (x c n : ℕ) : Type 0 where
+pub in-any-case : {P : Type 0} {a b n : ℕ} → a ≤ b → SoonOrLate P a b n → a ≤ n
+in-any-case le (soon p l) = l
+in-any-case le (late l) = omega arith
+
+-- ---- Remove.
+
+-- The ticks for a walk of so many links.
+abbrev pub walkTicks : (extra links : ℕ) → ℕ
+walkTicks extra zero = 0
+walkTicks extra (suc d) = 4 + extra + walkTicks extra d
+
+-- The walk outward from x, and c ticks more.
+pub record Walking (extra : ℕ) (out : ℕ → ℕ) (x c n : ℕ) : Type 0 where
   pub links : ℕ
   pub ends : EndsWithin out links x
-  pub within : 4 * links + c ≤ n
+  pub within : walkTicks extra links + c ≤ n
+
+-- Line 77: B has a Y, or another may still mark it.
+pub data Reading (extra : ℕ) (s : Side) (m : Memory) (B n : ℕ) : Type 0 where
+  reads-Y : m .val B ≡ Y s → Walking extra (m .out) B 5 n → Reading extra s m B n
+  reads : Walking extra (m .out) B (5 + extra) n → Reading extra s m B n
+
+-- Line 78: the value read is that of B, or not; and B has a Y, or not.
+pub data Marking (extra : ℕ) (s : Side) (m : Memory) (B : ℕ) (v : Value) (n : ℕ) : Type 0 where
+  marks-Y : m .val B ≡ v → m .val B ≡ Y s → Walking extra (m .out) B 4 n → Marking extra s m B v n
+  marks : m .val B ≡ v → Walking extra (m .out) B (4 + extra) n → Marking extra s m B v n
+  fails-once : m .val B ≡ Y s → Walking extra (m .out) B 6 n → Marking extra s m B v n
+  fails : Walking extra (m .out) B (6 + extra) n → Marking extra s m B v n
 
 -- ---- Push and add.
 
@@ -73,52 +99,51 @@ pub record Growing (S g : ℕ) (s : Side) (m : Memory) (counted n : ℕ) : Type 
   pub below : counted < g
   pub when : SoonOrLate (m .val (m .hat) ≢ Y s) ((g - counted) + (2 * S + 8)) ((g - counted) + (2 * S + 85)) n
 
-abbrev pub Left : Step → (S g : ℕ) (s : Side) → Memory → Task → (n : ℕ) → Type 0
-Left rest S g s m t n = ⊥
+abbrev pub Left : (extra : ℕ) → Step → (S g : ℕ) (s : Side) → Memory → Task → (n : ℕ) → Type 0
+Left extra rest S g s m t n = ⊥
 -- Push.
-Left Steps.line2 S g s m t n = AtStart S s m n
-Left Steps.line3 S g s m t n = Pushing s m (t .A) 2 (2 * S + 76) (2 * S + 85) (2 * S + 153) n
-Left Steps.line5 S g s m t n = Pushing s m (t .A) 1 (2 * S + 75) (2 * S + 84) (2 * S + 152) n
-Left Steps.line8 S g s m t n = Choosing S s m (t .A) n
+Left extra Steps.line2 S g s m t n = AtStart S s m n
+Left extra Steps.line3 S g s m t n = Pushing s m (t .A) 2 (2 * S + 76) (2 * S + 85) (2 * S + 153) n
+Left extra Steps.line5 S g s m t n = Pushing s m (t .A) 1 (2 * S + 75) (2 * S + 84) (2 * S + 152) n
+Left extra Steps.line8 S g s m t n = Choosing S s m (t .A) n
 -- Moving the hat off a Y.
-Left Steps.line67 S g s m t n = 2 * S + 82 ≤ n
-Left Steps.line68 S g s m t n = SoonOrLate (m .hat ≡ t .A) (2 * S + 81) (2 * S + 90) n
-Left Steps.line69 S g s m t n = SoonOrLate (m .hat ≡ t .A) (2 * S + 80) (2 * S + 89) n
-Left Steps.line70 S g s m t n =
+Left extra Steps.line67 S g s m t n = 2 * S + 82 ≤ n
+Left extra Steps.line68 S g s m t n = SoonOrLate (m .hat ≡ t .A) (2 * S + 81) (2 * S + 90) n
+Left extra Steps.line69 S g s m t n = SoonOrLate (m .hat ≡ t .A) (2 * S + 80) (2 * S + 89) n
+Left extra Steps.line70 S g s m t n =
     SoonOrLate ((m .hat ≡ t .A) × (t .B ≡ m .inn (t .A))) (2 * S + 79) (2 * S + 88) n
-Left Steps.line72 S g s m t n =
+Left extra Steps.line72 S g s m t n =
     SoonOrLate ((m .hat ≡ t .A) × (m .val (t .C) ≢ Y s)) (2 * S + 78) (2 * S + 87) n
 -- Add.
-Left Steps.line28 S g s m t n = SoonOrLate (m .val (m .hat) ≢ Y s) (2 * S + 73) (2 * S + 150) n
-Left Steps.line31 S g s m t n = Growing S g s m (t .counted) n
-Left Steps.line15 S g s m t n = SoonOrLate (m .val (m .hat) ≢ Y s) (2 * S + 7) (2 * S + 84) n
-Left Steps.line17 S g s m t n = Seeking S s m (t .A) n
-Left Steps.line18 S g s m t n = Stepping S s m (t .A) n
-Left Steps.line24 S g s m t n = SoonOrLate (AtEnd s m (t .A)) 5 (2 * S + 88) n
-Left Steps.line25 S g s m t n =
+Left extra Steps.line28 S g s m t n = SoonOrLate (m .val (m .hat) ≢ Y s) (2 * S + 73) (2 * S + 150) n
+Left extra Steps.line31 S g s m t n = Growing S g s m (t .counted) n
+Left extra Steps.line15 S g s m t n = SoonOrLate (m .val (m .hat) ≢ Y s) (2 * S + 7) (2 * S + 84) n
+Left extra Steps.line17 S g s m t n = Seeking S s m (t .A) n
+Left extra Steps.line18 S g s m t n = Stepping S s m (t .A) n
+Left extra Steps.line24 S g s m t n = SoonOrLate (AtEnd s m (t .A)) 5 (2 * S + 88) n
+Left extra Steps.line25 S g s m t n =
     SoonOrLate (AtEnd s m (t .A) × (m .out (t .A) ≡ t .B)) 4 (2 * S + 87) n
 -- Pop.
-Left Steps.line39 S g s m t n = 4 ≤ n
-Left Steps.line40 S g s m t n = SoonOrLate (m .hat ≡ t .A) 3 7 n
-Left Steps.line42 S g s m t n = SoonOrLate ((m .hat ≡ t .A) × (t .B ≡ m .inn (t .A))) 2 6 n
-Left Steps.line48 S g s m t n = SoonOrLate ((m .hat ≡ t .A) × (m .val (t .B) ≡ t .value)) 1 5 n
-Left Steps.line51 S g s m t n = SoonOrLate ((m .hat ≡ t .A) × (m .val (t .B) ≡ t .value)) 1 5 n
+Left extra Steps.line39 S g s m t n = 4 ≤ n
+Left extra Steps.line40 S g s m t n = SoonOrLate (m .hat ≡ t .A) 3 7 n
+Left extra Steps.line42 S g s m t n = SoonOrLate ((m .hat ≡ t .A) × (t .B ≡ m .inn (t .A))) 2 6 n
+Left extra Steps.line48 S g s m t n = SoonOrLate ((m .hat ≡ t .A) × (m .val (t .B) ≡ t .value)) 1 5 n
+Left extra Steps.line51 S g s m t n = SoonOrLate ((m .hat ≡ t .A) × (m .val (t .B) ≡ t .value)) 1 5 n
 -- Remove.
-Left Steps.line54 S g s m t n = 4 * S + 4 ≤ n
-Left Steps.line56 S g s m t n = FourALink (m .out) (t .A) 3 n
-Left Steps.line58 S g s m t n = FourALink (m .out) (t .A) 2 n
-Left Steps.line60 S g s m t n = FourALink (m .out) (t .A) 1 n
-Left Steps.line62 S g s m t n = FourALink (m .out) (t .B) 4 n
-Left Steps.line64 S g s m t n = FourALink (m .out) (t .B) 3 n
-Left Steps.line74 S g s m t n = FourALink (m .out) (t .B) 2 n
-Left Steps.line77 S g s m t n = FourALink (m .out) (t .B) 5 n
-Left Steps.line78 S g s m t n =
-    ((m .val (t .B) ≡ t .value) × FourALink (m .out) (t .B) 4 n) ⊎ FourALink (m .out) (t .B) 6 n
-Left Steps.line79 S g s m t n = FourALink (m .out) (t .B) 3 n
-Left Steps.line81 S g s m t n = FourALink (m .out) (t .A) 2 n
-Left Steps.line82 S g s m t n = 1 ≤ n
+Left extra Steps.line54 S g s m t n = walkTicks extra S + 4 ≤ n
+Left extra Steps.line56 S g s m t n = Walking extra (m .out) (t .A) 3 n
+Left extra Steps.line58 S g s m t n = Walking extra (m .out) (t .A) 2 n
+Left extra Steps.line60 S g s m t n = Walking extra (m .out) (t .A) 1 n
+Left extra Steps.line62 S g s m t n = Walking extra (m .out) (t .B) 4 n
+Left extra Steps.line64 S g s m t n = Walking extra (m .out) (t .B) 3 n
+Left extra Steps.line74 S g s m t n = Walking extra (m .out) (t .B) 2 n
+Left extra Steps.line77 S g s m t n = Reading extra s m (t .B) n
+Left extra Steps.line78 S g s m t n = Marking extra s m (t .B) (t .value) n
+Left extra Steps.line79 S g s m t n = Walking extra (m .out) (t .B) 3 n
+Left extra Steps.line81 S g s m t n = Walking extra (m .out) (t .A) 2 n
+Left extra Steps.line82 S g s m t n = 1 ≤ n
 
 -- A tick with effect e, of a task that has n ticks left: it answers, or leaves one tick less.
-pub record Spends (S g : ℕ) (s : Side) (m : Memory) (n : ℕ) (e : Effect) : Type 0 where
+pub record Spends (extra S g : ℕ) (s : Side) (m : Memory) (n : ℕ) (e : Effect) : Type 0 where
   pub spends : e .answer ≡ Going
-      → (1 ≤ n) × Left (e .task .step) S g s (written (e .writes) m) (e .task) (n - 1)
+      → (1 ≤ n) × Left extra (e .task .step) S g s (written (e .writes) m) (e .task) (n - 1)

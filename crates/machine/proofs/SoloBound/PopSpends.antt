@@ -17,13 +17,13 @@ use Rattle.machine.proofs.SoloBound.AtHat.{Popped, a-bag, far-N, far-X,
 use Rattle.machine.proofs.SoloBound.Budget.{soon, late, Left, Spends}
 use Rattle.machine.proofs.SoloBound.Spending.{goes, answered, passing, swapping}
 
-module _ (S g : ℕ) {s o : Side} {m : Memory} {class : ℕ → Class} {r : List ℕ}
+module _ (extra S g : ℕ) {s o : Side} {m : Memory} {class : ℕ → Class} {r : List ℕ}
     (L : Lane s o m class r) (t : Task) (f n : ℕ) where
   abbrev Ok : Effect → Type 0
-  Ok e = Spends S g s m n e
+  Ok e = Spends extra S g s m n e
 
   abbrev LineOk : Step → Type 0
-  LineOk st = Left st S g s m t n → Ok (act st s o m t g f)
+  LineOk st = Left extra st S g s m t n → Ok (act st s o m t g f)
 
   pub line39-spends : LineOk line39
   unfolding act

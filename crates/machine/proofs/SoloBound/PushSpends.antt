@@ -58,10 +58,10 @@ use Rattle.machine.proofs.SoloBound.Budget.{
 use Rattle.machine.proofs.SoloBound.Spending.{goes, answered, passing, swapping}
 
 -- Back, to 2 or to 15, with a hat off Y, and with any.
-module _ {S g : ℕ} {s : Side} {m : Memory} {n : ℕ} {l : List Write} (t : Task) where
+module _ {extra S g : ℕ} {s : Side} {m : Memory} {n : ℕ} {l : List Write} (t : Task) where
   back-off-Y : 2 * S + 78 ≤ n → written l m .val (written l m .hat) ≢ Y s
       → (op : Operation) {x : ℕ} (d : Dec (x ≡ none))
-      → Spends S g s m n (record { writes = l; task = goto t (backOf op d); answer = Going })
+      → Spends extra S g s m n (record { writes = l; task = goto t (backOf op d); answer = Going })
   back-off-Y h ne push (yes e) = goes (goto t line2) (omega arith) (start-off-Y ne (omega arith))
   back-off-Y h ne push (no e) = goes (goto t line15) (omega arith) (soon ne (omega arith))
   back-off-Y h ne idle d = goes (goto t line15) (omega arith) (soon ne (omega arith))
@@ -70,7 +70,7 @@ module _ {S g : ℕ} {s : Side} {m : Memory} {n : ℕ} {l : List Write} (t : Tas
   back-off-Y h ne remove d = goes (goto t line15) (omega arith) (soon ne (omega arith))
 
   back-anywhere : 2 * S + 87 ≤ n → (op : Operation) {x : ℕ} (d : Dec (x ≡ none))
-      → Spends S g s m n (record { writes = l; task = goto t (backOf op d); answer = Going })
+      → Spends extra S g s m n (record { writes = l; task = goto t (backOf op d); answer = Going })
   back-anywhere h push (yes e) = goes (goto t line2) (omega arith) (start-anywhere (omega arith))
   back-anywhere h push (no e) = goes (goto t line15) (omega arith) (late (omega arith))
   back-anywhere h idle d = goes (goto t line15) (omega arith) (late (omega arith))
@@ -78,13 +78,13 @@ module _ {S g : ℕ} {s : Side} {m : Memory} {n : ℕ} {l : List Write} (t : Tas
   back-anywhere h add d = goes (goto t line15) (omega arith) (late (omega arith))
   back-anywhere h remove d = goes (goto t line15) (omega arith) (late (omega arith))
 
-module _ (S g : ℕ) {s o : Side} {m : Memory} {class : ℕ → Class} {r : List ℕ}
+module _ (extra S g : ℕ) {s o : Side} {m : Memory} {class : ℕ → Class} {r : List ℕ}
     (L : Lane s o m class r) (t : Task) (f n : ℕ) where
   abbrev Ok : Effect → Type 0
-  Ok e = Spends S g s m n e
+  Ok e = Spends extra S g s m n e
 
   abbrev LineOk : Step → Type 0
-  LineOk st = Left st S g s m t n → Ok (act st s o m t g f)
+  LineOk st = Left extra st S g s m t n → Ok (act st s o m t g f)
 
   pub line2-spends : LineOk line2
   unfolding act

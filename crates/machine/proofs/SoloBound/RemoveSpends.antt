@@ -1,7 +1,7 @@
 -- The lines of remove: a walk outward, then the nodes cut off, one by one, to their end.
-use mathlib.Core.Path.{refl}
-use mathlib.Core.Logic.{_≢_, inl, inr}
-use Prim.Native.Nat.{ℕ, suc, _+_, _*_, _≤_}
+use mathlib.Core.Path.{_≡_, refl, sym, subst}
+use mathlib.Core.Logic.{_≢_}
+use Prim.Native.Nat.{ℕ, suc, _+_, _-_, _≤_}
 use native.Mathlib.Omega.{arith}
 use Rattle.machine.specs.Choice.{_≟_}
 use Rattle.machine.specs.Sides.{Side}
@@ -27,31 +27,46 @@ use Rattle.machine.proofs.Contradiction.{refute}
 use Rattle.machine.proofs.Updates.{Wrote, update-wrote}
 use Rattle.machine.proofs.Linearizability.Connectives.{ok-if}
 use Rattle.machine.proofs.SoloBound.Walks.{EndsWithin, ends-on, ends-cut}
-use Rattle.machine.proofs.SoloBound.Budget.{FourALink, Left, Spends}
+use Rattle.machine.proofs.SoloBound.Budget.{
+  walkTicks,
+  Walking,
+  Reading,
+  reads-Y,
+  reads,
+  marks-Y,
+  marks,
+  fails-once,
+  fails,
+  Left,
+  Spends,
+}
 use Rattle.machine.proofs.SoloBound.Spending.{goes, answered, passing, swapping}
 
 -- The same walk with other numbers, the walk one link on, and the walk after a cut.
-module _ {out : ℕ → ℕ} {x c n : ℕ} (w : FourALink out x c n) where
-  same-walk : {d k : ℕ} → (4 * w .links + c ≤ n → 4 * w .links + d ≤ k) → FourALink out x d k
+module _ {extra : ℕ} {out : ℕ → ℕ} {x c n : ℕ} (w : Walking extra out x c n) where
+  same-walk : {d k : ℕ} → (walkTicks extra (w .links) + c ≤ n → walkTicks extra (w .links) + d ≤ k)
+      → Walking extra out x d k
   same-walk h = record { links = w .links; ends = w .ends; within = h (w .within) }
 
-  next-walk : {d k : ℕ} → out x ≢ none → ((j : ℕ) → 4 * suc j + c ≤ n → 4 * j + d ≤ k) → FourALink out (out x) d k
+  next-walk : {d k : ℕ} → out x ≢ none → ((j : ℕ) → walkTicks extra (suc j) + c ≤ n → walkTicks extra j + d ≤ k)
+      → Walking extra out (out x) d k
   next-walk ne h =
       let r = ends-on ne (w .ends) in
-      let e = r .1 in
-      record { links = r .0; ends = r .2; within = h (r .0) (rw e (w .within)) }
+      let here = subst (λ (i : ℕ). walkTicks extra i + c ≤ n) (sym (r .1)) (w .within) in
+      record { links = r .0; ends = r .2; within = h (r .0) here }
 
-  cut-walk : {d k a : ℕ} {out' : ℕ → ℕ} → Wrote out a none out' → (4 * w .links + c ≤ n → 4 * w .links + d ≤ k)
-      → FourALink out' x d k
+  cut-walk : {d k a : ℕ} {out' : ℕ → ℕ} → Wrote out a none out'
+      → (walkTicks extra (w .links) + c ≤ n → walkTicks extra (w .links) + d ≤ k)
+      → Walking extra out' x d k
   cut-walk wrote h = record { links = w .links; ends = ends-cut wrote (w .ends); within = h (w .within) }
 
-module _ (S g : ℕ) (s o : Side) (m : Memory) (t : Task) (f n : ℕ)
+module _ (extra S g : ℕ) (s o : Side) (m : Memory) (t : Task) (f n : ℕ)
     (short : (x : ℕ) → EndsWithin (m .out) S x) where
   abbrev Ok : Effect → Type 0
-  Ok e = Spends S g s m n e
+  Ok e = Spends extra S g s m n e
 
   abbrev LineOk : Step → Type 0
-  LineOk st = Left st S g s m t n → Ok (act st s o m t g f)
+  LineOk st = Left extra st S g s m t n → Ok (act st s o m t g f)
 
   pub line54-spends : LineOk line54
   unfolding act
@@ -60,7 +75,7 @@ module _ (S g : ℕ) (s o : Side) (m : Memory) (t : Task) (f n : ℕ)
       (λ _. goes (goto (withA t (m .hat)) line60) (omega arith) (from-hat (omega arith)))
       (λ _. goes (goto (withA t (m .hat)) line56) (omega arith) (from-hat (omega arith)))
     where
-      from-hat : {c k : ℕ} → 4 * S + c ≤ k → FourALink (m .out) (m .hat) c k
+      from-hat : {c k : ℕ} → walkTicks extra S + c ≤ k → Walking extra (m .out) (m .hat) c k
       from-hat l = record { links = S; ends = short (m .hat); within = l }
 
   pub line56-spends : LineOk line56
@@ -110,28 +125,41 @@ module _ (S g : ℕ) (s o : Side) (m : Memory) (t : Task) (f n : ℕ)
       passing t (t .B) (λ _.
       ok-if Ok (λ st. next (withB (withA t (t .B)) (m .out (t .B))) st) (m .out (t .B) ≟ none)
       (λ _. goes _ (omega (arith, w .within)) (omega (arith, w .within)))
-      (λ ne. goes _ (omega (arith, w .within)) (next-walk w ne (λ j l. omega arith))))
+      (λ ne. goes _ (omega (arith, w .within)) (reads (next-walk w ne (λ j l. omega arith)))))
 
   pub line77-spends : LineOk line77
   unfolding act
-  line77-spends w =
+  line77-spends (reads-Y v w) =
       passing t (t .B) (λ _.
       goes (goto (withValue t (m .val (t .B))) line78) (omega (arith, w .within))
-      (inl (refl, same-walk w (λ l. omega arith))))
+      (marks-Y refl v (same-walk w (λ l. omega arith))))
+  line77-spends (reads w) =
+      passing t (t .B) (λ _.
+      goes (goto (withValue t (m .val (t .B))) line78) (omega (arith, w .within))
+      (marks refl (same-walk w (λ l. omega arith))))
+
+  -- Line 78, with a swap that is done, and one that fails.
+  by-swap : (m .val (t .B) ≡ t .value → (1 ≤ n) × Walking extra (m .out) (t .B) 3 (n - 1))
+      → (m .val (t .B) ≢ t .value → (1 ≤ n) × Reading extra s m (t .B) (n - 1))
+      → Ok (act line78 s o m t g f)
+  unfolding act
+  by-swap done failed =
+      passing t (t .B) (λ _.
+      ok-if Ok (λ e. e) (m .val (t .B) ≟ᵛ t .value)
+      (λ e. goes (goto t line79) (done e .0) (done e .1))
+      (λ ne. goes (goto t line77) (failed ne .0) (failed ne .1)))
 
   pub line78-spends : LineOk line78
-  unfolding act
-  line78-spends (inl p) =
-      let w = p .1 in
-      passing t (t .B) (λ _.
-      ok-if Ok (λ e. e) (m .val (t .B) ≟ᵛ t .value)
-      (λ _. goes (goto t line79) (omega (arith, w .within)) (same-walk w (λ l. omega arith)))
-      (λ ne. absurd (ne (p .0))))
-  line78-spends (inr w) =
-      passing t (t .B) (λ _.
-      ok-if Ok (λ e. e) (m .val (t .B) ≟ᵛ t .value)
-      (λ _. goes (goto t line79) (omega (arith, w .within)) (same-walk w (λ l. omega arith)))
-      (λ _. goes (goto t line77) (omega (arith, w .within)) (same-walk w (λ l. omega arith))))
+  line78-spends (marks-Y e v w) =
+      by-swap (λ _. (omega (arith, w .within), same-walk w (λ l. omega arith))) (λ ne. absurd (ne e))
+  line78-spends (marks e w) =
+      by-swap (λ _. (omega (arith, w .within), same-walk w (λ l. omega arith))) (λ ne. absurd (ne e))
+  line78-spends (fails-once v w) =
+      by-swap (λ _. (omega (arith, w .within), same-walk w (λ l. omega arith)))
+      (λ _. (omega (arith, w .within), reads-Y v (same-walk w (λ l. omega arith))))
+  line78-spends (fails w) =
+      by-swap (λ _. (omega (arith, w .within), same-walk w (λ l. omega arith)))
+      (λ _. (omega (arith, w .within), reads (same-walk w (λ l. omega arith))))
 
   pub line79-spends : LineOk line79
   unfolding act
@@ -149,7 +177,7 @@ module _ (S g : ℕ) (s o : Side) (m : Memory) (t : Task) (f n : ℕ)
       (λ ne.
       ok-if Ok (λ st. next (withB t (m .out (t .A))) st) (t .value ≟ᵛ X s)
       (λ _. goes _ (omega (arith, w .within)) (omega (arith, w .within)))
-      (λ _. goes _ (omega (arith, w .within)) (next-walk w ne (λ j l. omega arith)))))
+      (λ _. goes _ (omega (arith, w .within)) (reads (next-walk w ne (λ j l. omega arith))))))
 
   pub line82-spends : LineOk line82
   unfolding act

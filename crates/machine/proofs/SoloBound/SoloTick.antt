@@ -1,10 +1,10 @@
 -- A tick of a busy task in a table that our calls lead to: it answers, or leaves the task one tick less.
-use mathlib.Core.Path.{_≡_, sym, ap, _∙_, subst}
+use mathlib.Core.Path.{_≡_, sym, ap, subst}
 use mathlib.Core.Logic.{_≢_, _⊎_, inl, inr}
 use mathlib.Core.Bool.{true}
 use mathlib.Core.List.{List}
 use mathlib.Core.Option.{none as nothing}
-use Prim.Native.Nat.{ℕ, suc, _+_, _*_, _-_, _≤_, _<_}
+use Prim.Native.Nat.{ℕ, suc, _-_, _≤_, _<_}
 use native.Mathlib.Omega.{arith}
 use borrow.Author.Tests.{ltb-true, leb-true}
 use Rattle.machine.specs.declared.Answer.the-variants.{Going}
@@ -35,21 +35,21 @@ use Rattle.machine.proofs.Linearizability.Reading.{main-is-node}
 use Rattle.machine.proofs.Linearizability.Agreement.{Agrees}
 use Rattle.machine.proofs.Linearizability.Corollaries.{begun-agrees}
 use Rattle.machine.proofs.Linearizability.MadeTicks.{well-linked, keeps-invariant}
-use Rattle.machine.proofs.Linearizability.TableAfter.{own-after, in-after, own-side}
+use Rattle.machine.proofs.Linearizability.TableAfter.{own-after, in-after, own-side, own-busy}
 use Rattle.machine.proofs.SoloBound.Walks.{EndsWithin, LinksBelow, ends-within-nodes}
 use Rattle.machine.proofs.SoloBound.Budget.{Left, Spends}
 use Rattle.machine.proofs.SoloBound.LinesSpend.{line-spends}
-use Rattle.machine.proofs.SoloBound.AtFirst.{left-at-first}
+use Rattle.machine.proofs.SoloBound.AtFirst.{most, left-at-first}
 use Rattle.machine.proofs.SoloBound.BegunEnds.{ends-view, begun-ends}
 
 -- The ticks that a task has left, by the table's size and growth and its memory.
-abbrev pub LeftWith : (S gr : ℕ) → Memory → Task → (n : ℕ) → Type 0
-LeftWith S gr M t n = Left (t .step) S (goal gr t) (t .side) (view (t .side) M) t n
+abbrev pub LeftWith : (extra S gr : ℕ) → Memory → Task → (n : ℕ) → Type 0
+LeftWith extra S gr M t n = Left extra (t .step) S (goal gr t) (t .side) (view (t .side) M) t n
 
-pub record LeftIn (ws : List ℕ) (k n : ℕ) : Type 0 where
-  pub left : LeftWith (nodeCount ws) (growth ws) (seen right ws) (task ws k) n
+pub record LeftIn (extra : ℕ) (ws : List ℕ) (k n : ℕ) : Type 0 where
+  pub left : LeftWith extra (nodeCount ws) (growth ws) (seen right ws) (task ws k) n
 
-module _ {ws : List ℕ} (begun : Begun ws) (k : ℕ) where
+module _ (extra : ℕ) {ws : List ℕ} (begun : Begun ws) (k : ℕ) where
   A : Agrees ws (begun-agrees begun .0)
   A = begun-agrees begun .1
 
@@ -91,7 +91,7 @@ module _ {ws : List ℕ} (begun : Begun ws) (k : ℕ) where
   out-below left = links-below left
   out-below right = links-below right
 
-  short : (x : ℕ) → EndsWithin (m .out) (nodeCount ws) x
+  pub short : (x : ℕ) → EndsWithin (m .out) (nodeCount ws) x
   short = ends-within-nodes (out-below s) (ends-view s (seen right ws) (begun-ends begun) .0)
 
   module _ (busy : isBusy (task ws k .operation) ≡ true) where
@@ -111,60 +111,54 @@ module _ {ws : List ℕ} (begun : Begun ws) (k : ℕ) where
         let ok = rw e at (facts .counted-ok) in
         ltb-true (task ws k .counted) (goal (growth ws) (task ws k)) ok
 
-    pub left-in-first : LeftIn ws k (4 * nodeCount ws + 153)
-    left-in-first =
+    pub left-in-first : extra ≤ 2 → LeftIn extra ws k (most extra (nodeCount ws))
+    left-in-first little =
         record {
           left =
-              left-at-first k (nodeCount ws) (goal (growth ws) (task ws k)) m short (task ws k) not-idle few
+              left-at-first k extra (nodeCount ws) (goal (growth ws) (task ws k)) little m short (task ws k) not-idle few
               (task ws k .step) (A .invariant .task-ok k) counted-below;
         }
 
   -- ---- A tick.
-  module _ (h n : ℕ) (passes : tickRefusal ws k h ≡ nothing) (B : LeftIn ws k n) where
+  module _ (h n : ℕ) (passes : tickRefusal ws k h ≡ nothing) (B : LeftIn extra ws k n) where
     abbrev e : Effect
     e = effectOf ws k h
 
     abbrev after : List ℕ
     after = tickOn ws k h .words
 
-    spends : Spends (nodeCount ws) (goal (growth ws) (task ws k)) s m n (effectOf ws k h)
+    spends : Spends extra (nodeCount ws) (goal (growth ws) (task ws k)) s m n (effectOf ws k h)
     unfolding effectOf
     spends =
         let g = goal (growth ws) (task ws k) in
         let busy = tick-allowed ws k h passes .2 in
         subst
         (λ (y : Memory).
-        Spends (nodeCount ws) g s m n (act (task ws k .step) s (opposite s) y (task ws k) g (allocate ws h)))
+        Spends extra (nodeCount ws) g s m n (act (task ws k .step) s (opposite s) y (task ws k) g (allocate ws h)))
         (view-seen s ws)
-        (line-spends k (nodeCount ws) g lane main-size short (task ws k) (allocate ws h) n (few busy)
+        (line-spends k extra (nodeCount ws) g lane main-size short (task ws k) (allocate ws h) n (few busy)
         (task ws k .step) (A .invariant .task-ok k) (B .left))
 
     -- What is left after a tick that goes on.
     pub record Continues : Type 0 where
       pub some : 1 ≤ n
-      pub left-after : LeftIn after k (n - 1)
+      pub left-after : LeftIn extra after k (n - 1)
       pub busy-after : isBusy (task after k .operation) ≡ true
 
-    -- The task's goal, its side and its operation stay.
+    -- The task's goal and its side stay.
     module _ (going : e .answer ≡ Going) (same : noteOf (e .task) ≡ noteOf (task ws k)) where
-      left-then : LeftIn after k (n - 1)
+      left-then : LeftIn extra after k (n - 1)
       left-then =
           let same-goal : goal (growth ws) (e .task) ≡ goal (growth ws) (task ws k) =
           ap (λ (x : Note). goalOf (x .operation) (growth ws) (x .argument)) same in
           let LeftFor : ℕ → Side → Memory → Type 0 =
-          λ g z m'. Left (e .task .step) (nodeCount ws) g z m' (e .task) (n - 1) in
+          λ g z m'. Left extra (e .task .step) (nodeCount ws) g z m' (e .task) (n - 1) in
           record {
             left =
-                in-after A k h passes (λ S T gr M t. LeftWith S gr M t (n - 1)) k (own-after A k h passes)
+                in-after A k h passes (λ S T gr M t. LeftWith extra S gr M t (n - 1)) k (own-after A k h passes)
                 (own-side A k h passes (LeftFor (goal (growth ws) (e .task))) same
                 (subst (λ (g : ℕ). LeftFor g s (written (e .writes) m)) (sym same-goal) (spends .spends going .1)));
           }
-
-      busy-then : isBusy (task after k .operation) ≡ true
-      busy-then =
-          ap (λ (t : Task). isBusy (t .operation)) (own-after A k h passes)
-          ∙ ap (λ (x : Note). isBusy (x .operation)) same
-          ∙ tick-allowed ws k h passes .2
 
     pub continues : e .answer ≡ Going → Continues
     continues going = go (keeps-invariant A k h passes .kept)
@@ -174,6 +168,6 @@ module _ {ws : List ℕ} (begun : Begun ws) (k : ℕ) where
             record {
               some = spends .spends going .0;
               left-after = left-then going same;
-              busy-after = busy-then going same;
+              busy-after = own-busy A k h passes same;
             }
         go (has-answered ne fresh-now) = absurd (ne going)

@@ -1,0 +1,21 @@
+-- Some call answers, whoever ticks: each tick that is made and does not answer lowers a potential of the table.
+
+-- What the other tasks see of a tick.
+pub mod Change
+pub mod Calmness
+-- The ticks that a task has left, while the others tick and are calm.
+pub mod LeftStays
+-- How often a task may disturb the others, and what each line comes to.
+pub mod Disturbances
+pub mod Outcome
+pub mod QuietOutcomes
+pub mod CalmOutcomes
+pub mod DisturbingOutcomes
+pub mod LineOutcomes
+-- The potential, and the theorem.
+pub mod Sums
+pub mod TableTick
+pub mod Potential
+pub mod BeginKeeps
+pub mod Theorem
+pub mod Schedules

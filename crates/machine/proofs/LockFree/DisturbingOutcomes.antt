@@ -1,0 +1,375 @@
+-- The lines that disturb: 25, 62, 64 and 72.
+use mathlib.Core.Path.{_≡_, refl, sym}
+use mathlib.Core.Logic.{_≢_, _⊎_, inl, inr}
+use mathlib.Core.Bool.{Bool}
+use mathlib.Core.List.{List, [], _∷_}
+use Prim.Native.Nat.{ℕ, suc, _-_, _≤_, _<_}
+use native.Mathlib.Omega.{arith}
+use Rattle.machine.specs.Choice.{_≟_}
+use Rattle.machine.specs.Sides.{Side}
+use Rattle.machine.specs.Values.{N, X, Y, _≟ᵛ_}
+use Rattle.machine.specs.Operations.{Operation, idle, push, pop, add, remove}
+use Rattle.machine.specs.Steps.{Step}
+use Rattle.machine.specs.Steps as Steps
+use Rattle.machine.specs.Tasks.{Task, none, goto}
+use Rattle.machine.specs.Lines.{
+  Memory,
+  out≔,
+  val≔,
+  hat≔,
+  Effect,
+  next,
+  writing,
+  spliced,
+  back,
+  act,
+}
+use Rattle.machine.proofs.Contradiction.{clash, refute}
+use Rattle.machine.proofs.Updates.{it-is, it-is-not, update, update-wrote, wrote?, update-other}
+use Rattle.machine.proofs.Memories.{written}
+use Rattle.machine.proofs.Linearizability.Classes.{Class, main, in-main, in-near, in-far, old-class}
+use Rattle.machine.proofs.Linearizability.Structure.{Structure, linked, cut-off}
+use Rattle.machine.proofs.Linearizability.Reversal.{reversed}
+use Rattle.machine.proofs.Linearizability.Nodes.{N-from-b, N-before-n, own-mark-not-far}
+use Rattle.machine.proofs.Linearizability.Connectives.{ok-if, ok-dcas}
+use Rattle.machine.proofs.Linearizability.Phases.{TaskOk}
+use Rattle.machine.proofs.Linearizability.Invariant.{Lane}
+use Rattle.machine.proofs.SoloBound.AtHat.{
+  a-bag,
+  far-N,
+  far-X,
+  hat-N,
+  hat-X,
+  hat-Y,
+  hat-value,
+  hat-at,
+  behind-value,
+  j,
+  j-next,
+  inn-hat,
+  past-hat,
+  past-off-Y,
+}
+use Rattle.machine.proofs.SoloBound.Budget.{SoonOrLate, soon, late, in-any-case}
+use Rattle.machine.proofs.LockFree.Change.{past, BothSteady, BothNoCut}
+use Rattle.machine.proofs.LockFree.Disturbances.{Room, Moving, Disturbs}
+use Rattle.machine.proofs.LockFree.Outcome.{Outcome, cuts, disturbs, moves, goes, ended, passing}
+use Rattle.machine.proofs.LockFree.QuietOutcomes.{back-disturbs, chain-op}
+
+module _ (T : ℕ) (held : ℕ → Bool) (k : ℕ) {s o : Side} {m : Memory} {class : ℕ → Class} {r : List ℕ}
+    (L : Lane s o m class r) (t : Task) (g f n : ℕ) where
+  abbrev Ok : Effect → Type 0
+  Ok e = Outcome T held class s o m n e
+
+  abbrev LineOk : Step → Type 0
+  LineOk st = TaskOk k s o m class st t → Disturbs st T s m t n → Ok (act st s o m t g f)
+
+  Z : Structure s o (m .out) (m .inn) (m .val) (m .hat) (m .far) class (L .at) (L .index) (L .n) (L .a) (L .b) (L .bags)
+  Z = L .structure
+
+  -- The far hat's node holds a mark of the far side.
+  far-not-X : m .val (m .far) ≢ X s
+  far-not-X x =
+      let w = L .structure .sides in
+      elim (hat-value (reversed (L .structure))) [
+        | hat-N v ↦ refute (cc)
+        | hat-X v ↦ refute (cc)
+        | hat-Y v ↦ refute (cc)
+      ]
+
+  far-not-N : m .val (m .far) ≢ N s
+  far-not-N x =
+      let w = L .structure .sides in
+      elim (hat-value (reversed (L .structure))) [
+        | hat-N v ↦ refute (cc)
+        | hat-X v ↦ refute (cc)
+        | hat-Y v ↦ refute (cc)
+      ]
+
+  behind-not-X : m .val (m .inn (m .hat)) ≢ X s
+  behind-not-X x =
+      let w = L .structure .sides in
+      elim (behind-value (L .structure)) [ a-bag u v ↦ refute (cc) | far-N v ↦ refute (cc) | far-X v ↦ refute (cc) ]
+
+  b-main : class (L .at (L .b)) ≡ main
+  b-main = L .structure .main-list .is-main (L .b) (L .structure .b≤n)
+
+  -- ---- Line 25.
+  module _ (is-X : m .val (t .A) ≡ X s) where
+    abbrev spliced-memory : Memory
+    spliced-memory = written (out≔ (t .A) (t .D) ∷ val≔ (t .A) (N s) ∷ []) m
+
+    past-as-before : update (m .out) (t .A) (t .D) (m .inn (m .hat)) ≡ past m
+    past-as-before = update-other (m .out) (t .A) (t .D) (m .inn (m .hat)) (λ e. behind-not-X (cc))
+
+    far-as-before : update (m .out) (t .A) (t .D) (m .far) ≡ m .out (m .far)
+    far-as-before = update-other (m .out) (t .A) (t .D) (m .far) (λ e. far-not-X (cc))
+
+    splice-steady : BothSteady s o m spliced-memory
+    splice-steady =
+        record {
+          near =
+              record {
+                behind-same = refl;
+                past-same = past-as-before;
+                stays-off-Y =
+                    λ ne y. elim (wrote? (update-wrote (m .val) (t .A) (N s)) (m .hat)) [
+                      | it-is e q ↦ refute (cc)
+                      | it-is-not e q ↦ ne (cc)
+                    ];
+              };
+          far =
+              record {
+                behind-same = far-as-before;
+                past-same = cc (far-as-before);
+                stays-off-Y =
+                    λ ne y. ne (cc (update-other (m .val) (t .A) (N s) (m .far) (λ e. far-not-X (cc))));
+              };
+        }
+
+    splice-no-cut : BothNoCut held class s o m spliced-memory
+    splice-no-cut =
+        record {
+          near =
+              record {
+                N-stays =
+                    λ v. elim (wrote? (update-wrote (m .val) (t .A) (N s)) (past m)) [
+                      | it-is e q ↦ q
+                      | it-is-not e q ↦ cc
+                    ];
+                no-X =
+                    λ x _ _ ne y. elim (wrote? (update-wrote (m .val) (t .A) (N s)) x) [
+                      | it-is e q ↦ refute (cc)
+                      | it-is-not e q ↦ ne (cc)
+                    ];
+              };
+          far =
+              record {
+                N-stays =
+                    λ v. elim (wrote? (update-wrote (m .val) (t .A) (N s)) (m .inn (m .out (m .far)))) [
+                      | it-is e q ↦ clash (cc)
+                      | it-is-not e q ↦ cc
+                    ];
+                no-X =
+                    λ x _ _ ne y. elim (wrote? (update-wrote (m .val) (t .A) (N s)) x) [
+                      | it-is e q ↦ refute (cc)
+                      | it-is-not e q ↦ ne (cc)
+                    ];
+              };
+        }
+
+    room-after : Room s m ⊎ (t .A ≡ past m) → Room s spliced-memory
+    room-after p =
+        let q = past-as-before in
+        elim (wrote? (update-wrote (m .val) (t .A) (N s)) (past m)) [
+          | it-is e u ↦ cc
+          | it-is-not e u ↦ elim p [ inl v ↦ cc | inr d ↦ absurd (e (sym d)) ]
+        ]
+
+    splices : SoonOrLate (Room s m ⊎ (t .A ≡ past m)) 1 2 n → (op : Operation)
+        → Ok (spliced op (out≔ (t .A) (t .D) ∷ val≔ (t .A) (N s) ∷ []) t)
+    splices (soon p l) push =
+        disturbs {i = n - 1} splice-steady splice-no-cut (omega arith) (soon (room-after p) (omega arith))
+    splices (late l) push = disturbs {i = n - 1} splice-steady splice-no-cut (omega arith) (late (omega arith))
+    splices b idle = ended (λ q. refute (cc))
+    splices b pop = ended (λ q. refute (cc))
+    splices b add = ended (λ q. refute (cc))
+    splices b remove = ended (λ q. refute (cc))
+
+  pub line25-outcome : LineOk Steps.line25
+  unfolding act
+  line25-outcome h b =
+      passing t (t .A) (λ _.
+      ok-dcas Ok (m .out (t .A) ≟ t .B) (m .val (t .A) ≟ᵛ X s)
+      (λ _ v. splices v b (t .operation))
+      (goes (goto t Steps.line15) (in-any-case (omega arith) b)))
+
+  -- ---- Line 62.
+  module _ (h : TaskOk k s o m class Steps.line62 t) (A-N : m .val (t .A) ≡ N s) (B-N : m .val (t .B) ≡ N s) where
+    abbrev cut-memory : Memory
+    cut-memory = written (val≔ (t .A) (X s) ∷ val≔ (t .B) (Y s) ∷ []) m
+
+    -- B is beyond the hat.
+    hat-not-B : m .val (m .hat) ≢ Y s → m .hat ≢ t .B
+    hat-not-B ne e =
+        let q = hat-at Z ne in
+        let S = L .structure in
+        let w = S .sides in
+        elim (old-class (S .sides) (class (t .A)) (h .relies .A-old)) [
+          | in-near c ↦ refute (cc (b-main, h .relies .spur-next c))
+          | in-far c ↦ own-mark-not-far Z (t .A) (cc) c
+          | in-main c ↦
+              elim (h .relies .main-next c) [
+                | cut-off d y ↦ refute (cc)
+                | linked d ↦
+                    let i : ℕ = L .index (t .A) in
+                    let at-i = S .main-list .at-index (t .A) c in
+                    let i≤n = S .main-list .index-le (t .A) c in
+                    let b≤i : L .b ≤ i = N-from-b Z i i≤n (cc) in
+                    let i<n : i < L .n = N-before-n Z i i≤n (cc) in
+                    let same : suc i ≡ L .b =
+                    cc (
+                      S .links .links-out i i<n,
+                      S .main-list .index-at (suc i) i<n,
+                      S .main-list .index-at (L .b) (S .b≤n),
+                    ) in
+                    omega arith
+              ]
+        ]
+
+    cut-steady : BothSteady s o m cut-memory
+    cut-steady =
+        record {
+          near =
+              record {
+                behind-same = refl;
+                past-same = refl;
+                stays-off-Y =
+                    λ ne y. elim (wrote? (update-wrote (update (m .val) (t .A) (X s)) (t .B) (Y s)) (m .hat)) [
+                      | it-is e q ↦ hat-not-B ne e
+                      | it-is-not e q ↦
+                          elim (wrote? (update-wrote (m .val) (t .A) (X s)) (m .hat)) [
+                            | it-is d u ↦ refute (cc)
+                            | it-is-not d u ↦ ne (cc)
+                          ]
+                    ];
+              };
+          far =
+              record {
+                behind-same = refl;
+                past-same = refl;
+                stays-off-Y =
+                    λ ne y. ne (cc (
+                      update-other (update (m .val) (t .A) (X s)) (t .B) (Y s) (m .far) (λ e. far-not-N (cc)),
+                      update-other (m .val) (t .A) (X s) (m .far) (λ e. far-not-N (cc)),
+                    ));
+              };
+        }
+
+  pub line62-outcome : LineOk Steps.line62
+  unfolding act
+  line62-outcome h b =
+      passing t (t .A) (λ _. passing t (t .B) (λ _.
+      ok-dcas Ok (m .val (t .A) ≟ᵛ N s) (m .val (t .B) ≟ᵛ N s)
+      (λ u v. cuts (cut-steady h u v) b (omega arith))
+      (ended (λ q. refute (cc)))))
+
+  -- ---- Line 64.
+  module _ (h : TaskOk k s o m class Steps.line64 t) (leads : m .out (t .A) ≡ t .B) where
+    abbrev unlinked : Memory
+    unlinked = written (out≔ (t .A) none ∷ []) m
+
+    behind-not-A : m .inn (m .hat) ≢ t .A
+    behind-not-A e = refute (cc (past-hat Z, b-main, h .relies .B-spur))
+
+    far-not-A : m .far ≢ t .A
+    far-not-A e =
+        let S = L .structure in
+        elim (S .far-hat) [
+          | inl q ↦
+              let l : L .a < L .n = omega (arith, S .a<b, S .b≤n) in
+              refute (cc (S .links .links-out (L .a) l, S .main-list .is-main (suc (L .a)) l, h .relies .B-spur))
+          | inr y ↦ h .relies .not-far (cc (y .in-spur)) leads
+        ]
+
+    unlink-steady : BothSteady s o m unlinked
+    unlink-steady =
+        record {
+          near =
+              record {
+                behind-same = refl;
+                past-same = update-other (m .out) (t .A) none (m .inn (m .hat)) behind-not-A;
+                stays-off-Y = λ ne. ne;
+              };
+          far =
+              record {
+                behind-same = update-other (m .out) (t .A) none (m .far) far-not-A;
+                past-same = cc (update-other (m .out) (t .A) none (m .far) far-not-A);
+                stays-off-Y = λ ne. ne;
+              };
+        }
+
+    unlink-no-cut : BothNoCut held class s o m unlinked
+    unlink-no-cut =
+        record {
+          near = record { N-stays = λ v. v; no-X = λ x _ _ ne. ne };
+          far = record { N-stays = λ v. v; no-X = λ x _ _ ne. ne };
+        }
+
+  pub line64-outcome : LineOk Steps.line64
+  unfolding act
+  line64-outcome h b =
+      passing t (t .A) (λ _.
+      ok-if Ok (λ l. writing l (next t Steps.line74)) (m .out (t .A) ≟ t .B)
+      (λ e. disturbs {i = n - 1} (unlink-steady h e) (unlink-no-cut h e) (omega arith) tt)
+      (λ _. goes (goto t Steps.line74) tt))
+
+  -- ---- Line 72.
+  module _ (h : TaskOk k s o m class Steps.line72 t) (at-A : m .hat ≡ t .A) where
+    abbrev moved : Memory
+    moved = written (hat≔ (t .C) ∷ []) m
+
+    C-inward : m .inn (t .C) ≡ m .inn (m .hat)
+    C-inward =
+        let S = L .structure in
+        let q = inn-hat Z in
+        let l : j Z < L .n = omega (arith, j-next Z, S .b≤n) in
+        let j-main : class (m .inn (t .A)) ≡ main = cc (S .main-list .is-main (j Z) (omega arith)) in
+        elim (h .relies .C-follows j-main) [
+          | inl e ↦ let z = j-next Z in cc (past-hat Z, S .links .links-in (j Z) l)
+          | inr y ↦ cc (y .leads-back)
+        ]
+
+    move-steady : BothSteady s o m moved
+    move-steady =
+        record {
+          near =
+              record {
+                behind-same = C-inward;
+                past-same = cc (C-inward);
+                stays-off-Y = λ ne. absurd (ne (cc (h .relies .A-Y)));
+              };
+          far = record { behind-same = refl; past-same = refl; stays-off-Y = λ ne. ne };
+        }
+
+    move-no-cut : BothNoCut held class s o m moved
+    move-no-cut =
+        record {
+          near = record { N-stays = λ v. v; no-X = λ x _ _ ne. ne };
+          far = record { N-stays = λ v. v; no-X = λ x _ _ ne. ne };
+        }
+
+    -- The splices left, with the hat moved.
+    room-then : {i : ℕ} (w : Moving s m t n) → w .splices ≤ i → SoonOrLate ((t .D ≡ none) × Room s moved) 0 1 i
+    room-then w l =
+        elim (w .may-splice) [
+          | soon p h ↦ soon (p .0, cc (C-inward, p .1)) (omega arith)
+          | late h ↦ late (omega arith)
+        ]
+
+    by-move : (w : Moving s m t n)
+        → SoonOrLate (m .inn (t .A) ≡ m .inn (m .hat) → t .C ≡ past m) (w .splices) (suc (w .splices)) n
+        → Ok (writing (hat≔ (t .C) ∷ []) (next t (back t)))
+    by-move w (soon e l) =
+        let d : t .C ≡ past m = e (cc) in
+        moves move-steady move-no-cut (cc (h .relies .A-Y)) (λ y. past-off-Y Z (cc))
+        (back-disturbs T s moved (goto t (back t)) (t .operation) (t .D ≟ none) (chain-op T held k L t g f n (h .chain))
+        (room-then w l))
+    by-move w (late l) =
+        disturbs {i = n - 1} move-steady move-no-cut (omega arith)
+        (back-disturbs T s moved (goto t (back t)) (t .operation) (t .D ≟ none) (chain-op T held k L t g f n (h .chain))
+        (room-then w (omega arith)))
+
+  more : {P : Type 0} {i : ℕ} → i ≤ n → SoonOrLate P 0 1 i → SoonOrLate P 0 1 n
+  more l (soon p h) = soon p (omega arith)
+  more l (late h) = late (omega arith)
+
+  pub line72-outcome : LineOk Steps.line72
+  unfolding act
+  line72-outcome h w =
+      passing t (t .C) (λ _.
+      ok-if Ok (λ l. writing l (next t (back t))) (m .hat ≟ t .A)
+      (λ e. by-move h e w (w .may-move))
+      (λ _. goes (goto t (back t))
+      (back-disturbs T s m (goto t (back t)) (t .operation) (t .D ≟ none) (chain-op T held k L t g f n (h .chain))
+      (more (in-any-case (omega arith) (w .may-move)) (w .may-splice)))))

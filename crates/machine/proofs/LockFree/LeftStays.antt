@@ -1,0 +1,253 @@
+-- The ticks that a task has left stay as many through a calm change by another task.
+use mathlib.Core.Path.{_≡_}
+use mathlib.Core.Logic.{_≢_, inl, inr}
+use mathlib.Core.Bool.{Bool, true}
+use Prim.Native.Nat.{ℕ, _+_, _≤_}
+use native.Mathlib.Omega.{arith}
+use Rattle.machine.specs.Sides.{Side}
+use Rattle.machine.specs.Values.{Value, Y}
+use Rattle.machine.specs.Steps.{Step, rest}
+use Rattle.machine.specs.Steps as Steps
+use Rattle.machine.specs.Tasks.{Task}
+use Rattle.machine.specs.Lines.{Memory}
+use Rattle.machine.proofs.Contradiction.{refute}
+use Rattle.machine.proofs.Linearizability.Classes.{Class, main, spur, Old}
+use Rattle.machine.proofs.Linearizability.Structure.{Structure, linked, cut-off}
+use Rattle.machine.proofs.Linearizability.Nodes.{old-some, own-mark-not-far}
+use Rattle.machine.proofs.Linearizability.Guarantee.{Guarantee}
+use Rattle.machine.proofs.Linearizability.Reliance.{PopPair}
+use Rattle.machine.proofs.Linearizability.Phases.{TaskOk}
+use Rattle.machine.proofs.Linearizability.Invariant.{RegistersHeld}
+use Rattle.machine.proofs.SoloBound.AtHat.{
+  at-hat,
+  on-path,
+  path-at,
+  hat-N,
+  hat-X,
+  hat-Y,
+  hat-value,
+  j,
+  j-next,
+  inn-hat,
+}
+use Rattle.machine.proofs.SoloBound.Budget.{
+  SoonOrLate,
+  soon,
+  late,
+  start-N,
+  start-off-Y,
+  start-anywhere,
+  Pushing,
+  push-N,
+  push-X,
+  push-Y,
+  push-stale,
+  choose-X,
+  choose-Y,
+  choose-stale,
+  OnPath,
+  seek-sure,
+  seek-Y,
+  seek-stale,
+  step-sure,
+  step-stale,
+  AtEnd,
+  Walking,
+  Reading,
+  reads-Y,
+  reads,
+  Marking,
+  marks-Y,
+  marks,
+  fails-once,
+  fails,
+  Left,
+}
+use Rattle.machine.proofs.LockFree.Change.{Holds, kept, marked, Calm}
+use Rattle.machine.proofs.LockFree.Calmness.{
+  hat-inn-same,
+  hat-val-same,
+  behind-words,
+  past-words,
+  Y-kept,
+}
+
+module _ {held : ℕ → Bool} {s o : Side} {m m' : Memory} {class class' : ℕ → Class} {at index : ℕ → ℕ} {n a b : ℕ}
+    {bags : ℕ → ℕ} (Z : Structure s o (m .out) (m .inn) (m .val) (m .hat) (m .far) class at index n a b bags)
+    (H : Holds held m) (C : Calm held class m m')
+    (G : Guarantee held s (m .out) (m .inn) (m .val) class (m' .out) (m' .inn) (m' .val) class') where
+  hat-value-same : m' .val (m' .hat) ≡ m .val (m .hat)
+  hat-value-same = cc (C .same-hat, hat-val-same Z H C G)
+
+  off-Y : m .val (m .hat) ≢ Y s → m' .val (m' .hat) ≢ Y s
+  off-Y ne y = ne (cc (hat-value-same))
+
+  path-main : {i x : ℕ} → OnPath s m i x → class x ≡ main
+  path-main {i} P = let w = path-at Z P in let q = w .0 in cc (Z .main-list .is-main (b + i) (w .1))
+
+  path-stays : {i x : ℕ} → OnPath s m i x → OnPath s m' i x
+  path-stays {x = x} (at-hat e ne) = at-hat {x = x} (cc (C .same-hat)) (off-Y ne)
+  path-stays (on-path {x = x} {y = y} P v e) =
+      let w = C .main-same x (path-main P) in
+      on-path {y = y} (path-stays P) (cc (w .same-val)) (cc (w .same-out))
+
+  end-stays : {x : ℕ} → AtEnd s m x → AtEnd s m' x
+  end-stays {x} E =
+      record {
+        links = E .links;
+        path = path-stays (E .path);
+        is-X = cc (C .main-same x (path-main (E .path)) .same-val, E .is-X);
+      }
+
+  end-out : {x : ℕ} → AtEnd s m x → m' .out x ≡ m .out x
+  end-out {x} E = C .main-same x (path-main (E .path)) .same-out
+
+  -- What a pop found at its hat.
+  module _ {A B : ℕ} (P : PopPair o m class A B) (e : m .hat ≡ A) (marked : m .val B ≢ Y o) where
+    found-behind : B ≡ m .inn (m .hat)
+    found-behind =
+        elim (P .B-precedes) [
+          | inl c ↦ elim (hat-value Z) [
+            | hat-N v ↦ absurd (own-mark-not-far Z A (cc) c)
+            | hat-X v ↦ absurd (own-mark-not-far Z A (cc) c)
+            | hat-Y v ↦ absurd (own-mark-not-far Z A (cc) c)
+          ]
+          | inr (linked q) ↦ cc
+          | inr (cut-off c v) ↦ absurd (marked v)
+        ]
+
+    found-same : m' .val B ≡ m .val B
+    found-same = let q = found-behind in cc (behind-words Z H C G .same-val)
+
+  -- A remove's walk, and the node that it reads and marks.
+  walk-stays : {extra i x c d : ℕ} → held x ≡ true → Old class x → d ≤ c → Walking extra (m .out) x c i
+      → Walking extra (m' .out) x d i
+  walk-stays {x = x} r h le w =
+      record {
+        links = w .links;
+        ends = C .out-ends (w .links) x r h (w .ends);
+        within = omega (arith, w .within);
+      }
+
+  module _ {B : ℕ} (r : held B ≡ true) (c : class B ≡ spur s) where
+    B-old : Old class B
+    B-old = cc
+
+    reading-stays : {extra i : ℕ} → Reading extra s m B i → Reading extra s m' B i
+    reading-stays (reads-Y v w) = reads-Y (G .Y-stays B r c v) (walk-stays r B-old (omega arith) w)
+    reading-stays (reads w) = reads (walk-stays r B-old (omega arith) w)
+
+    -- Another may have marked B after it was read: two ticks more.
+    marking-stays : {extra i : ℕ} → 2 ≤ extra → {v : Value} → Marking extra s m B v i → Marking extra s m' B v i
+    marking-stays two (marks-Y e y w) =
+        let y' = G .Y-stays B r c y in marks-Y (cc) y' (walk-stays r B-old (omega arith) w)
+    marking-stays two (marks e w) =
+        elim (C .values B r B-old) [
+          | kept q ↦ marks (cc) (walk-stays r B-old (omega arith) w)
+          | marked d q ↦ fails-once (cc) (walk-stays r B-old (omega arith) w)
+        ]
+    marking-stays two (fails-once y w) = fails-once (G .Y-stays B r c y) (walk-stays r B-old (omega arith) w)
+    marking-stays two (fails w) = fails (walk-stays r B-old (omega arith) w)
+
+  module _ {t : Task} (R : RegistersHeld held t) where
+    A-held : Old class (t .A) → held (t .A) ≡ true
+    A-held h = R .A-held (old-some Z (t .A) h)
+
+    B-held : Old class (t .B) → held (t .B) ≡ true
+    B-held h = R .B-held (old-some Z (t .B) h)
+
+    B-walk : {extra i c : ℕ} → class (t .B) ≡ spur s → Walking extra (m .out) (t .B) c i
+        → Walking extra (m' .out) (t .B) c i
+    B-walk q w = walk-stays (B-held (cc)) (cc) (omega arith) w
+
+    soon-stays : {P Q : Type 0} {x y i : ℕ} → (P → Q) → SoonOrLate P x y i → SoonOrLate Q x y i
+    soon-stays f (soon p h) = soon (f p) h
+    soon-stays f (late h) = late h
+
+    pushing-stays : {x y z u i : ℕ} → Pushing s m (t .A) x y z u i → Pushing s m' (t .A) x y z u i
+    pushing-stays (push-N e v h) = push-N (cc (C .same-hat)) (cc (C .same-hat, hat-value-same)) (omega arith)
+    pushing-stays (push-X e v h) = push-X (cc (C .same-hat)) (cc (C .same-hat, hat-value-same)) (omega arith)
+    pushing-stays (push-Y e v h) = push-Y (cc (C .same-hat)) (cc (C .same-hat, hat-value-same)) (omega arith)
+    pushing-stays (push-stale h) = push-stale (omega arith)
+
+    pub left-stays : (extra i S g k : ℕ) → 2 ≤ extra → (st : Step)
+        → TaskOk k s o m class st t
+        → Left extra st S g s m t i
+        → Left extra st S g s m' t i
+    left-stays x i S g k two rest h b = b
+    left-stays x i S g k two Steps.line2 h (start-N v c) = start-N (cc (hat-value-same)) (omega arith)
+    left-stays x i S g k two Steps.line2 h (start-off-Y ne c) = start-off-Y (off-Y ne) (omega arith)
+    left-stays x i S g k two Steps.line2 h (start-anywhere c) = start-anywhere (omega arith)
+    left-stays x i S g k two Steps.line3 h b = pushing-stays b
+    left-stays x i S g k two Steps.line5 h b = pushing-stays b
+    left-stays x i S g k two Steps.line8 h (choose-X e v c) =
+        choose-X (cc (C .same-hat)) (cc (C .same-hat, hat-value-same)) (omega arith)
+    left-stays x i S g k two Steps.line8 h (choose-Y v c) =
+        choose-Y (Y-kept Z H C G (t .A) (A-held (h .relies)) (h .relies) v) (omega arith)
+    left-stays x i S g k two Steps.line8 h (choose-stale c) = choose-stale (omega arith)
+    left-stays x i S g k two Steps.line67 h b = omega arith
+    left-stays x i S g k two Steps.line68 h b = soon-stays (λ e. cc (C .same-hat)) b
+    left-stays x i S g k two Steps.line69 h b = soon-stays (λ e. cc (C .same-hat)) b
+    left-stays x i S g k two Steps.line70 h b =
+        soon-stays (λ p. let e = p .0 in let q = p .1 in (cc (C .same-hat), cc (hat-inn-same Z H C G))) b
+    left-stays x i S g k two Steps.line72 h b =
+        soon-stays (λ p.
+        let e = p .0 in
+        let q = inn-hat Z in
+        let j-main : class (m .inn (t .A)) ≡ main =
+        cc (Z .main-list .is-main (j Z) (omega (arith, j-next Z, Z .b≤n))) in (
+          cc (C .same-hat),
+          λ y.
+              elim (h .relies .C-follows j-main) [
+                | inl f ↦ p .1 (cc (past-words Z H C G .same-val))
+                | inr f ↦ p .1 (f .is-Y)
+              ],
+        )) b
+    left-stays x i S g k two Steps.line28 h b = soon-stays off-Y b
+    left-stays x i S g k two Steps.line31 h b =
+        record { below = b .below; when = soon-stays off-Y (b .when) }
+    left-stays x i S g k two Steps.line15 h b = soon-stays off-Y b
+    left-stays x i S g k two Steps.line17 h (seek-sure P c) = seek-sure (path-stays P) (omega arith)
+    left-stays x i S g k two Steps.line17 h (seek-Y v c) =
+        seek-Y (Y-kept Z H C G (t .A) (A-held (h .relies)) (h .relies) v) (omega arith)
+    left-stays x i S g k two Steps.line17 h (seek-stale {j = d} w c) =
+        seek-stale (C .out-ends d (t .A) (A-held (h .relies)) (h .relies) w) (omega arith)
+    left-stays x i S g k two Steps.line18 h (step-sure P v c) =
+        step-sure (path-stays P) (cc (C .main-same (t .A) (path-main P) .same-val)) (omega arith)
+    left-stays x i S g k two Steps.line18 h (step-stale {j = d} w c) =
+        step-stale (C .out-ends d (t .A) (A-held (h .relies)) (h .relies) w) (omega arith)
+    left-stays x i S g k two Steps.line24 h b = soon-stays end-stays b
+    left-stays x i S g k two Steps.line25 h b =
+        soon-stays (λ p. let q = p .1 in (end-stays (p .0), cc (end-out (p .0)))) b
+    left-stays x i S g k two Steps.line39 h b = omega arith
+    left-stays x i S g k two Steps.line40 h b = soon-stays (λ e. cc (C .same-hat)) b
+    left-stays x i S g k two Steps.line42 h b =
+        soon-stays (λ p. let e = p .0 in let q = p .1 in (cc (C .same-hat), cc (hat-inn-same Z H C G))) b
+    left-stays x i S g k two Steps.line48 h b =
+        soon-stays (λ p.
+        let e = p .0 in
+        let v = p .1 in
+        let off : m .val (t .B) ≢ Y o =
+        λ y. elim (h .relies .read-mark) [ inl u ↦ refute (cc) | inr u ↦ refute (cc) ] in
+        (cc (C .same-hat), cc (found-same (h .relies .pair) e off))) b
+    left-stays x i S g k two Steps.line51 h b =
+        soon-stays (λ p.
+        let e = p .0 in
+        let v = p .1 in
+        let u = h .relies .read-bag in
+        let off : m .val (t .B) ≢ Y o = λ y. refute (cc) in
+        (cc (C .same-hat), cc (found-same (h .relies .pair) e off))) b
+    left-stays x i S g k two Steps.line54 h b = b
+    left-stays x i S g k two Steps.line56 h b = walk-stays (A-held (h .relies)) (h .relies) (omega arith) b
+    left-stays x i S g k two Steps.line58 h b = walk-stays (A-held (h .relies)) (h .relies) (omega arith) b
+    left-stays x i S g k two Steps.line60 h b = walk-stays (A-held (h .relies)) (h .relies) (omega arith) b
+    left-stays x i S g k two Steps.line62 h b =
+        walk-stays (B-held (h .relies .B-old)) (h .relies .B-old) (omega arith) b
+    left-stays x i S g k two Steps.line64 h b = B-walk (h .relies .B-spur) b
+    left-stays x i S g k two Steps.line74 h b = B-walk (h .relies) b
+    left-stays x i S g k two Steps.line77 h b = reading-stays (B-held (cc (h .relies .B-spur))) (h .relies .B-spur) b
+    left-stays x i S g k two Steps.line78 h b =
+        marking-stays (B-held (cc (h .relies .B-spur))) (h .relies .B-spur) two b
+    left-stays x i S g k two Steps.line79 h b = B-walk (h .relies .B-spur) b
+    left-stays x i S g k two Steps.line81 h b = let c = h .relies in walk-stays (A-held (cc)) (cc) (omega arith) b
+    left-stays x i S g k two Steps.line82 h b = b
