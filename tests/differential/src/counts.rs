@@ -3,6 +3,7 @@
 use reference::table::{header, record, Sizes};
 use reference::Answer;
 
+use crate::alone::Alone;
 use crate::cause;
 use crate::outcomes::{Leads, Outcome, OUTCOMES};
 
@@ -14,7 +15,8 @@ const GIVEN: [(&str, &[usize]); 5] = [
     ("run", &[0, 3, 4, 5, 9, 10, 11, 13, 14]),
     ("read", &[0, 3, 4, 11, 12]),
 ];
-const NAMES: [&str; 4] = ["push", "pop", "add", "remove"];
+/// The operations, from 1.
+pub const NAMES: [&str; 4] = ["push", "pop", "add", "remove"];
 
 /// By call and refusal.
 pub type Given = [[u64; 15]; 5];
@@ -35,6 +37,8 @@ pub struct Counts {
     given: Given,
     /// Ticks at which the tick count went to 0.
     wraps: u64,
+    /// Calls that get all the ticks.
+    pub alone: Alone,
 }
 
 impl Counts {
@@ -44,6 +48,7 @@ impl Counts {
             ticks: [none.clone(), none],
             given: [[0; 15]; 5],
             wraps: 0,
+            alone: Alone::default(),
         }
     }
 
@@ -112,6 +117,7 @@ impl Counts {
             }
         }
         self.report_given(&mut faults);
+        faults.extend(self.alone.report());
         faults
     }
 

@@ -6,6 +6,7 @@
 
 #![forbid(unsafe_code)]
 
+mod alone;
 mod both;
 mod broken;
 mod cause;
@@ -16,6 +17,7 @@ mod play;
 #[path = "../../reference/tests/common/mod.rs"]
 mod common;
 
+use std::ops::RangeInclusive;
 use std::process::ExitCode;
 use std::time::{Duration, Instant};
 
@@ -24,6 +26,9 @@ use counts::Counts;
 use reference::table::Sizes;
 
 const ROUNDS: u64 = 24;
+/// Slots of the tables of a round.
+const SMALL: RangeInclusive<u32> = 2..=12;
+const LARGE: u32 = 1024;
 
 struct Options {
     seed: u64,
@@ -80,7 +85,7 @@ fn options() -> Option<Options> {
 
 /// Small tables of every size with few and many tasks, a large one, and tables from anywhere.
 fn round(random: &mut Random, counts: &mut Counts) {
-    for nodes in 2..=12 {
+    for nodes in SMALL {
         let many = 9 + random.below(8);
         for tasks in [1, 2, 3, 3, 4, 4, 5, 6, 8, many] {
             let any = random.below(65);
@@ -89,7 +94,7 @@ fn round(random: &mut Random, counts: &mut Counts) {
         }
     }
     let (tasks, growth) = (1 + random.below(16), random.below(65));
-    play(random, counts, (1024, tasks, growth), 300);
+    play(random, counts, (LARGE, tasks, growth), 300);
     for _ in 0..40_000 {
         broken::shaped(random, counts);
         broken::damaged(random, counts);

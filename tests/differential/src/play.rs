@@ -4,6 +4,7 @@ mod adversary;
 
 use reference::table::{header, record, Sizes, ADD, POP, PUSH, REMOVE};
 
+use crate::alone;
 use crate::both::Both;
 use crate::common::random::Random;
 use crate::common::row::{Note, Row};
@@ -81,11 +82,12 @@ impl Play<'_> {
                 self.side = self.random.below(2);
             }
             88 if self.random.once_in(20) => self.start_again(),
+            89 if self.random.once_in(10) => self.extend(),
             _ => self.favourite = self.random.below(self.sizes.tasks),
         }
     }
 
-    /// Reading gives the row, and never 3, 4 or 11.
+    /// After a call: reading gives the row, and never 3, 4 or 11.
     fn check(&mut self) {
         let length = self.row.values.len() + self.random.below(2) as usize;
         let bags = self.both.read(length, 0).expect("the lane is read");
@@ -94,6 +96,24 @@ impl Play<'_> {
             "lane {bags:?}, row {:?}",
             self.row.values
         );
+        // Less often where walks are long.
+        if self.random.once_in(12 + self.sizes.nodes / 8) {
+            self.alone();
+        }
+    }
+
+    /// Every busy task alone comes to its answer.
+    fn alone(&mut self) {
+        for task in 0..self.sizes.tasks {
+            if let Some(note) = self.row.notes[task as usize] {
+                let table = self.both.table();
+                let (ticks, given) = alone::run(self.random, table, self.sizes, task);
+                self.counts
+                    .alone
+                    .saw(self.sizes.nodes, note.operation, ticks);
+                self.counts.add(&given);
+            }
+        }
     }
 
     fn read(&mut self) {
@@ -224,13 +244,16 @@ impl Play<'_> {
         }
     }
 
-    /// A task alone comes to its answer; 8S + 400 ticks are more than enough.
+    /// A task gets all the ticks up to its answer.
     fn finish(&mut self, task: u32) {
-        self.tick_some(task, 8 * self.sizes.nodes + 400);
-        assert!(
-            self.row.notes[task as usize].is_none(),
-            "task {task} alone has no answer"
-        );
+        let mut ticks = 0;
+        while let Some(note) = self.row.notes[task as usize] {
+            self.tick_some(task, 1);
+            ticks += 1;
+            self.counts
+                .alone
+                .saw(self.sizes.nodes, note.operation, ticks);
+        }
     }
 
     /// A run, and its ticks one by one on a copy.

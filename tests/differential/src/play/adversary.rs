@@ -1,4 +1,5 @@
-//! Schedules that chance seldom makes: hats on spurs, removes inside spurs, and the lane moved on under stalled tasks.
+//! Schedules that chance seldom makes: hats on spurs, removes inside spurs, the lane moved on under stalled tasks, and
+//! long walks.
 
 use reference::table::{record, ADD, NONE, POP, PUSH, REMOVE};
 
@@ -119,6 +120,7 @@ impl Play<'_> {
 
     /// The tasks go on, stop anywhere, and go on again while the end of the lane is moved, cut and made longer.
     fn on_the_spur(&mut self, tasks: [u32; 4], side: u32) {
+        self.alone();
         for _ in 0..self.first_of(12) {
             let task = self.random.pick(&tasks);
             if self.row.notes[task as usize].is_none() {
@@ -165,6 +167,25 @@ impl Play<'_> {
                 self.tick_some(task, ticks);
             }
         }
+    }
+
+    /// Most slots of a large table come to stand at one end, where a splice and a remove then walk long.
+    pub(super) fn extend(&mut self) {
+        let Some((side, [worker, builder, ..])) = self.cast() else {
+            return;
+        };
+        self.build(builder, worker, side);
+        for _ in 0..self.sizes.nodes / 65 {
+            self.operate(worker, ADD, side, 64);
+        }
+        for task in 0..self.sizes.tasks {
+            if self.row.notes[task as usize].is_none() {
+                let operation = self.random.pick(&[PUSH, POP, ADD, REMOVE]);
+                self.begin_with(task, operation, side);
+            }
+        }
+        self.alone();
+        self.operate(worker, REMOVE, side, 0);
     }
 
     /// A number below a bound, small ones more often.
