@@ -6,6 +6,7 @@ use reference::Answer;
 use crate::alone::Alone;
 use crate::cause;
 use crate::outcomes::{Leads, Outcome, OUTCOMES};
+use crate::stretch::Stretches;
 
 /// The calls, and what each can give by the paper; 0 stands for no refusal.
 const GIVEN: [(&str, &[usize]); 5] = [
@@ -39,6 +40,8 @@ pub struct Counts {
     wraps: u64,
     /// Calls that get all the ticks.
     pub alone: Alone,
+    /// Ticks without an answer.
+    pub stretches: Stretches,
 }
 
 impl Counts {
@@ -49,6 +52,7 @@ impl Counts {
             given: [[0; 15]; 5],
             wraps: 0,
             alone: Alone::default(),
+            stretches: Stretches::default(),
         }
     }
 
@@ -118,6 +122,7 @@ impl Counts {
         }
         self.report_given(&mut faults);
         faults.extend(self.alone.report());
+        self.stretches.report();
         faults
     }
 

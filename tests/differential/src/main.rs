@@ -13,6 +13,7 @@ mod cause;
 mod counts;
 mod outcomes;
 mod play;
+mod stretch;
 
 #[path = "../../reference/tests/common/mod.rs"]
 mod common;

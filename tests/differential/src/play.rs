@@ -1,8 +1,10 @@
 //! Lists of calls on tables that start begins and the calls alone write, explained by the plain row.
 
 mod adversary;
+mod delay;
 
 use reference::table::{header, record, Sizes, ADD, POP, PUSH, REMOVE};
+use reference::Answer;
 
 use crate::alone;
 use crate::both::Both;
@@ -33,6 +35,8 @@ pub struct Play<'a> {
     side: u32,
     /// The task that gets most ticks, so that others stall.
     favourite: u32,
+    /// Ticks made since one ended a call, or since the start.
+    stretch: u32,
 }
 
 /// Plays so many calls on a table of these sizes.
@@ -43,6 +47,7 @@ pub fn play(random: &mut Random, counts: &mut Counts, sizes: Sizes, calls: u32) 
         mix: MIXES[0],
         side: 0,
         favourite: 0,
+        stretch: 0,
         next_bag: 0,
         random,
         counts,
@@ -83,6 +88,7 @@ impl Play<'_> {
             }
             88 if self.random.once_in(20) => self.start_again(),
             89 if self.random.once_in(10) => self.extend(),
+            90 if self.random.once_in(6) => self.delay(),
             _ => self.favourite = self.random.below(self.sizes.tasks),
         }
     }
@@ -112,6 +118,9 @@ impl Play<'_> {
                     .alone
                     .saw(self.sizes.nodes, note.operation, ticks);
                 self.counts.add(&given);
+                // All of these ticks but the last go on with the stretch.
+                let stretch = self.stretch + ticks - 1;
+                self.counts.stretches.saw(self.sizes, stretch);
             }
         }
     }
@@ -131,6 +140,7 @@ impl Play<'_> {
             self.sizes = Sizes::new(slots, tasks, growth).expect("accepted sizes are in range");
             self.row = Row::new(tasks);
             self.favourite = 0;
+            self.stretch = 0;
         }
         self.check();
     }
@@ -217,11 +227,21 @@ impl Play<'_> {
             Ok(answer) => {
                 let (before, after) = (self.both.before(), self.both.table());
                 self.counts.tick(Origin::Calls, before, after, task, given);
-                self.row.tick(task, answer.words());
+                self.made(task, answer);
             }
             Err(number) => self.refused(task, hint, number),
         }
         self.check();
+    }
+
+    /// A tick was made: the row explains it, and a stretch goes on or ends.
+    fn made(&mut self, task: u32, answer: Answer) {
+        self.row.tick(task, answer.words());
+        self.stretch = match answer {
+            Answer::Going => self.stretch + 1,
+            _ => 0,
+        };
+        self.counts.stretches.saw(self.sizes, self.stretch);
     }
 
     /// 5, 9 and 10 in this order, by the row's notes; never 11.
@@ -285,7 +305,7 @@ impl Play<'_> {
             assert_eq!(answer.words(), words, "the run's answer");
             self.counts
                 .tick(Origin::Calls, &before, &after, pair[0], given);
-            self.row.tick(pair[0], answer.words());
+            self.made(pair[0], answer);
             self.row.check(&after);
             before.copy_from_slice(&after);
         }
