@@ -6,7 +6,8 @@ use native.Mathlib.Omega.{arith}
 use native.Mathlib.Numerals.{add-one}
 use lib.ListN.{getD}
 use Rattle.machine.specs.Sides.{left, right, sideOf}
-use Rattle.machine.specs.Tasks.{Task}
+use Rattle.machine.specs.Tasks.{Task, inA, inB, inC, inD}
+use Rattle.machine.specs.Registers.{heldIn}
 use Rattle.machine.specs.Table.{nodeCount, taskCount, task, recordAt}
 use Rattle.machine.specs.Allocate.{heldBy, heldFrom, roots, Marking, mark, markAll, visit}
 use Rattle.machine.proofs.Marking.{Room, room-markAll, visit-markAll}
@@ -38,6 +39,13 @@ pub roots-marked : (ws : List ℕ) (m v u : Marking) → v ≡ markAll (nodeCoun
     → u ≡ markAll (nodeCount ws) v (heldFrom ws (taskCount ws) 0) → u ≡ markAll (nodeCount ws) m (roots ws)
 unfolding roots
 roots-marked ws m v u e f = lists-marked (nodeCount ws) m v u (hats ws) (heldFrom ws (taskCount ws) 0) e f
+
+-- ---- What a task's registers hold, two after two.
+pub registers-marked : (S : ℕ) (m v u : Marking) (t : Task) (a b c d : ℕ) → a ≡ heldIn t inA → b ≡ heldIn t inB
+    → c ≡ heldIn t inC → d ≡ heldIn t inD → v ≡ markAll S m (a ∷ b ∷ []) → u ≡ markAll S v (c ∷ d ∷ [])
+    → u ≡ markAll S m (heldBy t)
+registers-marked S m v u t a b c d isA isB isC isD e f =
+    rw (← isA, ← isB, ← isC, ← isD) (lists-marked S m v u (a ∷ b ∷ []) (c ∷ d ∷ []) e f)
 
 -- ---- One turn of the loop over the tasks, with k of them passed: what the record read holds is marked.
 module _ (ws : List ℕ) (k : ℕ) (m : Marking) where

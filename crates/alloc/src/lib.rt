@@ -1,6 +1,13 @@
 // The search for a free node: what the hats and the tasks reach is marked, and the first node without a mark is it.
 // In each function t is the table and n the number of its nodes. The marks, one a node, and the queue of marked nodes,
 // which ends at tail, have a place for each of the 1,024 nodes that a table may have.
+mod held;
+
+use crate::held::A;
+use crate::held::B;
+use crate::held::C;
+use crate::held::D;
+use crate::held::held;
 use layout::nodes::link;
 use layout::tasks::Task;
 ghost use mathlib.Core.Path.{_≡_};
@@ -87,7 +94,7 @@ fn mark_hats(t: &[u32], marks: &mut [u8; 1024], queue: &mut [u32; 1024], tail: u
     mark_both(marks, queue, tail, n, l, r)
 }
 
-// Marks what a task holds: its four registers.
+// Marks what a task holds: the nodes of the registers that hold at its step.
 fn mark_held(
     marks: &mut [u8; 1024],
     queue: &mut [u32; 1024],
@@ -99,10 +106,11 @@ fn mark_held(
     ensures { λ r. ⌜ markingOf (now (marks .exit)) (now (queue .exit)) r
         ≡ markAll n (markingOf (now (marks .entry)) (now (queue .entry)) tail) (heldBy (taskMeant task)) ⌝ }
 {
-    let a = task.registers[Task::A];
-    let b = task.registers[Task::B];
-    let c = task.registers[Task::C];
-    let d = task.registers[Task::D];
+    let step = task.step;
+    let a = held(step, A, task.registers[Task::A]);
+    let b = held(step, B, task.registers[Task::B]);
+    let c = held(step, C, task.registers[Task::C]);
+    let d = held(step, D, task.registers[Task::D]);
     let next = mark_both(marks, queue, tail, n, a, b);
     mark_both(marks, queue, next, n, c, d)
 }

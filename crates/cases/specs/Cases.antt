@@ -169,4 +169,26 @@ cases =
           ∷ begins 0 1 1 999999999 ⟶ ok
           ∷ [];
     }
+    -- 2026-06. S 4, T 2, growth 0, hints 0: at 28 the push's A still names a slot that was cut off, and no step will
+    -- read it. While every register held its slot, the push answered "full" here.
+    ∷ record {
+      words = 40;
+      script =
+          starts 4 2 0 ⟶ ok
+          ∷ begins 0 3 1 0 ⟶ ok
+          ∷ ticks 0 0 100 ⟶ answers 5 Yes
+          ∷ begins 0 3 1 0 ⟶ ok
+          ∷ ticks 0 0 100 ⟶ answers 7 Yes
+          ∷ begins 0 4 1 0 ⟶ ok
+          ∷ ticks 0 0 3 ⟶ answers 3 Going
+          ∷ begins 1 1 1 51 ⟶ ok
+          ∷ ticks 1 0 2 ⟶ answers 2 Going
+          ∷ ticks 0 0 100 ⟶ answers 7 Yes
+          ∷ begins 0 3 1 0 ⟶ ok
+          ∷ ticks 0 0 1 ⟶ answers 1 Going
+          ∷ ticks 1 0 2 ⟶ answers 2 Going
+          ∷ ticks 1 0 100 ⟶ answers 8 Pushed
+          ∷ looks-at-lane ⟶ lane-is (some (51 ∷ []))
+          ∷ [];
+    }
     ∷ []

@@ -6,9 +6,9 @@ use mathlib.Core.List.{List, [], _∷_}
 use Prim.Native.Nat.{ℕ, _+_, _-_, _≤_, _<_}
 use native.Mathlib.Omega.{arith}
 use native.Mathlib.Decide.{ℕ-discrete, decLe}
-use lib.Dec.{T, leb, eqb, eqb→eq}
+use lib.Dec.{T, leb, eqb}
 use lib.ListN.{getD}
-use borrow.Author.Tests.{leb-true, eq-eqb, ne-eqb, le-leb, lt-leb}
+use borrow.Author.Tests.{leb-true, eqb-true, eq-eqb, ne-eqb, le-leb, lt-leb}
 use Rattle.machine.specs.Choice.{_≟_}
 use Rattle.machine.specs.Sides.{Side, left, right}
 use Rattle.machine.specs.Values.{Value, never, bag, N, X, Y, encode, decode, mirror, valueOk}
@@ -68,7 +68,7 @@ pub mirror-entry :
 unfolding mirrored
 mirror-entry w h l =
     let e : 1000000001 + (w - 1000000001) ≡ w = omega arith in
-    eqb→eq _ _ (at mirrored mirrors all-mirrored (w - 1000000001) (omega arith))
+    eqb-true _ _ (at mirrored mirrors all-mirrored (w - 1000000001) (omega arith))
     ∙ ap (λ (n : ℕ). encode (mirror (decode n))) e
 
 pub mirror-below : (w : ℕ) → valueOk w ≡ true → w < 1000000001 → encode (mirror (decode w)) ≡ w

@@ -3,6 +3,7 @@ pub mod Choices
 pub mod Tests
 pub mod ValueLaws
 pub mod StepLaws
+pub mod Everywhere
 pub mod RecordLaws
 pub mod Updates
 pub mod Memories
@@ -28,6 +29,7 @@ pub mod ShapeKept
 pub mod Marking
 pub mod Reached
 pub mod FirstFree
+pub mod Registers
 pub mod Linearizability
 pub mod SoloBound
 pub mod LockFree

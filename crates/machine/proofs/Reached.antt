@@ -1,7 +1,7 @@
 -- The marks are exactly the reachable nodes, in a table whose links and registers name nodes or none.
 use mathlib.Core.Path.{_≡_, refl, sym, _∙_, subst}
 use mathlib.Core.Logic.{_≢_}
-use mathlib.Core.Bool.{Bool, true, false, not, _&&_, and-eq-true-iff}
+use mathlib.Core.Bool.{Bool, true, false, cond, not, _&&_, and-eq-true-iff}
 use mathlib.Core.List.{List, [], _∷_, _++_}
 use Prim.Native.Nat.{ℕ, zero, suc, _<_, _≤_, _+_}
 use native.Mathlib.Omega.{arith}
@@ -13,6 +13,7 @@ use borrow.Author.Tests.{lt-ltb, ne-eqb, ltb-true, eqb-false, not-true}
 use Rattle.machine.specs.Choice.{_≟_, _<?_, if_then_else_}
 use Rattle.machine.specs.Sides.{Side, left, right}
 use Rattle.machine.specs.Tasks.{Task, none, fresh, taskOf, Register, inA, inB, inC, inD, register}
+use Rattle.machine.specs.Registers.{holds, heldIn}
 use Rattle.machine.specs.Table.{nodeCount, taskCount, hat, link, recordWords, task}
 use Rattle.machine.specs.Reach.{Reachable, from-hat, from-register, along}
 use Rattle.machine.specs.Allocate.{
@@ -68,10 +69,10 @@ node-not-none few h e = omega arith
 
 pub reachable-node : {ws : List ℕ} {x : ℕ} → WellLinked ws → Reachable ws x → x < nodeCount ws
 reachable-node W (from-hat s) = W .hats s
-reachable-node W (from-register k r n) = W .registers k r n
+reachable-node W (from-register k r h n) = W .registers k r n
 reachable-node W (along s c n) = W .links s _ n
 
--- ---- The roots are the hats and the registers of the tasks.
+-- ---- The roots are the hats and what the registers of the tasks hold.
 -- A number that is no task holds nothing.
 pub register-task : (ws : List ℕ) (k : ℕ) (r : Register) → register (task ws k) r ≢ none → k < taskCount ws
 unfolding task
@@ -88,15 +89,15 @@ register-task ws k r n = by (k <? taskCount ws) n
     by (yes l) f = l
     by (no l) f = absurd (f (fresh-none r))
 
--- What is said of each root is said of each hat and of each register of a task, and conversely.
+-- What is said of each root is said of each hat and of what each register of a task holds, and conversely.
 module _ (ws : List ℕ) (P : ℕ → Type 0) where
-  each-held : ((k : ℕ) (r : Register) → P (register (task ws k) r)) → (n k : ℕ) → Each P (heldFrom ws n k)
+  each-held : ((k : ℕ) (r : Register) → P (heldIn (task ws k) r)) → (n k : ℕ) → Each P (heldFrom ws n k)
   unfolding heldFrom
   each-held f zero k = record {}
   each-held f (suc n) k = (f k inA, (f k inB, (f k inC, (f k inD, each-held f n (suc k)))))
 
-  -- A root is a hat or a register of a task.
-  pub each-root : ((s : Side) → P (hat ws s)) → ((k : ℕ) (r : Register) → P (register (task ws k) r))
+  -- A root is a hat or what a register of a task holds.
+  pub each-root : ((s : Side) → P (hat ws s)) → ((k : ℕ) (r : Register) → P (heldIn (task ws k) r))
       → Each P (roots ws)
   unfolding roots
   each-root h f = (h left, (h right, each-held f (taskCount ws) 0))
@@ -107,24 +108,24 @@ module _ (ws : List ℕ) (P : ℕ → Type 0) where
   root-hat e left = e .0
   root-hat e right = e .1 .0
 
-  heldBy-register : (t : Task) (xs : List ℕ) → Each P (heldBy t ++ xs) → (r : Register) → P (register t r)
+  heldBy-register : (t : Task) (xs : List ℕ) → Each P (heldBy t ++ xs) → (r : Register) → P (heldIn t r)
   heldBy-register t xs e inA = e .0
   heldBy-register t xs e inB = e .1 .0
   heldBy-register t xs e inC = e .1 .1 .0
   heldBy-register t xs e inD = e .1 .1 .1 .0
 
   held-register : (n k j : ℕ) (r : Register) → Each P (heldFrom ws n k) → k ≤ j → j < n + k
-      → P (register (task ws j) r)
+      → P (heldIn (task ws j) r)
   unfolding heldFrom
   held-register zero k j r e a b = absurd (omega arith)
   held-register (suc n) k j r e a b = by (j ≟ k) (λ l. held-register n (suc k) j r (e .1 .1 .1 .1) l (omega arith))
     where
-      by : Dec (j ≡ k) → (suc k ≤ j → P (register (task ws j) r)) → P (register (task ws j) r)
+      by : Dec (j ≡ k) → (suc k ≤ j → P (heldIn (task ws j) r)) → P (heldIn (task ws j) r)
       by (yes q) later = rw q (heldBy-register (task ws k) (heldFrom ws n (suc k)) e r)
       by (no q) later = later (omega arith)
 
-  -- Every register of a task is a root.
-  pub root-register : Each P (roots ws) → (k : ℕ) (r : Register) → k < taskCount ws → P (register (task ws k) r)
+  -- What a register of a task holds is a root.
+  pub root-register : Each P (roots ws) → (k : ℕ) (r : Register) → k < taskCount ws → P (heldIn (task ws k) r)
   unfolding roots
   root-register e k r l = held-register (taskCount ws) 0 k r (e .1 .1) (omega arith) (omega arith)
 
@@ -241,7 +242,13 @@ module _ {ws : List ℕ} (W : WellLinked ws) where
   roots-reachable : Each (λ x. x < nodeCount ws → Reachable ws x) (roots ws)
   roots-reachable =
       each-root ws (λ x. x < nodeCount ws → Reachable ws x) (λ s _. from-hat s)
-      (λ k r l. from-register k r (node-not-none (W .few) l))
+      (λ k r. held-reachable k r (holds (task ws k .step) r) refl)
+    where
+      held-reachable : (k : ℕ) (r : Register) (b : Bool) → holds (task ws k .step) r ≡ b
+          → cond b (register (task ws k) r) none < nodeCount ws
+          → Reachable ws (cond b (register (task ws k) r) none)
+      held-reachable k r true h l = from-register k r h (node-not-none (W .few) l)
+      held-reachable k r false h l = absurd (node-not-none (W .few) l refl)
 
   roots-have-marks : Each (λ x. x < nodeCount ws → HasMark (rootsMarked ws) x) (roots ws)
   roots-have-marks = markAll-marks room-start (roots ws)
@@ -267,16 +274,17 @@ module _ {ws : List ℕ} (W : WellLinked ws) where
   pub reachable-marked : {x : ℕ} → Reachable ws x → getD (marked ws .marks) x 0 ≢ 0
   reachable-marked (from-hat s) =
       marked-done .grows .stays (hat ws s) (root-hat ws _ roots-have-marks s (W .hats s))
-  reachable-marked (from-register k r n) =
-      marked-done .grows .stays (register (task ws k) r)
-      (root-register ws _ roots-have-marks k r (register-task ws k r n) (W .registers k r n))
+  reachable-marked (from-register k r h n) =
+      let e : heldIn (task ws k) r ≡ register (task ws k) r = rw h in
+      let m = root-register ws _ roots-have-marks k r (register-task ws k r n) in
+      marked-done .grows .stays (register (task ws k) r) ((rw e at m) (W .registers k r n))
   reachable-marked (along {x} s c n) =
       let d = marked-done .visited in
       let q = d .sound .queued x (reachable-marked c) in
       subst (LinksMarked ws (marked ws)) (q .2) (d .closed (q .0) (q .1)) s (W .links s x n)
 
--- ---- The reachable nodes as a computed set: the nodes with a mark. It holds the hats and the tasks' registers, and it
--- is closed under links.
+-- ---- The reachable nodes as a computed set: the nodes with a mark. It holds the hats and what the tasks' registers
+-- hold, and it is closed under links.
 unfoldable pub keeps : List ℕ → ℕ → Bool
 keeps ws x = ltb x (nodeCount ws) && not (eqb (getD (marked ws .marks) x 0) 0)
 
@@ -301,9 +309,9 @@ module _ {ws : List ℕ} (W : WellLinked ws) where
   pub keeps-hat : (s : Side) → keeps ws (hat ws s) ≡ true
   keeps-hat s = reachable-keeps (from-hat s)
 
-  pub keeps-register : (k : ℕ) (r : Register) → register (task ws k) r ≢ none
+  pub keeps-register : (k : ℕ) (r : Register) → holds (task ws k .step) r ≡ true → register (task ws k) r ≢ none
       → keeps ws (register (task ws k) r) ≡ true
-  keeps-register k r n = reachable-keeps (from-register k r n)
+  keeps-register k r h n = reachable-keeps (from-register k r h n)
 
   pub keeps-link : (s : Side) (x : ℕ) → keeps ws x ≡ true → link ws s x ≢ none → keeps ws (link ws s x) ≡ true
   keeps-link s x h n = reachable-keeps (along s (keeps-reachable h) n)

@@ -155,7 +155,7 @@ tick-allowed ws k h e =
     (ltb-true k (taskCount ws) task-test, ltb-true h (nodeCount ws) hint-test, busy-test)
 
 -- And the other way: a number that is no task has a fresh record, which is idle.
-busy-is-task : (ws : List ℕ) (k : ℕ) → isBusy (task ws k .operation) ≡ true → k < taskCount ws
+pub busy-is-task : (ws : List ℕ) (k : ℕ) → isBusy (task ws k .operation) ≡ true → k < taskCount ws
 unfolding task
 busy-is-task ws k = go (k <? taskCount ws)
   where

@@ -2,9 +2,10 @@
 use mathlib.Core.Path.{_≡_, refl, ap, _∙_}
 use mathlib.Core.List.{List}
 use mathlib.Core.Option.{Option, some, none as nothing}
-use Prim.Native.Nat.{ℕ}
+use Prim.Native.Nat.{ℕ, _+_, _%_, _^_}
 use Rattle.machine.specs.Sides.{Side, right}
-use Rattle.machine.specs.Table.{nodeCount, growth, task}
+use Rattle.machine.specs.Tasks.{wordsOf}
+use Rattle.machine.specs.Table.{nodeCount, growth, tickCount, task}
 use Rattle.machine.specs.Lines.{seen, Effect}
 use Rattle.machine.specs.Answers.{refusalOf}
 use Rattle.machine.specs.Calls.{tickRefusal, effectOf, Ticked, applied, tickOn}
@@ -12,8 +13,8 @@ use Rattle.machine.proofs.Contradiction.{clash}
 use Rattle.machine.proofs.Updates.{update}
 use Rattle.machine.proofs.Memories.{view, written}
 use Rattle.machine.proofs.ValueLaws.{HasWord, never-has-word}
-use Rattle.machine.proofs.Columns.{columns}
-use Rattle.machine.proofs.EffectLaws.{AllInRange, effectWords, seen-effect, task-effect}
+use Rattle.machine.proofs.Columns.{columns, putTickCount, putRecord, putAll}
+use Rattle.machine.proofs.EffectLaws.{AllInRange, effectWords, columns-effect, seen-effect, task-effect}
 use Rattle.machine.proofs.ShapeLaws.{WellSized, WellShaped}
 use Rattle.machine.proofs.Fits.{Fits, turns-back, goes-on, ends}
 use Rattle.machine.proofs.WritesKeep.{all-in-range}
@@ -43,11 +44,21 @@ applied-answer s ws k e = go (refusalOf (e .answer))
     go (some n) = refl
     go nothing = refl
 
+applied-refused : (s : Side) (ws : List ℕ) (k : ℕ) (e : Effect) {n : ℕ} → refusalOf (e .answer) ≡ some n
+    → applied s ws k e .words ≡ ws
+unfolding applied
+applied-refused s ws k e r = rw (r, applied)
+
 -- A tick that passes its tests: k is a busy task, h a node.
 module _ (ws : List ℕ) (k h : ℕ) (allowed : tickRefusal ws k h ≡ nothing) where
   pub tick-answer : tickOn ws k h .answer ≡ effectOf ws k h .answer
   unfolding tickOn
   tick-answer = rw (allowed, tickOn) (applied-answer (task ws k .side) ws k (effectOf ws k h))
+
+  -- Where its line refuses it, it leaves the table as it was.
+  pub tick-refused : {n : ℕ} → refusalOf (effectOf ws k h .answer) ≡ some n → tickOn ws k h .words ≡ ws
+  unfolding tickOn
+  tick-refused r = rw (allowed, tickOn) (applied-refused (task ws k .side) ws k (effectOf ws k h) r)
 
   -- It is made where its line does not refuse it.
   module _
@@ -65,6 +76,18 @@ module _ (ws : List ℕ) (k h : ℕ) (allowed : tickRefusal ws k h ≡ nothing) 
     tick-in-range =
         let a = tick-allowed ws k h allowed in
         fit-effect (nodeCount ws) (growth ws) (effect-fits ws W k h (a .1) (a .2)) made
+
+    -- Every word of the table after it.
+    pub tick-columns :
+        columns (tickOn ws k h .words)
+        ≡ putTickCount ((tickCount ws + 1) % 2 ^ 32)
+        (putRecord k (wordsOf (effectOf ws k h .task))
+        (putAll (task ws k .side) (effectOf ws k h .writes) (columns ws)))
+    tick-columns =
+        let e = effectOf ws k h in
+        let is-task = tick-allowed ws k h allowed .0 in
+        ap columns tick-words
+        ∙ columns-effect ws (Z .sized) (task ws k .side) (e .writes) (tick-in-range .0) k is-task (e .task)
 
     pub tick-seen :
         seen right (tickOn ws k h .words)

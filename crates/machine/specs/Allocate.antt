@@ -6,12 +6,13 @@ use Prim.Native.Nat.{ℕ, zero, suc, _+_}
 use lib.Dec.{ltb, eqb}
 use lib.ListN.{getD, set, replicate}
 use Rattle.machine.specs.Sides.{left, right}
-use Rattle.machine.specs.Tasks.{Task, none}
+use Rattle.machine.specs.Tasks.{Task, none, inA, inB, inC, inD}
+use Rattle.machine.specs.Registers.{heldIn}
 use Rattle.machine.specs.Table.{nodeCount, taskCount, hat, link, task}
 
--- The registers that hold their nodes against reuse: all four.
+-- The nodes that a task holds against reuse: those of the registers that hold at its step.
 abbrev pub heldBy : Task → List ℕ
-heldBy t = t .A ∷ t .B ∷ t .C ∷ t .D ∷ []
+heldBy t = heldIn t inA ∷ heldIn t inB ∷ heldIn t inC ∷ heldIn t inD ∷ []
 
 -- What the tasks from k on hold, n of them.
 unfoldable pub heldFrom : List ℕ → (n k : ℕ) → List ℕ

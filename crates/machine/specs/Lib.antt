@@ -4,6 +4,7 @@ pub mod Values
 pub mod Operations
 pub mod Steps
 pub mod Tasks
+pub mod Registers
 pub mod Table
 pub mod Shape
 pub mod Reach
@@ -14,5 +15,6 @@ pub mod Calls
 pub mod Row
 pub mod Demand3
 pub mod Begun
+pub mod Unseen
 pub mod Solo
 pub mod LockFree

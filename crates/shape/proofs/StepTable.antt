@@ -1,5 +1,5 @@
 -- The table of steps answers as 01's lists do: at all of its entries, by one test, and past its end.
-use mathlib.Core.Path.{_≡_, refl, sym}
+use mathlib.Core.Path.{_≡_, refl}
 use mathlib.Core.Bool.{Bool, true, false, _&&_, _||_, Bool·beq}
 use mathlib.Core.List.{List, [], _∷_}
 use Prim.Native.Nat.{ℕ, _≤_, _<_}
@@ -11,7 +11,7 @@ use borrow.Author.Tests.{leb-true, ne-eqb}
 use Rattle.machine.specs.Choice.{_≟_}
 use Rattle.machine.specs.Operations.{Operation, idle, push, pop, add, remove, operationOf}
 use Rattle.machine.specs.Steps.{Step, stepNumber, stepsOf, isStepIn}
-use Rattle.machine.proofs.Tests.{and-left, and-right}
+use Rattle.machine.proofs.Tests.{agreed, and-left, and-right}
 use Rattle.layout.proofs.Tables.{at, every}
 
 -- The entries, ten steps to a line.
@@ -42,16 +42,6 @@ all-right : T (every right 0 owners)
 unfolding right agrees isStepIn ℕ-discrete
 all-right = tt
 
-truth : (b : Bool) → T b → b ≡ true
-truth true t = refl
-truth false t = absurd t
-
-agreed : (a b : Bool) → Bool·beq a b ≡ true → a ≡ b
-agreed true true h = refl
-agreed true false h = sym h
-agreed false true h = h
-agreed false false h = refl
-
 -- What holds of 1, 2, 3 and 4 holds of each number between.
 between : (P : ℕ → Type 0) → P 1 → P 2 → P 3 → P 4 → (n : ℕ) → 1 ≤ n → n ≤ 4 → P n
 between P a b c d n l m = go (n ≟ 1) (n ≟ 2) (n ≟ 3)
@@ -67,7 +57,7 @@ pub owner-rule :
 unfolding right agrees
 owner-rule op s l m h =
     let o = getD owners s 0 in
-    let r : right s o ≡ true = truth (right s o) (at right owners all-right s h) in
+    let r : right s o ≡ true = at right owners all-right s h in
     let one : agrees s o 1 ≡ true = search (and-left, and-right) depth 4 in
     let two : agrees s o 2 ≡ true = search (and-left, and-right) depth 4 in
     let three : agrees s o 3 ≡ true = search (and-left, and-right) depth 4 in

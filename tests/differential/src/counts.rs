@@ -87,8 +87,10 @@ impl Counts {
             Ok(answer) => Leads::Says(answer.words()[0]),
             Err(_) => Leads::Refused,
         };
-        // A search that found a node left it in D; one at 28 that found none answers.
-        let taken = after[at + record::D] != before[at + record::D] && given == Ok(Answer::Going);
+        // A search at 28 that found none answers; one at 31, where D holds its node, leaves D as it was.
+        let found =
+            before[at + record::STEP] == 28 || after[at + record::D] != before[at + record::D];
+        let taken = found && given == Ok(Answer::Going);
         let place = cause::outcome(before, sizes, task, taken);
         let outcome = &OUTCOMES[place];
         assert_eq!(

@@ -12,7 +12,22 @@ pub fn first_free(table: &[u32], sizes: Sizes, hint: u32) -> Option<u32> {
         .find(|&number| !reached[number as usize])
 }
 
-/// Marks every node to which a chain of links leads from a hat or a register.
+/// The registers that a path of steps from this step may still use before it sets them.
+fn held(step: u32) -> &'static [usize] {
+    use record::{A, B, C, D};
+    match step {
+        2 | 15 | 31 | 67 => &[D],
+        3 | 8 | 17 | 18 | 24 | 68 | 69 => &[A, D],
+        5 | 25 | 70 => &[A, B, D],
+        72 => &[A, C, D],
+        40 | 56 | 58 | 60 | 81 | 82 => &[A],
+        42 | 48 | 51 | 62 | 64 | 77 | 78 | 79 => &[A, B],
+        74 => &[B],
+        _ => &[],
+    }
+}
+
+/// Marks every node to which a chain of links leads from a hat or a register that holds its node.
 fn reachable(table: &[u32], sizes: Sizes) -> [bool; Sizes::MAX_NODES] {
     let mut work = Worklist {
         reached: [false; Sizes::MAX_NODES],
@@ -22,8 +37,8 @@ fn reachable(table: &[u32], sizes: Sizes) -> [bool; Sizes::MAX_NODES] {
     work.add(table[header::LEFT_HAT]);
     work.add(table[header::RIGHT_HAT]);
     for task in table[sizes.record(0)..].chunks_exact(record::WORDS) {
-        for &register in &task[record::A..] {
-            work.add(register);
+        for &register in held(task[record::STEP]) {
+            work.add(task[register]);
         }
     }
     while let Some(number) = work.take() {

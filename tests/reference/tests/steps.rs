@@ -70,16 +70,20 @@ const ROWS: &[Row] = &[
     (PUSH, 51, 28, &[(L(4), 2), (R(4), 3), (V(4), 77), (Counted, 2)], &[(L(4), NONE), (R(4), NONE), (V(4), RX), (D, 4), (Counted, 0)], To(31)),
     (ADD, 2, 28, &[], &[(V(4), RX), (D, 4)], To(31)),
     (ADD, 0, 28, &[], &[(V(4), RX), (D, 4)], To(15)),
-    // The register's own old node is not free, nor what it leads to.
-    (ADD, 0, 28, &[(D, 4)], &[(V(5), RX), (D, 5)], To(15)),
-    (ADD, 0, 28, &[(D, 4), (L(4), 5)], &[], Done(Answer::No)),
-    (ADD, 0, 28, &[(D, 4), (R(4), 5)], &[], Done(Answer::No)),
-    (PUSH, 51, 28, &[(A, 4), (B, 5)], &[], Done(Answer::Full)),
-    (PUSH, 51, 28, &[(C, 5), (R(5), 4)], &[], Done(Answer::Full)),
+    // At 28 the task holds nothing itself.
+    (ADD, 0, 28, &[(D, 4)], &[(V(4), RX)], To(15)),
+    (PUSH, 51, 28, &[(A, 4), (B, 5)], &[(V(4), RX), (D, 4)], To(31)),
+    (PUSH, 51, 28, &[(C, 5), (R(5), 4)], &[(V(4), RX), (D, 4)], To(31)),
+    // What the hats lead to is not free.
+    (ADD, 0, 28, &[(R(3), 4)], &[(V(5), RX), (D, 5)], To(15)),
+    (ADD, 0, 28, &[(R(3), 4), (L(4), 5)], &[], Done(Answer::No)),
+    (PUSH, 51, 28, &[(R(3), 4), (R(4), 5)], &[], Done(Answer::Full)),
     (PUSH, 51, 31, &[(D, 4), (V(4), RX), (L(5), 0), (R(5), 1), (V(5), 9)], &[(V(5), RN), (L(5), NONE), (R(5), 4), (L(4), 5), (D, 5), (Counted, 1)], To(31)),
     (ADD, 2, 31, &[(D, 4), (V(4), RX), (Counted, 1)], &[(V(5), RN), (R(5), 4), (L(4), 5), (D, 5), (Counted, 2)], To(15)),
-    (ADD, 2, 31, &[(D, 4), (C, 5), (Counted, 1)], &[], To(15)),
-    (PUSH, 51, 31, &[(D, 4), (C, 5)], &[], To(15)),
+    // At 31 D holds its node and what that leads to; C does not hold.
+    (ADD, 2, 31, &[(D, 4), (R(4), 5), (Counted, 1)], &[], To(15)),
+    (PUSH, 51, 31, &[(D, 4), (L(4), 5)], &[], To(15)),
+    (PUSH, 51, 31, &[(D, 4), (C, 5)], &[(V(5), RN), (R(5), 4), (L(4), 5), (D, 5), (Counted, 1)], To(31)),
     (ADD, 0, 15, &[(Hat, 2)], &[(A, 2)], To(17)),
     (ADD, 0, 17, &[(A, 1)], &[(Value, RN)], To(18)),
     (ADD, 0, 17, &[(A, 1), (V(1), RY)], &[(Value, RY)], To(67)),
@@ -237,6 +241,14 @@ fn both_sides_are_one_machine() {
     assert!(made > 20_000, "{made}");
 }
 
+/// The steps at which each register holds its node, by 2026-06.
+const HELD: [(usize, &[u32]); 4] = [
+    (record::A, &[3, 5, 8, 17, 18, 24, 25, 40, 42, 48, 51, 56, 58, 60, 62, 64, 68, 69, 70, 72, 77, 78, 79, 81, 82]),
+    (record::B, &[5, 25, 42, 48, 51, 62, 64, 70, 74, 77, 78, 79]),
+    (record::C, &[72]),
+    (record::D, &[2, 3, 5, 8, 15, 17, 18, 24, 25, 31, 67, 68, 69, 70, 72]),
+];
+
 /// Reachability in the words of the paper: spread until nothing changes.
 fn free_by_spreading(table: &[u32], hint: u32) -> Option<u32> {
     let sizes = sizes(table);
@@ -249,8 +261,11 @@ fn free_by_spreading(table: &[u32], hint: u32) -> Option<u32> {
     reach(table[header::LEFT_HAT]);
     reach(table[header::RIGHT_HAT]);
     for task in 0..sizes.tasks {
-        for register in record::A..record::WORDS {
-            reach(table[sizes.record(task) + register]);
+        let at = sizes.record(task);
+        for (register, steps) in HELD {
+            if steps.contains(&table[at + record::STEP]) {
+                reach(table[at + register]);
+            }
         }
     }
     let mut changed = true;

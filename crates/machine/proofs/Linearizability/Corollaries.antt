@@ -13,6 +13,7 @@ use Rattle.machine.specs.declared.Answer.the-variants.{Refused}
 use Rattle.machine.specs.declared.Reply.the-variants.{Accepted}
 use Rattle.machine.specs.declared.Reading.the-variants.{Count}
 use Rattle.machine.specs.Tasks.{none, Register, register}
+use Rattle.machine.specs.Registers.{holds}
 use Rattle.machine.specs.Table.{nodeCount, taskCount, task}
 use Rattle.machine.specs.Reach.{Reachable, from-register}
 use Rattle.machine.specs.Allocate.{allocate}
@@ -181,9 +182,10 @@ held-node-never-taken {ws} {hint} B low held e =
     allocate-first-free W low found .free .unreached (subst (Reachable ws) (sym e) held)
 
 pub register-never-taken : {ws : List ℕ} {hint : ℕ} → Begun ws → hint < nodeCount ws → (k : ℕ) (r : Register)
+    → holds (task ws k .step) r ≡ true
     → register (task ws k) r ≢ none
     → allocate ws hint ≢ register (task ws k) r
-register-never-taken B low k r n = held-node-never-taken B low (from-register k r n)
+register-never-taken B low k r h n = held-node-never-taken B low (from-register k r h n)
 
 -- ---- Runs by their ticks.
 ticks-of-run : (list ws answers : List ℕ)

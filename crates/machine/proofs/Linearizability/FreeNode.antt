@@ -1,12 +1,13 @@
 -- A node outside a set that is closed under links and holds the roots may be taken: it is in no chain.
-use mathlib.Core.Path.{_≡_}
+use mathlib.Core.Path.{_≡_, refl}
 use mathlib.Core.Logic.{_≢_}
 use mathlib.Core.Bool.{Bool, true, false}
 use mathlib.Core.List.{List}
 use Prim.Native.Nat.{ℕ, _≤_}
 use native.Mathlib.Omega.{arith}
 use Rattle.machine.specs.Sides.{Side, left, right}
-use Rattle.machine.specs.Tasks.{Task, none}
+use Rattle.machine.specs.Tasks.{Task, none, Register, inD}
+use Rattle.machine.specs.Registers.{among, holds}
 use Rattle.machine.specs.Lines.{Memory}
 use Rattle.machine.proofs.Contradiction.{refute}
 use Rattle.machine.proofs.Memories.{view}
@@ -25,8 +26,10 @@ use Rattle.machine.proofs.Linearizability.Phases.{
   removing,
   with-chain,
   without-chain,
+  leading,
   Chains,
   facts,
+  leading-holds,
 }
 use Rattle.machine.proofs.Linearizability.Invariant.{Invariant, Roots}
 use Rattle.machine.proofs.Linearizability.Take.{TakeOk}
@@ -43,16 +46,17 @@ module _ {held : ℕ → Bool} {M : Memory} {ts : ℕ → Task} (R : Roots held 
 module _ {held : ℕ → Bool} {M : Memory} {ts : ℕ → Task} {class : ℕ → Class} {r : List ℕ}
     (I : Invariant M ts class r) (R : Roots held M ts) where
   chain-held : (j : ℕ) (s : Side)
+      → holds (ts j .step) inD ≡ true
       → HasChainIn j s (view s M) class (ts j .D)
       → (x : ℕ)
       → class x ≡ new j
       → held x ≡ true
-  chain-held j s H x h =
+  chain-held j s d H x h =
       let C = H .chain in
       let l = C .place-le x h in
       let out-closed = view-out-closed R s in
       let inn-closed = view-inn-closed R s in
-      let D-held = R .registers j .D-held (head-some H (I .lane .structure .none-free)) in
+      let D-held = R .registers j inD d (head-some H (I .lane .structure .none-free)) in
       let e = C .node-place x h in
       cc (line-held out-closed inn-closed (C .links) some 0 (H .place x) (omega arith) l (cc (H .head)))
     where
@@ -60,20 +64,22 @@ module _ {held : ℕ → Bool} {M : Memory} {ts : ℕ → Task} {class : ℕ →
       some i q e = refute (cc (H .chain .is-new i q, I .lane .structure .none-free))
 
   new-held : (j x : ℕ) → class x ≡ new j → held x ≡ true
-  new-held j x h = go (facts (ts j .step) .phase) (I .task-ok j .chain)
+  new-held j x h = go (facts (ts j .step) .phase) (leading-holds (ts j .step)) (I .task-ok j .chain)
     where
       s : Side
       s = ts j .side
 
-      go : (p : Phase) → Chains p j s (view s M) class (ts j) → held x ≡ true
-      go resting H = absurd (H .none-new x h)
-      go pushing H = absurd (H .none-new x h)
-      go growing H = absurd (H .none-new x h)
-      go building H = chain-held j s H x h
-      go unspurring (with-chain H) = chain-held j s H x h
-      go unspurring (without-chain H e) = absurd (H .none-new x h)
-      go popping H = absurd (H .none-new x h)
-      go removing H = absurd (H .none-new x h)
+      go : (p : Phase) → ((y : Register) → among (leading p) y ≡ true → holds (ts j .step) y ≡ true)
+          → Chains p j s (view s M) class (ts j)
+          → held x ≡ true
+      go resting d H = absurd (H .none-new x h)
+      go pushing d H = absurd (H .none-new x h)
+      go growing d H = absurd (H .none-new x h)
+      go building d H = chain-held j s (d inD refl) H x h
+      go unspurring d (with-chain H) = chain-held j s (d inD refl) H x h
+      go unspurring d (without-chain H e) = absurd (H .none-new x h)
+      go popping d H = absurd (H .none-new x h)
+      go removing d H = absurd (H .none-new x h)
 
   pub take-ok : (s : Side) (f : ℕ) → held f ≡ false → TakeOk held (view s M) class f
   take-ok left f h =

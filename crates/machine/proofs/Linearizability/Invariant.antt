@@ -8,7 +8,8 @@ use Rattle.machine.specs.declared.Answer.{Answer}
 use Rattle.machine.specs.declared.Answer.the-variants.{Going, Pushed, Bag, Empty, Full, Yes, No, Refused}
 use Rattle.machine.specs.Sides.{Side, left, right, opposite}
 use Rattle.machine.specs.Operations.{Operation, push, pop, add, remove}
-use Rattle.machine.specs.Tasks.{Task, fresh, none}
+use Rattle.machine.specs.Tasks.{Task, fresh, none, Register, register}
+use Rattle.machine.specs.Registers.{holds}
 use Rattle.machine.specs.Lines.{Memory, Effect}
 use Rattle.machine.specs.Row.{Note}
 use Rattle.machine.proofs.Linearizability.Classes.{Class}
@@ -59,20 +60,18 @@ pub record Invariant (M : Memory) (ts : ℕ → Task) (class : ℕ → Class) (r
 
 -- ---- What holds nodes against reuse.
 
--- The registers that are not none are in the set.
-pub record RegistersHeld (held : ℕ → Bool) (t : Task) : Type 0 where
-  pub A-held : t .A ≢ none → held (t .A) ≡ true
-  pub B-held : t .B ≢ none → held (t .B) ≡ true
-  pub C-held : t .C ≢ none → held (t .C) ≡ true
-  pub D-held : t .D ≢ none → held (t .D) ≡ true
+-- Those of some registers that are not none are in the set.
+abbrev pub RegistersHeld : (ℕ → Bool) → (Register → Bool) → Task → Type 0
+RegistersHeld held some t = (r : Register) → some r ≡ true → register t r ≢ none → held (register t r) ≡ true
 
--- A set of nodes closed under links that holds the hats and the registers: a take may give any node outside it.
+-- A set of nodes closed under links that holds the hats and the registers that hold: a take may give any node outside
+-- it.
 pub record Roots (held : ℕ → Bool) (M : Memory) (ts : ℕ → Task) : Type 0 where
   pub out-closed : Closed held (M .out)
   pub inn-closed : Closed held (M .inn)
   pub hat-held : held (M .hat) ≡ true
   pub far-held : held (M .far) ≡ true
-  pub registers : (j : ℕ) → RegistersHeld held (ts j)
+  pub registers : (j : ℕ) → RegistersHeld held (holds (ts j .step)) (ts j)
 
 -- ---- What a tick comes to.
 

@@ -114,7 +114,7 @@ module _ {held : ℕ → Bool} {M : Memory} {ts : ℕ → Task} {class : ℕ →
       let after = lane-view z lane-after .structure in
       task-survives (sides z) (view z M) (view z M') (guarantees-view s z M m' (effect-ok .guarantees))
       (before .none-free) (after .none-free) (before .near-spur) (after .near-spur)
-      (view-inn-closed R z) (R .registers j) j≢k (ts j .step) (I .task-ok j)
+      (view-inn-closed R z) (ts j) j≢k (ts j .step) (R .registers j) (I .task-ok j)
 
   pub invariant-tick : TickKeeps M ts r k
       (act (ts k .step) (ts k .side) (opposite (ts k .side)) (view (ts k .side) M) (ts k) g f)

@@ -81,7 +81,7 @@ module _ {ws : List ℕ} (A : Accepted ws) where
         registers = registers-ok;
       }
 
-  -- What the marking keeps is closed under links and holds the hats and the registers.
+  -- What the marking keeps is closed under links and holds the hats and the registers that hold.
   pub kept-roots : Roots (keeps ws) (seen right ws) (task ws)
   kept-roots =
       let W = well-linked in
@@ -90,14 +90,7 @@ module _ {ws : List ℕ} (A : Accepted ws) where
         inn-closed = keeps-link W left;
         hat-held = keeps-hat W right;
         far-held = keeps-hat W left;
-        registers =
-            λ j.
-            record {
-              A-held = keeps-register W j inA;
-              B-held = keeps-register W j inB;
-              C-held = keeps-register W j inC;
-              D-held = keeps-register W j inD;
-            };
+        registers = keeps-register W;
       }
 
 -- ---- Small facts about answers, notes and effects.

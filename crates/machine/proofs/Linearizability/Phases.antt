@@ -1,13 +1,17 @@
 -- The steps by phase: whose they are, and whether the task has a chain; with what each step relies on.
-use mathlib.Core.Path.{_≡_}
+use mathlib.Core.Path.{_≡_, refl}
 use mathlib.Core.Logic.{_⊎_}
+use mathlib.Core.Bool.{true}
+use mathlib.Core.List.{List, [], _∷_}
 use Prim.Native.Nat.{ℕ}
 use Rattle.machine.specs.Sides.{Side}
 use Rattle.machine.specs.Operations.{Operation, idle, push, pop, add, remove}
 use Rattle.machine.specs.Steps.{Step, rest}
 use Rattle.machine.specs.Steps as Steps
-use Rattle.machine.specs.Tasks.{Task}
+use Rattle.machine.specs.Tasks.{Task, Register, inD}
+use Rattle.machine.specs.Registers.{among, holds}
 use Rattle.machine.specs.Lines.{Memory}
+use Rattle.machine.proofs.Everywhere.{each, implies, implied}
 use Rattle.machine.proofs.Linearizability.Classes.{Class}
 use Rattle.machine.proofs.Linearizability.Chain.{HasChainIn, NoChain}
 use Rattle.machine.proofs.Linearizability.Reliance.{
@@ -27,6 +31,7 @@ use Rattle.machine.proofs.Linearizability.Reliance.{
   on-spur-B,
   on-spur-pair,
   on-spur-A,
+  relied,
   Relies,
 }
 
@@ -56,6 +61,16 @@ Chains building k s m class t = HasChainIn k s m class (t .D)
 Chains unspurring k s m class t = MaybeChain k s m class (t .D) (t .operation)
 Chains popping k s m class t = NoChain k class (t .D)
 Chains removing k s m class t = NoChain k class (t .D)
+
+-- The registers that lead to a chain.
+abbrev pub leading : Phase → List Register
+leading resting = []
+leading pushing = []
+leading growing = []
+leading building = inD ∷ []
+leading unspurring = inD ∷ []
+leading popping = []
+leading removing = []
 
 pub record StepFacts : Type 0 where
   pub reliance : Reliance
@@ -100,6 +115,17 @@ facts Steps.line78 = on-spur-pair during removing
 facts Steps.line79 = on-spur-pair during removing
 facts Steps.line81 = on-spur-A during removing
 facts Steps.line82 = on-spur-A during removing
+
+-- What a step relies on is held there, and so is what leads to a chain.
+pub relied-holds : (st : Step) (r : Register) → among (relied (facts st .reliance)) r ≡ true → holds st r ≡ true
+relied-holds st r =
+    implied (among (relied (facts st .reliance)) r) (holds st r)
+    (each (λ x y. implies (among (relied (facts x .reliance)) y) (holds x y)) refl st r)
+
+pub leading-holds : (st : Step) (r : Register) → among (leading (facts st .phase)) r ≡ true → holds st r ≡ true
+leading-holds st r =
+    implied (among (leading (facts st .phase)) r) (holds st r)
+    (each (λ x y. implies (among (leading (facts x .phase)) y) (holds x y)) refl st r)
 
 -- What holds of task k, at step st, seen from its side s.
 pub record TaskOk (k : ℕ) (s o : Side) (m : Memory) (class : ℕ → Class) (st : Step) (t : Task) : Type 0 where

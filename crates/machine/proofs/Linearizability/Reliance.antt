@@ -1,10 +1,11 @@
 -- What each step relies on: facts about the nodes in the task's registers, seen from its side s, whose opposite is o.
 use mathlib.Core.Path.{_≡_}
 use mathlib.Core.Logic.{_≢_, _⊎_}
+use mathlib.Core.List.{List, [], _∷_}
 use Prim.Native.Nat.{ℕ}
 use Rattle.machine.specs.Sides.{Side}
 use Rattle.machine.specs.Values.{Value, bag, N, X, Y}
-use Rattle.machine.specs.Tasks.{Task}
+use Rattle.machine.specs.Tasks.{Task, Register, inA, inB, inC}
 use Rattle.machine.specs.Lines.{Memory}
 use Rattle.machine.proofs.Linearizability.Classes.{Class, main, spur, new, Old}
 use Rattle.machine.proofs.Linearizability.Structure.{Follows, LinkedOrCut, Precedes}
@@ -75,10 +76,27 @@ pub record SpurPair (s : Side) (class : ℕ → Class) (A B : ℕ) : Type 0 wher
   pub A-spur : class A ≡ spur s
   pub B-spur : class B ≡ spur s
 
--- ---- The facts by name, and what they say of a task k.
+-- ---- The facts by name, the registers that must hold their nodes for them, and what they say of a task k.
 pub data Reliance : Type 0 where
   on-nothing on-old-A on-push-pair on-Y behind-Y past-Y on-splice-point : Reliance
   on-pop-pair on-empty-pair on-bag-pair on-cut-pair on-unlink-pair on-spur-B on-spur-pair on-spur-A : Reliance
+
+abbrev pub relied : Reliance → List Register
+relied on-nothing = []
+relied on-old-A = inA ∷ []
+relied on-push-pair = inA ∷ inB ∷ []
+relied on-Y = inA ∷ []
+relied behind-Y = inA ∷ []
+relied past-Y = inA ∷ inC ∷ []
+relied on-splice-point = inA ∷ []
+relied on-pop-pair = inA ∷ inB ∷ []
+relied on-empty-pair = inA ∷ inB ∷ []
+relied on-bag-pair = inA ∷ inB ∷ []
+relied on-cut-pair = inA ∷ inB ∷ []
+relied on-unlink-pair = inA ∷ inB ∷ []
+relied on-spur-B = inB ∷ []
+relied on-spur-pair = inA ∷ inB ∷ []
+relied on-spur-A = inA ∷ []
 
 abbrev pub Relies : Reliance → (k : ℕ) (s o : Side) → Memory → (ℕ → Class) → Task → Type 0
 Relies on-nothing k s o m class t = Unit {0}

@@ -1,12 +1,14 @@
 -- What holds of a task survives the ticks of the other tasks.
-use mathlib.Core.Path.{_≡_, sym, _∙_}
+use mathlib.Core.Path.{_≡_, refl, sym, _∙_}
 use mathlib.Core.Logic.{_≢_, _⊎_, inl, inr}
 use mathlib.Core.Bool.{Bool, true}
+use mathlib.Core.List.{[], _∷_}
 use Prim.Native.Nat.{ℕ, suc, _≤_}
 use native.Mathlib.Omega.{arith}
 use Rattle.machine.specs.Sides.{Side}
 use Rattle.machine.specs.Steps.{Step}
-use Rattle.machine.specs.Tasks.{Task, none}
+use Rattle.machine.specs.Tasks.{Task, none, inA, inB, inC, inD}
+use Rattle.machine.specs.Registers.{among, holds}
 use Rattle.machine.specs.Lines.{Memory}
 use Rattle.machine.proofs.Contradiction.{refute}
 use Rattle.machine.proofs.Linearizability.Sides.{Opposite}
@@ -37,6 +39,7 @@ use Rattle.machine.proofs.Linearizability.Reliance.{
   on-spur-B,
   on-spur-pair,
   on-spur-A,
+  relied,
   Relies,
 }
 use Rattle.machine.proofs.Linearizability.Phases.{
@@ -50,8 +53,11 @@ use Rattle.machine.proofs.Linearizability.Phases.{
   removing,
   with-chain,
   without-chain,
+  leading,
   Chains,
   facts,
+  relied-holds,
+  leading-holds,
   TaskOk,
 }
 use Rattle.machine.proofs.Linearizability.Invariant.{RegistersHeld}
@@ -69,7 +75,7 @@ module _ {held : ℕ → Bool} {k : ℕ} {s o : Side} (w : Opposite s o) (m m' :
     (G : GuaranteesIn held k s o m class m' class')
     (none-free : class none ≡ free) (none-free' : class' none ≡ free)
     (near-spur : Spur s (m .out) (m .inn) (m .val) class) (near-spur' : Spur s (m' .out) (m' .inn) (m' .val) class')
-    (inn-closed : Closed held (m .inn)) {t : Task} (R : RegistersHeld held t) {j : ℕ} (j≢k : j ≢ k) where
+    (inn-closed : Closed held (m .inn)) (t : Task) {j : ℕ} (j≢k : j ≢ k) where
   old-some : (x : ℕ) → Old class x → x ≢ none
   old-some x h = old-not-none class none-free x h
 
@@ -80,20 +86,25 @@ module _ {held : ℕ → Bool} {k : ℕ} {s o : Side} (w : Opposite s o) (m m' :
   old-stays = old-stable w (G .near) (G .far) none-free
 
   -- ---- What a step relies on.
-  push-pair-survives : PushPair s m class (t .A) (t .B) → PushPair s m' class' (t .A) (t .B)
-  push-pair-survives h =
-      let rB = R .B-held (old-some _ (h .B-old)) in
+
+  -- The registers that a fact must have held are.
+  abbrev Holds : Reliance → Type 0
+  Holds q = RegistersHeld held (among (relied q)) t
+
+  push-pair-survives : Holds on-push-pair → PushPair s m class (t .A) (t .B) → PushPair s m' class' (t .A) (t .B)
+  push-pair-survives R h =
+      let rB = R inB refl (old-some _ (h .B-old)) in
       record {
-        A-old = old-stays _ (R .A-held (old-some _ (h .A-old))) (h .A-old);
+        A-old = old-stays _ (R inA refl (old-some _ (h .A-old))) (h .A-old);
         B-old = old-stays _ rB (h .B-old);
         B-follows =
             follows-stable w (G .near) (G .far) none-free _ _ rB (h .A-old) (h .B-old) (h .B-follows);
       }
 
-  past-Y-survives : PastY s m class (t .A) (t .C) → PastY s m' class' (t .A) (t .C)
-  past-Y-survives h =
-      let rA = R .A-held (spur-some _ (h .A-spur)) in
-      let rC = R .C-held (old-some _ (h .C-old)) in
+  past-Y-survives : Holds past-Y → PastY s m class (t .A) (t .C) → PastY s m' class' (t .A) (t .C)
+  past-Y-survives R h =
+      let rA = R inA refl (spur-some _ (h .A-spur)) in
+      let rC = R inC refl (old-some _ (h .C-old)) in
       let behind = near-spur .inward-old _ (h .A-spur) in
       record {
         A-spur = G .near .spur-stays _ rA (h .A-spur);
@@ -104,10 +115,10 @@ module _ {held : ℕ → Bool} {k : ℕ} {s o : Side} (w : Opposite s o) (m m' :
             (follows-stable w (G .near) (G .far) none-free _ _ rC behind (h .C-old) (h .C-follows));
       }
 
-  pop-pair-survives : PopPair o m class (t .A) (t .B) → PopPair o m' class' (t .A) (t .B)
-  pop-pair-survives h =
-      let rA = R .A-held (old-some _ (h .A-old)) in
-      let rB = R .B-held (old-some _ (h .B-old)) in
+  pop-pair-survives : Holds on-pop-pair → PopPair o m class (t .A) (t .B) → PopPair o m' class' (t .A) (t .B)
+  pop-pair-survives R h =
+      let rA = R inA refl (old-some _ (h .A-old)) in
+      let rB = R inB refl (old-some _ (h .B-old)) in
       record {
         A-old = old-stays _ rA (h .A-old);
         B-old = old-stays _ rB (h .B-old);
@@ -115,10 +126,10 @@ module _ {held : ℕ → Bool} {k : ℕ} {s o : Side} (w : Opposite s o) (m m' :
             precedes-stable w (G .near) (G .far) none-free _ _ rA rB (h .A-old) (h .B-old) (h .B-precedes);
       }
 
-  cut-pair-survives : CutPair s m class (t .A) (t .B) → CutPair s m' class' (t .A) (t .B)
-  cut-pair-survives h =
-      let rA = R .A-held (old-some _ (h .A-old)) in
-      let rB = R .B-held (old-some _ (h .B-old)) in
+  cut-pair-survives : Holds on-cut-pair → CutPair s m class (t .A) (t .B) → CutPair s m' class' (t .A) (t .B)
+  cut-pair-survives R h =
+      let rA = R inA refl (old-some _ (h .A-old)) in
+      let rB = R inB refl (old-some _ (h .B-old)) in
       record {
         A-old = old-stays _ rA (h .A-old);
         B-old = old-stays _ rB (h .B-old);
@@ -129,10 +140,12 @@ module _ {held : ℕ → Bool} {k : ℕ} {s o : Side} (w : Opposite s o) (m m' :
             (h .A-old) (h .B-old) (h .main-next) (h .spur-next);
       }
 
-  unlink-pair-survives : UnlinkPair s o m class (t .A) (t .B) → UnlinkPair s o m' class' (t .A) (t .B)
-  unlink-pair-survives h =
-      let rA = R .A-held (old-some _ (h .A-old)) in
-      let rB = R .B-held (spur-some _ (h .B-spur)) in
+  unlink-pair-survives : Holds on-unlink-pair
+      → UnlinkPair s o m class (t .A) (t .B)
+      → UnlinkPair s o m' class' (t .A) (t .B)
+  unlink-pair-survives R h =
+      let rA = R inA refl (old-some _ (h .A-old)) in
+      let rB = R inB refl (spur-some _ (h .B-spur)) in
       record {
         A-old = old-stays _ rA (h .A-old);
         B-spur = G .near .spur-stays _ rB (h .B-spur);
@@ -140,43 +153,43 @@ module _ {held : ℕ → Bool} {k : ℕ} {s o : Side} (w : Opposite s o) (m m' :
         not-far = not-far-stable w (G .near) (G .far) none-free _ _ rA (h .A-old) (h .B-spur) (h .not-far);
       }
 
-  relies-survives : (q : Reliance) → Relies q j s o m class t → Relies q j s o m' class' t
-  relies-survives on-nothing h = tt
-  relies-survives on-old-A h = old-stays _ (R .A-held (old-some _ h)) h
-  relies-survives on-push-pair h = push-pair-survives h
-  relies-survives on-Y h =
-      let rA = R .A-held (spur-some _ (h .A-spur)) in
+  relies-survives : (q : Reliance) → Holds q → Relies q j s o m class t → Relies q j s o m' class' t
+  relies-survives on-nothing R h = tt
+  relies-survives on-old-A R h = old-stays _ (R inA refl (old-some _ h)) h
+  relies-survives on-push-pair R h = push-pair-survives R h
+  relies-survives on-Y R h =
+      let rA = R inA refl (spur-some _ (h .A-spur)) in
       record {
         A-spur = G .near .spur-stays _ rA (h .A-spur);
         A-Y = G .near .Y-stays _ rA (h .A-spur) (h .A-Y);
       }
-  relies-survives behind-Y h =
-      let rA = R .A-held (spur-some _ (h .A-spur)) in
+  relies-survives behind-Y R h =
+      let rA = R inA refl (spur-some _ (h .A-spur)) in
       record {
         A-spur = G .near .spur-stays _ rA (h .A-spur);
         A-Y = G .near .Y-stays _ rA (h .A-spur) (h .A-Y);
         B-inward = h .B-inward ∙ sym (G .near .spur-inward _ rA (h .A-spur));
       }
-  relies-survives past-Y h = past-Y-survives h
-  relies-survives on-splice-point h =
+  relies-survives past-Y R h = past-Y-survives R h
+  relies-survives on-splice-point R h =
       record {
-        A-old = old-stays _ (R .A-held (old-some _ (h .A-old))) (h .A-old);
+        A-old = old-stays _ (R inA refl (old-some _ (h .A-old))) (h .A-old);
         D-new = G .chains .stays-new (t .D) j j≢k (h .D-new);
         D-inward = G .chains .same-words (t .D) j j≢k (h .D-new) .same-inn ∙ h .D-inward;
       }
-  relies-survives on-pop-pair h = pop-pair-survives h
-  relies-survives on-empty-pair h = record { pair = pop-pair-survives (h .pair); read-mark = h .read-mark }
-  relies-survives on-bag-pair h =
-      record { pair = pop-pair-survives (h .pair); bag-read = h .bag-read; read-bag = h .read-bag }
-  relies-survives on-cut-pair h = cut-pair-survives h
-  relies-survives on-unlink-pair h = unlink-pair-survives h
-  relies-survives on-spur-B h = G .near .spur-stays _ (R .B-held (spur-some _ h)) h
-  relies-survives on-spur-pair h =
+  relies-survives on-pop-pair R h = pop-pair-survives R h
+  relies-survives on-empty-pair R h = record { pair = pop-pair-survives R (h .pair); read-mark = h .read-mark }
+  relies-survives on-bag-pair R h =
+      record { pair = pop-pair-survives R (h .pair); bag-read = h .bag-read; read-bag = h .read-bag }
+  relies-survives on-cut-pair R h = cut-pair-survives R h
+  relies-survives on-unlink-pair R h = unlink-pair-survives R h
+  relies-survives on-spur-B R h = G .near .spur-stays _ (R inB refl (spur-some _ h)) h
+  relies-survives on-spur-pair R h =
       record {
-        A-spur = G .near .spur-stays _ (R .A-held (spur-some _ (h .A-spur))) (h .A-spur);
-        B-spur = G .near .spur-stays _ (R .B-held (spur-some _ (h .B-spur))) (h .B-spur);
+        A-spur = G .near .spur-stays _ (R inA refl (spur-some _ (h .A-spur))) (h .A-spur);
+        B-spur = G .near .spur-stays _ (R inB refl (spur-some _ (h .B-spur))) (h .B-spur);
       }
-  relies-survives on-spur-A h = G .near .spur-stays _ (R .A-held (spur-some _ h)) h
+  relies-survives on-spur-A R h = G .near .spur-stays _ (R inA refl (spur-some _ h)) h
 
   -- ---- A chain.
   module _ {node place : ℕ → ℕ} {l : ℕ} (C : Chain s j (m .out) (m .inn) (m .val) class node place l)
@@ -210,14 +223,16 @@ module _ {held : ℕ → Bool} {k : ℕ} {s o : Side} (w : Opposite s o) (m m' :
           first-in = first-in-survives;
         }
 
-  has-chain-survives : HasChainIn j s m class (t .D) → HasChainIn j s m' class' (t .D)
-  has-chain-survives H =
+  has-chain-survives : RegistersHeld held (among (inD ∷ [])) t
+      → HasChainIn j s m class (t .D)
+      → HasChainIn j s m' class' (t .D)
+  has-chain-survives R H =
       let D-some : t .D ≢ none = λ e. refute (cc (H .head, H .chain .is-new 0 (omega arith))) in
       record {
         node = H .node;
         place = H .place;
         m = H .m;
-        chain = chain-survives (H .chain) (cc (H .head, R .D-held D-some));
+        chain = chain-survives (H .chain) (cc (H .head, R inD refl D-some));
         head = H .head;
       }
 
@@ -225,20 +240,26 @@ module _ {held : ℕ → Bool} {k : ℕ} {s o : Side} (w : Opposite s o) (m m' :
   no-chain-survives H =
       record { none-new = λ x h. H .none-new x (G .chains .was-new x j j≢k h); no-head = H .no-head }
 
-  chains-survive : (p : Phase) → Chains p j s m class t → Chains p j s m' class' t
-  chains-survive resting h = no-chain-survives h
-  chains-survive pushing h = no-chain-survives h
-  chains-survive growing h = no-chain-survives h
-  chains-survive building h = has-chain-survives h
-  chains-survive unspurring (with-chain h) = with-chain (has-chain-survives h)
-  chains-survive unspurring (without-chain h e) = without-chain (no-chain-survives h) e
-  chains-survive popping h = no-chain-survives h
-  chains-survive removing h = no-chain-survives h
+  chains-survive : (p : Phase)
+      → RegistersHeld held (among (leading p)) t
+      → Chains p j s m class t
+      → Chains p j s m' class' t
+  chains-survive resting R h = no-chain-survives h
+  chains-survive pushing R h = no-chain-survives h
+  chains-survive growing R h = no-chain-survives h
+  chains-survive building R h = has-chain-survives R h
+  chains-survive unspurring R (with-chain h) = with-chain (has-chain-survives R h)
+  chains-survive unspurring R (without-chain h e) = without-chain (no-chain-survives h) e
+  chains-survive popping R h = no-chain-survives h
+  chains-survive removing R h = no-chain-survives h
 
-  pub task-survives : (st : Step) → TaskOk j s o m class st t → TaskOk j s o m' class' st t
-  task-survives st h =
+  pub task-survives : (st : Step)
+      → RegistersHeld held (holds st) t
+      → TaskOk j s o m class st t
+      → TaskOk j s o m' class' st t
+  task-survives st R h =
       record {
-        relies = relies-survives (facts st .reliance) (h .relies);
-        chain = chains-survive (facts st .phase) (h .chain);
+        relies = relies-survives (facts st .reliance) (λ r u. R r (relied-holds st r u)) (h .relies);
+        chain = chains-survive (facts st .phase) (λ r u. R r (leading-holds st r u)) (h .chain);
         belongs = h .belongs;
       }

@@ -1,7 +1,7 @@
 -- How often a task may still disturb the others before some call answers: by cutting (62) and unlinking (64), by
 -- splicing without an answer (25, a push), by moving a hat (72). T is the number of tasks: a cut may let each other
 -- task splice once more, and pays for that.
-use mathlib.Core.Path.{_≡_}
+use mathlib.Core.Path.{_≡_, refl}
 use mathlib.Core.Logic.{_≢_, _⊎_, inl, inr}
 use mathlib.Core.Bool.{Bool, true}
 use Prim.Native.Nat.{ℕ, suc, _≤_}
@@ -10,7 +10,8 @@ use Rattle.machine.specs.Sides.{Side}
 use Rattle.machine.specs.Values.{N, X, Y}
 use Rattle.machine.specs.Steps.{Step, rest}
 use Rattle.machine.specs.Steps as Steps
-use Rattle.machine.specs.Tasks.{Task, none}
+use Rattle.machine.specs.Tasks.{Task, none, inA}
+use Rattle.machine.specs.Registers.{holds}
 use Rattle.machine.specs.Lines.{Memory}
 use Rattle.machine.proofs.Linearizability.Classes.{Class, spur, Old}
 use Rattle.machine.proofs.Linearizability.Structure.{Structure}
@@ -124,7 +125,7 @@ module _ {held : ℕ → Bool} {s o : Side} {m m' : Memory} {class class' : ℕ 
     {bags : ℕ → ℕ} (Z : Structure s o (m .out) (m .inn) (m .val) (m .hat) (m .far) class at index l a b bags)
     (W : Steady s m m')
     (G : Guarantee held s (m .out) (m .inn) (m .val) class (m' .out) (m' .inn) (m' .val) class')
-    {t : Task} (R : RegistersHeld held t) where
+    (t : Task) where
   if-so : {P Q : Type 0} {x y i i' : ℕ} → i ≤ i' → (P → Q) ⊎ (y ≤ suc x) × (suc i ≤ i') → SoonOrLate P x y i
       → SoonOrLate Q x y i'
   if-so l (inl f) (soon p h) = soon (f p) (omega arith)
@@ -134,21 +135,22 @@ module _ {held : ℕ → Bool} {s o : Side} {m m' : Memory} {class class' : ℕ 
   room-stays : NoCut held class s m m' → Room s m → Room s m'
   room-stays U v = let q = W .past-same in cc (U .N-stays v)
 
-  A-held : Old class (t .A) → held (t .A) ≡ true
-  A-held h = R .A-held (old-some Z (t .A) h)
+  A-held : (t .A ≢ none → held (t .A) ≡ true) → Old class (t .A) → held (t .A) ≡ true
+  A-held u h = u (old-some Z (t .A) h)
 
-  Y-stays : Old class (t .A) → m .val (t .A) ≡ Y s → m' .val (t .A) ≡ Y s
-  Y-stays h v = G .Y-stays (t .A) (A-held h) (Y-in-spur Z (t .A) h v) v
+  Y-stays : held (t .A) ≡ true → Old class (t .A) → m .val (t .A) ≡ Y s → m' .val (t .A) ≡ Y s
+  Y-stays r h v = G .Y-stays (t .A) r (Y-in-spur Z (t .A) h v) v
 
   past-stays : t .A ≡ past m → t .A ≡ past m'
   past-stays e = cc (W .past-same)
 
   -- The wrong node stays one, and the right node.
-  move-stays : class (t .A) ≡ spur s → (m .inn (t .A) ≡ m .inn (m .hat) → t .C ≡ past m)
+  move-stays : held (t .A) ≡ true → class (t .A) ≡ spur s
+      → (m .inn (t .A) ≡ m .inn (m .hat) → t .C ≡ past m)
       → m' .inn (t .A) ≡ m' .inn (m' .hat)
       → t .C ≡ past m'
-  move-stays c f e =
-      let q = G .spur-inward (t .A) (R .A-held (spur-some Z (t .A) c)) c in
+  move-stays r c f e =
+      let q = G .spur-inward (t .A) r c in
       let d = f (cc (W .behind-same)) in
       cc (W .past-same)
 
@@ -167,22 +169,23 @@ module _ {held : ℕ → Bool} {s o : Side} {m m' : Memory} {class class' : ℕ 
           | inr d ↦ if-so le (inr (omega arith, d)) b
         ]
 
-    at-A : Old class (t .A) → SoonOrLate (Room s m × (m .val (t .A) ≢ X s)) 0 1 i
+    at-A : held (t .A) ≡ true → Old class (t .A) → SoonOrLate (Room s m × (m .val (t .A) ≢ X s)) 0 1 i
         → SoonOrLate (Room s m' × (m' .val (t .A) ≢ X s)) 0 1 i'
-    at-A h b =
+    at-A r h b =
         elim U [
-          | inl n ↦ if-so le (inl (λ p. (room-stays n (p .0), n .no-X (t .A) (A-held h) h (p .1)))) b
+          | inl n ↦ if-so le (inl (λ p. (room-stays n (p .0), n .no-X (t .A) r h (p .1)))) b
           | inr d ↦ if-so le (inr (omega arith, d)) b
         ]
 
-    seeking : Old class (t .A) → SoonOrLate (Room s m ⊎ (t .A ≡ past m) ⊎ (m .val (t .A) ≡ Y s)) 1 2 i
+    seeking : held (t .A) ≡ true → Old class (t .A)
+        → SoonOrLate (Room s m ⊎ (t .A ≡ past m) ⊎ (m .val (t .A) ≡ Y s)) 1 2 i
         → SoonOrLate (Room s m' ⊎ (t .A ≡ past m') ⊎ (m' .val (t .A) ≡ Y s)) 1 2 i'
-    seeking h b =
+    seeking r h b =
         elim U [
           | inl n ↦ if-so le (inl (λ p. elim p [
             | inl v ↦ inl (room-stays n v)
             | inr (inl e) ↦ inr (inl (past-stays e))
-            | inr (inr y) ↦ inr (inr (Y-stays h y))
+            | inr (inr y) ↦ inr (inr (Y-stays r h y))
           ])) b
           | inr d ↦ if-so le (inr (omega arith, d)) b
         ]
@@ -197,14 +200,14 @@ module _ {held : ℕ → Bool} {s o : Side} {m m' : Memory} {class class' : ℕ 
           | inr d ↦ if-so le (inr (omega arith, d)) b
         ]
 
-    moving : class (t .A) ≡ spur s → Moving s m t i → Moving s m' t i'
-    moving c w =
+    moving : held (t .A) ≡ true → class (t .A) ≡ spur s → Moving s m t i → Moving s m' t i'
+    moving r c w =
         elim U [
           | inl n ↦
               record {
                 splices = w .splices;
                 may-splice = if-so (omega arith) (inl (λ p. (p .0, room-stays n (p .1)))) (w .may-splice);
-                may-move = if-so le (inl (move-stays c)) (w .may-move);
+                may-move = if-so le (inl (move-stays r c)) (w .may-move);
               }
           | inr d ↦
               record {
@@ -218,42 +221,43 @@ module _ {held : ℕ → Bool} {s o : Side} {m m' : Memory} {class class' : ℕ 
             → SoonOrLate (m .inn (t .A) ≡ m .inn (m .hat) → t .C ≡ past m) (w .splices) (suc (w .splices)) i
             → SoonOrLate (m' .inn (t .A) ≡ m' .inn (m' .hat) → t .C ≡ past m')
             (suc (w .splices)) (suc (suc (w .splices))) i'
-        one-more d (soon f h) = soon (move-stays c f) (omega arith)
+        one-more d (soon f h) = soon (move-stays r c f) (omega arith)
         one-more d (late h) = late (omega arith)
 
-    pub disturbs-stay : (k T : ℕ) (st : Step) → TaskOk k s o m class st t → Disturbs st T s m t i
+    pub disturbs-stay : (k T : ℕ) (st : Step) → RegistersHeld held (holds st) t → TaskOk k s o m class st t
+        → Disturbs st T s m t i
         → Disturbs st T s m' t i'
-    disturbs-stay k T rest h b = tt
-    disturbs-stay k T Steps.line2 h b = room b
-    disturbs-stay k T Steps.line3 h b = at-A (h .relies) b
-    disturbs-stay k T Steps.line5 h b = at-A (h .relies .A-old) b
-    disturbs-stay k T Steps.line8 h b = at-A (h .relies) b
-    disturbs-stay k T Steps.line67 h b = with-chain b
-    disturbs-stay k T Steps.line68 h b = with-chain b
-    disturbs-stay k T Steps.line69 h b = with-chain b
-    disturbs-stay k T Steps.line70 h b = with-chain b
-    disturbs-stay k T Steps.line72 h b = moving (h .relies .A-spur) b
-    disturbs-stay k T Steps.line28 h b = omega arith
-    disturbs-stay k T Steps.line31 h b = omega arith
-    disturbs-stay k T Steps.line15 h b = omega arith
-    disturbs-stay k T Steps.line17 h b = seeking (h .relies) b
-    disturbs-stay k T Steps.line18 h b = room b
-    disturbs-stay k T Steps.line24 h b = at-end b
-    disturbs-stay k T Steps.line25 h b = at-end b
-    disturbs-stay k T Steps.line39 h b = tt
-    disturbs-stay k T Steps.line40 h b = tt
-    disturbs-stay k T Steps.line42 h b = tt
-    disturbs-stay k T Steps.line48 h b = tt
-    disturbs-stay k T Steps.line51 h b = tt
-    disturbs-stay k T Steps.line54 h b = omega arith
-    disturbs-stay k T Steps.line56 h b = omega arith
-    disturbs-stay k T Steps.line58 h b = omega arith
-    disturbs-stay k T Steps.line60 h b = omega arith
-    disturbs-stay k T Steps.line62 h b = omega arith
-    disturbs-stay k T Steps.line64 h b = omega arith
-    disturbs-stay k T Steps.line74 h b = tt
-    disturbs-stay k T Steps.line77 h b = tt
-    disturbs-stay k T Steps.line78 h b = tt
-    disturbs-stay k T Steps.line79 h b = tt
-    disturbs-stay k T Steps.line81 h b = tt
-    disturbs-stay k T Steps.line82 h b = tt
+    disturbs-stay k T rest R h b = tt
+    disturbs-stay k T Steps.line2 R h b = room b
+    disturbs-stay k T Steps.line3 R h b = at-A (A-held (R inA refl) (h .relies)) (h .relies) b
+    disturbs-stay k T Steps.line5 R h b = at-A (A-held (R inA refl) (h .relies .A-old)) (h .relies .A-old) b
+    disturbs-stay k T Steps.line8 R h b = at-A (A-held (R inA refl) (h .relies)) (h .relies) b
+    disturbs-stay k T Steps.line67 R h b = with-chain b
+    disturbs-stay k T Steps.line68 R h b = with-chain b
+    disturbs-stay k T Steps.line69 R h b = with-chain b
+    disturbs-stay k T Steps.line70 R h b = with-chain b
+    disturbs-stay k T Steps.line72 R h b = moving (A-held (R inA refl) (cc (h .relies .A-spur))) (h .relies .A-spur) b
+    disturbs-stay k T Steps.line28 R h b = omega arith
+    disturbs-stay k T Steps.line31 R h b = omega arith
+    disturbs-stay k T Steps.line15 R h b = omega arith
+    disturbs-stay k T Steps.line17 R h b = seeking (A-held (R inA refl) (h .relies)) (h .relies) b
+    disturbs-stay k T Steps.line18 R h b = room b
+    disturbs-stay k T Steps.line24 R h b = at-end b
+    disturbs-stay k T Steps.line25 R h b = at-end b
+    disturbs-stay k T Steps.line39 R h b = tt
+    disturbs-stay k T Steps.line40 R h b = tt
+    disturbs-stay k T Steps.line42 R h b = tt
+    disturbs-stay k T Steps.line48 R h b = tt
+    disturbs-stay k T Steps.line51 R h b = tt
+    disturbs-stay k T Steps.line54 R h b = omega arith
+    disturbs-stay k T Steps.line56 R h b = omega arith
+    disturbs-stay k T Steps.line58 R h b = omega arith
+    disturbs-stay k T Steps.line60 R h b = omega arith
+    disturbs-stay k T Steps.line62 R h b = omega arith
+    disturbs-stay k T Steps.line64 R h b = omega arith
+    disturbs-stay k T Steps.line74 R h b = tt
+    disturbs-stay k T Steps.line77 R h b = tt
+    disturbs-stay k T Steps.line78 R h b = tt
+    disturbs-stay k T Steps.line79 R h b = tt
+    disturbs-stay k T Steps.line81 R h b = tt
+    disturbs-stay k T Steps.line82 R h b = tt

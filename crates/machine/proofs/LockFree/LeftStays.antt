@@ -1,5 +1,5 @@
 -- The ticks that a task has left stay as many through a calm change by another task.
-use mathlib.Core.Path.{_≡_}
+use mathlib.Core.Path.{_≡_, refl}
 use mathlib.Core.Logic.{_≢_, inl, inr}
 use mathlib.Core.Bool.{Bool, true}
 use Prim.Native.Nat.{ℕ, _+_, _≤_}
@@ -8,7 +8,8 @@ use Rattle.machine.specs.Sides.{Side}
 use Rattle.machine.specs.Values.{Value, Y}
 use Rattle.machine.specs.Steps.{Step, rest}
 use Rattle.machine.specs.Steps as Steps
-use Rattle.machine.specs.Tasks.{Task}
+use Rattle.machine.specs.Tasks.{Task, none, inA, inB}
+use Rattle.machine.specs.Registers.{holds}
 use Rattle.machine.specs.Lines.{Memory}
 use Rattle.machine.proofs.Contradiction.{refute}
 use Rattle.machine.proofs.Linearizability.Classes.{Class, main, spur, Old}
@@ -149,16 +150,16 @@ module _ {held : ℕ → Bool} {s o : Side} {m m' : Memory} {class class' : ℕ 
     marking-stays two (fails-once y w) = fails-once (G .Y-stays B r c y) (walk-stays r B-old (omega arith) w)
     marking-stays two (fails w) = fails (walk-stays r B-old (omega arith) w)
 
-  module _ {t : Task} (R : RegistersHeld held t) where
-    A-held : Old class (t .A) → held (t .A) ≡ true
-    A-held h = R .A-held (old-some Z (t .A) h)
+  module _ (t : Task) where
+    A-held : (t .A ≢ none → held (t .A) ≡ true) → Old class (t .A) → held (t .A) ≡ true
+    A-held u h = u (old-some Z (t .A) h)
 
-    B-held : Old class (t .B) → held (t .B) ≡ true
-    B-held h = R .B-held (old-some Z (t .B) h)
+    B-held : (t .B ≢ none → held (t .B) ≡ true) → Old class (t .B) → held (t .B) ≡ true
+    B-held u h = u (old-some Z (t .B) h)
 
-    B-walk : {extra i c : ℕ} → class (t .B) ≡ spur s → Walking extra (m .out) (t .B) c i
+    B-walk : {extra i c : ℕ} → (t .B ≢ none → held (t .B) ≡ true) → class (t .B) ≡ spur s → Walking extra (m .out) (t .B) c i
         → Walking extra (m' .out) (t .B) c i
-    B-walk q w = walk-stays (B-held (cc)) (cc) (omega arith) w
+    B-walk u q w = walk-stays (B-held u (cc)) (cc) (omega arith) w
 
     soon-stays : {P Q : Type 0} {x y i : ℕ} → (P → Q) → SoonOrLate P x y i → SoonOrLate Q x y i
     soon-stays f (soon p h) = soon (f p) h
@@ -171,26 +172,27 @@ module _ {held : ℕ → Bool} {s o : Side} {m m' : Memory} {class class' : ℕ 
     pushing-stays (push-stale h) = push-stale (omega arith)
 
     pub left-stays : (extra i S g k : ℕ) → 2 ≤ extra → (st : Step)
+        → RegistersHeld held (holds st) t
         → TaskOk k s o m class st t
         → Left extra st S g s m t i
         → Left extra st S g s m' t i
-    left-stays x i S g k two rest h b = b
-    left-stays x i S g k two Steps.line2 h (start-N v c) = start-N (cc (hat-value-same)) (omega arith)
-    left-stays x i S g k two Steps.line2 h (start-off-Y ne c) = start-off-Y (off-Y ne) (omega arith)
-    left-stays x i S g k two Steps.line2 h (start-anywhere c) = start-anywhere (omega arith)
-    left-stays x i S g k two Steps.line3 h b = pushing-stays b
-    left-stays x i S g k two Steps.line5 h b = pushing-stays b
-    left-stays x i S g k two Steps.line8 h (choose-X e v c) =
+    left-stays x i S g k two rest R h b = b
+    left-stays x i S g k two Steps.line2 R h (start-N v c) = start-N (cc (hat-value-same)) (omega arith)
+    left-stays x i S g k two Steps.line2 R h (start-off-Y ne c) = start-off-Y (off-Y ne) (omega arith)
+    left-stays x i S g k two Steps.line2 R h (start-anywhere c) = start-anywhere (omega arith)
+    left-stays x i S g k two Steps.line3 R h b = pushing-stays b
+    left-stays x i S g k two Steps.line5 R h b = pushing-stays b
+    left-stays x i S g k two Steps.line8 R h (choose-X e v c) =
         choose-X (cc (C .same-hat)) (cc (C .same-hat, hat-value-same)) (omega arith)
-    left-stays x i S g k two Steps.line8 h (choose-Y v c) =
-        choose-Y (Y-kept Z H C G (t .A) (A-held (h .relies)) (h .relies) v) (omega arith)
-    left-stays x i S g k two Steps.line8 h (choose-stale c) = choose-stale (omega arith)
-    left-stays x i S g k two Steps.line67 h b = omega arith
-    left-stays x i S g k two Steps.line68 h b = soon-stays (λ e. cc (C .same-hat)) b
-    left-stays x i S g k two Steps.line69 h b = soon-stays (λ e. cc (C .same-hat)) b
-    left-stays x i S g k two Steps.line70 h b =
+    left-stays x i S g k two Steps.line8 R h (choose-Y v c) =
+        choose-Y (Y-kept Z H C G (t .A) (A-held (R inA refl) (h .relies)) (h .relies) v) (omega arith)
+    left-stays x i S g k two Steps.line8 R h (choose-stale c) = choose-stale (omega arith)
+    left-stays x i S g k two Steps.line67 R h b = omega arith
+    left-stays x i S g k two Steps.line68 R h b = soon-stays (λ e. cc (C .same-hat)) b
+    left-stays x i S g k two Steps.line69 R h b = soon-stays (λ e. cc (C .same-hat)) b
+    left-stays x i S g k two Steps.line70 R h b =
         soon-stays (λ p. let e = p .0 in let q = p .1 in (cc (C .same-hat), cc (hat-inn-same Z H C G))) b
-    left-stays x i S g k two Steps.line72 h b =
+    left-stays x i S g k two Steps.line72 R h b =
         soon-stays (λ p.
         let e = p .0 in
         let q = inn-hat Z in
@@ -203,51 +205,51 @@ module _ {held : ℕ → Bool} {s o : Side} {m m' : Memory} {class class' : ℕ 
                 | inr f ↦ p .1 (f .is-Y)
               ],
         )) b
-    left-stays x i S g k two Steps.line28 h b = soon-stays off-Y b
-    left-stays x i S g k two Steps.line31 h b =
+    left-stays x i S g k two Steps.line28 R h b = soon-stays off-Y b
+    left-stays x i S g k two Steps.line31 R h b =
         record { below = b .below; when = soon-stays off-Y (b .when) }
-    left-stays x i S g k two Steps.line15 h b = soon-stays off-Y b
-    left-stays x i S g k two Steps.line17 h (seek-sure P c) = seek-sure (path-stays P) (omega arith)
-    left-stays x i S g k two Steps.line17 h (seek-Y v c) =
-        seek-Y (Y-kept Z H C G (t .A) (A-held (h .relies)) (h .relies) v) (omega arith)
-    left-stays x i S g k two Steps.line17 h (seek-stale {j = d} w c) =
-        seek-stale (C .out-ends d (t .A) (A-held (h .relies)) (h .relies) w) (omega arith)
-    left-stays x i S g k two Steps.line18 h (step-sure P v c) =
+    left-stays x i S g k two Steps.line15 R h b = soon-stays off-Y b
+    left-stays x i S g k two Steps.line17 R h (seek-sure P c) = seek-sure (path-stays P) (omega arith)
+    left-stays x i S g k two Steps.line17 R h (seek-Y v c) =
+        seek-Y (Y-kept Z H C G (t .A) (A-held (R inA refl) (h .relies)) (h .relies) v) (omega arith)
+    left-stays x i S g k two Steps.line17 R h (seek-stale {j = d} w c) =
+        seek-stale (C .out-ends d (t .A) (A-held (R inA refl) (h .relies)) (h .relies) w) (omega arith)
+    left-stays x i S g k two Steps.line18 R h (step-sure P v c) =
         step-sure (path-stays P) (cc (C .main-same (t .A) (path-main P) .same-val)) (omega arith)
-    left-stays x i S g k two Steps.line18 h (step-stale {j = d} w c) =
-        step-stale (C .out-ends d (t .A) (A-held (h .relies)) (h .relies) w) (omega arith)
-    left-stays x i S g k two Steps.line24 h b = soon-stays end-stays b
-    left-stays x i S g k two Steps.line25 h b =
+    left-stays x i S g k two Steps.line18 R h (step-stale {j = d} w c) =
+        step-stale (C .out-ends d (t .A) (A-held (R inA refl) (h .relies)) (h .relies) w) (omega arith)
+    left-stays x i S g k two Steps.line24 R h b = soon-stays end-stays b
+    left-stays x i S g k two Steps.line25 R h b =
         soon-stays (λ p. let q = p .1 in (end-stays (p .0), cc (end-out (p .0)))) b
-    left-stays x i S g k two Steps.line39 h b = omega arith
-    left-stays x i S g k two Steps.line40 h b = soon-stays (λ e. cc (C .same-hat)) b
-    left-stays x i S g k two Steps.line42 h b =
+    left-stays x i S g k two Steps.line39 R h b = omega arith
+    left-stays x i S g k two Steps.line40 R h b = soon-stays (λ e. cc (C .same-hat)) b
+    left-stays x i S g k two Steps.line42 R h b =
         soon-stays (λ p. let e = p .0 in let q = p .1 in (cc (C .same-hat), cc (hat-inn-same Z H C G))) b
-    left-stays x i S g k two Steps.line48 h b =
+    left-stays x i S g k two Steps.line48 R h b =
         soon-stays (λ p.
         let e = p .0 in
         let v = p .1 in
         let off : m .val (t .B) ≢ Y o =
         λ y. elim (h .relies .read-mark) [ inl u ↦ refute (cc) | inr u ↦ refute (cc) ] in
         (cc (C .same-hat), cc (found-same (h .relies .pair) e off))) b
-    left-stays x i S g k two Steps.line51 h b =
+    left-stays x i S g k two Steps.line51 R h b =
         soon-stays (λ p.
         let e = p .0 in
         let v = p .1 in
         let u = h .relies .read-bag in
         let off : m .val (t .B) ≢ Y o = λ y. refute (cc) in
         (cc (C .same-hat), cc (found-same (h .relies .pair) e off))) b
-    left-stays x i S g k two Steps.line54 h b = b
-    left-stays x i S g k two Steps.line56 h b = walk-stays (A-held (h .relies)) (h .relies) (omega arith) b
-    left-stays x i S g k two Steps.line58 h b = walk-stays (A-held (h .relies)) (h .relies) (omega arith) b
-    left-stays x i S g k two Steps.line60 h b = walk-stays (A-held (h .relies)) (h .relies) (omega arith) b
-    left-stays x i S g k two Steps.line62 h b =
-        walk-stays (B-held (h .relies .B-old)) (h .relies .B-old) (omega arith) b
-    left-stays x i S g k two Steps.line64 h b = B-walk (h .relies .B-spur) b
-    left-stays x i S g k two Steps.line74 h b = B-walk (h .relies) b
-    left-stays x i S g k two Steps.line77 h b = reading-stays (B-held (cc (h .relies .B-spur))) (h .relies .B-spur) b
-    left-stays x i S g k two Steps.line78 h b =
-        marking-stays (B-held (cc (h .relies .B-spur))) (h .relies .B-spur) two b
-    left-stays x i S g k two Steps.line79 h b = B-walk (h .relies .B-spur) b
-    left-stays x i S g k two Steps.line81 h b = let c = h .relies in walk-stays (A-held (cc)) (cc) (omega arith) b
-    left-stays x i S g k two Steps.line82 h b = b
+    left-stays x i S g k two Steps.line54 R h b = b
+    left-stays x i S g k two Steps.line56 R h b = walk-stays (A-held (R inA refl) (h .relies)) (h .relies) (omega arith) b
+    left-stays x i S g k two Steps.line58 R h b = walk-stays (A-held (R inA refl) (h .relies)) (h .relies) (omega arith) b
+    left-stays x i S g k two Steps.line60 R h b = walk-stays (A-held (R inA refl) (h .relies)) (h .relies) (omega arith) b
+    left-stays x i S g k two Steps.line62 R h b =
+        walk-stays (B-held (R inB refl) (h .relies .B-old)) (h .relies .B-old) (omega arith) b
+    left-stays x i S g k two Steps.line64 R h b = B-walk (R inB refl) (h .relies .B-spur) b
+    left-stays x i S g k two Steps.line74 R h b = B-walk (R inB refl) (h .relies) b
+    left-stays x i S g k two Steps.line77 R h b = reading-stays (B-held (R inB refl) (cc (h .relies .B-spur))) (h .relies .B-spur) b
+    left-stays x i S g k two Steps.line78 R h b =
+        marking-stays (B-held (R inB refl) (cc (h .relies .B-spur))) (h .relies .B-spur) two b
+    left-stays x i S g k two Steps.line79 R h b = B-walk (R inB refl) (h .relies .B-spur) b
+    left-stays x i S g k two Steps.line81 R h b = let c = h .relies in walk-stays (A-held (R inA refl) (cc)) (cc) (omega arith) b
+    left-stays x i S g k two Steps.line82 R h b = b

@@ -147,7 +147,7 @@ module _ {ws : List ℕ} (begun : Begun ws) (k h : ℕ) (passes : tickRefusal ws
         → DisturbsIn T M t d
         → DisturbsIn T M' t d'
     steady-others T d d' le W U b =
-        disturbs-stay (lane-from z .structure) W (guarantees z .near) (R .registers j) d d' le U j T (t .step)
+        disturbs-stay (lane-from z .structure) W (guarantees z .near) t d d' le U j T (t .step) (R .registers j)
         (A .invariant .task-ok j) b
 
     pub calm-others : Calm (keeps ws) (A .class) (view s M) m' → (T d : ℕ) → DisturbsIn T M t d → DisturbsIn T M' t d
@@ -161,8 +161,8 @@ module _ {ws : List ℕ} (begun : Begun ws) (k h : ℕ) (passes : tickRefusal ws
         → CalmlyLeft (nodeCount ws) (growth ws) M t n
         → CalmlyLeft (nodeCount ws) (growth ws) M' t n
     patient-others C n b =
-        left-stays (lane-from z .structure) (holds z) (calm-view s z M m' C) (guarantees z .near) (R .registers j) 2 n
-        (nodeCount ws) (goal (growth ws) t) j (omega arith) (t .step) (A .invariant .task-ok j) b
+        left-stays (lane-from z .structure) (holds z) (calm-view s z M m' C) (guarantees z .near) t 2 n
+        (nodeCount ws) (goal (growth ws) t) j (omega arith) (t .step) (R .registers j) (A .invariant .task-ok j) b
 
   -- ---- The hats.
   pub calm-hats : Calm (keeps ws) (A .class) (view s M) m' → (z : Side) (n : ℕ) → HatDisturbs z (view z M) n

@@ -1,0 +1,122 @@
+// Which registers hold their nodes at which step.
+use layout::tasks::Task;
+ghost use mathlib.Core.Path.{_≡_};
+ghost use mathlib.Core.Bool.{cond};
+ghost use Prim.Native.Nat.{_<_};
+ghost use Rattle.machine.specs.Steps.{stepOf};
+ghost use Rattle.machine.specs.Tasks.{none, Register};
+ghost use Rattle.machine.specs.Registers.{holds};
+ghost use Rattle.alloc.specs.Bits.{bitOf};
+
+// The bit of each register in an entry of the table.
+const NOTHING: u32 = 0;
+
+pub const A: u32 = 1;
+
+pub const B: u32 = 2;
+
+pub const C: u32 = 4;
+
+pub const D: u32 = 8;
+
+// By the step's number: the bits of the registers that hold there.
+const HELD: [u32; 83] = [
+    NOTHING,
+    NOTHING,
+    D, // 2
+    A + D, // 3
+    NOTHING,
+    A + B + D, // 5
+    NOTHING,
+    NOTHING,
+    A + D, // 8
+    NOTHING,
+    NOTHING,
+    NOTHING,
+    NOTHING,
+    NOTHING,
+    NOTHING,
+    D, // 15
+    NOTHING,
+    A + D, // 17
+    A + D, // 18
+    NOTHING,
+    NOTHING,
+    NOTHING,
+    NOTHING,
+    NOTHING,
+    A + D, // 24
+    A + B + D, // 25
+    NOTHING,
+    NOTHING,
+    NOTHING, // 28
+    NOTHING,
+    NOTHING,
+    D, // 31
+    NOTHING,
+    NOTHING,
+    NOTHING,
+    NOTHING,
+    NOTHING,
+    NOTHING,
+    NOTHING,
+    NOTHING, // 39
+    A, // 40
+    NOTHING,
+    A + B, // 42
+    NOTHING,
+    NOTHING,
+    NOTHING,
+    NOTHING,
+    NOTHING,
+    A + B, // 48
+    NOTHING,
+    NOTHING,
+    A + B, // 51
+    NOTHING,
+    NOTHING,
+    NOTHING, // 54
+    NOTHING,
+    A, // 56
+    NOTHING,
+    A, // 58
+    NOTHING,
+    A, // 60
+    NOTHING,
+    A + B, // 62
+    NOTHING,
+    A + B, // 64
+    NOTHING,
+    NOTHING,
+    D, // 67
+    A + D, // 68
+    A + D, // 69
+    A + B + D, // 70
+    NOTHING,
+    A + C + D, // 72
+    NOTHING,
+    B, // 74
+    NOTHING,
+    NOTHING,
+    A + B, // 77
+    A + B, // 78
+    A + B, // 79
+    NOTHING,
+    A, // 81
+    A, // 82
+];
+
+// The node x of a register, given by its bit, where it holds at the step, or none.
+pub fn held(step: u32, bit: u32, x: u32) -> u32
+    requires { ⌜ 0 < bit ⌝ }
+    ensures { λ n. ⌜ ((r : Register) → bit ≡ bitOf r → n ≡ cond (holds (stepOf step) r) x none) ⌝ }
+{
+    let i = step as usize;
+    if i >= HELD.len() {
+        return Task::NONE;
+    }
+    if HELD[i] / bit % 2 == 0 {
+        return Task::NONE;
+    }
+    x
+}

@@ -1,0 +1,243 @@
+-- What stands in registers that do not hold does not matter to any list of calls.
+use mathlib.Core.Path.{_≡_, refl, sym, ap, _∙_, subst}
+use mathlib.Core.List.{List, [], _∷_}
+use mathlib.Core.Option.{Option, some, none as nothing, Option·map}
+use Prim.Native.Nat.{ℕ, zero, suc, _<_}
+use Rattle.machine.specs.Choice.{_≟_, if_then_else_}
+use Rattle.machine.specs.Sides.{Side, right, left, sideOf}
+use Rattle.machine.specs.Values.{Value, never, bag, N, X, Y}
+use Rattle.machine.specs.Operations.{operationOf}
+use Rattle.machine.specs.Tasks.{Task, none}
+use Rattle.machine.specs.Registers.{holds}
+use Rattle.machine.specs.Table.{nodeCount, taskCount, hat, link, value, task, setTask}
+use Rattle.machine.specs.Calls.{
+  startRefusal,
+  beginRefusal,
+  runRefusal,
+  Changed,
+  changed,
+  startWords,
+  start,
+  begunTask,
+  begin,
+  tick,
+  tickOn,
+  RunDone,
+  stopped,
+  runOn,
+  run,
+  laneFrom,
+  lane,
+  read,
+}
+use Rattle.machine.specs.Lines.{Memory}
+use Rattle.machine.specs.Unseen.{SameAnswers}
+use Rattle.machine.specs.Demand3.{
+  Call,
+  start-call,
+  begin-call,
+  tick-call,
+  run-call,
+  read-call,
+  given,
+  after,
+}
+use Rattle.machine.proofs.Tests.{test-passed}
+use Rattle.machine.proofs.ValueLaws.{HasWord, never-has-word}
+use Rattle.machine.proofs.Updates.{update}
+use Rattle.machine.proofs.Columns.{Columns, columns}
+use Rattle.machine.proofs.TableLaws.{columns-setTask}
+use Rattle.machine.proofs.EffectLaws.{task-set-task}
+use Rattle.machine.proofs.ShapeLaws.{WellSized, well-sized}
+use Rattle.machine.proofs.ShapeKept.{
+  Accepted,
+  start-accepted,
+  begin-allowed,
+  table-passes,
+  call-accepted,
+}
+use Rattle.machine.proofs.Registers.LinesUse.{AgreeOn}
+use Rattle.machine.proofs.Registers.Agreeing.{agree-self}
+use Rattle.machine.proofs.Registers.AlikeTables.{
+  unrecorded,
+  AlikeColumns,
+  alike-self,
+  same-nodes,
+  same-count,
+  same-hat,
+  same-links,
+  same-seen,
+  same-operation,
+}
+use Rattle.machine.proofs.Registers.AlikeTicks.{tick-alike, RunsAlike, schedule-alike}
+
+module _ {ws vs : List ℕ} (A : AlikeColumns ws vs) where
+  -- ---- start.
+  abbrev ChangedAlike : (c d : Changed) → Type 0
+  ChangedAlike c d = (d .reply ≡ c .reply) × AlikeColumns (c .words) (d .words)
+
+  start-alike : (S T g : ℕ) → ChangedAlike (start ws S T g) (start vs S T g)
+  unfolding start
+  start-alike S T g =
+      subst (λ (r : Option ℕ). ChangedAlike (start ws S T g) (changed r vs (startWords S T g))) (sym same)
+      (go (startRefusal ws S T g) refl)
+    where
+      same : startRefusal vs S T g ≡ startRefusal ws S T g
+      same = rw (ap (λ (c : Columns). c .length) (A .same-words))
+
+      go : (r : Option ℕ) → startRefusal ws S T g ≡ r
+          → ChangedAlike (changed r ws (startWords S T g)) (changed r vs (startWords S T g))
+      go (some n) e = (refl, A)
+      go nothing e = (refl, alike-self (start-accepted S T g (search test-passed)))
+
+  -- ---- begin.
+
+  -- The same record written to both tables.
+  begun-alike : (k : ℕ) (t : Task) → k < taskCount ws → HasWord (t .value) → Accepted (setTask k t ws)
+      → Accepted (setTask k t vs)
+      → AlikeColumns (setTask k t ws) (setTask k t vs)
+  unfolding update
+  begun-alike k t is-task word a b =
+      record {
+        accepted = a;
+        accepted′ = b;
+        same-words =
+            ap unrecorded (columns-setTask vs (sizes′ .sized) k t is-task′)
+            ∙ A .same-words
+            ∙ sym (ap unrecorded (columns-setTask ws (sizes .sized) k t is-task));
+        same-tasks = λ j.
+            rw (
+              task-set-task ws (sizes .sized) k is-task t word,
+              task-set-task vs (sizes′ .sized) k is-task′ t word,
+            )
+            (go j (j ≟ k));
+      }
+    where
+      sizes : WellSized (columns ws)
+      sizes = well-sized ws (A .accepted .length-passes)
+
+      sizes′ : WellSized (columns vs)
+      sizes′ = well-sized vs (A .accepted′ .length-passes)
+
+      is-task′ : k < taskCount vs
+      is-task′ = rw (same-count A) is-task
+
+      go : (j : ℕ) (d : Dec (j ≡ k))
+          → AgreeOn (holds ((if d then t else task ws j) .step)) (if d then t else task ws j)
+          (if d then t else task vs j)
+      go j (yes e) = agree-self (holds (t .step)) t
+      go j (no n) = A .same-tasks j
+
+  begin-alike : (k op side argument : ℕ)
+      → ChangedAlike (begin ws k op side argument) (begin vs k op side argument)
+  unfolding begin
+  begin-alike k op side argument =
+      subst (λ (r : Option ℕ). ChangedAlike (begin ws k op side argument) (changed r vs (setTask k t vs))) (sym same)
+      (go (beginRefusal ws k op side argument) refl
+      (call-accepted ws (A .accepted) (begin-call k op side argument))
+      (subst (λ (r : Option ℕ). Accepted (changed r vs (setTask k t vs) .words)) same
+      (call-accepted vs (A .accepted′) (begin-call k op side argument))))
+    where
+      t : Task
+      t = begunTask (operationOf op) (sideOf side) argument
+
+      same : beginRefusal vs k op side argument ≡ beginRefusal ws k op side argument
+      same =
+          rw (
+            table-passes ws (A .accepted),
+            table-passes vs (A .accepted′),
+            same-count A,
+            same-operation A k,
+          )
+
+      go : (r : Option ℕ) → beginRefusal ws k op side argument ≡ r
+          → Accepted (changed r ws (setTask k t ws) .words)
+          → Accepted (changed r vs (setTask k t vs) .words)
+          → ChangedAlike (changed r ws (setTask k t ws)) (changed r vs (setTask k t vs))
+      go (some n) e a b = (refl, A)
+      go nothing e a b =
+          (refl, begun-alike k t (begin-allowed ws k op side argument e .is-task) never-has-word a b)
+
+  -- ---- run.
+  run-alike : (list answers : List ℕ) → RunsAlike (run ws list answers) (run vs list answers)
+  unfolding run
+  run-alike list answers =
+      subst (λ (r : Option ℕ). RunsAlike (run ws list answers) (whole vs r)) (sym same)
+      (go (runRefusal ws list answers))
+    where
+      whole : List ℕ → Option ℕ → RunDone
+      whole xs r = elim r as (λ _. RunDone) [ some n ↦ stopped n xs answers | nothing ↦ runOn list xs answers ]
+
+      same : runRefusal vs list answers ≡ runRefusal ws list answers
+      same = table-passes vs (A .accepted′) _ ∙ sym (table-passes ws (A .accepted) _)
+
+      go : (r : Option ℕ) → RunsAlike (whole ws r) (whole vs r)
+      go (some n) = record { same-ran = refl; same-answers = refl; words-alike = A }
+      go nothing = schedule-alike list A answers
+
+  -- ---- Reading the lane.
+  same-value : (x : ℕ) → value vs x ≡ value ws x
+  same-value x = ap (λ (m : Memory). m .val x) (same-seen A right)
+
+  lane-from-same : (n x : ℕ) → laneFrom vs n x ≡ laneFrom ws n x
+  unfolding laneFrom
+  lane-from-same zero x = refl
+  lane-from-same (suc n) x = by (x ≟ none) (lane-from-same n (link ws right x))
+    where
+      one : List ℕ → Value → Option (List ℕ)
+      one xs v =
+          elim v as (λ _. Option (List ℕ)) [
+            | never ↦ some []
+            | bag b ↦ Option·map (_∷_ b) (laneFrom xs n (link xs right x))
+            | N z ↦ some []
+            | X z ↦ some []
+            | Y z ↦ some []
+          ]
+
+      each : (v : Value) → laneFrom vs n (link vs right x) ≡ laneFrom ws n (link ws right x) → one vs v ≡ one ws v
+      each never e = refl
+      each (bag b) e = ap (Option·map (_∷_ b)) e
+      each (N z) e = refl
+      each (X z) e = refl
+      each (Y z) e = refl
+
+      by : (d : Dec (x ≡ none)) → laneFrom vs n (link ws right x) ≡ laneFrom ws n (link ws right x)
+          → (if d then nothing else one vs (value vs x)) ≡ (if d then nothing else one ws (value ws x))
+      by (yes h) e = refl
+      by (no h) e =
+          ap (one vs) (same-value x)
+          ∙ each (value ws x) (ap (λ (l : Side → ℕ → ℕ). laneFrom vs n (l right x)) (same-links A) ∙ e)
+
+  lane-same : lane vs ≡ lane ws
+  unfolding lane
+  lane-same =
+      rw (same-nodes A, same-links A, same-hat A left) (lane-from-same (nodeCount ws) (link ws right (hat ws left)))
+
+  read-same : (out : List ℕ) → read vs out ≡ read ws out
+  unfolding read
+  read-same out = rw (table-passes vs (A .accepted′) nothing, table-passes ws (A .accepted) nothing, read, lane-same)
+
+  -- ---- tick.
+  tick-passes : (xs : List ℕ) → Accepted xs → (k h : ℕ) → tick xs k h ≡ tickOn xs k h
+  unfolding tick
+  tick-passes xs a k h = rw (table-passes xs a nothing, tick)
+
+  tick-call-alike : (k h : ℕ)
+      → (tick vs k h .answer ≡ tick ws k h .answer) × AlikeColumns (tick ws k h .words) (tick vs k h .words)
+  tick-call-alike k h =
+      rw (tick-passes vs (A .accepted′) k h, tick-passes ws (A .accepted) k h) (tick-alike A k h)
+
+  -- ---- Every call has the same answer on both tables, and they differ only in registers that do not hold afterwards.
+  pub call-alike : (c : Call) → (given c vs ≡ given c ws) × AlikeColumns (after c ws) (after c vs)
+  call-alike (start-call S T g) = start-alike S T g
+  call-alike (begin-call k op side argument) = begin-alike k op side argument
+  call-alike (tick-call k h) = tick-call-alike k h
+  call-alike (run-call list answers) =
+      let R = run-alike list answers in
+      (λ i. (R .same-ran i, R .same-answers i), R .words-alike)
+  call-alike (read-call out) = (λ i. (read-same out i .reading, read-same out i .out), A)
+
+-- ---- Any list of calls.
+pub calls-alike : (cs : List Call) {ws vs : List ℕ} → AlikeColumns ws vs → SameAnswers cs ws vs
+calls-alike [] A = tt
+calls-alike (c ∷ cs) A = let one = call-alike A c in (one .0, calls-alike cs (one .1))

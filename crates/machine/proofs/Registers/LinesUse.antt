@@ -1,0 +1,328 @@
+-- What the lines use and set is what the columns of Registers.antt say: two records that agree in all but registers
+-- that the line does not use have the same effect, and go one of the line's ways.
+use mathlib.Core.Path.{_≡_, refl, sym, subst}
+use mathlib.Core.Logic.{inl, inr}
+use mathlib.Core.Bool.{Bool, cond}
+use mathlib.Core.List.{List, [], _∷_}
+use Prim.Native.Nat.{ℕ, suc}
+use Rattle.machine.specs.declared.Answer.{Answer}
+use Rattle.machine.specs.declared.Answer.the-variants.{Going}
+use Rattle.machine.specs.Choice.{_≟_, if_then_else_}
+use Rattle.machine.specs.Sides.{Side}
+use Rattle.machine.specs.Values.{Value, never, bag, N, X, Y, _≟ᵛ_}
+use Rattle.machine.specs.Operations.{Operation, idle, push, pop, add, remove}
+use Rattle.machine.specs.Steps.{
+  Step,
+  rest,
+  line2,
+  line3,
+  line5,
+  line8,
+  line15,
+  line17,
+  line18,
+  line24,
+  line25,
+  line28,
+  line31,
+  line39,
+  line40,
+  line42,
+  line48,
+  line51,
+  line54,
+  line56,
+  line58,
+  line60,
+  line62,
+  line64,
+  line67,
+  line68,
+  line69,
+  line70,
+  line72,
+  line74,
+  line77,
+  line78,
+  line79,
+  line81,
+  line82,
+}
+use Rattle.machine.specs.Tasks.{
+  Task,
+  fresh,
+  none,
+  Register,
+  inA,
+  inB,
+  inC,
+  inD,
+  withRegisters,
+  withA,
+  withB,
+  withC,
+  withD,
+  withCounted,
+  withValue,
+}
+use Rattle.machine.specs.Registers.{among, uses, Way, _setting_, to, ways, OneOf}
+use Rattle.machine.specs.Lines.{
+  Memory,
+  Write,
+  out≔,
+  inn≔,
+  val≔,
+  hat≔,
+  Effect,
+  next,
+  answers,
+  writing,
+  through,
+  dcas,
+  backOf,
+  spliced,
+  afterRead,
+  act,
+}
+use Rattle.machine.proofs.Choices.{by-if}
+
+-- ---- Records that agree.
+
+-- The record t, with the registers outside a set taken from u.
+abbrev pub mixed : (Register → Bool) → (t u : Task) → Task
+mixed p t u =
+    withRegisters t (cond (p inA) (t .A) (u .A)) (cond (p inB) (t .B) (u .B))
+    (cond (p inC) (t .C) (u .C)) (cond (p inD) (t .D) (u .D))
+
+-- u agrees with t in all but registers outside a set.
+abbrev pub AgreeOn : (Register → Bool) → (t u : Task) → Type 0
+AgreeOn p t u = u ≡ mixed p t u
+
+-- ---- The same effect.
+
+-- The records after the effects e and f of a step on the records t and u. Where the task goes on, it goes one of the
+-- step's ways: the registers set on it come out the same, the others stay as they were in t and in u.
+pub data After (st : Step) (t u : Task) (e f : Effect) : Type 0 where
+  goes-on : (w : Way)
+      → OneOf w (ways st)
+      → e .answer ≡ Going
+      → e .task .step ≡ w .next
+      → e .task ≡ mixed (among (w .sets)) (e .task) t
+      → f .task ≡ mixed (among (w .sets)) (e .task) u
+      → After st t u e f
+  has-answered : e .task ≡ fresh → f .task ≡ fresh → After st t u e f
+  turned-back : e .task ≡ t → f .task ≡ u → After st t u e f
+
+pub record SameEffect (st : Step) (t u : Task) (e f : Effect) : Type 0 where
+  pub same-writes : f .writes ≡ e .writes
+  pub same-answer : f .answer ≡ e .answer
+  pub after : After st t u e f
+
+-- ---- How a line ends.
+module _ {st : Step} {t u : Task} where
+  goes : (w : Way) {l : List Write} {t′ u′ : Task}
+      → OneOf w (ways st)
+      → t′ .step ≡ w .next
+      → t′ ≡ mixed (among (w .sets)) t′ t
+      → u′ ≡ mixed (among (w .sets)) t′ u
+      → SameEffect st t u (record { writes = l; task = t′; answer = Going })
+      (record { writes = l; task = u′; answer = Going })
+  goes w o n a b = record { same-writes = refl; same-answer = refl; after = goes-on w o refl n a b }
+
+  answered : {l : List Write} {a : Answer} → SameEffect st t u (writing l (answers a)) (writing l (answers a))
+  answered = record { same-writes = refl; same-answer = refl; after = has-answered refl refl }
+
+  -- ---- How a line branches.
+  by-either : {P : Type 0} {e e′ f f′ : Effect} (d : Dec P) → SameEffect st t u e f → SameEffect st t u e′ f′
+      → SameEffect st t u (if d then e else e′) (if d then f else f′)
+  by-either (yes p) a b = a
+  by-either (no p) a b = b
+
+  by-through : {e f : Effect} (x : ℕ) → SameEffect st t u e f → SameEffect st t u (through x t e) (through x u f)
+  by-through x a =
+      by-either (x ≟ none) (record { same-writes = refl; same-answer = refl; after = turned-back refl refl }) a
+
+  by-dcas : {P Q : Type 0} {e e′ f f′ : Effect} (d : Dec P) (c : Dec Q) → SameEffect st t u e f
+      → SameEffect st t u e′ f′
+      → SameEffect st t u (dcas d c e e′) (dcas d c f f′)
+  by-dcas (yes p) (yes q) a b = a
+  by-dcas (yes p) (no q) a b = b
+  by-dcas (no p) c a b = b
+
+by-back : (P : Step → Type 0) (op : Operation) {x : ℕ} (d : Dec (x ≡ none)) → P line2 → P line15 → P (backOf op d)
+by-back P push (yes h) a b = a
+by-back P push (no h) a b = b
+by-back P idle d a b = b
+by-back P pop d a b = b
+by-back P add d a b = b
+by-back P remove d a b = b
+
+by-read : (P : Step → Type 0) (o : Side) (v : Value) → P line51 → P line48 → P line39 → P (afterRead o v)
+by-read P o never a b c = c
+by-read P o (bag n) a b c = a
+by-read P o (N z) a b c = by-if P (N z ≟ᵛ N o) (λ _. b) (λ _. c)
+by-read P o (X z) a b c = by-if P (X z ≟ᵛ X o) (λ _. b) (λ _. c)
+by-read P o (Y z) a b c = c
+
+-- ---- The lines.
+module _ (s o : Side) (m : Memory) (t u : Task) (g x : ℕ) where
+  -- The record t, with the registers that the step does not use taken from u.
+  abbrev beside : Step → Task
+  beside st = mixed (among (uses st)) t u
+
+  -- Both records go on to the step n, changed alike and with the same writes.
+  abbrev Next : (st : Step) → (Task → Task) → List Write → Step → Type 0
+  Next st F l n = SameEffect st t (beside st) (writing l (next (F t) n)) (writing l (next (F (beside st)) n))
+
+  by-splice : (op : Operation) (l : List Write)
+      → SameEffect line25 t (beside line25) (spliced op l t) (spliced op l (beside line25))
+  by-splice push l = goes (line2 setting (inD ∷ [])) (inr (inl refl)) refl refl refl
+  by-splice add l = answered
+  by-splice idle l = answered
+  by-splice pop l = answered
+  by-splice remove l = answered
+
+  line-same : (st : Step) → SameEffect st t (beside st) (act st s o m t g x) (act st s o m (beside st) g x)
+  unfolding act
+  line-same rest = goes (to rest) (inl refl) refl refl refl
+  line-same line2 = goes (line3 setting (inA ∷ [])) (inl refl) refl refl refl
+  line-same line3 =
+      by-through (t .A)
+      (let b = m .out (t .A) in
+      by-if (Next line3 (λ y. withB y b) []) (b ≟ none)
+      (λ _. goes (line8 setting (inB ∷ [])) (inl refl) refl refl refl)
+      (λ _. goes (line5 setting (inB ∷ [])) (inr (inl refl)) refl refl refl))
+  line-same line5 =
+      by-through (t .A) (by-through (t .B)
+      (by-dcas (m .hat ≟ t .A) (m .val (t .A) ≟ᵛ N s) answered (goes (to line8) (inl refl) refl refl refl)))
+  line-same line8 =
+      by-through (t .A) (by-if (Next line8 (λ y. y) []) (m .val (t .A) ≟ᵛ X s)
+      (λ _. goes (to line28) (inl refl) refl refl refl)
+      (λ _. goes (to line67) (inr (inl refl)) refl refl refl))
+  line-same line67 = goes (line68 setting (inA ∷ [])) (inl refl) refl refl refl
+  line-same line68 =
+      by-through (t .A)
+      (by-if (Next line68 (λ y. y) []) (m .val (t .A) ≟ᵛ Y s) (λ _. goes (to line69) (inl refl) refl refl refl)
+      (λ _. by-back (Next line68 (λ y. y) []) (t .operation) (t .D ≟ none)
+      (goes (to line2) (inr (inl refl)) refl refl refl)
+      (goes (to line15) (inr (inr (inl refl))) refl refl refl)))
+  line-same line69 = by-through (t .A) (goes (line70 setting (inB ∷ [])) (inl refl) refl refl refl)
+  line-same line70 =
+      by-through (t .B)
+      (let c = m .out (t .B) in
+      by-if (Next line70 (λ y. withC y c) []) (c ≟ none)
+      (λ _. by-back (Next line70 (λ y. withC y c) []) (t .operation) (t .D ≟ none)
+      (goes (line2 setting (inC ∷ [])) (inl refl) refl refl refl)
+      (goes (line15 setting (inC ∷ [])) (inr (inl refl)) refl refl refl))
+      (λ _. goes (line72 setting (inC ∷ [])) (inr (inr (inl refl))) refl refl refl))
+  line-same line72 =
+      by-through (t .C)
+      (by-back (Next line72 (λ y. y) (if m .hat ≟ t .A then hat≔ (t .C) ∷ [] else []))
+      (t .operation) (t .D ≟ none)
+      (goes (to line2) (inl refl) refl refl refl)
+      (goes (to line15) (inr (inl refl)) refl refl refl))
+  line-same line28 =
+      by-either (x ≟ none) answered
+      (by-if (Next line28 (λ y. withCounted (withD y x) 0) (out≔ x none ∷ inn≔ x none ∷ val≔ x (X s) ∷ []))
+      (g ≟ 0)
+      (λ _. goes (line15 setting (inD ∷ [])) (inl refl) refl refl refl)
+      (λ _. goes (line31 setting (inD ∷ [])) (inr (inl refl)) refl refl refl))
+  line-same line31 =
+      by-through (t .D)
+      (by-either (x ≟ none) (goes (to line15) (inl refl) refl refl refl)
+      (by-if (Next line31 (λ y. withCounted (withD y x) (suc (t .counted)))
+      (val≔ x (N s) ∷ inn≔ x none ∷ out≔ x (t .D) ∷ inn≔ (t .D) x ∷ []))
+      (suc (t .counted) ≟ g)
+      (λ _. goes (line15 setting (inD ∷ [])) (inr (inl refl)) refl refl refl)
+      (λ _. goes (line31 setting (inD ∷ [])) (inr (inr (inl refl))) refl refl refl)))
+  line-same line15 = goes (line17 setting (inA ∷ [])) (inl refl) refl refl refl
+  line-same line17 =
+      by-through (t .A)
+      (let v = m .val (t .A) in
+      by-if (Next line17 (λ y. withValue y v) []) (v ≟ᵛ N s) (λ _. goes (to line18) (inl refl) refl refl refl)
+      (λ _. by-if (Next line17 (λ y. withValue y v) []) (v ≟ᵛ Y s)
+      (λ _. goes (to line67) (inr (inl refl)) refl refl refl)
+      (λ _. by-if (Next line17 (λ y. withValue y v) []) (v ≟ᵛ X s)
+      (λ _. goes (to line24) (inr (inr (inl refl))) refl refl refl)
+      (λ _. goes (to line15) (inr (inr (inr (inl refl)))) refl refl refl))))
+  line-same line18 =
+      by-through (t .A)
+      (let a = m .out (t .A) in
+      by-if (Next line18 (λ y. withA y a) []) (a ≟ none)
+      (λ _. goes (line15 setting (inA ∷ [])) (inl refl) refl refl refl)
+      (λ _. goes (line17 setting (inA ∷ [])) (inr (inl refl)) refl refl refl))
+  line-same line24 =
+      by-through (t .A) (by-through (t .D) (goes (line25 setting (inB ∷ [])) (inl refl) refl refl refl))
+  line-same line25 =
+      by-through (t .A)
+      (by-dcas (m .out (t .A) ≟ t .B) (m .val (t .A) ≟ᵛ X s)
+      (by-splice (t .operation) (out≔ (t .A) (t .D) ∷ val≔ (t .A) (N s) ∷ []))
+      (goes (to line15) (inl refl) refl refl refl))
+  line-same line39 = goes (line40 setting (inA ∷ [])) (inl refl) refl refl refl
+  line-same line40 =
+      by-through (t .A)
+      (let b = m .inn (t .A) in
+      by-if (Next line40 (λ y. withB y b) []) (b ≟ none)
+      (λ _. goes (line39 setting (inB ∷ [])) (inl refl) refl refl refl)
+      (λ _. goes (line42 setting (inB ∷ [])) (inr (inl refl)) refl refl refl))
+  line-same line42 =
+      by-through (t .B)
+      (let v = m .val (t .B) in
+      by-read (Next line42 (λ y. withValue y v) []) o v
+      (goes (to line51) (inl refl) refl refl refl)
+      (goes (to line48) (inr (inl refl)) refl refl refl)
+      (goes (to line39) (inr (inr (inl refl))) refl refl refl))
+  line-same line48 =
+      by-through (t .B) (by-dcas (m .hat ≟ t .A) (m .val (t .B) ≟ᵛ t .value) answered
+      (goes (to line39) (inl refl) refl refl refl))
+  line-same line51 =
+      by-through (t .B) (by-dcas (m .hat ≟ t .A) (m .val (t .B) ≟ᵛ t .value) answered
+      (goes (to line39) (inl refl) refl refl refl))
+  line-same line54 =
+      by-if (Next line54 (λ y. withA y (m .hat)) []) (g ≟ 0)
+      (λ _. goes (line60 setting (inA ∷ [])) (inl refl) refl refl refl)
+      (λ _. goes (line56 setting (inA ∷ [])) (inr (inl refl)) refl refl refl)
+  line-same line56 =
+      by-through (t .A) (by-either (m .val (t .A) ≟ᵛ X s) answered (goes (to line58) (inl refl) refl refl refl))
+  line-same line58 =
+      by-through (t .A)
+      (let a = m .out (t .A) in
+      by-either (a ≟ none) answered
+      (by-if (Next line58 (λ y. withCounted (withA y a) (suc (t .counted))) [])
+      (suc (t .counted) ≟ g)
+      (λ _. goes (line60 setting (inA ∷ [])) (inl refl) refl refl refl)
+      (λ _. goes (line56 setting (inA ∷ [])) (inr (inl refl)) refl refl refl)))
+  line-same line60 =
+      by-through (t .A) (by-either (m .out (t .A) ≟ none) answered
+      (goes (line62 setting (inB ∷ [])) (inl refl) refl refl refl))
+  line-same line62 =
+      by-through (t .A) (by-through (t .B)
+      (by-dcas (m .val (t .A) ≟ᵛ N s) (m .val (t .B) ≟ᵛ N s) (goes (to line64) (inl refl) refl refl refl) answered))
+  line-same line64 = by-through (t .A) (goes (to line74) (inl refl) refl refl refl)
+  line-same line74 =
+      by-through (t .B)
+      (let b = m .out (t .B) in
+      by-if (Next line74 (λ y. withB (withA y (t .B)) b) []) (b ≟ none)
+      (λ _. goes (line82 setting (inA ∷ inB ∷ [])) (inl refl) refl refl refl)
+      (λ _. goes (line77 setting (inA ∷ inB ∷ [])) (inr (inl refl)) refl refl refl))
+  line-same line77 = by-through (t .B) (goes (to line78) (inl refl) refl refl refl)
+  line-same line78 =
+      by-through (t .B) (by-either (m .val (t .B) ≟ᵛ t .value)
+      (goes (to line79) (inr (inl refl)) refl refl refl)
+      (goes (to line77) (inl refl) refl refl refl))
+  line-same line79 = by-through (t .A) (goes (line81 setting (inA ∷ [])) (inl refl) refl refl refl)
+  line-same line81 =
+      by-through (t .A)
+      (let b = m .out (t .A) in
+      by-if (Next line81 (λ y. withB y b) []) (b ≟ none)
+      (λ _. goes (line82 setting (inB ∷ [])) (inl refl) refl refl refl)
+      (λ _. by-if (Next line81 (λ y. withB y b) []) (t .value ≟ᵛ X s)
+      (λ _. goes (line82 setting (inB ∷ [])) (inl refl) refl refl refl)
+      (λ _. goes (line77 setting (inB ∷ [])) (inr (inl refl)) refl refl refl)))
+  line-same line82 = by-through (t .A) answered
+
+  -- Whatever stands in registers that a line does not use, its effect is the same.
+  pub lines-use : (st : Step) → AgreeOn (among (uses st)) t u
+      → SameEffect st t u (act st s o m t g x) (act st s o m u g x)
+  lines-use st e =
+      subst (λ (v : Task). SameEffect st t v (act st s o m t g x) (act st s o m v g x)) (sym e) (line-same st)
