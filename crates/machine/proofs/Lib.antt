@@ -33,3 +33,4 @@ pub mod Registers
 pub mod Linearizability
 pub mod SoloBound
 pub mod LockFree
+pub mod NoLeak

@@ -61,4 +61,5 @@ pub mod Theorem
 pub mod Histories
 pub mod Corollaries
 pub mod TableAfter
+pub mod TableBegun
 pub mod Lasting

@@ -3,6 +3,7 @@ use mathlib.Core.Path.{_≡_, refl, ap, _∙_}
 use mathlib.Core.List.{List}
 use mathlib.Core.Option.{Option, some, none as nothing}
 use Prim.Native.Nat.{ℕ, _+_, _%_, _^_}
+use Rattle.machine.specs.declared.Answer.the-variants.{Refused}
 use Rattle.machine.specs.Sides.{Side, right}
 use Rattle.machine.specs.Tasks.{wordsOf}
 use Rattle.machine.specs.Table.{nodeCount, growth, tickCount, task}
@@ -48,6 +49,12 @@ applied-refused : (s : Side) (ws : List ℕ) (k : ℕ) (e : Effect) {n : ℕ} �
     → applied s ws k e .words ≡ ws
 unfolding applied
 applied-refused s ws k e r = rw (r, applied)
+
+-- A tick that does not pass its tests changes nothing.
+pub tick-stopped : (ws : List ℕ) (k h : ℕ) {n : ℕ} → tickRefusal ws k h ≡ some n
+    → tickOn ws k h ≡ record { answer = Refused n; words = ws }
+unfolding tickOn
+tick-stopped ws k h e = rw (e, tickOn)
 
 -- A tick that passes its tests: k is a busy task, h a node.
 module _ (ws : List ℕ) (k h : ℕ) (allowed : tickRefusal ws k h ≡ nothing) where

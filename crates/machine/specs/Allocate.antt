@@ -10,7 +10,7 @@ use Rattle.machine.specs.Tasks.{Task, none, inA, inB, inC, inD}
 use Rattle.machine.specs.Registers.{heldIn}
 use Rattle.machine.specs.Table.{nodeCount, taskCount, hat, link, task}
 
--- The nodes that a task holds against reuse: those of the registers that hold at its step.
+-- The nodes that a task holds against reuse: those of the registers that hold at its step, and none for the others.
 abbrev pub heldBy : Task → List ℕ
 heldBy t = heldIn t inA ∷ heldIn t inB ∷ heldIn t inC ∷ heldIn t inD ∷ []
 

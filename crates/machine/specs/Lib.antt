@@ -18,3 +18,5 @@ pub mod Begun
 pub mod Unseen
 pub mod Solo
 pub mod LockFree
+pub mod NoLeak
+pub mod Capacity

@@ -18,7 +18,8 @@ pub data Move : Type 0 where
   ticks : (k hint : ℕ) → Move
   begins : (k operation side argument : ℕ) → Move
 
--- The moves are made one after another and no tick answers: n ticks say "going", and others may be refused.
+-- The moves are made one after another and no tick answers: n ticks say "going", other ticks are refused, and begins
+-- are accepted or refused.
 pub data AnswerFree : (n : ℕ) (moves : List Move) (ws : List ℕ) → Type 0 where
   no-more : {ws : List ℕ} → AnswerFree 0 [] ws
   going :
@@ -36,12 +37,13 @@ pub data AnswerFree : (n : ℕ) (moves : List Move) (ws : List ℕ) → Type 0 w
       → AnswerFree n moves (begin ws k op side argument .words)
       → AnswerFree n (begins k op side argument ∷ moves) ws
 
--- With S nodes and T tasks, so many ticks are too many.
+-- With S nodes and T tasks, so many ticks are too many: the first factor counts how often a tick can disturb the other
+-- tasks before some call answers, and one more; the second, the ticks that all tasks can make between two of these.
 abbrev pub tooManyTicks : (S T : ℕ) → ℕ
 tooManyTicks S T = (T * (T + 1) + 3) * (T * (6 * S + 153) + 1)
 
--- From any table that start and our calls can reach, whatever the ticks and begins: before so many ticks are made, one of
--- them ends a call.
+-- From any table that start and our calls can reach, whatever the ticks and begins: of so many ticks made, one ends a
+-- call.
 abbrev pub LockFree : Type 0
 LockFree =
     (ws : List ℕ)

@@ -1,5 +1,5 @@
--- Request 2026-06: which registers hold their nodes at which step, those that some path of steps from there uses before
--- setting them. proofs/Registers shows that the table is exactly that, and that uses and ways are those of the lines.
+-- Request 2026-06: which registers hold their nodes (01: slots) at which step: those that some path of steps from there
+-- uses before setting them.
 use mathlib.Core.Path.{_≡_}
 use mathlib.Core.Logic.{_⊎_}
 use mathlib.Core.Bool.{Bool, true, false, cond, _||_}
@@ -59,7 +59,8 @@ among (x ∷ xs) r = eqb (registerNumber x) (registerNumber r) || among xs r
 
 -- ---- 01's list, as far as registers go.
 
--- The registers that a step goes through, stores, compares or tests for none, before it sets any.
+-- The registers that a step reads or stores, compares, or tests for none, before setting them. D at 68, 70 and 72 is
+-- by "back", which tests it for none.
 abbrev pub uses : Step → List Register
 uses rest = []
 uses line2 = []
@@ -108,7 +109,8 @@ _setting_ st rs = record { next = st; sets = rs }
 abbrev pub to : Step → Way
 to st = st setting []
 
--- The ways on from a step, all branches; an answer ends the path.
+-- The ways on from a step, all branches; an answer ends the path. (rest is the step of an idle task, which no tick is
+-- made of; its line is there for the sake of the definition.)
 abbrev pub ways : Step → List Way
 ways rest = to rest ∷ []
 ways line2 = line3 setting (inA ∷ []) ∷ []
@@ -196,8 +198,8 @@ holding line82 = inA ∷ []
 abbrev pub holds : Step → Register → Bool
 holds st r = among (holding st) r
 
--- 2026-06: a register holds its slot exactly if some path of steps reads or stores it, compares it, or tests it for none,
--- before setting it.
+-- 2026-06: a register holds its slot exactly if some path of steps reads or stores it, compares it, or tests it for
+-- none, before setting it.
 abbrev pub HoldsExactly : Type 0
 HoldsExactly = (st : Step) (r : Register) → (holds st r ≡ true → Needed r st) × (Needed r st → holds st r ≡ true)
 

@@ -22,7 +22,8 @@ endsCall No = true
 endsCall (Refused n) = false
 
 -- Task k gets a tick for each hint, one after another, and nothing else is done: one of the ticks ends its call, and
--- those before it answer "going".
+-- those before it answer "going". (A run of these ticks is the ticks, and a read or a refused call in between changes
+-- nothing.)
 pub data AnswersAlone (k : ℕ) : (hints ws : List ℕ) → Type 0 where
   answers-now : {h : ℕ} {hints ws : List ℕ} → endsCall (tick ws k h .answer) ≡ true → AnswersAlone k (h ∷ hints) ws
   answers-later :
@@ -37,7 +38,8 @@ HintsBelow S [] = Unit {0}
 HintsBelow S (h ∷ hints) = (h < S) × HintsBelow S hints
 
 -- From any table that start and our calls can reach, with every other task given no tick, no start made and no new call
--- begun, a busy task answers within so many of its own ticks, by the number of nodes. The hints may be anything below S.
+-- begun, a busy task answers within so many of its own ticks, by the number of nodes. The hints may be anything below
+-- S.
 abbrev pub AnswersWithin : (bound : ℕ → ℕ) → Type 0
 AnswersWithin bound =
     (ws : List ℕ)
@@ -53,6 +55,7 @@ AnswersWithin bound =
 abbrev pub SoloBound : Type 0
 SoloBound = AnswersWithin (λ S. 8 * S + 400)
 
--- The closer bound that the proof gives.
+-- Within 4S + 154: a remove takes four ticks for each node that it cuts off, a push or an add two for each node on its
+-- way, twice; 154 covers a growth of 64 and a round with registers that were read before the others stopped.
 abbrev pub CloserSoloBound : Type 0
 CloserSoloBound = AnswersWithin (λ S. 4 * S + 154)

@@ -53,10 +53,11 @@ use Rattle.machine.specs.Begun.{
   bagsPushed,
   bagsPopped,
 }
-use Rattle.machine.proofs.Contradiction.{refute}
+use Rattle.machine.proofs.Contradiction.{clash, refute}
 use Rattle.machine.proofs.ShapeKept.{table-passes}
 use Rattle.machine.proofs.Reached.{node-not-none, reachable-node}
 use Rattle.machine.proofs.FirstFree.{allocate-first-free}
+use Rattle.machine.proofs.TickLaws.{tick-stopped}
 use Rattle.machine.proofs.Linearizability.Agreement.{Agrees}
 use Rattle.machine.proofs.Linearizability.MadeTicks.{well-linked, made-tick}
 use Rattle.machine.proofs.Linearizability.CallsAgree.{tick-explained}
@@ -158,6 +159,18 @@ no-run-refused-with-11 {ws} B list answers =
         ≢ 11
     go (some n) f = λ e. f (ap some e)
     go nothing f = ticks-not-11 list answers (begun-agrees B .1)
+
+-- A tick that is not refused has passed its tests.
+pub made-passes : {ws : List ℕ} → Begun ws → (k h : ℕ) → refusalOf (tick ws k h .answer) ≡ nothing
+    → tickRefusal ws k h ≡ nothing
+made-passes {ws} B k h made = go (tickRefusal ws k h) refl
+  where
+    go : (r : Option ℕ) → tickRefusal ws k h ≡ r → tickRefusal ws k h ≡ nothing
+    go nothing e = e
+    go (some n) e =
+        let is-stopped = tick-passes (begun-agrees B .1) k h ∙ tick-stopped ws k h e in
+        let has-number = ap (λ (r : Ticked). refusalOf (r .answer)) is-stopped in
+        clash (cc)
 
 -- Every table inside a run is one that our calls lead to, so what is said of those is said of it.
 pub begun-ticked : {ws : List ℕ} → Begun ws → (k h : ℕ) → Begun (tickOn ws k h .words)

@@ -1,5 +1,5 @@
--- Facts that last: what a start brings about, and what begins and ticks keep, is true of every table that our calls lead
--- to. A call that a request adds gets its clause here, once for all such facts.
+-- Facts that last: what a start brings about, and what begins and ticks keep, is true of every table that our calls
+-- lead to. A call that a request adds gets its clause here, once for all such facts.
 use mathlib.Core.Path.{_≡_, refl, sym, subst}
 use mathlib.Core.Logic.{_≢_}
 use mathlib.Core.Bool.{Bool, true, false}
@@ -11,13 +11,12 @@ use Rattle.machine.specs.declared.Reply.the-variants.{Accepted}
 use Rattle.machine.specs.Sides.{Side, right, opposite, sideOf}
 use Rattle.machine.specs.Operations.{Operation, idle, operationOf}
 use Rattle.machine.specs.Tasks.{Task, fresh, none, goal}
-use Rattle.machine.specs.Table.{growth, task, setTask}
+use Rattle.machine.specs.Table.{growth, task}
 use Rattle.machine.specs.Shape.{sizesOk}
 use Rattle.machine.specs.Allocate.{allocate}
 use Rattle.machine.specs.Lines.{Memory, seen, Effect, act}
 use Rattle.machine.specs.Calls.{
   startRefusal,
-  beginRefusal,
   tickRefusal,
   changed,
   startWords,
@@ -43,14 +42,11 @@ use Rattle.machine.specs.Demand3.{
 use Rattle.machine.specs.Begun.{Begun, by-start, by-call}
 use Rattle.machine.proofs.Contradiction.{clash}
 use Rattle.machine.proofs.Tests.{and-left, and-right, test-passed}
-use Rattle.machine.proofs.ValueLaws.{never-has-word}
 use Rattle.machine.proofs.Updates.{update}
 use Rattle.machine.proofs.Memories.{view, written}
 use Rattle.machine.proofs.StartLaws.{startMemory, seen-start, task-start}
-use Rattle.machine.proofs.EffectLaws.{view-seen, seen-set-task, task-set-task}
-use Rattle.machine.proofs.ShapeLaws.{well-sized, well-shaped}
-use Rattle.machine.proofs.ShapeKept.{begin-allowed}
-use Rattle.machine.proofs.TickKeeps.{idle-fresh, tick-allowed}
+use Rattle.machine.proofs.EffectLaws.{view-seen}
+use Rattle.machine.proofs.TickKeeps.{tick-allowed}
 use Rattle.machine.proofs.FirstFree.{allocate-not-kept}
 use Rattle.machine.proofs.Linearizability.Classes.{Class}
 use Rattle.machine.proofs.Linearizability.Invariant.{Invariant, Roots}
@@ -61,7 +57,7 @@ use Rattle.machine.proofs.Linearizability.MadeTicks.{
   not-idle,
 }
 use Rattle.machine.proofs.Linearizability.TableAfter.{seen-after, tasks-after}
-use Rattle.machine.proofs.Linearizability.CallsAgree.{idle-operation}
+use Rattle.machine.proofs.Linearizability.TableBegun.{by-begin}
 use Rattle.machine.proofs.Linearizability.Corollaries.{begun-agrees, tick-passes, tick-agrees, run-is-its-ticks}
 
 -- The effect of the line of task k, with goal g and the node f to take, and the memory that it leaves.
@@ -107,24 +103,10 @@ module _ {Fact : Memory → (ℕ → Task) → Type 0} (L : Lasts Fact) where
         go nothing e = start-has S T g (search test-passed)
 
     begin-keeps : (k op side argument : ℕ) → Of (begin ws k op side argument .words)
-    unfolding begin
-    begin-keeps k op side argument = go (beginRefusal ws k op side argument) refl
-      where
-        t : Task
-        t = begunTask (operationOf op) (sideOf side) argument
-
-        go : (r : Option ℕ) → beginRefusal ws k op side argument ≡ r → Of (changed r ws (setTask k t ws) .words)
-        go (some n) e = F
-        go nothing e =
-            let B = begin-allowed ws k op side argument e in
-            let Z = well-sized ws (A .accepted .length-passes) in
-            let W = well-shaped ws (A .accepted .shape-passes) in
-            let was-fresh = idle-fresh ws W k (idle-operation (task ws k .operation) (B .was-idle)) in
-            rw (
-              seen-set-task ws (Z .sized) k (B .is-task) t right,
-              task-set-task ws (Z .sized) k (B .is-task) t never-has-word,
-            )
-            (L .at-begin F k was-fresh (operationOf op) (sideOf side) argument)
+    begin-keeps k op side argument =
+        by-begin A k op side argument (λ c. Of (c .words)) (λ n. F) (λ vs T.
+        rw (T .seen-same right, T .tasks-then)
+        (L .at-begin F k (T .was-fresh) (operationOf op) (sideOf side) argument))
 
     made-keeps : (k h : ℕ) → tickRefusal ws k h ≡ nothing → Of (tickOn ws k h .words)
     unfolding effectOf

@@ -59,18 +59,17 @@ module _ {s o : Side} {m : Memory} {class : ℕ → Class} {r : List ℕ} (L : L
       rw (first-place, ← L .row-is)
       (reads-from (L .b - suc (L .a)) (suc (L .a)) (omega arith) (omega (arith, L .structure .a<b)))
 
-  -- The row and the two ends of main are different nodes of main: no more than the numbers that bound main.
+  -- The nodes of main are no more than the numbers that bound them.
+  pub main-size : (S : ℕ) → ((x : ℕ) → class x ≡ main → x < S) → suc (L .n) ≤ S
+  main-size S below =
+      let M = L .structure .main-list in
+      pigeonhole S (suc (L .n)) (L .at) (λ i h. below (L .at i) (M .is-main i (omega arith)))
+      (λ i j hi hj e. cc (M .index-at i (omega arith), M .index-at j (omega arith)))
+
+  -- The row and the two ends of main are different nodes of main.
   pub row-length : (S : ℕ) → ((x : ℕ) → class x ≡ main → x < S) → length r + 2 ≤ S
-  row-length S below = omega (arith, length-row, nodes-below, L .structure .a<b, L .structure .b≤n)
+  row-length S below = omega (arith, length-row, main-size S below, L .structure .a<b, L .structure .b≤n)
     where
-      M : Main class (L .at) (L .index) (L .n)
-      M = L .structure .main-list
-
-      nodes-below : suc (L .n) ≤ S
-      nodes-below =
-          pigeonhole S (suc (L .n)) (L .at) (λ i h. below (L .at i) (M .is-main i (omega arith)))
-          (λ i j hi hj e. cc (M .index-at i (omega arith), M .index-at j (omega arith)))
-
       length-row : length r ≡ L .b - suc (L .a)
       length-row = ap length (sym (L .row-is)) ∙ segment-length (L .bags) (suc (L .a)) (L .b - suc (L .a))
 

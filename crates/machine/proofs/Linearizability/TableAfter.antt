@@ -14,6 +14,7 @@ use Rattle.machine.specs.Row.{Row, Note}
 use Rattle.machine.proofs.Updates.{update, update-same, update-other}
 use Rattle.machine.proofs.Memories.{view, view-view, written}
 use Rattle.machine.proofs.Columns.{columns}
+use Rattle.machine.proofs.EffectLaws.{view-seen}
 use Rattle.machine.proofs.ShapeLaws.{WellSized, WellShaped, well-sized, well-shaped}
 use Rattle.machine.proofs.TickKeeps.{tick-allowed, tick-kept}
 use Rattle.machine.proofs.TickLaws.{tick-seen, tick-task}
@@ -40,6 +41,16 @@ module _ {ws : List ℕ} {ρ : Row} (A : Agrees ws ρ) (k h : ℕ) (passes : tic
 
   pub seen-after : seen right after ≡ tickLeaves
   seen-after = tick-seen ws k h passes sizes shape (effect-made A k h passes)
+
+  -- As the task saw it, so its side sees it now.
+  pub own-seen : seen (task ws k .side) after
+      ≡ written (effectOf ws k h .writes) (seen (task ws k .side) ws)
+  own-seen =
+      let s = task ws k .side in
+      sym (view-seen s after)
+      ∙ ap (view s) seen-after
+      ∙ view-view s lineLeaves
+      ∙ ap (written (effectOf ws k h .writes)) (view-seen s ws)
 
   pub tasks-after : task after ≡ update (task ws) k (effectOf ws k h .task)
   tasks-after = tick-task ws k h passes sizes shape (effect-made A k h passes)

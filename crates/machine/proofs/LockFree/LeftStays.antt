@@ -157,9 +157,15 @@ module _ {held : ℕ → Bool} {s o : Side} {m m' : Memory} {class class' : ℕ 
     B-held : (t .B ≢ none → held (t .B) ≡ true) → Old class (t .B) → held (t .B) ≡ true
     B-held u h = u (old-some Z (t .B) h)
 
-    B-walk : {extra i c : ℕ} → (t .B ≢ none → held (t .B) ≡ true) → class (t .B) ≡ spur s → Walking extra (m .out) (t .B) c i
+    B-walk : {extra i c : ℕ} → (t .B ≢ none → held (t .B) ≡ true) → class (t .B) ≡ spur s
+        → Walking extra (m .out) (t .B) c i
         → Walking extra (m' .out) (t .B) c i
     B-walk u q w = walk-stays (B-held u (cc)) (cc) (omega arith) w
+
+    A-walk : {extra i c : ℕ} → (t .A ≢ none → held (t .A) ≡ true) → Old class (t .A)
+        → Walking extra (m .out) (t .A) c i
+        → Walking extra (m' .out) (t .A) c i
+    A-walk u h w = walk-stays (A-held u h) h (omega arith) w
 
     soon-stays : {P Q : Type 0} {x y i : ℕ} → (P → Q) → SoonOrLate P x y i → SoonOrLate Q x y i
     soon-stays f (soon p h) = soon (f p) h
@@ -205,7 +211,7 @@ module _ {held : ℕ → Bool} {s o : Side} {m m' : Memory} {class class' : ℕ 
                 | inr f ↦ p .1 (f .is-Y)
               ],
         )) b
-    left-stays x i S g k two Steps.line28 R h b = soon-stays off-Y b
+    left-stays x i S g k two Steps.line28 R h b = soon-stays (λ v. cc (hat-value-same)) b
     left-stays x i S g k two Steps.line31 R h b =
         record { below = b .below; when = soon-stays off-Y (b .when) }
     left-stays x i S g k two Steps.line15 R h b = soon-stays off-Y b
@@ -240,16 +246,17 @@ module _ {held : ℕ → Bool} {s o : Side} {m m' : Memory} {class class' : ℕ 
         let off : m .val (t .B) ≢ Y o = λ y. refute (cc) in
         (cc (C .same-hat), cc (found-same (h .relies .pair) e off))) b
     left-stays x i S g k two Steps.line54 R h b = b
-    left-stays x i S g k two Steps.line56 R h b = walk-stays (A-held (R inA refl) (h .relies)) (h .relies) (omega arith) b
-    left-stays x i S g k two Steps.line58 R h b = walk-stays (A-held (R inA refl) (h .relies)) (h .relies) (omega arith) b
-    left-stays x i S g k two Steps.line60 R h b = walk-stays (A-held (R inA refl) (h .relies)) (h .relies) (omega arith) b
+    left-stays x i S g k two Steps.line56 R h b = A-walk (R inA refl) (h .relies) b
+    left-stays x i S g k two Steps.line58 R h b = A-walk (R inA refl) (h .relies) b
+    left-stays x i S g k two Steps.line60 R h b = A-walk (R inA refl) (h .relies) b
     left-stays x i S g k two Steps.line62 R h b =
         walk-stays (B-held (R inB refl) (h .relies .B-old)) (h .relies .B-old) (omega arith) b
     left-stays x i S g k two Steps.line64 R h b = B-walk (R inB refl) (h .relies .B-spur) b
     left-stays x i S g k two Steps.line74 R h b = B-walk (R inB refl) (h .relies) b
-    left-stays x i S g k two Steps.line77 R h b = reading-stays (B-held (R inB refl) (cc (h .relies .B-spur))) (h .relies .B-spur) b
+    left-stays x i S g k two Steps.line77 R h b =
+        reading-stays (B-held (R inB refl) (cc (h .relies .B-spur))) (h .relies .B-spur) b
     left-stays x i S g k two Steps.line78 R h b =
         marking-stays (B-held (R inB refl) (cc (h .relies .B-spur))) (h .relies .B-spur) two b
     left-stays x i S g k two Steps.line79 R h b = B-walk (R inB refl) (h .relies .B-spur) b
-    left-stays x i S g k two Steps.line81 R h b = let c = h .relies in walk-stays (A-held (R inA refl) (cc)) (cc) (omega arith) b
+    left-stays x i S g k two Steps.line81 R h b = let c = h .relies in A-walk (R inA refl) (cc) b
     left-stays x i S g k two Steps.line82 R h b = b

@@ -21,6 +21,7 @@ use Rattle.machine.proofs.Memories.{view, written}
 use Rattle.machine.proofs.Reached.{keeps}
 use Rattle.machine.proofs.TickKeeps.{tick-allowed}
 use Rattle.machine.proofs.Linearizability.Invariant.{noteOf, Kept, goes-on, has-answered}
+use Rattle.machine.proofs.Linearizability.Agreement.{Agrees}
 use Rattle.machine.proofs.Linearizability.Corollaries.{begun-agrees, begun-ticked}
 use Rattle.machine.proofs.Linearizability.MadeTicks.{keeps-invariant}
 use Rattle.machine.proofs.Linearizability.TableAfter.{
@@ -143,6 +144,9 @@ module _ {ws : List ℕ} (begun : Begun ws) (k h : ℕ) (passes : tickRefusal ws
   abbrev M' : Memory
   M' = view (task ws k .side) m'
 
+  agrees : Agrees ws (begun-agrees begun .0)
+  agrees = begun-agrees begun .1
+
   is-task : k < T
   is-task = tick-allowed ws k h passes .0
 
@@ -165,8 +169,8 @@ module _ {ws : List ℕ} (begun : Begun ws) (k h : ℕ) (passes : tickRefusal ws
             F (nodeCount after) (taskCount after) (growth after) (seen right after) (task after i) (f i))
             (sym q) own
         | inr ne ↦
-            let same-task = other-after (begun-agrees begun .1) k h passes j ne in
-            in-after (begun-agrees begun .1) k h passes (λ S T gr m t. F S T gr m t (f j)) j same-task
+            let same-task = other-after agrees k h passes j ne in
+            in-after agrees k h passes (λ S T gr m t. F S T gr m t (f j)) j same-task
             (others j ne (sym (ap (λ (t : Task). isBusy (t .operation)) same-task) ∙ busy))
       ]
 
@@ -178,13 +182,13 @@ module _ {ws : List ℕ} (begun : Begun ws) (k h : ℕ) (passes : tickRefusal ws
       → DisturbsIn (taskCount after) (seen right after) (task after j) (f j)
   disturb-after f others own =
       each-after (λ S T gr m t n. DisturbsIn T m t n) f others
-      (in-after (begun-agrees begun .1) k h passes (λ S T gr m t. DisturbsIn T m t (f k)) k (own-after (begun-agrees begun .1) k h passes)
-      (own-side (begun-agrees begun .1) k h passes (λ z m. Disturbs (e .task .step) T z m (e .task) (f k)) same own))
+      (in-after agrees k h passes (λ S T gr m t. DisturbsIn T m t (f k)) k (own-after agrees k h passes)
+      (own-side agrees k h passes (λ z m. Disturbs (e .task .step) T z m (e .task) (f k)) same own))
 
   hats-after : (f : Side → ℕ) → ((z : Side) → HatDisturbs z (view z M') (f z)) → (z : Side)
       → HatDisturbs z (view z (seen right after)) (f z)
   hats-after f b z =
-      in-after (begun-agrees begun .1) k h passes (λ S T gr m t. HatDisturbs z (view z m) (f z)) k (own-after (begun-agrees begun .1) k h passes) (b z)
+      in-after agrees k h passes (λ S T gr m t. HatDisturbs z (view z m) (f z)) k (own-after agrees k h passes) (b z)
 
   -- The tasks that are idle were idle, and are others.
   idle-after : (f g : ℕ → ℕ) (c : ℕ)
@@ -193,22 +197,22 @@ module _ {ws : List ℕ} (begun : Begun ws) (k h : ℕ) (passes : tickRefusal ws
       → isBusy (task after j .operation) ≡ false
       → (suc (taskCount after) ≤ f j) × (g j ≡ c)
   idle-after f g c others j idle-now =
-      let same-count = task-count-after (begun-agrees begun .1) k h passes in
+      let same-count = task-count-after agrees k h passes in
       elim (equal? j k) [
         | inl q ↦
-            let busy = own-busy (begun-agrees begun .1) k h passes same in
+            let busy = own-busy agrees k h passes same in
             let e : isBusy (task after k .operation) ≡ false =
             subst (λ (i : ℕ). isBusy (task after i .operation) ≡ false) q idle-now in
             clash (cc)
         | inr ne ↦
             let b = others j ne
-            (sym (ap (λ (t : Task). isBusy (t .operation)) (other-after (begun-agrees begun .1) k h passes j ne)) ∙ idle-now) in
+            (sym (ap (λ (t : Task). isBusy (t .operation)) (other-after agrees k h passes j ne)) ∙ idle-now) in
             (omega (arith, b .0), b .1)
       ]
 
   -- The sums are over the same tasks.
   over-after : (F : ℕ → Type 0) → F T → F (taskCount after)
-  over-after F b = subst F (sym (task-count-after (begun-agrees begun .1) k h passes)) b
+  over-after F b = subst F (sym (task-count-after agrees k h passes)) b
 
   -- ---- Disturbances: the ticks are counted anew.
   afresh : {D' : ℕ} → suc D' ≤ D → (f : ℕ → ℕ) (hats : Side → ℕ)
@@ -332,7 +336,7 @@ module _ {ws : List ℕ} (begun : Begun ws) (k h : ℕ) (passes : tickRefusal ws
             idle-after (Φ .d) p' (most 2 (nodeCount after))
             (λ j ne i.
             let b = Φ .idle-yet j i in
-            let same-nodes = nodes-after (begun-agrees begun .1) k h passes in
+            let same-nodes = nodes-after agrees k h passes in
             (b .0, update-other (Φ .p) k v j ne ∙ b .1 ∙ ap (most 2) (sym same-nodes)));
         few-disturbances =
             over-after (λ (n : ℕ). sum n (Φ .d) + (Φ .hats left + Φ .hats right) ≤ D) (Φ .few-disturbances);

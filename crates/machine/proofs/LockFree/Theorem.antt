@@ -13,7 +13,7 @@ use Rattle.machine.specs.Begun.{Begun, by-call}
 use Rattle.machine.specs.LockFree.{Move, AnswerFree, no-more, going, refused, begun, LockFree}
 use Rattle.machine.proofs.Contradiction.{clash}
 use Rattle.machine.proofs.ShapeLaws.{well-sized}
-use Rattle.machine.proofs.TickLaws.{tick-answer}
+use Rattle.machine.proofs.TickLaws.{tick-stopped, tick-answer}
 use Rattle.machine.proofs.Linearizability.Corollaries.{begun-agrees, tick-passes}
 use Rattle.machine.proofs.Linearizability.MadeTicks.{effect-made}
 use Rattle.machine.proofs.Linearizability.TableAfter.{nodes-after, task-count-after}
@@ -71,21 +71,13 @@ module _ {ws : List ℕ} (X : Begun ws) (k h : ℕ) where
   is-tick = tick-passes (begun-agrees X .1) k h
 
   -- A tick that says "going" was made.
-  refused-before : {r : ℕ} → tickRefusal ws k h ≡ some r → tickOn ws k h .answer ≡ Refused r
-  unfolding tickOn
-  refused-before e = rw (e, tickOn) refl
-
-  unchanged-before : {r : ℕ} → tickRefusal ws k h ≡ some r → tickOn ws k h .words ≡ ws
-  unfolding tickOn
-  unchanged-before e = rw (e, tickOn) refl
-
   made-goes : {D P n : ℕ} → Potential ws D P → tickOn ws k h .answer ≡ Going
       → ((D' P' : ℕ) → Potential after D' P' → n ≤ allows (nodeCount after) (taskCount after) D' P')
       → suc n ≤ allows (nodeCount ws) (taskCount ws) D P
   made-goes {D} {P} {n} Φ goes others = go (tickRefusal ws k h) refl
     where
       go : (r : Option ℕ) → tickRefusal ws k h ≡ r → suc n ≤ allows (nodeCount ws) (taskCount ws) D P
-      go (some r) e = clash (cc (refused-before e))
+      go (some r) e = clash (cc (ap (λ (x : Ticked). x .answer) (tick-stopped ws k h e)))
       go nothing p = fewer p (potential-falls X k h p Φ (sym (tick-answer ws k h p) ∙ goes)) others
 
   -- A tick that is refused was refused before its line, so the table is as it was.
@@ -93,7 +85,7 @@ module _ {ws : List ℕ} (X : Begun ws) (k h : ℕ) where
   none-made {r} is-no = go (tickRefusal ws k h) refl
     where
       go : (x : Option ℕ) → tickRefusal ws k h ≡ x → tickOn ws k h .words ≡ ws
-      go (some x) e = unchanged-before e
+      go (some x) e = ap (λ (y : Ticked). y .words) (tick-stopped ws k h e)
       go nothing p =
           let made = effect-made (begun-agrees X .1) k h p in
           let q : effectOf ws k h .answer ≡ Refused r = sym (tick-answer ws k h p) ∙ is-no in
@@ -118,11 +110,11 @@ allowed n moves ws D P X Φ (refused {n = i} {k = k} {h = h} {moves = l} e rest)
     (λ Φ'. allowed i l (tick ws k h .words) D P (by-call X (tick-call k h)) Φ' rest) Φ
 allowed n moves ws D P X Φ (begun {n = i} {k = k} {op = op} {side = side} {argument = argument} {moves = l} rest) =
     let c = begin-call k op side argument in
-    let same-nodes = begin-nodes X Φ k op side argument in
-    let same-tasks = begin-tasks X Φ k op side argument in
+    let same-nodes = begin-nodes X k op side argument in
+    let same-tasks = begin-tasks X k op side argument in
     subst (λ (S : ℕ). i ≤ allows S (taskCount ws) D P) same-nodes
     (subst (λ (T : ℕ). i ≤ allows (nodeCount (begin ws k op side argument .words)) T D P) same-tasks
-    (allowed i l (begin ws k op side argument .words) D P (by-call X c) (begin-keeps X Φ k op side argument) rest))
+    (allowed i l (begin ws k op side argument .words) D P (by-call X c) (begin-keeps X k op side argument Φ) rest))
 
 walk-calm : (S : ℕ) → walkTicks 2 S ≡ 6 * S
 walk-calm zero = refl

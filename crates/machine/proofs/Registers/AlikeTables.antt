@@ -66,7 +66,8 @@ unrecorded-put-one s (inn≔ x y) c = refl
 unrecorded-put-one s (val≔ x v) c = refl
 unrecorded-put-one s (hat≔ x) c = refl
 
-pub unrecorded-put-all : (s : Side) (l : List Write) (c : Columns) → unrecorded (putAll s l c) ≡ putAll s l (unrecorded c)
+pub unrecorded-put-all : (s : Side) (l : List Write) (c : Columns)
+    → unrecorded (putAll s l c) ≡ putAll s l (unrecorded c)
 unrecorded-put-all s [] c = refl
 unrecorded-put-all s (w ∷ l) c =
     unrecorded-put-all s l (putOne s w c) ∙ ap (putAll s l) (unrecorded-put-one s w c)

@@ -6,7 +6,6 @@ use mathlib.Core.Option.{Option, some, none as nothing}
 use Prim.Native.Nat.{ℕ, suc, _+_, _%_, _^_}
 use lib.ListN.{drop}
 use Rattle.machine.specs.declared.Answer.{Answer}
-use Rattle.machine.specs.declared.Answer.the-variants.{Refused}
 use Rattle.machine.specs.declared.Ran.{Ran}
 use Rattle.machine.specs.Choice.{_≟_, if_then_else_}
 use Rattle.machine.specs.Sides.{Side, opposite}
@@ -37,7 +36,7 @@ use Rattle.machine.proofs.ShapeLaws.{
   shape-ok,
 }
 use Rattle.machine.proofs.TickKeeps.{tick-kept}
-use Rattle.machine.proofs.TickLaws.{tick-answer, tick-refused, tick-columns, tick-task}
+use Rattle.machine.proofs.TickLaws.{tick-stopped, tick-answer, tick-refused, tick-columns, tick-task}
 use Rattle.machine.proofs.ShapeKept.{Accepted}
 use Rattle.machine.proofs.Registers.Agreeing.{plain, agree-plain, agree-uses, agree-after}
 use Rattle.machine.proofs.Registers.AlikeTables.{
@@ -169,19 +168,14 @@ module _ {ws vs : List ℕ} (A : AlikeColumns ws vs) (k h : ℕ) where
         rw (tick-refused ws k h allowed e, tick-refused vs k h allowed′ (ap refusalOf answers-same ∙ e)) A
     passed-alike nothing e = made-alike e
 
-  -- A tick that does not pass its tests changes nothing.
-  stopped-tick : (xs : List ℕ) {n : ℕ} → tickRefusal xs k h ≡ some n
-      → tickOn xs k h ≡ record { answer = Refused n; words = xs }
-  unfolding tickOn
-  stopped-tick xs e = rw (e, tickOn)
-
   -- On both tables a tick has the same answer, and they differ only in registers that do not hold afterwards.
-  pub tick-alike : (tickOn vs k h .answer ≡ tickOn ws k h .answer) × AlikeColumns (tickOn ws k h .words) (tickOn vs k h .words)
+  pub tick-alike :
+      (tickOn vs k h .answer ≡ tickOn ws k h .answer) × AlikeColumns (tickOn ws k h .words) (tickOn vs k h .words)
   tick-alike = go (tickRefusal ws k h) refl
     where
       go : (r : Option ℕ) → tickRefusal ws k h ≡ r
           → (tickOn vs k h .answer ≡ tickOn ws k h .answer) × AlikeColumns (tickOn ws k h .words) (tickOn vs k h .words)
-      go (some n) e = rw (stopped-tick ws e, stopped-tick vs (refusal-same ∙ e)) (refl, A)
+      go (some n) e = rw (tick-stopped ws k h e, tick-stopped vs k h (refusal-same ∙ e)) (refl, A)
       go nothing e = (
         tick-answer vs k h (refusal-same ∙ e) ∙ answers-same ∙ sym (tick-answer ws k h e),
         passed-alike e (refusalOf (effectOf ws k h .answer)) refl,

@@ -89,8 +89,8 @@ module _ (extra S g : ℕ) (few : g ≤ 64) {s o : Side} {m : Memory} {class : �
 
   pub line28-spends : LineOk line28
   unfolding act
-  line28-spends (soon ne h) =
-      let off = still-off-Y f (X s) (λ q. refute (cc)) ne in
+  line28-spends (soon v h) =
+      let off = still-off-Y f (X s) (λ q. refute (cc)) (λ y. refute (cc)) in
       ok-if Ok (λ e. e) (f ≟ none) (λ _. answered (no-node-answers (t .operation))) (λ _.
       ok-if Ok
       (λ st. writing (out≔ f none ∷ inn≔ f none ∷ val≔ f (X s) ∷ []) (next (withCounted (withD t f) 0) st)) (g ≟ 0)

@@ -1,7 +1,7 @@
--- Within how many of its own ticks a task answers while the other tasks do not disturb it: for each step the numbers n for
--- which it is so, by what the task's registers say of the table. S is the table's size, g the task's goal. A remove takes
--- four ticks for each link of its walk, and some extra where other tasks tick too: none where it is alone, two where a
--- node may be marked by another remove between its own lines 77 and 78, once, since a Y stays.
+-- Within how many of its own ticks a task answers while the other tasks do not disturb it: for each step the numbers n
+-- for which it is so, by what the task's registers say of the table. S is the table's size, g the task's goal. A
+-- remove takes four ticks for each link of its walk, and some extra where other tasks tick too: none where it is
+-- alone, two where a node may be marked by another remove between its own lines 77 and 78, once, since a Y stays.
 use mathlib.Core.Path.{_≡_}
 use mathlib.Core.Logic.{_≢_}
 use Prim.Native.Nat.{ℕ, zero, suc, _+_, _*_, _-_, _≤_, _<_}
@@ -115,7 +115,7 @@ Left extra Steps.line70 S g s m t n =
 Left extra Steps.line72 S g s m t n =
     SoonOrLate ((m .hat ≡ t .A) × (m .val (t .C) ≢ Y s)) (2 * S + 78) (2 * S + 87) n
 -- Add.
-Left extra Steps.line28 S g s m t n = SoonOrLate (m .val (m .hat) ≢ Y s) (2 * S + 73) (2 * S + 150) n
+Left extra Steps.line28 S g s m t n = SoonOrLate (m .val (m .hat) ≡ X s) (2 * S + 73) (2 * S + 150) n
 Left extra Steps.line31 S g s m t n = Growing S g s m (t .counted) n
 Left extra Steps.line15 S g s m t n = SoonOrLate (m .val (m .hat) ≢ Y s) (2 * S + 7) (2 * S + 84) n
 Left extra Steps.line17 S g s m t n = Seeking S s m (t .A) n

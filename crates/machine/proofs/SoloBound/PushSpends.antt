@@ -151,7 +151,7 @@ module _ (extra S g : ℕ) {s o : Side} {m : Memory} {class : ℕ → Class} {r 
   line8-spends (choose-X e v h) =
       passing t (t .A) (λ _.
       ok-if Ok (λ st. next t st) (m .val (t .A) ≟ᵛ X s)
-      (λ _. goes (goto t line28) (omega arith) (soon (λ y. refute (cc)) (omega arith)))
+      (λ _. goes (goto t line28) (omega arith) (soon (cc) (omega arith)))
       (λ q. absurd (q v)))
   line8-spends (choose-Y v h) =
       passing t (t .A) (λ _.

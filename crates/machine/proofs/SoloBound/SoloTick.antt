@@ -31,7 +31,7 @@ use Rattle.machine.proofs.Linearizability.Invariant.{Lane, noteOf, Kept
 use Rattle.machine.proofs.Linearizability.LaneViews.{lane-view}
 use Rattle.machine.proofs.Linearizability.RowViews.{rowFrom}
 use Rattle.machine.proofs.Linearizability.Pigeonhole.{pigeonhole}
-use Rattle.machine.proofs.Linearizability.Reading.{main-is-node}
+use Rattle.machine.proofs.Linearizability.Reading.{main-size, main-is-node}
 use Rattle.machine.proofs.Linearizability.Agreement.{Agrees}
 use Rattle.machine.proofs.Linearizability.Corollaries.{begun-agrees}
 use Rattle.machine.proofs.Linearizability.MadeTicks.{well-linked, keeps-invariant}
@@ -69,14 +69,8 @@ module _ (extra : ℕ) {ws : List ℕ} (begun : Begun ws) (k : ℕ) where
   lane = lane-view s (A .invariant .lane)
 
   -- Main has at most S nodes.
-  main-size : lane .n ≤ nodeCount ws
-  main-size =
-      let M = lane .structure .main-list in
-      let nodes-below : suc (lane .n) ≤ nodeCount ws =
-      pigeonhole (nodeCount ws) (suc (lane .n)) (lane .at)
-      (λ i h. main-is-node ws (A .invariant .lane) (lane .at i) (M .is-main i (omega arith)))
-      (λ i j hi hj e. cc (M .index-at i (omega arith), M .index-at j (omega arith))) in
-      omega arith
+  few-in-main : lane .n ≤ nodeCount ws
+  few-in-main = omega (arith, main-size lane (nodeCount ws) (main-is-node ws (A .invariant .lane)))
 
   -- Walks have at most S links.
   links-below : (z : Side) → LinksBelow (nodeCount ws) (link ws z)
@@ -115,8 +109,8 @@ module _ (extra : ℕ) {ws : List ℕ} (begun : Begun ws) (k : ℕ) where
     left-in-first little =
         record {
           left =
-              left-at-first k extra (nodeCount ws) (goal (growth ws) (task ws k)) little m short (task ws k) not-idle few
-              (task ws k .step) (A .invariant .task-ok k) counted-below;
+              left-at-first k extra (nodeCount ws) (goal (growth ws) (task ws k)) little m short (task ws k) not-idle
+              few (task ws k .step) (A .invariant .task-ok k) counted-below;
         }
 
   -- ---- A tick.
@@ -136,7 +130,7 @@ module _ (extra : ℕ) {ws : List ℕ} (begun : Begun ws) (k : ℕ) where
         (λ (y : Memory).
         Spends extra (nodeCount ws) g s m n (act (task ws k .step) s (opposite s) y (task ws k) g (allocate ws h)))
         (view-seen s ws)
-        (line-spends k extra (nodeCount ws) g lane main-size short (task ws k) (allocate ws h) n (few busy)
+        (line-spends k extra (nodeCount ws) g lane few-in-main short (task ws k) (allocate ws h) n (few busy)
         (task ws k .step) (A .invariant .task-ok k) (B .left))
 
     -- What is left after a tick that goes on.

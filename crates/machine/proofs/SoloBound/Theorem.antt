@@ -1,5 +1,5 @@
--- Request 2026-08: in every table that our calls lead to, a busy task that alone is ticked answers within 4S + 154 ticks,
--- and so within 8S + 400.
+-- Request 2026-08: in every table that our calls lead to, a busy task that alone is ticked answers within 4S + 154
+-- ticks, and so within 8S + 400.
 use mathlib.Core.Path.{_≡_, refl, sym, subst}
 use mathlib.Core.Bool.{true}
 use mathlib.Core.List.{List, [], _∷_}

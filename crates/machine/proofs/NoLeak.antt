@@ -1,0 +1,23 @@
+-- No node leaks: outward links of X and Y nodes have a remove that will cut them, so an idle table has none.
+
+-- Whose links a remove will cut, and that every tick keeps it so.
+pub mod Removers
+pub mod KeepsRemovers
+pub mod LineEnds
+pub mod QuietLines
+pub mod WritingLines
+pub mod RemoveLines
+pub mod LinesKeepRemovers
+pub mod RemoversTick
+-- Tables of words: every call keeps it.
+pub mod BegunRemovers
+-- A table with no task in a call, and the theorem.
+pub mod IdleTables
+pub mod Counting
+pub mod Theorem
+-- Pushes alone: when they are "full", and what fits.
+pub mod PushEffects
+pub mod PushesAlone
+pub mod WhenFull
+pub mod Capacity
+pub mod FillsUp

@@ -1,0 +1,312 @@
+-- What a tick of a push does until it takes a node, when it answers "full", and that the other end of the list stays.
+use mathlib.Core.Path.{_≡_, refl, _∙_}
+use mathlib.Core.Logic.{_≢_, _⊎_, inl, inr}
+use mathlib.Core.Bool.{Bool, true, false}
+use mathlib.Core.List.{List, [], _∷_}
+use Prim.Native.Nat.{ℕ}
+use Rattle.machine.specs.declared.Answer.the-variants.{Going, Full}
+use Rattle.machine.specs.Choice.{_≟_}
+use Rattle.machine.specs.Sides.{Side}
+use Rattle.machine.specs.Values.{bag, N, X, Y, _≟ᵛ_}
+use Rattle.machine.specs.Operations.{Operation, idle, push, pop, add, remove}
+use Rattle.machine.specs.Steps.{Step, rest}
+use Rattle.machine.specs.Steps as Steps
+use Rattle.machine.specs.Tasks.{Task, none, withB, withC}
+use Rattle.machine.specs.Lines.{
+  Memory,
+  Write,
+  out≔,
+  val≔,
+  Effect,
+  next,
+  writing,
+  refused,
+  backOf,
+  back,
+  spliced,
+  act,
+}
+use Rattle.machine.proofs.Contradiction.{clash, refute}
+use Rattle.machine.proofs.Updates.{update-other}
+use Rattle.machine.proofs.Memories.{written}
+use Rattle.machine.proofs.Linearizability.Sides.{Opposite}
+use Rattle.machine.proofs.Linearizability.Classes.{Class}
+use Rattle.machine.proofs.Linearizability.Phases.{TaskOk}
+use Rattle.machine.proofs.Linearizability.Connectives.{ok-if, ok-through, ok-dcas}
+
+-- The steps of a push up to the one at which it takes a node.
+abbrev pub isEarly : Step → Bool
+isEarly Steps.line2 = true
+isEarly Steps.line3 = true
+isEarly Steps.line5 = true
+isEarly Steps.line8 = true
+isEarly Steps.line67 = true
+isEarly Steps.line68 = true
+isEarly Steps.line69 = true
+isEarly Steps.line70 = true
+isEarly Steps.line72 = true
+isEarly Steps.line28 = true
+isEarly rest = false
+isEarly Steps.line15 = false
+isEarly Steps.line17 = false
+isEarly Steps.line18 = false
+isEarly Steps.line24 = false
+isEarly Steps.line25 = false
+isEarly Steps.line31 = false
+isEarly Steps.line39 = false
+isEarly Steps.line40 = false
+isEarly Steps.line42 = false
+isEarly Steps.line48 = false
+isEarly Steps.line51 = false
+isEarly Steps.line54 = false
+isEarly Steps.line56 = false
+isEarly Steps.line58 = false
+isEarly Steps.line60 = false
+isEarly Steps.line62 = false
+isEarly Steps.line64 = false
+isEarly Steps.line74 = false
+isEarly Steps.line77 = false
+isEarly Steps.line78 = false
+isEarly Steps.line79 = false
+isEarly Steps.line81 = false
+isEarly Steps.line82 = false
+
+abbrev pub Early : Step → Type 0
+Early st = isEarly st ≡ true
+
+-- Links and values are as they were.
+pub record SameNodes (m m' : Memory) : Type 0 where
+  pub same-out : m' .out ≡ m .out
+  pub same-inn : m' .inn ≡ m .inn
+  pub same-val : m' .val ≡ m .val
+
+-- The push has taken no node yet.
+pub record StillEarly (m : Memory) (e : Effect) : Type 0 where
+  pub early : Early (e .task .step)
+  pub no-chain : e .task .D ≡ none
+  pub same : SameNodes m (written (e .writes) m)
+
+-- A tick with effect e of a push at the step st, on the side whose opposite is o; f is the node found.
+pub record PushTick (o : Side) (m : Memory) (t : Task) (f : ℕ) (st : Step) (e : Effect) : Type 0 where
+  pub far-same : written (e .writes) m .far ≡ m .far
+  pub far-end : m .val (m .far) ≡ X o → written (e .writes) m .val (m .far) ≡ X o
+  pub full-at : e .answer ≡ Full → (st ≡ Steps.line28) × (e .writes ≡ []) × (f ≡ none)
+  pub early-on : Early st → t .D ≡ none → e .answer ≡ Going → (st ≡ Steps.line28) ⊎ StillEarly m e
+
+back-early : (op : Operation) → op ≡ push → {x : ℕ} (d : Dec (x ≡ none)) → x ≡ none → Early (backOf op d)
+back-early push p (yes h) e = refl
+back-early push p (no h) e = absurd (h e)
+back-early idle p d e = clash (cc)
+back-early pop p d e = clash (cc)
+back-early add p d e = clash (cc)
+back-early remove p d e = clash (cc)
+
+module _ (k : ℕ) (s o : Side) (w : Opposite s o) (m : Memory) (class : ℕ → Class) (t : Task)
+    (is-push : t .operation ≡ push) (g f : ℕ) (far-apart : f ≢ none → m .far ≢ f) where
+  abbrev Ok : Step → Effect → Type 0
+  Ok st e = PushTick o m t f st e
+
+  abbrev LineOk : Step → Type 0
+  LineOk st = Ok st (act st s o m t g f)
+
+  -- ---- How a line ends.
+  turned-back : {st : Step} → Ok st (refused t)
+  turned-back =
+      record { far-same = refl; far-end = λ v. v; full-at = λ q. clash (cc); early-on = λ _ _ q. clash (cc) }
+
+  -- Before the take: on to such a step, without a chain.
+  on : {st : Step} {t' : Task} → (t .D ≡ none → Early (t' .step)) → (t .D ≡ none → t' .D ≡ none)
+      → Ok st (record { writes = []; task = t'; answer = Going })
+  on early no-chain =
+      record {
+        far-same = refl;
+        far-end = λ v. v;
+        full-at = λ q. clash (cc);
+        early-on =
+            λ _ d _.
+            inr (record {
+              early = early d;
+              no-chain = no-chain d;
+              same = record { same-out = refl; same-inn = refl; same-val = refl };
+            });
+      }
+
+  -- After it: the value of no node is written.
+  later : {st : Step} {l : List Write} {t' : Task} → (Early st → ⊥) → written l m .far ≡ m .far
+      → written l m .val ≡ m .val
+      → Ok st (record { writes = l; task = t'; answer = Going })
+  later {l = l} not-early same-far same-val =
+      record {
+        far-same = same-far;
+        far-end = λ v. cc;
+        full-at = λ q. clash (cc);
+        early-on = λ y _ _. absurd (not-early y);
+      }
+
+  back-on : t .D ≡ none → Early (back t)
+  back-on d = back-early (t .operation) is-push (t .D ≟ none) d
+
+  -- ---- The lines of push, and those that move the hat.
+  line3-push : LineOk Steps.line3
+  unfolding act
+  line3-push =
+      ok-through (Ok Steps.line3) (t .A) (λ _. turned-back) (λ _.
+      ok-if (Ok Steps.line3) (λ st. next (withB t (m .out (t .A))) st) (m .out (t .A) ≟ none)
+      (λ _. on (λ _. refl) (λ d. d)) (λ _. on (λ _. refl) (λ d. d)))
+
+  line5-push : LineOk Steps.line5
+  unfolding act
+  line5-push =
+      ok-through (Ok Steps.line5) (t .A) (λ _. turned-back) (λ _.
+      ok-through (Ok Steps.line5) (t .B) (λ _. turned-back) (λ _.
+      ok-dcas (Ok Steps.line5) (m .hat ≟ t .A) (m .val (t .A) ≟ᵛ N s)
+      (λ _ v.
+      record {
+        far-same = refl;
+        far-end =
+            λ x. update-other (m .val) (t .A) (bag (t .argument)) (m .far) (λ e. refute (cc)) ∙ x;
+        full-at = λ q. clash (cc);
+        early-on = λ _ _ q. clash (cc);
+      })
+      (on (λ _. refl) (λ d. d))))
+
+  line8-push : LineOk Steps.line8
+  unfolding act
+  line8-push =
+      ok-through (Ok Steps.line8) (t .A) (λ _. turned-back) (λ _.
+      ok-if (Ok Steps.line8) (λ st. next t st) (m .val (t .A) ≟ᵛ X s)
+      (λ _. on (λ _. refl) (λ d. d)) (λ _. on (λ _. refl) (λ d. d)))
+
+  line68-push : LineOk Steps.line68
+  unfolding act
+  line68-push =
+      ok-through (Ok Steps.line68) (t .A) (λ _. turned-back) (λ _.
+      ok-if (Ok Steps.line68) (λ st. next t st) (m .val (t .A) ≟ᵛ Y s)
+      (λ _. on (λ _. refl) (λ d. d)) (λ _. on back-on (λ d. d)))
+
+  line70-push : LineOk Steps.line70
+  unfolding act
+  line70-push =
+      ok-through (Ok Steps.line70) (t .B) (λ _. turned-back) (λ _.
+      ok-if (Ok Steps.line70) (λ st. next (withC t (m .out (t .B))) st) (m .out (t .B) ≟ none)
+      (λ _. on back-on (λ d. d)) (λ _. on (λ _. refl) (λ d. d)))
+
+  line72-push : LineOk Steps.line72
+  unfolding act
+  line72-push =
+      ok-through (Ok Steps.line72) (t .C) (λ _. turned-back) (λ _.
+      ok-if (Ok Steps.line72) (λ l. writing l (next t (back t))) (m .hat ≟ t .A)
+      (λ _.
+      record {
+        far-same = refl;
+        far-end = λ v. v;
+        full-at = λ q. clash (cc);
+        early-on =
+            λ _ d _.
+            inr (record {
+              early = back-on d;
+              no-chain = d;
+              same = record { same-out = refl; same-inn = refl; same-val = refl };
+            });
+      })
+      (λ _. on back-on (λ d. d)))
+
+  -- ---- The lines of add.
+  line28-push : LineOk Steps.line28
+  unfolding act
+  line28-push =
+      ok-if (Ok Steps.line28) (λ e. e) (f ≟ none)
+      (λ e.
+      record {
+        far-same = refl;
+        far-end = λ v. v;
+        full-at = λ _. (refl, refl, e);
+        early-on = λ _ _ _. inl refl;
+      })
+      (λ some.
+      record {
+        far-same = refl;
+        far-end = λ v. update-other (m .val) f (X s) (m .far) (far-apart some) ∙ v;
+        full-at = λ q. clash (cc);
+        early-on = λ _ _ _. inl refl;
+      })
+
+  line31-push : LineOk Steps.line31
+  unfolding act
+  line31-push =
+      ok-through (Ok Steps.line31) (t .D) (λ _. turned-back) (λ _.
+      ok-if (Ok Steps.line31) (λ e. e) (f ≟ none)
+      (λ _. later (λ y. refute (cc)) refl refl)
+      (λ some.
+      record {
+        far-same = refl;
+        far-end = λ v. update-other (m .val) f (N s) (m .far) (far-apart some) ∙ v;
+        full-at = λ q. clash (cc);
+        early-on = λ y _ _. clash (cc);
+      }))
+
+  line25-push : LineOk Steps.line25
+  unfolding act
+  line25-push =
+      ok-through (Ok Steps.line25) (t .A) (λ _. turned-back) (λ _.
+      ok-dcas (Ok Steps.line25) (m .out (t .A) ≟ t .B) (m .val (t .A) ≟ᵛ X s)
+      (λ _ v. by-operation (t .operation) v) (later (λ y. refute (cc)) refl refl))
+    where
+      far-kept : m .val (t .A) ≡ X s → m .val (m .far) ≡ X o
+          → written (out≔ (t .A) (t .D) ∷ val≔ (t .A) (N s) ∷ []) m .val (m .far) ≡ X o
+      far-kept v x = update-other (m .val) (t .A) (N s) (m .far) (λ e. refute (cc)) ∙ x
+
+      by-operation : (op : Operation) → m .val (t .A) ≡ X s
+          → Ok Steps.line25 (spliced op (out≔ (t .A) (t .D) ∷ val≔ (t .A) (N s) ∷ []) t)
+      by-operation push v =
+          record { far-same = refl; far-end = far-kept v; full-at = λ q. clash (cc); early-on = λ y _ _. clash (cc) }
+      by-operation idle v =
+          record { far-same = refl; far-end = far-kept v; full-at = λ q. clash (cc); early-on = λ y _ _. clash (cc) }
+      by-operation pop v =
+          record { far-same = refl; far-end = far-kept v; full-at = λ q. clash (cc); early-on = λ y _ _. clash (cc) }
+      by-operation add v =
+          record { far-same = refl; far-end = far-kept v; full-at = λ q. clash (cc); early-on = λ y _ _. clash (cc) }
+      by-operation remove v =
+          record { far-same = refl; far-end = far-kept v; full-at = λ q. clash (cc); early-on = λ y _ _. clash (cc) }
+
+  pub push-tick : (st : Step) → TaskOk k s o m class st t → LineOk st
+  unfolding act
+  push-tick rest h = clash (cc (h .belongs))
+  push-tick Steps.line2 h = on (λ _. refl) (λ d. d)
+  push-tick Steps.line3 h = line3-push
+  push-tick Steps.line5 h = line5-push
+  push-tick Steps.line8 h = line8-push
+  push-tick Steps.line67 h = on (λ _. refl) (λ d. d)
+  push-tick Steps.line68 h = line68-push
+  push-tick Steps.line69 h =
+      ok-through (Ok Steps.line69) (t .A) (λ _. turned-back) (λ _. on (λ _. refl) (λ d. d))
+  push-tick Steps.line70 h = line70-push
+  push-tick Steps.line72 h = line72-push
+  push-tick Steps.line28 h = line28-push
+  push-tick Steps.line31 h = line31-push
+  push-tick Steps.line15 h = later (λ y. refute (cc)) refl refl
+  push-tick Steps.line17 h =
+      ok-through (Ok Steps.line17) (t .A) (λ _. turned-back) (λ _. later (λ y. refute (cc)) refl refl)
+  push-tick Steps.line18 h =
+      ok-through (Ok Steps.line18) (t .A) (λ _. turned-back) (λ _. later (λ y. refute (cc)) refl refl)
+  push-tick Steps.line24 h =
+      ok-through (Ok Steps.line24) (t .A) (λ _. turned-back) (λ _.
+      ok-through (Ok Steps.line24) (t .D) (λ _. turned-back) (λ _. later (λ y. refute (cc)) refl refl))
+  push-tick Steps.line25 h = line25-push
+  push-tick Steps.line39 h = clash (cc (h .belongs))
+  push-tick Steps.line40 h = clash (cc (h .belongs))
+  push-tick Steps.line42 h = clash (cc (h .belongs))
+  push-tick Steps.line48 h = clash (cc (h .belongs))
+  push-tick Steps.line51 h = clash (cc (h .belongs))
+  push-tick Steps.line54 h = clash (cc (h .belongs))
+  push-tick Steps.line56 h = clash (cc (h .belongs))
+  push-tick Steps.line58 h = clash (cc (h .belongs))
+  push-tick Steps.line60 h = clash (cc (h .belongs))
+  push-tick Steps.line62 h = clash (cc (h .belongs))
+  push-tick Steps.line64 h = clash (cc (h .belongs))
+  push-tick Steps.line74 h = clash (cc (h .belongs))
+  push-tick Steps.line77 h = clash (cc (h .belongs))
+  push-tick Steps.line78 h = clash (cc (h .belongs))
+  push-tick Steps.line79 h = clash (cc (h .belongs))
+  push-tick Steps.line81 h = clash (cc (h .belongs))
+  push-tick Steps.line82 h = clash (cc (h .belongs))
