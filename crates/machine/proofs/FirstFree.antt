@@ -11,8 +11,9 @@ use borrow.Author.Tests.{lt-ltb, le-ltb}
 use Rattle.machine.specs.Choice.{_≟_, _<?_, _≤?_}
 use Rattle.machine.specs.Tasks.{none}
 use Rattle.machine.specs.Table.{nodeCount}
-use Rattle.machine.specs.Reach.{Reachable, Free}
+use Rattle.machine.specs.Reach.{Reachable}
 use Rattle.machine.specs.Allocate.{largestCount, marked, following, firstUnmarked, allocate}
+use Rattle.machine.specs.FirstFree.{nth, FirstFreeFrom}
 use Rattle.machine.proofs.Marking.{firstUnmarked-here, firstUnmarked-next, firstUnmarked-end}
 use Rattle.machine.proofs.Reached.{
   WellLinked,
@@ -22,19 +23,6 @@ use Rattle.machine.proofs.Reached.{
   keeps,
   unreached-not-kept,
 }
-
--- ---- The way from a node upward, going round past S - 1 to 0: where i steps lead.
-abbrev pub nth : (S x i : ℕ) → ℕ
-nth S x zero = x
-nth S x (suc i) = nth S (following S x) i
-
--- x is the first free node on the way from the hint: it is free, and every node met before it is reachable.
-pub record FirstFreeFrom (ws : List ℕ) (hint x : ℕ) : Type 0 where
-  pub free : Free ws x
-  pub steps : ℕ
-  pub fewSteps : steps < nodeCount ws
-  pub there : x ≡ nth (nodeCount ws) hint steps
-  pub passed : (j : ℕ) → j < steps → Reachable ws (nth (nodeCount ws) hint j)
 
 -- ---- The way in closed form.
 module _ (S : ℕ) where

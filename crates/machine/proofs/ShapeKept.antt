@@ -89,6 +89,13 @@ pub record Accepted (ws : List ℕ) : Type 0 where
   pub length-passes : lengthOk ws ≡ true
   pub shape-passes : shapeOk ws ≡ true
 
+pub is-accepted : (ws : List ℕ) → tableRefusal ws nothing ≡ nothing → Accepted ws
+is-accepted ws e =
+    record {
+      length-passes = search test-passed;
+      shape-passes = search (test-passed, tests-left);
+    }
+
 -- ---- start.
 start-value-ok : (x : ℕ) → valueOk (encode (startValue x)) ≡ true
 start-value-ok x =

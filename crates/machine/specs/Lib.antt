@@ -10,8 +10,10 @@ pub mod Shape
 pub mod Reach
 pub mod Allocate
 pub mod Lines
+pub mod LinesUse
 pub mod Answers
 pub mod Calls
+pub mod FirstFree
 pub mod Row
 pub mod Demand3
 pub mod Begun

@@ -34,13 +34,15 @@ pub record Alike (ws vs : List ℕ) : Type 0 where
   pub same-values : (x : ℕ) → value vs x ≡ value ws x
   pub same-tasks : (k : ℕ) → SameButUnneeded (task ws k) (task vs k)
 
--- Every call of a list gives the same on both tables: its answer, and the words that it writes into a slice of its own.
-abbrev pub SameAnswers : List Call → (ws vs : List ℕ) → Type 0
-SameAnswers [] ws vs = Unit {0}
-SameAnswers (c ∷ cs) ws vs = (given c vs ≡ given c ws) × SameAnswers cs (after c ws) (after c vs)
+-- Every call of a list gives the same on both tables, its answer and the words that it writes into a slice of its own, and
+-- the tables that the list leaves are alike.
+abbrev pub SameFor : List Call → (ws vs : List ℕ) → Type 0
+SameFor [] ws vs = Alike ws vs
+SameFor (c ∷ cs) ws vs = (given c vs ≡ given c ws) × SameFor cs (after c ws) (after c vs)
 
+-- Tables that are alike are the same for every list of calls.
 abbrev pub UnneededUnseen : Type 0
-UnneededUnseen = (ws vs : List ℕ) → Alike ws vs → (calls : List Call) → SameAnswers calls ws vs
+UnneededUnseen = (ws vs : List ℕ) → Alike ws vs → (calls : List Call) → SameFor calls ws vs
 
 -- ---- The same, as something that may be done to a table.
 
@@ -48,7 +50,8 @@ UnneededUnseen = (ws vs : List ℕ) → Alike ws vs → (calls : List Call) → 
 abbrev pub cleared : Task → Task
 cleared t = withRegisters t (heldIn t inA) (heldIn t inB) (heldIn t inC) (heldIn t inD)
 
--- In any accepted table, between any two calls, the registers of a busy task that do not hold may be set to none.
+-- In any accepted table the registers of a busy task that do not hold may be set to none: every list of calls then
+-- gives the same.
 abbrev pub ClearingUnseen : Type 0
 ClearingUnseen =
     (ws : List ℕ)
@@ -56,4 +59,4 @@ ClearingUnseen =
     → (k : ℕ)
     → isBusy (task ws k .operation) ≡ true
     → (calls : List Call)
-    → SameAnswers calls ws (setTask k (cleared (task ws k)) ws)
+    → SameFor calls ws (setTask k (cleared (task ws k)) ws)

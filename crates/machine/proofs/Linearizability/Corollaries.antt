@@ -40,6 +40,7 @@ use Rattle.machine.specs.Calls.{
 }
 use Rattle.machine.specs.Row.{Row, emptyRow}
 use Rattle.machine.specs.Demand3.{Call, tick-call, given, after, LaneIs, afterTicks, Explained}
+use Rattle.machine.specs.FirstFree.{TakesFirstFree}
 use Rattle.machine.specs.Begun.{
   Begun,
   by-start,
@@ -54,9 +55,9 @@ use Rattle.machine.specs.Begun.{
   bagsPopped,
 }
 use Rattle.machine.proofs.Contradiction.{clash, refute}
-use Rattle.machine.proofs.ShapeKept.{table-passes}
+use Rattle.machine.proofs.ShapeKept.{is-accepted, table-passes}
 use Rattle.machine.proofs.Reached.{node-not-none, reachable-node}
-use Rattle.machine.proofs.FirstFree.{allocate-first-free}
+use Rattle.machine.proofs.FirstFree.{allocate-first-free, allocate-none}
 use Rattle.machine.proofs.TickLaws.{tick-stopped}
 use Rattle.machine.proofs.Linearizability.Agreement.{Agrees}
 use Rattle.machine.proofs.Linearizability.MadeTicks.{well-linked, made-tick}
@@ -185,6 +186,12 @@ begun-inside-runs (suc i) (k ∷ []) B = B
 begun-inside-runs (suc i) (k ∷ h ∷ list) B = begun-inside-runs i list (begun-ticked B k h)
 
 -- ---- Nodes that are never taken.
+
+-- 01: "take" means the first free slot from the hint upward, going round; in every accepted table.
+pub takes-first-free : TakesFirstFree
+takes-first-free ws passes hint low =
+    let W = well-linked (is-accepted ws passes) in
+    (allocate-first-free W low, allocate-none W low)
 
 -- A take never gives a node that a hat or a task's register holds, or that is reached from there.
 pub held-node-never-taken : {ws : List ℕ} {hint x : ℕ} → Begun ws → hint < nodeCount ws → Reachable ws x

@@ -7,7 +7,7 @@ use Rattle.machine.specs.Registers.{among, uses, Way, ways, OneOf, here,
 use Rattle.machine.specs.Table.{value, task}
 use Rattle.machine.specs.Lines.{Effect}
 use Rattle.machine.proofs.Registers.Paths.{needed-holds, holds-needed}
-use Rattle.machine.proofs.Registers.LinesUse.{mixed, AgreeOn, After, goes-on, has-answered, turned-back}
+use Rattle.machine.specs.LinesUse.{mixed, AgreeOn, After, goes-on, has-answered, turned-back}
 
 -- The record without its registers.
 abbrev pub plain : Task → Task

@@ -31,7 +31,7 @@ use Rattle.machine.specs.Calls.{
   read,
 }
 use Rattle.machine.specs.Lines.{Memory}
-use Rattle.machine.specs.Unseen.{SameAnswers}
+use Rattle.machine.specs.Unseen.{Alike, SameFor}
 use Rattle.machine.specs.Demand3.{
   Call,
   start-call,
@@ -56,14 +56,16 @@ use Rattle.machine.proofs.ShapeKept.{
   table-passes,
   call-accepted,
 }
-use Rattle.machine.proofs.Registers.LinesUse.{AgreeOn}
-use Rattle.machine.proofs.Registers.Agreeing.{agree-self}
+use Rattle.machine.specs.LinesUse.{AgreeOn}
+use Rattle.machine.proofs.Registers.Agreeing.{agree-self, mixed-inside}
 use Rattle.machine.proofs.Registers.AlikeTables.{
   unrecorded,
   AlikeColumns,
   alike-self,
   same-nodes,
   same-count,
+  same-growth,
+  same-ticks,
   same-hat,
   same-links,
   same-seen,
@@ -238,6 +240,35 @@ module _ {ws vs : List ℕ} (A : AlikeColumns ws vs) where
   call-alike (read-call out) = (λ i. (read-same out i .reading, read-same out i .out), A)
 
 -- ---- Any list of calls.
-pub calls-alike : (cs : List Call) {ws vs : List ℕ} → AlikeColumns ws vs → SameAnswers cs ws vs
-calls-alike [] A = tt
+
+-- What is said of the columns, said of the table's views.
+views-alike : {ws vs : List ℕ} → AlikeColumns ws vs → Alike ws vs
+views-alike {ws} {vs} A =
+    record {
+      accepted = table-passes ws (A .accepted) nothing;
+      accepted′ = table-passes vs (A .accepted′) nothing;
+      same-nodes = same-nodes A;
+      same-count = same-count A;
+      same-growth = same-growth A;
+      same-hats = same-hat A;
+      same-ticks = same-ticks A;
+      same-links = λ s x. ap (λ (l : Side → ℕ → ℕ). l s x) (same-links A);
+      same-values = same-value A;
+      same-tasks =
+          λ k.
+          let e = A .same-tasks k in
+          record {
+            same-operation = ap (λ (t : Task). t .operation) e;
+            same-step = ap (λ (t : Task). t .step) e;
+            same-side = ap (λ (t : Task). t .side) e;
+            same-argument = ap (λ (t : Task). t .argument) e;
+            same-counted = ap (λ (t : Task). t .counted) e;
+            same-value = ap (λ (t : Task). t .value) e;
+            same-registers =
+                λ r h. mixed-inside (holds (task ws k .step)) (task ws k) (task vs k) (task vs k) e r h;
+          };
+    }
+
+pub calls-alike : (cs : List Call) {ws vs : List ℕ} → AlikeColumns ws vs → SameFor cs ws vs
+calls-alike [] A = views-alike A
 calls-alike (c ∷ cs) A = let one = call-alike A c in (one .0, calls-alike cs (one .1))

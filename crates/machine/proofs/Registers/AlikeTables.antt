@@ -22,7 +22,7 @@ use Rattle.machine.specs.Allocate.{
   allocate,
 }
 use Rattle.machine.specs.Lines.{Write, out≔, inn≔, val≔, hat≔, seen}
-use Rattle.machine.proofs.Registers.LinesUse.{AgreeOn}
+use Rattle.machine.specs.LinesUse.{AgreeOn}
 use Rattle.machine.proofs.Columns.{Columns, columns, memory, putOne, putAll}
 use Rattle.machine.proofs.ShapeKept.{Accepted}
 use Rattle.machine.proofs.Registers.Agreeing.{agree-self}

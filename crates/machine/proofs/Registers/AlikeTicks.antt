@@ -24,7 +24,8 @@ use Rattle.machine.specs.Calls.{
   afterTick,
   runOn,
 }
-use Rattle.machine.proofs.Registers.LinesUse.{AgreeOn, SameEffect, lines-use}
+use Rattle.machine.specs.LinesUse.{AgreeOn, SameEffect}
+use Rattle.machine.proofs.Registers.LinesUse.{uses-enough}
 use Rattle.machine.proofs.Updates.{update}
 use Rattle.machine.proofs.Columns.{Columns, columns, putTickCount, putAll}
 use Rattle.machine.proofs.ShapeLaws.{
@@ -84,7 +85,7 @@ module _ {ws vs : List ℕ} (A : AlikeColumns ws vs) (k h : ℕ) where
   unfolding effectOf
   effects-same =
       subst (λ (f : Effect). SameEffect (t .step) t u (effectOf ws k h) f) (sym line-of-both)
-      (lines-use (t .side) (opposite (t .side)) (seen (t .side) ws) t u (goal (growth ws) t) (allocate ws h) (t .step)
+      (uses-enough (t .step) (t .side) (opposite (t .side)) (seen (t .side) ws) t u (goal (growth ws) t) (allocate ws h)
       (agree-uses t u (A .same-tasks k)))
 
   answers-same : effectOf vs k h .answer ≡ effectOf ws k h .answer

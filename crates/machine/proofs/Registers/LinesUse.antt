@@ -2,7 +2,6 @@
 -- that the line does not use have the same effect, and go one of the line's ways.
 use mathlib.Core.Path.{_≡_, refl, sym, subst}
 use mathlib.Core.Logic.{inl, inr}
-use mathlib.Core.Bool.{Bool, cond}
 use mathlib.Core.List.{List, [], _∷_}
 use Prim.Native.Nat.{ℕ, suc}
 use Rattle.machine.specs.declared.Answer.{Answer}
@@ -50,14 +49,11 @@ use Rattle.machine.specs.Steps.{
 }
 use Rattle.machine.specs.Tasks.{
   Task,
-  fresh,
   none,
-  Register,
   inA,
   inB,
   inC,
   inD,
-  withRegisters,
   withA,
   withB,
   withC,
@@ -84,39 +80,16 @@ use Rattle.machine.specs.Lines.{
   afterRead,
   act,
 }
+use Rattle.machine.specs.LinesUse.{
+  mixed,
+  AgreeOn,
+  goes-on,
+  has-answered,
+  turned-back,
+  SameEffect,
+  UsesEnough,
+}
 use Rattle.machine.proofs.Choices.{by-if}
-
--- ---- Records that agree.
-
--- The record t, with the registers outside a set taken from u.
-abbrev pub mixed : (Register → Bool) → (t u : Task) → Task
-mixed p t u =
-    withRegisters t (cond (p inA) (t .A) (u .A)) (cond (p inB) (t .B) (u .B))
-    (cond (p inC) (t .C) (u .C)) (cond (p inD) (t .D) (u .D))
-
--- u agrees with t in all but registers outside a set.
-abbrev pub AgreeOn : (Register → Bool) → (t u : Task) → Type 0
-AgreeOn p t u = u ≡ mixed p t u
-
--- ---- The same effect.
-
--- The records after the effects e and f of a step on the records t and u. Where the task goes on, it goes one of the
--- step's ways: the registers set on it come out the same, the others stay as they were in t and in u.
-pub data After (st : Step) (t u : Task) (e f : Effect) : Type 0 where
-  goes-on : (w : Way)
-      → OneOf w (ways st)
-      → e .answer ≡ Going
-      → e .task .step ≡ w .next
-      → e .task ≡ mixed (among (w .sets)) (e .task) t
-      → f .task ≡ mixed (among (w .sets)) (e .task) u
-      → After st t u e f
-  has-answered : e .task ≡ fresh → f .task ≡ fresh → After st t u e f
-  turned-back : e .task ≡ t → f .task ≡ u → After st t u e f
-
-pub record SameEffect (st : Step) (t u : Task) (e f : Effect) : Type 0 where
-  pub same-writes : f .writes ≡ e .writes
-  pub same-answer : f .answer ≡ e .answer
-  pub after : After st t u e f
 
 -- ---- How a line ends.
 module _ {st : Step} {t u : Task} where
@@ -322,7 +295,10 @@ module _ (s o : Side) (m : Memory) (t u : Task) (g x : ℕ) where
   line-same line82 = by-through (t .A) answered
 
   -- Whatever stands in registers that a line does not use, its effect is the same.
-  pub lines-use : (st : Step) → AgreeOn (among (uses st)) t u
+  lines-use : (st : Step) → AgreeOn (among (uses st)) t u
       → SameEffect st t u (act st s o m t g x) (act st s o m u g x)
   lines-use st e =
       subst (λ (v : Task). SameEffect st t v (act st s o m t g x) (act st s o m v g x)) (sym e) (line-same st)
+
+pub uses-enough : UsesEnough
+uses-enough st s o m t u g f agree = lines-use s o m t u g f st agree

@@ -8,28 +8,17 @@ use Prim.Native.Nat.{ℕ}
 use native.Mathlib.Decide.{ℕ-discrete}
 use lib.Dec.{eqb}
 use borrow.Author.Tests.{eq-eqb, eqb-true, not-true}
+use Rattle.machine.specs.declared.Answer.{Answer}
 use Rattle.machine.specs.Sides.{left, right}
 use Rattle.machine.specs.Values.{Value, bag, N, X, Y, encode, Value-discrete}
 use Rattle.machine.specs.Operations.{push}
 use Rattle.machine.specs.Steps.{Step, stepNumber, stepOf}
-use Rattle.machine.specs.Tasks.{
-  Task,
-  none,
-  Register,
-  inA,
-  inB,
-  inC,
-  inD,
-  register,
-  withA,
-  withB,
-  withC,
-  withD,
-}
-use Rattle.machine.specs.Registers.{among, uses, Way, ways, OneOf}
+use Rattle.machine.specs.Tasks.{Task, none, Register, inA, inB, inC, inD, register}
+use Rattle.machine.specs.Registers.{among, uses, Way, ways}
 use Rattle.machine.specs.Shape.{sameWords}
 use Rattle.machine.specs.Lines.{Memory, Write, out≔, inn≔, val≔, hat≔, Effect, act}
 use Rattle.machine.specs.Answers.{kindOf, payloadOf}
+use Rattle.machine.specs.LinesUse.{with, SameBut, UseShows, UsesShow, WaysGone}
 use Rattle.machine.proofs.Contradiction.{clash, refute}
 use Rattle.machine.proofs.StepLaws.{step-of-number}
 use Rattle.machine.proofs.Tests.{agreed, and-left, and-right, or-either}
@@ -40,7 +29,7 @@ use Rattle.machine.proofs.Registers.Paths.{everyWay, each-way}
 
 -- What a line may look at: every node has the same links and value; the task has read a value, and it has four
 -- different registers.
-pub record Sample : Type 0 where
+record Sample : Type 0 where
   pub hat : ℕ
   pub out : ℕ
   pub value : Value
@@ -49,14 +38,14 @@ pub record Sample : Type 0 where
   pub goal : ℕ
   pub found : ℕ
 
-abbrev pub sample : (hat out : ℕ) → (value read : Value) → (D goal found : ℕ) → Sample
+abbrev sample : (hat out : ℕ) → (value read : Value) → (D goal found : ℕ) → Sample
 sample h o v r d g f = record { hat = h; out = o; value = v; read = r; D = d; goal = g; found = f }
 
-abbrev pub memoryOf : Sample → Memory
+abbrev memoryOf : Sample → Memory
 memoryOf a = record { out = λ x. a .out; inn = λ x. a .out; val = λ x. a .value; hat = a .hat; far = 0 }
 
 -- A push of the right side that has counted nothing.
-abbrev pub taskIn : Sample → Step → Task
+abbrev taskIn : Sample → Step → Task
 taskIn a st =
     record {
       operation = push;
@@ -82,7 +71,7 @@ samples =
     ∷ sample 0 1 (X right) (X right) 5 1 6
     ∷ []
 
-abbrev pub effectIn : Step → Sample → Task → Effect
+abbrev effectIn : Step → Sample → Task → Effect
 effectIn st a t = act st right left (memoryOf a) t (a .goal) (a .found)
 
 -- ---- What an effect shows, besides what stands in one register afterwards.
@@ -102,30 +91,28 @@ others inB t = t .A ∷ t .C ∷ t .D ∷ []
 others inC t = t .A ∷ t .B ∷ t .D ∷ []
 others inD t = t .A ∷ t .B ∷ t .C ∷ []
 
-abbrev pub shows : Register → Effect → List ℕ
+abbrev shows : Register → Effect → List ℕ
 shows r e =
     kindOf (e .answer) ∷ payloadOf (e .answer) ∷ stepNumber (e .task .step) ∷ others r (e .task) ++ allWords (e .writes)
 
-abbrev pub with : Register → ℕ → Task → Task
-with inA x t = withA t x
-with inB x t = withB t x
-with inC x t = withC t x
-with inD x t = withD t x
-
--- Another content of one register changes what the line's effect shows.
-pub record UseShown (st : Step) (r : Register) : Type 0 where
-  pub table : Sample
-  pub other : ℕ
-  pub differs : shows r (effectIn st table (taskIn table st))
-      ≢ shows r (effectIn st table (with r other (taskIn table st)))
-
--- Some table makes the task go that way on, with just the registers changed that are set on it.
-pub record WayShown (st : Step) (w : Way) : Type 0 where
-  pub table : Sample
-  pub goes-there : effectIn st table (taskIn table st) .task .step ≡ w .next
-  pub sets-these : (r : Register)
-      → eqb (register (taskIn table st) r) (register (effectIn st table (taskIn table st) .task) r)
-      ≡ not (among (w .sets) r)
+-- Effects that show different words are not the same.
+shows-same : (r : Register) (e f : Effect) → SameBut r e f → shows r f ≡ shows r e
+shows-same r e f S =
+    ap (λ (a : Answer). kindOf a ∷ payloadOf a ∷ stepNumber (f .task .step) ∷ others r (f .task) ++ allWords (f .writes))
+    (S .same-answer)
+    ∙ ap (λ (st : Step). kindOf (e .answer) ∷ payloadOf (e .answer) ∷ stepNumber st ∷ others r (f .task)
+    ++ allWords (f .writes)) (S .same-step)
+    ∙ ap (λ (l : List ℕ). kindOf (e .answer) ∷ payloadOf (e .answer) ∷ stepNumber (e .task .step) ∷ l
+    ++ allWords (f .writes)) (same-rest r (S .same-others))
+    ∙ ap (λ (l : List Write). kindOf (e .answer) ∷ payloadOf (e .answer) ∷ stepNumber (e .task .step) ∷ others r (e .task)
+    ++ allWords l) (S .same-writes)
+  where
+    same-rest : (r : Register) → ((q : Register) → q ≢ r → register (f .task) q ≡ register (e .task) q)
+        → others r (f .task) ≡ others r (e .task)
+    same-rest inA h = λ i. h inB (λ z. refute (cc)) i ∷ h inC (λ z. refute (cc)) i ∷ h inD (λ z. refute (cc)) i ∷ []
+    same-rest inB h = λ i. h inA (λ z. refute (cc)) i ∷ h inC (λ z. refute (cc)) i ∷ h inD (λ z. refute (cc)) i ∷ []
+    same-rest inC h = λ i. h inA (λ z. refute (cc)) i ∷ h inB (λ z. refute (cc)) i ∷ h inD (λ z. refute (cc)) i ∷ []
+    same-rest inD h = λ i. h inA (λ z. refute (cc)) i ∷ h inB (λ z. refute (cc)) i ∷ h inC (λ z. refute (cc)) i ∷ []
 
 -- ---- Tried.
 abbrev someSample : List Sample → (Sample → Bool) → Bool
@@ -168,21 +155,25 @@ unfolding sameWords
 same-self [] = refl
 same-self (x ∷ xs) = rw (eq-eqb x x refl) (same-self xs)
 
-differs-from : (st : Step) (r : Register) (x : ℕ) (a : Sample) → differsAt st r x a ≡ true → UseShown st r
+differs-from : (st : Step) (r : Register) (x : ℕ) (a : Sample) → differsAt st r x a ≡ true → UseShows st r
 differs-from st r x a d =
     record {
-      table = a;
+      memory = memoryOf a;
+      task = taskIn a st;
+      goal = a .goal;
+      found = a .found;
       other = x;
-      differs = λ e.
-          let one = shows r (effectIn st a (taskIn a st)) in
-          let two = shows r (effectIn st a (with r x (taskIn a st))) in
-          let no : sameWords one two ≡ false = not-true (sameWords one two) d in
-          let yes : sameWords one two ≡ true = ap (λ (l : List ℕ). sameWords one l) (sym e) ∙ same-self one in
+      differs = λ S.
+          let e = effectIn st a (taskIn a st) in
+          let f = effectIn st a (with r x (taskIn a st)) in
+          let no : sameWords (shows r e) (shows r f) ≡ false = not-true (sameWords (shows r e) (shows r f)) d in
+          let yes : sameWords (shows r e) (shows r f) ≡ true =
+          ap (λ (l : List ℕ). sameWords (shows r e) l) (shows-same r e f S) ∙ same-self (shows r e) in
           refute (cc);
     }
 
-pub each-use-shows : (st : Step) (r : Register) → among (uses st) r ≡ true → UseShown st r
-each-use-shows st r u =
+pub uses-show : UsesShow
+uses-show st r u =
     let h = implied (among (uses st) r) (useTried st r) (uses-tried st r) u in
     elim (or-either (someSample samples (differsAt st r 4)) (someSample samples (differsAt st r none)) h) [
       | inl k ↦ let a = some-sample (differsAt st r 4) samples k in differs-from st r 4 (a .0) (a .1)
@@ -192,15 +183,18 @@ each-use-shows st r u =
 number-injective : (a b : Step) → stepNumber a ≡ stepNumber b → a ≡ b
 number-injective a b e = sym (step-of-number a) ∙ ap stepOf e ∙ step-of-number b
 
-pub each-way-shows : (st : Step) (w : Way) → OneOf w (ways st) → WayShown st w
-each-way-shows st w o =
+pub ways-gone : WaysGone
+ways-gone st w o =
     let k = some-sample (goneAt st w) samples (each-way (wayTried st) (ways st) (ways-tried st) w o) in
     let a : Sample = k .0 in
     let n = stepNumber (effectIn st a (taskIn a st) .task .step) in
     let there = and-left (eqb n (stepNumber (w .next))) (everyRegister (setRight st w a)) (k .1) in
     let set = and-right (eqb n (stepNumber (w .next))) (everyRegister (setRight st w a)) (k .1) in
     record {
-      table = a;
+      memory = memoryOf a;
+      task = taskIn a st;
+      goal = a .goal;
+      found = a .found;
       goes-there = number-injective _ (w .next) (eqb-true n (stepNumber (w .next)) there);
       sets-these = λ r. agreed _ _ (each-register (setRight st w a) set r);
     }

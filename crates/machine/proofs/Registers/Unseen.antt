@@ -29,18 +29,11 @@ use Rattle.machine.proofs.ShapeLaws.{
 }
 use Rattle.machine.proofs.WritesKeep.{put-record-shaped, same-sizes-kept}
 use Rattle.machine.proofs.TickKeeps.{busy-facts, busy-is-task, task-has-word}
-use Rattle.machine.proofs.ShapeKept.{Accepted}
-use Rattle.machine.proofs.Registers.LinesUse.{AgreeOn}
+use Rattle.machine.proofs.ShapeKept.{Accepted, is-accepted}
+use Rattle.machine.specs.LinesUse.{AgreeOn}
 use Rattle.machine.proofs.Registers.Agreeing.{plain, agree-from, agree-self, mixed-inside}
 use Rattle.machine.proofs.Registers.AlikeTables.{unrecorded, AlikeColumns}
 use Rattle.machine.proofs.Registers.AlikeCalls.{calls-alike}
-
-is-accepted : (ws : List ℕ) → tableRefusal ws nothing ≡ nothing → Accepted ws
-is-accepted ws e =
-    record {
-      length-passes = search test-passed;
-      shape-passes = search (test-passed, tests-left);
-    }
 
 -- ---- Tables that are alike have the same columns but for registers that do not hold.
 records-agree : {t u : Task} → SameButUnneeded t u → AgreeOn (holds (t .step)) t u
