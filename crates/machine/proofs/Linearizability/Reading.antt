@@ -16,7 +16,6 @@ use Rattle.machine.specs.Calls.{laneFrom, lane}
 use Rattle.machine.proofs.Contradiction.{clash, less?}
 use Rattle.machine.proofs.Choices.{if-no, if-yes}
 use Rattle.machine.proofs.Linearizability.Classes.{Class, main, of, owner}
-use Rattle.machine.proofs.Linearizability.Structure.{Main}
 use Rattle.machine.proofs.Linearizability.Nodes.{main-not-never, at-some}
 use Rattle.machine.proofs.Linearizability.Segments.{segment, segment-length}
 use Rattle.machine.proofs.Linearizability.Invariant.{Lane}

@@ -15,7 +15,7 @@ use Rattle.machine.specs.Registers.{holds}
 use Rattle.machine.specs.Lines.{Memory}
 use Rattle.machine.proofs.Linearizability.Classes.{Class, spur, Old}
 use Rattle.machine.proofs.Linearizability.Structure.{Structure}
-use Rattle.machine.proofs.Linearizability.Nodes.{old-some, spur-some, Y-in-spur}
+use Rattle.machine.proofs.Linearizability.Nodes.{old-some, Y-in-spur}
 use Rattle.machine.proofs.Linearizability.Guarantee.{Guarantee}
 use Rattle.machine.proofs.Linearizability.Phases.{TaskOk}
 use Rattle.machine.proofs.Linearizability.Invariant.{RegistersHeld}

@@ -2,7 +2,6 @@
 use mathlib.Core.Path.{_≡_, refl, sym, ap, _∙_, subst}
 use mathlib.Core.Bool.{Bool, true, false, cond}
 use mathlib.Core.List.{List, []}
-use mathlib.Core.Option.{none as nothing}
 use Prim.Native.Nat.{ℕ, _<_}
 use lib.ListN.{length}
 use Rattle.machine.specs.Choice.{_≟_, if_then_else_}
@@ -10,9 +9,8 @@ use Rattle.machine.specs.Values.{encode}
 use Rattle.machine.specs.Tasks.{Task, fresh, none, wordsOf, inA, inB, inC, inD}
 use Rattle.machine.specs.Registers.{holds}
 use Rattle.machine.specs.Table.{tableLength, nodeCount, taskCount, growth, value, task, setTask}
-use Rattle.machine.specs.Calls.{isBusy, tableRefusal}
+use Rattle.machine.specs.Calls.{isBusy}
 use Rattle.machine.specs.Unseen.{SameButUnneeded, Alike, UnneededUnseen, cleared, ClearingUnseen}
-use Rattle.machine.proofs.Tests.{test-passed, tests-left}
 use Rattle.machine.proofs.ValueLaws.{encode-decode}
 use Rattle.machine.proofs.Updates.{update}
 use Rattle.machine.proofs.Columns.{columns}

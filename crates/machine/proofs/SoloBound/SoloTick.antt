@@ -4,7 +4,7 @@ use mathlib.Core.Logic.{_≢_, _⊎_, inl, inr}
 use mathlib.Core.Bool.{true}
 use mathlib.Core.List.{List}
 use mathlib.Core.Option.{none as nothing}
-use Prim.Native.Nat.{ℕ, suc, _-_, _≤_, _<_}
+use Prim.Native.Nat.{ℕ, _-_, _≤_, _<_}
 use native.Mathlib.Omega.{arith}
 use borrow.Author.Tests.{ltb-true, leb-true}
 use Rattle.machine.specs.declared.Answer.the-variants.{Going}
@@ -30,7 +30,6 @@ use Rattle.machine.proofs.TickKeeps.{busy-facts, tick-allowed}
 use Rattle.machine.proofs.Linearizability.Invariant.{Lane, noteOf, Kept, goes-on, has-answered}
 use Rattle.machine.proofs.Linearizability.LaneViews.{lane-view}
 use Rattle.machine.proofs.Linearizability.RowViews.{rowFrom}
-use Rattle.machine.proofs.Linearizability.Pigeonhole.{pigeonhole}
 use Rattle.machine.proofs.Linearizability.Reading.{main-size, main-is-node}
 use Rattle.machine.proofs.Linearizability.Agreement.{Agrees}
 use Rattle.machine.proofs.Linearizability.Corollaries.{begun-agrees}
