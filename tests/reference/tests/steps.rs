@@ -2,6 +2,8 @@
 
 mod common;
 
+use common::free::{first, free};
+use common::paths::Needed;
 use common::random::Random;
 use common::tables::{mirrored, shaped, sizes, started};
 use reference::table::{
@@ -241,55 +243,9 @@ fn both_sides_are_one_machine() {
     assert!(made > 20_000, "{made}");
 }
 
-/// The steps at which each register holds its node, by 2026-06.
-const HELD: [(usize, &[u32]); 4] = [
-    (record::A, &[3, 5, 8, 17, 18, 24, 25, 40, 42, 48, 51, 56, 58, 60, 62, 64, 68, 69, 70, 72, 77, 78, 79, 81, 82]),
-    (record::B, &[5, 25, 42, 48, 51, 62, 64, 70, 74, 77, 78, 79]),
-    (record::C, &[72]),
-    (record::D, &[2, 3, 5, 8, 15, 17, 18, 24, 25, 31, 67, 68, 69, 70, 72]),
-];
-
-/// Reachability in the words of the paper: spread until nothing changes.
-fn free_by_spreading(table: &[u32], hint: u32) -> Option<u32> {
-    let sizes = sizes(table);
-    let mut reached = vec![false; sizes.nodes as usize];
-    let mut reach = |number: u32| {
-        if number != NONE {
-            reached[number as usize] = true;
-        }
-    };
-    reach(table[header::LEFT_HAT]);
-    reach(table[header::RIGHT_HAT]);
-    for task in 0..sizes.tasks {
-        let at = sizes.record(task);
-        for (register, steps) in HELD {
-            if steps.contains(&table[at + record::STEP]) {
-                reach(table[at + register]);
-            }
-        }
-    }
-    let mut changed = true;
-    while changed {
-        changed = false;
-        for number in 0..sizes.nodes {
-            if reached[number as usize] {
-                for link in [node::LEFT, node::RIGHT] {
-                    let next = table[sizes.node(number) + link];
-                    if next != NONE && !reached[next as usize] {
-                        reached[next as usize] = true;
-                        changed = true;
-                    }
-                }
-            }
-        }
-    }
-    (0..sizes.nodes)
-        .map(|step| (hint + step) % sizes.nodes)
-        .find(|&number| !reached[number as usize])
-}
-
 #[test]
 fn the_first_free_node_from_the_hint() {
+    let needed = Needed::new();
     let mut random = Random::new(22);
     let mut none = 0;
     for _ in 0..10_000 {
@@ -306,8 +262,9 @@ fn the_first_free_node_from_the_hint() {
         let at = sizes.record(0);
         let words = [ADD, 28, random.below(2), random.below(2), 0, 0];
         table[at..at + 6].copy_from_slice(&words);
+        let free = free(&table, |step, register| needed.holds(step, register));
         for hint in 0..sizes.nodes {
-            let wanted = free_by_spreading(&table, hint);
+            let wanted = first(&free, hint);
             let mut ticked = table.clone();
             match (tick(&mut ticked, 0, hint), wanted) {
                 (Ok(Answer::Going), Some(number)) => {

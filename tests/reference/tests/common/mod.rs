@@ -1,7 +1,11 @@
-//! What several tests share: a generator of numbers, mirrors, random tables and the plain row.
+//! What several tests share: a generator of numbers, mirrors, random tables, the plain row, calls made to their
+//! answers, and which nodes are free.
 
 #![allow(dead_code)]
 
+pub mod calls;
+pub mod free;
+pub mod paths;
 pub mod random;
 pub mod row;
 pub mod tables;
