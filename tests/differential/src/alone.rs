@@ -6,7 +6,7 @@ use reference::table::{header, Sizes};
 
 use crate::both::Both;
 use crate::common::random::Random;
-use crate::counts::{Given, NAMES};
+use crate::counts::NAMES;
 use crate::{LARGE, SMALL};
 
 /// Ticks of one run; few calls need more, and a run takes at most 4,096.
@@ -17,33 +17,34 @@ fn bound(nodes: u32) -> u32 {
     4 * nodes + 154
 }
 
-/// Runs a busy task to its answer on a copy of the table: the ticks that it took, and what the calls gave. The tick
-/// after the answer is refused, so that a run ends there.
-pub fn run(random: &mut Random, table: &[u32], sizes: Sizes, task: u32) -> (u32, Given) {
-    let mut both = Both::over(table);
-    let (mut kinds, mut refusal) = (Vec::new(), 0);
-    while refusal == 0 && kinds.len() as u32 <= bound(sizes.nodes) {
+/// Runs a busy task to its answer: the ticks that it took, and the answer's words. The tick after the answer is
+/// refused, so that a run ends there.
+pub fn run(random: &mut Random, both: &mut Both, sizes: Sizes, task: u32) -> (u32, [u32; 2]) {
+    let before = both.table()[header::TICKS];
+    let (mut words, mut refusal) = (Vec::new(), 0);
+    while refusal == 0 && words.len() as u32 <= bound(sizes.nodes) {
         let list: Vec<u32> = (0..RUN)
             .flat_map(|_| [task, random.below(sizes.nodes)])
             .collect();
         let (made, number, answers) = both.run(&list, list.len(), random.word());
-        kinds.extend(answers.chunks(2).take(made as usize).map(|words| words[0]));
+        let pairs = answers.chunks(2).take(made as usize);
+        words.extend(pairs.map(|pair| [pair[0], pair[1]]));
         refusal = number;
     }
-    let ticks = kinds.len() as u32;
+    let ticks = words.len() as u32;
     assert_eq!(
         refusal, 10,
         "task {task} alone: not idle after {ticks} ticks"
     );
-    let going = kinds.iter().take_while(|&&kind| kind == 0).count() as u32;
+    let going = words.iter().take_while(|&&[kind, _]| kind == 0).count() as u32;
     assert_eq!(
         going + 1,
         ticks,
         "task {task} alone: the last tick alone is to answer"
     );
-    let counted = both.table()[header::TICKS].wrapping_sub(table[header::TICKS]);
+    let counted = both.table()[header::TICKS].wrapping_sub(before);
     assert_eq!(counted, ticks, "ticks that a run did not report");
-    (ticks, both.given)
+    (ticks, words[going as usize])
 }
 
 /// The most ticks that a call took alone.

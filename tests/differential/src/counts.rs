@@ -5,6 +5,7 @@ use reference::Answer;
 
 use crate::alone::Alone;
 use crate::cause;
+use crate::idle::Idle;
 use crate::outcomes::{Leads, Outcome, OUTCOMES};
 use crate::stretch::Stretches;
 
@@ -42,6 +43,8 @@ pub struct Counts {
     pub alone: Alone,
     /// Ticks without an answer.
     pub stretches: Stretches,
+    /// Tables with every task idle.
+    pub idle: Idle,
 }
 
 impl Counts {
@@ -53,6 +56,7 @@ impl Counts {
             wraps: 0,
             alone: Alone::default(),
             stretches: Stretches::default(),
+            idle: Idle::default(),
         }
     }
 
@@ -125,6 +129,7 @@ impl Counts {
         self.report_given(&mut faults);
         faults.extend(self.alone.report());
         self.stretches.report();
+        faults.extend(self.idle.report());
         faults
     }
 

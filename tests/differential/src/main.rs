@@ -11,6 +11,7 @@ mod both;
 mod broken;
 mod cause;
 mod counts;
+mod idle;
 mod outcomes;
 mod play;
 mod stretch;

@@ -11,6 +11,7 @@ use crate::both::Both;
 use crate::common::random::Random;
 use crate::common::row::{Note, Row};
 use crate::counts::{Counts, Origin};
+use crate::idle;
 
 /// Which operations prevail for a while.
 const MIXES: [&[u32]; 6] = [
@@ -89,6 +90,7 @@ impl Play<'_> {
             88 if self.random.once_in(20) => self.start_again(),
             89 if self.random.once_in(10) => self.extend(),
             90 if self.random.once_in(6) => self.delay(),
+            91 if self.random.once_in(2) => self.spurs(),
             _ => self.favourite = self.random.below(self.sizes.tasks),
         }
     }
@@ -106,23 +108,46 @@ impl Play<'_> {
         if self.random.once_in(12 + self.sizes.nodes / 8) {
             self.alone();
         }
+        if self.random.once_in(60 + self.sizes.nodes / 4) {
+            self.idle();
+        }
     }
 
     /// Every busy task alone comes to its answer.
     fn alone(&mut self) {
         for task in 0..self.sizes.tasks {
             if let Some(note) = self.row.notes[task as usize] {
-                let table = self.both.table();
-                let (ticks, given) = alone::run(self.random, table, self.sizes, task);
+                let mut both = Both::over(self.both.table());
+                let (ticks, _) = alone::run(self.random, &mut both, self.sizes, task);
                 self.counts
                     .alone
                     .saw(self.sizes.nodes, note.operation, ticks);
-                self.counts.add(&given);
+                self.counts.add(&both.given);
                 // All of these ticks but the last go on with the stretch.
                 let stretch = self.stretch + ticks - 1;
                 self.counts.stretches.saw(self.sizes, stretch);
             }
         }
+    }
+
+    /// On a copy of the table every busy task comes to its answer, in any order; what is claimed of an idle table then
+    /// holds.
+    fn idle(&mut self) {
+        let mut both = Both::over(self.both.table());
+        let notes = (0..).zip(&self.row.notes);
+        let mut busy: Vec<(u32, Note)> = notes
+            .filter_map(|(task, &note)| Some((task, note?)))
+            .collect();
+        while !busy.is_empty() {
+            let place = self.random.below(busy.len() as u32);
+            let (task, note) = busy.swap_remove(place as usize);
+            let (ticks, _) = alone::run(self.random, &mut both, self.sizes, task);
+            self.counts
+                .alone
+                .saw(self.sizes.nodes, note.operation, ticks);
+        }
+        self.counts.add(&both.given);
+        idle::check(self.random, self.counts, both.table(), self.sizes);
     }
 
     fn read(&mut self) {

@@ -12,6 +12,15 @@ pub fn first_free(table: &[u32], sizes: Sizes, hint: u32) -> Option<u32> {
         .find(|&number| !reached[number as usize])
 }
 
+/// How many nodes are free.
+///
+/// The table's shape holds.
+pub fn count_free(table: &[u32], sizes: Sizes) -> u32 {
+    let reached = reachable(table, sizes);
+    let nodes = &reached[..sizes.nodes as usize];
+    nodes.iter().filter(|&&reached| !reached).count() as u32
+}
+
 /// The registers that a path of steps from this step may still use before it sets them.
 fn held(step: u32) -> &'static [usize] {
     use record::{A, B, C, D};

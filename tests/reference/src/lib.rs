@@ -20,5 +20,6 @@ mod side;
 mod step;
 pub mod table;
 
+pub use alloc::count_free;
 pub use answer::Answer;
 pub use calls::{begin, read, run, start, tick};

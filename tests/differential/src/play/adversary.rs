@@ -37,6 +37,33 @@ impl Play<'_> {
         self.on_the_spur([pusher, remover, adder, builder], side);
     }
 
+    /// The same with every other task idle, at one end and then at the other.
+    pub(super) fn spurs(&mut self) {
+        if self.sizes.tasks < 2 {
+            return;
+        }
+        for task in 0..self.sizes.tasks {
+            self.finish(task);
+        }
+        let first = self.random.below(2);
+        for side in [first, 1 - first] {
+            self.operate(1, ADD, side, 1);
+            self.begin_with(0, PUSH, side);
+            self.tick_some(0, 2);
+            self.operate(1, REMOVE, side, 0);
+            let spare = self.first_of(3);
+            self.operate(1, ADD, side, spare);
+            self.finish(0);
+            if self.random.once_in(3) {
+                // A short lane becomes empty, and the hat stays on its spur.
+                for _ in 0..3 {
+                    self.operate(1, POP, 1 - side, 0);
+                }
+            }
+            self.idle();
+        }
+    }
+
     /// A push or add comes to hold a chain, and stalls.
     fn build(&mut self, builder: u32, other: u32, side: u32) {
         if self.random.once_in(2) {
@@ -121,6 +148,7 @@ impl Play<'_> {
     /// The tasks go on, stop anywhere, and go on again while the end of the lane is moved, cut and made longer.
     fn on_the_spur(&mut self, tasks: [u32; 4], side: u32) {
         self.alone();
+        self.idle();
         for _ in 0..self.first_of(12) {
             let task = self.random.pick(&tasks);
             if self.row.notes[task as usize].is_none() {
