@@ -169,7 +169,7 @@ cases =
           ∷ begins 0 1 1 999999999 ⟶ ok
           ∷ [];
     }
-    -- 2026-06. S 4, T 2, growth 0, hints 0: at 28 the push's A still names a slot that was cut off, and no step will
+    -- 2026-06. S 4, T 2, growth 0, hints 0: at 28 the push's B still names a slot that was cut off, and no step will
     -- read it. While every register held its slot, the push answered "full" here.
     ∷ record {
       words = 40;
