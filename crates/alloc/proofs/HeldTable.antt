@@ -13,8 +13,8 @@ use Rattle.machine.specs.Choice.{_≟_}
 use Rattle.machine.specs.Steps.{Step, rest, stepNumber, stepIn, stepOf, pushSteps, popSteps, removeSteps}
 use Rattle.machine.specs.Tasks.{none, Register, inA, inB, inC, inD}
 use Rattle.machine.specs.Registers.{holds}
-use Rattle.machine.proofs.Tests.{agreed, and-left, and-right}
-use Rattle.machine.proofs.Choices.{if-no}
+use Rattle.machine.proofs.Basics.Tests.{agreed, and-left, and-right}
+use Rattle.machine.proofs.Basics.Choices.{if-no}
 use Rattle.layout.proofs.Tables.{at, every}
 use Rattle.alloc.specs.Bits.{bitOf}
 

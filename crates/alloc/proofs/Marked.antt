@@ -10,7 +10,7 @@ use Rattle.machine.specs.Tasks.{Task, inA, inB, inC, inD}
 use Rattle.machine.specs.Registers.{heldIn}
 use Rattle.machine.specs.Table.{nodeCount, taskCount, task, recordAt}
 use Rattle.machine.specs.Allocate.{heldBy, heldFrom, roots, Marking, mark, markAll, visit}
-use Rattle.machine.proofs.Marking.{Room, room-markAll, visit-markAll}
+use Rattle.machine.proofs.SlotRule.Marking.{Room, room-markAll, visit-markAll}
 use Rattle.layout.specs.declared.tasks.Task as Coded
 use Rattle.layout.specs.Coded.{HoldsNode, linkIn, recordFrom, taskMeant}
 use Rattle.alloc.specs.Tables.{Sized, hats}

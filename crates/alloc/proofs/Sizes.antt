@@ -5,7 +5,7 @@ use mathlib.Core.List.{List}
 use Prim.Native.Nat.{ℕ}
 use borrow.Author.Tests.{leb-true, eqb-true}
 use Rattle.machine.specs.Shape.{lengthOk}
-use Rattle.machine.proofs.Tests.{and-left, and-right}
+use Rattle.machine.proofs.Basics.Tests.{and-left, and-right}
 use Rattle.alloc.specs.Tables.{Sized}
 
 pub sized : (ws : List ℕ) → lengthOk ws ≡ true → Sized ws

@@ -10,7 +10,7 @@ use Rattle.machine.specs.Choice.{_<?_, if_then_else_}
 use Rattle.machine.specs.Sides.{Side, left, right, sideNumber, sideOf}
 use Rattle.machine.specs.Tasks.{none, fresh, taskOf}
 use Rattle.machine.specs.Table.{nodeCount, taskCount, linkAt, linkWord, link, recordAt, recordWords, task}
-use Rattle.machine.proofs.RecordLaws.{side-of-number}
+use Rattle.machine.proofs.Words.RecordLaws.{side-of-number}
 use Rattle.layout.specs.Coded.{HoldsNode, linkIn, recordFrom, taskMeant}
 use Rattle.layout.proofs.NodeWords.{any-default}
 use Rattle.alloc.specs.Tables.{Sized}

@@ -9,6 +9,13 @@ use crate::held::C;
 use crate::held::D;
 use crate::held::held;
 use layout::nodes::link;
+use layout::places::HEADER;
+use layout::places::LEFT_HAT;
+use layout::places::NODE_COUNT;
+use layout::places::NODE_WORDS;
+use layout::places::RECORD_WORDS;
+use layout::places::RIGHT_HAT;
+use layout::places::TASK_COUNT;
 use layout::tasks::Task;
 ghost use mathlib.Core.Path.{_≡_};
 ghost use mathlib.Core.List.{[], _∷_};
@@ -26,25 +33,9 @@ ghost use Rattle.machine.specs.Allocate.{
   firstUnmarked,
   allocate,
 };
-ghost use Rattle.machine.proofs.Marking.{Room};
+ghost use Rattle.machine.proofs.SlotRule.Marking.{Room};
 ghost use Rattle.layout.specs.Coded.{taskMeant};
 ghost use Rattle.alloc.specs.Tables.{Sized, markingOf, hats};
-
-// Where the words of the header stand, and where the nodes begin.
-const NODE_COUNT: usize = 0;
-
-const TASK_COUNT: usize = 1;
-
-const LEFT_HAT: usize = 3;
-
-const RIGHT_HAT: usize = 4;
-
-const NODES: usize = 8;
-
-// How many words a node and a task record have.
-const NODE_WORDS: usize = 3;
-
-const RECORD_WORDS: usize = 10;
 
 // Marks x and puts it at the end of the queue, unless it is no node or has a mark. Answers where the queue now ends,
 // as every function does that marks.
@@ -126,7 +117,7 @@ fn mark_tasks(t: &[u32], marks: &mut [u8; 1024], queue: &mut [u32; 1024], mut ta
     let count = t[TASK_COUNT] as usize;
     let mut k = 0;
     while k < count {
-        let task = Task::read(t, NODES + NODE_WORDS * n + RECORD_WORDS * k);
+        let task = Task::read(t, HEADER + NODE_WORDS * n + RECORD_WORDS * k);
         tail = mark_held(marks, queue, tail, n, task);
         k += 1;
     }
@@ -147,8 +138,8 @@ fn visit(
 {
     let n = t[NODE_COUNT] as usize;
     let x = queue[place];
-    let l = link(&t[NODES..], 0, x);
-    let r = link(&t[NODES..], 1, x);
+    let l = link(&t[HEADER..], 0, x);
+    let r = link(&t[HEADER..], 1, x);
     mark_both(marks, queue, tail, n, l, r)
 }
 

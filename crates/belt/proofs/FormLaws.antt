@@ -26,11 +26,9 @@ use Rattle.machine.specs.Calls.{
   read,
 }
 use Rattle.machine.specs.Row.{isGoing}
-use Rattle.machine.proofs.Contradiction.{clash}
-use Rattle.deque.specs.Calls.{changedOf}
-use Rattle.deque.specs.Lane.{readOf}
-use Rattle.deque.specs.Ticks.{tickedOf}
-use Rattle.deque.proofs.Refusals.{start-1, start-accepted, most-nodes, most-tasks}
+use Rattle.machine.proofs.Basics.Contradiction.{clash}
+use Rattle.machine.specs.Results.{changedOf, tickedOf, readOf}
+use Rattle.starting.proofs.StartTests.{start-1, start-accepted, most-nodes, most-tasks}
 use Rattle.printer.specs.declared.Outcome.{Outcome}
 use Rattle.printer.specs.declared.Outcome.the-variants.{Ok, Going, Refused}
 use Rattle.printer.specs.Writing.{countOf}

@@ -4,12 +4,15 @@ use crate::outcomes::is_going;
 use crate::outcomes::of_answer;
 use crate::outcomes::of_reading;
 use crate::outcomes::of_reply;
-use deque::begin;
-use deque::read;
-use deque::start;
-use deque::tick;
+use beginning::begin;
+use layout::places::HEADER;
+use layout::places::NODE_WORDS;
+use layout::places::RECORD_WORDS;
 use machine::Reply;
 use printer::Outcome;
+use reading::read;
+use starting::start;
+use ticking::tick;
 ghost use mathlib.Core.Path.{_≡_};
 ghost use Prim.Native.Nat.{_≤_};
 ghost use lib.ListN.{length, take};
@@ -23,7 +26,7 @@ pub fn start_line(space: &mut [u32], len: usize, slots: u32, tasks: u32, growth:
     ensures { λ r. ⌜ Leaves (now (space .entry)) (now (space .exit)) (r .len) (r .outcome)
         (startLine (take len (now (space .entry))) slots tasks growth) ⌝ }
 {
-    let need = 8 + 3 * (slots as usize) + 10 * (tasks as usize);
+    let need = HEADER + NODE_WORDS * (slots as usize) + RECORD_WORDS * (tasks as usize);
     // No sizes in range ask for more than there is.
     if space.len() < need {
         return Done {

@@ -1,5 +1,1 @@
-pub mod Lane
-pub mod Ticks
-pub mod Calls
-pub mod Runs
 pub mod Exports

@@ -10,9 +10,9 @@ use Rattle.machine.specs.Steps.{Step, stepNumber, stepOf, isStepIn}
 use Rattle.layout.specs.declared.tasks.Task as Tasks
 use Rattle.hattrick.specs.Lent.{lineOf}
 use Rattle.figure.specs.Groups.{allSteps, ReadyIn}
-use Rattle.machine.proofs.Contradiction.{clash}
-use Rattle.machine.proofs.Tests.{or-either, and-left, and-right}
-use Rattle.machine.proofs.StepLaws.{step-of-number}
+use Rattle.machine.proofs.Basics.Contradiction.{clash}
+use Rattle.machine.proofs.Basics.Tests.{or-either, and-left, and-right}
+use Rattle.machine.proofs.Words.StepLaws.{step-of-number}
 
 module _ (n : ℕ) (st : Step) (sts : List Step) (h : isStepIn (st ∷ sts) n ≡ true) where
   pub not-first : n ≢ stepNumber st → isStepIn sts n ≡ true

@@ -124,7 +124,7 @@ fn run(
 
 fn main() {
     let mut input = io::large_buffer();
-    // The largest table has 8 + 3 * 1,024 + 10 * 16 words.
+    // The largest table: 1,024 nodes, 16 tasks.
     let mut space = [0u32; 3240];
     let mut bags = [0u32; 1024];
     let mut text = [0u8; TEXT_PLACES];

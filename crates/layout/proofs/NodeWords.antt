@@ -6,7 +6,7 @@ use native.Mathlib.Omega.{arith}
 use lib.ListN.{length, getD, set}
 use Rattle.machine.specs.Sides.{sideOf}
 use Rattle.machine.specs.Tasks.{none}
-use Rattle.machine.proofs.RecordLaws.{number-of-side}
+use Rattle.machine.proofs.Words.RecordLaws.{number-of-side}
 use Rattle.layout.specs.Coded.{HoldsNode, linkIn, setLinkIn}
 
 -- Within a list the default does not matter.

@@ -12,9 +12,9 @@ use borrow.Author.Tests.{leb-true, eqb-true, eq-eqb, ne-eqb, le-leb, lt-leb}
 use Rattle.machine.specs.Choice.{_≟_}
 use Rattle.machine.specs.Sides.{Side, left, right}
 use Rattle.machine.specs.Values.{Value, never, bag, N, X, Y, encode, decode, mirror, valueOk}
-use Rattle.machine.proofs.Choices.{equalᵛ, unequalᵛ}
-use Rattle.machine.proofs.Tests.{or-either, and-right}
-use Rattle.machine.proofs.ValueLaws.{
+use Rattle.machine.proofs.Basics.Choices.{equalᵛ, unequalᵛ}
+use Rattle.machine.proofs.Basics.Tests.{or-either, and-right}
+use Rattle.machine.proofs.Words.ValueLaws.{
   encode-decode,
   decode-one-to-one,
   bag-ok,

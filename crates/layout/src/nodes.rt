@@ -1,4 +1,6 @@
 // The nodes' words: the part of the table between the header and the tasks, three words a node.
+use crate::places::NODE_WORDS;
+use crate::places::VALUE;
 use crate::values::Value;
 ghost use mathlib.Core.Path.{_≡_};
 ghost use Prim.Native.Nat.{_+_, _*_, _<_};
@@ -11,14 +13,14 @@ pub fn link(nodes: &[u32], side: u32, x: u32) -> u32
     requires { ⌜ HoldsNode (now nodes) x × (side < 2) ⌝ }
     ensures { λ r. ⌜ r ≡ linkIn (now (nodes .entry)) (sideOf side) x ⌝ }
 {
-    nodes[3 * (x as usize) + (side as usize)]
+    nodes[NODE_WORDS * (x as usize) + (side as usize)]
 }
 
 pub fn set_link(nodes: &mut [u32], side: u32, x: u32, y: u32)
     requires { ⌜ HoldsNode (now nodes) x × (side < 2) ⌝ }
     ensures { λ r. ⌜ now (nodes .exit) ≡ setLinkIn (now (nodes .entry)) (sideOf side) x y ⌝ }
 {
-    nodes[3 * (x as usize) + (side as usize)] = y;
+    nodes[NODE_WORDS * (x as usize) + (side as usize)] = y;
 }
 
 pub fn value(nodes: &[u32], x: u32) -> Value
@@ -26,7 +28,7 @@ pub fn value(nodes: &[u32], x: u32) -> Value
     ensures { λ r. ⌜ r ≡ codedWord (wordIn (now (nodes .entry)) x) ⌝ }
 {
     Value {
-        word: nodes[3 * (x as usize) + 2],
+        word: nodes[NODE_WORDS * (x as usize) + VALUE],
     }
 }
 
@@ -34,5 +36,5 @@ pub fn set_value(nodes: &mut [u32], x: u32, v: Value)
     requires { ⌜ HoldsNode (now nodes) x ⌝ }
     ensures { λ r. ⌜ now (nodes .exit) ≡ setWordIn (now (nodes .entry)) x (v .word) ⌝ }
 {
-    nodes[3 * (x as usize) + 2] = v.word;
+    nodes[NODE_WORDS * (x as usize) + VALUE] = v.word;
 }

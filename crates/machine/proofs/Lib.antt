@@ -1,36 +1,19 @@
-pub mod Contradiction
-pub mod Choices
-pub mod Tests
-pub mod ValueLaws
-pub mod StepLaws
-pub mod Everywhere
-pub mod RecordLaws
-pub mod Updates
-pub mod Memories
-pub mod Columns
-pub mod Stretches
-pub mod TableLaws
-pub mod EffectLaws
-pub mod StartLaws
-pub mod BusyLaws
-pub mod ShapeLaws
-pub mod Fits
-pub mod Moves
-pub mod PushFits
-pub mod AddFits
-pub mod PopFits
-pub mod RemoveFits
-pub mod LinesFit
-pub mod WritesKeep
-pub mod TickKeeps
-pub mod TickLaws
-pub mod RunLaws
-pub mod ShapeKept
-pub mod Marking
-pub mod Reached
-pub mod FirstFree
+-- What is proved of the definitions, to be read in this order.
+
+-- Facts about numbers, choices and functions.
+pub mod Basics
+-- The words of a table, and what they stand for.
+pub mod Words
+-- Refusals 3 and 4, which every call keeps.
+pub mod Shape
+-- The slot rule: what is reachable, what is taken.
+pub mod SlotRule
+-- Request 2026-06: which registers hold.
 pub mod Registers
+-- Demand 3.
 pub mod Linearizability
+-- Request 2026-08: a call that gets all the ticks answers.
 pub mod SoloBound
+-- Beyond the order: some call answers under every schedule; no node leaks.
 pub mod LockFree
 pub mod NoLeak

@@ -1,5 +1,5 @@
 -- The slot rule, computed: marking what is reachable, and the first node without a mark from a hint on.
--- proofs/Reached.antt shows that the marks are exactly the reachable nodes.
+-- proofs/SlotRule/Reached.antt shows that the marks are exactly the reachable nodes.
 use mathlib.Core.Bool.{true, false, cond}
 use mathlib.Core.List.{List, [], _∷_, _++_}
 use Prim.Native.Nat.{ℕ, zero, suc, _+_}

@@ -1,28 +1,17 @@
--- The answers' numbers: of start and begin, of a read, the two words that a run writes for a tick, and the answer
--- that two such words stand for.
+-- The answers' numbers: of start and begin, the two words that a run writes for a tick, and the answer that two such
+-- words stand for.
 use mathlib.Core.Option.{Option, some, none as nothing}
 use Prim.Native.Nat.{ℕ}
 use Rattle.machine.specs.declared.Answer.{Answer}
 use Rattle.machine.specs.declared.Answer.the-variants.{Going, Pushed, Bag, Empty, Full, Yes, No, Refused}
 use Rattle.machine.specs.declared.Reply.{Reply}
 use Rattle.machine.specs.declared.Reply.the-variants.{Accepted, Refused as Reply-Refused}
-use Rattle.machine.specs.declared.Reading.{Reading}
-use Rattle.machine.specs.declared.Reading.the-variants.{Count, Refused as Reading-Refused}
 use Rattle.machine.specs.Choice.{_≟_, if_then_else_}
 
 -- Of start and begin: 0, or the refusal.
 abbrev pub replyNumber : Reply → ℕ
 replyNumber Accepted = 0
 replyNumber (Reply-Refused n) = n
-
--- Of a read: the count of the bags, and 0 or the refusal.
-abbrev pub readingCount : Reading → ℕ
-readingCount (Count n) = n
-readingCount (Reading-Refused n) = 0
-
-abbrev pub readingRefusal : Reading → ℕ
-readingRefusal (Count n) = 0
-readingRefusal (Reading-Refused n) = n
 
 -- 01: 0 going, 1 pushed, 2 bag, 3 empty, 4 full, 5 yes, 6 no. A refusal, which a run does not write,
 -- is kind 7.

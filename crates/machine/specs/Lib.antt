@@ -13,6 +13,7 @@ pub mod Lines
 pub mod LinesUse
 pub mod Answers
 pub mod Calls
+pub mod Results
 pub mod FirstFree
 pub mod Row
 pub mod Demand3

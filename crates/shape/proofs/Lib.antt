@@ -3,3 +3,4 @@ pub mod StepTable
 pub mod RecordWords
 pub mod TableWords
 pub mod Below
+pub mod PassedTable

@@ -15,7 +15,7 @@ use Rattle.machine.specs.Operations.{add, remove, operationOf, argumentOk, goal
 use Rattle.machine.specs.Steps.{stepsOf, isStepIn}
 use Rattle.machine.specs.Tasks.{fresh, none, wordsOf}
 use Rattle.machine.specs.Shape.{sameWords, nodeOrNone, valueReadOk, countedOk, busyOk}
-use Rattle.machine.proofs.Choices.{equal, unequal}
+use Rattle.machine.proofs.Basics.Choices.{equal, unequal}
 use Rattle.layout.specs.declared.values.Value as Values
 use Rattle.layout.specs.declared.tasks.Task as Tasks
 use Rattle.layout.specs.Coded.{coded, recordOf}

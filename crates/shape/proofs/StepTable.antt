@@ -11,7 +11,7 @@ use borrow.Author.Tests.{leb-true, ne-eqb}
 use Rattle.machine.specs.Choice.{_≟_}
 use Rattle.machine.specs.Operations.{Operation, idle, push, pop, add, remove, operationOf}
 use Rattle.machine.specs.Steps.{Step, stepNumber, stepsOf, isStepIn}
-use Rattle.machine.proofs.Tests.{agreed, and-left, and-right}
+use Rattle.machine.proofs.Basics.Tests.{agreed, and-left, and-right}
 use Rattle.layout.proofs.Tables.{at, every}
 
 -- The entries, ten steps to a line.

@@ -10,7 +10,7 @@ use lib.Seq.{getD-take, getD-drop}
 use borrow.Author.Tests.{leb-true, eqb-true, le-leb, lt-leb}
 use Rattle.machine.specs.Table.{tableLength, nodeCount, taskCount, growth, nodeAt, valueAt}
 use Rattle.machine.specs.Shape.{sizesOk, lengthOk}
-use Rattle.machine.proofs.Tests.{and-left, and-right}
+use Rattle.machine.proofs.Basics.Tests.{and-left, and-right}
 use Rattle.layout.proofs.NodeWords.{any-default}
 
 -- ---- Sizes and length.

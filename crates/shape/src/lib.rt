@@ -3,6 +3,16 @@ pub mod records;
 pub mod steps;
 
 use layout::nodes;
+use layout::places::GROWTH;
+use layout::places::HEADER;
+use layout::places::LEFT_HAT;
+use layout::places::NODE_COUNT;
+use layout::places::NODE_WORDS;
+use layout::places::RECORD_WORDS;
+use layout::places::RIGHT_HAT;
+use layout::places::TASK_COUNT;
+use layout::places::WORD_6;
+use layout::places::WORD_7;
 use layout::tasks::Task;
 ghost use mathlib.Core.Path.{_≡_};
 ghost use mathlib.Core.Bool.{true};
@@ -20,23 +30,6 @@ ghost use Rattle.machine.specs.Shape.{
 };
 ghost use Rattle.machine.specs.Calls.{tableRefusal};
 ghost use Rattle.shape.specs.Contracts.{taskOk, numberOf};
-
-// 01's header by place: S, T, growth, left hat, right hat, tick count, 0, 0. The nodes come after it.
-const NODE_COUNT: usize = 0;
-
-const TASK_COUNT: usize = 1;
-
-const GROWTH: usize = 2;
-
-const LEFT_HAT: usize = 3;
-
-const RIGHT_HAT: usize = 4;
-
-const WORD_6: usize = 6;
-
-const WORD_7: usize = 7;
-
-const HEADER: usize = 8;
 
 // 01: S slots (2 to 1,024), T tasks (1 to 16), growth (0 to 64).
 pub fn sizes_ok(slots: u32, tasks: u32, growth: u32) -> bool
@@ -56,7 +49,8 @@ pub fn length_ok(t: &[u32]) -> bool
         return false;
     }
     // The sizes are in range, so that the sum cannot overflow.
-    t.len() == HEADER + 3 * (t[NODE_COUNT] as usize) + 10 * (t[TASK_COUNT] as usize)
+    t.len()
+        == HEADER + NODE_WORDS * (t[NODE_COUNT] as usize) + RECORD_WORDS * (t[TASK_COUNT] as usize)
 }
 
 // 01: both last header words are 0, hats are below S.
@@ -102,7 +96,7 @@ fn task_ok(t: &[u32], k: u32) -> bool
     ensures { λ r. ⌜ r ≡ taskOk (now (t .entry)) k ⌝ }
 {
     let slots = t[NODE_COUNT];
-    let at = HEADER + 3 * (slots as usize) + 10 * (k as usize);
+    let at = HEADER + NODE_WORDS * (slots as usize) + RECORD_WORDS * (k as usize);
     records::record_ok(Task::read(t, at), slots, t[GROWTH])
 }
 

@@ -7,8 +7,8 @@ use Rattle.machine.specs.Sides.{sideOf}
 use Rattle.machine.specs.Values.{N, X, Y, decode, _≟ᵛ_}
 use Rattle.machine.specs.Steps.{line15, line18, line24, line67, stepNumber}
 use Rattle.machine.specs.Lines.{act}
-use Rattle.machine.proofs.Choices.{equal, unequal}
-use Rattle.machine.proofs.ValueLaws.{encode-decode}
+use Rattle.machine.proofs.Basics.Choices.{equal, unequal}
+use Rattle.machine.proofs.Words.ValueLaws.{encode-decode}
 use Rattle.layout.specs.Coded.{codedWord, wordIn, withValueRead}
 use Rattle.hattrick.specs.Lent.{lineOf, nextDone, refusedDone}
 use Rattle.hattrick.proofs.Laws.Compared.{told}

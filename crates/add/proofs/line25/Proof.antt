@@ -4,7 +4,7 @@ use native.Mathlib.Omega.{arith}
 use Rattle.machine.specs.Sides.{sideOf}
 use Rattle.machine.specs.Values.{X}
 use Rattle.machine.specs.Lines.{act}
-use Rattle.machine.proofs.Choices.{equal}
+use Rattle.machine.proofs.Basics.Choices.{equal}
 use Rattle.hattrick.specs.Lent.{lineOf, refusedDone}
 use Rattle.hattrick.proofs.Laws.Ready.{by-code, node-value-ok, side-below-two}
 use Rattle.hattrick.proofs.Laws.Compared.{told}

@@ -3,7 +3,7 @@ use mathlib.Core.Path.{_∙_}
 use native.Mathlib.Omega.{arith}
 use Rattle.machine.specs.Sides.{opposite, sideOf}
 use Rattle.machine.specs.Lines.{act}
-use Rattle.machine.proofs.Choices.{equal}
+use Rattle.machine.proofs.Basics.Choices.{equal}
 use Rattle.hattrick.specs.Lent.{lineOf, refusedDone}
 use Rattle.hattrick.proofs.Laws.Ready.{by-code, number-of-a-side, side-below-two, side-meant}
 use Rattle.hattrick.proofs.Laws.Cases.{chain-ends, chain-grows}

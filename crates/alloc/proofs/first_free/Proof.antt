@@ -4,7 +4,7 @@ use mathlib.Core.List.{List}
 use Prim.Native.Nat.{ℕ}
 use Rattle.machine.specs.Table.{nodeCount}
 use Rattle.machine.specs.Allocate.{roots, Marking, unmarked, markAll}
-use Rattle.machine.proofs.Marking.{room-unmarked, room-of-markAll, allocate-joined}
+use Rattle.machine.proofs.SlotRule.Marking.{room-unmarked, room-of-markAll, allocate-joined}
 use Rattle.alloc.specs.Tables.{markingOf}
 use Rattle.alloc.proofs.Marked.{roots-marked, room-of-list}
 use borrow.Author.Needs.{needs}

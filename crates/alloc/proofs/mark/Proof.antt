@@ -3,7 +3,7 @@ use Prim.Native.Nat.{_<_}
 use native.Mathlib.Omega.{arith}
 use borrow.Author.Tests.{lt-ltb, le-ltb, eq-eqb, ne-eqb}
 use Rattle.machine.specs.Allocate.{mark, largestCount}
-use Rattle.machine.proofs.Marking.{tail-low}
+use Rattle.machine.proofs.SlotRule.Marking.{tail-low}
 use borrow.Author.Needs.{needs}
 use Rattle.alloc.proofs.mark.Statement.{statement}
 use Rattle.alloc.proofs.mark.Tie as tie

@@ -1,5 +1,5 @@
 -- A mark keeps the room that the second one asks for.
-use Rattle.machine.proofs.Marking.{room-of-mark}
+use Rattle.machine.proofs.SlotRule.Marking.{room-of-mark}
 use Rattle.alloc.proofs.Marked.{both-marked}
 use borrow.Author.Needs.{needs}
 use Rattle.alloc.proofs.mark_both.Statement.{statement}

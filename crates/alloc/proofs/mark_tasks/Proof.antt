@@ -5,7 +5,7 @@ use native.Mathlib.Omega.{arith}
 use native.Mathlib.Nat.{sub-zero}
 use Rattle.machine.specs.Table.{nodeCount}
 use Rattle.machine.specs.Allocate.{heldFrom, markAll}
-use Rattle.machine.proofs.Marking.{Room}
+use Rattle.machine.proofs.SlotRule.Marking.{Room}
 use Rattle.alloc.specs.Tables.{markingOf}
 use Rattle.alloc.proofs.Marked.{held-marked, held-kept, held-end, room-of-list}
 use borrow.Author.Needs.{needs}

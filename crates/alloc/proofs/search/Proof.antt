@@ -4,7 +4,7 @@ use Prim.Native.Nat.{_<_, _≤_, _-_}
 use native.Mathlib.Omega.{arith}
 use native.Mathlib.Nat.{sub-zero}
 use Rattle.machine.specs.Allocate.{firstUnmarked}
-use Rattle.machine.proofs.Marking.{firstUnmarked-kept, firstUnmarked-found, firstUnmarked-none}
+use Rattle.machine.proofs.SlotRule.Marking.{firstUnmarked-kept, firstUnmarked-found, firstUnmarked-none}
 use Rattle.alloc.proofs.search.Statement.{statement}
 use Rattle.alloc.proofs.search.Tie as tie
 

@@ -4,7 +4,7 @@ use Prim.Native.Nat.{_-_}
 use native.Mathlib.Omega.{arith}
 use Rattle.machine.specs.Table.{nodeCount}
 use Rattle.machine.specs.Allocate.{largestCount, visitFrom}
-use Rattle.machine.proofs.Marking.{Room, tail-le, room-of-visit, visitFrom-kept, visitFrom-end}
+use Rattle.machine.proofs.SlotRule.Marking.{Room, tail-le, room-of-visit, visitFrom-kept, visitFrom-end}
 use Rattle.alloc.specs.Tables.{markingOf}
 use Rattle.alloc.proofs.spread.Statement.{statement}
 use Rattle.alloc.proofs.spread.Tie as tie

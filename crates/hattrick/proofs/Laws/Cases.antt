@@ -14,7 +14,7 @@ use Rattle.machine.specs.Values.{N, X, encode, decode}
 use Rattle.machine.specs.Steps.{line5, line15, line25, line28, line31, stepNumber}
 use Rattle.machine.specs.Tasks.{none}
 use Rattle.machine.specs.Lines.{act, out≔, val≔}
-use Rattle.machine.proofs.Choices.{equal, unequal}
+use Rattle.machine.proofs.Basics.Choices.{equal, unequal}
 use Rattle.layout.specs.declared.tasks.Task as Tasks
 use Rattle.layout.specs.Coded.{isSame, linkIn, setLinkIn, wordIn, setWordIn, taskMeant, withCount, withRegister}
 use Rattle.hattrick.specs.Lent.{Ready, lineOf, outcomeOf, nextDone, answerDone}

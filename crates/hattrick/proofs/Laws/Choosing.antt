@@ -6,8 +6,8 @@ use Rattle.machine.specs.Sides.{Side}
 use Rattle.machine.specs.Values.{Value, never, bag, N, X, Y, _≟ᵛ_}
 use Rattle.machine.specs.Steps.{line39, line48, line51}
 use Rattle.machine.specs.Lines.{Effect, afterRead}
-use Rattle.machine.proofs.Contradiction.{clash, refute}
-use Rattle.machine.proofs.Choices.{equalᵛ, unequalᵛ}
+use Rattle.machine.proofs.Basics.Contradiction.{clash, refute}
+use Rattle.machine.proofs.Basics.Choices.{equalᵛ, unequalᵛ}
 use Rattle.layout.specs.Coded.{isSame, isBag}
 
 -- ---- The cases of `afterRead`.

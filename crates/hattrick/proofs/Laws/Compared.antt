@@ -1,6 +1,5 @@
 -- What a comparison of values in code says of the values.
-use mathlib.Core.Path.{_≡_, refl, sym, ap, _∙_}
-use mathlib.Core.Logic.{_≢_}
+use mathlib.Core.Path.{_≡_, refl, ap, _∙_}
 use mathlib.Core.Bool.{Bool, true, false, _&&_}
 use Prim.Native.Nat.{ℕ}
 use lib.Dec.{eqb}
@@ -8,44 +7,9 @@ use borrow.Author.Tests.{eq-eqb, ne-eqb}
 use Rattle.machine.specs.Choice.{_≟_, if_then_else_}
 use Rattle.machine.specs.Values.{Value, decode, _≟ᵛ_}
 use Rattle.machine.specs.Lines.{Effect, dcas}
-use Rattle.machine.proofs.Contradiction.{clash}
-use Rattle.machine.proofs.ValueLaws.{HasWord}
+use Rattle.machine.proofs.Basics.Contradiction.{clash}
 use Rattle.layout.specs.declared.values.Value as Values
-use Rattle.layout.specs.Coded.{coded, codedWord, meaning, isSame}
-
-same-values : (u v : Value) → isSame u v ≡ true → u ≡ v
-same-values u v = go (u ≟ᵛ v)
-  where
-    go : (d : Dec (u ≡ v)) → (if d then true else false) ≡ true → u ≡ v
-    go (yes e) h = e
-    go (no n) h = clash (cc)
-
-other-values : (u v : Value) → isSame u v ≡ false → u ≢ v
-other-values u v = go (u ≟ᵛ v)
-  where
-    go : (d : Dec (u ≡ v)) → (if d then true else false) ≡ false → u ≢ v
-    go (yes e) h = clash (cc)
-    go (no n) h = n
-
--- r is the comparison of a node's value with a value that has a word.
-module _
-    {r : Bool}
-    {p q : Values.Value}
-    {w : ℕ}
-    {v : Value}
-    (compared : r ≡ isSame (meaning p) (meaning q))
-    (read : p ≡ codedWord w)
-    (mark : q ≡ coded v)
-    (word : HasWord v) where
-  pub is-value : r ≡ true → decode w ≡ v
-  is-value h =
-      let e : isSame (decode w) v ≡ true = rw (read, mark, word) at (sym compared ∙ h) in
-      same-values (decode w) v e
-
-  pub is-no-value : r ≡ false → decode w ≢ v
-  is-no-value h =
-      let e : isSame (decode w) v ≡ false = rw (read, mark, word) at (sym compared ∙ h) in
-      other-values (decode w) v e
+use Rattle.layout.specs.Coded.{codedWord, meaning, isSame}
 
 -- r is the comparison of a value read with a value.
 module _

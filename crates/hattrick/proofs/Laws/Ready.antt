@@ -9,8 +9,8 @@ use lib.ListN.{getD}
 use Rattle.machine.specs.Sides.{Side, left, right, sideNumber, sideOf}
 use Rattle.machine.specs.Values.{encode, decode, valueOk}
 use Rattle.machine.specs.Tasks.{none}
-use Rattle.machine.proofs.ValueLaws.{decoded-value-ok}
-use Rattle.machine.proofs.RecordLaws.{side-of-number}
+use Rattle.machine.proofs.Words.ValueLaws.{decoded-value-ok}
+use Rattle.machine.proofs.Words.RecordLaws.{side-of-number}
 use Rattle.layout.specs.declared.values.Value as Values
 use Rattle.layout.specs.declared.tasks.Task as Tasks
 use Rattle.layout.specs.Coded.{codedTask, codedWord, taskMeant, wordIn}

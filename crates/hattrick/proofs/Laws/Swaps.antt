@@ -13,9 +13,9 @@ use Rattle.machine.specs.Values.{Value, N, X, Y, encode, decode, bagOk, _≟ᵛ
 use Rattle.machine.specs.Steps.{line48, line51, line62}
 use Rattle.machine.specs.Tasks.{none}
 use Rattle.machine.specs.Lines.{Effect, dcas, act}
-use Rattle.machine.proofs.Contradiction.{clash}
-use Rattle.machine.proofs.Choices.{unequal}
-use Rattle.machine.proofs.ValueLaws.{bag-has-word}
+use Rattle.machine.proofs.Basics.Contradiction.{clash}
+use Rattle.machine.proofs.Basics.Choices.{unequal}
+use Rattle.machine.proofs.Words.ValueLaws.{bag-has-word}
 use Rattle.layout.specs.declared.values.Value as Values
 use Rattle.layout.specs.declared.tasks.Task as Tasks
 use Rattle.layout.specs.Coded.{coded, meaning, isSame, wordIn, setWordIn}

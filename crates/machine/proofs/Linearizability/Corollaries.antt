@@ -54,14 +54,14 @@ use Rattle.machine.specs.Begun.{
   bagsPushed,
   bagsPopped,
 }
-use Rattle.machine.proofs.Contradiction.{clash, refute}
-use Rattle.machine.proofs.ShapeKept.{is-accepted, table-passes}
-use Rattle.machine.proofs.Reached.{node-not-none, reachable-node}
-use Rattle.machine.proofs.FirstFree.{allocate-first-free, allocate-none}
-use Rattle.machine.proofs.TickLaws.{tick-stopped}
-use Rattle.machine.proofs.Linearizability.Agreement.{Agrees}
-use Rattle.machine.proofs.Linearizability.MadeTicks.{well-linked, made-tick}
-use Rattle.machine.proofs.Linearizability.CallsAgree.{tick-explained}
+use Rattle.machine.proofs.Basics.Contradiction.{clash, refute}
+use Rattle.machine.proofs.Shape.ShapeKept.{is-accepted, table-passes}
+use Rattle.machine.proofs.SlotRule.Reached.{node-not-none, reachable-node}
+use Rattle.machine.proofs.SlotRule.FirstFree.{allocate-first-free, allocate-none}
+use Rattle.machine.proofs.Words.TickLaws.{tick-stopped}
+use Rattle.machine.proofs.Linearizability.Calls.Agreement.{Agrees}
+use Rattle.machine.proofs.Linearizability.Calls.MadeTicks.{well-linked, made-tick}
+use Rattle.machine.proofs.Linearizability.Calls.CallsAgree.{tick-explained}
 use Rattle.machine.proofs.Linearizability.Theorem.{call-explained, started-agrees, demand3}
 use Rattle.machine.proofs.Linearizability.Histories.{
   Balanced,

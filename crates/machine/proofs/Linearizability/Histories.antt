@@ -67,7 +67,7 @@ use Rattle.machine.specs.Begun.{
   bagsPushed,
   bagsPopped,
 }
-use Rattle.machine.proofs.Contradiction.{clash}
+use Rattle.machine.proofs.Basics.Contradiction.{clash}
 
 -- ---- Bags counted.
 

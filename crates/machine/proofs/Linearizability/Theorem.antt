@@ -17,10 +17,10 @@ use Rattle.machine.specs.Demand3.{
   Explained,
   Demand3,
 }
-use Rattle.machine.proofs.Contradiction.{clash}
-use Rattle.machine.proofs.Tests.{test-passed}
-use Rattle.machine.proofs.Linearizability.Agreement.{Agrees, lane-is-row}
-use Rattle.machine.proofs.Linearizability.CallsAgree.{
+use Rattle.machine.proofs.Basics.Contradiction.{clash}
+use Rattle.machine.proofs.Basics.Tests.{test-passed}
+use Rattle.machine.proofs.Linearizability.Calls.Agreement.{Agrees, lane-is-row}
+use Rattle.machine.proofs.Linearizability.Calls.CallsAgree.{
   Explains,
   start-agrees,
   start-explained,
@@ -28,7 +28,7 @@ use Rattle.machine.proofs.Linearizability.CallsAgree.{
   tick-explained,
   read-explained,
 }
-use Rattle.machine.proofs.Linearizability.Runs.{run-explained, run-within}
+use Rattle.machine.proofs.Linearizability.Calls.Runs.{run-explained, run-within}
 
 -- One call, and the ticks inside it.
 pub call-explained : {ws : List ℕ} {ρ : Row} → Agrees ws ρ → (c : Call) → Explains ws ρ c

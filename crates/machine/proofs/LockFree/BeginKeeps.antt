@@ -11,12 +11,12 @@ use Rattle.machine.specs.Lines.{Memory, seen}
 use Rattle.machine.specs.Calls.{isBusy, begin}
 use Rattle.machine.specs.Demand3.{begin-call}
 use Rattle.machine.specs.Begun.{Begun, by-call}
-use Rattle.machine.proofs.Contradiction.{equal?}
-use Rattle.machine.proofs.Updates.{update-other}
-use Rattle.machine.proofs.Memories.{view}
-use Rattle.machine.proofs.Linearizability.Agreement.{Agrees}
+use Rattle.machine.proofs.Basics.Contradiction.{equal?}
+use Rattle.machine.proofs.Basics.Updates.{update-other}
+use Rattle.machine.proofs.Words.Memories.{view}
+use Rattle.machine.proofs.Linearizability.Calls.Agreement.{Agrees}
 use Rattle.machine.proofs.Linearizability.Corollaries.{begun-agrees}
-use Rattle.machine.proofs.Linearizability.TableBegun.{BegunTable, by-begin}
+use Rattle.machine.proofs.Linearizability.Begun.TableBegun.{BegunTable, by-begin}
 use Rattle.machine.proofs.LockFree.Disturbances.{HatDisturbs, disturbs-at-first}
 use Rattle.machine.proofs.LockFree.Sums.{sum}
 use Rattle.machine.proofs.SoloBound.AtFirst.{most}

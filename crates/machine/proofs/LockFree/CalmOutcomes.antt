@@ -22,17 +22,17 @@ use Rattle.machine.specs.Lines.{
   writing,
   act,
 }
-use Rattle.machine.proofs.Contradiction.{refute}
-use Rattle.machine.proofs.Updates.{it-is, it-is-not, update, update-wrote, wrote?, update-other}
-use Rattle.machine.proofs.Memories.{written}
-use Rattle.machine.proofs.Linearizability.Classes.{Class, Old}
-use Rattle.machine.proofs.Linearizability.Nodes.{hat-old}
-use Rattle.machine.proofs.Linearizability.Guarantee.{SameIn}
-use Rattle.machine.proofs.Linearizability.ChainGrowth.{head-new}
-use Rattle.machine.proofs.Linearizability.Connectives.{ok-if}
-use Rattle.machine.proofs.Linearizability.Phases.{TaskOk}
-use Rattle.machine.proofs.Linearizability.Take.{TakeOk}
-use Rattle.machine.proofs.Linearizability.Invariant.{Lane}
+use Rattle.machine.proofs.Basics.Contradiction.{refute}
+use Rattle.machine.proofs.Basics.Updates.{it-is, it-is-not, update, update-wrote, wrote?, update-other}
+use Rattle.machine.proofs.Words.Memories.{written}
+use Rattle.machine.proofs.Linearizability.Model.Classes.{Class, Old}
+use Rattle.machine.proofs.Linearizability.Model.Nodes.{hat-old}
+use Rattle.machine.proofs.Linearizability.Model.Guarantee.{SameIn}
+use Rattle.machine.proofs.Linearizability.Writes.ChainGrowth.{head-new}
+use Rattle.machine.proofs.Linearizability.Lines.Connectives.{ok-if}
+use Rattle.machine.proofs.Linearizability.Model.Phases.{TaskOk}
+use Rattle.machine.proofs.Linearizability.Writes.Take.{TakeOk}
+use Rattle.machine.proofs.Linearizability.Model.Invariant.{Lane}
 use Rattle.machine.proofs.SoloBound.Walks.{ends-cut}
 use Rattle.machine.proofs.SoloBound.Budget.{SoonOrLate, soon, late}
 use Rattle.machine.proofs.SoloBound.Spending.{no-node-answers}

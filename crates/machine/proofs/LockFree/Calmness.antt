@@ -7,12 +7,12 @@ use native.Mathlib.Omega.{arith}
 use Rattle.machine.specs.Sides.{Side}
 use Rattle.machine.specs.Values.{Y}
 use Rattle.machine.specs.Lines.{Memory}
-use Rattle.machine.proofs.Contradiction.{refute}
-use Rattle.machine.proofs.Linearizability.Classes.{Class, main, Old}
-use Rattle.machine.proofs.Linearizability.Structure.{Structure}
-use Rattle.machine.proofs.Linearizability.Nodes.{out-old, inn-old, Y-in-spur}
-use Rattle.machine.proofs.Linearizability.Guarantee.{SameIn, Guarantee}
-use Rattle.machine.proofs.Linearizability.Held.{main-held}
+use Rattle.machine.proofs.Basics.Contradiction.{refute}
+use Rattle.machine.proofs.Linearizability.Model.Classes.{Class, main, Old}
+use Rattle.machine.proofs.Linearizability.Model.Structure.{Structure}
+use Rattle.machine.proofs.Linearizability.Model.Nodes.{out-old, inn-old, Y-in-spur}
+use Rattle.machine.proofs.Linearizability.Model.Guarantee.{SameIn, Guarantee}
+use Rattle.machine.proofs.Linearizability.Model.Held.{main-held}
 use Rattle.machine.proofs.SoloBound.Walks.{ends-same}
 use Rattle.machine.proofs.SoloBound.AtHat.{j, j-next, inn-hat, past-hat}
 use Rattle.machine.proofs.LockFree.Change.{Holds, kept, marked, Calm, past, Steady, NoCut}

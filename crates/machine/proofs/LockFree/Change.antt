@@ -7,10 +7,10 @@ use Prim.Native.Nat.{ℕ}
 use Rattle.machine.specs.Sides.{Side, left, right, opposite}
 use Rattle.machine.specs.Values.{N, X, Y}
 use Rattle.machine.specs.Lines.{Memory}
-use Rattle.machine.proofs.Memories.{swapped, view}
-use Rattle.machine.proofs.Linearizability.Classes.{Class, main, spur, Old}
-use Rattle.machine.proofs.Linearizability.Guarantee.{SameIn}
-use Rattle.machine.proofs.Linearizability.Held.{Closed}
+use Rattle.machine.proofs.Words.Memories.{swapped, view}
+use Rattle.machine.proofs.Linearizability.Model.Classes.{Class, main, spur, Old}
+use Rattle.machine.proofs.Linearizability.Model.Guarantee.{SameIn}
+use Rattle.machine.proofs.Linearizability.Model.Held.{Closed}
 use Rattle.machine.proofs.SoloBound.Walks.{EndsWithin}
 
 -- The set of held nodes is closed under links and has the hats.

@@ -13,12 +13,12 @@ use Rattle.machine.specs.Steps as Steps
 use Rattle.machine.specs.Tasks.{Task, none, inA}
 use Rattle.machine.specs.Registers.{holds}
 use Rattle.machine.specs.Lines.{Memory}
-use Rattle.machine.proofs.Linearizability.Classes.{Class, spur, Old}
-use Rattle.machine.proofs.Linearizability.Structure.{Structure}
-use Rattle.machine.proofs.Linearizability.Nodes.{old-some, Y-in-spur}
-use Rattle.machine.proofs.Linearizability.Guarantee.{Guarantee}
-use Rattle.machine.proofs.Linearizability.Phases.{TaskOk}
-use Rattle.machine.proofs.Linearizability.Invariant.{RegistersHeld}
+use Rattle.machine.proofs.Linearizability.Model.Classes.{Class, spur, Old}
+use Rattle.machine.proofs.Linearizability.Model.Structure.{Structure}
+use Rattle.machine.proofs.Linearizability.Model.Nodes.{old-some, Y-in-spur}
+use Rattle.machine.proofs.Linearizability.Model.Guarantee.{Guarantee}
+use Rattle.machine.proofs.Linearizability.Model.Phases.{TaskOk}
+use Rattle.machine.proofs.Linearizability.Model.Invariant.{RegistersHeld}
 use Rattle.machine.proofs.SoloBound.Budget.{SoonOrLate, soon, late}
 use Rattle.machine.proofs.LockFree.Change.{past, Steady, NoCut}
 

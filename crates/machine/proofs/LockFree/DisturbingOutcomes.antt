@@ -24,16 +24,16 @@ use Rattle.machine.specs.Lines.{
   back,
   act,
 }
-use Rattle.machine.proofs.Contradiction.{clash, refute}
-use Rattle.machine.proofs.Updates.{it-is, it-is-not, update, update-wrote, wrote?, update-other}
-use Rattle.machine.proofs.Memories.{written}
-use Rattle.machine.proofs.Linearizability.Classes.{Class, main, in-main, in-near, in-far, old-class}
-use Rattle.machine.proofs.Linearizability.Structure.{Structure, linked, cut-off}
-use Rattle.machine.proofs.Linearizability.Reversal.{reversed}
-use Rattle.machine.proofs.Linearizability.Nodes.{N-from-b, N-before-n, own-mark-not-far}
-use Rattle.machine.proofs.Linearizability.Connectives.{ok-if, ok-dcas}
-use Rattle.machine.proofs.Linearizability.Phases.{TaskOk}
-use Rattle.machine.proofs.Linearizability.Invariant.{Lane}
+use Rattle.machine.proofs.Basics.Contradiction.{clash, refute}
+use Rattle.machine.proofs.Basics.Updates.{it-is, it-is-not, update, update-wrote, wrote?, update-other}
+use Rattle.machine.proofs.Words.Memories.{written}
+use Rattle.machine.proofs.Linearizability.Model.Classes.{Class, main, in-main, in-near, in-far, old-class}
+use Rattle.machine.proofs.Linearizability.Model.Structure.{Structure, linked, cut-off}
+use Rattle.machine.proofs.Linearizability.Model.Reversal.{reversed}
+use Rattle.machine.proofs.Linearizability.Model.Nodes.{N-from-b, N-before-n, own-mark-not-far}
+use Rattle.machine.proofs.Linearizability.Lines.Connectives.{ok-if, ok-dcas}
+use Rattle.machine.proofs.Linearizability.Model.Phases.{TaskOk}
+use Rattle.machine.proofs.Linearizability.Model.Invariant.{Lane}
 use Rattle.machine.proofs.SoloBound.AtHat.{
   a-bag,
   far-N,

@@ -11,14 +11,14 @@ use Rattle.machine.specs.Steps as Steps
 use Rattle.machine.specs.Tasks.{Task, none, inA, inB}
 use Rattle.machine.specs.Registers.{holds}
 use Rattle.machine.specs.Lines.{Memory}
-use Rattle.machine.proofs.Contradiction.{refute}
-use Rattle.machine.proofs.Linearizability.Classes.{Class, main, spur, Old}
-use Rattle.machine.proofs.Linearizability.Structure.{Structure, linked, cut-off}
-use Rattle.machine.proofs.Linearizability.Nodes.{old-some, own-mark-not-far}
-use Rattle.machine.proofs.Linearizability.Guarantee.{Guarantee}
-use Rattle.machine.proofs.Linearizability.Reliance.{PopPair}
-use Rattle.machine.proofs.Linearizability.Phases.{TaskOk}
-use Rattle.machine.proofs.Linearizability.Invariant.{RegistersHeld}
+use Rattle.machine.proofs.Basics.Contradiction.{refute}
+use Rattle.machine.proofs.Linearizability.Model.Classes.{Class, main, spur, Old}
+use Rattle.machine.proofs.Linearizability.Model.Structure.{Structure, linked, cut-off}
+use Rattle.machine.proofs.Linearizability.Model.Nodes.{old-some, own-mark-not-far}
+use Rattle.machine.proofs.Linearizability.Model.Guarantee.{Guarantee}
+use Rattle.machine.proofs.Linearizability.Model.Reliance.{PopPair}
+use Rattle.machine.proofs.Linearizability.Model.Phases.{TaskOk}
+use Rattle.machine.proofs.Linearizability.Model.Invariant.{RegistersHeld}
 use Rattle.machine.proofs.SoloBound.AtHat.{
   at-hat,
   on-path,

@@ -9,10 +9,10 @@ use Rattle.machine.specs.Steps.{Step, rest}
 use Rattle.machine.specs.Steps as Steps
 use Rattle.machine.specs.Tasks.{Task, none}
 use Rattle.machine.specs.Lines.{Memory, act}
-use Rattle.machine.proofs.Linearizability.Classes.{Class}
-use Rattle.machine.proofs.Linearizability.Phases.{TaskOk}
-use Rattle.machine.proofs.Linearizability.Take.{TakeOk}
-use Rattle.machine.proofs.Linearizability.Invariant.{Lane}
+use Rattle.machine.proofs.Linearizability.Model.Classes.{Class}
+use Rattle.machine.proofs.Linearizability.Model.Phases.{TaskOk}
+use Rattle.machine.proofs.Linearizability.Writes.Take.{TakeOk}
+use Rattle.machine.proofs.Linearizability.Model.Invariant.{Lane}
 use Rattle.machine.proofs.LockFree.Change.{Holds}
 use Rattle.machine.proofs.LockFree.Disturbances.{Disturbs}
 use Rattle.machine.proofs.LockFree.Outcome.{Outcome}

@@ -10,10 +10,10 @@ use Rattle.machine.specs.Sides.{Side}
 use Rattle.machine.specs.Values.{Y}
 use Rattle.machine.specs.Tasks.{Task, none}
 use Rattle.machine.specs.Lines.{Memory, Write, Effect, through}
-use Rattle.machine.proofs.Contradiction.{refute}
-use Rattle.machine.proofs.Memories.{written}
-use Rattle.machine.proofs.Linearizability.Classes.{Class}
-use Rattle.machine.proofs.Linearizability.Connectives.{ok-through}
+use Rattle.machine.proofs.Basics.Contradiction.{refute}
+use Rattle.machine.proofs.Words.Memories.{written}
+use Rattle.machine.proofs.Linearizability.Model.Classes.{Class}
+use Rattle.machine.proofs.Linearizability.Lines.Connectives.{ok-through}
 use Rattle.machine.proofs.LockFree.Change.{Calm, BothSteady, BothNoCut}
 use Rattle.machine.proofs.LockFree.Calmness.{calm-refl}
 use Rattle.machine.proofs.LockFree.Disturbances.{Disturbs}

@@ -15,16 +15,16 @@ use Rattle.machine.specs.Table.{nodeCount, taskCount, growth, task}
 use Rattle.machine.specs.Lines.{Memory, seen, Effect}
 use Rattle.machine.specs.Calls.{isBusy, tickRefusal, effectOf, tickOn}
 use Rattle.machine.specs.Begun.{Begun}
-use Rattle.machine.proofs.Contradiction.{equal?, clash}
-use Rattle.machine.proofs.Updates.{update, update-same, update-other, updateSide}
-use Rattle.machine.proofs.Memories.{view, written}
-use Rattle.machine.proofs.Reached.{keeps}
-use Rattle.machine.proofs.TickKeeps.{tick-allowed}
-use Rattle.machine.proofs.Linearizability.Invariant.{noteOf, Kept, goes-on, has-answered}
-use Rattle.machine.proofs.Linearizability.Agreement.{Agrees}
+use Rattle.machine.proofs.Basics.Contradiction.{equal?, clash}
+use Rattle.machine.proofs.Basics.Updates.{update, update-same, update-other, updateSide}
+use Rattle.machine.proofs.Words.Memories.{view, written}
+use Rattle.machine.proofs.SlotRule.Reached.{keeps}
+use Rattle.machine.proofs.Shape.TickKeeps.{tick-allowed}
+use Rattle.machine.proofs.Linearizability.Model.Invariant.{noteOf, Kept, goes-on, has-answered}
+use Rattle.machine.proofs.Linearizability.Calls.Agreement.{Agrees}
 use Rattle.machine.proofs.Linearizability.Corollaries.{begun-agrees, begun-ticked}
-use Rattle.machine.proofs.Linearizability.MadeTicks.{keeps-invariant}
-use Rattle.machine.proofs.Linearizability.TableAfter.{
+use Rattle.machine.proofs.Linearizability.Calls.MadeTicks.{keeps-invariant}
+use Rattle.machine.proofs.Linearizability.Begun.TableAfter.{
   own-after,
   other-after,
   nodes-after,

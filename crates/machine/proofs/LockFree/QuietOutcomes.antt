@@ -13,12 +13,12 @@ use Rattle.machine.specs.Steps.{Step}
 use Rattle.machine.specs.Steps as Steps
 use Rattle.machine.specs.Tasks.{Task, none, goto, withA, withB, withC, withCounted, withValue}
 use Rattle.machine.specs.Lines.{Memory, Effect, next, backOf, back, afterRead, act}
-use Rattle.machine.proofs.Contradiction.{clash, refute}
-use Rattle.machine.proofs.Linearizability.Classes.{Class}
-use Rattle.machine.proofs.Linearizability.ChainGrowth.{head-some}
-use Rattle.machine.proofs.Linearizability.Connectives.{ok-if, ok-dcas}
-use Rattle.machine.proofs.Linearizability.Phases.{MaybeChain, with-chain, without-chain, TaskOk}
-use Rattle.machine.proofs.Linearizability.Invariant.{Lane}
+use Rattle.machine.proofs.Basics.Contradiction.{clash, refute}
+use Rattle.machine.proofs.Linearizability.Model.Classes.{Class}
+use Rattle.machine.proofs.Linearizability.Writes.ChainGrowth.{head-some}
+use Rattle.machine.proofs.Linearizability.Lines.Connectives.{ok-if, ok-dcas}
+use Rattle.machine.proofs.Linearizability.Model.Phases.{MaybeChain, with-chain, without-chain, TaskOk}
+use Rattle.machine.proofs.Linearizability.Model.Invariant.{Lane}
 use Rattle.machine.proofs.SoloBound.AtHat.{hat-N, hat-X, hat-Y, hat-value, hat-at, past-hat}
 use Rattle.machine.proofs.SoloBound.Budget.{SoonOrLate, soon, late, in-any-case}
 use Rattle.machine.proofs.LockFree.Change.{past}

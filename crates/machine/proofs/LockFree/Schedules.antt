@@ -25,13 +25,13 @@ use Rattle.machine.specs.LockFree.{
   OfBusy,
   SomeCallAnswers,
 }
-use Rattle.machine.proofs.Contradiction.{equal?}
-use Rattle.machine.proofs.TickKeeps.{busy-passes}
-use Rattle.machine.proofs.Linearizability.Invariant.{Kept, goes-on, has-answered}
-use Rattle.machine.proofs.Linearizability.Agreement.{Agrees}
+use Rattle.machine.proofs.Basics.Contradiction.{equal?}
+use Rattle.machine.proofs.Shape.TickKeeps.{busy-passes}
+use Rattle.machine.proofs.Linearizability.Model.Invariant.{Kept, goes-on, has-answered}
+use Rattle.machine.proofs.Linearizability.Calls.Agreement.{Agrees}
 use Rattle.machine.proofs.Linearizability.Corollaries.{begun-agrees, tick-passes, begun-ticked}
-use Rattle.machine.proofs.Linearizability.MadeTicks.{keeps-invariant}
-use Rattle.machine.proofs.Linearizability.TableAfter.{other-after, nodes-after, own-busy}
+use Rattle.machine.proofs.Linearizability.Calls.MadeTicks.{keeps-invariant}
+use Rattle.machine.proofs.Linearizability.Begun.TableAfter.{other-after, nodes-after, own-busy}
 use Rattle.machine.proofs.SoloBound.EndsOrGoes.{ends-or-goes}
 use Rattle.machine.proofs.LockFree.Theorem.{lock-free}
 

@@ -3,8 +3,8 @@ use mathlib.Core.Path.{_≡_, refl}
 use mathlib.Core.Logic.{inl, inr}
 use Prim.Native.Nat.{ℕ, zero, suc, _+_, _*_, _≤_, _<_}
 use native.Mathlib.Omega.{arith}
-use Rattle.machine.proofs.Contradiction.{equal?}
-use Rattle.machine.proofs.Updates.{update, update-same, update-other}
+use Rattle.machine.proofs.Basics.Contradiction.{equal?}
+use Rattle.machine.proofs.Basics.Updates.{update, update-same, update-other}
 
 -- f 0 + .. + f (T - 1).
 unfoldable pub sum : (T : ℕ) → (ℕ → ℕ) → ℕ

@@ -13,23 +13,23 @@ use Rattle.machine.specs.Allocate.{allocate}
 use Rattle.machine.specs.Lines.{Memory, seen, Effect, act}
 use Rattle.machine.specs.Calls.{isBusy, tickRefusal, effectOf}
 use Rattle.machine.specs.Begun.{Begun}
-use Rattle.machine.proofs.Memories.{view, written}
-use Rattle.machine.proofs.EffectLaws.{view-seen}
-use Rattle.machine.proofs.TickKeeps.{tick-allowed}
-use Rattle.machine.proofs.Reached.{keeps}
-use Rattle.machine.proofs.FirstFree.{allocate-not-kept}
-use Rattle.machine.proofs.Linearizability.Classes.{Class}
-use Rattle.machine.proofs.Linearizability.Guarantee.{GuaranteesIn}
-use Rattle.machine.proofs.Linearizability.Invariant.{Lane, Roots, TickOk}
-use Rattle.machine.proofs.Linearizability.InvariantTick.{guarantees-view}
-use Rattle.machine.proofs.Linearizability.LaneViews.{lane-view}
-use Rattle.machine.proofs.Linearizability.RowViews.{rowFrom}
-use Rattle.machine.proofs.Linearizability.FreeNode.{view-inn-closed, view-out-closed, take-ok}
-use Rattle.machine.proofs.Linearizability.Take.{TakeOk}
-use Rattle.machine.proofs.Linearizability.Tick.{tick-ok}
-use Rattle.machine.proofs.Linearizability.Agreement.{Agrees}
+use Rattle.machine.proofs.Words.Memories.{view, written}
+use Rattle.machine.proofs.Words.EffectLaws.{view-seen}
+use Rattle.machine.proofs.Shape.TickKeeps.{tick-allowed}
+use Rattle.machine.proofs.SlotRule.Reached.{keeps}
+use Rattle.machine.proofs.SlotRule.FirstFree.{allocate-not-kept}
+use Rattle.machine.proofs.Linearizability.Model.Classes.{Class}
+use Rattle.machine.proofs.Linearizability.Model.Guarantee.{GuaranteesIn}
+use Rattle.machine.proofs.Linearizability.Model.Invariant.{Lane, Roots, TickOk}
+use Rattle.machine.proofs.Linearizability.Lines.InvariantTick.{guarantees-view}
+use Rattle.machine.proofs.Linearizability.Model.LaneViews.{lane-view}
+use Rattle.machine.proofs.Linearizability.Model.RowViews.{rowFrom}
+use Rattle.machine.proofs.Linearizability.Writes.FreeNode.{view-inn-closed, view-out-closed, take-ok}
+use Rattle.machine.proofs.Linearizability.Writes.Take.{TakeOk}
+use Rattle.machine.proofs.Linearizability.Lines.Tick.{tick-ok}
+use Rattle.machine.proofs.Linearizability.Calls.Agreement.{Agrees}
 use Rattle.machine.proofs.Linearizability.Corollaries.{begun-agrees}
-use Rattle.machine.proofs.Linearizability.MadeTicks.{well-linked, kept-roots, not-idle}
+use Rattle.machine.proofs.Linearizability.Calls.MadeTicks.{well-linked, kept-roots, not-idle}
 use Rattle.machine.proofs.SoloBound.SoloTick.{LeftWith}
 use Rattle.machine.proofs.LockFree.Change.{
   Holds,

@@ -11,12 +11,12 @@ use Rattle.machine.specs.Calls.{tickRefusal, begin, effectOf, Ticked, ti
 use Rattle.machine.specs.Demand3.{begin-call, tick-call}
 use Rattle.machine.specs.Begun.{Begun, by-call}
 use Rattle.machine.specs.LockFree.{Move, AnswerFree, no-more, going, refused, begun, LockFree}
-use Rattle.machine.proofs.Contradiction.{clash}
-use Rattle.machine.proofs.ShapeLaws.{well-sized}
-use Rattle.machine.proofs.TickLaws.{tick-stopped, tick-answer}
+use Rattle.machine.proofs.Basics.Contradiction.{clash}
+use Rattle.machine.proofs.Shape.ShapeLaws.{well-sized}
+use Rattle.machine.proofs.Words.TickLaws.{tick-stopped, tick-answer}
 use Rattle.machine.proofs.Linearizability.Corollaries.{begun-agrees, tick-passes}
-use Rattle.machine.proofs.Linearizability.MadeTicks.{effect-made}
-use Rattle.machine.proofs.Linearizability.TableAfter.{nodes-after, task-count-after}
+use Rattle.machine.proofs.Linearizability.Calls.MadeTicks.{effect-made}
+use Rattle.machine.proofs.Linearizability.Begun.TableAfter.{nodes-after, task-count-after}
 use Rattle.machine.proofs.SoloBound.Budget.{walkTicks}
 use Rattle.machine.proofs.SoloBound.AtFirst.{most}
 use Rattle.machine.proofs.LockFree.Potential.{

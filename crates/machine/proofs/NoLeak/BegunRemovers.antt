@@ -13,12 +13,12 @@ use Rattle.machine.specs.Table.{task}
 use Rattle.machine.specs.Lines.{Memory, seen}
 use Rattle.machine.specs.Calls.{begunTask}
 use Rattle.machine.specs.Begun.{Begun}
-use Rattle.machine.proofs.Contradiction.{clash}
-use Rattle.machine.proofs.Choices.{if-no}
-use Rattle.machine.proofs.Updates.{update, update-wrote, update-other, wrote-all}
-use Rattle.machine.proofs.Memories.{view}
-use Rattle.machine.proofs.StartLaws.{startMemory}
-use Rattle.machine.proofs.Linearizability.Lasting.{Lasts, begun-has}
+use Rattle.machine.proofs.Basics.Contradiction.{clash}
+use Rattle.machine.proofs.Basics.Choices.{if-no}
+use Rattle.machine.proofs.Basics.Updates.{update, update-wrote, update-other, wrote-all}
+use Rattle.machine.proofs.Words.Memories.{view}
+use Rattle.machine.proofs.Words.StartLaws.{startMemory}
+use Rattle.machine.proofs.Linearizability.Begun.Lasting.{Lasts, begun-has}
 use Rattle.machine.proofs.NoLeak.Removers.{
   Duty,
   no-duty,

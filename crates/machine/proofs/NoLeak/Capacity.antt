@@ -27,7 +27,7 @@ use Rattle.machine.specs.NoLeak.{
 }
 use Rattle.machine.specs.Capacity.{FilledFrom, is-full, Capacity}
 use Rattle.machine.specs.Capacity as Capacity
-use Rattle.machine.proofs.Contradiction.{less?, clash}
+use Rattle.machine.proofs.Basics.Contradiction.{less?, clash}
 use Rattle.machine.proofs.NoLeak.Theorem.{no-leak}
 use Rattle.machine.proofs.NoLeak.WhenFull.{IsFull, push-answers, push-full}
 

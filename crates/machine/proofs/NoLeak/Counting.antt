@@ -5,8 +5,8 @@ use mathlib.Core.Bool.{Bool, true, false, cond}
 use Prim.Native.Nat.{ℕ, zero, suc, _+_, _<_}
 use native.Mathlib.Omega.{arith}
 use Rattle.machine.specs.NoLeak.{CountBelow, none-below, one-more, not-this}
-use Rattle.machine.proofs.Contradiction.{clash}
-use Rattle.machine.proofs.Updates.{Wrote, it-is, it-is-not, wrote?, update, update-wrote}
+use Rattle.machine.proofs.Basics.Contradiction.{clash}
+use Rattle.machine.proofs.Basics.Updates.{Wrote, it-is, it-is-not, wrote?, update, update-wrote}
 
 -- How many numbers below n pass the test.
 unfoldable pub count : (ℕ → Bool) → ℕ → ℕ

@@ -34,14 +34,14 @@ use Rattle.machine.specs.Capacity.{
   one-more,
   FillsUp,
 }
-use Rattle.machine.proofs.Contradiction.{clash}
-use Rattle.machine.proofs.ShapeLaws.{well-sized}
-use Rattle.machine.proofs.ShapeKept.{table-passes}
-use Rattle.machine.proofs.Linearizability.Invariant.{noteOf}
-use Rattle.machine.proofs.Linearizability.Reading.{row-length, main-is-node}
-use Rattle.machine.proofs.Linearizability.Agreement.{Agrees, noteUnder, lane-is-row}
-use Rattle.machine.proofs.Linearizability.MadeTicks.{MadeTick, made-tick}
-use Rattle.machine.proofs.Linearizability.CallsAgree.{begin-explained}
+use Rattle.machine.proofs.Basics.Contradiction.{clash}
+use Rattle.machine.proofs.Shape.ShapeLaws.{well-sized}
+use Rattle.machine.proofs.Shape.ShapeKept.{table-passes}
+use Rattle.machine.proofs.Linearizability.Model.Invariant.{noteOf}
+use Rattle.machine.proofs.Linearizability.Calls.Reading.{row-length, main-is-node}
+use Rattle.machine.proofs.Linearizability.Calls.Agreement.{Agrees, noteUnder, lane-is-row}
+use Rattle.machine.proofs.Linearizability.Calls.MadeTicks.{MadeTick, made-tick}
+use Rattle.machine.proofs.Linearizability.Calls.CallsAgree.{begin-explained}
 use Rattle.machine.proofs.Linearizability.Corollaries.{begun-agrees, tick-passes, made-passes}
 use Rattle.machine.proofs.SoloBound.Theorem.{closer-solo-bound}
 use Rattle.machine.proofs.NoLeak.PushesAlone.{OnItsWay, begun-on-its-way}

@@ -25,16 +25,16 @@ use Rattle.machine.specs.NoLeak.{
   under-hat,
   IdleTable,
 }
-use Rattle.machine.proofs.Contradiction.{less?}
-use Rattle.machine.proofs.ShapeLaws.{well-shaped}
-use Rattle.machine.proofs.TickKeeps.{idle-fresh}
-use Rattle.machine.proofs.Reached.{keeps-hat, keeps-link, keeps-reachable}
-use Rattle.machine.proofs.Linearizability.Structure.{Structure}
-use Rattle.machine.proofs.Linearizability.Segments.{segment, segment-length}
-use Rattle.machine.proofs.Linearizability.Held.{main-held}
-use Rattle.machine.proofs.Linearizability.Invariant.{Lane}
-use Rattle.machine.proofs.Linearizability.Agreement.{Agrees, lane-is-row}
-use Rattle.machine.proofs.Linearizability.MadeTicks.{well-linked}
+use Rattle.machine.proofs.Basics.Contradiction.{less?}
+use Rattle.machine.proofs.Shape.ShapeLaws.{well-shaped}
+use Rattle.machine.proofs.Shape.TickKeeps.{idle-fresh}
+use Rattle.machine.proofs.SlotRule.Reached.{keeps-hat, keeps-link, keeps-reachable}
+use Rattle.machine.proofs.Linearizability.Model.Structure.{Structure}
+use Rattle.machine.proofs.Linearizability.Model.Segments.{segment, segment-length}
+use Rattle.machine.proofs.Linearizability.Model.Held.{main-held}
+use Rattle.machine.proofs.Linearizability.Model.Invariant.{Lane}
+use Rattle.machine.proofs.Linearizability.Calls.Agreement.{Agrees, lane-is-row}
+use Rattle.machine.proofs.Linearizability.Calls.MadeTicks.{well-linked}
 use Rattle.machine.proofs.Linearizability.Corollaries.{begun-agrees}
 use Rattle.machine.proofs.NoLeak.Removers.{duty, Mark, end, cut, marked, Cuts, CutBy}
 use Rattle.machine.proofs.NoLeak.BegunRemovers.{begun-removers}

@@ -7,11 +7,11 @@ use Rattle.machine.specs.Sides.{Side}
 use Rattle.machine.specs.Values.{Value, bag, N, Y}
 use Rattle.machine.specs.Tasks.{Task, none}
 use Rattle.machine.specs.Lines.{Memory, Effect}
-use Rattle.machine.proofs.Contradiction.{refute}
-use Rattle.machine.proofs.Updates.{Wrote, it-is, it-is-not, wrote?}
-use Rattle.machine.proofs.Memories.{swapped, written}
-use Rattle.machine.proofs.Linearizability.Sides.{Opposite}
-use Rattle.machine.proofs.Linearizability.Classes.{Class, Old, of, owner}
+use Rattle.machine.proofs.Basics.Contradiction.{refute}
+use Rattle.machine.proofs.Basics.Updates.{Wrote, it-is, it-is-not, wrote?}
+use Rattle.machine.proofs.Words.Memories.{swapped, written}
+use Rattle.machine.proofs.Linearizability.Model.Sides.{Opposite}
+use Rattle.machine.proofs.Linearizability.Model.Classes.{Class, Old, of, owner}
 use Rattle.machine.proofs.NoLeak.Removers.{Duty, no-duty, duty, Mark, end, cut, marked, Cuts, Sure}
 
 -- The task that ticks, whose duty goes from d to d', is about to cut the link of n; or n had mark and link before, and

@@ -15,11 +15,11 @@ use Rattle.machine.specs.Steps.{Step}
 use Rattle.machine.specs.Steps as Steps
 use Rattle.machine.specs.Tasks.{Task, none}
 use Rattle.machine.specs.Lines.{Memory, Effect, refused, through, backOf, afterRead}
-use Rattle.machine.proofs.Contradiction.{less?}
-use Rattle.machine.proofs.Choices.{by-if}
-use Rattle.machine.proofs.Linearizability.Classes.{Class, of, owner}
-use Rattle.machine.proofs.Linearizability.Chain.{HasChainIn}
-use Rattle.machine.proofs.Linearizability.Connectives.{ok-through}
+use Rattle.machine.proofs.Basics.Contradiction.{less?}
+use Rattle.machine.proofs.Basics.Choices.{by-if}
+use Rattle.machine.proofs.Linearizability.Model.Classes.{Class, of, owner}
+use Rattle.machine.proofs.Linearizability.Model.Chain.{HasChainIn}
+use Rattle.machine.proofs.Linearizability.Lines.Connectives.{ok-through}
 use Rattle.machine.proofs.NoLeak.Removers.{Duty, no-duty, duty, Mark, Cuts, Sure}
 use Rattle.machine.proofs.NoLeak.KeepsRemovers.{as-before, same-link, RemoversAfter, same-words}
 

@@ -9,10 +9,10 @@ use Rattle.machine.specs.Steps.{Step, rest}
 use Rattle.machine.specs.Steps as Steps
 use Rattle.machine.specs.Tasks.{Task, none}
 use Rattle.machine.specs.Lines.{Memory, Effect, act}
-use Rattle.machine.proofs.Linearizability.Sides.{Opposite}
-use Rattle.machine.proofs.Linearizability.Classes.{Class}
-use Rattle.machine.proofs.Linearizability.Phases.{TaskOk}
-use Rattle.machine.proofs.Linearizability.Take.{TakeOk}
+use Rattle.machine.proofs.Linearizability.Model.Sides.{Opposite}
+use Rattle.machine.proofs.Linearizability.Model.Classes.{Class}
+use Rattle.machine.proofs.Linearizability.Model.Phases.{TaskOk}
+use Rattle.machine.proofs.Linearizability.Writes.Take.{TakeOk}
 use Rattle.machine.proofs.NoLeak.Removers.{Duty, duty, Sure}
 use Rattle.machine.proofs.NoLeak.KeepsRemovers.{RemoversAfter}
 -- The first node of a chain of side s has a mark of s.

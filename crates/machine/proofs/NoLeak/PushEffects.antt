@@ -26,13 +26,13 @@ use Rattle.machine.specs.Lines.{
   spliced,
   act,
 }
-use Rattle.machine.proofs.Contradiction.{clash, refute}
-use Rattle.machine.proofs.Updates.{update-other}
-use Rattle.machine.proofs.Memories.{written}
-use Rattle.machine.proofs.Linearizability.Sides.{Opposite}
-use Rattle.machine.proofs.Linearizability.Classes.{Class}
-use Rattle.machine.proofs.Linearizability.Phases.{TaskOk}
-use Rattle.machine.proofs.Linearizability.Connectives.{ok-if, ok-through, ok-dcas}
+use Rattle.machine.proofs.Basics.Contradiction.{clash, refute}
+use Rattle.machine.proofs.Basics.Updates.{update-other}
+use Rattle.machine.proofs.Words.Memories.{written}
+use Rattle.machine.proofs.Linearizability.Model.Sides.{Opposite}
+use Rattle.machine.proofs.Linearizability.Model.Classes.{Class}
+use Rattle.machine.proofs.Linearizability.Model.Phases.{TaskOk}
+use Rattle.machine.proofs.Linearizability.Lines.Connectives.{ok-if, ok-through, ok-dcas}
 
 -- The steps of a push up to the one at which it takes a node.
 abbrev pub isEarly : Step → Bool

@@ -23,19 +23,19 @@ use Rattle.machine.specs.Row.{Note}
 use Rattle.machine.specs.Demand3.{begin-call}
 use Rattle.machine.specs.Begun.{Begun, by-call}
 use Rattle.machine.specs.NoLeak.{Idle}
-use Rattle.machine.proofs.Updates.{update-same, update-other}
-use Rattle.machine.proofs.EffectLaws.{view-seen}
-use Rattle.machine.proofs.Memories.{view, written}
-use Rattle.machine.proofs.ShapeLaws.{well-shaped}
-use Rattle.machine.proofs.TickKeeps.{idle-fresh, tick-allowed}
-use Rattle.machine.proofs.Linearizability.Sides.{sides}
-use Rattle.machine.proofs.Linearizability.Phases.{TaskOk}
-use Rattle.machine.proofs.Linearizability.Invariant.{noteOf, Kept, goes-on, has-answered}
-use Rattle.machine.proofs.Linearizability.Agreement.{Agrees}
-use Rattle.machine.proofs.Linearizability.MadeTicks.{keeps-invariant}
+use Rattle.machine.proofs.Basics.Updates.{update-same, update-other}
+use Rattle.machine.proofs.Words.EffectLaws.{view-seen}
+use Rattle.machine.proofs.Words.Memories.{view, written}
+use Rattle.machine.proofs.Shape.ShapeLaws.{well-shaped}
+use Rattle.machine.proofs.Shape.TickKeeps.{idle-fresh, tick-allowed}
+use Rattle.machine.proofs.Linearizability.Model.Sides.{sides}
+use Rattle.machine.proofs.Linearizability.Model.Phases.{TaskOk}
+use Rattle.machine.proofs.Linearizability.Model.Invariant.{noteOf, Kept, goes-on, has-answered}
+use Rattle.machine.proofs.Linearizability.Calls.Agreement.{Agrees}
+use Rattle.machine.proofs.Linearizability.Calls.MadeTicks.{keeps-invariant}
 use Rattle.machine.proofs.Linearizability.Corollaries.{begun-agrees, begun-ticked, held-node-never-taken}
-use Rattle.machine.proofs.Linearizability.TableAfter.{own-seen, own-after, other-after, nodes-after}
-use Rattle.machine.proofs.Linearizability.TableBegun.{BegunTable, accepted-begin}
+use Rattle.machine.proofs.Linearizability.Begun.TableAfter.{own-seen, own-after, other-after, nodes-after}
+use Rattle.machine.proofs.Linearizability.Begun.TableBegun.{BegunTable, accepted-begin}
 use Rattle.machine.proofs.SoloBound.Budget.{SoonOrLate, soon, late, in-any-case, Left, start-anywhere}
 use Rattle.machine.proofs.SoloBound.SoloTick.{LeftWith, LeftIn, continues}
 use Rattle.machine.proofs.NoLeak.PushEffects.{isEarly, Early, SameNodes, StillEarly, PushTick, push-tick}

@@ -9,11 +9,11 @@ use Rattle.machine.specs.Steps.{Step}
 use Rattle.machine.specs.Steps as Steps
 use Rattle.machine.specs.Tasks.{Task, none, withA, withB, withC, withCounted, withValue}
 use Rattle.machine.specs.Lines.{Memory, Effect, next, act}
-use Rattle.machine.proofs.Choices.{by-if}
-use Rattle.machine.proofs.Linearizability.Sides.{Opposite}
-use Rattle.machine.proofs.Linearizability.Classes.{Class}
-use Rattle.machine.proofs.Linearizability.Phases.{TaskOk}
-use Rattle.machine.proofs.Linearizability.Connectives.{ok-if, ok-dcas}
+use Rattle.machine.proofs.Basics.Choices.{by-if}
+use Rattle.machine.proofs.Linearizability.Model.Sides.{Opposite}
+use Rattle.machine.proofs.Linearizability.Model.Classes.{Class}
+use Rattle.machine.proofs.Linearizability.Model.Phases.{TaskOk}
+use Rattle.machine.proofs.Linearizability.Lines.Connectives.{ok-if, ok-dcas}
 use Rattle.machine.proofs.NoLeak.Removers.{Duty, no-duty, duty, Sure}
 use Rattle.machine.proofs.NoLeak.KeepsRemovers.{RemoversAfter}
 -- The first node of a chain of side s has a mark of s.

@@ -8,7 +8,7 @@ use Rattle.machine.specs.Steps.{Step, rest}
 use Rattle.machine.specs.Steps as Steps
 use Rattle.machine.specs.Tasks.{Task, none}
 use Rattle.machine.specs.Lines.{Memory}
-use Rattle.machine.proofs.Memories.{view}
+use Rattle.machine.proofs.Words.Memories.{view}
 
 -- What a step has to do with outward links. before-cut: A and B are to be marked. cut-pair: A is X and leads to B,
 -- which is Y. at-B, at-A, at-both: the registers named are Y.

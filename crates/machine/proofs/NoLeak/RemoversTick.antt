@@ -14,15 +14,15 @@ use Rattle.machine.specs.Tasks.{Task, none, inA, inB}
 use Rattle.machine.specs.Registers.{holds}
 use Rattle.machine.specs.Lines.{Memory, Effect, act}
 use Rattle.machine.specs.Row.{Note}
-use Rattle.machine.proofs.Contradiction.{refute}
-use Rattle.machine.proofs.Updates.{update, update-same, update-other, update-wrote, wrote-all}
-use Rattle.machine.proofs.Memories.{swapped, view, view-view, written}
-use Rattle.machine.proofs.Linearizability.Sides.{Opposite, sides}
-use Rattle.machine.proofs.Linearizability.RowViews.{rowFrom}
-use Rattle.machine.proofs.Linearizability.Classes.{Class, free, spur, Old, old-not-none}
-use Rattle.machine.proofs.Linearizability.Nodes.{Y-in-spur}
-use Rattle.machine.proofs.Linearizability.Phases.{TaskOk}
-use Rattle.machine.proofs.Linearizability.Invariant.{
+use Rattle.machine.proofs.Basics.Contradiction.{refute}
+use Rattle.machine.proofs.Basics.Updates.{update, update-same, update-other, update-wrote, wrote-all}
+use Rattle.machine.proofs.Words.Memories.{swapped, view, view-view, written}
+use Rattle.machine.proofs.Linearizability.Model.Sides.{Opposite, sides}
+use Rattle.machine.proofs.Linearizability.Model.RowViews.{rowFrom}
+use Rattle.machine.proofs.Linearizability.Model.Classes.{Class, free, spur, Old, old-not-none}
+use Rattle.machine.proofs.Linearizability.Model.Nodes.{Y-in-spur}
+use Rattle.machine.proofs.Linearizability.Model.Phases.{TaskOk}
+use Rattle.machine.proofs.Linearizability.Model.Invariant.{
   Invariant,
   RegistersHeld,
   Roots,
@@ -31,10 +31,10 @@ use Rattle.machine.proofs.Linearizability.Invariant.{
   has-answered,
   TickOk,
 }
-use Rattle.machine.proofs.Linearizability.LaneViews.{lane-view}
-use Rattle.machine.proofs.Linearizability.FreeNode.{take-ok}
-use Rattle.machine.proofs.Linearizability.Tick.{tick-ok}
-use Rattle.machine.proofs.Linearizability.InvariantTick.{guarantees-view}
+use Rattle.machine.proofs.Linearizability.Model.LaneViews.{lane-view}
+use Rattle.machine.proofs.Linearizability.Writes.FreeNode.{take-ok}
+use Rattle.machine.proofs.Linearizability.Lines.Tick.{tick-ok}
+use Rattle.machine.proofs.Linearizability.Lines.InvariantTick.{guarantees-view}
 use Rattle.machine.proofs.NoLeak.Removers.{
   Duty,
   no-duty,

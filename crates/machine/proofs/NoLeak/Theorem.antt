@@ -24,9 +24,9 @@ use Rattle.machine.specs.NoLeak.{
   AllCounted,
   NoLeak,
 }
-use Rattle.machine.proofs.Contradiction.{clash, refute, less?}
-use Rattle.machine.proofs.Updates.{it-is, it-is-not, wrote?, update, update-wrote}
-use Rattle.machine.proofs.Reached.{
+use Rattle.machine.proofs.Basics.Contradiction.{clash, refute, less?}
+use Rattle.machine.proofs.Basics.Updates.{it-is, it-is-not, wrote?, update, update-wrote}
+use Rattle.machine.proofs.SlotRule.Reached.{
   WellLinked,
   reachable-node,
   keeps,
@@ -34,7 +34,7 @@ use Rattle.machine.proofs.Reached.{
   keeps-reachable,
   keeps-hat,
 }
-use Rattle.machine.proofs.Linearizability.MadeTicks.{well-linked}
+use Rattle.machine.proofs.Linearizability.Calls.MadeTicks.{well-linked}
 use Rattle.machine.proofs.Linearizability.Corollaries.{begun-agrees}
 use Rattle.machine.proofs.NoLeak.IdleTables.{idle-table}
 use Rattle.machine.proofs.NoLeak.Counting.{

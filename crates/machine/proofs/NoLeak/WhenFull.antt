@@ -24,17 +24,17 @@ use Rattle.machine.specs.Begun.{Begun}
 use Rattle.machine.specs.Solo.{endsCall}
 use Rattle.machine.specs.NoLeak.{Idle, listSize, Held, listed, under-hat, IdleTable}
 use Rattle.machine.specs.Capacity.{AloneTo, ends-now, ends-later, PushAlone, NeverFull}
-use Rattle.machine.proofs.Contradiction.{clash, refute}
-use Rattle.machine.proofs.Memories.{view, view-view, written}
-use Rattle.machine.proofs.FirstFree.{allocate-none}
-use Rattle.machine.proofs.TickKeeps.{tick-allowed}
-use Rattle.machine.proofs.TickLaws.{tick-answer}
-use Rattle.machine.proofs.Linearizability.Sides.{sides}
-use Rattle.machine.proofs.Linearizability.Invariant.{Kept, goes-on, has-answered}
-use Rattle.machine.proofs.Linearizability.Agreement.{Agrees}
-use Rattle.machine.proofs.Linearizability.MadeTicks.{well-linked, keeps-invariant}
+use Rattle.machine.proofs.Basics.Contradiction.{clash, refute}
+use Rattle.machine.proofs.Words.Memories.{view, view-view, written}
+use Rattle.machine.proofs.SlotRule.FirstFree.{allocate-none}
+use Rattle.machine.proofs.Shape.TickKeeps.{tick-allowed}
+use Rattle.machine.proofs.Words.TickLaws.{tick-answer}
+use Rattle.machine.proofs.Linearizability.Model.Sides.{sides}
+use Rattle.machine.proofs.Linearizability.Model.Invariant.{Kept, goes-on, has-answered}
+use Rattle.machine.proofs.Linearizability.Calls.Agreement.{Agrees}
+use Rattle.machine.proofs.Linearizability.Calls.MadeTicks.{well-linked, keeps-invariant}
 use Rattle.machine.proofs.Linearizability.Corollaries.{begun-agrees, tick-passes, made-passes, begun-ticked}
-use Rattle.machine.proofs.Linearizability.TableAfter.{seen-after, own-after, other-after, nodes-after}
+use Rattle.machine.proofs.Linearizability.Begun.TableAfter.{seen-after, own-after, other-after, nodes-after}
 use Rattle.machine.proofs.NoLeak.IdleTables.{idle-table}
 use Rattle.machine.proofs.NoLeak.Theorem.{list-not-Y}
 use Rattle.machine.proofs.NoLeak.PushEffects.{SameNodes}

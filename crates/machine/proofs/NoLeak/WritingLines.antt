@@ -13,15 +13,15 @@ use Rattle.machine.specs.Steps.{Step}
 use Rattle.machine.specs.Steps as Steps
 use Rattle.machine.specs.Tasks.{Task, fresh, none, goto, withD, withCounted}
 use Rattle.machine.specs.Lines.{Memory, Write, out≔, inn≔, val≔, hat≔, Effect, next, writing, spliced, back, act}
-use Rattle.machine.proofs.Contradiction.{refute}
-use Rattle.machine.proofs.Updates.{Wrote, it-is, it-is-not, wrote?, update, update-wrote}
-use Rattle.machine.proofs.Memories.{written}
-use Rattle.machine.proofs.Linearizability.Sides.{Opposite}
-use Rattle.machine.proofs.Linearizability.Classes.{Class}
-use Rattle.machine.proofs.Linearizability.ChainGrowth.{head-new}
-use Rattle.machine.proofs.Linearizability.Phases.{TaskOk}
-use Rattle.machine.proofs.Linearizability.Take.{TakeOk}
-use Rattle.machine.proofs.Linearizability.Connectives.{ok-if, ok-dcas}
+use Rattle.machine.proofs.Basics.Contradiction.{refute}
+use Rattle.machine.proofs.Basics.Updates.{Wrote, it-is, it-is-not, wrote?, update, update-wrote}
+use Rattle.machine.proofs.Words.Memories.{written}
+use Rattle.machine.proofs.Linearizability.Model.Sides.{Opposite}
+use Rattle.machine.proofs.Linearizability.Model.Classes.{Class}
+use Rattle.machine.proofs.Linearizability.Writes.ChainGrowth.{head-new}
+use Rattle.machine.proofs.Linearizability.Model.Phases.{TaskOk}
+use Rattle.machine.proofs.Linearizability.Writes.Take.{TakeOk}
+use Rattle.machine.proofs.Linearizability.Lines.Connectives.{ok-if, ok-dcas}
 use Rattle.machine.proofs.NoLeak.Removers.{Duty, no-duty, duty, Sure}
 use Rattle.machine.proofs.NoLeak.KeepsRemovers.{
   as-before,

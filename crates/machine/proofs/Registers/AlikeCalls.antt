@@ -42,14 +42,14 @@ use Rattle.machine.specs.Demand3.{
   given,
   after,
 }
-use Rattle.machine.proofs.Tests.{test-passed}
-use Rattle.machine.proofs.ValueLaws.{HasWord, never-has-word}
-use Rattle.machine.proofs.Updates.{update}
-use Rattle.machine.proofs.Columns.{Columns, columns}
-use Rattle.machine.proofs.TableLaws.{columns-setTask}
-use Rattle.machine.proofs.EffectLaws.{task-set-task}
-use Rattle.machine.proofs.ShapeLaws.{WellSized, well-sized}
-use Rattle.machine.proofs.ShapeKept.{
+use Rattle.machine.proofs.Basics.Tests.{test-passed}
+use Rattle.machine.proofs.Words.ValueLaws.{HasWord, never-has-word}
+use Rattle.machine.proofs.Basics.Updates.{update}
+use Rattle.machine.proofs.Words.Columns.{Columns, columns}
+use Rattle.machine.proofs.Words.TableLaws.{columns-setTask}
+use Rattle.machine.proofs.Words.EffectLaws.{task-set-task}
+use Rattle.machine.proofs.Shape.ShapeLaws.{WellSized, well-sized}
+use Rattle.machine.proofs.Shape.ShapeKept.{
   Accepted,
   start-accepted,
   begin-allowed,

@@ -23,8 +23,8 @@ use Rattle.machine.specs.Allocate.{
 }
 use Rattle.machine.specs.Lines.{Write, out≔, inn≔, val≔, hat≔, seen}
 use Rattle.machine.specs.LinesUse.{AgreeOn}
-use Rattle.machine.proofs.Columns.{Columns, columns, memory, putOne, putAll}
-use Rattle.machine.proofs.ShapeKept.{Accepted}
+use Rattle.machine.proofs.Words.Columns.{Columns, columns, memory, putOne, putAll}
+use Rattle.machine.proofs.Shape.ShapeKept.{Accepted}
 use Rattle.machine.proofs.Registers.Agreeing.{agree-self}
 
 -- The columns of a table without its task records.

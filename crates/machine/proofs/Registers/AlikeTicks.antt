@@ -26,9 +26,9 @@ use Rattle.machine.specs.Calls.{
 }
 use Rattle.machine.specs.LinesUse.{AgreeOn, SameEffect}
 use Rattle.machine.proofs.Registers.LinesUse.{uses-enough}
-use Rattle.machine.proofs.Updates.{update}
-use Rattle.machine.proofs.Columns.{Columns, columns, putTickCount, putAll}
-use Rattle.machine.proofs.ShapeLaws.{
+use Rattle.machine.proofs.Basics.Updates.{update}
+use Rattle.machine.proofs.Words.Columns.{Columns, columns, putTickCount, putAll}
+use Rattle.machine.proofs.Shape.ShapeLaws.{
   WellSized,
   WellShaped,
   well-sized,
@@ -36,9 +36,9 @@ use Rattle.machine.proofs.ShapeLaws.{
   length-ok,
   shape-ok,
 }
-use Rattle.machine.proofs.TickKeeps.{tick-kept}
-use Rattle.machine.proofs.TickLaws.{tick-stopped, tick-answer, tick-refused, tick-columns, tick-task}
-use Rattle.machine.proofs.ShapeKept.{Accepted}
+use Rattle.machine.proofs.Shape.TickKeeps.{tick-kept}
+use Rattle.machine.proofs.Words.TickLaws.{tick-stopped, tick-answer, tick-refused, tick-columns, tick-task}
+use Rattle.machine.proofs.Shape.ShapeKept.{Accepted}
 use Rattle.machine.proofs.Registers.Agreeing.{plain, agree-plain, agree-uses, agree-after}
 use Rattle.machine.proofs.Registers.AlikeTables.{
   unrecorded,

@@ -89,7 +89,7 @@ use Rattle.machine.specs.LinesUse.{
   SameEffect,
   UsesEnough,
 }
-use Rattle.machine.proofs.Choices.{by-if}
+use Rattle.machine.proofs.Basics.Choices.{by-if}
 
 -- ---- How a line ends.
 module _ {st : Step} {t u : Task} where

@@ -9,9 +9,9 @@ use borrow.Author.Tests.{not-true}
 use Rattle.machine.specs.Steps.{Step}
 use Rattle.machine.specs.Tasks.{Register}
 use Rattle.machine.specs.Registers.{among, uses, Way, ways, OneOf, Needed, here, later, holds, HoldsExactly}
-use Rattle.machine.proofs.Contradiction.{clash}
-use Rattle.machine.proofs.Tests.{and-left, and-right, or-either}
-use Rattle.machine.proofs.Everywhere.{each, implies, implied}
+use Rattle.machine.proofs.Basics.Contradiction.{clash}
+use Rattle.machine.proofs.Basics.Tests.{and-left, and-right, or-either}
+use Rattle.machine.proofs.Basics.Everywhere.{each, implies, implied}
 
 -- ---- Tests of all ways on from a step, and of some.
 abbrev pub everyWay : List Way → (Way → Bool) → Bool

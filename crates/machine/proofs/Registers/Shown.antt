@@ -19,10 +19,10 @@ use Rattle.machine.specs.Shape.{sameWords}
 use Rattle.machine.specs.Lines.{Memory, Write, out≔, inn≔, val≔, hat≔, Effect, act}
 use Rattle.machine.specs.Answers.{kindOf, payloadOf}
 use Rattle.machine.specs.LinesUse.{with, SameBut, UseShows, UsesShow, WaysGone}
-use Rattle.machine.proofs.Contradiction.{clash, refute}
-use Rattle.machine.proofs.StepLaws.{step-of-number}
-use Rattle.machine.proofs.Tests.{agreed, and-left, and-right, or-either}
-use Rattle.machine.proofs.Everywhere.{everyRegister, each-step, each-register, each, implies, implied}
+use Rattle.machine.proofs.Basics.Contradiction.{clash, refute}
+use Rattle.machine.proofs.Words.StepLaws.{step-of-number}
+use Rattle.machine.proofs.Basics.Tests.{agreed, and-left, and-right, or-either}
+use Rattle.machine.proofs.Basics.Everywhere.{everyRegister, each-step, each-register, each, implies, implied}
 use Rattle.machine.proofs.Registers.Paths.{everyWay, each-way}
 
 -- ---- Tables to try the lines on.

@@ -11,13 +11,13 @@ use Rattle.machine.specs.Registers.{holds}
 use Rattle.machine.specs.Table.{tableLength, nodeCount, taskCount, growth, value, task, setTask}
 use Rattle.machine.specs.Calls.{isBusy}
 use Rattle.machine.specs.Unseen.{SameButUnneeded, Alike, UnneededUnseen, cleared, ClearingUnseen}
-use Rattle.machine.proofs.ValueLaws.{encode-decode}
-use Rattle.machine.proofs.Updates.{update}
-use Rattle.machine.proofs.Columns.{columns}
-use Rattle.machine.proofs.TableLaws.{columns-setTask}
-use Rattle.machine.proofs.EffectLaws.{SameSizes, task-set-task}
-use Rattle.machine.proofs.BusyLaws.{NodeOrNone, BusyFacts, record-of-busy}
-use Rattle.machine.proofs.ShapeLaws.{
+use Rattle.machine.proofs.Words.ValueLaws.{encode-decode}
+use Rattle.machine.proofs.Basics.Updates.{update}
+use Rattle.machine.proofs.Words.Columns.{columns}
+use Rattle.machine.proofs.Words.TableLaws.{columns-setTask}
+use Rattle.machine.proofs.Words.EffectLaws.{SameSizes, task-set-task}
+use Rattle.machine.proofs.Shape.BusyLaws.{NodeOrNone, BusyFacts, record-of-busy}
+use Rattle.machine.proofs.Shape.ShapeLaws.{
   WellSized,
   WellShaped,
   well-sized,
@@ -25,9 +25,9 @@ use Rattle.machine.proofs.ShapeLaws.{
   length-ok,
   shape-ok,
 }
-use Rattle.machine.proofs.WritesKeep.{put-record-shaped, same-sizes-kept}
-use Rattle.machine.proofs.TickKeeps.{busy-facts, busy-is-task, task-has-word}
-use Rattle.machine.proofs.ShapeKept.{Accepted, is-accepted}
+use Rattle.machine.proofs.Shape.WritesKeep.{put-record-shaped, same-sizes-kept}
+use Rattle.machine.proofs.Shape.TickKeeps.{busy-facts, busy-is-task, task-has-word}
+use Rattle.machine.proofs.Shape.ShapeKept.{Accepted, is-accepted}
 use Rattle.machine.specs.LinesUse.{AgreeOn}
 use Rattle.machine.proofs.Registers.Agreeing.{plain, agree-from, agree-self, mixed-inside}
 use Rattle.machine.proofs.Registers.AlikeTables.{unrecorded, AlikeColumns}

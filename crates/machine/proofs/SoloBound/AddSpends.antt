@@ -33,12 +33,12 @@ use Rattle.machine.specs.Lines.{
   spliced,
   act,
 }
-use Rattle.machine.proofs.Contradiction.{clash, refute}
-use Rattle.machine.proofs.Updates.{it-is, it-is-not, update, update-wrote, wrote?}
-use Rattle.machine.proofs.Memories.{written}
-use Rattle.machine.proofs.Linearizability.Classes.{Class}
-use Rattle.machine.proofs.Linearizability.Invariant.{Lane}
-use Rattle.machine.proofs.Linearizability.Connectives.{ok-if}
+use Rattle.machine.proofs.Basics.Contradiction.{clash, refute}
+use Rattle.machine.proofs.Basics.Updates.{it-is, it-is-not, update, update-wrote, wrote?}
+use Rattle.machine.proofs.Words.Memories.{written}
+use Rattle.machine.proofs.Linearizability.Model.Classes.{Class}
+use Rattle.machine.proofs.Linearizability.Model.Invariant.{Lane}
+use Rattle.machine.proofs.Linearizability.Lines.Connectives.{ok-if}
 use Rattle.machine.proofs.SoloBound.Walks.{ends-on}
 use Rattle.machine.proofs.SoloBound.AtHat.{
   at-hat,

@@ -9,8 +9,8 @@ use Rattle.machine.specs.Steps.{Step, rest, line31}
 use Rattle.machine.specs.Steps as Steps
 use Rattle.machine.specs.Tasks.{Task}
 use Rattle.machine.specs.Lines.{Memory}
-use Rattle.machine.proofs.Linearizability.Classes.{Class}
-use Rattle.machine.proofs.Linearizability.Phases.{TaskOk}
+use Rattle.machine.proofs.Linearizability.Model.Classes.{Class}
+use Rattle.machine.proofs.Linearizability.Model.Phases.{TaskOk}
 use Rattle.machine.proofs.SoloBound.Walks.{EndsWithin}
 use Rattle.machine.proofs.SoloBound.Budget.{
   late,

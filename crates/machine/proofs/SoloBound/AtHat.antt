@@ -7,10 +7,10 @@ use native.Mathlib.Omega.{arith}
 use Rattle.machine.specs.Sides.{Side}
 use Rattle.machine.specs.Values.{Value, bag, N, X, Y}
 use Rattle.machine.specs.Tasks.{none}
-use Rattle.machine.proofs.Contradiction.{clash, less?, refute}
-use Rattle.machine.proofs.Linearizability.Classes.{Class}
-use Rattle.machine.proofs.Linearizability.Structure.{Structure}
-use Rattle.machine.proofs.Linearizability.Nodes.{
+use Rattle.machine.proofs.Basics.Contradiction.{clash, less?, refute}
+use Rattle.machine.proofs.Linearizability.Model.Classes.{Class}
+use Rattle.machine.proofs.Linearizability.Model.Structure.{Structure}
+use Rattle.machine.proofs.Linearizability.Model.Nodes.{
   first,
   far-zone,
   row-zone,

@@ -9,13 +9,13 @@ use Rattle.machine.specs.Sides.{Side, left, right, opposite}
 use Rattle.machine.specs.Tasks.{Task, none}
 use Rattle.machine.specs.Lines.{Memory, seen}
 use Rattle.machine.specs.Begun.{Begun}
-use Rattle.machine.proofs.Choices.{if-no}
-use Rattle.machine.proofs.Memories.{view, written}
-use Rattle.machine.proofs.StartLaws.{startLink}
-use Rattle.machine.proofs.Linearizability.Nodes.{inn-old}
-use Rattle.machine.proofs.Linearizability.LaneViews.{lane-view}
-use Rattle.machine.proofs.Linearizability.FreeNode.{take-ok}
-use Rattle.machine.proofs.Linearizability.Lasting.{effectIn, Lasts, begun-has}
+use Rattle.machine.proofs.Basics.Choices.{if-no}
+use Rattle.machine.proofs.Words.Memories.{view, written}
+use Rattle.machine.proofs.Words.StartLaws.{startLink}
+use Rattle.machine.proofs.Linearizability.Model.Nodes.{inn-old}
+use Rattle.machine.proofs.Linearizability.Model.LaneViews.{lane-view}
+use Rattle.machine.proofs.Linearizability.Writes.FreeNode.{take-ok}
+use Rattle.machine.proofs.Linearizability.Begun.Lasting.{effectIn, Lasts, begun-has}
 use Rattle.machine.proofs.SoloBound.Walks.{stops, goes-on, WalksEnd}
 use Rattle.machine.proofs.SoloBound.LinksEnd.{LinksEnd, links-end-after}
 

@@ -13,7 +13,7 @@ use Rattle.machine.specs.Steps.{Step, rest}
 use Rattle.machine.specs.Steps as Steps
 use Rattle.machine.specs.Tasks.{Task}
 use Rattle.machine.specs.Lines.{Memory, Effect}
-use Rattle.machine.proofs.Memories.{written}
+use Rattle.machine.proofs.Words.Memories.{written}
 use Rattle.machine.proofs.SoloBound.Walks.{EndsWithin}
 use Rattle.machine.proofs.SoloBound.AtHat.{Path}
 

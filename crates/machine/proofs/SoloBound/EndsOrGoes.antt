@@ -10,9 +10,9 @@ use Rattle.machine.specs.Answers.{refusalOf}
 use Rattle.machine.specs.Calls.{tickRefusal, effectOf, Ticked, tick}
 use Rattle.machine.specs.Begun.{Begun}
 use Rattle.machine.specs.Solo.{endsCall}
-use Rattle.machine.proofs.Contradiction.{clash}
-use Rattle.machine.proofs.TickLaws.{tick-answer}
-use Rattle.machine.proofs.Linearizability.MadeTicks.{effect-made}
+use Rattle.machine.proofs.Basics.Contradiction.{clash}
+use Rattle.machine.proofs.Words.TickLaws.{tick-answer}
+use Rattle.machine.proofs.Linearizability.Calls.MadeTicks.{effect-made}
 use Rattle.machine.proofs.Linearizability.Corollaries.{begun-agrees, tick-passes}
 
 -- An answer that is no refusal.

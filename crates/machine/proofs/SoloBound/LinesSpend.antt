@@ -9,9 +9,9 @@ use Rattle.machine.specs.Steps.{Step, rest}
 use Rattle.machine.specs.Steps as Steps
 use Rattle.machine.specs.Tasks.{Task}
 use Rattle.machine.specs.Lines.{Memory, act}
-use Rattle.machine.proofs.Linearizability.Classes.{Class}
-use Rattle.machine.proofs.Linearizability.Phases.{TaskOk}
-use Rattle.machine.proofs.Linearizability.Invariant.{Lane}
+use Rattle.machine.proofs.Linearizability.Model.Classes.{Class}
+use Rattle.machine.proofs.Linearizability.Model.Phases.{TaskOk}
+use Rattle.machine.proofs.Linearizability.Model.Invariant.{Lane}
 use Rattle.machine.proofs.SoloBound.Walks.{EndsWithin}
 use Rattle.machine.proofs.SoloBound.Budget.{Left, Spends}
 use Rattle.machine.proofs.SoloBound.PopSpends.{

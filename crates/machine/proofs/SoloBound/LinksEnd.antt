@@ -15,15 +15,15 @@ use Rattle.machine.specs.Steps.{Step, rest}
 use Rattle.machine.specs.Steps as Steps
 use Rattle.machine.specs.Tasks.{Task, none}
 use Rattle.machine.specs.Lines.{Memory, out≔, val≔, Effect, next, writing, spliced, back, act}
-use Rattle.machine.proofs.Contradiction.{less?, refute}
-use Rattle.machine.proofs.Updates.{Wrote, update, update-wrote}
-use Rattle.machine.proofs.Memories.{written}
-use Rattle.machine.proofs.Linearizability.Classes.{Class, new, Old}
-use Rattle.machine.proofs.Linearizability.Chain.{HasChain, HasChainIn}
-use Rattle.machine.proofs.Linearizability.ChainGrowth.{head-new}
-use Rattle.machine.proofs.Linearizability.Phases.{TaskOk}
-use Rattle.machine.proofs.Linearizability.Take.{TakeOk}
-use Rattle.machine.proofs.Linearizability.Connectives.{ok-if, ok-through, ok-dcas}
+use Rattle.machine.proofs.Basics.Contradiction.{less?, refute}
+use Rattle.machine.proofs.Basics.Updates.{Wrote, update, update-wrote}
+use Rattle.machine.proofs.Words.Memories.{written}
+use Rattle.machine.proofs.Linearizability.Model.Classes.{Class, new, Old}
+use Rattle.machine.proofs.Linearizability.Model.Chain.{HasChain, HasChainIn}
+use Rattle.machine.proofs.Linearizability.Writes.ChainGrowth.{head-new}
+use Rattle.machine.proofs.Linearizability.Model.Phases.{TaskOk}
+use Rattle.machine.proofs.Linearizability.Writes.Take.{TakeOk}
+use Rattle.machine.proofs.Linearizability.Lines.Connectives.{ok-if, ok-through, ok-dcas}
 use Rattle.machine.proofs.SoloBound.Walks.{
   EndsWithin,
   stops,

@@ -9,10 +9,10 @@ use Rattle.machine.specs.Values.{Value, never, bag, N, X, Y, _≟ᵛ_}
 use Rattle.machine.specs.Steps.{Step, line39, line40, line42, line48, line51}
 use Rattle.machine.specs.Tasks.{Task, none, goto, withA, withB, withValue}
 use Rattle.machine.specs.Lines.{Memory, Effect, next, afterRead, act}
-use Rattle.machine.proofs.Contradiction.{clash, refute}
-use Rattle.machine.proofs.Linearizability.Classes.{Class}
-use Rattle.machine.proofs.Linearizability.Invariant.{Lane}
-use Rattle.machine.proofs.Linearizability.Connectives.{ok-if}
+use Rattle.machine.proofs.Basics.Contradiction.{clash, refute}
+use Rattle.machine.proofs.Linearizability.Model.Classes.{Class}
+use Rattle.machine.proofs.Linearizability.Model.Invariant.{Lane}
+use Rattle.machine.proofs.Linearizability.Lines.Connectives.{ok-if}
 use Rattle.machine.proofs.SoloBound.AtHat.{Popped, a-bag, far-N, far-X, behind-some, behind-value}
 use Rattle.machine.proofs.SoloBound.Budget.{soon, late, Left, Spends}
 use Rattle.machine.proofs.SoloBound.Spending.{goes, answered, passing, swapping}

@@ -25,11 +25,11 @@ use Rattle.machine.specs.Steps.{
 }
 use Rattle.machine.specs.Tasks.{Task, none, goto, withA, withB, withC}
 use Rattle.machine.specs.Lines.{Memory, Write, Effect, next, writing, backOf, back, act}
-use Rattle.machine.proofs.Contradiction.{clash, refute}
-use Rattle.machine.proofs.Memories.{written}
-use Rattle.machine.proofs.Linearizability.Classes.{Class}
-use Rattle.machine.proofs.Linearizability.Invariant.{Lane}
-use Rattle.machine.proofs.Linearizability.Connectives.{ok-if}
+use Rattle.machine.proofs.Basics.Contradiction.{clash, refute}
+use Rattle.machine.proofs.Words.Memories.{written}
+use Rattle.machine.proofs.Linearizability.Model.Classes.{Class}
+use Rattle.machine.proofs.Linearizability.Model.Invariant.{Lane}
+use Rattle.machine.proofs.Linearizability.Lines.Connectives.{ok-if}
 use Rattle.machine.proofs.SoloBound.AtHat.{
   hat-N,
   hat-X,

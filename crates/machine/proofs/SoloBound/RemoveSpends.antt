@@ -23,9 +23,9 @@ use Rattle.machine.specs.Steps.{
 }
 use Rattle.machine.specs.Tasks.{Task, none, goto, withA, withB, withValue, withCounted}
 use Rattle.machine.specs.Lines.{Memory, Effect, next, writing, act}
-use Rattle.machine.proofs.Contradiction.{refute}
-use Rattle.machine.proofs.Updates.{Wrote, update-wrote}
-use Rattle.machine.proofs.Linearizability.Connectives.{ok-if}
+use Rattle.machine.proofs.Basics.Contradiction.{refute}
+use Rattle.machine.proofs.Basics.Updates.{Wrote, update-wrote}
+use Rattle.machine.proofs.Linearizability.Lines.Connectives.{ok-if}
 use Rattle.machine.proofs.SoloBound.Walks.{EndsWithin, ends-on, ends-cut}
 use Rattle.machine.proofs.SoloBound.Budget.{
   walkTicks,

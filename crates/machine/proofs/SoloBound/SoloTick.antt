@@ -19,22 +19,22 @@ use Rattle.machine.specs.Lines.{Memory, seen, Effect, act}
 use Rattle.machine.specs.Calls.{isBusy, tickRefusal, effectOf, tickOn}
 use Rattle.machine.specs.Row.{Note}
 use Rattle.machine.specs.Begun.{Begun}
-use Rattle.machine.proofs.Contradiction.{refute}
-use Rattle.machine.proofs.Choices.{if-no}
-use Rattle.machine.proofs.Memories.{view, written}
-use Rattle.machine.proofs.Columns.{columns}
-use Rattle.machine.proofs.EffectLaws.{view-seen}
-use Rattle.machine.proofs.BusyLaws.{BusyAt}
-use Rattle.machine.proofs.ShapeLaws.{WellSized, WellShaped, well-sized, well-shaped}
-use Rattle.machine.proofs.TickKeeps.{busy-facts, tick-allowed}
-use Rattle.machine.proofs.Linearizability.Invariant.{Lane, noteOf, Kept, goes-on, has-answered}
-use Rattle.machine.proofs.Linearizability.LaneViews.{lane-view}
-use Rattle.machine.proofs.Linearizability.RowViews.{rowFrom}
-use Rattle.machine.proofs.Linearizability.Reading.{main-size, main-is-node}
-use Rattle.machine.proofs.Linearizability.Agreement.{Agrees}
+use Rattle.machine.proofs.Basics.Contradiction.{refute}
+use Rattle.machine.proofs.Basics.Choices.{if-no}
+use Rattle.machine.proofs.Words.Memories.{view, written}
+use Rattle.machine.proofs.Words.Columns.{columns}
+use Rattle.machine.proofs.Words.EffectLaws.{view-seen}
+use Rattle.machine.proofs.Shape.BusyLaws.{BusyAt}
+use Rattle.machine.proofs.Shape.ShapeLaws.{WellSized, WellShaped, well-sized, well-shaped}
+use Rattle.machine.proofs.Shape.TickKeeps.{busy-facts, tick-allowed}
+use Rattle.machine.proofs.Linearizability.Model.Invariant.{Lane, noteOf, Kept, goes-on, has-answered}
+use Rattle.machine.proofs.Linearizability.Model.LaneViews.{lane-view}
+use Rattle.machine.proofs.Linearizability.Model.RowViews.{rowFrom}
+use Rattle.machine.proofs.Linearizability.Calls.Reading.{main-size, main-is-node}
+use Rattle.machine.proofs.Linearizability.Calls.Agreement.{Agrees}
 use Rattle.machine.proofs.Linearizability.Corollaries.{begun-agrees}
-use Rattle.machine.proofs.Linearizability.MadeTicks.{well-linked, keeps-invariant}
-use Rattle.machine.proofs.Linearizability.TableAfter.{own-after, in-after, own-side, own-busy}
+use Rattle.machine.proofs.Linearizability.Calls.MadeTicks.{well-linked, keeps-invariant}
+use Rattle.machine.proofs.Linearizability.Begun.TableAfter.{own-after, in-after, own-side, own-busy}
 use Rattle.machine.proofs.SoloBound.Walks.{EndsWithin, LinksBelow, ends-within-nodes}
 use Rattle.machine.proofs.SoloBound.Budget.{Left, Spends}
 use Rattle.machine.proofs.SoloBound.LinesSpend.{line-spends}

@@ -8,9 +8,9 @@ use Rattle.machine.specs.Sides.{Side}
 use Rattle.machine.specs.Operations.{Operation, idle, push, pop, add, remove}
 use Rattle.machine.specs.Tasks.{Task, none}
 use Rattle.machine.specs.Lines.{Memory, Write, Effect, through, dcas, noNode}
-use Rattle.machine.proofs.Contradiction.{refute}
-use Rattle.machine.proofs.Memories.{written}
-use Rattle.machine.proofs.Linearizability.Connectives.{ok-through}
+use Rattle.machine.proofs.Basics.Contradiction.{refute}
+use Rattle.machine.proofs.Words.Memories.{written}
+use Rattle.machine.proofs.Linearizability.Lines.Connectives.{ok-through}
 use Rattle.machine.proofs.SoloBound.Budget.{Left, Spends}
 
 -- A task that finds no free node answers.

@@ -18,9 +18,9 @@ use Rattle.machine.specs.Solo.{
   SoloBound,
   CloserSoloBound,
 }
-use Rattle.machine.proofs.TickKeeps.{busy-passes}
+use Rattle.machine.proofs.Shape.TickKeeps.{busy-passes}
 use Rattle.machine.proofs.Linearizability.Corollaries.{begun-agrees, tick-passes, begun-ticked}
-use Rattle.machine.proofs.Linearizability.TableAfter.{nodes-after}
+use Rattle.machine.proofs.Linearizability.Begun.TableAfter.{nodes-after}
 use Rattle.machine.proofs.SoloBound.Budget.{walkTicks}
 use Rattle.machine.proofs.SoloBound.AtFirst.{most}
 use Rattle.machine.proofs.SoloBound.EndsOrGoes.{ends-or-goes}

@@ -4,9 +4,9 @@ use mathlib.Core.Logic.{_≢_, inl, inr}
 use Prim.Native.Nat.{ℕ, zero, suc, _+_, _-_, _≤_, _<_}
 use native.Mathlib.Omega.{arith}
 use Rattle.machine.specs.Tasks.{none}
-use Rattle.machine.proofs.Contradiction.{equal?, less?}
-use Rattle.machine.proofs.Updates.{Wrote, it-is, it-is-not, wrote?}
-use Rattle.machine.proofs.Linearizability.Pigeonhole.{pigeonhole}
+use Rattle.machine.proofs.Basics.Contradiction.{equal?, less?}
+use Rattle.machine.proofs.Basics.Updates.{Wrote, it-is, it-is-not, wrote?}
+use Rattle.machine.proofs.Linearizability.Calls.Pigeonhole.{pigeonhole}
 
 -- The walk from x along the link meets none within n links.
 pub data EndsWithin (link : ℕ → ℕ) : (n x : ℕ) → Type 0 where

@@ -6,7 +6,7 @@ use Rattle.machine.specs.Sides.{opposite, sideOf}
 use Rattle.machine.specs.Steps.{stepNumber, line39, line42}
 use Rattle.machine.specs.Tasks.{none}
 use Rattle.machine.specs.Lines.{act}
-use Rattle.machine.proofs.Choices.{equal, unequal}
+use Rattle.machine.proofs.Basics.Choices.{equal, unequal}
 use Rattle.layout.specs.Coded.{linkIn, withRegister}
 use Rattle.hattrick.specs.Lent.{lineOf, nextDone, refusedDone}
 use Rattle.hattrick.proofs.Laws.Ready.{side-meant, number-of-a-side, by-code, side-below-two}

@@ -5,8 +5,8 @@ use Rattle.machine.specs.Sides.{opposite, sideOf}
 use Rattle.machine.specs.Values.{decode}
 use Rattle.machine.specs.Steps.{stepNumber}
 use Rattle.machine.specs.Lines.{act, afterRead}
-use Rattle.machine.proofs.Choices.{equal, unequal}
-use Rattle.machine.proofs.ValueLaws.{encode-decode}
+use Rattle.machine.proofs.Basics.Choices.{equal, unequal}
+use Rattle.machine.proofs.Words.ValueLaws.{encode-decode}
 use Rattle.layout.specs.Coded.{codedWord, wordIn, withValueRead}
 use Rattle.hattrick.specs.Lent.{lineOf, nextDone, refusedDone}
 use Rattle.hattrick.proofs.Laws.Ready.{side-meant, by-code, side-below-two, node-value-ok}

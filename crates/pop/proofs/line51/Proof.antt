@@ -2,7 +2,7 @@
 use mathlib.Core.Path.{sym, _∙_}
 use native.Mathlib.Omega.{arith}
 use Rattle.machine.specs.Lines.{act}
-use Rattle.machine.proofs.Choices.{equal}
+use Rattle.machine.proofs.Basics.Choices.{equal}
 use Rattle.layout.specs.Coded.{meaning}
 use Rattle.hattrick.specs.Lent.{lineOf, refusedDone}
 use Rattle.hattrick.proofs.Laws.Ready.{by-code, value-read-ok, node-value-ok}

@@ -7,7 +7,7 @@ use Rattle.machine.specs.Sides.{sideOf}
 use Rattle.machine.specs.Values.{X, decode, _≟ᵛ_}
 use Rattle.machine.specs.Steps.{line28, line67, stepNumber}
 use Rattle.machine.specs.Lines.{act}
-use Rattle.machine.proofs.Choices.{equal, unequal}
+use Rattle.machine.proofs.Basics.Choices.{equal, unequal}
 use Rattle.layout.specs.Coded.{wordIn}
 use Rattle.hattrick.specs.Lent.{lineOf, nextDone, refusedDone}
 use Rattle.hattrick.proofs.Laws.Compared.{told}

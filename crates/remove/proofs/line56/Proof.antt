@@ -5,7 +5,7 @@ use lib.ListN.{getD}
 use Rattle.machine.specs.Sides.{sideOf}
 use Rattle.machine.specs.Values.{X, decode}
 use Rattle.machine.specs.Lines.{act}
-use Rattle.machine.proofs.Choices.{equal, unequal}
+use Rattle.machine.proofs.Basics.Choices.{equal, unequal}
 use Rattle.layout.specs.Coded.{wordIn}
 use Rattle.hattrick.specs.Lent.{lineOf, nextDone, refusedDone}
 use Rattle.hattrick.proofs.Laws.Ready.{by-code, node-value-ok}

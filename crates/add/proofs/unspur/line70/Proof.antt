@@ -6,7 +6,7 @@ use Rattle.machine.specs.Sides.{sideOf}
 use Rattle.machine.specs.Steps.{line72, stepNumber}
 use Rattle.machine.specs.Tasks.{none}
 use Rattle.machine.specs.Lines.{act, back}
-use Rattle.machine.proofs.Choices.{equal, unequal}
+use Rattle.machine.proofs.Basics.Choices.{equal, unequal}
 use Rattle.layout.specs.Coded.{linkIn, taskMeant, withRegister}
 use Rattle.hattrick.specs.Lent.{lineOf, nextDone, refusedDone}
 use Rattle.hattrick.proofs.Laws.Ready.{by-code, side-below-two}

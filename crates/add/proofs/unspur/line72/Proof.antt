@@ -4,7 +4,7 @@ use Rattle.machine.specs.Choice.{_≟_}
 use Rattle.machine.specs.Sides.{sideOf}
 use Rattle.machine.specs.Steps.{stepNumber}
 use Rattle.machine.specs.Lines.{act, back}
-use Rattle.machine.proofs.Choices.{equal, unequal}
+use Rattle.machine.proofs.Basics.Choices.{equal, unequal}
 use Rattle.layout.specs.Coded.{taskMeant}
 use Rattle.hattrick.specs.Lent.{lineOf, nextDone, refusedDone, hatAfter}
 use Rattle.hattrick.proofs.Laws.Ready.{by-record}

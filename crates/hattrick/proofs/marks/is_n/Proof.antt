@@ -1,6 +1,6 @@
 -- `hattrick::marks::is_n` meets its contract: a mark has a word, so that comparing with its word compares with it.
 use Rattle.machine.specs.Sides.{sideOf}
-use Rattle.machine.proofs.ValueLaws.{N-mark, mark-has-word, mark-value-ok}
+use Rattle.machine.proofs.Words.ValueLaws.{N-mark, mark-has-word, mark-value-ok}
 use borrow.Author.Needs.{needs}
 use Rattle.hattrick.proofs.marks.is_n.Statement.{statement}
 use Rattle.hattrick.proofs.marks.is_n.Tie as tie

@@ -1,6 +1,6 @@
 -- `hattrick::marks::is_x` meets its contract: a mark has a word, so that comparing with its word compares with it.
 use Rattle.machine.specs.Sides.{sideOf}
-use Rattle.machine.proofs.ValueLaws.{X-mark, mark-has-word, mark-value-ok}
+use Rattle.machine.proofs.Words.ValueLaws.{X-mark, mark-has-word, mark-value-ok}
 use borrow.Author.Needs.{needs}
 use Rattle.hattrick.proofs.marks.is_x.Statement.{statement}
 use Rattle.hattrick.proofs.marks.is_x.Tie as tie

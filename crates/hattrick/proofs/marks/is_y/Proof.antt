@@ -1,6 +1,6 @@
 -- `hattrick::marks::is_y` meets its contract: a mark has a word, so that comparing with its word compares with it.
 use Rattle.machine.specs.Sides.{sideOf}
-use Rattle.machine.proofs.ValueLaws.{Y-mark, mark-has-word, mark-value-ok}
+use Rattle.machine.proofs.Words.ValueLaws.{Y-mark, mark-has-word, mark-value-ok}
 use borrow.Author.Needs.{needs}
 use Rattle.hattrick.proofs.marks.is_y.Statement.{statement}
 use Rattle.hattrick.proofs.marks.is_y.Tie as tie

@@ -2,8 +2,8 @@
 use native.Mathlib.Omega.{arith}
 use lib.ListN.{getD}
 use Rattle.machine.specs.Lines.{act}
-use Rattle.machine.proofs.Choices.{equal, unequal}
-use Rattle.machine.proofs.ValueLaws.{encode-decode}
+use Rattle.machine.proofs.Basics.Choices.{equal, unequal}
+use Rattle.machine.proofs.Words.ValueLaws.{encode-decode}
 use Rattle.layout.specs.Coded.{codedWord, wordIn, withValueRead}
 use Rattle.hattrick.specs.Lent.{lineOf, nextDone, refusedDone}
 use Rattle.hattrick.proofs.Laws.Ready.{by-code}

@@ -5,7 +5,7 @@ use lib.ListN.{getD}
 use Rattle.machine.specs.Sides.{sideOf}
 use Rattle.machine.specs.Values.{Y, encode, decode}
 use Rattle.machine.specs.Lines.{act}
-use Rattle.machine.proofs.Choices.{equal, unequal}
+use Rattle.machine.proofs.Basics.Choices.{equal, unequal}
 use Rattle.layout.specs.Coded.{meaning, wordIn, setWordIn}
 use Rattle.hattrick.specs.Lent.{lineOf, nextDone, refusedDone}
 use Rattle.hattrick.proofs.Laws.Ready.{by-record, by-code, value-read-ok, node-value-ok}

@@ -7,7 +7,7 @@ use Rattle.machine.specs.Sides.{sideOf}
 use Rattle.machine.specs.Values.{X}
 use Rattle.machine.specs.Steps.{line77, line82}
 use Rattle.machine.specs.Lines.{act}
-use Rattle.machine.proofs.Choices.{equal, unequal}
+use Rattle.machine.proofs.Basics.Choices.{equal, unequal}
 use Rattle.layout.specs.Coded.{isSame, meaning, linkIn, withRegister}
 use Rattle.hattrick.specs.Lent.{lineOf, nextDone, refusedDone}
 use Rattle.hattrick.proofs.Laws.Ready.{by-code, side-below-two, value-read-ok}

@@ -1,7 +1,7 @@
 -- `remove::breaking::line82` meets its contract: the link is written, and the record made fresh.
 use native.Mathlib.Omega.{arith}
 use Rattle.machine.specs.Lines.{act}
-use Rattle.machine.proofs.Choices.{equal, unequal}
+use Rattle.machine.proofs.Basics.Choices.{equal, unequal}
 use Rattle.hattrick.specs.Lent.{lineOf, refusedDone}
 use Rattle.hattrick.proofs.Laws.Ready.{by-code, side-below-two}
 use borrow.Author.Needs.{needs}

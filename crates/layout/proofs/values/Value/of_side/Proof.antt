@@ -1,5 +1,5 @@
 -- `layout::values::Value::of_side` meets its contract.
-use Rattle.machine.proofs.Choices.{equal, unequal}
+use Rattle.machine.proofs.Basics.Choices.{equal, unequal}
 use borrow.Author.Needs.{needs}
 use Rattle.layout.proofs.values.Value.of_side.Statement.{statement}
 use Rattle.layout.proofs.values.Value.of_side.Tie as tie

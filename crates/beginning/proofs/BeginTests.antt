@@ -1,0 +1,83 @@
+-- The tests of a begin, in 01's order: each refusal, and the record that passes them all.
+use mathlib.Core.Path.{_≡_, refl, ap, _∙_}
+use mathlib.Core.Bool.{Bool, true, false, _&&_}
+use mathlib.Core.Logic.{_≢_}
+use mathlib.Core.List.{List}
+use mathlib.Core.Option.{some, none as nothing}
+use Prim.Native.Nat.{ℕ, _≤_, _<_}
+use native.Mathlib.Decide.{ℕ-discrete}
+use lib.Dec.{leb}
+use lib.ListN.{getD}
+use borrow.Author.Tests.{lt-ltb, le-ltb, leb-true}
+use Rattle.machine.specs.declared.Reply.the-variants.{Accepted, Refused}
+use Rattle.machine.specs.Sides.{sideOf}
+use Rattle.machine.specs.Operations.{Operation, idle, push, pop, add, remove, operationOf, argumentOk}
+use Rattle.machine.specs.Table.{nodeCount, taskCount, recordAt, task, setTask}
+use Rattle.machine.specs.Calls.{isBusy, isIdle, tableRefusal, beginRefusal, begunTask, begin}
+use Rattle.machine.proofs.Basics.Contradiction.{clash}
+use Rattle.machine.proofs.Basics.Tests.{and-left, and-right}
+use Rattle.machine.specs.Results.{changedOf}
+use Rattle.shape.specs.Contracts.{numberOf, Passed}
+use Rattle.shape.proofs.PassedTable.{refused, operation-is, busy-task}
+
+busy-not-idle : (op : Operation) → isBusy op ≡ true → isIdle op ≡ false
+busy-not-idle idle h = clash (cc)
+busy-not-idle push h = refl
+busy-not-idle pop h = refl
+busy-not-idle add h = refl
+busy-not-idle remove h = refl
+
+-- The numbers of a call: push, pop, add or remove, of a side.
+abbrev callOk : (operation side : ℕ) → Bool
+callOk op side = leb 1 op && leb op 4 && leb side 1
+
+pub operation-low : (op side : ℕ) → callOk op side ≡ true → op ≤ 4
+operation-low op side h = leb-true op 4 (search (and-left, and-right))
+
+pub side-low : (op side : ℕ) → callOk op side ≡ true → side ≤ 1
+side-low op side h = leb-true side 1 (search (and-left, and-right))
+
+-- ---- Refusals 3 and 4 by their number.
+module _ (ws : List ℕ) {n : ℕ} (is-number : n ≡ numberOf (tableRefusal ws nothing)) (k op side argument : ℕ) where
+  stopped : beginRefusal ws k op side argument ≡ some n → changedOf (Refused n) ws ≡ begin ws k op side argument
+  unfolding begin
+  stopped e = rw (e, begin)
+
+  pub begin-refused : n ≢ 0 → changedOf (Refused n) ws ≡ begin ws k op side argument
+  begin-refused h = stopped (refused ws is-number h _)
+
+-- ---- The others, of a table that passes.
+module _ (ws : List ℕ) (P : Passed ws) (k op side argument : ℕ) where
+  pub begin-5 : taskCount ws ≤ k → changedOf (Refused 5) ws ≡ begin ws k op side argument
+  unfolding begin
+  begin-5 h = rw (P .length-passes, P .shape-passes, le-ltb k (taskCount ws) h, begin)
+
+  module _ (is-task : k < taskCount ws) where
+    pub begin-6 : callOk op side ≡ false → changedOf (Refused 6) ws ≡ begin ws k op side argument
+    unfolding begin
+    begin-6 h = rw (P .length-passes, P .shape-passes, lt-ltb k (taskCount ws) is-task, h, begin)
+
+    module _ (call : callOk op side ≡ true) where
+      pub begin-7 :
+          argumentOk (operationOf op) argument ≡ false → changedOf (Refused 7) ws ≡ begin ws k op side argument
+      unfolding begin
+      begin-7 h = rw (P .length-passes, P .shape-passes, lt-ltb k (taskCount ws) is-task, call, h, begin)
+
+      module _ (is-argument : argumentOk (operationOf op) argument ≡ true) where
+        pub begin-8 :
+            getD ws (recordAt (nodeCount ws) k) 0 ≢ 0 → changedOf (Refused 8) ws ≡ begin ws k op side argument
+        unfolding begin
+        begin-8 h =
+            let i : isIdle (task ws k .operation) ≡ false
+            = busy-not-idle (task ws k .operation) (busy-task ws P k is-task h) in
+            rw (P .length-passes, P .shape-passes, lt-ltb k (taskCount ws) is-task, call, is-argument, i, begin)
+
+        pub begin-accepted :
+            getD ws (recordAt (nodeCount ws) k) 0 ≡ 0
+            → changedOf Accepted (setTask k (begunTask (operationOf op) (sideOf side) argument) ws)
+            ≡ begin ws k op side argument
+        unfolding begin ℕ-discrete
+        begin-accepted e =
+            let i : isIdle (task ws k .operation) ≡ true
+            = ap isIdle (operation-is ws P k is-task ∙ ap operationOf e) in
+            rw (P .length-passes, P .shape-passes, lt-ltb k (taskCount ws) is-task, call, is-argument, i, begin)

@@ -1,0 +1,31 @@
+-- `beginning::begun` meets its contract: a fresh record, at its first step, with the three numbers.
+use Rattle.machine.proofs.Words.RecordLaws.{number-of-operation, number-of-side}
+use borrow.Author.Needs.{needs}
+use Rattle.beginning.proofs.begun.Statement.{statement}
+use Rattle.beginning.proofs.begun.Tie as tie
+
+fresh-requires : tie.Need-fresh-requires
+fresh-requires c κs = search needs
+
+first-step-requires : tie.Need-first-step-requires
+first-step-requires c κs = search needs
+
+at-requires : tie.Need-at-requires
+at-requires c κs = search needs
+
+returns : tie.Need-returns
+returns c =
+    let p = c .before .before .before in
+    let a = p .args in
+    let step = c .before .first-step .ensures in
+    let fresh = c .before .before .fresh .ensures in
+    rw (
+      c .at .ensures,
+      fresh,
+      step,
+      number-of-operation (a .operation) (p .pre .0),
+      number-of-side (a .side) (p .pre .1),
+    )
+
+pub begun-spec : {M : Type 1} → statement M
+begun-spec = tie.close (tie.spec fresh-requires first-step-requires at-requires returns)

@@ -1,0 +1,26 @@
+-- `deque::lane_read` meets its contract: the number and the words of `read`.
+use mathlib.Core.Path.{ap, _∙_}
+use Rattle.machine.specs.Calls.{ReadDone}
+use Rattle.deque.specs.Exports.{readingNumber}
+use borrow.Author.Needs.{needs}
+use Rattle.deque.proofs.lane_read.Statement.{statement}
+use Rattle.deque.proofs.lane_read.Tie as tie
+
+read-requires : tie.Need-read-requires
+read-requires c κs = search needs
+
+reading-number-requires : tie.Need-reading-number-requires
+reading-number-requires c κs = search needs
+
+same-length : tie.Need-same-length
+same-length c = search needs
+
+returns : tie.Need-returns
+returns c =
+    let e = c .before .before .before .read .ensures in (
+      c .reading-number .ensures ∙ ap (λ (d : ReadDone). readingNumber (d .reading)) e,
+      ap (λ (d : ReadDone). d .out) e,
+    )
+
+pub lane-read-spec : {M : Type 1} → statement M
+lane-read-spec = tie.close (tie.spec read-requires reading-number-requires same-length returns)

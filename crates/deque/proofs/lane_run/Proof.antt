@@ -1,0 +1,29 @@
+-- `deque::lane_run` meets its contract: the number and the words of `run`.
+use mathlib.Core.Path.{ap, _∙_}
+use Rattle.machine.specs.Calls.{RunDone}
+use Rattle.deque.specs.Exports.{ranNumber}
+use borrow.Author.Needs.{needs}
+use Rattle.deque.proofs.lane_run.Statement.{statement}
+use Rattle.deque.proofs.lane_run.Tie as tie
+
+run-requires : tie.Need-run-requires
+run-requires c κs = search needs
+
+pair-requires : tie.Need-pair-requires
+pair-requires c κs = search needs
+
+same-length : tie.Need-same-length
+same-length c = search needs
+
+same-length-2 : tie.Need-same-length-2
+same-length-2 c = search needs
+
+returns : tie.Need-returns
+returns c =
+    let e = c .before .before .before .before .before .run .ensures in (
+      c .pair .ensures ∙ ap (λ (d : RunDone). ranNumber (d .ran)) e,
+      (ap (λ (d : RunDone). d .words) e, ap (λ (d : RunDone). d .answers) e),
+    )
+
+pub lane-run-spec : {M : Type 1} → statement M
+lane-run-spec = tie.close (tie.spec run-requires pair-requires same-length same-length-2 returns)

@@ -1,0 +1,16 @@
+-- A slice that is filled from the front.
+use mathlib.Core.Path.{_≡_, ap, _∙_}
+use mathlib.Core.List.{List, _++_}
+use Prim.Native.Nat.{ℕ, _+_, _≤_}
+use native.Mathlib.Omega.{arith}
+use lib.ListN.{length, take, drop, length-append}
+use lib.Seq.{sets, sets-eq, length-take-le, take-at}
+
+-- Words written at the end of the front lengthen it.
+pub front-grows :
+    (t vs : List ℕ) (n : ℕ) → n + length vs ≤ length t → take (n + length vs) (sets t n vs) ≡ take n t ++ vs
+front-grows t vs n h =
+    let long : length (take n t ++ vs) ≡ n + length vs
+    = length-append (take n t) vs ∙ ap (λ (m : ℕ). m + length vs) (length-take-le n t (omega arith)) in
+    ap (take (n + length vs)) (sets-eq vs t n h)
+    ∙ take-at (take n t ++ vs) (drop (n + length vs) t) (n + length vs) long

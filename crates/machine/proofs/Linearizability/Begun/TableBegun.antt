@@ -1,0 +1,73 @@
+-- The table after a begin: as it was where the begin is refused, and with one record written where it is accepted.
+use mathlib.Core.Path.{_≡_, refl}
+use mathlib.Core.List.{List}
+use mathlib.Core.Option.{Option, some, none as nothing}
+use Prim.Native.Nat.{ℕ, _<_}
+use Rattle.machine.specs.declared.Reply.the-variants.{Accepted, Refused as Reply-Refused}
+use Rattle.machine.specs.Sides.{Side, sideOf}
+use Rattle.machine.specs.Operations.{operationOf}
+use Rattle.machine.specs.Tasks.{Task, fresh}
+use Rattle.machine.specs.Table.{nodeCount, taskCount, growth, task, setTask}
+use Rattle.machine.specs.Lines.{seen}
+use Rattle.machine.specs.Calls.{beginRefusal, Changed, changed, begunTask, begin}
+use Rattle.machine.specs.Row.{Row}
+use Rattle.machine.proofs.Basics.Contradiction.{clash}
+use Rattle.machine.proofs.Words.ValueLaws.{never-has-word}
+use Rattle.machine.proofs.Basics.Updates.{update}
+use Rattle.machine.proofs.Words.Columns.{columns}
+use Rattle.machine.proofs.Words.EffectLaws.{seen-set-task, task-set-task}
+use Rattle.machine.proofs.Shape.ShapeLaws.{WellSized, WellShaped, well-sized, well-shaped}
+use Rattle.machine.proofs.Shape.ShapeKept.{begin-allowed, begin-kept}
+use Rattle.machine.proofs.Shape.TickKeeps.{Kept, idle-fresh}
+use Rattle.machine.proofs.Linearizability.Calls.Agreement.{Agrees}
+use Rattle.machine.proofs.Linearizability.Calls.CallsAgree.{idle-operation}
+
+-- vs is ws with the record t of task k, which was idle.
+pub record BegunTable (ws vs : List ℕ) (k : ℕ) (t : Task) : Type 0 where
+  pub is-task : k < taskCount ws
+  pub was-fresh : task ws k ≡ fresh
+  pub seen-same : (s : Side) → seen s vs ≡ seen s ws
+  pub tasks-then : task vs ≡ update (task ws) k t
+  pub same-nodes : nodeCount vs ≡ nodeCount ws
+  pub same-count : taskCount vs ≡ taskCount ws
+  pub same-growth : growth vs ≡ growth ws
+
+module _ {ws : List ℕ} {ρ : Row} (A : Agrees ws ρ) (k op side argument : ℕ) where
+  abbrev t : Task
+  t = begunTask (operationOf op) (sideOf side) argument
+
+  sizes : WellSized (columns ws)
+  sizes = well-sized ws (A .accepted .length-passes)
+
+  shape : WellShaped (columns ws)
+  shape = well-shaped ws (A .accepted .shape-passes)
+
+  -- What is true of a refused begin, and of an accepted one, is true of the begin.
+  pub by-begin : (P : Changed → Type 0)
+      → ((n : ℕ) → P (record { reply = Reply-Refused n; words = ws }))
+      → ((vs : List ℕ) → BegunTable ws vs k t → P (record { reply = Accepted; words = vs }))
+      → P (begin ws k op side argument)
+  unfolding begin
+  by-begin P refused accepted =
+      go (beginRefusal ws k op side argument) refl (begin-kept ws k op side argument sizes shape)
+    where
+      go : (r : Option ℕ) → beginRefusal ws k op side argument ≡ r → Kept ws (changed r ws (setTask k t ws) .words)
+          → P (changed r ws (setTask k t ws))
+      go (some n) e K = refused n
+      go nothing e K =
+          let B = begin-allowed ws k op side argument e in
+          accepted (setTask k t ws)
+          (record {
+            is-task = B .is-task;
+            was-fresh = idle-fresh ws shape k (idle-operation (task ws k .operation) (B .was-idle));
+            seen-same = λ s. seen-set-task ws (sizes .sized) k (B .is-task) t s;
+            tasks-then = task-set-task ws (sizes .sized) k (B .is-task) t never-has-word;
+            same-nodes = K .same-sizes .1;
+            same-count = K .same-sizes .2;
+            same-growth = K .same-sizes .3;
+          })
+
+  pub accepted-begin : begin ws k op side argument .reply ≡ Accepted
+      → BegunTable ws (begin ws k op side argument .words) k t
+  accepted-begin =
+      by-begin (λ c. c .reply ≡ Accepted → BegunTable ws (c .words) k t) (λ n e. clash (cc)) (λ vs T _. T)

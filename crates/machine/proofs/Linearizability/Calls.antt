@@ -1,0 +1,11 @@
+-- Every call keeps the agreement of table and row, and gives back what the row gives.
+
+pub mod Start
+pub mod Begin
+pub mod Pigeonhole
+pub mod Reading
+pub mod RowSteps
+pub mod Agreement
+pub mod MadeTicks
+pub mod CallsAgree
+pub mod Runs

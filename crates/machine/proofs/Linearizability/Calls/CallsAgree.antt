@@ -1,0 +1,234 @@
+-- Each of the five calls keeps the agreement of table and row, and gives back what the row gives.
+use mathlib.Core.Path.{_≡_, refl, sym, ap, _∙_}
+use mathlib.Core.Bool.{Bool, true, false}
+use mathlib.Core.List.{List, [], _∷_}
+use mathlib.Core.Option.{Option, some, none as nothing}
+use Prim.Native.Nat.{ℕ, _≤_}
+use native.Mathlib.Omega.{arith}
+use native.Mathlib.Decide.{ℕ-discrete}
+use lib.Dec.{leb}
+use lib.ListN.{length, drop}
+use lib.Seq.{take-append-seam}
+use borrow.Author.Tests.{eq-eqb, leb-false, lt-ltb, leb-true}
+use Rattle.machine.specs.Choice.{_≟_}
+use Rattle.machine.specs.Sides.{right, sideOf}
+use Rattle.machine.specs.Operations.{Operation, idle, push, pop, add, remove, operationOf}
+use Rattle.machine.specs.Tasks.{Task}
+use Rattle.machine.specs.Table.{task, setTask}
+use Rattle.machine.specs.Shape.{sizesOk, sameWords}
+use Rattle.machine.specs.Calls.{
+  isIdle,
+  startRefusal,
+  beginRefusal,
+  tickRefusal,
+  Changed,
+  changed,
+  startWords,
+  start,
+  begunTask,
+  begin,
+  Ticked,
+  tickOn,
+  tick,
+  ReadDone,
+  readInto,
+  read,
+}
+use Rattle.machine.specs.Row.{Note, Row, emptyRow, noted}
+use Rattle.machine.specs.Demand3.{
+  start-call,
+  begin-call,
+  tick-call,
+  read-call,
+  Call,
+  given,
+  after,
+  feedStart,
+  feedBegin,
+  feedTick,
+  feedRead,
+  feed,
+}
+use Rattle.machine.proofs.Basics.Contradiction.{clash}
+use Rattle.machine.proofs.Basics.Choices.{by-if}
+use Rattle.machine.proofs.Basics.Tests.{and-left, and-right, test-passed}
+use Rattle.machine.proofs.Basics.Updates.{update, update-same, update-other}
+use Rattle.machine.proofs.Words.ValueLaws.{never-has-word}
+use Rattle.machine.proofs.Words.StartLaws.{seen-start, task-start}
+use Rattle.machine.proofs.Words.EffectLaws.{seen-set-task, task-set-task}
+use Rattle.machine.proofs.Shape.ShapeLaws.{well-sized}
+use Rattle.machine.proofs.Shape.ShapeKept.{
+  Accepted,
+  start-accepted,
+  begin-allowed,
+  table-passes,
+  call-accepted,
+}
+use Rattle.machine.proofs.Linearizability.Calls.Start.{startClass, invariant-start}
+use Rattle.machine.proofs.Linearizability.Calls.Begin.{invariant-begin}
+use Rattle.machine.proofs.Linearizability.Calls.Agreement.{noteIn, noteUnder, Agrees, lane-is-row}
+use Rattle.machine.proofs.Linearizability.Calls.MadeTicks.{made-tick}
+
+-- What a call comes to: the row afterwards, which the row's lines give, and the agreement of table and row again.
+pub record Explains (ws : List ℕ) (ρ : Row) (c : Call) : Type 0 where
+  pub row : Row
+  pub given-by-row : feed ρ c (given c ws) ≡ some row
+  pub agrees : Agrees (after c ws) row
+
+same-words-refl : (l : List ℕ) → sameWords l l ≡ true
+unfolding sameWords
+same-words-refl [] = refl
+same-words-refl (x ∷ l) = rw (eq-eqb x x refl) (same-words-refl l)
+
+explains :
+    {ws : List ℕ} {ρ : Row} {c : Call}
+    → (ρ′ : Row) × (feed ρ c (given c ws) ≡ some ρ′) × Agrees (after c ws) ρ′
+    → Explains ws ρ c
+explains x = record { row = x .0; given-by-row = x .1; agrees = x .2 }
+
+-- ---- start.
+pub start-agrees : (S T g : ℕ) → sizesOk S T g ≡ true → Agrees (startWords S T g) emptyRow
+unfolding ℕ-discrete
+start-agrees S T g ok =
+    let two : 2 ≤ S = leb-true 2 S (search (and-left, and-right)) in
+    record {
+      accepted = start-accepted S T g ok;
+      class = startClass;
+      invariant =
+          rw (seen-start S T g two)
+          (invariant-start
+          (record {
+            out-0 = refl;
+            out-1 = refl;
+            inn-0 = refl;
+            inn-1 = refl;
+            val-0 = refl;
+            val-1 = refl;
+            hat-1 = refl;
+            far-0 = refl;
+          })
+          (task-start S T g two));
+      notes = λ k. ap noteIn (sym (task-start S T g two k));
+    }
+
+-- An operation that tests as idle is idle.
+pub idle-operation : (op : Operation) → isIdle op ≡ true → op ≡ idle
+idle-operation idle h = refl
+idle-operation push h = clash (cc)
+idle-operation pop h = clash (cc)
+idle-operation add h = clash (cc)
+idle-operation remove h = clash (cc)
+
+module _ {ws : List ℕ} {ρ : Row} (A : Agrees ws ρ) where
+  pub start-explained : (S T g : ℕ) → Explains ws ρ (start-call S T g)
+  unfolding start
+  start-explained S T g = explains (go (startRefusal ws S T g) refl)
+    where
+      Result : Changed → Type 0
+      Result c = (ρ′ : Row) × (feedStart ρ (c .reply) ≡ some ρ′) × Agrees (c .words) ρ′
+
+      go : (r : Option ℕ) → startRefusal ws S T g ≡ r → Result (changed r ws (startWords S T g))
+      go (some n) e = (ρ, refl, A)
+      go nothing e = (emptyRow, refl, start-agrees S T g (search test-passed))
+
+  -- ---- begin.
+  begun-note : (n : ℕ) → 1 ≤ n → (m : Note) → noteUnder (operationOf n) m ≡ some m
+  begun-note n h m =
+      by-if (λ op. noteUnder op m ≡ some m) (n ≟ 0) (λ e. absurd (omega arith)) (λ _.
+      by-if (λ op. noteUnder op m ≡ some m) (n ≟ 1) (λ _. refl) (λ _.
+      by-if (λ op. noteUnder op m ≡ some m) (n ≟ 2) (λ _. refl) (λ _.
+      by-if (λ op. noteUnder op m ≡ some m) (n ≟ 3) (λ _. refl) (λ _. refl))))
+
+  pub begin-explained : (k op side argument : ℕ) → Explains ws ρ (begin-call k op side argument)
+  unfolding begin
+  begin-explained k op side argument =
+      explains
+      (go (beginRefusal ws k op side argument) refl
+      (call-accepted ws (A .accepted) (begin-call k op side argument)))
+    where
+      t : Task
+      t = begunTask (operationOf op) (sideOf side) argument
+
+      n : Note
+      n = record { operation = operationOf op; side = sideOf side; argument = argument }
+
+      Result : Changed → Type 0
+      Result c = (ρ′ : Row) × (feedBegin ρ k n (c .reply) ≡ some ρ′) × Agrees (c .words) ρ′
+
+      notes-after : 1 ≤ op → (j : ℕ) → noted ρ k (some n) .notes j ≡ noteIn (update (task ws) k t j)
+      notes-after some-operation j =
+          by-if (λ (m : Option Note). m ≡ noteIn (update (task ws) k t j)) (j ≟ k)
+          (λ e.
+          sym (begun-note op some-operation n)
+          ∙ sym (ap noteIn (ap (update (task ws) k t) e ∙ update-same (task ws) k t)))
+          (λ m. A .notes j ∙ sym (ap noteIn (update-other (task ws) k t j m)))
+
+      go :
+          (r : Option ℕ)
+          → beginRefusal ws k op side argument ≡ r
+          → Accepted (changed r ws (setTask k t ws) .words)
+          → Result (changed r ws (setTask k t ws))
+      go (some m) e ok = (ρ, refl, A)
+      go nothing e ok =
+          let B = begin-allowed ws k op side argument e in
+          let Z = well-sized ws (A .accepted .length-passes) in
+          let seen-after = seen-set-task ws (Z .sized) k (B .is-task) t right in
+          let task-after = task-set-task ws (Z .sized) k (B .is-task) t never-has-word in (
+            noted ρ k (some n),
+            refl,
+            record {
+              accepted = ok;
+              class = A .class;
+              invariant =
+                  rw (seen-after, task-after)
+                  (invariant-begin (A .invariant) k (idle-operation (task ws k .operation) (B .was-idle))
+                  (operationOf op) (sideOf side) argument);
+              notes = λ j. rw task-after (notes-after (B .some-operation) j);
+            },
+          )
+
+  -- ---- tick.
+  pub tick-explained : (k h : ℕ) → Explains ws ρ (tick-call k h)
+  unfolding tick tickOn feedTick
+  tick-explained k h = explains (passed (tickRefusal ws k h) refl)
+    where
+      Result : Ticked → Type 0
+      Result r = (ρ′ : Row) × (feedTick ρ k (r .answer) ≡ some ρ′) × Agrees (r .words) ρ′
+
+      go : (r : Option ℕ) → tickRefusal ws k h ≡ r → Result (tickOn ws k h)
+      go (some n) e = rw (e, tickOn) (ρ, refl, A)
+      go nothing e =
+          let m = made-tick A k h e in
+          (m .row, rw (m .no-number, feedTick) (m .given), m .agrees)
+
+      passed : (r : Option ℕ) → tickRefusal ws k h ≡ r → Result (tick ws k h)
+      passed r e = rw (table-passes ws (A .accepted) nothing, tick) (go r e)
+
+  -- ---- Reading the lane.
+  pub read-explained : (out : List ℕ) → Explains ws ρ (read-call out)
+  unfolding read readInto
+  read-explained out = explains passed
+    where
+      Result : ReadDone → Type 0
+      Result r = (ρ′ : Row) × (feedRead ρ out (r .reading) (r .out) ≡ some ρ′) × Agrees ws ρ′
+
+      go : (b : Bool) → leb (length (ρ .bags)) (length out) ≡ b → Result (readInto (some (ρ .bags)) out)
+      go true e =
+          rw (e, readInto) (
+            ρ,
+            rw (
+              eq-eqb (length (ρ .bags)) (length (ρ .bags)) refl,
+              e,
+              take-append-seam (ρ .bags) (drop (length (ρ .bags)) out),
+              same-words-refl (ρ .bags),
+            ),
+            A,
+          )
+      go false e =
+          rw (e, readInto)
+          (ρ, rw (lt-ltb (length out) (length (ρ .bags)) (leb-false (length (ρ .bags)) (length out) e)), A)
+
+      passed : Result (read ws out)
+      passed =
+          rw (table-passes ws (A .accepted) nothing, read, lane-is-row A)
+          (go (leb (length (ρ .bags)) (length out)) refl)

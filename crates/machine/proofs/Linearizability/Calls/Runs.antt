@@ -1,0 +1,131 @@
+-- A run: the ticks that it makes, one after another, each explained by the row.
+use mathlib.Core.Path.{_≡_, refl, sym, subst}
+use mathlib.Core.List.{List, [], _∷_}
+use mathlib.Core.Option.{Option, some, none as nothing, bind}
+use Prim.Native.Nat.{ℕ, zero, suc, _≤_}
+use native.Mathlib.Omega.{arith}
+use native.Mathlib.Decide.{ℕ-discrete}
+use lib.ListN.{drop}
+use Rattle.machine.specs.declared.Answer.{Answer}
+use Rattle.machine.specs.declared.Answer.the-variants.{Going, Pushed, Bag, Empty, Full, Yes, No, Refused}
+use Rattle.machine.specs.Answers.{kindOf, payloadOf, refusalOf, plainAnswerOf, answerOf}
+use Rattle.machine.specs.Calls.{
+  tickRefusal,
+  runRefusal,
+  tickOn,
+  RunDone,
+  stopped,
+  afterTick,
+  runOn,
+  run,
+}
+use Rattle.machine.specs.Row.{Row, feedRun}
+use Rattle.machine.specs.Demand3.{run-call, LaneIs, afterTicks, Within}
+use Rattle.machine.proofs.Basics.Contradiction.{clash}
+use Rattle.machine.proofs.Words.RunLaws.{by-first, first-tick}
+use Rattle.machine.proofs.Linearizability.Calls.Agreement.{Agrees, lane-is-row}
+use Rattle.machine.proofs.Linearizability.Calls.MadeTicks.{MadeTick, made-tick}
+use Rattle.machine.proofs.Linearizability.Calls.CallsAgree.{Explains}
+
+-- The two words of an answer stand for it.
+answer-back : (a : Answer) → refusalOf a ≡ nothing → answerOf (kindOf a) (payloadOf a) ≡ some a
+unfolding answerOf plainAnswerOf ℕ-discrete
+answer-back Going e = refl
+answer-back Pushed e = refl
+answer-back (Bag b) e = refl
+answer-back Empty e = refl
+answer-back Full e = refl
+answer-back Yes e = refl
+answer-back No e = refl
+answer-back (Refused n) e = clash (cc)
+
+-- What a run of a list comes to, tick by tick.
+record RunExplained (list ws : List ℕ) (ρ : Row) (r : RunDone) : Type 0 where
+  pub row : Row
+  pub given-by-row : feedRun ρ (r .ran .made) list (r .answers) ≡ some row
+  pub agrees : Agrees (r .words) row
+  pub within :
+      (i : ℕ)
+      → i ≤ r .ran .made
+      → (ρᵢ : Row) × (feedRun ρ i list (r .answers) ≡ some ρᵢ) × LaneIs (afterTicks i list ws) ρᵢ
+
+-- No tick is made.
+none-made : {ws : List ℕ} {ρ : Row} (A : Agrees ws ρ) (n : ℕ) (list answers : List ℕ)
+    → RunExplained list ws ρ (stopped n ws answers)
+unfolding feedRun afterTicks
+none-made {ws} {ρ} A n list answers =
+    record { row = ρ; given-by-row = refl; agrees = A; within = at-once }
+  where
+    at-once : (i : ℕ) → i ≤ 0 → (ρᵢ : Row) × (feedRun ρ i list answers ≡ some ρᵢ) × LaneIs (afterTicks i list ws) ρᵢ
+    at-once zero h = (ρ, refl, lane-is-row A)
+    at-once (suc i) h = absurd (omega arith)
+
+-- One tick is made, and then the others.
+one-made : {ws : List ℕ} {ρ : Row} (A : Agrees ws ρ) (k h : ℕ) (list : List ℕ) (M : MadeTick ws ρ k h) (r : RunDone)
+    → RunExplained list (tickOn ws k h .words) (M .row) r
+    → RunExplained (k ∷ h ∷ list) ws ρ (afterTick (tickOn ws k h .answer) r)
+unfolding feedRun afterTicks bind
+one-made {ws} {ρ} A k h list M r R =
+    record {
+      row = R .row;
+      given-by-row = rw (answer-back (tickOn ws k h .answer) (M .no-number), M .given) (R .given-by-row);
+      agrees = R .agrees;
+      within = at;
+    }
+  where
+    at :
+        (i : ℕ)
+        → i ≤ suc (r .ran .made)
+        → (ρᵢ : Row)
+        × (feedRun ρ i (k ∷ h ∷ list) (afterTick (tickOn ws k h .answer) r .answers) ≡ some ρᵢ)
+        × LaneIs (afterTicks i (k ∷ h ∷ list) ws) ρᵢ
+    at zero l = (ρ, refl, lane-is-row A)
+    at (suc i) l =
+        let x = R .within i (omega arith) in
+        (x .0, rw (answer-back (tickOn ws k h .answer) (M .no-number), M .given) (x .1), x .2)
+
+refused-tick : (ws : List ℕ) (k h n : ℕ) → tickRefusal ws k h ≡ some n → refusalOf (tickOn ws k h .answer) ≡ some n
+unfolding tickOn
+refused-tick ws k h n e = rw (e, tickOn)
+
+ticks-explained : (list : List ℕ) {ws : List ℕ} {ρ : Row} (answers : List ℕ) → Agrees ws ρ
+    → RunExplained list ws ρ (runOn list ws answers)
+unfolding runOn by-first
+ticks-explained [] answers A = none-made A 0 [] answers
+ticks-explained (k ∷ []) answers A = none-made A 0 (k ∷ []) answers
+ticks-explained (k ∷ h ∷ list) {ws} {ρ} answers A =
+    go (tickRefusal ws k h) refl (λ M. ticks-explained list (drop 2 answers) (M .agrees))
+  where
+    go :
+        (r : Option ℕ)
+        → tickRefusal ws k h ≡ r
+        → ((M : MadeTick ws ρ k h)
+        → RunExplained list (tickOn ws k h .words) (M .row) (runOn list (tickOn ws k h .words) (drop 2 answers)))
+        → RunExplained (k ∷ h ∷ list) ws ρ (runOn (k ∷ h ∷ list) ws answers)
+    go (some n) e others =
+        subst (RunExplained (k ∷ h ∷ list) ws ρ)
+        (sym (first-tick k h list ws answers (some n) (refused-tick ws k h n e)))
+        (none-made A n (k ∷ h ∷ list) answers)
+    go nothing e others =
+        let M = made-tick A k h e in
+        subst (RunExplained (k ∷ h ∷ list) ws ρ)
+        (sym (first-tick k h list ws answers nothing (M .no-number)))
+        (one-made A k h list M (runOn list (tickOn ws k h .words) (drop 2 answers)) (others M))
+
+module _ {ws : List ℕ} {ρ : Row} (A : Agrees ws ρ) (list answers : List ℕ) where
+  whole : RunExplained list ws ρ (run ws list answers)
+  unfolding run
+  whole = go (runRefusal ws list answers)
+    where
+      go :
+          (r : Option ℕ)
+          → RunExplained list ws ρ
+          (elim r as (λ _. RunDone) [ some n ↦ stopped n ws answers | nothing ↦ runOn list ws answers ])
+      go (some n) = none-made A n list answers
+      go nothing = ticks-explained list answers A
+
+  pub run-explained : Explains ws ρ (run-call list answers)
+  run-explained = record { row = whole .row; given-by-row = whole .given-by-row; agrees = whole .agrees }
+
+  pub run-within : Within (run-call list answers) ws ρ
+  run-within = whole .within

@@ -1,0 +1,231 @@
+-- The lines of pop and remove that write their task's record only: 39, 40, 42, 48, 54, 56, 58, 60, 74, 77 and 81.
+use mathlib.Core.Path.{_≡_, refl, sym, _∙_}
+use mathlib.Core.Logic.{_≢_, _⊎_, inl, inr}
+use mathlib.Core.Bool.{Bool}
+use mathlib.Core.List.{List, []}
+use Prim.Native.Nat.{ℕ, suc, _-_}
+use native.Mathlib.Omega.{arith}
+use Rattle.machine.specs.declared.Answer.the-variants.{Empty, Yes}
+use Rattle.machine.specs.Choice.{_≟_}
+use Rattle.machine.specs.Sides.{Side}
+use Rattle.machine.specs.Values.{Value, never, bag, N, X, Y, _≟ᵛ_}
+use Rattle.machine.specs.Operations.{remove}
+use Rattle.machine.specs.Steps.{
+  Step,
+  line39,
+  line40,
+  line42,
+  line48,
+  line51,
+  line54,
+  line56,
+  line58,
+  line60,
+  line74,
+  line77,
+  line81,
+}
+use Rattle.machine.specs.Tasks.{Task, none, withA, withB, withCounted, withValue}
+use Rattle.machine.specs.Lines.{Memory, Effect, next, answers, afterRead, act}
+use Rattle.machine.proofs.Basics.Contradiction.{refute}
+use Rattle.machine.proofs.Linearizability.Model.Classes.{Class, spur, Old}
+use Rattle.machine.proofs.Linearizability.Model.Structure.{linked}
+use Rattle.machine.proofs.Linearizability.Model.Nodes.{
+  old-some,
+  spur-some,
+  hat-old,
+  out-old,
+  inn-old,
+  spur-out,
+}
+use Rattle.machine.proofs.Linearizability.Writes.Pop.{pop-empty}
+use Rattle.machine.proofs.Linearizability.Model.Segments.{segment-empty}
+use Rattle.machine.proofs.Linearizability.Model.Chain.{NoChain}
+use Rattle.machine.proofs.Linearizability.Model.Reliance.{PopPair, EmptyPair, BagPair, CutPair, SpurPair}
+use Rattle.machine.proofs.Linearizability.Model.Phases.{TaskOk}
+use Rattle.machine.proofs.Linearizability.Model.Invariant.{Lane, TickOk}
+use Rattle.machine.proofs.Linearizability.Lines.Connectives.{ok-if, ok-dcas}
+use Rattle.machine.proofs.Linearizability.Lines.LineEnds.{past, goes, answers-ok}
+
+module _ (held : ℕ → Bool) (k : ℕ) {s o : Side} {m : Memory} {class : ℕ → Class} {r : List ℕ}
+    (L : Lane s o m class r) (t : Task) (g f : ℕ) where
+  abbrev Ok : Effect → Type 0
+  Ok e = TickOk held k s o m class r t e
+
+  abbrev LineOk : Step → Type 0
+  LineOk st = TaskOk k s o m class st t → Ok (act st s o m t g f)
+
+  some : (x : ℕ) → Old class x → x ≢ none
+  some = old-some (L .structure)
+
+  -- ---- Pop.
+  pub line39-ok : LineOk line39
+  unfolding act
+  line39-ok h = goes L refl (record { relies = hat-old (L .structure); chain = h .chain; belongs = h .belongs })
+
+  pub line40-ok : LineOk line40
+  unfolding act
+  line40-ok h =
+      past (t .A) (some _ (h .relies))
+      (ok-if Ok (λ st. next (withB t (m .inn (t .A))) st) (m .inn (t .A) ≟ none)
+      (λ e. goes L refl (record { relies = tt; chain = h .chain; belongs = h .belongs }))
+      (λ e. goes L refl (record { relies = pair e; chain = h .chain; belongs = h .belongs })))
+    where
+      pair : m .inn (t .A) ≢ none → PopPair o m class (t .A) (m .inn (t .A))
+      pair e =
+          record {
+            A-old = h .relies;
+            B-old = inn-old (L .structure) _ (h .relies) e;
+            B-precedes = inr (linked refl);
+          }
+
+  pub line42-ok : LineOk line42
+  unfolding act
+  line42-ok h = past (t .B) (some _ (h .relies .B-old)) (by-value (m .val (t .B)))
+    where
+      again : (v : Value) → Ok (next (withValue t v) line39)
+      again v = goes L refl (record { relies = tt; chain = h .chain; belongs = h .belongs })
+
+      empty-pair : (v : Value) → (v ≡ N o) ⊎ (v ≡ X o) → EmptyPair o m class (t .A) (t .B) v
+      empty-pair v e = record { pair = h .relies; read-mark = e }
+
+      to-48 : (v : Value) → (v ≡ N o) ⊎ (v ≡ X o) → Ok (next (withValue t v) line48)
+      to-48 v e = goes L refl (record { relies = empty-pair v e; chain = h .chain; belongs = h .belongs })
+
+      bag-pair : (b : ℕ) → BagPair o m class (t .A) (t .B) (bag b)
+      bag-pair b = record { pair = h .relies; bag-read = b; read-bag = refl }
+
+      to-51 : (b : ℕ) → Ok (next (withValue t (bag b)) line51)
+      to-51 b = goes L refl (record { relies = bag-pair b; chain = h .chain; belongs = h .belongs })
+
+      by-value : (v : Value) → Ok (next (withValue t v) (afterRead o v))
+      by-value never = again never
+      by-value (bag b) = to-51 b
+      by-value (N z) =
+          ok-if Ok (λ st. next (withValue t (N z)) st) (N z ≟ᵛ N o) (λ e. to-48 (N z) (inl e)) (λ _. again (N z))
+      by-value (X z) =
+          ok-if Ok (λ st. next (withValue t (X z)) st) (X z ≟ᵛ X o) (λ e. to-48 (X z) (inr e)) (λ _. again (X z))
+      by-value (Y z) = again (Y z)
+
+  -- The hat is A and B holds a mark of the other side: there is no bag between the hats.
+  module _ (p : EmptyPair o m class (t .A) (t .B) (t .value)) (hat-A : m .hat ≡ t .A)
+      (B-value : m .val (t .B) ≡ t .value) where
+    B-mark : (m .val (t .B) ≡ N o) ⊎ (m .val (t .B) ≡ X o)
+    B-mark = elim (p .read-mark) [ inl u ↦ inl (B-value ∙ u) | inr u ↦ inr (B-value ∙ u) ]
+
+    B-not-Y : m .val (t .B) ≢ Y o
+    B-not-Y y = elim B-mark [ inl u ↦ refute (cc) | inr u ↦ refute (cc) ]
+
+    hats-adjacent : L .b ≡ suc (L .a)
+    hats-adjacent =
+        let before : suc (L .b - 1) ≡ L .b = omega (arith, L .structure .a<b) in
+        pop-empty (L .structure) before hat-A (p .pair .B-precedes) B-not-Y B-mark
+
+    row-empty : r ≡ []
+    row-empty =
+        let e = hats-adjacent in
+        sym (L .row-is) ∙ segment-empty (L .bags) (suc (L .a)) (L .b - suc (L .a)) (omega arith)
+
+  pub line48-ok : LineOk line48
+  unfolding act
+  line48-ok h =
+      past (t .B) (some _ (h .relies .pair .B-old))
+      (ok-dcas Ok (m .hat ≟ t .A) (m .val (t .B) ≟ᵛ t .value) done
+      (goes L refl (record { relies = tt; chain = h .chain; belongs = h .belongs })))
+    where
+      done : m .hat ≡ t .A → m .val (t .B) ≡ t .value → Ok (answers Empty)
+      done e v =
+          let q = row-empty (h .relies) e v in
+          answers-ok L Empty (λ e. refute (cc)) (h .belongs, q, q) (h .chain)
+
+  -- ---- Remove.
+  pub line54-ok : LineOk line54
+  unfolding act
+  line54-ok h =
+      ok-if Ok (λ st. next (withA t (m .hat)) st) (g ≟ 0)
+      (λ _. goes L refl (record { relies = hat-old (L .structure); chain = h .chain; belongs = h .belongs }))
+      (λ _. goes L refl (record { relies = hat-old (L .structure); chain = h .chain; belongs = h .belongs }))
+
+  answers-yes : t .operation ≡ remove → NoChain k class (t .D) → Ok (answers Yes)
+  answers-yes e h = answers-ok L Yes (λ e. refute (cc)) (inr e, refl) h
+
+  pub line56-ok : LineOk line56
+  unfolding act
+  line56-ok h =
+      past (t .A) (some _ (h .relies))
+      (ok-if Ok (λ e. e) (m .val (t .A) ≟ᵛ X s)
+      (λ _. answers-yes (h .belongs) (h .chain))
+      (λ _. goes L refl (record { relies = h .relies; chain = h .chain; belongs = h .belongs })))
+
+  pub line58-ok : LineOk line58
+  unfolding act
+  line58-ok h =
+      past (t .A) (some _ (h .relies))
+      (ok-if Ok (λ e. e) (m .out (t .A) ≟ none)
+      (λ _. answers-yes (h .belongs) (h .chain))
+      (λ e. ok-if Ok F (suc (t .counted) ≟ g)
+      (λ _. goes L refl (record { relies = A-old e; chain = h .chain; belongs = h .belongs }))
+      (λ _. goes L refl (record { relies = A-old e; chain = h .chain; belongs = h .belongs }))))
+    where
+      A-old : m .out (t .A) ≢ none → Old class (m .out (t .A))
+      A-old e = out-old (L .structure) _ (h .relies) e
+
+      F : Step → Effect
+      F st = next (withCounted (withA t (m .out (t .A))) (suc (t .counted))) st
+
+  pub line60-ok : LineOk line60
+  unfolding act
+  line60-ok h =
+      past (t .A) (some _ (h .relies))
+      (ok-if Ok (λ e. e) (m .out (t .A) ≟ none)
+      (λ _. answers-yes (h .belongs) (h .chain))
+      (λ e. goes L refl (record { relies = pair e; chain = h .chain; belongs = h .belongs })))
+    where
+      pair : m .out (t .A) ≢ none → CutPair s m class (t .A) (m .out (t .A))
+      pair e =
+          record {
+            A-old = h .relies;
+            B-old = out-old (L .structure) _ (h .relies) e;
+            main-next = λ _. linked refl;
+            spur-next = λ c. spur-out (L .structure) _ c e;
+          }
+
+  -- A node of the spur and what its outward link leads to.
+  spur-pair : (x : ℕ) → class x ≡ spur s → m .out x ≢ none → SpurPair s class x (m .out x)
+  spur-pair x c e = record { A-spur = c; B-spur = spur-out (L .structure) x c e }
+
+  pub line74-ok : LineOk line74
+  unfolding act
+  line74-ok h =
+      past (t .B) (spur-some (L .structure) _ (h .relies))
+      (ok-if Ok F (m .out (t .B) ≟ none)
+      (λ e. goes L refl (record { relies = h .relies; chain = h .chain; belongs = h .belongs }))
+      (λ e. goes L refl (record { relies = pair e; chain = h .chain; belongs = h .belongs })))
+    where
+      pair : m .out (t .B) ≢ none → SpurPair s class (t .B) (m .out (t .B))
+      pair e = spur-pair (t .B) (h .relies) e
+
+      F : Step → Effect
+      F st = next (withB (withA t (t .B)) (m .out (t .B))) st
+
+  pub line77-ok : LineOk line77
+  unfolding act
+  line77-ok h =
+      past (t .B) (spur-some (L .structure) _ (h .relies .B-spur))
+      (goes L refl (record { relies = h .relies; chain = h .chain; belongs = h .belongs }))
+
+  pub line81-ok : LineOk line81
+  unfolding act
+  line81-ok h =
+      past (t .A) (spur-some (L .structure) _ (h .relies))
+      (ok-if Ok F (m .out (t .A) ≟ none)
+      (λ e. goes L refl (record { relies = h .relies; chain = h .chain; belongs = h .belongs }))
+      (λ e. ok-if Ok F (t .value ≟ᵛ X s)
+      (λ _. goes L refl (record { relies = h .relies; chain = h .chain; belongs = h .belongs }))
+      (λ _. goes L refl (record { relies = pair e; chain = h .chain; belongs = h .belongs }))))
+    where
+      pair : m .out (t .A) ≢ none → SpurPair s class (t .A) (m .out (t .A))
+      pair e = spur-pair (t .A) (h .relies) e
+
+      F : Step → Effect
+      F st = next (withB t (m .out (t .A))) st

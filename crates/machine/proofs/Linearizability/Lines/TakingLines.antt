@@ -1,0 +1,156 @@
+-- The lines that build a chain of nodes taken: 28 and 31.
+use mathlib.Core.Path.{_≡_, refl, _∙_}
+use mathlib.Core.Logic.{_≢_, inl, inr}
+use mathlib.Core.Bool.{Bool}
+use mathlib.Core.List.{List, [], _∷_}
+use Prim.Native.Nat.{ℕ, suc}
+use Rattle.machine.specs.declared.Answer.the-variants.{Full, No}
+use Rattle.machine.specs.Choice.{_≟_, if_then_else_}
+use Rattle.machine.specs.Sides.{Side}
+use Rattle.machine.specs.Values.{N, X}
+use Rattle.machine.specs.Operations.{Operation, idle, push, pop, add, remove}
+use Rattle.machine.specs.Steps.{Step, line15, line28, line31}
+use Rattle.machine.specs.Tasks.{Task, none, withD, withCounted}
+use Rattle.machine.specs.Lines.{Memory, Write, out≔, inn≔, val≔, Effect, next, answers, writing, noNode, act}
+use Rattle.machine.proofs.Basics.Contradiction.{clash, equal?, refute}
+use Rattle.machine.proofs.Basics.Updates.{Wrote, update, update-wrote}
+use Rattle.machine.proofs.Words.Memories.{written}
+use Rattle.machine.proofs.Linearizability.Model.Classes.{Class, new, Old}
+use Rattle.machine.proofs.Linearizability.Writes.ClassChanges.{takenClass}
+use Rattle.machine.proofs.Linearizability.Model.Guarantee.{SameIn}
+use Rattle.machine.proofs.Linearizability.Model.Nodes.{old-some}
+use Rattle.machine.proofs.Linearizability.Model.Chain.{HasChainIn, NoChain}
+use Rattle.machine.proofs.Linearizability.Writes.ChainGrowth.{first-node, head-new, head-some, one-more}
+use Rattle.machine.proofs.Linearizability.Model.Phases.{growing, Belongs, TaskOk}
+use Rattle.machine.proofs.Linearizability.Model.Invariant.{Lane, TickOk}
+use Rattle.machine.proofs.Linearizability.Lines.Connectives.{ok-if}
+use Rattle.machine.proofs.Linearizability.Lines.LineEnds.{past, goes, answers-ok}
+use Rattle.machine.proofs.Linearizability.Writes.Take.{
+  TakeOk,
+  taken-new,
+  new-not-taken,
+  new-stays,
+  was-new,
+  takes,
+}
+
+module _ (held : ℕ → Bool) (k : ℕ) {s o : Side} {m : Memory} {class : ℕ → Class} {r : List ℕ}
+    (L : Lane s o m class r) (t : Task) (g f : ℕ) where
+  abbrev Ok : Effect → Type 0
+  Ok e = TickOk held k s o m class r t e
+
+  abbrev LineOk : Step → Type 0
+  LineOk st = TaskOk k s o m class st t → Ok (act st s o m t g f)
+
+  some : (x : ℕ) → Old class x → x ≢ none
+  some = old-some (L .structure)
+
+  -- None free: push answers "full", add "no".
+  no-node : (op : Operation)
+      → t .operation ≡ op
+      → Belongs growing (t .operation)
+      → NoChain k class (t .D)
+      → Ok (answers (noNode op))
+  no-node idle e b h = elim b [ inl q ↦ clash (cc) | inr q ↦ clash (cc) ]
+  no-node push e b h = answers-ok L Full (λ e. refute (cc)) (e, refl) h
+  no-node pop e b h = elim b [ inl q ↦ clash (cc) | inr q ↦ clash (cc) ]
+  no-node add e b h = answers-ok L No (λ e. refute (cc)) (inl e, refl) h
+  no-node remove e b h = elim b [ inl q ↦ clash (cc) | inr q ↦ clash (cc) ]
+
+  -- ---- Line 28: the first node.
+  abbrev first-writes : List Write
+  first-writes = out≔ f none ∷ inn≔ f none ∷ val≔ f (X s) ∷ []
+
+  abbrev first-taken : Step → Effect
+  first-taken st = writing first-writes (next (withCounted (withD t f) 0) st)
+
+  module _ (h : TaskOk k s o m class line28 t) (T : TakeOk held m class f) (f-some : f ≢ none) where
+    f-new : takenClass k held f class f ≡ new k
+    f-new = taken-new k L T f-some
+
+    first-same : (x : ℕ)
+        → takenClass k held f class x ≢ new k
+        → SameIn m (written first-writes m) x
+    first-same x not-new =
+        let x≢f : x ≢ f = λ e. not-new (cc (f-new)) in
+        record {
+          same-out = update-wrote (m .out) f none .elsewhere x x≢f;
+          same-inn = update-wrote (m .inn) f none .elsewhere x x≢f;
+          same-val = update-wrote (m .val) f (X s) .elsewhere x x≢f;
+        }
+
+    only-f : (x : ℕ) → takenClass k held f class x ≡ new k → x ≡ f
+    only-f x q =
+        elim (equal? x f) [
+          | inl e ↦ e
+          | inr ne ↦ absurd (h .chain .none-new x (was-new k L T f-some x k ne q))
+        ]
+
+    first-chain : HasChainIn k s (written first-writes m) (takenClass k held f class) f
+    first-chain =
+        first-node f-new only-f (update-wrote (m .out) f none .here) (update-wrote (m .inn) f none .here)
+        (update-wrote (m .val) f (X s) .here)
+
+    line28-taken : Ok (first-taken (if_then_else_ (g ≟ 0) line15 line31))
+    line28-taken =
+        ok-if Ok first-taken (g ≟ 0)
+        (λ _. takes k L T f-some first-writes refl refl first-same refl
+        (record { relies = tt; chain = first-chain; belongs = h .belongs }))
+        (λ _. takes k L T f-some first-writes refl refl first-same refl
+        (record { relies = tt; chain = first-chain; belongs = h .belongs }))
+
+  pub line28-ok : (f ≢ none → TakeOk held m class f) → LineOk line28
+  unfolding act
+  line28-ok free-f h =
+      ok-if Ok (λ e. e) (f ≟ none)
+      (λ _. no-node (t .operation) refl (h .belongs) (h .chain))
+      (λ f-some. line28-taken h (free-f f-some) f-some)
+
+  -- ---- Line 31: one more.
+  abbrev more-writes : List Write
+  more-writes = val≔ f (N s) ∷ inn≔ f none ∷ out≔ f (t .D) ∷ inn≔ (t .D) f ∷ []
+
+  abbrev more-taken : Step → Effect
+  more-taken st = writing more-writes (next (withCounted (withD t f) (suc (t .counted))) st)
+
+  module _ (h : TaskOk k s o m class line31 t) (T : TakeOk held m class f) (f-some : f ≢ none) where
+    D-new : takenClass k held f class (t .D) ≡ new k
+    D-new = new-stays k L T f-some (t .D) k (head-new (h .chain))
+
+    w-D : Wrote (update (m .inn) f none) (t .D) f (written more-writes m .inn)
+    w-D = update-wrote (update (m .inn) f none) (t .D) f
+
+    more-same : (x : ℕ)
+        → takenClass k held f class x ≢ new k
+        → SameIn m (written more-writes m) x
+    more-same x not-new =
+        let x≢f : x ≢ f = λ e. not-new (cc (taken-new k L T f-some)) in
+        let x≢D : x ≢ t .D = λ e. not-new (cc (D-new)) in
+        record {
+          same-out = update-wrote (m .out) f (t .D) .elsewhere x x≢f;
+          same-inn = w-D .elsewhere x x≢D ∙ update-wrote (m .inn) f none .elsewhere x x≢f;
+          same-val = update-wrote (m .val) f (N s) .elsewhere x x≢f;
+        }
+
+    more-chain : HasChainIn k s (written more-writes m) (takenClass k held f class) f
+    more-chain =
+        one-more (h .chain)
+        (update-wrote (m .out) f (t .D)) (update-wrote (m .val) f (N s)) (update-wrote (m .inn) f none) w-D
+        (taken-new k L T f-some) (λ x. new-stays k L T f-some x k)
+        (λ x. was-new k L T f-some x k) (λ x. new-not-taken k L T f-some x k)
+
+    line31-taken : Ok (more-taken (if_then_else_ (suc (t .counted) ≟ g) line15 line31))
+    line31-taken =
+        ok-if Ok more-taken (suc (t .counted) ≟ g)
+        (λ _. takes k L T f-some more-writes refl refl more-same refl
+        (record { relies = tt; chain = more-chain; belongs = h .belongs }))
+        (λ _. takes k L T f-some more-writes refl refl more-same refl
+        (record { relies = tt; chain = more-chain; belongs = h .belongs }))
+
+  pub line31-ok : (f ≢ none → TakeOk held m class f) → LineOk line31
+  unfolding act
+  line31-ok free-f h =
+      past (t .D) (head-some (h .chain) (L .structure .none-free))
+      (ok-if Ok (λ e. e) (f ≟ none)
+      (λ _. goes L refl (record { relies = tt; chain = h .chain; belongs = h .belongs }))
+      (λ f-some. line31-taken h (free-f f-some) f-some))

@@ -1,0 +1,79 @@
+-- The structure seen from the other side: all the symmetry there is to prove.
+use mathlib.Core.Path.{_≡_, _∙_}
+use Prim.Native.Nat.{ℕ, suc, _-_}
+use native.Mathlib.Omega.{arith}
+use Rattle.machine.specs.Sides.{Side}
+use Rattle.machine.specs.Values.{Value}
+use Rattle.machine.proofs.Linearizability.Model.Sides.{exchanged}
+use Rattle.machine.proofs.Linearizability.Model.Classes.{Class}
+use Rattle.machine.proofs.Linearizability.Model.Structure.{Main, MainValues, Linked, Structure}
+
+module _ {s o : Side} {out inn : ℕ → ℕ} {val : ℕ → Value} {hat far : ℕ} {class : ℕ → Class}
+    {at index : ℕ → ℕ} {n a b : ℕ} {bags : ℕ → ℕ}
+    (S : Structure s o out inn val hat far class at index n a b bags) where
+  at-equal : (i j : ℕ) → i ≡ j → at i ≡ at j
+  at-equal i j e = cc
+
+  main-reversed : Main class (λ i. at (n - i)) (λ x. n - index x) n
+  main-reversed =
+      record {
+        is-main = λ i h. S .main-list .is-main (n - i) (omega arith);
+        index-at = λ i h. let e = S .main-list .index-at (n - i) (omega arith) in omega arith;
+        index-le = λ x h. omega arith;
+        at-index =
+            λ x h. let l = S .main-list .index-le x h in
+            at-equal (n - (n - index x)) (index x) (omega arith) ∙ S .main-list .at-index x h;
+      }
+
+  links-reversed : Linked inn out (λ i. at (n - i)) n
+  links-reversed =
+      record {
+        links-out =
+            λ i h. let j : ℕ = n - suc i in let e : n - i ≡ suc j = omega arith in
+            cc (S .links .links-in j (omega arith));
+        links-in =
+            λ i h. let j : ℕ = n - suc i in let e : n - i ≡ suc j = omega arith in
+            cc (S .links .links-out j (omega arith));
+      }
+
+  n-0 : n - 0 ≡ n
+  n-0 = omega arith
+
+  n-n : n - n ≡ 0
+  n-n = omega arith
+
+  n-n-a : n - (n - a) ≡ a
+  n-n-a = omega (arith, S .a<b, S .b≤n)
+
+  n-n-b : n - (n - b) ≡ b
+  n-n-b = omega (arith, S .b≤n)
+
+  values-reversed : MainValues o s val (λ i. at (n - i)) n (n - b) (n - a) (λ i. bags (n - i))
+  values-reversed =
+      record {
+        X-first = rw n-0 (S .values .X-last);
+        N-far = λ i h k. S .values .N-near (n - i) (omega (arith, S .b≤n)) (omega arith);
+        bag-between =
+            λ i h k. S .values .bag-between (n - i) (omega (arith, S .b≤n)) (omega (arith, S .b≤n));
+        N-near = λ i h k. S .values .N-far (n - i) (omega arith) (omega (arith, S .a<b, S .b≤n));
+        X-last = rw n-n (S .values .X-first);
+      }
+
+  pub reversed : Structure o s inn out val far hat class
+      (λ i. at (n - i)) (λ x. n - index x) n (n - b) (n - a) (λ i. bags (n - i))
+  reversed =
+      record {
+        sides = exchanged (S .sides);
+        none-free = S .none-free;
+        a<b = omega (arith, S .a<b, S .b≤n);
+        b≤n = omega arith;
+        main-list = main-reversed;
+        values = values-reversed;
+        links = links-reversed;
+        last-out = rw n-n (S .first-in);
+        first-in = rw n-0 (S .last-out);
+        near-hat = λ j e. let z : n - j ≡ suc a = omega (arith, S .a<b, S .b≤n) in rw (n-n-a, z) (S .far-hat);
+        far-hat = rw n-n-b (S .near-hat (n - suc (n - b)) (omega (arith, S .a<b, S .b≤n)));
+        near-spur = S .far-spur;
+        far-spur = S .near-spur;
+      }

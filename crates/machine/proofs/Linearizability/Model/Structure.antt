@@ -1,0 +1,74 @@
+-- The structure of the deque, seen from side s: the list that carries the row, the hats and the spurs.
+use mathlib.Core.Path.{_≡_}
+use mathlib.Core.Logic.{_⊎_}
+use Prim.Native.Nat.{ℕ, suc, _≤_, _<_}
+use Rattle.machine.specs.Sides.{Side}
+use Rattle.machine.specs.Values.{Value, bag, N, X, Y}
+use Rattle.machine.specs.Tasks.{none}
+use Rattle.machine.proofs.Linearizability.Model.Sides.{Opposite}
+use Rattle.machine.proofs.Linearizability.Model.Classes.{Class, free, main, spur, Old, of, owner}
+
+-- y was cut off right behind x: it is marked Y, in spur s, and still leads back to x.
+pub record CutFrom (s : Side) (inn : ℕ → ℕ) (val : ℕ → Value) (class : ℕ → Class) (y x : ℕ) : Type 0 where
+  pub in-spur : class y ≡ spur s
+  pub is-Y : val y ≡ Y s
+  pub leads-back : inn y ≡ x
+
+-- y follows x outward, if x is in main: linked, or cut off behind x.
+abbrev pub Follows :
+    (s : Side) (out inn : ℕ → ℕ) (val : ℕ → Value) (class : ℕ → Class) (x y : ℕ) → Type 0
+Follows s out inn val class x y = class x ≡ main → (out x ≡ y) ⊎ CutFrom s inn val class y x
+
+-- The link of x leads to y, or y has been cut off on side z.
+pub data LinkedOrCut (z : Side) (link : ℕ → ℕ) (val : ℕ → Value) (class : ℕ → Class) (x y : ℕ) : Type 0 where
+  linked : link x ≡ y → LinkedOrCut z link val class x y
+  cut-off : class y ≡ spur z → val y ≡ Y z → LinkedOrCut z link val class x y
+
+-- y precedes x, seen from the side whose opposite is o, unless x has been cut off on that other side.
+abbrev pub Precedes : (o : Side) (inn : ℕ → ℕ) (val : ℕ → Value) (class : ℕ → Class) (x y : ℕ) → Type 0
+Precedes o inn val class x y = (class x ≡ spur o) ⊎ LinkedOrCut o inn val class x y
+
+-- The class main is exactly at 0 .. at n, each once: index is at's inverse.
+pub record Main (class : ℕ → Class) (at index : ℕ → ℕ) (n : ℕ) : Type 0 where
+  pub is-main : (i : ℕ) → i ≤ n → class (at i) ≡ main
+  pub index-at : (i : ℕ) → i ≤ n → index (at i) ≡ i
+  pub index-le : (x : ℕ) → class x ≡ main → index x ≤ n
+  pub at-index : (x : ℕ) → class x ≡ main → at (index x) ≡ x
+
+-- The values along main: X of the far side, its Ns up to index a, bags before index b, Ns of the near side, and its X.
+pub record MainValues (s o : Side) (val : ℕ → Value) (at : ℕ → ℕ) (n a b : ℕ) (bags : ℕ → ℕ) : Type 0 where
+  pub X-first : val (at 0) ≡ X o
+  pub N-far : (i : ℕ) → 0 < i → i ≤ a → val (at i) ≡ N o
+  pub bag-between : (i : ℕ) → a < i → i < b → val (at i) ≡ bag (bags i)
+  pub N-near : (i : ℕ) → b ≤ i → i < n → val (at i) ≡ N s
+  pub X-last : val (at n) ≡ X s
+
+pub record Linked (out inn : ℕ → ℕ) (at : ℕ → ℕ) (n : ℕ) : Type 0 where
+  pub links-out : (i : ℕ) → i < n → out (at i) ≡ at (suc i)
+  pub links-in : (i : ℕ) → i < n → inn (at (suc i)) ≡ at i
+
+-- A node of spur s holds a mark of s. Its inward link leads to an old node, its outward link to none or into the spur.
+pub record Spur (s : Side) (out inn : ℕ → ℕ) (val : ℕ → Value) (class : ℕ → Class) : Type 0 where
+  pub own-mark : (x : ℕ) → class x ≡ spur s → owner (val x) ≡ of s
+  pub inward-old : (x : ℕ) → class x ≡ spur s → Old class (inn x)
+  pub outward-spur : (x : ℕ) → class x ≡ spur s → (out x ≡ none) ⊎ (class (out x) ≡ spur s)
+
+-- The far hat's index is a, the near hat's b, and the bags stand strictly between. A hat is at its index, or at a node
+-- that was cut off there.
+pub record Structure
+    (s o : Side) (out inn : ℕ → ℕ) (val : ℕ → Value) (hat far : ℕ) (class : ℕ → Class)
+    (at index : ℕ → ℕ) (n a b : ℕ) (bags : ℕ → ℕ) : Type 0 where
+  pub sides : Opposite s o
+  pub none-free : class none ≡ free
+  pub a<b : a < b
+  pub b≤n : b ≤ n
+  pub main-list : Main class at index n
+  pub values : MainValues s o val at n a b bags
+  pub links : Linked out inn at n
+  -- Main's ends lead to none, or to a node that was cut off there.
+  pub last-out : (out (at n) ≡ none) ⊎ CutFrom s inn val class (out (at n)) (at n)
+  pub first-in : (inn (at 0) ≡ none) ⊎ CutFrom o out val class (inn (at 0)) (at 0)
+  pub near-hat : (j : ℕ) → suc j ≡ b → (hat ≡ at b) ⊎ CutFrom s inn val class hat (at j)
+  pub far-hat : (far ≡ at a) ⊎ CutFrom o out val class far (at (suc a))
+  pub near-spur : Spur s out inn val class
+  pub far-spur : Spur o inn out val class

@@ -1,0 +1,192 @@
+-- Taking a node: the structure and the guarantee where main and the spur nodes that are held keep their class.
+use mathlib.Core.Path.{_≡_, _∙_}
+use mathlib.Core.Logic.{_⊎_, inl, inr}
+use mathlib.Core.Bool.{Bool, true}
+use Prim.Native.Nat.{ℕ, suc, _-_, _≤_}
+use native.Mathlib.Omega.{arith}
+use Rattle.machine.specs.Sides.{Side}
+use Rattle.machine.specs.Values.{Value}
+use Rattle.machine.specs.Tasks.{none}
+use Rattle.machine.proofs.Basics.Contradiction.{clash, refute}
+use Rattle.machine.proofs.Linearizability.Model.Classes.{
+  Class,
+  free,
+  main,
+  spur,
+  Old,
+  in-main,
+  in-near,
+  in-far,
+  old-class,
+}
+use Rattle.machine.proofs.Linearizability.Model.Structure.{CutFrom, Main, MainValues, Linked, Spur, Structure}
+use Rattle.machine.proofs.Linearizability.Model.Guarantee.{Guarantee, SameWords}
+use Rattle.machine.proofs.Linearizability.Model.Held.{Closed, main-held}
+use Rattle.machine.proofs.Linearizability.Model.Nodes.{old-some}
+use Rattle.machine.proofs.Linearizability.Model.Reversal.{reversed}
+
+-- A change of classes that keeps main and the spur nodes that are held, with the words of what is old afterwards.
+pub record Restricted (held : ℕ → Bool)
+    (out inn : ℕ → ℕ) (val : ℕ → Value) (class : ℕ → Class)
+    (out' inn' : ℕ → ℕ) (val' : ℕ → Value) (class' : ℕ → Class) : Type 0 where
+  pub out-closed : Closed held out
+  pub inn-closed : Closed held inn
+  pub main-stays : (x : ℕ) → class x ≡ main → class' x ≡ main
+  pub was-main : (x : ℕ) → class' x ≡ main → class x ≡ main
+  pub spur-stays : (x : ℕ) (z : Side) → held x ≡ true → class x ≡ spur z → class' x ≡ spur z
+  pub was-spur : (x : ℕ) (z : Side) → class' x ≡ spur z → class x ≡ spur z
+  pub spur-held : (x : ℕ) (z : Side) → class' x ≡ spur z → held x ≡ true
+  pub none-free : class' none ≡ free
+  pub same-words : (x : ℕ) → Old class' x → SameWords out inn val out' inn' val' x
+
+module _ {held : ℕ → Bool} {out inn : ℕ → ℕ} {val : ℕ → Value} {class : ℕ → Class}
+    {out' inn' : ℕ → ℕ} {val' : ℕ → Value} {class' : ℕ → Class}
+    (T : Restricted held out inn val class out' inn' val' class') where
+  pub restricted-swap : Restricted held inn out val class inn' out' val' class'
+  restricted-swap =
+      record {
+        out-closed = T .inn-closed;
+        inn-closed = T .out-closed;
+        main-stays = T .main-stays;
+        was-main = T .was-main;
+        spur-stays = T .spur-stays;
+        was-spur = T .was-spur;
+        spur-held = T .spur-held;
+        none-free = T .none-free;
+        same-words =
+            λ x h. let w = T .same-words x h in
+            record { same-out = w .same-inn; same-inn = w .same-out; same-val = w .same-val };
+      }
+
+  restricted-cut-from : {s : Side} {x y : ℕ}
+      → held y ≡ true
+      → CutFrom s inn val class y x
+      → CutFrom s inn' val' class' y x
+  restricted-cut-from {s} {x} {y} r h =
+      let c = T .spur-stays y s r (h .in-spur) in
+      let w = T .same-words y (cc) in
+      record { in-spur = c; is-Y = cc; leads-back = cc }
+
+  pub restricted-guarantee : {s : Side} → Guarantee held s out inn val class out' inn' val' class'
+  restricted-guarantee {s} =
+      record {
+        spur-stays = λ x r h. T .spur-stays x s r h;
+        spur-inward = λ x r h. let c = T .spur-stays x s r h in T .same-words x (cc) .same-inn;
+        Y-stays = λ x r h y. let c = T .spur-stays x s r h in T .same-words x (cc) .same-val ∙ y;
+        spur-not-main = λ x h e. refute (cc (T .was-main x e));
+        main-old = λ x h. cc (T .main-stays x h);
+        main-outward = λ x h ne. inl (T .same-words x (cc (T .main-stays x h)) .same-out);
+        cut-inward = λ x h c. clash (cc (T .main-stays x h));
+        cut-behind-main = λ x h c. clash (cc (T .main-stays x h));
+      }
+
+module _ {s o : Side} {out inn : ℕ → ℕ} {val : ℕ → Value} {hat far : ℕ} {class : ℕ → Class}
+    {at index : ℕ → ℕ} {n a b : ℕ} {bags : ℕ → ℕ}
+    (S : Structure s o out inn val hat far class at index n a b bags)
+    {held : ℕ → Bool} {out' inn' : ℕ → ℕ} {val' : ℕ → Value} {class' : ℕ → Class}
+    (T : Restricted held out inn val class out' inn' val' class') where
+  stays-old : (x : ℕ) → Old class x → held x ≡ true → Old class' x
+  stays-old x h r =
+      elim (old-class (S .sides) (class x) h) [
+        | in-main e ↦ cc (T .main-stays x e)
+        | in-near e ↦ cc (T .spur-stays x s r e)
+        | in-far e ↦ cc (T .spur-stays x o r e)
+      ]
+
+  words-at : (i : ℕ) → i ≤ n → SameWords out inn val out' inn' val' (at i)
+  words-at i h = T .same-words (at i) (cc (T .main-stays (at i) (S .main-list .is-main i h)))
+
+  restricted-main-list : Main class' at index n
+  restricted-main-list =
+      record {
+        is-main = λ i h. T .main-stays _ (S .main-list .is-main i h);
+        index-at = S .main-list .index-at;
+        index-le = λ x h. S .main-list .index-le x (T .was-main x h);
+        at-index = λ x h. S .main-list .at-index x (T .was-main x h);
+      }
+
+  restricted-values : MainValues s o val' at n a b bags
+  restricted-values =
+      let p = S .a<b in
+      let q = S .b≤n in
+      record {
+        X-first = words-at 0 (omega arith) .same-val ∙ S .values .X-first;
+        N-far = λ i h l. words-at i (omega arith) .same-val ∙ S .values .N-far i h l;
+        bag-between = λ i h l. words-at i (omega arith) .same-val ∙ S .values .bag-between i h l;
+        N-near = λ i h l. words-at i (omega arith) .same-val ∙ S .values .N-near i h l;
+        X-last = words-at n (omega arith) .same-val ∙ S .values .X-last;
+      }
+
+  restricted-links : Linked out' inn' at n
+  restricted-links =
+      record {
+        links-out = λ i h. words-at i (omega arith) .same-out ∙ S .links .links-out i h;
+        links-in = λ i h. words-at (suc i) h .same-inn ∙ S .links .links-in i h;
+      }
+
+  -- The outward end of main and the near spur; the far ones are these of the structure reversed.
+  restricted-last-out : held (at n) ≡ true
+      → (out' (at n) ≡ none) ⊎ CutFrom s inn' val' class' (out' (at n)) (at n)
+  restricted-last-out r =
+      rw (words-at n (omega arith) .same-out)
+      (elim (S .last-out) [
+        | inl h ↦ inl h
+        | inr y ↦ inr (restricted-cut-from T (T .out-closed (at n) r (old-some S _ (cc (y .in-spur)))) y)
+      ])
+
+  restricted-near-spur : Spur s out' inn' val' class'
+  restricted-near-spur =
+      record {
+        own-mark =
+            λ x h. cc (T .same-words x (cc) .same-val, S .near-spur .own-mark x (T .was-spur x s h));
+        inward-old =
+            λ x h.
+            let i = S .near-spur .inward-old x (T .was-spur x s h) in
+            let r = T .inn-closed x (T .spur-held x s h) (old-some S _ i) in
+            cc (T .same-words x (cc) .same-inn, stays-old (inn x) i r);
+        outward-spur =
+            λ x h.
+            let w = T .same-words x (cc) in
+            elim (S .near-spur .outward-spur x (T .was-spur x s h)) [
+              | inl e ↦ inl (cc)
+              | inr e ↦
+                  let r = T .out-closed x (T .spur-held x s h) (old-some S _ (cc)) in
+                  inr (cc (T .spur-stays (out x) s r e))
+            ];
+      }
+
+module _ {s o : Side} {out inn : ℕ → ℕ} {val : ℕ → Value} {hat far : ℕ} {class : ℕ → Class}
+    {at index : ℕ → ℕ} {n a b : ℕ} {bags : ℕ → ℕ}
+    (S : Structure s o out inn val hat far class at index n a b bags)
+    {held : ℕ → Bool} (hat-held : held hat ≡ true) (far-held : held far ≡ true)
+    {out' inn' : ℕ → ℕ} {val' : ℕ → Value} {class' : ℕ → Class}
+    (T : Restricted held out inn val class out' inn' val' class') where
+  at-held : (i : ℕ) → i ≤ n → held (at i) ≡ true
+  at-held i h = main-held S (T .out-closed) (T .inn-closed) hat-held (at i) (S .main-list .is-main i h)
+
+  n-n : n - n ≡ 0
+  n-n = omega arith
+
+  restricted-first-in : (inn' (at 0) ≡ none) ⊎ CutFrom o out' val' class' (inn' (at 0)) (at 0)
+  restricted-first-in =
+      rw (← n-n) (restricted-last-out (reversed S) (restricted-swap T) (rw n-n (at-held 0 (omega arith))))
+
+  pub restricted-keeps : Structure s o out' inn' val' hat far class' at index n a b bags
+  restricted-keeps =
+      record {
+        sides = S .sides;
+        none-free = T .none-free;
+        a<b = S .a<b;
+        b≤n = S .b≤n;
+        main-list = restricted-main-list S T;
+        values = restricted-values S T;
+        links = restricted-links S T;
+        last-out = restricted-last-out S T (at-held n (omega arith));
+        first-in = restricted-first-in;
+        near-hat =
+            λ j e. elim (S .near-hat j e) [ inl h ↦ inl h | inr y ↦ inr (restricted-cut-from T hat-held y) ];
+        far-hat =
+            elim (S .far-hat) [ inl h ↦ inl h | inr y ↦ inr (restricted-cut-from (restricted-swap T) far-held y) ];
+        near-spur = restricted-near-spur S T;
+        far-spur = restricted-near-spur (reversed S) (restricted-swap T);
+      }

@@ -1,0 +1,210 @@
+-- The lines of an add fit: 67 to 72, 28 and 31, 15 to 25. A push that meets the end of the lane takes them too.
+use Rattle.machine.specs.Answers.{refusalOf}
+use mathlib.Core.Option.{none as nothing}
+use mathlib.Core.Path.{_≡_, refl}
+use mathlib.Core.List.{List, [], _∷_}
+use Prim.Native.Nat.{ℕ, suc, _<_}
+use native.Mathlib.Omega.{arith}
+use borrow.Author.Tests.{ltb-true, lt-ltb, le-leb}
+use Rattle.machine.specs.Choice.{_≟_, if_then_else_}
+use Rattle.machine.specs.Values.{Value, N, X, Y, _≟ᵛ_}
+use Rattle.machine.specs.Operations.{Operation, idle, push, pop, add, remove}
+use Rattle.machine.specs.Steps.{
+  line2,
+  line15,
+  line17,
+  line18,
+  line24,
+  line25,
+  line28,
+  line31,
+  line67,
+  line68,
+  line69,
+  line70,
+  line72,
+  isStepIn,
+}
+use Rattle.machine.specs.Tasks.{Task, none, goal, goto, withD, withCounted}
+use Rattle.machine.specs.Lines.{Memory, Write, out≔, val≔, spliced, act, noNode}
+use Rattle.machine.proofs.Basics.Choices.{by-if}
+use Rattle.machine.proofs.Shape.BusyLaws.{NodeOrNone, BusyAt, BusyFacts}
+use Rattle.machine.proofs.Shape.Fits.{
+  WritesFit,
+  Fits,
+  goes-on,
+  ends,
+  MemoryFits,
+  N-fits,
+  X-fits,
+  none-fits,
+  LineFits,
+  by-through,
+  by-dcas,
+}
+use Rattle.machine.proofs.Shape.Moves.{
+  Lands,
+  lands,
+  lands-if,
+  back-lands,
+  part,
+  stands,
+  moves,
+  moves-A,
+  moves-B,
+  moves-C,
+  moves-value,
+}
+
+-- ---- 67 to 72: the hat is moved off a node that is no longer in the lane.
+module _ (S g : ℕ) (m : Memory) (M : MemoryFits S m) (t : Task) (f : ℕ) where
+  pub line67-fits : LineFits S g m t f line67
+  unfolding act isStepIn
+  line67-fits F = goes-on tt (moves-A F (lands (part F) refl) (λ _. M .hat-ok))
+
+  pub line68-fits : LineFits S g m t f line68
+  unfolding act isStepIn
+  line68-fits F =
+      by-through S g (t .A) t (λ _.
+      goes-on tt
+      (moves F (lands-if (m .val (t .A) ≟ᵛ Y (t .side)) (lands (part F) refl) (back-lands t (part F)))))
+
+  pub line69-fits : LineFits S g m t f line69
+  unfolding act isStepIn
+  line69-fits F =
+      by-through S g (t .A) t (λ _. goes-on tt (moves-B F (lands (part F) refl) (M .inn-ok (t .A))))
+
+  pub line70-fits : LineFits S g m t f line70
+  unfolding act isStepIn
+  line70-fits F =
+      let c = m .out (t .B) in
+      by-through S g (t .B) t (λ _.
+      goes-on tt
+      (moves-C F (lands-if (c ≟ none) (back-lands t (part F)) (lands (part F) refl)) (M .out-ok (t .B))))
+
+  pub line72-fits : LineFits S g m t f line72
+  unfolding act
+  line72-fits F =
+      by-through S g (t .C) t (λ nC.
+      goes-on (by-if (WritesFit S) (m .hat ≟ t .A) (λ _. (F .C-ok nC, tt)) (λ _. tt))
+      (moves F (back-lands t (part F))))
+
+-- ---- 28 and 31: nodes are taken for a chain.
+no-node-answers : (op : Operation) → refusalOf (noNode op) ≡ nothing
+no-node-answers idle = refl
+no-node-answers push = refl
+no-node-answers pop = refl
+no-node-answers add = refl
+no-node-answers remove = refl
+
+module _ (S g : ℕ) (m : Memory) (M : MemoryFits S m) (t : Task) (f : ℕ) (f-ok : NodeOrNone S f) where
+  pub line28-fits : LineFits S g m t f line28
+  unfolding act isStepIn
+  line28-fits F =
+      by-if (Fits S g) (f ≟ none) (λ _. ends tt (no-node-answers (t .operation))) (λ nf.
+      goes-on ((f-ok nf, none-fits), ((f-ok nf, none-fits), ((f-ok nf, X-fits (t .side)), tt)))
+      (by-if (λ st. BusyFacts S g (goto t′ st)) (goal g t ≟ 0) alone more))
+    where
+      t′ : Task
+      t′ = withCounted (withD t f) 0
+
+      alone : goal g t ≡ 0 → BusyFacts S g (goto t′ line15)
+      alone _ =
+          stands F line15 (part F) (le-leb 0 (goal g t) (omega arith)) (F .value-ok) (F .has-word)
+          (F .A-ok) (F .B-ok) (F .C-ok) f-ok
+
+      more : ¬ (goal g t ≡ 0) → BusyFacts S g (goto t′ line31)
+      more n =
+          stands F line31 (part F) (lt-ltb 0 (goal g t) (omega arith)) (F .value-ok) (F .has-word)
+          (F .A-ok) (F .B-ok) (F .C-ok) f-ok
+
+  pub line31-fits : LineFits S g m t f line31
+  unfolding act isStepIn
+  line31-fits F =
+      by-through S g (t .D) t (λ nD.
+      by-if (Fits S g) (f ≟ none) (λ _. goes-on tt (moves F (lands (part F) refl))) (λ nf.
+      goes-on ((f-ok nf, N-fits (t .side)), ((f-ok nf, none-fits), ((f-ok nf, F .D-ok), ((F .D-ok nD, f-ok), tt))))
+      (by-if (λ st. BusyFacts S g (goto t′ st)) (n ≟ goal g t) done more)))
+    where
+      n : ℕ
+      n = suc (t .counted)
+
+      t′ : Task
+      t′ = withCounted (withD t f) n
+
+      below : t .counted < goal g t
+      below = ltb-true (t .counted) (goal g t) (F .counted-ok)
+
+      done : n ≡ goal g t → BusyFacts S g (goto t′ line15)
+      done e =
+          stands F line15 (part F) (le-leb n (goal g t) below) (F .value-ok) (F .has-word)
+          (F .A-ok) (F .B-ok) (F .C-ok) f-ok
+
+      more : ¬ (n ≡ goal g t) → BusyFacts S g (goto t′ line31)
+      more e =
+          stands F line31 (part F) (lt-ltb n (goal g t) (omega (arith, below))) (F .value-ok) (F .has-word)
+          (F .A-ok) (F .B-ok) (F .C-ok) f-ok
+
+-- ---- 15 to 25: the end of the lane is sought and the chain spliced in.
+module _ (S g : ℕ) (m : Memory) (M : MemoryFits S m) (t : Task) (f : ℕ) where
+  pub line15-fits : LineFits S g m t f line15
+  unfolding act isStepIn
+  line15-fits F = goes-on tt (moves-A F (lands (part F) refl) (λ _. M .hat-ok))
+
+  pub line17-fits : LineFits S g m t f line17
+  unfolding act isStepIn
+  line17-fits F =
+      by-through S g (t .A) t (λ _. goes-on tt (moves-value F l v (M .val-ok (t .A))))
+    where
+      v : Value
+      v = m .val (t .A)
+
+      l :
+          Lands (t .operation)
+          (if v ≟ᵛ N (t .side) then line18 else
+          if v ≟ᵛ Y (t .side) then line67 else
+          if v ≟ᵛ X (t .side) then line24 else
+          line15)
+      l =
+          lands-if (v ≟ᵛ N (t .side)) (lands (part F) refl)
+          (lands-if (v ≟ᵛ Y (t .side)) (lands (part F) refl)
+          (lands-if (v ≟ᵛ X (t .side)) (lands (part F) refl) (lands (part F) refl)))
+
+  pub line18-fits : LineFits S g m t f line18
+  unfolding act isStepIn
+  line18-fits F =
+      let a = m .out (t .A) in
+      by-through S g (t .A) t (λ _.
+      goes-on tt
+      (moves-A F (lands-if (a ≟ none) (lands (part F) refl) (lands (part F) refl)) (M .out-ok (t .A))))
+
+  pub line24-fits : LineFits S g m t f line24
+  unfolding act isStepIn
+  line24-fits F =
+      by-through S g (t .A) t (λ _.
+      by-through S g (t .D) t (λ nD.
+      goes-on ((F .D-ok nD, F .A-ok), tt) (moves-B F (lands (part F) refl) (M .out-ok (t .A)))))
+
+  -- A push goes back to 2 with D none and counted 0; every other operation ends.
+  spliced-fits : BusyAt S g line25 t → (l : List Write) → WritesFit S l → Fits S g (spliced (t .operation) l t)
+  unfolding isStepIn
+  spliced-fits F l w = go (t .operation) refl
+    where
+      go : (op : Operation) → t .operation ≡ op → Fits S g (spliced op l t)
+      go idle e = ends w refl
+      go push e =
+          goes-on w
+          (stands F line2 (rw e) (le-leb 0 (goal g t) (omega arith)) (F .value-ok) (F .has-word)
+          (F .A-ok) (F .B-ok) (F .C-ok) none-fits)
+      go pop e = ends w refl
+      go add e = ends w refl
+      go remove e = ends w refl
+
+  pub line25-fits : LineFits S g m t f line25
+  unfolding act isStepIn
+  line25-fits F =
+      let l = out≔ (t .A) (t .D) ∷ val≔ (t .A) (N (t .side)) ∷ [] in
+      by-through S g (t .A) t (λ nA.
+      by-dcas S g (m .out (t .A) ≟ t .B) (m .val (t .A) ≟ᵛ X (t .side))
+      (spliced-fits F l ((F .A-ok nA, F .D-ok), ((F .A-ok nA, N-fits (t .side)), tt)))
+      (goes-on tt (moves F (lands (part F) refl))))

@@ -1,0 +1,105 @@
+-- Effects that fit a table of the right shape, and how a line's tests are taken apart to show that.
+use Rattle.machine.specs.Answers.{refusalOf}
+use mathlib.Core.Option.{none as nothing}
+use mathlib.Core.Path.{_≡_, refl}
+use mathlib.Core.Logic.{_≢_}
+use mathlib.Core.Bool.{true}
+use mathlib.Core.List.{List, [], _∷_}
+use Prim.Native.Nat.{ℕ, _<_}
+use Rattle.machine.specs.declared.Answer.{Answer}
+use Rattle.machine.specs.declared.Answer.the-variants.{Going}
+use Rattle.machine.specs.Choice.{_≟_, if_then_else_}
+use Rattle.machine.specs.Sides.{Side, opposite}
+use Rattle.machine.specs.Values.{Value, N, X, Y, encode, valueOk}
+use Rattle.machine.specs.Steps.{Step}
+use Rattle.machine.specs.Tasks.{Task, fresh, none, goal}
+use Rattle.machine.specs.Lines.{
+  Memory,
+  Write,
+  out≔,
+  inn≔,
+  val≔,
+  hat≔,
+  Effect,
+  refused,
+  through,
+  dcas,
+  act,
+}
+use Rattle.machine.proofs.Words.ValueLaws.{
+  HasWord,
+  N-mark,
+  X-mark,
+  Y-mark,
+  mark-has-word,
+  mark-value-ok,
+}
+use Rattle.machine.proofs.Shape.BusyLaws.{NodeOrNone, BusyAt, BusyFacts}
+
+-- ---- Writes, effects and memories that fit.
+abbrev pub ValueFits : Value → Type 0
+ValueFits v = HasWord v × (valueOk (encode v) ≡ true)
+
+abbrev pub WriteFits : (S : ℕ) → Write → Type 0
+WriteFits S (out≔ x y) = (x < S) × NodeOrNone S y
+WriteFits S (inn≔ x y) = (x < S) × NodeOrNone S y
+WriteFits S (val≔ x v) = (x < S) × ValueFits v
+WriteFits S (hat≔ x) = x < S
+
+abbrev pub WritesFit : (S : ℕ) → List Write → Type 0
+WritesFit S [] = Unit {0}
+WritesFit S (w ∷ l) = WriteFits S w × WritesFit S l
+
+-- A tick is refused, or writes what fits and then goes on with a record that fits, or ends with a fresh one.
+pub data Fits (S growth : ℕ) : Effect → Type 0 where
+  turns-back : {t : Task} → Fits S growth (refused t)
+  goes-on :
+      {l : List Write} {t : Task}
+      → WritesFit S l
+      → BusyFacts S growth t
+      → Fits S growth (record { writes = l; task = t; answer = Going })
+  ends :
+      {l : List Write} {a : Answer}
+      → WritesFit S l
+      → refusalOf a ≡ nothing
+      → Fits S growth (record { writes = l; task = fresh; answer = a })
+
+pub record MemoryFits (S : ℕ) (m : Memory) : Type 0 where
+  pub out-ok : (x : ℕ) → NodeOrNone S (m .out x)
+  pub inn-ok : (x : ℕ) → NodeOrNone S (m .inn x)
+  pub val-ok : (x : ℕ) → ValueFits (m .val x)
+  pub hat-ok : m .hat < S
+
+pub N-fits : (s : Side) → ValueFits (N s)
+N-fits s = (mark-has-word {s = s} N-mark, mark-value-ok {s = s} N-mark)
+
+pub X-fits : (s : Side) → ValueFits (X s)
+X-fits s = (mark-has-word {s = s} X-mark, mark-value-ok {s = s} X-mark)
+
+pub Y-fits : (s : Side) → ValueFits (Y s)
+Y-fits s = (mark-has-word {s = s} Y-mark, mark-value-ok {s = s} Y-mark)
+
+pub none-fits : {S : ℕ} → NodeOrNone S none
+none-fits n = absurd (n refl)
+
+-- A line fits, for a task t that stands at it, sees m and would take the node f.
+abbrev pub LineFits : (S growth : ℕ) → Memory → Task → (f : ℕ) → Step → Type 0
+LineFits S g m t f st = BusyAt S g st t → Fits S g (act st (t .side) (opposite (t .side)) m t (goal g t) f)
+
+-- ---- Tests taken apart.
+module _ (S g : ℕ) where
+  pub by-through : (x : ℕ) (t : Task) {e : Effect} → (x ≢ none → Fits S g e) → Fits S g (through x t e)
+  by-through x t {e} f = go (x ≟ none)
+    where
+      go : (d : Dec (x ≡ none)) → Fits S g (if d then refused t else e)
+      go (yes h) = turns-back
+      go (no h) = f h
+
+  pub by-dcas :
+      {A B : Type 0} {e e′ : Effect} (d : Dec A) (d′ : Dec B)
+      → Fits S g e
+      → Fits S g e′
+      → Fits S g (dcas d d′ e e′)
+  by-dcas (yes h) (yes k) f f′ = f
+  by-dcas (yes h) (no k) f f′ = f′
+  by-dcas (no h) d′ f f′ = f′

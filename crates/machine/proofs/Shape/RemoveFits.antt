@@ -1,0 +1,183 @@
+-- The lines of a remove fit: 54 to 64 and 74 to 82.
+use mathlib.Core.Path.{_≡_, refl}
+use Prim.Native.Nat.{ℕ, suc, _<_}
+use native.Mathlib.Omega.{arith}
+use borrow.Author.Tests.{eqb-true, ltb-true, lt-ltb, le-leb}
+use Rattle.machine.specs.Choice.{_≟_, if_then_else_}
+use Rattle.machine.specs.Values.{N, X, _≟ᵛ_}
+use Rattle.machine.specs.Steps.{
+  line54,
+  line56,
+  line58,
+  line60,
+  line62,
+  line64,
+  line74,
+  line77,
+  line78,
+  line79,
+  line81,
+  line82,
+  isStepIn,
+}
+use Rattle.machine.specs.Tasks.{Task, none, goal, goto, withA, withCounted}
+use Rattle.machine.specs.Lines.{Memory, act}
+use Rattle.machine.proofs.Basics.Choices.{by-if}
+use Rattle.machine.proofs.Shape.BusyLaws.{BusyFacts}
+use Rattle.machine.proofs.Shape.Fits.{
+  WritesFit,
+  Fits,
+  goes-on,
+  ends,
+  MemoryFits,
+  X-fits,
+  Y-fits,
+  none-fits,
+  LineFits,
+  by-through,
+  by-dcas,
+}
+use Rattle.machine.proofs.Shape.Moves.{
+  Lands,
+  lands,
+  lands-if,
+  part,
+  stands,
+  moves,
+  moves-registers,
+  moves-A,
+  moves-B,
+  moves-value,
+}
+
+-- ---- 54 to 64: the nodes are counted off, and the lane is cut.
+module _ (S g : ℕ) (m : Memory) (M : MemoryFits S m) (t : Task) (f : ℕ) where
+  pub line54-fits : LineFits S g m t f line54
+  unfolding act isStepIn
+  line54-fits F =
+      goes-on tt
+      (by-if (λ st. BusyFacts S g (goto t′ st)) (goal g t ≟ 0)
+      (λ _. moves-A F (lands (part F) refl) (λ _. M .hat-ok)) more)
+    where
+      t′ : Task
+      t′ = withA t (m .hat)
+
+      none-counted : t .counted ≡ 0
+      none-counted = eqb-true (t .counted) 0 (F .counted-ok)
+
+      more : ¬ (goal g t ≡ 0) → BusyFacts S g (goto t′ line56)
+      more n =
+          let l = lt-ltb (t .counted) (goal g t) (omega (arith, none-counted)) in
+          stands F line56 (part F) l (F .value-ok) (F .has-word) (λ _. M .hat-ok) (F .B-ok) (F .C-ok) (F .D-ok)
+
+  pub line56-fits : LineFits S g m t f line56
+  unfolding act isStepIn
+  line56-fits F =
+      by-through S g (t .A) t (λ _.
+      by-if (Fits S g) (m .val (t .A) ≟ᵛ X (t .side)) (λ _. ends tt refl) (λ _.
+      goes-on tt
+      (stands F line58 (part F) (F .counted-ok) (F .value-ok) (F .has-word)
+      (F .A-ok) (F .B-ok) (F .C-ok) (F .D-ok))))
+
+  pub line58-fits : LineFits S g m t f line58
+  unfolding act isStepIn
+  line58-fits F =
+      by-through S g (t .A) t (λ _.
+      by-if (Fits S g) (a ≟ none) (λ _. ends tt refl) (λ _.
+      goes-on tt (by-if (λ st. BusyFacts S g (goto t′ st)) (n ≟ goal g t) done more)))
+    where
+      a : ℕ
+      a = m .out (t .A)
+
+      n : ℕ
+      n = suc (t .counted)
+
+      t′ : Task
+      t′ = withCounted (withA t a) n
+
+      below : t .counted < goal g t
+      below = ltb-true (t .counted) (goal g t) (F .counted-ok)
+
+      done : n ≡ goal g t → BusyFacts S g (goto t′ line60)
+      done e =
+          stands F line60 (part F) (le-leb n (goal g t) below) (F .value-ok) (F .has-word)
+          (M .out-ok (t .A)) (F .B-ok) (F .C-ok) (F .D-ok)
+
+      more : ¬ (n ≡ goal g t) → BusyFacts S g (goto t′ line56)
+      more e =
+          stands F line56 (part F) (lt-ltb n (goal g t) (omega (arith, below))) (F .value-ok) (F .has-word)
+          (M .out-ok (t .A)) (F .B-ok) (F .C-ok) (F .D-ok)
+
+  pub line60-fits : LineFits S g m t f line60
+  unfolding act isStepIn
+  line60-fits F =
+      by-through S g (t .A) t (λ _.
+      by-if (Fits S g) (m .out (t .A) ≟ none) (λ _. ends tt refl)
+      (λ _. goes-on tt (moves-B F (lands (part F) refl) (M .out-ok (t .A)))))
+
+  pub line62-fits : LineFits S g m t f line62
+  unfolding act isStepIn
+  line62-fits F =
+      by-through S g (t .A) t (λ nA.
+      by-through S g (t .B) t (λ nB.
+      by-dcas S g (m .val (t .A) ≟ᵛ N (t .side)) (m .val (t .B) ≟ᵛ N (t .side))
+      (goes-on ((F .A-ok nA, X-fits (t .side)), ((F .B-ok nB, Y-fits (t .side)), tt))
+      (moves F (lands (part F) refl)))
+      (ends tt refl)))
+
+  pub line64-fits : LineFits S g m t f line64
+  unfolding act isStepIn
+  line64-fits F =
+      by-through S g (t .A) t (λ nA.
+      goes-on (by-if (WritesFit S) (m .out (t .A) ≟ t .B) (λ _. ((F .A-ok nA, none-fits), tt)) (λ _. tt))
+      (moves F (lands (part F) refl)))
+
+-- ---- 74 to 82: the nodes cut off are marked and unlinked.
+module _ (S g : ℕ) (m : Memory) (M : MemoryFits S m) (t : Task) (f : ℕ) where
+  pub line74-fits : LineFits S g m t f line74
+  unfolding act isStepIn
+  line74-fits F =
+      let b = m .out (t .B) in
+      by-through S g (t .B) t (λ _.
+      goes-on tt
+      (moves-registers F (lands-if (b ≟ none) (lands (part F) refl) (lands (part F) refl))
+      (F .B-ok) (M .out-ok (t .B)) (F .C-ok) (F .D-ok)))
+
+  pub line77-fits : LineFits S g m t f line77
+  unfolding act isStepIn
+  line77-fits F =
+      let v = m .val (t .B) in
+      by-through S g (t .B) t (λ _. goes-on tt (moves-value F (lands (part F) refl) v (M .val-ok (t .B))))
+
+  pub line78-fits : LineFits S g m t f line78
+  unfolding act isStepIn
+  line78-fits F =
+      by-through S g (t .B) t (λ nB.
+      by-if (Fits S g) (m .val (t .B) ≟ᵛ t .value)
+      (λ _. goes-on ((F .B-ok nB, Y-fits (t .side)), tt) (moves F (lands (part F) refl)))
+      (λ _. goes-on tt (moves F (lands (part F) refl))))
+
+  pub line79-fits : LineFits S g m t f line79
+  unfolding act isStepIn
+  line79-fits F =
+      by-through S g (t .A) t (λ nA.
+      goes-on ((F .A-ok nA, none-fits), tt) (moves-A F (lands (part F) refl) (F .B-ok)))
+
+  pub line81-fits : LineFits S g m t f line81
+  unfolding act isStepIn
+  line81-fits F =
+      by-through S g (t .A) t (λ _. goes-on tt (moves-B F l (M .out-ok (t .A))))
+    where
+      b : ℕ
+      b = m .out (t .A)
+
+      l :
+          Lands (t .operation)
+          (if b ≟ none then line82 else if t .value ≟ᵛ X (t .side) then line82 else line77)
+      l =
+          lands-if (b ≟ none) (lands (part F) refl)
+          (lands-if (t .value ≟ᵛ X (t .side)) (lands (part F) refl) (lands (part F) refl))
+
+  pub line82-fits : LineFits S g m t f line82
+  unfolding act
+  line82-fits F = by-through S g (t .A) t (λ nA. ends ((F .A-ok nA, none-fits), tt) refl)

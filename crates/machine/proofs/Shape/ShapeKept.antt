@@ -1,0 +1,339 @@
+-- Every call on a table of the right shape leaves a table of the right shape.
+use mathlib.Core.Path.{_≡_, refl, sym, _∙_, subst}
+use mathlib.Core.Bool.{true, _&&_}
+use mathlib.Core.List.{List, [], _∷_}
+use mathlib.Core.Option.{Option, some, none as nothing}
+use Prim.Native.Nat.{ℕ, _≤_, _<_}
+use lib.Dec.{leb, ltb}
+use lib.ListN.{drop}
+use native.Mathlib.Omega.{arith}
+use borrow.Author.Tests.{leb-true, le-leb, ltb-true}
+use Rattle.machine.specs.declared.Answer.the-variants.{Refused}
+use Rattle.machine.specs.Choice.{_≟_}
+use Rattle.machine.specs.Sides.{Side, left, right, sideOf}
+use Rattle.machine.specs.Values.{never, encode, valueOk}
+use Rattle.machine.specs.Operations.{
+  Operation,
+  idle,
+  push,
+  pop,
+  add,
+  remove,
+  operationOf,
+  argumentOk,
+  goalOf,
+}
+use Rattle.machine.specs.Steps.{stepNumber, stepsOf, isStepIn, firstStep}
+use Rattle.machine.specs.Tasks.{Task, wordsOf}
+use Rattle.machine.specs.Table.{nodeCount, taskCount, growth, task, setTask}
+use Rattle.machine.specs.Shape.{sizesOk, lengthOk, valueReadOk, countedOk, shapeOk}
+use Rattle.machine.specs.Answers.{refusalOf}
+use Rattle.machine.specs.Calls.{
+  isIdle,
+  isBusy,
+  startRefusal,
+  tableRefusal,
+  beginRefusal,
+  runRefusal,
+  changed,
+  startWords,
+  start,
+  begunTask,
+  begin,
+  Ticked,
+  tickOn,
+  tick,
+  RunDone,
+  stopped,
+  afterTick,
+  runOn,
+  run,
+}
+use Rattle.machine.specs.Demand3.{
+  Call,
+  start-call,
+  begin-call,
+  tick-call,
+  run-call,
+  read-call,
+  after,
+}
+use Rattle.machine.proofs.Basics.Tests.{and-left, and-right, test-passed, tests-left}
+use Rattle.machine.proofs.Words.ValueLaws.{never-has-word}
+use Rattle.machine.proofs.Words.Columns.{columns}
+use Rattle.machine.proofs.Words.TableLaws.{columns-setTask}
+use Rattle.machine.proofs.Words.EffectLaws.{SameSizes}
+use Rattle.machine.proofs.Words.StartLaws.{
+  startLink,
+  startHat,
+  startValue,
+  startColumns,
+  columns-start,
+}
+use Rattle.machine.proofs.Shape.BusyLaws.{NodeOrNone, BusyFacts, record-of-fresh, record-of-busy}
+use Rattle.machine.proofs.Shape.ShapeLaws.{
+  WellSized,
+  well-sized,
+  length-ok,
+  WellShaped,
+  well-shaped,
+  shape-ok,
+}
+use Rattle.machine.proofs.Shape.Fits.{none-fits}
+use Rattle.machine.proofs.Shape.WritesKeep.{put-record-shaped, same-sizes-kept}
+use Rattle.machine.proofs.Shape.TickKeeps.{Kept, unchanged, tick-kept}
+use Rattle.machine.proofs.Basics.Choices.{by-if}
+
+-- The table passes the tests of refusals 3 and 4.
+pub record Accepted (ws : List ℕ) : Type 0 where
+  pub length-passes : lengthOk ws ≡ true
+  pub shape-passes : shapeOk ws ≡ true
+
+pub is-accepted : (ws : List ℕ) → tableRefusal ws nothing ≡ nothing → Accepted ws
+is-accepted ws e =
+    record {
+      length-passes = search test-passed;
+      shape-passes = search (test-passed, tests-left);
+    }
+
+-- ---- start.
+start-value-ok : (x : ℕ) → valueOk (encode (startValue x)) ≡ true
+start-value-ok x =
+    by-if (λ v. valueOk (encode v) ≡ true) (x ≟ 0) (λ _. refl) (λ _.
+    by-if (λ v. valueOk (encode v) ≡ true) (x ≟ 1) (λ _. refl) (λ _. refl))
+
+start-link-ok : (S : ℕ) → 2 ≤ S → (s : Side) (x : ℕ) → NodeOrNone S (startLink s x)
+start-link-ok S two left x = by-if (NodeOrNone S) (x ≟ 1) (λ _ _. omega arith) (λ _. none-fits)
+start-link-ok S two right x = by-if (NodeOrNone S) (x ≟ 0) (λ _ _. omega arith) (λ _. none-fits)
+
+start-hat-ok : (S : ℕ) → 2 ≤ S → (s : Side) → startHat s < S
+start-hat-ok S two left = omega arith
+start-hat-ok S two right = omega arith
+
+module _ (S T g : ℕ) (h : sizesOk S T g ≡ true) where
+  start-sized : WellSized (startColumns S T g)
+  start-sized =
+      record {
+        two-nodes = leb-true 2 S (search (and-left, and-right));
+        most-nodes = leb-true S 1024 (search (and-left, and-right));
+        one-task = leb-true 1 T (search (and-left, and-right));
+        most-tasks = leb-true T 16 (search (and-left, and-right));
+        most-growth = leb-true g 64 (search (and-left, and-right));
+        sized = refl;
+      }
+
+  start-shaped : WellShaped (startColumns S T g)
+  start-shaped =
+      record {
+        word6-zero = refl;
+        word7-zero = refl;
+        hats-ok = start-hat-ok S (start-sized .two-nodes);
+        links-ok = start-link-ok S (start-sized .two-nodes);
+        values-ok = start-value-ok;
+        records-ok = λ k. record-of-fresh S g;
+      }
+
+  pub start-accepted : Accepted (startWords S T g)
+  start-accepted =
+      let same = sym (columns-start S T g (start-sized .two-nodes)) in
+      record {
+        length-passes = length-ok (startWords S T g) (subst WellSized same start-sized);
+        shape-passes = shape-ok (startWords S T g) (subst WellShaped same start-shaped);
+      }
+
+-- ---- begin.
+begun-busy : (n : ℕ) → 1 ≤ n → isBusy (operationOf n) ≡ true
+begun-busy n h =
+    by-if (λ op. isBusy op ≡ true) (n ≟ 0) (λ e. absurd (omega arith)) (λ _.
+    by-if (λ op. isBusy op ≡ true) (n ≟ 1) (λ _. refl) (λ _.
+    by-if (λ op. isBusy op ≡ true) (n ≟ 2) (λ _. refl) (λ _.
+    by-if (λ op. isBusy op ≡ true) (n ≟ 3) (λ _. refl) (λ _. refl))))
+
+module _ (S g : ℕ) (s : Side) (n : ℕ) where
+  begun-facts : (op : Operation) → isBusy op ≡ true → argumentOk op n ≡ true → BusyFacts S g (begunTask op s n)
+  unfolding isStepIn
+  begun-facts op b h =
+      record {
+        busy = b;
+        step-ok = first-step op;
+        argument-ok = h;
+        counted-ok = first-counted op;
+        value-ok = first-value op;
+        has-word = never-has-word;
+        A-ok = none-fits;
+        B-ok = none-fits;
+        C-ok = none-fits;
+        D-ok = none-fits;
+      }
+    where
+      first-step : (op : Operation) → isStepIn (stepsOf op) (stepNumber (firstStep op)) ≡ true
+      first-step idle = refl
+      first-step push = refl
+      first-step pop = refl
+      first-step add = refl
+      first-step remove = refl
+
+      first-counted : (op : Operation) → countedOk (stepNumber (firstStep op)) (goalOf op g n) 0 ≡ true
+      first-counted idle = refl
+      first-counted push = le-leb 0 g (omega arith)
+      first-counted pop = refl
+      first-counted add = le-leb 0 n (omega arith)
+      first-counted remove = refl
+
+      first-value : (op : Operation) → valueReadOk s (stepNumber (firstStep op)) (encode never) ≡ true
+      first-value idle = refl
+      first-value push = refl
+      first-value pop = refl
+      first-value add = refl
+      first-value remove = refl
+
+-- A begin that passes its tests.
+pub record BeginAllowed (ws : List ℕ) (k op side argument : ℕ) : Type 0 where
+  pub is-task : k < taskCount ws
+  pub some-operation : 1 ≤ op
+  pub last-operation : op ≤ 4
+  pub last-side : side ≤ 1
+  pub argument-fits : argumentOk (operationOf op) argument ≡ true
+  pub was-idle : isIdle (task ws k .operation) ≡ true
+
+module _ (ws : List ℕ) (k op side argument : ℕ) where
+  pub begin-allowed : beginRefusal ws k op side argument ≡ nothing → BeginAllowed ws k op side argument
+  begin-allowed e =
+      let a : ltb k (taskCount ws) ≡ true = search (test-passed, tests-left) in
+      let numbers : leb 1 op && leb op 4 && leb side 1 ≡ true = search (test-passed, tests-left) in
+      let b : leb 1 op ≡ true = search (and-left, and-right) in
+      let c : leb op 4 ≡ true = search (and-left, and-right) in
+      let d : leb side 1 ≡ true = search (and-left, and-right) in
+      record {
+        is-task = ltb-true k (taskCount ws) a;
+        some-operation = leb-true 1 op b;
+        last-operation = leb-true op 4 c;
+        last-side = leb-true side 1 d;
+        argument-fits = search (test-passed, tests-left) depth 7;
+        was-idle = search (test-passed, tests-left) depth 7;
+      }
+
+  module _ (Z : WellSized (columns ws)) (W : WellShaped (columns ws)) where
+    begun : Task
+    begun = begunTask (operationOf op) (sideOf side) argument
+
+    accepted-kept : BeginAllowed ws k op side argument → Kept ws (setTask k begun ws)
+    unfolding begun
+    accepted-kept A =
+        let S = nodeCount ws in
+        let g = growth ws in
+        let busy = begun-busy op (A .some-operation) in
+        let F = begun-facts S g (sideOf side) argument (operationOf op) busy (A .argument-fits) in
+        let recorded = put-record-shaped (columns ws) W k (wordsOf begun) (record-of-busy S g begun F) in
+        let same = sym (columns-setTask ws (Z .sized) k begun (A .is-task)) in
+        let sizes = subst (λ c. SameSizes c (columns ws)) same (refl, refl, refl, refl) in
+        record {
+          same-sizes = sizes;
+          well-sized = same-sizes-kept sizes Z;
+          well-shaped = subst WellShaped same recorded;
+        }
+
+    pub begin-kept : Kept ws (begin ws k op side argument .words)
+    unfolding begin begun
+    begin-kept = go (beginRefusal ws k op side argument) refl
+      where
+        go :
+            (r : Option ℕ)
+            → beginRefusal ws k op side argument ≡ r
+            → Kept ws (changed r ws (setTask k begun ws) .words)
+        go (some n) e = unchanged ws Z W
+        go nothing e = accepted-kept (begin-allowed e)
+
+-- ---- tick and run.
+kept-then : {ws vs us : List ℕ} → Kept ws vs → Kept vs us → Kept ws us
+kept-then K L =
+    let a = K .same-sizes in
+    let b = L .same-sizes in
+    record {
+      same-sizes = (b .0 ∙ a .0, b .1 ∙ a .1, b .2 ∙ a .2, b .3 ∙ a .3);
+      well-sized = L .well-sized;
+      well-shaped = L .well-shaped;
+    }
+
+pub run-kept :
+    (list ws answers : List ℕ)
+    → WellSized (columns ws)
+    → WellShaped (columns ws)
+    → Kept ws (runOn list ws answers .words)
+unfolding runOn
+run-kept [] ws answers Z W = unchanged ws Z W
+run-kept (k ∷ []) ws answers Z W = unchanged ws Z W
+run-kept (k ∷ h ∷ list) ws answers Z W =
+    let K = tick-kept ws Z W k h in
+    let L = run-kept list (one .words) (drop 2 answers) (K .well-sized) (K .well-shaped) in
+    go (refusalOf (one .answer)) (kept-then K L)
+  where
+    one : Ticked
+    one = tickOn ws k h
+
+    rest : RunDone
+    rest = runOn list (one .words) (drop 2 answers)
+
+    go :
+        (r : Option ℕ)
+        → Kept ws (rest .words)
+        → Kept ws
+        (elim r as (λ _. RunDone) [ some n ↦ stopped n ws answers | nothing ↦ afterTick (one .answer) rest ] .words)
+    go (some n) K = unchanged ws Z W
+    go nothing K = K
+
+-- ---- Every call.
+module _ (ws : List ℕ) (A : Accepted ws) where
+  -- A table that passes both tests is not refused by them.
+  pub table-passes : (others : Option ℕ) → tableRefusal ws others ≡ others
+  table-passes others = rw (A .length-passes, A .shape-passes)
+
+  kept-accepted : {vs : List ℕ} → Kept ws vs → Accepted vs
+  kept-accepted {vs} K =
+      record { length-passes = length-ok vs (K .well-sized); shape-passes = shape-ok vs (K .well-shaped) }
+
+  Z : WellSized (columns ws)
+  Z = well-sized ws (A .length-passes)
+
+  W : WellShaped (columns ws)
+  W = well-shaped ws (A .shape-passes)
+
+  start-call-accepted : (S T g : ℕ) → Accepted (start ws S T g .words)
+  unfolding start
+  start-call-accepted S T g = go (startRefusal ws S T g) refl
+    where
+      go : (r : Option ℕ) → startRefusal ws S T g ≡ r → Accepted (changed r ws (startWords S T g) .words)
+      go (some n) e = A
+      go nothing e = start-accepted S T g (search test-passed)
+
+  tick-call-accepted : (k h : ℕ) → Accepted (tick ws k h .words)
+  unfolding tick
+  tick-call-accepted k h = go (tableRefusal ws nothing)
+    where
+      go :
+          (r : Option ℕ)
+          → Accepted
+          (elim r as (λ _. Ticked) [
+            | some n ↦ record { answer = Refused n; words = ws }
+            | nothing ↦ tickOn ws k h
+          ] .words)
+      go (some n) = A
+      go nothing = kept-accepted (tick-kept ws Z W k h)
+
+  run-call-accepted : (list answers : List ℕ) → Accepted (run ws list answers .words)
+  unfolding run
+  run-call-accepted list answers = go (runRefusal ws list answers)
+    where
+      go :
+          (r : Option ℕ)
+          → Accepted
+          (elim r as (λ _. RunDone) [ some n ↦ stopped n ws answers | nothing ↦ runOn list ws answers ] .words)
+      go (some n) = A
+      go nothing = kept-accepted (run-kept list ws answers Z W)
+
+  pub call-accepted : (c : Call) → Accepted (after c ws)
+  call-accepted (start-call S T g) = start-call-accepted S T g
+  call-accepted (begin-call k op side argument) = kept-accepted (begin-kept ws k op side argument Z W)
+  call-accepted (tick-call k h) = tick-call-accepted k h
+  call-accepted (run-call list answers) = run-call-accepted list answers
+  call-accepted (read-call out) = A

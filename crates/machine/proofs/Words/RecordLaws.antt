@@ -1,0 +1,171 @@
+-- The record of a task and its ten words: each gives back the other.
+use mathlib.Core.Path.{_≡_, refl, ap, sym, _∙_}
+use mathlib.Core.Logic.{inl, inr}
+use mathlib.Core.Bool.{Bool, true, false, cond, _||_}
+use mathlib.Core.List.{List, [], _∷_}
+use Prim.Native.Nat.{ℕ, _+_, _≤_}
+use lib.Dec.{leb, eqb}
+use lib.ListN.{getD}
+use native.Mathlib.Omega.{arith}
+use native.Mathlib.Decide.{ℕ-discrete}
+use borrow.Author.Tests.{leb-true, eqb-true}
+use Rattle.machine.specs.Choice.{_≟_, if_then_else_}
+use Rattle.machine.specs.Sides.{Side, left, right, opposite, sideNumber, sideOf}
+use Rattle.machine.specs.Values.{N, X, encode, bagOk, valueOk}
+use Rattle.machine.specs.Operations.{
+  Operation,
+  idle,
+  push,
+  pop,
+  add,
+  remove,
+  operationNumber,
+  operationOf,
+}
+use Rattle.machine.specs.Steps.{stepsOf, isStepIn}
+use Rattle.machine.specs.Tasks.{Task, fresh, wordsOf, taskOf}
+use Rattle.machine.specs.Table.{tenFrom}
+use Rattle.machine.specs.Shape.{sameWords, valueReadOk, busyOk, recordOk}
+use Rattle.machine.proofs.Basics.Tests.{and-left, and-right, or-either}
+use Rattle.machine.proofs.Words.ValueLaws.{
+  HasWord,
+  N-mark,
+  X-mark,
+  never-has-word,
+  encode-decode,
+  bag-value-ok,
+  mark-value-ok,
+}
+use Rattle.machine.proofs.Words.StepLaws.{step-of-number, number-of-step}
+use Rattle.machine.proofs.Basics.Contradiction.{clash}
+
+-- ---- Operations and sides.
+pub operation-of-number : (op : Operation) → operationOf (operationNumber op) ≡ op
+unfolding ℕ-discrete
+operation-of-number idle = refl
+operation-of-number push = refl
+operation-of-number pop = refl
+operation-of-number add = refl
+operation-of-number remove = refl
+
+pub number-of-operation : (n : ℕ) → n ≤ 4 → operationNumber (operationOf n) ≡ n
+number-of-operation n h = go (n ≟ 0) (n ≟ 1) (n ≟ 2) (n ≟ 3)
+  where
+    go :
+        (a : Dec (n ≡ 0)) (b : Dec (n ≡ 1)) (c : Dec (n ≡ 2)) (d : Dec (n ≡ 3))
+        → operationNumber (if a then idle else if b then push else if c then pop else if d then add else remove) ≡ n
+    go (yes a) b c d = sym a
+    go (no a) (yes b) c d = sym b
+    go (no a) (no b) (yes c) d = sym c
+    go (no a) (no b) (no c) (yes d) = sym d
+    go (no a) (no b) (no c) (no d) = omega arith
+
+pub side-of-number : (s : Side) → sideOf (sideNumber s) ≡ s
+unfolding ℕ-discrete
+side-of-number left = refl
+side-of-number right = refl
+
+pub number-of-side : (n : ℕ) → n ≤ 1 → sideNumber (sideOf n) ≡ n
+number-of-side n h = go (n ≟ 0)
+  where
+    go : (d : Dec (n ≡ 0)) → sideNumber (if d then left else right) ≡ n
+    go (yes d) = sym d
+    go (no d) = omega arith
+
+-- ---- From a record to its words and back.
+pub task-equal :
+    {t u : Task}
+    → t .operation ≡ u .operation
+    → t .step ≡ u .step
+    → t .side ≡ u .side
+    → t .argument ≡ u .argument
+    → t .counted ≡ u .counted
+    → t .value ≡ u .value
+    → t .A ≡ u .A
+    → t .B ≡ u .B
+    → t .C ≡ u .C
+    → t .D ≡ u .D
+    → t ≡ u
+task-equal o st s n c v a b g d =
+    λ i. record {
+      operation = o i;
+      step = st i;
+      side = s i;
+      argument = n i;
+      counted = c i;
+      value = v i;
+      A = a i;
+      B = b i;
+      C = g i;
+      D = d i;
+    }
+
+pub task-of-words : (t : Task) → HasWord (t .value) → taskOf (wordsOf t) ≡ t
+task-of-words t h =
+    task-equal (operation-of-number (t .operation)) (step-of-number (t .step)) (side-of-number (t .side)) refl refl h
+    refl refl refl refl
+
+pub fresh-of-words : taskOf (wordsOf fresh) ≡ fresh
+fresh-of-words = task-of-words fresh never-has-word
+
+-- ---- From ten words that pass the test to a record and back.
+pub same-words : (xs ys : List ℕ) → sameWords xs ys ≡ true → xs ≡ ys
+unfolding sameWords
+same-words [] [] h = refl
+same-words [] (y ∷ ys) h = clash (cc)
+same-words (x ∷ xs) [] h = clash (cc)
+same-words (x ∷ xs) (y ∷ ys) h =
+    let a = eqb-true x y (and-left (eqb x y) (sameWords xs ys) h) in
+    let b = same-words xs ys (and-right (eqb x y) (sameWords xs ys) h) in
+    rw (a, b)
+
+-- What is read at any step is as V may be.
+pub read-value-ok : (s : Side) (step w : ℕ) → valueReadOk s step w ≡ true → valueOk w ≡ true
+read-value-ok s step w = go (eqb step 51) (eqb step 48)
+  where
+    a : Bool
+    a = eqb w (encode (N (opposite s)))
+
+    b : Bool
+    b = eqb w (encode (X (opposite s)))
+
+    go : (at51 at48 : Bool) → cond at51 (bagOk w) (cond at48 (a || b) (valueOk w)) ≡ true → valueOk w ≡ true
+    go true at48 h = bag-value-ok w h
+    go false true h =
+        elim (or-either a b h) [
+          | inl e ↦ rw (eqb-true w (encode (N (opposite s))) e) (mark-value-ok {s = opposite s} N-mark)
+          | inr e ↦ rw (eqb-true w (encode (X (opposite s))) e) (mark-value-ok {s = opposite s} X-mark)
+        ]
+    go false false h = h
+
+module _ (S g : ℕ) (ws : List ℕ) (i : ℕ) where
+  words-of-busy : busyOk S g (tenFrom ws i) ≡ true → wordsOf (taskOf (tenFrom ws i)) ≡ tenFrom ws i
+  unfolding busyOk
+  words-of-busy h =
+      let o = getD ws i 0 in
+      let st = getD ws (i + 1) 0 in
+      let s = getD ws (i + 2) 0 in
+      let v = getD ws (i + 5) 0 in
+      let o-ok : leb o 4 ≡ true = search (and-left, and-right) depth 9 in
+      let st-ok : isStepIn (stepsOf (operationOf o)) st ≡ true = search (and-left, and-right) depth 9 in
+      let s-ok : leb s 1 ≡ true = search (and-left, and-right) depth 9 in
+      let v-ok : valueReadOk (sideOf s) st v ≡ true = search (and-left, and-right) depth 9 in
+      rw (
+        number-of-operation o (leb-true o 4 o-ok),
+        number-of-step (stepsOf (operationOf o)) st st-ok,
+        number-of-side s (leb-true s 1 s-ok),
+        encode-decode v (read-value-ok (sideOf s) st v v-ok),
+      )
+
+  pub words-of-task : recordOk S g (tenFrom ws i) ≡ true → wordsOf (taskOf (tenFrom ws i)) ≡ tenFrom ws i
+  unfolding recordOk
+  words-of-task = go (eqb (getD ws i 0) 0)
+    where
+      r : List ℕ
+      r = tenFrom ws i
+
+      go : (t : Bool) → cond t (sameWords r (wordsOf fresh)) (busyOk S g r) ≡ true → wordsOf (taskOf r) ≡ r
+      go true h =
+          let e = same-words r (wordsOf fresh) h in
+          ap (λ l. wordsOf (taskOf l)) e ∙ ap wordsOf fresh-of-words ∙ sym e
+      go false h = words-of-busy h

@@ -1,0 +1,197 @@
+-- What every column of the table is after each kind of write to the words.
+use mathlib.Core.Path.{_≡_, ap, _∙_, fun-ext}
+use mathlib.Core.Logic.{_≢_, _⊎_, inl, inr}
+use mathlib.Core.List.{List}
+use Prim.Native.Nat.{ℕ, _+_, _≤_, _<_}
+use lib.Seq.{getD-set-same, getD-set-other}
+use native.Mathlib.Omega.{arith}
+use Rattle.machine.specs.Choice.{_<?_}
+use Rattle.machine.specs.Sides.{Side, left, right, opposite}
+use Rattle.machine.specs.Values.{Value, encode}
+use Rattle.machine.specs.Tasks.{Task, none, fresh, wordsOf}
+use Rattle.machine.specs.Table.{
+  nodeCount,
+  taskCount,
+  hatAt,
+  hat,
+  linkAt,
+  valueAt,
+  linkWord,
+  valueWord,
+  link,
+  recordAt,
+  tenFrom,
+  recordWords,
+  setHat,
+  setTickCount,
+  setLink,
+  setValue,
+  setTask,
+}
+use Rattle.machine.proofs.Basics.Updates.{is-updateSide, update, updateSide}
+use Rattle.machine.proofs.Words.Columns.{
+  columns,
+  Sized,
+  putHat,
+  putTickCount,
+  putLink,
+  putValue,
+  putRecord,
+  columns-equal,
+  column-kept,
+  column-written,
+}
+use Rattle.machine.proofs.Words.Stretches.{
+  Wrote,
+  set-wrote,
+  sets-same,
+  sets-wrote,
+  ten-same,
+  side-small,
+  before,
+  same-nodes,
+  same-tasks,
+  links-off,
+  values-off,
+  records-off,
+  past-header,
+}
+
+-- ---- A hat.
+module _ (ws : List ℕ) (sized : Sized (columns ws)) (s : Side) (x : ℕ) where
+  hats-apart : (z : Side) → hatAt (opposite z) ≢ hatAt z
+  hats-apart left e = absurd (omega arith)
+  hats-apart right e = absurd (omega arith)
+
+  hat-after : hat (setHat s x ws) ≡ updateSide (hat ws) s x
+  hat-after =
+      is-updateSide (hat ws) (hat (setHat s x ws)) s x
+      (getD-set-same ws (hatAt s) x 0 (omega (arith, side-small s)))
+      (getD-set-other ws (hatAt s) (hatAt (opposite s)) x 0 (hats-apart s))
+
+  pub columns-setHat : columns (setHat s x ws) ≡ putHat s x (columns ws)
+  columns-setHat =
+      let b = side-small s in
+      let W = set-wrote ws (hatAt s) x in
+      let past : 3 ≤ hatAt s = omega arith in
+      columns-equal (W .long) (same-nodes W past) (same-tasks W past) (before W past 2 (omega arith)) hat-after
+      (W .other 5 (inr (omega arith))) (W .other 6 (inr (omega arith))) (W .other 7 (inr (omega arith)))
+      (links-off W past (inl (omega arith))) (values-off W past (inl (omega arith))) (records-off W past (omega arith))
+
+-- ---- The tick count.
+module _ (ws : List ℕ) (sized : Sized (columns ws)) where
+  pub columns-setTickCount : (n : ℕ) → columns (setTickCount n ws) ≡ putTickCount n (columns ws)
+  columns-setTickCount n =
+      let W = set-wrote ws 5 n in
+      let past : 3 ≤ 5 = omega arith in
+      columns-equal (W .long) (same-nodes W past) (same-tasks W past) (before W past 2 (omega arith))
+      (fun-ext (λ z. before W past (hatAt z) (omega (arith, side-small z))))
+      (getD-set-same ws 5 n 0 (omega arith)) (W .other 6 (inr (omega arith))) (W .other 7 (inr (omega arith)))
+      (links-off W past (inl (omega arith))) (values-off W past (inl (omega arith))) (records-off W past (omega arith))
+
+-- ---- A link.
+module _ (ws : List ℕ) (sized : Sized (columns ws)) (s : Side) (x y : ℕ) (is-node : x < nodeCount ws) where
+  links-apart : (z : Side) (u v : ℕ) → linkAt (opposite z) u ≢ linkAt z v
+  links-apart left u v e = absurd (omega arith)
+  links-apart right u v e = absurd (omega arith)
+
+  link-wrote : Wrote ws (setLink s x y ws) (linkAt s x) 1
+  link-wrote = set-wrote ws (linkAt s x) y
+
+  own-link-after : link (setLink s x y ws) s ≡ update (link ws s) x y
+  unfolding link
+  own-link-after =
+      let p = linkAt s x in
+      let b = side-small s in
+      let nodes = same-nodes link-wrote (omega arith) in
+      column-written none (linkWord ws s) (linkWord (setLink s x y ws) s) nodes x y is-node
+      (getD-set-same ws p y 0 (omega arith))
+      (λ z l n. getD-set-other ws p (linkAt s z) y 0 (λ e. n (omega arith)))
+
+  far-link-after : link (setLink s x y ws) (opposite s) ≡ link ws (opposite s)
+  unfolding link
+  far-link-after =
+      let o = opposite s in
+      column-kept none (linkWord ws o) (linkWord (setLink s x y ws) o) (same-nodes link-wrote (omega arith))
+      (λ z l. getD-set-other ws (linkAt s x) (linkAt o z) y 0 (links-apart s z x))
+
+  values-after-link : columns (setLink s x y ws) .values ≡ columns ws .values
+  values-after-link =
+      let b = side-small s in
+      column-kept 0 (valueWord ws) (valueWord (setLink s x y ws)) (same-nodes link-wrote (omega arith))
+      (λ z l. getD-set-other ws (linkAt s x) (valueAt z) y 0 (λ e. absurd (omega arith)))
+
+  pub columns-setLink : columns (setLink s x y ws) ≡ putLink s x y (columns ws)
+  columns-setLink =
+      let b = side-small s in
+      let new = update (link ws s) x y in
+      let links = is-updateSide (link ws) (link (setLink s x y ws)) s new own-link-after far-link-after in
+      let records = records-off link-wrote (omega arith) (omega arith) in
+      past-header link-wrote (omega arith) (omega arith) links values-after-link records
+
+-- ---- A value.
+module _ (ws : List ℕ) (sized : Sized (columns ws)) (x : ℕ) (v : Value) (is-node : x < nodeCount ws) where
+  value-wrote : Wrote ws (setValue x v ws) (valueAt x) 1
+  value-wrote = set-wrote ws (valueAt x) (encode v)
+
+  links-after-value : link (setValue x v ws) ≡ link ws
+  unfolding link
+  links-after-value =
+      fun-ext (λ s.
+      column-kept none (linkWord ws s) (linkWord (setValue x v ws) s) (same-nodes value-wrote (omega arith))
+      (λ z l. getD-set-other ws (valueAt x) (linkAt s z) (encode v) 0 (λ e. absurd (omega (arith, side-small s)))))
+
+  values-after : columns (setValue x v ws) .values ≡ update (columns ws .values) x (encode v)
+  values-after =
+      let p = valueAt x in
+      let w = encode v in
+      column-written 0 (valueWord ws) (valueWord (setValue x v ws)) (same-nodes value-wrote (omega arith)) x w is-node
+      (getD-set-same ws p w 0 (omega arith))
+      (λ z l n. getD-set-other ws p (valueAt z) w 0 (λ e. n (omega arith)))
+
+  pub columns-setValue : columns (setValue x v ws) ≡ putValue x (encode v) (columns ws)
+  columns-setValue =
+      let records = records-off value-wrote (omega arith) (omega arith) in
+      past-header value-wrote (omega arith) (omega arith) links-after-value values-after records
+
+-- ---- A record.
+module _ (ws : List ℕ) (sized : Sized (columns ws)) (k : ℕ) (t : Task) (is-task : k < taskCount ws) where
+  at : ℕ → ℕ
+  at j = recordAt (nodeCount ws) j
+
+  record-wrote : Wrote ws (setTask k t ws) (at k) 10
+  unfolding at
+  record-wrote = sets-wrote ws (at k) (wordsOf t)
+
+  -- The words of a record after the write, where the nodes were counted before it.
+  words-at : (j : ℕ) → recordWords (setTask k t ws) j ≡ tenFrom (setTask k t ws) (at j)
+  unfolding at
+  words-at j = ap (λ n. tenFrom (setTask k t ws) (recordAt n j)) (same-nodes record-wrote (omega arith))
+
+  own-record-after : recordWords (setTask k t ws) k ≡ wordsOf t
+  unfolding at
+  own-record-after =
+      words-at k
+      ∙ ten-same (wordsOf t) (setTask k t ws) (at k) 0 (λ c q.
+      let e : 0 + c ≡ c = omega arith in rw e (sets-same (wordsOf t) ws (at k) c q (omega arith)))
+
+  far-record-after : (j : ℕ) → j ≢ k → recordWords (setTask k t ws) j ≡ recordWords ws j
+  unfolding at
+  far-record-after j n =
+      words-at j ∙ ten-same ws (setTask k t ws) (at j) (at j) (λ c q. record-wrote .other (at j + c) (apart c q))
+    where
+      apart : (c : ℕ) → c < 10 → (at j + c < at k) ⊎ (at k + 10 ≤ at j + c)
+      apart c q = elim (j <? k) [ yes l ↦ inl (omega arith) | no l ↦ inr (omega arith) ]
+
+  records-after : columns (setTask k t ws) .records ≡ update (columns ws .records) k (wordsOf t)
+  unfolding at
+  records-after =
+      column-written (wordsOf fresh) (recordWords ws) (recordWords (setTask k t ws))
+      (same-tasks record-wrote (omega arith)) k (wordsOf t) is-task own-record-after (λ j l n. far-record-after j n)
+
+  pub columns-setTask : columns (setTask k t ws) ≡ putRecord k (wordsOf t) (columns ws)
+  unfolding at
+  columns-setTask =
+      let links = links-off record-wrote (omega arith) (inr (omega arith)) in
+      let values = values-off record-wrote (omega arith) (inr (omega arith)) in
+      past-header record-wrote (omega arith) (omega arith) links values records-after

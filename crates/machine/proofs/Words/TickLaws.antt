@@ -1,0 +1,114 @@
+-- What a tick that is made does to the memory and to the tasks.
+use mathlib.Core.Path.{_≡_, refl, ap, _∙_}
+use mathlib.Core.List.{List}
+use mathlib.Core.Option.{Option, some, none as nothing}
+use Prim.Native.Nat.{ℕ, _+_, _%_, _^_}
+use Rattle.machine.specs.declared.Answer.the-variants.{Refused}
+use Rattle.machine.specs.Sides.{Side, right}
+use Rattle.machine.specs.Tasks.{wordsOf}
+use Rattle.machine.specs.Table.{nodeCount, growth, tickCount, task}
+use Rattle.machine.specs.Lines.{seen, Effect}
+use Rattle.machine.specs.Answers.{refusalOf}
+use Rattle.machine.specs.Calls.{tickRefusal, effectOf, Ticked, applied, tickOn}
+use Rattle.machine.proofs.Basics.Contradiction.{clash}
+use Rattle.machine.proofs.Basics.Updates.{update}
+use Rattle.machine.proofs.Words.Memories.{view, written}
+use Rattle.machine.proofs.Words.ValueLaws.{HasWord, never-has-word}
+use Rattle.machine.proofs.Words.Columns.{columns, putTickCount, putRecord, putAll}
+use Rattle.machine.proofs.Words.EffectLaws.{AllInRange, effectWords, columns-effect, seen-effect, task-effect}
+use Rattle.machine.proofs.Shape.ShapeLaws.{WellSized, WellShaped}
+use Rattle.machine.proofs.Shape.Fits.{Fits, turns-back, goes-on, ends}
+use Rattle.machine.proofs.Shape.WritesKeep.{all-in-range}
+use Rattle.machine.proofs.Shape.TickKeeps.{tick-allowed, effect-fits}
+
+-- An effect that fits and is no refusal stays in range.
+pub fit-effect :
+    (S g : ℕ) {e : Effect}
+    → Fits S g e
+    → refusalOf (e .answer) ≡ nothing
+    → AllInRange S (e .writes) × HasWord (e .task .value)
+fit-effect S g turns-back made = clash (cc)
+fit-effect S g (goes-on {l} fit F) made = (all-in-range S l fit, F .has-word)
+fit-effect S g (ends {l} fit answers) made = (all-in-range S l fit, never-has-word)
+
+applied-answer : (s : Side) (ws : List ℕ) (k : ℕ) (e : Effect) → applied s ws k e .answer ≡ e .answer
+unfolding applied
+applied-answer s ws k e = go (refusalOf (e .answer))
+  where
+    go :
+        (r : Option ℕ)
+        → elim r as (λ _. Ticked) [
+          | some n ↦ record { answer = e .answer; words = ws }
+          | nothing ↦ record { answer = e .answer; words = effectWords s (e .writes) k (e .task) ws }
+        ] .answer
+        ≡ e .answer
+    go (some n) = refl
+    go nothing = refl
+
+applied-refused : (s : Side) (ws : List ℕ) (k : ℕ) (e : Effect) {n : ℕ} → refusalOf (e .answer) ≡ some n
+    → applied s ws k e .words ≡ ws
+unfolding applied
+applied-refused s ws k e r = rw (r, applied)
+
+-- A tick that does not pass its tests changes nothing.
+pub tick-stopped : (ws : List ℕ) (k h : ℕ) {n : ℕ} → tickRefusal ws k h ≡ some n
+    → tickOn ws k h ≡ record { answer = Refused n; words = ws }
+unfolding tickOn
+tick-stopped ws k h e = rw (e, tickOn)
+
+-- A tick that passes its tests: k is a busy task, h a node.
+module _ (ws : List ℕ) (k h : ℕ) (allowed : tickRefusal ws k h ≡ nothing) where
+  pub tick-answer : tickOn ws k h .answer ≡ effectOf ws k h .answer
+  unfolding tickOn
+  tick-answer = rw (allowed, tickOn) (applied-answer (task ws k .side) ws k (effectOf ws k h))
+
+  -- Where its line refuses it, it leaves the table as it was.
+  pub tick-refused : {n : ℕ} → refusalOf (effectOf ws k h .answer) ≡ some n → tickOn ws k h .words ≡ ws
+  unfolding tickOn
+  tick-refused r = rw (allowed, tickOn) (applied-refused (task ws k .side) ws k (effectOf ws k h) r)
+
+  -- It is made where its line does not refuse it.
+  module _
+      (Z : WellSized (columns ws))
+      (W : WellShaped (columns ws))
+      (made : refusalOf (effectOf ws k h .answer) ≡ nothing) where
+    tick-words :
+        tickOn ws k h .words
+        ≡ effectWords (task ws k .side) (effectOf ws k h .writes) k (effectOf ws k h .task) ws
+    unfolding tickOn applied
+    tick-words = rw (allowed, tickOn, made, applied)
+
+    tick-in-range :
+        AllInRange (nodeCount ws) (effectOf ws k h .writes) × HasWord (effectOf ws k h .task .value)
+    tick-in-range =
+        let a = tick-allowed ws k h allowed in
+        fit-effect (nodeCount ws) (growth ws) (effect-fits ws W k h (a .1) (a .2)) made
+
+    -- Every word of the table after it.
+    pub tick-columns :
+        columns (tickOn ws k h .words)
+        ≡ putTickCount ((tickCount ws + 1) % 2 ^ 32)
+        (putRecord k (wordsOf (effectOf ws k h .task))
+        (putAll (task ws k .side) (effectOf ws k h .writes) (columns ws)))
+    tick-columns =
+        let e = effectOf ws k h in
+        let is-task = tick-allowed ws k h allowed .0 in
+        ap columns tick-words
+        ∙ columns-effect ws (Z .sized) (task ws k .side) (e .writes) (tick-in-range .0) k is-task (e .task)
+
+    pub tick-seen :
+        seen right (tickOn ws k h .words)
+        ≡ view (task ws k .side) (written (effectOf ws k h .writes) (view (task ws k .side) (seen right ws)))
+    tick-seen =
+        let e = effectOf ws k h in
+        let is-task = tick-allowed ws k h allowed .0 in
+        ap (seen right) tick-words
+        ∙ seen-effect ws (Z .sized) (task ws k .side) (e .writes) (tick-in-range .0) k is-task (e .task)
+
+    pub tick-task : task (tickOn ws k h .words) ≡ update (task ws) k (effectOf ws k h .task)
+    tick-task =
+        let e = effectOf ws k h in
+        let s = task ws k .side in
+        let r = tick-in-range in
+        let is-task = tick-allowed ws k h allowed .0 in
+        ap task tick-words ∙ task-effect ws (Z .sized) s (e .writes) (r .0) k is-task (e .task) (r .1)

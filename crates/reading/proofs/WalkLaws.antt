@@ -1,0 +1,298 @@
+-- The walk along R, in the table and over the nodes' words: a turn of it, and the loops that count and write its bags.
+use mathlib.Core.Path.{_≡_, refl, sym, ap, _∙_}
+use mathlib.Core.Logic.{_≢_}
+use mathlib.Core.Bool.{Bool, true, false}
+use mathlib.Core.List.{List, [], _∷_, _++_}
+use mathlib.Core.Option.{Option, some, none as nothing, Option·map}
+use Prim.Native.Nat.{ℕ, zero, suc, _+_, _-_, _*_, _≤_, _<_}
+use native.Mathlib.Omega.{arith}
+use native.Mathlib.Nat.{add-zero, zero-add, sub-zero}
+use lib.ListN.{length, set, take, drop, take-append-drop}
+use lib.Seq.{take-suc-set, drop-set-lt, drop-drop, getD-take, getD-drop, append-snoc}
+use borrow.Author.Tests.{le-leb, lt-leb}
+use Rattle.machine.specs.declared.Reading.the-variants.{Count, Refused}
+use Rattle.machine.specs.Choice.{_≟_, _<?_, if_then_else_}
+use Rattle.machine.specs.Sides.{left, right}
+use Rattle.machine.specs.Values.{Value, never, bag, N, X, Y, decode}
+use Rattle.machine.specs.Tasks.{none}
+use Rattle.machine.specs.Table.{tableLength, nodeCount, taskCount, hat, valueWord, link}
+use Rattle.machine.specs.Calls.{tableRefusal, laneFrom, lane, readInto, read}
+use Rattle.machine.specs.Results.{readOf}
+use Rattle.machine.proofs.Basics.Choices.{equal, unequal, if-yes}
+use Rattle.machine.proofs.Basics.Contradiction.{refute, clash}
+use Rattle.machine.proofs.Words.ValueLaws.{decoded-bag}
+use Rattle.machine.proofs.Words.Columns.{columns}
+use Rattle.machine.proofs.Shape.ShapeLaws.{WellShaped, well-sized, well-shaped}
+use Rattle.layout.specs.declared.values.Value as Values
+use Rattle.layout.specs.Coded.{codedWord, meaning, isBag, HoldsNode, linkIn, wordIn}
+use Rattle.reading.specs.declared.Walk.{Walk}
+use Rattle.reading.specs.declared.Walk.the-variants.{Bags, NoEnd}
+use Rattle.reading.specs.Lane.{laneIn, walkOf, laid, NodeOrNone, Walkable}
+use Rattle.shape.specs.Contracts.{numberOf, Passed}
+use Rattle.shape.proofs.PassedTable.{refused, passed}
+use Rattle.layout.proofs.NodesPart.{nodesOf, nodes-long, link-in, value-in}
+
+-- The walk after node x, in n nodes at most.
+abbrev pub after : List ℕ → (n x : ℕ) → Option (List ℕ)
+after ns n x = laneIn ns n (linkIn ns right x)
+
+-- The walk at a node that holds v, by the walk after it.
+abbrev atValue : Value → Option (List ℕ) → Option (List ℕ)
+atValue v rest =
+    elim v as (λ _. Option (List ℕ)) [
+      | never ↦ some []
+      | bag b ↦ Option·map (_∷_ b) rest
+      | N s ↦ some []
+      | X s ↦ some []
+      | Y s ↦ some []
+    ]
+
+-- ---- The table and its nodes' words.
+module _ (ws : List ℕ) (sized : length ws ≡ tableLength (nodeCount ws) (taskCount ws)) where
+  pub lane-from-in : (n x : ℕ) → laneFrom ws n x ≡ laneIn (nodesOf ws) n x
+  unfolding laneFrom laneIn
+  lane-from-in zero x = refl
+  lane-from-in (suc n) x =
+      let rest = ap (laneFrom ws n) (link-in ws sized right x) ∙ lane-from-in n (linkIn (nodesOf ws) right x) in
+      ap (λ (l : Option (List ℕ)). if x ≟ none then nothing else l)
+      (ap (λ (v : Value). atValue v (laneFrom ws n (link ws right x))) (value-in ws sized x)
+      ∙ ap (atValue (decode (wordIn (nodesOf ws) x))) rest)
+
+  lane-in : lane ws ≡ after (nodesOf ws) (nodeCount ws) (hat ws left)
+  unfolding lane
+  lane-in =
+      ap (laneFrom ws (nodeCount ws)) (link-in ws sized right (hat ws left))
+      ∙ lane-from-in (nodeCount ws) (linkIn (nodesOf ws) right (hat ws left))
+
+  -- A node of the table is a node of the part, and back.
+  node-in : (x : ℕ) → x < nodeCount ws → HoldsNode (nodesOf ws) x
+  node-in x h = omega (arith, nodes-long ws sized)
+
+  node-of : (x : ℕ) → HoldsNode (nodesOf ws) x → x < nodeCount ws
+  node-of x h = omega (arith, nodes-long ws sized)
+
+  value-word-in : (x : ℕ) → x < nodeCount ws → valueWord ws x ≡ wordIn (nodesOf ws) x
+  value-word-in x h =
+      let e : 8 + 3 * x + 2 ≡ 8 + (3 * x + 2) = omega arith in
+      rw e (sym (getD-take (3 * nodeCount ws) (drop 8 ws) (3 * x + 2) 0 (omega arith) ∙ getD-drop 8 ws (3 * x + 2) 0))
+
+  module _ (W : WellShaped (columns ws)) where
+    hat-in : HoldsNode (nodesOf ws) (hat ws left)
+    hat-in = node-in (hat ws left) (W .hats-ok left)
+
+    pub walkable : Walkable (nodesOf ws)
+    walkable =
+        record {
+          values = λ x h.
+              let l = node-of x h in
+              rw (if-yes (x <? nodeCount ws) (valueWord ws x) 0 l, value-word-in x l) at (W .values-ok x);
+          links = λ x h n.
+              node-in (linkIn (nodesOf ws) right x) (rw (link-in ws sized right x) at (W .links-ok right x) n);
+        }
+
+-- ---- One turn of the walk.
+module _ (ns : List ℕ) where
+  -- 01: S bags with no end.
+  no-turn : (m x : ℕ) → m ≡ 0 → laneIn ns m x ≡ nothing
+  unfolding laneIn
+  no-turn m x e = rw e refl
+
+  -- 01: link none before a slot without a bag.
+  no-node : (m x : ℕ) → x ≡ none → laneIn ns m x ≡ nothing
+  unfolding laneIn
+  no-node zero x e = refl
+  no-node (suc m) x e = rw (equal e)
+
+  module _ (m m′ x : ℕ) (turn : m ≡ suc m′) (node : x ≢ none) where
+    at-node : laneIn ns m x ≡ atValue (decode (wordIn ns x)) (after ns m′ x)
+    unfolding laneIn
+    at-node = rw (turn, unequal node)
+
+    no-bag : isBag (decode (wordIn ns x)) ≡ false → laneIn ns m x ≡ some []
+    no-bag h = at-node ∙ go (decode (wordIn ns x)) h
+      where
+        go : (v : Value) → isBag v ≡ false → atValue v (after ns m′ x) ≡ some []
+        go never h = refl
+        go (bag b) h = clash (cc)
+        go (N s) h = refl
+        go (X s) h = refl
+        go (Y s) h = refl
+
+    one-bag : isBag (decode (wordIn ns x)) ≡ true → laneIn ns m x ≡ Option·map (_∷_ (wordIn ns x)) (after ns m′ x)
+    one-bag h = at-node ∙ go (decode (wordIn ns x)) refl h
+      where
+        go :
+            (v : Value)
+            → decode (wordIn ns x) ≡ v
+            → isBag v ≡ true
+            → atValue v (after ns m′ x) ≡ Option·map (_∷_ (wordIn ns x)) (after ns m′ x)
+        go never e h = clash (cc)
+        go (bag b) e h = ap (λ (w : ℕ). Option·map (_∷_ w) (after ns m′ x)) (sym (decoded-bag (wordIn ns x) b e .1))
+        go (N s) e h = clash (cc)
+        go (X s) e h = clash (cc)
+        go (Y s) e h = clash (cc)
+
+-- What the code's test of a node's value tells.
+pub bag-told :
+    {r b : Bool} {v : Values.Value} {w : ℕ} → r ≡ isBag (meaning v) → v ≡ codedWord w → r ≡ b → isBag (decode w) ≡ b
+bag-told tested read h = ap (λ (u : Values.Value). isBag (meaning u)) (sym read) ∙ sym tested ∙ h
+
+-- ---- The loop that counts: n bags are counted, and the walk goes on.
+abbrev pub counted : ℕ → Option (List ℕ) → Walk
+counted n nothing = NoEnd
+counted n (some bags) = Bags (n + length bags)
+
+one-counted : (n w : ℕ) (l : Option (List ℕ)) → counted (n + 1) l ≡ counted n (Option·map (_∷_ w) l)
+one-counted n w nothing = refl
+one-counted n w (some bags) = ap Bags (omega arith)
+
+pub count-begins : (ns : List ℕ) (slots x : ℕ) → counted 0 (laneIn ns (slots - 0) x) ≡ walkOf (laneIn ns slots x)
+count-begins ns slots x = rw (sub-zero slots) (go (laneIn ns slots x))
+  where
+    go : (l : Option (List ℕ)) → counted 0 l ≡ walkOf l
+    go nothing = refl
+    go (some bags) = ap Bags (zero-add (length bags))
+
+module _ (ns : List ℕ) (slots n x : ℕ) where
+  pub count-ends : slots ≤ n → counted n (laneIn ns (slots - n) x) ≡ NoEnd
+  count-ends h = ap (counted n) (no-turn ns (slots - n) x (omega arith))
+
+  pub count-at-none : x ≡ none → counted n (laneIn ns (slots - n) x) ≡ NoEnd
+  count-at-none e = ap (counted n) (no-node ns (slots - n) x e)
+
+  module _ (turn : n < slots) (node : x ≢ none) where
+    pub count-at-no-bag : isBag (decode (wordIn ns x)) ≡ false → counted n (laneIn ns (slots - n) x) ≡ Bags n
+    count-at-no-bag h =
+        ap (counted n) (no-bag ns (slots - n) (slots - (n + 1)) x (omega arith) node h) ∙ ap Bags (add-zero n)
+
+    pub count-at-bag :
+        isBag (decode (wordIn ns x)) ≡ true
+        → counted (n + 1) (after ns (slots - (n + 1)) x) ≡ counted n (laneIn ns (slots - n) x)
+    count-at-bag h =
+        one-counted n (wordIn ns x) (after ns (slots - (n + 1)) x)
+        ∙ ap (counted n) (sym (one-bag ns (slots - n) (slots - (n + 1)) x (omega arith) node h))
+
+-- ---- The loop that writes: i words are written, and the bags of the walk ahead come after them.
+abbrev pub written : ℕ → Option (List ℕ) → List ℕ → List ℕ
+written i l out = take i out ++ laid l (drop i out)
+
+drop-next : (n i : ℕ) (out : List ℕ) → drop n (drop (suc i) out) ≡ drop (suc n) (drop i out)
+drop-next n i out =
+    let e : suc i + n ≡ i + suc n = omega arith in
+    drop-drop n (suc i) out ∙ ap (λ (j : ℕ). drop j out) e ∙ sym (drop-drop (suc n) i out)
+
+one-written :
+    (i w k : ℕ) (l : Option (List ℕ)) (out : List ℕ)
+    → walkOf l ≡ Bags k
+    → i < length out
+    → written (i + 1) l (set out i w) ≡ written i (Option·map (_∷_ w) l) out
+one-written i w k nothing out h b = clash (cc)
+one-written i w k (some bags) out h b =
+    let n = length bags in
+    let s : i + 1 ≡ suc i = omega arith in
+    rw (s, take-suc-set out i w b, drop-set-lt (suc i) out i w (omega arith), drop-next n i out)
+    (append-snoc (take i out) w (bags ++ drop (suc n) (drop i out)))
+
+pub write-ends : (i : ℕ) (l : Option (List ℕ)) (out : List ℕ) → walkOf l ≡ Bags 0 → written i l out ≡ out
+write-ends i nothing out h = clash (cc)
+write-ends i (some []) out h = take-append-drop i out
+write-ends i (some (b ∷ bags)) out h = clash (cc)
+
+-- While bags are ahead the walk is at a node that holds one, and after that node there is one fewer.
+module _ (ns : List ℕ) (slots i x n : ℕ) (more : i < n) (ahead : walkOf (laneIn ns (slots - i) x) ≡ Bags (n - i)) where
+  pub node-ahead : x ≢ none
+  node-ahead e = let q = no-node ns (slots - i) x e in refute (cc)
+
+  turn-ahead : slots - i ≡ suc (slots - (i + 1))
+  turn-ahead = go (i <? slots)
+    where
+      go : Dec (i < slots) → slots - i ≡ suc (slots - (i + 1))
+      go (yes h) = omega arith
+      go (no h) = let q = no-turn ns (slots - i) x (omega arith) in clash (cc)
+
+  bag-ahead : laneIn ns (slots - i) x ≡ Option·map (_∷_ (wordIn ns x)) (after ns (slots - (i + 1)) x)
+  bag-ahead = one-bag ns (slots - i) (slots - (i + 1)) x turn-ahead node-ahead (go (isBag (decode (wordIn ns x))) refl)
+    where
+      go : (b : Bool) → isBag (decode (wordIn ns x)) ≡ b → b ≡ true
+      go true h = refl
+      go false h =
+          let q = no-bag ns (slots - i) (slots - (i + 1)) x turn-ahead node-ahead h in
+          let z : n - i ≡ 0 = cc in
+          absurd (omega arith)
+
+  pub fewer-ahead : walkOf (after ns (slots - (i + 1)) x) ≡ Bags (n - (i + 1))
+  fewer-ahead = go (after ns (slots - (i + 1)) x) (ap walkOf (sym bag-ahead) ∙ ahead)
+    where
+      go :
+          (l : Option (List ℕ))
+          → walkOf (Option·map (_∷_ (wordIn ns x)) l) ≡ Bags (n - i)
+          → walkOf l ≡ Bags (n - (i + 1))
+      go nothing h = clash (cc)
+      go (some bags) h = let e : suc (length bags) ≡ n - i = cc in ap Bags (omega arith)
+
+  pub write-at-bag :
+      (out : List ℕ)
+      → i < length out
+      → written (i + 1) (after ns (slots - (i + 1)) x) (set out i (wordIn ns x))
+      ≡ written i (laneIn ns (slots - i) x) out
+  write-at-bag out h =
+      one-written i (wordIn ns x) (n - (i + 1)) (after ns (slots - (i + 1)) x) out fewer-ahead h
+      ∙ ap (λ (l : Option (List ℕ)). written i l out) (sym bag-ahead)
+
+-- ---- The nodes' words as the code takes them, of a table that has passed the tests of refusals 3 and 4.
+abbrev pub partOf : List ℕ → List ℕ
+partOf ws = take (8 + 3 * nodeCount ws - 8) (drop 8 ws)
+
+part-nodes : (ws : List ℕ) → partOf ws ≡ nodesOf ws
+part-nodes ws = let e : 8 + 3 * nodeCount ws - 8 ≡ 3 * nodeCount ws = omega arith in rw e
+
+module _ (ws : List ℕ) (P : Passed ws) where
+  pub part-walkable : Walkable (partOf ws)
+  part-walkable = rw (part-nodes ws) (walkable ws (well-sized ws (P .length-passes) .sized) (well-shaped ws (P .shape-passes)))
+
+  pub part-hat : HoldsNode (partOf ws) (hat ws left)
+  part-hat = rw (part-nodes ws) (hat-in ws (well-sized ws (P .length-passes) .sized) (well-shaped ws (P .shape-passes)))
+
+  module _ (from : ℕ) (first : from ≡ linkIn (partOf ws) right (hat ws left)) where
+    pub part-first : NodeOrNone (partOf ws) from
+    part-first = rw first (part-walkable .links (hat ws left) part-hat)
+
+    pub part-lane : laneIn (partOf ws) (nodeCount ws) from ≡ lane ws
+    part-lane = rw (first, part-nodes ws) (sym (lane-in ws (well-sized ws (P .length-passes) .sized)))
+
+-- ---- Refusals 3 and 4 by their number.
+module _ (ws : List ℕ) {n : ℕ} (is-number : n ≡ numberOf (tableRefusal ws nothing)) (out : List ℕ) where
+  pub read-refused : n ≢ 0 → readOf (Refused n) out ≡ read ws out
+  unfolding read
+  read-refused h = rw (refused ws is-number h nothing, read)
+
+  pub read-goes-on : n ≡ 0 → readInto (lane ws) out ≡ read ws out
+  unfolding read
+  read-goes-on e = let P = passed ws is-number e in rw (P .length-passes, P .shape-passes, read)
+
+-- ---- What the read answers, by what the walk does.
+module _ (out : List ℕ) where
+  pub read-no-end : (l : Option (List ℕ)) → walkOf l ≡ NoEnd → readOf (Refused 11) out ≡ readInto l out
+  unfolding readInto
+  read-no-end nothing h = refl
+  read-no-end (some bags) h = clash (cc)
+
+  pub read-short :
+      (l : Option (List ℕ)) (n : ℕ)
+      → walkOf l ≡ Bags n
+      → length out < n
+      → readOf (Refused 12) out ≡ readInto l out
+  unfolding readInto
+  read-short nothing n h s = clash (cc)
+  read-short (some bags) n h s =
+      let e : length bags ≡ n = cc in rw (lt-leb (length bags) (length out) (omega arith), readInto)
+
+  pub read-all :
+      (l : Option (List ℕ)) (n : ℕ)
+      → walkOf l ≡ Bags n
+      → n ≤ length out
+      → readOf (Count n) (laid l out) ≡ readInto l out
+  unfolding readInto
+  read-all nothing n h s = clash (cc)
+  read-all (some bags) n h s =
+      let e : n ≡ length bags = cc in rw (e, le-leb (length bags) (length out) (omega arith), readInto)

@@ -1,0 +1,278 @@
+-- A run pair by pair: the ticks made so far, and the run of the pairs ahead.
+use mathlib.Core.Path.{_≡_, refl, sym, ap, _∙_, subst}
+use mathlib.Core.Logic.{_≢_}
+use mathlib.Core.List.{List, [], _∷_, _++_, append-assoc}
+use mathlib.Core.Option.{Option, some, none as nothing}
+use Prim.Native.Nat.{ℕ, suc, _+_, _%_, _≤_, _<_}
+use native.Mathlib.Nat.{add-zero, zero-add}
+use native.Mathlib.Numerals.{add-one}
+use native.Mathlib.Omega.{arith}
+use lib.ListN.{length, getD, set, take, drop, take-append-drop, drop-of-length-le}
+use lib.Seq.{drop-cons, drop-drop, drop-set-lt}
+use borrow.Author.Tests.{eq-eqb, ne-eqb, le-leb, lt-leb}
+use Rattle.machine.specs.declared.Answer.{Answer}
+use Rattle.machine.specs.declared.Answer.the-variants.{Going, Pushed, Bag, Empty, Full, Yes, No, Refused}
+use Rattle.machine.specs.Sides.{Side}
+use Rattle.machine.specs.Table.{task, setTask}
+use Rattle.machine.specs.Lines.{Effect, writeAll}
+use Rattle.machine.specs.Answers.{kindOf, payloadOf, refusalOf}
+use Rattle.machine.specs.Calls.{
+  tableRefusal,
+  tickRefusal,
+  runRefusal,
+  effectOf,
+  counted,
+  Ticked,
+  applied,
+  tickOn,
+  RunDone,
+  stopped,
+  afterTick,
+  runOn,
+  run,
+}
+use Rattle.machine.proofs.Basics.Contradiction.{clash}
+use Rattle.machine.proofs.Shape.ShapeLaws.{well-sized, well-shaped, length-ok, shape-ok}
+use Rattle.machine.proofs.Shape.TickKeeps.{tick-kept}
+use Rattle.machine.proofs.Words.RunLaws.{by-first, first-tick}
+use Rattle.machine.specs.Results.{tickedOf, runDoneOf}
+use Rattle.shape.specs.Contracts.{numberOf, Passed}
+use Rattle.layout.proofs.Fronts.{front-grows}
+use Rattle.shape.proofs.PassedTable.{refused}
+
+-- ---- One tick.
+-- A tick leaves a table that passes the tests.
+pub tick-passed :
+    (ws : List ℕ) (k h : ℕ) (a : Answer) (vs : List ℕ)
+    → tickedOf a vs ≡ tickOn ws k h
+    → Passed ws
+    → Passed vs
+tick-passed ws k h a vs ticked P =
+    let K = tick-kept ws (well-sized ws (P .length-passes)) (well-shaped ws (P .shape-passes)) k h in
+    let us = tickOn ws k h .words in
+    subst Passed (sym (ap (λ (t : Ticked). t .words) ticked))
+    (record { length-passes = length-ok us (K .well-sized); shape-passes = shape-ok us (K .well-shaped) })
+
+-- Kind 7 is a refusal's, and its payload is the number.
+refused-kind : (a : Answer) → kindOf a ≡ 7 → refusalOf a ≡ some (payloadOf a)
+refused-kind Going e = clash (cc)
+refused-kind Pushed e = clash (cc)
+refused-kind (Bag b) e = clash (cc)
+refused-kind Empty e = clash (cc)
+refused-kind Full e = clash (cc)
+refused-kind Yes e = clash (cc)
+refused-kind No e = clash (cc)
+refused-kind (Refused n) e = refl
+
+made-kind : (a : Answer) → kindOf a ≢ 7 → refusalOf a ≡ nothing
+made-kind Going e = refl
+made-kind Pushed e = refl
+made-kind (Bag b) e = refl
+made-kind Empty e = refl
+made-kind Full e = refl
+made-kind Yes e = refl
+made-kind No e = refl
+made-kind (Refused n) e = absurd (e refl)
+
+-- A refused tick leaves the table as it was.
+refused-effect : (s : Side) (ws : List ℕ) (k n : ℕ) (e : Effect)
+    → refusalOf (applied s ws k e .answer) ≡ some n
+    → applied s ws k e .words ≡ ws
+unfolding applied
+refused-effect s ws k n e = go (refusalOf (e .answer)) refl
+  where
+    done : Option ℕ → Ticked
+    done (some m) = record { answer = e .answer; words = ws }
+    done nothing = record { answer = e .answer; words = counted (setTask k (e .task) (writeAll s (e .writes) ws)) }
+
+    go : (r : Option ℕ) → refusalOf (e .answer) ≡ r → refusalOf (done r .answer) ≡ some n → done r .words ≡ ws
+    go (some m) q p = refl
+    go nothing q p = clash (cc)
+
+refused-tick : (ws : List ℕ) (k h n : ℕ) → refusalOf (tickOn ws k h .answer) ≡ some n → tickOn ws k h .words ≡ ws
+unfolding tickOn
+refused-tick ws k h n = go (tickRefusal ws k h)
+  where
+    made : Ticked
+    made = applied (task ws k .side) ws k (effectOf ws k h)
+
+    go :
+        (r : Option ℕ)
+        → refusalOf (elim r as (λ _. Ticked) [
+          | some n ↦ record { answer = Refused n; words = ws }
+          | nothing ↦ made
+        ] .answer)
+        ≡ some n
+        → elim r as (λ _. Ticked) [
+          | some n ↦ record { answer = Refused n; words = ws }
+          | nothing ↦ made
+        ] .words
+        ≡ ws
+    go (some m) p = refl
+    go nothing p = refused-effect (task ws k .side) ws k n (effectOf ws k h) p
+
+-- ---- A run by its first tick.
+module _ (k h : ℕ) (list ws answers : List ℕ) where
+  module _ (a : Answer) (vs : List ℕ) (ticked : tickedOf a vs ≡ tickOn ws k h) where
+    answer-is : tickOn ws k h .answer ≡ a
+    answer-is = sym (ap (λ (t : Ticked). t .answer) ticked)
+
+    words-are : tickOn ws k h .words ≡ vs
+    words-are = sym (ap (λ (t : Ticked). t .words) ticked)
+
+    first-refused : kindOf a ≡ 7 → runOn (k ∷ h ∷ list) ws answers ≡ stopped (payloadOf a) vs answers
+    unfolding by-first
+    first-refused e =
+        let r : refusalOf (tickOn ws k h .answer) ≡ some (payloadOf a) = ap refusalOf answer-is ∙ refused-kind a e in
+        first-tick k h list ws answers (some (payloadOf a)) r
+        ∙ ap (λ (l : List ℕ). stopped (payloadOf a) l answers) (sym (refused-tick ws k h (payloadOf a) r) ∙ words-are)
+
+    first-made : kindOf a ≢ 7 → runOn (k ∷ h ∷ list) ws answers ≡ afterTick a (runOn list vs (drop 2 answers))
+    unfolding by-first
+    first-made e =
+        first-tick k h list ws answers nothing (ap refusalOf answer-is ∙ made-kind a e)
+        ∙ ap (λ (t : Ticked). afterTick (t .answer) (runOn list (t .words) (drop 2 answers))) (sym ticked)
+
+-- ---- The run of the pairs ahead, behind the ticks made.
+abbrev behind : (made : ℕ) (front : List ℕ) → RunDone → RunDone
+behind made front r =
+    record {
+      ran = record { made = made + r .ran .made; refusal = r .ran .refusal };
+      words = r .words;
+      answers = front ++ r .answers;
+    }
+
+abbrev pub ahead : (at made : ℕ) (list ws answers : List ℕ) → RunDone
+ahead at made list ws answers = behind made (take at answers) (runOn (drop at list) ws (drop at answers))
+
+pub run-begins : (list ws answers : List ℕ) → ahead 0 0 list ws answers ≡ runOn list ws answers
+run-begins list ws answers =
+    let r = runOn list ws answers in
+    ap (λ (m : ℕ). runDoneOf (record { made = m; refusal = r .ran .refusal }) (r .words) (r .answers))
+    (zero-add (r .ran .made))
+
+-- A run that stops here.
+stops-here :
+    (at made n : ℕ) (ws answers : List ℕ)
+    → behind made (take at answers) (stopped n ws (drop at answers))
+    ≡ runDoneOf (record { made = made; refusal = n }) ws answers
+stops-here at made n ws answers =
+    ap (λ (m : ℕ). runDoneOf (record { made = m; refusal = n }) ws (take at answers ++ drop at answers)) (add-zero made)
+    ∙ ap (runDoneOf (record { made = made; refusal = n }) ws) (take-append-drop at answers)
+
+pub run-ends :
+    (at made : ℕ) (list ws answers : List ℕ)
+    → length list ≤ at
+    → runDoneOf (record { made = made; refusal = 0 }) ws answers ≡ ahead at made list ws answers
+unfolding runOn
+run-ends at made list ws answers e =
+    sym
+    (ap (λ (l : List ℕ). behind made (take at answers) (runOn l ws (drop at answers)))
+    (drop-of-length-le list {i = at} e)
+    ∙ stops-here at made 0 ws answers)
+
+-- Two words written lie in front, and those after them are as before.
+module _ (answers : List ℕ) (at x y : ℕ) (room : at + 2 ≤ length answers) where
+  two-in-front : take (at + 2) (set (set answers at x) (at + 1) y) ≡ take at answers ++ (x ∷ y ∷ [])
+  two-in-front = rw (add-one at) (front-grows answers (x ∷ y ∷ []) at room)
+
+  rest-behind : drop (at + 2) (set (set answers at x) (at + 1) y) ≡ drop (at + 2) answers
+  rest-behind =
+      drop-set-lt (at + 2) (set answers at x) (at + 1) y (omega arith) ∙ drop-set-lt (at + 2) answers at x (omega arith)
+
+-- One tick more made is one less ahead.
+one-more :
+    (made : ℕ) (front : List ℕ) (a : Answer) (r : RunDone)
+    → behind (made + 1) (front ++ (kindOf a ∷ payloadOf a ∷ [])) r ≡ behind made front (afterTick a r)
+one-more made front a r =
+    let l = front ++ (kindOf a ∷ payloadOf a ∷ r .answers) in
+    let more : made + 1 + r .ran .made ≡ made + suc (r .ran .made) = omega arith in
+    ap (runDoneOf (record { made = made + 1 + r .ran .made; refusal = r .ran .refusal }) (r .words))
+    (append-assoc front (kindOf a ∷ payloadOf a ∷ []) (r .answers))
+    ∙ ap (λ (m : ℕ). runDoneOf (record { made = m; refusal = r .ran .refusal }) (r .words) l) more
+
+-- The tick of the pair at a place.
+module _ (at made : ℕ) (list ws answers : List ℕ) (more : at + 1 < length list) (a : Answer) (vs : List ℕ)
+    (ticked : tickedOf a vs ≡ tickOn ws (getD list at 0) (getD list (at + 1) 0)) where
+  pair-ahead : drop at list ≡ getD list at 0 ∷ getD list (at + 1) 0 ∷ drop (at + 2) list
+  pair-ahead =
+      drop-cons list at 0 (omega arith)
+      ∙ ap (λ (j : ℕ). getD list at 0 ∷ drop j list) (sym (add-one at))
+      ∙ ap (_∷_ (getD list at 0)) (drop-cons list (at + 1) 0 more)
+      ∙ ap (λ (j : ℕ). getD list at 0 ∷ getD list (at + 1) 0 ∷ drop j list) two
+    where
+      two : suc (at + 1) ≡ at + 2
+      two = omega arith
+
+  pub run-refused :
+      kindOf a ≡ 7
+      → runDoneOf (record { made = made; refusal = payloadOf a }) vs answers ≡ ahead at made list ws answers
+  run-refused e =
+      sym
+      (ap (λ (l : List ℕ). behind made (take at answers) (runOn l ws (drop at answers))) pair-ahead
+      ∙ ap (behind made (take at answers))
+      (first-refused (getD list at 0) (getD list (at + 1) 0) (drop (at + 2) list) ws (drop at answers) a vs ticked e)
+      ∙ stops-here at made (payloadOf a) vs answers)
+
+  pub run-made :
+      kindOf a ≢ 7
+      → at + 2 ≤ length answers
+      → ahead (at + 2) (made + 1) list vs (set (set answers at (kindOf a)) (at + 1) (payloadOf a))
+      ≡ ahead at made list ws answers
+  run-made e room =
+      let w = set (set answers at (kindOf a)) (at + 1) (payloadOf a) in
+      let left = drop (at + 2) list in
+      let two = kindOf a ∷ payloadOf a ∷ [] in
+      ap (λ (f : List ℕ). behind (made + 1) f (runOn left vs (drop (at + 2) w)))
+      (two-in-front answers at (kindOf a) (payloadOf a) room)
+      ∙ ap (λ (b : List ℕ). behind (made + 1) (take at answers ++ two) (runOn left vs b))
+      (rest-behind answers at (kindOf a) (payloadOf a) room ∙ sym (drop-drop 2 at answers))
+      ∙ one-more made (take at answers) a (runOn left vs (drop 2 (drop at answers)))
+      ∙ sym
+      (ap (λ (l : List ℕ). behind made (take at answers) (runOn l ws (drop at answers))) pair-ahead
+      ∙ ap (behind made (take at answers))
+      (first-made (getD list at 0) (getD list (at + 1) 0) left ws (drop at answers) a vs ticked e))
+
+-- ---- The tests of a run, in 01's order.
+module _ (ws list answers : List ℕ) where
+  stopped-by : (n : ℕ) → runRefusal ws list answers ≡ some n → stopped n ws answers ≡ run ws list answers
+  unfolding run
+  stopped-by n e = rw (e, run)
+
+  pub run-3-4 :
+      {n : ℕ} → n ≡ numberOf (tableRefusal ws nothing) → n ≢ 0 → stopped n ws answers ≡ run ws list answers
+  run-3-4 {n} is-number h = stopped-by n (refused ws is-number h _)
+
+  module _ (P : Passed ws) where
+    pub run-13-odd : length list % 2 ≢ 0 → stopped 13 ws answers ≡ run ws list answers
+    run-13-odd odd = stopped-by 13 (rw (P .length-passes, P .shape-passes, ne-eqb (length list % 2) 0 odd))
+
+    module _ (even : length list % 2 ≡ 0) where
+      pub run-13-long : 8192 < length list → stopped 13 ws answers ≡ run ws list answers
+      run-13-long long =
+          stopped-by 13
+          (rw (P .length-passes, P .shape-passes, eq-eqb (length list % 2) 0 even, lt-leb (length list) 8192 long))
+
+      module _ (fits : length list ≤ 8192) where
+        pub run-14 : length answers < length list → stopped 14 ws answers ≡ run ws list answers
+        run-14 short =
+            stopped-by 14
+            (rw (
+              P .length-passes,
+              P .shape-passes,
+              eq-eqb (length list % 2) 0 even,
+              le-leb (length list) 8192 fits,
+              lt-leb (length list) (length answers) short,
+            ))
+
+        pub run-passes : length list ≤ length answers → runOn list ws answers ≡ run ws list answers
+        unfolding run
+        run-passes room =
+            rw (
+              P .length-passes,
+              P .shape-passes,
+              eq-eqb (length list % 2) 0 even,
+              le-leb (length list) 8192 fits,
+              le-leb (length list) (length answers) room,
+              run,
+            )

@@ -1,0 +1,174 @@
+-- `running::run_on` meets its contract: the ticks made and the run of the pairs ahead are the run of the list.
+use mathlib.Core.Path.{_≡_, refl, sym, _∙_}
+use Prim.Native.Nat.{_+_, _-_, _*_, _<_, _≤_}
+use native.Mathlib.Omega.{arith}
+use lib.ListN.{length, length-set}
+use borrow.Author.Needs.{needs}
+use Rattle.machine.specs.Calls.{runOn}
+use Rattle.shape.specs.Contracts.{Passed}
+use Rattle.running.proofs.RunWords.{ahead, tick-passed, run-begins, run-ends, run-refused, run-made}
+use Rattle.running.proofs.run_on.Statement.{statement}
+use Rattle.running.proofs.run_on.Tie as tie
+
+abbrev Inv-loop : tie.InvT-loop
+Inv-loop t₀ list answers₀ at₀ made₀ t answers at made =
+    (at ≡ 2 * made)
+    × (length t ≡ length t₀)
+    × (length answers ≡ length answers₀)
+    × Passed t
+    × (ahead at made list t answers ≡ runOn list t₀ answers₀)
+
+abbrev μ-loop : tie.MeasureT-loop
+μ-loop t₀ list answers₀ at₀ made₀ t answers at made = length list - at
+
+-- A pair is ahead.
+pair-here :
+    (c : tie.In-loop Inv-loop μ-loop)
+    → c .before .loop .at + 1 < length (c .before .before .before .before .before .args .list .now)
+pair-here c =
+    let s = c .before .before .before .before .before in
+    let l = c .before .loop in
+    omega (arith, s .pre .0 .1, l .inv .0)
+
+-- The answer slice has room for its two words.
+room-here :
+    (c : tie.In-loop Inv-loop μ-loop)
+    → c .before .loop .at + 2 ≤ length (c .before .loop .answers)
+room-here c =
+    let s = c .before .before .before .before .before in
+    omega (arith, pair-here c, s .pre .1, c .before .loop .inv .2)
+
+loop-holds : tie.Need-loop-holds Inv-loop μ-loop
+loop-holds c =
+    let s = c .before .before .before in
+    let a = s .args in
+    (omega arith, refl, refl, s .pre .0 .0, run-begins (a .list .now) (a .t .now) (a .answers .now))
+
+mul-tick-on : tie.Need-mul-tick-on Inv-loop μ-loop
+mul-tick-on c = search needs
+
+shared-slice-read-tick-on : tie.Need-shared-slice-read-tick-on Inv-loop μ-loop
+shared-slice-read-tick-on c = search needs
+
+add-tick-on : tie.Need-add-tick-on Inv-loop μ-loop
+add-tick-on c = search needs
+
+mul-tick-on-2 : tie.Need-mul-tick-on-2 Inv-loop μ-loop
+mul-tick-on-2 c = search needs
+
+shared-slice-read-tick-on-2 : tie.Need-shared-slice-read-tick-on-2 Inv-loop μ-loop
+shared-slice-read-tick-on-2 c = search needs
+
+tick-on-requires : tie.Need-tick-on-requires Inv-loop μ-loop
+tick-on-requires c κs = c .before .before .before .before .loop .inv .3
+
+kind-requires : tie.Need-kind-requires Inv-loop μ-loop
+kind-requires c κs = search needs
+
+payload-requires : tie.Need-payload-requires Inv-loop μ-loop
+payload-requires c κs = search needs
+
+same-length : tie.Need-same-length Inv-loop μ-loop
+same-length c =
+    let ticked = c .before .before .before .before .before in
+    ticked .tick-on .kept .0 ∙ ticked .before .before .before .before .before .loop .inv .1
+
+same-length-2 : tie.Need-same-length-2 Inv-loop μ-loop
+same-length-2 c = c .before .before .before .before .before .before .before .before .before .before .loop .inv .2
+
+returns : tie.Need-returns Inv-loop μ-loop
+returns c =
+    let tick = c .before .before .before .before .before .tick-on in
+    let turn = c .before .before .before .before .before .before .before .before .before in
+    let l = turn .before .loop in
+    let list = turn .before .before .before .before .before .args .list .now in
+    rw (c .before .payload .ensures)
+    (run-refused (l .at) (l .made) list (l .t) (l .answers) (pair-here turn) (tick .result) (tick .last .0)
+    (tick .ensures) (sym (c .before .before .kind .ensures) ∙ c .if1 .taken)
+    ∙ l .inv .4)
+
+mul-answers : tie.Need-mul-answers Inv-loop μ-loop
+mul-answers c = search needs
+
+slice-write-answers : tie.Need-slice-write-answers Inv-loop μ-loop
+slice-write-answers c = search needs
+
+add-answers : tie.Need-add-answers Inv-loop μ-loop
+add-answers c = search needs
+
+mul-answers-2 : tie.Need-mul-answers-2 Inv-loop μ-loop
+mul-answers-2 c = search needs
+
+slice-write-answers-2 : tie.Need-slice-write-answers-2 Inv-loop μ-loop
+slice-write-answers-2 c =
+    let turn = c .before .before .before .before .before .before .before .before .before in
+    simp length-set (omega (arith, room-here turn))
+
+add-at : tie.Need-add-at Inv-loop μ-loop
+add-at c = search needs
+
+add-made : tie.Need-add-made Inv-loop μ-loop
+add-made c = search needs
+
+loop-less : tie.Need-loop-less Inv-loop μ-loop
+loop-less c = search needs
+
+loop-again : tie.Need-loop-again Inv-loop μ-loop
+loop-again c =
+    let tick = c .before .before .before .before .before .tick-on in
+    let turn = c .before .before .before .before .before .before .before .before .before in
+    let l = turn .before .loop in
+    let list = turn .before .before .before .before .before .args .list .now in
+    let k = c .before .before .kind .ensures in (
+      omega (arith, l .inv .0),
+      tick .kept .0 ∙ l .inv .1,
+      simp length-set (l .inv .2),
+      tick-passed (l .t) _ _ (tick .result) (tick .last .0) (tick .ensures) (l .inv .3),
+      rw (k, c .before .payload .ensures)
+          (run-made (l .at) (l .made) list (l .t) (l .answers) (pair-here turn) (tick .result) (tick .last .0)
+          (tick .ensures) (λ e. c .if1 .left (k ∙ e)) (room-here turn)
+          ∙ l .inv .4),
+    )
+
+same-length-3 : tie.Need-same-length-3 Inv-loop μ-loop
+same-length-3 c = c .before .loop .inv .1
+
+same-length-4 : tie.Need-same-length-4 Inv-loop μ-loop
+same-length-4 c = c .before .loop .inv .2
+
+returns-2 : tie.Need-returns-2 Inv-loop μ-loop
+returns-2 c =
+    let l = c .before .loop in
+    let list = c .before .before .before .before .before .args .list .now in
+    run-ends (l .at) (l .made) list (l .t) (l .answers) (omega arith) ∙ l .inv .4
+
+pub run-on-spec : {M : Type 1} → statement M
+run-on-spec =
+    tie.close
+    (tie.spec
+    Inv-loop
+    μ-loop
+    loop-holds
+    mul-tick-on
+    shared-slice-read-tick-on
+    add-tick-on
+    mul-tick-on-2
+    shared-slice-read-tick-on-2
+    tick-on-requires
+    kind-requires
+    payload-requires
+    same-length
+    same-length-2
+    returns
+    mul-answers
+    slice-write-answers
+    add-answers
+    mul-answers-2
+    slice-write-answers-2
+    add-at
+    add-made
+    loop-less
+    loop-again
+    same-length-3
+    same-length-4
+    returns-2)

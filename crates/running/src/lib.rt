@@ -1,0 +1,107 @@
+// The call run: any slices. A refusal changes no lent word, but for the ticks made before it.
+use machine::Answer;
+use machine::Ran;
+use shape::table_refusal;
+use ticking::passed::tick_on;
+ghost use mathlib.Core.Path.{_≡_};
+ghost use Prim.Native.Nat.{_≤_, _%_};
+ghost use lib.ListN.{length};
+ghost use Rattle.machine.specs.Answers.{kindOf, payloadOf};
+ghost use Rattle.machine.specs.Calls.{runOn, run};
+ghost use Rattle.shape.specs.Contracts.{Passed};
+ghost use Rattle.machine.specs.Results.{runDoneOf};
+
+// The kind of a refusal, which a run does not write.
+const REFUSED: u32 = 7;
+
+// 01: 0 going, 1 pushed, 2 bag, 3 empty, 4 full, 5 yes, 6 no.
+pub fn kind(a: Answer) -> u32
+    ensures { λ r. ⌜ r ≡ kindOf a ⌝ }
+{
+    match a {
+        Answer::Going => 0,
+        Answer::Pushed => 1,
+        Answer::Bag(_) => 2,
+        Answer::Empty => 3,
+        Answer::Full => 4,
+        Answer::Yes => 5,
+        Answer::No => 6,
+        Answer::Refused(_) => REFUSED,
+    }
+}
+
+// 01: then the bag or 0. Of a refusal: its number.
+pub fn payload(a: Answer) -> u32
+    ensures { λ r. ⌜ r ≡ payloadOf a ⌝ }
+{
+    match a {
+        Answer::Going => 0,
+        Answer::Pushed => 0,
+        Answer::Bag(b) => b,
+        Answer::Empty => 0,
+        Answer::Full => 0,
+        Answer::Yes => 0,
+        Answer::No => 0,
+        Answer::Refused(n) => n,
+    }
+}
+
+// The run of a table and a list that have passed the tests of 3, 4, 13 and 14.
+// 01: stops at the first refused tick; per tick made writes two words.
+fn run_on(t: &mut [u32], list: &[u32], answers: &mut [u32]) -> Ran
+    requires { ⌜ Passed (now t) × (length (now list) % 2 ≡ 0) × (length (now list) ≤ 8192) ⌝ }
+    requires { ⌜ length (now list) ≤ length (now answers) ⌝ }
+    ensures { λ r. ⌜ runDoneOf r (now (t .exit)) (now (answers .exit))
+        ≡ runOn (now (list .entry)) (now (t .entry)) (now (answers .entry)) ⌝ }
+{
+    let mut at = 0;
+    let mut made = 0;
+    while at < list.len() {
+        let answer = tick_on(t, list[at], list[at + 1]);
+        let first = kind(answer);
+        let second = payload(answer);
+        if first == REFUSED {
+            return Ran {
+                made,
+                refusal: second,
+            };
+        }
+        answers[at] = first;
+        answers[at + 1] = second;
+        at += 2;
+        made += 1;
+    }
+    Ran { made, refusal: 0 }
+}
+
+// 01: refusals 3, 4, 13 and 14, then the ticks of a list of (task, hint) pairs up to the first refused one.
+pub fn run(t: &mut [u32], list: &[u32], answers: &mut [u32]) -> Ran
+    ensures { λ r. ⌜ runDoneOf r (now (t .exit)) (now (answers .exit))
+        ≡ run (now (t .entry)) (now (list .entry)) (now (answers .entry)) ⌝ }
+{
+    let refusal = table_refusal(t);
+    if refusal != 0 {
+        return Ran { made: 0, refusal };
+    }
+    // 01: list of odd length or over 8,192 words.
+    if list.len() % 2 != 0 {
+        return Ran {
+            made: 0,
+            refusal: 13,
+        };
+    }
+    if 8_192 < list.len() {
+        return Ran {
+            made: 0,
+            refusal: 13,
+        };
+    }
+    // 01: answer slice under 2 words a tick.
+    if answers.len() < list.len() {
+        return Ran {
+            made: 0,
+            refusal: 14,
+        };
+    }
+    run_on(t, list, answers)
+}

@@ -1,0 +1,76 @@
+-- Refusals 3 and 4 by their number, which every call but start begins with; and what a table that passes gives the code.
+use mathlib.Core.Path.{_≡_, refl, sym, ap, _∙_}
+use mathlib.Core.Bool.{Bool, true, false}
+use mathlib.Core.Logic.{_≢_}
+use mathlib.Core.List.{List}
+use mathlib.Core.Option.{Option, some, none as nothing}
+use Prim.Native.Nat.{ℕ, _+_, _≤_, _<_}
+use native.Mathlib.Omega.{arith}
+use lib.ListN.{length, getD}
+use Rattle.machine.specs.Choice.{_≟_, _<?_}
+use Rattle.machine.specs.Operations.{operationOf}
+use Rattle.machine.specs.Tasks.{Task, taskOf}
+use Rattle.machine.specs.Table.{nodeCount, taskCount, recordAt, recordWords, task}
+use Rattle.machine.specs.Shape.{lengthOk, shapeOk}
+use Rattle.machine.specs.Calls.{unless, tableRefusal, isBusy}
+use Rattle.machine.proofs.Basics.Choices.{if-yes, by-if}
+use Rattle.machine.proofs.Words.Columns.{columns}
+use Rattle.machine.proofs.Shape.ShapeLaws.{WellSized, well-sized}
+use Rattle.shape.specs.Contracts.{numberOf, Passed}
+
+-- The first two tests decide alone where one of them fails, and leave the rest to the others where both pass.
+decided :
+    (a b : Bool) (others : Option ℕ)
+    → numberOf (unless a 3 (unless b 4 nothing)) ≢ 0
+    → unless a 3 (unless b 4 others) ≡ some (numberOf (unless a 3 (unless b 4 nothing)))
+decided true true others n = absurd (n refl)
+decided true false others n = refl
+decided false b others n = refl
+
+both-pass : (a b : Bool) → numberOf (unless a 3 (unless b 4 nothing)) ≡ 0 → (a ≡ true) × (b ≡ true)
+both-pass true true e = (refl, refl)
+both-pass true false e = absurd (omega (arith, e))
+both-pass false b e = absurd (omega (arith, e))
+
+module _ (ws : List ℕ) {n : ℕ} (is-number : n ≡ numberOf (tableRefusal ws nothing)) where
+  pub refused : n ≢ 0 → (others : Option ℕ) → tableRefusal ws others ≡ some n
+  refused h others =
+      decided (lengthOk ws) (shapeOk ws) others (λ e. h (is-number ∙ e)) ∙ ap some (sym is-number)
+
+  pub passed : n ≡ 0 → Passed ws
+  passed e =
+      let both = both-pass (lengthOk ws) (shapeOk ws) (sym is-number ∙ e) in
+      record { length-passes = both .0; shape-passes = both .1 }
+
+busy-number : (n : ℕ) → n ≢ 0 → isBusy (operationOf n) ≡ true
+busy-number n h =
+    by-if (λ op. isBusy op ≡ true) (n ≟ 0) (λ e. absurd (h e)) (λ _.
+    by-if (λ op. isBusy op ≡ true) (n ≟ 1) (λ _. refl) (λ _.
+    by-if (λ op. isBusy op ≡ true) (n ≟ 2) (λ _. refl) (λ _.
+    by-if (λ op. isBusy op ≡ true) (n ≟ 3) (λ _. refl) (λ _. refl))))
+
+-- ---- Its sizes, and a task's record.
+module _ (ws : List ℕ) (P : Passed ws) where
+  Z : WellSized (columns ws)
+  Z = well-sized ws (P .length-passes)
+
+  pub header-long : 24 ≤ length ws
+  header-long = let z = Z .sized in let a = Z .two-nodes in let b = Z .one-task in omega arith
+
+  pub few-nodes : nodeCount ws ≤ 1024
+  few-nodes = Z .most-nodes
+
+  pub few-tasks : taskCount ws ≤ 16
+  few-tasks = Z .most-tasks
+
+  module _ (k : ℕ) (is-task : k < taskCount ws) where
+    pub record-long : recordAt (nodeCount ws) k + 10 ≤ length ws
+    record-long = let z = Z .sized in omega arith
+
+    pub operation-is : task ws k .operation ≡ operationOf (getD ws (recordAt (nodeCount ws) k) 0)
+    unfolding task
+    operation-is =
+        ap (λ (t : Task). t .operation) (if-yes (k <? taskCount ws) (taskOf (recordWords ws k)) _ is-task)
+
+    pub busy-task : getD ws (recordAt (nodeCount ws) k) 0 ≢ 0 → isBusy (task ws k .operation) ≡ true
+    busy-task n = ap isBusy operation-is ∙ busy-number (getD ws (recordAt (nodeCount ws) k) 0) n

@@ -1,0 +1,20 @@
+// The call tick: any slice, any numbers. A refusal changes no lent word.
+pub mod passed;
+
+use machine::Answer;
+use passed::tick_on;
+use shape::table_refusal;
+ghost use mathlib.Core.Path.{_≡_};
+ghost use Rattle.machine.specs.Results.{tickedOf};
+ghost use Rattle.machine.specs.Calls.{tick};
+
+// 01: refusals 3, 4, 5, 9, 10 and 11, then one tick of one task.
+pub fn tick(t: &mut [u32], task: u32, hint: u32) -> Answer
+    ensures { λ r. ⌜ tickedOf r (now (t .exit)) ≡ tick (now (t .entry)) task hint ⌝ }
+{
+    let n = table_refusal(t);
+    if n != 0 {
+        return Answer::Refused(n);
+    }
+    tick_on(t, task, hint)
+}
