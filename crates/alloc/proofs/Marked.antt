@@ -1,12 +1,14 @@
 -- What calls mark one after another is what the definitions mark: two numbers, the roots, both links of a node.
 use mathlib.Core.Path.{_≡_, refl, sym, ap, _∙_}
+use mathlib.Core.Bool.{Bool, cond}
 use mathlib.Core.List.{List, [], _∷_, _++_}
 use Prim.Native.Nat.{ℕ, suc, _+_, _-_, _<_, _≤_}
 use native.Mathlib.Omega.{arith}
 use native.Mathlib.Numerals.{add-one}
 use lib.ListN.{getD}
+use borrow.Author.Tests.{le-ltb}
 use Rattle.machine.specs.Sides.{left, right, sideOf}
-use Rattle.machine.specs.Tasks.{Task, inA, inB, inC, inD}
+use Rattle.machine.specs.Tasks.{Task, none, inA, inB, inC, inD}
 use Rattle.machine.specs.Registers.{heldIn}
 use Rattle.machine.specs.Table.{nodeCount, taskCount, task, recordAt}
 use Rattle.machine.specs.Allocate.{heldBy, heldFrom, roots, Marking, mark, markAll, visit}
@@ -40,12 +42,25 @@ pub roots-marked : (ws : List ℕ) (m v u : Marking) → v ≡ markAll (nodeCoun
 unfolding roots
 roots-marked ws m v u e f = lists-marked (nodeCount ws) m v u (hats ws) (heldFrom ws (taskCount ws) 0) e f
 
--- ---- What a task's registers hold, two after two.
-pub registers-marked : (S : ℕ) (m v u : Marking) (t : Task) (a b c d : ℕ) → a ≡ heldIn t inA → b ≡ heldIn t inB
-    → c ≡ heldIn t inC → d ≡ heldIn t inD → v ≡ markAll S m (a ∷ b ∷ []) → u ≡ markAll S v (c ∷ d ∷ [])
-    → u ≡ markAll S m (heldBy t)
-registers-marked S m v u t a b c d isA isB isC isD e f =
-    rw (← isA, ← isB, ← isC, ← isD) (lists-marked S m v u (a ∷ b ∷ []) (c ∷ d ∷ []) e f)
+-- ---- What a task's registers hold, one after another.
+pub registers-marked : (S : ℕ) (m₀ m₁ m₂ m₃ m₄ : Marking) (t : Task) → m₁ ≡ mark S m₀ (heldIn t inA)
+    → m₂ ≡ mark S m₁ (heldIn t inB) → m₃ ≡ mark S m₂ (heldIn t inC) → m₄ ≡ mark S m₃ (heldIn t inD)
+    → m₄ ≡ markAll S m₀ (heldBy t)
+unfolding markAll
+registers-marked S m₀ m₁ m₂ m₃ m₄ t a b c d = rw (d, c, b, a)
+
+pub found-marked : (S : ℕ) (m v : Marking) (x : ℕ) {b b′ : Bool} → b ≡ b′ → v ≡ mark S m (cond b x none)
+    → v ≡ mark S m (cond b′ x none)
+found-marked S m v x h e = e ∙ ap (λ (b : Bool). mark S m (cond b x none)) h
+
+-- None is no node.
+pub none-unmarked : (S : ℕ) (m : Marking) → Room S m → m ≡ mark S m none
+unfolding mark
+none-unmarked S m r = let f = r .few in rw (le-ltb none S (omega arith))
+
+pub room-of-one : (S : ℕ) (m v : Marking) (x : ℕ) → v ≡ mark S m x → Room S m → Room S v
+unfolding markAll
+room-of-one S m v x e r = room-of-list S m v (x ∷ []) e r
 
 -- ---- One turn of the loop over the tasks, with k of them passed: what the record read holds is marked.
 module _ (ws : List ℕ) (k : ℕ) (m : Marking) where

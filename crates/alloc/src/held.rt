@@ -1,26 +1,23 @@
 // Which registers hold their nodes at which step.
-use layout::tasks::Task;
 ghost use mathlib.Core.Path.{_≡_};
-ghost use mathlib.Core.Bool.{cond};
-ghost use Prim.Native.Nat.{_<_};
 ghost use Rattle.machine.specs.Steps.{stepOf};
-ghost use Rattle.machine.specs.Tasks.{none, Register};
+ghost use Rattle.machine.specs.Tasks.{Register};
 ghost use Rattle.machine.specs.Registers.{holds};
-ghost use Rattle.alloc.specs.Bits.{bitOf};
+ghost use Rattle.alloc.specs.Bits.{isIn, Exact};
 
 // The bit of each register in an entry of the table.
-const NOTHING: u32 = 0;
+const NOTHING: u8 = 0;
 
-pub const A: u32 = 1;
+pub const A: u8 = 1;
 
-pub const B: u32 = 2;
+pub const B: u8 = 2;
 
-pub const C: u32 = 4;
+pub const C: u8 = 4;
 
-pub const D: u32 = 8;
+pub const D: u8 = 8;
 
 // By the step's number: the bits of the registers that hold there.
-const HELD: [u32; 83] = [
+pub const HELD: [u8; 83] = [
     NOTHING,
     NOTHING,
     D, // 2
@@ -106,17 +103,14 @@ const HELD: [u32; 83] = [
     A, // 82
 ];
 
-// The node x of a register, given by its bit, where it holds at the step, or none.
-pub fn held(step: u32, bit: u32, x: u32) -> u32
-    requires { ⌜ 0 < bit ⌝ }
-    ensures { λ n. ⌜ ((r : Register) → bit ≡ bitOf r → n ≡ cond (holds (stepOf step) r) x none) ⌝ }
+// The bits of the registers that hold at a step; no step is past the table's end.
+pub fn entry(table: &[u8; 83], step: u32) -> u8
+    requires { ⌜ Exact (now table) ⌝ }
+    ensures { λ e. ⌜ ((r : Register) → isIn e r ≡ holds (stepOf step) r) ⌝ }
 {
     let i = step as usize;
-    if i >= HELD.len() {
-        return Task::NONE;
+    if i >= table.len() {
+        return NOTHING;
     }
-    if HELD[i] / bit % 2 == 0 {
-        return Task::NONE;
-    }
-    x
+    table[i]
 }

@@ -7,7 +7,8 @@ use crate::held::A;
 use crate::held::B;
 use crate::held::C;
 use crate::held::D;
-use crate::held::held;
+use crate::held::HELD;
+use crate::held::entry;
 use layout::nodes::link;
 use layout::places::HEADER;
 use layout::places::LEFT_HAT;
@@ -18,8 +19,11 @@ use layout::places::RIGHT_HAT;
 use layout::places::TASK_COUNT;
 use layout::tasks::Task;
 ghost use mathlib.Core.Path.{_≡_};
+ghost use mathlib.Core.Bool.{cond, not};
 ghost use mathlib.Core.List.{[], _∷_};
 ghost use Prim.Native.Nat.{_<_, _≤_};
+ghost use lib.Dec.{eqb};
+ghost use Rattle.machine.specs.Tasks.{none};
 ghost use Rattle.machine.specs.Table.{nodeCount, taskCount};
 ghost use Rattle.machine.specs.Allocate.{
   heldBy,
@@ -35,6 +39,7 @@ ghost use Rattle.machine.specs.Allocate.{
 };
 ghost use Rattle.machine.proofs.SlotRule.Marking.{Room};
 ghost use Rattle.layout.specs.Coded.{taskMeant};
+ghost use Rattle.alloc.specs.Bits.{Exact};
 ghost use Rattle.alloc.specs.Tables.{Sized, markingOf, hats};
 
 // Marks x and puts it at the end of the queue, unless it is no node or has a mark. Answers where the queue now ends,
@@ -85,25 +90,43 @@ fn mark_hats(t: &[u32], marks: &mut [u8; 1024], queue: &mut [u32; 1024], tail: u
     mark_both(marks, queue, tail, n, l, r)
 }
 
+// Marks the node x of a register if its bit was found to be 1.
+fn mark_found(
+    marks: &mut [u8; 1024],
+    queue: &mut [u32; 1024],
+    tail: usize,
+    n: usize,
+    found: u8,
+    x: u32,
+) -> usize
+    requires { ⌜ Room n (markingOf (now marks) (now queue) tail) ⌝ }
+    ensures { λ r. ⌜ markingOf (now (marks .exit)) (now (queue .exit)) r
+        ≡ mark n (markingOf (now (marks .entry)) (now (queue .entry)) tail) (cond (not (eqb found 0)) x none) ⌝ }
+{
+    if found == 0 {
+        return tail;
+    }
+    mark(marks, queue, tail, n, x)
+}
+
 // Marks what a task holds: the nodes of the registers that hold at its step.
 fn mark_held(
     marks: &mut [u8; 1024],
     queue: &mut [u32; 1024],
     tail: usize,
     n: usize,
+    table: &[u8; 83],
     task: Task,
 ) -> usize
-    requires { ⌜ Room n (markingOf (now marks) (now queue) tail) ⌝ }
+    requires { ⌜ Exact (now table) × Room n (markingOf (now marks) (now queue) tail) ⌝ }
     ensures { λ r. ⌜ markingOf (now (marks .exit)) (now (queue .exit)) r
         ≡ markAll n (markingOf (now (marks .entry)) (now (queue .entry)) tail) (heldBy (taskMeant task)) ⌝ }
 {
-    let step = task.step;
-    let a = held(step, A, task.registers[Task::A]);
-    let b = held(step, B, task.registers[Task::B]);
-    let c = held(step, C, task.registers[Task::C]);
-    let d = held(step, D, task.registers[Task::D]);
-    let next = mark_both(marks, queue, tail, n, a, b);
-    mark_both(marks, queue, next, n, c, d)
+    let e = entry(table, task.step);
+    let after_a = mark_found(marks, queue, tail, n, e / A % 2, task.registers[Task::A]);
+    let after_b = mark_found(marks, queue, after_a, n, e / B % 2, task.registers[Task::B]);
+    let after_c = mark_found(marks, queue, after_b, n, e / C % 2, task.registers[Task::C]);
+    mark_found(marks, queue, after_c, n, e / D % 2, task.registers[Task::D])
 }
 
 // Marks what each task holds.
@@ -115,10 +138,12 @@ fn mark_tasks(t: &[u32], marks: &mut [u8; 1024], queue: &mut [u32; 1024], mut ta
 {
     let n = t[NODE_COUNT] as usize;
     let count = t[TASK_COUNT] as usize;
+    // Once here, and not at each task.
+    let table = HELD;
     let mut k = 0;
     while k < count {
         let task = Task::read(t, HEADER + NODE_WORDS * n + RECORD_WORDS * k);
-        tail = mark_held(marks, queue, tail, n, task);
+        tail = mark_held(marks, queue, tail, n, &table, task);
         k += 1;
     }
     tail

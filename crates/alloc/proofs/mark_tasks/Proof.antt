@@ -7,20 +7,21 @@ use Rattle.machine.specs.Table.{nodeCount}
 use Rattle.machine.specs.Allocate.{heldFrom, markAll}
 use Rattle.machine.proofs.SlotRule.Marking.{Room}
 use Rattle.alloc.specs.Tables.{markingOf}
+use Rattle.alloc.proofs.HeldTable.{exact}
 use Rattle.alloc.proofs.Marked.{held-marked, held-kept, held-end, room-of-list}
 use borrow.Author.Needs.{needs}
 use Rattle.alloc.proofs.mark_tasks.Statement.{statement}
 use Rattle.alloc.proofs.mark_tasks.Tie as tie
 
 abbrev Inv-loop : tie.InvT-loop
-Inv-loop t marks₀ queue₀ tail₀ n count k₀ marks queue tail k =
+Inv-loop t marks₀ queue₀ tail₀ n count table k₀ marks queue tail k =
     (k ≤ count)
     × Room n (markingOf marks queue tail)
     × (markAll n (markingOf marks queue tail) (heldFrom t (count - k) k)
     ≡ markAll n (markingOf marks₀ queue₀ tail₀) (heldFrom t count 0))
 
 abbrev μ-loop : tie.MeasureT-loop
-μ-loop t marks₀ queue₀ tail₀ n count k₀ marks queue tail k = count - k
+μ-loop t marks₀ queue₀ tail₀ n count table k₀ marks queue tail k = count - k
 
 shared-slice-read-n : tie.Need-shared-slice-read-n Inv-loop μ-loop
 shared-slice-read-n c = search needs
@@ -53,7 +54,7 @@ read-requires : tie.Need-read-requires Inv-loop μ-loop
 read-requires c κs = search needs
 
 mark-held-requires : tie.Need-mark-held-requires Inv-loop μ-loop
-mark-held-requires c κs = search needs
+mark-held-requires c κs = (exact, c .before .before .before .before .before .loop .inv .1)
 
 add-k : tie.Need-add-k Inv-loop μ-loop
 add-k c = search needs
@@ -63,10 +64,11 @@ loop-less c = search needs
 
 loop-again : tie.Need-loop-again Inv-loop μ-loop
 loop-again c =
-    let w = c .before .before .before .before .before .before .before .before .before .args .t .now in
-    let l = c .before .before .before .before .before .loop in
-    let h = c .before .before .before .before .loop-test .taken in
-    let e = held-marked w (l .k) _ _ _ h (c .before .before .before .read .ensures) (c .mark-held .ensures) in
+    let r = c .before .before .before .before in
+    let w = r .before .before .before .before .before .before .args .t .now in
+    let l = r .before .before .loop in
+    let h = r .before .loop-test .taken in
+    let e = held-marked w (l .k) _ _ _ h (r .read .ensures) (c .mark-held .ensures) in
     (omega arith, room-of-list (nodeCount w) _ _ _ e (l .inv .1), held-kept w (l .k) _ _ _ h e (l .inv .2))
 
 returns : tie.Need-returns Inv-loop μ-loop
