@@ -1,4 +1,1 @@
-pub mod Sizes
-pub mod Views
-pub mod HeldTable
-pub mod Marked
+pub mod Laws

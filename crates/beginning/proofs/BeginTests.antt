@@ -18,7 +18,7 @@ use Rattle.machine.proofs.Basics.Contradiction.{clash}
 use Rattle.machine.proofs.Basics.Tests.{and-left, and-right}
 use Rattle.machine.specs.Results.{changedOf}
 use Rattle.shape.specs.Contracts.{numberOf, Passed}
-use Rattle.shape.proofs.PassedTable.{refused, operation-is, busy-task}
+use Rattle.shape.proofs.Laws.PassedTable.{refused, operation-is, busy-task}
 
 busy-not-idle : (op : Operation) → isBusy op ≡ true → isIdle op ≡ false
 busy-not-idle idle h = clash (cc)

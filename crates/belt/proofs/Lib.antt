@@ -1,5 +1,3 @@
-pub mod SpaceLaws
-pub mod FormLaws
-pub mod LineLaws
+pub mod Laws
 pub mod BeforeStart
 pub mod Worked

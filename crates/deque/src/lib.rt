@@ -2,9 +2,9 @@
 use beginning::begin;
 use machine::Reading;
 use machine::Reply;
+use machine::kind;
+use machine::payload;
 use reading::read;
-use running::kind;
-use running::payload;
 use running::run;
 use starting::start;
 use ticking::tick;

@@ -5,9 +5,9 @@ use Prim.Native.Nat.{ℕ, _≤_}
 use native.Mathlib.Omega.{arith}
 use lib.ListN.{length}
 use lib.Seq.{slice}
-use Rattle.session.specs.Session.{takeBytes}
-use Rattle.session.specs.Held.{Lent, Ready, Leads, Makes, Onward}
-use Rattle.session.proofs.HeldLaws.{none-leads, next-leads, all-leads}
+use Rattle.stream.specs.Session.{takeBytes}
+use Rattle.stream.specs.Held.{Lent, Ready, Leads, Makes, Onward}
+use Rattle.stream.proofs.Laws.HeldLaws.{none-leads, next-leads, all-leads}
 
 -- The bytes up to a place are taken.
 pub record Answering (chunk : List ℕ) (first : Lent) (out₀ : List ℕ) (from : ℕ) (held : Lent) (out : List ℕ) : Type 0

@@ -6,10 +6,10 @@ use reader::scanning::NUMBER_PLACES;
 use reader::scanning::Numbers;
 use reader::scanning::TEXT_PLACES;
 use reader::scanning::Text;
-use session::Held;
-use session::begin_session;
-use session::finish;
-use session::serve_lines;
+use stream::Held;
+use stream::begin_session;
+use stream::finish;
+use stream::serve_lines;
 ghost use mathlib.Core.Path.{_≡_};
 ghost use mathlib.Core.Bool.{true};
 ghost use Prim.Native.Nat.{_≤_};
@@ -17,8 +17,8 @@ ghost use lib.ListN.{length};
 ghost use Rattle.reader.specs.Kept.{textPlaces};
 ghost use Rattle.belt.specs.Space.{largestTable};
 ghost use Rattle.belt.specs.Run.{mostBags};
-ghost use Rattle.session.specs.Session.{takeBytes};
-ghost use Rattle.session.specs.Held.{lentOf, Ready, Leads, lineRoom};
+ghost use Rattle.stream.specs.Session.{takeBytes};
+ghost use Rattle.stream.specs.Held.{lentOf, Ready, Leads, lineRoom};
 
 // What a turn leaves: what is held, and whether the session goes on. It ends with its input, and when a write fails.
 struct Left {

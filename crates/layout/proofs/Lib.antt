@@ -1,6 +1,1 @@
-pub mod Tables
-pub mod ValueWords
-pub mod NodeWords
-pub mod RecordStores
-pub mod NodesPart
-pub mod Fronts
+pub mod Laws

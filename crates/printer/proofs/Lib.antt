@@ -1,4 +1,2 @@
-pub mod WritingLaws
-pub mod Decimals
-pub mod Rows
+pub mod Laws
 pub mod Examples

@@ -1,7 +1,3 @@
-pub mod SameTexts
-pub mod NumberLaws
-pub mod ScanLaws
-pub mod LineLaws
-pub mod FormLaws
+pub mod Laws
 pub mod WrittenLaws
 pub mod Worked

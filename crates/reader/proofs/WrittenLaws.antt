@@ -12,7 +12,7 @@ use Rattle.reader.specs.Lines.{allFit, formOf, lineOf, lineRead}
 use Rattle.reader.specs.declared.Line.the-variants.{Unread}
 use Rattle.reader.specs.Written.{Numeral, last, then, valueAfter, value, beginsWithDigit}
 use Rattle.reader.specs.Written.{Written, ended, byte, number}
-use Rattle.reader.proofs.ScanLaws.{other-byte, further-digit, first-digit}
+use Rattle.reader.proofs.Laws.ScanLaws.{other-byte, further-digit, first-digit}
 
 -- ---- Every line is written with some text and numbers.
 record Parts (line : List ℕ) : Type 0 where

@@ -6,8 +6,8 @@ use forms::form_of;
 use scanning::Numbers;
 use scanning::Scan;
 ghost use mathlib.Core.Path.{_≡_};
-ghost use Rattle.reader.specs.Scanned.{Scanned, firstLine};
-ghost use Rattle.reader.specs.Lines.{lineOf, lineRead};
+ghost use Rattle.reader.specs.Scanned.{Scanned};
+ghost use Rattle.reader.specs.Lines.{lineOf};
 ghost use Rattle.reader.specs.Kept.{Kept, Represents};
 
 // What a line says. Operations are 1 push, 2 pop, 3 add, 4 remove; sides 0 left, 1 right.
@@ -43,16 +43,4 @@ pub fn scanned_line(text: &[u8], numbers: &Numbers, s: Scan) -> Line
         return form_of(&text[..length], numbers);
     }
     Line::Unread
-}
-
-// What the line says that stands first in these bytes.
-pub fn parse(bytes: &[u8]) -> Line
-    ensures { λ r. ⌜ r ≡ lineRead (firstLine (now (bytes .entry))) ⌝ }
-{
-    let mut text = [0u8; scanning::TEXT_PLACES];
-    let mut numbers = [0u32; scanning::NUMBER_PLACES];
-    let s = scanning::start(&mut numbers);
-    let stop = scanning::scan_line(bytes, 0, &mut text, &mut numbers, s);
-    let done = stop.scan;
-    scanned_line(&text, &numbers, done)
 }

@@ -29,8 +29,8 @@ use Rattle.reading.specs.declared.Walk.{Walk}
 use Rattle.reading.specs.declared.Walk.the-variants.{Bags, NoEnd}
 use Rattle.reading.specs.Lane.{laneIn, walkOf, laid, NodeOrNone, Walkable}
 use Rattle.shape.specs.Contracts.{numberOf, Passed}
-use Rattle.shape.proofs.PassedTable.{refused, passed}
-use Rattle.layout.proofs.NodesPart.{nodesOf, nodes-long, link-in, value-in}
+use Rattle.shape.proofs.Laws.PassedTable.{refused, passed}
+use Rattle.layout.proofs.Laws.NodesPart.{nodesOf, nodes-long, link-in, value-in}
 
 -- The walk after node x, in n nodes at most.
 abbrev pub after : List ℕ → (n x : ℕ) → Option (List ℕ)

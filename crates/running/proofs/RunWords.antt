@@ -37,8 +37,8 @@ use Rattle.machine.proofs.Shape.TickKeeps.{tick-kept}
 use Rattle.machine.proofs.Words.RunLaws.{by-first, first-tick}
 use Rattle.machine.specs.Results.{tickedOf, runDoneOf}
 use Rattle.shape.specs.Contracts.{numberOf, Passed}
-use Rattle.layout.proofs.Fronts.{front-grows}
-use Rattle.shape.proofs.PassedTable.{refused}
+use Rattle.layout.proofs.Laws.Fronts.{front-grows}
+use Rattle.shape.proofs.Laws.PassedTable.{refused}
 
 -- ---- One tick.
 -- A tick leaves a table that passes the tests.

@@ -1,50 +1,16 @@
 // The call run: any slices. A refusal changes no lent word, but for the ticks made before it.
-use machine::Answer;
+use machine::REFUSED;
 use machine::Ran;
+use machine::kind;
+use machine::payload;
 use shape::table_refusal;
 use ticking::passed::tick_on;
 ghost use mathlib.Core.Path.{_≡_};
 ghost use Prim.Native.Nat.{_≤_, _%_};
 ghost use lib.ListN.{length};
-ghost use Rattle.machine.specs.Answers.{kindOf, payloadOf};
 ghost use Rattle.machine.specs.Calls.{runOn, run};
 ghost use Rattle.shape.specs.Contracts.{Passed};
 ghost use Rattle.machine.specs.Results.{runDoneOf};
-
-// The kind of a refusal, which a run does not write.
-const REFUSED: u32 = 7;
-
-// 01: 0 going, 1 pushed, 2 bag, 3 empty, 4 full, 5 yes, 6 no.
-pub fn kind(a: Answer) -> u32
-    ensures { λ r. ⌜ r ≡ kindOf a ⌝ }
-{
-    match a {
-        Answer::Going => 0,
-        Answer::Pushed => 1,
-        Answer::Bag(_) => 2,
-        Answer::Empty => 3,
-        Answer::Full => 4,
-        Answer::Yes => 5,
-        Answer::No => 6,
-        Answer::Refused(_) => REFUSED,
-    }
-}
-
-// 01: then the bag or 0. Of a refusal: its number.
-pub fn payload(a: Answer) -> u32
-    ensures { λ r. ⌜ r ≡ payloadOf a ⌝ }
-{
-    match a {
-        Answer::Going => 0,
-        Answer::Pushed => 0,
-        Answer::Bag(b) => b,
-        Answer::Empty => 0,
-        Answer::Full => 0,
-        Answer::Yes => 0,
-        Answer::No => 0,
-        Answer::Refused(n) => n,
-    }
-}
 
 // The run of a table and a list that have passed the tests of 3, 4, 13 and 14.
 // 01: stops at the first refused tick; per tick made writes two words.

@@ -10,7 +10,7 @@ use Rattle.machine.specs.Values.{never, X}
 use Rattle.machine.specs.Tasks.{none, fresh, wordsOf}
 use Rattle.machine.specs.Table.{headerWords, nodeWords, nodeAt}
 use Rattle.machine.specs.Calls.{times, startWords}
-use Rattle.layout.proofs.Fronts.{front-grows}
+use Rattle.layout.proofs.Laws.Fronts.{front-grows}
 
 -- The front up to n, and m times the list e after it.
 abbrev pub filled : (t : List ℕ) (n m : ℕ) → List ℕ → List ℕ

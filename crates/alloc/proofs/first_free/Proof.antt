@@ -6,7 +6,7 @@ use Rattle.machine.specs.Table.{nodeCount}
 use Rattle.machine.specs.Allocate.{roots, Marking, unmarked, markAll}
 use Rattle.machine.proofs.SlotRule.Marking.{room-unmarked, room-of-markAll, allocate-joined}
 use Rattle.alloc.specs.Tables.{markingOf}
-use Rattle.alloc.proofs.Marked.{roots-marked, room-of-list}
+use Rattle.alloc.proofs.Laws.Marked.{roots-marked, room-of-list}
 use borrow.Author.Needs.{needs}
 use Rattle.alloc.proofs.first_free.Statement.{statement}
 use Rattle.alloc.proofs.first_free.Tie as tie

@@ -1,6 +1,6 @@
 -- A mark keeps the room that the second one asks for.
 use Rattle.machine.proofs.SlotRule.Marking.{room-of-mark}
-use Rattle.alloc.proofs.Marked.{both-marked}
+use Rattle.alloc.proofs.Laws.Marked.{both-marked}
 use borrow.Author.Needs.{needs}
 use Rattle.alloc.proofs.mark_both.Statement.{statement}
 use Rattle.alloc.proofs.mark_both.Tie as tie

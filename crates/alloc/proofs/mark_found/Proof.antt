@@ -1,6 +1,6 @@
 -- A register that does not hold counts as none, which is never marked.
 use borrow.Author.Tests.{eq-eqb, ne-eqb}
-use Rattle.alloc.proofs.Marked.{none-unmarked}
+use Rattle.alloc.proofs.Laws.Marked.{none-unmarked}
 use borrow.Author.Needs.{needs}
 use Rattle.alloc.proofs.mark_found.Statement.{statement}
 use Rattle.alloc.proofs.mark_found.Tie as tie

@@ -1,7 +1,7 @@
 -- What the registers hold, marked one after another, is the list of all four marked.
 use Rattle.machine.specs.Tasks.{inA, inB, inC, inD}
 use Rattle.layout.specs.Coded.{taskMeant}
-use Rattle.alloc.proofs.Marked.{registers-marked, found-marked, room-of-one}
+use Rattle.alloc.proofs.Laws.Marked.{registers-marked, found-marked, room-of-one}
 use borrow.Author.Needs.{needs}
 use Rattle.alloc.proofs.mark_held.Statement.{statement}
 use Rattle.alloc.proofs.mark_held.Tie as tie

@@ -7,8 +7,8 @@ use Rattle.machine.specs.Table.{nodeCount}
 use Rattle.machine.specs.Allocate.{heldFrom, markAll}
 use Rattle.machine.proofs.SlotRule.Marking.{Room}
 use Rattle.alloc.specs.Tables.{markingOf}
-use Rattle.alloc.proofs.HeldTable.{exact}
-use Rattle.alloc.proofs.Marked.{held-marked, held-kept, held-end, room-of-list}
+use Rattle.alloc.proofs.Laws.HeldTable.{exact}
+use Rattle.alloc.proofs.Laws.Marked.{held-marked, held-kept, held-end, room-of-list}
 use borrow.Author.Needs.{needs}
 use Rattle.alloc.proofs.mark_tasks.Statement.{statement}
 use Rattle.alloc.proofs.mark_tasks.Tie as tie

@@ -3,7 +3,7 @@ use Prim.Native.Nat.{_<_}
 use native.Mathlib.Omega.{arith}
 use Rattle.machine.specs.Allocate.{largestCount}
 use Rattle.machine.proofs.SlotRule.Marking.{tail-le}
-use Rattle.alloc.proofs.Marked.{holds-queued, links-marked}
+use Rattle.alloc.proofs.Laws.Marked.{holds-queued, links-marked}
 use borrow.Author.Needs.{needs}
 use Rattle.alloc.proofs.visit.Statement.{statement}
 use Rattle.alloc.proofs.visit.Tie as tie

@@ -1,5 +1,5 @@
 -- `beginning::begin` meets its contract: refusals 3 and 4, then `begin_on`.
-use Rattle.shape.proofs.PassedTable.{passed}
+use Rattle.shape.proofs.Laws.PassedTable.{passed}
 use Rattle.beginning.proofs.BeginTests.{begin-refused}
 use borrow.Author.Needs.{needs}
 use Rattle.beginning.proofs.begin.Statement.{statement}

@@ -8,7 +8,7 @@ use Rattle.machine.specs.Table.{nodeCount, recordAt}
 use Rattle.layout.specs.declared.tasks.Task as Tasks
 use Rattle.layout.specs.Coded.{recordOf}
 use Rattle.machine.specs.Results.{changedOf}
-use Rattle.shape.proofs.PassedTable.{header-long, few-nodes, few-tasks, record-long}
+use Rattle.shape.proofs.Laws.PassedTable.{header-long, few-nodes, few-tasks, record-long}
 use Rattle.beginning.proofs.BeginTests.{begin-5, begin-6, begin-7, begin-8, begin-accepted, operation-low, side-low}
 use borrow.Author.Needs.{needs}
 use Rattle.beginning.proofs.begin_on.Statement.{statement}

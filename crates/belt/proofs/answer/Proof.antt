@@ -1,7 +1,7 @@
 -- `belt::answer` meets its contract: each line does what its form does.
 use lib.ListN.{take}
 use borrow.Author.Needs.{needs}
-use Rattle.belt.proofs.LineLaws.{
+use Rattle.belt.proofs.Laws.LineLaws.{
   start-line-answers,
   begin-line-answers,
   tick-line-answers,

@@ -6,7 +6,7 @@ use native.Mathlib.Omega.{arith}
 use lib.ListN.{length}
 use borrow.Author.Needs.{needs}
 use Rattle.machine.proofs.Basics.Contradiction.{clash}
-use Rattle.session.specs.Held.{lentOf}
+use Rattle.stream.specs.Held.{lentOf}
 use Rattle.lane.proofs.ChunkLaws.{Answering, answering-starts, answering-goes-on, answering-ends}
 use Rattle.lane.proofs.answer_chunk.Statement.{statement}
 use Rattle.lane.proofs.answer_chunk.Tie as tie

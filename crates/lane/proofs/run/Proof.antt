@@ -3,7 +3,7 @@ use mathlib.Core.Path.{_≡_, refl, _∙_}
 use native.Mathlib.Omega.{arith}
 use lib.ListN.{length}
 use borrow.Author.Needs.{needs}
-use Rattle.session.specs.Held.{lentOf, Ready}
+use Rattle.stream.specs.Held.{lentOf, Ready}
 use Rattle.lane.proofs.run.Statement.{statement}
 use Rattle.lane.proofs.run.Tie as tie
 

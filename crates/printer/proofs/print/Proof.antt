@@ -5,8 +5,8 @@ use lib.ListN.{length}
 use borrow.Author.Needs.{needs}
 use Rattle.reader.specs.Text.{bytes}
 use Rattle.printer.specs.Lines.{textOf}
-use Rattle.printer.proofs.WritingLaws.{line-written}
-use Rattle.printer.proofs.Decimals.{named-length}
+use Rattle.printer.proofs.Laws.WritingLaws.{line-written}
+use Rattle.printer.proofs.Laws.Decimals.{named-length}
 use Rattle.printer.proofs.print.Statement.{statement}
 use Rattle.printer.proofs.print.Tie as tie
 

@@ -6,7 +6,7 @@ use borrow.Author.Needs.{needs}
 use lib.ListN.{length}
 use lib.Seq.{length-take-le}
 use Rattle.reader.specs.Lines.{lineOf}
-use Rattle.reader.proofs.FormLaws.{formOf-kept}
+use Rattle.reader.proofs.Laws.FormLaws.{formOf-kept}
 use Rattle.reader.proofs.scanned_line.Statement.{statement}
 use Rattle.reader.proofs.scanned_line.Tie as tie
 

@@ -1,6 +1,6 @@
 -- `reading::read` meets its contract: refusals 3 and 4, then `read_lane`.
 use mathlib.Core.Path.{_∙_}
-use Rattle.shape.proofs.PassedTable.{passed}
+use Rattle.shape.proofs.Laws.PassedTable.{passed}
 use Rattle.reading.proofs.WalkLaws.{read-refused, read-goes-on}
 use borrow.Author.Needs.{needs}
 use Rattle.reading.proofs.read.Statement.{statement}

@@ -2,7 +2,7 @@
 use mathlib.Core.Path.{_∙_}
 use borrow.Author.Needs.{needs}
 use Rattle.shape.specs.Contracts.{Passed}
-use Rattle.shape.proofs.PassedTable.{passed}
+use Rattle.shape.proofs.Laws.PassedTable.{passed}
 use Rattle.running.proofs.RunWords.{run-3-4, run-13-odd, run-13-long, run-14, run-passes}
 use Rattle.running.proofs.run.Statement.{statement}
 use Rattle.running.proofs.run.Tie as tie

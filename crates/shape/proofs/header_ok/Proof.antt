@@ -5,7 +5,7 @@ use lib.Dec.{eqb, ltb}
 use borrow.Author.Tests.{eq-eqb, ne-eqb}
 use Rattle.machine.specs.Sides.{left}
 use Rattle.machine.specs.Table.{nodeCount, hat, word6, word7}
-use Rattle.shape.proofs.Chains.{passed, failed, met}
+use Rattle.shape.proofs.Laws.Chains.{passed, failed, met}
 use borrow.Author.Needs.{needs}
 use Rattle.shape.proofs.header_ok.Statement.{statement}
 use Rattle.shape.proofs.header_ok.Tie as tie

@@ -4,7 +4,7 @@ use mathlib.Core.Path.{sym, _∙_}
 use Prim.Native.Nat.{_≤_}
 use lib.ListN.{getD}
 use borrow.Author.Tests.{not-true, not-false}
-use Rattle.shape.proofs.TableWords.{sizes-bound, too-short, wrong-sizes, right-sizes}
+use Rattle.shape.proofs.Laws.TableWords.{sizes-bound, too-short, wrong-sizes, right-sizes}
 use borrow.Author.Needs.{needs}
 use Rattle.shape.proofs.sizes_ok.Reads as sizes-ok-reads
 use Rattle.shape.proofs.length_ok.Statement.{statement}

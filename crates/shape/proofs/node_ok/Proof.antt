@@ -8,8 +8,8 @@ use Rattle.machine.specs.Values.{valueOk}
 use Rattle.machine.specs.Tasks.{none}
 use Rattle.machine.specs.Table.{nodeCount, linkWord}
 use Rattle.machine.specs.Shape.{nodeOrNone, nodeOk}
-use Rattle.shape.proofs.Chains.{passed, failed, met}
-use Rattle.shape.proofs.TableWords.{word-in-part}
+use Rattle.shape.proofs.Laws.Chains.{passed, failed, met}
+use Rattle.shape.proofs.Laws.TableWords.{word-in-part}
 use borrow.Author.Needs.{needs}
 use Rattle.layout.proofs.nodes.link.Reads as link-reads
 use Rattle.layout.proofs.nodes.value.Reads as value-reads

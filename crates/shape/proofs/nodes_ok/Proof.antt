@@ -6,8 +6,8 @@ use native.Mathlib.Omega.{arith}
 use borrow.Author.Tests.{not-true, not-false}
 use Rattle.machine.specs.Table.{nodeCount}
 use Rattle.machine.specs.Shape.{allBelow, nodeOk}
-use Rattle.shape.proofs.TableWords.{sized}
-use Rattle.shape.proofs.Below.{none-below, one-more, one-fails}
+use Rattle.shape.proofs.Laws.TableWords.{sized}
+use Rattle.shape.proofs.Laws.Below.{none-below, one-more, one-fails}
 use Rattle.shape.proofs.nodes_ok.Statement.{statement}
 use Rattle.shape.proofs.nodes_ok.Tie as tie
 

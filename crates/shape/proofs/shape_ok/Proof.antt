@@ -3,8 +3,8 @@ use mathlib.Core.Path.{_≡_, refl, _∙_}
 use mathlib.Core.Bool.{_&&_}
 use Rattle.machine.specs.Table.{nodeCount}
 use Rattle.machine.specs.Shape.{headerOk, allBelow, nodeOk, shapeOk}
-use Rattle.shape.proofs.Chains.{passed, failed, met}
-use Rattle.shape.proofs.TableWords.{sized}
+use Rattle.shape.proofs.Laws.Chains.{passed, failed, met}
+use Rattle.shape.proofs.Laws.TableWords.{sized}
 use borrow.Author.Needs.{needs}
 use Rattle.shape.proofs.header_ok.Reads as header-ok-reads
 use Rattle.shape.proofs.nodes_ok.Reads as nodes-ok-reads

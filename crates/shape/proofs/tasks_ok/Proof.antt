@@ -7,8 +7,8 @@ use borrow.Author.Tests.{not-true, not-false}
 use Rattle.machine.specs.Table.{taskCount}
 use Rattle.machine.specs.Shape.{allBelow}
 use Rattle.shape.specs.Contracts.{taskOk}
-use Rattle.shape.proofs.TableWords.{sized}
-use Rattle.shape.proofs.Below.{none-below, one-more, one-fails}
+use Rattle.shape.proofs.Laws.TableWords.{sized}
+use Rattle.shape.proofs.Laws.Below.{none-below, one-more, one-fails}
 use Rattle.shape.proofs.tasks_ok.Statement.{statement}
 use Rattle.shape.proofs.tasks_ok.Tie as tie
 

@@ -1,5 +1,5 @@
 -- The word read is the table's, which is exact; past its end no register holds.
-use Rattle.alloc.proofs.HeldTable.{none-past-end}
+use Rattle.alloc.proofs.Laws.HeldTable.{none-past-end}
 use borrow.Author.Needs.{needs}
 use Rattle.alloc.proofs.held.entry.Statement.{statement}
 use Rattle.alloc.proofs.held.entry.Tie as tie

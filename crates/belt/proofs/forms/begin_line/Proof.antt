@@ -3,8 +3,8 @@ use mathlib.Core.Path.{sym}
 use lib.ListN.{take}
 use lib.Seq.{length-take-le}
 use borrow.Author.Needs.{needs}
-use Rattle.belt.proofs.SpaceLaws.{front-leaves}
-use Rattle.belt.proofs.FormLaws.{begin-done}
+use Rattle.belt.proofs.Laws.SpaceLaws.{front-leaves}
+use Rattle.belt.proofs.Laws.FormLaws.{begin-done}
 use Rattle.belt.proofs.forms.begin_line.Statement.{statement}
 use Rattle.belt.proofs.forms.begin_line.Tie as tie
 

@@ -3,7 +3,7 @@ use mathlib.Core.Path.{sym}
 use lib.ListN.{take}
 use lib.Seq.{length-take-le}
 use borrow.Author.Needs.{needs}
-use Rattle.belt.proofs.FormLaws.{lane-shows, lane-fits}
+use Rattle.belt.proofs.Laws.FormLaws.{lane-shows, lane-fits}
 use Rattle.belt.proofs.forms.lane_line.Statement.{statement}
 use Rattle.belt.proofs.forms.lane_line.Tie as tie
 

@@ -6,7 +6,7 @@ use lib.ListN.{length}
 use borrow.Author.Needs.{needs}
 use borrow.Author.Tests.{not-true, not-false}
 use Rattle.belt.specs.Forms.{tickLine}
-use Rattle.belt.proofs.FormLaws.{tick-going, tick-done, no-tick-left}
+use Rattle.belt.proofs.Laws.FormLaws.{tick-going, tick-done, no-tick-left}
 use Rattle.belt.proofs.forms.make_ticks.Statement.{statement}
 use Rattle.belt.proofs.forms.make_ticks.Tie as tie
 

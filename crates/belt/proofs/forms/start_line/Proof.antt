@@ -5,8 +5,8 @@ use lib.ListN.{take, take-append-drop}
 use lib.Seq.{length-take-le}
 use Rattle.machine.specs.Table.{tableLength}
 use borrow.Author.Needs.{needs}
-use Rattle.belt.proofs.SpaceLaws.{front-leaves, same-leaves}
-use Rattle.belt.proofs.FormLaws.{too-large, start-done, start-refused}
+use Rattle.belt.proofs.Laws.SpaceLaws.{front-leaves, same-leaves}
+use Rattle.belt.proofs.Laws.FormLaws.{too-large, start-done, start-refused}
 use Rattle.belt.proofs.forms.start_line.Statement.{statement}
 use Rattle.belt.proofs.forms.start_line.Tie as tie
 

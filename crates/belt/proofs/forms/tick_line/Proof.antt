@@ -2,7 +2,7 @@
 use mathlib.Core.Path.{sym}
 use lib.Seq.{length-take-le}
 use borrow.Author.Needs.{needs}
-use Rattle.belt.proofs.SpaceLaws.{front-leaves}
+use Rattle.belt.proofs.Laws.SpaceLaws.{front-leaves}
 use Rattle.belt.proofs.forms.tick_line.Statement.{statement}
 use Rattle.belt.proofs.forms.tick_line.Tie as tie
 

@@ -1,5 +1,5 @@
 -- `layout::nodes::link` meets its contract.
-use Rattle.layout.proofs.NodeWords.{link-word}
+use Rattle.layout.proofs.Laws.NodeWords.{link-word}
 use borrow.Author.Needs.{needs}
 use Rattle.layout.proofs.nodes.link.Statement.{statement}
 use Rattle.layout.proofs.nodes.link.Tie as tie

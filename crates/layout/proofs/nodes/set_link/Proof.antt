@@ -1,5 +1,5 @@
 -- `layout::nodes::set_link` meets its contract.
-use Rattle.layout.proofs.NodeWords.{link-set}
+use Rattle.layout.proofs.Laws.NodeWords.{link-set}
 use borrow.Author.Needs.{needs}
 use Rattle.layout.proofs.nodes.set_link.Statement.{statement}
 use Rattle.layout.proofs.nodes.set_link.Tie as tie

@@ -5,7 +5,7 @@ use native.Mathlib.Numerals.{add-one}
 use native.Mathlib.Omega.{arith}
 use lib.ListN.{length, drop, length-set}
 use lib.Seq.{sets}
-use Rattle.printer.proofs.WritingLaws.{sets-from-zero, sets-next, sets-none}
+use Rattle.printer.proofs.Laws.WritingLaws.{sets-from-zero, sets-next, sets-none}
 use Rattle.printer.proofs.writing.put.Statement.{statement}
 use Rattle.printer.proofs.writing.put.Tie as tie
 

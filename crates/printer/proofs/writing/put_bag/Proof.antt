@@ -1,6 +1,6 @@
 -- `printer::writing::put_bag` meets its contract.
 use borrow.Author.Needs.{needs}
-use Rattle.printer.proofs.WritingLaws.{written-append}
+use Rattle.printer.proofs.Laws.WritingLaws.{written-append}
 use Rattle.printer.proofs.writing.put_bag.Statement.{statement}
 use Rattle.printer.proofs.writing.put_bag.Tie as tie
 

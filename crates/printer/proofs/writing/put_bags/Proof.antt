@@ -6,8 +6,8 @@ use native.Mathlib.Omega.{arith}
 use lib.ListN.{length, take, getD}
 use Rattle.printer.specs.Lines.{spaced}
 use Rattle.printer.specs.Writing.{Written}
-use Rattle.printer.proofs.Decimals.{decimal-length}
-use Rattle.printer.proofs.Rows.{no-bag-written, bag-written}
+use Rattle.printer.proofs.Laws.Decimals.{decimal-length}
+use Rattle.printer.proofs.Laws.Rows.{no-bag-written, bag-written}
 use Rattle.printer.proofs.writing.put_bags.Statement.{statement}
 use Rattle.printer.proofs.writing.put_bags.Tie as tie
 

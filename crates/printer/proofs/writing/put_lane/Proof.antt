@@ -1,7 +1,7 @@
 -- `printer::writing::put_lane` meets its contract.
 use native.Mathlib.Omega.{arith}
 use borrow.Author.Needs.{needs}
-use Rattle.printer.proofs.WritingLaws.{written-append}
+use Rattle.printer.proofs.Laws.WritingLaws.{written-append}
 use Rattle.printer.proofs.writing.put_lane.Statement.{statement}
 use Rattle.printer.proofs.writing.put_lane.Tie as tie
 

@@ -1,8 +1,8 @@
 -- `printer::writing::put_named` meets its contract.
 use native.Mathlib.Omega.{arith}
 use borrow.Author.Needs.{needs}
-use Rattle.printer.proofs.WritingLaws.{written-append}
-use Rattle.printer.proofs.Decimals.{decimal-length}
+use Rattle.printer.proofs.Laws.WritingLaws.{written-append}
+use Rattle.printer.proofs.Laws.Decimals.{decimal-length}
 use Rattle.printer.proofs.writing.put_named.Statement.{statement}
 use Rattle.printer.proofs.writing.put_named.Tie as tie
 

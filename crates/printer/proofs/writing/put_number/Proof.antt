@@ -5,7 +5,7 @@ use native.Mathlib.Omega.{arith}
 use lib.ListN.{length, take}
 use borrow.Author.Needs.{needs}
 use Rattle.printer.specs.Lines.{decimal}
-use Rattle.printer.proofs.Decimals.{fewest-digits, decimal-length}
+use Rattle.printer.proofs.Laws.Decimals.{fewest-digits, decimal-length}
 use Rattle.printer.proofs.writing.put_number.Statement.{statement}
 use Rattle.printer.proofs.writing.put_number.Tie as tie
 

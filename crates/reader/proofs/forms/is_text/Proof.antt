@@ -4,7 +4,7 @@ use Prim.Native.Nat.{_≤_, _-_}
 use native.Mathlib.Omega.{arith}
 use lib.ListN.{length, drop}
 use Rattle.reader.specs.Text.{same}
-use Rattle.reader.proofs.SameTexts.{same-lengths-differ, same-rest, same-byte-differs, same-ends}
+use Rattle.reader.proofs.Laws.SameTexts.{same-lengths-differ, same-rest, same-byte-differs, same-ends}
 use Rattle.reader.proofs.forms.is_text.Statement.{statement}
 use Rattle.reader.proofs.forms.is_text.Tie as tie
 

@@ -1,6 +1,6 @@
 -- One byte more.
 use borrow.Author.Needs.{needs}
-use Rattle.reader.proofs.ScanLaws.{append-counts, append-represents}
+use Rattle.reader.proofs.Laws.ScanLaws.{append-counts, append-represents}
 use Rattle.reader.proofs.scanning.append_byte.Statement.{statement}
 use Rattle.reader.proofs.scanning.append_byte.Tie as tie
 

@@ -8,7 +8,7 @@ use borrow.Author.Tests.{leb-true, leb-false}
 use lib.Dec.{leb}
 use lib.ListN.{length, getD, set, length-set}
 use Rattle.reader.specs.Lines.{largestNumber}
-use Rattle.reader.proofs.ScanLaws.{extend-represents, outgrow-counts, outgrow-represents}
+use Rattle.reader.proofs.Laws.ScanLaws.{extend-represents, outgrow-counts, outgrow-represents}
 use Rattle.reader.proofs.scanning.extend_number.Statement.{statement}
 use Rattle.reader.proofs.scanning.extend_number.Tie as tie
 

@@ -2,7 +2,7 @@
 use mathlib.Core.Path.{_∙_}
 use borrow.Author.Needs.{needs}
 use lib.ListN.{length-set}
-use Rattle.reader.proofs.ScanLaws.{open-counts, open-represents}
+use Rattle.reader.proofs.Laws.ScanLaws.{open-counts, open-represents}
 use Rattle.reader.proofs.scanning.open_number.Statement.{statement}
 use Rattle.reader.proofs.scanning.open_number.Tie as tie
 

@@ -3,7 +3,7 @@ use mathlib.Core.Path.{_∙_}
 use native.Mathlib.Omega.{arith}
 use borrow.Author.Needs.{needs}
 use lib.ListN.{length-set}
-use Rattle.reader.proofs.SameTexts.{byte-kept, byte-passed}
+use Rattle.reader.proofs.Laws.SameTexts.{byte-kept, byte-passed}
 use Rattle.reader.proofs.scanning.put.Statement.{statement}
 use Rattle.reader.proofs.scanning.put.Tie as tie
 

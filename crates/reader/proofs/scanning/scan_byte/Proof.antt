@@ -6,7 +6,7 @@ use native.Mathlib.Omega.{arith}
 use borrow.Author.Needs.{needs}
 use borrow.Author.Tests.{not-true, not-false}
 use Rattle.reader.specs.Scanned.{isDigit, scanBytes}
-use Rattle.reader.proofs.ScanLaws.{digit-range, other-byte, further-digit, first-digit}
+use Rattle.reader.proofs.Laws.ScanLaws.{digit-range, other-byte, further-digit, first-digit}
 use Rattle.reader.proofs.scanning.scan_byte.Statement.{statement}
 use Rattle.reader.proofs.scanning.scan_byte.Tie as tie
 

@@ -2,7 +2,7 @@
 use Prim.Native.Nat.{_-_}
 use native.Mathlib.Omega.{arith}
 use lib.ListN.{length}
-use Rattle.reader.proofs.LineLaws.{
+use Rattle.reader.proofs.Laws.LineLaws.{
   line-fed,
   chunk-ends,
   Scanning,

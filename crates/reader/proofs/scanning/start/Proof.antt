@@ -1,6 +1,6 @@
 -- Nothing is scanned, and the array of numbers is all zeros.
 use mathlib.Core.Path.{refl}
-use Rattle.reader.proofs.ScanLaws.{started-counts, start-represents}
+use Rattle.reader.proofs.Laws.ScanLaws.{started-counts, start-represents}
 use Rattle.reader.proofs.scanning.start.Statement.{statement}
 use Rattle.reader.proofs.scanning.start.Tie as tie
 

@@ -2,7 +2,7 @@
 use mathlib.Core.Path.{refl}
 use mathlib.Core.Logic.{inl, inr, ⊎-elim}
 use native.Mathlib.Decide.{ℕ-discrete}
-use Rattle.shape.proofs.RecordWords.{remove-else}
+use Rattle.shape.proofs.Laws.RecordWords.{remove-else}
 use borrow.Author.Needs.{needs}
 use Rattle.shape.proofs.records.argument_ok.Statement.{statement}
 use Rattle.shape.proofs.records.argument_ok.Tie as tie

@@ -1,7 +1,7 @@
 -- Each way out of the chain has decided the first test.
 use mathlib.Core.Path.{refl}
 use borrow.Author.Tests.{le-leb, lt-leb}
-use Rattle.shape.proofs.Chains.{passed, failed}
+use Rattle.shape.proofs.Laws.Chains.{passed, failed}
 use Rattle.shape.proofs.records.bag_ok.Statement.{statement}
 use Rattle.shape.proofs.records.bag_ok.Tie as tie
 

@@ -1,8 +1,8 @@
 -- The flag of the chain is followed from test to test.
 use mathlib.Core.Path.{_≡_, refl, ap, _∙_}
 use Rattle.machine.specs.Shape.{countedOk}
-use Rattle.shape.proofs.Chains.{passed, failed, met}
-use Rattle.shape.proofs.RecordWords.{callOk, operation-fails, side-fails, busy-tests}
+use Rattle.shape.proofs.Laws.Chains.{passed, failed, met}
+use Rattle.shape.proofs.Laws.RecordWords.{callOk, operation-fails, side-fails, busy-tests}
 use borrow.Author.Needs.{needs}
 use Rattle.shape.proofs.records.argument_ok.Reads as argument-ok-reads
 use Rattle.shape.proofs.records.counted_ok.Reads as counted-ok-reads

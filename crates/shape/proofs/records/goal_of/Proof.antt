@@ -2,7 +2,7 @@
 use mathlib.Core.Path.{refl}
 use mathlib.Core.Logic.{inl, inr, ⊎-elim}
 use native.Mathlib.Decide.{ℕ-discrete}
-use Rattle.shape.proofs.RecordWords.{goal-else}
+use Rattle.shape.proofs.Laws.RecordWords.{goal-else}
 use Rattle.shape.proofs.records.goal_of.Statement.{statement}
 use Rattle.shape.proofs.records.goal_of.Tie as tie
 

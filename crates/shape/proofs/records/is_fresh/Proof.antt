@@ -1,8 +1,8 @@
 -- The flag of the chain is followed from word to word; the ten tests are those of `sameWords`.
 use mathlib.Core.Path.{_≡_, refl, _∙_}
 use borrow.Author.Tests.{eq-eqb, ne-eqb}
-use Rattle.shape.proofs.Chains.{passed, failed, met}
-use Rattle.shape.proofs.RecordWords.{freshToC, fresh-words}
+use Rattle.shape.proofs.Laws.Chains.{passed, failed, met}
+use Rattle.shape.proofs.Laws.RecordWords.{freshToC, fresh-words}
 use borrow.Author.Needs.{needs}
 use Rattle.shape.proofs.records.is_fresh.Statement.{statement}
 use Rattle.shape.proofs.records.is_fresh.Tie as tie

@@ -1,6 +1,6 @@
 -- In each arm the step is known; at 48 the marks of the opposite side are those of side 1 - side.
 use borrow.Author.Tests.{ne-eqb}
-use Rattle.shape.proofs.RecordWords.{read-n, read-not-n}
+use Rattle.shape.proofs.Laws.RecordWords.{read-n, read-not-n}
 use borrow.Author.Needs.{needs}
 use Rattle.shape.proofs.records.value_read_ok.Statement.{statement}
 use Rattle.shape.proofs.records.value_read_ok.Tie as tie

@@ -4,7 +4,7 @@ use lib.ListN.{getD}
 use borrow.Author.Tests.{eq-eqb, ne-eqb}
 use Rattle.machine.specs.Operations.{operationOf}
 use Rattle.machine.specs.Steps.{stepsOf, isStepIn}
-use Rattle.shape.proofs.StepTable.{owners, owned, owner-rule, past-end}
+use Rattle.shape.proofs.Laws.StepTable.{owners, owned, owner-rule, past-end}
 use borrow.Author.Needs.{needs}
 use Rattle.shape.proofs.steps.is_step_of.Statement.{statement}
 use Rattle.shape.proofs.steps.is_step_of.Tie as tie

@@ -2,8 +2,8 @@
 use mathlib.Core.Path.{_∙_}
 use mathlib.Core.Logic.{inl, inr}
 use Rattle.machine.specs.Allocate.{allocate}
-use Rattle.alloc.proofs.Sizes.{sized}
-use Rattle.ticking.proofs.LineWords.{taken-at, taken-nowhere}
+use Rattle.alloc.proofs.Laws.Sizes.{sized}
+use Rattle.ticking.proofs.Laws.LineWords.{taken-at, taken-nowhere}
 use Rattle.ticking.proofs.passed.found.Statement.{statement}
 use Rattle.ticking.proofs.passed.found.Tie as tie
 

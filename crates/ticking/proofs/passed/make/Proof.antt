@@ -4,7 +4,7 @@ use Prim.Native.Nat.{_+_, _*_, _-_}
 use native.Mathlib.Omega.{arith}
 use borrow.Rule.Slice.PartMut.{same-len-mid}
 use Rattle.machine.specs.Table.{nodeCount}
-use Rattle.ticking.proofs.MadeTick.{
+use Rattle.ticking.proofs.Laws.MadeTick.{
   header-room,
   part-room,
   code-side,

@@ -2,8 +2,8 @@
 use mathlib.Core.Path.{refl, sym, ap, _∙_}
 use native.Mathlib.Omega.{arith}
 use Rattle.layout.specs.declared.tasks.Task as Tasks
-use Rattle.shape.proofs.PassedTable.{header-long, few-nodes, few-tasks, record-long, busy-task}
-use Rattle.ticking.proofs.TickTests.{tick-5, tick-9, tick-10, tick-passes}
+use Rattle.shape.proofs.Laws.PassedTable.{header-long, few-nodes, few-tasks, record-long, busy-task}
+use Rattle.ticking.proofs.Laws.TickTests.{tick-5, tick-9, tick-10, tick-passes}
 use borrow.Author.Needs.{needs}
 use Rattle.ticking.proofs.passed.tick_on.Statement.{statement}
 use Rattle.ticking.proofs.passed.tick_on.Tie as tie

@@ -1,7 +1,7 @@
 -- `layout::tasks::Task::write` meets its contract.
 use native.Mathlib.Omega.{arith}
 use lib.ListN.{length-set, getD}
-use Rattle.layout.proofs.RecordStores.{ten-stores}
+use Rattle.layout.proofs.Laws.RecordStores.{ten-stores}
 use borrow.Author.Needs.{needs}
 use Rattle.layout.proofs.tasks.Task.write.Statement.{statement}
 use Rattle.layout.proofs.tasks.Task.write.Tie as tie

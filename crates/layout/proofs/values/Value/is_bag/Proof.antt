@@ -1,6 +1,6 @@
 -- `layout::values::Value::is_bag` meets its contract.
 use mathlib.Core.Path.{sym}
-use Rattle.layout.proofs.ValueWords.{zero-no-bag, bag-word}
+use Rattle.layout.proofs.Laws.ValueWords.{zero-no-bag, bag-word}
 use Rattle.layout.proofs.values.Value.is_bag.Statement.{statement}
 use Rattle.layout.proofs.values.Value.is_bag.Tie as tie
 

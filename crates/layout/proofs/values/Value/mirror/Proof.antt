@@ -2,7 +2,7 @@
 use mathlib.Core.Path.{ap, sym}
 use native.Mathlib.Omega.{arith}
 use Rattle.layout.specs.Coded.{codedWord}
-use Rattle.layout.proofs.ValueWords.{mirror-below, mark-range, mirror-entry}
+use Rattle.layout.proofs.Laws.ValueWords.{mirror-below, mark-range, mirror-entry}
 use borrow.Author.Needs.{needs}
 use Rattle.layout.proofs.values.Value.mirror.Statement.{statement}
 use Rattle.layout.proofs.values.Value.mirror.Tie as tie

@@ -3,7 +3,7 @@ use mathlib.Core.Path.{refl, _∙_}
 use native.Mathlib.Decide.{ℕ-discrete, decLe}
 use Rattle.machine.specs.Sides.{sideOf}
 use Rattle.machine.specs.Values.{N, decode}
-use Rattle.layout.proofs.ValueWords.{marks-of}
+use Rattle.layout.proofs.Laws.ValueWords.{marks-of}
 use borrow.Author.Needs.{needs}
 use Rattle.layout.proofs.values.Value.n_of.Statement.{statement}
 use Rattle.layout.proofs.values.Value.n_of.Tie as tie

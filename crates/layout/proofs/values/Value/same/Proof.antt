@@ -1,5 +1,5 @@
 -- `layout::values::Value::same` meets its contract.
-use Rattle.layout.proofs.ValueWords.{same-word}
+use Rattle.layout.proofs.Laws.ValueWords.{same-word}
 use Rattle.layout.proofs.values.Value.same.Statement.{statement}
 use Rattle.layout.proofs.values.Value.same.Tie as tie
 

@@ -1,0 +1,100 @@
+-- What calls mark one after another is what the definitions mark: two numbers, the roots, both links of a node.
+use mathlib.Core.Path.{_≡_, refl, sym, ap, _∙_}
+use mathlib.Core.Bool.{Bool, cond}
+use mathlib.Core.List.{List, [], _∷_, _++_}
+use Prim.Native.Nat.{ℕ, suc, _+_, _-_, _<_, _≤_}
+use native.Mathlib.Omega.{arith}
+use native.Mathlib.Numerals.{add-one}
+use lib.ListN.{getD}
+use borrow.Author.Tests.{le-ltb}
+use Rattle.machine.specs.Sides.{left, right, sideOf}
+use Rattle.machine.specs.Tasks.{Task, none, inA, inB, inC, inD}
+use Rattle.machine.specs.Registers.{heldIn}
+use Rattle.machine.specs.Table.{nodeCount, taskCount, task, recordAt}
+use Rattle.machine.specs.Allocate.{heldBy, heldFrom, roots, Marking, mark, markAll, visit}
+use Rattle.machine.proofs.SlotRule.Marking.{Room, room-markAll, visit-markAll}
+use Rattle.layout.specs.declared.tasks.Task as Coded
+use Rattle.layout.specs.Coded.{HoldsNode, linkIn, recordFrom, taskMeant}
+use Rattle.alloc.specs.Tables.{Sized, hats}
+use Rattle.alloc.proofs.Laws.Views.{afterHeader, holds-node, link-read, task-read}
+
+-- ---- One number after another.
+pub both-marked : (S : ℕ) (m v u : Marking) (x y : ℕ) → v ≡ mark S m x → u ≡ mark S v y
+    → u ≡ markAll S m (x ∷ y ∷ [])
+unfolding markAll
+both-marked S m v u x y e f = rw (f, e)
+
+pub room-of-list : (S : ℕ) (m v : Marking) (xs : List ℕ) → v ≡ markAll S m xs → Room S m → Room S v
+room-of-list S m v xs e r = rw e (room-markAll r xs)
+
+-- ---- One list after another.
+markAll-append : (S : ℕ) (m : Marking) (xs ys : List ℕ) → markAll S m (xs ++ ys) ≡ markAll S (markAll S m xs) ys
+unfolding markAll
+markAll-append S m [] ys = refl
+markAll-append S m (x ∷ xs) ys = markAll-append S (mark S m x) xs ys
+
+pub lists-marked : (S : ℕ) (m v u : Marking) (xs ys : List ℕ) → v ≡ markAll S m xs → u ≡ markAll S v ys
+    → u ≡ markAll S m (xs ++ ys)
+lists-marked S m v u xs ys e f = rw (f, e, markAll-append S m xs ys)
+
+pub roots-marked : (ws : List ℕ) (m v u : Marking) → v ≡ markAll (nodeCount ws) m (hats ws)
+    → u ≡ markAll (nodeCount ws) v (heldFrom ws (taskCount ws) 0) → u ≡ markAll (nodeCount ws) m (roots ws)
+unfolding roots
+roots-marked ws m v u e f = lists-marked (nodeCount ws) m v u (hats ws) (heldFrom ws (taskCount ws) 0) e f
+
+-- ---- What a task's registers hold, one after another.
+pub registers-marked : (S : ℕ) (m₀ m₁ m₂ m₃ m₄ : Marking) (t : Task) → m₁ ≡ mark S m₀ (heldIn t inA)
+    → m₂ ≡ mark S m₁ (heldIn t inB) → m₃ ≡ mark S m₂ (heldIn t inC) → m₄ ≡ mark S m₃ (heldIn t inD)
+    → m₄ ≡ markAll S m₀ (heldBy t)
+unfolding markAll
+registers-marked S m₀ m₁ m₂ m₃ m₄ t a b c d = rw (d, c, b, a)
+
+pub found-marked : (S : ℕ) (m v : Marking) (x : ℕ) {b b′ : Bool} → b ≡ b′ → v ≡ mark S m (cond b x none)
+    → v ≡ mark S m (cond b′ x none)
+found-marked S m v x h e = e ∙ ap (λ (b : Bool). mark S m (cond b x none)) h
+
+-- None is no node.
+pub none-unmarked : (S : ℕ) (m : Marking) → Room S m → m ≡ mark S m none
+unfolding mark
+none-unmarked S m r = let f = r .few in rw (le-ltb none S (omega arith))
+
+pub room-of-one : (S : ℕ) (m v : Marking) (x : ℕ) → v ≡ mark S m x → Room S m → Room S v
+unfolding markAll
+room-of-one S m v x e r = room-of-list S m v (x ∷ []) e r
+
+-- ---- One turn of the loop over the tasks, with k of them passed: what the record read holds is marked.
+module _ (ws : List ℕ) (k : ℕ) (m : Marking) where
+  abbrev left-to-mark : ℕ → List ℕ
+  left-to-mark i = heldFrom ws (taskCount ws - i) i
+
+  pub held-marked : (t : Coded.Task) (v : Marking) → k < taskCount ws → t ≡ recordFrom ws (recordAt (nodeCount ws) k)
+      → v ≡ markAll (nodeCount ws) m (heldBy (taskMeant t)) → v ≡ markAll (nodeCount ws) m (heldBy (task ws k))
+  held-marked t v h e f =
+      f ∙ ap (λ (r : Task). markAll (nodeCount ws) m (heldBy r)) (ap taskMeant e ∙ task-read ws k h)
+
+  pub held-kept : (v u : Marking) → k < taskCount ws → v ≡ markAll (nodeCount ws) m (heldBy (task ws k))
+      → markAll (nodeCount ws) m (left-to-mark k) ≡ u → markAll (nodeCount ws) v (left-to-mark (k + 1)) ≡ u
+  unfolding heldFrom
+  held-kept v u h e q =
+      let n : taskCount ws - k ≡ suc (taskCount ws - suc k) = omega arith in
+      rw (e, add-one)
+      (sym (markAll-append (nodeCount ws) m (heldBy (task ws k)) (left-to-mark (suc k))) ∙ (rw n at q))
+
+  pub held-end : (u : Marking) → taskCount ws ≤ k → markAll (nodeCount ws) m (left-to-mark k) ≡ u → m ≡ u
+  unfolding heldFrom markAll
+  held-end u h q = let n : taskCount ws - k ≡ 0 = omega arith in rw n at q
+
+-- ---- The number at a place of the queue: it is a node, and both of its links marked are the visit.
+module _ (ws : List ℕ) (z : Sized ws) (m : Marking) (r : Room (nodeCount ws) m) (i : ℕ) (h : i < m .tail) where
+  abbrev visited : ℕ
+  visited = getD (m .queue) i 0
+
+  pub holds-queued : HoldsNode (afterHeader ws) visited
+  holds-queued = holds-node ws z visited (r .below i h)
+
+  pub links-marked : (x y : ℕ) (v : Marking) → x ≡ linkIn (afterHeader ws) (sideOf 0) visited
+      → y ≡ linkIn (afterHeader ws) (sideOf 1) visited → v ≡ markAll (nodeCount ws) m (x ∷ y ∷ []) → v ≡ visit ws m i
+  links-marked x y v e f g =
+      let a = e ∙ link-read ws z visited (r .below i h) left in
+      let b = f ∙ link-read ws z visited (r .below i h) right in
+      rw (visit-markAll ws m i, sym a, sym b) g

@@ -1,0 +1,5 @@
+-- What the proofs of the forms share.
+
+pub mod SpaceLaws
+pub mod FormLaws
+pub mod LineLaws

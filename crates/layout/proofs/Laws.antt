@@ -1,0 +1,8 @@
+-- What the proofs about values, nodes and records share, here and in the crates above.
+
+pub mod Tables
+pub mod ValueWords
+pub mod NodeWords
+pub mod RecordStores
+pub mod NodesPart
+pub mod Fronts

@@ -1,0 +1,5 @@
+-- What the proofs of the printer share.
+
+pub mod WritingLaws
+pub mod Decimals
+pub mod Rows

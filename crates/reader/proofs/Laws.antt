@@ -1,0 +1,7 @@
+-- What the proofs of the reader share.
+
+pub mod SameTexts
+pub mod NumberLaws
+pub mod ScanLaws
+pub mod LineLaws
+pub mod FormLaws

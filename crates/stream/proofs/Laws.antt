@@ -1,0 +1,6 @@
+-- What the proofs of serving a chunk share.
+
+pub mod Chunks
+pub mod TakenLaws
+pub mod HeldLaws
+pub mod ServingLaws

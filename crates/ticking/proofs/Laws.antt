@@ -1,0 +1,9 @@
+-- What the proofs of a tick share: the words it leaves are the definition's.
+
+pub mod Laid
+pub mod Lent
+pub mod LineWords
+pub mod TickReady
+pub mod TickWords
+pub mod MadeTick
+pub mod TickTests
