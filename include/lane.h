@@ -19,6 +19,10 @@
 extern "C" {
 #endif
 
+/* The library's version, and the number of the table's format: a table is worked on by libraries of its format alone. */
+#define LANE_VERSION "1.6.0"
+#define LANE_TABLE_FORMAT 1
+
 /* Words of a table of `slots` (2 to 1,024) and `tasks` (1 to 16): 8 for the header, 3 a slot, 10 a task. */
 #define LANE_WORDS(slots, tasks) (8 + 3 * (size_t)(slots) + 10 * (size_t)(tasks))
 
@@ -46,8 +50,8 @@ extern "C" {
 #define LANE_BAG 2     /* a pop took a bag, the value */
 #define LANE_EMPTY 3   /* a pop found the lane empty */
 #define LANE_FULL 4    /* a push found no free slot */
-#define LANE_YES 5     /* an add or remove did it */
-#define LANE_NO 6      /* an add or remove did not */
+#define LANE_YES 5     /* an add added as many as were free, one at least; a remove has nothing more to do */
+#define LANE_NO 6      /* an add found no free slot; a remove cut off nothing */
 #define LANE_REFUSED 7 /* the tick was refused; the value is the refusal */
 
 /* Refusals. Each call tests those of its list in the order given there. */

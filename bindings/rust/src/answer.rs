@@ -158,7 +158,8 @@ impl<'a> Ran<'a> {
         self.words.len()
     }
 
-    /// What stopped the run, if it did not come to its end.
+    /// What stopped the run, if it did not come to its end: a refusal of the whole run, with no tick made, or of the tick
+    /// after those made, which stay made.
     pub fn refusal(&self) -> Option<Refusal> {
         self.refusal
     }

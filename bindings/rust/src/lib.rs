@@ -35,6 +35,12 @@ pub mod ffi;
 pub use answer::{Answer, Ran, Refusal};
 pub use call::{Operation, Side};
 
+/// The library's version.
+pub const VERSION: &str = env!("CARGO_PKG_VERSION");
+
+/// The number of the table's format: a table is worked on by libraries of its format alone.
+pub const TABLE_FORMAT: u32 = 1;
+
 /// The words of a table: 8 for the header, 3 a slot, 10 a task.
 pub const fn words(slots: u32, tasks: u32) -> usize {
     8 + 3 * slots as usize + 10 * tasks as usize

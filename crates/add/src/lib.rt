@@ -1,12 +1,12 @@
 // Lines 28, 31, 15, 17, 18, 24 and 25: a chain of new nodes is made and joined to the lane's end.
-pub mod unspur;
-
 use hattrick::ends;
 use hattrick::ends::Done;
 use hattrick::marks;
+use hattrick::shapes;
 use layout::nodes;
+use layout::sides;
 use layout::tasks::Task;
-use layout::values::Value;
+use layout::values;
 use machine::Answer;
 ghost use mathlib.Core.Path.{_≡_};
 ghost use mathlib.Core.Logic.{_≢_};
@@ -29,10 +29,10 @@ pub fn line28(ns: &mut [u32], hat: u32, t: Task, goal: u32, found: u32) -> Done
         }
         return ends::answers(hat, Answer::No);
     }
-    let inward = ends::opposite(side);
+    let inward = sides::opposite(side);
     nodes::set_link(ns, side, found, Task::NONE);
     nodes::set_link(ns, inward, found, Task::NONE);
-    nodes::set_value(ns, found, Value::x_of(side));
+    nodes::set_value(ns, found, values::x_of(side));
     ends::next(
         hat,
         t.with(Task::D, found).counting(0),
@@ -55,8 +55,8 @@ pub fn line31(ns: &mut [u32], hat: u32, t: Task, goal: u32, found: u32) -> Done
     if found == Task::NONE {
         return ends::next(hat, t, 15);
     }
-    let inward = ends::opposite(side);
-    nodes::set_value(ns, found, Value::n_of(side));
+    let inward = sides::opposite(side);
+    nodes::set_value(ns, found, values::n_of(side));
     nodes::set_link(ns, inward, found, Task::NONE);
     nodes::set_link(ns, side, found, d);
     nodes::set_link(ns, inward, d, found);
@@ -101,17 +101,7 @@ pub fn line18(ns: &[u32], hat: u32, t: Task) -> Done
     requires { ⌜ Ready (now ns) t ⌝ }
     ensures { λ r. ⌜ Does line18 (now (ns .entry)) hat t (outcomeOf (now (ns .entry)) r) ⌝ }
 {
-    let a = t.registers[Task::A];
-    let side = t.side;
-    if a == Task::NONE {
-        return ends::refused(hat, t);
-    }
-    let x = nodes::link(ns, side, a);
-    ends::next(
-        hat,
-        t.with(Task::A, x),
-        ends::either(x == Task::NONE, 15, 17),
-    )
+    shapes::follow(ns, hat, t, t.side, Task::A, Task::A, 15, 17)
 }
 
 // 24: D.L = A, B = A.R; 25.
@@ -128,7 +118,7 @@ pub fn line24(ns: &mut [u32], hat: u32, t: Task) -> Done
     if d == Task::NONE {
         return ends::refused(hat, t);
     }
-    let inward = ends::opposite(side);
+    let inward = sides::opposite(side);
     let b = nodes::link(ns, side, a);
     nodes::set_link(ns, inward, d, a);
     ends::next(hat, t.with(Task::B, b), 25)
@@ -152,7 +142,7 @@ pub fn line25(ns: &mut [u32], hat: u32, t: Task) -> Done
     let x = marks::is_x(nodes::value(ns, a), side);
     if ends::both(outward == b, x) {
         nodes::set_link(ns, side, a, d);
-        nodes::set_value(ns, a, Value::n_of(side));
+        nodes::set_value(ns, a, values::n_of(side));
         if operation == Task::PUSH {
             return ends::next(hat, t.with(Task::D, Task::NONE).counting(0), 2);
         }

@@ -20,5 +20,5 @@ abbrev pub isIn : (entry : ℕ) → Register → Bool
 isIn e r = not (eqb (e / bitOf r % 2) 0)
 
 -- At every step's number the entry has the registers that hold there; past the end it is 0, and none holds.
-abbrev pub Exact : (table : List ℕ) → Type 0
-Exact table = (s : ℕ) (r : Register) → isIn (getD table s 0) r ≡ holds (stepOf s) r
+pub record Exact (table : List ℕ) : Type 0 where
+  pub at-step : (s : ℕ) (r : Register) → isIn (getD table s 0) r ≡ holds (stepOf s) r

@@ -1,20 +1,21 @@
--- What the search asks of a table, and how the code holds the marking.
-use mathlib.Core.Path.{_≡_}
+-- How the code holds the marking, and what each function that marks asks of it and of the table.
 use mathlib.Core.List.{List, [], _∷_}
-use Prim.Native.Nat.{ℕ, _≤_}
-use lib.ListN.{length}
+use Prim.Native.Nat.{ℕ}
 use Rattle.machine.specs.Sides.{left, right}
-use Rattle.machine.specs.Table.{tableLength, nodeCount, taskCount, hat}
-use Rattle.machine.specs.Allocate.{largestCount, Marking}
-
--- The sizes fit. Nothing is asked of hats, links and registers: a number that is no node is not marked.
-pub record Sized (ws : List ℕ) : Type 0 where
-  pub few : nodeCount ws ≤ largestCount
-  pub long : length ws ≡ tableLength (nodeCount ws) (taskCount ws)
+use Rattle.machine.specs.Table.{nodeCount, hat}
+use Rattle.machine.specs.Allocate.{Marking}
+use Rattle.machine.proofs.Words.Columns.{sizesOf}
+use Rattle.machine.proofs.Shape.ShapeLaws.{WellSized}
+use Rattle.machine.proofs.SlotRule.Marking.{Room}
 
 -- The marking of two arrays and the end of the queue.
 abbrev pub markingOf : (marks queue : List ℕ) (tail : ℕ) → Marking
 markingOf ms q n = record { marks = ms; queue = q; tail = n }
+
+-- Nothing is asked of hats, links and registers: a number that is no node is not marked.
+pub record Searchable (ws : List ℕ) (m : Marking) : Type 0 where
+  pub well-sized : WellSized (sizesOf ws)
+  pub room : Room (nodeCount ws) m
 
 abbrev pub hats : List ℕ → List ℕ
 hats ws = hat ws left ∷ hat ws right ∷ []

@@ -104,13 +104,13 @@ pub const HELD: [u8; 83] = [
 ];
 
 // The bits of the registers that hold at a step; no step is past the table's end.
-pub fn entry(table: &[u8; 83], step: u32) -> u8
-    requires { ⌜ Exact (now table) ⌝ }
+pub fn entry(held: &[u8; 83], step: u32) -> u8
+    requires { ⌜ Exact (now held) ⌝ }
     ensures { λ e. ⌜ ((r : Register) → isIn e r ≡ holds (stepOf step) r) ⌝ }
 {
     let i = step as usize;
-    if i >= table.len() {
+    if i >= held.len() {
         return NOTHING;
     }
-    table[i]
+    held[i]
 }

@@ -1,5 +1,5 @@
 // The search for a free node: what the hats and the tasks reach is marked, and the first node without a mark is it.
-// In each function t is the table and n the number of its nodes. The marks, one a node, and the queue of marked nodes,
+// In each function n is the number of the table's nodes. The marks, one a node, and the queue of marked nodes,
 // which ends at tail, have a place for each of the 1,024 nodes that a table may have.
 mod held;
 
@@ -13,18 +13,18 @@ use layout::nodes::link;
 use layout::places::HEADER;
 use layout::places::LEFT_HAT;
 use layout::places::NODE_COUNT;
-use layout::places::NODE_WORDS;
-use layout::places::RECORD_WORDS;
 use layout::places::RIGHT_HAT;
 use layout::places::TASK_COUNT;
+use layout::table::task;
 use layout::tasks::Task;
 ghost use mathlib.Core.Path.{_≡_};
-ghost use mathlib.Core.Bool.{cond, not};
+ghost use mathlib.Core.Bool.{true, cond, not};
 ghost use mathlib.Core.List.{[], _∷_};
 ghost use Prim.Native.Nat.{_<_, _≤_};
 ghost use lib.Dec.{eqb};
 ghost use Rattle.machine.specs.Tasks.{none};
 ghost use Rattle.machine.specs.Table.{nodeCount, taskCount};
+ghost use Rattle.machine.specs.Shape.{lengthOk};
 ghost use Rattle.machine.specs.Allocate.{
   heldBy,
   heldFrom,
@@ -40,7 +40,7 @@ ghost use Rattle.machine.specs.Allocate.{
 ghost use Rattle.machine.proofs.SlotRule.Marking.{Room};
 ghost use Rattle.layout.specs.Coded.{taskMeant};
 ghost use Rattle.alloc.specs.Bits.{Exact};
-ghost use Rattle.alloc.specs.Tables.{Sized, markingOf, hats};
+ghost use Rattle.alloc.specs.Tables.{markingOf, Searchable, hats};
 
 // Marks x and puts it at the end of the queue, unless it is no node or has a mark. Answers where the queue now ends,
 // as every function does that marks.
@@ -78,15 +78,15 @@ fn mark_both(
 }
 
 // Marks both hats.
-fn mark_hats(t: &[u32], marks: &mut [u8; 1024], queue: &mut [u32; 1024], tail: usize) -> usize
-    requires { ⌜ Sized (now t) × Room (nodeCount (now t)) (markingOf (now marks) (now queue) tail) ⌝ }
+fn mark_hats(table: &[u32], marks: &mut [u8; 1024], queue: &mut [u32; 1024], tail: usize) -> usize
+    requires { ⌜ Searchable (now table) (markingOf (now marks) (now queue) tail) ⌝ }
     ensures { λ r. ⌜ markingOf (now (marks .exit)) (now (queue .exit)) r
-        ≡ markAll (nodeCount (now (t .entry))) (markingOf (now (marks .entry)) (now (queue .entry)) tail)
-        (hats (now (t .entry))) ⌝ }
+        ≡ markAll (nodeCount (now (table .entry))) (markingOf (now (marks .entry)) (now (queue .entry)) tail)
+        (hats (now (table .entry))) ⌝ }
 {
-    let n = t[NODE_COUNT] as usize;
-    let l = t[LEFT_HAT];
-    let r = t[RIGHT_HAT];
+    let n = table[NODE_COUNT] as usize;
+    let l = table[LEFT_HAT];
+    let r = table[RIGHT_HAT];
     mark_both(marks, queue, tail, n, l, r)
 }
 
@@ -115,14 +115,14 @@ fn mark_held(
     queue: &mut [u32; 1024],
     tail: usize,
     n: usize,
-    table: &[u8; 83],
+    held: &[u8; 83],
     task: Task,
 ) -> usize
-    requires { ⌜ Exact (now table) × Room n (markingOf (now marks) (now queue) tail) ⌝ }
+    requires { ⌜ Exact (now held) × Room n (markingOf (now marks) (now queue) tail) ⌝ }
     ensures { λ r. ⌜ markingOf (now (marks .exit)) (now (queue .exit)) r
         ≡ markAll n (markingOf (now (marks .entry)) (now (queue .entry)) tail) (heldBy (taskMeant task)) ⌝ }
 {
-    let e = entry(table, task.step);
+    let e = entry(held, task.step);
     let after_a = mark_found(marks, queue, tail, n, e / A % 2, task.registers[Task::A]);
     let after_b = mark_found(marks, queue, after_a, n, e / B % 2, task.registers[Task::B]);
     let after_c = mark_found(marks, queue, after_b, n, e / C % 2, task.registers[Task::C]);
@@ -130,20 +130,24 @@ fn mark_held(
 }
 
 // Marks what each task holds.
-fn mark_tasks(t: &[u32], marks: &mut [u8; 1024], queue: &mut [u32; 1024], mut tail: usize) -> usize
-    requires { ⌜ Sized (now t) × Room (nodeCount (now t)) (markingOf (now marks) (now queue) tail) ⌝ }
+fn mark_tasks(
+    table: &[u32],
+    marks: &mut [u8; 1024],
+    queue: &mut [u32; 1024],
+    mut tail: usize,
+) -> usize
+    requires { ⌜ Searchable (now table) (markingOf (now marks) (now queue) tail) ⌝ }
     ensures { λ r. ⌜ markingOf (now (marks .exit)) (now (queue .exit)) r
-        ≡ markAll (nodeCount (now (t .entry))) (markingOf (now (marks .entry)) (now (queue .entry)) tail)
-        (heldFrom (now (t .entry)) (taskCount (now (t .entry))) 0) ⌝ }
+        ≡ markAll (nodeCount (now (table .entry))) (markingOf (now (marks .entry)) (now (queue .entry)) tail)
+        (heldFrom (now (table .entry)) (taskCount (now (table .entry))) 0) ⌝ }
 {
-    let n = t[NODE_COUNT] as usize;
-    let count = t[TASK_COUNT] as usize;
+    let n = table[NODE_COUNT] as usize;
+    let count = table[TASK_COUNT];
     // Once here, and not at each task.
-    let table = HELD;
+    let held = HELD;
     let mut k = 0;
     while k < count {
-        let task = Task::read(t, HEADER + NODE_WORDS * n + RECORD_WORDS * k);
-        tail = mark_held(marks, queue, tail, n, &table, task);
+        tail = mark_held(marks, queue, tail, n, &held, task(table, k));
         k += 1;
     }
     tail
@@ -151,32 +155,33 @@ fn mark_tasks(t: &[u32], marks: &mut [u8; 1024], queue: &mut [u32; 1024], mut ta
 
 // Marks both links of the node at a place of the queue.
 fn visit(
-    t: &[u32],
+    table: &[u32],
     marks: &mut [u8; 1024],
     queue: &mut [u32; 1024],
     tail: usize,
     place: usize,
 ) -> usize
-    requires { ⌜ Sized (now t) × Room (nodeCount (now t)) (markingOf (now marks) (now queue) tail) × (place < tail) ⌝ }
+    requires { ⌜ Searchable (now table) (markingOf (now marks) (now queue) tail) × (place < tail) ⌝ }
     ensures { λ r. ⌜ markingOf (now (marks .exit)) (now (queue .exit)) r
-        ≡ visit (now (t .entry)) (markingOf (now (marks .entry)) (now (queue .entry)) tail) place ⌝ }
+        ≡ visit (now (table .entry)) (markingOf (now (marks .entry)) (now (queue .entry)) tail) place ⌝ }
 {
-    let n = t[NODE_COUNT] as usize;
+    let n = table[NODE_COUNT] as usize;
     let x = queue[place];
-    let l = link(&t[HEADER..], 0, x);
-    let r = link(&t[HEADER..], 1, x);
+    let nodes = &table[HEADER..];
+    let l = link(nodes, 0, x);
+    let r = link(nodes, 1, x);
     mark_both(marks, queue, tail, n, l, r)
 }
 
 // Visits the queue until its end, which moves on as nodes are marked.
-fn spread(t: &[u32], marks: &mut [u8; 1024], queue: &mut [u32; 1024], mut tail: usize) -> usize
-    requires { ⌜ Sized (now t) × Room (nodeCount (now t)) (markingOf (now marks) (now queue) tail) ⌝ }
+fn spread(table: &[u32], marks: &mut [u8; 1024], queue: &mut [u32; 1024], mut tail: usize) -> usize
+    requires { ⌜ Searchable (now table) (markingOf (now marks) (now queue) tail) ⌝ }
     ensures { λ r. ⌜ markingOf (now (marks .exit)) (now (queue .exit)) r
-        ≡ visitFrom (now (t .entry)) largestCount 0 (markingOf (now (marks .entry)) (now (queue .entry)) tail) ⌝ }
+        ≡ visitFrom (now (table .entry)) largestCount 0 (markingOf (now (marks .entry)) (now (queue .entry)) tail) ⌝ }
 {
     let mut head = 0;
     while head < tail {
-        tail = visit(t, marks, queue, tail, head);
+        tail = visit(table, marks, queue, tail, head);
         head += 1;
     }
     tail
@@ -211,15 +216,15 @@ fn search(marks: &[u8; 1024], n: usize, hint: usize) -> u32
 }
 
 // The first free node from the hint on, going round, or none.
-pub fn first_free(t: &[u32], hint: usize) -> u32
-    requires { ⌜ Sized (now t) × (hint < nodeCount (now t)) ⌝ }
-    ensures { λ r. ⌜ r ≡ allocate (now (t .entry)) hint ⌝ }
+pub fn first_free(table: &[u32], hint: usize) -> u32
+    requires { ⌜ (lengthOk (now table) ≡ true) × (hint < nodeCount (now table)) ⌝ }
+    ensures { λ r. ⌜ r ≡ allocate (now (table .entry)) hint ⌝ }
 {
-    let n = t[NODE_COUNT] as usize;
+    let n = table[NODE_COUNT] as usize;
     let mut marks = [0u8; 1024];
     let mut queue = [0u32; 1024];
-    let hats_end = mark_hats(t, &mut marks, &mut queue, 0);
-    let roots_end = mark_tasks(t, &mut marks, &mut queue, hats_end);
-    spread(t, &mut marks, &mut queue, roots_end);
+    let hats_end = mark_hats(table, &mut marks, &mut queue, 0);
+    let roots_end = mark_tasks(table, &mut marks, &mut queue, hats_end);
+    spread(table, &mut marks, &mut queue, roots_end);
     search(&marks, n, hint)
 }

@@ -7,17 +7,20 @@ use mathlib.Core.Option.{some, none as nothing}
 use Prim.Native.Nat.{ℕ, _≤_, _<_}
 use native.Mathlib.Decide.{ℕ-discrete}
 use lib.Dec.{leb}
-use lib.ListN.{getD}
 use borrow.Author.Tests.{lt-ltb, le-ltb, leb-true}
 use Rattle.machine.specs.declared.Reply.the-variants.{Accepted, Refused}
+use Rattle.machine.specs.declared.Stored.{Stored}
 use Rattle.machine.specs.Sides.{sideOf}
+use Rattle.machine.specs.Values.{number}
 use Rattle.machine.specs.Operations.{Operation, idle, push, pop, add, remove, operationOf, argumentOk}
-use Rattle.machine.specs.Table.{nodeCount, taskCount, recordAt, task, setTask}
+use Rattle.machine.specs.Tasks.{operationWord}
+use Rattle.machine.specs.Table.{taskCount, recordWords, task, setTask}
+use Rattle.machine.specs.Shape.{WellFormed}
 use Rattle.machine.specs.Calls.{isBusy, isIdle, tableRefusal, beginRefusal, begunTask, begin}
 use Rattle.machine.proofs.Basics.Contradiction.{clash}
 use Rattle.machine.proofs.Basics.Tests.{and-left, and-right}
 use Rattle.machine.specs.Results.{changedOf}
-use Rattle.shape.specs.Contracts.{numberOf, Passed}
+use Rattle.shape.specs.Contracts.{numberOf}
 use Rattle.shape.proofs.Laws.PassedTable.{refused, operation-is, busy-task}
 
 busy-not-idle : (op : Operation) → isBusy op ≡ true → isIdle op ≡ false
@@ -38,7 +41,7 @@ pub side-low : (op side : ℕ) → callOk op side ≡ true → side ≤ 1
 side-low op side h = leb-true side 1 (search (and-left, and-right))
 
 -- ---- Refusals 3 and 4 by their number.
-module _ (ws : List ℕ) {n : ℕ} (is-number : n ≡ numberOf (tableRefusal ws nothing)) (k op side argument : ℕ) where
+module _ (ws : List ℕ) {n : ℕ} (is-number : n ≡ numberOf (tableRefusal ws nothing)) (k op side : ℕ) (argument : Stored) where
   stopped : beginRefusal ws k op side argument ≡ some n → changedOf (Refused n) ws ≡ begin ws k op side argument
   unfolding begin
   stopped e = rw (e, begin)
@@ -47,7 +50,7 @@ module _ (ws : List ℕ) {n : ℕ} (is-number : n ≡ numberOf (tableRefusal ws 
   begin-refused h = stopped (refused ws is-number h _)
 
 -- ---- The others, of a table that passes.
-module _ (ws : List ℕ) (P : Passed ws) (k op side argument : ℕ) where
+module _ (ws : List ℕ) (P : WellFormed ws) (k op side : ℕ) (argument : Stored) where
   pub begin-5 : taskCount ws ≤ k → changedOf (Refused 5) ws ≡ begin ws k op side argument
   unfolding begin
   begin-5 h = rw (P .length-passes, P .shape-passes, le-ltb k (taskCount ws) h, begin)
@@ -65,7 +68,7 @@ module _ (ws : List ℕ) (P : Passed ws) (k op side argument : ℕ) where
 
       module _ (is-argument : argumentOk (operationOf op) argument ≡ true) where
         pub begin-8 :
-            getD ws (recordAt (nodeCount ws) k) 0 ≢ 0 → changedOf (Refused 8) ws ≡ begin ws k op side argument
+            operationWord (recordWords ws k) ≢ 0 → changedOf (Refused 8) ws ≡ begin ws k op side argument
         unfolding begin
         begin-8 h =
             let i : isIdle (task ws k .operation) ≡ false
@@ -73,8 +76,8 @@ module _ (ws : List ℕ) (P : Passed ws) (k op side argument : ℕ) where
             rw (P .length-passes, P .shape-passes, lt-ltb k (taskCount ws) is-task, call, is-argument, i, begin)
 
         pub begin-accepted :
-            getD ws (recordAt (nodeCount ws) k) 0 ≡ 0
-            → changedOf Accepted (setTask k (begunTask (operationOf op) (sideOf side) argument) ws)
+            operationWord (recordWords ws k) ≡ 0
+            → changedOf Accepted (setTask k (begunTask (operationOf op) (sideOf side) (number argument)) ws)
             ≡ begin ws k op side argument
         unfolding begin ℕ-discrete
         begin-accepted e =

@@ -1,24 +1,23 @@
 // The call begin: any slice, any numbers. A refusal changes no lent word.
-use layout::places::HEADER;
-use layout::places::NODE_COUNT;
-use layout::places::NODE_WORDS;
-use layout::places::RECORD_WORDS;
+use layout::operations::argument_ok;
 use layout::places::TASK_COUNT;
+use layout::table;
 use layout::tasks::Task;
 use machine::Reply;
-use shape::records::argument_ok;
+use machine::Stored;
 use shape::table_refusal;
 ghost use mathlib.Core.Path.{_≡_};
 ghost use mathlib.Core.Bool.{_&&_};
 ghost use Prim.Native.Nat.{_≤_};
 ghost use lib.Dec.{leb};
 ghost use Rattle.machine.specs.Sides.{sideOf};
+ghost use Rattle.machine.specs.Values.{number};
 ghost use Rattle.machine.specs.Operations.{operationOf};
 ghost use Rattle.machine.specs.Steps.{firstStep, stepNumber};
+ghost use Rattle.machine.specs.Shape.{WellFormed};
 ghost use Rattle.machine.specs.Calls.{begunTask, begin};
 ghost use Rattle.layout.specs.Coded.{codedTask};
 ghost use Rattle.machine.specs.Results.{changedOf};
-ghost use Rattle.shape.specs.Contracts.{Passed};
 
 // The operation is push, pop, add or remove, and the side is left or right.
 fn call_ok(operation: u32, side: u32) -> bool
@@ -41,9 +40,9 @@ fn first_step(operation: u32) -> u32
 }
 
 // 01: a fresh record with operation, side, argument and first step.
-fn begun(operation: u32, side: u32, argument: u32) -> Task
+fn begun(operation: u32, side: u32, argument: Stored) -> Task
     requires { ⌜ (operation ≤ 4) × (side ≤ 1) ⌝ }
-    ensures { λ r. ⌜ r ≡ codedTask (begunTask (operationOf operation) (sideOf side) argument) ⌝ }
+    ensures { λ r. ⌜ r ≡ codedTask (begunTask (operationOf operation) (sideOf side) (number argument)) ⌝ }
 {
     let mut k = Task::fresh().at(first_step(operation));
     k.operation = operation;
@@ -53,13 +52,11 @@ fn begun(operation: u32, side: u32, argument: u32) -> Task
 }
 
 // 01: checks 5, 6, 7 and 8, then the record.
-fn begin_on(t: &mut [u32], task: u32, operation: u32, side: u32, argument: u32) -> Reply
-    requires { ⌜ Passed (now t) ⌝ }
-    ensures { λ r. ⌜ changedOf r (now (t .exit)) ≡ begin (now (t .entry)) task operation side argument ⌝ }
+fn begin_on(table: &mut [u32], task: u32, operation: u32, side: u32, argument: Stored) -> Reply
+    requires { ⌜ WellFormed (now table) ⌝ }
+    ensures { λ r. ⌜ changedOf r (now (table .exit)) ≡ begin (now (table .entry)) task operation side argument ⌝ }
 {
-    let slots = t[NODE_COUNT];
-    let tasks = t[TASK_COUNT];
-    if tasks <= task {
+    if table[TASK_COUNT] <= task {
         return Reply::Refused(5);
     }
     if !call_ok(operation, side) {
@@ -68,22 +65,21 @@ fn begin_on(t: &mut [u32], task: u32, operation: u32, side: u32, argument: u32) 
     if !argument_ok(operation, argument) {
         return Reply::Refused(7);
     }
-    let at = HEADER + NODE_WORDS * (slots as usize) + RECORD_WORDS * (task as usize);
-    let running = t[at];
-    if running != Task::IDLE {
+    let old = table::task(table, task);
+    if old.operation != Task::IDLE {
         return Reply::Refused(8);
     }
-    begun(operation, side, argument).write(t, at);
+    table::set_task(table, task, begun(operation, side, argument));
     Reply::Accepted
 }
 
 // 01: refusals 3 to 8, then the record of a task that begins a call.
-pub fn begin(t: &mut [u32], task: u32, operation: u32, side: u32, argument: u32) -> Reply
-    ensures { λ r. ⌜ changedOf r (now (t .exit)) ≡ begin (now (t .entry)) task operation side argument ⌝ }
+pub fn begin(table: &mut [u32], task: u32, operation: u32, side: u32, argument: Stored) -> Reply
+    ensures { λ r. ⌜ changedOf r (now (table .exit)) ≡ begin (now (table .entry)) task operation side argument ⌝ }
 {
-    let n = table_refusal(t);
+    let n = table_refusal(table);
     if n != 0 {
         return Reply::Refused(n);
     }
-    begin_on(t, task, operation, side, argument)
+    begin_on(table, task, operation, side, argument)
 }

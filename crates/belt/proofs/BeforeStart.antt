@@ -1,21 +1,21 @@
 -- Before a start: the forms on a table of no words, computed.
 use mathlib.Core.Path.{_≡_, refl}
-use mathlib.Core.List.{List, []}
+use mathlib.Core.List.{[]}
 use Prim.Native.Nat.{ℕ, suc}
-use Rattle.machine.specs.Calls.{begin, tick, read}
-use Rattle.printer.specs.declared.Outcome.the-variants.{Refused}
-use Rattle.belt.specs.Forms.{beginLine, tickLine, laneLine}
-use Rattle.belt.specs.Space.{answeredOf, shownOf}
+use Rattle.machine.specs.Calls.{begin, tick}
+use Rattle.printer.specs.Lines.{refusedText}
+use Rattle.belt.specs.Forms.{beginCommand, tickCommand, laneCommand}
+use Rattle.belt.specs.Space.{answeredOf}
 
 -- 01: before an accepted start the others give 3.
-pub begin-first : (k op side argument : ℕ) → beginLine [] k op side argument ≡ answeredOf (Refused 3) []
-unfolding beginLine begin
+pub begin-first : (k op side argument : ℕ) → beginCommand [] k op side argument ≡ answeredOf (refusedText 3) []
+unfolding beginCommand begin
 begin-first k op side argument = refl
 
-pub tick-first : (n k h : ℕ) → tickLine (suc n) [] k h ≡ answeredOf (Refused 3) []
-unfolding tickLine tick
+pub tick-first : (n k h : ℕ) → tickCommand (suc n) [] k h ≡ answeredOf (refusedText 3) []
+unfolding tickCommand tick
 tick-first n k h = refl
 
-pub lane-first : (out : List ℕ) → laneLine [] out ≡ shownOf (Refused 3) out
-unfolding laneLine read
-lane-first out = refl
+pub lane-first : laneCommand [] ≡ answeredOf (refusedText 3) []
+unfolding laneCommand
+lane-first = refl

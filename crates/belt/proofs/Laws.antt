@@ -2,4 +2,4 @@
 
 pub mod SpaceLaws
 pub mod FormLaws
-pub mod LineLaws
+pub mod LaneLaws

@@ -18,20 +18,18 @@ use Rattle.machine.specs.Calls.{
   tick,
   laneFrom,
   lane,
-  readInto,
-  read,
 }
 use Rattle.reader.specs.Scanned.{scanByte, scanBytes}
-use Rattle.reader.specs.Lines.{ticks, beginOr, beginOf, formOf, lineOf, lineRead}
-use Rattle.printer.specs.Lines.{digitsIn, spaced, textOf}
-use Rattle.belt.specs.Forms.{startLine, beginLine, tickLine, laneLine}
+use Rattle.reader.specs.Commands.{ticks, beginOr, beginOf, formOf, commandOf, commandRead}
+use Rattle.printer.specs.Lines.{digitsIn, spaced}
+use Rattle.belt.specs.Forms.{startCommand, beginCommand, tickCommand, laneCommand}
 use Rattle.belt.specs.Run.{answer, printed, linesOf, beltRun}
 use Rattle.belt.specs.Paper.{paperInput, paperOutput}
 
 pub worked : beltRun paperInput ≡ paperOutput
-unfolding beltRun linesOf printed answer startLine beginLine tickLine laneLine digitsIn spaced textOf scanByte
-    scanBytes ticks beginOr beginOf formOf lineOf lineRead ℕ-discrete decLt decLe Value-discrete decode stepIn stepOf
-    isStepIn link value task allBelow sameWords nodeOk busyOk recordOk shapeOk heldFrom roots mark markAll visit
+unfolding beltRun linesOf printed answer startCommand beginCommand tickCommand laneCommand digitsIn spaced scanByte
+    scanBytes ticks beginOr beginOf formOf commandOf commandRead ℕ-discrete decLt decLe Value-discrete decode stepIn
+    stepOf isStepIn link value task allBelow sameWords nodeOk busyOk recordOk shapeOk heldFrom roots mark markAll visit
     visitFrom marked firstUnmarked allocate writeAll act times startWords start begin effectOf applied tickOn tick
-    laneFrom lane readInto read
+    laneFrom lane
 worked = refl

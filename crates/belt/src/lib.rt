@@ -1,56 +1,69 @@
-// A line of the belt run answered over the program's table: the first words of one lent space.
+// A command of the belt run answered over the program's table: the first words of one lent space.
 mod forms;
-mod outcomes;
 
-use forms::begin_line;
-use forms::lane_line;
-use forms::start_line;
-use forms::tick_line;
+use forms::begin_command;
+use forms::lane_command;
+use forms::start_command;
+use forms::tick_command;
 use printer::Outcome;
-use reader::Line;
+use reader::Command;
 ghost use Prim.Native.Nat.{_≤_};
 ghost use lib.ListN.{length, take};
+ghost use Rattle.printer.specs.Outcomes.{textOf, countOf};
 ghost use Rattle.belt.specs.Run.{answer};
-ghost use Rattle.belt.specs.Space.{largestTable, Answers};
+ghost use Rattle.belt.specs.Space.{largestTable, Leaves};
 
-// What a line comes to, and how many words of the space the table takes afterwards.
+pub const MOST_BAGS: usize = 1_024;
+
+// Places for the bags of a lane: no table has more nodes.
+pub type Bags = [u32; MOST_BAGS];
+
+// What a command comes to, and how many words of the space the table takes afterwards.
 pub struct Done {
     pub outcome: Outcome,
     pub len: usize,
 }
 
-// Does what a line says. The bags of a lane are the first words of their slice.
-pub fn answer(line: Line, space: &mut [u32], len: usize, bags: &mut [u32]) -> Done
+// Does what a command says. The bags of a lane are the first of their places, whatever stood there before.
+pub fn answer(command: Command, space: &mut [u32], len: usize, bags: &mut Bags) -> Done
     requires { ⌜ (len ≤ length (now space)) × (largestTable ≤ length (now space)) ⌝ }
-    ensures { λ r. ⌜ Answers (now (space .entry)) (now (space .exit)) (r .len) (r .outcome) (now (bags .exit))
-        (answer line (take len (now (space .entry))) (now (bags .entry))) ⌝ }
+    ensures { λ r. ⌜ Leaves (now (space .entry)) (now (space .exit)) (r .len)
+        (textOf (r .outcome) (now (bags .exit))) (answer command (take len (now (space .entry)))) ⌝ }
+    ensures { λ r. ⌜ countOf (r .outcome) ≤ length (now (bags .exit)) ⌝ }
 {
-    match line {
-        Line::Start {
+    match command {
+        Command::Start {
             slots,
             tasks,
             growth,
         } => {
-            return start_line(space, len, slots, tasks, growth);
+            let started = start_command(space, len, slots, tasks, growth);
+            let reply = started.reply;
+            let outcome = Outcome::Replied(reply);
+            let len = started.len;
+            return Done { outcome, len };
         }
-        Line::Begin {
+        Command::Begin {
             task,
             operation,
             side,
             argument,
         } => {
-            let outcome = begin_line(space, len, task, operation, side, argument);
+            let reply = begin_command(space, len, task, operation, side, argument);
+            let outcome = Outcome::Replied(reply);
             return Done { outcome, len };
         }
-        Line::Tick { task, hint, times } => {
-            let outcome = tick_line(space, len, task, hint, times);
+        Command::Tick { task, hint, times } => {
+            let answer = tick_command(space, len, task, hint, times);
+            let outcome = Outcome::Ticked(answer);
             return Done { outcome, len };
         }
-        Line::Lane => {
-            let outcome = lane_line(space, len, bags);
+        Command::Lane => {
+            let reading = lane_command(space, len, bags);
+            let outcome = Outcome::Lane(reading);
             return Done { outcome, len };
         }
-        Line::Unread => {
+        Command::Unread => {
             return Done {
                 outcome: Outcome::Unread,
                 len,

@@ -9,7 +9,7 @@ use Rattle.machine.specs.declared.Answer.the-variants.{Going, Pushed, Bag, Empt
 use Rattle.machine.specs.declared.Reply.{Reply}
 use Rattle.machine.specs.declared.Reply.the-variants.{Accepted, Refused as Reply-Refused}
 use Rattle.machine.specs.Sides.{Side, left, right}
-use Rattle.machine.specs.Values.{Value, N, X, Y}
+use Rattle.machine.specs.Values.{Value, N, X, Y, stored}
 use Rattle.machine.specs.Tasks.{none}
 use Rattle.machine.specs.Table.{hat, link, value}
 use Rattle.machine.specs.Row.{isGoing}
@@ -62,7 +62,7 @@ tickUntil (suc n) made ws k h =
 unfoldable pub acts : Action → List ℕ → Acted
 acts (starts S T g) ws = let r = start ws S T g in record { outcome = replies (r .reply); table = r .words }
 acts (begins k op side argument) ws =
-    let r = begin ws k op side argument in record { outcome = replies (r .reply); table = r .words }
+    let r = begin ws k op side (stored argument) in record { outcome = replies (r .reply); table = r .words }
 acts (ticks k h most) ws = tickUntil most 0 ws k h
 acts looks-at-lane ws = record { outcome = lane-is (lane ws); table = ws }
 acts (looks-at-hat s) ws = record { outcome = hat-is (hat ws s); table = ws }

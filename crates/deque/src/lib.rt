@@ -1,5 +1,6 @@
 // The five calls for C and Rust: tables, lists and out slices as a pointer and a length in words, answers as numbers.
 use beginning::begin;
+use layout::values::of_number;
 use machine::Reading;
 use machine::Reply;
 use machine::kind;
@@ -9,6 +10,7 @@ use running::run;
 use starting::start;
 use ticking::tick;
 ghost use mathlib.Core.Path.{_≡_};
+ghost use Rattle.machine.specs.Values.{stored};
 ghost use Rattle.machine.specs.Answers.{replyNumber};
 ghost use Rattle.machine.specs.Calls as calls;
 ghost use Rattle.deque.specs.Exports.{pairOf, answerNumber, ranNumber, readingNumber};
@@ -40,55 +42,55 @@ fn reading_number(r: Reading) -> u64
 
 // 0, or the refusal.
 #[no_mangle]
-pub extern "C" fn lane_start(t: &mut [u32], slots: u32, tasks: u32, growth: u32) -> u32
-    ensures { λ r. ⌜ r ≡ replyNumber (calls.start (now (t .entry)) slots tasks growth .reply) ⌝ }
-    ensures { λ r. ⌜ now (t .exit) ≡ calls.start (now (t .entry)) slots tasks growth .words ⌝ }
+pub extern "C" fn lane_start(table: &mut [u32], slots: u32, tasks: u32, growth: u32) -> u32
+    ensures { λ r. ⌜ r ≡ replyNumber (calls.start (now (table .entry)) slots tasks growth .reply) ⌝ }
+    ensures { λ r. ⌜ now (table .exit) ≡ calls.start (now (table .entry)) slots tasks growth .words ⌝ }
 {
-    reply_number(start(t, slots, tasks, growth))
+    reply_number(start(table, slots, tasks, growth))
 }
 
 // 0, or the refusal.
 #[no_mangle]
 pub extern "C" fn lane_begin(
-    t: &mut [u32],
+    table: &mut [u32],
     task: u32,
     operation: u32,
     side: u32,
     argument: u32,
 ) -> u32
-    ensures { λ r. ⌜ r ≡ replyNumber (calls.begin (now (t .entry)) task operation side argument .reply) ⌝ }
-    ensures { λ r. ⌜ now (t .exit) ≡ calls.begin (now (t .entry)) task operation side argument .words ⌝ }
+    ensures { λ r. ⌜ r ≡ replyNumber (calls.begin (now (table .entry)) task operation side (stored argument) .reply) ⌝ }
+    ensures { λ r. ⌜ now (table .exit) ≡ calls.begin (now (table .entry)) task operation side (stored argument) .words ⌝ }
 {
-    reply_number(begin(t, task, operation, side, argument))
+    reply_number(begin(table, task, operation, side, of_number(argument)))
 }
 
 // The kind times 2^32 plus the bag or 0; kind 7 for a refusal, with its number.
 #[no_mangle]
-pub extern "C" fn lane_tick(t: &mut [u32], task: u32, hint: u32) -> u64
-    ensures { λ r. ⌜ r ≡ answerNumber (calls.tick (now (t .entry)) task hint .answer) ⌝ }
-    ensures { λ r. ⌜ now (t .exit) ≡ calls.tick (now (t .entry)) task hint .words ⌝ }
+pub extern "C" fn lane_tick(table: &mut [u32], task: u32, hint: u32) -> u64
+    ensures { λ r. ⌜ r ≡ answerNumber (calls.tick (now (table .entry)) task hint .answer) ⌝ }
+    ensures { λ r. ⌜ now (table .exit) ≡ calls.tick (now (table .entry)) task hint .words ⌝ }
 {
-    let a = tick(t, task, hint);
+    let a = tick(table, task, hint);
     pair(kind(a), payload(a))
 }
 
 // The ticks made times 2^32 plus the refusal that stopped the run, or 0.
 #[no_mangle]
-pub extern "C" fn lane_run(t: &mut [u32], list: &[u32], answers: &mut [u32]) -> u64
-    ensures { λ r. ⌜ r ≡ ranNumber (calls.run (now (t .entry)) (now (list .entry)) (now (answers .entry)) .ran) ⌝ }
-    ensures { λ r. ⌜ now (t .exit) ≡ calls.run (now (t .entry)) (now (list .entry)) (now (answers .entry)) .words ⌝ }
+pub extern "C" fn lane_run(table: &mut [u32], list: &[u32], answers: &mut [u32]) -> u64
+    ensures { λ r. ⌜ r ≡ ranNumber (calls.run (now (table .entry)) (now (list .entry)) (now (answers .entry)) .ran) ⌝ }
+    ensures { λ r. ⌜ now (table .exit) ≡ calls.run (now (table .entry)) (now (list .entry)) (now (answers .entry)) .words ⌝ }
     ensures { λ r. ⌜ now (answers .exit)
-        ≡ calls.run (now (t .entry)) (now (list .entry)) (now (answers .entry)) .answers ⌝ }
+        ≡ calls.run (now (table .entry)) (now (list .entry)) (now (answers .entry)) .answers ⌝ }
 {
-    let ran = run(t, list, answers);
+    let ran = run(table, list, answers);
     pair(ran.made, ran.refusal)
 }
 
 // The count of the bags, or 2^32 plus the refusal.
 #[no_mangle]
-pub extern "C" fn lane_read(t: &[u32], out: &mut [u32]) -> u64
-    ensures { λ r. ⌜ r ≡ readingNumber (calls.read (now (t .entry)) (now (out .entry)) .reading) ⌝ }
-    ensures { λ r. ⌜ now (out .exit) ≡ calls.read (now (t .entry)) (now (out .entry)) .out ⌝ }
+pub extern "C" fn lane_read(table: &[u32], out: &mut [u32]) -> u64
+    ensures { λ r. ⌜ r ≡ readingNumber (calls.read (now (table .entry)) (now (out .entry)) .reading) ⌝ }
+    ensures { λ r. ⌜ now (out .exit) ≡ calls.read (now (table .entry)) (now (out .entry)) .out ⌝ }
 {
-    reading_number(read(t, out))
+    reading_number(read(table, out))
 }

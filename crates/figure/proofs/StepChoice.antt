@@ -2,7 +2,7 @@
 use mathlib.Core.Path.{_≡_, refl, sym, ap, _∙_}
 use mathlib.Core.Logic.{_≢_, inl, inr}
 use mathlib.Core.Bool.{Bool, true, false, not, _||_, _&&_}
-use mathlib.Core.List.{List, [], _∷_}
+use mathlib.Core.List.{List, [], _∷_, _++_}
 use Prim.Native.Nat.{ℕ, _≤_}
 use lib.Dec.{eqb, leb}
 use borrow.Author.Tests.{eqb-true, le-leb, leb-true}
@@ -15,7 +15,7 @@ use Rattle.machine.proofs.Basics.Tests.{or-either, and-left, and-right}
 use Rattle.machine.proofs.Words.StepLaws.{step-of-number}
 
 module _ (n : ℕ) (st : Step) (sts : List Step) (h : isStepIn (st ∷ sts) n ≡ true) where
-  pub not-first : n ≢ stepNumber st → isStepIn sts n ≡ true
+  not-first : n ≢ stepNumber st → isStepIn sts n ≡ true
   unfolding isStepIn
   not-first ne =
       elim (or-either (eqb n (stepNumber st)) (isStepIn sts n) h) [
@@ -23,13 +23,33 @@ module _ (n : ℕ) (st : Step) (sts : List Step) (h : isStepIn (st ∷ sts) n �
         | inr e ↦ e
       ]
 
-pub the-last : (n : ℕ) (st : Step) → isStepIn (st ∷ []) n ≡ true → n ≡ stepNumber st
+the-last : (n : ℕ) (st : Step) → isStepIn (st ∷ []) n ≡ true → n ≡ stepNumber st
 unfolding isStepIn
 the-last n st h =
     elim (or-either (eqb n (stepNumber st)) false h) [
       | inl e ↦ eqb-true n (stepNumber st) e
       | inr e ↦ clash (cc)
     ]
+
+-- What the last arm of a match knows: T, and that the number is none of those before.
+abbrev Besides : Type 0 → List Step → ℕ → Type 0
+Besides T [] n = T
+Besides T (st ∷ sts) n = Besides (T × (n ≢ stepNumber st)) sts n
+
+known : (T : Type 0) (sts : List Step) (n : ℕ) → Besides T sts n → T
+known T [] n b = b
+known T (st ∷ sts) n b = known (T × (n ≢ stepNumber st)) sts n b .0
+
+-- Of a list, it is then the last.
+pub left-over :
+    (T : Type 0) (sts : List Step) (st : Step) (n : ℕ)
+    → Besides T sts n
+    → isStepIn (sts ++ (st ∷ [])) n ≡ true
+    → n ≡ stepNumber st
+left-over T [] st n b h = the-last n st h
+left-over T (s ∷ sts) st n b h =
+    let ne = known (T × (n ≢ stepNumber s)) sts n b .1 in
+    left-over (T × (n ≢ stepNumber s)) sts st n b (not-first n s (sts ++ (st ∷ [])) h ne)
 
 -- The step of a number that is a step's.
 pub step-at : {n : ℕ} (st : Step) → n ≡ stepNumber st → st ≡ stepOf n

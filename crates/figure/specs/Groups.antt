@@ -39,5 +39,5 @@ allSteps = pushSteps ++ (popSteps ++ removeSteps)
 pub record ReadyIn (group : List Step) (ns : List ℕ) (t : Tasks.Task) (found : ℕ) : Type 0 where
   pub ready : Ready ns t
   pub in-group : isStepIn group (t .step) ≡ true
-  pub bag-at-51 : t .step ≡ 51 → bagOk (t .value .word) ≡ true
+  pub bag-at-51 : t .step ≡ 51 → bagOk (t .value) ≡ true
   pub found-node : found ≢ none → HoldsNode ns found

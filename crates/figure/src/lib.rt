@@ -1,8 +1,6 @@
 // The line of the figure that a tick makes, by the step number at which its task stands.
-use add::unspur;
 use hattrick::ends::Done;
 use layout::tasks::Task;
-use remove::breaking;
 ghost use mathlib.Core.Path.{_≡_};
 ghost use Rattle.machine.specs.Steps.{stepOf};
 ghost use Rattle.hattrick.specs.Lent.{lineOf, outcomeOf};

@@ -5,3 +5,4 @@ pub mod Chosen
 pub mod Cases
 pub mod Choosing
 pub mod Swaps
+pub mod Shapes

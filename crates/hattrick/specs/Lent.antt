@@ -1,14 +1,16 @@
 -- A line over what it is lent: the nodes' words and its side's hat, with the task record by value.
 use mathlib.Core.Path.{_≡_}
 use mathlib.Core.Logic.{_≢_}
-use mathlib.Core.Bool.{true}
+use mathlib.Core.Bool.{true, cond}
 use mathlib.Core.List.{List, [], _∷_}
 use Prim.Native.Nat.{ℕ, _<_}
+use lib.Dec.{eqb}
 use lib.ListN.{getD}
 use Rattle.machine.specs.declared.Answer.{Answer}
 use Rattle.machine.specs.declared.Answer.the-variants.{Going, Refused}
+use Rattle.machine.specs.Choice.{_≟_, if_then_else_}
 use Rattle.machine.specs.Sides.{Side, opposite, sideOf}
-use Rattle.machine.specs.Values.{decode, encode, valueOk}
+use Rattle.machine.specs.Values.{Value, decode, encode, valueOk}
 use Rattle.machine.specs.Steps.{Step}
 use Rattle.machine.specs.Tasks.{none}
 use Rattle.machine.specs.Lines.{Memory, Write, out≔, inn≔, val≔, hat≔, Effect, act}
@@ -18,11 +20,13 @@ use Rattle.layout.specs.Coded.{
   freshTask,
   taskMeant,
   atStep,
+  withRegister,
+  isSame,
   HoldsNode,
   linkIn,
-  wordIn,
+  storedIn,
   setLinkIn,
-  setWordIn,
+  setStoredIn,
 }
 use Rattle.hattrick.specs.declared.ends.Done.{Done}
 
@@ -36,17 +40,32 @@ answerDone h a = record { hat = h; task = freshTask; answer = a }
 abbrev pub refusedDone : ℕ → Tasks.Task → Done
 refusedDone h t = record { hat = h; task = t; answer = Refused 11 }
 
+-- ---- The shapes that several lines share.
+
+-- Register j is set to the link on side z of the node in register i; none goes to step n, else to m.
+abbrev pub followDone : List ℕ → (hat : ℕ) → Tasks.Task → (z : Side) → (i j n m : ℕ) → Done
+followDone ns h t z i j n m =
+    let x = getD (t .registers) i 0 in
+    let y = linkIn ns z x in
+    if x ≟ none then refusedDone h t else nextDone h (withRegister t j y) (cond (eqb y none) n m)
+
+-- The value of A's node is the mark, which goes to step n, or not: to m.
+abbrev pub markDone : List ℕ → (hat : ℕ) → Tasks.Task → (mark : Value) → (n m : ℕ) → Done
+markDone ns h t v n m =
+    let a = getD (t .registers) 0 0 in
+    if a ≟ none then refusedDone h t else nextDone h t (cond (isSame (decode (storedIn ns a)) v) n m)
+
 -- ---- The line that the definitions give.
 
--- What a task on side s sees. No line looks at the far hat.
+-- What a task on side s sees.
 abbrev pub memoryIn : Side → List ℕ → (hat : ℕ) → Memory
 memoryIn s ns h =
-    record { out = linkIn ns s; inn = linkIn ns (opposite s); val = λ x. decode (wordIn ns x); hat = h; far = 0 }
+    record { out = linkIn ns s; inn = linkIn ns (opposite s); val = λ x. decode (storedIn ns x); hat = h }
 
 abbrev pub writeIn : Side → Write → List ℕ → List ℕ
 writeIn s (out≔ x y) ns = setLinkIn ns s x y
 writeIn s (inn≔ x y) ns = setLinkIn ns (opposite s) x y
-writeIn s (val≔ x v) ns = setWordIn ns x (encode v)
+writeIn s (val≔ x v) ns = setStoredIn ns x (encode v)
 writeIn s (hat≔ x) ns = ns
 
 abbrev pub writesIn : Side → List Write → List ℕ → List ℕ
@@ -93,4 +112,11 @@ pub record Ready (ns : List ℕ) (t : Tasks.Task) : Type 0 where
   pub canonical : codedTask (taskMeant t) ≡ t
   pub few : t .counted < 1024
   pub held : (i : ℕ) → i < 4 → getD (t .registers) i 0 ≢ none → HoldsNode ns (getD (t .registers) i 0)
-  pub values : (x : ℕ) → HoldsNode ns x → valueOk (wordIn ns x) ≡ true
+  pub values : (x : ℕ) → HoldsNode ns x → valueOk (storedIn ns x) ≡ true
+
+-- What following a link from a register to another relies on.
+pub record Follows (ns : List ℕ) (t : Tasks.Task) (side from to : ℕ) : Type 0 where
+  pub ready : Ready ns t
+  pub of-a-side : side < 2
+  pub reads-register : from < 4
+  pub sets-register : to < 4

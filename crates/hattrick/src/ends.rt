@@ -3,8 +3,6 @@ use layout::tasks::Task;
 use machine::Answer;
 ghost use mathlib.Core.Path.{_≡_};
 ghost use mathlib.Core.Bool.{cond, _&&_};
-ghost use Prim.Native.Nat.{_<_};
-ghost use Rattle.machine.specs.Sides.{sideNumber, sideOf, opposite};
 ghost use Rattle.machine.specs.Steps.{stepNumber};
 ghost use Rattle.machine.specs.Lines.{back};
 ghost use Rattle.layout.specs.Coded.{taskMeant, withRegister};
@@ -87,12 +85,4 @@ pub fn back(t: Task) -> u32
         return either(d == Task::NONE, 2, 15);
     }
     15
-}
-
-// The number of the opposite side.
-pub fn opposite(side: u32) -> u32
-    requires { ⌜ side < 2 ⌝ }
-    ensures { λ r. ⌜ r ≡ sideNumber (opposite (sideOf side)) ⌝ }
-{
-    1 - side
 }

@@ -1,28 +1,29 @@
 // Whether a value is a mark of a side.
-use layout::values::Value;
+use layout::values;
+use machine::Stored;
 ghost use mathlib.Core.Path.{_≡_};
 ghost use mathlib.Core.Bool.{true};
 ghost use Rattle.machine.specs.Sides.{sideOf};
-ghost use Rattle.machine.specs.Values.{N, X, Y, valueOk};
-ghost use Rattle.layout.specs.Coded.{meaning, isSame};
+ghost use Rattle.machine.specs.Values.{N, X, Y, decode, valueOk};
+ghost use Rattle.layout.specs.Coded.{isSame};
 
-pub fn is_n(v: Value, side: u32) -> bool
-    requires { ⌜ valueOk (v .word) ≡ true ⌝ }
-    ensures { λ r. ⌜ r ≡ isSame (meaning v) (N (sideOf side)) ⌝ }
+pub fn is_n(v: Stored, side: u32) -> bool
+    requires { ⌜ valueOk v ≡ true ⌝ }
+    ensures { λ r. ⌜ r ≡ isSame (decode v) (N (sideOf side)) ⌝ }
 {
-    v.same(Value::n_of(side))
+    values::same(v, values::n_of(side))
 }
 
-pub fn is_x(v: Value, side: u32) -> bool
-    requires { ⌜ valueOk (v .word) ≡ true ⌝ }
-    ensures { λ r. ⌜ r ≡ isSame (meaning v) (X (sideOf side)) ⌝ }
+pub fn is_x(v: Stored, side: u32) -> bool
+    requires { ⌜ valueOk v ≡ true ⌝ }
+    ensures { λ r. ⌜ r ≡ isSame (decode v) (X (sideOf side)) ⌝ }
 {
-    v.same(Value::x_of(side))
+    values::same(v, values::x_of(side))
 }
 
-pub fn is_y(v: Value, side: u32) -> bool
-    requires { ⌜ valueOk (v .word) ≡ true ⌝ }
-    ensures { λ r. ⌜ r ≡ isSame (meaning v) (Y (sideOf side)) ⌝ }
+pub fn is_y(v: Stored, side: u32) -> bool
+    requires { ⌜ valueOk v ≡ true ⌝ }
+    ensures { λ r. ⌜ r ≡ isSame (decode v) (Y (sideOf side)) ⌝ }
 {
-    v.same(Value::y_of(side))
+    values::same(v, values::y_of(side))
 }

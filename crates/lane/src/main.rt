@@ -1,4 +1,7 @@
 // The lane program: reads the lines of a belt run from standard input, and writes their answers to standard output.
+use belt::Bags;
+use belt::MOST_BAGS;
+use layout::places::LARGEST_LENGTH;
 use libc::STDERR_FILENO;
 use libc::STDIN_FILENO;
 use libc::STDOUT_FILENO;
@@ -6,7 +9,7 @@ use reader::scanning::NUMBER_PLACES;
 use reader::scanning::Numbers;
 use reader::scanning::TEXT_PLACES;
 use reader::scanning::Text;
-use stream::Held;
+use stream::Carried;
 use stream::begin_session;
 use stream::finish;
 use stream::serve_lines;
@@ -16,13 +19,12 @@ ghost use Prim.Native.Nat.{_≤_};
 ghost use lib.ListN.{length};
 ghost use Rattle.reader.specs.Kept.{textPlaces};
 ghost use Rattle.belt.specs.Space.{largestTable};
-ghost use Rattle.belt.specs.Run.{mostBags};
 ghost use Rattle.stream.specs.Session.{takeBytes};
-ghost use Rattle.stream.specs.Held.{lentOf, Ready, Leads, lineRoom};
+ghost use Rattle.stream.specs.Carried.{loanOf, InOrder, Leads, lineRoom};
 
-// What a turn leaves: what is held, and whether the session goes on. It ends with its input, and when a write fails.
+// What a turn leaves: what is carried, and whether the session goes on. It ends with its input, and when a write fails.
 struct Left {
-    pub held: Held,
+    pub carried: Carried,
     pub going: bool,
 }
 
@@ -39,59 +41,66 @@ fn put(answers: &[u8]) -> bool {
 fn answer_chunk(
     chunk: &[u8],
     space: &mut [u32],
-    bags: &mut [u32],
+    bags: &mut Bags,
     text: &mut Text,
     numbers: &mut Numbers,
-    held: Held,
+    carried: Carried,
     out: &mut [u8],
 ) -> Left
-    requires { ⌜ Ready (lentOf (now space) (now bags) (now text) (now numbers) held) ⌝ }
+    requires { ⌜ InOrder (loanOf (now space) (now text) (now numbers) carried) ⌝ }
     requires { ⌜ lineRoom ≤ length (now out) ⌝ }
-    ensures { λ r. ⌜ Ready
-        (lentOf (now (space .exit)) (now (bags .exit)) (now (text .exit)) (now (numbers .exit)) (r .held)) ⌝ }
+    ensures { λ r. ⌜ InOrder (loanOf (now (space .exit)) (now (text .exit)) (now (numbers .exit)) (r .carried)) ⌝ }
     ensures { λ r. ⌜ (r .going ≡ true → Leads (takeBytes (now (chunk .entry)))
-        (lentOf (now (space .entry)) (now (bags .entry)) (now (text .entry)) (now (numbers .entry)) held)
-        (lentOf (now (space .exit)) (now (bags .exit)) (now (text .exit)) (now (numbers .exit)) (r .held))) ⌝ }
+        (loanOf (now (space .entry)) (now (text .entry)) (now (numbers .entry)) carried)
+        (loanOf (now (space .exit)) (now (text .exit)) (now (numbers .exit)) (r .carried))) ⌝ }
 {
-    let mut held = held;
+    let mut carried = carried;
     let mut from = 0;
     while from < chunk.len() {
-        let served = serve_lines(chunk, from, space, bags, text, numbers, held, out);
-        held = served.held;
+        let served = serve_lines(chunk, from, space, bags, text, numbers, carried, out);
+        carried = served.carried;
         from = served.from;
         let end = served.at;
         if !put(&out[..end]) {
-            return Left { held, going: false };
+            return Left {
+                carried,
+                going: false,
+            };
         }
     }
-    Left { held, going: true }
+    Left {
+        carried,
+        going: true,
+    }
 }
 
 // Reads once, and answers what came before anything more is read. A read that fails ends the input.
 fn turn(
     input: &mut [u8],
     space: &mut [u32],
-    bags: &mut [u32],
+    bags: &mut Bags,
     text: &mut Text,
     numbers: &mut Numbers,
-    held: Held,
+    carried: Carried,
     out: &mut [u8],
 ) -> Left
-    requires { ⌜ Ready (lentOf (now space) (now bags) (now text) (now numbers) held) ⌝ }
+    requires { ⌜ InOrder (loanOf (now space) (now text) (now numbers) carried) ⌝ }
     requires { ⌜ lineRoom ≤ length (now out) ⌝ }
-    ensures { λ r. ⌜ Ready
-        (lentOf (now (space .exit)) (now (bags .exit)) (now (text .exit)) (now (numbers .exit)) (r .held)) ⌝ }
+    ensures { λ r. ⌜ InOrder (loanOf (now (space .exit)) (now (text .exit)) (now (numbers .exit)) (r .carried)) ⌝ }
 {
     let got = libc::read(STDIN_FILENO, input);
     let n = io::count(got, input);
     if n == 0 {
-        let ended = finish(space, bags, text, numbers, held, out);
-        let held = ended.held;
+        let ended = finish(space, bags, text, numbers, carried, out);
+        let carried = ended.carried;
         let end = ended.at;
         put(&out[..end]);
-        return Left { held, going: false };
+        return Left {
+            carried,
+            going: false,
+        };
     }
-    answer_chunk(&input[..n], space, bags, text, numbers, held, out)
+    answer_chunk(&input[..n], space, bags, text, numbers, carried, out)
 }
 
 // Turns until the session ends. A proved loop has to end, and nothing says that an input does: the loop counts its
@@ -99,25 +108,24 @@ fn turn(
 fn run(
     input: &mut [u8],
     space: &mut [u32],
-    bags: &mut [u32],
+    bags: &mut Bags,
     text: &mut Text,
     numbers: &mut Numbers,
     out: &mut [u8],
 )
     requires { ⌜ largestTable ≤ length (now space) ⌝ }
-    requires { ⌜ length (now bags) ≡ mostBags ⌝ }
     requires { ⌜ length (now text) ≡ textPlaces ⌝ }
     requires { ⌜ lineRoom ≤ length (now out) ⌝ }
 {
-    let mut held = begin_session(numbers);
+    let mut carried = begin_session(numbers);
     let mut turns = u64::MAX;
     while turns > 0 {
-        let made = turn(input, space, bags, text, numbers, held, out);
+        let made = turn(input, space, bags, text, numbers, carried, out);
         let going = made.going;
         if !going {
             return;
         }
-        held = made.held;
+        carried = made.carried;
         turns -= 1;
     }
 }
@@ -125,8 +133,8 @@ fn run(
 fn main() {
     let mut input = io::large_buffer();
     // The largest table: 1,024 nodes, 16 tasks.
-    let mut space = [0u32; 3240];
-    let mut bags = [0u32; 1024];
+    let mut space = [0u32; LARGEST_LENGTH];
+    let mut bags = [0u32; MOST_BAGS];
     let mut text = [0u8; TEXT_PLACES];
     let mut numbers = [0u32; NUMBER_PLACES];
     let mut out = io::large_buffer();

@@ -3,6 +3,8 @@
 pub mod Tables
 pub mod ValueWords
 pub mod NodeWords
-pub mod RecordStores
-pub mod NodesPart
+pub mod Numbers
+pub mod RecordWords
+pub mod Views
 pub mod Fronts
+pub mod Chains

@@ -1,12 +1,11 @@
-// The nodes' words: the part of the table between the header and the tasks, three words a node.
+// The nodes' words: the part of the table between the header and the tasks.
 use crate::places::NODE_WORDS;
 use crate::places::VALUE;
-use crate::values::Value;
+use machine::Stored;
 ghost use mathlib.Core.Path.{_≡_};
-ghost use Prim.Native.Nat.{_+_, _*_, _<_};
-ghost use lib.ListN.{length};
+ghost use Prim.Native.Nat.{_<_};
 ghost use Rattle.machine.specs.Sides.{sideOf};
-ghost use Rattle.layout.specs.Coded.{HoldsNode, linkIn, setLinkIn, wordIn, setWordIn, coded, codedWord};
+ghost use Rattle.layout.specs.Coded.{HoldsNode, linkIn, setLinkIn, storedIn, setStoredIn, setNodeIn};
 
 // The link of node x on a side: 0 for L, 1 for R.
 pub fn link(nodes: &[u32], side: u32, x: u32) -> u32
@@ -23,18 +22,29 @@ pub fn set_link(nodes: &mut [u32], side: u32, x: u32, y: u32)
     nodes[NODE_WORDS * (x as usize) + (side as usize)] = y;
 }
 
-pub fn value(nodes: &[u32], x: u32) -> Value
+pub fn value(nodes: &[u32], x: u32) -> Stored
     requires { ⌜ HoldsNode (now nodes) x ⌝ }
-    ensures { λ r. ⌜ r ≡ codedWord (wordIn (now (nodes .entry)) x) ⌝ }
+    ensures { λ r. ⌜ r ≡ storedIn (now (nodes .entry)) x ⌝ }
 {
-    Value {
+    Stored {
         word: nodes[NODE_WORDS * (x as usize) + VALUE],
     }
 }
 
-pub fn set_value(nodes: &mut [u32], x: u32, v: Value)
+pub fn set_value(nodes: &mut [u32], x: u32, v: Stored)
     requires { ⌜ HoldsNode (now nodes) x ⌝ }
-    ensures { λ r. ⌜ now (nodes .exit) ≡ setWordIn (now (nodes .entry)) x (v .word) ⌝ }
+    ensures { λ r. ⌜ now (nodes .exit) ≡ setStoredIn (now (nodes .entry)) x v ⌝ }
 {
     nodes[NODE_WORDS * (x as usize) + VALUE] = v.word;
+}
+
+// All the words of a node.
+pub fn write(nodes: &mut [u32], x: u32, l: u32, r: u32, v: Stored)
+    requires { ⌜ HoldsNode (now nodes) x ⌝ }
+    ensures { λ _. ⌜ now (nodes .exit) ≡ setNodeIn (now (nodes .entry)) x l r v ⌝ }
+{
+    let at = NODE_WORDS * (x as usize);
+    nodes[at] = l;
+    nodes[at + 1] = r;
+    nodes[at + VALUE] = v.word;
 }

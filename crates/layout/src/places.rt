@@ -1,4 +1,6 @@
 // Where the words of a table stand: the places in the header, and how many words a header, a node and a record have.
+ghost use mathlib.Core.Path.{_≡_};
+ghost use Rattle.machine.specs.Table.{nodeAt, recordAt, tableLength};
 
 // 01: S, T, growth, left hat, right hat, tick count, 0, 0.
 pub const NODE_COUNT: usize = 0;
@@ -25,5 +27,32 @@ pub const NODE_WORDS: usize = 3;
 
 pub const RECORD_WORDS: usize = 10;
 
-// The word of a node's value, after its links.
+// The words of a node's value, after its links.
 pub const VALUE: usize = 2;
+
+// 01: refusal 3 for fewer than 24 words, the length of two slots and one task.
+pub const LEAST_LENGTH: usize = 24;
+
+// The length of the largest table.
+pub const LARGEST_LENGTH: usize = 3_240;
+
+// The place of node x; of S, the place after the nodes.
+pub fn node_at(x: u32) -> usize
+    ensures { λ r. ⌜ r ≡ nodeAt x ⌝ }
+{
+    HEADER + NODE_WORDS * (x as usize)
+}
+
+// The place of task k's record in a table of so many nodes.
+pub fn record_at(slots: u32, k: u32) -> usize
+    ensures { λ r. ⌜ r ≡ recordAt slots k ⌝ }
+{
+    HEADER + NODE_WORDS * (slots as usize) + RECORD_WORDS * (k as usize)
+}
+
+// 01: exactly 8 + 3S + 10T words.
+pub fn table_length(slots: u32, tasks: u32) -> usize
+    ensures { λ r. ⌜ r ≡ tableLength slots tasks ⌝ }
+{
+    record_at(slots, tasks)
+}

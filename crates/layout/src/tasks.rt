@@ -1,13 +1,15 @@
-// The task record by value: its words read and written, and the record with one thing changed.
-use crate::values::Value;
+// The task record by value: its words read and written, and the record with one thing changed. Only this file and the
+// definitions of tasks say where in a record a word stands.
+use machine::Stored;
 ghost use mathlib.Core.Path.{_≡_};
 ghost use Prim.Native.Nat.{_+_, _≤_, _<_};
 ghost use lib.ListN.{length};
-ghost use lib.Seq.{sets};
+ghost use Rattle.machine.specs.Tasks.{fresh, recordLength, wordsOf};
+ghost use Rattle.machine.specs.Shape.{sameWords};
 ghost use Rattle.layout.specs.Coded.{
   freshTask,
   recordOf,
-  recordFrom,
+  structOf,
   atStep,
   withRegister,
   withValueRead,
@@ -18,9 +20,9 @@ pub struct Task {
     pub operation: u32,
     pub step: u32,
     pub side: u32,
-    pub argument: u32,
+    pub argument: Stored,
     pub counted: u32,
-    pub value: Value,
+    pub value: Stored,
     pub registers: [u32; 4],
 }
 
@@ -62,45 +64,64 @@ impl Task {
             operation: Task::IDLE,
             step: 0,
             side: 0,
-            argument: 0,
+            argument: Stored { word: 0 },
             counted: 0,
-            value: Value { word: Value::NEVER },
+            value: Stored { word: 0 },
             registers: [Task::NONE, Task::NONE, Task::NONE, Task::NONE],
         }
     }
 
-    // The record whose ten words begin at a place.
-    pub fn read(t: &[u32], at: usize) -> Self
-        requires { ⌜ at + 10 ≤ length (now t) ⌝ }
-        ensures { λ r. ⌜ r ≡ recordFrom (now (t .entry)) at ⌝ }
+    // The record of its words.
+    pub fn read(words: &[u32]) -> Self
+        requires { ⌜ length (now words) ≡ recordLength ⌝ }
+        ensures { λ r. ⌜ r ≡ structOf (now (words .entry)) ⌝ }
     {
         Self {
-            operation: t[at],
-            step: t[at + 1],
-            side: t[at + 2],
-            argument: t[at + 3],
-            counted: t[at + 4],
-            value: Value { word: t[at + 5] },
-            registers: [t[at + 6], t[at + 7], t[at + 8], t[at + 9]],
+            operation: words[0],
+            step: words[1],
+            side: words[2],
+            argument: Stored { word: words[3] },
+            counted: words[4],
+            value: Stored { word: words[5] },
+            registers: [words[6], words[7], words[8], words[9]],
         }
     }
 
-    // Its ten words written from a place on.
-    pub fn write(self, t: &mut [u32], at: usize)
-        requires { ⌜ at + 10 ≤ length (now t) ⌝ }
-        ensures { λ r. ⌜ now (t .exit) ≡ sets (now (t .entry)) at (recordOf self) ⌝ }
+    // Its words written.
+    pub fn write(self, words: &mut [u32])
+        requires { ⌜ length (now words) ≡ recordLength ⌝ }
+        ensures { λ r. ⌜ now (words .exit) ≡ recordOf self ⌝ }
     {
-        let v = self.value;
-        t[at] = self.operation;
-        t[at + 1] = self.step;
-        t[at + 2] = self.side;
-        t[at + 3] = self.argument;
-        t[at + 4] = self.counted;
-        t[at + 5] = v.word;
-        t[at + 6] = self.registers[0];
-        t[at + 7] = self.registers[1];
-        t[at + 8] = self.registers[2];
-        t[at + 9] = self.registers[3];
+        let argument = self.argument;
+        let value = self.value;
+        words[0] = self.operation;
+        words[1] = self.step;
+        words[2] = self.side;
+        words[3] = argument.word;
+        words[4] = self.counted;
+        words[5] = value.word;
+        words[6] = self.registers[0];
+        words[7] = self.registers[1];
+        words[8] = self.registers[2];
+        words[9] = self.registers[3];
+    }
+
+    // 01: an idle record is fresh.
+    pub fn is_fresh(self) -> bool
+        ensures { λ r. ⌜ r ≡ sameWords (recordOf self) (wordsOf fresh) ⌝ }
+    {
+        let argument = self.argument;
+        let value = self.value;
+        self.operation == Task::IDLE
+            && self.step == 0
+            && self.side == 0
+            && argument.word == 0
+            && self.counted == 0
+            && value.word == 0
+            && self.registers[Task::A] == Task::NONE
+            && self.registers[Task::B] == Task::NONE
+            && self.registers[Task::C] == Task::NONE
+            && self.registers[Task::D] == Task::NONE
     }
 
     // The same record, written out word by word: the compiler then keeps a record that a line changes in the processor,
@@ -108,6 +129,7 @@ impl Task {
     fn copied(self) -> Self
         ensures { λ r. ⌜ r ≡ self ⌝ }
     {
+        let argument = self.argument;
         let value = self.value;
         let a = self.registers[Task::A];
         let b = self.registers[Task::B];
@@ -117,7 +139,7 @@ impl Task {
             operation: self.operation,
             step: self.step,
             side: self.side,
-            argument: self.argument,
+            argument,
             counted: self.counted,
             value,
             registers: [a, b, c, d],
@@ -144,7 +166,7 @@ impl Task {
     }
 
     // The record with another value read.
-    pub fn reading(self, v: Value) -> Self
+    pub fn reading(self, v: Stored) -> Self
         ensures { λ r. ⌜ r ≡ withValueRead self v ⌝ }
     {
         let mut t = self.copied();

@@ -1,95 +1,124 @@
-// A value: what the word V of a node holds. Only this file and the accessors of nodes and tasks know how wide it is.
+// A value as the table holds it: its tests, the marks of a side and their mirrors.
+use machine::Stored;
 ghost use mathlib.Core.Path.{_≡_};
 ghost use mathlib.Core.Bool.{true};
 ghost use Rattle.machine.specs.Sides.{sideOf};
-ghost use Rattle.machine.specs.Values.{N, X, Y, mirror, valueOk};
-ghost use Rattle.layout.specs.Coded.{meaning, coded, isSame, isBag, markOf};
-
-pub struct Value {
-    pub word: u32,
-}
+ghost use Rattle.machine.specs.Values.{
+  N,
+  X,
+  Y,
+  sameStored,
+  stored,
+  number,
+  encode,
+  decode,
+  mirror,
+  bagOk,
+  valueOk,
+};
+ghost use Rattle.layout.specs.Coded.{isSame, isBag, markOf};
 
 // 01's table of mirrors, by the marks in order: LN, LX, LY, RN, RX, RY.
 const MIRRORS: [u32; 6] = [
-    1_000_000_004,
-    1_000_000_005,
-    1_000_000_006,
-    1_000_000_001,
-    1_000_000_002,
-    1_000_000_003,
+    Stored::RN,
+    Stored::RX,
+    Stored::RY,
+    Stored::LN,
+    Stored::LX,
+    Stored::LY,
 ];
 
-impl Value {
-    pub const NEVER: u32 = 0;
+// The words of a number, which is a bag or an argument.
+pub fn of_number(n: u32) -> Stored
+    ensures { λ r. ⌜ r ≡ stored n ⌝ }
+{
+    Stored { word: n }
+}
 
-    pub const LARGEST_BAG: u32 = 999_999_999;
+pub fn number(v: Stored) -> u32
+    ensures { λ r. ⌜ r ≡ number v ⌝ }
+{
+    v.word
+}
 
-    pub const LN: u32 = 1_000_000_001;
+// 01: a bag number 1 to 999,999,999.
+pub fn bag_ok(v: Stored) -> bool
+    ensures { λ r. ⌜ r ≡ bagOk v ⌝ }
+{
+    1 <= v.word && v.word <= Stored::LARGEST_BAG
+}
 
-    pub const RN: u32 = 1_000_000_004;
+// 01: V holds a bag number, a mark, or 0 for never used.
+pub fn value_ok(v: Stored) -> bool
+    ensures { λ r. ⌜ r ≡ valueOk v ⌝ }
+{
+    v.word <= Stored::LARGEST_BAG || Stored::LN <= v.word && v.word <= Stored::RY
+}
 
-    pub const RX: u32 = 1_000_000_005;
+// Whether two have the same words.
+pub fn equal(u: Stored, v: Stored) -> bool
+    ensures { λ r. ⌜ r ≡ sameStored u v ⌝ }
+{
+    u.word == v.word
+}
 
-    pub const RY: u32 = 1_000_000_006;
+// Whether two values are the same.
+pub fn same(u: Stored, v: Stored) -> bool
+    requires { ⌜ (valueOk u ≡ true) × (valueOk v ≡ true) ⌝ }
+    ensures { λ r. ⌜ r ≡ isSame (decode u) (decode v) ⌝ }
+{
+    u.word == v.word
+}
 
-    // Whether two values are the same.
-    pub fn same(self, other: Value) -> bool
-        requires { ⌜ (valueOk (self .word) ≡ true) × (valueOk (other .word) ≡ true) ⌝ }
-        ensures { λ r. ⌜ r ≡ isSame (meaning self) (meaning other) ⌝ }
-    {
-        self.word == other.word
+// Whether a value is a bag.
+pub fn is_bag(v: Stored) -> bool
+    requires { ⌜ valueOk v ≡ true ⌝ }
+    ensures { λ r. ⌜ r ≡ isBag (decode v) ⌝ }
+{
+    if v.word == Stored::NEVER {
+        return false;
     }
+    v.word <= Stored::LARGEST_BAG
+}
 
-    // Whether it is a bag.
-    pub fn is_bag(self) -> bool
-        requires { ⌜ valueOk (self .word) ≡ true ⌝ }
-        ensures { λ r. ⌜ r ≡ isBag (meaning self) ⌝ }
-    {
-        if self.word == Value::NEVER {
-            return false;
-        }
-        self.word <= Value::LARGEST_BAG
+// The mirror of a mark; any other value is its own.
+pub fn mirror(v: Stored) -> Stored
+    requires { ⌜ valueOk v ≡ true ⌝ }
+    ensures { λ r. ⌜ r ≡ encode (mirror (decode v)) ⌝ }
+{
+    let w = v.word;
+    if w < Stored::LN {
+        return v;
     }
+    let i = (w - Stored::LN) as usize;
+    Stored { word: MIRRORS[i] }
+}
 
-    // The mirror of a mark; any other value is its own.
-    pub fn mirror(self) -> Value
-        requires { ⌜ valueOk (self .word) ≡ true ⌝ }
-        ensures { λ r. ⌜ r ≡ coded (mirror (meaning self)) ⌝ }
-    {
-        let w = self.word;
-        if w < Value::LN {
-            return self;
-        }
-        let i = (w - Value::LN) as usize;
-        Value { word: MIRRORS[i] }
+// The mark of a side, of which the right one is given: 01's left side has the mirror.
+fn of_side(v: Stored, side: u32) -> Stored
+    requires { ⌜ valueOk v ≡ true ⌝ }
+    ensures { λ r. ⌜ r ≡ markOf (sideOf side) v ⌝ }
+{
+    if side == 0 {
+        return mirror(v);
     }
+    v
+}
 
-    // The mark of a side, of which this is the right one: 01's left side has the mirror.
-    fn of_side(self, side: u32) -> Value
-        requires { ⌜ valueOk (self .word) ≡ true ⌝ }
-        ensures { λ r. ⌜ r ≡ markOf (sideOf side) self ⌝ }
-    {
-        if side == 0 {
-            return self.mirror();
-        }
-        self
-    }
+pub fn n_of(side: u32) -> Stored
+    ensures { λ r. ⌜ r ≡ encode (N (sideOf side)) ⌝ }
+{
+    of_side(Stored { word: Stored::RN }, side)
+}
 
-    pub fn n_of(side: u32) -> Value
-        ensures { λ r. ⌜ r ≡ coded (N (sideOf side)) ⌝ }
-    {
-        Value { word: Value::RN }.of_side(side)
-    }
+pub fn x_of(side: u32) -> Stored
+    ensures { λ r. ⌜ r ≡ encode (X (sideOf side)) ⌝ }
+{
+    of_side(Stored { word: Stored::RX }, side)
+}
 
-    pub fn x_of(side: u32) -> Value
-        ensures { λ r. ⌜ r ≡ coded (X (sideOf side)) ⌝ }
-    {
-        Value { word: Value::RX }.of_side(side)
-    }
-
-    pub fn y_of(side: u32) -> Value
-        ensures { λ r. ⌜ r ≡ coded (Y (sideOf side)) ⌝ }
-    {
-        Value { word: Value::RY }.of_side(side)
-    }
+pub fn y_of(side: u32) -> Stored
+    ensures { λ r. ⌜ r ≡ encode (Y (sideOf side)) ⌝ }
+{
+    of_side(Stored { word: Stored::RY }, side)
 }

@@ -11,6 +11,7 @@ use Rattle.machine.specs.declared.Reply.{Reply}
 use Rattle.machine.specs.declared.Reply.the-variants.{Accepted, Refused as Reply-Refused}
 use Rattle.machine.specs.Choice.{_≟_, if_then_else_}
 use Rattle.machine.specs.Sides.{sideOf}
+use Rattle.machine.specs.Values.{number}
 use Rattle.machine.specs.Operations.{Operation, push, pop, operationNumber, operationOf}
 use Rattle.machine.specs.Answers.{kindOf, payloadOf, refusalOf, answerOf}
 use Rattle.machine.specs.Calls.{start}
@@ -101,7 +102,7 @@ recordBegin η k n (Reply-Refused r) = η
 abbrev pub recordCall : History → (c : Call) → Given c → History
 recordCall η (start-call S T g) r = recordStart η r
 recordCall η (begin-call k op side argument) r =
-    recordBegin η k (record { operation = operationOf op; side = sideOf side; argument = argument }) r
+    recordBegin η k (record { operation = operationOf op; side = sideOf side; argument = number argument }) r
 recordCall η (tick-call k h) a = elim (refusalOf a) as (λ _. History) [ some n ↦ η | nothing ↦ recordMade η k a ]
 recordCall η (run-call list answers) r = recordRun η (r .0 .made) list (r .1)
 recordCall η (read-call out) r = η

@@ -12,9 +12,10 @@ use Rattle.machine.specs.declared.Reply.the-variants.{Accepted, Refused 
 use Rattle.machine.specs.declared.Reading.{Reading}
 use Rattle.machine.specs.declared.Reading.the-variants.{Count, Refused as Reading-Refused}
 use Rattle.machine.specs.declared.Ran.{Ran}
+use Rattle.machine.specs.declared.Stored.{Stored}
 use Rattle.machine.specs.Choice.{_≟_, if_then_else_}
 use Rattle.machine.specs.Sides.{Side, left, right, opposite, sideOf}
-use Rattle.machine.specs.Values.{never, bag, N, X, Y}
+use Rattle.machine.specs.Values.{never, bag, N, X, Y, number}
 use Rattle.machine.specs.Operations.{Operation, idle, push, pop, add, remove, operationOf, argumentOk}
 use Rattle.machine.specs.Steps.{firstStep}
 use Rattle.machine.specs.Tasks.{Task, fresh, none, wordsOf, goal}
@@ -68,7 +69,7 @@ startRefusal ws S T g =
 abbrev pub tableRefusal : List ℕ → Option ℕ → Option ℕ
 tableRefusal ws others = unless (lengthOk ws) 3 (unless (shapeOk ws) 4 others)
 
-abbrev pub beginRefusal : List ℕ → (k operation side argument : ℕ) → Option ℕ
+abbrev pub beginRefusal : List ℕ → (k operation side : ℕ) → (argument : Stored) → Option ℕ
 beginRefusal ws k op side argument =
     tableRefusal ws
     (unless (ltb k (taskCount ws)) 5
@@ -133,9 +134,10 @@ begunTask op s argument =
       D = none;
     }
 
-unfoldable pub begin : List ℕ → (k operation side argument : ℕ) → Changed
+unfoldable pub begin : List ℕ → (k operation side : ℕ) → (argument : Stored) → Changed
 begin ws k op side argument =
-    changed (beginRefusal ws k op side argument) ws (setTask k (begunTask (operationOf op) (sideOf side) argument) ws)
+    changed (beginRefusal ws k op side argument) ws
+    (setTask k (begunTask (operationOf op) (sideOf side) (number argument)) ws)
 
 -- ---- tick.
 pub record Ticked : Type 0 where
@@ -149,15 +151,15 @@ effectOf ws k h =
     act (t .step) (t .side) (opposite (t .side)) (seen (t .side) ws) t (goal (growth ws) t) (allocate ws h)
 
 -- 01: the tick count rises by 1 with each tick made and goes from 4,294,967,295 to 0.
-abbrev pub counted : List ℕ → List ℕ
-counted ws = setTickCount ((tickCount ws + 1) % 2 ^ 32) ws
+abbrev pub tickCounted : List ℕ → List ℕ
+tickCounted ws = setTickCount ((tickCount ws + 1) % 2 ^ 32) ws
 
 -- The table after an effect of a task on side s; a refusal leaves it as it was.
 unfoldable pub applied : Side → List ℕ → ℕ → Effect → Ticked
 applied s ws k e =
     elim (refusalOf (e .answer)) as (λ _. Ticked) [
       | some n ↦ record { answer = e .answer; words = ws }
-      | nothing ↦ record { answer = e .answer; words = counted (setTask k (e .task) (writeAll s (e .writes) ws)) }
+      | nothing ↦ record { answer = e .answer; words = tickCounted (setTask k (e .task) (writeAll s (e .writes) ws)) }
     ]
 
 -- A tick on a table that has passed 3 and 4.

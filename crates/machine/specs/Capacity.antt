@@ -10,7 +10,7 @@ use Rattle.machine.specs.declared.Answer.{Answer}
 use Rattle.machine.specs.declared.Answer.the-variants.{Going, Pushed, Full}
 use Rattle.machine.specs.declared.Reply.the-variants.{Accepted}
 use Rattle.machine.specs.Sides.{Side, opposite, sideNumber}
-use Rattle.machine.specs.Values.{Y}
+use Rattle.machine.specs.Values.{Y, stored}
 use Rattle.machine.specs.Operations.{push, operationNumber}
 use Rattle.machine.specs.Table.{nodeCount, hat, value}
 use Rattle.machine.specs.Calls.{begin, tick, lane}
@@ -43,8 +43,8 @@ pub data AloneTo (k : ℕ) (a : Answer) (vs : List ℕ) : (ws : List ℕ) → Ty
 pub record PushAlone (s : Side) (a : Answer) (ws vs : List ℕ) : Type 0 where
   pub k : ℕ
   pub bag : ℕ
-  pub begins : begin ws k (operationNumber push) (sideNumber s) bag .reply ≡ Accepted
-  pub alone : AloneTo k a vs (begin ws k (operationNumber push) (sideNumber s) bag .words)
+  pub begins : begin ws k (operationNumber push) (sideNumber s) (stored bag) .reply ≡ Accepted
+  pub alone : AloneTo k a vs (begin ws k (operationNumber push) (sideNumber s) (stored bag) .words)
 
 -- A push at a hat beside the list, with no other task in a call, is never "full".
 abbrev pub NeverFull : Type 0

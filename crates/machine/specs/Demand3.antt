@@ -12,7 +12,9 @@ use Rattle.machine.specs.declared.Reply.the-variants.{Accepted, Refused 
 use Rattle.machine.specs.declared.Reading.{Reading}
 use Rattle.machine.specs.declared.Reading.the-variants.{Count, Refused as Reading-Refused}
 use Rattle.machine.specs.declared.Ran.{Ran}
+use Rattle.machine.specs.declared.Stored.{Stored}
 use Rattle.machine.specs.Sides.{sideOf}
+use Rattle.machine.specs.Values.{number}
 use Rattle.machine.specs.Operations.{operationOf}
 use Rattle.machine.specs.Shape.{sameWords}
 use Rattle.machine.specs.Answers.{refusalOf}
@@ -23,7 +25,7 @@ use Rattle.machine.specs.Row.{Row, emptyRow, Note, noted, feedMade, feed
 -- and a read's out slice are that call's own: here by their contents when the call is made.
 pub data Call : Type 0 where
   start-call : (S T growth : ℕ) → Call
-  begin-call : (k operation side argument : ℕ) → Call
+  begin-call : (k operation side : ℕ) (argument : Stored) → Call
   tick-call : (k hint : ℕ) → Call
   run-call : (list answers : List ℕ) → Call
   read-call : (out : List ℕ) → Call
@@ -76,7 +78,7 @@ feedRead ρ out (Reading-Refused n) written =
 abbrev pub feed : Row → (c : Call) → Given c → Option Row
 feed ρ (start-call S T g) r = feedStart ρ r
 feed ρ (begin-call k op side argument) r =
-    feedBegin ρ k (record { operation = operationOf op; side = sideOf side; argument = argument }) r
+    feedBegin ρ k (record { operation = operationOf op; side = sideOf side; argument = number argument }) r
 feed ρ (tick-call k h) a = feedTick ρ k a
 feed ρ (run-call list answers) r = feedRun ρ (r .0 .made) list (r .1)
 feed ρ (read-call out) r = feedRead ρ out (r .0) (r .1)

@@ -69,17 +69,9 @@ pub record Memory : Type 0 where
   pub inn : ℕ → ℕ
   pub val : ℕ → Value
   pub hat : ℕ
-  pub far : ℕ
 
 abbrev pub seen : Side → List ℕ → Memory
-seen s ws =
-    record {
-      out = link ws s;
-      inn = link ws (opposite s);
-      val = value ws;
-      hat = hat ws s;
-      far = hat ws (opposite s);
-    }
+seen s ws = record { out = link ws s; inn = link ws (opposite s); val = value ws; hat = hat ws s }
 
 -- ---- What a tick does: its writes in the order named, the record afterwards, the answer.
 pub data Write : Type 0 where

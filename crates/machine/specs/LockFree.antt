@@ -5,6 +5,7 @@ use mathlib.Core.List.{List, [], _∷_}
 use Prim.Native.Nat.{ℕ, suc, _+_, _*_, _≤_, _<_}
 use lib.ListN.{length}
 use Rattle.machine.specs.declared.Answer.the-variants.{Going, Refused}
+use Rattle.machine.specs.declared.Stored.{Stored}
 use Rattle.machine.specs.Table.{nodeCount, taskCount, task}
 use Rattle.machine.specs.Calls.{isBusy, begin, tick}
 use Rattle.machine.specs.Begun.{Begun}
@@ -16,7 +17,7 @@ use Rattle.machine.specs.Solo.{endsCall}
 -- reading changes nothing, and a start ends every call.)
 pub data Move : Type 0 where
   ticks : (k hint : ℕ) → Move
-  begins : (k operation side argument : ℕ) → Move
+  begins : (k operation side : ℕ) (argument : Stored) → Move
 
 -- The moves are made one after another and no tick answers: n ticks say "going", other ticks are refused, and begins
 -- are accepted or refused.
@@ -33,7 +34,7 @@ pub data AnswerFree : (n : ℕ) (moves : List Move) (ws : List ℕ) → Type 0 w
       → AnswerFree n moves (tick ws k h .words)
       → AnswerFree n (ticks k h ∷ moves) ws
   begun :
-      {n k op side argument : ℕ} {moves : List Move} {ws : List ℕ}
+      {n k op side : ℕ} {argument : Stored} {moves : List Move} {ws : List ℕ}
       → AnswerFree n moves (begin ws k op side argument .words)
       → AnswerFree n (begins k op side argument ∷ moves) ws
 

@@ -2,8 +2,9 @@
 use mathlib.Core.Bool.{Bool}
 use Prim.Native.Nat.{ℕ}
 use lib.Dec.{leb, eqb}
+use Rattle.machine.specs.declared.Stored.{Stored}
 use Rattle.machine.specs.Choice.{_≟_, if_then_else_}
-use Rattle.machine.specs.Values.{bagOk}
+use Rattle.machine.specs.Values.{number, bagOk}
 
 -- The figure's push, pop, add and remove, of a side; idle: a task that is in no call.
 pub data Operation : Type 0 where
@@ -27,12 +28,12 @@ operationOf n =
     remove
 
 -- 01: argument: push a bag number, pop 0, add 0 to 64, remove 0 to 1,023.
-abbrev pub argumentOk : Operation → ℕ → Bool
-argumentOk idle n = eqb n 0
-argumentOk push n = bagOk n
-argumentOk pop n = eqb n 0
-argumentOk add n = leb n 64
-argumentOk remove n = leb n 1023
+abbrev pub argumentOk : Operation → Stored → Bool
+argumentOk idle u = eqb (number u) 0
+argumentOk push u = bagOk u
+argumentOk pop u = eqb (number u) 0
+argumentOk add u = leb (number u) 64
+argumentOk remove u = leb (number u) 1023
 
 -- 01: goal: the argument for add and remove, growth for push, 0 for pop.
 abbrev pub goalOf : Operation → (growth argument : ℕ) → ℕ

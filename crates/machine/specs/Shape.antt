@@ -1,11 +1,13 @@
 -- Which tables are accepted: the sizes and the length (refusal 3), the shape (refusal 4).
+use mathlib.Core.Path.{_≡_}
 use mathlib.Core.Bool.{Bool, true, false, cond, _&&_, _||_}
 use mathlib.Core.List.{List, [], _∷_}
 use Prim.Native.Nat.{ℕ, zero, suc}
 use lib.Dec.{leb, ltb, eqb}
-use lib.ListN.{length, getD}
+use lib.ListN.{length}
+use Rattle.machine.specs.declared.Stored.{Stored}
 use Rattle.machine.specs.Sides.{Side, left, right, opposite, sideOf}
-use Rattle.machine.specs.Values.{N, X, encode, bagOk, valueOk}
+use Rattle.machine.specs.Values.{N, X, encode, sameStored, number, bagOk, valueOk}
 use Rattle.machine.specs.Operations.{operationOf, argumentOk, goalOf}
 use Rattle.machine.specs.Steps.{
   line31,
@@ -18,7 +20,22 @@ use Rattle.machine.specs.Steps.{
   stepsOf,
   isStepIn,
 }
-use Rattle.machine.specs.Tasks.{none, fresh, wordsOf}
+use Rattle.machine.specs.Tasks.{
+  none,
+  fresh,
+  wordsOf,
+  inA,
+  inB,
+  inC,
+  inD,
+  operationWord,
+  stepWord,
+  sideWord,
+  argumentWords,
+  countedWord,
+  valueReadWords,
+  registerWord,
+}
 use Rattle.machine.specs.Table.{
   tableLength,
   nodeCount,
@@ -28,7 +45,7 @@ use Rattle.machine.specs.Table.{
   word6,
   word7,
   linkWord,
-  valueWord,
+  valueWords,
   recordWords,
 }
 
@@ -36,10 +53,10 @@ use Rattle.machine.specs.Table.{
 abbrev pub sizesOk : (S T growth : ℕ) → Bool
 sizesOk S T g = leb 2 S && leb S 1024 && leb 1 T && leb T 16 && leb g 64
 
--- Refusal 3: under 24 words, header S, T or growth out of range, or length not matching.
+-- Refusal 3: under 24 words, which is the length of the least sizes, header S, T or growth out of range, or length not matching.
 abbrev pub lengthOk : List ℕ → Bool
 lengthOk ws =
-    leb 24 (length ws)
+    leb (tableLength 2 1) (length ws)
     && sizesOk (nodeCount ws) (taskCount ws) (growth ws)
     && eqb (length ws) (tableLength (nodeCount ws) (taskCount ws))
 
@@ -72,14 +89,14 @@ unfoldable pub nodeOk : List ℕ → ℕ → Bool
 nodeOk ws x =
     nodeOrNone (nodeCount ws) (linkWord ws left x)
     && nodeOrNone (nodeCount ws) (linkWord ws right x)
-    && valueOk (valueWord ws x)
+    && valueOk (valueWords ws x)
 
 -- 01: value read is as V may be (a bag at 51; LN or LX at 48, mirrored on the left).
-abbrev pub valueReadOk : Side → (step word : ℕ) → Bool
-valueReadOk s step w =
-    cond (eqb step (stepNumber line51)) (bagOk w)
-    (cond (eqb step (stepNumber line48)) (eqb w (encode (N (opposite s))) || eqb w (encode (X (opposite s))))
-    (valueOk w))
+abbrev pub valueReadOk : Side → (step : ℕ) → Stored → Bool
+valueReadOk s step u =
+    cond (eqb step (stepNumber line51)) (bagOk u)
+    (cond (eqb step (stepNumber line48)) (sameStored u (encode (N (opposite s))) || sameStored u (encode (X (opposite s))))
+    (valueOk u))
 
 -- 01: counted is 0 at step 54, below the goal at steps 31, 56, 58 and at most the goal elsewhere.
 abbrev pub countedOk : (step goal counted : ℕ) → Bool
@@ -88,23 +105,24 @@ countedOk step goal n =
     (cond (isStepIn (line31 ∷ line56 ∷ line58 ∷ []) step) (ltb n goal)
     (leb n goal))
 
--- The ten words of a task that is in a call. 01: the step is of its operation.
+-- The words of a task that is in a call. 01: the step is of its operation.
 unfoldable pub busyOk : (S growth : ℕ) → List ℕ → Bool
 busyOk S g r =
-    leb (getD r 0 0) 4
-    && leb (getD r 2 0) 1
-    && isStepIn (stepsOf (operationOf (getD r 0 0))) (getD r 1 0)
-    && argumentOk (operationOf (getD r 0 0)) (getD r 3 0)
-    && countedOk (getD r 1 0) (goalOf (operationOf (getD r 0 0)) g (getD r 3 0)) (getD r 4 0)
-    && valueReadOk (sideOf (getD r 2 0)) (getD r 1 0) (getD r 5 0)
-    && nodeOrNone S (getD r 6 0)
-    && nodeOrNone S (getD r 7 0)
-    && nodeOrNone S (getD r 8 0)
-    && nodeOrNone S (getD r 9 0)
+    let op = operationOf (operationWord r) in
+    leb (operationWord r) 4
+    && leb (sideWord r) 1
+    && isStepIn (stepsOf op) (stepWord r)
+    && argumentOk op (argumentWords r)
+    && countedOk (stepWord r) (goalOf op g (number (argumentWords r))) (countedWord r)
+    && valueReadOk (sideOf (sideWord r)) (stepWord r) (valueReadWords r)
+    && nodeOrNone S (registerWord r inA)
+    && nodeOrNone S (registerWord r inB)
+    && nodeOrNone S (registerWord r inC)
+    && nodeOrNone S (registerWord r inD)
 
 -- 01: an idle record is fresh.
 unfoldable pub recordOk : (S growth : ℕ) → List ℕ → Bool
-recordOk S g r = cond (eqb (getD r 0 0) 0) (sameWords r (wordsOf fresh)) (busyOk S g r)
+recordOk S g r = cond (eqb (operationWord r) 0) (sameWords r (wordsOf fresh)) (busyOk S g r)
 
 -- 01: the shape, of a table whose sizes and length are right.
 unfoldable pub shapeOk : List ℕ → Bool
@@ -112,3 +130,8 @@ shapeOk ws =
     headerOk ws
     && allBelow (nodeCount ws) (nodeOk ws)
     && allBelow (taskCount ws) (λ k. recordOk (nodeCount ws) (growth ws) (recordWords ws k))
+
+-- A table passes the tests of refusals 3 and 4.
+pub record WellFormed (ws : List ℕ) : Type 0 where
+  pub length-passes : lengthOk ws ≡ true
+  pub shape-passes : shapeOk ws ≡ true

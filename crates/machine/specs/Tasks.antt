@@ -1,9 +1,10 @@
--- The task record: its ten words, and what they mean.
-use mathlib.Core.List.{List, [], _∷_}
+-- The task record: what it says, and its words.
+use mathlib.Core.List.{List, [], _∷_, _++_}
 use Prim.Native.Nat.{ℕ}
 use lib.ListN.{getD}
 use Rattle.machine.specs.Sides.{Side, left, sideNumber, sideOf}
-use Rattle.machine.specs.Values.{Value, never, encode, decode}
+use Rattle.machine.specs.declared.Stored.{Stored}
+use Rattle.machine.specs.Values.{Value, never, encode, decode, stored, number, storedWords, storedAt}
 use Rattle.machine.specs.Operations.{Operation, idle, operationNumber, operationOf, goalOf}
 use Rattle.machine.specs.Steps.{Step, rest, stepNumber, stepOf}
 
@@ -40,37 +41,6 @@ fresh =
       D = none;
     }
 
--- The ten words of a record, in 01's order.
-abbrev pub wordsOf : Task → List ℕ
-wordsOf t =
-    operationNumber (t .operation)
-    ∷ stepNumber (t .step)
-    ∷ sideNumber (t .side)
-    ∷ t .argument
-    ∷ t .counted
-    ∷ encode (t .value)
-    ∷ t .A
-    ∷ t .B
-    ∷ t .C
-    ∷ t .D
-    ∷ []
-
--- The record of ten words.
-abbrev pub taskOf : List ℕ → Task
-taskOf r =
-    record {
-      operation = operationOf (getD r 0 0);
-      step = stepOf (getD r 1 0);
-      side = sideOf (getD r 2 0);
-      argument = getD r 3 0;
-      counted = getD r 4 0;
-      value = decode (getD r 5 0);
-      A = getD r 6 0;
-      B = getD r 7 0;
-      C = getD r 8 0;
-      D = getD r 9 0;
-    }
-
 -- The registers, by name.
 pub data Register : Type 0 where
   inA inB inC inD : Register
@@ -85,36 +55,84 @@ register t inD = t .D
 abbrev pub goal : (growth : ℕ) → Task → ℕ
 goal growth t = goalOf (t .operation) growth (t .argument)
 
--- The record with one field set.
-abbrev pub goto : Task → Step → Task
-goto t st =
+-- ---- The words of a record.
+abbrev pub recordLength : ℕ
+recordLength = 10
+
+-- In 01's order.
+abbrev pub wordsOf : Task → List ℕ
+wordsOf t =
+    operationNumber (t .operation)
+    ∷ stepNumber (t .step)
+    ∷ sideNumber (t .side)
+    ∷ (storedWords (stored (t .argument))
+    ++ (t .counted
+    ∷ (storedWords (encode (t .value))
+    ++ (t .A ∷ t .B ∷ t .C ∷ t .D ∷ []))))
+
+-- Each by its name. No other file says where in a record a word stands.
+abbrev pub operationWord : List ℕ → ℕ
+operationWord r = getD r 0 0
+
+abbrev pub stepWord : List ℕ → ℕ
+stepWord r = getD r 1 0
+
+abbrev pub sideWord : List ℕ → ℕ
+sideWord r = getD r 2 0
+
+abbrev pub argumentWords : List ℕ → Stored
+argumentWords r = storedAt r 3
+
+abbrev pub countedWord : List ℕ → ℕ
+countedWord r = getD r 4 0
+
+abbrev pub valueReadWords : List ℕ → Stored
+valueReadWords r = storedAt r 5
+
+abbrev pub registerWord : List ℕ → Register → ℕ
+registerWord r inA = getD r 6 0
+registerWord r inB = getD r 7 0
+registerWord r inC = getD r 8 0
+registerWord r inD = getD r 9 0
+
+-- The record of its words.
+abbrev pub taskOf : List ℕ → Task
+taskOf r =
+    record {
+      operation = operationOf (operationWord r);
+      step = stepOf (stepWord r);
+      side = sideOf (sideWord r);
+      argument = number (argumentWords r);
+      counted = countedWord r;
+      value = decode (valueReadWords r);
+      A = registerWord r inA;
+      B = registerWord r inB;
+      C = registerWord r inC;
+      D = registerWord r inD;
+    }
+
+-- ---- The record of the same call further on: at a step, with a count, a value read and registers.
+abbrev pub further : Task → Step → (counted : ℕ) → Value → (a b c d : ℕ) → Task
+further t st n v a b c d =
     record {
       operation = t .operation;
       step = st;
       side = t .side;
       argument = t .argument;
-      counted = t .counted;
-      value = t .value;
-      A = t .A;
-      B = t .B;
-      C = t .C;
-      D = t .D;
-    }
-
-abbrev pub withRegisters : Task → (a b c d : ℕ) → Task
-withRegisters t a b c d =
-    record {
-      operation = t .operation;
-      step = t .step;
-      side = t .side;
-      argument = t .argument;
-      counted = t .counted;
-      value = t .value;
+      counted = n;
+      value = v;
       A = a;
       B = b;
       C = c;
       D = d;
     }
+
+-- With one thing set.
+abbrev pub goto : Task → Step → Task
+goto t st = further t st (t .counted) (t .value) (t .A) (t .B) (t .C) (t .D)
+
+abbrev pub withRegisters : Task → (a b c d : ℕ) → Task
+withRegisters t a b c d = further t (t .step) (t .counted) (t .value) a b c d
 
 abbrev pub withA : Task → ℕ → Task
 withA t x = withRegisters t x (t .B) (t .C) (t .D)
@@ -129,31 +147,7 @@ abbrev pub withD : Task → ℕ → Task
 withD t x = withRegisters t (t .A) (t .B) (t .C) x
 
 abbrev pub withCounted : Task → ℕ → Task
-withCounted t n =
-    record {
-      operation = t .operation;
-      step = t .step;
-      side = t .side;
-      argument = t .argument;
-      counted = n;
-      value = t .value;
-      A = t .A;
-      B = t .B;
-      C = t .C;
-      D = t .D;
-    }
+withCounted t n = further t (t .step) n (t .value) (t .A) (t .B) (t .C) (t .D)
 
 abbrev pub withValue : Task → Value → Task
-withValue t v =
-    record {
-      operation = t .operation;
-      step = t .step;
-      side = t .side;
-      argument = t .argument;
-      counted = t .counted;
-      value = v;
-      A = t .A;
-      B = t .B;
-      C = t .C;
-      D = t .D;
-    }
+withValue t v = further t (t .step) (t .counted) v (t .A) (t .B) (t .C) (t .D)

@@ -1,6 +1,31 @@
-// The answers of the five calls, by value, and the numbers of a tick's.
+// What the definitions and the code share by value: the words of a value, the answers of the five calls, and the numbers of
+// a tick's.
 ghost use mathlib.Core.Path.{_≡_};
 ghost use Rattle.machine.specs.Answers.{kindOf, payloadOf};
+
+// A value as the table holds it, in a node or in a record: the words of V. The argument of a call is held the same way.
+// Only the definitions of values and the crate of the layout name its words.
+pub struct Stored {
+    pub word: u32,
+}
+
+impl Stored {
+    pub const NEVER: u32 = 0;
+
+    pub const LARGEST_BAG: u32 = 999_999_999;
+    // 01's six marks.
+    pub const LN: u32 = 1_000_000_001;
+
+    pub const LX: u32 = 1_000_000_002;
+
+    pub const LY: u32 = 1_000_000_003;
+
+    pub const RN: u32 = 1_000_000_004;
+
+    pub const RX: u32 = 1_000_000_005;
+
+    pub const RY: u32 = 1_000_000_006;
+}
 
 // What a tick answers.
 pub enum Answer {

@@ -2,17 +2,20 @@
 use hattrick::ends;
 use hattrick::ends::Done;
 use hattrick::marks;
+use hattrick::shapes;
 use layout::nodes;
+use layout::sides;
 use layout::tasks::Task;
-use layout::values::Value;
+use layout::values;
 use machine::Answer;
+use machine::Stored;
 ghost use mathlib.Core.Path.{_≡_};
 ghost use mathlib.Core.Bool.{true};
 ghost use Rattle.machine.specs.Sides.{sideOf};
-ghost use Rattle.machine.specs.Values.{bagOk, valueOk};
+ghost use Rattle.machine.specs.Values.{decode, bagOk, valueOk};
 ghost use Rattle.machine.specs.Steps.{stepNumber, line39, line40, line42, line48, line51};
 ghost use Rattle.machine.specs.Lines.{afterRead};
-ghost use Rattle.layout.specs.Coded.{meaning, codedTask, taskMeant};
+ghost use Rattle.layout.specs.Coded.{codedTask, taskMeant};
 ghost use Rattle.hattrick.specs.Lent.{Ready, Does, DoesAnywhere, outcomeOf};
 
 // 39: A = hat; 40.
@@ -28,14 +31,16 @@ pub fn line40(ns: &[u32], hat: u32, t: Task) -> Done
     requires { ⌜ Ready (now ns) t ⌝ }
     ensures { λ r. ⌜ Does line40 (now (ns .entry)) hat t (outcomeOf (now (ns .entry)) r) ⌝ }
 {
-    let a = t.registers[Task::A];
-    let side = t.side;
-    if a == Task::NONE {
-        return ends::refused(hat, t);
-    }
-    let b = nodes::link(ns, ends::opposite(side), a);
-    let u = t.with(Task::B, b);
-    ends::next(hat, u, ends::either(b == Task::NONE, 39, 42))
+    shapes::follow(
+        ns,
+        hat,
+        t,
+        sides::opposite(t.side),
+        Task::A,
+        Task::B,
+        39,
+        42,
+    )
 }
 
 // 42: value = B.V; a bag 51, LN or LX 48, else 39.
@@ -49,15 +54,15 @@ pub fn line42(ns: &[u32], hat: u32, t: Task) -> Done
         return ends::refused(hat, t);
     }
     let v = nodes::value(ns, b);
-    ends::next(hat, t.reading(v), after_read(ends::opposite(side), v))
+    ends::next(hat, t.reading(v), after_read(sides::opposite(side), v))
 }
 
 // The step after 42 by the value read; o is the opposite side.
-fn after_read(o: u32, v: Value) -> u32
-    requires { ⌜ valueOk (v .word) ≡ true ⌝ }
-    ensures { λ r. ⌜ r ≡ stepNumber (afterRead (sideOf o) (meaning v)) ⌝ }
+fn after_read(o: u32, v: Stored) -> u32
+    requires { ⌜ valueOk v ≡ true ⌝ }
+    ensures { λ r. ⌜ r ≡ stepNumber (afterRead (sideOf o) (decode v)) ⌝ }
 {
-    if v.is_bag() {
+    if values::is_bag(v) {
         return 51;
     }
     if marks::is_n(v, o) {
@@ -78,7 +83,7 @@ pub fn line48(ns: &[u32], hat: u32, t: Task) -> Done
         return ends::refused(hat, t);
     }
     let v = nodes::value(ns, b);
-    if ends::both(hat == a, v.same(read)) {
+    if ends::both(hat == a, values::same(v, read)) {
         return ends::answers(hat, Answer::Empty);
     }
     ends::next(hat, t, 39)
@@ -86,20 +91,19 @@ pub fn line48(ns: &[u32], hat: u32, t: Task) -> Done
 
 // 51: swap hat A to B and B.V from value to RN; done answers the bag, failed 39.
 pub fn line51(ns: &mut [u32], hat: u32, t: Task) -> Done
-    requires { ⌜ Ready (now ns) t × (bagOk (t .value .word) ≡ true) ⌝ }
+    requires { ⌜ Ready (now ns) t × (bagOk (t .value) ≡ true) ⌝ }
     ensures { λ r. ⌜ Does line51 (now (ns .entry)) hat t (outcomeOf (now (ns .exit)) r) ⌝ }
 {
     let a = t.registers[Task::A];
     let b = t.registers[Task::B];
     let side = t.side;
-    let bag = t.value;
     if b == Task::NONE {
         return ends::refused(hat, t);
     }
     let v = nodes::value(ns, b);
-    if ends::both(hat == a, v.same(bag)) {
-        nodes::set_value(ns, b, Value::n_of(side));
-        return ends::answers(b, Answer::Bag(bag.word));
+    if ends::both(hat == a, values::same(v, t.value)) {
+        nodes::set_value(ns, b, values::n_of(side));
+        return ends::answers(b, Answer::Bag(values::number(t.value)));
     }
     ends::next(hat, t, 39)
 }

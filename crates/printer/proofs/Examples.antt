@@ -2,22 +2,14 @@
 use mathlib.Core.Path.{_≡_, refl}
 use mathlib.Core.List.{List, [], _∷_, _++_}
 use Prim.Native.Nat.{ℕ}
+use Rattle.machine.specs.declared.Reply.the-variants as Replies
+use Rattle.machine.specs.declared.Answer.the-variants as Answers
+use Rattle.machine.specs.declared.Reading.the-variants as Readings
 use Rattle.printer.specs.declared.Outcome.{Outcome}
-use Rattle.printer.specs.declared.Outcome.the-variants.{
-  Ok,
-  Going,
-  Pushed,
-  Bag,
-  Empty,
-  Full,
-  Yes,
-  No,
-  Refused,
-  Lane,
-  Unread,
-}
+use Rattle.printer.specs.declared.Outcome.the-variants.{Replied, Ticked, Lane, Unread}
 use Rattle.reader.specs.Text.{bytes}
-use Rattle.printer.specs.Lines.{digitsIn, decimal, spaced, textOf}
+use Rattle.printer.specs.Lines.{digitsIn, decimal, spaced}
+use Rattle.printer.specs.Outcomes.{textOf}
 
 -- The lines of some outcomes, over the same bags.
 abbrev printed : List Outcome → (bags : List ℕ) → List ℕ
@@ -25,14 +17,35 @@ printed [] bags = []
 printed (o ∷ os) bags = textOf o bags ++ printed os bags
 
 pub belt-run : printed
-    (Ok ∷ Ok ∷ Going ∷ Pushed ∷ Lane 1 ∷ Ok ∷ Bag 51 ∷ Ok ∷ Empty ∷ Refused 10 ∷ []) (51 ∷ [])
+    (Replied Replies.Accepted
+    ∷ Replied Replies.Accepted
+    ∷ Ticked Answers.Going
+    ∷ Ticked Answers.Pushed
+    ∷ Lane (Readings.Count 1)
+    ∷ Replied Replies.Accepted
+    ∷ Ticked (Answers.Bag 51)
+    ∷ Replied Replies.Accepted
+    ∷ Ticked Answers.Empty
+    ∷ Ticked (Answers.Refused 10)
+    ∷ [])
+    (51 ∷ [])
     ≡ bytes "(ok)\n(ok)\n(going)\n(pushed)\n(lane 51)\n(ok)\n(bag 51)\n(ok)\n(empty)\n(refused 10)\n"
-unfolding textOf spaced digitsIn
+unfolding spaced digitsIn
 belt-run = refl
 
-pub other-lines : printed (Full ∷ Yes ∷ No ∷ Unread ∷ Lane 0 ∷ Lane 2 ∷ []) (51 ∷ 999999999 ∷ 7 ∷ [])
-    ≡ bytes "(full)\n(yes)\n(no)\n(unread)\n(lane)\n(lane 51 999999999)\n"
-unfolding textOf spaced digitsIn
+pub other-lines : printed
+    (Ticked Answers.Full
+    ∷ Ticked Answers.Yes
+    ∷ Ticked Answers.No
+    ∷ Unread
+    ∷ Lane (Readings.Count 0)
+    ∷ Lane (Readings.Count 2)
+    ∷ Lane (Readings.Refused 3)
+    ∷ Replied (Replies.Refused 1)
+    ∷ [])
+    (51 ∷ 999999999 ∷ 7 ∷ [])
+    ≡ bytes "(full)\n(yes)\n(no)\n(unread)\n(lane)\n(lane 51 999999999)\n(refused 3)\n(refused 1)\n"
+unfolding spaced digitsIn
 other-lines = refl
 
 pub largest-word : decimal 4294967295 ≡ bytes "4294967295"

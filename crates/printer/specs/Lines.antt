@@ -1,26 +1,15 @@
--- The lines that the belt run prints, as bytes.
+-- The lines that the belt run prints, as bytes, each with its line feed.
 use mathlib.Core.Bool.{true, false}
 use mathlib.Core.List.{List, [], _∷_, _++_}
 use Prim.Native.Nat.{ℕ, zero, suc, _+_, _/_, _%_}
 use Prim.Native.Char.{code}
 use Prim.Native.String.{String}
 use lib.Dec.{ltb}
-use lib.ListN.{take}
+use Rattle.machine.specs.declared.Reply.{Reply}
+use Rattle.machine.specs.declared.Reply.the-variants as Replies
+use Rattle.machine.specs.declared.Answer.{Answer}
+use Rattle.machine.specs.declared.Answer.the-variants as Answers
 use Rattle.reader.specs.Text.{bytes}
-use Rattle.printer.specs.declared.Outcome.{Outcome}
-use Rattle.printer.specs.declared.Outcome.the-variants.{
-  Ok,
-  Going,
-  Pushed,
-  Bag,
-  Empty,
-  Full,
-  Yes,
-  No,
-  Refused,
-  Lane,
-  Unread,
-}
 
 -- The digits of a number below 10^k, where k is not 0: the number if it is below 10, else the digits of n / 10 and then
 -- the last digit.
@@ -45,17 +34,30 @@ spaced (bag ∷ bags) = bytes " " ++ decimal bag ++ spaced bags
 abbrev pub named : String → ℕ → List ℕ
 named name n = bytes name ++ decimal n ++ bytes ")\n"
 
--- The line of an outcome, with its line feed. A lane's bags are the first of those given.
--- 01: a refusal prints `(refused n)`, an empty lane `(lane)`, other answers their name.
-unfoldable pub textOf : Outcome → (bags : List ℕ) → List ℕ
-textOf Ok bags = bytes "(ok)\n"
-textOf Going bags = bytes "(going)\n"
-textOf Pushed bags = bytes "(pushed)\n"
-textOf (Bag b) bags = named "(bag " b
-textOf Empty bags = bytes "(empty)\n"
-textOf Full bags = bytes "(full)\n"
-textOf Yes bags = bytes "(yes)\n"
-textOf No bags = bytes "(no)\n"
-textOf (Refused n) bags = named "(refused " n
-textOf (Lane n) bags = bytes "(lane" ++ spaced (take n bags) ++ bytes ")\n"
-textOf Unread bags = bytes "(unread)\n"
+-- ---- The line of each answer. 01: a refusal prints `(refused n)`, an empty lane `(lane)`, other answers their name.
+abbrev pub refusedText : ℕ → List ℕ
+refusedText n = named "(refused " n
+
+-- Of start and begin.
+abbrev pub replyText : Reply → List ℕ
+replyText Replies.Accepted = bytes "(ok)\n"
+replyText (Replies.Refused n) = refusedText n
+
+-- Of a tick.
+abbrev pub answerText : Answer → List ℕ
+answerText Answers.Going = bytes "(going)\n"
+answerText Answers.Pushed = bytes "(pushed)\n"
+answerText (Answers.Bag b) = named "(bag " b
+answerText Answers.Empty = bytes "(empty)\n"
+answerText Answers.Full = bytes "(full)\n"
+answerText Answers.Yes = bytes "(yes)\n"
+answerText Answers.No = bytes "(no)\n"
+answerText (Answers.Refused n) = refusedText n
+
+-- Of a lane with these bags.
+abbrev pub laneText : List ℕ → List ℕ
+laneText bags = bytes "(lane" ++ spaced bags ++ bytes ")\n"
+
+-- Of a line that is not read.
+abbrev pub unreadText : List ℕ
+unreadText = bytes "(unread)\n"

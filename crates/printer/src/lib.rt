@@ -1,26 +1,24 @@
 // The outcomes of the belt run as lines of text, written into a lent buffer.
+mod answers;
 mod writing;
 
+use answers::print_answer;
+use answers::print_reading;
+use answers::print_reply;
+use machine::Answer;
+use machine::Reading;
+use machine::Reply;
 use writing::put;
-use writing::put_lane;
-use writing::put_named;
 ghost use Prim.Native.Nat.{_+_, _≤_};
 ghost use lib.ListN.{length};
-ghost use Rattle.printer.specs.Lines.{textOf};
-ghost use Rattle.printer.specs.Writing.{Written, countOf, roomFor};
+ghost use Rattle.printer.specs.Outcomes.{countOf, textOf};
+ghost use Rattle.printer.specs.Writing.{Written, roomFor};
 
-// What a line of the belt run comes to: an answer of one of the calls, or a line that is not read.
+// What a line of the belt run comes to: the answer of a call, or that the line is not read.
 pub enum Outcome {
-    Ok,
-    Going,
-    Pushed,
-    Bag(u32),
-    Empty,
-    Full,
-    Yes,
-    No,
-    Refused(u32),
-    Lane(u32),
+    Replied(Reply),
+    Ticked(Answer),
+    Lane(Reading),
     Unread,
 }
 
@@ -32,16 +30,9 @@ pub fn print(outcome: Outcome, bags: &[u32], out: &mut [u8], at: usize) -> usize
     ensures { λ r. ⌜ r ≤ at + roomFor (length (now (bags .entry))) ⌝ }
 {
     match outcome {
-        Outcome::Ok => put(out, at, b"(ok)\n"),
-        Outcome::Going => put(out, at, b"(going)\n"),
-        Outcome::Pushed => put(out, at, b"(pushed)\n"),
-        Outcome::Bag(b) => put_named(out, at, b"(bag ", b),
-        Outcome::Empty => put(out, at, b"(empty)\n"),
-        Outcome::Full => put(out, at, b"(full)\n"),
-        Outcome::Yes => put(out, at, b"(yes)\n"),
-        Outcome::No => put(out, at, b"(no)\n"),
-        Outcome::Refused(n) => put_named(out, at, b"(refused ", n),
-        Outcome::Lane(n) => put_lane(out, at, bags, n as usize),
+        Outcome::Replied(reply) => print_reply(reply, out, at),
+        Outcome::Ticked(answer) => print_answer(answer, out, at),
+        Outcome::Lane(reading) => print_reading(reading, bags, out, at),
         Outcome::Unread => put(out, at, b"(unread)\n"),
     }
 }

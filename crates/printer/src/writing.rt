@@ -3,7 +3,7 @@ ghost use mathlib.Core.List.{_++_};
 ghost use Prim.Native.Nat.{_+_, _*_, _≤_};
 ghost use lib.ListN.{length, take};
 ghost use Rattle.reader.specs.Text.{bytes};
-ghost use Rattle.printer.specs.Lines.{decimal, spaced};
+ghost use Rattle.printer.specs.Lines.{decimal, spaced, laneText};
 ghost use Rattle.printer.specs.Writing.{Written};
 
 // Puts a text at a place, and answers the place after it.
@@ -67,8 +67,7 @@ fn put_bags(out: &mut [u8], at: usize, bags: &[u32], n: usize) -> usize
 // The line of a lane of n bags.
 pub fn put_lane(out: &mut [u8], at: usize, bags: &[u32], n: usize) -> usize
     requires { ⌜ (n ≤ length (now bags)) × (at + 7 + 11 * n ≤ length (now out)) ⌝ }
-    ensures { λ r. ⌜ Written (now (out .entry)) at
-        (bytes "(lane" ++ spaced (take n (now (bags .entry))) ++ bytes ")\n") (now (out .exit)) r ⌝ }
+    ensures { λ r. ⌜ Written (now (out .entry)) at (laneText (take n (now (bags .entry)))) (now (out .exit)) r ⌝ }
     ensures { λ r. ⌜ r ≤ at + 7 + 11 * n ⌝ }
 {
     let after_name = put(out, at, b"(lane");

@@ -2,9 +2,10 @@
 use hattrick::ends;
 use hattrick::ends::Done;
 use hattrick::marks;
+use hattrick::shapes;
 use layout::nodes;
 use layout::tasks::Task;
-use layout::values::Value;
+use layout::values;
 use machine::Answer;
 ghost use mathlib.Core.Path.{_≡_};
 ghost use Rattle.machine.specs.Steps.{line2, line3, line5, line8};
@@ -24,13 +25,7 @@ pub fn line3(ns: &[u32], hat: u32, t: Task) -> Done
     requires { ⌜ Ready (now ns) t ⌝ }
     ensures { λ r. ⌜ Does line3 (now (ns .entry)) hat t (outcomeOf (now (ns .entry)) r) ⌝ }
 {
-    let a = t.registers[Task::A];
-    let side = t.side;
-    if a == Task::NONE {
-        return ends::refused(hat, t);
-    }
-    let b = nodes::link(ns, side, a);
-    ends::next(hat, t.with(Task::B, b), ends::either(b == Task::NONE, 8, 5))
+    shapes::follow(ns, hat, t, t.side, Task::A, Task::B, 8, 5)
 }
 
 // 5: swap hat A to B and A.V RN to the argument; done "pushed", failed 8.
@@ -50,7 +45,7 @@ pub fn line5(ns: &mut [u32], hat: u32, t: Task) -> Done
     }
     let n = marks::is_n(nodes::value(ns, a), side);
     if ends::both(hat == a, n) {
-        nodes::set_value(ns, a, Value { word: argument });
+        nodes::set_value(ns, a, argument);
         return ends::answers(b, Answer::Pushed);
     }
     ends::next(hat, t, 8)
@@ -61,11 +56,5 @@ pub fn line8(ns: &[u32], hat: u32, t: Task) -> Done
     requires { ⌜ Ready (now ns) t ⌝ }
     ensures { λ r. ⌜ Does line8 (now (ns .entry)) hat t (outcomeOf (now (ns .entry)) r) ⌝ }
 {
-    let a = t.registers[Task::A];
-    let side = t.side;
-    if a == Task::NONE {
-        return ends::refused(hat, t);
-    }
-    let x = marks::is_x(nodes::value(ns, a), side);
-    ends::next(hat, t, ends::either(x, 28, 67))
+    shapes::by_mark(ns, hat, t, values::x_of(t.side), 28, 67)
 }

@@ -8,8 +8,8 @@ use native.Mathlib.Omega.{arith}
 use lib.ListN.{length, length-append}
 use lib.Seq.{getD-append-seam, set-append-seam}
 use Rattle.reader.specs.Scanned.{Scanned, nothing, isDigit, zeroDigit, appended, scanByte, scanBytes}
-use Rattle.reader.specs.Lines.{allFit, formOf, lineOf, lineRead}
-use Rattle.reader.specs.declared.Line.the-variants.{Unread}
+use Rattle.reader.specs.Commands.{allFit, formOf, commandOf, commandRead}
+use Rattle.reader.specs.declared.Command.the-variants.{Unread}
 use Rattle.reader.specs.Written.{Numeral, last, then, valueAfter, value, beginsWithDigit}
 use Rattle.reader.specs.Written.{Written, ended, byte, number}
 use Rattle.reader.proofs.Laws.ScanLaws.{other-byte, further-digit, first-digit}
@@ -112,6 +112,6 @@ scanned-written line =
 
 -- ---- So they alone decide what a line says.
 pub written-says : {line text numbers : List ℕ} → Written line text numbers
-    → lineRead line ≡ cond (allFit numbers) (formOf text numbers) Unread
-unfolding lineRead lineOf
+    → commandRead line ≡ cond (allFit numbers) (formOf text numbers) Unread
+unfolding commandRead commandOf
 written-says w = let e = written-scanned w in rw (e .0, e .1)

@@ -1,15 +1,15 @@
 -- Lines that are read and lines close to them, with what each says; `proofs/Worked` shows it.
 use mathlib.Core.List.{List, [], _∷_}
 use Prim.Native.String.{String}
-use Rattle.reader.specs.declared.Line.{Line}
-use Rattle.reader.specs.declared.Line.the-variants.{Start, Begin, Tick, Lane, Unread}
+use Rattle.reader.specs.declared.Command.{Command}
+use Rattle.reader.specs.declared.Command.the-variants.{Start, Begin, Tick, Lane, Unread}
 
 pub record Example : Type 0 where
   pub line : String
-  pub says : Line
+  pub says : Command
 
 infix 80 _reads-as_
-abbrev pub _reads-as_ : String → Line → Example
+abbrev pub _reads-as_ : String → Command → Example
 line reads-as said = record { line = line; says = said }
 
 unfoldable pub examples : List Example

@@ -5,7 +5,7 @@ use mathlib.Core.Path.{_≡_}
 use Prim.Native.Nat.{ℕ, _+_, _-_, _≤_, _<_, min}
 use lib.ListN.{length, getD, take, drop}
 use Rattle.reader.specs.Scanned.{Scanned, scanBytes, firstLine}
-use Rattle.reader.specs.Lines.{allFit}
+use Rattle.reader.specs.Commands.{allFit}
 use Rattle.reader.specs.declared.scanning.Scan.{Scan}
 use Rattle.reader.specs.declared.scanning.Stop.{Stop}
 
@@ -23,8 +23,15 @@ pub record Counts (s : Scan) : Type 0 where
   pub few : s .count ≤ numberPlaces
   pub some : s .in_number ≡ true → 0 < s .count
 
+-- a number is open, and the digit d is to be put to it
+pub record MoreDigits (numbers : List ℕ) (s : Scan) (d : ℕ) : Type 0 where
+  pub number-places : length numbers ≡ numberPlaces
+  pub counts : Counts s
+  pub is-open : s .in_number ≡ true
+  pub is-digit : d < 10
+
 -- what holds of the arrays and the scan at all times
-pub record Kept (text numbers : List ℕ) (s : Scan) : Type 0 where
+pub record ScanKept (text numbers : List ℕ) (s : Scan) : Type 0 where
   pub text-places : length text ≡ textPlaces
   pub number-places : length numbers ≡ numberPlaces
   pub counts : Counts s
@@ -34,7 +41,7 @@ pub record Kept (text numbers : List ℕ) (s : Scan) : Type 0 where
 -- the last place used.
 pub record Represents (text numbers : List ℕ) (s : Scan) (σ : Scanned) : Type 0 where
   pub text-kept : take (s .length) text ≡ take textPlaces (σ .text)
-  pub counted : s .count ≡ min numberPlaces (length (σ .numbers))
+  pub number-count : s .count ≡ min numberPlaces (length (σ .numbers))
   pub in-number : s .in_number ≡ σ .inNumber
   pub fitting : s .fits ≡ allFit (σ .numbers)
   pub first : s .fits ≡ true → (k : ℕ) → k < 3 → getD numbers k 0 ≡ getD (σ .numbers) k 0
@@ -44,7 +51,7 @@ pub record Represents (text numbers : List ℕ) (s : Scan) (σ : Scanned) : Type
 -- Scanning these bytes turned the first arrays and scan into the second: whatever the first stand for, the second stand
 -- for that with the bytes scanned.
 pub record Scans (bytes text₀ numbers₀ : List ℕ) (s₀ : Scan) (text numbers : List ℕ) (s : Scan) : Type 0 where
-  pub kept : Kept text numbers s
+  pub kept : ScanKept text numbers s
   pub scans : (σ : Scanned) → Represents text₀ numbers₀ s₀ σ → Represents text numbers s (scanBytes σ bytes)
 
 -- The chunk is scanned from a place up to the next line feed or its end.

@@ -1,6 +1,6 @@
 pub mod Text
 pub mod Scanned
 pub mod Written
-pub mod Lines
+pub mod Commands
 pub mod Kept
 pub mod Examples

@@ -1,9 +1,9 @@
 // The form of a line, by its text.
-use crate::Line;
+use crate::Command;
 use crate::scanning::Numbers;
 ghost use mathlib.Core.Path.{_≡_};
 ghost use Rattle.reader.specs.Text.{same};
-ghost use Rattle.reader.specs.Lines.{ticks, beginOr, beginOf, formOf};
+ghost use Rattle.reader.specs.Commands.{ticks, beginOr, beginOf, formOf};
 
 // Whether two byte strings are the same.
 fn is_text(text: &[u8], want: &[u8]) -> bool
@@ -23,19 +23,19 @@ fn is_text(text: &[u8], want: &[u8]) -> bool
 }
 
 // 01: "times (1 to 1,000)".
-fn ticks_of(task: u32, hint: u32, times: u32) -> Line
+fn ticks_of(task: u32, hint: u32, times: u32) -> Command
     ensures { λ r. ⌜ r ≡ ticks task hint times ⌝ }
 {
     if times < 1 {
-        return Line::Unread;
+        return Command::Unread;
     }
     if times <= 1_000 {
-        return Line::Tick { task, hint, times };
+        return Command::Tick { task, hint, times };
     }
-    Line::Unread
+    Command::Unread
 }
 
-// A begin of an operation, on the side whose text this is, or else another line.
+// A begin of an operation, on the side whose text this is, or else another command.
 fn begin_or(
     text: &[u8],
     left: &[u8],
@@ -43,13 +43,13 @@ fn begin_or(
     operation: u32,
     task: u32,
     argument: u32,
-    other: Line,
-) -> Line
+    other: Command,
+) -> Command
     ensures { λ r. ⌜ r ≡ beginOr (now (text .entry)) (now (left .entry)) (now (right .entry)) operation task argument
         other ⌝ }
 {
     if is_text(text, left) {
-        return Line::Begin {
+        return Command::Begin {
             task,
             operation,
             side: 0,
@@ -57,7 +57,7 @@ fn begin_or(
         };
     }
     if is_text(text, right) {
-        return Line::Begin {
+        return Command::Begin {
             task,
             operation,
             side: 1,
@@ -68,7 +68,7 @@ fn begin_or(
 }
 
 // The begin with this text, or no form.
-fn begin_of(text: &[u8], task: u32, argument: u32) -> Line
+fn begin_of(text: &[u8], task: u32, argument: u32) -> Command
     ensures { λ r. ⌜ r ≡ beginOf (now (text .entry)) task argument ⌝ }
 {
     let remove = begin_or(
@@ -78,7 +78,7 @@ fn begin_of(text: &[u8], task: u32, argument: u32) -> Line
         4,
         task,
         argument,
-        Line::Unread,
+        Command::Unread,
     );
     let add = begin_or(
         text,
@@ -110,7 +110,7 @@ fn begin_of(text: &[u8], task: u32, argument: u32) -> Line
 }
 
 // The form with this text and these numbers.
-pub fn form_of(text: &[u8], numbers: &Numbers) -> Line
+pub fn form_of(text: &[u8], numbers: &Numbers) -> Command
     ensures { λ r. ⌜ r ≡ formOf (now (text .entry)) (now (numbers .entry)) ⌝ }
 {
     let a = numbers[0];
@@ -120,10 +120,10 @@ pub fn form_of(text: &[u8], numbers: &Numbers) -> Line
         return ticks_of(a, b, c);
     }
     if is_text(text, b"(lane)") {
-        return Line::Lane;
+        return Command::Lane;
     }
     if is_text(text, b"(start (slots 0) (tasks 0) (growth 0))") {
-        return Line::Start {
+        return Command::Start {
             slots: a,
             tasks: b,
             growth: c,

@@ -1,4 +1,4 @@
-// The lines of the belt run: the bytes of a line are scanned in constant memory, and its form is read off.
+// The commands of the belt run: the bytes of a line are scanned in constant memory, and its form is read off.
 mod forms;
 pub mod scanning;
 
@@ -7,11 +7,11 @@ use scanning::Numbers;
 use scanning::Scan;
 ghost use mathlib.Core.Path.{_≡_};
 ghost use Rattle.reader.specs.Scanned.{Scanned};
-ghost use Rattle.reader.specs.Lines.{lineOf};
-ghost use Rattle.reader.specs.Kept.{Kept, Represents};
+ghost use Rattle.reader.specs.Commands.{commandOf};
+ghost use Rattle.reader.specs.Kept.{ScanKept, Represents};
 
 // What a line says. Operations are 1 push, 2 pop, 3 add, 4 remove; sides 0 left, 1 right.
-pub enum Line {
+pub enum Command {
     Start {
         slots: u32,
         tasks: u32,
@@ -32,15 +32,15 @@ pub enum Line {
     Unread,
 }
 
-// What a scanned line says.
-pub fn scanned_line(text: &[u8], numbers: &Numbers, s: Scan) -> Line
-    requires { ⌜ Kept (now text) (now numbers) s ⌝ }
-    ensures { λ r. ⌜ ((σ : Scanned) → Represents (now (text .entry)) (now (numbers .entry)) s σ → r ≡ lineOf σ) ⌝ }
+// The command of a scanned line.
+pub fn scanned_command(text: &[u8], numbers: &Numbers, s: Scan) -> Command
+    requires { ⌜ ScanKept (now text) (now numbers) s ⌝ }
+    ensures { λ r. ⌜ ((σ : Scanned) → Represents (now (text .entry)) (now (numbers .entry)) s σ → r ≡ commandOf σ) ⌝ }
 {
     let fits = s.fits;
     let length = s.length;
     if fits {
         return form_of(&text[..length], numbers);
     }
-    Line::Unread
+    Command::Unread
 }

@@ -6,8 +6,17 @@ ghost use Prim.Native.Nat.{ℕ, _+_, _≤_, _<_, min};
 ghost use lib.Dec.{leb};
 ghost use lib.ListN.{length, take, set};
 ghost use Rattle.reader.specs.Scanned.{Scanned, nothing, isDigit, withDigit, opened, extended, appended};
-ghost use Rattle.reader.specs.Lines.{largestNumber};
-ghost use Rattle.reader.specs.Kept.{textPlaces, numberPlaces, Counts, Kept, Represents, Scans, ScansLine};
+ghost use Rattle.reader.specs.Commands.{largestNumber};
+ghost use Rattle.reader.specs.Kept.{
+  textPlaces,
+  numberPlaces,
+  Counts,
+  MoreDigits,
+  ScanKept,
+  Represents,
+  Scans,
+  ScansLine,
+};
 
 pub const TEXT_PLACES: usize = 39;
 
@@ -39,7 +48,7 @@ pub struct Stop {
 
 // The scan of a line of which nothing is scanned.
 pub fn start(numbers: &mut Numbers) -> Scan
-    ensures { λ r. ⌜ ((text : List ℕ) → length text ≡ textPlaces → Kept text (now (numbers .exit)) r)
+    ensures { λ r. ⌜ ((text : List ℕ) → length text ≡ textPlaces → ScanKept text (now (numbers .exit)) r)
         × ((text : List ℕ) → Represents text (now (numbers .exit)) r nothing) ⌝ }
 {
     *numbers = [0; NUMBER_PLACES];
@@ -89,7 +98,7 @@ fn append_digit(numbers: &mut Numbers, place: usize, d: u32) -> bool
 
 // A further digit with the value d of the number that is open.
 fn extend_number(numbers: &mut Numbers, s: Scan, d: u32) -> Scan
-    requires { ⌜ (length (now numbers) ≡ numberPlaces) × Counts s × (s .in_number ≡ true) × (d < 10) ⌝ }
+    requires { ⌜ MoreDigits (now numbers) s d ⌝ }
     ensures { λ r. ⌜ (length (now (numbers .exit)) ≡ numberPlaces) × Counts r
         × ((text : List ℕ) (σ : Scanned) → Represents text (now (numbers .entry)) s σ
         → Represents text (now (numbers .exit)) r (extended σ d)) ⌝ }
@@ -108,8 +117,8 @@ fn extend_number(numbers: &mut Numbers, s: Scan, d: u32) -> Scan
 
 // A digit with the value d that opens a number. From the fourth number on they share the last place.
 fn open_number(text: &mut Text, numbers: &mut Numbers, s: Scan, d: u32) -> Scan
-    requires { ⌜ Kept (now text) (now numbers) s × (d < 10) ⌝ }
-    ensures { λ r. ⌜ Kept (now (text .exit)) (now (numbers .exit)) r
+    requires { ⌜ ScanKept (now text) (now numbers) s × (d < 10) ⌝ }
+    ensures { λ r. ⌜ ScanKept (now (text .exit)) (now (numbers .exit)) r
         × ((σ : Scanned) → Represents (now (text .entry)) (now (numbers .entry)) s σ
         → Represents (now (text .exit)) (now (numbers .exit)) r (opened σ d)) ⌝ }
 {
@@ -164,7 +173,7 @@ fn is_digit(b: u8) -> bool
 
 // Scans one byte.
 fn scan_byte(text: &mut Text, numbers: &mut Numbers, s: Scan, b: u8) -> Scan
-    requires { ⌜ Kept (now text) (now numbers) s ⌝ }
+    requires { ⌜ ScanKept (now text) (now numbers) s ⌝ }
     ensures { λ r. ⌜ Scans (b ∷ []) (now (text .entry)) (now (numbers .entry)) s
         (now (text .exit)) (now (numbers .exit)) r ⌝ }
 {
@@ -181,7 +190,7 @@ fn scan_byte(text: &mut Text, numbers: &mut Numbers, s: Scan, b: u8) -> Scan
 
 // Scans a line on from a place of a chunk, until its line feed or the end of the chunk.
 pub fn scan_line(chunk: &[u8], from: usize, text: &mut Text, numbers: &mut Numbers, s: Scan) -> Stop
-    requires { ⌜ (from ≤ length (now chunk)) × Kept (now text) (now numbers) s ⌝ }
+    requires { ⌜ (from ≤ length (now chunk)) × ScanKept (now text) (now numbers) s ⌝ }
     ensures { λ r. ⌜ ScansLine (now (chunk .entry)) from (now (text .entry)) (now (numbers .entry)) s
         (now (text .exit)) (now (numbers .exit)) r ⌝ }
 {

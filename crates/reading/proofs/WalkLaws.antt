@@ -1,36 +1,37 @@
 -- The walk along R, in the table and over the nodes' words: a turn of it, and the loops that count and write its bags.
-use mathlib.Core.Path.{_≡_, refl, sym, ap, _∙_}
+use mathlib.Core.Path.{_≡_, refl, sym, ap, _∙_, subst}
 use mathlib.Core.Logic.{_≢_}
 use mathlib.Core.Bool.{Bool, true, false}
 use mathlib.Core.List.{List, [], _∷_, _++_}
 use mathlib.Core.Option.{Option, some, none as nothing, Option·map}
-use Prim.Native.Nat.{ℕ, zero, suc, _+_, _-_, _*_, _≤_, _<_}
+use Prim.Native.Nat.{ℕ, zero, suc, _+_, _-_, _≤_, _<_}
 use native.Mathlib.Omega.{arith}
 use native.Mathlib.Nat.{add-zero, zero-add, sub-zero}
 use lib.ListN.{length, set, take, drop, take-append-drop}
-use lib.Seq.{take-suc-set, drop-set-lt, drop-drop, getD-take, getD-drop, append-snoc}
+use lib.Seq.{take-suc-set, drop-set-lt, drop-drop, append-snoc}
 use borrow.Author.Tests.{le-leb, lt-leb}
 use Rattle.machine.specs.declared.Reading.the-variants.{Count, Refused}
+use Rattle.machine.specs.declared.Stored.{Stored}
 use Rattle.machine.specs.Choice.{_≟_, _<?_, if_then_else_}
 use Rattle.machine.specs.Sides.{left, right}
-use Rattle.machine.specs.Values.{Value, never, bag, N, X, Y, decode}
+use Rattle.machine.specs.Values.{Value, never, bag, N, X, Y, number, encode, decode, valueOk}
 use Rattle.machine.specs.Tasks.{none}
-use Rattle.machine.specs.Table.{tableLength, nodeCount, taskCount, hat, valueWord, link}
+use Rattle.machine.specs.Table.{nodeCount, hat, valueWords, link}
+use Rattle.machine.specs.Shape.{WellFormed}
 use Rattle.machine.specs.Calls.{tableRefusal, laneFrom, lane, readInto, read}
 use Rattle.machine.specs.Results.{readOf}
 use Rattle.machine.proofs.Basics.Choices.{equal, unequal, if-yes}
 use Rattle.machine.proofs.Basics.Contradiction.{refute, clash}
 use Rattle.machine.proofs.Words.ValueLaws.{decoded-bag}
-use Rattle.machine.proofs.Words.Columns.{columns}
+use Rattle.machine.proofs.Words.Columns.{sizesOf, columns, Sized}
 use Rattle.machine.proofs.Shape.ShapeLaws.{WellShaped, well-sized, well-shaped}
-use Rattle.layout.specs.declared.values.Value as Values
-use Rattle.layout.specs.Coded.{codedWord, meaning, isBag, HoldsNode, linkIn, wordIn}
+use Rattle.layout.specs.Coded.{isBag, HoldsNode, linkIn, storedIn}
 use Rattle.reading.specs.declared.Walk.{Walk}
 use Rattle.reading.specs.declared.Walk.the-variants.{Bags, NoEnd}
 use Rattle.reading.specs.Lane.{laneIn, walkOf, laid, NodeOrNone, Walkable}
-use Rattle.shape.specs.Contracts.{numberOf, Passed}
+use Rattle.shape.specs.Contracts.{numberOf}
 use Rattle.shape.proofs.Laws.PassedTable.{refused, passed}
-use Rattle.layout.proofs.Laws.NodesPart.{nodesOf, nodes-long, link-in, value-in}
+use Rattle.layout.proofs.Laws.Views.{nodesOf, node-held, held-node, words-in, link-in, value-in}
 
 -- The walk after node x, in n nodes at most.
 abbrev pub after : List ℕ → (n x : ℕ) → Option (List ℕ)
@@ -48,7 +49,7 @@ atValue v rest =
     ]
 
 -- ---- The table and its nodes' words.
-module _ (ws : List ℕ) (sized : length ws ≡ tableLength (nodeCount ws) (taskCount ws)) where
+module _ (ws : List ℕ) (sized : Sized (sizesOf ws)) where
   pub lane-from-in : (n x : ℕ) → laneFrom ws n x ≡ laneIn (nodesOf ws) n x
   unfolding laneFrom laneIn
   lane-from-in zero x = refl
@@ -56,7 +57,7 @@ module _ (ws : List ℕ) (sized : length ws ≡ tableLength (nodeCount ws) (task
       let rest = ap (laneFrom ws n) (link-in ws sized right x) ∙ lane-from-in n (linkIn (nodesOf ws) right x) in
       ap (λ (l : Option (List ℕ)). if x ≟ none then nothing else l)
       (ap (λ (v : Value). atValue v (laneFrom ws n (link ws right x))) (value-in ws sized x)
-      ∙ ap (atValue (decode (wordIn (nodesOf ws) x))) rest)
+      ∙ ap (atValue (decode (storedIn (nodesOf ws) x))) rest)
 
   lane-in : lane ws ≡ after (nodesOf ws) (nodeCount ws) (hat ws left)
   unfolding lane
@@ -64,30 +65,20 @@ module _ (ws : List ℕ) (sized : length ws ≡ tableLength (nodeCount ws) (task
       ap (laneFrom ws (nodeCount ws)) (link-in ws sized right (hat ws left))
       ∙ lane-from-in (nodeCount ws) (linkIn (nodesOf ws) right (hat ws left))
 
-  -- A node of the table is a node of the part, and back.
-  node-in : (x : ℕ) → x < nodeCount ws → HoldsNode (nodesOf ws) x
-  node-in x h = omega (arith, nodes-long ws sized)
-
-  node-of : (x : ℕ) → HoldsNode (nodesOf ws) x → x < nodeCount ws
-  node-of x h = omega (arith, nodes-long ws sized)
-
-  value-word-in : (x : ℕ) → x < nodeCount ws → valueWord ws x ≡ wordIn (nodesOf ws) x
-  value-word-in x h =
-      let e : 8 + 3 * x + 2 ≡ 8 + (3 * x + 2) = omega arith in
-      rw e (sym (getD-take (3 * nodeCount ws) (drop 8 ws) (3 * x + 2) 0 (omega arith) ∙ getD-drop 8 ws (3 * x + 2) 0))
-
   module _ (W : WellShaped (columns ws)) where
-    hat-in : HoldsNode (nodesOf ws) (hat ws left)
-    hat-in = node-in (hat ws left) (W .hats-ok left)
+    pub hat-in : HoldsNode (nodesOf ws) (hat ws left)
+    hat-in = node-held ws sized (hat ws left) (W .hats-ok left)
 
     pub walkable : Walkable (nodesOf ws)
     walkable =
         record {
           values = λ x h.
-              let l = node-of x h in
-              rw (if-yes (x <? nodeCount ws) (valueWord ws x) 0 l, value-word-in x l) at (W .values-ok x);
+              let l = held-node ws sized x h in
+              subst (λ (u : Stored). valueOk u ≡ true)
+              (if-yes (x <? nodeCount ws) (valueWords ws x) (encode never) l ∙ words-in ws sized x l) (W .values-ok x);
           links = λ x h n.
-              node-in (linkIn (nodesOf ws) right x) (rw (link-in ws sized right x) at (W .links-ok right x) n);
+              node-held ws sized (linkIn (nodesOf ws) right x)
+              (rw (link-in ws sized right x) at (W .links-ok right x) n);
         }
 
 -- ---- One turn of the walk.
@@ -104,12 +95,12 @@ module _ (ns : List ℕ) where
   no-node (suc m) x e = rw (equal e)
 
   module _ (m m′ x : ℕ) (turn : m ≡ suc m′) (node : x ≢ none) where
-    at-node : laneIn ns m x ≡ atValue (decode (wordIn ns x)) (after ns m′ x)
+    at-node : laneIn ns m x ≡ atValue (decode (storedIn ns x)) (after ns m′ x)
     unfolding laneIn
     at-node = rw (turn, unequal node)
 
-    no-bag : isBag (decode (wordIn ns x)) ≡ false → laneIn ns m x ≡ some []
-    no-bag h = at-node ∙ go (decode (wordIn ns x)) h
+    no-bag : isBag (decode (storedIn ns x)) ≡ false → laneIn ns m x ≡ some []
+    no-bag h = at-node ∙ go (decode (storedIn ns x)) h
       where
         go : (v : Value) → isBag v ≡ false → atValue v (after ns m′ x) ≡ some []
         go never h = refl
@@ -118,59 +109,60 @@ module _ (ns : List ℕ) where
         go (X s) h = refl
         go (Y s) h = refl
 
-    one-bag : isBag (decode (wordIn ns x)) ≡ true → laneIn ns m x ≡ Option·map (_∷_ (wordIn ns x)) (after ns m′ x)
-    one-bag h = at-node ∙ go (decode (wordIn ns x)) refl h
+    one-bag :
+        isBag (decode (storedIn ns x)) ≡ true
+        → laneIn ns m x ≡ Option·map (_∷_ (number (storedIn ns x))) (after ns m′ x)
+    one-bag h = at-node ∙ go (decode (storedIn ns x)) refl h
       where
         go :
             (v : Value)
-            → decode (wordIn ns x) ≡ v
+            → decode (storedIn ns x) ≡ v
             → isBag v ≡ true
-            → atValue v (after ns m′ x) ≡ Option·map (_∷_ (wordIn ns x)) (after ns m′ x)
+            → atValue v (after ns m′ x) ≡ Option·map (_∷_ (number (storedIn ns x))) (after ns m′ x)
         go never e h = clash (cc)
-        go (bag b) e h = ap (λ (w : ℕ). Option·map (_∷_ w) (after ns m′ x)) (sym (decoded-bag (wordIn ns x) b e .1))
+        go (bag b) e h = ap (λ (w : ℕ). Option·map (_∷_ w) (after ns m′ x)) (sym (decoded-bag (storedIn ns x) b e .1))
         go (N s) e h = clash (cc)
         go (X s) e h = clash (cc)
         go (Y s) e h = clash (cc)
 
 -- What the code's test of a node's value tells.
-pub bag-told :
-    {r b : Bool} {v : Values.Value} {w : ℕ} → r ≡ isBag (meaning v) → v ≡ codedWord w → r ≡ b → isBag (decode w) ≡ b
-bag-told tested read h = ap (λ (u : Values.Value). isBag (meaning u)) (sym read) ∙ sym tested ∙ h
+pub bag-told : {r b : Bool} {u v : Stored} → r ≡ isBag (decode u) → u ≡ v → r ≡ b → isBag (decode v) ≡ b
+bag-told tested read h = ap (λ (w : Stored). isBag (decode w)) (sym read) ∙ sym tested ∙ h
 
 -- ---- The loop that counts: n bags are counted, and the walk goes on.
-abbrev pub counted : ℕ → Option (List ℕ) → Walk
-counted n nothing = NoEnd
-counted n (some bags) = Bags (n + length bags)
+abbrev pub tallied : ℕ → Option (List ℕ) → Walk
+tallied n nothing = NoEnd
+tallied n (some bags) = Bags (n + length bags)
 
-one-counted : (n w : ℕ) (l : Option (List ℕ)) → counted (n + 1) l ≡ counted n (Option·map (_∷_ w) l)
-one-counted n w nothing = refl
-one-counted n w (some bags) = ap Bags (omega arith)
+one-tallied : (n w : ℕ) (l : Option (List ℕ)) → tallied (n + 1) l ≡ tallied n (Option·map (_∷_ w) l)
+one-tallied n w nothing = refl
+one-tallied n w (some bags) = ap Bags (omega arith)
 
-pub count-begins : (ns : List ℕ) (slots x : ℕ) → counted 0 (laneIn ns (slots - 0) x) ≡ walkOf (laneIn ns slots x)
+pub count-begins : (ns : List ℕ) (slots x : ℕ) → tallied 0 (laneIn ns (slots - 0) x) ≡ walkOf (laneIn ns slots x)
 count-begins ns slots x = rw (sub-zero slots) (go (laneIn ns slots x))
   where
-    go : (l : Option (List ℕ)) → counted 0 l ≡ walkOf l
+    go : (l : Option (List ℕ)) → tallied 0 l ≡ walkOf l
     go nothing = refl
     go (some bags) = ap Bags (zero-add (length bags))
 
 module _ (ns : List ℕ) (slots n x : ℕ) where
-  pub count-ends : slots ≤ n → counted n (laneIn ns (slots - n) x) ≡ NoEnd
-  count-ends h = ap (counted n) (no-turn ns (slots - n) x (omega arith))
+  pub count-ends : slots ≤ n → tallied n (laneIn ns (slots - n) x) ≡ NoEnd
+  count-ends h = ap (tallied n) (no-turn ns (slots - n) x (omega arith))
 
-  pub count-at-none : x ≡ none → counted n (laneIn ns (slots - n) x) ≡ NoEnd
-  count-at-none e = ap (counted n) (no-node ns (slots - n) x e)
+  pub count-at-none : x ≡ none → tallied n (laneIn ns (slots - n) x) ≡ NoEnd
+  count-at-none e = ap (tallied n) (no-node ns (slots - n) x e)
 
   module _ (turn : n < slots) (node : x ≢ none) where
-    pub count-at-no-bag : isBag (decode (wordIn ns x)) ≡ false → counted n (laneIn ns (slots - n) x) ≡ Bags n
+    pub count-at-no-bag : isBag (decode (storedIn ns x)) ≡ false → tallied n (laneIn ns (slots - n) x) ≡ Bags n
     count-at-no-bag h =
-        ap (counted n) (no-bag ns (slots - n) (slots - (n + 1)) x (omega arith) node h) ∙ ap Bags (add-zero n)
+        ap (tallied n) (no-bag ns (slots - n) (slots - (n + 1)) x (omega arith) node h) ∙ ap Bags (add-zero n)
 
     pub count-at-bag :
-        isBag (decode (wordIn ns x)) ≡ true
-        → counted (n + 1) (after ns (slots - (n + 1)) x) ≡ counted n (laneIn ns (slots - n) x)
+        isBag (decode (storedIn ns x)) ≡ true
+        → tallied (n + 1) (after ns (slots - (n + 1)) x) ≡ tallied n (laneIn ns (slots - n) x)
     count-at-bag h =
-        one-counted n (wordIn ns x) (after ns (slots - (n + 1)) x)
-        ∙ ap (counted n) (sym (one-bag ns (slots - n) (slots - (n + 1)) x (omega arith) node h))
+        one-tallied n (number (storedIn ns x)) (after ns (slots - (n + 1)) x)
+        ∙ ap (tallied n) (sym (one-bag ns (slots - n) (slots - (n + 1)) x (omega arith) node h))
 
 -- ---- The loop that writes: i words are written, and the bags of the walk ahead come after them.
 abbrev pub written : ℕ → Option (List ℕ) → List ℕ → List ℕ
@@ -210,10 +202,10 @@ module _ (ns : List ℕ) (slots i x n : ℕ) (more : i < n) (ahead : walkOf (lan
       go (yes h) = omega arith
       go (no h) = let q = no-turn ns (slots - i) x (omega arith) in clash (cc)
 
-  bag-ahead : laneIn ns (slots - i) x ≡ Option·map (_∷_ (wordIn ns x)) (after ns (slots - (i + 1)) x)
-  bag-ahead = one-bag ns (slots - i) (slots - (i + 1)) x turn-ahead node-ahead (go (isBag (decode (wordIn ns x))) refl)
+  bag-ahead : laneIn ns (slots - i) x ≡ Option·map (_∷_ (number (storedIn ns x))) (after ns (slots - (i + 1)) x)
+  bag-ahead = one-bag ns (slots - i) (slots - (i + 1)) x turn-ahead node-ahead (go (isBag (decode (storedIn ns x))) refl)
     where
-      go : (b : Bool) → isBag (decode (wordIn ns x)) ≡ b → b ≡ true
+      go : (b : Bool) → isBag (decode (storedIn ns x)) ≡ b → b ≡ true
       go true h = refl
       go false h =
           let q = no-bag ns (slots - i) (slots - (i + 1)) x turn-ahead node-ahead h in
@@ -225,7 +217,7 @@ module _ (ns : List ℕ) (slots i x n : ℕ) (more : i < n) (ahead : walkOf (lan
     where
       go :
           (l : Option (List ℕ))
-          → walkOf (Option·map (_∷_ (wordIn ns x)) l) ≡ Bags (n - i)
+          → walkOf (Option·map (_∷_ (number (storedIn ns x))) l) ≡ Bags (n - i)
           → walkOf l ≡ Bags (n - (i + 1))
       go nothing h = clash (cc)
       go (some bags) h = let e : suc (length bags) ≡ n - i = cc in ap Bags (omega arith)
@@ -233,32 +225,29 @@ module _ (ns : List ℕ) (slots i x n : ℕ) (more : i < n) (ahead : walkOf (lan
   pub write-at-bag :
       (out : List ℕ)
       → i < length out
-      → written (i + 1) (after ns (slots - (i + 1)) x) (set out i (wordIn ns x))
+      → written (i + 1) (after ns (slots - (i + 1)) x) (set out i (number (storedIn ns x)))
       ≡ written i (laneIn ns (slots - i) x) out
   write-at-bag out h =
-      one-written i (wordIn ns x) (n - (i + 1)) (after ns (slots - (i + 1)) x) out fewer-ahead h
+      one-written i (number (storedIn ns x)) (n - (i + 1)) (after ns (slots - (i + 1)) x) out fewer-ahead h
       ∙ ap (λ (l : Option (List ℕ)). written i l out) (sym bag-ahead)
 
--- ---- The nodes' words as the code takes them, of a table that has passed the tests of refusals 3 and 4.
-abbrev pub partOf : List ℕ → List ℕ
-partOf ws = take (8 + 3 * nodeCount ws - 8) (drop 8 ws)
+-- ---- The walk of a table that has passed the tests of refusals 3 and 4, from the left hat's R.
+module _ (ws : List ℕ) (P : WellFormed ws) where
+  Z : Sized (sizesOf ws)
+  Z = well-sized ws (P .length-passes) .sized
 
-part-nodes : (ws : List ℕ) → partOf ws ≡ nodesOf ws
-part-nodes ws = let e : 8 + 3 * nodeCount ws - 8 ≡ 3 * nodeCount ws = omega arith in rw e
+  pub table-walkable : Walkable (nodesOf ws)
+  table-walkable = walkable ws Z (well-shaped ws (P .shape-passes))
 
-module _ (ws : List ℕ) (P : Passed ws) where
-  pub part-walkable : Walkable (partOf ws)
-  part-walkable = rw (part-nodes ws) (walkable ws (well-sized ws (P .length-passes) .sized) (well-shaped ws (P .shape-passes)))
+  pub left-hat-in : HoldsNode (nodesOf ws) (hat ws left)
+  left-hat-in = hat-in ws Z (well-shaped ws (P .shape-passes))
 
-  pub part-hat : HoldsNode (partOf ws) (hat ws left)
-  part-hat = rw (part-nodes ws) (hat-in ws (well-sized ws (P .length-passes) .sized) (well-shaped ws (P .shape-passes)))
+  module _ (from : ℕ) (first : from ≡ linkIn (nodesOf ws) right (hat ws left)) where
+    pub first-in : NodeOrNone (nodesOf ws) from
+    first-in = rw first (table-walkable .links (hat ws left) left-hat-in)
 
-  module _ (from : ℕ) (first : from ≡ linkIn (partOf ws) right (hat ws left)) where
-    pub part-first : NodeOrNone (partOf ws) from
-    part-first = rw first (part-walkable .links (hat ws left) part-hat)
-
-    pub part-lane : laneIn (partOf ws) (nodeCount ws) from ≡ lane ws
-    part-lane = rw (first, part-nodes ws) (sym (lane-in ws (well-sized ws (P .length-passes) .sized)))
+    pub lane-walked : laneIn (nodesOf ws) (nodeCount ws) from ≡ lane ws
+    lane-walked = rw first (sym (lane-in ws Z))
 
 -- ---- Refusals 3 and 4 by their number.
 module _ (ws : List ℕ) {n : ℕ} (is-number : n ≡ numberOf (tableRefusal ws nothing)) (out : List ℕ) where

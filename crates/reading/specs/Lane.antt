@@ -10,7 +10,7 @@ use Rattle.machine.specs.Choice.{_≟_, if_then_else_}
 use Rattle.machine.specs.Sides.{right}
 use Rattle.machine.specs.Values.{never, bag, N, X, Y, decode, valueOk}
 use Rattle.machine.specs.Tasks.{none}
-use Rattle.layout.specs.Coded.{HoldsNode, linkIn, wordIn}
+use Rattle.layout.specs.Coded.{HoldsNode, linkIn, storedIn}
 use Rattle.reading.specs.declared.Walk.{Walk}
 use Rattle.reading.specs.declared.Walk.the-variants.{Bags, NoEnd}
 
@@ -19,7 +19,7 @@ unfoldable pub laneIn : List ℕ → (n x : ℕ) → Option (List ℕ)
 laneIn ns zero x = nothing
 laneIn ns (suc n) x =
     if x ≟ none then nothing else
-    elim (decode (wordIn ns x)) as (λ _. Option (List ℕ)) [
+    elim (decode (storedIn ns x)) as (λ _. Option (List ℕ)) [
       | never ↦ some []
       | bag b ↦ Option·map (_∷_ b) (laneIn ns n (linkIn ns right x))
       | N z ↦ some []
@@ -43,5 +43,5 @@ NodeOrNone ns x = x ≢ none → HoldsNode ns x
 
 -- What the walk relies on.
 pub record Walkable (ns : List ℕ) : Type 0 where
-  pub values : (x : ℕ) → HoldsNode ns x → valueOk (wordIn ns x) ≡ true
+  pub values : (x : ℕ) → HoldsNode ns x → valueOk (storedIn ns x) ≡ true
   pub links : (x : ℕ) → HoldsNode ns x → NodeOrNone ns (linkIn ns right x)

@@ -3,8 +3,9 @@ use layout::nodes;
 use layout::places::HEADER;
 use layout::places::LEFT_HAT;
 use layout::places::NODE_COUNT;
-use layout::places::NODE_WORDS;
+use layout::places::node_at;
 use layout::tasks::Task;
+use layout::values;
 use machine::Reading;
 use shape::table_refusal;
 ghost use mathlib.Core.Path.{_≡_};
@@ -12,7 +13,7 @@ ghost use Prim.Native.Nat.{_≤_};
 ghost use lib.ListN.{length};
 ghost use Rattle.machine.specs.Calls.{lane, readInto, read};
 ghost use Rattle.machine.specs.Results.{readOf};
-ghost use Rattle.shape.specs.Contracts.{Passed};
+ghost use Rattle.machine.specs.Shape.{WellFormed};
 ghost use Rattle.reading.specs.declared.Walk.the-variants.{Bags};
 ghost use Rattle.reading.specs.Lane.{laneIn, walkOf, laid, NodeOrNone, Walkable};
 
@@ -33,7 +34,7 @@ fn count(ns: &[u32], slots: u32, from: u32) -> Walk
         if x == Task::NONE {
             return Walk::NoEnd;
         }
-        if !nodes::value(ns, x).is_bag() {
+        if !values::is_bag(nodes::value(ns, x)) {
             return Walk::Bags(n);
         }
         x = nodes::link(ns, 1, x);
@@ -52,22 +53,21 @@ fn copy(ns: &[u32], slots: u32, from: u32, n: u32, out: &mut [u32])
     let mut x = from;
     let mut i = 0;
     while i < n {
-        let v = nodes::value(ns, x);
-        out[i as usize] = v.word;
+        out[i as usize] = values::number(nodes::value(ns, x));
         x = nodes::link(ns, 1, x);
         i += 1;
     }
 }
 
 // The read of a table that has passed the tests of refusals 3 and 4.
-fn read_lane(t: &[u32], out: &mut [u32]) -> Reading
-    requires { ⌜ Passed (now t) ⌝ }
-    ensures { λ r. ⌜ readOf r (now (out .exit)) ≡ readInto (lane (now (t .entry))) (now (out .entry)) ⌝ }
+fn read_lane(table: &[u32], out: &mut [u32]) -> Reading
+    requires { ⌜ WellFormed (now table) ⌝ }
+    ensures { λ r. ⌜ readOf r (now (out .exit)) ≡ readInto (lane (now (table .entry))) (now (out .entry)) ⌝ }
 {
-    let slots = t[NODE_COUNT];
-    let ns = &t[HEADER..HEADER + NODE_WORDS * (slots as usize)];
+    let slots = table[NODE_COUNT];
+    let ns = &table[HEADER..node_at(slots)];
     // 01: the lane is read from the left hat's R along R while V is a bag.
-    let from = nodes::link(ns, 1, t[LEFT_HAT]);
+    let from = nodes::link(ns, 1, table[LEFT_HAT]);
     let walk = count(ns, slots, from);
     match walk {
         Walk::NoEnd => {
@@ -85,12 +85,12 @@ fn read_lane(t: &[u32], out: &mut [u32]) -> Reading
 }
 
 // 01: refusals 3, 4, 11 and 12, then the bags in order and their count.
-pub fn read(t: &[u32], out: &mut [u32]) -> Reading
-    ensures { λ r. ⌜ readOf r (now (out .exit)) ≡ read (now (t .entry)) (now (out .entry)) ⌝ }
+pub fn read(table: &[u32], out: &mut [u32]) -> Reading
+    ensures { λ r. ⌜ readOf r (now (out .exit)) ≡ read (now (table .entry)) (now (out .entry)) ⌝ }
 {
-    let n = table_refusal(t);
+    let n = table_refusal(table);
     if n != 0 {
         return Reading::Refused(n);
     }
-    read_lane(t, out)
+    read_lane(table, out)
 }

@@ -1,12 +1,10 @@
 // Lines 54, 56, 58, 60, 62 and 64: a remove finds the link outside the hat where it may cut the chain, and cuts it.
-pub mod breaking;
-
 use hattrick::ends;
 use hattrick::ends::Done;
 use hattrick::marks;
 use layout::nodes;
 use layout::tasks::Task;
-use layout::values::Value;
+use layout::values;
 use machine::Answer;
 ghost use mathlib.Core.Path.{_≡_};
 ghost use mathlib.Core.List.{List};
@@ -91,8 +89,8 @@ pub fn line62(ns: &mut [u32], hat: u32, t: Task) -> Done
     }
     let v = nodes::value(ns, a);
     let w = nodes::value(ns, b);
-    let x = Value::x_of(side);
-    let y = Value::y_of(side);
+    let x = values::x_of(side);
+    let y = values::y_of(side);
     if ends::both(marks::is_n(v, side), marks::is_n(w, side)) {
         nodes::set_value(ns, a, x);
         nodes::set_value(ns, b, y);

@@ -21,7 +21,7 @@ use Rattle.machine.specs.Calls.{
   tickRefusal,
   runRefusal,
   effectOf,
-  counted,
+  tickCounted,
   Ticked,
   applied,
   tickOn,
@@ -36,7 +36,8 @@ use Rattle.machine.proofs.Shape.ShapeLaws.{well-sized, well-shaped, length-ok, 
 use Rattle.machine.proofs.Shape.TickKeeps.{tick-kept}
 use Rattle.machine.proofs.Words.RunLaws.{by-first, first-tick}
 use Rattle.machine.specs.Results.{tickedOf, runDoneOf}
-use Rattle.shape.specs.Contracts.{numberOf, Passed}
+use Rattle.machine.specs.Shape.{WellFormed}
+use Rattle.shape.specs.Contracts.{numberOf}
 use Rattle.layout.proofs.Laws.Fronts.{front-grows}
 use Rattle.shape.proofs.Laws.PassedTable.{refused}
 
@@ -45,12 +46,12 @@ use Rattle.shape.proofs.Laws.PassedTable.{refused}
 pub tick-passed :
     (ws : List ℕ) (k h : ℕ) (a : Answer) (vs : List ℕ)
     → tickedOf a vs ≡ tickOn ws k h
-    → Passed ws
-    → Passed vs
+    → WellFormed ws
+    → WellFormed vs
 tick-passed ws k h a vs ticked P =
     let K = tick-kept ws (well-sized ws (P .length-passes)) (well-shaped ws (P .shape-passes)) k h in
     let us = tickOn ws k h .words in
-    subst Passed (sym (ap (λ (t : Ticked). t .words) ticked))
+    subst WellFormed (sym (ap (λ (t : Ticked). t .words) ticked))
     (record { length-passes = length-ok us (K .well-sized); shape-passes = shape-ok us (K .well-shaped) })
 
 -- Kind 7 is a refusal's, and its payload is the number.
@@ -83,7 +84,7 @@ refused-effect s ws k n e = go (refusalOf (e .answer)) refl
   where
     done : Option ℕ → Ticked
     done (some m) = record { answer = e .answer; words = ws }
-    done nothing = record { answer = e .answer; words = counted (setTask k (e .task) (writeAll s (e .writes) ws)) }
+    done nothing = record { answer = e .answer; words = tickCounted (setTask k (e .task) (writeAll s (e .writes) ws)) }
 
     go : (r : Option ℕ) → refusalOf (e .answer) ≡ r → refusalOf (done r .answer) ≡ some n → done r .words ≡ ws
     go (some m) q p = refl
@@ -243,7 +244,7 @@ module _ (ws list answers : List ℕ) where
       {n : ℕ} → n ≡ numberOf (tableRefusal ws nothing) → n ≢ 0 → stopped n ws answers ≡ run ws list answers
   run-3-4 {n} is-number h = stopped-by n (refused ws is-number h _)
 
-  module _ (P : Passed ws) where
+  module _ (P : WellFormed ws) where
     pub run-13-odd : length list % 2 ≢ 0 → stopped 13 ws answers ≡ run ws list answers
     run-13-odd odd = stopped-by 13 (rw (P .length-passes, P .shape-passes, ne-eqb (length list % 2) 0 odd))
 

@@ -6,24 +6,21 @@ use machine::payload;
 use shape::table_refusal;
 use ticking::passed::tick_on;
 ghost use mathlib.Core.Path.{_≡_};
-ghost use Prim.Native.Nat.{_≤_, _%_};
-ghost use lib.ListN.{length};
 ghost use Rattle.machine.specs.Calls.{runOn, run};
-ghost use Rattle.shape.specs.Contracts.{Passed};
 ghost use Rattle.machine.specs.Results.{runDoneOf};
+ghost use Rattle.running.specs.Runs.{MayRun};
 
 // The run of a table and a list that have passed the tests of 3, 4, 13 and 14.
 // 01: stops at the first refused tick; per tick made writes two words.
-fn run_on(t: &mut [u32], list: &[u32], answers: &mut [u32]) -> Ran
-    requires { ⌜ Passed (now t) × (length (now list) % 2 ≡ 0) × (length (now list) ≤ 8192) ⌝ }
-    requires { ⌜ length (now list) ≤ length (now answers) ⌝ }
-    ensures { λ r. ⌜ runDoneOf r (now (t .exit)) (now (answers .exit))
-        ≡ runOn (now (list .entry)) (now (t .entry)) (now (answers .entry)) ⌝ }
+fn run_on(table: &mut [u32], list: &[u32], answers: &mut [u32]) -> Ran
+    requires { ⌜ MayRun (now table) (now list) (now answers) ⌝ }
+    ensures { λ r. ⌜ runDoneOf r (now (table .exit)) (now (answers .exit))
+        ≡ runOn (now (list .entry)) (now (table .entry)) (now (answers .entry)) ⌝ }
 {
     let mut at = 0;
     let mut made = 0;
     while at < list.len() {
-        let answer = tick_on(t, list[at], list[at + 1]);
+        let answer = tick_on(table, list[at], list[at + 1]);
         let first = kind(answer);
         let second = payload(answer);
         if first == REFUSED {
@@ -41,11 +38,11 @@ fn run_on(t: &mut [u32], list: &[u32], answers: &mut [u32]) -> Ran
 }
 
 // 01: refusals 3, 4, 13 and 14, then the ticks of a list of (task, hint) pairs up to the first refused one.
-pub fn run(t: &mut [u32], list: &[u32], answers: &mut [u32]) -> Ran
-    ensures { λ r. ⌜ runDoneOf r (now (t .exit)) (now (answers .exit))
-        ≡ run (now (t .entry)) (now (list .entry)) (now (answers .entry)) ⌝ }
+pub fn run(table: &mut [u32], list: &[u32], answers: &mut [u32]) -> Ran
+    ensures { λ r. ⌜ runDoneOf r (now (table .exit)) (now (answers .exit))
+        ≡ run (now (table .entry)) (now (list .entry)) (now (answers .entry)) ⌝ }
 {
-    let refusal = table_refusal(t);
+    let refusal = table_refusal(table);
     if refusal != 0 {
         return Ran { made: 0, refusal };
     }
@@ -69,5 +66,5 @@ pub fn run(t: &mut [u32], list: &[u32], answers: &mut [u32]) -> Ran
             refusal: 14,
         };
     }
-    run_on(t, list, answers)
+    run_on(table, list, answers)
 }

@@ -1,11 +1,10 @@
 -- Names for the contracts of this crate.
-use mathlib.Core.Path.{_≡_}
-use mathlib.Core.Bool.{Bool, true}
+use mathlib.Core.Bool.{Bool}
 use mathlib.Core.List.{List}
 use mathlib.Core.Option.{Option, some, none as nothing}
 use Prim.Native.Nat.{ℕ}
 use Rattle.machine.specs.Table.{nodeCount, growth, recordWords}
-use Rattle.machine.specs.Shape.{recordOk, lengthOk, shapeOk}
+use Rattle.machine.specs.Shape.{recordOk}
 
 -- The test of task k's record in a table.
 abbrev pub taskOk : List ℕ → ℕ → Bool
@@ -15,8 +14,3 @@ taskOk ws k = recordOk (nodeCount ws) (growth ws) (recordWords ws k)
 abbrev pub numberOf : Option ℕ → ℕ
 numberOf nothing = 0
 numberOf (some n) = n
-
--- The table has passed the tests of refusals 3 and 4.
-pub record Passed (ws : List ℕ) : Type 0 where
-  pub length-passes : lengthOk ws ≡ true
-  pub shape-passes : shapeOk ws ≡ true

@@ -5,21 +5,22 @@ pub mod steps;
 use layout::nodes;
 use layout::places::GROWTH;
 use layout::places::HEADER;
+use layout::places::LEAST_LENGTH;
 use layout::places::LEFT_HAT;
 use layout::places::NODE_COUNT;
-use layout::places::NODE_WORDS;
-use layout::places::RECORD_WORDS;
 use layout::places::RIGHT_HAT;
 use layout::places::TASK_COUNT;
 use layout::places::WORD_6;
 use layout::places::WORD_7;
-use layout::tasks::Task;
+use layout::places::table_length;
+use layout::table::task;
+use layout::values::value_ok;
 ghost use mathlib.Core.Path.{_≡_};
 ghost use mathlib.Core.Bool.{true};
 ghost use mathlib.Core.Option.{none as nothing};
-ghost use Prim.Native.Nat.{_+_, _≤_, _<_};
+ghost use Prim.Native.Nat.{_+_, _≤_};
 ghost use lib.ListN.{length};
-ghost use Rattle.machine.specs.Table.{nodeCount, taskCount, valueAt, recordAt};
+ghost use Rattle.machine.specs.Table.{headerLength, nodeLength, nodeAt, nodeCount, taskCount};
 ghost use Rattle.machine.specs.Shape.{
   sizesOk,
   lengthOk,
@@ -29,6 +30,7 @@ ghost use Rattle.machine.specs.Shape.{
   shapeOk,
 };
 ghost use Rattle.machine.specs.Calls.{tableRefusal};
+ghost use Rattle.layout.specs.Coded.{HoldsRecord};
 ghost use Rattle.shape.specs.Contracts.{taskOk, numberOf};
 
 // 01: S slots (2 to 1,024), T tasks (1 to 16), growth (0 to 64).
@@ -39,50 +41,48 @@ pub fn sizes_ok(slots: u32, tasks: u32, growth: u32) -> bool
 }
 
 // 01's refusal 3: under 24 words, header S, T or growth out of range, or length not matching.
-pub fn length_ok(t: &[u32]) -> bool
-    ensures { λ r. ⌜ r ≡ lengthOk (now (t .entry)) ⌝ }
+pub fn length_ok(table: &[u32]) -> bool
+    ensures { λ r. ⌜ r ≡ lengthOk (now (table .entry)) ⌝ }
 {
-    if t.len() < 24 {
+    if table.len() < LEAST_LENGTH {
         return false;
     }
-    if !sizes_ok(t[NODE_COUNT], t[TASK_COUNT], t[GROWTH]) {
+    if !sizes_ok(table[NODE_COUNT], table[TASK_COUNT], table[GROWTH]) {
         return false;
     }
-    // The sizes are in range, so that the sum cannot overflow.
-    t.len()
-        == HEADER + NODE_WORDS * (t[NODE_COUNT] as usize) + RECORD_WORDS * (t[TASK_COUNT] as usize)
+    table.len() == table_length(table[NODE_COUNT], table[TASK_COUNT])
 }
 
 // 01: both last header words are 0, hats are below S.
-fn header_ok(t: &[u32]) -> bool
-    requires { ⌜ 24 ≤ length (now t) ⌝ }
-    ensures { λ r. ⌜ r ≡ headerOk (now (t .entry)) ⌝ }
+fn header_ok(table: &[u32]) -> bool
+    requires { ⌜ headerLength ≤ length (now table) ⌝ }
+    ensures { λ r. ⌜ r ≡ headerOk (now (table .entry)) ⌝ }
 {
-    let slots = t[NODE_COUNT];
-    t[WORD_6] == 0 && t[WORD_7] == 0 && t[LEFT_HAT] < slots && t[RIGHT_HAT] < slots
+    let slots = table[NODE_COUNT];
+    table[WORD_6] == 0 && table[WORD_7] == 0 && table[LEFT_HAT] < slots && table[RIGHT_HAT] < slots
 }
 
 // 01: links and V are as above.
-fn node_ok(t: &[u32], x: u32) -> bool
-    requires { ⌜ valueAt x < length (now t) ⌝ }
-    ensures { λ r. ⌜ r ≡ nodeOk (now (t .entry)) x ⌝ }
+fn node_ok(table: &[u32], x: u32) -> bool
+    requires { ⌜ nodeAt x + nodeLength ≤ length (now table) ⌝ }
+    ensures { λ r. ⌜ r ≡ nodeOk (now (table .entry)) x ⌝ }
 {
-    let slots = t[NODE_COUNT];
-    let words = &t[HEADER..];
+    let slots = table[NODE_COUNT];
+    let words = &table[HEADER..];
     records::node_or_none(slots, nodes::link(words, 0, x))
         && records::node_or_none(slots, nodes::link(words, 1, x))
-        && records::value_ok(nodes::value(words, x))
+        && value_ok(nodes::value(words, x))
 }
 
 // Every node, in one pass.
-fn nodes_ok(t: &[u32]) -> bool
-    requires { ⌜ lengthOk (now t) ≡ true ⌝ }
-    ensures { λ r. ⌜ r ≡ allBelow (nodeCount (now (t .entry))) (nodeOk (now (t .entry))) ⌝ }
+fn nodes_ok(table: &[u32]) -> bool
+    requires { ⌜ lengthOk (now table) ≡ true ⌝ }
+    ensures { λ r. ⌜ r ≡ allBelow (nodeCount (now (table .entry))) (nodeOk (now (table .entry))) ⌝ }
 {
-    let n = t[NODE_COUNT];
+    let n = table[NODE_COUNT];
     let mut x = 0;
     while x < n {
-        if !node_ok(t, x) {
+        if !node_ok(table, x) {
             return false;
         }
         x += 1;
@@ -90,25 +90,23 @@ fn nodes_ok(t: &[u32]) -> bool
     true
 }
 
-// The record of task k: the tasks come after the nodes.
-fn task_ok(t: &[u32], k: u32) -> bool
-    requires { ⌜ recordAt (nodeCount (now t)) k + 10 ≤ length (now t) ⌝ }
-    ensures { λ r. ⌜ r ≡ taskOk (now (t .entry)) k ⌝ }
+// The record of task k.
+fn task_ok(table: &[u32], k: u32) -> bool
+    requires { ⌜ HoldsRecord (now table) k ⌝ }
+    ensures { λ r. ⌜ r ≡ taskOk (now (table .entry)) k ⌝ }
 {
-    let slots = t[NODE_COUNT];
-    let at = HEADER + NODE_WORDS * (slots as usize) + RECORD_WORDS * (k as usize);
-    records::record_ok(Task::read(t, at), slots, t[GROWTH])
+    records::record_ok(task(table, k), table[NODE_COUNT], table[GROWTH])
 }
 
 // The record of every task, in one pass.
-fn tasks_ok(t: &[u32]) -> bool
-    requires { ⌜ lengthOk (now t) ≡ true ⌝ }
-    ensures { λ r. ⌜ r ≡ allBelow (taskCount (now (t .entry))) (taskOk (now (t .entry))) ⌝ }
+fn tasks_ok(table: &[u32]) -> bool
+    requires { ⌜ lengthOk (now table) ≡ true ⌝ }
+    ensures { λ r. ⌜ r ≡ allBelow (taskCount (now (table .entry))) (taskOk (now (table .entry))) ⌝ }
 {
-    let n = t[TASK_COUNT];
+    let n = table[TASK_COUNT];
     let mut k = 0;
     while k < n {
-        if !task_ok(t, k) {
+        if !task_ok(table, k) {
             return false;
         }
         k += 1;
@@ -117,21 +115,21 @@ fn tasks_ok(t: &[u32]) -> bool
 }
 
 // 01's refusal 4: shape broken.
-pub fn shape_ok(t: &[u32]) -> bool
-    requires { ⌜ lengthOk (now t) ≡ true ⌝ }
-    ensures { λ r. ⌜ r ≡ shapeOk (now (t .entry)) ⌝ }
+pub fn shape_ok(table: &[u32]) -> bool
+    requires { ⌜ lengthOk (now table) ≡ true ⌝ }
+    ensures { λ r. ⌜ r ≡ shapeOk (now (table .entry)) ⌝ }
 {
-    header_ok(t) && nodes_ok(t) && tasks_ok(t)
+    header_ok(table) && nodes_ok(table) && tasks_ok(table)
 }
 
 // The refusal of a table, in the order of 01's list, or 0 for a table that is accepted.
-pub fn table_refusal(t: &[u32]) -> u32
-    ensures { λ r. ⌜ r ≡ numberOf (tableRefusal (now (t .entry)) nothing) ⌝ }
+pub fn table_refusal(table: &[u32]) -> u32
+    ensures { λ r. ⌜ r ≡ numberOf (tableRefusal (now (table .entry)) nothing) ⌝ }
 {
-    if !length_ok(t) {
+    if !length_ok(table) {
         return 3;
     }
-    if !shape_ok(t) {
+    if !shape_ok(table) {
         return 4;
     }
     0

@@ -4,6 +4,7 @@ ghost use mathlib.Core.Path.{_≡_};
 ghost use Prim.Native.Nat.{_≤_};
 ghost use Rattle.machine.specs.Operations.{operationOf};
 ghost use Rattle.machine.specs.Steps.{stepsOf, isStepIn};
+ghost use Rattle.shape.specs.Owners.{OwnerOk, OwnersOk};
 
 // 01's list, by the step's number: the operation whose list has the step, or 0 where no list has it.
 const OWNER: [u32; 83] = [
@@ -92,15 +93,24 @@ const OWNER: [u32; 83] = [
     Task::REMOVE, // 82
 ];
 
+// The owner of a step; no step is past the table's end.
+fn owner(owners: &[u32; 83], step: u32) -> u32
+    requires { ⌜ OwnersOk (now owners) ⌝ }
+    ensures { λ o. ⌜ OwnerOk step o ⌝ }
+{
+    let i = step as usize;
+    if i >= owners.len() {
+        return 0;
+    }
+    owners[i]
+}
+
 // 01: push 2, 3, 5, 8 and every add step.
 pub fn is_step_of(operation: u32, step: u32) -> bool
     requires { ⌜ (1 ≤ operation) × (operation ≤ 4) ⌝ }
     ensures { λ r. ⌜ r ≡ isStepIn (stepsOf (operationOf operation)) step ⌝ }
 {
-    let i = step as usize;
-    if i >= OWNER.len() {
-        return false;
-    }
-    let owner = OWNER[i];
-    owner == operation || operation == Task::PUSH && owner == Task::ADD
+    let owners = OWNER;
+    let o = owner(&owners, step);
+    o == operation || operation == Task::PUSH && o == Task::ADD
 }

@@ -2,9 +2,7 @@
 mod fresh;
 
 use fresh::write_all;
-use layout::places::HEADER;
-use layout::places::NODE_WORDS;
-use layout::places::RECORD_WORDS;
+use layout::places::table_length;
 use machine::Reply;
 use shape::sizes_ok;
 ghost use mathlib.Core.Path.{_≡_};
@@ -12,15 +10,15 @@ ghost use Rattle.machine.specs.Results.{changedOf};
 ghost use Rattle.machine.specs.Calls.{start};
 
 // 01: refusals 1 and 2, then the words of a table with all tasks idle and no bag.
-pub fn start(t: &mut [u32], slots: u32, tasks: u32, growth: u32) -> Reply
-    ensures { λ r. ⌜ changedOf r (now (t .exit)) ≡ start (now (t .entry)) slots tasks growth ⌝ }
+pub fn start(table: &mut [u32], slots: u32, tasks: u32, growth: u32) -> Reply
+    ensures { λ r. ⌜ changedOf r (now (table .exit)) ≡ start (now (table .entry)) slots tasks growth ⌝ }
 {
     if !sizes_ok(slots, tasks, growth) {
         return Reply::Refused(1);
     }
-    if t.len() != HEADER + NODE_WORDS * (slots as usize) + RECORD_WORDS * (tasks as usize) {
+    if table.len() != table_length(slots, tasks) {
         return Reply::Refused(2);
     }
-    write_all(t, slots, tasks, growth);
+    write_all(table, slots, tasks, growth);
     Reply::Accepted
 }

@@ -2,5 +2,5 @@
 
 pub mod Chunks
 pub mod TakenLaws
-pub mod HeldLaws
+pub mod CarriedLaws
 pub mod ServingLaws

@@ -4,9 +4,9 @@ use mathlib.Core.Bool.{Bool, true, false, cond}
 use mathlib.Core.List.{List, [], _∷_, _++_, map, flatten, append-assoc, append-nil}
 use Prim.Native.Nat.{ℕ}
 use lib.Dec.{eqb}
-use Rattle.reader.specs.declared.Line.{Line}
+use Rattle.reader.specs.declared.Command.{Command}
 use Rattle.reader.specs.Scanned.{lineFeed, scanBytes}
-use Rattle.reader.specs.Lines.{lineOf, lineRead}
+use Rattle.reader.specs.Commands.{commandOf, commandRead}
 use Rattle.belt.specs.Run.{printed, inFront, linesOf, beltRun}
 use Rattle.stream.specs.Session.{
   State,
@@ -22,33 +22,33 @@ use Rattle.stream.specs.Session.{
 }
 use Rattle.stream.proofs.Laws.Chunks.{takeBytes-append}
 
--- What the lines say, of which the first goes on from the line so far.
-linesFrom : State → List (List ℕ) → List Line
-linesFrom s [] = cond (s .begun) (lineOf (s .line) ∷ []) []
-linesFrom s (line ∷ lines) = lineOf (scanBytes (s .line) line) ∷ map lineRead lines
+-- The commands of lines, of which the first goes on from the line so far.
+commandsFrom : State → List (List ℕ) → List Command
+commandsFrom s [] = cond (s .begun) (commandOf (s .line) ∷ []) []
+commandsFrom s (line ∷ lines) = commandOf (scanBytes (s .line) line) ∷ map commandRead lines
 
 -- What bytes and then the end of the input print.
 abbrev printedBy : List ℕ → State → List ℕ
 printedBy bytes s = takeBytes bytes s .text ++ endInput (takeBytes bytes s .state) .text
 
 -- ---- The first line by the byte in front of it.
-goOn-lines : (b : ℕ) (s : State) (lines : List (List ℕ))
-    → linesFrom (goOn b s .state) lines ≡ linesFrom s (inFront b lines)
-unfolding linesFrom scanBytes
-goOn-lines b s [] = refl
-goOn-lines b s (line ∷ lines) = refl
+goOn-commands : (b : ℕ) (s : State) (lines : List (List ℕ))
+    → commandsFrom (goOn b s .state) lines ≡ commandsFrom s (inFront b lines)
+unfolding commandsFrom scanBytes
+goOn-commands b s [] = refl
+goOn-commands b s (line ∷ lines) = refl
 
-endLine-lines : (s : State) (lines : List (List ℕ)) → linesFrom (endLine s .state) lines ≡ map lineRead lines
-unfolding linesFrom endLine lineRead
-endLine-lines s [] = refl
-endLine-lines s (line ∷ lines) = refl
+endLine-commands : (s : State) (lines : List (List ℕ)) → commandsFrom (endLine s .state) lines ≡ map commandRead lines
+unfolding commandsFrom endLine commandRead
+endLine-commands s [] = refl
+endLine-commands s (line ∷ lines) = refl
 
 -- ---- What is printed from a state on, by the bytes that are left.
 abbrev Whole : State → List ℕ → Type 0
-Whole s bytes = printedBy bytes s ≡ printed (linesFrom s (linesOf bytes)) (s .words) (s .bags)
+Whole s bytes = printedBy bytes s ≡ printed (commandsFrom s (linesOf bytes)) (s .words)
 
 at-end : (s : State) → Whole s []
-unfolding takeBytes endInput endLine linesFrom linesOf printed
+unfolding takeBytes endInput endLine commandsFrom linesOf printed
 at-end s = go (s .begun) refl
   where
     go : (begun : Bool) → s .begun ≡ begun → Whole s []
@@ -57,21 +57,21 @@ at-end s = go (s .begun) refl
 
 at-line-feed : (b : ℕ) (bs : List ℕ) (s : State) → eqb b lineFeed ≡ true → Whole (endLine s .state) bs
     → Whole s (b ∷ bs)
-unfolding takeBytes takeByte endLine linesFrom linesOf scanBytes printed
+unfolding takeBytes takeByte endLine commandsFrom linesOf scanBytes printed
 at-line-feed b bs s e left =
-    let line = endLine s in
-    let rest = takeBytes bs (line .state) in
+    let ended = endLine s in
+    let rest = takeBytes bs (ended .state) in
     rw e
-    (append-assoc (line .text) (rest .text) (endInput (rest .state) .text)
-    ∙ ap (λ (text : List ℕ). line .text ++ text)
+    (append-assoc (ended .text) (rest .text) (endInput (rest .state) .text)
+    ∙ ap (λ (text : List ℕ). ended .text ++ text)
     (left
-    ∙ ap (λ (lines : List Line). printed lines (line .state .words) (line .state .bags))
-    (endLine-lines s (linesOf bs))))
+    ∙ ap (λ (commands : List Command). printed commands (ended .state .words))
+    (endLine-commands s (linesOf bs))))
 
 at-byte : (b : ℕ) (bs : List ℕ) (s : State) → eqb b lineFeed ≡ false → Whole (goOn b s .state) bs → Whole s (b ∷ bs)
 unfolding takeBytes takeByte linesOf
 at-byte b bs s e left =
-    rw e (left ∙ ap (λ (lines : List Line). printed lines (s .words) (s .bags)) (goOn-lines b s (linesOf bs)))
+    rw e (left ∙ ap (λ (commands : List Command). printed commands (s .words)) (goOn-commands b s (linesOf bs)))
 
 from-state : (bytes : List ℕ) (s : State) → Whole s bytes
 from-state [] s = at-end s
@@ -83,14 +83,14 @@ from-state (b ∷ bs) s = go (eqb b lineFeed) refl (from-state bs)
 
 -- ---- The whole input.
 whole-printed : (input : List ℕ) → printedBy input atFirst ≡ beltRun input
-unfolding beltRun linesFrom lineRead
+unfolding beltRun commandsFrom commandRead
 whole-printed input =
     from-state input atFirst
-    ∙ ap (λ (lines : List Line). printed lines [] (atFirst .bags)) (first-lines (linesOf input))
+    ∙ ap (λ (commands : List Command). printed commands []) (first-commands (linesOf input))
   where
-    first-lines : (lines : List (List ℕ)) → linesFrom atFirst lines ≡ map lineRead lines
-    first-lines [] = refl
-    first-lines (line ∷ lines) = refl
+    first-commands : (lines : List (List ℕ)) → commandsFrom atFirst lines ≡ map commandRead lines
+    first-commands [] = refl
+    first-commands (line ∷ lines) = refl
 
 chunks-joined : (chunks : List (List ℕ)) (s : State) → printedFrom chunks s ≡ printedBy (flatten chunks) s
 unfolding printedFrom takeBytes flatten

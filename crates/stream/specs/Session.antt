@@ -4,22 +4,19 @@ use mathlib.Core.Bool.{Bool, true, false, cond}
 use mathlib.Core.List.{List, [], _∷_, _++_}
 use Prim.Native.Nat.{ℕ}
 use lib.Dec.{eqb}
-use lib.ListN.{replicate}
 use Rattle.reader.specs.Scanned.{Scanned, nothing, scanByte, lineFeed}
-use Rattle.reader.specs.Lines.{lineOf}
-use Rattle.printer.specs.Lines.{textOf}
-use Rattle.belt.specs.Run.{mostBags, answer}
+use Rattle.reader.specs.Commands.{commandOf}
+use Rattle.belt.specs.Run.{answer}
 
--- Where a session stands: the words of the table, none before an accepted start; the slice of the bags; the line so
--- far, and whether it is begun, that is, has a byte.
+-- Where a session stands: the words of the table, none before an accepted start; the line so far, and whether it is
+-- begun, that is, has a byte.
 pub record State : Type 0 where
   pub words : List ℕ
-  pub bags : List ℕ
   pub line : Scanned
   pub begun : Bool
 
 abbrev pub atFirst : State
-atFirst = record { words = []; bags = replicate mostBags 0; line = nothing; begun = false }
+atFirst = record { words = []; line = nothing; begun = false }
 
 -- What bytes come to: where the session stands afterwards, and what it printed.
 pub record Step : Type 0 where
@@ -29,11 +26,8 @@ pub record Step : Type 0 where
 -- A line that ends is answered, and the next one has no byte yet.
 unfoldable pub endLine : State → Step
 endLine s =
-    let done = answer (lineOf (s .line)) (s .words) (s .bags) in
-    record {
-      state = record { words = done .words; bags = done .bags; line = nothing; begun = false };
-      text = textOf (done .outcome) (done .bags);
-    }
+    let done = answer (commandOf (s .line)) (s .words) in
+    record { state = record { words = done .words; line = nothing; begun = false }; text = done .text }
 
 -- A step that prints nothing.
 abbrev pub silent : State → Step
@@ -41,7 +35,7 @@ silent s = record { state = s; text = [] }
 
 -- A byte of a line.
 abbrev pub goOn : ℕ → State → Step
-goOn b s = silent (record { words = s .words; bags = s .bags; line = scanByte (s .line) b; begun = true })
+goOn b s = silent (record { words = s .words; line = scanByte (s .line) b; begun = true })
 
 -- 01: "a line ends at a line feed or at the end of input".
 unfoldable pub takeByte : ℕ → State → Step

@@ -1,7 +1,7 @@
 -- What the proofs of a tick share: the words it leaves are the definition's.
 
 pub mod Laid
-pub mod Lent
+pub mod Seen
 pub mod LineWords
 pub mod TickReady
 pub mod TickWords

@@ -1,17 +1,27 @@
 -- A tick in code: the node it takes, and what it stores.
+use mathlib.Core.Path.{_≡_}
 use mathlib.Core.Bool.{Bool, true, false}
 use mathlib.Core.List.{List}
-use Prim.Native.Nat.{ℕ, _+_}
+use Prim.Native.Nat.{ℕ, _+_, _<_}
 use lib.ListN.{set}
 use lib.Seq.{sets}
 use Rattle.machine.specs.declared.Answer.{Answer}
 use Rattle.machine.specs.declared.Answer.the-variants.{Going, Pushed, Bag, Empty, Full, Yes, No, Refused}
+use Rattle.machine.specs.Sides.{left}
 use Rattle.machine.specs.Choice.{_≟_, if_then_else_}
 use Rattle.machine.specs.Tasks.{none}
-use Rattle.machine.specs.Table.{task}
-use Rattle.machine.specs.Calls.{Ticked, effectOf, applied, counted}
+use Rattle.machine.specs.Table.{nodeCount, taskCount, hatAt, recordAt, task}
+use Rattle.machine.specs.Shape.{WellFormed}
+use Rattle.machine.specs.Calls.{isBusy, Ticked, effectOf, applied, tickCounted}
 use Rattle.layout.specs.declared.tasks.Task as Tasks
 use Rattle.layout.specs.Coded.{recordOf}
+
+-- A tick that has passed the tests before refusal 11.
+pub record MayTick (ws : List ℕ) (k hint : ℕ) : Type 0 where
+  pub table : WellFormed ws
+  pub is-task : k < taskCount ws
+  pub is-hint : hint < nodeCount ws
+  pub busy : isBusy (task ws k .operation) ≡ true
 
 -- The node that the lines 28 and 31 take; the others take none.
 abbrev pub taken : (step f : ℕ) → ℕ
@@ -32,6 +42,10 @@ isRefused (Refused n) = true
 abbrev pub made : List ℕ → (k hint : ℕ) → Ticked
 made ws k h = applied (task ws k .side) ws k (effectOf ws k h)
 
+-- A record in its place.
+abbrev pub recorded : List ℕ → (k : ℕ) → Tasks.Task → List ℕ
+recorded ws k t = sets ws (recordAt (nodeCount ws) k) (recordOf t)
+
 -- The words with a side's hat, a record and one tick more in them.
-abbrev pub stored : List ℕ → (side hat : ℕ) → Tasks.Task → (at : ℕ) → List ℕ
-stored ws side h t at = counted (sets (set ws (3 + side) h) at (recordOf t))
+abbrev pub stored : List ℕ → (side hat k : ℕ) → Tasks.Task → List ℕ
+stored ws side h k t = tickCounted (recorded (set ws (hatAt left + side) h) k t)

@@ -1,38 +1,35 @@
 // One tick on a table that has passed the tests of refusals 3 and 4.
 use alloc::first_free;
 use figure::line;
+use layout::operations::goal_of;
 use layout::places::GROWTH;
 use layout::places::HEADER;
 use layout::places::LEFT_HAT;
 use layout::places::NODE_COUNT;
-use layout::places::NODE_WORDS;
-use layout::places::RECORD_WORDS;
 use layout::places::TASK_COUNT;
 use layout::places::TICK_COUNT;
+use layout::places::node_at;
+use layout::table;
 use layout::tasks::Task;
 use machine::Answer;
-use shape::records::goal_of;
 use std::num::wrapping_add_u32;
 ghost use mathlib.Core.Path.{_≡_};
-ghost use mathlib.Core.Bool.{true};
-ghost use Prim.Native.Nat.{_+_, _<_, _≤_};
-ghost use lib.ListN.{length};
-ghost use Rattle.machine.specs.Table.{nodeCount, taskCount, recordAt, task};
+ghost use Prim.Native.Nat.{_<_};
+ghost use Rattle.machine.specs.Table.{nodeCount, recordWords};
 ghost use Rattle.machine.specs.Allocate.{allocate};
-ghost use Rattle.machine.specs.Shape.{lengthOk, shapeOk};
-ghost use Rattle.machine.specs.Calls.{isBusy, tickOn};
-ghost use Rattle.layout.specs.Coded.{recordFrom};
+ghost use Rattle.machine.specs.Shape.{WellFormed};
+ghost use Rattle.machine.specs.Calls.{tickOn};
+ghost use Rattle.layout.specs.Coded.{structOf, HoldsRecord};
 ghost use Rattle.machine.specs.Results.{tickedOf};
-ghost use Rattle.shape.specs.Contracts.{Passed};
-ghost use Rattle.ticking.specs.Ticks.{taken, isRefused, stored, made};
+ghost use Rattle.ticking.specs.Ticks.{MayTick, taken, isRefused, stored, made};
 
 // The node that a tick at 28 or 31 takes, or none; the other lines take none.
-fn found(t: &[u32], step: u32, hint: u32) -> u32
-    requires { ⌜ Passed (now t) × (hint < nodeCount (now t)) ⌝ }
-    ensures { λ r. ⌜ r ≡ taken step (allocate (now (t .entry)) hint) ⌝ }
+fn found(table: &[u32], step: u32, hint: u32) -> u32
+    requires { ⌜ WellFormed (now table) × (hint < nodeCount (now table)) ⌝ }
+    ensures { λ r. ⌜ r ≡ taken step (allocate (now (table .entry)) hint) ⌝ }
 {
     match step {
-        28 | 31 => first_free(t, hint as usize),
+        28 | 31 => first_free(table, hint as usize),
         _ => Task::NONE,
     }
 }
@@ -54,62 +51,52 @@ fn is_refusal(a: Answer) -> bool
 }
 
 // The hat, the record and the tick count after a tick that is made.
-fn store(t: &mut [u32], side: u32, hat: u32, next: Task, at: usize)
-    requires { ⌜ (side < 2) × (8 ≤ at) × (at + 10 ≤ length (now t)) ⌝ }
-    ensures { λ _. ⌜ now (t .exit) ≡ stored (now (t .entry)) side hat next at ⌝ }
+fn store(table: &mut [u32], side: u32, hat: u32, task: u32, next: Task)
+    requires { ⌜ (side < 2) × HoldsRecord (now table) task ⌝ }
+    ensures { λ _. ⌜ now (table .exit) ≡ stored (now (table .entry)) side hat task next ⌝ }
 {
-    t[LEFT_HAT + side as usize] = hat;
-    next.write(t, at);
-    t[TICK_COUNT] = wrapping_add_u32(t[TICK_COUNT], 1);
+    table[LEFT_HAT + side as usize] = hat;
+    table::set_task(table, task, next);
+    table[TICK_COUNT] = wrapping_add_u32(table[TICK_COUNT], 1);
 }
 
-// The tick of the busy task j, whose record k stands at a place.
-fn make(t: &mut [u32], j: u32, k: Task, at: usize, hint: u32) -> Answer
-    requires { ⌜ Passed (now t) × (hint < nodeCount (now t)) × (j < taskCount (now t)) ⌝ }
-    requires { ⌜ (at ≡ recordAt (nodeCount (now t)) j) × (k ≡ recordFrom (now t) at) ⌝ }
-    requires { ⌜ isBusy (task (now t) j .operation) ≡ true ⌝ }
-    ensures { λ r. ⌜ tickedOf r (now (t .exit)) ≡ made (now (t .entry)) j hint ⌝ }
+// The tick of the busy task k, whose record is given.
+fn make(table: &mut [u32], k: u32, old: Task, hint: u32) -> Answer
+    requires { ⌜ MayTick (now table) k hint ⌝ }
+    requires { ⌜ old ≡ structOf (recordWords (now table) k) ⌝ }
+    ensures { λ r. ⌜ tickedOf r (now (table .exit)) ≡ made (now (table .entry)) k hint ⌝ }
 {
-    let slots = t[NODE_COUNT] as usize;
-    let step = k.step;
-    let side = k.side;
-    let goal = goal_of(k.operation, t[GROWTH], k.argument);
-    let taken = found(t, step, hint);
-    let hat = t[LEFT_HAT + side as usize];
-    let done = line(
-        &mut t[HEADER..HEADER + NODE_WORDS * slots],
-        hat,
-        k,
-        goal,
-        taken,
-    );
+    let step = old.step;
+    let side = old.side;
+    let argument = old.argument;
+    let goal = goal_of(old.operation, table[GROWTH], argument);
+    let taken = found(table, step, hint);
+    let hat = table[LEFT_HAT + side as usize];
+    let end = node_at(table[NODE_COUNT]);
+    let done = line(&mut table[HEADER..end], hat, old, goal, taken);
     let answer = done.answer;
     if is_refusal(answer) {
         return answer;
     }
     let next = done.task;
-    store(t, side, done.hat, next, at);
+    store(table, side, done.hat, k, next);
     answer
 }
 
 // 01: checks 5, 9, 10, 11.
-pub fn tick_on(t: &mut [u32], task: u32, hint: u32) -> Answer
-    requires { ⌜ Passed (now t) ⌝ }
-    ensures { λ r. ⌜ tickedOf r (now (t .exit)) ≡ tickOn (now (t .entry)) task hint ⌝ }
+pub fn tick_on(table: &mut [u32], task: u32, hint: u32) -> Answer
+    requires { ⌜ WellFormed (now table) ⌝ }
+    ensures { λ r. ⌜ tickedOf r (now (table .exit)) ≡ tickOn (now (table .entry)) task hint ⌝ }
 {
-    let slots = t[NODE_COUNT];
-    let tasks = t[TASK_COUNT];
-    if tasks <= task {
+    if table[TASK_COUNT] <= task {
         return Answer::Refused(5);
     }
-    if slots <= hint {
+    if table[NODE_COUNT] <= hint {
         return Answer::Refused(9);
     }
-    let at = HEADER + NODE_WORDS * (slots as usize) + RECORD_WORDS * (task as usize);
-    let k = Task::read(t, at);
-    let operation = k.operation;
-    if operation == Task::IDLE {
+    let old = table::task(table, task);
+    if old.operation == Task::IDLE {
         return Answer::Refused(10);
     }
-    make(t, task, k, at, hint)
+    make(table, task, old, hint)
 }

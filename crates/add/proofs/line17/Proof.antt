@@ -1,18 +1,13 @@
 -- `add::line17` meets its contract: three comparisons of values choose the step as the definition does.
 use Rattle.hattrick.proofs.Laws.Ready.{by-code, node-value-ok}
 use native.Mathlib.Omega.{arith}
-use lib.ListN.{getD}
-use Rattle.machine.specs.Choice.{if_then_else_}
 use Rattle.machine.specs.Sides.{sideOf}
-use Rattle.machine.specs.Values.{N, X, Y, decode, _≟ᵛ_}
-use Rattle.machine.specs.Steps.{line15, line18, line24, line67, stepNumber}
+use Rattle.machine.specs.Values.{N, X, Y}
 use Rattle.machine.specs.Lines.{act}
-use Rattle.machine.proofs.Basics.Choices.{equal, unequal}
-use Rattle.machine.proofs.Words.ValueLaws.{encode-decode}
-use Rattle.layout.specs.Coded.{codedWord, wordIn, withValueRead}
-use Rattle.hattrick.specs.Lent.{lineOf, nextDone, refusedDone}
+use Rattle.machine.proofs.Basics.Choices.{equal}
+use Rattle.hattrick.specs.Lent.{lineOf, refusedDone}
 use Rattle.hattrick.proofs.Laws.Compared.{told}
-use Rattle.hattrick.proofs.Laws.Chosen.{chosenᵛ}
+use Rattle.hattrick.proofs.Laws.Cases.{read-at-A}
 use borrow.Author.Needs.{needs}
 use Rattle.add.proofs.line17.Statement.{statement}
 use Rattle.add.proofs.line17.Tie as tie
@@ -65,20 +60,12 @@ next-requires : tie.Need-next-requires
 next-requires c κs = search needs
 
 returns-2 : tie.Need-returns-2
-unfolding lineOf act
 returns-2 c g f =
     let at-value = c .before .before .before .before .before .before .before .before in
     let else1 = at-value .before in
     let p = else1 .before .before .before in
-    let t = p .args .t3 in
-    let s = sideOf (t .side) in
-    let w = wordIn (p .args .ns .now) (getD (t .registers) 0 0) in
-    let v = decode w in
-    let w-ok = p .pre .values _ (p .pre .held 0 (omega arith) (else1 .if1 .left)) in
+    let s = sideOf (p .args .t3 .side) in
     let read = at-value .value .ensures in
-    let at-x = if v ≟ᵛ X s then line24 else line15 in
-    let at-y = if v ≟ᵛ Y s then line67 else at-x in
-    let step = if v ≟ᵛ N s then line18 else at-y in
     rw (
       c .next .ensures,
       c .before .either3 .ensures,
@@ -89,13 +76,8 @@ returns-2 c g f =
       c .before .before .before .before .before .before .either .ensures,
       told (X s) (c .before .before .before .before .before .before .before .is-x .ensures) read,
       read,
-      unequal (else1 .if1 .left),
-      chosenᵛ v (X s) line24 line15,
-      chosenᵛ v (Y s) line67 at-x,
-      chosenᵛ v (N s) line18 at-y,
-      encode-decode w w-ok,
     )
-    (by-code (p .pre) (λ u. nextDone (p .args .hat) (withValueRead u (codedWord w)) (stepNumber step)))
+    (read-at-A (p .pre) (p .args .hat) g f (else1 .if1 .left))
 
 pub line17-spec : {M : Type 1} → statement M
 line17-spec =

@@ -1,72 +1,25 @@
--- `add::line18` meets its contract: the test chooses the step as the definition does.
+-- `add::line18` meets its contract: it follows A's outward link into A.
 use native.Mathlib.Omega.{arith}
-use lib.ListN.{getD}
-use Rattle.machine.specs.Choice.{_≟_, if_then_else_}
 use Rattle.machine.specs.Sides.{sideOf}
-use Rattle.machine.specs.Steps.{line15, line17, stepNumber}
-use Rattle.machine.specs.Tasks.{none}
+use Rattle.machine.specs.Steps.{line15, line17}
+use Rattle.machine.specs.Tasks.{inA}
 use Rattle.machine.specs.Lines.{act}
-use Rattle.machine.proofs.Basics.Choices.{equal, unequal}
-use Rattle.layout.specs.Coded.{linkIn, withRegister}
-use Rattle.hattrick.specs.Lent.{lineOf, nextDone, refusedDone}
-use Rattle.hattrick.proofs.Laws.Ready.{by-code, side-below-two}
-use Rattle.hattrick.proofs.Laws.Chosen.{chosen}
-use borrow.Author.Needs.{needs}
+use Rattle.hattrick.specs.Lent.{lineOf}
+use Rattle.hattrick.proofs.Laws.Ready.{side-below-two}
+use Rattle.hattrick.proofs.Laws.Shapes.{followed}
 use Rattle.add.proofs.line18.Statement.{statement}
 use Rattle.add.proofs.line18.Tie as tie
 
-element-copy-out-a : tie.Need-element-copy-out-a
-element-copy-out-a c = search needs
-
-refused-requires : tie.Need-refused-requires
-refused-requires c κs = search needs
+follow-requires : tie.Need-follow-requires
+follow-requires c κs =
+    let R = c .before .pre in
+    record { ready = R; of-a-side = side-below-two R; reads-register = omega arith; sets-register = omega arith }
 
 returns : tie.Need-returns
 unfolding lineOf act
 returns c g f =
-    let p = c .before .before .before .before in
-    rw (c .refused .ensures, equal (c .before .if1 .taken)) (by-code (p .pre) (refusedDone (p .args .hat)))
-
-link-requires : tie.Need-link-requires
-link-requires c κs =
-    let p = c .before .before .before in
-    (p .pre .held 0 (omega arith) (c .if1 .left), side-below-two (p .pre))
-
-with-requires : tie.Need-with-requires
-with-requires c κs = search needs
-
-either-requires : tie.Need-either-requires
-either-requires c κs = search needs
-
-next-requires : tie.Need-next-requires
-next-requires c κs = search needs
-
-returns-2 : tie.Need-returns-2
-unfolding lineOf act
-returns-2 c g f =
-    let p = c .before .before .before .before .before .before .before in
-    let t = p .args .t3 in
-    let x = linkIn (p .args .ns .now) (sideOf (t .side)) (getD (t .registers) 0 0) in
-    let step = if x ≟ none then line15 else line17 in
-    rw (
-      c .next .ensures,
-      c .before .either .ensures,
-      c .before .before .with .ensures,
-      c .before .before .before .link .ensures,
-      unequal (c .before .before .before .before .if1 .left),
-      chosen x none line15 line17,
-    )
-    (by-code (p .pre) (λ u. nextDone (p .args .hat) (withRegister u 0 x) (stepNumber step)))
+    let p = c .before .before in
+    rw (c .follow .ensures) (followed (p .pre) (p .args .hat) (sideOf (p .args .t .side)) 0 inA line15 line17)
 
 pub line18-spec : {M : Type 1} → statement M
-line18-spec =
-    tie.close
-    (tie.spec
-    element-copy-out-a
-    refused-requires
-    returns
-    link-requires
-    with-requires
-    either-requires
-    next-requires
-    returns-2)
+line18-spec = tie.close (tie.spec follow-requires returns)

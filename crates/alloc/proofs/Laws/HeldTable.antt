@@ -1,12 +1,11 @@
--- The table of held registers answers as the definition does: at all of its entries, by one test, and past its end.
+-- A table of held registers answers as the definition does: at all of its entries, by one test, and past its end.
 use mathlib.Core.Path.{_≡_, refl, ap, _∙_}
 use mathlib.Core.Bool.{Bool, true, _&&_, Bool·beq}
 use mathlib.Core.List.{List, [], _∷_, _++_}
 use Prim.Native.Nat.{ℕ, _≤_, _<_}
 use native.Mathlib.Omega.{arith}
-use native.Mathlib.Decide.{ℕ-discrete}
 use lib.Dec.{T, leb}
-use lib.ListN.{getD, List·getD-eq-default}
+use lib.ListN.{length, getD, List·getD-eq-default}
 use borrow.Author.Tests.{leb-true}
 use Rattle.machine.specs.Choice.{_≟_, _<?_}
 use Rattle.machine.specs.Steps.{Step, rest, stepNumber, stepIn, stepOf, pushSteps, popSteps, removeSteps}
@@ -17,46 +16,19 @@ use Rattle.machine.proofs.Basics.Choices.{if-no}
 use Rattle.layout.proofs.Laws.Tables.{at, every}
 use Rattle.alloc.specs.Bits.{isIn, Exact}
 
--- The entries, ten steps to a line.
-abbrev pub entries : List ℕ
-entries =
-    0 ∷ 0 ∷ 8 ∷ 9 ∷ 0 ∷ 11 ∷ 0 ∷ 0 ∷ 9 ∷ 0
-    ∷ 0 ∷ 0 ∷ 0 ∷ 0 ∷ 0 ∷ 8 ∷ 0 ∷ 9 ∷ 9 ∷ 0
-    ∷ 0 ∷ 0 ∷ 0 ∷ 0 ∷ 9 ∷ 11 ∷ 0 ∷ 0 ∷ 0 ∷ 0
-    ∷ 0 ∷ 8 ∷ 0 ∷ 0 ∷ 0 ∷ 0 ∷ 0 ∷ 0 ∷ 0 ∷ 0
-    ∷ 1 ∷ 0 ∷ 3 ∷ 0 ∷ 0 ∷ 0 ∷ 0 ∷ 0 ∷ 3 ∷ 0
-    ∷ 0 ∷ 3 ∷ 0 ∷ 0 ∷ 0 ∷ 0 ∷ 1 ∷ 0 ∷ 1 ∷ 0
-    ∷ 1 ∷ 0 ∷ 3 ∷ 0 ∷ 3 ∷ 0 ∷ 0 ∷ 8 ∷ 9 ∷ 9
-    ∷ 11 ∷ 0 ∷ 13 ∷ 0 ∷ 2 ∷ 0 ∷ 0 ∷ 3 ∷ 3 ∷ 3
-    ∷ 0 ∷ 1 ∷ 1 ∷ []
-
--- The entry answers as the table of the definitions does.
-agrees : (step entry : ℕ) → Register → Bool
+-- ---- The test of an entry: it answers as the definition does, for each register.
+unfoldable pub agrees : (step entry : ℕ) → Register → Bool
 agrees s e r = Bool·beq (isIn e r) (holds (stepOf s) r)
 
-right : (step entry : ℕ) → Bool
-right s e = agrees s e inA && (agrees s e inB && (agrees s e inC && agrees s e inD))
+unfoldable pub entryOk : (step entry : ℕ) → Bool
+entryOk s e = agrees s e inA && agrees s e inB && agrees s e inC && agrees s e inD
 
-all-right : T (every right 0 entries)
-unfolding right agrees stepOf stepIn ℕ-discrete
-all-right = tt
-
-entry-rule : (s : ℕ) → s < 83 → (r : Register) → isIn (getD entries s 0) r ≡ holds (stepOf s) r
-unfolding right agrees
-entry-rule s h r = agreed _ _ (go r)
-  where
-    all : right s (getD entries s 0) ≡ true
-    all = at right entries all-right s h
-
-    go : (r : Register) → agrees s (getD entries s 0) r ≡ true
-    go inA = and-left (agrees s (getD entries s 0) inA) _ all
-    go inB = and-left (agrees s (getD entries s 0) inB) _ (and-right (agrees s (getD entries s 0) inA) _ all)
-    go inC =
-        and-left (agrees s (getD entries s 0) inC) _
-        (and-right (agrees s (getD entries s 0) inB) _ (and-right (agrees s (getD entries s 0) inA) _ all))
-    go inD =
-        and-right (agrees s (getD entries s 0) inC) _
-        (and-right (agrees s (getD entries s 0) inB) _ (and-right (agrees s (getD entries s 0) inA) _ all))
+each-agrees : (s e : ℕ) → entryOk s e ≡ true → (r : Register) → agrees s e r ≡ true
+unfolding entryOk
+each-agrees s e h inA = search (and-left, and-right) depth 4
+each-agrees s e h inB = search (and-left, and-right) depth 4
+each-agrees s e h inC = search (and-left, and-right) depth 4
+each-agrees s e h inD = search (and-left, and-right) depth 4
 
 -- ---- No step is past the table's end.
 abbrev inTable : List Step → Bool
@@ -84,12 +56,13 @@ none-past-end s h r = none-in-zero r ∙ rw (past-end s h)
     none-in-zero inC = refl
     none-in-zero inD = refl
 
--- ---- The table is right.
-pub exact : Exact entries
-exact s r = go (s <? 83)
+-- ---- A table that has as many entries as steps have numbers is exact if each of them passes the test.
+pub exact-if : (table : List ℕ) → length table ≡ 83 → T (every entryOk 0 table) → Exact table
+unfolding agrees
+exact-if table long all-ok = record { at-step = λ s r. go s r (s <? 83) }
   where
-    go : Dec (s < 83) → isIn (getD entries s 0) r ≡ holds (stepOf s) r
-    go (yes h) = entry-rule s h r
-    go (no h) =
-        ap (λ (e : ℕ). isIn e r) (List·getD-eq-default entries 0 {n = s} (omega arith))
+    go : (s : ℕ) (r : Register) → Dec (s < 83) → isIn (getD table s 0) r ≡ holds (stepOf s) r
+    go s r (yes h) = agreed _ _ (each-agrees s (getD table s 0) (at entryOk table all-ok s (omega arith)) r)
+    go s r (no h) =
+        ap (λ (e : ℕ). isIn e r) (List·getD-eq-default table 0 {n = s} (omega arith))
         ∙ none-past-end s (omega arith) r

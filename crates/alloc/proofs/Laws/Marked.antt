@@ -5,18 +5,21 @@ use mathlib.Core.List.{List, [], _∷_, _++_}
 use Prim.Native.Nat.{ℕ, suc, _+_, _-_, _<_, _≤_}
 use native.Mathlib.Omega.{arith}
 use native.Mathlib.Numerals.{add-one}
-use lib.ListN.{getD}
+use lib.ListN.{length, getD}
+use borrow.Rule.Slice.PartMut.{midOf}
 use borrow.Author.Tests.{le-ltb}
-use Rattle.machine.specs.Sides.{left, right, sideOf}
+use Rattle.machine.specs.Choice.{_<?_}
+use Rattle.machine.specs.Sides.{Side, left, right}
 use Rattle.machine.specs.Tasks.{Task, none, inA, inB, inC, inD}
 use Rattle.machine.specs.Registers.{heldIn}
-use Rattle.machine.specs.Table.{nodeCount, taskCount, task, recordAt}
+use Rattle.machine.specs.Table.{headerLength, nodeCount, taskCount, linkWord, link, recordWords, task}
 use Rattle.machine.specs.Allocate.{heldBy, heldFrom, roots, Marking, mark, markAll, visit}
+use Rattle.machine.proofs.Basics.Choices.{if-yes}
 use Rattle.machine.proofs.SlotRule.Marking.{Room, room-markAll, visit-markAll}
 use Rattle.layout.specs.declared.tasks.Task as Coded
-use Rattle.layout.specs.Coded.{HoldsNode, linkIn, recordFrom, taskMeant}
-use Rattle.alloc.specs.Tables.{Sized, hats}
-use Rattle.alloc.proofs.Laws.Views.{afterHeader, holds-node, link-read, task-read}
+use Rattle.layout.specs.Coded.{linkIn, structOf, taskMeant}
+use Rattle.layout.proofs.Laws.Views.{link-there, task-read}
+use Rattle.alloc.specs.Tables.{Searchable, hats}
 
 -- ---- One number after another.
 pub both-marked : (S : ℕ) (m v u : Marking) (x y : ℕ) → v ≡ mark S m x → u ≡ mark S v y
@@ -33,14 +36,10 @@ unfolding markAll
 markAll-append S m [] ys = refl
 markAll-append S m (x ∷ xs) ys = markAll-append S (mark S m x) xs ys
 
-pub lists-marked : (S : ℕ) (m v u : Marking) (xs ys : List ℕ) → v ≡ markAll S m xs → u ≡ markAll S v ys
-    → u ≡ markAll S m (xs ++ ys)
-lists-marked S m v u xs ys e f = rw (f, e, markAll-append S m xs ys)
-
 pub roots-marked : (ws : List ℕ) (m v u : Marking) → v ≡ markAll (nodeCount ws) m (hats ws)
     → u ≡ markAll (nodeCount ws) v (heldFrom ws (taskCount ws) 0) → u ≡ markAll (nodeCount ws) m (roots ws)
 unfolding roots
-roots-marked ws m v u e f = lists-marked (nodeCount ws) m v u (hats ws) (heldFrom ws (taskCount ws) 0) e f
+roots-marked ws m v u e f = rw (f, e, markAll-append (nodeCount ws) m (hats ws) (heldFrom ws (taskCount ws) 0))
 
 -- ---- What a task's registers hold, one after another.
 pub registers-marked : (S : ℕ) (m₀ m₁ m₂ m₃ m₄ : Marking) (t : Task) → m₁ ≡ mark S m₀ (heldIn t inA)
@@ -58,16 +57,12 @@ pub none-unmarked : (S : ℕ) (m : Marking) → Room S m → m ≡ mark S m none
 unfolding mark
 none-unmarked S m r = let f = r .few in rw (le-ltb none S (omega arith))
 
-pub room-of-one : (S : ℕ) (m v : Marking) (x : ℕ) → v ≡ mark S m x → Room S m → Room S v
-unfolding markAll
-room-of-one S m v x e r = room-of-list S m v (x ∷ []) e r
-
 -- ---- One turn of the loop over the tasks, with k of them passed: what the record read holds is marked.
 module _ (ws : List ℕ) (k : ℕ) (m : Marking) where
   abbrev left-to-mark : ℕ → List ℕ
   left-to-mark i = heldFrom ws (taskCount ws - i) i
 
-  pub held-marked : (t : Coded.Task) (v : Marking) → k < taskCount ws → t ≡ recordFrom ws (recordAt (nodeCount ws) k)
+  pub held-marked : (t : Coded.Task) (v : Marking) → k < taskCount ws → t ≡ structOf (recordWords ws k)
       → v ≡ markAll (nodeCount ws) m (heldBy (taskMeant t)) → v ≡ markAll (nodeCount ws) m (heldBy (task ws k))
   held-marked t v h e f =
       f ∙ ap (λ (r : Task). markAll (nodeCount ws) m (heldBy r)) (ap taskMeant e ∙ task-read ws k h)
@@ -84,17 +79,24 @@ module _ (ws : List ℕ) (k : ℕ) (m : Marking) where
   unfolding heldFrom markAll
   held-end u h q = let n : taskCount ws - k ≡ 0 = omega arith in rw n at q
 
--- ---- The number at a place of the queue: it is a node, and both of its links marked are the visit.
-module _ (ws : List ℕ) (z : Sized ws) (m : Marking) (r : Room (nodeCount ws) m) (i : ℕ) (h : i < m .tail) where
+-- ---- The number at a place of the queue is a node: both of its links, read in the words after the header and marked,
+-- are the visit.
+module _ (ws : List ℕ) (m : Marking) (ready : Searchable ws m) (i : ℕ) (queued : i < m .tail) where
   abbrev visited : ℕ
   visited = getD (m .queue) i 0
 
-  pub holds-queued : HoldsNode (afterHeader ws) visited
-  holds-queued = holds-node ws z visited (r .below i h)
+  abbrev after-header : List ℕ
+  after-header = midOf headerLength (length ws - headerLength) ws
 
-  pub links-marked : (x y : ℕ) (v : Marking) → x ≡ linkIn (afterHeader ws) (sideOf 0) visited
-      → y ≡ linkIn (afterHeader ws) (sideOf 1) visited → v ≡ markAll (nodeCount ws) m (x ∷ y ∷ []) → v ≡ visit ws m i
-  links-marked x y v e f g =
-      let a = e ∙ link-read ws z visited (r .below i h) left in
-      let b = f ∙ link-read ws z visited (r .below i h) right in
-      rw (visit-markAll ws m i, sym a, sym b) g
+  link-read : (s : Side) (x : ℕ) → x ≡ linkIn after-header s visited → x ≡ link ws s visited
+  unfolding link
+  link-read s x e =
+      let sized = ready .well-sized .sized in
+      let node = ready .room .below i queued in
+      e
+      ∙ sym (link-there ws (length ws - headerLength) visited (omega arith) (omega arith) s)
+      ∙ sym (if-yes (visited <? nodeCount ws) (linkWord ws s visited) none node)
+
+  pub links-marked : (x y : ℕ) (v : Marking) → x ≡ linkIn after-header left visited
+      → y ≡ linkIn after-header right visited → v ≡ markAll (nodeCount ws) m (x ∷ y ∷ []) → v ≡ visit ws m i
+  links-marked x y v e f g = rw (visit-markAll ws m i, ← link-read left x e, ← link-read right y f) g

@@ -2,29 +2,36 @@
 use mathlib.Core.Path.{_≡_}
 use mathlib.Core.List.{List}
 use Prim.Native.Nat.{ℕ}
+use native.Mathlib.Omega.{arith}
 use Rattle.machine.specs.Table.{nodeCount}
 use Rattle.machine.specs.Allocate.{roots, Marking, unmarked, markAll}
+use Rattle.machine.proofs.Words.Columns.{sizesOf}
+use Rattle.machine.proofs.Shape.ShapeLaws.{WellSized, well-sized}
 use Rattle.machine.proofs.SlotRule.Marking.{room-unmarked, room-of-markAll, allocate-joined}
-use Rattle.alloc.specs.Tables.{markingOf}
+use Rattle.alloc.specs.Tables.{Searchable, markingOf}
 use Rattle.alloc.proofs.Laws.Marked.{roots-marked, room-of-list}
-use borrow.Author.Needs.{needs}
 use Rattle.alloc.proofs.first_free.Statement.{statement}
 use Rattle.alloc.proofs.first_free.Tie as tie
 
+sizes : (c : tie.Start) → WellSized (sizesOf (c .args .table .now))
+sizes c = well-sized (c .args .table .now) (c .pre .0)
+
+at-start : (c : tie.Start) → Searchable (c .args .table .now) unmarked
+at-start c = record { well-sized = sizes c; room = room-unmarked _ (sizes c .most-nodes) }
+
 shared-slice-read-n : tie.Need-shared-slice-read-n
-shared-slice-read-n c = search needs
+shared-slice-read-n c = omega (arith, sizes (c .before .before))
 
 cast-n : tie.Need-cast-n
-cast-n c = search needs
+cast-n c = omega (arith, sizes (c .before .before))
 
 mark-hats-requires : tie.Need-mark-hats-requires
-mark-hats-requires c κs = search needs
+mark-hats-requires c κs = at-start (c .before .before .before .before)
 
 mark-tasks-requires : tie.Need-mark-tasks-requires
 mark-tasks-requires c κs =
-    let s = c .before .before .before .before .before .before .before in
-    let n = nodeCount (s .args .t .now) in
-    (s .pre .0, room-of-list n _ _ _ (c .before .before .mark-hats .ensures) (room-unmarked n (s .pre .0 .few)))
+    let r = at-start (c .before .before .before .before .before .before .before) in
+    record { well-sized = r .well-sized; room = room-of-list _ _ _ _ (c .before .before .mark-hats .ensures) (r .room) }
 
 -- After the hats and the tasks, the roots are marked.
 module _ (c : tie.After-mark-tasks) where
@@ -32,7 +39,7 @@ module _ (c : tie.After-mark-tasks) where
   start = c .before .before .before .before .before .before .before .before
 
   abbrev table : List ℕ
-  table = start .args .t .now
+  table = start .args .table .now
 
   abbrev marking : Marking
   marking = markingOf (c .mark-tasks .last .1 .0) (c .mark-tasks .last .1 .1 .0) (c .mark-tasks .result)
@@ -44,11 +51,11 @@ module _ (c : tie.After-mark-tasks) where
 spread-requires : tie.Need-spread-requires
 spread-requires c κs =
     let k = c .before .before in
-    let z = start k .pre .0 in
-    (z, room-of-markAll (nodeCount (table k)) _ _ (z .few) (marking-of-roots k))
+    let z = sizes (start k) in
+    record { well-sized = z; room = room-of-markAll _ _ _ (z .most-nodes) (marking-of-roots k) }
 
 search-requires : tie.Need-search-requires
-search-requires c κs = search needs
+search-requires c κs = omega (arith, sizes (start (c .before .before .before .before)))
 
 returns : tie.Need-returns
 returns c =

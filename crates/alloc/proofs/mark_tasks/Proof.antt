@@ -1,13 +1,15 @@
 -- Marking what the tasks from k on hold gives what marking all that the tasks hold gives at the start.
-use mathlib.Core.Path.{_≡_}
+use mathlib.Core.Path.{_≡_, refl}
 use Prim.Native.Nat.{_-_, _≤_}
 use native.Mathlib.Omega.{arith}
 use native.Mathlib.Nat.{sub-zero}
+use native.Mathlib.Decide.{ℕ-discrete}
+use Rattle.machine.specs.Steps.{stepIn, stepOf}
 use Rattle.machine.specs.Table.{nodeCount}
 use Rattle.machine.specs.Allocate.{heldFrom, markAll}
 use Rattle.machine.proofs.SlotRule.Marking.{Room}
 use Rattle.alloc.specs.Tables.{markingOf}
-use Rattle.alloc.proofs.Laws.HeldTable.{exact}
+use Rattle.alloc.proofs.Laws.HeldTable.{agrees, entryOk, exact-if}
 use Rattle.alloc.proofs.Laws.Marked.{held-marked, held-kept, held-end, room-of-list}
 use borrow.Author.Needs.{needs}
 use Rattle.alloc.proofs.mark_tasks.Statement.{statement}
@@ -32,29 +34,15 @@ cast-n c = search needs
 shared-slice-read-count : tie.Need-shared-slice-read-count Inv-loop μ-loop
 shared-slice-read-count c = search needs
 
-cast-count : tie.Need-cast-count Inv-loop μ-loop
-cast-count c = search needs
-
 loop-holds : tie.Need-loop-holds Inv-loop μ-loop
-loop-holds c = (omega arith, c .before .before .before .pre .1, rw sub-zero)
+loop-holds c = (omega arith, c .before .before .before .pre .room, rw sub-zero)
 
-mul-read : tie.Need-mul-read Inv-loop μ-loop
-mul-read c = search needs
-
-add-read : tie.Need-add-read Inv-loop μ-loop
-add-read c = search needs
-
-mul-read-2 : tie.Need-mul-read-2 Inv-loop μ-loop
-mul-read-2 c = search needs
-
-add-read-2 : tie.Need-add-read-2 Inv-loop μ-loop
-add-read-2 c = search needs
-
-read-requires : tie.Need-read-requires Inv-loop μ-loop
-read-requires c κs = search needs
+task-requires : tie.Need-task-requires Inv-loop μ-loop
+task-requires c κs = search needs
 
 mark-held-requires : tie.Need-mark-held-requires Inv-loop μ-loop
-mark-held-requires c κs = (exact, c .before .before .before .before .before .loop .inv .1)
+unfolding agrees entryOk stepOf stepIn ℕ-discrete
+mark-held-requires c κs = (exact-if _ refl tt, c .before .before .before .before .before .loop .inv .1)
 
 add-k : tie.Need-add-k Inv-loop μ-loop
 add-k c = search needs
@@ -64,16 +52,17 @@ loop-less c = search needs
 
 loop-again : tie.Need-loop-again Inv-loop μ-loop
 loop-again c =
-    let r = c .before .before .before .before in
-    let w = r .before .before .before .before .before .before .args .t .now in
-    let l = r .before .before .loop in
-    let h = r .before .loop-test .taken in
-    let e = held-marked w (l .k) _ _ _ h (r .read .ensures) (c .mark-held .ensures) in
+    let r = c .before in
+    let p = r .before .before .before .before in
+    let w = p .before .before .before .before .before .args .table .now in
+    let l = p .before .loop in
+    let h = p .loop-test .taken in
+    let e = held-marked w (l .k) _ _ _ h (r .task .ensures) (c .mark-held .ensures) in
     (omega arith, room-of-list (nodeCount w) _ _ _ e (l .inv .1), held-kept w (l .k) _ _ _ h e (l .inv .2))
 
 returns : tie.Need-returns Inv-loop μ-loop
 returns c =
-    let w = c .before .before .before .before .before .args .t .now in
+    let w = c .before .before .before .before .before .args .table .now in
     let l = c .before .loop in
     held-end w (l .k) _ _ (c .loop-test .left) (l .inv .2)
 
@@ -86,13 +75,8 @@ mark-tasks-spec =
     shared-slice-read-n
     cast-n
     shared-slice-read-count
-    cast-count
     loop-holds
-    mul-read
-    add-read
-    mul-read-2
-    add-read-2
-    read-requires
+    task-requires
     mark-held-requires
     add-k
     loop-less

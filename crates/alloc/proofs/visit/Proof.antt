@@ -1,15 +1,21 @@
 -- A queued number is a node, so both of its links are words of the table.
 use Prim.Native.Nat.{_<_}
 use native.Mathlib.Omega.{arith}
+use native.Mathlib.Decide.{ℕ-discrete}
+use lib.ListN.{getD}
+use Rattle.machine.specs.Table.{nodeCount}
 use Rattle.machine.specs.Allocate.{largestCount}
 use Rattle.machine.proofs.SlotRule.Marking.{tail-le}
-use Rattle.alloc.proofs.Laws.Marked.{holds-queued, links-marked}
+use Rattle.alloc.proofs.Laws.Marked.{links-marked}
 use borrow.Author.Needs.{needs}
 use Rattle.alloc.proofs.visit.Statement.{statement}
 use Rattle.alloc.proofs.visit.Tie as tie
 
 in-queue : (c : tie.Start) → c .args .place < largestCount
-in-queue c = omega (arith, tail-le (c .pre .1), c .pre .2)
+in-queue c = omega (arith, tail-le (c .pre .0 .room))
+
+is-node : (c : tie.Start) → getD (c .args .queue .now) (c .args .place) 0 < nodeCount (c .args .table .now)
+is-node c = c .pre .0 .room .below (c .args .place) (c .pre .1)
 
 shared-slice-read-n : tie.Need-shared-slice-read-n
 shared-slice-read-n c = search needs
@@ -23,43 +29,31 @@ mul-x c = omega (arith, in-queue (c .before .before))
 element-copy-out-x : tie.Need-element-copy-out-x
 element-copy-out-x c = omega (arith, in-queue (c .before .before))
 
-sub-link : tie.Need-sub-link
-sub-link c = search needs
+sub-nodes : tie.Need-sub-nodes
+sub-nodes c = search needs
 
-part-link-start : tie.Need-part-link-start
-part-link-start c = search needs
+part-nodes-start : tie.Need-part-nodes-start
+part-nodes-start c = search needs
 
-part-link-end : tie.Need-part-link-end
-part-link-end c = search needs
+part-nodes-end : tie.Need-part-nodes-end
+part-nodes-end c = search needs
 
 link-requires : tie.Need-link-requires
-link-requires c κs =
-    let s = c .before .before .before .before in
-    (holds-queued (s .args .t .now) (s .pre .0) _ (s .pre .1) (s .args .place) (s .pre .2), omega arith)
-
-sub-link-2 : tie.Need-sub-link-2
-sub-link-2 c = search needs
-
-part-link-start-2 : tie.Need-part-link-start-2
-part-link-start-2 c = search needs
-
-part-link-end-2 : tie.Need-part-link-end-2
-part-link-end-2 c = search needs
+link-requires c κs = omega (arith, is-node (c .before .before .before .before))
 
 link-requires-2 : tie.Need-link-requires-2
-link-requires-2 c κs =
-    let s = c .before .before .before .before .before .before in
-    (holds-queued (s .args .t .now) (s .pre .0) _ (s .pre .1) (s .args .place) (s .pre .2), omega arith)
+link-requires-2 c κs = omega (arith, is-node (c .before .before .before .before .before))
 
 mark-both-requires : tie.Need-mark-both-requires
 mark-both-requires c κs = search needs
 
 returns : tie.Need-returns
+unfolding ℕ-discrete
 returns c =
     let k = c .before .before .before in
-    let s = k .before .before .before .before .before .before .before in
-    links-marked (s .args .t .now) (s .pre .0) _ (s .pre .1) (s .args .place) (s .pre .2) _ _ _
-    (k .before .before .link .ensures) (k .link2 .ensures) (c .mark-both .ensures)
+    let s = k .before .before .before .before .before .before in
+    links-marked (s .args .table .now) _ (s .pre .0) (s .args .place) (s .pre .1) _ _ _
+    (k .before .link .ensures) (k .link2 .ensures) (c .mark-both .ensures)
 
 pub visit-spec : {M : Type 1} → statement M
 visit-spec =
@@ -69,13 +63,10 @@ visit-spec =
     cast-n
     mul-x
     element-copy-out-x
-    sub-link
-    part-link-start
-    part-link-end
+    sub-nodes
+    part-nodes-start
+    part-nodes-end
     link-requires
-    sub-link-2
-    part-link-start-2
-    part-link-end-2
     link-requires-2
     mark-both-requires
     returns)

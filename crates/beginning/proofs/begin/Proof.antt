@@ -15,13 +15,13 @@ returns : tie.Need-returns
 returns c =
     let p = c .before .before .before .before in
     let a = p .args in
-    begin-refused (a .t .now) (c .before .table-refusal .ensures) (a .task) (a .operation) (a .side) (a .argument)
+    begin-refused (a .table .now) (c .before .table-refusal .ensures) (a .task) (a .operation) (a .side) (a .argument)
     (c .if1 .taken)
 
 begin-on-requires : tie.Need-begin-on-requires
 begin-on-requires c κs =
     let p = c .before .before .before .before .before in
-    passed (p .args .t .now) (c .before .before .table-refusal .ensures) (c .before .if1 .left)
+    passed (p .args .table .now) (c .before .before .table-refusal .ensures) (c .before .if1 .left)
 
 same-length-2 : tie.Need-same-length-2
 same-length-2 c = search needs

@@ -3,7 +3,7 @@ use mathlib.Core.Path.{_≡_, refl}
 use mathlib.Core.Bool.{_&&_}
 use lib.Dec.{leb}
 use borrow.Author.Tests.{le-leb, lt-leb}
-use Rattle.shape.proofs.Laws.Chains.{passed, failed, met}
+use Rattle.layout.proofs.Laws.Chains.{passed, failed, met}
 use Rattle.beginning.proofs.call_ok.Statement.{statement}
 use Rattle.beginning.proofs.call_ok.Tie as tie
 use Rattle.beginning.proofs.call_ok.Reads as reads

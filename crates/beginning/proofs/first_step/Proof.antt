@@ -1,6 +1,6 @@
 -- `beginning::first_step` meets its contract: in each arm the operation is known, and the definition computes.
 use native.Mathlib.Decide.{ℕ-discrete}
-use Rattle.shape.proofs.Laws.RecordWords.{remove-else}
+use Rattle.layout.proofs.Laws.Numbers.{remove-else}
 use Rattle.beginning.proofs.first_step.Statement.{statement}
 use Rattle.beginning.proofs.first_step.Tie as tie
 

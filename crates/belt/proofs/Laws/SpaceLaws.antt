@@ -5,13 +5,12 @@ use Prim.Native.Nat.{ℕ, _≤_}
 use native.Mathlib.Omega.{arith}
 use lib.ListN.{length, take, drop, length-append, length-drop}
 use lib.Seq.{length-take-le, take-at, drop-at}
-use Rattle.printer.specs.declared.Outcome.{Outcome}
 use Rattle.belt.specs.Forms.{Answered}
 use Rattle.belt.specs.Space.{answeredOf, Leaves}
 
 -- The first words are lent, and come back as ys.
 pub front-leaves : (space ys : List ℕ) (len : ℕ) → len ≤ length space → length ys ≡ length (take len space)
-    → {o : Outcome} {a : Answered} → answeredOf o ys ≡ a → Leaves space (ys ++ drop len space) len o a
+    → {text : List ℕ} {a : Answered} → answeredOf text ys ≡ a → Leaves space (ys ++ drop len space) len text a
 front-leaves space ys len h same e =
     let long : length ys ≡ len = same ∙ length-take-le len space h in
     record {
@@ -22,5 +21,5 @@ front-leaves space ys len h same e =
 
 -- Nothing is written.
 pub same-leaves : (space : List ℕ) (len : ℕ) → len ≤ length space
-    → {o : Outcome} {a : Answered} → answeredOf o (take len space) ≡ a → Leaves space space len o a
+    → {text : List ℕ} {a : Answered} → answeredOf text (take len space) ≡ a → Leaves space space len text a
 same-leaves space len h e = record { answers = e; others = refl; room = h }

@@ -2,7 +2,7 @@
 use mathlib.Core.Path.{_∙_}
 use mathlib.Core.List.{[], _∷_}
 use Rattle.machine.specs.Steps.{line15, line17, line18, line24, line25, line28, line31}
-use Rattle.figure.proofs.StepChoice.{not-first, the-last, line-at}
+use Rattle.figure.proofs.StepChoice.{left-over, line-at}
 use borrow.Author.Needs.{needs}
 use Rattle.figure.proofs.add_line.Statement.{statement}
 use Rattle.figure.proofs.add_line.Tie as tie
@@ -29,73 +29,50 @@ line31-requires : tie.Need-line31-requires
 line31-requires c κs = search needs
 
 returns : tie.Need-returns
-returns c =
-    let a = c .before .before .before .args in
-    c .line15 .ensures (a .ns .now) (a .goal) (a .found)
-    ∙ line-at line15 (c .before .match .keys1) (a .ns .now) (a .hat) (a .t) (a .goal) (a .found)
+returns c = c .line15 .ensures _ _ _ ∙ line-at line15 (c .before .match .keys1) _ _ _ _ _
 
 same-length : tie.Need-same-length
 same-length c = search needs
 
 returns-2 : tie.Need-returns-2
-returns-2 c =
-    let a = c .before .before .before .before .args in
-    c .line17 .ensures (a .goal) (a .found)
-    ∙ line-at line17 (c .before .before .match .keys2) (a .ns .now) (a .hat) (a .t) (a .goal) (a .found)
+returns-2 c = c .line17 .ensures _ _ ∙ line-at line17 (c .before .before .match .keys2) _ _ _ _ _
 
 same-length-2 : tie.Need-same-length-2
 same-length-2 c = search needs
 
 returns-3 : tie.Need-returns-3
-returns-3 c =
-    let a = c .before .before .before .before .args in
-    c .line18 .ensures (a .goal) (a .found)
-    ∙ line-at line18 (c .before .before .match .keys3) (a .ns .now) (a .hat) (a .t) (a .goal) (a .found)
+returns-3 c = c .line18 .ensures _ _ ∙ line-at line18 (c .before .before .match .keys3) _ _ _ _ _
 
 same-length-3 : tie.Need-same-length-3
 same-length-3 c = search needs
 
 returns-4 : tie.Need-returns-4
 returns-4 c =
-    let a = c .before .before .before .before .before .before .args in
-    c .before .before .line24 .ensures (a .goal) (a .found)
-    ∙ line-at line24 (c .before .before .before .before .match .keys4) (a .ns .now) (a .hat) (a .t) (a .goal) (a .found)
+    c .before .before .line24 .ensures _ _ ∙ line-at line24 (c .before .before .before .before .match .keys4) _ _ _ _ _
 
 same-length-4 : tie.Need-same-length-4
 same-length-4 c = search needs
 
 returns-5 : tie.Need-returns-5
 returns-5 c =
-    let a = c .before .before .before .before .before .before .args in
-    c .before .before .line25 .ensures (a .goal) (a .found)
-    ∙ line-at line25 (c .before .before .before .before .match .keys5) (a .ns .now) (a .hat) (a .t) (a .goal) (a .found)
+    c .before .before .line25 .ensures _ _ ∙ line-at line25 (c .before .before .before .before .match .keys5) _ _ _ _ _
 
 same-length-5 : tie.Need-same-length-5
 same-length-5 c = search needs
 
 returns-6 : tie.Need-returns-6
 returns-6 c =
-    let a = c .before .before .before .before .before .before .args in
-    c .before .before .line28 .ensures
-    ∙ line-at line28 (c .before .before .before .before .match .keys6) (a .ns .now) (a .hat) (a .t) (a .goal) (a .found)
+    c .before .before .line28 .ensures ∙ line-at line28 (c .before .before .before .before .match .keys6) _ _ _ _ _
 
 same-length-6 : tie.Need-same-length-6
 same-length-6 c = search needs
 
 returns-7 : tie.Need-returns-7
 returns-7 c =
-    let a = c .before .before .before .before .before .before .args in
-    let r = c .before .before .before .before .match .rest in
-    let h = c .before .before .before .before .before .before .pre .in-group in
-    let h1 = not-first (a .t .step) line15 (line17 ∷ line18 ∷ line24 ∷ line25 ∷ line28 ∷ line31 ∷ []) h
-    (r .0 .0 .0 .0 .0 .1) in
-    let h2 = not-first (a .t .step) line17 (line18 ∷ line24 ∷ line25 ∷ line28 ∷ line31 ∷ []) h1 (r .0 .0 .0 .0 .1) in
-    let h3 = not-first (a .t .step) line18 (line24 ∷ line25 ∷ line28 ∷ line31 ∷ []) h2 (r .0 .0 .0 .1) in
-    let h4 = not-first (a .t .step) line24 (line25 ∷ line28 ∷ line31 ∷ []) h3 (r .0 .0 .1) in
-    let h5 = not-first (a .t .step) line25 (line28 ∷ line31 ∷ []) h4 (r .0 .1) in
-    let h6 = not-first (a .t .step) line28 (line31 ∷ []) h5 (r .1) in
-    c .before .before .line31 .ensures
-    ∙ line-at line31 (the-last (a .t .step) line31 h6) (a .ns .now) (a .hat) (a .t) (a .goal) (a .found)
+    let rest = c .before .before .before .before in
+    let others = line15 ∷ line17 ∷ line18 ∷ line24 ∷ line25 ∷ line28 ∷ [] in
+    let at-31 = left-over _ others line31 _ (rest .match .rest) (rest .before .before .pre .in-group) in
+    c .before .before .line31 .ensures ∙ line-at line31 at-31 _ _ _ _ _
 
 pub add-line-spec : {M : Type 1} → statement M
 add-line-spec =

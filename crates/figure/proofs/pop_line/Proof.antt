@@ -1,11 +1,17 @@
 -- `figure::pop_line` meets its contract: each arm is its line's, and the last arm is what is left of the group.
-use mathlib.Core.Path.{_∙_}
+use mathlib.Core.Path.{_≡_, _∙_}
 use mathlib.Core.List.{[], _∷_}
 use Rattle.machine.specs.Steps.{line39, line40, line42, line48, line51}
-use Rattle.figure.proofs.StepChoice.{not-first, the-last, line-at}
+use Rattle.figure.proofs.StepChoice.{left-over, line-at}
 use borrow.Author.Needs.{needs}
 use Rattle.figure.proofs.pop_line.Statement.{statement}
 use Rattle.figure.proofs.pop_line.Tie as tie
+
+-- The last arm is at 51.
+at-51 : (c : tie.At-match-rest) → c .before .before .args .t .step ≡ 51
+at-51 c =
+    let others = line39 ∷ line40 ∷ line42 ∷ line48 ∷ [] in
+    left-over _ others line51 _ (c .match .rest) (c .before .before .pre .in-group)
 
 line39-requires : tie.Need-line39-requires
 line39-requires c κs = search needs
@@ -20,63 +26,35 @@ line48-requires : tie.Need-line48-requires
 line48-requires c κs = search needs
 
 line51-requires : tie.Need-line51-requires
-line51-requires c κs =
-    let a = c .before .before .before .args in
-    let p = c .before .before .before .pre in
-    let r = c .before .match .rest in
-    let h1 = not-first (a .t .step) line39 (line40 ∷ line42 ∷ line48 ∷ line51 ∷ []) (p .in-group) (r .0 .0 .0 .1) in
-    let h2 = not-first (a .t .step) line40 (line42 ∷ line48 ∷ line51 ∷ []) h1 (r .0 .0 .1) in
-    let h3 = not-first (a .t .step) line42 (line48 ∷ line51 ∷ []) h2 (r .0 .1) in
-    let h4 = not-first (a .t .step) line48 (line51 ∷ []) h3 (r .1) in
-    (p .ready, p .bag-at-51 (the-last (a .t .step) line51 h4))
+line51-requires c κs = let p = c .before .before .before .pre in (p .ready, p .bag-at-51 (at-51 (c .before)))
 
 returns : tie.Need-returns
-returns c =
-    let a = c .before .before .before .args in
-    c .line39 .ensures (a .ns .now) (a .goal) (a .found)
-    ∙ line-at line39 (c .before .match .keys1) (a .ns .now) (a .hat) (a .t) (a .goal) (a .found)
+returns c = c .line39 .ensures _ _ _ ∙ line-at line39 (c .before .match .keys1) _ _ _ _ _
 
 same-length : tie.Need-same-length
 same-length c = search needs
 
 returns-2 : tie.Need-returns-2
-returns-2 c =
-    let a = c .before .before .before .before .args in
-    c .line40 .ensures (a .goal) (a .found)
-    ∙ line-at line40 (c .before .before .match .keys2) (a .ns .now) (a .hat) (a .t) (a .goal) (a .found)
+returns-2 c = c .line40 .ensures _ _ ∙ line-at line40 (c .before .before .match .keys2) _ _ _ _ _
 
 same-length-2 : tie.Need-same-length-2
 same-length-2 c = search needs
 
 returns-3 : tie.Need-returns-3
-returns-3 c =
-    let a = c .before .before .before .before .args in
-    c .line42 .ensures (a .goal) (a .found)
-    ∙ line-at line42 (c .before .before .match .keys3) (a .ns .now) (a .hat) (a .t) (a .goal) (a .found)
+returns-3 c = c .line42 .ensures _ _ ∙ line-at line42 (c .before .before .match .keys3) _ _ _ _ _
 
 same-length-3 : tie.Need-same-length-3
 same-length-3 c = search needs
 
 returns-4 : tie.Need-returns-4
-returns-4 c =
-    let a = c .before .before .before .before .args in
-    c .line48 .ensures (a .goal) (a .found)
-    ∙ line-at line48 (c .before .before .match .keys4) (a .ns .now) (a .hat) (a .t) (a .goal) (a .found)
+returns-4 c = c .line48 .ensures _ _ ∙ line-at line48 (c .before .before .match .keys4) _ _ _ _ _
 
 same-length-4 : tie.Need-same-length-4
 same-length-4 c = search needs
 
 returns-5 : tie.Need-returns-5
 returns-5 c =
-    let a = c .before .before .before .before .before .before .args in
-    let r = c .before .before .before .before .match .rest in
-    let h = c .before .before .before .before .before .before .pre .in-group in
-    let h1 = not-first (a .t .step) line39 (line40 ∷ line42 ∷ line48 ∷ line51 ∷ []) h (r .0 .0 .0 .1) in
-    let h2 = not-first (a .t .step) line40 (line42 ∷ line48 ∷ line51 ∷ []) h1 (r .0 .0 .1) in
-    let h3 = not-first (a .t .step) line42 (line48 ∷ line51 ∷ []) h2 (r .0 .1) in
-    let h4 = not-first (a .t .step) line48 (line51 ∷ []) h3 (r .1) in
-    c .before .before .line51 .ensures (a .goal) (a .found)
-    ∙ line-at line51 (the-last (a .t .step) line51 h4) (a .ns .now) (a .hat) (a .t) (a .goal) (a .found)
+    c .before .before .line51 .ensures _ _ ∙ line-at line51 (at-51 (c .before .before .before .before)) _ _ _ _ _
 
 pub pop-line-spec : {M : Type 1} → statement M
 pop-line-spec =

@@ -2,7 +2,7 @@
 use mathlib.Core.Path.{_∙_}
 use mathlib.Core.List.{[], _∷_}
 use Rattle.machine.specs.Steps.{line2, line3, line5, line8}
-use Rattle.figure.proofs.StepChoice.{not-first, the-last, line-at}
+use Rattle.figure.proofs.StepChoice.{left-over, line-at}
 use borrow.Author.Needs.{needs}
 use Rattle.figure.proofs.push_line.Statement.{statement}
 use Rattle.figure.proofs.push_line.Tie as tie
@@ -20,42 +20,30 @@ line8-requires : tie.Need-line8-requires
 line8-requires c κs = search needs
 
 returns : tie.Need-returns
-returns c =
-    let a = c .before .before .before .args in
-    c .line2 .ensures (a .ns .now) (a .goal) (a .found)
-    ∙ line-at line2 (c .before .match .keys1) (a .ns .now) (a .hat) (a .t) (a .goal) (a .found)
+returns c = c .line2 .ensures _ _ _ ∙ line-at line2 (c .before .match .keys1) _ _ _ _ _
 
 same-length : tie.Need-same-length
 same-length c = search needs
 
 returns-2 : tie.Need-returns-2
-returns-2 c =
-    let a = c .before .before .before .before .args in
-    c .line3 .ensures (a .goal) (a .found)
-    ∙ line-at line3 (c .before .before .match .keys2) (a .ns .now) (a .hat) (a .t) (a .goal) (a .found)
+returns-2 c = c .line3 .ensures _ _ ∙ line-at line3 (c .before .before .match .keys2) _ _ _ _ _
 
 same-length-2 : tie.Need-same-length-2
 same-length-2 c = search needs
 
 returns-3 : tie.Need-returns-3
 returns-3 c =
-    let a = c .before .before .before .before .before .before .args in
-    c .before .before .line5 .ensures (a .goal) (a .found)
-    ∙ line-at line5 (c .before .before .before .before .match .keys3) (a .ns .now) (a .hat) (a .t) (a .goal) (a .found)
+    c .before .before .line5 .ensures _ _ ∙ line-at line5 (c .before .before .before .before .match .keys3) _ _ _ _ _
 
 same-length-3 : tie.Need-same-length-3
 same-length-3 c = search needs
 
 returns-4 : tie.Need-returns-4
 returns-4 c =
-    let a = c .before .before .before .before .args in
-    let r = c .before .before .match .rest in
-    let h = c .before .before .before .before .pre .in-group in
-    let h1 = not-first (a .t .step) line2 (line3 ∷ line5 ∷ line8 ∷ []) h (r .0 .0 .1) in
-    let h2 = not-first (a .t .step) line3 (line5 ∷ line8 ∷ []) h1 (r .0 .1) in
-    let h3 = not-first (a .t .step) line5 (line8 ∷ []) h2 (r .1) in
-    c .line8 .ensures (a .goal) (a .found)
-    ∙ line-at line8 (the-last (a .t .step) line8 h3) (a .ns .now) (a .hat) (a .t) (a .goal) (a .found)
+    let rest = c .before .before in
+    let others = line2 ∷ line3 ∷ line5 ∷ [] in
+    let at-8 = left-over _ others line8 _ (rest .match .rest) (rest .before .before .pre .in-group) in
+    c .line8 .ensures _ _ ∙ line-at line8 at-8 _ _ _ _ _
 
 pub push-line-spec : {M : Type 1} → statement M
 push-line-spec =

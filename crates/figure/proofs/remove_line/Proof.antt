@@ -2,7 +2,7 @@
 use mathlib.Core.Path.{_∙_}
 use mathlib.Core.List.{[], _∷_}
 use Rattle.machine.specs.Steps.{line54, line56, line58, line60, line62, line64}
-use Rattle.figure.proofs.StepChoice.{not-first, the-last, line-at}
+use Rattle.figure.proofs.StepChoice.{left-over, line-at}
 use borrow.Author.Needs.{needs}
 use Rattle.figure.proofs.remove_line.Statement.{statement}
 use Rattle.figure.proofs.remove_line.Tie as tie
@@ -26,62 +26,42 @@ line64-requires : tie.Need-line64-requires
 line64-requires c κs = search needs
 
 returns : tie.Need-returns
-returns c =
-    let a = c .before .before .before .args in
-    c .line54 .ensures (a .ns .now) (a .found)
-    ∙ line-at line54 (c .before .match .keys1) (a .ns .now) (a .hat) (a .t) (a .goal) (a .found)
+returns c = c .line54 .ensures _ _ ∙ line-at line54 (c .before .match .keys1) _ _ _ _ _
 
 same-length : tie.Need-same-length
 same-length c = search needs
 
 returns-2 : tie.Need-returns-2
-returns-2 c =
-    let a = c .before .before .before .before .args in
-    c .line56 .ensures (a .goal) (a .found)
-    ∙ line-at line56 (c .before .before .match .keys2) (a .ns .now) (a .hat) (a .t) (a .goal) (a .found)
+returns-2 c = c .line56 .ensures _ _ ∙ line-at line56 (c .before .before .match .keys2) _ _ _ _ _
 
 same-length-2 : tie.Need-same-length-2
 same-length-2 c = search needs
 
 returns-3 : tie.Need-returns-3
-returns-3 c =
-    let a = c .before .before .before .before .args in
-    c .line58 .ensures (a .found)
-    ∙ line-at line58 (c .before .before .match .keys3) (a .ns .now) (a .hat) (a .t) (a .goal) (a .found)
+returns-3 c = c .line58 .ensures _ ∙ line-at line58 (c .before .before .match .keys3) _ _ _ _ _
 
 same-length-3 : tie.Need-same-length-3
 same-length-3 c = search needs
 
 returns-4 : tie.Need-returns-4
-returns-4 c =
-    let a = c .before .before .before .before .args in
-    c .line60 .ensures (a .goal) (a .found)
-    ∙ line-at line60 (c .before .before .match .keys4) (a .ns .now) (a .hat) (a .t) (a .goal) (a .found)
+returns-4 c = c .line60 .ensures _ _ ∙ line-at line60 (c .before .before .match .keys4) _ _ _ _ _
 
 same-length-4 : tie.Need-same-length-4
 same-length-4 c = search needs
 
 returns-5 : tie.Need-returns-5
 returns-5 c =
-    let a = c .before .before .before .before .before .before .args in
-    c .before .before .line62 .ensures (a .goal) (a .found)
-    ∙ line-at line62 (c .before .before .before .before .match .keys5) (a .ns .now) (a .hat) (a .t) (a .goal) (a .found)
+    c .before .before .line62 .ensures _ _ ∙ line-at line62 (c .before .before .before .before .match .keys5) _ _ _ _ _
 
 same-length-5 : tie.Need-same-length-5
 same-length-5 c = search needs
 
 returns-6 : tie.Need-returns-6
 returns-6 c =
-    let a = c .before .before .before .before .before .before .args in
-    let r = c .before .before .before .before .match .rest in
-    let h = c .before .before .before .before .before .before .pre .in-group in
-    let h1 = not-first (a .t .step) line54 (line56 ∷ line58 ∷ line60 ∷ line62 ∷ line64 ∷ []) h (r .0 .0 .0 .0 .1) in
-    let h2 = not-first (a .t .step) line56 (line58 ∷ line60 ∷ line62 ∷ line64 ∷ []) h1 (r .0 .0 .0 .1) in
-    let h3 = not-first (a .t .step) line58 (line60 ∷ line62 ∷ line64 ∷ []) h2 (r .0 .0 .1) in
-    let h4 = not-first (a .t .step) line60 (line62 ∷ line64 ∷ []) h3 (r .0 .1) in
-    let h5 = not-first (a .t .step) line62 (line64 ∷ []) h4 (r .1) in
-    c .before .before .line64 .ensures (a .goal) (a .found)
-    ∙ line-at line64 (the-last (a .t .step) line64 h5) (a .ns .now) (a .hat) (a .t) (a .goal) (a .found)
+    let rest = c .before .before .before .before in
+    let others = line54 ∷ line56 ∷ line58 ∷ line60 ∷ line62 ∷ [] in
+    let at-64 = left-over _ others line64 _ (rest .match .rest) (rest .before .before .pre .in-group) in
+    c .before .before .line64 .ensures _ _ ∙ line-at line64 at-64 _ _ _ _ _
 
 pub remove-line-spec : {M : Type 1} → statement M
 remove-line-spec =

@@ -3,13 +3,12 @@ use mathlib.Core.Path.{_≡_, refl}
 use mathlib.Core.Logic.{_≢_}
 use mathlib.Core.Bool.{true, false, cond}
 use mathlib.Core.List.{List, [], _∷_}
-use Prim.Native.Nat.{ℕ, _-_, _<_}
+use Prim.Native.Nat.{ℕ}
 use lib.Dec.{eqb}
-use native.Mathlib.Omega.{arith}
 use borrow.Author.Tests.{eq-eqb, ne-eqb}
 use Rattle.machine.specs.declared.Answer.the-variants.{Full, Yes, No}
 use Rattle.machine.specs.Choice.{_≟_, if_then_else_}
-use Rattle.machine.specs.Sides.{Side, left, right, opposite, sideNumber, sideOf}
+use Rattle.machine.specs.Sides.{Side}
 use Rattle.machine.specs.Values.{Value, _≟ᵛ_}
 use Rattle.machine.specs.Operations.{Operation, idle, push, pop, add, remove, operationOf}
 use Rattle.machine.specs.Steps.{Step, line2, stepNumber}
@@ -82,14 +81,6 @@ push-spliced l t n e = rw (e, operation-of-number push)
 pub other-spliced :
     (l : List Write) (t : Task) (n : ℕ) → n ≢ 1 → spliced (operationOf n) l t ≡ writing l (answers Yes)
 other-spliced l t = not-push (λ (op : Operation). spliced op l t ≡ writing l (answers Yes)) refl refl refl refl
-
--- ---- The opposite side.
-pub other-side : (n : ℕ) → n < 2 → 1 - n ≡ sideNumber (opposite (sideOf n))
-other-side n h = go (n ≟ 0)
-  where
-    go : (d : Dec (n ≡ 0)) → 1 - n ≡ sideNumber (opposite (if d then left else right))
-    go (yes e) = rw e
-    go (no e) = omega arith
 
 -- ---- 72's swap of the hat alone: it writes no node.
 module _ (h a x : ℕ) where

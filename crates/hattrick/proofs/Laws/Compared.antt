@@ -8,19 +8,22 @@ use Rattle.machine.specs.Choice.{_≟_, if_then_else_}
 use Rattle.machine.specs.Values.{Value, decode, _≟ᵛ_}
 use Rattle.machine.specs.Lines.{Effect, dcas}
 use Rattle.machine.proofs.Basics.Contradiction.{clash}
-use Rattle.layout.specs.declared.values.Value as Values
-use Rattle.layout.specs.Coded.{codedWord, meaning, isSame}
+use Rattle.machine.specs.declared.Stored.{Stored}
+use Rattle.layout.specs.Coded.{isSame}
 
 -- r is the comparison of a value read with a value.
 module _
     (v : Value)
     {r : Bool}
-    {p : Values.Value}
-    {w : ℕ}
-    (compared : r ≡ isSame (meaning p) v)
-    (read : p ≡ codedWord w) where
-  pub told : r ≡ isSame (decode w) v
-  told = compared ∙ ap (λ (q : Values.Value). isSame (meaning q) v) read
+    {p u : Stored}
+    (compared : r ≡ isSame (decode p) v)
+    (read : p ≡ u) where
+  pub told : r ≡ isSame (decode u) v
+  told = compared ∙ ap (λ (q : Stored). isSame (decode q) v) read
+
+-- Both of two tests, each of which says something.
+pub both-told : {p q r u v : Bool} → p ≡ u → q ≡ v → r ≡ p && q → r ≡ u && v
+both-told {q = q} {u = u} e f h = h ∙ ap (λ (b : Bool). b && q) e ∙ ap (λ (b : Bool). u && b) f
 
 -- The two comparisons of a swap: of a number and of a value.
 module _ (x y : ℕ) (u v : Value) where

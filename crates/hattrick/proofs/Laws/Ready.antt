@@ -7,13 +7,13 @@ use Prim.Native.Nat.{ℕ, _<_}
 use native.Mathlib.Omega.{arith}
 use lib.ListN.{getD}
 use Rattle.machine.specs.Sides.{Side, left, right, sideNumber, sideOf}
-use Rattle.machine.specs.Values.{encode, decode, valueOk}
+use Rattle.machine.specs.Values.{encode, decode, stored, number, valueOk}
 use Rattle.machine.specs.Tasks.{none}
 use Rattle.machine.proofs.Words.ValueLaws.{decoded-value-ok}
 use Rattle.machine.proofs.Words.RecordLaws.{side-of-number}
-use Rattle.layout.specs.declared.values.Value as Values
+use Rattle.machine.specs.declared.Stored.{Stored}
 use Rattle.layout.specs.declared.tasks.Task as Tasks
-use Rattle.layout.specs.Coded.{codedTask, codedWord, taskMeant, wordIn}
+use Rattle.layout.specs.Coded.{codedTask, taskMeant, storedIn}
 use Rattle.hattrick.specs.Lent.{outcomeOf, Ready}
 use Rattle.hattrick.specs.declared.ends.Done.{Done}
 
@@ -49,16 +49,20 @@ module _ {ns : List ℕ} {t : Tasks.Task} (R : Ready ns t) where
 
   -- The value read of the node in register i is as V may be.
   pub node-value-ok :
-      {v : Values.Value} (i : ℕ)
+      {v : Stored} (i : ℕ)
       → i < 4
       → getD (t .registers) i 0 ≢ none
-      → v ≡ codedWord (wordIn ns (getD (t .registers) i 0))
-      → valueOk (v .word) ≡ true
+      → v ≡ storedIn ns (getD (t .registers) i 0)
+      → valueOk v ≡ true
   node-value-ok i l n read = rw read (R .values (getD (t .registers) i 0) (R .held i l n))
 
-  pub value-read-ok : valueOk (t .value .word) ≡ true
+  -- The argument is held as the words of its number.
+  pub argument-meant : t .argument ≡ stored (number (t .argument))
+  argument-meant = sym (ap (λ (u : Tasks.Task). u .argument) (R .canonical))
+
+  pub value-read-ok : valueOk (t .value) ≡ true
   value-read-ok =
-      let e : encode (decode (t .value .word)) ≡ t .value .word
-      = ap (λ (u : Tasks.Task). u .value .word) (R .canonical) in
-      let h = decoded-value-ok (t .value .word) in
+      let e : encode (decode (t .value)) ≡ t .value =
+      ap (λ (u : Tasks.Task). u .value) (R .canonical) in
+      let h = decoded-value-ok (t .value) in
       rw e at h

@@ -6,36 +6,36 @@ use native.Mathlib.Omega.{arith}
 use lib.ListN.{length}
 use borrow.Author.Needs.{needs}
 use Rattle.machine.proofs.Basics.Contradiction.{clash}
-use Rattle.stream.specs.Held.{lentOf}
+use Rattle.stream.specs.Carried.{loanOf}
 use Rattle.lane.proofs.ChunkLaws.{Answering, answering-starts, answering-goes-on, answering-ends}
 use Rattle.lane.proofs.answer_chunk.Statement.{statement}
 use Rattle.lane.proofs.answer_chunk.Tie as tie
 
 abbrev Inv-loop : tie.InvT-loop
-Inv-loop chunk space₀ bags₀ text₀ numbers₀ out₀ held₀ from₀ space bags text numbers out held from =
-    Answering chunk (lentOf space₀ bags₀ text₀ numbers₀ held₀) out₀ from (lentOf space bags text numbers held) out
+Inv-loop chunk space₀ bags₀ text₀ numbers₀ out₀ carried₀ from₀ space bags text numbers out carried from =
+    Answering chunk (loanOf space₀ text₀ numbers₀ carried₀) out₀ from (loanOf space text numbers carried) out
 
 abbrev μ-loop : tie.MeasureT-loop
-μ-loop chunk space₀ bags₀ text₀ numbers₀ out₀ held₀ from₀ space bags text numbers out held from =
+μ-loop chunk space₀ bags₀ text₀ numbers₀ out₀ carried₀ from₀ space bags text numbers out carried from =
     length chunk - from
 
 loop-holds : tie.Need-loop-holds Inv-loop μ-loop
-loop-holds c = answering-starts _ (c .before .before .before .before .pre .0)
+loop-holds c = answering-starts _ (c .before .before .before .pre .0)
 
 serve-lines-requires : tie.Need-serve-lines-requires Inv-loop μ-loop
 serve-lines-requires c κs =
     let loop = c .before .before .before .before .before .before in
     let A = loop .loop .inv in
-    (A .within, (A .ready, omega (arith, A .same-out, loop .before .before .before .before .before .pre .1)))
+    (A .within, (A .in-order, omega (arith, A .same-out, loop .before .before .before .before .pre .1)))
 
 slice-reshare-prefix-put : tie.Need-slice-reshare-prefix-put Inv-loop μ-loop
 slice-reshare-prefix-put c =
-    let served = c .before .before .before .before .before .before .before in
+    let served = c .before .before .before .before .before in
     omega (arith, served .serve-lines .ensures .1 .1)
 
 slice-aggregate-put : tie.Need-slice-aggregate-put Inv-loop μ-loop
 slice-aggregate-put c =
-    let served = c .before .before .before .before .before .before .before .before in
+    let served = c .before .before .before .before .before .before in
     sym (length-take-le _ _ (served .serve-lines .ensures .1 .1))
 
 put-requires : tie.Need-put-requires Inv-loop μ-loop
@@ -43,55 +43,46 @@ put-requires c κs = search needs
 
 same-length : tie.Need-same-length Inv-loop μ-loop
 same-length c =
-    let served = c .before .before .before .before .before .before .before .before .before .before in
+    let served = c .before .before .before .before .before .before .before .before in
     let loop = served .before .before .before .before .before .before .before in
     served .serve-lines .kept .1 .1 .0 ∙ loop .loop .inv .same-space
 
 same-length-2 : tie.Need-same-length-2 Inv-loop μ-loop
 same-length-2 c =
-    let served = c .before .before .before .before .before .before .before .before .before .before in
-    let loop = served .before .before .before .before .before .before .before in
-    served .serve-lines .kept .1 .1 .1 .0 ∙ loop .loop .inv .same-bags
-
-same-length-3 : tie.Need-same-length-3 Inv-loop μ-loop
-same-length-3 c =
-    let served = c .before .before .before .before .before .before .before .before .before .before in
+    let served = c .before .before .before .before .before .before .before .before in
     let loop = served .before .before .before .before .before .before .before in
     served .serve-lines .kept .1 .1 .1 .1 .1 .1 .1 .0 ∙ loop .loop .inv .same-out
 
 returns : tie.Need-returns Inv-loop μ-loop
 returns c =
-    let served = c .before .before .before .before .before .before .before .before .before .before in
-    (served .serve-lines .ensures .1 .0 .ready, λ e. clash (cc))
+    let served = c .before .before .before .before .before .before .before .before in
+    (served .serve-lines .ensures .1 .0 .in-order, λ e. clash (cc))
 
 loop-less : tie.Need-loop-less Inv-loop μ-loop
 loop-less c =
-    let served = c .before .before .before .before .before .before .before .before .before .before in
+    let served = c .before .before .before .before .before .before .before .before in
     let test = served .before .before .before .before .before .before in
     let onward = served .serve-lines .ensures .0 in
     omega (arith, onward .within, onward .further (test .loop-test .taken))
 
 loop-again : tie.Need-loop-again Inv-loop μ-loop
 loop-again c =
-    let served = c .before .before .before .before .before .before .before .before .before .before in
+    let served = c .before .before .before .before .before .before .before .before in
     let loop = served .before .before .before .before .before .before .before in
     let kept = served .serve-lines .kept in
     answering-goes-on _ (loop .loop .inv) _ (served .serve-lines .ensures .0) (served .serve-lines .ensures .1 .0)
-    (kept .1 .1 .0) (kept .1 .1 .1 .0) (kept .1 .1 .1 .1 .1 .1 .1 .0)
+    (kept .1 .1 .0) (kept .1 .1 .1 .1 .1 .1 .1 .0)
+
+same-length-3 : tie.Need-same-length-3 Inv-loop μ-loop
+same-length-3 c = c .before .loop .inv .same-space
 
 same-length-4 : tie.Need-same-length-4 Inv-loop μ-loop
-same-length-4 c = c .before .loop .inv .same-space
-
-same-length-5 : tie.Need-same-length-5 Inv-loop μ-loop
-same-length-5 c = c .before .loop .inv .same-bags
-
-same-length-6 : tie.Need-same-length-6 Inv-loop μ-loop
-same-length-6 c = c .before .loop .inv .same-out
+same-length-4 c = c .before .loop .inv .same-out
 
 returns-2 : tie.Need-returns-2 Inv-loop μ-loop
 returns-2 c =
     let A = c .before .loop .inv in
-    (A .ready, λ _. answering-ends _ A (c .loop-test .left))
+    (A .in-order, λ _. answering-ends _ A (c .loop-test .left))
 
 pub answer-chunk-spec : {M : Type 1} → statement M
 answer-chunk-spec =
@@ -106,11 +97,9 @@ answer-chunk-spec =
     put-requires
     same-length
     same-length-2
-    same-length-3
     returns
     loop-less
     loop-again
+    same-length-3
     same-length-4
-    same-length-5
-    same-length-6
     returns-2)

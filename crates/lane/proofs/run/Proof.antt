@@ -1,19 +1,19 @@
--- `lane::run` meets its contract. The loop keeps what is lent ready; the turns left are its measure.
+-- `lane::run` meets its contract. The loop keeps what is lent in order; the turns left are its measure.
 use mathlib.Core.Path.{_≡_, refl, _∙_}
 use native.Mathlib.Omega.{arith}
 use lib.ListN.{length}
 use borrow.Author.Needs.{needs}
-use Rattle.stream.specs.Held.{lentOf, Ready}
+use Rattle.stream.specs.Carried.{loanOf, InOrder}
 use Rattle.lane.proofs.run.Statement.{statement}
 use Rattle.lane.proofs.run.Tie as tie
 
 abbrev Inv-loop : tie.InvT-loop
-Inv-loop input₀ space₀ bags₀ text₀ numbers₀ out₀ held₀ turns₀ input space bags text numbers out held turns =
-    Ready (lentOf space bags text numbers held) × (length input ≡ length input₀) × (length space ≡ length space₀)
-    × (length bags ≡ length bags₀) × (length out ≡ length out₀)
+Inv-loop input₀ space₀ bags₀ text₀ numbers₀ out₀ carried₀ turns₀ input space bags text numbers out carried turns =
+    InOrder (loanOf space text numbers carried) × (length input ≡ length input₀) × (length space ≡ length space₀)
+    × (length out ≡ length out₀)
 
 abbrev μ-loop : tie.MeasureT-loop
-μ-loop input₀ space₀ bags₀ text₀ numbers₀ out₀ held₀ turns₀ input space bags text numbers out held turns =
+μ-loop input₀ space₀ bags₀ text₀ numbers₀ out₀ carried₀ turns₀ input space bags text numbers out carried turns =
     turns
 
 begin-session-requires : tie.Need-begin-session-requires Inv-loop μ-loop
@@ -21,40 +21,34 @@ begin-session-requires c κs = search needs
 
 loop-holds : tie.Need-loop-holds Inv-loop μ-loop
 loop-holds c =
-    let start = c .before .before .before .before .before .before in
+    let start = c .before .before .before .before .before in
     let a = start .args in
-    let ready = c .begin-session .ensures .0 (a .space .now) (a .bags .now) (a .text .now) in
-    (ready (start .pre .0) (start .pre .1 .0) (start .pre .1 .1 .0), refl, refl, refl, refl)
+    let in-order = c .begin-session .ensures .0 (a .space .now) (a .text .now) in
+    (in-order (start .pre .0) (start .pre .1 .0), refl, refl, refl)
 
 turn-requires : tie.Need-turn-requires Inv-loop μ-loop
 turn-requires c κs =
     let loop = c .before .before .before .before .before .before .before in
     let I = loop .loop .inv in
-    (I .0, omega (arith, I .4, loop .before .before .before .before .before .before .before .pre .1 .1 .1))
+    (I .0, omega (arith, I .3, loop .before .before .before .before .before .before .pre .1 .1))
 
 same-length : tie.Need-same-length Inv-loop μ-loop
 same-length c =
-    let turned = c .before .before .before .before .before .before .before .before .before in
+    let turned = c .before .before .before .before .before .before .before in
     let loop = turned .before .before .before .before .before .before .before .before in
     turned .turn .kept .0 ∙ loop .loop .inv .1
 
 same-length-2 : tie.Need-same-length-2 Inv-loop μ-loop
 same-length-2 c =
-    let turned = c .before .before .before .before .before .before .before .before .before in
+    let turned = c .before .before .before .before .before .before .before in
     let loop = turned .before .before .before .before .before .before .before .before in
     turned .turn .kept .1 .0 ∙ loop .loop .inv .2
 
 same-length-3 : tie.Need-same-length-3 Inv-loop μ-loop
 same-length-3 c =
-    let turned = c .before .before .before .before .before .before .before .before .before in
+    let turned = c .before .before .before .before .before .before .before in
     let loop = turned .before .before .before .before .before .before .before .before in
-    turned .turn .kept .1 .1 .0 ∙ loop .loop .inv .3
-
-same-length-4 : tie.Need-same-length-4 Inv-loop μ-loop
-same-length-4 c =
-    let turned = c .before .before .before .before .before .before .before .before .before in
-    let loop = turned .before .before .before .before .before .before .before .before in
-    turned .turn .kept .1 .1 .1 .1 .1 .1 .0 ∙ loop .loop .inv .4
+    turned .turn .kept .1 .1 .1 .1 .1 .1 .0 ∙ loop .loop .inv .3
 
 returns : tie.Need-returns Inv-loop μ-loop
 returns c = search needs
@@ -67,22 +61,19 @@ loop-less c = omega arith
 
 loop-again : tie.Need-loop-again Inv-loop μ-loop
 loop-again c =
-    let turned = c .before .before .before .before .before .before .before .before .before .before in
+    let turned = c .before .before .before .before .before .before .before .before in
     let I = turned .before .before .before .before .before .before .before .before .loop .inv in
     let kept = turned .turn .kept in
-    (turned .turn .ensures, kept .0 ∙ I .1, kept .1 .0 ∙ I .2, kept .1 .1 .0 ∙ I .3, kept .1 .1 .1 .1 .1 .1 .0 ∙ I .4)
+    (turned .turn .ensures, kept .0 ∙ I .1, kept .1 .0 ∙ I .2, kept .1 .1 .1 .1 .1 .1 .0 ∙ I .3)
+
+same-length-4 : tie.Need-same-length-4 Inv-loop μ-loop
+same-length-4 c = c .before .loop .inv .1
 
 same-length-5 : tie.Need-same-length-5 Inv-loop μ-loop
-same-length-5 c = c .before .loop .inv .1
+same-length-5 c = c .before .loop .inv .2
 
 same-length-6 : tie.Need-same-length-6 Inv-loop μ-loop
-same-length-6 c = c .before .loop .inv .2
-
-same-length-7 : tie.Need-same-length-7 Inv-loop μ-loop
-same-length-7 c = c .before .loop .inv .3
-
-same-length-8 : tie.Need-same-length-8 Inv-loop μ-loop
-same-length-8 c = c .before .loop .inv .4
+same-length-6 c = c .before .loop .inv .3
 
 returns-2 : tie.Need-returns-2 Inv-loop μ-loop
 returns-2 c = search needs
@@ -99,13 +90,11 @@ run-spec =
     same-length
     same-length-2
     same-length-3
-    same-length-4
     returns
     sub-turns
     loop-less
     loop-again
+    same-length-4
     same-length-5
     same-length-6
-    same-length-7
-    same-length-8
     returns-2)

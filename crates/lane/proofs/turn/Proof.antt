@@ -19,7 +19,7 @@ slice-reshare-prefix-put c = search needs
 
 slice-aggregate-put : tie.Need-slice-aggregate-put
 slice-aggregate-put c =
-    let finished = c .before .before .before .before .before .before .before .before in
+    let finished = c .before .before .before .before .before .before in
     sym (length-take-le _ _ (finished .finish .ensures .1))
 
 put-requires : tie.Need-put-requires
@@ -34,13 +34,10 @@ same-length-2 c = search needs
 same-length-3 : tie.Need-same-length-3
 same-length-3 c = search needs
 
-same-length-4 : tie.Need-same-length-4
-same-length-4 c = search needs
-
 returns : tie.Need-returns
 returns c =
-    let finished = c .before .before .before .before .before .before .before .before .before in
-    finished .finish .ensures .0 .ready
+    let finished = c .before .before .before .before .before .before .before in
+    finished .finish .ensures .0 .in-order
 
 slice-reshare-prefix-answer-chunk : tie.Need-slice-reshare-prefix-answer-chunk
 slice-reshare-prefix-answer-chunk c = search needs
@@ -51,17 +48,14 @@ slice-aggregate-answer-chunk c = search needs
 answer-chunk-requires : tie.Need-answer-chunk-requires
 answer-chunk-requires c κs = search needs
 
+same-length-4 : tie.Need-same-length-4
+same-length-4 c = search needs
+
 same-length-5 : tie.Need-same-length-5
 same-length-5 c = search needs
 
 same-length-6 : tie.Need-same-length-6
 same-length-6 c = search needs
-
-same-length-7 : tie.Need-same-length-7
-same-length-7 c = search needs
-
-same-length-8 : tie.Need-same-length-8
-same-length-8 c = search needs
 
 returns-2 : tie.Need-returns-2
 returns-2 c = search needs
@@ -79,13 +73,11 @@ turn-spec =
     same-length
     same-length-2
     same-length-3
-    same-length-4
     returns
     slice-reshare-prefix-answer-chunk
     slice-aggregate-answer-chunk
     answer-chunk-requires
+    same-length-4
     same-length-5
     same-length-6
-    same-length-7
-    same-length-8
     returns-2)

@@ -6,6 +6,7 @@ use native.Mathlib.Omega.{arith}
 use lib.ListN.{length, getD, set}
 use Rattle.machine.specs.Sides.{sideOf}
 use Rattle.machine.specs.Tasks.{none}
+use Rattle.machine.specs.Table.{nodeLength}
 use Rattle.machine.proofs.Words.RecordLaws.{number-of-side}
 use Rattle.layout.specs.Coded.{HoldsNode, linkIn, setLinkIn}
 
@@ -19,10 +20,10 @@ pub link-word :
     (ns : List ℕ) (side x : ℕ)
     → HoldsNode ns x
     → side < 2
-    → getD ns (3 * x + side) 0 ≡ linkIn ns (sideOf side) x
+    → getD ns (nodeLength * x + side) 0 ≡ linkIn ns (sideOf side) x
 link-word ns side x h l =
-    any-default ns (3 * x + side) 0 none (omega arith)
-    ∙ ap (λ (n : ℕ). getD ns (3 * x + n) none) (sym (number-of-side side (omega arith)))
+    any-default ns (nodeLength * x + side) 0 none (omega arith)
+    ∙ ap (λ (n : ℕ). getD ns (nodeLength * x + n) none) (sym (number-of-side side (omega arith)))
 
-pub link-set : (ns : List ℕ) (side x y : ℕ) → side < 2 → set ns (3 * x + side) y ≡ setLinkIn ns (sideOf side) x y
-link-set ns side x y l = ap (λ (n : ℕ). set ns (3 * x + n) y) (sym (number-of-side side (omega arith)))
+pub link-set : (ns : List ℕ) (side x y : ℕ) → side < 2 → set ns (nodeLength * x + side) y ≡ setLinkIn ns (sideOf side) x y
+link-set ns side x y l = ap (λ (n : ℕ). set ns (nodeLength * x + n) y) (sym (number-of-side side (omega arith)))

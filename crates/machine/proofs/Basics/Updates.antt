@@ -61,6 +61,10 @@ updateSide f left v right = f right
 updateSide f right v left = f left
 updateSide f right v right = v
 
+pub updateSide-same : {T : Type 0} (f : Side → T) (s : Side) (v : T) → updateSide f s v s ≡ v
+updateSide-same f left v = refl
+updateSide-same f right v = refl
+
 -- A function that has the value at the side and agrees at the opposite one is the one written.
 pub is-updateSide :
     {T : Type 0} (f f′ : Side → T) (s : Side) (v : T)

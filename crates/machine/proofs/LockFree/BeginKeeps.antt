@@ -4,16 +4,16 @@ use mathlib.Core.Logic.{_≢_, inl, inr}
 use mathlib.Core.List.{List}
 use Prim.Native.Nat.{ℕ, suc, _+_, _≤_}
 use native.Mathlib.Omega.{arith}
+use Rattle.machine.specs.declared.Stored.{Stored}
 use Rattle.machine.specs.Sides.{left, right}
 use Rattle.machine.specs.Tasks.{Task}
 use Rattle.machine.specs.Table.{nodeCount, taskCount, growth, task}
-use Rattle.machine.specs.Lines.{Memory, seen}
 use Rattle.machine.specs.Calls.{isBusy, begin}
 use Rattle.machine.specs.Demand3.{begin-call}
 use Rattle.machine.specs.Begun.{Begun, by-call}
 use Rattle.machine.proofs.Basics.Contradiction.{equal?}
 use Rattle.machine.proofs.Basics.Updates.{update-other}
-use Rattle.machine.proofs.Words.Memories.{view}
+use Rattle.machine.proofs.Words.Memories.{View, viewed, view}
 use Rattle.machine.proofs.Linearizability.Calls.Agreement.{Agrees}
 use Rattle.machine.proofs.Linearizability.Corollaries.{begun-agrees}
 use Rattle.machine.proofs.Linearizability.Begun.TableBegun.{BegunTable, by-begin}
@@ -29,15 +29,15 @@ module _ {ws after : List ℕ} (X : Begun after) {k : ℕ} {t : Task} (B : Begun
   other : (j : ℕ) → j ≢ k → task after j ≡ task ws j
   other j ne = ap (λ (f : ℕ → Task). f j) (B .tasks-then) ∙ update-other (task ws) k t j ne
 
-  same-for : (F : (S T gr : ℕ) → Memory → Task → Type 0) (j : ℕ) {x : Task} → task after j ≡ x
-      → F (nodeCount ws) (taskCount ws) (growth ws) (seen right ws) x
-      → F (nodeCount after) (taskCount after) (growth after) (seen right after) (task after j)
+  same-for : (F : (S T gr : ℕ) → View → Task → Type 0) (j : ℕ) {x : Task} → task after j ≡ x
+      → F (nodeCount ws) (taskCount ws) (growth ws) (viewed right ws) x
+      → F (nodeCount after) (taskCount after) (growth after) (viewed right after) (task after j)
   same-for F j {x} q b =
-      subst (λ (y : Task). F (nodeCount after) (taskCount after) (growth after) (seen right after) y) (sym q)
-      (subst (λ (y : Memory). F (nodeCount after) (taskCount after) (growth after) y x) (sym (B .seen-same right))
-      (subst (λ (S : ℕ). F S (taskCount after) (growth after) (seen right ws) x) (sym (B .same-nodes))
-      (subst (λ (T : ℕ). F (nodeCount ws) T (growth after) (seen right ws) x) (sym (B .same-count))
-      (subst (λ (gr : ℕ). F (nodeCount ws) (taskCount ws) gr (seen right ws) x) (sym (B .same-growth)) b))))
+      subst (λ (y : Task). F (nodeCount after) (taskCount after) (growth after) (viewed right after) y) (sym q)
+      (subst (λ (y : View). F (nodeCount after) (taskCount after) (growth after) y x) (sym (B .viewed-same right))
+      (subst (λ (S : ℕ). F S (taskCount after) (growth after) (viewed right ws) x) (sym (B .same-nodes))
+      (subst (λ (T : ℕ). F (nodeCount ws) T (growth after) (viewed right ws) x) (sym (B .same-count))
+      (subst (λ (gr : ℕ). F (nodeCount ws) (taskCount ws) gr (viewed right ws) x) (sym (B .same-growth)) b))))
 
   busy-before : (j : ℕ) → j ≢ k → isBusy (task after j .operation) ≡ isBusy (task ws j .operation)
   busy-before j ne = ap (λ (x : Task). isBusy (x .operation)) (other j ne)
@@ -57,7 +57,7 @@ module _ {ws after : List ℕ} (X : Begun after) {k : ℕ} {t : Task} (B : Begun
                   let same-tasks = B .same-count in
                   let same-d : Φ .d j ≡ Φ .d k = ap (Φ .d) q in
                   let x = task after j in
-                  disturbs-at-first (x .step) (taskCount after) (x .side) (view (x .side) (seen right after)) x
+                  disturbs-at-first (x .step) (taskCount after) (x .side) (view (x .side) (viewed right after)) x
                   (Φ .d j) (omega arith) (omega (arith, share .0))
               | inr ne ↦
                   same-for (λ S T gr m x. DisturbsIn T m x (Φ .d j)) j (other j ne)
@@ -70,7 +70,7 @@ module _ {ws after : List ℕ} (X : Begun after) {k : ℕ} {t : Task} (B : Begun
               | inl q ↦
                   subst
                   (λ (n : ℕ).
-                  CalmlyLeft (nodeCount after) (growth after) (seen right after) (task after j) n)
+                  CalmlyLeft (nodeCount after) (growth after) (viewed right after) (task after j) n)
                   (sym (ap (Φ .p) q ∙ share .1 ∙ ap (most 2) (sym (B .same-nodes))))
                   (patient-first X j busy)
               | inr ne ↦
@@ -94,7 +94,7 @@ module _ {ws after : List ℕ} (X : Begun after) {k : ℕ} {t : Task} (B : Begun
       }
 
 -- A begin, accepted or refused.
-module _ {ws : List ℕ} (X : Begun ws) (k op side argument : ℕ) where
+module _ {ws : List ℕ} (X : Begun ws) (k op side : ℕ) (argument : Stored) where
   abbrev then : List ℕ
   then = begin ws k op side argument .words
 

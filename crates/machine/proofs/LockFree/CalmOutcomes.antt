@@ -11,20 +11,11 @@ use Rattle.machine.specs.Values.{N, X, Y, _≟ᵛ_}
 use Rattle.machine.specs.Steps.{Step}
 use Rattle.machine.specs.Steps as Steps
 use Rattle.machine.specs.Tasks.{Task, none, goto, withB, withD, withCounted}
-use Rattle.machine.specs.Lines.{
-  Memory,
-  Write,
-  out≔,
-  inn≔,
-  val≔,
-  Effect,
-  next,
-  writing,
-  act,
-}
+use Rattle.machine.specs.Lines.{Write, out≔, inn≔, val≔, Effect, next, writing, act}
 use Rattle.machine.proofs.Basics.Contradiction.{refute}
 use Rattle.machine.proofs.Basics.Updates.{it-is, it-is-not, update, update-wrote, wrote?, update-other}
-use Rattle.machine.proofs.Words.Memories.{written}
+use Rattle.machine.proofs.Words.Memories.{View, seenIn, written}
+use Rattle.machine.proofs.Linearizability.Model.Held.{ClosedSet}
 use Rattle.machine.proofs.Linearizability.Model.Classes.{Class, Old}
 use Rattle.machine.proofs.Linearizability.Model.Nodes.{hat-old}
 use Rattle.machine.proofs.Linearizability.Model.Guarantee.{SameIn}
@@ -36,48 +27,46 @@ use Rattle.machine.proofs.Linearizability.Model.Invariant.{Lane}
 use Rattle.machine.proofs.SoloBound.Walks.{ends-cut}
 use Rattle.machine.proofs.SoloBound.Budget.{SoonOrLate, soon, late}
 use Rattle.machine.proofs.SoloBound.Spending.{no-node-answers}
-use Rattle.machine.proofs.LockFree.Change.{Holds, kept, marked, Calm, past}
+use Rattle.machine.proofs.LockFree.Change.{kept, marked, Calm, past}
 use Rattle.machine.proofs.LockFree.Calmness.{calm-untouched}
 use Rattle.machine.proofs.LockFree.Disturbances.{Room, Disturbs}
 use Rattle.machine.proofs.LockFree.Outcome.{Outcome, is-calm, goes, ended, passing}
 
-module _ (T : ℕ) {held : ℕ → Bool} (k : ℕ) {s o : Side} {m : Memory} {class : ℕ → Class} {r : List ℕ}
-    (L : Lane s o m class r) (H : Holds held m) (t : Task) (g f n : ℕ) where
+module _ (T : ℕ) {held : ℕ → Bool} (k : ℕ) {s o : Side} {m : View} {class : ℕ → Class} {r : List ℕ}
+    (L : Lane s o m class r) (H : ClosedSet held m) (t : Task) (g f n : ℕ) where
   abbrev Ok : Effect → Type 0
   Ok e = Outcome T held class s o m n e
 
   abbrev LineOk : Step → Type 0
-  LineOk st = TaskOk k s o m class st t → Disturbs st T s m t n → Ok (act st s o m t g f)
+  LineOk st = TaskOk k s o m class st t → Disturbs st T s m t n → Ok (act st s o (seenIn s m) t g f)
 
   -- Held old nodes keep their words.
   untouched : (l : List Write) (t' : Task)
-      → written l m .hat ≡ m .hat
-      → written l m .far ≡ m .far
-      → ((x : ℕ) → held x ≡ true → Old class x → SameIn m (written l m) x)
-      → Disturbs (t' .step) T s (written l m) t' n
+      → written s l m .hats ≡ m .hats
+      → ((x : ℕ) → held x ≡ true → Old class x → SameIn m (written s l m) x)
+      → Disturbs (t' .step) T s (written s l m) t' n
       → Ok (record { writes = l; task = t'; answer = Going })
-  untouched l t' p q same b =
-      is-calm (calm-untouched (L .structure) H p q same) b
+  untouched l t' same-hats same b = is-calm (calm-untouched (L .structure) H same-hats same) b
 
   -- ---- Line 24.
   pub line24-outcome : LineOk Steps.line24
   unfolding act
   line24-outcome h b =
       passing t (t .A) (λ _. passing t (t .D) (λ _.
-      untouched (inn≔ (t .D) (t .A) ∷ []) (goto (withB t (m .out (t .A))) Steps.line25) refl refl
+      untouched (inn≔ (t .D) (t .A) ∷ []) (goto (withB t (m .out (t .A))) Steps.line25) refl
       (λ x _ x-old. record { same-out = refl; same-inn = not-D x x-old; same-val = refl })
       (at-end b)))
     where
       not-D : (x : ℕ) → Old class x → update (m .inn) (t .D) (t .A) x ≡ m .inn x
       not-D x x-old = update-other (m .inn) (t .D) (t .A) x (λ e. refute (cc (head-new (h .chain))))
 
-      past-as-before : m .out (update (m .inn) (t .D) (t .A) (m .hat)) ≡ past m
-      past-as-before = cc (not-D (m .hat) (hat-old (L .structure)))
+      past-as-before : m .out (update (m .inn) (t .D) (t .A) (m .hats s)) ≡ past s m
+      past-as-before = cc (not-D (m .hats s) (hat-old (L .structure)))
 
-      at-end : SoonOrLate (Room s m ⊎ (t .A ≡ past m)) 1 2 n
+      at-end : SoonOrLate (Room s m ⊎ (t .A ≡ past s m)) 1 2 n
           → SoonOrLate
-          ((m .val (m .out (update (m .inn) (t .D) (t .A) (m .hat))) ≡ N s)
-          ⊎ (t .A ≡ m .out (update (m .inn) (t .D) (t .A) (m .hat)))) 1 2 n
+          ((m .val (m .out (update (m .inn) (t .D) (t .A) (m .hats s))) ≡ N s)
+          ⊎ (t .A ≡ m .out (update (m .inn) (t .D) (t .A) (m .hats s)))) 1 2 n
       at-end (soon (inl v) l) = soon (inl (cc (past-as-before))) l
       at-end (soon (inr e) l) = soon (inr (cc (past-as-before))) l
       at-end (late l) = late l
@@ -88,14 +77,14 @@ module _ (T : ℕ) {held : ℕ → Bool} (k : ℕ) {s o : Side} {m : Memory} {cl
   line28-outcome free-f h b =
       ok-if Ok (λ e. e) (f ≟ none) (λ _. ended (no-node-answers (t .operation))) (λ some.
       ok-if Ok (λ st. writing taken (next (withCounted (withD t f) 0) st)) (g ≟ 0)
-      (λ _. untouched taken (goto (withCounted (withD t f) 0) Steps.line15) refl refl (same some) b)
-      (λ _. untouched taken (goto (withCounted (withD t f) 0) Steps.line31) refl refl (same some) b))
+      (λ _. untouched taken (goto (withCounted (withD t f) 0) Steps.line15) refl (same some) b)
+      (λ _. untouched taken (goto (withCounted (withD t f) 0) Steps.line31) refl (same some) b))
     where
       taken : List Write
       taken = out≔ f none ∷ inn≔ f none ∷ val≔ f (X s) ∷ []
 
       same : f ≢ none → (x : ℕ) → held x ≡ true → Old class x
-          → SameIn m (written (out≔ f none ∷ inn≔ f none ∷ val≔ f (X s) ∷ []) m) x
+          → SameIn m (written s (out≔ f none ∷ inn≔ f none ∷ val≔ f (X s) ∷ []) m) x
       same some x x-held _ =
           let apart : x ≢ f = λ e. refute (cc (free-f some .not-held)) in
           record {
@@ -110,8 +99,8 @@ module _ (T : ℕ) {held : ℕ → Bool} (k : ℕ) {s o : Side} {m : Memory} {cl
       passing t (t .D) (λ _.
       ok-if Ok (λ e. e) (f ≟ none) (λ _. goes (goto t Steps.line15) b) (λ some.
       ok-if Ok (λ st. writing taken (next one-more st)) (suc (t .counted) ≟ g)
-      (λ _. untouched taken (goto one-more Steps.line15) refl refl (same some) b)
-      (λ _. untouched taken (goto one-more Steps.line31) refl refl (same some) b)))
+      (λ _. untouched taken (goto one-more Steps.line15) refl (same some) b)
+      (λ _. untouched taken (goto one-more Steps.line31) refl (same some) b)))
     where
       taken : List Write
       taken = val≔ f (N s) ∷ inn≔ f none ∷ out≔ f (t .D) ∷ inn≔ (t .D) f ∷ []
@@ -120,7 +109,7 @@ module _ (T : ℕ) {held : ℕ → Bool} (k : ℕ) {s o : Side} {m : Memory} {cl
       one-more = withCounted (withD t f) (suc (t .counted))
 
       same : f ≢ none → (x : ℕ) → held x ≡ true → Old class x
-          → SameIn m (written (val≔ f (N s) ∷ inn≔ f none ∷ out≔ f (t .D) ∷ inn≔ (t .D) f ∷ []) m) x
+          → SameIn m (written s (val≔ f (N s) ∷ inn≔ f none ∷ out≔ f (t .D) ∷ inn≔ (t .D) f ∷ []) m) x
       same some x x-held x-old =
           let apart : x ≢ f = λ e. refute (cc (free-f some .not-held)) in
           let not-D : x ≢ t .D = λ e. refute (cc (head-new (h .chain))) in
@@ -140,11 +129,10 @@ module _ (T : ℕ) {held : ℕ → Bool} (k : ℕ) {s o : Side} {m : Memory} {cl
       (λ _. is-calm calm tt)
       (λ _. goes (goto t Steps.line77) tt))
     where
-      calm : Calm held class m (written (val≔ (t .B) (Y s) ∷ []) m)
+      calm : Calm held class m (written s (val≔ (t .B) (Y s) ∷ []) m)
       calm =
           record {
-            same-hat = refl;
-            same-far = refl;
+            same-hats = refl;
             main-same =
                 λ x c. record {
                   same-out = refl;
@@ -165,11 +153,10 @@ module _ (T : ℕ) {held : ℕ → Bool} (k : ℕ) {s o : Side} {m : Memory} {cl
   line79-outcome h b =
       passing t (t .A) (λ _. is-calm calm tt)
     where
-      calm : Calm held class m (written (out≔ (t .A) none ∷ []) m)
+      calm : Calm held class m (written s (out≔ (t .A) none ∷ []) m)
       calm =
           record {
-            same-hat = refl;
-            same-far = refl;
+            same-hats = refl;
             main-same =
                 λ x c. record {
                   same-out = update-other (m .out) (t .A) none x (λ e. refute (cc (h .relies .A-spur)));

@@ -6,36 +6,37 @@ use Prim.Native.Nat.{ℕ}
 use native.Mathlib.Omega.{arith}
 use Rattle.machine.specs.Sides.{Side}
 use Rattle.machine.specs.Values.{Y}
-use Rattle.machine.specs.Lines.{Memory}
 use Rattle.machine.proofs.Basics.Contradiction.{refute}
+use Rattle.machine.proofs.Words.Memories.{View}
 use Rattle.machine.proofs.Linearizability.Model.Classes.{Class, main, Old}
-use Rattle.machine.proofs.Linearizability.Model.Structure.{Structure}
+use Rattle.machine.proofs.Linearizability.Model.Structure.{Frame, Structure}
 use Rattle.machine.proofs.Linearizability.Model.Nodes.{out-old, inn-old, Y-in-spur}
 use Rattle.machine.proofs.Linearizability.Model.Guarantee.{SameIn, Guarantee}
-use Rattle.machine.proofs.Linearizability.Model.Held.{main-held}
+use Rattle.machine.proofs.Linearizability.Model.Held.{main-held, ClosedSet}
 use Rattle.machine.proofs.SoloBound.Walks.{ends-same}
 use Rattle.machine.proofs.SoloBound.AtHat.{j, j-next, inn-hat, past-hat}
-use Rattle.machine.proofs.LockFree.Change.{Holds, kept, marked, Calm, past, Steady, NoCut}
+use Rattle.machine.proofs.LockFree.Change.{kept, marked, Calm, past, Steady, NoCut}
 
 -- Nothing is written.
-pub calm-refl : {held : ℕ → Bool} {class : ℕ → Class} {m : Memory} → Calm held class m m
+pub calm-refl : {held : ℕ → Bool} {class : ℕ → Class} {m : View} → Calm held class m m
 calm-refl =
     record {
-      same-hat = refl;
-      same-far = refl;
+      same-hats = refl;
       main-same = λ x h. record { same-out = refl; same-inn = refl; same-val = refl };
       out-ends = λ n x r h w. w;
       inn-ends = λ n x r h w. w;
       values = λ x r h. kept refl;
     }
 
-module _ {held : ℕ → Bool} {s o : Side} {m : Memory} {class : ℕ → Class} {at index : ℕ → ℕ} {n a b : ℕ} {bags : ℕ → ℕ}
-    (S : Structure s o (m .out) (m .inn) (m .val) (m .hat) (m .far) class at index n a b bags) (H : Holds held m) where
+module _ {held : ℕ → Bool} {s o : Side} {m : View} {class : ℕ → Class} {F : Frame}
+    (S : Structure s o m class F) (H : ClosedSet held m) where
+  open Frame F using (at, b)
+
   pub main-is-held : (x : ℕ) → class x ≡ main → held x ≡ true
-  main-is-held x c = main-held S (H .out-closed) (H .inn-closed) (H .hat-held) x c
+  main-is-held x c = main-held S H x c
 
   -- Held old nodes keep their words.
-  module _ {m' : Memory} (same-hat : m' .hat ≡ m .hat) (same-far : m' .far ≡ m .far)
+  module _ {m' : View} (same-hats : m' .hats ≡ m .hats)
       (same : (x : ℕ) → held x ≡ true → Old class x → SameIn m m' x) where
     abbrev Safe : ℕ → Type 0
     Safe x = (held x ≡ true) × Old class x
@@ -43,8 +44,7 @@ module _ {held : ℕ → Bool} {s o : Side} {m : Memory} {class : ℕ → Class}
     pub calm-untouched : Calm held class m m'
     calm-untouched =
         record {
-          same-hat = same-hat;
-          same-far = same-far;
+          same-hats = same-hats;
           main-same = λ x c. same x (main-is-held x c) (cc);
           out-ends =
               λ i x r h w. ends-same Safe
@@ -58,7 +58,7 @@ module _ {held : ℕ → Bool} {s o : Side} {m : Memory} {class : ℕ → Class}
         }
 
   -- ---- What is at the hat.
-  module _ {m' : Memory} {class' : ℕ → Class} (C : Calm held class m m')
+  module _ {m' : View} {class' : ℕ → Class} (C : Calm held class m m')
       (G : Guarantee held s (m .out) (m .inn) (m .val) class (m' .out) (m' .inn) (m' .val) class') where
     b-main : class (at b) ≡ main
     b-main = S .main-list .is-main b (S .b≤n)
@@ -66,25 +66,25 @@ module _ {held : ℕ → Bool} {s o : Side} {m : Memory} {class : ℕ → Class}
     j-main : class (at (j S)) ≡ main
     j-main = S .main-list .is-main (j S) (omega (arith, j-next S, S .b≤n))
 
-    pub hat-inn-same : m' .inn (m .hat) ≡ m .inn (m .hat)
+    pub hat-inn-same : m' .inn (m .hats s) ≡ m .inn (m .hats s)
     hat-inn-same =
         elim (S .near-hat (j S) (j-next S)) [
           | inl e ↦ cc (C .main-same (at b) b-main .same-inn)
-          | inr y ↦ G .spur-inward (m .hat) (H .hat-held) (y .in-spur)
+          | inr y ↦ G .spur-inward (m .hats s) (H .hats-held s) (y .in-spur)
         ]
 
-    pub hat-val-same : m' .val (m .hat) ≡ m .val (m .hat)
+    pub hat-val-same : m' .val (m .hats s) ≡ m .val (m .hats s)
     hat-val-same =
         elim (S .near-hat (j S) (j-next S)) [
           | inl e ↦ cc (C .main-same (at b) b-main .same-val)
-          | inr y ↦ cc (G .Y-stays (m .hat) (H .hat-held) (y .in-spur) (y .is-Y), y .is-Y)
+          | inr y ↦ cc (G .Y-stays (m .hats s) (H .hats-held s) (y .in-spur) (y .is-Y), y .is-Y)
         ]
 
-    pub behind-words : SameIn m m' (m .inn (m .hat))
-    behind-words = C .main-same (m .inn (m .hat)) (cc (inn-hat S, j-main))
+    pub behind-words : SameIn m m' (m .inn (m .hats s))
+    behind-words = C .main-same (m .inn (m .hats s)) (cc (inn-hat S, j-main))
 
-    pub past-words : SameIn m m' (past m)
-    past-words = C .main-same (past m) (cc (past-hat S, b-main))
+    pub past-words : SameIn m m' (past s m)
+    past-words = C .main-same (past s m) (cc (past-hat S, b-main))
 
     -- A Y of an old node stays.
     pub Y-kept : (x : ℕ) → held x ≡ true → Old class x → m .val x ≡ Y s → m' .val x ≡ Y s
@@ -93,9 +93,9 @@ module _ {held : ℕ → Bool} {s o : Side} {m : Memory} {class : ℕ → Class}
     pub calm-steady : Steady s m m'
     calm-steady =
         record {
-          behind-same = cc (C .same-hat, hat-inn-same);
-          past-same = cc (C .same-hat, hat-inn-same, behind-words .same-out);
-          stays-off-Y = λ ne y. ne (cc (C .same-hat, hat-val-same));
+          behind-same = cc (C .same-hats, hat-inn-same);
+          past-same = cc (C .same-hats, hat-inn-same, behind-words .same-out);
+          stays-off-Y = λ ne y. ne (cc (C .same-hats, hat-val-same));
         }
 
     pub calm-no-cut : NoCut held class s m m'

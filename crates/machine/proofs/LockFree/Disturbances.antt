@@ -12,9 +12,9 @@ use Rattle.machine.specs.Steps.{Step, rest}
 use Rattle.machine.specs.Steps as Steps
 use Rattle.machine.specs.Tasks.{Task, none, inA}
 use Rattle.machine.specs.Registers.{holds}
-use Rattle.machine.specs.Lines.{Memory}
+use Rattle.machine.proofs.Words.Memories.{View}
 use Rattle.machine.proofs.Linearizability.Model.Classes.{Class, spur, Old}
-use Rattle.machine.proofs.Linearizability.Model.Structure.{Structure}
+use Rattle.machine.proofs.Linearizability.Model.Structure.{Frame, Structure}
 use Rattle.machine.proofs.Linearizability.Model.Nodes.{old-some, Y-in-spur}
 use Rattle.machine.proofs.Linearizability.Model.Guarantee.{Guarantee}
 use Rattle.machine.proofs.Linearizability.Model.Phases.{TaskOk}
@@ -23,16 +23,16 @@ use Rattle.machine.proofs.SoloBound.Budget.{SoonOrLate, soon, late}
 use Rattle.machine.proofs.LockFree.Change.{past, Steady, NoCut}
 
 -- Main has an N at the hat's index: a push that starts now needs no splice.
-abbrev pub Room : Side → Memory → Type 0
-Room s m = m .val (past m) ≡ N s
+abbrev pub Room : Side → View → Type 0
+Room s m = m .val (past s m) ≡ N s
 
 -- Line 72: a push without a chain may splice if there is no room, any other once; and the hat may go to a wrong node.
-pub record Moving (s : Side) (m : Memory) (t : Task) (n : ℕ) : Type 0 where
+pub record Moving (s : Side) (m : View) (t : Task) (n : ℕ) : Type 0 where
   pub splices : ℕ
   pub may-splice : SoonOrLate ((t .D ≡ none) × Room s m) 0 1 splices
-  pub may-move : SoonOrLate (m .inn (t .A) ≡ m .inn (m .hat) → t .C ≡ past m) splices (suc splices) n
+  pub may-move : SoonOrLate (m .inn (t .A) ≡ m .inn (m .hats s) → t .C ≡ past s m) splices (suc splices) n
 
-abbrev pub Disturbs : Step → (T : ℕ) (s : Side) → Memory → Task → (n : ℕ) → Type 0
+abbrev pub Disturbs : Step → (T : ℕ) (s : Side) → View → Task → (n : ℕ) → Type 0
 Disturbs rest T s m t n = Unit {0}
 -- Push.
 Disturbs Steps.line2 T s m t n = SoonOrLate (Room s m) 0 1 n
@@ -49,10 +49,10 @@ Disturbs Steps.line72 T s m t n = Moving s m t n
 Disturbs Steps.line28 T s m t n = 1 ≤ n
 Disturbs Steps.line31 T s m t n = 1 ≤ n
 Disturbs Steps.line15 T s m t n = 1 ≤ n
-Disturbs Steps.line17 T s m t n = SoonOrLate (Room s m ⊎ (t .A ≡ past m) ⊎ (m .val (t .A) ≡ Y s)) 1 2 n
+Disturbs Steps.line17 T s m t n = SoonOrLate (Room s m ⊎ (t .A ≡ past s m) ⊎ (m .val (t .A) ≡ Y s)) 1 2 n
 Disturbs Steps.line18 T s m t n = SoonOrLate (Room s m) 1 2 n
-Disturbs Steps.line24 T s m t n = SoonOrLate (Room s m ⊎ (t .A ≡ past m)) 1 2 n
-Disturbs Steps.line25 T s m t n = SoonOrLate (Room s m ⊎ (t .A ≡ past m)) 1 2 n
+Disturbs Steps.line24 T s m t n = SoonOrLate (Room s m ⊎ (t .A ≡ past s m)) 1 2 n
+Disturbs Steps.line25 T s m t n = SoonOrLate (Room s m ⊎ (t .A ≡ past s m)) 1 2 n
 -- Pop.
 Disturbs Steps.line39 T s m t n = Unit {0}
 Disturbs Steps.line40 T s m t n = Unit {0}
@@ -74,11 +74,11 @@ Disturbs Steps.line81 T s m t n = Unit {0}
 Disturbs Steps.line82 T s m t n = Unit {0}
 
 -- A hat on Y may be moved off it once.
-abbrev pub HatDisturbs : (s : Side) → Memory → (n : ℕ) → Type 0
-HatDisturbs s m n = SoonOrLate (m .val (m .hat) ≢ Y s) 0 1 n
+abbrev pub HatDisturbs : (s : Side) → View → (n : ℕ) → Type 0
+HatDisturbs s m n = SoonOrLate (m .val (m .hats s) ≢ Y s) 0 1 n
 
 -- ---- At first.
-pub disturbs-at-first : (st : Step) (T : ℕ) (s : Side) (m : Memory) (t : Task) (n : ℕ) → 1 ≤ T → suc T ≤ n
+pub disturbs-at-first : (st : Step) (T : ℕ) (s : Side) (m : View) (t : Task) (n : ℕ) → 1 ≤ T → suc T ≤ n
     → Disturbs st T s m t n
 disturbs-at-first rest T s m t n h l = tt
 disturbs-at-first Steps.line2 T s m t n h l = late (omega arith)
@@ -117,13 +117,12 @@ disturbs-at-first Steps.line81 T s m t n h l = tt
 disturbs-at-first Steps.line82 T s m t n h l = tt
 
 -- ---- A tick of another task: as often; once more after a cut.
-pub hat-stays : {s : Side} {m m' : Memory} → Steady s m m' → {n : ℕ} → HatDisturbs s m n → HatDisturbs s m' n
+pub hat-stays : {s : Side} {m m' : View} → Steady s m m' → {n : ℕ} → HatDisturbs s m n → HatDisturbs s m' n
 hat-stays W (soon ne h) = soon (W .stays-off-Y ne) h
 hat-stays W (late h) = late h
 
-module _ {held : ℕ → Bool} {s o : Side} {m m' : Memory} {class class' : ℕ → Class} {at index : ℕ → ℕ} {l a b : ℕ}
-    {bags : ℕ → ℕ} (Z : Structure s o (m .out) (m .inn) (m .val) (m .hat) (m .far) class at index l a b bags)
-    (W : Steady s m m')
+module _ {held : ℕ → Bool} {s o : Side} {m m' : View} {class class' : ℕ → Class} {F : Frame}
+    (Z : Structure s o m class F) (W : Steady s m m')
     (G : Guarantee held s (m .out) (m .inn) (m .val) class (m' .out) (m' .inn) (m' .val) class')
     (t : Task) where
   if-so : {P Q : Type 0} {x y i i' : ℕ} → i ≤ i' → (P → Q) ⊎ (y ≤ suc x) × (suc i ≤ i') → SoonOrLate P x y i
@@ -141,14 +140,14 @@ module _ {held : ℕ → Bool} {s o : Side} {m m' : Memory} {class class' : ℕ 
   Y-stays : held (t .A) ≡ true → Old class (t .A) → m .val (t .A) ≡ Y s → m' .val (t .A) ≡ Y s
   Y-stays r h v = G .Y-stays (t .A) r (Y-in-spur Z (t .A) h v) v
 
-  past-stays : t .A ≡ past m → t .A ≡ past m'
+  past-stays : t .A ≡ past s m → t .A ≡ past s m'
   past-stays e = cc (W .past-same)
 
   -- The wrong node stays one, and the right node.
   move-stays : held (t .A) ≡ true → class (t .A) ≡ spur s
-      → (m .inn (t .A) ≡ m .inn (m .hat) → t .C ≡ past m)
-      → m' .inn (t .A) ≡ m' .inn (m' .hat)
-      → t .C ≡ past m'
+      → (m .inn (t .A) ≡ m .inn (m .hats s) → t .C ≡ past s m)
+      → m' .inn (t .A) ≡ m' .inn (m' .hats s)
+      → t .C ≡ past s m'
   move-stays r c f e =
       let q = G .spur-inward (t .A) r c in
       let d = f (cc (W .behind-same)) in
@@ -178,8 +177,8 @@ module _ {held : ℕ → Bool} {s o : Side} {m m' : Memory} {class class' : ℕ 
         ]
 
     seeking : held (t .A) ≡ true → Old class (t .A)
-        → SoonOrLate (Room s m ⊎ (t .A ≡ past m) ⊎ (m .val (t .A) ≡ Y s)) 1 2 i
-        → SoonOrLate (Room s m' ⊎ (t .A ≡ past m') ⊎ (m' .val (t .A) ≡ Y s)) 1 2 i'
+        → SoonOrLate (Room s m ⊎ (t .A ≡ past s m) ⊎ (m .val (t .A) ≡ Y s)) 1 2 i
+        → SoonOrLate (Room s m' ⊎ (t .A ≡ past s m') ⊎ (m' .val (t .A) ≡ Y s)) 1 2 i'
     seeking r h b =
         elim U [
           | inl n ↦ if-so le (inl (λ p. elim p [
@@ -190,7 +189,7 @@ module _ {held : ℕ → Bool} {s o : Side} {m m' : Memory} {class class' : ℕ 
           | inr d ↦ if-so le (inr (omega arith, d)) b
         ]
 
-    at-end : SoonOrLate (Room s m ⊎ (t .A ≡ past m)) 1 2 i → SoonOrLate (Room s m' ⊎ (t .A ≡ past m')) 1 2 i'
+    at-end : SoonOrLate (Room s m ⊎ (t .A ≡ past s m)) 1 2 i → SoonOrLate (Room s m' ⊎ (t .A ≡ past s m')) 1 2 i'
     at-end b =
         elim U [
           | inl n ↦ if-so le (inl (λ p. elim p [
@@ -218,8 +217,8 @@ module _ {held : ℕ → Bool} {s o : Side} {m m' : Memory} {class class' : ℕ 
         ]
       where
         one-more : suc i ≤ i'
-            → SoonOrLate (m .inn (t .A) ≡ m .inn (m .hat) → t .C ≡ past m) (w .splices) (suc (w .splices)) i
-            → SoonOrLate (m' .inn (t .A) ≡ m' .inn (m' .hat) → t .C ≡ past m')
+            → SoonOrLate (m .inn (t .A) ≡ m .inn (m .hats s) → t .C ≡ past s m) (w .splices) (suc (w .splices)) i
+            → SoonOrLate (m' .inn (t .A) ≡ m' .inn (m' .hats s) → t .C ≡ past s m')
             (suc (w .splices)) (suc (suc (w .splices))) i'
         one-more d (soon f h) = soon (move-stays r c f) (omega arith)
         one-more d (late h) = late (omega arith)

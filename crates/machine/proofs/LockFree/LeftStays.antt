@@ -10,10 +10,11 @@ use Rattle.machine.specs.Steps.{Step, rest}
 use Rattle.machine.specs.Steps as Steps
 use Rattle.machine.specs.Tasks.{Task, none, inA, inB}
 use Rattle.machine.specs.Registers.{holds}
-use Rattle.machine.specs.Lines.{Memory}
 use Rattle.machine.proofs.Basics.Contradiction.{refute}
+use Rattle.machine.proofs.Words.Memories.{View}
+use Rattle.machine.proofs.Linearizability.Model.Held.{ClosedSet}
 use Rattle.machine.proofs.Linearizability.Model.Classes.{Class, main, spur, Old}
-use Rattle.machine.proofs.Linearizability.Model.Structure.{Structure, linked, cut-off}
+use Rattle.machine.proofs.Linearizability.Model.Structure.{linked, cut-off, Frame, Structure}
 use Rattle.machine.proofs.Linearizability.Model.Nodes.{old-some, own-mark-not-far}
 use Rattle.machine.proofs.Linearizability.Model.Guarantee.{Guarantee}
 use Rattle.machine.proofs.Linearizability.Model.Reliance.{PopPair}
@@ -64,7 +65,7 @@ use Rattle.machine.proofs.SoloBound.Budget.{
   fails,
   Left,
 }
-use Rattle.machine.proofs.LockFree.Change.{Holds, kept, marked, Calm}
+use Rattle.machine.proofs.LockFree.Change.{kept, marked, Calm}
 use Rattle.machine.proofs.LockFree.Calmness.{
   hat-inn-same,
   hat-val-same,
@@ -73,21 +74,20 @@ use Rattle.machine.proofs.LockFree.Calmness.{
   Y-kept,
 }
 
-module _ {held : ℕ → Bool} {s o : Side} {m m' : Memory} {class class' : ℕ → Class} {at index : ℕ → ℕ} {n a b : ℕ}
-    {bags : ℕ → ℕ} (Z : Structure s o (m .out) (m .inn) (m .val) (m .hat) (m .far) class at index n a b bags)
-    (H : Holds held m) (C : Calm held class m m')
+module _ {held : ℕ → Bool} {s o : Side} {m m' : View} {class class' : ℕ → Class} {F : Frame}
+    (Z : Structure s o m class F) (H : ClosedSet held m) (C : Calm held class m m')
     (G : Guarantee held s (m .out) (m .inn) (m .val) class (m' .out) (m' .inn) (m' .val) class') where
-  hat-value-same : m' .val (m' .hat) ≡ m .val (m .hat)
-  hat-value-same = cc (C .same-hat, hat-val-same Z H C G)
+  hat-value-same : m' .val (m' .hats s) ≡ m .val (m .hats s)
+  hat-value-same = cc (C .same-hats, hat-val-same Z H C G)
 
-  off-Y : m .val (m .hat) ≢ Y s → m' .val (m' .hat) ≢ Y s
+  off-Y : m .val (m .hats s) ≢ Y s → m' .val (m' .hats s) ≢ Y s
   off-Y ne y = ne (cc (hat-value-same))
 
   path-main : {i x : ℕ} → OnPath s m i x → class x ≡ main
-  path-main {i} P = let w = path-at Z P in let q = w .0 in cc (Z .main-list .is-main (b + i) (w .1))
+  path-main {i} P = let w = path-at Z P in let q = w .0 in cc (Z .main-list .is-main (F .b + i) (w .1))
 
   path-stays : {i x : ℕ} → OnPath s m i x → OnPath s m' i x
-  path-stays {x = x} (at-hat e ne) = at-hat {x = x} (cc (C .same-hat)) (off-Y ne)
+  path-stays {x = x} (at-hat e ne) = at-hat {x = x} (cc (C .same-hats)) (off-Y ne)
   path-stays (on-path {x = x} {y = y} P v e) =
       let w = C .main-same x (path-main P) in
       on-path {y = y} (path-stays P) (cc (w .same-val)) (cc (w .same-out))
@@ -104,8 +104,8 @@ module _ {held : ℕ → Bool} {s o : Side} {m m' : Memory} {class class' : ℕ 
   end-out {x} E = C .main-same x (path-main (E .path)) .same-out
 
   -- What a pop found at its hat.
-  module _ {A B : ℕ} (P : PopPair o m class A B) (e : m .hat ≡ A) (marked : m .val B ≢ Y o) where
-    found-behind : B ≡ m .inn (m .hat)
+  module _ {A B : ℕ} (P : PopPair o m class A B) (e : m .hats s ≡ A) (marked : m .val B ≢ Y o) where
+    found-behind : B ≡ m .inn (m .hats s)
     found-behind =
         elim (P .B-precedes) [
           | inl c ↦ elim (hat-value Z) [
@@ -172,9 +172,9 @@ module _ {held : ℕ → Bool} {s o : Side} {m m' : Memory} {class class' : ℕ 
     soon-stays f (late h) = late h
 
     pushing-stays : {x y z u i : ℕ} → Pushing s m (t .A) x y z u i → Pushing s m' (t .A) x y z u i
-    pushing-stays (push-N e v h) = push-N (cc (C .same-hat)) (cc (C .same-hat, hat-value-same)) (omega arith)
-    pushing-stays (push-X e v h) = push-X (cc (C .same-hat)) (cc (C .same-hat, hat-value-same)) (omega arith)
-    pushing-stays (push-Y e v h) = push-Y (cc (C .same-hat)) (cc (C .same-hat, hat-value-same)) (omega arith)
+    pushing-stays (push-N e v h) = push-N (cc (C .same-hats)) (cc (C .same-hats, hat-value-same)) (omega arith)
+    pushing-stays (push-X e v h) = push-X (cc (C .same-hats)) (cc (C .same-hats, hat-value-same)) (omega arith)
+    pushing-stays (push-Y e v h) = push-Y (cc (C .same-hats)) (cc (C .same-hats, hat-value-same)) (omega arith)
     pushing-stays (push-stale h) = push-stale (omega arith)
 
     pub left-stays : (extra i S g k : ℕ) → 2 ≤ extra → (st : Step)
@@ -189,22 +189,22 @@ module _ {held : ℕ → Bool} {s o : Side} {m m' : Memory} {class class' : ℕ 
     left-stays x i S g k two Steps.line3 R h b = pushing-stays b
     left-stays x i S g k two Steps.line5 R h b = pushing-stays b
     left-stays x i S g k two Steps.line8 R h (choose-X e v c) =
-        choose-X (cc (C .same-hat)) (cc (C .same-hat, hat-value-same)) (omega arith)
+        choose-X (cc (C .same-hats)) (cc (C .same-hats, hat-value-same)) (omega arith)
     left-stays x i S g k two Steps.line8 R h (choose-Y v c) =
         choose-Y (Y-kept Z H C G (t .A) (A-held (R inA refl) (h .relies)) (h .relies) v) (omega arith)
     left-stays x i S g k two Steps.line8 R h (choose-stale c) = choose-stale (omega arith)
     left-stays x i S g k two Steps.line67 R h b = omega arith
-    left-stays x i S g k two Steps.line68 R h b = soon-stays (λ e. cc (C .same-hat)) b
-    left-stays x i S g k two Steps.line69 R h b = soon-stays (λ e. cc (C .same-hat)) b
+    left-stays x i S g k two Steps.line68 R h b = soon-stays (λ e. cc (C .same-hats)) b
+    left-stays x i S g k two Steps.line69 R h b = soon-stays (λ e. cc (C .same-hats)) b
     left-stays x i S g k two Steps.line70 R h b =
-        soon-stays (λ p. let e = p .0 in let q = p .1 in (cc (C .same-hat), cc (hat-inn-same Z H C G))) b
+        soon-stays (λ p. let e = p .0 in let q = p .1 in (cc (C .same-hats), cc (hat-inn-same Z H C G))) b
     left-stays x i S g k two Steps.line72 R h b =
         soon-stays (λ p.
         let e = p .0 in
         let q = inn-hat Z in
         let j-main : class (m .inn (t .A)) ≡ main =
         cc (Z .main-list .is-main (j Z) (omega (arith, j-next Z, Z .b≤n))) in (
-          cc (C .same-hat),
+          cc (C .same-hats),
           λ y.
               elim (h .relies .C-follows j-main) [
                 | inl f ↦ p .1 (cc (past-words Z H C G .same-val))
@@ -228,23 +228,23 @@ module _ {held : ℕ → Bool} {s o : Side} {m m' : Memory} {class class' : ℕ 
     left-stays x i S g k two Steps.line25 R h b =
         soon-stays (λ p. let q = p .1 in (end-stays (p .0), cc (end-out (p .0)))) b
     left-stays x i S g k two Steps.line39 R h b = omega arith
-    left-stays x i S g k two Steps.line40 R h b = soon-stays (λ e. cc (C .same-hat)) b
+    left-stays x i S g k two Steps.line40 R h b = soon-stays (λ e. cc (C .same-hats)) b
     left-stays x i S g k two Steps.line42 R h b =
-        soon-stays (λ p. let e = p .0 in let q = p .1 in (cc (C .same-hat), cc (hat-inn-same Z H C G))) b
+        soon-stays (λ p. let e = p .0 in let q = p .1 in (cc (C .same-hats), cc (hat-inn-same Z H C G))) b
     left-stays x i S g k two Steps.line48 R h b =
         soon-stays (λ p.
         let e = p .0 in
         let v = p .1 in
         let off : m .val (t .B) ≢ Y o =
         λ y. elim (h .relies .read-mark) [ inl u ↦ refute (cc) | inr u ↦ refute (cc) ] in
-        (cc (C .same-hat), cc (found-same (h .relies .pair) e off))) b
+        (cc (C .same-hats), cc (found-same (h .relies .pair) e off))) b
     left-stays x i S g k two Steps.line51 R h b =
         soon-stays (λ p.
         let e = p .0 in
         let v = p .1 in
         let u = h .relies .read-bag in
         let off : m .val (t .B) ≢ Y o = λ y. refute (cc) in
-        (cc (C .same-hat), cc (found-same (h .relies .pair) e off))) b
+        (cc (C .same-hats), cc (found-same (h .relies .pair) e off))) b
     left-stays x i S g k two Steps.line54 R h b = b
     left-stays x i S g k two Steps.line56 R h b = A-walk (R inA refl) (h .relies) b
     left-stays x i S g k two Steps.line58 R h b = A-walk (R inA refl) (h .relies) b

@@ -8,12 +8,13 @@ use Rattle.machine.specs.Operations.{idle}
 use Rattle.machine.specs.Steps.{Step, rest}
 use Rattle.machine.specs.Steps as Steps
 use Rattle.machine.specs.Tasks.{Task, none}
-use Rattle.machine.specs.Lines.{Memory, act}
+use Rattle.machine.specs.Lines.{act}
+use Rattle.machine.proofs.Words.Memories.{View, seenIn}
+use Rattle.machine.proofs.Linearizability.Model.Held.{ClosedSet}
 use Rattle.machine.proofs.Linearizability.Model.Classes.{Class}
 use Rattle.machine.proofs.Linearizability.Model.Phases.{TaskOk}
 use Rattle.machine.proofs.Linearizability.Writes.Take.{TakeOk}
 use Rattle.machine.proofs.Linearizability.Model.Invariant.{Lane}
-use Rattle.machine.proofs.LockFree.Change.{Holds}
 use Rattle.machine.proofs.LockFree.Disturbances.{Disturbs}
 use Rattle.machine.proofs.LockFree.Outcome.{Outcome}
 use Rattle.machine.proofs.LockFree.QuietOutcomes.{
@@ -56,11 +57,11 @@ use Rattle.machine.proofs.LockFree.DisturbingOutcomes.{
   line72-outcome,
 }
 
-module _ (T : ℕ) {held : ℕ → Bool} (k : ℕ) {s o : Side} {m : Memory} {class : ℕ → Class} {r : List ℕ}
-    (L : Lane s o m class r) (H : Holds held m) (t : Task) (g f n : ℕ)
+module _ (T : ℕ) {held : ℕ → Bool} (k : ℕ) {s o : Side} {m : View} {class : ℕ → Class} {r : List ℕ}
+    (L : Lane s o m class r) (H : ClosedSet held m) (t : Task) (g f n : ℕ)
     (free-f : f ≢ none → TakeOk held m class f) (busy : t .operation ≢ idle) where
   pub line-outcome : (st : Step) → TaskOk k s o m class st t → Disturbs st T s m t n
-      → Outcome T held class s o m n (act st s o m t g f)
+      → Outcome T held class s o m n (act st s o (seenIn s m) t g f)
   line-outcome rest h b = absurd (busy (h .belongs))
   line-outcome Steps.line2 h b = line2-outcome T held k L t g f n h b
   line-outcome Steps.line3 h b = line3-outcome T held k L t g f n h b

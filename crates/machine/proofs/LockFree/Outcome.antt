@@ -9,9 +9,9 @@ use mathlib.Core.List.{List, []}
 use Rattle.machine.specs.Sides.{Side}
 use Rattle.machine.specs.Values.{Y}
 use Rattle.machine.specs.Tasks.{Task, none}
-use Rattle.machine.specs.Lines.{Memory, Write, Effect, through}
+use Rattle.machine.specs.Lines.{Write, Effect, through}
 use Rattle.machine.proofs.Basics.Contradiction.{refute}
-use Rattle.machine.proofs.Words.Memories.{written}
+use Rattle.machine.proofs.Words.Memories.{View, written}
 use Rattle.machine.proofs.Linearizability.Model.Classes.{Class}
 use Rattle.machine.proofs.Linearizability.Lines.Connectives.{ok-through}
 use Rattle.machine.proofs.LockFree.Change.{Calm, BothSteady, BothNoCut}
@@ -19,28 +19,28 @@ use Rattle.machine.proofs.LockFree.Calmness.{calm-refl}
 use Rattle.machine.proofs.LockFree.Disturbances.{Disturbs}
 
 -- A tick with effect e, of a task on side s that may disturb n times.
-pub data Outcome (T : ℕ) (held : ℕ → Bool) (class : ℕ → Class) (s o : Side) (m : Memory) (n : ℕ)
+pub data Outcome (T : ℕ) (held : ℕ → Bool) (class : ℕ → Class) (s o : Side) (m : View) (n : ℕ)
     (e : Effect) : Type 0 where
   ends : e .answer ≢ Going → Outcome T held class s o m n e
-  is-calm : Calm held class m (written (e .writes) m)
-      → Disturbs (e .task .step) T s (written (e .writes) m) (e .task) n
+  is-calm : Calm held class m (written s (e .writes) m)
+      → Disturbs (e .task .step) T s (written s (e .writes) m) (e .task) n
       → Outcome T held class s o m n e
   -- A cut: one disturbance and one for each task.
-  cuts : BothSteady s o m (written (e .writes) m) → suc T ≤ n
-      → Disturbs (e .task .step) T s (written (e .writes) m) (e .task) 1
+  cuts : BothSteady s o m (written s (e .writes) m) → suc T ≤ n
+      → Disturbs (e .task .step) T s (written s (e .writes) m) (e .task) 1
       → Outcome T held class s o m n e
-  disturbs : {i : ℕ} → BothSteady s o m (written (e .writes) m) → BothNoCut held class s o m (written (e .writes) m)
+  disturbs : {i : ℕ} → BothSteady s o m (written s (e .writes) m) → BothNoCut held class s o m (written s (e .writes) m)
       → suc i ≡ n
-      → Disturbs (e .task .step) T s (written (e .writes) m) (e .task) i
+      → Disturbs (e .task .step) T s (written s (e .writes) m) (e .task) i
       → Outcome T held class s o m n e
   -- The hat moves off Y.
-  moves : BothSteady s o m (written (e .writes) m) → BothNoCut held class s o m (written (e .writes) m)
-      → m .val (m .hat) ≡ Y s
-      → written (e .writes) m .val (written (e .writes) m .hat) ≢ Y s
-      → Disturbs (e .task .step) T s (written (e .writes) m) (e .task) n
+  moves : BothSteady s o m (written s (e .writes) m) → BothNoCut held class s o m (written s (e .writes) m)
+      → m .val (m .hats s) ≡ Y s
+      → written s (e .writes) m .val (written s (e .writes) m .hats s) ≢ Y s
+      → Disturbs (e .task .step) T s (written s (e .writes) m) (e .task) n
       → Outcome T held class s o m n e
 
-module _ {T : ℕ} {held : ℕ → Bool} {class : ℕ → Class} {s o : Side} {m : Memory} {n : ℕ} where
+module _ {T : ℕ} {held : ℕ → Bool} {class : ℕ → Class} {s o : Side} {m : View} {n : ℕ} where
   -- Nothing is written.
   pub goes : (t : Task) → Disturbs (t .step) T s m t n
       → Outcome T held class s o m n (record { writes = []; task = t; answer = Going })

@@ -12,12 +12,12 @@ use Rattle.machine.specs.Sides.{Side, left, right, opposite}
 use Rattle.machine.specs.Values.{Y}
 use Rattle.machine.specs.Tasks.{Task}
 use Rattle.machine.specs.Table.{nodeCount, taskCount, growth, task}
-use Rattle.machine.specs.Lines.{Memory, seen, Effect}
+use Rattle.machine.specs.Lines.{Effect}
 use Rattle.machine.specs.Calls.{isBusy, tickRefusal, effectOf, tickOn}
 use Rattle.machine.specs.Begun.{Begun}
 use Rattle.machine.proofs.Basics.Contradiction.{equal?, clash}
 use Rattle.machine.proofs.Basics.Updates.{update, update-same, update-other, updateSide}
-use Rattle.machine.proofs.Words.Memories.{view, written}
+use Rattle.machine.proofs.Words.Memories.{View, viewed, written, view}
 use Rattle.machine.proofs.SlotRule.Reached.{keeps}
 use Rattle.machine.proofs.Shape.TickKeeps.{tick-allowed}
 use Rattle.machine.proofs.Linearizability.Model.Invariant.{noteOf, Kept, goes-on, has-answered}
@@ -61,10 +61,10 @@ pub record Potential (ws : List ℕ) (D P : ℕ) : Type 0 where
   pub hats : Side → ℕ
   pub p : ℕ → ℕ
   pub may-disturb : (j : ℕ) → isBusy (task ws j .operation) ≡ true
-      → DisturbsIn (taskCount ws) (seen right ws) (task ws j) (d j)
-  pub hats-move : (z : Side) → HatDisturbs z (view z (seen right ws)) (hats z)
+      → DisturbsIn (taskCount ws) (viewed right ws) (task ws j) (d j)
+  pub hats-move : (z : Side) → HatDisturbs z (view z (viewed right ws)) (hats z)
   pub patience : (j : ℕ) → isBusy (task ws j .operation) ≡ true
-      → CalmlyLeft (nodeCount ws) (growth ws) (seen right ws) (task ws j) (p j)
+      → CalmlyLeft (nodeCount ws) (growth ws) (viewed right ws) (task ws j) (p j)
   -- A task that is idle may begin a call.
   pub idle-yet : (j : ℕ) → isBusy (task ws j .operation) ≡ false
       → (suc (taskCount ws) ≤ d j) × (p j ≡ most 2 (nodeCount ws))
@@ -74,7 +74,7 @@ pub record Potential (ws : List ℕ) (D P : ℕ) : Type 0 where
 -- ---- At first.
 module _ {ws : List ℕ} (begun : Begun ws) where
   pub patient-first : (j : ℕ) → isBusy (task ws j .operation) ≡ true
-      → CalmlyLeft (nodeCount ws) (growth ws) (seen right ws) (task ws j) (most 2 (nodeCount ws))
+      → CalmlyLeft (nodeCount ws) (growth ws) (viewed right ws) (task ws j) (most 2 (nodeCount ws))
   patient-first j busy = left-in-first 2 begun j busy (omega arith) .left
 
   few-first : sum (taskCount ws) (λ _. most 2 (nodeCount ws))
@@ -93,7 +93,7 @@ module _ {ws : List ℕ} (begun : Begun ws) where
         p = λ _. most 2 (nodeCount ws);
         may-disturb =
             λ j _. let t = task ws j in
-            disturbs-at-first (t .step) T (t .side) (view (t .side) (seen right ws)) t (suc T) some (omega arith);
+            disturbs-at-first (t .step) T (t .side) (view (t .side) (viewed right ws)) t (suc T) some (omega arith);
         hats-move = λ z. late (omega arith);
         patience = patient-first;
         idle-yet = λ j _. (omega arith, refl);
@@ -102,7 +102,7 @@ module _ {ws : List ℕ} (begun : Begun ws) where
       }
 
 -- ---- The hat that moves.
-hat-moved : (s z : Side) (m' : Memory) (hats : Side → ℕ) → m' .val (m' .hat) ≢ Y s
+hat-moved : (s z : Side) (m' : View) (hats : Side → ℕ) → m' .val (m' .hats s) ≢ Y s
     → ((z : Side) → HatDisturbs z (view z (view s m')) (hats z))
     → HatDisturbs z (view z (view s m')) (updateSide hats s 0 z)
 hat-moved left left m' hats off b = soon off (omega arith)
@@ -115,7 +115,7 @@ fewer-hats : (s : Side) (hats : Side → ℕ) → 1 ≤ hats s
 fewer-hats left hats h = omega arith
 fewer-hats right hats h = omega arith
 
-hat-had : (s : Side) (m : Memory) {n : ℕ} → m .val (m .hat) ≡ Y s → HatDisturbs s m n → 1 ≤ n
+hat-had : (s : Side) (m : View) {n : ℕ} → m .val (m .hats s) ≡ Y s → HatDisturbs s m n → 1 ≤ n
 hat-had s m v (soon ne h) = absurd (ne v)
 hat-had s m v (late h) = h
 
@@ -138,10 +138,13 @@ module _ {ws : List ℕ} (begun : Begun ws) (k h : ℕ) (passes : tickRefusal ws
   abbrev e : Effect
   e = effectOf ws k h
 
-  abbrev m' : Memory
-  m' = written (effectOf ws k h .writes) (view (task ws k .side) (seen right ws))
+  abbrev m : View
+  m = view (task ws k .side) (viewed right ws)
 
-  abbrev M' : Memory
+  abbrev m' : View
+  m' = written (task ws k .side) (effectOf ws k h .writes) m
+
+  abbrev M' : View
   M' = view (task ws k .side) m'
 
   agrees : Agrees ws (begun-agrees begun .0)
@@ -154,19 +157,19 @@ module _ {ws : List ℕ} (begun : Begun ws) (k h : ℕ) (passes : tickRefusal ws
   busy-now = tick-allowed ws k h passes .2
 
   -- What holds of each task afterwards.
-  each-after : (F : (S T gr : ℕ) → Memory → Task → ℕ → Type 0) (f : ℕ → ℕ)
+  each-after : (F : (S T gr : ℕ) → View → Task → ℕ → Type 0) (f : ℕ → ℕ)
       → ((j : ℕ) → j ≢ k → isBusy (task ws j .operation) ≡ true
       → F (nodeCount ws) T (growth ws) M' (task ws j) (f j))
-      → F (nodeCount after) (taskCount after) (growth after) (seen right after) (task after k) (f k)
+      → F (nodeCount after) (taskCount after) (growth after) (viewed right after) (task after k) (f k)
       → (j : ℕ)
       → isBusy (task after j .operation) ≡ true
-      → F (nodeCount after) (taskCount after) (growth after) (seen right after) (task after j) (f j)
+      → F (nodeCount after) (taskCount after) (growth after) (viewed right after) (task after j) (f j)
   each-after F f others own j busy =
       elim (equal? j k) [
         | inl q ↦
             subst
             (λ (i : ℕ).
-            F (nodeCount after) (taskCount after) (growth after) (seen right after) (task after i) (f i))
+            F (nodeCount after) (taskCount after) (growth after) (viewed right after) (task after i) (f i))
             (sym q) own
         | inr ne ↦
             let same-task = other-after agrees k h passes j ne in
@@ -179,14 +182,14 @@ module _ {ws : List ℕ} (begun : Begun ws) (k h : ℕ) (passes : tickRefusal ws
       → Disturbs (e .task .step) T (task ws k .side) m' (e .task) (f k)
       → (j : ℕ)
       → isBusy (task after j .operation) ≡ true
-      → DisturbsIn (taskCount after) (seen right after) (task after j) (f j)
+      → DisturbsIn (taskCount after) (viewed right after) (task after j) (f j)
   disturb-after f others own =
       each-after (λ S T gr m t n. DisturbsIn T m t n) f others
       (in-after agrees k h passes (λ S T gr m t. DisturbsIn T m t (f k)) k (own-after agrees k h passes)
       (own-side agrees k h passes (λ z m. Disturbs (e .task .step) T z m (e .task) (f k)) same own))
 
   hats-after : (f : Side → ℕ) → ((z : Side) → HatDisturbs z (view z M') (f z)) → (z : Side)
-      → HatDisturbs z (view z (seen right after)) (f z)
+      → HatDisturbs z (view z (viewed right after)) (f z)
   hats-after f b z =
       in-after agrees k h passes (λ S T gr m t. HatDisturbs z (view z m) (f z)) k (own-after agrees k h passes) (b z)
 
@@ -238,10 +241,9 @@ module _ {ws : List ℕ} (begun : Begun ws) (k h : ℕ) (passes : tickRefusal ws
         few-ticks = few-first (begun-ticked begun k h);
       })
 
-  module _
-      (W : BothSteady (task ws k .side) (opposite (task ws k .side)) (view (task ws k .side) (seen right ws)) m') where
+  module _ (W : BothSteady (task ws k .side) (opposite (task ws k .side)) m m') where
     hats-steady : (z : Side) → HatDisturbs z (view z M') (Φ .hats z)
-    hats-steady z = hat-stays (steady-view (task ws k .side) z (seen right ws) m' W) (Φ .hats-move z)
+    hats-steady z = hat-stays (steady-view (task ws k .side) z (viewed right ws) m' W) (Φ .hats-move z)
 
     -- A cut.
     cut-falls : suc T ≤ Φ .d k → Disturbs (e .task .step) T (task ws k .side) m' (e .task) 1 → Falls after D P
@@ -257,20 +259,20 @@ module _ {ws : List ℕ} (begun : Begun ws) (k h : ℕ) (passes : tickRefusal ws
         (λ j ne busy.
         let same-d : update (λ i. suc (Φ .d i)) k 1 j ≡ suc (Φ .d j) = update-other (λ i. suc (Φ .d i)) k 1 j ne in
         steady-others begun k h passes j T (Φ .d j) (f j) (omega arith)
-        (steady-view (task ws k .side) (task ws j .side) (seen right ws) m' W) (inr (omega arith))
+        (steady-view (task ws k .side) (task ws j .side) (viewed right ws) m' W) (inr (omega arith))
         (Φ .may-disturb j busy))
         (subst (λ (n : ℕ). Disturbs (e .task .step) T (task ws k .side) m' (e .task) n)
         (sym (update-same (λ j. suc (Φ .d j)) k 1)) own)
         hats-steady (omega arith)
 
     module _ (U : BothNoCut (keeps ws) (begun-agrees begun .1 .class) (task ws k .side) (opposite (task ws k .side))
-        (view (task ws k .side) (seen right ws)) m') where
+        m m') where
       others-steady : (d' : ℕ) (j : ℕ) → Φ .d j ≤ d' → isBusy (task ws j .operation) ≡ true
           → DisturbsIn T M' (task ws j) d'
       others-steady d' j le busy =
           steady-others begun k h passes j T (Φ .d j) d' le
-          (steady-view (task ws k .side) (task ws j .side) (seen right ws) m' W)
-          (inl (no-cut-view (task ws k .side) (task ws j .side) (seen right ws) m' U))
+          (steady-view (task ws k .side) (task ws j .side) (viewed right ws) m' W)
+          (inl (no-cut-view (task ws k .side) (task ws j .side) (viewed right ws) m' U))
           (Φ .may-disturb j busy)
 
       -- Another disturbance of the task.
@@ -290,21 +292,20 @@ module _ {ws : List ℕ} (begun : Begun ws) (k h : ℕ) (passes : tickRefusal ws
           hats-steady (omega arith)
 
       -- The hat moves off Y.
-      move-falls : view (task ws k .side) (seen right ws) .val (view (task ws k .side) (seen right ws) .hat)
-          ≡ Y (task ws k .side)
-          → m' .val (m' .hat) ≢ Y (task ws k .side)
+      move-falls : m .val (m .hats (task ws k .side)) ≡ Y (task ws k .side)
+          → m' .val (m' .hats (task ws k .side)) ≢ Y (task ws k .side)
           → Disturbs (e .task .step) T (task ws k .side) m' (e .task) (Φ .d k)
           → Falls after D P
       move-falls on-Y off own =
           let s = task ws k .side in
-          let fewer = fewer-hats s (Φ .hats) (hat-had s (view s (seen right ws)) on-Y (Φ .hats-move s)) in
+          let fewer = fewer-hats s (Φ .hats) (hat-had s (view s (viewed right ws)) on-Y (Φ .hats-move s)) in
           let had = Φ .few-disturbances in
           afresh {D' = D - 1} (omega arith) (Φ .d) (updateSide (Φ .hats) s 0) (λ j ne. omega arith)
           (λ j ne busy. others-steady (Φ .d j) j (omega arith) busy) own
           (λ z. hat-moved s z m' (Φ .hats) off hats-steady) (omega arith)
 
   -- ---- Calm ticks: the task has one tick less, and the others have as many.
-  calm-falls : Calm (keeps ws) (begun-agrees begun .1 .class) (view (task ws k .side) (seen right ws)) m'
+  calm-falls : Calm (keeps ws) (begun-agrees begun .1 .class) m m'
       → Disturbs (e .task .step) T (task ws k .side) m' (e .task) (Φ .d k)
       → Falls after D P
   calm-falls C own-d =
@@ -315,7 +316,7 @@ module _ {ws : List ℕ} (begun : Begun ws) (k h : ℕ) (passes : tickRefusal ws
       let fewer = sum-update T (Φ .p) k v 1 is-task (omega arith) in
       let few = Φ .few-ticks in
       let Calmly : (j n : ℕ) → Type 0 =
-      λ j n. CalmlyLeft (nodeCount after) (growth after) (seen right after) (task after j) n in
+      λ j n. CalmlyLeft (nodeCount after) (growth after) (viewed right after) (task after j) n in
       ticks-fall {P' = P - 1} (omega arith)
       (record {
         d = Φ .d;
@@ -344,7 +345,7 @@ module _ {ws : List ℕ} (begun : Begun ws) (k h : ℕ) (passes : tickRefusal ws
       })
 
   by-outcome : Outcome T (keeps ws) (begun-agrees begun .1 .class) (task ws k .side)
-      (opposite (task ws k .side)) (view (task ws k .side) (seen right ws)) (Φ .d k) (effectOf ws k h)
+      (opposite (task ws k .side)) m (Φ .d k) (effectOf ws k h)
       → Falls after D P
   by-outcome (ends ne) = absurd (ne going)
   by-outcome (is-calm C b) = calm-falls C b

@@ -12,8 +12,9 @@ use Rattle.machine.specs.Operations.{Operation, idle, push, pop, add, re
 use Rattle.machine.specs.Steps.{Step}
 use Rattle.machine.specs.Steps as Steps
 use Rattle.machine.specs.Tasks.{Task, none, goto, withA, withB, withC, withCounted, withValue}
-use Rattle.machine.specs.Lines.{Memory, Effect, next, backOf, back, afterRead, act}
+use Rattle.machine.specs.Lines.{Effect, next, backOf, back, afterRead, act}
 use Rattle.machine.proofs.Basics.Contradiction.{clash, refute}
+use Rattle.machine.proofs.Words.Memories.{View, seenIn}
 use Rattle.machine.proofs.Linearizability.Model.Classes.{Class}
 use Rattle.machine.proofs.Linearizability.Writes.ChainGrowth.{head-some}
 use Rattle.machine.proofs.Linearizability.Lines.Connectives.{ok-if, ok-dcas}
@@ -26,7 +27,7 @@ use Rattle.machine.proofs.LockFree.Disturbances.{Room, Disturbs}
 use Rattle.machine.proofs.LockFree.Outcome.{Outcome, goes, ended, passing}
 
 -- Back, to 2 without a chain and to 15 with one.
-pub back-disturbs : (T : ℕ) (s : Side) (m : Memory) (t : Task) {n : ℕ} (op : Operation) {x : ℕ} (d : Dec (x ≡ none))
+pub back-disturbs : (T : ℕ) (s : Side) (m : View) (t : Task) {n : ℕ} (op : Operation) {x : ℕ} (d : Dec (x ≡ none))
     → (x ≡ none → op ≡ push)
     → SoonOrLate ((x ≡ none) × Room s m) 0 1 n
     → Disturbs (backOf op d) T s m t n
@@ -43,13 +44,13 @@ back-disturbs T s m t add d f (late h) = h
 back-disturbs T s m t remove d f (soon p h) = clash (cc (f (p .0)))
 back-disturbs T s m t remove d f (late h) = h
 
-module _ (T : ℕ) (held : ℕ → Bool) (k : ℕ) {s o : Side} {m : Memory} {class : ℕ → Class} {r : List ℕ}
+module _ (T : ℕ) (held : ℕ → Bool) (k : ℕ) {s o : Side} {m : View} {class : ℕ → Class} {r : List ℕ}
     (L : Lane s o m class r) (t : Task) (g f n : ℕ) where
   abbrev Ok : Effect → Type 0
   Ok e = Outcome T held class s o m n e
 
   abbrev LineOk : Step → Type 0
-  LineOk st = TaskOk k s o m class st t → Disturbs st T s m t n → Ok (act st s o m t g f)
+  LineOk st = TaskOk k s o m class st t → Disturbs st T s m t n → Ok (act st s o (seenIn s m) t g f)
 
   -- A task without a chain is a push.
   pub chain-op : MaybeChain k s m class (t .D) (t .operation) → t .D ≡ none → t .operation ≡ push
@@ -57,17 +58,17 @@ module _ (T : ℕ) (held : ℕ → Bool) (k : ℕ) {s o : Side} {m : Memory} {cl
   chain-op (without-chain H p) e = p
 
   -- The hat off Y is at its index.
-  hat-past : m .val (m .hat) ≢ Y s → m .hat ≡ past m
+  hat-past : m .val (m .hats s) ≢ Y s → m .hats s ≡ past s m
   hat-past ne = cc (hat-at (L .structure) ne, past-hat (L .structure))
 
-  no-X-at-hat : Room s m → m .val (m .hat) ≢ X s
+  no-X-at-hat : Room s m → m .val (m .hats s) ≢ X s
   no-X-at-hat v x = let q = hat-past (λ y. refute (cc)) in refute (cc)
 
   -- ---- Push.
   pub line2-outcome : LineOk Steps.line2
   unfolding act
-  line2-outcome h (soon v l) = goes (goto (withA t (m .hat)) Steps.line3) (soon (v, no-X-at-hat v) l)
-  line2-outcome h (late l) = goes (goto (withA t (m .hat)) Steps.line3) (late l)
+  line2-outcome h (soon v l) = goes (goto (withA t (m .hats s)) Steps.line3) (soon (v, no-X-at-hat v) l)
+  line2-outcome h (late l) = goes (goto (withA t (m .hats s)) Steps.line3) (late l)
 
   pub line3-outcome : LineOk Steps.line3
   unfolding act
@@ -81,7 +82,7 @@ module _ (T : ℕ) (held : ℕ → Bool) (k : ℕ) {s o : Side} {m : Memory} {cl
   unfolding act
   line5-outcome h b =
       passing t (t .A) (λ _. passing t (t .B) (λ _.
-      ok-dcas Ok (m .hat ≟ t .A) (m .val (t .A) ≟ᵛ N s) (λ _ _. ended (λ q. refute (cc)))
+      ok-dcas Ok (m .hats s ≟ t .A) (m .val (t .A) ≟ᵛ N s) (λ _ _. ended (λ q. refute (cc)))
       (goes (goto t Steps.line8) b)))
 
   pub line8-outcome : LineOk Steps.line8
@@ -100,7 +101,7 @@ module _ (T : ℕ) (held : ℕ → Bool) (k : ℕ) {s o : Side} {m : Memory} {cl
   -- ---- Moving the hat.
   pub line67-outcome : LineOk Steps.line67
   unfolding act
-  line67-outcome h b = goes (goto (withA t (m .hat)) Steps.line68) b
+  line67-outcome h b = goes (goto (withA t (m .hats s)) Steps.line68) b
 
   pub line68-outcome : LineOk Steps.line68
   unfolding act
@@ -130,7 +131,7 @@ module _ (T : ℕ) (held : ℕ → Bool) (k : ℕ) {s o : Side} {m : Memory} {cl
   pub line15-outcome : LineOk Steps.line15
   unfolding act
   line15-outcome h b =
-      goes (goto (withA t (m .hat)) Steps.line17)
+      goes (goto (withA t (m .hats s)) Steps.line17)
       (elim (hat-value (L .structure)) [
         | hat-N v ↦ soon (inr (inl (hat-past (λ y. refute (cc))))) b
         | hat-X v ↦ soon (inr (inl (hat-past (λ y. refute (cc))))) b
@@ -138,7 +139,7 @@ module _ (T : ℕ) (held : ℕ → Bool) (k : ℕ) {s o : Side} {m : Memory} {cl
       ])
 
   abbrev Sought : Type 0
-  Sought = SoonOrLate (Room s m ⊎ (t .A ≡ past m) ⊎ (m .val (t .A) ≡ Y s)) 1 2 n
+  Sought = SoonOrLate (Room s m ⊎ (t .A ≡ past s m) ⊎ (m .val (t .A) ≡ Y s)) 1 2 n
 
   on-N : m .val (t .A) ≡ N s → Sought → SoonOrLate (Room s m) 1 2 n
   on-N v (soon (inl p) l) = soon p l
@@ -146,7 +147,7 @@ module _ (T : ℕ) (held : ℕ → Bool) (k : ℕ) {s o : Side} {m : Memory} {cl
   on-N v (soon (inr (inr y)) l) = clash (cc)
   on-N v (late l) = late l
 
-  on-X : m .val (t .A) ≡ X s → Sought → SoonOrLate (Room s m ⊎ (t .A ≡ past m)) 1 2 n
+  on-X : m .val (t .A) ≡ X s → Sought → SoonOrLate (Room s m ⊎ (t .A ≡ past s m)) 1 2 n
   on-X v (soon (inl p) l) = soon (inl p) l
   on-X v (soon (inr (inl e)) l) = soon (inr e) l
   on-X v (soon (inr (inr y)) l) = clash (cc)
@@ -164,7 +165,7 @@ module _ (T : ℕ) (held : ℕ → Bool) (k : ℕ) {s o : Side} {m : Memory} {cl
       goes (goto (withValue t v) Steps.line15) (in-any-case (omega arith) b)))))
 
   on-link : SoonOrLate (Room s m) 1 2 n
-      → SoonOrLate (Room s m ⊎ (m .out (t .A) ≡ past m) ⊎ (m .val (m .out (t .A)) ≡ Y s)) 1 2 n
+      → SoonOrLate (Room s m ⊎ (m .out (t .A) ≡ past s m) ⊎ (m .val (m .out (t .A)) ≡ Y s)) 1 2 n
   on-link (soon p l) = soon (inl p) l
   on-link (late l) = late l
 
@@ -179,7 +180,7 @@ module _ (T : ℕ) (held : ℕ → Bool) (k : ℕ) {s o : Side} {m : Memory} {cl
   -- ---- Pop.
   pub line39-outcome : LineOk Steps.line39
   unfolding act
-  line39-outcome h b = goes (goto (withA t (m .hat)) Steps.line40) tt
+  line39-outcome h b = goes (goto (withA t (m .hats s)) Steps.line40) tt
 
   pub line40-outcome : LineOk Steps.line40
   unfolding act
@@ -208,23 +209,23 @@ module _ (T : ℕ) (held : ℕ → Bool) (k : ℕ) {s o : Side} {m : Memory} {cl
   unfolding act
   line48-outcome h b =
       passing t (t .B) (λ _.
-      ok-dcas Ok (m .hat ≟ t .A) (m .val (t .B) ≟ᵛ t .value) (λ _ _. ended (λ q. refute (cc)))
+      ok-dcas Ok (m .hats s ≟ t .A) (m .val (t .B) ≟ᵛ t .value) (λ _ _. ended (λ q. refute (cc)))
       (goes (goto t Steps.line39) tt))
 
   pub line51-outcome : LineOk Steps.line51
   unfolding act
   line51-outcome h b =
       passing t (t .B) (λ _.
-      ok-dcas Ok (m .hat ≟ t .A) (m .val (t .B) ≟ᵛ t .value) (λ _ _. ended (λ q. refute (cc)))
+      ok-dcas Ok (m .hats s ≟ t .A) (m .val (t .B) ≟ᵛ t .value) (λ _ _. ended (λ q. refute (cc)))
       (goes (goto t Steps.line39) tt))
 
   -- ---- Remove.
   pub line54-outcome : LineOk Steps.line54
   unfolding act
   line54-outcome h b =
-      ok-if Ok (λ st. next (withA t (m .hat)) st) (g ≟ 0)
-      (λ _. goes (goto (withA t (m .hat)) Steps.line60) b)
-      (λ _. goes (goto (withA t (m .hat)) Steps.line56) b)
+      ok-if Ok (λ st. next (withA t (m .hats s)) st) (g ≟ 0)
+      (λ _. goes (goto (withA t (m .hats s)) Steps.line60) b)
+      (λ _. goes (goto (withA t (m .hats s)) Steps.line56) b)
 
   pub line56-outcome : LineOk Steps.line56
   unfolding act

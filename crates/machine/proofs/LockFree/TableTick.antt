@@ -6,15 +6,15 @@ use mathlib.Core.List.{List}
 use mathlib.Core.Option.{none as nothing}
 use Prim.Native.Nat.{ℕ, suc, _≤_}
 use native.Mathlib.Omega.{arith}
-use Rattle.machine.specs.Sides.{Side, left, right, opposite}
+use Rattle.machine.specs.Sides.{Side, right, opposite}
 use Rattle.machine.specs.Tasks.{Task, none, goal}
 use Rattle.machine.specs.Table.{nodeCount, growth, task}
 use Rattle.machine.specs.Allocate.{allocate}
-use Rattle.machine.specs.Lines.{Memory, seen, Effect, act}
+use Rattle.machine.specs.Lines.{Memory, Effect, act}
 use Rattle.machine.specs.Calls.{isBusy, tickRefusal, effectOf}
 use Rattle.machine.specs.Begun.{Begun}
-use Rattle.machine.proofs.Words.Memories.{view, written}
-use Rattle.machine.proofs.Words.EffectLaws.{view-seen}
+use Rattle.machine.proofs.Words.Memories.{View, viewed, written, view, seen-viewed}
+use Rattle.machine.proofs.Linearizability.Model.Held.{ClosedSet, closed-view}
 use Rattle.machine.proofs.Shape.TickKeeps.{tick-allowed}
 use Rattle.machine.proofs.SlotRule.Reached.{keeps}
 use Rattle.machine.proofs.SlotRule.FirstFree.{allocate-not-kept}
@@ -24,7 +24,7 @@ use Rattle.machine.proofs.Linearizability.Model.Invariant.{Lane, Roots,
 use Rattle.machine.proofs.Linearizability.Lines.InvariantTick.{guarantees-view}
 use Rattle.machine.proofs.Linearizability.Model.LaneViews.{lane-view}
 use Rattle.machine.proofs.Linearizability.Model.RowViews.{rowFrom}
-use Rattle.machine.proofs.Linearizability.Writes.FreeNode.{view-inn-closed, view-out-closed, take-ok}
+use Rattle.machine.proofs.Linearizability.Writes.FreeNode.{take-ok}
 use Rattle.machine.proofs.Linearizability.Writes.Take.{TakeOk}
 use Rattle.machine.proofs.Linearizability.Lines.Tick.{tick-ok}
 use Rattle.machine.proofs.Linearizability.Calls.Agreement.{Agrees}
@@ -32,7 +32,6 @@ use Rattle.machine.proofs.Linearizability.Corollaries.{begun-agrees}
 use Rattle.machine.proofs.Linearizability.Calls.MadeTicks.{well-linked, kept-roots, not-idle}
 use Rattle.machine.proofs.SoloBound.SoloTick.{LeftWith}
 use Rattle.machine.proofs.LockFree.Change.{
-  Holds,
   Calm,
   Steady,
   NoCut,
@@ -44,12 +43,12 @@ use Rattle.machine.proofs.LockFree.Disturbances.{Disturbs, HatDisturbs,
 use Rattle.machine.proofs.LockFree.Outcome.{Outcome}
 use Rattle.machine.proofs.LockFree.LineOutcomes.{line-outcome}
 
--- How often a task may disturb, by the memory seen from the right.
-abbrev pub DisturbsIn : (T : ℕ) → Memory → Task → (d : ℕ) → Type 0
+-- How often a task may disturb, by the view from the right.
+abbrev pub DisturbsIn : (T : ℕ) → View → Task → (d : ℕ) → Type 0
 DisturbsIn T M t d = Disturbs (t .step) T (t .side) (view (t .side) M) t d
 
 -- The ticks that a task has left while the others tick and are calm.
-abbrev pub CalmlyLeft : (S gr : ℕ) → Memory → Task → (n : ℕ) → Type 0
+abbrev pub CalmlyLeft : (S gr : ℕ) → View → Task → (n : ℕ) → Type 0
 CalmlyLeft S gr M t n = LeftWith 2 S gr M t n
 
 module _ {ws : List ℕ} (begun : Begun ws) (k h : ℕ) (passes : tickRefusal ws k h ≡ nothing) where
@@ -59,17 +58,17 @@ module _ {ws : List ℕ} (begun : Begun ws) (k h : ℕ) (passes : tickRefusal ws
   abbrev s : Side
   s = task ws k .side
 
-  abbrev M : Memory
-  M = seen right ws
+  abbrev M : View
+  M = viewed right ws
 
   abbrev e : Effect
   e = effectOf ws k h
 
-  -- The memory after the tick, seen from the task's side and from the right.
-  abbrev m' : Memory
-  m' = written (effectOf ws k h .writes) (view (task ws k .side) (seen right ws))
+  -- The view after the tick, from the task's side and from the right.
+  abbrev m' : View
+  m' = written (task ws k .side) (effectOf ws k h .writes) (view (task ws k .side) (viewed right ws))
 
-  abbrev M' : Memory
+  abbrev M' : View
   M' = view s m'
 
   pub lane-from : (z : Side) → Lane z (opposite z) (view z M) (A .class) (rowFrom z (begun-agrees begun .0 .bags))
@@ -78,21 +77,8 @@ module _ {ws : List ℕ} (begun : Begun ws) (k h : ℕ) (passes : tickRefusal ws
   R : Roots (keeps ws) M (task ws)
   R = kept-roots (A .accepted)
 
-  holds : (z : Side) → Holds (keeps ws) (view z M)
-  holds left =
-      record {
-        out-closed = view-out-closed R left;
-        inn-closed = view-inn-closed R left;
-        hat-held = R .far-held;
-        far-held = R .hat-held;
-      }
-  holds right =
-      record {
-        out-closed = view-out-closed R right;
-        inn-closed = view-inn-closed R right;
-        hat-held = R .hat-held;
-        far-held = R .far-held;
-      }
+  closed-from : (z : Side) → ClosedSet (keeps ws) (view z M)
+  closed-from z = closed-view z (R .closed)
 
   busy-now : isBusy (task ws k .operation) ≡ true
   busy-now = tick-allowed ws k h passes .2
@@ -111,7 +97,7 @@ module _ {ws : List ℕ} (begun : Begun ws) (k h : ℕ) (passes : tickRefusal ws
       (λ (y : Memory).
       TickOk (keeps ws) k s (opposite s) (view s M) (A .class) (rowFrom s (begun-agrees begun .0 .bags)) t
       (act (t .step) s (opposite s) y t (goal (growth ws) t) (allocate ws h)))
-      (view-seen s ws)
+      (seen-viewed s ws)
       (tick-ok (keeps ws) k (lane-from s) t (goal (growth ws) t) (allocate ws h) free-f
       (not-idle (t .operation) busy-now) (t .step) (A .invariant .task-ok k))
 
@@ -127,8 +113,8 @@ module _ {ws : List ℕ} (begun : Begun ws) (k h : ℕ) (passes : tickRefusal ws
       (λ (y : Memory).
       Outcome T (keeps ws) (A .class) s (opposite s) (view s M) n
       (act (t .step) s (opposite s) y t (goal (growth ws) t) (allocate ws h)))
-      (view-seen s ws)
-      (line-outcome T k (lane-from s) (holds s) t (goal (growth ws) t) (allocate ws h) n free-f
+      (seen-viewed s ws)
+      (line-outcome T k (lane-from s) (closed-from s) t (goal (growth ws) t) (allocate ws h) n free-f
       (not-idle (t .operation) busy-now) (t .step) (A .invariant .task-ok k) b)
 
   guarantees : (z : Side) → GuaranteesIn (keeps ws) k z (opposite z) (view z M) (A .class) (view z M') class'
@@ -154,18 +140,18 @@ module _ {ws : List ℕ} (begun : Begun ws) (k h : ℕ) (passes : tickRefusal ws
     calm-others C T d b =
         let c = calm-view s z M m' C in
         let Z = lane-from z .structure in
-        steady-others T d d (omega arith) (calm-steady Z (holds z) c (guarantees z .near))
-        (inl (calm-no-cut Z (holds z) c (guarantees z .near))) b
+        steady-others T d d (omega arith) (calm-steady Z (closed-from z) c (guarantees z .near))
+        (inl (calm-no-cut Z (closed-from z) c (guarantees z .near))) b
 
     pub patient-others : Calm (keeps ws) (A .class) (view s M) m' → (n : ℕ)
         → CalmlyLeft (nodeCount ws) (growth ws) M t n
         → CalmlyLeft (nodeCount ws) (growth ws) M' t n
     patient-others C n b =
-        left-stays (lane-from z .structure) (holds z) (calm-view s z M m' C) (guarantees z .near) t 2 n
+        left-stays (lane-from z .structure) (closed-from z) (calm-view s z M m' C) (guarantees z .near) t 2 n
         (nodeCount ws) (goal (growth ws) t) j (omega arith) (t .step) (R .registers j) (A .invariant .task-ok j) b
 
   -- ---- The hats.
   pub calm-hats : Calm (keeps ws) (A .class) (view s M) m' → (z : Side) (n : ℕ) → HatDisturbs z (view z M) n
       → HatDisturbs z (view z M') n
   calm-hats C z n b =
-      hat-stays (calm-steady (lane-from z .structure) (holds z) (calm-view s z M m' C) (guarantees z .near)) b
+      hat-stays (calm-steady (lane-from z .structure) (closed-from z) (calm-view s z M m' C) (guarantees z .near)) b

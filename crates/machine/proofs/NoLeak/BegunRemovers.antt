@@ -10,14 +10,13 @@ use Rattle.machine.specs.Operations.{Operation, idle, push, pop, add, re
 use Rattle.machine.specs.Steps.{firstStep}
 use Rattle.machine.specs.Tasks.{Task, none, fresh}
 use Rattle.machine.specs.Table.{task}
-use Rattle.machine.specs.Lines.{Memory, seen}
 use Rattle.machine.specs.Calls.{begunTask}
 use Rattle.machine.specs.Begun.{Begun}
 use Rattle.machine.proofs.Basics.Contradiction.{clash}
 use Rattle.machine.proofs.Basics.Choices.{if-no}
 use Rattle.machine.proofs.Basics.Updates.{update, update-wrote, update-other, wrote-all}
-use Rattle.machine.proofs.Words.Memories.{view}
-use Rattle.machine.proofs.Words.StartLaws.{startMemory}
+use Rattle.machine.proofs.Words.Memories.{View, viewed, view}
+use Rattle.machine.proofs.Words.StartLaws.{startView}
 use Rattle.machine.proofs.Linearizability.Begun.Lasting.{Lasts, begun-has}
 use Rattle.machine.proofs.NoLeak.Removers.{
   Duty,
@@ -35,7 +34,7 @@ use Rattle.machine.proofs.NoLeak.Removers.{
 use Rattle.machine.proofs.NoLeak.RemoversTick.{removers-after-tick}
 
 -- ---- Start: no X and no Y has an outward link, and every task is fresh.
-no-links-no-removers : {M : Memory} {ts : ℕ → Task}
+no-links-no-removers : {M : View} {ts : ℕ → Task}
     → ((j : ℕ) → ts j ≡ fresh)
     → ((s : Side) (μ : Mark) (n : ℕ) → view s M .val n ≡ marked μ s → view s M .out n ≡ none)
     → LinksHaveRemovers M ts
@@ -48,8 +47,8 @@ no-links-no-removers {M} fresh-tasks no-link =
     }
 
 start-no-link : (s : Side) (μ : Mark) (n : ℕ)
-    → view s startMemory .val n ≡ marked μ s
-    → view s startMemory .out n ≡ none
+    → view s startView .val n ≡ marked μ s
+    → view s startView .out n ≡ none
 unfolding ℕ-discrete
 start-no-link left μ zero v = refl
 start-no-link left end (suc zero) v = clash (cc)
@@ -61,7 +60,7 @@ start-no-link right μ (suc zero) v = refl
 start-no-link right μ (suc (suc x)) v = if-no (suc (suc x) ≟ 0) 1 none (λ e. omega arith)
 
 -- ---- Begin: a record without a duty is put in the place of another.
-module _ {M : Memory} {ts : ℕ → Task} (H : LinksHaveRemovers M ts) (k : ℕ) (t : Task)
+module _ {M : View} {ts : ℕ → Task} (H : LinksHaveRemovers M ts) (k : ℕ) (t : Task)
     (before : duty (ts k .step) ≡ no-duty) (now : duty (t .step) ≡ no-duty) where
   same-cutter : (z : Side) (μ : Mark) (n l : ℕ) → CutBy ts z μ n l → CutBy (update ts k t) z μ n l
   same-cutter z μ n l c =
@@ -110,5 +109,5 @@ removers-last =
       at-tick = λ H I R k g f busy free-f. removers-after-tick I R H k g f busy free-f;
     }
 
-pub begun-removers : {ws : List ℕ} → Begun ws → LinksHaveRemovers (seen right ws) (task ws)
+pub begun-removers : {ws : List ℕ} → Begun ws → LinksHaveRemovers (viewed right ws) (task ws)
 begun-removers B = begun-has removers-last B

@@ -9,10 +9,12 @@ use native.Mathlib.Omega.{arith}
 use native.Mathlib.Decide.{ℕ-discrete}
 use lib.ListN.{length, length-append}
 use borrow.Author.Tests.{lt-ltb}
+use Rattle.machine.specs.Values.{number, stored}
 use Rattle.machine.specs.declared.Answer.{Answer}
 use Rattle.machine.specs.declared.Answer.the-variants.{Going, Pushed, Bag, Empty, Full, Yes, No, Refused}
 use Rattle.machine.specs.declared.Reply.{Reply}
 use Rattle.machine.specs.declared.Reply.the-variants.{Accepted}
+use Rattle.machine.specs.declared.Stored.{Stored}
 use Rattle.machine.specs.Sides.{Side, left, right, sideNumber, sideOf}
 use Rattle.machine.specs.Operations.{Operation, push, operationNumber, operationOf}
 use Rattle.machine.specs.Table.{nodeCount, taskCount, task}
@@ -60,13 +62,13 @@ most-bags ws bags B is-lane =
 -- ---- The lane on the way of a push.
 
 -- A begin leaves the lane.
-lane-begun : {ws : List ℕ} → Begun ws → (k op side argument : ℕ) → begin ws k op side argument .reply ≡ Accepted
+lane-begun : {ws : List ℕ} → Begun ws → (k op side : ℕ) (argument : Stored) → begin ws k op side argument .reply ≡ Accepted
     → lane (begin ws k op side argument .words) ≡ lane ws
 lane-begun {ws} B k op side argument accepted =
     let A = begun-agrees B .1 in
     let ρ = begun-agrees B .0 in
     let E = begin-explained A k op side argument in
-    let n : Note = record { operation = operationOf op; side = sideOf side; argument = argument } in
+    let n : Note = record { operation = operationOf op; side = sideOf side; argument = number argument } in
     let fed = subst (λ (r : Reply). feedBegin ρ k n r ≡ some (E .row)) accepted (E .given-by-row) in
     lane-is-row (E .agrees) ∙ ap (λ (x : Row). some (x .bags)) (sym (same-some fed)) ∙ sym (lane-is-row A)
 
@@ -178,7 +180,7 @@ to-answer (answers-later {h} going more) = let r = to-answer more in (r .0, r .1
 
 -- Task 0 begins a push of bag 1 where it is idle.
 begins-push : {ws : List ℕ} → Begun ws → Idle ws → (s : Side)
-    → begin ws 0 (operationNumber push) (sideNumber s) 1 .reply ≡ Accepted
+    → begin ws 0 (operationNumber push) (sideNumber s) (stored 1) .reply ≡ Accepted
 unfolding begin ℕ-discrete
 begins-push {ws} B idle-now left =
     let A = begun-agrees B .1 in
@@ -203,10 +205,10 @@ data OnePush (s : Side) (ws bags : List ℕ) : Type 0 where
 
 module _ {ws : List ℕ} (B : Begun ws) (idle-now : Idle ws) (s : Side) where
   abbrev begun-words : List ℕ
-  begun-words = begin ws 0 (operationNumber push) (sideNumber s) 1 .words
+  begun-words = begin ws 0 (operationNumber push) (sideNumber s) (stored 1) .words
 
   B′ : Begun begun-words
-  B′ = by-call B (begin-call 0 (operationNumber push) (sideNumber s) 1)
+  B′ = by-call B (begin-call 0 (operationNumber push) (sideNumber s) (stored 1))
 
   on-its-way : OnItsWay B s 0 begun-words
   on-its-way = begun-on-its-way B s 0 idle-now 1 (begins-push B idle-now s)
@@ -232,7 +234,7 @@ module _ {ws : List ℕ} (B : Begun ws) (idle-now : Idle ws) (s : Side) where
   one-push bags is-lane =
       elim
       (gives B s 0 on-its-way
-      (lane-begun B 0 (operationNumber push) (sideNumber s) 1 (begins-push B idle-now s) ∙ is-lane) (answer .2)) [
+      (lane-begun B 0 (operationNumber push) (sideNumber s) (stored 1) (begins-push B idle-now s) ∙ is-lane) (answer .2)) [
         | inl p ↦ pushes-one (push-of (p .0)) (p .1 .1) (p .1 .2)
         | inr q ↦ is-full-now (push-of q)
       ]

@@ -11,7 +11,6 @@ use Rattle.machine.specs.Values.{bag, N, X, Y}
 use Rattle.machine.specs.Tasks.{Task, fresh, none, Register, register, inA, inB, inC, inD}
 use Rattle.machine.specs.Table.{hat, link, value, task}
 use Rattle.machine.specs.Reach.{Reachable, from-hat, from-register, along}
-use Rattle.machine.specs.Lines.{seen}
 use Rattle.machine.specs.Begun.{Begun}
 use Rattle.machine.specs.NoLeak.{
   Idle,
@@ -26,15 +25,16 @@ use Rattle.machine.specs.NoLeak.{
   IdleTable,
 }
 use Rattle.machine.proofs.Basics.Contradiction.{less?}
+use Rattle.machine.proofs.Words.Memories.{viewed}
 use Rattle.machine.proofs.Shape.ShapeLaws.{well-shaped}
 use Rattle.machine.proofs.Shape.TickKeeps.{idle-fresh}
-use Rattle.machine.proofs.SlotRule.Reached.{keeps-hat, keeps-link, keeps-reachable}
-use Rattle.machine.proofs.Linearizability.Model.Structure.{Structure}
+use Rattle.machine.proofs.SlotRule.Reached.{keeps-reachable}
+use Rattle.machine.proofs.Linearizability.Model.Structure.{Frame, Structure}
 use Rattle.machine.proofs.Linearizability.Model.Segments.{segment, segment-length}
 use Rattle.machine.proofs.Linearizability.Model.Held.{main-held}
 use Rattle.machine.proofs.Linearizability.Model.Invariant.{Lane}
 use Rattle.machine.proofs.Linearizability.Calls.Agreement.{Agrees, lane-is-row}
-use Rattle.machine.proofs.Linearizability.Calls.MadeTicks.{well-linked}
+use Rattle.machine.proofs.Linearizability.Calls.MadeTicks.{well-linked, kept-roots}
 use Rattle.machine.proofs.Linearizability.Corollaries.{begun-agrees}
 use Rattle.machine.proofs.NoLeak.Removers.{duty, Mark, end, cut, marked, Cuts, CutBy}
 use Rattle.machine.proofs.NoLeak.BegunRemovers.{begun-removers}
@@ -53,8 +53,10 @@ module _ {ws : List ℕ} (B : Begun ws) (idle-now : Idle ws) where
   abbrev row : List ℕ
   row = begun-agrees B .0 .bags
 
-  L : Lane right left (seen right ws) (A .class) (begun-agrees B .0 .bags)
+  L : Lane right left (viewed right ws) (A .class) (begun-agrees B .0 .bags)
   L = A .invariant .lane
+
+  open Frame (L .frame) using (at, n, a, b, bags)
 
   tasks-fresh : (k : ℕ) → task ws k ≡ fresh
   tasks-fresh k = idle-fresh ws (well-shaped ws (A .accepted .shape-passes)) k (idle-now k)
@@ -71,39 +73,38 @@ module _ {ws : List ℕ} (B : Begun ws) (idle-now : Idle ws) where
       cutter right v ne = begun-removers B .has-removers right .remover μ n v ne
 
   -- ---- The places, by the indices of the structure: a the left hat's, b the right hat's, n the last.
-  S : Structure right left (link ws right) (link ws left) (value ws) (hat ws right) (hat ws left) (A .class)
-      (L .at) (L .index) (L .n) (L .a) (L .b) (L .bags)
+  S : Structure right left (viewed right ws) (A .class) (L .frame)
   S = L .structure
 
   abbrev place : ℕ → ℕ
-  place = L .at
+  place = at
 
   abbrev leftSpare : ℕ
-  leftSpare = suc (L .a)
+  leftSpare = suc a
 
   abbrev rightSpare : ℕ
-  rightSpare = suc (L .n - L .b)
+  rightSpare = suc (n - b)
 
-  a<b : L .a < L .b
+  a<b : a < b
   a<b = S .a<b
 
-  b≤n : L .b ≤ L .n
+  b≤n : b ≤ n
   b≤n = S .b≤n
 
-  row-length : length row ≡ L .b - suc (L .a)
-  row-length = ap length (sym (L .row-is)) ∙ segment-length (L .bags) (suc (L .a)) (L .b - suc (L .a))
+  row-length : length row ≡ b - suc a
+  row-length = ap length (sym (L .row-is)) ∙ segment-length bags (suc a) (b - suc a)
 
-  bags-end : leftSpare + length row ≡ L .b
+  bags-end : leftSpare + length row ≡ b
   bags-end = omega (arith, row-length, a<b)
 
-  size-is : listSize leftSpare row rightSpare ≡ suc (L .n)
+  size-is : listSize leftSpare row rightSpare ≡ suc n
   size-is = omega (arith, bags-end, b≤n)
 
   bag-there : (i : ℕ) → i < length row → value ws (place (leftSpare + i)) ≡ bag (getD row i 0)
   bag-there i h =
       let v = S .values .bag-between (leftSpare + i) (omega arith) (omega (arith, bags-end)) in
-      let at-i = segment-at (L .bags) (suc (L .a)) (L .b - suc (L .a)) i (omega (arith, row-length)) in
-      let same : getD row i 0 ≡ L .bags (leftSpare + i) =
+      let at-i = segment-at bags (suc a) (b - suc a) i (omega (arith, row-length)) in
+      let same : getD row i 0 ≡ bags (leftSpare + i) =
       ap (λ (l : List ℕ). getD l i 0) (sym (L .row-is)) ∙ at-i in
       v ∙ ap bag (sym same)
 
@@ -113,16 +114,16 @@ module _ {ws : List ℕ} (B : Begun ws) (idle-now : Idle ws) where
 
   X-there : (i : ℕ) → suc i ≡ rightSpare → value ws (place (leftSpare + length row + i)) ≡ X right
   X-there i h =
-      let e : leftSpare + length row + i ≡ L .n = omega (arith, bags-end, b≤n) in
+      let e : leftSpare + length row + i ≡ n = omega (arith, bags-end, b≤n) in
       ap (λ (j : ℕ). value ws (place j)) e ∙ S .values .X-last
 
   first-nowhere : link ws left (place 0) ≡ none
   first-nowhere = leads-nowhere left end (place 0) (S .values .X-first)
 
-  last-nowhere : link ws right (place (L .n)) ≡ none
-  last-nowhere = leads-nowhere right end (place (L .n)) (S .values .X-last)
+  last-nowhere : link ws right (place n) ≡ none
+  last-nowhere = leads-nowhere right end (place n) (S .values .X-last)
 
-  apart : (i j : ℕ) → i ≤ L .n → j ≤ L .n → place i ≡ place j → i ≡ j
+  apart : (i j : ℕ) → i ≤ n → j ≤ n → place i ≡ place j → i ≡ j
   apart i j hi hj e = cc (S .main-list .index-at i hi, S .main-list .index-at j hj)
 
   idle-main-list : MainList ws place leftSpare row rightSpare
@@ -140,7 +141,7 @@ module _ {ws : List ℕ} (B : Begun ws) (idle-now : Idle ws) where
         left-end = first-nowhere;
         right-end =
             λ i h.
-            let e : i ≡ L .n = omega (arith, size-is) in
+            let e : i ≡ n = omega (arith, size-is) in
             ap (λ (j : ℕ). link ws right (place j)) e ∙ last-nowhere;
         different = λ i j hi hj e. apart i j (omega (arith, size-is)) (omega (arith, size-is)) e;
       }
@@ -148,7 +149,7 @@ module _ {ws : List ℕ} (B : Begun ws) (idle-now : Idle ws) where
   -- ---- The hats.
   idle-left-hat : HatPlace ws left (place (leftSpare - 1)) (place leftSpare)
   idle-left-hat =
-      let e : suc (L .a) - 1 ≡ L .a = omega arith in
+      let e : suc a - 1 ≡ a = omega arith in
       subst (λ (i : ℕ). HatPlace ws left (place i) (place leftSpare)) (sym e)
       (elim (S .far-hat) [
         | inl h ↦ in-list h
@@ -158,17 +159,17 @@ module _ {ws : List ℕ} (B : Begun ws) (idle-now : Idle ws) where
   idle-right-hat : HatPlace ws right (place (leftSpare + length row)) (place (leftSpare + length row - 1))
   idle-right-hat =
       subst (λ (i : ℕ). HatPlace ws right (place i) (place (i - 1))) (sym bags-end)
-      (elim (S .near-hat (L .b - 1) (omega (arith, a<b))) [
+      (elim (S .near-hat (b - 1) (omega (arith, a<b))) [
         | inl h ↦ in-list h
         | inr c ↦ beside (c .is-Y) (leads-nowhere right cut (hat ws right) (c .is-Y)) (c .leads-back)
       ])
 
   -- ---- What is reachable: in the list, or under a hat and leading into the list only.
   data Spot (x : ℕ) : Type 0 where
-    in-main : (i : ℕ) → i ≤ L .n → place i ≡ x → Spot x
+    in-main : (i : ℕ) → i ≤ n → place i ≡ x → Spot x
     hung :
         (z : Side) (i : ℕ)
-        → i ≤ L .n
+        → i ≤ n
         → hat ws z ≡ x
         → value ws x ≡ Y z
         → link ws z x ≡ none
@@ -178,33 +179,33 @@ module _ {ws : List ℕ} (B : Begun ws) (idle-now : Idle ws) where
   hat-spot : (z : Side) → Spot (hat ws z)
   hat-spot left =
       elim (S .far-hat) [
-        | inl h ↦ in-main (L .a) (omega (arith, a<b, b≤n)) (sym h)
+        | inl h ↦ in-main a (omega (arith, a<b, b≤n)) (sym h)
         | inr c ↦
             hung left leftSpare (omega (arith, a<b, b≤n)) refl (c .is-Y)
             (leads-nowhere left cut (hat ws left) (c .is-Y)) (c .leads-back)
       ]
   hat-spot right =
-      elim (S .near-hat (L .b - 1) (omega (arith, a<b))) [
-        | inl h ↦ in-main (L .b) b≤n (sym h)
+      elim (S .near-hat (b - 1) (omega (arith, a<b))) [
+        | inl h ↦ in-main b b≤n (sym h)
         | inr c ↦
-            hung right (L .b - 1) (omega (arith, b≤n)) refl (c .is-Y)
+            hung right (b - 1) (omega (arith, b≤n)) refl (c .is-Y)
             (leads-nowhere right cut (hat ws right) (c .is-Y)) (c .leads-back)
       ]
 
-  from-main : (z : Side) (i x : ℕ) → i ≤ L .n → place i ≡ x → link ws z x ≢ none → Spot (link ws z x)
+  from-main : (z : Side) (i x : ℕ) → i ≤ n → place i ≡ x → link ws z x ≢ none → Spot (link ws z x)
   from-main left zero x h e ne = absurd (ne (ap (link ws left) (sym e) ∙ first-nowhere))
   from-main left (suc i) x h e ne =
       in-main i (omega arith) (sym (S .links .links-in i h) ∙ ap (link ws left) e)
   from-main right i x h e ne =
-      elim (less? i (L .n)) [
+      elim (less? i n) [
         | inl l ↦ in-main (suc i) l (sym (S .links .links-out i l) ∙ ap (link ws right) e)
         | inr l ↦
-            let q : i ≡ L .n = omega arith in
+            let q : i ≡ n = omega arith in
             absurd (ne (ap (link ws right) (sym e) ∙ ap (λ (j : ℕ). link ws right (place j)) q ∙ last-nowhere))
       ]
 
   from-hung : (s z : Side) (i x : ℕ)
-      → i ≤ L .n
+      → i ≤ n
       → link ws z x ≡ none
       → link ws (opposite z) x ≡ place i
       → link ws s x ≢ none
@@ -244,7 +245,7 @@ module _ {ws : List ℕ} (B : Begun ws) (idle-now : Idle ws) where
   idle-reached i h =
       let W = well-linked (A .accepted) in
       let is-main = S .main-list .is-main i (omega (arith, size-is)) in
-      keeps-reachable W (main-held S (keeps-link W right) (keeps-link W left) (keeps-hat W right) (place i) is-main)
+      keeps-reachable W (main-held S (kept-roots (A .accepted) .closed) (place i) is-main)
 
   pub idle-table : IdleTable ws
   idle-table =

@@ -6,17 +6,17 @@ use Prim.Native.Nat.{ℕ}
 use Rattle.machine.specs.Sides.{Side}
 use Rattle.machine.specs.Values.{Value, bag, N, Y}
 use Rattle.machine.specs.Tasks.{Task, none}
-use Rattle.machine.specs.Lines.{Memory, Effect}
+use Rattle.machine.specs.Lines.{Effect}
 use Rattle.machine.proofs.Basics.Contradiction.{refute}
 use Rattle.machine.proofs.Basics.Updates.{Wrote, it-is, it-is-not, wrote?}
-use Rattle.machine.proofs.Words.Memories.{swapped, written}
+use Rattle.machine.proofs.Words.Memories.{View, written, swapped}
 use Rattle.machine.proofs.Linearizability.Model.Sides.{Opposite}
 use Rattle.machine.proofs.Linearizability.Model.Classes.{Class, Old, of, owner}
 use Rattle.machine.proofs.NoLeak.Removers.{Duty, no-duty, duty, Mark, end, cut, marked, Cuts, Sure}
 
 -- The task that ticks, whose duty goes from d to d', is about to cut the link of n; or n had mark and link before, and
 -- if the task was about to cut it, it still is.
-pub data StillCut (z : Side) (m m' : Memory) (d d' : Duty) (t t' : Task) (μ : Mark) (n : ℕ) : Type 0 where
+pub data StillCut (z : Side) (m m' : View) (d d' : Duty) (t t' : Task) (μ : Mark) (n : ℕ) : Type 0 where
   newly : Cuts d' μ t' n (m' .out n) → StillCut z m m' d d' t t' μ n
   as-before :
       m .val n ≡ marked μ z
@@ -25,23 +25,23 @@ pub data StillCut (z : Side) (m m' : Memory) (d d' : Duty) (t t' : Task) (μ : M
       → StillCut z m m' d d' t t' μ n
 
 -- A link is as it was, or one of the nodes that it joined is Y.
-pub data LinkStays (z : Side) (m m' : Memory) (x : ℕ) : Type 0 where
+pub data LinkStays (z : Side) (m m' : View) (x : ℕ) : Type 0 where
   same-link : m' .out x ≡ m .out x → LinkStays z m m' x
   from-Y : m' .val x ≡ Y z → LinkStays z m m' x
   to-Y : m' .val (m .out x) ≡ Y z → LinkStays z m m' x
 
-pub record KeepsRemovers (held : ℕ → Bool) (class : ℕ → Class) (z : Side) (m m' : Memory)
+pub record KeepsRemovers (held : ℕ → Bool) (class : ℕ → Class) (z : Side) (m m' : View)
     (d d' : Duty) (t t' : Task) : Type 0 where
   pub still-cut : (μ : Mark) (n : ℕ) → m' .val n ≡ marked μ z → m' .out n ≢ none → StillCut z m m' d d' t t' μ n
   pub link-stays : (x : ℕ) → held x ≡ true → Old class x → m .out x ≢ none → LinkStays z m m' x
 
 -- A tick of a task on side s with effect e: on its own side, where its duty counts, on the other side, and what its new
 -- step says of A and B.
-pub record RemoversAfter (held : ℕ → Bool) (class : ℕ → Class) (s o : Side) (m : Memory) (d : Duty) (t : Task)
+pub record RemoversAfter (held : ℕ → Bool) (class : ℕ → Class) (s o : Side) (m : View) (d : Duty) (t : Task)
     (e : Effect) : Type 0 where
-  pub near : KeepsRemovers held class s m (written (e .writes) m) d (duty (e .task .step)) t (e .task)
-  pub far : KeepsRemovers held class o (swapped m) (swapped (written (e .writes) m)) no-duty no-duty t (e .task)
-  pub sure : Sure (duty (e .task .step)) s (written (e .writes) m) (e .task)
+  pub near : KeepsRemovers held class s m (written s (e .writes) m) d (duty (e .task .step)) t (e .task)
+  pub far : KeepsRemovers held class o (swapped m) (swapped (written s (e .writes) m)) no-duty no-duty t (e .task)
+  pub sure : Sure (duty (e .task .step)) s (written s (e .writes) m) (e .task)
 
 -- ---- Values that are no mark X or Y of a side.
 pub record Plain (z : Side) (v : Value) : Type 0 where
@@ -83,7 +83,7 @@ unmarked w p μ n h =
     ]
 
 -- ---- Ticks of a task that cuts nothing before, seen from a side on which they write no link.
-module _ {held : ℕ → Bool} {class : ℕ → Class} {z : Side} {m m' : Memory} {d : Duty} {t t' : Task}
+module _ {held : ℕ → Bool} {class : ℕ → Class} {z : Side} {m m' : View} {d : Duty} {t t' : Task}
     (same-out : (n : ℕ) → m' .out n ≡ m .out n) where
   pub same-words : ((n : ℕ) → m' .val n ≡ m .val n) → KeepsRemovers held class z m m' no-duty d t t'
   same-words same-val =

@@ -14,9 +14,10 @@ use Rattle.machine.specs.Operations.{Operation, idle, push, pop, add, re
 use Rattle.machine.specs.Steps.{Step}
 use Rattle.machine.specs.Steps as Steps
 use Rattle.machine.specs.Tasks.{Task, none}
-use Rattle.machine.specs.Lines.{Memory, Effect, refused, through, backOf, afterRead}
+use Rattle.machine.specs.Lines.{Effect, refused, through, backOf, afterRead}
 use Rattle.machine.proofs.Basics.Contradiction.{less?}
 use Rattle.machine.proofs.Basics.Choices.{by-if}
+use Rattle.machine.proofs.Words.Memories.{View}
 use Rattle.machine.proofs.Linearizability.Model.Classes.{Class, of, owner}
 use Rattle.machine.proofs.Linearizability.Model.Chain.{HasChainIn}
 use Rattle.machine.proofs.Linearizability.Lines.Connectives.{ok-through}
@@ -24,7 +25,7 @@ use Rattle.machine.proofs.NoLeak.Removers.{Duty, no-duty, duty, Mark, C
 use Rattle.machine.proofs.NoLeak.KeepsRemovers.{as-before, same-link, RemoversAfter, same-words}
 
 -- The first node of a chain of side s has a mark of s.
-pub chain-owner : {k : ℕ} {s : Side} (m : Memory) {class : ℕ → Class} {d : ℕ}
+pub chain-owner : {k : ℕ} {s : Side} (m : View) {class : ℕ → Class} {d : ℕ}
     → HasChainIn k s m class d
     → owner (m .val d) ≡ of s
 chain-owner m H =
@@ -50,7 +51,7 @@ read-off o (N z) = by-if (λ (st : Step). duty st ≡ no-duty) (N z ≟ᵛ N o) 
 read-off o (X z) = by-if (λ (st : Step). duty st ≡ no-duty) (X z ≟ᵛ X o) (λ _. refl) (λ _. refl)
 read-off o (Y z) = refl
 
-module _ {held : ℕ → Bool} {class : ℕ → Class} {s o : Side} {m : Memory} {t : Task} where
+module _ {held : ℕ → Bool} {class : ℕ → Class} {s o : Side} {m : View} {t : Task} where
   -- A tick that is refused leaves the task with its duty.
   pub stays : {st : Step} → t .step ≡ st → Sure (duty st) s m t → RemoversAfter held class s o m (duty st) t (refused t)
   stays {st} e u =

@@ -8,7 +8,8 @@ use Rattle.machine.specs.Values.{X, Y}
 use Rattle.machine.specs.Steps.{Step, rest}
 use Rattle.machine.specs.Steps as Steps
 use Rattle.machine.specs.Tasks.{Task, none}
-use Rattle.machine.specs.Lines.{Memory, Effect, act}
+use Rattle.machine.specs.Lines.{Effect, act}
+use Rattle.machine.proofs.Words.Memories.{View, seenIn}
 use Rattle.machine.proofs.Linearizability.Model.Sides.{Opposite}
 use Rattle.machine.proofs.Linearizability.Model.Classes.{Class}
 use Rattle.machine.proofs.Linearizability.Model.Phases.{TaskOk}
@@ -58,7 +59,7 @@ use Rattle.machine.proofs.NoLeak.RemoveLines.{
 }
 
 -- x-cut: where an X leads, there is a Y.
-module _ (held : ℕ → Bool) (k : ℕ) (s o : Side) (w : Opposite s o) (m : Memory) (class : ℕ → Class)
+module _ (held : ℕ → Bool) (k : ℕ) (s o : Side) (w : Opposite s o) (m : View) (class : ℕ → Class)
     (x-cut : (n : ℕ) → m .val n ≡ X s → m .out n ≢ none → m .val (m .out n) ≡ Y s)
     (t : Task) (g f : ℕ) where
   abbrev Ok : Duty → Effect → Type 0
@@ -66,7 +67,7 @@ module _ (held : ℕ → Bool) (k : ℕ) (s o : Side) (w : Opposite s o) (m : Me
 
   abbrev LineOk : Step → Type 0
   LineOk st =
-      t .step ≡ st → TaskOk k s o m class st t → Sure (duty st) s m t → Ok (duty st) (act st s o m t g f)
+      t .step ≡ st → TaskOk k s o m class st t → Sure (duty st) s m t → Ok (duty st) (act st s o (seenIn s m) t g f)
 
   pub removers-after : (f ≢ none → TakeOk held m class f) → (st : Step) → LineOk st
   unfolding act

@@ -12,24 +12,11 @@ use Rattle.machine.specs.Operations.{Operation, idle, push, pop, add, re
 use Rattle.machine.specs.Steps.{Step, rest}
 use Rattle.machine.specs.Steps as Steps
 use Rattle.machine.specs.Tasks.{Task, none, withB, withC}
-use Rattle.machine.specs.Lines.{
-  Memory,
-  Write,
-  out≔,
-  val≔,
-  Effect,
-  next,
-  writing,
-  refused,
-  backOf,
-  back,
-  spliced,
-  act,
-}
+use Rattle.machine.specs.Lines.{Write, out≔, val≔, Effect, next, writing, refused, backOf, back, spliced, act}
 use Rattle.machine.proofs.Basics.Contradiction.{clash, refute}
 use Rattle.machine.proofs.Basics.Updates.{update-other}
-use Rattle.machine.proofs.Words.Memories.{written}
-use Rattle.machine.proofs.Linearizability.Model.Sides.{Opposite}
+use Rattle.machine.proofs.Words.Memories.{View, seenIn, written}
+use Rattle.machine.proofs.Linearizability.Model.Sides.{Opposite, updateSide-other}
 use Rattle.machine.proofs.Linearizability.Model.Classes.{Class}
 use Rattle.machine.proofs.Linearizability.Model.Phases.{TaskOk}
 use Rattle.machine.proofs.Linearizability.Lines.Connectives.{ok-if, ok-through, ok-dcas}
@@ -75,23 +62,23 @@ abbrev pub Early : Step → Type 0
 Early st = isEarly st ≡ true
 
 -- Links and values are as they were.
-pub record SameNodes (m m' : Memory) : Type 0 where
+pub record SameNodes (m m' : View) : Type 0 where
   pub same-out : m' .out ≡ m .out
   pub same-inn : m' .inn ≡ m .inn
   pub same-val : m' .val ≡ m .val
 
 -- The push has taken no node yet.
-pub record StillEarly (m : Memory) (e : Effect) : Type 0 where
+pub record StillEarly (s : Side) (m : View) (e : Effect) : Type 0 where
   pub early : Early (e .task .step)
   pub no-chain : e .task .D ≡ none
-  pub same : SameNodes m (written (e .writes) m)
+  pub same : SameNodes m (written s (e .writes) m)
 
--- A tick with effect e of a push at the step st, on the side whose opposite is o; f is the node found.
-pub record PushTick (o : Side) (m : Memory) (t : Task) (f : ℕ) (st : Step) (e : Effect) : Type 0 where
-  pub far-same : written (e .writes) m .far ≡ m .far
-  pub far-end : m .val (m .far) ≡ X o → written (e .writes) m .val (m .far) ≡ X o
+-- A tick with effect e of a push at the step st, on side s, whose opposite is o; f is the node found.
+pub record PushTick (s o : Side) (m : View) (t : Task) (f : ℕ) (st : Step) (e : Effect) : Type 0 where
+  pub far-same : written s (e .writes) m .hats o ≡ m .hats o
+  pub far-end : m .val (m .hats o) ≡ X o → written s (e .writes) m .val (m .hats o) ≡ X o
   pub full-at : e .answer ≡ Full → (st ≡ Steps.line28) × (e .writes ≡ []) × (f ≡ none)
-  pub early-on : Early st → t .D ≡ none → e .answer ≡ Going → (st ≡ Steps.line28) ⊎ StillEarly m e
+  pub early-on : Early st → t .D ≡ none → e .answer ≡ Going → (st ≡ Steps.line28) ⊎ StillEarly s m e
 
 back-early : (op : Operation) → op ≡ push → {x : ℕ} (d : Dec (x ≡ none)) → x ≡ none → Early (backOf op d)
 back-early push p (yes h) e = refl
@@ -101,13 +88,13 @@ back-early pop p d e = clash (cc)
 back-early add p d e = clash (cc)
 back-early remove p d e = clash (cc)
 
-module _ (k : ℕ) (s o : Side) (w : Opposite s o) (m : Memory) (class : ℕ → Class) (t : Task)
-    (is-push : t .operation ≡ push) (g f : ℕ) (far-apart : f ≢ none → m .far ≢ f) where
+module _ (k : ℕ) (s o : Side) (w : Opposite s o) (m : View) (class : ℕ → Class) (t : Task)
+    (is-push : t .operation ≡ push) (g f : ℕ) (far-apart : f ≢ none → m .hats o ≢ f) where
   abbrev Ok : Step → Effect → Type 0
-  Ok st e = PushTick o m t f st e
+  Ok st e = PushTick s o m t f st e
 
   abbrev LineOk : Step → Type 0
-  LineOk st = Ok st (act st s o m t g f)
+  LineOk st = Ok st (act st s o (seenIn s m) t g f)
 
   -- ---- How a line ends.
   turned-back : {st : Step} → Ok st (refused t)
@@ -132,8 +119,8 @@ module _ (k : ℕ) (s o : Side) (w : Opposite s o) (m : Memory) (class : ℕ →
       }
 
   -- After it: the value of no node is written.
-  later : {st : Step} {l : List Write} {t' : Task} → (Early st → ⊥) → written l m .far ≡ m .far
-      → written l m .val ≡ m .val
+  later : {st : Step} {l : List Write} {t' : Task} → (Early st → ⊥) → written s l m .hats o ≡ m .hats o
+      → written s l m .val ≡ m .val
       → Ok st (record { writes = l; task = t'; answer = Going })
   later {l = l} not-early same-far same-val =
       record {
@@ -159,12 +146,12 @@ module _ (k : ℕ) (s o : Side) (w : Opposite s o) (m : Memory) (class : ℕ →
   line5-push =
       ok-through (Ok Steps.line5) (t .A) (λ _. turned-back) (λ _.
       ok-through (Ok Steps.line5) (t .B) (λ _. turned-back) (λ _.
-      ok-dcas (Ok Steps.line5) (m .hat ≟ t .A) (m .val (t .A) ≟ᵛ N s)
+      ok-dcas (Ok Steps.line5) (m .hats s ≟ t .A) (m .val (t .A) ≟ᵛ N s)
       (λ _ v.
       record {
-        far-same = refl;
+        far-same = updateSide-other (m .hats) s o (t .B) w;
         far-end =
-            λ x. update-other (m .val) (t .A) (bag (t .argument)) (m .far) (λ e. refute (cc)) ∙ x;
+            λ x. update-other (m .val) (t .A) (bag (t .argument)) (m .hats o) (λ e. refute (cc)) ∙ x;
         full-at = λ q. clash (cc);
         early-on = λ _ _ q. clash (cc);
       })
@@ -195,10 +182,10 @@ module _ (k : ℕ) (s o : Side) (w : Opposite s o) (m : Memory) (class : ℕ →
   unfolding act
   line72-push =
       ok-through (Ok Steps.line72) (t .C) (λ _. turned-back) (λ _.
-      ok-if (Ok Steps.line72) (λ l. writing l (next t (back t))) (m .hat ≟ t .A)
+      ok-if (Ok Steps.line72) (λ l. writing l (next t (back t))) (m .hats s ≟ t .A)
       (λ _.
       record {
-        far-same = refl;
+        far-same = updateSide-other (m .hats) s o (t .C) w;
         far-end = λ v. v;
         full-at = λ q. clash (cc);
         early-on =
@@ -226,7 +213,7 @@ module _ (k : ℕ) (s o : Side) (w : Opposite s o) (m : Memory) (class : ℕ →
       (λ some.
       record {
         far-same = refl;
-        far-end = λ v. update-other (m .val) f (X s) (m .far) (far-apart some) ∙ v;
+        far-end = λ v. update-other (m .val) f (X s) (m .hats o) (far-apart some) ∙ v;
         full-at = λ q. clash (cc);
         early-on = λ _ _ _. inl refl;
       })
@@ -240,7 +227,7 @@ module _ (k : ℕ) (s o : Side) (w : Opposite s o) (m : Memory) (class : ℕ →
       (λ some.
       record {
         far-same = refl;
-        far-end = λ v. update-other (m .val) f (N s) (m .far) (far-apart some) ∙ v;
+        far-end = λ v. update-other (m .val) f (N s) (m .hats o) (far-apart some) ∙ v;
         full-at = λ q. clash (cc);
         early-on = λ y _ _. clash (cc);
       }))
@@ -252,9 +239,9 @@ module _ (k : ℕ) (s o : Side) (w : Opposite s o) (m : Memory) (class : ℕ →
       ok-dcas (Ok Steps.line25) (m .out (t .A) ≟ t .B) (m .val (t .A) ≟ᵛ X s)
       (λ _ v. by-operation (t .operation) v) (later (λ y. refute (cc)) refl refl))
     where
-      far-kept : m .val (t .A) ≡ X s → m .val (m .far) ≡ X o
-          → written (out≔ (t .A) (t .D) ∷ val≔ (t .A) (N s) ∷ []) m .val (m .far) ≡ X o
-      far-kept v x = update-other (m .val) (t .A) (N s) (m .far) (λ e. refute (cc)) ∙ x
+      far-kept : m .val (t .A) ≡ X s → m .val (m .hats o) ≡ X o
+          → written s (out≔ (t .A) (t .D) ∷ val≔ (t .A) (N s) ∷ []) m .val (m .hats o) ≡ X o
+      far-kept v x = update-other (m .val) (t .A) (N s) (m .hats o) (λ e. refute (cc)) ∙ x
 
       by-operation : (op : Operation) → m .val (t .A) ≡ X s
           → Ok Steps.line25 (spliced op (out≔ (t .A) (t .D) ∷ val≔ (t .A) (N s) ∷ []) t)

@@ -9,7 +9,7 @@ use native.Mathlib.Decide.{ℕ-discrete}
 use Rattle.machine.specs.declared.Answer.the-variants.{Going}
 use Rattle.machine.specs.declared.Reply.the-variants.{Accepted}
 use Rattle.machine.specs.Sides.{Side, left, right, opposite, sideNumber, sideOf}
-use Rattle.machine.specs.Values.{X}
+use Rattle.machine.specs.Values.{X, stored}
 use Rattle.machine.specs.Operations.{Operation, push, operationNumber, operationOf}
 use Rattle.machine.specs.Steps.{Step}
 use Rattle.machine.specs.Steps as Steps
@@ -17,15 +17,14 @@ use Rattle.machine.specs.Tasks.{Task, none, fresh, goal}
 use Rattle.machine.specs.Table.{nodeCount, growth, hat, value, task}
 use Rattle.machine.specs.Allocate.{allocate}
 use Rattle.machine.specs.Reach.{from-hat}
-use Rattle.machine.specs.Lines.{Memory, seen, Effect}
+use Rattle.machine.specs.Lines.{Effect}
 use Rattle.machine.specs.Calls.{tickRefusal, begunTask, begin, effectOf, tickOn}
 use Rattle.machine.specs.Row.{Note}
 use Rattle.machine.specs.Demand3.{begin-call}
 use Rattle.machine.specs.Begun.{Begun, by-call}
 use Rattle.machine.specs.NoLeak.{Idle}
 use Rattle.machine.proofs.Basics.Updates.{update-same, update-other}
-use Rattle.machine.proofs.Words.EffectLaws.{view-seen}
-use Rattle.machine.proofs.Words.Memories.{view, written}
+use Rattle.machine.proofs.Words.Memories.{View, viewed, written, view, view-viewed}
 use Rattle.machine.proofs.Shape.ShapeLaws.{well-shaped}
 use Rattle.machine.proofs.Shape.TickKeeps.{idle-fresh, tick-allowed}
 use Rattle.machine.proofs.Linearizability.Model.Sides.{sides}
@@ -34,7 +33,7 @@ use Rattle.machine.proofs.Linearizability.Model.Invariant.{noteOf, Kept
 use Rattle.machine.proofs.Linearizability.Calls.Agreement.{Agrees}
 use Rattle.machine.proofs.Linearizability.Calls.MadeTicks.{keeps-invariant}
 use Rattle.machine.proofs.Linearizability.Corollaries.{begun-agrees, begun-ticked, held-node-never-taken}
-use Rattle.machine.proofs.Linearizability.Begun.TableAfter.{own-seen, own-after, other-after, nodes-after}
+use Rattle.machine.proofs.Linearizability.Begun.TableAfter.{own-viewed, own-after, other-after, nodes-after}
 use Rattle.machine.proofs.Linearizability.Begun.TableBegun.{BegunTable, accepted-begin}
 use Rattle.machine.proofs.SoloBound.Budget.{SoonOrLate, soon, late, in-any-case, Left, start-anywhere}
 use Rattle.machine.proofs.SoloBound.SoloTick.{LeftWith, LeftIn, continues}
@@ -60,14 +59,14 @@ module _ {ws : List ℕ} (B : Begun ws) (k h : ℕ) (passes : tickRefusal ws k h
   z = task ws k .side
 
   pub push-facts :
-      PushTick (opposite (task ws k .side)) (seen (task ws k .side) ws) (task ws k) (allocate ws h) (task ws k .step)
-      (effectOf ws k h)
+      PushTick (task ws k .side) (opposite (task ws k .side)) (viewed (task ws k .side) ws) (task ws k)
+      (allocate ws h) (task ws k .step) (effectOf ws k h)
   unfolding effectOf
   push-facts =
       let t = task ws k in
-      push-tick k z (opposite z) (sides z) (seen z ws) (A .class) t is-push (goal (growth ws) t) (allocate ws h)
+      push-tick k z (opposite z) (sides z) (viewed z ws) (A .class) t is-push (goal (growth ws) t) (allocate ws h)
       (λ _ e. held-node-never-taken B (tick-allowed ws k h passes .1) (from-hat (opposite z)) (sym e)) (t .step)
-      (subst (λ (m : Memory). TaskOk k z (opposite z) m (A .class) (t .step) t) (view-seen z ws)
+      (subst (λ (m : View). TaskOk k z (opposite z) m (A .class) (t .step) t) (view-viewed z ws)
       (A .invariant .task-ok k))
 
 -- ---- A push that is about to take a node, by the row of its step.
@@ -75,16 +74,20 @@ module _ (ws : List ℕ) (k : ℕ) (q : task ws k .step ≡ Steps.line28) where
   abbrev S : ℕ
   S = nodeCount ws
 
-  abbrev m : Memory
-  m = view (task ws k .side) (seen right ws)
+  abbrev m : View
+  m = view (task ws k .side) (viewed right ws)
 
   abbrev Row : Step → (n : ℕ) → Type 0
   Row st n = Left 0 st S (goal (growth ws) (task ws k)) (task ws k .side) m (task ws k) n
 
-  row : {n : ℕ} → LeftIn 0 ws k n → SoonOrLate (m .val (m .hat) ≡ X (task ws k .side)) (2 * S + 73) (2 * S + 150) n
+  -- Its hat is at the end of the list.
+  abbrev AtEnd : Type 0
+  AtEnd = m .val (m .hats (task ws k .side)) ≡ X (task ws k .side)
+
+  row : {n : ℕ} → LeftIn 0 ws k n → SoonOrLate AtEnd (2 * S + 73) (2 * S + 150) n
   row {n} b = subst (λ (st : Step). Row st n) q (b .left)
 
-  of-row : {n : ℕ} → SoonOrLate (m .val (m .hat) ≡ X (task ws k .side)) (2 * S + 73) (2 * S + 150) n → LeftIn 0 ws k n
+  of-row : {n : ℕ} → SoonOrLate AtEnd (2 * S + 73) (2 * S + 150) n → LeftIn 0 ws k n
   of-row {n} r = record { left = subst (λ (st : Step). Row st n) (sym q) r }
 
   pub take-needs : {n : ℕ} → LeftIn 0 ws k n → 2 * nodeCount ws + 73 ≤ n
@@ -92,12 +95,13 @@ module _ (ws : List ℕ) (k : ℕ) (q : task ws k .step ≡ Steps.line28) where
 
   -- With fewer ticks left than a push with stale registers has, its hat is at the end of the list.
   module _ {n : ℕ} (b : LeftIn 0 ws k n) (few : n < 2 * nodeCount ws + 150) where
-    at-end : m .val (m .hat) ≡ X (task ws k .side)
+    at-end : AtEnd
     at-end = elim (row b) [ soon v l ↦ v | late l ↦ absurd (omega arith) ]
 
     pub hat-at-take : value ws (hat ws (task ws k .side)) ≡ X (task ws k .side)
     hat-at-take =
-        subst (λ (y : Memory). y .val (y .hat) ≡ X (task ws k .side)) (view-seen (task ws k .side) ws) at-end
+        let z = task ws k .side in
+        subst (λ (y : View). y .val (y .hats z) ≡ X z) (view-viewed z ws) at-end
 
     least-at-take : LeftIn 0 ws k (2 * nodeCount ws + 73)
     least-at-take = of-row (soon at-end (omega arith))
@@ -111,7 +115,7 @@ module _ {ws₀ : List ℕ} (B₀ : Begun ws₀) (s : Side) (k : ℕ) where
         {n : ℕ}
         → Early (task ws k .step)
         → task ws k .D ≡ none
-        → SameNodes (seen s ws₀) (seen s ws)
+        → SameNodes (viewed s ws₀) (viewed s ws)
         → LeftIn 0 ws k n
         → n ≤ 2 * nodeCount ws + 86
         → Stage ws
@@ -138,14 +142,16 @@ module _ {ws₀ : List ℕ} (B₀ : Begun ws₀) (s : Side) (k : ℕ) where
     agrees : Agrees ws (begun-agrees (R .begun) .0)
     agrees = begun-agrees (R .begun) .1
 
-    pub tick-facts : PushTick (opposite s) (seen s ws) (task ws k) (allocate ws h) (task ws k .step) (effectOf ws k h)
+    pub tick-facts :
+        PushTick s (opposite s) (viewed s ws) (task ws k) (allocate ws h) (task ws k .step) (effectOf ws k h)
     tick-facts =
-        subst (λ (z : Side). PushTick (opposite z) (seen z ws) (task ws k) (allocate ws h) (task ws k .step) e)
+        subst (λ (z : Side). PushTick z (opposite z) (viewed z ws) (task ws k) (allocate ws h) (task ws k .step) e)
         (R .on-side) (push-facts (R .begun) k h passes (R .is-push))
 
-    seen-then : seen s after ≡ written (e .writes) (seen s ws)
-    seen-then =
-        subst (λ (z : Side). seen z after ≡ written (e .writes) (seen z ws)) (R .on-side) (own-seen agrees k h passes)
+    viewed-then : viewed s after ≡ written s (e .writes) (viewed s ws)
+    viewed-then =
+        subst (λ (z : Side). viewed z after ≡ written z (e .writes) (viewed z ws)) (R .on-side)
+        (own-viewed agrees k h passes)
 
     pub count-then : nodeCount after ≡ nodeCount ws₀
     count-then = nodes-after agrees k h passes ∙ R .same-count
@@ -153,8 +159,8 @@ module _ {ws₀ : List ℕ} (B₀ : Begun ws₀) (s : Side) (k : ℕ) where
     pub end-then : value ws₀ (hat ws₀ (opposite s)) ≡ X (opposite s)
         → value after (hat after (opposite s)) ≡ X (opposite s)
     end-then v =
-        ap (λ (y : Memory). y .val (y .far)) seen-then
-        ∙ ap (λ (x : ℕ). written (e .writes) (seen s ws) .val x) (tick-facts .far-same)
+        ap (λ (y : View). y .val (y .hats (opposite s))) viewed-then
+        ∙ ap (λ (x : ℕ). written s (e .writes) (viewed s ws) .val x) (tick-facts .far-same)
         ∙ tick-facts .far-end (R .far-end v)
 
   -- ---- A tick that goes on.
@@ -182,7 +188,7 @@ module _ {ws₀ : List ℕ} (B₀ : Begun ws₀) (s : Side) (k : ℕ) where
         let same = nodes-after goes k h passes in taken (left-then b) (omega arith)
     stage-then (before early no-chain same-nodes b few) = go (tick-facts R h passes .early-on early no-chain going)
       where
-        go : (task ws k .step ≡ Steps.line28) ⊎ StillEarly (seen s ws) (effectOf ws k h) → Stage next
+        go : (task ws k .step ≡ Steps.line28) ⊎ StillEarly s (viewed s ws) (effectOf ws k h) → Stage next
         go (inl q) =
             let same = nodes-after goes k h passes in
             taken (left-then (least-at-take ws k q b (omega arith))) (omega arith)
@@ -193,9 +199,9 @@ module _ {ws₀ : List ℕ} (B₀ : Begun ws₀) (s : Side) (k : ℕ) where
             (ap (λ (t : Task). isEarly (t .step)) now ∙ E .early)
             (ap (λ (t : Task). t .D) now ∙ E .no-chain)
             (record {
-              same-out = ap (λ (m : Memory). m .out) (seen-then R h passes) ∙ E .same .same-out ∙ same-nodes .same-out;
-              same-inn = ap (λ (m : Memory). m .inn) (seen-then R h passes) ∙ E .same .same-inn ∙ same-nodes .same-inn;
-              same-val = ap (λ (m : Memory). m .val) (seen-then R h passes) ∙ E .same .same-val ∙ same-nodes .same-val;
+              same-out = ap (λ (m : View). m .out) (viewed-then R h passes) ∙ E .same .same-out ∙ same-nodes .same-out;
+              same-inn = ap (λ (m : View). m .inn) (viewed-then R h passes) ∙ E .same .same-inn ∙ same-nodes .same-inn;
+              same-val = ap (λ (m : View). m .val) (viewed-then R h passes) ∙ E .same .same-val ∙ same-nodes .same-val;
             })
             (left-then b) (omega arith)
 
@@ -213,11 +219,12 @@ module _ {ws₀ : List ℕ} (B₀ : Begun ws₀) (s : Side) (k : ℕ) where
         }
 
   -- ---- The begin.
-  pub begun-on-its-way : Idle ws₀ → (v : ℕ) → begin ws₀ k (operationNumber push) (sideNumber s) v .reply ≡ Accepted
-      → OnItsWay (begin ws₀ k (operationNumber push) (sideNumber s) v .words)
+  pub begun-on-its-way : Idle ws₀ → (v : ℕ)
+      → begin ws₀ k (operationNumber push) (sideNumber s) (stored v) .reply ≡ Accepted
+      → OnItsWay (begin ws₀ k (operationNumber push) (sideNumber s) (stored v) .words)
   begun-on-its-way idle-now v accepted =
       record {
-        begun = by-call B₀ (begin-call k (operationNumber push) (sideNumber s) v);
+        begun = by-call B₀ (begin-call k (operationNumber push) (sideNumber s) (stored v));
         is-push = ap (λ (x : Task). x .operation) now;
         on-side = ap (λ (x : Task). x .side) now;
         others =
@@ -226,22 +233,22 @@ module _ {ws₀ : List ℕ} (B₀ : Begun ws₀) (s : Side) (k : ℕ) where
             ∙ update-other (task ws₀) k _ j ne
             ∙ idle-fresh ws₀ (well-shaped ws₀ (begun-agrees B₀ .1 .accepted .shape-passes)) j (idle-now j);
         same-count = T .same-nodes;
-        far-end = λ x. ap (λ (m : Memory). m .val (m .far)) (T .seen-same s) ∙ x;
+        far-end = λ x. ap (λ (m : View). m .val (m .hats (opposite s))) (T .viewed-same s) ∙ x;
         stage =
             before (ap (λ (x : Task). isEarly (x .step)) now) (ap (λ (x : Task). x .D) now)
             (record {
-              same-out = ap (λ (m : Memory). m .out) (T .seen-same s);
-              same-inn = ap (λ (m : Memory). m .inn) (T .seen-same s);
-              same-val = ap (λ (m : Memory). m .val) (T .seen-same s);
+              same-out = ap (λ (m : View). m .out) (T .viewed-same s);
+              same-inn = ap (λ (m : View). m .inn) (T .viewed-same s);
+              same-val = ap (λ (m : View). m .val) (T .viewed-same s);
             })
             first-left (omega arith);
       }
     where
       after : List ℕ
-      after = begin ws₀ k (operationNumber push) (sideNumber s) v .words
+      after = begin ws₀ k (operationNumber push) (sideNumber s) (stored v) .words
 
       T : BegunTable ws₀ after k (begunTask (operationOf (operationNumber push)) (sideOf (sideNumber s)) v)
-      T = accepted-begin (begun-agrees B₀ .1) k (operationNumber push) (sideNumber s) v accepted
+      T = accepted-begin (begun-agrees B₀ .1) k (operationNumber push) (sideNumber s) (stored v) accepted
 
       now : task after k ≡ begunTask push s v
       now =
@@ -256,6 +263,6 @@ module _ {ws₀ : List ℕ} (B₀ : Begun ws₀) (s : Side) (k : ℕ) where
             left =
                 subst
                 (λ (x : Task).
-                LeftWith 0 (nodeCount after) (growth after) (seen right after) x (2 * nodeCount after + 86))
+                LeftWith 0 (nodeCount after) (growth after) (viewed right after) x (2 * nodeCount after + 86))
                 (sym now) (start-anywhere (omega arith));
           }

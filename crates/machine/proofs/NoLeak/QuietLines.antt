@@ -8,7 +8,8 @@ use Rattle.machine.specs.Values.{Value, N, X, Y, _≟ᵛ_}
 use Rattle.machine.specs.Steps.{Step}
 use Rattle.machine.specs.Steps as Steps
 use Rattle.machine.specs.Tasks.{Task, none, withA, withB, withC, withCounted, withValue}
-use Rattle.machine.specs.Lines.{Memory, Effect, next, act}
+use Rattle.machine.specs.Lines.{Effect, next, act}
+use Rattle.machine.proofs.Words.Memories.{View, seenIn}
 use Rattle.machine.proofs.Basics.Choices.{by-if}
 use Rattle.machine.proofs.Linearizability.Model.Sides.{Opposite}
 use Rattle.machine.proofs.Linearizability.Model.Classes.{Class}
@@ -19,14 +20,14 @@ use Rattle.machine.proofs.NoLeak.KeepsRemovers.{RemoversAfter}
 -- The first node of a chain of side s has a mark of s.
 use Rattle.machine.proofs.NoLeak.LineEnds.{back-off, read-off, past, off}
 
-module _ (held : ℕ → Bool) (k : ℕ) (s o : Side) (w : Opposite s o) (m : Memory) (class : ℕ → Class)
+module _ (held : ℕ → Bool) (k : ℕ) (s o : Side) (w : Opposite s o) (m : View) (class : ℕ → Class)
     (t : Task) (g f : ℕ) where
   abbrev Ok : Duty → Effect → Type 0
   Ok d e = RemoversAfter held class s o m d t e
 
   abbrev LineOk : Step → Type 0
   LineOk st =
-      t .step ≡ st → TaskOk k s o m class st t → Sure (duty st) s m t → Ok (duty st) (act st s o m t g f)
+      t .step ≡ st → TaskOk k s o m class st t → Sure (duty st) s m t → Ok (duty st) (act st s o (seenIn s m) t g f)
 
   pub line2-cut : LineOk Steps.line2
   unfolding act
@@ -116,12 +117,12 @@ module _ (held : ℕ → Bool) (k : ℕ) (s o : Side) (w : Opposite s o) (m : Me
   unfolding act
   line48-cut e h u =
       past e u (t .B) (λ _.
-      ok-dcas (Ok no-duty) (m .hat ≟ t .A) (m .val (t .B) ≟ᵛ t .value) (λ _ _. off refl) (off refl))
+      ok-dcas (Ok no-duty) (m .hats s ≟ t .A) (m .val (t .B) ≟ᵛ t .value) (λ _ _. off refl) (off refl))
 
   pub line54-cut : LineOk Steps.line54
   unfolding act
   line54-cut e h u =
-      ok-if (Ok no-duty) (λ st. next (withA t (m .hat)) st) (g ≟ 0) (λ _. off refl) (λ _. off refl)
+      ok-if (Ok no-duty) (λ st. next (withA t (m .hats s)) st) (g ≟ 0) (λ _. off refl) (λ _. off refl)
 
   pub line56-cut : LineOk Steps.line56
   unfolding act

@@ -11,10 +11,10 @@ use Rattle.machine.specs.Values.{N, X, Y, _≟ᵛ_}
 use Rattle.machine.specs.Steps.{Step}
 use Rattle.machine.specs.Steps as Steps
 use Rattle.machine.specs.Tasks.{Task, none, goto, withA, withB}
-use Rattle.machine.specs.Lines.{Memory, out≔, val≔, Effect, next, writing, act}
+use Rattle.machine.specs.Lines.{out≔, val≔, Effect, next, writing, act}
 use Rattle.machine.proofs.Basics.Contradiction.{clash}
 use Rattle.machine.proofs.Basics.Updates.{Wrote, it-is, it-is-not, wrote?, update, update-wrote}
-use Rattle.machine.proofs.Words.Memories.{written}
+use Rattle.machine.proofs.Words.Memories.{View, seenIn, written}
 use Rattle.machine.proofs.Linearizability.Model.Sides.{Opposite}
 use Rattle.machine.proofs.Linearizability.Model.Classes.{Class}
 use Rattle.machine.proofs.Linearizability.Model.Phases.{TaskOk}
@@ -51,14 +51,14 @@ use Rattle.machine.proofs.NoLeak.KeepsRemovers.{
 -- The first node of a chain of side s has a mark of s.
 use Rattle.machine.proofs.NoLeak.LineEnds.{past, off, goes}
 
-module _ (held : ℕ → Bool) (k : ℕ) (s o : Side) (w : Opposite s o) (m : Memory) (class : ℕ → Class)
+module _ (held : ℕ → Bool) (k : ℕ) (s o : Side) (w : Opposite s o) (m : View) (class : ℕ → Class)
     (t : Task) (g f : ℕ) where
   abbrev Ok : Duty → Effect → Type 0
   Ok d e = RemoversAfter held class s o m d t e
 
   abbrev LineOk : Step → Type 0
   LineOk st =
-      t .step ≡ st → TaskOk k s o m class st t → Sure (duty st) s m t → Ok (duty st) (act st s o m t g f)
+      t .step ≡ st → TaskOk k s o m class st t → Sure (duty st) s m t → Ok (duty st) (act st s o (seenIn s m) t g f)
 
   pub line60-cut : LineOk Steps.line60
   unfolding act
@@ -84,8 +84,8 @@ module _ (held : ℕ → Bool) (k : ℕ) (s o : Side) (w : Opposite s o) (m : Me
       t' : Task
       t' = goto t Steps.line64
 
-      m' : Memory
-      m' = written (val≔ (t .A) (X s) ∷ val≔ (t .B) (Y s) ∷ []) m
+      m' : View
+      m' = written s (val≔ (t .A) (X s) ∷ val≔ (t .B) (Y s) ∷ []) m
 
       is-linked : m .val (t .A) ≡ N s → m .val (t .B) ≡ N s → m .out (t .A) ≡ t .B
       is-linked a b = elim u [ inl q ↦ q | inr (inl q) ↦ clash (cc) | inr (inr q) ↦ clash (cc) ]
@@ -211,8 +211,8 @@ module _ (held : ℕ → Bool) (k : ℕ) (s o : Side) (w : Opposite s o) (m : Me
       t' : Task
       t' = goto t Steps.line79
 
-      m' : Memory
-      m' = written (val≔ (t .B) (Y s) ∷ []) m
+      m' : View
+      m' = written s (val≔ (t .B) (Y s) ∷ []) m
 
       at-B-cut : (μ : Mark) (n : ℕ) → n ≡ t .B → m' .val n ≡ Y s → m' .val n ≡ marked μ s
           → StillCut s m m' at-A at-both t t' μ n

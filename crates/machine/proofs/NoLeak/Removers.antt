@@ -7,8 +7,7 @@ use Rattle.machine.specs.Values.{Value, X, Y}
 use Rattle.machine.specs.Steps.{Step, rest}
 use Rattle.machine.specs.Steps as Steps
 use Rattle.machine.specs.Tasks.{Task, none}
-use Rattle.machine.specs.Lines.{Memory}
-use Rattle.machine.proofs.Words.Memories.{view}
+use Rattle.machine.proofs.Words.Memories.{View, view}
 
 -- What a step has to do with outward links. before-cut: A and B are to be marked. cut-pair: A is X and leads to B,
 -- which is Y. at-B, at-A, at-both: the registers named are Y.
@@ -73,7 +72,7 @@ Cuts at-both end t n l = ⊥
 Cuts at-both cut t n l = (t .A ≡ n) ⊎ (t .B ≡ n)
 
 -- What a duty says of the marks of A and B, seen from the task's side.
-abbrev pub Sure : Duty → Side → Memory → Task → Type 0
+abbrev pub Sure : Duty → Side → View → Task → Type 0
 Sure no-duty s m t = Unit {0}
 Sure before-cut s m t = (m .out (t .A) ≡ t .B) ⊎ ((m .val (t .A) ≡ Y s) ⊎ (m .val (t .B) ≡ Y s))
 Sure cut-pair s m t = m .val (t .B) ≡ Y s
@@ -89,10 +88,10 @@ pub record CutBy (ts : ℕ → Task) (s : Side) (μ : Mark) (n l : ℕ) : Type 0
 
 -- Seen from side s: of every node, whatever its class, the outward link of an X or a Y is none, or a remove is about to
 -- cut it.
-pub record HasRemovers (ts : ℕ → Task) (s : Side) (m : Memory) : Type 0 where
+pub record HasRemovers (ts : ℕ → Task) (s : Side) (m : View) : Type 0 where
   pub remover : (μ : Mark) (n : ℕ) → m .val n ≡ marked μ s → m .out n ≢ none → CutBy ts s μ n (m .out n)
 
--- Links have removers, on both sides. M is the memory seen from the right.
-pub record LinksHaveRemovers (M : Memory) (ts : ℕ → Task) : Type 0 where
+-- Links have removers, on both sides. M is the view from the right.
+pub record LinksHaveRemovers (M : View) (ts : ℕ → Task) : Type 0 where
   pub has-removers : (s : Side) → HasRemovers ts s (view s M)
   pub sure : (j : ℕ) → Sure (duty (ts j .step)) (ts j .side) (view (ts j .side) M) (ts j)

@@ -12,11 +12,11 @@ use Rattle.machine.specs.Steps.{Step, rest}
 use Rattle.machine.specs.Steps as Steps
 use Rattle.machine.specs.Tasks.{Task, none, inA, inB}
 use Rattle.machine.specs.Registers.{holds}
-use Rattle.machine.specs.Lines.{Memory, Effect, act}
+use Rattle.machine.specs.Lines.{Effect}
 use Rattle.machine.specs.Row.{Note}
 use Rattle.machine.proofs.Basics.Contradiction.{refute}
 use Rattle.machine.proofs.Basics.Updates.{update, update-same, update-other, update-wrote, wrote-all}
-use Rattle.machine.proofs.Words.Memories.{swapped, view, view-view, written}
+use Rattle.machine.proofs.Words.Memories.{View, written, swapped, view, viewAfter, view-view}
 use Rattle.machine.proofs.Linearizability.Model.Sides.{Opposite, sides}
 use Rattle.machine.proofs.Linearizability.Model.RowViews.{rowFrom}
 use Rattle.machine.proofs.Linearizability.Model.Classes.{Class, free, spur, Old, old-not-none}
@@ -34,7 +34,7 @@ use Rattle.machine.proofs.Linearizability.Model.Invariant.{
 use Rattle.machine.proofs.Linearizability.Model.LaneViews.{lane-view}
 use Rattle.machine.proofs.Linearizability.Writes.FreeNode.{take-ok}
 use Rattle.machine.proofs.Linearizability.Lines.Tick.{tick-ok}
-use Rattle.machine.proofs.Linearizability.Lines.InvariantTick.{guarantees-view}
+use Rattle.machine.proofs.Linearizability.Lines.InvariantTick.{guarantees-view, effectIn}
 use Rattle.machine.proofs.NoLeak.Removers.{
   Duty,
   no-duty,
@@ -65,7 +65,7 @@ use Rattle.machine.proofs.NoLeak.KeepsRemovers.{
 use Rattle.machine.proofs.NoLeak.LinesKeepRemovers.{removers-after}
 
 -- Where a link of an X is to be cut, it leads to a Y.
-end-leads-to-Y : (d : Duty) (s : Side) (m : Memory) (t : Task) (n l : ℕ)
+end-leads-to-Y : (d : Duty) (s : Side) (m : View) (t : Task) (n l : ℕ)
     → Cuts d end t n l
     → Sure d s m t
     → m .val l ≡ Y s
@@ -77,7 +77,7 @@ end-leads-to-Y at-A s m t n l c u = absurd c
 end-leads-to-Y at-both s m t n l c u = absurd c
 
 -- ---- From the side of the task that ticks to any side.
-removers-view : (s z : Side) (m : Memory) {ts : ℕ → Task}
+removers-view : (s z : Side) (m : View) {ts : ℕ → Task}
     → HasRemovers ts s m
     → HasRemovers ts (opposite s) (swapped m)
     → HasRemovers ts z (view z (view s m))
@@ -86,17 +86,17 @@ removers-view left right m near far = far
 removers-view right left m near far = far
 removers-view right right m near far = near
 
-removers-beyond : (s : Side) (M : Memory) {ts : ℕ → Task}
+removers-beyond : (s : Side) (M : View) {ts : ℕ → Task}
     → HasRemovers ts (opposite s) (view (opposite s) M)
     → HasRemovers ts (opposite s) (swapped (view s M))
 removers-beyond left M far = far
 removers-beyond right M far = far
 
 -- Links between nodes that are old and held stay, or one of the nodes is Y.
-pub record LinksStay (held : ℕ → Bool) (class : ℕ → Class) (z : Side) (m m' : Memory) : Type 0 where
+pub record LinksStay (held : ℕ → Bool) (class : ℕ → Class) (z : Side) (m m' : View) : Type 0 where
   pub stays : (x : ℕ) → held x ≡ true → Old class x → m .out x ≢ none → LinkStays z m m' x
 
-links-view : (s z : Side) (M m' : Memory) {held : ℕ → Bool} {class : ℕ → Class}
+links-view : (s z : Side) (M m' : View) {held : ℕ → Bool} {class : ℕ → Class}
     → LinksStay held class s (view s M) m'
     → LinksStay held class (opposite s) (swapped (view s M)) (swapped m')
     → LinksStay held class z (view z M) (view z (view s m'))
@@ -106,7 +106,7 @@ links-view right left M m' near far = far
 links-view right right M m' near far = near
 
 -- ---- What a step says of A and B survives the ticks of the others.
-module _ {held : ℕ → Bool} {class : ℕ → Class} {z : Side} (m m' : Memory)
+module _ {held : ℕ → Bool} {class : ℕ → Class} {z : Side} (m m' : View)
     (none-free : class none ≡ free)
     (Y-stays : (x : ℕ) → held x ≡ true → class x ≡ spur z → m .val x ≡ Y z → m' .val x ≡ Y z)
     (Y-spur : (x : ℕ) → Old class x → m .val x ≡ Y z → class x ≡ spur z)
@@ -174,7 +174,7 @@ module _ {held : ℕ → Bool} {class : ℕ → Class} {z : Side} (m m' : Memory
   sure-stays Steps.line82 R h u = Y-then (t .A) (R inA refl) (cc (h .relies)) u
 
 -- ---- The tick.
-module _ {held : ℕ → Bool} {M : Memory} {ts : ℕ → Task} {class : ℕ → Class} {r : List ℕ}
+module _ {held : ℕ → Bool} {M : View} {ts : ℕ → Task} {class : ℕ → Class} {r : List ℕ}
     (I : Invariant M ts class r) (R : Roots held M ts) (H : LinksHaveRemovers M ts)
     (k g f : ℕ) (busy : ts k .operation ≢ idle) (free-f : f ≢ none → held f ≡ false) where
   abbrev s : Side
@@ -183,16 +183,16 @@ module _ {held : ℕ → Bool} {M : Memory} {ts : ℕ → Task} {class : ℕ →
   abbrev o : Side
   o = opposite (ts k .side)
 
-  abbrev m : Memory
+  abbrev m : View
   m = view s M
 
   abbrev e : Effect
-  e = act (ts k .step) s o m (ts k) g f
+  e = effectIn M ts k g f
 
-  abbrev m' : Memory
-  m' = written (e .writes) m
+  abbrev m' : View
+  m' = written s (e .writes) m
 
-  abbrev M' : Memory
+  abbrev M' : View
   M' = view s m'
 
   abbrev ts' : ℕ → Task
@@ -299,15 +299,12 @@ module _ {held : ℕ → Bool} {M : Memory} {ts : ℕ → Task} {class : ℕ →
       go (goes-on a q) =
           let side-same : x .side ≡ s = ap (λ (n : Note). n .side) q in
           subst (λ (z : Side). Sure (duty (x .step)) z (view z M') x) (sym side-same)
-          (subst (λ (y : Memory). Sure (duty (x .step)) s y x) (sym (view-view s m')) (cutters .sure))
+          (subst (λ (y : View). Sure (duty (x .step)) s y x) (sym (view-view s m')) (cutters .sure))
       go (has-answered a q) =
           subst (λ (y : Task). Sure (duty (y .step)) (y .side) (view (y .side) M') y) (sym q) tt
 
   pub removers-after-tick : LinksHaveRemovers
-      (view (ts k .side)
-      (written (act (ts k .step) (ts k .side) (opposite (ts k .side)) (view (ts k .side) M) (ts k) g f .writes)
-      (view (ts k .side) M)))
-      (update ts k (act (ts k .step) (ts k .side) (opposite (ts k .side)) (view (ts k .side) M) (ts k) g f .task))
+      (viewAfter (ts k .side) (effectIn M ts k g f .writes) M) (update ts k (effectIn M ts k g f .task))
   removers-after-tick =
       record {
         has-removers = λ z. removers-view s z m' near-removers far-removers;

@@ -17,7 +17,7 @@ use Rattle.machine.specs.Registers.{holds}
 use Rattle.machine.specs.Table.{nodeCount, hat, link, value, task}
 use Rattle.machine.specs.Allocate.{allocate}
 use Rattle.machine.specs.Reach.{Reachable, from-hat, from-register, along}
-use Rattle.machine.specs.Lines.{Memory, Write, seen}
+use Rattle.machine.specs.Lines.{Write}
 use Rattle.machine.specs.Answers.{refusalOf}
 use Rattle.machine.specs.Calls.{tickRefusal, effectOf, Ticked, tickOn, tick}
 use Rattle.machine.specs.Begun.{Begun}
@@ -25,7 +25,7 @@ use Rattle.machine.specs.Solo.{endsCall}
 use Rattle.machine.specs.NoLeak.{Idle, listSize, Held, listed, under-hat, IdleTable}
 use Rattle.machine.specs.Capacity.{AloneTo, ends-now, ends-later, PushAlone, NeverFull}
 use Rattle.machine.proofs.Basics.Contradiction.{clash, refute}
-use Rattle.machine.proofs.Words.Memories.{view, view-view, written}
+use Rattle.machine.proofs.Words.Memories.{View, viewed, viewAfter, view-view}
 use Rattle.machine.proofs.SlotRule.FirstFree.{allocate-none}
 use Rattle.machine.proofs.Shape.TickKeeps.{tick-allowed}
 use Rattle.machine.proofs.Words.TickLaws.{tick-answer}
@@ -34,7 +34,7 @@ use Rattle.machine.proofs.Linearizability.Model.Invariant.{Kept, goes-o
 use Rattle.machine.proofs.Linearizability.Calls.Agreement.{Agrees}
 use Rattle.machine.proofs.Linearizability.Calls.MadeTicks.{well-linked, keeps-invariant}
 use Rattle.machine.proofs.Linearizability.Corollaries.{begun-agrees, tick-passes, made-passes, begun-ticked}
-use Rattle.machine.proofs.Linearizability.Begun.TableAfter.{seen-after, own-after, other-after, nodes-after}
+use Rattle.machine.proofs.Linearizability.Begun.TableAfter.{viewed-after, own-after, other-after, nodes-after}
 use Rattle.machine.proofs.NoLeak.IdleTables.{idle-table}
 use Rattle.machine.proofs.NoLeak.Theorem.{list-not-Y}
 use Rattle.machine.proofs.NoLeak.PushEffects.{SameNodes}
@@ -115,23 +115,22 @@ module _ {ws₀ : List ℕ} (B₀ : Begun ws₀) (s : Side) (k : ℕ) {ws : List
     none-found : allocate ws h ≡ none
     none-found = tick-facts B₀ s k R h passes .full-at is-full .2
 
-    seen-same : seen right after ≡ seen right ws
-    seen-same =
+    viewed-same : viewed right after ≡ viewed right ws
+    viewed-same =
         let z = task ws k .side in
-        seen-after A k h passes
-        ∙ ap (λ (l : List Write). view z (written l (view z (seen right ws)))) unwritten
-        ∙ view-view z (seen right ws)
+        viewed-after A k h passes
+        ∙ ap (λ (l : List Write). viewAfter z l (viewed right ws)) unwritten
+        ∙ view-view z (viewed right ws)
 
     same-hat : (z : Side) → hat after z ≡ hat ws z
-    same-hat left = ap (λ (m : Memory). m .far) seen-same
-    same-hat right = ap (λ (m : Memory). m .hat) seen-same
+    same-hat z = ap (λ (m : View). m .hats z) viewed-same
 
     same-link : (z : Side) (x : ℕ) → link after z x ≡ link ws z x
-    same-link left x = ap (λ (m : Memory). m .inn x) seen-same
-    same-link right x = ap (λ (m : Memory). m .out x) seen-same
+    same-link left x = ap (λ (m : View). m .inn x) viewed-same
+    same-link right x = ap (λ (m : View). m .out x) viewed-same
 
     same-value : (x : ℕ) → value after x ≡ value ws x
-    same-value x = ap (λ (m : Memory). m .val x) seen-same
+    same-value x = ap (λ (m : View). m .val x) viewed-same
 
     -- At 28 no register holds, of the push or of an idle task: all that is reached is reached from the hats.
     holds-nothing : (j : ℕ) (r : Register) → holds (task ws j .step) r ≡ false
@@ -149,7 +148,7 @@ module _ {ws₀ : List ℕ} (B₀ : Begun ws₀) (s : Side) (k : ℕ) {ws : List
         subst (Reachable after) same (along z (still-reached c) (λ q. ne (sym same ∙ q)))
 
     -- The push has not taken a node before: else too few ticks would be left to come to 28.
-    at-end-before : Stage B₀ s k ws → (value ws (hat ws s) ≡ X s) × SameNodes (seen s ws₀) (seen s ws)
+    at-end-before : Stage B₀ s k ws → (value ws (hat ws s) ≡ X s) × SameNodes (viewed s ws₀) (viewed s ws)
     at-end-before (taken {n} b few) = absurd (omega (arith, take-needs ws k at-28 b))
     at-end-before (before early no-chain same b few) = (
       subst (λ (z : Side). value ws (hat ws z) ≡ X z) (R .on-side) (hat-at-take ws k at-28 b (omega arith)),

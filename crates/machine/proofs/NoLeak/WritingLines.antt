@@ -12,10 +12,10 @@ use Rattle.machine.specs.Operations.{Operation, idle, push, pop, add, re
 use Rattle.machine.specs.Steps.{Step}
 use Rattle.machine.specs.Steps as Steps
 use Rattle.machine.specs.Tasks.{Task, fresh, none, goto, withD, withCounted}
-use Rattle.machine.specs.Lines.{Memory, Write, out≔, inn≔, val≔, hat≔, Effect, next, writing, spliced, back, act}
+use Rattle.machine.specs.Lines.{Write, out≔, inn≔, val≔, hat≔, Effect, next, writing, spliced, back, act}
 use Rattle.machine.proofs.Basics.Contradiction.{refute}
 use Rattle.machine.proofs.Basics.Updates.{Wrote, it-is, it-is-not, wrote?, update, update-wrote}
-use Rattle.machine.proofs.Words.Memories.{written}
+use Rattle.machine.proofs.Words.Memories.{View, seenIn, written}
 use Rattle.machine.proofs.Linearizability.Model.Sides.{Opposite}
 use Rattle.machine.proofs.Linearizability.Model.Classes.{Class}
 use Rattle.machine.proofs.Linearizability.Writes.ChainGrowth.{head-new}
@@ -40,7 +40,7 @@ use Rattle.machine.proofs.NoLeak.KeepsRemovers.{
 use Rattle.machine.proofs.NoLeak.LineEnds.{chain-owner, back-off, past, off}
 
 -- x-cut: where an X leads, there is a Y.
-module _ (held : ℕ → Bool) (k : ℕ) (s o : Side) (w : Opposite s o) (m : Memory) (class : ℕ → Class)
+module _ (held : ℕ → Bool) (k : ℕ) (s o : Side) (w : Opposite s o) (m : View) (class : ℕ → Class)
     (x-cut : (n : ℕ) → m .val n ≡ X s → m .out n ≢ none → m .val (m .out n) ≡ Y s)
     (t : Task) (g f : ℕ) where
   abbrev Ok : Duty → Effect → Type 0
@@ -48,14 +48,14 @@ module _ (held : ℕ → Bool) (k : ℕ) (s o : Side) (w : Opposite s o) (m : Me
 
   abbrev LineOk : Step → Type 0
   LineOk st =
-      t .step ≡ st → TaskOk k s o m class st t → Sure (duty st) s m t → Ok (duty st) (act st s o m t g f)
+      t .step ≡ st → TaskOk k s o m class st t → Sure (duty st) s m t → Ok (duty st) (act st s o (seenIn s m) t g f)
 
   pub line5-cut : LineOk Steps.line5
   unfolding act
   line5-cut e h u =
       past e u (t .A) (λ _.
       past e u (t .B) (λ _.
-      ok-dcas (Ok no-duty) (m .hat ≟ t .A) (m .val (t .A) ≟ᵛ N s) (λ _ _. done) (off refl)))
+      ok-dcas (Ok no-duty) (m .hats s ≟ t .A) (m .val (t .A) ≟ᵛ N s) (λ _ _. done) (off refl)))
     where
       wv : Wrote (m .val) (t .A) (bag (t .argument)) (update (m .val) (t .A) (bag (t .argument)))
       wv = update-wrote (m .val) (t .A) (bag (t .argument))
@@ -74,7 +74,7 @@ module _ (held : ℕ → Bool) (k : ℕ) (s o : Side) (w : Opposite s o) (m : Me
   unfolding act
   line51-cut e h u =
       past e u (t .B) (λ _.
-      ok-dcas (Ok no-duty) (m .hat ≟ t .A) (m .val (t .B) ≟ᵛ t .value) (λ _ _. done) (off refl))
+      ok-dcas (Ok no-duty) (m .hats s ≟ t .A) (m .val (t .B) ≟ᵛ t .value) (λ _ _. done) (off refl))
     where
       wv : Wrote (m .val) (t .B) (N s) (update (m .val) (t .B) (N s))
       wv = update-wrote (m .val) (t .B) (N s)
@@ -92,7 +92,7 @@ module _ (held : ℕ → Bool) (k : ℕ) (s o : Side) (w : Opposite s o) (m : Me
   unfolding act
   line72-cut e h u =
       past e u (t .C) (λ _.
-      ok-if (Ok no-duty) (λ l. writing l (next t (back t))) (m .hat ≟ t .A) (λ _. done) (λ _. off no-duty-back))
+      ok-if (Ok no-duty) (λ l. writing l (next t (back t))) (m .hats s ≟ t .A) (λ _. done) (λ _. off no-duty-back))
     where
       no-duty-back : duty (back t) ≡ no-duty
       no-duty-back = back-off (t .operation) (t .D ≟ none)
@@ -105,7 +105,7 @@ module _ (held : ℕ → Bool) (k : ℕ) (s o : Side) (w : Opposite s o) (m : Me
             far = same-words (λ n. refl) (λ n. refl);
             sure =
                 subst
-                (λ (d : Duty). Sure d s (written (hat≔ (t .C) ∷ []) m) (goto t (back t)))
+                (λ (d : Duty). Sure d s (written s (hat≔ (t .C) ∷ []) m) (goto t (back t)))
                 (sym no-duty-back) tt;
           }
 
@@ -168,7 +168,7 @@ module _ (held : ℕ → Bool) (k : ℕ) (s o : Side) (w : Opposite s o) (m : Me
                       ];
                 };
             far = plain-value (λ n. refl) wv N-plain;
-            sure = subst (λ (d : Duty). Sure d s (written l m) t') (sym q) tt;
+            sure = subst (λ (d : Duty). Sure d s (written s l m) t') (sym q) tt;
           }
 
       by-operation : m .val (t .A) ≡ X s → (op : Operation) → Ok no-duty (spliced op l t)
@@ -223,7 +223,7 @@ module _ (held : ℕ → Bool) (k : ℕ) (s o : Side) (w : Opposite s o) (m : Me
                       as-before (b .1) (sym (wi .elsewhere n (b .0))) (λ c. absurd c);
                   link-stays = λ x r _ _. same-link (wi .elsewhere x (apart (free-f some) x r));
                 };
-            sure = subst (λ (d : Duty). Sure d s (written l m) t') (sym q) tt;
+            sure = subst (λ (d : Duty). Sure d s (written s l m) t') (sym q) tt;
           }
 
   pub line31-cut : (f ≢ none → TakeOk held m class f) → LineOk Steps.line31
@@ -276,5 +276,5 @@ module _ (held : ℕ → Bool) (k : ℕ) (s o : Side) (w : Opposite s o) (m : Me
                       let not-D : x ≢ t .D = λ z. refute (cc (head-new (h .chain))) in
                       same-link (wd .elsewhere x not-D ∙ wi .elsewhere x (apart (free-f some) x r));
                 };
-            sure = subst (λ (d : Duty). Sure d s (written l m) t') (sym q) tt;
+            sure = subst (λ (d : Duty). Sure d s (written s l m) t') (sym q) tt;
           }

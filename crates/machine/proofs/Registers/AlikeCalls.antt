@@ -3,9 +3,11 @@ use mathlib.Core.Path.{_≡_, refl, sym, ap, _∙_, subst}
 use mathlib.Core.List.{List, [], _∷_}
 use mathlib.Core.Option.{Option, some, none as nothing, Option·map}
 use Prim.Native.Nat.{ℕ, zero, suc, _<_}
+use Rattle.machine.specs.Shape.{WellFormed}
+use Rattle.machine.specs.declared.Stored.{Stored}
 use Rattle.machine.specs.Choice.{_≟_, if_then_else_}
 use Rattle.machine.specs.Sides.{Side, right, left, sideOf}
-use Rattle.machine.specs.Values.{Value, never, bag, N, X, Y}
+use Rattle.machine.specs.Values.{Value, never, bag, N, X, Y, number}
 use Rattle.machine.specs.Operations.{operationOf}
 use Rattle.machine.specs.Tasks.{Task, none}
 use Rattle.machine.specs.Registers.{holds}
@@ -45,17 +47,11 @@ use Rattle.machine.specs.Demand3.{
 use Rattle.machine.proofs.Basics.Tests.{test-passed}
 use Rattle.machine.proofs.Words.ValueLaws.{HasWord, never-has-word}
 use Rattle.machine.proofs.Basics.Updates.{update}
-use Rattle.machine.proofs.Words.Columns.{Columns, columns}
+use Rattle.machine.proofs.Words.Columns.{sizesOf, Columns, columns}
 use Rattle.machine.proofs.Words.TableLaws.{columns-setTask}
 use Rattle.machine.proofs.Words.EffectLaws.{task-set-task}
 use Rattle.machine.proofs.Shape.ShapeLaws.{WellSized, well-sized}
-use Rattle.machine.proofs.Shape.ShapeKept.{
-  Accepted,
-  start-accepted,
-  begin-allowed,
-  table-passes,
-  call-accepted,
-}
+use Rattle.machine.proofs.Shape.ShapeKept.{start-accepted, begin-allowed, table-passes, call-accepted}
 use Rattle.machine.specs.LinesUse.{AgreeOn}
 use Rattle.machine.proofs.Registers.Agreeing.{agree-self, mixed-inside}
 use Rattle.machine.proofs.Registers.AlikeTables.{
@@ -85,7 +81,7 @@ module _ {ws vs : List ℕ} (A : AlikeColumns ws vs) where
       (go (startRefusal ws S T g) refl)
     where
       same : startRefusal vs S T g ≡ startRefusal ws S T g
-      same = rw (ap (λ (c : Columns). c .length) (A .same-words))
+      same = rw (ap (λ (c : Columns). c .sizes .length) (A .same-words))
 
       go : (r : Option ℕ) → startRefusal ws S T g ≡ r
           → ChangedAlike (changed r ws (startWords S T g)) (changed r vs (startWords S T g))
@@ -95,8 +91,8 @@ module _ {ws vs : List ℕ} (A : AlikeColumns ws vs) where
   -- ---- begin.
 
   -- The same record written to both tables.
-  begun-alike : (k : ℕ) (t : Task) → k < taskCount ws → HasWord (t .value) → Accepted (setTask k t ws)
-      → Accepted (setTask k t vs)
+  begun-alike : (k : ℕ) (t : Task) → k < taskCount ws → HasWord (t .value) → WellFormed (setTask k t ws)
+      → WellFormed (setTask k t vs)
       → AlikeColumns (setTask k t ws) (setTask k t vs)
   unfolding update
   begun-alike k t is-task word a b =
@@ -115,10 +111,10 @@ module _ {ws vs : List ℕ} (A : AlikeColumns ws vs) where
             (go j (j ≟ k));
       }
     where
-      sizes : WellSized (columns ws)
+      sizes : WellSized (sizesOf ws)
       sizes = well-sized ws (A .accepted .length-passes)
 
-      sizes′ : WellSized (columns vs)
+      sizes′ : WellSized (sizesOf vs)
       sizes′ = well-sized vs (A .accepted′ .length-passes)
 
       is-task′ : k < taskCount vs
@@ -130,18 +126,18 @@ module _ {ws vs : List ℕ} (A : AlikeColumns ws vs) where
       go j (yes e) = agree-self (holds (t .step)) t
       go j (no n) = A .same-tasks j
 
-  begin-alike : (k op side argument : ℕ)
+  begin-alike : (k op side : ℕ) (argument : Stored)
       → ChangedAlike (begin ws k op side argument) (begin vs k op side argument)
   unfolding begin
   begin-alike k op side argument =
       subst (λ (r : Option ℕ). ChangedAlike (begin ws k op side argument) (changed r vs (setTask k t vs))) (sym same)
       (go (beginRefusal ws k op side argument) refl
       (call-accepted ws (A .accepted) (begin-call k op side argument))
-      (subst (λ (r : Option ℕ). Accepted (changed r vs (setTask k t vs) .words)) same
+      (subst (λ (r : Option ℕ). WellFormed (changed r vs (setTask k t vs) .words)) same
       (call-accepted vs (A .accepted′) (begin-call k op side argument))))
     where
       t : Task
-      t = begunTask (operationOf op) (sideOf side) argument
+      t = begunTask (operationOf op) (sideOf side) (number argument)
 
       same : beginRefusal vs k op side argument ≡ beginRefusal ws k op side argument
       same =
@@ -153,8 +149,8 @@ module _ {ws vs : List ℕ} (A : AlikeColumns ws vs) where
           )
 
       go : (r : Option ℕ) → beginRefusal ws k op side argument ≡ r
-          → Accepted (changed r ws (setTask k t ws) .words)
-          → Accepted (changed r vs (setTask k t vs) .words)
+          → WellFormed (changed r ws (setTask k t ws) .words)
+          → WellFormed (changed r vs (setTask k t vs) .words)
           → ChangedAlike (changed r ws (setTask k t ws)) (changed r vs (setTask k t vs))
       go (some n) e a b = (refl, A)
       go nothing e a b =
@@ -220,7 +216,7 @@ module _ {ws vs : List ℕ} (A : AlikeColumns ws vs) where
   read-same out = rw (table-passes vs (A .accepted′) nothing, table-passes ws (A .accepted) nothing, read, lane-same)
 
   -- ---- tick.
-  tick-passes : (xs : List ℕ) → Accepted xs → (k h : ℕ) → tick xs k h ≡ tickOn xs k h
+  tick-passes : (xs : List ℕ) → WellFormed xs → (k h : ℕ) → tick xs k h ≡ tickOn xs k h
   unfolding tick
   tick-passes xs a k h = rw (table-passes xs a nothing, tick)
 

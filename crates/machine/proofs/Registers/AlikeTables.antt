@@ -4,6 +4,7 @@ use mathlib.Core.Bool.{Bool, true, false, cond}
 use mathlib.Core.List.{List, [], _∷_, _++_}
 use Prim.Native.Nat.{ℕ, zero, suc, _+_}
 use lib.Dec.{ltb}
+use Rattle.machine.specs.Shape.{WellFormed}
 use Rattle.machine.specs.Sides.{Side, left, right}
 use Rattle.machine.specs.Tasks.{Task, none, Register, inA, inB, inC, inD}
 use Rattle.machine.specs.Registers.{holds, heldIn}
@@ -23,35 +24,22 @@ use Rattle.machine.specs.Allocate.{
 }
 use Rattle.machine.specs.Lines.{Write, out≔, inn≔, val≔, hat≔, seen}
 use Rattle.machine.specs.LinesUse.{AgreeOn}
-use Rattle.machine.proofs.Words.Columns.{Columns, columns, memory, putOne, putAll}
-use Rattle.machine.proofs.Shape.ShapeKept.{Accepted}
+use Rattle.machine.proofs.Words.Memories.{seenIn}
+use Rattle.machine.proofs.Words.Columns.{Columns, columns, viewOf, putBody, putOne, putAll}
 use Rattle.machine.proofs.Registers.Agreeing.{agree-self}
 
 -- The columns of a table without its task records.
 abbrev pub unrecorded : Columns → Columns
-unrecorded c =
-    record {
-      length = c .length;
-      nodeCount = c .nodeCount;
-      taskCount = c .taskCount;
-      growth = c .growth;
-      hats = c .hats;
-      tickCount = c .tickCount;
-      word6 = c .word6;
-      word7 = c .word7;
-      links = c .links;
-      values = c .values;
-      records = λ k. [];
-    }
+unrecorded c = putBody (c .links) (c .values) (λ k. []) c
 
 pub record AlikeColumns (ws vs : List ℕ) : Type 0 where
-  pub accepted : Accepted ws
-  pub accepted′ : Accepted vs
+  pub accepted : WellFormed ws
+  pub accepted′ : WellFormed vs
   pub same-words : unrecorded (columns vs) ≡ unrecorded (columns ws)
   pub same-tasks : (k : ℕ) → AgreeOn (holds (task ws k .step)) (task ws k) (task vs k)
 
 -- Every accepted table is alike to itself.
-pub alike-self : {ws : List ℕ} → Accepted ws → AlikeColumns ws ws
+pub alike-self : {ws : List ℕ} → WellFormed ws → AlikeColumns ws ws
 alike-self {ws} a =
     record {
       accepted = a;
@@ -89,16 +77,16 @@ held-same t u e =
 
 module _ {ws vs : List ℕ} (A : AlikeColumns ws vs) where
   pub same-nodes : nodeCount vs ≡ nodeCount ws
-  same-nodes = ap (λ (c : Columns). c .nodeCount) (A .same-words)
+  same-nodes = ap (λ (c : Columns). c .sizes .nodeCount) (A .same-words)
 
   pub same-count : taskCount vs ≡ taskCount ws
-  same-count = ap (λ (c : Columns). c .taskCount) (A .same-words)
+  same-count = ap (λ (c : Columns). c .sizes .taskCount) (A .same-words)
 
   pub same-growth : growth vs ≡ growth ws
-  same-growth = ap (λ (c : Columns). c .growth) (A .same-words)
+  same-growth = ap (λ (c : Columns). c .sizes .growth) (A .same-words)
 
   pub same-ticks : tickCount vs ≡ tickCount ws
-  same-ticks = ap (λ (c : Columns). c .tickCount) (A .same-words)
+  same-ticks = ap (λ (c : Columns). c .counts .tickCount) (A .same-words)
 
   pub same-hat : (s : Side) → hat vs s ≡ hat ws s
   same-hat s = ap (λ (c : Columns). c .hats s) (A .same-words)
@@ -108,7 +96,7 @@ module _ {ws vs : List ℕ} (A : AlikeColumns ws vs) where
 
   pub same-seen : (s : Side) → seen s vs ≡ seen s ws
   unfolding value
-  same-seen s = ap (memory s) (A .same-words)
+  same-seen s = ap (λ c. seenIn s (viewOf s c)) (A .same-words)
 
   pub same-operation : (k : ℕ) → task vs k .operation ≡ task ws k .operation
   same-operation k = ap (λ (y : Task). y .operation) (A .same-tasks k)

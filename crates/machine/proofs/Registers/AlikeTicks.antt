@@ -5,6 +5,7 @@ use mathlib.Core.List.{List, [], _∷_}
 use mathlib.Core.Option.{Option, some, none as nothing}
 use Prim.Native.Nat.{ℕ, suc, _+_, _%_, _^_}
 use lib.ListN.{drop}
+use Rattle.machine.specs.Shape.{WellFormed}
 use Rattle.machine.specs.declared.Answer.{Answer}
 use Rattle.machine.specs.declared.Ran.{Ran}
 use Rattle.machine.specs.Choice.{_≟_, if_then_else_}
@@ -27,7 +28,7 @@ use Rattle.machine.specs.Calls.{
 use Rattle.machine.specs.LinesUse.{AgreeOn, SameEffect}
 use Rattle.machine.proofs.Registers.LinesUse.{uses-enough}
 use Rattle.machine.proofs.Basics.Updates.{update}
-use Rattle.machine.proofs.Words.Columns.{Columns, columns, putTickCount, putAll}
+use Rattle.machine.proofs.Words.Columns.{sizesOf, Columns, columns, putTickCount, putAll}
 use Rattle.machine.proofs.Shape.ShapeLaws.{
   WellSized,
   WellShaped,
@@ -38,7 +39,6 @@ use Rattle.machine.proofs.Shape.ShapeLaws.{
 }
 use Rattle.machine.proofs.Shape.TickKeeps.{tick-kept}
 use Rattle.machine.proofs.Words.TickLaws.{tick-stopped, tick-answer, tick-refused, tick-columns, tick-task}
-use Rattle.machine.proofs.Shape.ShapeKept.{Accepted}
 use Rattle.machine.proofs.Registers.Agreeing.{plain, agree-plain, agree-uses, agree-after}
 use Rattle.machine.proofs.Registers.AlikeTables.{
   unrecorded,
@@ -96,13 +96,13 @@ module _ {ws vs : List ℕ} (A : AlikeColumns ws vs) (k h : ℕ) where
     allowed′ : tickRefusal vs k h ≡ nothing
     allowed′ = refusal-same ∙ allowed
 
-    sizes : (xs : List ℕ) → Accepted xs → WellSized (columns xs)
+    sizes : (xs : List ℕ) → WellFormed xs → WellSized (sizesOf xs)
     sizes xs a = well-sized xs (a .length-passes)
 
-    shape : (xs : List ℕ) → Accepted xs → WellShaped (columns xs)
+    shape : (xs : List ℕ) → WellFormed xs → WellShaped (columns xs)
     shape xs a = well-shaped xs (a .shape-passes)
 
-    still-accepted : (xs : List ℕ) → Accepted xs → Accepted (tickOn xs k h .words)
+    still-accepted : (xs : List ℕ) → WellFormed xs → WellFormed (tickOn xs k h .words)
     still-accepted xs a =
         let K = tick-kept xs (sizes xs a) (shape xs a) k h in
         record {
@@ -118,7 +118,7 @@ module _ {ws vs : List ℕ} (A : AlikeColumns ws vs) (k h : ℕ) where
       made′ : refusalOf (effectOf vs k h .answer) ≡ nothing
       made′ = ap refusalOf answers-same ∙ made
 
-      words-after : (xs : List ℕ) (a : Accepted xs) (p : tickRefusal xs k h ≡ nothing)
+      words-after : (xs : List ℕ) (a : WellFormed xs) (p : tickRefusal xs k h ≡ nothing)
           → refusalOf (effectOf xs k h .answer) ≡ nothing
           → unrecorded (columns (tickOn xs k h .words))
           ≡ leaves (tickCount xs) (task xs k .side) (effectOf xs k h .writes) (unrecorded (columns xs))

@@ -10,7 +10,7 @@ use lib.Dec.{eqb}
 use borrow.Author.Tests.{eq-eqb, eqb-true, not-true}
 use Rattle.machine.specs.declared.Answer.{Answer}
 use Rattle.machine.specs.Sides.{left, right}
-use Rattle.machine.specs.Values.{Value, bag, N, X, Y, encode, Value-discrete}
+use Rattle.machine.specs.Values.{Value, bag, N, X, Y, encode, storedWords, Value-discrete}
 use Rattle.machine.specs.Operations.{push}
 use Rattle.machine.specs.Steps.{Step, stepNumber, stepOf}
 use Rattle.machine.specs.Tasks.{Task, none, Register, inA, inB, inC, inD, register}
@@ -42,7 +42,7 @@ abbrev sample : (hat out : ℕ) → (value read : Value) → (D goal found : ℕ
 sample h o v r d g f = record { hat = h; out = o; value = v; read = r; D = d; goal = g; found = f }
 
 abbrev memoryOf : Sample → Memory
-memoryOf a = record { out = λ x. a .out; inn = λ x. a .out; val = λ x. a .value; hat = a .hat; far = 0 }
+memoryOf a = record { out = λ x. a .out; inn = λ x. a .out; val = λ x. a .value; hat = a .hat }
 
 -- A push of the right side that has counted nothing.
 abbrev taskIn : Sample → Step → Task
@@ -78,7 +78,7 @@ effectIn st a t = act st right left (memoryOf a) t (a .goal) (a .found)
 abbrev writeWords : Write → List ℕ
 writeWords (out≔ x y) = 1 ∷ x ∷ y ∷ []
 writeWords (inn≔ x y) = 2 ∷ x ∷ y ∷ []
-writeWords (val≔ x v) = 3 ∷ x ∷ encode v ∷ []
+writeWords (val≔ x v) = 3 ∷ x ∷ storedWords (encode v)
 writeWords (hat≔ x) = 4 ∷ x ∷ []
 
 abbrev allWords : List Write → List ℕ

@@ -1,9 +1,10 @@
 -- What stands in registers that do not hold is never seen by any list of calls; so it may be cleared.
-use mathlib.Core.Path.{_≡_, refl, sym, ap, _∙_, subst}
+use mathlib.Core.Path.{_≡_, refl, sym, ap, _∙_, subst, fun-ext}
 use mathlib.Core.Bool.{Bool, true, false, cond}
 use mathlib.Core.List.{List, []}
 use Prim.Native.Nat.{ℕ, _<_}
 use lib.ListN.{length}
+use Rattle.machine.specs.Shape.{WellFormed}
 use Rattle.machine.specs.Choice.{_≟_, if_then_else_}
 use Rattle.machine.specs.Values.{encode}
 use Rattle.machine.specs.Tasks.{Task, fresh, none, wordsOf, inA, inB, inC, inD}
@@ -13,9 +14,9 @@ use Rattle.machine.specs.Calls.{isBusy}
 use Rattle.machine.specs.Unseen.{SameButUnneeded, Alike, UnneededUnseen, cleared, ClearingUnseen}
 use Rattle.machine.proofs.Words.ValueLaws.{encode-decode}
 use Rattle.machine.proofs.Basics.Updates.{update}
-use Rattle.machine.proofs.Words.Columns.{columns}
+use Rattle.machine.proofs.Words.Columns.{sizesOf, countsOf, columns, sizes-equal, columns-equal}
 use Rattle.machine.proofs.Words.TableLaws.{columns-setTask}
-use Rattle.machine.proofs.Words.EffectLaws.{SameSizes, task-set-task}
+use Rattle.machine.proofs.Words.EffectLaws.{task-set-task}
 use Rattle.machine.proofs.Shape.BusyLaws.{NodeOrNone, BusyFacts, record-of-busy}
 use Rattle.machine.proofs.Shape.ShapeLaws.{
   WellSized,
@@ -24,10 +25,11 @@ use Rattle.machine.proofs.Shape.ShapeLaws.{
   well-shaped,
   length-ok,
   shape-ok,
+  same-last-words,
 }
-use Rattle.machine.proofs.Shape.WritesKeep.{put-record-shaped, same-sizes-kept}
+use Rattle.machine.proofs.Shape.WritesKeep.{put-record-shaped}
 use Rattle.machine.proofs.Shape.TickKeeps.{busy-facts, busy-is-task, task-has-word}
-use Rattle.machine.proofs.Shape.ShapeKept.{Accepted, is-accepted}
+use Rattle.machine.proofs.Shape.ShapeKept.{is-accepted}
 use Rattle.machine.specs.LinesUse.{AgreeOn}
 use Rattle.machine.proofs.Registers.Agreeing.{plain, agree-from, agree-self, mixed-inside}
 use Rattle.machine.proofs.Registers.AlikeTables.{unrecorded, AlikeColumns}
@@ -53,16 +55,16 @@ records-agree {t} {u} same = agree-from {p = holds (t .step)} same-plain (same .
         }
 
 module _ {ws vs : List ℕ} (A : Alike ws vs) where
-  accepted : Accepted ws
+  accepted : WellFormed ws
   accepted = is-accepted ws (A .accepted)
 
-  accepted′ : Accepted vs
+  accepted′ : WellFormed vs
   accepted′ = is-accepted vs (A .accepted′)
 
-  sizes : WellSized (columns ws)
+  sizes : WellSized (sizesOf ws)
   sizes = well-sized ws (accepted .length-passes)
 
-  sizes′ : WellSized (columns vs)
+  sizes′ : WellSized (sizesOf vs)
   sizes′ = well-sized vs (accepted′ .length-passes)
 
   shape : WellShaped (columns ws)
@@ -79,12 +81,15 @@ module _ {ws vs : List ℕ} (A : Alike ws vs) where
       ∙ sym (sizes .sized)
 
   -- Equal values have equal words.
-  same-value-word : (x : ℕ) → columns vs .values x ≡ columns ws .values x
+  same-value-words : (x : ℕ) → columns vs .values x ≡ columns ws .values x
   unfolding value
-  same-value-word x =
+  same-value-words x =
       sym (encode-decode (columns vs .values x) (shape′ .values-ok x))
       ∙ ap encode (A .same-values x)
       ∙ encode-decode (columns ws .values x) (shape .values-ok x)
+
+  same-counts : countsOf vs ≡ countsOf ws
+  same-counts = same-last-words (shape′ .counts-ok) (shape .counts-ok) (A .same-ticks)
 
   columns-alike : AlikeColumns ws vs
   columns-alike =
@@ -92,19 +97,9 @@ module _ {ws vs : List ℕ} (A : Alike ws vs) where
         accepted = accepted;
         accepted′ = accepted′;
         same-words =
-            λ i. record {
-              length = same-length i;
-              nodeCount = A .same-nodes i;
-              taskCount = A .same-count i;
-              growth = A .same-growth i;
-              hats = λ s. A .same-hats s i;
-              tickCount = A .same-ticks i;
-              word6 = (shape′ .word6-zero ∙ sym (shape .word6-zero)) i;
-              word7 = (shape′ .word7-zero ∙ sym (shape .word7-zero)) i;
-              links = λ s x. A .same-links s x i;
-              values = λ x. same-value-word x i;
-              records = λ k. [];
-            };
+            columns-equal (sizes-equal same-length (A .same-nodes) (A .same-count) (A .same-growth))
+            (fun-ext (A .same-hats)) same-counts
+            (fun-ext (λ s. fun-ext (A .same-links s))) (fun-ext same-value-words) refl;
         same-tasks = λ k. records-agree (A .same-tasks k);
       }
 
@@ -112,12 +107,12 @@ pub unneeded-unseen : UnneededUnseen
 unneeded-unseen ws vs A calls = calls-alike calls (columns-alike A)
 
 -- ---- A table whose registers were cleared is alike.
-module _ {ws : List ℕ} (accepted : Accepted ws) (k : ℕ) (is-task : k < taskCount ws)
+module _ {ws : List ℕ} (accepted : WellFormed ws) (k : ℕ) (is-task : k < taskCount ws)
     (busy : isBusy (task ws k .operation) ≡ true) where
   abbrev t : Task
   t = task ws k
 
-  Z : WellSized (columns ws)
+  Z : WellSized (sizesOf ws)
   Z = well-sized ws (accepted .length-passes)
 
   W : WellShaped (columns ws)
@@ -143,14 +138,13 @@ module _ {ws : List ℕ} (accepted : Accepted ws) (k : ℕ) (is-task : k < taskC
       kept-or-none true h = h
       kept-or-none false h = λ n. absurd (n refl)
 
-  still-accepted : Accepted (setTask k (cleared t) ws)
+  still-accepted : WellFormed (setTask k (cleared t) ws)
   still-accepted =
       let c = cleared t in
       let ok = record-of-busy (nodeCount ws) (growth ws) c cleared-facts in
       let same = sym (columns-setTask ws (Z .sized) k c is-task) in
-      let sizes = subst (λ b. SameSizes b (columns ws)) same (refl, refl, refl, refl) in
       record {
-        length-passes = length-ok (setTask k c ws) (same-sizes-kept sizes Z);
+        length-passes = length-ok (setTask k c ws) (subst WellSized (ap (λ b. b .sizes) same) Z);
         shape-passes =
             shape-ok (setTask k c ws) (subst WellShaped same (put-record-shaped (columns ws) W k (wordsOf c) ok));
       }

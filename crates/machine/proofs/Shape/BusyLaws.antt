@@ -9,7 +9,7 @@ use native.Mathlib.Omega.{arith}
 use borrow.Author.Tests.{leb-true, ltb-true, eqb-true, lt-ltb, eq-eqb}
 use Rattle.machine.specs.Choice.{_≟_}
 use Rattle.machine.specs.Sides.{Side, left, right, sideNumber}
-use Rattle.machine.specs.Values.{bag, encode, bagOk, valueOk}
+use Rattle.machine.specs.Values.{bag, stored, number, encode, bagOk, valueOk}
 use Rattle.machine.specs.Operations.{
   Operation,
   idle,
@@ -60,7 +60,7 @@ node-or-none-ok S x h =
 pub record BusyAt (S growth : ℕ) (st : Step) (t : Task) : Type 0 where
   pub busy : isBusy (t .operation) ≡ true
   pub step-ok : isStepIn (stepsOf (t .operation)) (stepNumber st) ≡ true
-  pub argument-ok : argumentOk (t .operation) (t .argument) ≡ true
+  pub argument-ok : argumentOk (t .operation) (stored (t .argument)) ≡ true
   pub counted-ok : countedOk (stepNumber st) (goal growth t) (t .counted) ≡ true
   pub value-ok : valueReadOk (t .side) (stepNumber st) (encode (t .value)) ≡ true
   pub has-word : HasWord (t .value)
@@ -175,6 +175,6 @@ module _ {S g : ℕ} {st : Step} {t : Task} where
 
 module _ {S g : ℕ} {t : Task} where
   -- At 51 a bag was read.
-  pub bag-at-51 : BusyAt S g line51 t → (b : ℕ) × (t .value ≡ bag b) × (bagOk b ≡ true)
+  pub bag-at-51 : BusyAt S g line51 t → (b : ℕ) × (t .value ≡ bag b) × (bagOk (stored b) ≡ true)
   bag-at-51 F =
-      let b = encode (t .value) in (b, sym (F .has-word) ∙ bag-has-word b (F .value-ok), F .value-ok)
+      let b = number (encode (t .value)) in (b, sym (F .has-word) ∙ bag-has-word b (F .value-ok), F .value-ok)

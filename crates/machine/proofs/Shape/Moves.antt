@@ -5,6 +5,7 @@ use mathlib.Core.List.{[], _∷_}
 use Prim.Native.Nat.{ℕ, _≤_}
 use lib.Dec.{eqb}
 use borrow.Author.Tests.{le-leb, not-true}
+use Rattle.machine.specs.declared.Stored.{Stored}
 use Rattle.machine.specs.Choice.{_≟_, if_then_else_}
 use Rattle.machine.specs.Sides.{Side}
 use Rattle.machine.specs.Values.{Value, encode, valueOk}
@@ -24,6 +25,7 @@ use Rattle.machine.specs.Tasks.{
   Task,
   none,
   goal,
+  further,
   goto,
   withRegisters,
   withA,
@@ -57,8 +59,10 @@ ordinary st =
     && not (isStepIn (line31 ∷ line56 ∷ line58 ∷ []) (stepNumber st))
 
 ordinary-value :
-    (st : Step) → ordinary st ≡ true → (s : Side) (w : ℕ) → valueOk w ≡ true → valueReadOk s (stepNumber st) w ≡ true
-ordinary-value st h s w v =
+    (st : Step) → ordinary st ≡ true → (s : Side) (u : Stored)
+    → valueOk u ≡ true
+    → valueReadOk s (stepNumber st) u ≡ true
+ordinary-value st h s u v =
     let n = stepNumber st in
     let a : not (eqb n 48) ≡ true = search (and-left, and-right) in
     let b : not (eqb n 51) ≡ true = search (and-left, and-right) in
@@ -109,19 +113,7 @@ module _ {S g : ℕ} {st : Step} {t : Task} (F : BusyAt S g st t) where
       → NodeOrNone S b
       → NodeOrNone S c
       → NodeOrNone S d
-      → BusyFacts S g
-      (record {
-        operation = t .operation;
-        step = st′;
-        side = t .side;
-        argument = t .argument;
-        counted = n;
-        value = v;
-        A = a;
-        B = b;
-        C = c;
-        D = d;
-      })
+      → BusyFacts S g (further t st′ n v a b c d)
   stands st′ p n-ok v-ok word a-ok b-ok c-ok d-ok =
       record {
         busy = F .busy;

@@ -2,17 +2,15 @@
 use mathlib.Core.Path.{_≡_, refl, ap}
 use mathlib.Core.Bool.{true}
 use Prim.Native.Nat.{ℕ}
-use lib.Dec.{eqb}
-use borrow.Author.Tests.{eq-eqb}
 use Rattle.machine.specs.Choice.{_≟_}
 use Rattle.machine.specs.Sides.{opposite}
-use Rattle.machine.specs.Values.{Value, never, bag, N, X, Y, _≟ᵛ_, encode}
+use Rattle.machine.specs.Values.{Value, never, bag, N, X, Y, _≟ᵛ_, encode, sameStored}
 use Rattle.machine.specs.Steps.{line39, line40, line42, line48, line51, stepNumber, isStepIn}
 use Rattle.machine.specs.Tasks.{Task, none, goto, withValue}
 use Rattle.machine.specs.Shape.{valueReadOk}
 use Rattle.machine.specs.Lines.{Memory, afterRead, act}
 use Rattle.machine.proofs.Basics.Tests.{or-left, or-right}
-use Rattle.machine.proofs.Words.ValueLaws.{HasWord, decoded-bag}
+use Rattle.machine.proofs.Words.ValueLaws.{HasWord, decoded-bag, stored-same}
 use Rattle.machine.proofs.Shape.BusyLaws.{BusyAt, BusyFacts}
 use Rattle.machine.proofs.Shape.Fits.{ValueFits, goes-on, ends, MemoryFits, N-fits, LineFits, by-through, by-dcas}
 use Rattle.machine.proofs.Shape.Moves.{
@@ -60,21 +58,21 @@ module _ (S g : ℕ) (m : Memory) (M : MemoryFits S m) (t : Task) (f : ℕ) wher
   unfolding isStepIn
   read-fits F never h = moves-value F (lands (part F) refl) never h
   read-fits F (bag n) h =
-      stands F line51 (part F) (F .counted-ok) (decoded-bag n n (h .0) .0) (h .0)
+      stands F line51 (part F) (F .counted-ok) (decoded-bag (encode (bag n)) n (h .0) .0) (h .0)
       (F .A-ok) (F .B-ok) (F .C-ok) (F .D-ok)
   read-fits F (N z) h =
       let w = encode (N z) in
       let n = encode (N (opposite (t .side))) in
       let x = encode (X (opposite (t .side))) in
       by-if (λ st. BusyFacts S g (goto (withValue t (N z)) st)) (N z ≟ᵛ N (opposite (t .side)))
-      (λ e. reads-48 F (N z) (h .0) (or-left (eqb w n) (eqb w x) (eq-eqb w n (ap encode e))))
+      (λ e. reads-48 F (N z) (h .0) (or-left (sameStored w n) (sameStored w x) (stored-same (ap encode e))))
       (λ _. moves-value F (lands (part F) refl) (N z) h)
   read-fits F (X z) h =
       let w = encode (X z) in
       let n = encode (N (opposite (t .side))) in
       let x = encode (X (opposite (t .side))) in
       by-if (λ st. BusyFacts S g (goto (withValue t (X z)) st)) (X z ≟ᵛ X (opposite (t .side)))
-      (λ e. reads-48 F (X z) (h .0) (or-right (eqb w n) (eqb w x) (eq-eqb w x (ap encode e))))
+      (λ e. reads-48 F (X z) (h .0) (or-right (sameStored w n) (sameStored w x) (stored-same (ap encode e))))
       (λ _. moves-value F (lands (part F) refl) (X z) h)
   read-fits F (Y z) h = moves-value F (lands (part F) refl) (Y z) h
 

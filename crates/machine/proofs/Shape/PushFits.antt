@@ -2,8 +2,9 @@
 use mathlib.Core.Path.{_≡_, refl}
 use mathlib.Core.Bool.{true}
 use Prim.Native.Nat.{ℕ}
+use Rattle.machine.specs.declared.Stored.{Stored}
 use Rattle.machine.specs.Choice.{_≟_}
-use Rattle.machine.specs.Values.{bag, N, X, _≟ᵛ_, bagOk}
+use Rattle.machine.specs.Values.{bag, N, X, _≟ᵛ_, stored, bagOk}
 use Rattle.machine.specs.Operations.{Operation, idle, push, pop, add, remove, argumentOk}
 use Rattle.machine.specs.Steps.{line2, line3, line5, line8, isStepIn}
 use Rattle.machine.specs.Tasks.{Task, none}
@@ -22,7 +23,7 @@ push-grows pop h = h
 push-grows add h = refl
 push-grows remove h = h
 
-bag-argument : (op : Operation) (n : ℕ) → hasPart op pushing ≡ true → argumentOk op n ≡ true → bagOk n ≡ true
+bag-argument : (op : Operation) (u : Stored) → hasPart op pushing ≡ true → argumentOk op u ≡ true → bagOk u ≡ true
 bag-argument idle n h k = clash (cc)
 bag-argument push n h k = k
 bag-argument pop n h k = clash (cc)
@@ -46,8 +47,8 @@ module _ (S g : ℕ) (m : Memory) (M : MemoryFits S m) (t : Task) (f : ℕ) wher
   unfolding act isStepIn
   line5-fits F =
       let n = t .argument in
-      let ok = bag-argument (t .operation) n (part F) (F .argument-ok) in
-      let fits : ValueFits (bag n) = (bag-has-word n ok, bag-value-ok n ok) in
+      let ok = bag-argument (t .operation) (stored n) (part F) (F .argument-ok) in
+      let fits : ValueFits (bag n) = (bag-has-word n ok, bag-value-ok (stored n) ok) in
       by-through S g (t .A) t (λ nA.
       by-through S g (t .B) t (λ nB.
       by-dcas S g (m .hat ≟ t .A) (m .val (t .A) ≟ᵛ N (t .side))

@@ -1,5 +1,5 @@
 -- Every call on a table of the right shape leaves a table of the right shape.
-use mathlib.Core.Path.{_≡_, refl, sym, _∙_, subst}
+use mathlib.Core.Path.{_≡_, refl, ap, sym, _∙_, subst}
 use mathlib.Core.Bool.{true, _&&_}
 use mathlib.Core.List.{List, [], _∷_}
 use mathlib.Core.Option.{Option, some, none as nothing}
@@ -9,9 +9,10 @@ use lib.ListN.{drop}
 use native.Mathlib.Omega.{arith}
 use borrow.Author.Tests.{leb-true, le-leb, ltb-true}
 use Rattle.machine.specs.declared.Answer.the-variants.{Refused}
+use Rattle.machine.specs.declared.Stored.{Stored}
 use Rattle.machine.specs.Choice.{_≟_}
 use Rattle.machine.specs.Sides.{Side, left, right, sideOf}
-use Rattle.machine.specs.Values.{never, encode, valueOk}
+use Rattle.machine.specs.Values.{never, stored, number, encode, valueOk}
 use Rattle.machine.specs.Operations.{
   Operation,
   idle,
@@ -26,7 +27,7 @@ use Rattle.machine.specs.Operations.{
 use Rattle.machine.specs.Steps.{stepNumber, stepsOf, isStepIn, firstStep}
 use Rattle.machine.specs.Tasks.{Task, wordsOf}
 use Rattle.machine.specs.Table.{nodeCount, taskCount, growth, task, setTask}
-use Rattle.machine.specs.Shape.{sizesOk, lengthOk, valueReadOk, countedOk, shapeOk}
+use Rattle.machine.specs.Shape.{sizesOk, valueReadOk, countedOk, WellFormed}
 use Rattle.machine.specs.Answers.{refusalOf}
 use Rattle.machine.specs.Calls.{
   isIdle,
@@ -60,9 +61,8 @@ use Rattle.machine.specs.Demand3.{
 }
 use Rattle.machine.proofs.Basics.Tests.{and-left, and-right, test-passed, tests-left}
 use Rattle.machine.proofs.Words.ValueLaws.{never-has-word}
-use Rattle.machine.proofs.Words.Columns.{columns}
+use Rattle.machine.proofs.Words.Columns.{sizesOf, columns}
 use Rattle.machine.proofs.Words.TableLaws.{columns-setTask}
-use Rattle.machine.proofs.Words.EffectLaws.{SameSizes}
 use Rattle.machine.proofs.Words.StartLaws.{
   startLink,
   startHat,
@@ -78,18 +78,14 @@ use Rattle.machine.proofs.Shape.ShapeLaws.{
   WellShaped,
   well-shaped,
   shape-ok,
+  start-last-words,
 }
 use Rattle.machine.proofs.Shape.Fits.{none-fits}
-use Rattle.machine.proofs.Shape.WritesKeep.{put-record-shaped, same-sizes-kept}
+use Rattle.machine.proofs.Shape.WritesKeep.{put-record-shaped}
 use Rattle.machine.proofs.Shape.TickKeeps.{Kept, unchanged, tick-kept}
 use Rattle.machine.proofs.Basics.Choices.{by-if}
 
--- The table passes the tests of refusals 3 and 4.
-pub record Accepted (ws : List ℕ) : Type 0 where
-  pub length-passes : lengthOk ws ≡ true
-  pub shape-passes : shapeOk ws ≡ true
-
-pub is-accepted : (ws : List ℕ) → tableRefusal ws nothing ≡ nothing → Accepted ws
+pub is-accepted : (ws : List ℕ) → tableRefusal ws nothing ≡ nothing → WellFormed ws
 is-accepted ws e =
     record {
       length-passes = search test-passed;
@@ -111,7 +107,7 @@ start-hat-ok S two left = omega arith
 start-hat-ok S two right = omega arith
 
 module _ (S T g : ℕ) (h : sizesOk S T g ≡ true) where
-  start-sized : WellSized (startColumns S T g)
+  start-sized : WellSized (startColumns S T g .sizes)
   start-sized =
       record {
         two-nodes = leb-true 2 S (search (and-left, and-right));
@@ -125,19 +121,18 @@ module _ (S T g : ℕ) (h : sizesOk S T g ≡ true) where
   start-shaped : WellShaped (startColumns S T g)
   start-shaped =
       record {
-        word6-zero = refl;
-        word7-zero = refl;
+        counts-ok = start-last-words;
         hats-ok = start-hat-ok S (start-sized .two-nodes);
         links-ok = start-link-ok S (start-sized .two-nodes);
         values-ok = start-value-ok;
         records-ok = λ k. record-of-fresh S g;
       }
 
-  pub start-accepted : Accepted (startWords S T g)
+  pub start-accepted : WellFormed (startWords S T g)
   start-accepted =
       let same = sym (columns-start S T g (start-sized .two-nodes)) in
       record {
-        length-passes = length-ok (startWords S T g) (subst WellSized same start-sized);
+        length-passes = length-ok (startWords S T g) (subst WellSized (ap (λ c. c .sizes) same) start-sized);
         shape-passes = shape-ok (startWords S T g) (subst WellShaped same start-shaped);
       }
 
@@ -150,7 +145,7 @@ begun-busy n h =
     by-if (λ op. isBusy op ≡ true) (n ≟ 3) (λ _. refl) (λ _. refl))))
 
 module _ (S g : ℕ) (s : Side) (n : ℕ) where
-  begun-facts : (op : Operation) → isBusy op ≡ true → argumentOk op n ≡ true → BusyFacts S g (begunTask op s n)
+  begun-facts : (op : Operation) → isBusy op ≡ true → argumentOk op (stored n) ≡ true → BusyFacts S g (begunTask op s n)
   unfolding isStepIn
   begun-facts op b h =
       record {
@@ -188,7 +183,7 @@ module _ (S g : ℕ) (s : Side) (n : ℕ) where
       first-value remove = refl
 
 -- A begin that passes its tests.
-pub record BeginAllowed (ws : List ℕ) (k op side argument : ℕ) : Type 0 where
+pub record BeginAllowed (ws : List ℕ) (k op side : ℕ) (argument : Stored) : Type 0 where
   pub is-task : k < taskCount ws
   pub some-operation : 1 ≤ op
   pub last-operation : op ≤ 4
@@ -196,7 +191,7 @@ pub record BeginAllowed (ws : List ℕ) (k op side argument : ℕ) : Type 0 wher
   pub argument-fits : argumentOk (operationOf op) argument ≡ true
   pub was-idle : isIdle (task ws k .operation) ≡ true
 
-module _ (ws : List ℕ) (k op side argument : ℕ) where
+module _ (ws : List ℕ) (k op side : ℕ) (argument : Stored) where
   pub begin-allowed : beginRefusal ws k op side argument ≡ nothing → BeginAllowed ws k op side argument
   begin-allowed e =
       let a : ltb k (taskCount ws) ≡ true = search (test-passed, tests-left) in
@@ -213,9 +208,9 @@ module _ (ws : List ℕ) (k op side argument : ℕ) where
         was-idle = search (test-passed, tests-left) depth 7;
       }
 
-  module _ (Z : WellSized (columns ws)) (W : WellShaped (columns ws)) where
+  module _ (Z : WellSized (sizesOf ws)) (W : WellShaped (columns ws)) where
     begun : Task
-    begun = begunTask (operationOf op) (sideOf side) argument
+    begun = begunTask (operationOf op) (sideOf side) (number argument)
 
     accepted-kept : BeginAllowed ws k op side argument → Kept ws (setTask k begun ws)
     unfolding begun
@@ -223,13 +218,12 @@ module _ (ws : List ℕ) (k op side argument : ℕ) where
         let S = nodeCount ws in
         let g = growth ws in
         let busy = begun-busy op (A .some-operation) in
-        let F = begun-facts S g (sideOf side) argument (operationOf op) busy (A .argument-fits) in
+        let F = begun-facts S g (sideOf side) (number argument) (operationOf op) busy (A .argument-fits) in
         let recorded = put-record-shaped (columns ws) W k (wordsOf begun) (record-of-busy S g begun F) in
         let same = sym (columns-setTask ws (Z .sized) k begun (A .is-task)) in
-        let sizes = subst (λ c. SameSizes c (columns ws)) same (refl, refl, refl, refl) in
         record {
-          same-sizes = sizes;
-          well-sized = same-sizes-kept sizes Z;
+          same-sizes = ap (λ c. c .sizes) (sym same);
+          well-sized = subst WellSized (ap (λ c. c .sizes) same) Z;
           well-shaped = subst WellShaped same recorded;
         }
 
@@ -247,17 +241,15 @@ module _ (ws : List ℕ) (k op side argument : ℕ) where
 -- ---- tick and run.
 kept-then : {ws vs us : List ℕ} → Kept ws vs → Kept vs us → Kept ws us
 kept-then K L =
-    let a = K .same-sizes in
-    let b = L .same-sizes in
     record {
-      same-sizes = (b .0 ∙ a .0, b .1 ∙ a .1, b .2 ∙ a .2, b .3 ∙ a .3);
+      same-sizes = L .same-sizes ∙ K .same-sizes;
       well-sized = L .well-sized;
       well-shaped = L .well-shaped;
     }
 
 pub run-kept :
     (list ws answers : List ℕ)
-    → WellSized (columns ws)
+    → WellSized (sizesOf ws)
     → WellShaped (columns ws)
     → Kept ws (runOn list ws answers .words)
 unfolding runOn
@@ -283,36 +275,36 @@ run-kept (k ∷ h ∷ list) ws answers Z W =
     go nothing K = K
 
 -- ---- Every call.
-module _ (ws : List ℕ) (A : Accepted ws) where
+module _ (ws : List ℕ) (A : WellFormed ws) where
   -- A table that passes both tests is not refused by them.
   pub table-passes : (others : Option ℕ) → tableRefusal ws others ≡ others
   table-passes others = rw (A .length-passes, A .shape-passes)
 
-  kept-accepted : {vs : List ℕ} → Kept ws vs → Accepted vs
+  kept-accepted : {vs : List ℕ} → Kept ws vs → WellFormed vs
   kept-accepted {vs} K =
       record { length-passes = length-ok vs (K .well-sized); shape-passes = shape-ok vs (K .well-shaped) }
 
-  Z : WellSized (columns ws)
+  Z : WellSized (sizesOf ws)
   Z = well-sized ws (A .length-passes)
 
   W : WellShaped (columns ws)
   W = well-shaped ws (A .shape-passes)
 
-  start-call-accepted : (S T g : ℕ) → Accepted (start ws S T g .words)
+  start-call-accepted : (S T g : ℕ) → WellFormed (start ws S T g .words)
   unfolding start
   start-call-accepted S T g = go (startRefusal ws S T g) refl
     where
-      go : (r : Option ℕ) → startRefusal ws S T g ≡ r → Accepted (changed r ws (startWords S T g) .words)
+      go : (r : Option ℕ) → startRefusal ws S T g ≡ r → WellFormed (changed r ws (startWords S T g) .words)
       go (some n) e = A
       go nothing e = start-accepted S T g (search test-passed)
 
-  tick-call-accepted : (k h : ℕ) → Accepted (tick ws k h .words)
+  tick-call-accepted : (k h : ℕ) → WellFormed (tick ws k h .words)
   unfolding tick
   tick-call-accepted k h = go (tableRefusal ws nothing)
     where
       go :
           (r : Option ℕ)
-          → Accepted
+          → WellFormed
           (elim r as (λ _. Ticked) [
             | some n ↦ record { answer = Refused n; words = ws }
             | nothing ↦ tickOn ws k h
@@ -320,18 +312,18 @@ module _ (ws : List ℕ) (A : Accepted ws) where
       go (some n) = A
       go nothing = kept-accepted (tick-kept ws Z W k h)
 
-  run-call-accepted : (list answers : List ℕ) → Accepted (run ws list answers .words)
+  run-call-accepted : (list answers : List ℕ) → WellFormed (run ws list answers .words)
   unfolding run
   run-call-accepted list answers = go (runRefusal ws list answers)
     where
       go :
           (r : Option ℕ)
-          → Accepted
+          → WellFormed
           (elim r as (λ _. RunDone) [ some n ↦ stopped n ws answers | nothing ↦ runOn list ws answers ] .words)
       go (some n) = A
       go nothing = kept-accepted (run-kept list ws answers Z W)
 
-  pub call-accepted : (c : Call) → Accepted (after c ws)
+  pub call-accepted : (c : Call) → WellFormed (after c ws)
   call-accepted (start-call S T g) = start-call-accepted S T g
   call-accepted (begin-call k op side argument) = kept-accepted (begin-kept ws k op side argument Z W)
   call-accepted (tick-call k h) = tick-call-accepted k h

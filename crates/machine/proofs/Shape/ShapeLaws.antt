@@ -1,5 +1,5 @@
 -- The tests of the sizes, the length and the shape as facts about the table's columns, both ways.
-use mathlib.Core.Path.{_≡_, refl}
+use mathlib.Core.Path.{_≡_, refl, sym, _∙_}
 use mathlib.Core.Bool.{Bool, true}
 use mathlib.Core.List.{List}
 use Prim.Native.Nat.{ℕ, zero, suc, _≤_, _<_}
@@ -9,7 +9,7 @@ use native.Mathlib.Omega.{arith}
 use borrow.Author.Tests.{leb-true, le-leb, ltb-true, lt-ltb, eqb-true, eq-eqb}
 use Rattle.machine.specs.Choice.{_<?_, _≟_, if_then_else_}
 use Rattle.machine.specs.Sides.{Side, left, right}
-use Rattle.machine.specs.Values.{valueOk}
+use Rattle.machine.specs.Values.{never, encode, valueOk}
 use Rattle.machine.specs.Tasks.{none, fresh, wordsOf}
 use Rattle.machine.specs.Table.{
   tableLength,
@@ -20,13 +20,13 @@ use Rattle.machine.specs.Table.{
   word6,
   word7,
   linkWord,
-  valueWord,
+  valueWords,
   link,
   recordWords,
 }
 use Rattle.machine.specs.Shape.{lengthOk, allBelow, nodeOrNone, nodeOk, recordOk, shapeOk}
 use Rattle.machine.proofs.Basics.Tests.{and-left, and-right}
-use Rattle.machine.proofs.Words.Columns.{Columns, columns, column, Sized}
+use Rattle.machine.proofs.Words.Columns.{Sizes, Counts, Columns, sizesOf, columns, column, Sized, startCounts, countedAs, counts-equal}
 use Rattle.machine.proofs.Shape.BusyLaws.{
   NodeOrNone,
   node-or-none,
@@ -36,16 +36,16 @@ use Rattle.machine.proofs.Shape.BusyLaws.{
 use Rattle.machine.proofs.Basics.Choices.{if-yes}
 
 -- ---- The sizes and the length.
-pub record WellSized (c : Columns) : Type 0 where
-  pub two-nodes : 2 ≤ c .nodeCount
-  pub most-nodes : c .nodeCount ≤ 1024
-  pub one-task : 1 ≤ c .taskCount
-  pub most-tasks : c .taskCount ≤ 16
-  pub most-growth : c .growth ≤ 64
-  pub sized : Sized c
+pub record WellSized (z : Sizes) : Type 0 where
+  pub two-nodes : 2 ≤ z .nodeCount
+  pub most-nodes : z .nodeCount ≤ 1024
+  pub one-task : 1 ≤ z .taskCount
+  pub most-tasks : z .taskCount ≤ 16
+  pub most-growth : z .growth ≤ 64
+  pub sized : Sized z
 
 module _ (ws : List ℕ) where
-  pub well-sized : lengthOk ws ≡ true → WellSized (columns ws)
+  pub well-sized : lengthOk ws ≡ true → WellSized (sizesOf ws)
   well-sized h =
       let S = nodeCount ws in
       let T = taskCount ws in
@@ -65,13 +65,13 @@ module _ (ws : List ℕ) where
         sized = eqb-true (length ws) (tableLength S T) f;
       }
 
-  pub length-ok : WellSized (columns ws) → lengthOk ws ≡ true
+  pub length-ok : WellSized (sizesOf ws) → lengthOk ws ≡ true
   length-ok Z =
       let S = nodeCount ws in
       let T = taskCount ws in
       let g = growth ws in
       rw (
-        le-leb 24 (length ws) (omega arith),
+        le-leb (tableLength 2 1) (length ws) (omega arith),
         le-leb 2 S (Z .two-nodes),
         le-leb S 1024 (Z .most-nodes),
         le-leb 1 T (Z .one-task),
@@ -96,13 +96,27 @@ below-all (suc n) test h x l =
     ]
 
 -- ---- The shape.
+pub record LastWordsZero (n : Counts) : Type 0 where
+  pub word6-zero : n .word6 ≡ 0
+  pub word7-zero : n .word7 ≡ 0
+
+pub start-last-words : LastWordsZero startCounts
+start-last-words = record { word6-zero = refl; word7-zero = refl }
+
+pub counted-last-words : (m : ℕ) {n : Counts} → LastWordsZero n → LastWordsZero (countedAs m n)
+counted-last-words m Z = record { word6-zero = Z .word6-zero; word7-zero = Z .word7-zero }
+
+-- What they are is then known.
+pub same-last-words : {m n : Counts} → LastWordsZero m → LastWordsZero n → m .tickCount ≡ n .tickCount → m ≡ n
+same-last-words Y Z e =
+    counts-equal e (Y .word6-zero ∙ sym (Z .word6-zero)) (Y .word7-zero ∙ sym (Z .word7-zero))
+
 pub record WellShaped (c : Columns) : Type 0 where
-  pub word6-zero : c .word6 ≡ 0
-  pub word7-zero : c .word7 ≡ 0
-  pub hats-ok : (s : Side) → c .hats s < c .nodeCount
-  pub links-ok : (s : Side) (x : ℕ) → NodeOrNone (c .nodeCount) (c .links s x)
+  pub counts-ok : LastWordsZero (c .counts)
+  pub hats-ok : (s : Side) → c .hats s < c .sizes .nodeCount
+  pub links-ok : (s : Side) (x : ℕ) → NodeOrNone (c .sizes .nodeCount) (c .links s x)
   pub values-ok : (x : ℕ) → valueOk (c .values x) ≡ true
-  pub records-ok : (k : ℕ) → recordOk (c .nodeCount) (c .growth) (c .records k) ≡ true
+  pub records-ok : (k : ℕ) → recordOk (c .sizes .nodeCount) (c .sizes .growth) (c .records k) ≡ true
 
 -- A column holds to a property where its function does below the bound, and the other value does.
 column-all :
@@ -123,7 +137,7 @@ module _ (ws : List ℕ) where
   node-links x h left = node-or-none (nodeCount ws) (linkWord ws left x) (search (and-left, and-right))
   node-links x h right = node-or-none (nodeCount ws) (linkWord ws right x) (search (and-left, and-right))
 
-  node-value : (x : ℕ) → nodeOk ws x ≡ true → valueOk (valueWord ws x) ≡ true
+  node-value : (x : ℕ) → nodeOk ws x ≡ true → valueOk (valueWords ws x) ≡ true
   unfolding nodeOk
   node-value x h = search (and-left, and-right)
 
@@ -143,13 +157,12 @@ module _ (ws : List ℕ) where
       let d : ltb (hat ws right) S ≡ true = search (and-left, and-right) depth 6 in
       let node = below-all S (nodeOk ws) nodes in
       record {
-        word6-zero = eqb-true (word6 ws) 0 a;
-        word7-zero = eqb-true (word7 ws) 0 b;
+        counts-ok = record { word6-zero = eqb-true (word6 ws) 0 a; word7-zero = eqb-true (word7 ws) 0 b };
         hats-ok = λ s. elim s [ left ↦ ltb-true (hat ws left) S c | right ↦ ltb-true (hat ws right) S d ];
         links-ok =
             λ s.
             column-all (NodeOrNone S) S none (linkWord ws s) (λ n. absurd (n refl)) (λ x l. node-links x (node x l) s);
-        values-ok = column-all (λ w. valueOk w ≡ true) S 0 (valueWord ws) refl (λ x l. node-value x (node x l));
+        values-ok = column-all (λ u. valueOk u ≡ true) S (encode never) (valueWords ws) refl (λ x l. node-value x (node x l));
         records-ok =
             column-all (λ r. recordOk S (growth ws) r ≡ true) T (wordsOf fresh) (recordWords ws)
             (record-of-fresh S (growth ws)) (below-all T record-test records);
@@ -159,7 +172,7 @@ module _ (ws : List ℕ) where
     shaped-node : (x : ℕ) → x < nodeCount ws → nodeOk ws x ≡ true
     unfolding nodeOk link
     shaped-node x l =
-        rw (link-ok left, link-ok right, rw (if-yes (x <? nodeCount ws) (valueWord ws x) 0 l) at (W .values-ok x))
+        rw (link-ok left, link-ok right, rw (if-yes (x <? nodeCount ws) (valueWords ws x) (encode never) l) at (W .values-ok x))
       where
         S : ℕ
         S = nodeCount ws
@@ -177,8 +190,8 @@ module _ (ws : List ℕ) where
     shape-ok =
         let S = nodeCount ws in
         rw (
-          eq-eqb (word6 ws) 0 (W .word6-zero),
-          eq-eqb (word7 ws) 0 (W .word7-zero),
+          eq-eqb (word6 ws) 0 (W .counts-ok .word6-zero),
+          eq-eqb (word7 ws) 0 (W .counts-ok .word7-zero),
           lt-ltb (hat ws left) S (W .hats-ok left),
           lt-ltb (hat ws right) S (W .hats-ok right),
           all-below S (nodeOk ws) shaped-node,

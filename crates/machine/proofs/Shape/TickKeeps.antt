@@ -12,7 +12,7 @@ use Rattle.machine.specs.declared.Answer.the-variants.{Refused}
 use Rattle.machine.specs.Choice.{_<?_, if_then_else_}
 use Rattle.machine.specs.Sides.{Side, opposite}
 use Rattle.machine.specs.Operations.{idle}
-use Rattle.machine.specs.Tasks.{Task, fresh, taskOf, wordsOf}
+use Rattle.machine.specs.Tasks.{Task, fresh, wordsOf, valueReadWords, taskOf}
 use Rattle.machine.specs.Table.{
   nodeCount,
   taskCount,
@@ -29,11 +29,10 @@ use Rattle.machine.specs.Calls.{isBusy, tickRefusal, effectOf, Ticked, a
 use Rattle.machine.proofs.Basics.Contradiction.{clash}
 use Rattle.machine.proofs.Basics.Tests.{test-passed, tests-left}
 use Rattle.machine.proofs.Words.ValueLaws.{HasWord, never-has-word, decoded-has-word, decoded-value-ok}
-use Rattle.machine.proofs.Words.RecordLaws.{task-of-words, fresh-of-words, words-of-task}
-use Rattle.machine.proofs.Words.Columns.{columns, putAll}
+use Rattle.machine.proofs.Words.RecordLaws.{task-of-words, fresh-of-words, words-of-task, read-passes}
+use Rattle.machine.proofs.Words.Columns.{sizesOf, columns, putAll}
 use Rattle.machine.proofs.Words.EffectLaws.{
-  SameSizes,
-  put-all-sizes,
+  put-all-rest,
   effectWords,
   columns-effect,
   effect-sizes,
@@ -54,7 +53,6 @@ use Rattle.machine.proofs.Shape.WritesKeep.{
   put-record-shaped,
   put-ticks-shaped,
   put-all-shaped,
-  same-sizes-kept,
 }
 use Rattle.machine.proofs.Basics.Choices.{by-if, if-yes}
 
@@ -112,13 +110,13 @@ module _ (ws : List ℕ) (W : WellShaped (columns ws)) where
       go (no n) = record-of-fresh S g
       go (yes l) =
           let ok : recordOk S g r ≡ true = rw (if-yes (k <? taskCount ws) r (wordsOf fresh) l) at (W .records-ok k) in
-          rw (words-of-task S g ws (recordAt S k) ok) ok
+          rw (words-of-task S g r ok) (read-passes S g r ok)
 
   pub task-has-word : (k : ℕ) → HasWord (task ws k .value)
   unfolding task
   task-has-word k =
       by-if (λ (t : Task). HasWord (t .value)) (k <? taskCount ws)
-      (λ _. decoded-has-word (getD (recordWords ws k) 5 0)) (λ _. never-has-word)
+      (λ _. decoded-has-word (valueReadWords (recordWords ws k))) (λ _. never-has-word)
 
   pub busy-facts :
       (k : ℕ) → isBusy (task ws k .operation) ≡ true → BusyFacts (nodeCount ws) (growth ws) (task ws k)
@@ -172,13 +170,13 @@ busy-passes ws k h b l = rw (lt-ltb k (taskCount ws) (busy-is-task ws k b), lt-l
 
 -- The words vs have the sizes of ws and the right shape.
 pub record Kept (ws vs : List ℕ) : Type 0 where
-  pub same-sizes : SameSizes (columns vs) (columns ws)
-  pub well-sized : WellSized (columns vs)
+  pub same-sizes : sizesOf vs ≡ sizesOf ws
+  pub well-sized : WellSized (sizesOf vs)
   pub well-shaped : WellShaped (columns vs)
 
-module _ (ws : List ℕ) (Z : WellSized (columns ws)) (W : WellShaped (columns ws)) where
+module _ (ws : List ℕ) (Z : WellSized (sizesOf ws)) (W : WellShaped (columns ws)) where
   pub unchanged : Kept ws ws
-  unchanged = record { same-sizes = (refl, refl, refl, refl); well-sized = Z; well-shaped = W }
+  unchanged = record { same-sizes = refl; well-sized = Z; well-shaped = W }
 
   module _ (k : ℕ) (is-task : k < taskCount ws) (s : Side) where
     effect-kept :
@@ -188,15 +186,15 @@ module _ (ws : List ℕ) (Z : WellSized (columns ws)) (W : WellShaped (columns w
         → Kept ws (effectWords s l k t ws)
     effect-kept l t fit ok =
         let c = putAll s l (columns ws) in
-        let z = put-all-sizes s l (columns ws) in
+        let z = put-all-rest s l (columns ws) .sizes in
         let in-range = all-in-range (nodeCount ws) l fit in
         let sizes = effect-sizes ws (Z .sized) s l in-range k is-task t in
-        let ok-after : recordOk (c .nodeCount) (c .growth) (wordsOf t) ≡ true = rw (z .1, z .3) ok in
+        let ok-after = subst (λ z. recordOk (z .nodeCount) (z .growth) (wordsOf t) ≡ true) (sym z) ok in
         let recorded = put-record-shaped c (put-all-shaped s l (columns ws) W fit) k (wordsOf t) ok-after in
         let same = sym (columns-effect ws (Z .sized) s l in-range k is-task t) in
         record {
           same-sizes = sizes;
-          well-sized = same-sizes-kept sizes Z;
+          well-sized = subst WellSized (sym sizes) Z;
           well-shaped = subst WellShaped same (put-ticks-shaped _ recorded _);
         }
 

@@ -3,6 +3,7 @@ use mathlib.Core.Path.{_≡_, subst, sym}
 use mathlib.Core.Bool.{true}
 use mathlib.Core.List.{List, [], _∷_}
 use Prim.Native.Nat.{ℕ, _<_}
+use Rattle.machine.specs.declared.Stored.{Stored}
 use Rattle.machine.specs.Sides.{Side, opposite}
 use Rattle.machine.specs.Values.{valueOk, encode}
 use Rattle.machine.specs.Shape.{recordOk}
@@ -18,9 +19,9 @@ use Rattle.machine.proofs.Words.Columns.{
   putOne,
   putAll,
 }
-use Rattle.machine.proofs.Words.EffectLaws.{InRange, AllInRange, SameSizes, put-one-sizes}
+use Rattle.machine.proofs.Words.EffectLaws.{InRange, AllInRange, put-one-rest}
 use Rattle.machine.proofs.Shape.BusyLaws.{NodeOrNone}
-use Rattle.machine.proofs.Shape.ShapeLaws.{WellSized, WellShaped}
+use Rattle.machine.proofs.Shape.ShapeLaws.{WellShaped, counted-last-words}
 use Rattle.machine.proofs.Shape.Fits.{WriteFits, WritesFit}
 
 -- What fits is in range.
@@ -36,23 +37,21 @@ all-in-range S (w ∷ l) h = (fit-in-range S w (h .0), all-in-range S l (h .1))
 
 -- ---- One write of each kind.
 module _ (c : Columns) (W : WellShaped c) where
-  put-hat-shaped : (s : Side) (x : ℕ) → x < c .nodeCount → WellShaped (putHat s x c)
+  put-hat-shaped : (s : Side) (x : ℕ) → x < c .sizes .nodeCount → WellShaped (putHat s x c)
   put-hat-shaped s x h =
       record {
-        word6-zero = W .word6-zero;
-        word7-zero = W .word7-zero;
-        hats-ok = updateSide-all (c .hats) s x (λ y. y < c .nodeCount) h (W .hats-ok);
+        counts-ok = W .counts-ok;
+        hats-ok = updateSide-all (c .hats) s x (λ y. y < c .sizes .nodeCount) h (W .hats-ok);
         links-ok = W .links-ok;
         values-ok = W .values-ok;
         records-ok = W .records-ok;
       }
 
-  put-link-shaped : (s : Side) (x y : ℕ) → NodeOrNone (c .nodeCount) y → WellShaped (putLink s x y c)
+  put-link-shaped : (s : Side) (x y : ℕ) → NodeOrNone (c .sizes .nodeCount) y → WellShaped (putLink s x y c)
   put-link-shaped s x y h =
-      let S = c .nodeCount in
+      let S = c .sizes .nodeCount in
       record {
-        word6-zero = W .word6-zero;
-        word7-zero = W .word7-zero;
+        counts-ok = W .counts-ok;
         hats-ok = W .hats-ok;
         links-ok =
             updateSide-all (c .links) s (update (c .links s) x y) (λ f. (z : ℕ) → NodeOrNone S (f z))
@@ -61,64 +60,48 @@ module _ (c : Columns) (W : WellShaped c) where
         records-ok = W .records-ok;
       }
 
-  put-value-shaped : (x w : ℕ) → valueOk w ≡ true → WellShaped (putValue x w c)
-  put-value-shaped x w h =
+  put-value-shaped : (x : ℕ) (u : Stored) → valueOk u ≡ true → WellShaped (putValue x u c)
+  put-value-shaped x u h =
       record {
-        word6-zero = W .word6-zero;
-        word7-zero = W .word7-zero;
+        counts-ok = W .counts-ok;
         hats-ok = W .hats-ok;
         links-ok = W .links-ok;
-        values-ok = update-all (c .values) x w (λ u. valueOk u ≡ true) h (W .values-ok);
+        values-ok = update-all (c .values) x u (λ w. valueOk w ≡ true) h (W .values-ok);
         records-ok = W .records-ok;
       }
 
   pub put-record-shaped :
-      (k : ℕ) (r : List ℕ) → recordOk (c .nodeCount) (c .growth) r ≡ true → WellShaped (putRecord k r c)
+      (k : ℕ) (r : List ℕ) → recordOk (c .sizes .nodeCount) (c .sizes .growth) r ≡ true → WellShaped (putRecord k r c)
   put-record-shaped k r h =
       record {
-        word6-zero = W .word6-zero;
-        word7-zero = W .word7-zero;
+        counts-ok = W .counts-ok;
         hats-ok = W .hats-ok;
         links-ok = W .links-ok;
         values-ok = W .values-ok;
         records-ok =
-            update-all (c .records) k r (λ q. recordOk (c .nodeCount) (c .growth) q ≡ true) h (W .records-ok);
+            update-all (c .records) k r (λ q. recordOk (c .sizes .nodeCount) (c .sizes .growth) q ≡ true) h (W .records-ok);
       }
 
   pub put-ticks-shaped : (n : ℕ) → WellShaped (putTickCount n c)
   put-ticks-shaped n =
       record {
-        word6-zero = W .word6-zero;
-        word7-zero = W .word7-zero;
+        counts-ok = counted-last-words n (W .counts-ok);
         hats-ok = W .hats-ok;
         links-ok = W .links-ok;
         values-ok = W .values-ok;
         records-ok = W .records-ok;
       }
 
-  put-one-shaped : (s : Side) (w : Write) → WriteFits (c .nodeCount) w → WellShaped (putOne s w c)
+  put-one-shaped : (s : Side) (w : Write) → WriteFits (c .sizes .nodeCount) w → WellShaped (putOne s w c)
   put-one-shaped s (out≔ x y) h = put-link-shaped s x y (h .1)
   put-one-shaped s (inn≔ x y) h = put-link-shaped (opposite s) x y (h .1)
   put-one-shaped s (val≔ x v) h = put-value-shaped x (encode v) (h .1 .1)
   put-one-shaped s (hat≔ x) h = put-hat-shaped s x h
 
--- ---- Several writes, and the sizes.
+-- ---- Several writes.
 pub put-all-shaped :
-    (s : Side) (l : List Write) (c : Columns) → WellShaped c → WritesFit (c .nodeCount) l → WellShaped (putAll s l c)
+    (s : Side) (l : List Write) (c : Columns) → WellShaped c → WritesFit (c .sizes .nodeCount) l → WellShaped (putAll s l c)
 put-all-shaped s [] c W h = W
 put-all-shaped s (w ∷ l) c W h =
-    let nodes = put-one-sizes s w c .1 in
-    put-all-shaped s l (putOne s w c) (put-one-shaped c W s w (h .0)) (subst (λ S. WritesFit S l) (sym nodes) (h .1))
-
-pub same-sizes-kept : {b c : Columns} → SameSizes b c → WellSized c → WellSized b
-same-sizes-kept Z W =
-    let nodes = Z .1 in
-    let tasks = Z .2 in
-    record {
-      two-nodes = rw nodes (W .two-nodes);
-      most-nodes = rw nodes (W .most-nodes);
-      one-task = rw tasks (W .one-task);
-      most-tasks = rw tasks (W .most-tasks);
-      most-growth = rw (Z .3) (W .most-growth);
-      sized = rw (Z .0, nodes, tasks) (W .sized);
-    }
+    put-all-shaped s l (putOne s w c) (put-one-shaped c W s w (h .0))
+    (subst (λ z. WritesFit (z .nodeCount) l) (sym (put-one-rest s w c .sizes)) (h .1))

@@ -21,21 +21,10 @@ use Rattle.machine.specs.Steps.{
   line67,
 }
 use Rattle.machine.specs.Tasks.{Task, none, goto, withA, withB, withD, withCounted, withValue}
-use Rattle.machine.specs.Lines.{
-  Memory,
-  Write,
-  out≔,
-  inn≔,
-  val≔,
-  Effect,
-  next,
-  writing,
-  spliced,
-  act,
-}
+use Rattle.machine.specs.Lines.{Write, out≔, inn≔, val≔, Effect, next, writing, spliced, act}
 use Rattle.machine.proofs.Basics.Contradiction.{clash, refute}
 use Rattle.machine.proofs.Basics.Updates.{it-is, it-is-not, update, update-wrote, wrote?}
-use Rattle.machine.proofs.Words.Memories.{written}
+use Rattle.machine.proofs.Words.Memories.{View, seenIn, written}
 use Rattle.machine.proofs.Linearizability.Model.Classes.{Class}
 use Rattle.machine.proofs.Linearizability.Model.Invariant.{Lane}
 use Rattle.machine.proofs.Linearizability.Lines.Connectives.{ok-if}
@@ -69,20 +58,20 @@ use Rattle.machine.proofs.SoloBound.Budget.{
 }
 use Rattle.machine.proofs.SoloBound.Spending.{no-node-answers, goes, answered, passing, swapping}
 
-module _ (extra S g : ℕ) (few : g ≤ 64) {s o : Side} {m : Memory} {class : ℕ → Class} {r : List ℕ}
-    (L : Lane s o m class r) (size : L .n ≤ S) (t : Task) (f n : ℕ) where
+module _ (extra S g : ℕ) (few : g ≤ 64) {s o : Side} {m : View} {class : ℕ → Class} {r : List ℕ}
+    (L : Lane s o m class r) (size : L .frame .n ≤ S) (t : Task) (f n : ℕ) where
   abbrev Ok : Effect → Type 0
   Ok e = Spends extra S g s m n e
 
   abbrev LineOk : Step → Type 0
-  LineOk st = Left extra st S g s m t n → Ok (act st s o m t g f)
+  LineOk st = Left extra st S g s m t n → Ok (act st s o (seenIn s m) t g f)
 
   -- ---- Taking nodes.
 
   -- A value other than Y, written anywhere, leaves a hat off Y there.
-  still-off-Y : (x : ℕ) (v : Value) → v ≢ Y s → m .val (m .hat) ≢ Y s → update (m .val) x v (m .hat) ≢ Y s
+  still-off-Y : (x : ℕ) (v : Value) → v ≢ Y s → m .val (m .hats s) ≢ Y s → update (m .val) x v (m .hats s) ≢ Y s
   still-off-Y x v nv ne y =
-      elim (wrote? (update-wrote (m .val) x v) (m .hat)) [
+      elim (wrote? (update-wrote (m .val) x v) (m .hats s)) [
         | it-is e q ↦ nv (cc)
         | it-is-not e q ↦ ne (cc)
       ]
@@ -112,8 +101,8 @@ module _ (extra S g : ℕ) (few : g ≤ 64) {s o : Side} {m : Memory} {class : �
   one-more = withCounted (withD t f) (suc (t .counted))
 
   grows : t .counted < g
-      → SoonOrLate (m .val (m .hat) ≢ Y s) ((g - t .counted) + (2 * S + 8)) ((g - t .counted) + (2 * S + 85)) n
-      → Ok (act line31 s o m t g f)
+      → SoonOrLate (m .val (m .hats s) ≢ Y s) ((g - t .counted) + (2 * S + 8)) ((g - t .counted) + (2 * S + 85)) n
+      → Ok (act line31 s o (seenIn s m) t g f)
   unfolding act
   grows below (soon ne h) =
       let off = still-off-Y f (N s) (λ q. refute (cc)) ne in
@@ -135,15 +124,15 @@ module _ (extra S g : ℕ) (few : g ≤ 64) {s o : Side} {m : Memory} {class : �
   line31-spends G = grows (G .below) (G .when)
 
   -- ---- Seeking the end of main.
-  seeks : (k : ℕ) → m .val (m .hat) ≢ Y s → 2 * S + 6 ≤ k → Seeking S s m (m .hat) k
+  seeks : (k : ℕ) → m .val (m .hats s) ≢ Y s → 2 * S + 6 ≤ k → Seeking S s m (m .hats s) k
   seeks k ne h = seek-sure (at-hat refl ne) (omega arith)
 
   pub line15-spends : LineOk line15
   unfolding act
   line15-spends (soon ne h) =
-      goes (goto (withA t (m .hat)) line17) (omega arith) (seeks (n - 1) ne (omega arith))
+      goes (goto (withA t (m .hats s)) line17) (omega arith) (seeks (n - 1) ne (omega arith))
   line15-spends (late h) =
-      goes (goto (withA t (m .hat)) line17) (omega arith)
+      goes (goto (withA t (m .hats s)) line17) (omega arith)
       (elim (hat-value (L .structure)) [
         | hat-N v ↦ seeks (n - 1) (λ y. refute (cc)) (omega arith)
         | hat-X v ↦ seeks (n - 1) (λ y. refute (cc)) (omega arith)
@@ -156,7 +145,7 @@ module _ (extra S g : ℕ) (few : g ≤ 64) {s o : Side} {m : Memory} {class : �
       → (m .val (t .A) ≡ X s → Left extra line24 S g s m t (n - 1))
       → (m .val (t .A) ≢ N s → m .val (t .A) ≢ Y s → m .val (t .A) ≢ X s → Left extra line15 S g s m t (n - 1))
       → 1 ≤ n
-      → Ok (act line17 s o m t g f)
+      → Ok (act line17 s o (seenIn s m) t g f)
   unfolding act
   by-value on-N on-Y on-X on-other some =
       let v = m .val (t .A) in
@@ -213,7 +202,7 @@ module _ (extra S g : ℕ) (few : g ≤ 64) {s o : Side} {m : Memory} {class : �
   abbrev splice : List Write
   splice = out≔ (t .A) (t .D) ∷ val≔ (t .A) (N s) ∷ []
 
-  splices : 1 ≤ n → ((t' : Task) → Left extra line2 S g s (written splice m) t' (n - 1)) → (op : Operation)
+  splices : 1 ≤ n → ((t' : Task) → Left extra line2 S g s (written s splice m) t' (n - 1)) → (op : Operation)
       → Ok (spliced op splice t)
   splices some h push = goes (goto (withCounted (withD t none) 0) line2) some (h t)
   splices some h idle = answered (λ q. refute (cc))
@@ -221,9 +210,9 @@ module _ (extra S g : ℕ) (few : g ≤ 64) {s o : Side} {m : Memory} {class : �
   splices some h add = answered (λ q. refute (cc))
   splices some h remove = answered (λ q. refute (cc))
 
-  hat-N-after : (m .val (m .hat) ≡ N s) ⊎ (m .hat ≡ t .A) → update (m .val) (t .A) (N s) (m .hat) ≡ N s
+  hat-N-after : (m .val (m .hats s) ≡ N s) ⊎ (m .hats s ≡ t .A) → update (m .val) (t .A) (N s) (m .hats s) ≡ N s
   hat-N-after R =
-      elim (wrote? (update-wrote (m .val) (t .A) (N s)) (m .hat)) [
+      elim (wrote? (update-wrote (m .val) (t .A) (N s)) (m .hats s)) [
         | it-is e q ↦ q
         | it-is-not ne q ↦ elim R [ inl u ↦ cc | inr e ↦ absurd (ne e) ]
       ]

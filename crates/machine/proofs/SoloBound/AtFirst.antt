@@ -8,7 +8,7 @@ use Rattle.machine.specs.Operations.{idle, push, add}
 use Rattle.machine.specs.Steps.{Step, rest, line31}
 use Rattle.machine.specs.Steps as Steps
 use Rattle.machine.specs.Tasks.{Task}
-use Rattle.machine.specs.Lines.{Memory}
+use Rattle.machine.proofs.Words.Memories.{View}
 use Rattle.machine.proofs.Linearizability.Model.Classes.{Class}
 use Rattle.machine.proofs.Linearizability.Model.Phases.{TaskOk}
 use Rattle.machine.proofs.SoloBound.Walks.{EndsWithin}
@@ -42,7 +42,7 @@ four-a-link extra (suc S) = omega (arith, four-a-link extra S)
 enough : (extra S : ℕ) → 4 * S + 153 ≤ most extra S
 enough extra S = omega (arith, four-a-link extra S)
 
-module _ (k extra S g : ℕ) (little : extra ≤ 2) {s o : Side} (m : Memory) {class : ℕ → Class}
+module _ (k extra S g : ℕ) (little : extra ≤ 2) {s o : Side} (m : View) {class : ℕ → Class}
     (short : (x : ℕ) → EndsWithin (m .out) S x) (t : Task) (busy : t .operation ≢ idle)
     (few : (t .operation ≡ push) ⊎ (t .operation ≡ add) → g ≤ 64) where
   pub left-at-first : (st : Step) → TaskOk k s o m class st t → (st ≡ line31 → t .counted < g)

@@ -8,8 +8,9 @@ use Rattle.machine.specs.Sides.{Side}
 use Rattle.machine.specs.Values.{Value, bag, N, X, Y}
 use Rattle.machine.specs.Tasks.{none}
 use Rattle.machine.proofs.Basics.Contradiction.{clash, less?, refute}
+use Rattle.machine.proofs.Words.Memories.{View}
 use Rattle.machine.proofs.Linearizability.Model.Classes.{Class}
-use Rattle.machine.proofs.Linearizability.Model.Structure.{Structure}
+use Rattle.machine.proofs.Linearizability.Model.Structure.{Frame, Structure}
 use Rattle.machine.proofs.Linearizability.Model.Nodes.{
   first,
   far-zone,
@@ -44,9 +45,10 @@ pub path-ready : {s : Side} {out : ℕ → ℕ} {val : ℕ → Value} {hat i x :
 path-ready (at-hat e ne) = inr e
 path-ready (on-path P v q) = inl (elim (path-ready P) [ inl u ↦ u | inr e ↦ cc ])
 
-module _ {s o : Side} {out inn : ℕ → ℕ} {val : ℕ → Value} {hat far : ℕ} {class : ℕ → Class}
-    {at index : ℕ → ℕ} {n a b : ℕ} {bags : ℕ → ℕ}
-    (S : Structure s o out inn val hat far class at index n a b bags) where
+module _ {s o : Side} {m : View} {class : ℕ → Class} {F : Frame} (S : Structure s o m class F) where
+  open View m using (out, inn, val, hats)
+  open Frame F using (at, n, b)
+
   pub j : ℕ
   j = b - 1
 
@@ -61,7 +63,7 @@ module _ {s o : Side} {out inn : ℕ → ℕ} {val : ℕ → Value} {hat far : �
         | inr l ↦ let e : b ≡ n = omega (arith, S .b≤n) in inr (cc (S .values .X-last))
       ]
 
-  pub hat-value : HatValue s (val hat)
+  pub hat-value : HatValue s (val (hats s))
   hat-value =
       elim (S .near-hat j j-next) [
         | inl e ↦ elim b-value [ inl v ↦ hat-N (cc) | inr v ↦ hat-X (cc) ]
@@ -69,10 +71,10 @@ module _ {s o : Side} {out inn : ℕ → ℕ} {val : ℕ → Value} {hat far : �
       ]
 
   -- A hat off Y is at its index.
-  pub hat-at : val hat ≢ Y s → hat ≡ at b
+  pub hat-at : val (hats s) ≢ Y s → hats s ≡ at b
   hat-at ne = elim (S .near-hat j j-next) [ inl e ↦ e | inr y ↦ absurd (ne (y .is-Y)) ]
 
-  pub hat-leads : val hat ≡ N s → out hat ≢ none
+  pub hat-leads : val (hats s) ≡ N s → out (hats s) ≢ none
   hat-leads v =
       let e = hat-at (λ y. refute (cc)) in
       elim (less? b n) [
@@ -81,7 +83,7 @@ module _ {s o : Side} {out inn : ℕ → ℕ} {val : ℕ → Value} {hat far : �
       ]
 
   -- The path from the hat is main.
-  pub path-at : {i x : ℕ} → Path s out val hat i x → (x ≡ at (b + i)) × (b + i ≤ n)
+  pub path-at : {i x : ℕ} → Path s out val (hats s) i x → (x ≡ at (b + i)) × (b + i ≤ n)
   path-at (at-hat e ne) =
       let z : b + 0 ≡ b = omega arith in
       let q = hat-at ne in
@@ -94,14 +96,14 @@ module _ {s o : Side} {out inn : ℕ → ℕ} {val : ℕ → Value} {hat far : �
       (cc (S .links .links-out (b + i) l), omega arith)
 
   -- A node on the path with N leads on; the hat's node holds N unless the path ends at the hat.
-  pub path-leads : {i x : ℕ} → Path s out val hat i x → val x ≡ N s → out x ≢ none
+  pub path-leads : {i x : ℕ} → Path s out val (hats s) i x → val x ≡ N s → out x ≢ none
   path-leads {i} {x} P v e =
       let w = path-at P in
       let q = w .0 in
       let l : b + i < n = N-before-n S (b + i) (w .1) (cc) in
       at-some S (suc (b + i)) l (cc (S .links .links-out (b + i) l))
 
-  pub path-value : {i x : ℕ} → Path s out val hat i x → (val x ≡ N s) ⊎ (val x ≡ X s)
+  pub path-value : {i x : ℕ} → Path s out val (hats s) i x → (val x ≡ N s) ⊎ (val x ≡ X s)
   path-value {i} {x} P =
       let w = path-at P in
       let q = w .0 in
@@ -110,27 +112,27 @@ module _ {s o : Side} {out inn : ℕ → ℕ} {val : ℕ → Value} {hat far : �
         | inr l ↦ let e : b + i ≡ n = omega (arith, w .1) in inr (cc (S .values .X-last))
       ]
 
-  pub inn-hat : inn hat ≡ at j
+  pub inn-hat : inn (hats s) ≡ at j
   inn-hat =
       elim (S .near-hat j j-next) [
         | inl e ↦ let q = j-next in cc (S .links .links-in j (omega (arith, j-next, S .b≤n)))
         | inr y ↦ y .leads-back
       ]
 
-  pub behind-some : inn hat ≢ none
+  pub behind-some : inn (hats s) ≢ none
   behind-some e = at-some S j (omega (arith, j-next, S .b≤n)) (cc (inn-hat))
 
   -- The node that follows the one behind the hat: main's at the hat's index.
-  pub past-hat : out (inn hat) ≡ at b
+  pub past-hat : out (inn (hats s)) ≡ at b
   past-hat = let q = j-next in cc (inn-hat, S .links .links-out j (omega (arith, j-next, S .b≤n)))
 
-  pub past-some : out (inn hat) ≢ none
+  pub past-some : out (inn (hats s)) ≢ none
   past-some e = at-some S b (S .b≤n) (cc (past-hat))
 
-  pub past-off-Y : val (out (inn hat)) ≢ Y s
+  pub past-off-Y : val (out (inn (hats s))) ≢ Y s
   past-off-Y y = elim b-value [ inl v ↦ refute (cc (past-hat)) | inr v ↦ refute (cc (past-hat)) ]
 
-  pub behind-value : Popped o (val (inn hat))
+  pub behind-value : Popped o (val (inn (hats s)))
   behind-value =
       let l : j < n = omega (arith, j-next, S .b≤n) in
       let e = inn-hat in

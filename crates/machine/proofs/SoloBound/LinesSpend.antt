@@ -8,7 +8,8 @@ use Rattle.machine.specs.Operations.{push, add}
 use Rattle.machine.specs.Steps.{Step, rest}
 use Rattle.machine.specs.Steps as Steps
 use Rattle.machine.specs.Tasks.{Task}
-use Rattle.machine.specs.Lines.{Memory, act}
+use Rattle.machine.specs.Lines.{act}
+use Rattle.machine.proofs.Words.Memories.{View, seenIn}
 use Rattle.machine.proofs.Linearizability.Model.Classes.{Class}
 use Rattle.machine.proofs.Linearizability.Model.Phases.{TaskOk}
 use Rattle.machine.proofs.Linearizability.Model.Invariant.{Lane}
@@ -56,11 +57,11 @@ use Rattle.machine.proofs.SoloBound.AddSpends.{
   line31-spends,
 }
 
-module _ (k extra S g : ℕ) {s o : Side} {m : Memory} {class : ℕ → Class} {r : List ℕ}
-    (L : Lane s o m class r) (size : L .n ≤ S) (short : (x : ℕ) → EndsWithin (m .out) S x) (t : Task) (f n : ℕ)
+module _ (k extra S g : ℕ) {s o : Side} {m : View} {class : ℕ → Class} {r : List ℕ}
+    (L : Lane s o m class r) (size : L .frame .n ≤ S) (short : (x : ℕ) → EndsWithin (m .out) S x) (t : Task) (f n : ℕ)
     (few : (t .operation ≡ push) ⊎ (t .operation ≡ add) → g ≤ 64) where
   pub line-spends : (st : Step) → TaskOk k s o m class st t → Left extra st S g s m t n
-      → Spends extra S g s m n (act st s o m t g f)
+      → Spends extra S g s m n (act st s o (seenIn s m) t g f)
   line-spends rest h b = absurd b
   line-spends Steps.line2 h b = line2-spends extra S g L t f n b
   line-spends Steps.line3 h b = line3-spends extra S g L t f n b

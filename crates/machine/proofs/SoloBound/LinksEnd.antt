@@ -14,10 +14,10 @@ use Rattle.machine.specs.Operations.{Operation, idle, push, pop, add, re
 use Rattle.machine.specs.Steps.{Step, rest}
 use Rattle.machine.specs.Steps as Steps
 use Rattle.machine.specs.Tasks.{Task, none}
-use Rattle.machine.specs.Lines.{Memory, out≔, val≔, Effect, next, writing, spliced, back, act}
+use Rattle.machine.specs.Lines.{out≔, val≔, Effect, next, writing, spliced, back, act}
 use Rattle.machine.proofs.Basics.Contradiction.{less?, refute}
 use Rattle.machine.proofs.Basics.Updates.{Wrote, update, update-wrote}
-use Rattle.machine.proofs.Words.Memories.{written}
+use Rattle.machine.proofs.Words.Memories.{View, seenIn, written}
 use Rattle.machine.proofs.Linearizability.Model.Classes.{Class, new, Old}
 use Rattle.machine.proofs.Linearizability.Model.Chain.{HasChain, HasChainIn}
 use Rattle.machine.proofs.Linearizability.Writes.ChainGrowth.{head-new}
@@ -34,12 +34,12 @@ use Rattle.machine.proofs.SoloBound.Walks.{
 }
 
 -- All walks end, outward and inward.
-abbrev pub LinksEnd : Memory → Type 0
+abbrev pub LinksEnd : View → Type 0
 LinksEnd m = WalksEnd (m .out) × WalksEnd (m .inn)
 
 -- They end after an effect.
-pub record EndsAfter (m : Memory) (e : Effect) : Type 0 where
-  pub links-end : LinksEnd (written (e .writes) m)
+pub record EndsAfter (s : Side) (m : View) (e : Effect) : Type 0 where
+  pub links-end : LinksEnd (written s (e .writes) m)
 
 -- A chain leads outward to itself or to none.
 chain-out : {k : ℕ} {s : Side} {out inn : ℕ → ℕ} {val : ℕ → Value} {class : ℕ → Class} {d : ℕ}
@@ -59,14 +59,14 @@ chain-out H x c ne =
     ]
 
 -- Of the structure it is only used that inward links of old nodes lead to old nodes.
-module _ (held : ℕ → Bool) (k : ℕ) (s o : Side) (m : Memory) (class : ℕ → Class)
+module _ (held : ℕ → Bool) (k : ℕ) (s o : Side) (m : View) (class : ℕ → Class)
     (inn-closed : (x : ℕ) → Old class x → m .inn x ≢ none → Old class (m .inn x))
     (E : LinksEnd m) (t : Task) (g f : ℕ) where
   abbrev Ok : Effect → Type 0
-  Ok e = EndsAfter m e
+  Ok e = EndsAfter s m e
 
   abbrev LineOk : Step → Type 0
-  LineOk st = TaskOk k s o m class st t → Ok (act st s o m t g f)
+  LineOk st = TaskOk k s o m class st t → Ok (act st s o (seenIn s m) t g f)
 
   -- The links are as they were.
   quiet : {t' : Task} {a : Answer} → Ok (record { writes = []; task = t'; answer = a })
@@ -175,13 +175,13 @@ module _ (held : ℕ → Bool) (k : ℕ) (s o : Side) (m : Memory) (class : ℕ 
   line5-ends h =
       ok-through Ok (t .A) (λ _. quiet) (λ _.
       ok-through Ok (t .B) (λ _. quiet) (λ _.
-      ok-dcas Ok (m .hat ≟ t .A) (m .val (t .A) ≟ᵛ N s) (λ _ _. record { links-end = E }) quiet))
+      ok-dcas Ok (m .hats s ≟ t .A) (m .val (t .A) ≟ᵛ N s) (λ _ _. record { links-end = E }) quiet))
 
   line51-ends : LineOk Steps.line51
   unfolding act
   line51-ends h =
       ok-through Ok (t .B) (λ _. quiet) (λ _.
-      ok-dcas Ok (m .hat ≟ t .A) (m .val (t .B) ≟ᵛ t .value) (λ _ _. record { links-end = E }) quiet)
+      ok-dcas Ok (m .hats s ≟ t .A) (m .val (t .B) ≟ᵛ t .value) (λ _ _. record { links-end = E }) quiet)
 
   line62-ends : LineOk Steps.line62
   unfolding act
@@ -194,7 +194,7 @@ module _ (held : ℕ → Bool) (k : ℕ) (s o : Side) (m : Memory) (class : ℕ 
   unfolding act
   line72-ends h =
       ok-through Ok (t .C) (λ _. quiet) (λ _.
-      ok-if Ok (λ l. writing l (next t (back t))) (m .hat ≟ t .A) (λ _. record { links-end = E }) (λ _. quiet))
+      ok-if Ok (λ l. writing l (next t (back t))) (m .hats s ≟ t .A) (λ _. record { links-end = E }) (λ _. quiet))
 
   line78-ends : LineOk Steps.line78
   unfolding act
@@ -206,7 +206,7 @@ module _ (held : ℕ → Bool) (k : ℕ) (s o : Side) (m : Memory) (class : ℕ 
   unfolding act
   line48-ends h =
       ok-through Ok (t .B) (λ _. quiet) (λ _.
-      ok-dcas Ok (m .hat ≟ t .A) (m .val (t .B) ≟ᵛ t .value) (λ _ _. quiet) quiet)
+      ok-dcas Ok (m .hats s ≟ t .A) (m .val (t .B) ≟ᵛ t .value) (λ _ _. quiet) quiet)
 
   line56-ends : LineOk Steps.line56
   unfolding act

@@ -8,8 +8,9 @@ use Rattle.machine.specs.Sides.{Side}
 use Rattle.machine.specs.Values.{Value, never, bag, N, X, Y, _≟ᵛ_}
 use Rattle.machine.specs.Steps.{Step, line39, line40, line42, line48, line51}
 use Rattle.machine.specs.Tasks.{Task, none, goto, withA, withB, withValue}
-use Rattle.machine.specs.Lines.{Memory, Effect, next, afterRead, act}
+use Rattle.machine.specs.Lines.{Effect, next, afterRead, act}
 use Rattle.machine.proofs.Basics.Contradiction.{clash, refute}
+use Rattle.machine.proofs.Words.Memories.{View, seenIn}
 use Rattle.machine.proofs.Linearizability.Model.Classes.{Class}
 use Rattle.machine.proofs.Linearizability.Model.Invariant.{Lane}
 use Rattle.machine.proofs.Linearizability.Lines.Connectives.{ok-if}
@@ -17,17 +18,17 @@ use Rattle.machine.proofs.SoloBound.AtHat.{Popped, a-bag, far-N, far-X,
 use Rattle.machine.proofs.SoloBound.Budget.{soon, late, Left, Spends}
 use Rattle.machine.proofs.SoloBound.Spending.{goes, answered, passing, swapping}
 
-module _ (extra S g : ℕ) {s o : Side} {m : Memory} {class : ℕ → Class} {r : List ℕ}
+module _ (extra S g : ℕ) {s o : Side} {m : View} {class : ℕ → Class} {r : List ℕ}
     (L : Lane s o m class r) (t : Task) (f n : ℕ) where
   abbrev Ok : Effect → Type 0
   Ok e = Spends extra S g s m n e
 
   abbrev LineOk : Step → Type 0
-  LineOk st = Left extra st S g s m t n → Ok (act st s o m t g f)
+  LineOk st = Left extra st S g s m t n → Ok (act st s o (seenIn s m) t g f)
 
   pub line39-spends : LineOk line39
   unfolding act
-  line39-spends h = goes (goto (withA t (m .hat)) line40) (omega arith) (soon refl (omega arith))
+  line39-spends h = goes (goto (withA t (m .hats s)) line40) (omega arith) (soon refl (omega arith))
 
   pub line40-spends : LineOk line40
   unfolding act
@@ -83,20 +84,20 @@ module _ (extra S g : ℕ) {s o : Side} {m : Memory} {class : ℕ → Class} {r 
   unfolding act
   line48-spends (soon e h) =
       passing t (t .B) (λ _.
-      swapping (m .hat ≟ t .A) (m .val (t .B) ≟ᵛ t .value) (λ _ _. answered (λ q. refute (cc)))
+      swapping (m .hats s ≟ t .A) (m .val (t .B) ≟ᵛ t .value) (λ _ _. answered (λ q. refute (cc)))
       (λ ne. absurd (ne (e .0) (e .1))))
   line48-spends (late h) =
       passing t (t .B) (λ _.
-      swapping (m .hat ≟ t .A) (m .val (t .B) ≟ᵛ t .value) (λ _ _. answered (λ q. refute (cc)))
+      swapping (m .hats s ≟ t .A) (m .val (t .B) ≟ᵛ t .value) (λ _ _. answered (λ q. refute (cc)))
       (λ _. goes (goto t line39) (omega arith) (omega arith)))
 
   pub line51-spends : LineOk line51
   unfolding act
   line51-spends (soon e h) =
       passing t (t .B) (λ _.
-      swapping (m .hat ≟ t .A) (m .val (t .B) ≟ᵛ t .value) (λ _ _. answered (λ q. refute (cc)))
+      swapping (m .hats s ≟ t .A) (m .val (t .B) ≟ᵛ t .value) (λ _ _. answered (λ q. refute (cc)))
       (λ ne. absurd (ne (e .0) (e .1))))
   line51-spends (late h) =
       passing t (t .B) (λ _.
-      swapping (m .hat ≟ t .A) (m .val (t .B) ≟ᵛ t .value) (λ _ _. answered (λ q. refute (cc)))
+      swapping (m .hats s ≟ t .A) (m .val (t .B) ≟ᵛ t .value) (λ _ _. answered (λ q. refute (cc)))
       (λ _. goes (goto t line39) (omega arith) (omega arith)))

@@ -24,9 +24,10 @@ use Rattle.machine.specs.Steps.{
   line72,
 }
 use Rattle.machine.specs.Tasks.{Task, none, goto, withA, withB, withC}
-use Rattle.machine.specs.Lines.{Memory, Write, Effect, next, writing, backOf, back, act}
+use Rattle.machine.specs.Lines.{Write, Effect, next, writing, backOf, back, act}
 use Rattle.machine.proofs.Basics.Contradiction.{clash, refute}
-use Rattle.machine.proofs.Words.Memories.{written}
+use Rattle.machine.proofs.Basics.Updates.{updateSide-same}
+use Rattle.machine.proofs.Words.Memories.{View, seenIn, written}
 use Rattle.machine.proofs.Linearizability.Model.Classes.{Class}
 use Rattle.machine.proofs.Linearizability.Model.Invariant.{Lane}
 use Rattle.machine.proofs.Linearizability.Lines.Connectives.{ok-if}
@@ -58,8 +59,8 @@ use Rattle.machine.proofs.SoloBound.Budget.{
 use Rattle.machine.proofs.SoloBound.Spending.{goes, answered, passing, swapping}
 
 -- Back, to 2 or to 15, with a hat off Y, and with any.
-module _ {extra S g : ℕ} {s : Side} {m : Memory} {n : ℕ} {l : List Write} (t : Task) where
-  back-off-Y : 2 * S + 78 ≤ n → written l m .val (written l m .hat) ≢ Y s
+module _ {extra S g : ℕ} {s : Side} {m : View} {n : ℕ} {l : List Write} (t : Task) where
+  back-off-Y : 2 * S + 78 ≤ n → written s l m .val (written s l m .hats s) ≢ Y s
       → (op : Operation) {x : ℕ} (d : Dec (x ≡ none))
       → Spends extra S g s m n (record { writes = l; task = goto t (backOf op d); answer = Going })
   back-off-Y h ne push (yes e) = goes (goto t line2) (omega arith) (start-off-Y ne (omega arith))
@@ -78,26 +79,26 @@ module _ {extra S g : ℕ} {s : Side} {m : Memory} {n : ℕ} {l : List Write} (t
   back-anywhere h add d = goes (goto t line15) (omega arith) (late (omega arith))
   back-anywhere h remove d = goes (goto t line15) (omega arith) (late (omega arith))
 
-module _ (extra S g : ℕ) {s o : Side} {m : Memory} {class : ℕ → Class} {r : List ℕ}
+module _ (extra S g : ℕ) {s o : Side} {m : View} {class : ℕ → Class} {r : List ℕ}
     (L : Lane s o m class r) (t : Task) (f n : ℕ) where
   abbrev Ok : Effect → Type 0
   Ok e = Spends extra S g s m n e
 
   abbrev LineOk : Step → Type 0
-  LineOk st = Left extra st S g s m t n → Ok (act st s o m t g f)
+  LineOk st = Left extra st S g s m t n → Ok (act st s o (seenIn s m) t g f)
 
   pub line2-spends : LineOk line2
   unfolding act
-  line2-spends (start-N v h) = goes (goto (withA t (m .hat)) line3) (omega arith) (push-N refl v (omega arith))
+  line2-spends (start-N v h) = goes (goto (withA t (m .hats s)) line3) (omega arith) (push-N refl v (omega arith))
   line2-spends (start-off-Y ne h) =
-      goes (goto (withA t (m .hat)) line3) (omega arith)
+      goes (goto (withA t (m .hats s)) line3) (omega arith)
       (elim (hat-value (L .structure)) [
         | hat-N v ↦ push-N refl v (omega arith)
         | hat-X v ↦ push-X refl v (omega arith)
         | hat-Y v ↦ absurd (ne v)
       ])
   line2-spends (start-anywhere h) =
-      goes (goto (withA t (m .hat)) line3) (omega arith)
+      goes (goto (withA t (m .hats s)) line3) (omega arith)
       (elim (hat-value (L .structure)) [
         | hat-N v ↦ push-N refl v (omega arith)
         | hat-X v ↦ push-X refl v (omega arith)
@@ -131,19 +132,19 @@ module _ (extra S g : ℕ) {s o : Side} {m : Memory} {class : ℕ → Class} {r 
   unfolding act
   line5-spends (push-N e v h) =
       passing t (t .A) (λ _. passing t (t .B) (λ _.
-      swapping (m .hat ≟ t .A) (m .val (t .A) ≟ᵛ N s) (λ _ _. answered (λ q. refute (cc)))
+      swapping (m .hats s ≟ t .A) (m .val (t .A) ≟ᵛ N s) (λ _ _. answered (λ q. refute (cc)))
       (λ ne. absurd (ne e v))))
   line5-spends (push-X e v h) =
       passing t (t .A) (λ _. passing t (t .B) (λ _.
-      swapping (m .hat ≟ t .A) (m .val (t .A) ≟ᵛ N s) (λ _ _. answered (λ q. refute (cc)))
+      swapping (m .hats s ≟ t .A) (m .val (t .A) ≟ᵛ N s) (λ _ _. answered (λ q. refute (cc)))
       (λ _. goes (goto t line8) (omega arith) (choose-X e v (omega arith)))))
   line5-spends (push-Y e v h) =
       passing t (t .A) (λ _. passing t (t .B) (λ _.
-      swapping (m .hat ≟ t .A) (m .val (t .A) ≟ᵛ N s) (λ _ _. answered (λ q. refute (cc)))
+      swapping (m .hats s ≟ t .A) (m .val (t .A) ≟ᵛ N s) (λ _ _. answered (λ q. refute (cc)))
       (λ _. goes (goto t line8) (omega arith) (choose-Y v (omega arith)))))
   line5-spends (push-stale h) =
       passing t (t .A) (λ _. passing t (t .B) (λ _.
-      swapping (m .hat ≟ t .A) (m .val (t .A) ≟ᵛ N s) (λ _ _. answered (λ q. refute (cc)))
+      swapping (m .hats s ≟ t .A) (m .val (t .A) ≟ᵛ N s) (λ _ _. answered (λ q. refute (cc)))
       (λ _. goes (goto t line8) (omega arith) (choose-stale (omega arith)))))
 
   pub line8-spends : LineOk line8
@@ -167,7 +168,7 @@ module _ (extra S g : ℕ) {s o : Side} {m : Memory} {class : ℕ → Class} {r 
   -- ---- Moving the hat.
   pub line67-spends : LineOk line67
   unfolding act
-  line67-spends h = goes (goto (withA t (m .hat)) line68) (omega arith) (soon refl (omega arith))
+  line67-spends h = goes (goto (withA t (m .hats s)) line68) (omega arith) (soon refl (omega arith))
 
   pub line68-spends : LineOk line68
   unfolding act
@@ -209,11 +210,11 @@ module _ (extra S g : ℕ) {s o : Side} {m : Memory} {class : ℕ → Class} {r 
   unfolding act
   line72-spends (soon e h) =
       passing t (t .C) (λ _.
-      ok-if Ok (λ l. writing l (next t (back t))) (m .hat ≟ t .A)
-      (λ _. back-off-Y t (omega arith) (e .1) (t .operation) (t .D ≟ none))
+      ok-if Ok (λ l. writing l (next t (back t))) (m .hats s ≟ t .A)
+      (λ _. back-off-Y t (omega arith) (rw (updateSide-same (m .hats) s (t .C)) (e .1)) (t .operation) (t .D ≟ none))
       (λ ne. absurd (ne (e .0))))
   line72-spends (late h) =
       passing t (t .C) (λ _.
-      ok-if Ok (λ l. writing l (next t (back t))) (m .hat ≟ t .A)
+      ok-if Ok (λ l. writing l (next t (back t))) (m .hats s ≟ t .A)
       (λ _. back-anywhere t (omega arith) (t .operation) (t .D ≟ none))
       (λ _. back-anywhere t (omega arith) (t .operation) (t .D ≟ none)))

@@ -22,9 +22,10 @@ use Rattle.machine.specs.Steps.{
   line82,
 }
 use Rattle.machine.specs.Tasks.{Task, none, goto, withA, withB, withValue, withCounted}
-use Rattle.machine.specs.Lines.{Memory, Effect, next, writing, act}
+use Rattle.machine.specs.Lines.{Effect, next, writing, act}
 use Rattle.machine.proofs.Basics.Contradiction.{refute}
 use Rattle.machine.proofs.Basics.Updates.{Wrote, update-wrote}
+use Rattle.machine.proofs.Words.Memories.{View, seenIn}
 use Rattle.machine.proofs.Linearizability.Lines.Connectives.{ok-if}
 use Rattle.machine.proofs.SoloBound.Walks.{EndsWithin, ends-on, ends-cut}
 use Rattle.machine.proofs.SoloBound.Budget.{
@@ -60,23 +61,23 @@ module _ {extra : ℕ} {out : ℕ → ℕ} {x c n : ℕ} (w : Walking extra out 
       → Walking extra out' x d k
   cut-walk wrote h = record { links = w .links; ends = ends-cut wrote (w .ends); within = h (w .within) }
 
-module _ (extra S g : ℕ) (s o : Side) (m : Memory) (t : Task) (f n : ℕ)
+module _ (extra S g : ℕ) (s o : Side) (m : View) (t : Task) (f n : ℕ)
     (short : (x : ℕ) → EndsWithin (m .out) S x) where
   abbrev Ok : Effect → Type 0
   Ok e = Spends extra S g s m n e
 
   abbrev LineOk : Step → Type 0
-  LineOk st = Left extra st S g s m t n → Ok (act st s o m t g f)
+  LineOk st = Left extra st S g s m t n → Ok (act st s o (seenIn s m) t g f)
 
   pub line54-spends : LineOk line54
   unfolding act
   line54-spends h =
-      ok-if Ok (λ st. next (withA t (m .hat)) st) (g ≟ 0)
-      (λ _. goes (goto (withA t (m .hat)) line60) (omega arith) (from-hat (omega arith)))
-      (λ _. goes (goto (withA t (m .hat)) line56) (omega arith) (from-hat (omega arith)))
+      ok-if Ok (λ st. next (withA t (m .hats s)) st) (g ≟ 0)
+      (λ _. goes (goto (withA t (m .hats s)) line60) (omega arith) (from-hat (omega arith)))
+      (λ _. goes (goto (withA t (m .hats s)) line56) (omega arith) (from-hat (omega arith)))
     where
-      from-hat : {c k : ℕ} → walkTicks extra S + c ≤ k → Walking extra (m .out) (m .hat) c k
-      from-hat l = record { links = S; ends = short (m .hat); within = l }
+      from-hat : {c k : ℕ} → walkTicks extra S + c ≤ k → Walking extra (m .out) (m .hats s) c k
+      from-hat l = record { links = S; ends = short (m .hats s); within = l }
 
   pub line56-spends : LineOk line56
   unfolding act
@@ -141,7 +142,7 @@ module _ (extra S g : ℕ) (s o : Side) (m : Memory) (t : Task) (f n : ℕ)
   -- Line 78, with a swap that is done, and one that fails.
   by-swap : (m .val (t .B) ≡ t .value → (1 ≤ n) × Walking extra (m .out) (t .B) 3 (n - 1))
       → (m .val (t .B) ≢ t .value → (1 ≤ n) × Reading extra s m (t .B) (n - 1))
-      → Ok (act line78 s o m t g f)
+      → Ok (act line78 s o (seenIn s m) t g f)
   unfolding act
   by-swap done failed =
       passing t (t .B) (λ _.

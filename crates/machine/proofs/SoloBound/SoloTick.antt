@@ -15,15 +15,14 @@ use Rattle.machine.specs.Steps.{line31, isStepIn}
 use Rattle.machine.specs.Tasks.{Task, none, goal}
 use Rattle.machine.specs.Table.{nodeCount, growth, link, task}
 use Rattle.machine.specs.Allocate.{allocate}
-use Rattle.machine.specs.Lines.{Memory, seen, Effect, act}
+use Rattle.machine.specs.Lines.{Memory, Effect, act}
 use Rattle.machine.specs.Calls.{isBusy, tickRefusal, effectOf, tickOn}
 use Rattle.machine.specs.Row.{Note}
 use Rattle.machine.specs.Begun.{Begun}
 use Rattle.machine.proofs.Basics.Contradiction.{refute}
 use Rattle.machine.proofs.Basics.Choices.{if-no}
-use Rattle.machine.proofs.Words.Memories.{view, written}
-use Rattle.machine.proofs.Words.Columns.{columns}
-use Rattle.machine.proofs.Words.EffectLaws.{view-seen}
+use Rattle.machine.proofs.Words.Memories.{View, viewed, written, view, seen-viewed}
+use Rattle.machine.proofs.Words.Columns.{sizesOf, columns}
 use Rattle.machine.proofs.Shape.BusyLaws.{BusyAt}
 use Rattle.machine.proofs.Shape.ShapeLaws.{WellSized, WellShaped, well-sized, well-shaped}
 use Rattle.machine.proofs.Shape.TickKeeps.{busy-facts, tick-allowed}
@@ -41,12 +40,12 @@ use Rattle.machine.proofs.SoloBound.LinesSpend.{line-spends}
 use Rattle.machine.proofs.SoloBound.AtFirst.{most, left-at-first}
 use Rattle.machine.proofs.SoloBound.BegunEnds.{ends-view, begun-ends}
 
--- The ticks that a task has left, by the table's size and growth and its memory.
-abbrev pub LeftWith : (extra S gr : ℕ) → Memory → Task → (n : ℕ) → Type 0
+-- The ticks that a task has left, by the table's size and growth and its view.
+abbrev pub LeftWith : (extra S gr : ℕ) → View → Task → (n : ℕ) → Type 0
 LeftWith extra S gr M t n = Left extra (t .step) S (goal gr t) (t .side) (view (t .side) M) t n
 
 pub record LeftIn (extra : ℕ) (ws : List ℕ) (k n : ℕ) : Type 0 where
-  pub left : LeftWith extra (nodeCount ws) (growth ws) (seen right ws) (task ws k) n
+  pub left : LeftWith extra (nodeCount ws) (growth ws) (viewed right ws) (task ws k) n
 
 module _ (extra : ℕ) {ws : List ℕ} (begun : Begun ws) (k : ℕ) where
   A : Agrees ws (begun-agrees begun .0)
@@ -55,10 +54,10 @@ module _ (extra : ℕ) {ws : List ℕ} (begun : Begun ws) (k : ℕ) where
   abbrev s : Side
   s = task ws k .side
 
-  abbrev m : Memory
-  m = view s (seen right ws)
+  abbrev m : View
+  m = view s (viewed right ws)
 
-  sizes : WellSized (columns ws)
+  sizes : WellSized (sizesOf ws)
   sizes = well-sized ws (A .accepted .length-passes)
 
   shape : WellShaped (columns ws)
@@ -68,7 +67,7 @@ module _ (extra : ℕ) {ws : List ℕ} (begun : Begun ws) (k : ℕ) where
   lane = lane-view s (A .invariant .lane)
 
   -- Main has at most S nodes.
-  few-in-main : lane .n ≤ nodeCount ws
+  few-in-main : lane .frame .n ≤ nodeCount ws
   few-in-main = omega (arith, main-size lane (nodeCount ws) (main-is-node ws (A .invariant .lane)))
 
   -- Walks have at most S links.
@@ -80,12 +79,12 @@ module _ (extra : ℕ) {ws : List ℕ} (begun : Begun ws) (k : ℕ) where
         outside = λ x h. if-no (x <? nodeCount ws) _ none (λ l. omega arith);
       }
 
-  out-below : (z : Side) → LinksBelow (nodeCount ws) (view z (seen right ws) .out)
+  out-below : (z : Side) → LinksBelow (nodeCount ws) (view z (viewed right ws) .out)
   out-below left = links-below left
   out-below right = links-below right
 
   pub short : (x : ℕ) → EndsWithin (m .out) (nodeCount ws) x
-  short = ends-within-nodes (out-below s) (ends-view s (seen right ws) (begun-ends begun) .0)
+  short = ends-within-nodes (out-below s) (ends-view s (viewed right ws) (begun-ends begun) .0)
 
   module _ (busy : isBusy (task ws k .operation) ≡ true) where
     not-idle : task ws k .operation ≢ idle
@@ -128,7 +127,7 @@ module _ (extra : ℕ) {ws : List ℕ} (begun : Begun ws) (k : ℕ) where
         subst
         (λ (y : Memory).
         Spends extra (nodeCount ws) g s m n (act (task ws k .step) s (opposite s) y (task ws k) g (allocate ws h)))
-        (view-seen s ws)
+        (seen-viewed s ws)
         (line-spends k extra (nodeCount ws) g lane few-in-main short (task ws k) (allocate ws h) n (few busy)
         (task ws k .step) (A .invariant .task-ok k) (B .left))
 
@@ -144,13 +143,13 @@ module _ (extra : ℕ) {ws : List ℕ} (begun : Begun ws) (k : ℕ) where
       left-then =
           let same-goal : goal (growth ws) (e .task) ≡ goal (growth ws) (task ws k) =
           ap (λ (x : Note). goalOf (x .operation) (growth ws) (x .argument)) same in
-          let LeftFor : ℕ → Side → Memory → Type 0 =
+          let LeftFor : ℕ → Side → View → Type 0 =
           λ g z m'. Left extra (e .task .step) (nodeCount ws) g z m' (e .task) (n - 1) in
           record {
             left =
                 in-after A k h passes (λ S T gr M t. LeftWith extra S gr M t (n - 1)) k (own-after A k h passes)
                 (own-side A k h passes (LeftFor (goal (growth ws) (e .task))) same
-                (subst (λ (g : ℕ). LeftFor g s (written (e .writes) m)) (sym same-goal) (spends .spends going .1)));
+                (subst (λ (g : ℕ). LeftFor g s (written s (e .writes) m)) (sym same-goal) (spends .spends going .1)));
           }
 
     pub continues : e .answer ≡ Going → Continues

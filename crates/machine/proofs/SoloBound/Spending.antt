@@ -7,9 +7,9 @@ use Rattle.machine.specs.declared.Answer.the-variants.{Going}
 use Rattle.machine.specs.Sides.{Side}
 use Rattle.machine.specs.Operations.{Operation, idle, push, pop, add, remove}
 use Rattle.machine.specs.Tasks.{Task, none}
-use Rattle.machine.specs.Lines.{Memory, Write, Effect, through, dcas, noNode}
+use Rattle.machine.specs.Lines.{Write, Effect, through, dcas, noNode}
 use Rattle.machine.proofs.Basics.Contradiction.{refute}
-use Rattle.machine.proofs.Words.Memories.{written}
+use Rattle.machine.proofs.Words.Memories.{View, written}
 use Rattle.machine.proofs.Linearizability.Lines.Connectives.{ok-through}
 use Rattle.machine.proofs.SoloBound.Budget.{Left, Spends}
 
@@ -21,8 +21,8 @@ no-node-answers pop e = refute (cc)
 no-node-answers add e = refute (cc)
 no-node-answers remove e = refute (cc)
 
-module _ {extra S g : ℕ} {s : Side} {m : Memory} {n : ℕ} where
-  pub goes : {l : List Write} (t : Task) → 1 ≤ n → Left extra (t .step) S g s (written l m) t (n - 1)
+module _ {extra S g : ℕ} {s : Side} {m : View} {n : ℕ} where
+  pub goes : {l : List Write} (t : Task) → 1 ≤ n → Left extra (t .step) S g s (written s l m) t (n - 1)
       → Spends extra S g s m n (record { writes = l; task = t; answer = Going })
   goes t h b = record { spends = λ _. (h, b) }
 

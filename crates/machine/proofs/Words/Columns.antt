@@ -4,9 +4,10 @@ use mathlib.Core.Logic.{_≢_}
 use mathlib.Core.List.{List, [], _∷_}
 use Prim.Native.Nat.{ℕ, _<_}
 use lib.ListN.{length}
+use Rattle.machine.specs.declared.Stored.{Stored}
 use Rattle.machine.specs.Choice.{_<?_, if_then_else_}
 use Rattle.machine.specs.Sides.{Side, opposite}
-use Rattle.machine.specs.Values.{encode, decode}
+use Rattle.machine.specs.Values.{never, encode, decode}
 use Rattle.machine.specs.Tasks.{Task, fresh, wordsOf, taskOf}
 use Rattle.machine.specs.Table.{
   tableLength,
@@ -18,144 +19,118 @@ use Rattle.machine.specs.Table.{
   word6,
   word7,
   link,
-  valueWord,
+  valueWords,
   recordWords,
 }
-use Rattle.machine.specs.Lines.{Memory, Write, out≔, inn≔, val≔, hat≔}
+use Rattle.machine.specs.Lines.{Write, out≔, inn≔, val≔, hat≔}
 use Rattle.machine.proofs.Basics.Updates.{is-update, update, updateSide}
+use Rattle.machine.proofs.Words.Memories.{View}
 
 -- A function below a bound, with one value from the bound on.
 abbrev pub column : {T : Type 0} → ℕ → T → (ℕ → T) → ℕ → T
 column n other f x = if x <? n then f x else other
 
--- The words of the table. A number that is no node has the value word 0, one that is no task has a fresh record.
-pub record Columns : Type 0 where
+-- The length and the sizes, which no write touches.
+pub record Sizes : Type 0 where
   pub length : ℕ
   pub nodeCount : ℕ
   pub taskCount : ℕ
   pub growth : ℕ
-  pub hats : Side → ℕ
+
+-- The tick count and the header's words after it.
+pub record Counts : Type 0 where
   pub tickCount : ℕ
   pub word6 : ℕ
   pub word7 : ℕ
+
+-- As start leaves them, and with another tick count.
+abbrev pub startCounts : Counts
+startCounts = record { tickCount = 0; word6 = 0; word7 = 0 }
+
+abbrev pub countedAs : ℕ → Counts → Counts
+countedAs n c = record { tickCount = n; word6 = c .word6; word7 = c .word7 }
+
+-- The words of the table. A number that is no node has the words of never used, one that is no task has a fresh record.
+pub record Columns : Type 0 where
+  pub sizes : Sizes
+  pub hats : Side → ℕ
+  pub counts : Counts
   pub links : Side → ℕ → ℕ
-  pub values : ℕ → ℕ
+  pub values : ℕ → Stored
   pub records : ℕ → List ℕ
+
+abbrev pub sizesOf : List ℕ → Sizes
+sizesOf ws =
+    record { length = length ws; nodeCount = nodeCount ws; taskCount = taskCount ws; growth = growth ws }
+
+abbrev pub countsOf : List ℕ → Counts
+countsOf ws = record { tickCount = tickCount ws; word6 = word6 ws; word7 = word7 ws }
 
 abbrev pub columns : List ℕ → Columns
 columns ws =
     record {
-      length = length ws;
-      nodeCount = nodeCount ws;
-      taskCount = taskCount ws;
-      growth = growth ws;
+      sizes = sizesOf ws;
       hats = hat ws;
-      tickCount = tickCount ws;
-      word6 = word6 ws;
-      word7 = word7 ws;
+      counts = countsOf ws;
       links = link ws;
-      values = column (nodeCount ws) 0 (valueWord ws);
+      values = column (nodeCount ws) (encode never) (valueWords ws);
       records = column (taskCount ws) (wordsOf fresh) (recordWords ws);
     }
 
 -- The length is that of the sizes.
-abbrev pub Sized : Columns → Type 0
-Sized c = c .length ≡ tableLength (c .nodeCount) (c .taskCount)
+abbrev pub Sized : Sizes → Type 0
+Sized z = z .length ≡ tableLength (z .nodeCount) (z .taskCount)
 
 -- ---- What the columns mean.
-abbrev pub memory : Side → Columns → Memory
-memory s c =
+abbrev pub viewOf : Side → Columns → View
+viewOf s c =
     record {
       out = c .links s;
       inn = c .links (opposite s);
       val = λ x. decode (c .values x);
-      hat = c .hats s;
-      far = c .hats (opposite s);
+      hats = c .hats;
     }
 
 abbrev pub tasks : Columns → ℕ → Task
 tasks c k = taskOf (c .records k)
 
--- ---- Writes to the columns.
-abbrev pub putHat : Side → ℕ → Columns → Columns
-putHat s x c =
+-- ---- Writes to the columns: in the header, and after it.
+abbrev pub putHeader : (hats : Side → ℕ) → Counts → Columns → Columns
+putHeader hats counts c =
     record {
-      length = c .length;
-      nodeCount = c .nodeCount;
-      taskCount = c .taskCount;
-      growth = c .growth;
-      hats = updateSide (c .hats) s x;
-      tickCount = c .tickCount;
-      word6 = c .word6;
-      word7 = c .word7;
+      sizes = c .sizes;
+      hats = hats;
+      counts = counts;
       links = c .links;
       values = c .values;
       records = c .records;
     }
+
+abbrev pub putBody : (links : Side → ℕ → ℕ) (values : ℕ → Stored) (records : ℕ → List ℕ) → Columns → Columns
+putBody links values records c =
+    record {
+      sizes = c .sizes;
+      hats = c .hats;
+      counts = c .counts;
+      links = links;
+      values = values;
+      records = records;
+    }
+
+abbrev pub putHat : Side → ℕ → Columns → Columns
+putHat s x c = putHeader (updateSide (c .hats) s x) (c .counts) c
 
 abbrev pub putTickCount : ℕ → Columns → Columns
-putTickCount n c =
-    record {
-      length = c .length;
-      nodeCount = c .nodeCount;
-      taskCount = c .taskCount;
-      growth = c .growth;
-      hats = c .hats;
-      tickCount = n;
-      word6 = c .word6;
-      word7 = c .word7;
-      links = c .links;
-      values = c .values;
-      records = c .records;
-    }
+putTickCount n c = putHeader (c .hats) (countedAs n (c .counts)) c
 
 abbrev pub putLink : Side → ℕ → ℕ → Columns → Columns
-putLink s x y c =
-    record {
-      length = c .length;
-      nodeCount = c .nodeCount;
-      taskCount = c .taskCount;
-      growth = c .growth;
-      hats = c .hats;
-      tickCount = c .tickCount;
-      word6 = c .word6;
-      word7 = c .word7;
-      links = updateSide (c .links) s (update (c .links s) x y);
-      values = c .values;
-      records = c .records;
-    }
+putLink s x y c = putBody (updateSide (c .links) s (update (c .links s) x y)) (c .values) (c .records) c
 
-abbrev pub putValue : ℕ → ℕ → Columns → Columns
-putValue x w c =
-    record {
-      length = c .length;
-      nodeCount = c .nodeCount;
-      taskCount = c .taskCount;
-      growth = c .growth;
-      hats = c .hats;
-      tickCount = c .tickCount;
-      word6 = c .word6;
-      word7 = c .word7;
-      links = c .links;
-      values = update (c .values) x w;
-      records = c .records;
-    }
+abbrev pub putValue : ℕ → Stored → Columns → Columns
+putValue x u c = putBody (c .links) (update (c .values) x u) (c .records) c
 
 abbrev pub putRecord : ℕ → List ℕ → Columns → Columns
-putRecord k r c =
-    record {
-      length = c .length;
-      nodeCount = c .nodeCount;
-      taskCount = c .taskCount;
-      growth = c .growth;
-      hats = c .hats;
-      tickCount = c .tickCount;
-      word6 = c .word6;
-      word7 = c .word7;
-      links = c .links;
-      values = c .values;
-      records = update (c .records) k r;
-    }
+putRecord k r c = putBody (c .links) (c .values) (update (c .records) k r) c
 
 -- One write of a task on side s, and several in order.
 abbrev pub putOne : Side → Write → Columns → Columns
@@ -169,34 +144,29 @@ putAll s [] c = c
 putAll s (w ∷ l) c = putAll s l (putOne s w c)
 
 -- ---- Equal columns.
+pub sizes-equal :
+    {y z : Sizes}
+    → y .length ≡ z .length
+    → y .nodeCount ≡ z .nodeCount
+    → y .taskCount ≡ z .taskCount
+    → y .growth ≡ z .growth
+    → y ≡ z
+sizes-equal p q r s = λ i. record { length = p i; nodeCount = q i; taskCount = r i; growth = s i }
+
+pub counts-equal : {m n : Counts} → m .tickCount ≡ n .tickCount → m .word6 ≡ n .word6 → m .word7 ≡ n .word7 → m ≡ n
+counts-equal p q r = λ i. record { tickCount = p i; word6 = q i; word7 = r i }
+
 pub columns-equal :
     {b c : Columns}
-    → b .length ≡ c .length
-    → b .nodeCount ≡ c .nodeCount
-    → b .taskCount ≡ c .taskCount
-    → b .growth ≡ c .growth
+    → b .sizes ≡ c .sizes
     → b .hats ≡ c .hats
-    → b .tickCount ≡ c .tickCount
-    → b .word6 ≡ c .word6
-    → b .word7 ≡ c .word7
+    → b .counts ≡ c .counts
     → b .links ≡ c .links
     → b .values ≡ c .values
     → b .records ≡ c .records
     → b ≡ c
-columns-equal p q r s t u v w x y z =
-    λ i. record {
-      length = p i;
-      nodeCount = q i;
-      taskCount = r i;
-      growth = s i;
-      hats = t i;
-      tickCount = u i;
-      word6 = v i;
-      word7 = w i;
-      links = x i;
-      values = y i;
-      records = z i;
-    }
+columns-equal p q r s t u =
+    λ i. record { sizes = p i; hats = q i; counts = r i; links = s i; values = t i; records = u i }
 
 module _ {T : Type 0} (other : T) (f f′ : ℕ → T) {n n′ : ℕ} (bound : n′ ≡ n) where
   pub column-kept : ((x : ℕ) → x < n → f′ x ≡ f x) → column n′ other f′ ≡ column n other f

@@ -1,4 +1,4 @@
--- What a tick's effect on the words is on the memory and the tasks that the words stand for.
+-- What a tick's effect on the words is on the view and the tasks that the words stand for.
 use mathlib.Core.Path.{_≡_, refl, ap, sym, _∙_, subst, fun-ext}
 use mathlib.Core.List.{List, [], _∷_}
 use Prim.Native.Nat.{ℕ, _+_, _%_, _^_, _<_}
@@ -15,17 +15,18 @@ use Rattle.machine.specs.Table.{
   task,
   setTask,
 }
-use Rattle.machine.specs.Lines.{seen, Write, out≔, inn≔, val≔, hat≔, writeOne, writeAll}
-use Rattle.machine.specs.Calls.{counted}
+use Rattle.machine.specs.Lines.{Write, out≔, inn≔, val≔, hat≔, writeOne, writeAll}
+use Rattle.machine.specs.Calls.{tickCounted}
 use Rattle.machine.proofs.Words.ValueLaws.{HasWord}
 use Rattle.machine.proofs.Words.RecordLaws.{task-of-words, fresh-of-words}
 use Rattle.machine.proofs.Basics.Updates.{map-update, update}
-use Rattle.machine.proofs.Words.Memories.{memory-equal, view, write, written}
+use Rattle.machine.proofs.Words.Memories.{viewed, write, written, view, viewAfter, view-viewed, view-equal}
 use Rattle.machine.proofs.Words.Columns.{
   Columns,
+  sizesOf,
   columns,
   Sized,
-  memory,
+  viewOf,
   tasks,
   putTickCount,
   putRecord,
@@ -52,68 +53,54 @@ AllInRange S [] = Unit {0}
 AllInRange S (w ∷ l) = InRange S w × AllInRange S l
 
 -- ---- On the columns.
-abbrev pub SameSizes : (b c : Columns) → Type 0
-SameSizes b c =
-    (b .length ≡ c .length)
-    × (b .nodeCount ≡ c .nodeCount)
-    × (b .taskCount ≡ c .taskCount)
-    × (b .growth ≡ c .growth)
+-- What no line writes: the sizes, the counts and the records.
+pub record Untouched (b c : Columns) : Type 0 where
+  pub sizes : b .sizes ≡ c .sizes
+  pub counts : b .counts ≡ c .counts
+  pub records : b .records ≡ c .records
 
-pub put-one-sizes : (s : Side) (w : Write) (c : Columns) → SameSizes (putOne s w c) c
-put-one-sizes s (out≔ x y) c = (refl, refl, refl, refl)
-put-one-sizes s (inn≔ x y) c = (refl, refl, refl, refl)
-put-one-sizes s (val≔ x v) c = (refl, refl, refl, refl)
-put-one-sizes s (hat≔ x) c = (refl, refl, refl, refl)
+pub put-one-rest : (s : Side) (w : Write) (c : Columns) → Untouched (putOne s w c) c
+put-one-rest s (out≔ x y) c = record { sizes = refl; counts = refl; records = refl }
+put-one-rest s (inn≔ x y) c = record { sizes = refl; counts = refl; records = refl }
+put-one-rest s (val≔ x v) c = record { sizes = refl; counts = refl; records = refl }
+put-one-rest s (hat≔ x) c = record { sizes = refl; counts = refl; records = refl }
 
-put-one-rest :
-    (s : Side) (w : Write) (c : Columns)
-    → (putOne s w c .records ≡ c .records) × (putOne s w c .tickCount ≡ c .tickCount)
-put-one-rest s (out≔ x y) c = (refl, refl)
-put-one-rest s (inn≔ x y) c = (refl, refl)
-put-one-rest s (val≔ x v) c = (refl, refl)
-put-one-rest s (hat≔ x) c = (refl, refl)
-
-pub put-all-sizes : (s : Side) (l : List Write) (c : Columns) → SameSizes (putAll s l c) c
-put-all-sizes s [] c = (refl, refl, refl, refl)
-put-all-sizes s (w ∷ l) c =
-    let a = put-all-sizes s l (putOne s w c) in
-    let b = put-one-sizes s w c in
-    (a .0 ∙ b .0, a .1 ∙ b .1, a .2 ∙ b .2, a .3 ∙ b .3)
-
-put-all-rest :
-    (s : Side) (l : List Write) (c : Columns)
-    → (putAll s l c .records ≡ c .records) × (putAll s l c .tickCount ≡ c .tickCount)
-put-all-rest s [] c = (refl, refl)
+pub put-all-rest : (s : Side) (l : List Write) (c : Columns) → Untouched (putAll s l c) c
+put-all-rest s [] c = record { sizes = refl; counts = refl; records = refl }
 put-all-rest s (w ∷ l) c =
     let a = put-all-rest s l (putOne s w c) in
     let b = put-one-rest s w c in
-    (a .0 ∙ b .0, a .1 ∙ b .1)
+    record {
+      sizes = a .sizes ∙ b .sizes;
+      counts = a .counts ∙ b .counts;
+      records = a .records ∙ b .records;
+    }
 
--- Writes as columns hold them are writes as a memory has them.
-memory-put-one :
-    (S : ℕ) (s : Side) (w : Write) (c : Columns) → InRange S w → memory s (putOne s w c) ≡ write w (memory s c)
-memory-put-one S left (out≔ x y) c h = refl
-memory-put-one S right (out≔ x y) c h = refl
-memory-put-one S left (inn≔ x y) c h = refl
-memory-put-one S right (inn≔ x y) c h = refl
-memory-put-one S s (val≔ x v) c h =
-    memory-equal refl refl (map-update decode (c .values) x (encode v) v (h .1)) refl refl
-memory-put-one S left (hat≔ x) c h = refl
-memory-put-one S right (hat≔ x) c h = refl
+-- Writes as columns hold them are writes as a view has them.
+view-put-one :
+    (S : ℕ) (s : Side) (w : Write) (c : Columns) → InRange S w → viewOf s (putOne s w c) ≡ write s w (viewOf s c)
+view-put-one S left (out≔ x y) c h = refl
+view-put-one S right (out≔ x y) c h = refl
+view-put-one S left (inn≔ x y) c h = refl
+view-put-one S right (inn≔ x y) c h = refl
+view-put-one S s (val≔ x v) c h =
+    view-equal refl refl (map-update decode (c .values) x (encode v) v (h .1)) refl
+view-put-one S left (hat≔ x) c h = refl
+view-put-one S right (hat≔ x) c h = refl
 
-memory-put-all :
+view-put-all :
     (S : ℕ) (s : Side) (l : List Write) (c : Columns)
     → AllInRange S l
-    → memory s (putAll s l c) ≡ written l (memory s c)
-memory-put-all S s [] c h = refl
-memory-put-all S s (w ∷ l) c h =
-    memory-put-all S s l (putOne s w c) (h .1) ∙ ap (written l) (memory-put-one S s w c (h .0))
+    → viewOf s (putAll s l c) ≡ written s l (viewOf s c)
+view-put-all S s [] c h = refl
+view-put-all S s (w ∷ l) c h =
+    view-put-all S s l (putOne s w c) (h .1) ∙ ap (written s l) (view-put-one S s w c (h .0))
 
 -- ---- On the words.
 module _ (s : Side) where
   columns-write-one :
       (w : Write) (ws : List ℕ)
-      → Sized (columns ws)
+      → Sized (sizesOf ws)
       → InRange (nodeCount ws) w
       → columns (writeOne s w ws) ≡ putOne s w (columns ws)
   columns-write-one (out≔ x y) ws sized h = columns-setLink ws sized s x y h
@@ -123,27 +110,22 @@ module _ (s : Side) where
 
   pub columns-write-all :
       (l : List Write) (ws : List ℕ)
-      → Sized (columns ws)
+      → Sized (sizesOf ws)
       → AllInRange (nodeCount ws) l
       → columns (writeAll s l ws) ≡ putAll s l (columns ws)
   unfolding writeAll
   columns-write-all [] ws sized h = refl
   columns-write-all (w ∷ l) ws sized h =
       let one = columns-write-one w ws sized (h .0) in
-      let z = put-one-sizes s w (columns ws) in
       let vs = writeOne s w ws in
-      let sized′ : Sized (columns vs) = subst Sized (sym one) (rw (z .0, z .1, z .2) sized) in
-      let nodes : nodeCount vs ≡ nodeCount ws = ap (λ c. c .nodeCount) one ∙ z .1 in
-      columns-write-all l vs sized′ (subst (λ S. AllInRange S l) (sym nodes) (h .1)) ∙ ap (putAll s l) one
+      let same : sizesOf vs ≡ sizesOf ws = ap (λ c. c .sizes) one ∙ put-one-rest s w (columns ws) .sizes in
+      columns-write-all l vs (subst Sized (sym same) sized)
+      (subst (λ z. AllInRange (z .nodeCount) l) (sym same) (h .1))
+      ∙ ap (putAll s l) one
 
-view-memory : (s : Side) (c : Columns) → memory right c ≡ view s (memory s c)
-view-memory left c = refl
-view-memory right c = refl
-
--- What the task of a side sees is what the right side sees, viewed from there.
-pub view-seen : (s : Side) (ws : List ℕ) → view s (seen right ws) ≡ seen s ws
-view-seen left ws = refl
-view-seen right ws = refl
+view-columns : (s : Side) (c : Columns) → viewOf right c ≡ view s (viewOf s c)
+view-columns left c = refl
+view-columns right c = refl
 
 pub task-by-columns : (ws : List ℕ) → task ws ≡ tasks (columns ws)
 unfolding task
@@ -160,10 +142,10 @@ tasks-put-record :
 tasks-put-record k t c h = map-update taskOf (c .records) k (wordsOf t) t (task-of-words t h)
 
 -- ---- A record written: begin.
-module _ (ws : List ℕ) (sized : Sized (columns ws)) (k : ℕ) (is-task : k < taskCount ws) (t : Task) where
-  pub seen-set-task : (s : Side) → seen s (setTask k t ws) ≡ seen s ws
+module _ (ws : List ℕ) (sized : Sized (sizesOf ws)) (k : ℕ) (is-task : k < taskCount ws) (t : Task) where
+  pub viewed-set-task : (s : Side) → viewed s (setTask k t ws) ≡ viewed s ws
   unfolding value
-  seen-set-task s = ap (memory s) (columns-setTask ws sized k t is-task)
+  viewed-set-task s = ap (viewOf s) (columns-setTask ws sized k t is-task)
 
   pub task-set-task : HasWord (t .value) → task (setTask k t ws) ≡ update (task ws) k t
   task-set-task h =
@@ -174,11 +156,11 @@ module _ (ws : List ℕ) (sized : Sized (columns ws)) (k : ℕ) (is-task : k < t
 
 -- ---- A whole effect: the words that `applied` gives where the answer is no refusal.
 abbrev pub effectWords : Side → List Write → (k : ℕ) → Task → List ℕ → List ℕ
-effectWords s l k t ws = counted (setTask k t (writeAll s l ws))
+effectWords s l k t ws = tickCounted (setTask k t (writeAll s l ws))
 
 module _
     (ws : List ℕ)
-    (sized : Sized (columns ws))
+    (sized : Sized (sizesOf ws))
     (s : Side)
     (l : List Write)
     (in-range : AllInRange (nodeCount ws) l)
@@ -191,35 +173,35 @@ module _
 
   recorded : columns (setTask k t (writeAll s l ws)) ≡ putRecord k (wordsOf t) (putAll s l (columns ws))
   recorded =
-      let z = put-all-sizes s l (columns ws) in
-      let sized′ = subst Sized (sym columns-written) (rw (z .0, z .1, z .2) sized) in
-      let is-task′ : k < taskCount (writeAll s l ws) = rw (ap (λ c. c .taskCount) columns-written, z .2) is-task in
-      columns-setTask (writeAll s l ws) sized′ k t is-task′ ∙ ap (putRecord k (wordsOf t)) columns-written
+      let same = ap (λ c. c .sizes) columns-written ∙ put-all-rest s l (columns ws) .sizes in
+      columns-setTask (writeAll s l ws) (subst Sized (sym same) sized) k t
+      (subst (λ z. k < z .taskCount) (sym same) is-task)
+      ∙ ap (putRecord k (wordsOf t)) columns-written
 
   pub columns-effect :
       columns (effectWords s l k t ws)
       ≡ putTickCount ((tickCount ws + 1) % 2 ^ 32) (putRecord k (wordsOf t) (putAll s l (columns ws)))
   columns-effect =
       let vs = setTask k t (writeAll s l ws) in
-      let z = put-all-sizes s l (columns ws) in
-      let sized′ = subst Sized (sym recorded) (rw (z .0, z .1, z .2) sized) in
-      let ticks : tickCount vs ≡ tickCount ws = ap (λ c. c .tickCount) recorded ∙ put-all-rest s l (columns ws) .1 in
-      columns-setTickCount vs sized′ ((tickCount vs + 1) % 2 ^ 32)
+      let rest = put-all-rest s l (columns ws) in
+      let same = ap (λ c. c .sizes) recorded ∙ rest .sizes in
+      let ticks : tickCount vs ≡ tickCount ws
+      = ap (λ c. c .counts .tickCount) recorded ∙ ap (λ n. n .tickCount) (rest .counts) in
+      columns-setTickCount vs (subst Sized (sym same) sized) ((tickCount vs + 1) % 2 ^ 32)
       ∙ ap (λ n. putTickCount ((n + 1) % 2 ^ 32) (columns vs)) ticks
       ∙ ap (putTickCount ((tickCount ws + 1) % 2 ^ 32)) recorded
 
-  pub effect-sizes : SameSizes (columns (effectWords s l k t ws)) (columns ws)
-  effect-sizes =
-      subst (λ c. SameSizes c (columns ws)) (sym columns-effect) (put-all-sizes s l (columns ws))
+  pub effect-sizes : sizesOf (effectWords s l k t ws) ≡ sizesOf ws
+  effect-sizes = ap (λ c. c .sizes) columns-effect ∙ put-all-rest s l (columns ws) .sizes
 
-  pub seen-effect : seen right (effectWords s l k t ws) ≡ view s (written l (view s (seen right ws)))
+  pub viewed-effect : viewed right (effectWords s l k t ws) ≡ viewAfter s l (viewed right ws)
   unfolding value
-  seen-effect =
+  viewed-effect =
       let c = columns ws in
-      ap (memory right) columns-effect
-      ∙ view-memory s (putAll s l c)
-      ∙ ap (view s) (memory-put-all (nodeCount ws) s l c in-range)
-      ∙ ap (λ m. view s (written l m)) (sym (view-seen s ws))
+      ap (viewOf right) columns-effect
+      ∙ view-columns s (putAll s l c)
+      ∙ ap (view s) (view-put-all (nodeCount ws) s l c in-range)
+      ∙ ap (λ m. view s (written s l m)) (sym (view-viewed s ws))
 
   pub task-effect : HasWord (t .value) → task (effectWords s l k t ws) ≡ update (task ws) k t
   task-effect h =
@@ -227,5 +209,5 @@ module _
       task-by-columns (effectWords s l k t ws)
       ∙ ap tasks columns-effect
       ∙ tasks-put-record k t (putAll s l c) h
-      ∙ ap (λ (r : ℕ → List ℕ). update (λ j. taskOf (r j)) k t) (put-all-rest s l c .0)
+      ∙ ap (λ (r : ℕ → List ℕ). update (λ j. taskOf (r j)) k t) (put-all-rest s l c .records)
       ∙ ap (λ (f : ℕ → Task). update f k t) (sym (task-by-columns ws))

@@ -1,33 +1,62 @@
--- The memory that a task sees: from either side, and after a tick's writes.
+-- The table as a side sees it, with both hats: what a line sees of it, and what a tick's writes make of it.
 use mathlib.Core.Path.{_≡_, refl}
 use mathlib.Core.List.{List, [], _∷_}
-use Rattle.machine.specs.Sides.{Side, left, right}
-use Rattle.machine.specs.Lines.{Memory, Write, out≔, inn≔, val≔, hat≔}
-use Rattle.machine.proofs.Basics.Updates.{update}
+use Prim.Native.Nat.{ℕ}
+use Rattle.machine.specs.Sides.{Side, left, right, opposite}
+use Rattle.machine.specs.Values.{Value}
+use Rattle.machine.specs.Table.{hat, link, value}
+use Rattle.machine.specs.Lines.{Memory, seen, Write, out≔, inn≔, val≔, hat≔}
+use Rattle.machine.proofs.Basics.Updates.{update, updateSide}
 
--- One write, and several in order.
-abbrev pub write : Write → Memory → Memory
-write (out≔ x y) m = record { out = update (m .out) x y; inn = m .inn; val = m .val; hat = m .hat; far = m .far }
-write (inn≔ x y) m = record { out = m .out; inn = update (m .inn) x y; val = m .val; hat = m .hat; far = m .far }
-write (val≔ x v) m = record { out = m .out; inn = m .inn; val = update (m .val) x v; hat = m .hat; far = m .far }
-write (hat≔ x) m = record { out = m .out; inn = m .inn; val = m .val; hat = x; far = m .far }
+-- Links lead outward and inward from the side that looks; the hats are those of the sides by name.
+pub record View : Type 0 where
+  pub out : ℕ → ℕ
+  pub inn : ℕ → ℕ
+  pub val : ℕ → Value
+  pub hats : Side → ℕ
 
-abbrev pub written : List Write → Memory → Memory
-written [] m = m
-written (w ∷ l) m = written l (write w m)
+abbrev pub viewed : Side → List ℕ → View
+viewed s ws = record { out = link ws s; inn = link ws (opposite s); val = value ws; hats = hat ws }
 
-abbrev pub swapped : Memory → Memory
-swapped m = record { out = m .inn; inn = m .out; val = m .val; hat = m .far; far = m .hat }
+-- What a line of side s sees: its own hat alone.
+abbrev pub seenIn : Side → View → Memory
+seenIn s m = record { out = m .out; inn = m .inn; val = m .val; hat = m .hats s }
 
--- A memory as the task of a side sees it, from the memory as the right side sees it, and back.
-abbrev pub view : Side → Memory → Memory
+-- One write of a task on side s, and several in order.
+abbrev pub write : Side → Write → View → View
+write s (out≔ x y) m = record { out = update (m .out) x y; inn = m .inn; val = m .val; hats = m .hats }
+write s (inn≔ x y) m = record { out = m .out; inn = update (m .inn) x y; val = m .val; hats = m .hats }
+write s (val≔ x v) m = record { out = m .out; inn = m .inn; val = update (m .val) x v; hats = m .hats }
+write s (hat≔ x) m = record { out = m .out; inn = m .inn; val = m .val; hats = updateSide (m .hats) s x }
+
+abbrev pub written : Side → List Write → View → View
+written s [] m = m
+written s (w ∷ l) m = written s l (write s w m)
+
+abbrev pub swapped : View → View
+swapped m = record { out = m .inn; inn = m .out; val = m .val; hats = m .hats }
+
+-- The view of a side, from the right side's, and back.
+abbrev pub view : Side → View → View
 view left m = swapped m
 view right m = m
 
-pub view-view : (s : Side) (m : Memory) → view s (view s m) ≡ m
+-- What the writes of a task on side s make of the right side's view.
+abbrev pub viewAfter : Side → List Write → View → View
+viewAfter s l M = view s (written s l (view s M))
+
+pub view-view : (s : Side) (m : View) → view s (view s m) ≡ m
 view-view left m = refl
 view-view right m = refl
 
-pub memory-equal :
-    {m n : Memory} → m .out ≡ n .out → m .inn ≡ n .inn → m .val ≡ n .val → m .hat ≡ n .hat → m .far ≡ n .far → m ≡ n
-memory-equal o i v h f = λ j. record { out = o j; inn = i j; val = v j; hat = h j; far = f j }
+pub view-viewed : (s : Side) (ws : List ℕ) → view s (viewed right ws) ≡ viewed s ws
+view-viewed left ws = refl
+view-viewed right ws = refl
+
+-- What the line of a side sees of the words it sees of their view.
+pub seen-viewed : (s : Side) (ws : List ℕ) → seenIn s (view s (viewed right ws)) ≡ seen s ws
+seen-viewed left ws = refl
+seen-viewed right ws = refl
+
+pub view-equal : {m n : View} → m .out ≡ n .out → m .inn ≡ n .inn → m .val ≡ n .val → m .hats ≡ n .hats → m ≡ n
+view-equal o i v h = λ j. record { out = o j; inn = i j; val = v j; hats = h j }

@@ -1,17 +1,17 @@
--- The record of a task and its ten words: each gives back the other.
+-- The record of a task and its words: each gives back the other.
 use mathlib.Core.Path.{_≡_, refl, ap, sym, _∙_}
 use mathlib.Core.Logic.{inl, inr}
 use mathlib.Core.Bool.{Bool, true, false, cond, _||_}
-use mathlib.Core.List.{List, [], _∷_}
-use Prim.Native.Nat.{ℕ, _+_, _≤_}
+use mathlib.Core.List.{List, [], _∷_, _++_}
+use Prim.Native.Nat.{ℕ, _≤_}
 use lib.Dec.{leb, eqb}
-use lib.ListN.{getD}
 use native.Mathlib.Omega.{arith}
 use native.Mathlib.Decide.{ℕ-discrete}
 use borrow.Author.Tests.{leb-true, eqb-true}
+use Rattle.machine.specs.declared.Stored.{Stored}
 use Rattle.machine.specs.Choice.{_≟_, if_then_else_}
 use Rattle.machine.specs.Sides.{Side, left, right, opposite, sideNumber, sideOf}
-use Rattle.machine.specs.Values.{N, X, encode, bagOk, valueOk}
+use Rattle.machine.specs.Values.{N, X, encode, storedWords, sameStored, bagOk, valueOk}
 use Rattle.machine.specs.Operations.{
   Operation,
   idle,
@@ -23,8 +23,23 @@ use Rattle.machine.specs.Operations.{
   operationOf,
 }
 use Rattle.machine.specs.Steps.{stepsOf, isStepIn}
-use Rattle.machine.specs.Tasks.{Task, fresh, wordsOf, taskOf}
-use Rattle.machine.specs.Table.{tenFrom}
+use Rattle.machine.specs.Tasks.{
+  Task,
+  fresh,
+  inA,
+  inB,
+  inC,
+  inD,
+  wordsOf,
+  operationWord,
+  stepWord,
+  sideWord,
+  argumentWords,
+  countedWord,
+  valueReadWords,
+  registerWord,
+  taskOf,
+}
 use Rattle.machine.specs.Shape.{sameWords, valueReadOk, busyOk, recordOk}
 use Rattle.machine.proofs.Basics.Tests.{and-left, and-right, or-either}
 use Rattle.machine.proofs.Words.ValueLaws.{
@@ -32,6 +47,8 @@ use Rattle.machine.proofs.Words.ValueLaws.{
   N-mark,
   X-mark,
   never-has-word,
+  same-stored,
+  number-stored,
   encode-decode,
   bag-value-ok,
   mark-value-ok,
@@ -102,13 +119,13 @@ task-equal o st s n c v a b g d =
 
 pub task-of-words : (t : Task) → HasWord (t .value) → taskOf (wordsOf t) ≡ t
 task-of-words t h =
-    task-equal (operation-of-number (t .operation)) (step-of-number (t .step)) (side-of-number (t .side)) refl refl h
-    refl refl refl refl
+    task-equal (operation-of-number (t .operation)) (step-of-number (t .step)) (side-of-number (t .side))
+    (number-stored (t .argument)) refl h refl refl refl refl
 
 pub fresh-of-words : taskOf (wordsOf fresh) ≡ fresh
 fresh-of-words = task-of-words fresh never-has-word
 
--- ---- From ten words that pass the test to a record and back.
+-- ---- From words that pass the test to a record and back.
 pub same-words : (xs ys : List ℕ) → sameWords xs ys ≡ true → xs ≡ ys
 unfolding sameWords
 same-words [] [] h = refl
@@ -120,32 +137,43 @@ same-words (x ∷ xs) (y ∷ ys) h =
     rw (a, b)
 
 -- What is read at any step is as V may be.
-pub read-value-ok : (s : Side) (step w : ℕ) → valueReadOk s step w ≡ true → valueOk w ≡ true
-read-value-ok s step w = go (eqb step 51) (eqb step 48)
+pub read-value-ok : (s : Side) (step : ℕ) (u : Stored) → valueReadOk s step u ≡ true → valueOk u ≡ true
+read-value-ok s step u = go (eqb step 51) (eqb step 48)
   where
     a : Bool
-    a = eqb w (encode (N (opposite s)))
+    a = sameStored u (encode (N (opposite s)))
 
     b : Bool
-    b = eqb w (encode (X (opposite s)))
+    b = sameStored u (encode (X (opposite s)))
 
-    go : (at51 at48 : Bool) → cond at51 (bagOk w) (cond at48 (a || b) (valueOk w)) ≡ true → valueOk w ≡ true
-    go true at48 h = bag-value-ok w h
+    go : (at51 at48 : Bool) → cond at51 (bagOk u) (cond at48 (a || b) (valueOk u)) ≡ true → valueOk u ≡ true
+    go true at48 h = bag-value-ok u h
     go false true h =
         elim (or-either a b h) [
-          | inl e ↦ rw (eqb-true w (encode (N (opposite s))) e) (mark-value-ok {s = opposite s} N-mark)
-          | inr e ↦ rw (eqb-true w (encode (X (opposite s))) e) (mark-value-ok {s = opposite s} X-mark)
+          | inl e ↦ rw (same-stored {w = encode (N (opposite s))} e) (mark-value-ok {s = opposite s} N-mark)
+          | inr e ↦ rw (same-stored {w = encode (X (opposite s))} e) (mark-value-ok {s = opposite s} X-mark)
         ]
     go false false h = h
 
-module _ (S g : ℕ) (ws : List ℕ) (i : ℕ) where
-  words-of-busy : busyOk S g (tenFrom ws i) ≡ true → wordsOf (taskOf (tenFrom ws i)) ≡ tenFrom ws i
+-- The words as they are read, by their names.
+abbrev pub wordsRead : List ℕ → List ℕ
+wordsRead r =
+    operationWord r
+    ∷ stepWord r
+    ∷ sideWord r
+    ∷ (storedWords (argumentWords r)
+    ++ (countedWord r
+    ∷ (storedWords (valueReadWords r)
+    ++ (registerWord r inA ∷ registerWord r inB ∷ registerWord r inC ∷ registerWord r inD ∷ []))))
+
+module _ (S g : ℕ) (r : List ℕ) where
+  words-of-busy : busyOk S g r ≡ true → wordsOf (taskOf r) ≡ wordsRead r
   unfolding busyOk
   words-of-busy h =
-      let o = getD ws i 0 in
-      let st = getD ws (i + 1) 0 in
-      let s = getD ws (i + 2) 0 in
-      let v = getD ws (i + 5) 0 in
+      let o = operationWord r in
+      let st = stepWord r in
+      let s = sideWord r in
+      let v = valueReadWords r in
       let o-ok : leb o 4 ≡ true = search (and-left, and-right) depth 9 in
       let st-ok : isStepIn (stepsOf (operationOf o)) st ≡ true = search (and-left, and-right) depth 9 in
       let s-ok : leb s 1 ≡ true = search (and-left, and-right) depth 9 in
@@ -157,15 +185,24 @@ module _ (S g : ℕ) (ws : List ℕ) (i : ℕ) where
         encode-decode v (read-value-ok (sideOf s) st v v-ok),
       )
 
-  pub words-of-task : recordOk S g (tenFrom ws i) ≡ true → wordsOf (taskOf (tenFrom ws i)) ≡ tenFrom ws i
+  pub words-of-task : recordOk S g r ≡ true → wordsOf (taskOf r) ≡ wordsRead r
   unfolding recordOk
-  words-of-task = go (eqb (getD ws i 0) 0)
+  words-of-task = go (eqb (operationWord r) 0)
     where
-      r : List ℕ
-      r = tenFrom ws i
-
-      go : (t : Bool) → cond t (sameWords r (wordsOf fresh)) (busyOk S g r) ≡ true → wordsOf (taskOf r) ≡ r
+      go : (t : Bool) → cond t (sameWords r (wordsOf fresh)) (busyOk S g r) ≡ true → wordsOf (taskOf r) ≡ wordsRead r
       go true h =
           let e = same-words r (wordsOf fresh) h in
-          ap (λ l. wordsOf (taskOf l)) e ∙ ap wordsOf fresh-of-words ∙ sym e
+          ap (λ l. wordsOf (taskOf l)) e ∙ ap wordsOf fresh-of-words ∙ ap wordsRead (sym e)
       go false h = words-of-busy h
+
+  -- The words as they are read pass too.
+  pub read-passes : recordOk S g r ≡ true → recordOk S g (wordsRead r) ≡ true
+  unfolding recordOk busyOk sameWords
+  read-passes = go (eqb (operationWord r) 0)
+    where
+      go :
+          (t : Bool)
+          → cond t (sameWords r (wordsOf fresh)) (busyOk S g r) ≡ true
+          → cond t (sameWords (wordsRead r) (wordsOf fresh)) (busyOk S g (wordsRead r)) ≡ true
+      go true h = rw (same-words r (wordsOf fresh) h) refl
+      go false h = h

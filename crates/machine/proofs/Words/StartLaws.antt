@@ -1,37 +1,43 @@
--- The table that start leaves: its columns, and the memory and the tasks that it stands for.
+-- The table that start leaves: its columns, and the view and the tasks that it stands for.
 use mathlib.Core.Path.{_≡_, refl, ap, sym, _∙_, fun-ext}
 use mathlib.Core.List.{List, _++_}
 use Prim.Native.Nat.{ℕ, zero, suc, _+_, _*_, _-_, _≤_, _<_}
 use lib.ListN.{length, getD, length-append, List·getD-append}
 use lib.Seq.{getD-append-add}
 use native.Mathlib.Omega.{arith}
+use native.Mathlib.Nat.{add-assoc}
 use native.Mathlib.Decide.{ℕ-discrete}
 use Rattle.machine.specs.Choice.{_≟_, _<?_, if_then_else_}
 use Rattle.machine.specs.Sides.{Side, left, right, sideNumber}
-use Rattle.machine.specs.Values.{Value, never, X, encode}
-use Rattle.machine.specs.Tasks.{Task, none, fresh, wordsOf}
+use Rattle.machine.specs.Values.{Value, never, X, encode, storedLength}
+use Rattle.machine.specs.Tasks.{Task, none, fresh, recordLength, wordsOf}
 use Rattle.machine.specs.Table.{
+  headerLength,
+  nodeLength,
+  nodeAt,
   tableLength,
   nodeCount,
   taskCount,
   headerWords,
   nodeWords,
   linkWord,
-  valueWord,
+  valueAt,
+  valueWords,
   link,
   value,
   recordAt,
+  recordFrom,
   recordWords,
   task,
+  linksLength,
 }
-use Rattle.machine.specs.Lines.{Memory, seen}
 use Rattle.machine.specs.Calls.{times, startWords}
 use Rattle.machine.proofs.Basics.Choices.{by-if, if-no, if-yes}
-use Rattle.machine.proofs.Words.Memories.{memory-equal}
-use Rattle.machine.proofs.Words.ValueLaws.{HasWord, X-mark, never-has-word, mark-has-word}
+use Rattle.machine.proofs.Words.Memories.{View, viewed, view-equal}
+use Rattle.machine.proofs.Words.ValueLaws.{HasWord, X-mark, never-has-word, mark-has-word, stored-alike}
 use Rattle.machine.proofs.Words.RecordLaws.{fresh-of-words}
-use Rattle.machine.proofs.Words.Columns.{Columns, columns, columns-equal, memory, tasks}
-use Rattle.machine.proofs.Words.Stretches.{ten-same, side-small}
+use Rattle.machine.proofs.Words.Columns.{Sizes, Columns, columns, sizes-equal, columns-equal, viewOf, tasks, startCounts}
+use Rattle.machine.proofs.Words.Stretches.{record-alike, side-small}
 use Rattle.machine.proofs.Words.EffectLaws.{task-by-columns}
 
 -- ---- A list n times over, at a place.
@@ -62,27 +68,21 @@ startHat right = 1
 abbrev pub startValue : ℕ → Value
 startValue x = if x ≟ 0 then X left else if x ≟ 1 then X right else never
 
-abbrev pub startMemory : Memory
-startMemory =
+abbrev pub startView : View
+startView =
     record {
       out = startLink right;
       inn = startLink left;
       val = startValue;
-      hat = startHat right;
-      far = startHat left;
+      hats = startHat;
     }
 
 abbrev pub startColumns : (S T growth : ℕ) → Columns
 startColumns S T g =
     record {
-      length = tableLength S T;
-      nodeCount = S;
-      taskCount = T;
-      growth = g;
+      sizes = record { length = tableLength S T; nodeCount = S; taskCount = T; growth = g };
       hats = startHat;
-      tickCount = 0;
-      word6 = 0;
-      word7 = 0;
+      counts = startCounts;
       links = startLink;
       values = λ x. encode (startValue x);
       records = λ k. wordsOf fresh;
@@ -97,7 +97,7 @@ module _ (S T g : ℕ) (two : 2 ≤ S) where
   front : List ℕ
   front = headerWords S T g 0 1 0 ++ (nodeWords none 1 (X left) ++ nodeWords 0 none (X right))
 
-  length-nodes : length (times (S - 2) spare) ≡ (S - 2) * 3
+  length-nodes : length (times (S - 2) spare) ≡ (S - 2) * nodeLength
   unfolding spare
   length-nodes = length-times (S - 2) spare
 
@@ -112,23 +112,30 @@ module _ (S T g : ℕ) (two : 2 ≤ S) where
         length-times T (wordsOf fresh),
       )
 
-  spare-at : (y c : ℕ) → y < S - 2 → c < 3 → getD (startWords S T g) (8 + 3 * suc (suc y) + c) 0 ≡ getD spare c 0
+  spare-at :
+      (y c : ℕ) → y < S - 2 → c < nodeLength → getD (startWords S T g) (nodeAt (suc (suc y)) + c) 0 ≡ getD spare c 0
   unfolding startWords front spare
   spare-at y c h k =
-      let e : 8 + 3 * suc (suc y) + c ≡ 14 + (y * 3 + c) = omega arith in
+      let i = y * nodeLength + c in
+      let e : nodeAt (suc (suc y)) + c ≡ nodeAt 2 + i = omega arith in
       rw e (
-      getD-append-add front (times (S - 2) spare ++ times T (wordsOf fresh)) (y * 3 + c) 0
-      ∙ List·getD-append (times (S - 2) spare) (times T (wordsOf fresh)) 0 (y * 3 + c) (omega (arith, length-nodes))
+      getD-append-add front (times (S - 2) spare ++ times T (wordsOf fresh)) i 0
+      ∙ List·getD-append (times (S - 2) spare) (times T (wordsOf fresh)) 0 i (omega (arith, length-nodes))
       ∙ times-at (S - 2) spare y c h k)
 
-  record-at : (k c : ℕ) → k < T → c < 10 → getD (startWords S T g) (recordAt S k + c) 0 ≡ getD (wordsOf fresh) c 0
+  record-at :
+      (k c : ℕ)
+      → k < T
+      → c < recordLength
+      → getD (startWords S T g) (recordAt S k + c) 0 ≡ getD (wordsOf fresh) c 0
   unfolding startWords front spare
   record-at k c h q =
       let n = length (times (S - 2) spare) in
-      let e : recordAt S k + c ≡ 14 + (n + (k * 10 + c)) = omega (arith, length-nodes) in
+      let i = k * recordLength + c in
+      let e : recordAt S k + c ≡ nodeAt 2 + (n + i) = omega (arith, length-nodes) in
       rw e (
-      getD-append-add front (times (S - 2) spare ++ times T (wordsOf fresh)) (n + (k * 10 + c)) 0
-      ∙ getD-append-add (times (S - 2) spare) (times T (wordsOf fresh)) (k * 10 + c) 0
+      getD-append-add front (times (S - 2) spare ++ times T (wordsOf fresh)) (n + i) 0
+      ∙ getD-append-add (times (S - 2) spare) (times T (wordsOf fresh)) i 0
       ∙ times-at T (wordsOf fresh) k c h q)
 
   link-else : (s : Side) (y : ℕ) → startLink s (suc (suc y)) ≡ none
@@ -153,7 +160,7 @@ module _ (S T g : ℕ) (two : 2 ≤ S) where
       go (yes h) = spare-at y (sideNumber s) (omega arith) (omega (arith, side-small s)) ∙ spare-link s
       go (no h) = refl
 
-  value-else : (y : ℕ) → encode (startValue (suc (suc y))) ≡ 0
+  value-else : (y : ℕ) → encode (startValue (suc (suc y))) ≡ encode never
   value-else y =
       ap encode (
       if-no (suc (suc y) ≟ 0) (X left) (if suc (suc y) ≟ 1 then X right else never) (λ e. omega arith)
@@ -161,12 +168,17 @@ module _ (S T g : ℕ) (two : 2 ≤ S) where
 
   value-start : (x : ℕ) → columns (startWords S T g) .values x ≡ encode (startValue x)
   unfolding startWords ℕ-discrete spare
-  value-start zero = if-yes (0 <? S) (encode (X left)) 0 (omega arith)
-  value-start (suc zero) = if-yes (1 <? S) (encode (X right)) 0 (omega arith)
+  value-start zero = if-yes (0 <? S) (encode (X left)) (encode never) (omega arith)
+  value-start (suc zero) = if-yes (1 <? S) (encode (X right)) (encode never) (omega arith)
   value-start (suc (suc y)) = go (suc (suc y) <? S) ∙ sym (value-else y)
     where
-      go : (d : Dec (suc (suc y) < S)) → (if d then valueWord (startWords S T g) (suc (suc y)) else 0) ≡ 0
-      go (yes h) = spare-at y 2 (omega arith) (omega arith)
+      go :
+          (d : Dec (suc (suc y) < S))
+          → (if d then valueWords (startWords S T g) (suc (suc y)) else encode never) ≡ encode never
+      go (yes h) =
+          stored-alike spare (startWords S T g) (valueAt (suc (suc y))) linksLength (λ c k.
+          rw (add-assoc (nodeAt (suc (suc y))) linksLength c)
+          (spare-at y (linksLength + c) (omega arith) (omega arith)))
       go (no h) = refl
 
   record-start : (k : ℕ) → columns (startWords S T g) .records k ≡ wordsOf fresh
@@ -175,8 +187,8 @@ module _ (S T g : ℕ) (two : 2 ≤ S) where
     where
       go : (d : Dec (k < T)) → (if d then recordWords (startWords S T g) k else wordsOf fresh) ≡ wordsOf fresh
       go (yes h) =
-          ten-same (wordsOf fresh) (startWords S T g) (recordAt S k) 0
-          (λ c q. let e : 0 + c ≡ c = omega arith in rw e (record-at k c h q))
+          record-alike (startWords S T g) (wordsOf fresh) (recordAt S k) refl (omega (arith, length-start))
+          (λ c q. record-at k c h q)
       go (no h) = refl
 
   hat-start : (s : Side) → columns (startWords S T g) .hats s ≡ startHat s
@@ -187,7 +199,7 @@ module _ (S T g : ℕ) (two : 2 ≤ S) where
   pub columns-start : columns (startWords S T g) ≡ startColumns S T g
   unfolding startWords
   columns-start =
-      columns-equal length-start refl refl refl (fun-ext hat-start) refl refl refl
+      columns-equal (sizes-equal length-start refl refl refl) (fun-ext hat-start) refl
       (fun-ext (λ s. fun-ext (link-start s))) (fun-ext value-start) (fun-ext record-start)
 
 start-has-word : (x : ℕ) → HasWord (startValue x)
@@ -197,11 +209,11 @@ start-has-word x =
 
 -- ---- What the started table stands for.
 module _ (S T g : ℕ) (two : 2 ≤ S) where
-  pub seen-start : seen right (startWords S T g) ≡ startMemory
+  pub viewed-start : viewed right (startWords S T g) ≡ startView
   unfolding value
-  seen-start =
-      ap (memory right) (columns-start S T g two)
-      ∙ memory-equal refl refl (fun-ext start-has-word) refl refl
+  viewed-start =
+      ap (viewOf right) (columns-start S T g two)
+      ∙ view-equal refl refl (fun-ext start-has-word) refl
 
   pub task-start : (k : ℕ) → task (startWords S T g) k ≡ fresh
   task-start k =

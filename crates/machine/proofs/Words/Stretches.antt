@@ -1,30 +1,48 @@
 -- Words written in one stretch, and the columns that such a write leaves alone.
-use mathlib.Core.Path.{_≡_, refl, ap, _∙_, fun-ext}
+use mathlib.Core.Path.{_≡_, refl, ap, sym, _∙_, fun-ext}
 use mathlib.Core.Logic.{_⊎_, inl, inr}
-use mathlib.Core.List.{List, [], _∷_}
-use Prim.Native.Nat.{ℕ, suc, zero, _+_, _*_, _≤_, _<_}
-use lib.ListN.{length, getD, set, length-set}
-use lib.Seq.{sets, length-sets, getD-set-same, getD-set-other}
+use mathlib.Core.List.{List, [], _∷_, _++_, append-assoc}
+use Prim.Native.Nat.{ℕ, suc, zero, _+_, _*_, _-_, _≤_, _<_, min}
+use lib.ListN.{length, getD, set, take, drop, length-set, length-take, length-drop}
+use lib.Seq.{sets, sets-eq, length-sets, length-take-le, getD-set-other, getD-take, getD-drop, take-at, drop-at, ext-getD}
 use native.Mathlib.Omega.{arith}
 use Rattle.machine.specs.Sides.{Side, left, right, sideNumber}
-use Rattle.machine.specs.Tasks.{none, fresh, wordsOf}
+use Rattle.machine.specs.Values.{never, encode}
+use Rattle.machine.specs.Tasks.{none, fresh, recordLength, wordsOf}
 use Rattle.machine.specs.Table.{
+  headerLength,
+  nodeLength,
   nodeCount,
   taskCount,
   growth,
   hatAt,
   hat,
-  tickCount,
-  word6,
-  word7,
+  tickCountAt,
+  nodeAt,
+  valueAt,
   linkWord,
-  valueWord,
+  valueWords,
   link,
   recordAt,
-  tenFrom,
+  recordFrom,
   recordWords,
+  nodeCountAt,
+  taskCountAt,
+  growthAt,
 }
-use Rattle.machine.proofs.Words.Columns.{columns, columns-equal, column-kept}
+use Rattle.machine.proofs.Words.ValueLaws.{stored-alike}
+use Rattle.machine.proofs.Words.Columns.{
+  Counts,
+  Columns,
+  sizesOf,
+  countsOf,
+  columns,
+  putBody,
+  sizes-equal,
+  counts-equal,
+  columns-equal,
+  column-kept,
+}
 
 -- The words vs are ws but for n words from p on.
 pub record Wrote (ws vs : List ℕ) (p n : ℕ) : Type 0 where
@@ -47,101 +65,120 @@ sets-other (v ∷ vs) ws p j o =
     sets-other vs (set ws p v) (suc p) j (elim o [ inl l ↦ inl (omega arith) | inr l ↦ inr (omega arith) ])
     ∙ getD-set-other ws p j v 0 (λ e. elim o [ inl l ↦ absurd (omega arith) | inr l ↦ absurd (omega arith) ])
 
-pub sets-same :
-    (vs ws : List ℕ) (p c : ℕ) → c < length vs → p + length vs ≤ length ws → getD (sets ws p vs) (p + c) 0 ≡ getD vs c 0
-sets-same [] ws p c h k = absurd (omega arith)
-sets-same (v ∷ vs) ws p zero h k =
-    let e : p + 0 ≡ p = omega arith in
-    rw e (sets-other vs (set ws p v) (suc p) p (inl (omega arith)) ∙ getD-set-same ws p v 0 (omega arith))
-sets-same (v ∷ vs) ws p (suc c) h k =
-    let e : p + suc c ≡ suc p + c = omega arith in
-    rw e (sets-same vs (set ws p v) (suc p) c (omega arith) (let l = length-set ws p v in omega arith))
-
 pub sets-wrote : (ws : List ℕ) (p : ℕ) (vs : List ℕ) → Wrote ws (sets ws p vs) p (length vs)
 sets-wrote ws p vs = record { long = length-sets ws p vs; other = λ j o. sets-other vs ws p j o }
 
--- ---- What a stretch leaves alone. No write touches the sizes.
-pub ten-same :
-    (ws vs : List ℕ) (i j : ℕ)
-    → ((c : ℕ) → c < 10 → getD vs (i + c) 0 ≡ getD ws (j + c) 0)
-    → tenFrom vs i ≡ tenFrom ws j
-ten-same ws vs i j same =
-    let a : i + 0 ≡ i = omega arith in
-    let b : j + 0 ≡ j = omega arith in
-    let first : getD vs i 0 ≡ getD ws j 0 = rw (a, b) at (same 0 (omega arith)) in
-    rw (
-      first,
-      same 1 (omega arith),
-      same 2 (omega arith),
-      same 3 (omega arith),
-      same 4 (omega arith),
-      same 5 (omega arith),
-      same 6 (omega arith),
-      same 7 (omega arith),
-      same 8 (omega arith),
-      same 9 (omega arith),
-    )
+-- ---- A record's words as a part of the table.
+pub record-word : (ws : List ℕ) (i c : ℕ) → c < recordLength → getD (recordFrom ws i) c 0 ≡ getD ws (i + c) 0
+record-word ws i c h = getD-take recordLength (drop i ws) c 0 h ∙ getD-drop i ws c 0
 
+pub record-long : (ws : List ℕ) (i : ℕ) → i + recordLength ≤ length ws → length (recordFrom ws i) ≡ recordLength
+record-long ws i h = length-take-le recordLength (drop i ws) (let e = length-drop i ws in omega arith)
+
+take-few : (n : ℕ) (l : List ℕ) → length (take n l) ≤ n
+take-few zero l = omega arith
+take-few (suc n) [] = omega arith
+take-few (suc n) (x ∷ l) = let h = take-few n l in omega arith
+
+-- A record whose words are known one by one.
+pub record-alike :
+    (ws r : List ℕ) (i : ℕ)
+    → length r ≡ recordLength
+    → i + recordLength ≤ length ws
+    → ((c : ℕ) → c < recordLength → getD ws (i + c) 0 ≡ getD r c 0)
+    → recordFrom ws i ≡ r
+record-alike ws r i long h same =
+    let e = record-long ws i h in
+    ext-getD 0 (recordFrom ws i) r (e ∙ sym long)
+    (λ c l. let q : c < recordLength = omega arith in record-word ws i c q ∙ same c q)
+
+-- A record at the same place of two lists of one length.
+pub record-same :
+    (ws vs : List ℕ) (i : ℕ)
+    → length vs ≡ length ws
+    → ((c : ℕ) → c < recordLength → getD vs (i + c) 0 ≡ getD ws (i + c) 0)
+    → recordFrom vs i ≡ recordFrom ws i
+record-same ws vs i long same =
+    ext-getD 0 (recordFrom vs i) (recordFrom ws i)
+    (length-take recordLength (drop i vs)
+    ∙ ap (min recordLength) (length-drop i vs ∙ ap (λ (n : ℕ). n - i) long ∙ sym (length-drop i ws))
+    ∙ sym (length-take recordLength (drop i ws)))
+    (λ c h.
+    let q : c < recordLength = let f = take-few recordLength (drop i vs) in omega arith in
+    record-word vs i c q ∙ same c q ∙ sym (record-word ws i c q))
+
+-- A record that was written.
+pub record-written :
+    (ws vs : List ℕ) (i : ℕ)
+    → length vs ≡ recordLength
+    → i + recordLength ≤ length ws
+    → recordFrom (sets ws i vs) i ≡ vs
+record-written ws vs i long h =
+    let rest = drop (i + length vs) ws in
+    ap (λ (l : List ℕ). recordFrom l i)
+    (sets-eq vs ws i (omega arith) ∙ append-assoc (take i ws) vs rest)
+    ∙ ap (take recordLength) (drop-at (take i ws) (vs ++ rest) i (length-take-le i ws (omega arith)))
+    ∙ take-at vs rest recordLength long
+
+-- ---- What a stretch leaves alone. No write touches the sizes.
 pub side-small : (s : Side) → sideNumber s ≤ 1
 side-small left = omega arith
 side-small right = omega arith
 
-module _ {ws vs : List ℕ} {p n : ℕ} (W : Wrote ws vs p n) (past-sizes : 3 ≤ p) where
-  pub before : (j : ℕ) → j < p → getD vs j 0 ≡ getD ws j 0
+module _ {ws vs : List ℕ} {p n : ℕ} (W : Wrote ws vs p n) (past-sizes : hatAt left ≤ p) where
+  before : (j : ℕ) → j < p → getD vs j 0 ≡ getD ws j 0
   before j h = W .other j (inl h)
 
   pub same-nodes : nodeCount vs ≡ nodeCount ws
-  same-nodes = before 0 (omega arith)
+  same-nodes = before nodeCountAt (omega arith)
 
   pub same-tasks : taskCount vs ≡ taskCount ws
-  same-tasks = before 1 (omega arith)
+  same-tasks = before taskCountAt (omega arith)
 
-  module _ (off-nodes : (p + n ≤ 8) ⊎ (8 + 3 * nodeCount ws ≤ p)) where
-    off : (x c : ℕ) → x < nodeCount ws → c < 3 → getD vs (8 + 3 * x + c) 0 ≡ getD ws (8 + 3 * x + c) 0
-    off x c h k =
-        W .other (8 + 3 * x + c) (elim off-nodes [ inl l ↦ inr (omega arith) | inr l ↦ inl (omega arith) ])
+  pub same-sizes : sizesOf vs ≡ sizesOf ws
+  same-sizes = sizes-equal (W .long) same-nodes same-tasks (before growthAt (omega arith))
+
+  pub hats-before : hatAt right < p → hat vs ≡ hat ws
+  hats-before h = fun-ext (λ s. before (hatAt s) (let b = side-small s in omega arith))
+
+  pub counts-off : (p + n ≤ tickCountAt) ⊎ (headerLength ≤ p) → countsOf vs ≡ countsOf ws
+  counts-off o = counts-equal (other 0 (omega arith)) (other 1 (omega arith)) (other 2 (omega arith))
+    where
+      other : (c : ℕ) → tickCountAt + c < headerLength → getD vs (tickCountAt + c) 0 ≡ getD ws (tickCountAt + c) 0
+      other c h = W .other (tickCountAt + c) (elim o [ inl l ↦ inr (omega arith) | inr l ↦ inl (omega arith) ])
+
+  module _ (off-nodes : (p + n ≤ headerLength) ⊎ (nodeAt (nodeCount ws) ≤ p)) where
+    off : (x j : ℕ) → x < nodeCount ws → nodeAt x ≤ j → j < nodeAt x + nodeLength → getD vs j 0 ≡ getD ws j 0
+    off x j h k l = W .other j (elim off-nodes [ inl q ↦ inr (omega arith) | inr q ↦ inl (omega arith) ])
 
     pub links-off : link vs ≡ link ws
     unfolding link
     links-off =
         fun-ext (λ s.
         column-kept none (linkWord ws s) (linkWord vs s) same-nodes
-        (λ x h. off x (sideNumber s) h (omega (arith, side-small s))))
+        (λ x h. let b = side-small s in off x (nodeAt x + sideNumber s) h (omega arith) (omega arith)))
 
     pub values-off : columns vs .values ≡ columns ws .values
-    values-off = column-kept 0 (valueWord ws) (valueWord vs) same-nodes (λ x h. off x 2 h (omega arith))
+    values-off =
+        column-kept (encode never) (valueWords ws) (valueWords vs) same-nodes
+        (λ x h.
+        stored-alike ws vs (valueAt x) (valueAt x) (λ c l. off x (valueAt x + c) h (omega arith) (omega arith)))
 
-  pub records-off : p + n ≤ 8 + 3 * nodeCount ws → columns vs .records ≡ columns ws .records
+  pub records-off : p + n ≤ nodeAt (nodeCount ws) → columns vs .records ≡ columns ws .records
   records-off l = column-kept (wordsOf fresh) (recordWords ws) (recordWords vs) same-tasks same
     where
       same : (k : ℕ) → k < taskCount ws → recordWords vs k ≡ recordWords ws k
       same k h =
           let i = recordAt (nodeCount ws) k in
-          ap (λ n. tenFrom vs (recordAt n k)) same-nodes
-          ∙ ten-same ws vs i i (λ c q. W .other (i + c) (inr (omega arith)))
+          ap (λ n. recordFrom vs (recordAt n k)) same-nodes
+          ∙ record-same ws vs i (W .long) (λ c q. W .other (i + c) (inr (omega arith)))
 
   -- A write past the header changes links, values and records only.
   pub past-header :
-      8 ≤ p
-      → {links : Side → ℕ → ℕ} {values : ℕ → ℕ} {records : ℕ → List ℕ}
+      headerLength ≤ p
+      → {links : Side → ℕ → ℕ} {values : ℕ → _} {records : ℕ → List ℕ}
       → link vs ≡ links
       → columns vs .values ≡ values
       → columns vs .records ≡ records
-      → columns vs
-      ≡ record {
-        length = length ws;
-        nodeCount = nodeCount ws;
-        taskCount = taskCount ws;
-        growth = growth ws;
-        hats = hat ws;
-        tickCount = tickCount ws;
-        word6 = word6 ws;
-        word7 = word7 ws;
-        links = links;
-        values = values;
-        records = records;
-      }
-  past-header h =
-      columns-equal (W .long) same-nodes same-tasks (before 2 (omega arith))
-      (fun-ext (λ s. before (hatAt s) (omega (arith, side-small s))))
-      (before 5 (omega arith)) (before 6 (omega arith)) (before 7 (omega arith))
+      → columns vs ≡ putBody links values records (columns ws)
+  past-header h = columns-equal same-sizes (hats-before (omega arith)) (counts-off (inr h))

@@ -1,26 +1,27 @@
 -- What every column of the table is after each kind of write to the words.
-use mathlib.Core.Path.{_≡_, ap, _∙_, fun-ext}
+use mathlib.Core.Path.{_≡_, refl, ap, _∙_, fun-ext}
 use mathlib.Core.Logic.{_≢_, _⊎_, inl, inr}
 use mathlib.Core.List.{List}
-use Prim.Native.Nat.{ℕ, _+_, _≤_, _<_}
+use Prim.Native.Nat.{ℕ, _+_, _-_, _≤_, _<_}
 use lib.Seq.{getD-set-same, getD-set-other}
 use native.Mathlib.Omega.{arith}
-use Rattle.machine.specs.Choice.{_<?_}
+use Rattle.machine.specs.Choice.{_<?_, _≟_}
 use Rattle.machine.specs.Sides.{Side, left, right, opposite}
-use Rattle.machine.specs.Values.{Value, encode}
-use Rattle.machine.specs.Tasks.{Task, none, fresh, wordsOf}
+use Rattle.machine.specs.Values.{Value, never, encode, storedLength, storedWords}
+use Rattle.machine.specs.Tasks.{Task, none, fresh, recordLength, wordsOf}
 use Rattle.machine.specs.Table.{
   nodeCount,
   taskCount,
   hatAt,
   hat,
+  tickCountAt,
   linkAt,
   valueAt,
   linkWord,
-  valueWord,
+  valueWords,
   link,
   recordAt,
-  tenFrom,
+  recordFrom,
   recordWords,
   setHat,
   setTickCount,
@@ -29,7 +30,9 @@ use Rattle.machine.specs.Table.{
   setTask,
 }
 use Rattle.machine.proofs.Basics.Updates.{is-updateSide, update, updateSide}
+use Rattle.machine.proofs.Words.ValueLaws.{stored-alike, stored-written}
 use Rattle.machine.proofs.Words.Columns.{
+  sizesOf,
   columns,
   Sized,
   putHat,
@@ -37,6 +40,7 @@ use Rattle.machine.proofs.Words.Columns.{
   putLink,
   putValue,
   putRecord,
+  counts-equal,
   columns-equal,
   column-kept,
   column-written,
@@ -44,13 +48,15 @@ use Rattle.machine.proofs.Words.Columns.{
 use Rattle.machine.proofs.Words.Stretches.{
   Wrote,
   set-wrote,
-  sets-same,
   sets-wrote,
-  ten-same,
+  record-same,
+  record-written,
   side-small,
-  before,
   same-nodes,
   same-tasks,
+  same-sizes,
+  hats-before,
+  counts-off,
   links-off,
   values-off,
   records-off,
@@ -58,7 +64,7 @@ use Rattle.machine.proofs.Words.Stretches.{
 }
 
 -- ---- A hat.
-module _ (ws : List ℕ) (sized : Sized (columns ws)) (s : Side) (x : ℕ) where
+module _ (ws : List ℕ) (sized : Sized (sizesOf ws)) (s : Side) (x : ℕ) where
   hats-apart : (z : Side) → hatAt (opposite z) ≢ hatAt z
   hats-apart left e = absurd (omega arith)
   hats-apart right e = absurd (omega arith)
@@ -73,24 +79,23 @@ module _ (ws : List ℕ) (sized : Sized (columns ws)) (s : Side) (x : ℕ) where
   columns-setHat =
       let b = side-small s in
       let W = set-wrote ws (hatAt s) x in
-      let past : 3 ≤ hatAt s = omega arith in
-      columns-equal (W .long) (same-nodes W past) (same-tasks W past) (before W past 2 (omega arith)) hat-after
-      (W .other 5 (inr (omega arith))) (W .other 6 (inr (omega arith))) (W .other 7 (inr (omega arith)))
+      let past : hatAt left ≤ hatAt s = omega arith in
+      columns-equal (same-sizes W past) hat-after (counts-off W past (inl (omega arith)))
       (links-off W past (inl (omega arith))) (values-off W past (inl (omega arith))) (records-off W past (omega arith))
 
 -- ---- The tick count.
-module _ (ws : List ℕ) (sized : Sized (columns ws)) where
+module _ (ws : List ℕ) (sized : Sized (sizesOf ws)) where
   pub columns-setTickCount : (n : ℕ) → columns (setTickCount n ws) ≡ putTickCount n (columns ws)
   columns-setTickCount n =
-      let W = set-wrote ws 5 n in
-      let past : 3 ≤ 5 = omega arith in
-      columns-equal (W .long) (same-nodes W past) (same-tasks W past) (before W past 2 (omega arith))
-      (fun-ext (λ z. before W past (hatAt z) (omega (arith, side-small z))))
-      (getD-set-same ws 5 n 0 (omega arith)) (W .other 6 (inr (omega arith))) (W .other 7 (inr (omega arith)))
+      let W = set-wrote ws tickCountAt n in
+      let past : hatAt left ≤ tickCountAt = omega arith in
+      let own = getD-set-same ws tickCountAt n 0 (omega arith) in
+      columns-equal (same-sizes W past) (hats-before W past (omega arith))
+      (counts-equal own (W .other _ (inr (omega arith))) (W .other _ (inr (omega arith))))
       (links-off W past (inl (omega arith))) (values-off W past (inl (omega arith))) (records-off W past (omega arith))
 
 -- ---- A link.
-module _ (ws : List ℕ) (sized : Sized (columns ws)) (s : Side) (x y : ℕ) (is-node : x < nodeCount ws) where
+module _ (ws : List ℕ) (sized : Sized (sizesOf ws)) (s : Side) (x y : ℕ) (is-node : x < nodeCount ws) where
   links-apart : (z : Side) (u v : ℕ) → linkAt (opposite z) u ≢ linkAt z v
   links-apart left u v e = absurd (omega arith)
   links-apart right u v e = absurd (omega arith)
@@ -118,8 +123,10 @@ module _ (ws : List ℕ) (sized : Sized (columns ws)) (s : Side) (x y : ℕ) (is
   values-after-link : columns (setLink s x y ws) .values ≡ columns ws .values
   values-after-link =
       let b = side-small s in
-      column-kept 0 (valueWord ws) (valueWord (setLink s x y ws)) (same-nodes link-wrote (omega arith))
-      (λ z l. getD-set-other ws (linkAt s x) (valueAt z) y 0 (λ e. absurd (omega arith)))
+      column-kept (encode never) (valueWords ws) (valueWords (setLink s x y ws)) (same-nodes link-wrote (omega arith))
+      (λ z l.
+      stored-alike ws (setLink s x y ws) (valueAt z) (valueAt z) (λ c k.
+      getD-set-other ws (linkAt s x) (valueAt z + c) y 0 (λ e. absurd (omega arith))))
 
   pub columns-setLink : columns (setLink s x y ws) ≡ putLink s x y (columns ws)
   columns-setLink =
@@ -130,24 +137,37 @@ module _ (ws : List ℕ) (sized : Sized (columns ws)) (s : Side) (x y : ℕ) (is
       past-header link-wrote (omega arith) (omega arith) links values-after-link records
 
 -- ---- A value.
-module _ (ws : List ℕ) (sized : Sized (columns ws)) (x : ℕ) (v : Value) (is-node : x < nodeCount ws) where
-  value-wrote : Wrote ws (setValue x v ws) (valueAt x) 1
-  value-wrote = set-wrote ws (valueAt x) (encode v)
+module _ (ws : List ℕ) (sized : Sized (sizesOf ws)) (x : ℕ) (v : Value) (is-node : x < nodeCount ws) where
+  value-wrote : Wrote ws (setValue x v ws) (valueAt x) storedLength
+  value-wrote = sets-wrote ws (valueAt x) (storedWords (encode v))
 
   links-after-value : link (setValue x v ws) ≡ link ws
   unfolding link
   links-after-value =
       fun-ext (λ s.
       column-kept none (linkWord ws s) (linkWord (setValue x v ws) s) (same-nodes value-wrote (omega arith))
-      (λ z l. getD-set-other ws (valueAt x) (linkAt s z) (encode v) 0 (λ e. absurd (omega (arith, side-small s)))))
+      (λ z l. value-wrote .other (linkAt s z) (apart s z (z <? x))))
+    where
+      apart : (s : Side) (z : ℕ) → Dec (z < x) → (linkAt s z < valueAt x) ⊎ (valueAt x + storedLength ≤ linkAt s z)
+      apart s z (yes h) = let b = side-small s in inl (omega arith)
+      apart s z (no h) = let b = side-small s in elim (z ≟ x) [ yes e ↦ inl (omega arith) | no e ↦ inr (omega arith) ]
 
   values-after : columns (setValue x v ws) .values ≡ update (columns ws .values) x (encode v)
   values-after =
-      let p = valueAt x in
-      let w = encode v in
-      column-written 0 (valueWord ws) (valueWord (setValue x v ws)) (same-nodes value-wrote (omega arith)) x w is-node
-      (getD-set-same ws p w 0 (omega arith))
-      (λ z l n. getD-set-other ws p (valueAt z) w 0 (λ e. n (omega arith)))
+      column-written (encode never) (valueWords ws) (valueWords (setValue x v ws))
+      (same-nodes value-wrote (omega arith)) x (encode v) is-node
+      (stored-written ws (valueAt x) (encode v) (omega arith))
+      (λ z l n.
+      stored-alike ws (setValue x v ws) (valueAt z) (valueAt z) (λ c k.
+      value-wrote .other (valueAt z + c) (apart z n c k)))
+    where
+      apart :
+          (z : ℕ)
+          → z ≢ x
+          → (c : ℕ)
+          → c < storedLength
+          → (valueAt z + c < valueAt x) ⊎ (valueAt x + storedLength ≤ valueAt z + c)
+      apart z n c k = elim (z <? x) [ yes l ↦ inl (omega arith) | no l ↦ inr (omega arith) ]
 
   pub columns-setValue : columns (setValue x v ws) ≡ putValue x (encode v) (columns ws)
   columns-setValue =
@@ -155,32 +175,32 @@ module _ (ws : List ℕ) (sized : Sized (columns ws)) (x : ℕ) (v : Value) (is-
       past-header value-wrote (omega arith) (omega arith) links-after-value values-after records
 
 -- ---- A record.
-module _ (ws : List ℕ) (sized : Sized (columns ws)) (k : ℕ) (t : Task) (is-task : k < taskCount ws) where
+module _ (ws : List ℕ) (sized : Sized (sizesOf ws)) (k : ℕ) (t : Task) (is-task : k < taskCount ws) where
   at : ℕ → ℕ
   at j = recordAt (nodeCount ws) j
 
-  record-wrote : Wrote ws (setTask k t ws) (at k) 10
+  record-wrote : Wrote ws (setTask k t ws) (at k) recordLength
   unfolding at
   record-wrote = sets-wrote ws (at k) (wordsOf t)
 
   -- The words of a record after the write, where the nodes were counted before it.
-  words-at : (j : ℕ) → recordWords (setTask k t ws) j ≡ tenFrom (setTask k t ws) (at j)
+  words-at : (j : ℕ) → recordWords (setTask k t ws) j ≡ recordFrom (setTask k t ws) (at j)
   unfolding at
-  words-at j = ap (λ n. tenFrom (setTask k t ws) (recordAt n j)) (same-nodes record-wrote (omega arith))
+  words-at j = ap (λ n. recordFrom (setTask k t ws) (recordAt n j)) (same-nodes record-wrote (omega arith))
 
   own-record-after : recordWords (setTask k t ws) k ≡ wordsOf t
   unfolding at
   own-record-after =
-      words-at k
-      ∙ ten-same (wordsOf t) (setTask k t ws) (at k) 0 (λ c q.
-      let e : 0 + c ≡ c = omega arith in rw e (sets-same (wordsOf t) ws (at k) c q (omega arith)))
+      words-at k ∙ record-written ws (wordsOf t) (at k) refl (omega arith)
 
   far-record-after : (j : ℕ) → j ≢ k → recordWords (setTask k t ws) j ≡ recordWords ws j
   unfolding at
   far-record-after j n =
-      words-at j ∙ ten-same ws (setTask k t ws) (at j) (at j) (λ c q. record-wrote .other (at j + c) (apart c q))
+      words-at j
+      ∙ record-same ws (setTask k t ws) (at j) (record-wrote .long) (λ c q.
+      record-wrote .other (at j + c) (apart c q))
     where
-      apart : (c : ℕ) → c < 10 → (at j + c < at k) ⊎ (at k + 10 ≤ at j + c)
+      apart : (c : ℕ) → c < recordLength → (at j + c < at k) ⊎ (at k + recordLength ≤ at j + c)
       apart c q = elim (j <? k) [ yes l ↦ inl (omega arith) | no l ↦ inr (omega arith) ]
 
   records-after : columns (setTask k t ws) .records ≡ update (columns ws .records) k (wordsOf t)

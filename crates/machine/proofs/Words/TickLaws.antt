@@ -1,4 +1,4 @@
--- What a tick that is made does to the memory and to the tasks.
+-- What a tick that is made does to the view and to the tasks.
 use mathlib.Core.Path.{_≡_, refl, ap, _∙_}
 use mathlib.Core.List.{List}
 use mathlib.Core.Option.{Option, some, none as nothing}
@@ -7,15 +7,15 @@ use Rattle.machine.specs.declared.Answer.the-variants.{Refused}
 use Rattle.machine.specs.Sides.{Side, right}
 use Rattle.machine.specs.Tasks.{wordsOf}
 use Rattle.machine.specs.Table.{nodeCount, growth, tickCount, task}
-use Rattle.machine.specs.Lines.{seen, Effect}
+use Rattle.machine.specs.Lines.{Effect}
 use Rattle.machine.specs.Answers.{refusalOf}
 use Rattle.machine.specs.Calls.{tickRefusal, effectOf, Ticked, applied, tickOn}
 use Rattle.machine.proofs.Basics.Contradiction.{clash}
 use Rattle.machine.proofs.Basics.Updates.{update}
-use Rattle.machine.proofs.Words.Memories.{view, written}
+use Rattle.machine.proofs.Words.Memories.{viewed, viewAfter}
 use Rattle.machine.proofs.Words.ValueLaws.{HasWord, never-has-word}
-use Rattle.machine.proofs.Words.Columns.{columns, putTickCount, putRecord, putAll}
-use Rattle.machine.proofs.Words.EffectLaws.{AllInRange, effectWords, columns-effect, seen-effect, task-effect}
+use Rattle.machine.proofs.Words.Columns.{sizesOf, columns, putTickCount, putRecord, putAll}
+use Rattle.machine.proofs.Words.EffectLaws.{AllInRange, effectWords, columns-effect, viewed-effect, task-effect}
 use Rattle.machine.proofs.Shape.ShapeLaws.{WellSized, WellShaped}
 use Rattle.machine.proofs.Shape.Fits.{Fits, turns-back, goes-on, ends}
 use Rattle.machine.proofs.Shape.WritesKeep.{all-in-range}
@@ -69,7 +69,7 @@ module _ (ws : List ℕ) (k h : ℕ) (allowed : tickRefusal ws k h ≡ nothing) 
 
   -- It is made where its line does not refuse it.
   module _
-      (Z : WellSized (columns ws))
+      (Z : WellSized (sizesOf ws))
       (W : WellShaped (columns ws))
       (made : refusalOf (effectOf ws k h .answer) ≡ nothing) where
     tick-words :
@@ -96,14 +96,14 @@ module _ (ws : List ℕ) (k h : ℕ) (allowed : tickRefusal ws k h ≡ nothing) 
         ap columns tick-words
         ∙ columns-effect ws (Z .sized) (task ws k .side) (e .writes) (tick-in-range .0) k is-task (e .task)
 
-    pub tick-seen :
-        seen right (tickOn ws k h .words)
-        ≡ view (task ws k .side) (written (effectOf ws k h .writes) (view (task ws k .side) (seen right ws)))
-    tick-seen =
+    pub tick-viewed :
+        viewed right (tickOn ws k h .words)
+        ≡ viewAfter (task ws k .side) (effectOf ws k h .writes) (viewed right ws)
+    tick-viewed =
         let e = effectOf ws k h in
         let is-task = tick-allowed ws k h allowed .0 in
-        ap (seen right) tick-words
-        ∙ seen-effect ws (Z .sized) (task ws k .side) (e .writes) (tick-in-range .0) k is-task (e .task)
+        ap (viewed right) tick-words
+        ∙ viewed-effect ws (Z .sized) (task ws k .side) (e .writes) (tick-in-range .0) k is-task (e .task)
 
     pub tick-task : task (tickOn ws k h .words) ≡ update (task ws) k (effectOf ws k h .task)
     tick-task =

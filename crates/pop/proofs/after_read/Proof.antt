@@ -1,9 +1,8 @@
 -- `pop::after_read` meets its contract: the tests are the cases of `afterRead`.
 use mathlib.Core.Path.{sym, _∙_}
 use Rattle.machine.specs.Sides.{sideOf}
-use Rattle.machine.specs.Values.{X}
+use Rattle.machine.specs.Values.{X, decode}
 use Rattle.machine.specs.Steps.{line39, line48}
-use Rattle.layout.specs.Coded.{meaning}
 use Rattle.hattrick.proofs.Laws.Chosen.{chosenᵛ}
 use Rattle.hattrick.proofs.Laws.Choosing.{read-bag, read-N, read-other}
 use borrow.Author.Needs.{needs}
@@ -16,7 +15,7 @@ is-bag-requires c κs = search needs
 returns : tie.Need-returns
 returns c =
     let a = c .before .before .args in
-    rw (read-bag (sideOf (a .o)) (meaning (a .v)) (sym (c .before .is-bag .ensures) ∙ c .if1 .taken))
+    rw (read-bag (sideOf (a .o)) (decode (a .v)) (sym (c .before .is-bag .ensures) ∙ c .if1 .taken))
 
 is-n-requires : tie.Need-is-n-requires
 is-n-requires c κs = search needs
@@ -24,7 +23,7 @@ is-n-requires c κs = search needs
 returns-2 : tie.Need-returns-2
 returns-2 c =
     let a = c .before .before .before .before .args in
-    rw (read-N (sideOf (a .o)) (meaning (a .v)) (sym (c .before .is-n .ensures) ∙ c .if2 .taken))
+    rw (read-N (sideOf (a .o)) (decode (a .v)) (sym (c .before .is-n .ensures) ∙ c .if2 .taken))
 
 is-x-requires : tie.Need-is-x-requires
 is-x-requires c κs = search needs
@@ -37,7 +36,7 @@ returns-3 c =
     let asked = c .before .before .before in
     let a = asked .before .before .before .args in
     let o = sideOf (a .o) in
-    let v = meaning (a .v) in
+    let v = decode (a .v) in
     let no-bag = sym (asked .before .before .is-bag .ensures) ∙ asked .before .if1 .left in
     let no-N = sym (asked .is-n .ensures) ∙ c .before .before .if2 .left in
     rw (c .either .ensures, c .before .is-x .ensures, read-other o v no-bag no-N) (chosenᵛ v (X o) line48 line39)

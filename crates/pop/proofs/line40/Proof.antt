@@ -1,79 +1,36 @@
--- `pop::line40` meets its contract: the tests decide the line's choices.
+-- `pop::line40` meets its contract: it follows A's inward link into B.
 use native.Mathlib.Omega.{arith}
-use lib.ListN.{getD}
-use Rattle.machine.specs.Choice.{_≟_, if_then_else_}
 use Rattle.machine.specs.Sides.{opposite, sideOf}
-use Rattle.machine.specs.Steps.{stepNumber, line39, line42}
-use Rattle.machine.specs.Tasks.{none}
+use Rattle.machine.specs.Steps.{line39, line42}
+use Rattle.machine.specs.Tasks.{inB}
 use Rattle.machine.specs.Lines.{act}
-use Rattle.machine.proofs.Basics.Choices.{equal, unequal}
-use Rattle.layout.specs.Coded.{linkIn, withRegister}
-use Rattle.hattrick.specs.Lent.{lineOf, nextDone, refusedDone}
-use Rattle.hattrick.proofs.Laws.Ready.{side-meant, number-of-a-side, by-code, side-below-two}
-use Rattle.hattrick.proofs.Laws.Chosen.{chosen}
-use borrow.Author.Needs.{needs}
+use Rattle.hattrick.specs.Lent.{lineOf}
+use Rattle.hattrick.proofs.Laws.Ready.{number-of-a-side, side-below-two, side-meant}
+use Rattle.hattrick.proofs.Laws.Shapes.{followed}
 use Rattle.pop.proofs.line40.Statement.{statement}
 use Rattle.pop.proofs.line40.Tie as tie
 
-element-copy-out-a : tie.Need-element-copy-out-a
-element-copy-out-a c = search needs
+opposite-requires : tie.Need-opposite-requires
+opposite-requires c κs = side-below-two (c .before .pre)
 
-refused-requires : tie.Need-refused-requires
-refused-requires c κs = search needs
+follow-requires : tie.Need-follow-requires
+follow-requires c κs =
+    let p = c .before .before in
+    let inward = opposite (sideOf (p .args .t .side)) in
+    record {
+      ready = p .pre;
+      of-a-side = number-of-a-side inward (c .opposite .ensures);
+      reads-register = omega arith;
+      sets-register = omega arith;
+    }
 
 returns : tie.Need-returns
 unfolding lineOf act
 returns c g f =
-    let p = c .before .before .before .before in
-    rw (c .refused .ensures, equal (c .before .if1 .taken)) (by-code (p .pre) (refusedDone (p .args .hat)))
-
-opposite-requires : tie.Need-opposite-requires
-opposite-requires c κs = side-below-two (c .before .before .before .pre)
-
-link-requires : tie.Need-link-requires
-link-requires c κs =
-    let p = c .before .before .before .before in
-    let o = opposite (sideOf (p .args .t3 .side)) in
-    (p .pre .held 0 (omega arith) (c .before .if1 .left), number-of-a-side o (c .opposite .ensures))
-
-with-requires : tie.Need-with-requires
-with-requires c κs = search needs
-
-either-requires : tie.Need-either-requires
-either-requires c κs = search needs
-
-next-requires : tie.Need-next-requires
-next-requires c κs = search needs
-
-returns-2 : tie.Need-returns-2
-unfolding lineOf act
-returns-2 c g f =
-    let p = c .before .before .before .before .before .before .before .before in
-    let t = p .args .t3 in
-    let o = opposite (sideOf (t .side)) in
-    let b = linkIn (p .args .ns .now) o (getD (t .registers) 0 0) in
-    rw (
-      c .next .ensures,
-      c .before .either .ensures,
-      c .before .before .with .ensures,
-      c .before .before .before .link .ensures,
-      side-meant o (c .before .before .before .before .opposite .ensures),
-      unequal (c .before .before .before .before .before .if1 .left),
-      chosen b none line39 line42,
-    )
-    (by-code (p .pre) (λ u.
-    nextDone (p .args .hat) (withRegister u 1 b) (stepNumber (if b ≟ none then line39 else line42))))
+    let p = c .before .before .before in
+    let inward = opposite (sideOf (p .args .t .side)) in
+    rw (c .follow .ensures, side-meant inward (c .before .opposite .ensures))
+    (followed (p .pre) (p .args .hat) inward 0 inB line39 line42)
 
 pub line40-spec : {M : Type 1} → statement M
-line40-spec =
-    tie.close
-    (tie.spec
-    element-copy-out-a
-    refused-requires
-    returns
-    opposite-requires
-    link-requires
-    with-requires
-    either-requires
-    next-requires
-    returns-2)
+line40-spec = tie.close (tie.spec opposite-requires follow-requires returns)

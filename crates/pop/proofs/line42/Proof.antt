@@ -7,7 +7,7 @@ use Rattle.machine.specs.Steps.{stepNumber}
 use Rattle.machine.specs.Lines.{act, afterRead}
 use Rattle.machine.proofs.Basics.Choices.{equal, unequal}
 use Rattle.machine.proofs.Words.ValueLaws.{encode-decode}
-use Rattle.layout.specs.Coded.{codedWord, wordIn, withValueRead}
+use Rattle.layout.specs.Coded.{storedIn, withValueRead}
 use Rattle.hattrick.specs.Lent.{lineOf, nextDone, refusedDone}
 use Rattle.hattrick.proofs.Laws.Ready.{side-meant, by-code, side-below-two, node-value-ok}
 use borrow.Author.Needs.{needs}
@@ -52,7 +52,7 @@ returns-2 c g f =
     let o = opposite (sideOf (t .side)) in
     let b = getD (t .registers) 1 0 in
     let b-some = c .before .before .before .before .before .if1 .left in
-    let w = wordIn (p .args .ns .now) b in
+    let w = storedIn (p .args .ns .now) b in
     rw (
       c .next .ensures,
       c .before .after-read .ensures,
@@ -63,7 +63,7 @@ returns-2 c g f =
       encode-decode w (p .pre .values b (p .pre .held 1 (omega arith) b-some)),
     )
     (by-code (p .pre) (λ u.
-    nextDone (p .args .hat) (withValueRead u (codedWord w)) (stepNumber (afterRead o (decode w)))))
+    nextDone (p .args .hat) (withValueRead u w) (stepNumber (afterRead o (decode w)))))
 
 pub line42-spec : {M : Type 1} → statement M
 line42-spec =

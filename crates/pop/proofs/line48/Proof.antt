@@ -1,16 +1,31 @@
 -- `pop::line48` meets its contract: both compares decide whether the lane is empty.
-use mathlib.Core.Path.{sym, _∙_}
+use mathlib.Core.Path.{_≡_, sym, _∙_}
 use native.Mathlib.Omega.{arith}
+use Rattle.machine.specs.Values.{decode}
 use Rattle.machine.specs.Lines.{act}
 use Rattle.machine.proofs.Basics.Choices.{equal}
-use Rattle.layout.specs.Coded.{meaning}
 use Rattle.hattrick.specs.Lent.{lineOf, refusedDone}
 use Rattle.hattrick.proofs.Laws.Ready.{by-code, value-read-ok, node-value-ok}
 use Rattle.hattrick.proofs.Laws.Compared.{told}
-use Rattle.hattrick.proofs.Laws.Swaps.{empty, not-empty}
+use Rattle.hattrick.proofs.Laws.Swaps.{unchanged, empty, not-empty}
 use borrow.Author.Needs.{needs}
 use Rattle.pop.proofs.line48.Statement.{statement}
 use Rattle.pop.proofs.line48.Tie as tie
+
+-- What the line was given, and where B is seen to be a node.
+abbrev given : tie.Else1 → tie.Start
+given c = c .before .before .before .before .before
+
+abbrev through-b : tie.After-both → tie.Else1
+through-b c = c .before .before .before
+
+-- What both compares say.
+compared :
+    (c : tie.After-both)
+    → let x = given (through-b c) .args in c .both .result ≡ unchanged (x .ns .now) (x .hat) (x .t3)
+compared c =
+    let v = decode (given (through-b c) .args .t3 .value) in
+    rw (told v (c .before .same .ensures) (c .before .before .value .ensures)) at (c .both .ensures)
 
 element-copy-out-a : tie.Need-element-copy-out-a
 element-copy-out-a c = search needs
@@ -28,14 +43,12 @@ returns c g f =
     rw (c .refused .ensures, equal (c .before .if1 .taken)) (by-code (p .pre) (refusedDone (p .args .hat)))
 
 value-requires : tie.Need-value-requires
-value-requires c κs = c .before .before .before .before .before .pre .held 1 (omega arith) (c .if1 .left)
+value-requires c κs = given c .pre .held 1 (omega arith) (c .if1 .left)
 
 same-requires : tie.Need-same-requires
 same-requires c κs =
-    let p = c .before .before .before .before .before .before in
-    let node = node-value-ok (p .pre) 1 (omega arith) (c .before .if1 .left) (c .value .ensures) in
-    let read = value-read-ok (p .pre) in
-    search (node, read)
+    let R = given (c .before) .pre in
+    (node-value-ok R 1 (omega arith) (c .before .if1 .left) (c .value .ensures), value-read-ok R)
 
 both-requires : tie.Need-both-requires
 both-requires c κs = search needs
@@ -45,26 +58,21 @@ answers-requires c κs = search needs
 
 returns-2 : tie.Need-returns-2
 returns-2 c g f =
-    let both = c .before .before in
-    let some = both .before .before .before in
-    let p = some .before .before .before .before .before in
-    let v = meaning (p .args .t3 .value) in
-    let same = told v (both .before .same .ensures) (both .before .before .value .ensures) in
-    let tested = rw same at (sym (both .both .ensures) ∙ c .before .if2 .taken) in
-    rw (c .answers .ensures) (empty (p .pre) (p .args .hat) g f (some .if1 .left) tested)
+    let some = through-b (c .before .before) in
+    let p = given some in
+    rw (c .answers .ensures)
+    (empty (p .pre) (p .args .hat) g f (some .if1 .left) (sym (compared (c .before .before)) ∙ c .before .if2 .taken))
 
 next-requires : tie.Need-next-requires
 next-requires c κs = search needs
 
 returns-3 : tie.Need-returns-3
 returns-3 c g f =
-    let both = c .before .before in
-    let some = both .before .before .before in
-    let p = some .before .before .before .before .before in
-    let v = meaning (p .args .t3 .value) in
-    let same = told v (both .before .same .ensures) (both .before .before .value .ensures) in
-    let tested = rw same at (sym (both .both .ensures) ∙ c .before .if2 .left) in
-    rw (c .next .ensures) (not-empty (p .pre) (p .args .hat) g f (some .if1 .left) tested)
+    let some = through-b (c .before .before) in
+    let p = given some in
+    rw (c .next .ensures)
+    (not-empty (p .pre) (p .args .hat) g f (some .if1 .left)
+    (sym (compared (c .before .before)) ∙ c .before .if2 .left))
 
 pub line48-spec : {M : Type 1} → statement M
 line48-spec =

@@ -5,9 +5,7 @@ use Prim.Native.Nat.{ℕ, suc, _+_, _≤_, _<_}
 use native.Mathlib.Omega.{arith}
 use lib.ListN.{length, length-append, set, getD, drop, drop-of-length-le}
 use lib.Seq.{sets, drop-cons}
-use Rattle.printer.specs.declared.Outcome.{Outcome}
-use Rattle.printer.specs.Lines.{textOf}
-use Rattle.printer.specs.Writing.{Written, roomFor}
+use Rattle.printer.specs.Writing.{Written}
 
 -- Two runs of stores, one after the other.
 sets-append : (xs ys l : List ℕ) (i : ℕ) → sets (sets l i xs) (i + length xs) ys ≡ sets l i (xs ++ ys)
@@ -44,8 +42,7 @@ sets-next l xs at i h =
 pub sets-none : (l xs : List ℕ) (at i : ℕ) → length xs ≤ i → sets l (at + i) (drop i xs) ≡ l
 sets-none l xs at i h = rw (drop-of-length-le xs {i = i} h)
 
--- The line of an outcome, of which it is known which it is.
-pub line-written : (bags : List ℕ) {o p : Outcome} {a b : List ℕ} {at n : ℕ} → o ≡ p
-    → Written a at (textOf p bags) b n → length (textOf p bags) ≤ roomFor (length bags)
-    → Written a at (textOf o bags) b n × (n ≤ at + roomFor (length bags))
-line-written bags e w room = (rw e w, omega (arith, w .end))
+-- A line that is known to be this one, and has room.
+pub line-written : {line known a b : List ℕ} {at n room : ℕ} → line ≡ known → Written a at known b n
+    → length known ≤ room → Written a at line b n × (n ≤ at + room)
+line-written e w short = (rw e w, omega (arith, w .end))

@@ -1,17 +1,37 @@
 -- `push::line5` meets its contract: the two comparisons decide the swap (Laws/Cases).
-use mathlib.Core.Path.{sym, _∙_}
+use mathlib.Core.Path.{_≡_, sym, _∙_}
 use native.Mathlib.Omega.{arith}
+use lib.ListN.{getD}
 use Rattle.machine.specs.Sides.{sideOf}
 use Rattle.machine.specs.Values.{N}
 use Rattle.machine.specs.Lines.{act}
 use Rattle.machine.proofs.Basics.Choices.{equal, unequal}
+use Rattle.layout.specs.Coded.{HoldsNode}
 use Rattle.hattrick.specs.Lent.{lineOf, refusedDone}
 use Rattle.hattrick.proofs.Laws.Ready.{by-code, node-value-ok}
 use Rattle.hattrick.proofs.Laws.Compared.{told}
-use Rattle.hattrick.proofs.Laws.Cases.{pushed, not-pushed}
+use Rattle.hattrick.proofs.Laws.Cases.{pushable, pushed, not-pushed}
 use borrow.Author.Needs.{needs}
 use Rattle.push.proofs.line5.Statement.{statement}
 use Rattle.push.proofs.line5.Tie as tie
+
+-- What the line was given, and where A and B are seen to be nodes.
+abbrev given : tie.Else1 → tie.Start
+given c = c .before .before .before .before .before
+
+abbrev through : tie.After-both → tie.Else2
+through c = c .before .before .before .before
+
+a-held : (c : tie.Else1) → HoldsNode (given c .args .ns .now) (getD (given c .args .t3 .registers) 0 0)
+a-held c = given c .pre .held 0 (omega arith) (c .if1 .left)
+
+-- What the two comparisons say.
+compared :
+    (c : tie.After-both)
+    → let x = given (through c .before) .args in c .both .result ≡ pushable (x .ns .now) (x .hat) (x .t3)
+compared c =
+    let mark = N (sideOf (given (through c .before) .args .t3 .side)) in
+    rw (told mark (c .before .is-n .ensures) (c .before .before .value .ensures)) at (c .both .ensures)
 
 element-copy-out-a : tie.Need-element-copy-out-a
 element-copy-out-a c = search needs
@@ -25,7 +45,7 @@ refused-requires c κs = search needs
 returns : tie.Need-returns
 unfolding lineOf act
 returns c g f =
-    let p = c .before .before .before .before .before in
+    let p = c .before .before .before .before .before .before in
     rw (c .refused .ensures, equal (c .before .if1 .taken)) (by-code (p .pre) (refusedDone (p .args .hat)))
 
 refused-requires-2 : tie.Need-refused-requires-2
@@ -34,27 +54,24 @@ refused-requires-2 c κs = search needs
 returns-2 : tie.Need-returns-2
 unfolding lineOf act
 returns-2 c g f =
-    let p = c .before .before .before .before .before .before in
-    rw (c .refused2 .ensures, unequal (c .before .before .if1 .left), equal (c .before .if2 .taken))
+    let else1 = c .before .before in
+    let p = given else1 in
+    rw (c .refused2 .ensures, unequal (else1 .if1 .left), equal (c .before .if2 .taken))
     (by-code (p .pre) (refusedDone (p .args .hat)))
 
 value-requires : tie.Need-value-requires
-value-requires c κs =
-    let else1 = c .before .before in
-    else1 .before .before .before .before .pre .held 0 (omega arith) (else1 .if1 .left)
+value-requires c κs = a-held (c .before .before)
 
 is-n-requires : tie.Need-is-n-requires
 is-n-requires c κs =
     let else1 = c .before .before .before in
-    node-value-ok (else1 .before .before .before .before .pre) 0 (omega arith) (else1 .if1 .left) (c .value .ensures)
+    node-value-ok (given else1 .pre) 0 (omega arith) (else1 .if1 .left) (c .value .ensures)
 
 both-requires : tie.Need-both-requires
 both-requires c κs = search needs
 
 set-value-requires : tie.Need-set-value-requires
-set-value-requires c κs =
-    let else1 = c .before .before .before .before .before .before .before in
-    else1 .before .before .before .before .pre .held 0 (omega arith) (else1 .if1 .left)
+set-value-requires c κs = a-held (through (c .before .before) .before)
 
 answers-requires : tie.Need-answers-requires
 answers-requires c κs = search needs
@@ -65,15 +82,11 @@ same-length c = search needs
 returns-3 : tie.Need-returns-3
 returns-3 c g f =
     let then3 = c .before .before .before .before .before in
-    let else2 = then3 .before .before .before .before .before in
-    let else1 = else2 .before in
-    let p = else1 .before .before .before .before in
-    let mark = N (sideOf (p .args .t3 .side)) in
-    let both = then3 .before in
-    let is-n = told mark (both .before .is-n .ensures) (both .before .before .value .ensures) in
-    let tested = rw (is-n) at (sym (both .both .ensures) ∙ then3 .if3 .taken) in
+    let else2 = through (then3 .before) in
+    let p = given (else2 .before) in
     rw (c .answers .ensures, c .before .before .before .set-value .ensures)
-    (pushed (p .pre) (p .args .hat) g f (else1 .if1 .left) (else2 .if2 .left) tested)
+    (pushed (p .pre) (p .args .hat) g f (else2 .before .if1 .left) (else2 .if2 .left)
+    (sym (compared (then3 .before)) ∙ then3 .if3 .taken))
 
 next-requires : tie.Need-next-requires
 next-requires c κs = search needs
@@ -83,16 +96,11 @@ same-length-2 c = search needs
 
 returns-4 : tie.Need-returns-4
 returns-4 c g f =
-    let else3 = c .before in
-    let else2 = else3 .before .before .before .before .before in
-    let else1 = else2 .before in
-    let p = else1 .before .before .before .before in
-    let mark = N (sideOf (p .args .t3 .side)) in
-    let both = else3 .before in
-    let is-n = told mark (both .before .is-n .ensures) (both .before .before .value .ensures) in
-    let tested = rw (is-n) at (sym (both .both .ensures) ∙ else3 .if3 .left) in
+    let else2 = through (c .before .before) in
+    let p = given (else2 .before) in
     rw (c .next .ensures)
-    (not-pushed (p .pre) (p .args .hat) g f (else1 .if1 .left) (else2 .if2 .left) tested)
+    (not-pushed (p .pre) (p .args .hat) g f (else2 .before .if1 .left) (else2 .if2 .left)
+    (sym (compared (c .before .before)) ∙ c .before .if3 .left))
 
 pub line5-spec : {M : Type 1} → statement M
 line5-spec =

@@ -5,7 +5,7 @@ use Prim.Native.Nat.{ℕ, _<_}
 use lib.Dec.{T, ltb, lit<}
 use lib.ListN.{length, getD, take}
 use Rattle.reader.specs.Text.{bytes, same}
-use Rattle.reader.specs.Lines.{beginText, beginOr, beginOf, formOf}
+use Rattle.reader.specs.Commands.{beginText, beginOr, beginOf, formOf}
 use Rattle.reader.specs.Kept.{textPlaces}
 use Rattle.reader.proofs.Laws.SameTexts.{same-take}
 

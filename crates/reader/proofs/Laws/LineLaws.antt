@@ -8,7 +8,7 @@ use borrow.Author.Tests.{eq-eqb, ne-eqb}
 use lib.ListN.{length, getD, drop, drop-of-length-le}
 use lib.Seq.{drop-cons}
 use Rattle.reader.specs.Scanned.{Scanned, scanBytes, firstLine, lineFeed}
-use Rattle.reader.specs.Kept.{Kept, Represents, Scans, ScansLine}
+use Rattle.reader.specs.Kept.{ScanKept, Represents, Scans, ScansLine}
 use Rattle.reader.specs.declared.scanning.Scan.{Scan}
 
 -- ---- Where the line ends.
@@ -30,14 +30,14 @@ module _ (chunk : List ℕ) (i : ℕ) where
 pub record Scanning (chunk : List ℕ) (from : ℕ) (text₀ numbers₀ : List ℕ) (s₀ : Scan) (text numbers : List ℕ)
     (s : Scan) (i : ℕ) : Type 0 where
   pub within : i ≤ length chunk
-  pub kept : Kept text numbers s
+  pub kept : ScanKept text numbers s
   pub ends : i + length (firstLine (drop i chunk)) ≡ from + length (firstLine (drop from chunk))
   pub scans : (σ : Scanned) → Represents text₀ numbers₀ s₀ σ
       → (τ : Scanned) × Represents text numbers s τ
       × (scanBytes τ (firstLine (drop i chunk)) ≡ scanBytes σ (firstLine (drop from chunk)))
 
 pub scanning-starts : (chunk : List ℕ) (from : ℕ) {text numbers : List ℕ} {s : Scan} → from ≤ length chunk
-    → Kept text numbers s → Scanning chunk from text numbers s text numbers s from
+    → ScanKept text numbers s → Scanning chunk from text numbers s text numbers s from
 scanning-starts chunk from h k = record { within = h; kept = k; ends = refl; scans = λ σ r. (σ, r, refl) }
 
 module _ {chunk text₀ numbers₀ text numbers : List ℕ} {from i : ℕ} {s₀ s : Scan}

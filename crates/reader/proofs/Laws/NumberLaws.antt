@@ -10,7 +10,7 @@ use borrow.Author.Tests.{le-leb, leb-true}
 use lib.Dec.{leb}
 use lib.ListN.{length, getD, set, length-append, length-set, List·getD-append, List·getD-eq-default}
 use lib.Seq.{getD-set-same, getD-set-other, getD-append-seam}
-use Rattle.reader.specs.Lines.{largestNumber, allFit}
+use Rattle.reader.specs.Commands.{largestNumber, allFit}
 
 and-swap : (a b c : Bool) → (a && (b && c)) ≡ (b && (a && c))
 and-swap true true c = refl
@@ -39,10 +39,10 @@ allFit-set (n ∷ ns) (suc i) v h g =
 
 -- ---- An array of four holds the first three numbers of a list, and at the last place used the last number.
 -- The count of places used is the length of the list, up to 4.
-module _ (held ns : List ℕ) (count : ℕ) (long : length held ≡ 4) (counted : count ≡ min 4 (length ns)) where
+module _ (held ns : List ℕ) (count : ℕ) (long : length held ≡ 4) (number-count : count ≡ min 4 (length ns)) where
   module _ (d : ℕ) where
-    pub more-counted : min 4 (count + 1) ≡ min 4 (length (ns ++ (d ∷ [])))
-    more-counted = simp length-append (omega arith)
+    pub more-number-count : min 4 (count + 1) ≡ min 4 (length (ns ++ (d ∷ [])))
+    more-number-count = simp length-append (omega arith)
 
     pub more-first : ((k : ℕ) → k < 3 → getD held k 0 ≡ getD ns k 0)
         → (k : ℕ) → k < 3 → getD (set held (min 4 (count + 1) - 1) d) k 0 ≡ getD (ns ++ (d ∷ [])) k 0

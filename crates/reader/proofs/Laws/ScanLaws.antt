@@ -17,14 +17,14 @@ use Rattle.reader.specs.Scanned.{
   isDigit,
   scanByte,
 }
-use Rattle.reader.specs.Lines.{largestNumber, allFit}
+use Rattle.reader.specs.Commands.{largestNumber, allFit}
 use Rattle.reader.specs.Kept.{textPlaces, numberPlaces, Counts, Represents}
 use Rattle.reader.specs.declared.scanning.Scan.{Scan}
 use Rattle.reader.proofs.Laws.SameTexts.{and-false}
 use Rattle.reader.proofs.Laws.NumberLaws.{
   allFit-more,
   allFit-set,
-  more-counted,
+  more-number-count,
   more-first,
   more-last,
   other-first,
@@ -45,7 +45,7 @@ pub start-represents : (text : List ℕ) → Represents text (0 ∷ 0 ∷ 0 ∷ 
 start-represents text =
     record {
       text-kept = refl;
-      counted = refl;
+      number-count = refl;
       in-number = refl;
       fitting = refl;
       first = λ e. zeros;
@@ -80,7 +80,7 @@ module _ {text numbers : List ℕ} {s : Scan} {σ : Scanned} (R : Represents tex
   append-represents text′ n b e =
       record {
         text-kept = e;
-        counted = R .counted;
+        number-count = R .number-count;
         in-number = refl;
         fitting = R .fitting;
         first = R .first;
@@ -98,11 +98,11 @@ module _ {text numbers : List ℕ} {s : Scan} {σ : Scanned} (R : Represents tex
   open-represents text′ n d h e =
       record {
         text-kept = e;
-        counted = more-counted numbers (σ .numbers) (s .count) long (R .counted) d;
+        number-count = more-number-count numbers (σ .numbers) (s .count) long (R .number-count) d;
         in-number = refl;
         fitting = R .fitting ∙ sym (allFit-more (σ .numbers) d (omega arith));
-        first = λ f. more-first numbers (σ .numbers) (s .count) long (R .counted) d (R .first f);
-        last = λ f g. more-last numbers (σ .numbers) (s .count) long (R .counted) d;
+        first = λ f. more-first numbers (σ .numbers) (s .count) long (R .number-count) d (R .first f);
+        last = λ f g. more-last numbers (σ .numbers) (s .count) long (R .number-count) d;
       }
 
   -- a further digit
@@ -120,7 +120,7 @@ module _ {text numbers : List ℕ} {s : Scan} {σ : Scanned} (R : Represents tex
 
     fit-after : allFit (set (σ .numbers) (length (σ .numbers) - 1) meant) ≡ (leb meant largestNumber && s .fits)
     fit-after =
-        let h = R .counted in
+        let h = R .number-count in
         rw (R .fitting) (allFit-set (σ .numbers) (length (σ .numbers) - 1) meant (omega arith) (omega arith))
 
     pub extend-represents : next ≤ largestNumber → s .in_number ≡ true
@@ -128,12 +128,14 @@ module _ {text numbers : List ℕ} {s : Scan} {σ : Scanned} (R : Represents tex
     extend-represents h e =
         record {
           text-kept = R .text-kept;
-          counted = R .counted ∙ sym (simp length-set);
+          number-count = R .number-count ∙ sym (simp length-set);
           in-number = e;
           fitting = go (s .fits) refl ∙ sym fit-after;
           first = λ f.
-              rw (next-meant f) (other-first numbers (σ .numbers) (s .count) long (R .counted) meant some (R .first f));
-          last = λ f g. rw (next-meant f) (other-last numbers (σ .numbers) (s .count) long (R .counted) meant some);
+              rw (next-meant f)
+              (other-first numbers (σ .numbers) (s .count) long (R .number-count) meant some (R .first f));
+          last = λ f g.
+              rw (next-meant f) (other-last numbers (σ .numbers) (s .count) long (R .number-count) meant some);
         }
       where
         go : (b : Bool) → s .fits ≡ b → b ≡ (leb meant largestNumber && b)
@@ -146,7 +148,7 @@ module _ {text numbers : List ℕ} {s : Scan} {σ : Scanned} (R : Represents tex
     outgrow-represents h =
         record {
           text-kept = R .text-kept;
-          counted = R .counted ∙ sym (simp length-set);
+          number-count = R .number-count ∙ sym (simp length-set);
           in-number = refl;
           fitting = go (s .fits) refl ∙ sym fit-after;
           first = λ f. false-not-true f;

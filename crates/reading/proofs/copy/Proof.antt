@@ -9,6 +9,7 @@ use Rattle.layout.specs.Coded.{HoldsNode}
 use Rattle.reading.specs.declared.Walk.the-variants.{Bags}
 use Rattle.reading.specs.Lane.{laneIn, walkOf, laid, NodeOrNone}
 use Rattle.reading.proofs.WalkLaws.{written, write-ends, node-ahead, fewer-ahead, write-at-bag}
+use borrow.Author.Needs.{needs}
 use Rattle.reading.proofs.copy.Statement.{statement}
 use Rattle.reading.proofs.copy.Tie as tie
 
@@ -45,6 +46,9 @@ loop-holds c =
 value-requires : tie.Need-value-requires Inv-loop μ-loop
 value-requires c κs = at-node c
 
+number-requires : tie.Need-number-requires Inv-loop μ-loop
+number-requires c κs = search needs
+
 cast-out : tie.Need-cast-out Inv-loop μ-loop
 cast-out c = omega arith
 
@@ -52,10 +56,10 @@ mul-out : tie.Need-mul-out Inv-loop μ-loop
 mul-out c = omega arith
 
 slice-write-out : tie.Need-slice-write-out Inv-loop μ-loop
-slice-write-out c = in-out (c .before)
+slice-write-out c = in-out (c .before .before)
 
 link-requires : tie.Need-link-requires Inv-loop μ-loop
-link-requires c κs = (at-node (c .before), omega arith)
+link-requires c κs = (at-node (c .before .before), omega arith)
 
 add-i : tie.Need-add-i Inv-loop μ-loop
 add-i c = omega arith
@@ -66,7 +70,7 @@ loop-less c = omega arith
 loop-again : tie.Need-loop-again Inv-loop μ-loop
 unfolding ℕ-discrete
 loop-again c =
-    let turn = c .before .before in
+    let turn = c .before .before .before in
     let l = turn .before .loop in
     let start = turn .before .before .before .before in
     let a = start .args in (
@@ -74,7 +78,7 @@ loop-again c =
       rw (c .link .ensures) (start .pre .0 .0 .links (l .x) (at-node turn)),
       length-set (l .out) (l .i) _ ∙ l .inv .2,
       rw (c .link .ensures) (fewer-ahead (a .ns .now) (a .slots) (l .i) (l .x) (a .n) (omega arith) (l .inv .3)),
-      rw (c .link .ensures, c .before .value .ensures)
+      rw (c .link .ensures, c .before .number .ensures, c .before .before .value .ensures)
           (write-at-bag (a .ns .now) (a .slots) (l .i) (l .x) (a .n) (omega arith) (l .inv .3) (l .out) (in-out turn)
           ∙ l .inv .4),
     )
@@ -97,6 +101,7 @@ copy-spec =
     μ-loop
     loop-holds
     value-requires
+    number-requires
     cast-out
     mul-out
     slice-write-out

@@ -1,14 +1,15 @@
--- `reading::count` meets its contract: the bags counted and those of the walk ahead are those of the whole walk.
+-- `reading::count` meets its contract: the bags tallied and those of the walk ahead are those of the whole walk.
 use mathlib.Core.Path.{_≡_, sym, _∙_}
 use mathlib.Core.Bool.{Bool}
-use Prim.Native.Nat.{ℕ, _-_, _≤_}
+use Prim.Native.Nat.{_-_, _≤_}
 use native.Mathlib.Omega.{arith}
 use native.Mathlib.Decide.{ℕ-discrete}
 use borrow.Author.Tests.{not-true, not-false}
+use Rattle.machine.specs.declared.Stored.{Stored}
 use Rattle.machine.specs.Values.{decode}
-use Rattle.layout.specs.Coded.{isBag, wordIn}
+use Rattle.layout.specs.Coded.{isBag, storedIn}
 use Rattle.reading.specs.Lane.{laneIn, walkOf, NodeOrNone}
-use Rattle.reading.proofs.WalkLaws.{bag-told, counted, count-begins, count-ends}
+use Rattle.reading.proofs.WalkLaws.{bag-told, tallied, count-begins, count-ends}
 use Rattle.reading.proofs.WalkLaws.{count-at-none, count-at-no-bag, count-at-bag}
 use Rattle.reading.proofs.count.Statement.{statement}
 use Rattle.reading.proofs.count.Tie as tie
@@ -17,16 +18,16 @@ abbrev Inv-loop : tie.InvT-loop
 Inv-loop ns slots from x₀ n₀ x n =
     (n ≤ slots)
     × NodeOrNone ns x
-    × (counted n (laneIn ns (slots - n) x) ≡ walkOf (laneIn ns slots from))
+    × (tallied n (laneIn ns (slots - n) x) ≡ walkOf (laneIn ns slots from))
 
 abbrev μ-loop : tie.MeasureT-loop
 μ-loop ns slots from x₀ n₀ x n = slots - n
 
--- The word of the node at which the walk is; its test tells whether it is a bag's.
-abbrev word : tie.After-is-bag Inv-loop μ-loop → ℕ
-word c = let turn = c .before .before .before .before in wordIn (turn .before .before .args .ns .now) (turn .loop .x)
+-- The words of the value of the node at which the walk is; their test tells whether they are a bag's.
+abbrev stored-there : tie.After-is-bag Inv-loop μ-loop → Stored
+stored-there c = let turn = c .before .before .before .before in storedIn (turn .before .before .args .ns .now) (turn .loop .x)
 
-told : (c : tie.After-is-bag Inv-loop μ-loop) {b : Bool} → c .is-bag .result ≡ b → isBag (decode (word c)) ≡ b
+told : (c : tie.After-is-bag Inv-loop μ-loop) {b : Bool} → c .is-bag .result ≡ b → isBag (decode (stored-there c)) ≡ b
 told c = bag-told (c .is-bag .ensures) (c .before .value .ensures)
 
 loop-holds : tie.Need-loop-holds Inv-loop μ-loop

@@ -13,12 +13,12 @@ returns : tie.Need-returns
 returns c =
     let p = c .before .before .before .before in
     let a = p .args in
-    read-refused (a .t .now) (c .before .table-refusal .ensures) (a .out .now) (c .if1 .taken)
+    read-refused (a .table .now) (c .before .table-refusal .ensures) (a .out .now) (c .if1 .taken)
 
 read-lane-requires : tie.Need-read-lane-requires
 read-lane-requires c κs =
     let p = c .before .before .before .before .before in
-    passed (p .args .t .now) (c .before .before .table-refusal .ensures) (c .before .if1 .left)
+    passed (p .args .table .now) (c .before .before .table-refusal .ensures) (c .before .if1 .left)
 
 same-length : tie.Need-same-length
 same-length c = search needs
@@ -28,7 +28,7 @@ returns-2 c =
     let p = c .before .before .before .before .before .before .before .before in
     let a = p .args in
     c .before .before .read-lane .ensures
-    ∙ read-goes-on (a .t .now) (c .before .before .before .before .before .table-refusal .ensures)
+    ∙ read-goes-on (a .table .now) (c .before .before .before .before .before .table-refusal .ensures)
     (a .out .now) (c .before .before .before .before .if1 .left)
 
 pub read-spec : {M : Type 1} → statement M

@@ -6,7 +6,7 @@ use Rattle.machine.specs.Sides.{sideOf}
 use Rattle.machine.specs.Values.{X, decode}
 use Rattle.machine.specs.Lines.{act}
 use Rattle.machine.proofs.Basics.Choices.{equal, unequal}
-use Rattle.layout.specs.Coded.{wordIn}
+use Rattle.layout.specs.Coded.{storedIn}
 use Rattle.hattrick.specs.Lent.{lineOf, nextDone, refusedDone}
 use Rattle.hattrick.proofs.Laws.Ready.{by-code, node-value-ok}
 use Rattle.hattrick.proofs.Laws.Compared.{told}
@@ -45,7 +45,7 @@ returns-2 c g f =
     let some = compared .before .before in
     let p = some .before .before .before in
     let t = p .args .t3 in
-    let v = decode (wordIn (p .args .ns .now) (getD (t .registers) 0 0)) in
+    let v = decode (storedIn (p .args .ns .now) (getD (t .registers) 0 0)) in
     let x = X (sideOf (t .side)) in
     let same = sym (told x (compared .is-x .ensures) (compared .before .value .ensures)) ∙ c .before .if2 .taken in
     rw (c .answers .ensures, unequal (some .if1 .left), effect-same v x same)
@@ -60,7 +60,7 @@ returns-3 c g f =
     let some = compared .before .before in
     let p = some .before .before .before in
     let t = p .args .t3 in
-    let v = decode (wordIn (p .args .ns .now) (getD (t .registers) 0 0)) in
+    let v = decode (storedIn (p .args .ns .now) (getD (t .registers) 0 0)) in
     let x = X (sideOf (t .side)) in
     let other = sym (told x (compared .is-x .ensures) (compared .before .value .ensures)) ∙ c .before .if2 .left in
     rw (c .next .ensures, unequal (some .if1 .left), effect-other v x other)

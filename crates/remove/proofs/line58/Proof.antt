@@ -1,18 +1,11 @@
 -- `remove::line58` meets its contract: the link decides, and then whether the goal is reached.
 use mathlib.Core.Path.{sym, _∙_}
-use Prim.Native.Nat.{suc}
 use native.Mathlib.Omega.{arith}
-use native.Mathlib.Numerals.{add-one}
-use lib.ListN.{getD}
-use Rattle.machine.specs.Choice.{_≟_, if_then_else_}
-use Rattle.machine.specs.Sides.{sideOf}
-use Rattle.machine.specs.Steps.{stepNumber, line56, line60}
 use Rattle.machine.specs.Lines.{act}
 use Rattle.machine.proofs.Basics.Choices.{equal, unequal}
-use Rattle.layout.specs.Coded.{linkIn, withRegister, withCount}
-use Rattle.hattrick.specs.Lent.{lineOf, nextDone, refusedDone}
+use Rattle.hattrick.specs.Lent.{lineOf, refusedDone}
 use Rattle.hattrick.proofs.Laws.Ready.{by-code, side-below-two}
-use Rattle.hattrick.proofs.Laws.Chosen.{chosen}
+use Rattle.hattrick.proofs.Laws.Cases.{node-further}
 use borrow.Author.Needs.{needs}
 use Rattle.remove.proofs.line58.Statement.{statement}
 use Rattle.remove.proofs.line58.Tie as tie
@@ -62,27 +55,19 @@ next-requires : tie.Need-next-requires
 next-requires c κs = search needs
 
 returns-3 : tie.Need-returns-3
-unfolding lineOf act
 returns-3 c f =
     let p = c .before .before .before .before .before .before .before .before .before in
-    let t = p .args .t3 in
-    let n = suc (t .counted) in
-    let g = p .args .goal in
     let link = c .before .before .before .before .before .link in
-    let x = linkIn (p .args .ns .now) (sideOf (t .side)) (getD (t .registers) 0 0) in
     rw (
       c .next .ensures,
       c .before .either .ensures,
       c .before .before .counting .ensures,
       c .before .before .before .with .ensures,
       link .ensures,
-      add-one (t .counted),
-      unequal (c .before .before .before .before .before .before .if1 .left),
-      unequal (λ e. c .before .before .before .before .if2 .left (link .ensures ∙ e)),
-      chosen n g line60 line56,
     )
-    (by-code (p .pre) (λ u.
-    nextDone (p .args .hat) (withCount (withRegister u 0 x) n) (stepNumber (if n ≟ g then line60 else line56))))
+    (node-further (p .pre) (p .args .hat) (p .args .goal) f
+    (c .before .before .before .before .before .before .if1 .left)
+    (λ e. c .before .before .before .before .if2 .left (link .ensures ∙ e)))
 
 pub line58-spec : {M : Type 1} → statement M
 line58-spec =

@@ -5,7 +5,7 @@ use native.Mathlib.Omega.{arith}
 use lib.ListN.{length, length-set}
 use borrow.Author.Needs.{needs}
 use Rattle.machine.specs.Calls.{runOn}
-use Rattle.shape.specs.Contracts.{Passed}
+use Rattle.machine.specs.Shape.{WellFormed}
 use Rattle.running.proofs.RunWords.{ahead, tick-passed, run-begins, run-ends, run-refused, run-made}
 use Rattle.running.proofs.run_on.Statement.{statement}
 use Rattle.running.proofs.run_on.Tie as tie
@@ -15,7 +15,7 @@ Inv-loop t₀ list answers₀ at₀ made₀ t answers at made =
     (at ≡ 2 * made)
     × (length t ≡ length t₀)
     × (length answers ≡ length answers₀)
-    × Passed t
+    × WellFormed t
     × (ahead at made list t answers ≡ runOn list t₀ answers₀)
 
 abbrev μ-loop : tie.MeasureT-loop
@@ -28,7 +28,7 @@ pair-here :
 pair-here c =
     let s = c .before .before .before .before .before in
     let l = c .before .loop in
-    omega (arith, s .pre .0 .1, l .inv .0)
+    omega (arith, s .pre .paired, l .inv .0)
 
 -- The answer slice has room for its two words.
 room-here :
@@ -36,13 +36,13 @@ room-here :
     → c .before .loop .at + 2 ≤ length (c .before .loop .answers)
 room-here c =
     let s = c .before .before .before .before .before in
-    omega (arith, pair-here c, s .pre .1, c .before .loop .inv .2)
+    omega (arith, pair-here c, s .pre .room, c .before .loop .inv .2)
 
 loop-holds : tie.Need-loop-holds Inv-loop μ-loop
 loop-holds c =
     let s = c .before .before .before in
     let a = s .args in
-    (omega arith, refl, refl, s .pre .0 .0, run-begins (a .list .now) (a .t .now) (a .answers .now))
+    (omega arith, refl, refl, s .pre .table, run-begins (a .list .now) (a .table .now) (a .answers .now))
 
 mul-tick-on : tie.Need-mul-tick-on Inv-loop μ-loop
 mul-tick-on c = search needs
@@ -83,7 +83,7 @@ returns c =
     let l = turn .before .loop in
     let list = turn .before .before .before .before .before .args .list .now in
     rw (c .before .payload .ensures)
-    (run-refused (l .at) (l .made) list (l .t) (l .answers) (pair-here turn) (tick .result) (tick .last .0)
+    (run-refused (l .at) (l .made) list (l .table) (l .answers) (pair-here turn) (tick .result) (tick .last .0)
     (tick .ensures) (sym (c .before .before .kind .ensures) ∙ c .if1 .taken)
     ∙ l .inv .4)
 
@@ -123,9 +123,9 @@ loop-again c =
       omega (arith, l .inv .0),
       tick .kept .0 ∙ l .inv .1,
       simp length-set (l .inv .2),
-      tick-passed (l .t) _ _ (tick .result) (tick .last .0) (tick .ensures) (l .inv .3),
+      tick-passed (l .table) _ _ (tick .result) (tick .last .0) (tick .ensures) (l .inv .3),
       rw (k, c .before .payload .ensures)
-          (run-made (l .at) (l .made) list (l .t) (l .answers) (pair-here turn) (tick .result) (tick .last .0)
+          (run-made (l .at) (l .made) list (l .table) (l .answers) (pair-here turn) (tick .result) (tick .last .0)
           (tick .ensures) (λ e. c .if1 .left (k ∙ e)) (room-here turn)
           ∙ l .inv .4),
     )
@@ -140,7 +140,7 @@ returns-2 : tie.Need-returns-2 Inv-loop μ-loop
 returns-2 c =
     let l = c .before .loop in
     let list = c .before .before .before .before .before .args .list .now in
-    run-ends (l .at) (l .made) list (l .t) (l .answers) (omega arith) ∙ l .inv .4
+    run-ends (l .at) (l .made) list (l .table) (l .answers) (omega arith) ∙ l .inv .4
 
 pub run-on-spec : {M : Type 1} → statement M
 run-on-spec =

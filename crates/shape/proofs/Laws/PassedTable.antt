@@ -6,17 +6,17 @@ use mathlib.Core.List.{List}
 use mathlib.Core.Option.{Option, some, none as nothing}
 use Prim.Native.Nat.{ℕ, _+_, _≤_, _<_}
 use native.Mathlib.Omega.{arith}
-use lib.ListN.{length, getD}
+use lib.ListN.{length}
 use Rattle.machine.specs.Choice.{_≟_, _<?_}
 use Rattle.machine.specs.Operations.{operationOf}
-use Rattle.machine.specs.Tasks.{Task, taskOf}
-use Rattle.machine.specs.Table.{nodeCount, taskCount, recordAt, recordWords, task}
-use Rattle.machine.specs.Shape.{lengthOk, shapeOk}
+use Rattle.machine.specs.Tasks.{Task, recordLength, operationWord, taskOf}
+use Rattle.machine.specs.Table.{headerLength, nodeCount, taskCount, recordAt, recordWords, task}
+use Rattle.machine.specs.Shape.{lengthOk, shapeOk, WellFormed}
 use Rattle.machine.specs.Calls.{unless, tableRefusal, isBusy}
 use Rattle.machine.proofs.Basics.Choices.{if-yes, by-if}
-use Rattle.machine.proofs.Words.Columns.{columns}
+use Rattle.machine.proofs.Words.Columns.{sizesOf}
 use Rattle.machine.proofs.Shape.ShapeLaws.{WellSized, well-sized}
-use Rattle.shape.specs.Contracts.{numberOf, Passed}
+use Rattle.shape.specs.Contracts.{numberOf}
 
 -- The first two tests decide alone where one of them fails, and leave the rest to the others where both pass.
 decided :
@@ -37,7 +37,7 @@ module _ (ws : List ℕ) {n : ℕ} (is-number : n ≡ numberOf (tableRefusal ws 
   refused h others =
       decided (lengthOk ws) (shapeOk ws) others (λ e. h (is-number ∙ e)) ∙ ap some (sym is-number)
 
-  pub passed : n ≡ 0 → Passed ws
+  pub passed : n ≡ 0 → WellFormed ws
   passed e =
       let both = both-pass (lengthOk ws) (shapeOk ws) (sym is-number ∙ e) in
       record { length-passes = both .0; shape-passes = both .1 }
@@ -50,12 +50,9 @@ busy-number n h =
     by-if (λ op. isBusy op ≡ true) (n ≟ 3) (λ _. refl) (λ _. refl))))
 
 -- ---- Its sizes, and a task's record.
-module _ (ws : List ℕ) (P : Passed ws) where
-  Z : WellSized (columns ws)
+module _ (ws : List ℕ) (P : WellFormed ws) where
+  Z : WellSized (sizesOf ws)
   Z = well-sized ws (P .length-passes)
-
-  pub header-long : 24 ≤ length ws
-  header-long = let z = Z .sized in let a = Z .two-nodes in let b = Z .one-task in omega arith
 
   pub few-nodes : nodeCount ws ≤ 1024
   few-nodes = Z .most-nodes
@@ -64,13 +61,10 @@ module _ (ws : List ℕ) (P : Passed ws) where
   few-tasks = Z .most-tasks
 
   module _ (k : ℕ) (is-task : k < taskCount ws) where
-    pub record-long : recordAt (nodeCount ws) k + 10 ≤ length ws
-    record-long = let z = Z .sized in omega arith
-
-    pub operation-is : task ws k .operation ≡ operationOf (getD ws (recordAt (nodeCount ws) k) 0)
+    pub operation-is : task ws k .operation ≡ operationOf (operationWord (recordWords ws k))
     unfolding task
     operation-is =
         ap (λ (t : Task). t .operation) (if-yes (k <? taskCount ws) (taskOf (recordWords ws k)) _ is-task)
 
-    pub busy-task : getD ws (recordAt (nodeCount ws) k) 0 ≢ 0 → isBusy (task ws k .operation) ≡ true
-    busy-task n = ap isBusy operation-is ∙ busy-number (getD ws (recordAt (nodeCount ws) k) 0) n
+    pub busy-task : operationWord (recordWords ws k) ≢ 0 → isBusy (task ws k .operation) ≡ true
+    busy-task n = ap isBusy operation-is ∙ busy-number (operationWord (recordWords ws k)) n

@@ -5,7 +5,7 @@ use lib.Dec.{eqb, ltb}
 use borrow.Author.Tests.{eq-eqb, ne-eqb}
 use Rattle.machine.specs.Sides.{left}
 use Rattle.machine.specs.Table.{nodeCount, hat, word6, word7}
-use Rattle.shape.proofs.Laws.Chains.{passed, failed, met}
+use Rattle.layout.proofs.Laws.Chains.{passed, failed, met}
 use borrow.Author.Needs.{needs}
 use Rattle.shape.proofs.header_ok.Statement.{statement}
 use Rattle.shape.proofs.header_ok.Tie as tie
@@ -14,7 +14,7 @@ use Rattle.shape.proofs.header_ok.Lts as lts
 
 flag :
     (c : lts.Joined2 reads.Pre reads.Post)
-    → let t = c .before .before .before .before .args .t .now in
+    → let t = c .before .before .before .before .args .table .now in
     c .if2 .if3 ≡ eqb (word6 t) 0 && eqb (word7 t) 0 && ltb (hat t left) (nodeCount t)
 flag c =
     met _ (c .if2 .came) (λ p. (p .0 .taken, p .2)) (λ p. (p .0 .left, p .1))

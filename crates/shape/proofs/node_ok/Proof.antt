@@ -1,20 +1,21 @@
 -- The flag of the chain is followed from word to word, each found in the part after the header.
-use mathlib.Core.Path.{_≡_, refl, ap, _∙_}
+use mathlib.Core.Path.{_≡_, refl, ap, sym, _∙_}
 use mathlib.Core.Bool.{_&&_}
+use Prim.Native.Nat.{_-_}
 use native.Mathlib.Omega.{arith}
 use native.Mathlib.Decide.{ℕ-discrete}
+use lib.ListN.{length}
 use Rattle.machine.specs.Sides.{left, right}
 use Rattle.machine.specs.Values.{valueOk}
-use Rattle.machine.specs.Tasks.{none}
-use Rattle.machine.specs.Table.{nodeCount, linkWord}
+use Rattle.machine.specs.Table.{headerLength, nodeCount, linkWord}
 use Rattle.machine.specs.Shape.{nodeOrNone, nodeOk}
-use Rattle.shape.proofs.Laws.Chains.{passed, failed, met}
-use Rattle.shape.proofs.Laws.TableWords.{word-in-part}
+use Rattle.layout.proofs.Laws.Chains.{passed, failed, met}
+use Rattle.layout.proofs.Laws.Views.{link-there, value-there}
 use borrow.Author.Needs.{needs}
 use Rattle.layout.proofs.nodes.link.Reads as link-reads
 use Rattle.layout.proofs.nodes.value.Reads as value-reads
 use Rattle.shape.proofs.records.node_or_none.Reads as node-or-none-reads
-use Rattle.shape.proofs.records.value_ok.Reads as value-ok-reads
+use Rattle.layout.proofs.values.value_ok.Reads as value-ok-reads
 use Rattle.shape.proofs.node_ok.Statement.{statement}
 use Rattle.shape.proofs.node_ok.Tie as tie
 use Rattle.shape.proofs.node_ok.Reads as reads
@@ -33,19 +34,19 @@ flag :
       value-ok-reads.Learnt,
     ) reads.Pre reads.Post)
     → let a = c .before .before .before .before .before .before .args in
-    let t = a .t .now in
+    let t = a .table .now in
     c .if1 .if2
     ≡ nodeOrNone (nodeCount t) (linkWord t left (a .x)) && nodeOrNone (nodeCount t) (linkWord t right (a .x))
 unfolding ℕ-discrete
 flag c =
     let s = c .before .before .before .before .before .before in
-    let n = nodeCount (s .args .t .now) in
-    let word = word-in-part (s .args .t .now) (s .args .x) (s .pre) in
+    let t = s .args .table .now in
+    let n = nodeCount t in
+    let there = link-there t (length t - headerLength) (s .args .x) (let h = s .pre in omega arith) (s .pre) in
     met _ (c .if1 .came)
-    (λ p. (p .0 .taken, p .3 ∙ p .2 .ensures ∙ ap (nodeOrNone n) (p .1 .ensures ∙ word 1 none (omega arith))))
+    (λ p. (p .0 .taken, p .3 ∙ p .2 .ensures ∙ ap (nodeOrNone n) (p .1 .ensures ∙ sym (there right))))
     (λ p. (p .0 .left, p .1))
-    (c .before .node-or-none .ensures
-    ∙ ap (nodeOrNone n) (c .before .before .link .ensures ∙ word 0 none (omega arith)))
+    (c .before .node-or-none .ensures ∙ ap (nodeOrNone n) (c .before .before .link .ensures ∙ sym (there left)))
 
 shared-slice-read-slots : tie.Need-shared-slice-read-slots
 shared-slice-read-slots c = search needs
@@ -81,10 +82,10 @@ returns : tie.Need-returns
 unfolding nodeOk
 returns c =
     let s = c .before .before .before .before .before .before .before .before .before in
+    let t = s .args .table .now in
+    let there = value-there t (length t - headerLength) (s .args .x) (let h = s .pre in omega arith) (s .pre) in
     passed (flag (c .before .before .before)) (c .before .before .if2 .taken)
-    (c .value-ok .ensures
-    ∙ ap (λ v. valueOk (v .word)) (c .before .value .ensures)
-    ∙ ap valueOk (word-in-part (s .args .t .now) (s .args .x) (s .pre) 2 0 (omega arith)))
+    (c .value-ok .ensures ∙ ap valueOk (c .before .value .ensures ∙ sym there))
 
 returns-2 : tie.Need-returns-2
 unfolding nodeOk

@@ -6,7 +6,8 @@ use native.Mathlib.Omega.{arith}
 use borrow.Author.Tests.{not-true, not-false}
 use Rattle.machine.specs.Table.{nodeCount}
 use Rattle.machine.specs.Shape.{allBelow, nodeOk}
-use Rattle.shape.proofs.Laws.TableWords.{sized}
+use Rattle.machine.proofs.Shape.ShapeLaws.{well-sized}
+use Rattle.shape.proofs.Laws.TableWords.{header-long}
 use Rattle.shape.proofs.Laws.Below.{none-below, one-more, one-fails}
 use Rattle.shape.proofs.nodes_ok.Statement.{statement}
 use Rattle.shape.proofs.nodes_ok.Tie as tie
@@ -18,41 +19,41 @@ abbrev μ-loop : tie.MeasureT-loop
 μ-loop t n x₀ x = nodeCount t - x
 
 shared-slice-read-n : tie.Need-shared-slice-read-n Inv-loop μ-loop
-shared-slice-read-n c = omega (arith, sized (c .before .before .args .t .now) (c .before .before .pre))
+shared-slice-read-n c = omega (arith, header-long (c .before .before .args .table .now) (c .before .before .pre))
 
 loop-holds : tie.Need-loop-holds Inv-loop μ-loop
 loop-holds c =
-    let t = c .before .before .args .t .now in
+    let t = c .before .before .args .table .now in
     (omega arith, none-below (nodeOk t))
 
 node-ok-requires : tie.Need-node-ok-requires Inv-loop μ-loop
 node-ok-requires c κs =
     let s = c .before .before .before .before in
-    omega (arith, sized (s .args .t .now) (s .pre))
+    omega (arith, well-sized (s .args .table .now) (s .pre))
 
 returns : tie.Need-returns Inv-loop μ-loop
 returns c =
-    let t = c .before .before .before .before .before .before .args .t .now in
+    let t = c .before .before .before .before .before .before .args .table .now in
     let l = c .before .before .before .loop in
     let r = c .before .node-ok in
     one-fails (nodeOk t) (nodeCount t) (l .x) (omega arith) (sym (r .ensures) ∙ not-true (r .result) (c .if1 .taken))
 
 add-x : tie.Need-add-x Inv-loop μ-loop
-add-x c = let s = c .before .before .before .before .before .before in omega (arith, sized (s .args .t .now) (s .pre))
+add-x c = let s = c .before .before .before .before .before .before in omega (arith, well-sized (s .args .table .now) (s .pre))
 
 loop-less : tie.Need-loop-less Inv-loop μ-loop
 loop-less c = omega arith
 
 loop-again : tie.Need-loop-again Inv-loop μ-loop
 loop-again c =
-    let t = c .before .before .before .before .before .before .args .t .now in
+    let t = c .before .before .before .before .before .before .args .table .now in
     let l = c .before .before .before .loop in
     let r = c .before .node-ok in
     (omega arith, one-more (nodeOk t) (l .x) (l .inv .1) (sym (r .ensures) ∙ not-false (r .result) (c .if1 .left)))
 
 returns-2 : tie.Need-returns-2 Inv-loop μ-loop
 returns-2 c =
-    let t = c .before .before .before .before .args .t .now in
+    let t = c .before .before .before .before .args .table .now in
     let l = c .before .loop in
     let e : l .x ≡ nodeCount t = omega arith in
     sym (l .inv .1) ∙ ap (λ n. allBelow n (nodeOk t)) e

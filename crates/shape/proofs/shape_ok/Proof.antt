@@ -3,8 +3,8 @@ use mathlib.Core.Path.{_≡_, refl, _∙_}
 use mathlib.Core.Bool.{_&&_}
 use Rattle.machine.specs.Table.{nodeCount}
 use Rattle.machine.specs.Shape.{headerOk, allBelow, nodeOk, shapeOk}
-use Rattle.shape.proofs.Laws.Chains.{passed, failed, met}
-use Rattle.shape.proofs.Laws.TableWords.{sized}
+use Rattle.layout.proofs.Laws.Chains.{passed, failed, met}
+use Rattle.shape.proofs.Laws.TableWords.{header-long}
 use borrow.Author.Needs.{needs}
 use Rattle.shape.proofs.header_ok.Reads as header-ok-reads
 use Rattle.shape.proofs.nodes_ok.Reads as nodes-ok-reads
@@ -24,14 +24,14 @@ flag :
       tasks-ok-reads.Asked,
       tasks-ok-reads.Learnt,
     ) reads.Pre reads.Post)
-    → let t = c .before .before .before .args .t .now in
+    → let t = c .before .before .before .args .table .now in
     c .if1 .if2 ≡ headerOk t && allBelow (nodeCount t) (nodeOk t)
 flag c =
     met _ (c .if1 .came) (λ p. (p .0 .taken, p .2 ∙ p .1 .ensures)) (λ p. (p .0 .left, p .1))
     (c .before .header-ok .ensures)
 
 header-ok-requires : tie.Need-header-ok-requires
-header-ok-requires c κs = sized (c .before .args .t .now) (c .before .pre) .header
+header-ok-requires c κs = header-long (c .before .args .table .now) (c .before .pre)
 
 nodes-ok-requires : tie.Need-nodes-ok-requires
 nodes-ok-requires c κs = search needs

@@ -1,56 +1,41 @@
--- The ten words read are those of the definition, so that the record's test is the task's.
+-- The record read has the words of the definition, so that the record's test is the task's.
 use mathlib.Core.Path.{ap, _∙_}
-use Rattle.machine.specs.Table.{nodeCount, growth}
+use Rattle.machine.specs.Table.{nodeCount, growth, recordWords}
 use Rattle.machine.specs.Shape.{recordOk}
+use Rattle.machine.proofs.Words.Stretches.{record-long}
 use Rattle.layout.specs.Coded.{recordOf}
+use Rattle.layout.proofs.Laws.RecordWords.{words-of-struct}
 use borrow.Author.Needs.{needs}
 use Rattle.shape.proofs.task_ok.Statement.{statement}
 use Rattle.shape.proofs.task_ok.Tie as tie
 
-shared-slice-read-slots : tie.Need-shared-slice-read-slots
-shared-slice-read-slots c = search needs
-
-cast-at : tie.Need-cast-at
-cast-at c = search needs
-
-mul-at : tie.Need-mul-at
-mul-at c = search needs
-
-add-at : tie.Need-add-at
-add-at c = search needs
-
-mul-at-2 : tie.Need-mul-at-2
-mul-at-2 c = search needs
-
-add-at-2 : tie.Need-add-at-2
-add-at-2 c = search needs
-
-read-requires : tie.Need-read-requires
-read-requires c κs = search needs
+task-requires : tie.Need-task-requires
+task-requires c κs = search needs
 
 shared-slice-read-record-ok : tie.Need-shared-slice-read-record-ok
 shared-slice-read-record-ok c = search needs
+
+shared-slice-read-record-ok-2 : tie.Need-shared-slice-read-record-ok-2
+shared-slice-read-record-ok-2 c = search needs
 
 record-ok-requires : tie.Need-record-ok-requires
 record-ok-requires c κs = search needs
 
 returns : tie.Need-returns
 returns c =
-    let t = c .before .before .before .before .before .args .t .now in
+    let r = c .before .before .before in
+    let s = r .before .before in
+    let t = s .args .table .now in
     c .record-ok .ensures
-    ∙ ap (λ k. recordOk (nodeCount t) (growth t) (recordOf k)) (c .before .before .read .ensures)
+    ∙ ap (λ k. recordOk (nodeCount t) (growth t) (recordOf k)) (r .task .ensures)
+    ∙ ap (recordOk (nodeCount t) (growth t)) (words-of-struct (recordWords t (s .args .k)) (record-long t _ (s .pre)))
 
 pub task-ok-spec : {M : Type 1} → statement M
 task-ok-spec =
     tie.close
     (tie.spec
-    shared-slice-read-slots
-    cast-at
-    mul-at
-    add-at
-    mul-at-2
-    add-at-2
-    read-requires
+    task-requires
     shared-slice-read-record-ok
+    shared-slice-read-record-ok-2
     record-ok-requires
     returns)

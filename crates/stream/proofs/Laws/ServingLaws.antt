@@ -7,42 +7,40 @@ use native.Mathlib.Omega.{arith}
 use lib.ListN.{length}
 use lib.Seq.{slice}
 use Rattle.stream.specs.Session.{takeBytes}
-use Rattle.stream.specs.Held.{Lent, Ready, lineRoom, Makes, Onward}
-use Rattle.stream.proofs.Laws.HeldLaws.{none-made, next-made}
+use Rattle.stream.specs.Carried.{Loan, InOrder, lineRoom, Makes, Onward}
+use Rattle.stream.proofs.Laws.CarriedLaws.{none-made, next-made}
 
 -- The bytes from start to a place are taken. If they are none, then nothing is printed.
-pub record Serving (chunk : List ℕ) (start : ℕ) (first : Lent) (out₀ : List ℕ) (from : ℕ) (held : Lent) (out : List ℕ)
+pub record Serving (chunk : List ℕ) (start : ℕ) (first : Loan) (out₀ : List ℕ) (from : ℕ) (loan : Loan) (out : List ℕ)
     (at : ℕ) : Type 0 where
   pub forward : start ≤ from
   pub within : from ≤ length chunk
   pub further : (start < from) ⊎ (at ≡ 0)
-  pub makes : Makes (takeBytes (slice start from chunk)) first held out₀ 0 out at
+  pub makes : Makes (takeBytes (slice start from chunk)) first loan out₀ 0 out at
   pub in-out : at ≤ length out
-  pub same-space : length (held .space) ≡ length (first .space)
-  pub same-bags : length (held .bags) ≡ length (first .bags)
+  pub same-space : length (loan .space) ≡ length (first .space)
   pub same-out : length out ≡ length out₀
 
-module _ (chunk : List ℕ) (start : ℕ) {first : Lent} {out₀ : List ℕ} where
-  pub serving-starts : start ≤ length chunk → Ready first → Serving chunk start first out₀ start first out₀ 0
-  serving-starts h ready =
+module _ (chunk : List ℕ) (start : ℕ) {first : Loan} {out₀ : List ℕ} where
+  pub serving-starts : start ≤ length chunk → InOrder first → Serving chunk start first out₀ start first out₀ 0
+  serving-starts h in-order =
       record {
         forward = omega arith;
         within = h;
         further = inr refl;
-        makes = none-made chunk start ready;
+        makes = none-made chunk start in-order;
         in-out = omega arith;
         same-space = refl;
-        same-bags = refl;
         same-out = refl;
       }
 
-  module _ {from : ℕ} {held : Lent} {out : List ℕ} {at : ℕ} (S : Serving chunk start first out₀ from held out at) where
+  module _ {from : ℕ} {loan : Loan} {out : List ℕ} {at : ℕ} (S : Serving chunk start first out₀ from loan out at) where
     pub serving-goes-on : from < length chunk → at + lineRoom ≤ length out
-        → (to : ℕ) → Onward chunk from to → {next : Lent} {out′ : List ℕ} {at′ : ℕ}
-        → Makes (takeBytes (slice from to chunk)) held next out at out′ at′ → at′ ≤ at + lineRoom
-        → length (next .space) ≡ length (held .space) → length (next .bags) ≡ length (held .bags)
-        → length out′ ≡ length out → Serving chunk start first out₀ to next out′ at′
-    serving-goes-on more room to onward makes few same-space same-bags same-out =
+        → (to : ℕ) → Onward chunk from to → {next : Loan} {out′ : List ℕ} {at′ : ℕ}
+        → Makes (takeBytes (slice from to chunk)) loan next out at out′ at′ → at′ ≤ at + lineRoom
+        → length (next .space) ≡ length (loan .space) → length out′ ≡ length out
+        → Serving chunk start first out₀ to next out′ at′
+    serving-goes-on more room to onward makes few same-space same-out =
         record {
           forward = omega (arith, S .forward, onward .forward);
           within = onward .within;
@@ -50,7 +48,6 @@ module _ (chunk : List ℕ) (start : ℕ) {first : Lent} {out₀ : List ℕ} whe
           makes = next-made chunk start from to (S .forward) onward (S .makes) makes;
           in-out = omega arith;
           same-space = same-space ∙ S .same-space;
-          same-bags = same-bags ∙ S .same-bags;
           same-out = same-out ∙ S .same-out;
         }
 

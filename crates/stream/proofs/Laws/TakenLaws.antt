@@ -24,18 +24,13 @@ any-between from (b ∷ bs) = lt-ltb from (from + suc (length bs)) (omega arith)
 -- The line so far, scanned on.
 abbrev pub scannedOn : List ℕ → State → State
 scannedOn bytes s =
-    record {
-      words = s .words;
-      bags = s .bags;
-      line = scanBytes (s .line) bytes;
-      begun = s .begun || any bytes;
-    }
+    record { words = s .words; line = scanBytes (s .line) bytes; begun = s .begun || any bytes }
 
 -- The same state but for whether its line has a byte.
 begun-as : (s : State) {x y : Bool} → x ≡ y
-    → _≡_ {A = Step} (silent (record { words = s .words; bags = s .bags; line = s .line; begun = x }))
-    (silent (record { words = s .words; bags = s .bags; line = s .line; begun = y }))
-begun-as s e = ap (λ (x : Bool). silent (record { words = s .words; bags = s .bags; line = s .line; begun = x })) e
+    → _≡_ {A = Step} (silent (record { words = s .words; line = s .line; begun = x }))
+    (silent (record { words = s .words; line = s .line; begun = y }))
+begun-as s e = ap (λ (x : Bool). silent (record { words = s .words; line = s .line; begun = x })) e
 
 -- A line without its line feed prints nothing.
 pub line-taken : (bytes : List ℕ) (s : State)

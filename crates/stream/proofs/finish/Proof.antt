@@ -1,6 +1,6 @@
 -- `stream::finish` meets its contract: a line that has a byte is answered, and else nothing is printed.
 use native.Mathlib.Omega.{arith}
-use Rattle.stream.proofs.Laws.HeldLaws.{last-line, no-last-line}
+use Rattle.stream.proofs.Laws.CarriedLaws.{last-line, no-last-line}
 use borrow.Author.Needs.{needs}
 use Rattle.stream.proofs.finish.Statement.{statement}
 use Rattle.stream.proofs.finish.Tie as tie
@@ -14,22 +14,19 @@ same-length c = search needs
 same-length-2 : tie.Need-same-length-2
 same-length-2 c = search needs
 
-same-length-3 : tie.Need-same-length-3
-same-length-3 c = search needs
-
 returns : tie.Need-returns
 returns c =
-    let ended = c .before .before .before .before .before .before in
+    let ended = c .before .before .before .before in
     let then = ended .before .before .before .before .before in
     let done = ended .end-line in
     (last-line (then .if1 .taken) (done .ensures .0), omega (arith, done .ensures .1, done .kept .1 .1 .1 .1 .1 .0))
 
 returns-2 : tie.Need-returns-2
 returns-2 c =
-    let start = c .before .before .before .before in
+    let start = c .before .before .before in
     (no-last-line (c .if1 .left) (start .pre .0), omega arith)
 
 pub finish-spec : {M : Type 1} → statement M
 finish-spec =
     tie.close
-    (tie.spec end-line-requires same-length same-length-2 same-length-3 returns returns-2)
+    (tie.spec end-line-requires same-length same-length-2 returns returns-2)

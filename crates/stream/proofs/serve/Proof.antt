@@ -2,8 +2,8 @@
 use Prim.Native.Nat.{_<_}
 use lib.ListN.{length}
 use native.Mathlib.Omega.{arith}
-use Rattle.stream.specs.Held.{lentOf}
-use Rattle.stream.proofs.Laws.HeldLaws.{line-onward, part-onward, part-made, line-made}
+use Rattle.stream.specs.Carried.{loanOf}
+use Rattle.stream.proofs.Laws.CarriedLaws.{line-onward, part-onward, part-made, line-made}
 use borrow.Author.Needs.{needs}
 use Rattle.stream.proofs.serve.Statement.{statement}
 use Rattle.stream.proofs.serve.Tie as tie
@@ -19,9 +19,9 @@ end-line-requires c κs = search needs
 
 add-from : tie.Need-add-from
 add-from c =
-    let ended = c .before .before .before .before .before .before in
+    let ended = c .before .before .before .before in
     let then = ended .before .before .before .before .before .before in
-    let start = then .before .before .before .before .before .before .before .before .before .before .before in
+    let start = then .before .before .before .before .before .before .before .before .before .before in
     let h : then .before .before .before .scan-line .result .at < length (start .args .chunk .now) = then .if1 .taken in
     omega (arith, start .good .0)
 
@@ -31,17 +31,14 @@ same-length c = search needs
 same-length-2 : tie.Need-same-length-2
 same-length-2 c = search needs
 
-same-length-3 : tie.Need-same-length-3
-same-length-3 c = search needs
-
 returns : tie.Need-returns
 returns c =
-    let ended = c .before .before .before .before .before .before .before in
+    let ended = c .before .before .before .before .before in
     let then = ended .before .before .before .before .before .before in
     let scanning = then .before .before .before in
-    let start = scanning .before .before .before .before .before .before .before .before in
+    let start = scanning .before .before .before .before .before .before .before in
     let a = start .args in
-    let l = lentOf (a .space .now) (a .bags .now) (a .text .now) (a .numbers .now) (a .held) in
+    let l = loanOf (a .space .now) (a .text .now) (a .numbers .now) (a .carried) in
     let made =
     line-made l (start .pre .1 .0) (scanning .scan-line .ensures) (then .before .before .has-byte .ensures)
     (then .if1 .taken) (ended .end-line .ensures .0) in
@@ -50,9 +47,9 @@ returns c =
 returns-2 : tie.Need-returns-2
 returns-2 c =
     let scanning = c .before .before .before in
-    let start = scanning .before .before .before .before .before .before .before .before in
+    let start = scanning .before .before .before .before .before .before .before in
     let a = start .args in
-    let l = lentOf (a .space .now) (a .bags .now) (a .text .now) (a .numbers .now) (a .held) in
+    let l = loanOf (a .space .now) (a .text .now) (a .numbers .now) (a .carried) in
     let made =
     part-made l (start .pre .1 .0) (scanning .scan-line .ensures) (c .before .before .has-byte .ensures) (a .out .now)
     (a .at) in
@@ -68,6 +65,5 @@ serve-spec =
     add-from
     same-length
     same-length-2
-    same-length-3
     returns
     returns-2)

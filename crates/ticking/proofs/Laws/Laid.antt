@@ -3,77 +3,101 @@ use mathlib.Core.Path.{_≡_, refl, sym, ap, _∙_}
 use mathlib.Core.List.{List, [], _∷_, _++_}
 use Prim.Native.Nat.{ℕ, suc, _+_, _*_, _≤_, _<_}
 use native.Mathlib.Omega.{arith}
-use lib.ListN.{length, set, take, drop, length-set}
-use lib.Seq.{set-set, take-set-lt, drop-set-lt, set-append-left, length-take-le, set-getD}
+use native.Mathlib.Nat.{add-assoc}
+use lib.ListN.{length, getD, set, take, drop, length-set, List·getD-append}
+use lib.Seq.{sets, length-sets, getD-take, set-set, take-set-lt, drop-set-lt, set-append-left, length-take-le, set-getD}
 use borrow.Rule.Slice.PartMut.{putMid, midOf, postOf, put-same}
 use Rattle.machine.specs.Sides.{Side, left, right, opposite, sideNumber}
-use Rattle.machine.specs.Values.{encode}
-use Rattle.machine.specs.Table.{hatAt, hat}
+use Rattle.machine.specs.Values.{storedWords, encode}
+use Rattle.machine.specs.Table.{headerLength, nodeLength, nodeAt, hatAt, hat, linksLength}
 use Rattle.machine.specs.Lines.{Write, out≔, inn≔, val≔, hat≔, writeOne, writeAll}
 use Rattle.machine.proofs.Words.EffectLaws.{InRange, AllInRange}
 use Rattle.hattrick.specs.Lent.{writeIn, writesIn, hatAfter}
 
--- The header is eight words.
 abbrev pub lay : (S : ℕ) → Side → List ℕ → (ns : List ℕ) → (h : ℕ) → List ℕ
-lay S s ws ns h = putMid 8 (3 * S) (set ws (hatAt s) h) ns
+lay S s ws ns h = putMid headerLength (nodeLength * S) (set ws (hatAt s) h) ns
 
+-- Words written on one side of a seam.
 append-set-right : (xs ys : List ℕ) (j v : ℕ) → set (xs ++ ys) (length xs + j) v ≡ xs ++ set ys j v
 append-set-right [] ys j v = let e : 0 + j ≡ j = omega arith in rw e
 append-set-right (x ∷ xs) ys j v =
     let e : suc (length xs) + j ≡ suc (length xs + j) = omega arith in
     rw e (ap (_∷_ x) (append-set-right xs ys j v))
 
--- ---- One store, in the part and in the header.
-module _ (k : ℕ) (xs ys : List ℕ) (room : 8 ≤ length xs) where
-  set-in-part : (j v : ℕ) → j < length ys → set (putMid 8 k xs ys) (8 + j) v ≡ putMid 8 k xs (set ys j v)
-  set-in-part j v h =
-      ap (λ (n : ℕ). set (putMid 8 k xs ys) (n + j) v) (sym (length-take-le 8 xs room))
-      ∙ append-set-right (take 8 xs) (ys ++ postOf 8 k xs) j v
-      ∙ ap (λ (l : List ℕ). take 8 xs ++ l) (set-append-left ys (postOf 8 k xs) j v h)
+append-sets-right : (xs ys : List ℕ) (j : ℕ) (vs : List ℕ) → sets (xs ++ ys) (length xs + j) vs ≡ xs ++ sets ys j vs
+append-sets-right xs ys j [] = refl
+append-sets-right xs ys j (v ∷ vs) =
+    let e : suc (length xs + j) ≡ length xs + suc j = omega arith in
+    ap (λ (l : List ℕ). sets l (suc (length xs + j)) vs) (append-set-right xs ys j v)
+    ∙ ap (λ (n : ℕ). sets (xs ++ set ys j v) n vs) e
+    ∙ append-sets-right xs (set ys j v) (suc j) vs
 
-  pub set-in-header : (i v : ℕ) → i < 8 → set (putMid 8 k xs ys) i v ≡ putMid 8 k (set xs i v) ys
-  set-in-header i v h =
-      let e : drop 8 (set xs i v) ≡ drop 8 xs = drop-set-lt 8 xs i v h in
-      set-append-left (take 8 xs) (ys ++ postOf 8 k xs) i v (let q = length-take-le 8 xs room in omega arith)
-      ∙ ap (λ (l : List ℕ). l ++ (ys ++ postOf 8 k xs)) (sym (take-set-lt 8 xs i v h))
-      ∙ ap (λ (l : List ℕ). take 8 (set xs i v) ++ (ys ++ drop k l)) (sym e)
+append-sets-left :
+    (xs ys : List ℕ) (j : ℕ) (vs : List ℕ) → j + length vs ≤ length xs → sets (xs ++ ys) j vs ≡ sets xs j vs ++ ys
+append-sets-left xs ys j [] h = refl
+append-sets-left xs ys j (v ∷ vs) h =
+    ap (λ (l : List ℕ). sets l (suc j) vs) (set-append-left xs ys j v (omega arith))
+    ∙ append-sets-left (set xs j v) ys (suc j) vs (let e = length-set xs j v in omega arith)
+
+-- ---- One store, in the part and in the header.
+module _ (a k : ℕ) (xs ys : List ℕ) (room : a ≤ length xs) where
+  sets-in-part :
+      (vs : List ℕ) (j : ℕ) → j + length vs ≤ length ys → sets (putMid a k xs ys) (a + j) vs ≡ putMid a k xs (sets ys j vs)
+  sets-in-part vs j h =
+      let front = take a xs in
+      let after = postOf a k xs in
+      ap (λ (n : ℕ). sets (putMid a k xs ys) (n + j) vs) (sym (length-take-le a xs room))
+      ∙ append-sets-right front (ys ++ after) j vs
+      ∙ ap (λ (l : List ℕ). front ++ l) (append-sets-left ys after j vs h)
+
+  pub set-before-part : (i v : ℕ) → i < a → set (putMid a k xs ys) i v ≡ putMid a k (set xs i v) ys
+  set-before-part i v h =
+      let e : drop a (set xs i v) ≡ drop a xs = drop-set-lt a xs i v h in
+      set-append-left (take a xs) (ys ++ postOf a k xs) i v (let q = length-take-le a xs room in omega arith)
+      ∙ ap (λ (l : List ℕ). l ++ (ys ++ postOf a k xs)) (sym (take-set-lt a xs i v h))
+      ∙ ap (λ (l : List ℕ). take a (set xs i v) ++ (ys ++ drop k l)) (sym e)
+
+  pub word-before-part : (i d : ℕ) → i < a → getD (putMid a k xs ys) i d ≡ getD xs i d
+  word-before-part i d h =
+      List·getD-append (take a xs) (ys ++ postOf a k xs) d i (let q = length-take-le a xs room in omega arith)
+      ∙ getD-take a xs i d h
 
 -- ---- A line's writes.
 abbrev Holds : (S : ℕ) → List ℕ → Type 0
-Holds S ns = length ns ≡ 3 * S
+Holds S ns = length ns ≡ nodeLength * S
 
 write-holds : (S : ℕ) (s : Side) (w : Write) (ns : List ℕ) → Holds S ns → Holds S (writeIn s w ns)
 write-holds S s (out≔ x y) ns h = length-set ns _ y ∙ h
 write-holds S s (inn≔ x y) ns h = length-set ns _ y ∙ h
-write-holds S s (val≔ x v) ns h = length-set ns _ (encode v) ∙ h
+write-holds S s (val≔ x v) ns h = length-sets ns _ (storedWords (encode v)) ∙ h
 write-holds S s (hat≔ x) ns h = h
 
 side-word : (s : Side) → sideNumber s < 2
 side-word left = omega arith
 side-word right = omega arith
 
-module _ (S : ℕ) (s : Side) (ws : List ℕ) (room : 8 ≤ length ws) where
-  table : ℕ → List ℕ
-  table h = set ws (hatAt s) h
-
-  long : (h : ℕ) → 8 ≤ length (set ws (hatAt s) h)
+module _ (S : ℕ) (s : Side) (ws : List ℕ) (room : headerLength ≤ length ws) where
+  long : (h : ℕ) → headerLength ≤ length (set ws (hatAt s) h)
   long h = let e = length-set ws (hatAt s) h in omega arith
 
-  one-word : (ns : List ℕ) (h x c v : ℕ) → Holds S ns → x < S → c < 3
-      → set (lay S s ws ns h) (8 + 3 * x + c) v ≡ lay S s ws (set ns (3 * x + c) v) h
-  one-word ns h x c v hold l m =
-      let e : 8 + 3 * x + c ≡ 8 + (3 * x + c) = omega arith in
-      rw e (set-in-part (3 * S) (set ws (hatAt s) h) ns (long h) (3 * x + c) v (omega arith))
+  -- Words of a node.
+  node-words : (ns : List ℕ) (h x c : ℕ) (vs : List ℕ) → Holds S ns → x < S → c + length vs ≤ nodeLength
+      → sets (lay S s ws ns h) (nodeAt x + c) vs ≡ lay S s ws (sets ns (nodeLength * x + c) vs) h
+  node-words ns h x c vs hold l m =
+      ap (λ (n : ℕ). sets (lay S s ws ns h) n vs) (add-assoc headerLength (nodeLength * x) c)
+      ∙ sets-in-part headerLength (nodeLength * S) (set ws (hatAt s) h) ns (long h) vs (nodeLength * x + c) (omega arith)
 
   one-write : (w : Write) (ns : List ℕ) (h : ℕ) → Holds S ns → InRange S w
       → writeOne s w (lay S s ws ns h) ≡ lay S s ws (writeIn s w ns) (hatAfter (w ∷ []) h)
-  one-write (out≔ x y) ns h hold l = one-word ns h x (sideNumber s) y hold l (let q = side-word s in omega arith)
+  one-write (out≔ x y) ns h hold l =
+      node-words ns h x (sideNumber s) (y ∷ []) hold l (let q = side-word s in omega arith)
   one-write (inn≔ x y) ns h hold l =
-      one-word ns h x (sideNumber (opposite s)) y hold l (let q = side-word (opposite s) in omega arith)
-  one-write (val≔ x v) ns h hold l = one-word ns h x 2 (encode v) hold (l .0) (omega arith)
+      node-words ns h x (sideNumber (opposite s)) (y ∷ []) hold l (let q = side-word (opposite s) in omega arith)
+  one-write (val≔ x v) ns h hold l = node-words ns h x linksLength (storedWords (encode v)) hold (l .0) (omega arith)
   one-write (hat≔ x) ns h hold l =
-      set-in-header (3 * S) (set ws (hatAt s) h) ns (long h) (hatAt s) x (let q = side-word s in omega arith)
-      ∙ ap (λ (l : List ℕ). putMid 8 (3 * S) l ns) (set-set ws (hatAt s) h x)
+      set-before-part headerLength (nodeLength * S) (set ws (hatAt s) h) ns (long h) (hatAt s) x
+      (let q = side-word s in omega arith)
+      ∙ ap (λ (l : List ℕ). putMid headerLength (nodeLength * S) l ns) (set-set ws (hatAt s) h x)
 
   hat-then : (w : Write) (l : List Write) (h : ℕ) → hatAfter l (hatAfter (w ∷ []) h) ≡ hatAfter (w ∷ l) h
   hat-then (out≔ x y) l h = refl
@@ -92,6 +116,8 @@ module _ (S : ℕ) (s : Side) (ws : List ℕ) (room : 8 ≤ length ws) where
       ∙ ap (λ (x : ℕ). lay S s ws (writesIn s l (writeIn s w ns)) x) (hat-then w l h)
 
   -- The table is its own part laid back.
-  pub laid-itself : lay S s ws (midOf 8 (3 * S) ws) (hat ws s) ≡ ws
+  pub laid-itself : lay S s ws (midOf headerLength (nodeLength * S) ws) (hat ws s) ≡ ws
   laid-itself =
-      ap (λ (l : List ℕ). putMid 8 (3 * S) l (midOf 8 (3 * S) ws)) (set-getD ws (hatAt s) 0) ∙ put-same 8 (3 * S) ws
+      let n = nodeLength * S in
+      ap (λ (l : List ℕ). putMid headerLength n l (midOf headerLength n ws)) (set-getD ws (hatAt s) 0)
+      ∙ put-same headerLength n ws

@@ -6,14 +6,15 @@ use mathlib.Core.List.{List}
 use mathlib.Core.Option.{none as nothing}
 use Prim.Native.Nat.{ℕ, _≤_, _<_}
 use native.Mathlib.Decide.{ℕ-discrete}
-use lib.ListN.{getD}
 use borrow.Author.Tests.{lt-ltb, le-ltb}
 use Rattle.machine.specs.declared.Answer.the-variants.{Refused}
 use Rattle.machine.specs.Operations.{operationOf}
-use Rattle.machine.specs.Table.{nodeCount, taskCount, recordAt, task}
+use Rattle.machine.specs.Tasks.{operationWord}
+use Rattle.machine.specs.Table.{nodeCount, taskCount, recordWords, task}
+use Rattle.machine.specs.Shape.{WellFormed}
 use Rattle.machine.specs.Calls.{isBusy, tableRefusal, tickOn, tick}
 use Rattle.machine.specs.Results.{tickedOf}
-use Rattle.shape.specs.Contracts.{numberOf, Passed}
+use Rattle.shape.specs.Contracts.{numberOf}
 use Rattle.ticking.specs.Ticks.{made}
 use Rattle.shape.proofs.Laws.PassedTable.{refused, passed, operation-is, busy-task}
 
@@ -28,7 +29,7 @@ module _ (ws : List ℕ) {n : ℕ} (is-number : n ≡ numberOf (tableRefusal ws 
   tick-goes-on e = let P = passed ws is-number e in rw (P .length-passes, P .shape-passes, tick)
 
 -- ---- The others, of a table that passes.
-module _ (ws : List ℕ) (P : Passed ws) (k h : ℕ) where
+module _ (ws : List ℕ) (P : WellFormed ws) (k h : ℕ) where
   pub tick-5 : taskCount ws ≤ k → tickedOf (Refused 5) ws ≡ tickOn ws k h
   unfolding tickOn
   tick-5 a = rw (le-ltb k (taskCount ws) a, tickOn)
@@ -39,13 +40,13 @@ module _ (ws : List ℕ) (P : Passed ws) (k h : ℕ) where
     tick-9 b = rw (lt-ltb k (taskCount ws) is-task, le-ltb h (nodeCount ws) b, tickOn)
 
     module _ (is-hint : h < nodeCount ws) where
-      pub tick-10 : getD ws (recordAt (nodeCount ws) k) 0 ≡ 0 → tickedOf (Refused 10) ws ≡ tickOn ws k h
+      pub tick-10 : operationWord (recordWords ws k) ≡ 0 → tickedOf (Refused 10) ws ≡ tickOn ws k h
       unfolding tickOn ℕ-discrete
       tick-10 e =
           let i : isBusy (task ws k .operation) ≡ false
           = ap isBusy (operation-is ws P k is-task ∙ ap operationOf e) in
           rw (lt-ltb k (taskCount ws) is-task, lt-ltb h (nodeCount ws) is-hint, i, tickOn)
 
-      pub tick-passes : getD ws (recordAt (nodeCount ws) k) 0 ≢ 0 → made ws k h ≡ tickOn ws k h
+      pub tick-passes : operationWord (recordWords ws k) ≢ 0 → made ws k h ≡ tickOn ws k h
       unfolding tickOn
       tick-passes n = rw (lt-ltb k (taskCount ws) is-task, lt-ltb h (nodeCount ws) is-hint, busy-task ws P k is-task n, tickOn)

@@ -10,30 +10,31 @@ use Rattle.machine.specs.declared.Answer.the-variants.{Refused}
 use Rattle.machine.specs.Sides.{Side, left, right, opposite, sideOf}
 use Rattle.machine.specs.Steps.{stepOf}
 use Rattle.machine.specs.Tasks.{Task, goal}
-use Rattle.machine.specs.Table.{nodeCount, taskCount, growth, hatAt, hat, recordAt, task}
+use Rattle.machine.specs.Table.{headerLength, nodeLength, nodeCount, taskCount, growth, hatAt, hat, recordWords, task}
 use Rattle.machine.specs.Allocate.{allocate}
 use Rattle.machine.specs.Lines.{Memory, Effect, seen, writeAll, act}
 use Rattle.machine.specs.Answers.{refusalOf}
-use Rattle.machine.specs.Calls.{isBusy, Ticked, effectOf, applied}
+use Rattle.machine.specs.Calls.{isBusy, effectOf, applied}
+use Rattle.machine.specs.Results.{tickedOf}
 use Rattle.machine.proofs.Basics.Contradiction.{clash}
-use Rattle.machine.proofs.Words.Columns.{columns}
+use Rattle.machine.proofs.Words.Columns.{sizesOf, columns}
 use Rattle.machine.proofs.Words.EffectLaws.{AllInRange}
 use Rattle.machine.proofs.Shape.ShapeLaws.{WellSized, WellShaped}
 use Rattle.machine.proofs.Shape.Fits.{Fits, turns-back, goes-on, ends}
 use Rattle.layout.specs.declared.tasks.Task as Tasks
-use Rattle.layout.specs.Coded.{taskMeant, recordFrom}
+use Rattle.layout.specs.Coded.{structOf, taskMeant}
 use Rattle.hattrick.specs.Lent.{memoryIn, writesIn, hatAfter, effectIn, lineOf}
 use Rattle.ticking.specs.Ticks.{taken}
-use Rattle.layout.proofs.Laws.NodesPart.{nodesOf, nodes-long}
-use Rattle.ticking.proofs.Laws.Lent.{seen-in, far-unseen}
-use Rattle.ticking.proofs.Laws.Laid.{lay, writes-laid, laid-itself, set-in-header}
+use Rattle.layout.proofs.Laws.Views.{nodesOf, nodes-long}
+use Rattle.ticking.proofs.Laws.Seen.{seen-in}
+use Rattle.ticking.proofs.Laws.Laid.{lay, writes-laid, laid-itself, set-before-part}
 use Rattle.ticking.proofs.Laws.LineWords.{taken-enough}
 use Rattle.ticking.proofs.Laws.TickReady.{meant-task, step-back}
 
-module _ (ws : List ℕ) (Z : WellSized (columns ws)) (W : WellShaped (columns ws)) (k : ℕ)
+module _ (ws : List ℕ) (Z : WellSized (sizesOf ws)) (W : WellShaped (columns ws)) (k : ℕ)
     (is-task : k < taskCount ws) where
   abbrev t : Tasks.Task
-  t = recordFrom ws (recordAt (nodeCount ws) k)
+  t = structOf (recordWords ws k)
 
   abbrev s : Side
   s = sideOf (t .side)
@@ -54,7 +55,6 @@ module _ (ws : List ℕ) (Z : WellSized (columns ws)) (W : WellShaped (columns w
       ap (effectIn s (nodesOf ws) (hat ws s))
       (taken-enough s (opposite s) (memoryIn s (nodesOf ws) (hat ws s)) τ g f (t .step) st
       (sym (step-back ws Z W k is-task busy))
-      ∙ far-unseen s (opposite s) _ _ _ (hat ws s) 0 (hat ws (opposite s)) τ g f st
       ∙ ap (λ (m : Memory). act st s (opposite s) m τ g f) (sym (seen-in ws (Z .sized) s))
       ∙ ap (λ (n : ℕ). act st s (opposite s) (seen s ws) τ n f) (e ∙ ap (goal (growth ws)) (sym meant))
       ∙ ap
@@ -68,8 +68,8 @@ none-written turns-back r = refl
 none-written (goes-on fit F) r = clash (cc)
 none-written (ends fit answers) r = clash (let q = ap refusalOf r in cc)
 
-module _ (s : Side) (ws : List ℕ) (Z : WellSized (columns ws)) (k : ℕ) (e : Effect) where
-  header-room : 8 ≤ length ws
+module _ (s : Side) (ws : List ℕ) (Z : WellSized (sizesOf ws)) (k : ℕ) (e : Effect) where
+  header-room : headerLength ≤ length ws
   header-room = let z = Z .sized in omega arith
 
   -- The part as a refused line leaves it, laid back.
@@ -78,12 +78,12 @@ module _ (s : Side) (ws : List ℕ) (Z : WellSized (columns ws)) (k : ℕ) (e : 
       → Fits (nodeCount ws) g e
       → e .answer ≡ Refused n
       → ns ≡ writesIn s (e .writes) (nodesOf ws)
-      → _≡_ {A = Ticked} (record { answer = Refused n; words = putMid 8 (3 * nodeCount ws) ws ns }) (applied s ws k e)
+      → tickedOf (Refused n) (putMid headerLength (nodeLength * nodeCount ws) ws ns) ≡ applied s ws k e
   unfolding applied
   refused-words {n = n} fit r q =
       let w = none-written fit r in
       rw (r, applied, r, q, w)
-      (ap (λ (l : List ℕ). record { answer = Refused n; words = l }) (put-same 8 (3 * nodeCount ws) ws))
+      (ap (tickedOf (Refused n)) (put-same headerLength (nodeLength * nodeCount ws) ws))
 
   -- The part, the hat, the record and the tick count as a line that is made leaves them.
   pub made-words :
@@ -91,15 +91,16 @@ module _ (s : Side) (ws : List ℕ) (Z : WellSized (columns ws)) (k : ℕ) (e : 
       → AllInRange (nodeCount ws) (e .writes)
       → ns ≡ writesIn s (e .writes) (nodesOf ws)
       → h ≡ hatAfter (e .writes) (hat ws s)
-      → set (putMid 8 (3 * nodeCount ws) ws ns) (hatAt s) h ≡ writeAll s (e .writes) ws
+      → set (putMid headerLength (nodeLength * nodeCount ws) ws ns) (hatAt s) h ≡ writeAll s (e .writes) ws
   made-words {ns} {h} fit q p =
-      set-in-header (3 * nodeCount ws) ws ns header-room (hatAt s) h (hat-low s)
-      ∙ ap (λ (l : List ℕ). putMid 8 (3 * nodeCount ws) (set ws (hatAt s) h) l) q
+      let n = nodeLength * nodeCount ws in
+      set-before-part headerLength n ws ns header-room (hatAt s) h (hat-low s)
+      ∙ ap (λ (l : List ℕ). putMid headerLength n (set ws (hatAt s) h) l) q
       ∙ ap (λ (x : ℕ). lay (nodeCount ws) s ws (writesIn s (e .writes) (nodesOf ws)) x) p
       ∙ sym
       (writes-laid (nodeCount ws) s ws header-room (e .writes) (nodesOf ws) (hat ws s) (nodes-long ws (Z .sized)) fit)
       ∙ ap (writeAll s (e .writes)) (laid-itself (nodeCount ws) s ws header-room)
     where
-      hat-low : (s : Side) → hatAt s < 8
+      hat-low : (s : Side) → hatAt s < headerLength
       hat-low left = omega arith
       hat-low right = omega arith

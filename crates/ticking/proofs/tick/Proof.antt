@@ -16,12 +16,12 @@ returns : tie.Need-returns
 returns c =
     let p = c .before .before .before .before in
     let a = p .args in
-    tick-refused (a .t .now) (c .before .table-refusal .ensures) (a .task) (a .hint) (c .if1 .taken)
+    tick-refused (a .table .now) (c .before .table-refusal .ensures) (a .task) (a .hint) (c .if1 .taken)
 
 tick-on-requires : tie.Need-tick-on-requires
 tick-on-requires c κs =
     let p = c .before .before .before .before .before in
-    passed (p .args .t .now) (c .before .before .table-refusal .ensures) (c .before .if1 .left)
+    passed (p .args .table .now) (c .before .before .table-refusal .ensures) (c .before .if1 .left)
 
 same-length-2 : tie.Need-same-length-2
 same-length-2 c = search needs
@@ -31,7 +31,7 @@ returns-2 c =
     let p = c .before .before .before .before .before .before .before .before in
     let a = p .args in
     c .before .before .tick-on .ensures
-    ∙ tick-goes-on (a .t .now) (c .before .before .before .before .before .table-refusal .ensures) (a .task)
+    ∙ tick-goes-on (a .table .now) (c .before .before .before .before .before .table-refusal .ensures) (a .task)
     (a .hint) (c .before .before .before .before .if1 .left)
 
 pub tick-spec : {M : Type 1} → statement M

@@ -5,7 +5,7 @@ use native.Mathlib.Omega.{arith}
 use lib.ListN.{length}
 use borrow.Author.Needs.{needs}
 use borrow.Author.Tests.{not-true, not-false}
-use Rattle.belt.specs.Forms.{tickLine}
+use Rattle.belt.specs.Forms.{tickCommand}
 use Rattle.belt.proofs.Laws.FormLaws.{tick-going, tick-done, no-tick-left}
 use Rattle.belt.proofs.forms.make_ticks.Statement.{statement}
 use Rattle.belt.proofs.forms.make_ticks.Tie as tie
@@ -14,7 +14,7 @@ abbrev Inv-loop : tie.InvT-loop
 Inv-loop t₀ task hint times made₀ t made =
     (made ≤ times)
     × (length t ≡ length t₀)
-    × (tickLine (times - made) t task hint ≡ tickLine times t₀ task hint)
+    × (tickCommand (times - made) t task hint ≡ tickCommand times t₀ task hint)
 
 abbrev μ-loop : tie.MeasureT-loop
 μ-loop t₀ task hint times made₀ t made = times - made
@@ -23,7 +23,7 @@ loop-holds : tie.Need-loop-holds Inv-loop μ-loop
 loop-holds c =
     let a = c .before .args in
     let e : a .times - 0 ≡ a .times = omega arith in
-    (omega arith, refl, ap (λ (n : ℕ). tickLine n (a .t .now) (a .task) (a .hint)) e)
+    (omega arith, refl, ap (λ (n : ℕ). tickCommand n (a .table .now) (a .task) (a .hint)) e)
 
 tick-requires : tie.Need-tick-requires Inv-loop μ-loop
 tick-requires c κs = search needs
@@ -31,25 +31,21 @@ tick-requires c κs = search needs
 is-going-requires : tie.Need-is-going-requires Inv-loop μ-loop
 is-going-requires c κs = search needs
 
-of-answer-requires : tie.Need-of-answer-requires Inv-loop μ-loop
-of-answer-requires c κs = search needs
-
 same-length : tie.Need-same-length Inv-loop μ-loop
 same-length c =
-    let ticked = c .before .before .before .before .before in
+    let ticked = c .before .before .before .before in
     ticked .tick .kept .0 ∙ ticked .before .before .before .loop .inv .1
 
 returns : tie.Need-returns Inv-loop μ-loop
 returns c =
-    let a = c .before .before .before .before .before .before .before .before .before .before .args in
-    let l = c .before .before .before .before .before .before .before .before .loop in
-    let done = c .before .before .before .before .before .tick in
-    let going = c .before .before .is-going in
+    let a = c .before .before .before .before .before .before .before .before .before .args in
+    let l = c .before .before .before .before .before .before .before .loop in
+    let done = c .before .before .before .before .tick in
+    let going = c .before .is-going in
     let e : suc (a .times - (l .made + 1)) ≡ a .times - l .made = omega arith in
-    tick-done (l .t) (a .task) (a .hint) (done .ensures)
-    (sym (going .ensures) ∙ not-true (going .result) (c .before .if1 .taken))
-    (c .of-answer .ensures) (a .times - (l .made + 1))
-    ∙ ap (λ (n : ℕ). tickLine n (l .t) (a .task) (a .hint)) e
+    tick-done (l .table) (a .task) (a .hint) (done .ensures)
+    (sym (going .ensures) ∙ not-true (going .result) (c .if1 .taken)) (a .times - (l .made + 1))
+    ∙ ap (λ (n : ℕ). tickCommand n (l .table) (a .task) (a .hint)) e
     ∙ l .inv .2
 
 add-made : tie.Need-add-made Inv-loop μ-loop
@@ -67,9 +63,9 @@ loop-again c =
     let e : suc (a .times - (l .made + 1)) ≡ a .times - l .made = omega arith in (
       omega arith,
       done .kept .0 ∙ l .inv .1,
-      sym (tick-going (l .t) (a .task) (a .hint) (done .ensures)
+      sym (tick-going (l .table) (a .task) (a .hint) (done .ensures)
           (sym (going .ensures) ∙ not-false (going .result) (c .if1 .left)) (a .times - (l .made + 1)))
-          ∙ ap (λ (n : ℕ). tickLine n (l .t) (a .task) (a .hint)) e
+          ∙ ap (λ (n : ℕ). tickCommand n (l .table) (a .task) (a .hint)) e
           ∙ l .inv .2,
     )
 
@@ -80,7 +76,7 @@ returns-2 : tie.Need-returns-2 Inv-loop μ-loop
 returns-2 c =
     let a = c .before .before .before .args in
     let l = c .before .loop in
-    no-tick-left (l .t) (a .task) (a .hint) (omega arith) ∙ l .inv .2
+    no-tick-left (l .table) (a .task) (a .hint) (omega arith) ∙ l .inv .2
 
 pub make-ticks-spec : {M : Type 1} → statement M
 make-ticks-spec =
@@ -91,7 +87,6 @@ make-ticks-spec =
     loop-holds
     tick-requires
     is-going-requires
-    of-answer-requires
     same-length
     returns
     add-made

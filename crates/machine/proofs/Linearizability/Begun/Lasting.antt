@@ -7,14 +7,16 @@ use mathlib.Core.List.{List, [], _∷_}
 use mathlib.Core.Option.{Option, some, none as nothing}
 use Prim.Native.Nat.{ℕ, zero, suc, _≤_}
 use borrow.Author.Tests.{leb-true}
+use Rattle.machine.specs.Values.{number}
 use Rattle.machine.specs.declared.Reply.the-variants.{Accepted}
+use Rattle.machine.specs.declared.Stored.{Stored}
 use Rattle.machine.specs.Sides.{Side, right, opposite, sideOf}
 use Rattle.machine.specs.Operations.{Operation, idle, operationOf}
 use Rattle.machine.specs.Tasks.{Task, fresh, none, goal}
 use Rattle.machine.specs.Table.{growth, task}
 use Rattle.machine.specs.Shape.{sizesOk}
 use Rattle.machine.specs.Allocate.{allocate}
-use Rattle.machine.specs.Lines.{Memory, seen, Effect, act}
+use Rattle.machine.specs.Lines.{Memory, act}
 use Rattle.machine.specs.Calls.{
   startRefusal,
   tickRefusal,
@@ -43,54 +45,46 @@ use Rattle.machine.specs.Begun.{Begun, by-start, by-call}
 use Rattle.machine.proofs.Basics.Contradiction.{clash}
 use Rattle.machine.proofs.Basics.Tests.{and-left, and-right, test-passed}
 use Rattle.machine.proofs.Basics.Updates.{update}
-use Rattle.machine.proofs.Words.Memories.{view, written}
-use Rattle.machine.proofs.Words.StartLaws.{startMemory, seen-start, task-start}
-use Rattle.machine.proofs.Words.EffectLaws.{view-seen}
+use Rattle.machine.proofs.Words.Memories.{View, viewed, viewAfter, seen-viewed}
+use Rattle.machine.proofs.Words.StartLaws.{startView, viewed-start, task-start}
 use Rattle.machine.proofs.Shape.TickKeeps.{tick-allowed}
 use Rattle.machine.proofs.SlotRule.FirstFree.{allocate-not-kept}
 use Rattle.machine.proofs.Linearizability.Model.Classes.{Class}
 use Rattle.machine.proofs.Linearizability.Model.Invariant.{Invariant, Roots}
+use Rattle.machine.proofs.Linearizability.Lines.InvariantTick.{effectIn}
 use Rattle.machine.proofs.Linearizability.Calls.Agreement.{Agrees}
 use Rattle.machine.proofs.Linearizability.Calls.MadeTicks.{
   well-linked,
   kept-roots,
   not-idle,
 }
-use Rattle.machine.proofs.Linearizability.Begun.TableAfter.{seen-after, tasks-after}
+use Rattle.machine.proofs.Linearizability.Begun.TableAfter.{viewed-after, tasks-after}
 use Rattle.machine.proofs.Linearizability.Begun.TableBegun.{by-begin}
 use Rattle.machine.proofs.Linearizability.Corollaries.{begun-agrees, tick-passes, tick-agrees, run-is-its-ticks}
 
--- The effect of the line of task k, with goal g and the node f to take, and the memory that it leaves.
-abbrev pub effectIn : Memory → (ts : ℕ → Task) → (k g f : ℕ) → Effect
-effectIn M ts k g f =
-    act (ts k .step) (ts k .side) (opposite (ts k .side)) (view (ts k .side) M) (ts k) g f
-
-abbrev pub memoryAfter : Memory → Side → Effect → Memory
-memoryAfter M s e = view s (written (e .writes) (view s M))
-
--- A fact about the memory and the tasks' records lasts.
-pub record Lasts (Fact : Memory → (ℕ → Task) → Type 0) : Type 0 where
-  pub at-start : {ts : ℕ → Task} → ((k : ℕ) → ts k ≡ fresh) → Fact startMemory ts
-  pub at-begin : {M : Memory} {ts : ℕ → Task} → Fact M ts → (k : ℕ) → ts k ≡ fresh
+-- A fact about the view and the tasks' records lasts.
+pub record Lasts (Fact : View → (ℕ → Task) → Type 0) : Type 0 where
+  pub at-start : {ts : ℕ → Task} → ((k : ℕ) → ts k ≡ fresh) → Fact startView ts
+  pub at-begin : {M : View} {ts : ℕ → Task} → Fact M ts → (k : ℕ) → ts k ≡ fresh
       → (op : Operation) (s : Side) (argument : ℕ)
       → Fact M (update ts k (begunTask op s argument))
-  pub at-tick : {M : Memory} {ts : ℕ → Task} {class : ℕ → Class} {bags : List ℕ} {held : ℕ → Bool} → Fact M ts
+  pub at-tick : {M : View} {ts : ℕ → Task} {class : ℕ → Class} {bags : List ℕ} {held : ℕ → Bool} → Fact M ts
       → Invariant M ts class bags
       → Roots held M ts
       → (k g f : ℕ)
       → ts k .operation ≢ idle
       → (f ≢ none → held f ≡ false)
-      → Fact (memoryAfter M (ts k .side) (effectIn M ts k g f)) (update ts k (effectIn M ts k g f .task))
+      → Fact (viewAfter (ts k .side) (effectIn M ts k g f .writes) M) (update ts k (effectIn M ts k g f .task))
 
-module _ {Fact : Memory → (ℕ → Task) → Type 0} (L : Lasts Fact) where
+module _ {Fact : View → (ℕ → Task) → Type 0} (L : Lasts Fact) where
   -- The fact of a table.
   abbrev Of : List ℕ → Type 0
-  Of ws = Fact (seen right ws) (task ws)
+  Of ws = Fact (viewed right ws) (task ws)
 
   start-has : (S T g : ℕ) → sizesOk S T g ≡ true → Of (startWords S T g)
   start-has S T g ok =
       let two : 2 ≤ S = leb-true 2 S (search (and-left, and-right)) in
-      subst (λ (m : Memory). Fact m (task (startWords S T g))) (sym (seen-start S T g two))
+      subst (λ (m : View). Fact m (task (startWords S T g))) (sym (viewed-start S T g two))
       (L .at-start (task-start S T g two))
 
   module _ {ws : List ℕ} {ρ : Row} (A : Agrees ws ρ) (F : Of ws) where
@@ -102,11 +96,11 @@ module _ {Fact : Memory → (ℕ → Task) → Type 0} (L : Lasts Fact) where
         go (some n) e = F
         go nothing e = start-has S T g (search test-passed)
 
-    begin-keeps : (k op side argument : ℕ) → Of (begin ws k op side argument .words)
+    begin-keeps : (k op side : ℕ) (argument : Stored) → Of (begin ws k op side argument .words)
     begin-keeps k op side argument =
         by-begin A k op side argument (λ c. Of (c .words)) (λ n. F) (λ vs T.
-        rw (T .seen-same right, T .tasks-then)
-        (L .at-begin F k (T .was-fresh) (operationOf op) (sideOf side) argument))
+        rw (T .viewed-same right, T .tasks-then)
+        (L .at-begin F k (T .was-fresh) (operationOf op) (sideOf side) (number argument)))
 
     made-keeps : (k h : ℕ) → tickRefusal ws k h ≡ nothing → Of (tickOn ws k h .words)
     unfolding effectOf
@@ -115,12 +109,12 @@ module _ {Fact : Memory → (ℕ → Task) → Type 0} (L : Lasts Fact) where
         let s = t .side in
         let g = goal (growth ws) t in
         let f = allocate ws h in
-        rw (seen-after A k h passes, tasks-after A k h passes)
+        rw (viewed-after A k h passes, tasks-after A k h passes)
         (subst
         (λ (m : Memory).
-        Fact (memoryAfter (seen right ws) s (act (t .step) s (opposite s) m t g f))
+        Fact (viewAfter s (act (t .step) s (opposite s) m t g f .writes) (viewed right ws))
         (update (task ws) k (act (t .step) s (opposite s) m t g f .task)))
-        (view-seen s ws)
+        (seen-viewed s ws)
         (L .at-tick F (A .invariant) (kept-roots (A .accepted)) k g f
         (not-idle (t .operation) (tick-allowed ws k h passes .2))
         (allocate-not-kept (well-linked (A .accepted)) (tick-allowed ws k h passes .1))))
@@ -153,7 +147,7 @@ module _ {Fact : Memory → (ℕ → Task) → Type 0} (L : Lasts Fact) where
       subst Of (run-is-its-ticks ws list answers) (ticks-keep (run ws list answers .ran .made) list ws ρ A F)
   call-keeps A F (read-call out) = F
 
-  pub begun-has : {ws : List ℕ} → Begun ws → Fact (seen right ws) (task ws)
+  pub begun-has : {ws : List ℕ} → Begun ws → Fact (viewed right ws) (task ws)
   unfolding start
   begun-has (by-start S T g old accepted) = go (startRefusal old S T g) refl accepted
     where

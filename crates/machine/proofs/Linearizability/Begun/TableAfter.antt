@@ -1,4 +1,4 @@
--- The table after a tick that was made: its sizes, its memory and its records.
+-- The table after a tick that was made: its sizes, its view and its records.
 use mathlib.Core.Path.{_≡_, sym, ap, _∙_, subst}
 use mathlib.Core.Logic.{_≢_}
 use mathlib.Core.Bool.{true}
@@ -8,16 +8,14 @@ use Prim.Native.Nat.{ℕ}
 use Rattle.machine.specs.Sides.{Side, right}
 use Rattle.machine.specs.Tasks.{Task}
 use Rattle.machine.specs.Table.{nodeCount, taskCount, growth, task}
-use Rattle.machine.specs.Lines.{Memory, seen}
 use Rattle.machine.specs.Calls.{isBusy, tickRefusal, effectOf, tickOn}
 use Rattle.machine.specs.Row.{Row, Note}
 use Rattle.machine.proofs.Basics.Updates.{update, update-same, update-other}
-use Rattle.machine.proofs.Words.Memories.{view, view-view, written}
-use Rattle.machine.proofs.Words.Columns.{columns}
-use Rattle.machine.proofs.Words.EffectLaws.{view-seen}
+use Rattle.machine.proofs.Words.Memories.{View, viewed, written, view, view-view, view-viewed}
+use Rattle.machine.proofs.Words.Columns.{sizesOf, columns}
 use Rattle.machine.proofs.Shape.ShapeLaws.{WellSized, WellShaped, well-sized, well-shaped}
 use Rattle.machine.proofs.Shape.TickKeeps.{tick-allowed, tick-kept}
-use Rattle.machine.proofs.Words.TickLaws.{tick-seen, tick-task}
+use Rattle.machine.proofs.Words.TickLaws.{tick-viewed, tick-task}
 use Rattle.machine.proofs.Linearizability.Model.Invariant.{noteOf}
 use Rattle.machine.proofs.Linearizability.Calls.Agreement.{Agrees}
 use Rattle.machine.proofs.Linearizability.Calls.MadeTicks.{effect-made}
@@ -26,31 +24,31 @@ module _ {ws : List ℕ} {ρ : Row} (A : Agrees ws ρ) (k h : ℕ) (passes : tic
   abbrev after : List ℕ
   after = tickOn ws k h .words
 
-  -- The memory that the line leaves, seen from the task's side and from the right.
-  abbrev pub lineLeaves : Memory
-  lineLeaves = written (effectOf ws k h .writes) (view (task ws k .side) (seen right ws))
+  -- The view that the line leaves, from the task's side and from the right.
+  abbrev pub lineLeaves : View
+  lineLeaves = written (task ws k .side) (effectOf ws k h .writes) (view (task ws k .side) (viewed right ws))
 
-  abbrev pub tickLeaves : Memory
+  abbrev pub tickLeaves : View
   tickLeaves = view (task ws k .side) lineLeaves
 
-  sizes : WellSized (columns ws)
+  sizes : WellSized (sizesOf ws)
   sizes = well-sized ws (A .accepted .length-passes)
 
   shape : WellShaped (columns ws)
   shape = well-shaped ws (A .accepted .shape-passes)
 
-  pub seen-after : seen right after ≡ tickLeaves
-  seen-after = tick-seen ws k h passes sizes shape (effect-made A k h passes)
+  pub viewed-after : viewed right after ≡ tickLeaves
+  viewed-after = tick-viewed ws k h passes sizes shape (effect-made A k h passes)
 
   -- As the task saw it, so its side sees it now.
-  pub own-seen : seen (task ws k .side) after
-      ≡ written (effectOf ws k h .writes) (seen (task ws k .side) ws)
-  own-seen =
+  pub own-viewed : viewed (task ws k .side) after
+      ≡ written (task ws k .side) (effectOf ws k h .writes) (viewed (task ws k .side) ws)
+  own-viewed =
       let s = task ws k .side in
-      sym (view-seen s after)
-      ∙ ap (view s) seen-after
+      sym (view-viewed s after)
+      ∙ ap (view s) viewed-after
       ∙ view-view s lineLeaves
-      ∙ ap (written (effectOf ws k h .writes)) (view-seen s ws)
+      ∙ ap (written s (effectOf ws k h .writes)) (view-viewed s ws)
 
   pub tasks-after : task after ≡ update (task ws) k (effectOf ws k h .task)
   tasks-after = tick-task ws k h passes sizes shape (effect-made A k h passes)
@@ -63,27 +61,27 @@ module _ {ws : List ℕ} {ρ : Row} (A : Agrees ws ρ) (k h : ℕ) (passes : tic
       ap (λ (f : ℕ → Task). f j) tasks-after ∙ update-other (task ws) k (effectOf ws k h .task) j ne
 
   pub nodes-after : nodeCount after ≡ nodeCount ws
-  nodes-after = tick-kept ws sizes shape k h .same-sizes .1
+  nodes-after = ap (λ z. z .nodeCount) (tick-kept ws sizes shape k h .same-sizes)
 
   pub task-count-after : taskCount after ≡ taskCount ws
-  task-count-after = tick-kept ws sizes shape k h .same-sizes .2
+  task-count-after = ap (λ z. z .taskCount) (tick-kept ws sizes shape k h .same-sizes)
 
   growth-after : growth after ≡ growth ws
-  growth-after = tick-kept ws sizes shape k h .same-sizes .3
+  growth-after = ap (λ z. z .growth) (tick-kept ws sizes shape k h .same-sizes)
 
-  -- What is said of the sizes, of the memory that the tick leaves and of a record is true of the table afterwards.
-  pub in-after : (Fact : (S T gr : ℕ) → Memory → Task → Type 0) (j : ℕ) {t : Task} → task after j ≡ t
+  -- What is said of the sizes, of the view that the tick leaves and of a record is true of the table afterwards.
+  pub in-after : (Fact : (S T gr : ℕ) → View → Task → Type 0) (j : ℕ) {t : Task} → task after j ≡ t
       → Fact (nodeCount ws) (taskCount ws) (growth ws) tickLeaves t
-      → Fact (nodeCount after) (taskCount after) (growth after) (seen right after) (task after j)
+      → Fact (nodeCount after) (taskCount after) (growth after) (viewed right after) (task after j)
   in-after Fact j {t} q b =
-      subst (λ (x : Task). Fact (nodeCount after) (taskCount after) (growth after) (seen right after) x) (sym q)
-      (subst (λ (m : Memory). Fact (nodeCount after) (taskCount after) (growth after) m t) (sym seen-after)
+      subst (λ (x : Task). Fact (nodeCount after) (taskCount after) (growth after) (viewed right after) x) (sym q)
+      (subst (λ (m : View). Fact (nodeCount after) (taskCount after) (growth after) m t) (sym viewed-after)
       (subst (λ (S : ℕ). Fact S (taskCount after) (growth after) tickLeaves t) (sym nodes-after)
       (subst (λ (T : ℕ). Fact (nodeCount ws) T (growth after) tickLeaves t) (sym task-count-after)
       (subst (λ (gr : ℕ). Fact (nodeCount ws) (taskCount ws) gr tickLeaves t) (sym growth-after) b))))
 
-  -- A task that goes on sees from its side the memory that its line left.
-  pub own-side : (Fact : Side → Memory → Type 0)
+  -- A task that goes on has from its side the view that its line left.
+  pub own-side : (Fact : Side → View → Type 0)
       → noteOf (effectOf ws k h .task) ≡ noteOf (task ws k)
       → Fact (task ws k .side) lineLeaves
       → Fact (effectOf ws k h .task .side) (view (effectOf ws k h .task .side) tickLeaves)
@@ -91,7 +89,7 @@ module _ {ws : List ℕ} {ρ : Row} (A : Agrees ws ρ) (k h : ℕ) (passes : tic
       let s = task ws k .side in
       let side-same : effectOf ws k h .task .side ≡ s = ap (λ (n : Note). n .side) same in
       subst (λ (z : Side). Fact z (view z tickLeaves)) (sym side-same)
-      (subst (λ (m : Memory). Fact s m) (sym (view-view s lineLeaves)) b)
+      (subst (λ (m : View). Fact s m) (sym (view-view s lineLeaves)) b)
 
   -- It is busy as before.
   pub own-busy : noteOf (effectOf ws k h .task) ≡ noteOf (task ws k) → isBusy (task after k .operation) ≡ true

@@ -1,21 +1,23 @@
 -- The table after a begin: as it was where the begin is refused, and with one record written where it is accepted.
-use mathlib.Core.Path.{_≡_, refl}
+use mathlib.Core.Path.{_≡_, refl, ap}
 use mathlib.Core.List.{List}
 use mathlib.Core.Option.{Option, some, none as nothing}
 use Prim.Native.Nat.{ℕ, _<_}
+use Rattle.machine.specs.Values.{number}
 use Rattle.machine.specs.declared.Reply.the-variants.{Accepted, Refused as Reply-Refused}
+use Rattle.machine.specs.declared.Stored.{Stored}
 use Rattle.machine.specs.Sides.{Side, sideOf}
 use Rattle.machine.specs.Operations.{operationOf}
 use Rattle.machine.specs.Tasks.{Task, fresh}
 use Rattle.machine.specs.Table.{nodeCount, taskCount, growth, task, setTask}
-use Rattle.machine.specs.Lines.{seen}
 use Rattle.machine.specs.Calls.{beginRefusal, Changed, changed, begunTask, begin}
 use Rattle.machine.specs.Row.{Row}
 use Rattle.machine.proofs.Basics.Contradiction.{clash}
 use Rattle.machine.proofs.Words.ValueLaws.{never-has-word}
 use Rattle.machine.proofs.Basics.Updates.{update}
-use Rattle.machine.proofs.Words.Columns.{columns}
-use Rattle.machine.proofs.Words.EffectLaws.{seen-set-task, task-set-task}
+use Rattle.machine.proofs.Words.Memories.{viewed}
+use Rattle.machine.proofs.Words.Columns.{sizesOf, columns}
+use Rattle.machine.proofs.Words.EffectLaws.{viewed-set-task, task-set-task}
 use Rattle.machine.proofs.Shape.ShapeLaws.{WellSized, WellShaped, well-sized, well-shaped}
 use Rattle.machine.proofs.Shape.ShapeKept.{begin-allowed, begin-kept}
 use Rattle.machine.proofs.Shape.TickKeeps.{Kept, idle-fresh}
@@ -26,17 +28,17 @@ use Rattle.machine.proofs.Linearizability.Calls.CallsAgree.{idle-operat
 pub record BegunTable (ws vs : List ℕ) (k : ℕ) (t : Task) : Type 0 where
   pub is-task : k < taskCount ws
   pub was-fresh : task ws k ≡ fresh
-  pub seen-same : (s : Side) → seen s vs ≡ seen s ws
+  pub viewed-same : (s : Side) → viewed s vs ≡ viewed s ws
   pub tasks-then : task vs ≡ update (task ws) k t
   pub same-nodes : nodeCount vs ≡ nodeCount ws
   pub same-count : taskCount vs ≡ taskCount ws
   pub same-growth : growth vs ≡ growth ws
 
-module _ {ws : List ℕ} {ρ : Row} (A : Agrees ws ρ) (k op side argument : ℕ) where
+module _ {ws : List ℕ} {ρ : Row} (A : Agrees ws ρ) (k op side : ℕ) (argument : Stored) where
   abbrev t : Task
-  t = begunTask (operationOf op) (sideOf side) argument
+  t = begunTask (operationOf op) (sideOf side) (number argument)
 
-  sizes : WellSized (columns ws)
+  sizes : WellSized (sizesOf ws)
   sizes = well-sized ws (A .accepted .length-passes)
 
   shape : WellShaped (columns ws)
@@ -60,11 +62,11 @@ module _ {ws : List ℕ} {ρ : Row} (A : Agrees ws ρ) (k op side argument : ℕ
           (record {
             is-task = B .is-task;
             was-fresh = idle-fresh ws shape k (idle-operation (task ws k .operation) (B .was-idle));
-            seen-same = λ s. seen-set-task ws (sizes .sized) k (B .is-task) t s;
+            viewed-same = λ s. viewed-set-task ws (sizes .sized) k (B .is-task) t s;
             tasks-then = task-set-task ws (sizes .sized) k (B .is-task) t never-has-word;
-            same-nodes = K .same-sizes .1;
-            same-count = K .same-sizes .2;
-            same-growth = K .same-sizes .3;
+            same-nodes = ap (λ z. z .nodeCount) (K .same-sizes);
+            same-count = ap (λ z. z .taskCount) (K .same-sizes);
+            same-growth = ap (λ z. z .growth) (K .same-sizes);
           })
 
   pub accepted-begin : begin ws k op side argument .reply ≡ Accepted

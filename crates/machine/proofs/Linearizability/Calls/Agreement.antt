@@ -3,15 +3,15 @@ use mathlib.Core.Path.{_≡_}
 use mathlib.Core.List.{List}
 use mathlib.Core.Option.{Option, some, none as nothing}
 use Prim.Native.Nat.{ℕ}
+use Rattle.machine.specs.Shape.{WellFormed}
 use Rattle.machine.specs.Sides.{right}
 use Rattle.machine.specs.Operations.{Operation, idle, push, pop, add, remove}
 use Rattle.machine.specs.Tasks.{Task}
 use Rattle.machine.specs.Table.{task}
-use Rattle.machine.specs.Lines.{seen}
 use Rattle.machine.specs.Calls.{lane}
 use Rattle.machine.specs.Row.{Note, Row}
 use Rattle.machine.specs.Demand3.{LaneIs}
-use Rattle.machine.proofs.Shape.ShapeKept.{Accepted}
+use Rattle.machine.proofs.Words.Memories.{viewed}
 use Rattle.machine.proofs.Linearizability.Model.Classes.{Class}
 use Rattle.machine.proofs.Linearizability.Model.Invariant.{Invariant, noteOf}
 use Rattle.machine.proofs.Linearizability.Calls.Reading.{lane-row}
@@ -28,9 +28,9 @@ abbrev pub noteIn : Task → Option Note
 noteIn t = noteUnder (t .operation) (noteOf t)
 
 pub record Agrees (ws : List ℕ) (ρ : Row) : Type 0 where
-  pub accepted : Accepted ws
+  pub accepted : WellFormed ws
   pub class : ℕ → Class
-  pub invariant : Invariant (seen right ws) (task ws) class (ρ .bags)
+  pub invariant : Invariant (viewed right ws) (task ws) class (ρ .bags)
   pub notes : (k : ℕ) → ρ .notes k ≡ noteIn (task ws k)
 
 pub lane-is-row : {ws : List ℕ} {ρ : Row} → Agrees ws ρ → LaneIs ws ρ

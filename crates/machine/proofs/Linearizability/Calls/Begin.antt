@@ -7,11 +7,10 @@ use Rattle.machine.specs.Sides.{Side}
 use Rattle.machine.specs.Operations.{Operation, idle, push, pop, add, remove}
 use Rattle.machine.specs.Steps.{firstStep}
 use Rattle.machine.specs.Tasks.{Task}
-use Rattle.machine.specs.Lines.{Memory}
 use Rattle.machine.specs.Calls.{begunTask}
 use Rattle.machine.proofs.Basics.Contradiction.{clash}
 use Rattle.machine.proofs.Basics.Updates.{update, update-wrote, wrote-all}
-use Rattle.machine.proofs.Words.Memories.{view}
+use Rattle.machine.proofs.Words.Memories.{View, view}
 use Rattle.machine.proofs.Linearizability.Model.Classes.{Class, new}
 use Rattle.machine.proofs.Linearizability.Model.Phases.{
   Phase,
@@ -30,7 +29,7 @@ use Rattle.machine.proofs.Linearizability.Model.Phases.{
 use Rattle.machine.proofs.Linearizability.Model.Invariant.{TaskOkIn, Invariant}
 
 -- An idle task is resting, so it has no chain.
-idle-none-new : (p : Phase) {k : ℕ} (s : Side) (m : Memory) (class : ℕ → Class) (t : Task)
+idle-none-new : (p : Phase) {k : ℕ} (s : Side) (m : View) (class : ℕ → Class) (t : Task)
     → t .operation ≡ idle
     → Belongs p (t .operation)
     → Chains p k s m class t
@@ -44,7 +43,7 @@ idle-none-new unspurring s m class t e b c = elim b [ inl q ↦ clash (cc) | inr
 idle-none-new popping s m class t e b c = clash (cc)
 idle-none-new removing s m class t e b c = clash (cc)
 
-begun-ok : {k : ℕ} {s o : Side} {m : Memory} {class : ℕ → Class}
+begun-ok : {k : ℕ} {s o : Side} {m : View} {class : ℕ → Class}
     → ((x : ℕ) → class x ≢ new k)
     → (op : Operation) (z : Side) (v : ℕ)
     → TaskOk k s o m class (firstStep op) (begunTask op z v)
@@ -54,7 +53,7 @@ begun-ok h pop z v = record { relies = tt; chain = record { none-new = h; no-hea
 begun-ok h add z v = record { relies = tt; chain = record { none-new = h; no-head = refl }; belongs = inr refl }
 begun-ok h remove z v = record { relies = tt; chain = record { none-new = h; no-head = refl }; belongs = refl }
 
-pub invariant-begin : {M : Memory} {ts : ℕ → Task} {class : ℕ → Class} {r : List ℕ}
+pub invariant-begin : {M : View} {ts : ℕ → Task} {class : ℕ → Class} {r : List ℕ}
     → Invariant M ts class r
     → (k : ℕ)
     → ts k .operation ≡ idle

@@ -10,12 +10,14 @@ use lib.Dec.{leb}
 use lib.ListN.{length, drop}
 use lib.Seq.{take-append-seam}
 use borrow.Author.Tests.{eq-eqb, leb-false, lt-ltb, leb-true}
+use Rattle.machine.specs.Values.{number}
+use Rattle.machine.specs.declared.Stored.{Stored}
 use Rattle.machine.specs.Choice.{_≟_}
 use Rattle.machine.specs.Sides.{right, sideOf}
 use Rattle.machine.specs.Operations.{Operation, idle, push, pop, add, remove, operationOf}
 use Rattle.machine.specs.Tasks.{Task}
 use Rattle.machine.specs.Table.{task, setTask}
-use Rattle.machine.specs.Shape.{sizesOk, sameWords}
+use Rattle.machine.specs.Shape.{sizesOk, sameWords, WellFormed}
 use Rattle.machine.specs.Calls.{
   isIdle,
   startRefusal,
@@ -54,16 +56,10 @@ use Rattle.machine.proofs.Basics.Choices.{by-if}
 use Rattle.machine.proofs.Basics.Tests.{and-left, and-right, test-passed}
 use Rattle.machine.proofs.Basics.Updates.{update, update-same, update-other}
 use Rattle.machine.proofs.Words.ValueLaws.{never-has-word}
-use Rattle.machine.proofs.Words.StartLaws.{seen-start, task-start}
-use Rattle.machine.proofs.Words.EffectLaws.{seen-set-task, task-set-task}
+use Rattle.machine.proofs.Words.StartLaws.{viewed-start, task-start}
+use Rattle.machine.proofs.Words.EffectLaws.{viewed-set-task, task-set-task}
 use Rattle.machine.proofs.Shape.ShapeLaws.{well-sized}
-use Rattle.machine.proofs.Shape.ShapeKept.{
-  Accepted,
-  start-accepted,
-  begin-allowed,
-  table-passes,
-  call-accepted,
-}
+use Rattle.machine.proofs.Shape.ShapeKept.{start-accepted, begin-allowed, table-passes, call-accepted}
 use Rattle.machine.proofs.Linearizability.Calls.Start.{startClass, invariant-start}
 use Rattle.machine.proofs.Linearizability.Calls.Begin.{invariant-begin}
 use Rattle.machine.proofs.Linearizability.Calls.Agreement.{noteIn, noteUnder, Agrees, lane-is-row}
@@ -95,7 +91,7 @@ start-agrees S T g ok =
       accepted = start-accepted S T g ok;
       class = startClass;
       invariant =
-          rw (seen-start S T g two)
+          rw (viewed-start S T g two)
           (invariant-start
           (record {
             out-0 = refl;
@@ -104,8 +100,8 @@ start-agrees S T g ok =
             inn-1 = refl;
             val-0 = refl;
             val-1 = refl;
-            hat-1 = refl;
-            far-0 = refl;
+            hat-left = refl;
+            hat-right = refl;
           })
           (task-start S T g two));
       notes = λ k. ap noteIn (sym (task-start S T g two k));
@@ -139,7 +135,7 @@ module _ {ws : List ℕ} {ρ : Row} (A : Agrees ws ρ) where
       by-if (λ op. noteUnder op m ≡ some m) (n ≟ 2) (λ _. refl) (λ _.
       by-if (λ op. noteUnder op m ≡ some m) (n ≟ 3) (λ _. refl) (λ _. refl))))
 
-  pub begin-explained : (k op side argument : ℕ) → Explains ws ρ (begin-call k op side argument)
+  pub begin-explained : (k op side : ℕ) (argument : Stored) → Explains ws ρ (begin-call k op side argument)
   unfolding begin
   begin-explained k op side argument =
       explains
@@ -147,10 +143,10 @@ module _ {ws : List ℕ} {ρ : Row} (A : Agrees ws ρ) where
       (call-accepted ws (A .accepted) (begin-call k op side argument)))
     where
       t : Task
-      t = begunTask (operationOf op) (sideOf side) argument
+      t = begunTask (operationOf op) (sideOf side) (number argument)
 
       n : Note
-      n = record { operation = operationOf op; side = sideOf side; argument = argument }
+      n = record { operation = operationOf op; side = sideOf side; argument = number argument }
 
       Result : Changed → Type 0
       Result c = (ρ′ : Row) × (feedBegin ρ k n (c .reply) ≡ some ρ′) × Agrees (c .words) ρ′
@@ -166,13 +162,13 @@ module _ {ws : List ℕ} {ρ : Row} (A : Agrees ws ρ) where
       go :
           (r : Option ℕ)
           → beginRefusal ws k op side argument ≡ r
-          → Accepted (changed r ws (setTask k t ws) .words)
+          → WellFormed (changed r ws (setTask k t ws) .words)
           → Result (changed r ws (setTask k t ws))
       go (some m) e ok = (ρ, refl, A)
       go nothing e ok =
           let B = begin-allowed ws k op side argument e in
           let Z = well-sized ws (A .accepted .length-passes) in
-          let seen-after = seen-set-task ws (Z .sized) k (B .is-task) t right in
+          let viewed-after = viewed-set-task ws (Z .sized) k (B .is-task) t right in
           let task-after = task-set-task ws (Z .sized) k (B .is-task) t never-has-word in (
             noted ρ k (some n),
             refl,
@@ -180,9 +176,9 @@ module _ {ws : List ℕ} {ρ : Row} (A : Agrees ws ρ) where
               accepted = ok;
               class = A .class;
               invariant =
-                  rw (seen-after, task-after)
+                  rw (viewed-after, task-after)
                   (invariant-begin (A .invariant) k (idle-operation (task ws k .operation) (B .was-idle))
-                  (operationOf op) (sideOf side) argument);
+                  (operationOf op) (sideOf side) (number argument));
               notes = λ j. rw task-after (notes-after (B .some-operation) j);
             },
           )

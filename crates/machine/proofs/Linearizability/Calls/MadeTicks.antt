@@ -5,6 +5,7 @@ use mathlib.Core.List.{List}
 use mathlib.Core.Logic.{_≢_}
 use mathlib.Core.Option.{Option, some, none as nothing, bind}
 use Prim.Native.Nat.{ℕ, _<_}
+use Rattle.machine.specs.Shape.{WellFormed}
 use Rattle.machine.specs.declared.Answer.{Answer}
 use Rattle.machine.specs.declared.Answer.the-variants.{Going, Pushed, Bag, Empty, Full, Yes, No, Refused}
 use Rattle.machine.specs.Choice.{_≟_, if_then_else_}
@@ -13,20 +14,19 @@ use Rattle.machine.specs.Operations.{Operation, idle, push, pop, add, re
 use Rattle.machine.specs.Tasks.{Task, fresh, none, goal, Register, register, inA, inB, inC, inD}
 use Rattle.machine.specs.Table.{nodeCount, taskCount, growth, task}
 use Rattle.machine.specs.Allocate.{allocate}
-use Rattle.machine.specs.Lines.{Memory, seen, act}
+use Rattle.machine.specs.Lines.{Memory, act}
 use Rattle.machine.specs.Answers.{refusalOf}
 use Rattle.machine.specs.Calls.{isBusy, tickRefusal, effectOf, tickOn}
 use Rattle.machine.specs.Row.{Note, Row, noted, answered, isGoing, feedMade}
 use Rattle.machine.proofs.Basics.Contradiction.{clash, refute}
 use Rattle.machine.proofs.Basics.Choices.{by-if}
 use Rattle.machine.proofs.Basics.Updates.{update, update-same, update-other}
-use Rattle.machine.proofs.Words.Columns.{columns}
-use Rattle.machine.proofs.Words.EffectLaws.{view-seen}
+use Rattle.machine.proofs.Words.Memories.{viewed, seen-viewed}
+use Rattle.machine.proofs.Words.Columns.{sizesOf, columns}
 use Rattle.machine.proofs.Shape.BusyLaws.{NodeOrNone}
 use Rattle.machine.proofs.Shape.ShapeLaws.{WellSized, WellShaped, well-sized, well-shaped, length-ok, shape-ok}
 use Rattle.machine.proofs.Shape.TickKeeps.{busy-facts, idle-fresh, tick-allowed, tick-kept}
-use Rattle.machine.proofs.Words.TickLaws.{tick-answer, tick-seen, tick-task}
-use Rattle.machine.proofs.Shape.ShapeKept.{Accepted}
+use Rattle.machine.proofs.Words.TickLaws.{tick-answer, tick-viewed, tick-task}
 use Rattle.machine.proofs.SlotRule.Reached.{
   WellLinked,
   keeps,
@@ -42,8 +42,8 @@ use Rattle.machine.proofs.Linearizability.Calls.RowSteps.{given-by-row,
 use Rattle.machine.proofs.Linearizability.Model.RowViews.{rowFrom}
 
 -- ---- An accepted table, by its views.
-module _ {ws : List ℕ} (A : Accepted ws) where
-  sizes : WellSized (columns ws)
+module _ {ws : List ℕ} (A : WellFormed ws) where
+  sizes : WellSized (sizesOf ws)
   sizes = well-sized ws (A .length-passes)
 
   shape : WellShaped (columns ws)
@@ -82,14 +82,12 @@ module _ {ws : List ℕ} (A : Accepted ws) where
       }
 
   -- What the marking keeps is closed under links and holds the hats and the registers that hold.
-  pub kept-roots : Roots (keeps ws) (seen right ws) (task ws)
+  pub kept-roots : Roots (keeps ws) (viewed right ws) (task ws)
   kept-roots =
       let W = well-linked in
       record {
-        out-closed = keeps-link W right;
-        inn-closed = keeps-link W left;
-        hat-held = keeps-hat W right;
-        far-held = keeps-hat W left;
+        closed =
+            record { out-closed = keeps-link W right; inn-closed = keeps-link W left; hats-held = keeps-hat W };
         registers = keeps-register W;
       }
 
@@ -144,15 +142,15 @@ module _ {ws : List ℕ} {ρ : Row} (A : Agrees ws ρ) (k h : ℕ) (passes : tic
   is-busy : isBusy (task ws k .operation) ≡ true
   is-busy = tick-allowed ws k h passes .2
 
-  pub keeps-invariant : TickKeeps (seen right ws) (task ws) (ρ .bags) k (effectOf ws k h)
+  pub keeps-invariant : TickKeeps (viewed right ws) (task ws) (ρ .bags) k (effectOf ws k h)
   unfolding effectOf
   keeps-invariant =
       let s = task ws k .side in
       subst
       (λ (m : Memory).
-      TickKeeps (seen right ws) (task ws) (ρ .bags) k
+      TickKeeps (viewed right ws) (task ws) (ρ .bags) k
       (act (task ws k .step) s (opposite s) m (task ws k) (goal (growth ws) (task ws k)) (allocate ws h)))
-      (view-seen s ws)
+      (seen-viewed s ws)
       (invariant-tick (A .invariant) (kept-roots (A .accepted)) k (goal (growth ws) (task ws k)) (allocate ws h)
       (not-idle (task ws k .operation) is-busy)
       (allocate-not-kept (well-linked (A .accepted)) is-hint))
@@ -175,7 +173,7 @@ module _ {ws : List ℕ} {ρ : Row} (A : Agrees ws ρ) (k h : ℕ) (passes : tic
       let W = shape (A .accepted) in
       let K = tick-kept ws Z W k h in
       let e = effectOf ws k h in
-      let seen-after = tick-seen ws k h passes Z W effect-made in
+      let viewed-after = tick-viewed ws k h passes Z W effect-made in
       let task-after = tick-task ws k h passes Z W effect-made in
       record {
         accepted =
@@ -185,7 +183,7 @@ module _ {ws : List ℕ} {ρ : Row} (A : Agrees ws ρ) (k h : ℕ) (passes : tic
             };
         class = keeps-invariant .class';
         invariant =
-            rw (seen-after, task-after, same-bags) (keeps-invariant .invariant);
+            rw (viewed-after, task-after, same-bags) (keeps-invariant .invariant);
         notes = λ j. rw task-after (same-notes j);
       }
 
@@ -224,7 +222,7 @@ module _ {ws : List ℕ} {ρ : Row} (A : Agrees ws ρ) (k h : ℕ) (passes : tic
   pub made-tick : MadeTick ws ρ k h
   made-tick = go (keeps-invariant .kept)
     where
-      T : TickKeeps (seen right ws) (task ws) (ρ .bags) k (effectOf ws k h)
+      T : TickKeeps (viewed right ws) (task ws) (ρ .bags) k (effectOf ws k h)
       T = keeps-invariant
 
       s : Side

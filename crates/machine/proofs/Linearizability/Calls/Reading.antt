@@ -8,13 +8,15 @@ use Prim.Native.Nat.{ℕ, suc, zero, _+_, _-_, _≤_, _<_}
 use native.Mathlib.Omega.{arith}
 use Rattle.machine.specs.Choice.{_≟_, _<?_}
 use Rattle.machine.specs.Sides.{Side, left, right}
-use Rattle.machine.specs.Values.{Value, never, bag, N, X, Y, decode}
+use Rattle.machine.specs.Values.{Value, never, bag, N, X, Y, encode, decode}
 use Rattle.machine.specs.Tasks.{none}
-use Rattle.machine.specs.Table.{nodeCount, hat, link, valueWord, value}
-use Rattle.machine.specs.Lines.{Memory, seen}
+use Rattle.machine.specs.Table.{nodeCount, hat, link, valueWords, value}
 use Rattle.machine.specs.Calls.{laneFrom, lane}
+use Rattle.machine.proofs.Words.ValueLaws.{never-has-word}
 use Rattle.machine.proofs.Basics.Contradiction.{clash, less?}
 use Rattle.machine.proofs.Basics.Choices.{if-no, if-yes}
+use Rattle.machine.proofs.Words.Memories.{View, viewed}
+use Rattle.machine.proofs.Linearizability.Model.Structure.{Frame}
 use Rattle.machine.proofs.Linearizability.Model.Classes.{Class, main, of, owner}
 use Rattle.machine.proofs.Linearizability.Model.Nodes.{main-not-never, at-some}
 use Rattle.machine.proofs.Linearizability.Model.Segments.{segment, segment-length}
@@ -26,51 +28,53 @@ pub data Reads (out : ℕ → ℕ) (val : ℕ → Value) : (x : ℕ) → List �
   at-mark : {x : ℕ} (z : Side) → x ≢ none → owner (val x) ≡ of z → Reads out val x []
   at-bag : {x : ℕ} {l : List ℕ} (b : ℕ) → x ≢ none → val x ≡ bag b → Reads out val (out x) l → Reads out val x (b ∷ l)
 
-module _ {s o : Side} {m : Memory} {class : ℕ → Class} {r : List ℕ} (L : Lane s o m class r) where
-  reads-from : (d i : ℕ) → L .a < i → i + d ≡ L .b → Reads (m .out) (m .val) (L .at i) (segment (L .bags) i d)
+module _ {s o : Side} {m : View} {class : ℕ → Class} {r : List ℕ} (L : Lane s o m class r) where
+  open Frame (L .frame) using (at, n, a, b, bags)
+
+  reads-from : (d i : ℕ) → a < i → i + d ≡ b → Reads (m .out) (m .val) (at i) (segment bags i d)
   unfolding segment
   reads-from zero i h e =
       let S = L .structure in
-      let i≤n : i ≤ L .n = omega (arith, S .b≤n) in
+      let i≤n : i ≤ n = omega (arith, S .b≤n) in
       at-mark s (at-some (L .structure) i i≤n)
-      (elim (less? i (L .n)) [
+      (elim (less? i n) [
         | inl q ↦ cc (S .values .N-near i (omega arith) q)
-        | inr q ↦ let z : i ≡ L .n = omega arith in cc (S .values .X-last)
+        | inr q ↦ let z : i ≡ n = omega arith in cc (S .values .X-last)
       ])
   reads-from (suc d) i h e =
       let S = L .structure in
-      let i<n : i < L .n = omega (arith, S .b≤n) in
+      let i<n : i < n = omega (arith, S .b≤n) in
       let v = S .values .bag-between i h (omega arith) in
-      at-bag {l = segment (L .bags) (suc i) d} (L .bags i) (at-some (L .structure) i (omega arith)) v
+      at-bag {l = segment bags (suc i) d} (bags i) (at-some (L .structure) i (omega arith)) v
       (rw (S .links .links-out i i<n) (reads-from d (suc i) (omega arith) (omega arith)))
 
   -- The far hat leads to the first place after index a.
-  first-place : m .out (m .far) ≡ L .at (suc (L .a))
+  first-place : m .out (m .hats o) ≡ at (suc a)
   first-place =
       let S = L .structure in
       elim (S .far-hat) [
-        | inl q ↦ cc (S .links .links-out (L .a) (omega (arith, S .a<b, S .b≤n)))
+        | inl q ↦ cc (S .links .links-out a (omega (arith, S .a<b, S .b≤n)))
         | inr y ↦ y .leads-back
       ]
 
-  pub reads-row : Reads (m .out) (m .val) (m .out (m .far)) r
+  pub reads-row : Reads (m .out) (m .val) (m .out (m .hats o)) r
   reads-row =
       rw (first-place, ← L .row-is)
-      (reads-from (L .b - suc (L .a)) (suc (L .a)) (omega arith) (omega (arith, L .structure .a<b)))
+      (reads-from (b - suc a) (suc a) (omega arith) (omega (arith, L .structure .a<b)))
 
   -- The nodes of main are no more than the numbers that bound them.
-  pub main-size : (S : ℕ) → ((x : ℕ) → class x ≡ main → x < S) → suc (L .n) ≤ S
+  pub main-size : (S : ℕ) → ((x : ℕ) → class x ≡ main → x < S) → suc n ≤ S
   main-size S below =
       let M = L .structure .main-list in
-      pigeonhole S (suc (L .n)) (L .at) (λ i h. below (L .at i) (M .is-main i (omega arith)))
+      pigeonhole S (suc n) at (λ i h. below (at i) (M .is-main i (omega arith)))
       (λ i j hi hj e. cc (M .index-at i (omega arith), M .index-at j (omega arith)))
 
   -- The row and the two ends of main are different nodes of main.
   pub row-length : (S : ℕ) → ((x : ℕ) → class x ≡ main → x < S) → length r + 2 ≤ S
   row-length S below = omega (arith, length-row, main-size S below, L .structure .a<b, L .structure .b≤n)
     where
-      length-row : length r ≡ L .b - suc (L .a)
-      length-row = ap length (sym (L .row-is)) ∙ segment-length (L .bags) (suc (L .a)) (L .b - suc (L .a))
+      length-row : length r ≡ b - suc a
+      length-row = ap length (sym (L .row-is)) ∙ segment-length bags (suc a) (b - suc a)
 
 -- ---- The definition that reads the lane of a table.
 module _ (ws : List ℕ) where
@@ -103,7 +107,7 @@ module _ (ws : List ℕ) where
       ∙ ap (Option·map (_∷_ b)) (laneFrom-reads n (link ws right x) R (omega arith))
 
   pub laneFrom-row : {class : ℕ → Class} {r : List ℕ}
-      → Lane right left (seen right ws) class r
+      → Lane right left (viewed right ws) class r
       → (n : ℕ)
       → length r < n
       → laneFrom ws n (link ws right (hat ws left)) ≡ some r
@@ -111,11 +115,11 @@ module _ (ws : List ℕ) where
 
   -- A number that is no node reads as never used, so main has nodes only.
   value-outside : (x : ℕ) → ¬ (x < nodeCount ws) → value ws x ≡ never
-  unfolding value decode
-  value-outside x h = ap decode (if-no (x <? nodeCount ws) (valueWord ws x) 0 h) ∙ if-yes (0 ≟ 0) never _ refl
+  unfolding value
+  value-outside x h = ap decode (if-no (x <? nodeCount ws) (valueWords ws x) (encode never) h) ∙ never-has-word
 
   pub main-is-node : {class : ℕ → Class} {r : List ℕ}
-      → Lane right left (seen right ws) class r
+      → Lane right left (viewed right ws) class r
       → (x : ℕ)
       → class x ≡ main
       → x < nodeCount ws
@@ -125,6 +129,6 @@ module _ (ws : List ℕ) where
         | no l ↦ absurd (main-not-never (L .structure) x c (value-outside x l))
       ]
 
-  pub lane-row : {class : ℕ → Class} {r : List ℕ} → Lane right left (seen right ws) class r → lane ws ≡ some r
+  pub lane-row : {class : ℕ → Class} {r : List ℕ} → Lane right left (viewed right ws) class r → lane ws ≡ some r
   unfolding lane
   lane-row L = laneFrom-row L (nodeCount ws) (omega (arith, row-length L (nodeCount ws) (main-is-node L)))

@@ -7,25 +7,25 @@ use native.Mathlib.Omega.{arith}
 use Rattle.machine.specs.Sides.{Side, left, right}
 use Rattle.machine.specs.Values.{Value, X}
 use Rattle.machine.specs.Tasks.{Task, fresh, none}
-use Rattle.machine.specs.Lines.{Memory}
 use Rattle.machine.proofs.Basics.Contradiction.{Clash, clash, less?, refute}
+use Rattle.machine.proofs.Words.Memories.{View}
 use Rattle.machine.proofs.Linearizability.Model.Sides.{sides}
 use Rattle.machine.proofs.Linearizability.Model.Classes.{Class, free, main, spur, new}
-use Rattle.machine.proofs.Linearizability.Model.Structure.{MainValues, Linked, Spur, Structure}
+use Rattle.machine.proofs.Linearizability.Model.Structure.{Frame, MainValues, Linked, Spur, Structure}
 use Rattle.machine.proofs.Linearizability.Model.Segments.{segment-empty}
 use Rattle.machine.proofs.Linearizability.Model.Invariant.{TaskOkIn, Invariant}
 use Rattle.machine.proofs.Linearizability.Lines.LineEnds.{fresh-ok}
 
 -- What a start writes, seen from the right. The words of the other nodes do not matter.
-pub record Started (M : Memory) : Type 0 where
+pub record Started (M : View) : Type 0 where
   pub out-0 : M .out 0 ≡ 1
   pub out-1 : M .out 1 ≡ none
   pub inn-0 : M .inn 0 ≡ none
   pub inn-1 : M .inn 1 ≡ 0
   pub val-0 : M .val 0 ≡ X left
   pub val-1 : M .val 1 ≡ X right
-  pub hat-1 : M .hat ≡ 1
-  pub far-0 : M .far ≡ 0
+  pub hat-left : M .hats left ≡ 0
+  pub hat-right : M .hats right ≡ 1
 
 pub startClass : ℕ → Class
 startClass zero = main
@@ -65,7 +65,11 @@ start-spur z =
       outward-spur = λ x h. clash (no-spur x z h);
     }
 
-module _ {M : Memory} (W : Started M) where
+-- Main is the nodes 0 and 1, without a bag.
+abbrev startFrame : Frame
+startFrame = record { at = λ i. i; index = λ x. x; n = 1; a = 0; b = 1; bags = λ _. 0 }
+
+module _ {M : View} (W : Started M) where
   start-links : Linked (M .out) (M .inn) (λ i. i) 1
   start-links =
       record {
@@ -73,7 +77,7 @@ module _ {M : Memory} (W : Started M) where
         links-in = λ i h. let e : i ≡ 0 = omega arith in rw e (W .inn-1);
       }
 
-  start-values : MainValues right left (M .val) (λ i. i) 1 0 1 (λ _. 0)
+  start-values : MainValues right left (M .val) startFrame
   start-values =
       record {
         X-first = W .val-0;
@@ -83,8 +87,7 @@ module _ {M : Memory} (W : Started M) where
         X-last = W .val-1;
       }
 
-  start-structure : Structure right left (M .out) (M .inn) (M .val) (M .hat) (M .far) startClass
-      (λ i. i) (λ x. x) 1 0 1 (λ _. 0)
+  start-structure : Structure right left M startClass startFrame
   unfolding startClass
   start-structure =
       record {
@@ -103,8 +106,8 @@ module _ {M : Memory} (W : Started M) where
         links = start-links;
         last-out = inl (W .out-1);
         first-in = inl (W .inn-0);
-        near-hat = λ j e. inl (W .hat-1);
-        far-hat = inl (W .far-0);
+        near-hat = λ j e. inl (W .hat-right);
+        far-hat = inl (W .hat-left);
         near-spur = start-spur right;
         far-spur = start-spur left;
       }
@@ -113,16 +116,7 @@ module _ {M : Memory} (W : Started M) where
   invariant-start fresh-tasks =
       record {
         lane =
-            record {
-              at = λ i. i;
-              index = λ x. x;
-              n = 1;
-              a = 0;
-              b = 1;
-              bags = λ _. 0;
-              structure = start-structure;
-              row-is = segment-empty (λ _. 0) 1 0 refl;
-            };
+            record { frame = startFrame; structure = start-structure; row-is = segment-empty (λ _. 0) 1 0 refl };
         task-ok =
             λ j. subst (λ (t : Task). TaskOkIn j M startClass t) (sym (fresh-tasks j)) (fresh-ok (λ x. no-new x j));
       }

@@ -9,10 +9,11 @@ use Rattle.machine.specs.declared.Answer.the-variants.{Refused}
 use Rattle.machine.specs.Sides.{Side, left, right, opposite}
 use Rattle.machine.specs.Operations.{idle}
 use Rattle.machine.specs.Tasks.{Task, none}
-use Rattle.machine.specs.Lines.{Memory, Effect, act}
+use Rattle.machine.specs.Lines.{Effect, act}
 use Rattle.machine.specs.Row.{Note}
 use Rattle.machine.proofs.Basics.Updates.{update, update-wrote, wrote-all}
-use Rattle.machine.proofs.Words.Memories.{view, view-view, written}
+use Rattle.machine.proofs.Words.Memories.{View, seenIn, written, view, viewAfter, view-view}
+use Rattle.machine.proofs.Linearizability.Model.Held.{closed-view}
 use Rattle.machine.proofs.Linearizability.Model.RowViews.{rowFrom, rowFrom-rowFrom}
 use Rattle.machine.proofs.Linearizability.Model.Sides.{sides}
 use Rattle.machine.proofs.Linearizability.Model.Classes.{Class}
@@ -31,11 +32,11 @@ use Rattle.machine.proofs.Linearizability.Model.Invariant.{
 }
 use Rattle.machine.proofs.Linearizability.Model.LaneViews.{lane-view, lane-unview}
 use Rattle.machine.proofs.Linearizability.Survival.OtherTasks.{task-survives}
-use Rattle.machine.proofs.Linearizability.Writes.FreeNode.{view-inn-closed, take-ok}
+use Rattle.machine.proofs.Linearizability.Writes.FreeNode.{take-ok}
 use Rattle.machine.proofs.Linearizability.Lines.Tick.{tick-ok}
 
 -- ---- From the side of the task that ticks to the side of another, and to its own afterwards.
-pub guarantees-view : (s z : Side) (M m' : Memory) {held : ℕ → Bool} {k : ℕ} {class class' : ℕ → Class}
+pub guarantees-view : (s z : Side) (M m' : View) {held : ℕ → Bool} {k : ℕ} {class class' : ℕ → Class}
     → GuaranteesIn held k s (opposite s) (view s M) class m' class'
     → GuaranteesIn held k z (opposite z) (view z M) class (view z (view s m')) class'
 guarantees-view left left M m' G = G
@@ -44,7 +45,7 @@ guarantees-view right left M m' G = guarantees-swap G
 guarantees-view right right M m' G = G
 
 -- The record after a tick on the side of t, seen from its own side again.
-own-task-ok : (k : ℕ) (t : Task) {m : Memory} {class : ℕ → Class} (e : Effect)
+own-task-ok : (k : ℕ) (t : Task) {m : View} {class : ℕ → Class} (e : Effect)
     → Kept t e
     → TaskOk k (t .side) (opposite (t .side)) m class (e .task .step) (e .task)
     → TaskOkIn k (view (t .side) m) class (e .task)
@@ -53,7 +54,7 @@ own-task-ok k t {m} {class} e (goes-on a n) h =
     let x : Task = e .task in
     let side-same : x .side ≡ s = ap (λ (n : Note). n .side) n in
     subst (λ (z : Side). TaskOk k z (opposite z) (view z (view s m)) class (x .step) x) (sym side-same)
-    (subst (λ (y : Memory). TaskOk k s (opposite s) y class (x .step) x) (sym (view-view s m)) h)
+    (subst (λ (y : View). TaskOk k s (opposite s) y class (x .step) x) (sym (view-view s m)) h)
 own-task-ok k t {m} {class} e (has-answered a n) h =
     let s : Side = t .side in
     let f = subst (λ (y : Task). TaskOk k s (opposite s) m class (y .step) y) n h in
@@ -62,18 +63,21 @@ own-task-ok k t {m} {class} e (has-answered a n) h =
 
 -- ---- The theorem.
 
+-- The effect of the line of task k, with goal g and the node f to take.
+abbrev pub effectIn : View → (ts : ℕ → Task) → (k g f : ℕ) → Effect
+effectIn M ts k g f = let s = ts k .side in act (ts k .step) s (opposite s) (seenIn s (view s M)) (ts k) g f
+
 -- What a tick of task k with effect e does to the table.
-pub record TickKeeps (M : Memory) (ts : ℕ → Task) (r : List ℕ) (k : ℕ) (e : Effect) : Type 0 where
+pub record TickKeeps (M : View) (ts : ℕ → Task) (r : List ℕ) (k : ℕ) (e : Effect) : Type 0 where
   pub class' : ℕ → Class
   pub r' : List ℕ
   pub row-step :
       RowStep (ts k .operation) (ts k .argument) (e .answer) (rowFrom (ts k .side) r) (rowFrom (ts k .side) r')
   pub kept : Kept (ts k) e
-  pub invariant :
-      Invariant (view (ts k .side) (written (e .writes) (view (ts k .side) M))) (update ts k (e .task)) class' r'
+  pub invariant : Invariant (viewAfter (ts k .side) (e .writes) M) (update ts k (e .task)) class' r'
 
 -- The row gives no refusal.
-pub never-refused : {M : Memory} {ts : ℕ → Task} {r : List ℕ} {k : ℕ} {e : Effect}
+pub never-refused : {M : View} {ts : ℕ → Task} {r : List ℕ} {k : ℕ} {e : Effect}
     → TickKeeps M ts r k e
     → (n : ℕ)
     → e .answer ≢ Refused n
@@ -83,20 +87,20 @@ never-refused {ts = ts} {r} {k} T n q =
     (λ (a : Answer). RowStep (ts k .operation) (ts k .argument) a (rowFrom s r) (rowFrom s (T .r')))
     q (T .row-step)
 
-module _ {held : ℕ → Bool} {M : Memory} {ts : ℕ → Task} {class : ℕ → Class} {r : List ℕ}
+module _ {held : ℕ → Bool} {M : View} {ts : ℕ → Task} {class : ℕ → Class} {r : List ℕ}
     (I : Invariant M ts class r) (R : Roots held M ts)
     (k g f : ℕ) (busy : ts k .operation ≢ idle) (free-f : f ≢ none → held f ≡ false) where
   abbrev s : Side
   s = ts k .side
 
   abbrev e : Effect
-  e = act (ts k .step) s (opposite s) (view s M) (ts k) g f
+  e = effectIn M ts k g f
 
-  -- The memory after the tick, seen from the task's side and from the right.
-  abbrev m' : Memory
-  m' = written (e .writes) (view s M)
+  -- The view after the tick, from the task's side and from the right.
+  abbrev m' : View
+  m' = written s (e .writes) (view s M)
 
-  abbrev M' : Memory
+  abbrev M' : View
   M' = view s m'
 
   effect-ok : TickOk held k s (opposite s) (view s M) class (rowFrom s r) (ts k) e
@@ -114,10 +118,9 @@ module _ {held : ℕ → Bool} {M : Memory} {ts : ℕ → Task} {class : ℕ →
       let after = lane-view z lane-after .structure in
       task-survives (sides z) (view z M) (view z M') (guarantees-view s z M m' (effect-ok .guarantees))
       (before .none-free) (after .none-free) (before .near-spur) (after .near-spur)
-      (view-inn-closed R z) (ts j) j≢k (ts j .step) (R .registers j) (I .task-ok j)
+      (closed-view z (R .closed) .inn-closed) (ts j) j≢k (ts j .step) (R .registers j) (I .task-ok j)
 
-  pub invariant-tick : TickKeeps M ts r k
-      (act (ts k .step) (ts k .side) (opposite (ts k .side)) (view (ts k .side) M) (ts k) g f)
+  pub invariant-tick : TickKeeps M ts r k (effectIn M ts k g f)
   invariant-tick =
       record {
         class' = effect-ok .class';

@@ -11,8 +11,9 @@ use Rattle.machine.specs.Sides.{Side}
 use Rattle.machine.specs.Operations.{Operation, idle, push, pop, add, remove}
 use Rattle.machine.specs.Steps.{rest}
 use Rattle.machine.specs.Tasks.{Task, fresh, none}
-use Rattle.machine.specs.Lines.{Memory, Effect, through, answers, backOf}
+use Rattle.machine.specs.Lines.{Effect, through, answers, backOf}
 use Rattle.machine.proofs.Basics.Contradiction.{clash}
+use Rattle.machine.proofs.Words.Memories.{View}
 use Rattle.machine.proofs.Linearizability.Model.Classes.{Class, free, new}
 use Rattle.machine.proofs.Linearizability.Model.Chain.{NoChain}
 use Rattle.machine.proofs.Linearizability.Model.Guarantee.{guarantees-refl}
@@ -27,12 +28,12 @@ use Rattle.machine.proofs.Linearizability.Model.Phases.{
 use Rattle.machine.proofs.Linearizability.Model.Invariant.{Lane, RowStep, noteOf, goes-on, has-answered, TickOk}
 use Rattle.machine.proofs.Linearizability.Lines.Connectives.{ok-through}
 
-pub fresh-ok : {k : ℕ} {s o : Side} {m : Memory} {class : ℕ → Class}
+pub fresh-ok : {k : ℕ} {s o : Side} {m : View} {class : ℕ → Class}
     → ((x : ℕ) → class x ≢ new k)
     → TaskOk k s o m class rest fresh
 fresh-ok h = record { relies = tt; chain = record { none-new = h; no-head = refl }; belongs = refl }
 
-module _ {held : ℕ → Bool} {k : ℕ} {s o : Side} {m : Memory} {class : ℕ → Class} {r : List ℕ} {t : Task} where
+module _ {held : ℕ → Bool} {k : ℕ} {s o : Side} {m : View} {class : ℕ → Class} {r : List ℕ} {t : Task} where
   -- Through a register that is not none.
   pub past : (x : ℕ) {e : Effect}
       → x ≢ none
@@ -74,7 +75,7 @@ module _ {held : ℕ → Bool} {k : ℕ} {s o : Side} {m : Memory} {class : ℕ 
       }
 
 -- Back: 2 for a push without a chain, 15 with one.
-pub back-ok : {k : ℕ} {s o : Side} {m : Memory} {class : ℕ → Class}
+pub back-ok : {k : ℕ} {s o : Side} {m : View} {class : ℕ → Class}
     → class none ≡ free
     → (t : Task) (op : Operation)
     → t .operation ≡ op

@@ -26,10 +26,11 @@ use Rattle.machine.specs.Steps.{
   line81,
 }
 use Rattle.machine.specs.Tasks.{Task, none, withA, withB, withCounted, withValue}
-use Rattle.machine.specs.Lines.{Memory, Effect, next, answers, afterRead, act}
+use Rattle.machine.specs.Lines.{Effect, next, answers, afterRead, act}
 use Rattle.machine.proofs.Basics.Contradiction.{refute}
+use Rattle.machine.proofs.Words.Memories.{View, seenIn}
 use Rattle.machine.proofs.Linearizability.Model.Classes.{Class, spur, Old}
-use Rattle.machine.proofs.Linearizability.Model.Structure.{linked}
+use Rattle.machine.proofs.Linearizability.Model.Structure.{linked, Frame}
 use Rattle.machine.proofs.Linearizability.Model.Nodes.{
   old-some,
   spur-some,
@@ -47,13 +48,15 @@ use Rattle.machine.proofs.Linearizability.Model.Invariant.{Lane, TickOk
 use Rattle.machine.proofs.Linearizability.Lines.Connectives.{ok-if, ok-dcas}
 use Rattle.machine.proofs.Linearizability.Lines.LineEnds.{past, goes, answers-ok}
 
-module _ (held : ℕ → Bool) (k : ℕ) {s o : Side} {m : Memory} {class : ℕ → Class} {r : List ℕ}
+module _ (held : ℕ → Bool) (k : ℕ) {s o : Side} {m : View} {class : ℕ → Class} {r : List ℕ}
     (L : Lane s o m class r) (t : Task) (g f : ℕ) where
+  open Frame (L .frame) using (a, b, bags)
+
   abbrev Ok : Effect → Type 0
   Ok e = TickOk held k s o m class r t e
 
   abbrev LineOk : Step → Type 0
-  LineOk st = TaskOk k s o m class st t → Ok (act st s o m t g f)
+  LineOk st = TaskOk k s o m class st t → Ok (act st s o (seenIn s m) t g f)
 
   some : (x : ℕ) → Old class x → x ≢ none
   some = old-some (L .structure)
@@ -108,7 +111,7 @@ module _ (held : ℕ → Bool) (k : ℕ) {s o : Side} {m : Memory} {class : ℕ 
       by-value (Y z) = again (Y z)
 
   -- The hat is A and B holds a mark of the other side: there is no bag between the hats.
-  module _ (p : EmptyPair o m class (t .A) (t .B) (t .value)) (hat-A : m .hat ≡ t .A)
+  module _ (p : EmptyPair o m class (t .A) (t .B) (t .value)) (hat-A : m .hats s ≡ t .A)
       (B-value : m .val (t .B) ≡ t .value) where
     B-mark : (m .val (t .B) ≡ N o) ⊎ (m .val (t .B) ≡ X o)
     B-mark = elim (p .read-mark) [ inl u ↦ inl (B-value ∙ u) | inr u ↦ inr (B-value ∙ u) ]
@@ -116,24 +119,24 @@ module _ (held : ℕ → Bool) (k : ℕ) {s o : Side} {m : Memory} {class : ℕ 
     B-not-Y : m .val (t .B) ≢ Y o
     B-not-Y y = elim B-mark [ inl u ↦ refute (cc) | inr u ↦ refute (cc) ]
 
-    hats-adjacent : L .b ≡ suc (L .a)
+    hats-adjacent : b ≡ suc a
     hats-adjacent =
-        let before : suc (L .b - 1) ≡ L .b = omega (arith, L .structure .a<b) in
+        let before : suc (b - 1) ≡ b = omega (arith, L .structure .a<b) in
         pop-empty (L .structure) before hat-A (p .pair .B-precedes) B-not-Y B-mark
 
     row-empty : r ≡ []
     row-empty =
         let e = hats-adjacent in
-        sym (L .row-is) ∙ segment-empty (L .bags) (suc (L .a)) (L .b - suc (L .a)) (omega arith)
+        sym (L .row-is) ∙ segment-empty bags (suc a) (b - suc a) (omega arith)
 
   pub line48-ok : LineOk line48
   unfolding act
   line48-ok h =
       past (t .B) (some _ (h .relies .pair .B-old))
-      (ok-dcas Ok (m .hat ≟ t .A) (m .val (t .B) ≟ᵛ t .value) done
+      (ok-dcas Ok (m .hats s ≟ t .A) (m .val (t .B) ≟ᵛ t .value) done
       (goes L refl (record { relies = tt; chain = h .chain; belongs = h .belongs })))
     where
-      done : m .hat ≡ t .A → m .val (t .B) ≡ t .value → Ok (answers Empty)
+      done : m .hats s ≡ t .A → m .val (t .B) ≡ t .value → Ok (answers Empty)
       done e v =
           let q = row-empty (h .relies) e v in
           answers-ok L Empty (λ e. refute (cc)) (h .belongs, q, q) (h .chain)
@@ -142,7 +145,7 @@ module _ (held : ℕ → Bool) (k : ℕ) {s o : Side} {m : Memory} {class : ℕ 
   pub line54-ok : LineOk line54
   unfolding act
   line54-ok h =
-      ok-if Ok (λ st. next (withA t (m .hat)) st) (g ≟ 0)
+      ok-if Ok (λ st. next (withA t (m .hats s)) st) (g ≟ 0)
       (λ _. goes L refl (record { relies = hat-old (L .structure); chain = h .chain; belongs = h .belongs }))
       (λ _. goes L refl (record { relies = hat-old (L .structure); chain = h .chain; belongs = h .belongs }))
 

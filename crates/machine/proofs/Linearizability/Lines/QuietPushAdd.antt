@@ -21,7 +21,8 @@ use Rattle.machine.specs.Steps.{
   line70,
 }
 use Rattle.machine.specs.Tasks.{Task, none, goto, withA, withB, withC, withValue}
-use Rattle.machine.specs.Lines.{Memory, Effect, next, back, act}
+use Rattle.machine.specs.Lines.{Effect, next, back, act}
+use Rattle.machine.proofs.Words.Memories.{View, seenIn}
 use Rattle.machine.proofs.Linearizability.Model.Classes.{Class, Old}
 use Rattle.machine.proofs.Linearizability.Model.Nodes.{
   old-some,
@@ -36,13 +37,13 @@ use Rattle.machine.proofs.Linearizability.Model.Invariant.{Lane, TickOk
 use Rattle.machine.proofs.Linearizability.Lines.Connectives.{ok-if}
 use Rattle.machine.proofs.Linearizability.Lines.LineEnds.{past, goes, back-ok}
 
-module _ (held : ℕ → Bool) (k : ℕ) {s o : Side} {m : Memory} {class : ℕ → Class} {r : List ℕ}
+module _ (held : ℕ → Bool) (k : ℕ) {s o : Side} {m : View} {class : ℕ → Class} {r : List ℕ}
     (L : Lane s o m class r) (t : Task) (g f : ℕ) where
   abbrev Ok : Effect → Type 0
   Ok e = TickOk held k s o m class r t e
 
   abbrev LineOk : Step → Type 0
-  LineOk st = TaskOk k s o m class st t → Ok (act st s o m t g f)
+  LineOk st = TaskOk k s o m class st t → Ok (act st s o (seenIn s m) t g f)
 
   some : (x : ℕ) → Old class x → x ≢ none
   some = old-some (L .structure)

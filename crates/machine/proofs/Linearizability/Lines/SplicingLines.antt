@@ -3,17 +3,19 @@ use mathlib.Core.Path.{_≡_, refl, _∙_}
 use mathlib.Core.Logic.{_≢_, inl, inr}
 use mathlib.Core.Bool.{Bool, true}
 use mathlib.Core.List.{List, [], _∷_}
-use Prim.Native.Nat.{ℕ, suc, _+_}
+use Prim.Native.Nat.{ℕ}
 use Rattle.machine.specs.Choice.{_≟_}
 use Rattle.machine.specs.Sides.{Side}
 use Rattle.machine.specs.Values.{N, X, _≟ᵛ_}
 use Rattle.machine.specs.Operations.{Operation, idle, push, pop, add, remove}
 use Rattle.machine.specs.Steps.{Step, line24, line25}
 use Rattle.machine.specs.Tasks.{Task, none, withB}
-use Rattle.machine.specs.Lines.{Memory, Write, out≔, inn≔, val≔, Effect, next, writing, spliced, act}
+use Rattle.machine.specs.Lines.{Write, out≔, inn≔, val≔, Effect, next, writing, spliced, act}
 use Rattle.machine.proofs.Basics.Contradiction.{clash, refute}
 use Rattle.machine.proofs.Basics.Updates.{Wrote, update-wrote}
-use Rattle.machine.proofs.Words.Memories.{written}
+use Rattle.machine.proofs.Words.Memories.{View, seenIn, written}
+use Rattle.machine.proofs.Linearizability.Model.Held.{all-closed}
+use Rattle.machine.proofs.Linearizability.Model.Structure.{Frame}
 use Rattle.machine.proofs.Linearizability.Model.Classes.{
   Class,
   main,
@@ -37,7 +39,7 @@ use Rattle.machine.proofs.Linearizability.Writes.ClassChanges.{
 use Rattle.machine.proofs.Linearizability.Model.Guarantee.{ChainsKept, GuaranteesIn, guarantee-weaken}
 use Rattle.machine.proofs.Linearizability.Model.Nodes.{old-some, own-mark-not-far}
 use Rattle.machine.proofs.Linearizability.Writes.Joined.{joined-none-new}
-use Rattle.machine.proofs.Linearizability.Writes.Splice.{splice-keeps, splice-guarantees}
+use Rattle.machine.proofs.Linearizability.Writes.Splice.{splice-keeps, splice-guarantees, splicedFrame}
 use Rattle.machine.proofs.Linearizability.Writes.Spur.{SpurStep, spur-keeps, spur-guarantees}
 use Rattle.machine.proofs.Linearizability.Writes.SpurLines.{spur-splice}
 use Rattle.machine.proofs.Linearizability.Writes.Restriction.{
@@ -53,13 +55,15 @@ use Rattle.machine.proofs.Linearizability.Model.Invariant.{Lane, same-p
 use Rattle.machine.proofs.Linearizability.Lines.Connectives.{ok-dcas}
 use Rattle.machine.proofs.Linearizability.Lines.LineEnds.{fresh-ok, past, goes}
 
-module _ (held : ℕ → Bool) (k : ℕ) {s o : Side} {m : Memory} {class : ℕ → Class} {r : List ℕ}
+module _ (held : ℕ → Bool) (k : ℕ) {s o : Side} {m : View} {class : ℕ → Class} {r : List ℕ}
     (L : Lane s o m class r) (t : Task) (g f : ℕ) where
+  open Frame (L .frame) using (at, index, n)
+
   abbrev Ok : Effect → Type 0
   Ok e = TickOk held k s o m class r t e
 
   abbrev LineOk : Step → Type 0
-  LineOk st = TaskOk k s o m class st t → Ok (act st s o m t g f)
+  LineOk st = TaskOk k s o m class st t → Ok (act st s o (seenIn s m) t g f)
 
   some : (x : ℕ) → Old class x → x ≢ none
   some = old-some (L .structure)
@@ -69,17 +73,15 @@ module _ (held : ℕ → Bool) (k : ℕ) {s o : Side} {m : Memory} {class : ℕ 
   link-writes = inn≔ (t .D) (t .A) ∷ []
 
   module _ (h : TaskOk k s o m class line24 t) where
-    w-inn : Wrote (m .inn) (t .D) (t .A) (written link-writes m .inn)
+    w-inn : Wrote (m .inn) (t .D) (t .A) (written s link-writes m .inn)
     w-inn = update-wrote (m .inn) (t .D) (t .A)
 
     -- All nodes are held, and all keep their class.
     old-kept : Restricted (λ _. true)
-        (m .out) (m .inn) (m .val) class (m .out) (written link-writes m .inn) (m .val) class
+        (m .out) (m .inn) (m .val) class (m .out) (written s link-writes m .inn) (m .val) class
     old-kept =
         let c = head-new (h .chain) in
         record {
-          out-closed = λ _ _ _. refl;
-          inn-closed = λ _ _ _. refl;
           main-stays = λ x q. q;
           was-main = λ x q. q;
           spur-stays = λ x z _ q. q;
@@ -91,7 +93,7 @@ module _ (held : ℕ → Bool) (k : ℕ) {s o : Side} {m : Memory} {class : ℕ 
               record { same-out = refl; same-inn = w-inn .elsewhere x (λ e. refute (cc)); same-val = refl };
         }
 
-    chains-kept : ChainsKept k (m .out) (m .inn) (m .val) class (m .out) (written link-writes m .inn) (m .val) class
+    chains-kept : ChainsKept k (m .out) (m .inn) (m .val) class (m .out) (written s link-writes m .inn) (m .val) class
     chains-kept =
         let c = head-new (h .chain) in
         record {
@@ -102,7 +104,7 @@ module _ (held : ℕ → Bool) (k : ℕ) {s o : Side} {m : Memory} {class : ℕ 
           was-new = λ x j ne q. q;
         }
 
-    splice-point : SplicePoint k (written link-writes m) class (t .A) (t .D)
+    splice-point : SplicePoint k (written s link-writes m) class (t .A) (t .D)
     splice-point = record { A-old = h .relies; D-new = head-new (h .chain); D-inward = w-inn .here }
 
     line24-done : Ok (writing link-writes (next (withB t (m .out (t .A))) line25))
@@ -110,9 +112,7 @@ module _ (held : ℕ → Bool) (k : ℕ) {s o : Side} {m : Memory} {class : ℕ 
         record {
           class' = class;
           r' = r;
-          lane =
-              same-places L (written link-writes m)
-              (restricted-keeps (L .structure) refl refl old-kept);
+          lane = same-places L (restricted-keeps (L .structure) all-closed old-kept);
           row-step = refl;
           guarantees =
               record {
@@ -136,8 +136,8 @@ module _ (held : ℕ → Bool) (k : ℕ) {s o : Side} {m : Memory} {class : ℕ 
       (past (t .D) (head-some (h .chain) (L .structure .none-free)) (line24-done h))
 
   -- ---- Line 25: the chain joins the class of A; then a push goes on and an add answers.
-  module _ (l : List Write) {class' : ℕ → Class} (L' : Lane s o (written l m) class' r)
-      (G : GuaranteesIn held k s o m class (written l m) class')
+  module _ (l : List Write) {class' : ℕ → Class} (L' : Lane s o (written s l m) class' r)
+      (G : GuaranteesIn held k s o m class (written s l m) class')
       (none-new : (x : ℕ) → class' x ≢ new k) (b : Belongs growing (t .operation)) where
     spliced-ok : (op : Operation) → t .operation ≡ op → Ok (spliced op l t)
     spliced-ok idle e = elim b [ inl q ↦ clash (cc) | inr q ↦ clash (cc) ]
@@ -169,10 +169,10 @@ module _ (held : ℕ → Bool) (k : ℕ) {s o : Side} {m : Memory} {class : ℕ 
     abbrev splice : List Write
     splice = out≔ (t .A) (t .D) ∷ val≔ (t .A) (N s) ∷ []
 
-    w-val : Wrote (m .val) (t .A) (N s) (written splice m .val)
+    w-val : Wrote (m .val) (t .A) (N s) (written s splice m .val)
     w-val = update-wrote (m .val) (t .A) (N s)
 
-    w-out : Wrote (m .out) (t .A) (h .chain .node 0) (written splice m .out)
+    w-out : Wrote (m .out) (t .A) (h .chain .node 0) (written s splice m .out)
     w-out =
         let w = update-wrote (m .out) (t .A) (t .D) in
         record { here = w .here ∙ h .chain .head; elsewhere = w .elsewhere }
@@ -184,19 +184,16 @@ module _ (held : ℕ → Bool) (k : ℕ) {s o : Side} {m : Memory} {class : ℕ 
       join-main : (x : ℕ) → Joined k main class (joinedClass k main class) x
       join-main = joinedClass-joined k main class
 
-      extend : Extended k class (L .at) (L .index) (L .n) (h .chain .node) (h .chain .place)
-          (extendedAt (L .at) (L .n) (h .chain .node)) (extendedIndex class (L .index) (L .n) (h .chain .place))
-      extend = extended k class (L .at) (L .index) (L .n) (h .chain .node) (h .chain .place)
+      extend : Extended k class at index n (h .chain .node) (h .chain .place)
+          (extendedAt at n (h .chain .node)) (extendedIndex class index n (h .chain .place))
+      extend = extended k class at index n (h .chain .node) (h .chain .place)
 
-      longer-lane : Lane s o (written splice m) (joinedClass k main class) r
+      longer-lane : Lane s o (written s splice m) (joinedClass k main class) r
       longer-lane =
           record {
-            at = extendedAt (L .at) (L .n) (h .chain .node);
-            index = extendedIndex class (L .index) (L .n) (h .chain .place);
-            n = suc (L .n + h .chain .m);
-            a = L .a;
-            b = L .b;
-            bags = L .bags;
+            frame =
+                splicedFrame (L .frame) (extendedAt at n (h .chain .node))
+                (extendedIndex class index n (h .chain .place)) (h .chain .m);
             structure =
                 splice-keeps (L .structure) (h .chain .chain) w-out w-val A-X head-inward join-main extend A-main;
             row-is = L .row-is;
@@ -212,14 +209,12 @@ module _ (held : ℕ → Bool) (k : ℕ) {s o : Side} {m : Memory} {class : ℕ 
       join-spur : (x : ℕ) → Joined k (spur s) class (joinedClass k (spur s) class) x
       join-spur = joinedClass-joined k (spur s) class
 
-      longer-spur : SpurStep k s o (L .at (L .n)) (m .out) (m .inn) (m .val) class
-          (written splice m .out) (written splice m .val) (joinedClass k (spur s) class)
+      longer-spur : SpurStep k s o (at n) (m .out) (m .inn) (m .val) class
+          (written s splice m .out) (written s splice m .val) (joinedClass k (spur s) class)
       longer-spur = spur-splice (L .structure) k (h .chain .chain) w-out w-val A-X head-inward join-spur A-spur
 
-      same-lane : Lane s o (written splice m) (joinedClass k (spur s) class) r
-      same-lane =
-          same-places L (written splice m)
-          (spur-keeps (L .structure) longer-spur)
+      same-lane : Lane s o (written s splice m) (joinedClass k (spur s) class) r
+      same-lane = same-places L (spur-keeps (L .structure) longer-spur)
 
       line25-spur : Ok (spliced (t .operation) splice t)
       line25-spur =

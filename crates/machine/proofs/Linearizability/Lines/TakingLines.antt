@@ -11,10 +11,10 @@ use Rattle.machine.specs.Values.{N, X}
 use Rattle.machine.specs.Operations.{Operation, idle, push, pop, add, remove}
 use Rattle.machine.specs.Steps.{Step, line15, line28, line31}
 use Rattle.machine.specs.Tasks.{Task, none, withD, withCounted}
-use Rattle.machine.specs.Lines.{Memory, Write, out≔, inn≔, val≔, Effect, next, answers, writing, noNode, act}
+use Rattle.machine.specs.Lines.{Write, out≔, inn≔, val≔, Effect, next, answers, writing, noNode, act}
 use Rattle.machine.proofs.Basics.Contradiction.{clash, equal?, refute}
 use Rattle.machine.proofs.Basics.Updates.{Wrote, update, update-wrote}
-use Rattle.machine.proofs.Words.Memories.{written}
+use Rattle.machine.proofs.Words.Memories.{View, seenIn, written}
 use Rattle.machine.proofs.Linearizability.Model.Classes.{Class, new, Old}
 use Rattle.machine.proofs.Linearizability.Writes.ClassChanges.{takenClass}
 use Rattle.machine.proofs.Linearizability.Model.Guarantee.{SameIn}
@@ -34,13 +34,13 @@ use Rattle.machine.proofs.Linearizability.Writes.Take.{
   takes,
 }
 
-module _ (held : ℕ → Bool) (k : ℕ) {s o : Side} {m : Memory} {class : ℕ → Class} {r : List ℕ}
+module _ (held : ℕ → Bool) (k : ℕ) {s o : Side} {m : View} {class : ℕ → Class} {r : List ℕ}
     (L : Lane s o m class r) (t : Task) (g f : ℕ) where
   abbrev Ok : Effect → Type 0
   Ok e = TickOk held k s o m class r t e
 
   abbrev LineOk : Step → Type 0
-  LineOk st = TaskOk k s o m class st t → Ok (act st s o m t g f)
+  LineOk st = TaskOk k s o m class st t → Ok (act st s o (seenIn s m) t g f)
 
   some : (x : ℕ) → Old class x → x ≢ none
   some = old-some (L .structure)
@@ -70,7 +70,7 @@ module _ (held : ℕ → Bool) (k : ℕ) {s o : Side} {m : Memory} {class : ℕ 
 
     first-same : (x : ℕ)
         → takenClass k held f class x ≢ new k
-        → SameIn m (written first-writes m) x
+        → SameIn m (written s first-writes m) x
     first-same x not-new =
         let x≢f : x ≢ f = λ e. not-new (cc (f-new)) in
         record {
@@ -86,7 +86,7 @@ module _ (held : ℕ → Bool) (k : ℕ) {s o : Side} {m : Memory} {class : ℕ 
           | inr ne ↦ absurd (h .chain .none-new x (was-new k L T f-some x k ne q))
         ]
 
-    first-chain : HasChainIn k s (written first-writes m) (takenClass k held f class) f
+    first-chain : HasChainIn k s (written s first-writes m) (takenClass k held f class) f
     first-chain =
         first-node f-new only-f (update-wrote (m .out) f none .here) (update-wrote (m .inn) f none .here)
         (update-wrote (m .val) f (X s) .here)
@@ -94,9 +94,9 @@ module _ (held : ℕ → Bool) (k : ℕ) {s o : Side} {m : Memory} {class : ℕ 
     line28-taken : Ok (first-taken (if_then_else_ (g ≟ 0) line15 line31))
     line28-taken =
         ok-if Ok first-taken (g ≟ 0)
-        (λ _. takes k L T f-some first-writes refl refl first-same refl
+        (λ _. takes k L T f-some first-writes refl first-same refl
         (record { relies = tt; chain = first-chain; belongs = h .belongs }))
-        (λ _. takes k L T f-some first-writes refl refl first-same refl
+        (λ _. takes k L T f-some first-writes refl first-same refl
         (record { relies = tt; chain = first-chain; belongs = h .belongs }))
 
   pub line28-ok : (f ≢ none → TakeOk held m class f) → LineOk line28
@@ -117,12 +117,12 @@ module _ (held : ℕ → Bool) (k : ℕ) {s o : Side} {m : Memory} {class : ℕ 
     D-new : takenClass k held f class (t .D) ≡ new k
     D-new = new-stays k L T f-some (t .D) k (head-new (h .chain))
 
-    w-D : Wrote (update (m .inn) f none) (t .D) f (written more-writes m .inn)
+    w-D : Wrote (update (m .inn) f none) (t .D) f (written s more-writes m .inn)
     w-D = update-wrote (update (m .inn) f none) (t .D) f
 
     more-same : (x : ℕ)
         → takenClass k held f class x ≢ new k
-        → SameIn m (written more-writes m) x
+        → SameIn m (written s more-writes m) x
     more-same x not-new =
         let x≢f : x ≢ f = λ e. not-new (cc (taken-new k L T f-some)) in
         let x≢D : x ≢ t .D = λ e. not-new (cc (D-new)) in
@@ -132,7 +132,7 @@ module _ (held : ℕ → Bool) (k : ℕ) {s o : Side} {m : Memory} {class : ℕ 
           same-val = update-wrote (m .val) f (N s) .elsewhere x x≢f;
         }
 
-    more-chain : HasChainIn k s (written more-writes m) (takenClass k held f class) f
+    more-chain : HasChainIn k s (written s more-writes m) (takenClass k held f class) f
     more-chain =
         one-more (h .chain)
         (update-wrote (m .out) f (t .D)) (update-wrote (m .val) f (N s)) (update-wrote (m .inn) f none) w-D
@@ -142,9 +142,9 @@ module _ (held : ℕ → Bool) (k : ℕ) {s o : Side} {m : Memory} {class : ℕ 
     line31-taken : Ok (more-taken (if_then_else_ (suc (t .counted) ≟ g) line15 line31))
     line31-taken =
         ok-if Ok more-taken (suc (t .counted) ≟ g)
-        (λ _. takes k L T f-some more-writes refl refl more-same refl
+        (λ _. takes k L T f-some more-writes refl more-same refl
         (record { relies = tt; chain = more-chain; belongs = h .belongs }))
-        (λ _. takes k L T f-some more-writes refl refl more-same refl
+        (λ _. takes k L T f-some more-writes refl more-same refl
         (record { relies = tt; chain = more-chain; belongs = h .belongs }))
 
   pub line31-ok : (f ≢ none → TakeOk held m class f) → LineOk line31

@@ -8,7 +8,8 @@ use Rattle.machine.specs.Operations.{idle}
 use Rattle.machine.specs.Steps.{Step, rest}
 use Rattle.machine.specs.Steps as Steps
 use Rattle.machine.specs.Tasks.{Task, none}
-use Rattle.machine.specs.Lines.{Memory, act}
+use Rattle.machine.specs.Lines.{act}
+use Rattle.machine.proofs.Words.Memories.{View, seenIn}
 use Rattle.machine.proofs.Linearizability.Model.Classes.{Class}
 use Rattle.machine.proofs.Linearizability.Model.Phases.{TaskOk}
 use Rattle.machine.proofs.Linearizability.Model.Invariant.{Lane, TickOk}
@@ -51,10 +52,10 @@ use Rattle.machine.proofs.Linearizability.Lines.WritingLines.{
 use Rattle.machine.proofs.Linearizability.Lines.SplicingLines.{line24-ok, line25-ok}
 use Rattle.machine.proofs.Linearizability.Lines.TakingLines.{line28-ok, line31-ok}
 
-module _ (held : ℕ → Bool) (k : ℕ) {s o : Side} {m : Memory} {class : ℕ → Class} {r : List ℕ}
+module _ (held : ℕ → Bool) (k : ℕ) {s o : Side} {m : View} {class : ℕ → Class} {r : List ℕ}
     (L : Lane s o m class r) (t : Task) (g f : ℕ)
     (free-f : f ≢ none → TakeOk held m class f) (busy : t .operation ≢ idle) where
-  pub tick-ok : (st : Step) → TaskOk k s o m class st t → TickOk held k s o m class r t (act st s o m t g f)
+  pub tick-ok : (st : Step) → TaskOk k s o m class st t → TickOk held k s o m class r t (act st s o (seenIn s m) t g f)
   tick-ok rest h = absurd (busy (h .belongs))
   tick-ok Steps.line2 h = line2-ok held k L t g f h
   tick-ok Steps.line3 h = line3-ok held k L t g f h

@@ -1,5 +1,5 @@
 -- The lines that write nodes or hats, but for those that build a chain: 5, 51, 62, 64, 72, 78, 79 and 82.
-use mathlib.Core.Path.{_≡_, refl, ap, sym, _∙_}
+use mathlib.Core.Path.{_≡_, refl, ap, sym, subst, _∙_}
 use mathlib.Core.Logic.{_≢_, inr}
 use mathlib.Core.Bool.{Bool}
 use mathlib.Core.List.{List, [], _∷_, _++_}
@@ -12,23 +12,10 @@ use Rattle.machine.specs.Sides.{Side}
 use Rattle.machine.specs.Values.{Value, bag, N, X, Y, _≟ᵛ_}
 use Rattle.machine.specs.Steps.{Step, line5, line51, line62, line64, line72, line74, line78, line79, line82}
 use Rattle.machine.specs.Tasks.{Task, none, goto}
-use Rattle.machine.specs.Lines.{
-  Memory,
-  Write,
-  out≔,
-  val≔,
-  hat≔,
-  Effect,
-  next,
-  answers,
-  writing,
-  back,
-  bagOf,
-  act,
-}
+use Rattle.machine.specs.Lines.{Write, out≔, val≔, hat≔, Effect, next, answers, writing, back, bagOf, act}
 use Rattle.machine.proofs.Basics.Contradiction.{clash, refute}
-use Rattle.machine.proofs.Basics.Updates.{Wrote, update, update-wrote}
-use Rattle.machine.proofs.Words.Memories.{write, written}
+use Rattle.machine.proofs.Basics.Updates.{Wrote, update, update-wrote, updateSide}
+use Rattle.machine.proofs.Words.Memories.{View, seenIn, written, view-equal}
 use Rattle.machine.proofs.Linearizability.Model.Classes.{
   Class,
   Old,
@@ -40,18 +27,24 @@ use Rattle.machine.proofs.Linearizability.Model.Classes.{
   in-far,
   old-class,
 }
-use Rattle.machine.proofs.Linearizability.Writes.ClassChanges.{Cut, goes-to-spur, not-cut, cutClass, cutClass-cut}
-use Rattle.machine.proofs.Linearizability.Model.Structure.{LinkedOrCut}
+use Rattle.machine.proofs.Linearizability.Writes.ClassChanges.{
+  Cut,
+  goes-to-spur,
+  not-cut,
+  cutClass,
+  cutClass-cut,
+}
+use Rattle.machine.proofs.Linearizability.Model.Structure.{LinkedOrCut, Frame}
 use Rattle.machine.proofs.Linearizability.Model.Guarantee.{Guarantees, guarantees-refl}
 use Rattle.machine.proofs.Linearizability.Model.Nodes.{old-some, spur-some, own-mark-not-far}
 use Rattle.machine.proofs.Linearizability.Writes.MainWrites.{value-guarantee, value-chains-kept}
-use Rattle.machine.proofs.Linearizability.Writes.Push.{push-main, push-keeps}
-use Rattle.machine.proofs.Linearizability.Writes.Pop.{pop-main, pop-in-row, pop-bag, pop-keeps}
+use Rattle.machine.proofs.Linearizability.Writes.Push.{push-main, push-keeps, pushedFrame}
+use Rattle.machine.proofs.Linearizability.Writes.Pop.{pop-main, pop-in-row, pop-bag, pop-keeps, poppedFrame}
 use Rattle.machine.proofs.Linearizability.Writes.Unspur.{unspur-keeps}
-use Rattle.machine.proofs.Linearizability.Writes.Cut.{cut-A, cut-B, cut-keeps, cut-guarantees}
+use Rattle.machine.proofs.Linearizability.Writes.Cut.{cut-A, cut-B, cut-keeps, cut-guarantees, cutFrame}
 use Rattle.machine.proofs.Linearizability.Writes.Spur.{SpurStep, spur-keeps, spur-guarantees}
 use Rattle.machine.proofs.Linearizability.Writes.SpurLines.{spur-cut, spur-mark-Y, spur-unlink, unlink}
-use Rattle.machine.proofs.Linearizability.Model.Segments.{segment, row-pushed, row-popped}
+use Rattle.machine.proofs.Linearizability.Model.Segments.{row-pushed, row-popped}
 use Rattle.machine.proofs.Linearizability.Model.Reliance.{UnlinkPair}
 use Rattle.machine.proofs.Linearizability.Model.Phases.{with-chain, without-chain, TaskOk}
 use Rattle.machine.proofs.Linearizability.Model.Invariant.{
@@ -62,17 +55,20 @@ use Rattle.machine.proofs.Linearizability.Model.Invariant.{
   goes-on,
   has-answered,
   TickOk,
+  rowOf,
 }
 use Rattle.machine.proofs.Linearizability.Lines.Connectives.{ok-if, ok-dcas}
 use Rattle.machine.proofs.Linearizability.Lines.LineEnds.{fresh-ok, past, goes, answers-ok, back-ok}
 
-module _ (held : ℕ → Bool) (k : ℕ) {s o : Side} {m : Memory} {class : ℕ → Class} {r : List ℕ}
+module _ (held : ℕ → Bool) (k : ℕ) {s o : Side} {m : View} {class : ℕ → Class} {r : List ℕ}
     (L : Lane s o m class r) (t : Task) (g f : ℕ) where
+  open Frame (L .frame) using (at, index, n, a, b, bags)
+
   abbrev Ok : Effect → Type 0
   Ok e = TickOk held k s o m class r t e
 
   abbrev LineOk : Step → Type 0
-  LineOk st = TaskOk k s o m class st t → Ok (act st s o m t g f)
+  LineOk st = TaskOk k s o m class st t → Ok (act st s o (seenIn s m) t g f)
 
   some : (x : ℕ) → Old class x → x ≢ none
   some = old-some (L .structure)
@@ -94,30 +90,25 @@ module _ (held : ℕ → Bool) (k : ℕ) {s o : Side} {m : Memory} {class : ℕ 
   line5-ok h =
       past (t .A) (some _ (h .relies .A-old))
       (past (t .B) (some _ (h .relies .B-old))
-      (ok-dcas Ok (m .hat ≟ t .A) (m .val (t .A) ≟ᵛ N s) done
+      (ok-dcas Ok (m .hats s ≟ t .A) (m .val (t .A) ≟ᵛ N s) done
       (goes L refl (record { relies = h .relies .A-old; chain = h .chain; belongs = h .belongs }))))
     where
-      done : m .hat ≡ t .A
+      done : m .hats s ≡ t .A
           → m .val (t .A) ≡ N s
           → Ok (writing (hat≔ (t .B) ∷ val≔ (t .A) (bag (t .argument)) ∷ []) (answers Pushed))
       done e v =
           let S = L .structure in
           let w = update-wrote (m .val) (t .A) (bag (t .argument)) in
-          let w-bags = update-wrote (L .bags) (L .b) (t .argument) in
+          let w-bags = update-wrote bags b (t .argument) in
           record {
             class' = class;
             r' = r ++ (t .argument ∷ []);
             lane =
                 record {
-                  at = L .at;
-                  index = L .index;
-                  n = L .n;
-                  a = L .a;
-                  b = suc (L .b);
-                  bags = update (L .bags) (L .b) (t .argument);
-                  structure = push-keeps S e v w w-bags (h .relies .B-follows);
+                  frame = pushedFrame (L .frame) (t .argument);
+                  structure = push-keeps S e v w (h .relies .B-follows);
                   row-is =
-                      row-pushed (L .bags) _ (L .a) (L .b) (t .argument) (S .a<b) w-bags
+                      row-pushed bags _ a b (t .argument) (S .a<b) w-bags
                       ∙ ap (λ (l : List ℕ). l ++ (t .argument ∷ [])) (L .row-is);
                 };
             row-step = (h .belongs, refl);
@@ -130,10 +121,10 @@ module _ (held : ℕ → Bool) (k : ℕ) {s o : Side} {m : Memory} {class : ℕ 
   unfolding act
   line51-ok h =
       past (t .B) (some _ (h .relies .pair .B-old))
-      (ok-dcas Ok (m .hat ≟ t .A) (m .val (t .B) ≟ᵛ t .value) done
+      (ok-dcas Ok (m .hats s ≟ t .A) (m .val (t .B) ≟ᵛ t .value) done
       (goes L refl (record { relies = tt; chain = h .chain; belongs = h .belongs })))
     where
-      done : m .hat ≡ t .A
+      done : m .hats s ≡ t .A
           → m .val (t .B) ≡ t .value
           → Ok (writing (hat≔ (t .B) ∷ val≔ (t .B) (N s) ∷ []) (answers (Bag (bagOf (t .value)))))
       done e q =
@@ -143,28 +134,23 @@ module _ (held : ℕ → Bool) (k : ℕ) {s o : Side} {m : Memory} {class : ℕ 
           let B-bag : m .val (t .B) ≡ bag v = q ∙ value-bag in
           let not-Y : m .val (t .B) ≢ Y o = λ y. refute (cc) in
           let p = h .relies .pair .B-precedes in
-          let j : ℕ = L .b - 1 in
-          let ej : suc j ≡ L .b = omega (arith, S .a<b) in
+          let j : ℕ = b - 1 in
+          let ej : suc j ≡ b = omega (arith, S .a<b) in
           let w = update-wrote (m .val) (t .B) (N s) in
-          let bag-j : L .bags j ≡ bagOf (t .value) = pop-bag S ej e p not-Y B-bag ∙ cc in
+          let bag-j : bags j ≡ bagOf (t .value) = pop-bag S ej e p not-Y B-bag ∙ cc in
           record {
             class' = class;
-            r' = segment (L .bags) (suc (L .a)) (j - suc (L .a));
+            r' = rowOf (poppedFrame (L .frame) j);
             lane =
                 record {
-                  at = L .at;
-                  index = L .index;
-                  n = L .n;
-                  a = L .a;
-                  b = j;
-                  bags = L .bags;
+                  frame = poppedFrame (L .frame) j;
                   structure = pop-keeps S ej e p not-Y B-bag w;
                   row-is = refl;
                 };
             row-step = (
               h .belongs,
               sym (L .row-is)
-                  ∙ row-popped (L .bags) (L .a) j (L .b) _ (pop-in-row S ej e p not-Y B-bag) ej bag-j,
+                  ∙ row-popped bags a j b _ (pop-in-row S ej e p not-Y B-bag) ej bag-j,
             );
             guarantees = value-written (t .B) (N s) (pop-main S ej e p not-Y);
             task-ok = fresh-ok (h .chain .none-new);
@@ -175,50 +161,49 @@ module _ (held : ℕ → Bool) (k : ℕ) {s o : Side} {m : Memory} {class : ℕ 
   unfolding act
   line72-ok h =
       past (t .C) (some _ (h .relies .C-old))
-      (ok-if Ok (λ l. writing l (next t (back t))) (m .hat ≟ t .A) done (λ _. goes L refl (goes-back (m .hat))))
+      (ok-if Ok (λ l. writing l (next t (back t))) (m .hats s ≟ t .A) done (λ _. goes L refl (goes-back (m .hats))))
     where
-      goes-back : (x : ℕ) → TaskOk k s o (write (hat≔ x) m) class (back t) (goto t (back t))
-      goes-back x =
+      goes-back : (hats : Side → ℕ)
+          → TaskOk k s o (record { out = m .out; inn = m .inn; val = m .val; hats = hats }) class (back t)
+          (goto t (back t))
+      goes-back hats =
           back-ok (L .structure .none-free) (goto t (back t)) (t .operation) refl (t .D ≟ none)
           (elim (h .chain) [ with-chain c ↦ with-chain c | without-chain c e ↦ without-chain c e ]) (h .belongs)
 
-      done : m .hat ≡ t .A → Ok (writing (hat≔ (t .C) ∷ []) (next t (back t)))
+      done : m .hats s ≡ t .A → Ok (writing (hat≔ (t .C) ∷ []) (next t (back t)))
       done e =
           record {
             class' = class;
             r' = r;
-            lane =
-                same-places L (write (hat≔ (t .C)) m)
-                (unspur-keeps (L .structure) e (h .relies .A-spur) (h .relies .C-follows));
+            lane = same-places L (unspur-keeps (L .structure) e (h .relies .A-spur) (h .relies .C-follows));
             row-step = refl;
             guarantees = guarantees-refl held k;
-            task-ok = goes-back (t .C);
+            task-ok = goes-back (updateSide (m .hats) s (t .C));
             kept = goes-on refl refl;
           }
 
   -- A tick that writes the spur and main's last link only.
   module _ (l : List Write)
-      (same-inn : written l m .inn ≡ m .inn)
-      (same-hat : written l m .hat ≡ m .hat) (same-far : written l m .far ≡ m .far)
-      (T : SpurStep k s o (L .at (L .n)) (m .out) (m .inn) (m .val) class (written l m .out) (written l m .val) class)
-    where
-      spur-written : {t' : Task} {a : Answer}
-          → RowStep (t .operation) (t .argument) a r r
-          → Kept t (record { writes = l; task = t'; answer = a })
-          → TaskOk k s o (written l m) class (t' .step) t'
-          → Ok (record { writes = l; task = t'; answer = a })
-      spur-written row-step kept task-ok =
-          record {
-            class' = class;
-            r' = r;
-            lane =
-                same-places L (written l m)
-                (rw (same-inn, same-hat, same-far) (spur-keeps (L .structure) T));
-            row-step = row-step;
-            guarantees = rw same-inn (spur-guarantees (L .structure) T held);
-            task-ok = task-ok;
-            kept = kept;
-          }
+      (same-inn : written s l m .inn ≡ m .inn) (same-hats : written s l m .hats ≡ m .hats)
+      (T : SpurStep k s o (at n) (m .out) (m .inn) (m .val) class
+      (written s l m .out) (written s l m .val) class) where
+    spur-written : {t' : Task} {a : Answer}
+        → RowStep (t .operation) (t .argument) a r r
+        → Kept t (record { writes = l; task = t'; answer = a })
+        → TaskOk k s o (written s l m) class (t' .step) t'
+        → Ok (record { writes = l; task = t'; answer = a })
+    spur-written row-step kept task-ok =
+        record {
+          class' = class;
+          r' = r;
+          lane =
+              subst (λ (v : View). Lane s o v class r) (view-equal refl (sym same-inn) refl (sym same-hats))
+              (same-places L (spur-keeps (L .structure) T));
+          row-step = row-step;
+          guarantees = rw same-inn (spur-guarantees (L .structure) T held);
+          task-ok = task-ok;
+          kept = kept;
+        }
 
   pub line64-ok : LineOk line64
   unfolding act
@@ -232,7 +217,7 @@ module _ (held : ℕ → Bool) (k : ℕ) {s o : Side} {m : Memory} {class : ℕ 
           let p = h .relies in
           let w = update-wrote (m .out) (t .A) none in
           let T = unlink (L .structure) k w (p .B-spur) e (p .A-old) (λ c. p .not-far c e) in
-          spur-written (out≔ (t .A) none ∷ []) refl refl refl T refl (goes-on refl refl)
+          spur-written (out≔ (t .A) none ∷ []) refl refl T refl (goes-on refl refl)
           (record { relies = p .B-spur; chain = h .chain; belongs = h .belongs })
 
   pub line78-ok : LineOk line78
@@ -246,7 +231,7 @@ module _ (held : ℕ → Bool) (k : ℕ) {s o : Side} {m : Memory} {class : ℕ 
       done =
           let w = update-wrote (m .val) (t .B) (Y s) in
           let T = spur-mark-Y (L .structure) k w (h .relies .B-spur) in
-          spur-written (val≔ (t .B) (Y s) ∷ []) refl refl refl T refl (goes-on refl refl)
+          spur-written (val≔ (t .B) (Y s) ∷ []) refl refl T refl (goes-on refl refl)
           (record { relies = h .relies; chain = h .chain; belongs = h .belongs })
 
   pub line79-ok : LineOk line79
@@ -255,7 +240,7 @@ module _ (held : ℕ → Bool) (k : ℕ) {s o : Side} {m : Memory} {class : ℕ 
       let w = update-wrote (m .out) (t .A) none in
       let T = spur-unlink (L .structure) k w (h .relies .A-spur) in
       past (t .A) (spur-some (L .structure) _ (h .relies .A-spur))
-      (spur-written (out≔ (t .A) none ∷ []) refl refl refl T refl (goes-on refl refl)
+      (spur-written (out≔ (t .A) none ∷ []) refl refl T refl (goes-on refl refl)
       (record { relies = h .relies .B-spur; chain = h .chain; belongs = h .belongs }))
 
   pub line82-ok : LineOk line82
@@ -264,7 +249,7 @@ module _ (held : ℕ → Bool) (k : ℕ) {s o : Side} {m : Memory} {class : ℕ 
       let w = update-wrote (m .out) (t .A) none in
       let T = spur-unlink (L .structure) k w (h .relies) in
       past (t .A) (spur-some (L .structure) _ (h .relies))
-      (spur-written (out≔ (t .A) none ∷ []) refl refl refl T
+      (spur-written (out≔ (t .A) none ∷ []) refl refl T
       (inr (h .belongs), refl) (has-answered (λ e. refute (cc)) refl) (fresh-ok (h .chain .none-new)))
 
   -- ---- Line 62: a cut of main, or in the spur.
@@ -275,20 +260,20 @@ module _ (held : ℕ → Bool) (k : ℕ) {s o : Side} {m : Memory} {class : ℕ 
     w-X : Wrote (m .val) (t .A) (X s) (update (m .val) (t .A) (X s))
     w-X = update-wrote (m .val) (t .A) (X s)
 
-    w-Y : Wrote (update (m .val) (t .A) (X s)) (t .B) (Y s) (written cut-writes m .val)
+    w-Y : Wrote (update (m .val) (t .A) (X s)) (t .B) (Y s) (written s cut-writes m .val)
     w-Y = update-wrote (update (m .val) (t .A) (X s)) (t .B) (Y s)
 
     module _ (A-main : class (t .A) ≡ main) where
       abbrev class₁ : ℕ → Class
-      class₁ = cutClass s class (L .index) (L .index (t .A))
+      class₁ = cutClass s class index (index (t .A))
 
-      cut : (x : ℕ) → Cut s class (L .index) (L .index (t .A)) class₁ x
-      cut = cutClass-cut s class (L .index) (L .index (t .A))
+      cut : (x : ℕ) → Cut s class index (index (t .A)) class₁ x
+      cut = cutClass-cut s class index (index (t .A))
 
       next-A : LinkedOrCut s (m .out) (m .val) class (t .A) (t .B)
       next-A = h .relies .main-next A-main
 
-      cut-pair : UnlinkPair s o (written cut-writes m) class₁ (t .A) (t .B)
+      cut-pair : UnlinkPair s o (written s cut-writes m) class₁ (t .A) (t .B)
       cut-pair =
           let c = cut-A (L .structure) w-X w-Y cut A-main A-N B-N next-A in
           record {
@@ -309,12 +294,7 @@ module _ (held : ℕ → Bool) (k : ℕ) {s o : Side} {m : Memory} {class : ℕ 
             r' = r;
             lane =
                 record {
-                  at = L .at;
-                  index = L .index;
-                  n = L .index (t .A);
-                  a = L .a;
-                  b = L .b;
-                  bags = L .bags;
+                  frame = cutFrame (L .frame) (t .A);
                   structure = cut-keeps (L .structure) w-X w-Y cut A-main A-N B-N next-A;
                   row-is = L .row-is;
                 };
@@ -333,7 +313,7 @@ module _ (held : ℕ → Bool) (k : ℕ) {s o : Side} {m : Memory} {class : ℕ 
       B-spur : class (t .B) ≡ spur s
       B-spur = h .relies .spur-next A-spur
 
-      spur-cut-pair : UnlinkPair s o (written cut-writes m) class (t .A) (t .B)
+      spur-cut-pair : UnlinkPair s o (written s cut-writes m) class (t .A) (t .B)
       spur-cut-pair =
           let sides = L .structure .sides in
           record { A-old = h .relies .A-old; B-spur = B-spur; B-Y = w-Y .here; not-far = λ d. clash (cc) }
@@ -341,7 +321,7 @@ module _ (held : ℕ → Bool) (k : ℕ) {s o : Side} {m : Memory} {class : ℕ 
       line62-spur : Ok (writing cut-writes (next t line64))
       line62-spur =
           let T = spur-cut (L .structure) k w-X w-Y A-spur B-spur (λ y. refute (cc)) in
-          spur-written cut-writes refl refl refl T refl (goes-on refl refl)
+          spur-written cut-writes refl refl T refl (goes-on refl refl)
           (record { relies = spur-cut-pair; chain = h .chain; belongs = h .belongs })
 
     line62-done : Ok (writing cut-writes (next t line64))

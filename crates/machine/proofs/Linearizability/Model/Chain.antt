@@ -5,7 +5,7 @@ use Prim.Native.Nat.{ℕ, _≤_, _<_}
 use Rattle.machine.specs.Sides.{Side}
 use Rattle.machine.specs.Values.{Value, N, X}
 use Rattle.machine.specs.Tasks.{none}
-use Rattle.machine.specs.Lines.{Memory}
+use Rattle.machine.proofs.Words.Memories.{View}
 use Rattle.machine.proofs.Linearizability.Model.Classes.{Class, new, Old}
 use Rattle.machine.proofs.Linearizability.Model.Structure.{Linked}
 
@@ -30,7 +30,7 @@ pub record HasChain (k : ℕ) (s : Side) (out inn : ℕ → ℕ) (val : ℕ → 
   pub chain : Chain s k out inn val class node place m
   pub head : d ≡ node 0
 
-abbrev pub HasChainIn : (k : ℕ) → Side → Memory → (ℕ → Class) → (d : ℕ) → Type 0
+abbrev pub HasChainIn : (k : ℕ) → Side → View → (ℕ → Class) → (d : ℕ) → Type 0
 HasChainIn k s m class d = HasChain k s (m .out) (m .inn) (m .val) class d
 
 -- Task k has no chain.

@@ -6,8 +6,8 @@ use Prim.Native.Nat.{ℕ}
 use Rattle.machine.specs.Sides.{Side}
 use Rattle.machine.specs.Values.{Value, Y}
 use Rattle.machine.specs.Tasks.{none}
-use Rattle.machine.specs.Lines.{Memory}
 use Rattle.machine.proofs.Basics.Contradiction.{clash, refute}
+use Rattle.machine.proofs.Words.Memories.{View}
 use Rattle.machine.proofs.Linearizability.Model.Classes.{Class, main, spur, new, Old}
 use Rattle.machine.proofs.Linearizability.Model.Structure.{CutFrom}
 
@@ -50,12 +50,12 @@ pub record Guarantees (held : ℕ → Bool) (k : ℕ) (s o : Side)
   pub far : Guarantee held o inn out val class inn' out' val' class'
   pub chains : ChainsKept k out inn val class out' inn' val' class'
 
--- The same, of a memory before and one after.
-abbrev pub SameIn : (m m' : Memory) (x : ℕ) → Type 0
+-- The same, of a view before and one after.
+abbrev pub SameIn : (m m' : View) (x : ℕ) → Type 0
 SameIn m m' x = SameWords (m .out) (m .inn) (m .val) (m' .out) (m' .inn) (m' .val) x
 
 abbrev pub GuaranteesIn : (held : ℕ → Bool) (k : ℕ) (s o : Side)
-    (m : Memory) (class : ℕ → Class) (m' : Memory) (class' : ℕ → Class) → Type 0
+    (m : View) (class : ℕ → Class) (m' : View) (class' : ℕ → Class) → Type 0
 GuaranteesIn held k s o m class m' class' =
     Guarantees held k s o (m .out) (m .inn) (m .val) class (m' .out) (m' .inn) (m' .val) class'
 

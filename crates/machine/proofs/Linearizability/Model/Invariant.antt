@@ -10,51 +10,38 @@ use Rattle.machine.specs.Sides.{Side, left, right, opposite}
 use Rattle.machine.specs.Operations.{Operation, push, pop, add, remove}
 use Rattle.machine.specs.Tasks.{Task, fresh, none, Register, register}
 use Rattle.machine.specs.Registers.{holds}
-use Rattle.machine.specs.Lines.{Memory, Effect}
+use Rattle.machine.specs.Lines.{Effect}
 use Rattle.machine.specs.Row.{Note}
+use Rattle.machine.proofs.Words.Memories.{View, written, view}
 use Rattle.machine.proofs.Linearizability.Model.Classes.{Class}
-use Rattle.machine.proofs.Words.Memories.{view, written}
-use Rattle.machine.proofs.Linearizability.Model.Structure.{Structure}
+use Rattle.machine.proofs.Linearizability.Model.Structure.{Frame, Structure}
 use Rattle.machine.proofs.Linearizability.Model.Segments.{segment}
 use Rattle.machine.proofs.Linearizability.Model.Guarantee.{GuaranteesIn}
-use Rattle.machine.proofs.Linearizability.Model.Held.{Closed}
+use Rattle.machine.proofs.Linearizability.Model.Held.{ClosedSet}
 use Rattle.machine.proofs.Linearizability.Model.Phases.{TaskOk}
 
+-- The bags of a lane in their order, the far one first.
+abbrev pub rowOf : Frame → List ℕ
+rowOf F = segment (F .bags) (suc (F .a)) (F .b - suc (F .a))
+
 -- The deque seen from side s carries the row r, the bags between the hats.
-pub record Lane (s o : Side) (m : Memory) (class : ℕ → Class) (r : List ℕ) : Type 0 where
-  pub at : ℕ → ℕ
-  pub index : ℕ → ℕ
-  pub n : ℕ
-  pub a : ℕ
-  pub b : ℕ
-  pub bags : ℕ → ℕ
-  pub structure : Structure s o (m .out) (m .inn) (m .val) (m .hat) (m .far) class at index n a b bags
-  pub row-is : segment bags (suc a) (b - suc a) ≡ r
+pub record Lane (s o : Side) (m : View) (class : ℕ → Class) (r : List ℕ) : Type 0 where
+  pub frame : Frame
+  pub structure : Structure s o m class frame
+  pub row-is : rowOf frame ≡ r
 
--- The same row, at the same places of main, in another memory.
-pub same-places : {s o : Side} {m : Memory} {class : ℕ → Class} {r : List ℕ} (L : Lane s o m class r)
-    (m' : Memory) {class' : ℕ → Class}
-    → Structure s o (m' .out) (m' .inn) (m' .val) (m' .hat) (m' .far) class'
-    (L .at) (L .index) (L .n) (L .a) (L .b) (L .bags)
+-- The same row, at the same places of main, in another view.
+pub same-places : {s o : Side} {m m' : View} {class class' : ℕ → Class} {r : List ℕ} (L : Lane s o m class r)
+    → Structure s o m' class' (L .frame)
     → Lane s o m' class' r
-same-places L m' S =
-    record {
-      at = L .at;
-      index = L .index;
-      n = L .n;
-      a = L .a;
-      b = L .b;
-      bags = L .bags;
-      structure = S;
-      row-is = L .row-is;
-    }
+same-places L S = record { frame = L .frame; structure = S; row-is = L .row-is }
 
--- What holds of task j with the record t, in a memory M seen from the right.
-abbrev pub TaskOkIn : (j : ℕ) → Memory → (ℕ → Class) → Task → Type 0
+-- What holds of task j with the record t, in a view M from the right.
+abbrev pub TaskOkIn : (j : ℕ) → View → (ℕ → Class) → Task → Type 0
 TaskOkIn j M class t = TaskOk j (t .side) (opposite (t .side)) (view (t .side) M) class (t .step) t
 
--- The invariant of a table: M is its memory seen from the right, ts its tasks, r its row.
-pub record Invariant (M : Memory) (ts : ℕ → Task) (class : ℕ → Class) (r : List ℕ) : Type 0 where
+-- The invariant of a table: M is its view from the right, ts its tasks, r its row.
+pub record Invariant (M : View) (ts : ℕ → Task) (class : ℕ → Class) (r : List ℕ) : Type 0 where
   pub lane : Lane right left M class r
   pub task-ok : (j : ℕ) → TaskOkIn j M class (ts j)
 
@@ -66,11 +53,8 @@ RegistersHeld held some t = (r : Register) → some r ≡ true → register t r 
 
 -- A set of nodes closed under links that holds the hats and the registers that hold: a take may give any node outside
 -- it.
-pub record Roots (held : ℕ → Bool) (M : Memory) (ts : ℕ → Task) : Type 0 where
-  pub out-closed : Closed held (M .out)
-  pub inn-closed : Closed held (M .inn)
-  pub hat-held : held (M .hat) ≡ true
-  pub far-held : held (M .far) ≡ true
+pub record Roots (held : ℕ → Bool) (M : View) (ts : ℕ → Task) : Type 0 where
+  pub closed : ClosedSet held M
   pub registers : (j : ℕ) → RegistersHeld held (holds (ts j .step)) (ts j)
 
 -- ---- What a tick comes to.
@@ -96,12 +80,12 @@ pub data Kept (t : Task) (e : Effect) : Type 0 where
   has-answered : e .answer ≢ Going → e .task ≡ fresh → Kept t e
 
 -- A tick of task k with effect e, seen from its side s.
-pub record TickOk (held : ℕ → Bool) (k : ℕ) (s o : Side) (m : Memory) (class : ℕ → Class) (r : List ℕ)
+pub record TickOk (held : ℕ → Bool) (k : ℕ) (s o : Side) (m : View) (class : ℕ → Class) (r : List ℕ)
     (t : Task) (e : Effect) : Type 0 where
   pub class' : ℕ → Class
   pub r' : List ℕ
-  pub lane : Lane s o (written (e .writes) m) class' r'
+  pub lane : Lane s o (written s (e .writes) m) class' r'
   pub row-step : RowStep (t .operation) (t .argument) (e .answer) r r'
-  pub guarantees : GuaranteesIn held k s o m class (written (e .writes) m) class'
-  pub task-ok : TaskOk k s o (written (e .writes) m) class' (e .task .step) (e .task)
+  pub guarantees : GuaranteesIn held k s o m class (written s (e .writes) m) class'
+  pub task-ok : TaskOk k s o (written s (e .writes) m) class' (e .task .step) (e .task)
   pub kept : Kept t e

@@ -7,6 +7,7 @@ use Rattle.machine.specs.Sides.{Side}
 use Rattle.machine.specs.Values.{Value, never, bag, N, X, Y}
 use Rattle.machine.specs.Tasks.{none}
 use Rattle.machine.proofs.Basics.Contradiction.{clash, less?, refute}
+use Rattle.machine.proofs.Words.Memories.{View}
 use Rattle.machine.proofs.Linearizability.Model.Classes.{
   Class,
   main,
@@ -20,24 +21,25 @@ use Rattle.machine.proofs.Linearizability.Model.Classes.{
   of,
   owner,
 }
-use Rattle.machine.proofs.Linearizability.Model.Structure.{Structure}
+use Rattle.machine.proofs.Linearizability.Model.Structure.{Frame, Structure}
 use Rattle.machine.proofs.Linearizability.Model.Reversal.{reversed}
 
 -- The value at index i of main, by the zone that i is in.
-pub data Zone (s o : Side) (v : Value) (i n a b : ℕ) : Type 0 where
-  first : i ≡ 0 → v ≡ X o → Zone s o v i n a b
-  far-zone : 0 < i → i ≤ a → v ≡ N o → Zone s o v i n a b
-  row-zone : (u : ℕ) → a < i → i < b → v ≡ bag u → Zone s o v i n a b
-  near-zone : b ≤ i → i < n → v ≡ N s → Zone s o v i n a b
-  last : i ≡ n → v ≡ X s → Zone s o v i n a b
+pub data Zone (s o : Side) (v : Value) (F : Frame) (i : ℕ) : Type 0 where
+  first : i ≡ 0 → v ≡ X o → Zone s o v F i
+  far-zone : 0 < i → i ≤ F .a → v ≡ N o → Zone s o v F i
+  row-zone : (u : ℕ) → F .a < i → i < F .b → v ≡ bag u → Zone s o v F i
+  near-zone : F .b ≤ i → i < F .n → v ≡ N s → Zone s o v F i
+  last : i ≡ F .n → v ≡ X s → Zone s o v F i
 
-module _ {s o : Side} {out inn : ℕ → ℕ} {val : ℕ → Value} {hat far : ℕ} {class : ℕ → Class}
-    {at index : ℕ → ℕ} {n a b : ℕ} {bags : ℕ → ℕ}
-    (S : Structure s o out inn val hat far class at index n a b bags) where
+module _ {s o : Side} {m : View} {class : ℕ → Class} {F : Frame} (S : Structure s o m class F) where
+  open View m using (out, val, hats)
+  open Frame F using (at, index, n, a, b, bags)
+
   pub at-apart : (i j : ℕ) → i ≤ n → j ≤ n → i ≢ j → at i ≢ at j
   at-apart i j hi hj h = λ e. h (cc (S .main-list .index-at i hi, S .main-list .index-at j hj))
 
-  pub zone-at : (i : ℕ) → i ≤ n → Zone s o (val (at i)) i n a b
+  pub zone-at : (i : ℕ) → i ≤ n → Zone s o (val (at i)) F i
   zone-at i h =
       elim (less? i n) [
         | inr k ↦ let e : i ≡ n = omega arith in last e (cc (S .values .X-last))
@@ -56,9 +58,9 @@ module _ {s o : Side} {out inn : ℕ → ℕ} {val : ℕ → Value} {hat far : �
             ]
       ]
 
-  pub zone : (x : ℕ) → class x ≡ main → Zone s o (val x) (index x) n a b
+  pub zone : (x : ℕ) → class x ≡ main → Zone s o (val x) F (index x)
   zone x c =
-      subst (λ (y : ℕ). Zone s o (val y) (index x) n a b) (S .main-list .at-index x c)
+      subst (λ (y : ℕ). Zone s o (val y) F (index x)) (S .main-list .at-index x c)
       (zone-at (index x) (S .main-list .index-le x c))
 
   pub main-not-never : (x : ℕ) → class x ≡ main → val x ≢ never
@@ -105,7 +107,7 @@ module _ {s o : Side} {out inn : ℕ → ℕ} {val : ℕ → Value} {hat far : �
   pub spur-some : (x : ℕ) {z : Side} → class x ≡ spur z → x ≢ none
   spur-some x h = old-some x (cc)
 
-  pub hat-old : Old class hat
+  pub hat-old : Old class (hats s)
   hat-old =
       elim (S .near-hat (b - 1) (omega (arith, S .a<b))) [
         | inl h ↦ cc (S .main-list .is-main b (S .b≤n))
@@ -150,8 +152,6 @@ module _ {s o : Side} {out inn : ℕ → ℕ} {val : ℕ → Value} {hat far : �
   pub own-mark-not-far : (x : ℕ) → owner (val x) ≡ of s → class x ≢ spur o
   own-mark-not-far x v c = refute (cc (S .far-spur .own-mark x c))
 
-module _ {s o : Side} {out inn : ℕ → ℕ} {val : ℕ → Value} {hat far : ℕ} {class : ℕ → Class}
-    {at index : ℕ → ℕ} {n a b : ℕ} {bags : ℕ → ℕ}
-    (S : Structure s o out inn val hat far class at index n a b bags) where
-  pub inn-old : (x : ℕ) → Old class x → inn x ≢ none → Old class (inn x)
+module _ {s o : Side} {m : View} {class : ℕ → Class} {F : Frame} (S : Structure s o m class F) where
+  pub inn-old : (x : ℕ) → Old class x → m .inn x ≢ none → Old class (m .inn x)
   inn-old = out-old (reversed S)

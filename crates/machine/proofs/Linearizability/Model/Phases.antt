@@ -10,8 +10,8 @@ use Rattle.machine.specs.Steps.{Step, rest}
 use Rattle.machine.specs.Steps as Steps
 use Rattle.machine.specs.Tasks.{Task, Register, inD}
 use Rattle.machine.specs.Registers.{among, holds}
-use Rattle.machine.specs.Lines.{Memory}
 use Rattle.machine.proofs.Basics.Everywhere.{each, implies, implied}
+use Rattle.machine.proofs.Words.Memories.{View}
 use Rattle.machine.proofs.Linearizability.Model.Classes.{Class}
 use Rattle.machine.proofs.Linearizability.Model.Chain.{HasChainIn, NoChain}
 use Rattle.machine.proofs.Linearizability.Model.Reliance.{
@@ -49,11 +49,11 @@ Belongs popping op = op ≡ pop
 Belongs removing op = op ≡ remove
 
 -- Lines 67 to 72: a task without a chain came from its push.
-pub data MaybeChain (k : ℕ) (s : Side) (m : Memory) (class : ℕ → Class) (d : ℕ) (op : Operation) : Type 0 where
+pub data MaybeChain (k : ℕ) (s : Side) (m : View) (class : ℕ → Class) (d : ℕ) (op : Operation) : Type 0 where
   with-chain : HasChainIn k s m class d → MaybeChain k s m class d op
   without-chain : NoChain k class d → op ≡ push → MaybeChain k s m class d op
 
-abbrev pub Chains : Phase → (k : ℕ) → Side → Memory → (ℕ → Class) → Task → Type 0
+abbrev pub Chains : Phase → (k : ℕ) → Side → View → (ℕ → Class) → Task → Type 0
 Chains resting k s m class t = NoChain k class (t .D)
 Chains pushing k s m class t = NoChain k class (t .D)
 Chains growing k s m class t = NoChain k class (t .D)
@@ -128,7 +128,7 @@ leading-holds st r =
     (each (λ x y. implies (among (leading (facts x .phase)) y) (holds x y)) refl st r)
 
 -- What holds of task k, at step st, seen from its side s.
-pub record TaskOk (k : ℕ) (s o : Side) (m : Memory) (class : ℕ → Class) (st : Step) (t : Task) : Type 0 where
+pub record TaskOk (k : ℕ) (s o : Side) (m : View) (class : ℕ → Class) (st : Step) (t : Task) : Type 0 where
   pub relies : Relies (facts st .reliance) k s o m class t
   pub chain : Chains (facts st .phase) k s m class t
   pub belongs : Belongs (facts st .phase) (t .operation)

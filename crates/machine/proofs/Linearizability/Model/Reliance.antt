@@ -6,66 +6,66 @@ use Prim.Native.Nat.{ℕ}
 use Rattle.machine.specs.Sides.{Side}
 use Rattle.machine.specs.Values.{Value, bag, N, X, Y}
 use Rattle.machine.specs.Tasks.{Task, Register, inA, inB, inC}
-use Rattle.machine.specs.Lines.{Memory}
+use Rattle.machine.proofs.Words.Memories.{View}
 use Rattle.machine.proofs.Linearizability.Model.Classes.{Class, main, spur, new, Old}
 use Rattle.machine.proofs.Linearizability.Model.Structure.{Follows, LinkedOrCut, Precedes}
 
 -- Line 5: B follows A outward.
-pub record PushPair (s : Side) (m : Memory) (class : ℕ → Class) (A B : ℕ) : Type 0 where
+pub record PushPair (s : Side) (m : View) (class : ℕ → Class) (A B : ℕ) : Type 0 where
   pub A-old : Old class A
   pub B-old : Old class B
   pub B-follows : Follows s (m .out) (m .inn) (m .val) class A B
 
 -- Line 69: A has been cut off.
-pub record OnY (s : Side) (m : Memory) (class : ℕ → Class) (A : ℕ) : Type 0 where
+pub record OnY (s : Side) (m : View) (class : ℕ → Class) (A : ℕ) : Type 0 where
   pub A-spur : class A ≡ spur s
   pub A-Y : m .val A ≡ Y s
 
 -- Line 70: and B is inward of it.
-pub record BehindY (s : Side) (m : Memory) (class : ℕ → Class) (A B : ℕ) : Type 0 where
+pub record BehindY (s : Side) (m : View) (class : ℕ → Class) (A B : ℕ) : Type 0 where
   pub A-spur : class A ≡ spur s
   pub A-Y : m .val A ≡ Y s
   pub B-inward : B ≡ m .inn A
 
 -- Line 72: A has been cut off, and C follows what is inward of it.
-pub record PastY (s : Side) (m : Memory) (class : ℕ → Class) (A C : ℕ) : Type 0 where
+pub record PastY (s : Side) (m : View) (class : ℕ → Class) (A C : ℕ) : Type 0 where
   pub A-spur : class A ≡ spur s
   pub A-Y : m .val A ≡ Y s
   pub C-old : Old class C
   pub C-follows : Follows s (m .out) (m .inn) (m .val) class (m .inn A) C
 
 -- Line 25: the chain's first node D leads inward to A.
-pub record SplicePoint (k : ℕ) (m : Memory) (class : ℕ → Class) (A D : ℕ) : Type 0 where
+pub record SplicePoint (k : ℕ) (m : View) (class : ℕ → Class) (A D : ℕ) : Type 0 where
   pub A-old : Old class A
   pub D-new : class D ≡ new k
   pub D-inward : m .inn D ≡ A
 
 -- Line 42: B precedes A.
-pub record PopPair (o : Side) (m : Memory) (class : ℕ → Class) (A B : ℕ) : Type 0 where
+pub record PopPair (o : Side) (m : View) (class : ℕ → Class) (A B : ℕ) : Type 0 where
   pub A-old : Old class A
   pub B-old : Old class B
   pub B-precedes : Precedes o (m .inn) (m .val) class A B
 
 -- Line 48: and the value read there was N or X of the other side.
-pub record EmptyPair (o : Side) (m : Memory) (class : ℕ → Class) (A B : ℕ) (v : Value) : Type 0 where
+pub record EmptyPair (o : Side) (m : View) (class : ℕ → Class) (A B : ℕ) (v : Value) : Type 0 where
   pub pair : PopPair o m class A B
   pub read-mark : (v ≡ N o) ⊎ (v ≡ X o)
 
 -- Line 51: and the value read there was a bag.
-pub record BagPair (o : Side) (m : Memory) (class : ℕ → Class) (A B : ℕ) (v : Value) : Type 0 where
+pub record BagPair (o : Side) (m : View) (class : ℕ → Class) (A B : ℕ) (v : Value) : Type 0 where
   pub pair : PopPair o m class A B
   pub bag-read : ℕ
   pub read-bag : v ≡ bag bag-read
 
 -- Line 62: B is outward of A or has been cut off, and is in the spur if A is.
-pub record CutPair (s : Side) (m : Memory) (class : ℕ → Class) (A B : ℕ) : Type 0 where
+pub record CutPair (s : Side) (m : View) (class : ℕ → Class) (A B : ℕ) : Type 0 where
   pub A-old : Old class A
   pub B-old : Old class B
   pub main-next : class A ≡ main → LinkedOrCut s (m .out) (m .val) class A B
   pub spur-next : class A ≡ spur s → class B ≡ spur s
 
 -- Line 64: B has been cut off; a node of the far spur does not lead to it.
-pub record UnlinkPair (s o : Side) (m : Memory) (class : ℕ → Class) (A B : ℕ) : Type 0 where
+pub record UnlinkPair (s o : Side) (m : View) (class : ℕ → Class) (A B : ℕ) : Type 0 where
   pub A-old : Old class A
   pub B-spur : class B ≡ spur s
   pub B-Y : m .val B ≡ Y s
@@ -98,7 +98,7 @@ relied on-spur-B = inB ∷ []
 relied on-spur-pair = inA ∷ inB ∷ []
 relied on-spur-A = inA ∷ []
 
-abbrev pub Relies : Reliance → (k : ℕ) (s o : Side) → Memory → (ℕ → Class) → Task → Type 0
+abbrev pub Relies : Reliance → (k : ℕ) (s o : Side) → View → (ℕ → Class) → Task → Type 0
 Relies on-nothing k s o m class t = Unit {0}
 Relies on-old-A k s o m class t = Old class (t .A)
 Relies on-push-pair k s o m class t = PushPair s m class (t .A) (t .B)

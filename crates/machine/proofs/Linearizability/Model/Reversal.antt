@@ -3,14 +3,27 @@ use mathlib.Core.Path.{_≡_, _∙_}
 use Prim.Native.Nat.{ℕ, suc, _-_}
 use native.Mathlib.Omega.{arith}
 use Rattle.machine.specs.Sides.{Side}
-use Rattle.machine.specs.Values.{Value}
+use Rattle.machine.proofs.Words.Memories.{View, swapped}
 use Rattle.machine.proofs.Linearizability.Model.Sides.{exchanged}
 use Rattle.machine.proofs.Linearizability.Model.Classes.{Class}
-use Rattle.machine.proofs.Linearizability.Model.Structure.{Main, MainValues, Linked, Structure}
+use Rattle.machine.proofs.Linearizability.Model.Structure.{Main, Frame, MainValues, Linked, Structure}
 
-module _ {s o : Side} {out inn : ℕ → ℕ} {val : ℕ → Value} {hat far : ℕ} {class : ℕ → Class}
-    {at index : ℕ → ℕ} {n a b : ℕ} {bags : ℕ → ℕ}
-    (S : Structure s o out inn val hat far class at index n a b bags) where
+-- The same places counted from the other end.
+abbrev pub reversedFrame : Frame → Frame
+reversedFrame F =
+    record {
+      at = λ i. F .at (F .n - i);
+      index = λ x. F .n - F .index x;
+      n = F .n;
+      a = F .n - F .b;
+      b = F .n - F .a;
+      bags = λ i. F .bags (F .n - i);
+    }
+
+module _ {s o : Side} {m : View} {class : ℕ → Class} {F : Frame} (S : Structure s o m class F) where
+  open View m using (out, inn, val)
+  open Frame F using (at, index, n, a, b)
+
   at-equal : (i j : ℕ) → i ≡ j → at i ≡ at j
   at-equal i j e = cc
 
@@ -48,19 +61,18 @@ module _ {s o : Side} {out inn : ℕ → ℕ} {val : ℕ → Value} {hat far : �
   n-n-b : n - (n - b) ≡ b
   n-n-b = omega (arith, S .b≤n)
 
-  values-reversed : MainValues o s val (λ i. at (n - i)) n (n - b) (n - a) (λ i. bags (n - i))
+  values-reversed : MainValues o s val (reversedFrame F)
   values-reversed =
       record {
-        X-first = rw n-0 (S .values .X-last);
+        X-first = rw (reversedFrame, n-0) (S .values .X-last);
         N-far = λ i h k. S .values .N-near (n - i) (omega (arith, S .b≤n)) (omega arith);
         bag-between =
             λ i h k. S .values .bag-between (n - i) (omega (arith, S .b≤n)) (omega (arith, S .b≤n));
         N-near = λ i h k. S .values .N-far (n - i) (omega arith) (omega (arith, S .a<b, S .b≤n));
-        X-last = rw n-n (S .values .X-first);
+        X-last = rw (reversedFrame, n-n) (S .values .X-first);
       }
 
-  pub reversed : Structure o s inn out val far hat class
-      (λ i. at (n - i)) (λ x. n - index x) n (n - b) (n - a) (λ i. bags (n - i))
+  pub reversed : Structure o s (swapped m) class (reversedFrame F)
   reversed =
       record {
         sides = exchanged (S .sides);
@@ -70,10 +82,12 @@ module _ {s o : Side} {out inn : ℕ → ℕ} {val : ℕ → Value} {hat far : �
         main-list = main-reversed;
         values = values-reversed;
         links = links-reversed;
-        last-out = rw n-n (S .first-in);
-        first-in = rw n-0 (S .last-out);
-        near-hat = λ j e. let z : n - j ≡ suc a = omega (arith, S .a<b, S .b≤n) in rw (n-n-a, z) (S .far-hat);
-        far-hat = rw n-n-b (S .near-hat (n - suc (n - b)) (omega (arith, S .a<b, S .b≤n)));
+        last-out = rw (reversedFrame, n-n) (S .first-in);
+        first-in = rw (reversedFrame, n-0) (S .last-out);
+        near-hat =
+            λ j e. let z : n - j ≡ suc a = omega (arith, S .a<b, S .b≤n) in
+            rw (reversedFrame, n-n-a, z) (S .far-hat);
+        far-hat = rw (reversedFrame, n-n-b) (S .near-hat (n - suc (n - b)) (omega (arith, S .a<b, S .b≤n)));
         near-spur = S .far-spur;
         far-spur = S .near-spur;
       }

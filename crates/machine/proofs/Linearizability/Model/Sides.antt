@@ -3,6 +3,8 @@ use mathlib.Core.Path.{_≡_, refl}
 use mathlib.Core.Logic.{_⊎_, inl, inr}
 use mathlib.Core.Bool.{Bool, true, false, not}
 use Rattle.machine.specs.Sides.{Side, left, right, opposite}
+use Rattle.machine.proofs.Basics.Contradiction.{clash}
+use Rattle.machine.proofs.Basics.Updates.{updateSide}
 
 -- s and o are the two sides. The tag tells them apart in a form that `cc` reads.
 pub record Opposite (s o : Side) : Type 0 where
@@ -35,3 +37,10 @@ exchanged w =
       tag-far = cc;
       either = λ z. elim (w .either z) [ inl e ↦ inr e | inr e ↦ inl e ];
     }
+
+-- What is written at one side is not written at the other.
+pub updateSide-other : {T : Type 0} (f : Side → T) (s o : Side) (v : T) → Opposite s o → updateSide f s v o ≡ f o
+updateSide-other f left left v w = clash (cc (w .tag-near, w .tag-far))
+updateSide-other f left right v w = refl
+updateSide-other f right left v w = refl
+updateSide-other f right right v w = clash (cc (w .tag-near, w .tag-far))

@@ -5,6 +5,7 @@ use Prim.Native.Nat.{ℕ, suc, _≤_, _<_}
 use Rattle.machine.specs.Sides.{Side}
 use Rattle.machine.specs.Values.{Value, bag, N, X, Y}
 use Rattle.machine.specs.Tasks.{none}
+use Rattle.machine.proofs.Words.Memories.{View}
 use Rattle.machine.proofs.Linearizability.Model.Sides.{Opposite}
 use Rattle.machine.proofs.Linearizability.Model.Classes.{Class, free, main, spur, Old, of, owner}
 
@@ -35,13 +36,28 @@ pub record Main (class : ℕ → Class) (at index : ℕ → ℕ) (n : ℕ) : Typ
   pub index-le : (x : ℕ) → class x ≡ main → index x ≤ n
   pub at-index : (x : ℕ) → class x ≡ main → at (index x) ≡ x
 
+-- Where the parts of a lane are, by their indices in main.
+pub record Frame : Type 0 where
+  -- The node at an index.
+  pub at : ℕ → ℕ
+  -- The index of a node.
+  pub index : ℕ → ℕ
+  -- The last index.
+  pub n : ℕ
+  -- The far hat's index.
+  pub a : ℕ
+  -- The near hat's index.
+  pub b : ℕ
+  -- The bag at an index strictly between the hats.
+  pub bags : ℕ → ℕ
+
 -- The values along main: X of the far side, its Ns up to index a, bags before index b, Ns of the near side, and its X.
-pub record MainValues (s o : Side) (val : ℕ → Value) (at : ℕ → ℕ) (n a b : ℕ) (bags : ℕ → ℕ) : Type 0 where
-  pub X-first : val (at 0) ≡ X o
-  pub N-far : (i : ℕ) → 0 < i → i ≤ a → val (at i) ≡ N o
-  pub bag-between : (i : ℕ) → a < i → i < b → val (at i) ≡ bag (bags i)
-  pub N-near : (i : ℕ) → b ≤ i → i < n → val (at i) ≡ N s
-  pub X-last : val (at n) ≡ X s
+pub record MainValues (s o : Side) (val : ℕ → Value) (F : Frame) : Type 0 where
+  pub X-first : val (F .at 0) ≡ X o
+  pub N-far : (i : ℕ) → 0 < i → i ≤ F .a → val (F .at i) ≡ N o
+  pub bag-between : (i : ℕ) → F .a < i → i < F .b → val (F .at i) ≡ bag (F .bags i)
+  pub N-near : (i : ℕ) → F .b ≤ i → i < F .n → val (F .at i) ≡ N s
+  pub X-last : val (F .at (F .n)) ≡ X s
 
 pub record Linked (out inn : ℕ → ℕ) (at : ℕ → ℕ) (n : ℕ) : Type 0 where
   pub links-out : (i : ℕ) → i < n → out (at i) ≡ at (suc i)
@@ -53,22 +69,23 @@ pub record Spur (s : Side) (out inn : ℕ → ℕ) (val : ℕ → Value) (class 
   pub inward-old : (x : ℕ) → class x ≡ spur s → Old class (inn x)
   pub outward-spur : (x : ℕ) → class x ≡ spur s → (out x ≡ none) ⊎ (class (out x) ≡ spur s)
 
--- The far hat's index is a, the near hat's b, and the bags stand strictly between. A hat is at its index, or at a node
--- that was cut off there.
-pub record Structure
-    (s o : Side) (out inn : ℕ → ℕ) (val : ℕ → Value) (hat far : ℕ) (class : ℕ → Class)
-    (at index : ℕ → ℕ) (n a b : ℕ) (bags : ℕ → ℕ) : Type 0 where
-  pub sides : Opposite s o
-  pub none-free : class none ≡ free
-  pub a<b : a < b
-  pub b≤n : b ≤ n
-  pub main-list : Main class at index n
-  pub values : MainValues s o val at n a b bags
-  pub links : Linked out inn at n
-  -- Main's ends lead to none, or to a node that was cut off there.
-  pub last-out : (out (at n) ≡ none) ⊎ CutFrom s inn val class (out (at n)) (at n)
-  pub first-in : (inn (at 0) ≡ none) ⊎ CutFrom o out val class (inn (at 0)) (at 0)
-  pub near-hat : (j : ℕ) → suc j ≡ b → (hat ≡ at b) ⊎ CutFrom s inn val class hat (at j)
-  pub far-hat : (far ≡ at a) ⊎ CutFrom o out val class far (at (suc a))
-  pub near-spur : Spur s out inn val class
-  pub far-spur : Spur o inn out val class
+-- The deque seen from side s. A hat is at its index, or at a node that was cut off there.
+module _ (s o : Side) (m : View) (class : ℕ → Class) (F : Frame) where
+  open View m using (out, inn, val, hats)
+  open Frame F using (at, index, n, a, b)
+
+  pub record Structure : Type 0 where
+    pub sides : Opposite s o
+    pub none-free : class none ≡ free
+    pub a<b : a < b
+    pub b≤n : b ≤ n
+    pub main-list : Main class at index n
+    pub values : MainValues s o val F
+    pub links : Linked out inn at n
+    -- Main's ends lead to none, or to a node that was cut off there.
+    pub last-out : (out (at n) ≡ none) ⊎ CutFrom s inn val class (out (at n)) (at n)
+    pub first-in : (inn (at 0) ≡ none) ⊎ CutFrom o out val class (inn (at 0)) (at 0)
+    pub near-hat : (j : ℕ) → suc j ≡ b → (hats s ≡ at b) ⊎ CutFrom s inn val class (hats s) (at j)
+    pub far-hat : (hats o ≡ at a) ⊎ CutFrom o out val class (hats o) (at (suc a))
+    pub near-spur : Spur s out inn val class
+    pub far-spur : Spur o inn out val class

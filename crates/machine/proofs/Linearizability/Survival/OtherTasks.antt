@@ -9,8 +9,8 @@ use Rattle.machine.specs.Sides.{Side}
 use Rattle.machine.specs.Steps.{Step}
 use Rattle.machine.specs.Tasks.{Task, none, inA, inB, inC, inD}
 use Rattle.machine.specs.Registers.{among, holds}
-use Rattle.machine.specs.Lines.{Memory}
 use Rattle.machine.proofs.Basics.Contradiction.{refute}
+use Rattle.machine.proofs.Words.Memories.{View}
 use Rattle.machine.proofs.Linearizability.Model.Sides.{Opposite}
 use Rattle.machine.proofs.Linearizability.Model.Classes.{Class, free, spur, Old, old-not-none}
 use Rattle.machine.proofs.Linearizability.Model.Structure.{Spur}
@@ -70,8 +70,8 @@ use Rattle.machine.proofs.Linearizability.Survival.Stability.{
   spur-next-stable,
 }
 
--- Task t is not the one that ticks, and sees the memory change from m to m'.
-module _ {held : ℕ → Bool} {k : ℕ} {s o : Side} (w : Opposite s o) (m m' : Memory) {class class' : ℕ → Class}
+-- Task t is not the one that ticks, and sees its view change from m to m'.
+module _ {held : ℕ → Bool} {k : ℕ} {s o : Side} (w : Opposite s o) (m m' : View) {class class' : ℕ → Class}
     (G : GuaranteesIn held k s o m class m' class')
     (none-free : class none ≡ free) (none-free' : class' none ≡ free)
     (near-spur : Spur s (m .out) (m .inn) (m .val) class) (near-spur' : Spur s (m' .out) (m' .inn) (m' .val) class')

@@ -9,6 +9,7 @@ use Rattle.machine.specs.Values.{Value, N, X, Y}
 use Rattle.machine.specs.Tasks.{none}
 use Rattle.machine.proofs.Basics.Contradiction.{clash, equal?, less?, refute}
 use Rattle.machine.proofs.Basics.Updates.{Wrote}
+use Rattle.machine.proofs.Words.Memories.{View}
 use Rattle.machine.proofs.Linearizability.Model.Classes.{Class, main, spur, Old, of, owner}
 use Rattle.machine.proofs.Linearizability.Writes.ClassChanges.{Cut, goes-to-spur, not-cut}
 use Rattle.machine.proofs.Linearizability.Model.Structure.{
@@ -17,6 +18,7 @@ use Rattle.machine.proofs.Linearizability.Model.Structure.{
   linked,
   cut-off,
   Main,
+  Frame,
   MainValues,
   Spur,
   Structure,
@@ -34,12 +36,18 @@ use Rattle.machine.proofs.Linearizability.Model.Nodes.{
   N-before-n,
 }
 
-module _ {s o : Side} {out inn : ℕ → ℕ} {val : ℕ → Value} {hat far : ℕ} {class : ℕ → Class}
-    {at index : ℕ → ℕ} {n a b : ℕ} {bags : ℕ → ℕ}
-    (S : Structure s o out inn val hat far class at index n a b bags)
-    {A B : ℕ} {val₁ val' : ℕ → Value} (wrote-X : Wrote val A (X s) val₁) (wrote-Y : Wrote val₁ B (Y s) val')
-    {class' : ℕ → Class} (cut : (x : ℕ) → Cut s class index (index A) class' x)
-    (A-main : class A ≡ main) (A-N : val A ≡ N s) (B-N : val B ≡ N s) (next : LinkedOrCut s out val class A B) where
+-- Main ends at A.
+abbrev pub cutFrame : Frame → (A : ℕ) → Frame
+cutFrame F A = record { at = F .at; index = F .index; n = F .index A; a = F .a; b = F .b; bags = F .bags }
+
+module _ {s o : Side} {m : View} {class : ℕ → Class} {F : Frame} (S : Structure s o m class F)
+    {A B : ℕ} {val₁ val' : ℕ → Value} (wrote-X : Wrote (m .val) A (X s) val₁) (wrote-Y : Wrote val₁ B (Y s) val')
+    {class' : ℕ → Class} (cut : (x : ℕ) → Cut s class (F .index) (F .index A) class' x)
+    (A-main : class A ≡ main) (A-N : m .val A ≡ N s) (B-N : m .val B ≡ N s)
+    (next : LinkedOrCut s (m .out) (m .val) class A B) where
+  open View m using (out, inn, val, hats)
+  open Frame F using (at, index, n, b)
+
   -- ---- Where A and B are.
   A-at : A ≡ at (index A)
   A-at = sym (S .main-list .at-index A A-main)
@@ -194,7 +202,7 @@ module _ {s o : Side} {out inn : ℕ → ℕ} {val : ℕ → Value} {hat far : �
             λ x h. elim (cut x) [ goes-to-spur c l e ↦ clash (cc) | not-cut l e ↦ S .main-list .at-index x (cc) ];
       }
 
-  cut-values : MainValues s o val' at (index A) a b bags
+  cut-values : MainValues s o val' (cutFrame F A)
   cut-values =
       let l = S .a<b in
       let p = b≤A in
@@ -217,7 +225,7 @@ module _ {s o : Side} {out inn : ℕ → ℕ} {val : ℕ → Value} {hat far : �
         leads-back = cc (S .links .links-in (index A) A<n, B-at);
       })
 
-  pub cut-keeps : Structure s o out inn val' hat far class' at index (index A) a b bags
+  pub cut-keeps : Structure s o (record { out = out; inn = inn; val = val'; hats = hats }) class' (cutFrame F A)
   cut-keeps =
       record {
         sides = S .sides;

@@ -5,16 +5,15 @@ use mathlib.Core.Bool.{Bool, true, false}
 use mathlib.Core.List.{List}
 use Prim.Native.Nat.{ℕ, _≤_}
 use native.Mathlib.Omega.{arith}
-use Rattle.machine.specs.Sides.{Side, left, right}
+use Rattle.machine.specs.Sides.{Side}
 use Rattle.machine.specs.Tasks.{Task, none, Register, inD}
 use Rattle.machine.specs.Registers.{among, holds}
-use Rattle.machine.specs.Lines.{Memory}
 use Rattle.machine.proofs.Basics.Contradiction.{refute}
-use Rattle.machine.proofs.Words.Memories.{view}
+use Rattle.machine.proofs.Words.Memories.{View, view}
 use Rattle.machine.proofs.Linearizability.Model.Classes.{Class, new}
 use Rattle.machine.proofs.Linearizability.Model.Chain.{HasChainIn}
 use Rattle.machine.proofs.Linearizability.Writes.ChainGrowth.{head-some}
-use Rattle.machine.proofs.Linearizability.Model.Held.{Closed, line-held}
+use Rattle.machine.proofs.Linearizability.Model.Held.{closed-view, line-held}
 use Rattle.machine.proofs.Linearizability.Model.Phases.{
   Phase,
   resting,
@@ -34,16 +33,7 @@ use Rattle.machine.proofs.Linearizability.Model.Phases.{
 use Rattle.machine.proofs.Linearizability.Model.Invariant.{Invariant, Roots}
 use Rattle.machine.proofs.Linearizability.Writes.Take.{TakeOk}
 
-module _ {held : ℕ → Bool} {M : Memory} {ts : ℕ → Task} (R : Roots held M ts) where
-  pub view-inn-closed : (s : Side) → Closed held (view s M .inn)
-  view-inn-closed left = R .out-closed
-  view-inn-closed right = R .inn-closed
-
-  pub view-out-closed : (s : Side) → Closed held (view s M .out)
-  view-out-closed left = R .inn-closed
-  view-out-closed right = R .out-closed
-
-module _ {held : ℕ → Bool} {M : Memory} {ts : ℕ → Task} {class : ℕ → Class} {r : List ℕ}
+module _ {held : ℕ → Bool} {M : View} {ts : ℕ → Task} {class : ℕ → Class} {r : List ℕ}
     (I : Invariant M ts class r) (R : Roots held M ts) where
   chain-held : (j : ℕ) (s : Side)
       → holds (ts j .step) inD ≡ true
@@ -54,11 +44,9 @@ module _ {held : ℕ → Bool} {M : Memory} {ts : ℕ → Task} {class : ℕ →
   chain-held j s d H x h =
       let C = H .chain in
       let l = C .place-le x h in
-      let out-closed = view-out-closed R s in
-      let inn-closed = view-inn-closed R s in
       let D-held = R .registers j inD d (head-some H (I .lane .structure .none-free)) in
       let e = C .node-place x h in
-      cc (line-held out-closed inn-closed (C .links) some 0 (H .place x) (omega arith) l (cc (H .head)))
+      cc (line-held (closed-view s (R .closed)) (C .links) some 0 (H .place x) (omega arith) l (cc (H .head)))
     where
       some : (i : ℕ) → i ≤ H .m → H .node i ≢ none
       some i q e = refute (cc (H .chain .is-new i q, I .lane .structure .none-free))
@@ -82,21 +70,9 @@ module _ {held : ℕ → Bool} {M : Memory} {ts : ℕ → Task} {class : ℕ →
       go removing d H = absurd (H .none-new x h)
 
   pub take-ok : (s : Side) (f : ℕ) → held f ≡ false → TakeOk held (view s M) class f
-  take-ok left f h =
+  take-ok s f h =
       record {
-        out-closed = R .inn-closed;
-        inn-closed = R .out-closed;
-        hat-held = R .far-held;
-        far-held = R .hat-held;
-        not-held = h;
-        not-new = λ j q. refute (cc (new-held j f q));
-      }
-  take-ok right f h =
-      record {
-        out-closed = R .out-closed;
-        inn-closed = R .inn-closed;
-        hat-held = R .hat-held;
-        far-held = R .far-held;
+        closed = closed-view s (R .closed);
         not-held = h;
         not-new = λ j q. refute (cc (new-held j f q));
       }

@@ -6,17 +6,39 @@ use native.Mathlib.Omega.{arith}
 use Rattle.machine.specs.Sides.{Side}
 use Rattle.machine.specs.Values.{Value, bag, N, X, Y}
 use Rattle.machine.proofs.Basics.Contradiction.{clash, equal?, less?}
-use Rattle.machine.proofs.Basics.Updates.{Wrote}
+use Rattle.machine.proofs.Basics.Updates.{updateSide, updateSide-same, Wrote}
+use Rattle.machine.proofs.Words.Memories.{View}
+use Rattle.machine.proofs.Linearizability.Model.Sides.{updateSide-other}
 use Rattle.machine.proofs.Linearizability.Model.Classes.{Class, main}
-use Rattle.machine.proofs.Linearizability.Model.Structure.{linked, cut-off, Precedes, MainValues, Structure}
-use Rattle.machine.proofs.Linearizability.Model.Nodes.{first, far-zone, row-zone, near-zone, last, at-apart, zone-at}
+use Rattle.machine.proofs.Linearizability.Model.Structure.{
+  linked,
+  cut-off,
+  Precedes,
+  Frame,
+  MainValues,
+  Structure,
+}
+use Rattle.machine.proofs.Linearizability.Model.Nodes.{
+  first,
+  far-zone,
+  row-zone,
+  near-zone,
+  last,
+  at-apart,
+  zone-at,
+}
 use Rattle.machine.proofs.Linearizability.Writes.MainWrites.{cut-from-kept, spur-kept}
 
-module _ {s o : Side} {out inn : ℕ → ℕ} {val : ℕ → Value} {hat far : ℕ} {class : ℕ → Class}
-    {at index : ℕ → ℕ} {n a b : ℕ} {bags : ℕ → ℕ}
-    (S : Structure s o out inn val hat far class at index n a b bags)
-    {A B j : ℕ} (j-before-b : suc j ≡ b) (hat-A : hat ≡ A) (precedes : Precedes o inn val class A B)
-    (B-not-Y : val B ≢ Y o) where
+-- The near hat back at index j.
+abbrev pub poppedFrame : Frame → (j : ℕ) → Frame
+poppedFrame F j = record { at = F .at; index = F .index; n = F .n; a = F .a; b = j; bags = F .bags }
+
+module _ {s o : Side} {m : View} {class : ℕ → Class} {F : Frame} (S : Structure s o m class F)
+    {A B j : ℕ} (j-before-b : suc j ≡ F .b) (hat-A : m .hats s ≡ A)
+    (precedes : Precedes o (m .inn) (m .val) class A B) (B-not-Y : m .val B ≢ Y o) where
+  open View m using (out, inn, val, hats)
+  open Frame F using (at, n, a, b, bags)
+
   inn-A : inn A ≡ B
   inn-A =
       elim precedes [
@@ -70,7 +92,7 @@ module _ {s o : Side} {out inn : ℕ → ℕ} {val : ℕ → Value} {hat far : �
       kept-at : (i : ℕ) → i ≤ n → i ≢ j → val' (at i) ≡ val (at i)
       kept-at i h ne = wrote .elsewhere (at i) (λ e. at-apart S i j h (omega (arith, j<n)) ne (cc (pop-at)))
 
-      pop-values : MainValues s o val' at n a j bags
+      pop-values : MainValues s o val' (poppedFrame F j)
       pop-values =
           let l = j<n in
           let p = pop-in-row in
@@ -87,7 +109,8 @@ module _ {s o : Side} {out inn : ℕ → ℕ} {val : ℕ → Value} {hat far : �
             X-last = kept-at n (omega arith) (omega arith) ∙ S .values .X-last;
           }
 
-      pub pop-keeps : Structure s o out inn val' B far class at index n a j bags
+      pub pop-keeps : Structure s o (record { out = out; inn = inn; val = val'; hats = updateSide hats s B }) class
+          (poppedFrame F j)
       pop-keeps =
           record {
             sides = S .sides;
@@ -99,8 +122,10 @@ module _ {s o : Side} {out inn : ℕ → ℕ} {val : ℕ → Value} {hat far : �
             links = S .links;
             last-out = elim (S .last-out) [ inl h ↦ inl h | inr y ↦ inr (cut-from-kept wrote pop-main y) ];
             first-in = elim (S .first-in) [ inl h ↦ inl h | inr y ↦ inr (cut-from-kept wrote pop-main y) ];
-            near-hat = λ k e. inl pop-at;
-            far-hat = elim (S .far-hat) [ inl h ↦ inl h | inr y ↦ inr (cut-from-kept wrote pop-main y) ];
+            near-hat = λ k e. inl (updateSide-same hats s B ∙ pop-at);
+            far-hat =
+                rw (updateSide-other hats s o B (S .sides))
+                (elim (S .far-hat) [ inl h ↦ inl h | inr y ↦ inr (cut-from-kept wrote pop-main y) ]);
             near-spur = spur-kept wrote pop-main (S .near-spur);
             far-spur = spur-kept wrote pop-main (S .far-spur);
           }

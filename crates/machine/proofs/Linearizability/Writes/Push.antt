@@ -6,16 +6,24 @@ use native.Mathlib.Omega.{arith}
 use Rattle.machine.specs.Sides.{Side}
 use Rattle.machine.specs.Values.{Value, bag, N}
 use Rattle.machine.proofs.Basics.Contradiction.{clash, equal?}
-use Rattle.machine.proofs.Basics.Updates.{Wrote}
+use Rattle.machine.proofs.Basics.Updates.{update, updateSide, updateSide-same, Wrote, update-wrote}
+use Rattle.machine.proofs.Words.Memories.{View}
+use Rattle.machine.proofs.Linearizability.Model.Sides.{updateSide-other}
 use Rattle.machine.proofs.Linearizability.Model.Classes.{Class, main}
-use Rattle.machine.proofs.Linearizability.Model.Structure.{CutFrom, Follows, MainValues, Structure}
+use Rattle.machine.proofs.Linearizability.Model.Structure.{CutFrom, Follows, Frame, MainValues, Structure}
 use Rattle.machine.proofs.Linearizability.Model.Nodes.{at-apart, N-before-n}
 use Rattle.machine.proofs.Linearizability.Writes.MainWrites.{cut-from-kept, spur-kept}
 
-module _ {s o : Side} {out inn : ℕ → ℕ} {val : ℕ → Value} {hat far : ℕ} {class : ℕ → Class}
-    {at index : ℕ → ℕ} {n a b : ℕ} {bags : ℕ → ℕ}
-    (S : Structure s o out inn val hat far class at index n a b bags)
-    {A : ℕ} (hat-A : hat ≡ A) (A-N : val A ≡ N s) where
+-- The bag v at the near hat's index, and the hat one further.
+abbrev pub pushedFrame : Frame → (v : ℕ) → Frame
+pushedFrame F v =
+    record { at = F .at; index = F .index; n = F .n; a = F .a; b = suc (F .b); bags = update (F .bags) (F .b) v }
+
+module _ {s o : Side} {m : View} {class : ℕ → Class} {F : Frame} (S : Structure s o m class F)
+    {A : ℕ} (hat-A : m .hats s ≡ A) (A-N : m .val A ≡ N s) where
+  open View m using (out, inn, val, hats)
+  open Frame F using (at, n, b, bags)
+
   -- A hat with N s is not cut off.
   A-at-b : A ≡ at b
   A-at-b = elim (S .near-hat (b - 1) (omega arith)) [ inl h ↦ cc | inr y ↦ clash (cc) ]
@@ -27,13 +35,14 @@ module _ {s o : Side} {out inn : ℕ → ℕ} {val : ℕ → Value} {hat far : �
   b<n = N-before-n S b (S .b≤n) (cc (A-at-b))
 
   module _ {B v : ℕ} {val' : ℕ → Value} (wrote : Wrote val A (bag v) val')
-      {bags' : ℕ → ℕ} (wrote-bag : Wrote bags b v bags') (follows : Follows s out inn val class A B) where
+      (follows : Follows s out inn val class A B) where
     kept-at : (i : ℕ) → i ≤ n → i ≢ b → val' (at i) ≡ val (at i)
     kept-at i h ne = wrote .elsewhere (at i) (λ e. at-apart S i b h (S .b≤n) ne (cc (A-at-b)))
 
-    push-values : MainValues s o val' at n a (suc b) bags'
+    push-values : MainValues s o val' (pushedFrame F v)
     push-values =
         let l = b<n in
+        let wrote-bag = update-wrote bags b v in
         record {
           X-first = kept-at 0 (omega arith) (omega (arith, S .a<b)) ∙ S .values .X-first;
           N-far = λ i h k. kept-at i (omega (arith, S .a<b)) (omega (arith, S .a<b)) ∙ S .values .N-far i h k;
@@ -60,7 +69,8 @@ module _ {s o : Side} {out inn : ℕ → ℕ} {val : ℕ → Value} {hat far : �
               inr (rw (← k) (cut-from-kept wrote push-main y))
         ]
 
-    pub push-keeps : Structure s o out inn val' B far class at index n a (suc b) bags'
+    pub push-keeps : Structure s o (record { out = out; inn = inn; val = val'; hats = updateSide hats s B }) class
+        (pushedFrame F v)
     push-keeps =
         record {
           sides = S .sides;
@@ -72,8 +82,10 @@ module _ {s o : Side} {out inn : ℕ → ℕ} {val : ℕ → Value} {hat far : �
           links = S .links;
           last-out = elim (S .last-out) [ inl h ↦ inl h | inr y ↦ inr (cut-from-kept wrote push-main y) ];
           first-in = elim (S .first-in) [ inl h ↦ inl h | inr y ↦ inr (cut-from-kept wrote push-main y) ];
-          near-hat = push-hat;
-          far-hat = elim (S .far-hat) [ inl h ↦ inl h | inr y ↦ inr (cut-from-kept wrote push-main y) ];
+          near-hat = rw (updateSide-same hats s B) push-hat;
+          far-hat =
+              rw (updateSide-other hats s o B (S .sides))
+              (elim (S .far-hat) [ inl h ↦ inl h | inr y ↦ inr (cut-from-kept wrote push-main y) ]);
           near-spur = spur-kept wrote push-main (S .near-spur);
           far-spur = spur-kept wrote push-main (S .far-spur);
         }

@@ -8,6 +8,7 @@ use Rattle.machine.specs.Sides.{Side}
 use Rattle.machine.specs.Values.{Value}
 use Rattle.machine.specs.Tasks.{none}
 use Rattle.machine.proofs.Basics.Contradiction.{clash, refute}
+use Rattle.machine.proofs.Words.Memories.{View}
 use Rattle.machine.proofs.Linearizability.Model.Classes.{
   Class,
   free,
@@ -19,9 +20,17 @@ use Rattle.machine.proofs.Linearizability.Model.Classes.{
   in-far,
   old-class,
 }
-use Rattle.machine.proofs.Linearizability.Model.Structure.{CutFrom, Main, MainValues, Linked, Spur, Structure}
+use Rattle.machine.proofs.Linearizability.Model.Structure.{
+  CutFrom,
+  Main,
+  Frame,
+  MainValues,
+  Linked,
+  Spur,
+  Structure,
+}
 use Rattle.machine.proofs.Linearizability.Model.Guarantee.{Guarantee, SameWords}
-use Rattle.machine.proofs.Linearizability.Model.Held.{Closed, main-held}
+use Rattle.machine.proofs.Linearizability.Model.Held.{ClosedSet, closed-swapped, main-held}
 use Rattle.machine.proofs.Linearizability.Model.Nodes.{old-some}
 use Rattle.machine.proofs.Linearizability.Model.Reversal.{reversed}
 
@@ -29,8 +38,6 @@ use Rattle.machine.proofs.Linearizability.Model.Reversal.{reversed}
 pub record Restricted (held : ℕ → Bool)
     (out inn : ℕ → ℕ) (val : ℕ → Value) (class : ℕ → Class)
     (out' inn' : ℕ → ℕ) (val' : ℕ → Value) (class' : ℕ → Class) : Type 0 where
-  pub out-closed : Closed held out
-  pub inn-closed : Closed held inn
   pub main-stays : (x : ℕ) → class x ≡ main → class' x ≡ main
   pub was-main : (x : ℕ) → class' x ≡ main → class x ≡ main
   pub spur-stays : (x : ℕ) (z : Side) → held x ≡ true → class x ≡ spur z → class' x ≡ spur z
@@ -45,8 +52,6 @@ module _ {held : ℕ → Bool} {out inn : ℕ → ℕ} {val : ℕ → Value} {cl
   pub restricted-swap : Restricted held inn out val class inn' out' val' class'
   restricted-swap =
       record {
-        out-closed = T .inn-closed;
-        inn-closed = T .out-closed;
         main-stays = T .main-stays;
         was-main = T .was-main;
         spur-stays = T .spur-stays;
@@ -80,11 +85,12 @@ module _ {held : ℕ → Bool} {out inn : ℕ → ℕ} {val : ℕ → Value} {cl
         cut-behind-main = λ x h c. clash (cc (T .main-stays x h));
       }
 
-module _ {s o : Side} {out inn : ℕ → ℕ} {val : ℕ → Value} {hat far : ℕ} {class : ℕ → Class}
-    {at index : ℕ → ℕ} {n a b : ℕ} {bags : ℕ → ℕ}
-    (S : Structure s o out inn val hat far class at index n a b bags)
-    {held : ℕ → Bool} {out' inn' : ℕ → ℕ} {val' : ℕ → Value} {class' : ℕ → Class}
-    (T : Restricted held out inn val class out' inn' val' class') where
+module _ {s o : Side} {m : View} {class : ℕ → Class} {F : Frame} (S : Structure s o m class F)
+    {held : ℕ → Bool} (H : ClosedSet held m) {out' inn' : ℕ → ℕ} {val' : ℕ → Value} {class' : ℕ → Class}
+    (T : Restricted held (m .out) (m .inn) (m .val) class out' inn' val' class') where
+  open View m using (out, inn, val)
+  open Frame F using (at, index, n)
+
   stays-old : (x : ℕ) → Old class x → held x ≡ true → Old class' x
   stays-old x h r =
       elim (old-class (S .sides) (class x) h) [
@@ -105,7 +111,7 @@ module _ {s o : Side} {out inn : ℕ → ℕ} {val : ℕ → Value} {hat far : �
         at-index = λ x h. S .main-list .at-index x (T .was-main x h);
       }
 
-  restricted-values : MainValues s o val' at n a b bags
+  restricted-values : MainValues s o val' F
   restricted-values =
       let p = S .a<b in
       let q = S .b≤n in
@@ -125,13 +131,13 @@ module _ {s o : Side} {out inn : ℕ → ℕ} {val : ℕ → Value} {hat far : �
       }
 
   -- The outward end of main and the near spur; the far ones are these of the structure reversed.
-  restricted-last-out : held (at n) ≡ true
-      → (out' (at n) ≡ none) ⊎ CutFrom s inn' val' class' (out' (at n)) (at n)
-  restricted-last-out r =
+  restricted-last-out : (out' (at n) ≡ none) ⊎ CutFrom s inn' val' class' (out' (at n)) (at n)
+  restricted-last-out =
+      let last-held = main-held S H (at n) (S .main-list .is-main n (omega arith)) in
       rw (words-at n (omega arith) .same-out)
       (elim (S .last-out) [
         | inl h ↦ inl h
-        | inr y ↦ inr (restricted-cut-from T (T .out-closed (at n) r (old-some S _ (cc (y .in-spur)))) y)
+        | inr y ↦ inr (restricted-cut-from T (H .out-closed (at n) last-held (old-some S _ (cc (y .in-spur)))) y)
       ])
 
   restricted-near-spur : Spur s out' inn' val' class'
@@ -142,7 +148,7 @@ module _ {s o : Side} {out inn : ℕ → ℕ} {val : ℕ → Value} {hat far : �
         inward-old =
             λ x h.
             let i = S .near-spur .inward-old x (T .was-spur x s h) in
-            let r = T .inn-closed x (T .spur-held x s h) (old-some S _ i) in
+            let r = H .inn-closed x (T .spur-held x s h) (old-some S _ i) in
             cc (T .same-words x (cc) .same-inn, stays-old (inn x) i r);
         outward-spur =
             λ x h.
@@ -150,43 +156,43 @@ module _ {s o : Side} {out inn : ℕ → ℕ} {val : ℕ → Value} {hat far : �
             elim (S .near-spur .outward-spur x (T .was-spur x s h)) [
               | inl e ↦ inl (cc)
               | inr e ↦
-                  let r = T .out-closed x (T .spur-held x s h) (old-some S _ (cc)) in
+                  let r = H .out-closed x (T .spur-held x s h) (old-some S _ (cc)) in
                   inr (cc (T .spur-stays (out x) s r e))
             ];
       }
 
-module _ {s o : Side} {out inn : ℕ → ℕ} {val : ℕ → Value} {hat far : ℕ} {class : ℕ → Class}
-    {at index : ℕ → ℕ} {n a b : ℕ} {bags : ℕ → ℕ}
-    (S : Structure s o out inn val hat far class at index n a b bags)
-    {held : ℕ → Bool} (hat-held : held hat ≡ true) (far-held : held far ≡ true)
-    {out' inn' : ℕ → ℕ} {val' : ℕ → Value} {class' : ℕ → Class}
-    (T : Restricted held out inn val class out' inn' val' class') where
-  at-held : (i : ℕ) → i ≤ n → held (at i) ≡ true
-  at-held i h = main-held S (T .out-closed) (T .inn-closed) hat-held (at i) (S .main-list .is-main i h)
+module _ {s o : Side} {m : View} {class : ℕ → Class} {F : Frame} (S : Structure s o m class F)
+    {held : ℕ → Bool} (H : ClosedSet held m) {out' inn' : ℕ → ℕ} {val' : ℕ → Value} {class' : ℕ → Class}
+    (T : Restricted held (m .out) (m .inn) (m .val) class out' inn' val' class') where
+  open View m using (hats)
+  open Frame F using (at, n)
 
   n-n : n - n ≡ 0
   n-n = omega arith
 
   restricted-first-in : (inn' (at 0) ≡ none) ⊎ CutFrom o out' val' class' (inn' (at 0)) (at 0)
   restricted-first-in =
-      rw (← n-n) (restricted-last-out (reversed S) (restricted-swap T) (rw n-n (at-held 0 (omega arith))))
+      rw (← n-n) (restricted-last-out (reversed S) (closed-swapped H) (restricted-swap T))
 
-  pub restricted-keeps : Structure s o out' inn' val' hat far class' at index n a b bags
+  pub restricted-keeps : Structure s o (record { out = out'; inn = inn'; val = val'; hats = hats }) class' F
   restricted-keeps =
       record {
         sides = S .sides;
         none-free = T .none-free;
         a<b = S .a<b;
         b≤n = S .b≤n;
-        main-list = restricted-main-list S T;
-        values = restricted-values S T;
-        links = restricted-links S T;
-        last-out = restricted-last-out S T (at-held n (omega arith));
+        main-list = restricted-main-list S H T;
+        values = restricted-values S H T;
+        links = restricted-links S H T;
+        last-out = restricted-last-out S H T;
         first-in = restricted-first-in;
         near-hat =
-            λ j e. elim (S .near-hat j e) [ inl h ↦ inl h | inr y ↦ inr (restricted-cut-from T hat-held y) ];
+            λ j e. elim (S .near-hat j e) [ inl h ↦ inl h | inr y ↦ inr (restricted-cut-from T (H .hats-held s) y) ];
         far-hat =
-            elim (S .far-hat) [ inl h ↦ inl h | inr y ↦ inr (restricted-cut-from (restricted-swap T) far-held y) ];
-        near-spur = restricted-near-spur S T;
-        far-spur = restricted-near-spur (reversed S) (restricted-swap T);
+            elim (S .far-hat) [
+              | inl h ↦ inl h
+              | inr y ↦ inr (restricted-cut-from (restricted-swap T) (H .hats-held o) y)
+            ];
+        near-spur = restricted-near-spur S H T;
+        far-spur = restricted-near-spur (reversed S) (closed-swapped H) (restricted-swap T);
       }

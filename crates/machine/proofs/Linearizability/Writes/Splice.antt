@@ -9,9 +9,10 @@ use Rattle.machine.specs.Values.{Value, N, X}
 use Rattle.machine.specs.Tasks.{none}
 use Rattle.machine.proofs.Basics.Contradiction.{clash, equal?, less?, refute}
 use Rattle.machine.proofs.Basics.Updates.{Wrote}
+use Rattle.machine.proofs.Words.Memories.{View}
 use Rattle.machine.proofs.Linearizability.Model.Classes.{Class, main, spur, Old}
 use Rattle.machine.proofs.Linearizability.Writes.ClassChanges.{Joined, joins, not-joined, Extended}
-use Rattle.machine.proofs.Linearizability.Model.Structure.{CutFrom, Main, MainValues, Spur, Structure}
+use Rattle.machine.proofs.Linearizability.Model.Structure.{CutFrom, Main, Frame, MainValues, Spur, Structure}
 use Rattle.machine.proofs.Linearizability.Model.Chain.{Chain}
 use Rattle.machine.proofs.Linearizability.Model.Guarantee.{Guarantee, Guarantees}
 use Rattle.machine.proofs.Linearizability.Model.Nodes.{at-apart, X-at-n}
@@ -22,15 +23,22 @@ data Place (at node at' : ℕ → ℕ) (n m i : ℕ) : Type 0 where
   in-front : i ≤ n → at' i ≡ at i → Place at node at' n m i
   in-chain : (j : ℕ) → i ≡ suc (n + j) → j ≤ m → at' i ≡ node j → Place at node at' n m i
 
-module _ {s o : Side} {out inn : ℕ → ℕ} {val : ℕ → Value} {hat far : ℕ} {class : ℕ → Class}
-    {at index : ℕ → ℕ} {n a b : ℕ} {bags : ℕ → ℕ}
-    (S : Structure s o out inn val hat far class at index n a b bags)
-    {k : ℕ} {node place : ℕ → ℕ} {m : ℕ} (C : Chain s k out inn val class node place m)
-    {A : ℕ} {out' : ℕ → ℕ} (wrote-out : Wrote out A (node 0) out')
-    {val' : ℕ → Value} (wrote-val : Wrote val A (N s) val')
-    (A-X : val A ≡ X s) (head-in : inn (node 0) ≡ A)
+-- Main with the nodes 0 .. last of a chain behind it.
+abbrev pub splicedFrame : Frame → (at' index' : ℕ → ℕ) (last : ℕ) → Frame
+splicedFrame F at' index' last =
+    record { at = at'; index = index'; n = suc (F .n + last); a = F .a; b = F .b; bags = F .bags }
+
+module _ {s o : Side} {m : View} {class : ℕ → Class} {F : Frame} (S : Structure s o m class F)
+    {k : ℕ} {node place : ℕ → ℕ} {last : ℕ} (C : Chain s k (m .out) (m .inn) (m .val) class node place last)
+    {A : ℕ} {out' : ℕ → ℕ} (wrote-out : Wrote (m .out) A (node 0) out')
+    {val' : ℕ → Value} (wrote-val : Wrote (m .val) A (N s) val')
+    (A-X : m .val A ≡ X s) (head-in : m .inn (node 0) ≡ A)
     {class' : ℕ → Class} (join : (x : ℕ) → Joined k main class class' x)
-    {at' index' : ℕ → ℕ} (E : Extended k class at index n node place at' index') (A-main : class A ≡ main) where
+    {at' index' : ℕ → ℕ} (E : Extended k class (F .at) (F .index) (F .n) node place at' index')
+    (A-main : class A ≡ main) where
+  open View m using (out, inn, val, hats)
+  open Frame F using (at, index, n, a, b)
+
   A-last : A ≡ at n
   A-last =
       let e = S .main-list .at-index A A-main in
@@ -53,7 +61,7 @@ module _ {s o : Side} {out inn : ℕ → ℕ} {val : ℕ → Value} {hat far : �
   stays-old : (x : ℕ) → Old class x → Old class' x
   stays-old x h = cc (old-same join x h)
 
-  joined-at : (j : ℕ) → j ≤ m → class' (node j) ≡ main
+  joined-at : (j : ℕ) → j ≤ last → class' (node j) ≡ main
   joined-at j h = new-joins join (node j) (C .is-new j h)
 
   -- ---- The words: only A's outward link and value change.
@@ -63,10 +71,10 @@ module _ {s o : Side} {out inn : ℕ → ℕ} {val : ℕ → Value} {hat far : �
   same-out-spur : (x : ℕ) (z : Side) → class x ≡ spur z → out' x ≡ out x
   same-out-spur x z h = wrote-out .elsewhere x (λ e. refute (cc))
 
-  same-val-new : (j : ℕ) → j ≤ m → val' (node j) ≡ val (node j)
+  same-val-new : (j : ℕ) → j ≤ last → val' (node j) ≡ val (node j)
   same-val-new j h = wrote-val .elsewhere (node j) (λ e. refute (cc (C .is-new j h)))
 
-  same-out-new : (j : ℕ) → j ≤ m → out' (node j) ≡ out (node j)
+  same-out-new : (j : ℕ) → j ≤ last → out' (node j) ≡ out (node j)
   same-out-new j h = wrote-out .elsewhere (node j) (λ e. refute (cc (C .is-new j h)))
 
   not-A : (i : ℕ) → i < n → at i ≢ A
@@ -95,7 +103,7 @@ module _ {s o : Side} {out inn : ℕ → ℕ} {val : ℕ → Value} {hat far : �
       }
 
   -- ---- Main, which is longer by the chain.
-  place? : (i : ℕ) → i ≤ suc (n + m) → Place at node at' n m i
+  place? : (i : ℕ) → i ≤ suc (n + last) → Place at node at' n last i
   place? i h =
       elim (less? n i) [
         | inr l ↦ in-front l (E .before i l)
@@ -104,7 +112,7 @@ module _ {s o : Side} {out inn : ℕ → ℕ} {val : ℕ → Value} {hat far : �
             in-chain (i - suc n) e (omega arith) (E .behind i (i - suc n) e)
       ]
 
-  spliced-main-list : Main class' at' index' (suc (n + m))
+  spliced-main-list : Main class' at' index' (suc (n + last))
   spliced-main-list =
       record {
         is-main =
@@ -136,7 +144,7 @@ module _ {s o : Side} {out inn : ℕ → ℕ} {val : ℕ → Value} {hat far : �
             ];
       }
 
-  spliced-links-out : (i : ℕ) → i < suc (n + m) → out' (at' i) ≡ at' (suc i)
+  spliced-links-out : (i : ℕ) → i < suc (n + last) → out' (at' i) ≡ at' (suc i)
   spliced-links-out i h =
       elim (less? i n) [
         | inl l ↦ cc (E .before i (omega arith), E .before (suc i) l, same-out-at i l, S .links .links-out i l)
@@ -153,7 +161,7 @@ module _ {s o : Side} {out inn : ℕ → ℕ} {val : ℕ → Value} {hat far : �
             ]
       ]
 
-  spliced-links-in : (i : ℕ) → i < suc (n + m) → inn (at' (suc i)) ≡ at' i
+  spliced-links-in : (i : ℕ) → i < suc (n + last) → inn (at' (suc i)) ≡ at' i
   spliced-links-in i h =
       elim (less? i n) [
         | inl l ↦ cc (E .before i (omega arith), E .before (suc i) l, S .links .links-in i l)
@@ -170,7 +178,7 @@ module _ {s o : Side} {out inn : ℕ → ℕ} {val : ℕ → Value} {hat far : �
             ]
       ]
 
-  spliced-N-near : (i : ℕ) → b ≤ i → i < suc (n + m) → val' (at' i) ≡ N s
+  spliced-N-near : (i : ℕ) → b ≤ i → i < suc (n + last) → val' (at' i) ≡ N s
   spliced-N-near i h l =
       elim (less? i n) [
         | inl p ↦ cc (E .before i (omega arith), same-val-at i p, S .values .N-near i h p)
@@ -183,7 +191,7 @@ module _ {s o : Side} {out inn : ℕ → ℕ} {val : ℕ → Value} {hat far : �
             ]
       ]
 
-  spliced-values : MainValues s o val' at' (suc (n + m)) a b bags
+  spliced-values : MainValues s o val' (splicedFrame F at' index' last)
   spliced-values =
       let p = S .a<b in
       let q = S .b≤n in
@@ -193,7 +201,7 @@ module _ {s o : Side} {out inn : ℕ → ℕ} {val : ℕ → Value} {hat far : �
         bag-between =
             λ i h l. cc (E .before i (omega arith), same-val-at i (omega arith), S .values .bag-between i h l);
         N-near = spliced-N-near;
-        X-last = cc (E .behind (suc (n + m)) m refl, same-val-new m (omega arith), C .X-last);
+        X-last = cc (E .behind (suc (n + last)) last refl, same-val-new last (omega arith), C .X-last);
       }
 
   spliced-near-spur : Spur s out' inn val' class'
@@ -220,7 +228,8 @@ module _ {s o : Side} {out inn : ℕ → ℕ} {val : ℕ → Value} {hat far : �
             ];
       }
 
-  pub splice-keeps : Structure s o out' inn val' hat far class' at' index' (suc (n + m)) a b bags
+  pub splice-keeps : Structure s o (record { out = out'; inn = inn; val = val'; hats = hats }) class'
+      (splicedFrame F at' index' last)
   splice-keeps =
       let p = S .a<b in
       let q = S .b≤n in
@@ -233,7 +242,7 @@ module _ {s o : Side} {out inn : ℕ → ℕ} {val : ℕ → Value} {hat far : �
         main-list = spliced-main-list;
         values = spliced-values;
         links = record { links-out = spliced-links-out; links-in = spliced-links-in };
-        last-out = inl (cc (E .behind (suc (n + m)) m refl, same-out-new m (omega arith), C .last-out));
+        last-out = inl (cc (E .behind (suc (n + last)) last refl, same-out-new last (omega arith), C .last-out));
         first-in =
             rw (E .before 0 (omega arith))
             (elim (S .first-in) [ inl h ↦ inl h | inr y ↦ inr (far-cut-from y) ]);

@@ -9,6 +9,7 @@ use Rattle.machine.specs.Sides.{Side}
 use Rattle.machine.specs.Values.{Value, Y}
 use Rattle.machine.specs.Tasks.{none}
 use Rattle.machine.proofs.Basics.Contradiction.{clash, refute}
+use Rattle.machine.proofs.Words.Memories.{View}
 use Rattle.machine.proofs.Linearizability.Model.Classes.{
   Class,
   free,
@@ -20,7 +21,7 @@ use Rattle.machine.proofs.Linearizability.Model.Classes.{
   in-far,
   old-class,
 }
-use Rattle.machine.proofs.Linearizability.Model.Structure.{CutFrom, Main, MainValues, Spur, Structure}
+use Rattle.machine.proofs.Linearizability.Model.Structure.{CutFrom, Main, Frame, MainValues, Spur, Structure}
 use Rattle.machine.proofs.Linearizability.Model.Guarantee.{Guarantee, ChainsKept, Guarantees}
 use Rattle.machine.proofs.Linearizability.Model.Nodes.{at-apart}
 
@@ -45,11 +46,12 @@ pub record SpurStep (k : ℕ) (s o : Side) (e : ℕ)
   pub near-spur : Spur s out' inn val' class'
   pub chains : ChainsKept k out inn val class out' inn val' class'
 
-module _ {s o : Side} {out inn : ℕ → ℕ} {val : ℕ → Value} {hat far : ℕ} {class : ℕ → Class}
-    {at index : ℕ → ℕ} {n a b : ℕ} {bags : ℕ → ℕ}
-    (S : Structure s o out inn val hat far class at index n a b bags)
+module _ {s o : Side} {m : View} {class : ℕ → Class} {F : Frame} (S : Structure s o m class F)
     {k : ℕ} {out' : ℕ → ℕ} {val' : ℕ → Value} {class' : ℕ → Class}
-    (T : SpurStep k s o (at n) out inn val class out' val' class') where
+    (T : SpurStep k s o (F .at (F .n)) (m .out) (m .inn) (m .val) class out' val' class') where
+  open View m using (out, inn, val, hats)
+  open Frame F using (at, index, n)
+
   stays-old : (x : ℕ) → Old class x → Old class' x
   stays-old x h =
       elim (old-class (S .sides) (class x) h) [
@@ -93,7 +95,7 @@ module _ {s o : Side} {out inn : ℕ → ℕ} {val : ℕ → Value} {hat far : �
         at-index = λ x h. S .main-list .at-index x (T .classes .was-main x h);
       }
 
-  spur-values : MainValues s o val' at n a b bags
+  spur-values : MainValues s o val' F
   spur-values =
       let p = S .a<b in
       let q = S .b≤n in
@@ -120,7 +122,7 @@ module _ {s o : Side} {out inn : ℕ → ℕ} {val : ℕ → Value} {hat far : �
             ];
       }
 
-  pub spur-keeps : Structure s o out' inn val' hat far class' at index n a b bags
+  pub spur-keeps : Structure s o (record { out = out'; inn = inn; val = val'; hats = hats }) class' F
   spur-keeps =
       record {
         sides = S .sides;

@@ -8,6 +8,7 @@ use Rattle.machine.specs.Values.{Value, N, X, Y}
 use Rattle.machine.specs.Tasks.{none}
 use Rattle.machine.proofs.Basics.Contradiction.{clash, less?, refute}
 use Rattle.machine.proofs.Basics.Updates.{Wrote, it-is, it-is-not, wrote?}
+use Rattle.machine.proofs.Words.Memories.{View}
 use Rattle.machine.proofs.Linearizability.Model.Classes.{
   Class,
   main,
@@ -22,15 +23,16 @@ use Rattle.machine.proofs.Linearizability.Model.Classes.{
   owner,
 }
 use Rattle.machine.proofs.Linearizability.Writes.ClassChanges.{Joined, joins, not-joined}
-use Rattle.machine.proofs.Linearizability.Model.Structure.{Spur, Structure}
+use Rattle.machine.proofs.Linearizability.Model.Structure.{Frame, Spur, Structure}
 use Rattle.machine.proofs.Linearizability.Model.Chain.{Chain}
 use Rattle.machine.proofs.Linearizability.Writes.MainWrites.{value-chains-kept, out-chains-kept}
 use Rattle.machine.proofs.Linearizability.Writes.Joined.{old-same, new-joins, joined-chains}
 use Rattle.machine.proofs.Linearizability.Writes.Spur.{SpurClasses, SpurStep}
 
-module _ {s o : Side} {out inn : ℕ → ℕ} {val : ℕ → Value} {hat far : ℕ} {class : ℕ → Class}
-    {at index : ℕ → ℕ} {n a b : ℕ} {bags : ℕ → ℕ}
-    (S : Structure s o out inn val hat far class at index n a b bags) (k : ℕ) where
+module _ {s o : Side} {m : View} {class : ℕ → Class} {F : Frame} (S : Structure s o m class F) (k : ℕ) where
+  open View m using (out, inn, val)
+  open Frame F using (at, index, n)
+
   same-classes : SpurClasses o class class
   same-classes =
       record {
@@ -185,7 +187,7 @@ module _ {s o : Side} {out inn : ℕ → ℕ} {val : ℕ → Value} {hat far : �
       ]
 
   -- Line 25 with A in the spur: the chain joins the spur.
-  module _ {node place : ℕ → ℕ} {m : ℕ} (C : Chain s k out inn val class node place m)
+  module _ {node place : ℕ → ℕ} {last : ℕ} (C : Chain s k out inn val class node place last)
       {A : ℕ} {out' : ℕ → ℕ} (wrote-out : Wrote out A (node 0) out')
       {val' : ℕ → Value} (wrote-val : Wrote val A (N s) val')
       (A-X : val A ≡ X s) (head-in : inn (node 0) ≡ A)
@@ -201,7 +203,7 @@ module _ {s o : Side} {out inn : ℕ → ℕ} {val : ℕ → Value} {hat far : �
               elim (join none) [ joins p e ↦ clash (cc (S .none-free)) | not-joined p e ↦ cc (S .none-free) ];
         }
 
-    joined-at : (j : ℕ) → j ≤ m → class' (node j) ≡ spur s
+    joined-at : (j : ℕ) → j ≤ last → class' (node j) ≡ spur s
     joined-at j h = new-joins join (node j) (C .is-new j h)
 
     -- The clauses of the spur for a node of the chain.
@@ -210,9 +212,9 @@ module _ {s o : Side} {out inn : ℕ → ℕ} {val : ℕ → Value} {hat far : �
         let v = wrote-val .elsewhere x (λ f. refute (cc)) in
         let e = C .node-place x h in
         let l = C .place-le x h in
-        elim (less? (place x) m) [
+        elim (less? (place x) last) [
           | inl p ↦ cc (C .N-before (place x) p)
-          | inr p ↦ let z : place x ≡ m = omega arith in cc (C .X-last)
+          | inr p ↦ let z : place x ≡ last = omega arith in cc (C .X-last)
         ]
 
     chain-inward : (x : ℕ) → class x ≡ new k → Old class' (inn x)
@@ -232,9 +234,9 @@ module _ {s o : Side} {out inn : ℕ → ℕ} {val : ℕ → Value} {hat far : �
         let f = wrote-out .elsewhere x (λ f. refute (cc)) in
         let e = C .node-place x h in
         let l = C .place-le x h in
-        elim (less? (place x) m) [
+        elim (less? (place x) last) [
           | inl p ↦ inr (cc (C .links .links-out (place x) p, joined-at (suc (place x)) p))
-          | inr p ↦ let z : place x ≡ m = omega arith in inl (cc (C .last-out))
+          | inr p ↦ let z : place x ≡ last = omega arith in inl (cc (C .last-out))
         ]
 
     joined-spur : Spur s out' inn val' class'

@@ -1,5 +1,5 @@
 -- Lines 28 and 31 take a node f that is not held: main, the held spur nodes and the chains keep their classes.
-use mathlib.Core.Path.{_≡_, refl, sym}
+use mathlib.Core.Path.{_≡_, refl, sym, subst}
 use mathlib.Core.Logic.{_≢_}
 use mathlib.Core.Bool.{Bool, true, false}
 use mathlib.Core.List.{List}
@@ -7,9 +7,9 @@ use Prim.Native.Nat.{ℕ}
 use Rattle.machine.specs.declared.Answer.the-variants.{Going}
 use Rattle.machine.specs.Sides.{Side}
 use Rattle.machine.specs.Tasks.{Task, none}
-use Rattle.machine.specs.Lines.{Memory, Write}
+use Rattle.machine.specs.Lines.{Write}
 use Rattle.machine.proofs.Basics.Contradiction.{clash, refute}
-use Rattle.machine.proofs.Words.Memories.{written}
+use Rattle.machine.proofs.Words.Memories.{View, written, view-equal}
 use Rattle.machine.proofs.Linearizability.Model.Classes.{Class, free, main, spur, new}
 use Rattle.machine.proofs.Linearizability.Writes.ClassChanges.{
   Taken,
@@ -20,7 +20,7 @@ use Rattle.machine.proofs.Linearizability.Writes.ClassChanges.{
   takenClass-taken,
 }
 use Rattle.machine.proofs.Linearizability.Model.Guarantee.{SameIn, ChainsKept}
-use Rattle.machine.proofs.Linearizability.Model.Held.{Closed, main-held}
+use Rattle.machine.proofs.Linearizability.Model.Held.{ClosedSet, main-held}
 use Rattle.machine.proofs.Linearizability.Writes.Restriction.{
   Restricted,
   restricted-guarantee,
@@ -31,15 +31,12 @@ use Rattle.machine.proofs.Linearizability.Model.Phases.{TaskOk}
 use Rattle.machine.proofs.Linearizability.Model.Invariant.{Lane, same-places, noteOf, goes-on, TickOk}
 
 -- The set is closed under links and holds the hats; f is outside it and in no chain.
-pub record TakeOk (held : ℕ → Bool) (m : Memory) (class : ℕ → Class) (f : ℕ) : Type 0 where
-  pub out-closed : Closed held (m .out)
-  pub inn-closed : Closed held (m .inn)
-  pub hat-held : held (m .hat) ≡ true
-  pub far-held : held (m .far) ≡ true
+pub record TakeOk (held : ℕ → Bool) (m : View) (class : ℕ → Class) (f : ℕ) : Type 0 where
+  pub closed : ClosedSet held m
   pub not-held : held f ≡ false
   pub not-new : (j : ℕ) → class f ≢ new j
 
-module _ {held : ℕ → Bool} (k : ℕ) {s o : Side} {m : Memory} {class : ℕ → Class} {r : List ℕ}
+module _ {held : ℕ → Bool} (k : ℕ) {s o : Side} {m : View} {class : ℕ → Class} {r : List ℕ}
     (L : Lane s o m class r) {f : ℕ} (K : TakeOk held m class f) (f-some : f ≢ none) where
   abbrev class₁ : ℕ → Class
   class₁ = takenClass k held f class
@@ -49,7 +46,7 @@ module _ {held : ℕ → Bool} (k : ℕ) {s o : Side} {m : Memory} {class : ℕ 
 
   main-stays : (x : ℕ) → class x ≡ main → class₁ x ≡ main
   main-stays x h =
-      let x-held = main-held (L .structure) (K .out-closed) (K .inn-closed) (K .hat-held) x h in
+      let x-held = main-held (L .structure) (K .closed) x h in
       elim (change x) [
         | is-taken e q ↦ clash (cc (K .not-held))
         | dropped e z c n q ↦ clash (cc)
@@ -126,14 +123,12 @@ module _ {held : ℕ → Bool} (k : ℕ) {s o : Side} {m : Memory} {class : ℕ 
       ]
 
   -- A tick that takes f and writes nothing but nodes of the task's own chain.
-  module _ (l : List Write) (same-hat : written l m .hat ≡ m .hat) (same-far : written l m .far ≡ m .far)
-      (same-words : (x : ℕ) → class₁ x ≢ new k → SameIn m (written l m) x) where
+  module _ (l : List Write) (same-hats : written s l m .hats ≡ m .hats)
+      (same-words : (x : ℕ) → class₁ x ≢ new k → SameIn m (written s l m) x) where
     restricted : Restricted held (m .out) (m .inn) (m .val) class
-        (written l m .out) (written l m .inn) (written l m .val) class₁
+        (written s l m .out) (written s l m .inn) (written s l m .val) class₁
     restricted =
         record {
-          out-closed = K .out-closed;
-          inn-closed = K .inn-closed;
           main-stays = main-stays;
           was-main = was-main;
           spur-stays = spur-stays;
@@ -144,7 +139,7 @@ module _ {held : ℕ → Bool} (k : ℕ) {s o : Side} {m : Memory} {class : ℕ 
         }
 
     chains-kept : ChainsKept k (m .out) (m .inn) (m .val) class
-        (written l m .out) (written l m .inn) (written l m .val) class₁
+        (written s l m .out) (written s l m .inn) (written s l m .val) class₁
     chains-kept =
         record {
           stays-new = λ x j ne h. new-stays x j h;
@@ -154,15 +149,15 @@ module _ {held : ℕ → Bool} (k : ℕ) {s o : Side} {m : Memory} {class : ℕ 
 
     pub takes : {t t' : Task}
         → noteOf t' ≡ noteOf t
-        → TaskOk k s o (written l m) class₁ (t' .step) t'
+        → TaskOk k s o (written s l m) class₁ (t' .step) t'
         → TickOk held k s o m class r t (record { writes = l; task = t'; answer = Going })
     takes e h =
         record {
           class' = class₁;
           r' = r;
           lane =
-              same-places L (written l m)
-              (rw (same-hat, same-far) (restricted-keeps (L .structure) (K .hat-held) (K .far-held) restricted));
+              subst (λ (v : View). Lane s o v class₁ r) (view-equal refl refl refl (sym same-hats))
+              (same-places L (restricted-keeps (L .structure) (K .closed) restricted));
           row-step = refl;
           guarantees =
               record {

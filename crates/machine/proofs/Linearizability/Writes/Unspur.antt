@@ -4,15 +4,20 @@ use mathlib.Core.Logic.{_⊎_, inl, inr}
 use Prim.Native.Nat.{ℕ, suc}
 use native.Mathlib.Omega.{arith}
 use Rattle.machine.specs.Sides.{Side}
-use Rattle.machine.specs.Values.{Value}
+use Rattle.machine.specs.Lines.{hat≔}
 use Rattle.machine.proofs.Basics.Contradiction.{clash}
+use Rattle.machine.proofs.Basics.Updates.{updateSide-same}
+use Rattle.machine.proofs.Words.Memories.{View, write}
+use Rattle.machine.proofs.Linearizability.Model.Sides.{updateSide-other}
 use Rattle.machine.proofs.Linearizability.Model.Classes.{Class, spur}
-use Rattle.machine.proofs.Linearizability.Model.Structure.{CutFrom, Follows, Structure}
+use Rattle.machine.proofs.Linearizability.Model.Structure.{CutFrom, Follows, Frame, Structure}
 
-module _ {s o : Side} {out inn : ℕ → ℕ} {val : ℕ → Value} {hat far : ℕ} {class : ℕ → Class}
-    {at index : ℕ → ℕ} {n a b : ℕ} {bags : ℕ → ℕ}
-    (S : Structure s o out inn val hat far class at index n a b bags)
-    {A C : ℕ} (hat-A : hat ≡ A) (A-spur : class A ≡ spur s) (follows : Follows s out inn val class (inn A) C) where
+module _ {s o : Side} {m : View} {class : ℕ → Class} {F : Frame} (S : Structure s o m class F)
+    {A C : ℕ} (hat-A : m .hats s ≡ A) (A-spur : class A ≡ spur s)
+    (follows : Follows s (m .out) (m .inn) (m .val) class (m .inn A) C) where
+  open View m using (inn, val, hats)
+  open Frame F using (at, b)
+
   -- inn A is just before the hat's index, and C follows it.
   unspur-hat : (j : ℕ) → suc j ≡ b → (C ≡ at b) ⊎ CutFrom s inn val class C (at j)
   unspur-hat j e =
@@ -26,7 +31,7 @@ module _ {s o : Side} {out inn : ℕ → ℕ} {val : ℕ → Value} {hat far : �
             ]
       ]
 
-  pub unspur-keeps : Structure s o out inn val C far class at index n a b bags
+  pub unspur-keeps : Structure s o (write s (hat≔ C) m) class F
   unspur-keeps =
       record {
         sides = S .sides;
@@ -38,8 +43,8 @@ module _ {s o : Side} {out inn : ℕ → ℕ} {val : ℕ → Value} {hat far : �
         links = S .links;
         last-out = S .last-out;
         first-in = S .first-in;
-        near-hat = unspur-hat;
-        far-hat = S .far-hat;
+        near-hat = rw (updateSide-same hats s C) unspur-hat;
+        far-hat = rw (updateSide-other hats s o C (S .sides)) (S .far-hat);
         near-spur = S .near-spur;
         far-spur = S .far-spur;
       }

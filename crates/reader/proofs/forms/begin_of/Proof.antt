@@ -1,7 +1,7 @@
 -- The four operations, the last one first.
 use mathlib.Core.Path.{_∙_}
 use borrow.Author.Needs.{needs}
-use Rattle.reader.specs.Lines.{beginOf}
+use Rattle.reader.specs.Commands.{beginOf}
 use Rattle.reader.proofs.forms.begin_of.Statement.{statement}
 use Rattle.reader.proofs.forms.begin_of.Tie as tie
 

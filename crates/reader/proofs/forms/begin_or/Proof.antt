@@ -1,7 +1,7 @@
 -- Each branch is one case of the definition.
 use mathlib.Core.Path.{sym, _∙_}
 use borrow.Author.Needs.{needs}
-use Rattle.reader.specs.Lines.{beginOr}
+use Rattle.reader.specs.Commands.{beginOr}
 use Rattle.reader.proofs.forms.begin_or.Statement.{statement}
 use Rattle.reader.proofs.forms.begin_or.Tie as tie
 

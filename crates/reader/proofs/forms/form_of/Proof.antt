@@ -1,7 +1,7 @@
 -- Each branch is one case of the definition.
 use mathlib.Core.Path.{sym, _∙_}
 use borrow.Author.Needs.{needs}
-use Rattle.reader.specs.Lines.{formOf}
+use Rattle.reader.specs.Commands.{formOf}
 use Rattle.reader.proofs.forms.form_of.Statement.{statement}
 use Rattle.reader.proofs.forms.form_of.Tie as tie
 

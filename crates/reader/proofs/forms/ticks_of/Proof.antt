@@ -2,7 +2,7 @@
 use Prim.Native.Nat.{_<_, _≤_}
 use native.Mathlib.Omega.{arith}
 use borrow.Author.Tests.{lt-leb, le-leb}
-use Rattle.reader.specs.Lines.{ticks}
+use Rattle.reader.specs.Commands.{ticks}
 use Rattle.reader.proofs.forms.ticks_of.Statement.{statement}
 use Rattle.reader.proofs.forms.ticks_of.Tie as tie
 

@@ -5,7 +5,7 @@ use native.Mathlib.Omega.{arith}
 use borrow.Author.Needs.{needs}
 use borrow.Author.Tests.{le-leb, lt-leb}
 use lib.ListN.{getD, set}
-use Rattle.reader.specs.Lines.{largestNumber}
+use Rattle.reader.specs.Commands.{largestNumber}
 use Rattle.reader.proofs.scanning.append_digit.Statement.{statement}
 use Rattle.reader.proofs.scanning.append_digit.Tie as tie
 

@@ -7,13 +7,13 @@ use borrow.Author.Needs.{needs}
 use borrow.Author.Tests.{leb-true, leb-false}
 use lib.Dec.{leb}
 use lib.ListN.{length, getD, set, length-set}
-use Rattle.reader.specs.Lines.{largestNumber}
+use Rattle.reader.specs.Commands.{largestNumber}
 use Rattle.reader.proofs.Laws.ScanLaws.{extend-represents, outgrow-counts, outgrow-represents}
 use Rattle.reader.proofs.scanning.extend_number.Statement.{statement}
 use Rattle.reader.proofs.scanning.extend_number.Tie as tie
 
 sub-place : tie.Need-sub-place
-sub-place c = omega (arith, c .before .pre .1 .some (c .before .pre .2))
+sub-place c = omega (arith, c .before .pre .counts .some (c .before .pre .is-open))
 
 append-digit-requires : tie.Need-append-digit-requires
 append-digit-requires c κs = search needs
@@ -26,9 +26,9 @@ returns c =
     let v : ℕ = 10 * getD (a .numbers .now) (a .s .count - 1) 0 + a .d in
     let t : leb v largestNumber ≡ true = sym (p .ensures .0) ∙ c .if1 .taken in
     let w : p .last .0 ≡ set (a .numbers .now) (a .s .count - 1) v = p .ensures .1 ∙ rw t in (
-      ap length w ∙ (length-set (a .numbers .now) (a .s .count - 1) v ∙ q .0),
-      q .1,
-      λ text σ r. rw w (extend-represents r (q .0) (a .d) (q .1 .some (q .2)) (leb-true v largestNumber t) (q .2)),
+      ap length w ∙ (length-set (a .numbers .now) (a .s .count - 1) v ∙ q .number-places),
+      q .counts,
+      λ text σ r. rw w (extend-represents r (q .number-places) (a .d) (q .counts .some (q .is-open)) (leb-true v largestNumber t) (q .is-open)),
     )
 
 returns-2 : tie.Need-returns-2
@@ -39,9 +39,9 @@ returns-2 c =
     let v : ℕ = 10 * getD (a .numbers .now) (a .s .count - 1) 0 + a .d in
     let t : leb v largestNumber ≡ false = sym (p .ensures .0) ∙ c .if1 .left in
     let w : p .last .0 ≡ a .numbers .now = p .ensures .1 ∙ rw t in (
-      ap length w ∙ q .0,
-      outgrow-counts (q .1) (q .1 .some (q .2)),
-      λ text σ r. rw w (outgrow-represents r (q .0) (a .d) (q .1 .some (q .2)) (leb-false v largestNumber t)),
+      ap length w ∙ q .number-places,
+      outgrow-counts (q .counts) (q .counts .some (q .is-open)),
+      λ text σ r. rw w (outgrow-represents r (q .number-places) (a .d) (q .counts .some (q .is-open)) (leb-false v largestNumber t)),
     )
 
 pub extend-number-spec : {M : Type 1} → statement M

@@ -45,7 +45,12 @@ extend-number-requires : tie.Need-extend-number-requires
 extend-number-requires c κs =
     let s = c .before .before .before .before in
     let h = in-range (c .before .before) in
-    (s .pre .number-places, s .pre .counts, c .before .if2 .taken, omega arith)
+    record {
+      number-places = s .pre .number-places;
+      counts = s .pre .counts;
+      is-open = c .before .if2 .taken;
+      is-digit = omega arith;
+    }
 
 returns-2 : tie.Need-returns-2
 unfolding scanBytes

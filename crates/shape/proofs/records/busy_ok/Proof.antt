@@ -1,12 +1,12 @@
 -- The flag of the chain is followed from test to test.
 use mathlib.Core.Path.{_≡_, refl, ap, _∙_}
 use Rattle.machine.specs.Shape.{countedOk}
-use Rattle.shape.proofs.Laws.Chains.{passed, failed, met}
+use Rattle.layout.proofs.Laws.Chains.{passed, failed, met}
 use Rattle.shape.proofs.Laws.RecordWords.{callOk, operation-fails, side-fails, busy-tests}
 use borrow.Author.Needs.{needs}
-use Rattle.shape.proofs.records.argument_ok.Reads as argument-ok-reads
+use Rattle.layout.proofs.operations.argument_ok.Reads as argument-ok-reads
 use Rattle.shape.proofs.records.counted_ok.Reads as counted-ok-reads
-use Rattle.shape.proofs.records.goal_of.Reads as goal-of-reads
+use Rattle.layout.proofs.operations.goal_of.Reads as goal-of-reads
 use Rattle.shape.proofs.records.registers_ok.Reads as registers-ok-reads
 use Rattle.shape.proofs.records.value_read_ok.Reads as value-read-ok-reads
 use Rattle.shape.proofs.steps.is_step_of.Reads as is-step-of-reads
@@ -31,10 +31,10 @@ flag :
       registers-ok-reads.Asked,
       registers-ok-reads.Learnt,
     ) reads.Pre reads.Post)
-    → let a = c .before .before .before .before .before .before .before .before .before .before .before .args in
+    → let a = c .before .before .before .before .before .before .before .before .before .before .before .before .args in
     c .if5 .if6 ≡ callOk (a .growth) (a .t)
 flag c =
-    let t = c .before .before .before .before .before .before .before .before .before .before .before .args .t in
+    let t = c .before .before .before .before .before .before .before .before .before .before .before .before .args .t in
     let goal = c .before .before .before .before .before .before .goal-of .ensures in
     met _ (c .if5 .came) (λ p. (p .0 .taken, p .2 ∙ p .1 .ensures)) (λ p. (p .0 .left, p .1))
     (met _ (c .before .if4 .came)
@@ -74,7 +74,7 @@ registers-ok-requires c κs = search needs
 
 returns-3 : tie.Need-returns-3
 returns-3 c =
-    let f = c .before .before .before .before .before .before .before .before .before in
+    let f = c .before .before .before .before .before .before .before .before .before .before in
     let e = f .before .before in
     let a = e .before .before .args in
     passed (flag (c .before .before)) (c .before .if6 .taken) (c .registers-ok .ensures)
@@ -82,7 +82,7 @@ returns-3 c =
 
 returns-4 : tie.Need-returns-4
 returns-4 c =
-    let f = c .before .before .before .before .before .before .before .before in
+    let f = c .before .before .before .before .before .before .before .before .before in
     let e = f .before .before in
     let a = e .before .before .args in
     failed _ (flag (c .before)) (c .if6 .left) refl

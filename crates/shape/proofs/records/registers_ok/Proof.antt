@@ -3,7 +3,7 @@ use mathlib.Core.Path.{_≡_, refl, _∙_}
 use mathlib.Core.Bool.{_&&_}
 use lib.ListN.{getD}
 use Rattle.machine.specs.Shape.{nodeOrNone}
-use Rattle.shape.proofs.Laws.Chains.{passed, failed, met}
+use Rattle.layout.proofs.Laws.Chains.{passed, failed, met}
 use borrow.Author.Needs.{needs}
 use Rattle.shape.proofs.records.node_or_none.Reads as node-or-none-reads
 use Rattle.shape.proofs.records.registers_ok.Statement.{statement}

@@ -1,4 +1,5 @@
--- In each arm the step is known; at 48 the marks of the opposite side are those of side 1 - side.
+-- In each arm the step is known; at 48 the marks are those of the opposite side.
+use mathlib.Core.Path.{sym, _∙_}
 use borrow.Author.Tests.{ne-eqb}
 use Rattle.shape.proofs.Laws.RecordWords.{read-n, read-not-n}
 use borrow.Author.Needs.{needs}
@@ -8,17 +9,20 @@ use Rattle.shape.proofs.records.value_read_ok.Tie as tie
 bag-ok-requires : tie.Need-bag-ok-requires
 bag-ok-requires c κs = search needs
 
-sub-n-of : tie.Need-sub-n-of
-sub-n-of c = search needs
+opposite-requires : tie.Need-opposite-requires
+opposite-requires c κs = search needs
 
 n-of-requires : tie.Need-n-of-requires
 n-of-requires c κs = search needs
 
-sub-x-of : tie.Need-sub-x-of
-sub-x-of c = search needs
+equal-requires : tie.Need-equal-requires
+equal-requires c κs = search needs
 
 x-of-requires : tie.Need-x-of-requires
 x-of-requires c κs = search needs
+
+equal-requires-2 : tie.Need-equal-requires-2
+equal-requires-2 c κs = search needs
 
 value-ok-requires : tie.Need-value-ok-requires
 value-ok-requires c κs = search needs
@@ -28,25 +32,26 @@ returns c = rw (c .before .match .keys1) (c .bag-ok .ensures)
 
 returns-2 : tie.Need-returns-2
 returns-2 c =
-    let f = c .before .before .before in
-    let n = f .before .n-of in
-    let x = f .x-of in
-    let m = f .before .before in
-    let a = m .before .args in
-    rw (m .match .keys2)
-    (read-n (a .side) (a .v .word) (n .result) (x .result) (m .before .pre) (n .ensures) (x .ensures) (c .if1 .taken))
+    let e = c .before in
+    let n = e .before in
+    let o = n .before in
+    let s = o .before .before in
+    c .if1 .taken
+    ∙ rw (o .before .match .keys2)
+    (read-n (s .args .side) _ (o .opposite .ensures) (s .args .v) _ (n .n-of .ensures)
+    (sym (e .equal .ensures) ∙ c .if1 .taken))
 
 returns-3 : tie.Need-returns-3
 returns-3 c =
-    let e = c .before .before in
-    let f = e .before .before .before in
-    let n = f .before .n-of in
-    let x = f .x-of in
-    let m = f .before .before in
-    let a = m .before .args in
-    let k = e .if1 .left in
-    rw (m .match .keys2)
-    (read-not-n (a .side) (a .v .word) (n .result) (x .result) (m .before .pre) (n .ensures) (x .ensures) k)
+    let f = c .before .before in
+    let e = f .before in
+    let n = e .before in
+    let o = n .before in
+    let s = o .before .before in
+    c .equal2 .ensures
+    ∙ rw (o .before .match .keys2)
+    (read-not-n (s .args .side) _ (o .opposite .ensures) (s .args .v) _ (n .n-of .ensures)
+    (sym (e .equal .ensures) ∙ f .if1 .left) _ (c .before .x-of .ensures))
 
 returns-4 : tie.Need-returns-4
 returns-4 c =
@@ -59,10 +64,11 @@ value-read-ok-spec =
     tie.close
     (tie.spec
     bag-ok-requires
-    sub-n-of
+    opposite-requires
     n-of-requires
-    sub-x-of
+    equal-requires
     x-of-requires
+    equal-requires-2
     value-ok-requires
     returns
     returns-2

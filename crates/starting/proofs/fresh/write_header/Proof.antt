@@ -5,29 +5,29 @@ use borrow.Author.Needs.{needs}
 use Rattle.starting.proofs.fresh.write_header.Statement.{statement}
 use Rattle.starting.proofs.fresh.write_header.Tie as tie
 
-slice-write-t : tie.Need-slice-write-t
-slice-write-t c = search needs
+slice-write-table : tie.Need-slice-write-table
+slice-write-table c = search needs
 
-slice-write-t-2 : tie.Need-slice-write-t-2
-slice-write-t-2 c = simp length-set (omega arith)
+slice-write-table-2 : tie.Need-slice-write-table-2
+slice-write-table-2 c = simp length-set (omega arith)
 
-slice-write-t-3 : tie.Need-slice-write-t-3
-slice-write-t-3 c = simp length-set (omega arith)
+slice-write-table-3 : tie.Need-slice-write-table-3
+slice-write-table-3 c = simp length-set (omega arith)
 
-slice-write-t-4 : tie.Need-slice-write-t-4
-slice-write-t-4 c = simp length-set (omega arith)
+slice-write-table-4 : tie.Need-slice-write-table-4
+slice-write-table-4 c = simp length-set (omega arith)
 
-slice-write-t-5 : tie.Need-slice-write-t-5
-slice-write-t-5 c = simp length-set (omega arith)
+slice-write-table-5 : tie.Need-slice-write-table-5
+slice-write-table-5 c = simp length-set (omega arith)
 
-slice-write-t-6 : tie.Need-slice-write-t-6
-slice-write-t-6 c = simp length-set (omega arith)
+slice-write-table-6 : tie.Need-slice-write-table-6
+slice-write-table-6 c = simp length-set (omega arith)
 
-slice-write-t-7 : tie.Need-slice-write-t-7
-slice-write-t-7 c = simp length-set (omega arith)
+slice-write-table-7 : tie.Need-slice-write-table-7
+slice-write-table-7 c = simp length-set (omega arith)
 
-slice-write-t-8 : tie.Need-slice-write-t-8
-slice-write-t-8 c = search needs
+slice-write-table-8 : tie.Need-slice-write-table-8
+slice-write-table-8 c = search needs
 
 same-length : tie.Need-same-length
 same-length c = search needs
@@ -39,13 +39,13 @@ pub write-header-spec : {M : Type 1} → statement M
 write-header-spec =
     tie.close
     (tie.spec
-    slice-write-t
-    slice-write-t-2
-    slice-write-t-3
-    slice-write-t-4
-    slice-write-t-5
-    slice-write-t-6
-    slice-write-t-7
-    slice-write-t-8
+    slice-write-table
+    slice-write-table-2
+    slice-write-table-3
+    slice-write-table-4
+    slice-write-table-5
+    slice-write-table-6
+    slice-write-table-7
+    slice-write-table-8
     same-length
     returns)

@@ -1,14 +1,17 @@
 -- `starting::fresh::write_tasks` meets its contract.
-use mathlib.Core.Path.{_≡_, refl, sym, _∙_}
+use mathlib.Core.Path.{_≡_, refl, sym, ap, _∙_}
 use mathlib.Core.List.{List}
 use Prim.Native.Nat.{ℕ, _+_, _-_, _≤_}
 use native.Mathlib.Omega.{arith}
 use lib.ListN.{length}
-use lib.Seq.{take-all}
+use lib.Seq.{take-all, length-sets}
 use borrow.Author.Needs.{needs}
-use Rattle.machine.specs.Tasks.{fresh, wordsOf}
+use borrow.Rule.Slice.PartMut.{putMid}
+use Rattle.machine.specs.Tasks.{fresh, recordLength, wordsOf}
 use Rattle.machine.specs.Table.{nodeAt, recordAt}
-use Rattle.starting.proofs.Filling.{filled, filled-more, filled-all}
+use Rattle.layout.specs.Coded.{recordOf}
+use Rattle.layout.proofs.Laws.RecordWords.{record-part-long, record-put}
+use Rattle.starting.proofs.Filling.{filling, filling-more, filling-done}
 use Rattle.starting.proofs.fresh.write_tasks.Statement.{statement}
 use Rattle.starting.proofs.fresh.write_tasks.Tie as tie
 
@@ -19,7 +22,7 @@ abbrev Inv-loop : tie.InvT-loop
 Inv-loop t₀ slots tasks k₀ t k =
     (k ≤ tasks)
     × (length t ≡ length t₀)
-    × (filled t (recordAt slots k) (tasks - k) idle ≡ filled t₀ (recordAt slots 0) (tasks - 0) idle)
+    × (filling t (recordAt slots k) (tasks - k) idle ≡ filling t₀ (recordAt slots 0) (tasks - 0) idle)
 
 abbrev μ-loop : tie.MeasureT-loop
 μ-loop t₀ slots tasks k₀ t k = tasks - k
@@ -27,28 +30,41 @@ abbrev μ-loop : tie.MeasureT-loop
 loop-holds : tie.Need-loop-holds Inv-loop μ-loop
 loop-holds c = (omega arith, refl, refl)
 
+record-at-requires : tie.Need-record-at-requires Inv-loop μ-loop
+record-at-requires c κs = search needs
+
+-- The record is where it should be, and within the table.
+at-record :
+    (c : tie.After-record-at Inv-loop μ-loop)
+    → let l = c .before .before .loop in
+    let a = c .before .before .before .before .args in
+    (c .record-at .result ≡ recordAt (a .slots) (l .k)) × (recordAt (a .slots) (l .k) + recordLength ≤ length (l .table))
+at-record c =
+    let l = c .before .before .loop in
+    (c .record-at .ensures, omega (arith, l .inv .1, c .before .before .before .before .pre))
+
 fresh-requires : tie.Need-fresh-requires Inv-loop μ-loop
 fresh-requires c κs = search needs
 
-mul-write : tie.Need-mul-write Inv-loop μ-loop
-mul-write c = omega
-    (arith, c .before .before .before .before .before .pre .0, c .before .before .before .before .before .pre .1)
-
 add-write : tie.Need-add-write Inv-loop μ-loop
-add-write c = omega
-    (arith, c .before .before .before .before .before .pre .0, c .before .before .before .before .before .pre .1)
+add-write c = omega (arith, at-record (c .before))
 
-mul-write-2 : tie.Need-mul-write-2 Inv-loop μ-loop
-mul-write-2 c = omega
-    (arith, c .before .before .before .before .before .pre .0, c .before .before .before .before .before .pre .1)
+mul-write : tie.Need-mul-write Inv-loop μ-loop
+mul-write c = omega (arith, at-record (c .before))
 
-add-write-2 : tie.Need-add-write-2 Inv-loop μ-loop
-add-write-2 c = omega
-    (arith, c .before .before .before .before .before .pre .0, c .before .before .before .before .before .pre .1)
+sub-write : tie.Need-sub-write Inv-loop μ-loop
+sub-write c = omega arith
+
+part-write-start : tie.Need-part-write-start Inv-loop μ-loop
+part-write-start c = omega arith
+
+part-write-end : tie.Need-part-write-end Inv-loop μ-loop
+part-write-end c = omega (arith, at-record (c .before))
 
 write-requires : tie.Need-write-requires Inv-loop μ-loop
-write-requires c κs = omega
-    (arith, c .before .before .before .loop .inv .1, c .before .before .before .before .before .pre .2)
+write-requires c κs =
+    let r = c .before .before in
+    record-part-long (r .before .before .loop .table) (r .record-at .ensures) (at-record r .1)
 
 add-k : tie.Need-add-k Inv-loop μ-loop
 add-k c = omega arith
@@ -58,16 +74,22 @@ loop-less c = omega arith
 
 loop-again : tie.Need-loop-again Inv-loop μ-loop
 loop-again c =
-    let a = c .before .before .before .before .before .before .before .before .args in
-    let h = c .before .before .before .before .before .before .before .before .pre in
-    let l = c .before .before .before .before .before .before .loop in
+    let r = c .before .before .before .before .before in
+    let l = r .before .before .loop in
+    let s = r .before .before .before .before in
+    let a = s .args in
     let w = c .before .before .write in
-    let f = c .before .before .before .before .fresh in (
+    let f = c .before .before .before .before .fresh in
+    let words = w .ensures ∙ ap recordOf (f .ensures) in
+    let at = r .record-at .result in
+    let put =
+    ap (putMid at (at + recordLength - at) (l .table)) words
+    ∙ record-put (l .table) idle (r .record-at .ensures) refl (at-record r .1) in (
       omega arith,
-      w .kept .1 .0 ∙ l .inv .1,
-      rw (w .ensures, f .ensures)
-          (filled-more (l .t) idle (recordAt (a .slots) (l .k)) (recordAt (a .slots) (l .k + 1)) (a .tasks - l .k)
-          (a .tasks - (l .k + 1)) (omega arith) (omega (arith, l .inv .1, h .2)) (omega arith)
+      ap length put ∙ length-sets (l .table) (recordAt (a .slots) (l .k)) idle ∙ l .inv .1,
+      rw put
+          (filling-more (l .table) idle (recordAt (a .slots) (l .k)) (recordAt (a .slots) (l .k + 1)) (a .tasks - l .k)
+          (a .tasks - (l .k + 1)) (omega arith) (omega (arith, l .inv .1, s .pre)) (omega arith)
           ∙ l .inv .2),
     )
 
@@ -83,8 +105,8 @@ returns c =
     let e : a .tasks - 0 ≡ a .tasks = omega arith in
     let z : recordAt (a .slots) 0 ≡ nodeAt (a .slots) = omega arith in
     let q = l .inv .2 in
-    sym (take-all n (l .t) (omega (arith, l .inv .1, h .2)))
-    ∙ sym (filled-all (l .t) idle n (a .tasks - l .k) (omega arith))
+    sym (take-all n (l .table) (omega (arith, l .inv .1, h)))
+    ∙ sym (filling-done (l .table) idle n (a .tasks - l .k) (omega arith))
     ∙ rw (e, z) at q
 
 pub write-tasks-spec : {M : Type 1} → statement M
@@ -94,11 +116,13 @@ write-tasks-spec =
     Inv-loop
     μ-loop
     loop-holds
+    record-at-requires
     fresh-requires
-    mul-write
     add-write
-    mul-write-2
-    add-write-2
+    mul-write
+    sub-write
+    part-write-start
+    part-write-end
     write-requires
     add-k
     loop-less

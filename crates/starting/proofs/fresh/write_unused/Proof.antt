@@ -1,13 +1,16 @@
 -- `starting::fresh::write_unused` meets its contract.
-use mathlib.Core.Path.{_≡_, refl, sym, _∙_}
+use mathlib.Core.Path.{_≡_, refl, sym, ap, _∙_}
 use mathlib.Core.List.{List}
-use Prim.Native.Nat.{ℕ, _+_, _-_, _≤_}
+use Prim.Native.Nat.{ℕ, _+_, _*_, _-_, _≤_}
 use native.Mathlib.Omega.{arith}
 use lib.ListN.{length}
+use Rattle.machine.specs.declared.Stored.{Stored}
 use Rattle.machine.specs.Values.{never}
 use Rattle.machine.specs.Tasks.{none}
-use Rattle.machine.specs.Table.{nodeAt, nodeWords}
-use Rattle.starting.proofs.Filling.{filled, filled-more, filled-all}
+use Rattle.machine.specs.Table.{nodeLength, nodeWords}
+use Rattle.layout.specs.Coded.{setNodeIn}
+use Rattle.starting.proofs.Filling.{filling, filling-more, filling-done}
+use borrow.Author.Needs.{needs}
 use Rattle.starting.proofs.fresh.write_unused.Statement.{statement}
 use Rattle.starting.proofs.fresh.write_unused.Tie as tie
 
@@ -15,19 +18,22 @@ abbrev unused : List ℕ
 unused = nodeWords none none never
 
 abbrev Inv-loop : tie.InvT-loop
-Inv-loop t₀ slots x₀ t x =
+Inv-loop ns₀ slots x₀ ns x =
     (x ≤ slots)
-    × (length t ≡ length t₀)
-    × (filled t (nodeAt x) (slots - x) unused ≡ filled t₀ (nodeAt 2) (slots - 2) unused)
+    × (length ns ≡ length ns₀)
+    × (filling ns (nodeLength * x) (slots - x) unused ≡ filling ns₀ (nodeLength * 2) (slots - 2) unused)
 
 abbrev μ-loop : tie.MeasureT-loop
-μ-loop t₀ slots x₀ t x = slots - x
+μ-loop ns₀ slots x₀ ns x = slots - x
 
 loop-holds : tie.Need-loop-holds Inv-loop μ-loop
 loop-holds c = (c .before .pre .0, refl, refl)
 
-write-node-requires : tie.Need-write-node-requires Inv-loop μ-loop
-write-node-requires c κs = omega (arith, c .before .before .loop .inv .1)
+of-number-requires : tie.Need-of-number-requires Inv-loop μ-loop
+of-number-requires c κs = search needs
+
+write-requires : tie.Need-write-requires Inv-loop μ-loop
+write-requires c κs = omega (arith, c .before .before .before .loop .inv .1)
 
 add-x : tie.Need-add-x Inv-loop μ-loop
 add-x c = omega arith
@@ -37,14 +43,16 @@ loop-less c = omega arith
 
 loop-again : tie.Need-loop-again Inv-loop μ-loop
 loop-again c =
-    let l = c .before .before .before .before .before .loop in
-    let n = c .before .before .before .before .before .before .before .args .slots in
-    let w = c .before .before .write-node in (
+    let l = c .before .before .before .before .before .before .loop in
+    let n = c .before .before .before .before .before .before .before .before .args .slots in
+    let w = c .before .before .write in
+    let v = c .before .before .before .of-number in
+    let written = w .ensures ∙ ap (setNodeIn (l .ns) (l .x) none none) (v .ensures) in (
       omega arith,
       w .kept .0 ∙ l .inv .1,
-      rw (w .ensures)
-          (filled-more (l .t) unused (nodeAt (l .x)) (nodeAt (l .x + 1)) (n - l .x) (n - (l .x + 1)) (omega arith)
-          (omega (arith, l .inv .1)) (omega arith)
+      rw written
+          (filling-more (l .ns) unused (nodeLength * l .x) (nodeLength * (l .x + 1)) (n - l .x) (n - (l .x + 1))
+          (omega arith) (omega (arith, l .inv .1)) (omega arith)
           ∙ l .inv .2),
     )
 
@@ -55,8 +63,8 @@ returns : tie.Need-returns Inv-loop μ-loop
 returns c =
     let l = c .before .loop in
     let n = c .before .before .before .args .slots in
-    let e : nodeAt n ≡ nodeAt (l .x) = omega arith in
-    rw e (sym (filled-all (l .t) unused (nodeAt (l .x)) (n - l .x) (omega arith)) ∙ l .inv .2)
+    let e : nodeLength * n ≡ nodeLength * l .x = omega arith in
+    rw e (sym (filling-done (l .ns) unused (nodeLength * l .x) (n - l .x) (omega arith)) ∙ l .inv .2)
 
 pub write-unused-spec : {M : Type 1} → statement M
 write-unused-spec =
@@ -65,7 +73,8 @@ write-unused-spec =
     Inv-loop
     μ-loop
     loop-holds
-    write-node-requires
+    of-number-requires
+    write-requires
     add-x
     loop-less
     loop-again

@@ -1,56 +1,70 @@
 -- `ticking::passed::store` meets its contract: three stores, one after another.
-use mathlib.Core.Path.{_∙_}
+use mathlib.Core.Path.{_≡_, _∙_}
 use Prim.Native.Nat.{_+_}
 use native.Mathlib.Omega.{arith}
-use lib.ListN.{length-set}
+use lib.ListN.{length, set, length-set}
+use lib.Seq.{getD-set-other}
+use Rattle.machine.specs.Sides.{left}
+use Rattle.machine.specs.Table.{nodeCount, hatAt, nodeCountAt}
+use Rattle.layout.specs.Coded.{HoldsRecord}
 use borrow.Author.Needs.{needs}
 use Rattle.ticking.proofs.passed.store.Statement.{statement}
 use Rattle.ticking.proofs.passed.store.Tie as tie
 
-add-t : tie.Need-add-t
-add-t c = search needs
+add-table : tie.Need-add-table
+add-table c = search needs
 
-mul-t : tie.Need-mul-t
-mul-t c = search needs
+mul-table : tie.Need-mul-table
+mul-table c = search needs
 
-slice-write-t : tie.Need-slice-write-t
-slice-write-t c = search needs
+slice-write-table : tie.Need-slice-write-table
+slice-write-table c = search needs
 
-write-requires : tie.Need-write-requires
-write-requires c κs = search needs
+set-task-requires : tie.Need-set-task-requires
+set-task-requires c κs =
+    let p = c .before .before in
+    let a = p .args in
+    let i = hatAt left + a .side in
+    let same : nodeCount (set (a .table .now) i (a .hat)) ≡ nodeCount (a .table .now)
+    = getD-set-other (a .table .now) i nodeCountAt (a .hat) 0 (λ e. omega arith) in
+    omega (arith, p .pre .1, same, length-set (a .table .now) i (a .hat))
 
 slice-read-wrapping-add-u32 : tie.Need-slice-read-wrapping-add-u32
 slice-read-wrapping-add-u32 c =
-    let a = c .before .before .before .before .before .before .args in
-    omega (arith, c .before .before .before .write .kept .1 .0, length-set (a .t .now) (3 + a .side) (a .hat))
+    let w = c .before .before .before in
+    let p = w .before .before .before in
+    let a = p .args in
+    omega (arith, p .pre .1, w .set-task .kept .0, length-set (a .table .now) (hatAt left + a .side) (a .hat))
 
 wrapping-add-u32-requires : tie.Need-wrapping-add-u32-requires
 wrapping-add-u32-requires c κs = search needs
 
-slice-write-t-2 : tie.Need-slice-write-t-2
-slice-write-t-2 c =
-    let a = c .before .before .before .before .before .before .before .args in
-    omega (arith, c .before .before .before .before .write .kept .1 .0, length-set (a .t .now) (3 + a .side) (a .hat))
+slice-write-table-2 : tie.Need-slice-write-table-2
+slice-write-table-2 c =
+    let w = c .before .before .before .before in
+    let p = w .before .before .before in
+    let a = p .args in
+    omega (arith, p .pre .1, w .set-task .kept .0, length-set (a .table .now) (hatAt left + a .side) (a .hat))
 
 same-length : tie.Need-same-length
 same-length c =
-    let a = c .before .before .before .before .before .before .before .args in
-    simp length-set
-    (c .before .before .before .before .write .kept .1 .0 ∙ length-set (a .t .now) (3 + a .side) (a .hat))
+    let w = c .before .before .before .before in
+    let a = w .before .before .before .args in
+    simp length-set (w .set-task .kept .0 ∙ length-set (a .table .now) (hatAt left + a .side) (a .hat))
 
 returns : tie.Need-returns
-returns c = rw (c .wrapping-add-u32 .ensures, c .before .before .before .before .write .ensures)
+returns c = rw (c .wrapping-add-u32 .ensures, c .before .before .before .before .set-task .ensures)
 
 pub store-spec : {M : Type 1} → statement M
 store-spec =
     tie.close
     (tie.spec
-    add-t
-    mul-t
-    slice-write-t
-    write-requires
+    add-table
+    mul-table
+    slice-write-table
+    set-task-requires
     slice-read-wrapping-add-u32
     wrapping-add-u32-requires
-    slice-write-t-2
+    slice-write-table-2
     same-length
     returns)

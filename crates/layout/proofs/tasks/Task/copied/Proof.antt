@@ -31,7 +31,7 @@ element-copy-out-d c = search needs
 
 returns : tie.Need-returns
 returns c =
-    let t = c .before .before .before .before .before .args .t1 in
+    let t = c .before .before .before .before .before .before .args .t1 in
     let four : length (t .registers) ≡ 4 = search needs in
     rw (four-elements (t .registers) four)
 

@@ -1,0 +1,83 @@
+-- A record's words, in its struct and as a lent part of the table, and the test that they are fresh.
+use mathlib.Core.Path.{_≡_, sym, ap, _∙_}
+use mathlib.Core.Bool.{Bool, _&&_, and-true, and-assoc}
+use mathlib.Core.List.{List, [], _∷_, _++_, append-assoc}
+use Prim.Native.Nat.{ℕ, zero, suc, _+_, _-_, _≤_}
+use native.Mathlib.Omega.{arith}
+use lib.Dec.{eqb}
+use lib.ListN.{length, getD, take, drop, drop-of-length-le}
+use lib.Seq.{sets, sets-eq, drop-cons, drop-drop}
+use borrow.Rule.Slice.PartMut.{midOf, postOf, putMid}
+use Rattle.machine.specs.Tasks.{fresh, none, recordLength, wordsOf}
+use Rattle.machine.specs.Table.{recordFrom}
+use Rattle.machine.specs.Shape.{sameWords}
+use Rattle.machine.proofs.Words.Stretches.{record-long}
+use Rattle.layout.specs.Coded.{structOf, recordOf}
+use Rattle.layout.specs.declared.tasks.Task as Tasks
+
+-- ---- The struct of a record's words has those words.
+
+-- n words of a list from place i on, read one by one.
+listed : (n i : ℕ) → List ℕ → List ℕ
+listed zero i r = []
+listed (suc n) i r = getD r i 0 ∷ listed n (suc i) r
+
+listed-all : (n i : ℕ) (r : List ℕ) → length r ≡ i + n → listed n i r ≡ drop i r
+unfolding listed
+listed-all zero i r h = sym (drop-of-length-le r {i = i} (omega arith))
+listed-all (suc n) i r h =
+    ap (_∷_ (getD r i 0)) (listed-all n (suc i) r (omega arith)) ∙ sym (drop-cons r i 0 (omega arith))
+
+pub words-of-struct : (r : List ℕ) → length r ≡ recordLength → recordOf (structOf r) ≡ r
+unfolding listed
+words-of-struct r h = listed-all recordLength 0 r (h ∙ omega arith)
+
+-- A record lent as a part of the table.
+pub record-part :
+    (ws : List ℕ) {at i : ℕ} → at ≡ i → midOf at ((at + recordLength) - at) ws ≡ recordFrom ws i
+record-part ws {at} e =
+    let n : (at + recordLength) - at ≡ recordLength = omega arith in
+    ap (λ (n : ℕ). midOf at n ws) n ∙ ap (recordFrom ws) e
+
+pub record-part-long :
+    (ws : List ℕ) {at i : ℕ}
+    → at ≡ i
+    → i + recordLength ≤ length ws
+    → length (midOf at ((at + recordLength) - at) ws) ≡ recordLength
+record-part-long ws {i = i} e h = ap length (record-part ws e) ∙ record-long ws i h
+
+pub record-put :
+    (ws r : List ℕ) {at i : ℕ}
+    → at ≡ i
+    → length r ≡ recordLength
+    → i + recordLength ≤ length ws
+    → putMid at ((at + recordLength) - at) ws r ≡ sets ws i r
+record-put ws r {at} {i} e long h =
+    let n : (at + recordLength) - at ≡ recordLength = omega arith in
+    let after : postOf i recordLength ws ≡ drop (i + length r) ws
+    = drop-drop recordLength i ws ∙ ap (λ (m : ℕ). drop (i + m) ws) (sym long) in
+    ap (λ (m : ℕ). putMid at m ws r) n
+    ∙ ap (λ (j : ℕ). putMid j recordLength ws r) e
+    ∙ ap (λ (l : List ℕ). take i ws ++ (r ++ l)) after
+    ∙ sym (append-assoc (take i ws) r (drop (i + length r) ws))
+    ∙ sym (sets-eq r ws i (omega arith))
+
+-- ---- A fresh record.
+
+-- The tests before that of the last register.
+abbrev pub freshToC : Tasks.Task → Bool
+freshToC t =
+    eqb (t .operation) 0
+    && eqb (t .step) 0
+    && eqb (t .side) 0
+    && eqb (t .argument .word) 0
+    && eqb (t .counted) 0
+    && eqb (t .value .word) 0
+    && eqb (getD (t .registers) 0 0) none
+    && eqb (getD (t .registers) 1 0) none
+    && eqb (getD (t .registers) 2 0) none
+
+pub fresh-words :
+    (t : Tasks.Task) → freshToC t && eqb (getD (t .registers) 3 0) none ≡ sameWords (recordOf t) (wordsOf fresh)
+unfolding sameWords
+fresh-words t = simp (and-assoc, and-true)

@@ -1,0 +1,30 @@
+// The operations by their numbers: what each takes as its argument, and its goal.
+use crate::tasks::Task;
+use crate::values;
+use machine::Stored;
+ghost use mathlib.Core.Path.{_≡_};
+ghost use Rattle.machine.specs.Values.{number};
+ghost use Rattle.machine.specs.Operations.{operationOf, argumentOk, goalOf};
+
+// 01: argument: push a bag number, pop 0, add 0 to 64, remove 0 to 1,023.
+pub fn argument_ok(operation: u32, argument: Stored) -> bool
+    ensures { λ r. ⌜ r ≡ argumentOk (operationOf operation) argument ⌝ }
+{
+    match operation {
+        Task::PUSH => values::bag_ok(argument),
+        Task::IDLE | Task::POP => argument.word == 0,
+        Task::ADD => argument.word <= 64,
+        _ => argument.word <= 1_023,
+    }
+}
+
+// 01: goal: the argument for add and remove, growth for push, 0 for pop.
+pub fn goal_of(operation: u32, growth: u32, argument: Stored) -> u32
+    ensures { λ r. ⌜ r ≡ goalOf (operationOf operation) growth (number argument) ⌝ }
+{
+    match operation {
+        Task::PUSH => growth,
+        Task::IDLE | Task::POP => 0,
+        _ => argument.word,
+    }
+}
