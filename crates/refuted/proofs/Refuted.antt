@@ -1,0 +1,40 @@
+-- Every wrong machine is refuted, all by one computation over the definitions.
+use mathlib.Core.Path.{refl}
+use mathlib.Core.List.{map}
+use mathlib.Core.Option.{bind}
+use native.Mathlib.Decide.{ℕ-discrete, decLt, decLe}
+use Rattle.machine.specs.Values.{Value-discrete, decode}
+use Rattle.machine.specs.Steps.{stepIn, stepOf, isStepIn}
+use Rattle.machine.specs.Table.{link, value, task}
+use Rattle.machine.specs.Shape.{allBelow, sameWords, nodeOk, busyOk, recordOk, shapeOk}
+use Rattle.machine.specs.Allocate.{heldFrom, roots, mark, markAll, visit, visitFrom, marked, firstUnmarked, allocate}
+use Rattle.machine.specs.Lines.{writeAll, act}
+use Rattle.machine.specs.Answers.{plainAnswerOf, answerOf}
+use Rattle.machine.specs.Row.{pushAnswered, popAnswered, sizeAnswered, feedMade, feedRun}
+use Rattle.machine.specs.Demand3.{feedTick}
+use Rattle.machine.specs.Calls.{
+  times,
+  startWords,
+  start,
+  begin,
+  effectOf,
+  applied,
+  tickOn,
+  tick,
+  runOn,
+  run,
+  laneFrom,
+  lane,
+}
+use Rattle.refuted.specs.Machines.{heldFromBy, takeBy, tickOnBy, tickBy, runOnBy, runBy, afterTicksBy}
+use Rattle.refuted.specs.Wrong.{ended, wholeOn, touchesNothing}
+use Rattle.refuted.specs.Judged.{byRow, byDefinitions}
+use Rattle.refuted.specs.Lists.{AllRefuted, judged}
+
+pub all-refuted : AllRefuted
+unfolding judged byRow byDefinitions ended wholeOn touchesNothing heldFromBy takeBy tickOnBy tickBy runOnBy runBy
+    afterTicksBy feedTick pushAnswered popAnswered sizeAnswered feedMade feedRun bind plainAnswerOf answerOf ℕ-discrete decLt
+    decLe Value-discrete decode stepIn stepOf isStepIn link value task allBelow sameWords nodeOk busyOk recordOk shapeOk
+    heldFrom roots mark markAll visit visitFrom marked firstUnmarked allocate writeAll act times startWords start begin
+    effectOf applied tickOn tick runOn run laneFrom lane
+all-refuted = (refl, refl)

@@ -1,0 +1,91 @@
+-- How a list of calls judges a machine: by the row (demand 3), and by the definitions (demand 2).
+use mathlib.Core.Bool.{Bool, true, false, _&&_}
+use mathlib.Core.List.{List, [], _∷_}
+use mathlib.Core.Option.{Option, some, none as nothing}
+use Prim.Native.Nat.{ℕ, suc}
+use lib.Dec.{eqb}
+use Rattle.machine.specs.declared.Answer.{Answer}
+use Rattle.machine.specs.declared.Reading.{Reading}
+use Rattle.machine.specs.declared.Reading.the-variants.{Count, Refused as Reading-Refused}
+use Rattle.machine.specs.Shape.{allBelow, sameWords}
+use Rattle.machine.specs.Answers.{replyNumber, kindOf, payloadOf}
+use Rattle.machine.specs.Calls.{lane}
+use Rattle.machine.specs.Row.{Row, feedRun}
+use Rattle.machine.specs.Demand3.{
+  Call,
+  start-call,
+  begin-call,
+  tick-call,
+  run-call,
+  read-call,
+  Given,
+  given,
+  after,
+  feed,
+}
+use Rattle.refuted.specs.Machines.{Machine, runBy, givenBy, afterBy, afterTicksBy}
+
+-- A call is named by its number in the list, from 1.
+pub data Verdict : Type 0 where
+  passes : Verdict
+  not-the-row's-answer : (call : ℕ) → Verdict
+  lane-is-not-the-row : (call : ℕ) → Verdict
+  other-answer : (call : ℕ) → Verdict
+  other-table : (call : ℕ) → Verdict
+
+-- ---- Demand 3, as Demand3.Explained says it.
+abbrev pub sameBags : Option (List ℕ) → Option Row → Bool
+sameBags nothing r = false
+sameBags (some bags) nothing = false
+sameBags (some bags) (some ρ) = sameWords bags (ρ .bags)
+
+abbrev pub sameWithin : Machine → (c : Call) → List ℕ → Row → Bool
+sameWithin M (run-call list answers) ws ρ =
+    let r = runBy M ws list answers in
+    allBelow (suc (r .ran .made)) (λ i. sameBags (lane (afterTicksBy M i list ws)) (feedRun ρ i list (r .answers)))
+sameWithin M (start-call S T g) ws ρ = true
+sameWithin M (begin-call k op side argument) ws ρ = true
+sameWithin M (tick-call k h) ws ρ = true
+sameWithin M (read-call out) ws ρ = true
+
+unfoldable pub byRow : Machine → List Call → (number : ℕ) → List ℕ → Row → Verdict
+byRow M [] n ws ρ = passes
+byRow M (c ∷ cs) n ws ρ =
+    elim (feed ρ c (givenBy M c ws)) as (λ _. Verdict) [
+      | nothing ↦ not-the-row's-answer n
+      | some ρ′ ↦
+          elim (sameWithin M c ws ρ && sameBags (lane (afterBy M c ws)) (some ρ′)) as (λ _. Verdict) [
+            | true ↦ byRow M cs (suc n) (afterBy M c ws) ρ′
+            | false ↦ lane-is-not-the-row n
+          ]
+    ]
+
+-- ---- Demand 2: each call gives and leaves what the definitions' call does on the same table.
+abbrev pub sameAnswer : Answer → Answer → Bool
+sameAnswer a b = eqb (kindOf a) (kindOf b) && eqb (payloadOf a) (payloadOf b)
+
+abbrev pub sameReading : Reading → Reading → Bool
+sameReading (Count n) (Count m) = eqb n m
+sameReading (Count n) (Reading-Refused m) = false
+sameReading (Reading-Refused n) (Count m) = false
+sameReading (Reading-Refused n) (Reading-Refused m) = eqb n m
+
+abbrev pub sameGiven : (c : Call) → Given c → Given c → Bool
+sameGiven (start-call S T g) r q = eqb (replyNumber r) (replyNumber q)
+sameGiven (begin-call k op side argument) r q = eqb (replyNumber r) (replyNumber q)
+sameGiven (tick-call k h) r q = sameAnswer r q
+sameGiven (run-call list answers) r q =
+    eqb (r .0 .made) (q .0 .made) && eqb (r .0 .refusal) (q .0 .refusal) && sameWords (r .1) (q .1)
+sameGiven (read-call out) r q = sameReading (r .0) (q .0) && sameWords (r .1) (q .1)
+
+unfoldable pub byDefinitions : Machine → List Call → (number : ℕ) → List ℕ → Verdict
+byDefinitions M [] n ws = passes
+byDefinitions M (c ∷ cs) n ws =
+    elim (sameGiven c (givenBy M c ws) (given c ws)) as (λ _. Verdict) [
+      | false ↦ other-answer n
+      | true ↦
+          elim (sameWords (afterBy M c ws) (after c ws)) as (λ _. Verdict) [
+            | true ↦ byDefinitions M cs (suc n) (afterBy M c ws)
+            | false ↦ other-table n
+          ]
+    ]

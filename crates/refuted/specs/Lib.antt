@@ -1,0 +1,4 @@
+pub mod Machines
+pub mod Wrong
+pub mod Judged
+pub mod Lists

@@ -1,0 +1,281 @@
+-- For each wrong machine a list of calls that tells it from the right one, and how.
+use mathlib.Core.Path.{_≡_}
+use mathlib.Core.Bool.{Bool, true, false}
+use mathlib.Core.List.{List, [], _∷_, _++_, map}
+use Prim.Native.Nat.{ℕ}
+use lib.ListN.{replicate}
+use Rattle.machine.specs.Values.{stored}
+use Rattle.machine.specs.Operations.{Operation, push, pop, add, remove, operationNumber}
+use Rattle.machine.specs.Sides.{Side, left, right, sideNumber}
+use Rattle.machine.specs.Table.{tableLength}
+use Rattle.machine.specs.Calls.{start}
+use Rattle.machine.specs.Row.{emptyRow}
+use Rattle.machine.specs.Demand3.{Call, begin-call, tick-call, run-call}
+use Rattle.refuted.specs.Machines.{Machine, rightMachine}
+use Rattle.refuted.specs.Wrong.{
+  wholeInFirstTick,
+  goingForever,
+  ticksTouchNothing,
+  refusesAll,
+  fullUnsearched,
+  emptyUncompared,
+  emptyInTwoTicks,
+  popLeavesBag,
+  popAnswers51,
+  freesHeldNode,
+  rereadsLink,
+  removeWithoutY,
+  trustsHat,
+  figureLine37,
+  figureLine32,
+  reportsUnmadeTick,
+}
+use Rattle.refuted.specs.Judged.{
+  Verdict,
+  passes,
+  not-the-row's-answer,
+  lane-is-not-the-row,
+  other-answer,
+  other-table,
+  byRow,
+  byDefinitions,
+}
+
+-- A wrong machine, calls on a table that start left, and what the row and the definitions say of it there.
+pub record Entry : Type 0 where
+  pub wrong : Machine
+  pub S : ℕ
+  pub T : ℕ
+  pub calls : List Call
+  pub row-says : Verdict
+  pub definitions-say : Verdict
+
+-- A begin on a side, and n ticks of a task with a hint.
+abbrev pub begins : ℕ → Operation → Side → ℕ → List Call
+begins k op s argument = begin-call k (operationNumber op) (sideNumber s) (stored argument) ∷ []
+
+abbrev pub ticks : (n k hint : ℕ) → List Call
+ticks n k h = replicate n (tick-call k h)
+
+-- A right add or remove of task 0, or of another, with hints 0, that ends in n ticks.
+abbrev pub wholly : (n k : ℕ) → Operation → ℕ → List Call
+wholly n k op argument = begins k op right argument ++ ticks n k 0
+
+abbrev pub entries : List Entry
+entries =
+    -- A push: after its first tick its bag is in the lane, and nobody was told.
+    record {
+      wrong = wholeInFirstTick push;
+      S = 4;
+      T = 1;
+      calls = wholly 3 0 push 51;
+      row-says = lane-is-not-the-row 2;
+      definitions-say = other-table 2;
+    }
+    -- An add: the row has no objection, but after its first tick the table has the whole chain.
+    ∷ record {
+      wrong = wholeInFirstTick add;
+      S = 4;
+      T = 1;
+      calls = wholly 3 0 add 0;
+      row-says = passes;
+      definitions-say = other-table 2;
+    }
+    -- A push that begins again where it should answer.
+    ∷ record {
+      wrong = goingForever;
+      S = 4;
+      T = 1;
+      calls = wholly 11 0 push 51;
+      row-says = passes;
+      definitions-say = other-answer 12;
+    }
+    -- The first tick leaves even the tick count.
+    ∷ record {
+      wrong = ticksTouchNothing;
+      S = 4;
+      T = 1;
+      calls = wholly 1 0 push 51;
+      row-says = passes;
+      definitions-say = other-table 2;
+    }
+    -- The first tick of a busy task is refused.
+    ∷ record {
+      wrong = refusesAll;
+      S = 4;
+      T = 1;
+      calls = wholly 1 0 push 51;
+      row-says = passes;
+      definitions-say = other-answer 2;
+    }
+    -- Two nodes are free, and the push is "full".
+    ∷ record {
+      wrong = fullUnsearched;
+      S = 4;
+      T = 1;
+      calls = wholly 4 0 push 51;
+      row-says = passes;
+      definitions-say = other-answer 5;
+    }
+    -- A pop has read the hat and its neighbour, a push is made at that hat, and the pop says "empty".
+    ∷ record {
+      wrong = emptyUncompared;
+      S = 4;
+      T = 2;
+      calls = wholly 5 0 add 0 ++ wholly 2 1 pop 0 ++ wholly 3 0 push 51 ++ ticks 1 1 0;
+      row-says = not-the-row's-answer 14;
+      definitions-say = other-answer 14;
+    }
+    -- The same, with the push between the two ticks of 48.
+    ∷ record {
+      wrong = emptyInTwoTicks;
+      S = 4;
+      T = 2;
+      calls = wholly 5 0 add 0 ++ wholly 4 1 pop 0 ++ wholly 3 0 push 51 ++ ticks 1 1 0;
+      row-says = not-the-row's-answer 16;
+      definitions-say = other-answer 11;
+    }
+    -- A pop answers 51 and leaves it in the lane.
+    ∷ record {
+      wrong = popLeavesBag;
+      S = 4;
+      T = 1;
+      calls = wholly 11 0 push 51 ++ wholly 4 0 pop 0;
+      row-says = lane-is-not-the-row 17;
+      definitions-say = other-table 17;
+    }
+    -- A pop takes 52 and answers 51.
+    ∷ record {
+      wrong = popAnswers51;
+      S = 4;
+      T = 1;
+      calls = wholly 11 0 push 52 ++ wholly 4 0 pop 0;
+      row-says = not-the-row's-answer 17;
+      definitions-say = other-answer 17;
+    }
+    -- A push of task 1 stalls at 5 with node 4 in B; a remove cuts 4 off, an add takes it again as the second node of its
+    -- chain; the stalled push moves the hat past the first one, and the next bag is behind an empty node.
+    ∷ record {
+      wrong = freesHeldNode;
+      S = 6;
+      T = 2;
+      calls =
+          wholly 7 0 add 2
+          ++ wholly 2 1 push 51
+          ++ wholly 14 0 remove 0
+          ++ begins 0 add right 2
+          ++ ticks 1 0 5
+          ++ ticks 1 0 4
+          ++ ticks 5 0 0
+          ++ ticks 1 1 0
+          ++ wholly 3 0 push 52;
+      row-says = lane-is-not-the-row 39;
+      definitions-say = other-table 29;
+    }
+    -- Case 5: the hat moves to the lane's next node, not to the spur.
+    ∷ record {
+      wrong = rereadsLink;
+      S = 6;
+      T = 2;
+      calls = wholly 7 0 add 2 ++ wholly 2 1 push 51 ++ wholly 14 0 remove 0 ++ wholly 5 0 add 0 ++ ticks 1 1 0;
+      row-says = passes;
+      definitions-say = other-table 33;
+    }
+    -- A remove stalls at 64; after an add a stalled push moves the hat to the node cut off, which still has RN, and the next
+    -- bag is pushed there, beside the lane.
+    ∷ record {
+      wrong = removeWithoutY;
+      S = 6;
+      T = 3;
+      calls =
+          wholly 7 0 add 2
+          ++ wholly 2 1 push 51
+          ++ wholly 3 0 remove 0
+          ++ wholly 5 2 add 0
+          ++ ticks 1 1 0
+          ++ wholly 3 2 push 52;
+      row-says = lane-is-not-the-row 26;
+      definitions-say = other-table 15;
+    }
+    -- Case 5 to its end: the push at the spur does not come back to the lane.
+    ∷ record {
+      wrong = trustsHat;
+      S = 6;
+      T = 2;
+      calls =
+          wholly 7 0 add 2
+          ++ wholly 2 1 push 51
+          ++ wholly 14 0 remove 0
+          ++ wholly 5 0 add 0
+          ++ ticks 1 1 0
+          ++ wholly 19 0 push 52;
+      row-says = passes;
+      definitions-say = other-table 37;
+    }
+    -- An add of 0 takes its one node and says "no".
+    ∷ record {
+      wrong = figureLine37;
+      S = 4;
+      T = 1;
+      calls = wholly 1 0 add 0;
+      row-says = passes;
+      definitions-say = other-answer 2;
+    }
+    -- Case 3: an add of 2 with one node free says "no".
+    ∷ record {
+      wrong = figureLine32;
+      S = 3;
+      T = 1;
+      calls = wholly 2 0 add 2;
+      row-says = passes;
+      definitions-say = other-answer 3;
+    }
+    -- The second tick of a run has a hint out of range: the run says that it was made, and the tick count that it was not.
+    ∷ record {
+      wrong = reportsUnmadeTick;
+      S = 4;
+      T = 1;
+      calls = begins 0 push right 51 ++ (run-call (0 ∷ 0 ∷ 0 ∷ 4 ∷ []) (7 ∷ 7 ∷ 7 ∷ 7 ∷ []) ∷ []);
+      row-says = passes;
+      definitions-say = other-answer 2;
+    }
+    ∷ []
+
+-- ---- The claim: on every list the right machine passes, and the wrong one fails as is said.
+pub record Judged : Type 0 where
+  pub right-by-row : Verdict
+  pub right-by-definitions : Verdict
+  pub wrong-by-row : Verdict
+  pub wrong-by-definitions : Verdict
+
+unfoldable pub judged : Entry → Judged
+judged e =
+    let ws = start (replicate (tableLength (e .S) (e .T)) 7) (e .S) (e .T) 0 .words in
+    record {
+      right-by-row = byRow rightMachine (e .calls) 1 ws emptyRow;
+      right-by-definitions = byDefinitions rightMachine (e .calls) 1 ws;
+      wrong-by-row = byRow (e .wrong) (e .calls) 1 ws emptyRow;
+      wrong-by-definitions = byDefinitions (e .wrong) (e .calls) 1 ws;
+    }
+
+abbrev pub expected : Entry → Judged
+expected e =
+    record {
+      right-by-row = passes;
+      right-by-definitions = passes;
+      wrong-by-row = e .row-says;
+      wrong-by-definitions = e .definitions-say;
+    }
+
+-- A verdict that is a fault. By the definitions every wrong machine has one.
+abbrev pub fault : Verdict → Bool
+fault passes = false
+fault (not-the-row's-answer n) = true
+fault (lane-is-not-the-row n) = true
+fault (other-answer n) = true
+fault (other-table n) = true
+
+abbrev pub AllRefuted : Type 0
+AllRefuted =
+    (map judged entries ≡ map expected entries)
+    × (map (λ (e : Entry). fault (e .definitions-say)) entries ≡ map (λ (e : Entry). true) entries)

@@ -1,0 +1,115 @@
+-- What a machine is: what its ticks do and what its runs report. The calls over any machine, and the right one.
+use mathlib.Core.List.{List, [], _∷_, _++_}
+use mathlib.Core.Option.{some, none as nothing}
+use Prim.Native.Nat.{ℕ, zero, suc}
+use lib.ListN.{drop}
+use Rattle.machine.specs.declared.Answer.the-variants.{Refused}
+use Rattle.machine.specs.Sides.{Side, left, right, opposite}
+use Rattle.machine.specs.Steps.{Step}
+use Rattle.machine.specs.Tasks.{Task, goal}
+use Rattle.machine.specs.Table.{nodeCount, taskCount, growth, hat, task}
+use Rattle.machine.specs.Allocate.{heldBy, markAll, visitFrom, unmarked, largestCount, firstUnmarked}
+use Rattle.machine.specs.Lines.{Memory, Effect, seen, act}
+use Rattle.machine.specs.Answers.{refusalOf}
+use Rattle.machine.specs.Calls.{
+  tableRefusal,
+  tickRefusal,
+  runRefusal,
+  Ticked,
+  applied,
+  RunDone,
+  stopped,
+  afterTick,
+  start,
+  begin,
+  read,
+}
+use Rattle.machine.specs.Demand3.{Call, start-call, begin-call, tick-call, run-call, read-call, Given}
+
+pub record Machine : Type 0 where
+  pub tickOn : List ℕ → (k hint : ℕ) → Ticked
+  pub reports : RunDone → RunDone
+
+-- ---- A machine by what a line does and what a task holds.
+abbrev pub Line : Type 0
+Line = Step → (s o : Side) → Memory → Task → (g f : ℕ) → Effect
+
+abbrev pub Held : Type 0
+Held = Task → List ℕ
+
+-- What the tasks from k on hold, n of them.
+unfoldable pub heldFromBy : Held → List ℕ → (n k : ℕ) → List ℕ
+heldFromBy held ws zero k = []
+heldFromBy held ws (suc n) k = held (task ws k) ++ heldFromBy held ws n (suc k)
+
+-- The first node from the hint on that neither a hat nor what a task holds leads to, or none.
+unfoldable pub takeBy : Held → List ℕ → (hint : ℕ) → ℕ
+takeBy held ws hint =
+    firstUnmarked (nodeCount ws)
+    (visitFrom ws largestCount 0
+    (markAll (nodeCount ws) unmarked (hat ws left ∷ hat ws right ∷ heldFromBy held ws (taskCount ws) 0)) .marks)
+    (nodeCount ws) hint
+
+unfoldable pub tickOnBy : Line → Held → List ℕ → (k hint : ℕ) → Ticked
+tickOnBy line held ws k h =
+    elim (tickRefusal ws k h) as (λ _. Ticked) [
+      | some n ↦ record { answer = Refused n; words = ws }
+      | nothing ↦
+          let t = task ws k in
+          applied (t .side) ws k
+          (line (t .step) (t .side) (opposite (t .side)) (seen (t .side) ws) t (goal (growth ws) t) (takeBy held ws h))
+    ]
+
+abbrev pub byLines : Line → Held → Machine
+byLines line held = record { tickOn = tickOnBy line held; reports = λ r. r }
+
+-- The machine of the definitions: proofs/Right.antt shows that its calls are those of machine/specs/Calls.
+abbrev pub rightMachine : Machine
+rightMachine = byLines act heldBy
+
+-- ---- The calls over a machine, as in Calls. Start, begin and reading are no machine's own.
+unfoldable pub tickBy : Machine → List ℕ → (k hint : ℕ) → Ticked
+tickBy M ws k h =
+    elim (tableRefusal ws nothing) as (λ _. Ticked) [
+      | some n ↦ record { answer = Refused n; words = ws }
+      | nothing ↦ M .tickOn ws k h
+    ]
+
+unfoldable pub runOnBy : Machine → (list : List ℕ) (ws answers : List ℕ) → RunDone
+runOnBy M [] ws answers = stopped 0 ws answers
+runOnBy M (k ∷ []) ws answers = stopped 0 ws answers
+runOnBy M (k ∷ h ∷ list) ws answers =
+    let one = M .tickOn ws k h in
+    elim (refusalOf (one .answer)) as (λ _. RunDone) [
+      | some n ↦ stopped n ws answers
+      | nothing ↦ afterTick (one .answer) (runOnBy M list (one .words) (drop 2 answers))
+    ]
+
+unfoldable pub runBy : Machine → List ℕ → (list answers : List ℕ) → RunDone
+runBy M ws list answers =
+    elim (runRefusal ws list answers) as (λ _. RunDone) [
+      | some n ↦ stopped n ws answers
+      | nothing ↦ M .reports (runOnBy M list ws answers)
+    ]
+
+-- What a call gives back, and the table as it leaves it.
+abbrev pub givenBy : Machine → (c : Call) → List ℕ → Given c
+givenBy M (start-call S T g) ws = start ws S T g .reply
+givenBy M (begin-call k op side argument) ws = begin ws k op side argument .reply
+givenBy M (tick-call k h) ws = tickBy M ws k h .answer
+givenBy M (run-call list answers) ws = (runBy M ws list answers .ran, runBy M ws list answers .answers)
+givenBy M (read-call out) ws = (read ws out .reading, read ws out .out)
+
+abbrev pub afterBy : Machine → Call → List ℕ → List ℕ
+afterBy M (start-call S T g) ws = start ws S T g .words
+afterBy M (begin-call k op side argument) ws = begin ws k op side argument .words
+afterBy M (tick-call k h) ws = tickBy M ws k h .words
+afterBy M (run-call list answers) ws = runBy M ws list answers .words
+afterBy M (read-call out) ws = ws
+
+-- The table after the first i ticks of a list of pairs.
+unfoldable pub afterTicksBy : Machine → (i : ℕ) → (list ws : List ℕ) → List ℕ
+afterTicksBy M zero list ws = ws
+afterTicksBy M (suc i) [] ws = ws
+afterTicksBy M (suc i) (k ∷ []) ws = ws
+afterTicksBy M (suc i) (k ∷ h ∷ list) ws = afterTicksBy M i list (M .tickOn ws k h .words)

@@ -1,0 +1,260 @@
+-- The wrong machines, each under the words of 01 that name it.
+use mathlib.Core.Bool.{true, false, cond}
+use mathlib.Core.List.{List, [], _∷_, _++_}
+use mathlib.Core.Option.{some, none as nothing}
+use Prim.Native.Nat.{ℕ, zero, suc, _+_, _*_}
+use lib.ListN.{take, drop}
+use Rattle.machine.specs.declared.Answer.{Answer}
+use Rattle.machine.specs.declared.Answer.the-variants.{Going, Pushed, Bag, Empty, Full, Yes, No, Refused}
+use Rattle.machine.specs.Choice.{_≟_, if_then_else_}
+use Rattle.machine.specs.Values.{bag, N, X, Y, _≟ᵛ_}
+use Rattle.machine.specs.Operations.{Operation, idle, push, pop, add, remove, operationNumber}
+use Rattle.machine.specs.Steps.{
+  Step,
+  line2,
+  line5,
+  line8,
+  line15,
+  line17,
+  line18,
+  line24,
+  line25,
+  line28,
+  line31,
+  line39,
+  line42,
+  line48,
+  line51,
+  line62,
+  line64,
+  stepNumber,
+  firstStep,
+}
+use Rattle.machine.specs.Tasks.{Task, none, inC, inD, goto, withC, withValue}
+use Rattle.machine.specs.Registers.{heldIn}
+use Rattle.machine.specs.Table.{tickCount, task, setTickCount, setTask}
+use Rattle.machine.specs.Allocate.{heldBy}
+use Rattle.machine.specs.Lines.{
+  val≔,
+  hat≔,
+  out≔,
+  inn≔,
+  Effect,
+  next,
+  answers,
+  writing,
+  through,
+  dcas,
+  noNode,
+  afterRead,
+  bagOf,
+  act,
+}
+use Rattle.machine.specs.Calls.{tickRefusal, begunTask, Ticked, tickOn, RunDone}
+use Rattle.machine.specs.Row.{isGoing}
+use Rattle.machine.specs.Solo.{endsCall}
+use Rattle.refuted.specs.Machines.{Machine, Line, Held, tickOnBy, byLines, rightMachine}
+
+-- Lines that are others at one step.
+abbrev pub but : Line → Step → Line → Line
+but line at other = λ st s o m t g f.
+    if stepNumber st ≟ stepNumber at then other st s o m t g f else line st s o m t g f
+
+-- The right machine but for one line.
+abbrev pub withLine : Step → Line → Machine
+withLine at other = byLines (but act at other) heldBy
+
+-- ---- "One doing a whole call in its first tick and saying "going" after."
+
+-- Ticks of the definitions until one ends the call, n and one more at most.
+unfoldable pub ended : (n : ℕ) → List ℕ → (k hint : ℕ) → Ticked
+ended zero ws k h = tickOn ws k h
+ended (suc n) ws k h =
+    let one = tickOn ws k h in
+    elim (isGoing (one .answer)) as (λ _. Ticked) [ true ↦ ended n (one .words) k h | false ↦ one ]
+
+-- What is still to be said is kept as the step: 24 and then 25 for a call that was done, 17 and then 18 for another.
+abbrev pub stepAfter : Answer → Step
+stepAfter Pushed = line24
+stepAfter Yes = line24
+stepAfter Going = line17
+stepAfter (Bag b) = line17
+stepAfter Empty = line17
+stepAfter Full = line17
+stepAfter No = line17
+stepAfter (Refused n) = line17
+
+abbrev pub doneAnswer : Operation → Answer
+doneAnswer push = Pushed
+doneAnswer add = Yes
+doneAnswer idle = Yes
+doneAnswer pop = Yes
+doneAnswer remove = Yes
+
+abbrev pub saysLater : Line
+saysLater st s o m t g f =
+    if stepNumber st ≟ stepNumber line24 then next t line25 else
+    if stepNumber st ≟ stepNumber line25 then answers (doneAnswer (t .operation)) else
+    if stepNumber st ≟ stepNumber line17 then next t line18 else
+    answers (noNode (t .operation))
+
+abbrev pub laterFor : Operation → Line
+laterFor op st s o m t g f =
+    if operationNumber (t .operation) ≟ operationNumber op then saysLater st s o m t g f else act st s o m t g f
+
+-- The first tick of a call of this operation does the call whole, and says "going".
+unfoldable pub wholeOn : Operation → List ℕ → (k hint : ℕ) → Ticked
+wholeOn op ws k h =
+    let t = task ws k in
+    elim (tickRefusal ws k h) as (λ _. Ticked) [
+      | some n ↦ record { answer = Refused n; words = ws }
+      | nothing ↦
+          if stepNumber (t .step) ≟ stepNumber (firstStep op) then
+          if operationNumber (t .operation) ≟ operationNumber op then
+          (let all = ended 100 ws k h in
+          record {
+            answer = Going;
+            words = setTickCount (tickCount ws + 1) (setTask k (goto t (stepAfter (all .answer))) (all .words));
+          })
+          else tickOn ws k h
+          else tickOnBy (laterFor op) heldBy ws k h
+    ]
+
+abbrev pub wholeInFirstTick : Operation → Machine
+wholeInFirstTick op = record { tickOn = wholeOn op; reports = λ r. r }
+
+-- ---- "One whose tasks say "going" forever": what would answer begins the call again.
+abbrev pub again : Task → Effect
+again t = next (begunTask (t .operation) (t .side) (t .argument)) (firstStep (t .operation))
+
+abbrev pub goingForever : Machine
+goingForever =
+    byLines (λ st s o m t g f. let e = act st s o m t g f in cond (endsCall (e .answer)) (again t) e) heldBy
+
+-- ---- "... or whose ticks touch nothing."
+unfoldable pub touchesNothing : List ℕ → (k hint : ℕ) → Ticked
+touchesNothing ws k h =
+    elim (tickRefusal ws k h) as (λ _. Ticked) [
+      | some n ↦ record { answer = Refused n; words = ws }
+      | nothing ↦ record { answer = Going; words = ws }
+    ]
+
+abbrev pub ticksTouchNothing : Machine
+ticksTouchNothing = record { tickOn = touchesNothing; reports = λ r. r }
+
+-- ---- "One that refuses all."
+abbrev pub refusesAll : Machine
+refusesAll = record { tickOn = λ ws k h. record { answer = Refused 5; words = ws }; reports = λ r. r }
+
+-- ---- "One saying "full" at 28 before searching."
+abbrev pub fullUnsearched : Machine
+fullUnsearched = withLine line28 (λ st s o m t g f. answers (noNode (t .operation)))
+
+-- ---- "... or "empty" before comparing": at 42, by the value read.
+abbrev pub emptyUncompared : Machine
+emptyUncompared =
+    withLine line42 (λ st s o m t g f.
+    through (t .B) t
+    (let v = m .val (t .B) in
+    if stepNumber (afterRead o v) ≟ stepNumber line48 then answers Empty else next (withValue t v) (afterRead o v)))
+
+-- ---- "Reading 48 as two ticks": the hat in the first, after which C is not none, the value in the second.
+abbrev pub emptyInTwoTicks : Machine
+emptyInTwoTicks =
+    withLine line48 (λ st s o m t g f.
+    through (t .B) t
+    (if t .C ≟ none
+    then if m .hat ≟ t .A then next (withC t (t .B)) line48 else next t line39
+    else if m .val (t .B) ≟ᵛ t .value then answers Empty else next (withC t none) line39))
+
+-- ---- "One that pops the same bag always": the bag stays where it is.
+abbrev pub popLeavesBag : Machine
+popLeavesBag =
+    withLine line51 (λ st s o m t g f.
+    through (t .B) t
+    (dcas (m .hat ≟ t .A) (m .val (t .B) ≟ᵛ t .value) (answers (Bag (bagOf (t .value)))) (next t line39)))
+
+-- The same: a bag leaves, and the answer is always 51.
+abbrev pub popAnswers51 : Machine
+popAnswers51 =
+    withLine line51 (λ st s o m t g f.
+    through (t .B) t
+    (dcas (m .hat ≟ t .A) (m .val (t .B) ≟ᵛ t .value)
+    (writing (hat≔ (t .B) ∷ val≔ (t .B) (N s) ∷ []) (answers (Bag 51)))
+    (next t line39)))
+
+-- ---- "Freeing a slot when it leaves the lane while a stalled task holds it": in A or B of a push or pop.
+abbrev pub letsGo : Operation → Task → List ℕ
+letsGo push t = heldIn t inC ∷ heldIn t inD ∷ []
+letsGo pop t = heldIn t inC ∷ heldIn t inD ∷ []
+letsGo idle t = heldBy t
+letsGo add t = heldBy t
+letsGo remove t = heldBy t
+
+abbrev pub freesHeldNode : Machine
+freesHeldNode = byLines act (λ t. letsGo (t .operation) t)
+
+-- ---- "Rereading A.R inside the swap of 5, which hides the spur": guarded against none.
+abbrev pub rereadsLink : Machine
+rereadsLink =
+    withLine line5 (λ st s o m t g f.
+    through (t .A) t
+    (let b = m .out (t .A) in
+    if b ≟ none then next t line8 else
+    dcas (m .hat ≟ t .A) (m .val (t .A) ≟ᵛ N s)
+    (writing (hat≔ b ∷ val≔ (t .A) (bag (t .argument)) ∷ []) (answers Pushed))
+    (next t line8)))
+
+-- ---- "Running 62 without RY": B keeps RN.
+abbrev pub removeWithoutY : Machine
+removeWithoutY =
+    withLine line62 (λ st s o m t g f.
+    through (t .A) t (through (t .B) t
+    (dcas (m .val (t .A) ≟ᵛ N s) (m .val (t .B) ≟ᵛ N s)
+    (writing (val≔ (t .A) (X s) ∷ []) (next t line64))
+    (answers No))))
+
+-- ---- "Trusting the hat's slot to be in the lane": neither 8 nor 17 goes to 67.
+abbrev pub trustsHat : Machine
+trustsHat =
+    byLines
+    (but
+    (but act line8
+    (λ st s o m t g f. through (t .A) t (next t (if m .val (t .A) ≟ᵛ X s then line28 else line2))))
+    line17
+    (λ st s o m t g f.
+    through (t .A) t
+    (let v = m .val (t .A) in
+    next (withValue t v) (if v ≟ᵛ N s then line18 else if v ≟ᵛ X s then line24 else line15))))
+    heldBy
+
+-- ---- "The figure's lines 32 and 37 lose that chain and fail for n = 0": 37 returns the last node that 31 made, and for
+-- n = 0 there is none.
+abbrev pub figureLine37 : Machine
+figureLine37 =
+    withLine line28 (λ st s o m t g f.
+    if f ≟ none then answers (noNode (t .operation)) else
+    if g ≟ 0
+    then writing (out≔ f none ∷ inn≔ f none ∷ val≔ f (X s) ∷ []) (answers (noNode (t .operation)))
+    else act line28 s o m t g f)
+
+-- 32 leaves the loop with no node made, and 37 returns that.
+abbrev pub figureLine32 : Machine
+figureLine32 =
+    withLine line31 (λ st s o m t g f.
+    through (t .D) t (if f ≟ none then answers (noNode (t .operation)) else act line31 s o m t g f))
+
+-- ---- "A run reporting ticks it did not make": one that is refused for its hint is said to be going.
+abbrev pub oneMore : RunDone → RunDone
+oneMore r =
+    let words = 2 * r .ran .made in
+    if r .ran .refusal ≟ 9
+    then record {
+      ran = record { made = suc (r .ran .made); refusal = r .ran .refusal };
+      words = r .words;
+      answers = take words (r .answers) ++ (0 ∷ 0 ∷ drop (words + 2) (r .answers));
+    }
+    else r
+
+abbrev pub reportsUnmadeTick : Machine
+reportsUnmadeTick = record { tickOn = rightMachine .tickOn; reports = oneMore }
