@@ -3,7 +3,7 @@ use mathlib.Core.Path.{_≡_}
 use mathlib.Core.Bool.{Bool, true, false}
 use mathlib.Core.List.{List}
 use Prim.Native.Nat.{ℕ, _+_, _<_}
-use lib.ListN.{set}
+use lib.ListN.{getD, set}
 use lib.Seq.{sets}
 use Rattle.machine.specs.declared.Answer.{Answer}
 use Rattle.machine.specs.declared.Answer.the-variants.{Going, Pushed, Bag, Empty, Full, Yes, No, Refused}
@@ -23,9 +23,13 @@ pub record MayTick (ws : List ℕ) (k hint : ℕ) : Type 0 where
   pub is-hint : hint < nodeCount ws
   pub busy : isBusy (task ws k .operation) ≡ true
 
--- The node that the lines 28 and 31 take; the others take none.
-abbrev pub taken : (step f : ℕ) → ℕ
-taken step f = if step ≟ 28 then f else if step ≟ 31 then f else none
+-- The node that a line is given: 28 and 31 search for one, 31 after its test of D. (01: at step 31 this test precedes the
+-- search.)
+abbrev pub taken : Tasks.Task → (f : ℕ) → ℕ
+taken t f =
+    if t .step ≟ 28 then f else
+    if t .step ≟ 31 then (if getD (t .registers) 3 0 ≟ none then none else f) else
+    none
 
 -- Whether an answer is a refusal.
 abbrev pub isRefused : Answer → Bool

@@ -23,13 +23,22 @@ ghost use Rattle.layout.specs.Coded.{structOf, HoldsRecord};
 ghost use Rattle.machine.specs.Results.{tickedOf};
 ghost use Rattle.ticking.specs.Ticks.{MayTick, taken, isRefused, stored, made};
 
-// The node that a tick at 28 or 31 takes, or none; the other lines take none.
-fn found(table: &[u32], step: u32, hint: u32) -> u32
+// The node that a tick at 28 or 31 takes, or none; the other lines take none. 31 is refused where D is none, and does not
+// search then.
+fn found(table: &[u32], old: Task, hint: u32) -> u32
     requires { ⌜ WellFormed (now table) × (hint < nodeCount (now table)) ⌝ }
-    ensures { λ r. ⌜ r ≡ taken step (allocate (now (table .entry)) hint) ⌝ }
+    ensures { λ r. ⌜ r ≡ taken old (allocate (now (table .entry)) hint) ⌝ }
 {
+    let step = old.step;
+    let d = old.registers[Task::D];
     match step {
-        28 | 31 => first_free(table, hint as usize),
+        28 => first_free(table, hint as usize),
+        31 => {
+            if d == Task::NONE {
+                return Task::NONE;
+            }
+            first_free(table, hint as usize)
+        }
         _ => Task::NONE,
     }
 }
@@ -66,11 +75,10 @@ fn make(table: &mut [u32], k: u32, old: Task, hint: u32) -> Answer
     requires { ⌜ old ≡ structOf (recordWords (now table) k) ⌝ }
     ensures { λ r. ⌜ tickedOf r (now (table .exit)) ≡ made (now (table .entry)) k hint ⌝ }
 {
-    let step = old.step;
     let side = old.side;
     let argument = old.argument;
     let goal = goal_of(old.operation, table[GROWTH], argument);
-    let taken = found(table, step, hint);
+    let taken = found(table, old, hint);
     let hat = table[LEFT_HAT + side as usize];
     let end = node_at(table[NODE_COUNT]);
     let done = line(&mut table[HEADER..end], hat, old, goal, taken);

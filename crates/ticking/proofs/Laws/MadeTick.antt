@@ -107,11 +107,11 @@ module _ (ws : List ℕ) (k hint : ℕ) (M : MayTick ws k hint) where
   pub record-side : K .side < 2
   record-side = side-low ws Z W k (M .is-task)
 
-  pub line-ready : {f : ℕ} → f ≡ taken (K .step) (allocate ws hint) → ReadyIn allSteps (nodesOf ws) K f
+  pub line-ready : {f : ℕ} → f ≡ taken K (allocate ws hint) → ReadyIn allSteps (nodesOf ws) K f
   line-ready {f} e =
       ready-task ws Z W k (M .is-task) (M .busy) f
       (subst (λ (x : ℕ). x ≢ none → x < nodeCount ws) (sym e)
-      (taken-node (nodeCount ws) (K .step) (allocate ws hint) (allocated-node ws hint (M .is-hint))))
+      (taken-node K (allocate ws hint) (nodeCount ws) (allocated-node ws hint (M .is-hint))))
 
   hat-place : hatAt left + K .side ≡ hatAt s
   hat-place = ap (λ (n : ℕ). hatAt left + n) (sym (side-back ws Z W k (M .is-task))) ∙ side-place s
@@ -123,7 +123,7 @@ module _ (ws : List ℕ) (k hint : ℕ) (M : MayTick ws k hint) where
   -- The outcome of the line that the code makes is the effect of the definitions.
   pub outcome : {g f : ℕ} {ns : List ℕ} {d : Done}
       → g ≡ goalOf (operationOf (K .operation)) (growth ws) (number (K .argument))
-      → f ≡ taken (K .step) (allocate ws hint)
+      → f ≡ taken K (allocate ws hint)
       → outcomeOf ns d ≡ lineOf (stepOf (K .step)) (nodesOf ws) (getD ws (hatAt left + K .side) 0) K g f
       → outcomeOf ns d ≡ effectIn s (nodesOf ws) (hat ws s) E
   outcome {g} {f} eg ef line =
@@ -194,25 +194,25 @@ module _ (ws : List ℕ) (k hint : ℕ) (M : MayTick ws k hint) where
     pub its-side : r .side < 2
     its-side = subst (λ (u : Tasks.Task). u .side < 2) (sym same) record-side
 
-    pub its-ready : {f : ℕ} → f ≡ taken (r .step) (allocate ws hint) → ReadyIn allSteps part r f
+    pub its-ready : {f : ℕ} → f ≡ taken r (allocate ws hint) → ReadyIn allSteps part r f
     its-ready {f} =
         subst
-        (λ (l : List ℕ). f ≡ taken (r .step) (allocate ws hint) → ReadyIn allSteps l r f)
+        (λ (l : List ℕ). f ≡ taken r (allocate ws hint) → ReadyIn allSteps l r f)
         (sym (nodes-part ws is-end))
         (subst
-        (λ (u : Tasks.Task). f ≡ taken (u .step) (allocate ws hint) → ReadyIn allSteps (nodesOf ws) u f)
+        (λ (u : Tasks.Task). f ≡ taken u (allocate ws hint) → ReadyIn allSteps (nodesOf ws) u f)
         (sym same) line-ready)
 
     module _ {g f : ℕ} {ns : List ℕ} {d : Done}
         (goal-is : g ≡ goalOf (operationOf (r .operation)) (growth ws) (number (r .argument)))
-        (found-is : f ≡ taken (r .step) (allocate ws hint))
+        (found-is : f ≡ taken r (allocate ws hint))
         (line-is : outcomeOf ns d ≡ lineOf (stepOf (r .step)) part (getD ws (hatAt left + r .side) 0) r g f) where
       done-is : outcomeOf ns d ≡ effectIn s (nodesOf ws) (hat ws s) E
       done-is =
           subst
           (λ (u : Tasks.Task).
           g ≡ goalOf (operationOf (u .operation)) (growth ws) (number (u .argument))
-          → f ≡ taken (u .step) (allocate ws hint)
+          → f ≡ taken u (allocate ws hint)
           → outcomeOf ns d ≡ lineOf (stepOf (u .step)) (nodesOf ws) (getD ws (hatAt left + u .side) 0) u g f
           → outcomeOf ns d ≡ effectIn s (nodesOf ws) (hat ws s) E)
           (sym same) outcome goal-is found-is

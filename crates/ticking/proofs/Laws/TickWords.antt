@@ -44,7 +44,7 @@ module _ (ws : List ℕ) (Z : WellSized (sizesOf ws)) (W : WellShaped (columns w
       (h g : ℕ)
       → isBusy (task ws k .operation) ≡ true
       → g ≡ goal (growth ws) (task ws k)
-      → lineOf (stepOf (t .step)) (nodesOf ws) (hat ws s) t g (taken (t .step) (allocate ws h))
+      → lineOf (stepOf (t .step)) (nodesOf ws) (hat ws s) t g (taken t (allocate ws h))
       ≡ effectIn s (nodesOf ws) (hat ws s) (effectOf ws k h)
   unfolding lineOf effectOf
   line-is-effect h g busy e =
@@ -53,7 +53,7 @@ module _ (ws : List ℕ) (Z : WellSized (sizesOf ws)) (W : WellShaped (columns w
       let st = stepOf (t .step) in
       let meant = meant-task ws Z W k is-task in
       ap (effectIn s (nodesOf ws) (hat ws s))
-      (taken-enough s (opposite s) (memoryIn s (nodesOf ws) (hat ws s)) τ g f (t .step) st
+      (taken-enough t f s (opposite s) (memoryIn s (nodesOf ws) (hat ws s)) g st
       (sym (step-back ws Z W k is-task busy))
       ∙ ap (λ (m : Memory). act st s (opposite s) m τ g f) (sym (seen-in ws (Z .sized) s))
       ∙ ap (λ (n : ℕ). act st s (opposite s) (seen s ws) τ n f) (e ∙ ap (goal (growth ws)) (sym meant))
