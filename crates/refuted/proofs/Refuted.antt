@@ -26,13 +26,13 @@ use Rattle.machine.specs.Calls.{
   laneFrom,
   lane,
 }
-use Rattle.refuted.specs.Machines.{heldFromBy, takeBy, tickOnBy, tickBy, runOnBy, runBy, afterTicksBy}
-use Rattle.refuted.specs.Wrong.{ended, wholeOn, touchesNothing}
+use Rattle.refuted.specs.Machines.{tickOnBy, tickBy, runOnBy, runBy, afterTicksBy}
+use Rattle.refuted.specs.Wrong.{ended, wholeOn, touchesNothing, heldFromBy, leftwards}
 use Rattle.refuted.specs.Judged.{byRow, byDefinitions}
 use Rattle.refuted.specs.Lists.{AllRefuted, judged}
 
 pub all-refuted : AllRefuted
-unfolding judged byRow byDefinitions ended wholeOn touchesNothing heldFromBy takeBy tickOnBy tickBy runOnBy runBy
+unfolding judged byRow byDefinitions ended wholeOn touchesNothing heldFromBy leftwards tickOnBy tickBy runOnBy runBy
     afterTicksBy feedTick pushAnswered popAnswered sizeAnswered feedMade feedRun bind plainAnswerOf answerOf ℕ-discrete decLt
     decLe Value-discrete decode stepIn stepOf isStepIn link value task allBelow sameWords nodeOk busyOk recordOk shapeOk
     heldFrom roots mark markAll visit visitFrom marked firstUnmarked allocate writeAll act times startWords start begin

@@ -1,33 +1,18 @@
 -- The calls over the right machine are those of the definitions.
 use mathlib.Core.Path.{_≡_, refl, ap, _∙_}
-use mathlib.Core.List.{List, [], _∷_, _++_}
+use mathlib.Core.List.{List, [], _∷_}
 use mathlib.Core.Option.{Option, some, none as nothing}
 use Prim.Native.Nat.{ℕ, zero, suc}
 use lib.ListN.{drop}
 use Rattle.machine.specs.declared.Answer.the-variants.{Refused}
-use Rattle.machine.specs.Sides.{left, right, opposite}
-use Rattle.machine.specs.Tasks.{goal}
-use Rattle.machine.specs.Table.{nodeCount, taskCount, growth, hat, task}
-use Rattle.machine.specs.Allocate.{
-  heldBy,
-  heldFrom,
-  roots,
-  markAll,
-  visitFrom,
-  unmarked,
-  largestCount,
-  marked,
-  firstUnmarked,
-  allocate,
-}
-use Rattle.machine.specs.Lines.{seen, act}
+use Rattle.machine.specs.Allocate.{allocate}
+use Rattle.machine.specs.Lines.{act}
 use Rattle.machine.specs.Answers.{refusalOf}
 use Rattle.machine.specs.Calls.{
   tableRefusal,
   tickRefusal,
   runRefusal,
   Ticked,
-  applied,
   effectOf,
   tickOn,
   tick,
@@ -48,8 +33,6 @@ use Rattle.machine.specs.Demand3.{
   after,
 }
 use Rattle.refuted.specs.Machines.{
-  heldFromBy,
-  takeBy,
   tickOnBy,
   tickBy,
   runOnBy,
@@ -59,32 +42,9 @@ use Rattle.refuted.specs.Machines.{
   afterBy,
 }
 
-same-held : (ws : List ℕ) (n k : ℕ) → heldFromBy heldBy ws n k ≡ heldFrom ws n k
-unfolding heldFromBy heldFrom
-same-held ws zero k = refl
-same-held ws (suc n) k = ap (λ l. heldBy (task ws k) ++ l) (same-held ws n (suc k))
-
-pub same-take : (ws : List ℕ) (h : ℕ) → takeBy heldBy ws h ≡ allocate ws h
-unfolding takeBy allocate marked roots
-same-take ws h =
-    ap
-    (λ l. firstUnmarked (nodeCount ws)
-    (visitFrom ws largestCount 0 (markAll (nodeCount ws) unmarked (hat ws left ∷ hat ws right ∷ l)) .marks)
-    (nodeCount ws) h)
-    (same-held ws (taskCount ws) 0)
-
-pub same-tick-on : (ws : List ℕ) (k h : ℕ) → tickOnBy act heldBy ws k h ≡ tickOn ws k h
+pub same-tick-on : (ws : List ℕ) (k h : ℕ) → tickOnBy act allocate ws k h ≡ tickOn ws k h
 unfolding tickOnBy tickOn effectOf
-same-tick-on ws k h =
-    ap
-    (λ f. elim (tickRefusal ws k h) as (λ _. Ticked) [
-      | some n ↦ record { answer = Refused n; words = ws }
-      | nothing ↦
-          let t = task ws k in
-          applied (t .side) ws k
-          (act (t .step) (t .side) (opposite (t .side)) (seen (t .side) ws) t (goal (growth ws) t) f)
-    ])
-    (same-take ws h)
+same-tick-on ws k h = refl
 
 pub same-tick : (ws : List ℕ) (k h : ℕ) → tickBy rightMachine ws k h ≡ tick ws k h
 unfolding tickBy tick

@@ -20,11 +20,17 @@ use Rattle.refuted.specs.Wrong.{
   fullUnsearched,
   emptyUncompared,
   emptyInTwoTicks,
+  emptyWithoutHat,
+  emptyWithoutValue,
   popLeavesBag,
   popAnswers51,
   freesHeldNode,
+  freesChain,
+  freesHatsNode,
+  followsLeftAlone,
   rereadsLink,
   removeWithoutY,
+  removeMarksX,
   trustsHat,
   figureLine37,
   figureLine32,
@@ -135,6 +141,30 @@ entries =
       row-says = not-the-row's-answer 16;
       definitions-say = other-answer 11;
     }
+    -- A pop has read the neighbour of its hat, and a push is made at that hat.
+    ∷ record {
+      wrong = emptyWithoutHat;
+      S = 4;
+      T = 2;
+      calls = wholly 5 0 add 0 ++ wholly 3 1 pop 0 ++ wholly 3 0 push 51 ++ ticks 1 1 0;
+      row-says = not-the-row's-answer 15;
+      definitions-say = other-answer 15;
+    }
+    -- The same, with the push made at the other hat.
+    ∷ record {
+      wrong = emptyWithoutValue;
+      S = 4;
+      T = 2;
+      calls =
+          begins 0 add left 0
+          ++ ticks 5 0 0
+          ++ wholly 3 1 pop 0
+          ++ begins 0 push left 51
+          ++ ticks 3 0 0
+          ++ ticks 1 1 0;
+      row-says = not-the-row's-answer 15;
+      definitions-say = other-answer 15;
+    }
     -- A pop answers 51 and leaves it in the lane.
     ∷ record {
       wrong = popLeavesBag;
@@ -172,6 +202,41 @@ entries =
       row-says = lane-is-not-the-row 39;
       definitions-say = other-table 29;
     }
+    -- An add stalls at 15 with node 2 in D, another add takes it; spliced in twice, it leads to itself.
+    ∷ record {
+      wrong = freesChain;
+      S = 4;
+      T = 2;
+      calls = wholly 1 0 add 0 ++ wholly 5 1 add 0 ++ ticks 6 0 0 ++ wholly 3 0 push 51 ++ wholly 3 0 push 52;
+      row-says = lane-is-not-the-row 22;
+      definitions-say = other-table 4;
+    }
+    -- Node 2 is the spare one behind the hat; it is taken again and spliced in behind itself.
+    ∷ record {
+      wrong = followsLeftAlone;
+      S = 4;
+      T = 1;
+      calls = wholly 5 0 add 0 ++ wholly 7 0 add 0 ++ wholly 3 0 push 51 ++ wholly 3 0 push 52;
+      row-says = lane-is-not-the-row 22;
+      definitions-say = other-table 8;
+    }
+    -- Case 5 with the hat on the spur: an add takes the hat's node, and the next bag is there, beside the lane.
+    ∷ record {
+      wrong = freesHatsNode;
+      S = 6;
+      T = 2;
+      calls =
+          wholly 7 0 add 2
+          ++ wholly 2 1 push 51
+          ++ wholly 14 0 remove 0
+          ++ wholly 5 0 add 0
+          ++ ticks 1 1 0
+          ++ begins 0 add right 0
+          ++ ticks 5 0 4
+          ++ wholly 3 0 push 52;
+      row-says = lane-is-not-the-row 43;
+      definitions-say = other-table 35;
+    }
     -- Case 5: the hat moves to the lane's next node, not to the spur.
     ∷ record {
       wrong = rereadsLink;
@@ -195,6 +260,22 @@ entries =
           ++ ticks 1 1 0
           ++ wholly 3 2 push 52;
       row-says = lane-is-not-the-row 26;
+      definitions-say = other-table 15;
+    }
+    -- The same calls: the hat is on a node that looks like the lane's end, a chain is spliced in there, and the next bag is
+    -- beside the lane.
+    ∷ record {
+      wrong = removeMarksX;
+      S = 8;
+      T = 3;
+      calls =
+          wholly 7 0 add 2
+          ++ wholly 2 1 push 51
+          ++ wholly 3 0 remove 0
+          ++ wholly 5 2 add 0
+          ++ ticks 1 1 0
+          ++ wholly 12 2 push 52;
+      row-says = lane-is-not-the-row 35;
       definitions-say = other-table 15;
     }
     -- Case 5 to its end: the push at the spur does not come back to the lane.

@@ -1,14 +1,14 @@
 -- What a machine is: what its ticks do and what its runs report. The calls over any machine, and the right one.
-use mathlib.Core.List.{List, [], _∷_, _++_}
+use mathlib.Core.List.{List, [], _∷_}
 use mathlib.Core.Option.{some, none as nothing}
 use Prim.Native.Nat.{ℕ, zero, suc}
 use lib.ListN.{drop}
 use Rattle.machine.specs.declared.Answer.the-variants.{Refused}
-use Rattle.machine.specs.Sides.{Side, left, right, opposite}
+use Rattle.machine.specs.Sides.{Side, opposite}
 use Rattle.machine.specs.Steps.{Step}
 use Rattle.machine.specs.Tasks.{Task, goal}
-use Rattle.machine.specs.Table.{nodeCount, taskCount, growth, hat, task}
-use Rattle.machine.specs.Allocate.{heldBy, markAll, visitFrom, unmarked, largestCount, firstUnmarked}
+use Rattle.machine.specs.Table.{growth, task}
+use Rattle.machine.specs.Allocate.{allocate}
 use Rattle.machine.specs.Lines.{Memory, Effect, seen, act}
 use Rattle.machine.specs.Answers.{refusalOf}
 use Rattle.machine.specs.Calls.{
@@ -30,42 +30,29 @@ pub record Machine : Type 0 where
   pub tickOn : List ℕ → (k hint : ℕ) → Ticked
   pub reports : RunDone → RunDone
 
--- ---- A machine by what a line does and what a task holds.
+-- ---- A machine by what a line does and which node a take gives.
 abbrev pub Line : Type 0
 Line = Step → (s o : Side) → Memory → Task → (g f : ℕ) → Effect
 
-abbrev pub Held : Type 0
-Held = Task → List ℕ
+abbrev pub Take : Type 0
+Take = List ℕ → (hint : ℕ) → ℕ
 
--- What the tasks from k on hold, n of them.
-unfoldable pub heldFromBy : Held → List ℕ → (n k : ℕ) → List ℕ
-heldFromBy held ws zero k = []
-heldFromBy held ws (suc n) k = held (task ws k) ++ heldFromBy held ws n (suc k)
-
--- The first node from the hint on that neither a hat nor what a task holds leads to, or none.
-unfoldable pub takeBy : Held → List ℕ → (hint : ℕ) → ℕ
-takeBy held ws hint =
-    firstUnmarked (nodeCount ws)
-    (visitFrom ws largestCount 0
-    (markAll (nodeCount ws) unmarked (hat ws left ∷ hat ws right ∷ heldFromBy held ws (taskCount ws) 0)) .marks)
-    (nodeCount ws) hint
-
-unfoldable pub tickOnBy : Line → Held → List ℕ → (k hint : ℕ) → Ticked
-tickOnBy line held ws k h =
+unfoldable pub tickOnBy : Line → Take → List ℕ → (k hint : ℕ) → Ticked
+tickOnBy line take ws k h =
     elim (tickRefusal ws k h) as (λ _. Ticked) [
       | some n ↦ record { answer = Refused n; words = ws }
       | nothing ↦
           let t = task ws k in
           applied (t .side) ws k
-          (line (t .step) (t .side) (opposite (t .side)) (seen (t .side) ws) t (goal (growth ws) t) (takeBy held ws h))
+          (line (t .step) (t .side) (opposite (t .side)) (seen (t .side) ws) t (goal (growth ws) t) (take ws h))
     ]
 
-abbrev pub byLines : Line → Held → Machine
-byLines line held = record { tickOn = tickOnBy line held; reports = λ r. r }
+abbrev pub byLines : Line → Take → Machine
+byLines line take = record { tickOn = tickOnBy line take; reports = λ r. r }
 
 -- The machine of the definitions: proofs/Right.antt shows that its calls are those of machine/specs/Calls.
 abbrev pub rightMachine : Machine
-rightMachine = byLines act heldBy
+rightMachine = byLines act allocate
 
 -- ---- The calls over a machine, as in Calls. Start, begin and reading are no machine's own.
 unfoldable pub tickBy : Machine → List ℕ → (k hint : ℕ) → Ticked

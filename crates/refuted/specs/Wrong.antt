@@ -1,11 +1,12 @@
 -- The wrong machines, each under the words of 01 that name it.
 use mathlib.Core.Bool.{true, false, cond}
-use mathlib.Core.List.{List, [], _∷_, _++_}
+use mathlib.Core.List.{List, [], _∷_, _++_, map}
 use mathlib.Core.Option.{some, none as nothing}
 use Prim.Native.Nat.{ℕ, zero, suc, _+_, _*_}
 use lib.ListN.{take, drop}
 use Rattle.machine.specs.declared.Answer.{Answer}
 use Rattle.machine.specs.declared.Answer.the-variants.{Going, Pushed, Bag, Empty, Full, Yes, No, Refused}
+use Rattle.machine.specs.Sides.{left, right}
 use Rattle.machine.specs.Choice.{_≟_, if_then_else_}
 use Rattle.machine.specs.Values.{bag, N, X, Y, _≟ᵛ_}
 use Rattle.machine.specs.Operations.{Operation, idle, push, pop, add, remove, operationNumber}
@@ -32,8 +33,18 @@ use Rattle.machine.specs.Steps.{
 }
 use Rattle.machine.specs.Tasks.{Task, none, inC, inD, goto, withC, withValue}
 use Rattle.machine.specs.Registers.{heldIn}
-use Rattle.machine.specs.Table.{tickCount, task, setTickCount, setTask}
-use Rattle.machine.specs.Allocate.{heldBy}
+use Rattle.machine.specs.Table.{nodeCount, taskCount, tickCount, hat, link, task, setTickCount, setTask}
+use Rattle.machine.specs.Allocate.{
+  heldBy,
+  heldFrom,
+  roots,
+  unmarked,
+  markAll,
+  visitFrom,
+  largestCount,
+  firstUnmarked,
+  allocate,
+}
 use Rattle.machine.specs.Lines.{
   val≔,
   hat≔,
@@ -53,7 +64,7 @@ use Rattle.machine.specs.Lines.{
 use Rattle.machine.specs.Calls.{tickRefusal, begunTask, Ticked, tickOn, RunDone}
 use Rattle.machine.specs.Row.{isGoing}
 use Rattle.machine.specs.Solo.{endsCall}
-use Rattle.refuted.specs.Machines.{Machine, Line, Held, tickOnBy, byLines, rightMachine}
+use Rattle.refuted.specs.Machines.{Machine, Line, Take, tickOnBy, byLines, rightMachine}
 
 -- Lines that are others at one step.
 abbrev pub but : Line → Step → Line → Line
@@ -62,7 +73,7 @@ but line at other = λ st s o m t g f.
 
 -- The right machine but for one line.
 abbrev pub withLine : Step → Line → Machine
-withLine at other = byLines (but act at other) heldBy
+withLine at other = byLines (but act at other) allocate
 
 -- ---- "One doing a whole call in its first tick and saying "going" after."
 
@@ -117,7 +128,7 @@ wholeOn op ws k h =
             words = setTickCount (tickCount ws + 1) (setTask k (goto t (stepAfter (all .answer))) (all .words));
           })
           else tickOn ws k h
-          else tickOnBy (laterFor op) heldBy ws k h
+          else tickOnBy (laterFor op) allocate ws k h
     ]
 
 abbrev pub wholeInFirstTick : Operation → Machine
@@ -129,7 +140,7 @@ again t = next (begunTask (t .operation) (t .side) (t .argument)) (firstStep (t 
 
 abbrev pub goingForever : Machine
 goingForever =
-    byLines (λ st s o m t g f. let e = act st s o m t g f in cond (endsCall (e .answer)) (again t) e) heldBy
+    byLines (λ st s o m t g f. let e = act st s o m t g f in cond (endsCall (e .answer)) (again t) e) allocate
 
 -- ---- "... or whose ticks touch nothing."
 unfoldable pub touchesNothing : List ℕ → (k hint : ℕ) → Ticked
@@ -167,6 +178,17 @@ emptyInTwoTicks =
     then if m .hat ≟ t .A then next (withC t (t .B)) line48 else next t line39
     else if m .val (t .B) ≟ᵛ t .value then answers Empty else next (withC t none) line39))
 
+-- 48 with one of its two compares.
+abbrev pub emptyWithoutHat : Machine
+emptyWithoutHat =
+    withLine line48 (λ st s o m t g f.
+    through (t .B) t (if m .val (t .B) ≟ᵛ t .value then answers Empty else next t line39))
+
+abbrev pub emptyWithoutValue : Machine
+emptyWithoutValue =
+    withLine line48 (λ st s o m t g f.
+    through (t .B) t (if m .hat ≟ t .A then answers Empty else next t line39))
+
 -- ---- "One that pops the same bag always": the bag stays where it is.
 abbrev pub popLeavesBag : Machine
 popLeavesBag =
@@ -183,7 +205,24 @@ popAnswers51 =
     (writing (hat≔ (t .B) ∷ val≔ (t .B) (N s) ∷ []) (answers (Bag 51)))
     (next t line39)))
 
--- ---- "Freeing a slot when it leaves the lane while a stalled task holds it": in A or B of a push or pop.
+-- ---- "Freeing a slot when it leaves the lane while a stalled task holds it", and other takes of a slot to which a chain of
+-- links leads "from a hat or any task's register".
+
+-- The first node from the hint on that nothing of a list leads to, or none.
+abbrev pub takeFrom : (roots : List ℕ → List ℕ) → Take
+takeFrom roots ws hint =
+    firstUnmarked (nodeCount ws)
+    (visitFrom ws largestCount 0 (markAll (nodeCount ws) unmarked (roots ws)) .marks) (nodeCount ws) hint
+
+-- The hats, and what each task holds by another rule, n tasks from k on.
+unfoldable pub heldFromBy : (Task → List ℕ) → List ℕ → (n k : ℕ) → List ℕ
+heldFromBy held ws zero k = []
+heldFromBy held ws (suc n) k = held (task ws k) ++ heldFromBy held ws n (suc k)
+
+abbrev pub rootsBy : (Task → List ℕ) → List ℕ → List ℕ
+rootsBy held ws = hat ws left ∷ hat ws right ∷ heldFromBy held ws (taskCount ws) 0
+
+-- A or B of a push or pop does not hold.
 abbrev pub letsGo : Operation → Task → List ℕ
 letsGo push t = heldIn t inC ∷ heldIn t inD ∷ []
 letsGo pop t = heldIn t inC ∷ heldIn t inD ∷ []
@@ -192,7 +231,27 @@ letsGo add t = heldBy t
 letsGo remove t = heldBy t
 
 abbrev pub freesHeldNode : Machine
-freesHeldNode = byLines act (λ t. letsGo (t .operation) t)
+freesHeldNode = byLines act (takeFrom (rootsBy (λ t. letsGo (t .operation) t)))
+
+-- The chain that a task has built does not hold at 15.
+abbrev pub freesChain : Machine
+freesChain =
+    byLines act (takeFrom (rootsBy (λ t. if stepNumber (t .step) ≟ stepNumber line15 then [] else heldBy t)))
+
+-- The right hat does not hold its node.
+abbrev pub freesHatsNode : Machine
+freesHatsNode = byLines act (takeFrom (λ ws. hat ws left ∷ heldFrom ws (taskCount ws) 0))
+
+-- Chains go along L alone: nodes and what n links to the left of them lead to.
+unfoldable pub leftwards : List ℕ → (n : ℕ) → List ℕ → List ℕ
+leftwards ws zero xs = xs
+leftwards ws (suc n) xs = xs ++ leftwards ws n (map (link ws left) xs)
+
+abbrev pub followsLeftAlone : Machine
+followsLeftAlone =
+    byLines act (λ ws hint.
+    firstUnmarked (nodeCount ws) (markAll (nodeCount ws) unmarked (leftwards ws (nodeCount ws) (roots ws)) .marks)
+    (nodeCount ws) hint)
 
 -- ---- "Rereading A.R inside the swap of 5, which hides the spur": guarded against none.
 abbrev pub rereadsLink : Machine
@@ -214,6 +273,15 @@ removeWithoutY =
     (writing (val≔ (t .A) (X s) ∷ []) (next t line64))
     (answers No))))
 
+-- B is marked RX, as A is.
+abbrev pub removeMarksX : Machine
+removeMarksX =
+    withLine line62 (λ st s o m t g f.
+    through (t .A) t (through (t .B) t
+    (dcas (m .val (t .A) ≟ᵛ N s) (m .val (t .B) ≟ᵛ N s)
+    (writing (val≔ (t .A) (X s) ∷ val≔ (t .B) (X s) ∷ []) (next t line64))
+    (answers No))))
+
 -- ---- "Trusting the hat's slot to be in the lane": neither 8 nor 17 goes to 67.
 abbrev pub trustsHat : Machine
 trustsHat =
@@ -226,7 +294,7 @@ trustsHat =
     through (t .A) t
     (let v = m .val (t .A) in
     next (withValue t v) (if v ≟ᵛ N s then line18 else if v ≟ᵛ X s then line24 else line15))))
-    heldBy
+    allocate
 
 -- ---- "The figure's lines 32 and 37 lose that chain and fail for n = 0": 37 returns the last node that 31 made, and for
 -- n = 0 there is none.
