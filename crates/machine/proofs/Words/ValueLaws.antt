@@ -32,7 +32,6 @@ use Rattle.machine.specs.Values.{
   decode,
   bagOk,
   valueOk,
-  mirror,
 }
 use Rattle.machine.proofs.Basics.Tests.{and-left, and-right, or-either, or-left}
 use Rattle.machine.proofs.Basics.Contradiction.{clash}
@@ -234,25 +233,3 @@ encode-decode u h = go (decoded u)
 
 pub decode-one-to-one : (u w : Stored) → valueOk u ≡ true → valueOk w ≡ true → decode u ≡ decode w → u ≡ w
 decode-one-to-one u w h k e = sym (encode-decode u h) ∙ ap encode e ∙ encode-decode w k
-
--- ---- The mirror.
-pub mirror-mirror : (v : Value) → mirror (mirror v) ≡ v
-mirror-mirror never = refl
-mirror-mirror (bag n) = refl
-mirror-mirror (N left) = refl
-mirror-mirror (N right) = refl
-mirror-mirror (X left) = refl
-mirror-mirror (X right) = refl
-mirror-mirror (Y left) = refl
-mirror-mirror (Y right) = refl
-
--- The mark of the right side is three above the one of the left.
-pub mirror-of-left : {v : Value} → IsMark left v → number (encode (mirror v)) ≡ number (encode v) + 3
-mirror-of-left N-mark = refl
-mirror-of-left X-mark = refl
-mirror-of-left Y-mark = refl
-
-pub mirror-of-right : {v : Value} → IsMark right v → number (encode (mirror v)) + 3 ≡ number (encode v)
-mirror-of-right N-mark = refl
-mirror-of-right X-mark = refl
-mirror-of-right Y-mark = refl

@@ -57,9 +57,6 @@ module _ (ws : List ℕ) (P : WellFormed ws) where
   pub few-nodes : nodeCount ws ≤ 1024
   few-nodes = Z .most-nodes
 
-  pub few-tasks : taskCount ws ≤ 16
-  few-tasks = Z .most-tasks
-
   module _ (k : ℕ) (is-task : k < taskCount ws) where
     pub operation-is : task ws k .operation ≡ operationOf (operationWord (recordWords ws k))
     unfolding task
