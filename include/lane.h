@@ -1,13 +1,48 @@
 /*
  * The proved lane machine for C and C++: a double-ended queue of bags over one lent table of words, worked on by up to
- * sixteen tasks, one tick at a time. Link with libdeque.a.
+ * sixteen tasks, one tick at a time. Link with libdeque.a, or with liblane.a, its name where it is installed.
+ *
+ * ```c
+ * #include <stdio.h>
+ * #include "lane.h"
+ *
+ * int main(void) {
+ *     static uint32_t table[LANE_WORDS(4, 1)];
+ *     uint32_t bags[LANE_MAX_BAGS(4)];
+ *     size_t words = LANE_WORDS(4, 1);
+ *     uint32_t refusal = lane_start(table, words, 4, 1, 0);
+ *     if (refusal != 0) {
+ *         fprintf(stderr, "%s\n", lane_refusal_text(refusal));
+ *         return 1;
+ *     }
+ *     uint64_t answer = lane_call(table, words, 0, LANE_PUSH, LANE_RIGHT, 51);
+ *     uint64_t reading = lane_read(table, words, bags, LANE_MAX_BAGS(4));
+ *     return LANE_HIGH(answer) == LANE_PUSHED && reading == 1 && bags[0] == 51 ? 0 : 1;
+ * }
+ * ```
  *
  * Every call takes any words, any lengths and any numbers, and answers them; no call trusts its caller. A refusal
  * leaves every lent word as it was; only a run keeps the ticks before the one refused.
  *
- * Lengths are in words of 32 bits. A pointer is not null, is aligned for uint32_t and valid for its length, and the
- * slices of one call do not overlap: these three are the only things that the library cannot test. It keeps no
- * pointer, allocates nothing and has no state of its own. Calls on one table come one after another.
+ * POINTERS. Lengths are in words of 32 bits. A pointer is aligned for uint32_t and valid for its length, and the slices
+ * of one call do not overlap: these are the only things that the library cannot test. NULL with length 0 is accepted
+ * everywhere, as an empty slice. The library keeps no pointer, allocates nothing and has no state of its own.
+ *
+ * THREADS. Different tables may be used by different threads at the same time, and so may reads of one table. All else
+ * on one table comes one call after another: the library has no lock and no atomic access.
+ *
+ * FOOTPRINT. For x86-64 only. Under 8 kB of code and constants, no data, no heap; of stack about 5.5 kB in lane_tick
+ * and lane_run, about 0.5 kB in the others; nothing from outside but memset (`make footprint` measures it).
+ *
+ * SLOTS. A slot, also called a node, is the place of one bag. Slots at an end of the lane with no bag are spare; each
+ * end always has one at least, so a table of S slots carries at most S - 2 bags. A slot is free when nothing may use
+ * it, neither the lane nor a call that stands in the middle.
+ *
+ * FULL. A push is "full" when no slot is free, and that is not about the bags alone: spare slots at the other end
+ * count, and so does what a call left in the middle may still use, up to S - 2 slots, so that a push may be full on an
+ * empty lane. Do not leave a call standing while bags pass. The way out: tick every busy task to its answer; then at
+ * the other end push, pop the bag again, remove 0; and try again. Full again, with no other task in a call: S - 2 bags
+ * are in the lane, or S - 3 and the last place is at the other end. Full at both ends, one after the other: S - 2.
  */
 #ifndef LANE_H
 #define LANE_H
@@ -19,20 +54,32 @@
 extern "C" {
 #endif
 
-/* The library's version, and the number of the table's format: a table is worked on by libraries of its format alone. */
-#define LANE_VERSION "1.6.0"
+/* The library's version; and the number of the table's format: only libraries of this format work on the table. */
+#define LANE_VERSION "2.0.0"
 #define LANE_TABLE_FORMAT 1
 
 /* Words of a table of `slots` (2 to 1,024) and `tasks` (1 to 16): 8 for the header, 3 a slot, 10 a task. */
 #define LANE_WORDS(slots, tasks) (8 + 3 * (size_t)(slots) + 10 * (size_t)(tasks))
 
+/* The most bags that a table of so many slots carries. */
+#define LANE_MAX_BAGS(slots) ((slots) - 2)
+
+/* Within so many of its own ticks a call answers while no other task is ticked, on a table that lane_start began. */
+#define LANE_MAX_TICKS_ALONE(slots) (4 * (slots) + 154)
+
 /* Limits. */
 #define LANE_MIN_SLOTS 2
 #define LANE_MAX_SLOTS 1024
+#define LANE_MIN_TASKS 1
 #define LANE_MAX_TASKS 16
 #define LANE_MAX_GROWTH 64
+#define LANE_MIN_BAG 1
 #define LANE_MAX_BAG 999999999
-#define LANE_MAX_TICKS 4096 /* of one run */
+#define LANE_MAX_ADD 64      /* argument of an add */
+#define LANE_MAX_REMOVE 1023 /* argument of a remove */
+#define LANE_MAX_TICKS 4096  /* of one run */
+#define LANE_MIN_WORDS 24    /* of a table */
+#define LANE_MAX_WORDS 3240
 
 /* The ends of the lane. */
 #define LANE_LEFT 0
@@ -41,8 +88,8 @@ extern "C" {
 /* What a task can be told to do, with the argument's range. */
 #define LANE_PUSH 1   /* put a bag at the end: the bag, 1 to 999,999,999 */
 #define LANE_POP 2    /* take the bag at the end: 0 */
-#define LANE_ADD 3    /* add a spare slot at the end, and so many more: 0 to 64 */
-#define LANE_REMOVE 4 /* cut off the spare slots at the end but so many: 0 to 1,023 */
+#define LANE_ADD 3    /* make a free slot a spare one at the end, and so many more: 0 to 64 */
+#define LANE_REMOVE 4 /* give back the spare slots at the end but the one that stays and so many: 0 to 1,023 */
 
 /* What a tick answers: the kind, which a run writes too (but 7). */
 #define LANE_GOING 0   /* the call is not finished */
@@ -50,9 +97,14 @@ extern "C" {
 #define LANE_BAG 2     /* a pop took a bag, the value */
 #define LANE_EMPTY 3   /* a pop found the lane empty */
 #define LANE_FULL 4    /* a push found no free slot */
-#define LANE_YES 5     /* an add added as many as were free, one at least; a remove has nothing more to do */
-#define LANE_NO 6      /* an add found no free slot; a remove cut off nothing */
+#define LANE_YES 5     /* an add added as many as were free, one at least; a remove has nothing more to do (below) */
+#define LANE_NO 6      /* an add found no free slot; a remove gave back nothing (below) */
 #define LANE_REFUSED 7 /* the tick was refused; the value is the refusal */
+
+/*
+ * "Yes" of a remove says that nothing more is to be done by it, and not that a slot was given back. "No" of a remove,
+ * with no other task in a call, means exactly one spare slot more than asked for; trying again changes nothing.
+ */
 
 /* Refusals. Each call tests those of its list in the order given there. */
 #define LANE_REFUSED_SIZES 1     /* start: slots, tasks or growth out of range */
@@ -95,7 +147,8 @@ uint32_t lane_begin(uint32_t *table, size_t words, uint32_t task, uint32_t opera
 
 /*
  * Makes one tick of a busy task. If the tick takes a free slot, it is the first one from `hint` (below the number of
- * slots) upward, going round.
+ * slots) upward, going round. 0 always works: whether a slot is found does not depend on the hint. A hint just past the
+ * slots in use shortens the search: a tick that takes a slot gets faster by a tenth at most.
  * Returns LANE_HIGH: the kind; LANE_LOW: the bag for LANE_BAG, the refusal (3, 4, 5, 9, 10, 11) for LANE_REFUSED, else
  * 0. Writes the tick count, the task's words and what this one tick of its call writes. After any kind but LANE_GOING
  * and LANE_REFUSED the task is idle.
@@ -107,16 +160,92 @@ uint64_t lane_tick(uint32_t *table, size_t words, uint32_t task, uint32_t hint);
  * Returns LANE_HIGH: the ticks made; LANE_LOW: 0, or the refusal: 3, 4, 13, 14 before any tick; 5, 9, 10, 11 at the
  * tick that it stopped at. Writes the table as the ticks made do, and two words of `answers` for each: the kind, then
  * the bag or 0. Later words of `answers` stay.
+ *
+ * ```c
+ * #include "lane.h"
+ *
+ * int main(void) {
+ *     static uint32_t table[LANE_WORDS(8, 2)];
+ *     size_t words = LANE_WORDS(8, 2);
+ *     static const uint32_t list[] = {0, 0, 1, 0, 0, 0, 1, 0};
+ *     uint32_t answers[8];
+ *     if (lane_start(table, words, 8, 2, 0) != 0 || lane_begin(table, words, 0, LANE_PUSH, LANE_LEFT, 51) != 0 ||
+ *         lane_begin(table, words, 1, LANE_POP, LANE_RIGHT, 0) != 0) {
+ *         return 1;
+ *     }
+ *     uint64_t ran = lane_run(table, words, list, 8, answers, 8);
+ *     return LANE_HIGH(ran) == 4 && LANE_LOW(ran) == 0 && answers[6] == LANE_GOING ? 0 : 1;
+ * }
+ * ```
  */
 uint64_t lane_run(uint32_t *table, size_t words, const uint32_t *list, size_t list_words, uint32_t *answers,
                   size_t answers_words);
 
 /*
- * Reads the bags of the lane, left end first.
+ * Reads the bags of the lane, left end first. LANE_MAX_BAGS(slots) words of `out` are enough for every lane that
+ * lane_start began.
  * Returns LANE_HIGH: 0, and LANE_LOW: their count; or LANE_HIGH: 1, and LANE_LOW: the refusal: 3, 4, 11, 12. Writes as
  * many words of `out` as there are bags; later words stay.
  */
 uint64_t lane_read(const uint32_t *table, size_t words, uint32_t *out, size_t out_words);
+
+/* The two below are no part of the library and of its proofs: they are written here, over the calls above. */
+
+/*
+ * Begins a call and ticks its task with hint 0 until it answers, while no other task gets a tick.
+ * Returns what lane_tick returns: the answer, or LANE_REFUSED with the refusal of the begin or of the tick. On a table
+ * that lane_start began it is never LANE_GOING; on any other, LANE_GOING after LANE_MAX_TICKS_ALONE(slots) ticks
+ * without an answer, and the task is still busy. Each tick tests the whole table: at many slots lane_run is faster.
+ */
+static inline uint64_t lane_call(uint32_t *table, size_t words, uint32_t task, uint32_t operation, uint32_t side,
+                                 uint32_t argument) {
+    uint32_t refusal = lane_begin(table, words, task, operation, side, argument);
+    uint64_t answer = (uint64_t)LANE_REFUSED << 32 | refusal;
+    uint32_t left = refusal == 0 ? LANE_MAX_TICKS_ALONE(table[0]) : 0;
+    while (left > 0) {
+        answer = lane_tick(table, words, task, 0);
+        left = LANE_HIGH(answer) == LANE_GOING ? left - 1 : 0;
+    }
+    return answer;
+}
+
+/* A refusal in words, for a message: a constant text in English; "not refused" for 0, "no refusal" above 14. */
+static inline const char *lane_refusal_text(uint32_t refusal) {
+    switch (refusal) {
+    case 0:
+        return "not refused";
+    case LANE_REFUSED_SIZES:
+        return "slots, tasks or growth out of range";
+    case LANE_REFUSED_LENGTH:
+        return "not as many words as the sizes ask for";
+    case LANE_REFUSED_TABLE:
+        return "the words are no table";
+    case LANE_REFUSED_SHAPE:
+        return "the table's shape is broken";
+    case LANE_REFUSED_TASK:
+        return "no such task";
+    case LANE_REFUSED_OPERATION:
+        return "no such operation or side";
+    case LANE_REFUSED_ARGUMENT:
+        return "argument out of range";
+    case LANE_REFUSED_BUSY:
+        return "the task is busy";
+    case LANE_REFUSED_HINT:
+        return "the hint is not the number of a slot";
+    case LANE_REFUSED_IDLE:
+        return "the task is idle";
+    case LANE_REFUSED_NO_SLOT:
+        return "a link or register that is needed is none, or the lane has no end";
+    case LANE_REFUSED_OUT:
+        return "the out slice is too short for the bags";
+    case LANE_REFUSED_LIST:
+        return "a list of odd length, or of more than 4,096 ticks";
+    case LANE_REFUSED_ANSWERS:
+        return "fewer places for answers than ticks";
+    default:
+        return "no refusal";
+    }
+}
 
 #ifdef __cplusplus
 }

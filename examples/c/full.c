@@ -1,0 +1,114 @@
+/* Four tasks, one of them stalled, a lane that is "full" with no bag in it, and the ways out of it. */
+#include <inttypes.h>
+#include <stdio.h>
+#include <stdlib.h>
+
+#include "lane.h"
+
+enum { SLOTS = 8, TASKS = 4, WORDS = LANE_WORDS(SLOTS, TASKS) };
+enum { LOADER, UNLOADER, KEEPER, SLEEPER }; /* the four tasks */
+
+static uint32_t table[WORDS];
+
+static void check(uint32_t refusal) {
+    if (refusal != 0) {
+        fprintf(stderr, "refused %" PRIu32 ": %s\n", refusal, lane_refusal_text(refusal));
+        exit(1);
+    }
+}
+
+/* A call to its answer: the kind; a bag goes to `bag`, if it is not NULL. */
+static uint32_t call(uint32_t task, uint32_t operation, uint32_t side, uint32_t argument, uint32_t *bag) {
+    uint64_t answer = lane_call(table, WORDS, task, operation, side, argument);
+    if (LANE_HIGH(answer) == LANE_REFUSED) {
+        check(LANE_LOW(answer));
+    }
+    if (LANE_HIGH(answer) == LANE_BAG && bag != NULL) {
+        *bag = LANE_LOW(answer);
+    }
+    return LANE_HIGH(answer);
+}
+
+/* Ticks every task that is in a call, in turn, until all have answered. */
+static void finish_all(void) {
+    int busy;
+    do {
+        busy = 0;
+        for (uint32_t task = 0; task < TASKS; task++) {
+            uint64_t answer = lane_tick(table, WORDS, task, 0);
+            if (LANE_HIGH(answer) != LANE_REFUSED) {
+                busy = 1;
+            } else if (LANE_LOW(answer) != LANE_REFUSED_IDLE) {
+                check(LANE_LOW(answer));
+            }
+        }
+    } while (busy);
+}
+
+/* A push that does not give up at the first "full". Returns 0 if the lane has no room at this end. */
+static int push_for_sure(uint32_t side, uint32_t bag) {
+    uint32_t other = LANE_LEFT + LANE_RIGHT - side;
+    if (call(LOADER, LANE_PUSH, side, bag, NULL) == LANE_PUSHED) {
+        return 1;
+    }
+    puts("  full: every busy task gets its answer");
+    finish_all();
+    if (call(LOADER, LANE_PUSH, side, bag, NULL) == LANE_PUSHED) {
+        return 1;
+    }
+    puts("  full again: push, pop, remove 0 at the other end");
+    if (call(KEEPER, LANE_PUSH, other, LANE_MAX_BAG, NULL) == LANE_PUSHED) {
+        call(KEEPER, LANE_POP, other, 0, NULL);
+        call(KEEPER, LANE_REMOVE, other, 0, NULL);
+    }
+    return call(LOADER, LANE_PUSH, side, bag, NULL) == LANE_PUSHED;
+}
+
+static void print_lane(void) {
+    uint32_t bags[LANE_MAX_BAGS(SLOTS)];
+    uint64_t reading = lane_read(table, WORDS, bags, LANE_MAX_BAGS(SLOTS));
+    check(LANE_HIGH(reading) == 0 ? 0 : LANE_LOW(reading));
+    printf("  lane:");
+    for (uint32_t place = 0; place < LANE_LOW(reading); place++) {
+        printf(" %" PRIu32, bags[place]);
+    }
+    puts("");
+}
+
+int main(void) {
+    uint32_t bag = 0;
+    check(lane_start(table, WORDS, SLOTS, TASKS, 0));
+
+    puts("the sleeper begins a pop, gets one tick, and stalls");
+    check(lane_begin(table, WORDS, SLEEPER, LANE_POP, LANE_LEFT, 0));
+    if (LANE_HIGH(lane_tick(table, WORDS, SLEEPER, 0)) != LANE_GOING) {
+        return 1;
+    }
+
+    puts("bags pass, in at the right, out at the left, and spare slots are given back behind them");
+    for (bag = 1; call(LOADER, LANE_PUSH, LANE_RIGHT, bag, NULL) == LANE_PUSHED; bag++) {
+        uint32_t out = 0;
+        if (call(UNLOADER, LANE_POP, LANE_LEFT, 0, &out) != LANE_BAG || out != bag) {
+            return 1;
+        }
+        call(KEEPER, LANE_REMOVE, LANE_LEFT, 0, NULL);
+    }
+    printf("push %" PRIu32 " is full on an empty lane: all slots that were given back are kept by the sleeper\n", bag);
+    print_lane();
+    puts(push_for_sure(LANE_RIGHT, bag) ? "  pushed" : "  no room");
+    print_lane();
+
+    puts("four spare slots at the left, where nobody pushes now");
+    call(KEEPER, LANE_ADD, LANE_LEFT, 3, NULL);
+    while (call(LOADER, LANE_PUSH, LANE_RIGHT, ++bag, NULL) == LANE_PUSHED) {
+    }
+    printf("push %" PRIu32 " is full\n", bag);
+    print_lane();
+    while (push_for_sure(LANE_RIGHT, bag)) {
+        puts("  pushed");
+        bag++;
+    }
+    puts("  no room: that is as much as a table of 8 slots carries, 6 bags");
+    print_lane();
+    return 0;
+}

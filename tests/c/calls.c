@@ -1,0 +1,149 @@
+/* What include/lane.h says, held to the library: limits, refusals, empty slices without a pointer, helpers. */
+#include <stdio.h>
+#include <string.h>
+
+#include "lane.h"
+
+static int failures;
+
+static void expect(int holds, const char *what, int line) {
+    if (!holds) {
+        printf("line %d: %s\n", line, what);
+        failures++;
+    }
+}
+
+#define EXPECT(condition) expect((condition), #condition, __LINE__)
+#define PAIR(high, low) ((uint64_t)(high) << 32 | (uint64_t)(low))
+
+enum { SLOTS = 8, TASKS = 2, WORDS = LANE_WORDS(SLOTS, TASKS) };
+
+static uint32_t table[LANE_MAX_WORDS];
+static uint32_t list[2 * LANE_MAX_TICKS + 2];
+static uint32_t answers[2 * LANE_MAX_TICKS + 2];
+
+static void begin_again(void) {
+    EXPECT(lane_start(table, WORDS, SLOTS, TASKS, 0) == 0);
+}
+
+/* Each limit is accepted, and the number beyond it is not. */
+static void limits(void) {
+    static uint32_t longer[LANE_MAX_WORDS + 3];
+    EXPECT(LANE_WORDS(LANE_MIN_SLOTS, LANE_MIN_TASKS) == LANE_MIN_WORDS);
+    EXPECT(LANE_WORDS(LANE_MAX_SLOTS, LANE_MAX_TASKS) == LANE_MAX_WORDS);
+    EXPECT(lane_start(table, LANE_MIN_WORDS, LANE_MIN_SLOTS, LANE_MIN_TASKS, 0) == 0);
+    EXPECT(lane_start(table, LANE_MIN_WORDS - 3, LANE_MIN_SLOTS - 1, LANE_MIN_TASKS, 0) == LANE_REFUSED_SIZES);
+    EXPECT(lane_start(table, LANE_MIN_WORDS - 10, LANE_MIN_SLOTS, LANE_MIN_TASKS - 1, 0) == LANE_REFUSED_SIZES);
+    EXPECT(lane_start(table, LANE_MIN_WORDS - 1, LANE_MIN_SLOTS, LANE_MIN_TASKS, 0) == LANE_REFUSED_LENGTH);
+    EXPECT(lane_start(table, LANE_MAX_WORDS, LANE_MAX_SLOTS, LANE_MAX_TASKS, LANE_MAX_GROWTH) == 0);
+    EXPECT(lane_start(table, LANE_MAX_WORDS, LANE_MAX_SLOTS, LANE_MAX_TASKS, LANE_MAX_GROWTH + 1) ==
+           LANE_REFUSED_SIZES);
+    EXPECT(lane_start(longer, LANE_MAX_WORDS + 3, LANE_MAX_SLOTS + 1, LANE_MAX_TASKS, 0) == LANE_REFUSED_SIZES);
+    EXPECT(lane_start(table, LANE_MAX_WORDS, LANE_MAX_SLOTS, LANE_MAX_TASKS + 1, 0) == LANE_REFUSED_SIZES);
+
+    static const struct {
+        uint32_t operation, least, most;
+    } arguments[] = {{LANE_PUSH, LANE_MIN_BAG, LANE_MAX_BAG},
+                     {LANE_POP, 0, 0},
+                     {LANE_ADD, 0, LANE_MAX_ADD},
+                     {LANE_REMOVE, 0, LANE_MAX_REMOVE}};
+    for (size_t i = 0; i < 4; i++) {
+        uint32_t operation = arguments[i].operation;
+        begin_again();
+        EXPECT(lane_begin(table, WORDS, 0, operation, LANE_LEFT, arguments[i].least) == 0);
+        EXPECT(lane_begin(table, WORDS, 1, operation, LANE_RIGHT, arguments[i].most) == 0);
+        begin_again();
+        EXPECT(lane_begin(table, WORDS, 0, operation, LANE_LEFT, arguments[i].most + 1) == LANE_REFUSED_ARGUMENT);
+    }
+    EXPECT(lane_begin(table, WORDS, 0, LANE_PUSH, LANE_LEFT, LANE_MIN_BAG - 1) == LANE_REFUSED_ARGUMENT);
+
+    begin_again();
+    EXPECT(lane_begin(table, WORDS, 0, LANE_POP, LANE_LEFT, 0) == 0);
+    EXPECT(lane_run(table, WORDS, list, 2 * LANE_MAX_TICKS, answers, 2 * LANE_MAX_TICKS) == PAIR(4, LANE_REFUSED_IDLE));
+    EXPECT(lane_run(table, WORDS, list, 2 * LANE_MAX_TICKS + 2, answers, 2 * LANE_MAX_TICKS + 2) ==
+           PAIR(0, LANE_REFUSED_LIST));
+}
+
+/* Every refusal that a caller can ask for comes with its number, and every number has a text of its own. */
+static void refusals(void) {
+    begin_again();
+    EXPECT(lane_begin(table, 23, 0, LANE_POP, LANE_LEFT, 0) == LANE_REFUSED_TABLE);
+    EXPECT(lane_begin(table, WORDS, TASKS, LANE_POP, LANE_LEFT, 0) == LANE_REFUSED_TASK);
+    EXPECT(lane_begin(table, WORDS, 0, 5, LANE_LEFT, 0) == LANE_REFUSED_OPERATION);
+    EXPECT(lane_begin(table, WORDS, 0, LANE_POP, 2, 0) == LANE_REFUSED_OPERATION);
+    EXPECT(lane_tick(table, WORDS, 0, SLOTS) == PAIR(LANE_REFUSED, LANE_REFUSED_HINT));
+    EXPECT(lane_tick(table, WORDS, 0, 0) == PAIR(LANE_REFUSED, LANE_REFUSED_IDLE));
+    EXPECT(lane_begin(table, WORDS, 0, LANE_PUSH, LANE_RIGHT, 51) == 0);
+    EXPECT(lane_begin(table, WORDS, 0, LANE_POP, LANE_LEFT, 0) == LANE_REFUSED_BUSY);
+    EXPECT(lane_run(table, WORDS, list, 3, answers, 4) == PAIR(0, LANE_REFUSED_LIST));
+    EXPECT(lane_run(table, WORDS, list, 4, answers, 3) == PAIR(0, LANE_REFUSED_ANSWERS));
+    table[7] = 1;
+    EXPECT(lane_read(table, WORDS, answers, 1) == PAIR(1, LANE_REFUSED_SHAPE));
+    table[7] = 0;
+    table[9] = 65535; /* the left hat's link to the right made none, which no call does */
+    EXPECT(lane_read(table, WORDS, answers, 1) == PAIR(1, LANE_REFUSED_NO_SLOT));
+
+    for (uint32_t one = 0; one <= 15; one++) {
+        EXPECT(strlen(lane_refusal_text(one)) > 0);
+        for (uint32_t other = 0; other < one; other++) {
+            EXPECT(strcmp(lane_refusal_text(one), lane_refusal_text(other)) != 0);
+        }
+    }
+    EXPECT(strcmp(lane_refusal_text(15), lane_refusal_text(4294967295u)) == 0);
+}
+
+/* NULL with length 0 is an empty slice, in every place of every call. */
+static void empty_slices(void) {
+    EXPECT(lane_start(NULL, 0, SLOTS, TASKS, 0) == LANE_REFUSED_LENGTH);
+    EXPECT(lane_start(NULL, 0, 0, TASKS, 0) == LANE_REFUSED_SIZES);
+    EXPECT(lane_begin(NULL, 0, 0, LANE_POP, LANE_LEFT, 0) == LANE_REFUSED_TABLE);
+    EXPECT(lane_tick(NULL, 0, 0, 0) == PAIR(LANE_REFUSED, LANE_REFUSED_TABLE));
+    EXPECT(lane_run(NULL, 0, NULL, 0, NULL, 0) == PAIR(0, LANE_REFUSED_TABLE));
+    EXPECT(lane_run(NULL, 0, list, 2, answers, 2) == PAIR(0, LANE_REFUSED_TABLE));
+    EXPECT(lane_read(NULL, 0, NULL, 0) == PAIR(1, LANE_REFUSED_TABLE));
+    EXPECT(lane_read(NULL, 0, answers, 2) == PAIR(1, LANE_REFUSED_TABLE));
+    EXPECT(lane_call(NULL, 0, 0, LANE_POP, LANE_LEFT, 0) == PAIR(LANE_REFUSED, LANE_REFUSED_TABLE));
+    begin_again();
+    EXPECT(lane_run(table, WORDS, NULL, 0, NULL, 0) == 0);
+    EXPECT(lane_run(table, WORDS, NULL, 0, answers, 2) == 0);
+    EXPECT(lane_read(table, WORDS, NULL, 0) == 0);
+    EXPECT(lane_begin(table, WORDS, 0, LANE_PUSH, LANE_RIGHT, 51) == 0);
+    EXPECT(lane_run(table, WORDS, list, 2, NULL, 0) == PAIR(0, LANE_REFUSED_ANSWERS));
+    EXPECT(LANE_HIGH(lane_run(table, WORDS, list, 22, answers, 22)) == 11);
+    EXPECT(lane_read(table, WORDS, NULL, 0) == PAIR(1, LANE_REFUSED_OUT));
+}
+
+/* A call to its answer; S - 2 bags and no more; what a remove says. */
+static void calls(void) {
+    begin_again();
+    EXPECT(lane_call(table, WORDS, 1, LANE_POP, LANE_LEFT, 0) == PAIR(LANE_EMPTY, 0));
+    EXPECT(lane_call(table, WORDS, 0, LANE_PUSH, LANE_LEFT, 0) == PAIR(LANE_REFUSED, LANE_REFUSED_ARGUMENT));
+    for (uint32_t bag = 1; bag <= LANE_MAX_BAGS(SLOTS); bag++) {
+        EXPECT(lane_call(table, WORDS, 0, LANE_PUSH, LANE_RIGHT, bag) == PAIR(LANE_PUSHED, 0));
+    }
+    EXPECT(lane_call(table, WORDS, 0, LANE_PUSH, LANE_RIGHT, 99) == PAIR(LANE_FULL, 0));
+    EXPECT(lane_call(table, WORDS, 0, LANE_PUSH, LANE_LEFT, 99) == PAIR(LANE_FULL, 0));
+    EXPECT(lane_read(table, WORDS, answers, LANE_MAX_BAGS(SLOTS)) == LANE_MAX_BAGS(SLOTS));
+    EXPECT(lane_call(table, WORDS, 1, LANE_POP, LANE_LEFT, 0) == PAIR(LANE_BAG, 1));
+    EXPECT(lane_call(table, WORDS, 1, LANE_REMOVE, LANE_RIGHT, 0) == PAIR(LANE_YES, 0)); /* nothing is spare there */
+    EXPECT(lane_call(table, WORDS, 1, LANE_REMOVE, LANE_LEFT, 0) == PAIR(LANE_NO, 0));   /* one more than asked for */
+    EXPECT(lane_call(table, WORDS, 1, LANE_REMOVE, LANE_LEFT, 0) == PAIR(LANE_NO, 0));
+    EXPECT(lane_call(table, WORDS, 0, LANE_PUSH, LANE_RIGHT, 99) == PAIR(LANE_FULL, 0)); /* it is at the other end */
+    EXPECT(lane_call(table, WORDS, 0, LANE_PUSH, LANE_LEFT, 99) == PAIR(LANE_PUSHED, 0));
+
+    /* A table that no start made, on which a pop goes round for ever: the helper comes back. */
+    begin_again();
+    table[8 + 3 * 1] = 1; /* the right end's link to the left is itself */
+    EXPECT(lane_call(table, WORDS, 0, LANE_POP, LANE_RIGHT, 0) == PAIR(LANE_GOING, 0));
+    EXPECT(table[5] == LANE_MAX_TICKS_ALONE(SLOTS));
+    EXPECT(lane_begin(table, WORDS, 0, LANE_POP, LANE_LEFT, 0) == LANE_REFUSED_BUSY);
+}
+
+int main(void) {
+    limits();
+    refusals();
+    empty_slices();
+    calls();
+    puts(failures == 0 ? "the header's words hold" : "the header's words do not hold");
+    return failures == 0 ? 0 : 1;
+}

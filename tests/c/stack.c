@@ -1,0 +1,72 @@
+/* The stack that each call takes: made on a painted stack, at the largest sizes, down to the deepest byte touched. */
+#define _XOPEN_SOURCE 600
+#include <stdio.h>
+#include <string.h>
+#include <ucontext.h>
+
+#include "lane.h"
+
+enum { SLOTS = LANE_MAX_SLOTS, TASKS = LANE_MAX_TASKS, WORDS = LANE_MAX_WORDS, PAINT = 0xa5, SPACE = 65536 };
+
+static uint32_t table[WORDS], out[SLOTS], list[2 * LANE_MAX_TICKS], answers[2 * LANE_MAX_TICKS];
+static unsigned char stack[SPACE];
+static ucontext_t here, there;
+
+static void start(void) {
+    lane_start(table, WORDS, SLOTS, TASKS, LANE_MAX_GROWTH);
+}
+
+static void begin(void) {
+    lane_begin(table, WORDS, 0, LANE_PUSH, LANE_RIGHT, 51);
+}
+
+static void tick(void) {
+    lane_tick(table, WORDS, 0, 0);
+}
+
+static void run(void) {
+    lane_run(table, WORDS, list, 2 * LANE_MAX_TICKS, answers, 2 * LANE_MAX_TICKS);
+}
+
+static void read_lane(void) {
+    lane_read(table, WORDS, out, SLOTS);
+}
+
+static size_t touched(void (*call)(void)) {
+    size_t at = 0;
+    memset(stack, PAINT, SPACE);
+    getcontext(&there);
+    there.uc_stack.ss_sp = stack;
+    there.uc_stack.ss_size = SPACE;
+    there.uc_link = &here;
+    makecontext(&there, call, 0);
+    swapcontext(&here, &there);
+    while (at < SPACE && stack[at] == PAINT) {
+        at++;
+    }
+    return SPACE - at;
+}
+
+static int failures;
+
+static void print(const char *name, size_t bytes, size_t most) {
+    printf("stack of lane_%-5s %5lu bytes\n", name, (unsigned long)bytes);
+    failures += bytes > most;
+}
+
+int main(void) {
+    size_t deepest = 0;
+    print("start", touched(start), 600);
+    print("begin", touched(begin), 600);
+    for (int i = 0; i < 8; i++) { /* the fourth takes a slot, and so do those after it */
+        size_t bytes = touched(tick);
+        deepest = bytes > deepest ? bytes : deepest;
+    }
+    print("tick", deepest, 5600);
+    print("run", touched(run), 5600);
+    print("read", touched(read_lane), 600);
+    if (failures > 0) {
+        puts("more stack than include/lane.h says");
+    }
+    return failures > 0;
+}
