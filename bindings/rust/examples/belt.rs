@@ -3,9 +3,8 @@
 use lane::{Answer, Lane, Operation, Refusal, Side};
 
 fn main() {
-    let started = Lane::start(vec![0; lane::words(4, 1)], 4, 1, 0);
-    print_reply(&started);
-    let mut lane = started.expect("the sizes fit");
+    let mut lane = Lane::start(vec![0; lane::words(4, 1)], 4, 1, 0).expect("the sizes fit");
+    print_reply(&Ok(()));
     print_reply(&lane.begin(0, Operation::Push(51), Side::Right));
     print_ticks(&mut lane, 10);
     print_ticks(&mut lane, 1);
@@ -17,9 +16,9 @@ fn main() {
     print_ticks(&mut lane, 1);
 }
 
-fn print_reply<T>(reply: &Result<T, Refusal>) {
+fn print_reply(reply: &Result<(), Refusal>) {
     match reply {
-        Ok(_) => println!("(ok)"),
+        Ok(()) => println!("(ok)"),
         Err(refusal) => println!("(refused {})", refusal.number()),
     }
 }
@@ -34,22 +33,15 @@ fn print_ticks(lane: &mut Lane<Vec<u32>>, times: u32) {
         outcome = lane.tick(0, 0);
     }
     match outcome {
-        Ok(Answer::Going) => println!("(going)"),
-        Ok(Answer::Pushed) => println!("(pushed)"),
-        Ok(Answer::Bag(bag)) => println!("(bag {bag})"),
-        Ok(Answer::Empty) => println!("(empty)"),
-        Ok(Answer::Full) => println!("(full)"),
-        Ok(Answer::Yes) => println!("(yes)"),
-        Ok(Answer::No) => println!("(no)"),
+        Ok(answer) => println!("({answer})"),
         Err(refusal) => println!("(refused {})", refusal.number()),
     }
 }
 
 fn print_lane(lane: &Lane<Vec<u32>>) {
-    let mut out = [0; 4];
-    match lane.read(&mut out) {
+    match lane.bags() {
         Ok(bags) => {
-            let bags: String = bags.iter().map(|bag| format!(" {bag}")).collect();
+            let bags: String = bags.map(|bag| format!(" {bag}")).collect();
             println!("(lane{bags})");
         }
         Err(refusal) => println!("(refused {})", refusal.number()),

@@ -2,8 +2,17 @@
 
 use core::fmt;
 
-/// The answer of a tick that was made.
+/// The answer of a tick that was made. Later versions may add some.
+///
+/// ```
+/// use lane::Answer;
+///
+/// assert_eq!(Answer::Bag(51).to_string(), "bag 51");
+/// assert_eq!(Answer::Empty.to_string(), "empty");
+/// ```
 #[derive(Clone, Copy, Debug, PartialEq, Eq, Hash)]
+#[must_use = "a call may have failed, or not be finished"]
+#[non_exhaustive]
 pub enum Answer {
     /// The call is not finished.
     Going,
@@ -15,14 +24,18 @@ pub enum Answer {
     Empty,
     /// A push found no free slot.
     Full,
-    /// An add or remove did it.
+    /// An add added as many slots as were free, one at least; a remove has nothing more to do.
     Yes,
-    /// An add or remove did not.
+    /// An add found no free slot; a remove gave back nothing.
     No,
 }
 
 impl Answer {
     /// The answer of two words as a run writes them; none for words that no run writes.
+    ///
+    /// ```
+    /// assert_eq!(lane::Answer::from_words([2, 51]), Some(lane::Answer::Bag(51)));
+    /// ```
     pub const fn from_words(words: [u32; 2]) -> Option<Answer> {
         Some(match words {
             [0, 0] => Answer::Going,
@@ -37,6 +50,10 @@ impl Answer {
     }
 
     /// The two words that a run writes for it.
+    ///
+    /// ```
+    /// assert_eq!(lane::Answer::Bag(51).words(), [2, 51]);
+    /// ```
     pub const fn words(self) -> [u32; 2] {
         match self {
             Answer::Going => [0, 0],
@@ -50,8 +67,29 @@ impl Answer {
     }
 }
 
-/// Why a call was refused. A refused call has changed no word.
+impl fmt::Display for Answer {
+    fn fmt(&self, formatter: &mut fmt::Formatter<'_>) -> fmt::Result {
+        formatter.write_str(match self {
+            Answer::Going => "going",
+            Answer::Pushed => "pushed",
+            Answer::Bag(bag) => return write!(formatter, "bag {bag}"),
+            Answer::Empty => "empty",
+            Answer::Full => "full",
+            Answer::Yes => "yes",
+            Answer::No => "no",
+        })
+    }
+}
+
+/// Why a call was refused. A refused call has changed no word. Later versions may add some.
+///
+/// ```
+/// use lane::Refusal;
+///
+/// assert_eq!(Refusal::Idle.to_string(), "refused 10: the task is idle");
+/// ```
 #[derive(Clone, Copy, Debug, PartialEq, Eq, Hash)]
+#[non_exhaustive]
 #[repr(u32)]
 pub enum Refusal {
     /// Start: slots, tasks or growth out of range.
@@ -104,6 +142,10 @@ impl Refusal {
     ];
 
     /// The refusal of a number; none for a number that no call gives.
+    ///
+    /// ```
+    /// assert_eq!(lane::Refusal::from_number(10), Some(lane::Refusal::Idle));
+    /// ```
     pub const fn from_number(number: u32) -> Option<Refusal> {
         match number {
             1..=14 => Some(Refusal::ALL[number as usize - 1]),
@@ -112,6 +154,10 @@ impl Refusal {
     }
 
     /// Its number.
+    ///
+    /// ```
+    /// assert_eq!(lane::Refusal::Idle.number(), 10);
+    /// ```
     pub const fn number(self) -> u32 {
         self as u32
     }
@@ -141,8 +187,67 @@ impl fmt::Display for Refusal {
 
 impl core::error::Error for Refusal {}
 
+/// A start that was refused, with the words as they were. `?` makes a [`Refusal`] of it.
+///
+/// ```
+/// use lane::{Lane, Refusal};
+///
+/// fn start(words: &mut [u32]) -> Result<Lane<&mut [u32]>, Refusal> {
+///     Ok(Lane::start(words, 4, 1, 0)?)
+/// }
+/// assert_eq!(start(&mut [0; 9]), Err(Refusal::Length));
+///
+/// let refused = Lane::start([7; 9], 4, 1, 0).unwrap_err();
+/// assert_eq!(refused.to_string(), "refused 2: not as many words as the sizes ask for");
+/// assert_eq!(refused.words, [7; 9]);
+/// ```
+#[derive(Clone, Copy, PartialEq, Eq)]
+#[non_exhaustive]
+pub struct NotStarted<W> {
+    /// Why.
+    pub refusal: Refusal,
+    /// The words, given back.
+    pub words: W,
+}
+
+impl<W> From<NotStarted<W>> for Refusal {
+    fn from(refused: NotStarted<W>) -> Refusal {
+        refused.refusal
+    }
+}
+
+impl<W> fmt::Display for NotStarted<W> {
+    fn fmt(&self, formatter: &mut fmt::Formatter<'_>) -> fmt::Result {
+        self.refusal.fmt(formatter)
+    }
+}
+
+impl<W> fmt::Debug for NotStarted<W> {
+    fn fmt(&self, formatter: &mut fmt::Formatter<'_>) -> fmt::Result {
+        formatter
+            .debug_struct("NotStarted")
+            .field("refusal", &self.refusal)
+            .finish_non_exhaustive()
+    }
+}
+
+impl<W> core::error::Error for NotStarted<W> {}
+
 /// What a run did.
+///
+/// ```
+/// use lane::{Answer, Lane, Operation, Side};
+///
+/// let mut lane = Lane::start([0; lane::words(4, 1)], 4, 1, 0)?;
+/// lane.begin(0, Operation::Pop, Side::Left)?;
+/// let mut answers = [[0; 2]; 2];
+/// let ran = lane.run(&[[0, 0]; 2], &mut answers);
+/// assert_eq!((ran.made(), ran.refusal()), (2, None));
+/// assert!(ran.answers().all(|answer| answer == Answer::Going));
+/// # Ok::<(), lane::Refusal>(())
+/// ```
 #[derive(Clone, Copy, Debug)]
+#[must_use = "a run may stop at a refused tick"]
 pub struct Ran<'a> {
     words: &'a [[u32; 2]],
     refusal: Option<Refusal>,
@@ -158,8 +263,8 @@ impl<'a> Ran<'a> {
         self.words.len()
     }
 
-    /// What stopped the run, if it did not come to its end: a refusal of the whole run, with no tick made, or of the tick
-    /// after those made, which stay made.
+    /// What stopped the run, if it did not come to its end: a refusal of the whole run, with no tick made, or of the
+    /// tick after those made, which stay made.
     pub fn refusal(&self) -> Option<Refusal> {
         self.refusal
     }

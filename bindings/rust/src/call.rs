@@ -11,6 +11,10 @@ pub enum Side {
 
 impl Side {
     /// The number in a task's record.
+    ///
+    /// ```
+    /// assert_eq!(lane::Side::Right.number(), 1);
+    /// ```
     pub const fn number(self) -> u32 {
         match self {
             Side::Left => 0,
@@ -26,14 +30,18 @@ pub enum Operation {
     Push(u32),
     /// Take the bag at the end.
     Pop,
-    /// Add a spare slot at the end, and 0 to 64 more as long as there are free ones.
+    /// Make a free slot a spare one at the end, and 0 to 64 more as far as there are free ones.
     Add(u32),
-    /// Cut off the spare slots at the end but so many, 0 to 1,023. It says no where its swap failed.
+    /// Give back the spare slots at the end but the one that stays and so many, 0 to 1,023.
     Remove(u32),
 }
 
 impl Operation {
     /// The number in a task's record.
+    ///
+    /// ```
+    /// assert_eq!(lane::Operation::Push(51).number(), 1);
+    /// ```
     pub const fn number(self) -> u32 {
         match self {
             Operation::Push(_) => 1,
@@ -44,6 +52,10 @@ impl Operation {
     }
 
     /// The argument in a task's record.
+    ///
+    /// ```
+    /// assert_eq!(lane::Operation::Push(51).argument(), 51);
+    /// ```
     pub const fn argument(self) -> u32 {
         match self {
             Operation::Pop => 0,

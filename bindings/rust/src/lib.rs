@@ -1,16 +1,16 @@
 //! The proved lane machine for Rust programs: a double-ended queue of bags that up to sixteen tasks work on, one tick
 //! at a time, over one table of words.
 //!
-//! The machine is the static library of this repository; every line of it is proved. This crate adds names to its
-//! numbers and nothing else. It needs no standard library and allocates nothing: the caller lends the words.
+//! The machine is the static library of this repository; every line of it is proved. This crate gives names to its
+//! numbers, ticks a call to its answer ([`Lane::call`]) and looks at a table where it stands ([`Lane::bags`],
+//! [`Lane::is_busy`], `Debug`). It needs no standard library and allocates nothing: the caller lends the words.
 //!
 //! ```
 //! use lane::{Answer, Lane, Operation, Refusal, Side};
 //!
 //! fn main() -> Result<(), Refusal> {
 //!     let mut lane = Lane::start([0; lane::words(4, 1)], 4, 1, 0)?;
-//!     lane.begin(0, Operation::Push(51), Side::Right)?;
-//!     while lane.tick(0, 0)? == Answer::Going {}
+//!     assert_eq!(lane.call(0, Operation::Push(51), Side::Right)?, Answer::Pushed);
 //!
 //!     let mut out = [0; 4];
 //!     assert_eq!(lane.read(&mut out)?, [51]);
@@ -23,17 +23,49 @@
 //!     Ok(())
 //! }
 //! ```
+//!
+//! # What to know
+//!
+//! A slot, also called a node, is the place of one bag. Slots at an end of the lane with no bag are spare; each end
+//! always has one at least, so a table of S slots carries at most S - 2 bags ([`max_bags`]).
+//!
+//! [`Answer::Full`] is not about the bags alone: spare slots at the other end count, and so does what a call left in the
+//! middle may still use, up to S - 2 slots, so that a push may be full on an empty lane. Do not leave a call standing
+//! while bags pass. The way out: tick every busy task to its answer; then at the other end push, pop the bag again,
+//! remove 0; and try again. Full again, with no other task in a call: the lane has S - 2 bags, or S - 3 and the last
+//! place is at the other end.
+//!
+//! [`Answer::Yes`] of a remove says that nothing more is to be done by it, and not that a slot was given back.
+//! [`Answer::No`] of a remove, with no other task in a call, means exactly one spare slot more than asked for; trying
+//! again changes nothing.
+//!
+//! Different tables may be used by different threads, and a shared `&Lane` may be read by several. A tick and a run take
+//! about 5.5 kB of stack, the other calls about 0.5 kB. The library is for x86-64.
+//!
+//! # Where the library is
+//!
+//! The build looks for `libdeque.a` in `target/staticlib` of the repository, where `rt staticlib deque` puts it, or for
+//! `libdeque.a` or `liblane.a` in the folder that the environment's `LANE_LIBRARY` names, an absolute path.
 
 #![no_std]
-#![deny(unsafe_op_in_unsafe_fn)]
-#![warn(missing_docs)]
 
 mod answer;
 mod call;
 pub mod ffi;
+mod limits;
+mod view;
 
-pub use answer::{Answer, Ran, Refusal};
+use core::fmt;
+
+pub use answer::{Answer, NotStarted, Ran, Refusal};
 pub use call::{Operation, Side};
+pub use limits::{
+    max_bags, max_ticks_alone, words, MAX_ADD, MAX_BAG, MAX_GROWTH, MAX_REMOVE, MAX_SLOTS,
+    MAX_TASKS, MAX_TICKS, MIN_BAG, MIN_SLOTS, MIN_TASKS,
+};
+pub use view::Bags;
+
+use view::View;
 
 /// The library's version.
 pub const VERSION: &str = env!("CARGO_PKG_VERSION");
@@ -41,32 +73,67 @@ pub const VERSION: &str = env!("CARGO_PKG_VERSION");
 /// The number of the table's format: a table is worked on by libraries of its format alone.
 pub const TABLE_FORMAT: u32 = 1;
 
-/// The words of a table: 8 for the header, 3 a slot, 10 a task.
-pub const fn words(slots: u32, tasks: u32) -> usize {
-    8 + 3 * slots as usize + 10 * tasks as usize
-}
-
-/// A table and the calls on it. The words are owned (`Vec<u32>`, `[u32; N]`) or lent (`&mut [u32]`).
+/// A table and the calls on it. The words are owned (`Vec<u32>`, `[u32; N]`) or lent (`&mut [u32]`; `&[u32]` to read).
 ///
 /// No call trusts the words: a table that was damaged is refused with [`Refusal::Table`] or [`Refusal::Shape`].
-#[derive(Clone, Debug, PartialEq, Eq)]
+///
+/// `Debug` shows the bags, the hats and the tasks:
+///
+/// ```
+/// use lane::{Lane, Operation, Side};
+///
+/// let mut lane = Lane::start([0; lane::words(4, 2)], 4, 2, 0)?;
+/// lane.begin(1, Operation::Push(51), Side::Right)?;
+/// assert_eq!(
+///     format!("{lane:?}"),
+///     "Lane { slots: 4, growth: 0, bags: [], left_hat: 0, right_hat: 1, ticks: 0, \
+///      tasks: [Idle, Busy { operation: Push(51), side: Right, step: 2 }] }"
+/// );
+/// assert_eq!(format!("{:?}", Lane::over([0; 24])), "Lane { refused: Table, words: 24 }");
+/// # Ok::<(), lane::Refusal>(())
+/// ```
+#[derive(Clone, PartialEq, Eq)]
 pub struct Lane<W> {
     words: W,
 }
 
 impl<W: AsRef<[u32]> + AsMut<[u32]>> Lane<W> {
     /// Writes an empty lane over words of any content, as many as [`words`] says: slots 2 to 1,024, tasks 1 to 16, and
-    /// growth 0 to 64, the slots that a push adds beyond the one it needs.
-    pub fn start(mut words: W, slots: u32, tasks: u32, growth: u32) -> Result<Lane<W>, Refusal> {
-        reply(ffi::start(words.as_mut(), slots, tasks, growth)).map(|()| Lane { words })
+    /// growth 0 to 64, the slots that a push adds beyond the one it needs. A refusal gives the words back.
+    ///
+    /// ```
+    /// use lane::{Lane, Refusal};
+    ///
+    /// let lane = Lane::start([0; lane::words(4, 1)], 4, 1, 0)?;
+    /// assert_eq!(lane.slots()?, 4);
+    ///
+    /// let refused = Lane::start(vec![7; 31], 4, 1, 0).unwrap_err();
+    /// assert_eq!(refused.refusal, Refusal::Length);
+    /// assert_eq!(refused.words, [7; 31]);
+    /// # Ok::<(), Refusal>(())
+    /// ```
+    pub fn start(
+        mut words: W,
+        slots: u32,
+        tasks: u32,
+        growth: u32,
+    ) -> Result<Lane<W>, NotStarted<W>> {
+        match reply(ffi::start(words.as_mut(), slots, tasks, growth)) {
+            Ok(()) => Ok(Lane { words }),
+            Err(refusal) => Err(NotStarted { refusal, words }),
+        }
     }
 
-    /// Takes words that hold a table already. Every call tests them.
-    pub fn over(words: W) -> Lane<W> {
-        Lane { words }
-    }
-
-    /// Gives an idle task a call.
+    /// Gives an idle task a call. Nothing of it is done before the task's ticks.
+    ///
+    /// ```
+    /// use lane::{Lane, Operation, Refusal, Side};
+    ///
+    /// let mut lane = Lane::start([0; lane::words(4, 1)], 4, 1, 0)?;
+    /// lane.begin(0, Operation::Push(51), Side::Right)?;
+    /// assert_eq!(lane.begin(0, Operation::Pop, Side::Right), Err(Refusal::Busy));
+    /// # Ok::<(), Refusal>(())
+    /// ```
     pub fn begin(&mut self, task: u32, operation: Operation, side: Side) -> Result<(), Refusal> {
         let (number, argument) = (operation.number(), operation.argument());
         reply(ffi::begin(
@@ -78,7 +145,23 @@ impl<W: AsRef<[u32]> + AsMut<[u32]>> Lane<W> {
         ))
     }
 
-    /// Makes one tick of a busy task. The search for a free slot, if the tick has one, begins at the hint.
+    /// Makes one tick of a busy task. If the tick takes a free slot, it is the first one from `hint` (below the number
+    /// of slots) upward, going round. 0 always works; a hint just past the slots in use shortens the search a little.
+    ///
+    /// ```
+    /// use lane::{Answer, Lane, Operation, Side};
+    ///
+    /// let mut lane = Lane::start([0; lane::words(4, 1)], 4, 1, 0)?;
+    /// lane.begin(0, Operation::Push(51), Side::Right)?;
+    /// let answer = loop {
+    ///     match lane.tick(0, 0)? {
+    ///         Answer::Going => {}
+    ///         answer => break answer,
+    ///     }
+    /// };
+    /// assert_eq!(answer, Answer::Pushed);
+    /// # Ok::<(), lane::Refusal>(())
+    /// ```
     pub fn tick(&mut self, task: u32, hint: u32) -> Result<Answer, Refusal> {
         match halves(ffi::tick(self.words.as_mut(), task, hint)) {
             [7, number] => Err(known(Refusal::from_number(number))),
@@ -86,16 +169,83 @@ impl<W: AsRef<[u32]> + AsMut<[u32]>> Lane<W> {
         }
     }
 
-    /// Makes the ticks of a list of (task, hint) pairs up to the first refused, at most 4,096, and writes two words for
-    /// each tick made.
+    /// Begins a call and ticks its task with hint 0 until it answers, while no other task gets a tick.
+    ///
+    /// On a table that start began it is never [`Answer::Going`]. On any other it may be, after [`max_ticks_alone`]
+    /// ticks without an answer, and the task is still busy. Each tick tests the whole table: at many slots
+    /// [`Lane::run`] is faster.
+    ///
+    /// ```
+    /// use lane::{Answer, Lane, Operation, Side};
+    ///
+    /// let mut lane = Lane::start([0; lane::words(4, 1)], 4, 1, 0)?;
+    /// assert_eq!(lane.call(0, Operation::Push(51), Side::Right)?, Answer::Pushed);
+    /// assert_eq!(lane.call(0, Operation::Pop, Side::Left)?, Answer::Bag(51));
+    /// assert_eq!(lane.call(0, Operation::Pop, Side::Left)?, Answer::Empty);
+    /// # Ok::<(), lane::Refusal>(())
+    /// ```
+    pub fn call(&mut self, task: u32, operation: Operation, side: Side) -> Result<Answer, Refusal> {
+        self.begin(task, operation, side)?;
+        for _ in 0..max_ticks_alone(self.slots()?) {
+            match self.tick(task, 0)? {
+                Answer::Going => {}
+                answer => return Ok(answer),
+            }
+        }
+        Ok(Answer::Going)
+    }
+
+    /// Makes the ticks of a list of (task, hint) pairs up to the first refused, at most [`MAX_TICKS`], and writes two
+    /// words for each tick made.
+    ///
+    /// ```
+    /// use lane::{Answer, Lane, Operation, Refusal, Side};
+    ///
+    /// let mut lane = Lane::start([0; lane::words(4, 2)], 4, 2, 0)?;
+    /// lane.begin(1, Operation::Pop, Side::Left)?;
+    /// let mut answers = [[0; 2]; 8];
+    /// let ran = lane.run(&[[1, 0]; 8], &mut answers);
+    /// assert_eq!(ran.made(), 4);
+    /// assert_eq!(ran.answers().last(), Some(Answer::Empty));
+    /// assert_eq!(ran.refusal(), Some(Refusal::Idle));
+    /// # Ok::<(), Refusal>(())
+    /// ```
     pub fn run<'a>(&mut self, list: &[[u32; 2]], answers: &'a mut [[u32; 2]]) -> Ran<'a> {
         let (ticks, places) = (list.as_flattened(), answers.as_flattened_mut());
         let [made, number] = halves(ffi::run(self.words.as_mut(), ticks, places));
         let refusal = (number != 0).then(|| known(Refusal::from_number(number)));
         Ran::new(&answers[..made as usize], refusal)
     }
+}
 
-    /// Writes the bags of the lane, left end first, and gives the part written.
+impl<W: AsRef<[u32]>> Lane<W> {
+    /// Takes words that hold a table already. Every call tests them.
+    ///
+    /// ```
+    /// use lane::{Lane, Refusal};
+    ///
+    /// let table = Lane::start(vec![0; lane::words(4, 1)], 4, 1, 0)?.into_words();
+    /// assert_eq!(Lane::over(&table).bags()?.next(), None);
+    /// assert_eq!(Lane::over(&table[1..]).slots(), Err(Refusal::Table));
+    /// # Ok::<(), Refusal>(())
+    /// ```
+    pub fn over(words: W) -> Lane<W> {
+        Lane { words }
+    }
+
+    /// Writes the bags of the lane, left end first, and gives the part written. [`max_bags`] places are enough.
+    ///
+    /// ```
+    /// use lane::{Lane, Operation, Refusal, Side};
+    ///
+    /// let mut lane = Lane::start([0; lane::words(4, 1)], 4, 1, 0)?;
+    /// for bag in [51, 52] {
+    ///     let _ = lane.call(0, Operation::Push(bag), Side::Right)?;
+    /// }
+    /// assert_eq!(lane.read(&mut [0; 4])?, [51, 52]);
+    /// assert_eq!(lane.read(&mut [0; 1]), Err(Refusal::Out));
+    /// # Ok::<(), Refusal>(())
+    /// ```
     pub fn read<'a>(&self, out: &'a mut [u32]) -> Result<&'a [u32], Refusal> {
         match halves(ffi::read(self.words.as_ref(), out)) {
             [0, count] => Ok(&out[..count as usize]),
@@ -103,14 +253,98 @@ impl<W: AsRef<[u32]> + AsMut<[u32]>> Lane<W> {
         }
     }
 
+    /// The bags of the lane, left end first, without a buffer.
+    ///
+    /// ```
+    /// use lane::{Lane, Operation, Side};
+    ///
+    /// let mut lane = Lane::start([0; lane::words(4, 1)], 4, 1, 0)?;
+    /// for bag in [51, 52] {
+    ///     let _ = lane.call(0, Operation::Push(bag), Side::Right)?;
+    /// }
+    /// assert!(lane.bags()?.eq([51, 52]));
+    /// # Ok::<(), lane::Refusal>(())
+    /// ```
+    pub fn bags(&self) -> Result<Bags<'_>, Refusal> {
+        match View::of(self.words())? {
+            (view, None) => Ok(view.bags()),
+            (_, Some(refusal)) => Err(refusal),
+        }
+    }
+
+    /// The number of slots.
+    ///
+    /// ```
+    /// let lane = lane::Lane::start([0; lane::words(4, 1)], 4, 1, 0)?;
+    /// assert_eq!(lane.slots(), Ok(4));
+    /// # Ok::<(), lane::Refusal>(())
+    /// ```
+    pub fn slots(&self) -> Result<u32, Refusal> {
+        Ok(self.view()?.slots())
+    }
+
+    /// The number of tasks.
+    ///
+    /// ```
+    /// let lane = lane::Lane::start([0; lane::words(4, 3)], 4, 3, 0)?;
+    /// assert_eq!(lane.tasks(), Ok(3));
+    /// # Ok::<(), lane::Refusal>(())
+    /// ```
+    pub fn tasks(&self) -> Result<u32, Refusal> {
+        Ok(self.view()?.tasks())
+    }
+
+    /// Whether a task is in the middle of a call.
+    ///
+    /// ```
+    /// use lane::{Lane, Operation, Refusal, Side};
+    ///
+    /// let mut lane = Lane::start([0; lane::words(4, 2)], 4, 2, 0)?;
+    /// lane.begin(1, Operation::Pop, Side::Left)?;
+    /// assert_eq!((lane.is_busy(0), lane.is_busy(1)), (Ok(false), Ok(true)));
+    /// assert_eq!(lane.is_busy(2), Err(Refusal::Task));
+    /// # Ok::<(), Refusal>(())
+    /// ```
+    pub fn is_busy(&self, task: u32) -> Result<bool, Refusal> {
+        let view = self.view()?;
+        if task < view.tasks() {
+            Ok(view.is_busy(task))
+        } else {
+            Err(Refusal::Task)
+        }
+    }
+
     /// The table.
+    ///
+    /// ```
+    /// let lane = lane::Lane::start([7; lane::words(4, 1)], 4, 1, 0)?;
+    /// assert_eq!(lane.words()[..3], [4, 1, 0]);
+    /// # Ok::<(), lane::Refusal>(())
+    /// ```
     pub fn words(&self) -> &[u32] {
         self.words.as_ref()
     }
 
     /// The table, given back.
+    ///
+    /// ```
+    /// let lane = lane::Lane::start(vec![0; lane::words(4, 1)], 4, 1, 0)?;
+    /// let table: Vec<u32> = lane.into_words();
+    /// assert_eq!(table.len(), lane::words(4, 1));
+    /// # Ok::<(), lane::Refusal>(())
+    /// ```
     pub fn into_words(self) -> W {
         self.words
+    }
+
+    fn view(&self) -> Result<View<'_>, Refusal> {
+        View::of(self.words()).map(|(view, _)| view)
+    }
+}
+
+impl<W: AsRef<[u32]>> fmt::Debug for Lane<W> {
+    fn fmt(&self, formatter: &mut fmt::Formatter<'_>) -> fmt::Result {
+        view::show(self.words(), formatter)
     }
 }
 

@@ -67,8 +67,10 @@ fn a_run_gives_the_answers_of_the_ticks_made() {
 
 #[test]
 fn wrong_numbers_get_their_refusals_and_change_nothing() {
-    assert_eq!(Lane::start([0; 24], 1025, 1, 0), Err(Refusal::Sizes));
-    assert_eq!(Lane::start([0; 23], 2, 1, 0), Err(Refusal::Length));
+    let sizes = Lane::start([7; 24], 1025, 1, 0).unwrap_err();
+    assert_eq!((sizes.refusal, sizes.words), (Refusal::Sizes, [7; 24]));
+    let length = Lane::start([7; 23], 2, 1, 0).unwrap_err();
+    assert_eq!((length.refusal, length.words), (Refusal::Length, [7; 23]));
     let mut lane = small();
     lane.begin(1, Operation::Pop, Side::Left).expect("idle");
     let before = lane.clone();

@@ -1,0 +1,56 @@
+//! The machine's limits, as `include/lane.h` has them for C.
+
+/// The fewest slots of a table.
+pub const MIN_SLOTS: u32 = 2;
+/// The most slots of a table.
+pub const MAX_SLOTS: u32 = 1024;
+/// The fewest tasks of a table.
+pub const MIN_TASKS: u32 = 1;
+/// The most tasks of a table.
+pub const MAX_TASKS: u32 = 16;
+/// The most spare slots that a push adds beyond the one it needs.
+pub const MAX_GROWTH: u32 = 64;
+/// The least bag number.
+pub const MIN_BAG: u32 = 1;
+/// The greatest bag number.
+pub const MAX_BAG: u32 = 999_999_999;
+/// The greatest argument of an add.
+pub const MAX_ADD: u32 = 64;
+/// The greatest argument of a remove.
+pub const MAX_REMOVE: u32 = 1023;
+/// The most ticks of one run.
+pub const MAX_TICKS: usize = 4096;
+
+/// The words of a table: 8 for the header, 3 a slot, 10 a task.
+///
+/// ```
+/// assert_eq!(lane::words(4, 1), 30);
+/// ```
+pub const fn words(slots: u32, tasks: u32) -> usize {
+    8 + 3 * slots as usize + 10 * tasks as usize
+}
+
+/// The most bags that a table of so many slots carries: all but one spare slot at each end.
+///
+/// ```
+/// use lane::{Answer, Lane, Operation, Side};
+///
+/// let mut lane = Lane::start([0; lane::words(4, 1)], 4, 1, 0)?;
+/// for bag in 1..=lane::max_bags(4) {
+///     assert_eq!(lane.call(0, Operation::Push(bag), Side::Right)?, Answer::Pushed);
+/// }
+/// assert_eq!(lane.call(0, Operation::Push(99), Side::Left)?, Answer::Full);
+/// # Ok::<(), lane::Refusal>(())
+/// ```
+pub const fn max_bags(slots: u32) -> u32 {
+    slots.saturating_sub(2)
+}
+
+/// Within so many of its own ticks a call answers while no other task is ticked, on a table that start began.
+///
+/// ```
+/// assert_eq!(lane::max_ticks_alone(lane::MAX_SLOTS), 4250);
+/// ```
+pub const fn max_ticks_alone(slots: u32) -> u32 {
+    slots.saturating_mul(4).saturating_add(154)
+}

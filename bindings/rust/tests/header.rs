@@ -1,0 +1,89 @@
+//! The wrapper's constants and texts are those of `include/lane.h`, and the library keeps to them.
+
+use lane::{words, Lane, Operation, Refusal, Side};
+
+const HEADER: &str = include_str!("../../../include/lane.h");
+
+/// The first word after the name of a definition.
+fn defined(name: &str) -> &'static str {
+    let mut lines = HEADER.lines().map(|line| line.split_whitespace());
+    lines
+        .find_map(|mut line| {
+            (line.next() == Some("#define") && line.next() == Some(name)).then(|| line.next())
+        })
+        .flatten()
+        .unwrap_or_else(|| panic!("include/lane.h has no {name}"))
+}
+
+#[test]
+fn the_header_has_the_same_numbers() {
+    for (name, number) in [
+        ("LANE_TABLE_FORMAT", lane::TABLE_FORMAT),
+        ("LANE_MIN_SLOTS", lane::MIN_SLOTS),
+        ("LANE_MAX_SLOTS", lane::MAX_SLOTS),
+        ("LANE_MIN_TASKS", lane::MIN_TASKS),
+        ("LANE_MAX_TASKS", lane::MAX_TASKS),
+        ("LANE_MAX_GROWTH", lane::MAX_GROWTH),
+        ("LANE_MIN_BAG", lane::MIN_BAG),
+        ("LANE_MAX_BAG", lane::MAX_BAG),
+        ("LANE_MAX_ADD", lane::MAX_ADD),
+        ("LANE_MAX_REMOVE", lane::MAX_REMOVE),
+        ("LANE_MAX_TICKS", lane::MAX_TICKS as u32),
+        ("LANE_LEFT", Side::Left.number()),
+        ("LANE_RIGHT", Side::Right.number()),
+        ("LANE_PUSH", Operation::Push(1).number()),
+        ("LANE_POP", Operation::Pop.number()),
+        ("LANE_ADD", Operation::Add(0).number()),
+        ("LANE_REMOVE", Operation::Remove(0).number()),
+    ] {
+        assert_eq!(defined(name), number.to_string(), "{name}");
+    }
+    assert_eq!(defined("LANE_VERSION"), format!("\"{}\"", lane::VERSION));
+}
+
+#[test]
+fn the_header_has_the_same_texts() {
+    for refusal in (1..=14).filter_map(Refusal::from_number) {
+        // A list of odd length cannot be handed to the wrapper.
+        if refusal != Refusal::List {
+            let shown = refusal.to_string();
+            let (_, text) = shown.split_once(": ").expect("a number, then the text");
+            assert!(HEADER.contains(&format!("return \"{text}\";")), "{text}");
+        }
+    }
+}
+
+#[test]
+fn each_limit_is_accepted_and_the_number_beyond_it_is_not() {
+    let sizes = |slots, tasks, growth| {
+        let table = vec![0; words(slots, tasks)];
+        let started = Lane::start(table, slots, tasks, growth);
+        started.map(|_| ()).map_err(Refusal::from)
+    };
+    assert_eq!(sizes(lane::MIN_SLOTS, lane::MIN_TASKS, 0), Ok(()));
+    let most = (lane::MAX_SLOTS, lane::MAX_TASKS, lane::MAX_GROWTH);
+    assert_eq!(sizes(most.0, most.1, most.2), Ok(()));
+    for (slots, tasks, growth) in [
+        (lane::MIN_SLOTS - 1, lane::MIN_TASKS, 0),
+        (lane::MIN_SLOTS, lane::MIN_TASKS - 1, 0),
+        (most.0 + 1, most.1, most.2),
+        (most.0, most.1 + 1, most.2),
+        (most.0, most.1, most.2 + 1),
+    ] {
+        assert_eq!(sizes(slots, tasks, growth), Err(Refusal::Sizes));
+    }
+
+    let begin = |operation| {
+        let mut lane = Lane::start([0; words(4, 1)], 4, 1, 0).expect("the sizes fit");
+        lane.begin(0, operation, Side::Left)
+    };
+    let beyond = Err(Refusal::Argument);
+    assert_eq!(begin(Operation::Push(lane::MIN_BAG - 1)), beyond);
+    assert_eq!(begin(Operation::Push(lane::MIN_BAG)), Ok(()));
+    assert_eq!(begin(Operation::Push(lane::MAX_BAG)), Ok(()));
+    assert_eq!(begin(Operation::Push(lane::MAX_BAG + 1)), beyond);
+    assert_eq!(begin(Operation::Add(lane::MAX_ADD)), Ok(()));
+    assert_eq!(begin(Operation::Add(lane::MAX_ADD + 1)), beyond);
+    assert_eq!(begin(Operation::Remove(lane::MAX_REMOVE)), Ok(()));
+    assert_eq!(begin(Operation::Remove(lane::MAX_REMOVE + 1)), beyond);
+}

@@ -1,0 +1,132 @@
+//! What the wrapper reads of a table by itself, held to the library's calls, on tables from start and on damaged ones.
+
+use lane::{words, Answer, Lane, Operation, Refusal, Side};
+
+/// Numbers below a bound, the same at each run (xorshift).
+struct Random(u64);
+
+impl Random {
+    fn below(&mut self, bound: u32) -> u32 {
+        self.0 ^= self.0 << 13;
+        self.0 ^= self.0 >> 7;
+        self.0 ^= self.0 << 17;
+        (self.0 >> 32) as u32 % bound
+    }
+
+    fn operation(&mut self) -> Operation {
+        match self.below(8) {
+            0..=3 => Operation::Push(1 + self.below(99)),
+            4..=5 => Operation::Pop,
+            6 => Operation::Add(self.below(3)),
+            _ => Operation::Remove(self.below(3)),
+        }
+    }
+
+    fn side(&mut self) -> Side {
+        [Side::Left, Side::Right][self.below(2) as usize]
+    }
+}
+
+/// The bags without a buffer are those of a read; a task is busy exactly where a begin says so.
+fn same(lane: &Lane<Vec<u32>>) {
+    let mut out = [0; 16];
+    match (lane.read(&mut out), lane.bags()) {
+        (Ok(read), Ok(bags)) => assert!(bags.eq(read.iter().copied()), "{lane:?}"),
+        (read, bags) => assert_eq!(read.map(|_| ()), bags.map(|_| ())),
+    }
+    for task in 0..5 {
+        let begun = lane.clone().begin(task, Operation::Pop, Side::Left);
+        assert_eq!(
+            lane.is_busy(task),
+            match begun {
+                Ok(()) => Ok(false),
+                Err(Refusal::Busy) => Ok(true),
+                Err(refusal) => Err(refusal),
+            }
+        );
+    }
+}
+
+#[test]
+fn tables_from_start_are_read_as_the_library_reads_them() {
+    let mut random = Random(51);
+    for _ in 0..200 {
+        let (slots, tasks) = (2 + random.below(10), 1 + random.below(4));
+        let table = vec![0; words(slots, tasks)];
+        let mut lane = Lane::start(table, slots, tasks, random.below(3)).expect("the sizes fit");
+        assert_eq!((lane.slots(), lane.tasks()), (Ok(slots), Ok(tasks)));
+        for _ in 0..200 {
+            let task = random.below(tasks);
+            if lane.is_busy(task) == Ok(true) {
+                let _ = lane.tick(task, random.below(slots)).expect("a busy task");
+            } else {
+                let (operation, side) = (random.operation(), random.side());
+                lane.begin(task, operation, side).expect("an idle task");
+            }
+            same(&lane);
+        }
+        assert!(format!("{lane:?}").starts_with("Lane { slots: "));
+    }
+}
+
+#[test]
+fn damaged_tables_are_refused_as_the_library_refuses_them() {
+    let mut random = Random(52);
+    for _ in 0..20_000 {
+        let mut table = vec![0; words(4, 2)];
+        let mut lane = Lane::start(&mut table[..], 4, 2, 0).expect("the sizes fit");
+        lane.begin(1, Operation::Push(51), Side::Right)
+            .expect("idle");
+        for _ in 0..random.below(11) {
+            assert_eq!(lane.tick(1, 0), Ok(Answer::Going));
+        }
+        for _ in 0..1 + random.below(3) {
+            let place = random.below(table.len() as u32) as usize;
+            table[place] = match random.below(4) {
+                0 => random.below(6),
+                1 => 65_535,
+                2 => 1_000_000_000 + random.below(8),
+                _ => random.below(u32::MAX),
+            };
+        }
+        table.truncate(table.len() - random.below(2) as usize);
+        let lane = Lane::over(table);
+        same(&lane);
+        assert!(format!("{lane:?}").starts_with("Lane { "));
+    }
+}
+
+#[test]
+fn threads_read_one_lane_and_work_on_lanes_of_their_own() {
+    let mut shared = Lane::start(vec![0; words(8, 1)], 8, 1, 0).expect("the sizes fit");
+    let pushed = shared.call(0, Operation::Push(51), Side::Right);
+    assert_eq!(pushed, Ok(Answer::Pushed));
+    std::thread::scope(|scope| {
+        for bag in 1..=4 {
+            let shared = &shared;
+            scope.spawn(move || {
+                let mut own = Lane::start([0; words(8, 1)], 8, 1, 0).expect("the sizes fit");
+                for _ in 0..1000 {
+                    let pushed = own.call(0, Operation::Push(bag), Side::Left);
+                    assert_eq!(pushed, Ok(Answer::Pushed));
+                    let popped = own.call(0, Operation::Pop, Side::Left);
+                    assert_eq!(popped, Ok(Answer::Bag(bag)));
+                    assert_eq!(shared.read(&mut [0; 8]), Ok(&[51][..]));
+                }
+            });
+        }
+    });
+}
+
+#[test]
+fn a_call_that_never_answers_comes_back_as_going() {
+    let mut table = Lane::start(vec![0; words(8, 1)], 8, 1, 0)
+        .expect("the sizes fit")
+        .into_words();
+    // The right end's link to the left made itself, which no call does.
+    table[8 + 3] = 1;
+    let mut lane = Lane::over(table);
+    assert_eq!(lane.call(0, Operation::Pop, Side::Right), Ok(Answer::Going));
+    assert_eq!(lane.words()[5], lane::max_ticks_alone(8));
+    assert_eq!(lane.is_busy(0), Ok(true));
+}
