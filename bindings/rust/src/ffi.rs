@@ -39,18 +39,42 @@ mod library {
 // touches no word outside the slices and keeps no pointer. It takes every length, 0 included.
 
 /// Writes an empty lane: 0, or the refusal.
+///
+/// ```
+/// use lane::ffi;
+///
+/// assert_eq!(ffi::start(&mut [0; 30], 4, 1, 0), 0);
+/// assert_eq!(ffi::start(&mut [], 4, 1, 0), 2);
+/// ```
 pub fn start(table: &mut [u32], slots: u32, tasks: u32, growth: u32) -> u32 {
     let (pointer, words) = (table.as_mut_ptr(), table.len());
     unsafe { library::lane_start(pointer, words, slots, tasks, growth) }
 }
 
 /// Gives an idle task a call: 0, or the refusal.
+///
+/// ```
+/// use lane::ffi;
+///
+/// let mut table = [0; 30];
+/// assert_eq!(ffi::start(&mut table, 4, 1, 0), 0);
+/// assert_eq!(ffi::begin(&mut table, 0, 2, 0, 0), 0);
+/// assert_eq!(ffi::begin(&mut table, 0, 2, 0, 0), 8);
+/// ```
 pub fn begin(table: &mut [u32], task: u32, operation: u32, side: u32, argument: u32) -> u32 {
     let (pointer, words) = (table.as_mut_ptr(), table.len());
     unsafe { library::lane_begin(pointer, words, task, operation, side, argument) }
 }
 
 /// Makes one tick: the kind (0 to 6) times 2^32 plus the bag or 0; kind 7 for a refusal, with its number.
+///
+/// ```
+/// use lane::ffi;
+///
+/// let mut table = [0; 30];
+/// assert_eq!(ffi::start(&mut table, 4, 1, 0), 0);
+/// assert_eq!(ffi::tick(&mut table, 0, 0), 7 << 32 | 10);
+/// ```
 pub fn tick(table: &mut [u32], task: u32, hint: u32) -> u64 {
     let (pointer, words) = (table.as_mut_ptr(), table.len());
     unsafe { library::lane_tick(pointer, words, task, hint) }
@@ -58,6 +82,17 @@ pub fn tick(table: &mut [u32], task: u32, hint: u32) -> u64 {
 
 /// Makes the ticks of a list of (task, hint) pairs and writes two words for each: the ticks made times 2^32 plus the
 /// refusal that stopped the run, or 0.
+///
+/// ```
+/// use lane::ffi;
+///
+/// let mut table = [0; 30];
+/// let mut answers = [9; 10];
+/// assert_eq!(ffi::start(&mut table, 4, 1, 0), 0);
+/// assert_eq!(ffi::begin(&mut table, 0, 2, 0, 0), 0);
+/// assert_eq!(ffi::run(&mut table, &[0; 10], &mut answers), 4 << 32 | 10);
+/// assert_eq!(answers, [0, 0, 0, 0, 0, 0, 3, 0, 9, 9]);
+/// ```
 pub fn run(table: &mut [u32], list: &[u32], answers: &mut [u32]) -> u64 {
     let (pointer, words) = (table.as_mut_ptr(), table.len());
     let (out, out_words) = (answers.as_mut_ptr(), answers.len());
@@ -65,6 +100,15 @@ pub fn run(table: &mut [u32], list: &[u32], answers: &mut [u32]) -> u64 {
 }
 
 /// Writes the bags of the lane, left end first: their count, or 2^32 plus the refusal.
+///
+/// ```
+/// use lane::ffi;
+///
+/// let mut table = [0; 30];
+/// assert_eq!(ffi::start(&mut table, 4, 1, 0), 0);
+/// assert_eq!(ffi::read(&table, &mut []), 0);
+/// assert_eq!(ffi::read(&table[1..], &mut []), 1 << 32 | 3);
+/// ```
 pub fn read(table: &[u32], out: &mut [u32]) -> u64 {
     let (pointer, words) = (table.as_ptr(), table.len());
     unsafe { library::lane_read(pointer, words, out.as_mut_ptr(), out.len()) }
