@@ -148,7 +148,7 @@ uint32_t lane_begin(uint32_t *table, size_t words, uint32_t task, uint32_t opera
 /*
  * Makes one tick of a busy task. If the tick takes a free slot, it is the first one from `hint` (below the number of
  * slots) upward, going round. 0 always works: whether a slot is found does not depend on the hint. A hint just past the
- * slots in use shortens the search: a tick that takes a slot gets faster by a tenth at most.
+ * slots in use shortens the search: a tick that takes a slot gets faster by about a tenth at most.
  * Returns LANE_HIGH: the kind; LANE_LOW: the bag for LANE_BAG, the refusal (3, 4, 5, 9, 10, 11) for LANE_REFUSED, else
  * 0. Writes the tick count, the task's words and what this one tick of its call writes. After any kind but LANE_GOING
  * and LANE_REFUSED the task is idle.
