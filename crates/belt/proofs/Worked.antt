@@ -6,7 +6,7 @@ use Rattle.machine.specs.Steps.{stepIn, stepOf, isStepIn}
 use Rattle.machine.specs.Table.{link, value, task}
 use Rattle.machine.specs.Shape.{allBelow, sameWords, nodeOk, busyOk, recordOk, shapeOk}
 use Rattle.machine.specs.Allocate.{heldFrom, roots, mark, markAll, visit, visitFrom, marked, firstUnmarked, allocate}
-use Rattle.machine.specs.Lines.{writeAll, act}
+use Rattle.machine.specs.Lines.{writeAll, dcas, act}
 use Rattle.machine.specs.Calls.{
   times,
   startWords,
@@ -30,6 +30,6 @@ pub worked : beltRun paperInput ≡ paperOutput
 unfolding beltRun linesOf printed answer startCommand beginCommand tickCommand laneCommand digitsIn spaced scanByte
     scanBytes ticks beginOr beginOf formOf commandOf commandRead ℕ-discrete decLt decLe Value-discrete decode stepIn
     stepOf isStepIn link value task allBelow sameWords nodeOk busyOk recordOk shapeOk heldFrom roots mark markAll visit
-    visitFrom marked firstUnmarked allocate writeAll act times startWords start begin effectOf applied tickOn tick
+    visitFrom marked firstUnmarked allocate writeAll dcas act times startWords start begin effectOf applied tickOn tick
     laneFrom lane
 worked = refl

@@ -8,7 +8,7 @@ use Rattle.machine.specs.Steps.{stepIn, stepOf, isStepIn}
 use Rattle.machine.specs.Table.{link, value, task}
 use Rattle.machine.specs.Shape.{allBelow, sameWords, nodeOk, busyOk, recordOk, shapeOk}
 use Rattle.machine.specs.Allocate.{heldFrom, roots, mark, markAll, visit, visitFrom, marked, firstUnmarked, allocate}
-use Rattle.machine.specs.Lines.{writeAll, act}
+use Rattle.machine.specs.Lines.{writeAll, dcas, act}
 use Rattle.machine.specs.Calls.{
   times,
   startWords,
@@ -25,5 +25,5 @@ use Rattle.machine.specs.Calls.{
 pub worked : map outcomes cases ≡ map expectations cases
 unfolding outcomes plays acts tickUntil ℕ-discrete decLt decLe Value-discrete decode stepIn stepOf isStepIn link value
     task allBelow sameWords nodeOk busyOk recordOk shapeOk heldFrom roots mark markAll visit visitFrom marked
-    firstUnmarked allocate writeAll act times startWords start begin effectOf applied tickOn tick laneFrom lane
+    firstUnmarked allocate writeAll dcas act times startWords start begin effectOf applied tickOn tick laneFrom lane
 worked = refl

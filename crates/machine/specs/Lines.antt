@@ -118,7 +118,7 @@ abbrev pub through : ℕ → Task → Effect → Effect
 through x t e = if x ≟ none then refused t else e
 
 -- 01's swap of two words (the figure's DCAS): both are compared, then both are written.
-abbrev pub dcas : {P Q : Type 0} → Dec P → Dec Q → Effect → Effect → Effect
+unfoldable pub dcas : {P Q : Type 0} → Dec P → Dec Q → Effect → Effect → Effect
 dcas (yes p) (yes q) done failed = done
 dcas (yes p) (no q) done failed = failed
 dcas (no p) e done failed = failed

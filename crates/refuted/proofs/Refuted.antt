@@ -8,7 +8,7 @@ use Rattle.machine.specs.Steps.{stepIn, stepOf, isStepIn}
 use Rattle.machine.specs.Table.{link, value, task}
 use Rattle.machine.specs.Shape.{allBelow, sameWords, nodeOk, busyOk, recordOk, shapeOk}
 use Rattle.machine.specs.Allocate.{heldFrom, roots, mark, markAll, visit, visitFrom, marked, firstUnmarked, allocate}
-use Rattle.machine.specs.Lines.{writeAll, act}
+use Rattle.machine.specs.Lines.{writeAll, dcas, act}
 use Rattle.machine.specs.Answers.{plainAnswerOf, answerOf}
 use Rattle.machine.specs.Row.{pushAnswered, popAnswered, sizeAnswered, feedMade, feedRun}
 use Rattle.machine.specs.Demand3.{feedTick}
@@ -35,6 +35,6 @@ pub all-refuted : AllRefuted
 unfolding judged byRow byDefinitions ended wholeOn touchesNothing heldFromBy leftwards tickOnBy tickBy runOnBy runBy
     afterTicksBy feedTick pushAnswered popAnswered sizeAnswered feedMade feedRun bind plainAnswerOf answerOf ℕ-discrete decLt
     decLe Value-discrete decode stepIn stepOf isStepIn link value task allBelow sameWords nodeOk busyOk recordOk shapeOk
-    heldFrom roots mark markAll visit visitFrom marked firstUnmarked allocate writeAll act times startWords start begin
+    heldFrom roots mark markAll visit visitFrom marked firstUnmarked allocate writeAll dcas act times startWords start begin
     effectOf applied tickOn tick runOn run laneFrom lane
 all-refuted = (refl, refl)

@@ -28,6 +28,7 @@ both-told {q = q} {u = u} e f h = h ∙ ap (λ (b : Bool). b && q) e ∙ ap (λ 
 -- The two comparisons of a swap: of a number and of a value.
 module _ (x y : ℕ) (u v : Value) where
   pub swap-done : eqb x y && isSame u v ≡ true → (done failed : Effect) → dcas (x ≟ y) (u ≟ᵛ v) done failed ≡ done
+  unfolding dcas
   swap-done h done failed = go (x ≟ y) (u ≟ᵛ v) h
     where
       go :
@@ -40,6 +41,7 @@ module _ (x y : ℕ) (u v : Value) where
 
   pub swap-failed :
       eqb x y && isSame u v ≡ false → (done failed : Effect) → dcas (x ≟ y) (u ≟ᵛ v) done failed ≡ failed
+  unfolding dcas
   swap-failed h done failed = go (x ≟ y) (u ≟ᵛ v) h
     where
       go :

@@ -34,6 +34,7 @@ bag-meant u ok =
 module _ (u v x y : Value) where
   values-swapped :
       isSame u v && isSame x y ≡ true → (done failed : Effect) → dcas (u ≟ᵛ v) (x ≟ᵛ y) done failed ≡ done
+  unfolding dcas
   values-swapped h done failed = go (u ≟ᵛ v) (x ≟ᵛ y) h
     where
       go :
@@ -46,6 +47,7 @@ module _ (u v x y : Value) where
 
   values-kept :
       isSame u v && isSame x y ≡ false → (done failed : Effect) → dcas (u ≟ᵛ v) (x ≟ᵛ y) done failed ≡ failed
+  unfolding dcas
   values-kept h done failed = go (u ≟ᵛ v) (x ≟ᵛ y) h
     where
       go :

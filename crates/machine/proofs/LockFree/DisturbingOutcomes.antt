@@ -7,7 +7,7 @@ use Prim.Native.Nat.{ℕ, suc, _-_, _≤_, _<_}
 use native.Mathlib.Omega.{arith}
 use Rattle.machine.specs.Choice.{_≟_}
 use Rattle.machine.specs.Sides.{Side}
-use Rattle.machine.specs.Values.{N, X, Y, _≟ᵛ_}
+use Rattle.machine.specs.Values.{N, X, Y}
 use Rattle.machine.specs.Operations.{Operation, idle, push, pop, add, remove}
 use Rattle.machine.specs.Steps.{Step}
 use Rattle.machine.specs.Steps as Steps
@@ -180,8 +180,8 @@ module _ (T : ℕ) (held : ℕ → Bool) (k : ℕ) {s o : Side} {m : View} {clas
   unfolding act
   line25-outcome h b =
       passing t (t .A) (λ _.
-      ok-dcas Ok (m .out (t .A) ≟ t .B) (m .val (t .A) ≟ᵛ X s)
-      (λ _ v. splices v b (t .operation))
+      ok-dcas Ok _ _
+      (λ u v. splices (cc) b (t .operation))
       (goes (goto t Steps.line15) (in-any-case (omega arith) b)))
 
   -- ---- Line 62.
@@ -250,8 +250,8 @@ module _ (T : ℕ) (held : ℕ → Bool) (k : ℕ) {s o : Side} {m : View} {clas
   unfolding act
   line62-outcome h b =
       passing t (t .A) (λ _. passing t (t .B) (λ _.
-      ok-dcas Ok (m .val (t .A) ≟ᵛ N s) (m .val (t .B) ≟ᵛ N s)
-      (λ u v. cuts (cut-steady h u v) b (omega arith))
+      ok-dcas Ok _ _
+      (λ A-N B-N. cuts (cut-steady h (cc) (cc)) b (omega arith))
       (ended (λ q. refute (cc)))))
 
   -- ---- Line 64.

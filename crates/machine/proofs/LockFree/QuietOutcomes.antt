@@ -82,7 +82,7 @@ module _ (T : ℕ) (held : ℕ → Bool) (k : ℕ) {s o : Side} {m : View} {clas
   unfolding act
   line5-outcome h b =
       passing t (t .A) (λ _. passing t (t .B) (λ _.
-      ok-dcas Ok (m .hats s ≟ t .A) (m .val (t .A) ≟ᵛ N s) (λ _ _. ended (λ q. refute (cc)))
+      ok-dcas Ok _ _ (λ _ _. ended (λ q. refute (cc)))
       (goes (goto t Steps.line8) b)))
 
   pub line8-outcome : LineOk Steps.line8
@@ -209,14 +209,14 @@ module _ (T : ℕ) (held : ℕ → Bool) (k : ℕ) {s o : Side} {m : View} {clas
   unfolding act
   line48-outcome h b =
       passing t (t .B) (λ _.
-      ok-dcas Ok (m .hats s ≟ t .A) (m .val (t .B) ≟ᵛ t .value) (λ _ _. ended (λ q. refute (cc)))
+      ok-dcas Ok _ _ (λ _ _. ended (λ q. refute (cc)))
       (goes (goto t Steps.line39) tt))
 
   pub line51-outcome : LineOk Steps.line51
   unfolding act
   line51-outcome h b =
       passing t (t .B) (λ _.
-      ok-dcas Ok (m .hats s ≟ t .A) (m .val (t .B) ≟ᵛ t .value) (λ _ _. ended (λ q. refute (cc)))
+      ok-dcas Ok _ _ (λ _ _. ended (λ q. refute (cc)))
       (goes (goto t Steps.line39) tt))
 
   -- ---- Remove.

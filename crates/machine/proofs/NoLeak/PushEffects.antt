@@ -146,8 +146,8 @@ module _ (k : ℕ) (s o : Side) (w : Opposite s o) (m : View) (class : ℕ → C
   line5-push =
       ok-through (Ok Steps.line5) (t .A) (λ _. turned-back) (λ _.
       ok-through (Ok Steps.line5) (t .B) (λ _. turned-back) (λ _.
-      ok-dcas (Ok Steps.line5) (m .hats s ≟ t .A) (m .val (t .A) ≟ᵛ N s)
-      (λ _ v.
+      ok-dcas (Ok Steps.line5) _ _
+      (λ u v.
       record {
         far-same = updateSide-other (m .hats) s o (t .B) w;
         far-end =
@@ -236,8 +236,8 @@ module _ (k : ℕ) (s o : Side) (w : Opposite s o) (m : View) (class : ℕ → C
   unfolding act
   line25-push =
       ok-through (Ok Steps.line25) (t .A) (λ _. turned-back) (λ _.
-      ok-dcas (Ok Steps.line25) (m .out (t .A) ≟ t .B) (m .val (t .A) ≟ᵛ X s)
-      (λ _ v. by-operation (t .operation) v) (later (λ y. refute (cc)) refl refl))
+      ok-dcas (Ok Steps.line25) _ _
+      (λ u v. by-operation (t .operation) (cc)) (later (λ y. refute (cc)) refl refl))
     where
       far-kept : m .val (t .A) ≡ X s → m .val (m .hats o) ≡ X o
           → written s (out≔ (t .A) (t .D) ∷ val≔ (t .A) (N s) ∷ []) m .val (m .hats o) ≡ X o

@@ -117,7 +117,7 @@ module _ (held : ℕ → Bool) (k : ℕ) (s o : Side) (w : Opposite s o) (m : Vi
   unfolding act
   line48-cut e h u =
       past e u (t .B) (λ _.
-      ok-dcas (Ok no-duty) (m .hats s ≟ t .A) (m .val (t .B) ≟ᵛ t .value) (λ _ _. off refl) (off refl))
+      ok-dcas (Ok no-duty) _ _ (λ _ _. off refl) (off refl))
 
   pub line54-cut : LineOk Steps.line54
   unfolding act

@@ -5,7 +5,7 @@ use mathlib.Core.Bool.{Bool}
 use mathlib.Core.List.{[], _∷_}
 use Prim.Native.Nat.{ℕ}
 use Rattle.machine.specs.declared.Answer.{Answer}
-use Rattle.machine.specs.Choice.{_≟_, if_then_else_}
+use Rattle.machine.specs.Choice.{_≟_}
 use Rattle.machine.specs.Sides.{Side}
 use Rattle.machine.specs.Values.{N, X, Y, _≟ᵛ_}
 use Rattle.machine.specs.Steps.{Step}
@@ -72,7 +72,7 @@ module _ (held : ℕ → Bool) (k : ℕ) (s o : Side) (w : Opposite s o) (m : Vi
   line62-cut e h u =
       past e u (t .A) (λ _.
       past e u (t .B) (λ _.
-      ok-dcas (Ok before-cut) (m .val (t .A) ≟ᵛ N s) (m .val (t .B) ≟ᵛ N s) done
+      ok-dcas (Ok before-cut) _ _ (λ A-N B-N. done (cc) (cc))
       (goes before-cut tt (λ μ n c. absurd c))))
     where
       wA : Wrote (m .val) (t .A) (X s) (update (m .val) (t .A) (X s))

@@ -5,9 +5,9 @@ use mathlib.Core.Bool.{Bool, true}
 use mathlib.Core.List.{List, [], _∷_}
 use Prim.Native.Nat.{ℕ, suc}
 use Rattle.machine.specs.declared.Answer.{Answer}
-use Rattle.machine.specs.Choice.{_≟_, if_then_else_}
+use Rattle.machine.specs.Choice.{_≟_}
 use Rattle.machine.specs.Sides.{Side}
-use Rattle.machine.specs.Values.{bag, N, X, Y, _≟ᵛ_}
+use Rattle.machine.specs.Values.{bag, N, X, Y}
 use Rattle.machine.specs.Operations.{Operation, idle, push, pop, add, remove}
 use Rattle.machine.specs.Steps.{Step}
 use Rattle.machine.specs.Steps as Steps
@@ -55,7 +55,7 @@ module _ (held : ℕ → Bool) (k : ℕ) (s o : Side) (w : Opposite s o) (m : Vi
   line5-cut e h u =
       past e u (t .A) (λ _.
       past e u (t .B) (λ _.
-      ok-dcas (Ok no-duty) (m .hats s ≟ t .A) (m .val (t .A) ≟ᵛ N s) (λ _ _. done) (off refl)))
+      ok-dcas (Ok no-duty) _ _ (λ _ _. done) (off refl)))
     where
       wv : Wrote (m .val) (t .A) (bag (t .argument)) (update (m .val) (t .A) (bag (t .argument)))
       wv = update-wrote (m .val) (t .A) (bag (t .argument))
@@ -74,7 +74,7 @@ module _ (held : ℕ → Bool) (k : ℕ) (s o : Side) (w : Opposite s o) (m : Vi
   unfolding act
   line51-cut e h u =
       past e u (t .B) (λ _.
-      ok-dcas (Ok no-duty) (m .hats s ≟ t .A) (m .val (t .B) ≟ᵛ t .value) (λ _ _. done) (off refl))
+      ok-dcas (Ok no-duty) _ _ (λ _ _. done) (off refl))
     where
       wv : Wrote (m .val) (t .B) (N s) (update (m .val) (t .B) (N s))
       wv = update-wrote (m .val) (t .B) (N s)
@@ -136,8 +136,8 @@ module _ (held : ℕ → Bool) (k : ℕ) (s o : Side) (w : Opposite s o) (m : Vi
   unfolding act
   line25-cut e h u =
       past e u (t .A) (λ _.
-      ok-dcas (Ok no-duty) (m .out (t .A) ≟ t .B) (m .val (t .A) ≟ᵛ X s)
-      (λ _ v. by-operation v (t .operation)) (off refl))
+      ok-dcas (Ok no-duty) _ _
+      (λ u v. by-operation (cc) (t .operation)) (off refl))
     where
       l : List Write
       l = out≔ (t .A) (t .D) ∷ val≔ (t .A) (N s) ∷ []

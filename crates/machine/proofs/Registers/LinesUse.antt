@@ -118,6 +118,7 @@ module _ {st : Step} {t u : Task} where
   by-dcas : {P Q : Type 0} {e e′ f f′ : Effect} (d : Dec P) (c : Dec Q) → SameEffect st t u e f
       → SameEffect st t u e′ f′
       → SameEffect st t u (dcas d c e e′) (dcas d c f f′)
+  unfolding dcas
   by-dcas (yes p) (yes q) a b = a
   by-dcas (yes p) (no q) a b = b
   by-dcas (no p) c a b = b
@@ -167,7 +168,7 @@ module _ (s o : Side) (m : Memory) (t u : Task) (g x : ℕ) where
       (λ _. goes (line5 setting (inB ∷ [])) (inr (inl refl)) refl refl refl))
   line-same line5 =
       by-through (t .A) (by-through (t .B)
-      (by-dcas (m .hat ≟ t .A) (m .val (t .A) ≟ᵛ N s) answered (goes (to line8) (inl refl) refl refl refl)))
+      (by-dcas _ _ answered (goes (to line8) (inl refl) refl refl refl)))
   line-same line8 =
       by-through (t .A) (by-if (Next line8 (λ y. y) []) (m .val (t .A) ≟ᵛ X s)
       (λ _. goes (to line28) (inl refl) refl refl refl)
@@ -228,7 +229,7 @@ module _ (s o : Side) (m : Memory) (t u : Task) (g x : ℕ) where
       by-through (t .A) (by-through (t .D) (goes (line25 setting (inB ∷ [])) (inl refl) refl refl refl))
   line-same line25 =
       by-through (t .A)
-      (by-dcas (m .out (t .A) ≟ t .B) (m .val (t .A) ≟ᵛ X s)
+      (by-dcas _ _
       (by-splice (t .operation) (out≔ (t .A) (t .D) ∷ val≔ (t .A) (N s) ∷ []))
       (goes (to line15) (inl refl) refl refl refl))
   line-same line39 = goes (line40 setting (inA ∷ [])) (inl refl) refl refl refl
@@ -246,10 +247,10 @@ module _ (s o : Side) (m : Memory) (t u : Task) (g x : ℕ) where
       (goes (to line48) (inr (inl refl)) refl refl refl)
       (goes (to line39) (inr (inr (inl refl))) refl refl refl))
   line-same line48 =
-      by-through (t .B) (by-dcas (m .hat ≟ t .A) (m .val (t .B) ≟ᵛ t .value) answered
+      by-through (t .B) (by-dcas _ _ answered
       (goes (to line39) (inl refl) refl refl refl))
   line-same line51 =
-      by-through (t .B) (by-dcas (m .hat ≟ t .A) (m .val (t .B) ≟ᵛ t .value) answered
+      by-through (t .B) (by-dcas _ _ answered
       (goes (to line39) (inl refl) refl refl refl))
   line-same line54 =
       by-if (Next line54 (λ y. withA y (m .hat)) []) (g ≟ 0)
@@ -270,7 +271,7 @@ module _ (s o : Side) (m : Memory) (t u : Task) (g x : ℕ) where
       (goes (line62 setting (inB ∷ [])) (inl refl) refl refl refl))
   line-same line62 =
       by-through (t .A) (by-through (t .B)
-      (by-dcas (m .val (t .A) ≟ᵛ N s) (m .val (t .B) ≟ᵛ N s) (goes (to line64) (inl refl) refl refl refl) answered))
+      (by-dcas _ _ (goes (to line64) (inl refl) refl refl refl) answered))
   line-same line64 = by-through (t .A) (goes (to line74) (inl refl) refl refl refl)
   line-same line74 =
       by-through (t .B)

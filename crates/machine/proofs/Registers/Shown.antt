@@ -16,7 +16,7 @@ use Rattle.machine.specs.Steps.{Step, stepNumber, stepOf}
 use Rattle.machine.specs.Tasks.{Task, none, Register, inA, inB, inC, inD, register}
 use Rattle.machine.specs.Registers.{among, uses, Way, ways}
 use Rattle.machine.specs.Shape.{sameWords}
-use Rattle.machine.specs.Lines.{Memory, Write, out≔, inn≔, val≔, hat≔, Effect, act}
+use Rattle.machine.specs.Lines.{Memory, Write, out≔, inn≔, val≔, hat≔, Effect, dcas, act}
 use Rattle.machine.specs.Answers.{kindOf, payloadOf}
 use Rattle.machine.specs.LinesUse.{with, SameBut, UseShows, UsesShow, WaysGone}
 use Rattle.machine.proofs.Basics.Contradiction.{clash, refute}
@@ -131,7 +131,7 @@ abbrev useTried : Step → Register → Bool
 useTried st r = someSample samples (differsAt st r 4) || someSample samples (differsAt st r none)
 
 uses-tried : (st : Step) (r : Register) → implies (among (uses st) r) (useTried st r) ≡ true
-unfolding act sameWords ℕ-discrete Value-discrete
+unfolding act dcas sameWords ℕ-discrete Value-discrete
 uses-tried = each (λ st r. implies (among (uses st) r) (useTried st r)) refl
 
 abbrev setRight : Step → Way → Sample → Register → Bool
@@ -146,7 +146,7 @@ abbrev wayTried : Step → Way → Bool
 wayTried st w = someSample samples (goneAt st w)
 
 ways-tried : (st : Step) → everyWay (ways st) (wayTried st) ≡ true
-unfolding act ℕ-discrete Value-discrete
+unfolding act dcas ℕ-discrete Value-discrete
 ways-tried = each-step (λ st. everyWay (ways st) (wayTried st)) refl
 
 -- ---- Each use and each way.

@@ -205,6 +205,6 @@ module _ (S g : ℕ) (m : Memory) (M : MemoryFits S m) (t : Task) (f : ℕ) wher
   line25-fits F =
       let l = out≔ (t .A) (t .D) ∷ val≔ (t .A) (N (t .side)) ∷ [] in
       by-through S g (t .A) t (λ nA.
-      by-dcas S g (m .out (t .A) ≟ t .B) (m .val (t .A) ≟ᵛ X (t .side))
+      by-dcas S g _ _
       (spliced-fits F l ((F .A-ok nA, F .D-ok), ((F .A-ok nA, N-fits (t .side)), tt)))
       (goes-on tt (moves F (lands (part F) refl))))

@@ -100,6 +100,7 @@ module _ (S g : ℕ) where
       → Fits S g e
       → Fits S g e′
       → Fits S g (dcas d d′ e e′)
+  unfolding dcas
   by-dcas (yes h) (yes k) f f′ = f
   by-dcas (yes h) (no k) f f′ = f′
   by-dcas (no h) d′ f f′ = f′

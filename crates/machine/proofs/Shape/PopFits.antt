@@ -85,7 +85,7 @@ module _ (S g : ℕ) (m : Memory) (M : MemoryFits S m) (t : Task) (f : ℕ) wher
   unfolding act isStepIn
   line48-fits F =
       by-through S g (t .B) t (λ _.
-      by-dcas S g (m .hat ≟ t .A) (m .val (t .B) ≟ᵛ t .value)
+      by-dcas S g _ _
       (ends tt refl)
       (goes-on tt (moves F (lands (part F) refl))))
 
@@ -93,6 +93,6 @@ module _ (S g : ℕ) (m : Memory) (M : MemoryFits S m) (t : Task) (f : ℕ) wher
   unfolding act isStepIn
   line51-fits F =
       by-through S g (t .B) t (λ nB.
-      by-dcas S g (m .hat ≟ t .A) (m .val (t .B) ≟ᵛ t .value)
+      by-dcas S g _ _
       (ends (F .B-ok nB, ((F .B-ok nB, N-fits (t .side)), tt)) refl)
       (goes-on tt (moves F (lands (part F) refl))))

@@ -4,7 +4,7 @@ use mathlib.Core.Bool.{true}
 use Prim.Native.Nat.{ℕ}
 use Rattle.machine.specs.declared.Stored.{Stored}
 use Rattle.machine.specs.Choice.{_≟_}
-use Rattle.machine.specs.Values.{bag, N, X, _≟ᵛ_, stored, bagOk}
+use Rattle.machine.specs.Values.{bag, X, _≟ᵛ_, stored, bagOk}
 use Rattle.machine.specs.Operations.{Operation, idle, push, pop, add, remove, argumentOk}
 use Rattle.machine.specs.Steps.{line2, line3, line5, line8, isStepIn}
 use Rattle.machine.specs.Tasks.{Task, none}
@@ -51,7 +51,7 @@ module _ (S g : ℕ) (m : Memory) (M : MemoryFits S m) (t : Task) (f : ℕ) wher
       let fits : ValueFits (bag n) = (bag-has-word n ok, bag-value-ok (stored n) ok) in
       by-through S g (t .A) t (λ nA.
       by-through S g (t .B) t (λ nB.
-      by-dcas S g (m .hat ≟ t .A) (m .val (t .A) ≟ᵛ N (t .side))
+      by-dcas S g _ _
       (ends (F .B-ok nB, ((F .A-ok nA, fits), tt)) refl)
       (goes-on tt (moves F (lands (part F) refl)))))
 

@@ -4,7 +4,7 @@ use Prim.Native.Nat.{ℕ, suc, _<_}
 use native.Mathlib.Omega.{arith}
 use borrow.Author.Tests.{eqb-true, ltb-true, lt-ltb, le-leb}
 use Rattle.machine.specs.Choice.{_≟_, if_then_else_}
-use Rattle.machine.specs.Values.{N, X, _≟ᵛ_}
+use Rattle.machine.specs.Values.{X, _≟ᵛ_}
 use Rattle.machine.specs.Steps.{
   line54,
   line56,
@@ -120,7 +120,7 @@ module _ (S g : ℕ) (m : Memory) (M : MemoryFits S m) (t : Task) (f : ℕ) wher
   line62-fits F =
       by-through S g (t .A) t (λ nA.
       by-through S g (t .B) t (λ nB.
-      by-dcas S g (m .val (t .A) ≟ᵛ N (t .side)) (m .val (t .B) ≟ᵛ N (t .side))
+      by-dcas S g _ _
       (goes-on ((F .A-ok nA, X-fits (t .side)), ((F .B-ok nB, Y-fits (t .side)), tt))
       (moves F (lands (part F) refl)))
       (ends tt refl)))

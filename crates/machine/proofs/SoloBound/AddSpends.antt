@@ -221,12 +221,12 @@ module _ (extra S g : ℕ) (few : g ≤ 64) {s o : Side} {m : View} {class : ℕ
   unfolding act
   line25-spends (soon e h) =
       passing t (t .A) (λ _.
-      swapping (m .out (t .A) ≟ t .B) (m .val (t .A) ≟ᵛ X s)
+      swapping _ _
       (λ _ _.
       splices (omega arith) (λ t'. start-N (hat-N-after (path-ready (e .0 .path))) (omega arith)) (t .operation))
-      (λ ne. absurd (ne (e .1) (e .0 .is-X))))
+      (λ ne. absurd (ne (cc) (cc))))
   line25-spends (late h) =
       passing t (t .A) (λ _.
-      swapping (m .out (t .A) ≟ t .B) (m .val (t .A) ≟ᵛ X s)
+      swapping _ _
       (λ _ _. splices (omega arith) (λ t'. start-anywhere (omega arith)) (t .operation))
       (λ _. goes (goto t line15) (omega arith) (late (omega arith))))

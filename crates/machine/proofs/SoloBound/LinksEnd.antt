@@ -103,7 +103,7 @@ module _ (held : ℕ → Bool) (k : ℕ) (s o : Side) (m : View) (class : ℕ �
   unfolding act
   line25-ends h =
       ok-through Ok (t .A) (λ _. quiet) (λ _.
-      ok-dcas Ok (m .out (t .A) ≟ t .B) (m .val (t .A) ≟ᵛ X s) (λ _ _. by-operation (t .operation)) quiet)
+      ok-dcas Ok _ _ (λ _ _. by-operation (t .operation)) quiet)
     where
       w-out : Wrote (m .out) (t .A) (t .D) (update (m .out) (t .A) (t .D))
       w-out = update-wrote (m .out) (t .A) (t .D)
@@ -175,20 +175,20 @@ module _ (held : ℕ → Bool) (k : ℕ) (s o : Side) (m : View) (class : ℕ �
   line5-ends h =
       ok-through Ok (t .A) (λ _. quiet) (λ _.
       ok-through Ok (t .B) (λ _. quiet) (λ _.
-      ok-dcas Ok (m .hats s ≟ t .A) (m .val (t .A) ≟ᵛ N s) (λ _ _. record { links-end = E }) quiet))
+      ok-dcas Ok _ _ (λ _ _. record { links-end = E }) quiet))
 
   line51-ends : LineOk Steps.line51
   unfolding act
   line51-ends h =
       ok-through Ok (t .B) (λ _. quiet) (λ _.
-      ok-dcas Ok (m .hats s ≟ t .A) (m .val (t .B) ≟ᵛ t .value) (λ _ _. record { links-end = E }) quiet)
+      ok-dcas Ok _ _ (λ _ _. record { links-end = E }) quiet)
 
   line62-ends : LineOk Steps.line62
   unfolding act
   line62-ends h =
       ok-through Ok (t .A) (λ _. quiet) (λ _.
       ok-through Ok (t .B) (λ _. quiet) (λ _.
-      ok-dcas Ok (m .val (t .A) ≟ᵛ N s) (m .val (t .B) ≟ᵛ N s) (λ _ _. record { links-end = E }) quiet))
+      ok-dcas Ok _ _ (λ _ _. record { links-end = E }) quiet))
 
   line72-ends : LineOk Steps.line72
   unfolding act
@@ -206,7 +206,7 @@ module _ (held : ℕ → Bool) (k : ℕ) (s o : Side) (m : View) (class : ℕ �
   unfolding act
   line48-ends h =
       ok-through Ok (t .B) (λ _. quiet) (λ _.
-      ok-dcas Ok (m .hats s ≟ t .A) (m .val (t .B) ≟ᵛ t .value) (λ _ _. quiet) quiet)
+      ok-dcas Ok _ _ (λ _ _. quiet) quiet)
 
   line56-ends : LineOk Steps.line56
   unfolding act

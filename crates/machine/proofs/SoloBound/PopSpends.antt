@@ -84,20 +84,20 @@ module _ (extra S g : ℕ) {s o : Side} {m : View} {class : ℕ → Class} {r : 
   unfolding act
   line48-spends (soon e h) =
       passing t (t .B) (λ _.
-      swapping (m .hats s ≟ t .A) (m .val (t .B) ≟ᵛ t .value) (λ _ _. answered (λ q. refute (cc)))
-      (λ ne. absurd (ne (e .0) (e .1))))
+      swapping _ _ (λ _ _. answered (λ q. refute (cc)))
+      (λ ne. absurd (ne (cc) (cc))))
   line48-spends (late h) =
       passing t (t .B) (λ _.
-      swapping (m .hats s ≟ t .A) (m .val (t .B) ≟ᵛ t .value) (λ _ _. answered (λ q. refute (cc)))
+      swapping _ _ (λ _ _. answered (λ q. refute (cc)))
       (λ _. goes (goto t line39) (omega arith) (omega arith)))
 
   pub line51-spends : LineOk line51
   unfolding act
   line51-spends (soon e h) =
       passing t (t .B) (λ _.
-      swapping (m .hats s ≟ t .A) (m .val (t .B) ≟ᵛ t .value) (λ _ _. answered (λ q. refute (cc)))
-      (λ ne. absurd (ne (e .0) (e .1))))
+      swapping _ _ (λ _ _. answered (λ q. refute (cc)))
+      (λ ne. absurd (ne (cc) (cc))))
   line51-spends (late h) =
       passing t (t .B) (λ _.
-      swapping (m .hats s ≟ t .A) (m .val (t .B) ≟ᵛ t .value) (λ _ _. answered (λ q. refute (cc)))
+      swapping _ _ (λ _ _. answered (λ q. refute (cc)))
       (λ _. goes (goto t line39) (omega arith) (omega arith)))

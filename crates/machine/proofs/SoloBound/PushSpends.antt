@@ -7,7 +7,7 @@ use native.Mathlib.Omega.{arith}
 use Rattle.machine.specs.declared.Answer.the-variants.{Going}
 use Rattle.machine.specs.Choice.{_≟_}
 use Rattle.machine.specs.Sides.{Side}
-use Rattle.machine.specs.Values.{N, X, Y, _≟ᵛ_}
+use Rattle.machine.specs.Values.{X, Y, _≟ᵛ_}
 use Rattle.machine.specs.Operations.{Operation, idle, push, pop, add, remove}
 use Rattle.machine.specs.Steps.{
   Step,
@@ -132,19 +132,19 @@ module _ (extra S g : ℕ) {s o : Side} {m : View} {class : ℕ → Class} {r : 
   unfolding act
   line5-spends (push-N e v h) =
       passing t (t .A) (λ _. passing t (t .B) (λ _.
-      swapping (m .hats s ≟ t .A) (m .val (t .A) ≟ᵛ N s) (λ _ _. answered (λ q. refute (cc)))
-      (λ ne. absurd (ne e v))))
+      swapping _ _ (λ _ _. answered (λ q. refute (cc)))
+      (λ ne. absurd (ne (cc) (cc)))))
   line5-spends (push-X e v h) =
       passing t (t .A) (λ _. passing t (t .B) (λ _.
-      swapping (m .hats s ≟ t .A) (m .val (t .A) ≟ᵛ N s) (λ _ _. answered (λ q. refute (cc)))
+      swapping _ _ (λ _ _. answered (λ q. refute (cc)))
       (λ _. goes (goto t line8) (omega arith) (choose-X e v (omega arith)))))
   line5-spends (push-Y e v h) =
       passing t (t .A) (λ _. passing t (t .B) (λ _.
-      swapping (m .hats s ≟ t .A) (m .val (t .A) ≟ᵛ N s) (λ _ _. answered (λ q. refute (cc)))
+      swapping _ _ (λ _ _. answered (λ q. refute (cc)))
       (λ _. goes (goto t line8) (omega arith) (choose-Y v (omega arith)))))
   line5-spends (push-stale h) =
       passing t (t .A) (λ _. passing t (t .B) (λ _.
-      swapping (m .hats s ≟ t .A) (m .val (t .A) ≟ᵛ N s) (λ _ _. answered (λ q. refute (cc)))
+      swapping _ _ (λ _ _. answered (λ q. refute (cc)))
       (λ _. goes (goto t line8) (omega arith) (choose-stale (omega arith)))))
 
   pub line8-spends : LineOk line8

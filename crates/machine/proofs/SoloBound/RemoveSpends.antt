@@ -5,7 +5,7 @@ use Prim.Native.Nat.{ℕ, suc, _+_, _-_, _≤_}
 use native.Mathlib.Omega.{arith}
 use Rattle.machine.specs.Choice.{_≟_}
 use Rattle.machine.specs.Sides.{Side}
-use Rattle.machine.specs.Values.{N, X, _≟ᵛ_}
+use Rattle.machine.specs.Values.{X, _≟ᵛ_}
 use Rattle.machine.specs.Steps.{
   Step,
   line54,
@@ -107,7 +107,7 @@ module _ (extra S g : ℕ) (s o : Side) (m : View) (t : Task) (f n : ℕ)
   unfolding act
   line62-spends w =
       passing t (t .A) (λ _. passing t (t .B) (λ _.
-      swapping (m .val (t .A) ≟ᵛ N s) (m .val (t .B) ≟ᵛ N s)
+      swapping _ _
       (λ _ _. goes (goto t line64) (omega (arith, w .within)) (same-walk w (λ l. omega arith)))
       (λ _. answered (λ q. refute (cc)))))
 

@@ -40,6 +40,7 @@ module _ {extra S g : ℕ} {s : Side} {m : View} {n : ℕ} where
       → (P → Q → Spends extra S g s m n done)
       → ((P → Q → ⊥) → Spends extra S g s m n failed)
       → Spends extra S g s m n (dcas d e done failed)
+  unfolding dcas
   swapping (yes p) (yes q) f h = f p q
   swapping (yes p) (no q) f h = h (λ _. q)
   swapping (no p) e f h = h (λ u _. p u)

@@ -25,6 +25,7 @@ module _ (P : Effect → Type 0) where
       → (A → B → P done)
       → P failed
       → P (dcas d e done failed)
+  unfolding dcas
   ok-dcas (yes p) (yes q) f g = f p q
   ok-dcas (yes p) (no q) f g = g
   ok-dcas (no p) e f g = g

@@ -133,13 +133,11 @@ module _ (held : ℕ → Bool) (k : ℕ) {s o : Side} {m : View} {class : ℕ �
   unfolding act
   line48-ok h =
       past (t .B) (some _ (h .relies .pair .B-old))
-      (ok-dcas Ok (m .hats s ≟ t .A) (m .val (t .B) ≟ᵛ t .value) done
+      (ok-dcas Ok _ _
+      (λ hat-A B-value.
+      let q = row-empty (h .relies) (cc) (cc) in
+      answers-ok L Empty (λ e. refute (cc)) (h .belongs, q, q) (h .chain))
       (goes L refl (record { relies = tt; chain = h .chain; belongs = h .belongs })))
-    where
-      done : m .hats s ≡ t .A → m .val (t .B) ≡ t .value → Ok (answers Empty)
-      done e v =
-          let q = row-empty (h .relies) e v in
-          answers-ok L Empty (λ e. refute (cc)) (h .belongs, q, q) (h .chain)
 
   -- ---- Remove.
   pub line54-ok : LineOk line54

@@ -4,9 +4,8 @@ use mathlib.Core.Logic.{_≢_, inl, inr}
 use mathlib.Core.Bool.{Bool, true}
 use mathlib.Core.List.{List, [], _∷_}
 use Prim.Native.Nat.{ℕ}
-use Rattle.machine.specs.Choice.{_≟_}
 use Rattle.machine.specs.Sides.{Side}
-use Rattle.machine.specs.Values.{N, X, _≟ᵛ_}
+use Rattle.machine.specs.Values.{N, X}
 use Rattle.machine.specs.Operations.{Operation, idle, push, pop, add, remove}
 use Rattle.machine.specs.Steps.{Step, line24, line25}
 use Rattle.machine.specs.Tasks.{Task, none, withB}
@@ -233,5 +232,5 @@ module _ (held : ℕ → Bool) (k : ℕ) {s o : Side} {m : View} {class : ℕ �
   unfolding act
   line25-ok h =
       past (t .A) (some _ (h .relies .A-old))
-      (ok-dcas Ok (m .out (t .A) ≟ t .B) (m .val (t .A) ≟ᵛ X s) (λ _ A-X. line25-done h A-X)
+      (ok-dcas Ok _ _ (λ link-B A-X. line25-done h (cc))
       (goes L refl (record { relies = tt; chain = h .chain; belongs = h .belongs })))

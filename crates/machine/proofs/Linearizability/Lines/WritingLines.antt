@@ -90,7 +90,7 @@ module _ (held : ℕ → Bool) (k : ℕ) {s o : Side} {m : View} {class : ℕ �
   line5-ok h =
       past (t .A) (some _ (h .relies .A-old))
       (past (t .B) (some _ (h .relies .B-old))
-      (ok-dcas Ok (m .hats s ≟ t .A) (m .val (t .A) ≟ᵛ N s) done
+      (ok-dcas Ok _ _ (λ hat-A read. done (cc) (cc))
       (goes L refl (record { relies = h .relies .A-old; chain = h .chain; belongs = h .belongs }))))
     where
       done : m .hats s ≡ t .A
@@ -121,7 +121,7 @@ module _ (held : ℕ → Bool) (k : ℕ) {s o : Side} {m : View} {class : ℕ �
   unfolding act
   line51-ok h =
       past (t .B) (some _ (h .relies .pair .B-old))
-      (ok-dcas Ok (m .hats s ≟ t .A) (m .val (t .B) ≟ᵛ t .value) done
+      (ok-dcas Ok _ _ (λ hat-A read. done (cc) (cc))
       (goes L refl (record { relies = tt; chain = h .chain; belongs = h .belongs })))
     where
       done : m .hats s ≡ t .A
@@ -337,5 +337,5 @@ module _ (held : ℕ → Bool) (k : ℕ) {s o : Side} {m : View} {class : ℕ �
   line62-ok h =
       past (t .A) (some _ (h .relies .A-old))
       (past (t .B) (some _ (h .relies .B-old))
-      (ok-dcas Ok (m .val (t .A) ≟ᵛ N s) (m .val (t .B) ≟ᵛ N s) (line62-done h)
+      (ok-dcas Ok _ _ (λ A-N B-N. line62-done h (cc) (cc))
       (answers-ok L No (λ e. refute (cc)) (inr (h .belongs), refl) (h .chain))))
