@@ -2,7 +2,7 @@
 use mathlib.Core.Path.{_≡_, refl, ap, _∙_}
 use mathlib.Core.Bool.{Bool, true, false, cond}
 use mathlib.Core.List.{List, [], _∷_, _++_}
-use Prim.Native.Nat.{ℕ, zero, suc, _+_}
+use Prim.Native.Nat.{ℕ, zero, suc}
 use lib.Dec.{ltb}
 use Rattle.machine.specs.Shape.{WellFormed}
 use Rattle.machine.specs.Sides.{Side, left, right}
@@ -62,8 +62,7 @@ unrecorded-put-all s (w ∷ l) c =
 
 -- ---- The same nodes are held, so the same node is taken.
 held-same : (t u : Task) → AgreeOn (holds (t .step)) t u → heldBy u ≡ heldBy t
-held-same t u e =
-    λ i. one inA i ∷ one inB i ∷ one inC i ∷ one inD i ∷ []
+held-same t u e = cc (one inA, one inB, one inC, one inD)
   where
     once : (b : Bool) (x y : ℕ) → cond b (cond b x y) none ≡ cond b x none
     once true x y = refl

@@ -91,10 +91,24 @@ register-task ws k r n = by (k <? taskCount ws) n
 
 -- What is said of each root is said of each hat and of what each register of a task holds, and conversely.
 module _ (ws : List ℕ) (P : ℕ → Type 0) where
+  -- What a task holds is what its registers hold, in any order.
+  module _ (t : Task) (xs : List ℕ) where
+    each-heldBy : ((r : Register) → P (heldIn t r)) → Each P xs → Each P (heldBy t ++ xs)
+    each-heldBy f e = search (f inA, f inB, f inC, f inD)
+
+    heldBy-register : Each P (heldBy t ++ xs) → (r : Register) → P (heldIn t r)
+    heldBy-register e inA = search
+    heldBy-register e inB = search
+    heldBy-register e inC = search
+    heldBy-register e inD = search
+
+    beside-heldBy : Each P (heldBy t ++ xs) → Each P xs
+    beside-heldBy e = search
+
   each-held : ((k : ℕ) (r : Register) → P (heldIn (task ws k) r)) → (n k : ℕ) → Each P (heldFrom ws n k)
   unfolding heldFrom
   each-held f zero k = record {}
-  each-held f (suc n) k = (f k inA, (f k inB, (f k inC, (f k inD, each-held f n (suc k)))))
+  each-held f (suc n) k = each-heldBy (task ws k) (heldFrom ws n (suc k)) (f k) (each-held f n (suc k))
 
   -- A root is a hat or what a register of a task holds.
   pub each-root : ((s : Side) → P (hat ws s)) → ((k : ℕ) (r : Register) → P (heldIn (task ws k) r))
@@ -108,20 +122,18 @@ module _ (ws : List ℕ) (P : ℕ → Type 0) where
   root-hat e left = e .0
   root-hat e right = e .1 .0
 
-  heldBy-register : (t : Task) (xs : List ℕ) → Each P (heldBy t ++ xs) → (r : Register) → P (heldIn t r)
-  heldBy-register t xs e inA = e .0
-  heldBy-register t xs e inB = e .1 .0
-  heldBy-register t xs e inC = e .1 .1 .0
-  heldBy-register t xs e inD = e .1 .1 .1 .0
-
   held-register : (n k j : ℕ) (r : Register) → Each P (heldFrom ws n k) → k ≤ j → j < n + k
       → P (heldIn (task ws j) r)
   unfolding heldFrom
   held-register zero k j r e a b = absurd (omega arith)
-  held-register (suc n) k j r e a b = by (j ≟ k) (λ l. held-register n (suc k) j r (e .1 .1 .1 .1) l (omega arith))
+  held-register (suc n) k j r e a b =
+      by (j ≟ k) (λ l. held-register n (suc k) j r (beside-heldBy (task ws k) rest e) l (omega arith))
     where
+      rest : List ℕ
+      rest = heldFrom ws n (suc k)
+
       by : Dec (j ≡ k) → (suc k ≤ j → P (heldIn (task ws j) r)) → P (heldIn (task ws j) r)
-      by (yes q) later = rw q (heldBy-register (task ws k) (heldFrom ws n (suc k)) e r)
+      by (yes q) later = rw q (heldBy-register (task ws k) rest e r)
       by (no q) later = later (omega arith)
 
   -- What a register of a task holds is a root.
