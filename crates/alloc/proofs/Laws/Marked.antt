@@ -15,7 +15,7 @@ use Rattle.machine.specs.Registers.{heldIn}
 use Rattle.machine.specs.Table.{headerLength, nodeCount, taskCount, linkWord, link, recordWords, task}
 use Rattle.machine.specs.Allocate.{heldBy, heldFrom, roots, Marking, mark, markAll, visit}
 use Rattle.machine.proofs.Basics.Choices.{if-yes}
-use Rattle.machine.proofs.SlotRule.Marking.{Room, room-markAll, visit-markAll}
+use Rattle.machine.proofs.SlotRule.Marking.{Room, room-markAll}
 use Rattle.layout.specs.declared.tasks.Task as Coded
 use Rattle.layout.specs.Coded.{linkIn, structOf, taskMeant}
 use Rattle.layout.proofs.Laws.Views.{link-there, task-read}
@@ -99,4 +99,5 @@ module _ (ws : List ℕ) (m : Marking) (ready : Searchable ws m) (i : ℕ) (queu
 
   pub links-marked : (x y : ℕ) (v : Marking) → x ≡ linkIn after-header left visited
       → y ≡ linkIn after-header right visited → v ≡ markAll (nodeCount ws) m (x ∷ y ∷ []) → v ≡ visit ws m i
-  links-marked x y v e f g = rw (visit-markAll ws m i, ← link-read left x e, ← link-read right y f) g
+  unfolding visit markAll
+  links-marked x y v e f g = rw (← link-read left x e, ← link-read right y f) g

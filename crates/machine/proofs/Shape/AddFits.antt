@@ -2,7 +2,7 @@
 use Rattle.machine.specs.Answers.{refusalOf}
 use mathlib.Core.Option.{none as nothing}
 use mathlib.Core.Path.{_≡_, refl}
-use mathlib.Core.List.{List, [], _∷_}
+use mathlib.Core.List.{List}
 use Prim.Native.Nat.{ℕ, suc, _<_}
 use native.Mathlib.Omega.{arith}
 use borrow.Author.Tests.{ltb-true, lt-ltb, le-leb}
@@ -26,7 +26,7 @@ use Rattle.machine.specs.Steps.{
   isStepIn,
 }
 use Rattle.machine.specs.Tasks.{Task, none, goal, goto, withD, withCounted}
-use Rattle.machine.specs.Lines.{Memory, Write, out≔, val≔, spliced, act, noNode}
+use Rattle.machine.specs.Lines.{Memory, Write, spliced, act, noNode}
 use Rattle.machine.proofs.Basics.Choices.{by-if}
 use Rattle.machine.proofs.Shape.BusyLaws.{NodeOrNone, BusyAt, BusyFacts}
 use Rattle.machine.proofs.Shape.Fits.{
@@ -35,9 +35,8 @@ use Rattle.machine.proofs.Shape.Fits.{
   goes-on,
   ends,
   MemoryFits,
-  N-fits,
-  X-fits,
   none-fits,
+  fitting,
   LineFits,
   by-through,
   by-dcas,
@@ -86,7 +85,7 @@ module _ (S g : ℕ) (m : Memory) (M : MemoryFits S m) (t : Task) (f : ℕ) wher
   unfolding act
   line72-fits F =
       by-through S g (t .C) t (λ nC.
-      goes-on (by-if (WritesFit S) (m .hat ≟ t .A) (λ _. (F .C-ok nC, tt)) (λ _. tt))
+      goes-on (by-if (WritesFit S) (m .hat ≟ t .A) (λ _. search fitting) (λ _. tt))
       (moves F (back-lands t (part F))))
 
 -- ---- 28 and 31: nodes are taken for a chain.
@@ -102,7 +101,7 @@ module _ (S g : ℕ) (m : Memory) (M : MemoryFits S m) (t : Task) (f : ℕ) (f-o
   unfolding act isStepIn
   line28-fits F =
       by-if (Fits S g) (f ≟ none) (λ _. ends tt (no-node-answers (t .operation))) (λ nf.
-      goes-on ((f-ok nf, none-fits), ((f-ok nf, none-fits), ((f-ok nf, X-fits (t .side)), tt)))
+      goes-on (search (fitting, f-ok))
       (by-if (λ st. BusyFacts S g (goto t′ st)) (goal g t ≟ 0) alone more))
     where
       t′ : Task
@@ -123,7 +122,7 @@ module _ (S g : ℕ) (m : Memory) (M : MemoryFits S m) (t : Task) (f : ℕ) (f-o
   line31-fits F =
       by-through S g (t .D) t (λ nD.
       by-if (Fits S g) (f ≟ none) (λ _. goes-on tt (moves F (lands (part F) refl))) (λ nf.
-      goes-on ((f-ok nf, N-fits (t .side)), ((f-ok nf, none-fits), ((f-ok nf, F .D-ok), ((F .D-ok nD, f-ok), tt))))
+      goes-on (search (fitting, f-ok))
       (by-if (λ st. BusyFacts S g (goto t′ st)) (n ≟ goal g t) done more)))
     where
       n : ℕ
@@ -183,7 +182,7 @@ module _ (S g : ℕ) (m : Memory) (M : MemoryFits S m) (t : Task) (f : ℕ) wher
   line24-fits F =
       by-through S g (t .A) t (λ _.
       by-through S g (t .D) t (λ nD.
-      goes-on ((F .D-ok nD, F .A-ok), tt) (moves-B F (lands (part F) refl) (M .out-ok (t .A)))))
+      goes-on (search fitting) (moves-B F (lands (part F) refl) (M .out-ok (t .A)))))
 
   -- A push goes back to 2 with D none and counted 0; every other operation ends.
   spliced-fits : BusyAt S g line25 t → (l : List Write) → WritesFit S l → Fits S g (spliced (t .operation) l t)
@@ -203,8 +202,7 @@ module _ (S g : ℕ) (m : Memory) (M : MemoryFits S m) (t : Task) (f : ℕ) wher
   pub line25-fits : LineFits S g m t f line25
   unfolding act isStepIn
   line25-fits F =
-      let l = out≔ (t .A) (t .D) ∷ val≔ (t .A) (N (t .side)) ∷ [] in
       by-through S g (t .A) t (λ nA.
       by-dcas S g _ _
-      (spliced-fits F l ((F .A-ok nA, F .D-ok), ((F .A-ok nA, N-fits (t .side)), tt)))
+      (spliced-fits F _ (search fitting))
       (goes-on tt (moves F (lands (part F) refl))))

@@ -34,7 +34,7 @@ use Rattle.machine.proofs.Words.ValueLaws.{
   mark-has-word,
   mark-value-ok,
 }
-use Rattle.machine.proofs.Shape.BusyLaws.{NodeOrNone, BusyAt, BusyFacts}
+use Rattle.machine.proofs.Shape.BusyLaws.{NodeOrNone, BusyAt, BusyFacts, value-read-ok}
 
 -- ---- Writes, effects and memories that fit.
 abbrev pub ValueFits : Value → Type 0
@@ -81,6 +81,25 @@ Y-fits s = (mark-has-word {s = s} Y-mark, mark-value-ok {s = s} Y-mark)
 
 pub none-fits : {S : ℕ} → NodeOrNone S none
 none-fits n = absurd (n refl)
+
+-- What a task t may write, of which its line makes a choice: its registers, the value that it read, a mark, none.
+module _ {S g : ℕ} {st : Step} (t : Task) (F : BusyAt S g st t) where
+  pub A-fits : NodeOrNone S (t .A)
+  A-fits = F .A-ok
+
+  pub B-fits : NodeOrNone S (t .B)
+  B-fits = F .B-ok
+
+  pub C-fits : NodeOrNone S (t .C)
+  C-fits = F .C-ok
+
+  pub D-fits : NodeOrNone S (t .D)
+  D-fits = F .D-ok
+
+  pub read-fits : ValueFits (t .value)
+  read-fits = (F .has-word, value-read-ok F)
+
+pub ruleset fitting = (A-fits, B-fits, C-fits, D-fits, read-fits, N-fits, X-fits, Y-fits, none-fits)
 
 -- A line fits, for a task t that stands at it, sees m and would take the node f.
 abbrev pub LineFits : (S growth : ℕ) → Memory → Task → (f : ℕ) → Step → Type 0

@@ -12,7 +12,7 @@ use Rattle.machine.specs.Lines.{Memory, afterRead, act}
 use Rattle.machine.proofs.Basics.Tests.{or-left, or-right}
 use Rattle.machine.proofs.Words.ValueLaws.{HasWord, decoded-bag, stored-same}
 use Rattle.machine.proofs.Shape.BusyLaws.{BusyAt, BusyFacts}
-use Rattle.machine.proofs.Shape.Fits.{ValueFits, goes-on, ends, MemoryFits, N-fits, LineFits, by-through, by-dcas}
+use Rattle.machine.proofs.Shape.Fits.{ValueFits, goes-on, ends, MemoryFits, fitting, LineFits, by-through, by-dcas}
 use Rattle.machine.proofs.Shape.Moves.{
   lands,
   lands-if,
@@ -94,5 +94,5 @@ module _ (S g : ℕ) (m : Memory) (M : MemoryFits S m) (t : Task) (f : ℕ) wher
   line51-fits F =
       by-through S g (t .B) t (λ nB.
       by-dcas S g _ _
-      (ends (F .B-ok nB, ((F .B-ok nB, N-fits (t .side)), tt)) refl)
+      (ends (search fitting) refl)
       (goes-on tt (moves F (lands (part F) refl))))

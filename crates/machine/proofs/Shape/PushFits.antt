@@ -12,7 +12,7 @@ use Rattle.machine.specs.Lines.{Memory, act}
 use Rattle.machine.proofs.Basics.Contradiction.{clash}
 use Rattle.machine.proofs.Words.ValueLaws.{bag-has-word, bag-value-ok}
 use Rattle.machine.proofs.Words.StepLaws.{pushing, growing, hasPart}
-use Rattle.machine.proofs.Shape.Fits.{ValueFits, goes-on, ends, MemoryFits, LineFits, by-through, by-dcas}
+use Rattle.machine.proofs.Shape.Fits.{ValueFits, goes-on, ends, MemoryFits, fitting, LineFits, by-through, by-dcas}
 use Rattle.machine.proofs.Shape.Moves.{lands, lands-if, part, moves, moves-A, moves-B}
 
 -- Only a push has these lines: it may go on to those of an add, and its argument is a bag.
@@ -52,7 +52,7 @@ module _ (S g : ℕ) (m : Memory) (M : MemoryFits S m) (t : Task) (f : ℕ) wher
       by-through S g (t .A) t (λ nA.
       by-through S g (t .B) t (λ nB.
       by-dcas S g _ _
-      (ends (F .B-ok nB, ((F .A-ok nA, fits), tt)) refl)
+      (ends (search fitting) refl)
       (goes-on tt (moves F (lands (part F) refl)))))
 
   pub line8-fits : LineFits S g m t f line8

@@ -30,9 +30,7 @@ use Rattle.machine.proofs.Shape.Fits.{
   goes-on,
   ends,
   MemoryFits,
-  X-fits,
-  Y-fits,
-  none-fits,
+  fitting,
   LineFits,
   by-through,
   by-dcas,
@@ -121,15 +119,14 @@ module _ (S g : ℕ) (m : Memory) (M : MemoryFits S m) (t : Task) (f : ℕ) wher
       by-through S g (t .A) t (λ nA.
       by-through S g (t .B) t (λ nB.
       by-dcas S g _ _
-      (goes-on ((F .A-ok nA, X-fits (t .side)), ((F .B-ok nB, Y-fits (t .side)), tt))
-      (moves F (lands (part F) refl)))
+      (goes-on (search fitting) (moves F (lands (part F) refl)))
       (ends tt refl)))
 
   pub line64-fits : LineFits S g m t f line64
   unfolding act isStepIn
   line64-fits F =
       by-through S g (t .A) t (λ nA.
-      goes-on (by-if (WritesFit S) (m .out (t .A) ≟ t .B) (λ _. ((F .A-ok nA, none-fits), tt)) (λ _. tt))
+      goes-on (by-if (WritesFit S) (m .out (t .A) ≟ t .B) (λ _. search fitting) (λ _. tt))
       (moves F (lands (part F) refl)))
 
 -- ---- 74 to 82: the nodes cut off are marked and unlinked.
@@ -154,14 +151,14 @@ module _ (S g : ℕ) (m : Memory) (M : MemoryFits S m) (t : Task) (f : ℕ) wher
   line78-fits F =
       by-through S g (t .B) t (λ nB.
       by-if (Fits S g) (m .val (t .B) ≟ᵛ t .value)
-      (λ _. goes-on ((F .B-ok nB, Y-fits (t .side)), tt) (moves F (lands (part F) refl)))
+      (λ _. goes-on (search fitting) (moves F (lands (part F) refl)))
       (λ _. goes-on tt (moves F (lands (part F) refl))))
 
   pub line79-fits : LineFits S g m t f line79
   unfolding act isStepIn
   line79-fits F =
       by-through S g (t .A) t (λ nA.
-      goes-on ((F .A-ok nA, none-fits), tt) (moves-A F (lands (part F) refl) (F .B-ok)))
+      goes-on (search fitting) (moves-A F (lands (part F) refl) (F .B-ok)))
 
   pub line81-fits : LineFits S g m t f line81
   unfolding act isStepIn
@@ -180,4 +177,4 @@ module _ (S g : ℕ) (m : Memory) (M : MemoryFits S m) (t : Task) (f : ℕ) wher
 
   pub line82-fits : LineFits S g m t f line82
   unfolding act
-  line82-fits F = by-through S g (t .A) t (λ nA. ends ((F .A-ok nA, none-fits), tt) refl)
+  line82-fits F = by-through S g (t .A) t (λ nA. ends (search fitting) refl)

@@ -169,6 +169,9 @@ room-mark {S} {m} r x = mark-elim S m x (Room S) (room-enqueue r x) (λ _. r)
 pub mark-grows : {S : ℕ} {m : Marking} → Room S m → (x : ℕ) → Grows m (mark S m x)
 mark-grows {S} {m} r x = mark-elim S m x (Grows m) (enqueue-grows r x) (λ _. grows-refl m)
 
+mark-keeps : {S : ℕ} {m : Marking} → Room S m → (x y : ℕ) → HasMark m y → HasMark (mark S m x) y
+mark-keeps r x y f = mark-grows r x .stays y f
+
 pub mark-marks : {S : ℕ} {m : Marking} → Room S m → (x : ℕ) → x < S → HasMark (mark S m x) x
 mark-marks {S} {m} r x l = mark-elim S m x (λ v. HasMark v x) (enqueue-marks r x) (λ f. f l)
 
@@ -195,42 +198,23 @@ markAll-marks r [] = record {}
 markAll-marks r (x ∷ xs) =
     (λ l. markAll-grows (room-mark r x) xs .stays x (mark-marks r x l), markAll-marks (room-mark r x) xs)
 
--- ---- A visit: both links of a queued node marked, which is a list of two marked.
-abbrev pub linksOf : List ℕ → ℕ → List ℕ
-linksOf ws x = link ws left x ∷ link ws right x ∷ []
-
-module _ (ws : List ℕ) (P : ℕ → Type 0) (x : ℕ) where
-  pub each-link : ((s : Side) → P (link ws s x)) → Each P (linksOf ws x)
-  each-link f = (f left, (f right, record {}))
-
-  pub link-of-each : Each P (linksOf ws x) → (s : Side) → P (link ws s x)
-  link-of-each e left = e .0
-  link-of-each e right = e .1 .0
-
-pub visit-markAll : (ws : List ℕ) (m : Marking) (i : ℕ)
-    → visit ws m i ≡ markAll (nodeCount ws) m (linksOf ws (getD (m .queue) i 0))
-unfolding visit markAll
-visit-markAll ws m i = refl
-
--- Of the two links, those that are nodes have a mark.
+-- ---- A visit: both links of a queued node marked. Of the two, those that are nodes have a mark.
 abbrev pub LinksMarked : List ℕ → Marking → ℕ → Type 0
 LinksMarked ws m x = (s : Side) → link ws s x < nodeCount ws → HasMark m (link ws s x)
 
 module _ (ws : List ℕ) {m : Marking} (r : Room (nodeCount ws) m) (i : ℕ) where
-  abbrev visited : ℕ
-  visited = getD (m .queue) i 0
-
   pub room-visit : Room (nodeCount ws) (visit ws m i)
-  room-visit = rw (visit-markAll ws m i) (room-markAll r (linksOf ws visited))
+  unfolding visit
+  room-visit = room-mark (room-mark r _) _
 
   pub visit-grows : Grows m (visit ws m i)
-  visit-grows = rw (visit-markAll ws m i) (markAll-grows r (linksOf ws visited))
+  unfolding visit
+  visit-grows = grows-trans (mark-grows r _) (mark-grows (room-mark r _) _)
 
-  pub visit-marks : LinksMarked ws (visit ws m i) visited
-  visit-marks =
-      rw (visit-markAll ws m i)
-      (link-of-each ws (λ y. y < nodeCount ws → HasMark (markAll (nodeCount ws) m (linksOf ws visited)) y) visited
-      (markAll-marks r (linksOf ws visited)))
+  pub visit-marks : LinksMarked ws (visit ws m i) (getD (m .queue) i 0)
+  unfolding visit
+  visit-marks left l = search (mark-marks, mark-keeps, room-mark)
+  visit-marks right l = search (mark-marks, mark-keeps, room-mark)
 
 -- ---- One turn of the loop over the queue. Room bounds the tail, so the turns do not run out before the queue does.
 pub visitFrom-next : (ws : List ℕ) (n i : ℕ) (m : Marking) → i < m .tail

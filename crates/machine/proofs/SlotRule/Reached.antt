@@ -45,10 +45,7 @@ use Rattle.machine.proofs.SlotRule.Marking.{
   Each,
   room-markAll,
   markAll-marks,
-  linksOf,
-  each-link,
   LinksMarked,
-  visit-markAll,
   room-visit,
   visit-grows,
   visit-marks,
@@ -192,9 +189,9 @@ module _ (ws : List ℕ) where
     pub closed : (j : ℕ) → j < i → LinksMarked ws m (getD (m .queue) j 0)
 
   visit-sound : {m : Marking} (i : ℕ) → Visited m i → i < m .tail → Sound ws (visit ws m i)
+  unfolding visit
   visit-sound {m} i v l =
-      rw (visit-markAll ws m i)
-      (markAll-sound (v .room) (v .sound) (linksOf ws x) (each-link ws (λ y. y < S → Reachable ws y) x next))
+      mark-sound (room-mark (v .room) _) (mark-sound (v .room) (v .sound) _ (next _)) _ (next _)
     where
       x : ℕ
       x = getD (m .queue) i 0

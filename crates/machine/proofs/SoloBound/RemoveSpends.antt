@@ -1,9 +1,9 @@
 -- The lines of remove: a walk outward, then the nodes cut off, one by one, to their end.
-use mathlib.Core.Path.{_≡_, refl, sym, subst}
+use mathlib.Core.Path.{refl, sym, subst}
 use mathlib.Core.Logic.{_≢_}
-use Prim.Native.Nat.{ℕ, suc, _+_, _-_, _≤_}
+use Prim.Native.Nat.{ℕ, suc, _+_, _≤_}
 use native.Mathlib.Omega.{arith}
-use Rattle.machine.specs.Choice.{_≟_}
+use Rattle.machine.specs.Choice.{_≟_, if_then_else_}
 use Rattle.machine.specs.Sides.{Side}
 use Rattle.machine.specs.Values.{X, _≟ᵛ_}
 use Rattle.machine.specs.Steps.{
@@ -22,7 +22,7 @@ use Rattle.machine.specs.Steps.{
   line82,
 }
 use Rattle.machine.specs.Tasks.{Task, none, goto, withA, withB, withValue, withCounted}
-use Rattle.machine.specs.Lines.{Effect, next, writing, act}
+use Rattle.machine.specs.Lines.{Effect, next, writing, through, act}
 use Rattle.machine.proofs.Basics.Contradiction.{refute}
 use Rattle.machine.proofs.Basics.Updates.{Wrote, update-wrote}
 use Rattle.machine.proofs.Words.Memories.{View, seenIn}
@@ -31,7 +31,6 @@ use Rattle.machine.proofs.SoloBound.Walks.{EndsWithin, ends-on, ends-cu
 use Rattle.machine.proofs.SoloBound.Budget.{
   walkTicks,
   Walking,
-  Reading,
   reads-Y,
   reads,
   marks-Y,
@@ -140,27 +139,22 @@ module _ (extra S g : ℕ) (s o : Side) (m : View) (t : Task) (f n : ℕ)
       (marks refl (same-walk w (λ l. omega arith))))
 
   -- Line 78, with a swap that is done, and one that fails.
-  by-swap : (m .val (t .B) ≡ t .value → (1 ≤ n) × Walking extra (m .out) (t .B) 3 (n - 1))
-      → (m .val (t .B) ≢ t .value → (1 ≤ n) × Reading extra s m (t .B) (n - 1))
-      → Ok (act line78 s o (seenIn s m) t g f)
-  unfolding act
-  by-swap done failed =
-      passing t (t .B) (λ _.
-      ok-if Ok (λ e. e) (m .val (t .B) ≟ᵛ t .value)
-      (λ e. goes (goto t line79) (done e .0) (done e .1))
-      (λ ne. goes (goto t line77) (failed ne .0) (failed ne .1)))
+  by-swap : {done failed : Effect} → Ok done → (m .val (t .B) ≢ t .value → Ok failed)
+      → Ok (through (t .B) t (if m .val (t .B) ≟ᵛ t .value then done else failed))
+  by-swap done failed = passing t (t .B) (λ _. ok-if Ok (λ e. e) (m .val (t .B) ≟ᵛ t .value) (λ _. done) failed)
 
   pub line78-spends : LineOk line78
+  unfolding act
   line78-spends (marks-Y e v w) =
-      by-swap (λ _. (omega (arith, w .within), same-walk w (λ l. omega arith))) (λ ne. absurd (ne e))
+      by-swap (goes _ (omega (arith, w .within)) (same-walk w (λ l. omega arith))) (λ ne. absurd (ne e))
   line78-spends (marks e w) =
-      by-swap (λ _. (omega (arith, w .within), same-walk w (λ l. omega arith))) (λ ne. absurd (ne e))
+      by-swap (goes _ (omega (arith, w .within)) (same-walk w (λ l. omega arith))) (λ ne. absurd (ne e))
   line78-spends (fails-once v w) =
-      by-swap (λ _. (omega (arith, w .within), same-walk w (λ l. omega arith)))
-      (λ _. (omega (arith, w .within), reads-Y v (same-walk w (λ l. omega arith))))
+      by-swap (goes _ (omega (arith, w .within)) (same-walk w (λ l. omega arith)))
+      (λ _. goes _ (omega (arith, w .within)) (reads-Y v (same-walk w (λ l. omega arith))))
   line78-spends (fails w) =
-      by-swap (λ _. (omega (arith, w .within), same-walk w (λ l. omega arith)))
-      (λ _. (omega (arith, w .within), reads (same-walk w (λ l. omega arith))))
+      by-swap (goes _ (omega (arith, w .within)) (same-walk w (λ l. omega arith)))
+      (λ _. goes _ (omega (arith, w .within)) (reads (same-walk w (λ l. omega arith))))
 
   pub line79-spends : LineOk line79
   unfolding act
