@@ -52,7 +52,7 @@ module _ (T : ℕ) {held : ℕ → Bool} (k : ℕ) {s o : Side} {m : View} {clas
   pub line24-outcome : LineOk Steps.line24
   unfolding act
   line24-outcome h b =
-      passing t (t .A) (λ _. passing t (t .D) (λ _.
+      passing t (λ _. passing t (λ _.
       untouched (inn≔ (t .D) (t .A) ∷ []) (goto (withB t (m .out (t .A))) Steps.line25) refl
       (λ x _ x-old. record { same-out = refl; same-inn = not-D x x-old; same-val = refl })
       (at-end b)))
@@ -75,8 +75,8 @@ module _ (T : ℕ) {held : ℕ → Bool} (k : ℕ) {s o : Side} {m : View} {clas
   pub line28-outcome : (f ≢ none → TakeOk held m class f) → LineOk Steps.line28
   unfolding act
   line28-outcome free-f h b =
-      ok-if Ok (λ e. e) (f ≟ none) (λ _. ended (no-node-answers (t .operation))) (λ some.
-      ok-if Ok (λ st. writing taken (next (withCounted (withD t f) 0) st)) (g ≟ 0)
+      ok-if Ok (λ e. e) (_ ≟ _) (λ _. ended (no-node-answers (t .operation))) (λ some.
+      ok-if Ok (λ st. writing taken (next (withCounted (withD t f) 0) st)) (_ ≟ _)
       (λ _. untouched taken (goto (withCounted (withD t f) 0) Steps.line15) refl (same some) b)
       (λ _. untouched taken (goto (withCounted (withD t f) 0) Steps.line31) refl (same some) b))
     where
@@ -96,9 +96,9 @@ module _ (T : ℕ) {held : ℕ → Bool} (k : ℕ) {s o : Side} {m : View} {clas
   pub line31-outcome : (f ≢ none → TakeOk held m class f) → LineOk Steps.line31
   unfolding act
   line31-outcome free-f h b =
-      passing t (t .D) (λ _.
-      ok-if Ok (λ e. e) (f ≟ none) (λ _. goes (goto t Steps.line15) b) (λ some.
-      ok-if Ok (λ st. writing taken (next one-more st)) (suc (t .counted) ≟ g)
+      passing t (λ _.
+      ok-if Ok (λ e. e) (_ ≟ _) (λ _. goes (goto t Steps.line15) b) (λ some.
+      ok-if Ok (λ st. writing taken (next one-more st)) (_ ≟ _)
       (λ _. untouched taken (goto one-more Steps.line15) refl (same some) b)
       (λ _. untouched taken (goto one-more Steps.line31) refl (same some) b)))
     where
@@ -124,8 +124,8 @@ module _ (T : ℕ) {held : ℕ → Bool} (k : ℕ) {s o : Side} {m : View} {clas
   pub line78-outcome : LineOk Steps.line78
   unfolding act
   line78-outcome h b =
-      passing t (t .B) (λ _.
-      ok-if Ok (λ e. e) (m .val (t .B) ≟ᵛ t .value)
+      passing t (λ _.
+      ok-if Ok (λ e. e) (_ ≟ᵛ _)
       (λ _. is-calm calm tt)
       (λ _. goes (goto t Steps.line77) tt))
     where
@@ -151,7 +151,7 @@ module _ (T : ℕ) {held : ℕ → Bool} (k : ℕ) {s o : Side} {m : View} {clas
   pub line79-outcome : LineOk Steps.line79
   unfolding act
   line79-outcome h b =
-      passing t (t .A) (λ _. is-calm calm tt)
+      passing t (λ _. is-calm calm tt)
     where
       calm : Calm held class m (written s (out≔ (t .A) none ∷ []) m)
       calm =

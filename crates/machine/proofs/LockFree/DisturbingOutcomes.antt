@@ -179,7 +179,7 @@ module _ (T : ℕ) (held : ℕ → Bool) (k : ℕ) {s o : Side} {m : View} {clas
   pub line25-outcome : LineOk Steps.line25
   unfolding act
   line25-outcome h b =
-      passing t (t .A) (λ _.
+      passing t (λ _.
       ok-dcas Ok _ _
       (λ u v. splices (cc) b (t .operation))
       (goes (goto t Steps.line15) (in-any-case (omega arith) b)))
@@ -249,7 +249,7 @@ module _ (T : ℕ) (held : ℕ → Bool) (k : ℕ) {s o : Side} {m : View} {clas
   pub line62-outcome : LineOk Steps.line62
   unfolding act
   line62-outcome h b =
-      passing t (t .A) (λ _. passing t (t .B) (λ _.
+      passing t (λ _. passing t (λ _.
       ok-dcas Ok _ _
       (λ A-N B-N. cuts (cut-steady h (cc) (cc)) b (omega arith))
       (ended (λ q. refute (cc)))))
@@ -299,9 +299,9 @@ module _ (T : ℕ) (held : ℕ → Bool) (k : ℕ) {s o : Side} {m : View} {clas
   pub line64-outcome : LineOk Steps.line64
   unfolding act
   line64-outcome h b =
-      passing t (t .A) (λ _.
-      ok-if Ok (λ l. writing l (next t Steps.line74)) (m .out (t .A) ≟ t .B)
-      (λ e. disturbs {i = n - 1} (unlink-steady h e) (unlink-no-cut h e) (omega arith) tt)
+      passing t (λ _.
+      ok-if Ok (λ l. writing l (next t Steps.line74)) (_ ≟ _)
+      (λ e. disturbs {i = n - 1} (unlink-steady h (cc)) (unlink-no-cut h (cc)) (omega arith) tt)
       (λ _. goes (goto t Steps.line74) tt))
 
   -- ---- Line 72.
@@ -378,9 +378,9 @@ module _ (T : ℕ) (held : ℕ → Bool) (k : ℕ) {s o : Side} {m : View} {clas
   pub line72-outcome : LineOk Steps.line72
   unfolding act
   line72-outcome h w =
-      passing t (t .C) (λ _.
-      ok-if Ok (λ l. writing l (next t (back t))) (m .hats s ≟ t .A)
-      (λ e. by-move h e w (w .may-move))
+      passing t (λ _.
+      ok-if Ok (λ l. writing l (next t (back t))) (_ ≟ _)
+      (λ e. by-move h (cc) w (w .may-move))
       (λ _. goes (goto t (back t))
       (back-disturbs T s m (goto t (back t)) (t .operation) (t .D ≟ none) (chain-op T held k L t g f n (h .chain))
       (more (in-any-case (omega arith) (w .may-move)) (w .may-splice)))))

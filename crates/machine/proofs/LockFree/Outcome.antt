@@ -50,6 +50,6 @@ module _ {T : ℕ} {held : ℕ → Bool} {class : ℕ → Class} {s o : Side} {m
       → Outcome T held class s o m n (record { writes = l; task = t; answer = a })
   ended ne = ends ne
 
-  pub passing : (t : Task) (x : ℕ) {e : Effect} → (x ≢ none → Outcome T held class s o m n e)
+  pub passing : (t : Task) {x : ℕ} {e : Effect} → (x ≢ none → Outcome T held class s o m n e)
       → Outcome T held class s o m n (through x t e)
-  passing t x h = ok-through (Outcome T held class s o m n) x (λ _. ended (λ e. refute (cc))) h
+  passing t h = ok-through (Outcome T held class s o m n) (λ _. ended (λ e. refute (cc))) h

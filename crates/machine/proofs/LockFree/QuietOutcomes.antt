@@ -73,28 +73,28 @@ module _ (T : ℕ) (held : ℕ → Bool) (k : ℕ) {s o : Side} {m : View} {clas
   pub line3-outcome : LineOk Steps.line3
   unfolding act
   line3-outcome h b =
-      passing t (t .A) (λ _.
-      ok-if Ok (λ st. next (withB t (m .out (t .A))) st) (m .out (t .A) ≟ none)
+      passing t (λ _.
+      ok-if Ok (λ st. next (withB t (m .out (t .A))) st) (_ ≟ _)
       (λ _. goes (goto (withB t (m .out (t .A))) Steps.line8) b)
       (λ _. goes (goto (withB t (m .out (t .A))) Steps.line5) b))
 
   pub line5-outcome : LineOk Steps.line5
   unfolding act
   line5-outcome h b =
-      passing t (t .A) (λ _. passing t (t .B) (λ _.
+      passing t (λ _. passing t (λ _.
       ok-dcas Ok _ _ (λ _ _. ended (λ q. refute (cc)))
       (goes (goto t Steps.line8) b)))
 
   pub line8-outcome : LineOk Steps.line8
   unfolding act
   line8-outcome h (soon p l) =
-      passing t (t .A) (λ _.
-      ok-if Ok (λ st. next t st) (m .val (t .A) ≟ᵛ X s)
+      passing t (λ _.
+      ok-if Ok (λ st. next t st) (_ ≟ᵛ _)
       (λ v. absurd (p .1 v))
       (λ _. goes (goto t Steps.line67) (soon (h .chain .no-head, p .0) l)))
   line8-outcome h (late l) =
-      passing t (t .A) (λ _.
-      ok-if Ok (λ st. next t st) (m .val (t .A) ≟ᵛ X s)
+      passing t (λ _.
+      ok-if Ok (λ st. next t st) (_ ≟ᵛ _)
       (λ v. goes (goto t Steps.line28) l)
       (λ _. goes (goto t Steps.line67) (late l)))
 
@@ -106,22 +106,22 @@ module _ (T : ℕ) (held : ℕ → Bool) (k : ℕ) {s o : Side} {m : View} {clas
   pub line68-outcome : LineOk Steps.line68
   unfolding act
   line68-outcome h b =
-      passing t (t .A) (λ _.
-      ok-if Ok (λ st. next t st) (m .val (t .A) ≟ᵛ Y s)
+      passing t (λ _.
+      ok-if Ok (λ st. next t st) (_ ≟ᵛ _)
       (λ _. goes (goto t Steps.line69) b)
       (λ _. goes (goto t (back t))
       (back-disturbs T s m (goto t (back t)) (t .operation) (t .D ≟ none) (chain-op (h .chain)) b)))
 
   pub line69-outcome : LineOk Steps.line69
   unfolding act
-  line69-outcome h b = passing t (t .A) (λ _. goes (goto (withB t (m .inn (t .A))) Steps.line70) b)
+  line69-outcome h b = passing t (λ _. goes (goto (withB t (m .inn (t .A))) Steps.line70) b)
 
   pub line70-outcome : LineOk Steps.line70
   unfolding act
   line70-outcome h b =
       let c = m .out (t .B) in
-      passing t (t .B) (λ _.
-      ok-if Ok (λ st. next (withC t c) st) (c ≟ none)
+      passing t (λ _.
+      ok-if Ok (λ st. next (withC t c) st) (_ ≟ _)
       (λ _. goes (goto (withC t c) (back t))
       (back-disturbs T s m (goto (withC t c) (back t)) (t .operation) (t .D ≟ none) (chain-op (h .chain)) b))
       (λ _. goes (goto (withC t c) Steps.line72)
@@ -158,10 +158,10 @@ module _ (T : ℕ) (held : ℕ → Bool) (k : ℕ) {s o : Side} {m : View} {clas
   line17-outcome h b =
       let v = m .val (t .A) in
       let F : Step → Effect = λ st. next (withValue t v) st in
-      passing t (t .A) (λ _.
-      ok-if Ok F (v ≟ᵛ N s) (λ e. goes (goto (withValue t v) Steps.line18) (on-N e b)) (λ _.
-      ok-if Ok F (v ≟ᵛ Y s) (λ e. goes (goto (withValue t v) Steps.line67) (late (in-any-case (omega arith) b))) (λ _.
-      ok-if Ok F (v ≟ᵛ X s) (λ e. goes (goto (withValue t v) Steps.line24) (on-X e b)) (λ _.
+      passing t (λ _.
+      ok-if Ok F (_ ≟ᵛ _) (λ e. goes (goto (withValue t v) Steps.line18) (on-N e b)) (λ _.
+      ok-if Ok F (_ ≟ᵛ _) (λ e. goes (goto (withValue t v) Steps.line67) (late (in-any-case (omega arith) b))) (λ _.
+      ok-if Ok F (_ ≟ᵛ _) (λ e. goes (goto (withValue t v) Steps.line24) (on-X e b)) (λ _.
       goes (goto (withValue t v) Steps.line15) (in-any-case (omega arith) b)))))
 
   on-link : SoonOrLate (Room s m) 1 2 n
@@ -172,8 +172,8 @@ module _ (T : ℕ) (held : ℕ → Bool) (k : ℕ) {s o : Side} {m : View} {clas
   pub line18-outcome : LineOk Steps.line18
   unfolding act
   line18-outcome h b =
-      passing t (t .A) (λ _.
-      ok-if Ok (λ st. next (withA t (m .out (t .A))) st) (m .out (t .A) ≟ none)
+      passing t (λ _.
+      ok-if Ok (λ st. next (withA t (m .out (t .A))) st) (_ ≟ _)
       (λ _. goes (goto (withA t (m .out (t .A))) Steps.line15) (in-any-case (omega arith) b))
       (λ _. goes (goto (withA t (m .out (t .A))) Steps.line17) (on-link b)))
 
@@ -185,8 +185,8 @@ module _ (T : ℕ) (held : ℕ → Bool) (k : ℕ) {s o : Side} {m : View} {clas
   pub line40-outcome : LineOk Steps.line40
   unfolding act
   line40-outcome h b =
-      passing t (t .A) (λ _.
-      ok-if Ok (λ st. next (withB t (m .inn (t .A))) st) (m .inn (t .A) ≟ none)
+      passing t (λ _.
+      ok-if Ok (λ st. next (withB t (m .inn (t .A))) st) (_ ≟ _)
       (λ _. goes (goto (withB t (m .inn (t .A))) Steps.line39) tt)
       (λ _. goes (goto (withB t (m .inn (t .A))) Steps.line42) tt))
 
@@ -194,28 +194,28 @@ module _ (T : ℕ) (held : ℕ → Bool) (k : ℕ) {s o : Side} {m : View} {clas
   by-read t' never = goes (goto t' Steps.line39) tt
   by-read t' (bag u) = goes (goto t' Steps.line51) tt
   by-read t' (N z) =
-      ok-if Ok (λ st. next t' st) (N z ≟ᵛ N o) (λ _. goes (goto t' Steps.line48) tt)
+      ok-if Ok (λ st. next t' st) (_ ≟ᵛ _) (λ _. goes (goto t' Steps.line48) tt)
       (λ _. goes (goto t' Steps.line39) tt)
   by-read t' (X z) =
-      ok-if Ok (λ st. next t' st) (X z ≟ᵛ X o) (λ _. goes (goto t' Steps.line48) tt)
+      ok-if Ok (λ st. next t' st) (_ ≟ᵛ _) (λ _. goes (goto t' Steps.line48) tt)
       (λ _. goes (goto t' Steps.line39) tt)
   by-read t' (Y z) = goes (goto t' Steps.line39) tt
 
   pub line42-outcome : LineOk Steps.line42
   unfolding act
-  line42-outcome h b = passing t (t .B) (λ _. by-read (withValue t (m .val (t .B))) (m .val (t .B)))
+  line42-outcome h b = passing t (λ _. by-read (withValue t (m .val (t .B))) (m .val (t .B)))
 
   pub line48-outcome : LineOk Steps.line48
   unfolding act
   line48-outcome h b =
-      passing t (t .B) (λ _.
+      passing t (λ _.
       ok-dcas Ok _ _ (λ _ _. ended (λ q. refute (cc)))
       (goes (goto t Steps.line39) tt))
 
   pub line51-outcome : LineOk Steps.line51
   unfolding act
   line51-outcome h b =
-      passing t (t .B) (λ _.
+      passing t (λ _.
       ok-dcas Ok _ _ (λ _ _. ended (λ q. refute (cc)))
       (goes (goto t Steps.line39) tt))
 
@@ -223,59 +223,58 @@ module _ (T : ℕ) (held : ℕ → Bool) (k : ℕ) {s o : Side} {m : View} {clas
   pub line54-outcome : LineOk Steps.line54
   unfolding act
   line54-outcome h b =
-      ok-if Ok (λ st. next (withA t (m .hats s)) st) (g ≟ 0)
+      ok-if Ok (λ st. next (withA t (m .hats s)) st) (_ ≟ _)
       (λ _. goes (goto (withA t (m .hats s)) Steps.line60) b)
       (λ _. goes (goto (withA t (m .hats s)) Steps.line56) b)
 
   pub line56-outcome : LineOk Steps.line56
   unfolding act
   line56-outcome h b =
-      passing t (t .A) (λ _.
-      ok-if Ok (λ e. e) (m .val (t .A) ≟ᵛ X s) (λ _. ended (λ q. refute (cc)))
+      passing t (λ _.
+      ok-if Ok (λ e. e) (_ ≟ᵛ _) (λ _. ended (λ q. refute (cc)))
       (λ _. goes (goto t Steps.line58) b))
 
   pub line58-outcome : LineOk Steps.line58
   unfolding act
   line58-outcome h b =
-      passing t (t .A) (λ _.
-      ok-if Ok (λ e. e) (m .out (t .A) ≟ none) (λ _. ended (λ q. refute (cc)))
+      passing t (λ _.
+      ok-if Ok (λ e. e) (_ ≟ _) (λ _. ended (λ q. refute (cc)))
       (λ _.
-      ok-if Ok (λ st. next (withCounted (withA t (m .out (t .A))) (suc (t .counted))) st)
-      (suc (t .counted) ≟ g)
+      ok-if Ok (λ st. next (withCounted (withA t (m .out (t .A))) (suc (t .counted))) st) (_ ≟ _)
       (λ _. goes (goto (withCounted (withA t (m .out (t .A))) (suc (t .counted))) Steps.line60) b)
       (λ _. goes (goto (withCounted (withA t (m .out (t .A))) (suc (t .counted))) Steps.line56) b)))
 
   pub line60-outcome : LineOk Steps.line60
   unfolding act
   line60-outcome h b =
-      passing t (t .A) (λ _.
-      ok-if Ok (λ e. e) (m .out (t .A) ≟ none) (λ _. ended (λ q. refute (cc)))
+      passing t (λ _.
+      ok-if Ok (λ e. e) (_ ≟ _) (λ _. ended (λ q. refute (cc)))
       (λ _. goes (goto (withB t (m .out (t .A))) Steps.line62) b))
 
   pub line74-outcome : LineOk Steps.line74
   unfolding act
   line74-outcome h b =
-      passing t (t .B) (λ _.
-      ok-if Ok (λ st. next (withB (withA t (t .B)) (m .out (t .B))) st) (m .out (t .B) ≟ none)
+      passing t (λ _.
+      ok-if Ok (λ st. next (withB (withA t (t .B)) (m .out (t .B))) st) (_ ≟ _)
       (λ _. goes (goto (withB (withA t (t .B)) (m .out (t .B))) Steps.line82) tt)
       (λ _. goes (goto (withB (withA t (t .B)) (m .out (t .B))) Steps.line77) tt))
 
   pub line77-outcome : LineOk Steps.line77
   unfolding act
-  line77-outcome h b = passing t (t .B) (λ _. goes (goto (withValue t (m .val (t .B))) Steps.line78) tt)
+  line77-outcome h b = passing t (λ _. goes (goto (withValue t (m .val (t .B))) Steps.line78) tt)
 
   pub line81-outcome : LineOk Steps.line81
   unfolding act
   line81-outcome h b =
       let F : Step → Effect = λ st. next (withB t (m .out (t .A))) st in
-      passing t (t .A) (λ _.
-      ok-if Ok F (m .out (t .A) ≟ none)
+      passing t (λ _.
+      ok-if Ok F (_ ≟ _)
       (λ _. goes (goto (withB t (m .out (t .A))) Steps.line82) tt)
       (λ _.
-      ok-if Ok F (t .value ≟ᵛ X s)
+      ok-if Ok F (_ ≟ᵛ _)
       (λ _. goes (goto (withB t (m .out (t .A))) Steps.line82) tt)
       (λ _. goes (goto (withB t (m .out (t .A))) Steps.line77) tt)))
 
   pub line82-outcome : LineOk Steps.line82
   unfolding act
-  line82-outcome h b = passing t (t .A) (λ _. ended (λ q. refute (cc)))
+  line82-outcome h b = passing t (λ _. ended (λ q. refute (cc)))

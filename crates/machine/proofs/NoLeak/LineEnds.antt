@@ -7,7 +7,6 @@ use mathlib.Core.List.{[]}
 use Prim.Native.Nat.{ℕ}
 use native.Mathlib.Omega.{arith}
 use Rattle.machine.specs.declared.Answer.{Answer}
-use Rattle.machine.specs.Choice.{_≟_, if_then_else_}
 use Rattle.machine.specs.Sides.{Side}
 use Rattle.machine.specs.Values.{Value, never, bag, N, X, Y, _≟ᵛ_}
 use Rattle.machine.specs.Operations.{Operation, idle, push, pop, add, remove}
@@ -67,10 +66,10 @@ module _ {held : ℕ → Bool} {class : ℕ → Class} {s o : Side} {m : View} {
         sure = subst (λ (x : Step). Sure (duty x) s m t) (sym e) u;
       }
 
-  pub past : {st : Step} → t .step ≡ st → Sure (duty st) s m t → (x : ℕ) {e : Effect}
+  pub past : {st : Step} → t .step ≡ st → Sure (duty st) s m t → {x : ℕ} {e : Effect}
       → (x ≢ none → RemoversAfter held class s o m (duty st) t e)
       → RemoversAfter held class s o m (duty st) t (through x t e)
-  past {st} e u x h = ok-through (RemoversAfter held class s o m (duty st) t) x (λ _. stays e u) h
+  past {st} e u h = ok-through (RemoversAfter held class s o m (duty st) t) (λ _. stays e u) h
 
   -- A task without a duty goes to a step without a duty, and writes nothing.
   pub off : {t' : Task} {a : Answer} → duty (t' .step) ≡ no-duty

@@ -7,7 +7,7 @@ use Prim.Native.Nat.{ℕ}
 use Rattle.machine.specs.declared.Answer.the-variants.{Going, Full}
 use Rattle.machine.specs.Choice.{_≟_}
 use Rattle.machine.specs.Sides.{Side}
-use Rattle.machine.specs.Values.{bag, N, X, Y, _≟ᵛ_}
+use Rattle.machine.specs.Values.{bag, N, X, _≟ᵛ_}
 use Rattle.machine.specs.Operations.{Operation, idle, push, pop, add, remove}
 use Rattle.machine.specs.Steps.{Step, rest}
 use Rattle.machine.specs.Steps as Steps
@@ -137,15 +137,15 @@ module _ (k : ℕ) (s o : Side) (w : Opposite s o) (m : View) (class : ℕ → C
   line3-push : LineOk Steps.line3
   unfolding act
   line3-push =
-      ok-through (Ok Steps.line3) (t .A) (λ _. turned-back) (λ _.
-      ok-if (Ok Steps.line3) (λ st. next (withB t (m .out (t .A))) st) (m .out (t .A) ≟ none)
+      ok-through (Ok Steps.line3) (λ _. turned-back) (λ _.
+      ok-if (Ok Steps.line3) (λ st. next (withB t (m .out (t .A))) st) (_ ≟ _)
       (λ _. on (λ _. refl) (λ d. d)) (λ _. on (λ _. refl) (λ d. d)))
 
   line5-push : LineOk Steps.line5
   unfolding act
   line5-push =
-      ok-through (Ok Steps.line5) (t .A) (λ _. turned-back) (λ _.
-      ok-through (Ok Steps.line5) (t .B) (λ _. turned-back) (λ _.
+      ok-through (Ok Steps.line5) (λ _. turned-back) (λ _.
+      ok-through (Ok Steps.line5) (λ _. turned-back) (λ _.
       ok-dcas (Ok Steps.line5) _ _
       (λ u v.
       record {
@@ -160,29 +160,29 @@ module _ (k : ℕ) (s o : Side) (w : Opposite s o) (m : View) (class : ℕ → C
   line8-push : LineOk Steps.line8
   unfolding act
   line8-push =
-      ok-through (Ok Steps.line8) (t .A) (λ _. turned-back) (λ _.
-      ok-if (Ok Steps.line8) (λ st. next t st) (m .val (t .A) ≟ᵛ X s)
+      ok-through (Ok Steps.line8) (λ _. turned-back) (λ _.
+      ok-if (Ok Steps.line8) (λ st. next t st) (_ ≟ᵛ _)
       (λ _. on (λ _. refl) (λ d. d)) (λ _. on (λ _. refl) (λ d. d)))
 
   line68-push : LineOk Steps.line68
   unfolding act
   line68-push =
-      ok-through (Ok Steps.line68) (t .A) (λ _. turned-back) (λ _.
-      ok-if (Ok Steps.line68) (λ st. next t st) (m .val (t .A) ≟ᵛ Y s)
+      ok-through (Ok Steps.line68) (λ _. turned-back) (λ _.
+      ok-if (Ok Steps.line68) (λ st. next t st) (_ ≟ᵛ _)
       (λ _. on (λ _. refl) (λ d. d)) (λ _. on back-on (λ d. d)))
 
   line70-push : LineOk Steps.line70
   unfolding act
   line70-push =
-      ok-through (Ok Steps.line70) (t .B) (λ _. turned-back) (λ _.
-      ok-if (Ok Steps.line70) (λ st. next (withC t (m .out (t .B))) st) (m .out (t .B) ≟ none)
+      ok-through (Ok Steps.line70) (λ _. turned-back) (λ _.
+      ok-if (Ok Steps.line70) (λ st. next (withC t (m .out (t .B))) st) (_ ≟ _)
       (λ _. on back-on (λ d. d)) (λ _. on (λ _. refl) (λ d. d)))
 
   line72-push : LineOk Steps.line72
   unfolding act
   line72-push =
-      ok-through (Ok Steps.line72) (t .C) (λ _. turned-back) (λ _.
-      ok-if (Ok Steps.line72) (λ l. writing l (next t (back t))) (m .hats s ≟ t .A)
+      ok-through (Ok Steps.line72) (λ _. turned-back) (λ _.
+      ok-if (Ok Steps.line72) (λ l. writing l (next t (back t))) (_ ≟ _)
       (λ _.
       record {
         far-same = updateSide-other (m .hats) s o (t .C) w;
@@ -202,7 +202,7 @@ module _ (k : ℕ) (s o : Side) (w : Opposite s o) (m : View) (class : ℕ → C
   line28-push : LineOk Steps.line28
   unfolding act
   line28-push =
-      ok-if (Ok Steps.line28) (λ e. e) (f ≟ none)
+      ok-if (Ok Steps.line28) (λ e. e) (_ ≟ _)
       (λ e.
       record {
         far-same = refl;
@@ -221,8 +221,8 @@ module _ (k : ℕ) (s o : Side) (w : Opposite s o) (m : View) (class : ℕ → C
   line31-push : LineOk Steps.line31
   unfolding act
   line31-push =
-      ok-through (Ok Steps.line31) (t .D) (λ _. turned-back) (λ _.
-      ok-if (Ok Steps.line31) (λ e. e) (f ≟ none)
+      ok-through (Ok Steps.line31) (λ _. turned-back) (λ _.
+      ok-if (Ok Steps.line31) (λ e. e) (_ ≟ _)
       (λ _. later (λ y. refute (cc)) refl refl)
       (λ some.
       record {
@@ -235,7 +235,7 @@ module _ (k : ℕ) (s o : Side) (w : Opposite s o) (m : View) (class : ℕ → C
   line25-push : LineOk Steps.line25
   unfolding act
   line25-push =
-      ok-through (Ok Steps.line25) (t .A) (λ _. turned-back) (λ _.
+      ok-through (Ok Steps.line25) (λ _. turned-back) (λ _.
       ok-dcas (Ok Steps.line25) _ _
       (λ u v. by-operation (t .operation) (cc)) (later (λ y. refute (cc)) refl refl))
     where
@@ -266,19 +266,19 @@ module _ (k : ℕ) (s o : Side) (w : Opposite s o) (m : View) (class : ℕ → C
   push-tick Steps.line67 h = on (λ _. refl) (λ d. d)
   push-tick Steps.line68 h = line68-push
   push-tick Steps.line69 h =
-      ok-through (Ok Steps.line69) (t .A) (λ _. turned-back) (λ _. on (λ _. refl) (λ d. d))
+      ok-through (Ok Steps.line69) (λ _. turned-back) (λ _. on (λ _. refl) (λ d. d))
   push-tick Steps.line70 h = line70-push
   push-tick Steps.line72 h = line72-push
   push-tick Steps.line28 h = line28-push
   push-tick Steps.line31 h = line31-push
   push-tick Steps.line15 h = later (λ y. refute (cc)) refl refl
   push-tick Steps.line17 h =
-      ok-through (Ok Steps.line17) (t .A) (λ _. turned-back) (λ _. later (λ y. refute (cc)) refl refl)
+      ok-through (Ok Steps.line17) (λ _. turned-back) (λ _. later (λ y. refute (cc)) refl refl)
   push-tick Steps.line18 h =
-      ok-through (Ok Steps.line18) (t .A) (λ _. turned-back) (λ _. later (λ y. refute (cc)) refl refl)
+      ok-through (Ok Steps.line18) (λ _. turned-back) (λ _. later (λ y. refute (cc)) refl refl)
   push-tick Steps.line24 h =
-      ok-through (Ok Steps.line24) (t .A) (λ _. turned-back) (λ _.
-      ok-through (Ok Steps.line24) (t .D) (λ _. turned-back) (λ _. later (λ y. refute (cc)) refl refl))
+      ok-through (Ok Steps.line24) (λ _. turned-back) (λ _.
+      ok-through (Ok Steps.line24) (λ _. turned-back) (λ _. later (λ y. refute (cc)) refl refl))
   push-tick Steps.line25 h = line25-push
   push-tick Steps.line39 h = clash (cc (h .belongs))
   push-tick Steps.line40 h = clash (cc (h .belongs))

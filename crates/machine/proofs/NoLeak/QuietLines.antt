@@ -48,39 +48,39 @@ module _ (held : ℕ → Bool) (k : ℕ) (s o : Side) (w : Opposite s o) (m : Vi
   pub line3-cut : LineOk Steps.line3
   unfolding act
   line3-cut e h u =
-      past e u (t .A) (λ _.
-      ok-if (Ok no-duty) (λ st. next (withB t (m .out (t .A))) st) (m .out (t .A) ≟ none)
+      past e u (λ _.
+      ok-if (Ok no-duty) (λ st. next (withB t (m .out (t .A))) st) (_ ≟ _)
       (λ _. off refl) (λ _. off refl))
 
   pub line8-cut : LineOk Steps.line8
   unfolding act
   line8-cut e h u =
-      past e u (t .A) (λ _.
-      ok-if (Ok no-duty) (λ st. next t st) (m .val (t .A) ≟ᵛ X s) (λ _. off refl) (λ _. off refl))
+      past e u (λ _.
+      ok-if (Ok no-duty) (λ st. next t st) (_ ≟ᵛ _) (λ _. off refl) (λ _. off refl))
 
   pub line68-cut : LineOk Steps.line68
   unfolding act
   line68-cut e h u =
-      past e u (t .A) (λ _.
-      ok-if (Ok no-duty) (λ st. next t st) (m .val (t .A) ≟ᵛ Y s)
+      past e u (λ _.
+      ok-if (Ok no-duty) (λ st. next t st) (_ ≟ᵛ _)
       (λ _. off refl) (λ _. off (back-off (t .operation) (t .D ≟ none))))
 
   pub line69-cut : LineOk Steps.line69
   unfolding act
   line69-cut e h u =
-      past e u (t .A) (λ _. off refl)
+      past e u (λ _. off refl)
 
   pub line70-cut : LineOk Steps.line70
   unfolding act
   line70-cut e h u =
-      past e u (t .B) (λ _.
-      ok-if (Ok no-duty) (λ st. next (withC t (m .out (t .B))) st) (m .out (t .B) ≟ none)
+      past e u (λ _.
+      ok-if (Ok no-duty) (λ st. next (withC t (m .out (t .B))) st) (_ ≟ _)
       (λ _. off (back-off (t .operation) (t .D ≟ none))) (λ _. off refl))
 
   pub line17-cut : LineOk Steps.line17
   unfolding act
   line17-cut e h u =
-      past e u (t .A) (λ _. by-value (m .val (t .A)))
+      past e u (λ _. by-value (m .val (t .A)))
     where
       by-value : (v : Value)
           → Ok no-duty
@@ -90,50 +90,50 @@ module _ (held : ℕ → Bool) (k : ℕ) (s o : Side) (w : Opposite s o) (m : Vi
           if v ≟ᵛ X s then Steps.line24 else Steps.line15))
       by-value v =
           off
-          (by-if (λ (st : Step). duty st ≡ no-duty) (v ≟ᵛ N s) (λ _. refl) (λ _.
-          by-if (λ (st : Step). duty st ≡ no-duty) (v ≟ᵛ Y s) (λ _. refl) (λ _.
-          by-if (λ (st : Step). duty st ≡ no-duty) (v ≟ᵛ X s) (λ _. refl) (λ _. refl))))
+          (by-if (λ (st : Step). duty st ≡ no-duty) (_ ≟ᵛ _) (λ _. refl) (λ _.
+          by-if (λ (st : Step). duty st ≡ no-duty) (_ ≟ᵛ _) (λ _. refl) (λ _.
+          by-if (λ (st : Step). duty st ≡ no-duty) (_ ≟ᵛ _) (λ _. refl) (λ _. refl))))
 
   pub line18-cut : LineOk Steps.line18
   unfolding act
   line18-cut e h u =
-      past e u (t .A) (λ _.
-      ok-if (Ok no-duty) (λ st. next (withA t (m .out (t .A))) st) (m .out (t .A) ≟ none)
+      past e u (λ _.
+      ok-if (Ok no-duty) (λ st. next (withA t (m .out (t .A))) st) (_ ≟ _)
       (λ _. off refl) (λ _. off refl))
 
   pub line40-cut : LineOk Steps.line40
   unfolding act
   line40-cut e h u =
-      past e u (t .A) (λ _.
-      ok-if (Ok no-duty) (λ st. next (withB t (m .inn (t .A))) st) (m .inn (t .A) ≟ none)
+      past e u (λ _.
+      ok-if (Ok no-duty) (λ st. next (withB t (m .inn (t .A))) st) (_ ≟ _)
       (λ _. off refl) (λ _. off refl))
 
   pub line42-cut : LineOk Steps.line42
   unfolding act
   line42-cut e h u =
-      past e u (t .B) (λ _. off (read-off o (m .val (t .B))))
+      past e u (λ _. off (read-off o (m .val (t .B))))
 
   pub line48-cut : LineOk Steps.line48
   unfolding act
   line48-cut e h u =
-      past e u (t .B) (λ _.
+      past e u (λ _.
       ok-dcas (Ok no-duty) _ _ (λ _ _. off refl) (off refl))
 
   pub line54-cut : LineOk Steps.line54
   unfolding act
   line54-cut e h u =
-      ok-if (Ok no-duty) (λ st. next (withA t (m .hats s)) st) (g ≟ 0) (λ _. off refl) (λ _. off refl)
+      ok-if (Ok no-duty) (λ st. next (withA t (m .hats s)) st) (_ ≟ _) (λ _. off refl) (λ _. off refl)
 
   pub line56-cut : LineOk Steps.line56
   unfolding act
   line56-cut e h u =
-      past e u (t .A) (λ _.
-      ok-if (Ok no-duty) (λ x. x) (m .val (t .A) ≟ᵛ X s) (λ _. off refl) (λ _. off refl))
+      past e u (λ _.
+      ok-if (Ok no-duty) (λ x. x) (_ ≟ᵛ _) (λ _. off refl) (λ _. off refl))
 
   pub line58-cut : LineOk Steps.line58
   unfolding act
   line58-cut e h u =
-      past e u (t .A) (λ _.
-      ok-if (Ok no-duty) (λ x. x) (m .out (t .A) ≟ none) (λ _. off refl) (λ _.
+      past e u (λ _.
+      ok-if (Ok no-duty) (λ x. x) (_ ≟ _) (λ _. off refl) (λ _.
       ok-if (Ok no-duty) (λ st. next (withCounted (withA t (m .out (t .A))) (suc (t .counted))) st)
-      (suc (t .counted) ≟ g) (λ _. off refl) (λ _. off refl)))
+      (_ ≟ _) (λ _. off refl) (λ _. off refl)))

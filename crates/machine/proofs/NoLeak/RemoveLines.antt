@@ -63,15 +63,15 @@ module _ (held : ℕ → Bool) (k : ℕ) (s o : Side) (w : Opposite s o) (m : Vi
   pub line60-cut : LineOk Steps.line60
   unfolding act
   line60-cut e h u =
-      past e u (t .A) (λ _.
-      ok-if (Ok no-duty) (λ x. x) (m .out (t .A) ≟ none) (λ _. off refl) (λ _.
+      past e u (λ _.
+      ok-if (Ok no-duty) (λ x. x) (_ ≟ _) (λ _. off refl) (λ _.
       goes no-duty (inl refl) (λ μ n c. absurd c)))
 
   pub line62-cut : LineOk Steps.line62
   unfolding act
   line62-cut e h u =
-      past e u (t .A) (λ _.
-      past e u (t .B) (λ _.
+      past e u (λ _.
+      past e u (λ _.
       ok-dcas (Ok before-cut) _ _ (λ A-N B-N. done (cc) (cc))
       (goes before-cut tt (λ μ n c. absurd c))))
     where
@@ -133,8 +133,9 @@ module _ (held : ℕ → Bool) (k : ℕ) (s o : Side) (w : Opposite s o) (m : Vi
   pub line64-cut : LineOk Steps.line64
   unfolding act
   line64-cut e h u =
-      past e u (t .A) (λ _.
-      ok-if (Ok cut-pair) (λ l. writing l (next t Steps.line74)) (m .out (t .A) ≟ t .B) done not-done)
+      past e u (λ _.
+      ok-if (Ok cut-pair) (λ l. writing l (next t Steps.line74)) (_ ≟ _)
+      (λ q. done (cc)) (λ ne. not-done (λ q. ne (cc))))
     where
       wo : Wrote (m .out) (t .A) none (update (m .out) (t .A) none)
       wo = update-wrote (m .out) (t .A) none
@@ -174,8 +175,8 @@ module _ (held : ℕ → Bool) (k : ℕ) (s o : Side) (w : Opposite s o) (m : Vi
   pub line74-cut : LineOk Steps.line74
   unfolding act
   line74-cut e h u =
-      past e u (t .B) (λ _.
-      ok-if (Ok at-B) (λ st. next (withB (withA t (t .B)) (m .out (t .B))) st) (m .out (t .B) ≟ none)
+      past e u (λ _.
+      ok-if (Ok at-B) (λ st. next (withB (withA t (t .B)) (m .out (t .B))) st) (_ ≟ _)
       (λ _. goes at-B u (still Steps.line82)) (λ _. goes at-B u (still Steps.line77)))
     where
       still : (st : Step) (μ : Mark) (n : ℕ) → Cuts at-B μ t n (m .out n)
@@ -197,13 +198,13 @@ module _ (held : ℕ → Bool) (k : ℕ) (s o : Side) (w : Opposite s o) (m : Vi
   pub line77-cut : LineOk Steps.line77
   unfolding act
   line77-cut e h u =
-      past e u (t .B) (λ _. same-A refl refl u)
+      past e u (λ _. same-A refl refl u)
 
   pub line78-cut : LineOk Steps.line78
   unfolding act
   line78-cut e h u =
-      past e u (t .B) (λ _.
-      ok-if (Ok at-A) (λ x. x) (m .val (t .B) ≟ᵛ t .value) (λ _. done) (λ _. same-A refl refl u))
+      past e u (λ _.
+      ok-if (Ok at-A) (λ x. x) (_ ≟ᵛ _) (λ _. done) (λ _. same-A refl refl u))
     where
       wv : Wrote (m .val) (t .B) (Y s) (update (m .val) (t .B) (Y s))
       wv = update-wrote (m .val) (t .B) (Y s)
@@ -246,7 +247,7 @@ module _ (held : ℕ → Bool) (k : ℕ) (s o : Side) (w : Opposite s o) (m : Vi
   pub line79-cut : LineOk Steps.line79
   unfolding act
   line79-cut e h u =
-      past e u (t .A) (λ _.
+      past e u (λ _.
       record {
         near =
             record {
@@ -276,16 +277,16 @@ module _ (held : ℕ → Bool) (k : ℕ) (s o : Side) (w : Opposite s o) (m : Vi
   pub line81-cut : LineOk Steps.line81
   unfolding act
   line81-cut e h u =
-      past e u (t .A) (λ _.
-      ok-if (Ok at-A) (λ st. next (withB t (m .out (t .A))) st) (m .out (t .A) ≟ none)
+      past e u (λ _.
+      ok-if (Ok at-A) (λ st. next (withB t (m .out (t .A))) st) (_ ≟ _)
       (λ _. same-A refl refl u) (λ _.
-      ok-if (Ok at-A) (λ st. next (withB t (m .out (t .A))) st) (t .value ≟ᵛ X s)
+      ok-if (Ok at-A) (λ st. next (withB t (m .out (t .A))) st) (_ ≟ᵛ _)
       (λ _. same-A refl refl u) (λ _. same-A refl refl u)))
 
   pub line82-cut : LineOk Steps.line82
   unfolding act
   line82-cut e h u =
-      past e u (t .A) (λ _.
+      past e u (λ _.
       record {
         near =
             record {

@@ -53,8 +53,8 @@ module _ (held : ℕ → Bool) (k : ℕ) (s o : Side) (w : Opposite s o) (m : Vi
   pub line5-cut : LineOk Steps.line5
   unfolding act
   line5-cut e h u =
-      past e u (t .A) (λ _.
-      past e u (t .B) (λ _.
+      past e u (λ _.
+      past e u (λ _.
       ok-dcas (Ok no-duty) _ _ (λ _ _. done) (off refl)))
     where
       wv : Wrote (m .val) (t .A) (bag (t .argument)) (update (m .val) (t .A) (bag (t .argument)))
@@ -73,7 +73,7 @@ module _ (held : ℕ → Bool) (k : ℕ) (s o : Side) (w : Opposite s o) (m : Vi
   pub line51-cut : LineOk Steps.line51
   unfolding act
   line51-cut e h u =
-      past e u (t .B) (λ _.
+      past e u (λ _.
       ok-dcas (Ok no-duty) _ _ (λ _ _. done) (off refl))
     where
       wv : Wrote (m .val) (t .B) (N s) (update (m .val) (t .B) (N s))
@@ -91,8 +91,8 @@ module _ (held : ℕ → Bool) (k : ℕ) (s o : Side) (w : Opposite s o) (m : Vi
   pub line72-cut : LineOk Steps.line72
   unfolding act
   line72-cut e h u =
-      past e u (t .C) (λ _.
-      ok-if (Ok no-duty) (λ l. writing l (next t (back t))) (m .hats s ≟ t .A) (λ _. done) (λ _. off no-duty-back))
+      past e u (λ _.
+      ok-if (Ok no-duty) (λ l. writing l (next t (back t))) (_ ≟ _) (λ _. done) (λ _. off no-duty-back))
     where
       no-duty-back : duty (back t) ≡ no-duty
       no-duty-back = back-off (t .operation) (t .D ≟ none)
@@ -112,8 +112,8 @@ module _ (held : ℕ → Bool) (k : ℕ) (s o : Side) (w : Opposite s o) (m : Vi
   pub line24-cut : LineOk Steps.line24
   unfolding act
   line24-cut e h u =
-      past e u (t .A) (λ _.
-      past e u (t .D) (λ _.
+      past e u (λ _.
+      past e u (λ _.
       record {
         near = same-words (λ n. refl) (λ n. refl);
         far =
@@ -135,7 +135,7 @@ module _ (held : ℕ → Bool) (k : ℕ) (s o : Side) (w : Opposite s o) (m : Vi
   pub line25-cut : LineOk Steps.line25
   unfolding act
   line25-cut e h u =
-      past e u (t .A) (λ _.
+      past e u (λ _.
       ok-dcas (Ok no-duty) _ _
       (λ u v. by-operation (cc) (t .operation)) (off refl))
     where
@@ -185,8 +185,8 @@ module _ (held : ℕ → Bool) (k : ℕ) (s o : Side) (w : Opposite s o) (m : Vi
   pub line28-cut : (f ≢ none → TakeOk held m class f) → LineOk Steps.line28
   unfolding act
   line28-cut free-f e h u =
-      ok-if (Ok no-duty) (λ x. x) (f ≟ none) (λ _. off refl) (λ some.
-      ok-if (Ok no-duty) (λ st. writing l (next (withCounted (withD t f) 0) st)) (g ≟ 0)
+      ok-if (Ok no-duty) (λ x. x) (_ ≟ _) (λ _. off refl) (λ some.
+      ok-if (Ok no-duty) (λ st. writing l (next (withCounted (withD t f) 0) st)) (_ ≟ _)
       (λ _. done some refl) (λ _. done some refl))
     where
       l : List Write
@@ -229,10 +229,10 @@ module _ (held : ℕ → Bool) (k : ℕ) (s o : Side) (w : Opposite s o) (m : Vi
   pub line31-cut : (f ≢ none → TakeOk held m class f) → LineOk Steps.line31
   unfolding act
   line31-cut free-f e h u =
-      past e u (t .D) (λ _.
-      ok-if (Ok no-duty) (λ x. x) (f ≟ none) (λ _. off refl) (λ some.
+      past e u (λ _.
+      ok-if (Ok no-duty) (λ x. x) (_ ≟ _) (λ _. off refl) (λ some.
       ok-if (Ok no-duty) (λ st. writing l (next (withCounted (withD t f) (suc (t .counted))) st))
-      (suc (t .counted) ≟ g) (λ _. done some refl) (λ _. done some refl)))
+      (_ ≟ _) (λ _. done some refl) (λ _. done some refl)))
     where
       l : List Write
       l = val≔ f (N s) ∷ inn≔ f none ∷ out≔ f (t .D) ∷ inn≔ (t .D) f ∷ []

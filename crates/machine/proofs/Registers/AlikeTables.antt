@@ -110,7 +110,7 @@ module _ {ws vs : List ℕ} (A : AlikeColumns ws vs) where
 
   roots-same : roots vs ≡ roots ws
   unfolding roots
-  roots-same = rw (same-hat left, same-hat right, same-count, held-from-same (taskCount ws) 0)
+  roots-same = cc (same-hat left, same-hat right, same-count, held-from-same (taskCount ws) 0)
 
   visit-same : (m : Marking) (i : ℕ) → visit vs m i ≡ visit ws m i
   unfolding visit

@@ -65,10 +65,6 @@ use Rattle.machine.specs.Registers.{among, uses, Way, _setting_, to, way
 use Rattle.machine.specs.Lines.{
   Memory,
   Write,
-  out≔,
-  inn≔,
-  val≔,
-  hat≔,
   Effect,
   next,
   answers,
@@ -113,7 +109,7 @@ module _ {st : Step} {t u : Task} where
 
   by-through : {e f : Effect} (x : ℕ) → SameEffect st t u e f → SameEffect st t u (through x t e) (through x u f)
   by-through x a =
-      by-either (x ≟ none) (record { same-writes = refl; same-answer = refl; after = turned-back refl refl }) a
+      by-either (_ ≟ _) (record { same-writes = refl; same-answer = refl; after = turned-back refl refl }) a
 
   by-dcas : {P Q : Type 0} {e e′ f f′ : Effect} (d : Dec P) (c : Dec Q) → SameEffect st t u e f
       → SameEffect st t u e′ f′
@@ -134,8 +130,8 @@ by-back P remove d a b = b
 by-read : (P : Step → Type 0) (o : Side) (v : Value) → P line51 → P line48 → P line39 → P (afterRead o v)
 by-read P o never a b c = c
 by-read P o (bag n) a b c = a
-by-read P o (N z) a b c = by-if P (N z ≟ᵛ N o) (λ _. b) (λ _. c)
-by-read P o (X z) a b c = by-if P (X z ≟ᵛ X o) (λ _. b) (λ _. c)
+by-read P o (N z) a b c = by-if P (_ ≟ᵛ _) (λ _. b) (λ _. c)
+by-read P o (X z) a b c = by-if P (_ ≟ᵛ _) (λ _. b) (λ _. c)
 by-read P o (Y z) a b c = c
 
 -- ---- The lines.
@@ -161,139 +157,120 @@ module _ (s o : Side) (m : Memory) (t u : Task) (g x : ℕ) where
   line-same rest = goes (to rest) (inl refl) refl refl refl
   line-same line2 = goes (line3 setting (inA ∷ [])) (inl refl) refl refl refl
   line-same line3 =
-      by-through (t .A)
-      (let b = m .out (t .A) in
-      by-if (Next line3 (λ y. withB y b) []) (b ≟ none)
+      by-through _ (let b = m .out (t .A) in
+      by-if (Next line3 (λ y. withB y b) []) (_ ≟ _)
       (λ _. goes (line8 setting (inB ∷ [])) (inl refl) refl refl refl)
       (λ _. goes (line5 setting (inB ∷ [])) (inr (inl refl)) refl refl refl))
   line-same line5 =
-      by-through (t .A) (by-through (t .B)
-      (by-dcas _ _ answered (goes (to line8) (inl refl) refl refl refl)))
+      by-through _ (by-through _ (by-dcas _ _ answered (goes (to line8) (inl refl) refl refl refl)))
   line-same line8 =
-      by-through (t .A) (by-if (Next line8 (λ y. y) []) (m .val (t .A) ≟ᵛ X s)
+      by-through _ (by-if (Next line8 (λ y. y) []) (_ ≟ᵛ _)
       (λ _. goes (to line28) (inl refl) refl refl refl)
       (λ _. goes (to line67) (inr (inl refl)) refl refl refl))
   line-same line67 = goes (line68 setting (inA ∷ [])) (inl refl) refl refl refl
   line-same line68 =
-      by-through (t .A)
-      (by-if (Next line68 (λ y. y) []) (m .val (t .A) ≟ᵛ Y s) (λ _. goes (to line69) (inl refl) refl refl refl)
+      by-through _ (by-if (Next line68 (λ y. y) []) (_ ≟ᵛ _) (λ _. goes (to line69) (inl refl) refl refl refl)
       (λ _. by-back (Next line68 (λ y. y) []) (t .operation) (t .D ≟ none)
       (goes (to line2) (inr (inl refl)) refl refl refl)
       (goes (to line15) (inr (inr (inl refl))) refl refl refl)))
-  line-same line69 = by-through (t .A) (goes (line70 setting (inB ∷ [])) (inl refl) refl refl refl)
+  line-same line69 = by-through _ (goes (line70 setting (inB ∷ [])) (inl refl) refl refl refl)
   line-same line70 =
-      by-through (t .B)
-      (let c = m .out (t .B) in
-      by-if (Next line70 (λ y. withC y c) []) (c ≟ none)
+      by-through _ (let c = m .out (t .B) in
+      by-if (Next line70 (λ y. withC y c) []) (_ ≟ _)
       (λ _. by-back (Next line70 (λ y. withC y c) []) (t .operation) (t .D ≟ none)
       (goes (line2 setting (inC ∷ [])) (inl refl) refl refl refl)
       (goes (line15 setting (inC ∷ [])) (inr (inl refl)) refl refl refl))
       (λ _. goes (line72 setting (inC ∷ [])) (inr (inr (inl refl))) refl refl refl))
   line-same line72 =
-      by-through (t .C)
-      (by-back (Next line72 (λ y. y) (if m .hat ≟ t .A then hat≔ (t .C) ∷ [] else []))
+      by-through _ (by-back (Next line72 (λ y. y) _)
       (t .operation) (t .D ≟ none)
       (goes (to line2) (inl refl) refl refl refl)
       (goes (to line15) (inr (inl refl)) refl refl refl))
   line-same line28 =
-      by-either (x ≟ none) answered
-      (by-if (Next line28 (λ y. withCounted (withD y x) 0) (out≔ x none ∷ inn≔ x none ∷ val≔ x (X s) ∷ []))
-      (g ≟ 0)
+      by-either (_ ≟ _) answered
+      (by-if (Next line28 (λ y. withCounted (withD y x) 0) _) (_ ≟ _)
       (λ _. goes (line15 setting (inD ∷ [])) (inl refl) refl refl refl)
       (λ _. goes (line31 setting (inD ∷ [])) (inr (inl refl)) refl refl refl))
   line-same line31 =
-      by-through (t .D)
-      (by-either (x ≟ none) (goes (to line15) (inl refl) refl refl refl)
-      (by-if (Next line31 (λ y. withCounted (withD y x) (suc (t .counted)))
-      (val≔ x (N s) ∷ inn≔ x none ∷ out≔ x (t .D) ∷ inn≔ (t .D) x ∷ []))
-      (suc (t .counted) ≟ g)
+      by-through _ (by-either (_ ≟ _) (goes (to line15) (inl refl) refl refl refl)
+      (by-if (Next line31 (λ y. withCounted (withD y x) (suc (t .counted))) _) (_ ≟ _)
       (λ _. goes (line15 setting (inD ∷ [])) (inr (inl refl)) refl refl refl)
       (λ _. goes (line31 setting (inD ∷ [])) (inr (inr (inl refl))) refl refl refl)))
   line-same line15 = goes (line17 setting (inA ∷ [])) (inl refl) refl refl refl
   line-same line17 =
-      by-through (t .A)
-      (let v = m .val (t .A) in
-      by-if (Next line17 (λ y. withValue y v) []) (v ≟ᵛ N s) (λ _. goes (to line18) (inl refl) refl refl refl)
-      (λ _. by-if (Next line17 (λ y. withValue y v) []) (v ≟ᵛ Y s)
+      by-through _ (let v = m .val (t .A) in
+      by-if (Next line17 (λ y. withValue y v) []) (_ ≟ᵛ _) (λ _. goes (to line18) (inl refl) refl refl refl)
+      (λ _. by-if (Next line17 (λ y. withValue y v) []) (_ ≟ᵛ _)
       (λ _. goes (to line67) (inr (inl refl)) refl refl refl)
-      (λ _. by-if (Next line17 (λ y. withValue y v) []) (v ≟ᵛ X s)
+      (λ _. by-if (Next line17 (λ y. withValue y v) []) (_ ≟ᵛ _)
       (λ _. goes (to line24) (inr (inr (inl refl))) refl refl refl)
       (λ _. goes (to line15) (inr (inr (inr (inl refl)))) refl refl refl))))
   line-same line18 =
-      by-through (t .A)
-      (let a = m .out (t .A) in
-      by-if (Next line18 (λ y. withA y a) []) (a ≟ none)
+      by-through _ (let a = m .out (t .A) in
+      by-if (Next line18 (λ y. withA y a) []) (_ ≟ _)
       (λ _. goes (line15 setting (inA ∷ [])) (inl refl) refl refl refl)
       (λ _. goes (line17 setting (inA ∷ [])) (inr (inl refl)) refl refl refl))
   line-same line24 =
-      by-through (t .A) (by-through (t .D) (goes (line25 setting (inB ∷ [])) (inl refl) refl refl refl))
+      by-through _ (by-through _ (goes (line25 setting (inB ∷ [])) (inl refl) refl refl refl))
   line-same line25 =
-      by-through (t .A)
-      (by-dcas _ _
-      (by-splice (t .operation) (out≔ (t .A) (t .D) ∷ val≔ (t .A) (N s) ∷ []))
+      by-through _ (by-dcas _ _
+      (by-splice (t .operation) _)
       (goes (to line15) (inl refl) refl refl refl))
   line-same line39 = goes (line40 setting (inA ∷ [])) (inl refl) refl refl refl
   line-same line40 =
-      by-through (t .A)
-      (let b = m .inn (t .A) in
-      by-if (Next line40 (λ y. withB y b) []) (b ≟ none)
+      by-through _ (let b = m .inn (t .A) in
+      by-if (Next line40 (λ y. withB y b) []) (_ ≟ _)
       (λ _. goes (line39 setting (inB ∷ [])) (inl refl) refl refl refl)
       (λ _. goes (line42 setting (inB ∷ [])) (inr (inl refl)) refl refl refl))
   line-same line42 =
-      by-through (t .B)
-      (let v = m .val (t .B) in
+      by-through _ (let v = m .val (t .B) in
       by-read (Next line42 (λ y. withValue y v) []) o v
       (goes (to line51) (inl refl) refl refl refl)
       (goes (to line48) (inr (inl refl)) refl refl refl)
       (goes (to line39) (inr (inr (inl refl))) refl refl refl))
   line-same line48 =
-      by-through (t .B) (by-dcas _ _ answered
+      by-through _ (by-dcas _ _ answered
       (goes (to line39) (inl refl) refl refl refl))
   line-same line51 =
-      by-through (t .B) (by-dcas _ _ answered
+      by-through _ (by-dcas _ _ answered
       (goes (to line39) (inl refl) refl refl refl))
   line-same line54 =
-      by-if (Next line54 (λ y. withA y (m .hat)) []) (g ≟ 0)
+      by-if (Next line54 (λ y. withA y (m .hat)) []) (_ ≟ _)
       (λ _. goes (line60 setting (inA ∷ [])) (inl refl) refl refl refl)
       (λ _. goes (line56 setting (inA ∷ [])) (inr (inl refl)) refl refl refl)
   line-same line56 =
-      by-through (t .A) (by-either (m .val (t .A) ≟ᵛ X s) answered (goes (to line58) (inl refl) refl refl refl))
+      by-through _ (by-either (_ ≟ᵛ _) answered (goes (to line58) (inl refl) refl refl refl))
   line-same line58 =
-      by-through (t .A)
-      (let a = m .out (t .A) in
-      by-either (a ≟ none) answered
-      (by-if (Next line58 (λ y. withCounted (withA y a) (suc (t .counted))) [])
-      (suc (t .counted) ≟ g)
+      by-through _ (let a = m .out (t .A) in
+      by-either (_ ≟ _) answered
+      (by-if (Next line58 (λ y. withCounted (withA y a) (suc (t .counted))) []) (_ ≟ _)
       (λ _. goes (line60 setting (inA ∷ [])) (inl refl) refl refl refl)
       (λ _. goes (line56 setting (inA ∷ [])) (inr (inl refl)) refl refl refl)))
   line-same line60 =
-      by-through (t .A) (by-either (m .out (t .A) ≟ none) answered
+      by-through _ (by-either (_ ≟ _) answered
       (goes (line62 setting (inB ∷ [])) (inl refl) refl refl refl))
   line-same line62 =
-      by-through (t .A) (by-through (t .B)
-      (by-dcas _ _ (goes (to line64) (inl refl) refl refl refl) answered))
-  line-same line64 = by-through (t .A) (goes (to line74) (inl refl) refl refl refl)
+      by-through _ (by-through _ (by-dcas _ _ (goes (to line64) (inl refl) refl refl refl) answered))
+  line-same line64 = by-through _ (goes (to line74) (inl refl) refl refl refl)
   line-same line74 =
-      by-through (t .B)
-      (let b = m .out (t .B) in
-      by-if (Next line74 (λ y. withB (withA y (t .B)) b) []) (b ≟ none)
+      by-through _ (let b = m .out (t .B) in
+      by-if (Next line74 (λ y. withB (withA y (t .B)) b) []) (_ ≟ _)
       (λ _. goes (line82 setting (inA ∷ inB ∷ [])) (inl refl) refl refl refl)
       (λ _. goes (line77 setting (inA ∷ inB ∷ [])) (inr (inl refl)) refl refl refl))
-  line-same line77 = by-through (t .B) (goes (to line78) (inl refl) refl refl refl)
+  line-same line77 = by-through _ (goes (to line78) (inl refl) refl refl refl)
   line-same line78 =
-      by-through (t .B) (by-either (m .val (t .B) ≟ᵛ t .value)
+      by-through _ (by-either (_ ≟ᵛ _)
       (goes (to line79) (inr (inl refl)) refl refl refl)
       (goes (to line77) (inl refl) refl refl refl))
-  line-same line79 = by-through (t .A) (goes (line81 setting (inA ∷ [])) (inl refl) refl refl refl)
+  line-same line79 = by-through _ (goes (line81 setting (inA ∷ [])) (inl refl) refl refl refl)
   line-same line81 =
-      by-through (t .A)
-      (let b = m .out (t .A) in
-      by-if (Next line81 (λ y. withB y b) []) (b ≟ none)
+      by-through _ (let b = m .out (t .A) in
+      by-if (Next line81 (λ y. withB y b) []) (_ ≟ _)
       (λ _. goes (line82 setting (inB ∷ [])) (inl refl) refl refl refl)
-      (λ _. by-if (Next line81 (λ y. withB y b) []) (t .value ≟ᵛ X s)
+      (λ _. by-if (Next line81 (λ y. withB y b) []) (_ ≟ᵛ _)
       (λ _. goes (line82 setting (inB ∷ [])) (inl refl) refl refl refl)
       (λ _. goes (line77 setting (inB ∷ [])) (inr (inl refl)) refl refl refl)))
-  line-same line82 = by-through (t .A) answered
+  line-same line82 = by-through _ answered
 
   -- Whatever stands in registers that a line does not use, its effect is the same.
   lines-use : (st : Step) → AgreeOn (among (uses st)) t u

@@ -6,8 +6,8 @@ use mathlib.Core.List.{List}
 use Prim.Native.Nat.{ℕ, suc, _<_}
 use native.Mathlib.Omega.{arith}
 use borrow.Author.Tests.{ltb-true, lt-ltb, le-leb}
-use Rattle.machine.specs.Choice.{_≟_, if_then_else_}
-use Rattle.machine.specs.Values.{Value, N, X, Y, _≟ᵛ_}
+use Rattle.machine.specs.Choice.{_≟_}
+use Rattle.machine.specs.Values.{_≟ᵛ_}
 use Rattle.machine.specs.Operations.{Operation, idle, push, pop, add, remove}
 use Rattle.machine.specs.Steps.{
   line2,
@@ -25,7 +25,7 @@ use Rattle.machine.specs.Steps.{
   line72,
   isStepIn,
 }
-use Rattle.machine.specs.Tasks.{Task, none, goal, goto, withD, withCounted}
+use Rattle.machine.specs.Tasks.{Task, goal, goto, withD, withCounted}
 use Rattle.machine.specs.Lines.{Memory, Write, spliced, act, noNode}
 use Rattle.machine.proofs.Basics.Choices.{by-if}
 use Rattle.machine.proofs.Shape.BusyLaws.{NodeOrNone, BusyAt, BusyFacts}
@@ -42,7 +42,6 @@ use Rattle.machine.proofs.Shape.Fits.{
   by-dcas,
 }
 use Rattle.machine.proofs.Shape.Moves.{
-  Lands,
   lands,
   lands-if,
   back-lands,
@@ -64,28 +63,27 @@ module _ (S g : ℕ) (m : Memory) (M : MemoryFits S m) (t : Task) (f : ℕ) wher
   pub line68-fits : LineFits S g m t f line68
   unfolding act isStepIn
   line68-fits F =
-      by-through S g (t .A) t (λ _.
+      by-through S g t (λ _.
       goes-on tt
-      (moves F (lands-if (m .val (t .A) ≟ᵛ Y (t .side)) (lands (part F) refl) (back-lands t (part F)))))
+      (moves F (lands-if (_ ≟ᵛ _) (lands (part F) refl) (back-lands t (part F)))))
 
   pub line69-fits : LineFits S g m t f line69
   unfolding act isStepIn
   line69-fits F =
-      by-through S g (t .A) t (λ _. goes-on tt (moves-B F (lands (part F) refl) (M .inn-ok (t .A))))
+      by-through S g t (λ _. goes-on tt (moves-B F (lands (part F) refl) (M .inn-ok (t .A))))
 
   pub line70-fits : LineFits S g m t f line70
   unfolding act isStepIn
   line70-fits F =
-      let c = m .out (t .B) in
-      by-through S g (t .B) t (λ _.
+      by-through S g t (λ _.
       goes-on tt
-      (moves-C F (lands-if (c ≟ none) (back-lands t (part F)) (lands (part F) refl)) (M .out-ok (t .B))))
+      (moves-C F (lands-if (_ ≟ _) (back-lands t (part F)) (lands (part F) refl)) (M .out-ok (t .B))))
 
   pub line72-fits : LineFits S g m t f line72
   unfolding act
   line72-fits F =
-      by-through S g (t .C) t (λ nC.
-      goes-on (by-if (WritesFit S) (m .hat ≟ t .A) (λ _. search fitting) (λ _. tt))
+      by-through S g t (λ nC.
+      goes-on (by-if (WritesFit S) (_ ≟ _) (λ _. search fitting) (λ _. tt))
       (moves F (back-lands t (part F))))
 
 -- ---- 28 and 31: nodes are taken for a chain.
@@ -100,9 +98,9 @@ module _ (S g : ℕ) (m : Memory) (M : MemoryFits S m) (t : Task) (f : ℕ) (f-o
   pub line28-fits : LineFits S g m t f line28
   unfolding act isStepIn
   line28-fits F =
-      by-if (Fits S g) (f ≟ none) (λ _. ends tt (no-node-answers (t .operation))) (λ nf.
+      by-if (Fits S g) (_ ≟ _) (λ _. ends tt (no-node-answers (t .operation))) (λ nf.
       goes-on (search (fitting, f-ok))
-      (by-if (λ st. BusyFacts S g (goto t′ st)) (goal g t ≟ 0) alone more))
+      (by-if (λ st. BusyFacts S g (goto t′ st)) (_ ≟ _) alone more))
     where
       t′ : Task
       t′ = withCounted (withD t f) 0
@@ -120,10 +118,10 @@ module _ (S g : ℕ) (m : Memory) (M : MemoryFits S m) (t : Task) (f : ℕ) (f-o
   pub line31-fits : LineFits S g m t f line31
   unfolding act isStepIn
   line31-fits F =
-      by-through S g (t .D) t (λ nD.
-      by-if (Fits S g) (f ≟ none) (λ _. goes-on tt (moves F (lands (part F) refl))) (λ nf.
+      by-through S g t (λ nD.
+      by-if (Fits S g) (_ ≟ _) (λ _. goes-on tt (moves F (lands (part F) refl))) (λ nf.
       goes-on (search (fitting, f-ok))
-      (by-if (λ st. BusyFacts S g (goto t′ st)) (n ≟ goal g t) done more)))
+      (by-if (λ st. BusyFacts S g (goto t′ st)) (_ ≟ _) done more)))
     where
       n : ℕ
       n = suc (t .counted)
@@ -153,35 +151,25 @@ module _ (S g : ℕ) (m : Memory) (M : MemoryFits S m) (t : Task) (f : ℕ) wher
   pub line17-fits : LineFits S g m t f line17
   unfolding act isStepIn
   line17-fits F =
-      by-through S g (t .A) t (λ _. goes-on tt (moves-value F l v (M .val-ok (t .A))))
-    where
-      v : Value
-      v = m .val (t .A)
-
-      l :
-          Lands (t .operation)
-          (if v ≟ᵛ N (t .side) then line18 else
-          if v ≟ᵛ Y (t .side) then line67 else
-          if v ≟ᵛ X (t .side) then line24 else
-          line15)
-      l =
-          lands-if (v ≟ᵛ N (t .side)) (lands (part F) refl)
-          (lands-if (v ≟ᵛ Y (t .side)) (lands (part F) refl)
-          (lands-if (v ≟ᵛ X (t .side)) (lands (part F) refl) (lands (part F) refl)))
+      by-through S g t (λ _.
+      goes-on tt
+      (moves-value F
+      (lands-if (_ ≟ᵛ _) (lands (part F) refl)
+      (lands-if (_ ≟ᵛ _) (lands (part F) refl) (lands-if (_ ≟ᵛ _) (lands (part F) refl) (lands (part F) refl))))
+      (m .val (t .A)) (M .val-ok (t .A))))
 
   pub line18-fits : LineFits S g m t f line18
   unfolding act isStepIn
   line18-fits F =
-      let a = m .out (t .A) in
-      by-through S g (t .A) t (λ _.
+      by-through S g t (λ _.
       goes-on tt
-      (moves-A F (lands-if (a ≟ none) (lands (part F) refl) (lands (part F) refl)) (M .out-ok (t .A))))
+      (moves-A F (lands-if (_ ≟ _) (lands (part F) refl) (lands (part F) refl)) (M .out-ok (t .A))))
 
   pub line24-fits : LineFits S g m t f line24
   unfolding act isStepIn
   line24-fits F =
-      by-through S g (t .A) t (λ _.
-      by-through S g (t .D) t (λ nD.
+      by-through S g t (λ _.
+      by-through S g t (λ nD.
       goes-on (search fitting) (moves-B F (lands (part F) refl) (M .out-ok (t .A)))))
 
   -- A push goes back to 2 with D none and counted 0; every other operation ends.
@@ -202,7 +190,6 @@ module _ (S g : ℕ) (m : Memory) (M : MemoryFits S m) (t : Task) (f : ℕ) wher
   pub line25-fits : LineFits S g m t f line25
   unfolding act isStepIn
   line25-fits F =
-      by-through S g (t .A) t (λ nA.
-      by-dcas S g _ _
-      (spliced-fits F _ (search fitting))
+      by-through S g t (λ nA.
+      by-dcas S g _ _ (spliced-fits F _ (search fitting))
       (goes-on tt (moves F (lands (part F) refl))))

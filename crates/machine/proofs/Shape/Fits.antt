@@ -96,10 +96,10 @@ module _ {S g : ℕ} {st : Step} (t : Task) (F : BusyAt S g st t) where
   pub D-fits : NodeOrNone S (t .D)
   D-fits = F .D-ok
 
-  pub read-fits : ValueFits (t .value)
-  read-fits = (F .has-word, value-read-ok F)
+  pub value-fits : ValueFits (t .value)
+  value-fits = (F .has-word, value-read-ok F)
 
-pub ruleset fitting = (A-fits, B-fits, C-fits, D-fits, read-fits, N-fits, X-fits, Y-fits, none-fits)
+pub ruleset fitting = (A-fits, B-fits, C-fits, D-fits, value-fits, N-fits, X-fits, Y-fits, none-fits)
 
 -- A line fits, for a task t that stands at it, sees m and would take the node f.
 abbrev pub LineFits : (S growth : ℕ) → Memory → Task → (f : ℕ) → Step → Type 0
@@ -107,8 +107,8 @@ LineFits S g m t f st = BusyAt S g st t → Fits S g (act st (t .side) (opposite
 
 -- ---- Tests taken apart.
 module _ (S g : ℕ) where
-  pub by-through : (x : ℕ) (t : Task) {e : Effect} → (x ≢ none → Fits S g e) → Fits S g (through x t e)
-  by-through x t {e} f = go (x ≟ none)
+  pub by-through : (t : Task) {x : ℕ} {e : Effect} → (x ≢ none → Fits S g e) → Fits S g (through x t e)
+  by-through t {x} {e} f = go (x ≟ none)
     where
       go : (d : Dec (x ≡ none)) → Fits S g (if d then refused t else e)
       go (yes h) = turns-back

@@ -6,13 +6,22 @@ use Rattle.machine.specs.Choice.{_≟_}
 use Rattle.machine.specs.Sides.{opposite}
 use Rattle.machine.specs.Values.{Value, never, bag, N, X, Y, _≟ᵛ_, encode, sameStored}
 use Rattle.machine.specs.Steps.{line39, line40, line42, line48, line51, stepNumber, isStepIn}
-use Rattle.machine.specs.Tasks.{Task, none, goto, withValue}
+use Rattle.machine.specs.Tasks.{Task, goto, withValue}
 use Rattle.machine.specs.Shape.{valueReadOk}
 use Rattle.machine.specs.Lines.{Memory, afterRead, act}
 use Rattle.machine.proofs.Basics.Tests.{or-left, or-right}
 use Rattle.machine.proofs.Words.ValueLaws.{HasWord, decoded-bag, stored-same}
 use Rattle.machine.proofs.Shape.BusyLaws.{BusyAt, BusyFacts}
-use Rattle.machine.proofs.Shape.Fits.{ValueFits, goes-on, ends, MemoryFits, fitting, LineFits, by-through, by-dcas}
+use Rattle.machine.proofs.Shape.Fits.{
+  ValueFits,
+  goes-on,
+  ends,
+  MemoryFits,
+  fitting,
+  LineFits,
+  by-through,
+  by-dcas,
+}
 use Rattle.machine.proofs.Shape.Moves.{
   lands,
   lands-if,
@@ -33,10 +42,9 @@ module _ (S g : ℕ) (m : Memory) (M : MemoryFits S m) (t : Task) (f : ℕ) wher
   pub line40-fits : LineFits S g m t f line40
   unfolding act isStepIn
   line40-fits F =
-      let b = m .inn (t .A) in
-      by-through S g (t .A) t (λ _.
+      by-through S g t (λ _.
       goes-on tt
-      (moves-B F (lands-if (b ≟ none) (lands (part F) refl) (lands (part F) refl)) (M .inn-ok (t .A))))
+      (moves-B F (lands-if (_ ≟ _) (lands (part F) refl) (lands (part F) refl)) (M .inn-ok (t .A))))
 
   -- The opposite side's N or X was read for 48.
   reads-48 :
@@ -64,14 +72,14 @@ module _ (S g : ℕ) (m : Memory) (M : MemoryFits S m) (t : Task) (f : ℕ) wher
       let w = encode (N z) in
       let n = encode (N (opposite (t .side))) in
       let x = encode (X (opposite (t .side))) in
-      by-if (λ st. BusyFacts S g (goto (withValue t (N z)) st)) (N z ≟ᵛ N (opposite (t .side)))
+      by-if (λ st. BusyFacts S g (goto (withValue t (N z)) st)) (_ ≟ᵛ _)
       (λ e. reads-48 F (N z) (h .0) (or-left (sameStored w n) (sameStored w x) (stored-same (ap encode e))))
       (λ _. moves-value F (lands (part F) refl) (N z) h)
   read-fits F (X z) h =
       let w = encode (X z) in
       let n = encode (N (opposite (t .side))) in
       let x = encode (X (opposite (t .side))) in
-      by-if (λ st. BusyFacts S g (goto (withValue t (X z)) st)) (X z ≟ᵛ X (opposite (t .side)))
+      by-if (λ st. BusyFacts S g (goto (withValue t (X z)) st)) (_ ≟ᵛ _)
       (λ e. reads-48 F (X z) (h .0) (or-right (sameStored w n) (sameStored w x) (stored-same (ap encode e))))
       (λ _. moves-value F (lands (part F) refl) (X z) h)
   read-fits F (Y z) h = moves-value F (lands (part F) refl) (Y z) h
@@ -79,20 +87,18 @@ module _ (S g : ℕ) (m : Memory) (M : MemoryFits S m) (t : Task) (f : ℕ) wher
   pub line42-fits : LineFits S g m t f line42
   unfolding act
   line42-fits F =
-      by-through S g (t .B) t (λ _. goes-on tt (read-fits F (m .val (t .B)) (M .val-ok (t .B))))
+      by-through S g t (λ _. goes-on tt (read-fits F (m .val (t .B)) (M .val-ok (t .B))))
 
   pub line48-fits : LineFits S g m t f line48
   unfolding act isStepIn
   line48-fits F =
-      by-through S g (t .B) t (λ _.
-      by-dcas S g _ _
-      (ends tt refl)
+      by-through S g t (λ _.
+      by-dcas S g _ _ (ends tt refl)
       (goes-on tt (moves F (lands (part F) refl))))
 
   pub line51-fits : LineFits S g m t f line51
   unfolding act isStepIn
   line51-fits F =
-      by-through S g (t .B) t (λ nB.
-      by-dcas S g _ _
-      (ends (search fitting) refl)
+      by-through S g t (λ nB.
+      by-dcas S g _ _ (ends (search fitting) refl)
       (goes-on tt (moves F (lands (part F) refl))))

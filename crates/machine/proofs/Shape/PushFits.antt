@@ -4,15 +4,24 @@ use mathlib.Core.Bool.{true}
 use Prim.Native.Nat.{ℕ}
 use Rattle.machine.specs.declared.Stored.{Stored}
 use Rattle.machine.specs.Choice.{_≟_}
-use Rattle.machine.specs.Values.{bag, X, _≟ᵛ_, stored, bagOk}
+use Rattle.machine.specs.Values.{bag, _≟ᵛ_, stored, bagOk}
 use Rattle.machine.specs.Operations.{Operation, idle, push, pop, add, remove, argumentOk}
 use Rattle.machine.specs.Steps.{line2, line3, line5, line8, isStepIn}
-use Rattle.machine.specs.Tasks.{Task, none}
+use Rattle.machine.specs.Tasks.{Task}
 use Rattle.machine.specs.Lines.{Memory, act}
 use Rattle.machine.proofs.Basics.Contradiction.{clash}
 use Rattle.machine.proofs.Words.ValueLaws.{bag-has-word, bag-value-ok}
 use Rattle.machine.proofs.Words.StepLaws.{pushing, growing, hasPart}
-use Rattle.machine.proofs.Shape.Fits.{ValueFits, goes-on, ends, MemoryFits, fitting, LineFits, by-through, by-dcas}
+use Rattle.machine.proofs.Shape.Fits.{
+  ValueFits,
+  goes-on,
+  ends,
+  MemoryFits,
+  fitting,
+  LineFits,
+  by-through,
+  by-dcas,
+}
 use Rattle.machine.proofs.Shape.Moves.{lands, lands-if, part, moves, moves-A, moves-B}
 
 -- Only a push has these lines: it may go on to those of an add, and its argument is a bag.
@@ -38,10 +47,9 @@ module _ (S g : ℕ) (m : Memory) (M : MemoryFits S m) (t : Task) (f : ℕ) wher
   pub line3-fits : LineFits S g m t f line3
   unfolding act isStepIn
   line3-fits F =
-      let b = m .out (t .A) in
-      by-through S g (t .A) t (λ _.
+      by-through S g t (λ _.
       goes-on tt
-      (moves-B F (lands-if (b ≟ none) (lands (part F) refl) (lands (part F) refl)) (M .out-ok (t .A))))
+      (moves-B F (lands-if (_ ≟ _) (lands (part F) refl) (lands (part F) refl)) (M .out-ok (t .A))))
 
   pub line5-fits : LineFits S g m t f line5
   unfolding act isStepIn
@@ -49,15 +57,14 @@ module _ (S g : ℕ) (m : Memory) (M : MemoryFits S m) (t : Task) (f : ℕ) wher
       let n = t .argument in
       let ok = bag-argument (t .operation) (stored n) (part F) (F .argument-ok) in
       let fits : ValueFits (bag n) = (bag-has-word n ok, bag-value-ok (stored n) ok) in
-      by-through S g (t .A) t (λ nA.
-      by-through S g (t .B) t (λ nB.
-      by-dcas S g _ _
-      (ends (search fitting) refl)
+      by-through S g t (λ nA.
+      by-through S g t (λ nB.
+      by-dcas S g _ _ (ends (search fitting) refl)
       (goes-on tt (moves F (lands (part F) refl)))))
 
   pub line8-fits : LineFits S g m t f line8
   unfolding act isStepIn
   line8-fits F =
       let grows = push-grows (t .operation) (part F) in
-      by-through S g (t .A) t (λ _.
-      goes-on tt (moves F (lands-if (m .val (t .A) ≟ᵛ X (t .side)) (lands grows refl) (lands grows refl))))
+      by-through S g t (λ _.
+      goes-on tt (moves F (lands-if (_ ≟ᵛ _) (lands grows refl) (lands grows refl))))

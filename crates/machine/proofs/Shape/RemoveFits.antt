@@ -3,8 +3,8 @@ use mathlib.Core.Path.{_≡_, refl}
 use Prim.Native.Nat.{ℕ, suc, _<_}
 use native.Mathlib.Omega.{arith}
 use borrow.Author.Tests.{eqb-true, ltb-true, lt-ltb, le-leb}
-use Rattle.machine.specs.Choice.{_≟_, if_then_else_}
-use Rattle.machine.specs.Values.{X, _≟ᵛ_}
+use Rattle.machine.specs.Choice.{_≟_}
+use Rattle.machine.specs.Values.{_≟ᵛ_}
 use Rattle.machine.specs.Steps.{
   line54,
   line56,
@@ -20,7 +20,7 @@ use Rattle.machine.specs.Steps.{
   line82,
   isStepIn,
 }
-use Rattle.machine.specs.Tasks.{Task, none, goal, goto, withA, withCounted}
+use Rattle.machine.specs.Tasks.{Task, goal, goto, withA, withCounted}
 use Rattle.machine.specs.Lines.{Memory, act}
 use Rattle.machine.proofs.Basics.Choices.{by-if}
 use Rattle.machine.proofs.Shape.BusyLaws.{BusyFacts}
@@ -36,7 +36,6 @@ use Rattle.machine.proofs.Shape.Fits.{
   by-dcas,
 }
 use Rattle.machine.proofs.Shape.Moves.{
-  Lands,
   lands,
   lands-if,
   part,
@@ -54,7 +53,7 @@ module _ (S g : ℕ) (m : Memory) (M : MemoryFits S m) (t : Task) (f : ℕ) wher
   unfolding act isStepIn
   line54-fits F =
       goes-on tt
-      (by-if (λ st. BusyFacts S g (goto t′ st)) (goal g t ≟ 0)
+      (by-if (λ st. BusyFacts S g (goto t′ st)) (_ ≟ _)
       (λ _. moves-A F (lands (part F) refl) (λ _. M .hat-ok)) more)
     where
       t′ : Task
@@ -71,8 +70,8 @@ module _ (S g : ℕ) (m : Memory) (M : MemoryFits S m) (t : Task) (f : ℕ) wher
   pub line56-fits : LineFits S g m t f line56
   unfolding act isStepIn
   line56-fits F =
-      by-through S g (t .A) t (λ _.
-      by-if (Fits S g) (m .val (t .A) ≟ᵛ X (t .side)) (λ _. ends tt refl) (λ _.
+      by-through S g t (λ _.
+      by-if (Fits S g) (_ ≟ᵛ _) (λ _. ends tt refl) (λ _.
       goes-on tt
       (stands F line58 (part F) (F .counted-ok) (F .value-ok) (F .has-word)
       (F .A-ok) (F .B-ok) (F .C-ok) (F .D-ok))))
@@ -80,9 +79,9 @@ module _ (S g : ℕ) (m : Memory) (M : MemoryFits S m) (t : Task) (f : ℕ) wher
   pub line58-fits : LineFits S g m t f line58
   unfolding act isStepIn
   line58-fits F =
-      by-through S g (t .A) t (λ _.
-      by-if (Fits S g) (a ≟ none) (λ _. ends tt refl) (λ _.
-      goes-on tt (by-if (λ st. BusyFacts S g (goto t′ st)) (n ≟ goal g t) done more)))
+      by-through S g t (λ _.
+      by-if (Fits S g) (_ ≟ _) (λ _. ends tt refl) (λ _.
+      goes-on tt (by-if (λ st. BusyFacts S g (goto t′ st)) (_ ≟ _) done more)))
     where
       a : ℕ
       a = m .out (t .A)
@@ -109,24 +108,23 @@ module _ (S g : ℕ) (m : Memory) (M : MemoryFits S m) (t : Task) (f : ℕ) wher
   pub line60-fits : LineFits S g m t f line60
   unfolding act isStepIn
   line60-fits F =
-      by-through S g (t .A) t (λ _.
-      by-if (Fits S g) (m .out (t .A) ≟ none) (λ _. ends tt refl)
+      by-through S g t (λ _.
+      by-if (Fits S g) (_ ≟ _) (λ _. ends tt refl)
       (λ _. goes-on tt (moves-B F (lands (part F) refl) (M .out-ok (t .A)))))
 
   pub line62-fits : LineFits S g m t f line62
   unfolding act isStepIn
   line62-fits F =
-      by-through S g (t .A) t (λ nA.
-      by-through S g (t .B) t (λ nB.
-      by-dcas S g _ _
-      (goes-on (search fitting) (moves F (lands (part F) refl)))
+      by-through S g t (λ nA.
+      by-through S g t (λ nB.
+      by-dcas S g _ _ (goes-on (search fitting) (moves F (lands (part F) refl)))
       (ends tt refl)))
 
   pub line64-fits : LineFits S g m t f line64
   unfolding act isStepIn
   line64-fits F =
-      by-through S g (t .A) t (λ nA.
-      goes-on (by-if (WritesFit S) (m .out (t .A) ≟ t .B) (λ _. search fitting) (λ _. tt))
+      by-through S g t (λ nA.
+      goes-on (by-if (WritesFit S) (_ ≟ _) (λ _. search fitting) (λ _. tt))
       (moves F (lands (part F) refl)))
 
 -- ---- 74 to 82: the nodes cut off are marked and unlinked.
@@ -134,47 +132,40 @@ module _ (S g : ℕ) (m : Memory) (M : MemoryFits S m) (t : Task) (f : ℕ) wher
   pub line74-fits : LineFits S g m t f line74
   unfolding act isStepIn
   line74-fits F =
-      let b = m .out (t .B) in
-      by-through S g (t .B) t (λ _.
+      by-through S g t (λ _.
       goes-on tt
-      (moves-registers F (lands-if (b ≟ none) (lands (part F) refl) (lands (part F) refl))
+      (moves-registers F (lands-if (_ ≟ _) (lands (part F) refl) (lands (part F) refl))
       (F .B-ok) (M .out-ok (t .B)) (F .C-ok) (F .D-ok)))
 
   pub line77-fits : LineFits S g m t f line77
   unfolding act isStepIn
   line77-fits F =
       let v = m .val (t .B) in
-      by-through S g (t .B) t (λ _. goes-on tt (moves-value F (lands (part F) refl) v (M .val-ok (t .B))))
+      by-through S g t (λ _. goes-on tt (moves-value F (lands (part F) refl) v (M .val-ok (t .B))))
 
   pub line78-fits : LineFits S g m t f line78
   unfolding act isStepIn
   line78-fits F =
-      by-through S g (t .B) t (λ nB.
-      by-if (Fits S g) (m .val (t .B) ≟ᵛ t .value)
+      by-through S g t (λ nB.
+      by-if (Fits S g) (_ ≟ᵛ _)
       (λ _. goes-on (search fitting) (moves F (lands (part F) refl)))
       (λ _. goes-on tt (moves F (lands (part F) refl))))
 
   pub line79-fits : LineFits S g m t f line79
   unfolding act isStepIn
   line79-fits F =
-      by-through S g (t .A) t (λ nA.
+      by-through S g t (λ nA.
       goes-on (search fitting) (moves-A F (lands (part F) refl) (F .B-ok)))
 
   pub line81-fits : LineFits S g m t f line81
   unfolding act isStepIn
   line81-fits F =
-      by-through S g (t .A) t (λ _. goes-on tt (moves-B F l (M .out-ok (t .A))))
-    where
-      b : ℕ
-      b = m .out (t .A)
-
-      l :
-          Lands (t .operation)
-          (if b ≟ none then line82 else if t .value ≟ᵛ X (t .side) then line82 else line77)
-      l =
-          lands-if (b ≟ none) (lands (part F) refl)
-          (lands-if (t .value ≟ᵛ X (t .side)) (lands (part F) refl) (lands (part F) refl))
+      by-through S g t (λ _.
+      goes-on tt
+      (moves-B F
+      (lands-if (_ ≟ _) (lands (part F) refl) (lands-if (_ ≟ᵛ _) (lands (part F) refl) (lands (part F) refl)))
+      (M .out-ok (t .A))))
 
   pub line82-fits : LineFits S g m t f line82
   unfolding act
-  line82-fits F = by-through S g (t .A) t (λ nA. ends (search fitting) refl)
+  line82-fits F = by-through S g t (λ nA. ends (search fitting) refl)

@@ -1,6 +1,6 @@
 -- Laws of marking: how many marks there are, what a mark keeps, and one turn of each loop of Allocate.antt.
 use mathlib.Core.Path.{_≡_, refl, sym, ap, _∙_}
-use mathlib.Core.Logic.{_≢_}
+use mathlib.Core.Logic.{_≢_, _⊎_, inl, inr}
 use mathlib.Core.Bool.{cond}
 use mathlib.Core.List.{List, [], _∷_}
 use Prim.Native.Nat.{ℕ, zero, suc, _<_, _≤_, _+_, _-_}
@@ -169,11 +169,14 @@ room-mark {S} {m} r x = mark-elim S m x (Room S) (room-enqueue r x) (λ _. r)
 pub mark-grows : {S : ℕ} {m : Marking} → Room S m → (x : ℕ) → Grows m (mark S m x)
 mark-grows {S} {m} r x = mark-elim S m x (Grows m) (enqueue-grows r x) (λ _. grows-refl m)
 
-mark-keeps : {S : ℕ} {m : Marking} → Room S m → (x y : ℕ) → HasMark m y → HasMark (mark S m x) y
-mark-keeps r x y f = mark-grows r x .stays y f
-
 pub mark-marks : {S : ℕ} {m : Marking} → Room S m → (x : ℕ) → x < S → HasMark (mark S m x) x
 mark-marks {S} {m} r x l = mark-elim S m x (λ v. HasMark v x) (enqueue-marks r x) (λ f. f l)
+
+-- Of two nodes marked, each has a mark.
+two-marked : {S : ℕ} {m : Marking} → Room S m → (a b y : ℕ) → (y ≡ a) ⊎ (y ≡ b) → y < S
+    → HasMark (mark S (mark S m a) b) y
+two-marked r a b y (inl e) l = mark-grows (room-mark r a) b .stays y (rw e (mark-marks r a (rw e at l)))
+two-marked r a b y (inr e) l = rw e (mark-marks (room-mark r a) b (rw e at l))
 
 -- ---- A list marked.
 -- What is said of numbers, of each element of a list.
@@ -213,8 +216,8 @@ module _ (ws : List ℕ) {m : Marking} (r : Room (nodeCount ws) m) (i : ℕ) whe
 
   pub visit-marks : LinksMarked ws (visit ws m i) (getD (m .queue) i 0)
   unfolding visit
-  visit-marks left l = search (mark-marks, mark-keeps, room-mark)
-  visit-marks right l = search (mark-marks, mark-keeps, room-mark)
+  visit-marks left = two-marked r _ _ _ (search (inl, inr))
+  visit-marks right = two-marked r _ _ _ (search (inl, inr))
 
 -- ---- One turn of the loop over the queue. Room bounds the tail, so the turns do not run out before the queue does.
 pub visitFrom-next : (ws : List ℕ) (n i : ℕ) (m : Marking) → i < m .tail

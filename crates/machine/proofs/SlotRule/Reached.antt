@@ -111,13 +111,13 @@ module _ (ws : List ℕ) (P : ℕ → Type 0) where
   pub each-root : ((s : Side) → P (hat ws s)) → ((k : ℕ) (r : Register) → P (heldIn (task ws k) r))
       → Each P (roots ws)
   unfolding roots
-  each-root h f = (h left, (h right, each-held f (taskCount ws) 0))
+  each-root h f = search (h left, h right, each-held f (taskCount ws) 0)
 
   -- Every hat is a root.
   pub root-hat : Each P (roots ws) → (s : Side) → P (hat ws s)
   unfolding roots
-  root-hat e left = e .0
-  root-hat e right = e .1 .0
+  root-hat e left = search
+  root-hat e right = search
 
   held-register : (n k j : ℕ) (r : Register) → Each P (heldFrom ws n k) → k ≤ j → j < n + k
       → P (heldIn (task ws j) r)
@@ -136,7 +136,7 @@ module _ (ws : List ℕ) (P : ℕ → Type 0) where
   -- What a register of a task holds is a root.
   pub root-register : Each P (roots ws) → (k : ℕ) (r : Register) → k < taskCount ws → P (heldIn (task ws k) r)
   unfolding roots
-  root-register e k r l = held-register (taskCount ws) 0 k r (e .1 .1) (omega arith) (omega arith)
+  root-register e k r l = held-register (taskCount ws) 0 k r (search) (omega arith) (omega arith)
 
 -- ---- Sound: what is queued is reachable, and what is marked is queued.
 record Sound (ws : List ℕ) (m : Marking) : Type 0 where

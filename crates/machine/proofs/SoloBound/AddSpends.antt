@@ -80,16 +80,16 @@ module _ (extra S g : ℕ) (few : g ≤ 64) {s o : Side} {m : View} {class : ℕ
   unfolding act
   line28-spends (soon v h) =
       let off = still-off-Y f (X s) (λ q. refute (cc)) (λ y. refute (cc)) in
-      ok-if Ok (λ e. e) (f ≟ none) (λ _. answered (no-node-answers (t .operation))) (λ _.
+      ok-if Ok (λ e. e) (_ ≟ _) (λ _. answered (no-node-answers (t .operation))) (λ _.
       ok-if Ok
-      (λ st. writing (out≔ f none ∷ inn≔ f none ∷ val≔ f (X s) ∷ []) (next (withCounted (withD t f) 0) st)) (g ≟ 0)
+      (λ st. writing (out≔ f none ∷ inn≔ f none ∷ val≔ f (X s) ∷ []) (next (withCounted (withD t f) 0) st)) (_ ≟ _)
       (λ _. goes (goto (withCounted (withD t f) 0) line15) (omega arith) (soon off (omega arith)))
       (λ some. goes (goto (withCounted (withD t f) 0) line31) (omega arith)
       (record { below = omega arith; when = soon off (omega arith) })))
   line28-spends (late h) =
-      ok-if Ok (λ e. e) (f ≟ none) (λ _. answered (no-node-answers (t .operation))) (λ _.
+      ok-if Ok (λ e. e) (_ ≟ _) (λ _. answered (no-node-answers (t .operation))) (λ _.
       ok-if Ok
-      (λ st. writing (out≔ f none ∷ inn≔ f none ∷ val≔ f (X s) ∷ []) (next (withCounted (withD t f) 0) st)) (g ≟ 0)
+      (λ st. writing (out≔ f none ∷ inn≔ f none ∷ val≔ f (X s) ∷ []) (next (withCounted (withD t f) 0) st)) (_ ≟ _)
       (λ _. goes (goto (withCounted (withD t f) 0) line15) (omega arith) (late (omega arith)))
       (λ some. goes (goto (withCounted (withD t f) 0) line31) (omega arith)
       (record { below = omega arith; when = late (omega arith) })))
@@ -106,16 +106,16 @@ module _ (extra S g : ℕ) (few : g ≤ 64) {s o : Side} {m : View} {class : ℕ
   unfolding act
   grows below (soon ne h) =
       let off = still-off-Y f (N s) (λ q. refute (cc)) ne in
-      passing t (t .D) (λ _.
-      ok-if Ok (λ e. e) (f ≟ none) (λ _. goes (goto t line15) (omega arith) (soon ne (omega arith))) (λ _.
-      ok-if Ok (λ st. writing more (next one-more st)) (suc (t .counted) ≟ g)
+      passing t (λ _.
+      ok-if Ok (λ e. e) (_ ≟ _) (λ _. goes (goto t line15) (omega arith) (soon ne (omega arith))) (λ _.
+      ok-if Ok (λ st. writing more (next one-more st)) (_ ≟ _)
       (λ _. goes (goto one-more line15) (omega arith) (soon off (omega arith)))
       (λ not-yet. goes (goto one-more line31) (omega arith)
       (record { below = omega arith; when = soon off (omega arith) }))))
   grows below (late h) =
-      passing t (t .D) (λ _.
-      ok-if Ok (λ e. e) (f ≟ none) (λ _. goes (goto t line15) (omega arith) (late (omega arith))) (λ _.
-      ok-if Ok (λ st. writing more (next one-more st)) (suc (t .counted) ≟ g)
+      passing t (λ _.
+      ok-if Ok (λ e. e) (_ ≟ _) (λ _. goes (goto t line15) (omega arith) (late (omega arith))) (λ _.
+      ok-if Ok (λ st. writing more (next one-more st)) (_ ≟ _)
       (λ _. goes (goto one-more line15) (omega arith) (late (omega arith)))
       (λ not-yet. goes (goto one-more line31) (omega arith)
       (record { below = omega arith; when = late (omega arith) }))))
@@ -150,10 +150,10 @@ module _ (extra S g : ℕ) (few : g ≤ 64) {s o : Side} {m : View} {class : ℕ
   by-value on-N on-Y on-X on-other some =
       let v = m .val (t .A) in
       let F : Step → Effect = λ st. next (withValue t v) st in
-      passing t (t .A) (λ _.
-      ok-if Ok F (v ≟ᵛ N s) (λ e. goes (goto (withValue t v) line18) some (on-N e)) (λ not-N.
-      ok-if Ok F (v ≟ᵛ Y s) (λ e. goes (goto (withValue t v) line67) some (on-Y e)) (λ not-Y.
-      ok-if Ok F (v ≟ᵛ X s) (λ e. goes (goto (withValue t v) line24) some (on-X e)) (λ not-X.
+      passing t (λ _.
+      ok-if Ok F (_ ≟ᵛ _) (λ e. goes (goto (withValue t v) line18) some (on-N e)) (λ not-N.
+      ok-if Ok F (_ ≟ᵛ _) (λ e. goes (goto (withValue t v) line67) some (on-Y e)) (λ not-Y.
+      ok-if Ok F (_ ≟ᵛ _) (λ e. goes (goto (withValue t v) line24) some (on-X e)) (λ not-X.
       goes (goto (withValue t v) line15) some (on-other not-N not-Y not-X)))))
 
   pub line17-spends : LineOk line17
@@ -174,14 +174,14 @@ module _ (extra S g : ℕ) (few : g ≤ 64) {s o : Side} {m : View} {class : ℕ
   unfolding act
   line18-spends (step-sure {i} P v h) =
       let few-links = path-at (L .structure) P .1 in
-      passing t (t .A) (λ _.
-      ok-if Ok (λ st. next (withA t (m .out (t .A))) st) (m .out (t .A) ≟ none)
+      passing t (λ _.
+      ok-if Ok (λ st. next (withA t (m .out (t .A))) st) (_ ≟ _)
       (λ e. absurd (path-leads (L .structure) P v e))
       (λ _. goes (goto (withA t (m .out (t .A))) line17) (omega (arith, size))
       (seek-sure (on-path P v refl) (omega (arith, size)))))
   line18-spends (step-stale W h) =
-      passing t (t .A) (λ _.
-      ok-if Ok (λ st. next (withA t (m .out (t .A))) st) (m .out (t .A) ≟ none)
+      passing t (λ _.
+      ok-if Ok (λ st. next (withA t (m .out (t .A))) st) (_ ≟ _)
       (λ _. goes (goto (withA t (m .out (t .A))) line15) (omega arith) (late (omega arith)))
       (λ ne.
       let w = ends-on ne W in
@@ -192,11 +192,11 @@ module _ (extra S g : ℕ) (few : g ≤ 64) {s o : Side} {m : View} {class : ℕ
   pub line24-spends : LineOk line24
   unfolding act
   line24-spends (soon e h) =
-      passing t (t .A) (λ _. passing t (t .D) (λ _.
+      passing t (λ _. passing t (λ _.
       goes (goto (withB t (m .out (t .A))) line25) (omega arith)
       (soon (record { links = e .links; path = e .path; is-X = e .is-X }, refl) (omega arith))))
   line24-spends (late h) =
-      passing t (t .A) (λ _. passing t (t .D) (λ _.
+      passing t (λ _. passing t (λ _.
       goes (goto (withB t (m .out (t .A))) line25) (omega arith) (late (omega arith))))
 
   abbrev splice : List Write
@@ -220,13 +220,13 @@ module _ (extra S g : ℕ) (few : g ≤ 64) {s o : Side} {m : View} {class : ℕ
   pub line25-spends : LineOk line25
   unfolding act
   line25-spends (soon e h) =
-      passing t (t .A) (λ _.
+      passing t (λ _.
       swapping _ _
       (λ _ _.
       splices (omega arith) (λ t'. start-N (hat-N-after (path-ready (e .0 .path))) (omega arith)) (t .operation))
       (λ ne. absurd (ne (cc) (cc))))
   line25-spends (late h) =
-      passing t (t .A) (λ _.
+      passing t (λ _.
       swapping _ _
       (λ _ _. splices (omega arith) (λ t'. start-anywhere (omega arith)) (t .operation))
       (λ _. goes (goto t line15) (omega arith) (late (omega arith))))

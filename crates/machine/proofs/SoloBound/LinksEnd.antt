@@ -9,7 +9,7 @@ use native.Mathlib.Omega.{arith}
 use Rattle.machine.specs.declared.Answer.{Answer}
 use Rattle.machine.specs.Choice.{_≟_}
 use Rattle.machine.specs.Sides.{Side}
-use Rattle.machine.specs.Values.{Value, N, X, _≟ᵛ_}
+use Rattle.machine.specs.Values.{Value, N, _≟ᵛ_}
 use Rattle.machine.specs.Operations.{Operation, idle, push, pop, add, remove}
 use Rattle.machine.specs.Steps.{Step, rest}
 use Rattle.machine.specs.Steps as Steps
@@ -86,8 +86,8 @@ module _ (held : ℕ → Bool) (k : ℕ) (s o : Side) (m : View) (class : ℕ �
   line24-ends : LineOk Steps.line24
   unfolding act
   line24-ends h =
-      ok-through Ok (t .A) (λ _. quiet) (λ _.
-      ok-through Ok (t .D) (λ _. quiet) (λ _.
+      ok-through Ok (λ _. quiet) (λ _.
+      ok-through Ok (λ _. quiet) (λ _.
       record { links-end = (E .0, walks-joined w-inn A-ends (E .1)) }))
     where
       w-inn : Wrote (m .inn) (t .D) (t .A) (update (m .inn) (t .D) (t .A))
@@ -102,7 +102,7 @@ module _ (held : ℕ → Bool) (k : ℕ) (s o : Side) (m : View) (class : ℕ �
   line25-ends : LineOk Steps.line25
   unfolding act
   line25-ends h =
-      ok-through Ok (t .A) (λ _. quiet) (λ _.
+      ok-through Ok (λ _. quiet) (λ _.
       ok-dcas Ok _ _ (λ _ _. by-operation (t .operation)) quiet)
     where
       w-out : Wrote (m .out) (t .A) (t .D) (update (m .out) (t .A) (t .D))
@@ -124,7 +124,7 @@ module _ (held : ℕ → Bool) (k : ℕ) (s o : Side) (m : View) (class : ℕ �
   line28-ends : LineOk Steps.line28
   unfolding act
   line28-ends h =
-      ok-if Ok (λ e. e) (f ≟ none) (λ _. quiet) (λ _.
+      ok-if Ok (λ e. e) (_ ≟ _) (λ _. quiet) (λ _.
       record {
         links-end =
             (walks-cut (update-wrote (m .out) f none) (E .0), walks-cut (update-wrote (m .inn) f none) (E .1));
@@ -133,8 +133,8 @@ module _ (held : ℕ → Bool) (k : ℕ) (s o : Side) (m : View) (class : ℕ �
   line31-ends : (f ≢ none → TakeOk held m class f) → LineOk Steps.line31
   unfolding act
   line31-ends free-f h =
-      ok-through Ok (t .D) (λ _. quiet) (λ _.
-      ok-if Ok (λ e. e) (f ≟ none) (λ _. quiet) (λ some.
+      ok-through Ok (λ _. quiet) (λ _.
+      ok-if Ok (λ e. e) (_ ≟ _) (λ _. quiet) (λ some.
       record {
         links-end = (
           walks-joined w-out (head-ends (h .chain) w-out (free-f some .not-new k)) (E .0),
@@ -159,90 +159,90 @@ module _ (held : ℕ → Bool) (k : ℕ) (s o : Side) (m : View) (class : ℕ �
   line64-ends : LineOk Steps.line64
   unfolding act
   line64-ends h =
-      ok-through Ok (t .A) (λ _. quiet) (λ _.
-      ok-if Ok (λ l. writing l (next t Steps.line74)) (m .out (t .A) ≟ t .B) (λ _. cut (t .A)) (λ _. quiet))
+      ok-through Ok (λ _. quiet) (λ _.
+      ok-if Ok (λ l. writing l (next t Steps.line74)) (_ ≟ _) (λ _. cut (t .A)) (λ _. quiet))
 
   line79-ends : LineOk Steps.line79
   unfolding act
-  line79-ends h = ok-through Ok (t .A) (λ _. quiet) (λ _. cut (t .A))
+  line79-ends h = ok-through Ok (λ _. quiet) (λ _. cut (t .A))
 
   line82-ends : LineOk Steps.line82
   unfolding act
-  line82-ends h = ok-through Ok (t .A) (λ _. quiet) (λ _. cut (t .A))
+  line82-ends h = ok-through Ok (λ _. quiet) (λ _. cut (t .A))
 
   line5-ends : LineOk Steps.line5
   unfolding act
   line5-ends h =
-      ok-through Ok (t .A) (λ _. quiet) (λ _.
-      ok-through Ok (t .B) (λ _. quiet) (λ _.
+      ok-through Ok (λ _. quiet) (λ _.
+      ok-through Ok (λ _. quiet) (λ _.
       ok-dcas Ok _ _ (λ _ _. record { links-end = E }) quiet))
 
   line51-ends : LineOk Steps.line51
   unfolding act
   line51-ends h =
-      ok-through Ok (t .B) (λ _. quiet) (λ _.
+      ok-through Ok (λ _. quiet) (λ _.
       ok-dcas Ok _ _ (λ _ _. record { links-end = E }) quiet)
 
   line62-ends : LineOk Steps.line62
   unfolding act
   line62-ends h =
-      ok-through Ok (t .A) (λ _. quiet) (λ _.
-      ok-through Ok (t .B) (λ _. quiet) (λ _.
+      ok-through Ok (λ _. quiet) (λ _.
+      ok-through Ok (λ _. quiet) (λ _.
       ok-dcas Ok _ _ (λ _ _. record { links-end = E }) quiet))
 
   line72-ends : LineOk Steps.line72
   unfolding act
   line72-ends h =
-      ok-through Ok (t .C) (λ _. quiet) (λ _.
-      ok-if Ok (λ l. writing l (next t (back t))) (m .hats s ≟ t .A) (λ _. record { links-end = E }) (λ _. quiet))
+      ok-through Ok (λ _. quiet) (λ _.
+      ok-if Ok (λ l. writing l (next t (back t))) (_ ≟ _) (λ _. record { links-end = E }) (λ _. quiet))
 
   line78-ends : LineOk Steps.line78
   unfolding act
   line78-ends h =
-      ok-through Ok (t .B) (λ _. quiet) (λ _.
-      ok-if Ok (λ e. e) (m .val (t .B) ≟ᵛ t .value) (λ _. record { links-end = E }) (λ _. quiet))
+      ok-through Ok (λ _. quiet) (λ _.
+      ok-if Ok (λ e. e) (_ ≟ᵛ _) (λ _. record { links-end = E }) (λ _. quiet))
 
   line48-ends : LineOk Steps.line48
   unfolding act
   line48-ends h =
-      ok-through Ok (t .B) (λ _. quiet) (λ _.
+      ok-through Ok (λ _. quiet) (λ _.
       ok-dcas Ok _ _ (λ _ _. quiet) quiet)
 
   line56-ends : LineOk Steps.line56
   unfolding act
   line56-ends h =
-      ok-through Ok (t .A) (λ _. quiet) (λ _.
-      ok-if Ok (λ e. e) (m .val (t .A) ≟ᵛ X s) (λ _. quiet) (λ _. quiet))
+      ok-through Ok (λ _. quiet) (λ _.
+      ok-if Ok (λ e. e) (_ ≟ᵛ _) (λ _. quiet) (λ _. quiet))
 
   line58-ends : LineOk Steps.line58
   unfolding act
   line58-ends h =
-      ok-through Ok (t .A) (λ _. quiet) (λ _.
-      ok-if Ok (λ e. e) (m .out (t .A) ≟ none) (λ _. quiet) (λ _. quiet))
+      ok-through Ok (λ _. quiet) (λ _.
+      ok-if Ok (λ e. e) (_ ≟ _) (λ _. quiet) (λ _. quiet))
 
   line60-ends : LineOk Steps.line60
   unfolding act
   line60-ends h =
-      ok-through Ok (t .A) (λ _. quiet) (λ _.
-      ok-if Ok (λ e. e) (m .out (t .A) ≟ none) (λ _. quiet) (λ _. quiet))
+      ok-through Ok (λ _. quiet) (λ _.
+      ok-if Ok (λ e. e) (_ ≟ _) (λ _. quiet) (λ _. quiet))
 
   pub links-end-after : (f ≢ none → TakeOk held m class f) → (st : Step) → LineOk st
   unfolding act
   links-end-after free-f rest h = quiet
   links-end-after free-f Steps.line2 h = quiet
-  links-end-after free-f Steps.line3 h = ok-through Ok (t .A) (λ _. quiet) (λ _. quiet)
+  links-end-after free-f Steps.line3 h = ok-through Ok (λ _. quiet) (λ _. quiet)
   links-end-after free-f Steps.line5 h = line5-ends h
-  links-end-after free-f Steps.line8 h = ok-through Ok (t .A) (λ _. quiet) (λ _. quiet)
+  links-end-after free-f Steps.line8 h = ok-through Ok (λ _. quiet) (λ _. quiet)
   links-end-after free-f Steps.line15 h = quiet
-  links-end-after free-f Steps.line17 h = ok-through Ok (t .A) (λ _. quiet) (λ _. quiet)
-  links-end-after free-f Steps.line18 h = ok-through Ok (t .A) (λ _. quiet) (λ _. quiet)
+  links-end-after free-f Steps.line17 h = ok-through Ok (λ _. quiet) (λ _. quiet)
+  links-end-after free-f Steps.line18 h = ok-through Ok (λ _. quiet) (λ _. quiet)
   links-end-after free-f Steps.line24 h = line24-ends h
   links-end-after free-f Steps.line25 h = line25-ends h
   links-end-after free-f Steps.line28 h = line28-ends h
   links-end-after free-f Steps.line31 h = line31-ends free-f h
   links-end-after free-f Steps.line39 h = quiet
-  links-end-after free-f Steps.line40 h = ok-through Ok (t .A) (λ _. quiet) (λ _. quiet)
-  links-end-after free-f Steps.line42 h = ok-through Ok (t .B) (λ _. quiet) (λ _. quiet)
+  links-end-after free-f Steps.line40 h = ok-through Ok (λ _. quiet) (λ _. quiet)
+  links-end-after free-f Steps.line42 h = ok-through Ok (λ _. quiet) (λ _. quiet)
   links-end-after free-f Steps.line48 h = line48-ends h
   links-end-after free-f Steps.line51 h = line51-ends h
   links-end-after free-f Steps.line54 h = quiet
@@ -252,13 +252,13 @@ module _ (held : ℕ → Bool) (k : ℕ) (s o : Side) (m : View) (class : ℕ �
   links-end-after free-f Steps.line62 h = line62-ends h
   links-end-after free-f Steps.line64 h = line64-ends h
   links-end-after free-f Steps.line67 h = quiet
-  links-end-after free-f Steps.line68 h = ok-through Ok (t .A) (λ _. quiet) (λ _. quiet)
-  links-end-after free-f Steps.line69 h = ok-through Ok (t .A) (λ _. quiet) (λ _. quiet)
-  links-end-after free-f Steps.line70 h = ok-through Ok (t .B) (λ _. quiet) (λ _. quiet)
+  links-end-after free-f Steps.line68 h = ok-through Ok (λ _. quiet) (λ _. quiet)
+  links-end-after free-f Steps.line69 h = ok-through Ok (λ _. quiet) (λ _. quiet)
+  links-end-after free-f Steps.line70 h = ok-through Ok (λ _. quiet) (λ _. quiet)
   links-end-after free-f Steps.line72 h = line72-ends h
-  links-end-after free-f Steps.line74 h = ok-through Ok (t .B) (λ _. quiet) (λ _. quiet)
-  links-end-after free-f Steps.line77 h = ok-through Ok (t .B) (λ _. quiet) (λ _. quiet)
+  links-end-after free-f Steps.line74 h = ok-through Ok (λ _. quiet) (λ _. quiet)
+  links-end-after free-f Steps.line77 h = ok-through Ok (λ _. quiet) (λ _. quiet)
   links-end-after free-f Steps.line78 h = line78-ends h
   links-end-after free-f Steps.line79 h = line79-ends h
-  links-end-after free-f Steps.line81 h = ok-through Ok (t .A) (λ _. quiet) (λ _. quiet)
+  links-end-after free-f Steps.line81 h = ok-through Ok (λ _. quiet) (λ _. quiet)
   links-end-after free-f Steps.line82 h = line82-ends h

@@ -7,7 +7,7 @@ use native.Mathlib.Omega.{arith}
 use Rattle.machine.specs.declared.Answer.the-variants.{Going}
 use Rattle.machine.specs.Choice.{_≟_}
 use Rattle.machine.specs.Sides.{Side}
-use Rattle.machine.specs.Values.{X, Y, _≟ᵛ_}
+use Rattle.machine.specs.Values.{Y, _≟ᵛ_}
 use Rattle.machine.specs.Operations.{Operation, idle, push, pop, add, remove}
 use Rattle.machine.specs.Steps.{
   Step,
@@ -108,60 +108,60 @@ module _ (extra S g : ℕ) {s o : Side} {m : View} {class : ℕ → Class} {r : 
   pub line3-spends : LineOk line3
   unfolding act
   line3-spends (push-N e v h) =
-      passing t (t .A) (λ _.
-      ok-if Ok (λ st. next (withB t (m .out (t .A))) st) (m .out (t .A) ≟ none)
+      passing t (λ _.
+      ok-if Ok (λ st. next (withB t (m .out (t .A))) st) (_ ≟ _)
       (λ q. absurd (hat-leads (L .structure) (cc) (cc)))
       (λ _. goes (goto (withB t (m .out (t .A))) line5) (omega arith) (push-N e v (omega arith))))
   line3-spends (push-X e v h) =
-      passing t (t .A) (λ _.
-      ok-if Ok (λ st. next (withB t (m .out (t .A))) st) (m .out (t .A) ≟ none)
+      passing t (λ _.
+      ok-if Ok (λ st. next (withB t (m .out (t .A))) st) (_ ≟ _)
       (λ _. goes (goto (withB t (m .out (t .A))) line8) (omega arith) (choose-X e v (omega arith)))
       (λ _. goes (goto (withB t (m .out (t .A))) line5) (omega arith) (push-X e v (omega arith))))
   line3-spends (push-Y e v h) =
-      passing t (t .A) (λ _.
-      ok-if Ok (λ st. next (withB t (m .out (t .A))) st) (m .out (t .A) ≟ none)
+      passing t (λ _.
+      ok-if Ok (λ st. next (withB t (m .out (t .A))) st) (_ ≟ _)
       (λ _. goes (goto (withB t (m .out (t .A))) line8) (omega arith) (choose-Y v (omega arith)))
       (λ _. goes (goto (withB t (m .out (t .A))) line5) (omega arith) (push-Y e v (omega arith))))
   line3-spends (push-stale h) =
-      passing t (t .A) (λ _.
-      ok-if Ok (λ st. next (withB t (m .out (t .A))) st) (m .out (t .A) ≟ none)
+      passing t (λ _.
+      ok-if Ok (λ st. next (withB t (m .out (t .A))) st) (_ ≟ _)
       (λ _. goes (goto (withB t (m .out (t .A))) line8) (omega arith) (choose-stale (omega arith)))
       (λ _. goes (goto (withB t (m .out (t .A))) line5) (omega arith) (push-stale (omega arith))))
 
   pub line5-spends : LineOk line5
   unfolding act
   line5-spends (push-N e v h) =
-      passing t (t .A) (λ _. passing t (t .B) (λ _.
+      passing t (λ _. passing t (λ _.
       swapping _ _ (λ _ _. answered (λ q. refute (cc)))
       (λ ne. absurd (ne (cc) (cc)))))
   line5-spends (push-X e v h) =
-      passing t (t .A) (λ _. passing t (t .B) (λ _.
+      passing t (λ _. passing t (λ _.
       swapping _ _ (λ _ _. answered (λ q. refute (cc)))
       (λ _. goes (goto t line8) (omega arith) (choose-X e v (omega arith)))))
   line5-spends (push-Y e v h) =
-      passing t (t .A) (λ _. passing t (t .B) (λ _.
+      passing t (λ _. passing t (λ _.
       swapping _ _ (λ _ _. answered (λ q. refute (cc)))
       (λ _. goes (goto t line8) (omega arith) (choose-Y v (omega arith)))))
   line5-spends (push-stale h) =
-      passing t (t .A) (λ _. passing t (t .B) (λ _.
+      passing t (λ _. passing t (λ _.
       swapping _ _ (λ _ _. answered (λ q. refute (cc)))
       (λ _. goes (goto t line8) (omega arith) (choose-stale (omega arith)))))
 
   pub line8-spends : LineOk line8
   unfolding act
   line8-spends (choose-X e v h) =
-      passing t (t .A) (λ _.
-      ok-if Ok (λ st. next t st) (m .val (t .A) ≟ᵛ X s)
+      passing t (λ _.
+      ok-if Ok (λ st. next t st) (_ ≟ᵛ _)
       (λ _. goes (goto t line28) (omega arith) (soon (cc) (omega arith)))
       (λ q. absurd (q v)))
   line8-spends (choose-Y v h) =
-      passing t (t .A) (λ _.
-      ok-if Ok (λ st. next t st) (m .val (t .A) ≟ᵛ X s)
+      passing t (λ _.
+      ok-if Ok (λ st. next t st) (_ ≟ᵛ _)
       (λ q. clash (cc))
       (λ _. goes (goto t line67) (omega arith) (omega arith)))
   line8-spends (choose-stale h) =
-      passing t (t .A) (λ _.
-      ok-if Ok (λ st. next t st) (m .val (t .A) ≟ᵛ X s)
+      passing t (λ _.
+      ok-if Ok (λ st. next t st) (_ ≟ᵛ _)
       (λ _. goes (goto t line28) (omega arith) (late (omega arith)))
       (λ _. goes (goto t line67) (omega arith) (omega arith)))
 
@@ -173,48 +173,48 @@ module _ (extra S g : ℕ) {s o : Side} {m : View} {class : ℕ → Class} {r : 
   pub line68-spends : LineOk line68
   unfolding act
   line68-spends (soon e h) =
-      passing t (t .A) (λ _.
-      ok-if Ok (λ st. next t st) (m .val (t .A) ≟ᵛ Y s)
+      passing t (λ _.
+      ok-if Ok (λ st. next t st) (_ ≟ᵛ _)
       (λ _. goes (goto t line69) (omega arith) (soon e (omega arith)))
       (λ ne. back-off-Y t (omega arith) (λ y. ne (cc)) (t .operation) (t .D ≟ none)))
   line68-spends (late h) =
-      passing t (t .A) (λ _.
-      ok-if Ok (λ st. next t st) (m .val (t .A) ≟ᵛ Y s)
+      passing t (λ _.
+      ok-if Ok (λ st. next t st) (_ ≟ᵛ _)
       (λ _. goes (goto t line69) (omega arith) (late (omega arith)))
       (λ _. back-anywhere t (omega arith) (t .operation) (t .D ≟ none)))
 
   pub line69-spends : LineOk line69
   unfolding act
   line69-spends (soon e h) =
-      passing t (t .A) (λ _. goes (goto (withB t (m .inn (t .A))) line70) (omega arith) (soon (e, refl) (omega arith)))
+      passing t (λ _. goes (goto (withB t (m .inn (t .A))) line70) (omega arith) (soon (e, refl) (omega arith)))
   line69-spends (late h) =
-      passing t (t .A) (λ _. goes (goto (withB t (m .inn (t .A))) line70) (omega arith) (late (omega arith)))
+      passing t (λ _. goes (goto (withB t (m .inn (t .A))) line70) (omega arith) (late (omega arith)))
 
   pub line70-spends : LineOk line70
   unfolding act
   line70-spends (soon e h) =
       let at-hat = e .0 in
       let inward = e .1 in
-      passing t (t .B) (λ _.
-      ok-if Ok (λ st. next (withC t (m .out (t .B))) st) (m .out (t .B) ≟ none)
+      passing t (λ _.
+      ok-if Ok (λ st. next (withC t (m .out (t .B))) st) (_ ≟ _)
       (λ q. absurd (past-some (L .structure) (cc)))
       (λ _. goes (goto (withC t (m .out (t .B))) line72) (omega arith)
       (soon (at-hat, λ y. past-off-Y (L .structure) (cc)) (omega arith))))
   line70-spends (late h) =
-      passing t (t .B) (λ _.
-      ok-if Ok (λ st. next (withC t (m .out (t .B))) st) (m .out (t .B) ≟ none)
+      passing t (λ _.
+      ok-if Ok (λ st. next (withC t (m .out (t .B))) st) (_ ≟ _)
       (λ _. back-anywhere (withC t (m .out (t .B))) (omega arith) (t .operation) (t .D ≟ none))
       (λ _. goes (goto (withC t (m .out (t .B))) line72) (omega arith) (late (omega arith))))
 
   pub line72-spends : LineOk line72
   unfolding act
   line72-spends (soon e h) =
-      passing t (t .C) (λ _.
-      ok-if Ok (λ l. writing l (next t (back t))) (m .hats s ≟ t .A)
+      passing t (λ _.
+      ok-if Ok (λ l. writing l (next t (back t))) (_ ≟ _)
       (λ _. back-off-Y t (omega arith) (rw (updateSide-same (m .hats) s (t .C)) (e .1)) (t .operation) (t .D ≟ none))
-      (λ ne. absurd (ne (e .0))))
+      (λ ne. absurd (ne (cc))))
   line72-spends (late h) =
-      passing t (t .C) (λ _.
-      ok-if Ok (λ l. writing l (next t (back t))) (m .hats s ≟ t .A)
+      passing t (λ _.
+      ok-if Ok (λ l. writing l (next t (back t))) (_ ≟ _)
       (λ _. back-anywhere t (omega arith) (t .operation) (t .D ≟ none))
       (λ _. back-anywhere t (omega arith) (t .operation) (t .D ≟ none)))

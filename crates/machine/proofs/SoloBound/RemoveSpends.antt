@@ -3,9 +3,9 @@ use mathlib.Core.Path.{refl, sym, subst}
 use mathlib.Core.Logic.{_≢_}
 use Prim.Native.Nat.{ℕ, suc, _+_, _≤_}
 use native.Mathlib.Omega.{arith}
-use Rattle.machine.specs.Choice.{_≟_, if_then_else_}
+use Rattle.machine.specs.Choice.{_≟_}
 use Rattle.machine.specs.Sides.{Side}
-use Rattle.machine.specs.Values.{X, _≟ᵛ_}
+use Rattle.machine.specs.Values.{_≟ᵛ_}
 use Rattle.machine.specs.Steps.{
   Step,
   line54,
@@ -22,7 +22,7 @@ use Rattle.machine.specs.Steps.{
   line82,
 }
 use Rattle.machine.specs.Tasks.{Task, none, goto, withA, withB, withValue, withCounted}
-use Rattle.machine.specs.Lines.{Effect, next, writing, through, act}
+use Rattle.machine.specs.Lines.{Effect, next, writing, act}
 use Rattle.machine.proofs.Basics.Contradiction.{refute}
 use Rattle.machine.proofs.Basics.Updates.{Wrote, update-wrote}
 use Rattle.machine.proofs.Words.Memories.{View, seenIn}
@@ -71,7 +71,7 @@ module _ (extra S g : ℕ) (s o : Side) (m : View) (t : Task) (f n : ℕ)
   pub line54-spends : LineOk line54
   unfolding act
   line54-spends h =
-      ok-if Ok (λ st. next (withA t (m .hats s)) st) (g ≟ 0)
+      ok-if Ok (λ st. next (withA t (m .hats s)) st) (_ ≟ _)
       (λ _. goes (goto (withA t (m .hats s)) line60) (omega arith) (from-hat (omega arith)))
       (λ _. goes (goto (withA t (m .hats s)) line56) (omega arith) (from-hat (omega arith)))
     where
@@ -81,31 +81,31 @@ module _ (extra S g : ℕ) (s o : Side) (m : View) (t : Task) (f n : ℕ)
   pub line56-spends : LineOk line56
   unfolding act
   line56-spends w =
-      passing t (t .A) (λ _.
-      ok-if Ok (λ e. e) (m .val (t .A) ≟ᵛ X s) (λ _. answered (λ q. refute (cc)))
+      passing t (λ _.
+      ok-if Ok (λ e. e) (_ ≟ᵛ _) (λ _. answered (λ q. refute (cc)))
       (λ _. goes (goto t line58) (omega (arith, w .within)) (same-walk w (λ l. omega arith))))
 
   pub line58-spends : LineOk line58
   unfolding act
   line58-spends w =
-      passing t (t .A) (λ _.
-      ok-if Ok (λ e. e) (m .out (t .A) ≟ none) (λ _. answered (λ q. refute (cc)))
+      passing t (λ _.
+      ok-if Ok (λ e. e) (_ ≟ _) (λ _. answered (λ q. refute (cc)))
       (λ ne.
-      ok-if Ok (λ st. next (withCounted (withA t (m .out (t .A))) (suc (t .counted))) st) (suc (t .counted) ≟ g)
+      ok-if Ok (λ st. next (withCounted (withA t (m .out (t .A))) (suc (t .counted))) st) (_ ≟ _)
       (λ _. goes _ (omega (arith, w .within)) (next-walk w ne (λ j l. omega arith)))
       (λ _. goes _ (omega (arith, w .within)) (next-walk w ne (λ j l. omega arith)))))
 
   pub line60-spends : LineOk line60
   unfolding act
   line60-spends w =
-      passing t (t .A) (λ _.
-      ok-if Ok (λ e. e) (m .out (t .A) ≟ none) (λ _. answered (λ q. refute (cc)))
+      passing t (λ _.
+      ok-if Ok (λ e. e) (_ ≟ _) (λ _. answered (λ q. refute (cc)))
       (λ ne. goes _ (omega (arith, w .within)) (next-walk w ne (λ j l. omega arith))))
 
   pub line62-spends : LineOk line62
   unfolding act
   line62-spends w =
-      passing t (t .A) (λ _. passing t (t .B) (λ _.
+      passing t (λ _. passing t (λ _.
       swapping _ _
       (λ _ _. goes (goto t line64) (omega (arith, w .within)) (same-walk w (λ l. omega arith)))
       (λ _. answered (λ q. refute (cc)))))
@@ -113,8 +113,8 @@ module _ (extra S g : ℕ) (s o : Side) (m : View) (t : Task) (f n : ℕ)
   pub line64-spends : LineOk line64
   unfolding act
   line64-spends w =
-      passing t (t .A) (λ _.
-      ok-if Ok (λ l. writing l (next t line74)) (m .out (t .A) ≟ t .B)
+      passing t (λ _.
+      ok-if Ok (λ l. writing l (next t line74)) (_ ≟ _)
       (λ _. goes (goto t line74) (omega (arith, w .within))
       (cut-walk w (update-wrote (m .out) (t .A) none) (λ l. omega arith)))
       (λ _. goes (goto t line74) (omega (arith, w .within)) (same-walk w (λ l. omega arith))))
@@ -122,58 +122,61 @@ module _ (extra S g : ℕ) (s o : Side) (m : View) (t : Task) (f n : ℕ)
   pub line74-spends : LineOk line74
   unfolding act
   line74-spends w =
-      passing t (t .B) (λ _.
-      ok-if Ok (λ st. next (withB (withA t (t .B)) (m .out (t .B))) st) (m .out (t .B) ≟ none)
+      passing t (λ _.
+      ok-if Ok (λ st. next (withB (withA t (t .B)) (m .out (t .B))) st) (_ ≟ _)
       (λ _. goes _ (omega (arith, w .within)) (omega (arith, w .within)))
       (λ ne. goes _ (omega (arith, w .within)) (reads (next-walk w ne (λ j l. omega arith)))))
 
   pub line77-spends : LineOk line77
   unfolding act
   line77-spends (reads-Y v w) =
-      passing t (t .B) (λ _.
+      passing t (λ _.
       goes (goto (withValue t (m .val (t .B))) line78) (omega (arith, w .within))
       (marks-Y refl v (same-walk w (λ l. omega arith))))
   line77-spends (reads w) =
-      passing t (t .B) (λ _.
+      passing t (λ _.
       goes (goto (withValue t (m .val (t .B))) line78) (omega (arith, w .within))
       (marks refl (same-walk w (λ l. omega arith))))
-
-  -- Line 78, with a swap that is done, and one that fails.
-  by-swap : {done failed : Effect} → Ok done → (m .val (t .B) ≢ t .value → Ok failed)
-      → Ok (through (t .B) t (if m .val (t .B) ≟ᵛ t .value then done else failed))
-  by-swap done failed = passing t (t .B) (λ _. ok-if Ok (λ e. e) (m .val (t .B) ≟ᵛ t .value) (λ _. done) failed)
 
   pub line78-spends : LineOk line78
   unfolding act
   line78-spends (marks-Y e v w) =
-      by-swap (goes _ (omega (arith, w .within)) (same-walk w (λ l. omega arith))) (λ ne. absurd (ne e))
+      passing t (λ _.
+      ok-if Ok (λ x. x) (_ ≟ᵛ _)
+      (λ _. goes _ (omega (arith, w .within)) (same-walk w (λ l. omega arith))) (λ ne. absurd (ne (cc))))
   line78-spends (marks e w) =
-      by-swap (goes _ (omega (arith, w .within)) (same-walk w (λ l. omega arith))) (λ ne. absurd (ne e))
+      passing t (λ _.
+      ok-if Ok (λ x. x) (_ ≟ᵛ _)
+      (λ _. goes _ (omega (arith, w .within)) (same-walk w (λ l. omega arith))) (λ ne. absurd (ne (cc))))
   line78-spends (fails-once v w) =
-      by-swap (goes _ (omega (arith, w .within)) (same-walk w (λ l. omega arith)))
-      (λ _. goes _ (omega (arith, w .within)) (reads-Y v (same-walk w (λ l. omega arith))))
+      passing t (λ _.
+      ok-if Ok (λ x. x) (_ ≟ᵛ _)
+      (λ _. goes _ (omega (arith, w .within)) (same-walk w (λ l. omega arith)))
+      (λ _. goes _ (omega (arith, w .within)) (reads-Y v (same-walk w (λ l. omega arith)))))
   line78-spends (fails w) =
-      by-swap (goes _ (omega (arith, w .within)) (same-walk w (λ l. omega arith)))
-      (λ _. goes _ (omega (arith, w .within)) (reads (same-walk w (λ l. omega arith))))
+      passing t (λ _.
+      ok-if Ok (λ x. x) (_ ≟ᵛ _)
+      (λ _. goes _ (omega (arith, w .within)) (same-walk w (λ l. omega arith)))
+      (λ _. goes _ (omega (arith, w .within)) (reads (same-walk w (λ l. omega arith)))))
 
   pub line79-spends : LineOk line79
   unfolding act
   line79-spends w =
-      passing t (t .A) (λ _.
+      passing t (λ _.
       goes (goto (withA t (t .B)) line81) (omega (arith, w .within))
       (cut-walk w (update-wrote (m .out) (t .A) none) (λ l. omega arith)))
 
   pub line81-spends : LineOk line81
   unfolding act
   line81-spends w =
-      passing t (t .A) (λ _.
-      ok-if Ok (λ st. next (withB t (m .out (t .A))) st) (m .out (t .A) ≟ none)
+      passing t (λ _.
+      ok-if Ok (λ st. next (withB t (m .out (t .A))) st) (_ ≟ _)
       (λ _. goes _ (omega (arith, w .within)) (omega (arith, w .within)))
       (λ ne.
-      ok-if Ok (λ st. next (withB t (m .out (t .A))) st) (t .value ≟ᵛ X s)
+      ok-if Ok (λ st. next (withB t (m .out (t .A))) st) (_ ≟ᵛ _)
       (λ _. goes _ (omega (arith, w .within)) (omega (arith, w .within)))
       (λ _. goes _ (omega (arith, w .within)) (reads (next-walk w ne (λ j l. omega arith))))))
 
   pub line82-spends : LineOk line82
   unfolding act
-  line82-spends h = passing t (t .A) (λ _. answered (λ q. refute (cc)))
+  line82-spends h = passing t (λ _. answered (λ q. refute (cc)))

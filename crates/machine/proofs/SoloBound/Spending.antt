@@ -31,9 +31,9 @@ module _ {extra S g : ℕ} {s : Side} {m : View} {n : ℕ} where
   answered ne = record { spends = λ e. absurd (ne e) }
 
   -- A refusal is no "going".
-  pub passing : (t : Task) (x : ℕ) {e : Effect} → (x ≢ none → Spends extra S g s m n e)
+  pub passing : (t : Task) {x : ℕ} {e : Effect} → (x ≢ none → Spends extra S g s m n e)
       → Spends extra S g s m n (through x t e)
-  passing t x h = ok-through (Spends extra S g s m n) x (λ _. answered (λ e. refute (cc))) h
+  passing t h = ok-through (Spends extra S g s m n) (λ _. answered (λ e. refute (cc))) h
 
   -- A swap that fails, with what that says.
   pub swapping : {P Q : Type 0} {done failed : Effect} (d : Dec P) (e : Dec Q)

@@ -1,5 +1,6 @@
 -- Taking a line's tests apart: one lemma for each way in which the definition of a line branches, for any property of
 -- effects.
+-- A use names no register, test or compare: `_` is what stands in the line, so no proof says a line's text again.
 use mathlib.Core.Path.{_≡_}
 use mathlib.Core.Logic.{_≢_}
 use Prim.Native.Nat.{ℕ}
@@ -15,11 +16,11 @@ module _ (P : Effect → Type 0) where
   ok-if F (yes h) f g = f h
   ok-if F (no h) f g = g h
 
-  pub ok-through : {t : Task} {e : Effect} (x : ℕ)
+  pub ok-through : {t : Task} {x : ℕ} {e : Effect}
       → (x ≡ none → P (refused t))
       → (x ≢ none → P e)
       → P (through x t e)
-  ok-through x f g = ok-if (λ e. e) (x ≟ none) f g
+  ok-through f g = ok-if (λ e. e) (_ ≟ _) f g
 
   pub ok-dcas : {A B : Type 0} {done failed : Effect} (d : Dec A) (e : Dec B)
       → (A → B → P done)

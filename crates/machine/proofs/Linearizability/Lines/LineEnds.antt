@@ -35,11 +35,11 @@ fresh-ok h = record { relies = tt; chain = record { none-new = h; no-head = refl
 
 module _ {held : ℕ → Bool} {k : ℕ} {s o : Side} {m : View} {class : ℕ → Class} {r : List ℕ} {t : Task} where
   -- Through a register that is not none.
-  pub past : (x : ℕ) {e : Effect}
+  pub past : {x : ℕ} {e : Effect}
       → x ≢ none
       → TickOk held k s o m class r t e
       → TickOk held k s o m class r t (through x t e)
-  past x some h = ok-through (TickOk held k s o m class r t) x (λ e. absurd (some e)) (λ _. h)
+  past some h = ok-through (TickOk held k s o m class r t) (λ e. absurd (some e)) (λ _. h)
 
   pub goes : Lane s o m class r
       → {t' : Task}

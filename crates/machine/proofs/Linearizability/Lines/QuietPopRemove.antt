@@ -69,8 +69,8 @@ module _ (held : ℕ → Bool) (k : ℕ) {s o : Side} {m : View} {class : ℕ �
   pub line40-ok : LineOk line40
   unfolding act
   line40-ok h =
-      past (t .A) (some _ (h .relies))
-      (ok-if Ok (λ st. next (withB t (m .inn (t .A))) st) (m .inn (t .A) ≟ none)
+      past (some _ (h .relies))
+      (ok-if Ok (λ st. next (withB t (m .inn (t .A))) st) (_ ≟ _)
       (λ e. goes L refl (record { relies = tt; chain = h .chain; belongs = h .belongs }))
       (λ e. goes L refl (record { relies = pair e; chain = h .chain; belongs = h .belongs })))
     where
@@ -84,7 +84,7 @@ module _ (held : ℕ → Bool) (k : ℕ) {s o : Side} {m : View} {class : ℕ �
 
   pub line42-ok : LineOk line42
   unfolding act
-  line42-ok h = past (t .B) (some _ (h .relies .B-old)) (by-value (m .val (t .B)))
+  line42-ok h = past (some _ (h .relies .B-old)) (by-value (m .val (t .B)))
     where
       again : (v : Value) → Ok (next (withValue t v) line39)
       again v = goes L refl (record { relies = tt; chain = h .chain; belongs = h .belongs })
@@ -105,9 +105,9 @@ module _ (held : ℕ → Bool) (k : ℕ) {s o : Side} {m : View} {class : ℕ �
       by-value never = again never
       by-value (bag b) = to-51 b
       by-value (N z) =
-          ok-if Ok (λ st. next (withValue t (N z)) st) (N z ≟ᵛ N o) (λ e. to-48 (N z) (inl e)) (λ _. again (N z))
+          ok-if Ok (λ st. next (withValue t (N z)) st) (_ ≟ᵛ _) (λ e. to-48 (N z) (inl e)) (λ _. again (N z))
       by-value (X z) =
-          ok-if Ok (λ st. next (withValue t (X z)) st) (X z ≟ᵛ X o) (λ e. to-48 (X z) (inr e)) (λ _. again (X z))
+          ok-if Ok (λ st. next (withValue t (X z)) st) (_ ≟ᵛ _) (λ e. to-48 (X z) (inr e)) (λ _. again (X z))
       by-value (Y z) = again (Y z)
 
   -- The hat is A and B holds a mark of the other side: there is no bag between the hats.
@@ -132,7 +132,7 @@ module _ (held : ℕ → Bool) (k : ℕ) {s o : Side} {m : View} {class : ℕ �
   pub line48-ok : LineOk line48
   unfolding act
   line48-ok h =
-      past (t .B) (some _ (h .relies .pair .B-old))
+      past (some _ (h .relies .pair .B-old))
       (ok-dcas Ok _ _
       (λ hat-A B-value.
       let q = row-empty (h .relies) (cc) (cc) in
@@ -143,7 +143,7 @@ module _ (held : ℕ → Bool) (k : ℕ) {s o : Side} {m : View} {class : ℕ �
   pub line54-ok : LineOk line54
   unfolding act
   line54-ok h =
-      ok-if Ok (λ st. next (withA t (m .hats s)) st) (g ≟ 0)
+      ok-if Ok (λ st. next (withA t (m .hats s)) st) (_ ≟ _)
       (λ _. goes L refl (record { relies = hat-old (L .structure); chain = h .chain; belongs = h .belongs }))
       (λ _. goes L refl (record { relies = hat-old (L .structure); chain = h .chain; belongs = h .belongs }))
 
@@ -153,18 +153,18 @@ module _ (held : ℕ → Bool) (k : ℕ) {s o : Side} {m : View} {class : ℕ �
   pub line56-ok : LineOk line56
   unfolding act
   line56-ok h =
-      past (t .A) (some _ (h .relies))
-      (ok-if Ok (λ e. e) (m .val (t .A) ≟ᵛ X s)
+      past (some _ (h .relies))
+      (ok-if Ok (λ e. e) (_ ≟ᵛ _)
       (λ _. answers-yes (h .belongs) (h .chain))
       (λ _. goes L refl (record { relies = h .relies; chain = h .chain; belongs = h .belongs })))
 
   pub line58-ok : LineOk line58
   unfolding act
   line58-ok h =
-      past (t .A) (some _ (h .relies))
-      (ok-if Ok (λ e. e) (m .out (t .A) ≟ none)
+      past (some _ (h .relies))
+      (ok-if Ok (λ e. e) (_ ≟ _)
       (λ _. answers-yes (h .belongs) (h .chain))
-      (λ e. ok-if Ok F (suc (t .counted) ≟ g)
+      (λ e. ok-if Ok F (_ ≟ _)
       (λ _. goes L refl (record { relies = A-old e; chain = h .chain; belongs = h .belongs }))
       (λ _. goes L refl (record { relies = A-old e; chain = h .chain; belongs = h .belongs }))))
     where
@@ -177,8 +177,8 @@ module _ (held : ℕ → Bool) (k : ℕ) {s o : Side} {m : View} {class : ℕ �
   pub line60-ok : LineOk line60
   unfolding act
   line60-ok h =
-      past (t .A) (some _ (h .relies))
-      (ok-if Ok (λ e. e) (m .out (t .A) ≟ none)
+      past (some _ (h .relies))
+      (ok-if Ok (λ e. e) (_ ≟ _)
       (λ _. answers-yes (h .belongs) (h .chain))
       (λ e. goes L refl (record { relies = pair e; chain = h .chain; belongs = h .belongs })))
     where
@@ -198,8 +198,8 @@ module _ (held : ℕ → Bool) (k : ℕ) {s o : Side} {m : View} {class : ℕ �
   pub line74-ok : LineOk line74
   unfolding act
   line74-ok h =
-      past (t .B) (spur-some (L .structure) _ (h .relies))
-      (ok-if Ok F (m .out (t .B) ≟ none)
+      past (spur-some (L .structure) _ (h .relies))
+      (ok-if Ok F (_ ≟ _)
       (λ e. goes L refl (record { relies = h .relies; chain = h .chain; belongs = h .belongs }))
       (λ e. goes L refl (record { relies = pair e; chain = h .chain; belongs = h .belongs })))
     where
@@ -212,16 +212,16 @@ module _ (held : ℕ → Bool) (k : ℕ) {s o : Side} {m : View} {class : ℕ �
   pub line77-ok : LineOk line77
   unfolding act
   line77-ok h =
-      past (t .B) (spur-some (L .structure) _ (h .relies .B-spur))
+      past (spur-some (L .structure) _ (h .relies .B-spur))
       (goes L refl (record { relies = h .relies; chain = h .chain; belongs = h .belongs }))
 
   pub line81-ok : LineOk line81
   unfolding act
   line81-ok h =
-      past (t .A) (spur-some (L .structure) _ (h .relies))
-      (ok-if Ok F (m .out (t .A) ≟ none)
+      past (spur-some (L .structure) _ (h .relies))
+      (ok-if Ok F (_ ≟ _)
       (λ e. goes L refl (record { relies = h .relies; chain = h .chain; belongs = h .belongs }))
-      (λ e. ok-if Ok F (t .value ≟ᵛ X s)
+      (λ e. ok-if Ok F (_ ≟ᵛ _)
       (λ _. goes L refl (record { relies = h .relies; chain = h .chain; belongs = h .belongs }))
       (λ _. goes L refl (record { relies = pair e; chain = h .chain; belongs = h .belongs }))))
     where

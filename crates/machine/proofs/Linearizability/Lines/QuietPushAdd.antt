@@ -6,7 +6,7 @@ use mathlib.Core.List.{List}
 use Prim.Native.Nat.{ℕ}
 use Rattle.machine.specs.Choice.{_≟_}
 use Rattle.machine.specs.Sides.{Side}
-use Rattle.machine.specs.Values.{N, X, Y, _≟ᵛ_}
+use Rattle.machine.specs.Values.{Y, _≟ᵛ_}
 use Rattle.machine.specs.Steps.{
   Step,
   line2,
@@ -55,8 +55,8 @@ module _ (held : ℕ → Bool) (k : ℕ) {s o : Side} {m : View} {class : ℕ �
   pub line3-ok : LineOk line3
   unfolding act
   line3-ok h =
-      past (t .A) (some _ (h .relies))
-      (ok-if Ok (λ st. next (withB t (m .out (t .A))) st) (m .out (t .A) ≟ none)
+      past (some _ (h .relies))
+      (ok-if Ok (λ st. next (withB t (m .out (t .A))) st) (_ ≟ _)
       (λ e. goes L refl (record { relies = h .relies; chain = h .chain; belongs = h .belongs }))
       (λ e. goes L refl (record { relies = pair e; chain = h .chain; belongs = h .belongs })))
     where
@@ -72,8 +72,8 @@ module _ (held : ℕ → Bool) (k : ℕ) {s o : Side} {m : View} {class : ℕ �
   unfolding act
   line8-ok h =
       let no-chain = without-chain (h .chain) (h .belongs) in
-      past (t .A) (some _ (h .relies))
-      (ok-if Ok (λ st. next t st) (m .val (t .A) ≟ᵛ X s)
+      past (some _ (h .relies))
+      (ok-if Ok (λ st. next t st) (_ ≟ᵛ _)
       (λ e. goes L refl (record { relies = tt; chain = h .chain; belongs = inl (h .belongs) }))
       (λ e. goes L refl (record { relies = tt; chain = no-chain; belongs = inl (h .belongs) })))
 
@@ -84,8 +84,8 @@ module _ (held : ℕ → Bool) (k : ℕ) {s o : Side} {m : View} {class : ℕ �
   pub line68-ok : LineOk line68
   unfolding act
   line68-ok h =
-      past (t .A) (some _ (h .relies))
-      (ok-if Ok (λ st. next t st) (m .val (t .A) ≟ᵛ Y s)
+      past (some _ (h .relies))
+      (ok-if Ok (λ st. next t st) (_ ≟ᵛ _)
       (λ e. goes L refl (record { relies = on-Y e; chain = h .chain; belongs = h .belongs }))
       (λ e. goes L refl goes-back))
     where
@@ -100,7 +100,7 @@ module _ (held : ℕ → Bool) (k : ℕ) {s o : Side} {m : View} {class : ℕ �
   pub line69-ok : LineOk line69
   unfolding act
   line69-ok h =
-      past (t .A) (spur-some (L .structure) _ (h .relies .A-spur))
+      past (spur-some (L .structure) _ (h .relies .A-spur))
       (goes L refl (record { relies = behind-Y; chain = h .chain; belongs = h .belongs }))
     where
       behind-Y : BehindY s m class (t .A) (m .inn (t .A))
@@ -109,8 +109,8 @@ module _ (held : ℕ → Bool) (k : ℕ) {s o : Side} {m : View} {class : ℕ �
   pub line70-ok : LineOk line70
   unfolding act
   line70-ok h =
-      past (t .B) (some _ B-old)
-      (ok-if Ok (λ st. next (withC t (m .out (t .B))) st) (m .out (t .B) ≟ none)
+      past (some _ B-old)
+      (ok-if Ok (λ st. next (withC t (m .out (t .B))) st) (_ ≟ _)
       (λ e. goes L refl goes-back)
       (λ e. goes L refl (record { relies = past-Y e; chain = h .chain; belongs = h .belongs })))
     where
@@ -140,12 +140,12 @@ module _ (held : ℕ → Bool) (k : ℕ) {s o : Side} {m : View} {class : ℕ �
   pub line17-ok : LineOk line17
   unfolding act
   line17-ok h =
-      past (t .A) (some _ (h .relies))
-      (ok-if Ok F (m .val (t .A) ≟ᵛ N s)
+      past (some _ (h .relies))
+      (ok-if Ok F (_ ≟ᵛ _)
       (λ _. goes L refl (record { relies = h .relies; chain = h .chain; belongs = h .belongs }))
-      (λ _. ok-if Ok F (m .val (t .A) ≟ᵛ Y s)
+      (λ _. ok-if Ok F (_ ≟ᵛ _)
       (λ _. goes L refl (record { relies = tt; chain = with-chain (h .chain); belongs = h .belongs }))
-      (λ _. ok-if Ok F (m .val (t .A) ≟ᵛ X s)
+      (λ _. ok-if Ok F (_ ≟ᵛ _)
       (λ _. goes L refl (record { relies = h .relies; chain = h .chain; belongs = h .belongs }))
       (λ _. goes L refl (record { relies = tt; chain = h .chain; belongs = h .belongs })))))
     where
@@ -155,8 +155,8 @@ module _ (held : ℕ → Bool) (k : ℕ) {s o : Side} {m : View} {class : ℕ �
   pub line18-ok : LineOk line18
   unfolding act
   line18-ok h =
-      past (t .A) (some _ (h .relies))
-      (ok-if Ok (λ st. next (withA t (m .out (t .A))) st) (m .out (t .A) ≟ none)
+      past (some _ (h .relies))
+      (ok-if Ok (λ st. next (withA t (m .out (t .A))) st) (_ ≟ _)
       (λ e. goes L refl (record { relies = tt; chain = h .chain; belongs = h .belongs }))
       (λ e. goes L refl (record { relies = A-old e; chain = h .chain; belongs = h .belongs })))
     where

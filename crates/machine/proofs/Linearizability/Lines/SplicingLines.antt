@@ -131,8 +131,8 @@ module _ (held : ℕ → Bool) (k : ℕ) {s o : Side} {m : View} {class : ℕ �
   pub line24-ok : LineOk line24
   unfolding act
   line24-ok h =
-      past (t .A) (some _ (h .relies))
-      (past (t .D) (head-some (h .chain) (L .structure .none-free)) (line24-done h))
+      past (some _ (h .relies))
+      (past (head-some (h .chain) (L .structure .none-free)) (line24-done h))
 
   -- ---- Line 25: the chain joins the class of A; then a push goes on and an add answers.
   module _ (l : List Write) {class' : ℕ → Class} (L' : Lane s o (written s l m) class' r)
@@ -231,6 +231,6 @@ module _ (held : ℕ → Bool) (k : ℕ) {s o : Side} {m : View} {class : ℕ �
   pub line25-ok : LineOk line25
   unfolding act
   line25-ok h =
-      past (t .A) (some _ (h .relies .A-old))
+      past (some _ (h .relies .A-old))
       (ok-dcas Ok _ _ (λ link-B A-X. line25-done h (cc))
       (goes L refl (record { relies = tt; chain = h .chain; belongs = h .belongs })))

@@ -93,7 +93,7 @@ module _ (held : ℕ → Bool) (k : ℕ) {s o : Side} {m : View} {class : ℕ �
 
     line28-taken : Ok (first-taken (if_then_else_ (g ≟ 0) line15 line31))
     line28-taken =
-        ok-if Ok first-taken (g ≟ 0)
+        ok-if Ok first-taken (_ ≟ _)
         (λ _. takes k L T f-some first-writes refl first-same refl
         (record { relies = tt; chain = first-chain; belongs = h .belongs }))
         (λ _. takes k L T f-some first-writes refl first-same refl
@@ -102,7 +102,7 @@ module _ (held : ℕ → Bool) (k : ℕ) {s o : Side} {m : View} {class : ℕ �
   pub line28-ok : (f ≢ none → TakeOk held m class f) → LineOk line28
   unfolding act
   line28-ok free-f h =
-      ok-if Ok (λ e. e) (f ≟ none)
+      ok-if Ok (λ e. e) (_ ≟ _)
       (λ _. no-node (t .operation) refl (h .belongs) (h .chain))
       (λ f-some. line28-taken h (free-f f-some) f-some)
 
@@ -141,7 +141,7 @@ module _ (held : ℕ → Bool) (k : ℕ) {s o : Side} {m : View} {class : ℕ �
 
     line31-taken : Ok (more-taken (if_then_else_ (suc (t .counted) ≟ g) line15 line31))
     line31-taken =
-        ok-if Ok more-taken (suc (t .counted) ≟ g)
+        ok-if Ok more-taken (_ ≟ _)
         (λ _. takes k L T f-some more-writes refl more-same refl
         (record { relies = tt; chain = more-chain; belongs = h .belongs }))
         (λ _. takes k L T f-some more-writes refl more-same refl
@@ -150,7 +150,7 @@ module _ (held : ℕ → Bool) (k : ℕ) {s o : Side} {m : View} {class : ℕ �
   pub line31-ok : (f ≢ none → TakeOk held m class f) → LineOk line31
   unfolding act
   line31-ok free-f h =
-      past (t .D) (head-some (h .chain) (L .structure .none-free))
-      (ok-if Ok (λ e. e) (f ≟ none)
+      past (head-some (h .chain) (L .structure .none-free))
+      (ok-if Ok (λ e. e) (_ ≟ _)
       (λ _. goes L refl (record { relies = tt; chain = h .chain; belongs = h .belongs }))
       (λ f-some. line31-taken h (free-f f-some) f-some))

@@ -88,8 +88,8 @@ module _ (held : ℕ → Bool) (k : ℕ) {s o : Side} {m : View} {class : ℕ �
   pub line5-ok : LineOk line5
   unfolding act
   line5-ok h =
-      past (t .A) (some _ (h .relies .A-old))
-      (past (t .B) (some _ (h .relies .B-old))
+      past (some _ (h .relies .A-old))
+      (past (some _ (h .relies .B-old))
       (ok-dcas Ok _ _ (λ hat-A read. done (cc) (cc))
       (goes L refl (record { relies = h .relies .A-old; chain = h .chain; belongs = h .belongs }))))
     where
@@ -120,7 +120,7 @@ module _ (held : ℕ → Bool) (k : ℕ) {s o : Side} {m : View} {class : ℕ �
   pub line51-ok : LineOk line51
   unfolding act
   line51-ok h =
-      past (t .B) (some _ (h .relies .pair .B-old))
+      past (some _ (h .relies .pair .B-old))
       (ok-dcas Ok _ _ (λ hat-A read. done (cc) (cc))
       (goes L refl (record { relies = tt; chain = h .chain; belongs = h .belongs })))
     where
@@ -160,8 +160,8 @@ module _ (held : ℕ → Bool) (k : ℕ) {s o : Side} {m : View} {class : ℕ �
   pub line72-ok : LineOk line72
   unfolding act
   line72-ok h =
-      past (t .C) (some _ (h .relies .C-old))
-      (ok-if Ok (λ l. writing l (next t (back t))) (m .hats s ≟ t .A) done (λ _. goes L refl (goes-back (m .hats))))
+      past (some _ (h .relies .C-old))
+      (ok-if Ok (λ l. writing l (next t (back t))) (_ ≟ _) (λ e. done (cc)) (λ _. goes L refl (goes-back (m .hats))))
     where
       goes-back : (hats : Side → ℕ)
           → TaskOk k s o (record { out = m .out; inn = m .inn; val = m .val; hats = hats }) class (back t)
@@ -208,8 +208,8 @@ module _ (held : ℕ → Bool) (k : ℕ) {s o : Side} {m : View} {class : ℕ �
   pub line64-ok : LineOk line64
   unfolding act
   line64-ok h =
-      past (t .A) (some _ (h .relies .A-old))
-      (ok-if Ok (λ l. writing l (next t line74)) (m .out (t .A) ≟ t .B) done
+      past (some _ (h .relies .A-old))
+      (ok-if Ok (λ l. writing l (next t line74)) (_ ≟ _) (λ e. done (cc))
       (λ e. goes L refl (record { relies = h .relies .B-spur; chain = h .chain; belongs = h .belongs })))
     where
       done : m .out (t .A) ≡ t .B → Ok (writing (out≔ (t .A) none ∷ []) (next t line74))
@@ -223,8 +223,8 @@ module _ (held : ℕ → Bool) (k : ℕ) {s o : Side} {m : View} {class : ℕ �
   pub line78-ok : LineOk line78
   unfolding act
   line78-ok h =
-      past (t .B) (spur-some (L .structure) _ (h .relies .B-spur))
-      (ok-if Ok (λ e. e) (m .val (t .B) ≟ᵛ t .value) (λ _. done)
+      past (spur-some (L .structure) _ (h .relies .B-spur))
+      (ok-if Ok (λ e. e) (_ ≟ᵛ _) (λ _. done)
       (λ e. goes L refl (record { relies = h .relies; chain = h .chain; belongs = h .belongs })))
     where
       done : Ok (writing (val≔ (t .B) (Y s) ∷ []) (next t line79))
@@ -239,7 +239,7 @@ module _ (held : ℕ → Bool) (k : ℕ) {s o : Side} {m : View} {class : ℕ �
   line79-ok h =
       let w = update-wrote (m .out) (t .A) none in
       let T = spur-unlink (L .structure) k w (h .relies .A-spur) in
-      past (t .A) (spur-some (L .structure) _ (h .relies .A-spur))
+      past (spur-some (L .structure) _ (h .relies .A-spur))
       (spur-written (out≔ (t .A) none ∷ []) refl refl T refl (goes-on refl refl)
       (record { relies = h .relies .B-spur; chain = h .chain; belongs = h .belongs }))
 
@@ -248,7 +248,7 @@ module _ (held : ℕ → Bool) (k : ℕ) {s o : Side} {m : View} {class : ℕ �
   line82-ok h =
       let w = update-wrote (m .out) (t .A) none in
       let T = spur-unlink (L .structure) k w (h .relies) in
-      past (t .A) (spur-some (L .structure) _ (h .relies))
+      past (spur-some (L .structure) _ (h .relies))
       (spur-written (out≔ (t .A) none ∷ []) refl refl T
       (inr (h .belongs), refl) (has-answered (λ e. refute (cc)) refl) (fresh-ok (h .chain .none-new)))
 
@@ -335,7 +335,7 @@ module _ (held : ℕ → Bool) (k : ℕ) {s o : Side} {m : View} {class : ℕ �
   pub line62-ok : LineOk line62
   unfolding act
   line62-ok h =
-      past (t .A) (some _ (h .relies .A-old))
-      (past (t .B) (some _ (h .relies .B-old))
+      past (some _ (h .relies .A-old))
+      (past (some _ (h .relies .B-old))
       (ok-dcas Ok _ _ (λ A-N B-N. line62-done h (cc) (cc))
       (answers-ok L No (λ e. refute (cc)) (inr (h .belongs), refl) (h .chain))))
