@@ -12,8 +12,3 @@ pub mod SlotRule
 pub mod Registers
 -- Demand 3.
 pub mod Linearizability
--- Request 2026-08: a call that gets all the ticks answers.
-pub mod SoloBound
--- Beyond the order: some call answers under every schedule; no node leaks.
-pub mod LockFree
-pub mod NoLeak

@@ -1,5 +1,6 @@
 -- The answers' numbers: of start and begin, the two words that a run writes for a tick, and the answer that two such
 -- words stand for.
+use mathlib.Core.Bool.{Bool, true, false}
 use mathlib.Core.Option.{Option, some, none as nothing}
 use Prim.Native.Nat.{ℕ}
 use Rattle.machine.specs.declared.Answer.{Answer}
@@ -46,6 +47,17 @@ refusalOf Full = nothing
 refusalOf Yes = nothing
 refusalOf No = nothing
 refusalOf (Refused n) = some n
+
+-- The answers that end a call: all but "going" and the refusals.
+abbrev pub endsCall : Answer → Bool
+endsCall Going = false
+endsCall Pushed = true
+endsCall (Bag b) = true
+endsCall Empty = true
+endsCall Full = true
+endsCall Yes = true
+endsCall No = true
+endsCall (Refused n) = false
 
 -- The answer other than a bag that a kind stands for, or nothing.
 unfoldable pub plainAnswerOf : (kind : ℕ) → Option Answer

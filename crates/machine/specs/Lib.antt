@@ -19,7 +19,3 @@ pub mod Row
 pub mod Demand3
 pub mod Begun
 pub mod Unseen
-pub mod Solo
-pub mod LockFree
-pub mod NoLeak
-pub mod Capacity

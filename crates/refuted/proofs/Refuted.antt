@@ -1,4 +1,4 @@
--- Every wrong machine is refuted, all by one computation over the definitions.
+-- Every wrong machine is refuted, by computation over the definitions.
 use mathlib.Core.Path.{refl}
 use mathlib.Core.List.{map}
 use mathlib.Core.Option.{bind}
@@ -28,8 +28,8 @@ use Rattle.machine.specs.Calls.{
 }
 use Rattle.refuted.specs.Machines.{tickOnBy, tickBy, runOnBy, runBy, afterTicksBy}
 use Rattle.refuted.specs.Wrong.{ended, wholeOn, touchesNothing, heldFromBy, leftwards}
-use Rattle.refuted.specs.Judged.{byRow, byDefinitions}
-use Rattle.refuted.specs.Lists.{AllRefuted, judged}
+use Rattle.refuted.specs.Judged.{byRow, byDefinitions, afterAllBy, goingAlone, freeBelow}
+use Rattle.refuted.specs.Lists.{AllRefuted, judged, Spins, Leaks}
 
 pub all-refuted : AllRefuted
 unfolding judged byRow byDefinitions ended wholeOn touchesNothing heldFromBy leftwards tickOnBy tickBy runOnBy runBy
@@ -38,3 +38,15 @@ unfolding judged byRow byDefinitions ended wholeOn touchesNothing heldFromBy lef
     heldFrom roots mark markAll visit visitFrom marked firstUnmarked allocate writeAll dcas act times startWords start begin
     effectOf applied tickOn tick runOn run laneFrom lane
 all-refuted = (refl, refl)
+
+pub spins : Spins
+unfolding goingAlone afterAllBy tickOnBy tickBy ℕ-discrete decLt decLe Value-discrete decode stepIn stepOf isStepIn link value
+    task allBelow sameWords nodeOk busyOk recordOk shapeOk heldFrom roots mark markAll visit visitFrom marked firstUnmarked
+    allocate writeAll dcas act times startWords start begin effectOf applied tickOn tick
+spins = (refl, refl)
+
+pub leaks : Leaks
+unfolding freeBelow afterAllBy tickOnBy tickBy ℕ-discrete decLt decLe Value-discrete decode stepIn stepOf isStepIn link value
+    task allBelow sameWords nodeOk busyOk recordOk shapeOk heldFrom roots mark markAll visit visitFrom marked firstUnmarked
+    allocate writeAll dcas act times startWords start begin effectOf applied tickOn tick
+leaks = (refl, refl)

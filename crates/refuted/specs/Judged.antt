@@ -1,16 +1,18 @@
 -- How a list of calls judges a machine: by the row (demand 3), and by the definitions (demand 2).
-use mathlib.Core.Bool.{Bool, true, false, _&&_}
+use mathlib.Core.Bool.{Bool, true, false, cond, _&&_}
 use mathlib.Core.List.{List, [], _∷_}
 use mathlib.Core.Option.{Option, some, none as nothing}
-use Prim.Native.Nat.{ℕ, suc}
+use Prim.Native.Nat.{ℕ, zero, suc}
 use lib.Dec.{eqb}
+use lib.ListN.{getD}
 use Rattle.machine.specs.declared.Answer.{Answer}
 use Rattle.machine.specs.declared.Reading.{Reading}
 use Rattle.machine.specs.declared.Reading.the-variants.{Count, Refused as Reading-Refused}
 use Rattle.machine.specs.Shape.{allBelow, sameWords}
 use Rattle.machine.specs.Answers.{replyNumber, kindOf, payloadOf}
+use Rattle.machine.specs.Allocate.{Marking}
 use Rattle.machine.specs.Calls.{lane}
-use Rattle.machine.specs.Row.{Row, feedRun}
+use Rattle.machine.specs.Row.{Row, isGoing, feedRun}
 use Rattle.machine.specs.Demand3.{
   Call,
   start-call,
@@ -89,3 +91,22 @@ byDefinitions M (c ∷ cs) n ws =
             | false ↦ other-table n
           ]
     ]
+
+-- ---- Beyond the two demands.
+
+-- The table after calls, whatever they give back.
+unfoldable pub afterAllBy : Machine → List Call → List ℕ → List ℕ
+afterAllBy M [] ws = ws
+afterAllBy M (c ∷ cs) ws = afterAllBy M cs (afterBy M c ws)
+
+-- How many of at most n ticks of a task alone, with hint 0, say "going" before one does not.
+unfoldable pub goingAlone : Machine → (n k : ℕ) → List ℕ → ℕ
+goingAlone M zero k ws = 0
+goingAlone M (suc n) k ws =
+    let one = M .tickOn ws k 0 in
+    elim (isGoing (one .answer)) as (λ _. ℕ) [ true ↦ suc (goingAlone M n k (one .words)) | false ↦ 0 ]
+
+-- How many of the first n nodes are free.
+unfoldable pub freeBelow : (n : ℕ) → Marking → ℕ
+freeBelow zero m = 0
+freeBelow (suc n) m = cond (eqb (getD (m .marks) n 0) 0) (suc (freeBelow n m)) (freeBelow n m)

@@ -8,6 +8,7 @@ use Rattle.machine.specs.Values.{stored}
 use Rattle.machine.specs.Operations.{Operation, push, pop, add, remove, operationNumber}
 use Rattle.machine.specs.Sides.{Side, left, right, sideNumber}
 use Rattle.machine.specs.Table.{tableLength}
+use Rattle.machine.specs.Allocate.{marked}
 use Rattle.machine.specs.Calls.{start}
 use Rattle.machine.specs.Row.{emptyRow}
 use Rattle.machine.specs.Demand3.{Call, begin-call, tick-call, run-call}
@@ -34,6 +35,9 @@ use Rattle.refuted.specs.Wrong.{
   trustsHat,
   figureLine37,
   figureLine32,
+  failedSwapSpins,
+  removeCutsAgain,
+  removeLeavesLink,
   reportsUnmadeTick,
 }
 use Rattle.refuted.specs.Judged.{
@@ -45,6 +49,9 @@ use Rattle.refuted.specs.Judged.{
   other-table,
   byRow,
   byDefinitions,
+  afterAllBy,
+  goingAlone,
+  freeBelow,
 }
 
 -- A wrong machine, calls on a table that start left, and what the row and the definitions say of it there.
@@ -66,6 +73,14 @@ ticks n k h = replicate n (tick-call k h)
 -- A right add or remove of task 0, or of another, with hints 0, that ends in n ticks.
 abbrev pub wholly : (n k : ℕ) → Operation → ℕ → List Call
 wholly n k op argument = begins k op right argument ++ ticks n k 0
+
+-- Two spare nodes are added and given back.
+abbrev pub addedAndRemoved : List Call
+addedAndRemoved = wholly 7 0 add 2 ++ wholly 14 0 remove 0
+
+-- Of three spare nodes one remove is to leave two, and the other none: it stands at 78 when the first one cuts.
+abbrev pub twoRemoves : List Call
+twoRemoves = wholly 8 0 add 3 ++ wholly 6 1 remove 2 ++ wholly 6 0 remove 0 ++ ticks 1 1 0 ++ ticks 1 0 0
 
 abbrev pub entries : List Entry
 entries =
@@ -311,6 +326,33 @@ entries =
       row-says = passes;
       definitions-say = other-answer 3;
     }
+    -- A remove is at 78 with node 3 read; another remove marks that node, and the swap fails.
+    ∷ record {
+      wrong = failedSwapSpins;
+      S = 8;
+      T = 2;
+      calls = twoRemoves;
+      row-says = passes;
+      definitions-say = other-table 25;
+    }
+    -- A remove that is done begins again.
+    ∷ record {
+      wrong = removeCutsAgain;
+      S = 6;
+      T = 1;
+      calls = addedAndRemoved;
+      row-says = passes;
+      definitions-say = other-answer 23;
+    }
+    -- The link from node 1 to node 4, which was cut off, is still there.
+    ∷ record {
+      wrong = removeLeavesLink;
+      S = 6;
+      T = 1;
+      calls = addedAndRemoved;
+      row-says = passes;
+      definitions-say = other-table 13;
+    }
     -- The second tick of a run has a hint out of range: the run says that it was made, and the tick count that it was not.
     ∷ record {
       wrong = reportsUnmadeTick;
@@ -322,6 +364,10 @@ entries =
     }
     ∷ []
 
+-- A table begun with so many nodes and tasks, and growth 0.
+abbrev pub begunWith : (S T : ℕ) → List ℕ
+begunWith S T = start (replicate (tableLength S T) 7) S T 0 .words
+
 -- ---- The claim: on every list the right machine passes, and the wrong one fails as is said.
 pub record Judged : Type 0 where
   pub right-by-row : Verdict
@@ -331,7 +377,7 @@ pub record Judged : Type 0 where
 
 unfoldable pub judged : Entry → Judged
 judged e =
-    let ws = start (replicate (tableLength (e .S) (e .T)) 7) (e .S) (e .T) 0 .words in
+    let ws = begunWith (e .S) (e .T) in
     record {
       right-by-row = byRow rightMachine (e .calls) 1 ws emptyRow;
       right-by-definitions = byDefinitions rightMachine (e .calls) 1 ws;
@@ -360,3 +406,17 @@ abbrev pub AllRefuted : Type 0
 AllRefuted =
     (map judged entries ≡ map expected entries)
     × (map (λ (e : Entry). fault (e .definitions-say)) entries ≡ map (λ (e : Entry). true) entries)
+
+-- ---- What the further theorems exclude, on the same lists.
+
+-- A remove alone answers within 4S + 154 of its ticks (2026-08), which are 186 for 8 nodes; the one that spins does not.
+abbrev pub Spins : Type 0
+Spins =
+    (goingAlone failedSwapSpins 186 0 (afterAllBy failedSwapSpins twoRemoves (begunWith 8 2)) ≡ 186)
+    × (goingAlone rightMachine 186 0 (afterAllBy rightMachine twoRemoves (begunWith 8 2)) ≡ 4)
+
+-- With no task in a call and no bag, all nodes but the two sentinels are free; the link that is left holds one more.
+abbrev pub Leaks : Type 0
+Leaks =
+    (freeBelow 6 (marked (afterAllBy removeLeavesLink addedAndRemoved (begunWith 6 1))) ≡ 3)
+    × (freeBelow 6 (marked (afterAllBy rightMachine addedAndRemoved (begunWith 6 1))) ≡ 4)

@@ -26,12 +26,17 @@ use Rattle.machine.specs.Steps.{
   line42,
   line48,
   line51,
+  line54,
   line62,
   line64,
+  line74,
+  line78,
+  line79,
+  line82,
   stepNumber,
   firstStep,
 }
-use Rattle.machine.specs.Tasks.{Task, none, inC, inD, goto, withC, withValue}
+use Rattle.machine.specs.Tasks.{Task, none, inC, inD, goto, withC, withCounted, withValue}
 use Rattle.machine.specs.Registers.{heldIn}
 use Rattle.machine.specs.Table.{nodeCount, taskCount, tickCount, hat, link, task, setTickCount, setTask}
 use Rattle.machine.specs.Allocate.{
@@ -61,9 +66,9 @@ use Rattle.machine.specs.Lines.{
   bagOf,
   act,
 }
+use Rattle.machine.specs.Answers.{endsCall}
 use Rattle.machine.specs.Calls.{tickRefusal, begunTask, Ticked, tickOn, RunDone}
 use Rattle.machine.specs.Row.{isGoing}
-use Rattle.machine.specs.Solo.{endsCall}
 use Rattle.refuted.specs.Machines.{Machine, Line, Take, tickOnBy, byLines, rightMachine}
 
 -- Lines that are others at one step.
@@ -311,6 +316,25 @@ abbrev pub figureLine32 : Machine
 figureLine32 =
     withLine line31 (λ st s o m t g f.
     through (t .D) t (if f ≟ none then answers (noNode (t .operation)) else act line31 s o m t g f))
+
+-- ---- Removes that the row has no objection to, but the theorems of progress and of capacity.
+
+-- 78 compares again where its swap failed, with a value that is gone: the call never answers.
+abbrev pub failedSwapSpins : Machine
+failedSwapSpins =
+    withLine line78 (λ st s o m t g f.
+    through (t .B) t
+    (if m .val (t .B) ≟ᵛ t .value then writing (val≔ (t .B) (Y s) ∷ []) (next t line79) else next t line78))
+
+-- 82 begins again until there is nothing to cut: with a push that splices a chain in each time neither ever answers.
+abbrev pub removeCutsAgain : Machine
+removeCutsAgain =
+    withLine line82 (λ st s o m t g f.
+    through (t .A) t (writing (out≔ (t .A) none ∷ []) (next (withCounted t 0) line54)))
+
+-- 64 leaves the link to the first node cut off: nodes are held that no call can use.
+abbrev pub removeLeavesLink : Machine
+removeLeavesLink = withLine line64 (λ st s o m t g f. through (t .A) t (next t line74))
 
 -- ---- "A run reporting ticks it did not make": one that is refused for its hint is said to be going.
 abbrev pub oneMore : RunDone → RunDone

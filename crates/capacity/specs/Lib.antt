@@ -1,0 +1,2 @@
+pub mod NoLeak
+pub mod Capacity

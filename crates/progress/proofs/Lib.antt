@@ -1,0 +1,6 @@
+-- That calls answer, to be read in this order.
+
+-- Request 2026-08: a call that gets all the ticks answers.
+pub mod SoloBound
+-- Beyond the order: some call answers under every schedule.
+pub mod LockFree

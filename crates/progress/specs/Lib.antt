@@ -1,0 +1,2 @@
+pub mod Solo
+pub mod LockFree
