@@ -14,17 +14,18 @@ use stream::begin_session;
 use stream::finish;
 use stream::serve_lines;
 ghost use mathlib.Core.Path.{_≡_};
-ghost use mathlib.Core.Bool.{true};
 ghost use Prim.Native.Nat.{_≤_};
 ghost use lib.ListN.{length};
 ghost use Rattle.reader.specs.Kept.{textPlaces};
 ghost use Rattle.belt.specs.Space.{largestTable};
-ghost use Rattle.stream.specs.Session.{takeBytes};
-ghost use Rattle.stream.specs.Carried.{loanOf, InOrder, Leads, lineRoom};
+ghost use Rattle.stream.specs.Carried.{loanOf, InOrder, lineRoom};
+ghost use Rattle.lane.specs.Turns.{Taken, Turned, Ran};
 
-// What a turn leaves: what is carried, and whether the session goes on. It ends with its input, and when a write fails.
+// What a turn leaves: what is carried, how many bytes it took, and whether the session goes on. It ends with its input,
+// and when a write fails.
 struct Left {
     pub carried: Carried,
+    pub taken: usize,
     pub going: bool,
 }
 
@@ -49,10 +50,10 @@ fn answer_chunk(
 ) -> Left
     requires { ⌜ InOrder (loanOf (now space) (now text) (now numbers) carried) ⌝ }
     requires { ⌜ lineRoom ≤ length (now out) ⌝ }
-    ensures { λ r. ⌜ InOrder (loanOf (now (space .exit)) (now (text .exit)) (now (numbers .exit)) (r .carried)) ⌝ }
-    ensures { λ r. ⌜ (r .going ≡ true → Leads (takeBytes (now (chunk .entry)))
+    ensures { λ r. ⌜ Taken (now (chunk .entry)) (r .taken) (r .going)
         (loanOf (now (space .entry)) (now (text .entry)) (now (numbers .entry)) carried)
-        (loanOf (now (space .exit)) (now (text .exit)) (now (numbers .exit)) (r .carried))) ⌝ }
+        (loanOf (now (space .exit)) (now (text .exit)) (now (numbers .exit)) (r .carried))
+        (now (out .entry)) (now (out .exit)) ⌝ }
 {
     let mut carried = carried;
     let mut from = 0;
@@ -64,12 +65,14 @@ fn answer_chunk(
         if !put(&out[..end]) {
             return Left {
                 carried,
+                taken: from,
                 going: false,
             };
         }
     }
     Left {
         carried,
+        taken: from,
         going: true,
     }
 }
@@ -86,7 +89,10 @@ fn turn(
 ) -> Left
     requires { ⌜ InOrder (loanOf (now space) (now text) (now numbers) carried) ⌝ }
     requires { ⌜ lineRoom ≤ length (now out) ⌝ }
-    ensures { λ r. ⌜ InOrder (loanOf (now (space .exit)) (now (text .exit)) (now (numbers .exit)) (r .carried)) ⌝ }
+    ensures { λ r. ⌜ Turned (now (input .exit)) (r .taken) (r .going)
+        (loanOf (now (space .entry)) (now (text .entry)) (now (numbers .entry)) carried)
+        (loanOf (now (space .exit)) (now (text .exit)) (now (numbers .exit)) (r .carried))
+        (now (out .entry)) (now (out .exit)) ⌝ }
 {
     let got = libc::read(STDIN_FILENO, input);
     let n = io::count(got, input);
@@ -97,6 +103,7 @@ fn turn(
         put(&out[..end]);
         return Left {
             carried,
+            taken: 0,
             going: false,
         };
     }
@@ -116,6 +123,8 @@ fn run(
     requires { ⌜ largestTable ≤ length (now space) ⌝ }
     requires { ⌜ length (now text) ≡ textPlaces ⌝ }
     requires { ⌜ lineRoom ≤ length (now out) ⌝ }
+    ensures { λ _. ⌜ Ran (now (space .entry)) (now (text .entry)) (now (out .entry))
+        (now (space .exit)) (now (text .exit)) (now (numbers .exit)) (now (out .exit)) ⌝ }
 {
     let mut carried = begin_session(numbers);
     let mut turns = u64::MAX;

@@ -2,6 +2,6 @@
 
 pub mod SameTexts
 pub mod NumberLaws
+pub mod FormLaws
 pub mod ScanLaws
 pub mod LineLaws
-pub mod FormLaws

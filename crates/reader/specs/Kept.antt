@@ -1,11 +1,14 @@
--- What the code keeps of a scanned line, in constant memory.
-use mathlib.Core.Bool.{true}
-use mathlib.Core.List.{List}
+-- What the code keeps of a line in constant memory, byte by byte, and what that stands for.
+use mathlib.Core.Bool.{true, false, cond, _&&_}
+use mathlib.Core.List.{List, [], _∷_}
 use mathlib.Core.Path.{_≡_}
 use Prim.Native.Nat.{ℕ, _+_, _-_, _≤_, _<_, min}
-use lib.ListN.{length, getD, take, drop}
-use Rattle.reader.specs.Scanned.{Scanned, scanBytes, firstLine}
-use Rattle.reader.specs.Commands.{allFit}
+use lib.Dec.{leb, ltb}
+use lib.ListN.{length, getD, take, drop, set, replicate}
+use Rattle.reader.specs.Scanned.{Scanned, zeroDigit, isDigit, withDigit, firstLine}
+use Rattle.reader.specs.Commands.{largestNumber, allFit, formOf}
+use Rattle.reader.specs.declared.Command.{Command}
+use Rattle.reader.specs.declared.Command.the-variants.{Unread}
 use Rattle.reader.specs.declared.scanning.Scan.{Scan}
 use Rattle.reader.specs.declared.scanning.Stop.{Stop}
 
@@ -17,6 +20,82 @@ textPlaces = 39
 abbrev pub numberPlaces : ℕ
 numberPlaces = 4
 
+-- the two arrays and the scan
+pub record Kept : Type 0 where
+  pub text : List ℕ
+  pub numbers : List ℕ
+  pub scan : Scan
+
+abbrev pub keptOf : (text numbers : List ℕ) → Scan → Kept
+keptOf text numbers scan = record { text = text; numbers = numbers; scan = scan }
+
+-- ---- Every word that is kept, by the bytes scanned.
+
+abbrev pub noNumbers : List ℕ
+noNumbers = replicate numberPlaces 0
+
+-- the scan of a line of which nothing is scanned
+abbrev pub noScan : Scan
+noScan = record { length = 0; count = 0; in_number = false; fits = true }
+
+-- at first, whatever stands in the array of the text
+abbrev pub keptAtFirst : (text : List ℕ) → Kept
+keptAtFirst text = keptOf text noNumbers noScan
+
+-- a byte put after the first n of the text, if there is a place left
+abbrev pub textWith : (text : List ℕ) (n b : ℕ) → List ℕ
+textWith text n b = cond (ltb n textPlaces) (set text n b) text
+
+-- A byte that is no digit is put after the text so far.
+abbrev pub keepOther : Kept → ℕ → Kept
+keepOther k b =
+    let s = k .scan in
+    keptOf (textWith (k .text) (s .length) b) (k .numbers)
+    (record { length = min textPlaces (s .length + 1); count = s .count; in_number = false; fits = s .fits })
+
+-- A digit of value d opens a number. From the fourth number on they share the last place.
+abbrev pub keepOpened : Kept → ℕ → Kept
+keepOpened k d =
+    let s = k .scan in
+    let count = min numberPlaces (s .count + 1) in
+    keptOf (textWith (k .text) (s .length) zeroDigit) (set (k .numbers) (count - 1) d)
+    (record { length = min textPlaces (s .length + 1); count = count; in_number = true; fits = s .fits })
+
+-- A further digit of value d of the number that is open. One that would be too large stays as it is.
+abbrev pub keepExtended : Kept → ℕ → Kept
+keepExtended k d =
+    let s = k .scan in
+    let place = s .count - 1 in
+    let n = withDigit (k .numbers) place d in
+    keptOf (k .text) (cond (leb n largestNumber) (set (k .numbers) place n) (k .numbers))
+    (record {
+      length = s .length;
+      count = s .count;
+      in_number = true;
+      fits = leb n largestNumber && s .fits;
+    })
+
+unfoldable pub keepByte : Kept → ℕ → Kept
+keepByte k b =
+    cond (isDigit b)
+    (cond (k .scan .in_number) (keepExtended k (b - zeroDigit)) (keepOpened k (b - zeroDigit)))
+    (keepOther k b)
+
+unfoldable pub keepBytes : Kept → List ℕ → Kept
+keepBytes k [] = k
+keepBytes k (b ∷ bs) = keepBytes (keepByte k b) bs
+
+-- the command that is read off what is kept
+unfoldable pub keptCommand : Kept → Command
+keptCommand k = cond (k .scan .fits) (formOf (take (k .scan .length) (k .text)) (k .numbers)) Unread
+
+-- The chunk is scanned from a place up to the next line feed or its end.
+pub record ScansLine (chunk : List ℕ) (from : ℕ) (before : Kept) (text numbers : List ℕ) (r : Stop) : Type 0 where
+  pub stops : r .at ≡ from + length (firstLine (drop from chunk))
+  pub keeps : keptOf text numbers (r .scan) ≡ keepBytes before (firstLine (drop from chunk))
+
+-- ---- What holds of it at all times.
+
 -- the counts of a scan are within the two arrays, and a number that is open is counted
 pub record Counts (s : Scan) : Type 0 where
   pub short : s .length ≤ textPlaces
@@ -24,39 +103,23 @@ pub record Counts (s : Scan) : Type 0 where
   pub some : s .in_number ≡ true → 0 < s .count
 
 -- a number is open, and the digit d is to be put to it
-pub record MoreDigits (numbers : List ℕ) (s : Scan) (d : ℕ) : Type 0 where
-  pub number-places : length numbers ≡ numberPlaces
+pub record MoreDigits (s : Scan) (d : ℕ) : Type 0 where
   pub counts : Counts s
   pub is-open : s .in_number ≡ true
   pub is-digit : d < 10
 
--- what holds of the arrays and the scan at all times
-pub record ScanKept (text numbers : List ℕ) (s : Scan) : Type 0 where
-  pub text-places : length text ≡ textPlaces
-  pub number-places : length numbers ≡ numberPlaces
-  pub counts : Counts s
+pub record ScanKept (k : Kept) : Type 0 where
+  pub text-places : length (k .text) ≡ textPlaces
+  pub number-places : length (k .numbers) ≡ numberPlaces
+  pub counts : Counts (k .scan)
 
--- The arrays text and numbers with the scan s stand for what was scanned: the first bytes of its text; how many numbers
--- it has, up to 4; whether all of them fit, and if they do, the first three, 0 where there are fewer, and the last at
--- the last place used.
-pub record Represents (text numbers : List ℕ) (s : Scan) (σ : Scanned) : Type 0 where
-  pub text-kept : take (s .length) text ≡ take textPlaces (σ .text)
-  pub number-count : s .count ≡ min numberPlaces (length (σ .numbers))
-  pub in-number : s .in_number ≡ σ .inNumber
-  pub fitting : s .fits ≡ allFit (σ .numbers)
-  pub first : s .fits ≡ true → (k : ℕ) → k < 3 → getD numbers k 0 ≡ getD (σ .numbers) k 0
-  pub last : s .fits ≡ true → 0 < s .count
-      → getD numbers (s .count - 1) 0 ≡ getD (σ .numbers) (length (σ .numbers) - 1) 0
-
--- Scanning these bytes turned the first arrays and scan into the second: whatever the first stand for, the second stand
--- for that with the bytes scanned.
-pub record Scans (bytes text₀ numbers₀ : List ℕ) (s₀ : Scan) (text numbers : List ℕ) (s : Scan) : Type 0 where
-  pub kept : ScanKept text numbers s
-  pub scans : (σ : Scanned) → Represents text₀ numbers₀ s₀ σ → Represents text numbers s (scanBytes σ bytes)
-
--- The chunk is scanned from a place up to the next line feed or its end.
-pub record ScansLine (chunk : List ℕ) (from : ℕ) (text₀ numbers₀ : List ℕ) (s₀ : Scan) (text numbers : List ℕ)
-    (r : Stop) : Type 0 where
-  pub stops : r .at ≡ from + length (firstLine (drop from chunk))
-  pub within : r .at ≤ length chunk
-  pub scanned : Scans (firstLine (drop from chunk)) text₀ numbers₀ s₀ text numbers (r .scan)
+-- It stands for what was scanned: the first bytes of its text; how many numbers it has, up to 4; whether all of them
+-- fit, and if they do, the first three, 0 where there are fewer, and the last at the last place used.
+pub record Represents (k : Kept) (σ : Scanned) : Type 0 where
+  pub text-kept : take (k .scan .length) (k .text) ≡ take textPlaces (σ .text)
+  pub number-count : k .scan .count ≡ min numberPlaces (length (σ .numbers))
+  pub in-number : k .scan .in_number ≡ σ .inNumber
+  pub fitting : k .scan .fits ≡ allFit (σ .numbers)
+  pub first : k .scan .fits ≡ true → (i : ℕ) → i < 3 → getD (k .numbers) i 0 ≡ getD (σ .numbers) i 0
+  pub last : k .scan .fits ≡ true → 0 < k .scan .count
+      → getD (k .numbers) (k .scan .count - 1) 0 ≡ getD (σ .numbers) (length (σ .numbers) - 1) 0

@@ -6,9 +6,9 @@ use forms::form_of;
 use scanning::Numbers;
 use scanning::Scan;
 ghost use mathlib.Core.Path.{_≡_};
-ghost use Rattle.reader.specs.Scanned.{Scanned};
-ghost use Rattle.reader.specs.Commands.{commandOf};
-ghost use Rattle.reader.specs.Kept.{ScanKept, Represents};
+ghost use Prim.Native.Nat.{_≤_};
+ghost use lib.ListN.{length};
+ghost use Rattle.reader.specs.Kept.{keptOf, keptCommand};
 
 // What a line says. Operations are 1 push, 2 pop, 3 add, 4 remove; sides 0 left, 1 right.
 pub enum Command {
@@ -32,10 +32,10 @@ pub enum Command {
     Unread,
 }
 
-// The command of a scanned line.
+// The command of a scanned line, read off what is kept of it.
 pub fn scanned_command(text: &[u8], numbers: &Numbers, s: Scan) -> Command
-    requires { ⌜ ScanKept (now text) (now numbers) s ⌝ }
-    ensures { λ r. ⌜ ((σ : Scanned) → Represents (now (text .entry)) (now (numbers .entry)) s σ → r ≡ commandOf σ) ⌝ }
+    requires { ⌜ s .length ≤ length (now text) ⌝ }
+    ensures { λ r. ⌜ r ≡ keptCommand (keptOf (now (text .entry)) (now (numbers .entry)) s) ⌝ }
 {
     let fits = s.fits;
     let length = s.length;

@@ -1,21 +1,26 @@
 // Scanning a line, byte by byte: the front of its text stands in an array of bytes, its numbers in an array of words.
-ghost use mathlib.Core.Bool.{true, cond};
-ghost use mathlib.Core.List.{List, [], _∷_, _++_};
+ghost use mathlib.Core.Bool.{cond};
+ghost use mathlib.Core.List.{List};
 ghost use mathlib.Core.Path.{_≡_};
 ghost use Prim.Native.Nat.{ℕ, _+_, _≤_, _<_, min};
 ghost use lib.Dec.{leb};
-ghost use lib.ListN.{length, take, set};
-ghost use Rattle.reader.specs.Scanned.{Scanned, nothing, isDigit, withDigit, opened, extended, appended};
+ghost use lib.ListN.{length, set};
+ghost use Rattle.reader.specs.Scanned.{isDigit, withDigit};
 ghost use Rattle.reader.specs.Commands.{largestNumber};
 ghost use Rattle.reader.specs.Kept.{
   textPlaces,
   numberPlaces,
+  keptOf,
+  noNumbers,
+  noScan,
+  textWith,
+  keepOther,
+  keepOpened,
+  keepExtended,
+  keepByte,
+  ScansLine,
   Counts,
   MoreDigits,
-  ScanKept,
-  Represents,
-  Scans,
-  ScansLine,
 };
 
 pub const TEXT_PLACES: usize = 39;
@@ -48,8 +53,7 @@ pub struct Stop {
 
 // The scan of a line of which nothing is scanned.
 pub fn start(numbers: &mut Numbers) -> Scan
-    ensures { λ r. ⌜ ((text : List ℕ) → length text ≡ textPlaces → ScanKept text (now (numbers .exit)) r)
-        × ((text : List ℕ) → Represents text (now (numbers .exit)) r nothing) ⌝ }
+    ensures { λ r. ⌜ (now (numbers .exit) ≡ noNumbers) × (r ≡ noScan) ⌝ }
 {
     *numbers = [0; NUMBER_PLACES];
     Scan {
@@ -62,10 +66,8 @@ pub fn start(numbers: &mut Numbers) -> Scan
 
 // Puts a byte at the end of the text, if it is among the first 39. Answers how many are kept.
 fn put(text: &mut Text, n: usize, b: u8) -> usize
-    requires { ⌜ (length (now text) ≡ textPlaces) × (n ≤ textPlaces) ⌝ }
-    ensures { λ r. ⌜ (length (now (text .exit)) ≡ textPlaces) × (r ≤ textPlaces)
-        × ((l : List ℕ) → take n (now (text .entry)) ≡ take textPlaces l
-        → take r (now (text .exit)) ≡ take textPlaces (l ++ (b ∷ []))) ⌝ }
+    requires { ⌜ n ≤ textPlaces ⌝ }
+    ensures { λ r. ⌜ (now (text .exit) ≡ textWith (now (text .entry)) n b) × (r ≡ min textPlaces (n + 1)) ⌝ }
 {
     if n < TEXT_PLACES {
         text[n] = b;
@@ -98,10 +100,9 @@ fn append_digit(numbers: &mut Numbers, place: usize, d: u32) -> bool
 
 // A further digit with the value d of the number that is open.
 fn extend_number(numbers: &mut Numbers, s: Scan, d: u32) -> Scan
-    requires { ⌜ MoreDigits (now numbers) s d ⌝ }
-    ensures { λ r. ⌜ (length (now (numbers .exit)) ≡ numberPlaces) × Counts r
-        × ((text : List ℕ) (σ : Scanned) → Represents text (now (numbers .entry)) s σ
-        → Represents text (now (numbers .exit)) r (extended σ d)) ⌝ }
+    requires { ⌜ MoreDigits s d ⌝ }
+    ensures { λ r. ⌜ ((text : List ℕ) → keptOf text (now (numbers .exit)) r
+        ≡ keepExtended (keptOf text (now (numbers .entry)) s) d) ⌝ }
 {
     let place = s.count - 1;
     if append_digit(numbers, place, d) {
@@ -117,10 +118,9 @@ fn extend_number(numbers: &mut Numbers, s: Scan, d: u32) -> Scan
 
 // A digit with the value d that opens a number. From the fourth number on they share the last place.
 fn open_number(text: &mut Text, numbers: &mut Numbers, s: Scan, d: u32) -> Scan
-    requires { ⌜ ScanKept (now text) (now numbers) s × (d < 10) ⌝ }
-    ensures { λ r. ⌜ ScanKept (now (text .exit)) (now (numbers .exit)) r
-        × ((σ : Scanned) → Represents (now (text .entry)) (now (numbers .entry)) s σ
-        → Represents (now (text .exit)) (now (numbers .exit)) r (opened σ d)) ⌝ }
+    requires { ⌜ Counts s ⌝ }
+    ensures { λ r. ⌜ keptOf (now (text .exit)) (now (numbers .exit)) r
+        ≡ keepOpened (keptOf (now (text .entry)) (now (numbers .entry)) s) d ⌝ }
 {
     let n = s.length;
     let length = put(text, n, b'0');
@@ -147,10 +147,9 @@ fn one_more(count: usize) -> usize
 
 // A byte that is no digit.
 fn append_byte(text: &mut Text, s: Scan, b: u8) -> Scan
-    requires { ⌜ (length (now text) ≡ textPlaces) × Counts s ⌝ }
-    ensures { λ r. ⌜ (length (now (text .exit)) ≡ textPlaces) × Counts r
-        × ((numbers : List ℕ) (σ : Scanned) → Represents (now (text .entry)) numbers s σ
-        → Represents (now (text .exit)) numbers r (appended σ b)) ⌝ }
+    requires { ⌜ Counts s ⌝ }
+    ensures { λ r. ⌜ ((numbers : List ℕ) → keptOf (now (text .exit)) numbers r
+        ≡ keepOther (keptOf (now (text .entry)) numbers s) b) ⌝ }
 {
     let n = s.length;
     let length = put(text, n, b);
@@ -173,9 +172,9 @@ fn is_digit(b: u8) -> bool
 
 // Scans one byte.
 fn scan_byte(text: &mut Text, numbers: &mut Numbers, s: Scan, b: u8) -> Scan
-    requires { ⌜ ScanKept (now text) (now numbers) s ⌝ }
-    ensures { λ r. ⌜ Scans (b ∷ []) (now (text .entry)) (now (numbers .entry)) s
-        (now (text .exit)) (now (numbers .exit)) r ⌝ }
+    requires { ⌜ Counts s ⌝ }
+    ensures { λ r. ⌜ keptOf (now (text .exit)) (now (numbers .exit)) r
+        ≡ keepByte (keptOf (now (text .entry)) (now (numbers .entry)) s) b ⌝ }
 {
     if !is_digit(b) {
         return append_byte(text, s, b);
@@ -190,8 +189,8 @@ fn scan_byte(text: &mut Text, numbers: &mut Numbers, s: Scan, b: u8) -> Scan
 
 // Scans a line on from a place of a chunk, until its line feed or the end of the chunk.
 pub fn scan_line(chunk: &[u8], from: usize, text: &mut Text, numbers: &mut Numbers, s: Scan) -> Stop
-    requires { ⌜ (from ≤ length (now chunk)) × ScanKept (now text) (now numbers) s ⌝ }
-    ensures { λ r. ⌜ ScansLine (now (chunk .entry)) from (now (text .entry)) (now (numbers .entry)) s
+    requires { ⌜ (from ≤ length (now chunk)) × Counts s ⌝ }
+    ensures { λ r. ⌜ ScansLine (now (chunk .entry)) from (keptOf (now (text .entry)) (now (numbers .entry)) s)
         (now (text .exit)) (now (numbers .exit)) r ⌝ }
 {
     let mut scan = s;

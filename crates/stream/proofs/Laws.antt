@@ -3,4 +3,5 @@
 pub mod Chunks
 pub mod TakenLaws
 pub mod CarriedLaws
+pub mod MeantLaws
 pub mod ServingLaws

@@ -17,7 +17,9 @@ use Rattle.stream.specs.Session.{
   takeByte,
   takeBytes,
   endInput,
+  takeInput,
   printedFrom,
+  meant,
   session,
 }
 use Rattle.stream.proofs.Laws.Chunks.{takeBytes-append}
@@ -27,13 +29,9 @@ commandsFrom : State → List (List ℕ) → List Command
 commandsFrom s [] = cond (s .begun) (commandOf (s .line) ∷ []) []
 commandsFrom s (line ∷ lines) = commandOf (scanBytes (s .line) line) ∷ map commandRead lines
 
--- What bytes and then the end of the input print.
-abbrev printedBy : List ℕ → State → List ℕ
-printedBy bytes s = takeBytes bytes s .text ++ endInput (takeBytes bytes s .state) .text
-
 -- ---- The first line by the byte in front of it.
 goOn-commands : (b : ℕ) (s : State) (lines : List (List ℕ))
-    → commandsFrom (goOn b s .state) lines ≡ commandsFrom s (inFront b lines)
+    → commandsFrom (goOn b s) lines ≡ commandsFrom s (inFront b lines)
 unfolding commandsFrom scanBytes
 goOn-commands b s [] = refl
 goOn-commands b s (line ∷ lines) = refl
@@ -45,7 +43,7 @@ endLine-commands s (line ∷ lines) = refl
 
 -- ---- What is printed from a state on, by the bytes that are left.
 abbrev Whole : State → List ℕ → Type 0
-Whole s bytes = printedBy bytes s ≡ printed (commandsFrom s (linesOf bytes)) (s .words)
+Whole s bytes = takeInput meant bytes s .text ≡ printed (commandsFrom s (linesOf bytes)) (s .words)
 
 at-end : (s : State) → Whole s []
 unfolding takeBytes endInput endLine commandsFrom linesOf printed
@@ -60,15 +58,15 @@ at-line-feed : (b : ℕ) (bs : List ℕ) (s : State) → eqb b lineFeed ≡ true
 unfolding takeBytes takeByte endLine commandsFrom linesOf scanBytes printed
 at-line-feed b bs s e left =
     let ended = endLine s in
-    let rest = takeBytes bs (ended .state) in
+    let rest = takeBytes meant bs (ended .state) in
     rw e
-    (append-assoc (ended .text) (rest .text) (endInput (rest .state) .text)
+    (append-assoc (ended .text) (rest .text) (endInput meant (rest .state) .text)
     ∙ ap (λ (text : List ℕ). ended .text ++ text)
     (left
     ∙ ap (λ (commands : List Command). printed commands (ended .state .words))
     (endLine-commands s (linesOf bs))))
 
-at-byte : (b : ℕ) (bs : List ℕ) (s : State) → eqb b lineFeed ≡ false → Whole (goOn b s .state) bs → Whole s (b ∷ bs)
+at-byte : (b : ℕ) (bs : List ℕ) (s : State) → eqb b lineFeed ≡ false → Whole (goOn b s) bs → Whole s (b ∷ bs)
 unfolding takeBytes takeByte linesOf
 at-byte b bs s e left =
     rw e (left ∙ ap (λ (commands : List Command). printed commands (s .words)) (goOn-commands b s (linesOf bs)))
@@ -79,12 +77,12 @@ from-state (b ∷ bs) s = go (eqb b lineFeed) refl (from-state bs)
   where
     go : (fed : Bool) → eqb b lineFeed ≡ fed → ((t : State) → Whole t bs) → Whole s (b ∷ bs)
     go true e left = at-line-feed b bs s e (left (endLine s .state))
-    go false e left = at-byte b bs s e (left (goOn b s .state))
+    go false e left = at-byte b bs s e (left (goOn b s))
 
 -- ---- The whole input.
-whole-printed : (input : List ℕ) → printedBy input atFirst ≡ beltRun input
+pub input-is-belt-run : (input : List ℕ) → takeInput meant input atFirst .text ≡ beltRun input
 unfolding beltRun commandsFrom commandRead
-whole-printed input =
+input-is-belt-run input =
     from-state input atFirst
     ∙ ap (λ (commands : List Command). printed commands []) (first-commands (linesOf input))
   where
@@ -92,15 +90,17 @@ whole-printed input =
     first-commands [] = refl
     first-commands (line ∷ lines) = refl
 
-chunks-joined : (chunks : List (List ℕ)) (s : State) → printedFrom chunks s ≡ printedBy (flatten chunks) s
+chunks-joined : (chunks : List (List ℕ)) (s : State)
+    → printedFrom meant chunks s ≡ takeInput meant (flatten chunks) s .text
 unfolding printedFrom takeBytes flatten
 chunks-joined [] s = refl
 chunks-joined (chunk ∷ chunks) s =
-    let step = takeBytes chunk s in
-    let rest = takeBytes (flatten chunks) (step .state) in
+    let step = takeBytes meant chunk s in
+    let rest = takeBytes meant (flatten chunks) (step .state) in
     ap (λ (text : List ℕ). step .text ++ text) (chunks-joined chunks (step .state))
-    ∙ sym (append-assoc (step .text) (rest .text) (endInput (rest .state) .text))
-    ∙ ap (λ (d : Step). d .text ++ endInput (d .state) .text) (sym (takeBytes-append chunk (flatten chunks) s))
+    ∙ sym (append-assoc (step .text) (rest .text) (endInput meant (rest .state) .text))
+    ∙ ap (λ (d : Step State). d .text ++ endInput meant (d .state) .text)
+    (sym (takeBytes-append meant chunk (flatten chunks) s))
 
 pub session-is-belt-run : (chunks : List (List ℕ)) → session chunks ≡ beltRun (flatten chunks)
-session-is-belt-run chunks = chunks-joined chunks atFirst ∙ whole-printed (flatten chunks)
+session-is-belt-run chunks = chunks-joined chunks atFirst ∙ input-is-belt-run (flatten chunks)

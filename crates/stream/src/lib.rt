@@ -17,8 +17,19 @@ ghost use lib.ListN.{length};
 ghost use lib.Seq.{slice};
 ghost use Rattle.reader.specs.Kept.{textPlaces};
 ghost use Rattle.belt.specs.Space.{largestTable};
-ghost use Rattle.stream.specs.Session.{atFirst, endLine, takeBytes, endInput};
-ghost use Rattle.stream.specs.Carried.{loanOf, InOrder, Holds, lineRoom, Makes, Onward};
+ghost use Rattle.stream.specs.Session.{takeBytes, endInput, atFirst, meant};
+ghost use Rattle.stream.specs.Carried.{
+  loanOf,
+  endLineIn,
+  lent,
+  lentAtFirst,
+  Serves,
+  InOrder,
+  Holds,
+  lineRoom,
+  Makes,
+  Onward,
+};
 
 // The most bytes that one line prints: a lane of 1,024 bags.
 pub const LINE_ROOM: usize = 11_285;
@@ -47,6 +58,7 @@ pub struct Served {
 
 // The start of a session: no table, and no line.
 pub fn begin_session(numbers: &mut Numbers) -> Carried
+    ensures { λ r. ⌜ ((space text : List ℕ) → loanOf space text (now (numbers .exit)) r ≡ lentAtFirst space text) ⌝ }
     ensures { λ r. ⌜ ((space text : List ℕ) → largestTable ≤ length space → length text ≡ textPlaces
         → InOrder (loanOf space text (now (numbers .exit)) r)) ⌝ }
     ensures { λ r. ⌜ ((space text : List ℕ) → Holds (loanOf space text (now (numbers .exit)) r) atFirst) ⌝ }
@@ -71,7 +83,7 @@ fn end_line(
 ) -> Ended
     requires { ⌜ InOrder (loanOf (now space) (now text) (now numbers) carried) ⌝ }
     requires { ⌜ at + lineRoom ≤ length (now out) ⌝ }
-    ensures { λ r. ⌜ Makes endLine
+    ensures { λ r. ⌜ Serves endLineIn
         (loanOf (now (space .entry)) (now (text .entry)) (now (numbers .entry)) carried)
         (loanOf (now (space .exit)) (now (text .entry)) (now (numbers .exit)) (r .carried))
         (now (out .entry)) at (now (out .exit)) (r .at) ⌝ }
@@ -121,7 +133,7 @@ fn serve(
     requires { ⌜ InOrder (loanOf (now space) (now text) (now numbers) carried) ⌝ }
     requires { ⌜ at + lineRoom ≤ length (now out) ⌝ }
     ensures { λ r. ⌜ Onward (now (chunk .entry)) from (r .from) ⌝ }
-    ensures { λ r. ⌜ Makes (takeBytes (slice from (r .from) (now (chunk .entry))))
+    ensures { λ r. ⌜ Serves (takeBytes lent (slice from (r .from) (now (chunk .entry))))
         (loanOf (now (space .entry)) (now (text .entry)) (now (numbers .entry)) carried)
         (loanOf (now (space .exit)) (now (text .exit)) (now (numbers .exit)) (r .carried))
         (now (out .entry)) at (now (out .exit)) (r .at) ⌝ }
@@ -163,7 +175,11 @@ pub fn serve_lines(
     requires { ⌜ InOrder (loanOf (now space) (now text) (now numbers) carried) ⌝ }
     requires { ⌜ lineRoom ≤ length (now out) ⌝ }
     ensures { λ r. ⌜ Onward (now (chunk .entry)) start (r .from) ⌝ }
-    ensures { λ r. ⌜ Makes (takeBytes (slice start (r .from) (now (chunk .entry))))
+    ensures { λ r. ⌜ Serves (takeBytes lent (slice start (r .from) (now (chunk .entry))))
+        (loanOf (now (space .entry)) (now (text .entry)) (now (numbers .entry)) carried)
+        (loanOf (now (space .exit)) (now (text .exit)) (now (numbers .exit)) (r .carried))
+        (now (out .entry)) 0 (now (out .exit)) (r .at) ⌝ }
+    ensures { λ r. ⌜ Makes (takeBytes meant (slice start (r .from) (now (chunk .entry))))
         (loanOf (now (space .entry)) (now (text .entry)) (now (numbers .entry)) carried)
         (loanOf (now (space .exit)) (now (text .exit)) (now (numbers .exit)) (r .carried))
         (now (out .entry)) 0 (now (out .exit)) (r .at) ⌝ }
@@ -195,7 +211,11 @@ pub fn finish(
 ) -> Ended
     requires { ⌜ InOrder (loanOf (now space) (now text) (now numbers) carried) ⌝ }
     requires { ⌜ lineRoom ≤ length (now out) ⌝ }
-    ensures { λ r. ⌜ Makes endInput
+    ensures { λ r. ⌜ Serves (endInput lent)
+        (loanOf (now (space .entry)) (now (text .entry)) (now (numbers .entry)) carried)
+        (loanOf (now (space .exit)) (now (text .entry)) (now (numbers .exit)) (r .carried))
+        (now (out .entry)) 0 (now (out .exit)) (r .at) ⌝ }
+    ensures { λ r. ⌜ Makes (endInput meant)
         (loanOf (now (space .entry)) (now (text .entry)) (now (numbers .entry)) carried)
         (loanOf (now (space .exit)) (now (text .entry)) (now (numbers .exit)) (r .carried))
         (now (out .entry)) 0 (now (out .exit)) (r .at) ⌝ }

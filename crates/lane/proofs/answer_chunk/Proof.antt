@@ -5,9 +5,14 @@ use Prim.Native.Nat.{_-_}
 use native.Mathlib.Omega.{arith}
 use lib.ListN.{length}
 use borrow.Author.Needs.{needs}
-use Rattle.machine.proofs.Basics.Contradiction.{clash}
 use Rattle.stream.specs.Carried.{loanOf}
-use Rattle.lane.proofs.ChunkLaws.{Answering, answering-starts, answering-goes-on, answering-ends}
+use Rattle.lane.proofs.TurnLaws.{
+  Answering,
+  answering-starts,
+  answering-goes-on,
+  answering-stops,
+  answering-ends,
+}
 use Rattle.lane.proofs.answer_chunk.Statement.{statement}
 use Rattle.lane.proofs.answer_chunk.Tie as tie
 
@@ -26,17 +31,17 @@ serve-lines-requires : tie.Need-serve-lines-requires Inv-loop μ-loop
 serve-lines-requires c κs =
     let loop = c .before .before .before .before .before .before in
     let A = loop .loop .inv in
-    (A .within, (A .in-order, omega (arith, A .same-out, loop .before .before .before .before .pre .1)))
+    (A .within, (A .answers .in-order, omega (arith, A .same-out, loop .before .before .before .before .pre .1)))
 
 slice-reshare-prefix-put : tie.Need-slice-reshare-prefix-put Inv-loop μ-loop
 slice-reshare-prefix-put c =
     let served = c .before .before .before .before .before in
-    omega (arith, served .serve-lines .ensures .1 .1)
+    omega (arith, served .serve-lines .ensures .1 .1 .1)
 
 slice-aggregate-put : tie.Need-slice-aggregate-put Inv-loop μ-loop
 slice-aggregate-put c =
     let served = c .before .before .before .before .before .before in
-    sym (length-take-le _ _ (served .serve-lines .ensures .1 .1))
+    sym (length-take-le _ _ (served .serve-lines .ensures .1 .1 .1))
 
 put-requires : tie.Need-put-requires Inv-loop μ-loop
 put-requires c κs = search needs
@@ -56,7 +61,14 @@ same-length-2 c =
 returns : tie.Need-returns Inv-loop μ-loop
 returns c =
     let served = c .before .before .before .before .before .before .before .before in
-    (served .serve-lines .ensures .1 .0 .in-order, λ e. clash (cc))
+    let loop = served .before .before .before .before .before .before .before in
+    let done = served .serve-lines .ensures in
+    let kept = served .serve-lines .kept in
+    let A =
+    answering-goes-on _ (loop .loop .inv) _ (done .0) (done .1 .0) (done .1 .1 .0 .in-order) (done .1 .1 .1)
+    (kept .1 .1 .0) (kept .1 .1 .1 .1 .1 .1 .1 .0) in
+    let further = done .0 .further (served .before .before .before .before .before .before .loop-test .taken) in
+    answering-stops _ (omega (arith, further)) A
 
 loop-less : tie.Need-loop-less Inv-loop μ-loop
 loop-less c =
@@ -70,7 +82,8 @@ loop-again c =
     let served = c .before .before .before .before .before .before .before .before in
     let loop = served .before .before .before .before .before .before .before in
     let kept = served .serve-lines .kept in
-    answering-goes-on _ (loop .loop .inv) _ (served .serve-lines .ensures .0) (served .serve-lines .ensures .1 .0)
+    let done = served .serve-lines .ensures in
+    answering-goes-on _ (loop .loop .inv) _ (done .0) (done .1 .0) (done .1 .1 .0 .in-order) (done .1 .1 .1)
     (kept .1 .1 .0) (kept .1 .1 .1 .1 .1 .1 .1 .0)
 
 same-length-3 : tie.Need-same-length-3 Inv-loop μ-loop
@@ -80,9 +93,7 @@ same-length-4 : tie.Need-same-length-4 Inv-loop μ-loop
 same-length-4 c = c .before .loop .inv .same-out
 
 returns-2 : tie.Need-returns-2 Inv-loop μ-loop
-returns-2 c =
-    let A = c .before .loop .inv in
-    (A .in-order, λ _. answering-ends _ A (c .loop-test .left))
+returns-2 c = answering-ends _ (omega (arith, c .loop-test .left)) (c .before .loop .inv)
 
 pub answer-chunk-spec : {M : Type 1} → statement M
 answer-chunk-spec =

@@ -1,12 +1,13 @@
 -- When two texts are the same, and a text of which the first bytes are kept.
-use mathlib.Core.Bool.{Bool, true, false, _&&_}
+use mathlib.Core.Bool.{Bool, true, false, cond, _&&_}
 use mathlib.Core.List.{List, [], _∷_, _++_}
 use mathlib.Core.Path.{_≡_, refl, sym, ap, _∙_}
 use Prim.Native.Nat.{ℕ, zero, suc, _+_, _<_, _≤_, min}
+use native.Mathlib.Decide.{decLt}
 use native.Mathlib.Numerals.{add-one}
 use native.Mathlib.Omega.{arith}
-use borrow.Author.Tests.{eq-eqb, ne-eqb}
-use lib.Dec.{eqb}
+use borrow.Author.Tests.{eq-eqb, ne-eqb, lt-ltb, le-ltb}
+use lib.Dec.{eqb, ltb}
 use lib.ListN.{length, getD, take, drop, set, length-append, length-take, drop-of-length-le}
 use lib.Seq.{drop-cons, take-suc-set, take-all, take-append-le}
 use Rattle.reader.specs.Text.{same}
@@ -56,16 +57,20 @@ module _ (m : ℕ) (t l : List ℕ) (n b : ℕ) (long : length t ≡ m) (small :
       let b : length (take n t) ≡ min m (length l) = ap length e ∙ length-take m l in
       omega arith
 
-  pub byte-kept : n < m → take (n + 1) (set t n b) ≡ take m (l ++ (b ∷ []))
-  byte-kept h =
-      let k = kept-length in
-      let f : n < length t = omega arith in
-      let g : length l ≤ m = omega arith in
-      let j : length (l ++ (b ∷ [])) ≤ m = simp length-append (omega arith) in
-      rw (add-one, take-suc-set t n b f, e, take-all m l g, take-all m (l ++ (b ∷ [])) j)
-
-  pub byte-passed : m ≤ n → take n t ≡ take m (l ++ (b ∷ []))
-  byte-passed h =
-      let k = kept-length in
-      let g : m ≤ length l = omega arith in
-      e ∙ sym (take-append-le m l (b ∷ []) g)
+  pub byte-kept : take (min m (n + 1)) (cond (ltb n m) (set t n b) t) ≡ take m (l ++ (b ∷ []))
+  byte-kept = go (decLt n m)
+    where
+      go : Dec (n < m) → take (min m (n + 1)) (cond (ltb n m) (set t n b) t) ≡ take m (l ++ (b ∷ []))
+      go (yes h) =
+          let k = kept-length in
+          let more : min m (n + 1) ≡ suc n = omega arith in
+          let f : n < length t = omega arith in
+          let g : length l ≤ m = omega arith in
+          let j : length (l ++ (b ∷ [])) ≤ m = simp length-append (omega arith) in
+          rw (more, lt-ltb n m h, take-suc-set t n b f, e, take-all m l g, take-all m (l ++ (b ∷ [])) j)
+      go (no h) =
+          let k = kept-length in
+          let same-count : min m (n + 1) ≡ n = omega arith in
+          let g : m ≤ length l = omega arith in
+          let full : m ≤ n = omega arith in
+          rw (same-count, le-ltb n m full) (e ∙ sym (take-append-le m l (b ∷ []) g))

@@ -7,8 +7,9 @@ use native.Mathlib.Omega.{arith}
 use lib.ListN.{length}
 use lib.Seq.{slice}
 use Rattle.stream.specs.Session.{takeBytes}
-use Rattle.stream.specs.Carried.{Loan, InOrder, lineRoom, Makes, Onward}
-use Rattle.stream.proofs.Laws.CarriedLaws.{none-made, next-made}
+use Rattle.stream.specs.Carried.{Loan, lent, Serves, InOrder, lineRoom, Onward}
+use Rattle.stream.proofs.Laws.CarriedLaws.{none-served, next-served}
+use Rattle.stream.proofs.Laws.MeantLaws.{bytes-made}
 
 -- The bytes from start to a place are taken. If they are none, then nothing is printed.
 pub record Serving (chunk : List ℕ) (start : ℕ) (first : Loan) (out₀ : List ℕ) (from : ℕ) (loan : Loan) (out : List ℕ)
@@ -16,7 +17,8 @@ pub record Serving (chunk : List ℕ) (start : ℕ) (first : Loan) (out₀ : Lis
   pub forward : start ≤ from
   pub within : from ≤ length chunk
   pub further : (start < from) ⊎ (at ≡ 0)
-  pub makes : Makes (takeBytes (slice start from chunk)) first loan out₀ 0 out at
+  pub serves : Serves (takeBytes lent (slice start from chunk)) first loan out₀ 0 out at
+  pub in-order : InOrder loan
   pub in-out : at ≤ length out
   pub same-space : length (loan .space) ≡ length (first .space)
   pub same-out : length out ≡ length out₀
@@ -28,7 +30,8 @@ module _ (chunk : List ℕ) (start : ℕ) {first : Loan} {out₀ : List ℕ} whe
         forward = omega arith;
         within = h;
         further = inr refl;
-        makes = none-made chunk start in-order;
+        serves = none-served chunk start first out₀;
+        in-order = in-order;
         in-out = omega arith;
         same-space = refl;
         same-out = refl;
@@ -37,15 +40,16 @@ module _ (chunk : List ℕ) (start : ℕ) {first : Loan} {out₀ : List ℕ} whe
   module _ {from : ℕ} {loan : Loan} {out : List ℕ} {at : ℕ} (S : Serving chunk start first out₀ from loan out at) where
     pub serving-goes-on : from < length chunk → at + lineRoom ≤ length out
         → (to : ℕ) → Onward chunk from to → {next : Loan} {out′ : List ℕ} {at′ : ℕ}
-        → Makes (takeBytes (slice from to chunk)) loan next out at out′ at′ → at′ ≤ at + lineRoom
+        → Serves (takeBytes lent (slice from to chunk)) loan next out at out′ at′ → at′ ≤ at + lineRoom
         → length (next .space) ≡ length (loan .space) → length out′ ≡ length out
         → Serving chunk start first out₀ to next out′ at′
-    serving-goes-on more room to onward makes few same-space same-out =
+    serving-goes-on more room to onward served few same-space same-out =
         record {
           forward = omega (arith, S .forward, onward .forward);
           within = onward .within;
           further = inl (omega (arith, S .forward, onward .further more));
-          makes = next-made chunk start from to (S .forward) onward (S .makes) makes;
+          serves = next-served chunk start first from to (S .forward) onward (S .serves) served;
+          in-order = bytes-made (slice from to chunk) (S .in-order) served .in-order;
           in-out = omega arith;
           same-space = same-space ∙ S .same-space;
           same-out = same-out ∙ S .same-out;

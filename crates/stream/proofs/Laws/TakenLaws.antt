@@ -8,8 +8,10 @@ use borrow.Author.Tests.{eqb-true, lt-ltb, le-ltb}
 use lib.Dec.{eqb, ltb}
 use lib.ListN.{length, take, drop, length-drop, take-append-drop}
 use lib.Seq.{slice, slice-empty, take-nil, take-take, length-take-le, drop-append-le}
-use Rattle.reader.specs.Scanned.{lineFeed, scanBytes, firstLine}
-use Rattle.stream.specs.Session.{State, Step, endLine, silent, goOn, takeByte, after, takeBytes}
+use Rattle.reader.specs.Scanned.{lineFeed, firstLine}
+use Rattle.reader.specs.Kept.{keepBytes}
+use Rattle.stream.specs.Session.{Step, silent, after, Service, takeByte, takeBytes}
+use Rattle.stream.specs.Carried.{Loan, lineOf, loanWith, endLineIn, goOnIn, lent}
 use Rattle.stream.proofs.Laws.Chunks.{takeBytes-append}
 
 abbrev any : List ℕ → Bool
@@ -21,31 +23,31 @@ pub any-between : (from : ℕ) (bytes : List ℕ) → ltb from (from + length by
 any-between from [] = le-ltb from (from + 0) (omega arith)
 any-between from (b ∷ bs) = lt-ltb from (from + suc (length bs)) (omega arith)
 
--- The line so far, scanned on.
-abbrev pub scannedOn : List ℕ → State → State
-scannedOn bytes s =
-    record { words = s .words; line = scanBytes (s .line) bytes; begun = s .begun || any bytes }
+-- The line so far, kept on.
+abbrev pub keptOn : List ℕ → Loan → Loan
+keptOn bytes l =
+    loanWith (l .space) (l .carried .len) (keepBytes (lineOf l) bytes) (l .carried .begun || any bytes)
 
--- The same state but for whether its line has a byte.
-begun-as : (s : State) {x y : Bool} → x ≡ y
-    → _≡_ {A = Step} (silent (record { words = s .words; line = s .line; begun = x }))
-    (silent (record { words = s .words; line = s .line; begun = y }))
-begun-as s e = ap (λ (x : Bool). silent (record { words = s .words; line = s .line; begun = x })) e
+-- The same loan but for whether its line has a byte.
+begun-as : (l : Loan) {x y : Bool} → x ≡ y
+    → _≡_ {A = Step Loan} (silent (loanWith (l .space) (l .carried .len) (lineOf l) x))
+    (silent (loanWith (l .space) (l .carried .len) (lineOf l) y))
+begun-as l e = ap (λ (x : Bool). silent (loanWith (l .space) (l .carried .len) (lineOf l) x)) e
 
 -- A line without its line feed prints nothing.
-pub line-taken : (bytes : List ℕ) (s : State)
-    → takeBytes (firstLine bytes) s ≡ silent (scannedOn (firstLine bytes) s)
-unfolding takeBytes takeByte firstLine scanBytes
-line-taken [] s = begun-as s (sym (or-false (s .begun)))
-line-taken (b ∷ bs) s = go (eqb b lineFeed) refl (line-taken bs)
+line-taken : (bytes : List ℕ) (l : Loan)
+    → takeBytes lent (firstLine bytes) l ≡ silent (keptOn (firstLine bytes) l)
+unfolding takeBytes takeByte firstLine keepBytes
+line-taken [] l = begun-as l (sym (or-false (l .carried .begun)))
+line-taken (b ∷ bs) l = go (eqb b lineFeed) refl (line-taken bs)
   where
     go : (fed : Bool) → eqb b lineFeed ≡ fed
-        → ((t : State) → takeBytes (firstLine bs) t ≡ silent (scannedOn (firstLine bs) t))
-        → takeBytes (firstLine (b ∷ bs)) s ≡ silent (scannedOn (firstLine (b ∷ bs)) s)
-    go true e left = rw e (begun-as s (sym (or-false (s .begun))))
+        → ((m : Loan) → takeBytes lent (firstLine bs) m ≡ silent (keptOn (firstLine bs) m))
+        → takeBytes lent (firstLine (b ∷ bs)) l ≡ silent (keptOn (firstLine (b ∷ bs)) l)
+    go true e left = rw e (begun-as l (sym (or-false (l .carried .begun))))
     go false e left =
-        let begun = begun-as (scannedOn (b ∷ firstLine bs) s) (sym (or-true (s .begun))) in
-        rw (e, takeByte) (rw e (left (goOn b s .state) ∙ begun))
+        let begun = begun-as (keptOn (b ∷ firstLine bs) l) (sym (or-true (l .carried .begun))) in
+        rw (e, takeByte) (rw e (left (goOnIn b l) ∙ begun))
 
 -- ---- The bytes that stand there.
 line-bytes : (bytes : List ℕ) → take (length (firstLine bytes)) bytes ≡ firstLine bytes
@@ -91,18 +93,18 @@ slice-append a b c l ab bc h =
     ∙ ap (drop a) (take-append-drop b m)
 
 -- ---- Parts of a chunk taken.
-module _ (chunk : List ℕ) (from to : ℕ) (s : State) where
+module _ (chunk : List ℕ) (from to : ℕ) (l : Loan) where
   abbrev line : List ℕ
   line = firstLine (drop from chunk)
 
   -- Up to a place where no line ends.
-  pub part-taken : to ≡ from + length line → takeBytes (slice from to chunk) s ≡ silent (scannedOn line s)
+  pub part-taken : to ≡ from + length line → takeBytes lent (slice from to chunk) l ≡ silent (keptOn line l)
   part-taken e =
-      rw (e, slice-drop from (length line) chunk, line-bytes (drop from chunk)) (line-taken (drop from chunk) s)
+      rw (e, slice-drop from (length line) chunk, line-bytes (drop from chunk)) (line-taken (drop from chunk) l)
 
   -- Up to and with a line feed.
   pub whole-taken : to ≡ from + length line → to < length chunk
-      → takeBytes (slice from (to + 1) chunk) s ≡ endLine (scannedOn line s)
+      → takeBytes lent (slice from (to + 1) chunk) l ≡ endLineIn (keptOn line l)
   unfolding takeBytes takeByte
   whole-taken e h =
       let n : to + 1 ≡ from + suc (length line) = omega arith in
@@ -111,21 +113,22 @@ module _ (chunk : List ℕ) (from to : ℕ) (s : State) where
         n,
         slice-drop from (suc (length line)) chunk,
         fed-bytes (drop from chunk) fed,
-        takeBytes-append line (lineFeed ∷ []) s,
-        line-taken (drop from chunk) s,
+        takeBytes-append lent line (lineFeed ∷ []) l,
+        line-taken (drop from chunk) l,
       )
-      (ap (λ (text : List ℕ). record { state = endLine (scannedOn line s) .state; text = text })
-      (append-nil (endLine (scannedOn line s) .text)))
+      (ap (λ (text : List ℕ). record { state = endLineIn (keptOn line l) .state; text = text })
+      (append-nil (endLineIn (keptOn line l) .text)))
 
--- One part and then the next.
-pub parts-taken : (chunk : List ℕ) (a b c : ℕ) (s : State) → a ≤ b → b ≤ c → c ≤ length chunk
-    → takeBytes (slice a c chunk) s
-    ≡ after (takeBytes (slice a b chunk) s .text)
-    (takeBytes (slice b c chunk) (takeBytes (slice a b chunk) s .state))
-parts-taken chunk a b c s ab bc h =
-    ap (λ (bytes : List ℕ). takeBytes bytes s) (sym (slice-append a b c chunk ab bc h))
-    ∙ takeBytes-append (slice a b chunk) (slice b c chunk) s
+module _ {S : Type 0} (v : Service S) (chunk : List ℕ) where
+  -- One part and then the next.
+  pub parts-taken : (a b c : ℕ) (s : S) → a ≤ b → b ≤ c → c ≤ length chunk
+      → takeBytes v (slice a c chunk) s
+      ≡ after (takeBytes v (slice a b chunk) s .text)
+      (takeBytes v (slice b c chunk) (takeBytes v (slice a b chunk) s .state))
+  parts-taken a b c s ab bc h =
+      ap (λ (bytes : List ℕ). takeBytes v bytes s) (sym (slice-append a b c chunk ab bc h))
+      ∙ takeBytes-append v (slice a b chunk) (slice b c chunk) s
 
-pub none-taken : (chunk : List ℕ) (a : ℕ) (s : State) → takeBytes (slice a a chunk) s ≡ silent s
-unfolding takeBytes
-none-taken chunk a s = rw (slice-empty a chunk)
+  pub none-taken : (a : ℕ) (s : S) → takeBytes v (slice a a chunk) s ≡ silent s
+  unfolding takeBytes
+  none-taken a s = rw (slice-empty a chunk)

@@ -1,13 +1,15 @@
 -- `stream::end_line` meets its contract: the line is read, answered and printed, and the next one is begun afresh.
 use native.Mathlib.Omega.{arith}
-use Rattle.stream.specs.Carried.{loanOf, InOrder}
+use Rattle.stream.specs.Carried.{loanOf}
 use Rattle.stream.proofs.Laws.CarriedLaws.{line-ends}
 use borrow.Author.Needs.{needs}
 use Rattle.stream.proofs.end_line.Statement.{statement}
 use Rattle.stream.proofs.end_line.Tie as tie
 
 scanned-command-requires : tie.Need-scanned-command-requires
-scanned-command-requires c κs = search needs
+scanned-command-requires c κs =
+    let in-order = c .before .before .before .before .before .pre .0 in
+    omega (arith, in-order .scan-kept .text-places, in-order .scan-kept .counts .short)
 
 answer-requires : tie.Need-answer-requires
 answer-requires c κs = search needs
@@ -32,10 +34,8 @@ returns c =
     let start = read .before .before .before .before .before .before in
     let a = start .args in
     let l = loanOf (a .space .now) (a .text .now) (a .numbers .now) (a .carried) in
-    let in-order : InOrder l = start .pre .0 in
     let done = answered .answer in (
-      line-ends l in-order (read .scanned-command .ensures) (done .ensures .0) (done .kept .1 .0)
-          (c .start .ensures .0 (a .text .now) (in-order .scan-kept .text-places)) (c .start .ensures .1 (a .text .now))
+      line-ends l (read .scanned-command .ensures) (done .ensures .0) (c .start .ensures .0) (c .start .ensures .1)
           (printed .print .ensures .0),
       omega (arith, printed .print .ensures .1, printed .before .before .print-arg2 .given .0),
     )

@@ -1,6 +1,7 @@
 -- `stream::finish` meets its contract: a line that has a byte is answered, and else nothing is printed.
 use native.Mathlib.Omega.{arith}
 use Rattle.stream.proofs.Laws.CarriedLaws.{last-line, no-last-line}
+use Rattle.stream.proofs.Laws.MeantLaws.{end-made}
 use borrow.Author.Needs.{needs}
 use Rattle.stream.proofs.finish.Statement.{statement}
 use Rattle.stream.proofs.finish.Tie as tie
@@ -19,12 +20,17 @@ returns c =
     let ended = c .before .before .before .before in
     let then = ended .before .before .before .before .before in
     let done = ended .end-line in
-    (last-line (then .if1 .taken) (done .ensures .0), omega (arith, done .ensures .1, done .kept .1 .1 .1 .1 .1 .0))
+    let start = then .before .before .before in
+    let served = last-line _ (then .if1 .taken) (done .ensures .0) in (
+      served,
+      (end-made (start .pre .0) served, omega (arith, done .ensures .1, done .kept .1 .1 .1 .1 .1 .0)),
+    )
 
 returns-2 : tie.Need-returns-2
 returns-2 c =
     let start = c .before .before .before in
-    (no-last-line (c .if1 .left) (start .pre .0), omega arith)
+    let served = no-last-line _ (c .if1 .left) in
+    (served, (end-made (start .pre .0) served, omega arith))
 
 pub finish-spec : {M : Type 1} → statement M
 finish-spec =

@@ -3,7 +3,7 @@ use Prim.Native.Nat.{_<_}
 use lib.ListN.{length}
 use native.Mathlib.Omega.{arith}
 use Rattle.stream.specs.Carried.{loanOf}
-use Rattle.stream.proofs.Laws.CarriedLaws.{line-onward, part-onward, part-made, line-made}
+use Rattle.stream.proofs.Laws.CarriedLaws.{line-onward, part-onward, scanned-in-order, part-served, line-served}
 use borrow.Author.Needs.{needs}
 use Rattle.stream.proofs.serve.Statement.{statement}
 use Rattle.stream.proofs.serve.Tie as tie
@@ -15,7 +15,15 @@ has-byte-requires : tie.Need-has-byte-requires
 has-byte-requires c κs = search needs
 
 end-line-requires : tie.Need-end-line-requires
-end-line-requires c κs = search needs
+end-line-requires c κs =
+    let then = c .before .before .before .before .before in
+    let scanning = then .before .before .before in
+    let start = scanning .before .before .before .before .before .before .before in
+    let a = start .args in
+    let l = loanOf (a .space .now) (a .text .now) (a .numbers .now) (a .carried) in
+    let in-order =
+    scanned-in-order l (scanning .scan-line .ensures) (then .before .before .has-byte .ensures) (start .pre .1 .0) in
+    (in-order, start .pre .1 .1)
 
 add-from : tie.Need-add-from
 add-from c =
@@ -39,10 +47,11 @@ returns c =
     let start = scanning .before .before .before .before .before .before .before in
     let a = start .args in
     let l = loanOf (a .space .now) (a .text .now) (a .numbers .now) (a .carried) in
-    let made =
-    line-made l (start .pre .1 .0) (scanning .scan-line .ensures) (then .before .before .has-byte .ensures)
-    (then .if1 .taken) (ended .end-line .ensures .0) in
-    (line-onward (scanning .scan-line .ensures) (then .if1 .taken), (made, ended .end-line .ensures .1))
+    let served =
+    line-served l (scanning .scan-line .ensures) (then .before .before .has-byte .ensures) (then .if1 .taken)
+    (ended .end-line .ensures .0) in
+    let onward = line-onward (start .pre .0) (scanning .scan-line .ensures) (then .if1 .taken) in
+    (onward, (served, ended .end-line .ensures .1))
 
 returns-2 : tie.Need-returns-2
 returns-2 c =
@@ -50,10 +59,9 @@ returns-2 c =
     let start = scanning .before .before .before .before .before .before .before in
     let a = start .args in
     let l = loanOf (a .space .now) (a .text .now) (a .numbers .now) (a .carried) in
-    let made =
-    part-made l (start .pre .1 .0) (scanning .scan-line .ensures) (c .before .before .has-byte .ensures) (a .out .now)
-    (a .at) in
-    (part-onward (scanning .scan-line .ensures) (c .if1 .left), (made, omega arith))
+    let served =
+    part-served l (scanning .scan-line .ensures) (c .before .before .has-byte .ensures) (a .out .now) (a .at) in
+    (part-onward (start .pre .0) (scanning .scan-line .ensures) (c .if1 .left), (served, omega arith))
 
 pub serve-spec : {M : Type 1} → statement M
 serve-spec =

@@ -3,7 +3,14 @@ use Prim.Native.Nat.{_-_}
 use native.Mathlib.Omega.{arith}
 use lib.ListN.{length}
 use Rattle.stream.specs.Carried.{loanOf}
-use Rattle.stream.proofs.Laws.ServingLaws.{Serving, serving-starts, serving-goes-on, stops-for-room, stops-at-end}
+use Rattle.stream.proofs.Laws.MeantLaws.{bytes-made}
+use Rattle.stream.proofs.Laws.ServingLaws.{
+  Serving,
+  serving-starts,
+  serving-goes-on,
+  stops-for-room,
+  stops-at-end,
+}
 use Rattle.stream.proofs.serve_lines.Statement.{statement}
 use Rattle.stream.proofs.serve_lines.Tie as tie
 
@@ -34,13 +41,14 @@ returns : tie.Need-returns Inv-loop μ-loop
 returns c =
     let S = c .before .before .loop .inv in
     let start = c .before .before .before .before .before .before in
-    (stops-for-room _ _ S (start .pre .1 .1) (c .if1 .taken), (S .makes, S .in-out))
+    let made = bytes-made _ (start .pre .1 .0) (S .serves) in
+    (stops-for-room _ _ S (start .pre .1 .1) (c .if1 .taken), (S .serves, (made, S .in-out)))
 
 serve-requires : tie.Need-serve-requires Inv-loop μ-loop
 serve-requires c κs =
     let loop = c .before .before .before .before .before .before .before in
     let S = loop .loop .inv in
-    (S .within, (S .makes .in-order, omega (arith, c .before .before .before .before .before .if1 .left)))
+    (S .within, (S .in-order, omega (arith, c .before .before .before .before .before .if1 .left)))
 
 loop-less : tie.Need-loop-less Inv-loop μ-loop
 loop-less c =
@@ -68,7 +76,8 @@ same-length-4 c = c .before .loop .inv .same-out
 returns-2 : tie.Need-returns-2 Inv-loop μ-loop
 returns-2 c =
     let S = c .before .loop .inv in
-    (stops-at-end _ _ S (omega (arith, c .loop-test .left)), (S .makes, S .in-out))
+    let made = bytes-made _ (c .before .before .before .before .before .pre .1 .0) (S .serves) in
+    (stops-at-end _ _ S (omega (arith, c .loop-test .left)), (S .serves, (made, S .in-out)))
 
 pub serve-lines-spec : {M : Type 1} → statement M
 serve-lines-spec =

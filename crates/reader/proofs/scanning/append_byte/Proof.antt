@@ -1,6 +1,5 @@
 -- One byte more.
 use borrow.Author.Needs.{needs}
-use Rattle.reader.proofs.Laws.ScanLaws.{append-counts, append-represents}
 use Rattle.reader.proofs.scanning.append_byte.Statement.{statement}
 use Rattle.reader.proofs.scanning.append_byte.Tie as tie
 
@@ -8,14 +7,7 @@ put-requires : tie.Need-put-requires
 put-requires c κs = search needs
 
 returns : tie.Need-returns
-returns c =
-    let s = c .before .before in
-    let p = c .put in (
-      p .ensures .0,
-      append-counts (s .pre .1) (p .result) (p .ensures .1),
-      λ numbers σ r.
-          append-represents r (p .last .0) (p .result) (s .args .b) (p .ensures .2 (σ .text) (r .text-kept)),
-    )
+returns c = λ numbers. rw (c .put .ensures .0, c .put .ensures .1)
 
 pub append-byte-spec : {M : Type 1} → statement M
 append-byte-spec = tie.close (tie.spec put-requires returns)

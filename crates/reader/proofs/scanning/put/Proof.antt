@@ -1,9 +1,10 @@
--- While the array has a place left, it holds all of the text.
-use mathlib.Core.Path.{_∙_}
+-- A byte is put where there is a place left.
+use mathlib.Core.Path.{refl}
+use Prim.Native.Nat.{_<_, _≤_}
 use native.Mathlib.Omega.{arith}
 use borrow.Author.Needs.{needs}
-use lib.ListN.{length-set}
-use Rattle.reader.proofs.Laws.SameTexts.{byte-kept, byte-passed}
+use borrow.Author.Tests.{lt-ltb, le-ltb}
+use Rattle.reader.specs.Kept.{textPlaces}
 use Rattle.reader.proofs.scanning.put.Statement.{statement}
 use Rattle.reader.proofs.scanning.put.Tie as tie
 
@@ -15,18 +16,13 @@ add-result c = search needs
 
 returns : tie.Need-returns
 returns c =
-    let a = c .before .args in
-    let p = c .before .pre in (
-      length-set (a .text .now) (a .n) (a .b) ∙ p .0,
-      omega arith,
-      λ l e. byte-kept 39 (a .text .now) l (a .n) (a .b) (p .0) (p .1) e (omega arith),
-    )
+    let room : c .before .args .n < textPlaces = omega arith in
+    rw (lt-ltb _ _ room) (refl, omega arith)
 
 returns-2 : tie.Need-returns-2
 returns-2 c =
-    let a = c .before .args in
-    let p = c .before .pre in
-    (p .0, p .1, λ l e. byte-passed 39 (a .text .now) l (a .n) (a .b) (p .0) (p .1) e (omega arith))
+    let full : textPlaces ≤ c .before .args .n = omega arith in
+    rw (le-ltb _ _ full) (refl, omega arith)
 
 pub put-spec : {M : Type 1} → statement M
 put-spec = tie.close (tie.spec element-write-text add-result returns returns-2)

@@ -5,8 +5,9 @@ use Prim.Native.Nat.{_≤_}
 use native.Mathlib.Omega.{arith}
 use borrow.Author.Needs.{needs}
 use borrow.Author.Tests.{not-true, not-false}
-use Rattle.reader.specs.Scanned.{isDigit, scanBytes}
-use Rattle.reader.proofs.Laws.ScanLaws.{digit-range, other-byte, further-digit, first-digit}
+use Rattle.reader.specs.Scanned.{isDigit}
+use Rattle.reader.specs.Kept.{keepByte}
+use Rattle.reader.proofs.Laws.ScanLaws.{digit-range}
 use Rattle.reader.proofs.scanning.scan_byte.Statement.{statement}
 use Rattle.reader.proofs.scanning.scan_byte.Tie as tie
 
@@ -24,16 +25,11 @@ append-byte-requires : tie.Need-append-byte-requires
 append-byte-requires c κs = search needs
 
 returns : tie.Need-returns
-unfolding scanBytes
+unfolding keepByte
 returns c =
-    let s = c .before .before .before .before in
     let d = c .before .before .before .is-digit in
     let h = sym (d .ensures) ∙ not-true (d .result) (c .before .before .if1 .taken) in
-    let p = c .append-byte .ensures in
-    record {
-      kept = record { text-places = p .0; number-places = s .pre .number-places; counts = p .1 };
-      scans = λ σ r. rw (other-byte σ (s .args .b) h) (p .2 _ σ r);
-    }
+    rw h (c .append-byte .ensures _)
 
 sub-d : tie.Need-sub-d
 sub-d c = in-range c .0
@@ -43,40 +39,20 @@ cast-d c = search needs
 
 extend-number-requires : tie.Need-extend-number-requires
 extend-number-requires c κs =
-    let s = c .before .before .before .before in
     let h = in-range (c .before .before) in
-    record {
-      number-places = s .pre .number-places;
-      counts = s .pre .counts;
-      is-open = c .before .if2 .taken;
-      is-digit = omega arith;
-    }
+    record { counts = c .before .before .before .before .pre; is-open = c .before .if2 .taken; is-digit = omega arith }
 
 returns-2 : tie.Need-returns-2
-unfolding scanBytes
-returns-2 c =
-    let s = c .before .before .before .before .before in
-    let h = a-digit (c .before .before .before) in
-    let n = c .before .before .if2 .taken in
-    let p = c .extend-number .ensures in
-    record {
-      kept = record { text-places = s .pre .text-places; number-places = p .0; counts = p .1 };
-      scans = λ σ r. rw (further-digit σ (s .args .b) h (sym (r .in-number) ∙ n)) (p .2 _ σ r);
-    }
+unfolding keepByte
+returns-2 c = rw (a-digit (c .before .before .before), c .before .before .if2 .taken) (c .extend-number .ensures _)
 
 open-number-requires : tie.Need-open-number-requires
-open-number-requires c κs =
-    let h = in-range (c .before .before .before) in
-    (c .before .before .before .before .before .pre, omega arith)
+open-number-requires c κs = search needs
 
 returns-3 : tie.Need-returns-3
-unfolding scanBytes
+unfolding keepByte
 returns-3 c =
-    let s = c .before .before .before .before .before .before in
-    let h = a-digit (c .before .before .before .before) in
-    let n = c .before .before .before .if2 .left in
-    let p = c .open-number .ensures in
-    record { kept = p .0; scans = λ σ r. rw (first-digit σ (s .args .b) h (sym (r .in-number) ∙ n)) (p .1 σ r) }
+    rw (a-digit (c .before .before .before .before), c .before .before .before .if2 .left) (c .open-number .ensures)
 
 pub scan-byte-spec : {M : Type 1} → statement M
 scan-byte-spec =

@@ -2,6 +2,7 @@
 use Prim.Native.Nat.{_-_}
 use native.Mathlib.Omega.{arith}
 use lib.ListN.{length}
+use Rattle.reader.specs.Kept.{keptOf}
 use Rattle.reader.proofs.Laws.LineLaws.{
   line-fed,
   chunk-ends,
@@ -15,13 +16,13 @@ use Rattle.reader.proofs.scanning.scan_line.Tie as tie
 
 abbrev Inv-loop : tie.InvT-loop
 Inv-loop chunk from text₀ numbers₀ scan₀ i₀ text numbers scan i =
-    Scanning chunk from text₀ numbers₀ scan₀ text numbers scan i
+    Scanning chunk from (keptOf text₀ numbers₀ scan₀) (keptOf text numbers scan) i
 
 abbrev μ-loop : tie.MeasureT-loop
 μ-loop chunk from text₀ numbers₀ scan₀ i₀ text numbers scan i = length chunk - i
 
 loop-holds : tie.Need-loop-holds Inv-loop μ-loop
-loop-holds c = scanning-starts _ _ (c .before .pre .0) (c .before .pre .1)
+loop-holds c = scanning-starts _ _ _ (c .before .pre .0) (c .before .pre .1)
 
 shared-slice-read-b : tie.Need-shared-slice-read-b Inv-loop μ-loop
 shared-slice-read-b c = omega arith
@@ -33,7 +34,7 @@ returns c =
     scanning-ends (l .inv) (line-fed (a .chunk .now) (l .i) (omega arith) (c .if1 .taken))
 
 scan-byte-requires : tie.Need-scan-byte-requires Inv-loop μ-loop
-scan-byte-requires c κs = c .before .before .before .before .before .loop .inv .kept
+scan-byte-requires c κs = c .before .before .before .before .before .loop .inv .counts
 
 add-i : tie.Need-add-i Inv-loop μ-loop
 add-i c = omega arith
