@@ -6,6 +6,8 @@ pub mod Basics
 pub mod Words
 -- Refusals 3 and 4, which every call keeps.
 pub mod Shape
+-- Request 2026-01: the panel's list beside a run.
+pub mod Panel
 -- The slot rule: what is reachable, what is taken.
 pub mod SlotRule
 -- Request 2026-06: which registers hold.

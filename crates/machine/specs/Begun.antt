@@ -22,6 +22,7 @@ use Rattle.machine.specs.Demand3.{
   begin-call,
   tick-call,
   run-call,
+  panel-call,
   read-call,
   Given,
   given,
@@ -105,6 +106,7 @@ recordCall η (begin-call k op side argument) r =
     recordBegin η k (record { operation = operationOf op; side = sideOf side; argument = number argument }) r
 recordCall η (tick-call k h) a = elim (refusalOf a) as (λ _. History) [ some n ↦ η | nothing ↦ recordMade η k a ]
 recordCall η (run-call list answers) r = recordRun η (r .0 .made) list (r .1)
+recordCall η (panel-call list answers) r = recordRun η (r .0 .made) list (r .1)
 recordCall η (read-call out) r = η
 
 -- A list of calls, each on the table as the one before left it.

@@ -1,4 +1,4 @@
--- The five calls: for every table and all numbers, the answer and every lent word afterwards.
+-- The calls: for every table and all numbers, the answer and every lent word afterwards.
 use mathlib.Core.Bool.{Bool, true, false, _&&_}
 use mathlib.Core.List.{List, [], _∷_, _++_}
 use mathlib.Core.Option.{Option, some, none as nothing, Option·map}
@@ -84,11 +84,20 @@ tickRefusal ws k h =
     (unless (ltb h (nodeCount ws)) 9
     (unless (isBusy (task ws k .operation)) 10 nothing))
 
+-- The tests that a run and the panel's list begin with, and the one that both end with.
+abbrev pub listRefusal : (ws list : List ℕ) → Option ℕ → Option ℕ
+listRefusal ws list others =
+    tableRefusal ws (unless (eqb (length list % 2) 0 && leb (length list) 8192) 13 others)
+
+abbrev pub roomRefusal : (list answers : List ℕ) → Option ℕ
+roomRefusal list answers = unless (leb (length list) (length answers)) 14 nothing
+
 abbrev pub runRefusal : List ℕ → (list answers : List ℕ) → Option ℕ
-runRefusal ws list answers =
-    tableRefusal ws
-    (unless (eqb (length list % 2) 0 && leb (length list) 8192) 13
-    (unless (leb (length list) (length answers)) 14 nothing))
+runRefusal ws list answers = listRefusal ws list (roomRefusal list answers)
+
+-- 2026-01: 15, panel list over 64 words, tested where 13 is tested and straight after it.
+abbrev pub panelRefusal : List ℕ → (list answers : List ℕ) → Option ℕ
+panelRefusal ws list answers = listRefusal ws list (unless (leb (length list) 64) 15 (roomRefusal list answers))
 
 -- ---- start and begin.
 pub record Changed : Type 0 where
@@ -177,7 +186,7 @@ tick ws k h =
       | nothing ↦ tickOn ws k h
     ]
 
--- ---- run.
+-- ---- run and panel.
 pub record RunDone : Type 0 where
   pub ran : Ran
   pub words : List ℕ
@@ -206,12 +215,17 @@ runOn (k ∷ h ∷ list) ws answers =
       | nothing ↦ afterTick (one .answer) (runOn list (one .words) (drop 2 answers))
     ]
 
+-- What follows the tests: the refusal that they gave, or the ticks of the list.
+abbrev pub tested : Option ℕ → (ws list answers : List ℕ) → RunDone
+tested (some n) ws list answers = stopped n ws answers
+tested nothing ws list answers = runOn list ws answers
+
 unfoldable pub run : List ℕ → (list answers : List ℕ) → RunDone
-run ws list answers =
-    elim (runRefusal ws list answers) as (λ _. RunDone) [
-      | some n ↦ stopped n ws answers
-      | nothing ↦ runOn list ws answers
-    ]
+run ws list answers = tested (runRefusal ws list answers) ws list answers
+
+-- 2026-01: the panel's own entry, for a list of at most 32 ticks.
+unfoldable pub panel : List ℕ → (list answers : List ℕ) → RunDone
+panel ws list answers = tested (panelRefusal ws list answers) ws list answers
 
 -- ---- Reading the lane.
 

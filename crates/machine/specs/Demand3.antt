@@ -18,16 +18,18 @@ use Rattle.machine.specs.Values.{number}
 use Rattle.machine.specs.Operations.{operationOf}
 use Rattle.machine.specs.Shape.{sameWords}
 use Rattle.machine.specs.Answers.{refusalOf}
-use Rattle.machine.specs.Calls.{start, begin, tick, tickOn, run, lane, read}
+use Rattle.machine.specs.Calls.{start, begin, tick, tickOn, RunDone, run, panel, lane, read}
 use Rattle.machine.specs.Row.{Row, emptyRow, Note, noted, feedMade, feedRun}
 
--- 01: the list holds start, begin, tick, run and reading the lane, with any arguments. A run's list and answer slice
--- and a read's out slice are that call's own: here by their contents when the call is made.
+-- 01: the list holds start, begin, tick, run and reading the lane, with any arguments, and every call on the same table
+-- that a request adds: 2026-01's panel. A run's list and answer slice and a read's out slice are that call's own: here by
+-- their contents when the call is made.
 pub data Call : Type 0 where
   start-call : (S T growth : ℕ) → Call
   begin-call : (k operation side : ℕ) (argument : Stored) → Call
   tick-call : (k hint : ℕ) → Call
   run-call : (list answers : List ℕ) → Call
+  panel-call : (list answers : List ℕ) → Call
   read-call : (out : List ℕ) → Call
 
 -- What a call gives back: its answer, with the words that it wrote into a slice of its own.
@@ -36,6 +38,7 @@ Given (start-call S T g) = Reply
 Given (begin-call k op side argument) = Reply
 Given (tick-call k h) = Answer
 Given (run-call list answers) = Ran × List ℕ
+Given (panel-call list answers) = Ran × List ℕ
 Given (read-call out) = Reading × List ℕ
 
 abbrev pub given : (c : Call) → List ℕ → Given c
@@ -43,6 +46,7 @@ given (start-call S T g) ws = start ws S T g .reply
 given (begin-call k op side argument) ws = begin ws k op side argument .reply
 given (tick-call k h) ws = tick ws k h .answer
 given (run-call list answers) ws = (run ws list answers .ran, run ws list answers .answers)
+given (panel-call list answers) ws = (panel ws list answers .ran, panel ws list answers .answers)
 given (read-call out) ws = (read ws out .reading, read ws out .out)
 
 -- The table as a call leaves it.
@@ -51,6 +55,7 @@ after (start-call S T g) ws = start ws S T g .words
 after (begin-call k op side argument) ws = begin ws k op side argument .words
 after (tick-call k h) ws = tick ws k h .words
 after (run-call list answers) ws = run ws list answers .words
+after (panel-call list answers) ws = panel ws list answers .words
 after (read-call out) ws = ws
 
 -- ---- The row, fed a call and what it gave back: the row afterwards, or nothing where the row does not give that.
@@ -81,6 +86,7 @@ feed ρ (begin-call k op side argument) r =
     feedBegin ρ k (record { operation = operationOf op; side = sideOf side; argument = number argument }) r
 feed ρ (tick-call k h) a = feedTick ρ k a
 feed ρ (run-call list answers) r = feedRun ρ (r .0 .made) list (r .1)
+feed ρ (panel-call list answers) r = feedRun ρ (r .0 .made) list (r .1)
 feed ρ (read-call out) r = feedRead ρ out (r .0) (r .1)
 
 -- ---- The claim.
@@ -96,12 +102,17 @@ afterTicks (suc i) [] ws = ws
 afterTicks (suc i) (k ∷ []) ws = ws
 afterTicks (suc i) (k ∷ h ∷ list) ws = afterTicks i list (tickOn ws k h .words)
 
--- After every tick made inside a run, the lane is the row fed the run's words so far.
-abbrev pub Within : (c : Call) → List ℕ → Row → Type 0
-Within (run-call list answers) ws ρ =
+-- After every tick made of a list, the lane is the row fed the words so far that were written for it.
+abbrev pub WithinList : (list ws : List ℕ) → Row → RunDone → Type 0
+WithinList list ws ρ r =
     (i : ℕ)
-    → i ≤ run ws list answers .ran .made
-    → (ρᵢ : Row) × (feedRun ρ i list (run ws list answers .answers) ≡ some ρᵢ) × LaneIs (afterTicks i list ws) ρᵢ
+    → i ≤ r .ran .made
+    → (ρᵢ : Row) × (feedRun ρ i list (r .answers) ≡ some ρᵢ) × LaneIs (afterTicks i list ws) ρᵢ
+
+-- The same, inside a call.
+abbrev pub Within : (c : Call) → List ℕ → Row → Type 0
+Within (run-call list answers) ws ρ = WithinList list ws ρ (run ws list answers)
+Within (panel-call list answers) ws ρ = WithinList list ws ρ (panel ws list answers)
 Within (start-call S T g) ws ρ = Unit {0}
 Within (begin-call k op side argument) ws ρ = Unit {0}
 Within (tick-call k h) ws ρ = Unit {0}

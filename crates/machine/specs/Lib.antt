@@ -14,6 +14,7 @@ pub mod LinesUse
 pub mod Answers
 pub mod Calls
 pub mod Results
+pub mod Panel
 pub mod FirstFree
 pub mod Row
 pub mod Demand3

@@ -1,4 +1,4 @@
-// What the definitions and the code share by value: the words of a value, the answers of the five calls, and the numbers of
+// What the definitions and the code share by value: the words of a value, the answers of the calls, and the numbers of
 // a tick's.
 ghost use mathlib.Core.Path.{_≡_};
 ghost use Rattle.machine.specs.Answers.{kindOf, payloadOf};

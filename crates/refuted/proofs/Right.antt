@@ -12,6 +12,7 @@ use Rattle.machine.specs.Calls.{
   tableRefusal,
   tickRefusal,
   runRefusal,
+  panelRefusal,
   Ticked,
   effectOf,
   tickOn,
@@ -20,7 +21,9 @@ use Rattle.machine.specs.Calls.{
   afterTick,
   stopped,
   runOn,
+  tested,
   run,
+  panel,
 }
 use Rattle.machine.specs.Demand3.{
   Call,
@@ -28,6 +31,7 @@ use Rattle.machine.specs.Demand3.{
   begin-call,
   tick-call,
   run-call,
+  panel-call,
   read-call,
   given,
   after,
@@ -36,7 +40,9 @@ use Rattle.refuted.specs.Machines.{
   tickOnBy,
   tickBy,
   runOnBy,
+  testedBy,
   runBy,
+  panelBy,
   rightMachine,
   givenBy,
   afterBy,
@@ -73,12 +79,18 @@ same-run-on (k ∷ h ∷ list) ws answers =
     ∙ ap (λ others. runs-on (tickOn ws k h) ws answers (λ t. others))
     (same-run-on list (tickOn ws k h .words) (drop 2 answers))
 
-pub same-run : (ws list answers : List ℕ) → runBy rightMachine ws list answers ≡ run ws list answers
-unfolding runBy run
-same-run ws list answers =
-    ap
-    (λ r. elim (runRefusal ws list answers) as (λ _. RunDone) [ some n ↦ stopped n ws answers | nothing ↦ r ])
-    (same-run-on list ws answers)
+module _ (ws list answers : List ℕ) where
+  same-tested : (r : Option ℕ) → testedBy rightMachine r ws list answers ≡ tested r ws list answers
+  same-tested (some n) = refl
+  same-tested nothing = same-run-on list ws answers
+
+  pub same-run : runBy rightMachine ws list answers ≡ run ws list answers
+  unfolding runBy run
+  same-run = same-tested (runRefusal ws list answers)
+
+  pub same-panel : panelBy rightMachine ws list answers ≡ panel ws list answers
+  unfolding panelBy panel
+  same-panel = same-tested (panelRefusal ws list answers)
 
 -- Every call gives back the same and leaves the same table.
 pub right-gives : (c : Call) (ws : List ℕ) → givenBy rightMachine c ws ≡ given c ws
@@ -86,6 +98,7 @@ right-gives (start-call S T g) ws = refl
 right-gives (begin-call k op side argument) ws = refl
 right-gives (tick-call k h) ws = ap (λ one. one .answer) (same-tick ws k h)
 right-gives (run-call list answers) ws = ap (λ r. (r .ran, r .answers)) (same-run ws list answers)
+right-gives (panel-call list answers) ws = ap (λ r. (r .ran, r .answers)) (same-panel ws list answers)
 right-gives (read-call out) ws = refl
 
 pub right-leaves : (c : Call) (ws : List ℕ) → afterBy rightMachine c ws ≡ after c ws
@@ -93,4 +106,5 @@ right-leaves (start-call S T g) ws = refl
 right-leaves (begin-call k op side argument) ws = refl
 right-leaves (tick-call k h) ws = ap (λ one. one .words) (same-tick ws k h)
 right-leaves (run-call list answers) ws = ap (λ r. r .words) (same-run ws list answers)
+right-leaves (panel-call list answers) ws = ap (λ r. r .words) (same-panel ws list answers)
 right-leaves (read-call out) ws = refl

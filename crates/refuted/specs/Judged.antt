@@ -6,12 +6,13 @@ use Prim.Native.Nat.{ℕ, zero, suc}
 use lib.Dec.{eqb}
 use lib.ListN.{getD}
 use Rattle.machine.specs.declared.Answer.{Answer}
+use Rattle.machine.specs.declared.Ran.{Ran}
 use Rattle.machine.specs.declared.Reading.{Reading}
 use Rattle.machine.specs.declared.Reading.the-variants.{Count, Refused as Reading-Refused}
 use Rattle.machine.specs.Shape.{allBelow, sameWords}
 use Rattle.machine.specs.Answers.{replyNumber, kindOf, payloadOf}
 use Rattle.machine.specs.Allocate.{Marking}
-use Rattle.machine.specs.Calls.{lane}
+use Rattle.machine.specs.Calls.{RunDone, lane}
 use Rattle.machine.specs.Row.{Row, isGoing, feedRun}
 use Rattle.machine.specs.Demand3.{
   Call,
@@ -19,13 +20,14 @@ use Rattle.machine.specs.Demand3.{
   begin-call,
   tick-call,
   run-call,
+  panel-call,
   read-call,
   Given,
   given,
   after,
   feed,
 }
-use Rattle.refuted.specs.Machines.{Machine, runBy, givenBy, afterBy, afterTicksBy}
+use Rattle.refuted.specs.Machines.{Machine, runBy, panelBy, givenBy, afterBy, afterTicksBy}
 
 -- A call is named by its number in the list, from 1.
 pub data Verdict : Type 0 where
@@ -41,10 +43,13 @@ sameBags nothing r = false
 sameBags (some bags) nothing = false
 sameBags (some bags) (some ρ) = sameWords bags (ρ .bags)
 
-abbrev pub sameWithin : Machine → (c : Call) → List ℕ → Row → Bool
-sameWithin M (run-call list answers) ws ρ =
-    let r = runBy M ws list answers in
+abbrev pub sameWithinList : Machine → (list ws : List ℕ) → Row → RunDone → Bool
+sameWithinList M list ws ρ r =
     allBelow (suc (r .ran .made)) (λ i. sameBags (lane (afterTicksBy M i list ws)) (feedRun ρ i list (r .answers)))
+
+abbrev pub sameWithin : Machine → (c : Call) → List ℕ → Row → Bool
+sameWithin M (run-call list answers) ws ρ = sameWithinList M list ws ρ (runBy M ws list answers)
+sameWithin M (panel-call list answers) ws ρ = sameWithinList M list ws ρ (panelBy M ws list answers)
 sameWithin M (start-call S T g) ws ρ = true
 sameWithin M (begin-call k op side argument) ws ρ = true
 sameWithin M (tick-call k h) ws ρ = true
@@ -66,6 +71,9 @@ byRow M (c ∷ cs) n ws ρ =
 abbrev pub sameAnswer : Answer → Answer → Bool
 sameAnswer a b = eqb (kindOf a) (kindOf b) && eqb (payloadOf a) (payloadOf b)
 
+abbrev pub sameRan : Ran → Ran → Bool
+sameRan r q = eqb (r .made) (q .made) && eqb (r .refusal) (q .refusal)
+
 abbrev pub sameReading : Reading → Reading → Bool
 sameReading (Count n) (Count m) = eqb n m
 sameReading (Count n) (Reading-Refused m) = false
@@ -76,8 +84,8 @@ abbrev pub sameGiven : (c : Call) → Given c → Given c → Bool
 sameGiven (start-call S T g) r q = eqb (replyNumber r) (replyNumber q)
 sameGiven (begin-call k op side argument) r q = eqb (replyNumber r) (replyNumber q)
 sameGiven (tick-call k h) r q = sameAnswer r q
-sameGiven (run-call list answers) r q =
-    eqb (r .0 .made) (q .0 .made) && eqb (r .0 .refusal) (q .0 .refusal) && sameWords (r .1) (q .1)
+sameGiven (run-call list answers) r q = sameRan (r .0) (q .0) && sameWords (r .1) (q .1)
+sameGiven (panel-call list answers) r q = sameRan (r .0) (q .0) && sameWords (r .1) (q .1)
 sameGiven (read-call out) r q = sameReading (r .0) (q .0) && sameWords (r .1) (q .1)
 
 unfoldable pub byDefinitions : Machine → List Call → (number : ℕ) → List ℕ → Verdict

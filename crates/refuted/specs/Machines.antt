@@ -1,6 +1,7 @@
--- What a machine is: what its ticks do and what its runs report. The calls over any machine, and the right one.
+-- What a machine is: what its ticks do, what its runs report, which lists its panel takes. The calls over any machine, and
+-- the right one.
 use mathlib.Core.List.{List, [], _∷_}
-use mathlib.Core.Option.{some, none as nothing}
+use mathlib.Core.Option.{Option, some, none as nothing}
 use Prim.Native.Nat.{ℕ, zero, suc}
 use lib.ListN.{drop}
 use Rattle.machine.specs.declared.Answer.the-variants.{Refused}
@@ -15,6 +16,7 @@ use Rattle.machine.specs.Calls.{
   tableRefusal,
   tickRefusal,
   runRefusal,
+  panelRefusal,
   Ticked,
   applied,
   RunDone,
@@ -24,11 +26,27 @@ use Rattle.machine.specs.Calls.{
   begin,
   read,
 }
-use Rattle.machine.specs.Demand3.{Call, start-call, begin-call, tick-call, run-call, read-call, Given}
+use Rattle.machine.specs.Demand3.{
+  Call,
+  start-call,
+  begin-call,
+  tick-call,
+  run-call,
+  panel-call,
+  read-call,
+  Given,
+}
 
 pub record Machine : Type 0 where
   pub tickOn : List ℕ → (k hint : ℕ) → Ticked
   pub reports : RunDone → RunDone
+  pub panelRefuses : (ws list answers : List ℕ) → Option ℕ
+  pub panelTakes : (list : List ℕ) → List ℕ
+
+-- A machine that is wrong in its ticks alone.
+abbrev pub byTicks : (List ℕ → (k hint : ℕ) → Ticked) → Machine
+byTicks tickOn =
+    record { tickOn = tickOn; reports = λ r. r; panelRefuses = panelRefusal; panelTakes = λ list. list }
 
 -- ---- A machine by what a line does and which node a take gives.
 abbrev pub Line : Type 0
@@ -48,7 +66,7 @@ tickOnBy line take ws k h =
     ]
 
 abbrev pub byLines : Line → Take → Machine
-byLines line take = record { tickOn = tickOnBy line take; reports = λ r. r }
+byLines line take = byTicks (tickOnBy line take)
 
 -- The machine of the definitions: proofs/Right.antt shows that its calls are those of machine/specs/Calls.
 abbrev pub rightMachine : Machine
@@ -72,12 +90,15 @@ runOnBy M (k ∷ h ∷ list) ws answers =
       | nothing ↦ afterTick (one .answer) (runOnBy M list (one .words) (drop 2 answers))
     ]
 
+abbrev pub testedBy : Machine → Option ℕ → (ws list answers : List ℕ) → RunDone
+testedBy M (some n) ws list answers = stopped n ws answers
+testedBy M nothing ws list answers = M .reports (runOnBy M list ws answers)
+
 unfoldable pub runBy : Machine → List ℕ → (list answers : List ℕ) → RunDone
-runBy M ws list answers =
-    elim (runRefusal ws list answers) as (λ _. RunDone) [
-      | some n ↦ stopped n ws answers
-      | nothing ↦ M .reports (runOnBy M list ws answers)
-    ]
+runBy M ws list answers = testedBy M (runRefusal ws list answers) ws list answers
+
+unfoldable pub panelBy : Machine → List ℕ → (list answers : List ℕ) → RunDone
+panelBy M ws list answers = testedBy M (M .panelRefuses ws list answers) ws (M .panelTakes list) answers
 
 -- What a call gives back, and the table as it leaves it.
 abbrev pub givenBy : Machine → (c : Call) → List ℕ → Given c
@@ -85,6 +106,7 @@ givenBy M (start-call S T g) ws = start ws S T g .reply
 givenBy M (begin-call k op side argument) ws = begin ws k op side argument .reply
 givenBy M (tick-call k h) ws = tickBy M ws k h .answer
 givenBy M (run-call list answers) ws = (runBy M ws list answers .ran, runBy M ws list answers .answers)
+givenBy M (panel-call list answers) ws = (panelBy M ws list answers .ran, panelBy M ws list answers .answers)
 givenBy M (read-call out) ws = (read ws out .reading, read ws out .out)
 
 abbrev pub afterBy : Machine → Call → List ℕ → List ℕ
@@ -92,6 +114,7 @@ afterBy M (start-call S T g) ws = start ws S T g .words
 afterBy M (begin-call k op side argument) ws = begin ws k op side argument .words
 afterBy M (tick-call k h) ws = tickBy M ws k h .words
 afterBy M (run-call list answers) ws = runBy M ws list answers .words
+afterBy M (panel-call list answers) ws = panelBy M ws list answers .words
 afterBy M (read-call out) ws = ws
 
 -- The table after the first i ticks of a list of pairs.

@@ -69,7 +69,7 @@ use Rattle.machine.specs.Lines.{
 use Rattle.machine.specs.Answers.{endsCall}
 use Rattle.machine.specs.Calls.{tickRefusal, begunTask, Ticked, tickOn, RunDone}
 use Rattle.machine.specs.Row.{isGoing}
-use Rattle.refuted.specs.Machines.{Machine, Line, Take, tickOnBy, byLines, rightMachine}
+use Rattle.refuted.specs.Machines.{Machine, Line, Take, tickOnBy, byTicks, byLines, rightMachine}
 
 -- Lines that are others at one step.
 abbrev pub but : Line → Step → Line → Line
@@ -137,7 +137,7 @@ wholeOn op ws k h =
     ]
 
 abbrev pub wholeInFirstTick : Operation → Machine
-wholeInFirstTick op = record { tickOn = wholeOn op; reports = λ r. r }
+wholeInFirstTick op = byTicks (wholeOn op)
 
 -- ---- "One whose tasks say "going" forever": what would answer begins the call again.
 abbrev pub again : Task → Effect
@@ -156,11 +156,11 @@ touchesNothing ws k h =
     ]
 
 abbrev pub ticksTouchNothing : Machine
-ticksTouchNothing = record { tickOn = touchesNothing; reports = λ r. r }
+ticksTouchNothing = byTicks touchesNothing
 
 -- ---- "One that refuses all."
 abbrev pub refusesAll : Machine
-refusesAll = record { tickOn = λ ws k h. record { answer = Refused 5; words = ws }; reports = λ r. r }
+refusesAll = byTicks (λ ws k h. record { answer = Refused 5; words = ws })
 
 -- ---- "One saying "full" at 28 before searching."
 abbrev pub fullUnsearched : Machine
@@ -349,4 +349,10 @@ oneMore r =
     else r
 
 abbrev pub reportsUnmadeTick : Machine
-reportsUnmadeTick = record { tickOn = rightMachine .tickOn; reports = oneMore }
+reportsUnmadeTick =
+    record {
+      tickOn = rightMachine .tickOn;
+      reports = oneMore;
+      panelRefuses = rightMachine .panelRefuses;
+      panelTakes = rightMachine .panelTakes;
+    }

@@ -15,6 +15,7 @@ use Rattle.machine.specs.declared.Reading.the-variants.{Count}
 use Rattle.machine.specs.Tasks.{none, Register, register}
 use Rattle.machine.specs.Registers.{holds}
 use Rattle.machine.specs.Table.{nodeCount, taskCount, task}
+use Rattle.machine.specs.Shape.{lengthOk, shapeOk}
 use Rattle.machine.specs.Reach.{Reachable, from-register}
 use Rattle.machine.specs.Allocate.{allocate}
 use Rattle.machine.specs.Answers.{refusalOf}
@@ -23,7 +24,10 @@ use Rattle.machine.specs.Calls.{
   isBusy,
   tableRefusal,
   tickRefusal,
+  listRefusal,
+  roomRefusal,
   runRefusal,
+  panelRefusal,
   start,
   Ticked,
   tickOn,
@@ -32,7 +36,9 @@ use Rattle.machine.specs.Calls.{
   stopped,
   afterTick,
   runOn,
+  tested,
   run,
+  panel,
   lane,
   unread,
   readInto,
@@ -79,9 +85,17 @@ begun-agrees (by-call B c) =
 
 -- ---- Refusals that are never met.
 
--- Begin, tick, run and reading the lane are refused by their own tests alone.
+-- Every call but start is refused by its own tests alone.
 pub no-call-refused-with-3-or-4 : {ws : List ℕ} → Begun ws → (others : Option ℕ) → tableRefusal ws others ≡ others
 no-call-refused-with-3-or-4 {ws} B = table-passes ws (begun-agrees B .1 .accepted)
+
+-- A test with another number than 11.
+other-number : (passed : Bool) {n : ℕ} {others : Option ℕ} → n ≢ 11 → others ≢ some 11 → unless passed n others ≢ some 11
+other-number true other later = later
+other-number false {n} other later = λ e. let same : n ≡ 11 = cc in other same
+
+not-refused : _≢_ {A = Option ℕ} nothing (some 11)
+not-refused e = refute (cc)
 
 module _ {ws : List ℕ} {ρ : Row} (A : Agrees ws ρ) (k h : ℕ) where
   pub tick-passes : tick ws k h ≡ tickOn ws k h
@@ -98,16 +112,14 @@ module _ {ws : List ℕ} {ρ : Row} (A : Agrees ws ρ) (k h : ℕ) where
   unfolding tickOn
   tick-not-11 = go (tickRefusal ws k h) refl
     where
-      other-number : (a b c : Bool) → unless a 5 (unless b 9 (unless c 10 nothing)) ≢ some 11
-      other-number false b c e = refute (cc)
-      other-number true false c e = refute (cc)
-      other-number true true false e = refute (cc)
-      other-number true true true e = refute (cc)
+      tests : tickRefusal ws k h ≢ some 11
+      tests =
+          other-number (ltb k (taskCount ws)) (λ e. omega arith)
+          (other-number (ltb h (nodeCount ws)) (λ e. omega arith)
+          (other-number (isBusy (task ws k .operation)) (λ e. omega arith) not-refused))
 
       go : (r : Option ℕ) → tickRefusal ws k h ≡ r → refusalOf (tickOn ws k h .answer) ≢ some 11
-      go (some n) e =
-          let test = other-number (ltb k (taskCount ws)) (ltb h (nodeCount ws)) (isBusy (task ws k .operation)) in
-          rw (e, tickOn) (λ q. test (e ∙ q))
+      go (some n) e = rw (e, tickOn) (λ q. tests (e ∙ q))
       go nothing e = λ q. refute (cc (made-tick A k h e .no-number))
 
 pub no-tick-refused-with-11 : {ws : List ℕ} → Begun ws → (k h : ℕ) → tick ws k h .answer ≢ Refused 11
@@ -115,7 +127,7 @@ no-tick-refused-with-11 B k h e =
     let A = begun-agrees B .1 in
     tick-not-11 A k h (ap (λ (r : Ticked). refusalOf (r .answer)) (sym (tick-passes A k h)) ∙ ap refusalOf e)
 
--- A run is refused by its own tests, or by the tick at which it stops.
+-- A list is refused by its own tests, or by the tick at which it stops.
 ticks-not-11 : (list : List ℕ) {ws : List ℕ} {ρ : Row} (answers : List ℕ) → Agrees ws ρ
     → runOn list ws answers .ran .refusal ≢ 11
 unfolding runOn
@@ -140,26 +152,30 @@ ticks-not-11 (k ∷ h ∷ list) {ws} answers A =
     go (some n) f later = λ e. f (ap some e)
     go nothing f later = later
 
-pub no-run-refused-with-11 : {ws : List ℕ} → Begun ws → (list answers : List ℕ)
-    → run ws list answers .ran .refusal ≢ 11
-unfolding run
-no-run-refused-with-11 {ws} B list answers =
-    let a = eqb (length list % 2) 0 && leb (length list) 8192 in
-    let b = leb (length list) (length answers) in
-    go (runRefusal ws list answers) (λ q. other-number a b (sym (no-call-refused-with-3-or-4 B _) ∙ q))
-  where
-    other-number : (a b : Bool) → unless a 13 (unless b 14 nothing) ≢ some 11
-    other-number false b e = refute (cc)
-    other-number true false e = refute (cc)
-    other-number true true e = refute (cc)
+module _ {ws : List ℕ} (B : Begun ws) (list answers : List ℕ) where
+  tested-not-11 : (r : Option ℕ) → r ≢ some 11 → tested r ws list answers .ran .refusal ≢ 11
+  tested-not-11 (some n) f = λ e. f (ap some e)
+  tested-not-11 nothing f = ticks-not-11 list answers (begun-agrees B .1)
 
-    go :
-        (r : Option ℕ)
-        → r ≢ some 11
-        → elim r as (λ _. RunDone) [ some n ↦ stopped n ws answers | nothing ↦ runOn list ws answers ] .ran .refusal
-        ≢ 11
-    go (some n) f = λ e. f (ap some e)
-    go nothing f = ticks-not-11 list answers (begun-agrees B .1)
+  -- The tests before and after 15.
+  list-not-11 : (others : Option ℕ) → others ≢ some 11 → listRefusal ws list others ≢ some 11
+  list-not-11 others later =
+      other-number (lengthOk ws) (λ e. omega arith)
+      (other-number (shapeOk ws) (λ e. omega arith)
+      (other-number (eqb (length list % 2) 0 && leb (length list) 8192) (λ e. omega arith) later))
+
+  room-not-11 : roomRefusal list answers ≢ some 11
+  room-not-11 = other-number (leb (length list) (length answers)) (λ e. omega arith) not-refused
+
+  pub no-run-refused-with-11 : run ws list answers .ran .refusal ≢ 11
+  unfolding run
+  no-run-refused-with-11 = tested-not-11 (runRefusal ws list answers) (list-not-11 _ room-not-11)
+
+  pub no-panel-refused-with-11 : panel ws list answers .ran .refusal ≢ 11
+  unfolding panel
+  no-panel-refused-with-11 =
+      tested-not-11 (panelRefusal ws list answers)
+      (list-not-11 _ (other-number (leb (length list) 64) (λ e. omega arith) room-not-11))
 
 -- A tick that is not refused has passed its tests.
 pub made-passes : {ws : List ℕ} → Begun ws → (k h : ℕ) → refusalOf (tick ws k h .answer) ≡ nothing
@@ -233,18 +249,21 @@ ticks-of-run (k ∷ h ∷ list) ws answers =
     go (some n) e = refl
     go nothing e = e
 
--- The tables inside a run end where the run ends.
-pub run-is-its-ticks : (ws list answers : List ℕ)
-    → afterTicks (run ws list answers .ran .made) list ws ≡ run ws list answers .words
-unfolding run afterTicks
-run-is-its-ticks ws list answers = go (runRefusal ws list answers)
-  where
-    whole : Option ℕ → RunDone
-    whole r = elim r as (λ _. RunDone) [ some n ↦ stopped n ws answers | nothing ↦ runOn list ws answers ]
+module _ (ws list answers : List ℕ) where
+  tested-is-its-ticks : (r : Option ℕ)
+      → afterTicks (tested r ws list answers .ran .made) list ws ≡ tested r ws list answers .words
+  unfolding afterTicks
+  tested-is-its-ticks (some n) = refl
+  tested-is-its-ticks nothing = ticks-of-run list ws answers
 
-    go : (r : Option ℕ) → afterTicks (whole r .ran .made) list ws ≡ whole r .words
-    go (some n) = refl
-    go nothing = ticks-of-run list ws answers
+  -- The tables inside a run, and inside the panel's list, end where it ends.
+  pub run-is-its-ticks : afterTicks (run ws list answers .ran .made) list ws ≡ run ws list answers .words
+  unfolding run
+  run-is-its-ticks = tested-is-its-ticks (runRefusal ws list answers)
+
+  pub panel-is-its-ticks : afterTicks (panel ws list answers .ran .made) list ws ≡ panel ws list answers .words
+  unfolding panel
+  panel-is-its-ticks = tested-is-its-ticks (panelRefusal ws list answers)
 
 -- ---- Reading the lane.
 

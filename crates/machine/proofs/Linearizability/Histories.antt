@@ -48,6 +48,7 @@ use Rattle.machine.specs.Demand3.{
   begin-call,
   tick-call,
   run-call,
+  panel-call,
   read-call,
   Given,
   feedTick,
@@ -259,6 +260,7 @@ call-recorded (tick-call k h) a {ρ} {ρ′} {η} R e = go (refusalOf a) e
     go (some n) q = same-row q R
     go nothing q = made-recorded R k a q
 call-recorded (run-call list answers) r R e = run-recorded (r .0 .made) list (r .1) R e
+call-recorded (panel-call list answers) r R e = run-recorded (r .0 .made) list (r .1) R e
 call-recorded (read-call out) r {ρ} {ρ′} {η} R e = go (r .0) e
   where
     kept : (b : Bool) → cond b (some ρ) nothing ≡ some ρ′ → Recorded ρ′ η

@@ -12,6 +12,7 @@ use Rattle.machine.specs.Demand3.{
   begin-call,
   tick-call,
   run-call,
+  panel-call,
   read-call,
   Within,
   Explained,
@@ -28,7 +29,7 @@ use Rattle.machine.proofs.Linearizability.Calls.CallsAgree.{
   tick-explained,
   read-explained,
 }
-use Rattle.machine.proofs.Linearizability.Calls.Runs.{run-explained, run-within}
+use Rattle.machine.proofs.Linearizability.Calls.Runs.{run-explained, run-within, panel-explained, panel-within}
 
 -- One call, and the ticks inside it.
 pub call-explained : {ws : List ℕ} {ρ : Row} → Agrees ws ρ → (c : Call) → Explains ws ρ c
@@ -36,6 +37,7 @@ call-explained A (start-call S T g) = start-explained A S T g
 call-explained A (begin-call k op side argument) = begin-explained A k op side argument
 call-explained A (tick-call k h) = tick-explained A k h
 call-explained A (run-call list answers) = run-explained A list answers
+call-explained A (panel-call list answers) = panel-explained A list answers
 call-explained A (read-call out) = read-explained A out
 
 call-within : {ws : List ℕ} {ρ : Row} → Agrees ws ρ → (c : Call) → Within c ws ρ
@@ -43,6 +45,7 @@ call-within A (start-call S T g) = tt
 call-within A (begin-call k op side argument) = tt
 call-within A (tick-call k h) = tt
 call-within A (run-call list answers) = run-within A list answers
+call-within A (panel-call list answers) = panel-within A list answers
 call-within A (read-call out) = tt
 
 -- Where table and row agree, the row explains whatever is called.

@@ -14,8 +14,8 @@ use Rattle.machine.specs.Registers.{holds}
 use Rattle.machine.specs.Table.{nodeCount, taskCount, hat, link, value, task, setTask}
 use Rattle.machine.specs.Calls.{
   startRefusal,
+  tableRefusal,
   beginRefusal,
-  runRefusal,
   Changed,
   changed,
   startWords,
@@ -24,10 +24,9 @@ use Rattle.machine.specs.Calls.{
   begin,
   tick,
   tickOn,
-  RunDone,
-  stopped,
-  runOn,
+  tested,
   run,
+  panel,
   laneFrom,
   lane,
   read,
@@ -40,6 +39,7 @@ use Rattle.machine.specs.Demand3.{
   begin-call,
   tick-call,
   run-call,
+  panel-call,
   read-call,
   given,
   after,
@@ -156,22 +156,26 @@ module _ {ws vs : List ℕ} (A : AlikeColumns ws vs) where
       go nothing e a b =
           (refl, begun-alike k t (begin-allowed ws k op side argument e .is-task) never-has-word a b)
 
-  -- ---- run.
-  run-alike : (list answers : List ℕ) → RunsAlike (run ws list answers) (run vs list answers)
-  unfolding run
-  run-alike list answers =
-      subst (λ (r : Option ℕ). RunsAlike (run ws list answers) (whole vs r)) (sym same)
-      (go (runRefusal ws list answers))
-    where
-      whole : List ℕ → Option ℕ → RunDone
-      whole xs r = elim r as (λ _. RunDone) [ some n ↦ stopped n xs answers | nothing ↦ runOn list xs answers ]
+  -- ---- run and panel.
 
-      same : runRefusal vs list answers ≡ runRefusal ws list answers
-      same = table-passes vs (A .accepted′) _ ∙ sym (table-passes ws (A .accepted) _)
+  -- Both test the table first, and what they test after it is the list and the answer slice alone.
+  module _ (list answers : List ℕ) where
+    tested-alike : (r : Option ℕ) → RunsAlike (tested r ws list answers) (tested r vs list answers)
+    tested-alike (some n) = record { same-ran = refl; same-answers = refl; words-alike = A }
+    tested-alike nothing = schedule-alike list A answers
 
-      go : (r : Option ℕ) → RunsAlike (whole ws r) (whole vs r)
-      go (some n) = record { same-ran = refl; same-answers = refl; words-alike = A }
-      go nothing = schedule-alike list A answers
+    list-alike : (others : Option ℕ)
+        → RunsAlike (tested (tableRefusal ws others) ws list answers) (tested (tableRefusal vs others) vs list answers)
+    list-alike others =
+        rw (table-passes ws (A .accepted) others, table-passes vs (A .accepted′) others) (tested-alike others)
+
+    run-alike : RunsAlike (run ws list answers) (run vs list answers)
+    unfolding run
+    run-alike = list-alike _
+
+    panel-alike : RunsAlike (panel ws list answers) (panel vs list answers)
+    unfolding panel
+    panel-alike = list-alike _
 
   -- ---- Reading the lane.
   same-value : (x : ℕ) → value vs x ≡ value ws x
@@ -232,6 +236,9 @@ module _ {ws vs : List ℕ} (A : AlikeColumns ws vs) where
   call-alike (tick-call k h) = tick-call-alike k h
   call-alike (run-call list answers) =
       let R = run-alike list answers in
+      (λ i. (R .same-ran i, R .same-answers i), R .words-alike)
+  call-alike (panel-call list answers) =
+      let R = panel-alike list answers in
       (λ i. (R .same-ran i, R .same-answers i), R .words-alike)
   call-alike (read-call out) = (λ i. (read-same out i .reading, read-same out i .out), A)
 

@@ -36,6 +36,7 @@ use Rattle.machine.specs.Calls.{
   tableRefusal,
   beginRefusal,
   runRefusal,
+  panelRefusal,
   changed,
   startWords,
   start,
@@ -48,7 +49,9 @@ use Rattle.machine.specs.Calls.{
   stopped,
   afterTick,
   runOn,
+  tested,
   run,
+  panel,
 }
 use Rattle.machine.specs.Demand3.{
   Call,
@@ -56,6 +59,7 @@ use Rattle.machine.specs.Demand3.{
   begin-call,
   tick-call,
   run-call,
+  panel-call,
   read-call,
   after,
 }
@@ -312,20 +316,15 @@ module _ (ws : List ℕ) (A : WellFormed ws) where
       go (some n) = A
       go nothing = kept-accepted (tick-kept ws Z W k h)
 
-  run-call-accepted : (list answers : List ℕ) → WellFormed (run ws list answers .words)
-  unfolding run
-  run-call-accepted list answers = go (runRefusal ws list answers)
-    where
-      go :
-          (r : Option ℕ)
-          → WellFormed
-          (elim r as (λ _. RunDone) [ some n ↦ stopped n ws answers | nothing ↦ runOn list ws answers ] .words)
-      go (some n) = A
-      go nothing = kept-accepted (run-kept list ws answers Z W)
+  tested-accepted : (r : Option ℕ) (list answers : List ℕ) → WellFormed (tested r ws list answers .words)
+  tested-accepted (some n) list answers = A
+  tested-accepted nothing list answers = kept-accepted (run-kept list ws answers Z W)
 
   pub call-accepted : (c : Call) → WellFormed (after c ws)
+  unfolding run panel
   call-accepted (start-call S T g) = start-call-accepted S T g
   call-accepted (begin-call k op side argument) = kept-accepted (begin-kept ws k op side argument Z W)
   call-accepted (tick-call k h) = tick-call-accepted k h
-  call-accepted (run-call list answers) = run-call-accepted list answers
+  call-accepted (run-call list answers) = tested-accepted (runRefusal ws list answers) list answers
+  call-accepted (panel-call list answers) = tested-accepted (panelRefusal ws list answers) list answers
   call-accepted (read-call out) = A

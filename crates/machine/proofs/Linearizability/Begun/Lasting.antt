@@ -29,6 +29,7 @@ use Rattle.machine.specs.Calls.{
   Ticked,
   tickOn,
   run,
+  panel,
 }
 use Rattle.machine.specs.Row.{Row}
 use Rattle.machine.specs.Demand3.{
@@ -37,6 +38,7 @@ use Rattle.machine.specs.Demand3.{
   begin-call,
   tick-call,
   run-call,
+  panel-call,
   read-call,
   after,
   afterTicks,
@@ -60,7 +62,13 @@ use Rattle.machine.proofs.Linearizability.Calls.MadeTicks.{
 }
 use Rattle.machine.proofs.Linearizability.Begun.TableAfter.{viewed-after, tasks-after}
 use Rattle.machine.proofs.Linearizability.Begun.TableBegun.{by-begin}
-use Rattle.machine.proofs.Linearizability.Corollaries.{begun-agrees, tick-passes, tick-agrees, run-is-its-ticks}
+use Rattle.machine.proofs.Linearizability.Corollaries.{
+  begun-agrees,
+  tick-passes,
+  tick-agrees,
+  run-is-its-ticks,
+  panel-is-its-ticks,
+}
 
 -- A fact about the view and the tasks' records lasts.
 pub record Lasts (Fact : View → (ℕ → Task) → Type 0) : Type 0 where
@@ -128,7 +136,7 @@ module _ {Fact : View → (ℕ → Task) → Type 0} (L : Lasts Fact) where
         go (some n) e = rw (e, tickOn) F
         go nothing e = made-keeps k h e
 
-  -- The ticks of a run.
+  -- The ticks of a list.
   ticks-keep : (i : ℕ) (list ws : List ℕ) (ρ : Row) → Agrees ws ρ → Of ws → Of (afterTicks i list ws)
   unfolding afterTicks
   ticks-keep zero list ws ρ A F = F
@@ -145,6 +153,8 @@ module _ {Fact : View → (ℕ → Task) → Type 0} (L : Lasts Fact) where
       subst (λ (r : Ticked). Of (r .words)) (sym (tick-passes A k h)) (tick-keeps A F k h)
   call-keeps {ws} {ρ} A F (run-call list answers) =
       subst Of (run-is-its-ticks ws list answers) (ticks-keep (run ws list answers .ran .made) list ws ρ A F)
+  call-keeps {ws} {ρ} A F (panel-call list answers) =
+      subst Of (panel-is-its-ticks ws list answers) (ticks-keep (panel ws list answers .ran .made) list ws ρ A F)
   call-keeps A F (read-call out) = F
 
   pub begun-has : {ws : List ℕ} → Begun ws → Fact (viewed right ws) (task ws)

@@ -1,8 +1,8 @@
--- A run: the ticks that it makes, one after another, each explained by the row.
+-- A run and the panel's list: the ticks made, one after another, each explained by the row.
 use mathlib.Core.Path.{_≡_, refl, sym, subst}
 use mathlib.Core.List.{List, [], _∷_}
 use mathlib.Core.Option.{Option, some, none as nothing, bind}
-use Prim.Native.Nat.{ℕ, zero, suc, _≤_}
+use Prim.Native.Nat.{ℕ, zero, suc}
 use native.Mathlib.Omega.{arith}
 use native.Mathlib.Decide.{ℕ-discrete}
 use lib.ListN.{drop}
@@ -12,15 +12,18 @@ use Rattle.machine.specs.Answers.{kindOf, payloadOf, refusalOf, plainAns
 use Rattle.machine.specs.Calls.{
   tickRefusal,
   runRefusal,
+  panelRefusal,
   tickOn,
   RunDone,
   stopped,
   afterTick,
   runOn,
+  tested,
   run,
+  panel,
 }
 use Rattle.machine.specs.Row.{Row, feedRun}
-use Rattle.machine.specs.Demand3.{run-call, LaneIs, afterTicks, Within}
+use Rattle.machine.specs.Demand3.{run-call, panel-call, afterTicks, WithinList, Within}
 use Rattle.machine.proofs.Basics.Contradiction.{clash}
 use Rattle.machine.proofs.Words.RunLaws.{by-first, first-tick}
 use Rattle.machine.proofs.Linearizability.Calls.Agreement.{Agrees, lane-is-row}
@@ -39,15 +42,12 @@ answer-back Yes e = refl
 answer-back No e = refl
 answer-back (Refused n) e = clash (cc)
 
--- What a run of a list comes to, tick by tick.
+-- What a list of ticks comes to, one after another.
 record RunExplained (list ws : List ℕ) (ρ : Row) (r : RunDone) : Type 0 where
   pub row : Row
   pub given-by-row : feedRun ρ (r .ran .made) list (r .answers) ≡ some row
   pub agrees : Agrees (r .words) row
-  pub within :
-      (i : ℕ)
-      → i ≤ r .ran .made
-      → (ρᵢ : Row) × (feedRun ρ i list (r .answers) ≡ some ρᵢ) × LaneIs (afterTicks i list ws) ρᵢ
+  pub within : WithinList list ws ρ r
 
 -- No tick is made.
 none-made : {ws : List ℕ} {ρ : Row} (A : Agrees ws ρ) (n : ℕ) (list answers : List ℕ)
@@ -56,7 +56,7 @@ unfolding feedRun afterTicks
 none-made {ws} {ρ} A n list answers =
     record { row = ρ; given-by-row = refl; agrees = A; within = at-once }
   where
-    at-once : (i : ℕ) → i ≤ 0 → (ρᵢ : Row) × (feedRun ρ i list answers ≡ some ρᵢ) × LaneIs (afterTicks i list ws) ρᵢ
+    at-once : WithinList list ws ρ (stopped n ws answers)
     at-once zero h = (ρ, refl, lane-is-row A)
     at-once (suc i) h = absurd (omega arith)
 
@@ -73,12 +73,7 @@ one-made {ws} {ρ} A k h list M r R =
       within = at;
     }
   where
-    at :
-        (i : ℕ)
-        → i ≤ suc (r .ran .made)
-        → (ρᵢ : Row)
-        × (feedRun ρ i (k ∷ h ∷ list) (afterTick (tickOn ws k h .answer) r .answers) ≡ some ρᵢ)
-        × LaneIs (afterTicks i (k ∷ h ∷ list) ws) ρᵢ
+    at : WithinList (k ∷ h ∷ list) ws ρ (afterTick (tickOn ws k h .answer) r)
     at zero l = (ρ, refl, lane-is-row A)
     at (suc i) l =
         let x = R .within i (omega arith) in
@@ -113,19 +108,27 @@ ticks-explained (k ∷ h ∷ list) {ws} {ρ} answers A =
         (one-made A k h list M (runOn list (tickOn ws k h .words) (drop 2 answers)) (others M))
 
 module _ {ws : List ℕ} {ρ : Row} (A : Agrees ws ρ) (list answers : List ℕ) where
-  whole : RunExplained list ws ρ (run ws list answers)
+  -- Whatever the tests were.
+  tested-explained : (r : Option ℕ) → RunExplained list ws ρ (tested r ws list answers)
+  tested-explained (some n) = none-made A n list answers
+  tested-explained nothing = ticks-explained list answers A
+
+  of-run : RunExplained list ws ρ (run ws list answers)
   unfolding run
-  whole = go (runRefusal ws list answers)
-    where
-      go :
-          (r : Option ℕ)
-          → RunExplained list ws ρ
-          (elim r as (λ _. RunDone) [ some n ↦ stopped n ws answers | nothing ↦ runOn list ws answers ])
-      go (some n) = none-made A n list answers
-      go nothing = ticks-explained list answers A
+  of-run = tested-explained (runRefusal ws list answers)
+
+  of-panel : RunExplained list ws ρ (panel ws list answers)
+  unfolding panel
+  of-panel = tested-explained (panelRefusal ws list answers)
 
   pub run-explained : Explains ws ρ (run-call list answers)
-  run-explained = record { row = whole .row; given-by-row = whole .given-by-row; agrees = whole .agrees }
+  run-explained = record { row = of-run .row; given-by-row = of-run .given-by-row; agrees = of-run .agrees }
 
   pub run-within : Within (run-call list answers) ws ρ
-  run-within = whole .within
+  run-within = of-run .within
+
+  pub panel-explained : Explains ws ρ (panel-call list answers)
+  panel-explained = record { row = of-panel .row; given-by-row = of-panel .given-by-row; agrees = of-panel .agrees }
+
+  pub panel-within : Within (panel-call list answers) ws ρ
+  panel-within = of-panel .within
