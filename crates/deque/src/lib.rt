@@ -1,11 +1,13 @@
-// The five calls for C and Rust: tables, lists and out slices as a pointer and a length in words, answers as numbers.
+// The calls for C and Rust: tables, lists and out slices as a pointer and a length in words, answers as numbers.
 use beginning::begin;
 use layout::values::of_number;
+use machine::Ran;
 use machine::Reading;
 use machine::Reply;
 use machine::kind;
 use machine::payload;
 use reading::read;
+use running::panel;
 use running::run;
 use starting::start;
 use ticking::tick;
@@ -29,6 +31,12 @@ fn reply_number(r: Reply) -> u32
         Reply::Accepted => 0,
         Reply::Refused(n) => n,
     }
+}
+
+fn ran_number(ran: Ran) -> u64
+    ensures { λ n. ⌜ n ≡ ranNumber ran ⌝ }
+{
+    pair(ran.made, ran.refusal)
 }
 
 fn reading_number(r: Reading) -> u64
@@ -82,8 +90,18 @@ pub extern "C" fn lane_run(table: &mut [u32], list: &[u32], answers: &mut [u32])
     ensures { λ r. ⌜ now (answers .exit)
         ≡ calls.run (now (table .entry)) (now (list .entry)) (now (answers .entry)) .answers ⌝ }
 {
-    let ran = run(table, list, answers);
-    pair(ran.made, ran.refusal)
+    ran_number(run(table, list, answers))
+}
+
+// The same for the panel's list.
+#[no_mangle]
+pub extern "C" fn lane_panel(table: &mut [u32], list: &[u32], answers: &mut [u32]) -> u64
+    ensures { λ r. ⌜ r ≡ ranNumber (calls.panel (now (table .entry)) (now (list .entry)) (now (answers .entry)) .ran) ⌝ }
+    ensures { λ r. ⌜ now (table .exit) ≡ calls.panel (now (table .entry)) (now (list .entry)) (now (answers .entry)) .words ⌝ }
+    ensures { λ r. ⌜ now (answers .exit)
+        ≡ calls.panel (now (table .entry)) (now (list .entry)) (now (answers .entry)) .answers ⌝ }
+{
+    ran_number(panel(table, list, answers))
 }
 
 // The count of the bags, or 2^32 plus the refusal.

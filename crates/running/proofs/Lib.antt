@@ -1,1 +1,2 @@
 pub mod RunWords
+pub mod RunTests

@@ -1,15 +1,14 @@
--- A run pair by pair: the ticks made so far, and the run of the pairs ahead.
+-- A list pair by pair: the ticks made so far, and the run of the pairs ahead.
 use mathlib.Core.Path.{_≡_, refl, sym, ap, _∙_, subst}
 use mathlib.Core.Logic.{_≢_}
 use mathlib.Core.List.{List, [], _∷_, _++_, append-assoc}
 use mathlib.Core.Option.{Option, some, none as nothing}
-use Prim.Native.Nat.{ℕ, suc, _+_, _%_, _≤_, _<_}
+use Prim.Native.Nat.{ℕ, suc, _+_, _≤_, _<_}
 use native.Mathlib.Nat.{add-zero, zero-add}
 use native.Mathlib.Numerals.{add-one}
 use native.Mathlib.Omega.{arith}
 use lib.ListN.{length, getD, set, take, drop, take-append-drop, drop-of-length-le}
 use lib.Seq.{drop-cons, drop-drop, drop-set-lt}
-use borrow.Author.Tests.{eq-eqb, ne-eqb, le-leb, lt-leb}
 use Rattle.machine.specs.declared.Answer.{Answer}
 use Rattle.machine.specs.declared.Answer.the-variants.{Going, Pushed, Bag, Empty, Full, Yes, No, Refused}
 use Rattle.machine.specs.Sides.{Side}
@@ -17,9 +16,7 @@ use Rattle.machine.specs.Table.{task, setTask}
 use Rattle.machine.specs.Lines.{Effect, writeAll}
 use Rattle.machine.specs.Answers.{kindOf, payloadOf, refusalOf}
 use Rattle.machine.specs.Calls.{
-  tableRefusal,
   tickRefusal,
-  runRefusal,
   effectOf,
   tickCounted,
   Ticked,
@@ -29,7 +26,6 @@ use Rattle.machine.specs.Calls.{
   stopped,
   afterTick,
   runOn,
-  run,
 }
 use Rattle.machine.proofs.Basics.Contradiction.{clash}
 use Rattle.machine.proofs.Shape.ShapeLaws.{well-sized, well-shaped, length-ok, shape-ok}
@@ -37,9 +33,7 @@ use Rattle.machine.proofs.Shape.TickKeeps.{tick-kept}
 use Rattle.machine.proofs.Words.RunLaws.{by-first, first-tick}
 use Rattle.machine.specs.Results.{tickedOf, runDoneOf}
 use Rattle.machine.specs.Shape.{WellFormed}
-use Rattle.shape.specs.Contracts.{numberOf}
 use Rattle.layout.proofs.Laws.Fronts.{front-grows}
-use Rattle.shape.proofs.Laws.PassedTable.{refused}
 
 -- ---- One tick.
 -- A tick leaves a table that passes the tests.
@@ -233,47 +227,3 @@ module _ (at made : ℕ) (list ws answers : List ℕ) (more : at + 1 < length li
       (ap (λ (l : List ℕ). behind made (take at answers) (runOn l ws (drop at answers))) pair-ahead
       ∙ ap (behind made (take at answers))
       (first-made (getD list at 0) (getD list (at + 1) 0) left ws (drop at answers) a vs ticked e))
-
--- ---- The tests of a run, in 01's order.
-module _ (ws list answers : List ℕ) where
-  stopped-by : (n : ℕ) → runRefusal ws list answers ≡ some n → stopped n ws answers ≡ run ws list answers
-  unfolding run
-  stopped-by n e = rw (e, run)
-
-  pub run-3-4 :
-      {n : ℕ} → n ≡ numberOf (tableRefusal ws nothing) → n ≢ 0 → stopped n ws answers ≡ run ws list answers
-  run-3-4 {n} is-number h = stopped-by n (refused ws is-number h _)
-
-  module _ (P : WellFormed ws) where
-    pub run-13-odd : length list % 2 ≢ 0 → stopped 13 ws answers ≡ run ws list answers
-    run-13-odd odd = stopped-by 13 (rw (P .length-passes, P .shape-passes, ne-eqb (length list % 2) 0 odd))
-
-    module _ (even : length list % 2 ≡ 0) where
-      pub run-13-long : 8192 < length list → stopped 13 ws answers ≡ run ws list answers
-      run-13-long long =
-          stopped-by 13
-          (rw (P .length-passes, P .shape-passes, eq-eqb (length list % 2) 0 even, lt-leb (length list) 8192 long))
-
-      module _ (fits : length list ≤ 8192) where
-        pub run-14 : length answers < length list → stopped 14 ws answers ≡ run ws list answers
-        run-14 short =
-            stopped-by 14
-            (rw (
-              P .length-passes,
-              P .shape-passes,
-              eq-eqb (length list % 2) 0 even,
-              le-leb (length list) 8192 fits,
-              lt-leb (length list) (length answers) short,
-            ))
-
-        pub run-passes : length list ≤ length answers → runOn list ws answers ≡ run ws list answers
-        unfolding run
-        run-passes room =
-            rw (
-              P .length-passes,
-              P .shape-passes,
-              eq-eqb (length list % 2) 0 even,
-              le-leb (length list) 8192 fits,
-              le-leb (length list) (length answers) room,
-              run,
-            )

@@ -9,8 +9,8 @@ use Rattle.deque.proofs.lane_run.Tie as tie
 run-requires : tie.Need-run-requires
 run-requires c κs = search needs
 
-pair-requires : tie.Need-pair-requires
-pair-requires c κs = search needs
+ran-number-requires : tie.Need-ran-number-requires
+ran-number-requires c κs = search needs
 
 same-length : tie.Need-same-length
 same-length c = search needs
@@ -21,9 +21,9 @@ same-length-2 c = search needs
 returns : tie.Need-returns
 returns c =
     let e = c .before .before .before .before .before .run .ensures in (
-      c .pair .ensures ∙ ap (λ (d : RunDone). ranNumber (d .ran)) e,
+      c .ran-number .ensures ∙ ap (λ (d : RunDone). ranNumber (d .ran)) e,
       (ap (λ (d : RunDone). d .words) e, ap (λ (d : RunDone). d .answers) e),
     )
 
 pub lane-run-spec : {M : Type 1} → statement M
-lane-run-spec = tie.close (tie.spec run-requires pair-requires same-length same-length-2 returns)
+lane-run-spec = tie.close (tie.spec run-requires ran-number-requires same-length same-length-2 returns)

@@ -28,7 +28,7 @@ pair-here :
 pair-here c =
     let s = c .before .before .before .before .before in
     let l = c .before .loop in
-    omega (arith, s .pre .paired, l .inv .0)
+    omega (arith, s .pre .taken .paired, l .inv .0)
 
 -- The answer slice has room for its two words.
 room-here :
@@ -42,7 +42,7 @@ loop-holds : tie.Need-loop-holds Inv-loop μ-loop
 loop-holds c =
     let s = c .before .before .before in
     let a = s .args in
-    (omega arith, refl, refl, s .pre .table, run-begins (a .list .now) (a .table .now) (a .answers .now))
+    (omega arith, refl, refl, s .pre .taken .table, run-begins (a .list .now) (a .table .now) (a .answers .now))
 
 mul-tick-on : tie.Need-mul-tick-on Inv-loop μ-loop
 mul-tick-on c = search needs
