@@ -1,4 +1,4 @@
-//! The five calls made on both programs at once: answers, every lent word and the words around them are compared.
+//! The calls made on both programs at once: answers, every lent word and the words around them are compared.
 
 use std::collections::VecDeque;
 use std::fmt;
@@ -26,8 +26,21 @@ enum Call {
     Tick(u32, u32),
     /// Words of the list, words of the answer slice.
     Run(usize, usize),
+    /// The same, from the panel.
+    Panel(usize, usize),
     /// Words of the out slice.
     Read(usize),
+}
+
+/// A list of ticks over a table and an answer slice, with what it gives in one number.
+type Entry = fn(&mut [u32], &[u32], &mut [u32]) -> u64;
+
+fn reference_run(table: &mut [u32], list: &[u32], answers: &mut [u32]) -> u64 {
+    pair(reference::run(table, list, answers))
+}
+
+fn reference_panel(table: &mut [u32], list: &[u32], answers: &mut [u32]) -> u64 {
+    pair(reference::panel(table, list, answers))
 }
 
 /// Words lent to a call, with a margin on each side.
@@ -125,18 +138,39 @@ impl Both {
     /// Gives the ticks made, the refusal or 0, and the answer slice, which had `content` in every word.
     pub fn run(&mut self, list: &[u32], length: usize, content: u32) -> (u32, u32, Vec<u32>) {
         self.note(Call::Run(list.len(), length));
+        self.ticks(3, [ffi::run, reference_run], list, length, content)
+    }
+
+    /// The same from the panel.
+    pub fn panel(&mut self, list: &[u32], length: usize, content: u32) -> (u32, u32, Vec<u32>) {
+        self.note(Call::Panel(list.len(), length));
+        let given = self.ticks(4, [ffi::panel, reference_panel], list, length, content);
+        self.given.panel_ticks += u64::from(given.0);
+        self.given.panel_whole += u64::from(given.0 == 32);
+        given
+    }
+
+    fn ticks(
+        &mut self,
+        call: usize,
+        programs: [Entry; 2],
+        list: &[u32],
+        length: usize,
+        content: u32,
+    ) -> (u32, u32, Vec<u32>) {
         let mut proved = Lent::new(&vec![content; length]);
         let mut second = proved.clone();
-        let ran = ffi::run(self.proved.words_mut(), list, proved.words_mut());
-        let (made, number) = reference::run(self.second.words_mut(), list, second.words_mut());
-        self.compare(halves(ran), [made, number]);
+        let ran = programs[0](self.proved.words_mut(), list, proved.words_mut());
+        let other = programs[1](self.second.words_mut(), list, second.words_mut());
+        self.compare(halves(ran), halves(other));
+        let [made, number] = halves(other);
         assert!(proved == second, "the programs differ in a run's answers");
         let rest = &second.words()[2 * made as usize..];
         assert!(
             rest.iter().all(|&word| word == content),
             "a run wrote past its answers"
         );
-        self.done(3, number, made > 0);
+        self.done(call, number, made > 0);
         (made, number, second.words().to_vec())
     }
 
@@ -159,7 +193,7 @@ impl Both {
             rest.iter().all(|&word| word == content),
             "a read wrote past its bags"
         );
-        self.done(4, reading.err().unwrap_or(0), false);
+        self.done(5, reading.err().unwrap_or(0), false);
         reading.map(|count| second.words()[..count as usize].to_vec())
     }
 
@@ -191,7 +225,7 @@ impl Both {
 
     /// Counts what the call gave; where it made nothing, it has changed nothing.
     fn done(&mut self, call: usize, refusal: u32, made: bool) {
-        self.given[call][refusal as usize] += 1;
+        self.given.refusals[call][refusal as usize] += 1;
         assert!(
             made || self.second == self.before,
             "a call that made nothing changed the table"
@@ -207,6 +241,10 @@ impl Drop for Both {
             eprintln!("the table before the last one: {:?}", self.before());
         }
     }
+}
+
+fn pair((high, low): (u32, u32)) -> u64 {
+    u64::from(high) << 32 | u64::from(low)
 }
 
 fn halves(number: u64) -> [u32; 2] {

@@ -21,7 +21,7 @@ pub fn shaped(random: &mut Random, counts: &mut Counts) {
                 let reading = both.read(length, 0);
                 assert!(!matches!(reading, Err(3 | 4)), "a tick broke the shape");
             }
-            1 => run(random, &mut both),
+            1 => ticks(random, &mut both),
             2 => {
                 let _ = both.begin(task, random.below(6), random.below(3), random.word());
             }
@@ -56,7 +56,7 @@ pub fn damaged(random: &mut Random, counts: &mut Counts) {
             4 => {
                 let _ = both.read(random.below(30) as usize, four);
             }
-            5 => run(random, &mut both),
+            5 => ticks(random, &mut both),
             _ => {
                 let _ = both.tick(one % 20, two);
             }
@@ -65,10 +65,11 @@ pub fn damaged(random: &mut Random, counts: &mut Counts) {
     counts.add(&both.given);
 }
 
-/// A run of any numbers over slices of any length.
-fn run(random: &mut Random, both: &mut Both) {
+/// A run of any numbers over slices of any length, or the same from the panel.
+fn ticks(random: &mut Random, both: &mut Both) {
     let length = match random.below(40) {
-        0 => 8190 + random.below(4),
+        0 => 8190 + random.below(5),
+        1..=3 => 62 + random.below(6),
         _ => random.below(30),
     };
     let list: Vec<u32> = (0..length)
@@ -85,7 +86,11 @@ fn run(random: &mut Random, both: &mut Both) {
         _ => length,
     };
     let content = random.word();
-    both.run(&list, answers as usize, content);
+    if random.once_in(2) {
+        both.panel(&list, answers as usize, content);
+    } else {
+        both.run(&list, answers as usize, content);
+    }
 }
 
 fn any_sizes(random: &mut Random) -> Sizes {

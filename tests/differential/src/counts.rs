@@ -10,18 +10,27 @@ use crate::outcomes::{Leads, Outcome, OUTCOMES};
 use crate::stretch::Stretches;
 
 /// The calls, and what each can give by the paper; 0 stands for no refusal.
-const GIVEN: [(&str, &[usize]); 5] = [
+const GIVEN: [(&str, &[usize]); 6] = [
     ("start", &[0, 1, 2]),
     ("begin", &[0, 3, 4, 5, 6, 7, 8]),
     ("tick", &[0, 3, 4, 5, 9, 10, 11]),
     ("run", &[0, 3, 4, 5, 9, 10, 11, 13, 14]),
+    ("panel", &[0, 3, 4, 5, 9, 10, 11, 13, 14, 15]),
     ("read", &[0, 3, 4, 11, 12]),
 ];
 /// The operations, from 1.
 pub const NAMES: [&str; 4] = ["push", "pop", "add", "remove"];
 
-/// By call and refusal.
-pub type Given = [[u64; 15]; 5];
+/// What calls gave.
+#[derive(Default)]
+pub struct Given {
+    /// By call and refusal.
+    pub refusals: [[u64; 16]; 6],
+    /// Ticks that the panel's lists made.
+    pub panel_ticks: u64,
+    /// Lists of the panel that made 32 ticks.
+    pub panel_whole: u64,
+}
 
 /// Where a table comes from.
 #[derive(Clone, Copy)]
@@ -52,7 +61,7 @@ impl Counts {
         let none = vec![[[0; 2]; 4]; OUTCOMES.len()];
         Counts {
             ticks: [none.clone(), none],
-            given: [[0; 15]; 5],
+            given: Given::default(),
             wraps: 0,
             alone: Alone::default(),
             stretches: Stretches::default(),
@@ -62,7 +71,9 @@ impl Counts {
 
     /// Adds what the calls on a table gave.
     pub fn add(&mut self, given: &Given) {
-        for (sums, counts) in self.given.iter_mut().zip(given) {
+        self.given.panel_ticks += given.panel_ticks;
+        self.given.panel_whole += given.panel_whole;
+        for (sums, counts) in self.given.refusals.iter_mut().zip(&given.refusals) {
             for (sum, count) in sums.iter_mut().zip(counts) {
                 *sum += count;
             }
@@ -139,7 +150,16 @@ impl Counts {
         if self.wraps == 0 {
             faults.push("the tick count never went round".to_string());
         }
-        for ((name, wanted), counts) in GIVEN.iter().zip(&self.given) {
+        let Given {
+            refusals,
+            panel_ticks,
+            panel_whole,
+        } = &self.given;
+        println!("the panel made {panel_ticks} ticks; {panel_whole} of its lists made 32");
+        if *panel_whole == 0 {
+            faults.push("the panel never made 32 ticks".to_string());
+        }
+        for ((name, wanted), counts) in GIVEN.iter().zip(refusals) {
             let seen: Vec<String> = (0..counts.len())
                 .filter(|&number| counts[number] > 0)
                 .map(|number| format!("{number}: {}", counts[number]))

@@ -91,6 +91,7 @@ impl Play<'_> {
             89 if self.random.once_in(10) => self.extend(),
             90 if self.random.once_in(6) => self.delay(),
             91 if self.random.once_in(2) => self.spurs(),
+            92 | 93 => self.panel(),
             _ => self.favourite = self.random.below(self.sizes.tasks),
         }
     }
@@ -317,8 +318,59 @@ impl Play<'_> {
             .saturating_sub(self.random.below(2) as usize);
         let content = self.random.word();
         let (made, number, answers) = self.both.run(&list, length, content);
+        assert_ne!(number, 15, "a run was refused for the panel");
         self.replay(&list, made as usize, number, &answers);
         self.check();
+    }
+
+    /// A list from the panel. Up to 64 words a run of it on the same table does the same; over them 13 or 15 is given.
+    fn panel(&mut self) {
+        let words = match self.random.below(4) {
+            0 => self.random.pick(&[0, 2, 62, 64, 65, 66, 8194]),
+            1 => 60 + self.random.below(8),
+            _ => 64,
+        };
+        let list = self.busy_list(words as usize);
+        let length = match self.random.below(4) {
+            0 => self.random.below(words + 1),
+            _ => words + self.random.below(3),
+        };
+        let content = self.random.word();
+        let given = self.both.panel(&list, length as usize, content);
+        if words <= 64 {
+            let mut both = Both::over(self.both.before());
+            assert_eq!(both.run(&list, length as usize, content), given, "a run");
+            assert_eq!(both.table(), self.both.table(), "a run's table");
+            self.counts.add(&both.given);
+        } else {
+            let wanted = if words % 2 == 1 || words > 8192 {
+                13
+            } else {
+                15
+            };
+            assert_eq!((given.0, given.1), (0, wanted), "{words} words");
+        }
+        let (made, number, answers) = given;
+        self.replay(&list, made as usize, number, &answers);
+        self.check();
+    }
+
+    /// A list of pairs, of busy tasks as long as there are any: each of its ticks is made on a copy. Then of any.
+    fn busy_list(&mut self, words: usize) -> Vec<u32> {
+        let mut table = self.both.table().to_vec();
+        let mut list = Vec::new();
+        while list.len() < words {
+            let (mut task, hint) = self.pair();
+            let at = |task| self.sizes.record(task) + record::OPERATION;
+            if !(task < self.sizes.tasks && table[at(task)] != 0) {
+                let busy = (0..self.sizes.tasks).find(|&task| table[at(task)] != 0);
+                task = busy.unwrap_or(task);
+            }
+            let _ = reference::tick(&mut table, task, hint);
+            list.extend([task, hint]);
+        }
+        list.truncate(words);
+        list
     }
 
     fn replay(&mut self, list: &[u32], made: usize, number: u32, answers: &[u32]) {
@@ -341,6 +393,7 @@ impl Play<'_> {
         match (number, list.get(2 * made..)) {
             (0, rest) => assert_eq!(rest, Some(&[][..]), "the run stopped early"),
             (13, _) => assert!(list.len() % 2 == 1 || list.len() > 8192),
+            (15, _) => assert!(list.len() > 64),
             (14, _) => assert!(answers.len() < list.len()),
             (_, Some(&[task, hint, ..])) => self.refused(task, hint, number),
             (_, rest) => panic!("refused {number} at {rest:?}"),

@@ -1,4 +1,4 @@
-//! The five public calls: their refusals in order, then their work.
+//! The public calls: their refusals in order, then their work.
 
 use crate::answer::Answer;
 use crate::refusal;
@@ -8,6 +8,8 @@ use crate::table::{self, header, node, record, Sizes, LX, NONE, RX};
 
 /// Longest schedule of a run, in words.
 const MAX_SCHEDULE: usize = 8192;
+/// The same for the maintenance panel, whose firmware takes 32 ticks.
+const MAX_PANEL_SCHEDULE: usize = 64;
 
 /// Writes an empty deque of two sentinels, with all tasks idle.
 pub fn start(table: &mut [u32], slots: u32, tasks: u32, growth: u32) -> Result<(), u32> {
@@ -68,10 +70,26 @@ pub fn tick(table: &mut [u32], task: u32, hint: u32) -> Result<Answer, u32> {
 /// Makes the ticks of a schedule of (task, hint) pairs up to the first refused;
 /// returns how many were made, and the refusal or 0.
 pub fn run(table: &mut [u32], list: &[u32], answers: &mut [u32]) -> (u32, u32) {
-    let sizes = match run_sizes(table, list, answers) {
-        Ok(sizes) => sizes,
-        Err(number) => return (0, number),
-    };
+    match scheduled_sizes(table, list, answers, MAX_SCHEDULE) {
+        Ok(sizes) => scheduled_ticks(table, sizes, list, answers),
+        Err(number) => (0, number),
+    }
+}
+
+/// A run from the maintenance panel: the same, of short schedules.
+pub fn panel(table: &mut [u32], list: &[u32], answers: &mut [u32]) -> (u32, u32) {
+    match scheduled_sizes(table, list, answers, MAX_PANEL_SCHEDULE) {
+        Ok(sizes) => scheduled_ticks(table, sizes, list, answers),
+        Err(number) => (0, number),
+    }
+}
+
+fn scheduled_ticks(
+    table: &mut [u32],
+    sizes: Sizes,
+    list: &[u32],
+    answers: &mut [u32],
+) -> (u32, u32) {
     let mut made = 0;
     for (pair, words) in list.chunks_exact(2).zip(answers.chunks_exact_mut(2)) {
         // A tick keeps the shape, so it was tested once for all of them.
@@ -114,10 +132,18 @@ fn next(table: &[u32], sizes: Sizes, number: u32) -> Result<u32, u32> {
     }
 }
 
-fn run_sizes(table: &[u32], list: &[u32], answers: &[u32]) -> Result<Sizes, u32> {
+fn scheduled_sizes(
+    table: &[u32],
+    list: &[u32],
+    answers: &[u32],
+    limit: usize,
+) -> Result<Sizes, u32> {
     let sizes = shape::check(table)?;
     if list.len() & 1 == 1 || list.len() > MAX_SCHEDULE {
         return Err(refusal::SCHEDULE);
+    }
+    if list.len() > limit {
+        return Err(refusal::PANEL_SCHEDULE);
     }
     if answers.len() < list.len() {
         return Err(refusal::ANSWERS);

@@ -22,4 +22,4 @@ pub mod table;
 
 pub use alloc::count_free;
 pub use answer::Answer;
-pub use calls::{begin, read, run, start, tick};
+pub use calls::{begin, panel, read, run, start, tick};

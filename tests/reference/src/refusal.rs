@@ -26,5 +26,7 @@ pub const NO_NODE: u32 = 11;
 pub const OUT_LENGTH: u32 = 12;
 /// The schedule has an odd length or is too long.
 pub const SCHEDULE: u32 = 13;
+/// The panel's schedule is too long.
+pub const PANEL_SCHEDULE: u32 = 15;
 /// The answer slice is too short for the schedule.
 pub const ANSWERS: u32 = 14;

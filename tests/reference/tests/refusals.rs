@@ -4,7 +4,7 @@ mod common;
 
 use common::tables::{sizes, started, steps_of};
 use reference::table::{header, record, ADD, LN, LX, LY, NONE, POP, PUSH, REMOVE, RN, RX, RY};
-use reference::{begin, read, run, start, tick, Answer};
+use reference::{begin, panel, read, run, start, tick, Answer};
 
 /// What every call but start refuses the table with.
 fn refused_by_all(table: &[u32], number: u32, what: &str) {
@@ -531,6 +531,58 @@ fn run_in_order() {
             assert_eq!(found, (0, first), "{chosen:?}");
             assert_eq!(table, before, "{chosen:?}");
             assert_eq!(answers, vec![6; length - short], "{chosen:?}");
+        }
+    }
+}
+
+#[test]
+fn panel_in_order() {
+    for (chosen, first) in subsets(&[3, 4, 13, 15, 14]) {
+        for odd in [true, false] {
+            let mut table = faulty(&chosen);
+            table[8 + 3 * 4 + record::A] = 1;
+            let before = table.clone();
+            let length = match (chosen.contains(&13), chosen.contains(&15), odd) {
+                (true, true, true) => 65,
+                (true, false, true) => 3,
+                (true, _, false) => 8194,
+                (false, true, _) => 66,
+                (false, false, _) => 64,
+            };
+            let list = vec![0; length];
+            let room = match (chosen.contains(&14), odd) {
+                (true, true) => 0,
+                (true, false) => length - 1,
+                (false, _) => length,
+            };
+            let mut answers = vec![6; room];
+            let found = panel(&mut table, &list, &mut answers);
+            assert_eq!(found, (0, first), "{chosen:?}");
+            assert_eq!(table, before, "{chosen:?}");
+            assert_eq!(answers, vec![6; room], "{chosen:?}");
+        }
+    }
+}
+
+/// Up to 32 ticks a panel's schedule is a run, whether it is refused or not.
+#[test]
+fn panel_runs_short_schedules() {
+    for length in [0, 1, 2, 3, 62, 63, 64] {
+        for room in [0, 1, length, length + 2] {
+            let mut table = started(4, 1, 0);
+            begin(&mut table, 0, POP, 1, 0).expect("begin");
+            // Without a way inward the pop goes round for ever.
+            table[8 + 3] = NONE;
+            let mut other = table.clone();
+            let list = vec![0; length];
+            let mut answers = vec![6; room];
+            let mut others = answers.clone();
+            let found = panel(&mut table, &list, &mut answers);
+            assert_eq!(found, run(&mut other, &list, &mut others));
+            assert_eq!((table, answers), (other, others));
+            if length == 64 && room >= length {
+                assert_eq!(found, (32, 0));
+            }
         }
     }
 }

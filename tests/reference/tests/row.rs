@@ -8,7 +8,7 @@ use common::random::Random;
 use common::row::{Note, Row};
 use common::tables::started;
 use reference::table::{argument_fits, header, record, Sizes, ADD, POP, PUSH, REMOVE};
-use reference::{begin, run, start, tick};
+use reference::{begin, panel, run, start, tick};
 
 const LEFT: u32 = 0;
 
@@ -241,9 +241,10 @@ impl Player {
         self.row.check(&self.table);
     }
 
-    /// A run, and the same ticks one by one on a copy.
+    /// A run, or a short one from the panel, and the same ticks one by one on a copy.
     fn run(&mut self) {
         let count = self.random.below(30) as usize;
+        let call = if self.random.once_in(3) { panel } else { run };
         let list: Vec<u32> = (0..count)
             .flat_map(|_| {
                 let (task, hint) = self.pair();
@@ -252,7 +253,7 @@ impl Player {
             .collect();
         let mut answers = vec![77; list.len() + self.random.below(3) as usize];
         let mut whole = self.table.clone();
-        let (made, number) = run(&mut whole, &list, &mut answers);
+        let (made, number) = call(&mut whole, &list, &mut answers);
         let made = made as usize;
         for (pair, words) in list.chunks(2).zip(answers.chunks(2)).take(made) {
             self.look(pair[0]);
