@@ -23,20 +23,21 @@ use Rattle.machine.specs.Calls.{
   tick,
   runOn,
   run,
+  panel,
   laneFrom,
   lane,
 }
-use Rattle.refuted.specs.Machines.{tickOnBy, tickBy, runOnBy, runBy, afterTicksBy}
+use Rattle.refuted.specs.Machines.{tickOnBy, tickBy, runOnBy, runBy, panelBy, afterTicksBy}
 use Rattle.refuted.specs.Wrong.{ended, wholeOn, touchesNothing, heldFromBy, leftwards}
 use Rattle.refuted.specs.Judged.{byRow, byDefinitions, afterAllBy, goingAlone, freeBelow}
 use Rattle.refuted.specs.Lists.{AllRefuted, judged, Spins, Leaks}
 
 pub all-refuted : AllRefuted
 unfolding judged byRow byDefinitions ended wholeOn touchesNothing heldFromBy leftwards tickOnBy tickBy runOnBy runBy
-    afterTicksBy feedTick pushAnswered popAnswered sizeAnswered feedMade feedRun bind plainAnswerOf answerOf ℕ-discrete decLt
-    decLe Value-discrete decode stepIn stepOf isStepIn link value task allBelow sameWords nodeOk busyOk recordOk shapeOk
-    heldFrom roots mark markAll visit visitFrom marked firstUnmarked allocate writeAll dcas act times startWords start begin
-    effectOf applied tickOn tick runOn run laneFrom lane
+    panelBy afterTicksBy feedTick pushAnswered popAnswered sizeAnswered feedMade feedRun bind plainAnswerOf answerOf
+    ℕ-discrete decLt decLe Value-discrete decode stepIn stepOf isStepIn link value task allBelow sameWords nodeOk
+    busyOk recordOk shapeOk heldFrom roots mark markAll visit visitFrom marked firstUnmarked allocate writeAll dcas act
+    times startWords start begin effectOf applied tickOn tick runOn run panel laneFrom lane
 all-refuted = (refl, refl)
 
 pub spins : Spins

@@ -9,9 +9,9 @@ use Rattle.machine.specs.Operations.{Operation, push, pop, add, remove, operati
 use Rattle.machine.specs.Sides.{Side, left, right, sideNumber}
 use Rattle.machine.specs.Table.{tableLength}
 use Rattle.machine.specs.Allocate.{marked}
-use Rattle.machine.specs.Calls.{start}
+use Rattle.machine.specs.Calls.{times, start}
 use Rattle.machine.specs.Row.{emptyRow}
-use Rattle.machine.specs.Demand3.{Call, begin-call, tick-call, run-call}
+use Rattle.machine.specs.Demand3.{Call, begin-call, tick-call, run-call, panel-call}
 use Rattle.refuted.specs.Machines.{Machine, rightMachine}
 use Rattle.refuted.specs.Wrong.{
   wholeInFirstTick,
@@ -39,6 +39,9 @@ use Rattle.refuted.specs.Wrong.{
   removeCutsAgain,
   removeLeavesLink,
   reportsUnmadeTick,
+  panelTestsRoomFirst,
+  panelTestsLengthFirst,
+  panelCutsList,
 }
 use Rattle.refuted.specs.Judged.{
   Verdict,
@@ -361,6 +364,38 @@ entries =
       calls = begins 0 push right 51 ++ (run-call (0 ∷ 0 ∷ 0 ∷ 4 ∷ []) (7 ∷ 7 ∷ 7 ∷ 7 ∷ []) ∷ []);
       row-says = passes;
       definitions-say = other-answer 2;
+    }
+    -- 66 words, and no room for an answer.
+    ∷ record {
+      wrong = panelTestsRoomFirst;
+      S = 4;
+      T = 1;
+      calls = panel-call (replicate 66 0) [] ∷ [];
+      row-says = passes;
+      definitions-say = other-answer 1;
+    }
+    -- 65 words.
+    ∷ record {
+      wrong = panelTestsLengthFirst;
+      S = 4;
+      T = 1;
+      calls = panel-call (replicate 65 0) (replicate 65 7) ∷ [];
+      row-says = passes;
+      definitions-say = other-answer 1;
+    }
+    -- Three pushes of 11 ticks each in one list: 32 ticks are made, and the third push stands before its last.
+    ∷ record {
+      wrong = panelCutsList;
+      S = 5;
+      T = 3;
+      calls =
+          begins 0 push right 51
+          ++ begins 1 push right 52
+          ++ begins 2 push right 53
+          ++ (panel-call (times 11 (0 ∷ 0 ∷ []) ++ times 11 (1 ∷ 0 ∷ []) ++ times 11 (2 ∷ 0 ∷ [])) (replicate 66 7)
+          ∷ []);
+      row-says = passes;
+      definitions-say = other-answer 4;
     }
     ∷ []
 

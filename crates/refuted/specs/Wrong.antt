@@ -1,9 +1,10 @@
--- The wrong machines, each under the words of 01 that name it.
-use mathlib.Core.Bool.{true, false, cond}
+-- The wrong machines, each under the words of the papers that name it.
+use mathlib.Core.Bool.{true, false, cond, _&&_}
 use mathlib.Core.List.{List, [], _∷_, _++_, map}
-use mathlib.Core.Option.{some, none as nothing}
-use Prim.Native.Nat.{ℕ, zero, suc, _+_, _*_}
-use lib.ListN.{take, drop}
+use mathlib.Core.Option.{Option, some, none as nothing}
+use Prim.Native.Nat.{ℕ, zero, suc, _+_, _*_, _%_}
+use lib.Dec.{leb, eqb}
+use lib.ListN.{length, take, drop}
 use Rattle.machine.specs.declared.Answer.{Answer}
 use Rattle.machine.specs.declared.Answer.the-variants.{Going, Pushed, Bag, Empty, Full, Yes, No, Refused}
 use Rattle.machine.specs.Sides.{left, right}
@@ -67,7 +68,18 @@ use Rattle.machine.specs.Lines.{
   act,
 }
 use Rattle.machine.specs.Answers.{endsCall}
-use Rattle.machine.specs.Calls.{tickRefusal, begunTask, Ticked, tickOn, RunDone}
+use Rattle.machine.specs.Calls.{
+  unless,
+  tableRefusal,
+  tickRefusal,
+  listRefusal,
+  roomRefusal,
+  runRefusal,
+  begunTask,
+  Ticked,
+  tickOn,
+  RunDone,
+}
 use Rattle.machine.specs.Row.{isGoing}
 use Rattle.refuted.specs.Machines.{Machine, Line, Take, tickOnBy, byTicks, byLines, rightMachine}
 
@@ -356,3 +368,40 @@ reportsUnmadeTick =
       panelRefuses = rightMachine .panelRefuses;
       panelTakes = rightMachine .panelTakes;
     }
+
+-- ---- 2026-01: "15, panel list over 64 words, tested where 13 is tested and straight after it".
+
+-- The right machine but for its panel: what it refuses, and what it takes of a list.
+abbrev pub withPanel : ((ws list answers : List ℕ) → Option ℕ) → (List ℕ → List ℕ) → Machine
+withPanel refuses takes =
+    record {
+      tickOn = rightMachine .tickOn;
+      reports = rightMachine .reports;
+      panelRefuses = refuses;
+      panelTakes = takes;
+    }
+
+abbrev pub overLong : (list : List ℕ) → Option ℕ → Option ℕ
+overLong list others = unless (leb (length list) 64) 15 others
+
+-- 14 is tested before 15.
+abbrev pub panelTestsRoomFirst : Machine
+panelTestsRoomFirst =
+    withPanel
+    (λ ws list answers.
+    listRefusal ws list (unless (leb (length list) (length answers)) 14 (overLong list nothing)))
+    (λ list. list)
+
+-- 15 is tested before 13.
+abbrev pub panelTestsLengthFirst : Machine
+panelTestsLengthFirst =
+    withPanel
+    (λ ws list answers.
+    tableRefusal ws
+    (overLong list
+    (unless (eqb (length list % 2) 0 && leb (length list) 8192) 13 (roomRefusal list answers))))
+    (λ list. list)
+
+-- A longer list is not refused but cut to its first 32 ticks.
+abbrev pub panelCutsList : Machine
+panelCutsList = withPanel runRefusal (take 64)
