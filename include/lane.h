@@ -22,7 +22,7 @@
  * ```
  *
  * Every call takes any words, any lengths and any numbers, and answers them; no call trusts its caller. A refusal
- * leaves every lent word as it was; only a run keeps the ticks before the one refused.
+ * leaves every lent word as it was; only a run, or the panel's list, keeps the ticks before the one refused.
  *
  * POINTERS. Lengths are in words of 32 bits. A pointer is aligned for uint32_t and valid for its length, and the slices
  * of one call do not overlap: these are the only things that the library cannot test. NULL with length 0 is accepted
@@ -31,8 +31,8 @@
  * THREADS. Different tables may be used by different threads at the same time, and so may reads of one table. All else
  * on one table comes one call after another: the library has no lock and no atomic access.
  *
- * FOOTPRINT. For x86-64 only. Under 8 kB of code and constants, no data, no heap; of stack about 5.5 kB in lane_tick
- * and lane_run, about 0.5 kB in the others; nothing from outside but memset (`make footprint` measures it).
+ * FOOTPRINT. For x86-64 only. Under 8 kB of code and constants, no data, no heap; of stack about 5.5 kB in lane_tick,
+ * lane_run and lane_panel, about 0.5 kB in the others; nothing from outside but memset (`make footprint` measures it).
  *
  * SLOTS. A slot, also called a node, is the place of one bag. Slots at an end of the lane with no bag are spare; each
  * end always has one at least, so a table of S slots carries at most S - 2 bags. A slot is free when nothing may use
@@ -55,7 +55,7 @@ extern "C" {
 #endif
 
 /* The library's version; and the number of the table's format: only libraries of this format work on the table. */
-#define LANE_VERSION "2.0.0"
+#define LANE_VERSION "2.1.0"
 #define LANE_TABLE_FORMAT 1
 
 /* Words of a table of `slots` (2 to 1,024) and `tasks` (1 to 16): 8 for the header, 3 a slot, 10 a task. */
@@ -75,10 +75,11 @@ extern "C" {
 #define LANE_MAX_GROWTH 64
 #define LANE_MIN_BAG 1
 #define LANE_MAX_BAG 999999999
-#define LANE_MAX_ADD 64      /* argument of an add */
-#define LANE_MAX_REMOVE 1023 /* argument of a remove */
-#define LANE_MAX_TICKS 4096  /* of one run */
-#define LANE_MIN_WORDS 24    /* of a table */
+#define LANE_MAX_ADD 64         /* argument of an add */
+#define LANE_MAX_REMOVE 1023    /* argument of a remove */
+#define LANE_MAX_TICKS 4096     /* of one run */
+#define LANE_MAX_PANEL_TICKS 32 /* of one list of the panel */
+#define LANE_MIN_WORDS 24       /* of a table */
 #define LANE_MAX_WORDS 3240
 
 /* The ends of the lane. */
@@ -121,6 +122,7 @@ extern "C" {
 #define LANE_REFUSED_OUT 12      /* out slice shorter than the bags */
 #define LANE_REFUSED_LIST 13     /* list of odd length, or of more than 4,096 ticks */
 #define LANE_REFUSED_ANSWERS 14  /* answer slice under two words a tick */
+#define LANE_REFUSED_PANEL 15    /* panel: list of more than 32 ticks */
 
 /* The two halves of an answer of 64 bits. */
 #define LANE_HIGH(number) ((uint32_t)((number) >> 32))
@@ -182,6 +184,13 @@ uint64_t lane_run(uint32_t *table, size_t words, const uint32_t *list, size_t li
                   size_t answers_words);
 
 /*
+ * The same for the maintenance panel, whose list has 32 ticks at most: up to them it returns and writes what lane_run
+ * does. Over them it gives 15, tested after 13 and before 14.
+ */
+uint64_t lane_panel(uint32_t *table, size_t words, const uint32_t *list, size_t list_words, uint32_t *answers,
+                    size_t answers_words);
+
+/*
  * Reads the bags of the lane, left end first. LANE_MAX_BAGS(slots) words of `out` are enough for every lane that
  * lane_start began.
  * Returns LANE_HIGH: 0, and LANE_LOW: their count; or LANE_HIGH: 1, and LANE_LOW: the refusal: 3, 4, 11, 12. Writes as
@@ -209,7 +218,7 @@ static inline uint64_t lane_call(uint32_t *table, size_t words, uint32_t task, u
     return answer;
 }
 
-/* A refusal in words, for a message: a constant text in English; "not refused" for 0, "no refusal" above 14. */
+/* A refusal in words, for a message: a constant text in English; "not refused" for 0, "no refusal" above 15. */
 static inline const char *lane_refusal_text(uint32_t refusal) {
     switch (refusal) {
     case 0:
@@ -242,6 +251,8 @@ static inline const char *lane_refusal_text(uint32_t refusal) {
         return "a list of odd length, or of more than 4,096 ticks";
     case LANE_REFUSED_ANSWERS:
         return "fewer places for answers than ticks";
+    case LANE_REFUSED_PANEL:
+        return "a panel's list of more than 32 ticks";
     default:
         return "no refusal";
     }

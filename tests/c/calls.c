@@ -77,19 +77,23 @@ static void refusals(void) {
     EXPECT(lane_begin(table, WORDS, 0, LANE_POP, LANE_LEFT, 0) == LANE_REFUSED_BUSY);
     EXPECT(lane_run(table, WORDS, list, 3, answers, 4) == PAIR(0, LANE_REFUSED_LIST));
     EXPECT(lane_run(table, WORDS, list, 4, answers, 3) == PAIR(0, LANE_REFUSED_ANSWERS));
+    EXPECT(lane_panel(table, WORDS, list, 2 * LANE_MAX_PANEL_TICKS + 1, answers, 0) == PAIR(0, LANE_REFUSED_LIST));
+    EXPECT(lane_panel(table, WORDS, list, 2 * LANE_MAX_PANEL_TICKS + 2, answers, 0) == PAIR(0, LANE_REFUSED_PANEL));
+    EXPECT(lane_panel(table, WORDS, list, 2 * LANE_MAX_PANEL_TICKS, answers, 0) == PAIR(0, LANE_REFUSED_ANSWERS));
+    EXPECT(lane_panel(table, WORDS, list, 4, answers, 4) == PAIR(2, 0));
     table[7] = 1;
     EXPECT(lane_read(table, WORDS, answers, 1) == PAIR(1, LANE_REFUSED_SHAPE));
     table[7] = 0;
     table[9] = 65535; /* the left hat's link to the right made none, which no call does */
     EXPECT(lane_read(table, WORDS, answers, 1) == PAIR(1, LANE_REFUSED_NO_SLOT));
 
-    for (uint32_t one = 0; one <= 15; one++) {
+    for (uint32_t one = 0; one <= 16; one++) {
         EXPECT(strlen(lane_refusal_text(one)) > 0);
         for (uint32_t other = 0; other < one; other++) {
             EXPECT(strcmp(lane_refusal_text(one), lane_refusal_text(other)) != 0);
         }
     }
-    EXPECT(strcmp(lane_refusal_text(15), lane_refusal_text(4294967295u)) == 0);
+    EXPECT(strcmp(lane_refusal_text(16), lane_refusal_text(4294967295u)) == 0);
 }
 
 /* NULL with length 0 is an empty slice, in every place of every call. */
@@ -100,12 +104,14 @@ static void empty_slices(void) {
     EXPECT(lane_tick(NULL, 0, 0, 0) == PAIR(LANE_REFUSED, LANE_REFUSED_TABLE));
     EXPECT(lane_run(NULL, 0, NULL, 0, NULL, 0) == PAIR(0, LANE_REFUSED_TABLE));
     EXPECT(lane_run(NULL, 0, list, 2, answers, 2) == PAIR(0, LANE_REFUSED_TABLE));
+    EXPECT(lane_panel(NULL, 0, NULL, 0, NULL, 0) == PAIR(0, LANE_REFUSED_TABLE));
     EXPECT(lane_read(NULL, 0, NULL, 0) == PAIR(1, LANE_REFUSED_TABLE));
     EXPECT(lane_read(NULL, 0, answers, 2) == PAIR(1, LANE_REFUSED_TABLE));
     EXPECT(lane_call(NULL, 0, 0, LANE_POP, LANE_LEFT, 0) == PAIR(LANE_REFUSED, LANE_REFUSED_TABLE));
     begin_again();
     EXPECT(lane_run(table, WORDS, NULL, 0, NULL, 0) == 0);
     EXPECT(lane_run(table, WORDS, NULL, 0, answers, 2) == 0);
+    EXPECT(lane_panel(table, WORDS, NULL, 0, NULL, 0) == 0);
     EXPECT(lane_read(table, WORDS, NULL, 0) == 0);
     EXPECT(lane_begin(table, WORDS, 0, LANE_PUSH, LANE_RIGHT, 51) == 0);
     EXPECT(lane_run(table, WORDS, list, 2, NULL, 0) == PAIR(0, LANE_REFUSED_ANSWERS));

@@ -28,6 +28,11 @@ static void run(void) {
     lane_run(table, WORDS, list, 2 * LANE_MAX_TICKS, answers, 2 * LANE_MAX_TICKS);
 }
 
+static void panel(void) {
+    lane_begin(table, WORDS, 0, LANE_ADD, LANE_RIGHT, LANE_MAX_ADD);
+    lane_panel(table, WORDS, list, 2 * LANE_MAX_PANEL_TICKS, answers, 2 * LANE_MAX_PANEL_TICKS);
+}
+
 static void read_lane(void) {
     lane_read(table, WORDS, out, SLOTS);
 }
@@ -64,6 +69,7 @@ int main(void) {
     }
     print("tick", deepest, 5600);
     print("run", touched(run), 5600);
+    print("panel", touched(panel), 5600);
     print("read", touched(read_lane), 600);
     if (failures > 0) {
         puts("more stack than include/lane.h says");

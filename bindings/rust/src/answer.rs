@@ -117,14 +117,16 @@ pub enum Refusal {
     NoSlot = 11,
     /// Read: the out slice is too short for the bags.
     Out = 12,
-    /// Run: more than 4,096 ticks.
+    /// Run, panel: more than 4,096 ticks.
     List = 13,
-    /// Run: fewer places for answers than ticks.
+    /// Run, panel: fewer places for answers than ticks.
     Answers = 14,
+    /// Panel: more than 32 ticks.
+    Panel = 15,
 }
 
 impl Refusal {
-    const ALL: [Refusal; 14] = [
+    const ALL: [Refusal; 15] = [
         Refusal::Sizes,
         Refusal::Length,
         Refusal::Table,
@@ -139,6 +141,7 @@ impl Refusal {
         Refusal::Out,
         Refusal::List,
         Refusal::Answers,
+        Refusal::Panel,
     ];
 
     /// The refusal of a number; none for a number that no call gives.
@@ -148,7 +151,7 @@ impl Refusal {
     /// ```
     pub const fn from_number(number: u32) -> Option<Refusal> {
         match number {
-            1..=14 => Some(Refusal::ALL[number as usize - 1]),
+            1..=15 => Some(Refusal::ALL[number as usize - 1]),
             _ => None,
         }
     }
@@ -180,6 +183,7 @@ impl fmt::Display for Refusal {
             Refusal::Out => "the out slice is too short for the bags",
             Refusal::List => "a run takes at most 4,096 ticks",
             Refusal::Answers => "fewer places for answers than ticks",
+            Refusal::Panel => "a panel's list of more than 32 ticks",
         };
         write!(formatter, "refused {}: {reason}", self.number())
     }
@@ -298,11 +302,11 @@ mod tests {
 
     #[test]
     fn every_refusal_is_decoded_once_and_back() {
-        for number in 1..=14 {
+        for number in 1..=15 {
             let refusal = Refusal::from_number(number).expect("a refusal");
             assert_eq!(refusal.number(), number);
         }
-        for number in [0, 15, 16, u32::MAX] {
+        for number in [0, 16, u32::MAX] {
             assert_eq!(Refusal::from_number(number), None);
         }
     }

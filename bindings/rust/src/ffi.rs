@@ -1,4 +1,4 @@
-//! The static library's five functions over any slices and any numbers, as it takes and gives them.
+//! The static library's functions over any slices and any numbers, as it takes and gives them.
 //!
 //! For programs that keep their own words, and for tests that hand in damaged ones. All are safe to call: the library
 //! answers every table and every number, and a refusal leaves every lent word as it was. This module has the crate's
@@ -24,6 +24,14 @@ mod library {
         ) -> u32;
         pub fn lane_tick(table: *mut u32, words: usize, task: u32, hint: u32) -> u64;
         pub fn lane_run(
+            table: *mut u32,
+            words: usize,
+            list: *const u32,
+            list_words: usize,
+            answers: *mut u32,
+            answers_words: usize,
+        ) -> u64;
+        pub fn lane_panel(
             table: *mut u32,
             words: usize,
             list: *const u32,
@@ -97,6 +105,22 @@ pub fn run(table: &mut [u32], list: &[u32], answers: &mut [u32]) -> u64 {
     let (pointer, words) = (table.as_mut_ptr(), table.len());
     let (out, out_words) = (answers.as_mut_ptr(), answers.len());
     unsafe { library::lane_run(pointer, words, list.as_ptr(), list.len(), out, out_words) }
+}
+
+/// The same from the maintenance panel, whose list has 64 words at most.
+///
+/// ```
+/// use lane::ffi;
+///
+/// let mut table = [0; 30];
+/// assert_eq!(ffi::start(&mut table, 4, 1, 0), 0);
+/// assert_eq!(ffi::panel(&mut table, &[0; 66], &mut []), 15);
+/// assert_eq!(ffi::panel(&mut table, &[0; 64], &mut [0; 64]), 10);
+/// ```
+pub fn panel(table: &mut [u32], list: &[u32], answers: &mut [u32]) -> u64 {
+    let (pointer, words) = (table.as_mut_ptr(), table.len());
+    let (out, out_words) = (answers.as_mut_ptr(), answers.len());
+    unsafe { library::lane_panel(pointer, words, list.as_ptr(), list.len(), out, out_words) }
 }
 
 /// Writes the bags of the lane, left end first: their count, or 2^32 plus the refusal.

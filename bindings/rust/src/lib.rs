@@ -60,8 +60,8 @@ use core::fmt;
 pub use answer::{Answer, NotStarted, Ran, Refusal};
 pub use call::{Operation, Side};
 pub use limits::{
-    max_bags, max_ticks_alone, words, MAX_ADD, MAX_BAG, MAX_GROWTH, MAX_REMOVE, MAX_SLOTS,
-    MAX_TASKS, MAX_TICKS, MIN_BAG, MIN_SLOTS, MIN_TASKS,
+    max_bags, max_ticks_alone, words, MAX_ADD, MAX_BAG, MAX_GROWTH, MAX_PANEL_TICKS, MAX_REMOVE,
+    MAX_SLOTS, MAX_TASKS, MAX_TICKS, MIN_BAG, MIN_SLOTS, MIN_TASKS,
 };
 pub use view::Bags;
 
@@ -212,9 +212,27 @@ impl<W: AsRef<[u32]> + AsMut<[u32]>> Lane<W> {
     /// ```
     pub fn run<'a>(&mut self, list: &[[u32; 2]], answers: &'a mut [[u32; 2]]) -> Ran<'a> {
         let (ticks, places) = (list.as_flattened(), answers.as_flattened_mut());
-        let [made, number] = halves(ffi::run(self.words.as_mut(), ticks, places));
-        let refusal = (number != 0).then(|| known(Refusal::from_number(number)));
-        Ran::new(&answers[..made as usize], refusal)
+        let number = ffi::run(self.words.as_mut(), ticks, places);
+        ran(number, answers)
+    }
+
+    /// The same from the maintenance panel, whose list has at most [`MAX_PANEL_TICKS`]: up to them it gives and writes
+    /// what [`Lane::run`] does.
+    ///
+    /// ```
+    /// use lane::{Lane, Operation, Refusal, Side};
+    ///
+    /// let mut lane = Lane::start([0; lane::words(4, 1)], 4, 1, 0)?;
+    /// lane.begin(0, Operation::Pop, Side::Left)?;
+    /// let mut answers = [[0; 2]; 33];
+    /// assert_eq!(lane.panel(&[[0, 0]; 33], &mut answers).refusal(), Some(Refusal::Panel));
+    /// assert_eq!(lane.panel(&[[0, 0]; 3], &mut answers).made(), 3);
+    /// # Ok::<(), Refusal>(())
+    /// ```
+    pub fn panel<'a>(&mut self, list: &[[u32; 2]], answers: &'a mut [[u32; 2]]) -> Ran<'a> {
+        let (ticks, places) = (list.as_flattened(), answers.as_flattened_mut());
+        let number = ffi::panel(self.words.as_mut(), ticks, places);
+        ran(number, answers)
     }
 }
 
@@ -353,6 +371,12 @@ fn reply(number: u32) -> Result<(), Refusal> {
         0 => Ok(()),
         number => Err(known(Refusal::from_number(number))),
     }
+}
+
+fn ran(number: u64, answers: &[[u32; 2]]) -> Ran<'_> {
+    let [made, number] = halves(number);
+    let refusal = (number != 0).then(|| known(Refusal::from_number(number)));
+    Ran::new(&answers[..made as usize], refusal)
 }
 
 fn halves(number: u64) -> [u32; 2] {

@@ -20,6 +20,8 @@ pub const MAX_ADD: u32 = 64;
 pub const MAX_REMOVE: u32 = 1023;
 /// The most ticks of one run.
 pub const MAX_TICKS: usize = 4096;
+/// The most ticks of one list of the maintenance panel.
+pub const MAX_PANEL_TICKS: usize = 32;
 
 /// The words of a table: 8 for the header, 3 a slot, 10 a task.
 ///

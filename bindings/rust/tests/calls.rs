@@ -66,6 +66,22 @@ fn a_run_gives_the_answers_of_the_ticks_made() {
 }
 
 #[test]
+fn the_panel_takes_32_ticks() {
+    let mut lane = small();
+    lane.begin(0, Operation::Pop, Side::Left).expect("idle");
+    let mut answers = [[8; 2]; 33];
+    let mut other = lane.clone();
+    let ran = other.run(&[[0, 0]; 32], &mut answers);
+    assert_eq!((ran.made(), ran.refusal()), (4, Some(Refusal::Idle)));
+    let mut places = [[8; 2]; 33];
+    let long = lane.panel(&[[0, 0]; 33], &mut places[..1]);
+    assert_eq!((long.made(), long.refusal()), (0, Some(Refusal::Panel)));
+    let ran = lane.panel(&[[0, 0]; 32], &mut places);
+    assert_eq!((ran.made(), ran.refusal()), (4, Some(Refusal::Idle)));
+    assert_eq!((lane, places), (other, answers));
+}
+
+#[test]
 fn wrong_numbers_get_their_refusals_and_change_nothing() {
     let sizes = Lane::start([7; 24], 1025, 1, 0).unwrap_err();
     assert_eq!((sizes.refusal, sizes.words), (Refusal::Sizes, [7; 24]));

@@ -29,6 +29,7 @@ fn the_header_has_the_same_numbers() {
         ("LANE_MAX_ADD", lane::MAX_ADD),
         ("LANE_MAX_REMOVE", lane::MAX_REMOVE),
         ("LANE_MAX_TICKS", lane::MAX_TICKS as u32),
+        ("LANE_MAX_PANEL_TICKS", lane::MAX_PANEL_TICKS as u32),
         ("LANE_LEFT", Side::Left.number()),
         ("LANE_RIGHT", Side::Right.number()),
         ("LANE_PUSH", Operation::Push(1).number()),
@@ -43,7 +44,7 @@ fn the_header_has_the_same_numbers() {
 
 #[test]
 fn the_header_has_the_same_texts() {
-    for refusal in (1..=14).filter_map(Refusal::from_number) {
+    for refusal in (1..=15).filter_map(Refusal::from_number) {
         // A list of odd length cannot be handed to the wrapper.
         if refusal != Refusal::List {
             let shown = refusal.to_string();
