@@ -18,15 +18,8 @@ ghost use Rattle.machine.specs.Values.{
 };
 ghost use Rattle.layout.specs.Coded.{isSame, isBag, markOf};
 
-// 01's table of mirrors, by the marks in order: LN, LX, LY, RN, RX, RY.
-const MIRRORS: [u32; 6] = [
-    Stored::RN,
-    Stored::RX,
-    Stored::RY,
-    Stored::LN,
-    Stored::LX,
-    Stored::LY,
-];
+// 02: the mirror of a mark is 3 higher or lower.
+const MIRROR_STEP: u32 = 3;
 
 // The words of a number, which is a bag or an argument.
 pub fn of_number(n: u32) -> Stored
@@ -81,7 +74,7 @@ pub fn is_bag(v: Stored) -> bool
     v.word <= Stored::LARGEST_BAG
 }
 
-// The mirror of a mark; any other value is its own.
+// The mirror of a mark: up to LY that mark plus 3, of the others minus 3. Any other value is its own.
 pub fn mirror(v: Stored) -> Stored
     requires { ⌜ valueOk v ≡ true ⌝ }
     ensures { λ r. ⌜ r ≡ encode (mirror (decode v)) ⌝ }
@@ -90,8 +83,14 @@ pub fn mirror(v: Stored) -> Stored
     if w < Stored::LN {
         return v;
     }
-    let i = (w - Stored::LN) as usize;
-    Stored { word: MIRRORS[i] }
+    if w <= Stored::LY {
+        return Stored {
+            word: w + MIRROR_STEP,
+        };
+    }
+    Stored {
+        word: w - MIRROR_STEP,
+    }
 }
 
 // The mark of a side, of which the right one is given: 01's left side has the mirror.

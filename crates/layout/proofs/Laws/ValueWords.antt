@@ -1,19 +1,18 @@
 -- Comparing, telling a bag and mirroring the words of a value do so to the value that they mean.
-use mathlib.Core.Path.{_≡_, refl, sym, ap, _∙_}
+use mathlib.Core.Path.{_≡_, refl, sym, ap, _∙_, subst}
 use mathlib.Core.Logic.{_≢_, inl, inr}
 use mathlib.Core.Bool.{Bool, true, false, _&&_}
-use mathlib.Core.List.{List, [], _∷_}
-use Prim.Native.Nat.{ℕ, _+_, _-_, _≤_, _<_}
+use Prim.Native.Nat.{ℕ, zero, suc, _+_, _-_, _≤_, _<_}
 use native.Mathlib.Omega.{arith}
 use native.Mathlib.Decide.{ℕ-discrete, decLe}
-use lib.Dec.{T, leb, eqb}
-use lib.ListN.{getD}
-use borrow.Author.Tests.{leb-true, eqb-true, eq-eqb, ne-eqb, le-leb, lt-leb}
+use lib.Dec.{leb, eqb}
+use borrow.Author.Tests.{leb-true, eq-eqb, ne-eqb, le-leb, lt-leb}
 use Rattle.machine.specs.declared.Stored.{Stored}
-use Rattle.machine.specs.Choice.{_≟_}
+use Rattle.machine.specs.Choice.{_≟_, _≤?_}
 use Rattle.machine.specs.Sides.{Side, left, right}
 use Rattle.machine.specs.Values.{Value, never, bag, N, X, Y, stored, number, encode, decode, mirror, valueOk}
-use Rattle.machine.proofs.Basics.Choices.{equalᵛ, unequalᵛ}
+use Rattle.machine.specs.Shape.{sameWords}
+use Rattle.machine.proofs.Basics.Choices.{equalᵛ, unequalᵛ, if-yes, if-no}
 use Rattle.machine.proofs.Basics.Tests.{or-either, and-right}
 use Rattle.machine.proofs.Words.ValueLaws.{
   encode-decode,
@@ -24,7 +23,7 @@ use Rattle.machine.proofs.Words.ValueLaws.{
   decoded-bag,
 }
 use Rattle.layout.specs.Coded.{isSame, isBag, markOf}
-use Rattle.layout.proofs.Laws.Tables.{at, every}
+use Rattle.layout.specs.Mirrors.{mirrorSum, SumIsTable, OtherSumsAreNot}
 
 -- Words that V may be are equal exactly where their values are.
 pub same-words :
@@ -57,28 +56,39 @@ bag-word u h = go (decLe (u .word) 999999999)
         le-leb (u .word) 999999999 l ∙ ap isBag (sym (bag-has-word (number u) (bag-ok u (omega arith) l)))
     go (no l) = lt-leb (u .word) 999999999 (omega arith) ∙ sym (no-bag l (decode u) refl)
 
--- The table of mirrors, at all of its entries by one test.
-abbrev pub mirrors : List ℕ
-mirrors = 1000000004 ∷ 1000000005 ∷ 1000000006 ∷ 1000000001 ∷ 1000000002 ∷ 1000000003 ∷ []
+-- Request 2026-02: the sum is what the table of mirrors gave, and other sums are not.
+pub sum-is-table : SumIsTable
+unfolding decode ℕ-discrete decLe
+sum-is-table = (refl, refl, refl)
 
-mirrored : ℕ → ℕ → Bool
-mirrored k x = eqb x (encode (mirror (decode (stored (1000000001 + k)))) .word)
+pub other-sums-are-not : OtherSumsAreNot
+unfolding sameWords decLe
+other-sums-are-not = (refl, refl, refl)
 
-all-mirrored : T (every mirrored 0 mirrors)
-unfolding mirrored decode ℕ-discrete decLe
-all-mirrored = tt
-
-pub mirror-entry :
-    (u : Stored)
-    → 1000000001 ≤ u .word
-    → u .word ≤ 1000000006
-    → stored (getD mirrors (u .word - 1000000001) 0) ≡ encode (mirror (decode u))
-unfolding mirrored
-mirror-entry u h l =
+-- The sum, at each of the six marks.
+pub mirror-summed :
+    (u : Stored) → 1000000001 ≤ u .word → u .word ≤ 1000000006 → stored (mirrorSum (u .word)) ≡ encode (mirror (decode u))
+unfolding decode ℕ-discrete decLe
+mirror-summed u h l =
     let k = u .word - 1000000001 in
     let e : 1000000001 + k ≡ u .word = omega arith in
-    ap stored (eqb-true _ _ (at mirrored mirrors all-mirrored k (omega arith)))
-    ∙ ap (λ (n : ℕ). encode (mirror (decode (stored n)))) e
+    subst (λ w. stored (mirrorSum w) ≡ encode (mirror (decode (stored w)))) e (at-mark k (omega arith))
+  where
+    at-mark : (k : ℕ) → k < 6 → stored (mirrorSum (1000000001 + k)) ≡ encode (mirror (decode (stored (1000000001 + k))))
+    at-mark zero h = refl
+    at-mark (suc zero) h = refl
+    at-mark (suc (suc zero)) h = refl
+    at-mark (suc (suc (suc zero))) h = refl
+    at-mark (suc (suc (suc (suc zero)))) h = refl
+    at-mark (suc (suc (suc (suc (suc zero))))) h = refl
+    at-mark (suc (suc (suc (suc (suc (suc k)))))) h = absurd (omega arith)
+
+pub sum-up : (u : Stored) → 1000000001 ≤ u .word → u .word ≤ 1000000003 → stored (u .word + 3) ≡ encode (mirror (decode u))
+sum-up u h l = ap stored (sym (if-yes (u .word ≤? 1000000003) _ _ l)) ∙ mirror-summed u h (omega arith)
+
+pub sum-down : (u : Stored) → 1000000003 < u .word → u .word ≤ 1000000006 → stored (u .word - 3) ≡ encode (mirror (decode u))
+sum-down u h l =
+    ap stored (sym (if-no (u .word ≤? 1000000003) _ _ (λ q. omega arith))) ∙ mirror-summed u (omega arith) l
 
 pub mirror-below : (u : Stored) → valueOk u ≡ true → u .word < 1000000001 → encode (mirror (decode u)) ≡ u
 mirror-below u h l = go (decode u) (encode-decode u h)

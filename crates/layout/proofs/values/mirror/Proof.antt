@@ -1,28 +1,30 @@
--- `layout::values::mirror` meets its contract.
+-- `layout::values::mirror` meets its contract: a mark has its sum.
 use mathlib.Core.Path.{sym}
 use native.Mathlib.Omega.{arith}
-use Rattle.layout.proofs.Laws.ValueWords.{mirror-below, mark-range, mirror-entry}
+use Rattle.layout.proofs.Laws.ValueWords.{mirror-below, mark-range, sum-up, sum-down}
 use borrow.Author.Needs.{needs}
 use Rattle.layout.proofs.values.mirror.Statement.{statement}
 use Rattle.layout.proofs.values.mirror.Tie as tie
 
 returns : tie.Need-returns
-returns c = sym (mirror-below (c .before .args .v) (c .before .pre) (c .if1 .taken))
+returns c = sym (mirror-below (c .before .args .v) (c .before .pre) (omega (arith, c .if1 .taken)))
 
-cast-i : tie.Need-cast-i
-cast-i c = search needs
-
-mul-t7 : tie.Need-mul-t7
-mul-t7 c = search needs
-
-array-read-t5 : tie.Need-array-read-t5
-array-read-t5 c = omega (arith, mark-range (c .before .args .v) (c .before .pre) (c .if1 .left))
+add-t4 : tie.Need-add-t4
+add-t4 c = search needs
 
 returns-2 : tie.Need-returns-2
 returns-2 c =
-    let v = c .before .args .v in
-    let h = c .if1 .left in
-    mirror-entry v h (mark-range v (c .before .pre) h)
+    let e = c .before in
+    sum-up (e .before .args .v) (omega (arith, e .if1 .left)) (omega (arith, c .if2 .taken))
+
+sub-t5 : tie.Need-sub-t5
+sub-t5 c = search needs
+
+returns-3 : tie.Need-returns-3
+returns-3 c =
+    let e = c .before in
+    let v = e .before .args .v in
+    sum-down v (omega (arith, c .if2 .left)) (mark-range v (e .before .pre) (omega (arith, e .if1 .left, c .if2 .left)))
 
 pub mirror-spec : {M : Type 1} → statement M
-mirror-spec = tie.close (tie.spec returns cast-i mul-t7 array-read-t5 returns-2)
+mirror-spec = tie.close (tie.spec returns add-t4 returns-2 sub-t5 returns-3)
