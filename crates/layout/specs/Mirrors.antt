@@ -1,6 +1,6 @@
 -- Request 2026-02: the mirror of a mark by a sum, and the table of mirrors that the sum replaces.
 use mathlib.Core.Path.{_≡_}
-use mathlib.Core.Bool.{Bool, false}
+use mathlib.Core.Bool.{false}
 use mathlib.Core.List.{List, [], _∷_, map}
 use Prim.Native.Nat.{ℕ, _+_, _-_}
 use Rattle.machine.specs.Choice.{_≤?_, if_then_else_}

@@ -1,6 +1,6 @@
 -- The table of words: where each word stands, what is read there and what a write changes.
 -- No other file says where in a table a word stands.
-use mathlib.Core.List.{List, [], _∷_, _++_}
+use mathlib.Core.List.{List, [], _∷_}
 use Prim.Native.Nat.{ℕ, _+_, _*_}
 use lib.ListN.{getD, set, take, drop}
 use lib.Seq.{sets}

@@ -1,6 +1,5 @@
 -- Every wrong machine is refuted, by computation over the definitions.
 use mathlib.Core.Path.{refl}
-use mathlib.Core.List.{map}
 use mathlib.Core.Option.{bind}
 use native.Mathlib.Decide.{ℕ-discrete, decLt, decLe}
 use Rattle.machine.specs.Values.{Value-discrete, decode}

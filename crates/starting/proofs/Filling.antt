@@ -1,9 +1,9 @@
 -- A list filled from the front: what is written so far, and what is still to come.
-use mathlib.Core.Path.{_≡_, refl, sym, ap, _∙_}
+use mathlib.Core.Path.{_≡_, sym, ap, _∙_}
 use mathlib.Core.List.{List, _++_, append-assoc, append-nil}
 use Prim.Native.Nat.{ℕ, suc, _+_, _-_, _*_, _≤_}
 use native.Mathlib.Omega.{arith}
-use lib.ListN.{length, take, length-append}
+use lib.ListN.{length, take}
 use lib.Seq.{sets, length-sets, length-take-le, take-append-le, take-append-add}
 use borrow.Rule.Slice.PartMut.{putMid, postOf}
 use Rattle.machine.specs.Sides.{left, right}

@@ -1,5 +1,5 @@
 -- The parts of the table that the code lends and reads: the nodes' words, with each link and value, and a task's record.
-use mathlib.Core.Path.{_≡_, refl, sym, ap, _∙_}
+use mathlib.Core.Path.{_≡_, sym, ap, _∙_}
 use mathlib.Core.List.{List, []}
 use Prim.Native.Nat.{ℕ, _+_, _*_, _-_, _≤_, _<_}
 use native.Mathlib.Nat.{add-assoc}
@@ -9,13 +9,12 @@ use lib.Seq.{getD-take, getD-drop, length-take-le}
 use borrow.Rule.Slice.PartMut.{midOf}
 use Rattle.machine.specs.Choice.{_<?_, if_then_else_}
 use Rattle.machine.specs.Sides.{Side, left, right, sideNumber}
-use Rattle.machine.specs.Values.{never, storedLength, encode, decode}
-use Rattle.machine.specs.Tasks.{none, fresh, recordLength, taskOf}
+use Rattle.machine.specs.Values.{never, encode, decode}
+use Rattle.machine.specs.Tasks.{none, fresh, taskOf}
 use Rattle.machine.specs.Table.{
   headerLength,
   nodeLength,
   nodeAt,
-  recordAt,
   nodeCount,
   taskCount,
   valueAt,
@@ -23,7 +22,6 @@ use Rattle.machine.specs.Table.{
   valueWords,
   link,
   value,
-  recordFrom,
   recordWords,
   task,
   linksLength,

@@ -47,7 +47,7 @@ use Rattle.machine.specs.Demand3.{
 use Rattle.machine.proofs.Basics.Tests.{test-passed}
 use Rattle.machine.proofs.Words.ValueLaws.{HasWord, never-has-word}
 use Rattle.machine.proofs.Basics.Updates.{update}
-use Rattle.machine.proofs.Words.Columns.{sizesOf, Columns, columns}
+use Rattle.machine.proofs.Words.Columns.{sizesOf, Columns}
 use Rattle.machine.proofs.Words.TableLaws.{columns-setTask}
 use Rattle.machine.proofs.Words.EffectLaws.{task-set-task}
 use Rattle.machine.proofs.Shape.ShapeLaws.{WellSized, well-sized}

@@ -13,15 +13,7 @@ use Rattle.machine.specs.Choice.{_<?_, if_then_else_}
 use Rattle.machine.specs.Sides.{Side, opposite}
 use Rattle.machine.specs.Operations.{idle}
 use Rattle.machine.specs.Tasks.{Task, fresh, wordsOf, valueReadWords, taskOf}
-use Rattle.machine.specs.Table.{
-  nodeCount,
-  taskCount,
-  growth,
-  value,
-  recordAt,
-  recordWords,
-  task,
-}
+use Rattle.machine.specs.Table.{nodeCount, taskCount, growth, value, recordWords, task}
 use Rattle.machine.specs.Shape.{recordOk}
 use Rattle.machine.specs.Allocate.{following, firstUnmarked, marked, allocate}
 use Rattle.machine.specs.Lines.{seen, Write, Effect}

@@ -9,10 +9,9 @@ use native.Mathlib.Nat.{add-assoc}
 use native.Mathlib.Decide.{ℕ-discrete}
 use Rattle.machine.specs.Choice.{_≟_, _<?_, if_then_else_}
 use Rattle.machine.specs.Sides.{Side, left, right, sideNumber}
-use Rattle.machine.specs.Values.{Value, never, X, encode, storedLength}
+use Rattle.machine.specs.Values.{Value, never, X, encode}
 use Rattle.machine.specs.Tasks.{Task, none, fresh, recordLength, wordsOf}
 use Rattle.machine.specs.Table.{
-  headerLength,
   nodeLength,
   nodeAt,
   tableLength,
@@ -26,7 +25,6 @@ use Rattle.machine.specs.Table.{
   link,
   value,
   recordAt,
-  recordFrom,
   recordWords,
   task,
   linksLength,
@@ -36,7 +34,15 @@ use Rattle.machine.proofs.Basics.Choices.{by-if, if-no, if-yes}
 use Rattle.machine.proofs.Words.Memories.{View, viewed, view-equal}
 use Rattle.machine.proofs.Words.ValueLaws.{HasWord, X-mark, never-has-word, mark-has-word, stored-alike}
 use Rattle.machine.proofs.Words.RecordLaws.{fresh-of-words}
-use Rattle.machine.proofs.Words.Columns.{Sizes, Columns, columns, sizes-equal, columns-equal, viewOf, tasks, startCounts}
+use Rattle.machine.proofs.Words.Columns.{
+  Columns,
+  columns,
+  sizes-equal,
+  columns-equal,
+  viewOf,
+  tasks,
+  startCounts,
+}
 use Rattle.machine.proofs.Words.Stretches.{record-alike, side-small}
 use Rattle.machine.proofs.Words.EffectLaws.{task-by-columns}
 

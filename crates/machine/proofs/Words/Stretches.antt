@@ -2,9 +2,20 @@
 use mathlib.Core.Path.{_≡_, refl, ap, sym, _∙_, fun-ext}
 use mathlib.Core.Logic.{_⊎_, inl, inr}
 use mathlib.Core.List.{List, [], _∷_, _++_, append-assoc}
-use Prim.Native.Nat.{ℕ, suc, zero, _+_, _*_, _-_, _≤_, _<_, min}
+use Prim.Native.Nat.{ℕ, suc, zero, _+_, _-_, _≤_, _<_, min}
 use lib.ListN.{length, getD, set, take, drop, length-set, length-take, length-drop}
-use lib.Seq.{sets, sets-eq, length-sets, length-take-le, getD-set-other, getD-take, getD-drop, take-at, drop-at, ext-getD}
+use lib.Seq.{
+  sets,
+  sets-eq,
+  length-sets,
+  length-take-le,
+  getD-set-other,
+  getD-take,
+  getD-drop,
+  take-at,
+  drop-at,
+  ext-getD,
+}
 use native.Mathlib.Omega.{arith}
 use Rattle.machine.specs.Sides.{Side, left, right, sideNumber}
 use Rattle.machine.specs.Values.{never, encode}
@@ -14,7 +25,6 @@ use Rattle.machine.specs.Table.{
   nodeLength,
   nodeCount,
   taskCount,
-  growth,
   hatAt,
   hat,
   tickCountAt,
@@ -32,8 +42,6 @@ use Rattle.machine.specs.Table.{
 }
 use Rattle.machine.proofs.Words.ValueLaws.{stored-alike}
 use Rattle.machine.proofs.Words.Columns.{
-  Counts,
-  Columns,
   sizesOf,
   countsOf,
   columns,

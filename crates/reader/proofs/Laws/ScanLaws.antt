@@ -22,10 +22,8 @@ use Rattle.reader.specs.Scanned.{
 use Rattle.reader.specs.Commands.{largestNumber, allFit, commandOf}
 use Rattle.reader.specs.Kept.{
   textPlaces,
-  numberPlaces,
   Kept,
   noNumbers,
-  noScan,
   textWith,
   keptAtFirst,
   keepOther,

@@ -4,13 +4,12 @@ use mathlib.Core.Bool.{Bool, true, false}
 use mathlib.Core.Logic.{_≢_}
 use mathlib.Core.List.{List}
 use mathlib.Core.Option.{Option, some, none as nothing}
-use Prim.Native.Nat.{ℕ, _+_, _≤_, _<_}
+use Prim.Native.Nat.{ℕ, _≤_, _<_}
 use native.Mathlib.Omega.{arith}
-use lib.ListN.{length}
 use Rattle.machine.specs.Choice.{_≟_, _<?_}
 use Rattle.machine.specs.Operations.{operationOf}
-use Rattle.machine.specs.Tasks.{Task, recordLength, operationWord, taskOf}
-use Rattle.machine.specs.Table.{headerLength, nodeCount, taskCount, recordAt, recordWords, task}
+use Rattle.machine.specs.Tasks.{Task, operationWord, taskOf}
+use Rattle.machine.specs.Table.{nodeCount, taskCount, recordWords, task}
 use Rattle.machine.specs.Shape.{lengthOk, shapeOk, WellFormed}
 use Rattle.machine.specs.Calls.{unless, tableRefusal, isBusy}
 use Rattle.machine.proofs.Basics.Choices.{if-yes, by-if}

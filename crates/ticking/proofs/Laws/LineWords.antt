@@ -7,7 +7,7 @@ use lib.ListN.{getD}
 use Rattle.machine.specs.Sides.{Side}
 use Rattle.machine.specs.Steps.{Step, rest, stepNumber}
 use Rattle.machine.specs.Steps as Steps
-use Rattle.machine.specs.Choice.{_≟_, if_then_else_}
+use Rattle.machine.specs.Choice.{_≟_}
 use Rattle.machine.specs.Tasks.{Task, none}
 use Rattle.machine.specs.Lines.{Memory, act}
 use Rattle.machine.proofs.Basics.Choices.{equal, by-if}

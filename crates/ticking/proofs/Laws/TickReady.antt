@@ -2,7 +2,7 @@
 use mathlib.Core.Path.{_≡_, refl, sym, ap, _∙_, subst}
 use mathlib.Core.Bool.{true}
 use mathlib.Core.Logic.{_≢_}
-use mathlib.Core.List.{List, [], _∷_}
+use mathlib.Core.List.{List}
 use Prim.Native.Nat.{ℕ, zero, suc, _≤_, _<_}
 use native.Mathlib.Omega.{arith}
 use lib.ListN.{getD}
@@ -13,7 +13,7 @@ use Rattle.machine.specs.Sides.{Side, left, right, sideNumber, sideOf}
 use Rattle.machine.specs.Values.{never, number, encode, decode, bagOk, valueOk}
 use Rattle.machine.specs.Operations.{Operation, idle, push, pop, add, remove, argumentOk, goalOf}
 use Rattle.machine.specs.Steps.{stepNumber, stepOf, stepsOf, isStepIn}
-use Rattle.machine.specs.Tasks.{Task, none, taskOf}
+use Rattle.machine.specs.Tasks.{Task, none}
 use Rattle.machine.specs.Table.{nodeCount, taskCount, growth, valueWords, recordWords, task}
 use Rattle.machine.specs.Shape.{recordOk}
 use Rattle.machine.specs.Calls.{isBusy}

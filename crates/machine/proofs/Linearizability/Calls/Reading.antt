@@ -14,7 +14,7 @@ use Rattle.machine.specs.Table.{nodeCount, hat, link, valueWords, value}
 use Rattle.machine.specs.Calls.{laneFrom, lane}
 use Rattle.machine.proofs.Words.ValueLaws.{never-has-word}
 use Rattle.machine.proofs.Basics.Contradiction.{clash, less?}
-use Rattle.machine.proofs.Basics.Choices.{if-no, if-yes}
+use Rattle.machine.proofs.Basics.Choices.{if-no}
 use Rattle.machine.proofs.Words.Memories.{View, viewed}
 use Rattle.machine.proofs.Linearizability.Model.Structure.{Frame}
 use Rattle.machine.proofs.Linearizability.Model.Classes.{Class, main, of, owner}

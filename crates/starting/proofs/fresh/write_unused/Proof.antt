@@ -4,7 +4,6 @@ use mathlib.Core.List.{List}
 use Prim.Native.Nat.{ℕ, _+_, _*_, _-_, _≤_}
 use native.Mathlib.Omega.{arith}
 use lib.ListN.{length}
-use Rattle.machine.specs.declared.Stored.{Stored}
 use Rattle.machine.specs.Values.{never}
 use Rattle.machine.specs.Tasks.{none}
 use Rattle.machine.specs.Table.{nodeLength, nodeWords}

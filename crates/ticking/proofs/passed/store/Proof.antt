@@ -2,11 +2,10 @@
 use mathlib.Core.Path.{_≡_, _∙_}
 use Prim.Native.Nat.{_+_}
 use native.Mathlib.Omega.{arith}
-use lib.ListN.{length, set, length-set}
+use lib.ListN.{set, length-set}
 use lib.Seq.{getD-set-other}
 use Rattle.machine.specs.Sides.{left}
 use Rattle.machine.specs.Table.{nodeCount, hatAt, nodeCountAt}
-use Rattle.layout.specs.Coded.{HoldsRecord}
 use borrow.Author.Needs.{needs}
 use Rattle.ticking.proofs.passed.store.Statement.{statement}
 use Rattle.ticking.proofs.passed.store.Tie as tie

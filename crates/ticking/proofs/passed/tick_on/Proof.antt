@@ -6,7 +6,6 @@ use Rattle.machine.specs.Table.{recordWords}
 use Rattle.layout.specs.declared.tasks.Task as Tasks
 use Rattle.shape.proofs.Laws.TableWords.{header-long, record-within}
 use Rattle.shape.proofs.Laws.PassedTable.{busy-task}
-use Rattle.ticking.specs.Ticks.{MayTick}
 use Rattle.ticking.proofs.Laws.TickTests.{tick-5, tick-9, tick-10, tick-passes}
 use borrow.Author.Needs.{needs}
 use Rattle.ticking.proofs.passed.tick_on.Statement.{statement}
