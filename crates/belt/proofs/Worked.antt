@@ -16,6 +16,7 @@ use Rattle.machine.specs.Calls.{
   applied,
   tickOn,
   tick,
+  isBegun,
   laneFrom,
   lane,
 }
@@ -31,5 +32,5 @@ unfolding beltRun linesOf printed answer startCommand beginCommand tickCommand l
     scanBytes ticks beginOr beginOf formOf commandOf commandRead ℕ-discrete decLt decLe Value-discrete decode stepIn
     stepOf isStepIn link value task allBelow sameWords nodeOk busyOk recordOk shapeOk heldFrom roots mark markAll visit
     visitFrom marked firstUnmarked allocate writeAll dcas act times startWords start begin effectOf applied tickOn tick
-    laneFrom lane
+    isBegun laneFrom lane
 worked = refl

@@ -18,6 +18,7 @@ use Rattle.machine.specs.Calls.{
   applied,
   tickOn,
   tick,
+  isBegun,
   laneFrom,
   lane,
 }
@@ -25,5 +26,6 @@ use Rattle.machine.specs.Calls.{
 pub worked : map outcomes cases ≡ map expectations cases
 unfolding outcomes plays acts tickUntil ℕ-discrete decLt decLe Value-discrete decode stepIn stepOf isStepIn link value
     task allBelow sameWords nodeOk busyOk recordOk shapeOk heldFrom roots mark markAll visit visitFrom marked
-    firstUnmarked allocate writeAll dcas act times startWords start begin effectOf applied tickOn tick laneFrom lane
+    firstUnmarked allocate writeAll dcas act times startWords start begin effectOf applied tickOn tick isBegun laneFrom
+    lane
 worked = refl

@@ -1,5 +1,5 @@
 -- The calls: for every table and all numbers, the answer and every lent word afterwards.
-use mathlib.Core.Bool.{Bool, true, false, _&&_}
+use mathlib.Core.Bool.{Bool, true, false, not, _&&_, _||_}
 use mathlib.Core.List.{List, [], _∷_, _++_}
 use mathlib.Core.Option.{Option, some, none as nothing, Option·map}
 use Prim.Native.Nat.{ℕ, zero, suc, _+_, _-_, _%_, _^_}
@@ -39,6 +39,25 @@ use Rattle.machine.specs.Allocate.{allocate}
 use Rattle.machine.specs.Lines.{Effect, seen, writeAll, act}
 use Rattle.machine.specs.Answers.{kindOf, payloadOf, refusalOf}
 
+-- ---- The lane.
+
+-- The bag numbers from node x on along R, in n nodes at most; nothing where a link is none, or n bags have no end.
+unfoldable pub laneFrom : List ℕ → (n x : ℕ) → Option (List ℕ)
+laneFrom ws zero x = nothing
+laneFrom ws (suc n) x =
+    if x ≟ none then nothing else
+    elim (value ws x) as (λ _. Option (List ℕ)) [
+      | never ↦ some []
+      | bag b ↦ Option·map (_∷_ b) (laneFrom ws n (link ws right x))
+      | N z ↦ some []
+      | X z ↦ some []
+      | Y z ↦ some []
+    ]
+
+-- 01: the lane is read from the left hat's R along R while V is a bag.
+unfoldable pub lane : List ℕ → Option (List ℕ)
+lane ws = laneFrom ws (nodeCount ws) (link ws right (hat ws left))
+
 -- ---- Refusals, in the order of 01's table.
 
 -- n where the test fails; where it passes, what the tests after it give.
@@ -69,13 +88,46 @@ startRefusal ws S T g =
 abbrev pub tableRefusal : List ℕ → Option ℕ → Option ℕ
 tableRefusal ws others = unless (lengthOk ws) 3 (unless (shapeOk ws) 4 others)
 
+-- ---- 2026-03: a bag number already in the lane.
+abbrev pub isPush : Operation → Bool
+isPush idle = false
+isPush push = true
+isPush pop = false
+isPush add = false
+isPush remove = false
+
+abbrev pub isAmong : ℕ → List ℕ → Bool
+isAmong n [] = false
+isAmong n (b ∷ bs) = eqb n b || isAmong n bs
+
+-- The number is the argument of a busy push, of the tasks below m.
+unfoldable pub isBegun : List ℕ → (m n : ℕ) → Bool
+isBegun ws zero n = false
+isBegun ws (suc m) n =
+    isPush (task ws m .operation) && eqb n (task ws m .argument) || isBegun ws m n
+
+-- 02: "Begin of a push shall refuse a bag number that stands in the lane or is the argument of a busy push. The lane is
+-- read as by the read call"; "a refusal 11 of the lane walk stands between 7 and 16".
+abbrev pub seenRefusal : List ℕ → ℕ → (bags : Option (List ℕ)) → Option ℕ → Option ℕ
+seenRefusal ws n nothing others = some 11
+seenRefusal ws n (some bags) others = unless (not (isAmong n bags || isBegun ws (taskCount ws) n)) 16 others
+
+-- Begins of the other operations walk nothing.
+abbrev pub twiceRefusal : List ℕ → Operation → ℕ → Option ℕ → Option ℕ
+twiceRefusal ws push n others = seenRefusal ws n (lane ws) others
+twiceRefusal ws idle n others = others
+twiceRefusal ws pop n others = others
+twiceRefusal ws add n others = others
+twiceRefusal ws remove n others = others
+
 abbrev pub beginRefusal : List ℕ → (k operation side : ℕ) → (argument : Stored) → Option ℕ
 beginRefusal ws k op side argument =
     tableRefusal ws
     (unless (ltb k (taskCount ws)) 5
     (unless (leb 1 op && leb op 4 && leb side 1) 6
     (unless (argumentOk (operationOf op) argument) 7
-    (unless (isIdle (task ws k .operation)) 8 nothing))))
+    (twiceRefusal ws (operationOf op) (number argument)
+    (unless (isIdle (task ws k .operation)) 8 nothing)))))
 
 -- The tests of a tick on a table that has passed 3 and 4. (11 is the lines' own: `through` in Lines.)
 abbrev pub tickRefusal : List ℕ → (k hint : ℕ) → Option ℕ
@@ -228,24 +280,6 @@ unfoldable pub panel : List ℕ → (list answers : List ℕ) → RunDone
 panel ws list answers = tested (panelRefusal ws list answers) ws list answers
 
 -- ---- Reading the lane.
-
--- The bag numbers from node x on along R, in n nodes at most; nothing where a link is none, or n bags have no end.
-unfoldable pub laneFrom : List ℕ → (n x : ℕ) → Option (List ℕ)
-laneFrom ws zero x = nothing
-laneFrom ws (suc n) x =
-    if x ≟ none then nothing else
-    elim (value ws x) as (λ _. Option (List ℕ)) [
-      | never ↦ some []
-      | bag b ↦ Option·map (_∷_ b) (laneFrom ws n (link ws right x))
-      | N z ↦ some []
-      | X z ↦ some []
-      | Y z ↦ some []
-    ]
-
--- 01: the lane is read from the left hat's R along R while V is a bag.
-unfoldable pub lane : List ℕ → Option (List ℕ)
-lane ws = laneFrom ws (nodeCount ws) (link ws right (hat ws left))
-
 pub record ReadDone : Type 0 where
   pub reading : Reading
   pub out : List ℕ

@@ -23,6 +23,7 @@ use Rattle.machine.specs.Calls.{
   runOn,
   run,
   panel,
+  isBegun,
   laneFrom,
   lane,
 }
@@ -36,17 +37,17 @@ unfolding judged byRow byDefinitions ended wholeOn touchesNothing heldFromBy lef
     panelBy afterTicksBy feedTick pushAnswered popAnswered sizeAnswered feedMade feedRun bind plainAnswerOf answerOf
     ℕ-discrete decLt decLe Value-discrete decode stepIn stepOf isStepIn link value task allBelow sameWords nodeOk
     busyOk recordOk shapeOk heldFrom roots mark markAll visit visitFrom marked firstUnmarked allocate writeAll dcas act
-    times startWords start begin effectOf applied tickOn tick runOn run panel laneFrom lane
+    times startWords start begin effectOf applied tickOn tick runOn run panel isBegun laneFrom lane
 all-refuted = (refl, refl)
 
 pub spins : Spins
 unfolding goingAlone afterAllBy tickOnBy tickBy ℕ-discrete decLt decLe Value-discrete decode stepIn stepOf isStepIn link value
     task allBelow sameWords nodeOk busyOk recordOk shapeOk heldFrom roots mark markAll visit visitFrom marked firstUnmarked
-    allocate writeAll dcas act times startWords start begin effectOf applied tickOn tick
+    allocate writeAll dcas act times startWords start begin effectOf applied tickOn tick isBegun laneFrom lane
 spins = (refl, refl)
 
 pub leaks : Leaks
 unfolding freeBelow afterAllBy tickOnBy tickBy ℕ-discrete decLt decLe Value-discrete decode stepIn stepOf isStepIn link value
     task allBelow sameWords nodeOk busyOk recordOk shapeOk heldFrom roots mark markAll visit visitFrom marked firstUnmarked
-    allocate writeAll dcas act times startWords start begin effectOf applied tickOn tick
+    allocate writeAll dcas act times startWords start begin effectOf applied tickOn tick isBegun laneFrom lane
 leaks = (refl, refl)

@@ -8,13 +8,16 @@ use Rattle.machine.specs.declared.Stored.{Stored}
 use Rattle.machine.specs.Choice.{_≟_, if_then_else_}
 use Rattle.machine.specs.Sides.{Side, right, left, sideOf}
 use Rattle.machine.specs.Values.{Value, never, bag, N, X, Y, number}
-use Rattle.machine.specs.Operations.{operationOf}
+use Rattle.machine.specs.Operations.{Operation, idle, push, pop, add, remove, operationOf}
 use Rattle.machine.specs.Tasks.{Task, none}
 use Rattle.machine.specs.Registers.{holds}
 use Rattle.machine.specs.Table.{nodeCount, taskCount, hat, link, value, task, setTask}
 use Rattle.machine.specs.Calls.{
   startRefusal,
   tableRefusal,
+  isBegun,
+  seenRefusal,
+  twiceRefusal,
   beginRefusal,
   Changed,
   changed,
@@ -66,6 +69,7 @@ use Rattle.machine.proofs.Registers.AlikeTables.{
   same-links,
   same-seen,
   same-operation,
+  same-argument,
 }
 use Rattle.machine.proofs.Registers.AlikeTicks.{tick-alike, RunsAlike, schedule-alike}
 
@@ -126,58 +130,7 @@ module _ {ws vs : List ℕ} (A : AlikeColumns ws vs) where
       go j (yes e) = agree-self (holds (t .step)) t
       go j (no n) = A .same-tasks j
 
-  begin-alike : (k op side : ℕ) (argument : Stored)
-      → ChangedAlike (begin ws k op side argument) (begin vs k op side argument)
-  unfolding begin
-  begin-alike k op side argument =
-      subst (λ (r : Option ℕ). ChangedAlike (begin ws k op side argument) (changed r vs (setTask k t vs))) (sym same)
-      (go (beginRefusal ws k op side argument) refl
-      (call-accepted ws (A .accepted) (begin-call k op side argument))
-      (subst (λ (r : Option ℕ). WellFormed (changed r vs (setTask k t vs) .words)) same
-      (call-accepted vs (A .accepted′) (begin-call k op side argument))))
-    where
-      t : Task
-      t = begunTask (operationOf op) (sideOf side) (number argument)
-
-      same : beginRefusal vs k op side argument ≡ beginRefusal ws k op side argument
-      same =
-          rw (
-            table-passes ws (A .accepted),
-            table-passes vs (A .accepted′),
-            same-count A,
-            same-operation A k,
-          )
-
-      go : (r : Option ℕ) → beginRefusal ws k op side argument ≡ r
-          → WellFormed (changed r ws (setTask k t ws) .words)
-          → WellFormed (changed r vs (setTask k t vs) .words)
-          → ChangedAlike (changed r ws (setTask k t ws)) (changed r vs (setTask k t vs))
-      go (some n) e a b = (refl, A)
-      go nothing e a b =
-          (refl, begun-alike k t (begin-allowed ws k op side argument e .is-task) never-has-word a b)
-
-  -- ---- run and panel.
-
-  -- Both test the table first, and what they test after it is the list and the answer slice alone.
-  module _ (list answers : List ℕ) where
-    tested-alike : (r : Option ℕ) → RunsAlike (tested r ws list answers) (tested r vs list answers)
-    tested-alike (some n) = record { same-ran = refl; same-answers = refl; words-alike = A }
-    tested-alike nothing = schedule-alike list A answers
-
-    list-alike : (others : Option ℕ)
-        → RunsAlike (tested (tableRefusal ws others) ws list answers) (tested (tableRefusal vs others) vs list answers)
-    list-alike others =
-        rw (table-passes ws (A .accepted) others, table-passes vs (A .accepted′) others) (tested-alike others)
-
-    run-alike : RunsAlike (run ws list answers) (run vs list answers)
-    unfolding run
-    run-alike = list-alike _
-
-    panel-alike : RunsAlike (panel ws list answers) (panel vs list answers)
-    unfolding panel
-    panel-alike = list-alike _
-
-  -- ---- Reading the lane.
+  -- ---- The lane, and begin.
   same-value : (x : ℕ) → value vs x ≡ value ws x
   same-value x = ap (λ (m : Memory). m .val x) (same-seen A right)
 
@@ -215,6 +168,75 @@ module _ {ws vs : List ℕ} (A : AlikeColumns ws vs) where
   lane-same =
       rw (same-nodes A, same-links A, same-hat A left) (lane-from-same (nodeCount ws) (link ws right (hat ws left)))
 
+  begun-same : (m n : ℕ) → isBegun vs m n ≡ isBegun ws m n
+  unfolding isBegun
+  begun-same zero n = refl
+  begun-same (suc m) n = rw (same-operation A m, same-argument A m, begun-same m n)
+
+  twice-same : (op : Operation) (n : ℕ) (others : Option ℕ) → twiceRefusal vs op n others ≡ twiceRefusal ws op n others
+  twice-same push n others = rw (lane-same) (go (lane ws))
+    where
+      go : (bags : Option (List ℕ)) → seenRefusal vs n bags others ≡ seenRefusal ws n bags others
+      go nothing = refl
+      go (some bags) = rw (same-count A, begun-same (taskCount ws) n)
+  twice-same idle n others = refl
+  twice-same pop n others = refl
+  twice-same add n others = refl
+  twice-same remove n others = refl
+
+  begin-alike : (k op side : ℕ) (argument : Stored)
+      → ChangedAlike (begin ws k op side argument) (begin vs k op side argument)
+  unfolding begin
+  begin-alike k op side argument =
+      subst (λ (r : Option ℕ). ChangedAlike (begin ws k op side argument) (changed r vs (setTask k t vs))) (sym same)
+      (go (beginRefusal ws k op side argument) refl
+      (call-accepted ws (A .accepted) (begin-call k op side argument))
+      (subst (λ (r : Option ℕ). WellFormed (changed r vs (setTask k t vs) .words)) same
+      (call-accepted vs (A .accepted′) (begin-call k op side argument))))
+    where
+      t : Task
+      t = begunTask (operationOf op) (sideOf side) (number argument)
+
+      same : beginRefusal vs k op side argument ≡ beginRefusal ws k op side argument
+      same =
+          rw (
+            table-passes ws (A .accepted),
+            table-passes vs (A .accepted′),
+            same-count A,
+            same-operation A k,
+            twice-same (operationOf op),
+          )
+
+      go : (r : Option ℕ) → beginRefusal ws k op side argument ≡ r
+          → WellFormed (changed r ws (setTask k t ws) .words)
+          → WellFormed (changed r vs (setTask k t vs) .words)
+          → ChangedAlike (changed r ws (setTask k t ws)) (changed r vs (setTask k t vs))
+      go (some n) e a b = (refl, A)
+      go nothing e a b =
+          (refl, begun-alike k t (begin-allowed ws k op side argument e .is-task) never-has-word a b)
+
+  -- ---- run and panel.
+
+  -- Both test the table first, and what they test after it is the list and the answer slice alone.
+  module _ (list answers : List ℕ) where
+    tested-alike : (r : Option ℕ) → RunsAlike (tested r ws list answers) (tested r vs list answers)
+    tested-alike (some n) = record { same-ran = refl; same-answers = refl; words-alike = A }
+    tested-alike nothing = schedule-alike list A answers
+
+    list-alike : (others : Option ℕ)
+        → RunsAlike (tested (tableRefusal ws others) ws list answers) (tested (tableRefusal vs others) vs list answers)
+    list-alike others =
+        rw (table-passes ws (A .accepted) others, table-passes vs (A .accepted′) others) (tested-alike others)
+
+    run-alike : RunsAlike (run ws list answers) (run vs list answers)
+    unfolding run
+    run-alike = list-alike _
+
+    panel-alike : RunsAlike (panel ws list answers) (panel vs list answers)
+    unfolding panel
+    panel-alike = list-alike _
+
+  -- ---- Reading the lane.
   read-same : (out : List ℕ) → read vs out ≡ read ws out
   unfolding read
   read-same out = rw (table-passes vs (A .accepted′) nothing, table-passes ws (A .accepted) nothing, read, lane-same)

@@ -100,6 +100,9 @@ module _ {ws vs : List ℕ} (A : AlikeColumns ws vs) where
   pub same-operation : (k : ℕ) → task vs k .operation ≡ task ws k .operation
   same-operation k = ap (λ (y : Task). y .operation) (A .same-tasks k)
 
+  pub same-argument : (k : ℕ) → task vs k .argument ≡ task ws k .argument
+  same-argument k = ap (λ (y : Task). y .argument) (A .same-tasks k)
+
   held-from-same : (n k : ℕ) → heldFrom vs n k ≡ heldFrom ws n k
   unfolding heldFrom
   held-from-same zero k = refl

@@ -1,6 +1,6 @@
 -- Every call on a table of the right shape leaves a table of the right shape.
 use mathlib.Core.Path.{_≡_, refl, ap, sym, _∙_, subst}
-use mathlib.Core.Bool.{true, _&&_}
+use mathlib.Core.Bool.{true, not, _&&_, _||_}
 use mathlib.Core.List.{List, [], _∷_}
 use mathlib.Core.Option.{Option, some, none as nothing}
 use Prim.Native.Nat.{ℕ, _≤_, _<_}
@@ -34,6 +34,10 @@ use Rattle.machine.specs.Calls.{
   isBusy,
   startRefusal,
   tableRefusal,
+  isAmong,
+  isBegun,
+  seenRefusal,
+  twiceRefusal,
   beginRefusal,
   runRefusal,
   panelRefusal,
@@ -42,6 +46,7 @@ use Rattle.machine.specs.Calls.{
   start,
   begunTask,
   begin,
+  lane,
   Ticked,
   tickOn,
   tick,
@@ -63,6 +68,7 @@ use Rattle.machine.specs.Demand3.{
   read-call,
   after,
 }
+use Rattle.machine.proofs.Basics.Contradiction.{clash}
 use Rattle.machine.proofs.Basics.Tests.{and-left, and-right, test-passed, tests-left}
 use Rattle.machine.proofs.Words.ValueLaws.{never-has-word}
 use Rattle.machine.proofs.Words.Columns.{sizesOf, columns}
@@ -195,6 +201,21 @@ pub record BeginAllowed (ws : List ℕ) (k op side : ℕ) (argument : Stored) : 
   pub argument-fits : argumentOk (operationOf op) argument ≡ true
   pub was-idle : isIdle (task ws k .operation) ≡ true
 
+-- Where 11 and 16 are not met, none is met of the tests after them.
+pub not-seen-twice :
+    (ws : List ℕ) (op : Operation) (n : ℕ) (others : Option ℕ)
+    → twiceRefusal ws op n others ≡ nothing
+    → others ≡ nothing
+not-seen-twice ws push n others e = go (lane ws) e
+  where
+    go : (bags : Option (List ℕ)) → seenRefusal ws n bags others ≡ nothing → others ≡ nothing
+    go nothing e = clash (cc)
+    go (some bags) e = tests-left (not (isAmong n bags || isBegun ws (taskCount ws) n)) 16 others e
+not-seen-twice ws idle n others e = e
+not-seen-twice ws pop n others e = e
+not-seen-twice ws add n others e = e
+not-seen-twice ws remove n others e = e
+
 module _ (ws : List ℕ) (k op side : ℕ) (argument : Stored) where
   pub begin-allowed : beginRefusal ws k op side argument ≡ nothing → BeginAllowed ws k op side argument
   begin-allowed e =
@@ -209,7 +230,7 @@ module _ (ws : List ℕ) (k op side : ℕ) (argument : Stored) where
         last-operation = leb-true op 4 c;
         last-side = leb-true side 1 d;
         argument-fits = search (test-passed, tests-left) depth 7;
-        was-idle = search (test-passed, tests-left) depth 7;
+        was-idle = search (test-passed, tests-left, not-seen-twice) depth 8;
       }
 
   module _ (Z : WellSized (sizesOf ws)) (W : WellShaped (columns ws)) where
