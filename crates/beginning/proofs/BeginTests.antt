@@ -3,7 +3,7 @@ use mathlib.Core.Path.{_≡_, refl, ap, _∙_}
 use mathlib.Core.Bool.{Bool, true, false, _&&_}
 use mathlib.Core.Logic.{_≢_}
 use mathlib.Core.List.{List}
-use mathlib.Core.Option.{some, none as nothing}
+use mathlib.Core.Option.{Option, some, none as nothing}
 use Prim.Native.Nat.{ℕ, _≤_, _<_}
 use native.Mathlib.Decide.{ℕ-discrete}
 use lib.Dec.{leb}
@@ -16,12 +16,13 @@ use Rattle.machine.specs.Operations.{Operation, idle, push, pop, add, remove, o
 use Rattle.machine.specs.Tasks.{operationWord}
 use Rattle.machine.specs.Table.{taskCount, recordWords, task, setTask}
 use Rattle.machine.specs.Shape.{WellFormed}
-use Rattle.machine.specs.Calls.{isBusy, isIdle, tableRefusal, beginRefusal, begunTask, begin}
+use Rattle.machine.specs.Calls.{unless, isBusy, isIdle, tableRefusal, twiceRefusal, beginRefusal, begunTask, begin}
 use Rattle.machine.proofs.Basics.Contradiction.{clash}
 use Rattle.machine.proofs.Basics.Tests.{and-left, and-right}
 use Rattle.machine.specs.Results.{changedOf}
 use Rattle.shape.specs.Contracts.{numberOf}
 use Rattle.shape.proofs.Laws.PassedTable.{refused, operation-is, busy-task}
+use Rattle.beginning.proofs.SeenTests.{twice-refused, twice-passed}
 
 busy-not-idle : (op : Operation) → isBusy op ≡ true → isIdle op ≡ false
 busy-not-idle idle h = clash (cc)
@@ -67,20 +68,35 @@ module _ (ws : List ℕ) (P : WellFormed ws) (k op side : ℕ) (argument : Store
       begin-7 h = rw (P .length-passes, P .shape-passes, lt-ltb k (taskCount ws) is-task, call, h, begin)
 
       module _ (is-argument : argumentOk (operationOf op) argument ≡ true) where
-        pub begin-8 :
-            operationWord (recordWords ws k) ≢ 0 → changedOf (Refused 8) ws ≡ begin ws k op side argument
-        unfolding begin
-        begin-8 h =
-            let i : isIdle (task ws k .operation) ≡ false
-            = busy-not-idle (task ws k .operation) (busy-task ws P k is-task h) in
-            rw (P .length-passes, P .shape-passes, lt-ltb k (taskCount ws) is-task, call, is-argument, i, begin)
+        module _ {n : ℕ} (is-number : n ≡ numberOf (twiceRefusal ws (operationOf op) (number argument) nothing)) where
+          pub begin-twice : n ≢ 0 → changedOf (Refused n) ws ≡ begin ws k op side argument
+          unfolding begin
+          begin-twice h =
+              let twice = twice-refused ws (number argument) (operationOf op) is-number
+              (unless (isIdle (task ws k .operation)) 8 nothing) h in
+              rw (P .length-passes, P .shape-passes, lt-ltb k (taskCount ws) is-task, call, is-argument, twice, begin)
 
-        pub begin-accepted :
-            operationWord (recordWords ws k) ≡ 0
-            → changedOf Accepted (setTask k (begunTask (operationOf op) (sideOf side) (number argument)) ws)
-            ≡ begin ws k op side argument
-        unfolding begin ℕ-discrete
-        begin-accepted e =
-            let i : isIdle (task ws k .operation) ≡ true
-            = ap isIdle (operation-is ws P k is-task ∙ ap operationOf e) in
-            rw (P .length-passes, P .shape-passes, lt-ltb k (taskCount ws) is-task, call, is-argument, i, begin)
+          module _ (is-new : n ≡ 0) where
+            new :
+                (others : Option ℕ) → twiceRefusal ws (operationOf op) (number argument) others ≡ others
+            new others = twice-passed ws (number argument) (operationOf op) is-number others is-new
+
+            pub begin-8 :
+                operationWord (recordWords ws k) ≢ 0 → changedOf (Refused 8) ws ≡ begin ws k op side argument
+            unfolding begin
+            begin-8 h =
+                let i : isIdle (task ws k .operation) ≡ false
+                = busy-not-idle (task ws k .operation) (busy-task ws P k is-task h) in
+                let t = lt-ltb k (taskCount ws) is-task in
+                rw (P .length-passes, P .shape-passes, t, call, is-argument, new _, i, begin)
+
+            pub begin-accepted :
+                operationWord (recordWords ws k) ≡ 0
+                → changedOf Accepted (setTask k (begunTask (operationOf op) (sideOf side) (number argument)) ws)
+                ≡ begin ws k op side argument
+            unfolding begin ℕ-discrete
+            begin-accepted e =
+                let i : isIdle (task ws k .operation) ≡ true
+                = ap isIdle (operation-is ws P k is-task ∙ ap operationOf e) in
+                let t = lt-ltb k (taskCount ws) is-task in
+                rw (P .length-passes, P .shape-passes, t, call, is-argument, new _, i, begin)

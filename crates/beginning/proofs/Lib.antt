@@ -1,1 +1,2 @@
 pub mod BeginTests
+pub mod SeenTests

@@ -3,19 +3,25 @@ use layout::operations::argument_ok;
 use layout::places::TASK_COUNT;
 use layout::table;
 use layout::tasks::Task;
+use layout::values;
 use machine::Reply;
 use machine::Stored;
+use reading::Walk;
+use reading::seek;
 use shape::table_refusal;
 ghost use mathlib.Core.Path.{_≡_};
 ghost use mathlib.Core.Bool.{_&&_};
-ghost use Prim.Native.Nat.{_≤_};
-ghost use lib.Dec.{leb};
+ghost use mathlib.Core.Option.{none as nothing};
+ghost use Prim.Native.Nat.{_≤_, _<_};
+ghost use lib.Dec.{leb, eqb};
 ghost use Rattle.machine.specs.Sides.{sideOf};
 ghost use Rattle.machine.specs.Values.{number};
 ghost use Rattle.machine.specs.Operations.{operationOf};
 ghost use Rattle.machine.specs.Steps.{firstStep, stepNumber};
+ghost use Rattle.machine.specs.Table.{taskCount, task};
 ghost use Rattle.machine.specs.Shape.{WellFormed};
-ghost use Rattle.machine.specs.Calls.{begunTask, begin};
+ghost use Rattle.machine.specs.Calls.{lane, isPush, isBegun, seenRefusal, twiceRefusal, begunTask, begin};
+ghost use Rattle.shape.specs.Contracts.{numberOf};
 ghost use Rattle.layout.specs.Coded.{codedTask};
 ghost use Rattle.machine.specs.Results.{changedOf};
 
@@ -51,7 +57,71 @@ fn begun(operation: u32, side: u32, argument: Stored) -> Task
     k
 }
 
-// 01: checks 5, 6, 7 and 8, then the record.
+// Whether task k is a busy push of that bag.
+fn pushes(table: &[u32], k: u32, bag: Stored) -> bool
+    requires { ⌜ WellFormed (now table) × (k < taskCount (now table)) ⌝ }
+    ensures { λ r. ⌜ r ≡ (isPush (task (now (table .entry)) k .operation)
+        && eqb (number bag) (task (now (table .entry)) k .argument)) ⌝ }
+{
+    let t = table::task(table, k);
+    if t.operation != Task::PUSH {
+        return false;
+    }
+    values::equal(bag, t.argument)
+}
+
+// Whether any task is a busy push of that bag.
+fn is_begun(table: &[u32], bag: Stored) -> bool
+    requires { ⌜ WellFormed (now table) ⌝ }
+    ensures { λ r. ⌜ r ≡ isBegun (now (table .entry)) (taskCount (now (table .entry))) (number bag) ⌝ }
+{
+    let mut k = table[TASK_COUNT];
+    while 0 < k {
+        k -= 1;
+        if pushes(table, k, bag) {
+            return true;
+        }
+    }
+    false
+}
+
+// 02: "a bag number that stands in the lane or is the argument of a busy push". The number of the refusal, 11 or 16; 0
+// where the bag is new.
+fn seen(table: &[u32], bag: Stored) -> u32
+    requires { ⌜ WellFormed (now table) ⌝ }
+    ensures { λ r. ⌜ r
+        ≡ numberOf (seenRefusal (now (table .entry)) (number bag) (lane (now (table .entry))) nothing) ⌝ }
+{
+    let walk = seek(table, bag);
+    match walk {
+        Walk::NoEnd => {
+            return 11;
+        }
+        Walk::Bags(_, found) => {
+            if found {
+                return 16;
+            }
+            if is_begun(table, bag) {
+                return 16;
+            }
+            return 0;
+        }
+    }
+}
+
+// The same for any operation; only a push walks.
+fn twice(table: &[u32], operation: u32, argument: Stored) -> u32
+    requires { ⌜ WellFormed (now table) ⌝ }
+    ensures { λ r. ⌜ r
+        ≡ numberOf (twiceRefusal (now (table .entry)) (operationOf operation) (number argument) nothing) ⌝ }
+{
+    if operation != Task::PUSH {
+        return 0;
+    }
+    seen(table, argument)
+}
+
+// 01: checks 5, 6 and 7; 02: 11 and 16 of a push; 01: 8, then the record.
 fn begin_on(table: &mut [u32], task: u32, operation: u32, side: u32, argument: Stored) -> Reply
     requires { ⌜ WellFormed (now table) ⌝ }
     ensures { λ r. ⌜ changedOf r (now (table .exit)) ≡ begin (now (table .entry)) task operation side argument ⌝ }
@@ -65,6 +135,10 @@ fn begin_on(table: &mut [u32], task: u32, operation: u32, side: u32, argument: S
     if !argument_ok(operation, argument) {
         return Reply::Refused(7);
     }
+    let n = twice(table, operation, argument);
+    if n != 0 {
+        return Reply::Refused(n);
+    }
     let old = table::task(table, task);
     if old.operation != Task::IDLE {
         return Reply::Refused(8);
@@ -73,7 +147,7 @@ fn begin_on(table: &mut [u32], task: u32, operation: u32, side: u32, argument: S
     Reply::Accepted
 }
 
-// 01: refusals 3 to 8, then the record of a task that begins a call.
+// 01 and 02: refusals 3 to 7, 11, 16 and 8, then the record of a task that begins a call.
 pub fn begin(table: &mut [u32], task: u32, operation: u32, side: u32, argument: Stored) -> Reply
     ensures { λ r. ⌜ changedOf r (now (table .exit)) ≡ begin (now (table .entry)) task operation side argument ⌝ }
 {

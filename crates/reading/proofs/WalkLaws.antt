@@ -1,12 +1,13 @@
 -- The walk along R, in the table and over the nodes' words: a turn of it, and the loops that count and write its bags.
 use mathlib.Core.Path.{_≡_, refl, sym, ap, _∙_, subst}
 use mathlib.Core.Logic.{_≢_}
-use mathlib.Core.Bool.{Bool, true, false}
+use mathlib.Core.Bool.{Bool, true, false, _||_}
 use mathlib.Core.List.{List, [], _∷_, _++_}
 use mathlib.Core.Option.{Option, some, none as nothing, Option·map}
 use Prim.Native.Nat.{ℕ, zero, suc, _+_, _-_, _≤_, _<_}
 use native.Mathlib.Omega.{arith}
 use native.Mathlib.Nat.{add-zero, zero-add, sub-zero}
+use lib.Dec.{eqb}
 use lib.ListN.{length, set, take, drop, take-append-drop}
 use lib.Seq.{take-suc-set, drop-set-lt, drop-drop, append-snoc}
 use borrow.Author.Tests.{le-leb, lt-leb}
@@ -16,9 +17,10 @@ use Rattle.machine.specs.Choice.{_≟_, _<?_, if_then_else_}
 use Rattle.machine.specs.Sides.{left, right}
 use Rattle.machine.specs.Values.{Value, never, bag, N, X, Y, number, encode, decode, valueOk}
 use Rattle.machine.specs.Tasks.{none}
-use Rattle.machine.specs.Table.{nodeCount, hat, valueWords, link}
+use Rattle.machine.specs.Table.{headerLength, nodeAt, nodeCount, hat, valueWords, link}
+use borrow.Rule.Slice.PartMut.{midOf}
 use Rattle.machine.specs.Shape.{WellFormed}
-use Rattle.machine.specs.Calls.{tableRefusal, laneFrom, lane, readInto, read}
+use Rattle.machine.specs.Calls.{isAmong, tableRefusal, laneFrom, lane, readInto, read}
 use Rattle.machine.specs.Results.{readOf}
 use Rattle.machine.proofs.Basics.Choices.{equal, unequal, if-yes}
 use Rattle.machine.proofs.Basics.Contradiction.{refute, clash}
@@ -28,10 +30,10 @@ use Rattle.machine.proofs.Shape.ShapeLaws.{WellShaped, well-sized, well-shaped}
 use Rattle.layout.specs.Coded.{isBag, HoldsNode, linkIn, storedIn}
 use Rattle.reading.specs.declared.Walk.{Walk}
 use Rattle.reading.specs.declared.Walk.the-variants.{Bags, NoEnd}
-use Rattle.reading.specs.Lane.{laneIn, walkOf, laid, NodeOrNone, Walkable}
+use Rattle.reading.specs.Lane.{laneIn, walkOf, countOf, laid, NodeOrNone, Walkable}
 use Rattle.shape.specs.Contracts.{numberOf}
 use Rattle.shape.proofs.Laws.PassedTable.{refused, passed}
-use Rattle.layout.proofs.Laws.Views.{nodesOf, node-held, held-node, words-in, link-in, value-in}
+use Rattle.layout.proofs.Laws.Views.{nodesOf, nodes-part, node-held, held-node, words-in, link-in, value-in}
 
 -- The walk after node x, in n nodes at most.
 abbrev pub after : List ℕ → (n x : ℕ) → Option (List ℕ)
@@ -129,40 +131,56 @@ module _ (ns : List ℕ) where
 pub bag-told : {r b : Bool} {u v : Stored} → r ≡ isBag (decode u) → u ≡ v → r ≡ b → isBag (decode v) ≡ b
 bag-told tested read h = ap (λ (w : Stored). isBag (decode w)) (sym read) ∙ sym tested ∙ h
 
--- ---- The loop that counts: n bags are counted, and the walk goes on.
-abbrev pub tallied : ℕ → Option (List ℕ) → Walk
-tallied n nothing = NoEnd
-tallied n (some bags) = Bags (n + length bags)
+-- ---- The loop that counts: n bags are counted, the one sought was among them or not, and the walk goes on.
+abbrev pub tallied : (sought n : ℕ) (found : Bool) → Option (List ℕ) → Walk
+tallied w n found nothing = NoEnd
+tallied w n found (some bags) = Bags (n + length bags) (found || isAmong w bags)
 
-one-tallied : (n w : ℕ) (l : Option (List ℕ)) → tallied (n + 1) l ≡ tallied n (Option·map (_∷_ w) l)
-one-tallied n w nothing = refl
-one-tallied n w (some bags) = ap Bags (omega arith)
+or-false : (a : Bool) → a || false ≡ a
+or-false true = refl
+or-false false = refl
 
-pub count-begins : (ns : List ℕ) (slots x : ℕ) → tallied 0 (laneIn ns (slots - 0) x) ≡ walkOf (laneIn ns slots x)
-count-begins ns slots x = rw (sub-zero slots) (go (laneIn ns slots x))
+or-assoc : (a b c : Bool) → (a || b) || c ≡ a || (b || c)
+or-assoc true b c = refl
+or-assoc false b c = refl
+
+one-tallied :
+    (w n b : ℕ) (found : Bool) (l : Option (List ℕ))
+    → tallied w (n + 1) (found || eqb w b) l ≡ tallied w n found (Option·map (_∷_ b) l)
+one-tallied w n b found nothing = refl
+one-tallied w n b found (some bags) =
+    let e : n + 1 + length bags ≡ n + suc (length bags) = omega arith in
+    rw (e, or-assoc found (eqb w b) (isAmong w bags))
+
+pub count-begins :
+    (ns : List ℕ) (w slots x : ℕ) → tallied w 0 false (laneIn ns (slots - 0) x) ≡ walkOf w (laneIn ns slots x)
+count-begins ns w slots x = rw (sub-zero slots) (go (laneIn ns slots x))
   where
-    go : (l : Option (List ℕ)) → tallied 0 l ≡ walkOf l
+    go : (l : Option (List ℕ)) → tallied w 0 false l ≡ walkOf w l
     go nothing = refl
-    go (some bags) = ap Bags (zero-add (length bags))
+    go (some bags) = rw (zero-add (length bags))
 
-module _ (ns : List ℕ) (slots n x : ℕ) where
-  pub count-ends : slots ≤ n → tallied n (laneIn ns (slots - n) x) ≡ NoEnd
-  count-ends h = ap (tallied n) (no-turn ns (slots - n) x (omega arith))
+module _ (ns : List ℕ) (w slots n x : ℕ) (found : Bool) where
+  pub count-ends : slots ≤ n → tallied w n found (laneIn ns (slots - n) x) ≡ NoEnd
+  count-ends h = ap (tallied w n found) (no-turn ns (slots - n) x (omega arith))
 
-  pub count-at-none : x ≡ none → tallied n (laneIn ns (slots - n) x) ≡ NoEnd
-  count-at-none e = ap (tallied n) (no-node ns (slots - n) x e)
+  pub count-at-none : x ≡ none → tallied w n found (laneIn ns (slots - n) x) ≡ NoEnd
+  count-at-none e = ap (tallied w n found) (no-node ns (slots - n) x e)
 
   module _ (turn : n < slots) (node : x ≢ none) where
-    pub count-at-no-bag : isBag (decode (storedIn ns x)) ≡ false → tallied n (laneIn ns (slots - n) x) ≡ Bags n
+    pub count-at-no-bag :
+        isBag (decode (storedIn ns x)) ≡ false → tallied w n found (laneIn ns (slots - n) x) ≡ Bags n found
     count-at-no-bag h =
-        ap (tallied n) (no-bag ns (slots - n) (slots - (n + 1)) x (omega arith) node h) ∙ ap Bags (add-zero n)
+        ap (tallied w n found) (no-bag ns (slots - n) (slots - (n + 1)) x (omega arith) node h)
+        ∙ rw (add-zero n, or-false found)
 
     pub count-at-bag :
         isBag (decode (storedIn ns x)) ≡ true
-        → tallied (n + 1) (after ns (slots - (n + 1)) x) ≡ tallied n (laneIn ns (slots - n) x)
+        → tallied w (n + 1) (found || eqb w (number (storedIn ns x))) (after ns (slots - (n + 1)) x)
+        ≡ tallied w n found (laneIn ns (slots - n) x)
     count-at-bag h =
-        one-tallied n (number (storedIn ns x)) (after ns (slots - (n + 1)) x)
-        ∙ ap (tallied n) (sym (one-bag ns (slots - n) (slots - (n + 1)) x (omega arith) node h))
+        one-tallied w n (number (storedIn ns x)) found (after ns (slots - (n + 1)) x)
+        ∙ ap (tallied w n found) (sym (one-bag ns (slots - n) (slots - (n + 1)) x (omega arith) node h))
 
 -- ---- The loop that writes: i words are written, and the bags of the walk ahead come after them.
 abbrev pub written : ℕ → Option (List ℕ) → List ℕ → List ℕ
@@ -175,7 +193,7 @@ drop-next n i out =
 
 one-written :
     (i w k : ℕ) (l : Option (List ℕ)) (out : List ℕ)
-    → walkOf l ≡ Bags k
+    → countOf l ≡ some k
     → i < length out
     → written (i + 1) l (set out i w) ≡ written i (Option·map (_∷_ w) l) out
 one-written i w k nothing out h b = clash (cc)
@@ -185,13 +203,13 @@ one-written i w k (some bags) out h b =
     rw (s, take-suc-set out i w b, drop-set-lt (suc i) out i w (omega arith), drop-next n i out)
     (append-snoc (take i out) w (bags ++ drop (suc n) (drop i out)))
 
-pub write-ends : (i : ℕ) (l : Option (List ℕ)) (out : List ℕ) → walkOf l ≡ Bags 0 → written i l out ≡ out
+pub write-ends : (i : ℕ) (l : Option (List ℕ)) (out : List ℕ) → countOf l ≡ some 0 → written i l out ≡ out
 write-ends i nothing out h = clash (cc)
 write-ends i (some []) out h = take-append-drop i out
 write-ends i (some (b ∷ bags)) out h = clash (cc)
 
 -- While bags are ahead the walk is at a node that holds one, and after that node there is one fewer.
-module _ (ns : List ℕ) (slots i x n : ℕ) (more : i < n) (ahead : walkOf (laneIn ns (slots - i) x) ≡ Bags (n - i)) where
+module _ (ns : List ℕ) (slots i x n : ℕ) (more : i < n) (ahead : countOf (laneIn ns (slots - i) x) ≡ some (n - i)) where
   pub node-ahead : x ≢ none
   node-ahead e = let q = no-node ns (slots - i) x e in refute (cc)
 
@@ -203,7 +221,8 @@ module _ (ns : List ℕ) (slots i x n : ℕ) (more : i < n) (ahead : walkOf (lan
       go (no h) = let q = no-turn ns (slots - i) x (omega arith) in clash (cc)
 
   bag-ahead : laneIn ns (slots - i) x ≡ Option·map (_∷_ (number (storedIn ns x))) (after ns (slots - (i + 1)) x)
-  bag-ahead = one-bag ns (slots - i) (slots - (i + 1)) x turn-ahead node-ahead (go (isBag (decode (storedIn ns x))) refl)
+  bag-ahead =
+      one-bag ns (slots - i) (slots - (i + 1)) x turn-ahead node-ahead (go (isBag (decode (storedIn ns x))) refl)
     where
       go : (b : Bool) → isBag (decode (storedIn ns x)) ≡ b → b ≡ true
       go true h = refl
@@ -212,15 +231,15 @@ module _ (ns : List ℕ) (slots i x n : ℕ) (more : i < n) (ahead : walkOf (lan
           let z : n - i ≡ 0 = cc in
           absurd (omega arith)
 
-  pub fewer-ahead : walkOf (after ns (slots - (i + 1)) x) ≡ Bags (n - (i + 1))
-  fewer-ahead = go (after ns (slots - (i + 1)) x) (ap walkOf (sym bag-ahead) ∙ ahead)
+  pub fewer-ahead : countOf (after ns (slots - (i + 1)) x) ≡ some (n - (i + 1))
+  fewer-ahead = go (after ns (slots - (i + 1)) x) (ap countOf (sym bag-ahead) ∙ ahead)
     where
       go :
           (l : Option (List ℕ))
-          → walkOf (Option·map (_∷_ (number (storedIn ns x))) l) ≡ Bags (n - i)
-          → walkOf l ≡ Bags (n - (i + 1))
+          → countOf (Option·map (_∷_ (number (storedIn ns x))) l) ≡ some (n - i)
+          → countOf l ≡ some (n - (i + 1))
       go nothing h = clash (cc)
-      go (some bags) h = let e : suc (length bags) ≡ n - i = cc in ap Bags (omega arith)
+      go (some bags) h = let e : suc (length bags) ≡ n - i = cc in ap some (omega arith)
 
   pub write-at-bag :
       (out : List ℕ)
@@ -249,6 +268,29 @@ module _ (ws : List ℕ) (P : WellFormed ws) where
     pub lane-walked : laneIn (nodesOf ws) (nodeCount ws) from ≡ lane ws
     lane-walked = rw first (sym (lane-in ws Z))
 
+  -- The part of the table that the code lends is the nodes' part.
+  module _ {end : ℕ} (is-end : end ≡ nodeAt (nodeCount ws)) where
+    abbrev pub part : List ℕ
+    part = midOf headerLength (end - headerLength) ws
+
+    is-part : nodesOf ws ≡ part
+    is-part = sym (nodes-part ws is-end)
+
+    pub hat-in-part : HoldsNode part (hat ws left)
+    hat-in-part = rw (sym is-part) left-hat-in
+
+    module _ {from : ℕ} (first : from ≡ linkIn part right (hat ws left)) where
+      starts : from ≡ linkIn (nodesOf ws) right (hat ws left)
+      starts = first ∙ ap (λ (ns : List ℕ). linkIn ns right (hat ws left)) (sym is-part)
+
+      pub part-ready : Walkable part × NodeOrNone part from
+      part-ready =
+          subst (λ (ns : List ℕ). Walkable ns × NodeOrNone ns from) is-part (table-walkable, first-in from starts)
+
+      pub part-walked : laneIn part (nodeCount ws) from ≡ lane ws
+      part-walked =
+          ap (λ (ns : List ℕ). laneIn ns (nodeCount ws) from) (sym is-part) ∙ lane-walked from starts
+
 -- ---- Refusals 3 and 4 by their number.
 module _ (ws : List ℕ) {n : ℕ} (is-number : n ≡ numberOf (tableRefusal ws nothing)) (out : List ℕ) where
   pub read-refused : n ≢ 0 → readOf (Refused n) out ≡ read ws out
@@ -259,29 +301,35 @@ module _ (ws : List ℕ) {n : ℕ} (is-number : n ≡ numberOf (tableRefusal ws 
   unfolding read
   read-goes-on e = let P = passed ws is-number e in rw (P .length-passes, P .shape-passes, read)
 
+-- ---- What the walk says of its count.
+pub bags-counted :
+    (w : ℕ) (l : Option (List ℕ)) (n : ℕ) (found : Bool) → walkOf w l ≡ Bags n found → countOf l ≡ some n
+bags-counted w nothing n found h = clash (cc)
+bags-counted w (some bags) n found h = cc
+
 -- ---- What the read answers, by what the walk does.
-module _ (out : List ℕ) where
-  pub read-no-end : (l : Option (List ℕ)) → walkOf l ≡ NoEnd → readOf (Refused 11) out ≡ readInto l out
+module _ (w : ℕ) (out : List ℕ) where
+  pub read-no-end : (l : Option (List ℕ)) → walkOf w l ≡ NoEnd → readOf (Refused 11) out ≡ readInto l out
   unfolding readInto
   read-no-end nothing h = refl
   read-no-end (some bags) h = clash (cc)
 
   pub read-short :
-      (l : Option (List ℕ)) (n : ℕ)
-      → walkOf l ≡ Bags n
+      (l : Option (List ℕ)) (n : ℕ) (found : Bool)
+      → walkOf w l ≡ Bags n found
       → length out < n
       → readOf (Refused 12) out ≡ readInto l out
   unfolding readInto
-  read-short nothing n h s = clash (cc)
-  read-short (some bags) n h s =
+  read-short nothing n found h s = clash (cc)
+  read-short (some bags) n found h s =
       let e : length bags ≡ n = cc in rw (lt-leb (length bags) (length out) (omega arith), readInto)
 
   pub read-all :
-      (l : Option (List ℕ)) (n : ℕ)
-      → walkOf l ≡ Bags n
+      (l : Option (List ℕ)) (n : ℕ) (found : Bool)
+      → walkOf w l ≡ Bags n found
       → n ≤ length out
       → readOf (Count n) (laid l out) ≡ readInto l out
   unfolding readInto
-  read-all nothing n h s = clash (cc)
-  read-all (some bags) n h s =
+  read-all nothing n found h s = clash (cc)
+  read-all (some bags) n found h s =
       let e : n ≡ length bags = cc in rw (e, le-leb (length bags) (length out) (omega arith), readInto)

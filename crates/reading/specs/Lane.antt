@@ -1,4 +1,4 @@
--- Reading the lane, over the nodes' words: the walk along R, what it counts and what is written out.
+-- Reading the lane, over the nodes' words: the walk along R, what it counts, what it finds and what is written out.
 use mathlib.Core.Path.{_≡_}
 use mathlib.Core.Logic.{_≢_}
 use mathlib.Core.Bool.{true}
@@ -10,6 +10,7 @@ use Rattle.machine.specs.Choice.{_≟_, if_then_else_}
 use Rattle.machine.specs.Sides.{right}
 use Rattle.machine.specs.Values.{never, bag, N, X, Y, decode, valueOk}
 use Rattle.machine.specs.Tasks.{none}
+use Rattle.machine.specs.Calls.{isAmong}
 use Rattle.layout.specs.Coded.{HoldsNode, linkIn, storedIn}
 use Rattle.reading.specs.declared.Walk.{Walk}
 use Rattle.reading.specs.declared.Walk.the-variants.{Bags, NoEnd}
@@ -27,10 +28,14 @@ laneIn ns (suc n) x =
       | Y z ↦ some []
     ]
 
--- What the walk answers.
-abbrev pub walkOf : Option (List ℕ) → Walk
-walkOf nothing = NoEnd
-walkOf (some bags) = Bags (length bags)
+-- What the walk for bag n answers.
+abbrev pub walkOf : ℕ → Option (List ℕ) → Walk
+walkOf n nothing = NoEnd
+walkOf n (some bags) = Bags (length bags) (isAmong n bags)
+
+-- How many bags there are, where the walk ends.
+abbrev pub countOf : Option (List ℕ) → Option ℕ
+countOf = Option·map length
 
 -- 01: the read writes bags in order and touches no later word.
 abbrev pub laid : Option (List ℕ) → (out : List ℕ) → List ℕ

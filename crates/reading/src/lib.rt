@@ -1,4 +1,5 @@
-// The call read: any slices; one walk along R counts the bags, a second one writes them. A refusal changes no lent word.
+// The walk along R, for every call that reads the lane; and the call read, on any slices, which counts the bags by that
+// walk and then writes them. A refusal changes no lent word.
 use layout::nodes;
 use layout::places::HEADER;
 use layout::places::LEFT_HAT;
@@ -7,47 +8,76 @@ use layout::places::node_at;
 use layout::tasks::Task;
 use layout::values;
 use machine::Reading;
+use machine::Stored;
 use shape::table_refusal;
 ghost use mathlib.Core.Path.{_≡_};
 ghost use Prim.Native.Nat.{_≤_};
+ghost use mathlib.Core.Bool.{_||_};
+ghost use mathlib.Core.Option.{some};
 ghost use lib.ListN.{length};
+ghost use Rattle.machine.specs.Values.{number, sameStored};
 ghost use Rattle.machine.specs.Calls.{lane, readInto, read};
 ghost use Rattle.machine.specs.Results.{readOf};
 ghost use Rattle.machine.specs.Shape.{WellFormed};
-ghost use Rattle.reading.specs.declared.Walk.the-variants.{Bags};
-ghost use Rattle.reading.specs.Lane.{laneIn, walkOf, laid, NodeOrNone, Walkable};
+ghost use Rattle.reading.specs.Lane.{laneIn, countOf, walkOf, laid, NodeOrNone, Walkable};
 
-// How a walk along R ends: at a node without a bag, after that many bags; or without one.
-enum Walk {
-    Bags(u32),
+// How a walk along R ends: at a node without a bag, after that many bags and with the bag sought among them or not; or
+// without one.
+pub enum Walk {
+    Bags(u32, bool),
     NoEnd,
 }
 
-// The number of bags from a node on. 01: link none before a slot without a bag, or S bags with no end.
-fn count(ns: &[u32], slots: u32, from: u32) -> Walk
+// Whether a bag is the one sought, or that was found before.
+fn found_now(found: bool, sought: Stored, bag: Stored) -> bool
+    ensures { λ r. ⌜ r ≡ (found || sameStored sought bag) ⌝ }
+{
+    if found {
+        return true;
+    }
+    values::equal(sought, bag)
+}
+
+// The bags from a node on. 01: link none before a slot without a bag, or S bags with no end.
+fn walk_from(ns: &[u32], slots: u32, from: u32, sought: Stored) -> Walk
     requires { ⌜ Walkable (now ns) × NodeOrNone (now ns) from ⌝ }
-    ensures { λ r. ⌜ r ≡ walkOf (laneIn (now (ns .entry)) slots from) ⌝ }
+    ensures { λ r. ⌜ r ≡ walkOf (number sought) (laneIn (now (ns .entry)) slots from) ⌝ }
 {
     let mut x = from;
     let mut n = 0;
+    let mut found = false;
     while n < slots {
         if x == Task::NONE {
             return Walk::NoEnd;
         }
-        if !values::is_bag(nodes::value(ns, x)) {
-            return Walk::Bags(n);
+        let v = nodes::value(ns, x);
+        if !values::is_bag(v) {
+            return Walk::Bags(n, found);
         }
+        found = found_now(found, sought, v);
         x = nodes::link(ns, 1, x);
         n += 1;
     }
     Walk::NoEnd
 }
 
-// Writes the n bags that `count` finds from the same node in as many slots.
+// The lane of a table that has passed the tests of refusals 3 and 4, walked for a bag that is sought.
+pub fn seek(table: &[u32], sought: Stored) -> Walk
+    requires { ⌜ WellFormed (now table) ⌝ }
+    ensures { λ r. ⌜ r ≡ walkOf (number sought) (lane (now (table .entry))) ⌝ }
+{
+    let slots = table[NODE_COUNT];
+    let ns = &table[HEADER..node_at(slots)];
+    // 01: the lane is read from the left hat's R along R while V is a bag.
+    let from = nodes::link(ns, 1, table[LEFT_HAT]);
+    walk_from(ns, slots, from, sought)
+}
+
+// Writes the n bags that `walk_from` finds from the same node in as many slots.
 // 01: the read writes bags in order, answers their count, and touches no later word.
 fn copy(ns: &[u32], slots: u32, from: u32, n: u32, out: &mut [u32])
     requires { ⌜ Walkable (now ns) × NodeOrNone (now ns) from ⌝ }
-    requires { ⌜ (walkOf (laneIn (now ns) slots from) ≡ Bags n) × (n ≤ length (now out)) ⌝ }
+    requires { ⌜ (countOf (laneIn (now ns) slots from) ≡ some n) × (n ≤ length (now out)) ⌝ }
     ensures { λ _. ⌜ now (out .exit) ≡ laid (laneIn (now (ns .entry)) slots from) (now (out .entry)) ⌝ }
 {
     let mut x = from;
@@ -66,14 +96,14 @@ fn read_lane(table: &[u32], out: &mut [u32]) -> Reading
 {
     let slots = table[NODE_COUNT];
     let ns = &table[HEADER..node_at(slots)];
-    // 01: the lane is read from the left hat's R along R while V is a bag.
     let from = nodes::link(ns, 1, table[LEFT_HAT]);
-    let walk = count(ns, slots, from);
+    // A read seeks no bag.
+    let walk = walk_from(ns, slots, from, values::of_number(Stored::NEVER));
     match walk {
         Walk::NoEnd => {
             return Reading::Refused(11);
         }
-        Walk::Bags(n) => {
+        Walk::Bags(n, _) => {
             if (n as usize) <= out.len() {
                 copy(ns, slots, from, n, out);
                 return Reading::Count(n);

@@ -16,6 +16,7 @@ use Rattle.beginning.proofs.BeginTests.{
   begin-5,
   begin-6,
   begin-7,
+  begin-twice,
   begin-8,
   begin-accepted,
   operation-low,
@@ -74,36 +75,26 @@ returns-3 c =
     begin-7 (a .table .now) (p .pre) (a .task) (a .operation) (a .side) (a .argument) (e1 .if1 .left) (call-passed e2)
     (sym (g .ensures) ∙ not-true (g .result) (c .if3 .taken))
 
-task-requires : tie.Need-task-requires
-task-requires c κs =
-    let e1 = c .before .before .before .before .before in
-    let p = e1 .before .before .before in
-    record-within (p .args .table .now) (p .pre .length-passes) (p .args .task) (e1 .if1 .left)
+twice-requires : tie.Need-twice-requires
+twice-requires c κs = search needs
 
 same-length : tie.Need-same-length
 same-length c = search needs
 
 returns-4 : tie.Need-returns-4
 returns-4 c =
-    let r = c .before .before in
+    let r = c .before in
     let e3 = r .before .before in
     let e2 = e3 .before .before in
     let e1 = e2 .before .before in
     let p = e1 .before .before .before in
     let a = p .args in
-    begin-8 (a .table .now) (p .pre) (a .task) (a .operation) (a .side) (a .argument) (e1 .if1 .left) (call-passed e2)
-    (argument-passed e3) (λ q. c .if4 .taken (ap (λ (t : Tasks.Task). t .operation) (r .task .ensures) ∙ q))
+    begin-twice (a .table .now) (p .pre) (a .task) (a .operation) (a .side) (a .argument) (e1 .if1 .left)
+    (call-passed e2) (argument-passed e3) (r .twice .ensures) (c .if4 .taken)
 
-begun-requires : tie.Need-begun-requires
-begun-requires c κs =
-    let e2 = c .before .before .before .before .before .before .before in
-    let a = e2 .before .before .before .before .before .args in
-    let call = call-passed e2 in
-    (operation-low (a .operation) (a .side) call, side-low (a .operation) (a .side) call)
-
-set-task-requires : tie.Need-set-task-requires
-set-task-requires c κs =
-    let e1 = c .before .before .before .before .before .before .before .before .before .before in
+task-requires : tie.Need-task-requires
+task-requires c κs =
+    let e1 = c .before .before .before .before .before .before .before .before in
     let p = e1 .before .before .before in
     record-within (p .args .table .now) (p .pre .length-passes) (p .args .task) (e1 .if1 .left)
 
@@ -112,10 +103,41 @@ same-length-2 c = search needs
 
 returns-5 : tie.Need-returns-5
 returns-5 c =
+    let r = c .before .before in
+    let e4 = r .before .before in
+    let e3 = e4 .before .before .before in
+    let e2 = e3 .before .before in
+    let e1 = e2 .before .before in
+    let p = e1 .before .before .before in
+    let a = p .args in
+    begin-8 (a .table .now) (p .pre) (a .task) (a .operation) (a .side) (a .argument) (e1 .if1 .left) (call-passed e2)
+    (argument-passed e3) (e4 .before .twice .ensures) (e4 .if4 .left)
+    (λ q. c .if5 .taken (ap (λ (t : Tasks.Task). t .operation) (r .task .ensures) ∙ q))
+
+begun-requires : tie.Need-begun-requires
+begun-requires c κs =
+    let e2 = c .before .before .before .before .before .before .before .before .before .before in
+    let a = e2 .before .before .before .before .before .args in
+    let call = call-passed e2 in
+    (operation-low (a .operation) (a .side) call, side-low (a .operation) (a .side) call)
+
+set-task-requires : tie.Need-set-task-requires
+set-task-requires c κs =
+    let e4 = c .before .before .before .before .before .before in
+    let e1 = e4 .before .before .before .before .before .before .before in
+    let p = e1 .before .before .before in
+    record-within (p .args .table .now) (p .pre .length-passes) (p .args .task) (e1 .if1 .left)
+
+same-length-3 : tie.Need-same-length-3
+same-length-3 c = search needs
+
+returns-6 : tie.Need-returns-6
+returns-6 c =
     let w = c .before .before in
-    let e4 = w .before .before .before in
-    let r = e4 .before .before in
-    let e3 = r .before .before in
+    let e5 = w .before .before .before in
+    let r = e5 .before .before in
+    let e4 = r .before .before in
+    let e3 = e4 .before .before .before in
     let e2 = e3 .before .before in
     let e1 = e2 .before .before in
     let p = e1 .before .before .before in
@@ -125,7 +147,8 @@ returns-5 c =
     (w .set-task .ensures
     ∙ ap (λ (k : Tasks.Task). sets t (recordAt (nodeCount t) (a .task)) (recordOf k)) (w .before .begun .ensures))
     ∙ begin-accepted t (p .pre) (a .task) (a .operation) (a .side) (a .argument) (e1 .if1 .left) (call-passed e2)
-    (argument-passed e3) (sym (ap (λ (k : Tasks.Task). k .operation) (r .task .ensures)) ∙ e4 .if4 .left)
+    (argument-passed e3) (e4 .before .twice .ensures) (e4 .if4 .left)
+    (sym (ap (λ (k : Tasks.Task). k .operation) (r .task .ensures)) ∙ e5 .if5 .left)
 
 pub begin-on-spec : {M : Type 1} → statement M
 begin-on-spec =
@@ -137,10 +160,13 @@ begin-on-spec =
     returns-2
     argument-ok-requires
     returns-3
-    task-requires
+    twice-requires
     same-length
     returns-4
+    task-requires
+    same-length-2
+    returns-5
     begun-requires
     set-task-requires
-    same-length-2
-    returns-5)
+    same-length-3
+    returns-6)

@@ -1,13 +1,13 @@
 -- `reading::copy` meets its contract: the words written and the bags of the walk ahead are the out slice wanted.
 use mathlib.Core.Path.{_≡_, refl, sym, ap, _∙_}
+use mathlib.Core.Option.{some}
 use Prim.Native.Nat.{_-_, _≤_, _<_}
 use native.Mathlib.Omega.{arith}
 use native.Mathlib.Decide.{ℕ-discrete}
 use native.Mathlib.Nat.{sub-zero}
 use lib.ListN.{length, length-set}
 use Rattle.layout.specs.Coded.{HoldsNode}
-use Rattle.reading.specs.declared.Walk.the-variants.{Bags}
-use Rattle.reading.specs.Lane.{laneIn, walkOf, laid, NodeOrNone}
+use Rattle.reading.specs.Lane.{laneIn, countOf, laid, NodeOrNone}
 use Rattle.reading.proofs.WalkLaws.{written, write-ends, node-ahead, fewer-ahead, write-at-bag}
 use borrow.Author.Needs.{needs}
 use Rattle.reading.proofs.copy.Statement.{statement}
@@ -18,7 +18,7 @@ Inv-loop ns slots from n out₀ x₀ i₀ out x i =
     (i ≤ n)
     × NodeOrNone ns x
     × (length out ≡ length out₀)
-    × (walkOf (laneIn ns (slots - i) x) ≡ Bags (n - i))
+    × (countOf (laneIn ns (slots - i) x) ≡ some (n - i))
     × (written i (laneIn ns (slots - i) x) out ≡ laid (laneIn ns slots from) out₀)
 
 abbrev μ-loop : tie.MeasureT-loop
@@ -91,7 +91,7 @@ returns c =
     let l = c .before .loop in
     let a = c .before .before .before .before .args in
     let e : a .n - l .i ≡ 0 = omega arith in
-    sym (write-ends (l .i) (laneIn (a .ns .now) (a .slots - l .i) (l .x)) (l .out) (l .inv .3 ∙ ap Bags e)) ∙ l .inv .4
+    sym (write-ends (l .i) (laneIn (a .ns .now) (a .slots - l .i) (l .x)) (l .out) (l .inv .3 ∙ ap some e)) ∙ l .inv .4
 
 pub copy-spec : {M : Type 1} → statement M
 copy-spec =

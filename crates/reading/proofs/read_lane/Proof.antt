@@ -1,23 +1,22 @@
 -- `reading::read_lane` meets its contract: the walk over the part of the nodes is the lane of the table.
-use mathlib.Core.Path.{_≡_, sym, ap, _∙_, subst}
+use mathlib.Core.Path.{_≡_, sym, ap, _∙_}
 use mathlib.Core.List.{List}
 use mathlib.Core.Option.{Option}
-use Prim.Native.Nat.{ℕ, _-_, _≤_}
+use Prim.Native.Nat.{ℕ, _≤_}
 use native.Mathlib.Omega.{arith}
 use native.Mathlib.Decide.{ℕ-discrete}
 use lib.ListN.{length}
 use borrow.Author.Needs.{needs}
-use borrow.Rule.Slice.PartMut.{midOf}
 use Rattle.machine.specs.declared.Reading.the-variants.{Count}
 use Rattle.machine.specs.Sides.{left, right}
-use Rattle.machine.specs.Table.{headerLength, nodeAt, nodeCount, hat}
+use Rattle.machine.specs.Values.{number}
+use Rattle.machine.specs.Table.{nodeAt, nodeCount, hat}
 use Rattle.machine.specs.Calls.{lane}
 use Rattle.machine.specs.Results.{readOf}
 use Rattle.machine.proofs.Shape.ShapeLaws.{well-sized}
-use Rattle.layout.specs.Coded.{HoldsNode, linkIn}
-use Rattle.layout.proofs.Laws.Views.{nodesOf, nodes-part}
-use Rattle.reading.specs.Lane.{laneIn, walkOf, laid, NodeOrNone, Walkable}
-use Rattle.reading.proofs.WalkLaws.{table-walkable, left-hat-in, first-in, lane-walked}
+use Rattle.layout.specs.Coded.{linkIn}
+use Rattle.reading.specs.Lane.{laneIn, walkOf, countOf, laid, NodeOrNone, Walkable}
+use Rattle.reading.proofs.WalkLaws.{part, hat-in-part, part-ready, part-walked, bags-counted}
 use Rattle.reading.proofs.WalkLaws.{read-no-end, read-short, read-all}
 use Rattle.reading.proofs.read_lane.Statement.{statement}
 use Rattle.reading.proofs.read_lane.Tie as tie
@@ -29,40 +28,38 @@ table c = c .args .table .now
 room : (c : tie.Start) → nodeAt (nodeCount (table c)) ≤ length (table c)
 room c = let Z = well-sized (table c) (c .pre .length-passes) in omega (arith, Z .sized)
 
--- The part that is lent is the nodes' part.
+-- The part that is lent is the nodes' part, and what the walk over it finds is the lane.
 abbrev start-of : tie.After-node-at → tie.Start
 start-of c = c .before .before .before .before
 
-abbrev part : tie.After-node-at → List ℕ
-part c = midOf headerLength (c .node-at .result - headerLength) (table (start-of c))
+abbrev lent : tie.After-link → tie.After-node-at
+lent c = c .before .before .before
 
-is-part : (c : tie.After-node-at) → nodesOf (table (start-of c)) ≡ part c
-is-part c = sym (nodes-part (table (start-of c)) (c .node-at .ensures))
-
--- The walk begins at a node or at none, and what it finds is the lane.
-abbrev begun : tie.After-link → tie.After-node-at
-begun c = c .before .before .before
-
-walk-first : (c : tie.After-link) → c .link .result ≡ linkIn (nodesOf (table (start-of (begun c)))) right (hat (table (start-of (begun c))) left)
+walk-first :
+    (c : tie.After-link)
+    → let s = start-of (lent c) in
+    c .link .result ≡ linkIn (part (table s) (s .pre) (lent c .node-at .ensures)) right (hat (table s) left)
 unfolding ℕ-discrete
-walk-first c =
-    let t = table (start-of (begun c)) in
-    c .link .ensures ∙ ap (λ (ns : List ℕ). linkIn ns right (hat t left)) (sym (is-part (begun c)))
+walk-first c = c .link .ensures
 
-walk-found : (c : tie.After-link) → laneIn (part (begun c)) (nodeCount (table (start-of (begun c)))) (c .link .result) ≡ lane (table (start-of (begun c)))
+abbrev begun : tie.After-walk-from → tie.Start
+begun c = start-of (lent (c .before .before))
+
+walk-found :
+    (c : tie.After-link)
+    → let s = start-of (lent c) in
+    laneIn (part (table s) (s .pre) (lent c .node-at .ensures)) (nodeCount (table s)) (c .link .result) ≡ lane (table s)
 walk-found c =
-    let s = start-of (begun c) in
-    ap (λ (ns : List ℕ). laneIn ns (nodeCount (table s)) (c .link .result)) (sym (is-part (begun c)))
-    ∙ lane-walked (table s) (s .pre) (c .link .result) (walk-first c)
+    let s = start-of (lent c) in part-walked (table s) (s .pre) (lent c .node-at .ensures) (walk-first c)
 
-walk-ready : (c : tie.After-link) → Walkable (part (begun c)) × NodeOrNone (part (begun c)) (c .link .result)
-walk-ready c =
-    let s = start-of (begun c) in
-    subst (λ (ns : List ℕ). Walkable ns × NodeOrNone ns (c .link .result)) (is-part (begun c))
-    (table-walkable (table s) (s .pre), first-in (table s) (s .pre) (c .link .result) (walk-first c))
+-- The number that the read passes for the bag sought.
+abbrev unsought : tie.After-walk-from → ℕ
+unsought c = number (c .before .of-number .result)
 
-lane-counted : (c : tie.After-count) → walkOf (lane (table (start-of (begun (c .before))))) ≡ c .count .result
-lane-counted c = ap walkOf (sym (walk-found (c .before))) ∙ sym (c .count .ensures)
+lane-counted :
+    (c : tie.After-walk-from) → walkOf (unsought c) (lane (table (begun c))) ≡ c .walk-from .result
+lane-counted c =
+    ap (walkOf (unsought c)) (sym (walk-found (c .before .before))) ∙ sym (c .walk-from .ensures)
 
 shared-slice-read-slots : tie.Need-shared-slice-read-slots
 shared-slice-read-slots c = omega (arith, room (c .before .before .before))
@@ -85,11 +82,19 @@ shared-slice-read-link c = omega (arith, room (start-of (c .before .before)))
 link-requires : tie.Need-link-requires
 link-requires c κs =
     let p = c .before .before in
-    let s = start-of p in
-    (subst (λ (ns : List ℕ). HoldsNode ns (hat (table s) left)) (is-part p) (left-hat-in (table s) (s .pre)), omega arith)
+    let s = start-of p in (hat-in-part (table s) (s .pre) (p .node-at .ensures), omega arith)
 
-count-requires : tie.Need-count-requires
-count-requires c κs = walk-ready c
+of-number-requires : tie.Need-of-number-requires
+of-number-requires c κs = search needs
+
+walk-ready :
+    (c : tie.After-link)
+    → let part-of = let s = start-of (lent c) in part (table s) (s .pre) (lent c .node-at .ensures) in
+    Walkable part-of × NodeOrNone part-of (c .link .result)
+walk-ready c = let s = start-of (lent c) in part-ready (table s) (s .pre) (lent c .node-at .ensures) (walk-first c)
+
+walk-from-requires : tie.Need-walk-from-requires
+walk-from-requires c κs = walk-ready (c .before)
 
 enum-told : tie.Need-enum-told
 enum-told c = search needs
@@ -97,8 +102,8 @@ enum-told c = search needs
 returns : tie.Need-returns
 returns c =
     let walk = c .before .before in
-    let start = start-of (begun (walk .before)) in
-    read-no-end (start .args .out .now) (lane (table start)) (lane-counted walk ∙ c .enum-told .given .1)
+    let start = begun walk in
+    read-no-end _ (start .args .out .now) (lane (table start)) (lane-counted walk ∙ c .enum-told .given .1)
 
 enum-known-walk : tie.Need-enum-known-walk
 enum-known-walk c = search needs
@@ -108,9 +113,12 @@ cast-if1 c = search needs
 
 copy-requires : tie.Need-copy-requires
 copy-requires c κs =
-    let walk = c .before .before .before .before .before in (
-      walk-ready (walk .before),
-      (sym (walk .count .ensures) ∙ c .before .before .before .walk .given .1, omega (arith, c .before .if1 .taken)),
+    let walk = c .before .before .before .before .before in
+    let told = c .before .before .before .walk .given in
+    let bags = lane (table (begun walk)) in
+    let counted = bags-counted (unsought walk) bags (told .0 .0) (told .0 .1 .0) (lane-counted walk ∙ told .1) in (
+      walk-ready (walk .before .before),
+      (ap countOf (walk-found (walk .before .before)) ∙ counted, omega (arith, c .before .if1 .taken)),
     )
 
 same-length : tie.Need-same-length
@@ -122,19 +130,20 @@ returns-2 c =
     let fits = copied .before .before in
     let told = fits .before .before .walk .given in
     let walk = fits .before .before .before .before in
-    let start = start-of (begun (walk .before)) in
+    let start = begun walk in
     let out = start .args .out .now in
     let n = told .0 .0 in
-    let lane-laid = ap (λ (l : Option (List ℕ)). laid l out) (walk-found (walk .before)) in
+    let lane-laid = ap (λ (l : Option (List ℕ)). laid l out) (walk-found (walk .before .before)) in
     ap (readOf (Count n)) (copied .copy .ensures ∙ lane-laid)
-    ∙ read-all out (lane (table start)) n (lane-counted walk ∙ told .1) (omega (arith, fits .if1 .taken))
+    ∙ read-all _ out (lane (table start)) n (told .0 .1 .0) (lane-counted walk ∙ told .1)
+    (omega (arith, fits .if1 .taken))
 
 returns-3 : tie.Need-returns-3
 returns-3 c =
     let told = c .before .before .walk .given in
     let walk = c .before .before .before .before in
-    let start = start-of (begun (walk .before)) in
-    read-short (start .args .out .now) (lane (table start)) (told .0 .0) (lane-counted walk ∙ told .1)
+    let start = begun walk in
+    read-short _ (start .args .out .now) (lane (table start)) (told .0 .0) (told .0 .1 .0) (lane-counted walk ∙ told .1)
     (omega (arith, c .if1 .left))
 
 pub read-lane-spec : {M : Type 1} → statement M
@@ -148,7 +157,8 @@ read-lane-spec =
     part-ns-end
     shared-slice-read-link
     link-requires
-    count-requires
+    of-number-requires
+    walk-from-requires
     enum-told
     returns
     enum-known-walk

@@ -1,31 +1,33 @@
--- `reading::count` meets its contract: the bags tallied and those of the walk ahead are those of the whole walk.
+-- `reading::walk_from` meets its contract: the bags tallied and those of the walk ahead are those of the whole walk.
 use mathlib.Core.Path.{_≡_, sym, _∙_}
 use mathlib.Core.Bool.{Bool}
 use Prim.Native.Nat.{_-_, _≤_}
 use native.Mathlib.Omega.{arith}
 use native.Mathlib.Decide.{ℕ-discrete}
+use borrow.Author.Needs.{needs}
 use borrow.Author.Tests.{not-true, not-false}
 use Rattle.machine.specs.declared.Stored.{Stored}
-use Rattle.machine.specs.Values.{decode}
+use Rattle.machine.specs.Values.{number, decode}
 use Rattle.layout.specs.Coded.{isBag, storedIn}
 use Rattle.reading.specs.Lane.{laneIn, walkOf, NodeOrNone}
 use Rattle.reading.proofs.WalkLaws.{bag-told, tallied, count-begins, count-ends}
 use Rattle.reading.proofs.WalkLaws.{count-at-none, count-at-no-bag, count-at-bag}
-use Rattle.reading.proofs.count.Statement.{statement}
-use Rattle.reading.proofs.count.Tie as tie
+use Rattle.reading.proofs.walk_from.Statement.{statement}
+use Rattle.reading.proofs.walk_from.Tie as tie
 
 abbrev Inv-loop : tie.InvT-loop
-Inv-loop ns slots from x₀ n₀ x n =
+Inv-loop ns slots from sought x₀ n₀ found₀ x n found =
     (n ≤ slots)
     × NodeOrNone ns x
-    × (tallied n (laneIn ns (slots - n) x) ≡ walkOf (laneIn ns slots from))
+    × (tallied (number sought) n found (laneIn ns (slots - n) x) ≡ walkOf (number sought) (laneIn ns slots from))
 
 abbrev μ-loop : tie.MeasureT-loop
-μ-loop ns slots from x₀ n₀ x n = slots - n
+μ-loop ns slots from sought x₀ n₀ found₀ x n found = slots - n
 
 -- The words of the value of the node at which the walk is; their test tells whether they are a bag's.
 abbrev stored-there : tie.After-is-bag Inv-loop μ-loop → Stored
-stored-there c = let turn = c .before .before .before .before in storedIn (turn .before .before .args .ns .now) (turn .loop .x)
+stored-there c =
+    let turn = c .before .before .before .before in storedIn (turn .before .before .args .ns .now) (turn .loop .x)
 
 told : (c : tie.After-is-bag Inv-loop μ-loop) {b : Bool} → c .is-bag .result ≡ b → isBag (decode (stored-there c)) ≡ b
 told c = bag-told (c .is-bag .ensures) (c .before .value .ensures)
@@ -33,13 +35,14 @@ told c = bag-told (c .is-bag .ensures) (c .before .value .ensures)
 loop-holds : tie.Need-loop-holds Inv-loop μ-loop
 loop-holds c =
     let a = c .before .args in
-    (omega arith, c .before .pre .1, count-begins (a .ns .now) (a .slots) (a .from))
+    (omega arith, c .before .pre .1, count-begins (a .ns .now) (number (a .sought)) (a .slots) (a .from))
 
 returns : tie.Need-returns Inv-loop μ-loop
 returns c =
     let l = c .before .before .loop in
     let a = c .before .before .before .before .args in
-    sym (count-at-none (a .ns .now) (a .slots) (l .n) (l .x) (c .if1 .taken)) ∙ l .inv .2
+    let w = number (a .sought) in
+    sym (count-at-none (a .ns .now) w (a .slots) (l .n) (l .x) (l .found) (c .if1 .taken)) ∙ l .inv .2
 
 value-requires : tie.Need-value-requires Inv-loop μ-loop
 value-requires c κs = c .before .before .loop .inv .1 (c .if1 .left)
@@ -57,11 +60,15 @@ returns-2 c =
     let a = tested .before .before .before .before .before .before .args in
     let node = tested .before .before .if1 .left in
     let no-bag = told tested (not-true (tested .is-bag .result) (c .if2 .taken)) in
-    sym (count-at-no-bag (a .ns .now) (a .slots) (l .n) (l .x) (omega arith) node no-bag) ∙ l .inv .2
+    let w = number (a .sought) in
+    sym (count-at-no-bag (a .ns .now) w (a .slots) (l .n) (l .x) (l .found) (omega arith) node no-bag) ∙ l .inv .2
+
+found-now-requires : tie.Need-found-now-requires Inv-loop μ-loop
+found-now-requires c κs = search needs
 
 link-requires : tie.Need-link-requires Inv-loop μ-loop
 link-requires c κs =
-    let node = c .before .before .before in (node .before .before .loop .inv .1 (node .if1 .left), omega arith)
+    let node = c .before .before .before .before in (node .before .before .loop .inv .1 (node .if1 .left), omega arith)
 
 add-n : tie.Need-add-n Inv-loop μ-loop
 add-n c = omega arith
@@ -72,25 +79,27 @@ loop-less c = omega arith
 loop-again : tie.Need-loop-again Inv-loop μ-loop
 unfolding ℕ-discrete
 loop-again c =
-    let tested = c .before .before in
+    let tested = c .before .before .before in
     let l = tested .before .before .before .before .loop in
     let start = tested .before .before .before .before .before .before in
     let a = start .args in
     let node = tested .before .before .if1 .left in
-    let bag = told tested (not-false (tested .is-bag .result) (c .before .if2 .left)) in (
+    let w = number (a .sought) in
+    let bag = told tested (not-false (tested .is-bag .result) (c .before .before .if2 .left)) in (
       omega arith,
       rw (c .link .ensures) (start .pre .0 .links (l .x) (l .inv .1 node)),
-      rw (c .link .ensures) (count-at-bag (a .ns .now) (a .slots) (l .n) (l .x) (omega arith) node bag ∙ l .inv .2),
+      rw (c .link .ensures, c .before .found-now .ensures, tested .before .value .ensures)
+          (count-at-bag (a .ns .now) w (a .slots) (l .n) (l .x) (l .found) (omega arith) node bag ∙ l .inv .2),
     )
 
 returns-3 : tie.Need-returns-3 Inv-loop μ-loop
 returns-3 c =
     let l = c .before .loop in
     let a = c .before .before .before .args in
-    sym (count-ends (a .ns .now) (a .slots) (l .n) (l .x) (omega arith)) ∙ l .inv .2
+    sym (count-ends (a .ns .now) (number (a .sought)) (a .slots) (l .n) (l .x) (l .found) (omega arith)) ∙ l .inv .2
 
-pub count-spec : {M : Type 1} → statement M
-count-spec =
+pub walk-from-spec : {M : Type 1} → statement M
+walk-from-spec =
     tie.close
     (tie.spec
     Inv-loop
@@ -100,6 +109,7 @@ count-spec =
     value-requires
     is-bag-requires
     returns-2
+    found-now-requires
     link-requires
     add-n
     loop-less

@@ -1,0 +1,42 @@
+-- `beginning::pushes` meets its contract: the record's operation, then its argument.
+use mathlib.Core.Path.{sym, ap, _∙_}
+use native.Mathlib.Decide.{ℕ-discrete}
+use lib.Dec.{eqb}
+use borrow.Author.Needs.{needs}
+use Rattle.machine.specs.Values.{number}
+use Rattle.layout.specs.declared.tasks.Task as Tasks
+use Rattle.shape.proofs.Laws.TableWords.{record-within}
+use Rattle.beginning.proofs.SeenTests.{other-task, push-task}
+use Rattle.beginning.proofs.pushes.Statement.{statement}
+use Rattle.beginning.proofs.pushes.Tie as tie
+
+task-requires : tie.Need-task-requires
+task-requires c κs =
+    let p = c .before in
+    let a = p .args in record-within (a .table .now) (p .pre .0 .length-passes) (a .k) (p .pre .1)
+
+returns : tie.Need-returns
+returns c =
+    let r = c .before .before in
+    let p = r .before .before in
+    let a = p .args in
+    let is = ap (λ (t : Tasks.Task). t .operation) (r .task .ensures) in
+    sym (other-task (a .table .now) (p .pre .0) (a .k) (p .pre .1) (number (a .bag)) (λ e. c .if1 .taken (is ∙ e)))
+
+equal-requires : tie.Need-equal-requires
+equal-requires c κs = search needs
+
+returns-2 : tie.Need-returns-2
+returns-2 c =
+    let e = c .before in
+    let r = e .before .before in
+    let p = r .before .before in
+    let a = p .args in
+    let is = ap (λ (t : Tasks.Task). t .operation) (r .task .ensures) in
+    let holds = ap (λ (t : Tasks.Task). eqb (number (a .bag)) (number (t .argument))) (r .task .ensures) in
+    c .equal .ensures
+    ∙ holds
+    ∙ sym (push-task (a .table .now) (p .pre .0) (a .k) (p .pre .1) (number (a .bag)) (sym is ∙ e .if1 .left))
+
+pub pushes-spec : {M : Type 1} → statement M
+pushes-spec = tie.close (tie.spec task-requires returns equal-requires returns-2)
