@@ -1,15 +1,16 @@
 -- Pushes alone come to "full": each answers, "pushed" puts one bag more into the lane, and there is an end to that.
 use mathlib.Core.Path.{_≡_, refl, sym, ap, _∙_, subst}
 use mathlib.Core.Logic.{_⊎_, inl, inr}
-use mathlib.Core.Bool.{true}
+use mathlib.Core.Bool.{true, false}
 use mathlib.Core.List.{List, [], _∷_}
 use mathlib.Core.Option.{Option, some, none as nothing, bind}
 use Prim.Native.Nat.{ℕ, zero, suc, _+_, _*_, _≤_, _<_}
 use native.Mathlib.Omega.{arith}
 use native.Mathlib.Decide.{ℕ-discrete}
 use lib.ListN.{length, length-append}
-use borrow.Author.Tests.{lt-ltb}
-use Rattle.machine.specs.Values.{number, stored}
+use lib.Dec.{leb}
+use borrow.Author.Tests.{le-leb, lt-ltb}
+use Rattle.machine.specs.Values.{number, stored, largestBag, bagOk}
 use Rattle.machine.specs.declared.Answer.{Answer}
 use Rattle.machine.specs.declared.Answer.the-variants.{Going, Pushed, Bag, Empty, Full, Yes, No, Refused}
 use Rattle.machine.specs.declared.Reply.{Reply}
@@ -19,7 +20,7 @@ use Rattle.machine.specs.Sides.{Side, left, right, sideNumber, sideOf}
 use Rattle.machine.specs.Operations.{Operation, push, operationNumber, operationOf}
 use Rattle.machine.specs.Table.{nodeCount, taskCount, task}
 use Rattle.machine.specs.Answers.{refusalOf}
-use Rattle.machine.specs.Calls.{isBusy, begin, Ticked, tickOn, tick, lane}
+use Rattle.machine.specs.Calls.{isBusy, isBegun, seenRefusal, begin, Ticked, tickOn, tick, lane}
 use Rattle.machine.specs.Row.{Note, Row, put, pushAnswered, feedMade}
 use Rattle.machine.specs.Demand3.{begin-call, feedBegin}
 use Rattle.machine.specs.Begun.{Begun, by-call}
@@ -47,6 +48,7 @@ use Rattle.machine.proofs.Linearizability.Calls.MadeTicks.{MadeTick, made-tick}
 use Rattle.machine.proofs.Linearizability.Calls.CallsAgree.{begin-explained}
 use Rattle.machine.proofs.Linearizability.Corollaries.{begun-agrees, tick-passes, made-passes}
 use Rattle.progress.proofs.SoloBound.Theorem.{closer-solo-bound}
+use Rattle.capacity.proofs.NewNumber.{new-number}
 use Rattle.capacity.proofs.PushesAlone.{OnItsWay, begun-on-its-way}
 use Rattle.capacity.proofs.WhenFull.{ends-made, still-on-its-way, push-answers}
 
@@ -63,7 +65,8 @@ most-bags ws bags B is-lane =
 -- ---- The lane on the way of a push.
 
 -- A begin leaves the lane.
-lane-begun : {ws : List ℕ} → Begun ws → (k op side : ℕ) (argument : Stored) → begin ws k op side argument .reply ≡ Accepted
+lane-begun : {ws : List ℕ} → Begun ws → (k op side : ℕ) (argument : Stored)
+    → begin ws k op side argument .reply ≡ Accepted
     → lane (begin ws k op side argument .words) ≡ lane ws
 lane-begun {ws} B k op side argument accepted =
     let A = begun-agrees B .1 in
@@ -179,24 +182,53 @@ to-answer {k} {ws = ws} (answers-now {h} e) =
     (tick ws k h .answer, tick ws k h .words, ends-now h e refl refl)
 to-answer (answers-later {h} going more) = let r = to-answer more in (r .0, r .1, ends-later h going (r .2))
 
--- Task 0 begins a push of bag 1 where it is idle.
-begins-push : {ws : List ℕ} → Begun ws → Idle ws → (s : Side)
-    → begin ws 0 (operationNumber push) (sideNumber s) (stored 1) .reply ≡ Accepted
-unfolding begin ℕ-discrete
-begins-push {ws} B idle-now left =
-    let A = begun-agrees B .1 in
-    rw (
-      table-passes ws (A .accepted),
-      lt-ltb 0 (taskCount ws) (well-sized ws (A .accepted .length-passes) .one-task),
-      idle-now 0,
-    )
-begins-push {ws} B idle-now right =
-    let A = begun-agrees B .1 in
-    rw (
-      table-passes ws (A .accepted),
-      lt-ltb 0 (taskCount ws) (well-sized ws (A .accepted .length-passes) .one-task),
-      idle-now 0,
-    )
+-- No task is in a push.
+none-begun : (ws : List ℕ) → Idle ws → (m n : ℕ) → isBegun ws m n ≡ false
+unfolding isBegun
+none-begun ws idle-now zero n = refl
+none-begun ws idle-now (suc m) n = rw (idle-now m) (none-begun ws idle-now m n)
+
+-- A bag that is not in the lane.
+module _ {ws : List ℕ} (B : Begun ws) where
+  abbrev bags-now : List ℕ
+  bags-now = begun-agrees B .0 .bags
+
+  abbrev new-bag : ℕ
+  new-bag = new-number bags-now .0
+
+  is-bag : bagOk (stored new-bag) ≡ true
+  is-bag =
+      let x = new-number bags-now in
+      let most = most-bags ws bags-now B (lane-is-row (begun-agrees B .1)) in
+      let few = well-sized ws (begun-agrees B .1 .accepted .length-passes) .most-nodes in
+      rw (le-leb 1 new-bag (x .1), le-leb new-bag largestBag (omega (arith, x .2)))
+
+  -- Task 0 begins a push of it where no task is in a call.
+  begins-push : Idle ws → (s : Side)
+      → begin ws 0 (operationNumber push) (sideNumber s) (stored new-bag) .reply ≡ Accepted
+  unfolding begin ℕ-discrete
+  begins-push idle-now s =
+      let A = begun-agrees B .1 in
+      rw (
+        table-passes ws (A .accepted),
+        lt-ltb 0 (taskCount ws) (well-sized ws (A .accepted .length-passes) .one-task),
+        side-passes s,
+        is-bag,
+        not-twice idle-now,
+        idle-now 0,
+      )
+    where
+      side-passes : (s : Side) → leb (sideNumber s) 1 ≡ true
+      side-passes left = refl
+      side-passes right = refl
+
+      not-twice : Idle ws → (others : Option ℕ) → seenRefusal ws new-bag (lane ws) others ≡ others
+      not-twice idle-now others =
+          rw (
+            lane-is-row (begun-agrees B .1),
+            new-number bags-now .3,
+            none-begun ws idle-now (taskCount ws) new-bag,
+          )
 
 -- A push alone, and what is in the lane afterwards.
 data OnePush (s : Side) (ws bags : List ℕ) : Type 0 where
@@ -206,13 +238,13 @@ data OnePush (s : Side) (ws bags : List ℕ) : Type 0 where
 
 module _ {ws : List ℕ} (B : Begun ws) (idle-now : Idle ws) (s : Side) where
   abbrev begun-words : List ℕ
-  begun-words = begin ws 0 (operationNumber push) (sideNumber s) (stored 1) .words
+  begun-words = begin ws 0 (operationNumber push) (sideNumber s) (stored (new-bag B)) .words
 
   B′ : Begun begun-words
-  B′ = by-call B (begin-call 0 (operationNumber push) (sideNumber s) (stored 1))
+  B′ = by-call B (begin-call 0 (operationNumber push) (sideNumber s) (stored (new-bag B)))
 
   on-its-way : OnItsWay B s 0 begun-words
-  on-its-way = begun-on-its-way B s 0 idle-now 1 (begins-push B idle-now s)
+  on-its-way = begun-on-its-way B s 0 idle-now (new-bag B) (begins-push B idle-now s)
 
   answer : (a : Answer) × (vs : List ℕ) × AloneTo 0 a vs begun-words
   answer =
@@ -226,16 +258,16 @@ module _ {ws : List ℕ} (B : Begun ws) (idle-now : Idle ws) (s : Side) where
   push-of q =
       record {
         k = 0;
-        bag = 1;
+        bag = new-bag B;
         begins = begins-push B idle-now s;
         alone = subst (λ (a : Answer). AloneTo 0 a (answer .1) begun-words) q (answer .2);
       }
 
   one-push : (bags : List ℕ) → lane ws ≡ some bags → OnePush s ws bags
   one-push bags is-lane =
-      elim
-      (gives B s 0 on-its-way
-      (lane-begun B 0 (operationNumber push) (sideNumber s) (stored 1) (begins-push B idle-now s) ∙ is-lane) (answer .2)) [
+      let begins = begins-push B idle-now s in
+      let same-lane = lane-begun B 0 (operationNumber push) (sideNumber s) (stored (new-bag B)) begins in
+      elim (gives B s 0 on-its-way (same-lane ∙ is-lane) (answer .2)) [
         | inl p ↦ pushes-one (push-of (p .0)) (p .1 .1) (p .1 .2)
         | inr q ↦ is-full-now (push-of q)
       ]

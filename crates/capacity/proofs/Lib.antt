@@ -20,4 +20,5 @@ pub mod PushEffects
 pub mod PushesAlone
 pub mod WhenFull
 pub mod Capacity
+pub mod NewNumber
 pub mod FillsUp
