@@ -14,3 +14,5 @@ pub mod Theorem
 pub mod Histories
 pub mod Corollaries
 pub mod Begun
+-- No bag number twice.
+pub mod Twice

@@ -19,4 +19,5 @@ pub mod FirstFree
 pub mod Row
 pub mod Demand3
 pub mod Begun
+pub mod Twice
 pub mod Unseen

@@ -1,7 +1,7 @@
 -- Corollaries of demand 3: refusals that are never met, nodes that are never taken, runs by their ticks, bags counted.
 use mathlib.Core.Path.{_≡_, refl, sym, ap, _∙_, subst}
 use mathlib.Core.Logic.{_≢_}
-use mathlib.Core.Bool.{Bool, true, false, _&&_}
+use mathlib.Core.Bool.{Bool, true, false, not, _&&_, _||_}
 use mathlib.Core.List.{List, [], _∷_, _++_}
 use mathlib.Core.Option.{Option, some, none as nothing}
 use Prim.Native.Nat.{ℕ, zero, suc, _+_, _%_, _≤_, _<_}
@@ -10,25 +10,37 @@ use lib.Dec.{leb, ltb, eqb}
 use lib.ListN.{length, drop}
 use borrow.Author.Tests.{le-leb, lt-leb}
 use Rattle.machine.specs.declared.Answer.the-variants.{Refused}
-use Rattle.machine.specs.declared.Reply.the-variants.{Accepted}
+use Rattle.machine.specs.declared.Reply.the-variants.{Accepted, Refused as Reply-Refused}
 use Rattle.machine.specs.declared.Reading.the-variants.{Count}
+use Rattle.machine.specs.declared.Stored.{Stored}
+use Rattle.machine.specs.Sides.{sideOf}
+use Rattle.machine.specs.Values.{number}
+use Rattle.machine.specs.Operations.{Operation, idle, push, pop, add, remove, operationOf, argumentOk}
 use Rattle.machine.specs.Tasks.{none, Register, register}
 use Rattle.machine.specs.Registers.{holds}
-use Rattle.machine.specs.Table.{nodeCount, taskCount, task}
+use Rattle.machine.specs.Table.{nodeCount, taskCount, task, setTask}
 use Rattle.machine.specs.Shape.{lengthOk, shapeOk}
 use Rattle.machine.specs.Reach.{Reachable, from-register}
 use Rattle.machine.specs.Allocate.{allocate}
 use Rattle.machine.specs.Answers.{refusalOf}
 use Rattle.machine.specs.Calls.{
   unless,
+  isIdle,
   isBusy,
   tableRefusal,
+  isAmong,
+  isBegun,
+  twiceRefusal,
+  beginRefusal,
   tickRefusal,
   listRefusal,
   roomRefusal,
   runRefusal,
   panelRefusal,
+  changed,
   start,
+  begunTask,
+  begin,
   Ticked,
   tickOn,
   tick,
@@ -65,7 +77,7 @@ use Rattle.machine.proofs.Shape.ShapeKept.{is-accepted, table-passes}
 use Rattle.machine.proofs.SlotRule.Reached.{node-not-none, reachable-node}
 use Rattle.machine.proofs.SlotRule.FirstFree.{allocate-first-free, allocate-none}
 use Rattle.machine.proofs.Words.TickLaws.{tick-stopped}
-use Rattle.machine.proofs.Linearizability.Calls.Agreement.{Agrees}
+use Rattle.machine.proofs.Linearizability.Calls.Agreement.{Agrees, lane-is-row}
 use Rattle.machine.proofs.Linearizability.Calls.MadeTicks.{well-linked, made-tick}
 use Rattle.machine.proofs.Linearizability.Calls.CallsAgree.{tick-explained}
 use Rattle.machine.proofs.Linearizability.Theorem.{call-explained, started-agrees, demand3}
@@ -126,6 +138,40 @@ pub no-tick-refused-with-11 : {ws : List ℕ} → Begun ws → (k h : ℕ) → t
 no-tick-refused-with-11 B k h e =
     let A = begun-agrees B .1 in
     tick-not-11 A k h (ap (λ (r : Ticked). refusalOf (r .answer)) (sym (tick-passes A k h)) ∙ ap refusalOf e)
+
+-- 2026-03: nor a begin, which walks the lane.
+module _ {ws : List ℕ} (B : Begun ws) (k op side : ℕ) (argument : Stored) where
+  twice-not-11 : (o : Operation) (others : Option ℕ) → others ≢ some 11
+      → twiceRefusal ws o (number argument) others ≢ some 11
+  twice-not-11 push others later =
+      let n = number argument in
+      let bags = begun-agrees B .0 .bags in
+      rw (lane-is-row (begun-agrees B .1))
+      (other-number (not (isAmong n bags || isBegun ws (taskCount ws) n)) {n = 16} (λ e. omega arith) later)
+  twice-not-11 idle others later = later
+  twice-not-11 pop others later = later
+  twice-not-11 add others later = later
+  twice-not-11 remove others later = later
+
+  pub no-begin-refused-with-11 : begin ws k op side argument .reply ≢ Reply-Refused 11
+  unfolding begin
+  no-begin-refused-with-11 = go (beginRefusal ws k op side argument) tests
+    where
+      tests : beginRefusal ws k op side argument ≢ some 11
+      tests =
+          other-number (lengthOk ws) (λ e. omega arith)
+          (other-number (shapeOk ws) (λ e. omega arith)
+          (other-number (ltb k (taskCount ws)) (λ e. omega arith)
+          (other-number (leb 1 op && leb op 4 && leb side 1) (λ e. omega arith)
+          (other-number (argumentOk (operationOf op) argument) (λ e. omega arith)
+          (twice-not-11 (operationOf op) _
+          (other-number (isIdle (task ws k .operation)) (λ e. omega arith) not-refused))))))
+
+      go : (r : Option ℕ) → r ≢ some 11
+          → changed r ws (setTask k (begunTask (operationOf op) (sideOf side) (number argument)) ws) .reply
+          ≢ Reply-Refused 11
+      go (some n) f = λ e. let same : n ≡ 11 = cc in f (ap some same)
+      go nothing f = λ e. refute (cc)
 
 -- A list is refused by its own tests, or by the tick at which it stops.
 ticks-not-11 : (list : List ℕ) {ws : List ℕ} {ρ : Row} (answers : List ℕ) → Agrees ws ρ

@@ -73,7 +73,7 @@ use Rattle.machine.proofs.Basics.Contradiction.{clash}
 -- ---- Bags counted.
 
 -- A bag put at either end is in the row once more.
-count-put : (s : Side) (x b : ℕ) (bags : List ℕ) → count b (put s x bags) ≡ count b (x ∷ bags)
+pub count-put : (s : Side) (x b : ℕ) (bags : List ℕ) → count b (put s x bags) ≡ count b (x ∷ bags)
 unfolding count
 count-put left x b bags = refl
 count-put right x b [] = refl
@@ -88,7 +88,7 @@ first-taken x (y ∷ bags) bags′ e = go (y ≟ x) e
     go (yes h) e = cc
     go (no h) e = clash (cc)
 
-bag-taken : (s : Side) (x : ℕ) (bags bags′ : List ℕ) → takeBag s x bags ≡ some bags′ → bags ≡ put s x bags′
+pub bag-taken : (s : Side) (x : ℕ) (bags bags′ : List ℕ) → takeBag s x bags ≡ some bags′ → bags ≡ put s x bags′
 bag-taken left x bags bags′ e = first-taken x bags bags′ e
 bag-taken right x bags bags′ e = go (takeFirst x (reverse bags)) refl e
   where
@@ -170,13 +170,13 @@ module _ (b : ℕ) (s : Side) (v : ℕ) (bags bags′ : List ℕ) (fs : List Fin
   answer-balanced remove a e = size-balanced a e
 
 -- ---- What the row keeps and what the history keeps, call by call.
-bound : {T U : Type 0} (o : Option T) (f : T → Option U) {y : U} → bind o f ≡ some y
+pub bound : {T U : Type 0} (o : Option T) (f : T → Option U) {y : U} → bind o f ≡ some y
     → (x : T) × (o ≡ some x) × (f x ≡ some y)
 unfolding bind
 bound nothing f e = clash (cc)
 bound (some x) f e = (x, refl, e)
 
-mapped : {T U : Type 0} (o : Option T) (f : T → U) {y : U} → Option·map f o ≡ some y
+pub mapped : {T U : Type 0} (o : Option T) (f : T → U) {y : U} → Option·map f o ≡ some y
     → (x : T) × (o ≡ some x) × (f x ≡ y)
 mapped nothing f e = clash (cc)
 mapped (some x) f e = (x, refl, cc)
@@ -240,6 +240,21 @@ run-recorded (suc n) (k ∷ h ∷ list) (kind ∷ payload ∷ answers) {ρ} R e 
     let m = bound (feedMade ρ k (a .0)) _ (a .2) in
     rw (a .1, recordRun) (run-recorded n list answers (made-recorded R k (a .0) (m .1)) (m .2))
 
+-- A read leaves the row.
+pub same-when-read : (ρ : Row) (out : List ℕ) (x : Reading) (written : List ℕ) {ρ′ : Row}
+    → feedRead ρ out x written ≡ some ρ′
+    → ρ ≡ ρ′
+same-when-read ρ out x written {ρ′} e = go x e
+  where
+    kept : (b : Bool) → cond b (some ρ) nothing ≡ some ρ′ → ρ ≡ ρ′
+    kept true q = cc
+    kept false q = clash (cc)
+
+    go : (x : Reading) → feedRead ρ out x written ≡ some ρ′ → ρ ≡ ρ′
+    go (Count n) q =
+        kept (eqb n (length (ρ .bags)) && leb n (length out) && sameWords (take n written) (ρ .bags)) q
+    go (Reading-Refused n) q = kept (eqb n 12 && ltb (length out) (length (ρ .bags))) q
+
 pub call-recorded : (c : Call) (r : Given c) {ρ ρ′ : Row} {η : History} → Recorded ρ η → feed ρ c r ≡ some ρ′
     → Recorded ρ′ (recordCall η c r)
 unfolding feedTick
@@ -261,13 +276,5 @@ call-recorded (tick-call k h) a {ρ} {ρ′} {η} R e = go (refusalOf a) e
     go nothing q = made-recorded R k a q
 call-recorded (run-call list answers) r R e = run-recorded (r .0 .made) list (r .1) R e
 call-recorded (panel-call list answers) r R e = run-recorded (r .0 .made) list (r .1) R e
-call-recorded (read-call out) r {ρ} {ρ′} {η} R e = go (r .0) e
-  where
-    kept : (b : Bool) → cond b (some ρ) nothing ≡ some ρ′ → Recorded ρ′ η
-    kept true q = same-row q R
-    kept false q = clash (cc)
-
-    go : (x : Reading) → feedRead ρ out x (r .1) ≡ some ρ′ → Recorded ρ′ η
-    go (Count n) q =
-        kept (eqb n (length (ρ .bags)) && leb n (length out) && sameWords (take n (r .1)) (ρ .bags)) q
-    go (Reading-Refused n) q = kept (eqb n 12 && ltb (length out) (length (ρ .bags))) q
+call-recorded (read-call out) r {ρ} {ρ′} {η} R e =
+    subst (λ (x : Row). Recorded x η) (same-when-read ρ out (r .0) (r .1) e) R

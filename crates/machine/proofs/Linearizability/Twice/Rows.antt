@@ -1,0 +1,308 @@
+-- The row has no bag twice, whatever it is fed, where accepted begins of pushes are of bags that it has not seen.
+use mathlib.Core.Path.{_≡_, refl, sym, ap, _∙_, subst}
+use mathlib.Core.Logic.{_≢_, inl, inr}
+use mathlib.Core.Bool.{Bool, true, false, cond}
+use mathlib.Core.List.{List, [], _∷_}
+use mathlib.Core.Option.{Option, some, none as nothing, Option·map}
+use Prim.Native.Nat.{ℕ, zero, suc, _≤_}
+use native.Mathlib.Omega.{arith}
+use Rattle.machine.specs.declared.Answer.{Answer}
+use Rattle.machine.specs.declared.Answer.the-variants.{Going, Pushed, Bag, Empty, Full, Yes, No, Refused}
+use Rattle.machine.specs.declared.Reply.the-variants.{Accepted, Refused as Reply-Refused}
+use Rattle.machine.specs.Choice.{_≟_, if_then_else_}
+use Rattle.machine.specs.Sides.{Side, sideOf}
+use Rattle.machine.specs.Values.{number}
+use Rattle.machine.specs.Operations.{Operation, idle, push, pop, add, remove, operationOf}
+use Rattle.machine.specs.Answers.{refusalOf, answerOf}
+use Rattle.machine.specs.Calls.{isAmong}
+use Rattle.machine.specs.Row.{
+  Note,
+  Row,
+  emptyRow,
+  noted,
+  put,
+  pushAnswered,
+  popAnswered,
+  sizeAnswered,
+  answeredBy,
+  answered,
+  isGoing,
+  feedMade,
+  feedRun,
+}
+use Rattle.machine.specs.Demand3.{
+  Call,
+  start-call,
+  begin-call,
+  tick-call,
+  run-call,
+  panel-call,
+  read-call,
+  Given,
+  feedTick,
+  feed,
+}
+use Rattle.machine.specs.Begun.{count}
+use Rattle.machine.specs.Twice.{PushNoted, OnceInRow, SeenIn}
+use Rattle.machine.proofs.Basics.Contradiction.{clash, equal?}
+use Rattle.machine.proofs.Linearizability.Histories.{count-put, bag-taken, bound, mapped, same-when-read}
+use Rattle.machine.proofs.Linearizability.Twice.Lists.{
+  not-counted,
+  not-among,
+  count-first,
+  count-other,
+  count-more,
+  places-differ,
+}
+
+-- No bag is twice in the row or in noted pushes, counted.
+pub record Once (ρ : Row) : Type 0 where
+  pub at-most-once : (b : ℕ) → count b (ρ .bags) ≤ 1
+  pub not-yet : (k b : ℕ) → PushNoted ρ k b → count b (ρ .bags) ≡ 0
+  pub one-task : (j k b : ℕ) → PushNoted ρ j b → PushNoted ρ k b → j ≡ k
+
+pub once-in-row : {ρ : Row} → Once ρ → OnceInRow ρ
+once-in-row {ρ} O =
+    record {
+      different = places-differ (ρ .bags) (O .at-most-once);
+      not-in-row = λ k b n. not-among b (ρ .bags) (O .not-yet k b n);
+      one-task = O .one-task;
+    }
+
+same-row : {ρ ρ′ : Row} → some ρ ≡ some ρ′ → Once ρ → Once ρ′
+same-row {ρ} {ρ′} e O = let q : ρ ≡ ρ′ = cc in subst Once q O
+
+pub once-empty : Once emptyRow
+unfolding count
+once-empty =
+    record {
+      at-most-once = λ b. omega arith;
+      not-yet = λ k b n. refl;
+      one-task = λ j k b n m. clash (cc (n .note-is));
+    }
+
+-- ---- Notes, with one replaced.
+data NotedThere (ρ : Row) (k : ℕ) (m : Option Note) (j b : ℕ) : Type 0 where
+  the-new-one :
+      j ≡ k → (s : Side) → m ≡ some (record { operation = push; side = s; argument = b }) → NotedThere ρ k m j b
+  one-before : j ≢ k → PushNoted ρ j b → NotedThere ρ k m j b
+
+noted-there : (ρ : Row) (k : ℕ) (m : Option Note) (j b : ℕ) → PushNoted (noted ρ k m) j b → NotedThere ρ k m j b
+noted-there ρ k m j b N = go (j ≟ k) (N .note-is)
+  where
+    go : (d : Dec (j ≡ k))
+        → (if d then m else ρ .notes j) ≡ some (record { operation = push; side = N .side; argument = b })
+        → NotedThere ρ k m j b
+    go (yes e) q = the-new-one e (N .side) q
+    go (no n) q = one-before n (record { side = N .side; note-is = q })
+
+-- ---- Begin.
+
+-- An accepted begin of a push is of a bag that the row has not seen.
+abbrev pub NewWhereBegun : Row → (c : Call) → Given c → Type 0
+NewWhereBegun ρ (begin-call k op side argument) Accepted = operationOf op ≡ push → SeenIn ρ (number argument) → ⊥
+NewWhereBegun ρ (begin-call k op side argument) (Reply-Refused n) = Unit {0}
+NewWhereBegun ρ (start-call S T g) r = Unit {0}
+NewWhereBegun ρ (tick-call k h) r = Unit {0}
+NewWhereBegun ρ (run-call list answers) r = Unit {0}
+NewWhereBegun ρ (panel-call list answers) r = Unit {0}
+NewWhereBegun ρ (read-call out) r = Unit {0}
+
+module _ {ρ : Row} (O : Once ρ) (k : ℕ) (n : Note) (new : n .operation ≡ push → SeenIn ρ (n .argument) → ⊥) where
+  -- A note of the new push is of a bag not seen.
+  new-bag : (b : ℕ) (s : Side) → some n ≡ some (record { operation = push; side = s; argument = b }) → SeenIn ρ b → ⊥
+  new-bag b s e seen =
+      let same : n ≡ record { operation = push; side = s; argument = b } = cc in
+      new (ap (λ (m : Note). m .operation) same) (subst (SeenIn ρ) (sym (ap (λ (m : Note). m .argument) same)) seen)
+
+  not-there : (b : ℕ) → (SeenIn ρ b → ⊥) → count b (ρ .bags) ≡ 0
+  not-there b unseen = not-counted b (ρ .bags) (go (isAmong b (ρ .bags)) refl)
+    where
+      go : (t : Bool) → isAmong b (ρ .bags) ≡ t → isAmong b (ρ .bags) ≡ false
+      go true e = absurd (unseen (inl e))
+      go false e = e
+
+  once-begun : Once (noted ρ k (some n))
+  once-begun =
+      record {
+        at-most-once = O .at-most-once;
+        not-yet = λ j b N.
+            elim (noted-there ρ k (some n) j b N) [
+              | the-new-one e s q ↦ not-there b (new-bag b s q)
+              | one-before ne M ↦ O .not-yet j b M
+            ];
+        one-task = λ i j b N M.
+            elim (noted-there ρ k (some n) i b N) [
+              | the-new-one e s q ↦
+                  elim (noted-there ρ k (some n) j b M) [
+                    | the-new-one d z p ↦ e ∙ sym d
+                    | one-before nd M′ ↦ absurd (new-bag b s q (inr (j, M′)))
+                  ]
+              | one-before ne N′ ↦
+                  elim (noted-there ρ k (some n) j b M) [
+                    | the-new-one d z p ↦ absurd (new-bag b z p (inr (i, N′)))
+                    | one-before nd M′ ↦ O .one-task i j b N′ M′
+                  ]
+            ];
+      }
+
+-- ---- Ticks.
+
+-- What an answer leaves in the row: no more of any bag; or, where a push is answered, its bag once more.
+data Leaves (n : Note) (bags bags′ : List ℕ) : Type 0 where
+  no-more : ((b : ℕ) → count b bags′ ≤ count b bags) → Leaves n bags bags′
+  one-more :
+      n .operation ≡ push → ((b : ℕ) → count b bags′ ≡ count b (n .argument ∷ bags)) → Leaves n bags bags′
+
+module _ (n : Note) (bags bags′ : List ℕ) where
+  the-same : some bags ≡ some bags′ → Leaves n bags bags′
+  the-same e = let q : bags ≡ bags′ = cc in no-more (λ b. rw (← q) (omega arith))
+
+  size-leaves : (a : Answer) → sizeAnswered a bags ≡ some bags′ → Leaves n bags bags′
+  unfolding sizeAnswered
+  size-leaves Yes e = the-same e
+  size-leaves No e = the-same e
+  size-leaves Going e = clash (cc)
+  size-leaves Pushed e = clash (cc)
+  size-leaves (Bag x) e = clash (cc)
+  size-leaves Empty e = clash (cc)
+  size-leaves Full e = clash (cc)
+  size-leaves (Refused r) e = clash (cc)
+
+  push-leaves : (a : Answer) → n .operation ≡ push → pushAnswered n a bags ≡ some bags′ → Leaves n bags bags′
+  unfolding pushAnswered
+  push-leaves Pushed is-push e =
+      let q : put (n .side) (n .argument) bags ≡ bags′ = cc in
+      one-more is-push (λ b. rw (← q) (count-put (n .side) (n .argument) b bags))
+  push-leaves Full is-push e = the-same e
+  push-leaves Going is-push e = clash (cc)
+  push-leaves (Bag x) is-push e = clash (cc)
+  push-leaves Empty is-push e = clash (cc)
+  push-leaves Yes is-push e = clash (cc)
+  push-leaves No is-push e = clash (cc)
+  push-leaves (Refused r) is-push e = clash (cc)
+
+  pop-leaves : (a : Answer) → popAnswered n a bags ≡ some bags′ → Leaves n bags bags′
+  unfolding popAnswered
+  pop-leaves (Bag x) e =
+      let q = bag-taken (n .side) x bags bags′ e in
+      no-more (λ b.
+      let c = count-put (n .side) x b bags′ in
+      let m = count-more b x bags′ in
+      rw q (omega arith))
+  pop-leaves Empty e = go bags e
+    where
+      go : (l : List ℕ) → popAnswered n Empty l ≡ some bags′ → Leaves n l bags′
+      go [] q = let same : [] ≡ bags′ = cc in no-more (λ b. rw (← same) (omega arith))
+      go (x ∷ l) q = clash (cc)
+  pop-leaves Going e = clash (cc)
+  pop-leaves Pushed e = clash (cc)
+  pop-leaves Full e = clash (cc)
+  pop-leaves Yes e = clash (cc)
+  pop-leaves No e = clash (cc)
+  pop-leaves (Refused r) e = clash (cc)
+
+  answer-leaves : (a : Answer) → answered n a bags ≡ some bags′ → Leaves n bags bags′
+  answer-leaves a = go (n .operation) refl
+    where
+      go : (op : Operation) → n .operation ≡ op → answeredBy op n a bags ≡ some bags′ → Leaves n bags bags′
+      go idle is e = clash (cc)
+      go push is e = push-leaves a is e
+      go pop is e = pop-leaves a e
+      go add is e = size-leaves a e
+      go remove is e = size-leaves a e
+
+module _ {ρ : Row} (O : Once ρ) (k : ℕ) (n : Note) (is-noted : ρ .notes k ≡ some n) (bags : List ℕ) where
+  abbrev ended : Row
+  ended = noted (record { bags = bags; notes = ρ .notes }) k nothing
+
+  -- The other tasks' notes are as they were.
+  others : (j b : ℕ) → PushNoted ended j b → (j ≢ k) × PushNoted ρ j b
+  others j b N =
+      elim (noted-there (record { bags = bags; notes = ρ .notes }) k nothing j b N) [
+        | the-new-one e s q ↦ clash (cc)
+        | one-before ne M ↦ (ne, record { side = M .side; note-is = M .note-is })
+      ]
+
+  one-task-ended : (i j b : ℕ) → PushNoted ended i b → PushNoted ended j b → i ≡ j
+  one-task-ended i j b N M = O .one-task i j b (others i b N .1) (others j b M .1)
+
+  own-push : n .operation ≡ push → PushNoted ρ k (n .argument)
+  own-push is-push =
+      record {
+        side = n .side;
+        note-is =
+            is-noted
+            ∙ ap (λ (op : Operation). some (record { operation = op; side = n .side; argument = n .argument })) is-push;
+      }
+
+  once-ended : Leaves n (ρ .bags) bags → Once ended
+  once-ended (no-more fewer) =
+      record {
+        at-most-once = λ b. omega (arith, fewer b, O .at-most-once b);
+        not-yet = λ j b N. omega (arith, fewer b, O .not-yet j b (others j b N .1));
+        one-task = one-task-ended;
+      }
+  once-ended (one-more is-push counts) =
+      record {
+        at-most-once = λ b.
+            elim (equal? (n .argument) b) [
+              | inl e ↦
+                  let none-before = O .not-yet k b (subst (PushNoted ρ k) e (own-push is-push)) in
+                  omega (arith, counts b, count-first b (n .argument) (ρ .bags) e)
+              | inr ne ↦ omega (arith, counts b, count-other b (n .argument) (ρ .bags) ne, O .at-most-once b)
+            ];
+        not-yet = λ j b N.
+            let M = others j b N in
+            elim (equal? (n .argument) b) [
+              | inl e ↦ absurd (M .0 (O .one-task j k b (M .1) (subst (PushNoted ρ k) e (own-push is-push))))
+              | inr ne ↦ counts b ∙ count-other b (n .argument) (ρ .bags) ne ∙ O .not-yet j b (M .1)
+            ];
+        one-task = one-task-ended;
+      }
+
+once-made : {ρ ρ′ : Row} → Once ρ → (k : ℕ) (a : Answer) → feedMade ρ k a ≡ some ρ′ → Once ρ′
+unfolding feedMade
+once-made {ρ} {ρ′} O k a e = let n = bound (ρ .notes k) _ e in by-answer (n .0) (n .1) (isGoing a) (n .2)
+  where
+    by-answer : (n : Note) → ρ .notes k ≡ some n → (g : Bool)
+        → cond g (some ρ)
+        (Option·map (λ bags. noted (record { bags = bags; notes = ρ .notes }) k nothing) (answered n a (ρ .bags)))
+        ≡ some ρ′
+        → Once ρ′
+    by-answer n is true q = same-row q O
+    by-answer n is false q =
+        let x = mapped (answered n a (ρ .bags)) _ q in
+        same-row (ap some (x .2)) (once-ended O k n is (x .0) (answer-leaves n (ρ .bags) (x .0) a (x .1)))
+
+once-run : (n : ℕ) (list answers : List ℕ) {ρ ρ′ : Row} → Once ρ → feedRun ρ n list answers ≡ some ρ′ → Once ρ′
+unfolding feedRun
+once-run zero list answers O e = same-row e O
+once-run (suc n) [] answers O e = clash (cc)
+once-run (suc n) (k ∷ []) answers O e = clash (cc)
+once-run (suc n) (k ∷ h ∷ list) [] O e = clash (cc)
+once-run (suc n) (k ∷ h ∷ list) (kind ∷ []) O e = clash (cc)
+once-run (suc n) (k ∷ h ∷ list) (kind ∷ payload ∷ answers) {ρ} O e =
+    let a = bound (answerOf kind payload) _ e in
+    let m = bound (feedMade ρ k (a .0)) _ (a .2) in
+    once-run n list answers (once-made O k (a .0) (m .1)) (m .2)
+
+-- ---- Every call.
+pub once-fed : (c : Call) (r : Given c) {ρ ρ′ : Row} → Once ρ → NewWhereBegun ρ c r → feed ρ c r ≡ some ρ′ → Once ρ′
+unfolding feedTick
+once-fed (start-call S T g) Accepted O new e = same-row e once-empty
+once-fed (start-call S T g) (Reply-Refused n) O new e = same-row e O
+once-fed (begin-call k op side argument) Accepted O new e =
+    same-row e
+    (once-begun O k (record { operation = operationOf op; side = sideOf side; argument = number argument }) new)
+once-fed (begin-call k op side argument) (Reply-Refused n) O new e = same-row e O
+once-fed (tick-call k h) a {ρ} {ρ′} O new e = go (refusalOf a) e
+  where
+    go : (o : Option ℕ)
+        → elim o as (λ _. Option Row) [ some n ↦ some ρ | nothing ↦ feedMade ρ k a ] ≡ some ρ′
+        → Once ρ′
+    go (some n) q = same-row q O
+    go nothing q = once-made O k a q
+once-fed (run-call list answers) r O new e = once-run (r .0 .made) list (r .1) O e
+once-fed (panel-call list answers) r O new e = once-run (r .0 .made) list (r .1) O e
+once-fed (read-call out) r {ρ} O new e = subst Once (same-when-read ρ out (r .0) (r .1) e) O

@@ -1,0 +1,102 @@
+-- Request 2026-03: no bag number twice. What that is for a row, for a table and for the calls that lead there.
+use mathlib.Core.Path.{_≡_}
+use mathlib.Core.Logic.{_⊎_}
+use mathlib.Core.Bool.{true, false}
+use mathlib.Core.List.{List, [], _∷_}
+use mathlib.Core.Option.{Option, some, bind}
+use Prim.Native.Nat.{ℕ, _<_}
+use lib.ListN.{length, getD}
+use Rattle.machine.specs.declared.Reply.the-variants.{Accepted, Refused as Reply-Refused}
+use Rattle.machine.specs.declared.Stored.{Stored}
+use Rattle.machine.specs.Sides.{Side, sideNumber}
+use Rattle.machine.specs.Values.{number, bagOk}
+use Rattle.machine.specs.Operations.{push, operationNumber}
+use Rattle.machine.specs.Table.{taskCount, task}
+use Rattle.machine.specs.Calls.{isAmong, start, begin, lane}
+use Rattle.machine.specs.Row.{Row, emptyRow}
+use Rattle.machine.specs.Demand3.{Call, given, after, feed, afterTicks}
+use Rattle.machine.specs.Begun.{Begun, afterAll}
+
+-- No number is in two places of a list.
+abbrev pub AllDifferent : List ℕ → Type 0
+AllDifferent l = (i j : ℕ) → i < length l → j < length l → getD l i 0 ≡ getD l j 0 → i ≡ j
+
+-- ---- Tables.
+
+-- 02: "no reachable table holds a bag number in two places of its lane".
+abbrev pub NoTwice : Type 0
+NoTwice = (ws : List ℕ) → Begun ws → (bags : List ℕ) → lane ws ≡ some bags → AllDifferent bags
+
+-- Nor does a table inside a run or inside the panel's list, after any of its ticks.
+abbrev pub NoTwiceInside : Type 0
+NoTwiceInside =
+    (ws : List ℕ)
+    → Begun ws
+    → (i : ℕ) (list bags : List ℕ)
+    → lane (afterTicks i list ws) ≡ some bags
+    → AllDifferent bags
+
+-- What makes it last: the argument of a busy push is not in the lane, and no two busy pushes have the same.
+pub record OnceInTable (ws : List ℕ) : Type 0 where
+  pub bags : List ℕ
+  pub lane-is : lane ws ≡ some bags
+  pub different : AllDifferent bags
+  pub not-in-lane : (k : ℕ) → task ws k .operation ≡ push → isAmong (task ws k .argument) bags ≡ false
+  pub one-task :
+      (j k : ℕ)
+      → task ws j .operation ≡ push
+      → task ws k .operation ≡ push
+      → task ws j .argument ≡ task ws k .argument
+      → j ≡ k
+
+abbrev pub TablesHaveOnce : Type 0
+TablesHaveOnce = (ws : List ℕ) → Begun ws → OnceInTable ws
+
+-- ---- Rows.
+
+-- Task k has a note of a push of bag b.
+pub record PushNoted (ρ : Row) (k b : ℕ) : Type 0 where
+  pub side : Side
+  pub note-is : ρ .notes k ≡ some (record { operation = push; side = side; argument = b })
+
+-- The same of a row and its notes.
+pub record OnceInRow (ρ : Row) : Type 0 where
+  pub different : AllDifferent (ρ .bags)
+  pub not-in-row : (k b : ℕ) → PushNoted ρ k b → isAmong b (ρ .bags) ≡ false
+  pub one-task : (j k b : ℕ) → PushNoted ρ j b → PushNoted ρ k b → j ≡ k
+
+-- The row fed a list of calls, each with what it gives on the table as the one before left it.
+unfoldable pub rowAfter : List Call → List ℕ → Row → Option Row
+rowAfter [] ws ρ = some ρ
+rowAfter (c ∷ cs) ws ρ = bind (feed ρ c (given c ws)) (λ ρ′. rowAfter cs (after c ws) ρ′)
+
+-- The row that explains the calls since an accepted start.
+pub record RowSince (ws : List ℕ) (ρ : Row) : Type 0 where
+  pub S : ℕ
+  pub T : ℕ
+  pub growth : ℕ
+  pub old : List ℕ
+  pub accepted : start old S T growth .reply ≡ Accepted
+  pub calls : List Call
+  pub leads-to : afterAll calls (start old S T growth .words) ≡ ws
+  pub row-is : rowAfter calls (start old S T growth .words) emptyRow ≡ some ρ
+
+abbrev pub RowsHaveOnce : Type 0
+RowsHaveOnce = (ws : List ℕ) (ρ : Row) → RowSince ws ρ → OnceInRow ρ
+
+-- ---- Begin.
+
+-- The bag is in the row, or a noted push will put it there.
+abbrev pub SeenIn : Row → ℕ → Type 0
+SeenIn ρ b = (isAmong b (ρ .bags) ≡ true) ⊎ ((k : ℕ) × PushNoted ρ k b)
+
+-- A begin of a push that passes 5, 6 and 7 is refused with 16 exactly when the row has seen the bag.
+abbrev pub RefusedWhenSeen : Type 0
+RefusedWhenSeen =
+    (ws : List ℕ) (ρ : Row)
+    → RowSince ws ρ
+    → (k : ℕ) (s : Side) (argument : Stored)
+    → k < taskCount ws
+    → bagOk argument ≡ true
+    → (begin ws k (operationNumber push) (sideNumber s) argument .reply ≡ Reply-Refused 16 → SeenIn ρ (number argument))
+    × (SeenIn ρ (number argument) → begin ws k (operationNumber push) (sideNumber s) argument .reply ≡ Reply-Refused 16)
