@@ -27,27 +27,37 @@ use Rattle.machine.specs.Calls.{
   laneFrom,
   lane,
 }
-use Rattle.refuted.specs.Machines.{tickOnBy, tickBy, runOnBy, runBy, panelBy, afterTicksBy}
-use Rattle.refuted.specs.Wrong.{ended, wholeOn, touchesNothing, heldFromBy, leftwards}
+use Rattle.refuted.specs.Machines.{beginBy, tickOnBy, tickBy, runOnBy, runBy, panelBy, afterTicksBy}
+use Rattle.refuted.specs.Wrong.{ended, wholeOn, touchesNothing, heldFromBy, leftwards, isArgument}
 use Rattle.refuted.specs.Judged.{byRow, byDefinitions, afterAllBy, goingAlone, freeBelow}
-use Rattle.refuted.specs.Lists.{AllRefuted, judged, Spins, Leaks}
+use Rattle.refuted.specs.Lists.{AllRefuted, judged, Spins, Leaks, Doubles}
 
 pub all-refuted : AllRefuted
-unfolding judged byRow byDefinitions ended wholeOn touchesNothing heldFromBy leftwards tickOnBy tickBy runOnBy runBy
-    panelBy afterTicksBy feedTick pushAnswered popAnswered sizeAnswered feedMade feedRun bind plainAnswerOf answerOf
-    ℕ-discrete decLt decLe Value-discrete decode stepIn stepOf isStepIn link value task allBelow sameWords nodeOk
-    busyOk recordOk shapeOk heldFrom roots mark markAll visit visitFrom marked firstUnmarked allocate writeAll dcas act
-    times startWords start begin effectOf applied tickOn tick runOn run panel isBegun laneFrom lane
+unfolding judged byRow byDefinitions ended wholeOn touchesNothing heldFromBy leftwards isArgument beginBy tickOnBy
+    tickBy runOnBy runBy panelBy afterTicksBy feedTick pushAnswered popAnswered sizeAnswered feedMade feedRun bind
+    plainAnswerOf answerOf ℕ-discrete decLt decLe Value-discrete decode stepIn stepOf isStepIn link value task
+    allBelow sameWords nodeOk busyOk recordOk shapeOk heldFrom roots mark markAll visit visitFrom marked
+    firstUnmarked allocate writeAll dcas act times startWords start begin effectOf applied tickOn tick runOn run
+    panel isBegun laneFrom lane
 all-refuted = (refl, refl)
 
 pub spins : Spins
-unfolding goingAlone afterAllBy tickOnBy tickBy ℕ-discrete decLt decLe Value-discrete decode stepIn stepOf isStepIn link value
-    task allBelow sameWords nodeOk busyOk recordOk shapeOk heldFrom roots mark markAll visit visitFrom marked firstUnmarked
-    allocate writeAll dcas act times startWords start begin effectOf applied tickOn tick isBegun laneFrom lane
+unfolding goingAlone afterAllBy beginBy tickOnBy tickBy ℕ-discrete decLt decLe Value-discrete decode stepIn stepOf
+    isStepIn link value task allBelow sameWords nodeOk busyOk recordOk shapeOk heldFrom roots mark markAll visit
+    visitFrom marked firstUnmarked allocate writeAll dcas act times startWords start begin effectOf applied tickOn
+    tick isBegun laneFrom lane
 spins = (refl, refl)
 
 pub leaks : Leaks
-unfolding freeBelow afterAllBy tickOnBy tickBy ℕ-discrete decLt decLe Value-discrete decode stepIn stepOf isStepIn link value
-    task allBelow sameWords nodeOk busyOk recordOk shapeOk heldFrom roots mark markAll visit visitFrom marked firstUnmarked
-    allocate writeAll dcas act times startWords start begin effectOf applied tickOn tick isBegun laneFrom lane
+unfolding freeBelow afterAllBy beginBy tickOnBy tickBy ℕ-discrete decLt decLe Value-discrete decode stepIn stepOf
+    isStepIn link value task allBelow sameWords nodeOk busyOk recordOk shapeOk heldFrom roots mark markAll visit
+    visitFrom marked firstUnmarked allocate writeAll dcas act times startWords start begin effectOf applied tickOn
+    tick isBegun laneFrom lane
 leaks = (refl, refl)
+
+pub doubles : Doubles
+unfolding afterAllBy beginBy tickOnBy tickBy ℕ-discrete decLt decLe Value-discrete decode stepIn stepOf isStepIn
+    link value task allBelow sameWords nodeOk busyOk recordOk shapeOk heldFrom roots mark markAll visit visitFrom
+    marked firstUnmarked allocate writeAll dcas act times startWords start begin effectOf applied tickOn tick
+    isBegun laneFrom lane
+doubles = (refl, refl, refl, refl, refl, refl, refl)

@@ -5,6 +5,7 @@ use mathlib.Core.Option.{Option, some, none as nothing}
 use Prim.Native.Nat.{ℕ}
 use lib.ListN.{drop}
 use Rattle.machine.specs.declared.Answer.the-variants.{Refused}
+use Rattle.machine.specs.declared.Stored.{Stored}
 use Rattle.machine.specs.Allocate.{allocate}
 use Rattle.machine.specs.Lines.{act}
 use Rattle.machine.specs.Answers.{refusalOf}
@@ -12,6 +13,7 @@ use Rattle.machine.specs.Calls.{
   tableRefusal,
   runRefusal,
   panelRefusal,
+  begin,
   Ticked,
   effectOf,
   tickOn,
@@ -36,6 +38,7 @@ use Rattle.machine.specs.Demand3.{
   after,
 }
 use Rattle.refuted.specs.Machines.{
+  beginBy,
   tickOnBy,
   tickBy,
   runOnBy,
@@ -60,6 +63,11 @@ same-tick ws k h =
       | nothing ↦ one
     ])
     (same-tick-on ws k h)
+
+pub same-begin : (ws : List ℕ) (k op side : ℕ) (argument : Stored)
+    → beginBy rightMachine ws k op side argument ≡ begin ws k op side argument
+unfolding beginBy begin
+same-begin ws k op side argument = refl
 
 -- What a run does after its first tick.
 runs-on : Ticked → (ws answers : List ℕ) → (Ticked → RunDone) → RunDone
@@ -94,7 +102,7 @@ module _ (ws list answers : List ℕ) where
 -- Every call gives back the same and leaves the same table.
 pub right-gives : (c : Call) (ws : List ℕ) → givenBy rightMachine c ws ≡ given c ws
 right-gives (start-call S T g) ws = refl
-right-gives (begin-call k op side argument) ws = refl
+right-gives (begin-call k op side argument) ws = ap (λ c. c .reply) (same-begin ws k op side argument)
 right-gives (tick-call k h) ws = ap (λ one. one .answer) (same-tick ws k h)
 right-gives (run-call list answers) ws = ap (λ r. (r .ran, r .answers)) (same-run ws list answers)
 right-gives (panel-call list answers) ws = ap (λ r. (r .ran, r .answers)) (same-panel ws list answers)
@@ -102,7 +110,7 @@ right-gives (read-call out) ws = refl
 
 pub right-leaves : (c : Call) (ws : List ℕ) → afterBy rightMachine c ws ≡ after c ws
 right-leaves (start-call S T g) ws = refl
-right-leaves (begin-call k op side argument) ws = refl
+right-leaves (begin-call k op side argument) ws = ap (λ c. c .words) (same-begin ws k op side argument)
 right-leaves (tick-call k h) ws = ap (λ one. one .words) (same-tick ws k h)
 right-leaves (run-call list answers) ws = ap (λ r. r .words) (same-run ws list answers)
 right-leaves (panel-call list answers) ws = ap (λ r. r .words) (same-panel ws list answers)

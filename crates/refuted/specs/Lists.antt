@@ -2,6 +2,7 @@
 use mathlib.Core.Path.{_≡_}
 use mathlib.Core.Bool.{Bool, true, false}
 use mathlib.Core.List.{List, [], _∷_, _++_, map}
+use mathlib.Core.Option.{some}
 use Prim.Native.Nat.{ℕ}
 use lib.ListN.{replicate}
 use Rattle.machine.specs.Values.{stored}
@@ -9,7 +10,7 @@ use Rattle.machine.specs.Operations.{Operation, push, pop, add, remove, operati
 use Rattle.machine.specs.Sides.{Side, left, right, sideNumber}
 use Rattle.machine.specs.Table.{tableLength}
 use Rattle.machine.specs.Allocate.{marked}
-use Rattle.machine.specs.Calls.{times, start}
+use Rattle.machine.specs.Calls.{isBegun, lane, times, start}
 use Rattle.machine.specs.Row.{emptyRow}
 use Rattle.machine.specs.Demand3.{Call, begin-call, tick-call, run-call, panel-call}
 use Rattle.refuted.specs.Machines.{Machine, rightMachine}
@@ -42,6 +43,13 @@ use Rattle.refuted.specs.Wrong.{
   panelTestsRoomFirst,
   panelTestsLengthFirst,
   panelCutsList,
+  beginTestsBusyFirst,
+  searchesLaneAlone,
+  searchesPushesAlone,
+  searchesOthersAlone,
+  searchesAllArguments,
+  refusesAddsToo,
+  testsWhenAnswering,
 }
 use Rattle.refuted.specs.Judged.{
   Verdict,
@@ -84,6 +92,13 @@ addedAndRemoved = wholly 7 0 add 2 ++ wholly 14 0 remove 0
 -- Of three spare nodes one remove is to leave two, and the other none: it stands at 78 when the first one cuts.
 abbrev pub twoRemoves : List Call
 twoRemoves = wholly 8 0 add 3 ++ wholly 6 1 remove 2 ++ wholly 6 0 remove 0 ++ ticks 1 1 0 ++ ticks 1 0 0
+
+-- Two tasks are to push bag 51, both at once; and one task, twice.
+abbrev pub pushedAtOnce : List Call
+pushedAtOnce = begins 0 push right 51 ++ begins 1 push right 51 ++ ticks 11 0 0 ++ ticks 11 1 0
+
+abbrev pub pushedAgain : List Call
+pushedAgain = wholly 11 0 push 51 ++ wholly 11 0 push 51
 
 abbrev pub entries : List Entry
 entries =
@@ -397,6 +412,67 @@ entries =
       row-says = passes;
       definitions-say = other-answer 4;
     }
+    -- A task that is to push 51 is to begin the same push again: 16, and not 8.
+    ∷ record {
+      wrong = beginTestsBusyFirst;
+      S = 4;
+      T = 1;
+      calls = begins 0 push right 51 ++ begins 0 push right 51;
+      row-says = passes;
+      definitions-say = other-answer 2;
+    }
+    ∷ record {
+      wrong = searchesOthersAlone;
+      S = 4;
+      T = 1;
+      calls = begins 0 push right 51 ++ begins 0 push right 51;
+      row-says = passes;
+      definitions-say = other-answer 2;
+    }
+    -- The second push is begun while the first one is busy, and after it.
+    ∷ record {
+      wrong = searchesLaneAlone;
+      S = 4;
+      T = 2;
+      calls = pushedAtOnce;
+      row-says = passes;
+      definitions-say = other-answer 2;
+    }
+    ∷ record {
+      wrong = searchesPushesAlone;
+      S = 4;
+      T = 1;
+      calls = pushedAgain;
+      row-says = passes;
+      definitions-say = other-answer 13;
+    }
+    -- A task is to add 5 nodes, another to push bag 5.
+    ∷ record {
+      wrong = searchesAllArguments;
+      S = 4;
+      T = 2;
+      calls = begins 0 add right 5 ++ begins 1 push right 5;
+      row-says = passes;
+      definitions-say = other-answer 2;
+    }
+    -- Bag 5 is in the lane, and a task is to add 5 nodes.
+    ∷ record {
+      wrong = refusesAddsToo;
+      S = 4;
+      T = 1;
+      calls = wholly 11 0 push 5 ++ begins 0 add right 5;
+      row-says = passes;
+      definitions-say = other-answer 13;
+    }
+    -- The second push is accepted, and its last tick is refused.
+    ∷ record {
+      wrong = testsWhenAnswering;
+      S = 4;
+      T = 2;
+      calls = pushedAtOnce;
+      row-says = passes;
+      definitions-say = other-answer 2;
+    }
     ∷ []
 
 -- A table begun with so many nodes and tasks, and growth 0.
@@ -455,3 +531,14 @@ abbrev pub Leaks : Type 0
 Leaks =
     (freeBelow 6 (marked (afterAllBy removeLeavesLink addedAndRemoved (begunWith 6 1))) ≡ 3)
     × (freeBelow 6 (marked (afterAllBy rightMachine addedAndRemoved (begunWith 6 1))) ≡ 4)
+
+-- No lane has a bag twice (2026-03), and no busy push is of a bag that the lane has.
+abbrev pub Doubles : Type 0
+Doubles =
+    (lane (afterAllBy searchesLaneAlone pushedAtOnce (begunWith 4 2)) ≡ some (51 ∷ 51 ∷ []))
+    × (lane (afterAllBy searchesPushesAlone pushedAgain (begunWith 4 1)) ≡ some (51 ∷ 51 ∷ []))
+    × (lane (afterAllBy testsWhenAnswering pushedAtOnce (begunWith 4 2)) ≡ some (51 ∷ []))
+    × (isBegun (afterAllBy testsWhenAnswering pushedAtOnce (begunWith 4 2)) 2 51 ≡ true)
+    × (lane (afterAllBy rightMachine pushedAtOnce (begunWith 4 2)) ≡ some (51 ∷ []))
+    × (isBegun (afterAllBy rightMachine pushedAtOnce (begunWith 4 2)) 2 51 ≡ false)
+    × (lane (afterAllBy rightMachine pushedAgain (begunWith 4 1)) ≡ some (51 ∷ []))

@@ -1,19 +1,23 @@
--- What a machine is: what its ticks do, what its runs report, which lists its panel takes. The calls over any machine, and
--- the right one.
+-- What a machine is: what its ticks do, what its runs report, which lists its panel takes, what its begin refuses. The
+-- calls over any machine, and the right one.
 use mathlib.Core.List.{List, [], _∷_}
 use mathlib.Core.Option.{Option, some, none as nothing}
 use Prim.Native.Nat.{ℕ, zero, suc}
 use lib.ListN.{drop}
 use Rattle.machine.specs.declared.Answer.the-variants.{Refused}
-use Rattle.machine.specs.Sides.{Side, opposite}
+use Rattle.machine.specs.declared.Stored.{Stored}
+use Rattle.machine.specs.Sides.{Side, opposite, sideOf}
+use Rattle.machine.specs.Values.{number}
+use Rattle.machine.specs.Operations.{operationOf}
 use Rattle.machine.specs.Steps.{Step}
 use Rattle.machine.specs.Tasks.{Task, goal}
-use Rattle.machine.specs.Table.{growth, task}
+use Rattle.machine.specs.Table.{growth, task, setTask}
 use Rattle.machine.specs.Allocate.{allocate}
 use Rattle.machine.specs.Lines.{Memory, Effect, seen, act}
 use Rattle.machine.specs.Answers.{refusalOf}
 use Rattle.machine.specs.Calls.{
   tableRefusal,
+  beginRefusal,
   tickRefusal,
   runRefusal,
   panelRefusal,
@@ -22,8 +26,10 @@ use Rattle.machine.specs.Calls.{
   RunDone,
   stopped,
   afterTick,
+  Changed,
+  changed,
   start,
-  begin,
+  begunTask,
   read,
 }
 use Rattle.machine.specs.Demand3.{
@@ -42,11 +48,18 @@ pub record Machine : Type 0 where
   pub reports : RunDone → RunDone
   pub panelRefuses : (ws list answers : List ℕ) → Option ℕ
   pub panelTakes : (list : List ℕ) → List ℕ
+  pub beginRefuses : List ℕ → (k operation side : ℕ) → (argument : Stored) → Option ℕ
 
 -- A machine that is wrong in its ticks alone.
 abbrev pub byTicks : (List ℕ → (k hint : ℕ) → Ticked) → Machine
 byTicks tickOn =
-    record { tickOn = tickOn; reports = λ r. r; panelRefuses = panelRefusal; panelTakes = λ list. list }
+    record {
+      tickOn = tickOn;
+      reports = λ r. r;
+      panelRefuses = panelRefusal;
+      panelTakes = λ list. list;
+      beginRefuses = beginRefusal;
+    }
 
 -- ---- A machine by what a line does and which node a take gives.
 abbrev pub Line : Type 0
@@ -72,7 +85,12 @@ byLines line take = byTicks (tickOnBy line take)
 abbrev pub rightMachine : Machine
 rightMachine = byLines act allocate
 
--- ---- The calls over a machine, as in Calls. Start, begin and reading are no machine's own.
+-- ---- The calls over a machine, as in Calls. Start and reading are no machine's own.
+unfoldable pub beginBy : Machine → List ℕ → (k operation side : ℕ) → (argument : Stored) → Changed
+beginBy M ws k op side argument =
+    changed (M .beginRefuses ws k op side argument) ws
+    (setTask k (begunTask (operationOf op) (sideOf side) (number argument)) ws)
+
 unfoldable pub tickBy : Machine → List ℕ → (k hint : ℕ) → Ticked
 tickBy M ws k h =
     elim (tableRefusal ws nothing) as (λ _. Ticked) [
@@ -103,7 +121,7 @@ panelBy M ws list answers = testedBy M (M .panelRefuses ws list answers) ws (M .
 -- What a call gives back, and the table as it leaves it.
 abbrev pub givenBy : Machine → (c : Call) → List ℕ → Given c
 givenBy M (start-call S T g) ws = start ws S T g .reply
-givenBy M (begin-call k op side argument) ws = begin ws k op side argument .reply
+givenBy M (begin-call k op side argument) ws = beginBy M ws k op side argument .reply
 givenBy M (tick-call k h) ws = tickBy M ws k h .answer
 givenBy M (run-call list answers) ws = (runBy M ws list answers .ran, runBy M ws list answers .answers)
 givenBy M (panel-call list answers) ws = (panelBy M ws list answers .ran, panelBy M ws list answers .answers)
@@ -111,7 +129,7 @@ givenBy M (read-call out) ws = (read ws out .reading, read ws out .out)
 
 abbrev pub afterBy : Machine → Call → List ℕ → List ℕ
 afterBy M (start-call S T g) ws = start ws S T g .words
-afterBy M (begin-call k op side argument) ws = begin ws k op side argument .words
+afterBy M (begin-call k op side argument) ws = beginBy M ws k op side argument .words
 afterBy M (tick-call k h) ws = tickBy M ws k h .words
 afterBy M (run-call list answers) ws = runBy M ws list answers .words
 afterBy M (panel-call list answers) ws = panelBy M ws list answers .words

@@ -1,16 +1,26 @@
 -- The wrong machines, each under the words of the papers that name it.
-use mathlib.Core.Bool.{true, false, cond, _&&_}
+use mathlib.Core.Bool.{Bool, true, false, not, cond, _&&_, _||_}
 use mathlib.Core.List.{List, [], _∷_, _++_, map}
 use mathlib.Core.Option.{Option, some, none as nothing}
 use Prim.Native.Nat.{ℕ, zero, suc, _+_, _*_, _%_}
-use lib.Dec.{leb, eqb}
+use lib.Dec.{leb, ltb, eqb}
 use lib.ListN.{length, take, drop}
 use Rattle.machine.specs.declared.Answer.{Answer}
 use Rattle.machine.specs.declared.Answer.the-variants.{Going, Pushed, Bag, Empty, Full, Yes, No, Refused}
 use Rattle.machine.specs.Sides.{left, right}
 use Rattle.machine.specs.Choice.{_≟_, if_then_else_}
-use Rattle.machine.specs.Values.{bag, N, X, Y, _≟ᵛ_}
-use Rattle.machine.specs.Operations.{Operation, idle, push, pop, add, remove, operationNumber}
+use Rattle.machine.specs.Values.{bag, N, X, Y, _≟ᵛ_, number}
+use Rattle.machine.specs.Operations.{
+  Operation,
+  idle,
+  push,
+  pop,
+  add,
+  remove,
+  operationNumber,
+  operationOf,
+  argumentOk,
+}
 use Rattle.machine.specs.Steps.{
   Step,
   line2,
@@ -37,7 +47,7 @@ use Rattle.machine.specs.Steps.{
   stepNumber,
   firstStep,
 }
-use Rattle.machine.specs.Tasks.{Task, none, inC, inD, goto, withC, withCounted, withValue}
+use Rattle.machine.specs.Tasks.{Task, fresh, none, inC, inD, goto, withC, withCounted, withValue}
 use Rattle.machine.specs.Registers.{heldIn}
 use Rattle.machine.specs.Table.{nodeCount, taskCount, tickCount, hat, link, task, setTickCount, setTask}
 use Rattle.machine.specs.Allocate.{
@@ -67,10 +77,16 @@ use Rattle.machine.specs.Lines.{
   bagOf,
   act,
 }
-use Rattle.machine.specs.Answers.{endsCall}
+use Rattle.machine.specs.Answers.{kindOf, endsCall}
 use Rattle.machine.specs.Calls.{
   unless,
+  isIdle,
+  isBusy,
   tableRefusal,
+  isPush,
+  isAmong,
+  isBegun,
+  twiceRefusal,
   tickRefusal,
   listRefusal,
   roomRefusal,
@@ -79,6 +95,7 @@ use Rattle.machine.specs.Calls.{
   Ticked,
   tickOn,
   RunDone,
+  lane,
 }
 use Rattle.machine.specs.Row.{isGoing}
 use Rattle.refuted.specs.Machines.{Machine, Line, Take, tickOnBy, byTicks, byLines, rightMachine}
@@ -367,6 +384,7 @@ reportsUnmadeTick =
       reports = oneMore;
       panelRefuses = rightMachine .panelRefuses;
       panelTakes = rightMachine .panelTakes;
+      beginRefuses = rightMachine .beginRefuses;
     }
 
 -- ---- 2026-01: "15, panel list over 64 words, tested where 13 is tested and straight after it".
@@ -379,6 +397,7 @@ withPanel refuses takes =
       reports = rightMachine .reports;
       panelRefuses = refuses;
       panelTakes = takes;
+      beginRefuses = rightMachine .beginRefuses;
     }
 
 abbrev pub overLong : (list : List ℕ) → Option ℕ → Option ℕ
@@ -405,3 +424,82 @@ panelTestsLengthFirst =
 -- A longer list is not refused but cut to its first 32 ticks.
 abbrev pub panelCutsList : Machine
 panelCutsList = withPanel runRefusal (take 64)
+
+-- ---- 2026-03: "Begin of a push shall refuse a bag number that stands in the lane or is the argument of a busy push";
+-- "16, given by begin after 7 and before 8".
+
+-- What a begin of task k tests after 7, of an operation and its argument.
+abbrev pub After7 : Type 0
+After7 = List ℕ → (k : ℕ) → Operation → (n : ℕ) → Option ℕ
+
+-- The right machine but for its ticks, and for what its begin tests after 7.
+abbrev pub withBegin : (List ℕ → (k hint : ℕ) → Ticked) → After7 → Machine
+withBegin ticks after7 =
+    record {
+      tickOn = ticks;
+      reports = rightMachine .reports;
+      panelRefuses = rightMachine .panelRefuses;
+      panelTakes = rightMachine .panelTakes;
+      beginRefuses = λ ws k op side argument.
+          tableRefusal ws
+          (unless (ltb k (taskCount ws)) 5
+          (unless (leb 1 op && leb op 4 && leb side 1) 6
+          (unless (argumentOk (operationOf op) argument) 7
+          (after7 ws k (operationOf op) (number argument)))));
+    }
+
+abbrev pub testsBusy : List ℕ → (k : ℕ) → Option ℕ → Option ℕ
+testsBusy ws k others = unless (isIdle (task ws k .operation)) 8 others
+
+-- 16 for a push where a test is met, and then 8.
+abbrev pub refusesWhere : (List ℕ → (k n : ℕ) → Bool) → Machine
+refusesWhere seenIn =
+    withBegin (rightMachine .tickOn) (λ ws k op n.
+    unless (not (isPush op && seenIn ws k n)) 16 (testsBusy ws k nothing))
+
+abbrev pub standsIn : ℕ → Option (List ℕ) → Bool
+standsIn n nothing = false
+standsIn n (some bags) = isAmong n bags
+
+-- 8 is tested before 16.
+abbrev pub beginTestsBusyFirst : Machine
+beginTestsBusyFirst =
+    withBegin (rightMachine .tickOn) (λ ws k op n. testsBusy ws k (twiceRefusal ws op n nothing))
+
+-- The lane is searched, and the busy pushes are not.
+abbrev pub searchesLaneAlone : Machine
+searchesLaneAlone = refusesWhere (λ ws k n. standsIn n (lane ws))
+
+-- The busy pushes are searched, and the lane is not.
+abbrev pub searchesPushesAlone : Machine
+searchesPushesAlone = refusesWhere (λ ws k n. isBegun ws (taskCount ws) n)
+
+-- Only the other tasks' pushes are searched.
+abbrev pub searchesOthersAlone : Machine
+searchesOthersAlone =
+    refusesWhere (λ ws k n. standsIn n (lane ws) || isBegun (setTask k fresh ws) (taskCount ws) n)
+
+-- The arguments of all busy tasks are searched: of adds and removes too.
+unfoldable pub isArgument : List ℕ → (m n : ℕ) → Bool
+isArgument ws zero n = false
+isArgument ws (suc m) n = isBusy (task ws m .operation) && eqb n (task ws m .argument) || isArgument ws m n
+
+abbrev pub searchesAllArguments : Machine
+searchesAllArguments = refusesWhere (λ ws k n. standsIn n (lane ws) || isArgument ws (taskCount ws) n)
+
+-- An add is refused as a push is.
+abbrev pub refusesAddsToo : Machine
+refusesAddsToo =
+    withBegin (rightMachine .tickOn) (λ ws k op n.
+    unless (not ((isPush op || eqb (operationNumber op) (operationNumber add)) && standsIn n (lane ws))) 16
+    (testsBusy ws k nothing))
+
+-- Begin does not test at all; the tick that would answer "pushed" is refused where the lane has the bag.
+abbrev pub testsWhenAnswering : Machine
+testsWhenAnswering =
+    withBegin
+    (λ ws k h.
+    let one = tickOn ws k h in
+    cond (eqb (kindOf (one .answer)) (kindOf Pushed) && standsIn (task ws k .argument) (lane ws))
+    (record { answer = Refused 16; words = ws }) one)
+    (λ ws k op n. testsBusy ws k nothing)
