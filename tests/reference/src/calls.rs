@@ -48,6 +48,12 @@ pub fn begin(
     if !table::argument_fits(operation, argument) {
         return Err(refusal::ARGUMENT);
     }
+    if operation == table::PUSH {
+        // The whole walk comes first: no value is known to be there on a deque that cannot be read.
+        if stands(table, sizes, argument)? || is_pushed(table, sizes, argument) {
+            return Err(refusal::TWICE);
+        }
+    }
     let at = sizes.record(task);
     if table[at + record::OPERATION] != table::IDLE {
         return Err(refusal::BUSY);
@@ -107,21 +113,44 @@ pub fn read(table: &[u32], out: &mut [u32]) -> Result<u32, u32> {
     let sizes = shape::check(table)?;
     // The whole walk comes before the first write.
     let mut count = 0;
-    let mut number = next(table, sizes, table[header::LEFT_HAT])?;
-    while table::is_value(table[sizes.node(number) + node::VALUE]) {
-        count += 1;
-        if count == sizes.nodes {
-            return Err(refusal::NO_NODE);
-        }
-        number = next(table, sizes, number)?;
-    }
+    walk(table, sizes, |_| count += 1)?;
     let out = out.get_mut(..count as usize).ok_or(refusal::OUT_LENGTH)?;
-    let mut number = table[header::LEFT_HAT];
-    for word in out {
-        number = next(table, sizes, number)?;
-        *word = table[sizes.node(number) + node::VALUE];
-    }
+    let mut words = out.iter_mut();
+    walk(table, sizes, |value| {
+        if let Some(word) = words.next() {
+            *word = value;
+        }
+    })?;
     Ok(count)
+}
+
+/// Whether a value stands in the deque.
+fn stands(table: &[u32], sizes: Sizes, wanted: u32) -> Result<bool, u32> {
+    let mut found = false;
+    walk(table, sizes, |value| found |= value == wanted)?;
+    Ok(found)
+}
+
+/// Whether a value is the argument of a busy push, whichever task's.
+fn is_pushed(table: &[u32], sizes: Sizes, value: u32) -> bool {
+    (0..sizes.tasks).any(|task| {
+        let at = sizes.record(task);
+        table[at + record::OPERATION] == table::PUSH && table[at + record::ARGUMENT] == value
+    })
+}
+
+/// Shows the values of the deque, leftmost first, up to its end; there may be none to find.
+fn walk(table: &[u32], sizes: Sizes, mut show: impl FnMut(u32)) -> Result<(), u32> {
+    let mut number = table[header::LEFT_HAT];
+    for _ in 0..sizes.nodes {
+        number = next(table, sizes, number)?;
+        let value = table[sizes.node(number) + node::VALUE];
+        if !table::is_value(value) {
+            return Ok(());
+        }
+        show(value);
+    }
+    Err(refusal::NO_NODE)
 }
 
 /// The node to the right; none has no place in the deque.

@@ -9,7 +9,7 @@ use reference::table::{PUSH, REMOVE};
 use reference::{begin, read, run, start, tick};
 
 /// Makes one call with arbitrary arguments and checks what it leaves.
-fn call(random: &mut Random, table: &mut [u32], counts: &mut [u32; 15]) {
+fn call(random: &mut Random, table: &mut [u32], counts: &mut [u32; 17]) {
     let before = table.to_vec();
     let number = match random.below(5) {
         0 => {
@@ -30,7 +30,7 @@ fn call(random: &mut Random, table: &mut [u32], counts: &mut [u32; 15]) {
                 near(random, 4),
                 near(random, 5),
                 near(random, 2),
-                random.word(),
+                near(random, 3),
             ));
             if number == 0 {
                 assert_eq!(run(table, &[], &mut []), (0, 0));
@@ -90,7 +90,7 @@ fn near(random: &mut Random, bound: u32) -> u32 {
 #[test]
 fn slices_of_any_words() {
     let mut random = Random::new(11);
-    let mut counts = [0; 15];
+    let mut counts = [0; 17];
     for _ in 0..20_000 {
         let length = random.below(70) as usize;
         let mut table: Vec<u32> = (0..length).map(|_| random.word()).collect();
@@ -104,7 +104,7 @@ fn slices_of_any_words() {
 #[test]
 fn started_tables_with_damaged_words() {
     let mut random = Random::new(12);
-    let mut counts = [0; 15];
+    let mut counts = [0; 17];
     for _ in 0..6_000 {
         let mut table = started(2 + random.below(5), 1 + random.below(3), random.below(3));
         begin_some(&mut random, &mut table);
@@ -121,13 +121,16 @@ fn started_tables_with_damaged_words() {
             call(&mut random, &mut table, &mut counts);
         }
     }
-    assert!(counts.iter().all(|&count| count > 0), "{counts:?}");
+    // 15 is the panel's.
+    for number in (0..=14).chain([16]) {
+        assert!(counts[number] > 0, "{number}: {counts:?}");
+    }
 }
 
 #[test]
 fn tables_of_good_shape_and_no_sense() {
     let mut random = Random::new(13);
-    let mut counts = [0; 15];
+    let mut counts = [0; 17];
     for _ in 0..10_000 {
         let mut table = shaped(&mut random);
         assert_eq!(run(&mut table, &[], &mut []), (0, 0), "shape");
@@ -135,7 +138,7 @@ fn tables_of_good_shape_and_no_sense() {
             call(&mut random, &mut table, &mut counts);
         }
     }
-    for number in [0, 1, 2, 5, 6, 7, 8, 9, 10, 11, 12, 13, 14] {
+    for number in [0, 1, 2, 5, 6, 7, 8, 9, 10, 11, 12, 13, 14, 16] {
         assert!(counts[number] > 0, "{counts:?}");
     }
     assert_eq!((counts[3], counts[4]), (0, 0));

@@ -273,6 +273,46 @@ fn a_start_that_is_refused_keeps_the_table() {
 }
 
 #[test]
+fn a_push_of_a_value_that_is_there() {
+    assert_eq!(
+        answers(&[
+            START,
+            "(begin 0 (push right 51))",
+            "(begin 1 (push left 51))",
+            "(begin 0 (push right 51))",
+            "(begin 0 (push right 52))",
+            "(begin 1 (push left 1000000000))",
+            "(tick 0 0 1000)",
+            "(begin 1 (push left 51))",
+            "(begin 1 (push left 00051))",
+            "(begin 1 (add left 51))",
+            "(begin 0 (pop left 0))",
+            "(tick 0 0 3)",
+            "(begin 0 (push right 51))",
+            "(tick 0 0 1)",
+            "(begin 0 (push right 51))",
+        ]),
+        [
+            "(ok)",
+            "(ok)",
+            "(refused 16)",
+            "(refused 16)",
+            "(refused 8)",
+            "(refused 7)",
+            "(pushed)",
+            "(refused 16)",
+            "(refused 16)",
+            "(ok)",
+            "(ok)",
+            "(going)",
+            "(refused 16)",
+            "(bag 51)",
+            "(ok)",
+        ]
+    );
+}
+
+#[test]
 fn every_answer_is_printed() {
     assert_eq!(
         answers(&[

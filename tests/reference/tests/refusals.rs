@@ -297,12 +297,46 @@ fn all_others_4_value_read() {
     }
 }
 
+/// The values of a deque.
+const STANDING: [u32; 3] = [61, 62, 63];
+
+/// A table of 6 nodes with these values in its deque, task 0 in a push of 51 and task 1 idle.
+fn standing() -> Vec<u32> {
+    let mut table = started(6, 2, 0);
+    #[rustfmt::skip]
+    table[8..8 + 3 * 5].copy_from_slice(&[
+        NONE, 1, LX, 0, 2, 61, 1, 3, 62, 2, 4, 63, 3, NONE, RX,
+    ]);
+    table[header::RIGHT_HAT] = 4;
+    begin(&mut table, 0, PUSH, 1, 51).expect("begin");
+    table
+}
+
+/// A link each that leaves this deque without an end: the hat's, the last value's, and two that lead back.
+const UNREADABLE: [(usize, u32); 4] = [
+    (8 + 1, NONE),
+    (8 + 3 * 3 + 1, NONE),
+    (8 + 3 + 1, 1),
+    (8 + 3 * 3 + 1, 2),
+];
+
 #[test]
 fn begin_in_order() {
-    for (chosen, first) in subsets(&[3, 4, 5, 6, 7, 8]) {
-        // Two ways to be refused with 6.
-        for (bad_operation, bad_side) in [(5, 1), (0, 1), (PUSH, 2), (u32::MAX, u32::MAX)] {
-            let mut table = faulty(&chosen);
+    for (chosen, first) in subsets(&[3, 4, 5, 6, 7, 11, 16, 8]) {
+        // Ways to be refused with 6, with 11 and with 16.
+        let bad_calls = [(5, 1), (0, 1), (PUSH, 2), (u32::MAX, u32::MAX)];
+        for (way, (bad_operation, bad_side)) in bad_calls.into_iter().enumerate() {
+            let mut table = standing();
+            let (word, link) = UNREADABLE[way];
+            if chosen.contains(&11) {
+                table[word] = link;
+            }
+            if chosen.contains(&4) {
+                table[header::ZEROS] = 1;
+            }
+            if chosen.contains(&3) {
+                table.push(0);
+            }
             let before = table.clone();
             let busy = u32::from(!chosen.contains(&8));
             let task = if chosen.contains(&5) { 2 } else { busy };
@@ -311,7 +345,11 @@ fn begin_in_order() {
             } else {
                 (PUSH, 1)
             };
-            let argument = if chosen.contains(&7) { 0 } else { 51 };
+            let argument = match (chosen.contains(&7), chosen.contains(&16)) {
+                (true, _) => 0,
+                (false, true) => [51, 61, 62, 63][way],
+                (false, false) => 52,
+            };
             let found = begin(&mut table, task, operation, side, argument);
             assert_eq!(found, Err(first), "{chosen:?}");
             assert_eq!(table, before, "{chosen:?}");
@@ -323,8 +361,113 @@ fn begin_in_order() {
             assert_eq!(begin(&mut table, 1, operation, side, argument), Err(7));
         }
     }
-    assert_eq!(begin(&mut table, 1, PUSH, 1, 51), Ok(()));
-    assert_eq!(begin(&mut table, 1, PUSH, 1, 51), Err(8));
+    assert_eq!(begin(&mut table, 1, PUSH, 1, 52), Ok(()));
+    assert_eq!(begin(&mut table, 1, PUSH, 1, 53), Err(8));
+}
+
+/// What a push of each number is refused with on a task, or 0.
+fn pushes(table: &[u32], task: u32, numbers: &[u32]) -> Vec<u32> {
+    let push = |&number: &u32| {
+        let given = [0, 1].map(|side| {
+            let mut lent = table.to_vec();
+            let found = begin(&mut lent, task, PUSH, side, number);
+            assert_eq!(found.is_err(), lent == table, "{number}");
+            found.err().unwrap_or(0)
+        });
+        assert_eq!(given[0], given[1], "{number}");
+        given[0]
+    };
+    numbers.iter().map(push).collect()
+}
+
+#[test]
+fn begin_16_in_the_deque() {
+    let table = standing();
+    assert_eq!(pushes(&table, 1, &STANDING), [16, 16, 16]);
+    assert_eq!(pushes(&table, 0, &STANDING), [16, 16, 16]);
+    assert_eq!(pushes(&table, 1, &[1, 60, 64, 999_999_999]), [0; 4]);
+    // A value in a node outside of it, and one in the left hat's node, are not in it.
+    let mut table = table;
+    table[8 + 3 * 5 + 2] = 70;
+    table[8 + 2] = 71;
+    assert_eq!(pushes(&table, 1, &[70, 71, 61]), [0, 0, 16]);
+    // Nor is one behind a node without a value.
+    table[8 + 3 * 2 + 2] = 0;
+    assert_eq!(pushes(&table, 1, &[61, 62, 63]), [16, 0, 0]);
+}
+
+#[test]
+fn begin_16_of_a_busy_push() {
+    for step in steps_of(PUSH) {
+        for side in [0, 1] {
+            let mut table = started(4, 3, 1);
+            let at = sizes(&table).record(1);
+            begin(&mut table, 1, PUSH, side, 51).expect("begin");
+            table[at + record::STEP] = step;
+            assert!(shape_holds(&table), "{step}");
+            assert_eq!(pushes(&table, 0, &[51, 52]), [16, 0], "{step}");
+            assert_eq!(pushes(&table, 2, &[51, 52]), [16, 0], "{step}");
+            // Its own task is busy, which is tested later.
+            assert_eq!(pushes(&table, 1, &[51, 52]), [16, 8], "{step}");
+        }
+    }
+    // Arguments of adds and removes are no values, and neither is what a pop has read.
+    for (operation, argument) in [(ADD, 51), (REMOVE, 51), (POP, 0)] {
+        let mut table = started(4, 2, 0);
+        let at = sizes(&table).record(0);
+        begin(&mut table, 0, operation, 1, argument).expect("begin");
+        table[at + record::VALUE] = 51;
+        assert_eq!(pushes(&table, 1, &[51]), [0], "{operation}");
+        assert_eq!(pushes(&table, 0, &[51]), [8], "{operation}");
+    }
+}
+
+#[test]
+fn begin_16_until_the_answer() {
+    let mut table = started(3, 2, 0);
+    // Pushed: from the begin to the pop's answer.
+    begin(&mut table, 0, PUSH, 1, 51).expect("begin");
+    while tick(&mut table, 0, 0) == Ok(Answer::Going) {
+        assert_eq!(pushes(&table, 1, &[51]), [16]);
+    }
+    assert_eq!(read(&table, &mut [0]), Ok(1));
+    begin(&mut table, 0, POP, 0, 0).expect("begin");
+    for _ in 0..3 {
+        assert_eq!(tick(&mut table, 0, 0), Ok(Answer::Going));
+        assert_eq!(pushes(&table, 1, &[51]), [16]);
+    }
+    assert_eq!(tick(&mut table, 0, 0), Ok(Answer::Bag(51)));
+    assert_eq!(pushes(&table, 1, &[51]), [0]);
+    // Full: to its answer.
+    let mut table = started(2, 2, 0);
+    begin(&mut table, 0, PUSH, 1, 51).expect("begin");
+    for _ in 0..3 {
+        assert_eq!(tick(&mut table, 0, 0), Ok(Answer::Going));
+        assert_eq!(pushes(&table, 1, &[51]), [16]);
+    }
+    assert_eq!(tick(&mut table, 0, 0), Ok(Answer::Full));
+    assert_eq!(pushes(&table, 1, &[51]), [0]);
+}
+
+#[test]
+fn begin_11_before_16() {
+    for (word, link) in UNREADABLE {
+        let mut table = standing();
+        table[word] = link;
+        assert!(shape_holds(&table));
+        assert_eq!(read(&table, &mut [0; 6]), Err(11));
+        // Whether the number is a busy push's, or met before the fault, or nowhere; on an idle and on a busy task.
+        for task in [0, 1] {
+            assert_eq!(pushes(&table, task, &[51, 61, 62, 63, 64]), [11; 5]);
+            assert_eq!(pushes(&table, task, &[0, 1_000_000_000]), [7; 2]);
+        }
+        // The others walk nothing.
+        for (operation, argument) in [(POP, 0), (ADD, 1), (REMOVE, 1)] {
+            assert_eq!(begin(&mut table, 0, operation, 1, argument), Err(8));
+            let mut table = table.clone();
+            assert_eq!(begin(&mut table, 1, operation, 1, argument), Ok(()));
+        }
+    }
 }
 
 #[test]

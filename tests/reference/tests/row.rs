@@ -8,7 +8,7 @@ use common::random::Random;
 use common::row::{Note, Row};
 use common::tables::started;
 use reference::table::{argument_fits, header, record, Sizes, ADD, POP, PUSH, REMOVE};
-use reference::{begin, panel, run, start, tick};
+use reference::{begin, panel, run, start, tick, Answer};
 
 const LEFT: u32 = 0;
 
@@ -21,6 +21,9 @@ struct Seen {
     longest: usize,
     stopped_runs: u32,
     no_node: u32,
+    /// Pushes of a value that was there or on its way, and of one that had been there.
+    twice: u32,
+    again: u32,
 }
 
 struct Player {
@@ -29,6 +32,8 @@ struct Player {
     sizes: Sizes,
     row: Row,
     next_value: u32,
+    /// Values that were popped.
+    past: Vec<u32>,
     /// The task that gets most of the ticks, so that others stall.
     favourite: u32,
     /// Whether adds and removes prevail; with stalled pushes they leave spurs.
@@ -45,6 +50,7 @@ impl Player {
             sizes: Sizes::new(nodes, tasks, growth).expect("sizes in range"),
             row: Row::new(tasks),
             next_value: 0,
+            past: Vec::new(),
             favourite: 0,
             churn: false,
             churn_side: 0,
@@ -107,7 +113,7 @@ impl Player {
             self.random.word()
         } else {
             match operation {
-                PUSH => self.value(),
+                PUSH => self.any_value(),
                 POP => 0,
                 _ => self.random.pick(&[0, 0, 1, 2, 3]),
             }
@@ -122,11 +128,15 @@ impl Player {
             Err(6)
         } else if !argument_fits(operation, argument) {
             Err(7)
+        } else if operation == PUSH && self.row.has(argument) {
+            Err(16)
         } else if self.row.notes[task as usize].is_some() {
             Err(8)
         } else {
             Ok(())
         };
+        self.seen.twice += u32::from(wanted == Err(16));
+        self.seen.again += u32::from(wanted == Ok(()) && self.past.contains(&argument));
         let before = self.table.clone();
         let found = begin(&mut self.table, task, operation, side, argument);
         assert_eq!(found, wanted);
@@ -184,9 +194,20 @@ impl Player {
         self.begin_with(other, operation, side, argument);
     }
 
+    /// A value that was never pushed.
     fn value(&mut self) -> u32 {
         self.next_value += 1;
         self.next_value
+    }
+
+    /// Mostly such a one; sometimes one that is there or on its way, or one that was popped.
+    fn any_value(&mut self) -> u32 {
+        let known = match self.random.below(12) {
+            0 => self.row.pick(&mut self.random),
+            1 if !self.past.is_empty() => Some(self.random.pick(&self.past)),
+            _ => None,
+        };
+        known.unwrap_or_else(|| self.value())
     }
 
     fn operate(&mut self, task: u32, operation: u32, side: u32, argument: u32) {
@@ -226,7 +247,7 @@ impl Player {
                 let ticks = before[header::TICKS].wrapping_add(1);
                 assert_eq!(self.table[header::TICKS], ticks);
                 self.seen.answers[answer.words()[0] as usize] += 1;
-                self.row.tick(task, answer.words());
+                self.answered(task, answer);
             }
             Err(number) => {
                 if wanted.is_none() {
@@ -239,6 +260,13 @@ impl Player {
             }
         }
         self.row.check(&self.table);
+    }
+
+    fn answered(&mut self, task: u32, answer: Answer) {
+        self.row.tick(task, answer.words());
+        if let Answer::Bag(value) = answer {
+            self.past.push(value);
+        }
     }
 
     /// A run, or a short one from the panel, and the same ticks one by one on a copy.
@@ -259,7 +287,7 @@ impl Player {
             self.look(pair[0]);
             let answer = tick(&mut self.table, pair[0], pair[1]).expect("the run made this tick");
             assert_eq!(answer.words(), words);
-            self.row.tick(pair[0], answer.words());
+            self.answered(pair[0], answer);
             self.row.check(&self.table);
         }
         assert!(answers[2 * made..].iter().all(|&word| word == 77));
@@ -342,9 +370,10 @@ fn small_tables_follow_the_row() {
                 1500,
             );
             assert!(seen.stopped_runs > 0);
-            assert!(seen.answers[3] > 0);
+            assert!(seen.answers[3] > 0 && seen.twice > 0);
             if nodes > 2 {
                 assert!(seen.answers[1] > 0 && seen.answers[2] > 0 && seen.longest > 0);
+                assert!(seen.again > 0);
             }
         }
     }
@@ -356,6 +385,7 @@ fn larger_tables_follow_the_row() {
         let seen = play(seed, sizes, 4000);
         assert!(seen.answers[1] > 20 && seen.answers[2] > 20);
         assert!(seen.longest > 2);
+        assert!(seen.twice > 5 && seen.again > 5);
     }
 }
 

@@ -2,6 +2,7 @@
 
 use std::collections::VecDeque;
 
+use super::random::Random;
 use reference::read;
 use reference::table::{Sizes, ADD, POP, PUSH, REMOVE};
 
@@ -49,7 +50,35 @@ impl Row {
         self.notes[task as usize] = None;
     }
 
+    /// The bags of the row, then those of busy pushes.
+    fn numbers(&self) -> Vec<u32> {
+        let pushes = self.notes.iter().flatten();
+        let pushed = pushes.filter(|note| note.operation == PUSH);
+        let values = self.values.iter().copied();
+        values.chain(pushed.map(|note| note.argument)).collect()
+    }
+
+    /// Whether a push of this bag is turned back: it stands in the row, or a busy push has it.
+    pub fn has(&self, bag: u32) -> bool {
+        self.numbers().contains(&bag)
+    }
+
+    /// One of the bags that a push is turned back for, if there is any.
+    pub fn pick(&self, random: &mut Random) -> Option<u32> {
+        let numbers = self.numbers();
+        (!numbers.is_empty()).then(|| random.pick(&numbers))
+    }
+
+    /// No bag is in two places: of the row, of a busy push.
+    pub fn check_once(&self) {
+        let mut numbers = self.numbers();
+        numbers.sort_unstable();
+        let twice = numbers.windows(2).find(|pair| pair[0] == pair[1]);
+        assert_eq!(twice, None, "a bag in two places");
+    }
+
     pub fn check(&self, table: &[u32]) {
+        self.check_once();
         let mut out = [0; Sizes::MAX_NODES];
         let count = read(table, &mut out);
         assert_eq!(count, Ok(self.values.len() as u32));
