@@ -1,6 +1,6 @@
 //! Tables that no start reaches: well-shaped ones, damaged ones and any words, with any numbers.
 
-use reference::table::{header, is_value, node, record, Sizes};
+use reference::table::{header, is_value, node, record, Sizes, PUSH};
 
 use crate::both::Both;
 use crate::common::random::Random;
@@ -15,7 +15,7 @@ pub fn shaped(random: &mut Random, counts: &mut Counts) {
     for _ in 0..random.below(12) {
         let task = random.below(sizes.tasks + 1);
         let hint = random.below(sizes.nodes + 1);
-        match random.below(8) {
+        match random.below(9) {
             0 => {
                 let length = random.below(sizes.nodes + 2) as usize;
                 let reading = both.read(length, 0);
@@ -24,6 +24,15 @@ pub fn shaped(random: &mut Random, counts: &mut Counts) {
             1 => ticks(random, &mut both),
             2 => {
                 let _ = both.begin(task, random.below(6), random.below(3), random.word());
+            }
+            3 => {
+                let number = random.pick(&[1, 2, 3, 999_999_999]);
+                let given = both.begin(task, PUSH, random.below(2), number);
+                if given != Err(5) {
+                    let before = both.before();
+                    let begins = &mut counts.begins;
+                    begins.saw(Origin::Anywhere, before, task, number, given);
+                }
             }
             _ => {
                 let given = both.tick(task, hint);

@@ -1,9 +1,10 @@
-//! How often each outcome of a tick and each refusal was seen, and which of them are missing.
+//! How often each outcome of a tick or a begin and each refusal was seen, and which of them are missing.
 
 use reference::table::{header, record, Sizes};
 use reference::Answer;
 
 use crate::alone::Alone;
+use crate::begins::Begins;
 use crate::cause;
 use crate::idle::Idle;
 use crate::outcomes::{Leads, Outcome, OUTCOMES};
@@ -12,7 +13,7 @@ use crate::stretch::Stretches;
 /// The calls, and what each can give by the paper; 0 stands for no refusal.
 const GIVEN: [(&str, &[usize]); 6] = [
     ("start", &[0, 1, 2]),
-    ("begin", &[0, 3, 4, 5, 6, 7, 8]),
+    ("begin", &[0, 3, 4, 5, 6, 7, 8, 11, 16]),
     ("tick", &[0, 3, 4, 5, 9, 10, 11]),
     ("run", &[0, 3, 4, 5, 9, 10, 11, 13, 14]),
     ("panel", &[0, 3, 4, 5, 9, 10, 11, 13, 14, 15]),
@@ -25,7 +26,7 @@ pub const NAMES: [&str; 4] = ["push", "pop", "add", "remove"];
 #[derive(Default)]
 pub struct Given {
     /// By call and refusal.
-    pub refusals: [[u64; 16]; 6],
+    pub refusals: [[u64; 17]; 6],
     /// Ticks that the panel's lists made.
     pub panel_ticks: u64,
     /// Lists of the panel that made 32 ticks.
@@ -48,6 +49,8 @@ pub struct Counts {
     given: Given,
     /// Ticks at which the tick count went to 0.
     wraps: u64,
+    /// Begins of a push.
+    pub begins: Begins,
     /// Calls that get all the ticks.
     pub alone: Alone,
     /// Ticks without an answer.
@@ -63,6 +66,7 @@ impl Counts {
             ticks: [none.clone(), none],
             given: Given::default(),
             wraps: 0,
+            begins: Begins::default(),
             alone: Alone::default(),
             stretches: Stretches::default(),
             idle: Idle::default(),
@@ -138,6 +142,7 @@ impl Counts {
             }
         }
         self.report_given(&mut faults);
+        faults.extend(self.begins.report());
         faults.extend(self.alone.report());
         self.stretches.report();
         faults.extend(self.idle.report());

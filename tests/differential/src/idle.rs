@@ -71,7 +71,7 @@ impl<'a> Quiet<'a> {
         let side = self.random.below(2);
         let spare = self.list.ends[side as usize].spare;
         let argument = match operation {
-            PUSH => 1 + self.random.below(MAX_VALUE),
+            PUSH => self.bag(),
             POP => 0,
             ADD if self.random.once_in(2) => self.random.below(65),
             REMOVE if self.random.once_in(8) => self.random.below(1024),
@@ -85,6 +85,26 @@ impl<'a> Quiet<'a> {
         }
     }
 
+    /// A bag that is not in the lane.
+    fn bag(&mut self) -> u32 {
+        loop {
+            let bag = 1 + self.random.below(MAX_VALUE);
+            if !self.list.bags.contains(&bag) {
+                return bag;
+            }
+        }
+    }
+
+    /// A push of a bag that is in the lane, at either end and by any task, is turned back.
+    fn push_again(&mut self) {
+        let bags = self.list.bags.len() as u32;
+        if bags > 0 {
+            let bag = self.list.bags[self.random.below(bags) as usize];
+            let (task, side) = (self.random.below(self.sizes.tasks), self.random.below(2));
+            assert_eq!(self.both.begin(task, PUSH, side, bag), Err(16));
+        }
+    }
+
     /// A call alone by any task: its answer and the table after it are as listed.
     fn call(&mut self, call: Note) -> Answer {
         let Note {
@@ -92,6 +112,9 @@ impl<'a> Quiet<'a> {
             side,
             argument,
         } = call;
+        if self.random.once_in(4) {
+            self.push_again();
+        }
         let task = self.random.below(self.sizes.tasks);
         let begun = self.both.begin(task, operation, side, argument);
         begun.expect("the task is idle");

@@ -7,6 +7,7 @@
 #![forbid(unsafe_code)]
 
 mod alone;
+mod begins;
 mod both;
 mod broken;
 mod cause;

@@ -23,6 +23,9 @@ const MIXES: [&[u32]; 6] = [
     &[PUSH, POP, REMOVE, REMOVE],
 ];
 
+/// Bags from here on are new; the smaller ones are among any numbers.
+const FIRST_BAG: u32 = 10_000;
+
 /// A table, the row beside it, and what prevails in the calls.
 pub struct Play<'a> {
     random: &'a mut Random,
@@ -31,6 +34,8 @@ pub struct Play<'a> {
     row: Row,
     sizes: Sizes,
     next_bag: u32,
+    /// Bags that were popped.
+    past: Vec<u32>,
     mix: &'static [u32],
     /// The side that prevails.
     side: u32,
@@ -49,7 +54,8 @@ pub fn play(random: &mut Random, counts: &mut Counts, sizes: Sizes, calls: u32) 
         side: 0,
         favourite: 0,
         stretch: 0,
-        next_bag: 0,
+        next_bag: FIRST_BAG,
+        past: Vec::new(),
         random,
         counts,
         sizes,
@@ -96,8 +102,9 @@ impl Play<'_> {
         }
     }
 
-    /// After a call: reading gives the row, and never 3, 4 or 11.
+    /// After a call: reading gives the row, and never 3, 4 or 11; no bag is in two places.
     fn check(&mut self) {
+        self.row.check_once();
         let length = self.row.values.len() + self.random.below(2) as usize;
         let bags = self.both.read(length, 0).expect("the lane is read");
         assert!(
@@ -184,20 +191,32 @@ impl Play<'_> {
     }
 
     fn begin(&mut self, task: u32, operation: u32, side: u32, argument: u32) {
-        let note = self.row.notes.get(task as usize).copied();
-        match self.both.begin(task, operation, side, argument) {
-            Ok(()) => {
-                assert!(matches!(note, Some(None)), "begun on a busy task");
-                self.row.notes[task as usize] = Some(Note {
-                    operation,
-                    side,
-                    argument,
-                });
-            }
-            Err(8) => assert!(matches!(note, Some(Some(_))), "an idle task is busy"),
-            Err(number) => assert!(matches!(number, 5..=7), "begin was refused with {number}"),
+        let note = Note {
+            operation,
+            side,
+            argument,
+        };
+        let wanted = self.row.begin(task, note);
+        let given = self.both.begin(task, operation, side, argument);
+        assert_eq!(given, wanted, "begin");
+        if operation == PUSH && !matches!(given, Err(5..=7)) {
+            let before = self.both.before();
+            let begins = &mut self.counts.begins;
+            begins.saw(Origin::Calls, before, task, argument, given);
+            begins.again += u64::from(given.is_ok() && self.past.contains(&argument));
         }
         self.check();
+    }
+
+    /// The number of a busy push comes again, on its own task or on any.
+    fn begin_again(&mut self, task: u32) {
+        if let Some(Some(push)) = self.row.notes.get(task as usize).copied() {
+            if push.operation == PUSH {
+                let any = self.random.below(self.sizes.tasks);
+                let (other, side) = (self.random.pick(&[task, any]), self.random.below(2));
+                self.begin(other, PUSH, side, push.argument);
+            }
+        }
     }
 
     fn begin_some(&mut self, task: u32) {
@@ -207,9 +226,16 @@ impl Play<'_> {
         } else {
             self.side
         };
-        self.begin_with(task, operation, side);
+        match operation {
+            PUSH => {
+                let bag = self.any_bag();
+                self.begin(task, PUSH, side, bag);
+            }
+            _ => self.begin_with(task, operation, side),
+        }
     }
 
+    /// A push is of a new bag.
     fn begin_with(&mut self, task: u32, operation: u32, side: u32) {
         let argument = match operation {
             PUSH => self.bag(),
@@ -221,15 +247,21 @@ impl Play<'_> {
         self.begin(task, operation, side, argument);
     }
 
-    /// Mostly new bags, but also the same number again.
+    /// A new bag.
     fn bag(&mut self) -> u32 {
-        match self.random.below(4) {
-            0 => self.random.pick(&[1, 2, 999_999_999]),
-            _ => {
-                self.next_bag += 1;
-                self.next_bag
-            }
-        }
+        self.next_bag += 1;
+        self.next_bag
+    }
+
+    /// Mostly a new one; sometimes one that is there or in a busy push, one that was popped, or a limit.
+    fn any_bag(&mut self) -> u32 {
+        let known = match self.random.below(24) {
+            0 => self.row.pick(self.random),
+            1 if !self.past.is_empty() => Some(self.random.pick(&self.past)),
+            2 => Some(self.random.pick(&[1, 999_999_999])),
+            _ => None,
+        };
+        known.unwrap_or_else(|| self.bag())
     }
 
     fn pair(&mut self) -> (u32, u32) {
@@ -258,11 +290,18 @@ impl Play<'_> {
             Err(number) => self.refused(task, hint, number),
         }
         self.check();
+        // At any step, with the push standing there.
+        if self.random.once_in(24) {
+            self.begin_again(task);
+        }
     }
 
     /// A tick was made: the row explains it, and a stretch goes on or ends.
     fn made(&mut self, task: u32, answer: Answer) {
         self.row.tick(task, answer.words());
+        if let Answer::Bag(bag) = answer {
+            self.past.push(bag);
+        }
         self.stretch = match answer {
             Answer::Going => self.stretch + 1,
             _ => 0,

@@ -7,7 +7,7 @@ use std::collections::BTreeMap;
 use common::random::Random;
 use common::row::{Note, Row};
 use common::tables::started;
-use reference::table::{argument_fits, header, record, Sizes, ADD, POP, PUSH, REMOVE};
+use reference::table::{header, record, Sizes, ADD, POP, PUSH, REMOVE};
 use reference::{begin, panel, run, start, tick, Answer};
 
 const LEFT: u32 = 0;
@@ -122,32 +122,20 @@ impl Player {
     }
 
     fn begin_with(&mut self, task: u32, operation: u32, side: u32, argument: u32) {
-        let wanted = if task >= self.sizes.tasks {
-            Err(5)
-        } else if !(1..=4).contains(&operation) || side > 1 {
-            Err(6)
-        } else if !argument_fits(operation, argument) {
-            Err(7)
-        } else if operation == PUSH && self.row.has(argument) {
-            Err(16)
-        } else if self.row.notes[task as usize].is_some() {
-            Err(8)
-        } else {
-            Ok(())
+        let note = Note {
+            operation,
+            side,
+            argument,
         };
+        let wanted = self.row.begin(task, note);
         self.seen.twice += u32::from(wanted == Err(16));
-        self.seen.again += u32::from(wanted == Ok(()) && self.past.contains(&argument));
+        let again = operation == PUSH && self.past.contains(&argument);
+        self.seen.again += u32::from(wanted == Ok(()) && again);
         let before = self.table.clone();
         let found = begin(&mut self.table, task, operation, side, argument);
         assert_eq!(found, wanted);
         if found.is_err() {
             assert_eq!(self.table, before);
-        } else {
-            self.row.notes[task as usize] = Some(Note {
-                operation,
-                side,
-                argument,
-            });
         }
     }
 

@@ -4,7 +4,7 @@ use std::collections::VecDeque;
 
 use super::random::Random;
 use reference::read;
-use reference::table::{Sizes, ADD, POP, PUSH, REMOVE};
+use reference::table::{argument_fits, Sizes, ADD, POP, PUSH, REMOVE};
 
 const LEFT: u32 = 0;
 
@@ -27,6 +27,30 @@ impl Row {
         Row {
             values: VecDeque::new(),
             notes: vec![None; tasks as usize],
+        }
+    }
+
+    /// What a begin gives by the notes and the bags, for which the paper's tests stand in this order; an accepted one is
+    /// noted.
+    pub fn begin(&mut self, task: u32, note: Note) -> Result<(), u32> {
+        let Note {
+            operation,
+            side,
+            argument,
+        } = note;
+        let busy = self.notes.get(task as usize).ok_or(5u32)?.is_some();
+        let refusals = [
+            (6, !(PUSH..=REMOVE).contains(&operation) || side > 1),
+            (7, !argument_fits(operation, argument)),
+            (16, operation == PUSH && self.has(argument)),
+            (8, busy),
+        ];
+        match refusals.iter().find(|(_, refused)| *refused) {
+            Some(&(number, _)) => Err(number),
+            None => {
+                self.notes[task as usize] = Some(note);
+                Ok(())
+            }
         }
     }
 
