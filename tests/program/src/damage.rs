@@ -101,7 +101,11 @@ pub fn noise(random: &mut Random, length: usize) -> Vec<u8> {
             0 => output.push(b'\n'),
             1 => output.extend(random.pick(&WORDS)),
             2 => output.extend(b"\n(lane)\n"),
-            3 => output.extend(b"\n(begin 0 (push left 7))\n(tick 0 0 9)\n"),
+            3 => {
+                let bag = 1 + random.below(9);
+                let lines = format!("\n(begin 0 (push left {bag}))\n(tick 0 0 9)\n");
+                output.extend(lines.as_bytes());
+            }
             _ if all => output.push(random.next() as u8),
             _ => output.push(random.pick(BYTES)),
         }

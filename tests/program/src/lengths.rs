@@ -38,6 +38,7 @@ pub fn long_lines(trials: &mut Trials) -> Verdict {
         let mut input = START.as_bytes().to_vec();
         for [before, fill, after] in [
             ["(begin ", "0", " (push right 51))"],
+            ["(begin 1 (push left ", "0", "51))"],
             ["(begin 1 (push left ", "0", "52))"],
             ["(tick ", "0", " 0 3)"],
             ["(tick 0 ", "0", "5 1000)"],
@@ -80,6 +81,9 @@ pub fn a_million_lines(random: &mut Random, trials: &mut Trials) -> Verdict {
         "(tick 0 3 1000)\n",
         "(begin 0 (push right 123456789))\n",
         "(begin 1 (push left 1))\n",
+        "(begin 0 (push left 22))\n",
+        "(begin 1 (push right 333))\n",
+        "(begin 0 (push right 4444))\n",
         "(begin 0 (pop left 0))\n",
         "(begin 1 (pop right 0))\n",
         "(begin 1 (add right 2))\n",

@@ -12,6 +12,8 @@ const STYLES: [&[usize]; 3] = [
     &[0, 0, 0, 1, 1, 1, 2, 3],
     &[0, 1, 1, 1, 1, 1, 3],
 ];
+/// How many of the bags begun may come again.
+const REPEATED: usize = 20;
 /// Lines until a session takes another style.
 const STYLE_LINES: u32 = 300;
 
@@ -23,6 +25,8 @@ pub struct Session {
     nodes: u32,
     /// By task; empty before an accepted start.
     busy: Vec<bool>,
+    /// The bags of the pushes begun.
+    bags: Vec<u32>,
 }
 
 impl Session {
@@ -33,6 +37,7 @@ impl Session {
             program: Program::default(),
             nodes: 0,
             busy: Vec::new(),
+            bags: Vec::new(),
         }
     }
 
@@ -88,7 +93,7 @@ impl Session {
         if !self.busy[task as usize] {
             let operation = random.pick(style);
             let argument = match operation {
-                0 => bag(random),
+                0 => self.bag(random),
                 1 => 0,
                 2 => random.below(65),
                 _ => random.below(1024).min(random.below(1024)),
@@ -102,12 +107,25 @@ impl Session {
         }
     }
 
+    /// Mostly any bag, sometimes one of the last begun.
+    fn bag(&self, random: &mut Random) -> u32 {
+        let last = &self.bags[self.bags.len().saturating_sub(REPEATED)..];
+        if random.once_in(10) && !last.is_empty() {
+            random.pick(last)
+        } else {
+            any_bag(random)
+        }
+    }
+
     /// A begin with these numbers; the operation and the side by their places in the lists.
     pub fn begin(&mut self, task: u32, operation: usize, side: u32, argument: u32) {
-        let (operation, side) = (OPERATIONS[operation], SIDES[side as usize]);
-        let line = format!("(begin {task} ({operation} {side} {argument}))");
+        let (name, side) = (OPERATIONS[operation], SIDES[side as usize]);
+        let line = format!("(begin {task} ({name} {side} {argument}))");
         if self.line(&line) == "(ok)" {
             self.busy[task as usize] = true;
+            if operation == 0 {
+                self.bags.push(argument);
+            }
         }
     }
 
@@ -142,8 +160,8 @@ impl Session {
 pub fn full_lane(random: &mut Random) -> Vec<u8> {
     let mut session = Session::new();
     session.start((1024, 2, 0));
-    for _ in 0..1022 {
-        session.begin(0, 0, random.below(2), 999_999_999 - random.below(1000));
+    for number in 0..1022 {
+        session.begin(0, 0, random.below(2), 999_999_999 - number);
         session.tick(0, random.below(1024), 1000);
     }
     for _ in 0..40 {
@@ -153,6 +171,8 @@ pub fn full_lane(random: &mut Random) -> Vec<u8> {
         for _ in 0..1 + random.below(7) {
             session.line("(lane)");
         }
+        // One of these bags, at any place of the lane.
+        session.begin(1, 0, random.below(2), 999_999_999 - random.below(1022));
         session.call(random, STYLES[1]);
     }
     session.input
@@ -172,7 +192,7 @@ fn any_sizes(random: &mut Random) -> (u32, u32, u32) {
 }
 
 /// A bag number of one to nine digits.
-fn bag(random: &mut Random) -> u32 {
+fn any_bag(random: &mut Random) -> u32 {
     let digits = 1 + random.below(9);
     1 + random.below(10u32.pow(digits) - 1)
 }
