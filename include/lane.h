@@ -43,6 +43,9 @@
  * empty lane. Do not leave a call standing while bags pass. The way out: tick every busy task to its answer; then at
  * the other end push, pop the bag again, remove 0; and try again. Full again, with no other task in a call: S - 2 bags
  * are in the lane, or S - 3 and the last place is at the other end. Full at both ends, one after the other: S - 2.
+ *
+ * TWICE. A bag number is in one place at most: a push of a number that stands in the lane, or that a busy push has, is
+ * refused when it is begun (16). So no lane that lane_start began holds a number twice.
  */
 #ifndef LANE_H
 #define LANE_H
@@ -55,7 +58,7 @@ extern "C" {
 #endif
 
 /* The library's version; and the number of the table's format: only libraries of this format work on the table. */
-#define LANE_VERSION "2.2.0"
+#define LANE_VERSION "2.3.0"
 #define LANE_TABLE_FORMAT 1
 
 /* Words of a table of `slots` (2 to 1,024) and `tasks` (1 to 16): 8 for the header, 3 a slot, 10 a task. */
@@ -123,6 +126,7 @@ extern "C" {
 #define LANE_REFUSED_LIST 13     /* list of odd length, or of more than 4,096 ticks */
 #define LANE_REFUSED_ANSWERS 14  /* answer slice under two words a tick */
 #define LANE_REFUSED_PANEL 15    /* panel: list of more than 32 ticks */
+#define LANE_REFUSED_TWICE 16    /* begin of a push: the bag number is in the lane or in a busy push */
 
 /* The two halves of an answer of 64 bits. */
 #define LANE_HIGH(number) ((uint32_t)((number) >> 32))
@@ -141,8 +145,9 @@ extern "C" {
 uint32_t lane_start(uint32_t *table, size_t words, uint32_t slots, uint32_t tasks, uint32_t growth);
 
 /*
- * Gives an idle task a call. Nothing of it is done before the task's ticks.
- * Returns 0, or a refusal: 3, 4, 5, 6, 7, 8. Writes the task's ten words.
+ * Gives an idle task a call. Nothing of it is done before the task's ticks. For a push the lane is walked, as by
+ * lane_read, for 11 and 16; so the number of a busy push gives 16 on its own task too.
+ * Returns 0, or a refusal: 3, 4, 5, 6, 7, 11 (push), 16 (push), 8. Writes the task's ten words.
  */
 uint32_t lane_begin(uint32_t *table, size_t words, uint32_t task, uint32_t operation, uint32_t side,
                     uint32_t argument);
@@ -218,7 +223,7 @@ static inline uint64_t lane_call(uint32_t *table, size_t words, uint32_t task, u
     return answer;
 }
 
-/* A refusal in words, for a message: a constant text in English; "not refused" for 0, "no refusal" above 15. */
+/* A refusal in words, for a message: a constant text in English; "not refused" for 0, "no refusal" above 16. */
 static inline const char *lane_refusal_text(uint32_t refusal) {
     switch (refusal) {
     case 0:
@@ -253,6 +258,8 @@ static inline const char *lane_refusal_text(uint32_t refusal) {
         return "fewer places for answers than ticks";
     case LANE_REFUSED_PANEL:
         return "a panel's list of more than 32 ticks";
+    case LANE_REFUSED_TWICE:
+        return "the bag number is in the lane or in a busy push";
     default:
         return "no refusal";
     }

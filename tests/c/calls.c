@@ -75,6 +75,9 @@ static void refusals(void) {
     EXPECT(lane_tick(table, WORDS, 0, 0) == PAIR(LANE_REFUSED, LANE_REFUSED_IDLE));
     EXPECT(lane_begin(table, WORDS, 0, LANE_PUSH, LANE_RIGHT, 51) == 0);
     EXPECT(lane_begin(table, WORDS, 0, LANE_POP, LANE_LEFT, 0) == LANE_REFUSED_BUSY);
+    EXPECT(lane_begin(table, WORDS, 0, LANE_PUSH, LANE_LEFT, 52) == LANE_REFUSED_BUSY);
+    EXPECT(lane_begin(table, WORDS, 0, LANE_PUSH, LANE_LEFT, 51) == LANE_REFUSED_TWICE);
+    EXPECT(lane_begin(table, WORDS, 1, LANE_PUSH, LANE_LEFT, 51) == LANE_REFUSED_TWICE);
     EXPECT(lane_run(table, WORDS, list, 3, answers, 4) == PAIR(0, LANE_REFUSED_LIST));
     EXPECT(lane_run(table, WORDS, list, 4, answers, 3) == PAIR(0, LANE_REFUSED_ANSWERS));
     EXPECT(lane_panel(table, WORDS, list, 2 * LANE_MAX_PANEL_TICKS + 1, answers, 0) == PAIR(0, LANE_REFUSED_LIST));
@@ -86,14 +89,17 @@ static void refusals(void) {
     table[7] = 0;
     table[9] = 65535; /* the left hat's link to the right made none, which no call does */
     EXPECT(lane_read(table, WORDS, answers, 1) == PAIR(1, LANE_REFUSED_NO_SLOT));
+    EXPECT(lane_begin(table, WORDS, 1, LANE_PUSH, LANE_LEFT, 0) == LANE_REFUSED_ARGUMENT);
+    EXPECT(lane_begin(table, WORDS, 1, LANE_PUSH, LANE_LEFT, 51) == LANE_REFUSED_NO_SLOT); /* 51 is in a busy push */
+    EXPECT(lane_begin(table, WORDS, 1, LANE_POP, LANE_LEFT, 0) == 0);
 
-    for (uint32_t one = 0; one <= 16; one++) {
+    for (uint32_t one = 0; one <= 17; one++) {
         EXPECT(strlen(lane_refusal_text(one)) > 0);
         for (uint32_t other = 0; other < one; other++) {
             EXPECT(strcmp(lane_refusal_text(one), lane_refusal_text(other)) != 0);
         }
     }
-    EXPECT(strcmp(lane_refusal_text(16), lane_refusal_text(4294967295u)) == 0);
+    EXPECT(strcmp(lane_refusal_text(17), lane_refusal_text(4294967295u)) == 0);
 }
 
 /* NULL with length 0 is an empty slice, in every place of every call. */
@@ -126,11 +132,13 @@ static void calls(void) {
     EXPECT(lane_call(table, WORDS, 0, LANE_PUSH, LANE_LEFT, 0) == PAIR(LANE_REFUSED, LANE_REFUSED_ARGUMENT));
     for (uint32_t bag = 1; bag <= LANE_MAX_BAGS(SLOTS); bag++) {
         EXPECT(lane_call(table, WORDS, 0, LANE_PUSH, LANE_RIGHT, bag) == PAIR(LANE_PUSHED, 0));
+        EXPECT(lane_call(table, WORDS, 1, LANE_PUSH, LANE_LEFT, bag) == PAIR(LANE_REFUSED, LANE_REFUSED_TWICE));
     }
     EXPECT(lane_call(table, WORDS, 0, LANE_PUSH, LANE_RIGHT, 99) == PAIR(LANE_FULL, 0));
     EXPECT(lane_call(table, WORDS, 0, LANE_PUSH, LANE_LEFT, 99) == PAIR(LANE_FULL, 0));
     EXPECT(lane_read(table, WORDS, answers, LANE_MAX_BAGS(SLOTS)) == LANE_MAX_BAGS(SLOTS));
     EXPECT(lane_call(table, WORDS, 1, LANE_POP, LANE_LEFT, 0) == PAIR(LANE_BAG, 1));
+    EXPECT(lane_call(table, WORDS, 1, LANE_PUSH, LANE_RIGHT, 2) == PAIR(LANE_REFUSED, LANE_REFUSED_TWICE));
     EXPECT(lane_call(table, WORDS, 1, LANE_REMOVE, LANE_RIGHT, 0) == PAIR(LANE_YES, 0)); /* nothing is spare there */
     EXPECT(lane_call(table, WORDS, 1, LANE_REMOVE, LANE_LEFT, 0) == PAIR(LANE_NO, 0));   /* one more than asked for */
     EXPECT(lane_call(table, WORDS, 1, LANE_REMOVE, LANE_LEFT, 0) == PAIR(LANE_NO, 0));

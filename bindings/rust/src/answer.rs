@@ -123,10 +123,12 @@ pub enum Refusal {
     Answers = 14,
     /// Panel: more than 32 ticks.
     Panel = 15,
+    /// Begin of a push: the bag number is in the lane or in a busy push.
+    Twice = 16,
 }
 
 impl Refusal {
-    const ALL: [Refusal; 15] = [
+    const ALL: [Refusal; 16] = [
         Refusal::Sizes,
         Refusal::Length,
         Refusal::Table,
@@ -142,6 +144,7 @@ impl Refusal {
         Refusal::List,
         Refusal::Answers,
         Refusal::Panel,
+        Refusal::Twice,
     ];
 
     /// The refusal of a number; none for a number that no call gives.
@@ -151,7 +154,7 @@ impl Refusal {
     /// ```
     pub const fn from_number(number: u32) -> Option<Refusal> {
         match number {
-            1..=15 => Some(Refusal::ALL[number as usize - 1]),
+            1..=16 => Some(Refusal::ALL[number as usize - 1]),
             _ => None,
         }
     }
@@ -184,6 +187,7 @@ impl fmt::Display for Refusal {
             Refusal::List => "a run takes at most 4,096 ticks",
             Refusal::Answers => "fewer places for answers than ticks",
             Refusal::Panel => "a panel's list of more than 32 ticks",
+            Refusal::Twice => "the bag number is in the lane or in a busy push",
         };
         write!(formatter, "refused {}: {reason}", self.number())
     }
@@ -302,11 +306,11 @@ mod tests {
 
     #[test]
     fn every_refusal_is_decoded_once_and_back() {
-        for number in 1..=15 {
+        for number in 1..=16 {
             let refusal = Refusal::from_number(number).expect("a refusal");
             assert_eq!(refusal.number(), number);
         }
-        for number in [0, 16, u32::MAX] {
+        for number in [0, 17, u32::MAX] {
             assert_eq!(Refusal::from_number(number), None);
         }
     }

@@ -66,8 +66,9 @@ pub fn start(table: &mut [u32], slots: u32, tasks: u32, growth: u32) -> u32 {
 ///
 /// let mut table = [0; 30];
 /// assert_eq!(ffi::start(&mut table, 4, 1, 0), 0);
-/// assert_eq!(ffi::begin(&mut table, 0, 2, 0, 0), 0);
-/// assert_eq!(ffi::begin(&mut table, 0, 2, 0, 0), 8);
+/// assert_eq!(ffi::begin(&mut table, 0, 1, 0, 51), 0);
+/// assert_eq!(ffi::begin(&mut table, 0, 1, 0, 51), 16);
+/// assert_eq!(ffi::begin(&mut table, 0, 1, 0, 52), 8);
 /// ```
 pub fn begin(table: &mut [u32], task: u32, operation: u32, side: u32, argument: u32) -> u32 {
     let (pointer, words) = (table.as_mut_ptr(), table.len());

@@ -35,6 +35,9 @@
 //! remove 0; and try again. Full again, with no other task in a call: the lane has S - 2 bags, or S - 3 and the last
 //! place is at the other end.
 //!
+//! A bag number is in one place at most: a push of a number that stands in the lane, or that a busy push has, is refused
+//! when it is begun ([`Refusal::Twice`]).
+//!
 //! [`Answer::Yes`] of a remove says that nothing more is to be done by it, and not that a slot was given back.
 //! [`Answer::No`] of a remove, with no other task in a call, means exactly one spare slot more than asked for; trying
 //! again changes nothing.
@@ -124,14 +127,16 @@ impl<W: AsRef<[u32]> + AsMut<[u32]>> Lane<W> {
         }
     }
 
-    /// Gives an idle task a call. Nothing of it is done before the task's ticks.
+    /// Gives an idle task a call. Nothing of it is done before the task's ticks. A push of a bag that is in the lane or
+    /// in a busy push is refused, on its own task too: [`Refusal::Twice`].
     ///
     /// ```
     /// use lane::{Lane, Operation, Refusal, Side};
     ///
-    /// let mut lane = Lane::start([0; lane::words(4, 1)], 4, 1, 0)?;
+    /// let mut lane = Lane::start([0; lane::words(4, 2)], 4, 2, 0)?;
     /// lane.begin(0, Operation::Push(51), Side::Right)?;
     /// assert_eq!(lane.begin(0, Operation::Pop, Side::Right), Err(Refusal::Busy));
+    /// assert_eq!(lane.begin(1, Operation::Push(51), Side::Left), Err(Refusal::Twice));
     /// # Ok::<(), Refusal>(())
     /// ```
     pub fn begin(&mut self, task: u32, operation: Operation, side: Side) -> Result<(), Refusal> {

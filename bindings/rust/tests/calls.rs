@@ -113,6 +113,35 @@ fn wrong_numbers_get_their_refusals_and_change_nothing() {
 }
 
 #[test]
+fn a_bag_is_pushed_once_until_it_is_popped() {
+    let mut lane = small();
+    let push = |bag| Operation::Push(bag);
+    assert_eq!(lane.begin(0, push(51), Side::Right), Ok(()));
+    let twice = Err(Refusal::Twice);
+    // While the push is busy, on its own task too; then while the bag is in the lane.
+    for pushed in [false, true] {
+        let before = lane.clone();
+        for (task, side) in [(0, Side::Left), (0, Side::Right), (1, Side::Left)] {
+            assert_eq!(lane.begin(task, push(51), side), twice);
+        }
+        assert_eq!(lane.call(1, push(51), Side::Right), Err(Refusal::Twice));
+        assert_eq!(lane, before);
+        if !pushed {
+            assert_eq!(lane.begin(0, push(52), Side::Right), Err(Refusal::Busy));
+            assert_eq!(finish(&mut lane, 0), Answer::Pushed);
+        }
+    }
+    assert_eq!(lane.begin(1, Operation::Add(51), Side::Left), Ok(()));
+    assert_eq!(lane.begin(1, push(51), Side::Left), twice);
+    assert_eq!(lane.begin(1, push(52), Side::Left), Err(Refusal::Busy));
+    assert_eq!(
+        lane.call(0, Operation::Pop, Side::Left),
+        Ok(Answer::Bag(51))
+    );
+    assert_eq!(lane.begin(0, push(51), Side::Left), Ok(()));
+}
+
+#[test]
 fn lent_words_are_tested_at_every_call() {
     let mut table = small().into_words();
     let mut out = [0; 8];
@@ -126,8 +155,10 @@ fn lent_words_are_tested_at_every_call() {
     table[7] = 0;
     // The left hat's link to the right made none, which no call does.
     table[9] = 65_535;
-    assert_eq!(
-        Lane::over(&mut table[..]).read(&mut out),
-        Err(Refusal::NoSlot)
-    );
+    let mut lane = Lane::over(&mut table[..]);
+    assert_eq!(lane.read(&mut out), Err(Refusal::NoSlot));
+    // A push walks the lane, the others do not.
+    let begun = lane.begin(0, Operation::Push(51), Side::Left);
+    assert_eq!(begun, Err(Refusal::NoSlot));
+    assert_eq!(lane.begin(0, Operation::Pop, Side::Left), Ok(()));
 }

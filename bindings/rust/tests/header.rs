@@ -44,7 +44,7 @@ fn the_header_has_the_same_numbers() {
 
 #[test]
 fn the_header_has_the_same_texts() {
-    for refusal in (1..=15).filter_map(Refusal::from_number) {
+    for refusal in (1..=16).filter_map(Refusal::from_number) {
         // A list of odd length cannot be handed to the wrapper.
         if refusal != Refusal::List {
             let shown = refusal.to_string();

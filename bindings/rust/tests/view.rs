@@ -61,7 +61,10 @@ fn tables_from_start_are_read_as_the_library_reads_them() {
                 let _ = lane.tick(task, random.below(slots)).expect("a busy task");
             } else {
                 let (operation, side) = (random.operation(), random.side());
-                lane.begin(task, operation, side).expect("an idle task");
+                match lane.begin(task, operation, side) {
+                    Err(Refusal::Twice) => assert!(matches!(operation, Operation::Push(_))),
+                    begun => begun.expect("an idle task"),
+                }
             }
             same(&lane);
         }
