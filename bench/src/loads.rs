@@ -6,8 +6,11 @@ use reference::table::{node, Sizes, ADD, POP, PUSH, REMOVE};
 pub const TASKS: u32 = 16;
 /// Most ticks of a run.
 const MOST_TICKS: u32 = 4096;
+/// Bags from here on are in no lane below.
+pub const NEW_BAG: u32 = 2000;
 const LEFT: u32 = 0;
-const RIGHT: u32 = 1;
+/// The right end.
+pub const RIGHT: u32 = 1;
 
 /// A table, and the ticks to make on it.
 pub struct Load {
@@ -63,7 +66,7 @@ pub fn takes(nodes: u32) -> Load {
 /// 16 pushes at both ends of a lane half full, until each has answered or 4,096 ticks are made.
 pub fn pushes(nodes: u32) -> Load {
     let mut table = filled(nodes, nodes / 2);
-    begin_all(&mut table, PUSH, 500);
+    begin_all(&mut table, PUSH, NEW_BAG);
     let mut list = Vec::new();
     let mut after = table.clone();
     let mut busy = true;
@@ -103,7 +106,8 @@ fn started(nodes: u32) -> Vec<u32> {
     table
 }
 
-/// Every task the same operation, at the left and the right in turn; a remove at the right, where the nodes are.
+/// Every task the same operation, at the left and the right in turn; a remove at the right, where the nodes are. Each
+/// push has a bag of its own, from the argument on.
 fn begin_all(table: &mut [u32], operation: u32, argument: u32) {
     for task in 0..TASKS {
         let side = if operation == REMOVE || task % 2 == 1 {
@@ -111,6 +115,7 @@ fn begin_all(table: &mut [u32], operation: u32, argument: u32) {
         } else {
             LEFT
         };
+        let argument = argument + if operation == PUSH { task } else { 0 };
         reference::begin(table, task, operation, side, argument).expect("an idle task");
     }
 }

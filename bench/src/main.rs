@@ -12,6 +12,7 @@ use std::hint::black_box;
 use loads::Load;
 use measure::{interleaved, nanoseconds, Figures};
 use programs::{Program, PROVED, RUST};
+use reference::table::PUSH;
 
 /// Words of all copies of a table in one round: they stay in the nearest cache.
 const ROUND_WORDS: usize = 6000;
@@ -84,8 +85,11 @@ fn ratios(rounds: usize) {
             show(name, nodes, load.ticks(), &measure(rounds, &load));
         }
     }
-    let read = reading(rounds, &loads::filled(1024, 1000), 1000);
+    let thousand = loads::filled(1024, 1000);
+    let read = reading(rounds, &thousand, 1000);
     show("reading 1,000 bags, the whole call", 1024, 0, &read);
+    let begin = beginning(rounds, &thousand);
+    show("begin of a push, 1,000 bags", 1024, 0, &begin);
 }
 
 fn show(name: &str, nodes: u32, ticks: usize, figures: &Figures) {
@@ -189,6 +193,30 @@ fn reading(rounds: usize, table: &[u32], bags: u64) -> Figures {
         move || {
             nanoseconds(|| {
                 black_box((program.read)(black_box(table), &mut out));
+            })
+        }
+    };
+    interleaved(rounds, work(&PROVED), work(&RUST))
+}
+
+/// The begin of a push that is accepted: no bag of the whole lane is its own.
+fn beginning(rounds: usize, table: &[u32]) -> Figures {
+    let begin = |program: &Program, table: &mut [u32]| {
+        (program.begin)(table, 0, PUSH, loads::RIGHT, loads::NEW_BAG)
+    };
+    let mut tables = [table.to_vec(), table.to_vec()];
+    assert_eq!(begin(&PROVED, &mut tables[0]), 0);
+    assert_eq!(begin(&RUST, &mut tables[1]), 0);
+    assert_eq!(
+        tables[0], tables[1],
+        "the programs differ in the table after a begin"
+    );
+    let work = |program: &'static Program| {
+        let mut lent = table.to_vec();
+        move || {
+            lent.copy_from_slice(table);
+            nanoseconds(|| {
+                black_box(begin(program, black_box(&mut lent)));
             })
         }
     };

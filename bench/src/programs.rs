@@ -4,6 +4,8 @@ use lane::ffi;
 
 /// The calls that are measured, answers as numbers of 64 bits.
 pub struct Program {
+    /// Task, operation, side and argument of a call.
+    pub begin: fn(&mut [u32], u32, u32, u32, u32) -> u32,
     /// One tick with its test of the table's shape.
     pub tick: fn(&mut [u32], u32, u32) -> u64,
     /// A list of ticks.
@@ -14,6 +16,7 @@ pub struct Program {
 
 /// The proved machine, from the static library.
 pub const PROVED: Program = Program {
+    begin: ffi::begin,
     tick: ffi::tick,
     run: ffi::run,
     read: ffi::read,
@@ -21,6 +24,10 @@ pub const PROVED: Program = Program {
 
 /// The second program in Rust.
 pub const RUST: Program = Program {
+    begin: |table, task, operation, side, argument| {
+        let begun = reference::begin(table, task, operation, side, argument);
+        begun.err().unwrap_or(0)
+    },
     tick: |table, task, hint| match reference::tick(table, task, hint) {
         Ok(answer) => pair(answer.words()[0], answer.words()[1]),
         Err(number) => pair(7, number),
