@@ -58,7 +58,7 @@ extern "C" {
 #endif
 
 /* The library's version; and the number of the table's format: only libraries of this format work on the table. */
-#define LANE_VERSION "2.3.0"
+#define LANE_VERSION "3.0.0"
 #define LANE_TABLE_FORMAT 1
 
 /* Words of a table of `slots` (2 to 1,024) and `tasks` (1 to 16): 8 for the header, 3 a slot, 10 a task. */
