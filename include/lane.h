@@ -145,8 +145,8 @@ extern "C" {
 uint32_t lane_start(uint32_t *table, size_t words, uint32_t slots, uint32_t tasks, uint32_t growth);
 
 /*
- * Gives an idle task a call. Nothing of it is done before the task's ticks. For a push the lane is walked, as by
- * lane_read, for 11 and 16; so the number of a busy push gives 16 on its own task too.
+ * Gives an idle task a call. Nothing of it is done before the task's ticks. For a push the lane is walked as by
+ * lane_read (11), and the number looked for there and in every busy push, the task's own included (16).
  * Returns 0, or a refusal: 3, 4, 5, 6, 7, 11 (push), 16 (push), 8. Writes the task's ten words.
  */
 uint32_t lane_begin(uint32_t *table, size_t words, uint32_t task, uint32_t operation, uint32_t side,
