@@ -1,15 +1,13 @@
 -- Pushes alone come to "full": each answers, "pushed" puts one bag more into the lane, and there is an end to that.
 use mathlib.Core.Path.{_≡_, refl, sym, ap, _∙_, subst}
 use mathlib.Core.Logic.{_⊎_, inl, inr}
-use mathlib.Core.Bool.{true, false}
+use mathlib.Core.Bool.{true}
 use mathlib.Core.List.{List, [], _∷_}
 use mathlib.Core.Option.{Option, some, none as nothing, bind}
 use Prim.Native.Nat.{ℕ, zero, suc, _+_, _*_, _≤_, _<_}
 use native.Mathlib.Omega.{arith}
-use native.Mathlib.Decide.{ℕ-discrete}
 use lib.ListN.{length, length-append}
-use lib.Dec.{leb}
-use borrow.Author.Tests.{le-leb, lt-ltb}
+use borrow.Author.Tests.{le-leb}
 use Rattle.machine.specs.Values.{number, stored, largestBag, bagOk}
 use Rattle.machine.specs.declared.Answer.{Answer}
 use Rattle.machine.specs.declared.Answer.the-variants.{Going, Pushed, Bag, Empty, Full, Yes, No, Refused}
@@ -18,12 +16,13 @@ use Rattle.machine.specs.declared.Reply.the-variants.{Accepted}
 use Rattle.machine.specs.declared.Stored.{Stored}
 use Rattle.machine.specs.Sides.{Side, left, right, sideNumber, sideOf}
 use Rattle.machine.specs.Operations.{Operation, push, operationNumber, operationOf}
-use Rattle.machine.specs.Table.{nodeCount, taskCount, task}
+use Rattle.machine.specs.Table.{nodeCount, task}
 use Rattle.machine.specs.Answers.{refusalOf}
-use Rattle.machine.specs.Calls.{isBusy, isBegun, seenRefusal, begin, Ticked, tickOn, tick, lane}
+use Rattle.machine.specs.Calls.{isIdle, isBusy, begin, Ticked, tickOn, tick, lane}
 use Rattle.machine.specs.Row.{Note, Row, put, pushAnswered, feedMade}
 use Rattle.machine.specs.Demand3.{begin-call, feedBegin}
 use Rattle.machine.specs.Begun.{Begun, by-call}
+use Rattle.machine.specs.Twice.{SeenIn}
 use Rattle.machine.specs.Answers.{endsCall}
 use Rattle.progress.specs.Solo.{AnswersAlone, answers-now, answers-later, HintsBelow}
 use Rattle.capacity.specs.NoLeak.{Idle}
@@ -38,15 +37,15 @@ use Rattle.capacity.specs.Capacity.{
   one-more,
   FillsUp,
 }
-use Rattle.machine.proofs.Basics.Contradiction.{clash}
+use Rattle.machine.proofs.Basics.Contradiction.{clash, refute}
 use Rattle.machine.proofs.Shape.ShapeLaws.{well-sized}
-use Rattle.machine.proofs.Shape.ShapeKept.{table-passes}
 use Rattle.machine.proofs.Linearizability.Model.Invariant.{noteOf}
 use Rattle.machine.proofs.Linearizability.Calls.Reading.{row-length, main-is-node}
 use Rattle.machine.proofs.Linearizability.Calls.Agreement.{Agrees, noteUnder, lane-is-row}
 use Rattle.machine.proofs.Linearizability.Calls.MadeTicks.{MadeTick, made-tick}
 use Rattle.machine.proofs.Linearizability.Calls.CallsAgree.{begin-explained}
 use Rattle.machine.proofs.Linearizability.Corollaries.{begun-agrees, tick-passes, made-passes}
+use Rattle.machine.proofs.Linearizability.Twice.Begins.{noted-busy, begins-new}
 use Rattle.progress.proofs.SoloBound.Theorem.{closer-solo-bound}
 use Rattle.capacity.proofs.NewNumber.{new-number}
 use Rattle.capacity.proofs.PushesAlone.{OnItsWay, begun-on-its-way}
@@ -182,12 +181,6 @@ to-answer {k} {ws = ws} (answers-now {h} e) =
     (tick ws k h .answer, tick ws k h .words, ends-now h e refl refl)
 to-answer (answers-later {h} going more) = let r = to-answer more in (r .0, r .1, ends-later h going (r .2))
 
--- No task is in a push.
-none-begun : (ws : List ℕ) → Idle ws → (m n : ℕ) → isBegun ws m n ≡ false
-unfolding isBegun
-none-begun ws idle-now zero n = refl
-none-begun ws idle-now (suc m) n = rw (idle-now m) (none-begun ws idle-now m n)
-
 -- A bag that is not in the lane.
 module _ {ws : List ℕ} (B : Begun ws) where
   abbrev bags-now : List ℕ
@@ -206,29 +199,15 @@ module _ {ws : List ℕ} (B : Begun ws) where
   -- Task 0 begins a push of it where no task is in a call.
   begins-push : Idle ws → (s : Side)
       → begin ws 0 (operationNumber push) (sideNumber s) (stored new-bag) .reply ≡ Accepted
-  unfolding begin ℕ-discrete
   begins-push idle-now s =
       let A = begun-agrees B .1 in
-      rw (
-        table-passes ws (A .accepted),
-        lt-ltb 0 (taskCount ws) (well-sized ws (A .accepted .length-passes) .one-task),
-        side-passes s,
-        is-bag,
-        not-twice idle-now,
-        idle-now 0,
-      )
+      let one-task = well-sized ws (A .accepted .length-passes) .one-task in
+      begins-new A 0 s (stored new-bag) one-task is-bag .when-new not-seen (ap isIdle (idle-now 0))
     where
-      side-passes : (s : Side) → leb (sideNumber s) 1 ≡ true
-      side-passes left = refl
-      side-passes right = refl
-
-      not-twice : Idle ws → (others : Option ℕ) → seenRefusal ws new-bag (lane ws) others ≡ others
-      not-twice idle-now others =
-          rw (
-            lane-is-row (begun-agrees B .1),
-            new-number bags-now .3,
-            none-begun ws idle-now (taskCount ws) new-bag,
-          )
+      not-seen : SeenIn (begun-agrees B .0) new-bag → ⊥
+      not-seen (inl there) = refute (cc (new-number bags-now .3))
+      not-seen (inr N) =
+          refute (cc (noted-busy (begun-agrees B .1) (N .0) new-bag (N .1) .0, idle-now (N .0)))
 
 -- A push alone, and what is in the lane afterwards.
 data OnePush (s : Side) (ws bags : List ℕ) : Type 0 where

@@ -1,20 +1,21 @@
 -- Request 2026-03: no bag number twice. What that is for a row, for a table and for the calls that lead there.
 use mathlib.Core.Path.{_≡_}
 use mathlib.Core.Logic.{_⊎_}
-use mathlib.Core.Bool.{true, false}
+use mathlib.Core.Bool.{Bool, true, false}
 use mathlib.Core.List.{List, [], _∷_}
 use mathlib.Core.Option.{Option, some, bind}
 use Prim.Native.Nat.{ℕ, _<_}
 use lib.ListN.{length, getD}
+use Rattle.machine.specs.declared.Reply.{Reply}
 use Rattle.machine.specs.declared.Reply.the-variants.{Accepted, Refused as Reply-Refused}
 use Rattle.machine.specs.declared.Stored.{Stored}
 use Rattle.machine.specs.Sides.{Side, sideNumber}
 use Rattle.machine.specs.Values.{number, bagOk}
 use Rattle.machine.specs.Operations.{push, operationNumber}
 use Rattle.machine.specs.Table.{taskCount, task}
-use Rattle.machine.specs.Calls.{isAmong, start, begin, lane}
+use Rattle.machine.specs.Calls.{isIdle, isAmong, start, begin, lane}
 use Rattle.machine.specs.Row.{Row, emptyRow}
-use Rattle.machine.specs.Demand3.{Call, given, after, feed, afterTicks}
+use Rattle.machine.specs.Demand3.{Call, given, after, feed, LaneIs, afterTicks}
 use Rattle.machine.specs.Begun.{Begun, afterAll}
 
 -- No number is in two places of a list.
@@ -70,7 +71,7 @@ unfoldable pub rowAfter : List Call → List ℕ → Row → Option Row
 rowAfter [] ws ρ = some ρ
 rowAfter (c ∷ cs) ws ρ = bind (feed ρ c (given c ws)) (λ ρ′. rowAfter cs (after c ws) ρ′)
 
--- The row that explains the calls since an accepted start.
+-- The row that an accepted start and calls since then, which lead to the table ws, come to.
 pub record RowSince (ws : List ℕ) (ρ : Row) : Type 0 where
   pub S : ℕ
   pub T : ℕ
@@ -81,22 +82,32 @@ pub record RowSince (ws : List ℕ) (ρ : Row) : Type 0 where
   pub leads-to : afterAll calls (start old S T growth .words) ≡ ws
   pub row-is : rowAfter calls (start old S T growth .words) emptyRow ≡ some ρ
 
+-- Every table that our calls lead to has one, and its lane is that row.
+abbrev pub EachHasRow : Type 0
+EachHasRow = (ws : List ℕ) → Begun ws → (ρ : Row) × RowSince ws ρ × LaneIs ws ρ
+
 abbrev pub RowsHaveOnce : Type 0
 RowsHaveOnce = (ws : List ℕ) (ρ : Row) → RowSince ws ρ → OnceInRow ρ
 
 -- ---- Begin.
 
--- The bag is in the row, or a noted push will put it there.
+-- The bag is in the row, or is the argument of a noted push.
 abbrev pub SeenIn : Row → ℕ → Type 0
 SeenIn ρ b = (isAmong b (ρ .bags) ≡ true) ⊎ ((k : ℕ) × PushNoted ρ k b)
 
--- A begin of a push that passes 5, 6 and 7 is refused with 16 exactly when the row has seen the bag.
-abbrev pub RefusedWhenSeen : Type 0
-RefusedWhenSeen =
+-- A begin of a push that passes 5, 6 and 7 is refused with 16 exactly when the row has seen the bag; if it has not, an
+-- idle task accepts it.
+pub record BeginsNew (ρ : Row) (b : ℕ) (is-idle : Bool) (reply : Reply) : Type 0 where
+  pub only-when-seen : reply ≡ Reply-Refused 16 → SeenIn ρ b
+  pub when-seen : SeenIn ρ b → reply ≡ Reply-Refused 16
+  pub when-new : (SeenIn ρ b → ⊥) → is-idle ≡ true → reply ≡ Accepted
+
+abbrev pub PushesBeginNew : Type 0
+PushesBeginNew =
     (ws : List ℕ) (ρ : Row)
     → RowSince ws ρ
     → (k : ℕ) (s : Side) (argument : Stored)
     → k < taskCount ws
     → bagOk argument ≡ true
-    → (begin ws k (operationNumber push) (sideNumber s) argument .reply ≡ Reply-Refused 16 → SeenIn ρ (number argument))
-    × (SeenIn ρ (number argument) → begin ws k (operationNumber push) (sideNumber s) argument .reply ≡ Reply-Refused 16)
+    → BeginsNew ρ (number argument) (isIdle (task ws k .operation))
+    (begin ws k (operationNumber push) (sideNumber s) argument .reply)

@@ -28,7 +28,7 @@ use Rattle.machine.specs.Calls.{
   begin,
 }
 use Rattle.machine.specs.Row.{Note, Row}
-use Rattle.machine.specs.Twice.{PushNoted, SeenIn}
+use Rattle.machine.specs.Twice.{PushNoted, SeenIn, BeginsNew}
 use Rattle.machine.proofs.Basics.Contradiction.{clash, refute, equal?}
 use Rattle.machine.proofs.Basics.Tests.{
   and-left,
@@ -177,19 +177,27 @@ module _ {ws : List ℕ} {ρ : Row} (A : Agrees ws ρ) where
     not-16 true e = refute (cc)
     not-16 false e = refute (cc)
 
-    pub refused-seen : begin ws k (operationNumber push) (sideNumber s) argument .reply ≡ Reply-Refused 16
-        → SeenIn ρ (number argument)
-    unfolding begin
-    refused-seen e = go (isSeen (number argument)) refl
+    only-seen : unless (not (isSeen (number argument))) 16 after-16 ≡ some 16 → SeenIn ρ (number argument)
+    only-seen met = go (isSeen (number argument)) refl
       where
-        met : unless (not (isSeen (number argument))) 16 after-16 ≡ some 16
-        met = sym refusal-is ∙ refused-so _ 16 _ _ e
-
         go : (t : Bool) → isSeen (number argument) ≡ t → SeenIn ρ (number argument)
         go true q = seen-so (number argument) q
         go false q = absurd (not-16 (isIdle (task ws k .operation)) (rw q at met))
 
-    pub seen-refused : SeenIn ρ (number argument)
-        → begin ws k (operationNumber push) (sideNumber s) argument .reply ≡ Reply-Refused 16
+    unseen : (SeenIn ρ (number argument) → ⊥) → isSeen (number argument) ≡ false
+    unseen new = go (isSeen (number argument)) refl
+      where
+        go : (t : Bool) → isSeen (number argument) ≡ t → isSeen (number argument) ≡ false
+        go true q = absurd (new (seen-so (number argument) q))
+        go false q = q
+
+    pub begins-new :
+        BeginsNew ρ (number argument) (isIdle (task ws k .operation))
+        (begin ws k (operationNumber push) (sideNumber s) argument .reply)
     unfolding begin
-    seen-refused seen = rw (refusal-is, tests-so (number argument) seen)
+    begins-new =
+        record {
+          only-when-seen = λ e. only-seen (sym refusal-is ∙ refused-so _ 16 _ _ e);
+          when-seen = λ seen. rw (refusal-is, tests-so (number argument) seen);
+          when-new = λ new is-idle. rw (refusal-is, unseen new, is-idle);
+        }

@@ -1,14 +1,25 @@
 -- Request 2026-03: no bag number is in two places of the lane, or in it and in a busy push, or in two busy pushes.
-use mathlib.Core.Path.{_≡_, refl, sym, _∙_, subst}
-use mathlib.Core.List.{List, [], _∷_}
+use mathlib.Core.Path.{_≡_, refl, sym, ap, _∙_, subst}
+use mathlib.Core.List.{List, [], _∷_, _++_}
 use mathlib.Core.Option.{some, bind}
 use Prim.Native.Nat.{ℕ}
 use Rattle.machine.specs.declared.Reply.{Reply}
 use Rattle.machine.specs.declared.Reply.the-variants.{Accepted, Refused as Reply-Refused}
 use Rattle.machine.specs.Table.{task}
-use Rattle.machine.specs.Calls.{begin}
+use Rattle.machine.specs.Calls.{start, begin}
 use Rattle.machine.specs.Row.{Row, emptyRow}
-use Rattle.machine.specs.Demand3.{Call, start-call, begin-call, tick-call, run-call, panel-call, read-call, given}
+use Rattle.machine.specs.Demand3.{
+  Call,
+  start-call,
+  begin-call,
+  tick-call,
+  run-call,
+  panel-call,
+  read-call,
+  given,
+  after,
+  feed,
+}
 use Rattle.machine.specs.Begun.{Begun, by-start, by-call, afterAll}
 use Rattle.machine.specs.Twice.{
   AllDifferent,
@@ -18,14 +29,16 @@ use Rattle.machine.specs.Twice.{
   TablesHaveOnce,
   rowAfter,
   RowSince,
+  EachHasRow,
   RowsHaveOnce,
-  RefusedWhenSeen,
+  PushesBeginNew,
 }
 use Rattle.machine.proofs.Linearizability.Calls.Agreement.{Agrees, lane-is-row}
 use Rattle.machine.proofs.Linearizability.Theorem.{call-explained, started-agrees}
+use Rattle.machine.proofs.Linearizability.Histories.{bound}
 use Rattle.machine.proofs.Linearizability.Corollaries.{begun-inside-runs}
 use Rattle.machine.proofs.Linearizability.Twice.Rows.{Once, once-in-row, once-empty, NewWhereBegun, once-fed}
-use Rattle.machine.proofs.Linearizability.Twice.Begins.{busy-noted, accepted-new, refused-seen, seen-refused}
+use Rattle.machine.proofs.Linearizability.Twice.Begins.{busy-noted, accepted-new, begins-new}
 
 -- ---- Every call, on a table that agrees with the row.
 module _ {ws : List ℕ} {ρ : Row} (A : Agrees ws ρ) where
@@ -43,39 +56,6 @@ module _ {ws : List ℕ} {ρ : Row} (A : Agrees ws ρ) where
 
   once-called : Once ρ → (c : Call) → Once (call-explained A c .row)
   once-called O c = once-fed c (given c ws) O (new-where-begun c) (call-explained A c .given-by-row)
-
--- ---- Tables.
-begun-once : {ws : List ℕ} → Begun ws → (ρ : Row) × Agrees ws ρ × Once ρ
-begun-once (by-start S T g old accepted) = (emptyRow, started-agrees S T g old accepted, once-empty)
-begun-once (by-call B c) =
-    let x = begun-once B in
-    let E = call-explained (x .1) c in
-    (E .row, E .agrees, once-called (x .1) (x .2) c)
-
-pub tables-have-once : TablesHaveOnce
-tables-have-once ws B =
-    let ρ = begun-once B .0 in
-    let A = begun-once B .1 in
-    let O = once-in-row (begun-once B .2) in
-    record {
-      bags = ρ .bags;
-      lane-is = lane-is-row A;
-      different = O .different;
-      not-in-lane = λ k e. O .not-in-row k (task ws k .argument) (busy-noted A k e);
-      one-task = λ j k d e same.
-          O .one-task j k (task ws k .argument) (subst (PushNoted ρ j) same (busy-noted A j d)) (busy-noted A k e);
-    }
-
-same-some : {T : Type 0} {x y : T} → some x ≡ some y → x ≡ y
-same-some e = cc
-
-pub no-twice : NoTwice
-no-twice ws B bags is-lane =
-    let O = tables-have-once ws B in
-    subst AllDifferent (same-some (sym (O .lane-is) ∙ is-lane)) (O .different)
-
-pub no-twice-inside : NoTwiceInside
-no-twice-inside ws B i list = no-twice _ (begun-inside-runs i list B)
 
 -- ---- Rows.
 rows-agree : (cs : List Call) {ws : List ℕ} {ρ ρ′ : Row} → Agrees ws ρ → Once ρ → rowAfter cs ws ρ ≡ some ρ′
@@ -96,8 +76,87 @@ row-agrees {ws} {ρ} R =
 pub rows-have-once : RowsHaveOnce
 rows-have-once ws ρ R = once-in-row (row-agrees R .1)
 
+-- One call more at the end of a list.
+after-one-more : (cs : List Call) (c : Call) (ws : List ℕ) → afterAll (cs ++ (c ∷ [])) ws ≡ after c (afterAll cs ws)
+unfolding afterAll
+after-one-more [] c ws = refl
+after-one-more (d ∷ cs) c ws = after-one-more cs c (after d ws)
+
+row-one-more : (cs : List Call) (c : Call) (ws : List ℕ) (ρ : Row) {ρ′ ρ″ : Row} → rowAfter cs ws ρ ≡ some ρ′
+    → feed ρ′ c (given c (afterAll cs ws)) ≡ some ρ″
+    → rowAfter (cs ++ (c ∷ [])) ws ρ ≡ some ρ″
+unfolding rowAfter afterAll bind
+row-one-more [] c ws ρ {ρ′} e f = let same : ρ ≡ ρ′ = cc in rw (same, f)
+row-one-more (d ∷ cs) c ws ρ e f =
+    let x = bound (feed ρ d (given d ws)) _ e in
+    rw (x .1) (row-one-more cs c (after d ws) (x .0) (x .2) f)
+
+one-more : {ws : List ℕ} {ρ ρ′ : Row} (c : Call) → RowSince ws ρ → feed ρ c (given c ws) ≡ some ρ′
+    → RowSince (after c ws) ρ′
+one-more {ws} {ρ} {ρ′} c R f =
+    let began = start (R .old) (R .S) (R .T) (R .growth) .words in
+    record {
+      S = R .S;
+      T = R .T;
+      growth = R .growth;
+      old = R .old;
+      accepted = R .accepted;
+      calls = R .calls ++ (c ∷ []);
+      leads-to = after-one-more (R .calls) c began ∙ ap (after c) (R .leads-to);
+      row-is =
+          row-one-more (R .calls) c began emptyRow (R .row-is)
+          (subst (λ (vs : List ℕ). feed ρ c (given c vs) ≡ some ρ′) (sym (R .leads-to)) f);
+    }
+
+begun-row : {ws : List ℕ} → Begun ws → (ρ : Row) × RowSince ws ρ
+unfolding rowAfter afterAll
+begun-row (by-start S T g old accepted) = (
+  emptyRow,
+  record {
+    S = S;
+    T = T;
+    growth = g;
+    old = old;
+    accepted = accepted;
+    calls = [];
+    leads-to = refl;
+    row-is = refl;
+  },
+)
+begun-row (by-call B c) =
+    let x = begun-row B in
+    let E = call-explained (row-agrees (x .1) .0) c in
+    (E .row, one-more c (x .1) (E .given-by-row))
+
+pub each-has-row : EachHasRow
+each-has-row ws B = let x = begun-row B in (x .0, x .1, lane-is-row (row-agrees (x .1) .0))
+
+-- ---- Tables.
+pub tables-have-once : TablesHaveOnce
+tables-have-once ws B =
+    let ρ = begun-row B .0 in
+    let A = row-agrees (begun-row B .1) .0 in
+    let O = rows-have-once ws ρ (begun-row B .1) in
+    record {
+      bags = ρ .bags;
+      lane-is = lane-is-row A;
+      different = O .different;
+      not-in-lane = λ k e. O .not-in-row k (task ws k .argument) (busy-noted A k e);
+      one-task = λ j k d e same.
+          O .one-task j k (task ws k .argument) (subst (PushNoted ρ j) same (busy-noted A j d)) (busy-noted A k e);
+    }
+
+same-some : {T : Type 0} {x y : T} → some x ≡ some y → x ≡ y
+same-some e = cc
+
+pub no-twice : NoTwice
+no-twice ws B bags is-lane =
+    let O = tables-have-once ws B in
+    subst AllDifferent (same-some (sym (O .lane-is) ∙ is-lane)) (O .different)
+
+pub no-twice-inside : NoTwiceInside
+no-twice-inside ws B i list = no-twice _ (begun-inside-runs i list B)
+
 -- ---- Begin.
-pub refused-when-seen : RefusedWhenSeen
-refused-when-seen ws ρ R k s argument is-task is-bag =
-    let A = row-agrees R .0 in
-    (refused-seen A k s argument is-task is-bag, seen-refused A k s argument is-task is-bag)
+pub pushes-begin-new : PushesBeginNew
+pushes-begin-new ws ρ R k s argument is-task is-bag = begins-new (row-agrees R .0) k s argument is-task is-bag
