@@ -134,7 +134,7 @@ module _ {ws : List ℕ} {ρ : Row} (A : Agrees ws ρ) where
       (noted-begun (taskCount ws) n k (busy-is-task ws k is) (N .1))
 
   -- ---- Begin.
-  pub twice-is : (n : ℕ) (others : Option ℕ) → twiceRefusal ws push n others ≡ unless (not (isSeen n)) 16 others
+  twice-is : (n : ℕ) (others : Option ℕ) → twiceRefusal ws push n others ≡ unless (not (isSeen n)) 16 others
   twice-is n others = rw (lane-is-row A)
 
   -- An accepted push is of a bag not seen.
