@@ -1,6 +1,5 @@
 -- `beginning::pushes` meets its contract: the record's operation, then its argument.
 use mathlib.Core.Path.{sym, ap, _∙_}
-use native.Mathlib.Decide.{ℕ-discrete}
 use lib.Dec.{eqb}
 use borrow.Author.Needs.{needs}
 use Rattle.machine.specs.Values.{number}
