@@ -48,31 +48,33 @@ def row(y, place, label, words, fill, width):
 
 def table():
     header = ["S", "T", "growth", "left hat", "right hat", "ticks", "0", "0"]
-    node = ["L", "R", "V"]
-    task = ["operation", "step", "side", "argument", "counted", "value", "A", "B", "C", "D"]
-    parts = [text(20, 30, "A table of 8 + 3S + 10T words", 16, "start", weight="bold")]
-    parts += row(70, str, "header", header, FILLS["header"], 71)
-    parts += row(150, lambda i: f"8 + 3x + {i}", "node x, below S", node, FILLS["node"], 190)
-    parts += row(230, lambda i: f"+ {i}" if i else "8 + 3S + 10k", "task k, below T", task, FILLS["task"], 71)
+    node = ["L", "R", "V", "digit"]
+    task = ["operation", "step", "side", "argument", "digit", "counted", "value", "digit", "A", "B", "C", "D"]
+    parts = [text(20, 30, "A table of 8 + 4S + 12T words", 16, "start", weight="bold")]
+    parts += row(70, str, "header", header, FILLS["header"], 96)
+    parts += row(150, lambda i: f"8 + 4x + {i}", "node x, below S", node, FILLS["node"], 192)
+    parts += row(230, lambda i: f"+ {i}" if i else "8 + 4S + 12k", "task k, below T", task, FILLS["task"], 64)
     notes = [
         "The nodes' words, from word 8 on, are lent to a line as a mutable part: a line cannot touch the header or a record.",
-        "L, R and A to D are node numbers, or 65,535 for none. V is a bag number, a mark, or 0 for never used.",
+        "L, R and A to D are node numbers, or 65,535 for none. A tag is its digit, 0 to 9, before the nine digits of V. V may",
+        "also be a mark, or 0 for never used, both with digit 0; V 0 with a digit of 1 to 9 is a tag.",
     ]
     parts += [text(20, 300 + 17 * i, note, 12, "start", SOFT) for i, note in enumerate(notes)]
-    drawing("table.svg", 930, 335, "Where each word of the table stands", parts)
+    drawing("table.svg", 980, 352, "Where each word of the table stands", parts)
 
 
 def node(x, y, number, value, fill, dash=""):
     return [
         box(x, y, 90, 48, fill, dash),
-        text(x + 45, y + 30, value, 16, weight="bold"),
+        text(x + 45, y + 30, value, 12 if len(value) > 2 else 16, weight="bold"),
         text(x + 45, y + 64, f"node {number}", 11, fill=SOFT),
     ]
 
 
 def spur():
-    parts = [text(20, 30, "A hat on a spur (case 5, after task 1 has pushed 51)", 16, "start", weight="bold")]
-    for i, (number, value) in enumerate([(0, "LX"), (1, "51"), (2, "RX")]):
+    title = "A hat on a spur (case 5, after task 1 has pushed 0000000051)"
+    parts = [text(20, 30, title, 16, "start", weight="bold")]
+    for i, (number, value) in enumerate([(0, "LX"), (1, "0000000051"), (2, "RX")]):
         parts += node(60 + 200 * i, 100, number, value, FILLS["node"])
     for i in range(2):
         parts += [arrow(150 + 200 * i, 114, 258 + 200 * i, 114), text(205 + 200 * i, 108, "R", 11)]

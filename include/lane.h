@@ -8,7 +8,7 @@
  *
  * int main(void) {
  *     static uint32_t table[LANE_WORDS(4, 1)];
- *     uint32_t bags[LANE_MAX_BAGS(4)];
+ *     uint32_t tags[LANE_TAG_WORDS * LANE_MAX_BAGS(4)];
  *     size_t words = LANE_WORDS(4, 1);
  *     uint32_t refusal = lane_start(table, words, 4, 1, 0);
  *     if (refusal != 0) {
@@ -16,8 +16,8 @@
  *         return 1;
  *     }
  *     uint64_t answer = lane_call(table, words, 0, LANE_PUSH, LANE_RIGHT, 51);
- *     uint64_t reading = lane_read(table, words, bags, LANE_MAX_BAGS(4));
- *     return LANE_HIGH(answer) == LANE_PUSHED && reading == 1 && bags[0] == 51 ? 0 : 1;
+ *     uint64_t reading = lane_read(table, words, tags, LANE_TAG_WORDS * LANE_MAX_BAGS(4));
+ *     return LANE_KIND(answer) == LANE_PUSHED && reading == 1 && lane_tag(tags[0], tags[1]) == 51 ? 0 : 1;
  * }
  * ```
  *
@@ -44,8 +44,12 @@
  * the other end push, pop the bag again, remove 0; and try again. Full again, with no other task in a call: S - 2 bags
  * are in the lane, or S - 3 and the last place is at the other end. Full at both ends, one after the other: S - 2.
  *
- * TWICE. A bag number is in one place at most: a push of a number that stands in the lane, or that a busy push has, is
- * refused when it is begun (16). So no lane that lane_start began holds a number twice.
+ * TAGS. A bag goes by its tag of ten digits, 1 to 9,999,999,999: a number of 64 bits, or two words of 32, the leading
+ * digit and the low part, the nine digits below it. Calls take and write the digit first. lane_tag makes the number of
+ * the words, lane_tag_digit and lane_tag_low the words of the number; "%010" PRIu64 prints it with its zeros.
+ *
+ * TWICE. A tag is in one place at most: a push of a tag that stands in the lane, or that a busy push has, is refused
+ * when it is begun (16). So no lane that lane_start began holds a tag twice.
  */
 #ifndef LANE_H
 #define LANE_H
@@ -58,11 +62,15 @@ extern "C" {
 #endif
 
 /* The library's version; and the number of the table's format: only libraries of this format work on the table. */
-#define LANE_VERSION "3.0.0"
-#define LANE_TABLE_FORMAT 1
+#define LANE_VERSION "4.0.0"
+#define LANE_TABLE_FORMAT 2
 
-/* Words of a table of `slots` (2 to 1,024) and `tasks` (1 to 16): 8 for the header, 3 a slot, 10 a task. */
-#define LANE_WORDS(slots, tasks) (8 + 3 * (size_t)(slots) + 10 * (size_t)(tasks))
+/* Words of a table of `slots` (2 to 1,024) and `tasks` (1 to 16): 8 for the header, 4 a slot, 12 a task. */
+#define LANE_WORDS(slots, tasks) (8 + 4 * (size_t)(slots) + 12 * (size_t)(tasks))
+
+/* Words that a read writes for each tag, and a run for each tick. */
+#define LANE_TAG_WORDS 2
+#define LANE_ANSWER_WORDS 3
 
 /* The most bags that a table of so many slots carries. */
 #define LANE_MAX_BAGS(slots) ((slots) - 2)
@@ -76,21 +84,23 @@ extern "C" {
 #define LANE_MIN_TASKS 1
 #define LANE_MAX_TASKS 16
 #define LANE_MAX_GROWTH 64
-#define LANE_MIN_BAG 1
-#define LANE_MAX_BAG 999999999
+#define LANE_MIN_TAG 1
+#define LANE_MAX_TAG UINT64_C(9999999999)
+#define LANE_MAX_DIGIT 9        /* of a tag, the leading one */
+#define LANE_MAX_LOW 999999999  /* of a tag, the nine digits below */
 #define LANE_MAX_ADD 64         /* argument of an add */
 #define LANE_MAX_REMOVE 1023    /* argument of a remove */
 #define LANE_MAX_TICKS 4096     /* of one run */
 #define LANE_MAX_PANEL_TICKS 32 /* of one list of the panel */
-#define LANE_MIN_WORDS 24       /* of a table */
-#define LANE_MAX_WORDS 3240
+#define LANE_MIN_WORDS 28       /* of a table */
+#define LANE_MAX_WORDS 4296
 
 /* The ends of the lane. */
 #define LANE_LEFT 0
 #define LANE_RIGHT 1
 
-/* What a task can be told to do, with the argument's range. */
-#define LANE_PUSH 1   /* put a bag at the end: the bag, 1 to 999,999,999 */
+/* What a task can be told to do, with the argument's range. The digit is 0 but for a push. */
+#define LANE_PUSH 1   /* put a bag at the end: its tag, digit 0 to 9 and low part 0 to 999,999,999, not both 0 */
 #define LANE_POP 2    /* take the bag at the end: 0 */
 #define LANE_ADD 3    /* make a free slot a spare one at the end, and so many more: 0 to 64 */
 #define LANE_REMOVE 4 /* give back the spare slots at the end but the one that stays and so many: 0 to 1,023 */
@@ -98,7 +108,7 @@ extern "C" {
 /* What a tick answers: the kind, which a run writes too (but 7). */
 #define LANE_GOING 0   /* the call is not finished */
 #define LANE_PUSHED 1  /* a push put its bag in the lane */
-#define LANE_BAG 2     /* a pop took a bag, the value */
+#define LANE_BAG 2     /* a pop took a bag; the value is its tag */
 #define LANE_EMPTY 3   /* a pop found the lane empty */
 #define LANE_FULL 4    /* a push found no free slot */
 #define LANE_YES 5     /* an add added as many as were free, one at least; a remove has nothing more to do (below) */
@@ -113,7 +123,7 @@ extern "C" {
 /* Refusals. Each call tests those of its list in the order given there. */
 #define LANE_REFUSED_SIZES 1     /* start: slots, tasks or growth out of range */
 #define LANE_REFUSED_LENGTH 2    /* start: the table is not LANE_WORDS(slots, tasks) long */
-#define LANE_REFUSED_TABLE 3     /* under 24 words, or a header out of range or not matching the length */
+#define LANE_REFUSED_TABLE 3     /* under 28 words, or a header out of range or not matching the length */
 #define LANE_REFUSED_SHAPE 4     /* some word of the table holds what it may not hold */
 #define LANE_REFUSED_TASK 5      /* no such task */
 #define LANE_REFUSED_OPERATION 6 /* no such operation or side */
@@ -122,15 +132,19 @@ extern "C" {
 #define LANE_REFUSED_HINT 9      /* hint not below the number of slots */
 #define LANE_REFUSED_IDLE 10     /* the task has no call */
 #define LANE_REFUSED_NO_SLOT 11  /* a link or register that is needed is none, or the lane has no end (below) */
-#define LANE_REFUSED_OUT 12      /* out slice shorter than the bags */
+#define LANE_REFUSED_OUT 12      /* out slice under two words a tag */
 #define LANE_REFUSED_LIST 13     /* list of odd length, or of more than 4,096 ticks */
-#define LANE_REFUSED_ANSWERS 14  /* answer slice under two words a tick */
+#define LANE_REFUSED_ANSWERS 14  /* answer slice under three words a tick */
 #define LANE_REFUSED_PANEL 15    /* panel: list of more than 32 ticks */
-#define LANE_REFUSED_TWICE 16    /* begin of a push: the bag number is in the lane or in a busy push */
+#define LANE_REFUSED_TWICE 16    /* begin of a push: the tag is in the lane or in a busy push */
 
-/* The two halves of an answer of 64 bits. */
-#define LANE_HIGH(number) ((uint32_t)((number) >> 32))
-#define LANE_LOW(number) ((uint32_t)((number) & 0xffffffffu))
+/* The two parts of what lane_tick returns: the kind, and the tag or the refusal. */
+#define LANE_KIND(answer) ((uint32_t)((answer) >> 40))
+#define LANE_VALUE(answer) ((answer) & UINT64_C(0xffffffffff))
+
+/* The two halves of what lane_run, lane_panel and lane_read return. */
+#define LANE_PAIR_HIGH(pair) ((uint32_t)((pair) >> 32))
+#define LANE_PAIR_LOW(pair) ((uint32_t)((pair) & 0xffffffffu))
 
 /*
  * On a table that lane_start began and only these calls have written since, lent whole, no call gives 3, 4 or 11,
@@ -145,28 +159,29 @@ extern "C" {
 uint32_t lane_start(uint32_t *table, size_t words, uint32_t slots, uint32_t tasks, uint32_t growth);
 
 /*
- * Gives an idle task a call. Nothing of it is done before the task's ticks. For a push the lane is walked as by
- * lane_read (11), and the number looked for there and in every busy push, the task's own included (16).
- * Returns 0, or a refusal: 3, 4, 5, 6, 7, 11 (push), 16 (push), 8. Writes the task's ten words.
+ * Gives an idle task a call. The tag of a push is `digit` and `argument`, its low part; for the others `digit` is 0.
+ * Nothing of a call is done before the task's ticks. For a push the lane is walked as by lane_read (11), and the tag
+ * looked for there and in every busy push, the task's own included (16).
+ * Returns 0, or a refusal: 3, 4, 5, 6, 7, 11 (push), 16 (push), 8. Writes the task's twelve words.
  */
-uint32_t lane_begin(uint32_t *table, size_t words, uint32_t task, uint32_t operation, uint32_t side,
+uint32_t lane_begin(uint32_t *table, size_t words, uint32_t task, uint32_t operation, uint32_t side, uint32_t digit,
                     uint32_t argument);
 
 /*
  * Makes one tick of a busy task. If the tick takes a free slot, it is the first one from `hint` (below the number of
  * slots) upward, going round. 0 always works: whether a slot is found does not depend on the hint. A hint just past the
  * slots in use shortens the search: a tick that takes a slot gets faster by about a tenth at most.
- * Returns LANE_HIGH: the kind; LANE_LOW: the bag for LANE_BAG, the refusal (3, 4, 5, 9, 10, 11) for LANE_REFUSED, else
- * 0. Writes the tick count, the task's words and what this one tick of its call writes. After any kind but LANE_GOING
- * and LANE_REFUSED the task is idle.
+ * Returns LANE_KIND: the kind; LANE_VALUE: the tag for LANE_BAG, the refusal (3, 4, 5, 9, 10, 11) for LANE_REFUSED,
+ * else 0; that is the kind times 2^40 plus the value. Writes the tick count, the task's words and what this one tick of
+ * its call writes. After any kind but LANE_GOING and LANE_REFUSED the task is idle.
  */
 uint64_t lane_tick(uint32_t *table, size_t words, uint32_t task, uint32_t hint);
 
 /*
  * Makes the ticks of a list of (task, hint) pairs, two words each, up to the first refused.
- * Returns LANE_HIGH: the ticks made; LANE_LOW: 0, or the refusal: 3, 4, 13, 14 before any tick; 5, 9, 10, 11 at the
- * tick that it stopped at. Writes the table as the ticks made do, and two words of `answers` for each: the kind, then
- * the bag or 0. Later words of `answers` stay.
+ * Returns LANE_PAIR_HIGH: the ticks made; LANE_PAIR_LOW: 0, or the refusal: 3, 4, 13, 14 before any tick; 5, 9, 10, 11
+ * at the tick that it stopped at. Writes the table as the ticks made do, and three words of `answers` for each: the
+ * kind, then the digit and the low part of the tag, 0 and 0 where there is none. Later words of `answers` stay.
  *
  * ```c
  * #include "lane.h"
@@ -175,13 +190,13 @@ uint64_t lane_tick(uint32_t *table, size_t words, uint32_t task, uint32_t hint);
  *     static uint32_t table[LANE_WORDS(8, 2)];
  *     size_t words = LANE_WORDS(8, 2);
  *     static const uint32_t list[] = {0, 0, 1, 0, 0, 0, 1, 0};
- *     uint32_t answers[8];
- *     if (lane_start(table, words, 8, 2, 0) != 0 || lane_begin(table, words, 0, LANE_PUSH, LANE_LEFT, 51) != 0 ||
- *         lane_begin(table, words, 1, LANE_POP, LANE_RIGHT, 0) != 0) {
+ *     uint32_t answers[LANE_ANSWER_WORDS * 4];
+ *     if (lane_start(table, words, 8, 2, 0) != 0 || lane_begin(table, words, 0, LANE_PUSH, LANE_LEFT, 0, 51) != 0 ||
+ *         lane_begin(table, words, 1, LANE_POP, LANE_RIGHT, 0, 0) != 0) {
  *         return 1;
  *     }
- *     uint64_t ran = lane_run(table, words, list, 8, answers, 8);
- *     return LANE_HIGH(ran) == 4 && LANE_LOW(ran) == 0 && answers[6] == LANE_GOING ? 0 : 1;
+ *     uint64_t ran = lane_run(table, words, list, 8, answers, LANE_ANSWER_WORDS * 4);
+ *     return LANE_PAIR_HIGH(ran) == 4 && LANE_PAIR_LOW(ran) == 0 && answers[9] == LANE_GOING ? 0 : 1;
  * }
  * ```
  */
@@ -196,29 +211,46 @@ uint64_t lane_panel(uint32_t *table, size_t words, const uint32_t *list, size_t 
                     size_t answers_words);
 
 /*
- * Reads the bags of the lane, left end first. LANE_MAX_BAGS(slots) words of `out` are enough for every lane that
- * lane_start began.
- * Returns LANE_HIGH: 0, and LANE_LOW: their count; or LANE_HIGH: 1, and LANE_LOW: the refusal: 3, 4, 11, 12. Writes as
- * many words of `out` as there are bags; later words stay.
+ * Reads the tags of the lane, left end first. LANE_TAG_WORDS * LANE_MAX_BAGS(slots) words of `out` are enough for every
+ * lane that lane_start began.
+ * Returns LANE_PAIR_HIGH: 0, and LANE_PAIR_LOW: how many tags there are; or LANE_PAIR_HIGH: 1, and LANE_PAIR_LOW: the
+ * refusal: 3, 4, 11, 12. Writes two words of `out` for each tag, the digit and the low part; later words stay.
  */
 uint64_t lane_read(const uint32_t *table, size_t words, uint32_t *out, size_t out_words);
 
-/* The two below are no part of the library and of its proofs: they are written here, over the calls above. */
+/* Those below are no part of the library and of its proofs: they are written here, over the calls above. */
+
+/* The tag of a digit and a low part. */
+static inline uint64_t lane_tag(uint32_t digit, uint32_t low) {
+    return digit * UINT64_C(1000000000) + low;
+}
+
+/* The leading digit of a tag; of a number above LANE_MAX_TAG it is 10, which lane_begin refuses. */
+static inline uint32_t lane_tag_digit(uint64_t tag) {
+    return tag > LANE_MAX_TAG ? LANE_MAX_DIGIT + 1 : (uint32_t)(tag / 1000000000);
+}
+
+/* The low part of a tag. */
+static inline uint32_t lane_tag_low(uint64_t tag) {
+    return (uint32_t)(tag % 1000000000);
+}
 
 /*
- * Begins a call and ticks its task with hint 0 until it answers, while no other task gets a tick.
+ * Begins a call and ticks its task with hint 0 until it answers, while no other task gets a tick. The argument is one
+ * number, of a push its tag.
  * Returns what lane_tick returns: the answer, or LANE_REFUSED with the refusal of the begin or of the tick. On a table
  * that lane_start began it is never LANE_GOING; on any other, LANE_GOING after LANE_MAX_TICKS_ALONE(slots) ticks
  * without an answer, and the task is still busy. Each tick tests the whole table: at many slots lane_run is faster.
  */
 static inline uint64_t lane_call(uint32_t *table, size_t words, uint32_t task, uint32_t operation, uint32_t side,
-                                 uint32_t argument) {
-    uint32_t refusal = lane_begin(table, words, task, operation, side, argument);
-    uint64_t answer = (uint64_t)LANE_REFUSED << 32 | refusal;
+                                 uint64_t argument) {
+    uint32_t digit = lane_tag_digit(argument), low = lane_tag_low(argument);
+    uint32_t refusal = lane_begin(table, words, task, operation, side, digit, low);
+    uint64_t answer = (uint64_t)LANE_REFUSED << 40 | refusal;
     uint32_t left = refusal == 0 ? LANE_MAX_TICKS_ALONE(table[0]) : 0;
     while (left > 0) {
         answer = lane_tick(table, words, task, 0);
-        left = LANE_HIGH(answer) == LANE_GOING ? left - 1 : 0;
+        left = LANE_KIND(answer) == LANE_GOING ? left - 1 : 0;
     }
     return answer;
 }
@@ -251,7 +283,7 @@ static inline const char *lane_refusal_text(uint32_t refusal) {
     case LANE_REFUSED_NO_SLOT:
         return "a link or register that is needed is none, or the lane has no end";
     case LANE_REFUSED_OUT:
-        return "the out slice is too short for the bags";
+        return "the out slice is too short for the tags";
     case LANE_REFUSED_LIST:
         return "a list of odd length, or of more than 4,096 ticks";
     case LANE_REFUSED_ANSWERS:
@@ -259,7 +291,7 @@ static inline const char *lane_refusal_text(uint32_t refusal) {
     case LANE_REFUSED_PANEL:
         return "a panel's list of more than 32 ticks";
     case LANE_REFUSED_TWICE:
-        return "the bag number is in the lane or in a busy push";
+        return "the tag is in the lane or in a busy push";
     default:
         return "no refusal";
     }

@@ -94,10 +94,11 @@ fn spare(nodes: u32) -> String {
     start(nodes) + &add.repeat(nodes as usize / 65 + 1)
 }
 
-/// A lane of 1,000 bags, nine digits each.
+/// A lane of 1,000 bags.
 fn thousand(nodes: u32) -> String {
-    let push = |bag| format!("(begin 0 (push right {bag}))\n(tick 0 0 1000)\n");
-    start(nodes) + &(999_999_000..).take(1000).map(push).collect::<String>()
+    let push = |tag: u64| format!("(begin 0 (push right {tag}))\n(tick 0 0 1000)\n");
+    let tags = 9_999_999_000..=9_999_999_999;
+    start(nodes) + &tags.map(push).collect::<String>()
 }
 
 fn walk(nodes: u32) -> String {

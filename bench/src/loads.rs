@@ -6,8 +6,8 @@ use reference::table::{node, Sizes, ADD, POP, PUSH, REMOVE};
 pub const TASKS: u32 = 16;
 /// Most ticks of a run.
 const MOST_TICKS: u32 = 4096;
-/// Bags from here on are in no lane below.
-pub const NEW_BAG: u32 = 2000;
+/// Tags from here on, with digit 0, are in no lane below.
+pub const NEW_TAG: u32 = 2000;
 const LEFT: u32 = 0;
 /// The right end.
 pub const RIGHT: u32 = 1;
@@ -24,6 +24,11 @@ impl Load {
     /// The ticks of the list.
     pub fn ticks(&self) -> usize {
         self.list.len() / 2
+    }
+
+    /// Room for their answers.
+    pub fn answers(&self) -> Vec<u32> {
+        vec![0; 3 * self.ticks()]
     }
 }
 
@@ -66,7 +71,7 @@ pub fn takes(nodes: u32) -> Load {
 /// 16 pushes at both ends of a lane half full, until each has answered or 4,096 ticks are made.
 pub fn pushes(nodes: u32) -> Load {
     let mut table = filled(nodes, nodes / 2);
-    begin_all(&mut table, PUSH, NEW_BAG);
+    begin_all(&mut table, PUSH, NEW_TAG);
     let mut list = Vec::new();
     let mut after = table.clone();
     let mut busy = true;
@@ -107,7 +112,7 @@ fn started(nodes: u32) -> Vec<u32> {
 }
 
 /// Every task the same operation, at the left and the right in turn; a remove at the right, where the nodes are. Each
-/// push has a bag of its own, from the argument on.
+/// push has a tag of its own, from the argument on.
 fn begin_all(table: &mut [u32], operation: u32, argument: u32) {
     for task in 0..TASKS {
         let side = if operation == REMOVE || task % 2 == 1 {
@@ -116,13 +121,13 @@ fn begin_all(table: &mut [u32], operation: u32, argument: u32) {
             LEFT
         };
         let argument = argument + if operation == PUSH { task } else { 0 };
-        reference::begin(table, task, operation, side, argument).expect("an idle task");
+        reference::begin(table, task, operation, side, 0, argument).expect("an idle task");
     }
 }
 
 /// A call of task 0, to its answer.
 fn finish(table: &mut [u32], operation: u32, side: u32, argument: u32) {
-    reference::begin(table, 0, operation, side, argument).expect("an idle task");
+    reference::begin(table, 0, operation, side, 0, argument).expect("an idle task");
     while let Ok(reference::Answer::Going) = reference::tick(table, 0, 0) {}
 }
 

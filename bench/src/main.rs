@@ -106,7 +106,7 @@ fn show(name: &str, nodes: u32, ticks: usize, figures: &Figures) {
 
 /// A tick of a run, the run's one test of the shape shared among its ticks.
 fn run_tick(rounds: usize, load: &Load) -> Figures {
-    let mut answers = [vec![0; load.list.len()], vec![0; load.list.len()]];
+    let mut answers = [load.answers(), load.answers()];
     let mut tables = [load.table.clone(), load.table.clone()];
     let proved = (PROVED.run)(&mut tables[0], &load.list, &mut answers[0]);
     let rust = (RUST.run)(&mut tables[1], &load.list, &mut answers[1]);
@@ -124,7 +124,7 @@ fn run_tick(rounds: usize, load: &Load) -> Figures {
     let units = (copies * load.ticks()) as f64;
     let work = |program: &'static Program| {
         let mut tables = vec![load.table.clone(); copies];
-        let mut answers = vec![0; load.list.len()];
+        let mut answers = load.answers();
         move || {
             for table in &mut tables {
                 table.copy_from_slice(&load.table);
@@ -184,12 +184,13 @@ fn shape_test(rounds: usize, load: &Load) -> Figures {
 
 /// A read of the whole lane.
 fn reading(rounds: usize, table: &[u32], bags: u64) -> Figures {
-    let mut outs = [vec![0; bags as usize], vec![0; bags as usize]];
+    let out = vec![0; 2 * bags as usize];
+    let mut outs = [out.clone(), out.clone()];
     assert_eq!((PROVED.read)(table, &mut outs[0]), bags);
     assert_eq!((RUST.read)(table, &mut outs[1]), bags);
-    assert_eq!(outs[0], outs[1], "the programs differ in the bags read");
+    assert_eq!(outs[0], outs[1], "the programs differ in the tags read");
     let work = |program: &'static Program| {
-        let mut out = vec![0; bags as usize];
+        let mut out = out.clone();
         move || {
             nanoseconds(|| {
                 black_box((program.read)(black_box(table), &mut out));
@@ -199,10 +200,10 @@ fn reading(rounds: usize, table: &[u32], bags: u64) -> Figures {
     interleaved(rounds, work(&PROVED), work(&RUST))
 }
 
-/// The begin of a push that is accepted: no bag of the whole lane is its own.
+/// The begin of a push that is accepted: no tag of the whole lane is its own.
 fn beginning(rounds: usize, table: &[u32]) -> Figures {
     let begin = |program: &Program, table: &mut [u32]| {
-        (program.begin)(table, 0, PUSH, loads::RIGHT, loads::NEW_BAG)
+        (program.begin)(table, 0, PUSH, loads::RIGHT, 0, loads::NEW_TAG)
     };
     let mut tables = [table.to_vec(), table.to_vec()];
     assert_eq!(begin(&PROVED, &mut tables[0]), 0);

@@ -1,16 +1,17 @@
 //! The two programs under the same function types, so that both are called alike.
 
 use lane::ffi;
+use reference::Answer;
 
 /// The calls that are measured, answers as numbers of 64 bits.
 pub struct Program {
-    /// Task, operation, side and argument of a call.
-    pub begin: fn(&mut [u32], u32, u32, u32, u32) -> u32,
+    /// Task, operation, side, digit and argument of a call.
+    pub begin: fn(&mut [u32], u32, u32, u32, u32, u32) -> u32,
     /// One tick with its test of the table's shape.
     pub tick: fn(&mut [u32], u32, u32) -> u64,
     /// A list of ticks.
     pub run: fn(&mut [u32], &[u32], &mut [u32]) -> u64,
-    /// The bags of the lane.
+    /// The tags of the lane.
     pub read: fn(&[u32], &mut [u32]) -> u64,
 }
 
@@ -24,13 +25,14 @@ pub const PROVED: Program = Program {
 
 /// The second program in Rust.
 pub const RUST: Program = Program {
-    begin: |table, task, operation, side, argument| {
-        let begun = reference::begin(table, task, operation, side, argument);
+    begin: |table, task, operation, side, digit, argument| {
+        let begun = reference::begin(table, task, operation, side, digit, argument);
         begun.err().unwrap_or(0)
     },
     tick: |table, task, hint| match reference::tick(table, task, hint) {
-        Ok(answer) => pair(answer.words()[0], answer.words()[1]),
-        Err(number) => pair(7, number),
+        Ok(Answer::Bag(tag)) => 2 << 40 | tag,
+        Ok(answer) => u64::from(answer.words()[0]) << 40,
+        Err(number) => 7 << 40 | u64::from(number),
     },
     run: |table, list, answers| {
         let (made, number) = reference::run(table, list, answers);

@@ -19,43 +19,45 @@ static void print_reply(uint32_t refusal) {
 
 /* Ticks of task 0 until an answer, a refusal, or so many; prints the last outcome. */
 static void print_ticks(int times) {
-    static const char *const names[] = {"going", "pushed", "bag", "empty", "full", "yes", "no", "refused"};
+    static const char *const names[] = {"going", "pushed", "bag", "empty", "full", "yes", "no"};
     uint64_t outcome;
     do {
         outcome = lane_tick(table, WORDS, 0, 0);
         times--;
-    } while (LANE_HIGH(outcome) == LANE_GOING && times > 0);
-    uint32_t kind = LANE_HIGH(outcome);
-    if (kind == LANE_BAG || kind == LANE_REFUSED) {
-        printf("(%s %" PRIu32 ")\n", names[kind], LANE_LOW(outcome));
+    } while (LANE_KIND(outcome) == LANE_GOING && times > 0);
+    uint32_t kind = LANE_KIND(outcome);
+    if (kind == LANE_BAG) {
+        printf("(bag %010" PRIu64 ")\n", LANE_VALUE(outcome));
+    } else if (kind == LANE_REFUSED) {
+        print_reply((uint32_t)LANE_VALUE(outcome));
     } else {
         printf("(%s)\n", names[kind]);
     }
 }
 
 static void print_lane(void) {
-    uint32_t out[SLOTS];
-    uint64_t reading = lane_read(table, WORDS, out, SLOTS);
-    if (LANE_HIGH(reading) != 0) {
-        print_reply(LANE_LOW(reading));
+    uint32_t out[LANE_TAG_WORDS * SLOTS];
+    uint64_t reading = lane_read(table, WORDS, out, LANE_TAG_WORDS * SLOTS);
+    if (LANE_PAIR_HIGH(reading) != 0) {
+        print_reply(LANE_PAIR_LOW(reading));
         return;
     }
     printf("(lane");
-    for (uint32_t place = 0; place < LANE_LOW(reading); place++) {
-        printf(" %" PRIu32, out[place]);
+    for (uint32_t place = 0; place < LANE_PAIR_LOW(reading); place++) {
+        printf(" %010" PRIu64, lane_tag(out[2 * place], out[2 * place + 1]));
     }
     puts(")");
 }
 
 int main(void) {
     print_reply(lane_start(table, WORDS, SLOTS, TASKS, 0));
-    print_reply(lane_begin(table, WORDS, 0, LANE_PUSH, LANE_RIGHT, 51));
+    print_reply(lane_begin(table, WORDS, 0, LANE_PUSH, LANE_RIGHT, 0, 51));
     print_ticks(10);
     print_ticks(1);
     print_lane();
-    print_reply(lane_begin(table, WORDS, 0, LANE_POP, LANE_LEFT, 0));
+    print_reply(lane_begin(table, WORDS, 0, LANE_POP, LANE_LEFT, 0, 0));
     print_ticks(4);
-    print_reply(lane_begin(table, WORDS, 0, LANE_POP, LANE_RIGHT, 0));
+    print_reply(lane_begin(table, WORDS, 0, LANE_POP, LANE_RIGHT, 0, 0));
     print_ticks(4);
     print_ticks(1);
     return 0;

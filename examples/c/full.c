@@ -17,16 +17,16 @@ static void check(uint32_t refusal) {
     }
 }
 
-/* A call to its answer: the kind; a bag goes to `bag`, if it is not NULL. */
-static uint32_t call(uint32_t task, uint32_t operation, uint32_t side, uint32_t argument, uint32_t *bag) {
+/* A call to its answer: the kind; a bag's tag goes to `tag`, if it is not NULL. */
+static uint32_t call(uint32_t task, uint32_t operation, uint32_t side, uint64_t argument, uint64_t *tag) {
     uint64_t answer = lane_call(table, WORDS, task, operation, side, argument);
-    if (LANE_HIGH(answer) == LANE_REFUSED) {
-        check(LANE_LOW(answer));
+    if (LANE_KIND(answer) == LANE_REFUSED) {
+        check((uint32_t)LANE_VALUE(answer));
     }
-    if (LANE_HIGH(answer) == LANE_BAG && bag != NULL) {
-        *bag = LANE_LOW(answer);
+    if (LANE_KIND(answer) == LANE_BAG && tag != NULL) {
+        *tag = LANE_VALUE(answer);
     }
-    return LANE_HIGH(answer);
+    return LANE_KIND(answer);
 }
 
 /* Ticks every task that is in a call, in turn, until all have answered. */
@@ -36,77 +36,78 @@ static void finish_all(void) {
         busy = 0;
         for (uint32_t task = 0; task < TASKS; task++) {
             uint64_t answer = lane_tick(table, WORDS, task, 0);
-            if (LANE_HIGH(answer) != LANE_REFUSED) {
+            if (LANE_KIND(answer) != LANE_REFUSED) {
                 busy = 1;
-            } else if (LANE_LOW(answer) != LANE_REFUSED_IDLE) {
-                check(LANE_LOW(answer));
+            } else if (LANE_VALUE(answer) != LANE_REFUSED_IDLE) {
+                check((uint32_t)LANE_VALUE(answer));
             }
         }
     } while (busy);
 }
 
 /* A push that does not give up at the first "full". Returns 0 if the lane has no room at this end. */
-static int push_for_sure(uint32_t side, uint32_t bag) {
+static int push_for_sure(uint32_t side, uint64_t tag) {
     uint32_t other = LANE_LEFT + LANE_RIGHT - side;
-    if (call(LOADER, LANE_PUSH, side, bag, NULL) == LANE_PUSHED) {
+    if (call(LOADER, LANE_PUSH, side, tag, NULL) == LANE_PUSHED) {
         return 1;
     }
     puts("  full: every busy task gets its answer");
     finish_all();
-    if (call(LOADER, LANE_PUSH, side, bag, NULL) == LANE_PUSHED) {
+    if (call(LOADER, LANE_PUSH, side, tag, NULL) == LANE_PUSHED) {
         return 1;
     }
     puts("  full again: push, pop, remove 0 at the other end");
-    if (call(KEEPER, LANE_PUSH, other, LANE_MAX_BAG, NULL) == LANE_PUSHED) {
+    if (call(KEEPER, LANE_PUSH, other, LANE_MAX_TAG, NULL) == LANE_PUSHED) {
         call(KEEPER, LANE_POP, other, 0, NULL);
         call(KEEPER, LANE_REMOVE, other, 0, NULL);
     }
-    return call(LOADER, LANE_PUSH, side, bag, NULL) == LANE_PUSHED;
+    return call(LOADER, LANE_PUSH, side, tag, NULL) == LANE_PUSHED;
 }
 
 static void print_lane(void) {
-    uint32_t bags[LANE_MAX_BAGS(SLOTS)];
-    uint64_t reading = lane_read(table, WORDS, bags, LANE_MAX_BAGS(SLOTS));
-    check(LANE_HIGH(reading) == 0 ? 0 : LANE_LOW(reading));
+    uint32_t tags[LANE_TAG_WORDS * LANE_MAX_BAGS(SLOTS)];
+    uint64_t reading = lane_read(table, WORDS, tags, LANE_TAG_WORDS * LANE_MAX_BAGS(SLOTS));
+    check(LANE_PAIR_HIGH(reading) == 0 ? 0 : LANE_PAIR_LOW(reading));
     printf("  lane:");
-    for (uint32_t place = 0; place < LANE_LOW(reading); place++) {
-        printf(" %" PRIu32, bags[place]);
+    for (uint32_t place = 0; place < LANE_PAIR_LOW(reading); place++) {
+        printf(" %010" PRIu64, lane_tag(tags[2 * place], tags[2 * place + 1]));
     }
     puts("");
 }
 
 int main(void) {
-    uint32_t bag = 0;
+    uint64_t tag = 0;
     check(lane_start(table, WORDS, SLOTS, TASKS, 0));
 
     puts("the sleeper begins a pop, gets one tick, and stalls");
-    check(lane_begin(table, WORDS, SLEEPER, LANE_POP, LANE_LEFT, 0));
-    if (LANE_HIGH(lane_tick(table, WORDS, SLEEPER, 0)) != LANE_GOING) {
+    check(lane_begin(table, WORDS, SLEEPER, LANE_POP, LANE_LEFT, 0, 0));
+    if (LANE_KIND(lane_tick(table, WORDS, SLEEPER, 0)) != LANE_GOING) {
         return 1;
     }
 
     puts("bags pass, in at the right, out at the left, and spare slots are given back behind them");
-    for (bag = 1; call(LOADER, LANE_PUSH, LANE_RIGHT, bag, NULL) == LANE_PUSHED; bag++) {
-        uint32_t out = 0;
-        if (call(UNLOADER, LANE_POP, LANE_LEFT, 0, &out) != LANE_BAG || out != bag) {
+    for (tag = 1; call(LOADER, LANE_PUSH, LANE_RIGHT, tag, NULL) == LANE_PUSHED; tag++) {
+        uint64_t out = 0;
+        if (call(UNLOADER, LANE_POP, LANE_LEFT, 0, &out) != LANE_BAG || out != tag) {
             return 1;
         }
         call(KEEPER, LANE_REMOVE, LANE_LEFT, 0, NULL);
     }
-    printf("push %" PRIu32 " is full on an empty lane: all slots that were given back are kept by the sleeper\n", bag);
+    printf("push %010" PRIu64 " is full on an empty lane: ", tag);
+    puts("all slots that were given back are kept by the sleeper");
     print_lane();
-    puts(push_for_sure(LANE_RIGHT, bag) ? "  pushed" : "  no room");
+    puts(push_for_sure(LANE_RIGHT, tag) ? "  pushed" : "  no room");
     print_lane();
 
     puts("four spare slots at the left, where nobody pushes now");
     call(KEEPER, LANE_ADD, LANE_LEFT, 3, NULL);
-    while (call(LOADER, LANE_PUSH, LANE_RIGHT, ++bag, NULL) == LANE_PUSHED) {
+    while (call(LOADER, LANE_PUSH, LANE_RIGHT, ++tag, NULL) == LANE_PUSHED) {
     }
-    printf("push %" PRIu32 " is full\n", bag);
+    printf("push %010" PRIu64 " is full\n", tag);
     print_lane();
-    while (push_for_sure(LANE_RIGHT, bag)) {
+    while (push_for_sure(LANE_RIGHT, tag)) {
         puts("  pushed");
-        bag++;
+        tag++;
     }
     puts("  no room: that is as much as a table of 8 slots carries, 6 bags");
     print_lane();

@@ -15,83 +15,124 @@ static void expect(int holds, const char *what, int line) {
 
 #define EXPECT(condition) expect((condition), #condition, __LINE__)
 #define PAIR(high, low) ((uint64_t)(high) << 32 | (uint64_t)(low))
+#define ANSWER(kind, value) ((uint64_t)(kind) << 40 | (uint64_t)(value))
 
-enum { SLOTS = 8, TASKS = 2, WORDS = LANE_WORDS(SLOTS, TASKS) };
+enum { SLOTS = 8, TASKS = 2, WORDS = LANE_WORDS(SLOTS, TASKS), MANY = LANE_MAX_TICKS + 1 };
 
 static uint32_t table[LANE_MAX_WORDS];
-static uint32_t list[2 * LANE_MAX_TICKS + 2];
-static uint32_t answers[2 * LANE_MAX_TICKS + 2];
+static uint32_t list[2 * MANY];
+static uint32_t answers[LANE_ANSWER_WORDS * MANY];
 
 static void begin_again(void) {
     EXPECT(lane_start(table, WORDS, SLOTS, TASKS, 0) == 0);
 }
 
+static uint32_t begin(uint32_t task, uint32_t operation, uint32_t side, uint64_t argument) {
+    return lane_begin(table, WORDS, task, operation, side, lane_tag_digit(argument), lane_tag_low(argument));
+}
+
 /* Each limit is accepted, and the number beyond it is not. */
 static void limits(void) {
-    static uint32_t longer[LANE_MAX_WORDS + 3];
+    static uint32_t longer[LANE_WORDS(LANE_MAX_SLOTS + 1, LANE_MAX_TASKS)];
     EXPECT(LANE_WORDS(LANE_MIN_SLOTS, LANE_MIN_TASKS) == LANE_MIN_WORDS);
     EXPECT(LANE_WORDS(LANE_MAX_SLOTS, LANE_MAX_TASKS) == LANE_MAX_WORDS);
     EXPECT(lane_start(table, LANE_MIN_WORDS, LANE_MIN_SLOTS, LANE_MIN_TASKS, 0) == 0);
-    EXPECT(lane_start(table, LANE_MIN_WORDS - 3, LANE_MIN_SLOTS - 1, LANE_MIN_TASKS, 0) == LANE_REFUSED_SIZES);
-    EXPECT(lane_start(table, LANE_MIN_WORDS - 10, LANE_MIN_SLOTS, LANE_MIN_TASKS - 1, 0) == LANE_REFUSED_SIZES);
+    EXPECT(lane_start(table, LANE_MIN_WORDS - 4, LANE_MIN_SLOTS - 1, LANE_MIN_TASKS, 0) == LANE_REFUSED_SIZES);
+    EXPECT(lane_start(table, LANE_MIN_WORDS - 12, LANE_MIN_SLOTS, LANE_MIN_TASKS - 1, 0) == LANE_REFUSED_SIZES);
     EXPECT(lane_start(table, LANE_MIN_WORDS - 1, LANE_MIN_SLOTS, LANE_MIN_TASKS, 0) == LANE_REFUSED_LENGTH);
     EXPECT(lane_start(table, LANE_MAX_WORDS, LANE_MAX_SLOTS, LANE_MAX_TASKS, LANE_MAX_GROWTH) == 0);
     EXPECT(lane_start(table, LANE_MAX_WORDS, LANE_MAX_SLOTS, LANE_MAX_TASKS, LANE_MAX_GROWTH + 1) ==
            LANE_REFUSED_SIZES);
-    EXPECT(lane_start(longer, LANE_MAX_WORDS + 3, LANE_MAX_SLOTS + 1, LANE_MAX_TASKS, 0) == LANE_REFUSED_SIZES);
+    EXPECT(lane_start(longer, LANE_MAX_WORDS + 4, LANE_MAX_SLOTS + 1, LANE_MAX_TASKS, 0) == LANE_REFUSED_SIZES);
     EXPECT(lane_start(table, LANE_MAX_WORDS, LANE_MAX_SLOTS, LANE_MAX_TASKS + 1, 0) == LANE_REFUSED_SIZES);
 
     static const struct {
-        uint32_t operation, least, most;
-    } arguments[] = {{LANE_PUSH, LANE_MIN_BAG, LANE_MAX_BAG},
+        uint32_t operation;
+        uint64_t least, most;
+    } arguments[] = {{LANE_PUSH, LANE_MIN_TAG, LANE_MAX_TAG},
                      {LANE_POP, 0, 0},
                      {LANE_ADD, 0, LANE_MAX_ADD},
                      {LANE_REMOVE, 0, LANE_MAX_REMOVE}};
     for (size_t i = 0; i < 4; i++) {
         uint32_t operation = arguments[i].operation;
         begin_again();
-        EXPECT(lane_begin(table, WORDS, 0, operation, LANE_LEFT, arguments[i].least) == 0);
-        EXPECT(lane_begin(table, WORDS, 1, operation, LANE_RIGHT, arguments[i].most) == 0);
+        EXPECT(begin(0, operation, LANE_LEFT, arguments[i].least) == 0);
+        EXPECT(begin(1, operation, LANE_RIGHT, arguments[i].most) == 0);
         begin_again();
-        EXPECT(lane_begin(table, WORDS, 0, operation, LANE_LEFT, arguments[i].most + 1) == LANE_REFUSED_ARGUMENT);
+        EXPECT(begin(0, operation, LANE_LEFT, arguments[i].most + 1) == LANE_REFUSED_ARGUMENT);
+        EXPECT(begin(0, operation, LANE_LEFT, UINT64_MAX) == LANE_REFUSED_ARGUMENT);
+        EXPECT(lane_begin(table, WORDS, 0, operation, LANE_LEFT, LANE_MAX_DIGIT + 1, 0) == LANE_REFUSED_ARGUMENT);
+        EXPECT(lane_begin(table, WORDS, 0, operation, LANE_LEFT, 0, LANE_MAX_LOW + 1) == LANE_REFUSED_ARGUMENT);
+        EXPECT(lane_begin(table, WORDS, 0, operation, LANE_LEFT, 1, 0) ==
+               (operation == LANE_PUSH ? 0 : LANE_REFUSED_ARGUMENT));
     }
-    EXPECT(lane_begin(table, WORDS, 0, LANE_PUSH, LANE_LEFT, LANE_MIN_BAG - 1) == LANE_REFUSED_ARGUMENT);
-
     begin_again();
-    EXPECT(lane_begin(table, WORDS, 0, LANE_POP, LANE_LEFT, 0) == 0);
-    EXPECT(lane_run(table, WORDS, list, 2 * LANE_MAX_TICKS, answers, 2 * LANE_MAX_TICKS) == PAIR(4, LANE_REFUSED_IDLE));
-    EXPECT(lane_run(table, WORDS, list, 2 * LANE_MAX_TICKS + 2, answers, 2 * LANE_MAX_TICKS + 2) ==
-           PAIR(0, LANE_REFUSED_LIST));
+    EXPECT(begin(0, LANE_PUSH, LANE_LEFT, LANE_MIN_TAG - 1) == LANE_REFUSED_ARGUMENT);
+
+    EXPECT(begin(0, LANE_POP, LANE_LEFT, 0) == 0);
+    EXPECT(lane_run(table, WORDS, list, 2 * LANE_MAX_TICKS, answers, LANE_ANSWER_WORDS * LANE_MAX_TICKS) ==
+           PAIR(4, LANE_REFUSED_IDLE));
+    EXPECT(lane_run(table, WORDS, list, 2 * MANY, answers, LANE_ANSWER_WORDS * MANY) == PAIR(0, LANE_REFUSED_LIST));
+}
+
+/* A number and its two words; tags with one low part, and some with none, go in and come out whole. */
+static void tags(void) {
+    static const uint64_t some[] = {51, 1000000051, 1000000000, 4294967296, LANE_MIN_TAG, LANE_MAX_TAG};
+    enum { SOME = sizeof some / sizeof some[0] };
+    EXPECT(lane_tag(LANE_MAX_DIGIT, LANE_MAX_LOW) == LANE_MAX_TAG);
+    EXPECT(lane_tag_digit(LANE_MAX_TAG + 1) == LANE_MAX_DIGIT + 1);
+    EXPECT(lane_tag_digit(PAIR(1000000000, 51)) == LANE_MAX_DIGIT + 1); /* a quotient of 2^32 is no digit 0 */
+    begin_again();
+    for (int i = 0; i < SOME; i++) {
+        EXPECT(lane_tag(lane_tag_digit(some[i]), lane_tag_low(some[i])) == some[i]);
+        EXPECT(lane_call(table, WORDS, 0, LANE_PUSH, LANE_RIGHT, some[i]) == ANSWER(LANE_PUSHED, 0));
+        EXPECT(lane_call(table, WORDS, 0, LANE_PUSH, LANE_LEFT, some[i]) == ANSWER(LANE_REFUSED, LANE_REFUSED_TWICE));
+    }
+    EXPECT(lane_read(table, WORDS, answers, LANE_TAG_WORDS * SOME - 1) == PAIR(1, LANE_REFUSED_OUT));
+    answers[LANE_TAG_WORDS * SOME] = 7;
+    EXPECT(lane_read(table, WORDS, answers, LANE_TAG_WORDS * SOME + 1) == SOME);
+    for (int i = 0; i < SOME; i++) {
+        EXPECT(answers[2 * i] == lane_tag_digit(some[i]) && answers[2 * i + 1] == lane_tag_low(some[i]));
+    }
+    EXPECT(answers[LANE_TAG_WORDS * SOME] == 7);
+    answers[LANE_ANSWER_WORDS * 4] = 7;
+    for (int i = 0; i < SOME; i++) {
+        EXPECT(begin(0, LANE_POP, LANE_LEFT, 0) == 0);
+        EXPECT(lane_run(table, WORDS, list, 8, answers, LANE_ANSWER_WORDS * 4) == PAIR(4, 0));
+        EXPECT(answers[9] == LANE_BAG && lane_tag(answers[10], answers[11]) == some[i]);
+    }
+    EXPECT(answers[LANE_ANSWER_WORDS * 4] == 7);
 }
 
 /* Every refusal that a caller can ask for comes with its number, and every number has a text of its own. */
 static void refusals(void) {
     begin_again();
-    EXPECT(lane_begin(table, 23, 0, LANE_POP, LANE_LEFT, 0) == LANE_REFUSED_TABLE);
-    EXPECT(lane_begin(table, WORDS, TASKS, LANE_POP, LANE_LEFT, 0) == LANE_REFUSED_TASK);
-    EXPECT(lane_begin(table, WORDS, 0, 5, LANE_LEFT, 0) == LANE_REFUSED_OPERATION);
-    EXPECT(lane_begin(table, WORDS, 0, LANE_POP, 2, 0) == LANE_REFUSED_OPERATION);
-    EXPECT(lane_tick(table, WORDS, 0, SLOTS) == PAIR(LANE_REFUSED, LANE_REFUSED_HINT));
-    EXPECT(lane_tick(table, WORDS, 0, 0) == PAIR(LANE_REFUSED, LANE_REFUSED_IDLE));
-    EXPECT(lane_begin(table, WORDS, 0, LANE_PUSH, LANE_RIGHT, 51) == 0);
-    EXPECT(lane_begin(table, WORDS, 0, LANE_POP, LANE_LEFT, 0) == LANE_REFUSED_BUSY);
-    EXPECT(lane_begin(table, WORDS, 0, LANE_PUSH, LANE_LEFT, 52) == LANE_REFUSED_BUSY);
-    EXPECT(lane_begin(table, WORDS, 0, LANE_PUSH, LANE_LEFT, 51) == LANE_REFUSED_TWICE);
-    EXPECT(lane_begin(table, WORDS, 1, LANE_PUSH, LANE_LEFT, 51) == LANE_REFUSED_TWICE);
-    EXPECT(lane_run(table, WORDS, list, 3, answers, 4) == PAIR(0, LANE_REFUSED_LIST));
-    EXPECT(lane_run(table, WORDS, list, 4, answers, 3) == PAIR(0, LANE_REFUSED_ANSWERS));
+    EXPECT(lane_begin(table, LANE_MIN_WORDS - 1, 0, LANE_POP, LANE_LEFT, 0, 0) == LANE_REFUSED_TABLE);
+    EXPECT(begin(TASKS, LANE_POP, LANE_LEFT, 0) == LANE_REFUSED_TASK);
+    EXPECT(begin(0, 5, LANE_LEFT, 0) == LANE_REFUSED_OPERATION);
+    EXPECT(begin(0, LANE_POP, 2, 0) == LANE_REFUSED_OPERATION);
+    EXPECT(lane_tick(table, WORDS, 0, SLOTS) == ANSWER(LANE_REFUSED, LANE_REFUSED_HINT));
+    EXPECT(lane_tick(table, WORDS, 0, 0) == ANSWER(LANE_REFUSED, LANE_REFUSED_IDLE));
+    EXPECT(begin(0, LANE_PUSH, LANE_RIGHT, 51) == 0);
+    EXPECT(begin(0, LANE_POP, LANE_LEFT, 0) == LANE_REFUSED_BUSY);
+    EXPECT(begin(0, LANE_PUSH, LANE_LEFT, 1000000051) == LANE_REFUSED_BUSY);
+    EXPECT(begin(0, LANE_PUSH, LANE_LEFT, 51) == LANE_REFUSED_TWICE);
+    EXPECT(begin(1, LANE_PUSH, LANE_LEFT, 51) == LANE_REFUSED_TWICE);
+    EXPECT(lane_run(table, WORDS, list, 3, answers, 6) == PAIR(0, LANE_REFUSED_LIST));
+    EXPECT(lane_run(table, WORDS, list, 4, answers, 5) == PAIR(0, LANE_REFUSED_ANSWERS));
     EXPECT(lane_panel(table, WORDS, list, 2 * LANE_MAX_PANEL_TICKS + 1, answers, 0) == PAIR(0, LANE_REFUSED_LIST));
     EXPECT(lane_panel(table, WORDS, list, 2 * LANE_MAX_PANEL_TICKS + 2, answers, 0) == PAIR(0, LANE_REFUSED_PANEL));
     EXPECT(lane_panel(table, WORDS, list, 2 * LANE_MAX_PANEL_TICKS, answers, 0) == PAIR(0, LANE_REFUSED_ANSWERS));
-    EXPECT(lane_panel(table, WORDS, list, 4, answers, 4) == PAIR(2, 0));
+    EXPECT(lane_panel(table, WORDS, list, 4, answers, 5) == PAIR(0, LANE_REFUSED_ANSWERS));
+    EXPECT(lane_panel(table, WORDS, list, 4, answers, 6) == PAIR(2, 0));
     table[7] = 1;
     EXPECT(lane_read(table, WORDS, answers, 1) == PAIR(1, LANE_REFUSED_SHAPE));
     table[7] = 0;
     table[9] = 65535; /* the left hat's link to the right made none, which no call does */
     EXPECT(lane_read(table, WORDS, answers, 1) == PAIR(1, LANE_REFUSED_NO_SLOT));
-    EXPECT(lane_begin(table, WORDS, 1, LANE_PUSH, LANE_LEFT, 0) == LANE_REFUSED_ARGUMENT);
-    EXPECT(lane_begin(table, WORDS, 1, LANE_PUSH, LANE_LEFT, 51) == LANE_REFUSED_NO_SLOT); /* 51 is in a busy push */
-    EXPECT(lane_begin(table, WORDS, 1, LANE_POP, LANE_LEFT, 0) == 0);
+    EXPECT(begin(1, LANE_PUSH, LANE_LEFT, 0) == LANE_REFUSED_ARGUMENT);
+    EXPECT(begin(1, LANE_PUSH, LANE_LEFT, 51) == LANE_REFUSED_NO_SLOT); /* 51 is in a busy push */
+    EXPECT(begin(1, LANE_POP, LANE_LEFT, 0) == 0);
 
     for (uint32_t one = 0; one <= 17; one++) {
         EXPECT(strlen(lane_refusal_text(one)) > 0);
@@ -106,55 +147,56 @@ static void refusals(void) {
 static void empty_slices(void) {
     EXPECT(lane_start(NULL, 0, SLOTS, TASKS, 0) == LANE_REFUSED_LENGTH);
     EXPECT(lane_start(NULL, 0, 0, TASKS, 0) == LANE_REFUSED_SIZES);
-    EXPECT(lane_begin(NULL, 0, 0, LANE_POP, LANE_LEFT, 0) == LANE_REFUSED_TABLE);
-    EXPECT(lane_tick(NULL, 0, 0, 0) == PAIR(LANE_REFUSED, LANE_REFUSED_TABLE));
+    EXPECT(lane_begin(NULL, 0, 0, LANE_POP, LANE_LEFT, 0, 0) == LANE_REFUSED_TABLE);
+    EXPECT(lane_tick(NULL, 0, 0, 0) == ANSWER(LANE_REFUSED, LANE_REFUSED_TABLE));
     EXPECT(lane_run(NULL, 0, NULL, 0, NULL, 0) == PAIR(0, LANE_REFUSED_TABLE));
-    EXPECT(lane_run(NULL, 0, list, 2, answers, 2) == PAIR(0, LANE_REFUSED_TABLE));
+    EXPECT(lane_run(NULL, 0, list, 2, answers, 3) == PAIR(0, LANE_REFUSED_TABLE));
     EXPECT(lane_panel(NULL, 0, NULL, 0, NULL, 0) == PAIR(0, LANE_REFUSED_TABLE));
     EXPECT(lane_read(NULL, 0, NULL, 0) == PAIR(1, LANE_REFUSED_TABLE));
     EXPECT(lane_read(NULL, 0, answers, 2) == PAIR(1, LANE_REFUSED_TABLE));
-    EXPECT(lane_call(NULL, 0, 0, LANE_POP, LANE_LEFT, 0) == PAIR(LANE_REFUSED, LANE_REFUSED_TABLE));
+    EXPECT(lane_call(NULL, 0, 0, LANE_POP, LANE_LEFT, 0) == ANSWER(LANE_REFUSED, LANE_REFUSED_TABLE));
     begin_again();
     EXPECT(lane_run(table, WORDS, NULL, 0, NULL, 0) == 0);
-    EXPECT(lane_run(table, WORDS, NULL, 0, answers, 2) == 0);
+    EXPECT(lane_run(table, WORDS, NULL, 0, answers, 3) == 0);
     EXPECT(lane_panel(table, WORDS, NULL, 0, NULL, 0) == 0);
     EXPECT(lane_read(table, WORDS, NULL, 0) == 0);
-    EXPECT(lane_begin(table, WORDS, 0, LANE_PUSH, LANE_RIGHT, 51) == 0);
+    EXPECT(begin(0, LANE_PUSH, LANE_RIGHT, 51) == 0);
     EXPECT(lane_run(table, WORDS, list, 2, NULL, 0) == PAIR(0, LANE_REFUSED_ANSWERS));
-    EXPECT(LANE_HIGH(lane_run(table, WORDS, list, 22, answers, 22)) == 11);
+    EXPECT(LANE_PAIR_HIGH(lane_run(table, WORDS, list, 22, answers, 33)) == 11);
     EXPECT(lane_read(table, WORDS, NULL, 0) == PAIR(1, LANE_REFUSED_OUT));
 }
 
 /* A call to its answer; S - 2 bags and no more; what a remove says. */
 static void calls(void) {
     begin_again();
-    EXPECT(lane_call(table, WORDS, 1, LANE_POP, LANE_LEFT, 0) == PAIR(LANE_EMPTY, 0));
-    EXPECT(lane_call(table, WORDS, 0, LANE_PUSH, LANE_LEFT, 0) == PAIR(LANE_REFUSED, LANE_REFUSED_ARGUMENT));
-    for (uint32_t bag = 1; bag <= LANE_MAX_BAGS(SLOTS); bag++) {
-        EXPECT(lane_call(table, WORDS, 0, LANE_PUSH, LANE_RIGHT, bag) == PAIR(LANE_PUSHED, 0));
-        EXPECT(lane_call(table, WORDS, 1, LANE_PUSH, LANE_LEFT, bag) == PAIR(LANE_REFUSED, LANE_REFUSED_TWICE));
+    EXPECT(lane_call(table, WORDS, 1, LANE_POP, LANE_LEFT, 0) == ANSWER(LANE_EMPTY, 0));
+    EXPECT(lane_call(table, WORDS, 0, LANE_PUSH, LANE_LEFT, 0) == ANSWER(LANE_REFUSED, LANE_REFUSED_ARGUMENT));
+    for (uint64_t tag = 1; tag <= LANE_MAX_BAGS(SLOTS); tag++) {
+        EXPECT(lane_call(table, WORDS, 0, LANE_PUSH, LANE_RIGHT, tag) == ANSWER(LANE_PUSHED, 0));
+        EXPECT(lane_call(table, WORDS, 1, LANE_PUSH, LANE_LEFT, tag) == ANSWER(LANE_REFUSED, LANE_REFUSED_TWICE));
     }
-    EXPECT(lane_call(table, WORDS, 0, LANE_PUSH, LANE_RIGHT, 99) == PAIR(LANE_FULL, 0));
-    EXPECT(lane_call(table, WORDS, 0, LANE_PUSH, LANE_LEFT, 99) == PAIR(LANE_FULL, 0));
-    EXPECT(lane_read(table, WORDS, answers, LANE_MAX_BAGS(SLOTS)) == LANE_MAX_BAGS(SLOTS));
-    EXPECT(lane_call(table, WORDS, 1, LANE_POP, LANE_LEFT, 0) == PAIR(LANE_BAG, 1));
-    EXPECT(lane_call(table, WORDS, 1, LANE_PUSH, LANE_RIGHT, 2) == PAIR(LANE_REFUSED, LANE_REFUSED_TWICE));
-    EXPECT(lane_call(table, WORDS, 1, LANE_REMOVE, LANE_RIGHT, 0) == PAIR(LANE_YES, 0)); /* nothing is spare there */
-    EXPECT(lane_call(table, WORDS, 1, LANE_REMOVE, LANE_LEFT, 0) == PAIR(LANE_NO, 0));   /* one more than asked for */
-    EXPECT(lane_call(table, WORDS, 1, LANE_REMOVE, LANE_LEFT, 0) == PAIR(LANE_NO, 0));
-    EXPECT(lane_call(table, WORDS, 0, LANE_PUSH, LANE_RIGHT, 99) == PAIR(LANE_FULL, 0)); /* it is at the other end */
-    EXPECT(lane_call(table, WORDS, 0, LANE_PUSH, LANE_LEFT, 99) == PAIR(LANE_PUSHED, 0));
+    EXPECT(lane_call(table, WORDS, 0, LANE_PUSH, LANE_RIGHT, 99) == ANSWER(LANE_FULL, 0));
+    EXPECT(lane_call(table, WORDS, 0, LANE_PUSH, LANE_LEFT, 99) == ANSWER(LANE_FULL, 0));
+    EXPECT(lane_read(table, WORDS, answers, LANE_TAG_WORDS * LANE_MAX_BAGS(SLOTS)) == LANE_MAX_BAGS(SLOTS));
+    EXPECT(lane_call(table, WORDS, 1, LANE_POP, LANE_LEFT, 0) == ANSWER(LANE_BAG, 1));
+    EXPECT(lane_call(table, WORDS, 1, LANE_PUSH, LANE_RIGHT, 2) == ANSWER(LANE_REFUSED, LANE_REFUSED_TWICE));
+    EXPECT(lane_call(table, WORDS, 1, LANE_REMOVE, LANE_RIGHT, 0) == ANSWER(LANE_YES, 0)); /* nothing is spare there */
+    EXPECT(lane_call(table, WORDS, 1, LANE_REMOVE, LANE_LEFT, 0) == ANSWER(LANE_NO, 0));   /* one more than asked for */
+    EXPECT(lane_call(table, WORDS, 1, LANE_REMOVE, LANE_LEFT, 0) == ANSWER(LANE_NO, 0));
+    EXPECT(lane_call(table, WORDS, 0, LANE_PUSH, LANE_RIGHT, 99) == ANSWER(LANE_FULL, 0)); /* it is at the other end */
+    EXPECT(lane_call(table, WORDS, 0, LANE_PUSH, LANE_LEFT, 99) == ANSWER(LANE_PUSHED, 0));
 
     /* A table that no start made, on which a pop goes round for ever: the helper comes back. */
     begin_again();
-    table[8 + 3 * 1] = 1; /* the right end's link to the left is itself */
-    EXPECT(lane_call(table, WORDS, 0, LANE_POP, LANE_RIGHT, 0) == PAIR(LANE_GOING, 0));
+    table[8 + 4 * 1] = 1; /* the right end's link to the left is itself */
+    EXPECT(lane_call(table, WORDS, 0, LANE_POP, LANE_RIGHT, 0) == ANSWER(LANE_GOING, 0));
     EXPECT(table[5] == LANE_MAX_TICKS_ALONE(SLOTS));
-    EXPECT(lane_begin(table, WORDS, 0, LANE_POP, LANE_LEFT, 0) == LANE_REFUSED_BUSY);
+    EXPECT(begin(0, LANE_POP, LANE_LEFT, 0) == LANE_REFUSED_BUSY);
 }
 
 int main(void) {
     limits();
+    tags();
     refusals();
     empty_slices();
     calls();

@@ -8,7 +8,8 @@
 
 enum { SLOTS = LANE_MAX_SLOTS, TASKS = LANE_MAX_TASKS, WORDS = LANE_MAX_WORDS, PAINT = 0xa5, SPACE = 65536 };
 
-static uint32_t table[WORDS], out[SLOTS], list[2 * LANE_MAX_TICKS], answers[2 * LANE_MAX_TICKS];
+static uint32_t table[WORDS], out[LANE_TAG_WORDS * SLOTS];
+static uint32_t list[2 * LANE_MAX_TICKS], answers[LANE_ANSWER_WORDS * LANE_MAX_TICKS];
 static unsigned char stack[SPACE];
 static ucontext_t here, there;
 
@@ -17,7 +18,7 @@ static void start(void) {
 }
 
 static void begin(void) {
-    lane_begin(table, WORDS, 0, LANE_PUSH, LANE_RIGHT, 51);
+    lane_begin(table, WORDS, 0, LANE_PUSH, LANE_RIGHT, 0, 51);
 }
 
 static void tick(void) {
@@ -25,16 +26,16 @@ static void tick(void) {
 }
 
 static void run(void) {
-    lane_run(table, WORDS, list, 2 * LANE_MAX_TICKS, answers, 2 * LANE_MAX_TICKS);
+    lane_run(table, WORDS, list, 2 * LANE_MAX_TICKS, answers, LANE_ANSWER_WORDS * LANE_MAX_TICKS);
 }
 
 static void panel(void) {
-    lane_begin(table, WORDS, 0, LANE_ADD, LANE_RIGHT, LANE_MAX_ADD);
-    lane_panel(table, WORDS, list, 2 * LANE_MAX_PANEL_TICKS, answers, 2 * LANE_MAX_PANEL_TICKS);
+    lane_begin(table, WORDS, 0, LANE_ADD, LANE_RIGHT, 0, LANE_MAX_ADD);
+    lane_panel(table, WORDS, list, 2 * LANE_MAX_PANEL_TICKS, answers, LANE_ANSWER_WORDS * LANE_MAX_PANEL_TICKS);
 }
 
 static void read_lane(void) {
-    lane_read(table, WORDS, out, SLOTS);
+    lane_read(table, WORDS, out, LANE_TAG_WORDS * SLOTS);
 }
 
 static size_t touched(void (*call)(void)) {

@@ -1,11 +1,12 @@
 //! The belt run of the paper, printed as the paper prints it: `cargo run --example belt`.
 
-use lane::{Answer, Lane, Operation, Refusal, Side};
+use lane::{Answer, Lane, Operation, Refusal, Side, Tag};
 
 fn main() {
+    let tag = Tag::new(51).expect("not 0, and ten digits");
     let mut lane = Lane::start(vec![0; lane::words(4, 1)], 4, 1, 0).expect("the sizes fit");
     print_reply(&Ok(()));
-    print_reply(&lane.begin(0, Operation::Push(51), Side::Right));
+    print_reply(&lane.begin(0, Operation::Push(tag), Side::Right));
     print_ticks(&mut lane, 10);
     print_ticks(&mut lane, 1);
     print_lane(&lane);
@@ -41,8 +42,8 @@ fn print_ticks(lane: &mut Lane<Vec<u32>>, times: u32) {
 fn print_lane(lane: &Lane<Vec<u32>>) {
     match lane.bags() {
         Ok(bags) => {
-            let bags: String = bags.map(|bag| format!(" {bag}")).collect();
-            println!("(lane{bags})");
+            let tags: String = bags.map(|tag| format!(" {tag}")).collect();
+            println!("(lane{tags})");
         }
         Err(refusal) => println!("(refused {})", refusal.number()),
     }

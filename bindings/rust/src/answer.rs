@@ -2,12 +2,14 @@
 
 use core::fmt;
 
+use crate::Tag;
+
 /// The answer of a tick that was made. Later versions may add some.
 ///
 /// ```
-/// use lane::Answer;
+/// use lane::{Answer, Tag};
 ///
-/// assert_eq!(Answer::Bag(51).to_string(), "bag 51");
+/// assert_eq!(Answer::Bag(Tag::MIN).to_string(), "bag 0000000001");
 /// assert_eq!(Answer::Empty.to_string(), "empty");
 /// ```
 #[derive(Clone, Copy, Debug, PartialEq, Eq, Hash)]
@@ -18,8 +20,8 @@ pub enum Answer {
     Going,
     /// A push put its bag in the lane.
     Pushed,
-    /// A pop took this bag.
-    Bag(u32),
+    /// A pop took the bag with this tag.
+    Bag(Tag),
     /// A pop found the lane empty.
     Empty,
     /// A push found no free slot.
@@ -31,38 +33,47 @@ pub enum Answer {
 }
 
 impl Answer {
-    /// The answer of two words as a run writes them; none for words that no run writes.
+    /// The answer of three words as a run writes them; none for words that no run writes.
     ///
     /// ```
-    /// assert_eq!(lane::Answer::from_words([2, 51]), Some(lane::Answer::Bag(51)));
+    /// use lane::{Answer, Tag};
+    ///
+    /// assert_eq!(Answer::from_words([2, 0, 1]), Some(Answer::Bag(Tag::MIN)));
+    /// assert_eq!(Answer::from_words([2, 0, 0]), None);
     /// ```
-    pub const fn from_words(words: [u32; 2]) -> Option<Answer> {
+    pub const fn from_words(words: [u32; 3]) -> Option<Answer> {
         Some(match words {
-            [0, 0] => Answer::Going,
-            [1, 0] => Answer::Pushed,
-            [2, bag] => Answer::Bag(bag),
-            [3, 0] => Answer::Empty,
-            [4, 0] => Answer::Full,
-            [5, 0] => Answer::Yes,
-            [6, 0] => Answer::No,
+            [0, 0, 0] => Answer::Going,
+            [1, 0, 0] => Answer::Pushed,
+            [2, digit, low] => match Tag::from_words([digit, low]) {
+                Some(tag) => Answer::Bag(tag),
+                None => return None,
+            },
+            [3, 0, 0] => Answer::Empty,
+            [4, 0, 0] => Answer::Full,
+            [5, 0, 0] => Answer::Yes,
+            [6, 0, 0] => Answer::No,
             _ => return None,
         })
     }
 
-    /// The two words that a run writes for it.
+    /// The three words that a run writes for it: the kind, then the tag's leading digit and low part, or zeros.
     ///
     /// ```
-    /// assert_eq!(lane::Answer::Bag(51).words(), [2, 51]);
+    /// assert_eq!(lane::Answer::Bag(lane::Tag::MIN).words(), [2, 0, 1]);
     /// ```
-    pub const fn words(self) -> [u32; 2] {
+    pub const fn words(self) -> [u32; 3] {
         match self {
-            Answer::Going => [0, 0],
-            Answer::Pushed => [1, 0],
-            Answer::Bag(bag) => [2, bag],
-            Answer::Empty => [3, 0],
-            Answer::Full => [4, 0],
-            Answer::Yes => [5, 0],
-            Answer::No => [6, 0],
+            Answer::Going => [0, 0, 0],
+            Answer::Pushed => [1, 0, 0],
+            Answer::Bag(tag) => {
+                let [digit, low] = tag.words();
+                [2, digit, low]
+            }
+            Answer::Empty => [3, 0, 0],
+            Answer::Full => [4, 0, 0],
+            Answer::Yes => [5, 0, 0],
+            Answer::No => [6, 0, 0],
         }
     }
 }
@@ -72,7 +83,7 @@ impl fmt::Display for Answer {
         formatter.write_str(match self {
             Answer::Going => "going",
             Answer::Pushed => "pushed",
-            Answer::Bag(bag) => return write!(formatter, "bag {bag}"),
+            Answer::Bag(tag) => return write!(formatter, "bag {tag}"),
             Answer::Empty => "empty",
             Answer::Full => "full",
             Answer::Yes => "yes",
@@ -104,7 +115,7 @@ pub enum Refusal {
     Task = 5,
     /// No such operation or side. This crate's enums keep it out.
     Operation = 6,
-    /// The argument is out of the operation's range.
+    /// The argument is out of the operation's range: that of an add or a remove, for a [`Tag`] is always in it.
     Argument = 7,
     /// Begin: the task is in the middle of a call.
     Busy = 8,
@@ -115,7 +126,7 @@ pub enum Refusal {
     /// A link or register that is needed is none, or the lane has no end; never on a table begun by start and written
     /// by these calls alone.
     NoSlot = 11,
-    /// Read: the out slice is too short for the bags.
+    /// Read: the out slice is too short for the tags.
     Out = 12,
     /// Run, panel: more than 4,096 ticks.
     List = 13,
@@ -123,7 +134,7 @@ pub enum Refusal {
     Answers = 14,
     /// Panel: more than 32 ticks.
     Panel = 15,
-    /// Begin of a push: the bag number is in the lane or in a busy push.
+    /// Begin of a push: the tag is in the lane or in a busy push.
     Twice = 16,
 }
 
@@ -183,11 +194,11 @@ impl fmt::Display for Refusal {
             Refusal::Hint => "the hint is not the number of a slot",
             Refusal::Idle => "the task is idle",
             Refusal::NoSlot => "a link or register that is needed is none, or the lane has no end",
-            Refusal::Out => "the out slice is too short for the bags",
+            Refusal::Out => "the out slice is too short for the tags",
             Refusal::List => "a run takes at most 4,096 ticks",
             Refusal::Answers => "fewer places for answers than ticks",
             Refusal::Panel => "a panel's list of more than 32 ticks",
-            Refusal::Twice => "the bag number is in the lane or in a busy push",
+            Refusal::Twice => "the tag is in the lane or in a busy push",
         };
         write!(formatter, "refused {}: {reason}", self.number())
     }
@@ -248,7 +259,7 @@ impl<W> core::error::Error for NotStarted<W> {}
 ///
 /// let mut lane = Lane::start([0; lane::words(4, 1)], 4, 1, 0)?;
 /// lane.begin(0, Operation::Pop, Side::Left)?;
-/// let mut answers = [[0; 2]; 2];
+/// let mut answers = [[0; 3]; 2];
 /// let ran = lane.run(&[[0, 0]; 2], &mut answers);
 /// assert_eq!((ran.made(), ran.refusal()), (2, None));
 /// assert!(ran.answers().all(|answer| answer == Answer::Going));
@@ -257,12 +268,12 @@ impl<W> core::error::Error for NotStarted<W> {}
 #[derive(Clone, Copy, Debug)]
 #[must_use = "a run may stop at a refused tick"]
 pub struct Ran<'a> {
-    words: &'a [[u32; 2]],
+    words: &'a [[u32; 3]],
     refusal: Option<Refusal>,
 }
 
 impl<'a> Ran<'a> {
-    pub(crate) fn new(words: &'a [[u32; 2]], refusal: Option<Refusal>) -> Ran<'a> {
+    pub(crate) fn new(words: &'a [[u32; 3]], refusal: Option<Refusal>) -> Ran<'a> {
         Ran { words, refusal }
     }
 
@@ -292,16 +303,21 @@ mod tests {
     #[test]
     fn every_kind_is_decoded_once_and_back() {
         for kind in 0..=8 {
-            for value in [0, 1, 51, 999_999_999, u32::MAX] {
-                let words = [kind, value];
-                let written = kind == 2 || kind <= 6 && value == 0;
-                assert_eq!(Answer::from_words(words).is_some(), written, "{words:?}");
-                if let Some(answer) = Answer::from_words(words) {
-                    assert_eq!(answer.words(), words);
+            for digit in [0, 1, 9, 10, u32::MAX] {
+                for low in [0, 1, 51, 999_999_999, 1_000_000_000, u32::MAX] {
+                    let words = [kind, digit, low];
+                    let written = match kind {
+                        2 => digit < 10 && low < 1_000_000_000 && [digit, low] != [0, 0],
+                        _ => kind <= 6 && [digit, low] == [0, 0],
+                    };
+                    assert_eq!(Answer::from_words(words).is_some(), written, "{words:?}");
+                    if let Some(answer) = Answer::from_words(words) {
+                        assert_eq!(answer.words(), words);
+                    }
                 }
             }
         }
-        assert_eq!(Answer::from_words([u32::MAX, 0]), None);
+        assert_eq!(Answer::from_words([u32::MAX, 0, 0]), None);
     }
 
     #[test]

@@ -1,5 +1,7 @@
 //! What a task can be told to do, and the numbers that say so.
 
+use crate::Tag;
+
 /// An end of the lane.
 #[derive(Clone, Copy, Debug, PartialEq, Eq, Hash)]
 pub enum Side {
@@ -23,11 +25,11 @@ impl Side {
     }
 }
 
-/// A call with its argument; begin refuses an argument out of range.
+/// A call with its argument; begin refuses that of an add or a remove if it is out of range.
 #[derive(Clone, Copy, Debug, PartialEq, Eq, Hash)]
 pub enum Operation {
-    /// Put a bag, 1 to 999,999,999, at the end.
-    Push(u32),
+    /// Put a bag with this tag at the end.
+    Push(Tag),
     /// Take the bag at the end.
     Pop,
     /// Make a free slot a spare one at the end, and 0 to 64 more as far as there are free ones.
@@ -40,7 +42,7 @@ impl Operation {
     /// The number in a task's record.
     ///
     /// ```
-    /// assert_eq!(lane::Operation::Push(51).number(), 1);
+    /// assert_eq!(lane::Operation::Push(lane::Tag::MIN).number(), 1);
     /// ```
     pub const fn number(self) -> u32 {
         match self {
@@ -51,17 +53,19 @@ impl Operation {
         }
     }
 
-    /// The argument in a task's record.
+    /// The argument in a task's record, its leading digit first: of a push its tag's, of the others 0.
     ///
     /// ```
-    /// assert_eq!(lane::Operation::Push(51).argument(), 51);
+    /// use lane::{Operation, Tag};
+    ///
+    /// assert_eq!(Operation::Push(Tag::MAX).argument(), [9, 999_999_999]);
+    /// assert_eq!(Operation::Add(2).argument(), [0, 2]);
     /// ```
-    pub const fn argument(self) -> u32 {
+    pub const fn argument(self) -> [u32; 2] {
         match self {
-            Operation::Pop => 0,
-            Operation::Push(argument) | Operation::Add(argument) | Operation::Remove(argument) => {
-                argument
-            }
+            Operation::Push(tag) => tag.words(),
+            Operation::Pop => [0, 0],
+            Operation::Add(count) | Operation::Remove(count) => [0, count],
         }
     }
 }

@@ -20,6 +20,7 @@ mod library {
             task: u32,
             operation: u32,
             side: u32,
+            digit: u32,
             argument: u32,
         ) -> u32;
         pub fn lane_tick(table: *mut u32, words: usize, task: u32, hint: u32) -> u64;
@@ -51,7 +52,7 @@ mod library {
 /// ```
 /// use lane::ffi;
 ///
-/// assert_eq!(ffi::start(&mut [0; 30], 4, 1, 0), 0);
+/// assert_eq!(ffi::start(&mut [0; 36], 4, 1, 0), 0);
 /// assert_eq!(ffi::start(&mut [], 4, 1, 0), 2);
 /// ```
 pub fn start(table: &mut [u32], slots: u32, tasks: u32, growth: u32) -> u32 {
@@ -59,48 +60,56 @@ pub fn start(table: &mut [u32], slots: u32, tasks: u32, growth: u32) -> u32 {
     unsafe { library::lane_start(pointer, words, slots, tasks, growth) }
 }
 
-/// Gives an idle task a call: 0, or the refusal.
+/// Gives an idle task a call, its argument with the leading digit before it: 0, or the refusal.
 ///
 /// ```
 /// use lane::ffi;
 ///
-/// let mut table = [0; 30];
+/// let mut table = [0; 36];
 /// assert_eq!(ffi::start(&mut table, 4, 1, 0), 0);
-/// assert_eq!(ffi::begin(&mut table, 0, 1, 0, 51), 0);
-/// assert_eq!(ffi::begin(&mut table, 0, 1, 0, 51), 16);
-/// assert_eq!(ffi::begin(&mut table, 0, 1, 0, 52), 8);
+/// assert_eq!(ffi::begin(&mut table, 0, 1, 0, 9, 51), 0);
+/// assert_eq!(ffi::begin(&mut table, 0, 1, 0, 9, 51), 16);
+/// assert_eq!(ffi::begin(&mut table, 0, 1, 0, 0, 51), 8);
+/// assert_eq!(ffi::begin(&mut table, 0, 1, 0, 10, 51), 7);
 /// ```
-pub fn begin(table: &mut [u32], task: u32, operation: u32, side: u32, argument: u32) -> u32 {
+pub fn begin(
+    table: &mut [u32],
+    task: u32,
+    operation: u32,
+    side: u32,
+    digit: u32,
+    argument: u32,
+) -> u32 {
     let (pointer, words) = (table.as_mut_ptr(), table.len());
-    unsafe { library::lane_begin(pointer, words, task, operation, side, argument) }
+    unsafe { library::lane_begin(pointer, words, task, operation, side, digit, argument) }
 }
 
-/// Makes one tick: the kind (0 to 6) times 2^32 plus the bag or 0; kind 7 for a refusal, with its number.
+/// Makes one tick: the kind (0 to 6) times 2^40 plus the tag or 0; kind 7 for a refusal, with its number.
 ///
 /// ```
 /// use lane::ffi;
 ///
-/// let mut table = [0; 30];
+/// let mut table = [0; 36];
 /// assert_eq!(ffi::start(&mut table, 4, 1, 0), 0);
-/// assert_eq!(ffi::tick(&mut table, 0, 0), 7 << 32 | 10);
+/// assert_eq!(ffi::tick(&mut table, 0, 0), 7 << 40 | 10);
 /// ```
 pub fn tick(table: &mut [u32], task: u32, hint: u32) -> u64 {
     let (pointer, words) = (table.as_mut_ptr(), table.len());
     unsafe { library::lane_tick(pointer, words, task, hint) }
 }
 
-/// Makes the ticks of a list of (task, hint) pairs and writes two words for each: the ticks made times 2^32 plus the
-/// refusal that stopped the run, or 0.
+/// Makes the ticks of a list of (task, hint) pairs and writes three words for each, the kind, then the tag's leading
+/// digit and low part: the ticks made times 2^32 plus the refusal that stopped the run, or 0.
 ///
 /// ```
 /// use lane::ffi;
 ///
-/// let mut table = [0; 30];
-/// let mut answers = [9; 10];
+/// let mut table = [0; 36];
+/// let mut answers = [9; 15];
 /// assert_eq!(ffi::start(&mut table, 4, 1, 0), 0);
-/// assert_eq!(ffi::begin(&mut table, 0, 2, 0, 0), 0);
+/// assert_eq!(ffi::begin(&mut table, 0, 2, 0, 0, 0), 0);
 /// assert_eq!(ffi::run(&mut table, &[0; 10], &mut answers), 4 << 32 | 10);
-/// assert_eq!(answers, [0, 0, 0, 0, 0, 0, 3, 0, 9, 9]);
+/// assert_eq!(answers, [0, 0, 0, 0, 0, 0, 0, 0, 0, 3, 0, 0, 9, 9, 9]);
 /// ```
 pub fn run(table: &mut [u32], list: &[u32], answers: &mut [u32]) -> u64 {
     let (pointer, words) = (table.as_mut_ptr(), table.len());
@@ -113,10 +122,10 @@ pub fn run(table: &mut [u32], list: &[u32], answers: &mut [u32]) -> u64 {
 /// ```
 /// use lane::ffi;
 ///
-/// let mut table = [0; 30];
+/// let mut table = [0; 36];
 /// assert_eq!(ffi::start(&mut table, 4, 1, 0), 0);
 /// assert_eq!(ffi::panel(&mut table, &[0; 66], &mut []), 15);
-/// assert_eq!(ffi::panel(&mut table, &[0; 64], &mut [0; 64]), 10);
+/// assert_eq!(ffi::panel(&mut table, &[0; 64], &mut [0; 96]), 10);
 /// ```
 pub fn panel(table: &mut [u32], list: &[u32], answers: &mut [u32]) -> u64 {
     let (pointer, words) = (table.as_mut_ptr(), table.len());
@@ -124,12 +133,13 @@ pub fn panel(table: &mut [u32], list: &[u32], answers: &mut [u32]) -> u64 {
     unsafe { library::lane_panel(pointer, words, list.as_ptr(), list.len(), out, out_words) }
 }
 
-/// Writes the bags of the lane, left end first: their count, or 2^32 plus the refusal.
+/// Writes the tags of the lane, left end first, two words each, the leading digit first: their count, or 2^32 plus the
+/// refusal.
 ///
 /// ```
 /// use lane::ffi;
 ///
-/// let mut table = [0; 30];
+/// let mut table = [0; 36];
 /// assert_eq!(ffi::start(&mut table, 4, 1, 0), 0);
 /// assert_eq!(ffi::read(&table, &mut []), 0);
 /// assert_eq!(ffi::read(&table[1..], &mut []), 1 << 32 | 3);

@@ -6,19 +6,18 @@
 //! [`Lane::is_busy`], `Debug`). It needs no standard library and allocates nothing: the caller lends the words.
 //!
 //! ```
-//! use lane::{Answer, Lane, Operation, Refusal, Side};
+//! use lane::{Answer, Lane, Operation, Refusal, Side, Tag};
 //!
 //! fn main() -> Result<(), Refusal> {
 //!     let mut lane = Lane::start([0; lane::words(4, 1)], 4, 1, 0)?;
-//!     assert_eq!(lane.call(0, Operation::Push(51), Side::Right)?, Answer::Pushed);
-//!
-//!     let mut out = [0; 4];
-//!     assert_eq!(lane.read(&mut out)?, [51]);
+//!     let tag = Tag::new(51).expect("not 0, and ten digits");
+//!     assert_eq!(lane.call(0, Operation::Push(tag), Side::Right)?, Answer::Pushed);
+//!     assert!(lane.read(&mut [[0; 2]; 4])?.eq([tag]));
 //!
 //!     lane.begin(0, Operation::Pop, Side::Left)?;
-//!     let mut answers = [[0; 2]; 4];
+//!     let mut answers = [[0; 3]; 4];
 //!     let ran = lane.run(&[[0, 0]; 4], &mut answers);
-//!     assert_eq!(ran.answers().last(), Some(Answer::Bag(51)));
+//!     assert_eq!(ran.answers().last(), Some(Answer::Bag(tag)));
 //!     assert_eq!(lane.tick(0, 0), Err(Refusal::Idle));
 //!     Ok(())
 //! }
@@ -35,8 +34,8 @@
 //! remove 0; and try again. Full again, with no other task in a call: the lane has S - 2 bags, or S - 3 and the last
 //! place is at the other end.
 //!
-//! A bag number is in one place at most: a push of a number that stands in the lane, or that a busy push has, is refused
-//! when it is begun ([`Refusal::Twice`]).
+//! A bag goes by its [`Tag`] of ten digits, which is in one place at most: a push of a tag that stands in the lane, or
+//! that a busy push has, is refused when it is begun ([`Refusal::Twice`]).
 //!
 //! [`Answer::Yes`] of a remove says that nothing more is to be done by it, and not that a slot was given back.
 //! [`Answer::No`] of a remove, with no other task in a call, means exactly one spare slot more than asked for; trying
@@ -56,6 +55,7 @@ mod answer;
 mod call;
 pub mod ffi;
 mod limits;
+mod tag;
 mod view;
 
 use core::fmt;
@@ -63,9 +63,10 @@ use core::fmt;
 pub use answer::{Answer, NotStarted, Ran, Refusal};
 pub use call::{Operation, Side};
 pub use limits::{
-    max_bags, max_ticks_alone, words, MAX_ADD, MAX_BAG, MAX_GROWTH, MAX_PANEL_TICKS, MAX_REMOVE,
-    MAX_SLOTS, MAX_TASKS, MAX_TICKS, MIN_BAG, MIN_SLOTS, MIN_TASKS,
+    max_bags, max_ticks_alone, words, MAX_ADD, MAX_DIGIT, MAX_GROWTH, MAX_LOW, MAX_PANEL_TICKS,
+    MAX_REMOVE, MAX_SLOTS, MAX_TASKS, MAX_TICKS, MIN_SLOTS, MIN_TASKS,
 };
+pub use tag::{ParseTagError, Tag, Tags};
 pub use view::Bags;
 
 use view::View;
@@ -74,7 +75,7 @@ use view::View;
 pub const VERSION: &str = env!("CARGO_PKG_VERSION");
 
 /// The number of the table's format: a table is worked on by libraries of its format alone.
-pub const TABLE_FORMAT: u32 = 1;
+pub const TABLE_FORMAT: u32 = 2;
 
 /// A table and the calls on it. The words are owned (`Vec<u32>`, `[u32; N]`) or lent (`&mut [u32]`; `&[u32]` to read).
 ///
@@ -83,16 +84,16 @@ pub const TABLE_FORMAT: u32 = 1;
 /// `Debug` shows the bags, the hats and the tasks:
 ///
 /// ```
-/// use lane::{Lane, Operation, Side};
+/// use lane::{Lane, Operation, Side, Tag};
 ///
 /// let mut lane = Lane::start([0; lane::words(4, 2)], 4, 2, 0)?;
-/// lane.begin(1, Operation::Push(51), Side::Right)?;
+/// lane.begin(1, Operation::Push(Tag::MAX), Side::Right)?;
 /// assert_eq!(
 ///     format!("{lane:?}"),
 ///     "Lane { slots: 4, growth: 0, bags: [], left_hat: 0, right_hat: 1, ticks: 0, \
-///      tasks: [Idle, Busy { operation: Push(51), side: Right, step: 2 }] }"
+///      tasks: [Idle, Busy { operation: Push(9999999999), side: Right, step: 2 }] }"
 /// );
-/// assert_eq!(format!("{:?}", Lane::over([0; 24])), "Lane { refused: Table, words: 24 }");
+/// assert_eq!(format!("{:?}", Lane::over([0; 28])), "Lane { refused: Table, words: 28 }");
 /// # Ok::<(), lane::Refusal>(())
 /// ```
 #[derive(Clone, PartialEq, Eq)]
@@ -127,37 +128,33 @@ impl<W: AsRef<[u32]> + AsMut<[u32]>> Lane<W> {
         }
     }
 
-    /// Gives an idle task a call. Nothing of it is done before the task's ticks. A push of a bag that is in the lane or
+    /// Gives an idle task a call. Nothing of it is done before the task's ticks. A push of a tag that is in the lane or
     /// in a busy push is refused, on its own task too: [`Refusal::Twice`].
     ///
     /// ```
-    /// use lane::{Lane, Operation, Refusal, Side};
+    /// use lane::{Lane, Operation, Refusal, Side, Tag};
     ///
     /// let mut lane = Lane::start([0; lane::words(4, 2)], 4, 2, 0)?;
-    /// lane.begin(0, Operation::Push(51), Side::Right)?;
+    /// lane.begin(0, Operation::Push(Tag::MAX), Side::Right)?;
     /// assert_eq!(lane.begin(0, Operation::Pop, Side::Right), Err(Refusal::Busy));
-    /// assert_eq!(lane.begin(1, Operation::Push(51), Side::Left), Err(Refusal::Twice));
+    /// assert_eq!(lane.begin(1, Operation::Push(Tag::MAX), Side::Left), Err(Refusal::Twice));
     /// # Ok::<(), Refusal>(())
     /// ```
     pub fn begin(&mut self, task: u32, operation: Operation, side: Side) -> Result<(), Refusal> {
-        let (number, argument) = (operation.number(), operation.argument());
-        reply(ffi::begin(
-            self.words.as_mut(),
-            task,
-            number,
-            side.number(),
-            argument,
-        ))
+        let [digit, argument] = operation.argument();
+        let (number, side) = (operation.number(), side.number());
+        let words = self.words.as_mut();
+        reply(ffi::begin(words, task, number, side, digit, argument))
     }
 
     /// Makes one tick of a busy task. If the tick takes a free slot, it is the first one from `hint` (below the number
     /// of slots) upward, going round. 0 always works; a hint just past the slots in use shortens the search a little.
     ///
     /// ```
-    /// use lane::{Answer, Lane, Operation, Side};
+    /// use lane::{Answer, Lane, Operation, Side, Tag};
     ///
     /// let mut lane = Lane::start([0; lane::words(4, 1)], 4, 1, 0)?;
-    /// lane.begin(0, Operation::Push(51), Side::Right)?;
+    /// lane.begin(0, Operation::Push(Tag::MAX), Side::Right)?;
     /// let answer = loop {
     ///     match lane.tick(0, 0)? {
     ///         Answer::Going => {}
@@ -168,10 +165,7 @@ impl<W: AsRef<[u32]> + AsMut<[u32]>> Lane<W> {
     /// # Ok::<(), lane::Refusal>(())
     /// ```
     pub fn tick(&mut self, task: u32, hint: u32) -> Result<Answer, Refusal> {
-        match halves(ffi::tick(self.words.as_mut(), task, hint)) {
-            [7, number] => Err(known(Refusal::from_number(number))),
-            words => Ok(known(Answer::from_words(words))),
-        }
+        outcome(ffi::tick(self.words.as_mut(), task, hint))
     }
 
     /// Begins a call and ticks its task with hint 0 until it answers, while no other task gets a tick.
@@ -181,11 +175,11 @@ impl<W: AsRef<[u32]> + AsMut<[u32]>> Lane<W> {
     /// [`Lane::run`] is faster.
     ///
     /// ```
-    /// use lane::{Answer, Lane, Operation, Side};
+    /// use lane::{Answer, Lane, Operation, Side, Tag};
     ///
     /// let mut lane = Lane::start([0; lane::words(4, 1)], 4, 1, 0)?;
-    /// assert_eq!(lane.call(0, Operation::Push(51), Side::Right)?, Answer::Pushed);
-    /// assert_eq!(lane.call(0, Operation::Pop, Side::Left)?, Answer::Bag(51));
+    /// assert_eq!(lane.call(0, Operation::Push(Tag::MAX), Side::Right)?, Answer::Pushed);
+    /// assert_eq!(lane.call(0, Operation::Pop, Side::Left)?, Answer::Bag(Tag::MAX));
     /// assert_eq!(lane.call(0, Operation::Pop, Side::Left)?, Answer::Empty);
     /// # Ok::<(), lane::Refusal>(())
     /// ```
@@ -200,7 +194,7 @@ impl<W: AsRef<[u32]> + AsMut<[u32]>> Lane<W> {
         Ok(Answer::Going)
     }
 
-    /// Makes the ticks of a list of (task, hint) pairs up to the first refused, at most [`MAX_TICKS`], and writes two
+    /// Makes the ticks of a list of (task, hint) pairs up to the first refused, at most [`MAX_TICKS`], and writes three
     /// words for each tick made.
     ///
     /// ```
@@ -208,14 +202,14 @@ impl<W: AsRef<[u32]> + AsMut<[u32]>> Lane<W> {
     ///
     /// let mut lane = Lane::start([0; lane::words(4, 2)], 4, 2, 0)?;
     /// lane.begin(1, Operation::Pop, Side::Left)?;
-    /// let mut answers = [[0; 2]; 8];
+    /// let mut answers = [[0; 3]; 8];
     /// let ran = lane.run(&[[1, 0]; 8], &mut answers);
     /// assert_eq!(ran.made(), 4);
     /// assert_eq!(ran.answers().last(), Some(Answer::Empty));
     /// assert_eq!(ran.refusal(), Some(Refusal::Idle));
     /// # Ok::<(), Refusal>(())
     /// ```
-    pub fn run<'a>(&mut self, list: &[[u32; 2]], answers: &'a mut [[u32; 2]]) -> Ran<'a> {
+    pub fn run<'a>(&mut self, list: &[[u32; 2]], answers: &'a mut [[u32; 3]]) -> Ran<'a> {
         let (ticks, places) = (list.as_flattened(), answers.as_flattened_mut());
         let number = ffi::run(self.words.as_mut(), ticks, places);
         ran(number, answers)
@@ -229,12 +223,12 @@ impl<W: AsRef<[u32]> + AsMut<[u32]>> Lane<W> {
     ///
     /// let mut lane = Lane::start([0; lane::words(4, 1)], 4, 1, 0)?;
     /// lane.begin(0, Operation::Pop, Side::Left)?;
-    /// let mut answers = [[0; 2]; 33];
+    /// let mut answers = [[0; 3]; 33];
     /// assert_eq!(lane.panel(&[[0, 0]; 33], &mut answers).refusal(), Some(Refusal::Panel));
     /// assert_eq!(lane.panel(&[[0, 0]; 3], &mut answers).made(), 3);
     /// # Ok::<(), Refusal>(())
     /// ```
-    pub fn panel<'a>(&mut self, list: &[[u32; 2]], answers: &'a mut [[u32; 2]]) -> Ran<'a> {
+    pub fn panel<'a>(&mut self, list: &[[u32; 2]], answers: &'a mut [[u32; 3]]) -> Ran<'a> {
         let (ticks, places) = (list.as_flattened(), answers.as_flattened_mut());
         let number = ffi::panel(self.words.as_mut(), ticks, places);
         ran(number, answers)
@@ -256,36 +250,39 @@ impl<W: AsRef<[u32]>> Lane<W> {
         Lane { words }
     }
 
-    /// Writes the bags of the lane, left end first, and gives the part written. [`max_bags`] places are enough.
+    /// Writes the tags of the lane, left end first, two words each, and gives those written. [`max_bags`] places are
+    /// enough.
     ///
     /// ```
-    /// use lane::{Lane, Operation, Refusal, Side};
+    /// use lane::{Lane, Operation, Refusal, Side, Tag};
     ///
     /// let mut lane = Lane::start([0; lane::words(4, 1)], 4, 1, 0)?;
-    /// for bag in [51, 52] {
-    ///     let _ = lane.call(0, Operation::Push(bag), Side::Right)?;
+    /// for tag in [Tag::MAX, Tag::MIN] {
+    ///     let _ = lane.call(0, Operation::Push(tag), Side::Right)?;
     /// }
-    /// assert_eq!(lane.read(&mut [0; 4])?, [51, 52]);
-    /// assert_eq!(lane.read(&mut [0; 1]), Err(Refusal::Out));
+    /// let mut out = [[0; 2]; 4];
+    /// assert!(lane.read(&mut out)?.eq([Tag::MAX, Tag::MIN]));
+    /// assert_eq!(out, [[9, 999_999_999], [0, 1], [0, 0], [0, 0]]);
+    /// assert_eq!(lane.read(&mut out[..1]).err(), Some(Refusal::Out));
     /// # Ok::<(), Refusal>(())
     /// ```
-    pub fn read<'a>(&self, out: &'a mut [u32]) -> Result<&'a [u32], Refusal> {
-        match halves(ffi::read(self.words.as_ref(), out)) {
-            [0, count] => Ok(&out[..count as usize]),
+    pub fn read<'a>(&self, out: &'a mut [[u32; 2]]) -> Result<Tags<'a>, Refusal> {
+        match halves(ffi::read(self.words.as_ref(), out.as_flattened_mut())) {
+            [0, count] => Ok(Tags::of(&out[..count as usize])),
             [_, number] => Err(known(Refusal::from_number(number))),
         }
     }
 
-    /// The bags of the lane, left end first, without a buffer.
+    /// The tags of the lane, left end first, without a buffer.
     ///
     /// ```
-    /// use lane::{Lane, Operation, Side};
+    /// use lane::{Lane, Operation, Side, Tag};
     ///
     /// let mut lane = Lane::start([0; lane::words(4, 1)], 4, 1, 0)?;
-    /// for bag in [51, 52] {
-    ///     let _ = lane.call(0, Operation::Push(bag), Side::Right)?;
+    /// for tag in [Tag::MAX, Tag::MIN] {
+    ///     let _ = lane.call(0, Operation::Push(tag), Side::Right)?;
     /// }
-    /// assert!(lane.bags()?.eq([51, 52]));
+    /// assert!(lane.bags()?.eq([Tag::MAX, Tag::MIN]));
     /// # Ok::<(), lane::Refusal>(())
     /// ```
     pub fn bags(&self) -> Result<Bags<'_>, Refusal> {
@@ -378,7 +375,18 @@ fn reply(number: u32) -> Result<(), Refusal> {
     }
 }
 
-fn ran(number: u64, answers: &[[u32; 2]]) -> Ran<'_> {
+/// What a tick's number says: the kind above 40 bits, the tag or the refusal in them.
+fn outcome(number: u64) -> Result<Answer, Refusal> {
+    let (kind, value) = ((number >> 40) as u32, number & ((1 << 40) - 1));
+    if kind == 7 {
+        let refusal = u32::try_from(value).ok().and_then(Refusal::from_number);
+        return Err(known(refusal));
+    }
+    let [digit, low] = tag::split(value);
+    Ok(known(Answer::from_words([kind, digit, low])))
+}
+
+fn ran(number: u64, answers: &[[u32; 3]]) -> Ran<'_> {
     let [made, number] = halves(number);
     let refusal = (number != 0).then(|| known(Refusal::from_number(number)));
     Ran::new(&answers[..made as usize], refusal)

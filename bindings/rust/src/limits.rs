@@ -10,10 +10,10 @@ pub const MIN_TASKS: u32 = 1;
 pub const MAX_TASKS: u32 = 16;
 /// The most spare slots that a push adds beyond the one it needs.
 pub const MAX_GROWTH: u32 = 64;
-/// The least bag number.
-pub const MIN_BAG: u32 = 1;
-/// The greatest bag number.
-pub const MAX_BAG: u32 = 999_999_999;
+/// The greatest leading digit of a [`Tag`](crate::Tag).
+pub const MAX_DIGIT: u32 = 9;
+/// The greatest low part of a [`Tag`](crate::Tag), the nine digits below the leading one.
+pub const MAX_LOW: u32 = 999_999_999;
 /// The greatest argument of an add.
 pub const MAX_ADD: u32 = 64;
 /// The greatest argument of a remove.
@@ -23,25 +23,25 @@ pub const MAX_TICKS: usize = 4096;
 /// The most ticks of one list of the maintenance panel.
 pub const MAX_PANEL_TICKS: usize = 32;
 
-/// The words of a table: 8 for the header, 3 a slot, 10 a task.
+/// The words of a table: 8 for the header, 4 a slot, 12 a task.
 ///
 /// ```
-/// assert_eq!(lane::words(4, 1), 30);
+/// assert_eq!(lane::words(4, 1), 36);
 /// ```
 pub const fn words(slots: u32, tasks: u32) -> usize {
-    8 + 3 * slots as usize + 10 * tasks as usize
+    8 + 4 * slots as usize + 12 * tasks as usize
 }
 
 /// The most bags that a table of so many slots carries: all but one spare slot at each end.
 ///
 /// ```
-/// use lane::{Answer, Lane, Operation, Side};
+/// use lane::{Answer, Lane, Operation, Side, Tag};
 ///
 /// let mut lane = Lane::start([0; lane::words(4, 1)], 4, 1, 0)?;
-/// for bag in 1..=lane::max_bags(4) {
-///     assert_eq!(lane.call(0, Operation::Push(bag), Side::Right)?, Answer::Pushed);
+/// for tag in (1..=lane::max_bags(4).into()).filter_map(Tag::new) {
+///     assert_eq!(lane.call(0, Operation::Push(tag), Side::Right)?, Answer::Pushed);
 /// }
-/// assert_eq!(lane.call(0, Operation::Push(99), Side::Left)?, Answer::Full);
+/// assert_eq!(lane.call(0, Operation::Push(Tag::MAX), Side::Left)?, Answer::Full);
 /// # Ok::<(), lane::Refusal>(())
 /// ```
 pub const fn max_bags(slots: u32) -> u32 {

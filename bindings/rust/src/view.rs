@@ -5,7 +5,7 @@
 
 use core::fmt;
 
-use crate::{ffi, halves, known, Operation, Refusal, Side};
+use crate::{ffi, halves, known, Operation, Refusal, Side, Tag};
 
 /// The format's places: words of the header, widths, and words of a node and of a task.
 mod place {
@@ -16,14 +16,16 @@ mod place {
     pub const RIGHT_HAT: usize = 4;
     pub const TICKS: usize = 5;
     pub const HEADER: usize = 8;
-    pub const NODE: usize = 3;
+    pub const NODE: usize = 4;
     pub const RIGHT_LINK: usize = 1;
     pub const VALUE: usize = 2;
-    pub const RECORD: usize = 10;
+    pub const DIGIT: usize = 3;
+    pub const RECORD: usize = 12;
     pub const OPERATION: usize = 0;
     pub const STEP: usize = 1;
     pub const SIDE: usize = 2;
     pub const ARGUMENT: usize = 3;
+    pub const ARGUMENT_DIGIT: usize = 4;
 }
 
 /// Words that the library has accepted as a table.
@@ -64,7 +66,7 @@ impl<'a> View<'a> {
         }
     }
 
-    /// The ten words of a task below [`View::tasks`].
+    /// The twelve words of a task below [`View::tasks`].
     fn record(self, task: u32) -> &'a [u32] {
         let nodes = place::NODE * self.slots() as usize;
         let at = place::HEADER + nodes + place::RECORD * task as usize;
@@ -85,7 +87,7 @@ impl<'a> View<'a> {
     }
 }
 
-/// The bags of a lane, left end first, read where they stand. [`Lane::bags`](crate::Lane::bags) gives it.
+/// The tags of a lane, left end first, read where they stand. [`Lane::bags`](crate::Lane::bags) gives it.
 #[derive(Clone)]
 pub struct Bags<'a> {
     view: View<'a>,
@@ -93,15 +95,14 @@ pub struct Bags<'a> {
 }
 
 impl Iterator for Bags<'_> {
-    type Item = u32;
+    type Item = Tag;
 
-    fn next(&mut self) -> Option<u32> {
-        let value = self.view.node(self.node)[place::VALUE];
-        if !(crate::MIN_BAG..=crate::MAX_BAG).contains(&value) {
-            return None;
-        }
-        self.node = self.view.right_of(self.node);
-        Some(value)
+    fn next(&mut self) -> Option<Tag> {
+        let node = self.view.node(self.node);
+        // The words of a node without a bag are no tag's.
+        let tag = Tag::from_words([node[place::DIGIT], node[place::VALUE]])?;
+        self.node = node[place::RIGHT_LINK];
+        Some(tag)
     }
 }
 
@@ -150,10 +151,10 @@ struct Record<'a>(&'a [u32]);
 
 impl fmt::Debug for Record<'_> {
     fn fmt(&self, formatter: &mut fmt::Formatter<'_>) -> fmt::Result {
-        let argument = self.0[place::ARGUMENT];
+        let (argument, digit) = (self.0[place::ARGUMENT], self.0[place::ARGUMENT_DIGIT]);
         let operation = match self.0[place::OPERATION] {
             0 => return formatter.write_str("Idle"),
-            1 => Operation::Push(argument),
+            1 => Operation::Push(known(Tag::from_words([digit, argument]))),
             2 => Operation::Pop,
             3 => Operation::Add(argument),
             _ => Operation::Remove(argument),

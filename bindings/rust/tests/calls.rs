@@ -1,6 +1,26 @@
 //! The wrapper's calls on small lanes: what they give, and which refusal each wrong number gets.
 
-use lane::{words, Answer, Lane, Operation, Refusal, Side};
+use lane::{words, Answer, Lane, Operation, Refusal, Side, Tag};
+
+fn tag(number: u64) -> Tag {
+    Tag::new(number).expect("a tag")
+}
+
+fn push(number: u64) -> Operation {
+    Operation::Push(tag(number))
+}
+
+fn bag(number: u64) -> Answer {
+    Answer::Bag(tag(number))
+}
+
+/// What a read with so many places gives.
+fn read<W: AsRef<[u32]>>(lane: &Lane<W>, places: usize) -> Result<Vec<Tag>, Refusal> {
+    let mut out = vec![[9; 2]; places];
+    let tags: Vec<Tag> = lane.read(&mut out)?.collect();
+    assert_eq!(out[tags.len()..], vec![[9; 2]; places - tags.len()]);
+    Ok(tags)
+}
 
 fn small() -> Lane<Vec<u32>> {
     Lane::start(vec![7; words(8, 2)], 8, 2, 0).expect("the sizes fit")
@@ -19,18 +39,21 @@ fn finish<W: AsRef<[u32]> + AsMut<[u32]>>(lane: &mut Lane<W>, task: u32) -> Answ
 #[test]
 fn bags_pushed_at_both_ends_are_read_and_popped_in_order() {
     let mut lane = small();
-    for (bag, side) in [(1, Side::Right), (2, Side::Right), (3, Side::Left)] {
-        assert_eq!(lane.begin(1, Operation::Push(bag), side), Ok(()));
+    // Two have one low part, and that of the third is 0.
+    let [one, other, none] = [51, 9_000_000_051, 1_000_000_000];
+    for (number, side) in [(one, Side::Right), (other, Side::Right), (none, Side::Left)] {
+        assert_eq!(lane.begin(1, push(number), side), Ok(()));
         assert_eq!(finish(&mut lane, 1), Answer::Pushed);
     }
-    let mut out = [9; 4];
-    assert_eq!(lane.read(&mut out), Ok(&[3, 1, 2][..]));
-    assert_eq!(out[3], 9);
-    assert_eq!(lane.read(&mut out[..2]), Err(Refusal::Out));
+    let tags = [none, one, other].map(tag);
+    assert_eq!(read(&lane, 3), Ok(tags.to_vec()));
+    assert_eq!(read(&lane, 4), Ok(tags.to_vec()));
+    assert_eq!(read(&lane, 2), Err(Refusal::Out));
+    assert!(lane.bags().expect("a lane").eq(tags));
     for (side, answer) in [
-        (Side::Left, Answer::Bag(3)),
-        (Side::Right, Answer::Bag(2)),
-        (Side::Right, Answer::Bag(1)),
+        (Side::Left, bag(none)),
+        (Side::Right, bag(other)),
+        (Side::Right, bag(one)),
         (Side::Left, Answer::Empty),
     ] {
         assert_eq!(lane.begin(0, Operation::Pop, side), Ok(()));
@@ -47,7 +70,7 @@ fn adds_and_removes_say_yes_or_no_and_a_push_says_full() {
         .expect("idle");
     assert_eq!(finish(&mut lane, 0), Answer::No);
     let mut lane = Lane::start([0; words(2, 1)], 2, 1, 0).expect("the sizes fit");
-    lane.begin(0, Operation::Push(1), Side::Left).expect("idle");
+    lane.begin(0, push(1), Side::Left).expect("idle");
     assert_eq!(finish(&mut lane, 0), Answer::Full);
 }
 
@@ -55,25 +78,31 @@ fn adds_and_removes_say_yes_or_no_and_a_push_says_full() {
 fn a_run_gives_the_answers_of_the_ticks_made() {
     let mut lane = small();
     lane.begin(0, Operation::Pop, Side::Left).expect("idle");
-    let mut answers = [[8; 2]; 6];
+    let mut answers = [[8; 3]; 6];
     let ran = lane.run(&[[0, 0]; 6], &mut answers);
     assert_eq!((ran.made(), ran.refusal()), (4, Some(Refusal::Idle)));
     let going = Answer::Going;
     assert!(ran.answers().eq([going, going, going, Answer::Empty]));
-    assert_eq!(answers[4..], [[8; 2]; 2]);
+    assert_eq!(answers[4..], [[8; 3]; 2]);
     let ran = lane.run(&[], &mut []);
     assert_eq!((ran.made(), ran.refusal()), (0, None));
+    let pushed = lane.call(0, push(1_000_000_051), Side::Left);
+    assert_eq!(pushed, Ok(Answer::Pushed));
+    lane.begin(0, Operation::Pop, Side::Left).expect("idle");
+    let ran = lane.run(&[[0, 0]; 4], &mut answers);
+    assert_eq!(ran.answers().last(), Some(bag(1_000_000_051)));
+    assert_eq!(answers[3], [2, 1, 51]);
 }
 
 #[test]
 fn the_panel_takes_32_ticks() {
     let mut lane = small();
     lane.begin(0, Operation::Pop, Side::Left).expect("idle");
-    let mut answers = [[8; 2]; 33];
+    let mut answers = [[8; 3]; 33];
     let mut other = lane.clone();
     let ran = other.run(&[[0, 0]; 32], &mut answers);
     assert_eq!((ran.made(), ran.refusal()), (4, Some(Refusal::Idle)));
-    let mut places = [[8; 2]; 33];
+    let mut places = [[8; 3]; 33];
     let long = lane.panel(&[[0, 0]; 33], &mut places[..1]);
     assert_eq!((long.made(), long.refusal()), (0, Some(Refusal::Panel)));
     let ran = lane.panel(&[[0, 0]; 32], &mut places);
@@ -83,15 +112,15 @@ fn the_panel_takes_32_ticks() {
 
 #[test]
 fn wrong_numbers_get_their_refusals_and_change_nothing() {
-    let sizes = Lane::start([7; 24], 1025, 1, 0).unwrap_err();
-    assert_eq!((sizes.refusal, sizes.words), (Refusal::Sizes, [7; 24]));
-    let length = Lane::start([7; 23], 2, 1, 0).unwrap_err();
-    assert_eq!((length.refusal, length.words), (Refusal::Length, [7; 23]));
+    let sizes = Lane::start([7; 28], 1025, 1, 0).unwrap_err();
+    assert_eq!((sizes.refusal, sizes.words), (Refusal::Sizes, [7; 28]));
+    let length = Lane::start([7; 27], 2, 1, 0).unwrap_err();
+    assert_eq!((length.refusal, length.words), (Refusal::Length, [7; 27]));
     let mut lane = small();
     lane.begin(1, Operation::Pop, Side::Left).expect("idle");
     let before = lane.clone();
-    for bag in [0, 1_000_000_000] {
-        let begun = lane.begin(0, Operation::Push(bag), Side::Left);
+    for operation in [Operation::Add(65), Operation::Remove(1024)] {
+        let begun = lane.begin(0, operation, Side::Left);
         assert_eq!(begun, Err(Refusal::Argument));
     }
     assert_eq!(
@@ -104,7 +133,7 @@ fn wrong_numbers_get_their_refusals_and_change_nothing() {
     );
     assert_eq!(lane.tick(1, 8), Err(Refusal::Hint));
     assert_eq!(lane.tick(0, 0), Err(Refusal::Idle));
-    let mut answers = vec![[0; 2]; 4097];
+    let mut answers = vec![[0; 3]; 4097];
     let long = lane.run(&vec![[1, 0]; 4097], &mut answers);
     assert_eq!((long.made(), long.refusal()), (0, Some(Refusal::List)));
     let short = lane.run(&[[1, 0]; 2], &mut answers[..1]);
@@ -115,7 +144,6 @@ fn wrong_numbers_get_their_refusals_and_change_nothing() {
 #[test]
 fn a_bag_is_pushed_once_until_it_is_popped() {
     let mut lane = small();
-    let push = |bag| Operation::Push(bag);
     assert_eq!(lane.begin(0, push(51), Side::Right), Ok(()));
     let twice = Err(Refusal::Twice);
     // While the push is busy, on its own task too; then while the bag is in the lane.
@@ -127,38 +155,37 @@ fn a_bag_is_pushed_once_until_it_is_popped() {
         assert_eq!(lane.call(1, push(51), Side::Right), Err(Refusal::Twice));
         assert_eq!(lane, before);
         if !pushed {
-            assert_eq!(lane.begin(0, push(52), Side::Right), Err(Refusal::Busy));
+            let other_digit = lane.begin(0, push(1_000_000_051), Side::Right);
+            assert_eq!(other_digit, Err(Refusal::Busy));
             assert_eq!(finish(&mut lane, 0), Answer::Pushed);
         }
     }
     assert_eq!(lane.begin(1, Operation::Add(51), Side::Left), Ok(()));
     assert_eq!(lane.begin(1, push(51), Side::Left), twice);
     assert_eq!(lane.begin(1, push(52), Side::Left), Err(Refusal::Busy));
-    assert_eq!(
-        lane.call(0, Operation::Pop, Side::Left),
-        Ok(Answer::Bag(51))
-    );
+    assert_eq!(lane.call(0, Operation::Pop, Side::Left), Ok(bag(51)));
     assert_eq!(lane.begin(0, push(51), Side::Left), Ok(()));
+    assert_eq!(finish(&mut lane, 1), Answer::Yes);
+    assert_eq!(lane.begin(1, push(1_000_000_051), Side::Left), Ok(()));
 }
 
 #[test]
 fn lent_words_are_tested_at_every_call() {
     let mut table = small().into_words();
-    let mut out = [0; 8];
-    assert_eq!(Lane::over(&mut table[..]).read(&mut out), Ok(&[][..]));
+    assert_eq!(read(&Lane::over(&table), 8), Ok(vec![]));
     assert_eq!(Lane::over(&mut table[1..]).tick(0, 0), Err(Refusal::Table));
-    table[7] = 1;
-    assert_eq!(
-        Lane::over(&mut table[..]).read(&mut out),
-        Err(Refusal::Shape)
-    );
-    table[7] = 0;
+    // The second zero of the header; the digit of the first slot, which has a mark.
+    for place in [7, 11] {
+        table[place] = 1;
+        assert_eq!(read(&Lane::over(&table), 8), Err(Refusal::Shape));
+        table[place] = 0;
+    }
     // The left hat's link to the right made none, which no call does.
     table[9] = 65_535;
     let mut lane = Lane::over(&mut table[..]);
-    assert_eq!(lane.read(&mut out), Err(Refusal::NoSlot));
+    assert_eq!(read(&lane, 8), Err(Refusal::NoSlot));
     // A push walks the lane, the others do not.
-    let begun = lane.begin(0, Operation::Push(51), Side::Left);
+    let begun = lane.begin(0, push(51), Side::Left);
     assert_eq!(begun, Err(Refusal::NoSlot));
     assert_eq!(lane.begin(0, Operation::Pop, Side::Left), Ok(()));
 }

@@ -1,6 +1,6 @@
 //! The wrapper's constants and texts are those of `include/lane.h`, and the library keeps to them.
 
-use lane::{words, Lane, Operation, Refusal, Side};
+use lane::{words, Lane, Operation, Refusal, Side, Tag};
 
 const HEADER: &str = include_str!("../../../include/lane.h");
 
@@ -24,15 +24,15 @@ fn the_header_has_the_same_numbers() {
         ("LANE_MIN_TASKS", lane::MIN_TASKS),
         ("LANE_MAX_TASKS", lane::MAX_TASKS),
         ("LANE_MAX_GROWTH", lane::MAX_GROWTH),
-        ("LANE_MIN_BAG", lane::MIN_BAG),
-        ("LANE_MAX_BAG", lane::MAX_BAG),
+        ("LANE_MAX_DIGIT", lane::MAX_DIGIT),
+        ("LANE_MAX_LOW", lane::MAX_LOW),
         ("LANE_MAX_ADD", lane::MAX_ADD),
         ("LANE_MAX_REMOVE", lane::MAX_REMOVE),
         ("LANE_MAX_TICKS", lane::MAX_TICKS as u32),
         ("LANE_MAX_PANEL_TICKS", lane::MAX_PANEL_TICKS as u32),
         ("LANE_LEFT", Side::Left.number()),
         ("LANE_RIGHT", Side::Right.number()),
-        ("LANE_PUSH", Operation::Push(1).number()),
+        ("LANE_PUSH", Operation::Push(Tag::MIN).number()),
         ("LANE_POP", Operation::Pop.number()),
         ("LANE_ADD", Operation::Add(0).number()),
         ("LANE_REMOVE", Operation::Remove(0).number()),
@@ -40,6 +40,9 @@ fn the_header_has_the_same_numbers() {
         assert_eq!(defined(name), number.to_string(), "{name}");
     }
     assert_eq!(defined("LANE_VERSION"), format!("\"{}\"", lane::VERSION));
+    assert_eq!(defined("LANE_MIN_TAG"), Tag::MIN.number().to_string());
+    let most = Tag::MAX.number();
+    assert_eq!(defined("LANE_MAX_TAG"), format!("UINT64_C({most})"));
 }
 
 #[test]
@@ -79,10 +82,8 @@ fn each_limit_is_accepted_and_the_number_beyond_it_is_not() {
         lane.begin(0, operation, Side::Left)
     };
     let beyond = Err(Refusal::Argument);
-    assert_eq!(begin(Operation::Push(lane::MIN_BAG - 1)), beyond);
-    assert_eq!(begin(Operation::Push(lane::MIN_BAG)), Ok(()));
-    assert_eq!(begin(Operation::Push(lane::MAX_BAG)), Ok(()));
-    assert_eq!(begin(Operation::Push(lane::MAX_BAG + 1)), beyond);
+    assert_eq!(begin(Operation::Push(Tag::MIN)), Ok(()));
+    assert_eq!(begin(Operation::Push(Tag::MAX)), Ok(()));
     assert_eq!(begin(Operation::Add(lane::MAX_ADD)), Ok(()));
     assert_eq!(begin(Operation::Add(lane::MAX_ADD + 1)), beyond);
     assert_eq!(begin(Operation::Remove(lane::MAX_REMOVE)), Ok(()));

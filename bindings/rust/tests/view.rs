@@ -1,6 +1,6 @@
 //! What the wrapper reads of a table by itself, held to the library's calls, on tables from start and on damaged ones.
 
-use lane::{words, Answer, Lane, Operation, Refusal, Side};
+use lane::{words, Answer, Lane, Operation, Refusal, Side, Tag};
 
 /// Numbers below a bound, the same at each run (xorshift).
 struct Random(u64);
@@ -15,11 +15,17 @@ impl Random {
 
     fn operation(&mut self) -> Operation {
         match self.below(8) {
-            0..=3 => Operation::Push(1 + self.below(99)),
+            0..=3 => Operation::Push(self.tag()),
             4..=5 => Operation::Pop,
             6 => Operation::Add(self.below(3)),
             _ => Operation::Remove(self.below(3)),
         }
+    }
+
+    /// A tag of few low parts, 0 among them, with any digit.
+    fn tag(&mut self) -> Tag {
+        let words = [self.below(10), self.below(10)];
+        Tag::from_words(words).unwrap_or(Tag::MAX)
     }
 
     fn side(&mut self) -> Side {
@@ -29,9 +35,9 @@ impl Random {
 
 /// The bags without a buffer are those of a read; a task is busy exactly where a begin says so.
 fn same(lane: &Lane<Vec<u32>>) {
-    let mut out = [0; 16];
+    let mut out = [[0; 2]; 16];
     match (lane.read(&mut out), lane.bags()) {
-        (Ok(read), Ok(bags)) => assert!(bags.eq(read.iter().copied()), "{lane:?}"),
+        (Ok(read), Ok(bags)) => assert!(bags.eq(read), "{lane:?}"),
         (read, bags) => assert_eq!(read.map(|_| ()), bags.map(|_| ())),
     }
     for task in 0..5 {
@@ -78,7 +84,7 @@ fn damaged_tables_are_refused_as_the_library_refuses_them() {
     for _ in 0..20_000 {
         let mut table = vec![0; words(4, 2)];
         let mut lane = Lane::start(&mut table[..], 4, 2, 0).expect("the sizes fit");
-        lane.begin(1, Operation::Push(51), Side::Right)
+        lane.begin(1, Operation::Push(random.tag()), Side::Right)
             .expect("idle");
         for _ in 0..random.below(11) {
             assert_eq!(lane.tick(1, 0), Ok(Answer::Going));
@@ -102,19 +108,20 @@ fn damaged_tables_are_refused_as_the_library_refuses_them() {
 #[test]
 fn threads_read_one_lane_and_work_on_lanes_of_their_own() {
     let mut shared = Lane::start(vec![0; words(8, 1)], 8, 1, 0).expect("the sizes fit");
-    let pushed = shared.call(0, Operation::Push(51), Side::Right);
+    let pushed = shared.call(0, Operation::Push(Tag::MAX), Side::Right);
     assert_eq!(pushed, Ok(Answer::Pushed));
     std::thread::scope(|scope| {
-        for bag in 1..=4 {
+        for tag in (1..=4).filter_map(Tag::new) {
             let shared = &shared;
             scope.spawn(move || {
                 let mut own = Lane::start([0; words(8, 1)], 8, 1, 0).expect("the sizes fit");
                 for _ in 0..1000 {
-                    let pushed = own.call(0, Operation::Push(bag), Side::Left);
+                    let pushed = own.call(0, Operation::Push(tag), Side::Left);
                     assert_eq!(pushed, Ok(Answer::Pushed));
                     let popped = own.call(0, Operation::Pop, Side::Left);
-                    assert_eq!(popped, Ok(Answer::Bag(bag)));
-                    assert_eq!(shared.read(&mut [0; 8]), Ok(&[51][..]));
+                    assert_eq!(popped, Ok(Answer::Bag(tag)));
+                    let mut out = [[0; 2]; 8];
+                    assert!(shared.read(&mut out).expect("a lane").eq([Tag::MAX]));
                 }
             });
         }
@@ -127,7 +134,7 @@ fn a_call_that_never_answers_comes_back_as_going() {
         .expect("the sizes fit")
         .into_words();
     // The right end's link to the left made itself, which no call does.
-    table[8 + 3] = 1;
+    table[8 + 4] = 1;
     let mut lane = Lane::over(table);
     assert_eq!(lane.call(0, Operation::Pop, Side::Right), Ok(Answer::Going));
     assert_eq!(lane.words()[5], lane::max_ticks_alone(8));

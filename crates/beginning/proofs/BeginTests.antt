@@ -1,8 +1,8 @@
 -- The tests of a begin, in 01's order: each refusal, and the record that passes them all.
-use mathlib.Core.Path.{_≡_, refl, ap, _∙_}
+use mathlib.Core.Path.{_≡_, refl, sym, ap, _∙_}
 use mathlib.Core.Bool.{Bool, true, false, _&&_}
 use mathlib.Core.Logic.{_≢_}
-use mathlib.Core.List.{List}
+use mathlib.Core.List.{List, [], _∷_}
 use mathlib.Core.Option.{Option, some, none as nothing}
 use Prim.Native.Nat.{ℕ, _≤_, _<_}
 use native.Mathlib.Decide.{ℕ-discrete}
@@ -11,15 +11,20 @@ use borrow.Author.Tests.{lt-ltb, le-ltb, leb-true}
 use Rattle.machine.specs.declared.Reply.the-variants.{Accepted, Refused}
 use Rattle.machine.specs.declared.Stored.{Stored}
 use Rattle.machine.specs.Sides.{sideOf}
-use Rattle.machine.specs.Values.{number}
+use Rattle.machine.specs.Values.{never, number, encode}
 use Rattle.machine.specs.Operations.{Operation, idle, push, pop, add, remove, operationOf, argumentOk}
-use Rattle.machine.specs.Tasks.{operationWord}
+use Rattle.machine.specs.Steps.{stepNumber, firstStep}
+use Rattle.machine.specs.Tasks.{none, operationWord}
 use Rattle.machine.specs.Table.{taskCount, recordWords, task, setTask}
 use Rattle.machine.specs.Shape.{WellFormed}
 use Rattle.machine.specs.Calls.{unless, isBusy, isIdle, tableRefusal, twiceRefusal, beginRefusal, begunTask, begin}
 use Rattle.machine.proofs.Basics.Contradiction.{clash}
 use Rattle.machine.proofs.Basics.Tests.{and-left, and-right}
+use Rattle.machine.proofs.Words.ValueLaws.{argument-stored}
+use Rattle.machine.proofs.Words.RecordLaws.{number-of-operation, number-of-side}
 use Rattle.machine.specs.Results.{changedOf}
+use Rattle.layout.specs.declared.tasks.Task as Tasks
+use Rattle.layout.specs.Coded.{codedTask}
 use Rattle.shape.specs.Contracts.{numberOf}
 use Rattle.shape.proofs.Laws.PassedTable.{refused, operation-is, busy-task}
 use Rattle.beginning.proofs.SeenTests.{twice-refused, twice-passed}
@@ -40,6 +45,30 @@ operation-low op side h = leb-true op 4 (search (and-left, and-right))
 
 pub side-low : (op side : ℕ) → callOk op side ≡ true → side ≤ 1
 side-low op side h = leb-true side 1 (search (and-left, and-right))
+
+-- The record that is begun, by the words of the call.
+abbrev begunOf : (operation step side : ℕ) → Stored → Tasks.Task
+begunOf op st side u =
+    record {
+      operation = op;
+      step = st;
+      side = side;
+      argument = u;
+      counted = 0;
+      value = encode never;
+      registers = none ∷ none ∷ none ∷ none ∷ [];
+    }
+
+pub begun-record :
+    (op side : ℕ) (u : Stored)
+    → op ≤ 4
+    → side ≤ 1
+    → argumentOk (operationOf op) u ≡ true
+    → begunOf op (stepNumber (firstStep (operationOf op))) side u
+    ≡ codedTask (begunTask (operationOf op) (sideOf side) (number u))
+begun-record op side u h k ok =
+    λ i. begunOf (sym (number-of-operation op h) i) (stepNumber (firstStep (operationOf op))) (sym (number-of-side side k) i)
+    (sym (argument-stored (operationOf op) u ok) i)
 
 -- ---- Refusals 3 and 4 by their number.
 module _ (ws : List ℕ) {n : ℕ} (is-number : n ≡ numberOf (tableRefusal ws nothing)) (k op side : ℕ) (argument : Stored) where

@@ -10,13 +10,13 @@ use reading::Walk;
 use reading::seek;
 use shape::table_refusal;
 ghost use mathlib.Core.Path.{_≡_};
-ghost use mathlib.Core.Bool.{_&&_};
+ghost use mathlib.Core.Bool.{true, _&&_};
 ghost use mathlib.Core.Option.{none as nothing};
 ghost use Prim.Native.Nat.{_≤_, _<_};
 ghost use lib.Dec.{leb, eqb};
 ghost use Rattle.machine.specs.Sides.{sideOf};
 ghost use Rattle.machine.specs.Values.{number};
-ghost use Rattle.machine.specs.Operations.{operationOf};
+ghost use Rattle.machine.specs.Operations.{operationOf, argumentOk};
 ghost use Rattle.machine.specs.Steps.{firstStep, stepNumber};
 ghost use Rattle.machine.specs.Table.{taskCount, task};
 ghost use Rattle.machine.specs.Shape.{WellFormed};
@@ -47,7 +47,7 @@ fn first_step(operation: u32) -> u32
 
 // 01: a fresh record with operation, side, argument and first step.
 fn begun(operation: u32, side: u32, argument: Stored) -> Task
-    requires { ⌜ (operation ≤ 4) × (side ≤ 1) ⌝ }
+    requires { ⌜ (operation ≤ 4) × (side ≤ 1) × (argumentOk (operationOf operation) argument ≡ true) ⌝ }
     ensures { λ r. ⌜ r ≡ codedTask (begunTask (operationOf operation) (sideOf side) (number argument)) ⌝ }
 {
     let mut k = Task::fresh().at(first_step(operation));
@@ -57,28 +57,28 @@ fn begun(operation: u32, side: u32, argument: Stored) -> Task
     k
 }
 
-// Whether task k is a busy push of that bag.
-fn pushes(table: &[u32], k: u32, bag: Stored) -> bool
+// Whether task k is a busy push of that tag.
+fn pushes(table: &[u32], k: u32, tag: u64) -> bool
     requires { ⌜ WellFormed (now table) × (k < taskCount (now table)) ⌝ }
     ensures { λ r. ⌜ r ≡ (isPush (task (now (table .entry)) k .operation)
-        && eqb (number bag) (task (now (table .entry)) k .argument)) ⌝ }
+        && eqb tag (task (now (table .entry)) k .argument)) ⌝ }
 {
     let t = table::task(table, k);
     if t.operation != Task::PUSH {
         return false;
     }
-    values::equal(bag, t.argument)
+    tag == values::number(t.argument)
 }
 
-// Whether any task is a busy push of that bag.
-fn is_begun(table: &[u32], bag: Stored) -> bool
+// Whether any task is a busy push of that tag.
+fn is_begun(table: &[u32], tag: u64) -> bool
     requires { ⌜ WellFormed (now table) ⌝ }
-    ensures { λ r. ⌜ r ≡ isBegun (now (table .entry)) (taskCount (now (table .entry))) (number bag) ⌝ }
+    ensures { λ r. ⌜ r ≡ isBegun (now (table .entry)) (taskCount (now (table .entry))) tag ⌝ }
 {
     let mut k = table[TASK_COUNT];
     while 0 < k {
         k -= 1;
-        if pushes(table, k, bag) {
+        if pushes(table, k, tag) {
             return true;
         }
     }
@@ -86,13 +86,13 @@ fn is_begun(table: &[u32], bag: Stored) -> bool
 }
 
 // 02: "a bag number that stands in the lane or is the argument of a busy push". The number of the refusal, 11 or 16; 0
-// where the bag is new.
-fn seen(table: &[u32], bag: Stored) -> u32
+// where the tag is new.
+fn seen(table: &[u32], tag: u64) -> u32
     requires { ⌜ WellFormed (now table) ⌝ }
     ensures { λ r. ⌜ r
-        ≡ numberOf (seenRefusal (now (table .entry)) (number bag) (lane (now (table .entry))) nothing) ⌝ }
+        ≡ numberOf (seenRefusal (now (table .entry)) tag (lane (now (table .entry))) nothing) ⌝ }
 {
-    let walk = seek(table, bag);
+    let walk = seek(table, tag);
     match walk {
         Walk::NoEnd => {
             return 11;
@@ -101,7 +101,7 @@ fn seen(table: &[u32], bag: Stored) -> u32
             if found {
                 return 16;
             }
-            if is_begun(table, bag) {
+            if is_begun(table, tag) {
                 return 16;
             }
             return 0;
@@ -118,7 +118,7 @@ fn twice(table: &[u32], operation: u32, argument: Stored) -> u32
     if operation != Task::PUSH {
         return 0;
     }
-    seen(table, argument)
+    seen(table, values::number(argument))
 }
 
 // 01: checks 5, 6 and 7; 02: 11 and 16 of a push; 01: 8, then the record.

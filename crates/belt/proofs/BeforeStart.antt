@@ -8,9 +8,10 @@ use Rattle.belt.specs.Forms.{beginCommand, tickCommand, laneCommand}
 use Rattle.belt.specs.Space.{answeredOf}
 
 -- 01: before an accepted start the others give 3.
-pub begin-first : (k op side argument : ℕ) → beginCommand [] k op side argument ≡ answeredOf (refusedText 3) []
+pub begin-first :
+    (k op side digit argument : ℕ) → beginCommand [] k op side digit argument ≡ answeredOf (refusedText 3) []
 unfolding beginCommand begin
-begin-first k op side argument = refl
+begin-first k op side digit argument = refl
 
 pub tick-first : (n k h : ℕ) → tickCommand (suc n) [] k h ≡ answeredOf (refusedText 3) []
 unfolding tickCommand tick

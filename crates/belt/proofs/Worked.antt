@@ -1,6 +1,7 @@
 -- The belt run of 01 prints what 01 says, computed over the definitions from the bytes read to the bytes printed.
 use mathlib.Core.Path.{_≡_, refl}
 use native.Mathlib.Decide.{ℕ-discrete, decLt, decLe}
+use Rattle.tag.specs.Tags.{lastDigits}
 use Rattle.machine.specs.Values.{Value-discrete, decode}
 use Rattle.machine.specs.Steps.{stepIn, stepOf, isStepIn}
 use Rattle.machine.specs.Table.{link, value, task}
@@ -21,15 +22,15 @@ use Rattle.machine.specs.Calls.{
   lane,
 }
 use Rattle.reader.specs.Scanned.{scanByte, scanBytes}
-use Rattle.reader.specs.Commands.{ticks, beginOr, beginOf, formOf, commandOf, commandRead}
+use Rattle.reader.specs.Commands.{ticks, beginOr, beginOf, formOf, pushOf, commandWith, commandOf, commandRead}
 use Rattle.printer.specs.Lines.{digitsIn, spaced}
 use Rattle.belt.specs.Forms.{startCommand, beginCommand, tickCommand, laneCommand}
 use Rattle.belt.specs.Run.{answer, printed, linesOf, beltRun}
 use Rattle.belt.specs.Paper.{paperInput, paperOutput}
 
 pub worked : beltRun paperInput ≡ paperOutput
-unfolding beltRun linesOf printed answer startCommand beginCommand tickCommand laneCommand digitsIn spaced scanByte
-    scanBytes ticks beginOr beginOf formOf commandOf commandRead ℕ-discrete decLt decLe Value-discrete decode stepIn
+unfolding beltRun linesOf printed answer startCommand beginCommand tickCommand laneCommand digitsIn spaced lastDigits scanByte
+    scanBytes ticks beginOr beginOf formOf pushOf commandWith commandOf commandRead ℕ-discrete decLt decLe Value-discrete decode stepIn
     stepOf isStepIn link value task allBelow sameWords nodeOk busyOk recordOk shapeOk heldFrom roots mark markAll visit
     visitFrom marked firstUnmarked allocate writeAll dcas act times startWords start begin effectOf applied tickOn tick
     isBegun laneFrom lane

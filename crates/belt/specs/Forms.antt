@@ -5,7 +5,7 @@ use mathlib.Core.List.{List}
 use mathlib.Core.Option.{Option, some, none as nothing}
 use Prim.Native.Nat.{ℕ, zero, suc}
 use lib.ListN.{replicate}
-use Rattle.machine.specs.Values.{stored}
+use Rattle.machine.specs.Values.{storedOf}
 use Rattle.machine.specs.declared.Answer.the-variants.{Going}
 use Rattle.machine.specs.declared.Reply.{Reply}
 use Rattle.machine.specs.declared.Reply.the-variants.{Accepted, Refused}
@@ -29,10 +29,10 @@ startCommand ws S T g =
     let d = start (replicate (tableLength S T) 0) S T g in
     record { text = replyText (d .reply); words = startedFrom ws (d .reply) (d .words) }
 
--- `(begin task (operation side argument))`.
-unfoldable pub beginCommand : List ℕ → (k operation side argument : ℕ) → Answered
-beginCommand ws k op side argument =
-    let d = begin ws k op side (stored argument) in
+-- `(begin task (operation side argument))`, the argument by its two words.
+unfoldable pub beginCommand : List ℕ → (k operation side digit argument : ℕ) → Answered
+beginCommand ws k op side digit argument =
+    let d = begin ws k op side (storedOf digit argument) in
     record { text = replyText (d .reply); words = d .words }
 
 -- `(tick task hint times)`. 01: makes ticks until an answer, a refusal, or times; it prints the last outcome.

@@ -1,4 +1,4 @@
--- The belt run of 01: what is read, and what it prints.
+-- The belt run of 01, with tags of ten digits (2026-04): what is read, and what it prints.
 use mathlib.Core.List.{List, _++_}
 use Prim.Native.Nat.{ℕ}
 use Rattle.reader.specs.Text.{bytes}
@@ -6,7 +6,7 @@ use Rattle.reader.specs.Text.{bytes}
 abbrev pub paperInput : List ℕ
 paperInput =
     bytes "(start (slots 4) (tasks 1) (growth 0))\n"
-    ++ bytes "(begin 0 (push right 51))\n"
+    ++ bytes "(begin 0 (push right 0000000051))\n"
     ++ bytes "(tick 0 0 10)\n"
     ++ bytes "(tick 0 0 1)\n"
     ++ bytes "(lane)\n"
@@ -22,9 +22,9 @@ paperOutput =
     ++ bytes "(ok)\n"
     ++ bytes "(going)\n"
     ++ bytes "(pushed)\n"
-    ++ bytes "(lane 51)\n"
+    ++ bytes "(lane 0000000051)\n"
     ++ bytes "(ok)\n"
-    ++ bytes "(bag 51)\n"
+    ++ bytes "(bag 0000000051)\n"
     ++ bytes "(ok)\n"
     ++ bytes "(empty)\n"
     ++ bytes "(refused 10)\n"

@@ -11,7 +11,7 @@ use Rattle.belt.specs.Forms.{Answered}
 abbrev pub largestTable : ℕ
 largestTable = tableLength 1024 16
 
--- The places for the bags of a lane: no table has more nodes.
+-- The most bags of a lane, each of which has two places: no table has more nodes.
 abbrev pub mostBags : ℕ
 mostBags = 1024
 

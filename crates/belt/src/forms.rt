@@ -2,7 +2,7 @@
 use crate::Bags;
 use beginning::begin;
 use layout::places::table_length;
-use layout::values::of_number;
+use layout::values::of_words;
 use machine::Answer;
 use machine::Reading;
 use machine::Reply;
@@ -10,7 +10,7 @@ use reading::read;
 use starting::start;
 use ticking::tick;
 ghost use mathlib.Core.Path.{_≡_};
-ghost use Prim.Native.Nat.{_≤_};
+ghost use Prim.Native.Nat.{_*_, _≤_};
 ghost use lib.ListN.{length, take};
 ghost use Rattle.machine.specs.Row.{isGoing};
 ghost use Rattle.printer.specs.Lines.{replyText, answerText};
@@ -52,18 +52,19 @@ pub fn begin_command(
     task: u32,
     operation: u32,
     side: u32,
+    digit: u32,
     argument: u32,
 ) -> Reply
     requires { ⌜ len ≤ length (now space) ⌝ }
     ensures { λ r. ⌜ Leaves (now (space .entry)) (now (space .exit)) len (replyText r)
-        (beginCommand (take len (now (space .entry))) task operation side argument) ⌝ }
+        (beginCommand (take len (now (space .entry))) task operation side digit argument) ⌝ }
 {
     begin(
         &mut space[..len],
         task,
         operation,
         side,
-        of_number(argument),
+        of_words(digit, argument),
     )
 }
 
@@ -111,7 +112,7 @@ pub fn lane_command(space: &[u32], len: usize, bags: &mut Bags) -> Reading
     requires { ⌜ len ≤ length (now space) ⌝ }
     ensures { λ r. ⌜ answeredOf (readingText r (now (bags .exit))) (take len (now (space .entry)))
         ≡ laneCommand (take len (now (space .entry))) ⌝ }
-    ensures { λ r. ⌜ readingCount r ≤ length (now (bags .exit)) ⌝ }
+    ensures { λ r. ⌜ 2 * readingCount r ≤ length (now (bags .exit)) ⌝ }
 {
     read(&space[..len], bags)
 }

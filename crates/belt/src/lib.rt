@@ -7,16 +7,16 @@ use forms::start_command;
 use forms::tick_command;
 use printer::Outcome;
 use reader::Command;
-ghost use Prim.Native.Nat.{_≤_};
+ghost use Prim.Native.Nat.{_*_, _≤_};
 ghost use lib.ListN.{length, take};
 ghost use Rattle.printer.specs.Outcomes.{textOf, countOf};
 ghost use Rattle.belt.specs.Run.{answer};
 ghost use Rattle.belt.specs.Space.{largestTable, Leaves};
 
-pub const MOST_BAGS: usize = 1_024;
+pub const BAG_WORDS: usize = 2_048;
 
-// Places for the bags of a lane: no table has more nodes.
-pub type Bags = [u32; MOST_BAGS];
+// Places for the bags of a lane, two words each: no table has more than 1,024 nodes.
+pub type Bags = [u32; BAG_WORDS];
 
 // What a command comes to, and how many words of the space the table takes afterwards.
 pub struct Done {
@@ -29,7 +29,7 @@ pub fn answer(command: Command, space: &mut [u32], len: usize, bags: &mut Bags) 
     requires { ⌜ (len ≤ length (now space)) × (largestTable ≤ length (now space)) ⌝ }
     ensures { λ r. ⌜ Leaves (now (space .entry)) (now (space .exit)) (r .len)
         (textOf (r .outcome) (now (bags .exit))) (answer command (take len (now (space .entry)))) ⌝ }
-    ensures { λ r. ⌜ countOf (r .outcome) ≤ length (now (bags .exit)) ⌝ }
+    ensures { λ r. ⌜ 2 * countOf (r .outcome) ≤ length (now (bags .exit)) ⌝ }
 {
     match command {
         Command::Start {
@@ -47,9 +47,10 @@ pub fn answer(command: Command, space: &mut [u32], len: usize, bags: &mut Bags) 
             task,
             operation,
             side,
+            digit,
             argument,
         } => {
-            let reply = begin_command(space, len, task, operation, side, argument);
+            let reply = begin_command(space, len, task, operation, side, digit, argument);
             let outcome = Outcome::Replied(reply);
             return Done { outcome, len };
         }

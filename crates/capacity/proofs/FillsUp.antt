@@ -8,7 +8,7 @@ use Prim.Native.Nat.{ℕ, zero, suc, _+_, _*_, _≤_, _<_}
 use native.Mathlib.Omega.{arith}
 use lib.ListN.{length, length-append}
 use borrow.Author.Tests.{le-leb}
-use Rattle.machine.specs.Values.{number, stored, largestBag, bagOk}
+use Rattle.machine.specs.Values.{number, stored, bagOk}
 use Rattle.machine.specs.declared.Answer.{Answer}
 use Rattle.machine.specs.declared.Answer.the-variants.{Going, Pushed, Bag, Empty, Full, Yes, No, Refused}
 use Rattle.machine.specs.declared.Reply.{Reply}
@@ -38,6 +38,7 @@ use Rattle.capacity.specs.Capacity.{
   FillsUp,
 }
 use Rattle.machine.proofs.Basics.Contradiction.{clash, refute}
+use Rattle.machine.proofs.Words.ValueLaws.{number-stored, bag-ok}
 use Rattle.machine.proofs.Shape.ShapeLaws.{well-sized}
 use Rattle.machine.proofs.Linearizability.Model.Invariant.{noteOf}
 use Rattle.machine.proofs.Linearizability.Calls.Reading.{row-length, main-is-node}
@@ -194,7 +195,7 @@ module _ {ws : List ℕ} (B : Begun ws) where
       let x = new-number bags-now in
       let most = most-bags ws bags-now B (lane-is-row (begun-agrees B .1)) in
       let few = well-sized ws (begun-agrees B .1 .accepted .length-passes) .most-nodes in
-      rw (le-leb 1 new-bag (x .1), le-leb new-bag largestBag (omega (arith, x .2)))
+      bag-ok new-bag (x .1) (omega (arith, x .2))
 
   -- Task 0 begins a push of it where no task is in a call.
   begins-push : Idle ws → (s : Side)
@@ -202,7 +203,9 @@ module _ {ws : List ℕ} (B : Begun ws) where
   begins-push idle-now s =
       let A = begun-agrees B .1 in
       let one-task = well-sized ws (A .accepted .length-passes) .one-task in
-      begins-new A 0 s (stored new-bag) one-task is-bag .when-new not-seen (ap isIdle (idle-now 0))
+      begins-new A 0 s (stored new-bag) one-task is-bag .when-new
+      (λ seen. not-seen (subst (SeenIn (begun-agrees B .0)) (number-stored new-bag) seen))
+      (ap isIdle (idle-now 0))
     where
       not-seen : SeenIn (begun-agrees B .0) new-bag → ⊥
       not-seen (inl there) = refute (cc (new-number bags-now .3))

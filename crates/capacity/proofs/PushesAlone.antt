@@ -25,6 +25,7 @@ use Rattle.machine.specs.Begun.{Begun, by-call}
 use Rattle.capacity.specs.NoLeak.{Idle}
 use Rattle.machine.proofs.Basics.Updates.{update-same, update-other}
 use Rattle.machine.proofs.Words.Memories.{View, viewed, written, view, view-viewed}
+use Rattle.machine.proofs.Words.ValueLaws.{number-stored}
 use Rattle.machine.proofs.Shape.ShapeLaws.{well-shaped}
 use Rattle.machine.proofs.Shape.TickKeeps.{idle-fresh, tick-allowed}
 use Rattle.machine.proofs.Linearizability.Model.Sides.{sides}
@@ -248,7 +249,11 @@ module _ {ws₀ : List ℕ} (B₀ : Begun ws₀) (s : Side) (k : ℕ) where
       after = begin ws₀ k (operationNumber push) (sideNumber s) (stored v) .words
 
       T : BegunTable ws₀ after k (begunTask (operationOf (operationNumber push)) (sideOf (sideNumber s)) v)
-      T = accepted-begin (begun-agrees B₀ .1) k (operationNumber push) (sideNumber s) (stored v) accepted
+      T =
+          subst
+          (λ n. BegunTable ws₀ after k (begunTask (operationOf (operationNumber push)) (sideOf (sideNumber s)) n))
+          (number-stored v)
+          (accepted-begin (begun-agrees B₀ .1) k (operationNumber push) (sideNumber s) (stored v) accepted)
 
       now : task after k ≡ begunTask push s v
       now =

@@ -9,7 +9,7 @@ use Rattle.machine.specs.declared.Answer.the-variants.{Going, Pushed, Bag, Empt
 use Rattle.machine.specs.declared.Reply.{Reply}
 use Rattle.machine.specs.declared.Reply.the-variants.{Accepted, Refused as Reply-Refused}
 use Rattle.machine.specs.Sides.{Side, left, right}
-use Rattle.machine.specs.Values.{Value, N, X, Y, stored}
+use Rattle.machine.specs.Values.{Value, N, X, Y, storedOf}
 use Rattle.machine.specs.Tasks.{none}
 use Rattle.machine.specs.Table.{hat, link, value}
 use Rattle.machine.specs.Row.{isGoing}
@@ -18,7 +18,7 @@ use Rattle.machine.specs.Calls.{start, begin, tick, lane}
 -- What is done: a call, ticks of one task until it answers (at most so many), or a look at the table.
 pub data Action : Type 0 where
   starts : (S T growth : ℕ) → Action
-  begins : (k operation side argument : ℕ) → Action
+  begins : (k operation side digit argument : ℕ) → Action
   ticks : (k hint most : ℕ) → Action
   looks-at-lane : Action
   looks-at-hat : Side → Action
@@ -61,8 +61,8 @@ tickUntil (suc n) made ws k h =
 
 unfoldable pub acts : Action → List ℕ → Acted
 acts (starts S T g) ws = let r = start ws S T g in record { outcome = replies (r .reply); table = r .words }
-acts (begins k op side argument) ws =
-    let r = begin ws k op side (stored argument) in record { outcome = replies (r .reply); table = r .words }
+acts (begins k op side digit argument) ws =
+    let r = begin ws k op side (storedOf digit argument) in record { outcome = replies (r .reply); table = r .words }
 acts (ticks k h most) ws = tickUntil most 0 ws k h
 acts looks-at-lane ws = record { outcome = lane-is (lane ws); table = ws }
 acts (looks-at-hat s) ws = record { outcome = hat-is (hat ws s); table = ws }
@@ -90,30 +90,30 @@ abbrev pub cases : List Case
 cases =
     -- 1. The four answers of the belt run, 11, 4 and 4 ticks.
     record {
-      words = 30;
+      words = 36;
       script =
           starts 4 1 0 ⟶ ok
-          ∷ begins 0 1 1 51 ⟶ ok
+          ∷ begins 0 1 1 0 51 ⟶ ok
           ∷ ticks 0 0 100 ⟶ answers 11 Pushed
           ∷ looks-at-lane ⟶ lane-is (some (51 ∷ []))
-          ∷ begins 0 2 0 0 ⟶ ok
+          ∷ begins 0 2 0 0 0 ⟶ ok
           ∷ ticks 0 0 100 ⟶ answers 4 (Bag 51)
-          ∷ begins 0 2 1 0 ⟶ ok
+          ∷ begins 0 2 1 0 0 ⟶ ok
           ∷ ticks 0 0 100 ⟶ answers 4 Empty
           ∷ ticks 0 0 1 ⟶ answers 1 (Refused 10)
           ∷ [];
     }
     -- 2. S 2: a push answers "full" at tick 4.
     ∷ record {
-      words = 24;
-      script = starts 2 1 0 ⟶ ok ∷ begins 0 1 1 51 ⟶ ok ∷ ticks 0 0 100 ⟶ answers 4 Full ∷ [];
+      words = 28;
+      script = starts 2 1 0 ⟶ ok ∷ begins 0 1 1 0 51 ⟶ ok ∷ ticks 0 0 100 ⟶ answers 4 Full ∷ [];
     }
     -- 3. S 3: add right 2 answers "yes" at tick 6, one slot gained: node 2, beyond the old end.
     ∷ record {
-      words = 27;
+      words = 32;
       script =
           starts 3 1 0 ⟶ ok
-          ∷ begins 0 3 1 2 ⟶ ok
+          ∷ begins 0 3 1 0 2 ⟶ ok
           ∷ ticks 0 0 100 ⟶ answers 6 Yes
           ∷ looks-at-node 1 ⟶ node-is 0 2 (N right)
           ∷ looks-at-node 2 ⟶ node-is 1 none (X right)
@@ -122,70 +122,75 @@ cases =
     }
     -- 4. S 8, growth 0, add right 0, then remove right 0: "no" at tick 3, since RN is followed by RX.
     ∷ record {
-      words = 42;
+      words = 52;
       script =
           starts 8 1 0 ⟶ ok
-          ∷ begins 0 3 1 0 ⟶ ok
+          ∷ begins 0 3 1 0 0 ⟶ ok
           ∷ ticks 0 0 100 ⟶ answers 5 Yes
           ∷ looks-at-node 1 ⟶ node-is 0 2 (N right)
           ∷ looks-at-node 2 ⟶ node-is 1 none (X right)
-          ∷ begins 0 4 1 0 ⟶ ok
+          ∷ begins 0 4 1 0 0 ⟶ ok
           ∷ ticks 0 0 100 ⟶ answers 3 No
           ∷ [];
     }
     -- 5. S 8, T 2, growth 0, hints 0: a stale push moves the hat to a spur, and the next push brings it back.
     ∷ record {
-      words = 52;
+      words = 64;
       script =
           starts 8 2 0 ⟶ ok
-          ∷ begins 0 3 1 2 ⟶ ok
+          ∷ begins 0 3 1 0 2 ⟶ ok
           ∷ ticks 0 0 100 ⟶ answers 7 Yes
-          ∷ begins 1 1 1 51 ⟶ ok
+          ∷ begins 1 1 1 0 51 ⟶ ok
           ∷ ticks 1 0 2 ⟶ answers 2 Going
-          ∷ begins 0 4 1 0 ⟶ ok
+          ∷ begins 0 4 1 0 0 ⟶ ok
           ∷ ticks 0 0 100 ⟶ answers 14 Yes
-          ∷ begins 0 3 1 0 ⟶ ok
+          ∷ begins 0 3 1 0 0 ⟶ ok
           ∷ ticks 0 0 100 ⟶ answers 5 Yes
           ∷ looks-at-node 1 ⟶ node-is 0 2 (N right)
           ∷ ticks 1 0 1 ⟶ answers 1 Pushed
           ∷ looks-at-hat right ⟶ hat-is 4
           ∷ looks-at-node 4 ⟶ node-is 1 none (Y right)
-          ∷ begins 0 1 1 52 ⟶ ok
+          ∷ begins 0 1 1 0 52 ⟶ ok
           ∷ ticks 0 0 100 ⟶ answers 19 Pushed
           ∷ looks-at-lane ⟶ lane-is (some (51 ∷ 52 ∷ []))
           ∷ [];
     }
-    -- 6. 24 words start S 2, T 1; 23 give 2.
-    ∷ record { words = 24; script = starts 2 1 0 ⟶ ok ∷ [] }
-    ∷ record { words = 23; script = starts 2 1 0 ⟶ refused 2 ∷ [] }
+    -- 6. 28 words start S 2, T 1; 27 give 2.
+    ∷ record { words = 28; script = starts 2 1 0 ⟶ ok ∷ [] }
+    ∷ record { words = 27; script = starts 2 1 0 ⟶ refused 2 ∷ [] }
     -- 7. S 1,025 gives 1.
-    ∷ record { words = 24; script = starts 1025 1 0 ⟶ refused 1 ∷ [] }
-    -- 8. Bags 0 and 1,000,000,000 give 7; 999,999,999 is taken.
+    ∷ record { words = 28; script = starts 1025 1 0 ⟶ refused 1 ∷ [] }
+    -- 8. 02: "The limit cases of 01 move to the new largest tag": 0 and 10,000,000,000 give 7, by whichever words;
+    -- 9,999,999,999 is taken. A digit that is not 0 gives 7 to the others.
     ∷ record {
-      words = 24;
+      words = 28;
       script =
           starts 2 1 0 ⟶ ok
-          ∷ begins 0 1 1 0 ⟶ refused 7
-          ∷ begins 0 1 1 1000000000 ⟶ refused 7
-          ∷ begins 0 1 1 999999999 ⟶ ok
+          ∷ begins 0 1 1 0 0 ⟶ refused 7
+          ∷ begins 0 1 1 10 0 ⟶ refused 7
+          ∷ begins 0 1 1 9 1000000000 ⟶ refused 7
+          ∷ begins 0 2 1 1 0 ⟶ refused 7
+          ∷ begins 0 3 1 1 0 ⟶ refused 7
+          ∷ begins 0 4 1 1 0 ⟶ refused 7
+          ∷ begins 0 1 1 9 999999999 ⟶ ok
           ∷ [];
     }
     -- 2026-06. S 4, T 2, growth 0, hints 0: at 28 the push's B still names a slot that was cut off, and no step will
     -- read it. While every register held its slot, the push answered "full" here.
     ∷ record {
-      words = 40;
+      words = 48;
       script =
           starts 4 2 0 ⟶ ok
-          ∷ begins 0 3 1 0 ⟶ ok
+          ∷ begins 0 3 1 0 0 ⟶ ok
           ∷ ticks 0 0 100 ⟶ answers 5 Yes
-          ∷ begins 0 3 1 0 ⟶ ok
+          ∷ begins 0 3 1 0 0 ⟶ ok
           ∷ ticks 0 0 100 ⟶ answers 7 Yes
-          ∷ begins 0 4 1 0 ⟶ ok
+          ∷ begins 0 4 1 0 0 ⟶ ok
           ∷ ticks 0 0 3 ⟶ answers 3 Going
-          ∷ begins 1 1 1 51 ⟶ ok
+          ∷ begins 1 1 1 0 51 ⟶ ok
           ∷ ticks 1 0 2 ⟶ answers 2 Going
           ∷ ticks 0 0 100 ⟶ answers 7 Yes
-          ∷ begins 0 3 1 0 ⟶ ok
+          ∷ begins 0 3 1 0 0 ⟶ ok
           ∷ ticks 0 0 1 ⟶ answers 1 Going
           ∷ ticks 1 0 2 ⟶ answers 2 Going
           ∷ ticks 1 0 100 ⟶ answers 8 Pushed

@@ -10,9 +10,9 @@ use Rattle.machine.specs.Answers.{kindOf, payloadOf}
 abbrev pub pairOf : (high low : ℕ) → ℕ
 pairOf high low = high * 2 ^ 32 + low
 
--- The kind with the bag, or with 0; a refusal is kind 7 with its number.
+-- The kind with the tag, or with 0; a refusal is kind 7 with its number. A tag has 34 bits.
 abbrev pub answerNumber : Answer → ℕ
-answerNumber a = pairOf (kindOf a) (payloadOf a)
+answerNumber a = kindOf a * 2 ^ 40 + payloadOf a
 
 -- The ticks made with the number that stopped the run, or with 0.
 abbrev pub ranNumber : Ran → ℕ

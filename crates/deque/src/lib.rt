@@ -1,6 +1,7 @@
 // The calls for C and Rust: tables, lists and out slices as a pointer and a length in words, answers as numbers.
 use beginning::begin;
-use layout::values::of_number;
+use layout::values::of_words;
+use machine::Answer;
 use machine::Ran;
 use machine::Reading;
 use machine::Reply;
@@ -12,8 +13,10 @@ use running::run;
 use starting::start;
 use ticking::tick;
 ghost use mathlib.Core.Path.{_≡_};
-ghost use Rattle.machine.specs.Values.{stored};
-ghost use Rattle.machine.specs.Answers.{replyNumber};
+ghost use Prim.Native.Nat.{_≤_};
+ghost use Rattle.tag.specs.Tags.{largestTag};
+ghost use Rattle.machine.specs.Values.{storedOf};
+ghost use Rattle.machine.specs.Answers.{replyNumber, payloadOf};
 ghost use Rattle.machine.specs.Calls as calls;
 ghost use Rattle.deque.specs.Exports.{pairOf, answerNumber, ranNumber, readingNumber};
 
@@ -22,6 +25,14 @@ fn pair(high: u32, low: u32) -> u64
     ensures { λ r. ⌜ r ≡ pairOf high low ⌝ }
 {
     (high as u64) * 4_294_967_296 + (low as u64)
+}
+
+// The kind times 2^40 plus the tag, or plus the number of a refusal.
+fn answer_number(a: Answer) -> u64
+    requires { ⌜ payloadOf a ≤ largestTag ⌝ }
+    ensures { λ n. ⌜ n ≡ answerNumber a ⌝ }
+{
+    (kind(a) as u64) * 1_099_511_627_776 + payload(a)
 }
 
 fn reply_number(r: Reply) -> u32
@@ -64,22 +75,24 @@ pub extern "C" fn lane_begin(
     task: u32,
     operation: u32,
     side: u32,
+    digit: u32,
     argument: u32,
 ) -> u32
-    ensures { λ r. ⌜ r ≡ replyNumber (calls.begin (now (table .entry)) task operation side (stored argument) .reply) ⌝ }
-    ensures { λ r. ⌜ now (table .exit) ≡ calls.begin (now (table .entry)) task operation side (stored argument) .words ⌝ }
+    ensures { λ r. ⌜ r
+        ≡ replyNumber (calls.begin (now (table .entry)) task operation side (storedOf digit argument) .reply) ⌝ }
+    ensures { λ r. ⌜ now (table .exit)
+        ≡ calls.begin (now (table .entry)) task operation side (storedOf digit argument) .words ⌝ }
 {
-    reply_number(begin(table, task, operation, side, of_number(argument)))
+    reply_number(begin(table, task, operation, side, of_words(digit, argument)))
 }
 
-// The kind times 2^32 plus the bag or 0; kind 7 for a refusal, with its number.
+// The kind times 2^40 plus the tag or 0; kind 7 for a refusal, with its number.
 #[no_mangle]
 pub extern "C" fn lane_tick(table: &mut [u32], task: u32, hint: u32) -> u64
     ensures { λ r. ⌜ r ≡ answerNumber (calls.tick (now (table .entry)) task hint .answer) ⌝ }
     ensures { λ r. ⌜ now (table .exit) ≡ calls.tick (now (table .entry)) task hint .words ⌝ }
 {
-    let a = tick(table, task, hint);
-    pair(kind(a), payload(a))
+    answer_number(tick(table, task, hint))
 }
 
 // The ticks made times 2^32 plus the refusal that stopped the run, or 0.
@@ -104,7 +117,7 @@ pub extern "C" fn lane_panel(table: &mut [u32], list: &[u32], answers: &mut [u32
     ran_number(panel(table, list, answers))
 }
 
-// The count of the bags, or 2^32 plus the refusal.
+// The count of the tags, or 2^32 plus the refusal.
 #[no_mangle]
 pub extern "C" fn lane_read(table: &[u32], out: &mut [u32]) -> u64
     ensures { λ r. ⌜ r ≡ readingNumber (calls.read (now (table .entry)) (now (out .entry)) .reading) ⌝ }

@@ -1,6 +1,6 @@
 // The lane program: reads the lines of a belt run from standard input, and writes their answers to standard output.
+use belt::BAG_WORDS;
 use belt::Bags;
-use belt::MOST_BAGS;
 use layout::places::LARGEST_LENGTH;
 use libc::STDERR_FILENO;
 use libc::STDIN_FILENO;
@@ -143,9 +143,9 @@ fn main() {
     let mut input = io::large_buffer();
     // The largest table: 1,024 nodes, 16 tasks.
     let mut space = [0u32; LARGEST_LENGTH];
-    let mut bags = [0u32; MOST_BAGS];
+    let mut bags = [0u32; BAG_WORDS];
     let mut text = [0u8; TEXT_PLACES];
-    let mut numbers = [0u32; NUMBER_PLACES];
+    let mut numbers = [0u64; NUMBER_PLACES];
     let mut out = io::large_buffer();
     run(
         &mut input,

@@ -4,7 +4,7 @@ use mathlib.Core.Bool.{false}
 use mathlib.Core.List.{List, [], _∷_, map}
 use Prim.Native.Nat.{ℕ, _+_, _-_}
 use Rattle.machine.specs.Choice.{_≤?_, if_then_else_}
-use Rattle.machine.specs.Values.{N, X, Y, stored, number, encode, decode, mirror}
+use Rattle.machine.specs.Values.{N, X, Y, mark, number, encode, decode, mirror}
 use Rattle.machine.specs.Sides.{left, right}
 use Rattle.machine.specs.Shape.{sameWords}
 
@@ -42,7 +42,7 @@ abbrev pub SumIsTable : Type 0
 SumIsTable =
     (map mirrorSum marks ≡ mirrors)
     × (map (λ v. number (encode v)) (N left ∷ X left ∷ Y left ∷ N right ∷ X right ∷ Y right ∷ []) ≡ marks)
-    × (map (λ w. number (encode (mirror (decode (stored w))))) marks ≡ mirrors)
+    × (map (λ w. number (encode (mirror (decode (mark w))))) marks ≡ mirrors)
 
 -- Other sums are not: a step of 2, and the border one mark lower or higher.
 abbrev pub OtherSumsAreNot : Type 0

@@ -26,8 +26,10 @@ pub fn value(nodes: &[u32], x: u32) -> Stored
     requires { ⌜ HoldsNode (now nodes) x ⌝ }
     ensures { λ r. ⌜ r ≡ storedIn (now (nodes .entry)) x ⌝ }
 {
+    let at = NODE_WORDS * (x as usize) + VALUE;
     Stored {
-        word: nodes[NODE_WORDS * (x as usize) + VALUE],
+        word: nodes[at],
+        digit: nodes[at + 1],
     }
 }
 
@@ -35,7 +37,9 @@ pub fn set_value(nodes: &mut [u32], x: u32, v: Stored)
     requires { ⌜ HoldsNode (now nodes) x ⌝ }
     ensures { λ r. ⌜ now (nodes .exit) ≡ setStoredIn (now (nodes .entry)) x v ⌝ }
 {
-    nodes[NODE_WORDS * (x as usize) + VALUE] = v.word;
+    let at = NODE_WORDS * (x as usize) + VALUE;
+    nodes[at] = v.word;
+    nodes[at + 1] = v.digit;
 }
 
 // All the words of a node.
@@ -47,4 +51,5 @@ pub fn write(nodes: &mut [u32], x: u32, l: u32, r: u32, v: Stored)
     nodes[at] = l;
     nodes[at + 1] = r;
     nodes[at + VALUE] = v.word;
+    nodes[at + VALUE + 1] = v.digit;
 }

@@ -3,6 +3,7 @@ use crate::tasks::Task;
 use crate::values;
 use machine::Stored;
 ghost use mathlib.Core.Path.{_≡_};
+ghost use mathlib.Core.Bool.{true};
 ghost use Rattle.machine.specs.Values.{number};
 ghost use Rattle.machine.specs.Operations.{operationOf, argumentOk, goalOf};
 
@@ -12,14 +13,15 @@ pub fn argument_ok(operation: u32, argument: Stored) -> bool
 {
     match operation {
         Task::PUSH => values::bag_ok(argument),
-        Task::IDLE | Task::POP => argument.word == 0,
-        Task::ADD => argument.word <= 64,
-        _ => argument.word <= 1_023,
+        Task::IDLE | Task::POP => values::number(argument) == 0,
+        Task::ADD => values::number(argument) <= 64,
+        _ => values::number(argument) <= 1_023,
     }
 }
 
 // 01: goal: the argument for add and remove, growth for push, 0 for pop.
 pub fn goal_of(operation: u32, growth: u32, argument: Stored) -> u32
+    requires { ⌜ argumentOk (operationOf operation) argument ≡ true ⌝ }
     ensures { λ r. ⌜ r ≡ goalOf (operationOf operation) growth (number argument) ⌝ }
 {
     match operation {

@@ -23,18 +23,18 @@ pub const WORD_7: usize = 7;
 // The nodes stand after the header, the records after the nodes.
 pub const HEADER: usize = 8;
 
-pub const NODE_WORDS: usize = 3;
+pub const NODE_WORDS: usize = 4;
 
-pub const RECORD_WORDS: usize = 10;
+pub const RECORD_WORDS: usize = 12;
 
 // The words of a node's value, after its links.
 pub const VALUE: usize = 2;
 
-// 01: refusal 3 for fewer than 24 words, the length of two slots and one task.
-pub const LEAST_LENGTH: usize = 24;
+// 02: refusal 3 for fewer than 28 words, the length of two slots and one task.
+pub const LEAST_LENGTH: usize = 28;
 
 // The length of the largest table.
-pub const LARGEST_LENGTH: usize = 3_240;
+pub const LARGEST_LENGTH: usize = 4_296;
 
 // The place of node x; of S, the place after the nodes.
 pub fn node_at(x: u32) -> usize
@@ -50,7 +50,7 @@ pub fn record_at(slots: u32, k: u32) -> usize
     HEADER + NODE_WORDS * (slots as usize) + RECORD_WORDS * (k as usize)
 }
 
-// 01: exactly 8 + 3S + 10T words.
+// 02: 8 + 4S + 12T words.
 pub fn table_length(slots: u32, tasks: u32) -> usize
     ensures { λ r. ⌜ r ≡ tableLength slots tasks ⌝ }
 {

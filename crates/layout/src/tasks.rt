@@ -56,7 +56,7 @@ impl Task {
 
     pub const D: usize = 3;
 
-    // 01: a fresh record for an idle task is six zeros and four nones.
+    // 02: a fresh record is eight zeros and four nones.
     pub fn fresh() -> Self
         ensures { λ r. ⌜ r ≡ freshTask ⌝ }
     {
@@ -64,9 +64,9 @@ impl Task {
             operation: Task::IDLE,
             step: 0,
             side: 0,
-            argument: Stored { word: 0 },
+            argument: Stored { word: 0, digit: 0 },
             counted: 0,
-            value: Stored { word: 0 },
+            value: Stored { word: 0, digit: 0 },
             registers: [Task::NONE, Task::NONE, Task::NONE, Task::NONE],
         }
     }
@@ -80,10 +80,16 @@ impl Task {
             operation: words[0],
             step: words[1],
             side: words[2],
-            argument: Stored { word: words[3] },
-            counted: words[4],
-            value: Stored { word: words[5] },
-            registers: [words[6], words[7], words[8], words[9]],
+            argument: Stored {
+                word: words[3],
+                digit: words[4],
+            },
+            counted: words[5],
+            value: Stored {
+                word: words[6],
+                digit: words[7],
+            },
+            registers: [words[8], words[9], words[10], words[11]],
         }
     }
 
@@ -98,12 +104,14 @@ impl Task {
         words[1] = self.step;
         words[2] = self.side;
         words[3] = argument.word;
-        words[4] = self.counted;
-        words[5] = value.word;
-        words[6] = self.registers[0];
-        words[7] = self.registers[1];
-        words[8] = self.registers[2];
-        words[9] = self.registers[3];
+        words[4] = argument.digit;
+        words[5] = self.counted;
+        words[6] = value.word;
+        words[7] = value.digit;
+        words[8] = self.registers[0];
+        words[9] = self.registers[1];
+        words[10] = self.registers[2];
+        words[11] = self.registers[3];
     }
 
     // 01: an idle record is fresh.
@@ -116,8 +124,10 @@ impl Task {
             && self.step == 0
             && self.side == 0
             && argument.word == 0
+            && argument.digit == 0
             && self.counted == 0
             && value.word == 0
+            && value.digit == 0
             && self.registers[Task::A] == Task::NONE
             && self.registers[Task::B] == Task::NONE
             && self.registers[Task::C] == Task::NONE

@@ -1,13 +1,15 @@
--- The answers' numbers: of start and begin, the two words that a run writes for a tick, and the answer that two such
--- words stand for.
+-- The answers' numbers: of start and begin, the words that a run writes for a tick, and the answer that such words stand
+-- for.
 use mathlib.Core.Bool.{Bool, true, false}
+use mathlib.Core.List.{List, _∷_}
 use mathlib.Core.Option.{Option, some, none as nothing}
 use Prim.Native.Nat.{ℕ}
+use Rattle.tag.specs.Tags.{billion, tagOf, tagWords}
 use Rattle.machine.specs.declared.Answer.{Answer}
 use Rattle.machine.specs.declared.Answer.the-variants.{Going, Pushed, Bag, Empty, Full, Yes, No, Refused}
 use Rattle.machine.specs.declared.Reply.{Reply}
 use Rattle.machine.specs.declared.Reply.the-variants.{Accepted, Refused as Reply-Refused}
-use Rattle.machine.specs.Choice.{_≟_, if_then_else_}
+use Rattle.machine.specs.Choice.{_≟_, _<?_, if_then_else_}
 
 -- Of start and begin: 0, or the refusal.
 abbrev pub replyNumber : Reply → ℕ
@@ -36,6 +38,13 @@ payloadOf Full = 0
 payloadOf Yes = 0
 payloadOf No = 0
 payloadOf (Refused n) = n
+
+-- 02: a run's answer slice holds three words a tick: the kind, and two words for the tag, digit first.
+abbrev pub answerLength : ℕ
+answerLength = 3
+
+abbrev pub answerWords : Answer → List ℕ
+answerWords a = kindOf a ∷ tagWords (payloadOf a)
 
 -- The number of a refusal; nothing for a tick that was made.
 abbrev pub refusalOf : Answer → Option ℕ
@@ -70,9 +79,9 @@ plainAnswerOf kind =
     if kind ≟ 6 then some No else
     nothing
 
--- The answer that two words of a run stand for, or nothing.
-unfoldable pub answerOf : (kind payload : ℕ) → Option Answer
-answerOf kind payload =
-    if kind ≟ 2 then some (Bag payload) else
-    if payload ≟ 0 then plainAnswerOf kind else
+-- The answer that three words of a run stand for, or nothing: where there is no tag, both its words are 0.
+unfoldable pub answerOf : (kind digit low : ℕ) → Option Answer
+answerOf kind digit low =
+    if kind ≟ 2 then (if low <? billion then some (Bag (tagOf digit low)) else nothing) else
+    if tagOf digit low ≟ 0 then plainAnswerOf kind else
     nothing

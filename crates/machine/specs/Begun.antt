@@ -84,8 +84,9 @@ recordRun η (suc n) [] answers = η
 recordRun η (suc n) (k ∷ []) answers = η
 recordRun η (suc n) (k ∷ h ∷ list) [] = η
 recordRun η (suc n) (k ∷ h ∷ list) (kind ∷ []) = η
-recordRun η (suc n) (k ∷ h ∷ list) (kind ∷ payload ∷ answers) =
-    elim (answerOf kind payload) as (λ _. History) [
+recordRun η (suc n) (k ∷ h ∷ list) (kind ∷ digit ∷ []) = η
+recordRun η (suc n) (k ∷ h ∷ list) (kind ∷ digit ∷ low ∷ answers) =
+    elim (answerOf kind digit low) as (λ _. History) [
       | some a ↦ recordRun (recordMade η k a) n list answers
       | nothing ↦ η
     ]

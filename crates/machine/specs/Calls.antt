@@ -2,9 +2,10 @@
 use mathlib.Core.Bool.{Bool, true, false, not, _&&_, _||_}
 use mathlib.Core.List.{List, [], _∷_, _++_}
 use mathlib.Core.Option.{Option, some, none as nothing, Option·map}
-use Prim.Native.Nat.{ℕ, zero, suc, _+_, _-_, _%_, _^_}
+use Prim.Native.Nat.{ℕ, zero, suc, _+_, _*_, _-_, _/_, _%_, _^_}
 use lib.Dec.{leb, ltb, eqb}
 use lib.ListN.{length, drop}
+use Rattle.tag.specs.Tags.{allTagWords}
 use Rattle.machine.specs.declared.Answer.{Answer}
 use Rattle.machine.specs.declared.Answer.the-variants.{Refused}
 use Rattle.machine.specs.declared.Reply.{Reply}
@@ -37,7 +38,7 @@ use Rattle.machine.specs.Table.{
 use Rattle.machine.specs.Shape.{sizesOk, lengthOk, shapeOk}
 use Rattle.machine.specs.Allocate.{allocate}
 use Rattle.machine.specs.Lines.{Effect, seen, writeAll, act}
-use Rattle.machine.specs.Answers.{kindOf, payloadOf, refusalOf}
+use Rattle.machine.specs.Answers.{answerLength, answerWords, refusalOf}
 
 -- ---- The lane.
 
@@ -136,13 +137,13 @@ tickRefusal ws k h =
     (unless (ltb h (nodeCount ws)) 9
     (unless (isBusy (task ws k .operation)) 10 nothing))
 
--- The tests that a run and the panel's list begin with, and the one that both end with.
+-- The tests that a run and the panel's list begin with, and the one that both end with: room for the words of each tick.
 abbrev pub listRefusal : (ws list : List ℕ) → Option ℕ → Option ℕ
 listRefusal ws list others =
     tableRefusal ws (unless (eqb (length list % 2) 0 && leb (length list) 8192) 13 others)
 
 abbrev pub roomRefusal : (list answers : List ℕ) → Option ℕ
-roomRefusal list answers = unless (leb (length list) (length answers)) 14 nothing
+roomRefusal list answers = unless (leb (answerLength * (length list / 2)) (length answers)) 14 nothing
 
 abbrev pub runRefusal : List ℕ → (list answers : List ℕ) → Option ℕ
 runRefusal ws list answers = listRefusal ws list (roomRefusal list answers)
@@ -247,16 +248,16 @@ pub record RunDone : Type 0 where
 abbrev pub stopped : ℕ → (ws answers : List ℕ) → RunDone
 stopped n ws answers = record { ran = record { made = 0; refusal = n }; words = ws; answers = answers }
 
--- One tick more, made first, with its two words.
+-- One tick more, made first, with its words.
 abbrev pub afterTick : Answer → RunDone → RunDone
 afterTick a r =
     record {
       ran = record { made = suc (r .ran .made); refusal = r .ran .refusal };
       words = r .words;
-      answers = kindOf a ∷ payloadOf a ∷ r .answers;
+      answers = answerWords a ++ r .answers;
     }
 
--- 01: a run takes (task, hint) pairs and stops at the first refused tick; per tick made it writes two words.
+-- 01: a run takes (task, hint) pairs and stops at the first refused tick. 02: three words a tick.
 unfoldable pub runOn : (list : List ℕ) (ws answers : List ℕ) → RunDone
 runOn [] ws answers = stopped 0 ws answers
 runOn (k ∷ []) ws answers = stopped 0 ws answers
@@ -264,7 +265,7 @@ runOn (k ∷ h ∷ list) ws answers =
     let one = tickOn ws k h in
     elim (refusalOf (one .answer)) as (λ _. RunDone) [
       | some n ↦ stopped n ws answers
-      | nothing ↦ afterTick (one .answer) (runOn list (one .words) (drop 2 answers))
+      | nothing ↦ afterTick (one .answer) (runOn list (one .words) (drop answerLength answers))
     ]
 
 -- What follows the tests: the refusal that they gave, or the ticks of the list.
@@ -287,12 +288,12 @@ pub record ReadDone : Type 0 where
 abbrev pub unread : ℕ → List ℕ → ReadDone
 unread n out = record { reading = Reading-Refused n; out = out }
 
--- 01: the read writes bags in order, answers their count, and touches no later word.
+-- 01: the read writes bags in order, answers their count, and touches no later word. 02: two words for a tag.
 unfoldable pub readInto : Option (List ℕ) → List ℕ → ReadDone
 readInto nothing out = unread 11 out
 readInto (some bags) out =
-    elim (leb (length bags) (length out)) as (λ _. ReadDone) [
-      | true ↦ record { reading = Count (length bags); out = bags ++ drop (length bags) out }
+    elim (leb (2 * length bags) (length out)) as (λ _. ReadDone) [
+      | true ↦ record { reading = Count (length bags); out = allTagWords bags ++ drop (2 * length bags) out }
       | false ↦ unread 12 out
     ]
 

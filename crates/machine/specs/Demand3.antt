@@ -3,9 +3,10 @@ use mathlib.Core.Path.{_≡_}
 use mathlib.Core.Bool.{cond, _&&_}
 use mathlib.Core.List.{List, [], _∷_}
 use mathlib.Core.Option.{Option, some, none as nothing}
-use Prim.Native.Nat.{ℕ, zero, suc, _≤_}
+use Prim.Native.Nat.{ℕ, zero, suc, _*_, _≤_}
 use lib.Dec.{leb, ltb, eqb}
 use lib.ListN.{length, take}
+use Rattle.tag.specs.Tags.{allTagWords}
 use Rattle.machine.specs.declared.Answer.{Answer}
 use Rattle.machine.specs.declared.Reply.{Reply}
 use Rattle.machine.specs.declared.Reply.the-variants.{Accepted, Refused as Reply-Refused}
@@ -73,12 +74,14 @@ feedTick ρ k a =
     elim (refusalOf a) as (λ _. Option Row) [ some n ↦ some ρ | nothing ↦ feedMade ρ k a ]
 
 -- 01: reading: the row's count and the row in order, or 12 exactly when the out slice is too short for it; never 3, 4
--- or 11.
+-- or 11. 02: two words for a tag.
 abbrev pub feedRead : Row → List ℕ → Reading → List ℕ → Option Row
 feedRead ρ out (Count n) written =
-    cond (eqb n (length (ρ .bags)) && leb n (length out) && sameWords (take n written) (ρ .bags)) (some ρ) nothing
+    cond
+    (eqb n (length (ρ .bags)) && leb (2 * n) (length out) && sameWords (take (2 * n) written) (allTagWords (ρ .bags)))
+    (some ρ) nothing
 feedRead ρ out (Reading-Refused n) written =
-    cond (eqb n 12 && ltb (length out) (length (ρ .bags))) (some ρ) nothing
+    cond (eqb n 12 && ltb (length out) (2 * length (ρ .bags))) (some ρ) nothing
 
 abbrev pub feed : Row → (c : Call) → Given c → Option Row
 feed ρ (start-call S T g) r = feedStart ρ r

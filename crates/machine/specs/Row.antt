@@ -110,5 +110,6 @@ feedRun ρ (suc n) [] answers = nothing
 feedRun ρ (suc n) (k ∷ []) answers = nothing
 feedRun ρ (suc n) (k ∷ h ∷ list) [] = nothing
 feedRun ρ (suc n) (k ∷ h ∷ list) (kind ∷ []) = nothing
-feedRun ρ (suc n) (k ∷ h ∷ list) (kind ∷ payload ∷ answers) =
-    bind (answerOf kind payload) (λ a. bind (feedMade ρ k a) (λ ρ′. feedRun ρ′ n list answers))
+feedRun ρ (suc n) (k ∷ h ∷ list) (kind ∷ digit ∷ []) = nothing
+feedRun ρ (suc n) (k ∷ h ∷ list) (kind ∷ digit ∷ low ∷ answers) =
+    bind (answerOf kind digit low) (λ a. bind (feedMade ρ k a) (λ ρ′. feedRun ρ′ n list answers))

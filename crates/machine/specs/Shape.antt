@@ -53,7 +53,7 @@ use Rattle.machine.specs.Table.{
 abbrev pub sizesOk : (S T growth : ℕ) → Bool
 sizesOk S T g = leb 2 S && leb S 1024 && leb 1 T && leb T 16 && leb g 64
 
--- Refusal 3: under 24 words, which is the length of the least sizes, header S, T or growth out of range, or length not matching.
+-- Refusal 3: under 28 words, which is the length of the least sizes, header S, T or growth out of range, or length not matching.
 abbrev pub lengthOk : List ℕ → Bool
 lengthOk ws =
     leb (tableLength 2 1) (length ws)

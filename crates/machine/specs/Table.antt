@@ -10,7 +10,7 @@ use Rattle.machine.specs.Sides.{Side, sideNumber}
 use Rattle.machine.specs.Values.{Value, never, encode, decode, storedWords, storedAt, storedLength}
 use Rattle.machine.specs.Tasks.{Task, fresh, none, recordLength, wordsOf, taskOf}
 
--- 01: exactly 8 + 3S + 10T words, in the order header, slots, tasks.
+-- 02: a table is 8 + 4S + 12T words. 01: in the order header, slots, tasks.
 abbrev pub headerLength : ℕ
 headerLength = 8
 
@@ -70,7 +70,7 @@ word7 ws = getD ws 7 0
 abbrev pub headerWords : (S T growth leftHat rightHat ticks : ℕ) → List ℕ
 headerWords S T g lh rh n = S ∷ T ∷ g ∷ lh ∷ rh ∷ n ∷ 0 ∷ 0 ∷ []
 
--- ---- A node (01: slot): L, R, V.
+-- ---- A node (01: slot): L, R, V and its leading digit.
 abbrev pub linkAt : Side → ℕ → ℕ
 linkAt s x = nodeAt x + sideNumber s
 

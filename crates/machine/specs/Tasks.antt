@@ -25,7 +25,7 @@ pub record Task : Type 0 where
   pub C : ℕ
   pub D : ℕ
 
--- 01: a fresh record for an idle task is six zeros and four nones.
+-- 02: a fresh record is eight zeros and four nones.
 abbrev pub fresh : Task
 fresh =
     record {
@@ -57,9 +57,9 @@ goal growth t = goalOf (t .operation) growth (t .argument)
 
 -- ---- The words of a record.
 abbrev pub recordLength : ℕ
-recordLength = 10
+recordLength = 12
 
--- In 01's order.
+-- In 01's order, each leading digit after the word that it belongs to.
 abbrev pub wordsOf : Task → List ℕ
 wordsOf t =
     operationNumber (t .operation)
@@ -84,16 +84,16 @@ abbrev pub argumentWords : List ℕ → Stored
 argumentWords r = storedAt r 3
 
 abbrev pub countedWord : List ℕ → ℕ
-countedWord r = getD r 4 0
+countedWord r = getD r 5 0
 
 abbrev pub valueReadWords : List ℕ → Stored
-valueReadWords r = storedAt r 5
+valueReadWords r = storedAt r 6
 
 abbrev pub registerWord : List ℕ → Register → ℕ
-registerWord r inA = getD r 6 0
-registerWord r inB = getD r 7 0
-registerWord r inC = getD r 8 0
-registerWord r inD = getD r 9 0
+registerWord r inA = getD r 8 0
+registerWord r inB = getD r 9 0
+registerWord r inC = getD r 10 0
+registerWord r inD = getD r 11 0
 
 -- The record of its words.
 abbrev pub taskOf : List ℕ → Task

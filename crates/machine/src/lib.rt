@@ -3,16 +3,14 @@
 ghost use mathlib.Core.Path.{_≡_};
 ghost use Rattle.machine.specs.Answers.{kindOf, payloadOf};
 
-// A value as the table holds it, in a node or in a record: the words of V. The argument of a call is held the same way.
-// Only the definitions of values and the crate of the layout name its words.
+// A value as the table holds it, in a node or in a record: V and, since 2026-04, the leading digit that belongs to it. The
+// argument of a call is held the same way. Only the definitions of values and the crate of the layout name its words.
 pub struct Stored {
     pub word: u32,
+    pub digit: u32,
 }
 
 impl Stored {
-    pub const NEVER: u32 = 0;
-
-    pub const LARGEST_BAG: u32 = 999_999_999;
     // 01's six marks.
     pub const LN: u32 = 1_000_000_001;
 
@@ -31,7 +29,7 @@ impl Stored {
 pub enum Answer {
     Going,
     Pushed,
-    Bag(u32),
+    Bag(u64),
     Empty,
     Full,
     Yes,
@@ -77,7 +75,7 @@ pub fn kind(a: Answer) -> u32
 }
 
 // 01: then the bag or 0. Of a refusal: its number.
-pub fn payload(a: Answer) -> u32
+pub fn payload(a: Answer) -> u64
     ensures { λ r. ⌜ r ≡ payloadOf a ⌝ }
 {
     match a {
@@ -88,6 +86,6 @@ pub fn payload(a: Answer) -> u32
         Answer::Full => 0,
         Answer::Yes => 0,
         Answer::No => 0,
-        Answer::Refused(n) => n,
+        Answer::Refused(n) => n as u64,
     }
 }

@@ -1,4 +1,4 @@
--- The lines of 01's belt run, and of the largest numbers, computed.
+-- The lines of 01's belt run with the tags of 02, and of the largest numbers, computed.
 use mathlib.Core.Path.{_≡_, refl}
 use mathlib.Core.List.{List, [], _∷_, _++_}
 use Prim.Native.Nat.{ℕ}
@@ -7,14 +7,15 @@ use Rattle.machine.specs.declared.Answer.the-variants as Answers
 use Rattle.machine.specs.declared.Reading.the-variants as Readings
 use Rattle.printer.specs.declared.Outcome.{Outcome}
 use Rattle.printer.specs.declared.Outcome.the-variants.{Replied, Ticked, Lane, Unread}
+use Rattle.tag.specs.Tags.{lastDigits, tagsIn}
 use Rattle.reader.specs.Text.{bytes}
-use Rattle.printer.specs.Lines.{digitsIn, decimal, spaced}
+use Rattle.printer.specs.Lines.{digitsIn, decimal, tagText, spaced}
 use Rattle.printer.specs.Outcomes.{textOf}
 
--- The lines of some outcomes, over the same bags.
-abbrev printed : List Outcome → (bags : List ℕ) → List ℕ
-printed [] bags = []
-printed (o ∷ os) bags = textOf o bags ++ printed os bags
+-- The lines of some outcomes, over the same words.
+abbrev printed : List Outcome → (words : List ℕ) → List ℕ
+printed [] words = []
+printed (o ∷ os) words = textOf o words ++ printed os words
 
 pub belt-run : printed
     (Replied Replies.Accepted
@@ -28,9 +29,9 @@ pub belt-run : printed
     ∷ Ticked Answers.Empty
     ∷ Ticked (Answers.Refused 10)
     ∷ [])
-    (51 ∷ [])
-    ≡ bytes "(ok)\n(ok)\n(going)\n(pushed)\n(lane 51)\n(ok)\n(bag 51)\n(ok)\n(empty)\n(refused 10)\n"
-unfolding spaced digitsIn
+    (0 ∷ 51 ∷ [])
+    ≡ bytes "(ok)\n(ok)\n(going)\n(pushed)\n(lane 0000000051)\n(ok)\n(bag 0000000051)\n(ok)\n(empty)\n(refused 10)\n"
+unfolding lastDigits tagsIn spaced digitsIn
 belt-run = refl
 
 pub other-lines : printed
@@ -43,10 +44,18 @@ pub other-lines : printed
     ∷ Lane (Readings.Refused 3)
     ∷ Replied (Replies.Refused 1)
     ∷ [])
-    (51 ∷ 999999999 ∷ 7 ∷ [])
-    ≡ bytes "(full)\n(yes)\n(no)\n(unread)\n(lane)\n(lane 51 999999999)\n(refused 3)\n(refused 1)\n"
-unfolding spaced digitsIn
+    (0 ∷ 51 ∷ 9 ∷ 999_999_999 ∷ 0 ∷ 7 ∷ [])
+    ≡ bytes "(full)\n(yes)\n(no)\n(unread)\n(lane)\n(lane 0000000051 9999999999)\n(refused 3)\n(refused 1)\n"
+unfolding lastDigits tagsIn spaced digitsIn
 other-lines = refl
+
+pub largest-tag : tagText 9_999_999_999 ≡ bytes "9999999999"
+unfolding lastDigits
+largest-tag = refl
+
+pub inner-zeros : tagText 1_000_000_020 ≡ bytes "1000000020"
+unfolding lastDigits
+inner-zeros = refl
 
 pub largest-word : decimal 4294967295 ≡ bytes "4294967295"
 unfolding digitsIn

@@ -1,10 +1,10 @@
 -- The lines that the belt run prints, as bytes, each with its line feed.
 use mathlib.Core.Bool.{true, false}
-use mathlib.Core.List.{List, [], _∷_, _++_}
+use mathlib.Core.List.{List, [], _∷_, _++_, map}
 use Prim.Native.Nat.{ℕ, zero, suc, _+_, _/_, _%_}
 use Prim.Native.Char.{code}
-use Prim.Native.String.{String}
 use lib.Dec.{ltb}
+use Rattle.tag.specs.Tags.{tenDigits}
 use Rattle.machine.specs.declared.Reply.{Reply}
 use Rattle.machine.specs.declared.Reply.the-variants as Replies
 use Rattle.machine.specs.declared.Answer.{Answer}
@@ -25,18 +25,21 @@ digitsIn (suc k) n =
 abbrev pub decimal : ℕ → List ℕ
 decimal n = digitsIn (suc n) n
 
--- Bags, a space before each.
+-- 02: "prints tags as ten digits with their zeros".
+abbrev pub tagText : ℕ → List ℕ
+tagText tag = map (λ (d : ℕ). code "0" + d) (tenDigits tag)
+
+-- Tags, a space before each.
 unfoldable pub spaced : List ℕ → List ℕ
 spaced [] = []
-spaced (bag ∷ bags) = bytes " " ++ decimal bag ++ spaced bags
-
--- An opening text, a number and the end of the line.
-abbrev pub named : String → ℕ → List ℕ
-named name n = bytes name ++ decimal n ++ bytes ")\n"
+spaced (tag ∷ tags) = bytes " " ++ tagText tag ++ spaced tags
 
 -- ---- The line of each answer. 01: a refusal prints `(refused n)`, an empty lane `(lane)`, other answers their name.
 abbrev pub refusedText : ℕ → List ℕ
-refusedText n = named "(refused " n
+refusedText n = bytes "(refused " ++ decimal n ++ bytes ")\n"
+
+abbrev pub bagText : (tag : ℕ) → List ℕ
+bagText tag = bytes "(bag " ++ tagText tag ++ bytes ")\n"
 
 -- Of start and begin.
 abbrev pub replyText : Reply → List ℕ
@@ -47,16 +50,16 @@ replyText (Replies.Refused n) = refusedText n
 abbrev pub answerText : Answer → List ℕ
 answerText Answers.Going = bytes "(going)\n"
 answerText Answers.Pushed = bytes "(pushed)\n"
-answerText (Answers.Bag b) = named "(bag " b
+answerText (Answers.Bag tag) = bagText tag
 answerText Answers.Empty = bytes "(empty)\n"
 answerText Answers.Full = bytes "(full)\n"
 answerText Answers.Yes = bytes "(yes)\n"
 answerText Answers.No = bytes "(no)\n"
 answerText (Answers.Refused n) = refusedText n
 
--- Of a lane with these bags.
+-- Of a lane with these tags.
 abbrev pub laneText : List ℕ → List ℕ
-laneText bags = bytes "(lane" ++ spaced bags ++ bytes ")\n"
+laneText tags = bytes "(lane" ++ spaced tags ++ bytes ")\n"
 
 -- Of a line that is not read.
 abbrev pub unreadText : List ℕ

@@ -1,24 +1,25 @@
--- The line of an outcome in code, where a lane is a count: its bags are the first of those given beside it.
+-- The line of an outcome in code, where a lane is a count: its tags stand first among the words given beside it, two
+-- words for a tag.
 use mathlib.Core.List.{List}
 use Prim.Native.Nat.{ℕ}
-use lib.ListN.{take}
+use Rattle.tag.specs.Tags.{tagsIn}
 use Rattle.machine.specs.declared.Reading.{Reading}
 use Rattle.machine.specs.declared.Reading.the-variants as Readings
 use Rattle.printer.specs.declared.Outcome.{Outcome}
 use Rattle.printer.specs.declared.Outcome.the-variants.{Replied, Ticked, Lane, Unread}
 use Rattle.printer.specs.Lines.{refusedText, replyText, answerText, laneText, unreadText}
 
-abbrev pub readingText : Reading → (bags : List ℕ) → List ℕ
-readingText (Readings.Count n) bags = laneText (take n bags)
-readingText (Readings.Refused n) bags = refusedText n
+abbrev pub readingText : Reading → (words : List ℕ) → List ℕ
+readingText (Readings.Count n) words = laneText (tagsIn n words)
+readingText (Readings.Refused n) words = refusedText n
 
-abbrev pub textOf : Outcome → (bags : List ℕ) → List ℕ
-textOf (Replied r) bags = replyText r
-textOf (Ticked a) bags = answerText a
-textOf (Lane r) bags = readingText r bags
-textOf Unread bags = unreadText
+abbrev pub textOf : Outcome → (words : List ℕ) → List ℕ
+textOf (Replied r) words = replyText r
+textOf (Ticked a) words = answerText a
+textOf (Lane r) words = readingText r words
+textOf Unread words = unreadText
 
--- How many bags of those given a line names.
+-- How many tags of those given a line names.
 abbrev pub readingCount : Reading → ℕ
 readingCount (Readings.Count n) = n
 readingCount (Readings.Refused n) = 0

@@ -14,6 +14,6 @@ pub record Written (before : List ℕ) (at : ℕ) (text after : List ℕ) (next 
 abbrev pub shortRoom : ℕ
 shortRoom = 21
 
--- Room enough for any line: a bag of a lane takes 11 bytes at most.
-abbrev pub roomFor : (bags : ℕ) → ℕ
+-- Room enough for a line that names so many tags: a tag of a lane takes 11 bytes.
+abbrev pub roomFor : (tags : ℕ) → ℕ
 roomFor n = shortRoom + 11 * n

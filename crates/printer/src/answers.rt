@@ -1,11 +1,12 @@
 // The answers of the calls as lines of text, put at a place of a buffer; the place after the line is given back.
 use crate::writing::put;
+use crate::writing::put_bag;
 use crate::writing::put_lane;
-use crate::writing::put_named;
+use crate::writing::put_refused;
 use machine::Answer;
 use machine::Reading;
 use machine::Reply;
-ghost use Prim.Native.Nat.{_+_, _≤_};
+ghost use Prim.Native.Nat.{_+_, _*_, _≤_};
 ghost use lib.ListN.{length};
 ghost use Rattle.printer.specs.Lines.{replyText, answerText};
 ghost use Rattle.printer.specs.Outcomes.{readingText, readingCount};
@@ -19,7 +20,7 @@ pub fn print_reply(reply: Reply, out: &mut [u8], at: usize) -> usize
 {
     match reply {
         Reply::Accepted => put(out, at, b"(ok)\n"),
-        Reply::Refused(n) => put_named(out, at, b"(refused ", n),
+        Reply::Refused(n) => put_refused(out, at, n),
     }
 }
 
@@ -32,24 +33,24 @@ pub fn print_answer(answer: Answer, out: &mut [u8], at: usize) -> usize
     match answer {
         Answer::Going => put(out, at, b"(going)\n"),
         Answer::Pushed => put(out, at, b"(pushed)\n"),
-        Answer::Bag(b) => put_named(out, at, b"(bag ", b),
+        Answer::Bag(tag) => put_bag(out, at, tag),
         Answer::Empty => put(out, at, b"(empty)\n"),
         Answer::Full => put(out, at, b"(full)\n"),
         Answer::Yes => put(out, at, b"(yes)\n"),
         Answer::No => put(out, at, b"(no)\n"),
-        Answer::Refused(n) => put_named(out, at, b"(refused ", n),
+        Answer::Refused(n) => put_refused(out, at, n),
     }
 }
 
-// What reading the lane answers. The bags that it counted are the first of those given.
-pub fn print_reading(reading: Reading, bags: &[u32], out: &mut [u8], at: usize) -> usize
-    requires { ⌜ readingCount reading ≤ length (now bags) ⌝ }
-    requires { ⌜ at + roomFor (length (now bags)) ≤ length (now out) ⌝ }
-    ensures { λ r. ⌜ Written (now (out .entry)) at (readingText reading (now (bags .entry))) (now (out .exit)) r ⌝ }
-    ensures { λ r. ⌜ r ≤ at + roomFor (length (now (bags .entry))) ⌝ }
+// What reading the lane answers. The tags that it counted are the first of those in the words.
+pub fn print_reading(reading: Reading, words: &[u32], out: &mut [u8], at: usize) -> usize
+    requires { ⌜ 2 * readingCount reading ≤ length (now words) ⌝ }
+    requires { ⌜ at + roomFor (readingCount reading) ≤ length (now out) ⌝ }
+    ensures { λ r. ⌜ Written (now (out .entry)) at (readingText reading (now (words .entry))) (now (out .exit)) r ⌝ }
+    ensures { λ r. ⌜ r ≤ at + roomFor (readingCount reading) ⌝ }
 {
     match reading {
-        Reading::Count(n) => put_lane(out, at, bags, n as usize),
-        Reading::Refused(n) => put_named(out, at, b"(refused ", n),
+        Reading::Count(n) => put_lane(out, at, words, n as usize),
+        Reading::Refused(n) => put_refused(out, at, n),
     }
 }

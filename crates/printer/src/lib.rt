@@ -9,7 +9,7 @@ use machine::Answer;
 use machine::Reading;
 use machine::Reply;
 use writing::put;
-ghost use Prim.Native.Nat.{_+_, _≤_};
+ghost use Prim.Native.Nat.{_+_, _*_, _≤_};
 ghost use lib.ListN.{length};
 ghost use Rattle.printer.specs.Outcomes.{countOf, textOf};
 ghost use Rattle.printer.specs.Writing.{Written, roomFor};
@@ -22,17 +22,18 @@ pub enum Outcome {
     Unread,
 }
 
-// Puts the line of an outcome at a place of the buffer, and answers the place after it.
-pub fn print(outcome: Outcome, bags: &[u32], out: &mut [u8], at: usize) -> usize
-    requires { ⌜ countOf outcome ≤ length (now bags) ⌝ }
-    requires { ⌜ at + roomFor (length (now bags)) ≤ length (now out) ⌝ }
-    ensures { λ r. ⌜ Written (now (out .entry)) at (textOf outcome (now (bags .entry))) (now (out .exit)) r ⌝ }
-    ensures { λ r. ⌜ r ≤ at + roomFor (length (now (bags .entry))) ⌝ }
+// Puts the line of an outcome at a place of the buffer, and answers the place after it. The tags that a lane counted are
+// the first of those in the words, two words for a tag.
+pub fn print(outcome: Outcome, words: &[u32], out: &mut [u8], at: usize) -> usize
+    requires { ⌜ 2 * countOf outcome ≤ length (now words) ⌝ }
+    requires { ⌜ at + roomFor (countOf outcome) ≤ length (now out) ⌝ }
+    ensures { λ r. ⌜ Written (now (out .entry)) at (textOf outcome (now (words .entry))) (now (out .exit)) r ⌝ }
+    ensures { λ r. ⌜ r ≤ at + roomFor (countOf outcome) ⌝ }
 {
     match outcome {
         Outcome::Replied(reply) => print_reply(reply, out, at),
         Outcome::Ticked(answer) => print_answer(answer, out, at),
-        Outcome::Lane(reading) => print_reading(reading, bags, out, at),
+        Outcome::Lane(reading) => print_reading(reading, words, out, at),
         Outcome::Unread => put(out, at, b"(unread)\n"),
     }
 }

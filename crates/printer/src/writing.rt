@@ -1,10 +1,11 @@
-// Texts, numbers and rows of bags, put at a place of a buffer.
+// Texts, numbers and rows of tags, put at a place of a buffer.
 ghost use mathlib.Core.List.{_++_};
 ghost use Prim.Native.Nat.{_+_, _*_, _≤_};
-ghost use lib.ListN.{length, take};
+ghost use lib.ListN.{length};
+ghost use Rattle.tag.specs.Tags.{tagsIn};
 ghost use Rattle.reader.specs.Text.{bytes};
-ghost use Rattle.printer.specs.Lines.{decimal, spaced, laneText};
-ghost use Rattle.printer.specs.Writing.{Written};
+ghost use Rattle.printer.specs.Lines.{decimal, tagText, spaced, refusedText, bagText, laneText};
+ghost use Rattle.printer.specs.Writing.{Written, shortRoom};
 
 // Puts a text at a place, and answers the place after it.
 pub fn put(out: &mut [u8], at: usize, text: &[u8]) -> usize
@@ -29,48 +30,74 @@ fn put_number(out: &mut [u8], at: usize, n: u32) -> usize
     put(out, at, &digits[..k])
 }
 
-// A name, a number and the end of the line.
-pub fn put_named(out: &mut [u8], at: usize, name: &[u8], n: u32) -> usize
-    requires { ⌜ at + length (now name) + 12 ≤ length (now out) ⌝ }
-    ensures { λ r. ⌜ Written (now (out .entry)) at (now (name .entry) ++ decimal n ++ bytes ")\n")
-        (now (out .exit)) r ⌝ }
+// The line of a refusal.
+pub fn put_refused(out: &mut [u8], at: usize, n: u32) -> usize
+    requires { ⌜ at + shortRoom ≤ length (now out) ⌝ }
+    ensures { λ r. ⌜ Written (now (out .entry)) at (refusedText n) (now (out .exit)) r ⌝ }
+    ensures { λ r. ⌜ r ≤ at + shortRoom ⌝ }
 {
-    let after_name = put(out, at, name);
+    let after_name = put(out, at, b"(refused ");
     let after_number = put_number(out, after_name, n);
     put(out, after_number, b")\n")
 }
 
-// A space and a bag.
-fn put_bag(out: &mut [u8], at: usize, bag: u32) -> usize
-    requires { ⌜ at + 11 ≤ length (now out) ⌝ }
-    ensures { λ r. ⌜ Written (now (out .entry)) at (bytes " " ++ decimal bag) (now (out .exit)) r ⌝ }
+// A tag.
+fn put_tag(out: &mut [u8], at: usize, tag: u64) -> usize
+    requires { ⌜ at + 10 ≤ length (now out) ⌝ }
+    ensures { λ r. ⌜ Written (now (out .entry)) at (tagText tag) (now (out .exit)) r ⌝ }
 {
-    let after_space = put(out, at, b" ");
-    put_number(out, after_space, bag)
+    let digits = tag::digits(tag);
+    let mut i = 0;
+    while i < 10 {
+        out[at + i] = b'0' + digits[i];
+        i += 1;
+    }
+    at + i
 }
 
-// The first n bags, a space before each.
-fn put_bags(out: &mut [u8], at: usize, bags: &[u32], n: usize) -> usize
-    requires { ⌜ (n ≤ length (now bags)) × (at + 11 * n ≤ length (now out)) ⌝ }
-    ensures { λ r. ⌜ Written (now (out .entry)) at (spaced (take n (now (bags .entry)))) (now (out .exit)) r ⌝ }
+// The line of a bag.
+pub fn put_bag(out: &mut [u8], at: usize, tag: u64) -> usize
+    requires { ⌜ at + shortRoom ≤ length (now out) ⌝ }
+    ensures { λ r. ⌜ Written (now (out .entry)) at (bagText tag) (now (out .exit)) r ⌝ }
+    ensures { λ r. ⌜ r ≤ at + shortRoom ⌝ }
+{
+    let after_name = put(out, at, b"(bag ");
+    let after_tag = put_tag(out, after_name, tag);
+    put(out, after_tag, b")\n")
+}
+
+// A space and a tag.
+fn put_spaced_tag(out: &mut [u8], at: usize, tag: u64) -> usize
+    requires { ⌜ at + 11 ≤ length (now out) ⌝ }
+    ensures { λ r. ⌜ Written (now (out .entry)) at (bytes " " ++ tagText tag) (now (out .exit)) r ⌝ }
+{
+    let after_space = put(out, at, b" ");
+    put_tag(out, after_space, tag)
+}
+
+// The first n tags of the words, a space before each.
+fn put_tags(out: &mut [u8], at: usize, words: &[u32], n: usize) -> usize
+    requires { ⌜ (2 * n ≤ length (now words)) × (at + 11 * n ≤ length (now out)) ⌝ }
+    ensures { λ r. ⌜ Written (now (out .entry)) at (spaced (tagsIn n (now (words .entry)))) (now (out .exit)) r ⌝ }
     ensures { λ r. ⌜ r ≤ at + 11 * n ⌝ }
 {
     let mut next = at;
     let mut i = 0;
     while i < n {
-        next = put_bag(out, next, bags[i]);
+        let tag = tag::number(words[2 * i], words[2 * i + 1]);
+        next = put_spaced_tag(out, next, tag);
         i += 1;
     }
     next
 }
 
-// The line of a lane of n bags.
-pub fn put_lane(out: &mut [u8], at: usize, bags: &[u32], n: usize) -> usize
-    requires { ⌜ (n ≤ length (now bags)) × (at + 7 + 11 * n ≤ length (now out)) ⌝ }
-    ensures { λ r. ⌜ Written (now (out .entry)) at (laneText (take n (now (bags .entry)))) (now (out .exit)) r ⌝ }
+// The line of a lane of n tags.
+pub fn put_lane(out: &mut [u8], at: usize, words: &[u32], n: usize) -> usize
+    requires { ⌜ (2 * n ≤ length (now words)) × (at + 7 + 11 * n ≤ length (now out)) ⌝ }
+    ensures { λ r. ⌜ Written (now (out .entry)) at (laneText (tagsIn n (now (words .entry)))) (now (out .exit)) r ⌝ }
     ensures { λ r. ⌜ r ≤ at + 7 + 11 * n ⌝ }
 {
     let after_name = put(out, at, b"(lane");
-    let after_bags = put_bags(out, after_name, bags, n);
-    put(out, after_bags, b")\n")
+    let after_tags = put_tags(out, after_name, words, n);
+    put(out, after_tags, b")\n")
 }

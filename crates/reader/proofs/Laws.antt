@@ -3,5 +3,6 @@
 pub mod SameTexts
 pub mod NumberLaws
 pub mod FormLaws
+pub mod PlaceLaws
 pub mod ScanLaws
 pub mod LineLaws

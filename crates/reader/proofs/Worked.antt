@@ -3,9 +3,9 @@ use mathlib.Core.List.{map}
 use mathlib.Core.Path.{_≡_, refl}
 use Rattle.reader.specs.Text.{bytes}
 use Rattle.reader.specs.Scanned.{scanByte, scanBytes}
-use Rattle.reader.specs.Commands.{ticks, beginOr, beginOf, formOf, commandOf, commandRead}
+use Rattle.reader.specs.Commands.{ticks, beginOr, beginOf, formOf, pushOf, commandWith, commandOf, commandRead}
 use Rattle.reader.specs.Examples.{Example, examples}
 
 pub worked : map (λ (e : Example). commandRead (bytes (e .line))) examples ≡ map (λ (e : Example). e .says) examples
-unfolding scanByte scanBytes ticks beginOr beginOf formOf commandOf commandRead examples
+unfolding scanByte scanBytes ticks beginOr beginOf formOf pushOf commandWith commandOf commandRead examples
 worked = refl

@@ -3,7 +3,16 @@ use crate::Command;
 use crate::scanning::Numbers;
 ghost use mathlib.Core.Path.{_≡_};
 ghost use Rattle.reader.specs.Text.{same};
-ghost use Rattle.reader.specs.Commands.{ticks, beginOr, beginOf, formOf};
+ghost use Prim.Native.Nat.{_≤_};
+ghost use Rattle.tag.specs.Tags.{largestTag};
+ghost use Rattle.reader.specs.Commands.{ticks, beginOr, beginOf, formOf, pushOf, commandWith};
+ghost use Rattle.reader.specs.Kept.{firstThree, UpToTag};
+
+// 01: "a number above 4,294,967,295".
+const LARGEST: u64 = 4_294_967_295;
+
+// 02: "ten digits with their zeros".
+const TAG_WIDTH: usize = 10;
 
 // Whether two byte strings are the same.
 fn is_text(text: &[u8], want: &[u8]) -> bool
@@ -53,6 +62,7 @@ fn begin_or(
             task,
             operation,
             side: 0,
+            digit: 0,
             argument,
         };
     }
@@ -61,13 +71,14 @@ fn begin_or(
             task,
             operation,
             side: 1,
+            digit: 0,
             argument,
         };
     }
     other
 }
 
-// The begin with this text, or no form.
+// The begin of pop, add or remove with this text, or no form.
 fn begin_of(text: &[u8], task: u32, argument: u32) -> Command
     ensures { λ r. ⌜ r ≡ beginOf (now (text .entry)) task argument ⌝ }
 {
@@ -89,7 +100,7 @@ fn begin_of(text: &[u8], task: u32, argument: u32) -> Command
         argument,
         remove,
     );
-    let pop = begin_or(
+    begin_or(
         text,
         b"(begin 0 (pop left 0))",
         b"(begin 0 (pop right 0))",
@@ -97,25 +108,13 @@ fn begin_of(text: &[u8], task: u32, argument: u32) -> Command
         task,
         argument,
         add,
-    );
-    begin_or(
-        text,
-        b"(begin 0 (push left 0))",
-        b"(begin 0 (push right 0))",
-        1,
-        task,
-        argument,
-        pop,
     )
 }
 
-// The form with this text and these numbers.
-pub fn form_of(text: &[u8], numbers: &Numbers) -> Command
-    ensures { λ r. ⌜ r ≡ formOf (now (text .entry)) (now (numbers .entry)) ⌝ }
+// The form other than a push with this text and these numbers.
+fn form_of(text: &[u8], a: u32, b: u32, c: u32) -> Command
+    ensures { λ r. ⌜ r ≡ formOf (now (text .entry)) a b c ⌝ }
 {
-    let a = numbers[0];
-    let b = numbers[1];
-    let c = numbers[2];
     if is_text(text, b"(tick 0 0 0)") {
         return ticks_of(a, b, c);
     }
@@ -130,4 +129,52 @@ pub fn form_of(text: &[u8], numbers: &Numbers) -> Command
         };
     }
     begin_of(text, a, b)
+}
+
+// 02: "a push of another width is `(unread)`, and 01's top number does not bind tags".
+fn push_of(side: u32, task: u64, tag: u64, width: usize) -> Command
+    requires { ⌜ tag ≤ largestTag ⌝ }
+    ensures { λ r. ⌜ r ≡ pushOf side task tag width ⌝ }
+{
+    if LARGEST < task {
+        return Command::Unread;
+    }
+    if width != TAG_WIDTH {
+        return Command::Unread;
+    }
+    let digit = tag::digit(tag);
+    let argument = tag::low(tag);
+    Command::Begin {
+        task: task as u32,
+        operation: 1,
+        side,
+        digit,
+        argument,
+    }
+}
+
+// The command of a line with this text and these numbers, the last of them so many digits wide.
+pub fn command_with(text: &[u8], numbers: &Numbers, width: usize) -> Command
+    requires { ⌜ UpToTag (now numbers) ⌝ }
+    ensures { λ r. ⌜ r ≡ commandWith (now (text .entry)) (firstThree (now (numbers .entry))) width ⌝ }
+{
+    let a = numbers[0];
+    let b = numbers[1];
+    let c = numbers[2];
+    if is_text(text, b"(begin 0 (push left 0))") {
+        return push_of(0, a, b, width);
+    }
+    if is_text(text, b"(begin 0 (push right 0))") {
+        return push_of(1, a, b, width);
+    }
+    if LARGEST < a {
+        return Command::Unread;
+    }
+    if LARGEST < b {
+        return Command::Unread;
+    }
+    if LARGEST < c {
+        return Command::Unread;
+    }
+    form_of(text, a as u32, b as u32, c as u32)
 }

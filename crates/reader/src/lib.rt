@@ -2,15 +2,14 @@
 mod forms;
 pub mod scanning;
 
-use forms::form_of;
+use forms::command_with;
 use scanning::Numbers;
 use scanning::Scan;
 ghost use mathlib.Core.Path.{_≡_};
-ghost use Prim.Native.Nat.{_≤_};
-ghost use lib.ListN.{length};
-ghost use Rattle.reader.specs.Kept.{keptOf, keptCommand};
+ghost use Rattle.reader.specs.Kept.{keptOf, keptCommand, ScanKept};
 
-// What a line says. Operations are 1 push, 2 pop, 3 add, 4 remove; sides 0 left, 1 right.
+// What a line says. Operations are 1 push, 2 pop, 3 add, 4 remove; sides 0 left, 1 right. The tag of a push is its
+// leading digit and, as the argument, the nine digits below; the others have digit 0.
 pub enum Command {
     Start {
         slots: u32,
@@ -21,6 +20,7 @@ pub enum Command {
         task: u32,
         operation: u32,
         side: u32,
+        digit: u32,
         argument: u32,
     },
     Tick {
@@ -34,13 +34,10 @@ pub enum Command {
 
 // The command of a scanned line, read off what is kept of it.
 pub fn scanned_command(text: &[u8], numbers: &Numbers, s: Scan) -> Command
-    requires { ⌜ s .length ≤ length (now text) ⌝ }
+    requires { ⌜ ScanKept (keptOf (now text) (now numbers) s) ⌝ }
     ensures { λ r. ⌜ r ≡ keptCommand (keptOf (now (text .entry)) (now (numbers .entry)) s) ⌝ }
 {
-    let fits = s.fits;
     let length = s.length;
-    if fits {
-        return form_of(&text[..length], numbers);
-    }
-    Command::Unread
+    let width = s.width;
+    command_with(&text[..length], numbers, width)
 }

@@ -1,15 +1,12 @@
 // Scanning a line, byte by byte: the front of its text stands in an array of bytes, its numbers in an array of words.
-ghost use mathlib.Core.Bool.{cond};
 ghost use mathlib.Core.List.{List};
 ghost use mathlib.Core.Path.{_≡_};
-ghost use Prim.Native.Nat.{ℕ, _+_, _≤_, _<_, min};
-ghost use lib.Dec.{leb};
-ghost use lib.ListN.{length, set};
-ghost use Rattle.reader.specs.Scanned.{isDigit, withDigit};
-ghost use Rattle.reader.specs.Commands.{largestNumber};
+ghost use Prim.Native.Nat.{ℕ, _+_, _*_, _≤_, _<_, min};
+ghost use lib.ListN.{length};
+ghost use Rattle.reader.specs.Scanned.{isDigit};
 ghost use Rattle.reader.specs.Kept.{
   textPlaces,
-  numberPlaces,
+  keptNumber,
   keptOf,
   noNumbers,
   noScan,
@@ -31,18 +28,18 @@ pub const NUMBER_PLACES: usize = 4;
 pub type Text = [u8; TEXT_PLACES];
 
 // The first three numbers of a line, and the last.
-pub type Numbers = [u32; NUMBER_PLACES];
+pub type Numbers = [u64; NUMBER_PLACES];
 
-// 01: "a number above 4,294,967,295".
-const LARGEST: u64 = 4_294_967_295;
+// One digit more than a tag has.
+const COUNTED_DIGITS: usize = 11;
 
-// How far a scan is: the bytes of text kept, the numbers counted up to 4, whether the last byte was a digit, and
-// whether no number was too large.
+// How far a scan is: the bytes of text kept, the numbers counted up to 4, the digits of the last one counted up to 11,
+// and whether the last byte was a digit.
 pub struct Scan {
     pub length: usize,
     pub count: usize,
+    pub width: usize,
     pub in_number: bool,
-    pub fits: bool,
 }
 
 // Where the scan of a line stopped, and how far it is.
@@ -59,8 +56,8 @@ pub fn start(numbers: &mut Numbers) -> Scan
     Scan {
         length: 0,
         count: 0,
+        width: 0,
         in_number: false,
-        fits: true,
     }
 }
 
@@ -76,73 +73,60 @@ fn put(text: &mut Text, n: usize, b: u8) -> usize
     n
 }
 
-// A word as a longer word.
-fn wide(x: u32) -> u64
-    ensures { λ r. ⌜ (r ≡ x) × (x ≤ largestNumber) ⌝ }
+// A number with a further digit, of value d. Above the largest tag, it is kept as the largest tag.
+fn with_digit(n: u64, d: u64) -> u64
+    requires { ⌜ d < 10 ⌝ }
+    ensures { λ r. ⌜ r ≡ keptNumber (10 * n + d) ⌝ }
 {
-    x as u64
+    if n < tag::BILLION {
+        return 10 * n + d;
+    }
+    tag::LARGEST
 }
 
-// A digit with the value d more at the number at a place, if that still fits. Answers whether it does.
-fn append_digit(numbers: &mut Numbers, place: usize, d: u32) -> bool
-    requires { ⌜ (place < numberPlaces) × (d < 10) ⌝ }
-    ensures { λ r. ⌜ (r ≡ leb (withDigit (now (numbers .entry)) place d) largestNumber)
-        × (now (numbers .exit) ≡ cond (leb (withDigit (now (numbers .entry)) place d) largestNumber)
-        (set (now (numbers .entry)) place (withDigit (now (numbers .entry)) place d)) (now (numbers .entry))) ⌝ }
+// One more, counted up to a limit.
+fn one_more(n: usize, most: usize) -> usize
+    ensures { λ r. ⌜ r ≡ min most (n + 1) ⌝ }
 {
-    let n = 10 * wide(numbers[place]) + wide(d);
-    if n <= LARGEST {
-        numbers[place] = n as u32;
-        return true;
+    if n < most {
+        return n + 1;
     }
-    false
+    most
 }
 
 // A further digit with the value d of the number that is open.
-fn extend_number(numbers: &mut Numbers, s: Scan, d: u32) -> Scan
+fn extend_number(numbers: &mut Numbers, s: Scan, d: u64) -> Scan
     requires { ⌜ MoreDigits s d ⌝ }
     ensures { λ r. ⌜ ((text : List ℕ) → keptOf text (now (numbers .exit)) r
         ≡ keepExtended (keptOf text (now (numbers .entry)) s) d) ⌝ }
 {
     let place = s.count - 1;
-    if append_digit(numbers, place, d) {
-        return s;
-    }
+    numbers[place] = with_digit(numbers[place], d);
+    let width = one_more(s.width, COUNTED_DIGITS);
     Scan {
         length: s.length,
         count: s.count,
+        width,
         in_number: true,
-        fits: false,
     }
 }
 
 // A digit with the value d that opens a number. From the fourth number on they share the last place.
-fn open_number(text: &mut Text, numbers: &mut Numbers, s: Scan, d: u32) -> Scan
+fn open_number(text: &mut Text, numbers: &mut Numbers, s: Scan, d: u64) -> Scan
     requires { ⌜ Counts s ⌝ }
     ensures { λ r. ⌜ keptOf (now (text .exit)) (now (numbers .exit)) r
         ≡ keepOpened (keptOf (now (text .entry)) (now (numbers .entry)) s) d ⌝ }
 {
     let n = s.length;
     let length = put(text, n, b'0');
-    let count = one_more(s.count);
+    let count = one_more(s.count, NUMBER_PLACES);
     numbers[count - 1] = d;
     Scan {
         length,
         count,
+        width: 1,
         in_number: true,
-        fits: s.fits,
     }
-}
-
-// One more number, of which 4 are counted.
-fn one_more(count: usize) -> usize
-    requires { ⌜ count ≤ numberPlaces ⌝ }
-    ensures { λ r. ⌜ r ≡ min numberPlaces (count + 1) ⌝ }
-{
-    if count < NUMBER_PLACES {
-        return count + 1;
-    }
-    count
 }
 
 // A byte that is no digit.
@@ -156,8 +140,8 @@ fn append_byte(text: &mut Text, s: Scan, b: u8) -> Scan
     Scan {
         length,
         count: s.count,
+        width: s.width,
         in_number: false,
-        fits: s.fits,
     }
 }
 
@@ -179,7 +163,7 @@ fn scan_byte(text: &mut Text, numbers: &mut Numbers, s: Scan, b: u8) -> Scan
     if !is_digit(b) {
         return append_byte(text, s, b);
     }
-    let d = (b - b'0') as u32;
+    let d = (b - b'0') as u64;
     let in_number = s.in_number;
     if in_number {
         return extend_number(numbers, s, d);

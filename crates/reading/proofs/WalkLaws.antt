@@ -2,20 +2,21 @@
 use mathlib.Core.Path.{_≡_, refl, sym, ap, _∙_, subst}
 use mathlib.Core.Logic.{_≢_}
 use mathlib.Core.Bool.{Bool, true, false, _||_}
-use mathlib.Core.List.{List, [], _∷_, _++_}
+use mathlib.Core.List.{List, [], _∷_, _++_, append-assoc}
 use mathlib.Core.Option.{Option, some, none as nothing, Option·map}
-use Prim.Native.Nat.{ℕ, zero, suc, _+_, _-_, _≤_, _<_}
+use Prim.Native.Nat.{ℕ, zero, suc, _+_, _*_, _-_, _≤_, _<_}
 use native.Mathlib.Omega.{arith}
 use native.Mathlib.Nat.{add-zero, zero-add, sub-zero}
 use lib.Dec.{eqb}
-use lib.ListN.{length, set, take, drop, take-append-drop}
-use lib.Seq.{take-suc-set, drop-set-lt, drop-drop, append-snoc}
+use lib.ListN.{length, take, drop, take-append-drop}
+use lib.Seq.{sets, drop-drop}
 use borrow.Author.Tests.{le-leb, lt-leb}
+use Rattle.tag.specs.Tags.{tagWords, allTagWords}
 use Rattle.machine.specs.declared.Reading.the-variants.{Count, Refused}
 use Rattle.machine.specs.declared.Stored.{Stored}
 use Rattle.machine.specs.Choice.{_≟_, _<?_, if_then_else_}
 use Rattle.machine.specs.Sides.{left, right}
-use Rattle.machine.specs.Values.{Value, never, bag, N, X, Y, number, encode, decode, valueOk}
+use Rattle.machine.specs.Values.{Value, never, bag, N, X, Y, number, encode, decode, bagOk, valueOk}
 use Rattle.machine.specs.Tasks.{none}
 use Rattle.machine.specs.Table.{headerLength, nodeAt, nodeCount, hat, valueWords, link}
 use borrow.Rule.Slice.PartMut.{midOf}
@@ -33,6 +34,8 @@ use Rattle.reading.specs.declared.Walk.the-variants.{Bags, NoEnd}
 use Rattle.reading.specs.Lane.{laneIn, walkOf, countOf, laid, NodeOrNone, Walkable}
 use Rattle.shape.specs.Contracts.{numberOf}
 use Rattle.shape.proofs.Laws.PassedTable.{refused, passed}
+use Rattle.layout.proofs.Laws.Fronts.{front-grows, rest-stays}
+use Rattle.layout.proofs.Laws.ValueWords.{bag-words}
 use Rattle.layout.proofs.Laws.Views.{nodesOf, nodes-part, node-held, held-node, words-in, link-in, value-in}
 
 -- The walk after node x, in n nodes at most.
@@ -182,30 +185,32 @@ module _ (ns : List ℕ) (w slots n x : ℕ) (found : Bool) where
         one-tallied w n (number (storedIn ns x)) found (after ns (slots - (n + 1)) x)
         ∙ ap (tallied w n found) (sym (one-bag ns (slots - n) (slots - (n + 1)) x (omega arith) node h))
 
--- ---- The loop that writes: i words are written, and the bags of the walk ahead come after them.
+-- ---- The loop that writes: i bags are written, two words each, and those of the walk ahead come after them.
 abbrev pub written : ℕ → Option (List ℕ) → List ℕ → List ℕ
-written i l out = take i out ++ laid l (drop i out)
+written i l out = take (2 * i) out ++ laid l (drop (2 * i) out)
 
-drop-next : (n i : ℕ) (out : List ℕ) → drop n (drop (suc i) out) ≡ drop (suc n) (drop i out)
+drop-next : (n i : ℕ) (out : List ℕ) → drop (2 * n) (drop (2 * i + 2) out) ≡ drop (2 * suc n) (drop (2 * i) out)
 drop-next n i out =
-    let e : suc i + n ≡ i + suc n = omega arith in
-    drop-drop n (suc i) out ∙ ap (λ (j : ℕ). drop j out) e ∙ sym (drop-drop (suc n) i out)
+    let e : 2 * i + 2 + 2 * n ≡ 2 * i + 2 * suc n = omega arith in
+    drop-drop (2 * n) (2 * i + 2) out ∙ ap (λ (j : ℕ). drop j out) e ∙ sym (drop-drop (2 * suc n) (2 * i) out)
 
 one-written :
     (i w k : ℕ) (l : Option (List ℕ)) (out : List ℕ)
     → countOf l ≡ some k
-    → i < length out
-    → written (i + 1) l (set out i w) ≡ written i (Option·map (_∷_ w) l) out
+    → 2 * i + 2 ≤ length out
+    → written (i + 1) l (sets out (2 * i) (tagWords w)) ≡ written i (Option·map (_∷_ w) l) out
+unfolding allTagWords
 one-written i w k nothing out h b = clash (cc)
 one-written i w k (some bags) out h b =
     let n = length bags in
-    let s : i + 1 ≡ suc i = omega arith in
-    rw (s, take-suc-set out i w b, drop-set-lt (suc i) out i w (omega arith), drop-next n i out)
-    (append-snoc (take i out) w (bags ++ drop (suc n) (drop i out)))
+    let s : 2 * (i + 1) ≡ 2 * i + 2 = omega arith in
+    rw (s, front-grows out (tagWords w) (2 * i) b, rest-stays out (tagWords w) (2 * i) b, drop-next n i out)
+    (append-assoc (take (2 * i) out) (tagWords w) (allTagWords bags ++ drop (2 * suc n) (drop (2 * i) out)))
 
 pub write-ends : (i : ℕ) (l : Option (List ℕ)) (out : List ℕ) → countOf l ≡ some 0 → written i l out ≡ out
+unfolding allTagWords
 write-ends i nothing out h = clash (cc)
-write-ends i (some []) out h = take-append-drop i out
+write-ends i (some []) out h = take-append-drop (2 * i) out
 write-ends i (some (b ∷ bags)) out h = clash (cc)
 
 -- While bags are ahead the walk is at a node that holds one, and after that node there is one fewer.
@@ -220,9 +225,8 @@ module _ (ns : List ℕ) (slots i x n : ℕ) (more : i < n) (ahead : countOf (la
       go (yes h) = omega arith
       go (no h) = let q = no-turn ns (slots - i) x (omega arith) in clash (cc)
 
-  bag-ahead : laneIn ns (slots - i) x ≡ Option·map (_∷_ (number (storedIn ns x))) (after ns (slots - (i + 1)) x)
-  bag-ahead =
-      one-bag ns (slots - i) (slots - (i + 1)) x turn-ahead node-ahead (go (isBag (decode (storedIn ns x))) refl)
+  holds-bag : isBag (decode (storedIn ns x)) ≡ true
+  holds-bag = go (isBag (decode (storedIn ns x))) refl
     where
       go : (b : Bool) → isBag (decode (storedIn ns x)) ≡ b → b ≡ true
       go true h = refl
@@ -230,6 +234,12 @@ module _ (ns : List ℕ) (slots i x n : ℕ) (more : i < n) (ahead : countOf (la
           let q = no-bag ns (slots - i) (slots - (i + 1)) x turn-ahead node-ahead h in
           let z : n - i ≡ 0 = cc in
           absurd (omega arith)
+
+  pub tag-ahead : bagOk (storedIn ns x) ≡ true
+  tag-ahead = bag-words (storedIn ns x) ∙ holds-bag
+
+  bag-ahead : laneIn ns (slots - i) x ≡ Option·map (_∷_ (number (storedIn ns x))) (after ns (slots - (i + 1)) x)
+  bag-ahead = one-bag ns (slots - i) (slots - (i + 1)) x turn-ahead node-ahead holds-bag
 
   pub fewer-ahead : countOf (after ns (slots - (i + 1)) x) ≡ some (n - (i + 1))
   fewer-ahead = go (after ns (slots - (i + 1)) x) (ap countOf (sym bag-ahead) ∙ ahead)
@@ -243,8 +253,8 @@ module _ (ns : List ℕ) (slots i x n : ℕ) (more : i < n) (ahead : countOf (la
 
   pub write-at-bag :
       (out : List ℕ)
-      → i < length out
-      → written (i + 1) (after ns (slots - (i + 1)) x) (set out i (number (storedIn ns x)))
+      → 2 * i + 2 ≤ length out
+      → written (i + 1) (after ns (slots - (i + 1)) x) (sets out (2 * i) (tagWords (number (storedIn ns x))))
       ≡ written i (laneIn ns (slots - i) x) out
   write-at-bag out h =
       one-written i (number (storedIn ns x)) (n - (i + 1)) (after ns (slots - (i + 1)) x) out fewer-ahead h
@@ -317,19 +327,19 @@ module _ (w : ℕ) (out : List ℕ) where
   pub read-short :
       (l : Option (List ℕ)) (n : ℕ) (found : Bool)
       → walkOf w l ≡ Bags n found
-      → length out < n
+      → length out < 2 * n
       → readOf (Refused 12) out ≡ readInto l out
   unfolding readInto
   read-short nothing n found h s = clash (cc)
   read-short (some bags) n found h s =
-      let e : length bags ≡ n = cc in rw (lt-leb (length bags) (length out) (omega arith), readInto)
+      let e : length bags ≡ n = cc in rw (lt-leb (2 * length bags) (length out) (omega arith), readInto)
 
   pub read-all :
       (l : Option (List ℕ)) (n : ℕ) (found : Bool)
       → walkOf w l ≡ Bags n found
-      → n ≤ length out
+      → 2 * n ≤ length out
       → readOf (Count n) (laid l out) ≡ readInto l out
   unfolding readInto
   read-all nothing n found h s = clash (cc)
   read-all (some bags) n found h s =
-      let e : n ≡ length bags = cc in rw (e, le-leb (length bags) (length out) (omega arith), readInto)
+      let e : n ≡ length bags = cc in rw (e, le-leb (2 * length bags) (length out) (omega arith), readInto)

@@ -4,8 +4,9 @@ use mathlib.Core.Logic.{_≢_}
 use mathlib.Core.Bool.{true}
 use mathlib.Core.List.{List, [], _∷_, _++_}
 use mathlib.Core.Option.{Option, some, none as nothing, Option·map}
-use Prim.Native.Nat.{ℕ, zero, suc}
+use Prim.Native.Nat.{ℕ, zero, suc, _*_}
 use lib.ListN.{length, drop}
+use Rattle.tag.specs.Tags.{allTagWords}
 use Rattle.machine.specs.Choice.{_≟_, if_then_else_}
 use Rattle.machine.specs.Sides.{right}
 use Rattle.machine.specs.Values.{never, bag, N, X, Y, decode, valueOk}
@@ -37,10 +38,10 @@ walkOf n (some bags) = Bags (length bags) (isAmong n bags)
 abbrev pub countOf : Option (List ℕ) → Option ℕ
 countOf = Option·map length
 
--- 01: the read writes bags in order and touches no later word.
+-- 01: the read writes bags in order and touches no later word. 02: two words for a tag.
 abbrev pub laid : Option (List ℕ) → (out : List ℕ) → List ℕ
 laid nothing out = out
-laid (some bags) out = bags ++ drop (length bags) out
+laid (some bags) out = allTagWords bags ++ drop (2 * length bags) out
 
 -- The number is none, or that of a node.
 abbrev pub NodeOrNone : List ℕ → ℕ → Type 0

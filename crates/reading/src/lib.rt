@@ -11,11 +11,12 @@ use machine::Reading;
 use machine::Stored;
 use shape::table_refusal;
 ghost use mathlib.Core.Path.{_≡_};
-ghost use Prim.Native.Nat.{_≤_};
+ghost use Prim.Native.Nat.{_*_, _≤_};
 ghost use mathlib.Core.Bool.{_||_};
 ghost use mathlib.Core.Option.{some};
+ghost use lib.Dec.{eqb};
 ghost use lib.ListN.{length};
-ghost use Rattle.machine.specs.Values.{number, sameStored};
+ghost use Rattle.machine.specs.Values.{number};
 ghost use Rattle.machine.specs.Calls.{lane, readInto, read};
 ghost use Rattle.machine.specs.Results.{readOf};
 ghost use Rattle.machine.specs.Shape.{WellFormed};
@@ -29,19 +30,19 @@ pub enum Walk {
 }
 
 // Whether a bag is the one sought, or that was found before.
-fn found_now(found: bool, sought: Stored, bag: Stored) -> bool
-    ensures { λ r. ⌜ r ≡ (found || sameStored sought bag) ⌝ }
+fn found_now(found: bool, sought: u64, bag: Stored) -> bool
+    ensures { λ r. ⌜ r ≡ (found || eqb sought (number bag)) ⌝ }
 {
     if found {
         return true;
     }
-    values::equal(sought, bag)
+    sought == values::number(bag)
 }
 
 // The bags from a node on. 01: link none before a slot without a bag, or S bags with no end.
-fn walk_from(ns: &[u32], slots: u32, from: u32, sought: Stored) -> Walk
+fn walk_from(ns: &[u32], slots: u32, from: u32, sought: u64) -> Walk
     requires { ⌜ Walkable (now ns) × NodeOrNone (now ns) from ⌝ }
-    ensures { λ r. ⌜ r ≡ walkOf (number sought) (laneIn (now (ns .entry)) slots from) ⌝ }
+    ensures { λ r. ⌜ r ≡ walkOf sought (laneIn (now (ns .entry)) slots from) ⌝ }
 {
     let mut x = from;
     let mut n = 0;
@@ -61,10 +62,10 @@ fn walk_from(ns: &[u32], slots: u32, from: u32, sought: Stored) -> Walk
     Walk::NoEnd
 }
 
-// The lane of a table that has passed the tests of refusals 3 and 4, walked for a bag that is sought.
-pub fn seek(table: &[u32], sought: Stored) -> Walk
+// The lane of a table that has passed the tests of refusals 3 and 4, walked for a tag that is sought.
+pub fn seek(table: &[u32], sought: u64) -> Walk
     requires { ⌜ WellFormed (now table) ⌝ }
-    ensures { λ r. ⌜ r ≡ walkOf (number sought) (lane (now (table .entry))) ⌝ }
+    ensures { λ r. ⌜ r ≡ walkOf sought (lane (now (table .entry))) ⌝ }
 {
     let slots = table[NODE_COUNT];
     let ns = &table[HEADER..node_at(slots)];
@@ -73,17 +74,17 @@ pub fn seek(table: &[u32], sought: Stored) -> Walk
     walk_from(ns, slots, from, sought)
 }
 
-// Writes the n bags that `walk_from` finds from the same node in as many slots.
+// Writes the n bags that `walk_from` finds from the same node in as many slots, two words each.
 // 01: the read writes bags in order, answers their count, and touches no later word.
 fn copy(ns: &[u32], slots: u32, from: u32, n: u32, out: &mut [u32])
     requires { ⌜ Walkable (now ns) × NodeOrNone (now ns) from ⌝ }
-    requires { ⌜ (countOf (laneIn (now ns) slots from) ≡ some n) × (n ≤ length (now out)) ⌝ }
+    requires { ⌜ (countOf (laneIn (now ns) slots from) ≡ some n) × (2 * n ≤ length (now out)) ⌝ }
     ensures { λ _. ⌜ now (out .exit) ≡ laid (laneIn (now (ns .entry)) slots from) (now (out .entry)) ⌝ }
 {
     let mut x = from;
     let mut i = 0;
     while i < n {
-        out[i as usize] = values::number(nodes::value(ns, x));
+        values::put_tag(out, 2 * (i as usize), nodes::value(ns, x));
         x = nodes::link(ns, 1, x);
         i += 1;
     }
@@ -97,18 +98,18 @@ fn read_lane(table: &[u32], out: &mut [u32]) -> Reading
     let slots = table[NODE_COUNT];
     let ns = &table[HEADER..node_at(slots)];
     let from = nodes::link(ns, 1, table[LEFT_HAT]);
-    // A read seeks no bag.
-    let walk = walk_from(ns, slots, from, values::of_number(Stored::NEVER));
+    // A read seeks no tag.
+    let walk = walk_from(ns, slots, from, 0);
     match walk {
         Walk::NoEnd => {
             return Reading::Refused(11);
         }
         Walk::Bags(n, _) => {
-            if (n as usize) <= out.len() {
+            if 2 * (n as usize) <= out.len() {
                 copy(ns, slots, from, n, out);
                 return Reading::Count(n);
             }
-            // 01: out slice shorter than the bags.
+            // 01: out slice shorter than the bags. 02: two words for a tag.
             return Reading::Refused(12);
         }
     }

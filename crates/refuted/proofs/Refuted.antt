@@ -2,6 +2,7 @@
 use mathlib.Core.Path.{refl}
 use mathlib.Core.Option.{bind}
 use native.Mathlib.Decide.{ℕ-discrete, decLt, decLe}
+use Rattle.tag.specs.Tags.{allTagWords}
 use Rattle.machine.specs.Values.{Value-discrete, decode}
 use Rattle.machine.specs.Steps.{stepIn, stepOf, isStepIn}
 use Rattle.machine.specs.Table.{link, value, task}
@@ -26,19 +27,21 @@ use Rattle.machine.specs.Calls.{
   isBegun,
   laneFrom,
   lane,
+  readInto,
+  read,
 }
 use Rattle.refuted.specs.Machines.{beginBy, tickOnBy, tickBy, runOnBy, runBy, panelBy, afterTicksBy}
-use Rattle.refuted.specs.Wrong.{ended, wholeOn, touchesNothing, heldFromBy, leftwards, isArgument}
+use Rattle.refuted.specs.Wrong.{ended, wholeOn, touchesNothing, heldFromBy, leftwards, isArgument, turned}
 use Rattle.refuted.specs.Judged.{byRow, byDefinitions, afterAllBy, goingAlone, freeBelow}
 use Rattle.refuted.specs.Lists.{AllRefuted, judged, Spins, Leaks, Doubles}
 
 pub all-refuted : AllRefuted
-unfolding judged byRow byDefinitions ended wholeOn touchesNothing heldFromBy leftwards isArgument beginBy tickOnBy
+unfolding judged byRow byDefinitions ended wholeOn touchesNothing heldFromBy leftwards isArgument turned beginBy tickOnBy
     tickBy runOnBy runBy panelBy afterTicksBy feedTick pushAnswered popAnswered sizeAnswered feedMade feedRun bind
     plainAnswerOf answerOf ℕ-discrete decLt decLe Value-discrete decode stepIn stepOf isStepIn link value task
     allBelow sameWords nodeOk busyOk recordOk shapeOk heldFrom roots mark markAll visit visitFrom marked
     firstUnmarked allocate writeAll dcas act times startWords start begin effectOf applied tickOn tick runOn run
-    panel isBegun laneFrom lane
+    panel isBegun laneFrom lane readInto read allTagWords
 all-refuted = (refl, refl)
 
 pub spins : Spins

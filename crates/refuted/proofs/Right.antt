@@ -8,7 +8,7 @@ use Rattle.machine.specs.declared.Answer.the-variants.{Refused}
 use Rattle.machine.specs.declared.Stored.{Stored}
 use Rattle.machine.specs.Allocate.{allocate}
 use Rattle.machine.specs.Lines.{act}
-use Rattle.machine.specs.Answers.{refusalOf}
+use Rattle.machine.specs.Answers.{answerLength, refusalOf}
 use Rattle.machine.specs.Calls.{
   tableRefusal,
   runRefusal,
@@ -82,9 +82,9 @@ unfolding runOnBy runOn runs-on
 same-run-on [] ws answers = refl
 same-run-on (k ∷ []) ws answers = refl
 same-run-on (k ∷ h ∷ list) ws answers =
-    ap (λ one. runs-on one ws answers (λ t. runOnBy rightMachine list (t .words) (drop 2 answers))) (same-tick-on ws k h)
+    ap (λ one. runs-on one ws answers (λ t. runOnBy rightMachine list (t .words) (drop answerLength answers))) (same-tick-on ws k h)
     ∙ ap (λ others. runs-on (tickOn ws k h) ws answers (λ t. others))
-    (same-run-on list (tickOn ws k h .words) (drop 2 answers))
+    (same-run-on list (tickOn ws k h .words) (drop answerLength answers))
 
 module _ (ws list answers : List ℕ) where
   same-tested : (r : Option ℕ) → testedBy rightMachine r ws list answers ≡ tested r ws list answers

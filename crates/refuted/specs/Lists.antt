@@ -5,14 +5,14 @@ use mathlib.Core.List.{List, [], _∷_, _++_, map}
 use mathlib.Core.Option.{some}
 use Prim.Native.Nat.{ℕ}
 use lib.ListN.{replicate}
-use Rattle.machine.specs.Values.{stored}
+use Rattle.machine.specs.Values.{storedOf, stored}
 use Rattle.machine.specs.Operations.{Operation, push, pop, add, remove, operationNumber}
 use Rattle.machine.specs.Sides.{Side, left, right, sideNumber}
 use Rattle.machine.specs.Table.{tableLength}
 use Rattle.machine.specs.Allocate.{marked}
 use Rattle.machine.specs.Calls.{isBegun, lane, times, start}
 use Rattle.machine.specs.Row.{emptyRow}
-use Rattle.machine.specs.Demand3.{Call, begin-call, tick-call, run-call, panel-call}
+use Rattle.machine.specs.Demand3.{Call, begin-call, tick-call, run-call, panel-call, read-call}
 use Rattle.refuted.specs.Machines.{Machine, rightMachine}
 use Rattle.refuted.specs.Wrong.{
   wholeInFirstTick,
@@ -50,6 +50,13 @@ use Rattle.refuted.specs.Wrong.{
   searchesAllArguments,
   refusesAddsToo,
   testsWhenAnswering,
+  popComparesLow,
+  pushWritesLow,
+  popLeavesDigit,
+  searchesLow,
+  popPassesZero,
+  takesDigitTen,
+  runTurnsWords,
 }
 use Rattle.refuted.specs.Judged.{
   Verdict,
@@ -376,7 +383,7 @@ entries =
       wrong = reportsUnmadeTick;
       S = 4;
       T = 1;
-      calls = begins 0 push right 51 ++ (run-call (0 ∷ 0 ∷ 0 ∷ 4 ∷ []) (7 ∷ 7 ∷ 7 ∷ 7 ∷ []) ∷ []);
+      calls = begins 0 push right 51 ++ (run-call (0 ∷ 0 ∷ 0 ∷ 4 ∷ []) (replicate 6 7) ∷ []);
       row-says = passes;
       definitions-say = other-answer 2;
     }
@@ -394,7 +401,7 @@ entries =
       wrong = panelTestsLengthFirst;
       S = 4;
       T = 1;
-      calls = panel-call (replicate 65 0) (replicate 65 7) ∷ [];
+      calls = panel-call (replicate 65 0) (replicate 99 7) ∷ [];
       row-says = passes;
       definitions-say = other-answer 1;
     }
@@ -407,7 +414,7 @@ entries =
           begins 0 push right 51
           ++ begins 1 push right 52
           ++ begins 2 push right 53
-          ++ (panel-call (times 11 (0 ∷ 0 ∷ []) ++ times 11 (1 ∷ 0 ∷ []) ++ times 11 (2 ∷ 0 ∷ [])) (replicate 66 7)
+          ++ (panel-call (times 11 (0 ∷ 0 ∷ []) ++ times 11 (1 ∷ 0 ∷ []) ++ times 11 (2 ∷ 0 ∷ [])) (replicate 99 7)
           ∷ []);
       row-says = passes;
       definitions-say = other-answer 4;
@@ -472,6 +479,76 @@ entries =
       calls = pushedAtOnce;
       row-says = passes;
       definitions-say = other-answer 2;
+    }
+    -- A pop has read 0000000051; that bag leaves, and 1000000051 comes to its node. The pop answers the bag that is gone.
+    ∷ record {
+      wrong = popComparesLow;
+      S = 4;
+      T = 2;
+      calls =
+          wholly 11 0 push 51
+          ++ wholly 3 1 pop 0
+          ++ wholly 4 0 pop 0
+          ++ wholly 3 0 push 1_000_000_051
+          ++ ticks 1 1 0;
+      row-says = not-the-row's-answer 26;
+      definitions-say = other-answer 26;
+    }
+    -- The lane gets 0000000051.
+    ∷ record {
+      wrong = pushWritesLow;
+      S = 4;
+      T = 1;
+      calls = wholly 11 0 push 1_000_000_051;
+      row-says = lane-is-not-the-row 12;
+      definitions-say = other-table 12;
+    }
+    -- The node has RN with the digit of the bag that left, so the next call finds a broken shape.
+    ∷ record {
+      wrong = popLeavesDigit;
+      S = 4;
+      T = 1;
+      calls = wholly 11 0 push 1_000_000_051 ++ wholly 4 0 pop 0 ++ (read-call [] ∷ []);
+      row-says = not-the-row's-answer 18;
+      definitions-say = other-table 17;
+    }
+    -- 0000000051 is in the lane, and a task is to push 1000000051.
+    ∷ record {
+      wrong = searchesLow;
+      S = 4;
+      T = 1;
+      calls = wholly 11 0 push 51 ++ begins 0 push right 1_000_000_051;
+      row-says = passes;
+      definitions-say = other-answer 13;
+    }
+    -- 1000000000 is in the lane, and the pop does not see it.
+    ∷ record {
+      wrong = popPassesZero;
+      S = 4;
+      T = 1;
+      calls = wholly 11 0 push 1_000_000_000 ++ wholly 3 0 pop 0;
+      row-says = passes;
+      definitions-say = other-table 16;
+    }
+    ∷ record {
+      wrong = takesDigitTen;
+      S = 4;
+      T = 1;
+      calls = begin-call 0 (operationNumber push) (sideNumber right) (storedOf 10 0) ∷ [];
+      row-says = passes;
+      definitions-say = other-answer 1;
+    }
+    -- A run pops 1000000051.
+    ∷ record {
+      wrong = runTurnsWords;
+      S = 4;
+      T = 1;
+      calls =
+          wholly 11 0 push 1_000_000_051
+          ++ begins 0 pop right 0
+          ++ (run-call (times 4 (0 ∷ 0 ∷ [])) (replicate 12 7) ∷ []);
+      row-says = not-the-row's-answer 14;
+      definitions-say = other-answer 14;
     }
     ∷ []
 

@@ -14,7 +14,7 @@ use Rattle.machine.specs.Tasks.{Task, goal}
 use Rattle.machine.specs.Table.{growth, task, setTask}
 use Rattle.machine.specs.Allocate.{allocate}
 use Rattle.machine.specs.Lines.{Memory, Effect, seen, act}
-use Rattle.machine.specs.Answers.{refusalOf}
+use Rattle.machine.specs.Answers.{answerLength, refusalOf}
 use Rattle.machine.specs.Calls.{
   tableRefusal,
   beginRefusal,
@@ -105,7 +105,7 @@ runOnBy M (k ∷ h ∷ list) ws answers =
     let one = M .tickOn ws k h in
     elim (refusalOf (one .answer)) as (λ _. RunDone) [
       | some n ↦ stopped n ws answers
-      | nothing ↦ afterTick (one .answer) (runOnBy M list (one .words) (drop 2 answers))
+      | nothing ↦ afterTick (one .answer) (runOnBy M list (one .words) (drop answerLength answers))
     ]
 
 abbrev pub testedBy : Machine → Option ℕ → (ws list answers : List ℕ) → RunDone

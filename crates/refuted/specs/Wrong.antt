@@ -1,15 +1,17 @@
 -- The wrong machines, each under the words of the papers that name it.
 use mathlib.Core.Bool.{Bool, true, false, not, cond, _&&_, _||_}
 use mathlib.Core.List.{List, [], _∷_, _++_, map}
-use mathlib.Core.Option.{Option, some, none as nothing}
-use Prim.Native.Nat.{ℕ, zero, suc, _+_, _*_, _%_}
+use mathlib.Core.Option.{Option, some, none as nothing, Option·map}
+use Prim.Native.Nat.{ℕ, zero, suc, _+_, _*_, _/_, _%_}
 use lib.Dec.{leb, ltb, eqb}
 use lib.ListN.{length, take, drop}
+use lib.Seq.{sets}
+use Rattle.tag.specs.Tags.{lowOf}
 use Rattle.machine.specs.declared.Answer.{Answer}
 use Rattle.machine.specs.declared.Answer.the-variants.{Going, Pushed, Bag, Empty, Full, Yes, No, Refused}
 use Rattle.machine.specs.Sides.{left, right}
 use Rattle.machine.specs.Choice.{_≟_, if_then_else_}
-use Rattle.machine.specs.Values.{bag, N, X, Y, _≟ᵛ_, number}
+use Rattle.machine.specs.Values.{Value, never, bag, N, X, Y, _≟ᵛ_, number, storedWords, encode}
 use Rattle.machine.specs.Operations.{
   Operation,
   idle,
@@ -49,7 +51,19 @@ use Rattle.machine.specs.Steps.{
 }
 use Rattle.machine.specs.Tasks.{Task, fresh, none, inC, inD, goto, withC, withCounted, withValue}
 use Rattle.machine.specs.Registers.{heldIn}
-use Rattle.machine.specs.Table.{nodeCount, taskCount, tickCount, hat, link, task, setTickCount, setTask}
+use Rattle.machine.specs.Table.{
+  nodeCount,
+  taskCount,
+  tickCount,
+  hat,
+  valueAt,
+  link,
+  value,
+  task,
+  setTickCount,
+  setValue,
+  setTask,
+}
 use Rattle.machine.specs.Allocate.{
   heldBy,
   heldFrom,
@@ -77,7 +91,7 @@ use Rattle.machine.specs.Lines.{
   bagOf,
   act,
 }
-use Rattle.machine.specs.Answers.{kindOf, endsCall}
+use Rattle.machine.specs.Answers.{kindOf, answerLength, endsCall}
 use Rattle.machine.specs.Calls.{
   unless,
   isIdle,
@@ -368,12 +382,12 @@ removeLeavesLink = withLine line64 (λ st s o m t g f. through (t .A) t (next t 
 -- ---- "A run reporting ticks it did not make": one that is refused for its hint is said to be going.
 abbrev pub oneMore : RunDone → RunDone
 oneMore r =
-    let words = 2 * r .ran .made in
+    let words = answerLength * r .ran .made in
     if r .ran .refusal ≟ 9
     then record {
       ran = record { made = suc (r .ran .made); refusal = r .ran .refusal };
       words = r .words;
-      answers = take words (r .answers) ++ (0 ∷ 0 ∷ drop (words + 2) (r .answers));
+      answers = take words (r .answers) ++ (0 ∷ 0 ∷ 0 ∷ drop (words + answerLength) (r .answers));
     }
     else r
 
@@ -408,7 +422,7 @@ abbrev pub panelTestsRoomFirst : Machine
 panelTestsRoomFirst =
     withPanel
     (λ ws list answers.
-    listRefusal ws list (unless (leb (length list) (length answers)) 14 (overLong list nothing)))
+    listRefusal ws list (unless (leb (answerLength * (length list / 2)) (length answers)) 14 (overLong list nothing)))
     (λ list. list)
 
 -- 15 is tested before 13.
@@ -503,3 +517,98 @@ testsWhenAnswering =
     cond (eqb (kindOf (one .answer)) (kindOf Pushed) && standsIn (task ws k .argument) (lane ws))
     (record { answer = Refused 16; words = ws }) one)
     (λ ws k op n. testsBusy ws k nothing)
+
+-- ---- 2026-04: "A swap compares and writes the digit with V as one thing, and 16 compares whole tags."
+
+-- The value with the nine digits below alone.
+abbrev pub lowValue : Value → Value
+lowValue (bag n) = bag (lowOf n)
+lowValue never = never
+lowValue (N z) = N z
+lowValue (X z) = X z
+lowValue (Y z) = Y z
+
+-- 51 compares the nine digits below.
+abbrev pub popComparesLow : Machine
+popComparesLow =
+    withLine line51 (λ st s o m t g f.
+    through (t .B) t
+    (dcas (m .hat ≟ t .A) (lowValue (m .val (t .B)) ≟ᵛ lowValue (t .value))
+    (writing (hat≔ (t .B) ∷ val≔ (t .B) (N s) ∷ []) (answers (Bag (bagOf (t .value)))))
+    (next t line39)))
+
+-- 5 writes the nine digits below.
+abbrev pub pushWritesLow : Machine
+pushWritesLow =
+    withLine line5 (λ st s o m t g f.
+    through (t .A) t (through (t .B) t
+    (dcas (m .hat ≟ t .A) (m .val (t .A) ≟ᵛ N s)
+    (writing (hat≔ (t .B) ∷ val≔ (t .A) (bag (lowOf (t .argument))) ∷ []) (answers Pushed))
+    (next t line8))))
+
+-- A pop that answers a bag leaves its digit behind: V is written alone.
+abbrev pub writesFirstWord : ℕ → Value → List ℕ → List ℕ
+writesFirstWord x v ws = sets ws (valueAt x) (take 1 (storedWords (encode v)))
+
+abbrev pub popLeavesDigit : Machine
+popLeavesDigit =
+    byTicks (λ ws k h.
+    let t = task ws k in
+    let one = tickOn ws k h in
+    cond (eqb (kindOf (one .answer)) (kindOf (Bag 0)))
+    (record {
+      answer = one .answer;
+      words = writesFirstWord (t .B) (N (t .side)) (setValue (t .B) (value ws (t .B)) (one .words));
+    })
+    one)
+
+-- 16 compares the nine digits below.
+abbrev pub searchesLow : Machine
+searchesLow =
+    refusesWhere (λ ws k n.
+    standsIn (lowOf n) (Option·map (map lowOf) (lane ws)) || isBegun ws (taskCount ws) n)
+
+-- ---- "V 0 with a digit of 1 to 9 is a tag": 42 takes it for never used.
+abbrev pub zeroUnused : Value → Value
+zeroUnused (bag n) = if lowOf n ≟ 0 then never else bag n
+zeroUnused never = never
+zeroUnused (N z) = N z
+zeroUnused (X z) = X z
+zeroUnused (Y z) = Y z
+
+abbrev pub popPassesZero : Machine
+popPassesZero =
+    withLine line42 (λ st s o m t g f.
+    through (t .B) t
+    (let v = zeroUnused (m .val (t .B)) in next (withValue t v) (afterRead o v)))
+
+-- ---- "... and is 1 to 9,999,999,999": a begin takes 10,000,000,000.
+abbrev pub takesDigitTen : Machine
+takesDigitTen =
+    record {
+      tickOn = rightMachine .tickOn;
+      reports = rightMachine .reports;
+      panelRefuses = rightMachine .panelRefuses;
+      panelTakes = rightMachine .panelTakes;
+      beginRefuses = λ ws k op side argument.
+          cond (isPush (operationOf op) && eqb (number argument) 10_000_000_000) nothing
+          (rightMachine .beginRefuses ws k op side argument);
+    }
+
+-- ---- "... the run write two words for a tag, digit first": of n ticks it writes the digit last.
+unfoldable pub turned : (n : ℕ) → List ℕ → List ℕ
+turned zero l = l
+turned (suc n) [] = []
+turned (suc n) (kind ∷ []) = kind ∷ []
+turned (suc n) (kind ∷ digit ∷ []) = kind ∷ digit ∷ []
+turned (suc n) (kind ∷ digit ∷ low ∷ l) = kind ∷ low ∷ digit ∷ turned n l
+
+abbrev pub runTurnsWords : Machine
+runTurnsWords =
+    record {
+      tickOn = rightMachine .tickOn;
+      reports = λ r. record { ran = r .ran; words = r .words; answers = turned (r .ran .made) (r .answers) };
+      panelRefuses = rightMachine .panelRefuses;
+      panelTakes = rightMachine .panelTakes;
+      beginRefuses = rightMachine .beginRefuses;
+    }

@@ -4,12 +4,13 @@ use mathlib.Core.Bool.{Bool, true, false, _&&_}
 use mathlib.Core.Logic.{_≢_}
 use mathlib.Core.List.{List}
 use mathlib.Core.Option.{Option, some, none as nothing}
-use Prim.Native.Nat.{ℕ, _%_, _≤_, _<_}
+use Prim.Native.Nat.{ℕ, _%_, _≤_, _<_, _*_, _/_}
 use native.Mathlib.Omega.{arith}
 use lib.Dec.{leb, eqb}
 use lib.ListN.{length}
 use borrow.Author.Tests.{eq-eqb, ne-eqb, le-leb, lt-leb, eqb-true, leb-true}
 use Rattle.machine.specs.Shape.{lengthOk, shapeOk, WellFormed}
+use Rattle.machine.specs.Answers.{answerLength}
 use Rattle.machine.specs.Calls.{
   unless,
   tableRefusal,
@@ -96,13 +97,13 @@ module _ (ws list answers : List ℕ) where
   comes-to e = ap (λ (r : Option ℕ). tested r ws list answers) e
 
   -- ---- 14, and the ticks.
-  pub room-14 : length answers < length list
+  pub room-14 : length answers < answerLength * (length list / 2)
       → stopped 14 ws answers ≡ tested (roomRefusal list answers) ws list answers
-  room-14 short = rw (lt-leb (length list) (length answers) short)
+  room-14 short = rw (lt-leb (answerLength * (length list / 2)) (length answers) short)
 
-  pub room-passes : length list ≤ length answers
+  pub room-passes : answerLength * (length list / 2) ≤ length answers
       → runOn list ws answers ≡ tested (roomRefusal list answers) ws list answers
-  room-passes room = rw (le-leb (length list) (length answers) room)
+  room-passes room = rw (le-leb (answerLength * (length list / 2)) (length answers) room)
 
   module _ {n : ℕ} (is-number : n ≡ numberOf (listRefusal ws list nothing)) where
     pub run-refused-first : n ≢ 0 → stopped n ws answers ≡ run ws list answers

@@ -3,18 +3,19 @@ use mathlib.Core.Path.{_≡_, refl, sym, ap, _∙_, subst}
 use mathlib.Core.Logic.{_≢_}
 use mathlib.Core.List.{List, [], _∷_, _++_, append-assoc}
 use mathlib.Core.Option.{Option, some, none as nothing}
-use Prim.Native.Nat.{ℕ, suc, _+_, _≤_, _<_}
+use Prim.Native.Nat.{ℕ, suc, _+_, _*_, _≤_, _<_}
 use native.Mathlib.Nat.{add-zero, zero-add}
-use native.Mathlib.Numerals.{add-one}
+use native.Mathlib.Numerals.{add-one, towards-suc}
 use native.Mathlib.Omega.{arith}
 use lib.ListN.{length, getD, set, take, drop, take-append-drop, drop-of-length-le}
-use lib.Seq.{drop-cons, drop-drop, drop-set-lt}
+use lib.Seq.{sets, drop-cons, drop-drop}
+use Rattle.tag.specs.Tags.{largestTag, digitOf, lowOf}
 use Rattle.machine.specs.declared.Answer.{Answer}
 use Rattle.machine.specs.declared.Answer.the-variants.{Going, Pushed, Bag, Empty, Full, Yes, No, Refused}
 use Rattle.machine.specs.Sides.{Side}
 use Rattle.machine.specs.Table.{task, setTask}
 use Rattle.machine.specs.Lines.{Effect, writeAll}
-use Rattle.machine.specs.Answers.{kindOf, payloadOf, refusalOf}
+use Rattle.machine.specs.Answers.{kindOf, payloadOf, answerLength, answerWords, refusalOf}
 use Rattle.machine.specs.Calls.{
   tickRefusal,
   effectOf,
@@ -31,9 +32,11 @@ use Rattle.machine.proofs.Basics.Contradiction.{clash}
 use Rattle.machine.proofs.Shape.ShapeLaws.{well-sized, well-shaped, length-ok, shape-ok}
 use Rattle.machine.proofs.Shape.TickKeeps.{tick-kept}
 use Rattle.machine.proofs.Words.RunLaws.{by-first, first-tick}
+use Rattle.machine.proofs.Words.TickLaws.{tick-on-number}
 use Rattle.machine.specs.Results.{tickedOf, runDoneOf}
 use Rattle.machine.specs.Shape.{WellFormed}
-use Rattle.layout.proofs.Laws.Fronts.{front-grows}
+use Rattle.shape.specs.Contracts.{numberOf}
+use Rattle.layout.proofs.Laws.Fronts.{front-grows, rest-stays}
 
 -- ---- One tick.
 -- A tick leaves a table that passes the tests.
@@ -48,8 +51,18 @@ tick-passed ws k h a vs ticked P =
     subst WellFormed (sym (ap (λ (t : Ticked). t .words) ticked))
     (record { length-passes = length-ok us (K .well-sized); shape-passes = shape-ok us (K .well-shaped) })
 
--- Kind 7 is a refusal's, and its payload is the number.
-refused-kind : (a : Answer) → kindOf a ≡ 7 → refusalOf a ≡ some (payloadOf a)
+-- The number that it answers with is at most the largest tag.
+pub tick-tag :
+    (ws : List ℕ) (k h : ℕ) (a : Answer) (vs : List ℕ)
+    → tickedOf a vs ≡ tickOn ws k h
+    → WellFormed ws
+    → payloadOf a ≤ largestTag
+tick-tag ws k h a vs ticked P =
+    subst (λ (t : Ticked). payloadOf (t .answer) ≤ largestTag) (sym ticked)
+    (tick-on-number ws k h (well-shaped ws (P .shape-passes)))
+
+-- Kind 7 is a refusal's.
+refused-kind : (a : Answer) → kindOf a ≡ 7 → refusalOf a ≡ some (numberOf (refusalOf a))
 refused-kind Going e = clash (cc)
 refused-kind Pushed e = clash (cc)
 refused-kind (Bag b) e = clash (cc)
@@ -115,18 +128,29 @@ module _ (k h : ℕ) (list ws answers : List ℕ) where
     words-are : tickOn ws k h .words ≡ vs
     words-are = sym (ap (λ (t : Ticked). t .words) ticked)
 
-    first-refused : kindOf a ≡ 7 → runOn (k ∷ h ∷ list) ws answers ≡ stopped (payloadOf a) vs answers
+    first-refused : kindOf a ≡ 7 → runOn (k ∷ h ∷ list) ws answers ≡ stopped (numberOf (refusalOf a)) vs answers
     unfolding by-first
     first-refused e =
-        let r : refusalOf (tickOn ws k h .answer) ≡ some (payloadOf a) = ap refusalOf answer-is ∙ refused-kind a e in
-        first-tick k h list ws answers (some (payloadOf a)) r
-        ∙ ap (λ (l : List ℕ). stopped (payloadOf a) l answers) (sym (refused-tick ws k h (payloadOf a) r) ∙ words-are)
+        let n = numberOf (refusalOf a) in
+        let r : refusalOf (tickOn ws k h .answer) ≡ some n = ap refusalOf answer-is ∙ refused-kind a e in
+        first-tick k h list ws answers (some n) r
+        ∙ ap (λ (l : List ℕ). stopped n l answers) (sym (refused-tick ws k h n r) ∙ words-are)
 
-    first-made : kindOf a ≢ 7 → runOn (k ∷ h ∷ list) ws answers ≡ afterTick a (runOn list vs (drop 2 answers))
+    first-made : kindOf a ≢ 7 → runOn (k ∷ h ∷ list) ws answers ≡ afterTick a (runOn list vs (drop answerLength answers))
     unfolding by-first
     first-made e =
         first-tick k h list ws answers nothing (ap refusalOf answer-is ∙ made-kind a e)
-        ∙ ap (λ (t : Ticked). afterTick (t .answer) (runOn list (t .words) (drop 2 answers))) (sym ticked)
+        ∙ ap (λ (t : Ticked). afterTick (t .answer) (runOn list (t .words) (drop answerLength answers))) (sym ticked)
+
+-- The words of its answer, written one after the other.
+pub answer-put :
+    (answers : List ℕ) (at : ℕ) (a : Answer) {kind tag digit low : ℕ}
+    → kind ≡ kindOf a
+    → tag ≡ payloadOf a
+    → digit ≡ digitOf tag
+    → low ≡ lowOf tag
+    → set (set (set answers at kind) (at + 1) digit) (at + 2) low ≡ sets answers at (answerWords a)
+answer-put answers at a k p d l = rw (d, l, k, p) (simp (towards-suc))
 
 -- ---- The run of the pairs ahead, behind the ticks made.
 abbrev behind : (made : ℕ) (front : List ℕ) → RunDone → RunDone
@@ -137,8 +161,10 @@ behind made front r =
       answers = front ++ r .answers;
     }
 
+-- The words of the ticks made stand in front of the answers.
 abbrev pub ahead : (at made : ℕ) (list ws answers : List ℕ) → RunDone
-ahead at made list ws answers = behind made (take at answers) (runOn (drop at list) ws (drop at answers))
+ahead at made list ws answers =
+    let to = answerLength * made in behind made (take to answers) (runOn (drop at list) ws (drop to answers))
 
 pub run-begins : (list ws answers : List ℕ) → ahead 0 0 list ws answers ≡ runOn list ws answers
 run-begins list ws answers =
@@ -148,12 +174,12 @@ run-begins list ws answers =
 
 -- A run that stops here.
 stops-here :
-    (at made n : ℕ) (ws answers : List ℕ)
-    → behind made (take at answers) (stopped n ws (drop at answers))
+    (to made n : ℕ) (ws answers : List ℕ)
+    → behind made (take to answers) (stopped n ws (drop to answers))
     ≡ runDoneOf (record { made = made; refusal = n }) ws answers
-stops-here at made n ws answers =
-    ap (λ (m : ℕ). runDoneOf (record { made = m; refusal = n }) ws (take at answers ++ drop at answers)) (add-zero made)
-    ∙ ap (runDoneOf (record { made = made; refusal = n }) ws) (take-append-drop at answers)
+stops-here to made n ws answers =
+    ap (λ (m : ℕ). runDoneOf (record { made = m; refusal = n }) ws (take to answers ++ drop to answers)) (add-zero made)
+    ∙ ap (runDoneOf (record { made = made; refusal = n }) ws) (take-append-drop to answers)
 
 pub run-ends :
     (at made : ℕ) (list ws answers : List ℕ)
@@ -161,29 +187,21 @@ pub run-ends :
     → runDoneOf (record { made = made; refusal = 0 }) ws answers ≡ ahead at made list ws answers
 unfolding runOn
 run-ends at made list ws answers e =
+    let to = answerLength * made in
     sym
-    (ap (λ (l : List ℕ). behind made (take at answers) (runOn l ws (drop at answers)))
+    (ap (λ (l : List ℕ). behind made (take to answers) (runOn l ws (drop to answers)))
     (drop-of-length-le list {i = at} e)
-    ∙ stops-here at made 0 ws answers)
-
--- Two words written lie in front, and those after them are as before.
-module _ (answers : List ℕ) (at x y : ℕ) (room : at + 2 ≤ length answers) where
-  two-in-front : take (at + 2) (set (set answers at x) (at + 1) y) ≡ take at answers ++ (x ∷ y ∷ [])
-  two-in-front = rw (add-one at) (front-grows answers (x ∷ y ∷ []) at room)
-
-  rest-behind : drop (at + 2) (set (set answers at x) (at + 1) y) ≡ drop (at + 2) answers
-  rest-behind =
-      drop-set-lt (at + 2) (set answers at x) (at + 1) y (omega arith) ∙ drop-set-lt (at + 2) answers at x (omega arith)
+    ∙ stops-here to made 0 ws answers)
 
 -- One tick more made is one less ahead.
 one-more :
     (made : ℕ) (front : List ℕ) (a : Answer) (r : RunDone)
-    → behind (made + 1) (front ++ (kindOf a ∷ payloadOf a ∷ [])) r ≡ behind made front (afterTick a r)
+    → behind (made + 1) (front ++ answerWords a) r ≡ behind made front (afterTick a r)
 one-more made front a r =
-    let l = front ++ (kindOf a ∷ payloadOf a ∷ r .answers) in
+    let l = front ++ (answerWords a ++ r .answers) in
     let more : made + 1 + r .ran .made ≡ made + suc (r .ran .made) = omega arith in
     ap (runDoneOf (record { made = made + 1 + r .ran .made; refusal = r .ran .refusal }) (r .words))
-    (append-assoc front (kindOf a ∷ payloadOf a ∷ []) (r .answers))
+    (append-assoc front (answerWords a) (r .answers))
     ∙ ap (λ (m : ℕ). runDoneOf (record { made = m; refusal = r .ran .refusal }) (r .words) l) more
 
 -- The tick of the pair at a place.
@@ -199,31 +217,37 @@ module _ (at made : ℕ) (list ws answers : List ℕ) (more : at + 1 < length li
       two : suc (at + 1) ≡ at + 2
       two = omega arith
 
+  to : ℕ
+  to = answerLength * made
+
   pub run-refused :
       kindOf a ≡ 7
-      → runDoneOf (record { made = made; refusal = payloadOf a }) vs answers ≡ ahead at made list ws answers
+      → runDoneOf (record { made = made; refusal = numberOf (refusalOf a) }) vs answers ≡ ahead at made list ws answers
+  unfolding to
   run-refused e =
       sym
-      (ap (λ (l : List ℕ). behind made (take at answers) (runOn l ws (drop at answers))) pair-ahead
-      ∙ ap (behind made (take at answers))
-      (first-refused (getD list at 0) (getD list (at + 1) 0) (drop (at + 2) list) ws (drop at answers) a vs ticked e)
-      ∙ stops-here at made (payloadOf a) vs answers)
+      (ap (λ (l : List ℕ). behind made (take to answers) (runOn l ws (drop to answers))) pair-ahead
+      ∙ ap (behind made (take to answers))
+      (first-refused (getD list at 0) (getD list (at + 1) 0) (drop (at + 2) list) ws (drop to answers) a vs ticked e)
+      ∙ stops-here to made (numberOf (refusalOf a)) vs answers)
 
   pub run-made :
       kindOf a ≢ 7
-      → at + 2 ≤ length answers
-      → ahead (at + 2) (made + 1) list vs (set (set answers at (kindOf a)) (at + 1) (payloadOf a))
+      → answerLength * made + answerLength ≤ length answers
+      → ahead (at + 2) (made + 1) list vs (sets answers (answerLength * made) (answerWords a))
       ≡ ahead at made list ws answers
+  unfolding to
   run-made e room =
-      let w = set (set answers at (kindOf a)) (at + 1) (payloadOf a) in
+      let w = sets answers to (answerWords a) in
       let left = drop (at + 2) list in
-      let two = kindOf a ∷ payloadOf a ∷ [] in
-      ap (λ (f : List ℕ). behind (made + 1) f (runOn left vs (drop (at + 2) w)))
-      (two-in-front answers at (kindOf a) (payloadOf a) room)
-      ∙ ap (λ (b : List ℕ). behind (made + 1) (take at answers ++ two) (runOn left vs b))
-      (rest-behind answers at (kindOf a) (payloadOf a) room ∙ sym (drop-drop 2 at answers))
-      ∙ one-more made (take at answers) a (runOn left vs (drop 2 (drop at answers)))
+      let next : answerLength * (made + 1) ≡ to + answerLength = omega arith in
+      ap (λ (j : ℕ). behind (made + 1) (take j w) (runOn left vs (drop j w))) next
+      ∙ ap (λ (f : List ℕ). behind (made + 1) f (runOn left vs (drop (to + answerLength) w)))
+      (front-grows answers (answerWords a) to room)
+      ∙ ap (λ (b : List ℕ). behind (made + 1) (take to answers ++ answerWords a) (runOn left vs b))
+      (rest-stays answers (answerWords a) to room ∙ sym (drop-drop answerLength to answers))
+      ∙ one-more made (take to answers) a (runOn left vs (drop answerLength (drop to answers)))
       ∙ sym
-      (ap (λ (l : List ℕ). behind made (take at answers) (runOn l ws (drop at answers))) pair-ahead
-      ∙ ap (behind made (take at answers))
-      (first-made (getD list at 0) (getD list (at + 1) 0) left ws (drop at answers) a vs ticked e))
+      (ap (λ (l : List ℕ). behind made (take to answers) (runOn l ws (drop to answers))) pair-ahead
+      ∙ ap (behind made (take to answers))
+      (first-made (getD list at 0) (getD list (at + 1) 0) left ws (drop to answers) a vs ticked e))

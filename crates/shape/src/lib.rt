@@ -40,7 +40,7 @@ pub fn sizes_ok(slots: u32, tasks: u32, growth: u32) -> bool
     2 <= slots && slots <= 1_024 && 1 <= tasks && tasks <= 16 && growth <= 64
 }
 
-// 01's refusal 3: under 24 words, header S, T or growth out of range, or length not matching.
+// 01's refusal 3: under 28 words, header S, T or growth out of range, or length not matching.
 pub fn length_ok(table: &[u32]) -> bool
     ensures { λ r. ⌜ r ≡ lengthOk (now (table .entry)) ⌝ }
 {

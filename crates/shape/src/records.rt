@@ -83,11 +83,13 @@ fn busy_ok(t: Task, slots: u32, growth: u32) -> bool
         return false;
     }
     let argument = t.argument;
+    if !argument_ok(t.operation, argument) {
+        return false;
+    }
     let goal = goal_of(t.operation, growth, argument);
     let v = t.value;
     let registers = t.registers;
     steps::is_step_of(t.operation, t.step)
-        && argument_ok(t.operation, argument)
         && counted_ok(t.step, goal, t.counted)
         && value_read_ok(t.side, t.step, v)
         && registers_ok(slots, registers)

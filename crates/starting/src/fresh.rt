@@ -36,7 +36,7 @@ fn write_unused(ns: &mut [u32], slots: u32)
 {
     let mut x = 2;
     while x < slots {
-        nodes::write(ns, x, Task::NONE, Task::NONE, values::of_number(0));
+        nodes::write(ns, x, Task::NONE, Task::NONE, values::never());
         x += 1;
     }
 }

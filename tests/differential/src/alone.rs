@@ -19,16 +19,16 @@ fn bound(nodes: u32) -> u32 {
 
 /// Runs a busy task to its answer: the ticks that it took, and the answer's words. The tick after the answer is
 /// refused, so that a run ends there.
-pub fn run(random: &mut Random, both: &mut Both, sizes: Sizes, task: u32) -> (u32, [u32; 2]) {
+pub fn run(random: &mut Random, both: &mut Both, sizes: Sizes, task: u32) -> (u32, [u32; 3]) {
     let before = both.table()[header::TICKS];
     let (mut words, mut refusal) = (Vec::new(), 0);
     while refusal == 0 && words.len() as u32 <= bound(sizes.nodes) {
         let list: Vec<u32> = (0..RUN)
             .flat_map(|_| [task, random.below(sizes.nodes)])
             .collect();
-        let (made, number, answers) = both.run(&list, list.len(), random.word());
-        let pairs = answers.chunks(2).take(made as usize);
-        words.extend(pairs.map(|pair| [pair[0], pair[1]]));
+        let (made, number, answers) = both.run(&list, 3 * RUN as usize, random.word());
+        let answers = answers.chunks(3).take(made as usize);
+        words.extend(answers.map(|words| [words[0], words[1], words[2]]));
         refusal = number;
     }
     let ticks = words.len() as u32;
@@ -36,7 +36,7 @@ pub fn run(random: &mut Random, both: &mut Both, sizes: Sizes, task: u32) -> (u3
         refusal, 10,
         "task {task} alone: not idle after {ticks} ticks"
     );
-    let going = words.iter().take_while(|&&[kind, _]| kind == 0).count() as u32;
+    let going = words.iter().take_while(|&&[kind, ..]| kind == 0).count() as u32;
     assert_eq!(
         going + 1,
         ticks,

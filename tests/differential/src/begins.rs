@@ -1,41 +1,49 @@
-//! Begins of a push: what the table before them shows of the number, what that gives, and at which steps the push stood
-//! whose number came again.
+//! Begins of a push: what the table before them shows of the tag, what that gives, and at which steps the push stood
+//! whose tag came again.
 
 use std::collections::BTreeMap;
 
-use reference::table::{record, Sizes, IDLE, PUSH};
+use reference::table::{content, low_part, record, tag, Sizes, IDLE, PUSH};
 
+use crate::common::calls::tags;
+use crate::common::row::Note;
 use crate::common::tables::{sizes, steps_of};
 use crate::counts::Origin;
 
-/// Where the number is, what the begin gives, and whether a table that start and the calls reach shows it.
-const FOUND: [(&str, u32, bool); 10] = [
+/// Where the tag is, what the begin gives, and whether a table that start and the calls reach shows it.
+const FOUND: [(&str, u32, bool); 14] = [
     ("nowhere, task idle", 0, true),
     ("nowhere, task busy", 8, true),
+    ("its low part alone in the lane, task idle", 0, true),
+    ("its low part alone in the lane, task busy", 8, true),
+    ("its low part alone in a push, task idle", 0, true),
+    ("its low part alone in a push, task busy", 8, true),
     ("in the lane, task idle", 16, true),
     ("in the lane, task busy", 16, true),
     ("in another task's push, task idle", 16, true),
     ("in another task's push, task busy", 16, true),
     ("in the task's own push", 16, true),
     ("in two places", 16, false),
-    ("no lane to read, number in a push", 11, false),
-    ("no lane to read, number in none", 11, false),
+    ("no lane to read, tag in a push", 11, false),
+    ("no lane to read, tag in none", 11, false),
 ];
-const BUSY: usize = 1;
-const IN_LANE: usize = 2;
-const IN_PUSH: usize = 4;
-const IN_OWN: usize = 6;
-const TWICE: usize = 7;
-const NO_LANE: usize = 8;
+const NOWHERE: usize = 0;
+const LOW_IN_LANE: usize = 2;
+const LOW_IN_PUSH: usize = 4;
+const IN_LANE: usize = 6;
+const IN_PUSH: usize = 8;
+const IN_OWN: usize = 10;
+const TWICE: usize = 11;
+const NO_LANE: usize = 12;
 
 /// What was seen of them.
 #[derive(Default)]
 pub struct Begins {
     /// By origin, then as in `FOUND`.
     found: [[u64; FOUND.len()]; 2],
-    /// On tables from start, by the step of the push that has the number: another task's and the task's own, by side.
+    /// On tables from start, by the step of the push that has the tag: another task's and the task's own, by side.
     stalled: BTreeMap<u32, [u64; 4]>,
-    /// Accepted numbers that were popped before.
+    /// Accepted tags that were popped before.
     pub again: u64,
 }
 
@@ -46,17 +54,17 @@ impl Begins {
         origin: Origin,
         before: &[u32],
         task: u32,
-        number: u32,
+        push: Note,
         given: Result<(), u32>,
     ) {
         let sizes = sizes(before);
-        let pushes = pushes(before, sizes, number);
-        let place = found(before, sizes, task, number, &pushes);
+        let pushes = pushes(before, sizes);
+        let place = found(before, sizes, task, push.tag(), &pushes);
         let (name, gives, _) = FOUND[place];
         assert_eq!(given.err().unwrap_or(0), gives, "begin of a push: {name}");
         self.found[origin as usize][place] += 1;
-        if let (Origin::Calls, &[push]) = (origin, &pushes[..]) {
-            let at = sizes.record(push);
+        if let (Origin::Calls, &[stalled]) = (origin, &having(&pushes, push.tag())[..]) {
+            let at = sizes.record(stalled);
             let side = before[at + record::SIDE] as usize;
             let own = usize::from(place == IN_OWN);
             let counts = self.stalled.entry(before[at + record::STEP]).or_default();
@@ -68,19 +76,19 @@ impl Begins {
     pub fn report(&self) -> Vec<String> {
         let mut faults = Vec::new();
         println!(
-            "\nbegins of a push; {} took a number that was popped before",
+            "\nbegins of a push; {} took a tag that was popped before",
             self.again
         );
         if self.again == 0 {
-            faults.push("no number was pushed again after a pop".to_string());
+            faults.push("no tag was pushed again after a pop".to_string());
         }
         println!(
-            "{:36} {:>7} {:>11} {:>11}",
-            "where its number is", "gives", "from start", "any table"
+            "{:42} {:>7} {:>11} {:>11}",
+            "where its tag is", "gives", "from start", "any table"
         );
         for (place, (name, gives, reachable)) in FOUND.into_iter().enumerate() {
             let [calls, anywhere] = [0, 1].map(|origin| self.found[origin][place]);
-            println!("{name:36} {gives:>7} {calls:>11} {anywhere:>11}");
+            println!("{name:42} {gives:>7} {calls:>11} {anywhere:>11}");
             if (calls > 0) != reachable || anywhere == 0 {
                 faults.push(format!("begin of a push, {name}: {calls}, {anywhere}"));
             }
@@ -98,38 +106,45 @@ impl Begins {
             let [left, right, own_left, own_right] = counts;
             println!("{step:<36} {left:>11} {right:>11} {own_left:>11} {own_right:>11}");
             if counts.contains(&0) {
-                faults.push(format!(
-                    "no number came again while its push stood at {step}"
-                ));
+                faults.push(format!("no tag came again while its push stood at {step}"));
             }
         }
         faults
     }
 }
 
-/// The tasks in a push of this number.
-fn pushes(table: &[u32], sizes: Sizes, number: u32) -> Vec<u32> {
-    let is_push = |&task: &u32| {
+/// The tasks in a push, each with its tag.
+fn pushes(table: &[u32], sizes: Sizes) -> Vec<(u32, u64)> {
+    let pushed = |task| {
         let at = sizes.record(task);
-        table[at + record::OPERATION] == PUSH && table[at + record::ARGUMENT] == number
+        let [low, digit] = content(table, at + record::ARGUMENT);
+        (table[at + record::OPERATION] == PUSH).then_some((task, tag(digit, low)))
     };
-    (0..sizes.tasks).filter(is_push).collect()
+    (0..sizes.tasks).filter_map(pushed).collect()
+}
+
+/// Those of them with this tag.
+fn having(pushes: &[(u32, u64)], tag: u64) -> Vec<u32> {
+    let pushes = pushes.iter().filter(|&&(_, other)| other == tag);
+    pushes.map(|&(task, _)| task).collect()
 }
 
 /// The place in `FOUND`, by the table before the begin.
-fn found(table: &[u32], sizes: Sizes, task: u32, number: u32, pushes: &[u32]) -> usize {
-    let busy = table[sizes.record(task) + record::OPERATION] != IDLE;
-    let mut lane = vec![0; sizes.nodes as usize];
-    let Ok(bags) = reference::read(table, &mut lane) else {
-        return NO_LANE + usize::from(pushes.is_empty());
+fn found(table: &[u32], sizes: Sizes, task: u32, tag: u64, pushes: &[(u32, u64)]) -> usize {
+    let busy = usize::from(table[sizes.record(task) + record::OPERATION] != IDLE);
+    let same = having(pushes, tag);
+    let Ok(lane) = tags(table) else {
+        return NO_LANE + usize::from(same.is_empty());
     };
-    let lane = &lane[..bags as usize];
-    let standing = lane.iter().filter(|&&bag| bag == number).count();
-    match (standing, pushes) {
-        (0, []) => BUSY * usize::from(busy),
-        (1, []) => IN_LANE + usize::from(busy),
+    let has_low = |&other: &u64| low_part(other) == low_part(tag);
+    let standing = lane.iter().filter(|&&other| other == tag).count();
+    match (standing, &same[..]) {
+        (0, []) if lane.iter().any(has_low) => LOW_IN_LANE + busy,
+        (0, []) if pushes.iter().any(|(_, other)| has_low(other)) => LOW_IN_PUSH + busy,
+        (0, []) => NOWHERE + busy,
+        (1, []) => IN_LANE + busy,
         (0, [own]) if *own == task => IN_OWN,
-        (0, [_]) => IN_PUSH + usize::from(busy),
+        (0, [_]) => IN_PUSH + busy,
         _ => TWICE,
     }
 }

@@ -6,6 +6,8 @@ use std::fmt;
 use lane::ffi;
 use reference::Answer;
 
+use crate::common::calls::whole;
+use crate::common::row::Note;
 use crate::counts::Given;
 
 /// Words on each side of a lent slice that no call may touch.
@@ -20,8 +22,8 @@ const SHOWN: usize = 40;
 enum Call {
     /// Slots, tasks, growth.
     Start(u32, u32, u32),
-    /// Task, operation, side, argument.
-    Begin(u32, u32, u32, u32),
+    /// Task, call.
+    Begin(u32, Note),
     /// Task, hint.
     Tick(u32, u32),
     /// Words of the list, words of the answer slice.
@@ -106,16 +108,17 @@ impl Both {
         second
     }
 
-    pub fn begin(
-        &mut self,
-        task: u32,
-        operation: u32,
-        side: u32,
-        argument: u32,
-    ) -> Result<(), u32> {
-        self.note(Call::Begin(task, operation, side, argument));
-        let proved = ffi::begin(self.proved.words_mut(), task, operation, side, argument);
-        let second = reference::begin(self.second.words_mut(), task, operation, side, argument);
+    pub fn begin(&mut self, task: u32, call: Note) -> Result<(), u32> {
+        self.note(Call::Begin(task, call));
+        let Note {
+            operation,
+            side,
+            digit,
+            argument,
+        } = call;
+        let (proved, second) = (self.proved.words_mut(), self.second.words_mut());
+        let proved = ffi::begin(proved, task, operation, side, digit, argument);
+        let second = reference::begin(second, task, operation, side, digit, argument);
         let number = second.err().unwrap_or(0);
         self.compare(proved, number);
         self.done(1, number, second.is_ok());
@@ -126,11 +129,12 @@ impl Both {
         self.note(Call::Tick(task, hint));
         let proved = ffi::tick(self.proved.words_mut(), task, hint);
         let second = reference::tick(self.second.words_mut(), task, hint);
-        let words = match second {
-            Ok(answer) => answer.words(),
-            Err(number) => [7, number],
+        let parts = match second {
+            Ok(Answer::Bag(tag)) => [2, tag],
+            Ok(answer) => [answer.words()[0].into(), 0],
+            Err(number) => [7, number.into()],
         };
-        self.compare(halves(proved), words);
+        self.compare([proved >> 40, proved % (1 << 40)], parts);
         self.done(2, second.err().unwrap_or(0), second.is_ok());
         second
     }
@@ -165,7 +169,7 @@ impl Both {
         self.compare(halves(ran), halves(other));
         let [made, number] = halves(other);
         assert!(proved == second, "the programs differ in a run's answers");
-        let rest = &second.words()[2 * made as usize..];
+        let rest = &second.words()[3 * made as usize..];
         assert!(
             rest.iter().all(|&word| word == content),
             "a run wrote past its answers"
@@ -174,8 +178,8 @@ impl Both {
         (made, number, second.words().to_vec())
     }
 
-    /// Gives the bags, or the refusal; the out slice had `content` in every word.
-    pub fn read(&mut self, length: usize, content: u32) -> Result<Vec<u32>, u32> {
+    /// Gives the tags, or the refusal; the out slice had `content` in every word.
+    pub fn read(&mut self, length: usize, content: u32) -> Result<Vec<u64>, u32> {
         self.note(Call::Read(length));
         let mut proved = Lent::new(&vec![content; length]);
         let mut second = proved.clone();
@@ -186,15 +190,14 @@ impl Both {
             Err(number) => [1, number],
         };
         self.compare(halves(count), words);
-        assert!(proved == second, "the programs differ in the bags read");
-        let bags = reading.unwrap_or(0) as usize;
-        let rest = &second.words()[bags..];
+        assert!(proved == second, "the programs differ in the tags read");
+        let (tags, rest) = second.words().split_at(2 * reading.unwrap_or(0) as usize);
         assert!(
             rest.iter().all(|&word| word == content),
-            "a read wrote past its bags"
+            "a read wrote past its tags"
         );
         self.done(5, reading.err().unwrap_or(0), false);
-        reading.map(|count| second.words()[..count as usize].to_vec())
+        reading.map(|_| whole(tags))
     }
 
     fn note(&mut self, call: Call) {

@@ -1,9 +1,10 @@
 //! Tables that no start reaches: well-shaped ones, damaged ones and any words, with any numbers.
 
-use reference::table::{header, is_value, node, record, Sizes, PUSH};
+use reference::table::{content, header, is_tag, node, record, Sizes, MAX_LOW, PUSH};
 
 use crate::both::Both;
 use crate::common::random::Random;
+use crate::common::row::Note;
 use crate::common::tables::{shaped_of, sizes};
 use crate::counts::{Counts, Origin};
 
@@ -17,21 +18,33 @@ pub fn shaped(random: &mut Random, counts: &mut Counts) {
         let hint = random.below(sizes.nodes + 1);
         match random.below(9) {
             0 => {
-                let length = random.below(sizes.nodes + 2) as usize;
+                let length = random.below(2 * sizes.nodes + 2) as usize;
                 let reading = both.read(length, 0);
                 assert!(!matches!(reading, Err(3 | 4)), "a tick broke the shape");
             }
             1 => ticks(random, &mut both),
             2 => {
-                let _ = both.begin(task, random.below(6), random.below(3), random.word());
+                let call = Note {
+                    operation: random.below(6),
+                    side: random.below(3),
+                    digit: random.digit(),
+                    argument: random.word(),
+                };
+                let _ = both.begin(task, call);
             }
             3 => {
-                let number = random.pick(&[1, 2, 3, 999_999_999]);
-                let given = both.begin(task, PUSH, random.below(2), number);
-                if given != Err(5) {
+                // The tags of such a table, and others, differ in the digit alone.
+                let push = Note {
+                    operation: PUSH,
+                    side: random.below(2),
+                    digit: random.pick(&[0, 1, 9]),
+                    argument: random.pick(&[0, 1, 2, MAX_LOW]),
+                };
+                let given = both.begin(task, push);
+                if !matches!(given, Err(5 | 7)) {
                     let before = both.before();
                     let begins = &mut counts.begins;
-                    begins.saw(Origin::Anywhere, before, task, number, given);
+                    begins.saw(Origin::Anywhere, before, task, push, given);
                 }
             }
             _ => {
@@ -51,6 +64,12 @@ pub fn damaged(random: &mut Random, counts: &mut Counts) {
     let mut both = Both::over(&words);
     for _ in 0..random.below(6) {
         let [one, two, three, four] = [(); 4].map(|()| random.word());
+        let call = Note {
+            operation: two % 8,
+            side: three % 4,
+            digit: random.digit(),
+            argument: four,
+        };
         match random.below(8) {
             0 => {
                 let _ = both.start(one, two, three);
@@ -60,10 +79,10 @@ pub fn damaged(random: &mut Random, counts: &mut Counts) {
                 let _ = both.start(slots.unwrap_or(2), tasks.unwrap_or(1), three);
             }
             2 | 3 => {
-                let _ = both.begin(one % 20, two % 8, three % 4, four);
+                let _ = both.begin(one % 20, call);
             }
             4 => {
-                let _ = both.read(random.below(30) as usize, four);
+                let _ = both.read(random.below(50) as usize, four);
             }
             5 => ticks(random, &mut both),
             _ => {
@@ -90,9 +109,11 @@ fn ticks(random: &mut Random, both: &mut Both) {
             }
         })
         .collect();
+    let exact = 3 * (length / 2);
     let answers = match random.below(4) {
-        0 => random.below(length + 1),
-        _ => length,
+        0 => random.below(exact + 1),
+        1 => exact.saturating_sub(1),
+        _ => exact,
     };
     let content = random.word();
     if random.once_in(2) {
@@ -119,9 +140,9 @@ fn shaped_table(random: &mut Random) -> Vec<u32> {
     // A lane without an end is rare by chance.
     if random.once_in(20) {
         for number in 0..sizes.nodes {
-            let value = &mut table[sizes.node(number) + node::VALUE];
-            if !is_value(*value) {
-                *value = 1 + random.below(3);
+            let at = sizes.node(number) + node::VALUE;
+            if !is_tag(content(&table, at)) {
+                table[at..at + 2].copy_from_slice(&[random.below(3), 1 + random.below(9)]);
             }
         }
     }

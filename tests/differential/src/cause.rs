@@ -1,7 +1,8 @@
 //! Which outcome a tick has, by the words before it and never from inside a program.
 
 use reference::table::{
-    goal, header, is_value, mirror, node, record, Sizes, LN, LX, LY, NONE, PUSH, RN, RX, RY,
+    content, goal, header, is_tag, mark, mirror, node, record, Content, Sizes, LN, LX, LY, NONE,
+    PUSH, RN, RX, RY,
 };
 
 use crate::outcomes::OUTCOMES;
@@ -94,33 +95,33 @@ impl View<'_> {
         let hat = self.hat() == self.field(A);
         match step {
             3 | 18 | 24 | 60 => either(self.outward(A) == NONE, "A.R none", "A.R a slot"),
-            5 => both(hat, "hat differs", self.value(A) == RN, "A.V differs"),
-            8 | 56 => either(self.value(A) == RX, "A.V is RX", "A.V is not RX"),
-            68 => either(self.value(A) == RY, "A.V is RY", "A.V is not RY"),
+            5 => both(hat, "hat differs", self.has(A, RN), "A.V differs"),
+            8 | 56 => either(self.has(A, RX), "A.V is RX", "A.V is not RX"),
+            68 => either(self.has(A, RY), "A.V is RY", "A.V is not RY"),
             70 | 74 => either(self.outward(B) == NONE, "B.R none", "B.R a slot"),
             72 => either(hat, "equal", "hat differs"),
-            17 => name(self.value(A)),
+            17 => name(self.seen(self.node_content(A))),
             25 => {
                 let link = self.outward(A) == self.field(B);
-                both(link, "A.R differs", self.value(A) == RX, "A.V differs")
+                both(link, "A.R differs", self.has(A, RX), "A.V differs")
             }
             40 => either(self.inward(A) == NONE, "A.L none", "A.L a slot"),
-            42 | 77 => name(self.value(B)),
-            48 | 51 => both(hat, "hat differs", self.as_read(), "B.V differs"),
+            42 | 77 => name(self.seen(self.node_content(B))),
+            48 | 51 => both(hat, "hat differs", self.as_read(), self.difference()),
             54 => either(self.goal() == 0, "goal 0", "goal above 0"),
             58 if self.outward(A) == NONE => "A.R none",
             58 => either(self.last(), "goal reached", "goal not reached"),
             62 => {
-                let first = self.value(A) == RN;
-                both(first, "A.V differs", self.value(B) == RN, "B.V differs")
+                let first = self.has(A, RN);
+                both(first, "A.V differs", self.has(B, RN), "B.V differs")
             }
             64 => either(self.outward(A) == self.field(B), "equal", "A.R differs"),
-            78 => either(self.as_read(), "equal", "B.V differs"),
-            81 => match (self.outward(A), self.field(record::VALUE)) {
-                (NONE, value) if self.mark(value) == RX => "A.R none, value RX",
-                (NONE, _) => "A.R none, value not RX",
-                (_, value) if self.mark(value) == RX => "A.R a slot, value RX",
-                _ => "A.R a slot, value not RX",
+            78 => either(self.as_read(), "equal", self.difference()),
+            81 => match (self.outward(A), self.seen(self.value_read()) == mark(RX)) {
+                (NONE, true) => "A.R none, value RX",
+                (NONE, false) => "A.R none, value not RX",
+                (_, true) => "A.R a slot, value RX",
+                (_, false) => "A.R a slot, value not RX",
             },
             _ => "always",
         }
@@ -131,11 +132,10 @@ impl View<'_> {
     }
 
     /// A mark of the left side is seen as its mirror.
-    fn mark(&self, word: u32) -> u32 {
-        if self.left {
-            mirror(word)
-        } else {
-            word
+    fn seen(&self, content: Content) -> Content {
+        match content {
+            [value, digit] if self.left => [mirror(value), digit],
+            content => content,
         }
     }
 
@@ -157,13 +157,28 @@ impl View<'_> {
         self.word(register, [node::LEFT, node::RIGHT])
     }
 
-    fn value(&self, register: usize) -> u32 {
-        self.mark(self.word(register, [node::VALUE; 2]))
+    fn node_content(&self, register: usize) -> Content {
+        let node = self.sizes.node(self.field(register));
+        content(self.table, node + node::VALUE)
+    }
+
+    fn value_read(&self) -> Content {
+        content(self.table, self.record + record::VALUE)
+    }
+
+    fn has(&self, register: usize, wanted: u32) -> bool {
+        self.seen(self.node_content(register)) == mark(wanted)
     }
 
     /// Whether B still holds the value read.
     fn as_read(&self) -> bool {
-        self.word(B, [node::VALUE; 2]) == self.field(record::VALUE)
+        self.node_content(B) == self.value_read()
+    }
+
+    /// In what B differs from the value read.
+    fn difference(&self) -> &'static str {
+        let same = self.node_content(B)[0] == self.value_read()[0];
+        either(same, "B's digit alone differs", "B.V differs")
     }
 
     fn goal(&self) -> u32 {
@@ -195,15 +210,16 @@ fn both(one: bool, no_one: &'static str, two: bool, no_two: &'static str) -> &'s
     }
 }
 
-fn name(value: u32) -> &'static str {
-    match value {
-        LN => "LN",
-        LX => "LX",
-        LY => "LY",
-        RN => "RN",
-        RX => "RX",
-        RY => "RY",
-        bag if is_value(bag) => "a bag",
+fn name(content: Content) -> &'static str {
+    match content {
+        [0, _] if is_tag(content) => "a tag, V 0",
+        _ if is_tag(content) => "a tag",
+        [LN, _] => "LN",
+        [LX, _] => "LX",
+        [LY, _] => "LY",
+        [RN, _] => "RN",
+        [RX, _] => "RX",
+        [RY, _] => "RY",
         _ => "never used",
     }
 }

@@ -1,11 +1,12 @@
 //! How often each outcome of a tick or a begin and each refusal was seen, and which of them are missing.
 
-use reference::table::{header, record, Sizes};
+use reference::table::{header, node, record, Sizes};
 use reference::Answer;
 
 use crate::alone::Alone;
 use crate::begins::Begins;
 use crate::cause;
+use crate::digits::Digits;
 use crate::idle::Idle;
 use crate::outcomes::{Leads, Outcome, OUTCOMES};
 use crate::stretch::Stretches;
@@ -19,6 +20,8 @@ const GIVEN: [(&str, &[usize]); 6] = [
     ("panel", &[0, 3, 4, 5, 9, 10, 11, 13, 14, 15]),
     ("read", &[0, 3, 4, 11, 12]),
 ];
+/// All steps that change the digit of a node, and whether a table that start and the calls reach shows it.
+const CHANGE: [(u32, bool); 5] = [(5, true), (28, false), (31, false), (51, true), (78, false)];
 /// The operations, from 1.
 pub const NAMES: [&str; 4] = ["push", "pop", "add", "remove"];
 
@@ -46,9 +49,13 @@ pub enum Origin {
 pub struct Counts {
     /// By origin, then by outcome, operation and side.
     ticks: [Vec<[[u64; 2]; 4]>; 2],
+    /// Ticks that changed the digit of a node, as in `CHANGE`, by origin and side.
+    changed: [[[u64; 2]; 2]; CHANGE.len()],
     given: Given,
     /// Ticks at which the tick count went to 0.
     wraps: u64,
+    /// Digits in each place.
+    pub digits: Digits,
     /// Begins of a push.
     pub begins: Begins,
     /// Calls that get all the ticks.
@@ -64,6 +71,8 @@ impl Counts {
         let none = vec![[[0; 2]; 4]; OUTCOMES.len()];
         Counts {
             ticks: [none.clone(), none],
+            changed: Default::default(),
+            digits: Digits::default(),
             given: Given::default(),
             wraps: 0,
             begins: Begins::default(),
@@ -120,6 +129,12 @@ impl Counts {
         let operation = before[at + record::OPERATION] as usize - 1;
         let side = before[at + record::SIDE] as usize;
         self.ticks[origin as usize][place][operation][side] += 1;
+        if digits(before, sizes).ne(digits(after, sizes)) {
+            let step = outcome.step;
+            let place = CHANGE.iter().position(|&(known, _)| known == step);
+            let place = place.unwrap_or_else(|| panic!("step {step} changed a digit"));
+            self.changed[place][origin as usize][side] += 1;
+        }
         self.wraps += u64::from(after[header::TICKS] < before[header::TICKS]);
     }
 
@@ -141,12 +156,26 @@ impl Counts {
                 report_outcome(outcome, NAMES[operation], counts, &mut faults);
             }
         }
+        self.report_changed(&mut faults);
         self.report_given(&mut faults);
+        faults.extend(self.digits.report());
         faults.extend(self.begins.report());
         faults.extend(self.alone.report());
         self.stretches.report();
         faults.extend(self.idle.report());
         faults
+    }
+
+    fn report_changed(&self, faults: &mut Vec<String>) {
+        println!("\nticks that changed the digit of a slot, at step");
+        for ((step, reachable), [calls, anywhere]) in CHANGE.iter().zip(self.changed) {
+            let [[left, right], [any_left, any_right]] = [calls, anywhere];
+            println!("{step:<47} {left:>11} {right:>11} {any_left:>11} {any_right:>11}");
+            let seen = calls.map(|count| count > 0);
+            if seen != [*reachable; 2] || anywhere.contains(&0) {
+                faults.push(format!("digits changed at {step}: {calls:?}, {anywhere:?}"));
+            }
+        }
     }
 
     fn report_given(&self, faults: &mut Vec<String>) {
@@ -177,6 +206,11 @@ impl Counts {
             }
         }
     }
+}
+
+/// The digits of all nodes.
+fn digits(table: &[u32], sizes: Sizes) -> impl Iterator<Item = u32> + '_ {
+    (0..sizes.nodes).map(move |number| table[sizes.node(number) + node::DIGIT])
 }
 
 /// Prints how often an outcome was seen, by origin and side.

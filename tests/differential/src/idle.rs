@@ -4,7 +4,7 @@
 mod call;
 mod list;
 
-use reference::table::{Sizes, ADD, MAX_VALUE, POP, PUSH, REMOVE};
+use reference::table::{low_part, tag, Sizes, ADD, MAX_TAG, POP, PUSH, REMOVE};
 use reference::Answer;
 
 use crate::alone;
@@ -23,7 +23,7 @@ pub fn check(random: &mut Random, counts: &mut Counts, table: &[u32], sizes: Siz
     counts.idle.tables[left][right] += 1;
     let spurs = left + right;
     assert!(spurs == 0 || sizes.tasks > 1, "a spur made by one task");
-    assert!(spurs < 2 || !list.bags.is_empty(), "two spurs and no bag");
+    assert!(spurs < 2 || !list.tags.is_empty(), "two spurs and no bag");
     for operation in [PUSH, POP, ADD, REMOVE] {
         if spurs > 0 || random.once_in(4) {
             let mut quiet = Quiet::over(random, counts, table, sizes);
@@ -71,52 +71,57 @@ impl<'a> Quiet<'a> {
         let side = self.random.below(2);
         let spare = self.list.ends[side as usize].spare;
         let argument = match operation {
-            PUSH => self.bag(),
+            PUSH => return Note::new(PUSH, side, self.tag()),
             POP => 0,
             ADD if self.random.once_in(2) => self.random.below(65),
             REMOVE if self.random.once_in(8) => self.random.below(1024),
             REMOVE => self.random.below(spare),
             _ => self.random.below(3),
         };
-        Note {
-            operation,
-            side,
-            argument,
-        }
+        Note::new(operation, side, argument.into())
     }
 
-    /// A bag that is not in the lane.
-    fn bag(&mut self) -> u32 {
+    /// A tag that is not in the lane; one of the lane may have its low part.
+    fn tag(&mut self) -> u64 {
         loop {
-            let bag = 1 + self.random.below(MAX_VALUE);
-            if !self.list.bags.contains(&bag) {
-                return bag;
+            let any = 1 + self.random.next() % MAX_TAG;
+            let low = match self.random.below(4) {
+                0 => 0,
+                1 => self.standing().map_or(0, low_part),
+                _ => low_part(any),
+            };
+            let tag = tag(self.random.below(10), low);
+            if tag > 0 && !self.list.tags.contains(&tag) {
+                return tag;
             }
         }
     }
 
-    /// A push of a bag that is in the lane, at either end and by any task, is turned back.
+    /// A tag of the lane, if there is any.
+    fn standing(&mut self) -> Option<u64> {
+        let place = self.random.next() as usize % self.list.tags.len().max(1);
+        self.list.tags.get(place).copied()
+    }
+
+    /// A push of a tag that is in the lane, at either end and by any task, is turned back.
     fn push_again(&mut self) {
-        let bags = self.list.bags.len() as u32;
-        if bags > 0 {
-            let bag = self.list.bags[self.random.below(bags) as usize];
+        if let Some(tag) = self.standing() {
             let (task, side) = (self.random.below(self.sizes.tasks), self.random.below(2));
-            assert_eq!(self.both.begin(task, PUSH, side, bag), Err(16));
+            let given = self.both.begin(task, Note::new(PUSH, side, tag));
+            assert_eq!(given, Err(16));
         }
     }
 
     /// A call alone by any task: its answer and the table after it are as listed.
     fn call(&mut self, call: Note) -> Answer {
         let Note {
-            operation,
-            side,
-            argument,
+            operation, side, ..
         } = call;
         if self.random.once_in(4) {
             self.push_again();
         }
         let task = self.random.below(self.sizes.tasks);
-        let begun = self.both.begin(task, operation, side, argument);
+        let begun = self.both.begin(task, call);
         begun.expect("the task is idle");
         let (ticks, words) = alone::run(self.random, &mut self.both, self.sizes, task);
         self.counts.alone.saw(self.sizes.nodes, operation, ticks);
@@ -141,8 +146,8 @@ impl<'a> Quiet<'a> {
             }
         }
         let nodes = self.sizes.nodes as usize;
-        let bags = self.both.read(nodes, 0).expect("the lane is read");
-        assert_eq!(bags.len(), nodes - 2, "bags when both ends are full");
+        let tags = self.both.read(2 * nodes, 0).expect("the lane is read");
+        assert_eq!(tags.len(), nodes - 2, "bags when both ends are full");
     }
 
     fn done(self) {

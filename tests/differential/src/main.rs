@@ -12,6 +12,7 @@ mod both;
 mod broken;
 mod cause;
 mod counts;
+mod digits;
 mod idle;
 mod outcomes;
 mod play;
@@ -101,6 +102,9 @@ fn round(random: &mut Random, counts: &mut Counts) {
     for _ in 0..40_000 {
         broken::shaped(random, counts);
         broken::damaged(random, counts);
+    }
+    for _ in 0..4_000 {
+        digits::check(random, counts);
     }
 }
 

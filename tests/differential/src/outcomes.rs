@@ -53,7 +53,8 @@ const PO: &[u32] = &[POP];
 const RE: &[u32] = &[REMOVE];
 
 /// All outcomes. Those of no reachable table: refusal 11, a node never used, 74 at the end of its chain, 77 on a node
-/// that is not spare, 81 at the end of the chain before its RX.
+/// that is not spare and so 78 on another digit, 81 at the end of the chain before its RX. Where a mark is compared, no
+/// well-shaped table has another digit beside it.
 pub const OUTCOMES: &[Outcome] = &[
     on(2, PU, "always", To(3)),
     on(3, PU, "A.R none", To(8)),
@@ -96,7 +97,8 @@ pub const OUTCOMES: &[Outcome] = &[
     on(17, PA, "RN", To(18)),
     on(17, PA, "RY", To(67)),
     on(17, PA, "RX", To(24)),
-    on(17, PA, "a bag", To(15)),
+    on(17, PA, "a tag", To(15)),
+    on(17, PA, "a tag, V 0", To(15)),
     on(17, PA, "LN", To(15)),
     on(17, PA, "LX", To(15)),
     on(17, PA, "LY", To(15)),
@@ -119,7 +121,8 @@ pub const OUTCOMES: &[Outcome] = &[
     on(40, PO, "A.L none", To(39)),
     on(40, PO, "A.L a slot", To(42)),
     off(40, PO, "A none", Refused),
-    on(42, PO, "a bag", To(51)),
+    on(42, PO, "a tag", To(51)),
+    on(42, PO, "a tag, V 0", To(51)),
     on(42, PO, "LN", To(48)),
     on(42, PO, "LX", To(48)),
     on(42, PO, "LY", To(39)),
@@ -136,6 +139,7 @@ pub const OUTCOMES: &[Outcome] = &[
     on(51, PO, "equal", Says(2)),
     on(51, PO, "hat differs", To(39)),
     on(51, PO, "B.V differs", To(39)),
+    on(51, PO, "B's digit alone differs", To(39)),
     on(51, PO, "both differ", To(39)),
     off(51, PO, "B none", Refused),
     on(54, RE, "goal 0", To(60)),
@@ -165,7 +169,8 @@ pub const OUTCOMES: &[Outcome] = &[
     on(77, RE, "RN", To(78)),
     on(77, RE, "RX", To(78)),
     off(77, RE, "RY", To(78)),
-    off(77, RE, "a bag", To(78)),
+    off(77, RE, "a tag", To(78)),
+    off(77, RE, "a tag, V 0", To(78)),
     off(77, RE, "LN", To(78)),
     off(77, RE, "LX", To(78)),
     off(77, RE, "LY", To(78)),
@@ -173,6 +178,7 @@ pub const OUTCOMES: &[Outcome] = &[
     off(77, RE, "B none", Refused),
     on(78, RE, "equal", To(79)),
     on(78, RE, "B.V differs", To(77)),
+    off(78, RE, "B's digit alone differs", To(77)),
     off(78, RE, "B none", Refused),
     on(79, RE, "always", To(81)),
     off(79, RE, "A none", Refused),

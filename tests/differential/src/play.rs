@@ -3,7 +3,7 @@
 mod adversary;
 mod delay;
 
-use reference::table::{header, record, Sizes, ADD, POP, PUSH, REMOVE};
+use reference::table::{header, low_part, record, tag, Sizes, ADD, MAX_TAG, POP, PUSH, REMOVE};
 use reference::Answer;
 
 use crate::alone;
@@ -23,8 +23,8 @@ const MIXES: [&[u32]; 6] = [
     &[PUSH, POP, REMOVE, REMOVE],
 ];
 
-/// Bags from here on are new; the smaller ones are among any numbers.
-const FIRST_BAG: u32 = 10_000;
+/// Low parts from here on are new; the smaller ones are among any numbers.
+const FIRST_LOW: u32 = 10_000;
 
 /// A table, the row beside it, and what prevails in the calls.
 pub struct Play<'a> {
@@ -33,9 +33,10 @@ pub struct Play<'a> {
     both: Both,
     row: Row,
     sizes: Sizes,
-    next_bag: u32,
-    /// Bags that were popped.
-    past: Vec<u32>,
+    /// New tags so far.
+    new_tags: u32,
+    /// Tags that were popped.
+    past: Vec<u64>,
     mix: &'static [u32],
     /// The side that prevails.
     side: u32,
@@ -54,7 +55,7 @@ pub fn play(random: &mut Random, counts: &mut Counts, sizes: Sizes, calls: u32) 
         side: 0,
         favourite: 0,
         stretch: 0,
-        next_bag: FIRST_BAG,
+        new_tags: 0,
         past: Vec::new(),
         random,
         counts,
@@ -102,15 +103,15 @@ impl Play<'_> {
         }
     }
 
-    /// After a call: reading gives the row, and never 3, 4 or 11; no bag is in two places.
+    /// After a call: reading gives the row, and never 3, 4 or 11; no tag is in two places.
     fn check(&mut self) {
         self.row.check_once();
-        let length = self.row.values.len() + self.random.below(2) as usize;
-        let bags = self.both.read(length, 0).expect("the lane is read");
+        let length = 2 * self.row.tags.len() + self.random.below(2) as usize;
+        let tags = self.both.read(length, 0).expect("the lane is read");
         assert!(
-            self.row.values.iter().eq(&bags),
-            "lane {bags:?}, row {:?}",
-            self.row.values
+            self.row.tags.iter().eq(&tags),
+            "lane {tags:?}, row {:?}",
+            self.row.tags
         );
         // Less often where walks are long.
         if self.random.once_in(12 + self.sizes.nodes / 8) {
@@ -159,11 +160,11 @@ impl Play<'_> {
     }
 
     fn read(&mut self) {
-        let length = self.random.below(self.sizes.nodes + 2) as usize;
+        let length = self.random.below(2 * self.sizes.nodes + 2) as usize;
         let content = self.random.word();
-        let short = length < self.row.values.len();
+        let short = length < 2 * self.row.tags.len();
         match self.both.read(length, content) {
-            Ok(bags) => assert!(!short && self.row.values.iter().eq(&bags), "lane {bags:?}"),
+            Ok(tags) => assert!(!short && self.row.tags.iter().eq(&tags), "lane {tags:?}"),
             Err(number) => assert!(short && number == 12, "a read was refused with {number}"),
         }
     }
@@ -178,43 +179,42 @@ impl Play<'_> {
         self.check();
     }
 
-    /// On the same words: the same sizes, or 10 slots for 3 tasks.
+    /// On the same words: the same sizes, or 3 slots for a task.
     fn start_again(&mut self) {
         let Sizes { nodes, tasks, .. } = self.sizes;
         let growth = self.random.below(65);
         let (slots, tasks) = match self.random.below(3) {
-            0 if tasks > 3 => (nodes + 10, tasks - 3),
-            1 if nodes > 11 => (nodes - 10, tasks + 3),
+            0 if tasks > 1 => (nodes + 3, tasks - 1),
+            1 if nodes > 4 => (nodes - 3, tasks + 1),
             _ => (nodes, tasks),
         };
         self.start(slots, tasks, growth);
     }
 
-    fn begin(&mut self, task: u32, operation: u32, side: u32, argument: u32) {
-        let note = Note {
-            operation,
-            side,
-            argument,
-        };
-        let wanted = self.row.begin(task, note);
-        let given = self.both.begin(task, operation, side, argument);
+    fn begin(&mut self, task: u32, operation: u32, side: u32, argument: u64) {
+        self.begin_call(task, Note::new(operation, side, argument));
+    }
+
+    fn begin_call(&mut self, task: u32, call: Note) {
+        let wanted = self.row.begin(task, call);
+        let given = self.both.begin(task, call);
         assert_eq!(given, wanted, "begin");
-        if operation == PUSH && !matches!(given, Err(5..=7)) {
+        if call.operation == PUSH && !matches!(given, Err(5..=7)) {
             let before = self.both.before();
             let begins = &mut self.counts.begins;
-            begins.saw(Origin::Calls, before, task, argument, given);
-            begins.again += u64::from(given.is_ok() && self.past.contains(&argument));
+            begins.saw(Origin::Calls, before, task, call, given);
+            begins.again += u64::from(given.is_ok() && self.past.contains(&call.tag()));
         }
         self.check();
     }
 
-    /// The number of a busy push comes again, on its own task or on any.
+    /// The tag of a busy push comes again, on its own task or on any.
     fn begin_again(&mut self, task: u32) {
         if let Some(Some(push)) = self.row.notes.get(task as usize).copied() {
             if push.operation == PUSH {
                 let any = self.random.below(self.sizes.tasks);
                 let (other, side) = (self.random.pick(&[task, any]), self.random.below(2));
-                self.begin(other, PUSH, side, push.argument);
+                self.begin_call(other, Note { side, ..push });
             }
         }
     }
@@ -228,40 +228,54 @@ impl Play<'_> {
         };
         match operation {
             PUSH => {
-                let bag = self.any_bag();
-                self.begin(task, PUSH, side, bag);
+                let tag = self.any_tag();
+                self.begin(task, PUSH, side, tag);
             }
             _ => self.begin_with(task, operation, side),
         }
     }
 
-    /// A push is of a new bag.
+    /// A push is of a tag that is nowhere.
     fn begin_with(&mut self, task: u32, operation: u32, side: u32) {
         let argument = match operation {
-            PUSH => self.bag(),
+            PUSH => self.tag(),
             POP => 0,
-            ADD if self.random.once_in(20) => self.random.below(65),
-            REMOVE if self.random.once_in(20) => self.random.below(1024),
+            ADD if self.random.once_in(20) => self.random.below(65).into(),
+            REMOVE if self.random.once_in(20) => self.random.below(1024).into(),
             _ => self.random.pick(&[0, 0, 0, 1, 1, 2, 3]),
         };
         self.begin(task, operation, side, argument);
     }
 
-    /// A new bag.
-    fn bag(&mut self) -> u32 {
-        self.next_bag += 1;
-        self.next_bag
+    /// A tag that is nowhere: mostly a new one, of which ten have one low part, often one with V 0.
+    fn tag(&mut self) -> u64 {
+        loop {
+            let tag = if self.random.once_in(4) {
+                tag(1 + self.random.below(9), 0)
+            } else {
+                self.new_tags += 1;
+                tag(self.new_tags % 10, FIRST_LOW + self.new_tags / 10)
+            };
+            if !self.row.has(tag) {
+                return tag;
+            }
+        }
     }
 
-    /// Mostly a new one; sometimes one that is there or in a busy push, one that was popped, or a limit.
-    fn any_bag(&mut self) -> u32 {
+    /// Mostly such a one; sometimes one that is there or in a busy push, the same with another digit, one that was
+    /// popped, or a limit.
+    fn any_tag(&mut self) -> u64 {
         let known = match self.random.below(24) {
             0 => self.row.pick(self.random),
-            1 if !self.past.is_empty() => Some(self.random.pick(&self.past)),
-            2 => Some(self.random.pick(&[1, 999_999_999])),
+            1 => self.row.pick(self.random).map(|standing| {
+                let digit = self.random.below(10);
+                tag(digit, low_part(standing)).max(1)
+            }),
+            2 if !self.past.is_empty() => Some(self.random.pick(&self.past)),
+            3 => Some(self.random.pick(&[1, 999_999_999, 1_000_000_000, MAX_TAG])),
             _ => None,
         };
-        known.unwrap_or_else(|| self.bag())
+        known.unwrap_or_else(|| self.tag())
     }
 
     fn pair(&mut self) -> (u32, u32) {
@@ -299,8 +313,8 @@ impl Play<'_> {
     /// A tick was made: the row explains it, and a stretch goes on or ends.
     fn made(&mut self, task: u32, answer: Answer) {
         self.row.tick(task, answer.words());
-        if let Answer::Bag(bag) = answer {
-            self.past.push(bag);
+        if let Answer::Bag(tag) = answer {
+            self.past.push(tag);
         }
         self.stretch = match answer {
             Answer::Going => self.stretch + 1,
@@ -320,7 +334,7 @@ impl Play<'_> {
         assert_eq!(number, wanted, "a tick was refused");
     }
 
-    fn tick_some(&mut self, task: u32, ticks: u32) {
+    fn tick_some(&mut self, task: u32, ticks: u64) {
         for _ in 0..ticks {
             if self.row.notes[task as usize].is_some() {
                 let hint = self.random.below(self.sizes.nodes);
@@ -353,7 +367,7 @@ impl Play<'_> {
         if self.random.once_in(50) {
             list.push(0);
         }
-        let length = (list.len() + self.random.below(3) as usize)
+        let length = (3 * (list.len() / 2) + self.random.below(3) as usize)
             .saturating_sub(self.random.below(2) as usize);
         let content = self.random.word();
         let (made, number, answers) = self.both.run(&list, length, content);
@@ -370,9 +384,10 @@ impl Play<'_> {
             _ => 64,
         };
         let list = self.busy_list(words as usize);
+        let exact = 3 * (words / 2);
         let length = match self.random.below(4) {
-            0 => self.random.below(words + 1),
-            _ => words + self.random.below(3),
+            0 => self.random.below(exact + 1),
+            _ => exact + self.random.below(3),
         };
         let content = self.random.word();
         let given = self.both.panel(&list, length as usize, content);
@@ -415,7 +430,7 @@ impl Play<'_> {
     fn replay(&mut self, list: &[u32], made: usize, number: u32, answers: &[u32]) {
         let mut before = self.both.before().to_vec();
         let mut after = before.clone();
-        for (pair, words) in list.chunks(2).zip(answers.chunks(2)).take(made) {
+        for (pair, words) in list.chunks(2).zip(answers.chunks(3)).take(made) {
             let given = reference::tick(&mut after, pair[0], pair[1]);
             let answer = given.expect("the run made this tick");
             assert_eq!(answer.words(), words, "the run's answer");
@@ -433,7 +448,7 @@ impl Play<'_> {
             (0, rest) => assert_eq!(rest, Some(&[][..]), "the run stopped early"),
             (13, _) => assert!(list.len() % 2 == 1 || list.len() > 8192),
             (15, _) => assert!(list.len() > 64),
-            (14, _) => assert!(answers.len() < list.len()),
+            (14, _) => assert!(answers.len() < 3 * (list.len() / 2)),
             (_, Some(&[task, hint, ..])) => self.refused(task, hint, number),
             (_, rest) => panic!("refused {number} at {rest:?}"),
         }
@@ -441,10 +456,16 @@ impl Play<'_> {
 
     fn any_numbers(&mut self) {
         let [one, two, three, four] = [(); 4].map(|()| self.random.word());
+        let call = Note {
+            operation: two % 8,
+            side: three % 4,
+            digit: self.random.digit(),
+            argument: four,
+        };
         match self.random.below(4) {
             0 => self.start(one, two, three),
-            1 => self.begin(one, two % 8, three % 4, four),
-            2 => self.begin(one % 20, two % 8, three % 4, four),
+            1 => self.begin_call(one, call),
+            2 => self.begin_call(one % 20, call),
             _ => self.tick(one, two),
         }
     }
@@ -454,12 +475,12 @@ impl Play<'_> {
         for task in 0..self.sizes.tasks {
             self.finish(task);
         }
-        while !self.row.values.is_empty() {
-            let length = self.row.values.len();
+        while !self.row.tags.is_empty() {
+            let length = self.row.tags.len();
             let side = self.random.below(2);
             self.begin(0, POP, side, 0);
             self.finish(0);
-            assert_eq!(self.row.values.len() + 1, length, "a pop took no bag");
+            assert_eq!(self.row.tags.len() + 1, length, "a pop took no bag");
         }
         let at = self.sizes.record(0);
         assert_eq!(self.both.table()[at..at + record::WORDS], record::FRESH);

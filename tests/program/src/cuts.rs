@@ -5,16 +5,19 @@ use crate::damage;
 use crate::session::Session;
 use crate::trials::{Trials, Verdict};
 
-/// Every form, read and unread, with leading zeros and numbers past the limits.
+/// Every form, read and unread, with leading zeros, numbers past the limits and tags of every width.
 const LINES: &str = "\
 (start (slots 14) (tasks 03) (growth 2))
 (begin 2 (push right 999999999))
+(begin 2 (push right 09999999999))
+(begin 2 (push right 9999999999))
+(begin 0 (push left 0000000000))
 (tick 2 013 1000)
 
 (begin 001 (add left 12))
 (tick 1 4294967295 1)
 (tick 4294967296 0 1)
-(begin 0 (push right 18446744073709551667))
+(begin 0 (add right 18446744073709551667))
 (begin 0 (remove left 0))
 (tick 0 0 1001)
 (tick 1 0 20)

@@ -69,13 +69,13 @@ fn replace(
     line.splice(from..from + length, text);
 }
 
-/// Another number in the place of one: equal, near a limit, or equal to it in 32 or 64 bits.
+/// Another number in the place of one: equal, near a limit, equal to it in 32 or 64 bits, or about as wide as a tag.
 fn number(random: &mut Random, digits: &[u8]) -> Vec<u8> {
     let value = String::from_utf8_lossy(digits).parse::<u64>().unwrap_or(0);
     let value = u128::from(value);
     let few = u128::from(random.below(3));
     let zeros = random.pick(&[1, 2, 30, 1000, 5000, 70_000]);
-    let text = match random.below(12) {
+    let text = match random.below(15) {
         0 => format!("{}{value}", "0".repeat(zeros)),
         1 => format!("{value}{}", "0".repeat(1 + random.below(25) as usize)),
         2 => format!("{}", (1 << 32) - 2 + few),
@@ -87,6 +87,9 @@ fn number(random: &mut Random, digits: &[u8]) -> Vec<u8> {
         8 => format!("{}", few),
         9 => format!("{}", 999 + few),
         10 => format!("{}", 999_999_998 + few),
+        11 => format!("{}", 9_999_999_998 + few),
+        12 => format!("{:0width$}", value, width = 9 + random.below(3) as usize),
+        13 => format!("{:010}", few << 32),
         _ => format!("{}", random.word()),
     };
     text.into_bytes()
@@ -102,8 +105,8 @@ pub fn noise(random: &mut Random, length: usize) -> Vec<u8> {
             1 => output.extend(random.pick(&WORDS)),
             2 => output.extend(b"\n(lane)\n"),
             3 => {
-                let bag = 1 + random.below(9);
-                let lines = format!("\n(begin 0 (push left {bag}))\n(tick 0 0 9)\n");
+                let tag = u64::from(1 + random.below(9)) << (4 * random.below(9));
+                let lines = format!("\n(begin 0 (push left {tag:010}))\n(tick 0 0 9)\n");
                 output.extend(lines.as_bytes());
             }
             _ if all => output.push(random.next() as u8),

@@ -9,7 +9,7 @@ use crate::trials::{Trials, Verdict};
 
 /// Lines of 50,000,000 bytes with 8,192 kilobytes of address space in all, the C library included.
 pub fn little_memory(trials: &mut Trials) -> Verdict {
-    let start = "(start (slots 1024) (tasks 16) (growth 0))\n(begin 15 (push left 51))\n";
+    let start = "(start (slots 1024) (tasks 16) (growth 0))\n(begin 15 (push left 0000000051))\n";
     for [before, fill, after] in [
         ["(tick ", "0", "15 1023 11)\n"],
         ["(lane)", " ", "\n"],

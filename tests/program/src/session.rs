@@ -1,6 +1,7 @@
 //! Random sessions of well-formed lines, steered by the second program's answers so that calls come to an end.
 
 use reference::lines::Program;
+use reference::table::{low_part, tag, MAX_TAG};
 
 use crate::common::random::Random;
 
@@ -12,7 +13,7 @@ const STYLES: [&[usize]; 3] = [
     &[0, 0, 0, 1, 1, 1, 2, 3],
     &[0, 1, 1, 1, 1, 1, 3],
 ];
-/// How many of the bags begun may come again.
+/// How many of the tags begun may come again.
 const REPEATED: usize = 20;
 /// Lines until a session takes another style.
 const STYLE_LINES: u32 = 300;
@@ -25,8 +26,8 @@ pub struct Session {
     nodes: u32,
     /// By task; empty before an accepted start.
     busy: Vec<bool>,
-    /// The bags of the pushes begun.
-    bags: Vec<u32>,
+    /// The tags of the pushes begun.
+    tags: Vec<u64>,
 }
 
 impl Session {
@@ -37,7 +38,7 @@ impl Session {
             program: Program::default(),
             nodes: 0,
             busy: Vec::new(),
-            bags: Vec::new(),
+            tags: Vec::new(),
         }
     }
 
@@ -93,10 +94,10 @@ impl Session {
         if !self.busy[task as usize] {
             let operation = random.pick(style);
             let argument = match operation {
-                0 => self.bag(random),
+                0 => self.tag(random),
                 1 => 0,
-                2 => random.below(65),
-                _ => random.below(1024).min(random.below(1024)),
+                2 => random.below(65).into(),
+                _ => random.below(1024).min(random.below(1024)).into(),
             };
             self.begin(task, operation, random.below(2), argument);
         } else {
@@ -107,24 +108,34 @@ impl Session {
         }
     }
 
-    /// Mostly any bag, sometimes one of the last begun.
-    fn bag(&self, random: &mut Random) -> u32 {
-        let last = &self.bags[self.bags.len().saturating_sub(REPEATED)..];
-        if random.once_in(10) && !last.is_empty() {
-            random.pick(last)
-        } else {
-            any_bag(random)
+    /// Mostly any tag, sometimes one of the last begun, or one of them with another digit.
+    fn tag(&self, random: &mut Random) -> u64 {
+        let last = &self.tags[self.tags.len().saturating_sub(REPEATED)..];
+        if last.is_empty() || !random.once_in(5) {
+            return any_tag(random);
+        }
+        let known = random.pick(last);
+        match random.below(2) {
+            0 => known,
+            _ => tag(random.below(10), low_part(known)).max(1),
         }
     }
 
-    /// A begin with these numbers; the operation and the side by their places in the lists.
-    pub fn begin(&mut self, task: u32, operation: usize, side: u32, argument: u32) {
+    /// A begin with these numbers; the operation and the side by their places in the lists. A tag has ten digits.
+    pub fn begin(&mut self, task: u32, operation: usize, side: u32, argument: u64) {
+        let width = if operation == 0 { 10 } else { 1 };
+        self.begin_wide(task, operation, side, (argument, width));
+    }
+
+    /// The same with the argument in so many digits, or more if it needs more.
+    fn begin_wide(&mut self, task: u32, operation: usize, side: u32, argument: (u64, usize)) {
         let (name, side) = (OPERATIONS[operation], SIDES[side as usize]);
-        let line = format!("(begin {task} ({name} {side} {argument}))");
+        let (argument, width) = argument;
+        let line = format!("(begin {task} ({name} {side} {argument:0width$}))");
         if self.line(&line) == "(ok)" {
             self.busy[task as usize] = true;
             if operation == 0 {
-                self.bags.push(argument);
+                self.tags.push(argument);
             }
         }
     }
@@ -140,10 +151,19 @@ impl Session {
     /// A well-formed line with numbers from anywhere, most of them refused; a start so that it is refused.
     fn other(&mut self, random: &mut Random) {
         let (task, word) = (random.below(18), random.word());
-        match random.below(4) {
-            0 => self.begin(task, random.below(4) as usize, random.below(2), word),
+        match random.below(5) {
+            0 => {
+                let (operation, side) = (random.below(4) as usize, random.below(2));
+                self.begin(task, operation, side, word.into());
+            }
             1 => self.tick(task, word, 1 + random.below(1000)),
             2 => self.tick(task, random.below(12), 1),
+            3 => {
+                let any = any_tag(random);
+                let argument = random.pick(&[0, word.into(), any]);
+                let width = 8 + random.below(5) as usize;
+                self.begin_wide(task, 0, random.below(2), (argument, width));
+            }
             _ => self.start(random.pick(&[
                 (word, 17, 0),
                 (1025, 1, 0),
@@ -155,13 +175,13 @@ impl Session {
     }
 }
 
-/// A lane as long as lanes get, of bags with nine digits, read again and again: the longest lines of output, with short
-/// ones between them so that they come at many places of a buffer.
+/// A lane as long as lanes get, read again and again: the longest lines of output, with short ones between them so that
+/// they come at many places of a buffer.
 pub fn full_lane(random: &mut Random) -> Vec<u8> {
     let mut session = Session::new();
     session.start((1024, 2, 0));
     for number in 0..1022 {
-        session.begin(0, 0, random.below(2), 999_999_999 - number);
+        session.begin(0, 0, random.below(2), MAX_TAG - number);
         session.tick(0, random.below(1024), 1000);
     }
     for _ in 0..40 {
@@ -171,8 +191,9 @@ pub fn full_lane(random: &mut Random) -> Vec<u8> {
         for _ in 0..1 + random.below(7) {
             session.line("(lane)");
         }
-        // One of these bags, at any place of the lane.
-        session.begin(1, 0, random.below(2), 999_999_999 - random.below(1022));
+        // One of these tags, at any place of the lane.
+        let again = MAX_TAG - u64::from(random.below(1022));
+        session.begin(1, 0, random.below(2), again);
         session.call(random, STYLES[1]);
     }
     session.input
@@ -191,8 +212,8 @@ fn any_sizes(random: &mut Random) -> (u32, u32, u32) {
     (nodes, random.pick(&[1, 2, 3, many]), growth)
 }
 
-/// A bag number of one to nine digits.
-fn any_bag(random: &mut Random) -> u32 {
-    let digits = 1 + random.below(9);
-    1 + random.below(10u32.pow(digits) - 1)
+/// A tag with up to nine zeros before its first other digit.
+fn any_tag(random: &mut Random) -> u64 {
+    let digits = 1 + random.below(10);
+    1 + random.next() % (10u64.pow(digits) - 1)
 }

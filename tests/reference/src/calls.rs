@@ -4,7 +4,7 @@ use crate::answer::Answer;
 use crate::refusal;
 use crate::shape;
 use crate::step;
-use crate::table::{self, header, node, record, Sizes, LX, NONE, RX};
+use crate::table::{self, content, header, node, record, Content, Sizes, LX, NONE, RX};
 
 /// Longest schedule of a run, in words.
 const MAX_SCHEDULE: usize = 8192;
@@ -21,21 +21,22 @@ pub fn start(table: &mut [u32], slots: u32, tasks: u32, growth: u32) -> Result<(
     let (nodes, records) = rest.split_at_mut(node::WORDS * slots as usize);
     head.copy_from_slice(&[slots, tasks, growth, 0, 1, 0, 0, 0]);
     for node in nodes.chunks_exact_mut(node::WORDS) {
-        node.copy_from_slice(&[NONE, NONE, 0]);
+        node.copy_from_slice(&[NONE, NONE, 0, 0]);
     }
-    nodes[..2 * node::WORDS].copy_from_slice(&[NONE, 1, LX, 0, NONE, RX]);
+    nodes[..2 * node::WORDS].copy_from_slice(&[NONE, 1, LX, 0, 0, NONE, RX, 0]);
     for task in records.chunks_exact_mut(record::WORDS) {
         task.copy_from_slice(&record::FRESH);
     }
     Ok(())
 }
 
-/// Gives an idle task an operation.
+/// Gives an idle task an operation. The argument has its leading digit before it.
 pub fn begin(
     table: &mut [u32],
     task: u32,
     operation: u32,
     side: u32,
+    digit: u32,
     argument: u32,
 ) -> Result<(), u32> {
     let sizes = shape::check(table)?;
@@ -45,12 +46,13 @@ pub fn begin(
     if !(table::PUSH..=table::REMOVE).contains(&operation) || side > 1 {
         return Err(refusal::OPERATION);
     }
-    if !table::argument_fits(operation, argument) {
+    let given = [argument, digit];
+    if !table::argument_fits(operation, given) {
         return Err(refusal::ARGUMENT);
     }
     if operation == table::PUSH {
-        // The whole walk comes first: no value is known to be there on a deque that cannot be read.
-        if stands(table, sizes, argument)? || is_pushed(table, sizes, argument) {
+        // The whole walk comes first: no tag is known to be there on a deque that cannot be read.
+        if stands(table, sizes, given)? || is_pushed(table, sizes, given) {
             return Err(refusal::TWICE);
         }
     }
@@ -63,6 +65,7 @@ pub fn begin(
     words[record::STEP] = table::first_step(operation);
     words[record::SIDE] = side;
     words[record::ARGUMENT] = argument;
+    words[record::ARGUMENT_DIGIT] = digit;
     table[at..at + record::WORDS].copy_from_slice(&words);
     Ok(())
 }
@@ -97,7 +100,7 @@ fn scheduled_ticks(
     answers: &mut [u32],
 ) -> (u32, u32) {
     let mut made = 0;
-    for (pair, words) in list.chunks_exact(2).zip(answers.chunks_exact_mut(2)) {
+    for (pair, words) in list.chunks_exact(2).zip(answers.chunks_exact_mut(3)) {
         // A tick keeps the shape, so it was tested once for all of them.
         match checked_tick(table, sizes, pair[0], pair[1]) {
             Ok(answer) => words.copy_from_slice(&answer.words()),
@@ -108,47 +111,47 @@ fn scheduled_ticks(
     (made, 0)
 }
 
-/// Writes the values of the deque, leftmost first, and returns their count.
+/// Writes the tags of the deque, leftmost first, two words each, and returns their count.
 pub fn read(table: &[u32], out: &mut [u32]) -> Result<u32, u32> {
     let sizes = shape::check(table)?;
     // The whole walk comes before the first write.
     let mut count = 0;
     walk(table, sizes, |_| count += 1)?;
-    let out = out.get_mut(..count as usize).ok_or(refusal::OUT_LENGTH)?;
-    let mut words = out.iter_mut();
-    walk(table, sizes, |value| {
-        if let Some(word) = words.next() {
-            *word = value;
+    let out = out.get_mut(..2 * count).ok_or(refusal::OUT_LENGTH)?;
+    let mut places = out.chunks_exact_mut(2);
+    walk(table, sizes, |[low, digit]| {
+        if let Some(place) = places.next() {
+            place.copy_from_slice(&[digit, low]);
         }
     })?;
-    Ok(count)
+    Ok(count as u32)
 }
 
-/// Whether a value stands in the deque.
-fn stands(table: &[u32], sizes: Sizes, wanted: u32) -> Result<bool, u32> {
+/// Whether a tag stands in the deque.
+fn stands(table: &[u32], sizes: Sizes, wanted: Content) -> Result<bool, u32> {
     let mut found = false;
-    walk(table, sizes, |value| found |= value == wanted)?;
+    walk(table, sizes, |tag| found |= tag == wanted)?;
     Ok(found)
 }
 
-/// Whether a value is the argument of a busy push, whichever task's.
-fn is_pushed(table: &[u32], sizes: Sizes, value: u32) -> bool {
+/// Whether a tag is the argument of a busy push, whichever task's.
+fn is_pushed(table: &[u32], sizes: Sizes, tag: Content) -> bool {
     (0..sizes.tasks).any(|task| {
         let at = sizes.record(task);
-        table[at + record::OPERATION] == table::PUSH && table[at + record::ARGUMENT] == value
+        table[at + record::OPERATION] == table::PUSH && content(table, at + record::ARGUMENT) == tag
     })
 }
 
-/// Shows the values of the deque, leftmost first, up to its end; there may be none to find.
-fn walk(table: &[u32], sizes: Sizes, mut show: impl FnMut(u32)) -> Result<(), u32> {
+/// Shows the tags of the deque, leftmost first, up to its end; there may be none to find.
+fn walk(table: &[u32], sizes: Sizes, mut show: impl FnMut(Content)) -> Result<(), u32> {
     let mut number = table[header::LEFT_HAT];
     for _ in 0..sizes.nodes {
         number = next(table, sizes, number)?;
-        let value = table[sizes.node(number) + node::VALUE];
-        if !table::is_value(value) {
+        let content = content(table, sizes.node(number) + node::VALUE);
+        if !table::is_tag(content) {
             return Ok(());
         }
-        show(value);
+        show(content);
     }
     Err(refusal::NO_NODE)
 }
@@ -174,7 +177,7 @@ fn scheduled_sizes(
     if list.len() > limit {
         return Err(refusal::PANEL_SCHEDULE);
     }
-    if answers.len() < list.len() {
+    if answers.len() < 3 * (list.len() / 2) {
         return Err(refusal::ANSWERS);
     }
     Ok(sizes)

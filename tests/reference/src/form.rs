@@ -12,6 +12,7 @@ pub enum Form {
         task: u32,
         operation: u32,
         side: u32,
+        digit: u32,
         argument: u32,
     },
     /// Make ticks, at most `times`, which is in range.
@@ -69,12 +70,16 @@ impl Rest<'_> {
             ("remove ", table::REMOVE),
         ])?;
         let side = self.word(&[("left ", 0), ("right ", 1)])?;
-        let argument = self.number()?;
+        let (digit, argument) = match operation {
+            table::PUSH => self.tag()?,
+            _ => (0, self.number()?),
+        };
         self.expect("))")?;
         Some(Form::Begin {
             task,
             operation,
             side,
+            digit,
             argument,
         })
     }
@@ -112,16 +117,36 @@ impl Rest<'_> {
             .map(|&(_, number)| number)
     }
 
+    /// A leading digit and the nine below: a tag is written with its zeros.
+    fn tag(&mut self) -> Option<(u32, u32)> {
+        match self.digits() {
+            [leading, below @ ..] if below.len() == 9 => {
+                Some((u32::from(leading - b'0'), number(below)?))
+            }
+            _ => None,
+        }
+    }
+
     /// One digit or more; leading zeros are digits like others.
     fn number(&mut self) -> Option<u32> {
+        match self.digits() {
+            [] => None,
+            digits => number(digits),
+        }
+    }
+
+    /// The digits up to the next byte that is none.
+    fn digits(&mut self) -> &[u8] {
         let length = self.0.iter().take_while(|c| c.is_ascii_digit()).count();
         let (digits, rest) = self.0.split_at(length);
-        if digits.is_empty() {
-            return None;
-        }
         self.0 = rest;
-        digits.iter().try_fold(0u32, |number, digit| {
-            number.checked_mul(10)?.checked_add(u32::from(digit - b'0'))
-        })
+        digits
     }
+}
+
+/// The number that digits write, if it is a word.
+fn number(digits: &[u8]) -> Option<u32> {
+    digits.iter().try_fold(0u32, |number, digit| {
+        number.checked_mul(10)?.checked_add(u32::from(digit - b'0'))
+    })
 }

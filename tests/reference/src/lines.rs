@@ -5,7 +5,7 @@ use std::io::{self, BufRead, BufReader, Read, Write};
 use crate::answer::Answer;
 use crate::calls;
 use crate::form::{self, Form};
-use crate::table::Sizes;
+use crate::table::{self, Sizes};
 
 /// Bytes of a read.
 const READ: usize = 65_536;
@@ -56,9 +56,10 @@ impl Program {
                 task,
                 operation,
                 side,
+                digit,
                 argument,
             } => {
-                calls::begin(&mut self.table, task, operation, side, argument)?;
+                calls::begin(&mut self.table, task, operation, side, digit, argument)?;
                 Ok(String::from("(ok)"))
             }
             Form::Tick { task, hint, times } => self.tick(task, hint, times),
@@ -87,11 +88,11 @@ impl Program {
     }
 
     fn read(&self) -> Result<String, u32> {
-        let mut values = [0; Sizes::MAX_NODES];
-        let count = calls::read(&self.table, &mut values)?;
+        let mut words = [0; 2 * Sizes::MAX_NODES];
+        let count = calls::read(&self.table, &mut words)?;
         let mut text = String::from("(lane");
-        for value in &values[..count as usize] {
-            text.push_str(&format!(" {value}"));
+        for pair in words.chunks_exact(2).take(count as usize) {
+            text.push_str(&format!(" {:010}", table::tag(pair[0], pair[1])));
         }
         text.push(')');
         Ok(text)
@@ -102,7 +103,7 @@ fn print(answer: Answer) -> String {
     match answer {
         Answer::Going => String::from("(going)"),
         Answer::Pushed => String::from("(pushed)"),
-        Answer::Bag(value) => format!("(bag {value})"),
+        Answer::Bag(tag) => format!("(bag {tag:010})"),
         Answer::Empty => String::from("(empty)"),
         Answer::Full => String::from("(full)"),
         Answer::Yes => String::from("(yes)"),

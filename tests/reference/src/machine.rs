@@ -4,7 +4,7 @@ use crate::alloc;
 use crate::refusal;
 use crate::side::Side;
 use crate::table::record::{self, A, COUNTED, D};
-use crate::table::{self, header, node, Sizes, NONE, PUSH};
+use crate::table::{self, content, header, node, Content, Sizes, NONE, PUSH};
 
 /// A task of a table whose shape holds.
 pub struct Machine<'a> {
@@ -15,15 +15,21 @@ pub struct Machine<'a> {
     pub side: &'static Side,
 }
 
-/// One word of a compare and swap, by its index in the table.
-pub struct Swap {
+/// One part of a compare and swap, by the index of its first word: a word alone, or a content.
+pub struct Swap<const N: usize> {
     at: usize,
-    old: u32,
-    new: u32,
+    old: [u32; N],
+    new: [u32; N],
 }
 
-/// The swap of one word.
-pub fn swap(at: usize, old: u32, new: u32) -> Swap {
+/// The swap of a hat or a link.
+pub fn swap_word(at: usize, old: u32, new: u32) -> Swap<1> {
+    let (old, new) = ([old], [new]);
+    Swap { at, old, new }
+}
+
+/// The swap of a content.
+pub fn swap(at: usize, old: Content, new: Content) -> Swap<2> {
     Swap { at, old, new }
 }
 
@@ -48,6 +54,11 @@ impl<'a> Machine<'a> {
     /// Sets a field of the task's record.
     pub fn set(&mut self, field: usize, word: u32) {
         self.table[self.record + field] = word;
+    }
+
+    /// A content of the task's record.
+    pub fn get_content(&self, field: usize) -> Content {
+        content(self.table, self.record + field)
     }
 
     /// Makes the task idle.
@@ -109,9 +120,18 @@ impl<'a> Machine<'a> {
         }
     }
 
-    /// A word of the node in a register.
-    pub fn load(&self, register: usize, field: usize) -> Result<u32, u32> {
-        Ok(self.table[self.at(register, field)?])
+    /// The content of the node in a register.
+    pub fn load(&self, register: usize) -> Result<Content, u32> {
+        Ok(content(self.table, self.at(register, node::VALUE)?))
+    }
+
+    /// Reads the content of the node in a register into the task's record.
+    pub fn read(&mut self, register: usize) -> Result<Content, u32> {
+        let content = self.load(register)?;
+        let [value, digit] = content;
+        self.set(record::VALUE, value);
+        self.set(record::VALUE_DIGIT, digit);
+        Ok(content)
     }
 
     /// Writes a word by its index.
@@ -121,46 +141,53 @@ impl<'a> Machine<'a> {
 
     /// Reads a link of the node in one register into another.
     pub fn follow(&mut self, from: usize, link: usize, into: usize) -> Result<u32, u32> {
-        let next = self.load(from, link)?;
+        let next = self.table[self.at(from, link)?];
         self.set(into, next);
         Ok(next)
     }
 
     /// The swap of the hat from A to a register; a hat never becomes none.
-    pub fn move_hat(&self, to: usize) -> Result<Swap, u32> {
+    pub fn move_hat(&self, to: usize) -> Result<Swap<1>, u32> {
         match self.get(to) {
             NONE => Err(refusal::NO_NODE),
-            new => Ok(swap(self.side.hat, self.get(A), new)),
+            new => Ok(swap_word(self.side.hat, self.get(A), new)),
         }
     }
 
-    /// Compares a word and writes it if equal.
-    pub fn cas(&mut self, one: Swap) -> bool {
-        let equal = self.table[one.at] == one.old;
+    /// Compares a part and writes it if equal.
+    pub fn cas<const N: usize>(&mut self, one: Swap<N>) -> bool {
+        let equal = self.matches(&one);
         if equal {
-            self.table[one.at] = one.new;
+            self.write(one);
         }
         equal
     }
 
-    /// Compares both words before it writes either; should both be one word,
+    /// Compares both parts before it writes either; should both be one content,
     /// the second write stands.
-    pub fn dcas(&mut self, first: Swap, second: Swap) -> bool {
-        let equal = self.table[first.at] == first.old && self.table[second.at] == second.old;
+    pub fn dcas<const N: usize>(&mut self, first: Swap<N>, second: Swap<2>) -> bool {
+        let equal = self.matches(&first) && self.matches(&second);
         if equal {
-            self.table[first.at] = first.new;
-            self.table[second.at] = second.new;
+            self.write(first);
+            self.write(second);
         }
         equal
+    }
+
+    fn matches<const N: usize>(&self, part: &Swap<N>) -> bool {
+        self.table[part.at..part.at + N] == part.old
+    }
+
+    fn write<const N: usize>(&mut self, part: Swap<N>) {
+        self.table[part.at..part.at + N].copy_from_slice(&part.new);
     }
 
     /// Takes a free node, without links, if there is one.
-    pub fn allocate(&mut self, hint: u32, mark: u32) -> Option<u32> {
+    pub fn allocate(&mut self, hint: u32, mark: Content) -> Option<u32> {
         let number = alloc::first_free(self.table, self.sizes, hint)?;
         let at = self.node(number);
-        self.table[at + node::LEFT] = NONE;
-        self.table[at + node::RIGHT] = NONE;
-        self.table[at + node::VALUE] = mark;
+        let [value, digit] = mark;
+        self.table[at..at + node::WORDS].copy_from_slice(&[NONE, NONE, value, digit]);
         Some(number)
     }
 }

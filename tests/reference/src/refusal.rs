@@ -14,7 +14,7 @@ pub const TASK: u32 = 5;
 pub const OPERATION: u32 = 6;
 /// The argument is out of its operation's range.
 pub const ARGUMENT: u32 = 7;
-/// Begin of a push: the value is in the deque, or on its way there.
+/// Begin of a push: the tag is in the deque, or on its way there.
 pub const TWICE: u32 = 16;
 /// The task is in the middle of an operation.
 pub const BUSY: u32 = 8;

@@ -2,7 +2,7 @@
 
 use crate::refusal;
 use crate::side::Side;
-use crate::table::{self, header, node, record, Sizes, NONE};
+use crate::table::{self, content, header, is_content, is_tag, node, record, Sizes, NONE};
 
 /// The sizes of a table whose shape holds, or the refusal.
 pub fn check(table: &[u32]) -> Result<Sizes, u32> {
@@ -47,7 +47,7 @@ fn is_link(word: u32, sizes: Sizes) -> bool {
 fn node_holds(node: &[u32], sizes: Sizes) -> bool {
     is_link(node[node::LEFT], sizes)
         && is_link(node[node::RIGHT], sizes)
-        && table::is_content(node[node::VALUE])
+        && is_content(content(node, node::VALUE))
 }
 
 fn record_holds(task: &[u32], sizes: Sizes) -> bool {
@@ -58,7 +58,7 @@ fn record_holds(task: &[u32], sizes: Sizes) -> bool {
     // An unknown operation has no argument that fits and no step.
     task[record::SIDE] <= 1
         && table::step_belongs(operation, task[record::STEP])
-        && table::argument_fits(operation, task[record::ARGUMENT])
+        && table::argument_fits(operation, content(task, record::ARGUMENT))
         && counted_holds(task, sizes)
         && value_holds(task)
         && task[record::A..].iter().all(|&word| is_link(word, sizes))
@@ -79,13 +79,13 @@ fn counted_holds(task: &[u32], sizes: Sizes) -> bool {
 }
 
 fn value_holds(task: &[u32]) -> bool {
-    let value = task[record::VALUE];
+    let value = content(task, record::VALUE);
     match task[record::STEP] {
         48 => {
             let side = Side::numbered(task[record::SIDE]);
             value == side.far_null || value == side.far_terminator
         }
-        51 => table::is_value(value),
-        _ => table::is_content(value),
+        51 => is_tag(value),
+        _ => is_content(value),
     }
 }

@@ -1,6 +1,6 @@
 //! The words in which the two sides differ, so that the steps are written once.
 
-use crate::table::{self, header, node};
+use crate::table::{self, header, mark, node, Content};
 
 /// What a step needs to know of its side.
 pub struct Side {
@@ -11,26 +11,26 @@ pub struct Side {
     /// Link towards the terminator.
     pub outward: usize,
     /// This side's null mark.
-    pub null: u32,
+    pub null: Content,
     /// This side's terminator mark.
-    pub terminator: u32,
+    pub terminator: Content,
     /// This side's mark for a node cut off.
-    pub spur: u32,
+    pub spur: Content,
     /// The other side's null mark.
-    pub far_null: u32,
+    pub far_null: Content,
     /// The other side's terminator mark.
-    pub far_terminator: u32,
+    pub far_terminator: Content,
 }
 
 const RIGHT: Side = Side {
     hat: header::RIGHT_HAT,
     inward: node::LEFT,
     outward: node::RIGHT,
-    null: table::RN,
-    terminator: table::RX,
-    spur: table::RY,
-    far_null: table::LN,
-    far_terminator: table::LX,
+    null: mark(table::RN),
+    terminator: mark(table::RX),
+    spur: mark(table::RY),
+    far_null: mark(table::LN),
+    far_terminator: mark(table::LX),
 };
 
 static SIDES: [Side; 2] = [RIGHT.mirrored(), RIGHT];
@@ -46,11 +46,16 @@ impl Side {
             hat: header::LEFT_HAT + header::RIGHT_HAT - self.hat,
             inward: self.outward,
             outward: self.inward,
-            null: table::mirror(self.null),
-            terminator: table::mirror(self.terminator),
-            spur: table::mirror(self.spur),
-            far_null: table::mirror(self.far_null),
-            far_terminator: table::mirror(self.far_terminator),
+            null: far(self.null),
+            terminator: far(self.terminator),
+            spur: far(self.spur),
+            far_null: far(self.far_null),
+            far_terminator: far(self.far_terminator),
         }
     }
+}
+
+/// A mark seen from the other side.
+const fn far([word, digit]: Content) -> Content {
+    [table::mirror(word), digit]
 }

@@ -1,7 +1,7 @@
 //! One tick of one task: a line of the figure, in one text for both sides.
 
 use crate::answer::Answer;
-use crate::machine::{swap, Machine};
+use crate::machine::{swap, swap_word, Machine};
 use crate::table::node::VALUE;
 use crate::table::record::{self, A, B, C, COUNTED, D};
 use crate::table::{self, Sizes, NONE};
@@ -52,21 +52,22 @@ fn step(m: &mut Machine, hint: u32) -> Result<Next, u32> {
         }
         5 => {
             let hat = m.move_hat(B)?;
-            let value = swap(m.at(A, VALUE)?, side.null, m.get(record::ARGUMENT));
+            let pushed = m.get_content(record::ARGUMENT);
+            let value = swap(m.at(A, VALUE)?, side.null, pushed);
             if m.dcas(hat, value) {
                 Done(Answer::Pushed)
             } else {
                 To(8)
             }
         }
-        8 => either(m.load(A, VALUE)? == side.terminator, 28, 67),
+        8 => either(m.load(A)? == side.terminator, 28, 67),
 
         // Unspur.
         67 => {
             m.set(A, m.hat());
             To(68)
         }
-        68 => either(m.load(A, VALUE)? == side.spur, 69, m.back()),
+        68 => either(m.load(A)? == side.spur, 69, m.back()),
         69 => {
             m.follow(A, side.inward, B)?;
             To(70)
@@ -110,8 +111,7 @@ fn step(m: &mut Machine, hint: u32) -> Result<Next, u32> {
             To(17)
         }
         17 => {
-            let value = m.load(A, VALUE)?;
-            m.set(record::VALUE, value);
+            let value = m.read(A)?;
             if value == side.null {
                 To(18)
             } else if value == side.spur {
@@ -131,7 +131,7 @@ fn step(m: &mut Machine, hint: u32) -> Result<Next, u32> {
             To(25)
         }
         25 => {
-            let link = swap(m.at(A, side.outward)?, m.get(B), m.get(D));
+            let link = swap_word(m.at(A, side.outward)?, m.get(B), m.get(D));
             let value = swap(m.at(A, VALUE)?, side.terminator, side.null);
             if !m.dcas(link, value) {
                 To(15)
@@ -154,9 +154,8 @@ fn step(m: &mut Machine, hint: u32) -> Result<Next, u32> {
             either(next == NONE, 39, 42)
         }
         42 => {
-            let value = m.load(B, VALUE)?;
-            m.set(record::VALUE, value);
-            if table::is_value(value) {
+            let value = m.read(B)?;
+            if table::is_tag(value) {
                 To(51)
             } else {
                 let end = value == side.far_null || value == side.far_terminator;
@@ -164,19 +163,20 @@ fn step(m: &mut Machine, hint: u32) -> Result<Next, u32> {
             }
         }
         48 => {
-            let value = m.load(B, VALUE)?;
-            if m.hat() == m.get(A) && value == m.get(record::VALUE) {
+            let value = m.load(B)?;
+            if m.hat() == m.get(A) && value == m.get_content(record::VALUE) {
                 Done(Answer::Empty)
             } else {
                 To(39)
             }
         }
         51 => {
-            let popped = m.get(record::VALUE);
+            let popped = m.get_content(record::VALUE);
             let hat = m.move_hat(B)?;
             let value = swap(m.at(B, VALUE)?, popped, side.null);
             if m.dcas(hat, value) {
-                Done(Answer::Bag(popped))
+                let [low, digit] = popped;
+                Done(Answer::Bag(table::tag(digit, low)))
             } else {
                 To(39)
             }
@@ -188,7 +188,7 @@ fn step(m: &mut Machine, hint: u32) -> Result<Next, u32> {
             either(m.goal() == 0, 60, 56)
         }
         56 => {
-            if m.load(A, VALUE)? == side.terminator {
+            if m.load(A)? == side.terminator {
                 Done(Answer::Yes)
             } else {
                 To(58)
@@ -212,7 +212,7 @@ fn step(m: &mut Machine, hint: u32) -> Result<Next, u32> {
             }
         }
         64 => {
-            let link = swap(m.at(A, side.outward)?, m.get(B), NONE);
+            let link = swap_word(m.at(A, side.outward)?, m.get(B), NONE);
             m.cas(link);
             To(74)
         }
@@ -225,12 +225,11 @@ fn step(m: &mut Machine, hint: u32) -> Result<Next, u32> {
             either(next == NONE, 82, 77)
         }
         77 => {
-            let value = m.load(B, VALUE)?;
-            m.set(record::VALUE, value);
+            m.read(B)?;
             To(78)
         }
         78 => {
-            let value = swap(m.at(B, VALUE)?, m.get(record::VALUE), side.spur);
+            let value = swap(m.at(B, VALUE)?, m.get_content(record::VALUE), side.spur);
             either(m.cas(value), 79, 77)
         }
         79 => {
@@ -240,7 +239,7 @@ fn step(m: &mut Machine, hint: u32) -> Result<Next, u32> {
         }
         81 => {
             let next = m.follow(A, side.outward, B)?;
-            let last = m.get(record::VALUE) == side.terminator;
+            let last = m.get_content(record::VALUE) == side.terminator;
             either(next == NONE || last, 82, 77)
         }
         // 82, the one step that is left when the shape holds.

@@ -3,8 +3,20 @@
 /// No node: the value of an absent link or an unset register.
 pub const NONE: u32 = 65_535;
 
-/// The largest value a deque may carry; the smallest is 1.
-pub const MAX_VALUE: u32 = 999_999_999;
+/// The largest leading digit of a tag.
+pub const MAX_DIGIT: u32 = 9;
+/// The largest low part, the nine digits below the leading one.
+pub const MAX_LOW: u32 = 999_999_999;
+/// What the leading digit counts.
+const LEADING: u64 = 1_000_000_000;
+/// The largest tag a deque may carry; the smallest is 1.
+pub const MAX_TAG: u64 = 9_999_999_999;
+
+/// V and its digit as they stand in the table, which are compared and written as one.
+pub type Content = [u32; 2];
+
+/// The content of a node that was never used.
+pub const NEVER_USED: Content = [0, 0];
 
 /// Left null: a spare node or sentinel on the left.
 pub const LN: u32 = 1_000_000_001;
@@ -53,13 +65,15 @@ pub mod header {
 /// Word offsets in a node.
 pub mod node {
     /// Length of a node.
-    pub const WORDS: usize = 3;
+    pub const WORDS: usize = 4;
     /// Link to the left.
     pub const LEFT: usize = 0;
     /// Link to the right.
     pub const RIGHT: usize = 1;
-    /// Value or mark.
+    /// Low part of a tag, or a mark; its digit follows.
     pub const VALUE: usize = 2;
+    /// Leading digit of a tag, else 0.
+    pub const DIGIT: usize = 3;
 }
 
 /// Word offsets in a task's record.
@@ -67,29 +81,33 @@ pub mod record {
     use super::NONE;
 
     /// Length of a record.
-    pub const WORDS: usize = 10;
+    pub const WORDS: usize = 12;
     /// What the task is doing.
     pub const OPERATION: usize = 0;
     /// Line of the figure that is next.
     pub const STEP: usize = 1;
     /// 0 left, 1 right.
     pub const SIDE: usize = 2;
-    /// The operation's argument.
+    /// The operation's argument, of a tag the low part; its digit follows.
     pub const ARGUMENT: usize = 3;
+    /// The argument's leading digit.
+    pub const ARGUMENT_DIGIT: usize = 4;
     /// Nodes chained or passed so far.
-    pub const COUNTED: usize = 4;
-    /// Value read.
-    pub const VALUE: usize = 5;
+    pub const COUNTED: usize = 5;
+    /// Value read; its digit follows.
+    pub const VALUE: usize = 6;
+    /// The value's leading digit.
+    pub const VALUE_DIGIT: usize = 7;
     /// Register A, the first of four.
-    pub const A: usize = 6;
+    pub const A: usize = 8;
     /// Register B.
-    pub const B: usize = 7;
+    pub const B: usize = 9;
     /// Register C.
-    pub const C: usize = 8;
+    pub const C: usize = 10;
     /// Register D.
-    pub const D: usize = 9;
+    pub const D: usize = 11;
     /// The record of an idle task.
-    pub const FRESH: [u32; WORDS] = [0, 0, 0, 0, 0, 0, NONE, NONE, NONE, NONE];
+    pub const FRESH: [u32; WORDS] = [0, 0, 0, 0, 0, 0, 0, 0, NONE, NONE, NONE, NONE];
 }
 
 /// The sizes of a table, known to be in range.
@@ -137,14 +155,40 @@ impl Sizes {
     }
 }
 
-/// Whether a word is a value, not a mark and not 0.
-pub fn is_value(word: u32) -> bool {
-    (1..=MAX_VALUE).contains(&word)
+/// The tag of a leading digit and a low part.
+pub fn tag(digit: u32, low: u32) -> u64 {
+    u64::from(digit) * LEADING + u64::from(low)
 }
 
-/// Whether a node may hold this word: 0, a value or a mark.
-pub fn is_content(word: u32) -> bool {
-    word <= MAX_VALUE || (LN..=RY).contains(&word)
+/// The leading digit of a number; one of a number above the largest tag is no digit.
+pub fn digit(number: u64) -> u32 {
+    (number.min(MAX_TAG + 1) / LEADING) as u32
+}
+
+/// The low part of a number.
+pub fn low_part(number: u64) -> u32 {
+    (number % LEADING) as u32
+}
+
+/// The content whose two words begin at an index.
+pub fn content(words: &[u32], at: usize) -> Content {
+    [words[at], words[at + 1]]
+}
+
+/// A mark as a content.
+pub const fn mark(word: u32) -> Content {
+    [word, 0]
+}
+
+/// Whether a content is a tag, neither a mark nor never used.
+pub fn is_tag(content: Content) -> bool {
+    let [low, digit] = content;
+    low <= MAX_LOW && digit <= MAX_DIGIT && content != NEVER_USED
+}
+
+/// Whether a node may hold this content: a tag, a mark, or never used.
+pub fn is_content([value, digit]: Content) -> bool {
+    value <= MAX_LOW && digit <= MAX_DIGIT || (LN..=RY).contains(&value) && digit == 0
 }
 
 /// The same mark seen from the other side; other words are their own mirror.
@@ -161,12 +205,13 @@ pub const fn mirror(word: u32) -> u32 {
 }
 
 /// Whether the argument is in the operation's range.
-pub fn argument_fits(operation: u32, argument: u32) -> bool {
+pub fn argument_fits(operation: u32, argument: Content) -> bool {
+    let [number, digit] = argument;
     match operation {
-        PUSH => is_value(argument),
-        POP => argument == 0,
-        ADD => argument <= 64,
-        REMOVE => argument <= 1023,
+        PUSH => is_tag(argument),
+        POP => argument == [0, 0],
+        ADD => number <= 64 && digit == 0,
+        REMOVE => number <= 1023 && digit == 0,
         _ => false,
     }
 }

@@ -1,12 +1,13 @@
-//! The paper's eight cases, word for word, and the left mirror of each.
+//! The paper's eight cases, word for word, tags of one low part, and the left mirror of each.
 
 mod common;
 
+use common::calls::{begin, whole};
 use common::tables::sizes;
 use reference::table::{
-    header, mirror, node, record, ADD, LX, NONE, POP, PUSH, REMOVE, RN, RX, RY,
+    header, mirror, node, record, ADD, LX, MAX_TAG, NONE, POP, PUSH, REMOVE, RN, RX, RY,
 };
-use reference::{begin, read, start, tick, Answer};
+use reference::{read, start, tick, Answer};
 
 const RIGHT: u32 = 1;
 const LEFT: u32 = 0;
@@ -23,23 +24,23 @@ enum Act {
         refused: u32,
     },
     /// Begin (task, operation, side, argument), with the refusal or 0.
-    Begin(u32, u32, u32, u32, u32),
+    Begin(u32, u32, u32, u64, u32),
     /// Exactly so many ticks of a task with hint 0, all going.
     Going(u32, u32),
     /// The answer comes at exactly this tick.
     Answers(u32, u32, Answer),
     /// The hat of a side is on this node.
     Hat(u32, u32),
-    /// A node's link to the left, link to the right and content.
-    Node(u32, [u32; 3]),
+    /// A node's link to the left, link to the right, V and digit.
+    Node(u32, [u32; 4]),
     /// A node was never used.
     Unused(u32),
     /// Register of a task, by its offset in the record.
     Register(u32, usize, u32),
     /// All tasks but these are idle.
     Busy(Vec<u32>),
-    /// The deque's values, leftmost first.
-    Values(Vec<u32>),
+    /// The deque's tags, leftmost first.
+    Tags(Vec<u64>),
     /// The tick count.
     Ticks(u32),
 }
@@ -54,13 +55,14 @@ fn mirror_act(act: &Act) -> Act {
             Begin(task, operation, 1 - side, argument, refused)
         }
         Hat(side, number) => Hat(1 - side, name(number)),
-        Node(number, [left, right, value]) => {
-            Node(name(number), [name(right), name(left), mirror(value)])
+        Node(number, [left, right, value, digit]) => {
+            let words = [name(right), name(left), mirror(value), digit];
+            Node(name(number), words)
         }
         Register(task, register, number) => Register(task, register, name(number)),
-        Values(mut values) => {
-            values.reverse();
-            Values(values)
+        Tags(mut tags) => {
+            tags.reverse();
+            Tags(tags)
         }
         other => other,
     }
@@ -117,7 +119,7 @@ fn play_act(table: &mut Vec<u32>, act: &Act, at: usize) {
             let from = sizes(table).node(number);
             assert_eq!(table[from..from + node::WORDS], words, "act {at}");
         }
-        &Unused(number) => play_act(table, &Node(number, [NONE, NONE, 0]), at),
+        &Unused(number) => play_act(table, &Node(number, [NONE, NONE, 0, 0]), at),
         &Register(task, register, number) => {
             let from = sizes(table).record(task);
             assert_eq!(table[from + register], number, "act {at}");
@@ -130,11 +132,12 @@ fn play_act(table: &mut Vec<u32>, act: &Act, at: usize) {
                 assert_eq!(idle, !busy.contains(&task), "act {at}, task {task}");
             }
         }
-        Values(values) => {
-            let mut out = vec![9; values.len() + 1];
-            assert_eq!(read(table, &mut out), Ok(values.len() as u32), "act {at}");
-            assert_eq!(out[..values.len()], values[..], "act {at}");
-            assert_eq!(out[values.len()], 9, "act {at}");
+        Tags(tags) => {
+            let words = 2 * tags.len();
+            let mut out = vec![9; words + 2];
+            assert_eq!(read(table, &mut out), Ok(tags.len() as u32), "act {at}");
+            assert_eq!(whole(&out[..words]), *tags, "act {at}");
+            assert_eq!(out[words..], [9, 9], "act {at}");
         }
         &Ticks(count) => assert_eq!(table[header::TICKS], count, "act {at}"),
     }
@@ -150,7 +153,7 @@ fn expected(refused: u32) -> Result<(), u32> {
 
 fn accepted(nodes: u32, tasks: u32, growth: u32) -> Act {
     Start {
-        words: 8 + 3 * nodes as usize + 10 * tasks as usize,
+        words: 8 + 4 * nodes as usize + 12 * tasks as usize,
         nodes,
         tasks,
         growth,
@@ -162,10 +165,10 @@ fn started_words() -> Vec<Act> {
     vec![
         Hat(LEFT, 0),
         Hat(RIGHT, 1),
-        Node(0, [NONE, 1, LX]),
-        Node(1, [0, NONE, RX]),
+        Node(0, [NONE, 1, LX, 0]),
+        Node(1, [0, NONE, RX, 0]),
         Busy(vec![]),
-        Values(vec![]),
+        Tags(vec![]),
         Ticks(0),
     ]
 }
@@ -185,28 +188,28 @@ fn case_1_push_and_two_pops() {
         Begin(0, PUSH, RIGHT, 51, 0),
         Going(0, 10),
         Ticks(10),
-        Values(vec![]),
+        Tags(vec![]),
         Answers(0, 1, Answer::Pushed),
         Ticks(11),
         Busy(vec![]),
-        Values(vec![51]),
+        Tags(vec![51]),
         Hat(LEFT, 0),
         Hat(RIGHT, 2),
-        Node(0, [NONE, 1, LX]),
-        Node(1, [0, 2, 51]),
-        Node(2, [1, NONE, RX]),
+        Node(0, [NONE, 1, LX, 0]),
+        Node(1, [0, 2, 51, 0]),
+        Node(2, [1, NONE, RX, 0]),
         Unused(3),
         Begin(0, POP, LEFT, 0, 0),
         Answers(0, 4, Answer::Bag(51)),
         Ticks(15),
-        Values(vec![]),
+        Tags(vec![]),
         Hat(LEFT, 1),
         Hat(RIGHT, 2),
-        Node(1, [0, 2, mirror(RN)]),
+        Node(1, [0, 2, mirror(RN), 0]),
         Begin(0, POP, RIGHT, 0, 0),
         Answers(0, 4, Answer::Empty),
         Ticks(19),
-        Values(vec![]),
+        Tags(vec![]),
         Busy(vec![]),
     ]);
     both_sides(&acts);
@@ -236,12 +239,12 @@ fn case_3_one_node_gained() {
         Begin(0, ADD, RIGHT, 2, 0),
         Answers(0, 6, Answer::Yes),
         // The old terminator became a null node before the new terminator.
-        Node(0, [NONE, 1, LX]),
-        Node(1, [0, 2, RN]),
-        Node(2, [1, NONE, RX]),
+        Node(0, [NONE, 1, LX, 0]),
+        Node(1, [0, 2, RN, 0]),
+        Node(2, [1, NONE, RX, 0]),
         Hat(LEFT, 0),
         Hat(RIGHT, 1),
-        Values(vec![]),
+        Tags(vec![]),
         Busy(vec![]),
         Ticks(6),
     ]);
@@ -253,14 +256,14 @@ fn case_4_remove_says_no() {
         accepted(8, 1, 0),
         Begin(0, ADD, RIGHT, 0, 0),
         Answers(0, 5, Answer::Yes),
-        Node(1, [0, 2, RN]),
-        Node(2, [1, NONE, RX]),
+        Node(1, [0, 2, RN, 0]),
+        Node(2, [1, NONE, RX, 0]),
         Unused(3),
         Begin(0, REMOVE, RIGHT, 0, 0),
         Answers(0, 3, Answer::No),
-        Node(0, [NONE, 1, LX]),
-        Node(1, [0, 2, RN]),
-        Node(2, [1, NONE, RX]),
+        Node(0, [NONE, 1, LX, 0]),
+        Node(1, [0, 2, RN, 0]),
+        Node(2, [1, NONE, RX, 0]),
         Unused(3),
         Busy(vec![]),
         Ticks(8),
@@ -273,11 +276,11 @@ fn case_5_the_spur() {
         accepted(8, 2, 0),
         Begin(0, ADD, RIGHT, 2, 0),
         Answers(0, 7, Answer::Yes),
-        Node(0, [NONE, 1, LX]),
-        Node(1, [0, 4, RN]),
-        Node(4, [1, 3, RN]),
-        Node(3, [4, 2, RN]),
-        Node(2, [3, NONE, RX]),
+        Node(0, [NONE, 1, LX, 0]),
+        Node(1, [0, 4, RN, 0]),
+        Node(4, [1, 3, RN, 0]),
+        Node(3, [4, 2, RN, 0]),
+        Node(2, [3, NONE, RX, 0]),
         Unused(5),
         Begin(1, PUSH, RIGHT, 51, 0),
         Going(1, 2),
@@ -285,41 +288,41 @@ fn case_5_the_spur() {
         Register(1, record::B, 4),
         Begin(0, REMOVE, RIGHT, 0, 0),
         Answers(0, 14, Answer::Yes),
-        Node(1, [0, NONE, RX]),
-        Node(4, [1, NONE, RY]),
-        Node(3, [4, NONE, RY]),
-        Node(2, [3, NONE, RY]),
+        Node(1, [0, NONE, RX, 0]),
+        Node(4, [1, NONE, RY, 0]),
+        Node(3, [4, NONE, RY, 0]),
+        Node(2, [3, NONE, RY, 0]),
         Busy(vec![1]),
         // The stalled push holds node 4; 2 and 3 are free, and 2 is first.
         Begin(0, ADD, RIGHT, 0, 0),
         Going(0, 1),
         Register(0, record::D, 2),
-        Node(2, [NONE, NONE, RX]),
+        Node(2, [NONE, NONE, RX, 0]),
         Answers(0, 4, Answer::Yes),
-        Node(1, [0, 2, RN]),
-        Node(2, [1, NONE, RX]),
-        Node(4, [1, NONE, RY]),
+        Node(1, [0, 2, RN, 0]),
+        Node(2, [1, NONE, RX, 0]),
+        Node(4, [1, NONE, RY, 0]),
         Hat(RIGHT, 1),
-        Values(vec![]),
+        Tags(vec![]),
         Answers(1, 1, Answer::Pushed),
         // The hat is on the node that was cut off.
         Hat(RIGHT, 4),
-        Node(4, [1, NONE, RY]),
-        Node(1, [0, 2, 51]),
-        Values(vec![51]),
+        Node(4, [1, NONE, RY, 0]),
+        Node(1, [0, 2, 51, 0]),
+        Tags(vec![51]),
         Busy(vec![]),
         Begin(0, PUSH, RIGHT, 52, 0),
         Going(0, 8),
         Hat(RIGHT, 2),
         Answers(0, 11, Answer::Pushed),
-        Values(vec![51, 52]),
+        Tags(vec![51, 52]),
         Hat(LEFT, 0),
         Hat(RIGHT, 3),
-        Node(0, [NONE, 1, LX]),
-        Node(1, [0, 2, 51]),
-        Node(2, [1, 3, 52]),
-        Node(3, [2, NONE, RX]),
-        Node(4, [1, NONE, RY]),
+        Node(0, [NONE, 1, LX, 0]),
+        Node(1, [0, 2, 51, 0]),
+        Node(2, [1, 3, 52, 0]),
+        Node(3, [2, NONE, RX, 0]),
+        Node(4, [1, NONE, RY, 0]),
         Unused(5),
         Unused(6),
         Unused(7),
@@ -331,7 +334,7 @@ fn case_5_the_spur() {
 #[test]
 fn case_6_the_shortest_table() {
     let exact = Start {
-        words: 24,
+        words: 28,
         nodes: 2,
         tasks: 1,
         growth: 0,
@@ -340,7 +343,7 @@ fn case_6_the_shortest_table() {
     let mut acts = vec![exact];
     acts.extend(started_words());
     acts.push(Start {
-        words: 23,
+        words: 27,
         nodes: 2,
         tasks: 1,
         growth: 0,
@@ -352,7 +355,7 @@ fn case_6_the_shortest_table() {
 #[test]
 fn case_7_too_many_nodes() {
     both_sides(&[Start {
-        words: 8 + 3 * 1025 + 10,
+        words: 8 + 4 * 1025 + 12,
         nodes: 1025,
         tasks: 1,
         growth: 0,
@@ -361,15 +364,51 @@ fn case_7_too_many_nodes() {
 }
 
 #[test]
-fn case_8_limits_of_a_value() {
+fn case_8_limits_of_a_tag() {
     both_sides(&[
         accepted(4, 1, 0),
         Begin(0, PUSH, RIGHT, 0, 7),
-        Begin(0, PUSH, RIGHT, 1_000_000_000, 7),
+        Begin(0, PUSH, RIGHT, MAX_TAG + 1, 7),
         Busy(vec![]),
-        Begin(0, PUSH, RIGHT, 999_999_999, 0),
+        Begin(0, PUSH, RIGHT, MAX_TAG, 0),
         Busy(vec![0]),
         Answers(0, 11, Answer::Pushed),
-        Values(vec![999_999_999]),
+        Tags(vec![9_999_999_999]),
+        Node(1, [0, 2, 999_999_999, 9]),
+        Begin(0, POP, RIGHT, 0, 0),
+        Answers(0, 4, Answer::Bag(9_999_999_999)),
+        Node(1, [0, 2, RN, 0]),
     ]);
+}
+
+/// Tags with the same low part are different tags, and so are those whose low part is 0.
+#[test]
+fn tags_that_differ_in_the_digit_alone() {
+    let mut acts = vec![accepted(8, 1, 3)];
+    for (tag, ticks) in [
+        (51, 14),
+        (1_000_000_051, 3),
+        (1_000_000_000, 3),
+        (9_000_000_000, 3),
+    ] {
+        acts.extend([
+            Begin(0, PUSH, RIGHT, tag, 0),
+            Begin(0, PUSH, RIGHT, tag, 16),
+            Answers(0, ticks, Answer::Pushed),
+            Begin(0, PUSH, LEFT, tag, 16),
+        ]);
+    }
+    acts.extend([
+        Tags(vec![51, 1_000_000_051, 1_000_000_000, 9_000_000_000]),
+        Begin(0, POP, LEFT, 0, 0),
+        Answers(0, 4, Answer::Bag(51)),
+        Begin(0, PUSH, LEFT, 1_000_000_051, 16),
+        Begin(0, PUSH, LEFT, 51, 0),
+        Answers(0, 3, Answer::Pushed),
+    ]);
+    for tag in [9_000_000_000, 1_000_000_000, 1_000_000_051, 51] {
+        acts.extend([Begin(0, POP, RIGHT, 0, 0), Answers(0, 4, Answer::Bag(tag))]);
+    }
+    acts.extend([Tags(vec![]), Busy(vec![])]);
+    both_sides(&acts);
 }

@@ -30,6 +30,7 @@ fn call(random: &mut Random, table: &mut [u32], counts: &mut [u32; 17]) {
                 near(random, 4),
                 near(random, 5),
                 near(random, 2),
+                random.digit(),
                 near(random, 3),
             ));
             if number == 0 {
@@ -47,11 +48,11 @@ fn call(random: &mut Random, table: &mut [u32], counts: &mut [u32; 17]) {
         }
         3 => {
             let list: Vec<u32> = (0..random.below(40)).map(|_| near(random, 4)).collect();
-            let mut answers = vec![8; random.below(50) as usize];
+            let mut answers = vec![8; random.below(70) as usize];
             let (made, number) = run(table, &list, &mut answers);
             let made = made as usize;
             assert!(2 * made <= list.len());
-            assert!(answers.iter().skip(2 * made).all(|&word| word == 8));
+            assert!(answers.iter().skip(3 * made).all(|&word| word == 8));
             if made > 0 {
                 assert!(matches!(number, 0 | 5 | 9 | 10 | 11));
                 counts[0] += 1;
@@ -60,9 +61,9 @@ fn call(random: &mut Random, table: &mut [u32], counts: &mut [u32; 17]) {
             number
         }
         _ => {
-            let mut out = vec![8; random.below(12) as usize];
+            let mut out = vec![8; random.below(20) as usize];
             let found = read(table, &mut out);
-            let written = found.unwrap_or(0) as usize;
+            let written = 2 * found.unwrap_or(0) as usize;
             assert!(out[written..].iter().all(|&word| word == 8));
             assert_eq!(table, before);
             refused(found.map(|_| ()))
@@ -92,7 +93,7 @@ fn slices_of_any_words() {
     let mut random = Random::new(11);
     let mut counts = [0; 17];
     for _ in 0..20_000 {
-        let length = random.below(70) as usize;
+        let length = random.below(80) as usize;
         let mut table: Vec<u32> = (0..length).map(|_| random.word()).collect();
         call(&mut random, &mut table, &mut counts);
     }
@@ -157,10 +158,10 @@ fn a_run_is_its_ticks_on_any_table() {
                 random.below(bound)
             })
             .collect();
-        let mut answers = vec![8; list.len()];
+        let mut answers = vec![8; 3 * list.len() / 2];
         let found = run(&mut table, &list, &mut answers);
         let mut wanted = (0, 0);
-        for (pair, words) in list.chunks(2).zip(answers.chunks(2)) {
+        for (pair, words) in list.chunks(2).zip(answers.chunks(3)) {
             match tick(&mut single, pair[0], pair[1]) {
                 Ok(answer) => {
                     assert_eq!(words, answer.words());
@@ -182,7 +183,8 @@ fn a_run_is_its_ticks_on_any_table() {
 fn begin_some(random: &mut Random, table: &mut [u32]) {
     for task in 0..3 {
         let operation = PUSH + random.below(REMOVE);
-        let _ = begin(table, task, operation, random.below(2), random.below(2));
+        let (side, digit, argument) = (random.below(2), random.below(2), random.below(2));
+        let _ = begin(table, task, operation, side, digit, argument);
         for _ in 0..random.below(12) {
             let _ = tick(table, task, 0);
         }

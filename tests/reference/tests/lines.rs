@@ -66,33 +66,33 @@ fn lines_that_are_no_form() {
         "(start (slots 4) (tasks 1) (growth 0) (more 0))",
         "(Start (slots 4) (tasks 1) (growth 0))",
         "(begin 0)",
-        "(begin 0 push right 51)",
+        "(begin 0 push right 0000000051)",
         "(begin 0 (push right))",
-        "(begin 0 (push right 51)",
-        "(begin 0 (push right 51)))",
-        "(begin 0 (push right 51) )",
-        "(begin 0 (push right 51 ))",
-        "(begin 0 (push  right 51))",
-        "(begin 0 (push right  51))",
-        "(begin 0 (push right 51 52))",
-        "(begin 0 (pushright 51))",
-        "(begin 0 (push 1 51))",
-        "(begin 0 (1 right 51))",
-        "(begin 0 (push up 51))",
-        "(begin 0 (Push right 51))",
+        "(begin 0 (push right 0000000051)",
+        "(begin 0 (push right 0000000051)))",
+        "(begin 0 (push right 0000000051) )",
+        "(begin 0 (push right 0000000051 ))",
+        "(begin 0 (push  right 0000000051))",
+        "(begin 0 (push right  0000000051))",
+        "(begin 0 (push right 0000000051 0000000052))",
+        "(begin 0 (pushright 0000000051))",
+        "(begin 0 (push 1 0000000051))",
+        "(begin 0 (1 right 0000000051))",
+        "(begin 0 (push up 0000000051))",
+        "(begin 0 (Push right 0000000051))",
         "(begin 0 (peek right 0))",
         "(begin 0 (pop left))",
-        "(begin (push right 51))",
-        "(begin x (push right 51))",
-        "(begin 0(push right 51))",
-        "(begin 0 (push right -1))",
-        "(begin 0 (push right +51))",
-        "(begin 0 (push right 5 1))",
-        "(begin 0 (push right 5,1))",
-        "(begin 0 (push right 5_1))",
-        "(begin 0 (push right 0x33))",
-        "(begin 0 (push right 51.0))",
-        "(begin 0 (push right \u{0665}\u{0661}))",
+        "(begin (push right 0000000051))",
+        "(begin x (push right 0000000051))",
+        "(begin 0(push right 0000000051))",
+        "(begin 0 (push right -000000051))",
+        "(begin 0 (push right +000000051))",
+        "(begin 0 (push right 00000 0051))",
+        "(begin 0 (push right 0,000,000,051))",
+        "(begin 0 (push right 00000000_51))",
+        "(begin 0 (push right 0x00000033))",
+        "(begin 0 (push right 0000000051.0))",
+        "(begin 0 (push right 00000000\u{0665}\u{0661}))",
         "(tick)",
         "(tick 0)",
         "(tick 0 0)",
@@ -137,19 +137,23 @@ fn numbers() {
     assert_eq!(
         answers(&[
             "(start (slots 0004) (tasks 01) (growth 00))",
-            "(begin 000 (push right 0000000000051))",
+            "(begin 000 (push right 0000000051))",
             "(tick 00 03 0011)",
             "(lane)",
             "(start (slots 4294967295) (tasks 1) (growth 0))",
             "(start (slots 4294967296) (tasks 1) (growth 0))",
             "(start (slots 4) (tasks 4294967296) (growth 0))",
             "(start (slots 4) (tasks 1) (growth 4294967296))",
-            "(begin 4294967295 (push right 51))",
-            "(begin 4294967296 (push right 51))",
-            "(begin 0 (push right 4294967295))",
-            "(begin 0 (push right 4294967296))",
-            "(begin 0 (push right 99999999999999999999999999999999999999999))",
-            "(begin 0 (push right 18446744073709551667))",
+            "(begin 4294967295 (push right 0000000052))",
+            "(begin 4294967296 (push right 0000000052))",
+            "(begin 0 (add right 00000000000064))",
+            "(tick 0 0 1000)",
+            "(begin 0 (add right 4294967295))",
+            "(begin 0 (remove right 4294967296))",
+            "(begin 0 (pop right 00000000000))",
+            "(tick 0 0 1)",
+            "(begin 0 (pop right 99999999999999999999999999999999999999999))",
+            "(begin 0 (add right 18446744073709551617))",
             "(tick 4294967295 0 1)",
             "(tick 4294967296 0 1)",
             "(tick 0 4294967295 1)",
@@ -161,15 +165,19 @@ fn numbers() {
             "(ok)",
             "(ok)",
             "(pushed)",
-            "(lane 51)",
+            "(lane 0000000051)",
             "(refused 1)",
             "(unread)",
             "(unread)",
             "(unread)",
             "(refused 5)",
             "(unread)",
+            "(ok)",
+            "(yes)",
             "(refused 7)",
             "(unread)",
+            "(ok)",
+            "(going)",
             "(unread)",
             "(unread)",
             "(refused 5)",
@@ -177,7 +185,74 @@ fn numbers() {
             "(refused 9)",
             "(unread)",
             "(unread)",
-            "(lane 51)",
+            "(lane 0000000051)",
+        ]
+    );
+}
+
+/// A tag has ten digits: another width is unread before anything else, and the top of other numbers does not bind it.
+#[test]
+fn tags() {
+    assert_eq!(
+        answers(&[
+            "(begin 0 (push right 51))",
+            "(begin 0 (push right 0000000051))",
+            START,
+            "(begin 0 (push right 0))",
+            "(begin 0 (push right 51))",
+            "(begin 0 (push right 999999999))",
+            "(begin 9 (push right 999999999))",
+            "(begin 0 (push right 00000000051))",
+            "(begin 0 (push right 99999999999))",
+            "(begin 0 (push right 10000000000))",
+            "(begin 0 (push right 18446744073709551667))",
+            "(begin 0 (push right 0000000000))",
+            "(begin 9 (push right 0000000000))",
+            "(begin 0 (push right 9999999999))",
+            "(tick 0 0 1000)",
+            "(begin 0 (push right 4294967296))",
+            "(begin 1 (push right 4294967296))",
+            "(tick 0 0 1000)",
+            "(lane)",
+            "(begin 0 (pop right 0))",
+            "(tick 0 0 1000)",
+            "(begin 0 (push right 1000000000))",
+            "(tick 0 0 1000)",
+            "(lane)",
+            "(begin 0 (pop right 0))",
+            "(tick 0 0 1000)",
+            "(begin 0 (pop left 0))",
+            "(tick 0 0 1000)",
+        ]),
+        [
+            "(unread)",
+            "(refused 3)",
+            "(ok)",
+            "(unread)",
+            "(unread)",
+            "(unread)",
+            "(unread)",
+            "(unread)",
+            "(unread)",
+            "(unread)",
+            "(unread)",
+            "(refused 7)",
+            "(refused 5)",
+            "(ok)",
+            "(pushed)",
+            "(ok)",
+            "(refused 16)",
+            "(pushed)",
+            "(lane 9999999999 4294967296)",
+            "(ok)",
+            "(bag 4294967296)",
+            "(ok)",
+            "(pushed)",
+            "(lane 9999999999 1000000000)",
+            "(ok)",
+            "(bag 1000000000)",
+            "(ok)",
+            "(bag 9999999999)",
         ]
     );
 }
@@ -187,7 +262,7 @@ fn times() {
     assert_eq!(
         answers(&[
             START,
-            "(begin 0 (push left 51))",
+            "(begin 0 (push left 0000000051))",
             "(tick 0 0 0)",
             "(tick 0 0 1001)",
             "(tick 0 0 4294967295)",
@@ -215,8 +290,8 @@ fn before_an_accepted_start() {
     assert_eq!(
         answers(&[
             "(lane)",
-            "(begin 0 (push right 51))",
-            "(begin 99 (push right 0))",
+            "(begin 0 (push right 0000000051))",
+            "(begin 99 (push right 0000000000))",
             "(tick 0 0 1)",
             "(tick 0 0 1001)",
             "(start (slots 1) (tasks 1) (growth 0))",
@@ -251,20 +326,20 @@ fn a_start_that_is_refused_keeps_the_table() {
     assert_eq!(
         answers(&[
             START,
-            "(begin 1 (push left 7))",
+            "(begin 1 (push left 0000000007))",
             "(tick 1 0 1000)",
             "(start (slots 1025) (tasks 1) (growth 0))",
             "(lane)",
             "(start (slots 3) (tasks 1) (growth 0))",
             "(lane)",
-            "(begin 1 (push left 7))",
+            "(begin 1 (push left 0000000007))",
         ]),
         [
             "(ok)",
             "(ok)",
             "(pushed)",
             "(refused 1)",
-            "(lane 7)",
+            "(lane 0000000007)",
             "(ok)",
             "(lane)",
             "(refused 5)",
@@ -273,24 +348,25 @@ fn a_start_that_is_refused_keeps_the_table() {
 }
 
 #[test]
-fn a_push_of_a_value_that_is_there() {
+fn a_push_of_a_tag_that_is_there() {
     assert_eq!(
         answers(&[
             START,
-            "(begin 0 (push right 51))",
-            "(begin 1 (push left 51))",
-            "(begin 0 (push right 51))",
-            "(begin 0 (push right 52))",
-            "(begin 1 (push left 1000000000))",
+            "(begin 0 (push right 0000000051))",
+            "(begin 1 (push left 0000000051))",
+            "(begin 0 (push right 0000000051))",
+            "(begin 0 (push right 1000000051))",
+            "(begin 1 (push left 0000000000))",
             "(tick 0 0 1000)",
-            "(begin 1 (push left 51))",
-            "(begin 1 (push left 00051))",
+            "(begin 1 (push left 0000000051))",
             "(begin 1 (add left 51))",
             "(begin 0 (pop left 0))",
             "(tick 0 0 3)",
-            "(begin 0 (push right 51))",
+            "(begin 0 (push right 0000000051))",
             "(tick 0 0 1)",
-            "(begin 0 (push right 51))",
+            "(begin 0 (push right 0000000051))",
+            "(tick 1 0 1000)",
+            "(begin 1 (push right 2000000051))",
         ]),
         [
             "(ok)",
@@ -301,12 +377,13 @@ fn a_push_of_a_value_that_is_there() {
             "(refused 7)",
             "(pushed)",
             "(refused 16)",
-            "(refused 16)",
             "(ok)",
             "(ok)",
             "(going)",
             "(refused 16)",
-            "(bag 51)",
+            "(bag 0000000051)",
+            "(ok)",
+            "(yes)",
             "(ok)",
         ]
     );
@@ -317,15 +394,15 @@ fn every_answer_is_printed() {
     assert_eq!(
         answers(&[
             "(start (slots 4) (tasks 1) (growth 2))",
-            "(begin 0 (push left 1))",
+            "(begin 0 (push left 0000000001))",
             "(tick 0 0 1000)",
-            "(begin 0 (push right 999999999))",
+            "(begin 0 (push right 9999999999))",
             "(tick 0 0 1000)",
             "(lane)",
             "(begin 0 (add left 64))",
             "(begin 0 (add left 64))",
             "(tick 0 0 1000)",
-            "(begin 0 (push right 2))",
+            "(begin 0 (push right 0000000002))",
             "(tick 0 0 1000)",
             "(begin 0 (pop right 0))",
             "(tick 0 0 1000)",
@@ -347,14 +424,14 @@ fn every_answer_is_printed() {
             "(pushed)",
             "(ok)",
             "(full)",
-            "(lane 1)",
+            "(lane 0000000001)",
             "(ok)",
             "(refused 8)",
             "(no)",
             "(ok)",
             "(full)",
             "(ok)",
-            "(bag 1)",
+            "(bag 0000000001)",
             "(ok)",
             "(going)",
             "(empty)",
@@ -394,6 +471,7 @@ fn very_long_lines() {
         answers(&[
             START,
             &format!("(begin {zeros} (push right {zeros}51))"),
+            &format!("(begin {zeros} (push right 0000000051))"),
             &format!("(tick {zeros} {zeros}3 {zeros}1000)"),
             &format!("(tick {nines} 0 1)"),
             &format!("(tick 0 0 {zeros}1001)"),
@@ -404,6 +482,7 @@ fn very_long_lines() {
         ]),
         [
             "(ok)",
+            "(unread)",
             "(ok)",
             "(pushed)",
             "(unread)",
@@ -411,7 +490,7 @@ fn very_long_lines() {
             "(unread)",
             "(unread)",
             "(unread)",
-            "(lane 51)",
+            "(lane 0000000051)",
         ]
     );
 }
@@ -422,35 +501,32 @@ fn a_long_deque() {
     let start = b"(start (slots 1024) (tasks 1) (growth 64))";
     assert_eq!(program.answer(start), "(ok)");
     let mut wanted = String::from("(lane");
-    // All nodes but one sentinel at each end carry a value.
-    for value in 1..=1022 {
-        let begin = format!("(begin 0 (push right {value}))");
+    // All nodes but one sentinel at each end carry a tag.
+    for tag in 9_999_998_978u64..=9_999_999_999 {
+        let begin = format!("(begin 0 (push right {tag}))");
         assert_eq!(program.answer(begin.as_bytes()), "(ok)");
         assert_eq!(program.answer(b"(tick 0 0 1000)"), "(pushed)");
-        wanted.push_str(&format!(" {value}"));
+        wanted.push_str(&format!(" {tag}"));
     }
     wanted.push(')');
     assert_eq!(program.answer(b"(lane)"), wanted);
-    assert_eq!(program.answer(b"(begin 0 (push right 1023))"), "(ok)");
+    assert_eq!(program.answer(b"(begin 0 (push right 0000000051))"), "(ok)");
     assert_eq!(program.answer(b"(tick 0 0 1000)"), "(full)");
     assert_eq!(program.answer(b"(lane)"), wanted);
 }
 
 /// What the reader should take, said another way: with every run of digits as
-/// one sign the line is one of a few, and its numbers are in range.
+/// one sign the line is one of a few, its numbers are in range and its tag is ten digits wide.
 fn readable(line: &[u8]) -> bool {
     let mut shape = Vec::new();
-    let mut numbers: Vec<u64> = Vec::new();
+    let mut runs: Vec<String> = Vec::new();
     for &byte in line {
         if byte.is_ascii_digit() {
             if shape.last() != Some(&b'#') {
                 shape.push(b'#');
-                numbers.push(0);
+                runs.push(String::new());
             }
-            if let Some(number) = numbers.last_mut() {
-                let digit = u64::from(byte - b'0');
-                *number = number.saturating_mul(10).saturating_add(digit);
-            }
+            runs.last_mut().expect("a run").push(byte.into());
         } else if byte == b'#' {
             return false;
         } else {
@@ -467,9 +543,17 @@ fn readable(line: &[u8]) -> bool {
             known.push(format!("(begin # ({operation} {side} #))"));
         }
     }
+    let is_push = shape.starts_with(b"(begin # (push");
+    let tag = is_push.then(|| runs.pop()).flatten();
+    // A number too long for this one is too large.
+    let numbers: Vec<u64> = runs
+        .iter()
+        .map(|run| run.parse().unwrap_or(u64::MAX))
+        .collect();
     let times = shape.starts_with(b"(tick").then(|| numbers.last());
     known.iter().any(|known| known.as_bytes() == shape)
         && numbers.iter().all(|&number| number <= 4_294_967_295)
+        && tag.is_none_or(|tag| tag.len() == 10)
         && times
             .flatten()
             .is_none_or(|times| (1..=1000).contains(times))
@@ -480,7 +564,8 @@ fn spoilt_lines() {
     let mut random = Random::new(31);
     let good = [
         START,
-        "(begin 0 (push right 51))",
+        "(begin 0 (push right 0000000051))",
+        "(begin 1 (push left 9999999999))",
         "(begin 1 (remove left 2))",
         "(begin 1 (pop left 0))",
         "(begin 0 (add right 64))",

@@ -2,9 +2,12 @@
 
 mod common;
 
+use common::calls::{begin, tags};
 use common::tables::{sizes, started, steps_of};
-use reference::table::{header, record, ADD, LN, LX, LY, NONE, POP, PUSH, REMOVE, RN, RX, RY};
-use reference::{begin, panel, read, run, start, tick, Answer};
+use reference::table::{
+    header, node, record, ADD, LN, LX, LY, MAX_TAG, NONE, POP, PUSH, REMOVE, RN, RX, RY,
+};
+use reference::{panel, read, run, start, tick, Answer};
 
 /// What every call but start refuses the table with.
 fn refused_by_all(table: &[u32], number: u32, what: &str) {
@@ -68,15 +71,15 @@ fn start_1_and_2() {
         (2, 1, u32::MAX),
     ];
     for (nodes, tasks, growth) in bad {
-        for words in [0, 23, 24, 25] {
+        for words in [0, 27, 28, 29] {
             let mut table = vec![3; words];
             assert_eq!(start(&mut table, nodes, tasks, growth), Err(1));
             assert_eq!(table, vec![3; words]);
         }
     }
     for (nodes, tasks, growth) in [(2, 1, 0), (1024, 16, 64), (5, 3, 1)] {
-        let exact = 8 + 3 * nodes as usize + 10 * tasks as usize;
-        for words in [0, exact - 1, exact + 1, exact + 10] {
+        let exact = 8 + 4 * nodes as usize + 12 * tasks as usize;
+        for words in [0, exact - 1, exact + 1, exact + 12] {
             let mut table = vec![3; words];
             assert_eq!(start(&mut table, nodes, tasks, growth), Err(2));
             assert_eq!(table, vec![3; words]);
@@ -92,6 +95,9 @@ fn all_others_3() {
     for length in 0..good.len() {
         refused_by_all(&good[..length], 3, "short");
     }
+    let shortest = started(2, 1, 0);
+    assert!(shape_holds(&shortest));
+    refused_by_all(&shortest[..27], 3, "27 words");
     let mut long = good.clone();
     long.push(0);
     refused_by_all(&long, 3, "long");
@@ -108,7 +114,7 @@ fn all_others_3() {
     }
     // Sizes out of range on slices of the length they ask for.
     for (nodes, tasks) in [(1, 2), (1025, 1), (4, 0), (2, 17)] {
-        let mut table = vec![0; 8 + 3 * nodes + 10 * tasks];
+        let mut table = vec![0; 8 + 4 * nodes + 12 * tasks];
         table[header::NODES] = nodes as u32;
         table[header::TASKS] = tasks as u32;
         refused_by_all(&table, 3, "matching length");
@@ -120,7 +126,6 @@ fn all_others_4_header_and_nodes() {
     let good = started(4, 1, 0);
     let size = sizes(&good);
     let links: &[u32] = &[4, 5, 65_534, 65_536, u32::MAX];
-    let contents: &[u32] = &[1_000_000_000, 1_000_000_007, u32::MAX];
     let mut words = vec![
         (header::ZEROS, &[1, u32::MAX][..]),
         (header::ZEROS + 1, &[1, u32::MAX]),
@@ -129,7 +134,7 @@ fn all_others_4_header_and_nodes() {
     ];
     for number in 0..4 {
         let at = size.node(number);
-        words.extend([(at, links), (at + 1, links), (at + 2, contents)]);
+        words.extend([(at, links), (at + 1, links)]);
     }
     for (word, values) in words {
         for &value in values {
@@ -138,11 +143,54 @@ fn all_others_4_header_and_nodes() {
             refused_by_all(&table, 4, "node or header");
         }
     }
-    for value in [0, 1, 999_999_999, LN, LX, LY, RN, RX, RY] {
-        let mut table = good.clone();
-        table[size.node(2) + 2] = value;
-        assert!(shape_holds(&table));
+    for number in 0..4 {
+        for content in contents() {
+            let mut table = good.clone();
+            let at = size.node(number) + node::VALUE;
+            table[at..at + 2].copy_from_slice(&content);
+            if may_stand(content) {
+                assert!(shape_holds(&table), "{content:?}");
+            } else {
+                refused_by_all(&table, 4, "content");
+            }
+        }
     }
+}
+
+/// V and digit in every combination, at the limits and past them.
+fn contents() -> impl Iterator<Item = [u32; 2]> {
+    const VALUES: [u32; 12] = [
+        0,
+        1,
+        999_999_999,
+        1_000_000_000,
+        LN,
+        LX,
+        LY,
+        RN,
+        RX,
+        RY,
+        1_000_000_007,
+        u32::MAX,
+    ];
+    const DIGITS: [u32; 6] = [0, 1, 9, 10, 1_000_000_004, u32::MAX];
+    VALUES
+        .into_iter()
+        .flat_map(|value| DIGITS.map(|digit| [value, digit]))
+}
+
+/// A digit is 0 to 9, that of a mark 0.
+fn may_stand([value, digit]: [u32; 2]) -> bool {
+    match value {
+        0..=999_999_999 => digit < 10,
+        1_000_000_001..=1_000_000_006 => digit == 0,
+        _ => false,
+    }
+}
+
+/// V 0 is a tag exactly with a digit other than 0.
+fn may_be_pushed([value, digit]: [u32; 2]) -> bool {
+    value < 1_000_000_000 && digit < 10 && value + digit > 0
 }
 
 #[test]
@@ -192,31 +240,69 @@ fn all_others_4_steps() {
     }
 }
 
+/// Operations with an argument, its digit, and whether these are the operation's.
+fn arguments() -> impl Iterator<Item = (u32, [u32; 2], bool)> {
+    const OTHERS: [(u32, [u32; 2], bool); 17] = [
+        (POP, [0, 0], true),
+        (POP, [1, 0], false),
+        (POP, [u32::MAX, 0], false),
+        (POP, [0, 1], false),
+        (POP, [0, 10], false),
+        (ADD, [0, 0], true),
+        (ADD, [64, 0], true),
+        (ADD, [65, 0], false),
+        (ADD, [u32::MAX, 0], false),
+        (ADD, [0, 1], false),
+        (ADD, [64, 9], false),
+        (REMOVE, [0, 0], true),
+        (REMOVE, [1023, 0], true),
+        (REMOVE, [1024, 0], false),
+        (REMOVE, [u32::MAX, 0], false),
+        (REMOVE, [0, 1], false),
+        (REMOVE, [1023, 9], false),
+    ];
+    let pushes = contents().map(|content| (PUSH, content, may_be_pushed(content)));
+    pushes.chain(OTHERS)
+}
+
 #[test]
-fn all_others_4_busy_record() {
-    for (operation, good, bad) in [
-        (
-            PUSH,
-            &[1, 999_999_999][..],
-            &[0, 1_000_000_000, RN, u32::MAX][..],
-        ),
-        (POP, &[0], &[1, u32::MAX]),
-        (ADD, &[0, 64], &[65, u32::MAX]),
-        (REMOVE, &[0, 1023], &[1024, u32::MAX]),
-    ] {
+fn all_others_4_argument() {
+    for (operation, content, fits) in arguments() {
         for side in [0, 1] {
             let mut table = started(4, 1, 0);
             let at = sizes(&table).record(0);
-            begin(&mut table, 0, operation, side, good[0]).expect("begin");
-            for &argument in good {
-                table[at + record::ARGUMENT] = argument;
-                assert!(shape_holds(&table));
-            }
-            for &argument in bad {
-                table[at + record::ARGUMENT] = argument;
+            let argument = u64::from(operation == PUSH);
+            begin(&mut table, 0, operation, side, argument).expect("begin");
+            table[at + record::ARGUMENT..at + record::COUNTED].copy_from_slice(&content);
+            if fits {
+                assert!(shape_holds(&table), "{operation} {content:?}");
+            } else {
                 refused_by_all(&table, 4, "argument");
             }
-            table[at + record::ARGUMENT] = good[0];
+        }
+    }
+}
+
+#[test]
+fn begin_7() {
+    for (operation, [argument, digit], fits) in arguments() {
+        for side in [0, 1] {
+            let mut table = started(4, 1, 0);
+            let found = reference::begin(&mut table, 0, operation, side, digit, argument);
+            let wanted = if fits { Ok(()) } else { Err(7) };
+            assert_eq!(found, wanted, "{operation} {digit} {argument}");
+        }
+    }
+}
+
+#[test]
+fn all_others_4_side_and_registers() {
+    for operation in [PUSH, POP, ADD, REMOVE] {
+        for side in [0, 1] {
+            let mut table = started(4, 1, 0);
+            let at = sizes(&table).record(0);
+            let argument = u64::from(operation == PUSH);
+            begin(&mut table, 0, operation, side, argument).expect("begin");
             for register in record::A..record::WORDS {
                 for (number, holds) in [(0, true), (3, true), (4, false), (65_536, false)] {
                     let mut table = table.clone();
@@ -239,10 +325,10 @@ fn all_others_4_counted() {
                     let mut table = started(4, 1, goal);
                     let at = sizes(&table).record(0);
                     let argument = match operation {
-                        // Any value will do: the goal is the growth.
+                        // Any tag will do: the goal is the growth.
                         PUSH => 51,
                         POP => 0,
-                        _ => goal,
+                        _ => u64::from(goal),
                     };
                     begin(&mut table, 0, operation, 1, argument).expect("begin");
                     table[at + record::STEP] = step;
@@ -263,61 +349,54 @@ fn all_others_4_counted() {
 
 #[test]
 fn all_others_4_value_read() {
-    let words = [
-        0,
-        1,
-        999_999_999,
-        1_000_000_000,
-        LN,
-        LX,
-        LY,
-        RN,
-        RX,
-        RY,
-        1_000_000_007,
-        u32::MAX,
-    ];
     for side in [0, 1] {
         for step in steps_of(POP) {
-            for value in words {
+            for content in contents() {
                 let mut table = started(4, 1, 0);
                 let at = sizes(&table).record(0);
                 begin(&mut table, 0, POP, side, 0).expect("begin");
                 table[at + record::STEP] = step;
-                table[at + record::VALUE] = value;
+                table[at + record::VALUE..at + record::A].copy_from_slice(&content);
                 let holds = match (step, side) {
-                    (48, 0) => value == RN || value == RX,
-                    (48, _) => value == LN || value == LX,
-                    (51, _) => value == 1 || value == 999_999_999,
-                    _ => ![1_000_000_000, 1_000_000_007, u32::MAX].contains(&value),
+                    (48, 0) => content == [RN, 0] || content == [RX, 0],
+                    (48, _) => content == [LN, 0] || content == [LX, 0],
+                    (51, _) => may_be_pushed(content),
+                    _ => may_stand(content),
                 };
-                assert_eq!(shape_holds(&table), holds, "{side} {step} {value}");
+                assert_eq!(shape_holds(&table), holds, "{side} {step} {content:?}");
             }
         }
     }
 }
 
-/// The values of a deque.
-const STANDING: [u32; 3] = [61, 62, 63];
+/// The tags of a deque, two of them with one low part and one with none.
+const STANDING: [u64; 3] = [61, 2_000_000_061, 3_000_000_000];
+/// The tag of a busy push beside them.
+const PUSHED: u64 = 4_000_000_051;
 
-/// A table of 6 nodes with these values in its deque, task 0 in a push of 51 and task 1 idle.
+/// A table of 6 nodes with these tags in its deque, task 0 in a push and task 1 idle.
 fn standing() -> Vec<u32> {
     let mut table = started(6, 2, 0);
     #[rustfmt::skip]
-    table[8..8 + 3 * 5].copy_from_slice(&[
-        NONE, 1, LX, 0, 2, 61, 1, 3, 62, 2, 4, 63, 3, NONE, RX,
+    table[8..8 + 4 * 5].copy_from_slice(&[
+        NONE, 1, LX, 0,
+        0, 2, 61, 0,
+        1, 3, 61, 2,
+        2, 4, 0, 3,
+        3, NONE, RX, 0,
     ]);
     table[header::RIGHT_HAT] = 4;
-    begin(&mut table, 0, PUSH, 1, 51).expect("begin");
+    assert_eq!(tags(&table), Ok(STANDING.to_vec()));
+    begin(&mut table, 0, PUSH, 1, PUSHED).expect("begin");
     table
 }
 
-/// A link each that leaves this deque without an end: the hat's, the last value's, and two that lead back.
+/// A link each that leaves this deque without an end: the hat's, the last tag's, and two that lead back.
 const UNREADABLE: [(usize, u32); 4] = [
     (8 + 1, NONE),
-    (8 + 3 * 3 + 1, NONE),
-    (8 + 3 + 1, 1),
-    (8 + 3 * 3 + 1, 2),
+    (8 + 4 * 3 + 1, NONE),
+    (8 + 4 + 1, 1),
+    (8 + 4 * 3 + 1, 2),
 ];
 
 #[test]
@@ -345,39 +424,36 @@ fn begin_in_order() {
             } else {
                 (PUSH, 1)
             };
-            let argument = match (chosen.contains(&7), chosen.contains(&16)) {
-                (true, _) => 0,
-                (false, true) => [51, 61, 62, 63][way],
-                (false, false) => 52,
+            // Of those that are nowhere, some share a low part with one that is somewhere.
+            let arguments = match (chosen.contains(&7), chosen.contains(&16)) {
+                (true, _) => [0, MAX_TAG + 1, 0, MAX_TAG + 1],
+                (false, true) => [PUSHED, STANDING[0], STANDING[1], STANDING[2]],
+                (false, false) => [51, 1_000_000_061, 9_000_000_000, 52],
             };
+            let argument = arguments[way];
             let found = begin(&mut table, task, operation, side, argument);
             assert_eq!(found, Err(first), "{chosen:?}");
             assert_eq!(table, before, "{chosen:?}");
         }
     }
     let mut table = faulty(&[]);
-    for (operation, argument) in [(PUSH, 1_000_000_000), (POP, 1), (ADD, 65), (REMOVE, 1024)] {
-        for side in [0, 1] {
-            assert_eq!(begin(&mut table, 1, operation, side, argument), Err(7));
-        }
-    }
     assert_eq!(begin(&mut table, 1, PUSH, 1, 52), Ok(()));
     assert_eq!(begin(&mut table, 1, PUSH, 1, 53), Err(8));
 }
 
-/// What a push of each number is refused with on a task, or 0.
-fn pushes(table: &[u32], task: u32, numbers: &[u32]) -> Vec<u32> {
-    let push = |&number: &u32| {
+/// What a push of each tag is refused with on a task, or 0.
+fn pushes(table: &[u32], task: u32, tags: &[u64]) -> Vec<u32> {
+    let push = |&tag: &u64| {
         let given = [0, 1].map(|side| {
             let mut lent = table.to_vec();
-            let found = begin(&mut lent, task, PUSH, side, number);
-            assert_eq!(found.is_err(), lent == table, "{number}");
+            let found = begin(&mut lent, task, PUSH, side, tag);
+            assert_eq!(found.is_err(), lent == table, "{tag}");
             found.err().unwrap_or(0)
         });
-        assert_eq!(given[0], given[1], "{number}");
+        assert_eq!(given[0], given[1], "{tag}");
         given[0]
     };
-    numbers.iter().map(push).collect()
+    tags.iter().map(push).collect()
 }
 
 #[test]
@@ -385,33 +461,41 @@ fn begin_16_in_the_deque() {
     let table = standing();
     assert_eq!(pushes(&table, 1, &STANDING), [16, 16, 16]);
     assert_eq!(pushes(&table, 0, &STANDING), [16, 16, 16]);
-    assert_eq!(pushes(&table, 1, &[1, 60, 64, 999_999_999]), [0; 4]);
-    // A value in a node outside of it, and one in the left hat's node, are not in it.
+    assert_eq!(pushes(&table, 1, &[1, 60, 62, MAX_TAG]), [0; 4]);
+    // Whole tags are compared, and not their digits or low parts.
+    let others = [1_000_000_061, 3_000_000_061, 2_000_000_060, 2_000_000_000];
+    assert_eq!(pushes(&table, 1, &others), [0; 4]);
+    // A tag in a node outside of it, and one in the left hat's node, are not in it.
     let mut table = table;
-    table[8 + 3 * 5 + 2] = 70;
+    table[8 + 4 * 5 + 2] = 70;
     table[8 + 2] = 71;
     assert_eq!(pushes(&table, 1, &[70, 71, 61]), [0, 0, 16]);
-    // Nor is one behind a node without a value.
-    table[8 + 3 * 2 + 2] = 0;
-    assert_eq!(pushes(&table, 1, &[61, 62, 63]), [16, 0, 0]);
+    // V 0 with its digit is in it; without, it ends it.
+    table[8 + 4 * 2 + 2] = 0;
+    let [first, second, third] = STANDING;
+    let known = [first, second, 2_000_000_000, third];
+    assert_eq!(pushes(&table, 1, &known), [16, 0, 16, 16]);
+    table[8 + 4 * 2 + 3] = 0;
+    assert_eq!(pushes(&table, 1, &known), [16, 0, 0, 0]);
 }
 
 #[test]
 fn begin_16_of_a_busy_push() {
+    let tags = [1_000_000_051, 51, 2_000_000_051, 1_000_000_000];
     for step in steps_of(PUSH) {
         for side in [0, 1] {
             let mut table = started(4, 3, 1);
             let at = sizes(&table).record(1);
-            begin(&mut table, 1, PUSH, side, 51).expect("begin");
+            begin(&mut table, 1, PUSH, side, tags[0]).expect("begin");
             table[at + record::STEP] = step;
             assert!(shape_holds(&table), "{step}");
-            assert_eq!(pushes(&table, 0, &[51, 52]), [16, 0], "{step}");
-            assert_eq!(pushes(&table, 2, &[51, 52]), [16, 0], "{step}");
+            assert_eq!(pushes(&table, 0, &tags), [16, 0, 0, 0], "{step}");
+            assert_eq!(pushes(&table, 2, &tags), [16, 0, 0, 0], "{step}");
             // Its own task is busy, which is tested later.
-            assert_eq!(pushes(&table, 1, &[51, 52]), [16, 8], "{step}");
+            assert_eq!(pushes(&table, 1, &tags), [16, 8, 8, 8], "{step}");
         }
     }
-    // Arguments of adds and removes are no values, and neither is what a pop has read.
+    // Arguments of adds and removes are no tags, and neither is what a pop has read.
     for (operation, argument) in [(ADD, 51), (REMOVE, 51), (POP, 0)] {
         let mut table = started(4, 2, 0);
         let at = sizes(&table).record(0);
@@ -430,7 +514,7 @@ fn begin_16_until_the_answer() {
     while tick(&mut table, 0, 0) == Ok(Answer::Going) {
         assert_eq!(pushes(&table, 1, &[51]), [16]);
     }
-    assert_eq!(read(&table, &mut [0]), Ok(1));
+    assert_eq!(tags(&table), Ok(vec![51]));
     begin(&mut table, 0, POP, 0, 0).expect("begin");
     for _ in 0..3 {
         assert_eq!(tick(&mut table, 0, 0), Ok(Answer::Going));
@@ -455,11 +539,12 @@ fn begin_11_before_16() {
         let mut table = standing();
         table[word] = link;
         assert!(shape_holds(&table));
-        assert_eq!(read(&table, &mut [0; 6]), Err(11));
-        // Whether the number is a busy push's, or met before the fault, or nowhere; on an idle and on a busy task.
+        assert_eq!(tags(&table), Err(11));
+        // Whether the tag is a busy push's, or met before the fault, or nowhere; on an idle and on a busy task.
         for task in [0, 1] {
-            assert_eq!(pushes(&table, task, &[51, 61, 62, 63, 64]), [11; 5]);
-            assert_eq!(pushes(&table, task, &[0, 1_000_000_000]), [7; 2]);
+            assert_eq!(pushes(&table, task, &STANDING), [11; 3]);
+            assert_eq!(pushes(&table, task, &[PUSHED, 51, 52]), [11; 3]);
+            assert_eq!(pushes(&table, task, &[0, MAX_TAG + 1]), [7; 2]);
         }
         // The others walk nothing.
         for (operation, argument) in [(POP, 0), (ADD, 1), (REMOVE, 1)] {
@@ -472,18 +557,21 @@ fn begin_11_before_16() {
 
 #[test]
 fn begin_writes_its_record_only() {
-    for (operation, argument, step) in [
-        (PUSH, 51, 2),
-        (POP, 0, 39),
-        (ADD, 64, 28),
-        (REMOVE, 1023, 54),
+    for (operation, digit, argument, step) in [
+        (PUSH, 0, 51, 2),
+        (PUSH, 9, 0, 2),
+        (PUSH, 9, 999_999_999, 2),
+        (POP, 0, 0, 39),
+        (ADD, 0, 64, 28),
+        (REMOVE, 0, 1023, 54),
     ] {
         for side in [0, 1] {
             let mut table = started(4, 3, 2);
             let mut wanted = table.clone();
             let at = sizes(&table).record(1);
-            wanted[at..at + 4].copy_from_slice(&[operation, step, side, argument]);
-            assert_eq!(begin(&mut table, 1, operation, side, argument), Ok(()));
+            wanted[at..at + 5].copy_from_slice(&[operation, step, side, argument, digit]);
+            let found = reference::begin(&mut table, 1, operation, side, digit, argument);
+            assert_eq!(found, Ok(()));
             assert_eq!(table, wanted);
         }
     }
@@ -494,10 +582,10 @@ fn tick_in_order() {
     for (chosen, first) in subsets(&[3, 4, 5, 9, 10, 11]) {
         let mut table = faulty(&chosen);
         if chosen.contains(&10) {
-            let at = 8 + 3 * 4;
+            let at = 8 + 4 * 4;
             table[at..at + record::WORDS].copy_from_slice(&record::FRESH);
         } else if !chosen.contains(&11) {
-            table[8 + 3 * 4 + record::A] = 1;
+            table[8 + 4 * 4 + record::A] = 1;
         }
         let before = table.clone();
         let task = if chosen.contains(&5) { 2 } else { 0 };
@@ -614,11 +702,11 @@ fn steps_of_the_register_table_are_all_steps() {
 fn read_in_order() {
     for (chosen, first) in subsets(&[3, 4, 11, 12]) {
         let mut table = faulty(&chosen);
-        // Two values, then the right sentinel or a way back.
+        // Two tags, then the right sentinel or a way back.
         let last = if chosen.contains(&11) { 1 } else { 3 };
-        table[8 + 3..8 + 3 * 4].copy_from_slice(&[0, 2, 51, 1, last, 52, 2, NONE, RX]);
+        table[8 + 4..8 + 4 * 4].copy_from_slice(&[0, 2, 51, 0, 1, last, 0, 9, 2, NONE, RX, 0]);
         table[header::RIGHT_HAT] = 3;
-        let length = if chosen.contains(&12) { 1 } else { 4 };
+        let length = if chosen.contains(&12) { 3 } else { 4 };
         let mut out = vec![6; length];
         assert_eq!(read(&table, &mut out), Err(first), "{chosen:?}");
         assert_eq!(out, vec![6; length], "{chosen:?}");
@@ -628,31 +716,39 @@ fn read_in_order() {
 #[test]
 fn read_11_and_12() {
     let mut table = started(4, 1, 0);
-    let nodes = 8..8 + 12;
-    // The hat has no link.
-    table[nodes.clone()].copy_from_slice(&[NONE, NONE, LX, 0, 2, 51, 1, 3, 52, 2, NONE, RX]);
-    assert_eq!(read(&table, &mut [0; 9]), Err(11));
-    // The chain breaks off after a value.
-    table[nodes.clone()].copy_from_slice(&[NONE, 1, LX, 0, 2, 51, 1, NONE, 52, 2, NONE, RX]);
-    assert_eq!(read(&table, &mut [0; 9]), Err(11));
-    // A ring of all nodes, and one node on its own.
-    table[nodes.clone()].copy_from_slice(&[3, 1, 50, 0, 2, 51, 1, 3, 52, 2, 0, 53]);
-    assert_eq!(read(&table, &mut [0; 9]), Err(11));
-    table[nodes.clone()].copy_from_slice(&[0, 0, 50, 0, 2, 51, 1, 3, 52, 2, 0, 53]);
-    assert_eq!(read(&table, &mut [0; 9]), Err(11));
-    // A value in the left hat's node is not in the deque; 0 ends it like a mark.
-    table[nodes].copy_from_slice(&[NONE, 1, 50, 0, 2, 51, 1, 3, 52, 2, 0, 0]);
-    let mut out = [6; 3];
-    assert_eq!(read(&table, &mut out), Ok(2));
-    assert_eq!(out, [51, 52, 6]);
-    assert_eq!(read(&table, &mut out[..1]), Err(12));
-    assert_eq!(read(&table, &mut []), Err(12));
-    assert_eq!(read(&table, &mut out[..2]), Ok(2));
-    // S - 1 values is the most there can be.
-    table[8 + 9..8 + 12].copy_from_slice(&[2, 0, 53]);
-    table[8..8 + 3].copy_from_slice(&[NONE, 1, LN]);
-    assert_eq!(read(&table, &mut out), Ok(3));
-    assert_eq!(out, [51, 52, 53]);
+    let mut read_nodes = |nodes: [[u32; 4]; 4], out: &mut [u32]| {
+        table[8..8 + 16].copy_from_slice(nodes.as_flattened());
+        read(&table, out)
+    };
+    let (hat, end) = ([NONE, 1, LX, 0], [2, NONE, RX, 0]);
+    let (one, two, three) = ([0, 2, 51, 0], [1, 3, 0, 9], [2, 0, 53, 1]);
+    for nodes in [
+        // The hat has no link.
+        [[NONE, NONE, LX, 0], one, two, end],
+        // The chain breaks off after a tag.
+        [hat, one, [1, NONE, 0, 9], end],
+        // A ring of all nodes, and one node on its own.
+        [[3, 1, 50, 0], one, two, three],
+        [[0, 0, 50, 0], one, two, three],
+    ] {
+        assert_eq!(read_nodes(nodes, &mut [0; 9]), Err(11), "{nodes:?}");
+    }
+    // A tag in the left hat's node is not in the deque; a node never used ends it like a mark.
+    let nodes = [[NONE, 1, 50, 0], one, two, [2, 0, 0, 0]];
+    let mut out = [6; 5];
+    for short in 0..4 {
+        assert_eq!(read_nodes(nodes, &mut out[..short]), Err(12));
+    }
+    assert_eq!(out, [6; 5]);
+    assert_eq!(read_nodes(nodes, &mut out[..4]), Ok(2));
+    assert_eq!(out, [0, 51, 9, 0, 6]);
+    assert_eq!(read_nodes(nodes, &mut out), Ok(2));
+    assert_eq!(out, [0, 51, 9, 0, 6]);
+    // S - 1 tags is the most there can be.
+    let mut out = [6; 6];
+    let found = read_nodes([[NONE, 1, LN, 0], one, two, three], &mut out);
+    assert_eq!(found, Ok(3));
+    assert_eq!(out, [0, 51, 9, 0, 1, 53]);
 }
 
 #[test]
@@ -660,7 +756,7 @@ fn run_in_order() {
     for (chosen, first) in subsets(&[3, 4, 13, 14]) {
         for odd in [true, false] {
             let mut table = faulty(&chosen);
-            table[8 + 3 * 4 + record::A] = 1;
+            table[8 + 4 * 4 + record::A] = 1;
             let before = table.clone();
             let length = match (chosen.contains(&13), odd) {
                 (true, true) => 3,
@@ -668,12 +764,12 @@ fn run_in_order() {
                 (false, _) => 4,
             };
             let list = vec![0; length];
-            let short = usize::from(chosen.contains(&14));
-            let mut answers = vec![6; length - short];
+            let room = 3 * (length / 2) - usize::from(chosen.contains(&14));
+            let mut answers = vec![6; room];
             let found = run(&mut table, &list, &mut answers);
             assert_eq!(found, (0, first), "{chosen:?}");
             assert_eq!(table, before, "{chosen:?}");
-            assert_eq!(answers, vec![6; length - short], "{chosen:?}");
+            assert_eq!(answers, vec![6; room], "{chosen:?}");
         }
     }
 }
@@ -683,7 +779,7 @@ fn panel_in_order() {
     for (chosen, first) in subsets(&[3, 4, 13, 15, 14]) {
         for odd in [true, false] {
             let mut table = faulty(&chosen);
-            table[8 + 3 * 4 + record::A] = 1;
+            table[8 + 4 * 4 + record::A] = 1;
             let before = table.clone();
             let length = match (chosen.contains(&13), chosen.contains(&15), odd) {
                 (true, true, true) => 65,
@@ -695,8 +791,8 @@ fn panel_in_order() {
             let list = vec![0; length];
             let room = match (chosen.contains(&14), odd) {
                 (true, true) => 0,
-                (true, false) => length - 1,
-                (false, _) => length,
+                (true, false) => 3 * (length / 2) - 1,
+                (false, _) => 3 * (length / 2),
             };
             let mut answers = vec![6; room];
             let found = panel(&mut table, &list, &mut answers);
@@ -711,11 +807,12 @@ fn panel_in_order() {
 #[test]
 fn panel_runs_short_schedules() {
     for length in [0, 1, 2, 3, 62, 63, 64] {
-        for room in [0, 1, length, length + 2] {
+        let exact: usize = 3 * (length / 2);
+        for room in [0, 1, exact.saturating_sub(1), exact, exact + 2] {
             let mut table = started(4, 1, 0);
             begin(&mut table, 0, POP, 1, 0).expect("begin");
             // Without a way inward the pop goes round for ever.
-            table[8 + 3] = NONE;
+            table[8 + 4] = NONE;
             let mut other = table.clone();
             let list = vec![0; length];
             let mut answers = vec![6; room];
@@ -723,7 +820,7 @@ fn panel_runs_short_schedules() {
             let found = panel(&mut table, &list, &mut answers);
             assert_eq!(found, run(&mut other, &list, &mut others));
             assert_eq!((table, answers), (other, others));
-            if length == 64 && room >= length {
+            if length == 64 && room >= exact {
                 assert_eq!(found, (32, 0));
             }
         }
@@ -740,10 +837,10 @@ fn run_stops_at_the_first_refused_tick() {
             assert_eq!(tick(&mut wanted, 0, 0), Ok(Answer::Going));
         }
         let list = [0, 0, 0, 0, pair[0], pair[1], 0, 0];
-        let mut answers = [6; 10];
+        let mut answers = [6; 13];
         assert_eq!(run(&mut table, &list, &mut answers), (2, number));
         assert_eq!(table, wanted);
-        assert_eq!(answers, [0, 0, 0, 0, 6, 6, 6, 6, 6, 6]);
+        assert_eq!(answers, [0, 0, 0, 0, 0, 0, 6, 6, 6, 6, 6, 6, 6]);
     }
     // A register that is none, met in the third tick.
     let mut table = started(4, 1, 0);
@@ -754,10 +851,10 @@ fn run_stops_at_the_first_refused_tick() {
     for _ in 0..2 {
         assert_eq!(tick(&mut wanted, 0, 0), Ok(Answer::Going));
     }
-    let mut answers = [6; 8];
+    let mut answers = [6; 12];
     assert_eq!(run(&mut table, &[0; 8], &mut answers), (2, 11));
     assert_eq!(table, wanted);
-    assert_eq!(answers, [0, 0, 0, 0, 6, 6, 6, 6]);
+    assert_eq!(answers, [0, 0, 0, 0, 0, 0, 6, 6, 6, 6, 6, 6]);
 }
 
 #[test]
@@ -765,9 +862,9 @@ fn run_takes_the_longest_schedule() {
     let mut table = started(4, 1, 0);
     begin(&mut table, 0, POP, 1, 0).expect("begin");
     // Without a way inward the pop goes round for ever.
-    table[8 + 3] = NONE;
+    table[8 + 4] = NONE;
     table[header::TICKS] = u32::MAX - 95;
-    let mut answers = vec![6; 8192];
+    let mut answers = vec![6; 3 * 4096];
     assert_eq!(run(&mut table, &vec![0; 8192], &mut answers), (4096, 0));
     assert!(answers.iter().all(|&word| word == 0));
     // The tick count went round to 0 on the way.
@@ -777,26 +874,28 @@ fn run_takes_the_longest_schedule() {
 #[test]
 fn run_writes_the_number_of_each_answer() {
     let words = |answer: Answer| answer.words();
-    assert_eq!(words(Answer::Going), [0, 0]);
-    assert_eq!(words(Answer::Pushed), [1, 0]);
-    assert_eq!(words(Answer::Bag(999_999_999)), [2, 999_999_999]);
-    assert_eq!(words(Answer::Empty), [3, 0]);
-    assert_eq!(words(Answer::Full), [4, 0]);
-    assert_eq!(words(Answer::Yes), [5, 0]);
-    assert_eq!(words(Answer::No), [6, 0]);
+    assert_eq!(words(Answer::Going), [0, 0, 0]);
+    assert_eq!(words(Answer::Pushed), [1, 0, 0]);
+    assert_eq!(words(Answer::Bag(51)), [2, 0, 51]);
+    assert_eq!(words(Answer::Bag(9_000_000_000)), [2, 9, 0]);
+    assert_eq!(words(Answer::Bag(9_999_999_999)), [2, 9, 999_999_999]);
+    assert_eq!(words(Answer::Empty), [3, 0, 0]);
+    assert_eq!(words(Answer::Full), [4, 0, 0]);
+    assert_eq!(words(Answer::Yes), [5, 0, 0]);
+    assert_eq!(words(Answer::No), [6, 0, 0]);
 
     let mut table = started(4, 2, 0);
-    begin(&mut table, 0, PUSH, 1, 51).expect("begin");
+    begin(&mut table, 0, PUSH, 1, 7_000_000_051).expect("begin");
     begin(&mut table, 1, POP, 0, 0).expect("begin");
     let list: Vec<u32> = [0; 11]
         .iter()
         .chain(&[1; 4])
         .flat_map(|&task| [task, 0])
         .collect();
-    let mut answers = [6; 30];
+    let mut answers = [6; 45];
     assert_eq!(run(&mut table, &list, &mut answers), (15, 0));
-    let mut wanted = [0; 30];
-    wanted[20] = 1;
-    wanted[28..].copy_from_slice(&[2, 51]);
+    let mut wanted = [0; 45];
+    wanted[30] = 1;
+    wanted[42..].copy_from_slice(&[2, 7, 51]);
     assert_eq!(answers, wanted);
 }

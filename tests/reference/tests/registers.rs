@@ -3,12 +3,12 @@
 
 mod common;
 
-use common::calls::{call, to_answer, Call};
+use common::calls::{begin, call, to_answer, Call};
 use common::free::{first, free};
 use common::paths::{Needed, STEPS};
 use common::tables::{sizes, started, steps_of};
 use reference::table::{node, record, ADD, LX, POP, PUSH, REMOVE, RX};
-use reference::{begin, read, tick, Answer};
+use reference::{read, tick, Answer};
 use Answer::{Bag, Empty, Full, Going, No, Pushed, Yes};
 
 const LEFT: u32 = 0;
@@ -129,8 +129,9 @@ fn bags_pass(slots: u32) -> Vec<u32> {
     begin(&mut table, 1, POP, LEFT, 0).expect("begin");
     assert_eq!(tick(&mut table, 1, 0), Ok(Going));
     for bag in 1..=slots - 2 {
-        assert_eq!(call(&mut table, 0, (PUSH, RIGHT, bag)), Pushed);
-        assert_eq!(call(&mut table, 0, (POP, LEFT, 0)), Bag(bag));
+        let tag = u64::from(bag);
+        assert_eq!(call(&mut table, 0, (PUSH, RIGHT, tag)), Pushed);
+        assert_eq!(call(&mut table, 0, (POP, LEFT, 0)), Bag(tag));
         // One slot too many is left standing, two are cut off.
         let removed = if bag % 2 == 1 { No } else { Yes };
         assert_eq!(call(&mut table, 0, (REMOVE, LEFT, 0)), removed);
@@ -157,8 +158,8 @@ fn a_stalled_pop_keeps_all_nodes_until_its_answer() {
         full_at_both_ends(&mut table);
         full_at_both_ends(&mut table);
         assert_eq!(to_answer(&mut table, 1), Empty);
-        for bag in 1..=slots - 2 {
-            assert_eq!(call(&mut table, 0, (PUSH, RIGHT, bag)), Pushed);
+        for tag in 1..=u64::from(slots - 2) {
+            assert_eq!(call(&mut table, 0, (PUSH, RIGHT, tag)), Pushed);
         }
         assert_eq!(call(&mut table, 0, (PUSH, RIGHT, 51)), Full);
     }

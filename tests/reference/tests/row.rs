@@ -7,7 +7,7 @@ use std::collections::BTreeMap;
 use common::random::Random;
 use common::row::{Note, Row};
 use common::tables::started;
-use reference::table::{header, record, Sizes, ADD, POP, PUSH, REMOVE};
+use reference::table::{header, record, tag, Sizes, ADD, POP, PUSH, REMOVE};
 use reference::{begin, panel, run, start, tick, Answer};
 
 const LEFT: u32 = 0;
@@ -21,9 +21,10 @@ struct Seen {
     longest: usize,
     stopped_runs: u32,
     no_node: u32,
-    /// Pushes of a value that was there or on its way, and of one that had been there.
+    /// Pushes of a tag that was there or on its way, of one that had been there, and of one beside another digit's.
     twice: u32,
     again: u32,
+    other_digit: u32,
 }
 
 struct Player {
@@ -31,9 +32,9 @@ struct Player {
     table: Vec<u32>,
     sizes: Sizes,
     row: Row,
-    next_value: u32,
-    /// Values that were popped.
-    past: Vec<u32>,
+    next_tag: u32,
+    /// Tags that were popped.
+    past: Vec<u64>,
     /// The task that gets most of the ticks, so that others stall.
     favourite: u32,
     /// Whether adds and removes prevail; with stalled pushes they leave spurs.
@@ -49,7 +50,7 @@ impl Player {
             table: started(nodes, tasks, growth),
             sizes: Sizes::new(nodes, tasks, growth).expect("sizes in range"),
             row: Row::new(tasks),
-            next_value: 0,
+            next_tag: 0,
             past: Vec::new(),
             favourite: 0,
             churn: false,
@@ -71,7 +72,7 @@ impl Player {
             }
             80..=86 => self.run(),
             87..=90 => {
-                let length = self.random.below(self.sizes.nodes + 2) as usize;
+                let length = self.random.below(2 * self.sizes.nodes + 2) as usize;
                 self.row.check_short(&self.table, length);
             }
             91 => self.refused_start(),
@@ -83,7 +84,7 @@ impl Player {
             _ => self.favourite = self.random.below(self.sizes.tasks),
         }
         self.row.check(&self.table);
-        self.seen.longest = self.seen.longest.max(self.row.values.len());
+        self.seen.longest = self.seen.longest.max(self.row.tags.len());
     }
 
     fn begin(&mut self) {
@@ -109,30 +110,45 @@ impl Player {
         } else {
             self.churn_side
         };
-        let argument = if wild {
-            self.random.word()
-        } else {
-            match operation {
-                PUSH => self.any_value(),
-                POP => 0,
-                _ => self.random.pick(&[0, 0, 1, 2, 3]),
-            }
+        if wild {
+            let (digit, argument) = (self.random.digit(), self.random.word());
+            let note = Note {
+                operation,
+                side,
+                digit,
+                argument,
+            };
+            self.begin_note(task, note);
+            return;
+        }
+        let argument = match operation {
+            PUSH => self.any_tag(),
+            POP => 0,
+            _ => self.random.pick(&[0, 0, 1, 2, 3]),
         };
         self.begin_with(task, operation, side, argument);
     }
 
-    fn begin_with(&mut self, task: u32, operation: u32, side: u32, argument: u32) {
-        let note = Note {
+    fn begin_with(&mut self, task: u32, operation: u32, side: u32, argument: u64) {
+        self.begin_note(task, Note::new(operation, side, argument));
+    }
+
+    fn begin_note(&mut self, task: u32, note: Note) {
+        let Note {
             operation,
             side,
+            digit,
             argument,
-        };
+        } = note;
+        let is_push = operation == PUSH;
+        let other_digit = is_push && (0..10).any(|other| self.row.has(tag(other, argument)));
+        let again = is_push && self.past.contains(&note.tag());
         let wanted = self.row.begin(task, note);
         self.seen.twice += u32::from(wanted == Err(16));
-        let again = operation == PUSH && self.past.contains(&argument);
         self.seen.again += u32::from(wanted == Ok(()) && again);
+        self.seen.other_digit += u32::from(wanted == Ok(()) && other_digit);
         let before = self.table.clone();
-        let found = begin(&mut self.table, task, operation, side, argument);
+        let found = begin(&mut self.table, task, operation, side, digit, argument);
         assert_eq!(found, wanted);
         if found.is_err() {
             assert_eq!(self.table, before);
@@ -167,38 +183,38 @@ impl Player {
         let side = self.random.below(2);
         self.operate(other, ADD, side, 2);
         self.finish(stalled);
-        let value = self.value();
-        self.begin_with(stalled, PUSH, side, value);
+        let tag = self.tag();
+        self.begin_with(stalled, PUSH, side, tag);
         self.tick(stalled, 0);
         self.tick(stalled, 0);
         self.operate(other, REMOVE, side, 0);
         let count = self.random.below(3);
-        self.operate(other, ADD, side, count);
+        self.operate(other, ADD, side, count.into());
         // Both may now be anywhere in what follows.
         self.tick(stalled, 0);
         self.favourite = self.random.pick(&[stalled, other]);
         let operation = self.random.pick(&[PUSH, ADD]);
-        let argument = if operation == PUSH { self.value() } else { 1 };
+        let argument = if operation == PUSH { self.tag() } else { 1 };
         self.begin_with(other, operation, side, argument);
     }
 
-    /// A value that was never pushed.
-    fn value(&mut self) -> u32 {
-        self.next_value += 1;
-        self.next_value
+    /// A tag that was never pushed. Each low part, from 0 on, comes with every digit.
+    fn tag(&mut self) -> u64 {
+        self.next_tag += 1;
+        tag(self.next_tag % 10, self.next_tag / 10)
     }
 
     /// Mostly such a one; sometimes one that is there or on its way, or one that was popped.
-    fn any_value(&mut self) -> u32 {
-        let known = match self.random.below(12) {
-            0 => self.row.pick(&mut self.random),
-            1 if !self.past.is_empty() => Some(self.random.pick(&self.past)),
+    fn any_tag(&mut self) -> u64 {
+        let known = match self.random.below(6) {
+            0 | 1 => self.row.pick(&mut self.random),
+            2 if !self.past.is_empty() => Some(self.random.pick(&self.past)),
             _ => None,
         };
-        known.unwrap_or_else(|| self.value())
+        known.unwrap_or_else(|| self.tag())
     }
 
-    fn operate(&mut self, task: u32, operation: u32, side: u32, argument: u32) {
+    fn operate(&mut self, task: u32, operation: u32, side: u32, argument: u64) {
         self.finish(task);
         self.begin_with(task, operation, side, argument);
         self.finish(task);
@@ -252,8 +268,8 @@ impl Player {
 
     fn answered(&mut self, task: u32, answer: Answer) {
         self.row.tick(task, answer.words());
-        if let Answer::Bag(value) = answer {
-            self.past.push(value);
+        if let Answer::Bag(tag) = answer {
+            self.past.push(tag);
         }
     }
 
@@ -267,18 +283,18 @@ impl Player {
                 [task, hint]
             })
             .collect();
-        let mut answers = vec![77; list.len() + self.random.below(3) as usize];
+        let mut answers = vec![77; 3 * count + self.random.below(3) as usize];
         let mut whole = self.table.clone();
         let (made, number) = call(&mut whole, &list, &mut answers);
         let made = made as usize;
-        for (pair, words) in list.chunks(2).zip(answers.chunks(2)).take(made) {
+        for (pair, words) in list.chunks(2).zip(answers.chunks(3)).take(made) {
             self.look(pair[0]);
             let answer = tick(&mut self.table, pair[0], pair[1]).expect("the run made this tick");
             assert_eq!(answer.words(), words);
             self.answered(pair[0], answer);
             self.row.check(&self.table);
         }
-        assert!(answers[2 * made..].iter().all(|&word| word == 77));
+        assert!(answers[3 * made..].iter().all(|&word| word == 77));
         if made < count {
             let pair = &list[2 * made..];
             let refused = tick(&mut self.table.clone(), pair[0], pair[1]);
@@ -315,10 +331,10 @@ impl Player {
         for task in 0..self.sizes.tasks {
             self.finish(task);
         }
-        while !self.row.values.is_empty() {
-            let length = self.row.values.len();
+        while !self.row.tags.is_empty() {
+            let length = self.row.tags.len();
             self.operate(0, POP, LEFT, 0);
-            assert_eq!(self.row.values.len() + 1, length);
+            assert_eq!(self.row.tags.len() + 1, length);
         }
     }
 
@@ -361,7 +377,7 @@ fn small_tables_follow_the_row() {
             assert!(seen.answers[3] > 0 && seen.twice > 0);
             if nodes > 2 {
                 assert!(seen.answers[1] > 0 && seen.answers[2] > 0 && seen.longest > 0);
-                assert!(seen.again > 0);
+                assert!(seen.again > 0 && seen.other_digit > 0);
             }
         }
     }

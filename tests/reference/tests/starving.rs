@@ -2,10 +2,10 @@
 
 mod common;
 
-use common::calls::{call, to_answer};
+use common::calls::{begin, call, to_answer};
 use common::tables::started;
 use reference::table::{POP, PUSH};
-use reference::{begin, tick, Answer};
+use reference::{tick, Answer};
 
 const LEFT: u32 = 0;
 const RIGHT: u32 = 1;

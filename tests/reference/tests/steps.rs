@@ -2,6 +2,7 @@
 
 mod common;
 
+use common::calls::begin;
 use common::free::{first, free};
 use common::paths::Needed;
 use common::random::Random;
@@ -9,7 +10,7 @@ use common::tables::{mirrored, shaped, sizes, started};
 use reference::table::{
     header, node, record, Sizes, ADD, LN, LX, LY, NONE, POP, PUSH, REMOVE, RN, RX, RY,
 };
-use reference::{begin, run, tick, Answer};
+use reference::{run, tick, Answer};
 
 /// A word by its name, seen by a task of the right side.
 #[derive(Clone, Copy)]
@@ -18,11 +19,13 @@ enum Word {
     L(u32),
     R(u32),
     V(u32),
+    Digit(u32),
     A,
     B,
     C,
     D,
     Value,
+    ValueDigit,
     Counted,
 }
 use Word::*;
@@ -37,7 +40,7 @@ use Next::*;
 type Words = &'static [(Word, u32)];
 
 /// Operation, argument, step, words set before, words changed, and the end.
-type Row = (u32, u32, u32, Words, Words, Next);
+type Row = (u32, u64, u32, Words, Words, Next);
 
 #[rustfmt::skip]
 const ROWS: &[Row] = &[
@@ -48,8 +51,12 @@ const ROWS: &[Row] = &[
     (PUSH, 51, 5, &[(A, 1), (B, 2)], &[(Hat, 2), (V(1), 51)], Done(Answer::Pushed)),
     // The link is not read again: the hat goes to B wherever that is.
     (PUSH, 51, 5, &[(A, 1), (B, 5)], &[(Hat, 5), (V(1), 51)], Done(Answer::Pushed)),
+    // The digit is written with V.
+    (PUSH, 1_000_000_051, 5, &[(A, 1), (B, 2)], &[(Hat, 2), (V(1), 51), (Digit(1), 1)], Done(Answer::Pushed)),
+    (PUSH, 9_000_000_000, 5, &[(A, 1), (B, 2)], &[(Hat, 2), (V(1), 0), (Digit(1), 9)], Done(Answer::Pushed)),
     (PUSH, 51, 5, &[(A, 2), (B, 3)], &[], To(8)),
     (PUSH, 51, 5, &[(A, 1), (B, 2), (V(1), RX)], &[], To(8)),
+    (PUSH, 51, 5, &[(A, 1), (B, 2), (V(1), 7), (Digit(1), 7)], &[], To(8)),
     (PUSH, 51, 8, &[(A, 3)], &[], To(28)),
     (PUSH, 51, 8, &[(A, 1)], &[], To(67)),
     (PUSH, 51, 8, &[(A, 1), (V(1), RY)], &[], To(67)),
@@ -69,7 +76,7 @@ const ROWS: &[Row] = &[
     (ADD, 2, 72, &[(A, 1), (C, 3)], &[(Hat, 3)], To(15)),
     (PUSH, 51, 72, &[(A, 2), (C, 3)], &[], To(2)),
     (PUSH, 51, 72, &[(C, 3)], &[], To(2)),
-    (PUSH, 51, 28, &[(L(4), 2), (R(4), 3), (V(4), 77), (Counted, 2)], &[(L(4), NONE), (R(4), NONE), (V(4), RX), (D, 4), (Counted, 0)], To(31)),
+    (PUSH, 51, 28, &[(L(4), 2), (R(4), 3), (V(4), 77), (Digit(4), 7), (Counted, 2)], &[(L(4), NONE), (R(4), NONE), (V(4), RX), (Digit(4), 0), (D, 4), (Counted, 0)], To(31)),
     (ADD, 2, 28, &[], &[(V(4), RX), (D, 4)], To(31)),
     (ADD, 0, 28, &[], &[(V(4), RX), (D, 4)], To(15)),
     // At 28 the task holds nothing itself.
@@ -80,7 +87,7 @@ const ROWS: &[Row] = &[
     (ADD, 0, 28, &[(R(3), 4)], &[(V(5), RX), (D, 5)], To(15)),
     (ADD, 0, 28, &[(R(3), 4), (L(4), 5)], &[], Done(Answer::No)),
     (PUSH, 51, 28, &[(R(3), 4), (R(4), 5)], &[], Done(Answer::Full)),
-    (PUSH, 51, 31, &[(D, 4), (V(4), RX), (L(5), 0), (R(5), 1), (V(5), 9)], &[(V(5), RN), (L(5), NONE), (R(5), 4), (L(4), 5), (D, 5), (Counted, 1)], To(31)),
+    (PUSH, 51, 31, &[(D, 4), (V(4), RX), (L(5), 0), (R(5), 1), (V(5), 0), (Digit(5), 9)], &[(V(5), RN), (Digit(5), 0), (L(5), NONE), (R(5), 4), (L(4), 5), (D, 5), (Counted, 1)], To(31)),
     (ADD, 2, 31, &[(D, 4), (V(4), RX), (Counted, 1)], &[(V(5), RN), (R(5), 4), (L(4), 5), (D, 5), (Counted, 2)], To(15)),
     // At 31 D holds its node and what that leads to; C does not hold.
     (ADD, 2, 31, &[(D, 4), (R(4), 5), (Counted, 1)], &[], To(15)),
@@ -93,6 +100,9 @@ const ROWS: &[Row] = &[
     (ADD, 0, 17, &[(A, 0)], &[(Value, LX)], To(15)),
     (ADD, 0, 17, &[(A, 4), (Value, RX)], &[(Value, 0)], To(15)),
     (ADD, 0, 17, &[(A, 1), (V(1), 7)], &[(Value, 7)], To(15)),
+    (ADD, 0, 17, &[(A, 1), (V(1), 7), (Digit(1), 8)], &[(Value, 7), (ValueDigit, 8)], To(15)),
+    (ADD, 0, 17, &[(A, 1), (V(1), 0), (Digit(1), 8)], &[(Value, 0), (ValueDigit, 8)], To(15)),
+    (ADD, 0, 17, &[(A, 1), (Value, 7), (ValueDigit, 8)], &[(Value, RN), (ValueDigit, 0)], To(18)),
     (ADD, 0, 17, &[(A, 1), (V(1), LN)], &[(Value, LN)], To(15)),
     (ADD, 0, 18, &[(A, 1)], &[(A, 2)], To(17)),
     (ADD, 0, 18, &[(A, 3)], &[(A, NONE)], To(15)),
@@ -104,22 +114,33 @@ const ROWS: &[Row] = &[
     (PUSH, 51, 25, &[(A, 3), (B, 2), (D, 4), (Counted, 1)], &[], To(15)),
     (ADD, 0, 25, &[(A, 3), (B, 2), (D, 4)], &[], To(15)),
     (ADD, 0, 25, &[(A, 1), (B, 2), (D, 4)], &[], To(15)),
+    (ADD, 0, 25, &[(A, 3), (D, 4), (V(3), 7), (Digit(3), 7)], &[], To(15)),
     (POP, 0, 39, &[(Hat, 2)], &[(A, 2)], To(40)),
     (POP, 0, 40, &[(A, 1)], &[(B, 0)], To(42)),
     (POP, 0, 40, &[(A, 0), (B, 2)], &[(B, NONE)], To(39)),
     (POP, 0, 42, &[(B, 0)], &[(Value, LX)], To(48)),
     (POP, 0, 42, &[(B, 0), (V(0), LN)], &[(Value, LN)], To(48)),
     (POP, 0, 42, &[(B, 0), (V(0), 51)], &[(Value, 51)], To(51)),
+    (POP, 0, 42, &[(B, 0), (V(0), 51), (Digit(0), 2)], &[(Value, 51), (ValueDigit, 2)], To(51)),
+    (POP, 0, 42, &[(B, 0), (V(0), 0), (Digit(0), 2)], &[(Value, 0), (ValueDigit, 2)], To(51)),
     (POP, 0, 42, &[(B, 0), (V(0), LY)], &[(Value, LY)], To(39)),
     (POP, 0, 42, &[(B, 1)], &[(Value, RN)], To(39)),
     (POP, 0, 42, &[(B, 3)], &[(Value, RX)], To(39)),
     (POP, 0, 42, &[(B, 3), (V(3), RY)], &[(Value, RY)], To(39)),
-    (POP, 0, 42, &[(B, 4), (Value, 5)], &[(Value, 0)], To(39)),
+    (POP, 0, 42, &[(B, 4), (Value, 5), (ValueDigit, 2)], &[(Value, 0), (ValueDigit, 0)], To(39)),
     (POP, 0, 48, &[(A, 1), (B, 0), (Value, LX)], &[], Done(Answer::Empty)),
     (POP, 0, 48, &[(A, 2), (B, 0), (Value, LX)], &[], To(39)),
     (POP, 0, 48, &[(A, 1), (B, 0), (Value, LN)], &[], To(39)),
+    (POP, 0, 48, &[(A, 1), (B, 0), (V(0), 51), (Digit(0), 2), (Value, LX)], &[], To(39)),
     (POP, 0, 48, &[(B, 0), (Value, LX)], &[], To(39)),
     (POP, 0, 51, &[(A, 1), (B, 0), (V(0), 51), (Value, 51)], &[(Hat, 0), (V(0), RN)], Done(Answer::Bag(51))),
+    (POP, 0, 51, &[(A, 1), (B, 0), (V(0), 51), (Digit(0), 2), (Value, 51), (ValueDigit, 2)], &[(Hat, 0), (V(0), RN), (Digit(0), 0)], Done(Answer::Bag(2_000_000_051))),
+    (POP, 0, 51, &[(A, 1), (B, 0), (V(0), 0), (Digit(0), 9), (Value, 0), (ValueDigit, 9)], &[(Hat, 0), (V(0), RN), (Digit(0), 0)], Done(Answer::Bag(9_000_000_000))),
+    // The digit is compared with V.
+    (POP, 0, 51, &[(A, 1), (B, 0), (V(0), 51), (Digit(0), 2), (Value, 51)], &[], To(39)),
+    (POP, 0, 51, &[(A, 1), (B, 0), (V(0), 51), (Value, 51), (ValueDigit, 2)], &[], To(39)),
+    (POP, 0, 51, &[(A, 1), (B, 0), (V(0), 0), (Digit(0), 9), (Value, 0), (ValueDigit, 8)], &[], To(39)),
+    (POP, 0, 51, &[(A, 1), (B, 0), (V(0), 0), (Value, 0), (ValueDigit, 8)], &[], To(39)),
     (POP, 0, 51, &[(A, 2), (B, 0), (V(0), 51), (Value, 51)], &[], To(39)),
     (POP, 0, 51, &[(A, 1), (B, 0), (V(0), 52), (Value, 51)], &[], To(39)),
     (POP, 0, 51, &[(B, 0), (V(0), 51), (Value, 51)], &[], To(39)),
@@ -138,14 +159,22 @@ const ROWS: &[Row] = &[
     (REMOVE, 0, 62, &[(A, 1), (B, 1)], &[(V(1), RY)], To(64)),
     (REMOVE, 0, 62, &[(A, 2), (B, 3)], &[], Done(Answer::No)),
     (REMOVE, 0, 62, &[(A, 3), (B, 2)], &[], Done(Answer::No)),
+    (REMOVE, 0, 62, &[(A, 1), (B, 2), (V(1), 7), (Digit(1), 7)], &[], Done(Answer::No)),
+    (REMOVE, 0, 62, &[(A, 1), (B, 2), (V(2), 7), (Digit(2), 7)], &[], Done(Answer::No)),
     (REMOVE, 0, 64, &[(A, 1), (B, 2)], &[(R(1), NONE)], To(74)),
     (REMOVE, 0, 64, &[(A, 1), (B, 3)], &[], To(74)),
     (REMOVE, 0, 64, &[(A, 3)], &[], To(74)),
     (REMOVE, 0, 74, &[(A, 1), (B, 2)], &[(A, 2), (B, 3)], To(77)),
     (REMOVE, 0, 74, &[(B, 3)], &[(A, 3), (B, NONE)], To(82)),
     (REMOVE, 0, 77, &[(B, 2)], &[(Value, RN)], To(78)),
+    (REMOVE, 0, 77, &[(B, 2), (V(2), 51), (Digit(2), 2)], &[(Value, 51), (ValueDigit, 2)], To(78)),
     (REMOVE, 0, 78, &[(B, 2), (Value, RN)], &[(V(2), RY)], To(79)),
+    (REMOVE, 0, 78, &[(B, 2), (V(2), 51), (Digit(2), 2), (Value, 51), (ValueDigit, 2)], &[(V(2), RY), (Digit(2), 0)], To(79)),
+    (REMOVE, 0, 78, &[(B, 4), (Value, 0)], &[(V(4), RY)], To(79)),
     (REMOVE, 0, 78, &[(B, 2), (Value, RX)], &[], To(77)),
+    (REMOVE, 0, 78, &[(B, 2), (V(2), 51), (Digit(2), 2), (Value, 51), (ValueDigit, 3)], &[], To(77)),
+    (REMOVE, 0, 78, &[(B, 2), (V(2), 0), (Digit(2), 2), (Value, 0)], &[], To(77)),
+    (REMOVE, 0, 78, &[(B, 4), (Value, 0), (ValueDigit, 3)], &[], To(77)),
     (REMOVE, 0, 79, &[(A, 1), (B, 2)], &[(R(1), NONE), (A, 2)], To(81)),
     (REMOVE, 0, 79, &[(A, 1)], &[(R(1), NONE), (A, NONE)], To(81)),
     (REMOVE, 0, 81, &[(A, 1), (Value, RN)], &[(B, 2)], To(77)),
@@ -157,7 +186,7 @@ const ROWS: &[Row] = &[
 /// Six nodes: a terminator, two nulls and a terminator, and two never used.
 fn base() -> Vec<u32> {
     let mut table = started(6, 2, 2);
-    table[8..8 + 12].copy_from_slice(&[NONE, 1, LX, 0, 2, RN, 1, 3, RN, 2, NONE, RX]);
+    table[8..8 + 16].copy_from_slice(&[NONE, 1, LX, 0, 0, 2, RN, 0, 1, 3, RN, 0, 2, NONE, RX, 0]);
     table
 }
 
@@ -170,11 +199,13 @@ fn set(table: &mut [u32], words: &[(Word, u32)]) {
             L(number) => sizes.node(number) + node::LEFT,
             R(number) => sizes.node(number) + node::RIGHT,
             V(number) => sizes.node(number) + node::VALUE,
+            Digit(number) => sizes.node(number) + node::DIGIT,
             A => task + record::A,
             B => task + record::B,
             C => task + record::C,
             D => task + record::D,
             Value => task + record::VALUE,
+            ValueDigit => task + record::VALUE_DIGIT,
             Counted => task + record::COUNTED,
         };
         table[at] = value;
@@ -260,8 +291,8 @@ fn the_first_free_node_from_the_hint() {
             }
         }
         let at = sizes.record(0);
-        let words = [ADD, 28, random.below(2), random.below(2), 0, 0];
-        table[at..at + 6].copy_from_slice(&words);
+        let words = [ADD, 28, random.below(2), random.below(2), 0, 0, 0, 0];
+        table[at..at + record::A].copy_from_slice(&words);
         let free = free(&table, |step, register| needed.holds(step, register));
         for hint in 0..sizes.nodes {
             let wanted = first(&free, hint);
@@ -284,11 +315,11 @@ fn the_largest_table_fills_up() {
     let mut added = 0;
     loop {
         begin(&mut table, 15, ADD, added % 2, 63).expect("begin");
-        let mut answers = vec![0; 8192];
+        let mut answers = vec![0; 3 * 4096];
         let (made, number) = run(&mut table, &[[15, 1023]; 4096].concat(), &mut answers);
         // Idle after its answer, the task is refused.
         assert_eq!(number, 10);
-        match answers[2 * made as usize - 2] {
+        match answers[3 * made as usize - 3] {
             5 => added += 1,
             6 => break,
             other => panic!("{other}"),

@@ -7,7 +7,7 @@ use reference::lines::serve;
 
 const INPUT: &str = "\
 (start (slots 4) (tasks 1) (growth 0))
-(begin 0 (push right 51))
+(begin 0 (push right 0000000051))
 (tick 0 0 10)
 (tick 0 0 1)
 (lane)
@@ -23,9 +23,9 @@ const OUTPUT: &str = "\
 (ok)
 (going)
 (pushed)
-(lane 51)
+(lane 0000000051)
 (ok)
-(bag 51)
+(bag 0000000051)
 (ok)
 (empty)
 (refused 10)

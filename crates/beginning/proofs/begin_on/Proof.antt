@@ -118,8 +118,11 @@ begun-requires : tie.Need-begun-requires
 begun-requires c κs =
     let e2 = c .before .before .before .before .before .before .before .before .before .before in
     let a = e2 .before .before .before .before .before .args in
-    let call = call-passed e2 in
-    (operation-low (a .operation) (a .side) call, side-low (a .operation) (a .side) call)
+    let call = call-passed e2 in (
+      operation-low (a .operation) (a .side) call,
+      side-low (a .operation) (a .side) call,
+      argument-passed (c .before .before .before .before .before .before .before .before),
+    )
 
 set-task-requires : tie.Need-set-task-requires
 set-task-requires c κs =

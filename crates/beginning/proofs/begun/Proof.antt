@@ -1,5 +1,5 @@
 -- `beginning::begun` meets its contract: a fresh record, at its first step, with the three numbers.
-use Rattle.machine.proofs.Words.RecordLaws.{number-of-operation, number-of-side}
+use Rattle.beginning.proofs.BeginTests.{begun-record}
 use borrow.Author.Needs.{needs}
 use Rattle.beginning.proofs.begun.Statement.{statement}
 use Rattle.beginning.proofs.begun.Tie as tie
@@ -19,13 +19,7 @@ returns c =
     let a = p .args in
     let step = c .before .first-step .ensures in
     let fresh = c .before .before .fresh .ensures in
-    rw (
-      c .at .ensures,
-      fresh,
-      step,
-      number-of-operation (a .operation) (p .pre .0),
-      number-of-side (a .side) (p .pre .1),
-    )
+    rw (c .at .ensures, fresh, step) (begun-record (a .operation) (a .side) (a .argument) (p .pre .0) (p .pre .1) (p .pre .2))
 
 pub begun-spec : {M : Type 1} → statement M
 begun-spec = tie.close (tie.spec fresh-requires first-step-requires at-requires returns)

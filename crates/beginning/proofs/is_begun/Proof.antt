@@ -11,11 +11,11 @@ use Rattle.beginning.proofs.is_begun.Statement.{statement}
 use Rattle.beginning.proofs.is_begun.Tie as tie
 
 abbrev Inv-loop : tie.InvT-loop
-Inv-loop table bag k₀ k =
-    (k ≤ taskCount table) × (isBegun table k (number bag) ≡ isBegun table (taskCount table) (number bag))
+Inv-loop table tag k₀ k =
+    (k ≤ taskCount table) × (isBegun table k tag ≡ isBegun table (taskCount table) tag)
 
 abbrev μ-loop : tie.MeasureT-loop
-μ-loop table bag k₀ k = k
+μ-loop table tag k₀ k = k
 
 shared-slice-read-k : tie.Need-shared-slice-read-k Inv-loop μ-loop
 shared-slice-read-k c =
@@ -37,7 +37,7 @@ returns c =
     let l = f .before .before in
     let a = l .before .before .before .args in
     let is = sym (f .pushes .ensures) ∙ c .if1 .taken in
-    sym (begun-here (a .table .now) (number (a .bag)) (l .loop .k) (omega arith) is) ∙ l .loop .inv .1
+    sym (begun-here (a .table .now) (a .tag) (l .loop .k) (omega arith) is) ∙ l .loop .inv .1
 
 loop-less : tie.Need-loop-less Inv-loop μ-loop
 loop-less c = omega arith
@@ -48,7 +48,7 @@ loop-again c =
     let l = f .before .before in
     let a = l .before .before .before .args in (
       omega (arith, l .loop .inv .0),
-      begun-below (a .table .now) (number (a .bag)) (l .loop .k) (omega arith) (sym (f .pushes .ensures) ∙ c .if1 .left)
+      begun-below (a .table .now) (a .tag) (l .loop .k) (omega arith) (sym (f .pushes .ensures) ∙ c .if1 .left)
           ∙ l .loop .inv .1,
     )
 
@@ -56,7 +56,7 @@ returns-2 : tie.Need-returns-2 Inv-loop μ-loop
 returns-2 c =
     let l = c .before in
     let a = l .before .before .before .args in
-    sym (begun-ends (a .table .now) (number (a .bag)) (l .loop .k) (omega arith)) ∙ l .loop .inv .1
+    sym (begun-ends (a .table .now) (a .tag) (l .loop .k) (omega arith)) ∙ l .loop .inv .1
 
 pub is-begun-spec : {M : Type 1} → statement M
 is-begun-spec =

@@ -20,10 +20,10 @@ returns c =
     let p = r .before .before in
     let a = p .args in
     let is = ap (λ (t : Tasks.Task). t .operation) (r .task .ensures) in
-    sym (other-task (a .table .now) (p .pre .0) (a .k) (p .pre .1) (number (a .bag)) (λ e. c .if1 .taken (is ∙ e)))
+    sym (other-task (a .table .now) (p .pre .0) (a .k) (p .pre .1) (a .tag) (λ e. c .if1 .taken (is ∙ e)))
 
-equal-requires : tie.Need-equal-requires
-equal-requires c κs = search needs
+number-requires : tie.Need-number-requires
+number-requires c κs = search needs
 
 returns-2 : tie.Need-returns-2
 returns-2 c =
@@ -32,10 +32,10 @@ returns-2 c =
     let p = r .before .before in
     let a = p .args in
     let is = ap (λ (t : Tasks.Task). t .operation) (r .task .ensures) in
-    let holds = ap (λ (t : Tasks.Task). eqb (number (a .bag)) (number (t .argument))) (r .task .ensures) in
-    c .equal .ensures
+    let holds = ap (λ (t : Tasks.Task). eqb (a .tag) (number (t .argument))) (r .task .ensures) in
+    ap (eqb (a .tag)) (c .number .ensures)
     ∙ holds
-    ∙ sym (push-task (a .table .now) (p .pre .0) (a .k) (p .pre .1) (number (a .bag)) (sym is ∙ e .if1 .left))
+    ∙ sym (push-task (a .table .now) (p .pre .0) (a .k) (p .pre .1) (a .tag) (sym is ∙ e .if1 .left))
 
 pub pushes-spec : {M : Type 1} → statement M
-pushes-spec = tie.close (tie.spec task-requires returns equal-requires returns-2)
+pushes-spec = tie.close (tie.spec task-requires returns number-requires returns-2)

@@ -15,7 +15,7 @@ walked :
     (c : tie.After-known-told) {b : Bool}
     → let w = c .before in
     let a = w .before .before .before .before .args in
-    w .walk .given .0 .1 .0 ≡ b → walkOf (number (a .bag)) (lane (a .table .now)) ≡ Bags (w .walk .given .0 .0) b
+    w .walk .given .0 .1 .0 ≡ b → walkOf (a .tag) (lane (a .table .now)) ≡ Bags (w .walk .given .0 .0) b
 walked c h =
     let w = c .before in
     sym (w .before .before .seek .ensures) ∙ w .walk .given .1 ∙ ap (Bags (w .walk .given .0 .0)) h
@@ -31,7 +31,7 @@ returns c =
     let s = c .before .before in
     let a = s .before .before .args in
     let t = a .table .now in
-    seen-no-end t (number (a .bag)) (lane t) (sym (s .seek .ensures) ∙ c .enum-told .given .1)
+    seen-no-end t (a .tag) (lane t) (sym (s .seek .ensures) ∙ c .enum-told .given .1)
 
 enum-known-walk : tie.Need-enum-known-walk
 enum-known-walk c = search needs
@@ -40,7 +40,7 @@ returns-2 : tie.Need-returns-2
 returns-2 c =
     let k = c .before in
     let a = k .before .before .before .before .before .args in
-    let t = a .table .now in seen-in-lane t (number (a .bag)) (lane t) _ (walked k (c .if1 .taken))
+    let t = a .table .now in seen-in-lane t (a .tag) (lane t) _ (walked k (c .if1 .taken))
 
 is-begun-requires : tie.Need-is-begun-requires
 is-begun-requires c κs = search needs
@@ -51,7 +51,7 @@ returns-3 c =
     let e = f .before in
     let a = e .before .before .before .before .before .before .args in
     let t = a .table .now in
-    seen-begun t (number (a .bag)) (lane t) _ (walked (e .before) (e .if1 .left))
+    seen-begun t (a .tag) (lane t) _ (walked (e .before) (e .if1 .left))
     (sym (f .is-begun .ensures) ∙ c .if2 .taken)
 
 returns-4 : tie.Need-returns-4
@@ -60,7 +60,7 @@ returns-4 c =
     let e = f .before in
     let a = e .before .before .before .before .before .before .args in
     let t = a .table .now in
-    seen-new t (number (a .bag)) (lane t) _ (walked (e .before) (e .if1 .left))
+    seen-new t (a .tag) (lane t) _ (walked (e .before) (e .if1 .left))
     (sym (f .is-begun .ensures) ∙ c .if2 .left)
 
 pub seen-spec : {M : Type 1} → statement M

@@ -6,7 +6,7 @@ use mathlib.Core.Option.{Option, some, none as nothing}
 use Prim.Native.Nat.{ℕ, suc, _<_}
 use native.Mathlib.Omega.{arith}
 use lib.ListN.{length, replicate, length-replicate}
-use Rattle.machine.specs.Values.{stored}
+use Rattle.machine.specs.Values.{storedOf}
 use Rattle.machine.specs.declared.Answer.{Answer}
 use Rattle.machine.specs.declared.Answer.the-variants.{Going}
 use Rattle.machine.specs.declared.Reply.{Reply}
@@ -69,11 +69,11 @@ module _ (ws : List ℕ) (S T g : ℕ) where
         go nothing e = clash (cc (ap (λ (d : Changed). d .reply) e))
 
 -- ---- begin.
-pub begin-done : (ws : List ℕ) (k op side argument : ℕ) {ys : List ℕ} {r : Reply}
-    → changedOf r ys ≡ begin ws k op side (stored argument)
-    → answeredOf (replyText r) ys ≡ beginCommand ws k op side argument
+pub begin-done : (ws : List ℕ) (k op side digit argument : ℕ) {ys : List ℕ} {r : Reply}
+    → changedOf r ys ≡ begin ws k op side (storedOf digit argument)
+    → answeredOf (replyText r) ys ≡ beginCommand ws k op side digit argument
 unfolding beginCommand
-begin-done ws k op side argument e = ap (λ (d : Changed). answeredOf (replyText (d .reply)) (d .words)) e
+begin-done ws k op side digit argument e = ap (λ (d : Changed). answeredOf (replyText (d .reply)) (d .words)) e
 
 -- ---- tick.
 module _ (ws : List ℕ) (k h : ℕ) {a : Answer} {ys : List ℕ} (ticked : tickedOf a ys ≡ tick ws k h) where

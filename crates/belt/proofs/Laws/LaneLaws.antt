@@ -2,11 +2,11 @@
 use mathlib.Core.Path.{_≡_, refl, sym, ap, subst}
 use mathlib.Core.List.{List, [], _∷_}
 use mathlib.Core.Option.{Option, some, none as nothing, Option·map}
-use Prim.Native.Nat.{ℕ, zero, suc, _≤_}
+use Prim.Native.Nat.{ℕ, zero, suc, _*_, _≤_}
 use native.Mathlib.Omega.{arith}
 use lib.ListN.{length, length-append, drop}
-use lib.Seq.{take-at}
 use borrow.Author.Tests.{le-leb}
+use Rattle.tag.proofs.TagLaws.{length-tag-words, tags-in-words}
 use Rattle.machine.specs.declared.Reading.{Reading}
 use Rattle.machine.specs.Choice.{_≟_}
 use Rattle.machine.specs.Sides.{left, right}
@@ -62,16 +62,16 @@ lane-short ws e =
 
 -- ---- The read.
 abbrev Prints : List ℕ → ReadDone → Type 0
-Prints text d = (readingText (d .reading) (d .out) ≡ text) × (readingCount (d .reading) ≤ length (d .out))
+Prints text d = (readingText (d .reading) (d .out) ≡ text) × (2 * readingCount (d .reading) ≤ length (d .out))
 
-module _ (out : List ℕ) (places : length out ≡ mostBags) where
+module _ (out : List ℕ) (places : length out ≡ 2 * mostBags) where
   row-prints : (row : Option (List ℕ)) → countedIn row ≤ mostBags → Prints (rowText row) (readInto row out)
   unfolding readInto
   row-prints nothing h = (refl, omega arith)
   row-prints (some bags) h =
-      rw (le-leb (length bags) (length out) (omega arith), readInto) (
-        ap laneText (take-at bags (drop (length bags) out) (length bags) refl),
-        simp length-append (omega arith),
+      rw (le-leb (2 * length bags) (length out) (omega arith), readInto) (
+        ap laneText (tags-in-words bags (drop (2 * length bags) out)),
+        simp length-append (omega (arith, length-tag-words bags)),
       )
 
   read-prints : (ws : List ℕ) → Prints (laneCommand ws .text) (read ws out)
@@ -83,7 +83,7 @@ module _ (out : List ℕ) (places : length out ≡ mostBags) where
       go nothing e = rw (e, read, laneCommand) (row-prints (lane ws) (lane-short ws e))
 
   pub lane-done : (ws : List ℕ) {r : Reading} {ys : List ℕ} → readOf r ys ≡ read ws out
-      → (answeredOf (readingText r ys) ws ≡ laneCommand ws) × (readingCount r ≤ length ys)
+      → (answeredOf (readingText r ys) ws ≡ laneCommand ws) × (2 * readingCount r ≤ length ys)
   unfolding laneCommand
   lane-done ws {r} {ys} e =
       let prints = subst (Prints (laneCommand ws .text)) (sym e) (read-prints ws) in

@@ -6,8 +6,8 @@ use borrow.Author.Needs.{needs}
 use Rattle.deque.proofs.lane_begin.Statement.{statement}
 use Rattle.deque.proofs.lane_begin.Tie as tie
 
-of-number-requires : tie.Need-of-number-requires
-of-number-requires c κs = search needs
+of-words-requires : tie.Need-of-words-requires
+of-words-requires c κs = search needs
 
 begin-requires : tie.Need-begin-requires
 begin-requires c κs = search needs
@@ -25,11 +25,11 @@ returns c =
     let a = n .before .before .before .args in
     let e =
     b .begin .ensures
-    ∙ ap (begin (a .table .now) (a .task) (a .operation) (a .side)) (n .of-number .ensures) in (
+    ∙ ap (begin (a .table .now) (a .task) (a .operation) (a .side)) (n .of-words .ensures) in (
       c .reply-number .ensures ∙ ap (λ (d : Changed). replyNumber (d .reply)) e,
       ap (λ (d : Changed). d .words) e,
     )
 
 pub lane-begin-spec : {M : Type 1} → statement M
 lane-begin-spec =
-    tie.close (tie.spec of-number-requires begin-requires reply-number-requires same-length returns)
+    tie.close (tie.spec of-words-requires begin-requires reply-number-requires same-length returns)

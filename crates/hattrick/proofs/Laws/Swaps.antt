@@ -15,7 +15,7 @@ use Rattle.machine.specs.Tasks.{none}
 use Rattle.machine.specs.Lines.{Effect, dcas, act}
 use Rattle.machine.proofs.Basics.Contradiction.{clash}
 use Rattle.machine.proofs.Basics.Choices.{unequal}
-use Rattle.machine.proofs.Words.ValueLaws.{stored-number, bag-has-word}
+use Rattle.machine.proofs.Words.ValueLaws.{bag-decoded}
 use Rattle.machine.specs.declared.Stored.{Stored}
 use Rattle.layout.specs.declared.tasks.Task as Tasks
 use Rattle.layout.specs.Coded.{isSame, storedIn, setStoredIn, taskMeant}
@@ -23,12 +23,6 @@ use Rattle.hattrick.specs.Lent.{Ready, lineOf, outcomeOf, nextDone, answ
 use Rattle.hattrick.proofs.Laws.Ready.{by-code, by-record}
 use Rattle.hattrick.proofs.Laws.Compared.{swap-done, swap-failed}
 use Rattle.hattrick.proofs.Laws.Choosing.{effect-same, effect-other}
-
--- What a bag's words mean.
-bag-meant : (u : Stored) → bagOk u ≡ true → decode u ≡ bag (number u)
-bag-meant u ok =
-    ap decode (sym (stored-number u))
-    ∙ bag-has-word (number u) (subst (λ (v : Stored). bagOk v ≡ true) (sym (stored-number u)) ok)
 
 -- ---- The two comparisons of a swap: of two values.
 module _ (u v x y : Value) where
@@ -107,7 +101,7 @@ module _ {ns : List ℕ} {t : Tasks.Task} (R : Ready ns t) (h g f : ℕ) where
         ≡ lineOf line51 ns h t g f
     unfolding lineOf act
     popped bag-read e =
-        let is-bag : taskMeant t .value ≡ bag (number (t .value)) = bag-meant (t .value) bag-read in
+        let is-bag : taskMeant t .value ≡ bag (number (t .value)) = bag-decoded (t .value) bag-read in
         rw (
           unequal through-b,
           swap-done h a (decode (storedIn ns b)) (taskMeant t .value) e,

@@ -4,16 +4,22 @@ use mathlib.Core.List.{List, _++_, append-nil}
 use Prim.Native.Nat.{ℕ, _+_, _≤_}
 use native.Mathlib.Omega.{arith}
 use lib.ListN.{length, take, drop, length-append, drop-of-length-le}
-use lib.Seq.{sets, sets-eq, length-take-le, take-at}
+use lib.Seq.{sets, sets-eq, length-take-le, take-at, drop-at}
 
--- Words written at the end of the front lengthen it.
-pub front-grows :
-    (t vs : List ℕ) (n : ℕ) → n + length vs ≤ length t → take (n + length vs) (sets t n vs) ≡ take n t ++ vs
-front-grows t vs n h =
-    let long : length (take n t ++ vs) ≡ n + length vs
-    = length-append (take n t) vs ∙ ap (λ (m : ℕ). m + length vs) (length-take-le n t (omega arith)) in
-    ap (take (n + length vs)) (sets-eq vs t n h)
-    ∙ take-at (take n t ++ vs) (drop (n + length vs) t) (n + length vs) long
+-- Words written at the end of the front lengthen it, and what is behind them stays.
+module _ (t vs : List ℕ) (n : ℕ) (h : n + length vs ≤ length t) where
+  long : length (take n t ++ vs) ≡ n + length vs
+  long = length-append (take n t) vs ∙ ap (λ (m : ℕ). m + length vs) (length-take-le n t (omega arith))
+
+  pub front-grows : take (n + length vs) (sets t n vs) ≡ take n t ++ vs
+  front-grows =
+      ap (take (n + length vs)) (sets-eq vs t n h)
+      ∙ take-at (take n t ++ vs) (drop (n + length vs) t) (n + length vs) long
+
+  pub rest-stays : drop (n + length vs) (sets t n vs) ≡ drop (n + length vs) t
+  rest-stays =
+      ap (drop (n + length vs)) (sets-eq vs t n h)
+      ∙ drop-at (take n t ++ vs) (drop (n + length vs) t) (n + length vs) long
 
 pub filled : (t vs : List ℕ) → length t ≡ length vs → sets t 0 vs ≡ vs
 filled t vs e =

@@ -1,11 +1,15 @@
 -- What sides and operations are, known by comparisons of their numbers.
-use mathlib.Core.Path.{_≡_, refl}
+use mathlib.Core.Path.{_≡_}
 use mathlib.Core.Logic.{_≢_}
+use mathlib.Core.Bool.{true}
 use Prim.Native.Nat.{ℕ, _-_, _<_}
 use native.Mathlib.Omega.{arith}
+use borrow.Author.Tests.{leb-true}
+use Rattle.machine.specs.declared.Stored.{Stored}
 use Rattle.machine.specs.Choice.{_≟_, if_then_else_}
 use Rattle.machine.specs.Sides.{left, right, opposite, sideNumber, sideOf}
-use Rattle.machine.specs.Operations.{add, remove, operationOf, goalOf}
+use Rattle.machine.specs.Values.{number}
+use Rattle.machine.specs.Operations.{add, remove, operationOf, argumentOk, goalOf}
 use Rattle.machine.proofs.Basics.Choices.{unequal}
 
 -- The opposite side.
@@ -20,11 +24,19 @@ other-side n h = go (n ≟ 0)
 pub remove-else : (n : ℕ) → n ≢ 0 → n ≢ 1 → n ≢ 2 → n ≢ 3 → operationOf n ≡ remove
 remove-else n a b c d = rw (unequal a, unequal b, unequal c, unequal d)
 
--- Add and remove have the same goal.
+-- Add and remove have their argument for a goal, which is a word: its digit is 0.
 pub goal-else :
-    (n growth argument : ℕ) → n ≢ 0 → n ≢ 1 → n ≢ 2 → argument ≡ goalOf (operationOf n) growth argument
-goal-else n g x a b c = rw (unequal a, unequal b, unequal c) (go (n ≟ 3))
+    (n growth : ℕ) (u : Stored)
+    → n ≢ 0
+    → n ≢ 1
+    → n ≢ 2
+    → argumentOk (operationOf n) u ≡ true
+    → u .word ≡ goalOf (operationOf n) growth (number u)
+goal-else n g u a b c ok = rw (unequal a, unequal b, unequal c) (go (n ≟ 3) (rw (unequal a, unequal b, unequal c) at ok))
   where
-    go : (d : Dec (n ≡ 3)) → x ≡ goalOf (if d then add else remove) g x
-    go (yes d) = refl
-    go (no d) = refl
+    go :
+        (d : Dec (n ≡ 3))
+        → argumentOk (if d then add else remove) u ≡ true
+        → u .word ≡ goalOf (if d then add else remove) g (number u)
+    go (yes d) h = let l = leb-true (number u) 64 h in omega arith
+    go (no d) h = let l = leb-true (number u) 1023 h in omega arith

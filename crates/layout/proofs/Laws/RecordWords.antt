@@ -71,8 +71,10 @@ freshToC t =
     && eqb (t .step) 0
     && eqb (t .side) 0
     && eqb (t .argument .word) 0
+    && eqb (t .argument .digit) 0
     && eqb (t .counted) 0
     && eqb (t .value .word) 0
+    && eqb (t .value .digit) 0
     && eqb (getD (t .registers) 0 0) none
     && eqb (getD (t .registers) 1 0) none
     && eqb (getD (t .registers) 2 0) none

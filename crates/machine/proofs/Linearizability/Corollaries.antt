@@ -4,10 +4,11 @@ use mathlib.Core.Logic.{_≢_}
 use mathlib.Core.Bool.{Bool, true, false, not, _&&_, _||_}
 use mathlib.Core.List.{List, [], _∷_, _++_}
 use mathlib.Core.Option.{Option, some, none as nothing}
-use Prim.Native.Nat.{ℕ, zero, suc, _+_, _%_, _≤_, _<_}
+use Prim.Native.Nat.{ℕ, zero, suc, _+_, _*_, _/_, _%_, _≤_, _<_}
 use native.Mathlib.Omega.{arith}
 use lib.Dec.{leb, ltb, eqb}
 use lib.ListN.{length, drop}
+use Rattle.tag.specs.Tags.{allTagWords}
 use borrow.Author.Tests.{le-leb, lt-leb}
 use Rattle.machine.specs.declared.Answer.the-variants.{Refused}
 use Rattle.machine.specs.declared.Reply.the-variants.{Accepted, Refused as Reply-Refused}
@@ -22,7 +23,7 @@ use Rattle.machine.specs.Table.{nodeCount, taskCount, task, setTask}
 use Rattle.machine.specs.Shape.{lengthOk, shapeOk}
 use Rattle.machine.specs.Reach.{Reachable, from-register}
 use Rattle.machine.specs.Allocate.{allocate}
-use Rattle.machine.specs.Answers.{refusalOf}
+use Rattle.machine.specs.Answers.{answerLength, refusalOf}
 use Rattle.machine.specs.Calls.{
   unless,
   isIdle,
@@ -181,10 +182,10 @@ ticks-not-11 [] answers A = λ e. omega arith
 ticks-not-11 (k ∷ []) answers A = λ e. omega arith
 ticks-not-11 (k ∷ h ∷ list) {ws} answers A =
     go (refusalOf (tickOn ws k h .answer)) (tick-not-11 A k h)
-    (ticks-not-11 list (drop 2 answers) (tick-agrees A k h .1))
+    (ticks-not-11 list (drop answerLength answers) (tick-agrees A k h .1))
   where
     others : RunDone
-    others = runOn list (tickOn ws k h .words) (drop 2 answers)
+    others = runOn list (tickOn ws k h .words) (drop answerLength answers)
 
     go :
         (r : Option ℕ)
@@ -211,7 +212,8 @@ module _ {ws : List ℕ} (B : Begun ws) (list answers : List ℕ) where
       (other-number (eqb (length list % 2) 0 && leb (length list) 8192) (λ e. omega arith) later))
 
   room-not-11 : roomRefusal list answers ≢ some 11
-  room-not-11 = other-number (leb (length list) (length answers)) (λ e. omega arith) not-refused
+  room-not-11 =
+      other-number (leb (answerLength * (length list / 2)) (length answers)) (λ e. omega arith) not-refused
 
   pub no-run-refused-with-11 : run ws list answers .ran .refusal ≢ 11
   unfolding run
@@ -276,10 +278,10 @@ unfolding runOn afterTicks
 ticks-of-run [] ws answers = refl
 ticks-of-run (k ∷ []) ws answers = refl
 ticks-of-run (k ∷ h ∷ list) ws answers =
-    go (refusalOf (tickOn ws k h .answer)) (ticks-of-run list (tickOn ws k h .words) (drop 2 answers))
+    go (refusalOf (tickOn ws k h .answer)) (ticks-of-run list (tickOn ws k h .words) (drop answerLength answers))
   where
     others : RunDone
-    others = runOn list (tickOn ws k h .words) (drop 2 answers)
+    others = runOn list (tickOn ws k h .words) (drop answerLength answers)
 
     first : Option ℕ → RunDone
     first r =
@@ -315,9 +317,13 @@ module _ (ws list answers : List ℕ) where
 
 -- Where the lane is the row: its count and the row in order where it fits into the out slice, and 12 where it does not.
 pub reading-gives-the-row : {ws : List ℕ} → Begun ws → (ρ : Row) → LaneIs ws ρ → (out : List ℕ)
-    → (length (ρ .bags) ≤ length out
-    → read ws out ≡ record { reading = Count (length (ρ .bags)); out = ρ .bags ++ drop (length (ρ .bags)) out })
-    × (length out < length (ρ .bags) → read ws out ≡ unread 12 out)
+    → (2 * length (ρ .bags) ≤ length out
+    → read ws out
+    ≡ record {
+      reading = Count (length (ρ .bags));
+      out = allTagWords (ρ .bags) ++ drop (2 * length (ρ .bags)) out;
+    })
+    × (length out < 2 * length (ρ .bags) → read ws out ≡ unread 12 out)
 unfolding read readInto
 reading-gives-the-row {ws} B ρ is out =
     let passes = no-call-refused-with-3-or-4 B nothing in (

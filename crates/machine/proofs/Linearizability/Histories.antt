@@ -3,10 +3,11 @@ use mathlib.Core.Path.{_≡_, refl, sym, ap, _∙_, subst}
 use mathlib.Core.Bool.{Bool, true, false, cond, _&&_}
 use mathlib.Core.List.{List, [], _∷_, _++_, reverse, reverse-cons, reverse-reverse}
 use mathlib.Core.Option.{Option, some, none as nothing, Option·map, bind}
-use Prim.Native.Nat.{ℕ, zero, suc, _+_}
+use Prim.Native.Nat.{ℕ, zero, suc, _+_, _*_}
 use native.Mathlib.Omega.{arith}
 use lib.Dec.{leb, ltb, eqb}
 use lib.ListN.{length, take}
+use Rattle.tag.specs.Tags.{allTagWords}
 use Rattle.machine.specs.declared.Answer.{Answer}
 use Rattle.machine.specs.declared.Answer.the-variants.{
   Going,
@@ -235,8 +236,9 @@ run-recorded (suc n) [] answers R e = clash (cc)
 run-recorded (suc n) (k ∷ []) answers R e = clash (cc)
 run-recorded (suc n) (k ∷ h ∷ list) [] R e = clash (cc)
 run-recorded (suc n) (k ∷ h ∷ list) (kind ∷ []) R e = clash (cc)
-run-recorded (suc n) (k ∷ h ∷ list) (kind ∷ payload ∷ answers) {ρ} R e =
-    let a = bound (answerOf kind payload) _ e in
+run-recorded (suc n) (k ∷ h ∷ list) (kind ∷ digit ∷ []) R e = clash (cc)
+run-recorded (suc n) (k ∷ h ∷ list) (kind ∷ digit ∷ low ∷ answers) {ρ} R e =
+    let a = bound (answerOf kind digit low) _ e in
     let m = bound (feedMade ρ k (a .0)) _ (a .2) in
     rw (a .1, recordRun) (run-recorded n list answers (made-recorded R k (a .0) (m .1)) (m .2))
 
@@ -252,8 +254,10 @@ same-when-read ρ out x written {ρ′} e = go x e
 
     go : (x : Reading) → feedRead ρ out x written ≡ some ρ′ → ρ ≡ ρ′
     go (Count n) q =
-        kept (eqb n (length (ρ .bags)) && leb n (length out) && sameWords (take n written) (ρ .bags)) q
-    go (Reading-Refused n) q = kept (eqb n 12 && ltb (length out) (length (ρ .bags))) q
+        kept
+        (eqb n (length (ρ .bags)) && leb (2 * n) (length out) && sameWords (take (2 * n) written) (allTagWords (ρ .bags)))
+        q
+    go (Reading-Refused n) q = kept (eqb n 12 && ltb (length out) (2 * length (ρ .bags))) q
 
 pub call-recorded : (c : Call) (r : Given c) {ρ ρ′ : Row} {η : History} → Recorded ρ η → feed ρ c r ≡ some ρ′
     → Recorded ρ′ (recordCall η c r)

@@ -1,7 +1,7 @@
 -- Two tables that differ only in registers that do not hold give the same answers to any schedule of ticks, and differ
 -- only there afterwards.
 use mathlib.Core.Path.{_≡_, refl, sym, ap, _∙_, subst}
-use mathlib.Core.List.{List, [], _∷_}
+use mathlib.Core.List.{List, [], _∷_, _++_}
 use mathlib.Core.Option.{Option, some, none as nothing}
 use Prim.Native.Nat.{ℕ, suc, _+_, _%_, _^_}
 use lib.ListN.{drop}
@@ -15,7 +15,7 @@ use Rattle.machine.specs.Registers.{holds}
 use Rattle.machine.specs.Table.{growth, tickCount, task}
 use Rattle.machine.specs.Allocate.{allocate}
 use Rattle.machine.specs.Lines.{Memory, Write, seen, Effect, act}
-use Rattle.machine.specs.Answers.{kindOf, payloadOf, refusalOf}
+use Rattle.machine.specs.Answers.{answerLength, answerWords, refusalOf}
 use Rattle.machine.specs.Calls.{
   tickRefusal,
   effectOf,
@@ -196,10 +196,10 @@ schedule-alike (k ∷ []) A answers = record { same-ran = refl; same-answers = r
 schedule-alike (k ∷ h ∷ list) {ws} {vs} A answers =
     let one = tick-alike A k h in
     subst (λ (a : Answer). RunsAlike (turn ws (tickOn ws k h .answer)) (turn vs a)) (sym (one .0))
-    (go (refusalOf (tickOn ws k h .answer)) (schedule-alike list (one .1) (drop 2 answers)))
+    (go (refusalOf (tickOn ws k h .answer)) (schedule-alike list (one .1) (drop answerLength answers)))
   where
     others : List ℕ → RunDone
-    others xs = runOn list (tickOn xs k h .words) (drop 2 answers)
+    others xs = runOn list (tickOn xs k h .words) (drop answerLength answers)
 
     turn : List ℕ → Answer → RunDone
     turn xs a =
@@ -221,7 +221,7 @@ schedule-alike (k ∷ h ∷ list) {ws} {vs} A answers =
         record {
           same-ran = ap (λ (x : Ran). record { made = suc (x .made); refusal = x .refusal }) (R .same-ran);
           same-answers =
-              ap (λ (l : List ℕ). kindOf (tickOn ws k h .answer) ∷ payloadOf (tickOn ws k h .answer) ∷ l)
+              ap (λ (l : List ℕ). answerWords (tickOn ws k h .answer) ++ l)
               (R .same-answers);
           words-alike = R .words-alike;
         }

@@ -1,6 +1,4 @@
 -- The lines of an add fit: 67 to 72, 28 and 31, 15 to 25. A push that meets the end of the lane takes them too.
-use Rattle.machine.specs.Answers.{refusalOf}
-use mathlib.Core.Option.{none as nothing}
 use mathlib.Core.Path.{_≡_, refl}
 use mathlib.Core.List.{List}
 use Prim.Native.Nat.{ℕ, suc, _<_}
@@ -31,6 +29,7 @@ use Rattle.machine.proofs.Basics.Choices.{by-if}
 use Rattle.machine.proofs.Shape.BusyLaws.{NodeOrNone, BusyAt, BusyFacts}
 use Rattle.machine.proofs.Shape.Fits.{
   WritesFit,
+  AnswerFits,
   Fits,
   goes-on,
   ends,
@@ -87,12 +86,12 @@ module _ (S g : ℕ) (m : Memory) (M : MemoryFits S m) (t : Task) (f : ℕ) wher
       (moves F (back-lands t (part F))))
 
 -- ---- 28 and 31: nodes are taken for a chain.
-no-node-answers : (op : Operation) → refusalOf (noNode op) ≡ nothing
-no-node-answers idle = refl
-no-node-answers push = refl
-no-node-answers pop = refl
-no-node-answers add = refl
-no-node-answers remove = refl
+no-node-answers : (op : Operation) → AnswerFits (noNode op)
+no-node-answers idle = tt
+no-node-answers push = tt
+no-node-answers pop = tt
+no-node-answers add = tt
+no-node-answers remove = tt
 
 module _ (S g : ℕ) (m : Memory) (M : MemoryFits S m) (t : Task) (f : ℕ) (f-ok : NodeOrNone S f) where
   pub line28-fits : LineFits S g m t f line28
@@ -178,14 +177,14 @@ module _ (S g : ℕ) (m : Memory) (M : MemoryFits S m) (t : Task) (f : ℕ) wher
   spliced-fits F l w = go (t .operation) refl
     where
       go : (op : Operation) → t .operation ≡ op → Fits S g (spliced op l t)
-      go idle e = ends w refl
+      go idle e = ends w tt
       go push e =
           goes-on w
           (stands F line2 (rw e) (le-leb 0 (goal g t) (omega arith)) (F .value-ok) (F .has-word)
           (F .A-ok) (F .B-ok) (F .C-ok) none-fits)
-      go pop e = ends w refl
-      go add e = ends w refl
-      go remove e = ends w refl
+      go pop e = ends w tt
+      go add e = ends w tt
+      go remove e = ends w tt
 
   pub line25-fits : LineFits S g m t f line25
   unfolding act isStepIn

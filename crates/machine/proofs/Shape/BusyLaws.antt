@@ -1,5 +1,5 @@
 -- What the test of a record says of a task that is in a call, and back.
-use mathlib.Core.Path.{_≡_, refl, ap, sym, _∙_}
+use mathlib.Core.Path.{_≡_, refl, ap, sym, _∙_, subst}
 use mathlib.Core.Logic.{_≢_, inl, inr}
 use mathlib.Core.Bool.{Bool, true, false, cond}
 use mathlib.Core.List.{[], _∷_}
@@ -7,6 +7,7 @@ use Prim.Native.Nat.{ℕ, _≤_, _<_}
 use lib.Dec.{leb, ltb, eqb}
 use native.Mathlib.Omega.{arith}
 use borrow.Author.Tests.{leb-true, ltb-true, eqb-true, lt-ltb, eq-eqb}
+use Rattle.machine.specs.declared.Stored.{Stored}
 use Rattle.machine.specs.Choice.{_≟_}
 use Rattle.machine.specs.Sides.{Side, left, right, sideNumber}
 use Rattle.machine.specs.Values.{bag, stored, number, encode, bagOk, valueOk}
@@ -32,7 +33,7 @@ use Rattle.machine.specs.Shape.{
 }
 use Rattle.machine.specs.Calls.{isBusy}
 use Rattle.machine.proofs.Basics.Tests.{and-left, and-right, or-either, or-left, or-right}
-use Rattle.machine.proofs.Words.ValueLaws.{HasWord, bag-has-word}
+use Rattle.machine.proofs.Words.ValueLaws.{HasWord, number-stored, stored-number, bag-decoded}
 use Rattle.machine.proofs.Words.RecordLaws.{
   operation-of-number,
   side-of-number,
@@ -107,6 +108,7 @@ module _ (S g : ℕ) (t : Task) where
         side-of-number (t .side),
         F .step-ok,
         F .argument-ok,
+        number-stored (t .argument),
         F .counted-ok,
         F .value-ok,
         node-or-none-ok S (t .A) (F .A-ok),
@@ -123,7 +125,10 @@ module _ (S g : ℕ) (t : Task) where
       HasWord (t .value) → recordOk S g (wordsOf t) ≡ true → isBusy (t .operation) ≡ true → BusyFacts S g t
   unfolding busyOk
   busy-of-record w h b =
-      let test = rw (operation-of-number (t .operation), side-of-number (t .side)) at (busy-test h b) in
+      let test =
+      rw (operation-of-number (t .operation), side-of-number (t .side), number-stored (t .argument))
+      at (busy-test h b)
+      in
       let A-test : nodeOrNone S (t .A) ≡ true = search (and-left, and-right) depth 9 in
       let B-test : nodeOrNone S (t .B) ≡ true = search (and-left, and-right) depth 9 in
       let C-test : nodeOrNone S (t .C) ≡ true = search (and-left, and-right) depth 9 in
@@ -177,4 +182,8 @@ module _ {S g : ℕ} {t : Task} where
   -- At 51 a bag was read.
   pub bag-at-51 : BusyAt S g line51 t → (b : ℕ) × (t .value ≡ bag b) × (bagOk (stored b) ≡ true)
   bag-at-51 F =
-      let b = number (encode (t .value)) in (b, sym (F .has-word) ∙ bag-has-word b (F .value-ok), F .value-ok)
+      let u = encode (t .value) in (
+        number u,
+        sym (F .has-word) ∙ bag-decoded u (F .value-ok),
+        subst (λ (v : Stored). bagOk v ≡ true) (sym (stored-number u (F .value-ok))) (F .value-ok),
+      )

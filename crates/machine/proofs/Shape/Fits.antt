@@ -1,13 +1,14 @@
 -- Effects that fit a table of the right shape, and how a line's tests are taken apart to show that.
-use Rattle.machine.specs.Answers.{refusalOf}
 use mathlib.Core.Option.{none as nothing}
 use mathlib.Core.Path.{_≡_, refl}
 use mathlib.Core.Logic.{_≢_}
 use mathlib.Core.Bool.{true}
 use mathlib.Core.List.{List, [], _∷_}
-use Prim.Native.Nat.{ℕ, _<_}
+use Prim.Native.Nat.{ℕ, _≤_, _<_, zero-le}
+use Rattle.tag.specs.Tags.{largestTag}
 use Rattle.machine.specs.declared.Answer.{Answer}
-use Rattle.machine.specs.declared.Answer.the-variants.{Going}
+use Rattle.machine.specs.declared.Answer.the-variants.{Going, Pushed, Bag, Empty, Full, Yes, No, Refused}
+use Rattle.machine.specs.Answers.{payloadOf, refusalOf}
 use Rattle.machine.specs.Choice.{_≟_, if_then_else_}
 use Rattle.machine.specs.Sides.{Side, opposite}
 use Rattle.machine.specs.Values.{Value, N, X, Y, encode, valueOk}
@@ -50,6 +51,37 @@ abbrev pub WritesFit : (S : ℕ) → List Write → Type 0
 WritesFit S [] = Unit {0}
 WritesFit S (w ∷ l) = WriteFits S w × WritesFit S l
 
+-- An answer that ends a tick: no refusal, and a bag has a tag.
+abbrev pub AnswerFits : Answer → Type 0
+AnswerFits Going = Unit {0}
+AnswerFits Pushed = Unit {0}
+AnswerFits (Bag b) = b ≤ largestTag
+AnswerFits Empty = Unit {0}
+AnswerFits Full = Unit {0}
+AnswerFits Yes = Unit {0}
+AnswerFits No = Unit {0}
+AnswerFits (Refused n) = ⊥
+
+pub answer-made : (a : Answer) → AnswerFits a → refusalOf a ≡ nothing
+answer-made Going h = refl
+answer-made Pushed h = refl
+answer-made (Bag b) h = refl
+answer-made Empty h = refl
+answer-made Full h = refl
+answer-made Yes h = refl
+answer-made No h = refl
+answer-made (Refused n) h = absurd h
+
+pub answer-tag : (a : Answer) → AnswerFits a → payloadOf a ≤ largestTag
+answer-tag Going h = zero-le
+answer-tag Pushed h = zero-le
+answer-tag (Bag b) h = h
+answer-tag Empty h = zero-le
+answer-tag Full h = zero-le
+answer-tag Yes h = zero-le
+answer-tag No h = zero-le
+answer-tag (Refused n) h = absurd h
+
 -- A tick is refused, or writes what fits and then goes on with a record that fits, or ends with a fresh one.
 pub data Fits (S growth : ℕ) : Effect → Type 0 where
   turns-back : {t : Task} → Fits S growth (refused t)
@@ -61,7 +93,7 @@ pub data Fits (S growth : ℕ) : Effect → Type 0 where
   ends :
       {l : List Write} {a : Answer}
       → WritesFit S l
-      → refusalOf a ≡ nothing
+      → AnswerFits a
       → Fits S growth (record { writes = l; task = fresh; answer = a })
 
 pub record MemoryFits (S : ℕ) (m : Memory) : Type 0 where

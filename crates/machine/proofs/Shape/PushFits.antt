@@ -59,7 +59,7 @@ module _ (S g : ℕ) (m : Memory) (M : MemoryFits S m) (t : Task) (f : ℕ) wher
       let fits : ValueFits (bag n) = (bag-has-word n ok, bag-value-ok (stored n) ok) in
       by-through S g t (λ nA.
       by-through S g t (λ nB.
-      by-dcas S g _ _ (ends (search fitting) refl)
+      by-dcas S g _ _ (ends (search fitting) tt)
       (goes-on tt (moves F (lands (part F) refl)))))
 
   pub line8-fits : LineFits S g m t f line8

@@ -71,7 +71,7 @@ module _ (S g : ℕ) (m : Memory) (M : MemoryFits S m) (t : Task) (f : ℕ) wher
   unfolding act isStepIn
   line56-fits F =
       by-through S g t (λ _.
-      by-if (Fits S g) (_ ≟ᵛ _) (λ _. ends tt refl) (λ _.
+      by-if (Fits S g) (_ ≟ᵛ _) (λ _. ends tt tt) (λ _.
       goes-on tt
       (stands F line58 (part F) (F .counted-ok) (F .value-ok) (F .has-word)
       (F .A-ok) (F .B-ok) (F .C-ok) (F .D-ok))))
@@ -80,7 +80,7 @@ module _ (S g : ℕ) (m : Memory) (M : MemoryFits S m) (t : Task) (f : ℕ) wher
   unfolding act isStepIn
   line58-fits F =
       by-through S g t (λ _.
-      by-if (Fits S g) (_ ≟ _) (λ _. ends tt refl) (λ _.
+      by-if (Fits S g) (_ ≟ _) (λ _. ends tt tt) (λ _.
       goes-on tt (by-if (λ st. BusyFacts S g (goto t′ st)) (_ ≟ _) done more)))
     where
       a : ℕ
@@ -109,7 +109,7 @@ module _ (S g : ℕ) (m : Memory) (M : MemoryFits S m) (t : Task) (f : ℕ) wher
   unfolding act isStepIn
   line60-fits F =
       by-through S g t (λ _.
-      by-if (Fits S g) (_ ≟ _) (λ _. ends tt refl)
+      by-if (Fits S g) (_ ≟ _) (λ _. ends tt tt)
       (λ _. goes-on tt (moves-B F (lands (part F) refl) (M .out-ok (t .A)))))
 
   pub line62-fits : LineFits S g m t f line62
@@ -118,7 +118,7 @@ module _ (S g : ℕ) (m : Memory) (M : MemoryFits S m) (t : Task) (f : ℕ) wher
       by-through S g t (λ nA.
       by-through S g t (λ nB.
       by-dcas S g _ _ (goes-on (search fitting) (moves F (lands (part F) refl)))
-      (ends tt refl)))
+      (ends tt tt)))
 
   pub line64-fits : LineFits S g m t f line64
   unfolding act isStepIn
@@ -168,4 +168,4 @@ module _ (S g : ℕ) (m : Memory) (M : MemoryFits S m) (t : Task) (f : ℕ) wher
 
   pub line82-fits : LineFits S g m t f line82
   unfolding act
-  line82-fits F = by-through S g t (λ nA. ends (search fitting) refl)
+  line82-fits F = by-through S g t (λ nA. ends (search fitting) tt)

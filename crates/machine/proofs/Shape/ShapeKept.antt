@@ -28,7 +28,7 @@ use Rattle.machine.specs.Steps.{stepNumber, stepsOf, isStepIn, firstStep
 use Rattle.machine.specs.Tasks.{Task, wordsOf}
 use Rattle.machine.specs.Table.{nodeCount, taskCount, growth, task, setTask}
 use Rattle.machine.specs.Shape.{sizesOk, valueReadOk, countedOk, WellFormed}
-use Rattle.machine.specs.Answers.{refusalOf}
+use Rattle.machine.specs.Answers.{answerLength, refusalOf}
 use Rattle.machine.specs.Calls.{
   isIdle,
   isBusy,
@@ -70,7 +70,7 @@ use Rattle.machine.specs.Demand3.{
 }
 use Rattle.machine.proofs.Basics.Contradiction.{clash}
 use Rattle.machine.proofs.Basics.Tests.{and-left, and-right, test-passed, tests-left}
-use Rattle.machine.proofs.Words.ValueLaws.{never-has-word}
+use Rattle.machine.proofs.Words.ValueLaws.{argument-stored, never-has-word}
 use Rattle.machine.proofs.Words.Columns.{sizesOf, columns}
 use Rattle.machine.proofs.Words.TableLaws.{columns-setTask}
 use Rattle.machine.proofs.Words.StartLaws.{
@@ -243,7 +243,9 @@ module _ (ws : List ℕ) (k op side : ℕ) (argument : Stored) where
         let S = nodeCount ws in
         let g = growth ws in
         let busy = begun-busy op (A .some-operation) in
-        let F = begun-facts S g (sideOf side) (number argument) (operationOf op) busy (A .argument-fits) in
+        let same-argument = argument-stored (operationOf op) argument (A .argument-fits) in
+        let fits = subst (λ (u : Stored). argumentOk (operationOf op) u ≡ true) (sym same-argument) (A .argument-fits) in
+        let F = begun-facts S g (sideOf side) (number argument) (operationOf op) busy fits in
         let recorded = put-record-shaped (columns ws) W k (wordsOf begun) (record-of-busy S g begun F) in
         let same = sym (columns-setTask ws (Z .sized) k begun (A .is-task)) in
         record {
@@ -282,14 +284,14 @@ run-kept [] ws answers Z W = unchanged ws Z W
 run-kept (k ∷ []) ws answers Z W = unchanged ws Z W
 run-kept (k ∷ h ∷ list) ws answers Z W =
     let K = tick-kept ws Z W k h in
-    let L = run-kept list (one .words) (drop 2 answers) (K .well-sized) (K .well-shaped) in
+    let L = run-kept list (one .words) (drop answerLength answers) (K .well-sized) (K .well-shaped) in
     go (refusalOf (one .answer)) (kept-then K L)
   where
     one : Ticked
     one = tickOn ws k h
 
     rest : RunDone
-    rest = runOn list (one .words) (drop 2 answers)
+    rest = runOn list (one .words) (drop answerLength answers)
 
     go :
         (r : Option ℕ)

@@ -38,7 +38,16 @@ use Rattle.machine.proofs.Shape.BusyLaws.{
   idle-of-record,
 }
 use Rattle.machine.proofs.Shape.ShapeLaws.{WellSized, WellShaped}
-use Rattle.machine.proofs.Shape.Fits.{WritesFit, Fits, turns-back, goes-on, ends, MemoryFits, none-fits}
+use Rattle.machine.proofs.Shape.Fits.{
+  WritesFit,
+  answer-made,
+  Fits,
+  turns-back,
+  goes-on,
+  ends,
+  MemoryFits,
+  none-fits,
+}
 use Rattle.machine.proofs.Shape.LinesFit.{line-fits}
 use Rattle.machine.proofs.Shape.WritesKeep.{
   all-in-range,
@@ -194,8 +203,8 @@ module _ (ws : List ℕ) (Z : WellSized (sizesOf ws)) (W : WellShaped (columns w
     unfolding applied
     applied-kept turns-back = unchanged
     applied-kept (goes-on {l} {t} fit F) = effect-kept l t fit (record-of-busy (nodeCount ws) (growth ws) t F)
-    applied-kept (ends {l} fit answers) =
-        rw (answers, applied) (effect-kept l fresh fit (record-of-fresh (nodeCount ws) (growth ws)))
+    applied-kept (ends {l} {a} fit answers) =
+        rw (answer-made a answers, applied) (effect-kept l fresh fit (record-of-fresh (nodeCount ws) (growth ws)))
 
   pub tick-kept : (k h : ℕ) → Kept ws (tickOn ws k h .words)
   unfolding tickOn

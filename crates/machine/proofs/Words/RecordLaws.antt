@@ -21,6 +21,7 @@ use Rattle.machine.specs.Operations.{
   remove,
   operationNumber,
   operationOf,
+  argumentOk,
 }
 use Rattle.machine.specs.Steps.{stepsOf, isStepIn}
 use Rattle.machine.specs.Tasks.{
@@ -49,6 +50,7 @@ use Rattle.machine.proofs.Words.ValueLaws.{
   never-has-word,
   same-stored,
   number-stored,
+  argument-stored,
   encode-decode,
   bag-value-ok,
   mark-value-ok,
@@ -178,12 +180,14 @@ module _ (S g : ℕ) (r : List ℕ) where
       let st-ok : isStepIn (stepsOf (operationOf o)) st ≡ true = search (and-left, and-right) depth 9 in
       let s-ok : leb s 1 ≡ true = search (and-left, and-right) depth 9 in
       let v-ok : valueReadOk (sideOf s) st v ≡ true = search (and-left, and-right) depth 9 in
-      rw (
-        number-of-operation o (leb-true o 4 o-ok),
-        number-of-step (stepsOf (operationOf o)) st st-ok,
-        number-of-side s (leb-true s 1 s-ok),
-        encode-decode v (read-value-ok (sideOf s) st v v-ok),
-      )
+      let u-ok : argumentOk (operationOf o) (argumentWords r) ≡ true = search (and-left, and-right) depth 9 in
+      λ i. number-of-operation o (leb-true o 4 o-ok) i
+      ∷ number-of-step (stepsOf (operationOf o)) st st-ok i
+      ∷ number-of-side s (leb-true s 1 s-ok) i
+      ∷ (storedWords (argument-stored (operationOf o) (argumentWords r) u-ok i)
+      ++ (countedWord r
+      ∷ (storedWords (encode-decode v (read-value-ok (sideOf s) st v v-ok) i)
+      ++ (registerWord r inA ∷ registerWord r inB ∷ registerWord r inC ∷ registerWord r inD ∷ []))))
 
   pub words-of-task : recordOk S g r ≡ true → wordsOf (taskOf r) ≡ wordsRead r
   unfolding recordOk

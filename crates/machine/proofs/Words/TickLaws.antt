@@ -1,23 +1,39 @@
 -- What a tick that is made does to the view and to the tasks.
 use mathlib.Core.Path.{_≡_, refl, ap, _∙_}
+use mathlib.Core.Bool.{Bool, true, false}
 use mathlib.Core.List.{List}
 use mathlib.Core.Option.{Option, some, none as nothing}
-use Prim.Native.Nat.{ℕ, _+_, _%_, _^_}
+use Prim.Native.Nat.{ℕ, _+_, _%_, _^_, _≤_, zero-le}
+use native.Mathlib.Omega.{arith}
+use lib.Dec.{ltb}
+use Rattle.tag.specs.Tags.{largestTag}
 use Rattle.machine.specs.declared.Answer.the-variants.{Refused}
 use Rattle.machine.specs.Sides.{Side, right}
 use Rattle.machine.specs.Tasks.{wordsOf}
-use Rattle.machine.specs.Table.{nodeCount, growth, tickCount, task}
+use Rattle.machine.specs.Table.{nodeCount, taskCount, growth, tickCount, task}
+use Rattle.machine.specs.Shape.{lengthOk, shapeOk}
 use Rattle.machine.specs.Lines.{Effect}
-use Rattle.machine.specs.Answers.{refusalOf}
-use Rattle.machine.specs.Calls.{tickRefusal, effectOf, Ticked, applied, tickOn}
+use Rattle.machine.specs.Answers.{payloadOf, refusalOf}
+use Rattle.machine.specs.Calls.{
+  unless,
+  isBusy,
+  tableRefusal,
+  tickRefusal,
+  effectOf,
+  Ticked,
+  applied,
+  tickOn,
+  tick,
+}
 use Rattle.machine.proofs.Basics.Contradiction.{clash}
+use Rattle.machine.proofs.Basics.Tests.{test-passed, tests-left}
 use Rattle.machine.proofs.Basics.Updates.{update}
 use Rattle.machine.proofs.Words.Memories.{viewed, viewAfter}
 use Rattle.machine.proofs.Words.ValueLaws.{HasWord, never-has-word}
 use Rattle.machine.proofs.Words.Columns.{sizesOf, columns, putTickCount, putRecord, putAll}
 use Rattle.machine.proofs.Words.EffectLaws.{AllInRange, effectWords, columns-effect, viewed-effect, task-effect}
-use Rattle.machine.proofs.Shape.ShapeLaws.{WellSized, WellShaped}
-use Rattle.machine.proofs.Shape.Fits.{Fits, turns-back, goes-on, ends}
+use Rattle.machine.proofs.Shape.ShapeLaws.{WellSized, WellShaped, well-shaped}
+use Rattle.machine.proofs.Shape.Fits.{Fits, turns-back, goes-on, ends, answer-tag}
 use Rattle.machine.proofs.Shape.WritesKeep.{all-in-range}
 use Rattle.machine.proofs.Shape.TickKeeps.{tick-allowed, effect-fits}
 
@@ -112,3 +128,58 @@ module _ (ws : List ℕ) (k h : ℕ) (allowed : tickRefusal ws k h ≡ nothing) 
         let r = tick-in-range in
         let is-task = tick-allowed ws k h allowed .0 in
         ap task tick-words ∙ task-effect ws (Z .sized) s (e .writes) (r .0) k is-task (e .task) (r .1)
+
+-- ---- The number that a tick answers with, of a bag or of a refusal, is at most the largest tag.
+fit-number : (S g : ℕ) {e : Effect} → Fits S g e → payloadOf (e .answer) ≤ largestTag
+fit-number S g turns-back = omega arith
+fit-number S g (goes-on fit F) = zero-le
+fit-number S g (ends {l} {a} fit answers) = answer-tag a answers
+
+-- The numbers of a list of refusals are small where each is.
+small-number :
+    (b : Bool) (n : ℕ) (others : Option ℕ)
+    → n ≤ largestTag
+    → ((m : ℕ) → others ≡ some m → m ≤ largestTag)
+    → (m : ℕ)
+    → unless b n others ≡ some m
+    → m ≤ largestTag
+small-number true n others h rest m e = rest m e
+small-number false n others h rest m e = let q : n ≡ m = cc in omega arith
+
+no-number : (m : ℕ) → nothing ≡ some m → m ≤ largestTag
+no-number m e = clash (cc)
+
+pub tick-on-number : (ws : List ℕ) (k h : ℕ) → WellShaped (columns ws) → payloadOf (tickOn ws k h .answer) ≤ largestTag
+tick-on-number ws k h W = go (tickRefusal ws k h) refl
+  where
+    small : (m : ℕ) → tickRefusal ws k h ≡ some m → m ≤ largestTag
+    small =
+        small-number (ltb k (taskCount ws)) 5 _ (omega arith)
+        (small-number (ltb h (nodeCount ws)) 9 _ (omega arith)
+        (small-number (isBusy (task ws k .operation)) 10 _ (omega arith) no-number))
+
+    go : (r : Option ℕ) → tickRefusal ws k h ≡ r → payloadOf (tickOn ws k h .answer) ≤ largestTag
+    go (some n) e = rw (tick-stopped ws k h e) (small n e)
+    go nothing e =
+        let a = tick-allowed ws k h e in
+        rw (tick-answer ws k h e) (fit-number (nodeCount ws) (growth ws) (effect-fits ws W k h (a .1) (a .2)))
+
+pub tick-number : (ws : List ℕ) (k h : ℕ) → payloadOf (tick ws k h .answer) ≤ largestTag
+unfolding tick
+tick-number ws k h = go (tableRefusal ws nothing) refl
+  where
+    small : (m : ℕ) → tableRefusal ws nothing ≡ some m → m ≤ largestTag
+    small = small-number (lengthOk ws) 3 _ (omega arith) (small-number (shapeOk ws) 4 _ (omega arith) no-number)
+
+    go :
+        (r : Option ℕ)
+        → tableRefusal ws nothing ≡ r
+        → payloadOf (elim r as (λ _. Ticked) [
+          | some n ↦ record { answer = Refused n; words = ws }
+          | nothing ↦ tickOn ws k h
+        ] .answer)
+        ≤ largestTag
+    go (some n) e = small n e
+    go nothing e =
+        let shape-test : shapeOk ws ≡ true = search (test-passed, tests-left) in
+        tick-on-number ws k h (well-shaped ws shape-test)

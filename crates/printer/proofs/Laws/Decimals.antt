@@ -16,8 +16,8 @@ use native.Mathlib.Omega.{arith}
 use lib.ListN.{length, length-append}
 use borrow.Author.Tests.{lt-ltb, le-ltb}
 use Rattle.io.specs.Digits.{glyph, digits, Fewest}
-use Rattle.reader.specs.Text.{bytes}
-use Rattle.printer.specs.Lines.{digitsIn, decimal}
+use Rattle.printer.specs.Lines.{digitsIn, decimal, refusedText}
+use Rattle.printer.specs.Writing.{shortRoom}
 
 -- The two cases of the definition.
 one-digit : (k n : ℕ) → n < 10 → digitsIn (suc k) n ≡ (48 + n) ∷ []
@@ -74,6 +74,6 @@ digits-at-most (suc k) (suc f) n h =
 pub decimal-length : (n : ℕ) → n < 2 ^ 32 → length (decimal n) ≤ 10
 decimal-length n h = digits-at-most 9 (suc n) n (omega arith)
 
--- A name with a word takes twelve bytes more than the name.
-pub named-length : (name : List ℕ) (n : ℕ) → n < 2 ^ 32 → length (name ++ decimal n ++ bytes ")\n") ≤ length name + 12
-named-length name n h = simp length-append (omega (arith, decimal-length n h))
+-- The line of a refusal is short.
+pub refused-length : (n : ℕ) → n < 2 ^ 32 → length (refusedText n) ≤ shortRoom
+refused-length n h = simp length-append (omega (arith, decimal-length n h))

@@ -1,30 +1,75 @@
--- A row of bags, written bag after bag.
+-- A tag and a row of tags, written byte by byte and tag after tag.
 use mathlib.Core.Path.{_≡_, refl, sym, ap, _∙_}
-use mathlib.Core.List.{List, [], _∷_, _++_, append-nil, append-assoc}
-use Prim.Native.Nat.{ℕ, suc, _<_}
+use mathlib.Core.Bool.{true}
+use mathlib.Core.List.{List, [], _∷_, _++_, map, append-nil, append-assoc}
+use Prim.Native.Nat.{ℕ, zero, suc, _+_, _*_, _≤_, _<_}
 use native.Mathlib.Omega.{arith}
-use lib.ListN.{length, getD, take}
-use lib.Seq.{take-suc}
+use lib.Dec.{leb}
+use lib.ListN.{length, getD, drop, length-append, length-map}
+use lib.Seq.{getD-drop}
+use borrow.Author.Tests.{leb-true}
+use Rattle.tag.specs.Tags.{tagOf, tenDigits, areDigits, tagsIn}
+use Rattle.tag.proofs.DigitLaws.{length-last, last-are-digits}
 use Rattle.reader.specs.Text.{bytes}
-use Rattle.printer.specs.Lines.{decimal, spaced}
-use Rattle.printer.specs.Writing.{Written}
+use Rattle.reader.proofs.Laws.SameTexts.{and-true}
+use Rattle.printer.specs.Lines.{tagText, spaced, bagText}
+use Rattle.printer.specs.Writing.{Written, shortRoom}
 use Rattle.printer.proofs.Laws.WritingLaws.{written-append}
 
--- One bag at the end.
-spaced-snoc : (bags : List ℕ) (b : ℕ) → spaced bags ++ (bytes " " ++ decimal b) ≡ spaced (bags ++ (b ∷ []))
-unfolding spaced
-spaced-snoc [] b = sym (append-nil (bytes " " ++ decimal b))
-spaced-snoc (x ∷ bags) b =
-    append-assoc (bytes " " ++ decimal x) (spaced bags) (bytes " " ++ decimal b)
-    ∙ ap (λ (l : List ℕ). bytes " " ++ decimal x ++ l) (spaced-snoc bags b)
+-- ---- The bytes of a tag.
+pub tag-length : (tag : ℕ) → length (tagText tag) ≡ 10
+tag-length tag = simp length-map (length-last 10 tag)
 
-pub no-bag-written : (out bags : List ℕ) (at : ℕ) → Written out at (spaced (take 0 bags)) out at
-unfolding spaced
-no-bag-written out bags at = record { buffer = refl; end = omega arith }
+digit-at : (digits : List ℕ) (i : ℕ) → areDigits digits ≡ true → getD digits i 0 ≤ 9
+unfolding areDigits
+digit-at [] i h = omega arith
+digit-at (d ∷ ds) zero h = leb-true d 9 (and-true (leb d 9) (areDigits ds) h .0)
+digit-at (d ∷ ds) (suc i) h = digit-at ds i (and-true (leb d 9) (areDigits ds) h .1)
 
--- One bag more.
-pub bag-written : (bags : List ℕ) (i : ℕ) → i < length bags → {a b c : List ℕ} {at n m : ℕ}
-    → Written a at (spaced (take i bags)) b n → Written b n (bytes " " ++ decimal (getD bags i 0)) c m
-    → Written a at (spaced (take (suc i) bags)) c m
-bag-written bags i h w v =
-    rw (take-suc bags i 0 h, ← spaced-snoc (take i bags) (getD bags i 0)) (written-append w v)
+text-at : (digits : List ℕ) (i : ℕ) → i < length digits
+    → 48 + getD digits i 0 ≡ getD (map (λ (d : ℕ). 48 + d) digits) i 0
+text-at [] i h = absurd (omega arith)
+text-at (d ∷ ds) zero h = refl
+text-at (d ∷ ds) (suc i) h = text-at ds i (omega arith)
+
+module _ {digits : List ℕ} (tag i : ℕ) (e : digits ≡ tenDigits tag) where
+  pub tag-digit : getD digits i 0 ≤ 9
+  tag-digit = rw e (digit-at (tenDigits tag) i (last-are-digits 10 tag))
+
+  pub tag-byte : i < 10 → 48 + getD digits i 0 ≡ getD (tagText tag) i 0
+  tag-byte h = rw e (text-at (tenDigits tag) i (omega (arith, length-last 10 tag)))
+
+-- The line of a bag is short.
+pub bag-length : (tag : ℕ) → length (bagText tag) ≤ shortRoom
+bag-length tag = simp length-append (omega (arith, tag-length tag))
+
+-- ---- One tag more at the end.
+spaced-more : (tags : List ℕ) (tag : ℕ) → spaced tags ++ (bytes " " ++ tagText tag) ≡ spaced (tags ++ (tag ∷ []))
+unfolding spaced
+spaced-more [] tag = sym (append-nil (bytes " " ++ tagText tag))
+spaced-more (x ∷ tags) tag =
+    append-assoc (bytes " " ++ tagText x) (spaced tags) (bytes " " ++ tagText tag)
+    ∙ ap (λ (l : List ℕ). bytes " " ++ tagText x ++ l) (spaced-more tags tag)
+
+tags-more : (words : List ℕ) (i : ℕ)
+    → tagsIn (suc i) words ≡ tagsIn i words ++ (tagOf (getD words (2 * i) 0) (getD words (2 * i + 1) 0) ∷ [])
+unfolding tagsIn
+tags-more words zero = refl
+tags-more words (suc i) =
+    let even : 2 + 2 * i ≡ 2 * suc i = omega arith in
+    let odd : 2 + (2 * i + 1) ≡ 2 * suc i + 1 = omega arith in
+    let digit = getD-drop 2 words (2 * i) 0 ∙ ap (λ (k : ℕ). getD words k 0) even in
+    let low = getD-drop 2 words (2 * i + 1) 0 ∙ ap (λ (k : ℕ). getD words k 0) odd in
+    rw (← digit, ← low)
+    (ap (λ (l : List ℕ). tagOf (getD words 0 0) (getD words 1 0) ∷ l) (tags-more (drop 2 words) i))
+
+pub no-tag-written : (out words : List ℕ) (at : ℕ) → Written out at (spaced (tagsIn 0 words)) out at
+unfolding spaced tagsIn
+no-tag-written out words at = record { buffer = refl; end = omega arith }
+
+pub tag-written : (words : List ℕ) (i : ℕ) → {a b c : List ℕ} {at n m tag : ℕ}
+    → tag ≡ tagOf (getD words (2 * i) 0) (getD words (2 * i + 1) 0)
+    → Written a at (spaced (tagsIn i words)) b n → Written b n (bytes " " ++ tagText tag) c m
+    → Written a at (spaced (tagsIn (suc i) words)) c m
+tag-written words i {tag = tag} e w v =
+    rw (tags-more words i, ← e, ← spaced-more (tagsIn i words) tag) (written-append w v)

@@ -1,9 +1,8 @@
 -- `printer::print` meets its contract: in each arm the line put is that of the outcome.
-use mathlib.Core.Path.{ap}
+use mathlib.Core.Path.{refl}
 use native.Mathlib.Omega.{arith}
-use Rattle.printer.specs.Outcomes.{textOf}
-use Rattle.printer.proofs.Laws.WritingLaws.{line-written}
 use borrow.Author.Needs.{needs}
+use Rattle.printer.proofs.Laws.WritingLaws.{line-written}
 use Rattle.printer.proofs.print.Statement.{statement}
 use Rattle.printer.proofs.print.Tie as tie
 
@@ -25,8 +24,7 @@ enum-known-outcome-3 c = search needs
 print-reading-requires : tie.Need-print-reading-requires
 print-reading-requires c κs =
     let known = c .before .before in
-    let start = known .before .before .before .before in
-    (rw (known .outcome3 .given .1) at (start .pre .0), start .pre .1)
+    rw (known .outcome3 .given .1) at (known .before .before .before .before .pre)
 
 enum-told : tie.Need-enum-told
 enum-told c = search needs
@@ -43,7 +41,7 @@ same-length c = search needs
 returns : tie.Need-returns
 returns c =
     let put = c .before .before .print-reply .ensures in
-    (rw (c .before .before .before .before .before .outcome .given .1) (put .0), omega (arith, put .1))
+    rw (c .before .before .before .before .before .outcome .given .1) (put .0, omega (arith, put .1))
 
 same-length-2 : tie.Need-same-length-2
 same-length-2 c = search needs
@@ -51,24 +49,22 @@ same-length-2 c = search needs
 returns-2 : tie.Need-returns-2
 returns-2 c =
     let put = c .before .before .print-answer .ensures in
-    (rw (c .before .before .before .before .before .outcome2 .given .1) (put .0), omega (arith, put .1))
+    rw (c .before .before .before .before .before .outcome2 .given .1) (put .0, omega (arith, put .1))
 
 same-length-3 : tie.Need-same-length-3
 same-length-3 c = search needs
 
 returns-3 : tie.Need-returns-3
 returns-3 c =
-    let put = c .before .before .print-reading .ensures in
-    (rw (c .before .before .before .before .before .outcome3 .given .1) (put .0), omega (arith, put .1))
+    rw (c .before .before .before .before .before .outcome3 .given .1) (c .before .before .print-reading .ensures)
 
 same-length-4 : tie.Need-same-length-4
 same-length-4 c = search needs
 
 returns-4 : tie.Need-returns-4
 returns-4 c =
-    let told = c .before .before .before .before .before in
-    let bags = told .before .before .before .before .args .bags .now in
-    line-written (ap (λ o. textOf o bags) (told .enum-told .given .1)) (c .before .before .put .ensures) (omega arith)
+    rw (c .before .before .before .before .before .enum-told .given .1)
+    (line-written refl (c .before .before .put .ensures) (omega arith))
 
 pub print-spec : {M : Type 1} → statement M
 print-spec =

@@ -19,6 +19,7 @@ use Rattle.machine.specs.Lines.{Memory, Effect, act}
 use Rattle.machine.specs.Calls.{isBusy, tickRefusal, effectOf, tickOn}
 use Rattle.machine.specs.Row.{Note}
 use Rattle.machine.specs.Begun.{Begun}
+use Rattle.machine.proofs.Words.ValueLaws.{number-stored}
 use Rattle.machine.proofs.Basics.Contradiction.{refute}
 use Rattle.machine.proofs.Basics.Choices.{if-no}
 use Rattle.machine.proofs.Words.Memories.{View, viewed, written, view, seen-viewed}
@@ -95,7 +96,8 @@ module _ (extra : ℕ) {ws : List ℕ} (begun : Begun ws) (k : ℕ) where
 
     few : (task ws k .operation ≡ push) ⊎ (task ws k .operation ≡ add) → goal (growth ws) (task ws k) ≤ 64
     few (inl e) = rw e (sizes .most-growth)
-    few (inr e) = rw e (leb-true (task ws k .argument) 64 (rw e at (facts .argument-ok)))
+    few (inr e) =
+        rw e (leb-true (task ws k .argument) 64 (rw (number-stored (task ws k .argument)) at (rw e at (facts .argument-ok))))
 
     counted-below : task ws k .step ≡ line31 → task ws k .counted < goal (growth ws) (task ws k)
     unfolding isStepIn

@@ -6,15 +6,31 @@ use Prim.Native.Nat.{ℕ, zero, suc, _+_, _<_, _≤_, min}
 use native.Mathlib.Decide.{decLt}
 use native.Mathlib.Numerals.{add-one}
 use native.Mathlib.Omega.{arith}
-use borrow.Author.Tests.{eq-eqb, ne-eqb, lt-ltb, le-ltb}
+use borrow.Author.Tests.{eq-eqb, ne-eqb, eqb-true, lt-ltb, le-ltb}
 use lib.Dec.{eqb, ltb}
 use lib.ListN.{length, getD, take, drop, set, length-append, length-take, drop-of-length-le}
 use lib.Seq.{drop-cons, take-suc-set, take-all, take-append-le}
 use Rattle.reader.specs.Text.{same}
 
+pub false-not-true : {P : Type 0} → _≡_ {A = Bool} false true → P
+false-not-true e = let z : _≡_ {A = ℕ} 0 1 = cc in absurd (omega arith)
+
+pub and-true : (a b : Bool) → (a && b) ≡ true → (a ≡ true) × (b ≡ true)
+and-true true b h = (refl, h)
+and-true false b h = false-not-true h
+
 pub and-false : (b : Bool) → b && false ≡ false
 and-false true = refl
 and-false false = refl
+
+pub same-equal : (xs ys : List ℕ) → same xs ys ≡ true → xs ≡ ys
+same-equal [] [] h = refl
+same-equal [] (y ∷ ys) h = false-not-true h
+same-equal (x ∷ xs) [] h = false-not-true h
+same-equal (x ∷ xs) (y ∷ ys) h =
+    let e : x ≡ y = eqb-true x y (and-true (eqb x y) (same xs ys) h .0) in
+    let f : xs ≡ ys = same-equal xs ys (and-true (eqb x y) (same xs ys) h .1) in
+    λ i. e i ∷ f i
 
 -- ---- Two texts compared byte by byte.
 pub same-lengths-differ : (xs ys : List ℕ) → (length xs ≡ length ys → ⊥) → same xs ys ≡ false

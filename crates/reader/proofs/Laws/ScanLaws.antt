@@ -1,11 +1,10 @@
 -- What is kept stands for what is scanned: at the start, and after one byte more of each kind.
-use mathlib.Core.Bool.{Bool, true, false, cond, _&&_}
+use mathlib.Core.Bool.{Bool, true, false, cond}
 use mathlib.Core.List.{List, [], _∷_, _++_}
 use mathlib.Core.Path.{_≡_, refl, sym, _∙_}
-use Prim.Native.Nat.{ℕ, zero, suc, _+_, _-_, _<_, _≤_, min}
+use Prim.Native.Nat.{ℕ, zero, suc, _+_, _-_, _<_, min}
 use native.Mathlib.Omega.{arith}
-use borrow.Author.Tests.{leb-true}
-use lib.Dec.{leb, ltb}
+use lib.Dec.{ltb}
 use lib.ListN.{length, getD, take, set, length-set}
 use Rattle.reader.specs.Scanned.{
   Scanned,
@@ -19,9 +18,11 @@ use Rattle.reader.specs.Scanned.{
   scanByte,
   scanBytes,
 }
-use Rattle.reader.specs.Commands.{largestNumber, allFit, commandOf}
+use Rattle.reader.specs.Commands.{commandOf, commandRead}
 use Rattle.reader.specs.Kept.{
   textPlaces,
+  numberPlaces,
+  keptNumber,
   Kept,
   noNumbers,
   textWith,
@@ -36,27 +37,41 @@ use Rattle.reader.specs.Kept.{
   ScanKept,
   Represents,
 }
-use Rattle.reader.proofs.Laws.SameTexts.{and-false, byte-kept}
-use Rattle.reader.proofs.Laws.FormLaws.{formOf-kept}
+use Rattle.reader.proofs.Laws.SameTexts.{false-not-true, byte-kept}
+use Rattle.reader.proofs.Laws.FormLaws.{command-kept}
 use Rattle.reader.proofs.Laws.NumberLaws.{
-  allFit-more,
-  allFit-set,
+  up-to-tag-set,
   more-number-count,
   more-first,
   more-last,
   other-first,
   other-last,
 }
-
-false-not-true : {P : Type 0} → _≡_ {A = Bool} false true → P
-false-not-true e = let z : _≡_ {A = ℕ} 0 1 = cc in absurd (omega arith)
+use Rattle.reader.proofs.Laws.PlaceLaws.{
+  digit-small,
+  other-byte,
+  further-digit,
+  first-digit,
+  nothing-well,
+  appended-well,
+  opened-well,
+  extended-well,
+}
 
 -- ---- Nothing scanned.
+zeros : (i : ℕ) → getD noNumbers i 0 ≡ 0
+zeros zero = refl
+zeros (suc zero) = refl
+zeros (suc (suc zero)) = refl
+zeros (suc (suc (suc zero))) = refl
+zeros (suc (suc (suc (suc i)))) = refl
+
 pub first-kept : (text : List ℕ) → length text ≡ textPlaces → ScanKept (keptAtFirst text)
 first-kept text h =
     record {
       text-places = h;
       number-places = refl;
+      up-to-tag = λ i. omega (arith, zeros i);
       counts = record { short = omega arith; few = omega arith; some = λ e. false-not-true e };
     }
 
@@ -65,17 +80,12 @@ first-represents text =
     record {
       text-kept = refl;
       number-count = refl;
+      width-kept = refl;
       in-number = refl;
-      fitting = refl;
-      first = λ e. zeros;
-      last = λ e h. absurd (omega arith);
+      first = λ i _. zeros i;
+      last = λ h. absurd (omega arith);
+      well-scanned = nothing-well;
     }
-  where
-    zeros : (i : ℕ) → i < 3 → getD noNumbers i 0 ≡ 0
-    zeros zero h = refl
-    zeros (suc zero) h = refl
-    zeros (suc (suc zero)) h = refl
-    zeros (suc (suc (suc i))) h = absurd (omega arith)
 
 -- ---- The counts after one byte more of each kind.
 module _ (k : Kept) (C : Counts (k .scan)) where
@@ -99,51 +109,54 @@ module _ (k : Kept) (C : Counts (k .scan)) where
       go true false e = opened-counts (b - zeroDigit)
       go false within e = other-counts b
 
--- The arrays keep their lengths.
-abbrev SameLengths : Kept → Kept → Type 0
-SameLengths k′ k = (length (k′ .text) ≡ length (k .text)) × (length (k′ .numbers) ≡ length (k .numbers))
-
-module _ (k : Kept) where
-  text-length : (b : ℕ) → length (textWith (k .text) (k .scan .length) b) ≡ length (k .text)
+-- ---- The arrays after one byte more of each kind.
+module _ {k : Kept} (K : ScanKept k) where
+  text-length : (b : ℕ) → length (textWith (k .text) (k .scan .length) b) ≡ textPlaces
   text-length b = go (ltb (k .scan .length) textPlaces)
     where
-      go : (room : Bool) → length (cond room (set (k .text) (k .scan .length) b) (k .text)) ≡ length (k .text)
-      go true = length-set (k .text) (k .scan .length) b
-      go false = refl
+      go : (room : Bool) → length (cond room (set (k .text) (k .scan .length) b) (k .text)) ≡ textPlaces
+      go true = length-set (k .text) (k .scan .length) b ∙ K .text-places
+      go false = K .text-places
 
-  other-lengths : (b : ℕ) → SameLengths (keepOther k b) k
-  other-lengths b = (text-length b, refl)
+  other-kept : (b : ℕ) → ScanKept (keepOther k b)
+  other-kept b =
+      record {
+        text-places = text-length b;
+        number-places = K .number-places;
+        up-to-tag = K .up-to-tag;
+        counts = other-counts k (K .counts) b;
+      }
 
-  opened-lengths : (d : ℕ) → SameLengths (keepOpened k d) k
-  opened-lengths d = (text-length zeroDigit, length-set (k .numbers) _ _)
+  opened-kept : (d : ℕ) → d < 10 → ScanKept (keepOpened k d)
+  opened-kept d h =
+      record {
+        text-places = text-length zeroDigit;
+        number-places = length-set (k .numbers) _ d ∙ K .number-places;
+        up-to-tag = up-to-tag-set (k .numbers) (min numberPlaces (k .scan .count + 1) - 1) d (K .up-to-tag) (omega arith);
+        counts = opened-counts k (K .counts) d;
+      }
 
-  extended-lengths : (d : ℕ) → SameLengths (keepExtended k d) k
-  extended-lengths d = (refl, go (leb (withDigit (k .numbers) (k .scan .count - 1) d) largestNumber))
-    where
-      go : (fits : Bool) → length (cond fits (set (k .numbers) (k .scan .count - 1)
-          (withDigit (k .numbers) (k .scan .count - 1) d)) (k .numbers)) ≡ length (k .numbers)
-      go true = length-set (k .numbers) (k .scan .count - 1) (withDigit (k .numbers) (k .scan .count - 1) d)
-      go false = refl
+  extended-kept : (d : ℕ) → k .scan .in_number ≡ true → ScanKept (keepExtended k d)
+  extended-kept d e =
+      let place = k .scan .count - 1 in
+      let v = keptNumber (withDigit (k .numbers) place d) in
+      record {
+        text-places = K .text-places;
+        number-places = length-set (k .numbers) place v ∙ K .number-places;
+        up-to-tag = up-to-tag-set (k .numbers) place v (K .up-to-tag) (omega arith);
+        counts = extended-counts k (K .counts) d e;
+      }
 
-  byte-lengths : (b : ℕ) → SameLengths (keepByte k b) k
+  pub byte-scan-kept : (b : ℕ) → ScanKept (keepByte k b)
   unfolding keepByte
-  byte-lengths b = go (isDigit b) (k .scan .in_number)
+  byte-scan-kept b = go (isDigit b) (k .scan .in_number) refl refl
     where
-      go : (digit within : Bool)
-          → SameLengths (cond digit (cond within (keepExtended k (b - zeroDigit)) (keepOpened k (b - zeroDigit)))
-          (keepOther k b)) k
-      go true true = extended-lengths (b - zeroDigit)
-      go true false = opened-lengths (b - zeroDigit)
-      go false within = other-lengths b
-
-pub byte-scan-kept : {k : Kept} → ScanKept k → (b : ℕ) → ScanKept (keepByte k b)
-byte-scan-kept {k} K b =
-    let long = byte-lengths k b in
-    record {
-      text-places = long .0 ∙ K .text-places;
-      number-places = long .1 ∙ K .number-places;
-      counts = byte-counts k (K .counts) b;
-    }
+      go : (digit within : Bool) → isDigit b ≡ digit → k .scan .in_number ≡ within
+          → ScanKept (cond digit (cond within (keepExtended k (b - zeroDigit)) (keepOpened k (b - zeroDigit)))
+          (keepOther k b))
+      go true true e f = extended-kept (b - zeroDigit) f
+      go true false e f = opened-kept (b - zeroDigit) (digit-small b e)
+      go false within e f = other-kept b
 
 -- ---- What it stands for.
 module _ {k : Kept} {σ : Scanned} (K : ScanKept k) (R : Represents k σ) where
@@ -152,113 +165,59 @@ module _ {k : Kept} {σ : Scanned} (K : ScanKept k) (R : Represents k σ) where
   text-more b =
       byte-kept textPlaces (k .text) (σ .text) (k .scan .length) b (K .text-places) (K .counts .short) (R .text-kept)
 
-  other-represents : (b : ℕ) → Represents (keepOther k b) (appended σ b)
-  other-represents b =
+  other-represents : (b : ℕ) → isDigit b ≡ false → Represents (keepOther k b) (appended σ b)
+  other-represents b h =
       record {
         text-kept = text-more b;
         number-count = R .number-count;
+        width-kept = R .width-kept;
         in-number = refl;
-        fitting = R .fitting;
         first = R .first;
         last = R .last;
+        well-scanned = appended-well (R .well-scanned) b h;
       }
 
   -- the first digit of a number
   opened-represents : (d : ℕ) → d < 10 → Represents (keepOpened k d) (opened σ d)
   opened-represents d h =
-      let numbers = k .numbers in
+      let held = k .numbers in
       let count = k .scan .count in
       let long = K .number-places in
       record {
         text-kept = text-more zeroDigit;
-        number-count = more-number-count numbers (σ .numbers) count long (R .number-count) d;
+        number-count = more-number-count held (σ .numbers) count long (R .number-count) d;
+        width-kept = refl;
         in-number = refl;
-        fitting = R .fitting ∙ sym (allFit-more (σ .numbers) d (omega arith));
-        first = λ f. more-first numbers (σ .numbers) count long (R .number-count) d (R .first f);
-        last = λ f g. more-last numbers (σ .numbers) count long (R .number-count) d;
+        first = more-first held (σ .numbers) count long (R .number-count) d (omega arith) (R .first);
+        last = λ _. more-last held (σ .numbers) count long (R .number-count) d (omega arith);
+        well-scanned = opened-well (R .well-scanned) d h;
       }
 
   -- a further digit
-  module _ (d : ℕ) (is-open : k .scan .in_number ≡ true) where
-    abbrev place : ℕ
-    place = k .scan .count - 1
-
-    -- what the code takes for the number with its further digit
-    abbrev next : ℕ
-    next = withDigit (k .numbers) place d
-
-    -- what it is
-    abbrev meant : ℕ
-    meant = withDigit (σ .numbers) (length (σ .numbers) - 1) d
-
+  module _ (d : ℕ) (h : d < 10) (is-open : k .scan .in_number ≡ true) where
     some : 0 < k .scan .count
     some = K .counts .some is-open
 
-    next-meant : k .scan .fits ≡ true → next ≡ meant
-    next-meant f = omega (arith, R .last f some)
-
-    fit-after : (leb next largestNumber && k .scan .fits) ≡ allFit (set (σ .numbers) (length (σ .numbers) - 1) meant)
-    fit-after =
-        let h = R .number-count in
-        let z = some in
-        go (k .scan .fits) refl
-        ∙ sym (rw (R .fitting) (allFit-set (σ .numbers) (length (σ .numbers) - 1) meant (omega arith) (omega arith)))
-      where
-        go : (b : Bool) → k .scan .fits ≡ b → (leb next largestNumber && b) ≡ (leb meant largestNumber && b)
-        go true f = rw (next-meant f)
-        go false f = and-false (leb next largestNumber) ∙ sym (and-false (leb meant largestNumber))
+    -- What is kept of a number with a further digit is what is kept of the digit put to what was kept.
+    next-kept : keptNumber (withDigit (k .numbers) (k .scan .count - 1) d)
+        ≡ keptNumber (withDigit (σ .numbers) (length (σ .numbers) - 1) d)
+    next-kept = omega (arith, R .last some)
 
     extended-represents : Represents (keepExtended k d) (extended σ d)
-    extended-represents = go (leb next largestNumber) refl
-      where
-        go : (fits : Bool) → leb next largestNumber ≡ fits → Represents (keepExtended k d) (extended σ d)
-        go true e =
-            let held = k .numbers in
-            let count = k .scan .count in
-            let long = K .number-places in
-            rw e
-            (record {
-              text-kept = R .text-kept;
-              number-count = R .number-count ∙ sym (simp length-set);
-              in-number = refl;
-              fitting = rw e at fit-after;
-              first = λ f.
-                  rw (next-meant f)
-                  (other-first held (σ .numbers) count long (R .number-count) meant some (R .first f));
-              last = λ f g.
-                  rw (next-meant f) (other-last held (σ .numbers) count long (R .number-count) meant some);
-            })
-        go false e =
-            rw e
-            (record {
-              text-kept = R .text-kept;
-              number-count = R .number-count ∙ sym (simp length-set);
-              in-number = refl;
-              fitting = rw e at fit-after;
-              first = λ f. false-not-true f;
-              last = λ f. false-not-true f;
-            })
-
--- ---- One byte is of the kind that its value says.
-pub digit-range : (b : ℕ) → isDigit b ≡ true → (48 ≤ b) × (b ≤ 57)
-digit-range b e = (leb-true 48 b (go (leb 48 b) (leb b 57) e .0), leb-true b 57 (go (leb 48 b) (leb b 57) e .1))
-  where
-    go : (p q : Bool) → (p && q) ≡ true → (p ≡ true) × (q ≡ true)
-    go true q h = (refl, h)
-    go false q h = false-not-true h
-
-module _ (σ : Scanned) (b : ℕ) where
-  pub other-byte : isDigit b ≡ false → scanByte σ b ≡ appended σ b
-  unfolding scanByte
-  other-byte h = rw h
-
-  pub further-digit : isDigit b ≡ true → σ .inNumber ≡ true → scanByte σ b ≡ extended σ (b - zeroDigit)
-  unfolding scanByte
-  further-digit h e = rw (h, e)
-
-  pub first-digit : isDigit b ≡ true → σ .inNumber ≡ false → scanByte σ b ≡ opened σ (b - zeroDigit)
-  unfolding scanByte
-  first-digit h e = rw (h, e)
+    extended-represents =
+        let held = k .numbers in
+        let count = k .scan .count in
+        let long = K .number-places in
+        let meant = withDigit (σ .numbers) (length (σ .numbers) - 1) d in
+        record {
+          text-kept = R .text-kept;
+          number-count = R .number-count ∙ sym (simp length-set);
+          width-kept = omega (arith, R .width-kept);
+          in-number = refl;
+          first = rw next-kept (other-first held (σ .numbers) count long (R .number-count) meant some (R .first));
+          last = λ _. rw next-kept (other-last held (σ .numbers) count long (R .number-count) meant some);
+          well-scanned = extended-well (R .well-scanned) d h (sym (R .in-number) ∙ is-open);
+        }
 
 -- ---- One byte, many, and the command.
 pub byte-represents : {k : Kept} {σ : Scanned} → ScanKept k → Represents k σ → (b : ℕ)
@@ -270,11 +229,10 @@ byte-represents {k} {σ} K R b = go (isDigit b) (k .scan .in_number) refl refl
         → Represents (cond digit (cond within (keepExtended k (b - zeroDigit)) (keepOpened k (b - zeroDigit)))
         (keepOther k b)) (scanByte σ b)
     go true true e f =
-        rw (further-digit σ b e (sym (R .in-number) ∙ f)) (extended-represents K R (b - zeroDigit) f)
+        rw (further-digit σ b e (sym (R .in-number) ∙ f)) (extended-represents K R (b - zeroDigit) (digit-small b e) f)
     go true false e f =
-        let range = digit-range b e in
-        rw (first-digit σ b e (sym (R .in-number) ∙ f)) (opened-represents K R (b - zeroDigit) (omega arith))
-    go false within e f = rw (other-byte σ b e) (other-represents K R b)
+        rw (first-digit σ b e (sym (R .in-number) ∙ f)) (opened-represents K R (b - zeroDigit) (digit-small b e))
+    go false within e f = rw (other-byte σ b e) (other-represents K R b e)
 
 pub bytes-scan-kept : {k : Kept} → ScanKept k → (bytes : List ℕ) → ScanKept (keepBytes k bytes)
 unfolding keepBytes
@@ -289,9 +247,11 @@ bytes-represents K R (b ∷ bs) = bytes-represents (byte-scan-kept K b) (byte-re
 
 pub command-represents : {k : Kept} {σ : Scanned} → Represents k σ → keptCommand k ≡ commandOf σ
 unfolding keptCommand commandOf
-command-represents {k} {σ} R = go (k .scan .fits) refl
-  where
-    go : (fits : Bool) → k .scan .fits ≡ fits → keptCommand k ≡ commandOf σ
-    go true f =
-        rw (f, sym (R .fitting) ∙ f, R .text-kept) (formOf-kept (σ .text) (k .numbers) (σ .numbers) (R .first f))
-    go false f = rw (f, sym (R .fitting) ∙ f)
+command-represents {k} {σ} R =
+    rw (R .text-kept, R .width-kept) (command-kept σ (R .well-scanned) (k .numbers) (R .first))
+
+-- So the command read off what is kept of a line is the command of the line.
+pub line-command : (text line : List ℕ) → length text ≡ textPlaces
+    → keptCommand (keepBytes (keptAtFirst text) line) ≡ commandRead line
+unfolding commandRead
+line-command text line h = command-represents (bytes-represents (first-kept text h) (first-represents text) line)

@@ -1,26 +1,25 @@
--- Each branch is one case of the definition.
+-- The text kept is the front of its array.
 use mathlib.Core.Path.{sym}
+use native.Mathlib.Omega.{arith}
 use borrow.Author.Needs.{needs}
 use lib.Seq.{length-take-le}
 use Rattle.reader.specs.Kept.{keptCommand}
 use Rattle.reader.proofs.scanned_command.Statement.{statement}
 use Rattle.reader.proofs.scanned_command.Tie as tie
 
-slice-aggregate-form-of : tie.Need-slice-aggregate-form-of
-slice-aggregate-form-of c =
-    let s = c .before .before .before in
-    sym (length-take-le (s .args .s .length) (s .args .text .now) (s .pre))
+slice-aggregate-command-with : tie.Need-slice-aggregate-command-with
+slice-aggregate-command-with c =
+    let s = c .before .before in
+    let kept = s .pre in
+    sym (length-take-le (s .args .s .length) (s .args .text .now) (omega (arith, kept .text-places, kept .counts .short)))
 
-form-of-requires : tie.Need-form-of-requires
-form-of-requires c κs = search needs
+command-with-requires : tie.Need-command-with-requires
+command-with-requires c κs = search needs
 
 returns : tie.Need-returns
 unfolding keptCommand
-returns c = rw (c .before .before .if1 .taken) (c .form-of .ensures)
-
-returns-2 : tie.Need-returns-2
-unfolding keptCommand
-returns-2 c = rw (c .if1 .left)
+returns c = c .command-with .ensures
 
 pub scanned-command-spec : {M : Type 1} → statement M
-scanned-command-spec = tie.close (tie.spec slice-aggregate-form-of form-of-requires returns returns-2)
+scanned-command-spec =
+    tie.close (tie.spec slice-aggregate-command-with command-with-requires returns)

@@ -1,14 +1,26 @@
 -- `reading::copy` meets its contract: the words written and the bags of the walk ahead are the out slice wanted.
-use mathlib.Core.Path.{_≡_, refl, sym, ap, _∙_}
+use mathlib.Core.Path.{_≡_, refl, sym, ap, _∙_, subst}
+use mathlib.Core.Bool.{true}
 use mathlib.Core.Option.{some}
-use Prim.Native.Nat.{_-_, _≤_, _<_}
+use Prim.Native.Nat.{_+_, _*_, _-_, _≤_}
 use native.Mathlib.Omega.{arith}
 use native.Mathlib.Decide.{ℕ-discrete}
 use native.Mathlib.Nat.{sub-zero}
-use lib.ListN.{length, length-set}
+use lib.ListN.{length}
+use lib.Seq.{sets}
+use Rattle.tag.specs.Tags.{tagWords}
+use Rattle.machine.specs.declared.Stored.{Stored}
+use Rattle.machine.specs.Values.{number, bagOk}
 use Rattle.layout.specs.Coded.{HoldsNode}
 use Rattle.reading.specs.Lane.{laneIn, countOf, laid, NodeOrNone}
-use Rattle.reading.proofs.WalkLaws.{written, write-ends, node-ahead, fewer-ahead, write-at-bag}
+use Rattle.reading.proofs.WalkLaws.{
+  written,
+  write-ends,
+  node-ahead,
+  tag-ahead,
+  fewer-ahead,
+  write-at-bag,
+}
 use borrow.Author.Needs.{needs}
 use Rattle.reading.proofs.copy.Statement.{statement}
 use Rattle.reading.proofs.copy.Tie as tie
@@ -33,8 +45,8 @@ at-node c =
     let a = c .before .before .before .before .args in
     l .inv .1 (node-ahead (a .ns .now) (a .slots) (l .i) (l .x) (a .n) (omega arith) (l .inv .3))
 
--- The out slice has room for them.
-in-out : (c : tie.In-loop Inv-loop μ-loop) → c .before .loop .i < length (c .before .loop .out)
+-- The out slice has room for one more.
+in-out : (c : tie.In-loop Inv-loop μ-loop) → 2 * c .before .loop .i + 2 ≤ length (c .before .loop .out)
 in-out c = omega (arith, c .before .loop .inv .2, c .before .before .before .before .pre .1 .1)
 
 loop-holds : tie.Need-loop-holds Inv-loop μ-loop
@@ -43,23 +55,27 @@ loop-holds c =
     let h = c .before .before .pre in
     (omega arith, h .0 .1, refl, rw (sub-zero (a .slots), sub-zero (a .n)) (h .1 .0), rw (sub-zero (a .slots)))
 
+cast-put-tag : tie.Need-cast-put-tag Inv-loop μ-loop
+cast-put-tag c = omega arith
+
+mul-put-tag : tie.Need-mul-put-tag Inv-loop μ-loop
+mul-put-tag c = omega arith
+
 value-requires : tie.Need-value-requires Inv-loop μ-loop
-value-requires c κs = at-node c
+value-requires c κs = at-node (c .before)
 
-number-requires : tie.Need-number-requires Inv-loop μ-loop
-number-requires c κs = search needs
-
-cast-out : tie.Need-cast-out Inv-loop μ-loop
-cast-out c = omega arith
-
-mul-out : tie.Need-mul-out Inv-loop μ-loop
-mul-out c = omega arith
-
-slice-write-out : tie.Need-slice-write-out Inv-loop μ-loop
-slice-write-out c = in-out (c .before .before)
+put-tag-requires : tie.Need-put-tag-requires Inv-loop μ-loop
+put-tag-requires c κs =
+    let turn = c .before .before in
+    let l = turn .before .loop in
+    let a = turn .before .before .before .before .args in (
+      subst (λ (u : Stored). bagOk u ≡ true) (sym (c .value .ensures))
+          (tag-ahead (a .ns .now) (a .slots) (l .i) (l .x) (a .n) (omega arith) (l .inv .3)),
+      in-out turn,
+    )
 
 link-requires : tie.Need-link-requires Inv-loop μ-loop
-link-requires c κs = (at-node (c .before .before), omega arith)
+link-requires c κs = (at-node (c .before .before .before .before .before), omega arith)
 
 add-i : tie.Need-add-i Inv-loop μ-loop
 add-i c = omega arith
@@ -70,15 +86,19 @@ loop-less c = omega arith
 loop-again : tie.Need-loop-again Inv-loop μ-loop
 unfolding ℕ-discrete
 loop-again c =
-    let turn = c .before .before .before in
+    let put = c .before .before .before in
+    let turn = put .before .before .before in
     let l = turn .before .loop in
     let start = turn .before .before .before .before in
-    let a = start .args in (
+    let a = start .args in
+    let words = put .put-tag .ensures
+    ∙ ap (λ (u : Stored). sets (l .out) (2 * l .i) (tagWords (number u))) (put .before .value .ensures)
+    in (
       omega arith,
       rw (c .link .ensures) (start .pre .0 .0 .links (l .x) (at-node turn)),
-      length-set (l .out) (l .i) _ ∙ l .inv .2,
+      put .put-tag .kept .0 ∙ l .inv .2,
       rw (c .link .ensures) (fewer-ahead (a .ns .now) (a .slots) (l .i) (l .x) (a .n) (omega arith) (l .inv .3)),
-      rw (c .link .ensures, c .before .number .ensures, c .before .before .value .ensures)
+      rw (c .link .ensures, words)
           (write-at-bag (a .ns .now) (a .slots) (l .i) (l .x) (a .n) (omega arith) (l .inv .3) (l .out) (in-out turn)
           ∙ l .inv .4),
     )
@@ -100,11 +120,10 @@ copy-spec =
     Inv-loop
     μ-loop
     loop-holds
+    cast-put-tag
+    mul-put-tag
     value-requires
-    number-requires
-    cast-out
-    mul-out
-    slice-write-out
+    put-tag-requires
     link-requires
     add-i
     loop-less

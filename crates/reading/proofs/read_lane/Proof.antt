@@ -9,7 +9,6 @@ use lib.ListN.{length}
 use borrow.Author.Needs.{needs}
 use Rattle.machine.specs.declared.Reading.the-variants.{Count}
 use Rattle.machine.specs.Sides.{left, right}
-use Rattle.machine.specs.Values.{number}
 use Rattle.machine.specs.Table.{nodeAt, nodeCount, hat}
 use Rattle.machine.specs.Calls.{lane}
 use Rattle.machine.specs.Results.{readOf}
@@ -43,7 +42,7 @@ unfolding ℕ-discrete
 walk-first c = c .link .ensures
 
 abbrev begun : tie.After-walk-from → tie.Start
-begun c = start-of (lent (c .before .before))
+begun c = start-of (lent (c .before))
 
 walk-found :
     (c : tie.After-link)
@@ -52,14 +51,14 @@ walk-found :
 walk-found c =
     let s = start-of (lent c) in part-walked (table s) (s .pre) (lent c .node-at .ensures) (walk-first c)
 
--- The number that the read passes for the bag sought.
-abbrev unsought : tie.After-walk-from → ℕ
-unsought c = number (c .before .of-number .result)
+-- The number that the read passes for the tag sought: none has it.
+abbrev unsought : ℕ
+unsought = 0
 
 lane-counted :
-    (c : tie.After-walk-from) → walkOf (unsought c) (lane (table (begun c))) ≡ c .walk-from .result
+    (c : tie.After-walk-from) → walkOf unsought (lane (table (begun c))) ≡ c .walk-from .result
 lane-counted c =
-    ap (walkOf (unsought c)) (sym (walk-found (c .before .before))) ∙ sym (c .walk-from .ensures)
+    ap (walkOf unsought) (sym (walk-found (c .before))) ∙ sym (c .walk-from .ensures)
 
 shared-slice-read-slots : tie.Need-shared-slice-read-slots
 shared-slice-read-slots c = omega (arith, room (c .before .before .before))
@@ -84,9 +83,6 @@ link-requires c κs =
     let p = c .before .before in
     let s = start-of p in (hat-in-part (table s) (s .pre) (p .node-at .ensures), omega arith)
 
-of-number-requires : tie.Need-of-number-requires
-of-number-requires c κs = search needs
-
 walk-ready :
     (c : tie.After-link)
     → let part-of = let s = start-of (lent c) in part (table s) (s .pre) (lent c .node-at .ensures) in
@@ -94,7 +90,7 @@ walk-ready :
 walk-ready c = let s = start-of (lent c) in part-ready (table s) (s .pre) (lent c .node-at .ensures) (walk-first c)
 
 walk-from-requires : tie.Need-walk-from-requires
-walk-from-requires c κs = walk-ready (c .before)
+walk-from-requires c κs = walk-ready c
 
 enum-told : tie.Need-enum-told
 enum-told c = search needs
@@ -111,14 +107,17 @@ enum-known-walk c = search needs
 cast-if1 : tie.Need-cast-if1
 cast-if1 c = search needs
 
+mul-if1 : tie.Need-mul-if1
+mul-if1 c = search needs
+
 copy-requires : tie.Need-copy-requires
 copy-requires c κs =
     let walk = c .before .before .before .before .before in
     let told = c .before .before .before .walk .given in
     let bags = lane (table (begun walk)) in
-    let counted = bags-counted (unsought walk) bags (told .0 .0) (told .0 .1 .0) (lane-counted walk ∙ told .1) in (
-      walk-ready (walk .before .before),
-      (ap countOf (walk-found (walk .before .before)) ∙ counted, omega (arith, c .before .if1 .taken)),
+    let counted = bags-counted unsought bags (told .0 .0) (told .0 .1 .0) (lane-counted walk ∙ told .1) in (
+      walk-ready (walk .before),
+      (ap countOf (walk-found (walk .before)) ∙ counted, omega (arith, c .before .if1 .taken)),
     )
 
 same-length : tie.Need-same-length
@@ -133,7 +132,7 @@ returns-2 c =
     let start = begun walk in
     let out = start .args .out .now in
     let n = told .0 .0 in
-    let lane-laid = ap (λ (l : Option (List ℕ)). laid l out) (walk-found (walk .before .before)) in
+    let lane-laid = ap (λ (l : Option (List ℕ)). laid l out) (walk-found (walk .before)) in
     ap (readOf (Count n)) (copied .copy .ensures ∙ lane-laid)
     ∙ read-all _ out (lane (table start)) n (told .0 .1 .0) (lane-counted walk ∙ told .1)
     (omega (arith, fits .if1 .taken))
@@ -157,12 +156,12 @@ read-lane-spec =
     part-ns-end
     shared-slice-read-link
     link-requires
-    of-number-requires
     walk-from-requires
     enum-told
     returns
     enum-known-walk
     cast-if1
+    mul-if1
     copy-requires
     same-length
     returns-2

@@ -68,7 +68,7 @@ returns c =
     let p = c .before .before .before .before in
     let s = start-of p in
     let found = part-walked (table s) (s .pre) (p .node-at .ensures) (walk-first (c .before)) in
-    c .walk-from .ensures ∙ ap (walkOf (number (s .args .sought))) found
+    c .walk-from .ensures ∙ ap (walkOf (s .args .sought)) found
 
 pub seek-spec : {M : Type 1} → statement M
 seek-spec =

@@ -7,7 +7,7 @@ use native.Mathlib.Decide.{ℕ-discrete}
 use borrow.Author.Needs.{needs}
 use borrow.Author.Tests.{not-true, not-false}
 use Rattle.machine.specs.declared.Stored.{Stored}
-use Rattle.machine.specs.Values.{number, decode}
+use Rattle.machine.specs.Values.{decode}
 use Rattle.layout.specs.Coded.{isBag, storedIn}
 use Rattle.reading.specs.Lane.{laneIn, walkOf, NodeOrNone}
 use Rattle.reading.proofs.WalkLaws.{bag-told, tallied, count-begins, count-ends}
@@ -19,7 +19,7 @@ abbrev Inv-loop : tie.InvT-loop
 Inv-loop ns slots from sought x₀ n₀ found₀ x n found =
     (n ≤ slots)
     × NodeOrNone ns x
-    × (tallied (number sought) n found (laneIn ns (slots - n) x) ≡ walkOf (number sought) (laneIn ns slots from))
+    × (tallied sought n found (laneIn ns (slots - n) x) ≡ walkOf sought (laneIn ns slots from))
 
 abbrev μ-loop : tie.MeasureT-loop
 μ-loop ns slots from sought x₀ n₀ found₀ x n found = slots - n
@@ -35,13 +35,13 @@ told c = bag-told (c .is-bag .ensures) (c .before .value .ensures)
 loop-holds : tie.Need-loop-holds Inv-loop μ-loop
 loop-holds c =
     let a = c .before .args in
-    (omega arith, c .before .pre .1, count-begins (a .ns .now) (number (a .sought)) (a .slots) (a .from))
+    (omega arith, c .before .pre .1, count-begins (a .ns .now) (a .sought) (a .slots) (a .from))
 
 returns : tie.Need-returns Inv-loop μ-loop
 returns c =
     let l = c .before .before .loop in
     let a = c .before .before .before .before .args in
-    let w = number (a .sought) in
+    let w = a .sought in
     sym (count-at-none (a .ns .now) w (a .slots) (l .n) (l .x) (l .found) (c .if1 .taken)) ∙ l .inv .2
 
 value-requires : tie.Need-value-requires Inv-loop μ-loop
@@ -60,7 +60,7 @@ returns-2 c =
     let a = tested .before .before .before .before .before .before .args in
     let node = tested .before .before .if1 .left in
     let no-bag = told tested (not-true (tested .is-bag .result) (c .if2 .taken)) in
-    let w = number (a .sought) in
+    let w = a .sought in
     sym (count-at-no-bag (a .ns .now) w (a .slots) (l .n) (l .x) (l .found) (omega arith) node no-bag) ∙ l .inv .2
 
 found-now-requires : tie.Need-found-now-requires Inv-loop μ-loop
@@ -84,7 +84,7 @@ loop-again c =
     let start = tested .before .before .before .before .before .before in
     let a = start .args in
     let node = tested .before .before .if1 .left in
-    let w = number (a .sought) in
+    let w = a .sought in
     let bag = told tested (not-false (tested .is-bag .result) (c .before .before .if2 .left)) in (
       omega arith,
       rw (c .link .ensures) (start .pre .0 .links (l .x) (l .inv .1 node)),
@@ -96,7 +96,7 @@ returns-3 : tie.Need-returns-3 Inv-loop μ-loop
 returns-3 c =
     let l = c .before .loop in
     let a = c .before .before .before .args in
-    sym (count-ends (a .ns .now) (number (a .sought)) (a .slots) (l .n) (l .x) (l .found) (omega arith)) ∙ l .inv .2
+    sym (count-ends (a .ns .now) (a .sought) (a .slots) (l .n) (l .x) (l .found) (omega arith)) ∙ l .inv .2
 
 pub walk-from-spec : {M : Type 1} → statement M
 walk-from-spec =

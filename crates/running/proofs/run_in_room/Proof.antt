@@ -5,6 +5,9 @@ use Rattle.running.proofs.RunTests.{room-14, room-passes}
 use Rattle.running.proofs.run_in_room.Statement.{statement}
 use Rattle.running.proofs.run_in_room.Tie as tie
 
+mul-if1 : tie.Need-mul-if1
+mul-if1 c = search needs
+
 returns : tie.Need-returns
 returns c =
     let a = c .before .before .before .before .args in
@@ -26,4 +29,4 @@ returns-2 c =
     c .before .before .before .before .run-on .ensures ∙ room-passes (a .table .now) (a .list .now) (a .answers .now) (e .if1 .left)
 
 pub run-in-room-spec : {M : Type 1} → statement M
-run-in-room-spec = tie.close (tie.spec returns run-on-requires same-length same-length-2 returns-2)
+run-in-room-spec = tie.close (tie.spec mul-if1 returns run-on-requires same-length same-length-2 returns-2)

@@ -2,11 +2,20 @@
 use mathlib.Core.Path.{_≡_, refl, sym, _∙_}
 use Prim.Native.Nat.{_+_, _-_, _*_, _<_, _≤_}
 use native.Mathlib.Omega.{arith}
-use lib.ListN.{length, length-set}
+use lib.ListN.{length}
 use borrow.Author.Needs.{needs}
+use Rattle.machine.specs.Answers.{answerLength}
 use Rattle.machine.specs.Calls.{runOn}
 use Rattle.machine.specs.Shape.{WellFormed}
-use Rattle.running.proofs.RunWords.{ahead, tick-passed, run-begins, run-ends, run-refused, run-made}
+use Rattle.running.proofs.RunWords.{
+  ahead,
+  tick-passed,
+  tick-tag,
+  run-begins,
+  run-ends,
+  run-refused,
+  run-made,
+}
 use Rattle.running.proofs.run_on.Statement.{statement}
 use Rattle.running.proofs.run_on.Tie as tie
 
@@ -30,13 +39,14 @@ pair-here c =
     let l = c .before .loop in
     omega (arith, s .pre .taken .paired, l .inv .0)
 
--- The answer slice has room for its two words.
+-- The answer slice has room for its words.
 room-here :
     (c : tie.In-loop Inv-loop μ-loop)
-    → c .before .loop .at + 2 ≤ length (c .before .loop .answers)
+    → answerLength * c .before .loop .made + answerLength ≤ length (c .before .loop .answers)
 room-here c =
     let s = c .before .before .before .before .before in
-    omega (arith, pair-here c, s .pre .room, c .before .loop .inv .2)
+    let l = c .before .loop in
+    omega (arith, pair-here c, s .pre .room, l .inv .0, l .inv .2)
 
 loop-holds : tie.Need-loop-holds Inv-loop μ-loop
 loop-holds c =
@@ -65,8 +75,8 @@ tick-on-requires c κs = c .before .before .before .before .loop .inv .3
 kind-requires : tie.Need-kind-requires Inv-loop μ-loop
 kind-requires c κs = search needs
 
-payload-requires : tie.Need-payload-requires Inv-loop μ-loop
-payload-requires c κs = search needs
+refusal-number-requires : tie.Need-refusal-number-requires Inv-loop μ-loop
+refusal-number-requires c κs = search needs
 
 same-length : tie.Need-same-length Inv-loop μ-loop
 same-length c =
@@ -82,27 +92,25 @@ returns c =
     let turn = c .before .before .before .before .before .before .before .before .before in
     let l = turn .before .loop in
     let list = turn .before .before .before .before .before .args .list .now in
-    rw (c .before .payload .ensures)
+    rw (c .refusal-number .ensures)
     (run-refused (l .at) (l .made) list (l .table) (l .answers) (pair-here turn) (tick .result) (tick .last .0)
-    (tick .ensures) (sym (c .before .before .kind .ensures) ∙ c .if1 .taken)
+    (tick .ensures) (sym (c .before .before .kind .ensures) ∙ c .before .if1 .taken)
     ∙ l .inv .4)
 
-mul-answers : tie.Need-mul-answers Inv-loop μ-loop
-mul-answers c = search needs
+cast-put-answer : tie.Need-cast-put-answer Inv-loop μ-loop
+cast-put-answer c = search needs
 
-slice-write-answers : tie.Need-slice-write-answers Inv-loop μ-loop
-slice-write-answers c = search needs
-
-add-answers : tie.Need-add-answers Inv-loop μ-loop
-add-answers c = search needs
-
-mul-answers-2 : tie.Need-mul-answers-2 Inv-loop μ-loop
-mul-answers-2 c = search needs
-
-slice-write-answers-2 : tie.Need-slice-write-answers-2 Inv-loop μ-loop
-slice-write-answers-2 c =
+mul-put-answer : tie.Need-mul-put-answer Inv-loop μ-loop
+mul-put-answer c =
     let turn = c .before .before .before .before .before .before .before .before .before in
-    simp length-set (omega (arith, room-here turn))
+    omega (arith, room-here turn)
+
+put-answer-requires : tie.Need-put-answer-requires Inv-loop μ-loop
+put-answer-requires c κs =
+    let tick = c .before .before .before .before .before .tick-on in
+    let turn = c .before .before .before .before .before .before .before .before .before in
+    let l = turn .before .loop in
+    (tick-tag (l .table) _ _ (tick .result) (tick .last .0) (tick .ensures) (l .inv .3), room-here turn)
 
 add-at : tie.Need-add-at Inv-loop μ-loop
 add-at c = search needs
@@ -115,18 +123,19 @@ loop-less c = search needs
 
 loop-again : tie.Need-loop-again Inv-loop μ-loop
 loop-again c =
-    let tick = c .before .before .before .before .before .tick-on in
-    let turn = c .before .before .before .before .before .before .before .before .before in
+    let put = c .before .before .put-answer in
+    let e = c .before .before .before .before in
+    let tick = e .before .before .before .before .tick-on in
+    let turn = e .before .before .before .before .before .before .before .before in
     let l = turn .before .loop in
-    let list = turn .before .before .before .before .before .args .list .now in
-    let k = c .before .before .kind .ensures in (
+    let list = turn .before .before .before .before .before .args .list .now in (
       omega (arith, l .inv .0),
       tick .kept .0 ∙ l .inv .1,
-      simp length-set (l .inv .2),
+      put .kept .0 ∙ l .inv .2,
       tick-passed (l .table) _ _ (tick .result) (tick .last .0) (tick .ensures) (l .inv .3),
-      rw (k, c .before .payload .ensures)
+      rw (put .ensures)
           (run-made (l .at) (l .made) list (l .table) (l .answers) (pair-here turn) (tick .result) (tick .last .0)
-          (tick .ensures) (λ e. c .if1 .left (k ∙ e)) (room-here turn)
+          (tick .ensures) (λ q. e .if1 .left (e .before .kind .ensures ∙ q)) (room-here turn)
           ∙ l .inv .4),
     )
 
@@ -156,15 +165,13 @@ run-on-spec =
     shared-slice-read-tick-on-2
     tick-on-requires
     kind-requires
-    payload-requires
+    refusal-number-requires
     same-length
     same-length-2
     returns
-    mul-answers
-    slice-write-answers
-    add-answers
-    mul-answers-2
-    slice-write-answers-2
+    cast-put-answer
+    mul-put-answer
+    put-answer-requires
     add-at
     add-made
     loop-less

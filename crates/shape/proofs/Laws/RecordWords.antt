@@ -1,6 +1,6 @@
 -- What the definitions say of a record where the code has compared its words with numbers.
 use mathlib.Core.Path.{_≡_, ap, _∙_}
-use mathlib.Core.Bool.{Bool, true, false, _&&_, and-assoc}
+use mathlib.Core.Bool.{Bool, true, false, _&&_, and-assoc, and-true, and-false}
 use mathlib.Core.List.{List}
 use Prim.Native.Nat.{ℕ, _≤_, _<_}
 use lib.ListN.{getD}
@@ -33,11 +33,10 @@ module _ (side far : ℕ) (is-far : far ≡ sideNumber (opposite (sideOf side)))
 
 -- ---- A record of a task that is in a call.
 
--- The tests between those of operation and side and those of the registers.
+-- The tests between those of operation, side and argument and those of the registers.
 abbrev pub callOk : (growth : ℕ) → Tasks.Task → Bool
 callOk g t =
     isStepIn (stepsOf (operationOf (t .operation))) (t .step)
-    && argumentOk (operationOf (t .operation)) (t .argument)
     && countedOk (t .step) (goalOf (operationOf (t .operation)) g (number (t .argument))) (t .counted)
     && valueReadOk (sideOf (t .side)) (t .step) (t .value)
 
@@ -54,7 +53,25 @@ module _ (S g : ℕ) (t : Tasks.Task) where
   unfolding busyOk
   side-fails h k = rw (le-leb (t .operation) 4 h, lt-leb (t .side) 1 k)
 
-  pub busy-tests :
-      t .operation ≤ 4 → t .side ≤ 1 → callOk g t && registersOk S (t .registers) ≡ busyOk S g (recordOf t)
+  pub argument-fails :
+      t .operation ≤ 4
+      → t .side ≤ 1
+      → argumentOk (operationOf (t .operation)) (t .argument) ≡ false
+      → false ≡ busyOk S g (recordOf t)
   unfolding busyOk
-  busy-tests h k = rw (le-leb (t .operation) 4 h, le-leb (t .side) 1 k) (simp and-assoc)
+  argument-fails h k e =
+      rw (le-leb (t .operation) 4 h, le-leb (t .side) 1 k, e, and-false (isStepIn (stepsOf (operationOf (t .operation))) (t .step)))
+
+  pub busy-tests :
+      t .operation ≤ 4
+      → t .side ≤ 1
+      → argumentOk (operationOf (t .operation)) (t .argument) ≡ true
+      → callOk g t && registersOk S (t .registers) ≡ busyOk S g (recordOf t)
+  unfolding busyOk
+  busy-tests h k e =
+      rw (
+        le-leb (t .operation) 4 h,
+        le-leb (t .side) 1 k,
+        e,
+        and-true (isStepIn (stepsOf (operationOf (t .operation))) (t .step)),
+      ) (simp and-assoc)

@@ -7,9 +7,7 @@ use Rattle.stream.proofs.end_line.Statement.{statement}
 use Rattle.stream.proofs.end_line.Tie as tie
 
 scanned-command-requires : tie.Need-scanned-command-requires
-scanned-command-requires c κs =
-    let in-order = c .before .before .before .before .before .pre .0 in
-    omega (arith, in-order .scan-kept .text-places, in-order .scan-kept .counts .short)
+scanned-command-requires c κs = c .before .before .before .before .before .pre .0 .scan-kept
 
 answer-requires : tie.Need-answer-requires
 answer-requires c κs = search needs

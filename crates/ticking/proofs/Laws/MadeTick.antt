@@ -13,7 +13,7 @@ use Rattle.machine.specs.declared.Answer.{Answer}
 use Rattle.machine.specs.declared.Answer.the-variants.{Going, Pushed, Bag, Empty, Full, Yes, No, Refused}
 use Rattle.machine.specs.Sides.{Side, left, right, sideNumber, sideOf}
 use Rattle.machine.specs.Values.{number}
-use Rattle.machine.specs.Operations.{operationOf, goalOf}
+use Rattle.machine.specs.Operations.{operationOf, argumentOk, goalOf}
 use Rattle.machine.specs.Steps.{stepOf}
 use Rattle.machine.specs.Tasks.{Task, none, wordsOf, goal}
 use Rattle.machine.specs.Table.{
@@ -48,7 +48,7 @@ use Rattle.hattrick.specs.Lent.{writesIn, hatAfter, Outcome, outcomeOf, effectI
 use Rattle.figure.specs.Groups.{allSteps, ReadyIn}
 use Rattle.ticking.specs.Ticks.{MayTick, taken, isRefused, made, recorded, stored}
 use Rattle.ticking.proofs.Laws.LineWords.{taken-node}
-use Rattle.ticking.proofs.Laws.TickReady.{meant-task, side-back, side-low, ready-task}
+use Rattle.ticking.proofs.Laws.TickReady.{meant-task, side-back, side-low, argument-fits, ready-task}
 use Rattle.ticking.proofs.Laws.TickWords.{line-is-effect, refused-words, made-words}
 
 refused-answer : (a : Answer) → isRefused a ≡ true → (n : ℕ) × (a ≡ Refused n)
@@ -193,6 +193,11 @@ module _ (ws : List ℕ) (k hint : ℕ) (M : MayTick ws k hint) where
 
     pub its-side : r .side < 2
     its-side = subst (λ (u : Tasks.Task). u .side < 2) (sym same) record-side
+
+    pub its-argument : argumentOk (operationOf (r .operation)) (r .argument) ≡ true
+    its-argument =
+        subst (λ (u : Tasks.Task). argumentOk (operationOf (u .operation)) (u .argument) ≡ true) (sym same)
+        (argument-fits ws Z W k (M .is-task) (M .busy))
 
     pub its-ready : {f : ℕ} → f ≡ taken r (allocate ws hint) → ReadyIn allSteps part r f
     its-ready {f} =

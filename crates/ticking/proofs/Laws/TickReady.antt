@@ -11,7 +11,17 @@ use Rattle.machine.specs.declared.Stored.{Stored}
 use Rattle.machine.specs.Choice.{_<?_}
 use Rattle.machine.specs.Sides.{Side, left, right, sideNumber, sideOf}
 use Rattle.machine.specs.Values.{never, number, encode, decode, bagOk, valueOk}
-use Rattle.machine.specs.Operations.{Operation, idle, push, pop, add, remove, argumentOk, goalOf}
+use Rattle.machine.specs.Operations.{
+  Operation,
+  idle,
+  push,
+  pop,
+  add,
+  remove,
+  operationOf,
+  argumentOk,
+  goalOf,
+}
 use Rattle.machine.specs.Steps.{stepNumber, stepOf, stepsOf, isStepIn}
 use Rattle.machine.specs.Tasks.{Task, none}
 use Rattle.machine.specs.Table.{nodeCount, taskCount, growth, valueWords, recordWords, task}
@@ -107,12 +117,16 @@ module _ (ws : List ℕ) (Z : WellSized (sizesOf ws)) (W : WellShaped (columns w
     pub step-back : stepNumber (stepOf (record-at .step)) ≡ record-at .step
     step-back = ap (λ (t : Tasks.Task). t .step) canonical
 
+    pub argument-fits : argumentOk (operationOf (record-at .operation)) (record-at .argument) ≡ true
+    argument-fits =
+        subst (λ (u : Stored). argumentOk (operationOf (record-at .operation)) u ≡ true)
+        (ap (λ (t : Tasks.Task). t .argument) canonical) (facts .argument-ok)
+
     counted-few : record-at .counted < 1024
     counted-few =
-        let F = facts in
-        let c = counted-at-most F in
-        let g = goal-bound (taskMeant record-at .operation) (growth ws) (record-at .argument) (Z .most-growth)
-        (F .argument-ok) in
+        let c = counted-at-most facts in
+        let g = goal-bound (operationOf (record-at .operation)) (growth ws) (record-at .argument) (Z .most-growth)
+        argument-fits in
         omega arith
 
     is-step : isStepIn allSteps (record-at .step) ≡ true

@@ -20,7 +20,7 @@ use Rattle.machine.proofs.Basics.Contradiction.{clash}
 use Rattle.machine.proofs.Words.Columns.{sizesOf, columns}
 use Rattle.machine.proofs.Words.EffectLaws.{AllInRange}
 use Rattle.machine.proofs.Shape.ShapeLaws.{WellSized, WellShaped}
-use Rattle.machine.proofs.Shape.Fits.{Fits, turns-back, goes-on, ends}
+use Rattle.machine.proofs.Shape.Fits.{answer-made, Fits, turns-back, goes-on, ends}
 use Rattle.layout.specs.declared.tasks.Task as Tasks
 use Rattle.layout.specs.Coded.{structOf, taskMeant}
 use Rattle.hattrick.specs.Lent.{memoryIn, writesIn, hatAfter, effectIn, lineOf}
@@ -66,7 +66,7 @@ module _ (ws : List ℕ) (Z : WellSized (sizesOf ws)) (W : WellShaped (columns w
 none-written : {S g n : ℕ} {e : Effect} → Fits S g e → e .answer ≡ Refused n → e .writes ≡ []
 none-written turns-back r = refl
 none-written (goes-on fit F) r = clash (cc)
-none-written (ends fit answers) r = clash (let q = ap refusalOf r in cc)
+none-written (ends {l} {a} fit answers) r = clash (let q = ap refusalOf r in cc (q, answer-made a answers))
 
 module _ (s : Side) (ws : List ℕ) (Z : WellSized (sizesOf ws)) (k : ℕ) (e : Effect) where
   header-room : headerLength ≤ length ws

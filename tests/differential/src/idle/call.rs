@@ -46,7 +46,7 @@ impl List {
             PUSH if spare > 1 => PushSpare,
             PUSH if free + spur > 0 => PushTake,
             PUSH => PushNone,
-            POP if self.bags.is_empty() => PopNone,
+            POP if self.tags.is_empty() => PopNone,
             POP => PopBag,
             ADD if free > 0 => AddTake,
             ADD => AddNone,
@@ -86,15 +86,15 @@ impl List {
 
     fn put(&mut self, push: Note) {
         match push.side {
-            0 => self.bags.push_front(push.argument),
-            _ => self.bags.push_back(push.argument),
+            0 => self.tags.push_front(push.tag()),
+            _ => self.tags.push_back(push.tag()),
         }
     }
 
-    fn take(&mut self, side: u32) -> Option<u32> {
+    fn take(&mut self, side: u32) -> Option<u64> {
         match side {
-            0 => self.bags.pop_front(),
-            _ => self.bags.pop_back(),
+            0 => self.tags.pop_front(),
+            _ => self.tags.pop_back(),
         }
     }
 }

@@ -3,7 +3,9 @@
 use std::collections::VecDeque;
 
 use reference::count_free;
-use reference::table::{header, is_value, node, Sizes, LN, LX, LY, NONE, RN, RX, RY};
+use reference::table::{
+    content, header, is_tag, mark, node, tag, Content, Sizes, LN, LX, LY, NONE, RN, RX, RY,
+};
 
 /// One end of the list.
 #[derive(Clone, Copy, Debug, PartialEq, Eq)]
@@ -14,13 +16,13 @@ pub struct End {
     pub spur: u32,
 }
 
-/// The five numbers of an idle table, with its bags.
+/// The five numbers of an idle table, with its tags.
 #[derive(Clone, Debug, PartialEq, Eq)]
 pub struct List {
     /// Left, right.
     pub ends: [End; 2],
     /// Leftmost first.
-    pub bags: VecDeque<u32>,
+    pub tags: VecDeque<u64>,
 }
 
 impl List {
@@ -28,18 +30,18 @@ impl List {
     pub fn of(table: &[u32], sizes: Sizes) -> List {
         let words = Words { table, sizes };
         let slots = words.walk();
-        let (left, bags) = words.left_and_bags(&slots);
-        let inner = left + bags.len();
+        let (left, tags) = words.left_and_tags(&slots);
+        let inner = left + tags.len();
         let spurs = [
-            (header::LEFT_HAT, left - 1, [NONE, slots[left], LY]),
-            (header::RIGHT_HAT, inner, [slots[inner - 1], NONE, RY]),
+            (header::LEFT_HAT, left - 1, [NONE, slots[left], LY, 0]),
+            (header::RIGHT_HAT, inner, [slots[inner - 1], NONE, RY, 0]),
         ];
         let [x, y] = spurs.map(|(hat, place, beside)| words.spur(hat, slots[place], beside));
         let ends = [(left, x), (slots.len() - inner, y)].map(|(spare, spur)| End {
             spare: spare as u32,
             spur,
         });
-        let list = List { ends, bags };
+        let list = List { ends, tags };
         assert_eq!(count_free(table, sizes), list.free(sizes), "free slots");
         list
     }
@@ -47,7 +49,7 @@ impl List {
     /// The slots that are left.
     pub fn free(&self, sizes: Sizes) -> u32 {
         let [left, right] = self.ends.map(|end| end.spare + end.spur);
-        sizes.nodes - left - self.bags.len() as u32 - right
+        sizes.nodes - left - self.tags.len() as u32 - right
     }
 }
 
@@ -57,7 +59,7 @@ struct Words<'a> {
 }
 
 impl Words<'_> {
-    /// L, R and V of a slot.
+    /// L, R, V and digit of a slot.
     fn slot(&self, slot: u32) -> &[u32] {
         &self.table[self.sizes.node(slot)..][..node::WORDS]
     }
@@ -85,7 +87,7 @@ impl Words<'_> {
     /// From the left hat outward; a spur leads there by way of the slot next to the innermost spare one.
     fn left_end(&self) -> u32 {
         let mut slot = self.table[header::LEFT_HAT];
-        if let &[_, inside, LY] = self.slot(slot) {
+        if let &[_, inside, LY, 0] = self.slot(slot) {
             slot = inside;
         }
         for _ in 0..self.sizes.nodes {
@@ -97,28 +99,31 @@ impl Words<'_> {
         panic!("no left end");
     }
 
-    /// The spare slots at the left and the bags after them; the rest are spare slots at the right.
-    fn left_and_bags(&self, slots: &[u32]) -> (usize, VecDeque<u32>) {
-        let value = |&slot: &u32| self.slot(slot)[node::VALUE];
-        let values: Vec<u32> = slots.iter().map(value).collect();
-        let left = values.iter().take_while(|&&v| v == LX || v == LN).count();
-        let bags: VecDeque<u32> = values.iter().copied().filter(|&v| is_value(v)).collect();
-        assert!(left > 0, "no spare slot at the left: {values:?}");
+    /// The spare slots at the left and the tags after them; the rest are spare slots at the right.
+    fn left_and_tags(&self, slots: &[u32]) -> (usize, VecDeque<u64>) {
+        let held = |&slot: &u32| content(self.slot(slot), node::VALUE);
+        let contents: Vec<Content> = slots.iter().map(held).collect();
+        let spare = |content: &&Content| [mark(LX), mark(LN)].contains(content);
+        let left = contents.iter().take_while(spare).count();
+        let held = contents.iter().filter(|&&content| is_tag(content));
+        let tags: Vec<Content> = held.copied().collect();
+        assert!(left > 0, "no spare slot at the left: {contents:?}");
         assert!(
-            left + bags.len() < slots.len(),
-            "none at the right: {values:?}"
+            left + tags.len() < slots.len(),
+            "none at the right: {contents:?}"
         );
-        let mut wanted = vec![LN; left];
-        wanted.extend(&bags);
-        wanted.resize(slots.len(), RN);
-        wanted[0] = LX;
-        wanted[slots.len() - 1] = RX;
-        assert_eq!(values, wanted, "the list from its left end");
-        (left, bags)
+        let mut wanted = vec![mark(LN); left];
+        wanted.extend(&tags);
+        wanted.resize(slots.len(), mark(RN));
+        wanted[0] = mark(LX);
+        wanted[slots.len() - 1] = mark(RX);
+        assert_eq!(contents, wanted, "the list from its left end");
+        let tags = tags.into_iter().map(|[low, digit]| tag(digit, low));
+        (left, tags.collect())
     }
 
     /// 0 where the hat is on the innermost spare slot, 1 where it is on a slot with these words.
-    fn spur(&self, hat: usize, innermost: u32, beside: [u32; 3]) -> u32 {
+    fn spur(&self, hat: usize, innermost: u32, beside: [u32; node::WORDS]) -> u32 {
         let slot = self.table[hat];
         if slot == innermost {
             return 0;

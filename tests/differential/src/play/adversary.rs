@@ -180,10 +180,10 @@ impl Play<'_> {
                     self.operate(worker, REMOVE, 1 - side, keep);
                 }
                 _ => {
-                    let bag = self.bag();
-                    self.operate(worker, PUSH, side, bag);
+                    let tag = self.tag();
+                    self.operate(worker, PUSH, side, tag);
                     let keep = self.first_of(2) as usize;
-                    while self.row.values.len() > keep {
+                    while self.row.tags.len() > keep {
                         self.operate(worker, POP, 1 - side, 0);
                     }
                 }
@@ -217,13 +217,13 @@ impl Play<'_> {
     }
 
     /// A number below a bound, small ones more often.
-    fn first_of(&mut self, bound: u32) -> u32 {
+    fn first_of(&mut self, bound: u32) -> u64 {
         let limit = 1 + self.random.below(bound);
-        self.random.below(limit)
+        self.random.below(limit).into()
     }
 
     /// A call of a task that has finished what it was at, to its answer.
-    fn operate(&mut self, task: u32, operation: u32, side: u32, argument: u32) {
+    fn operate(&mut self, task: u32, operation: u32, side: u32, argument: u64) {
         self.finish(task);
         self.begin(task, operation, side, argument);
         self.finish(task);

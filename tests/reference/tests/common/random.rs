@@ -43,4 +43,14 @@ impl Random {
             _ => self.below(90),
         }
     }
+
+    /// A leading digit, sometimes a word that is none.
+    pub fn digit(&mut self) -> u32 {
+        match self.below(8) {
+            0 => 10 + self.below(2),
+            1 => self.word(),
+            2..=4 => 0,
+            _ => self.below(10),
+        }
+    }
 }

@@ -2,8 +2,8 @@
 
 use super::random::Random;
 use reference::table::{
-    goal, header, mirror, node, record, step_belongs, Sizes, ADD, IDLE, LN, LX, LY, NONE, POP,
-    PUSH, RN, RX, RY,
+    goal, header, mark, mirror, node, record, step_belongs, Content, Sizes, ADD, IDLE, LN, LX, LY,
+    MAX_LOW, NEVER_USED, NONE, POP, PUSH, RN, RX, RY,
 };
 
 /// A table as an accepted start leaves it.
@@ -66,9 +66,9 @@ pub fn shaped_of(random: &mut Random, sizes: Sizes) -> Vec<u32> {
     table[header::TICKS] = random.word();
     for number in 0..sizes.nodes {
         let at = sizes.node(number);
-        table[at + node::LEFT] = link(random, sizes);
-        table[at + node::RIGHT] = link(random, sizes);
-        table[at + node::VALUE] = content(random);
+        let [value, digit] = content(random);
+        let words = [link(random, sizes), link(random, sizes), value, digit];
+        table[at..at + node::WORDS].copy_from_slice(&words);
     }
     for task in 0..sizes.tasks {
         let at = sizes.record(task);
@@ -101,11 +101,11 @@ fn shaped_record(random: &mut Random, sizes: Sizes) -> [u32; record::WORDS] {
         return words;
     }
     let side = random.below(2);
-    let mut argument = match operation {
-        PUSH => random.pick(&[1, 2, 999_999_999]),
-        POP => 0,
-        ADD => random.pick(&[0, 1, 2, 64]),
-        _ => random.pick(&[0, 1, 2, 1023]),
+    let [mut argument, digit] = match operation {
+        PUSH => tag(random),
+        POP => [0, 0],
+        ADD => [random.pick(&[0, 1, 2, 64]), 0],
+        _ => [random.pick(&[0, 1, 2, 1023]), 0],
     };
     let mut step = random.pick(&steps_of(operation));
     if matches!(step, 31 | 56 | 58) && goal(operation, argument, sizes.growth) == 0 {
@@ -120,17 +120,20 @@ fn shaped_record(random: &mut Random, sizes: Sizes) -> [u32; record::WORDS] {
     words[record::STEP] = step;
     words[record::SIDE] = side;
     words[record::ARGUMENT] = argument;
+    words[record::ARGUMENT_DIGIT] = digit;
     words[record::COUNTED] = match step {
         54 => 0,
         31 | 56 | 58 => random.below(goal),
         _ => random.below(goal + 1),
     };
-    words[record::VALUE] = match (step, side) {
-        (48, 0) => random.pick(&[RN, RX]),
-        (48, _) => random.pick(&[LN, LX]),
-        (51, _) => 1 + random.below(2),
+    let [value, digit] = match (step, side) {
+        (48, 0) => mark(random.pick(&[RN, RX])),
+        (48, _) => mark(random.pick(&[LN, LX])),
+        (51, _) => tag(random),
         _ => content(random),
     };
+    words[record::VALUE] = value;
+    words[record::VALUE_DIGIT] = digit;
     for register in &mut words[record::A..] {
         *register = link(random, sizes);
     }
@@ -145,6 +148,17 @@ fn link(random: &mut Random, sizes: Sizes) -> u32 {
     }
 }
 
-fn content(random: &mut Random) -> u32 {
-    random.pick(&[0, 1, 2, LN, LX, LY, RN, RX, RY, LN, RN, LX, RX])
+fn content(random: &mut Random) -> Content {
+    match random.below(13) {
+        0 => NEVER_USED,
+        1..=3 => tag(random),
+        _ => mark(random.pick(&[LN, LX, LY, RN, RX, RY, LN, RN, LX, RX])),
+    }
+}
+
+/// A tag of few, so that some are equal and some differ in the digit alone; V may be 0.
+fn tag(random: &mut Random) -> Content {
+    let low = random.pick(&[0, 1, MAX_LOW]);
+    let digit = random.pick(if low == 0 { &[1, 9] } else { &[0, 1, 9] });
+    [low, digit]
 }

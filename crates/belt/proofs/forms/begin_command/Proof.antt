@@ -17,8 +17,8 @@ slice-aggregate-begin c =
     let p = c .before .before in
     sym (length-take-le (p .args .len) (p .args .space .now) (p .pre))
 
-of-number-requires : tie.Need-of-number-requires
-of-number-requires c κs = search needs
+of-words-requires : tie.Need-of-words-requires
+of-words-requires c κs = search needs
 
 begin-requires : tie.Need-begin-requires
 begin-requires c κs = search needs
@@ -33,9 +33,9 @@ returns c =
     let p = n .before .before .before in
     let a = p .args in
     let t = take (a .len) (a .space .now) in
-    let begun = done .ensures ∙ ap (begin t (a .task) (a .operation) (a .side)) (n .of-number .ensures) in
+    let begun = done .ensures ∙ ap (begin t (a .task) (a .operation) (a .side)) (n .of-words .ensures) in
     front-leaves (a .space .now) (done .last .0) (a .len) (p .pre) (done .kept .0)
-    (begin-done t (a .task) (a .operation) (a .side) (a .argument) begun)
+    (begin-done t (a .task) (a .operation) (a .side) (a .digit) (a .argument) begun)
 
 pub begin-command-spec : {M : Type 1} → statement M
 begin-command-spec =
@@ -43,7 +43,7 @@ begin-command-spec =
     (tie.spec
     slice-relend-prefix-begin
     slice-aggregate-begin
-    of-number-requires
+    of-words-requires
     begin-requires
     same-length
     returns)

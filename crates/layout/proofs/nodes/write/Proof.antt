@@ -33,6 +33,18 @@ mul-nodes-3 c = search needs
 slice-write-nodes-3 : tie.Need-slice-write-nodes-3
 slice-write-nodes-3 c = simp length-set (omega arith)
 
+add-nodes-3 : tie.Need-add-nodes-3
+add-nodes-3 c = search needs
+
+add-nodes-4 : tie.Need-add-nodes-4
+add-nodes-4 c = search needs
+
+mul-nodes-4 : tie.Need-mul-nodes-4
+mul-nodes-4 c = search needs
+
+slice-write-nodes-4 : tie.Need-slice-write-nodes-4
+slice-write-nodes-4 c = simp length-set (omega arith)
+
 same-length : tie.Need-same-length
 same-length c = search needs
 
@@ -52,5 +64,9 @@ write-spec =
     add-nodes-2
     mul-nodes-3
     slice-write-nodes-3
+    add-nodes-3
+    add-nodes-4
+    mul-nodes-4
+    slice-write-nodes-4
     same-length
     returns)

@@ -18,7 +18,7 @@ returns-3 : tie.Need-returns-3
 returns-3 c =
     let a = c .before .args in
     let k = c .match .rest in
-    goal-else (a .operation) (a .growth) (a .argument .word) (λ e. k .1 (inl e)) (k .0 .1) (λ e. k .1 (inr e))
+    goal-else (a .operation) (a .growth) (a .argument) (λ e. k .1 (inl e)) (k .0 .1) (λ e. k .1 (inr e)) (c .before .pre)
 
 pub goal-of-spec : {M : Type 1} → statement M
 goal-of-spec = tie.close (tie.spec returns returns-2 returns-3)

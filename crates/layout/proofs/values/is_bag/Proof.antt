@@ -1,14 +1,15 @@
 -- `layout::values::is_bag` meets its contract.
-use mathlib.Core.Path.{sym}
-use Rattle.layout.proofs.Laws.ValueWords.{zero-no-bag, bag-word}
+use mathlib.Core.Path.{_∙_}
+use Rattle.layout.proofs.Laws.ValueWords.{bag-words}
+use borrow.Author.Needs.{needs}
 use Rattle.layout.proofs.values.is_bag.Statement.{statement}
 use Rattle.layout.proofs.values.is_bag.Tie as tie
 
-returns : tie.Need-returns
-returns c = sym (zero-no-bag (c .before .before .args .v) (c .if1 .taken))
+bag-ok-requires : tie.Need-bag-ok-requires
+bag-ok-requires c κs = search needs
 
-returns-2 : tie.Need-returns-2
-returns-2 c = bag-word (c .before .before .before .args .v) (c .before .if1 .left)
+returns : tie.Need-returns
+returns c = c .bag-ok .ensures ∙ bag-words (c .before .args .v)
 
 pub is-bag-spec : {M : Type 1} → statement M
-is-bag-spec = tie.close (tie.spec returns returns-2)
+is-bag-spec = tie.close (tie.spec bag-ok-requires returns)

@@ -1,7 +1,7 @@
 -- `layout::values::mirror` meets its contract: a mark has its sum.
 use mathlib.Core.Path.{sym}
 use native.Mathlib.Omega.{arith}
-use Rattle.layout.proofs.Laws.ValueWords.{mirror-below, mark-range, sum-up, sum-down}
+use Rattle.layout.proofs.Laws.ValueWords.{mirror-below, sum-up, sum-down}
 use borrow.Author.Needs.{needs}
 use Rattle.layout.proofs.values.mirror.Statement.{statement}
 use Rattle.layout.proofs.values.mirror.Tie as tie
@@ -15,7 +15,7 @@ add-t4 c = search needs
 returns-2 : tie.Need-returns-2
 returns-2 c =
     let e = c .before in
-    sum-up (e .before .args .v) (omega (arith, e .if1 .left)) (omega (arith, c .if2 .taken))
+    sum-up (e .before .args .v) (e .before .pre) (omega (arith, e .if1 .left)) (omega (arith, c .if2 .taken))
 
 sub-t5 : tie.Need-sub-t5
 sub-t5 c = search needs
@@ -23,8 +23,7 @@ sub-t5 c = search needs
 returns-3 : tie.Need-returns-3
 returns-3 c =
     let e = c .before in
-    let v = e .before .args .v in
-    sum-down v (omega (arith, c .if2 .left)) (mark-range v (e .before .pre) (omega (arith, e .if1 .left, c .if2 .left)))
+    sum-down (e .before .args .v) (e .before .pre) (omega (arith, c .if2 .left))
 
 pub mirror-spec : {M : Type 1} → statement M
 mirror-spec = tie.close (tie.spec returns add-t4 returns-2 sub-t5 returns-3)

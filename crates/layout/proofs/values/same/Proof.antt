@@ -1,13 +1,18 @@
 -- `layout::values::same` meets its contract.
+use mathlib.Core.Path.{_∙_}
 use Rattle.layout.proofs.Laws.ValueWords.{same-words}
+use borrow.Author.Needs.{needs}
 use Rattle.layout.proofs.values.same.Statement.{statement}
 use Rattle.layout.proofs.values.same.Tie as tie
 
+equal-requires : tie.Need-equal-requires
+equal-requires c κs = search needs
+
 returns : tie.Need-returns
 returns c =
-    let a = c .before .before .args in
-    let h = c .before .before .pre in
-    same-words (a .u) (a .v) (h .0) (h .1)
+    let a = c .before .args in
+    let h = c .before .pre in
+    c .equal .ensures ∙ same-words (a .u) (a .v) (h .0) (h .1)
 
 pub same-spec : {M : Type 1} → statement M
-same-spec = tie.close (tie.spec returns)
+same-spec = tie.close (tie.spec equal-requires returns)

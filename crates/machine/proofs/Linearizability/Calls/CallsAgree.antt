@@ -3,13 +3,15 @@ use mathlib.Core.Path.{_≡_, refl, sym, ap, _∙_}
 use mathlib.Core.Bool.{Bool, true, false}
 use mathlib.Core.List.{List, [], _∷_}
 use mathlib.Core.Option.{Option, some, none as nothing}
-use Prim.Native.Nat.{ℕ, _≤_}
+use Prim.Native.Nat.{ℕ, _*_, _≤_}
 use native.Mathlib.Omega.{arith}
 use native.Mathlib.Decide.{ℕ-discrete}
 use lib.Dec.{leb}
 use lib.ListN.{length, drop}
-use lib.Seq.{take-append-seam}
+use lib.Seq.{take-at}
 use borrow.Author.Tests.{eq-eqb, leb-false, lt-ltb, leb-true}
+use Rattle.tag.specs.Tags.{allTagWords}
+use Rattle.tag.proofs.TagLaws.{length-tag-words}
 use Rattle.machine.specs.Values.{number}
 use Rattle.machine.specs.declared.Stored.{Stored}
 use Rattle.machine.specs.Choice.{_≟_}
@@ -208,23 +210,29 @@ module _ {ws : List ℕ} {ρ : Row} (A : Agrees ws ρ) where
       Result : ReadDone → Type 0
       Result r = (ρ′ : Row) × (feedRead ρ out (r .reading) (r .out) ≡ some ρ′) × Agrees ws ρ′
 
-      go : (b : Bool) → leb (length (ρ .bags)) (length out) ≡ b → Result (readInto (some (ρ .bags)) out)
+      n : ℕ
+      n = length (ρ .bags)
+
+      written : List ℕ
+      written = allTagWords (ρ .bags)
+
+      go : (b : Bool) → leb (2 * n) (length out) ≡ b → Result (readInto (some (ρ .bags)) out)
       go true e =
           rw (e, readInto) (
             ρ,
             rw (
-              eq-eqb (length (ρ .bags)) (length (ρ .bags)) refl,
+              eq-eqb n n refl,
               e,
-              take-append-seam (ρ .bags) (drop (length (ρ .bags)) out),
-              same-words-refl (ρ .bags),
+              take-at written (drop (2 * n) out) (2 * n) (length-tag-words (ρ .bags)),
+              same-words-refl written,
             ),
             A,
           )
       go false e =
           rw (e, readInto)
-          (ρ, rw (lt-ltb (length out) (length (ρ .bags)) (leb-false (length (ρ .bags)) (length out) e)), A)
+          (ρ, rw (lt-ltb (length out) (2 * n) (leb-false (2 * n) (length out) e)), A)
 
       passed : Result (read ws out)
       passed =
           rw (table-passes ws (A .accepted) nothing, read, lane-is-row A)
-          (go (leb (length (ρ .bags)) (length out)) refl)
+          (go (leb (2 * n) (length out)) refl)

@@ -1,14 +1,24 @@
 -- A run and the panel's list: the ticks made, one after another, each explained by the row.
-use mathlib.Core.Path.{_≡_, refl, sym, subst}
+use mathlib.Core.Path.{_≡_, refl, ap, sym, _∙_, subst}
 use mathlib.Core.List.{List, [], _∷_}
 use mathlib.Core.Option.{Option, some, none as nothing, bind}
 use Prim.Native.Nat.{ℕ, zero, suc}
 use native.Mathlib.Omega.{arith}
 use native.Mathlib.Decide.{ℕ-discrete}
 use lib.ListN.{drop}
+use Rattle.tag.specs.Tags.{billion, digitOf, lowOf}
+use Rattle.tag.proofs.TagLaws.{tag-of-words, low-small}
 use Rattle.machine.specs.declared.Answer.{Answer}
 use Rattle.machine.specs.declared.Answer.the-variants.{Going, Pushed, Bag, Empty, Full, Yes, No, Refused}
-use Rattle.machine.specs.Answers.{kindOf, payloadOf, refusalOf, plainAnswerOf, answerOf}
+use Rattle.machine.specs.Choice.{_<?_}
+use Rattle.machine.specs.Answers.{
+  kindOf,
+  payloadOf,
+  answerLength,
+  refusalOf,
+  plainAnswerOf,
+  answerOf,
+}
 use Rattle.machine.specs.Calls.{
   tickRefusal,
   runRefusal,
@@ -25,17 +35,19 @@ use Rattle.machine.specs.Calls.{
 use Rattle.machine.specs.Row.{Row, feedRun}
 use Rattle.machine.specs.Demand3.{run-call, panel-call, afterTicks, WithinList, Within}
 use Rattle.machine.proofs.Basics.Contradiction.{clash}
+use Rattle.machine.proofs.Basics.Choices.{if-yes}
 use Rattle.machine.proofs.Words.RunLaws.{by-first, first-tick}
 use Rattle.machine.proofs.Linearizability.Calls.Agreement.{Agrees, lane-is-row}
 use Rattle.machine.proofs.Linearizability.Calls.MadeTicks.{MadeTick, made-tick}
 use Rattle.machine.proofs.Linearizability.Calls.CallsAgree.{Explains}
 
--- The two words of an answer stand for it.
-answer-back : (a : Answer) → refusalOf a ≡ nothing → answerOf (kindOf a) (payloadOf a) ≡ some a
+-- The words of an answer stand for it.
+answer-back :
+    (a : Answer) → refusalOf a ≡ nothing → answerOf (kindOf a) (digitOf (payloadOf a)) (lowOf (payloadOf a)) ≡ some a
 unfolding answerOf plainAnswerOf ℕ-discrete
 answer-back Going e = refl
 answer-back Pushed e = refl
-answer-back (Bag b) e = refl
+answer-back (Bag b) e = if-yes (lowOf b <? billion) _ _ (low-small b) ∙ ap (λ n. some (Bag n)) (tag-of-words b)
 answer-back Empty e = refl
 answer-back Full e = refl
 answer-back Yes e = refl
@@ -89,13 +101,13 @@ unfolding runOn by-first
 ticks-explained [] answers A = none-made A 0 [] answers
 ticks-explained (k ∷ []) answers A = none-made A 0 (k ∷ []) answers
 ticks-explained (k ∷ h ∷ list) {ws} {ρ} answers A =
-    go (tickRefusal ws k h) refl (λ M. ticks-explained list (drop 2 answers) (M .agrees))
+    go (tickRefusal ws k h) refl (λ M. ticks-explained list (drop answerLength answers) (M .agrees))
   where
     go :
         (r : Option ℕ)
         → tickRefusal ws k h ≡ r
         → ((M : MadeTick ws ρ k h)
-        → RunExplained list (tickOn ws k h .words) (M .row) (runOn list (tickOn ws k h .words) (drop 2 answers)))
+        → RunExplained list (tickOn ws k h .words) (M .row) (runOn list (tickOn ws k h .words) (drop answerLength answers)))
         → RunExplained (k ∷ h ∷ list) ws ρ (runOn (k ∷ h ∷ list) ws answers)
     go (some n) e others =
         subst (RunExplained (k ∷ h ∷ list) ws ρ)
@@ -105,7 +117,7 @@ ticks-explained (k ∷ h ∷ list) {ws} {ρ} answers A =
         let M = made-tick A k h e in
         subst (RunExplained (k ∷ h ∷ list) ws ρ)
         (sym (first-tick k h list ws answers nothing (M .no-number)))
-        (one-made A k h list M (runOn list (tickOn ws k h .words) (drop 2 answers)) (others M))
+        (one-made A k h list M (runOn list (tickOn ws k h .words) (drop answerLength answers)) (others M))
 
 module _ {ws : List ℕ} {ρ : Row} (A : Agrees ws ρ) (list answers : List ℕ) where
   -- Whatever the tests were.

@@ -282,8 +282,9 @@ once-run (suc n) [] answers O e = clash (cc)
 once-run (suc n) (k ∷ []) answers O e = clash (cc)
 once-run (suc n) (k ∷ h ∷ list) [] O e = clash (cc)
 once-run (suc n) (k ∷ h ∷ list) (kind ∷ []) O e = clash (cc)
-once-run (suc n) (k ∷ h ∷ list) (kind ∷ payload ∷ answers) {ρ} O e =
-    let a = bound (answerOf kind payload) _ e in
+once-run (suc n) (k ∷ h ∷ list) (kind ∷ digit ∷ []) O e = clash (cc)
+once-run (suc n) (k ∷ h ∷ list) (kind ∷ digit ∷ low ∷ answers) {ρ} O e =
+    let a = bound (answerOf kind digit low) _ e in
     let m = bound (feedMade ρ k (a .0)) _ (a .2) in
     once-run n list answers (once-made O k (a .0) (m .1)) (m .2)
 

@@ -1,12 +1,9 @@
 -- `printer::answers::print_answer` meets its contract: in each arm the text put is that of the answer.
 use mathlib.Core.Path.{ap}
-use Prim.Native.Nat.{_<_, _^_}
 use native.Mathlib.Omega.{arith}
-use Rattle.reader.specs.Text.{bytes}
+use borrow.Author.Needs.{needs}
 use Rattle.printer.specs.Lines.{answerText}
 use Rattle.printer.proofs.Laws.WritingLaws.{line-written}
-use Rattle.printer.proofs.Laws.Decimals.{named-length}
-use borrow.Author.Needs.{needs}
 use Rattle.printer.proofs.answers.print_answer.Statement.{statement}
 use Rattle.printer.proofs.answers.print_answer.Tie as tie
 
@@ -31,11 +28,8 @@ put-requires-2 c κs = search needs
 enum-known-answer : tie.Need-enum-known-answer
 enum-known-answer c = search needs
 
-slice-aggregate-put-named : tie.Need-slice-aggregate-put-named
-slice-aggregate-put-named c = search needs
-
-put-named-requires : tie.Need-put-named-requires
-put-named-requires c κs = search needs
+put-bag-requires : tie.Need-put-bag-requires
+put-bag-requires c κs = search needs
 
 enum-told-3 : tie.Need-enum-told-3
 enum-told-3 c = search needs
@@ -76,11 +70,8 @@ put-requires-6 c κs = search needs
 enum-known-answer-2 : tie.Need-enum-known-answer-2
 enum-known-answer-2 c = search needs
 
-slice-aggregate-put-named-2 : tie.Need-slice-aggregate-put-named-2
-slice-aggregate-put-named-2 c = search needs
-
-put-named-requires-2 : tie.Need-put-named-requires-2
-put-named-requires-2 c κs = search needs
+put-refused-requires : tie.Need-put-refused-requires
+put-refused-requires c κs = search needs
 
 same-length : tie.Need-same-length
 same-length c = search needs
@@ -103,11 +94,8 @@ same-length-3 c = search needs
 
 returns-3 : tie.Need-returns-3
 returns-3 c =
-    let known = c .before .before .before .before .before .before in
-    let n = known .answer .given .0 .0 in
-    let word : n < 2 ^ 32 = omega (arith, c .before .before .before .before .before .known-told .given .0) in
-    line-written (ap answerText (known .answer .given .1)) (c .before .before .put-named .ensures)
-    (omega (arith, named-length (bytes "(bag ") n word))
+    let put = c .before .before .put-bag .ensures in
+    (rw (c .before .before .before .before .before .answer .given .1) (put .0), put .1)
 
 same-length-4 : tie.Need-same-length-4
 same-length-4 c = search needs
@@ -146,11 +134,8 @@ same-length-8 c = search needs
 
 returns-8 : tie.Need-returns-8
 returns-8 c =
-    let known = c .before .before .before .before .before .before in
-    let n = known .answer2 .given .0 .0 in
-    let word : n < 2 ^ 32 = omega (arith, c .before .before .before .before .before .known-told2 .given .0) in
-    line-written (ap answerText (known .answer2 .given .1)) (c .before .before .put-named2 .ensures)
-    (omega (arith, named-length (bytes "(refused ") n word))
+    let put = c .before .before .put-refused .ensures in
+    (rw (c .before .before .before .before .before .answer2 .given .1) (put .0), put .1)
 
 pub print-answer-spec : {M : Type 1} → statement M
 print-answer-spec =
@@ -163,8 +148,7 @@ print-answer-spec =
     slice-aggregate-put-2
     put-requires-2
     enum-known-answer
-    slice-aggregate-put-named
-    put-named-requires
+    put-bag-requires
     enum-told-3
     slice-aggregate-put-3
     put-requires-3
@@ -178,8 +162,7 @@ print-answer-spec =
     slice-aggregate-put-6
     put-requires-6
     enum-known-answer-2
-    slice-aggregate-put-named-2
-    put-named-requires-2
+    put-refused-requires
     same-length
     returns
     same-length-2

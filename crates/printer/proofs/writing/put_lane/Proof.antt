@@ -11,8 +11,8 @@ slice-aggregate-put c = search needs
 put-requires : tie.Need-put-requires
 put-requires c κs = search needs
 
-put-bags-requires : tie.Need-put-bags-requires
-put-bags-requires c κs = search needs
+put-tags-requires : tie.Need-put-tags-requires
+put-tags-requires c κs = search needs
 
 slice-aggregate-put-2 : tie.Need-slice-aggregate-put-2
 slice-aggregate-put-2 c = search needs
@@ -27,7 +27,7 @@ returns : tie.Need-returns
 returns c =
     let after-row = c .before .before .before .before .before .before .before in
     let name = after-row .before .before .before .before .put .ensures in
-    let row = after-row .put-bags .ensures in
+    let row = after-row .put-tags .ensures in
     let end = c .before .before .put2 .ensures in
     (written-append (written-append name (row .0)) end, omega (arith, row .1, name .end, end .end))
 
@@ -37,7 +37,7 @@ put-lane-spec =
     (tie.spec
     slice-aggregate-put
     put-requires
-    put-bags-requires
+    put-tags-requires
     slice-aggregate-put-2
     put-requires-2
     same-length

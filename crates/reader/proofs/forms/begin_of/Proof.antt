@@ -1,4 +1,4 @@
--- The four operations, the last one first.
+-- The three operations, the last one first.
 use mathlib.Core.Path.{_∙_}
 use borrow.Author.Needs.{needs}
 use Rattle.reader.specs.Commands.{beginOf}
@@ -32,22 +32,12 @@ slice-aggregate-begin-or-6 c = search needs
 begin-or-requires-3 : tie.Need-begin-or-requires-3
 begin-or-requires-3 c κs = search needs
 
-slice-aggregate-begin-or-7 : tie.Need-slice-aggregate-begin-or-7
-slice-aggregate-begin-or-7 c = search needs
-
-slice-aggregate-begin-or-8 : tie.Need-slice-aggregate-begin-or-8
-slice-aggregate-begin-or-8 c = search needs
-
-begin-or-requires-4 : tie.Need-begin-or-requires-4
-begin-or-requires-4 c κs = search needs
-
 returns : tie.Need-returns
 unfolding beginOf
 returns c =
-    let pop = c .before .before .before in
-    let add = pop .before .before .before in
+    let add = c .before .before .before in
     let remove = add .before .before .before in
-    c .begin-or4 .ensures ∙ rw (pop .begin-or3 .ensures, add .begin-or2 .ensures, remove .begin-or .ensures)
+    c .begin-or3 .ensures ∙ rw (add .begin-or2 .ensures, remove .begin-or .ensures)
 
 pub begin-of-spec : {M : Type 1} → statement M
 begin-of-spec =
@@ -62,7 +52,4 @@ begin-of-spec =
     slice-aggregate-begin-or-5
     slice-aggregate-begin-or-6
     begin-or-requires-3
-    slice-aggregate-begin-or-7
-    slice-aggregate-begin-or-8
-    begin-or-requires-4
     returns)

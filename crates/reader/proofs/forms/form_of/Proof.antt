@@ -5,15 +5,6 @@ use Rattle.reader.specs.Commands.{formOf}
 use Rattle.reader.proofs.forms.form_of.Statement.{statement}
 use Rattle.reader.proofs.forms.form_of.Tie as tie
 
-element-copy-out-a : tie.Need-element-copy-out-a
-element-copy-out-a c = search needs
-
-element-copy-out-b : tie.Need-element-copy-out-b
-element-copy-out-b c = search needs
-
-element-copy-out-c : tie.Need-element-copy-out-c
-element-copy-out-c c = search needs
-
 slice-aggregate-is-text : tie.Need-slice-aggregate-is-text
 slice-aggregate-is-text c = search needs
 
@@ -76,9 +67,6 @@ pub form-of-spec : {M : Type 1} → statement M
 form-of-spec =
     tie.close
     (tie.spec
-    element-copy-out-a
-    element-copy-out-b
-    element-copy-out-c
     slice-aggregate-is-text
     is-text-requires
     ticks-of-requires

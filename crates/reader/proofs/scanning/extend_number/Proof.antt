@@ -1,5 +1,4 @@
--- A number that fits is written back; one that does not leaves the array as it was.
-use mathlib.Core.Path.{sym, _∙_}
+-- The number at the last place used gets one digit more.
 use native.Mathlib.Omega.{arith}
 use borrow.Author.Needs.{needs}
 use Rattle.reader.proofs.scanning.extend_number.Statement.{statement}
@@ -8,21 +7,36 @@ use Rattle.reader.proofs.scanning.extend_number.Tie as tie
 sub-place : tie.Need-sub-place
 sub-place c = omega (arith, c .before .pre .counts .some (c .before .pre .is-open))
 
-append-digit-requires : tie.Need-append-digit-requires
-append-digit-requires c κs = search needs
+mul-with-digit : tie.Need-mul-with-digit
+mul-with-digit c = search needs
+
+element-copy-out-with-digit : tie.Need-element-copy-out-with-digit
+element-copy-out-with-digit c = search needs
+
+with-digit-requires : tie.Need-with-digit-requires
+with-digit-requires c κs = search needs
+
+mul-numbers : tie.Need-mul-numbers
+mul-numbers c = search needs
+
+element-write-numbers : tie.Need-element-write-numbers
+element-write-numbers c = search needs
+
+one-more-requires : tie.Need-one-more-requires
+one-more-requires c κs = search needs
 
 returns : tie.Need-returns
-returns c =
-    let p = c .before .append-digit in
-    let start = c .before .before .before .before in
-    let fits = sym (p .ensures .0) ∙ c .if1 .taken in
-    λ text. rw (p .ensures .1, fits, start .pre .is-open)
-
-returns-2 : tie.Need-returns-2
-returns-2 c =
-    let p = c .before .append-digit in
-    let fits = sym (p .ensures .0) ∙ c .if1 .left in
-    λ text. rw (p .ensures .1, fits)
+returns c = λ text. rw (c .before .with-digit .ensures, c .one-more .ensures)
 
 pub extend-number-spec : {M : Type 1} → statement M
-extend-number-spec = tie.close (tie.spec sub-place append-digit-requires returns returns-2)
+extend-number-spec =
+    tie.close
+    (tie.spec
+    sub-place
+    mul-with-digit
+    element-copy-out-with-digit
+    with-digit-requires
+    mul-numbers
+    element-write-numbers
+    one-more-requires
+    returns)

@@ -7,7 +7,7 @@ use borrow.Author.Needs.{needs}
 use borrow.Author.Tests.{not-true, not-false}
 use Rattle.reader.specs.Scanned.{isDigit}
 use Rattle.reader.specs.Kept.{keepByte}
-use Rattle.reader.proofs.Laws.ScanLaws.{digit-range}
+use Rattle.reader.proofs.Laws.PlaceLaws.{digit-range}
 use Rattle.reader.proofs.scanning.scan_byte.Statement.{statement}
 use Rattle.reader.proofs.scanning.scan_byte.Tie as tie
 

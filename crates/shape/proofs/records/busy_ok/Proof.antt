@@ -1,8 +1,11 @@
--- The flag of the chain is followed from test to test.
-use mathlib.Core.Path.{_≡_, refl, ap, _∙_}
+-- The flag of the chain is followed from test to test, once operation, side and argument have passed.
+use mathlib.Core.Path.{_≡_, refl, sym, ap, _∙_}
+use mathlib.Core.Bool.{true}
+use borrow.Author.Tests.{not-true, not-false}
+use Rattle.machine.specs.Operations.{operationOf, argumentOk}
 use Rattle.machine.specs.Shape.{countedOk}
 use Rattle.layout.proofs.Laws.Chains.{passed, failed, met}
-use Rattle.shape.proofs.Laws.RecordWords.{callOk, operation-fails, side-fails, busy-tests}
+use Rattle.shape.proofs.Laws.RecordWords.{callOk, operation-fails, side-fails, argument-fails, busy-tests}
 use borrow.Author.Needs.{needs}
 use Rattle.layout.proofs.operations.argument_ok.Reads as argument-ok-reads
 use Rattle.shape.proofs.records.counted_ok.Reads as counted-ok-reads
@@ -15,15 +18,15 @@ use Rattle.shape.proofs.records.busy_ok.Tie as tie
 use Rattle.shape.proofs.records.busy_ok.Reads as reads
 use Rattle.shape.proofs.records.busy_ok.Lts as lts
 
-flag :
-    (c :
-    lts.Joined5 (
+-- The argument has passed.
+argument-passes :
+    (c : lts.Else3 (
+      argument-ok-reads.Asked,
+      argument-ok-reads.Learnt,
       goal-of-reads.Asked,
       goal-of-reads.Learnt,
       is-step-of-reads.Asked,
       is-step-of-reads.Learnt,
-      argument-ok-reads.Asked,
-      argument-ok-reads.Learnt,
       counted-ok-reads.Asked,
       counted-ok-reads.Learnt,
       value-read-ok-reads.Asked,
@@ -31,17 +34,39 @@ flag :
       registers-ok-reads.Asked,
       registers-ok-reads.Learnt,
     ) reads.Pre reads.Post)
-    → let a = c .before .before .before .before .before .before .before .before .before .before .before .before .args in
+    → let t = c .before .before .before .before .before .before .before .args .t in
+    argumentOk (operationOf (t .operation)) (t .argument) ≡ true
+argument-passes c =
+    sym (c .before .argument-ok .ensures) ∙ not-false (c .before .argument-ok .result) (c .if3 .left)
+
+flag :
+    (c :
+    lts.Joined5 (
+      argument-ok-reads.Asked,
+      argument-ok-reads.Learnt,
+      goal-of-reads.Asked,
+      goal-of-reads.Learnt,
+      is-step-of-reads.Asked,
+      is-step-of-reads.Learnt,
+      counted-ok-reads.Asked,
+      counted-ok-reads.Learnt,
+      value-read-ok-reads.Asked,
+      value-read-ok-reads.Learnt,
+      registers-ok-reads.Asked,
+      registers-ok-reads.Learnt,
+    ) reads.Pre reads.Post)
+    → let a =
+    c .before .before .before .before .before .before .before .before .before .before .before .before .before .args
+    in
     c .if5 .if6 ≡ callOk (a .growth) (a .t)
 flag c =
-    let t = c .before .before .before .before .before .before .before .before .before .before .before .before .args .t in
-    let goal = c .before .before .before .before .before .before .goal-of .ensures in
+    let g = c .before .before .before .before .before in
+    let t = g .before .before .before .before .before .before .before .before .args .t in
     met _ (c .if5 .came) (λ p. (p .0 .taken, p .2 ∙ p .1 .ensures)) (λ p. (p .0 .left, p .1))
     (met _ (c .before .if4 .came)
-    (λ p. (p .0 .taken, p .2 ∙ p .1 .ensures ∙ ap (λ n. countedOk (t .step) n (t .counted)) goal))
+    (λ p. (p .0 .taken, p .2 ∙ p .1 .ensures ∙ ap (λ n. countedOk (t .step) n (t .counted)) (g .goal-of .ensures)))
     (λ p. (p .0 .left, p .1))
-    (met _ (c .before .before .if3 .came) (λ p. (p .0 .taken, p .2 ∙ p .1 .ensures)) (λ p. (p .0 .left, p .1))
-    (c .before .before .before .is-step-of .ensures)))
+    (c .before .before .is-step-of .ensures))
 
 returns : tie.Need-returns
 returns c =
@@ -54,14 +79,22 @@ returns-2 c =
     let a = e .before .before .args in
     side-fails (a .slots) (a .growth) (a .t) (e .if1 .left) (c .if2 .taken)
 
+argument-ok-requires : tie.Need-argument-ok-requires
+argument-ok-requires c κs = search needs
+
+returns-3 : tie.Need-returns-3
+returns-3 c =
+    let f = c .before .before .before in
+    let e = f .before .before in
+    let a = e .before .before .args in
+    argument-fails (a .slots) (a .growth) (a .t) (e .if1 .left) (f .if2 .left)
+    (sym (c .before .argument-ok .ensures) ∙ not-true (c .before .argument-ok .result) (c .if3 .taken))
+
 goal-of-requires : tie.Need-goal-of-requires
-goal-of-requires c κs = search needs
+goal-of-requires c κs = argument-passes c
 
 is-step-of-requires : tie.Need-is-step-of-requires
 is-step-of-requires c κs = search needs
-
-argument-ok-requires : tie.Need-argument-ok-requires
-argument-ok-requires c κs = search needs
 
 counted-ok-requires : tie.Need-counted-ok-requires
 counted-ok-requires c κs = search needs
@@ -72,21 +105,23 @@ value-read-ok-requires c κs = search needs
 registers-ok-requires : tie.Need-registers-ok-requires
 registers-ok-requires c κs = search needs
 
-returns-3 : tie.Need-returns-3
-returns-3 c =
-    let f = c .before .before .before .before .before .before .before .before .before .before in
+returns-4 : tie.Need-returns-4
+returns-4 c =
+    let d = c .before .before .before .before .before .before .before .before in
+    let f = d .before .before .before in
     let e = f .before .before in
     let a = e .before .before .args in
     passed (flag (c .before .before)) (c .before .if6 .taken) (c .registers-ok .ensures)
-    ∙ busy-tests (a .slots) (a .growth) (a .t) (e .if1 .left) (f .if2 .left)
+    ∙ busy-tests (a .slots) (a .growth) (a .t) (e .if1 .left) (f .if2 .left) (argument-passes d)
 
-returns-4 : tie.Need-returns-4
-returns-4 c =
-    let f = c .before .before .before .before .before .before .before .before .before in
+returns-5 : tie.Need-returns-5
+returns-5 c =
+    let d = c .before .before .before .before .before .before .before in
+    let f = d .before .before .before in
     let e = f .before .before in
     let a = e .before .before .args in
     failed _ (flag (c .before)) (c .if6 .left) refl
-    ∙ busy-tests (a .slots) (a .growth) (a .t) (e .if1 .left) (f .if2 .left)
+    ∙ busy-tests (a .slots) (a .growth) (a .t) (e .if1 .left) (f .if2 .left) (argument-passes d)
 
 pub busy-ok-spec : {M : Type 1} → statement M
 busy-ok-spec =
@@ -94,11 +129,12 @@ busy-ok-spec =
     (tie.spec
     returns
     returns-2
+    argument-ok-requires
+    returns-3
     goal-of-requires
     is-step-of-requires
-    argument-ok-requires
     counted-ok-requires
     value-read-ok-requires
     registers-ok-requires
-    returns-3
-    returns-4)
+    returns-4
+    returns-5)

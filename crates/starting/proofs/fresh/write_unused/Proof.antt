@@ -28,8 +28,8 @@ abbrev μ-loop : tie.MeasureT-loop
 loop-holds : tie.Need-loop-holds Inv-loop μ-loop
 loop-holds c = (c .before .pre .0, refl, refl)
 
-of-number-requires : tie.Need-of-number-requires Inv-loop μ-loop
-of-number-requires c κs = search needs
+never-requires : tie.Need-never-requires Inv-loop μ-loop
+never-requires c κs = search needs
 
 write-requires : tie.Need-write-requires Inv-loop μ-loop
 write-requires c κs = omega (arith, c .before .before .before .loop .inv .1)
@@ -45,7 +45,7 @@ loop-again c =
     let l = c .before .before .before .before .before .before .loop in
     let n = c .before .before .before .before .before .before .before .before .args .slots in
     let w = c .before .before .write in
-    let v = c .before .before .before .of-number in
+    let v = c .before .before .before .never in
     let written = w .ensures ∙ ap (setNodeIn (l .ns) (l .x) none none) (v .ensures) in (
       omega arith,
       w .kept .0 ∙ l .inv .1,
@@ -72,7 +72,7 @@ write-unused-spec =
     Inv-loop
     μ-loop
     loop-holds
-    of-number-requires
+    never-requires
     write-requires
     add-x
     loop-less

@@ -10,6 +10,7 @@ use Rattle.ticking.proofs.Laws.MadeTick.{
   nodes-room,
   record-room,
   its-side,
+  its-argument,
   its-ready,
   its-refusal,
   its-tick,
@@ -24,7 +25,10 @@ slice-read-goal-of c =
     omega (arith, header-room (p .args .table .now) (p .args .k) (p .args .hint) (p .pre .0))
 
 goal-of-requires : tie.Need-goal-of-requires
-goal-of-requires c κs = search needs
+goal-of-requires c κs =
+    let p = c .before .before .before in
+    let a = p .args in
+    its-argument (a .table .now) (a .k) (a .hint) (p .pre .0) (a .old) (p .pre .1) _ refl
 
 found-requires : tie.Need-found-requires
 found-requires c κs = let h = c .before .before .before .before .before .pre .0 in (h .table, h .is-hint)

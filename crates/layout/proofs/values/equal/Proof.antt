@@ -1,0 +1,13 @@
+-- The second word is compared where the first is the same.
+use borrow.Author.Tests.{eq-eqb, ne-eqb}
+use Rattle.layout.proofs.values.equal.Statement.{statement}
+use Rattle.layout.proofs.values.equal.Tie as tie
+
+returns : tie.Need-returns
+returns c = rw (ne-eqb _ _ (c .if1 .taken))
+
+returns-2 : tie.Need-returns-2
+returns-2 c = rw (eq-eqb _ _ (c .before .if1 .left))
+
+pub equal-spec : {M : Type 1} → statement M
+equal-spec = tie.close (tie.spec returns returns-2)

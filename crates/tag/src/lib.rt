@@ -1,0 +1,82 @@
+// A tag as one number and as two words, the leading digit and the nine digits below.
+ghost use mathlib.Core.Path.{_≡_};
+ghost use Prim.Native.Nat.{_≤_};
+ghost use Rattle.tag.specs.Tags.{largestTag, tagOf, digitOf, lowOf, isTag, tenDigits, numberOf};
+
+pub const BILLION: u64 = 1_000_000_000;
+
+// 02: "1 to 9,999,999,999".
+pub const LARGEST: u64 = 9_999_999_999;
+
+// The largest number of the nine digits below.
+pub const LARGEST_LOW: u32 = 999_999_999;
+
+// The tag of its words.
+pub fn number(digit: u32, low: u32) -> u64
+    ensures { λ r. ⌜ r ≡ tagOf digit low ⌝ }
+{
+    (digit as u64) * BILLION + (low as u64)
+}
+
+// The leading digit of a tag.
+pub fn digit(tag: u64) -> u32
+    requires { ⌜ tag ≤ largestTag ⌝ }
+    ensures { λ r. ⌜ r ≡ digitOf tag ⌝ }
+{
+    (tag / BILLION) as u32
+}
+
+// The number of the nine digits below.
+pub fn low(tag: u64) -> u32
+    ensures { λ r. ⌜ r ≡ lowOf tag ⌝ }
+{
+    (tag % BILLION) as u32
+}
+
+// Whether two words are a tag.
+pub fn is_tag(digit: u32, low: u32) -> bool
+    ensures { λ r. ⌜ r ≡ isTag digit low ⌝ }
+{
+    if 9 < digit {
+        return false;
+    }
+    if LARGEST_LOW < low {
+        return false;
+    }
+    1 <= number(digit, low)
+}
+
+// The ten digits of a number, the highest first.
+pub fn digits(tag: u64) -> [u8; 10]
+    ensures { λ r. ⌜ r ≡ tenDigits tag ⌝ }
+{
+    let mut digits = [0u8; 10];
+    let mut rest = tag;
+    let mut i: usize = 10;
+    while 0 < i {
+        i -= 1;
+        digits[i] = (rest % 10) as u8;
+        rest = rest / 10;
+    }
+    digits
+}
+
+// A byte as a wider number. Of a parameter the range is known, of an array's element it is not.
+fn widened(byte: u8) -> u64
+    ensures { λ r. ⌜ (r ≡ byte) × (r ≤ 255) ⌝ }
+{
+    byte as u64
+}
+
+// The number of ten digits. Ten bytes of any value make less than 2^64.
+pub fn of_digits(digits: [u8; 10]) -> u64
+    ensures { λ r. ⌜ r ≡ numberOf digits ⌝ }
+{
+    let mut number: u64 = 0;
+    let mut i: usize = 0;
+    while i < 10 {
+        number = number * 10 + widened(digits[i]);
+        i += 1;
+    }
+    number
+}
