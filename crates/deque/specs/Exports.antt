@@ -5,6 +5,7 @@ use Rattle.machine.specs.declared.Reading.{Reading}
 use Rattle.machine.specs.declared.Reading.the-variants.{Count, Refused}
 use Rattle.machine.specs.declared.Ran.{Ran}
 use Rattle.machine.specs.Answers.{kindOf, payloadOf}
+use Rattle.packed.specs.TagLists as TagLists
 
 -- Two words in one number of 64 bits.
 abbrev pub pairOf : (high low : ℕ) → ℕ
@@ -22,3 +23,9 @@ ranNumber r = pairOf (r .made) (r .refusal)
 abbrev pub readingNumber : Reading → ℕ
 readingNumber (Count n) = n
 readingNumber (Refused n) = 4294967296 + n
+
+-- 2026-05: the number of tags, or the refusal with its place; only 18 has one.
+abbrev pub listNumber : TagLists.Answer → ℕ
+listNumber (TagLists.count n) = n
+listNumber (TagLists.refused number) = pairOf number 0
+listNumber (TagLists.refusedAt number place) = pairOf number place

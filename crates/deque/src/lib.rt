@@ -1,4 +1,4 @@
-// The calls for C and Rust: tables, lists and out slices as a pointer and a length in words, answers as numbers.
+// The calls for C and Rust: tables, lists and out slices as a pointer and a length, answers as numbers.
 use beginning::begin;
 use layout::values::of_words;
 use machine::Answer;
@@ -7,6 +7,9 @@ use machine::Reading;
 use machine::Reply;
 use machine::kind;
 use machine::payload;
+use packed::Listed;
+use packed::read_tags;
+use packed::write_tags;
 use reading::read;
 use running::panel;
 use running::run;
@@ -18,7 +21,8 @@ ghost use Rattle.tag.specs.Tags.{largestTag};
 ghost use Rattle.machine.specs.Values.{storedOf};
 ghost use Rattle.machine.specs.Answers.{replyNumber, payloadOf};
 ghost use Rattle.machine.specs.Calls as calls;
-ghost use Rattle.deque.specs.Exports.{pairOf, answerNumber, ranNumber, readingNumber};
+ghost use Rattle.deque.specs.Exports.{pairOf, answerNumber, ranNumber, readingNumber, listNumber};
+ghost use Rattle.packed.specs.TagLists.{answerOf, readTags, writeTags};
 
 // Two words in one number of 64 bits.
 fn pair(high: u32, low: u32) -> u64
@@ -56,6 +60,17 @@ fn reading_number(r: Reading) -> u64
     match r {
         Reading::Count(n) => n as u64,
         Reading::Refused(n) => 4_294_967_296 + (n as u64),
+    }
+}
+
+fn list_number(l: Listed) -> u64
+    ensures { λ n. ⌜ n ≡ listNumber (answerOf l) ⌝ }
+{
+    match l {
+        Listed::Count(n) => n as u64,
+        Listed::BadLength => pair(17, 0),
+        Listed::BadTag(place) => pair(18, place),
+        Listed::TooShort => pair(19, 0),
     }
 }
 
@@ -124,4 +139,22 @@ pub extern "C" fn lane_read(table: &[u32], out: &mut [u32]) -> u64
     ensures { λ r. ⌜ now (out .exit) ≡ calls.read (now (table .entry)) (now (out .entry)) .out ⌝ }
 {
     reading_number(read(table, out))
+}
+
+// 2026-05: the number of the tags read, or the refusal times 2^32, plus the place of 18.
+#[no_mangle]
+pub extern "C" fn lane_tags_read(bytes: &[u8], words: &mut [u32]) -> u64
+    ensures { λ r. ⌜ r ≡ listNumber (readTags (now (bytes .entry)) (now (words .entry)) .answer) ⌝ }
+    ensures { λ r. ⌜ now (words .exit) ≡ readTags (now (bytes .entry)) (now (words .entry)) .out ⌝ }
+{
+    list_number(read_tags(bytes, words))
+}
+
+// The same for the tags written.
+#[no_mangle]
+pub extern "C" fn lane_tags_write(words: &[u32], bytes: &mut [u8]) -> u64
+    ensures { λ r. ⌜ r ≡ listNumber (writeTags (now (words .entry)) (now (bytes .entry)) .answer) ⌝ }
+    ensures { λ r. ⌜ now (bytes .exit) ≡ writeTags (now (words .entry)) (now (bytes .entry)) .out ⌝ }
+{
+    list_number(write_tags(words, bytes))
 }

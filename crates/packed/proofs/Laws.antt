@@ -1,0 +1,8 @@
+-- What the proofs of packed tag lists share.
+
+pub mod Filling
+pub mod Digits
+pub mod Halves
+pub mod OneTag
+pub mod Ways
+pub mod Taken

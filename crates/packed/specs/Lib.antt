@@ -1,0 +1,4 @@
+pub mod Packed
+pub mod TagLists
+pub mod RoundTrips
+pub mod Examples
