@@ -22,17 +22,20 @@
  * ```
  *
  * Every call takes any words, any lengths and any numbers, and answers them; no call trusts its caller. A refusal
- * leaves every lent word as it was; only a run, or the panel's list, keeps the ticks before the one refused.
+ * leaves all that is lent as it was; only a run, or the panel's list, keeps the ticks before the one refused.
  *
- * POINTERS. Lengths are in words of 32 bits. A pointer is aligned for uint32_t and valid for its length, and the slices
- * of one call do not overlap: these are the only things that the library cannot test. NULL with length 0 is accepted
- * everywhere, as an empty slice. The library keeps no pointer, allocates nothing and has no state of its own.
+ * POINTERS. Lengths are in words of 32 bits, of a list in packed decimal in bytes. A pointer is aligned for what it
+ * points to and valid for its length, and the slices of one call do not overlap: these are the only things that the
+ * library cannot test. NULL with length 0 is accepted everywhere, as an empty slice. The library keeps no pointer,
+ * allocates nothing and has no state of its own.
  *
  * THREADS. Different tables may be used by different threads at the same time, and so may reads of one table. All else
- * on one table comes one call after another: the library has no lock and no atomic access.
+ * on one table comes one call after another: the library has no lock and no atomic access. Tag lists need no table, and
+ * their calls may be made at any time, each with an out slice of its own.
  *
- * FOOTPRINT. For x86-64 only. Under 8 kB of code and constants, no data, no heap; of stack about 5.5 kB in lane_tick,
- * lane_run and lane_panel, about 0.5 kB in the others; nothing from outside but memset (`make footprint` measures it).
+ * FOOTPRINT. For x86-64 only. Under 10 kB of code and constants, no data, no heap; of stack about 5.5 kB in lane_tick,
+ * lane_run and lane_panel, at most about 0.5 kB in the others; nothing from outside but memset (`make footprint`
+ * measures it).
  *
  * SLOTS. A slot, also called a node, is the place of one bag. Slots at an end of the lane with no bag are spare; each
  * end always has one at least, so a table of S slots carries at most S - 2 bags. A slot is free when nothing may use
@@ -50,6 +53,10 @@
  *
  * TWICE. A tag is in one place at most: a push of a tag that stands in the lane, or that a busy push has, is refused
  * when it is begun (16). So no lane that lane_start began holds a tag twice.
+ *
+ * TAG LISTS. The baggage office sends and wants lists of up to 1,024 tags in packed decimal: ten digits in five bytes,
+ * two to a byte, the higher first. lane_tags_read and lane_tags_write take them to two words a tag, as lane_read writes
+ * them, and back. They need no table, and a list may hold a tag twice.
  */
 #ifndef LANE_H
 #define LANE_H
@@ -62,15 +69,16 @@ extern "C" {
 #endif
 
 /* The library's version; and the number of the table's format: only libraries of this format work on the table. */
-#define LANE_VERSION "4.0.0"
+#define LANE_VERSION "4.1.0"
 #define LANE_TABLE_FORMAT 2
 
 /* Words of a table of `slots` (2 to 1,024) and `tasks` (1 to 16): 8 for the header, 4 a slot, 12 a task. */
 #define LANE_WORDS(slots, tasks) (8 + 4 * (size_t)(slots) + 12 * (size_t)(tasks))
 
-/* Words that a read writes for each tag, and a run for each tick. */
+/* Words that a read writes for each tag, and a run for each tick; bytes of a tag in packed decimal. */
 #define LANE_TAG_WORDS 2
 #define LANE_ANSWER_WORDS 3
+#define LANE_TAG_BYTES 5
 
 /* The most bags that a table of so many slots carries. */
 #define LANE_MAX_BAGS(slots) ((slots) - 2)
@@ -92,6 +100,7 @@ extern "C" {
 #define LANE_MAX_REMOVE 1023    /* argument of a remove */
 #define LANE_MAX_TICKS 4096     /* of one run */
 #define LANE_MAX_PANEL_TICKS 32 /* of one list of the panel */
+#define LANE_LIST_TAGS 1024     /* the most of one tag list */
 #define LANE_MIN_WORDS 28       /* of a table */
 #define LANE_MAX_WORDS 4296
 
@@ -137,12 +146,15 @@ extern "C" {
 #define LANE_REFUSED_ANSWERS 14  /* answer slice under three words a tick */
 #define LANE_REFUSED_PANEL 15    /* panel: list of more than 32 ticks */
 #define LANE_REFUSED_TWICE 16    /* begin of a push: the tag is in the lane or in a busy push */
+#define LANE_REFUSED_TAGS 17     /* tag list: not a whole number of tags, or more than 1,024 */
+#define LANE_REFUSED_NO_TAG 18   /* tag list: a place holds no tag */
+#define LANE_REFUSED_TAGS_OUT 19 /* tag list: out slice too short for it */
 
 /* The two parts of what lane_tick returns: the kind, and the tag or the refusal. */
 #define LANE_KIND(answer) ((uint32_t)((answer) >> 40))
 #define LANE_VALUE(answer) ((answer) & UINT64_C(0xffffffffff))
 
-/* The two halves of what lane_run, lane_panel and lane_read return. */
+/* The two halves of what lane_run, lane_panel, lane_read, lane_tags_read and lane_tags_write return. */
 #define LANE_PAIR_HIGH(pair) ((uint32_t)((pair) >> 32))
 #define LANE_PAIR_LOW(pair) ((uint32_t)((pair) & 0xffffffffu))
 
@@ -218,6 +230,43 @@ uint64_t lane_panel(uint32_t *table, size_t words, const uint32_t *list, size_t 
  */
 uint64_t lane_read(const uint32_t *table, size_t words, uint32_t *out, size_t out_words);
 
+/*
+ * Reads a tag list in packed decimal: `bytes` is LANE_TAG_BYTES times the number of its tags, 0 to 1,024 of them.
+ * Returns LANE_PAIR_HIGH: 0, and LANE_PAIR_LOW: how many tags there are; or LANE_PAIR_HIGH: the refusal: 17, 18, 19,
+ * and LANE_PAIR_LOW: for 18 the place, from 0, of the first tag that has a half byte above 9 or is zero, else 0. 17 is
+ * for `bytes` that are no multiple of 5 or above 5,120, 19 for under two words of `out` a tag.
+ * Writes two words of `out` for each tag, the digit and the low part; later words stay.
+ *
+ * ```c
+ * #include "lane.h"
+ *
+ * int main(void) {
+ *     static const uint8_t list[] = {0x00, 0x00, 0x00, 0x00, 0x51, 0x12, 0x50, 0x00, 0x00, 0x0a};
+ *     uint32_t tags[LANE_TAG_WORDS * 2];
+ *     uint8_t again[LANE_TAG_BYTES];
+ *     uint64_t read = lane_tags_read(list, LANE_TAG_BYTES * 2, tags, LANE_TAG_WORDS * 2);
+ *     if (LANE_PAIR_HIGH(read) != LANE_REFUSED_NO_TAG || LANE_PAIR_LOW(read) != 1) {
+ *         return 1;
+ *     }
+ *     read = lane_tags_read(list, LANE_TAG_BYTES, tags, LANE_TAG_WORDS * 2);
+ *     if (read != 1 || lane_tag(tags[0], tags[1]) != 51) {
+ *         return 1;
+ *     }
+ *     return lane_tags_write(tags, LANE_TAG_WORDS, again, LANE_TAG_BYTES) == 1 && again[4] == 0x51 ? 0 : 1;
+ * }
+ * ```
+ */
+uint64_t lane_tags_read(const uint8_t *list, size_t bytes, uint32_t *out, size_t out_words);
+
+/*
+ * Writes a tag list in packed decimal: `words` is LANE_TAG_WORDS times the number of its tags, 0 to 1,024 of them. What
+ * is written is read as the same tags, and a list that was read is written as the same bytes.
+ * Returns as lane_tags_read does. 17 is for `words` that are odd or above 2,048, 18 for a digit above 9, a low part
+ * above 999,999,999 or zero, 19 for under five bytes of `out` a tag.
+ * Writes five bytes of `out` for each tag; later bytes stay.
+ */
+uint64_t lane_tags_write(const uint32_t *tags, size_t words, uint8_t *out, size_t out_bytes);
+
 /* Those below are no part of the library and of its proofs: they are written here, over the calls above. */
 
 /* The tag of a digit and a low part. */
@@ -255,7 +304,7 @@ static inline uint64_t lane_call(uint32_t *table, size_t words, uint32_t task, u
     return answer;
 }
 
-/* A refusal in words, for a message: a constant text in English; "not refused" for 0, "no refusal" above 16. */
+/* A refusal in words, for a message: a constant text in English; "not refused" for 0, "no refusal" above 19. */
 static inline const char *lane_refusal_text(uint32_t refusal) {
     switch (refusal) {
     case 0:
@@ -292,6 +341,12 @@ static inline const char *lane_refusal_text(uint32_t refusal) {
         return "a panel's list of more than 32 ticks";
     case LANE_REFUSED_TWICE:
         return "the tag is in the lane or in a busy push";
+    case LANE_REFUSED_TAGS:
+        return "not a whole number of tags, or more than 1,024";
+    case LANE_REFUSED_NO_TAG:
+        return "a place of the tag list holds no tag";
+    case LANE_REFUSED_TAGS_OUT:
+        return "the out slice is too short for the tag list";
     default:
         return "no refusal";
     }

@@ -3,6 +3,7 @@
 #![forbid(unsafe_code)]
 
 mod lines;
+mod lists;
 mod loads;
 mod measure;
 mod programs;
@@ -69,6 +70,8 @@ fn main() {
     ratios(rounds);
     println!();
     growth(rounds / 2);
+    println!();
+    lists::rows(rounds);
     println!();
     lines::rows(line_rounds);
 }

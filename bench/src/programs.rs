@@ -13,6 +13,10 @@ pub struct Program {
     pub run: fn(&mut [u32], &[u32], &mut [u32]) -> u64,
     /// The tags of the lane.
     pub read: fn(&[u32], &mut [u32]) -> u64,
+    /// A tag list in packed decimal, to words.
+    pub read_tags: fn(&[u8], &mut [u32]) -> u64,
+    /// The same from words.
+    pub write_tags: fn(&[u32], &mut [u8]) -> u64,
 }
 
 /// The proved machine, from the static library.
@@ -21,6 +25,8 @@ pub const PROVED: Program = Program {
     tick: ffi::tick,
     run: ffi::run,
     read: ffi::read,
+    read_tags: ffi::tags_read,
+    write_tags: ffi::tags_write,
 };
 
 /// The second program in Rust.
@@ -34,16 +40,15 @@ pub const RUST: Program = Program {
         Ok(answer) => u64::from(answer.words()[0]) << 40,
         Err(number) => 7 << 40 | u64::from(number),
     },
-    run: |table, list, answers| {
-        let (made, number) = reference::run(table, list, answers);
-        pair(made, number)
-    },
+    run: |table, list, answers| pair(reference::run(table, list, answers)),
     read: |table, out| match reference::read(table, out) {
         Ok(count) => u64::from(count),
-        Err(number) => pair(1, number),
+        Err(number) => pair((1, number)),
     },
+    read_tags: |bytes, words| pair(reference::read_tags(bytes, words)),
+    write_tags: |words, bytes| pair(reference::write_tags(words, bytes)),
 };
 
-fn pair(high: u32, low: u32) -> u64 {
+fn pair((high, low): (u32, u32)) -> u64 {
     u64::from(high) << 32 | u64::from(low)
 }

@@ -104,6 +104,47 @@ static void tags(void) {
     EXPECT(answers[LANE_ANSWER_WORDS * 4] == 7);
 }
 
+/* A tag list in packed decimal, there and back; its refusals in their order, with 18's place; what is past it stays. */
+static void tag_lists(void) {
+    static const uint8_t list[] = {0x12, 0x34, 0x56, 0x78, 0x90, 0x99, 0x99, 0x99,
+                                   0x99, 0x99, 0x10, 0x00, 0x00, 0x00, 0x00};
+    static const uint32_t tags[] = {1, 234567890, LANE_MAX_DIGIT, LANE_MAX_LOW, 1, 0};
+    enum { TAGS = 3, BYTES = LANE_TAG_BYTES * TAGS, TAG_WORDS = LANE_TAG_WORDS * TAGS, MORE = LANE_LIST_TAGS + 1 };
+    static uint8_t bytes[LANE_TAG_BYTES * MORE];
+    static uint32_t words[LANE_TAG_WORDS * MORE];
+
+    bytes[BYTES] = words[TAG_WORDS] = 7;
+    EXPECT(lane_tags_read(list, BYTES, words, TAG_WORDS + 1) == TAGS);
+    EXPECT(memcmp(words, tags, sizeof tags) == 0 && words[TAG_WORDS] == 7);
+    EXPECT(lane_tags_write(words, TAG_WORDS, bytes, BYTES + 1) == TAGS);
+    EXPECT(memcmp(bytes, list, sizeof list) == 0 && bytes[BYTES] == 7);
+    EXPECT(lane_tags_read(list, BYTES, words, TAG_WORDS) == TAGS);
+    EXPECT(lane_tags_write(tags, TAG_WORDS, bytes, BYTES) == TAGS);
+
+    EXPECT(lane_tags_read(list, BYTES, words, TAG_WORDS - 1) == PAIR(LANE_REFUSED_TAGS_OUT, 0));
+    EXPECT(lane_tags_write(tags, TAG_WORDS, bytes, BYTES - 1) == PAIR(LANE_REFUSED_TAGS_OUT, 0));
+    EXPECT(lane_tags_read(list, BYTES - 1, words, 0) == PAIR(LANE_REFUSED_TAGS, 0));
+    EXPECT(lane_tags_write(tags, TAG_WORDS - 1, bytes, 0) == PAIR(LANE_REFUSED_TAGS, 0));
+    bytes[LANE_TAG_BYTES] = 0x0a;
+    words[TAG_WORDS - 1] = LANE_MAX_LOW + 1;
+    EXPECT(lane_tags_read(bytes, BYTES, words, 0) == PAIR(LANE_REFUSED_NO_TAG, 1));
+    EXPECT(lane_tags_write(words, TAG_WORDS, bytes, 0) == PAIR(LANE_REFUSED_NO_TAG, 2));
+    words[0] = LANE_MAX_DIGIT + 1;
+    EXPECT(lane_tags_write(words, TAG_WORDS, bytes, 0) == PAIR(LANE_REFUSED_NO_TAG, 0));
+    memset(bytes, 0, LANE_TAG_BYTES);
+    words[0] = words[1] = 0;
+    EXPECT(lane_tags_read(bytes, BYTES, words, 0) == PAIR(LANE_REFUSED_NO_TAG, 0));
+    EXPECT(lane_tags_write(words, TAG_WORDS, bytes, 0) == PAIR(LANE_REFUSED_NO_TAG, 0));
+
+    memset(bytes, 0x99, sizeof bytes);
+    EXPECT(lane_tags_read(bytes, LANE_TAG_BYTES * LANE_LIST_TAGS, words, LANE_TAG_WORDS * LANE_LIST_TAGS) ==
+           LANE_LIST_TAGS);
+    EXPECT(lane_tags_write(words, LANE_TAG_WORDS * LANE_LIST_TAGS, bytes, LANE_TAG_BYTES * LANE_LIST_TAGS) ==
+           LANE_LIST_TAGS);
+    EXPECT(lane_tags_read(bytes, LANE_TAG_BYTES * MORE, words, LANE_TAG_WORDS * MORE) == PAIR(LANE_REFUSED_TAGS, 0));
+    EXPECT(lane_tags_write(words, LANE_TAG_WORDS * MORE, bytes, LANE_TAG_BYTES * MORE) == PAIR(LANE_REFUSED_TAGS, 0));
+}
+
 /* Every refusal that a caller can ask for comes with its number, and every number has a text of its own. */
 static void refusals(void) {
     begin_again();
@@ -134,13 +175,13 @@ static void refusals(void) {
     EXPECT(begin(1, LANE_PUSH, LANE_LEFT, 51) == LANE_REFUSED_NO_SLOT); /* 51 is in a busy push */
     EXPECT(begin(1, LANE_POP, LANE_LEFT, 0) == 0);
 
-    for (uint32_t one = 0; one <= 17; one++) {
+    for (uint32_t one = 0; one <= 20; one++) {
         EXPECT(strlen(lane_refusal_text(one)) > 0);
         for (uint32_t other = 0; other < one; other++) {
             EXPECT(strcmp(lane_refusal_text(one), lane_refusal_text(other)) != 0);
         }
     }
-    EXPECT(strcmp(lane_refusal_text(17), lane_refusal_text(4294967295u)) == 0);
+    EXPECT(strcmp(lane_refusal_text(20), lane_refusal_text(4294967295u)) == 0);
 }
 
 /* NULL with length 0 is an empty slice, in every place of every call. */
@@ -164,6 +205,16 @@ static void empty_slices(void) {
     EXPECT(lane_run(table, WORDS, list, 2, NULL, 0) == PAIR(0, LANE_REFUSED_ANSWERS));
     EXPECT(LANE_PAIR_HIGH(lane_run(table, WORDS, list, 22, answers, 33)) == 11);
     EXPECT(lane_read(table, WORDS, NULL, 0) == PAIR(1, LANE_REFUSED_OUT));
+
+    static const uint8_t list[LANE_TAG_BYTES] = {0, 0, 0, 0, 0x51};
+    static const uint32_t tag[LANE_TAG_WORDS] = {0, 51};
+    uint8_t bytes[LANE_TAG_BYTES];
+    EXPECT(lane_tags_read(NULL, 0, NULL, 0) == 0);
+    EXPECT(lane_tags_read(NULL, 0, answers, LANE_TAG_WORDS) == 0);
+    EXPECT(lane_tags_read(list, LANE_TAG_BYTES, NULL, 0) == PAIR(LANE_REFUSED_TAGS_OUT, 0));
+    EXPECT(lane_tags_write(NULL, 0, NULL, 0) == 0);
+    EXPECT(lane_tags_write(NULL, 0, bytes, LANE_TAG_BYTES) == 0);
+    EXPECT(lane_tags_write(tag, LANE_TAG_WORDS, NULL, 0) == PAIR(LANE_REFUSED_TAGS_OUT, 0));
 }
 
 /* A call to its answer; S - 2 bags and no more; what a remove says. */
@@ -197,6 +248,7 @@ static void calls(void) {
 int main(void) {
     limits();
     tags();
+    tag_lists();
     refusals();
     empty_slices();
     calls();

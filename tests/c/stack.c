@@ -9,6 +9,8 @@
 enum { SLOTS = LANE_MAX_SLOTS, TASKS = LANE_MAX_TASKS, WORDS = LANE_MAX_WORDS, PAINT = 0xa5, SPACE = 65536 };
 
 static uint32_t table[WORDS], out[LANE_TAG_WORDS * SLOTS];
+static uint32_t tags[LANE_TAG_WORDS * LANE_LIST_TAGS];
+static uint8_t tag_list[LANE_TAG_BYTES * LANE_LIST_TAGS];
 static uint32_t list[2 * LANE_MAX_TICKS], answers[LANE_ANSWER_WORDS * LANE_MAX_TICKS];
 static unsigned char stack[SPACE];
 static ucontext_t here, there;
@@ -38,6 +40,14 @@ static void read_lane(void) {
     lane_read(table, WORDS, out, LANE_TAG_WORDS * SLOTS);
 }
 
+static void read_tags(void) {
+    lane_tags_read(tag_list, sizeof tag_list, tags, LANE_TAG_WORDS * LANE_LIST_TAGS);
+}
+
+static void write_tags(void) {
+    lane_tags_write(tags, LANE_TAG_WORDS * LANE_LIST_TAGS, tag_list, sizeof tag_list);
+}
+
 static size_t touched(void (*call)(void)) {
     size_t at = 0;
     memset(stack, PAINT, SPACE);
@@ -56,7 +66,7 @@ static size_t touched(void (*call)(void)) {
 static int failures;
 
 static void print(const char *name, size_t bytes, size_t most) {
-    printf("stack of lane_%-5s %5lu bytes\n", name, (unsigned long)bytes);
+    printf("stack of lane_%-10s %5lu bytes\n", name, (unsigned long)bytes);
     failures += bytes > most;
 }
 
@@ -72,6 +82,9 @@ int main(void) {
     print("run", touched(run), 5600);
     print("panel", touched(panel), 5600);
     print("read", touched(read_lane), 600);
+    memset(tag_list, 0x99, sizeof tag_list);
+    print("tags_read", touched(read_tags), 600);
+    print("tags_write", touched(write_tags), 600);
     if (failures > 0) {
         puts("more stack than include/lane.h says");
     }

@@ -92,7 +92,7 @@ impl fmt::Display for Answer {
     }
 }
 
-/// Why a call was refused. A refused call has changed no word. Later versions may add some.
+/// Why a call was refused. A refused call has changed nothing. Later versions may add some.
 ///
 /// ```
 /// use lane::Refusal;
@@ -136,10 +136,16 @@ pub enum Refusal {
     Panel = 15,
     /// Begin of a push: the tag is in the lane or in a busy push.
     Twice = 16,
+    /// Tag list: not a whole number of tags, or more than 1,024.
+    Tags = 17,
+    /// Tag list: a place holds no tag. [`RefusedTags`](crate::RefusedTags) has the first one.
+    NoTag = 18,
+    /// Tag list: the out slice is too short for it.
+    TagsOut = 19,
 }
 
 impl Refusal {
-    const ALL: [Refusal; 16] = [
+    const ALL: [Refusal; 19] = [
         Refusal::Sizes,
         Refusal::Length,
         Refusal::Table,
@@ -156,6 +162,9 @@ impl Refusal {
         Refusal::Answers,
         Refusal::Panel,
         Refusal::Twice,
+        Refusal::Tags,
+        Refusal::NoTag,
+        Refusal::TagsOut,
     ];
 
     /// The refusal of a number; none for a number that no call gives.
@@ -165,7 +174,7 @@ impl Refusal {
     /// ```
     pub const fn from_number(number: u32) -> Option<Refusal> {
         match number {
-            1..=16 => Some(Refusal::ALL[number as usize - 1]),
+            1..=19 => Some(Refusal::ALL[number as usize - 1]),
             _ => None,
         }
     }
@@ -199,6 +208,9 @@ impl fmt::Display for Refusal {
             Refusal::Answers => "fewer places for answers than ticks",
             Refusal::Panel => "a panel's list of more than 32 ticks",
             Refusal::Twice => "the tag is in the lane or in a busy push",
+            Refusal::Tags => "not a whole number of tags, or more than 1,024",
+            Refusal::NoTag => "a place of the tag list holds no tag",
+            Refusal::TagsOut => "the out slice is too short for the tag list",
         };
         write!(formatter, "refused {}: {reason}", self.number())
     }
@@ -322,11 +334,11 @@ mod tests {
 
     #[test]
     fn every_refusal_is_decoded_once_and_back() {
-        for number in 1..=16 {
+        for number in 1..=19 {
             let refusal = Refusal::from_number(number).expect("a refusal");
             assert_eq!(refusal.number(), number);
         }
-        for number in [0, 17, u32::MAX] {
+        for number in [0, 20, u32::MAX] {
             assert_eq!(Refusal::from_number(number), None);
         }
     }

@@ -1,7 +1,7 @@
 //! The static library's functions over any slices and any numbers, as it takes and gives them.
 //!
 //! For programs that keep their own words, and for tests that hand in damaged ones. All are safe to call: the library
-//! answers every table and every number, and a refusal leaves every lent word as it was. This module has the crate's
+//! answers every slice and every number, and a refusal leaves all that is lent as it was. This module has the crate's
 //! only unsafe code.
 
 mod library {
@@ -41,11 +41,23 @@ mod library {
             answers_words: usize,
         ) -> u64;
         pub fn lane_read(table: *const u32, words: usize, out: *mut u32, out_words: usize) -> u64;
+        pub fn lane_tags_read(
+            list: *const u8,
+            bytes: usize,
+            out: *mut u32,
+            out_words: usize,
+        ) -> u64;
+        pub fn lane_tags_write(
+            tags: *const u32,
+            words: usize,
+            out: *mut u8,
+            out_bytes: usize,
+        ) -> u64;
     }
 }
 
 // Safety, for each call below: a slice is valid for its length and a mutable one is lent to nobody else; the library
-// touches no word outside the slices and keeps no pointer. It takes every length, 0 included.
+// touches nothing outside the slices and keeps no pointer. It takes every length, 0 included.
 
 /// Writes an empty lane: 0, or the refusal.
 ///
@@ -147,4 +159,36 @@ pub fn panel(table: &mut [u32], list: &[u32], answers: &mut [u32]) -> u64 {
 pub fn read(table: &[u32], out: &mut [u32]) -> u64 {
     let (pointer, words) = (table.as_ptr(), table.len());
     unsafe { library::lane_read(pointer, words, out.as_mut_ptr(), out.len()) }
+}
+
+/// Reads a tag list in packed decimal, five bytes a tag, to two words a tag, the leading digit first: the count of its
+/// tags, or the refusal times 2^32 plus, for 18, the place of the first that is no tag.
+///
+/// ```
+/// use lane::ffi;
+///
+/// let list = [0x00, 0x00, 0x00, 0x00, 0x51, 0x90, 0x00, 0x00, 0x00, 0x0a];
+/// let mut words = [7; 4];
+/// assert_eq!(ffi::tags_read(&list, &mut words), 18 << 32 | 1);
+/// assert_eq!(ffi::tags_read(&list[..5], &mut words), 1);
+/// assert_eq!(words, [0, 51, 7, 7]);
+/// ```
+pub fn tags_read(bytes: &[u8], words: &mut [u32]) -> u64 {
+    let (out, out_words) = (words.as_mut_ptr(), words.len());
+    unsafe { library::lane_tags_read(bytes.as_ptr(), bytes.len(), out, out_words) }
+}
+
+/// Writes a tag list in packed decimal from two words a tag: what [`tags_read`] gives.
+///
+/// ```
+/// use lane::ffi;
+///
+/// let mut list = [7; 6];
+/// assert_eq!(ffi::tags_write(&[0, 51, 10, 51], &mut list), 18 << 32 | 1);
+/// assert_eq!(ffi::tags_write(&[0, 51], &mut list), 1);
+/// assert_eq!(list, [0x00, 0x00, 0x00, 0x00, 0x51, 7]);
+/// ```
+pub fn tags_write(words: &[u32], bytes: &mut [u8]) -> u64 {
+    let (out, out_bytes) = (bytes.as_mut_ptr(), bytes.len());
+    unsafe { library::lane_tags_write(words.as_ptr(), words.len(), out, out_bytes) }
 }

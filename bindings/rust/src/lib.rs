@@ -37,12 +37,15 @@
 //! A bag goes by its [`Tag`] of ten digits, which is in one place at most: a push of a tag that stands in the lane, or
 //! that a busy push has, is refused when it is begun ([`Refusal::Twice`]).
 //!
+//! The baggage office sends and wants lists of tags in packed decimal. [`tags_read`] and [`tags_write`] take them to two
+//! words a tag, as [`Lane::read`] writes them, and back; they need no table.
+//!
 //! [`Answer::Yes`] of a remove says that nothing more is to be done by it, and not that a slot was given back.
 //! [`Answer::No`] of a remove, with no other task in a call, means exactly one spare slot more than asked for; trying
 //! again changes nothing.
 //!
 //! Different tables may be used by different threads, and a shared `&Lane` may be read by several. A tick and a run take
-//! about 5.5 kB of stack, the other calls about 0.5 kB. The library is for x86-64.
+//! about 5.5 kB of stack, the other calls at most about 0.5 kB. The library is for x86-64.
 //!
 //! # Where the library is
 //!
@@ -55,6 +58,7 @@ mod answer;
 mod call;
 pub mod ffi;
 mod limits;
+mod list;
 mod tag;
 mod view;
 
@@ -63,9 +67,10 @@ use core::fmt;
 pub use answer::{Answer, NotStarted, Ran, Refusal};
 pub use call::{Operation, Side};
 pub use limits::{
-    max_bags, max_ticks_alone, words, MAX_ADD, MAX_DIGIT, MAX_GROWTH, MAX_LOW, MAX_PANEL_TICKS,
-    MAX_REMOVE, MAX_SLOTS, MAX_TASKS, MAX_TICKS, MIN_SLOTS, MIN_TASKS,
+    max_bags, max_ticks_alone, words, LIST_TAGS, MAX_ADD, MAX_DIGIT, MAX_GROWTH, MAX_LOW,
+    MAX_PANEL_TICKS, MAX_REMOVE, MAX_SLOTS, MAX_TASKS, MAX_TICKS, MIN_SLOTS, MIN_TASKS, TAG_BYTES,
 };
+pub use list::{tags_read, tags_write, RefusedTags};
 pub use tag::{ParseTagError, Tag, Tags};
 pub use view::Bags;
 

@@ -22,6 +22,10 @@ pub const MAX_REMOVE: u32 = 1023;
 pub const MAX_TICKS: usize = 4096;
 /// The most ticks of one list of the maintenance panel.
 pub const MAX_PANEL_TICKS: usize = 32;
+/// The bytes of a tag in a tag list: packed decimal, two digits to a byte.
+pub const TAG_BYTES: usize = 5;
+/// The most tags of a tag list.
+pub const LIST_TAGS: usize = 1024;
 
 /// The words of a table: 8 for the header, 4 a slot, 12 a task.
 ///

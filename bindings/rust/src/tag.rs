@@ -67,7 +67,7 @@ impl Tag {
         self.0
     }
 
-    /// The leading digit and the low part, as a read and a run write them.
+    /// The leading digit and the low part, as a read and a run write them and a tag list has them in memory.
     ///
     /// ```
     /// assert_eq!(lane::Tag::MAX.words(), [9, 999_999_999]);
@@ -123,7 +123,7 @@ impl fmt::Display for ParseTagError {
 
 impl core::error::Error for ParseTagError {}
 
-/// The tags that a read wrote, in order. [`Lane::read`](crate::Lane::read) gives it.
+/// The tags that a read wrote, in order. [`Lane::read`](crate::Lane::read) and [`tags_read`](crate::tags_read) give it.
 #[derive(Clone)]
 pub struct Tags<'a> {
     words: slice::Iter<'a, [u32; 2]>,

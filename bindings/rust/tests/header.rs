@@ -1,6 +1,6 @@
 //! The wrapper's constants and texts are those of `include/lane.h`, and the library keeps to them.
 
-use lane::{words, Lane, Operation, Refusal, Side, Tag};
+use lane::{tags_write, words, Lane, Operation, Refusal, Side, Tag};
 
 const HEADER: &str = include_str!("../../../include/lane.h");
 
@@ -30,6 +30,8 @@ fn the_header_has_the_same_numbers() {
         ("LANE_MAX_REMOVE", lane::MAX_REMOVE),
         ("LANE_MAX_TICKS", lane::MAX_TICKS as u32),
         ("LANE_MAX_PANEL_TICKS", lane::MAX_PANEL_TICKS as u32),
+        ("LANE_TAG_BYTES", lane::TAG_BYTES as u32),
+        ("LANE_LIST_TAGS", lane::LIST_TAGS as u32),
         ("LANE_LEFT", Side::Left.number()),
         ("LANE_RIGHT", Side::Right.number()),
         ("LANE_PUSH", Operation::Push(Tag::MIN).number()),
@@ -47,7 +49,7 @@ fn the_header_has_the_same_numbers() {
 
 #[test]
 fn the_header_has_the_same_texts() {
-    for refusal in (1..=16).filter_map(Refusal::from_number) {
+    for refusal in (1..=19).filter_map(Refusal::from_number) {
         // A list of odd length cannot be handed to the wrapper.
         if refusal != Refusal::List {
             let shown = refusal.to_string();
@@ -88,4 +90,11 @@ fn each_limit_is_accepted_and_the_number_beyond_it_is_not() {
     assert_eq!(begin(Operation::Add(lane::MAX_ADD + 1)), beyond);
     assert_eq!(begin(Operation::Remove(lane::MAX_REMOVE)), Ok(()));
     assert_eq!(begin(Operation::Remove(lane::MAX_REMOVE + 1)), beyond);
+
+    let most = vec![Tag::MAX.words(); lane::LIST_TAGS + 1];
+    let mut list = vec![0; lane::TAG_BYTES * most.len()];
+    let written = tags_write(&most[1..], &mut list).map(<[u8]>::len);
+    assert_eq!(written, Ok(lane::TAG_BYTES * lane::LIST_TAGS));
+    let beyond = tags_write(&most, &mut list).map_err(Refusal::from);
+    assert_eq!(beyond, Err(Refusal::Tags));
 }

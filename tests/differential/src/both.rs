@@ -9,10 +9,8 @@ use reference::Answer;
 use crate::common::calls::whole;
 use crate::common::row::Note;
 use crate::counts::Given;
+use crate::lent::Lent;
 
-/// Words on each side of a lent slice that no call may touch.
-const MARGIN: usize = 4;
-const UNTOUCHED: u32 = 0xa5a5_a5a5;
 /// Calls that are shown when a comparison fails.
 const SHOWN: usize = 40;
 
@@ -45,31 +43,11 @@ fn reference_panel(table: &mut [u32], list: &[u32], answers: &mut [u32]) -> u64 
     pair(reference::panel(table, list, answers))
 }
 
-/// Words lent to a call, with a margin on each side.
-#[derive(Clone, PartialEq, Eq)]
-struct Lent(Vec<u32>);
-
-impl Lent {
-    fn new(words: &[u32]) -> Lent {
-        let margin = [UNTOUCHED; MARGIN];
-        Lent([&margin, words, &margin].concat())
-    }
-
-    fn words(&self) -> &[u32] {
-        &self.0[MARGIN..self.0.len() - MARGIN]
-    }
-
-    fn words_mut(&mut self) -> &mut [u32] {
-        let end = self.0.len() - MARGIN;
-        &mut self.0[MARGIN..end]
-    }
-}
-
 /// One table in two copies, one for each program.
 pub struct Both {
-    proved: Lent,
-    second: Lent,
-    before: Lent,
+    proved: Lent<u32>,
+    second: Lent<u32>,
+    before: Lent<u32>,
     calls: VecDeque<Call>,
     /// What the calls gave.
     pub given: Given,
@@ -201,7 +179,7 @@ impl Both {
     }
 
     fn note(&mut self, call: Call) {
-        self.before.0.copy_from_slice(&self.second.0);
+        self.before.take(&self.second);
         if self.calls.len() == SHOWN {
             self.calls.pop_front();
         }
@@ -214,14 +192,7 @@ impl Both {
             proved, second,
             "the programs differ in what a call gives (left: proved)"
         );
-        if self.proved != self.second {
-            let place = self
-                .proved
-                .0
-                .iter()
-                .zip(&self.second.0)
-                .position(|(one, two)| one != two);
-            let place = place.unwrap_or(0) as isize - MARGIN as isize;
+        if let Some(place) = self.proved.first_other(&self.second) {
             panic!("the programs differ in the table, first at word {place}");
         }
     }
@@ -246,10 +217,12 @@ impl Drop for Both {
     }
 }
 
-fn pair((high, low): (u32, u32)) -> u64 {
+/// Two words in one number, as the library gives them.
+pub fn pair((high, low): (u32, u32)) -> u64 {
     u64::from(high) << 32 | u64::from(low)
 }
 
-fn halves(number: u64) -> [u32; 2] {
+/// The two words of such a number.
+pub fn halves(number: u64) -> [u32; 2] {
     [(number >> 32) as u32, number as u32]
 }

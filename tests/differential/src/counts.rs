@@ -8,6 +8,7 @@ use crate::begins::Begins;
 use crate::cause;
 use crate::digits::Digits;
 use crate::idle::Idle;
+use crate::lists::Lists;
 use crate::outcomes::{Leads, Outcome, OUTCOMES};
 use crate::stretch::Stretches;
 
@@ -64,6 +65,8 @@ pub struct Counts {
     pub stretches: Stretches,
     /// Tables with every task idle.
     pub idle: Idle,
+    /// Tag lists.
+    pub lists: Lists,
 }
 
 impl Counts {
@@ -79,6 +82,7 @@ impl Counts {
             alone: Alone::default(),
             stretches: Stretches::default(),
             idle: Idle::default(),
+            lists: Lists::default(),
         }
     }
 
@@ -163,6 +167,7 @@ impl Counts {
         faults.extend(self.alone.report());
         self.stretches.report();
         faults.extend(self.idle.report());
+        faults.extend(self.lists.report());
         faults
     }
 

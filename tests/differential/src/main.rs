@@ -14,6 +14,8 @@ mod cause;
 mod counts;
 mod digits;
 mod idle;
+mod lent;
+mod lists;
 mod outcomes;
 mod play;
 mod stretch;
@@ -87,7 +89,7 @@ fn options() -> Option<Options> {
     Some(options)
 }
 
-/// Small tables of every size with few and many tasks, a large one, and tables from anywhere.
+/// Small tables of every size with few and many tasks, a large one, and tables from anywhere; and tag lists.
 fn round(random: &mut Random, counts: &mut Counts) {
     for nodes in SMALL {
         let many = 9 + random.below(8);
@@ -106,6 +108,7 @@ fn round(random: &mut Random, counts: &mut Counts) {
     for _ in 0..4_000 {
         digits::check(random, counts);
     }
+    lists::check(random, &mut counts.lists);
 }
 
 fn play(random: &mut Random, counts: &mut Counts, sizes: (u32, u32, u32), calls: u32) {

@@ -32,3 +32,9 @@ pub const SCHEDULE: u32 = 13;
 pub const PANEL_SCHEDULE: u32 = 15;
 /// The answer slice is too short for the schedule.
 pub const ANSWERS: u32 = 14;
+/// A tag list's length is not one of whole tags, or of too many.
+pub const TAGS_LENGTH: u32 = 17;
+/// A place of a tag list holds no tag.
+pub const NO_TAG: u32 = 18;
+/// The out slice is too short for the tag list.
+pub const TAGS_OUT: u32 = 19;
