@@ -120,18 +120,18 @@ impl Task {
     {
         let argument = self.argument;
         let value = self.value;
-        self.operation == Task::IDLE
-            && self.step == 0
-            && self.side == 0
-            && argument.word == 0
-            && argument.digit == 0
-            && self.counted == 0
-            && value.word == 0
-            && value.digit == 0
-            && self.registers[Task::A] == Task::NONE
-            && self.registers[Task::B] == Task::NONE
-            && self.registers[Task::C] == Task::NONE
-            && self.registers[Task::D] == Task::NONE
+        (self.operation == Task::IDLE)
+            & (self.step == 0)
+            & (self.side == 0)
+            & (argument.word == 0)
+            & (argument.digit == 0)
+            & (self.counted == 0)
+            & (value.word == 0)
+            & (value.digit == 0)
+            & (self.registers[Task::A] == Task::NONE)
+            & (self.registers[Task::B] == Task::NONE)
+            & (self.registers[Task::C] == Task::NONE)
+            & (self.registers[Task::D] == Task::NONE)
     }
 
     // The same record, written out word by word: the compiler then keeps a record that a line changes in the processor,

@@ -63,34 +63,22 @@ pub fn bag_ok(v: Stored) -> bool
     tag::is_tag(v.digit, v.word)
 }
 
-// 01: V holds a bag number, a mark, or 0 for never used. 02: marks have digit 0.
+// 01: V holds a bag number, a mark, or 0 for never used. 02: marks have digit 0. Tests joined by `&`, here and in `shape`, have
+// no branches, so that the compiler tests several nodes at once.
 pub fn value_ok(v: Stored) -> bool
     ensures { λ r. ⌜ r ≡ valueOk v ⌝ }
 {
     let word = v.word;
     let digit = v.digit;
-    if word <= tag::LARGEST_LOW {
-        return digit <= 9;
-    }
-    if word < Stored::LN {
-        return false;
-    }
-    if Stored::RY < word {
-        return false;
-    }
-    digit == 0
+    ((word <= tag::LARGEST_LOW) & (digit <= 9))
+        | ((Stored::LN <= word) & (word <= Stored::RY) & (digit == 0))
 }
 
 // Whether two have the same words.
 pub fn equal(u: Stored, v: Stored) -> bool
     ensures { λ r. ⌜ r ≡ sameStored u v ⌝ }
 {
-    let word = u.word;
-    let digit = u.digit;
-    if word != v.word {
-        return false;
-    }
-    digit == v.digit
+    (u.word == v.word) & (u.digit == v.digit)
 }
 
 // Whether two values are the same.

@@ -24,7 +24,7 @@ ghost use Rattle.layout.specs.Coded.{recordOf};
 pub(crate) fn node_or_none(slots: u32, x: u32) -> bool
     ensures { λ r. ⌜ r ≡ nodeOrNone slots x ⌝ }
 {
-    x < slots || x == Task::NONE
+    (x < slots) | (x == Task::NONE)
 }
 
 // 01: counted is 0 at step 54, below the goal at steps 31, 56, 58 and at most the goal elsewhere.
@@ -65,9 +65,9 @@ fn registers_ok(slots: u32, registers: [u32; 4]) -> bool
         ⌝ }
 {
     node_or_none(slots, registers[Task::A])
-        && node_or_none(slots, registers[Task::B])
-        && node_or_none(slots, registers[Task::C])
-        && node_or_none(slots, registers[Task::D])
+        & node_or_none(slots, registers[Task::B])
+        & node_or_none(slots, registers[Task::C])
+        & node_or_none(slots, registers[Task::D])
 }
 
 // The record of a task that is in a call.

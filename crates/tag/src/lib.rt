@@ -37,13 +37,7 @@ pub fn low(tag: u64) -> u32
 pub fn is_tag(digit: u32, low: u32) -> bool
     ensures { λ r. ⌜ r ≡ isTag digit low ⌝ }
 {
-    if 9 < digit {
-        return false;
-    }
-    if LARGEST_LOW < low {
-        return false;
-    }
-    1 <= number(digit, low)
+    (digit <= 9) & (low <= LARGEST_LOW) & (1 <= number(digit, low))
 }
 
 // The ten digits of a number, the highest first.

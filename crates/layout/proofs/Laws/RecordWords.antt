@@ -64,9 +64,9 @@ record-put ws r {at} {i} e long h =
 
 -- ---- A fresh record.
 
--- The tests before that of the last register.
-abbrev pub freshToC : Tasks.Task → Bool
-freshToC t =
+-- The test of each word, in order.
+abbrev isFresh : Tasks.Task → Bool
+isFresh t =
     eqb (t .operation) 0
     && eqb (t .step) 0
     && eqb (t .side) 0
@@ -78,8 +78,8 @@ freshToC t =
     && eqb (getD (t .registers) 0 0) none
     && eqb (getD (t .registers) 1 0) none
     && eqb (getD (t .registers) 2 0) none
+    && eqb (getD (t .registers) 3 0) none
 
-pub fresh-words :
-    (t : Tasks.Task) → freshToC t && eqb (getD (t .registers) 3 0) none ≡ sameWords (recordOf t) (wordsOf fresh)
+pub fresh-words : (t : Tasks.Task) → isFresh t ≡ sameWords (recordOf t) (wordsOf fresh)
 unfolding sameWords
 fresh-words t = simp (and-assoc, and-true)

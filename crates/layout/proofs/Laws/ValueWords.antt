@@ -1,15 +1,13 @@
 -- Comparing, telling a bag and mirroring the words of a value do so to the value that they mean.
 use mathlib.Core.Path.{_≡_, refl, sym, ap, _∙_, subst}
 use mathlib.Core.Logic.{_≢_, inl, inr}
-use mathlib.Core.Bool.{Bool, true, false, or-false}
+use mathlib.Core.Bool.{Bool, true, false}
 use mathlib.Core.List.{List, [], _∷_}
 use Prim.Native.Nat.{ℕ, zero, suc, _+_, _-_, _≤_, _<_}
 use native.Mathlib.Omega.{arith}
 use native.Mathlib.Numerals.{add-one}
-use lib.Dec.{leb}
 use lib.ListN.{set}
 use lib.Seq.{sets}
-use borrow.Author.Tests.{le-leb, lt-leb}
 use native.Mathlib.Decide.{ℕ-discrete, decLe}
 use Rattle.tag.specs.Tags.{tagWords}
 use Rattle.machine.specs.declared.Stored.{Stored}
@@ -58,10 +56,6 @@ same-words u v hu hv = go (sameStored u v) refl
       where
         apart : decode u ≢ decode v
         apart q = refute (cc (e, stored-same {u = u} {w = v} (decode-one-to-one u v hu hv q)))
-
--- Nine digits pass with a leading digit, and are no mark.
-pub digits-pass : (u : Stored) → u .word ≤ 999_999_999 → leb (u .digit) 9 ≡ valueOk u
-digits-pass u h = rw (le-leb (u .word) 999_999_999 h, lt-leb 1000000001 (u .word) (omega arith), or-false (leb (u .digit) 9))
 
 -- Words are a bag's exactly where they are a tag.
 pub bag-words : (u : Stored) → bagOk u ≡ isBag (decode u)

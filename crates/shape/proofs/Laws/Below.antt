@@ -25,3 +25,9 @@ module _ (test : ℕ → Bool) where
       go : Dec (i ≡ n) → (i < n → false ≡ allBelow n test) → false ≡ allBelow n test && test n
       go (yes q) f = rw (← q, e, and-false (allBelow i test))
       go (no q) f = rw (← f (omega arith))
+
+-- The test of all below, and of one more.
+pub one-tested : (test : ℕ → Bool) (n : ℕ) {so-far now : Bool} → so-far ≡ allBelow n test → now ≡ test n
+    → so-far && now ≡ allBelow (n + 1) test
+unfolding allBelow
+one-tested test n e f = rw (add-one n, e, f)

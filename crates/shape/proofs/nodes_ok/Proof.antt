@@ -1,22 +1,20 @@
--- The invariant: all nodes below the loop's number have passed.
+-- The invariant: the flag is the test of all nodes below the loop's number.
 use mathlib.Core.Path.{_≡_, ap, sym, _∙_}
-use mathlib.Core.Bool.{true}
 use Prim.Native.Nat.{_-_, _≤_}
 use native.Mathlib.Omega.{arith}
-use borrow.Author.Tests.{not-true, not-false}
 use Rattle.machine.specs.Table.{nodeCount}
 use Rattle.machine.specs.Shape.{allBelow, nodeOk}
 use Rattle.machine.proofs.Shape.ShapeLaws.{well-sized}
 use Rattle.shape.proofs.Laws.TableWords.{header-long}
-use Rattle.shape.proofs.Laws.Below.{none-below, one-more, one-fails}
+use Rattle.shape.proofs.Laws.Below.{none-below, one-tested}
 use Rattle.shape.proofs.nodes_ok.Statement.{statement}
 use Rattle.shape.proofs.nodes_ok.Tie as tie
 
 abbrev Inv-loop : tie.InvT-loop
-Inv-loop t n x₀ x = (x ≤ nodeCount t) × (allBelow x (nodeOk t) ≡ true)
+Inv-loop t n ok₀ x₀ ok x = (x ≤ nodeCount t) × (ok ≡ allBelow x (nodeOk t))
 
 abbrev μ-loop : tie.MeasureT-loop
-μ-loop t n x₀ x = nodeCount t - x
+μ-loop t n ok₀ x₀ ok x = nodeCount t - x
 
 shared-slice-read-n : tie.Need-shared-slice-read-n Inv-loop μ-loop
 shared-slice-read-n c = omega (arith, header-long (c .before .before .args .table .now) (c .before .before .pre))
@@ -24,39 +22,33 @@ shared-slice-read-n c = omega (arith, header-long (c .before .before .args .tabl
 loop-holds : tie.Need-loop-holds Inv-loop μ-loop
 loop-holds c =
     let t = c .before .before .args .table .now in
-    (omega arith, none-below (nodeOk t))
+    (omega arith, sym (none-below (nodeOk t)))
 
 node-ok-requires : tie.Need-node-ok-requires Inv-loop μ-loop
 node-ok-requires c κs =
     let s = c .before .before .before .before in
     omega (arith, well-sized (s .args .table .now) (s .pre))
 
-returns : tie.Need-returns Inv-loop μ-loop
-returns c =
-    let t = c .before .before .before .before .before .before .args .table .now in
-    let l = c .before .before .before .loop in
-    let r = c .before .node-ok in
-    one-fails (nodeOk t) (nodeCount t) (l .x) (omega arith) (sym (r .ensures) ∙ not-true (r .result) (c .if1 .taken))
-
 add-x : tie.Need-add-x Inv-loop μ-loop
-add-x c = let s = c .before .before .before .before .before .before in omega (arith, well-sized (s .args .table .now) (s .pre))
+add-x c =
+    let s = c .before .before .before .before .before in
+    omega (arith, well-sized (s .args .table .now) (s .pre))
 
 loop-less : tie.Need-loop-less Inv-loop μ-loop
 loop-less c = omega arith
 
 loop-again : tie.Need-loop-again Inv-loop μ-loop
 loop-again c =
-    let t = c .before .before .before .before .before .before .args .table .now in
-    let l = c .before .before .before .loop in
-    let r = c .before .node-ok in
-    (omega arith, one-more (nodeOk t) (l .x) (l .inv .1) (sym (r .ensures) ∙ not-false (r .result) (c .if1 .left)))
+    let t = c .before .before .before .before .before .args .table .now in
+    let l = c .before .before .loop in
+    (omega arith, one-tested (nodeOk t) (l .x) (l .inv .1) (c .node-ok .ensures))
 
-returns-2 : tie.Need-returns-2 Inv-loop μ-loop
-returns-2 c =
+returns : tie.Need-returns Inv-loop μ-loop
+returns c =
     let t = c .before .before .before .before .args .table .now in
     let l = c .before .loop in
     let e : l .x ≡ nodeCount t = omega arith in
-    sym (l .inv .1) ∙ ap (λ n. allBelow n (nodeOk t)) e
+    l .inv .1 ∙ ap (λ n. allBelow n (nodeOk t)) e
 
 pub nodes-ok-spec : {M : Type 1} → statement M
 nodes-ok-spec =
@@ -67,8 +59,7 @@ nodes-ok-spec =
     shared-slice-read-n
     loop-holds
     node-ok-requires
-    returns
     add-x
     loop-less
     loop-again
-    returns-2)
+    returns)

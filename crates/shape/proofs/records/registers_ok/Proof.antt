@@ -1,27 +1,7 @@
--- The flag of the chain is followed from register to register.
-use mathlib.Core.Path.{_≡_, refl, _∙_}
-use mathlib.Core.Bool.{_&&_}
-use lib.ListN.{getD}
-use Rattle.machine.specs.Shape.{nodeOrNone}
-use Rattle.layout.proofs.Laws.Chains.{passed, failed, met}
+-- `shape::records::registers_ok` meets its contract: the four tests.
 use borrow.Author.Needs.{needs}
-use Rattle.shape.proofs.records.node_or_none.Reads as node-or-none-reads
 use Rattle.shape.proofs.records.registers_ok.Statement.{statement}
 use Rattle.shape.proofs.records.registers_ok.Tie as tie
-use Rattle.shape.proofs.records.registers_ok.Reads as reads
-use Rattle.shape.proofs.records.registers_ok.Lts as lts
-
-flag :
-    (c : lts.Joined2 (node-or-none-reads.Asked, node-or-none-reads.Learnt) reads.Pre reads.Post)
-    → let a = c .before .before .before .args in
-    c .if2 .if3
-    ≡ nodeOrNone (a .slots) (getD (a .t2) 0 0)
-    && nodeOrNone (a .slots) (getD (a .t2) 1 0)
-    && nodeOrNone (a .slots) (getD (a .t2) 2 0)
-flag c =
-    met _ (c .if2 .came) (λ p. (p .0 .taken, p .2 ∙ p .1 .ensures)) (λ p. (p .0 .left, p .1))
-    (met _ (c .before .if1 .came) (λ p. (p .0 .taken, p .2 ∙ p .1 .ensures)) (λ p. (p .0 .left, p .1))
-    (c .before .before .node-or-none .ensures))
 
 array-read-node-or-none : tie.Need-array-read-node-or-none
 array-read-node-or-none c = search needs
@@ -48,10 +28,13 @@ node-or-none-requires-4 : tie.Need-node-or-none-requires-4
 node-or-none-requires-4 c κs = search needs
 
 returns : tie.Need-returns
-returns c = passed (flag (c .before .before)) (c .before .if3 .taken) (c .node-or-none4 .ensures)
-
-returns-2 : tie.Need-returns-2
-returns-2 c = failed _ (flag (c .before)) (c .if3 .left) refl
+returns c =
+    rw (
+      c .before .before .before .node-or-none .ensures,
+      c .before .before .node-or-none2 .ensures,
+      c .before .node-or-none3 .ensures,
+      c .node-or-none4 .ensures,
+    )
 
 pub registers-ok-spec : {M : Type 1} → statement M
 registers-ok-spec =
@@ -65,5 +48,4 @@ registers-ok-spec =
     node-or-none-requires-3
     array-read-node-or-none-4
     node-or-none-requires-4
-    returns
-    returns-2)
+    returns)
