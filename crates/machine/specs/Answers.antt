@@ -1,15 +1,15 @@
 -- The answers' numbers: of start and begin, the words that a run writes for a tick, and the answer that such words stand
 -- for.
-use mathlib.Core.Bool.{Bool, true, false}
+use mathlib.Core.Bool.{Bool, true, false, cond}
 use mathlib.Core.List.{List, _∷_}
 use mathlib.Core.Option.{Option, some, none as nothing}
 use Prim.Native.Nat.{ℕ}
-use Rattle.tag.specs.Tags.{billion, tagOf, tagWords}
+use Rattle.tag.specs.Tags.{tagOf, isTag, tagWords}
 use Rattle.machine.specs.declared.Answer.{Answer}
 use Rattle.machine.specs.declared.Answer.the-variants.{Going, Pushed, Bag, Empty, Full, Yes, No, Refused}
 use Rattle.machine.specs.declared.Reply.{Reply}
 use Rattle.machine.specs.declared.Reply.the-variants.{Accepted, Refused as Reply-Refused}
-use Rattle.machine.specs.Choice.{_≟_, _<?_, if_then_else_}
+use Rattle.machine.specs.Choice.{_≟_, if_then_else_}
 
 -- Of start and begin: 0, or the refusal.
 abbrev pub replyNumber : Reply → ℕ
@@ -79,9 +79,10 @@ plainAnswerOf kind =
     if kind ≟ 6 then some No else
     nothing
 
--- The answer that three words of a run stand for, or nothing: where there is no tag, both its words are 0.
+-- The answer that three words of a run stand for, or nothing: a bag's are those of a tag, and where there is no tag both are
+-- 0.
 unfoldable pub answerOf : (kind digit low : ℕ) → Option Answer
 answerOf kind digit low =
-    if kind ≟ 2 then (if low <? billion then some (Bag (tagOf digit low)) else nothing) else
+    if kind ≟ 2 then cond (isTag digit low) (some (Bag (tagOf digit low))) nothing else
     if tagOf digit low ≟ 0 then plainAnswerOf kind else
     nothing

@@ -101,7 +101,7 @@ abbrev pub isAmong : ℕ → List ℕ → Bool
 isAmong n [] = false
 isAmong n (b ∷ bs) = eqb n b || isAmong n bs
 
--- The number is the argument of a busy push, of the tasks below m.
+-- The number is the argument of a busy push, of the tasks below m. 02: "16 compares whole tags".
 unfoldable pub isBegun : List ℕ → (m n : ℕ) → Bool
 isBegun ws zero n = false
 isBegun ws (suc m) n =

@@ -33,7 +33,7 @@ pub data Call : Type 0 where
   panel-call : (list answers : List ℕ) → Call
   read-call : (out : List ℕ) → Call
 
--- What a call gives back: its answer, with the words that it wrote into a slice of its own.
+-- What a call gives back: its answer, with a slice of its own as it leaves it.
 abbrev pub Given : Call → Type 0
 Given (start-call S T g) = Reply
 Given (begin-call k op side argument) = Reply

@@ -117,7 +117,8 @@ refused t = record { writes = []; task = t; answer = Refused 11 }
 abbrev pub through : ℕ → Task → Effect → Effect
 through x t e = if x ≟ none then refused t else e
 
--- 01's swap of two words (the figure's DCAS): both are compared, then both are written.
+-- 01's swap (the figure's DCAS): both places are compared, then both are written. 02: "A swap compares and writes the digit
+-- with V as one thing": a value is compared and written whole.
 unfoldable pub dcas : {P Q : Type 0} → Dec P → Dec Q → Effect → Effect → Effect
 dcas (yes p) (yes q) done failed = done
 dcas (yes p) (no q) done failed = failed

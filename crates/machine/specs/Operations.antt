@@ -1,4 +1,4 @@
--- The operations of a task: their numbers, first steps, arguments and goals.
+-- The operations of a task: their numbers, arguments and goals.
 use mathlib.Core.Bool.{Bool}
 use Prim.Native.Nat.{ℕ}
 use lib.Dec.{leb, eqb}

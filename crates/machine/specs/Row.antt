@@ -16,7 +16,8 @@ pub record Note : Type 0 where
   pub side : Side
   pub argument : ℕ
 
--- 01: it keeps a row of bags, left end first, and for each task a note or none.
+-- 01: it keeps a row of bags, left end first, and for each task a note or none. 02: "The row of bags in the mission is a
+-- row of such tags": a bag is its tag, one number, and refusal 7 sees to it that a push's is one.
 pub record Row : Type 0 where
   pub bags : List ℕ
   pub notes : ℕ → Option Note

@@ -53,7 +53,7 @@ use Rattle.machine.specs.Table.{
 abbrev pub sizesOk : (S T growth : ℕ) → Bool
 sizesOk S T g = leb 2 S && leb S 1024 && leb 1 T && leb T 16 && leb g 64
 
--- Refusal 3: under 28 words, which is the length of the least sizes, header S, T or growth out of range, or length not matching.
+-- Refusal 3: under 28 words (02), which is the length of the least sizes, header S, T or growth out of range, or length not matching.
 abbrev pub lengthOk : List ℕ → Bool
 lengthOk ws =
     leb (tableLength 2 1) (length ws)
@@ -84,14 +84,14 @@ headerOk ws =
     && ltb (hat ws left) (nodeCount ws)
     && ltb (hat ws right) (nodeCount ws)
 
--- 01: links and V are as above.
+-- 01: links and V are as above; 02: V with its digit.
 unfoldable pub nodeOk : List ℕ → ℕ → Bool
 nodeOk ws x =
     nodeOrNone (nodeCount ws) (linkWord ws left x)
     && nodeOrNone (nodeCount ws) (linkWord ws right x)
     && valueOk (valueWords ws x)
 
--- 01: value read is as V may be (a bag at 51; LN or LX at 48, mirrored on the left).
+-- 01: value read is as V may be (a bag at 51; LN or LX at 48, mirrored on the left); 02: with its digit.
 abbrev pub valueReadOk : Side → (step : ℕ) → Stored → Bool
 valueReadOk s step u =
     cond (eqb step (stepNumber line51)) (bagOk u)

@@ -12,7 +12,8 @@ use Rattle.machine.specs.Steps.{Step, rest, stepNumber, stepOf}
 abbrev pub none : ℕ
 none = 65535
 
--- 01: operation, step, side, argument, counted, value read, and four registers, node numbers or none.
+-- 01: operation, step, side, argument, counted, value read, and four registers, node numbers or none. Argument and value
+-- read include the digit that 02 gives them.
 pub record Task : Type 0 where
   pub operation : Operation
   pub step : Step
@@ -51,7 +52,7 @@ register t inB = t .B
 register t inC = t .C
 register t inD = t .D
 
--- 01: the task's goal, where the table grows by `growth` nodes at a time.
+-- 01: the task's goal, where growth is the table's.
 abbrev pub goal : (growth : ℕ) → Task → ℕ
 goal growth t = goalOf (t .operation) growth (t .argument)
 

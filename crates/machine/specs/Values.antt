@@ -26,7 +26,7 @@ infix 4 _≟ᵛ_
 abbrev pub _≟ᵛ_ : (u v : Value) → Dec (u ≡ v)
 _≟ᵛ_ u v = Value-discrete u v
 
--- ---- The words of a value. No later file says how many they are.
+-- ---- The words of a value. Of the later files only `Tasks`, which numbers a record's words, knows how many they are.
 abbrev pub storedLength : ℕ
 storedLength = 2
 
@@ -41,7 +41,7 @@ storedAt ws i = record { word = getD ws i 0; digit = getD ws (i + 1) 0 }
 abbrev pub sameStored : Stored → Stored → Bool
 sameStored u w = eqb (u .word) (w .word) && eqb (u .digit) (w .digit)
 
--- A call's argument as it is given. 02: "digit first".
+-- A call's argument as our begin is given it: the digit first, as in what a read and a run write.
 abbrev pub storedOf : (digit low : ℕ) → Stored
 storedOf digit low = record { word = low; digit = digit }
 
@@ -92,7 +92,8 @@ decode u =
     if u .word ≟ encode (X right) .word then X right else
     Y right))
 
--- 01: a table of the six marks gives each its mirror: LN with RN, LX with RX, LY with RY.
+-- What 01's table of mirrors gave: LN with RN, LX with RX, LY with RY. (2026-02's sum is shown to give the same: `layout`,
+-- `Mirrors`.)
 abbrev pub mirror : Value → Value
 mirror never = never
 mirror (bag n) = bag n

@@ -1,5 +1,5 @@
 // What the definitions and the code share by value: the words of a value, the answers of the calls, and the numbers of
-// a tick's.
+// a tick's answer.
 ghost use mathlib.Core.Path.{_≡_};
 ghost use Rattle.machine.specs.Answers.{kindOf, payloadOf};
 

@@ -50,7 +50,7 @@ lastDigits (suc k) n = lastDigits k (n / 10) ++ (n % 10 ∷ [])
 abbrev pub tenDigits : ℕ → List ℕ
 tenDigits n = lastDigits 10 n
 
--- The number of decimal digits, the highest first, that follow those of n.
+-- The number that the digits of n and then these make, the highest first.
 unfoldable pub numberFrom : (n : ℕ) (digits : List ℕ) → ℕ
 numberFrom n [] = n
 numberFrom n (d ∷ ds) = numberFrom (n * 10 + d) ds

@@ -5,13 +5,14 @@ use mathlib.Core.Logic.{_≢_}
 use mathlib.Core.Bool.{true}
 use mathlib.Core.List.{List, [], _∷_}
 use Prim.Native.Nat.{ℕ, _≤_, _<_, zero-le}
+use native.Mathlib.Omega.{arith}
 use Rattle.tag.specs.Tags.{largestTag}
 use Rattle.machine.specs.declared.Answer.{Answer}
 use Rattle.machine.specs.declared.Answer.the-variants.{Going, Pushed, Bag, Empty, Full, Yes, No, Refused}
 use Rattle.machine.specs.Answers.{payloadOf, refusalOf}
 use Rattle.machine.specs.Choice.{_≟_, if_then_else_}
 use Rattle.machine.specs.Sides.{Side, opposite}
-use Rattle.machine.specs.Values.{Value, N, X, Y, encode, valueOk}
+use Rattle.machine.specs.Values.{Value, N, X, Y, stored, encode, bagOk, valueOk}
 use Rattle.machine.specs.Steps.{Step}
 use Rattle.machine.specs.Tasks.{Task, fresh, none, goal}
 use Rattle.machine.specs.Lines.{
@@ -34,6 +35,8 @@ use Rattle.machine.proofs.Words.ValueLaws.{
   Y-mark,
   mark-has-word,
   mark-value-ok,
+  number-stored,
+  bag-range,
 }
 use Rattle.machine.proofs.Shape.BusyLaws.{NodeOrNone, BusyAt, BusyFacts, value-read-ok}
 
@@ -55,7 +58,7 @@ WritesFit S (w ∷ l) = WriteFits S w × WritesFit S l
 abbrev pub AnswerFits : Answer → Type 0
 AnswerFits Going = Unit {0}
 AnswerFits Pushed = Unit {0}
-AnswerFits (Bag b) = b ≤ largestTag
+AnswerFits (Bag b) = bagOk (stored b) ≡ true
 AnswerFits Empty = Unit {0}
 AnswerFits Full = Unit {0}
 AnswerFits Yes = Unit {0}
@@ -75,7 +78,7 @@ answer-made (Refused n) h = absurd h
 pub answer-tag : (a : Answer) → AnswerFits a → payloadOf a ≤ largestTag
 answer-tag Going h = zero-le
 answer-tag Pushed h = zero-le
-answer-tag (Bag b) h = h
+answer-tag (Bag b) h = let most = bag-range (stored b) h .1 in let is = number-stored b in omega arith
 answer-tag Empty h = zero-le
 answer-tag Full h = zero-le
 answer-tag Yes h = zero-le

@@ -1,18 +1,16 @@
 -- The lines of a pop fit: 39 to 51.
-use mathlib.Core.Path.{_≡_, refl, sym, ap, _∙_}
+use mathlib.Core.Path.{_≡_, refl, sym, ap, subst}
 use mathlib.Core.Bool.{true}
-use Prim.Native.Nat.{ℕ, _≤_}
-use native.Mathlib.Omega.{arith}
-use Rattle.tag.specs.Tags.{largestTag}
+use Prim.Native.Nat.{ℕ}
 use Rattle.machine.specs.Choice.{_≟_}
 use Rattle.machine.specs.Sides.{opposite}
-use Rattle.machine.specs.Values.{Value, never, bag, N, X, Y, _≟ᵛ_, stored, encode, sameStored}
+use Rattle.machine.specs.Values.{Value, never, bag, N, X, Y, _≟ᵛ_, stored, encode, bagOk, sameStored}
 use Rattle.machine.specs.Steps.{line39, line40, line42, line48, line51, stepNumber, isStepIn}
 use Rattle.machine.specs.Tasks.{Task, goto, withValue}
 use Rattle.machine.specs.Shape.{valueReadOk}
 use Rattle.machine.specs.Lines.{Memory, afterRead, bagOf, act}
 use Rattle.machine.proofs.Basics.Tests.{or-left, or-right}
-use Rattle.machine.proofs.Words.ValueLaws.{HasWord, number-stored, bag-range, decoded-bag, stored-same}
+use Rattle.machine.proofs.Words.ValueLaws.{HasWord, decoded-bag, stored-same}
 use Rattle.machine.proofs.Shape.BusyLaws.{BusyAt, BusyFacts, bag-at-51}
 use Rattle.machine.proofs.Shape.Fits.{
   ValueFits,
@@ -99,12 +97,8 @@ module _ (S g : ℕ) (m : Memory) (M : MemoryFits S m) (t : Task) (f : ℕ) wher
       (goes-on tt (moves F (lands (part F) refl))))
 
   -- The tag of the bag that was read.
-  tag-at-51 : BusyAt S g line51 t → bagOf (t .value) ≤ largestTag
-  tag-at-51 F =
-      let b = bag-at-51 F in
-      let is = ap bagOf (b .1) ∙ sym (number-stored (b .0)) in
-      let most = bag-range (stored (b .0)) (b .2) .1 in
-      omega arith
+  tag-at-51 : BusyAt S g line51 t → bagOk (stored (bagOf (t .value))) ≡ true
+  tag-at-51 F = let b = bag-at-51 F in subst (λ v. bagOk (stored (bagOf v)) ≡ true) (sym (b .1)) (b .2)
 
   pub line51-fits : LineFits S g m t f line51
   unfolding act isStepIn

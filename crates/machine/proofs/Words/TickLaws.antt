@@ -1,5 +1,5 @@
 -- What a tick that is made does to the view and to the tasks.
-use mathlib.Core.Path.{_≡_, refl, ap, _∙_}
+use mathlib.Core.Path.{_≡_, refl, sym, ap, _∙_, subst}
 use mathlib.Core.Bool.{Bool, true, false}
 use mathlib.Core.List.{List}
 use mathlib.Core.Option.{Option, some, none as nothing}
@@ -33,7 +33,7 @@ use Rattle.machine.proofs.Words.ValueLaws.{HasWord, never-has-word}
 use Rattle.machine.proofs.Words.Columns.{sizesOf, columns, putTickCount, putRecord, putAll}
 use Rattle.machine.proofs.Words.EffectLaws.{AllInRange, effectWords, columns-effect, viewed-effect, task-effect}
 use Rattle.machine.proofs.Shape.ShapeLaws.{WellSized, WellShaped, well-shaped}
-use Rattle.machine.proofs.Shape.Fits.{Fits, turns-back, goes-on, ends, answer-tag}
+use Rattle.machine.proofs.Shape.Fits.{AnswerFits, answer-tag, Fits, turns-back, goes-on, ends}
 use Rattle.machine.proofs.Shape.WritesKeep.{all-in-range}
 use Rattle.machine.proofs.Shape.TickKeeps.{tick-allowed, effect-fits}
 
@@ -148,6 +148,24 @@ small-number false n others h rest m e = let q : n ≡ m = cc in omega arith
 
 no-number : (m : ℕ) → nothing ≡ some m → m ≤ largestTag
 no-number m e = clash (cc)
+
+-- A tick that is made ends with an answer that fits.
+fit-answer : (S g : ℕ) {e : Effect} → Fits S g e → refusalOf (e .answer) ≡ nothing → AnswerFits (e .answer)
+fit-answer S g turns-back made = clash (cc)
+fit-answer S g (goes-on fit F) made = tt
+fit-answer S g (ends fit answers) made = answers
+
+pub made-answer-fits :
+    (ws : List ℕ) (k h : ℕ)
+    → WellShaped (columns ws)
+    → tickRefusal ws k h ≡ nothing
+    → refusalOf (tickOn ws k h .answer) ≡ nothing
+    → AnswerFits (tickOn ws k h .answer)
+made-answer-fits ws k h W e made =
+    let a = tick-allowed ws k h e in
+    let is = tick-answer ws k h e in
+    subst AnswerFits (sym is)
+    (fit-answer (nodeCount ws) (growth ws) (effect-fits ws W k h (a .1) (a .2)) (ap refusalOf (sym is) ∙ made))
 
 pub tick-on-number : (ws : List ℕ) (k h : ℕ) → WellShaped (columns ws) → payloadOf (tickOn ws k h .answer) ≤ largestTag
 tick-on-number ws k h W = go (tickRefusal ws k h) refl

@@ -6,11 +6,10 @@ use Prim.Native.Nat.{ℕ, zero, suc}
 use native.Mathlib.Omega.{arith}
 use native.Mathlib.Decide.{ℕ-discrete}
 use lib.ListN.{drop}
-use Rattle.tag.specs.Tags.{billion, digitOf, lowOf}
-use Rattle.tag.proofs.TagLaws.{tag-of-words, low-small}
+use Rattle.tag.specs.Tags.{digitOf, lowOf}
+use Rattle.tag.proofs.TagLaws.{tag-of-words}
 use Rattle.machine.specs.declared.Answer.{Answer}
 use Rattle.machine.specs.declared.Answer.the-variants.{Going, Pushed, Bag, Empty, Full, Yes, No, Refused}
-use Rattle.machine.specs.Choice.{_<?_}
 use Rattle.machine.specs.Answers.{
   kindOf,
   payloadOf,
@@ -34,8 +33,9 @@ use Rattle.machine.specs.Calls.{
 }
 use Rattle.machine.specs.Row.{Row, feedRun}
 use Rattle.machine.specs.Demand3.{run-call, panel-call, afterTicks, WithinList, Within}
-use Rattle.machine.proofs.Basics.Contradiction.{clash}
-use Rattle.machine.proofs.Basics.Choices.{if-yes}
+use Rattle.machine.proofs.Words.TickLaws.{made-answer-fits}
+use Rattle.machine.proofs.Shape.ShapeLaws.{well-shaped}
+use Rattle.machine.proofs.Shape.Fits.{AnswerFits}
 use Rattle.machine.proofs.Words.RunLaws.{by-first, first-tick}
 use Rattle.machine.proofs.Linearizability.Calls.Agreement.{Agrees, lane-is-row}
 use Rattle.machine.proofs.Linearizability.Calls.MadeTicks.{MadeTick, made-tick}
@@ -43,16 +43,16 @@ use Rattle.machine.proofs.Linearizability.Calls.CallsAgree.{Explains}
 
 -- The words of an answer stand for it.
 answer-back :
-    (a : Answer) → refusalOf a ≡ nothing → answerOf (kindOf a) (digitOf (payloadOf a)) (lowOf (payloadOf a)) ≡ some a
+    (a : Answer) → AnswerFits a → answerOf (kindOf a) (digitOf (payloadOf a)) (lowOf (payloadOf a)) ≡ some a
 unfolding answerOf plainAnswerOf ℕ-discrete
-answer-back Going e = refl
-answer-back Pushed e = refl
-answer-back (Bag b) e = if-yes (lowOf b <? billion) _ _ (low-small b) ∙ ap (λ n. some (Bag n)) (tag-of-words b)
-answer-back Empty e = refl
-answer-back Full e = refl
-answer-back Yes e = refl
-answer-back No e = refl
-answer-back (Refused n) e = clash (cc)
+answer-back Going h = refl
+answer-back Pushed h = refl
+answer-back (Bag b) h = rw h (ap (λ n. some (Bag n)) (tag-of-words b))
+answer-back Empty h = refl
+answer-back Full h = refl
+answer-back Yes h = refl
+answer-back No h = refl
+answer-back (Refused n) h = absurd h
 
 -- What a list of ticks comes to, one after another.
 record RunExplained (list ws : List ℕ) (ρ : Row) (r : RunDone) : Type 0 where
@@ -73,23 +73,31 @@ none-made {ws} {ρ} A n list answers =
     at-once (suc i) h = absurd (omega arith)
 
 -- One tick is made, and then the others.
-one-made : {ws : List ℕ} {ρ : Row} (A : Agrees ws ρ) (k h : ℕ) (list : List ℕ) (M : MadeTick ws ρ k h) (r : RunDone)
+one-made : {ws : List ℕ} {ρ : Row} (A : Agrees ws ρ) (k h : ℕ) (list : List ℕ) (M : MadeTick ws ρ k h)
+    → tickRefusal ws k h ≡ nothing
+    → (r : RunDone)
     → RunExplained list (tickOn ws k h .words) (M .row) r
     → RunExplained (k ∷ h ∷ list) ws ρ (afterTick (tickOn ws k h .answer) r)
 unfolding feedRun afterTicks bind
-one-made {ws} {ρ} A k h list M r R =
+one-made {ws} {ρ} A k h list M allowed r R =
     record {
       row = R .row;
-      given-by-row = rw (answer-back (tickOn ws k h .answer) (M .no-number), M .given) (R .given-by-row);
+      given-by-row = rw (words-back, M .given) (R .given-by-row);
       agrees = R .agrees;
       within = at;
     }
   where
+    words-back :
+        let a = tickOn ws k h .answer in answerOf (kindOf a) (digitOf (payloadOf a)) (lowOf (payloadOf a)) ≡ some a
+    words-back =
+        answer-back (tickOn ws k h .answer)
+        (made-answer-fits ws k h (well-shaped ws (A .accepted .shape-passes)) allowed (M .no-number))
+
     at : WithinList (k ∷ h ∷ list) ws ρ (afterTick (tickOn ws k h .answer) r)
     at zero l = (ρ, refl, lane-is-row A)
     at (suc i) l =
         let x = R .within i (omega arith) in
-        (x .0, rw (answer-back (tickOn ws k h .answer) (M .no-number), M .given) (x .1), x .2)
+        (x .0, rw (words-back, M .given) (x .1), x .2)
 
 refused-tick : (ws : List ℕ) (k h n : ℕ) → tickRefusal ws k h ≡ some n → refusalOf (tickOn ws k h .answer) ≡ some n
 unfolding tickOn
@@ -117,7 +125,7 @@ ticks-explained (k ∷ h ∷ list) {ws} {ρ} answers A =
         let M = made-tick A k h e in
         subst (RunExplained (k ∷ h ∷ list) ws ρ)
         (sym (first-tick k h list ws answers nothing (M .no-number)))
-        (one-made A k h list M (runOn list (tickOn ws k h .words) (drop answerLength answers)) (others M))
+        (one-made A k h list M e (runOn list (tickOn ws k h .words) (drop answerLength answers)) (others M))
 
 module _ {ws : List ℕ} {ρ : Row} (A : Agrees ws ρ) (list answers : List ℕ) where
   -- Whatever the tests were.
