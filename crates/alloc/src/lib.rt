@@ -25,6 +25,7 @@ ghost use lib.Dec.{eqb};
 ghost use Rattle.machine.specs.Tasks.{none};
 ghost use Rattle.machine.specs.Table.{nodeCount, taskCount};
 ghost use Rattle.machine.specs.Shape.{lengthOk};
+ghost use Rattle.machine.specs.Round.{following};
 ghost use Rattle.machine.specs.Allocate.{
   heldBy,
   heldFrom,
@@ -33,7 +34,6 @@ ghost use Rattle.machine.specs.Allocate.{
   markAll,
   visit,
   visitFrom,
-  following,
   firstUnmarked,
   allocate,
 };

@@ -5,3 +5,4 @@ pub mod Choices
 pub mod Tests
 pub mod Updates
 pub mod Everywhere
+pub mod Rounds

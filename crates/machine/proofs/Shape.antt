@@ -11,4 +11,5 @@ pub mod RemoveFits
 pub mod LinesFit
 pub mod WritesKeep
 pub mod TickKeeps
+pub mod DispatchCases
 pub mod ShapeKept

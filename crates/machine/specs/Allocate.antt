@@ -5,6 +5,7 @@ use mathlib.Core.List.{List, [], _∷_, _++_}
 use Prim.Native.Nat.{ℕ, zero, suc, _+_}
 use lib.Dec.{ltb, eqb}
 use lib.ListN.{getD, set, replicate}
+use Rattle.machine.specs.Round.{following}
 use Rattle.machine.specs.Sides.{left, right}
 use Rattle.machine.specs.Tasks.{Task, none, inA, inB, inC, inD}
 use Rattle.machine.specs.Registers.{heldIn}
@@ -63,10 +64,6 @@ visitFrom ws (suc n) i m =
 -- The marking of all that the roots reach: each node is queued once, so the queue's length is enough.
 unfoldable pub marked : List ℕ → Marking
 marked ws = visitFrom ws largestCount 0 (markAll (nodeCount ws) unmarked (roots ws))
-
--- 01: upward, going round past S - 1 to 0.
-abbrev pub following : (S i : ℕ) → ℕ
-following S i = cond (ltb (i + 1) S) (i + 1) 0
 
 -- The first of n nodes from i on that has no mark, or none.
 unfoldable pub firstUnmarked : (S : ℕ) → List ℕ → (n i : ℕ) → ℕ

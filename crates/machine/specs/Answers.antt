@@ -7,6 +7,8 @@ use Prim.Native.Nat.{ℕ}
 use Rattle.tag.specs.Tags.{tagOf, isTag, tagWords}
 use Rattle.machine.specs.declared.Answer.{Answer}
 use Rattle.machine.specs.declared.Answer.the-variants.{Going, Pushed, Bag, Empty, Full, Yes, No, Refused}
+use Rattle.machine.specs.declared.Dispatch.{Dispatch}
+use Rattle.machine.specs.declared.Dispatch.the-variants.{Idle, Answered}
 use Rattle.machine.specs.declared.Reply.{Reply}
 use Rattle.machine.specs.declared.Reply.the-variants.{Accepted, Refused as Reply-Refused}
 use Rattle.machine.specs.Choice.{_≟_, if_then_else_}
@@ -39,6 +41,15 @@ payloadOf Yes = 0
 payloadOf No = 0
 payloadOf (Refused n) = n
 
+-- Of a dispatch: the tick's, and kind 8 for "idle".
+abbrev pub dispatchKindOf : Dispatch → ℕ
+dispatchKindOf Idle = 8
+dispatchKindOf (Answered a) = kindOf a
+
+abbrev pub dispatchPayloadOf : Dispatch → ℕ
+dispatchPayloadOf Idle = 0
+dispatchPayloadOf (Answered a) = payloadOf a
+
 -- 02: a run's answer slice holds three words a tick: the kind, and two words for the tag, digit first.
 abbrev pub answerLength : ℕ
 answerLength = 3
@@ -56,6 +67,11 @@ refusalOf Full = nothing
 refusalOf Yes = nothing
 refusalOf No = nothing
 refusalOf (Refused n) = some n
+
+-- Of a dispatch: "idle" is none.
+abbrev pub dispatchRefusalOf : Dispatch → Option ℕ
+dispatchRefusalOf Idle = nothing
+dispatchRefusalOf (Answered a) = refusalOf a
 
 -- The answers that end a call: all but "going" and the refusals.
 abbrev pub endsCall : Answer → Bool

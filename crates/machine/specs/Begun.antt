@@ -3,10 +3,12 @@ use mathlib.Core.Path.{_≡_}
 use mathlib.Core.Bool.{Bool, cond, _&&_}
 use mathlib.Core.List.{List, [], _∷_}
 use mathlib.Core.Option.{Option, some, none as nothing}
-use Prim.Native.Nat.{ℕ, zero, suc, _+_}
+use Prim.Native.Nat.{ℕ, zero, suc, _+_, _-_}
 use lib.Dec.{eqb}
 use Rattle.machine.specs.declared.Answer.{Answer}
 use Rattle.machine.specs.declared.Answer.the-variants.{Pushed, Bag}
+use Rattle.machine.specs.declared.Dispatch.{Dispatch}
+use Rattle.machine.specs.declared.Dispatch.the-variants.{Idle, Answered}
 use Rattle.machine.specs.declared.Reply.{Reply}
 use Rattle.machine.specs.declared.Reply.the-variants.{Accepted, Refused as Reply-Refused}
 use Rattle.machine.specs.Choice.{_≟_, if_then_else_}
@@ -15,12 +17,13 @@ use Rattle.machine.specs.Values.{number}
 use Rattle.machine.specs.Operations.{Operation, push, pop, operationNumber, operationOf}
 use Rattle.machine.specs.Answers.{kindOf, payloadOf, refusalOf, answerOf}
 use Rattle.machine.specs.Calls.{start}
-use Rattle.machine.specs.Row.{Note, isGoing}
+use Rattle.machine.specs.Row.{Note, isGoing, nextNoted}
 use Rattle.machine.specs.Demand3.{
   Call,
   start-call,
   begin-call,
   tick-call,
+  dispatch-call,
   run-call,
   panel-call,
   read-call,
@@ -51,14 +54,17 @@ pub record Finished : Type 0 where
   pub note : Note
   pub answer : Answer
 
--- Each task's note, or none, and the operations finished, the latest first.
+-- Each task's note, or none, how many tasks there are and the one last dispatched, as in the row; and the operations
+-- finished, the latest first.
 pub record History : Type 0 where
   pub notes : ℕ → Option Note
+  pub tasks : ℕ
+  pub dispatched : ℕ
   pub finished : List Finished
 
 -- An accepted start: no notes, and nothing is finished.
-abbrev pub noHistory : History
-noHistory = record { notes = λ k. nothing; finished = [] }
+abbrev pub noHistory : (T : ℕ) → History
+noHistory T = record { notes = λ k. nothing; tasks = T; dispatched = T - 1; finished = [] }
 
 -- The notes, with that of task k replaced.
 abbrev pub withNote : (ℕ → Option Note) → ℕ → Option Note → ℕ → Option Note
@@ -70,6 +76,8 @@ finish η k nothing a = η
 finish η k (some n) a =
     record {
       notes = withNote (η .notes) k nothing;
+      tasks = η .tasks;
+      dispatched = η .dispatched;
       finished = record { note = n; answer = a } ∷ η .finished;
     }
 
@@ -91,21 +99,43 @@ recordRun η (suc n) (k ∷ h ∷ list) (kind ∷ digit ∷ low ∷ answers) =
       | nothing ↦ η
     ]
 
+-- A dispatch: where it ticked, the tick of the next task with a note.
+abbrev pub recordDispatched : History → Option ℕ → Answer → History
+recordDispatched η nothing a = η
+recordDispatched η (some k) a =
+    let η′ = recordMade η k a in
+    record { notes = η′ .notes; tasks = η′ .tasks; dispatched = k; finished = η′ .finished }
+
+abbrev pub recordDispatch : History → Dispatch → History
+recordDispatch η Idle = η
+recordDispatch η (Answered a) =
+    elim (refusalOf a) as (λ _. History) [
+      | some n ↦ η
+      | nothing ↦ recordDispatched η (nextNoted (η .notes) (η .tasks) (η .dispatched)) a
+    ]
+
 -- A start with its reply, and a begin of task k with a note and its reply.
-abbrev pub recordStart : History → Reply → History
-recordStart η Accepted = noHistory
-recordStart η (Reply-Refused n) = η
+abbrev pub recordStart : History → (T : ℕ) → Reply → History
+recordStart η T Accepted = noHistory T
+recordStart η T (Reply-Refused n) = η
 
 abbrev pub recordBegin : History → ℕ → Note → Reply → History
-recordBegin η k n Accepted = record { notes = withNote (η .notes) k (some n); finished = η .finished }
+recordBegin η k n Accepted =
+    record {
+      notes = withNote (η .notes) k (some n);
+      tasks = η .tasks;
+      dispatched = η .dispatched;
+      finished = η .finished;
+    }
 recordBegin η k n (Reply-Refused r) = η
 
 -- A call, with what it gave back.
 abbrev pub recordCall : History → (c : Call) → Given c → History
-recordCall η (start-call S T g) r = recordStart η r
+recordCall η (start-call S T g) r = recordStart η T r
 recordCall η (begin-call k op side argument) r =
     recordBegin η k (record { operation = operationOf op; side = sideOf side; argument = number argument }) r
 recordCall η (tick-call k h) a = elim (refusalOf a) as (λ _. History) [ some n ↦ η | nothing ↦ recordMade η k a ]
+recordCall η (dispatch-call h) r = recordDispatch η r
 recordCall η (run-call list answers) r = recordRun η (r .0 .made) list (r .1)
 recordCall η (panel-call list answers) r = recordRun η (r .0 .made) list (r .1)
 recordCall η (read-call out) r = η

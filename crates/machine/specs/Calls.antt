@@ -8,6 +8,8 @@ use lib.ListN.{length, drop}
 use Rattle.tag.specs.Tags.{allTagWords}
 use Rattle.machine.specs.declared.Answer.{Answer}
 use Rattle.machine.specs.declared.Answer.the-variants.{Refused}
+use Rattle.machine.specs.declared.Dispatch.{Dispatch}
+use Rattle.machine.specs.declared.Dispatch.the-variants.{Idle, Answered}
 use Rattle.machine.specs.declared.Reply.{Reply}
 use Rattle.machine.specs.declared.Reply.the-variants.{Accepted, Refused as Reply-Refused}
 use Rattle.machine.specs.declared.Reading.{Reading}
@@ -15,6 +17,7 @@ use Rattle.machine.specs.declared.Reading.the-variants.{Count, Refused a
 use Rattle.machine.specs.declared.Ran.{Ran}
 use Rattle.machine.specs.declared.Stored.{Stored}
 use Rattle.machine.specs.Choice.{_≟_, if_then_else_}
+use Rattle.machine.specs.Round.{nextAfter}
 use Rattle.machine.specs.Sides.{Side, left, right, opposite, sideOf}
 use Rattle.machine.specs.Values.{never, bag, N, X, Y, number}
 use Rattle.machine.specs.Operations.{Operation, idle, push, pop, add, remove, operationOf, argumentOk}
@@ -27,12 +30,14 @@ use Rattle.machine.specs.Table.{
   growth,
   hat,
   tickCount,
+  dispatched,
   headerWords,
   nodeWords,
   link,
   value,
   task,
   setTickCount,
+  setDispatched,
   setTask,
 }
 use Rattle.machine.specs.Shape.{sizesOk, lengthOk, shapeOk}
@@ -137,6 +142,10 @@ tickRefusal ws k h =
     (unless (ltb h (nodeCount ws)) 9
     (unless (isBusy (task ws k .operation)) 10 nothing))
 
+-- 02: "The caller still gives the hint, tested as in tick, before the choice."
+abbrev pub dispatchRefusal : List ℕ → (hint : ℕ) → Option ℕ
+dispatchRefusal ws h = tableRefusal ws (unless (ltb h (nodeCount ws)) 9 nothing)
+
 -- The tests that a run and the panel's list begin with, and the one that both end with: room for the words of each tick.
 abbrev pub listRefusal : (ws list : List ℕ) → Option ℕ → Option ℕ
 listRefusal ws list others =
@@ -168,10 +177,10 @@ times zero l = []
 times (suc n) l = l ++ times n l
 
 -- 01: slot 0 as L none, R 1, V LX and slot 1 as L 0, R none, V RX. The hats are 0 and 1, other slots have no links and
--- V 0, the tick count is 0 and all tasks are idle.
+-- V 0, the tick count is 0 and all tasks are idle. 02: "A start writes T - 1 there", as the task last dispatched.
 unfoldable pub startWords : (S T growth : ℕ) → List ℕ
 startWords S T g =
-    headerWords S T g 0 1 0
+    headerWords S T g 0 1 0 (T - 1)
     ++ (nodeWords none 1 (X left)
     ++ (nodeWords 0 none (X right)
     ++ (times (S - 2) (nodeWords none none never)
@@ -237,6 +246,42 @@ tick ws k h =
     elim (tableRefusal ws nothing) as (λ _. Ticked) [
       | some n ↦ record { answer = Refused n; words = ws }
       | nothing ↦ tickOn ws k h
+    ]
+
+-- ---- 2026-07: dispatch.
+pub record Dispatched : Type 0 where
+  pub answer : Dispatch
+  pub words : List ℕ
+
+abbrev pub isBusyTask : List ℕ → ℕ → Bool
+isBusyTask ws k = isBusy (task ws k .operation)
+
+-- 02: "the next busy task after the one it last ticked, going round by task number". That one itself comes last.
+abbrev pub nextBusy : List ℕ → Option ℕ
+nextBusy ws = nextAfter (taskCount ws) (isBusyTask ws) (dispatched ws)
+
+-- A tick of task k. 02: "header word 6, counted from 0, keeps that task". A refusal leaves every word as it was.
+unfoldable pub dispatchTo : List ℕ → (k hint : ℕ) → Dispatched
+dispatchTo ws k h =
+    let one = tickOn ws k h in
+    elim (refusalOf (one .answer)) as (λ _. Dispatched) [
+      | some n ↦ record { answer = Answered (one .answer); words = ws }
+      | nothing ↦ record { answer = Answered (one .answer); words = setDispatched k (one .words) }
+    ]
+
+-- 02: "With every task idle it answers "idle" and changes nothing."
+unfoldable pub dispatchOn : List ℕ → (hint : ℕ) → Dispatched
+dispatchOn ws h =
+    elim (nextBusy ws) as (λ _. Dispatched) [
+      | some k ↦ dispatchTo ws k h
+      | nothing ↦ record { answer = Idle; words = ws }
+    ]
+
+unfoldable pub dispatch : List ℕ → (hint : ℕ) → Dispatched
+dispatch ws h =
+    elim (dispatchRefusal ws h) as (λ _. Dispatched) [
+      | some n ↦ record { answer = Answered (Refused n); words = ws }
+      | nothing ↦ dispatchOn ws h
     ]
 
 -- ---- run and panel.

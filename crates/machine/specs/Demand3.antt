@@ -8,6 +8,7 @@ use lib.Dec.{leb, ltb, eqb}
 use lib.ListN.{length, take}
 use Rattle.tag.specs.Tags.{allTagWords}
 use Rattle.machine.specs.declared.Answer.{Answer}
+use Rattle.machine.specs.declared.Dispatch.{Dispatch}
 use Rattle.machine.specs.declared.Reply.{Reply}
 use Rattle.machine.specs.declared.Reply.the-variants.{Accepted, Refused as Reply-Refused}
 use Rattle.machine.specs.declared.Reading.{Reading}
@@ -19,16 +20,17 @@ use Rattle.machine.specs.Values.{number}
 use Rattle.machine.specs.Operations.{operationOf}
 use Rattle.machine.specs.Shape.{sameWords}
 use Rattle.machine.specs.Answers.{refusalOf}
-use Rattle.machine.specs.Calls.{start, begin, tick, tickOn, RunDone, run, panel, lane, read}
-use Rattle.machine.specs.Row.{Row, emptyRow, Note, noted, feedMade, feedRun}
+use Rattle.machine.specs.Calls.{start, begin, tick, tickOn, dispatch, RunDone, run, panel, lane, read}
+use Rattle.machine.specs.Row.{Row, emptyRow, Note, noted, feedMade, feedDispatch, feedRun}
 
 -- 01: the list holds start, begin, tick, run and reading the lane, with any arguments, and every call on the same table
--- that a request adds: 2026-01's panel. A run's list and answer slice and a read's out slice are that call's own: here by
+-- that a request adds: 2026-01's panel, 2026-07's dispatch. A run's list and answer slice and a read's out slice are that call's own: here by
 -- their contents when the call is made.
 pub data Call : Type 0 where
   start-call : (S T growth : ℕ) → Call
   begin-call : (k operation side : ℕ) (argument : Stored) → Call
   tick-call : (k hint : ℕ) → Call
+  dispatch-call : (hint : ℕ) → Call
   run-call : (list answers : List ℕ) → Call
   panel-call : (list answers : List ℕ) → Call
   read-call : (out : List ℕ) → Call
@@ -38,6 +40,7 @@ abbrev pub Given : Call → Type 0
 Given (start-call S T g) = Reply
 Given (begin-call k op side argument) = Reply
 Given (tick-call k h) = Answer
+Given (dispatch-call h) = Dispatch
 Given (run-call list answers) = Ran × List ℕ
 Given (panel-call list answers) = Ran × List ℕ
 Given (read-call out) = Reading × List ℕ
@@ -46,6 +49,7 @@ abbrev pub given : (c : Call) → List ℕ → Given c
 given (start-call S T g) ws = start ws S T g .reply
 given (begin-call k op side argument) ws = begin ws k op side argument .reply
 given (tick-call k h) ws = tick ws k h .answer
+given (dispatch-call h) ws = dispatch ws h .answer
 given (run-call list answers) ws = (run ws list answers .ran, run ws list answers .answers)
 given (panel-call list answers) ws = (panel ws list answers .ran, panel ws list answers .answers)
 given (read-call out) ws = (read ws out .reading, read ws out .out)
@@ -55,14 +59,15 @@ abbrev pub after : Call → List ℕ → List ℕ
 after (start-call S T g) ws = start ws S T g .words
 after (begin-call k op side argument) ws = begin ws k op side argument .words
 after (tick-call k h) ws = tick ws k h .words
+after (dispatch-call h) ws = dispatch ws h .words
 after (run-call list answers) ws = run ws list answers .words
 after (panel-call list answers) ws = panel ws list answers .words
 after (read-call out) ws = ws
 
 -- ---- The row, fed a call and what it gave back: the row afterwards, or nothing where the row does not give that.
-abbrev pub feedStart : Row → Reply → Option Row
-feedStart ρ Accepted = some emptyRow
-feedStart ρ (Reply-Refused n) = some ρ
+abbrev pub feedStart : Row → (T : ℕ) → Reply → Option Row
+feedStart ρ T Accepted = some (emptyRow T)
+feedStart ρ T (Reply-Refused n) = some ρ
 
 abbrev pub feedBegin : Row → ℕ → Note → Reply → Option Row
 feedBegin ρ k n Accepted = some (noted ρ k (some n))
@@ -84,10 +89,11 @@ feedRead ρ out (Reading-Refused n) written =
     cond (eqb n 12 && ltb (length out) (2 * length (ρ .bags))) (some ρ) nothing
 
 abbrev pub feed : Row → (c : Call) → Given c → Option Row
-feed ρ (start-call S T g) r = feedStart ρ r
+feed ρ (start-call S T g) r = feedStart ρ T r
 feed ρ (begin-call k op side argument) r =
     feedBegin ρ k (record { operation = operationOf op; side = sideOf side; argument = number argument }) r
 feed ρ (tick-call k h) a = feedTick ρ k a
+feed ρ (dispatch-call h) a = feedDispatch ρ a
 feed ρ (run-call list answers) r = feedRun ρ (r .0 .made) list (r .1)
 feed ρ (panel-call list answers) r = feedRun ρ (r .0 .made) list (r .1)
 feed ρ (read-call out) r = feedRead ρ out (r .0) (r .1)
@@ -119,6 +125,7 @@ Within (panel-call list answers) ws ρ = WithinList list ws ρ (panel ws list an
 Within (start-call S T g) ws ρ = Unit {0}
 Within (begin-call k op side argument) ws ρ = Unit {0}
 Within (tick-call k h) ws ρ = Unit {0}
+Within (dispatch-call h) ws ρ = Unit {0}
 Within (read-call out) ws ρ = Unit {0}
 
 -- The row explains a list of calls, each on the table as the one before left it.
@@ -135,4 +142,4 @@ Demand3 =
     (S T growth : ℕ) (old : List ℕ)
     → start old S T growth .reply ≡ Accepted
     → (calls : List Call)
-    → Explained calls (start old S T growth .words) emptyRow
+    → Explained calls (start old S T growth .words) (emptyRow T)

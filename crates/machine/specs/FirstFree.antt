@@ -7,7 +7,8 @@ use Prim.Native.Nat.{ℕ, zero, suc, _<_}
 use Rattle.machine.specs.Tasks.{none}
 use Rattle.machine.specs.Table.{nodeCount}
 use Rattle.machine.specs.Reach.{Reachable, Free}
-use Rattle.machine.specs.Allocate.{following, allocate}
+use Rattle.machine.specs.Round.{following}
+use Rattle.machine.specs.Allocate.{allocate}
 use Rattle.machine.specs.Calls.{tableRefusal}
 
 -- Where i steps lead from x upward, going round past S - 1 to 0.

@@ -1,4 +1,5 @@
 pub mod Choice
+pub mod Round
 pub mod Sides
 pub mod Values
 pub mod Operations

@@ -3,9 +3,10 @@ use mathlib.Core.List.{List}
 use Prim.Native.Nat.{ℕ}
 use Rattle.machine.specs.declared.Reply.{Reply}
 use Rattle.machine.specs.declared.Answer.{Answer}
+use Rattle.machine.specs.declared.Dispatch.{Dispatch}
 use Rattle.machine.specs.declared.Ran.{Ran}
 use Rattle.machine.specs.declared.Reading.{Reading}
-use Rattle.machine.specs.Calls.{Changed, Ticked, RunDone, ReadDone}
+use Rattle.machine.specs.Calls.{Changed, Ticked, Dispatched, RunDone, ReadDone}
 
 -- Of start and begin: the table afterwards.
 abbrev pub changedOf : Reply → List ℕ → Changed
@@ -14,6 +15,10 @@ changedOf r ws = record { reply = r; words = ws }
 -- Of a tick: the table afterwards.
 abbrev pub tickedOf : Answer → List ℕ → Ticked
 tickedOf a ws = record { answer = a; words = ws }
+
+-- Of a dispatch: the table afterwards.
+abbrev pub dispatchedOf : Dispatch → List ℕ → Dispatched
+dispatchedOf a ws = record { answer = a; words = ws }
 
 -- Of a run: the table and the answer slice afterwards.
 abbrev pub runDoneOf : Ran → (ws answers : List ℕ) → RunDone

@@ -2,13 +2,16 @@
 use mathlib.Core.Bool.{Bool, true, false, cond}
 use mathlib.Core.List.{List, [], _∷_, _++_, reverse}
 use mathlib.Core.Option.{Option, some, none as nothing, Option·map, bind}
-use Prim.Native.Nat.{ℕ, zero, suc}
+use Prim.Native.Nat.{ℕ, zero, suc, _-_}
 use Rattle.machine.specs.declared.Answer.{Answer}
 use Rattle.machine.specs.declared.Answer.the-variants.{Going, Pushed, Bag, Empty, Full, Yes, No, Refused}
+use Rattle.machine.specs.declared.Dispatch.{Dispatch}
+use Rattle.machine.specs.declared.Dispatch.the-variants.{Idle, Answered}
 use Rattle.machine.specs.Choice.{_≟_, if_then_else_}
+use Rattle.machine.specs.Round.{nextAfter}
 use Rattle.machine.specs.Sides.{Side, left, right}
 use Rattle.machine.specs.Operations.{Operation, idle, push, pop, add, remove}
-use Rattle.machine.specs.Answers.{answerOf}
+use Rattle.machine.specs.Answers.{refusalOf, answerOf}
 
 -- 01: the task's note is the operation, side and argument.
 pub record Note : Type 0 where
@@ -17,17 +20,33 @@ pub record Note : Type 0 where
   pub argument : ℕ
 
 -- 01: it keeps a row of bags, left end first, and for each task a note or none. 02: "The row of bags in the mission is a
--- row of such tags": a bag is its tag, one number, and refusal 7 sees to it that a push's is one.
+-- row of such tags": a bag is its tag, one number, and refusal 7 sees to it that a push's is one. Since 2026-07 also how
+-- many tasks there are, by the start's argument, and the task last dispatched.
 pub record Row : Type 0 where
   pub bags : List ℕ
   pub notes : ℕ → Option Note
+  pub tasks : ℕ
+  pub dispatched : ℕ
 
--- 01: at first the row is empty and there are no notes.
-abbrev pub emptyRow : Row
-emptyRow = record { bags = []; notes = λ k. nothing }
+-- 01: at first the row is empty and there are no notes. 02: "T - 1 after a start".
+abbrev pub emptyRow : (T : ℕ) → Row
+emptyRow T = record { bags = []; notes = λ k. nothing; tasks = T; dispatched = T - 1 }
 
+-- With one thing set.
 abbrev pub noted : Row → ℕ → Option Note → Row
-noted ρ k n = record { bags = ρ .bags; notes = λ j. if j ≟ k then n else ρ .notes j }
+noted ρ k n =
+    record {
+      bags = ρ .bags;
+      notes = λ j. if j ≟ k then n else ρ .notes j;
+      tasks = ρ .tasks;
+      dispatched = ρ .dispatched;
+    }
+
+abbrev pub withBags : Row → List ℕ → Row
+withBags ρ bags = record { bags = bags; notes = ρ .notes; tasks = ρ .tasks; dispatched = ρ .dispatched }
+
+abbrev pub withDispatched : ℕ → Row → Row
+withDispatched k ρ = record { bags = ρ .bags; notes = ρ .notes; tasks = ρ .tasks; dispatched = k }
 
 -- A bag put at a side's end.
 abbrev pub put : Side → ℕ → List ℕ → List ℕ
@@ -102,7 +121,7 @@ unfoldable pub feedMade : Row → ℕ → Answer → Option Row
 feedMade ρ k a =
     bind (ρ .notes k)
     (λ n. cond (isGoing a) (some ρ)
-    (Option·map (λ bags. noted (record { bags = bags; notes = ρ .notes }) k nothing) (answered n a (ρ .bags))))
+    (Option·map (λ bags. noted (withBags ρ bags) k nothing) (answered n a (ρ .bags))))
 
 -- 01: run: the ticks it reports made, by its pairs and the words it wrote, one after another.
 unfoldable pub feedRun : Row → (made : ℕ) → (list answers : List ℕ) → Option Row
@@ -114,3 +133,32 @@ feedRun ρ (suc n) (k ∷ h ∷ list) (kind ∷ []) = nothing
 feedRun ρ (suc n) (k ∷ h ∷ list) (kind ∷ digit ∷ []) = nothing
 feedRun ρ (suc n) (k ∷ h ∷ list) (kind ∷ digit ∷ low ∷ answers) =
     bind (answerOf kind digit low) (λ a. bind (feedMade ρ k a) (λ ρ′. feedRun ρ′ n list answers))
+
+-- ---- 2026-07: a dispatch.
+abbrev pub hasNote : Option Note → Bool
+hasNote nothing = false
+hasNote (some n) = true
+
+-- 02: "the next task with a note, going round, after the task last dispatched".
+abbrev pub nextNoted : (notes : ℕ → Option Note) → (tasks dispatched : ℕ) → Option ℕ
+nextNoted notes tasks d = nextAfter tasks (λ k. hasNote (notes k)) d
+
+-- A dispatch that ticked: "For the row a dispatch is a tick" of that task, which is now the one last dispatched.
+unfoldable pub feedDispatched : Row → Answer → Option Row
+feedDispatched ρ a =
+    bind (nextNoted (ρ .notes) (ρ .tasks) (ρ .dispatched))
+    (λ k. Option·map (withDispatched k) (feedMade ρ k a))
+
+-- 02: ""idle" is answered only when no task has a note."
+unfoldable pub feedIdle : Row → Option Row
+feedIdle ρ =
+    elim (nextNoted (ρ .notes) (ρ .tasks) (ρ .dispatched)) as (λ _. Option Row) [
+      | some k ↦ nothing
+      | nothing ↦ some ρ
+    ]
+
+-- 01: any other refused call: nothing changes.
+unfoldable pub feedDispatch : Row → Dispatch → Option Row
+feedDispatch ρ Idle = feedIdle ρ
+feedDispatch ρ (Answered a) =
+    elim (refusalOf a) as (λ _. Option Row) [ some n ↦ some ρ | nothing ↦ feedDispatched ρ a ]

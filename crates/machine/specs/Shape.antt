@@ -42,7 +42,7 @@ use Rattle.machine.specs.Table.{
   taskCount,
   growth,
   hat,
-  word6,
+  dispatched,
   word7,
   linkWord,
   valueWords,
@@ -76,10 +76,10 @@ sameWords (x ∷ xs) (y ∷ ys) = eqb x y && sameWords xs ys
 abbrev pub nodeOrNone : (S x : ℕ) → Bool
 nodeOrNone S x = ltb x S || eqb x none
 
--- 01: both last header words are 0, hats are below S.
+-- 01: hats are below S. 02: word 6 "must be below T in the shape, so only word 7 must be 0".
 abbrev pub headerOk : List ℕ → Bool
 headerOk ws =
-    eqb (word6 ws) 0
+    ltb (dispatched ws) (taskCount ws)
     && eqb (word7 ws) 0
     && ltb (hat ws left) (nodeCount ws)
     && ltb (hat ws right) (nodeCount ws)

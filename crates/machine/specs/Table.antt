@@ -30,7 +30,7 @@ recordAt S k = nodeAt S + recordLength * k
 abbrev pub tableLength : (S T : ℕ) → ℕ
 tableLength S T = recordAt S T
 
--- ---- The header: S, T, growth, left hat, right hat, tick count, 0, 0.
+-- ---- The header: S, T, growth, left hat, right hat, tick count, and since 2026-07 the task last dispatched; 0.
 abbrev pub nodeCountAt : ℕ
 nodeCountAt = 0
 
@@ -61,14 +61,18 @@ tickCountAt = 5
 abbrev pub tickCount : List ℕ → ℕ
 tickCount ws = getD ws tickCountAt 0
 
-abbrev pub word6 : List ℕ → ℕ
-word6 ws = getD ws 6 0
+-- 02: "header word 6, counted from 0, keeps that task".
+abbrev pub dispatchedAt : ℕ
+dispatchedAt = 6
+
+abbrev pub dispatched : List ℕ → ℕ
+dispatched ws = getD ws dispatchedAt 0
 
 abbrev pub word7 : List ℕ → ℕ
 word7 ws = getD ws 7 0
 
-abbrev pub headerWords : (S T growth leftHat rightHat ticks : ℕ) → List ℕ
-headerWords S T g lh rh n = S ∷ T ∷ g ∷ lh ∷ rh ∷ n ∷ 0 ∷ 0 ∷ []
+abbrev pub headerWords : (S T growth leftHat rightHat ticks dispatched : ℕ) → List ℕ
+headerWords S T g lh rh n d = S ∷ T ∷ g ∷ lh ∷ rh ∷ n ∷ d ∷ 0 ∷ []
 
 -- ---- A node (01: slot): L, R, V and its leading digit.
 abbrev pub linkAt : Side → ℕ → ℕ
@@ -111,6 +115,9 @@ setHat s x ws = set ws (hatAt s) x
 
 abbrev pub setTickCount : ℕ → List ℕ → List ℕ
 setTickCount n ws = set ws tickCountAt n
+
+abbrev pub setDispatched : ℕ → List ℕ → List ℕ
+setDispatched k ws = set ws dispatchedAt k
 
 abbrev pub setLink : Side → ℕ → ℕ → List ℕ → List ℕ
 setLink s x y ws = set ws (linkAt s x) y

@@ -80,7 +80,7 @@ pub record RowSince (ws : List ℕ) (ρ : Row) : Type 0 where
   pub accepted : start old S T growth .reply ≡ Accepted
   pub calls : List Call
   pub leads-to : afterAll calls (start old S T growth .words) ≡ ws
-  pub row-is : rowAfter calls (start old S T growth .words) emptyRow ≡ some ρ
+  pub row-is : rowAfter calls (start old S T growth .words) (emptyRow T) ≡ some ρ
 
 -- Every table that our calls lead to has one, and its lane is that row.
 abbrev pub EachHasRow : Type 0

@@ -7,7 +7,7 @@ use Prim.Native.Nat.{ℕ}
 use Rattle.machine.specs.Sides.{Side}
 use Rattle.machine.specs.Tasks.{Task, Register, inA, inB, inC, inD, register, withRegisters}
 use Rattle.machine.specs.Registers.{holds, heldIn}
-use Rattle.machine.specs.Table.{nodeCount, taskCount, growth, hat, tickCount, link, value, task, setTask}
+use Rattle.machine.specs.Table.{nodeCount, taskCount, growth, hat, tickCount, dispatched, link, value, task, setTask}
 use Rattle.machine.specs.Calls.{isBusy, tableRefusal}
 use Rattle.machine.specs.Demand3.{Call, given, after}
 
@@ -30,6 +30,7 @@ pub record Alike (ws vs : List ℕ) : Type 0 where
   pub same-growth : growth vs ≡ growth ws
   pub same-hats : (s : Side) → hat vs s ≡ hat ws s
   pub same-ticks : tickCount vs ≡ tickCount ws
+  pub same-dispatched : dispatched vs ≡ dispatched ws
   pub same-links : (s : Side) (x : ℕ) → link vs s x ≡ link ws s x
   pub same-values : (x : ℕ) → value vs x ≡ value ws x
   pub same-tasks : (k : ℕ) → SameButUnneeded (task ws k) (task vs k)

@@ -37,6 +37,12 @@ pub enum Answer {
     Refused(u32),
 }
 
+// What a dispatch answers: that no task is busy, or as the tick answers that it makes. A refusal is that of a tick.
+pub enum Dispatch {
+    Idle,
+    Answered(Answer),
+}
+
 // What start and begin answer.
 pub enum Reply {
     Accepted,

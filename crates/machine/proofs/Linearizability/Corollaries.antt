@@ -11,6 +11,7 @@ use lib.ListN.{length, drop}
 use Rattle.tag.specs.Tags.{allTagWords}
 use borrow.Author.Tests.{le-leb, lt-leb}
 use Rattle.machine.specs.declared.Answer.the-variants.{Refused}
+use Rattle.machine.specs.declared.Dispatch.the-variants.{Idle, Answered}
 use Rattle.machine.specs.declared.Reply.the-variants.{Accepted, Refused as Reply-Refused}
 use Rattle.machine.specs.declared.Reading.the-variants.{Count}
 use Rattle.machine.specs.declared.Stored.{Stored}
@@ -23,7 +24,7 @@ use Rattle.machine.specs.Table.{nodeCount, taskCount, task, setTask}
 use Rattle.machine.specs.Shape.{lengthOk, shapeOk}
 use Rattle.machine.specs.Reach.{Reachable, from-register}
 use Rattle.machine.specs.Allocate.{allocate}
-use Rattle.machine.specs.Answers.{answerLength, refusalOf}
+use Rattle.machine.specs.Answers.{answerLength, refusalOf, dispatchRefusalOf}
 use Rattle.machine.specs.Calls.{
   unless,
   isIdle,
@@ -45,6 +46,8 @@ use Rattle.machine.specs.Calls.{
   Ticked,
   tickOn,
   tick,
+  Dispatched,
+  dispatch,
   RunDone,
   stopped,
   afterTick,
@@ -74,6 +77,9 @@ use Rattle.machine.specs.Begun.{
   bagsPopped,
 }
 use Rattle.machine.proofs.Basics.Contradiction.{clash, refute}
+use Rattle.machine.proofs.Words.Columns.{sizesOf, Sized}
+use Rattle.machine.proofs.Shape.ShapeLaws.{well-sized}
+use Rattle.machine.proofs.Shape.DispatchCases.{by-dispatch}
 use Rattle.machine.proofs.Shape.ShapeKept.{is-accepted, table-passes}
 use Rattle.machine.proofs.SlotRule.Reached.{node-not-none, reachable-node}
 use Rattle.machine.proofs.SlotRule.FirstFree.{allocate-first-free, allocate-none}
@@ -91,7 +97,7 @@ use Rattle.machine.proofs.Linearizability.Histories.{
 
 -- A table that our calls lead to agrees with a row.
 pub begun-agrees : {ws : List ℕ} → Begun ws → (ρ : Row) × Agrees ws ρ
-begun-agrees (by-start S T g old accepted) = (emptyRow, started-agrees S T g old accepted)
+begun-agrees (by-start S T g old accepted) = (emptyRow T, started-agrees S T g old accepted)
 begun-agrees (by-call B c) =
     let E = call-explained (begun-agrees B .1) c in
     (E .row, E .agrees)
@@ -120,6 +126,9 @@ module _ {ws : List ℕ} {ρ : Row} (A : Agrees ws ρ) (k h : ℕ) where
       let E = tick-explained A k h in
       (E .row, subst (λ (r : Ticked). Agrees (r .words) (E .row)) tick-passes (E .agrees))
 
+  pub ticked-sized : Sized (sizesOf (tickOn ws k h .words))
+  ticked-sized = well-sized (tickOn ws k h .words) (tick-agrees .1 .accepted .length-passes) .sized
+
   -- The tests before the line have other numbers, and the line meets no none.
   tick-not-11 : refusalOf (tickOn ws k h .answer) ≢ some 11
   unfolding tickOn
@@ -139,6 +148,16 @@ pub no-tick-refused-with-11 : {ws : List ℕ} → Begun ws → (k h : ℕ) → t
 no-tick-refused-with-11 B k h e =
     let A = begun-agrees B .1 in
     tick-not-11 A k h (ap (λ (r : Ticked). refusalOf (r .answer)) (sym (tick-passes A k h)) ∙ ap refusalOf e)
+
+-- 2026-07: nor a dispatch, which is a tick.
+pub no-dispatch-refused-with-11 : {ws : List ℕ} → Begun ws → (h : ℕ) → dispatch ws h .answer ≢ Answered (Refused 11)
+no-dispatch-refused-with-11 {ws} B h =
+    let A = begun-agrees B .1 in
+    by-dispatch ws (A .accepted) h (λ (r : Dispatched). r .answer ≢ Answered (Refused 11)) (λ e. refute (cc))
+    (λ _ e. refute (cc)) (λ k n _ _. of-tick A k) (λ k _ _ _. of-tick A k)
+  where
+    of-tick : {ρ : Row} → Agrees ws ρ → (k : ℕ) → Answered (tickOn ws k h .answer) ≢ Answered (Refused 11)
+    of-tick A k e = tick-not-11 A k h (ap dispatchRefusalOf e)
 
 -- 2026-03: nor a begin, which walks the lane.
 module _ {ws : List ℕ} (B : Begun ws) (k op side : ℕ) (argument : Stored) where
@@ -352,8 +371,8 @@ pub bags-conserved :
     → (bags : List ℕ)
     × (lane (afterAll calls (start old S T growth .words)) ≡ some bags)
     × ((b : ℕ)
-    → count b bags + count b (bagsPopped (history calls (start old S T growth .words) noHistory .finished))
-    ≡ count b (bagsPushed (history calls (start old S T growth .words) noHistory .finished)))
+    → count b bags + count b (bagsPopped (history calls (start old S T growth .words) (noHistory T) .finished))
+    ≡ count b (bagsPushed (history calls (start old S T growth .words) (noHistory T) .finished)))
 bags-conserved S T g old accepted calls =
-    explained-recorded calls (start old S T g .words) emptyRow noHistory (demand3 S T g old accepted calls)
-    nothing-recorded
+    explained-recorded calls (start old S T g .words) (emptyRow T) (noHistory T)
+    (demand3 S T g old accepted calls) (nothing-recorded T)

@@ -19,6 +19,8 @@ use Rattle.machine.specs.declared.Answer.the-variants.{
   No,
   Refused,
 }
+use Rattle.machine.specs.declared.Dispatch.{Dispatch}
+use Rattle.machine.specs.declared.Dispatch.the-variants.{Idle, Answered}
 use Rattle.machine.specs.declared.Reply.the-variants.{Accepted, Refused as Reply-Refused}
 use Rattle.machine.specs.declared.Reading.{Reading}
 use Rattle.machine.specs.declared.Reading.the-variants.{Count, Refused as Reading-Refused}
@@ -32,6 +34,8 @@ use Rattle.machine.specs.Row.{
   Row,
   emptyRow,
   noted,
+  withBags,
+  withDispatched,
   put,
   takeFirst,
   takeBag,
@@ -42,12 +46,17 @@ use Rattle.machine.specs.Row.{
   isGoing,
   feedMade,
   feedRun,
+  nextNoted,
+  feedDispatched,
+  feedIdle,
+  feedDispatch,
 }
 use Rattle.machine.specs.Demand3.{
   Call,
   start-call,
   begin-call,
   tick-call,
+  dispatch-call,
   run-call,
   panel-call,
   read-call,
@@ -64,6 +73,8 @@ use Rattle.machine.specs.Begun.{
   finish,
   recordMade,
   recordRun,
+  recordDispatched,
+  recordDispatch,
   recordCall,
   count,
   bagsPushed,
@@ -182,14 +193,17 @@ pub mapped : {T U : Type 0} (o : Option T) (f : T → U) {y : U} → Option·map
 mapped nothing f e = clash (cc)
 mapped (some x) f e = (x, refl, cc)
 
--- The history has the row's notes, and every bag is balanced.
+-- The history has the row's notes, tasks and task last dispatched, and every bag is balanced.
 pub record Recorded (ρ : Row) (η : History) : Type 0 where
   pub same-notes : η .notes ≡ ρ .notes
+  pub same-tasks : η .tasks ≡ ρ .tasks
+  pub same-dispatched : η .dispatched ≡ ρ .dispatched
   pub balanced : (b : ℕ) → Balanced b (ρ .bags) (η .finished)
 
-pub nothing-recorded : Recorded emptyRow noHistory
+pub nothing-recorded : (T : ℕ) → Recorded (emptyRow T) (noHistory T)
 unfolding count bagsPushed bagsPopped
-nothing-recorded = record { same-notes = refl; balanced = λ b. refl }
+nothing-recorded T =
+    record { same-notes = refl; same-tasks = refl; same-dispatched = refl; balanced = λ b. refl }
 
 same-row : {ρ ρ′ : Row} {η : History} → some ρ ≡ some ρ′ → Recorded ρ η → Recorded ρ′ η
 same-row {ρ} {ρ′} {η} e R = let q : ρ ≡ ρ′ = cc in subst (λ (x : Row). Recorded x η) q R
@@ -200,10 +214,12 @@ same-with k n e = ap (λ (f : ℕ → Option Note). withNote f k n) e
 -- A tick that was made.
 module _ {ρ : Row} {η : History} (R : Recorded ρ η) (k : ℕ) (a : Answer) where
   finish-recorded : (n : Note) (bags : List ℕ) → answered n a (ρ .bags) ≡ some bags
-      → Recorded (noted (record { bags = bags; notes = ρ .notes }) k nothing) (finish η k (some n) a)
+      → Recorded (noted (withBags ρ bags) k nothing) (finish η k (some n) a)
   finish-recorded n bags e =
       record {
         same-notes = same-with k nothing (R .same-notes);
+        same-tasks = R .same-tasks;
+        same-dispatched = R .same-dispatched;
         balanced =
             λ b.
             answer-balanced b (n .side) (n .argument) (ρ .bags) bags (η .finished) (R .balanced b) (n .operation) a e;
@@ -218,7 +234,7 @@ module _ {ρ : Row} {η : History} (R : Recorded ρ η) (k : ℕ) (a : Answer) w
     where
       by-answer : (n : Note) (g : Bool)
           → cond g (some ρ)
-          (Option·map (λ bags. noted (record { bags = bags; notes = ρ .notes }) k nothing) (answered n a (ρ .bags)))
+          (Option·map (λ bags. noted (withBags ρ bags) k nothing) (answered n a (ρ .bags)))
           ≡ some ρ′
           → Recorded ρ′ (cond g η (finish η k (some n) a))
       by-answer n true q = same-row q R
@@ -242,6 +258,47 @@ run-recorded (suc n) (k ∷ h ∷ list) (kind ∷ digit ∷ low ∷ answers) {ρ
     let m = bound (feedMade ρ k (a .0)) _ (a .2) in
     rw (a .1, recordRun) (run-recorded n list answers (made-recorded R k (a .0) (m .1)) (m .2))
 
+-- A dispatch: the history finds the task that the row finds.
+dispatch-recorded : (r : Dispatch) {ρ ρ′ : Row} {η : History} → Recorded ρ η → feedDispatch ρ r ≡ some ρ′
+    → Recorded ρ′ (recordDispatch η r)
+unfolding feedDispatch feedIdle feedDispatched
+dispatch-recorded Idle {ρ} {ρ′} {η} R e = go (nextNoted (ρ .notes) (ρ .tasks) (ρ .dispatched)) e
+  where
+    go : (o : Option ℕ)
+        → elim o as (λ _. Option Row) [ some k ↦ nothing | nothing ↦ some ρ ] ≡ some ρ′
+        → Recorded ρ′ η
+    go (some k) q = clash (cc)
+    go nothing q = same-row q R
+dispatch-recorded (Answered a) {ρ} {ρ′} {η} R e = go (refusalOf a) e
+  where
+    same-next : nextNoted (η .notes) (η .tasks) (η .dispatched) ≡ nextNoted (ρ .notes) (ρ .tasks) (ρ .dispatched)
+    same-next = rw (R .same-notes, R .same-tasks, R .same-dispatched)
+
+    made : feedDispatched ρ a ≡ some ρ′
+        → Recorded ρ′ (recordDispatched η (nextNoted (η .notes) (η .tasks) (η .dispatched)) a)
+    made q =
+        let x = bound (nextNoted (ρ .notes) (ρ .tasks) (ρ .dispatched)) _ q in
+        let y = mapped (feedMade ρ (x .0) a) _ (x .2) in
+        let M = made-recorded R (x .0) a (y .1) in
+        rw (same-next ∙ x .1)
+        (same-row (ap some (y .2))
+        (record {
+          same-notes = M .same-notes;
+          same-tasks = M .same-tasks;
+          same-dispatched = refl;
+          balanced = M .balanced;
+        }))
+
+    go : (o : Option ℕ)
+        → elim o as (λ _. Option Row) [ some n ↦ some ρ | nothing ↦ feedDispatched ρ a ] ≡ some ρ′
+        → Recorded ρ′
+        (elim o as (λ _. History) [
+          | some n ↦ η
+          | nothing ↦ recordDispatched η (nextNoted (η .notes) (η .tasks) (η .dispatched)) a
+        ])
+    go (some n) q = same-row q R
+    go nothing q = made q
+
 -- A read leaves the row.
 pub same-when-read : (ρ : Row) (out : List ℕ) (x : Reading) (written : List ℕ) {ρ′ : Row}
     → feedRead ρ out x written ≡ some ρ′
@@ -262,12 +319,14 @@ same-when-read ρ out x written {ρ′} e = go x e
 pub call-recorded : (c : Call) (r : Given c) {ρ ρ′ : Row} {η : History} → Recorded ρ η → feed ρ c r ≡ some ρ′
     → Recorded ρ′ (recordCall η c r)
 unfolding feedTick
-call-recorded (start-call S T g) Accepted R e = same-row e nothing-recorded
+call-recorded (start-call S T g) Accepted R e = same-row e (nothing-recorded T)
 call-recorded (start-call S T g) (Reply-Refused n) R e = same-row e R
 call-recorded (begin-call k op side argument) Accepted R e =
     same-row e
     (record {
       same-notes = same-with k _ (R .same-notes);
+      same-tasks = R .same-tasks;
+      same-dispatched = R .same-dispatched;
       balanced = R .balanced;
     })
 call-recorded (begin-call k op side argument) (Reply-Refused n) R e = same-row e R
@@ -278,6 +337,7 @@ call-recorded (tick-call k h) a {ρ} {ρ′} {η} R e = go (refusalOf a) e
         → Recorded ρ′ (elim o as (λ _. History) [ some n ↦ η | nothing ↦ recordMade η k a ])
     go (some n) q = same-row q R
     go nothing q = made-recorded R k a q
+call-recorded (dispatch-call h) r R e = dispatch-recorded r R e
 call-recorded (run-call list answers) r R e = run-recorded (r .0 .made) list (r .1) R e
 call-recorded (panel-call list answers) r R e = run-recorded (r .0 .made) list (r .1) R e
 call-recorded (read-call out) r {ρ} {ρ′} {η} R e =

@@ -11,6 +11,7 @@ use Rattle.machine.specs.Demand3.{
   start-call,
   begin-call,
   tick-call,
+  dispatch-call,
   run-call,
   panel-call,
   read-call,
@@ -27,6 +28,7 @@ use Rattle.machine.proofs.Linearizability.Calls.CallsAgree.{
   start-explained,
   begin-explained,
   tick-explained,
+  dispatch-explained,
   read-explained,
 }
 use Rattle.machine.proofs.Linearizability.Calls.Runs.{run-explained, run-within, panel-explained, panel-within}
@@ -36,6 +38,7 @@ pub call-explained : {ws : List ℕ} {ρ : Row} → Agrees ws ρ → (c : Call) 
 call-explained A (start-call S T g) = start-explained A S T g
 call-explained A (begin-call k op side argument) = begin-explained A k op side argument
 call-explained A (tick-call k h) = tick-explained A k h
+call-explained A (dispatch-call h) = dispatch-explained A h
 call-explained A (run-call list answers) = run-explained A list answers
 call-explained A (panel-call list answers) = panel-explained A list answers
 call-explained A (read-call out) = read-explained A out
@@ -44,6 +47,7 @@ call-within : {ws : List ℕ} {ρ : Row} → Agrees ws ρ → (c : Call) → Wit
 call-within A (start-call S T g) = tt
 call-within A (begin-call k op side argument) = tt
 call-within A (tick-call k h) = tt
+call-within A (dispatch-call h) = tt
 call-within A (run-call list answers) = run-within A list answers
 call-within A (panel-call list answers) = panel-within A list answers
 call-within A (read-call out) = tt
@@ -55,9 +59,9 @@ explained (c ∷ cs) A =
     let E = call-explained A c in
     (lane-is-row A, call-within A c, (E .row, E .given-by-row, explained cs (E .agrees)))
 
--- An accepted start makes a table that agrees with the empty row.
+-- An accepted start makes a table that agrees with the empty row of its tasks.
 pub started-agrees :
-    (S T g : ℕ) (old : List ℕ) → start old S T g .reply ≡ Accepted → Agrees (start old S T g .words) emptyRow
+    (S T g : ℕ) (old : List ℕ) → start old S T g .reply ≡ Accepted → Agrees (start old S T g .words) (emptyRow T)
 unfolding start
 started-agrees S T g old = go (startRefusal old S T g) refl
   where
@@ -65,7 +69,7 @@ started-agrees S T g old = go (startRefusal old S T g) refl
         (r : Option ℕ)
         → startRefusal old S T g ≡ r
         → changed r old (startWords S T g) .reply ≡ Accepted
-        → Agrees (changed r old (startWords S T g) .words) emptyRow
+        → Agrees (changed r old (startWords S T g) .words) (emptyRow T)
     go (some n) e q = clash (cc)
     go nothing e q = start-agrees S T g (search test-passed)
 

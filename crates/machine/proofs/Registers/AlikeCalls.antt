@@ -1,9 +1,15 @@
 -- What stands in registers that do not hold does not matter to any list of calls.
-use mathlib.Core.Path.{_≡_, refl, sym, ap, _∙_, subst}
+use mathlib.Core.Path.{_≡_, refl, sym, ap, _∙_, subst, fun-ext}
+use mathlib.Core.Bool.{Bool, true, false}
 use mathlib.Core.List.{List, [], _∷_}
 use mathlib.Core.Option.{Option, some, none as nothing, Option·map}
 use Prim.Native.Nat.{ℕ, zero, suc, _<_}
+use lib.Dec.{ltb}
+use borrow.Author.Tests.{ltb-true}
 use Rattle.machine.specs.Shape.{WellFormed}
+use Rattle.machine.specs.Round.{nextAfter}
+use Rattle.machine.specs.Answers.{refusalOf}
+use Rattle.machine.specs.declared.Dispatch.the-variants.{Answered}
 use Rattle.machine.specs.declared.Stored.{Stored}
 use Rattle.machine.specs.Choice.{_≟_, if_then_else_}
 use Rattle.machine.specs.Sides.{Side, right, left, sideOf}
@@ -11,7 +17,7 @@ use Rattle.machine.specs.Values.{Value, never, bag, N, X, Y, number}
 use Rattle.machine.specs.Operations.{Operation, idle, push, pop, add, remove, operationOf}
 use Rattle.machine.specs.Tasks.{Task, none}
 use Rattle.machine.specs.Registers.{holds}
-use Rattle.machine.specs.Table.{nodeCount, taskCount, hat, link, value, task, setTask}
+use Rattle.machine.specs.Table.{nodeCount, taskCount, dispatched, hat, link, value, task, setDispatched, setTask}
 use Rattle.machine.specs.Calls.{
   startRefusal,
   tableRefusal,
@@ -25,8 +31,16 @@ use Rattle.machine.specs.Calls.{
   start,
   begunTask,
   begin,
+  isBusy,
+  tickRefusal,
   tick,
   tickOn,
+  Dispatched,
+  isBusyTask,
+  nextBusy,
+  dispatchTo,
+  dispatchOn,
+  dispatch,
   tested,
   run,
   panel,
@@ -41,6 +55,7 @@ use Rattle.machine.specs.Demand3.{
   start-call,
   begin-call,
   tick-call,
+  dispatch-call,
   run-call,
   panel-call,
   read-call,
@@ -50,11 +65,19 @@ use Rattle.machine.specs.Demand3.{
 use Rattle.machine.proofs.Basics.Tests.{test-passed}
 use Rattle.machine.proofs.Words.ValueLaws.{HasWord, never-has-word}
 use Rattle.machine.proofs.Basics.Updates.{update}
-use Rattle.machine.proofs.Words.Columns.{sizesOf, Columns}
-use Rattle.machine.proofs.Words.TableLaws.{columns-setTask}
-use Rattle.machine.proofs.Words.EffectLaws.{task-set-task}
+use Rattle.machine.proofs.Words.Columns.{sizesOf, Columns, Sized, putDispatched}
+use Rattle.machine.proofs.Words.TableLaws.{columns-setDispatched, columns-setTask}
+use Rattle.machine.proofs.Words.EffectLaws.{task-set-dispatched, task-set-task}
 use Rattle.machine.proofs.Shape.ShapeLaws.{WellSized, well-sized}
-use Rattle.machine.proofs.Shape.ShapeKept.{start-accepted, begin-allowed, table-passes, call-accepted}
+use Rattle.machine.proofs.Shape.TickKeeps.{busy-passes}
+use Rattle.machine.proofs.Shape.DispatchCases.{chosen-busy}
+use Rattle.machine.proofs.Shape.ShapeKept.{
+  start-accepted,
+  begin-allowed,
+  table-passes,
+  dispatched-accepted,
+  call-accepted,
+}
 use Rattle.machine.specs.LinesUse.{AgreeOn}
 use Rattle.machine.proofs.Registers.Agreeing.{agree-self, mixed-inside}
 use Rattle.machine.proofs.Registers.AlikeTables.{
@@ -65,13 +88,14 @@ use Rattle.machine.proofs.Registers.AlikeTables.{
   same-count,
   same-growth,
   same-ticks,
+  same-dispatched,
   same-hat,
   same-links,
   same-seen,
   same-operation,
   same-argument,
 }
-use Rattle.machine.proofs.Registers.AlikeTicks.{tick-alike, RunsAlike, schedule-alike}
+use Rattle.machine.proofs.Registers.AlikeTicks.{refusal-same, tick-alike, RunsAlike, schedule-alike}
 
 module _ {ws vs : List ℕ} (A : AlikeColumns ws vs) where
   -- ---- start.
@@ -251,11 +275,82 @@ module _ {ws vs : List ℕ} (A : AlikeColumns ws vs) where
   tick-call-alike k h =
       rw (tick-passes vs (A .accepted′) k h, tick-passes ws (A .accepted) k h) (tick-alike A k h)
 
+  -- ---- dispatch.
+  next-same : nextBusy vs ≡ nextBusy ws
+  next-same =
+      ap (λ (test : ℕ → Bool). nextAfter (taskCount vs) test (dispatched vs))
+      (fun-ext (λ k. ap isBusy (same-operation A k)))
+      ∙ ap (λ (n : ℕ). nextAfter n (isBusyTask ws) (dispatched vs)) (same-count A)
+      ∙ ap (nextAfter (taskCount ws) (isBusyTask ws)) (same-dispatched A)
+
+  -- Both tables after a tick, with that task as the one last dispatched.
+  dispatched-alike : (k h : ℕ) → tickRefusal ws k h ≡ nothing
+      → AlikeColumns (setDispatched k (tickOn ws k h .words)) (setDispatched k (tickOn vs k h .words))
+  dispatched-alike k h passes =
+      record {
+        accepted = dispatched-accepted ws (A .accepted) k h passes;
+        accepted′ = dispatched-accepted vs (A .accepted′) k h (refusal-same A k h ∙ passes);
+        same-words =
+            ap unrecorded (columns-setDispatched (tickOn vs k h .words) sized′ k)
+            ∙ ap (putDispatched k) (after-tick .same-words)
+            ∙ sym (ap unrecorded (columns-setDispatched (tickOn ws k h .words) sized k));
+        same-tasks = λ j.
+            rw (
+              task-set-dispatched (tickOn ws k h .words) sized k,
+              task-set-dispatched (tickOn vs k h .words) sized′ k,
+            )
+            (after-tick .same-tasks j);
+      }
+    where
+      after-tick : AlikeColumns (tickOn ws k h .words) (tickOn vs k h .words)
+      after-tick = tick-alike A k h .1
+
+      sized : Sized (sizesOf (tickOn ws k h .words))
+      sized = well-sized (tickOn ws k h .words) (after-tick .accepted .length-passes) .sized
+
+      sized′ : Sized (sizesOf (tickOn vs k h .words))
+      sized′ = well-sized (tickOn vs k h .words) (after-tick .accepted′ .length-passes) .sized
+
+  module _ (h : ℕ) where
+    abbrev DispatchAlike : (d e : Dispatched) → Type 0
+    DispatchAlike d e = (e .answer ≡ d .answer) × AlikeColumns (d .words) (e .words)
+
+    to-alike : (k : ℕ) → tickRefusal ws k h ≡ nothing → DispatchAlike (dispatchTo ws k h) (dispatchTo vs k h)
+    unfolding dispatchTo
+    to-alike k passes = go (refusalOf (tickOn ws k h .answer)) refl
+      where
+        same : tickOn vs k h .answer ≡ tickOn ws k h .answer
+        same = tick-alike A k h .0
+
+        go : (r : Option ℕ) → refusalOf (tickOn ws k h .answer) ≡ r
+            → DispatchAlike (dispatchTo ws k h) (dispatchTo vs k h)
+        go (some n) q = rw (ap refusalOf same ∙ q, q, dispatchTo) (ap Answered same, A)
+        go nothing q = rw (ap refusalOf same ∙ q, q, dispatchTo) (ap Answered same, dispatched-alike k h passes)
+
+    dispatch-alike : DispatchAlike (dispatch ws h) (dispatch vs h)
+    unfolding dispatch dispatchOn
+    dispatch-alike = tested (ltb h (nodeCount ws)) refl
+      where
+        chosen : h < nodeCount ws → (o : Option ℕ) → nextBusy ws ≡ o
+            → DispatchAlike (dispatchOn ws h) (dispatchOn vs h)
+        chosen low nothing e = rw (next-same, e, dispatchOn) (refl, A)
+        chosen low (some k) e =
+            rw (next-same, e, dispatchOn)
+            (to-alike k (busy-passes ws k h (chosen-busy ws (A .accepted) h e) low))
+
+        tested : (b : Bool) → ltb h (nodeCount ws) ≡ b → DispatchAlike (dispatch ws h) (dispatch vs h)
+        tested true q =
+            rw (table-passes ws (A .accepted), table-passes vs (A .accepted′), same-nodes A, q, dispatch)
+            (chosen (ltb-true h (nodeCount ws) q) (nextBusy ws) refl)
+        tested false q =
+            rw (table-passes ws (A .accepted), table-passes vs (A .accepted′), same-nodes A, q, dispatch) (refl, A)
+
   -- ---- Every call has the same answer on both tables, and they differ only in registers that do not hold afterwards.
   pub call-alike : (c : Call) → (given c vs ≡ given c ws) × AlikeColumns (after c ws) (after c vs)
   call-alike (start-call S T g) = start-alike S T g
   call-alike (begin-call k op side argument) = begin-alike k op side argument
   call-alike (tick-call k h) = tick-call-alike k h
+  call-alike (dispatch-call h) = dispatch-alike h
   call-alike (run-call list answers) =
       let R = run-alike list answers in
       (λ i. (R .same-ran i, R .same-answers i), R .words-alike)
@@ -277,6 +372,7 @@ views-alike {ws} {vs} A =
       same-growth = same-growth A;
       same-hats = same-hat A;
       same-ticks = same-ticks A;
+      same-dispatched = same-dispatched A;
       same-links = λ s x. ap (λ (l : Side → ℕ → ℕ). l s x) (same-links A);
       same-values = same-value A;
       same-tasks =

@@ -8,7 +8,7 @@ use Rattle.machine.specs.Shape.{WellFormed}
 use Rattle.machine.specs.Sides.{Side, left, right}
 use Rattle.machine.specs.Tasks.{Task, none, Register, inA, inB, inC, inD}
 use Rattle.machine.specs.Registers.{holds, heldIn}
-use Rattle.machine.specs.Table.{nodeCount, taskCount, growth, tickCount, hat, link, value, task}
+use Rattle.machine.specs.Table.{nodeCount, taskCount, growth, tickCount, dispatched, hat, link, value, task}
 use Rattle.machine.specs.Allocate.{
   heldBy,
   heldFrom,
@@ -86,6 +86,9 @@ module _ {ws vs : List ℕ} (A : AlikeColumns ws vs) where
 
   pub same-ticks : tickCount vs ≡ tickCount ws
   same-ticks = ap (λ (c : Columns). c .counts .tickCount) (A .same-words)
+
+  pub same-dispatched : dispatched vs ≡ dispatched ws
+  same-dispatched = ap (λ (c : Columns). c .counts .dispatched) (A .same-words)
 
   pub same-hat : (s : Side) → hat vs s ≡ hat ws s
   same-hat s = ap (λ (c : Columns). c .hats s) (A .same-words)

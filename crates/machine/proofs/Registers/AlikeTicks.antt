@@ -63,7 +63,7 @@ module _ {ws vs : List ℕ} (A : AlikeColumns ws vs) (k h : ℕ) where
   same-plain : plain u ≡ plain t
   same-plain = agree-plain (holds (t .step)) t u u (A .same-tasks k)
 
-  refusal-same : tickRefusal vs k h ≡ tickRefusal ws k h
+  pub refusal-same : tickRefusal vs k h ≡ tickRefusal ws k h
   refusal-same =
       rw (same-count A, same-nodes A, same-operation A k)
 

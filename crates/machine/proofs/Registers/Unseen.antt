@@ -89,7 +89,7 @@ module _ {ws vs : List ℕ} (A : Alike ws vs) where
       ∙ encode-decode (columns ws .values x) (shape .values-ok x)
 
   same-counts : countsOf vs ≡ countsOf ws
-  same-counts = same-last-words (shape′ .counts-ok) (shape .counts-ok) (A .same-ticks)
+  same-counts = same-last-words (shape′ .counts-ok) (shape .counts-ok) (A .same-ticks) (A .same-dispatched)
 
   columns-alike : AlikeColumns ws vs
   columns-alike =

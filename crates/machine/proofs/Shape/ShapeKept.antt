@@ -26,7 +26,7 @@ use Rattle.machine.specs.Operations.{
 }
 use Rattle.machine.specs.Steps.{stepNumber, stepsOf, isStepIn, firstStep}
 use Rattle.machine.specs.Tasks.{Task, wordsOf}
-use Rattle.machine.specs.Table.{nodeCount, taskCount, growth, task, setTask}
+use Rattle.machine.specs.Table.{nodeCount, taskCount, growth, task, setDispatched, setTask}
 use Rattle.machine.specs.Shape.{sizesOk, valueReadOk, countedOk, WellFormed}
 use Rattle.machine.specs.Answers.{answerLength, refusalOf}
 use Rattle.machine.specs.Calls.{
@@ -39,6 +39,7 @@ use Rattle.machine.specs.Calls.{
   seenRefusal,
   twiceRefusal,
   beginRefusal,
+  tickRefusal,
   runRefusal,
   panelRefusal,
   changed,
@@ -50,6 +51,8 @@ use Rattle.machine.specs.Calls.{
   Ticked,
   tickOn,
   tick,
+  Dispatched,
+  dispatch,
   RunDone,
   stopped,
   afterTick,
@@ -63,6 +66,7 @@ use Rattle.machine.specs.Demand3.{
   start-call,
   begin-call,
   tick-call,
+  dispatch-call,
   run-call,
   panel-call,
   read-call,
@@ -72,7 +76,7 @@ use Rattle.machine.proofs.Basics.Contradiction.{clash}
 use Rattle.machine.proofs.Basics.Tests.{and-left, and-right, test-passed, tests-left}
 use Rattle.machine.proofs.Words.ValueLaws.{argument-stored, never-has-word}
 use Rattle.machine.proofs.Words.Columns.{sizesOf, columns}
-use Rattle.machine.proofs.Words.TableLaws.{columns-setTask}
+use Rattle.machine.proofs.Words.TableLaws.{columns-setDispatched, columns-setTask}
 use Rattle.machine.proofs.Words.StartLaws.{
   startLink,
   startHat,
@@ -91,8 +95,9 @@ use Rattle.machine.proofs.Shape.ShapeLaws.{
   start-last-words,
 }
 use Rattle.machine.proofs.Shape.Fits.{none-fits}
-use Rattle.machine.proofs.Shape.WritesKeep.{put-record-shaped}
-use Rattle.machine.proofs.Shape.TickKeeps.{Kept, unchanged, tick-kept}
+use Rattle.machine.proofs.Shape.WritesKeep.{put-record-shaped, put-dispatched-shaped}
+use Rattle.machine.proofs.Shape.DispatchCases.{by-dispatch}
+use Rattle.machine.proofs.Shape.TickKeeps.{Kept, unchanged, tick-allowed, tick-kept}
 use Rattle.machine.proofs.Basics.Choices.{by-if}
 
 pub is-accepted : (ws : List ℕ) → tableRefusal ws nothing ≡ nothing → WellFormed ws
@@ -131,7 +136,7 @@ module _ (S T g : ℕ) (h : sizesOk S T g ≡ true) where
   start-shaped : WellShaped (startColumns S T g)
   start-shaped =
       record {
-        counts-ok = start-last-words;
+        counts-ok = start-last-words T (start-sized .one-task);
         hats-ok = start-hat-ok S (start-sized .two-nodes);
         links-ok = start-link-ok S (start-sized .two-nodes);
         values-ok = start-value-ok;
@@ -250,6 +255,7 @@ module _ (ws : List ℕ) (k op side : ℕ) (argument : Stored) where
         let same = sym (columns-setTask ws (Z .sized) k begun (A .is-task)) in
         record {
           same-sizes = ap (λ c. c .sizes) (sym same);
+          same-dispatched = ap (λ c. c .counts .dispatched) (sym same);
           well-sized = subst WellSized (ap (λ c. c .sizes) same) Z;
           well-shaped = subst WellShaped same recorded;
         }
@@ -270,6 +276,7 @@ kept-then : {ws vs us : List ℕ} → Kept ws vs → Kept vs us → Kept ws us
 kept-then K L =
     record {
       same-sizes = L .same-sizes ∙ K .same-sizes;
+      same-dispatched = L .same-dispatched ∙ K .same-dispatched;
       well-sized = L .well-sized;
       well-shaped = L .well-shaped;
     }
@@ -317,6 +324,20 @@ module _ (ws : List ℕ) (A : WellFormed ws) where
   W : WellShaped (columns ws)
   W = well-shaped ws (A .shape-passes)
 
+  -- The table of a tick that passes its tests, with that task as the one last dispatched.
+  pub dispatched-accepted : (k h : ℕ) → tickRefusal ws k h ≡ nothing → WellFormed (setDispatched k (tickOn ws k h .words))
+  dispatched-accepted k h passes =
+      let vs = tickOn ws k h .words in
+      let K = tick-kept ws Z W k h in
+      let same = sym (columns-setDispatched vs (K .well-sized .sized) k) in
+      let is-task = subst (λ z. k < z .taskCount) (sym (K .same-sizes)) (tick-allowed ws k h passes .0) in
+      record {
+        length-passes = length-ok (setDispatched k vs) (subst WellSized (ap (λ c. c .sizes) same) (K .well-sized));
+        shape-passes =
+            shape-ok (setDispatched k vs)
+            (subst WellShaped same (put-dispatched-shaped (columns vs) (K .well-shaped) k is-task));
+      }
+
   start-call-accepted : (S T g : ℕ) → WellFormed (start ws S T g .words)
   unfolding start
   start-call-accepted S T g = go (startRefusal ws S T g) refl
@@ -339,6 +360,12 @@ module _ (ws : List ℕ) (A : WellFormed ws) where
       go (some n) = A
       go nothing = kept-accepted (tick-kept ws Z W k h)
 
+  -- A dispatch leaves the table as it was, or as a tick leaves it, with that task as the one last dispatched.
+  dispatch-call-accepted : (h : ℕ) → WellFormed (dispatch ws h .words)
+  dispatch-call-accepted h =
+      by-dispatch ws A h (λ (r : Dispatched). WellFormed (r .words)) A (λ e. A) (λ k n e q. A)
+      (λ k e passes made. dispatched-accepted k h passes)
+
   tested-accepted : (r : Option ℕ) (list answers : List ℕ) → WellFormed (tested r ws list answers .words)
   tested-accepted (some n) list answers = A
   tested-accepted nothing list answers = kept-accepted (run-kept list ws answers Z W)
@@ -348,6 +375,7 @@ module _ (ws : List ℕ) (A : WellFormed ws) where
   call-accepted (start-call S T g) = start-call-accepted S T g
   call-accepted (begin-call k op side argument) = kept-accepted (begin-kept ws k op side argument Z W)
   call-accepted (tick-call k h) = tick-call-accepted k h
+  call-accepted (dispatch-call h) = dispatch-call-accepted h
   call-accepted (run-call list answers) = tested-accepted (runRefusal ws list answers) list answers
   call-accepted (panel-call list answers) = tested-accepted (panelRefusal ws list answers) list answers
   call-accepted (read-call out) = A

@@ -2,7 +2,7 @@
 use mathlib.Core.Path.{_≡_, refl, sym, _∙_}
 use mathlib.Core.Bool.{Bool, true}
 use mathlib.Core.List.{List}
-use Prim.Native.Nat.{ℕ, zero, suc, _≤_, _<_}
+use Prim.Native.Nat.{ℕ, zero, suc, _-_, _≤_, _<_}
 use lib.Dec.{leb, ltb, eqb}
 use lib.ListN.{length}
 use native.Mathlib.Omega.{arith}
@@ -17,7 +17,7 @@ use Rattle.machine.specs.Table.{
   taskCount,
   growth,
   hat,
-  word6,
+  dispatched,
   word7,
   linkWord,
   valueWords,
@@ -26,7 +26,7 @@ use Rattle.machine.specs.Table.{
 }
 use Rattle.machine.specs.Shape.{lengthOk, allBelow, nodeOrNone, nodeOk, recordOk, shapeOk}
 use Rattle.machine.proofs.Basics.Tests.{and-left, and-right}
-use Rattle.machine.proofs.Words.Columns.{Sizes, Counts, Columns, sizesOf, columns, column, Sized, startCounts, countedAs, counts-equal}
+use Rattle.machine.proofs.Words.Columns.{Sizes, Counts, Columns, sizesOf, columns, column, Sized, startCounts, countedAs, dispatchedTo, counts-equal}
 use Rattle.machine.proofs.Shape.BusyLaws.{
   NodeOrNone,
   node-or-none,
@@ -96,23 +96,27 @@ below-all (suc n) test h x l =
     ]
 
 -- ---- The shape.
-pub record LastWordsZero (n : Counts) : Type 0 where
-  pub word6-zero : n .word6 ≡ 0
+pub record LastWordsOk (T : ℕ) (n : Counts) : Type 0 where
+  pub is-task : n .dispatched < T
   pub word7-zero : n .word7 ≡ 0
 
-pub start-last-words : LastWordsZero startCounts
-start-last-words = record { word6-zero = refl; word7-zero = refl }
+pub start-last-words : (T : ℕ) → 1 ≤ T → LastWordsOk T (startCounts T)
+start-last-words T h = record { is-task = omega arith; word7-zero = refl }
 
-pub counted-last-words : (m : ℕ) {n : Counts} → LastWordsZero n → LastWordsZero (countedAs m n)
-counted-last-words m Z = record { word6-zero = Z .word6-zero; word7-zero = Z .word7-zero }
+pub counted-last-words : (m : ℕ) {T : ℕ} {n : Counts} → LastWordsOk T n → LastWordsOk T (countedAs m n)
+counted-last-words m Z = record { is-task = Z .is-task; word7-zero = Z .word7-zero }
 
--- What they are is then known.
-pub same-last-words : {m n : Counts} → LastWordsZero m → LastWordsZero n → m .tickCount ≡ n .tickCount → m ≡ n
-same-last-words Y Z e =
-    counts-equal e (Y .word6-zero ∙ sym (Z .word6-zero)) (Y .word7-zero ∙ sym (Z .word7-zero))
+pub dispatched-last-words : (k : ℕ) {T : ℕ} {n : Counts} → k < T → LastWordsOk T n → LastWordsOk T (dispatchedTo k n)
+dispatched-last-words k h Z = record { is-task = h; word7-zero = Z .word7-zero }
+
+-- The last word is then known.
+pub same-last-words : {T U : ℕ} {m n : Counts} → LastWordsOk T m → LastWordsOk U n → m .tickCount ≡ n .tickCount
+    → m .dispatched ≡ n .dispatched
+    → m ≡ n
+same-last-words Y Z e d = counts-equal e d (Y .word7-zero ∙ sym (Z .word7-zero))
 
 pub record WellShaped (c : Columns) : Type 0 where
-  pub counts-ok : LastWordsZero (c .counts)
+  pub counts-ok : LastWordsOk (c .sizes .taskCount) (c .counts)
   pub hats-ok : (s : Side) → c .hats s < c .sizes .nodeCount
   pub links-ok : (s : Side) (x : ℕ) → NodeOrNone (c .sizes .nodeCount) (c .links s x)
   pub values-ok : (x : ℕ) → valueOk (c .values x) ≡ true
@@ -151,13 +155,13 @@ module _ (ws : List ℕ) where
       let T = taskCount ws in
       let nodes : allBelow S (nodeOk ws) ≡ true = search (and-left, and-right) in
       let records : allBelow T record-test ≡ true = search (and-left, and-right) in
-      let a : eqb (word6 ws) 0 ≡ true = search (and-left, and-right) depth 6 in
+      let a : ltb (dispatched ws) T ≡ true = search (and-left, and-right) depth 6 in
       let b : eqb (word7 ws) 0 ≡ true = search (and-left, and-right) depth 6 in
       let c : ltb (hat ws left) S ≡ true = search (and-left, and-right) depth 6 in
       let d : ltb (hat ws right) S ≡ true = search (and-left, and-right) depth 6 in
       let node = below-all S (nodeOk ws) nodes in
       record {
-        counts-ok = record { word6-zero = eqb-true (word6 ws) 0 a; word7-zero = eqb-true (word7 ws) 0 b };
+        counts-ok = record { is-task = ltb-true (dispatched ws) T a; word7-zero = eqb-true (word7 ws) 0 b };
         hats-ok = λ s. elim s [ left ↦ ltb-true (hat ws left) S c | right ↦ ltb-true (hat ws right) S d ];
         links-ok =
             λ s.
@@ -190,7 +194,7 @@ module _ (ws : List ℕ) where
     shape-ok =
         let S = nodeCount ws in
         rw (
-          eq-eqb (word6 ws) 0 (W .counts-ok .word6-zero),
+          lt-ltb (dispatched ws) (taskCount ws) (W .counts-ok .is-task),
           eq-eqb (word7 ws) 0 (W .counts-ok .word7-zero),
           lt-ltb (hat ws left) S (W .hats-ok left),
           lt-ltb (hat ws right) S (W .hats-ok right),

@@ -13,12 +13,14 @@ use Rattle.machine.specs.Choice.{_<?_, if_then_else_}
 use Rattle.machine.specs.Sides.{Side, opposite}
 use Rattle.machine.specs.Operations.{idle}
 use Rattle.machine.specs.Tasks.{Task, fresh, wordsOf, valueReadWords, taskOf}
-use Rattle.machine.specs.Table.{nodeCount, taskCount, growth, value, recordWords, task}
+use Rattle.machine.specs.Table.{nodeCount, taskCount, growth, dispatched, value, recordWords, task}
 use Rattle.machine.specs.Shape.{recordOk}
-use Rattle.machine.specs.Allocate.{following, firstUnmarked, marked, allocate}
+use Rattle.machine.specs.Round.{following}
+use Rattle.machine.specs.Allocate.{firstUnmarked, marked, allocate}
 use Rattle.machine.specs.Lines.{seen, Write, Effect}
 use Rattle.machine.specs.Calls.{isBusy, tickRefusal, effectOf, Ticked, applied, tickOn}
 use Rattle.machine.proofs.Basics.Contradiction.{clash}
+use Rattle.machine.proofs.Basics.Rounds.{following-below}
 use Rattle.machine.proofs.Basics.Tests.{test-passed, tests-left}
 use Rattle.machine.proofs.Words.ValueLaws.{HasWord, never-has-word, decoded-has-word, decoded-value-ok}
 use Rattle.machine.proofs.Words.RecordLaws.{task-of-words, fresh-of-words, words-of-task, read-passes}
@@ -28,6 +30,7 @@ use Rattle.machine.proofs.Words.EffectLaws.{
   effectWords,
   columns-effect,
   effect-sizes,
+  effect-dispatched,
 }
 use Rattle.machine.proofs.Shape.BusyLaws.{
   NodeOrNone,
@@ -58,18 +61,11 @@ use Rattle.machine.proofs.Shape.WritesKeep.{
 use Rattle.machine.proofs.Basics.Choices.{by-if, if-yes}
 
 -- ---- The node that a search finds.
-following-node : (S i : ℕ) → i < S → following S i < S
-following-node S i h = go (ltb (i + 1) S) refl
-  where
-    go : (b : Bool) → ltb (i + 1) S ≡ b → cond b (i + 1) 0 < S
-    go true e = ltb-true (i + 1) S e
-    go false e = omega arith
-
 first-unmarked-node : (S : ℕ) (marks : List ℕ) (n i : ℕ) → i < S → NodeOrNone S (firstUnmarked S marks n i)
 unfolding firstUnmarked
 first-unmarked-node S marks zero i h = none-fits
 first-unmarked-node S marks (suc n) i h =
-    go (eqb (getD marks i 0) 0) (first-unmarked-node S marks n (following S i) (following-node S i h))
+    go (eqb (getD marks i 0) 0) (first-unmarked-node S marks n (following S i) (following-below S i h))
   where
     go :
         (b : Bool)
@@ -169,15 +165,16 @@ pub busy-passes : (ws : List ℕ) (k h : ℕ) → isBusy (task ws k .operation) 
     → tickRefusal ws k h ≡ nothing
 busy-passes ws k h b l = rw (lt-ltb k (taskCount ws) (busy-is-task ws k b), lt-ltb h (nodeCount ws) l, b)
 
--- The words vs have the sizes of ws and the right shape.
+-- The words vs have the sizes of ws and the right shape; and 02: "A plain tick does not touch" the task last dispatched.
 pub record Kept (ws vs : List ℕ) : Type 0 where
   pub same-sizes : sizesOf vs ≡ sizesOf ws
+  pub same-dispatched : dispatched vs ≡ dispatched ws
   pub well-sized : WellSized (sizesOf vs)
   pub well-shaped : WellShaped (columns vs)
 
 module _ (ws : List ℕ) (Z : WellSized (sizesOf ws)) (W : WellShaped (columns ws)) where
   pub unchanged : Kept ws ws
-  unchanged = record { same-sizes = refl; well-sized = Z; well-shaped = W }
+  unchanged = record { same-sizes = refl; same-dispatched = refl; well-sized = Z; well-shaped = W }
 
   module _ (k : ℕ) (is-task : k < taskCount ws) (s : Side) where
     effect-kept :
@@ -195,6 +192,7 @@ module _ (ws : List ℕ) (Z : WellSized (sizesOf ws)) (W : WellShaped (columns w
         let same = sym (columns-effect ws (Z .sized) s l in-range k is-task t) in
         record {
           same-sizes = sizes;
+          same-dispatched = effect-dispatched ws (Z .sized) s l in-range k is-task t;
           well-sized = subst WellSized (sym sizes) Z;
           well-shaped = subst WellShaped same (put-ticks-shaped _ recorded _);
         }

@@ -13,6 +13,7 @@ use Rattle.machine.proofs.Words.Columns.{
   Columns,
   putHat,
   putTickCount,
+  putDispatched,
   putLink,
   putValue,
   putRecord,
@@ -21,7 +22,7 @@ use Rattle.machine.proofs.Words.Columns.{
 }
 use Rattle.machine.proofs.Words.EffectLaws.{InRange, AllInRange, put-one-rest}
 use Rattle.machine.proofs.Shape.BusyLaws.{NodeOrNone}
-use Rattle.machine.proofs.Shape.ShapeLaws.{WellShaped, counted-last-words}
+use Rattle.machine.proofs.Shape.ShapeLaws.{WellShaped, counted-last-words, dispatched-last-words}
 use Rattle.machine.proofs.Shape.Fits.{WriteFits, WritesFit}
 
 -- What fits is in range.
@@ -86,6 +87,16 @@ module _ (c : Columns) (W : WellShaped c) where
   put-ticks-shaped n =
       record {
         counts-ok = counted-last-words n (W .counts-ok);
+        hats-ok = W .hats-ok;
+        links-ok = W .links-ok;
+        values-ok = W .values-ok;
+        records-ok = W .records-ok;
+      }
+
+  pub put-dispatched-shaped : (k : ℕ) → k < c .sizes .taskCount → WellShaped (putDispatched k c)
+  put-dispatched-shaped k h =
+      record {
+        counts-ok = dispatched-last-words k h (W .counts-ok);
         hats-ok = W .hats-ok;
         links-ok = W .links-ok;
         values-ok = W .values-ok;

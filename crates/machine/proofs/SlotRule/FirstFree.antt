@@ -12,8 +12,10 @@ use Rattle.machine.specs.Choice.{_≟_, _<?_, _≤?_}
 use Rattle.machine.specs.Tasks.{none}
 use Rattle.machine.specs.Table.{nodeCount}
 use Rattle.machine.specs.Reach.{Reachable}
-use Rattle.machine.specs.Allocate.{largestCount, marked, following, firstUnmarked, allocate}
+use Rattle.machine.specs.Round.{following}
+use Rattle.machine.specs.Allocate.{largestCount, marked, firstUnmarked, allocate}
 use Rattle.machine.specs.FirstFree.{nth, FirstFreeFrom}
+use Rattle.machine.proofs.Basics.Rounds.{following-up, following-round, following-below}
 use Rattle.machine.proofs.SlotRule.Marking.{firstUnmarked-here, firstUnmarked-next, firstUnmarked-end}
 use Rattle.machine.proofs.SlotRule.Reached.{
   WellLinked,
@@ -26,27 +28,14 @@ use Rattle.machine.proofs.SlotRule.Reached.{
 
 -- ---- The way in closed form.
 module _ (S : ℕ) where
-  following-up : (x : ℕ) → x + 1 < S → following S x ≡ x + 1
-  following-up x h = rw (lt-ltb (x + 1) S h)
-
-  following-round : (x : ℕ) → S ≤ x + 1 → following S x ≡ 0
-  following-round x h = rw (le-ltb (x + 1) S h)
-
-  following-node : (x : ℕ) → x < S → following S x < S
-  following-node x h = by (x + 1 <? S)
-    where
-      by : Dec (x + 1 < S) → following S x < S
-      by (yes l) = rw (following-up x l) l
-      by (no l) = rw (following-round x (omega arith)) (omega arith)
-
   pub nth-node : (i x : ℕ) → x < S → nth S x i < S
   nth-node zero x h = h
-  nth-node (suc i) x h = nth-node i (following S x) (following-node x h)
+  nth-node (suc i) x h = nth-node i (following S x) (following-below S x h)
 
   -- Up to S - 1 each step adds one.
   pub nth-up : (i x : ℕ) → x + i < S → nth S x i ≡ x + i
   nth-up zero x h = omega arith
-  nth-up (suc i) x h = rw (following-up x (omega arith)) (nth-up i (x + 1) (omega arith) ∙ omega arith)
+  nth-up (suc i) x h = rw (following-up S x (omega arith)) (nth-up i (x + 1) (omega arith) ∙ omega arith)
 
   -- Past S - 1 it goes on from 0.
   pub nth-round : (i x : ℕ) → x < S → i < S → S ≤ x + i → nth S x i ≡ x + i - S
@@ -54,8 +43,8 @@ module _ (S : ℕ) where
   nth-round (suc i) x h l r = by (x + 1 <? S) (λ h′. nth-round i (x + 1) h′ (omega arith) (omega arith))
     where
       by : Dec (x + 1 < S) → (x + 1 < S → nth S (x + 1) i ≡ x + 1 + i - S) → nth S (following S x) i ≡ x + suc i - S
-      by (yes h′) later = rw (following-up x h′) (later h′ ∙ omega arith)
-      by (no h′) later = rw (following-round x (omega arith)) (nth-up i 0 (omega arith) ∙ omega arith)
+      by (yes h′) later = rw (following-up S x h′) (later h′ ∙ omega arith)
+      by (no h′) later = rw (following-round S x (omega arith)) (nth-up i 0 (omega arith) ∙ omega arith)
 
   -- So the S nodes met from any node on, itself the first, are all nodes.
   pub nth-meets : (x y : ℕ) → x < S → y < S → (i : ℕ) × (i < S) × (nth S x i ≡ y)
@@ -113,7 +102,7 @@ module _ (S : ℕ) (marks : List ℕ) where
   -- The search from a node meets nodes only, and none is no node: so it gives none only if all that it met have a mark.
   search-none : S ≤ largestCount → (n x : ℕ) → x < S → firstUnmarked S marks n x ≡ none → MetMarked n x
   search-none few zero x h q = met-none x
-  search-none few (suc n) x h q = by (getD marks x 0 ≟ 0) (search-none few n (following S x) (following-node S x h))
+  search-none few (suc n) x h q = by (getD marks x 0 ≟ 0) (search-none few n (following S x) (following-below S x h))
     where
       by : Dec (getD marks x 0 ≡ 0)
           → (firstUnmarked S marks n (following S x) ≡ none → MetMarked n (following S x))

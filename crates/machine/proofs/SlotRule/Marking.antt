@@ -15,6 +15,7 @@ use Rattle.machine.specs.Choice.{_≟_, _<?_}
 use Rattle.machine.specs.Sides.{Side, left, right}
 use Rattle.machine.specs.Tasks.{none}
 use Rattle.machine.specs.Table.{nodeCount, link}
+use Rattle.machine.specs.Round.{following}
 use Rattle.machine.specs.Allocate.{
   roots,
   largestCount,
@@ -26,7 +27,6 @@ use Rattle.machine.specs.Allocate.{
   visit,
   visitFrom,
   marked,
-  following,
   firstUnmarked,
   allocate,
 }

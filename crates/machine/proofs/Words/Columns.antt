@@ -2,7 +2,7 @@
 use mathlib.Core.Path.{_≡_, refl, ap, _∙_, fun-ext}
 use mathlib.Core.Logic.{_≢_}
 use mathlib.Core.List.{List, [], _∷_}
-use Prim.Native.Nat.{ℕ, _<_}
+use Prim.Native.Nat.{ℕ, _-_, _<_}
 use lib.ListN.{length}
 use Rattle.machine.specs.declared.Stored.{Stored}
 use Rattle.machine.specs.Choice.{_<?_, if_then_else_}
@@ -16,7 +16,7 @@ use Rattle.machine.specs.Table.{
   growth,
   hat,
   tickCount,
-  word6,
+  dispatched,
   word7,
   link,
   valueWords,
@@ -40,15 +40,18 @@ pub record Sizes : Type 0 where
 -- The tick count and the header's words after it.
 pub record Counts : Type 0 where
   pub tickCount : ℕ
-  pub word6 : ℕ
+  pub dispatched : ℕ
   pub word7 : ℕ
 
--- As start leaves them, and with another tick count.
-abbrev pub startCounts : Counts
-startCounts = record { tickCount = 0; word6 = 0; word7 = 0 }
+-- As start leaves them, with another tick count, and with another task last dispatched.
+abbrev pub startCounts : (T : ℕ) → Counts
+startCounts T = record { tickCount = 0; dispatched = T - 1; word7 = 0 }
 
 abbrev pub countedAs : ℕ → Counts → Counts
-countedAs n c = record { tickCount = n; word6 = c .word6; word7 = c .word7 }
+countedAs n c = record { tickCount = n; dispatched = c .dispatched; word7 = c .word7 }
+
+abbrev pub dispatchedTo : ℕ → Counts → Counts
+dispatchedTo k c = record { tickCount = c .tickCount; dispatched = k; word7 = c .word7 }
 
 -- The words of the table. A number that is no node has the words of never used, one that is no task has a fresh record.
 pub record Columns : Type 0 where
@@ -64,7 +67,7 @@ sizesOf ws =
     record { length = length ws; nodeCount = nodeCount ws; taskCount = taskCount ws; growth = growth ws }
 
 abbrev pub countsOf : List ℕ → Counts
-countsOf ws = record { tickCount = tickCount ws; word6 = word6 ws; word7 = word7 ws }
+countsOf ws = record { tickCount = tickCount ws; dispatched = dispatched ws; word7 = word7 ws }
 
 abbrev pub columns : List ℕ → Columns
 columns ws =
@@ -123,6 +126,9 @@ putHat s x c = putHeader (updateSide (c .hats) s x) (c .counts) c
 abbrev pub putTickCount : ℕ → Columns → Columns
 putTickCount n c = putHeader (c .hats) (countedAs n (c .counts)) c
 
+abbrev pub putDispatched : ℕ → Columns → Columns
+putDispatched k c = putHeader (c .hats) (dispatchedTo k (c .counts)) c
+
 abbrev pub putLink : Side → ℕ → ℕ → Columns → Columns
 putLink s x y c = putBody (updateSide (c .links) s (update (c .links s) x y)) (c .values) (c .records) c
 
@@ -153,8 +159,8 @@ pub sizes-equal :
     → y ≡ z
 sizes-equal p q r s = λ i. record { length = p i; nodeCount = q i; taskCount = r i; growth = s i }
 
-pub counts-equal : {m n : Counts} → m .tickCount ≡ n .tickCount → m .word6 ≡ n .word6 → m .word7 ≡ n .word7 → m ≡ n
-counts-equal p q r = λ i. record { tickCount = p i; word6 = q i; word7 = r i }
+pub counts-equal : {m n : Counts} → m .tickCount ≡ n .tickCount → m .dispatched ≡ n .dispatched → m .word7 ≡ n .word7 → m ≡ n
+counts-equal p q r = λ i. record { tickCount = p i; dispatched = q i; word7 = r i }
 
 pub columns-equal :
     {b c : Columns}

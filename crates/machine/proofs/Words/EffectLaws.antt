@@ -10,9 +10,11 @@ use Rattle.machine.specs.Table.{
   nodeCount,
   taskCount,
   tickCount,
+  dispatched,
   value,
   recordWords,
   task,
+  setDispatched,
   setTask,
 }
 use Rattle.machine.specs.Lines.{Write, out≔, inn≔, val≔, hat≔, writeOne, writeAll}
@@ -36,6 +38,7 @@ use Rattle.machine.proofs.Words.Columns.{
 use Rattle.machine.proofs.Words.TableLaws.{
   columns-setHat,
   columns-setTickCount,
+  columns-setDispatched,
   columns-setLink,
   columns-setValue,
   columns-setTask,
@@ -141,6 +144,18 @@ tasks-put-record :
     (k : ℕ) (t : Task) (c : Columns) → HasWord (t .value) → tasks (putRecord k (wordsOf t) c) ≡ update (tasks c) k t
 tasks-put-record k t c h = map-update taskOf (c .records) k (wordsOf t) t (task-of-words t h)
 
+-- ---- The task last dispatched: nothing else changes.
+module _ (ws : List ℕ) (sized : Sized (sizesOf ws)) (k : ℕ) where
+  pub viewed-set-dispatched : (s : Side) → viewed s (setDispatched k ws) ≡ viewed s ws
+  unfolding value
+  viewed-set-dispatched s = ap (viewOf s) (columns-setDispatched ws sized k)
+
+  pub task-set-dispatched : task (setDispatched k ws) ≡ task ws
+  task-set-dispatched =
+      task-by-columns (setDispatched k ws)
+      ∙ ap tasks (columns-setDispatched ws sized k)
+      ∙ sym (task-by-columns ws)
+
 -- ---- A record written: begin.
 module _ (ws : List ℕ) (sized : Sized (sizesOf ws)) (k : ℕ) (is-task : k < taskCount ws) (t : Task) where
   pub viewed-set-task : (s : Side) → viewed s (setTask k t ws) ≡ viewed s ws
@@ -193,6 +208,11 @@ module _
 
   pub effect-sizes : sizesOf (effectWords s l k t ws) ≡ sizesOf ws
   effect-sizes = ap (λ c. c .sizes) columns-effect ∙ put-all-rest s l (columns ws) .sizes
+
+  pub effect-dispatched : dispatched (effectWords s l k t ws) ≡ dispatched ws
+  effect-dispatched =
+      ap (λ c. c .counts .dispatched) columns-effect
+      ∙ ap (λ n. n .dispatched) (put-all-rest s l (columns ws) .counts)
 
   pub viewed-effect : viewed right (effectWords s l k t ws) ≡ viewAfter s l (viewed right ws)
   unfolding value

@@ -88,7 +88,7 @@ startColumns S T g =
     record {
       sizes = record { length = tableLength S T; nodeCount = S; taskCount = T; growth = g };
       hats = startHat;
-      counts = startCounts;
+      counts = startCounts T;
       links = startLink;
       values = λ x. encode (startValue x);
       records = λ k. wordsOf fresh;
@@ -101,7 +101,7 @@ module _ (S T g : ℕ) (two : 2 ≤ S) where
 
   -- The header and the first two nodes.
   front : List ℕ
-  front = headerWords S T g 0 1 0 ++ (nodeWords none 1 (X left) ++ nodeWords 0 none (X right))
+  front = headerWords S T g 0 1 0 (T - 1) ++ (nodeWords none 1 (X left) ++ nodeWords 0 none (X right))
 
   length-nodes : length (times (S - 2) spare) ≡ (S - 2) * nodeLength
   unfolding spare

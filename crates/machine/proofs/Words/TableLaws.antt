@@ -15,6 +15,7 @@ use Rattle.machine.specs.Table.{
   hatAt,
   hat,
   tickCountAt,
+  dispatchedAt,
   linkAt,
   valueAt,
   linkWord,
@@ -25,6 +26,7 @@ use Rattle.machine.specs.Table.{
   recordWords,
   setHat,
   setTickCount,
+  setDispatched,
   setLink,
   setValue,
   setTask,
@@ -37,6 +39,7 @@ use Rattle.machine.proofs.Words.Columns.{
   Sized,
   putHat,
   putTickCount,
+  putDispatched,
   putLink,
   putValue,
   putRecord,
@@ -92,6 +95,16 @@ module _ (ws : List ℕ) (sized : Sized (sizesOf ws)) where
       let own = getD-set-same ws tickCountAt n 0 (omega arith) in
       columns-equal (same-sizes W past) (hats-before W past (omega arith))
       (counts-equal own (W .other _ (inr (omega arith))) (W .other _ (inr (omega arith))))
+      (links-off W past (inl (omega arith))) (values-off W past (inl (omega arith))) (records-off W past (omega arith))
+
+  -- ---- The task last dispatched.
+  pub columns-setDispatched : (k : ℕ) → columns (setDispatched k ws) ≡ putDispatched k (columns ws)
+  columns-setDispatched k =
+      let W = set-wrote ws dispatchedAt k in
+      let past : hatAt left ≤ dispatchedAt = omega arith in
+      let own = getD-set-same ws dispatchedAt k 0 (omega arith) in
+      columns-equal (same-sizes W past) (hats-before W past (omega arith))
+      (counts-equal (W .other _ (inl (omega arith))) own (W .other _ (inr (omega arith))))
       (links-off W past (inl (omega arith))) (values-off W past (inl (omega arith))) (records-off W past (omega arith))
 
 -- ---- A link.

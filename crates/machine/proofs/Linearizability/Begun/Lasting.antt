@@ -28,6 +28,8 @@ use Rattle.machine.specs.Calls.{
   effectOf,
   Ticked,
   tickOn,
+  Dispatched,
+  dispatch,
   run,
   panel,
 }
@@ -37,6 +39,7 @@ use Rattle.machine.specs.Demand3.{
   start-call,
   begin-call,
   tick-call,
+  dispatch-call,
   run-call,
   panel-call,
   read-call,
@@ -49,7 +52,9 @@ use Rattle.machine.proofs.Basics.Tests.{and-left, and-right, test-passe
 use Rattle.machine.proofs.Basics.Updates.{update}
 use Rattle.machine.proofs.Words.Memories.{View, viewed, viewAfter, seen-viewed}
 use Rattle.machine.proofs.Words.StartLaws.{startView, viewed-start, task-start}
+use Rattle.machine.proofs.Words.EffectLaws.{viewed-set-dispatched, task-set-dispatched}
 use Rattle.machine.proofs.Shape.TickKeeps.{tick-allowed}
+use Rattle.machine.proofs.Shape.DispatchCases.{by-dispatch}
 use Rattle.machine.proofs.SlotRule.FirstFree.{allocate-not-kept}
 use Rattle.machine.proofs.Linearizability.Model.Classes.{Class}
 use Rattle.machine.proofs.Linearizability.Model.Invariant.{Invariant, Roots}
@@ -66,6 +71,7 @@ use Rattle.machine.proofs.Linearizability.Corollaries.{
   begun-agrees,
   tick-passes,
   tick-agrees,
+  ticked-sized,
   run-is-its-ticks,
   panel-is-its-ticks,
 }
@@ -136,6 +142,14 @@ module _ {Fact : View → (ℕ → Task) → Type 0} (L : Lasts Fact) where
         go (some n) e = rw (e, tickOn) F
         go nothing e = made-keeps k h e
 
+    -- A dispatch, which is a tick or changes nothing.
+    dispatch-keeps : (h : ℕ) → Of (dispatch ws h .words)
+    dispatch-keeps h =
+        by-dispatch ws (A .accepted) h (λ (r : Dispatched). Of (r .words)) F (λ _. F) (λ k n _ _. F) (λ k _ _ _.
+        let sized = ticked-sized A k h in
+        let vs = tickOn ws k h .words in
+        rw (viewed-set-dispatched vs sized k right, task-set-dispatched vs sized k) (tick-keeps k h))
+
   -- The ticks of a list.
   ticks-keep : (i : ℕ) (list ws : List ℕ) (ρ : Row) → Agrees ws ρ → Of ws → Of (afterTicks i list ws)
   unfolding afterTicks
@@ -151,6 +165,7 @@ module _ {Fact : View → (ℕ → Task) → Type 0} (L : Lasts Fact) where
   call-keeps A F (begin-call k op side argument) = begin-keeps A F k op side argument
   call-keeps A F (tick-call k h) =
       subst (λ (r : Ticked). Of (r .words)) (sym (tick-passes A k h)) (tick-keeps A F k h)
+  call-keeps A F (dispatch-call h) = dispatch-keeps A F h
   call-keeps {ws} {ρ} A F (run-call list answers) =
       subst Of (run-is-its-ticks ws list answers) (ticks-keep (run ws list answers .ran .made) list ws ρ A F)
   call-keeps {ws} {ρ} A F (panel-call list answers) =

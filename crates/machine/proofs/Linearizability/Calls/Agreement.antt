@@ -7,7 +7,7 @@ use Rattle.machine.specs.Shape.{WellFormed}
 use Rattle.machine.specs.Sides.{right}
 use Rattle.machine.specs.Operations.{Operation, idle, push, pop, add, remove}
 use Rattle.machine.specs.Tasks.{Task}
-use Rattle.machine.specs.Table.{task}
+use Rattle.machine.specs.Table.{taskCount, dispatched, task}
 use Rattle.machine.specs.Calls.{lane}
 use Rattle.machine.specs.Row.{Note, Row}
 use Rattle.machine.specs.Demand3.{LaneIs}
@@ -32,6 +32,8 @@ pub record Agrees (ws : List ℕ) (ρ : Row) : Type 0 where
   pub class : ℕ → Class
   pub invariant : Invariant (viewed right ws) (task ws) class (ρ .bags)
   pub notes : (k : ℕ) → ρ .notes k ≡ noteIn (task ws k)
+  pub same-count : ρ .tasks ≡ taskCount ws
+  pub same-dispatched : ρ .dispatched ≡ dispatched ws
 
 pub lane-is-row : {ws : List ℕ} {ρ : Row} → Agrees ws ρ → LaneIs ws ρ
 lane-is-row {ws} A = lane-row ws (A .invariant .lane)

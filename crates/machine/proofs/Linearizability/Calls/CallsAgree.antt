@@ -1,8 +1,8 @@
 -- Each call but a list of ticks keeps the agreement of table and row, and gives back what the row gives.
-use mathlib.Core.Path.{_≡_, refl, sym, ap, _∙_}
+use mathlib.Core.Path.{_≡_, refl, sym, ap, _∙_, fun-ext}
 use mathlib.Core.Bool.{Bool, true, false}
 use mathlib.Core.List.{List, [], _∷_}
-use mathlib.Core.Option.{Option, some, none as nothing}
+use mathlib.Core.Option.{Option, some, none as nothing, bind}
 use Prim.Native.Nat.{ℕ, _*_, _≤_}
 use native.Mathlib.Omega.{arith}
 use native.Mathlib.Decide.{ℕ-discrete}
@@ -12,16 +12,20 @@ use lib.Seq.{take-at}
 use borrow.Author.Tests.{eq-eqb, leb-false, lt-ltb, leb-true}
 use Rattle.tag.specs.Tags.{allTagWords}
 use Rattle.tag.proofs.TagLaws.{length-tag-words}
+use Rattle.machine.specs.declared.Dispatch.the-variants.{Idle, Answered}
+use Rattle.machine.specs.Round.{nextAfter}
 use Rattle.machine.specs.Values.{number}
 use Rattle.machine.specs.declared.Stored.{Stored}
 use Rattle.machine.specs.Choice.{_≟_}
 use Rattle.machine.specs.Sides.{right, sideOf}
 use Rattle.machine.specs.Operations.{Operation, idle, push, pop, add, remove, operationOf}
 use Rattle.machine.specs.Tasks.{Task}
-use Rattle.machine.specs.Table.{task, setTask}
+use Rattle.machine.specs.Table.{taskCount, dispatched, task, setDispatched, setTask}
 use Rattle.machine.specs.Shape.{sizesOk, sameWords, WellFormed}
+use Rattle.machine.specs.Answers.{refusalOf}
 use Rattle.machine.specs.Calls.{
   isIdle,
+  isBusy,
   startRefusal,
   beginRefusal,
   tickRefusal,
@@ -34,15 +38,29 @@ use Rattle.machine.specs.Calls.{
   Ticked,
   tickOn,
   tick,
+  Dispatched,
+  nextBusy,
   ReadDone,
   readInto,
   read,
 }
-use Rattle.machine.specs.Row.{Note, Row, emptyRow, noted}
+use Rattle.machine.specs.Row.{
+  Note,
+  Row,
+  emptyRow,
+  noted,
+  withDispatched,
+  hasNote,
+  nextNoted,
+  feedDispatched,
+  feedIdle,
+  feedDispatch,
+}
 use Rattle.machine.specs.Demand3.{
   start-call,
   begin-call,
   tick-call,
+  dispatch-call,
   read-call,
   Call,
   given,
@@ -59,9 +77,23 @@ use Rattle.machine.proofs.Basics.Tests.{and-left, and-right, test-passe
 use Rattle.machine.proofs.Basics.Updates.{update, update-same, update-other}
 use Rattle.machine.proofs.Words.ValueLaws.{never-has-word}
 use Rattle.machine.proofs.Words.StartLaws.{viewed-start, task-start}
-use Rattle.machine.proofs.Words.EffectLaws.{viewed-set-task, task-set-task}
+use Rattle.machine.proofs.Words.TableLaws.{columns-setDispatched, columns-setTask}
+use Rattle.machine.proofs.Words.EffectLaws.{
+  viewed-set-dispatched,
+  task-set-dispatched,
+  viewed-set-task,
+  task-set-task,
+}
 use Rattle.machine.proofs.Shape.ShapeLaws.{well-sized}
-use Rattle.machine.proofs.Shape.ShapeKept.{start-accepted, begin-allowed, table-passes, call-accepted}
+use Rattle.machine.proofs.Shape.DispatchCases.{by-dispatch}
+use Rattle.machine.proofs.Shape.ShapeKept.{
+  start-accepted,
+  begin-allowed,
+  table-passes,
+  dispatched-accepted,
+  call-accepted,
+}
+use Rattle.machine.proofs.Linearizability.Model.Invariant.{noteOf}
 use Rattle.machine.proofs.Linearizability.Calls.Start.{startClass, invariant-start}
 use Rattle.machine.proofs.Linearizability.Calls.Begin.{invariant-begin}
 use Rattle.machine.proofs.Linearizability.Calls.Agreement.{noteIn, noteUnder, Agrees, lane-is-row}
@@ -85,8 +117,8 @@ explains :
 explains x = record { row = x .0; given-by-row = x .1; agrees = x .2 }
 
 -- ---- start.
-pub start-agrees : (S T g : ℕ) → sizesOk S T g ≡ true → Agrees (startWords S T g) emptyRow
-unfolding ℕ-discrete
+pub start-agrees : (S T g : ℕ) → sizesOk S T g ≡ true → Agrees (startWords S T g) (emptyRow T)
+unfolding ℕ-discrete startWords
 start-agrees S T g ok =
     let two : 2 ≤ S = leb-true 2 S (search (and-left, and-right)) in
     record {
@@ -107,6 +139,23 @@ start-agrees S T g ok =
           })
           (task-start S T g two));
       notes = λ k. ap noteIn (sym (task-start S T g two k));
+      same-count = refl;
+      same-dispatched = refl;
+    }
+
+-- The same table and row with another task last dispatched.
+dispatched-agrees : {ws : List ℕ} {ρ : Row} → Agrees ws ρ → (k : ℕ) → WellFormed (setDispatched k ws)
+    → Agrees (setDispatched k ws) (withDispatched k ρ)
+dispatched-agrees {ws} {ρ} A k accepted =
+    let sized = well-sized ws (A .accepted .length-passes) .sized in
+    let same = columns-setDispatched ws sized k in
+    record {
+      accepted = accepted;
+      class = A .class;
+      invariant = rw (viewed-set-dispatched ws sized k right, task-set-dispatched ws sized k) (A .invariant);
+      notes = λ j. rw (task-set-dispatched ws sized k) (A .notes j);
+      same-count = A .same-count ∙ sym (ap (λ c. c .sizes .taskCount) same);
+      same-dispatched = sym (ap (λ c. c .counts .dispatched) same);
     }
 
 -- An operation that tests as idle is idle.
@@ -123,11 +172,11 @@ module _ {ws : List ℕ} {ρ : Row} (A : Agrees ws ρ) where
   start-explained S T g = explains (go (startRefusal ws S T g) refl)
     where
       Result : Changed → Type 0
-      Result c = (ρ′ : Row) × (feedStart ρ (c .reply) ≡ some ρ′) × Agrees (c .words) ρ′
+      Result c = (ρ′ : Row) × (feedStart ρ T (c .reply) ≡ some ρ′) × Agrees (c .words) ρ′
 
       go : (r : Option ℕ) → startRefusal ws S T g ≡ r → Result (changed r ws (startWords S T g))
       go (some n) e = (ρ, refl, A)
-      go nothing e = (emptyRow, refl, start-agrees S T g (search test-passed))
+      go nothing e = (emptyRow T, refl, start-agrees S T g (search test-passed))
 
   -- ---- begin.
   begun-note : (n : ℕ) → 1 ≤ n → (m : Note) → noteUnder (operationOf n) m ≡ some m
@@ -171,7 +220,8 @@ module _ {ws : List ℕ} {ρ : Row} (A : Agrees ws ρ) where
           let B = begin-allowed ws k op side argument e in
           let Z = well-sized ws (A .accepted .length-passes) in
           let viewed-after = viewed-set-task ws (Z .sized) k (B .is-task) t right in
-          let task-after = task-set-task ws (Z .sized) k (B .is-task) t never-has-word in (
+          let task-after = task-set-task ws (Z .sized) k (B .is-task) t never-has-word in
+          let columns-after = columns-setTask ws (Z .sized) k t (B .is-task) in (
             noted ρ k (some n),
             refl,
             record {
@@ -182,6 +232,8 @@ module _ {ws : List ℕ} {ρ : Row} (A : Agrees ws ρ) where
                   (invariant-begin (A .invariant) k (idle-operation (task ws k .operation) (B .was-idle))
                   (operationOf op) (sideOf side) (number argument));
               notes = λ j. rw task-after (notes-after (B .some-operation) j);
+              same-count = A .same-count ∙ sym (ap (λ c. c .sizes .taskCount) columns-after);
+              same-dispatched = A .same-dispatched ∙ sym (ap (λ c. c .counts .dispatched) columns-after);
             },
           )
 
@@ -201,6 +253,47 @@ module _ {ws : List ℕ} {ρ : Row} (A : Agrees ws ρ) where
 
       passed : (r : Option ℕ) → tickRefusal ws k h ≡ r → Result (tick ws k h)
       passed r e = rw (table-passes ws (A .accepted) nothing, tick) (go r e)
+
+  -- ---- dispatch.
+
+  -- The tasks with a note are the busy ones, so the row's next one is the table's.
+  next-same : nextNoted (ρ .notes) (ρ .tasks) (ρ .dispatched) ≡ nextBusy ws
+  next-same =
+      ap (λ (n : ℕ). nextNoted (ρ .notes) n (ρ .dispatched)) (A .same-count)
+      ∙ ap (λ (d : ℕ). nextNoted (ρ .notes) (taskCount ws) d) (A .same-dispatched)
+      ∙ ap (λ (test : ℕ → Bool). nextAfter (taskCount ws) test (dispatched ws))
+      (fun-ext (λ k. ap hasNote (A .notes k) ∙ noted-if-busy (task ws k .operation) (noteOf (task ws k))))
+    where
+      noted-if-busy : (op : Operation) (n : Note) → hasNote (noteUnder op n) ≡ isBusy op
+      noted-if-busy idle n = refl
+      noted-if-busy push n = refl
+      noted-if-busy pop n = refl
+      noted-if-busy add n = refl
+      noted-if-busy remove n = refl
+
+  pub dispatch-explained : (h : ℕ) → Explains ws ρ (dispatch-call h)
+  unfolding feedDispatch feedIdle feedDispatched bind
+  dispatch-explained h = explains (by-dispatch ws (A .accepted) h Result (ρ, refl, A) idle-now line-refused made)
+    where
+      Result : Dispatched → Type 0
+      Result r = (ρ′ : Row) × (feedDispatch ρ (r .answer) ≡ some ρ′) × Agrees (r .words) ρ′
+
+      line-refused : (k n : ℕ) → nextBusy ws ≡ some k → refusalOf (tickOn ws k h .answer) ≡ some n
+          → Result (record { answer = Answered (tickOn ws k h .answer); words = ws })
+      line-refused k n chosen q = (ρ, rw (q, feedDispatch), A)
+
+      idle-now : nextBusy ws ≡ nothing → Result (record { answer = Idle; words = ws })
+      idle-now e = (ρ, rw (next-same ∙ e, feedIdle), A)
+
+      made : (k : ℕ) → nextBusy ws ≡ some k → tickRefusal ws k h ≡ nothing
+          → refusalOf (tickOn ws k h .answer) ≡ nothing
+          → Result (record { answer = Answered (tickOn ws k h .answer); words = setDispatched k (tickOn ws k h .words) })
+      made k chosen passes q =
+          let M = made-tick A k h passes in (
+            withDispatched k (M .row),
+            rw (q, feedDispatch, next-same ∙ chosen, M .given),
+            dispatched-agrees (M .agrees) k (dispatched-accepted ws (A .accepted) k h passes),
+          )
 
   -- ---- Reading the lane.
   pub read-explained : (out : List ℕ) → Explains ws ρ (read-call out)

@@ -17,7 +17,7 @@ use Rattle.machine.specs.Allocate.{allocate}
 use Rattle.machine.specs.Lines.{Memory, act}
 use Rattle.machine.specs.Answers.{refusalOf}
 use Rattle.machine.specs.Calls.{isBusy, tickRefusal, effectOf, tickOn}
-use Rattle.machine.specs.Row.{Note, Row, noted, answered, isGoing, feedMade}
+use Rattle.machine.specs.Row.{Note, Row, noted, withBags, answered, isGoing, feedMade}
 use Rattle.machine.proofs.Basics.Contradiction.{clash, refute}
 use Rattle.machine.proofs.Basics.Choices.{by-if}
 use Rattle.machine.proofs.Basics.Updates.{update, update-same, update-other}
@@ -167,8 +167,10 @@ module _ {ws : List ℕ} {ρ : Row} (A : Agrees ws ρ) (k h : ℕ) (passes : tic
 
   -- The table afterwards, with a row that has the bags that the invariant speaks of.
   agrees-after : (ρ′ : Row) → ρ′ .bags ≡ keeps-invariant .r' → ((j : ℕ) → ρ′ .notes j ≡ noteIn (tasks-after j))
+      → ρ′ .tasks ≡ ρ .tasks
+      → ρ′ .dispatched ≡ ρ .dispatched
       → Agrees (tickOn ws k h .words) ρ′
-  agrees-after ρ′ same-bags same-notes =
+  agrees-after ρ′ same-bags same-notes same-tasks same-dispatched =
       let Z = sizes (A .accepted) in
       let W = shape (A .accepted) in
       let K = tick-kept ws Z W k h in
@@ -185,6 +187,8 @@ module _ {ws : List ℕ} {ρ : Row} (A : Agrees ws ρ) (k h : ℕ) (passes : tic
         invariant =
             rw (viewed-after, task-after, same-bags) (keeps-invariant .invariant);
         notes = λ j. rw task-after (same-notes j);
+        same-count = same-tasks ∙ A .same-count ∙ sym (ap (λ z. z .taskCount) (K .same-sizes));
+        same-dispatched = same-dispatched ∙ A .same-dispatched ∙ sym (K .same-dispatched);
       }
 
   note : ρ .notes k ≡ some (noteOf (task ws k))
@@ -215,7 +219,7 @@ module _ {ws : List ℕ} {ρ : Row} (A : Agrees ws ρ) (k h : ℕ) (passes : tic
 
   feed-answer : {r : List ℕ} → effectOf ws k h .answer ≢ Going
       → answered (noteOf (task ws k)) (effectOf ws k h .answer) (ρ .bags) ≡ some r
-      → feedMade ρ k (tickOn ws k h .answer) ≡ some (noted (record { bags = r; notes = ρ .notes }) k nothing)
+      → feedMade ρ k (tickOn ws k h .answer) ≡ some (noted (withBags ρ r) k nothing)
   unfolding feedMade bind
   feed-answer n e = rw (answer-is, note, not-going (effectOf ws k h .answer) n, e)
 
@@ -242,14 +246,14 @@ module _ {ws : List ℕ} {ρ : Row} (A : Agrees ws ρ) (k h : ℕ) (passes : tic
             row = ρ;
             no-number = no-answer-number;
             given = feed-going e;
-            agrees = agrees-after ρ (sym (same-row-from s (T .r') (ρ .bags) same-row)) (notes-going same);
+            agrees = agrees-after ρ (sym (same-row-from s (T .r') (ρ .bags) same-row)) (notes-going same) refl refl;
           }
       go (has-answered n fresh-now) =
           let bags = given-by-row (noteOf (task ws k)) (ρ .bags) (T .r') (effectOf ws k h .answer) n (T .row-step) in
           record {
-            row = noted (record { bags = T .r'; notes = ρ .notes }) k nothing;
+            row = noted (withBags ρ (T .r')) k nothing;
             no-number = no-answer-number;
             given = feed-answer n bags;
             agrees =
-                agrees-after (noted (record { bags = T .r'; notes = ρ .notes }) k nothing) refl (notes-ended fresh-now);
+                agrees-after (noted (withBags ρ (T .r')) k nothing) refl (notes-ended fresh-now) refl refl;
           }

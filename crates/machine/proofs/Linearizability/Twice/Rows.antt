@@ -8,6 +8,8 @@ use Prim.Native.Nat.{ℕ, zero, suc, _≤_}
 use native.Mathlib.Omega.{arith}
 use Rattle.machine.specs.declared.Answer.{Answer}
 use Rattle.machine.specs.declared.Answer.the-variants.{Going, Pushed, Bag, Empty, Full, Yes, No, Refused}
+use Rattle.machine.specs.declared.Dispatch.{Dispatch}
+use Rattle.machine.specs.declared.Dispatch.the-variants.{Idle, Answered}
 use Rattle.machine.specs.declared.Reply.the-variants.{Accepted, Refused as Reply-Refused}
 use Rattle.machine.specs.Choice.{_≟_, if_then_else_}
 use Rattle.machine.specs.Sides.{Side, sideOf}
@@ -20,6 +22,8 @@ use Rattle.machine.specs.Row.{
   Row,
   emptyRow,
   noted,
+  withBags,
+  withDispatched,
   put,
   pushAnswered,
   popAnswered,
@@ -29,12 +33,17 @@ use Rattle.machine.specs.Row.{
   isGoing,
   feedMade,
   feedRun,
+  nextNoted,
+  feedDispatched,
+  feedIdle,
+  feedDispatch,
 }
 use Rattle.machine.specs.Demand3.{
   Call,
   start-call,
   begin-call,
   tick-call,
+  dispatch-call,
   run-call,
   panel-call,
   read-call,
@@ -72,9 +81,9 @@ once-in-row {ρ} O =
 same-row : {ρ ρ′ : Row} → some ρ ≡ some ρ′ → Once ρ → Once ρ′
 same-row {ρ} {ρ′} e O = let q : ρ ≡ ρ′ = cc in subst Once q O
 
-pub once-empty : Once emptyRow
+pub once-empty : (T : ℕ) → Once (emptyRow T)
 unfolding count
-once-empty =
+once-empty T =
     record {
       at-most-once = λ b. omega arith;
       not-yet = λ k b n. refl;
@@ -104,6 +113,7 @@ NewWhereBegun ρ (begin-call k op side argument) Accepted = operationOf op ≡ p
 NewWhereBegun ρ (begin-call k op side argument) (Reply-Refused n) = Unit {0}
 NewWhereBegun ρ (start-call S T g) r = Unit {0}
 NewWhereBegun ρ (tick-call k h) r = Unit {0}
+NewWhereBegun ρ (dispatch-call h) r = Unit {0}
 NewWhereBegun ρ (run-call list answers) r = Unit {0}
 NewWhereBegun ρ (panel-call list answers) r = Unit {0}
 NewWhereBegun ρ (read-call out) r = Unit {0}
@@ -214,12 +224,12 @@ module _ (n : Note) (bags bags′ : List ℕ) where
 
 module _ {ρ : Row} (O : Once ρ) (k : ℕ) (n : Note) (is-noted : ρ .notes k ≡ some n) (bags : List ℕ) where
   abbrev ended : Row
-  ended = noted (record { bags = bags; notes = ρ .notes }) k nothing
+  ended = noted (withBags ρ bags) k nothing
 
   -- The other tasks' notes are as they were.
   others : (j b : ℕ) → PushNoted ended j b → (j ≢ k) × PushNoted ρ j b
   others j b N =
-      elim (noted-there (record { bags = bags; notes = ρ .notes }) k nothing j b N) [
+      elim (noted-there (withBags ρ bags) k nothing j b N) [
         | the-new-one e s q ↦ clash (cc)
         | one-before ne M ↦ (ne, record { side = M .side; note-is = M .note-is })
       ]
@@ -267,7 +277,7 @@ once-made {ρ} {ρ′} O k a e = let n = bound (ρ .notes k) _ e in by-answer (n
   where
     by-answer : (n : Note) → ρ .notes k ≡ some n → (g : Bool)
         → cond g (some ρ)
-        (Option·map (λ bags. noted (record { bags = bags; notes = ρ .notes }) k nothing) (answered n a (ρ .bags)))
+        (Option·map (λ bags. noted (withBags ρ bags) k nothing) (answered n a (ρ .bags)))
         ≡ some ρ′
         → Once ρ′
     by-answer n is true q = same-row q O
@@ -288,10 +298,39 @@ once-run (suc n) (k ∷ h ∷ list) (kind ∷ digit ∷ low ∷ answers) {ρ} O 
     let m = bound (feedMade ρ k (a .0)) _ (a .2) in
     once-run n list answers (once-made O k (a .0) (m .1)) (m .2)
 
+once-dispatch : (r : Dispatch) {ρ ρ′ : Row} → Once ρ → feedDispatch ρ r ≡ some ρ′ → Once ρ′
+unfolding feedDispatch feedIdle feedDispatched
+once-dispatch Idle {ρ} {ρ′} O e = go (nextNoted (ρ .notes) (ρ .tasks) (ρ .dispatched)) e
+  where
+    go : (o : Option ℕ) → elim o as (λ _. Option Row) [ some k ↦ nothing | nothing ↦ some ρ ] ≡ some ρ′ → Once ρ′
+    go (some k) q = clash (cc)
+    go nothing q = same-row q O
+once-dispatch (Answered a) {ρ} {ρ′} O e = go (refusalOf a) e
+  where
+    -- The task last dispatched is no bag and no note.
+    ticked : (k : ℕ) {σ : Row} → Once σ → Once (withDispatched k σ)
+    ticked k P =
+        record {
+          at-most-once = P .at-most-once;
+          not-yet = λ j b N. P .not-yet j b (record { side = N .side; note-is = N .note-is });
+          one-task = λ i j b N M.
+              P .one-task i j b (record { side = N .side; note-is = N .note-is })
+              (record { side = M .side; note-is = M .note-is });
+        }
+
+    go : (o : Option ℕ)
+        → elim o as (λ _. Option Row) [ some n ↦ some ρ | nothing ↦ feedDispatched ρ a ] ≡ some ρ′
+        → Once ρ′
+    go (some n) q = same-row q O
+    go nothing q =
+        let x = bound (nextNoted (ρ .notes) (ρ .tasks) (ρ .dispatched)) _ q in
+        let y = mapped (feedMade ρ (x .0) a) _ (x .2) in
+        same-row (ap some (y .2)) (ticked (x .0) (once-made O (x .0) a (y .1)))
+
 -- ---- Every call.
 pub once-fed : (c : Call) (r : Given c) {ρ ρ′ : Row} → Once ρ → NewWhereBegun ρ c r → feed ρ c r ≡ some ρ′ → Once ρ′
 unfolding feedTick
-once-fed (start-call S T g) Accepted O new e = same-row e once-empty
+once-fed (start-call S T g) Accepted O new e = same-row e (once-empty T)
 once-fed (start-call S T g) (Reply-Refused n) O new e = same-row e O
 once-fed (begin-call k op side argument) Accepted O new e =
     same-row e
@@ -304,6 +343,7 @@ once-fed (tick-call k h) a {ρ} {ρ′} O new e = go (refusalOf a) e
         → Once ρ′
     go (some n) q = same-row q O
     go nothing q = once-made O k a q
+once-fed (dispatch-call h) r O new e = once-dispatch r O e
 once-fed (run-call list answers) r O new e = once-run (r .0 .made) list (r .1) O e
 once-fed (panel-call list answers) r O new e = once-run (r .0 .made) list (r .1) O e
 once-fed (read-call out) r {ρ} O new e = subst Once (same-when-read ρ out (r .0) (r .1) e) O

@@ -13,6 +13,7 @@ use Rattle.machine.specs.Demand3.{
   start-call,
   begin-call,
   tick-call,
+  dispatch-call,
   run-call,
   panel-call,
   read-call,
@@ -50,6 +51,7 @@ module _ {ws : List ℕ} {ρ : Row} (A : Agrees ws ρ) where
       go (Reply-Refused n) e = tt
   new-where-begun (start-call S T g) = tt
   new-where-begun (tick-call k h) = tt
+  new-where-begun (dispatch-call h) = tt
   new-where-begun (run-call list answers) = tt
   new-where-begun (panel-call list answers) = tt
   new-where-begun (read-call out) = tt
@@ -70,7 +72,7 @@ rows-agree (c ∷ cs) {ws} {ρ} {ρ′} A O e =
 row-agrees : {ws : List ℕ} {ρ : Row} → RowSince ws ρ → Agrees ws ρ × Once ρ
 row-agrees {ws} {ρ} R =
     let began = started-agrees (R .S) (R .T) (R .growth) (R .old) (R .accepted) in
-    let x = rows-agree (R .calls) began once-empty (R .row-is) in
+    let x = rows-agree (R .calls) began (once-empty (R .T)) (R .row-is) in
     (subst (λ (vs : List ℕ). Agrees vs ρ) (R .leads-to) (x .0), x .1)
 
 pub rows-have-once : RowsHaveOnce
@@ -104,14 +106,14 @@ one-more {ws} {ρ} {ρ′} c R f =
       calls = R .calls ++ (c ∷ []);
       leads-to = after-one-more (R .calls) c began ∙ ap (after c) (R .leads-to);
       row-is =
-          row-one-more (R .calls) c began emptyRow (R .row-is)
+          row-one-more (R .calls) c began (emptyRow (R .T)) (R .row-is)
           (subst (λ (vs : List ℕ). feed ρ c (given c vs) ≡ some ρ′) (sym (R .leads-to)) f);
     }
 
 begun-row : {ws : List ℕ} → Begun ws → (ρ : Row) × RowSince ws ρ
 unfolding rowAfter afterAll
 begun-row (by-start S T g old accepted) = (
-  emptyRow,
+  emptyRow T,
   record {
     S = S;
     T = T;
