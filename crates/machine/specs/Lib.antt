@@ -20,5 +20,6 @@ pub mod FirstFree
 pub mod Row
 pub mod Demand3
 pub mod Begun
+pub mod Fair
 pub mod Twice
 pub mod Unseen

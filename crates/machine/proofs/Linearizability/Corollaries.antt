@@ -80,7 +80,7 @@ use Rattle.machine.proofs.Basics.Contradiction.{clash, refute}
 use Rattle.machine.proofs.Words.Columns.{sizesOf, Sized}
 use Rattle.machine.proofs.Shape.ShapeLaws.{well-sized}
 use Rattle.machine.proofs.Shape.DispatchCases.{by-dispatch}
-use Rattle.machine.proofs.Shape.ShapeKept.{is-accepted, table-passes}
+use Rattle.machine.proofs.Shape.ShapeKept.{is-accepted, table-passes, tick-passes as accepted-tick-passes}
 use Rattle.machine.proofs.SlotRule.Reached.{node-not-none, reachable-node}
 use Rattle.machine.proofs.SlotRule.FirstFree.{allocate-first-free, allocate-none}
 use Rattle.machine.proofs.Words.TickLaws.{tick-stopped}
@@ -118,8 +118,7 @@ not-refused e = refute (cc)
 
 module _ {ws : List ℕ} {ρ : Row} (A : Agrees ws ρ) (k h : ℕ) where
   pub tick-passes : tick ws k h ≡ tickOn ws k h
-  unfolding tick
-  tick-passes = rw (table-passes ws (A .accepted) nothing, tick)
+  tick-passes = accepted-tick-passes ws (A .accepted) k h
 
   pub tick-agrees : (ρ′ : Row) × Agrees (tickOn ws k h .words) ρ′
   tick-agrees =

@@ -75,6 +75,7 @@ use Rattle.machine.proofs.Shape.ShapeKept.{
   start-accepted,
   begin-allowed,
   table-passes,
+  tick-passes,
   dispatched-accepted,
   call-accepted,
 }
@@ -266,10 +267,6 @@ module _ {ws vs : List ℕ} (A : AlikeColumns ws vs) where
   read-same out = rw (table-passes vs (A .accepted′) nothing, table-passes ws (A .accepted) nothing, read, lane-same)
 
   -- ---- tick.
-  tick-passes : (xs : List ℕ) → WellFormed xs → (k h : ℕ) → tick xs k h ≡ tickOn xs k h
-  unfolding tick
-  tick-passes xs a k h = rw (table-passes xs a nothing, tick)
-
   tick-call-alike : (k h : ℕ)
       → (tick vs k h .answer ≡ tick ws k h .answer) × AlikeColumns (tick ws k h .words) (tick vs k h .words)
   tick-call-alike k h =

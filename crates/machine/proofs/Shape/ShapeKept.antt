@@ -122,7 +122,7 @@ start-hat-ok S two left = omega arith
 start-hat-ok S two right = omega arith
 
 module _ (S T g : ℕ) (h : sizesOk S T g ≡ true) where
-  start-sized : WellSized (startColumns S T g .sizes)
+  pub start-sized : WellSized (startColumns S T g .sizes)
   start-sized =
       record {
         two-nodes = leb-true 2 S (search (and-left, and-right));
@@ -314,6 +314,10 @@ module _ (ws : List ℕ) (A : WellFormed ws) where
   pub table-passes : (others : Option ℕ) → tableRefusal ws others ≡ others
   table-passes others = rw (A .length-passes, A .shape-passes)
 
+  pub tick-passes : (k h : ℕ) → tick ws k h ≡ tickOn ws k h
+  unfolding tick
+  tick-passes k h = rw (table-passes nothing, tick)
+
   kept-accepted : {vs : List ℕ} → Kept ws vs → WellFormed vs
   kept-accepted {vs} K =
       record { length-passes = length-ok vs (K .well-sized); shape-passes = shape-ok vs (K .well-shaped) }
@@ -347,18 +351,7 @@ module _ (ws : List ℕ) (A : WellFormed ws) where
       go nothing e = start-accepted S T g (search test-passed)
 
   tick-call-accepted : (k h : ℕ) → WellFormed (tick ws k h .words)
-  unfolding tick
-  tick-call-accepted k h = go (tableRefusal ws nothing)
-    where
-      go :
-          (r : Option ℕ)
-          → WellFormed
-          (elim r as (λ _. Ticked) [
-            | some n ↦ record { answer = Refused n; words = ws }
-            | nothing ↦ tickOn ws k h
-          ] .words)
-      go (some n) = A
-      go nothing = kept-accepted (tick-kept ws Z W k h)
+  tick-call-accepted k h = rw (tick-passes k h) (kept-accepted (tick-kept ws Z W k h))
 
   -- A dispatch leaves the table as it was, or as a tick leaves it, with that task as the one last dispatched.
   dispatch-call-accepted : (h : ℕ) → WellFormed (dispatch ws h .words)

@@ -1,0 +1,327 @@
+-- Request 2026-07: a busy task gets its tick within T dispatches. Each dispatch that ticks another task comes nearer to it.
+use mathlib.Core.Path.{_≡_, refl, sym, ap, _∙_, subst}
+use mathlib.Core.Logic.{_≢_, inl, inr}
+use mathlib.Core.Bool.{Bool, true, false}
+use mathlib.Core.List.{List, [], _∷_}
+use mathlib.Core.Option.{Option, some, none as nothing}
+use Prim.Native.Nat.{ℕ, suc, _<_, _≤_}
+use native.Mathlib.Omega.{arith}
+use native.Mathlib.Decide.{ℕ-discrete, decLt, decLe}
+use Rattle.machine.specs.declared.Dispatch.the-variants.{Answered}
+use Rattle.machine.specs.Round.{following, firstFrom}
+use Rattle.machine.specs.Values.{Value-discrete, decode}
+use Rattle.machine.specs.Steps.{stepIn, stepOf, isStepIn}
+use Rattle.machine.specs.Tasks.{Task}
+use Rattle.machine.specs.Table.{taskCount, dispatched, link, value, task, setDispatched}
+use Rattle.machine.specs.Shape.{allBelow, sameWords, nodeOk, busyOk, recordOk, shapeOk, WellFormed}
+use Rattle.machine.specs.Allocate.{
+  heldFrom,
+  roots,
+  mark,
+  markAll,
+  visit,
+  visitFrom,
+  marked,
+  firstUnmarked,
+  allocate,
+}
+use Rattle.machine.specs.Lines.{writeAll, dcas, act}
+use Rattle.machine.specs.Answers.{refusalOf, dispatchRefusalOf}
+use Rattle.machine.specs.Calls.{
+  startRefusal,
+  runRefusal,
+  panelRefusal,
+  tickRefusal,
+  changed,
+  times,
+  startWords,
+  start,
+  begin,
+  effectOf,
+  applied,
+  Ticked,
+  tickOn,
+  tick,
+  isBusy,
+  isBusyTask,
+  nextBusy,
+  Dispatched,
+  dispatchTo,
+  dispatchOn,
+  dispatch,
+  tested,
+  run,
+  panel,
+}
+use Rattle.machine.specs.Demand3.{
+  Call,
+  start-call,
+  begin-call,
+  tick-call,
+  dispatch-call,
+  run-call,
+  panel-call,
+  read-call,
+  after,
+}
+use Rattle.machine.specs.Begun.{afterAll}
+use Rattle.machine.specs.Fair.{
+  dispatchHint,
+  dispatches,
+  NoneRefused,
+  IsTickOf,
+  GetsTick,
+  ticks-it,
+  after-it,
+  BusyThroughout,
+  Fair,
+  Outcome,
+  gets-tick,
+  ends-first,
+  still-busy,
+  FairUnlessEnded,
+  turns,
+  LastOfThree,
+}
+use Rattle.machine.proofs.Basics.Contradiction.{clash, refute, equal?, less?}
+use Rattle.machine.proofs.Basics.Tests.{test-passed}
+use Rattle.machine.proofs.Basics.Updates.{update, update-other}
+use Rattle.machine.proofs.Basics.Rounds.{
+  following-below,
+  away,
+  away-below,
+  none-passes,
+  found-or-nearer,
+}
+use Rattle.machine.proofs.Words.Columns.{sizesOf, columns, putDispatched}
+use Rattle.machine.proofs.Words.TableLaws.{columns-setDispatched}
+use Rattle.machine.proofs.Words.EffectLaws.{task-set-dispatched}
+use Rattle.machine.proofs.Words.StartLaws.{task-start}
+use Rattle.machine.proofs.Words.TickLaws.{tick-answer, tick-task}
+use Rattle.machine.proofs.Shape.ShapeLaws.{WellSized, WellShaped, well-sized, well-shaped}
+use Rattle.machine.proofs.Shape.TickKeeps.{Kept, unchanged, busy-is-task, tick-kept}
+use Rattle.machine.proofs.Shape.DispatchCases.{by-dispatch}
+use Rattle.machine.proofs.Shape.ShapeKept.{
+  is-accepted,
+  begin-kept,
+  run-kept,
+  tick-passes,
+  start-sized,
+  call-accepted,
+}
+
+-- How far task k is from the one last dispatched: how many busy tasks may get their tick before it.
+abbrev pub waits : List ℕ → (k : ℕ) → ℕ
+waits ws k = away (taskCount ws) (following (taskCount ws) (dispatched ws)) k
+
+-- What a dispatch does for a busy task k: it ticks it, or leaves it busy, and nearer.
+data Served (ws : List ℕ) (k h : ℕ) (done : Dispatched) : Type 0 where
+  ticked : IsTickOf k h ws done → Served ws k h done
+  nearer-now :
+      isBusyTask (done .words) k ≡ true
+      → taskCount (done .words) ≡ taskCount ws
+      → waits (done .words) k < waits ws k
+      → Served ws k h done
+
+module _ (ws : List ℕ) (A : WellFormed ws) where
+  Z : WellSized (sizesOf ws)
+  Z = well-sized ws (A .length-passes)
+
+  W : WellShaped (columns ws)
+  W = well-shaped ws (A .shape-passes)
+
+  next-is-task : following (taskCount ws) (dispatched ws) < taskCount ws
+  next-is-task = following-below (taskCount ws) (dispatched ws) (W .counts-ok .is-task)
+
+  -- ---- Calls that are no dispatches.
+
+  -- They touch neither T nor the task last dispatched; an accepted start does, and leaves no task busy.
+  tested-kept : (r : Option ℕ) (list answers : List ℕ) → Kept ws (tested r ws list answers .words)
+  tested-kept (some n) list answers = unchanged ws Z W
+  tested-kept nothing list answers = run-kept list ws answers Z W
+
+  module _ (k : ℕ) where
+    abbrev SameWait : List ℕ → Type 0
+    SameWait vs = isBusyTask vs k ≡ true → (taskCount vs ≡ taskCount ws) × (waits vs k ≡ waits ws k)
+
+    by-kept : {vs : List ℕ} → Kept ws vs → SameWait vs
+    by-kept K busy =
+        let same-count = ap (λ z. z .taskCount) (K .same-sizes) in
+        (same-count, rw (same-count, K .same-dispatched))
+
+    start-waits : (S T g : ℕ) → SameWait (start ws S T g .words)
+    unfolding start
+    start-waits S T g = go (startRefusal ws S T g) refl
+      where
+        go : (r : Option ℕ) → startRefusal ws S T g ≡ r → SameWait (changed r ws (startWords S T g) .words)
+        go (some n) e = by-kept (unchanged ws Z W)
+        go nothing e = λ busy.
+            let at-rest = task-start S T g (start-sized S T g (search test-passed) .two-nodes) k in
+            clash (cc (ap (λ (t : Task). isBusy (t .operation)) at-rest))
+
+    tick-waits : (j h : ℕ) → SameWait (tick ws j h .words)
+    tick-waits j h = rw (tick-passes ws A j h) (by-kept (tick-kept ws Z W j h))
+
+    other-waits : (c : Call) → dispatchHint c ≡ nothing → SameWait (after c ws)
+    unfolding run panel
+    other-waits (start-call S T g) e = start-waits S T g
+    other-waits (begin-call j op side argument) e = by-kept (begin-kept ws j op side argument Z W)
+    other-waits (tick-call j h) e = tick-waits j h
+    other-waits (dispatch-call h) e = clash (cc)
+    other-waits (run-call list answers) e = by-kept (tested-kept (runRefusal ws list answers) list answers)
+    other-waits (panel-call list answers) e = by-kept (tested-kept (panelRefusal ws list answers) list answers)
+    other-waits (read-call out) e = by-kept (unchanged ws Z W)
+
+  -- ---- Dispatches.
+  module _ (k : ℕ) (busy : isBusyTask ws k ≡ true) (h : ℕ) where
+    is-task : k < taskCount ws
+    is-task = busy-is-task ws k busy
+
+    -- Some task is busy, so it is not idle.
+    some-busy : nextBusy ws ≡ nothing → ⊥
+    some-busy e =
+        let T = taskCount ws in
+        let idle =
+        none-passes T (isBusyTask ws) T (following T (dispatched ws)) next-is-task e k is-task
+        (away-below T k is-task (following T (dispatched ws)) next-is-task) in
+        refute (cc)
+
+    -- The tick of task j that it makes.
+    module _ (j : ℕ) (chosen : nextBusy ws ≡ some j) (passes : tickRefusal ws j h ≡ nothing)
+        (made : refusalOf (tickOn ws j h .answer) ≡ nothing) where
+      abbrev vs : List ℕ
+      vs = tickOn ws j h .words
+
+      abbrev done : Dispatched
+      done = record { answer = Answered (tickOn ws j h .answer); words = setDispatched j vs }
+
+      own-tick : j ≡ k → IsTickOf k h ws done
+      own-tick e =
+          let same : tick ws k h ≡ tickOn ws j h = tick-passes ws A k h ∙ ap (λ i. tickOn ws i h) (sym e) in
+          record {
+            made = ap (λ (r : Ticked). refusalOf (r .answer)) same ∙ made;
+            same-answer = ap (λ (r : Ticked). Answered (r .answer)) (sym same);
+            same-words =
+                ap (λ (r : Ticked). setDispatched j (r .words)) (sym same)
+                ∙ ap (λ i. setDispatched i (tick ws k h .words)) e;
+          }
+
+      K : Kept ws vs
+      K = tick-kept ws Z W j h
+
+      columns-then : columns (setDispatched j vs) ≡ putDispatched j (columns vs)
+      columns-then = columns-setDispatched vs (K .well-sized .sized) j
+
+      same-count : taskCount (setDispatched j vs) ≡ taskCount ws
+      same-count = ap (λ c. c .sizes .taskCount) columns-then ∙ ap (λ z. z .taskCount) (K .same-sizes)
+
+      now-dispatched : dispatched (setDispatched j vs) ≡ j
+      now-dispatched = ap (λ c. c .counts .dispatched) columns-then
+
+      other-task : k ≢ j → task (setDispatched j vs) k ≡ task ws k
+      other-task ne =
+          let line-made = ap refusalOf (sym (tick-answer ws j h passes)) ∙ made in
+          ap (λ (f : ℕ → Task). f k)
+          (task-set-dispatched vs (K .well-sized .sized) j ∙ tick-task ws j h passes Z W line-made)
+          ∙ update-other (task ws) j (effectOf ws j h .task) k ne
+
+      other-tick : j ≢ k → Served ws k h done
+      other-tick ne =
+          nearer-now (ap (λ (t : Task). isBusy (t .operation)) (other-task (λ e. ne (sym e))) ∙ busy) same-count
+          (rw (same-count, now-dispatched)
+          (found-or-nearer (taskCount ws) (isBusyTask ws) (taskCount ws) (following (taskCount ws) (dispatched ws))
+          next-is-task chosen k is-task busy ne))
+
+    dispatch-serves : dispatchRefusalOf (dispatch ws h .answer) ≡ nothing → Served ws k h (dispatch ws h)
+    dispatch-serves =
+        by-dispatch ws A h (λ (r : Dispatched). dispatchRefusalOf (r .answer) ≡ nothing → Served ws k h r)
+        (λ e. clash (cc)) (λ none-busy e. absurd (some-busy none-busy)) (λ j n chosen q e. clash (cc))
+        (λ j chosen passes made e.
+        elim (equal? j k) [
+          | inl same ↦ ticked (own-tick j chosen passes made same)
+          | inr ne ↦ other-tick j chosen passes made ne
+        ])
+
+-- ---- Lists of calls.
+by-hint : (P : Call → Type 0) → ((h : ℕ) → P (dispatch-call h)) → ((c : Call) → dispatchHint c ≡ nothing → P c)
+    → (c : Call)
+    → P c
+by-hint P is-dispatch other (dispatch-call h) = is-dispatch h
+by-hint P is-dispatch other (start-call S T g) = other (start-call S T g) refl
+by-hint P is-dispatch other (begin-call k op side argument) = other (begin-call k op side argument) refl
+by-hint P is-dispatch other (tick-call k h) = other (tick-call k h) refl
+by-hint P is-dispatch other (run-call list answers) = other (run-call list answers) refl
+by-hint P is-dispatch other (panel-call list answers) = other (panel-call list answers) refl
+by-hint P is-dispatch other (read-call out) = other (read-call out) refl
+
+-- With more dispatches to come than the task waits.
+fair-from : (calls : List Call) (ws : List ℕ) → WellFormed ws → (k : ℕ) → isBusyTask ws k ≡ true → NoneRefused calls ws
+    → waits ws k < dispatches calls
+    → Outcome k calls ws
+fair-from [] ws A k busy none near = absurd (omega arith)
+fair-from (c ∷ cs) ws A k busy none near =
+    by-hint Step is-dispatch other c (λ B b n w. fair-from cs (after c ws) B k b n w) none near
+  where
+    Step : Call → Type 0
+    Step d =
+        (WellFormed (after d ws)
+        → isBusyTask (after d ws) k ≡ true
+        → NoneRefused cs (after d ws)
+        → waits (after d ws) k < dispatches cs
+        → Outcome k cs (after d ws))
+        → NoneRefused (d ∷ cs) ws
+        → waits ws k < dispatches (d ∷ cs)
+        → Outcome k (d ∷ cs) ws
+
+    is-dispatch : (h : ℕ) → Step (dispatch-call h)
+    is-dispatch h others none near = go (dispatch-serves ws A k busy h (none .0 h refl))
+      where
+        go : Served ws k h (dispatch ws h) → Outcome k (dispatch-call h ∷ cs) ws
+        go (ticked it) = gets-tick h it
+        go (nearer-now b same w) =
+            still-busy (dispatch-call h) b
+            (others (call-accepted ws A (dispatch-call h)) b (none .1) (omega arith))
+
+    other : (d : Call) → dispatchHint d ≡ nothing → Step d
+    other d e others none near = go (isBusyTask (after d ws) k) refl
+      where
+        as-near : waits ws k < dispatches cs
+        as-near = rw (e, dispatches) at near
+
+        go : (b : Bool) → isBusyTask (after d ws) k ≡ b → Outcome k (d ∷ cs) ws
+        go false b = ends-first {cs = cs} d e b (omega (arith, as-near))
+        go true b =
+            still-busy d b
+            (others (call-accepted ws A d) b (none .1) (rw (other-waits ws A k d e b .1) as-near))
+
+pub fair-unless-ended : FairUnlessEnded
+fair-unless-ended ws passes k busy calls none enough =
+    let A = is-accepted ws passes in
+    fair-from calls ws A k busy none
+    (omega (arith,
+      away-below (taskCount ws) k (busy-is-task ws k busy) (following (taskCount ws) (dispatched ws)) (next-is-task ws A)))
+
+-- ---- A task that stays busy.
+not-ended : (k : ℕ) (calls : List Call) (ws : List ℕ) → Outcome k calls ws → BusyThroughout k calls ws
+    → GetsTick k calls ws
+not-ended k calls ws (gets-tick h it) B = ticks-it h it
+not-ended k (c ∷ []) ws (ends-first d e q more) B = absurd (omega arith)
+not-ended k (c ∷ b ∷ cs) ws (ends-first d e q more) B = clash (cc (B .1 .0))
+not-ended k (c ∷ cs) ws (still-busy d q later) B = after-it c (not-ended k cs (after c ws) later (B .1))
+
+pub fair : Fair
+fair ws passes k calls B none enough =
+    let T = well-sized ws (is-accepted ws passes .length-passes) .one-task in
+    not-ended k calls ws (fair-unless-ended ws passes k (first calls B enough T) calls none enough) B
+  where
+    first : (calls : List Call) → BusyThroughout k calls ws → taskCount ws ≤ dispatches calls → 1 ≤ taskCount ws
+        → isBusyTask ws k ≡ true
+    first [] B enough one = absurd (omega arith)
+    first (c ∷ cs) B enough one = B .0
+
+-- ---- T - 1 dispatches are not enough.
+pub last-of-three : LastOfThree
+unfolding turns afterAll firstFrom dispatchTo dispatchOn dispatch ℕ-discrete decLt decLe Value-discrete decode stepIn
+    stepOf isStepIn link value task allBelow sameWords nodeOk busyOk recordOk shapeOk heldFrom roots mark markAll visit
+    visitFrom marked firstUnmarked allocate writeAll dcas act times startWords start begin effectOf applied tickOn tick
+last-of-three = refl

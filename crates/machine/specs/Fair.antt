@@ -1,0 +1,124 @@
+-- Request 2026-07: a busy task gets its tick within T dispatches. For every accepted table, and calls of any kind between.
+use mathlib.Core.Path.{_≡_}
+use mathlib.Core.Bool.{true, false}
+use mathlib.Core.List.{List, [], _∷_}
+use mathlib.Core.Option.{Option, some, none as nothing}
+use Prim.Native.Nat.{ℕ, zero, suc, _≤_, _<_}
+use Rattle.machine.specs.declared.Dispatch.the-variants.{Answered}
+use Rattle.machine.specs.Sides.{left, sideNumber}
+use Rattle.machine.specs.Values.{stored}
+use Rattle.machine.specs.Operations.{pop, operationNumber}
+use Rattle.machine.specs.Table.{taskCount, dispatched, setDispatched}
+use Rattle.machine.specs.Answers.{refusalOf, dispatchRefusalOf}
+use Rattle.machine.specs.Calls.{tableRefusal, startWords, tick, isBusyTask, Dispatched, dispatch}
+use Rattle.machine.specs.Demand3.{
+  Call,
+  start-call,
+  begin-call,
+  tick-call,
+  dispatch-call,
+  run-call,
+  panel-call,
+  read-call,
+  after,
+}
+use Rattle.machine.specs.Begun.{afterAll}
+
+-- ---- Lists of calls with dispatches in them.
+
+-- The hint of a call that is a dispatch.
+abbrev pub dispatchHint : Call → Option ℕ
+dispatchHint (dispatch-call h) = some h
+dispatchHint (start-call S T g) = nothing
+dispatchHint (begin-call k op side argument) = nothing
+dispatchHint (tick-call k h) = nothing
+dispatchHint (run-call list answers) = nothing
+dispatchHint (panel-call list answers) = nothing
+dispatchHint (read-call out) = nothing
+
+-- How many dispatches there are.
+abbrev pub dispatches : List Call → ℕ
+dispatches [] = 0
+dispatches (c ∷ cs) =
+    elim (dispatchHint c) as (λ _. ℕ) [ some h ↦ suc (dispatches cs) | nothing ↦ dispatches cs ]
+
+-- 02: "provided none is refused".
+abbrev pub NoneRefused : List Call → List ℕ → Type 0
+NoneRefused [] ws = Unit {0}
+NoneRefused (c ∷ cs) ws =
+    ((h : ℕ) → dispatchHint c ≡ some h → dispatchRefusalOf (dispatch ws h .answer) ≡ nothing)
+    × NoneRefused cs (after c ws)
+
+-- What a dispatch did is the tick of task k, made; and k is the task last dispatched.
+pub record IsTickOf (k hint : ℕ) (ws : List ℕ) (done : Dispatched) : Type 0 where
+  pub made : refusalOf (tick ws k hint .answer) ≡ nothing
+  pub same-answer : done .answer ≡ Answered (tick ws k hint .answer)
+  pub same-words : done .words ≡ setDispatched k (tick ws k hint .words)
+
+-- ---- The claim, for a task that stays busy.
+
+-- Some dispatch of the list ticks task k.
+pub data GetsTick (k : ℕ) : List Call → List ℕ → Type 0 where
+  ticks-it : {cs : List Call} {ws : List ℕ} (h : ℕ) → IsTickOf k h ws (dispatch ws h) → GetsTick k (dispatch-call h ∷ cs) ws
+  after-it : {cs : List Call} {ws : List ℕ} (c : Call) → GetsTick k cs (after c ws) → GetsTick k (c ∷ cs) ws
+
+-- Task k is busy before every call of the list.
+abbrev pub BusyThroughout : (k : ℕ) → List Call → List ℕ → Type 0
+BusyThroughout k [] ws = Unit {0}
+BusyThroughout k (c ∷ cs) ws = (isBusyTask ws k ≡ true) × BusyThroughout k cs (after c ws)
+
+-- 02: "A task that is busy gets its tick within T dispatches". T cannot change where it stays busy.
+abbrev pub Fair : Type 0
+Fair =
+    (ws : List ℕ)
+    → tableRefusal ws nothing ≡ nothing
+    → (k : ℕ) (calls : List Call)
+    → BusyThroughout k calls ws
+    → NoneRefused calls ws
+    → taskCount ws ≤ dispatches calls
+    → GetsTick k calls ws
+
+-- ---- The same for every list: the task gets its tick, or another call ends it first.
+
+-- What becomes of a busy task k: a dispatch ticks it; or, while dispatches are still to come, a call that is no dispatch
+-- ends the task's call.
+pub data Outcome (k : ℕ) : List Call → List ℕ → Type 0 where
+  gets-tick : {cs : List Call} {ws : List ℕ} (h : ℕ) → IsTickOf k h ws (dispatch ws h) → Outcome k (dispatch-call h ∷ cs) ws
+  ends-first :
+      {cs : List Call} {ws : List ℕ} (c : Call)
+      → dispatchHint c ≡ nothing
+      → isBusyTask (after c ws) k ≡ false
+      → 0 < dispatches cs
+      → Outcome k (c ∷ cs) ws
+  still-busy :
+      {cs : List Call} {ws : List ℕ} (c : Call)
+      → isBusyTask (after c ws) k ≡ true
+      → Outcome k cs (after c ws)
+      → Outcome k (c ∷ cs) ws
+
+-- 02: "provided none is refused and no plain tick or start ends it first".
+abbrev pub FairUnlessEnded : Type 0
+FairUnlessEnded =
+    (ws : List ℕ)
+    → tableRefusal ws nothing ≡ nothing
+    → (k : ℕ)
+    → isBusyTask ws k ≡ true
+    → (calls : List Call)
+    → NoneRefused calls ws
+    → taskCount ws ≤ dispatches calls
+    → Outcome k calls ws
+
+-- ---- T - 1 dispatches are not enough.
+
+-- The tasks last dispatched after each of n dispatches with hint 0.
+unfoldable pub turns : (n : ℕ) → List ℕ → List ℕ
+turns zero ws = []
+turns (suc n) ws = let vs = dispatch ws 0 .words in dispatched vs ∷ turns n vs
+
+abbrev pub beginsPop : ℕ → Call
+beginsPop k = begin-call k (operationNumber pop) (sideNumber left) (stored 0)
+
+-- Of three tasks, all busy since the start, the last one gets its tick at the third dispatch.
+abbrev pub LastOfThree : Type 0
+LastOfThree =
+    turns 3 (afterAll (beginsPop 0 ∷ beginsPop 1 ∷ beginsPop 2 ∷ []) (startWords 4 3 0)) ≡ 0 ∷ 1 ∷ 2 ∷ []
