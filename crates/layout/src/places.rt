@@ -2,7 +2,7 @@
 ghost use mathlib.Core.Path.{_≡_};
 ghost use Rattle.machine.specs.Table.{nodeAt, recordAt, tableLength};
 
-// 01: S, T, growth, left hat, right hat, tick count, 0, 0.
+// 01: S, T, growth, left hat, right hat, tick count; 02: the task last dispatched; 0.
 pub const NODE_COUNT: usize = 0;
 
 pub const TASK_COUNT: usize = 1;
@@ -16,7 +16,7 @@ pub const RIGHT_HAT: usize = 4;
 
 pub const TICK_COUNT: usize = 5;
 
-pub const WORD_6: usize = 6;
+pub const DISPATCHED: usize = 6;
 
 pub const WORD_7: usize = 7;
 

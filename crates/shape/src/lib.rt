@@ -3,6 +3,7 @@ pub mod records;
 pub mod steps;
 
 use layout::nodes;
+use layout::places::DISPATCHED;
 use layout::places::GROWTH;
 use layout::places::HEADER;
 use layout::places::LEAST_LENGTH;
@@ -10,7 +11,6 @@ use layout::places::LEFT_HAT;
 use layout::places::NODE_COUNT;
 use layout::places::RIGHT_HAT;
 use layout::places::TASK_COUNT;
-use layout::places::WORD_6;
 use layout::places::WORD_7;
 use layout::places::table_length;
 use layout::table::task;
@@ -53,13 +53,16 @@ pub fn length_ok(table: &[u32]) -> bool
     table.len() == table_length(table[NODE_COUNT], table[TASK_COUNT])
 }
 
-// 01: both last header words are 0, hats are below S.
+// 01: hats are below S. 02: the task last dispatched is below T, so only the last word is 0.
 fn header_ok(table: &[u32]) -> bool
     requires { ⌜ headerLength ≤ length (now table) ⌝ }
     ensures { λ r. ⌜ r ≡ headerOk (now (table .entry)) ⌝ }
 {
     let slots = table[NODE_COUNT];
-    table[WORD_6] == 0 && table[WORD_7] == 0 && table[LEFT_HAT] < slots && table[RIGHT_HAT] < slots
+    table[DISPATCHED] < table[TASK_COUNT]
+        && table[WORD_7] == 0
+        && table[LEFT_HAT] < slots
+        && table[RIGHT_HAT] < slots
 }
 
 // 01: links and V are as above.

@@ -54,16 +54,16 @@ sentinels-written ns S h =
 -- ---- The table, piece by piece: the header, the nodes' part, the tasks.
 module _ (S T g : ℕ) (t₀ t₁ ns t₂ : List ℕ) (m : ℕ) (long : headerLength ≤ length t₀) where
   pub started :
-      t₁ ≡ sets t₀ 0 (headerWords S T g 0 1 0)
+      t₁ ≡ sets t₀ 0 (headerWords S T g 0 1 0 (T - 1))
       → nodeLength * S ≤ length ns
       → take (nodeLength * S) ns ≡ startNodes S
       → t₂ ≡ take (nodeAt S) (putMid headerLength m t₁ ns) ++ times T (wordsOf fresh)
       → t₂ ≡ startWords S T g
   unfolding startWords
   started e₁ enough e e₂ =
-      let l₁ : length t₁ ≡ length t₀ = rw e₁ (length-sets t₀ 0 (headerWords S T g 0 1 0)) in
-      let header : take headerLength t₁ ≡ headerWords S T g 0 1 0
-      = rw e₁ (front-grows t₀ (headerWords S T g 0 1 0) 0 (omega arith)) in
+      let l₁ : length t₁ ≡ length t₀ = rw e₁ (length-sets t₀ 0 (headerWords S T g 0 1 0 (T - 1))) in
+      let header : take headerLength t₁ ≡ headerWords S T g 0 1 0 (T - 1)
+      = rw e₁ (front-grows t₀ (headerWords S T g 0 1 0 (T - 1)) 0 (omega arith)) in
       let eight : length (take headerLength t₁) ≡ headerLength = length-take-le headerLength t₁ (omega arith) in
       let after = ns ++ postOf headerLength m t₁ in
       let front : take (nodeAt S) (putMid headerLength m t₁ ns) ≡ take headerLength t₁ ++ take (nodeLength * S) ns

@@ -30,6 +30,9 @@ module _ (ws : List ℕ) (S T g : ℕ) where
     pub two-nodes : 2 ≤ S
     two-nodes = leb-true 2 S (search (and-left, and-right))
 
+    pub one-task : 1 ≤ T
+    one-task = leb-true 1 T (search (and-left, and-right))
+
     pub most-nodes : S ≤ 1024
     most-nodes = leb-true S 1024 (search (and-left, and-right))
 

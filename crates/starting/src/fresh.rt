@@ -15,8 +15,8 @@ ghost use Rattle.machine.specs.Calls.{times, startWords};
 ghost use Rattle.starting.specs.Fresh.{startNodes};
 
 fn write_header(table: &mut [u32], slots: u32, tasks: u32, growth: u32)
-    requires { ⌜ headerLength ≤ length (now table) ⌝ }
-    ensures { λ _. ⌜ now (table .exit) ≡ sets (now (table .entry)) 0 (headerWords slots tasks growth 0 1 0) ⌝ }
+    requires { ⌜ (1 ≤ tasks) × (headerLength ≤ length (now table)) ⌝ }
+    ensures { λ _. ⌜ now (table .exit) ≡ sets (now (table .entry)) 0 (headerWords slots tasks growth 0 1 0 (tasks - 1)) ⌝ }
 {
     table[places::NODE_COUNT] = slots;
     table[places::TASK_COUNT] = tasks;
@@ -24,7 +24,8 @@ fn write_header(table: &mut [u32], slots: u32, tasks: u32, growth: u32)
     table[places::LEFT_HAT] = 0;
     table[places::RIGHT_HAT] = 1;
     table[places::TICK_COUNT] = 0;
-    table[places::WORD_6] = 0;
+    // 02: a start writes T - 1 there.
+    table[places::DISPATCHED] = tasks - 1;
     table[places::WORD_7] = 0;
 }
 
@@ -66,7 +67,7 @@ fn write_tasks(table: &mut [u32], slots: u32, tasks: u32)
 
 // The whole table.
 pub fn write_all(table: &mut [u32], slots: u32, tasks: u32, growth: u32)
-    requires { ⌜ (2 ≤ slots) × (length (now table) ≡ recordAt slots tasks) ⌝ }
+    requires { ⌜ (2 ≤ slots) × (1 ≤ tasks) × (length (now table) ≡ recordAt slots tasks) ⌝ }
     ensures { λ _. ⌜ now (table .exit) ≡ startWords slots tasks growth ⌝ }
 {
     write_header(table, slots, tasks, growth);

@@ -5,7 +5,7 @@ use borrow.Author.Tests.{not-true, not-false}
 use Rattle.machine.specs.declared.Reply.the-variants.{Accepted}
 use Rattle.machine.specs.Shape.{sizesOk}
 use Rattle.machine.specs.Results.{changedOf}
-use Rattle.starting.proofs.StartTests.{start-1, start-2, start-accepted, two-nodes}
+use Rattle.starting.proofs.StartTests.{start-1, start-2, start-accepted, two-nodes, one-task}
 use borrow.Author.Needs.{needs}
 use Rattle.starting.proofs.start.Statement.{statement}
 use Rattle.starting.proofs.start.Tie as tie
@@ -41,7 +41,11 @@ write-all-requires c κs =
     let e = c .before in
     let f = e .before .before in
     let a = f .before .before .before .args in
-    (two-nodes (a .table .now) (a .slots) (a .tasks) (a .growth) (sizes-passed f), e .if2 .left ∙ e .before .table-length .ensures)
+    (
+      two-nodes (a .table .now) (a .slots) (a .tasks) (a .growth) (sizes-passed f),
+      one-task (a .table .now) (a .slots) (a .tasks) (a .growth) (sizes-passed f),
+      e .if2 .left ∙ e .before .table-length .ensures,
+    )
 
 same-length : tie.Need-same-length
 same-length c = search needs

@@ -23,6 +23,9 @@ slice-write-table-5 c = simp length-set (omega arith)
 slice-write-table-6 : tie.Need-slice-write-table-6
 slice-write-table-6 c = simp length-set (omega arith)
 
+sub-table : tie.Need-sub-table
+sub-table c = search needs
+
 slice-write-table-7 : tie.Need-slice-write-table-7
 slice-write-table-7 c = simp length-set (omega arith)
 
@@ -45,6 +48,7 @@ write-header-spec =
     slice-write-table-4
     slice-write-table-5
     slice-write-table-6
+    sub-table
     slice-write-table-7
     slice-write-table-8
     same-length
