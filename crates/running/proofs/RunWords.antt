@@ -11,28 +11,19 @@ use lib.ListN.{length, getD, set, take, drop, take-append-drop, drop-of-length-l
 use lib.Seq.{sets, drop-cons, drop-drop}
 use Rattle.tag.specs.Tags.{largestTag, digitOf, lowOf}
 use Rattle.machine.specs.declared.Answer.{Answer}
-use Rattle.machine.specs.declared.Answer.the-variants.{Going, Pushed, Bag, Empty, Full, Yes, No, Refused}
-use Rattle.machine.specs.Sides.{Side}
-use Rattle.machine.specs.Table.{task, setTask}
-use Rattle.machine.specs.Lines.{Effect, writeAll}
 use Rattle.machine.specs.Answers.{kindOf, payloadOf, answerLength, answerWords, refusalOf}
 use Rattle.machine.specs.Calls.{
-  tickRefusal,
-  effectOf,
-  tickCounted,
   Ticked,
-  applied,
   tickOn,
   RunDone,
   stopped,
   afterTick,
   runOn,
 }
-use Rattle.machine.proofs.Basics.Contradiction.{clash}
 use Rattle.machine.proofs.Shape.ShapeLaws.{well-sized, well-shaped, length-ok, shape-ok}
 use Rattle.machine.proofs.Shape.TickKeeps.{tick-kept}
 use Rattle.machine.proofs.Words.RunLaws.{by-first, first-tick}
-use Rattle.machine.proofs.Words.TickLaws.{tick-on-number}
+use Rattle.machine.proofs.Words.TickLaws.{refused-unchanged, refused-kind, made-kind, tick-on-number}
 use Rattle.machine.specs.Results.{tickedOf, runDoneOf}
 use Rattle.machine.specs.Shape.{WellFormed}
 use Rattle.shape.specs.Contracts.{numberOf}
@@ -61,63 +52,9 @@ tick-tag ws k h a vs ticked P =
     subst (λ (t : Ticked). payloadOf (t .answer) ≤ largestTag) (sym ticked)
     (tick-on-number ws k h (well-shaped ws (P .shape-passes)))
 
--- Kind 7 is a refusal's.
-refused-kind : (a : Answer) → kindOf a ≡ 7 → refusalOf a ≡ some (numberOf (refusalOf a))
-refused-kind Going e = clash (cc)
-refused-kind Pushed e = clash (cc)
-refused-kind (Bag b) e = clash (cc)
-refused-kind Empty e = clash (cc)
-refused-kind Full e = clash (cc)
-refused-kind Yes e = clash (cc)
-refused-kind No e = clash (cc)
-refused-kind (Refused n) e = refl
-
-made-kind : (a : Answer) → kindOf a ≢ 7 → refusalOf a ≡ nothing
-made-kind Going e = refl
-made-kind Pushed e = refl
-made-kind (Bag b) e = refl
-made-kind Empty e = refl
-made-kind Full e = refl
-made-kind Yes e = refl
-made-kind No e = refl
-made-kind (Refused n) e = absurd (e refl)
-
--- A refused tick leaves the table as it was.
-refused-effect : (s : Side) (ws : List ℕ) (k n : ℕ) (e : Effect)
-    → refusalOf (applied s ws k e .answer) ≡ some n
-    → applied s ws k e .words ≡ ws
-unfolding applied
-refused-effect s ws k n e = go (refusalOf (e .answer)) refl
-  where
-    done : Option ℕ → Ticked
-    done (some m) = record { answer = e .answer; words = ws }
-    done nothing = record { answer = e .answer; words = tickCounted (setTask k (e .task) (writeAll s (e .writes) ws)) }
-
-    go : (r : Option ℕ) → refusalOf (e .answer) ≡ r → refusalOf (done r .answer) ≡ some n → done r .words ≡ ws
-    go (some m) q p = refl
-    go nothing q p = clash (cc)
-
-refused-tick : (ws : List ℕ) (k h n : ℕ) → refusalOf (tickOn ws k h .answer) ≡ some n → tickOn ws k h .words ≡ ws
-unfolding tickOn
-refused-tick ws k h n = go (tickRefusal ws k h)
-  where
-    made : Ticked
-    made = applied (task ws k .side) ws k (effectOf ws k h)
-
-    go :
-        (r : Option ℕ)
-        → refusalOf (elim r as (λ _. Ticked) [
-          | some n ↦ record { answer = Refused n; words = ws }
-          | nothing ↦ made
-        ] .answer)
-        ≡ some n
-        → elim r as (λ _. Ticked) [
-          | some n ↦ record { answer = Refused n; words = ws }
-          | nothing ↦ made
-        ] .words
-        ≡ ws
-    go (some m) p = refl
-    go nothing p = refused-effect (task ws k .side) ws k n (effectOf ws k h) p
+-- The number of a refusal is what it answers with.
+refused-number : (a : Answer) → kindOf a ≡ 7 → refusalOf a ≡ some (numberOf (refusalOf a))
+refused-number a e = let q = refused-kind a e in q ∙ ap (λ (r : Option ℕ). some (numberOf r)) (sym q)
 
 -- ---- A run by its first tick.
 module _ (k h : ℕ) (list ws answers : List ℕ) where
@@ -132,9 +69,9 @@ module _ (k h : ℕ) (list ws answers : List ℕ) where
     unfolding by-first
     first-refused e =
         let n = numberOf (refusalOf a) in
-        let r : refusalOf (tickOn ws k h .answer) ≡ some n = ap refusalOf answer-is ∙ refused-kind a e in
+        let r : refusalOf (tickOn ws k h .answer) ≡ some n = ap refusalOf answer-is ∙ refused-number a e in
         first-tick k h list ws answers (some n) r
-        ∙ ap (λ (l : List ℕ). stopped n l answers) (sym (refused-tick ws k h n r) ∙ words-are)
+        ∙ ap (λ (l : List ℕ). stopped n l answers) (sym (refused-unchanged ws k h r) ∙ words-are)
 
     first-made : kindOf a ≢ 7 → runOn (k ∷ h ∷ list) ws answers ≡ afterTick a (runOn list vs (drop answerLength answers))
     unfolding by-first

@@ -1,5 +1,6 @@
 -- What a tick that is made does to the view and to the tasks.
 use mathlib.Core.Path.{_≡_, refl, sym, ap, _∙_, subst}
+use mathlib.Core.Logic.{_≢_}
 use mathlib.Core.Bool.{Bool, true, false}
 use mathlib.Core.List.{List}
 use mathlib.Core.Option.{Option, some, none as nothing}
@@ -7,13 +8,14 @@ use Prim.Native.Nat.{ℕ, _+_, _%_, _^_, _≤_, zero-le}
 use native.Mathlib.Omega.{arith}
 use lib.Dec.{ltb}
 use Rattle.tag.specs.Tags.{largestTag}
-use Rattle.machine.specs.declared.Answer.the-variants.{Refused}
+use Rattle.machine.specs.declared.Answer.{Answer}
+use Rattle.machine.specs.declared.Answer.the-variants.{Going, Pushed, Bag, Empty, Full, Yes, No, Refused}
 use Rattle.machine.specs.Sides.{Side, right}
 use Rattle.machine.specs.Tasks.{wordsOf}
 use Rattle.machine.specs.Table.{nodeCount, taskCount, growth, tickCount, task}
 use Rattle.machine.specs.Shape.{lengthOk, shapeOk}
 use Rattle.machine.specs.Lines.{Effect}
-use Rattle.machine.specs.Answers.{payloadOf, refusalOf}
+use Rattle.machine.specs.Answers.{kindOf, payloadOf, refusalOf}
 use Rattle.machine.specs.Calls.{
   unless,
   isBusy,
@@ -128,6 +130,38 @@ module _ (ws : List ℕ) (k h : ℕ) (allowed : tickRefusal ws k h ≡ nothing) 
         let r = tick-in-range in
         let is-task = tick-allowed ws k h allowed .0 in
         ap task tick-words ∙ task-effect ws (Z .sized) s (e .writes) (r .0) k is-task (e .task) (r .1)
+
+-- ---- A refused tick, by its answer.
+
+-- It leaves the table as it was.
+pub refused-unchanged : (ws : List ℕ) (k h : ℕ) {n : ℕ} → refusalOf (tickOn ws k h .answer) ≡ some n
+    → tickOn ws k h .words ≡ ws
+refused-unchanged ws k h e = go (tickRefusal ws k h) refl
+  where
+    go : (r : Option ℕ) → tickRefusal ws k h ≡ r → tickOn ws k h .words ≡ ws
+    go (some m) q = ap (λ (t : Ticked). t .words) (tick-stopped ws k h q)
+    go nothing q = tick-refused ws k h q (ap refusalOf (sym (tick-answer ws k h q)) ∙ e)
+
+-- Kind 7 is a refusal's.
+pub refused-kind : (a : Answer) → kindOf a ≡ 7 → refusalOf a ≡ some (payloadOf a)
+refused-kind Going e = clash (cc)
+refused-kind Pushed e = clash (cc)
+refused-kind (Bag b) e = clash (cc)
+refused-kind Empty e = clash (cc)
+refused-kind Full e = clash (cc)
+refused-kind Yes e = clash (cc)
+refused-kind No e = clash (cc)
+refused-kind (Refused n) e = refl
+
+pub made-kind : (a : Answer) → kindOf a ≢ 7 → refusalOf a ≡ nothing
+made-kind Going e = refl
+made-kind Pushed e = refl
+made-kind (Bag b) e = refl
+made-kind Empty e = refl
+made-kind Full e = refl
+made-kind Yes e = refl
+made-kind No e = refl
+made-kind (Refused n) e = absurd (e refl)
 
 -- ---- The number that a tick answers with, of a bag or of a refusal, is at most the largest tag.
 fit-number : (S g : ℕ) {e : Effect} → Fits S g e → payloadOf (e .answer) ≤ largestTag
