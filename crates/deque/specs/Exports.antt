@@ -1,10 +1,11 @@
 -- The answers as single numbers, for C and Rust.
 use Prim.Native.Nat.{ℕ, _+_, _*_, _^_}
 use Rattle.machine.specs.declared.Answer.{Answer}
+use Rattle.machine.specs.declared.Dispatch.{Dispatch}
 use Rattle.machine.specs.declared.Reading.{Reading}
 use Rattle.machine.specs.declared.Reading.the-variants.{Count, Refused}
 use Rattle.machine.specs.declared.Ran.{Ran}
-use Rattle.machine.specs.Answers.{kindOf, payloadOf}
+use Rattle.machine.specs.Answers.{kindOf, payloadOf, dispatchKindOf, dispatchPayloadOf}
 use Rattle.packed.specs.TagLists as TagLists
 
 -- Two words in one number of 64 bits.
@@ -14,6 +15,10 @@ pairOf high low = high * 2 ^ 32 + low
 -- The kind with the tag, or with 0; a refusal is kind 7 with its number. A tag has 34 bits.
 abbrev pub answerNumber : Answer → ℕ
 answerNumber a = kindOf a * 2 ^ 40 + payloadOf a
+
+-- The same of a dispatch; "idle" is kind 8.
+abbrev pub dispatchNumber : Dispatch → ℕ
+dispatchNumber d = dispatchKindOf d * 2 ^ 40 + dispatchPayloadOf d
 
 -- The ticks made with the number that stopped the run, or with 0.
 abbrev pub ranNumber : Ran → ℕ

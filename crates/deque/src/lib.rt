@@ -1,7 +1,10 @@
 // The calls for C and Rust: tables, lists and out slices as a pointer and a length, answers as numbers.
 use beginning::begin;
+use dispatching::dispatch;
 use layout::values::of_words;
 use machine::Answer;
+use machine::Dispatch;
+use machine::IDLE;
 use machine::Ran;
 use machine::Reading;
 use machine::Reply;
@@ -19,9 +22,9 @@ ghost use mathlib.Core.Path.{_≡_};
 ghost use Prim.Native.Nat.{_≤_};
 ghost use Rattle.tag.specs.Tags.{largestTag};
 ghost use Rattle.machine.specs.Values.{storedOf};
-ghost use Rattle.machine.specs.Answers.{replyNumber, payloadOf};
+ghost use Rattle.machine.specs.Answers.{replyNumber, payloadOf, dispatchPayloadOf};
 ghost use Rattle.machine.specs.Calls as calls;
-ghost use Rattle.deque.specs.Exports.{pairOf, answerNumber, ranNumber, readingNumber, listNumber};
+ghost use Rattle.deque.specs.Exports.{pairOf, answerNumber, dispatchNumber, ranNumber, readingNumber, listNumber};
 ghost use Rattle.packed.specs.TagLists.{answerOf, readTags, writeTags};
 
 // Two words in one number of 64 bits.
@@ -31,12 +34,26 @@ fn pair(high: u32, low: u32) -> u64
     (high as u64) * 4_294_967_296 + (low as u64)
 }
 
+// What a kind is multiplied with: 2^40.
+const KIND: u64 = 1_099_511_627_776;
+
 // The kind times 2^40 plus the tag, or plus the number of a refusal.
 fn answer_number(a: Answer) -> u64
     requires { ⌜ payloadOf a ≤ largestTag ⌝ }
     ensures { λ n. ⌜ n ≡ answerNumber a ⌝ }
 {
-    (kind(a) as u64) * 1_099_511_627_776 + payload(a)
+    (kind(a) as u64) * KIND + payload(a)
+}
+
+// The same of the tick that a dispatch made, or the kind of "idle".
+fn dispatch_number(d: Dispatch) -> u64
+    requires { ⌜ dispatchPayloadOf d ≤ largestTag ⌝ }
+    ensures { λ n. ⌜ n ≡ dispatchNumber d ⌝ }
+{
+    match d {
+        Dispatch::Idle => (IDLE as u64) * KIND,
+        Dispatch::Answered(a) => answer_number(a),
+    }
 }
 
 fn reply_number(r: Reply) -> u32
@@ -108,6 +125,15 @@ pub extern "C" fn lane_tick(table: &mut [u32], task: u32, hint: u32) -> u64
     ensures { λ r. ⌜ now (table .exit) ≡ calls.tick (now (table .entry)) task hint .words ⌝ }
 {
     answer_number(tick(table, task, hint))
+}
+
+// As a tick, of the next busy task after the one last dispatched; kind 8 where no task is busy.
+#[no_mangle]
+pub extern "C" fn lane_dispatch(table: &mut [u32], hint: u32) -> u64
+    ensures { λ r. ⌜ r ≡ dispatchNumber (calls.dispatch (now (table .entry)) hint .answer) ⌝ }
+    ensures { λ r. ⌜ now (table .exit) ≡ calls.dispatch (now (table .entry)) hint .words ⌝ }
+{
+    dispatch_number(dispatch(table, hint))
 }
 
 // The ticks made times 2^32 plus the refusal that stopped the run, or 0.

@@ -1,7 +1,7 @@
 // What the definitions and the code share by value: the words of a value, the answers of the calls, and the numbers of
-// a tick's and a dispatch's answer.
+// a tick's answer.
 ghost use mathlib.Core.Path.{_≡_};
-ghost use Rattle.machine.specs.Answers.{kindOf, payloadOf, dispatchKindOf, dispatchPayloadOf};
+ghost use Rattle.machine.specs.Answers.{kindOf, payloadOf};
 
 // A value as the table holds it, in a node or in a record: V and, since 2026-04, the leading digit that belongs to it. The
 // argument of a call is held the same way. Only the definitions of values and the crate of the layout name its words.
@@ -61,8 +61,10 @@ pub struct Ran {
     pub refusal: u32,
 }
 
-// The kind of a refusal, which a run does not write.
+// The kind of a refusal, which a run does not write, and that of a dispatch which finds no task busy.
 pub const REFUSED: u32 = 7;
+
+pub const IDLE: u32 = 8;
 
 // 01: 0 going, 1 pushed, 2 bag, 3 empty, 4 full, 5 yes, 6 no.
 pub fn kind(a: Answer) -> u32
@@ -93,27 +95,5 @@ pub fn payload(a: Answer) -> u64
         Answer::Yes => 0,
         Answer::No => 0,
         Answer::Refused(n) => n as u64,
-    }
-}
-
-// The kind of a dispatch that finds no task busy.
-pub const IDLE: u32 = 8;
-
-// The numbers of a dispatch: those of the tick, or of "idle".
-pub fn dispatch_kind(d: Dispatch) -> u32
-    ensures { λ r. ⌜ r ≡ dispatchKindOf d ⌝ }
-{
-    match d {
-        Dispatch::Idle => IDLE,
-        Dispatch::Answered(a) => kind(a),
-    }
-}
-
-pub fn dispatch_payload(d: Dispatch) -> u64
-    ensures { λ r. ⌜ r ≡ dispatchPayloadOf d ⌝ }
-{
-    match d {
-        Dispatch::Idle => 0,
-        Dispatch::Answered(a) => payload(a),
     }
 }

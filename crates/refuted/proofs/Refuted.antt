@@ -3,6 +3,7 @@ use mathlib.Core.Path.{refl}
 use mathlib.Core.Option.{bind}
 use native.Mathlib.Decide.{ℕ-discrete, decLt, decLe}
 use Rattle.tag.specs.Tags.{allTagWords}
+use Rattle.machine.specs.Round.{firstFrom}
 use Rattle.machine.specs.Values.{Value-discrete, decode}
 use Rattle.machine.specs.Steps.{stepIn, stepOf, isStepIn}
 use Rattle.machine.specs.Table.{link, value, task}
@@ -10,7 +11,16 @@ use Rattle.machine.specs.Shape.{allBelow, sameWords, nodeOk, busyOk, recordOk, 
 use Rattle.machine.specs.Allocate.{heldFrom, roots, mark, markAll, visit, visitFrom, marked, firstUnmarked, allocate}
 use Rattle.machine.specs.Lines.{writeAll, dcas, act}
 use Rattle.machine.specs.Answers.{plainAnswerOf, answerOf}
-use Rattle.machine.specs.Row.{pushAnswered, popAnswered, sizeAnswered, feedMade, feedRun}
+use Rattle.machine.specs.Row.{
+  pushAnswered,
+  popAnswered,
+  sizeAnswered,
+  feedMade,
+  feedRun,
+  feedDispatched,
+  feedIdle,
+  feedDispatch,
+}
 use Rattle.machine.specs.Demand3.{feedTick}
 use Rattle.machine.specs.Calls.{
   times,
@@ -21,6 +31,9 @@ use Rattle.machine.specs.Calls.{
   applied,
   tickOn,
   tick,
+  dispatchTo,
+  dispatchOn,
+  dispatch,
   runOn,
   run,
   panel,
@@ -30,13 +43,25 @@ use Rattle.machine.specs.Calls.{
   readInto,
   read,
 }
-use Rattle.refuted.specs.Machines.{beginBy, tickOnBy, tickBy, runOnBy, runBy, panelBy, afterTicksBy}
+use Rattle.refuted.specs.Machines.{
+  dispatchToBy,
+  dispatchChoosing,
+  beginBy,
+  tickOnBy,
+  tickBy,
+  dispatchBy,
+  runOnBy,
+  runBy,
+  panelBy,
+  afterTicksBy,
+}
 use Rattle.refuted.specs.Wrong.{ended, wholeOn, touchesNothing, heldFromBy, leftwards, isArgument, turned}
 use Rattle.refuted.specs.Judged.{byRow, byDefinitions, afterAllBy, goingAlone, freeBelow}
 use Rattle.refuted.specs.Lists.{AllRefuted, judged, Spins, Leaks, Doubles}
 
 pub all-refuted : AllRefuted
 unfolding judged byRow byDefinitions ended wholeOn touchesNothing heldFromBy leftwards isArgument turned beginBy tickOnBy
+    dispatchToBy dispatchChoosing dispatchBy firstFrom feedDispatched feedIdle feedDispatch dispatchTo dispatchOn dispatch
     tickBy runOnBy runBy panelBy afterTicksBy feedTick pushAnswered popAnswered sizeAnswered feedMade feedRun bind
     plainAnswerOf answerOf ℕ-discrete decLt decLe Value-discrete decode stepIn stepOf isStepIn link value task
     allBelow sameWords nodeOk busyOk recordOk shapeOk heldFrom roots mark markAll visit visitFrom marked

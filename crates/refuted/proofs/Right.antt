@@ -18,6 +18,9 @@ use Rattle.machine.specs.Calls.{
   effectOf,
   tickOn,
   tick,
+  dispatchTo,
+  dispatchOn,
+  dispatch,
   RunDone,
   afterTick,
   stopped,
@@ -31,6 +34,7 @@ use Rattle.machine.specs.Demand3.{
   start-call,
   begin-call,
   tick-call,
+  dispatch-call,
   run-call,
   panel-call,
   read-call,
@@ -40,7 +44,10 @@ use Rattle.machine.specs.Demand3.{
 use Rattle.refuted.specs.Machines.{
   beginBy,
   tickOnBy,
+  dispatchToBy,
+  dispatchChoosing,
   tickBy,
+  dispatchBy,
   runOnBy,
   testedBy,
   runBy,
@@ -63,6 +70,10 @@ same-tick ws k h =
       | nothing ↦ one
     ])
     (same-tick-on ws k h)
+
+pub same-dispatch : (ws : List ℕ) (h : ℕ) → dispatchBy rightMachine ws h ≡ dispatch ws h
+unfolding dispatchBy dispatchChoosing dispatchToBy dispatch dispatchOn dispatchTo tickOnBy tickOn effectOf
+same-dispatch ws h = refl
 
 pub same-begin : (ws : List ℕ) (k op side : ℕ) (argument : Stored)
     → beginBy rightMachine ws k op side argument ≡ begin ws k op side argument
@@ -104,6 +115,7 @@ pub right-gives : (c : Call) (ws : List ℕ) → givenBy rightMachine c ws ≡ g
 right-gives (start-call S T g) ws = refl
 right-gives (begin-call k op side argument) ws = ap (λ c. c .reply) (same-begin ws k op side argument)
 right-gives (tick-call k h) ws = ap (λ one. one .answer) (same-tick ws k h)
+right-gives (dispatch-call h) ws = ap (λ d. d .answer) (same-dispatch ws h)
 right-gives (run-call list answers) ws = ap (λ r. (r .ran, r .answers)) (same-run ws list answers)
 right-gives (panel-call list answers) ws = ap (λ r. (r .ran, r .answers)) (same-panel ws list answers)
 right-gives (read-call out) ws = refl
@@ -112,6 +124,7 @@ pub right-leaves : (c : Call) (ws : List ℕ) → afterBy rightMachine c ws ≡ 
 right-leaves (start-call S T g) ws = refl
 right-leaves (begin-call k op side argument) ws = ap (λ c. c .words) (same-begin ws k op side argument)
 right-leaves (tick-call k h) ws = ap (λ one. one .words) (same-tick ws k h)
+right-leaves (dispatch-call h) ws = ap (λ d. d .words) (same-dispatch ws h)
 right-leaves (run-call list answers) ws = ap (λ r. r .words) (same-run ws list answers)
 right-leaves (panel-call list answers) ws = ap (λ r. r .words) (same-panel ws list answers)
 right-leaves (read-call out) ws = refl

@@ -6,11 +6,12 @@ use Prim.Native.Nat.{ℕ, zero, suc}
 use lib.Dec.{eqb}
 use lib.ListN.{getD}
 use Rattle.machine.specs.declared.Answer.{Answer}
+use Rattle.machine.specs.declared.Dispatch.{Dispatch}
 use Rattle.machine.specs.declared.Ran.{Ran}
 use Rattle.machine.specs.declared.Reading.{Reading}
 use Rattle.machine.specs.declared.Reading.the-variants.{Count, Refused as Reading-Refused}
 use Rattle.machine.specs.Shape.{allBelow, sameWords}
-use Rattle.machine.specs.Answers.{replyNumber, kindOf, payloadOf}
+use Rattle.machine.specs.Answers.{replyNumber, kindOf, payloadOf, dispatchKindOf, dispatchPayloadOf}
 use Rattle.machine.specs.Allocate.{Marking}
 use Rattle.machine.specs.Calls.{RunDone, lane}
 use Rattle.machine.specs.Row.{Row, isGoing, feedRun}
@@ -19,6 +20,7 @@ use Rattle.machine.specs.Demand3.{
   start-call,
   begin-call,
   tick-call,
+  dispatch-call,
   run-call,
   panel-call,
   read-call,
@@ -53,6 +55,7 @@ sameWithin M (panel-call list answers) ws ρ = sameWithinList M list ws ρ (pane
 sameWithin M (start-call S T g) ws ρ = true
 sameWithin M (begin-call k op side argument) ws ρ = true
 sameWithin M (tick-call k h) ws ρ = true
+sameWithin M (dispatch-call h) ws ρ = true
 sameWithin M (read-call out) ws ρ = true
 
 unfoldable pub byRow : Machine → List Call → (number : ℕ) → List ℕ → Row → Verdict
@@ -71,6 +74,10 @@ byRow M (c ∷ cs) n ws ρ =
 abbrev pub sameAnswer : Answer → Answer → Bool
 sameAnswer a b = eqb (kindOf a) (kindOf b) && eqb (payloadOf a) (payloadOf b)
 
+abbrev pub sameDispatch : Dispatch → Dispatch → Bool
+sameDispatch d e =
+    eqb (dispatchKindOf d) (dispatchKindOf e) && eqb (dispatchPayloadOf d) (dispatchPayloadOf e)
+
 abbrev pub sameRan : Ran → Ran → Bool
 sameRan r q = eqb (r .made) (q .made) && eqb (r .refusal) (q .refusal)
 
@@ -84,6 +91,7 @@ abbrev pub sameGiven : (c : Call) → Given c → Given c → Bool
 sameGiven (start-call S T g) r q = eqb (replyNumber r) (replyNumber q)
 sameGiven (begin-call k op side argument) r q = eqb (replyNumber r) (replyNumber q)
 sameGiven (tick-call k h) r q = sameAnswer r q
+sameGiven (dispatch-call h) r q = sameDispatch r q
 sameGiven (run-call list answers) r q = sameRan (r .0) (q .0) && sameWords (r .1) (q .1)
 sameGiven (panel-call list answers) r q = sameRan (r .0) (q .0) && sameWords (r .1) (q .1)
 sameGiven (read-call out) r q = sameReading (r .0) (q .0) && sameWords (r .1) (q .1)

@@ -12,7 +12,7 @@ use Rattle.machine.specs.Table.{tableLength}
 use Rattle.machine.specs.Allocate.{marked}
 use Rattle.machine.specs.Calls.{isBegun, lane, times, start}
 use Rattle.machine.specs.Row.{emptyRow}
-use Rattle.machine.specs.Demand3.{Call, begin-call, tick-call, run-call, panel-call, read-call}
+use Rattle.machine.specs.Demand3.{Call, begin-call, tick-call, dispatch-call, run-call, panel-call, read-call}
 use Rattle.refuted.specs.Machines.{Machine, rightMachine}
 use Rattle.refuted.specs.Wrong.{
   wholeInFirstTick,
@@ -57,6 +57,13 @@ use Rattle.refuted.specs.Wrong.{
   popPassesZero,
   takesDigitTen,
   runTurnsWords,
+  dispatchesFromZero,
+  asksLastFirst,
+  asksOthersAlone,
+  tickIsDispatched,
+  idleMovesOn,
+  refusalMovesOn,
+  hintAfterChoice,
 }
 use Rattle.refuted.specs.Judged.{
   Verdict,
@@ -106,6 +113,14 @@ pushedAtOnce = begins 0 push right 51 ++ begins 1 push right 51 ++ ticks 11 0 0 
 
 abbrev pub pushedAgain : List Call
 pushedAgain = wholly 11 0 push 51 ++ wholly 11 0 push 51
+
+-- n dispatches with a hint.
+abbrev pub dispatchesOf : (n hint : ℕ) → List Call
+dispatchesOf n h = replicate n (dispatch-call h)
+
+-- Task 0 is to push bag 51, and task 1's pop answers at its next tick.
+abbrev pub popAboutToAnswer : List Call
+popAboutToAnswer = begins 0 push right 51 ++ begins 1 pop right 0 ++ ticks 3 1 0
 
 abbrev pub entries : List Entry
 entries =
@@ -550,6 +565,68 @@ entries =
       row-says = not-the-row's-answer 14;
       definitions-say = other-answer 14;
     }
+    -- Task 0's pop gets all the ticks, and answers when task 1's push is due.
+    ∷ record {
+      wrong = dispatchesFromZero;
+      S = 4;
+      T = 2;
+      calls = begins 0 pop right 0 ++ begins 1 push right 51 ++ dispatchesOf 4 0;
+      row-says = not-the-row's-answer 6;
+      definitions-say = other-table 4;
+    }
+    -- Task 1's pop was dispatched, and a push of task 0 is due.
+    ∷ record {
+      wrong = asksLastFirst;
+      S = 4;
+      T = 2;
+      calls = begins 1 pop right 0 ++ dispatchesOf 1 0 ++ begins 0 push right 51 ++ dispatchesOf 3 0;
+      row-says = not-the-row's-answer 6;
+      definitions-say = other-table 4;
+    }
+    -- Only task 1 is busy, which is the one last dispatched since the start.
+    ∷ record {
+      wrong = asksOthersAlone;
+      S = 4;
+      T = 2;
+      calls = begins 1 pop right 0 ++ dispatchesOf 1 0;
+      row-says = not-the-row's-answer 2;
+      definitions-say = other-answer 2;
+    }
+    -- After a plain tick of task 0, task 0 is due, and the pop answers.
+    ∷ record {
+      wrong = tickIsDispatched;
+      S = 4;
+      T = 2;
+      calls = popAboutToAnswer ++ ticks 1 0 0 ++ dispatchesOf 1 0;
+      row-says = not-the-row's-answer 7;
+      definitions-say = other-table 6;
+    }
+    -- After an "idle", and after a refusal, task 0 is due, and the pop answers.
+    ∷ record {
+      wrong = idleMovesOn;
+      S = 4;
+      T = 2;
+      calls = dispatchesOf 1 0 ++ popAboutToAnswer ++ dispatchesOf 1 0;
+      row-says = not-the-row's-answer 7;
+      definitions-say = other-table 1;
+    }
+    ∷ record {
+      wrong = refusalMovesOn;
+      S = 4;
+      T = 2;
+      calls = popAboutToAnswer ++ dispatchesOf 1 4 ++ dispatchesOf 1 0;
+      row-says = not-the-row's-answer 7;
+      definitions-say = other-table 6;
+    }
+    -- All tasks are idle, and the hint is no node.
+    ∷ record {
+      wrong = hintAfterChoice;
+      S = 4;
+      T = 1;
+      calls = dispatchesOf 1 4;
+      row-says = passes;
+      definitions-say = other-answer 1;
+    }
     ∷ []
 
 -- A table begun with so many nodes and tasks, and growth 0.
@@ -567,9 +644,9 @@ unfoldable pub judged : Entry → Judged
 judged e =
     let ws = begunWith (e .S) (e .T) in
     record {
-      right-by-row = byRow rightMachine (e .calls) 1 ws emptyRow;
+      right-by-row = byRow rightMachine (e .calls) 1 ws (emptyRow (e .T));
       right-by-definitions = byDefinitions rightMachine (e .calls) 1 ws;
-      wrong-by-row = byRow (e .wrong) (e .calls) 1 ws emptyRow;
+      wrong-by-row = byRow (e .wrong) (e .calls) 1 ws (emptyRow (e .T));
       wrong-by-definitions = byDefinitions (e .wrong) (e .calls) 1 ws;
     }
 

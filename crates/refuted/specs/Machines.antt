@@ -1,17 +1,18 @@
--- What a machine is: what its ticks do, what its runs report, which lists its panel takes, what its begin refuses. The
--- calls over any machine, and the right one.
+-- What a machine is: what its ticks do, what its runs report, which lists its panel takes, what its begin refuses, what
+-- its dispatches do. The calls over any machine, and the right one.
 use mathlib.Core.List.{List, [], _∷_}
 use mathlib.Core.Option.{Option, some, none as nothing}
 use Prim.Native.Nat.{ℕ, zero, suc}
 use lib.ListN.{drop}
 use Rattle.machine.specs.declared.Answer.the-variants.{Refused}
+use Rattle.machine.specs.declared.Dispatch.the-variants.{Idle, Answered}
 use Rattle.machine.specs.declared.Stored.{Stored}
 use Rattle.machine.specs.Sides.{Side, opposite, sideOf}
 use Rattle.machine.specs.Values.{number}
 use Rattle.machine.specs.Operations.{operationOf}
 use Rattle.machine.specs.Steps.{Step}
 use Rattle.machine.specs.Tasks.{Task, goal}
-use Rattle.machine.specs.Table.{growth, task, setTask}
+use Rattle.machine.specs.Table.{growth, task, setDispatched, setTask}
 use Rattle.machine.specs.Allocate.{allocate}
 use Rattle.machine.specs.Lines.{Memory, Effect, seen, act}
 use Rattle.machine.specs.Answers.{answerLength, refusalOf}
@@ -19,10 +20,13 @@ use Rattle.machine.specs.Calls.{
   tableRefusal,
   beginRefusal,
   tickRefusal,
+  dispatchRefusal,
   runRefusal,
   panelRefusal,
   Ticked,
   applied,
+  nextBusy,
+  Dispatched,
   RunDone,
   stopped,
   afterTick,
@@ -37,21 +41,47 @@ use Rattle.machine.specs.Demand3.{
   start-call,
   begin-call,
   tick-call,
+  dispatch-call,
   run-call,
   panel-call,
   read-call,
   Given,
 }
 
+abbrev pub Ticks : Type 0
+Ticks = List ℕ → (k hint : ℕ) → Ticked
+
+-- Dispatches are made of the machine's own ticks.
 pub record Machine : Type 0 where
-  pub tickOn : List ℕ → (k hint : ℕ) → Ticked
+  pub tickOn : Ticks
   pub reports : RunDone → RunDone
   pub panelRefuses : (ws list answers : List ℕ) → Option ℕ
   pub panelTakes : (list : List ℕ) → List ℕ
   pub beginRefuses : List ℕ → (k operation side : ℕ) → (argument : Stored) → Option ℕ
+  pub dispatches : Ticks → List ℕ → (hint : ℕ) → Dispatched
+
+-- ---- Dispatches by the task that they choose.
+unfoldable pub dispatchToBy : Ticks → List ℕ → (k hint : ℕ) → Dispatched
+dispatchToBy tickOn ws k h =
+    let one = tickOn ws k h in
+    elim (refusalOf (one .answer)) as (λ _. Dispatched) [
+      | some n ↦ record { answer = Answered (one .answer); words = ws }
+      | nothing ↦ record { answer = Answered (one .answer); words = setDispatched k (one .words) }
+    ]
+
+unfoldable pub dispatchChoosing : (List ℕ → Option ℕ) → Ticks → List ℕ → (hint : ℕ) → Dispatched
+dispatchChoosing choice tickOn ws h =
+    elim (dispatchRefusal ws h) as (λ _. Dispatched) [
+      | some n ↦ record { answer = Answered (Refused n); words = ws }
+      | nothing ↦
+          elim (choice ws) as (λ _. Dispatched) [
+            | some k ↦ dispatchToBy tickOn ws k h
+            | nothing ↦ record { answer = Idle; words = ws }
+          ]
+    ]
 
 -- A machine that is wrong in its ticks alone.
-abbrev pub byTicks : (List ℕ → (k hint : ℕ) → Ticked) → Machine
+abbrev pub byTicks : Ticks → Machine
 byTicks tickOn =
     record {
       tickOn = tickOn;
@@ -59,6 +89,7 @@ byTicks tickOn =
       panelRefuses = panelRefusal;
       panelTakes = λ list. list;
       beginRefuses = beginRefusal;
+      dispatches = dispatchChoosing nextBusy;
     }
 
 -- ---- A machine by what a line does and which node a take gives.
@@ -98,6 +129,9 @@ tickBy M ws k h =
       | nothing ↦ M .tickOn ws k h
     ]
 
+unfoldable pub dispatchBy : Machine → List ℕ → (hint : ℕ) → Dispatched
+dispatchBy M ws h = M .dispatches (M .tickOn) ws h
+
 unfoldable pub runOnBy : Machine → (list : List ℕ) (ws answers : List ℕ) → RunDone
 runOnBy M [] ws answers = stopped 0 ws answers
 runOnBy M (k ∷ []) ws answers = stopped 0 ws answers
@@ -123,6 +157,7 @@ abbrev pub givenBy : Machine → (c : Call) → List ℕ → Given c
 givenBy M (start-call S T g) ws = start ws S T g .reply
 givenBy M (begin-call k op side argument) ws = beginBy M ws k op side argument .reply
 givenBy M (tick-call k h) ws = tickBy M ws k h .answer
+givenBy M (dispatch-call h) ws = dispatchBy M ws h .answer
 givenBy M (run-call list answers) ws = (runBy M ws list answers .ran, runBy M ws list answers .answers)
 givenBy M (panel-call list answers) ws = (panelBy M ws list answers .ran, panelBy M ws list answers .answers)
 givenBy M (read-call out) ws = (read ws out .reading, read ws out .out)
@@ -131,6 +166,7 @@ abbrev pub afterBy : Machine → Call → List ℕ → List ℕ
 afterBy M (start-call S T g) ws = start ws S T g .words
 afterBy M (begin-call k op side argument) ws = beginBy M ws k op side argument .words
 afterBy M (tick-call k h) ws = tickBy M ws k h .words
+afterBy M (dispatch-call h) ws = dispatchBy M ws h .words
 afterBy M (run-call list answers) ws = runBy M ws list answers .words
 afterBy M (panel-call list answers) ws = panelBy M ws list answers .words
 afterBy M (read-call out) ws = ws

@@ -2,13 +2,15 @@
 use mathlib.Core.Bool.{Bool, true, false, not, cond, _&&_, _||_}
 use mathlib.Core.List.{List, [], _∷_, _++_, map}
 use mathlib.Core.Option.{Option, some, none as nothing, Option·map}
-use Prim.Native.Nat.{ℕ, zero, suc, _+_, _*_, _/_, _%_}
+use Prim.Native.Nat.{ℕ, zero, suc, _+_, _-_, _*_, _/_, _%_}
 use lib.Dec.{leb, ltb, eqb}
 use lib.ListN.{length, take, drop}
 use lib.Seq.{sets}
 use Rattle.tag.specs.Tags.{lowOf}
 use Rattle.machine.specs.declared.Answer.{Answer}
 use Rattle.machine.specs.declared.Answer.the-variants.{Going, Pushed, Bag, Empty, Full, Yes, No, Refused}
+use Rattle.machine.specs.declared.Dispatch.the-variants.{Idle}
+use Rattle.machine.specs.Round.{following, firstFrom}
 use Rattle.machine.specs.Sides.{left, right}
 use Rattle.machine.specs.Choice.{_≟_, if_then_else_}
 use Rattle.machine.specs.Values.{Value, never, bag, N, X, Y, _≟ᵛ_, number, storedWords, encode}
@@ -55,12 +57,14 @@ use Rattle.machine.specs.Table.{
   nodeCount,
   taskCount,
   tickCount,
+  dispatched,
   hat,
   valueAt,
   link,
   value,
   task,
   setTickCount,
+  setDispatched,
   setValue,
   setTask,
 }
@@ -91,7 +95,7 @@ use Rattle.machine.specs.Lines.{
   bagOf,
   act,
 }
-use Rattle.machine.specs.Answers.{kindOf, answerLength, endsCall}
+use Rattle.machine.specs.Answers.{kindOf, dispatchKindOf, answerLength, endsCall}
 use Rattle.machine.specs.Calls.{
   unless,
   isIdle,
@@ -108,11 +112,24 @@ use Rattle.machine.specs.Calls.{
   begunTask,
   Ticked,
   tickOn,
+  isBusyTask,
+  nextBusy,
+  Dispatched,
   RunDone,
   lane,
 }
 use Rattle.machine.specs.Row.{isGoing}
-use Rattle.refuted.specs.Machines.{Machine, Line, Take, tickOnBy, byTicks, byLines, rightMachine}
+use Rattle.refuted.specs.Machines.{
+  Ticks,
+  Machine,
+  dispatchChoosing,
+  Line,
+  Take,
+  tickOnBy,
+  byTicks,
+  byLines,
+  rightMachine,
+}
 
 -- Lines that are others at one step.
 abbrev pub but : Line → Step → Line → Line
@@ -399,6 +416,7 @@ reportsUnmadeTick =
       panelRefuses = rightMachine .panelRefuses;
       panelTakes = rightMachine .panelTakes;
       beginRefuses = rightMachine .beginRefuses;
+      dispatches = rightMachine .dispatches;
     }
 
 -- ---- 2026-01: "15, panel list over 64 words, tested where 13 is tested and straight after it".
@@ -412,6 +430,7 @@ withPanel refuses takes =
       panelRefuses = refuses;
       panelTakes = takes;
       beginRefuses = rightMachine .beginRefuses;
+      dispatches = rightMachine .dispatches;
     }
 
 abbrev pub overLong : (list : List ℕ) → Option ℕ → Option ℕ
@@ -447,7 +466,7 @@ abbrev pub After7 : Type 0
 After7 = List ℕ → (k : ℕ) → Operation → (n : ℕ) → Option ℕ
 
 -- The right machine but for its ticks, and for what its begin tests after 7.
-abbrev pub withBegin : (List ℕ → (k hint : ℕ) → Ticked) → After7 → Machine
+abbrev pub withBegin : Ticks → After7 → Machine
 withBegin ticks after7 =
     record {
       tickOn = ticks;
@@ -460,6 +479,7 @@ withBegin ticks after7 =
           (unless (leb 1 op && leb op 4 && leb side 1) 6
           (unless (argumentOk (operationOf op) argument) 7
           (after7 ws k (operationOf op) (number argument)))));
+      dispatches = rightMachine .dispatches;
     }
 
 abbrev pub testsBusy : List ℕ → (k : ℕ) → Option ℕ → Option ℕ
@@ -593,6 +613,7 @@ takesDigitTen =
       beginRefuses = λ ws k op side argument.
           cond (isPush (operationOf op) && eqb (number argument) 10_000_000_000) nothing
           (rightMachine .beginRefuses ws k op side argument);
+      dispatches = rightMachine .dispatches;
     }
 
 -- ---- "... the run write two words for a tag, digit first": of n ticks it writes the digit last.
@@ -611,4 +632,69 @@ runTurnsWords =
       panelRefuses = rightMachine .panelRefuses;
       panelTakes = rightMachine .panelTakes;
       beginRefuses = rightMachine .beginRefuses;
+      dispatches = rightMachine .dispatches;
     }
+
+-- ---- 2026-07: "A dispatcher ticks the next busy task after the one it last ticked, going round by task number".
+
+-- The right machine but for its dispatches, and for the task that they choose.
+abbrev pub withDispatch : (Ticks → List ℕ → (hint : ℕ) → Dispatched) → Machine
+withDispatch dispatches =
+    record {
+      tickOn = rightMachine .tickOn;
+      reports = rightMachine .reports;
+      panelRefuses = rightMachine .panelRefuses;
+      panelTakes = rightMachine .panelTakes;
+      beginRefuses = rightMachine .beginRefuses;
+      dispatches = dispatches;
+    }
+
+abbrev pub choosing : (List ℕ → Option ℕ) → Machine
+choosing choice = withDispatch (dispatchChoosing choice)
+
+-- The first of m tasks from k on, going round, that is busy.
+abbrev pub busyFrom : (m k : ℕ) → List ℕ → Option ℕ
+busyFrom m k ws = firstFrom (taskCount ws) (isBusyTask ws) m k
+
+-- The round begins again at task 0 each time.
+abbrev pub dispatchesFromZero : Machine
+dispatchesFromZero = choosing (λ ws. busyFrom (taskCount ws) 0 ws)
+
+-- The task last dispatched is asked first.
+abbrev pub asksLastFirst : Machine
+asksLastFirst = choosing (λ ws. busyFrom (taskCount ws) (dispatched ws) ws)
+
+-- The task last dispatched is not asked.
+abbrev pub asksOthersAlone : Machine
+asksOthersAlone = choosing (λ ws. busyFrom (taskCount ws - 1) (following (taskCount ws) (dispatched ws)) ws)
+
+-- ---- "A plain tick does not touch it": it writes its task there.
+abbrev pub tickIsDispatched : Machine
+tickIsDispatched =
+    byTicks (λ ws k h.
+    let one = tickOn ws k h in
+    cond (eqb (kindOf (one .answer)) (kindOf (Refused 0))) one
+    (record { answer = one .answer; words = setDispatched k (one .words) }))
+
+-- ---- "With every task idle it answers "idle" and changes nothing": it writes the next task there.
+abbrev pub idleMovesOn : Machine
+idleMovesOn =
+    withDispatch (λ ticks ws h.
+    let one = dispatchChoosing nextBusy ticks ws h in
+    cond (eqb (dispatchKindOf (one .answer)) (dispatchKindOf Idle))
+    (record { answer = Idle; words = setDispatched (following (taskCount ws) (dispatched ws)) ws }) one)
+
+-- A refusal writes the task that it would have ticked.
+abbrev pub refusalMovesOn : Machine
+refusalMovesOn =
+    withDispatch (λ ticks ws h.
+    let one = dispatchChoosing nextBusy ticks ws h in
+    cond (eqb (dispatchKindOf (one .answer)) (kindOf (Refused 0)))
+    (record { answer = one .answer; words = dispatchChoosing nextBusy ticks ws 0 .words }) one)
+
+-- ---- "... the hint, tested as in tick, before the choice": it is tested with the tick, so not at all where all are idle.
+abbrev pub hintAfterChoice : Machine
+hintAfterChoice =
+    withDispatch (λ ticks ws h.
+    let one = dispatchChoosing nextBusy ticks ws 0 in
+    cond (eqb (dispatchKindOf (one .answer)) (dispatchKindOf Idle)) one (dispatchChoosing nextBusy ticks ws h))

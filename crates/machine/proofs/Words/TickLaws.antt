@@ -15,7 +15,7 @@ use Rattle.machine.specs.Tasks.{wordsOf}
 use Rattle.machine.specs.Table.{nodeCount, taskCount, growth, tickCount, task}
 use Rattle.machine.specs.Shape.{lengthOk, shapeOk}
 use Rattle.machine.specs.Lines.{Effect}
-use Rattle.machine.specs.Answers.{kindOf, payloadOf, refusalOf}
+use Rattle.machine.specs.Answers.{kindOf, payloadOf, dispatchPayloadOf, refusalOf}
 use Rattle.machine.specs.Calls.{
   unless,
   isBusy,
@@ -26,6 +26,11 @@ use Rattle.machine.specs.Calls.{
   applied,
   tickOn,
   tick,
+  dispatchRefusal,
+  nextBusy,
+  dispatchTo,
+  dispatchOn,
+  dispatch,
 }
 use Rattle.machine.proofs.Basics.Contradiction.{clash}
 use Rattle.machine.proofs.Basics.Tests.{test-passed, tests-left}
@@ -235,3 +240,32 @@ tick-number ws k h = go (tableRefusal ws nothing) refl
     go nothing e =
         let shape-test : shapeOk ws ≡ true = search (test-passed, tests-left) in
         tick-on-number ws k h (well-shaped ws shape-test)
+
+-- The same of a dispatch.
+pub dispatch-number : (ws : List ℕ) (h : ℕ) → dispatchPayloadOf (dispatch ws h .answer) ≤ largestTag
+unfolding dispatch dispatchOn dispatchTo
+dispatch-number ws h = tested (dispatchRefusal ws h) refl
+  where
+    small : (m : ℕ) → dispatchRefusal ws h ≡ some m → m ≤ largestTag
+    small =
+        small-number (lengthOk ws) 3 _ (omega arith)
+        (small-number (shapeOk ws) 4 _ (omega arith)
+        (small-number (ltb h (nodeCount ws)) 9 _ (omega arith) no-number))
+
+    ticked : (k : ℕ) → payloadOf (tickOn ws k h .answer) ≤ largestTag → (r : Option ℕ)
+        → refusalOf (tickOn ws k h .answer) ≡ r
+        → dispatchPayloadOf (dispatchTo ws k h .answer) ≤ largestTag
+    ticked k low (some n) e = rw (e, dispatchTo) low
+    ticked k low nothing e = rw (e, dispatchTo) low
+
+    chosen : WellShaped (columns ws) → (o : Option ℕ) → nextBusy ws ≡ o
+        → dispatchPayloadOf (dispatchOn ws h .answer) ≤ largestTag
+    chosen W nothing e = rw (e, dispatchOn) (omega arith)
+    chosen W (some k) e =
+        rw (e, dispatchOn) (ticked k (tick-on-number ws k h W) (refusalOf (tickOn ws k h .answer)) refl)
+
+    tested : (r : Option ℕ) → dispatchRefusal ws h ≡ r → dispatchPayloadOf (dispatch ws h .answer) ≤ largestTag
+    tested (some n) e = rw (e, dispatch) (small n e)
+    tested nothing e =
+        let shape-test : shapeOk ws ≡ true = search (test-passed, tests-left) in
+        rw (e, dispatch) (chosen (well-shaped ws shape-test) (nextBusy ws) refl)
