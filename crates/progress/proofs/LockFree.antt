@@ -17,5 +17,6 @@ pub mod Sums
 pub mod TableTick
 pub mod Potential
 pub mod BeginKeeps
+pub mod DispatchKeeps
 pub mod Theorem
 pub mod Schedules

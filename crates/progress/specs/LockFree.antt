@@ -5,22 +5,24 @@ use mathlib.Core.List.{List, [], _∷_}
 use Prim.Native.Nat.{ℕ, suc, _+_, _*_, _≤_, _<_}
 use lib.ListN.{length}
 use Rattle.machine.specs.declared.Answer.the-variants.{Going, Refused}
+use Rattle.machine.specs.declared.Dispatch.the-variants.{Idle, Answered}
 use Rattle.machine.specs.declared.Stored.{Stored}
 use Rattle.machine.specs.Table.{nodeCount, taskCount, task}
-use Rattle.machine.specs.Calls.{isBusy, begin, tick}
+use Rattle.machine.specs.Calls.{isBusy, begin, tick, dispatch}
 use Rattle.machine.specs.Begun.{Begun}
 use Rattle.machine.specs.Answers.{endsCall}
 
 -- ---- No long stretch without an answer.
 
--- What is done to the table: a tick of any task with any hint, or a begin with any arguments. (A run is its ticks,
--- reading changes nothing, and a start ends every call.)
+-- What is done to the table: a tick of any task with any hint, a dispatch (2026-07), or a begin with any arguments. (A
+-- run is its ticks, reading changes nothing, and a start ends every call.)
 pub data Move : Type 0 where
   ticks : (k hint : ℕ) → Move
+  dispatches : (hint : ℕ) → Move
   begins : (k operation side : ℕ) (argument : Stored) → Move
 
--- The moves are made one after another and no tick answers: n ticks say "going", other ticks are refused, and begins
--- are accepted or refused.
+-- The moves are made one after another and no tick answers: n ticks, some of them by dispatches, say "going", other ticks
+-- and dispatches are refused, dispatches are idle, and begins are accepted or refused.
 pub data AnswerFree : (n : ℕ) (moves : List Move) (ws : List ℕ) → Type 0 where
   no-more : {ws : List ℕ} → AnswerFree 0 [] ws
   going :
@@ -33,6 +35,21 @@ pub data AnswerFree : (n : ℕ) (moves : List Move) (ws : List ℕ) → Type 0 w
       → tick ws k h .answer ≡ Refused r
       → AnswerFree n moves (tick ws k h .words)
       → AnswerFree n (ticks k h ∷ moves) ws
+  dispatched :
+      {n h : ℕ} {moves : List Move} {ws : List ℕ}
+      → dispatch ws h .answer ≡ Answered Going
+      → AnswerFree n moves (dispatch ws h .words)
+      → AnswerFree (suc n) (dispatches h ∷ moves) ws
+  dispatch-refused :
+      {n h r : ℕ} {moves : List Move} {ws : List ℕ}
+      → dispatch ws h .answer ≡ Answered (Refused r)
+      → AnswerFree n moves (dispatch ws h .words)
+      → AnswerFree n (dispatches h ∷ moves) ws
+  idle :
+      {n h : ℕ} {moves : List Move} {ws : List ℕ}
+      → dispatch ws h .answer ≡ Idle
+      → AnswerFree n moves (dispatch ws h .words)
+      → AnswerFree n (dispatches h ∷ moves) ws
   begun :
       {n k op side : ℕ} {argument : Stored} {moves : List Move} {ws : List ℕ}
       → AnswerFree n moves (begin ws k op side argument .words)

@@ -5,16 +5,39 @@ use mathlib.Core.Option.{Option, some, none as nothing}
 use Prim.Native.Nat.{ℕ, zero, suc, _+_, _*_, _≤_}
 use native.Mathlib.Omega.{arith}
 use Rattle.machine.specs.declared.Answer.the-variants.{Going, Refused}
-use Rattle.machine.specs.Table.{nodeCount, taskCount}
-use Rattle.machine.specs.Answers.{refusalOf}
-use Rattle.machine.specs.Calls.{tickRefusal, begin, effectOf, Ticked, tickOn, tick}
-use Rattle.machine.specs.Demand3.{begin-call, tick-call}
+use Rattle.machine.specs.declared.Dispatch.the-variants.{Answered}
+use Rattle.machine.specs.Table.{nodeCount, taskCount, setDispatched}
+use Rattle.machine.specs.Answers.{refusalOf, dispatchRefusalOf}
+use Rattle.machine.specs.Calls.{
+  tickRefusal,
+  begin,
+  effectOf,
+  Ticked,
+  tickOn,
+  tick,
+  nextBusy,
+  Dispatched,
+  dispatch,
+}
+use Rattle.machine.specs.Demand3.{begin-call, tick-call, dispatch-call}
 use Rattle.machine.specs.Begun.{Begun, by-call}
-use Rattle.progress.specs.LockFree.{Move, AnswerFree, no-more, going, refused, begun, LockFree}
+use Rattle.progress.specs.LockFree.{
+  Move,
+  AnswerFree,
+  no-more,
+  going,
+  refused,
+  dispatched,
+  dispatch-refused,
+  idle,
+  begun,
+  LockFree,
+}
 use Rattle.machine.proofs.Basics.Contradiction.{clash}
 use Rattle.machine.proofs.Shape.ShapeLaws.{well-sized}
+use Rattle.machine.proofs.Shape.DispatchCases.{by-dispatch}
 use Rattle.machine.proofs.Words.TickLaws.{tick-stopped, tick-answer}
-use Rattle.machine.proofs.Linearizability.Corollaries.{begun-agrees, tick-passes}
+use Rattle.machine.proofs.Linearizability.Corollaries.{begun-agrees, tick-passes, ticked-sized}
 use Rattle.machine.proofs.Linearizability.Calls.MadeTicks.{effect-made}
 use Rattle.machine.proofs.Linearizability.Begun.TableAfter.{nodes-after, task-count-after}
 use Rattle.progress.proofs.SoloBound.Budget.{walkTicks}
@@ -26,6 +49,13 @@ use Rattle.progress.proofs.LockFree.Potential.{
   ticks-fall,
   disturbances-fall,
   potential-falls,
+}
+use Rattle.progress.proofs.LockFree.DispatchKeeps.{
+  dispatched-nodes,
+  dispatched-tasks,
+  dispatched-keeps,
+  refused-stays,
+  idle-stays,
 }
 use Rattle.progress.proofs.LockFree.BeginKeeps.{begin-nodes, begin-tasks, begin-keeps}
 
@@ -92,6 +122,34 @@ module _ {ws : List ℕ} (X : Begun ws) (k h : ℕ) where
           let u : refusalOf (effectOf ws k h .answer) ≡ some r = ap refusalOf q in
           clash (cc)
 
+-- ---- A dispatch that says "going" is such a tick.
+module _ {ws : List ℕ} (X : Begun ws) (h : ℕ) where
+  dispatch-goes : {D P n : ℕ} → Potential ws D P → dispatch ws h .answer ≡ Answered Going
+      → ((D' P' : ℕ)
+      → Potential (dispatch ws h .words) D' P'
+      → n ≤ allows (nodeCount (dispatch ws h .words)) (taskCount (dispatch ws h .words)) D' P')
+      → suc n ≤ allows (nodeCount ws) (taskCount ws) D P
+  dispatch-goes {D} {P} {n} Φ =
+      by-dispatch ws (begun-agrees X .1 .accepted) h Goes (λ e. clash (cc)) (λ _ e. clash (cc))
+      (λ k m _ q e. clash (cc (ap dispatchRefusalOf e))) made
+    where
+      Goes : Dispatched → Type 0
+      Goes r =
+          r .answer ≡ Answered Going
+          → ((D' P' : ℕ) → Potential (r .words) D' P' → n ≤ allows (nodeCount (r .words)) (taskCount (r .words)) D' P')
+          → suc n ≤ allows (nodeCount ws) (taskCount ws) D P
+
+      made : (k : ℕ) → nextBusy ws ≡ some k → tickRefusal ws k h ≡ nothing
+          → refusalOf (tickOn ws k h .answer) ≡ nothing
+          → Goes (record { answer = Answered (tickOn ws k h .answer); words = setDispatched k (tickOn ws k h .words) })
+      made k _ _ _ e others =
+          let vs = tickOn ws k h .words in
+          let sized = ticked-sized (begun-agrees X .1) k h in
+          let goes : tickOn ws k h .answer ≡ Going = cc in
+          made-goes X k h Φ goes (λ D' P' Φ'.
+          rw (dispatched-nodes vs sized k, dispatched-tasks vs sized k) at
+          (others D' P' (dispatched-keeps vs sized k Φ')))
+
 -- ---- The stretch.
 allowed : (n : ℕ) (moves : List Move) (ws : List ℕ) (D P : ℕ) → Begun ws → Potential ws D P → AnswerFree n moves ws
     → n ≤ allows (nodeCount ws) (taskCount ws) D P
@@ -108,6 +166,14 @@ allowed n moves ws D P X Φ (refused {n = i} {k = k} {h = h} {moves = l} e rest)
     ap (λ (r : Ticked). r .words) t ∙ none-made X k h (sym (ap (λ (r : Ticked). r .answer) t) ∙ e) in
     subst (λ (x : List ℕ). Potential x D P → i ≤ allows (nodeCount x) (taskCount x) D P) same
     (λ Φ'. allowed i l (tick ws k h .words) D P (by-call X (tick-call k h)) Φ' rest) Φ
+allowed n moves ws D P X Φ (dispatched {n = i} {h = h} {moves = l} e rest) =
+    dispatch-goes X h Φ e (λ D' P' Φ'. allowed i l (dispatch ws h .words) D' P' (by-call X (dispatch-call h)) Φ' rest)
+allowed n moves ws D P X Φ (dispatch-refused {n = i} {h = h} {moves = l} e rest) =
+    subst (λ (x : List ℕ). Potential x D P → i ≤ allows (nodeCount x) (taskCount x) D P) (refused-stays X h e)
+    (λ Φ'. allowed i l (dispatch ws h .words) D P (by-call X (dispatch-call h)) Φ' rest) Φ
+allowed n moves ws D P X Φ (idle {n = i} {h = h} {moves = l} e rest) =
+    subst (λ (x : List ℕ). Potential x D P → i ≤ allows (nodeCount x) (taskCount x) D P) (idle-stays X h e)
+    (λ Φ'. allowed i l (dispatch ws h .words) D P (by-call X (dispatch-call h)) Φ' rest) Φ
 allowed n moves ws D P X Φ (begun {n = i} {k = k} {op = op} {side = side} {argument = argument} {moves = l} rest) =
     let c = begin-call k op side argument in
     let same-nodes = begin-nodes X k op side argument in
