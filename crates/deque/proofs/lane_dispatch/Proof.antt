@@ -1,26 +1,34 @@
+-- `deque::lane_dispatch` meets its contract: the number and the words of `dispatch`.
+use mathlib.Core.Path.{sym, ap, _∙_, subst}
+use Prim.Native.Nat.{_≤_}
+use Rattle.tag.specs.Tags.{largestTag}
+use Rattle.machine.specs.Answers.{dispatchPayloadOf}
+use Rattle.machine.specs.Calls.{Dispatched}
+use Rattle.machine.proofs.Words.TickLaws.{dispatch-number}
+use Rattle.deque.specs.Exports.{dispatchNumber}
 use borrow.Author.Needs.{needs}
 use Rattle.deque.proofs.lane_dispatch.Statement.{statement}
 use Rattle.deque.proofs.lane_dispatch.Tie as tie
-use Rattle.deque.proofs.lane_dispatch.Reads as reads
-use Rattle.deque.proofs.lane_dispatch.Lts as lts
-use Rattle.deque.proofs.dispatch_number.Reads as dispatch-number-reads
-use Rattle.dispatching.proofs.dispatch.Reads as dispatch-reads
 
--- src/lib.rt:121:21
 dispatch-requires : tie.Need-dispatch-requires
 dispatch-requires c κs = search needs
 
--- src/lib.rt:121:5
 dispatch-number-requires : tie.Need-dispatch-number-requires
-dispatch-number-requires c κs = ?
+dispatch-number-requires c κs =
+    let d = c .before .before in
+    let a = d .before .before .before .args in
+    subst (λ (r : Dispatched). dispatchPayloadOf (r .answer) ≤ largestTag) (sym (d .dispatch .ensures))
+    (dispatch-number (a .table .now) (a .hint))
 
--- src/lib.rt:116:1
 same-length : tie.Need-same-length
 same-length c = search needs
 
--- src/lib.rt:116:1
 returns : tie.Need-returns
-returns c = ?
+returns c =
+    let e = c .before .before .before .dispatch .ensures in (
+      c .dispatch-number .ensures ∙ ap (λ (r : Dispatched). dispatchNumber (r .answer)) e,
+      ap (λ (r : Dispatched). r .words) e,
+    )
 
 pub lane-dispatch-spec : {M : Type 1} → statement M
 lane-dispatch-spec =
