@@ -1,10 +1,10 @@
 -- The tests of a dispatch, in 02's order, the choice of the task, and what its tick leaves.
 use mathlib.Core.Path.{_≡_, refl, sym, ap, _∙_}
-use mathlib.Core.Bool.{Bool, true, false, not}
+use mathlib.Core.Bool.{true, false, not}
 use mathlib.Core.Logic.{_≢_}
 use mathlib.Core.List.{List}
 use mathlib.Core.Option.{Option, some, none as nothing}
-use Prim.Native.Nat.{ℕ, suc, _+_, _-_, _≤_, _<_}
+use Prim.Native.Nat.{ℕ, suc, _-_, _≤_, _<_}
 use native.Mathlib.Omega.{arith}
 use native.Mathlib.Decide.{ℕ-discrete}
 use lib.Dec.{eqb}
@@ -16,7 +16,7 @@ use Rattle.machine.specs.Choice.{_≟_}
 use Rattle.machine.specs.Round.{following, firstFrom}
 use Rattle.machine.specs.Operations.{operationOf}
 use Rattle.machine.specs.Tasks.{operationWord}
-use Rattle.machine.specs.Table.{nodeCount, taskCount, dispatched, recordWords, task, setDispatched}
+use Rattle.machine.specs.Table.{nodeCount, taskCount, dispatched, recordWords, setDispatched}
 use Rattle.machine.specs.Shape.{WellFormed}
 use Rattle.machine.specs.Answers.{kindOf, refusalOf}
 use Rattle.machine.specs.Calls.{
@@ -31,13 +31,11 @@ use Rattle.machine.specs.Calls.{
   dispatch,
 }
 use Rattle.machine.specs.Results.{tickedOf, dispatchedOf}
-use Rattle.machine.proofs.Basics.Contradiction.{clash}
-use Rattle.machine.proofs.Basics.Choices.{by-if}
 use Rattle.machine.proofs.Basics.Rounds.{following-below, first-below}
 use Rattle.machine.proofs.Words.TickLaws.{refused-unchanged, refused-kind, made-kind}
 use Rattle.machine.proofs.Shape.ShapeLaws.{well-shaped}
 use Rattle.shape.specs.Contracts.{numberOf}
-use Rattle.shape.proofs.Laws.PassedTable.{refused, passed, operation-is, busy-task}
+use Rattle.shape.proofs.Laws.PassedTable.{refused, operation-is, busy-task}
 use Rattle.dispatching.specs.Chosen.{taskOr}
 
 -- ---- A task is busy where its operation's word is not 0.

@@ -1,10 +1,10 @@
--- Request 2026-07: a busy task gets its tick within T dispatches. Each dispatch that ticks another task comes nearer to it.
-use mathlib.Core.Path.{_≡_, refl, sym, ap, _∙_, subst}
+-- Request 2026-07: a busy task gets its tick within T dispatches. Each one that ticks another task comes nearer to it.
+use mathlib.Core.Path.{_≡_, refl, sym, ap, _∙_}
 use mathlib.Core.Logic.{_≢_, inl, inr}
 use mathlib.Core.Bool.{Bool, true, false}
 use mathlib.Core.List.{List, [], _∷_}
 use mathlib.Core.Option.{Option, some, none as nothing}
-use Prim.Native.Nat.{ℕ, suc, _<_, _≤_}
+use Prim.Native.Nat.{ℕ, _<_, _≤_}
 use native.Mathlib.Omega.{arith}
 use native.Mathlib.Decide.{ℕ-discrete, decLt, decLe}
 use Rattle.machine.specs.declared.Dispatch.the-variants.{Answered}
@@ -83,9 +83,9 @@ use Rattle.machine.specs.Fair.{
   turns,
   LastOfThree,
 }
-use Rattle.machine.proofs.Basics.Contradiction.{clash, refute, equal?, less?}
+use Rattle.machine.proofs.Basics.Contradiction.{clash, refute, equal?}
 use Rattle.machine.proofs.Basics.Tests.{test-passed}
-use Rattle.machine.proofs.Basics.Updates.{update, update-other}
+use Rattle.machine.proofs.Basics.Updates.{update-other}
 use Rattle.machine.proofs.Basics.Rounds.{
   following-below,
   away,
@@ -298,8 +298,10 @@ pub fair-unless-ended : FairUnlessEnded
 fair-unless-ended ws passes k busy calls none enough =
     let A = is-accepted ws passes in
     fair-from calls ws A k busy none
-    (omega (arith,
-      away-below (taskCount ws) k (busy-is-task ws k busy) (following (taskCount ws) (dispatched ws)) (next-is-task ws A)))
+    (omega (
+      arith,
+      away-below (taskCount ws) k (busy-is-task ws k busy) (following (taskCount ws) (dispatched ws)) (next-is-task ws A),
+    ))
 
 -- ---- A task that stays busy.
 not-ended : (k : ℕ) (calls : List Call) (ws : List ℕ) → Outcome k calls ws → BusyThroughout k calls ws

@@ -142,7 +142,8 @@ tickRefusal ws k h =
     (unless (ltb h (nodeCount ws)) 9
     (unless (isBusy (task ws k .operation)) 10 nothing))
 
--- 02: "The caller still gives the hint, tested as in tick, before the choice."
+-- 02: "The caller still gives the hint, tested as in tick, before the choice." The task chosen is busy, so 5 and 10 do
+-- not arise; 11 comes after "idle", with the tick.
 abbrev pub dispatchRefusal : List ℕ → (hint : ℕ) → Option ℕ
 dispatchRefusal ws h = tableRefusal ws (unless (ltb h (nodeCount ws)) 9 nothing)
 

@@ -24,8 +24,8 @@ use Rattle.machine.specs.Calls.{start, begin, tick, tickOn, dispatch, Ru
 use Rattle.machine.specs.Row.{Row, emptyRow, Note, noted, feedMade, feedDispatch, feedRun}
 
 -- 01: the list holds start, begin, tick, run and reading the lane, with any arguments, and every call on the same table
--- that a request adds: 2026-01's panel, 2026-07's dispatch. A run's list and answer slice and a read's out slice are that call's own: here by
--- their contents when the call is made.
+-- that a request adds: 2026-01's panel, 2026-07's dispatch. A run's list and answer slice and a read's out slice are
+-- that call's own: here by their contents when the call is made.
 pub data Call : Type 0 where
   start-call : (S T growth : ℕ) → Call
   begin-call : (k operation side : ℕ) (argument : Stored) → Call

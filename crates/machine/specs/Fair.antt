@@ -1,4 +1,4 @@
--- Request 2026-07: a busy task gets its tick within T dispatches. For every accepted table, and calls of any kind between.
+-- Request 2026-07: a busy task gets its tick within T dispatches, in every accepted table, whatever calls are between.
 use mathlib.Core.Path.{_≡_}
 use mathlib.Core.Bool.{true, false}
 use mathlib.Core.List.{List, [], _∷_}
@@ -59,7 +59,10 @@ pub record IsTickOf (k hint : ℕ) (ws : List ℕ) (done : Dispatched) : Type 0 
 
 -- Some dispatch of the list ticks task k.
 pub data GetsTick (k : ℕ) : List Call → List ℕ → Type 0 where
-  ticks-it : {cs : List Call} {ws : List ℕ} (h : ℕ) → IsTickOf k h ws (dispatch ws h) → GetsTick k (dispatch-call h ∷ cs) ws
+  ticks-it :
+      {cs : List Call} {ws : List ℕ} (h : ℕ)
+      → IsTickOf k h ws (dispatch ws h)
+      → GetsTick k (dispatch-call h ∷ cs) ws
   after-it : {cs : List Call} {ws : List ℕ} (c : Call) → GetsTick k cs (after c ws) → GetsTick k (c ∷ cs) ws
 
 -- Task k is busy before every call of the list.
@@ -67,7 +70,8 @@ abbrev pub BusyThroughout : (k : ℕ) → List Call → List ℕ → Type 0
 BusyThroughout k [] ws = Unit {0}
 BusyThroughout k (c ∷ cs) ws = (isBusyTask ws k ≡ true) × BusyThroughout k cs (after c ws)
 
--- 02: "A task that is busy gets its tick within T dispatches". T cannot change where it stays busy.
+-- 02: "A task that is busy gets its tick within T dispatches". While it is busy no start is accepted,
+-- so T is the same throughout.
 abbrev pub Fair : Type 0
 Fair =
     (ws : List ℕ)
@@ -80,10 +84,13 @@ Fair =
 
 -- ---- The same for every list: the task gets its tick, or another call ends it first.
 
--- What becomes of a busy task k: a dispatch ticks it; or, while dispatches are still to come, a call that is no dispatch
--- ends the task's call.
+-- What becomes of a busy task k: a dispatch ticks it; or, while dispatches are still to come, a call that is no
+-- dispatch ends the task's call.
 pub data Outcome (k : ℕ) : List Call → List ℕ → Type 0 where
-  gets-tick : {cs : List Call} {ws : List ℕ} (h : ℕ) → IsTickOf k h ws (dispatch ws h) → Outcome k (dispatch-call h ∷ cs) ws
+  gets-tick :
+      {cs : List Call} {ws : List ℕ} (h : ℕ)
+      → IsTickOf k h ws (dispatch ws h)
+      → Outcome k (dispatch-call h ∷ cs) ws
   ends-first :
       {cs : List Call} {ws : List ℕ} (c : Call)
       → dispatchHint c ≡ nothing

@@ -7,7 +7,18 @@ use Prim.Native.Nat.{ℕ}
 use Rattle.machine.specs.Sides.{Side}
 use Rattle.machine.specs.Tasks.{Task, Register, inA, inB, inC, inD, register, withRegisters}
 use Rattle.machine.specs.Registers.{holds, heldIn}
-use Rattle.machine.specs.Table.{nodeCount, taskCount, growth, hat, tickCount, dispatched, link, value, task, setTask}
+use Rattle.machine.specs.Table.{
+  nodeCount,
+  taskCount,
+  growth,
+  hat,
+  tickCount,
+  dispatched,
+  link,
+  value,
+  task,
+  setTask,
+}
 use Rattle.machine.specs.Calls.{isBusy, tableRefusal}
 use Rattle.machine.specs.Demand3.{Call, given, after}
 

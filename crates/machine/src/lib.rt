@@ -37,7 +37,7 @@ pub enum Answer {
     Refused(u32),
 }
 
-// What a dispatch answers: that no task is busy, or as the tick answers that it makes. A refusal is that of a tick.
+// What a dispatch answers: "idle", or what the tick answers that it makes. Its refusals are those of a tick.
 pub enum Dispatch {
     Idle,
     Answered(Answer),

@@ -21,8 +21,8 @@ pub data Move : Type 0 where
   dispatches : (hint : ℕ) → Move
   begins : (k operation side : ℕ) (argument : Stored) → Move
 
--- The moves are made one after another and no tick answers: n ticks, some of them by dispatches, say "going", other ticks
--- and dispatches are refused, dispatches are idle, and begins are accepted or refused.
+-- The moves are made one after another and no tick answers: n ticks, those of dispatches too, say "going", other ticks
+-- and dispatches are refused, some dispatches are idle, and begins are accepted or refused.
 pub data AnswerFree : (n : ℕ) (moves : List Move) (ws : List ℕ) → Type 0 where
   no-more : {ws : List ℕ} → AnswerFree 0 [] ws
   going :

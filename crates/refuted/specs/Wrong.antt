@@ -692,7 +692,7 @@ refusalMovesOn =
     cond (eqb (dispatchKindOf (one .answer)) (kindOf (Refused 0)))
     (record { answer = one .answer; words = dispatchChoosing nextBusy ticks ws 0 .words }) one)
 
--- ---- "... the hint, tested as in tick, before the choice": it is tested with the tick, so not at all where all are idle.
+-- ---- "... the hint, tested as in tick, before the choice": it is tested after it, so not at all where all are idle.
 abbrev pub hintAfterChoice : Machine
 hintAfterChoice =
     withDispatch (λ ticks ws h.

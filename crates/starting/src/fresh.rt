@@ -16,7 +16,8 @@ ghost use Rattle.starting.specs.Fresh.{startNodes};
 
 fn write_header(table: &mut [u32], slots: u32, tasks: u32, growth: u32)
     requires { ⌜ (1 ≤ tasks) × (headerLength ≤ length (now table)) ⌝ }
-    ensures { λ _. ⌜ now (table .exit) ≡ sets (now (table .entry)) 0 (headerWords slots tasks growth 0 1 0 (tasks - 1)) ⌝ }
+    ensures { λ _. ⌜ now (table .exit)
+        ≡ sets (now (table .entry)) 0 (headerWords slots tasks growth 0 1 0 (tasks - 1)) ⌝ }
 {
     table[places::NODE_COUNT] = slots;
     table[places::TASK_COUNT] = tasks;

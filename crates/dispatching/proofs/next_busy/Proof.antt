@@ -62,7 +62,7 @@ loop-again c =
     let after = asked .before .task-after in (
       after .ensures .1,
       choice-goes-on ws (l .left) (l .k) (l .inv .1) (after .ensures .0) (omega arith)
-      (sym (asked .is-busy .ensures) ∙ c .if1 .left),
+          (sym (asked .is-busy .ensures) ∙ c .if1 .left),
     )
 
 returns-2 : tie.Need-returns-2 Inv-loop μ-loop

@@ -11,7 +11,7 @@ use lib.ListN.{length, drop}
 use Rattle.tag.specs.Tags.{allTagWords}
 use borrow.Author.Tests.{le-leb, lt-leb}
 use Rattle.machine.specs.declared.Answer.the-variants.{Refused}
-use Rattle.machine.specs.declared.Dispatch.the-variants.{Idle, Answered}
+use Rattle.machine.specs.declared.Dispatch.the-variants.{Answered}
 use Rattle.machine.specs.declared.Reply.the-variants.{Accepted, Refused as Reply-Refused}
 use Rattle.machine.specs.declared.Reading.the-variants.{Count}
 use Rattle.machine.specs.declared.Stored.{Stored}

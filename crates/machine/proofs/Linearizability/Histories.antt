@@ -35,7 +35,6 @@ use Rattle.machine.specs.Row.{
   emptyRow,
   noted,
   withBags,
-  withDispatched,
   put,
   takeFirst,
   takeBag,

@@ -1,11 +1,11 @@
--- A dispatch on an accepted table, by its cases: refused for its hint, idle, refused by the line, or a tick that is made.
-use mathlib.Core.Path.{_≡_, refl, sym, ap, _∙_}
+-- A dispatch on an accepted table, by its cases: refused for its hint, idle, refused by its line, or a tick made.
+use mathlib.Core.Path.{_≡_, refl}
 use mathlib.Core.Bool.{Bool, true, false}
 use mathlib.Core.List.{List}
 use mathlib.Core.Option.{Option, some, none as nothing}
 use Prim.Native.Nat.{ℕ, _<_}
 use lib.Dec.{ltb}
-use borrow.Author.Tests.{ltb-true, lt-ltb}
+use borrow.Author.Tests.{ltb-true}
 use Rattle.machine.specs.declared.Answer.the-variants.{Refused}
 use Rattle.machine.specs.declared.Dispatch.the-variants.{Idle, Answered}
 use Rattle.machine.specs.Table.{nodeCount, taskCount, dispatched, setDispatched}

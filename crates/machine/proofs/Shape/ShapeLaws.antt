@@ -2,7 +2,7 @@
 use mathlib.Core.Path.{_≡_, refl, sym, _∙_}
 use mathlib.Core.Bool.{Bool, true}
 use mathlib.Core.List.{List}
-use Prim.Native.Nat.{ℕ, zero, suc, _-_, _≤_, _<_}
+use Prim.Native.Nat.{ℕ, zero, suc, _≤_, _<_}
 use lib.Dec.{leb, ltb, eqb}
 use lib.ListN.{length}
 use native.Mathlib.Omega.{arith}
@@ -26,7 +26,19 @@ use Rattle.machine.specs.Table.{
 }
 use Rattle.machine.specs.Shape.{lengthOk, allBelow, nodeOrNone, nodeOk, recordOk, shapeOk}
 use Rattle.machine.proofs.Basics.Tests.{and-left, and-right}
-use Rattle.machine.proofs.Words.Columns.{Sizes, Counts, Columns, sizesOf, columns, column, Sized, startCounts, countedAs, dispatchedTo, counts-equal}
+use Rattle.machine.proofs.Words.Columns.{
+  Sizes,
+  Counts,
+  Columns,
+  sizesOf,
+  columns,
+  column,
+  Sized,
+  startCounts,
+  countedAs,
+  dispatchedTo,
+  counts-equal,
+}
 use Rattle.machine.proofs.Shape.BusyLaws.{
   NodeOrNone,
   node-or-none,

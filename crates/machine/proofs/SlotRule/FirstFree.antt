@@ -7,7 +7,6 @@ use Prim.Native.Nat.{ℕ, zero, suc, _<_, _≤_, _+_, _-_}
 use native.Mathlib.Omega.{arith}
 use native.Mathlib.Nat.{not-suc-le-zero}
 use lib.ListN.{getD}
-use borrow.Author.Tests.{lt-ltb, le-ltb}
 use Rattle.machine.specs.Choice.{_≟_, _<?_, _≤?_}
 use Rattle.machine.specs.Tasks.{none}
 use Rattle.machine.specs.Table.{nodeCount}

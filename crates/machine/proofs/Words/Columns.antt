@@ -159,7 +159,12 @@ pub sizes-equal :
     → y ≡ z
 sizes-equal p q r s = λ i. record { length = p i; nodeCount = q i; taskCount = r i; growth = s i }
 
-pub counts-equal : {m n : Counts} → m .tickCount ≡ n .tickCount → m .dispatched ≡ n .dispatched → m .word7 ≡ n .word7 → m ≡ n
+pub counts-equal :
+    {m n : Counts}
+    → m .tickCount ≡ n .tickCount
+    → m .dispatched ≡ n .dispatched
+    → m .word7 ≡ n .word7
+    → m ≡ n
 counts-equal p q r = λ i. record { tickCount = p i; dispatched = q i; word7 = r i }
 
 pub columns-equal :

@@ -1,17 +1,15 @@
 -- The task last dispatched is no part of the potential; a dispatch that makes no tick leaves the table as it was.
 use mathlib.Core.Path.{_≡_, refl, ap}
 use mathlib.Core.List.{List}
-use mathlib.Core.Option.{some}
 use Prim.Native.Nat.{ℕ}
-use Rattle.machine.specs.declared.Answer.the-variants.{Going, Refused}
+use Rattle.machine.specs.declared.Answer.the-variants.{Refused}
 use Rattle.machine.specs.declared.Dispatch.the-variants.{Idle, Answered}
 use Rattle.machine.specs.Sides.{right}
-use Rattle.machine.specs.Table.{nodeCount, taskCount, growth, task, setDispatched}
+use Rattle.machine.specs.Table.{nodeCount, taskCount, growth, setDispatched}
 use Rattle.machine.specs.Answers.{dispatchRefusalOf}
-use Rattle.machine.specs.Calls.{tickOn, Dispatched, dispatch}
+use Rattle.machine.specs.Calls.{Dispatched, dispatch}
 use Rattle.machine.specs.Begun.{Begun}
 use Rattle.machine.proofs.Basics.Contradiction.{clash}
-use Rattle.machine.proofs.Words.Memories.{viewed}
 use Rattle.machine.proofs.Words.Columns.{Columns, sizesOf, Sized}
 use Rattle.machine.proofs.Words.TableLaws.{columns-setDispatched}
 use Rattle.machine.proofs.Words.EffectLaws.{viewed-set-dispatched, task-set-dispatched}

@@ -40,8 +40,7 @@ write-all-requires : tie.Need-write-all-requires
 write-all-requires c κs =
     let e = c .before in
     let f = e .before .before in
-    let a = f .before .before .before .args in
-    (
+    let a = f .before .before .before .args in (
       two-nodes (a .table .now) (a .slots) (a .tasks) (a .growth) (sizes-passed f),
       one-task (a .table .now) (a .slots) (a .tasks) (a .growth) (sizes-passed f),
       e .if2 .left ∙ e .before .table-length .ensures,
