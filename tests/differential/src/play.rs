@@ -484,6 +484,6 @@ impl Play<'_> {
         }
         let at = self.sizes.record(0);
         assert_eq!(self.both.table()[at..at + record::WORDS], record::FRESH);
-        assert_eq!(self.both.table()[header::ZEROS..header::WORDS], [0, 0]);
+        assert_eq!(self.both.table()[header::ZERO], 0);
     }
 }

@@ -19,7 +19,8 @@ pub fn start(table: &mut [u32], slots: u32, tasks: u32, growth: u32) -> Result<(
     }
     let (head, rest) = table.split_at_mut(header::WORDS);
     let (nodes, records) = rest.split_at_mut(node::WORDS * slots as usize);
-    head.copy_from_slice(&[slots, tasks, growth, 0, 1, 0, 0, 0]);
+    // The first dispatch looks from task 0 on.
+    head.copy_from_slice(&[slots, tasks, growth, 0, 1, 0, tasks - 1, 0]);
     for node in nodes.chunks_exact_mut(node::WORDS) {
         node.copy_from_slice(&[NONE, NONE, 0, 0]);
     }

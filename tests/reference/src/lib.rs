@@ -11,6 +11,7 @@
 mod alloc;
 mod answer;
 mod calls;
+mod dispatch;
 mod form;
 pub mod lines;
 pub mod lists;
@@ -24,4 +25,5 @@ pub mod table;
 pub use alloc::count_free;
 pub use answer::Answer;
 pub use calls::{begin, panel, read, run, start, tick};
+pub use dispatch::dispatch;
 pub use lists::{read_tags, write_tags};

@@ -29,7 +29,8 @@ fn sizes(table: &[u32]) -> Option<Sizes> {
 fn holds(table: &[u32], sizes: Sizes) -> bool {
     let (head, rest) = table.split_at(header::WORDS);
     let (nodes, records) = rest.split_at(sizes.node(sizes.nodes) - header::WORDS);
-    head[header::ZEROS..] == [0, 0]
+    head[header::DISPATCHED] < sizes.tasks
+        && head[header::ZERO] == 0
         && head[header::LEFT_HAT] < sizes.nodes
         && head[header::RIGHT_HAT] < sizes.nodes
         && nodes

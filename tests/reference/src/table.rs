@@ -58,8 +58,10 @@ pub mod header {
     pub const RIGHT_HAT: usize = 4;
     /// Ticks made.
     pub const TICKS: usize = 5;
-    /// First of the two words that are always 0.
-    pub const ZEROS: usize = 6;
+    /// The task last dispatched.
+    pub const DISPATCHED: usize = 6;
+    /// The word that is always 0.
+    pub const ZERO: usize = 7;
 }
 
 /// Word offsets in a node.

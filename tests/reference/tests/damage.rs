@@ -6,12 +6,12 @@ mod common;
 use common::random::Random;
 use common::tables::{shaped, started};
 use reference::table::{PUSH, REMOVE};
-use reference::{begin, read, run, start, tick};
+use reference::{begin, dispatch, read, run, start, tick};
 
 /// Makes one call with arbitrary arguments and checks what it leaves.
 fn call(random: &mut Random, table: &mut [u32], counts: &mut [u32; 17]) {
     let before = table.to_vec();
-    let number = match random.below(5) {
+    let number = match random.below(6) {
         0 => {
             let (nodes, tasks, growth) = if random.once_in(2) {
                 (random.word(), random.word(), random.word())
@@ -47,6 +47,16 @@ fn call(random: &mut Random, table: &mut [u32], counts: &mut [u32; 17]) {
             number
         }
         3 => {
+            let given = dispatch(table, near(random, 6));
+            if matches!(given, Ok(Some(_))) {
+                assert_eq!(run(table, &[], &mut []), (0, 0));
+            }
+            if given == Ok(None) {
+                assert_eq!(table, before, "idle");
+            }
+            refused(given.map(|_| ()))
+        }
+        4 => {
             let list: Vec<u32> = (0..random.below(40)).map(|_| near(random, 4)).collect();
             let mut answers = vec![8; random.below(70) as usize];
             let (made, number) = run(table, &list, &mut answers);

@@ -7,13 +7,14 @@ use common::tables::{sizes, started, steps_of};
 use reference::table::{
     header, node, record, ADD, LN, LX, LY, MAX_TAG, NONE, POP, PUSH, REMOVE, RN, RX, RY,
 };
-use reference::{panel, read, run, start, tick, Answer};
+use reference::{dispatch, panel, read, run, start, tick, Answer};
 
 /// What every call but start refuses the table with.
 fn refused_by_all(table: &[u32], number: u32, what: &str) {
     let mut lent = table.to_vec();
     assert_eq!(begin(&mut lent, 0, PUSH, 1, 5), Err(number), "{what}");
     assert_eq!(tick(&mut lent, 0, 0), Err(number), "{what}");
+    assert_eq!(dispatch(&mut lent, 0), Err(number), "{what}");
     let mut answers = [8; 4];
     assert_eq!(run(&mut lent, &[0, 0], &mut answers), (0, number), "{what}");
     assert_eq!(run(&mut lent, &[], &mut answers), (0, number), "{what}");
@@ -49,7 +50,7 @@ fn faulty(chosen: &[u32]) -> Vec<u32> {
     begin(&mut table, 0, PUSH, 1, 51).expect("begin");
     table[at + record::STEP] = 3;
     if chosen.contains(&4) {
-        table[header::ZEROS] = 1;
+        table[header::ZERO] = 1;
     }
     if chosen.contains(&3) {
         table.push(0);
@@ -127,8 +128,8 @@ fn all_others_4_header_and_nodes() {
     let size = sizes(&good);
     let links: &[u32] = &[4, 5, 65_534, 65_536, u32::MAX];
     let mut words = vec![
-        (header::ZEROS, &[1, u32::MAX][..]),
-        (header::ZEROS + 1, &[1, u32::MAX]),
+        (header::DISPATCHED, &[1, 2, u32::MAX][..]),
+        (header::ZERO, &[1, u32::MAX]),
         (header::LEFT_HAT, &[4, NONE, u32::MAX]),
         (header::RIGHT_HAT, &[4, NONE, u32::MAX]),
     ];
@@ -411,7 +412,7 @@ fn begin_in_order() {
                 table[word] = link;
             }
             if chosen.contains(&4) {
-                table[header::ZEROS] = 1;
+                table[header::ZERO] = 1;
             }
             if chosen.contains(&3) {
                 table.push(0);

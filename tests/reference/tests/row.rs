@@ -8,7 +8,7 @@ use common::random::Random;
 use common::row::{Note, Row};
 use common::tables::started;
 use reference::table::{header, record, tag, Sizes, ADD, POP, PUSH, REMOVE};
-use reference::{begin, panel, run, start, tick, Answer};
+use reference::{begin, dispatch, panel, run, start, tick, Answer};
 
 const LEFT: u32 = 0;
 
@@ -21,6 +21,9 @@ struct Seen {
     longest: usize,
     stopped_runs: u32,
     no_node: u32,
+    /// Dispatches with every task idle, and the most that a busy task waited for its own.
+    idle: u32,
+    longest_wait: u32,
     /// Pushes of a tag that was there or on its way, of one that had been there, and of one beside another digit's.
     twice: u32,
     again: u32,
@@ -62,7 +65,7 @@ impl Player {
     fn call(&mut self) {
         match self.random.below(100) {
             0..=9 => self.begin(),
-            10..=79 => {
+            10..=69 => {
                 let (task, hint) = self.pair();
                 let idle = |note: &Option<Note>| note.is_none();
                 if self.row.notes.get(task as usize).is_some_and(idle) {
@@ -70,6 +73,7 @@ impl Player {
                 }
                 self.tick(task, hint);
             }
+            70..=79 => self.dispatch(),
             80..=86 => self.run(),
             87..=90 => {
                 let length = self.random.below(2 * self.sizes.nodes + 2) as usize;
@@ -266,8 +270,36 @@ impl Player {
         self.row.check(&self.table);
     }
 
+    /// By the row alone: whose tick it is, and whether it is any.
+    fn dispatch(&mut self) {
+        let (_, hint) = self.pair();
+        let mut wanted = self.table.clone();
+        match dispatch(&mut self.table, hint) {
+            Ok(given) => {
+                assert!(hint < self.sizes.nodes);
+                let task = self.row.dispatch(given.map(Answer::words));
+                match (task, given) {
+                    (Some(task), Some(answer)) => {
+                        assert_eq!(tick(&mut wanted, task, hint), Ok(answer));
+                        wanted[header::DISPATCHED] = task;
+                        self.popped(answer);
+                    }
+                    _ => self.seen.idle += 1,
+                }
+            }
+            Err(number) => assert_eq!((number, hint >= self.sizes.nodes), (9, true)),
+        }
+        assert_eq!(self.table, wanted);
+        let longest = self.row.turns.longest;
+        self.seen.longest_wait = self.seen.longest_wait.max(longest);
+    }
+
     fn answered(&mut self, task: u32, answer: Answer) {
         self.row.tick(task, answer.words());
+        self.popped(answer);
+    }
+
+    fn popped(&mut self, answer: Answer) {
         if let Answer::Bag(tag) = answer {
             self.past.push(tag);
         }
@@ -375,6 +407,8 @@ fn small_tables_follow_the_row() {
             );
             assert!(seen.stopped_runs > 0);
             assert!(seen.answers[3] > 0 && seen.twice > 0);
+            assert!(tasks > 2 || seen.idle > 0);
+            assert!(tasks > 3 || seen.longest_wait + 1 == tasks);
             if nodes > 2 {
                 assert!(seen.answers[1] > 0 && seen.answers[2] > 0 && seen.longest > 0);
                 assert!(seen.again > 0 && seen.other_digit > 0);

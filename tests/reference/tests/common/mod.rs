@@ -9,3 +9,4 @@ pub mod paths;
 pub mod random;
 pub mod row;
 pub mod tables;
+pub mod turns;

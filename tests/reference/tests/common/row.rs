@@ -4,6 +4,7 @@ use std::collections::VecDeque;
 
 use super::calls::{tags, whole};
 use super::random::Random;
+use super::turns::Turns;
 use reference::read;
 use reference::table::{argument_fits, digit, low_part, tag, ADD, POP, PUSH, REMOVE};
 
@@ -39,6 +40,7 @@ impl Note {
 pub struct Row {
     pub tags: VecDeque<u64>,
     pub notes: Vec<Option<Note>>,
+    pub turns: Turns,
 }
 
 impl Row {
@@ -46,6 +48,7 @@ impl Row {
         Row {
             tags: VecDeque::new(),
             notes: vec![None; tasks as usize],
+            turns: Turns::new(tasks),
         }
     }
 
@@ -92,6 +95,16 @@ impl Row {
             (_, operation) => panic!("answer {kind} to operation {operation}"),
         }
         self.notes[task as usize] = None;
+    }
+
+    /// Explains the answer of a dispatch, none for "idle", as a tick of the task whose turn it is, which it gives.
+    pub fn dispatch(&mut self, words: Option<[u32; 3]>) -> Option<u32> {
+        let next = self.turns.next(&self.notes);
+        assert_eq!(next.is_some(), words.is_some(), "a dispatch, next {next:?}");
+        let (task, words) = (next?, words?);
+        self.turns.took(task, &self.notes);
+        self.tick(task, words);
+        Some(task)
     }
 
     /// The tags of the row, then those of busy pushes.

@@ -64,6 +64,7 @@ pub fn shaped_of(random: &mut Random, sizes: Sizes) -> Vec<u32> {
     table[header::LEFT_HAT] = random.below(sizes.nodes);
     table[header::RIGHT_HAT] = random.below(sizes.nodes);
     table[header::TICKS] = random.word();
+    table[header::DISPATCHED] = random.below(sizes.tasks);
     for number in 0..sizes.nodes {
         let at = sizes.node(number);
         let [value, digit] = content(random);
