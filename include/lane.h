@@ -34,8 +34,8 @@
  * their calls may be made at any time, each with an out slice of its own.
  *
  * FOOTPRINT. For x86-64 only. Under 10 kB of code and constants, no data, no heap; of stack about 5.5 kB in lane_tick,
- * lane_run and lane_panel, at most about 0.5 kB in the others; nothing from outside but memset (`make footprint`
- * measures it).
+ * lane_dispatch, lane_run and lane_panel, at most about 0.5 kB in the others; nothing from outside but memset (`make
+ * footprint` measures it).
  *
  * SLOTS. A slot, also called a node, is the place of one bag. Slots at an end of the lane with no bag are spare; each
  * end always has one at least, so a table of S slots carries at most S - 2 bags. A slot is free when nothing may use
@@ -54,6 +54,9 @@
  * TWICE. A tag is in one place at most: a push of a tag that stands in the lane, or that a busy push has, is refused
  * when it is begun (16). So no lane that lane_start began holds a tag twice.
  *
+ * TURNS. The caller says whose tick is next, or lets lane_dispatch tick the busy tasks in turn. Both go together: other
+ * ticks leave the turn as it is.
+ *
  * TAG LISTS. The baggage office sends and wants lists of up to 1,024 tags in packed decimal: ten digits in five bytes,
  * two to a byte, the higher first. lane_tags_read and lane_tags_write take them to two words a tag, as lane_read writes
  * them, and back. They need no table, and a list may hold a tag twice.
@@ -68,9 +71,13 @@
 extern "C" {
 #endif
 
-/* The library's version; and the number of the table's format: only libraries of this format work on the table. */
-#define LANE_VERSION "4.1.0"
-#define LANE_TABLE_FORMAT 2
+/*
+ * The library's version; and the number of the table's format: only libraries of this format work on the table. This
+ * one also takes a table of format 2, which has 0 where format 3 has the task last dispatched, so that the first
+ * dispatch looks from task 1 on. A library of format 2 refuses a table of format 3 with 4, unless that word is 0.
+ */
+#define LANE_VERSION "5.0.0"
+#define LANE_TABLE_FORMAT 3
 
 /* Words of a table of `slots` (2 to 1,024) and `tasks` (1 to 16): 8 for the header, 4 a slot, 12 a task. */
 #define LANE_WORDS(slots, tasks) (8 + 4 * (size_t)(slots) + 12 * (size_t)(tasks))
@@ -114,7 +121,7 @@ extern "C" {
 #define LANE_ADD 3    /* make a free slot a spare one at the end, and so many more: 0 to 64 */
 #define LANE_REMOVE 4 /* give back the spare slots at the end but the one that stays and so many: 0 to 1,023 */
 
-/* What a tick answers: the kind, which a run writes too (but 7). */
+/* What a tick and a dispatch answer: the kind, which a run writes too (but 7 and 8). */
 #define LANE_GOING 0   /* the call is not finished */
 #define LANE_PUSHED 1  /* a push put its bag in the lane */
 #define LANE_BAG 2     /* a pop took a bag; the value is its tag */
@@ -123,6 +130,7 @@ extern "C" {
 #define LANE_YES 5     /* an add added as many as were free, one at least; a remove has nothing more to do (below) */
 #define LANE_NO 6      /* an add found no free slot; a remove gave back nothing (below) */
 #define LANE_REFUSED 7 /* the tick was refused; the value is the refusal */
+#define LANE_IDLE 8    /* a dispatch found every task idle */
 
 /*
  * "Yes" of a remove says that nothing more is to be done by it, and not that a slot was given back. "No" of a remove,
@@ -150,7 +158,10 @@ extern "C" {
 #define LANE_REFUSED_NO_TAG 18   /* tag list: a place holds no tag */
 #define LANE_REFUSED_TAGS_OUT 19 /* tag list: out slice too short for it */
 
-/* The two parts of what lane_tick returns: the kind, and the tag or the refusal. */
+/* The word of the table, counted from 0, that has the task last dispatched: below the number of tasks. */
+#define LANE_DISPATCHED 6
+
+/* The two parts of what lane_tick and lane_dispatch return: the kind, and the tag or the refusal. */
 #define LANE_KIND(answer) ((uint32_t)((answer) >> 40))
 #define LANE_VALUE(answer) ((answer) & UINT64_C(0xffffffffff))
 
@@ -188,6 +199,39 @@ uint32_t lane_begin(uint32_t *table, size_t words, uint32_t task, uint32_t opera
  * its call writes. After any kind but LANE_GOING and LANE_REFUSED the task is idle.
  */
 uint64_t lane_tick(uint32_t *table, size_t words, uint32_t task, uint32_t hint);
+
+/*
+ * Makes one tick, with this hint, of the next busy task after the one last dispatched, going round by task number; that
+ * one itself comes last. After lane_start the first dispatch looks from task 0 on. lane_tick, lane_run and lane_panel
+ * leave the turn as it is. A busy task gets its tick within as many dispatches as there are tasks, provided that none
+ * of them is refused and that neither another tick of it nor lane_start ends its call first.
+ * Returns LANE_IDLE times 2^40 if every task is idle; otherwise what lane_tick returns for that task, the refusals being
+ * 3, 4, 9, 11. The first three are tested before the choice, so LANE_IDLE comes after them. Writes what that tick
+ * writes, and table[LANE_DISPATCHED], the task; LANE_IDLE writes nothing.
+ *
+ * ```c
+ * #include "lane.h"
+ *
+ * int main(void) {
+ *     static uint32_t table[LANE_WORDS(8, 2)];
+ *     size_t words = LANE_WORDS(8, 2);
+ *     uint64_t answer;
+ *     uint32_t ended[2];
+ *     int count = 0;
+ *     if (lane_start(table, words, 8, 2, 0) != 0 || lane_begin(table, words, 0, LANE_PUSH, LANE_LEFT, 0, 51) != 0 ||
+ *         lane_begin(table, words, 1, LANE_POP, LANE_RIGHT, 0, 0) != 0) {
+ *         return 1;
+ *     }
+ *     while (LANE_KIND(answer = lane_dispatch(table, words, 0)) < LANE_REFUSED) {
+ *         if (LANE_KIND(answer) != LANE_GOING) {
+ *             ended[count++] = table[LANE_DISPATCHED];
+ *         }
+ *     }
+ *     return LANE_KIND(answer) == LANE_IDLE && count == 2 && ended[0] == 1 && ended[1] == 0 ? 0 : 1;
+ * }
+ * ```
+ */
+uint64_t lane_dispatch(uint32_t *table, size_t words, uint32_t hint);
 
 /*
  * Makes the ticks of a list of (task, hint) pairs, two words each, up to the first refused.

@@ -24,6 +24,7 @@ mod library {
             argument: u32,
         ) -> u32;
         pub fn lane_tick(table: *mut u32, words: usize, task: u32, hint: u32) -> u64;
+        pub fn lane_dispatch(table: *mut u32, words: usize, hint: u32) -> u64;
         pub fn lane_run(
             table: *mut u32,
             words: usize,
@@ -108,6 +109,24 @@ pub fn begin(
 pub fn tick(table: &mut [u32], task: u32, hint: u32) -> u64 {
     let (pointer, words) = (table.as_mut_ptr(), table.len());
     unsafe { library::lane_tick(pointer, words, task, hint) }
+}
+
+/// Makes one tick of the next busy task after the one last dispatched: what [`tick`] gives, or kind 8 times 2^40 with
+/// every task idle.
+///
+/// ```
+/// use lane::ffi;
+///
+/// let mut table = [0; 36];
+/// assert_eq!(ffi::start(&mut table, 4, 1, 0), 0);
+/// assert_eq!(ffi::dispatch(&mut table, 0), 8 << 40);
+/// assert_eq!(ffi::dispatch(&mut table, 4), 7 << 40 | 9);
+/// assert_eq!(ffi::begin(&mut table, 0, 2, 0, 0, 0), 0);
+/// assert_eq!(ffi::dispatch(&mut table, 0), 0);
+/// ```
+pub fn dispatch(table: &mut [u32], hint: u32) -> u64 {
+    let (pointer, words) = (table.as_mut_ptr(), table.len());
+    unsafe { library::lane_dispatch(pointer, words, hint) }
 }
 
 /// Makes the ticks of a list of (task, hint) pairs and writes three words for each, the kind, then the tag's leading

@@ -37,6 +37,8 @@
 //! A bag goes by its [`Tag`] of ten digits, which is in one place at most: a push of a tag that stands in the lane, or
 //! that a busy push has, is refused when it is begun ([`Refusal::Twice`]).
 //!
+//! The caller says whose tick is next, or lets [`Lane::dispatch`] tick the busy tasks in turn.
+//!
 //! The baggage office sends and wants lists of tags in packed decimal. [`tags_read`] and [`tags_write`] take them to two
 //! words a tag, as [`Lane::read`] writes them, and back; they need no table.
 //!
@@ -44,8 +46,8 @@
 //! [`Answer::No`] of a remove, with no other task in a call, means exactly one spare slot more than asked for; trying
 //! again changes nothing.
 //!
-//! Different tables may be used by different threads, and a shared `&Lane` may be read by several. A tick and a run take
-//! about 5.5 kB of stack, the other calls at most about 0.5 kB. The library is for x86-64.
+//! Different tables may be used by different threads, and a shared `&Lane` may be read by several. A tick, a dispatch and
+//! a run take about 5.5 kB of stack, the other calls at most about 0.5 kB. The library is for x86-64.
 //!
 //! # Where the library is
 //!
@@ -56,6 +58,7 @@
 
 mod answer;
 mod call;
+mod dispatched;
 pub mod ffi;
 mod limits;
 mod list;
@@ -66,6 +69,7 @@ use core::fmt;
 
 pub use answer::{Answer, NotStarted, Ran, Refusal};
 pub use call::{Operation, Side};
+pub use dispatched::Dispatched;
 pub use limits::{
     max_bags, max_ticks_alone, words, LIST_TAGS, MAX_ADD, MAX_DIGIT, MAX_GROWTH, MAX_LOW,
     MAX_PANEL_TICKS, MAX_REMOVE, MAX_SLOTS, MAX_TASKS, MAX_TICKS, MIN_SLOTS, MIN_TASKS, TAG_BYTES,
@@ -79,8 +83,9 @@ use view::View;
 /// The library's version.
 pub const VERSION: &str = env!("CARGO_PKG_VERSION");
 
-/// The number of the table's format: a table is worked on by libraries of its format alone.
-pub const TABLE_FORMAT: u32 = 2;
+/// The number of the table's format: a table is worked on by libraries of its format alone. This one also takes a table
+/// of format 2, which has 0 where format 3 has the task last dispatched, so that the first dispatch looks from task 1 on.
+pub const TABLE_FORMAT: u32 = 3;
 
 /// A table and the calls on it. The words are owned (`Vec<u32>`, `[u32; N]`) or lent (`&mut [u32]`; `&[u32]` to read).
 ///
@@ -95,7 +100,7 @@ pub const TABLE_FORMAT: u32 = 2;
 /// lane.begin(1, Operation::Push(Tag::MAX), Side::Right)?;
 /// assert_eq!(
 ///     format!("{lane:?}"),
-///     "Lane { slots: 4, growth: 0, bags: [], left_hat: 0, right_hat: 1, ticks: 0, \
+///     "Lane { slots: 4, growth: 0, bags: [], left_hat: 0, right_hat: 1, ticks: 0, dispatched: 1, \
 ///      tasks: [Idle, Busy { operation: Push(9999999999), side: Right, step: 2 }] }"
 /// );
 /// assert_eq!(format!("{:?}", Lane::over([0; 28])), "Lane { refused: Table, words: 28 }");
@@ -171,6 +176,32 @@ impl<W: AsRef<[u32]> + AsMut<[u32]>> Lane<W> {
     /// ```
     pub fn tick(&mut self, task: u32, hint: u32) -> Result<Answer, Refusal> {
         outcome(ffi::tick(self.words.as_mut(), task, hint))
+    }
+
+    /// Makes one tick, with this hint, of the next busy task after the one last dispatched, going round by task number;
+    /// that one itself comes last. [`Lane::dispatched`] then says which it was. After a start the first dispatch looks
+    /// from task 0 on; [`Lane::tick`], [`Lane::run`] and [`Lane::panel`] leave the turn as it is.
+    ///
+    /// A busy task gets its tick within as many dispatches as there are tasks, provided that none of them is refused and
+    /// that neither another tick of it nor a start ends its call first.
+    ///
+    /// ```
+    /// use lane::{Answer, Dispatched, Lane, Operation, Side, Tag};
+    ///
+    /// let mut lane = Lane::start([0; lane::words(4, 2)], 4, 2, 0)?;
+    /// lane.begin(0, Operation::Push(Tag::MAX), Side::Right)?;
+    /// lane.begin(1, Operation::Pop, Side::Left)?;
+    /// let mut ended = Vec::new();
+    /// while let Dispatched::Ticked(answer) = lane.dispatch(0)? {
+    ///     if answer != Answer::Going {
+    ///         ended.push((lane.dispatched()?, answer));
+    ///     }
+    /// }
+    /// assert_eq!(ended, [(1, Answer::Empty), (0, Answer::Pushed)]);
+    /// # Ok::<(), lane::Refusal>(())
+    /// ```
+    pub fn dispatch(&mut self, hint: u32) -> Result<Dispatched, Refusal> {
+        Dispatched::of(ffi::dispatch(self.words.as_mut(), hint))
     }
 
     /// Begins a call and ticks its task with hint 0 until it answers, while no other task gets a tick.
@@ -337,6 +368,22 @@ impl<W: AsRef<[u32]>> Lane<W> {
         } else {
             Err(Refusal::Task)
         }
+    }
+
+    /// The task last dispatched; after a start the one with the highest number.
+    ///
+    /// ```
+    /// use lane::{Dispatched, Lane, Operation, Side};
+    ///
+    /// let mut lane = Lane::start([0; lane::words(4, 3)], 4, 3, 0)?;
+    /// assert_eq!(lane.dispatched(), Ok(2));
+    /// lane.begin(1, Operation::Pop, Side::Left)?;
+    /// assert_ne!(lane.dispatch(0)?, Dispatched::Idle);
+    /// assert_eq!(lane.dispatched(), Ok(1));
+    /// # Ok::<(), lane::Refusal>(())
+    /// ```
+    pub fn dispatched(&self) -> Result<u32, Refusal> {
+        Ok(self.view()?.dispatched())
     }
 
     /// The table.

@@ -15,6 +15,7 @@ mod place {
     pub const LEFT_HAT: usize = 3;
     pub const RIGHT_HAT: usize = 4;
     pub const TICKS: usize = 5;
+    pub const DISPATCHED: usize = 6;
     pub const HEADER: usize = 8;
     pub const NODE: usize = 4;
     pub const RIGHT_LINK: usize = 1;
@@ -56,6 +57,11 @@ impl<'a> View<'a> {
 
     pub fn tasks(self) -> u32 {
         self.words[place::TASKS]
+    }
+
+    /// The task last dispatched.
+    pub fn dispatched(self) -> u32 {
+        self.words[place::DISPATCHED]
     }
 
     /// Only where the lane can be read.
@@ -132,6 +138,7 @@ pub(crate) fn show(words: &[u32], formatter: &mut fmt::Formatter<'_>) -> fmt::Re
             .field("left_hat", &words[place::LEFT_HAT])
             .field("right_hat", &words[place::RIGHT_HAT])
             .field("ticks", &words[place::TICKS])
+            .field("dispatched", &view.dispatched())
             .field("tasks", &Tasks(view))
         }
     }

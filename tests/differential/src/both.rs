@@ -24,6 +24,8 @@ enum Call {
     Begin(u32, Note),
     /// Task, hint.
     Tick(u32, u32),
+    /// Hint.
+    Dispatch(u32),
     /// Words of the list, words of the answer slice.
     Run(usize, usize),
     /// The same, from the panel.
@@ -107,13 +109,19 @@ impl Both {
         self.note(Call::Tick(task, hint));
         let proved = ffi::tick(self.proved.words_mut(), task, hint);
         let second = reference::tick(self.second.words_mut(), task, hint);
-        let parts = match second {
-            Ok(Answer::Bag(tag)) => [2, tag],
-            Ok(answer) => [answer.words()[0].into(), 0],
-            Err(number) => [7, number.into()],
-        };
-        self.compare([proved >> 40, proved % (1 << 40)], parts);
+        self.compare([proved >> 40, proved % (1 << 40)], parts(second));
         self.done(2, second.err().unwrap_or(0), second.is_ok());
+        second
+    }
+
+    /// Gives the answer of the tick made, or none for "idle".
+    pub fn dispatch(&mut self, hint: u32) -> Result<Option<Answer>, u32> {
+        self.note(Call::Dispatch(hint));
+        let proved = ffi::dispatch(self.proved.words_mut(), hint);
+        let second = reference::dispatch(self.second.words_mut(), hint);
+        let wanted = second.transpose().map_or([8, 0], parts);
+        self.compare([proved >> 40, proved % (1 << 40)], wanted);
+        self.done(6, second.err().unwrap_or(0), matches!(second, Ok(Some(_))));
         second
     }
 
@@ -214,6 +222,15 @@ impl Drop for Both {
             eprintln!("the last calls: {:?}", self.calls);
             eprintln!("the table before the last one: {:?}", self.before());
         }
+    }
+}
+
+/// The kind of what a tick gives, and the tag or the refusal.
+fn parts(given: Result<Answer, u32>) -> [u64; 2] {
+    match given {
+        Ok(Answer::Bag(tag)) => [2, tag],
+        Ok(answer) => [answer.words()[0].into(), 0],
+        Err(number) => [7, number.into()],
     }
 }
 

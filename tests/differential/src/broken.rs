@@ -7,6 +7,7 @@ use crate::common::random::Random;
 use crate::common::row::Note;
 use crate::common::tables::{shaped_of, sizes};
 use crate::counts::{Counts, Origin};
+use crate::dispatches;
 
 /// Calls on a well-shaped table, which stays well-shaped: never 3 or 4.
 pub fn shaped(random: &mut Random, counts: &mut Counts) {
@@ -16,7 +17,7 @@ pub fn shaped(random: &mut Random, counts: &mut Counts) {
     for _ in 0..random.below(12) {
         let task = random.below(sizes.tasks + 1);
         let hint = random.below(sizes.nodes + 1);
-        match random.below(9) {
+        match random.below(10) {
             0 => {
                 let length = random.below(2 * sizes.nodes + 2) as usize;
                 let reading = both.read(length, 0);
@@ -47,6 +48,7 @@ pub fn shaped(random: &mut Random, counts: &mut Counts) {
                     begins.saw(Origin::Anywhere, before, task, push, given);
                 }
             }
+            4 => dispatches::dispatch(counts, Origin::Anywhere, &mut both, hint),
             _ => {
                 let given = both.tick(task, hint);
                 if matches!(given, Ok(_) | Err(11)) {
@@ -70,7 +72,7 @@ pub fn damaged(random: &mut Random, counts: &mut Counts) {
             digit: random.digit(),
             argument: four,
         };
-        match random.below(8) {
+        match random.below(9) {
             0 => {
                 let _ = both.start(one, two, three);
             }
@@ -85,6 +87,9 @@ pub fn damaged(random: &mut Random, counts: &mut Counts) {
                 let _ = both.read(random.below(50) as usize, four);
             }
             5 => ticks(random, &mut both),
+            6 => {
+                let _ = both.dispatch(two);
+            }
             _ => {
                 let _ = both.tick(one % 20, two);
             }

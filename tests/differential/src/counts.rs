@@ -7,19 +7,21 @@ use crate::alone::Alone;
 use crate::begins::Begins;
 use crate::cause;
 use crate::digits::Digits;
+use crate::dispatches::Dispatches;
 use crate::idle::Idle;
 use crate::lists::Lists;
 use crate::outcomes::{Leads, Outcome, OUTCOMES};
 use crate::stretch::Stretches;
 
 /// The calls, and what each can give by the paper; 0 stands for no refusal.
-const GIVEN: [(&str, &[usize]); 6] = [
+const GIVEN: [(&str, &[usize]); 7] = [
     ("start", &[0, 1, 2]),
     ("begin", &[0, 3, 4, 5, 6, 7, 8, 11, 16]),
     ("tick", &[0, 3, 4, 5, 9, 10, 11]),
     ("run", &[0, 3, 4, 5, 9, 10, 11, 13, 14]),
     ("panel", &[0, 3, 4, 5, 9, 10, 11, 13, 14, 15]),
     ("read", &[0, 3, 4, 11, 12]),
+    ("dispatch", &[0, 3, 4, 9, 11]),
 ];
 /// All steps that change the digit of a node, and whether a table that start and the calls reach shows it.
 const CHANGE: [(u32, bool); 5] = [(5, true), (28, false), (31, false), (51, true), (78, false)];
@@ -30,7 +32,7 @@ pub const NAMES: [&str; 4] = ["push", "pop", "add", "remove"];
 #[derive(Default)]
 pub struct Given {
     /// By call and refusal.
-    pub refusals: [[u64; 17]; 6],
+    pub refusals: [[u64; 17]; GIVEN.len()],
     /// Ticks that the panel's lists made.
     pub panel_ticks: u64,
     /// Lists of the panel that made 32 ticks.
@@ -59,6 +61,8 @@ pub struct Counts {
     pub digits: Digits,
     /// Begins of a push.
     pub begins: Begins,
+    /// Dispatches.
+    pub dispatches: Dispatches,
     /// Calls that get all the ticks.
     pub alone: Alone,
     /// Ticks without an answer.
@@ -79,6 +83,7 @@ impl Counts {
             given: Given::default(),
             wraps: 0,
             begins: Begins::default(),
+            dispatches: Dispatches::default(),
             alone: Alone::default(),
             stretches: Stretches::default(),
             idle: Idle::default(),
@@ -164,6 +169,7 @@ impl Counts {
         self.report_given(&mut faults);
         faults.extend(self.digits.report());
         faults.extend(self.begins.report());
+        faults.extend(self.dispatches.report());
         faults.extend(self.alone.report());
         self.stretches.report();
         faults.extend(self.idle.report());
@@ -203,7 +209,7 @@ impl Counts {
                 .filter(|&number| counts[number] > 0)
                 .map(|number| format!("{number}: {}", counts[number]))
                 .collect();
-            println!("{name:6} gave {}", seen.join(", "));
+            println!("{name:8} gave {}", seen.join(", "));
             for (number, count) in counts.iter().enumerate() {
                 if (*count > 0) != wanted.contains(&number) {
                     faults.push(format!("{name} gave {number} {count} times"));

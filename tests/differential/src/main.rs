@@ -13,6 +13,7 @@ mod broken;
 mod cause;
 mod counts;
 mod digits;
+mod dispatches;
 mod idle;
 mod lent;
 mod lists;
@@ -107,6 +108,7 @@ fn round(random: &mut Random, counts: &mut Counts) {
     }
     for _ in 0..4_000 {
         digits::check(random, counts);
+        dispatches::check(random, counts);
     }
     lists::check(random, &mut counts.lists);
 }

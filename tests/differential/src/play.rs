@@ -2,6 +2,7 @@
 
 mod adversary;
 mod delay;
+mod in_turn;
 
 use reference::table::{header, low_part, record, tag, Sizes, ADD, MAX_TAG, POP, PUSH, REMOVE};
 use reference::Answer;
@@ -44,6 +45,8 @@ pub struct Play<'a> {
     favourite: u32,
     /// Ticks made since one ended a call, or since the start.
     stretch: u32,
+    /// The task of the last tick made, by a dispatch or not.
+    last_ticked: u32,
 }
 
 /// Plays so many calls on a table of these sizes.
@@ -55,6 +58,7 @@ pub fn play(random: &mut Random, counts: &mut Counts, sizes: Sizes, calls: u32) 
         side: 0,
         favourite: 0,
         stretch: 0,
+        last_ticked: 0,
         new_tags: 0,
         past: Vec::new(),
         random,
@@ -71,7 +75,7 @@ pub fn play(random: &mut Random, counts: &mut Counts, sizes: Sizes, calls: u32) 
 
 impl Play<'_> {
     fn call(&mut self) {
-        match self.random.below(100) {
+        match self.random.below(110) {
             0..=54 => {
                 let (task, hint) = self.pair();
                 if matches!(self.row.notes.get(task as usize), Some(None)) {
@@ -99,6 +103,11 @@ impl Play<'_> {
             90 if self.random.once_in(6) => self.delay(),
             91 if self.random.once_in(2) => self.spurs(),
             92 | 93 => self.panel(),
+            94..=102 => {
+                let (_, hint) = self.pair();
+                self.dispatch(hint);
+            }
+            103 if self.random.once_in(4) => self.in_turn(),
             _ => self.favourite = self.random.below(self.sizes.tasks),
         }
     }
@@ -175,6 +184,7 @@ impl Play<'_> {
             self.row = Row::new(tasks);
             self.favourite = 0;
             self.stretch = 0;
+            self.last_ticked = tasks - 1;
         }
         self.check();
     }
@@ -310,9 +320,15 @@ impl Play<'_> {
         }
     }
 
-    /// A tick was made: the row explains it, and a stretch goes on or ends.
+    /// A plain tick was made: the row explains it.
     fn made(&mut self, task: u32, answer: Answer) {
         self.row.tick(task, answer.words());
+        self.count_made(task, answer);
+    }
+
+    /// After any tick that was made: a stretch goes on or ends.
+    fn count_made(&mut self, task: u32, answer: Answer) {
+        self.last_ticked = task;
         if let Answer::Bag(tag) = answer {
             self.past.push(tag);
         }

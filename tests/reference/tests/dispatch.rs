@@ -5,7 +5,8 @@ mod common;
 use common::calls::begin;
 use common::random::Random;
 use common::tables::{shaped, sizes, started};
-use reference::table::{header, record, IDLE, POP, PUSH};
+use common::turns::next_in;
+use reference::table::{header, record, POP, PUSH};
 use reference::{dispatch, panel, run, start, tick, Answer};
 
 const RIGHT: u32 = 1;
@@ -20,19 +21,10 @@ fn with_pops(tasks: u32, last: u32, busy: &[u32]) -> Vec<u32> {
     table
 }
 
-/// The task that the table says is next, by its distance from the one last dispatched, whose own is the greatest.
-fn next(table: &[u32]) -> Option<u32> {
-    let sizes = sizes(table);
-    let last = table[header::DISPATCHED];
-    (0..sizes.tasks)
-        .filter(|&task| table[sizes.record(task) + record::OPERATION] != IDLE)
-        .min_by_key(|task| (sizes.tasks + task - last - 1) % sizes.tasks)
-}
-
-/// A dispatch is a tick of that task, after which the word names it, if it was made.
+/// A dispatch is a tick of the next busy task, after which the word names it, if it was made.
 fn check(table: &mut [u32], hint: u32) -> Result<Option<Answer>, u32> {
     let mut wanted = table.to_vec();
-    let answer = match next(table) {
+    let answer = match next_in(table) {
         Some(task) => {
             let ticked = tick(&mut wanted, task, hint);
             if ticked.is_ok() {

@@ -1,6 +1,23 @@
 //! Whose tick a dispatch is, by the notes alone, and how many dispatches a task waits for its own.
 
 use super::row::Note;
+use super::tables::sizes;
+use reference::table::{header, record, IDLE};
+
+/// The next busy task after the last, going round; the last itself comes last.
+pub fn next(last: u32, tasks: u32, busy: impl Fn(u32) -> bool) -> Option<u32> {
+    (1..=tasks)
+        .map(|places| (last + places) % tasks)
+        .find(|&task| busy(task))
+}
+
+/// The same by a table's words.
+pub fn next_in(table: &[u32]) -> Option<u32> {
+    let sizes = sizes(table);
+    next(table[header::DISPATCHED], sizes.tasks, |task| {
+        table[sizes.record(task) + record::OPERATION] != IDLE
+    })
+}
 
 /// The turns of the tasks since a start.
 pub struct Turns {
@@ -23,10 +40,9 @@ impl Turns {
 
     /// The next task with a note, going round, after the task last dispatched.
     pub fn next(&self, notes: &[Option<Note>]) -> Option<u32> {
-        let tasks = self.waits.len() as u32;
-        (1..=tasks)
-            .map(|places| (self.last + places) % tasks)
-            .find(|&task| notes[task as usize].is_some())
+        next(self.last, self.waits.len() as u32, |task| {
+            notes[task as usize].is_some()
+        })
     }
 
     /// A dispatch ticked this task. One with a note is ticked within T dispatches; those refused are not counted, since
