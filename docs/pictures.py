@@ -47,7 +47,7 @@ def row(y, place, label, words, fill, width):
 
 
 def table():
-    header = ["S", "T", "growth", "left hat", "right hat", "ticks", "0", "0"]
+    header = ["S", "T", "growth", "left hat", "right hat", "ticks", "dispatched", "0"]
     node = ["L", "R", "V", "digit"]
     task = ["operation", "step", "side", "argument", "digit", "counted", "value", "digit", "A", "B", "C", "D"]
     parts = [text(20, 30, "A table of 8 + 4S + 12T words", 16, "start", weight="bold")]
@@ -57,10 +57,11 @@ def table():
     notes = [
         "The nodes' words, from word 8 on, are lent to a line as a mutable part: a line cannot touch the header or a record.",
         "L, R and A to D are node numbers, or 65,535 for none. A tag is its digit, 0 to 9, before the nine digits of V. V may",
-        "also be a mark, or 0 for never used, both with digit 0; V 0 with a digit of 1 to 9 is a tag.",
+        "also be a mark, or 0 for never used, both with digit 0; V 0 with a digit of 1 to 9 is a tag. Word 6 has the task last",
+        "dispatched, T - 1 after a start.",
     ]
     parts += [text(20, 300 + 17 * i, note, 12, "start", SOFT) for i, note in enumerate(notes)]
-    drawing("table.svg", 980, 352, "Where each word of the table stands", parts)
+    drawing("table.svg", 980, 369, "Where each word of the table stands", parts)
 
 
 def node(x, y, number, value, fill, dash=""):

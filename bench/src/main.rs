@@ -25,7 +25,7 @@ type Make = fn(u32) -> Load;
 /// What measures a load in so many rounds.
 type Measure = fn(usize, &Load) -> Figures;
 
-const ROWS: [(&str, Make, Measure); 6] = [
+const ROWS: [(&str, Make, Measure); 7] = [
     (
         "tick, no take: 16 removes that walk",
         loads::walks,
@@ -38,6 +38,11 @@ const ROWS: [(&str, Make, Measure); 6] = [
         "single tick, with its shape test",
         loads::short_walks,
         single_tick,
+    ),
+    (
+        "dispatch, with its shape test",
+        loads::short_walks,
+        single_dispatch,
     ),
     (
         "shape test alone: a run of no ticks",
@@ -144,10 +149,28 @@ fn run_tick(rounds: usize, load: &Load) -> Figures {
 
 /// A tick called singly; it tests the whole table each time.
 fn single_tick(rounds: usize, load: &Load) -> Figures {
+    singly(rounds, load, |program, table, task, hint| {
+        (program.tick)(table, task, hint)
+    })
+}
+
+/// The same ticks, whose tasks are in turn, by dispatches.
+fn single_dispatch(rounds: usize, load: &Load) -> Figures {
+    singly(rounds, load, |program, table, _, hint| {
+        (program.dispatch)(table, hint)
+    })
+}
+
+/// Each tick of a list by a call of its own.
+fn singly(
+    rounds: usize,
+    load: &Load,
+    call: impl Fn(&Program, &mut [u32], u32, u32) -> u64 + Copy,
+) -> Figures {
     let mut tables = [load.table.clone(), load.table.clone()];
     for pair in load.list.chunks_exact(2) {
-        let proved = (PROVED.tick)(&mut tables[0], pair[0], pair[1]);
-        let rust = (RUST.tick)(&mut tables[1], pair[0], pair[1]);
+        let proved = call(&PROVED, &mut tables[0], pair[0], pair[1]);
+        let rust = call(&RUST, &mut tables[1], pair[0], pair[1]);
         assert_eq!(proved, rust, "the programs differ in what a tick returns");
         assert_eq!(
             tables[0], tables[1],
@@ -160,7 +183,7 @@ fn single_tick(rounds: usize, load: &Load) -> Figures {
             table.copy_from_slice(&load.table);
             nanoseconds(|| {
                 for pair in load.list.chunks_exact(2) {
-                    black_box((program.tick)(&mut table, pair[0], pair[1]));
+                    black_box(call(program, &mut table, pair[0], pair[1]));
                 }
             }) / load.ticks() as f64
         }

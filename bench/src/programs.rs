@@ -9,6 +9,8 @@ pub struct Program {
     pub begin: fn(&mut [u32], u32, u32, u32, u32, u32) -> u32,
     /// One tick with its test of the table's shape.
     pub tick: fn(&mut [u32], u32, u32) -> u64,
+    /// The same of the next busy task.
+    pub dispatch: fn(&mut [u32], u32) -> u64,
     /// A list of ticks.
     pub run: fn(&mut [u32], &[u32], &mut [u32]) -> u64,
     /// The tags of the lane.
@@ -23,6 +25,7 @@ pub struct Program {
 pub const PROVED: Program = Program {
     begin: ffi::begin,
     tick: ffi::tick,
+    dispatch: ffi::dispatch,
     run: ffi::run,
     read: ffi::read,
     read_tags: ffi::tags_read,
@@ -35,10 +38,10 @@ pub const RUST: Program = Program {
         let begun = reference::begin(table, task, operation, side, digit, argument);
         begun.err().unwrap_or(0)
     },
-    tick: |table, task, hint| match reference::tick(table, task, hint) {
-        Ok(Answer::Bag(tag)) => 2 << 40 | tag,
-        Ok(answer) => u64::from(answer.words()[0]) << 40,
-        Err(number) => 7 << 40 | u64::from(number),
+    tick: |table, task, hint| answer(reference::tick(table, task, hint)),
+    dispatch: |table, hint| {
+        let given = reference::dispatch(table, hint);
+        given.transpose().map_or(8 << 40, answer)
     },
     run: |table, list, answers| pair(reference::run(table, list, answers)),
     read: |table, out| match reference::read(table, out) {
@@ -48,6 +51,14 @@ pub const RUST: Program = Program {
     read_tags: |bytes, words| pair(reference::read_tags(bytes, words)),
     write_tags: |words, bytes| pair(reference::write_tags(words, bytes)),
 };
+
+fn answer(given: Result<Answer, u32>) -> u64 {
+    match given {
+        Ok(Answer::Bag(tag)) => 2 << 40 | tag,
+        Ok(answer) => u64::from(answer.words()[0]) << 40,
+        Err(number) => 7 << 40 | u64::from(number),
+    }
+}
 
 fn pair((high, low): (u32, u32)) -> u64 {
     u64::from(high) << 32 | u64::from(low)

@@ -190,6 +190,7 @@ static void empty_slices(void) {
     EXPECT(lane_start(NULL, 0, 0, TASKS, 0) == LANE_REFUSED_SIZES);
     EXPECT(lane_begin(NULL, 0, 0, LANE_POP, LANE_LEFT, 0, 0) == LANE_REFUSED_TABLE);
     EXPECT(lane_tick(NULL, 0, 0, 0) == ANSWER(LANE_REFUSED, LANE_REFUSED_TABLE));
+    EXPECT(lane_dispatch(NULL, 0, 0) == ANSWER(LANE_REFUSED, LANE_REFUSED_TABLE));
     EXPECT(lane_run(NULL, 0, NULL, 0, NULL, 0) == PAIR(0, LANE_REFUSED_TABLE));
     EXPECT(lane_run(NULL, 0, list, 2, answers, 3) == PAIR(0, LANE_REFUSED_TABLE));
     EXPECT(lane_panel(NULL, 0, NULL, 0, NULL, 0) == PAIR(0, LANE_REFUSED_TABLE));
@@ -245,6 +246,46 @@ static void calls(void) {
     EXPECT(begin(0, LANE_POP, LANE_LEFT, 0) == LANE_REFUSED_BUSY);
 }
 
+static void dispatch(uint64_t answer, uint32_t task) {
+    EXPECT(lane_dispatch(table, WORDS, 0) == answer);
+    EXPECT(table[LANE_DISPATCHED] == task);
+}
+
+/* Busy tasks are ticked in turn, whatever other ticks are made; with every task idle nothing is. */
+static void turns(void) {
+    begin_again();
+    EXPECT(table[LANE_DISPATCHED] == TASKS - 1);
+    EXPECT(begin(0, LANE_PUSH, LANE_RIGHT, LANE_MAX_TAG) == 0); /* eleven ticks */
+    EXPECT(begin(1, LANE_POP, LANE_LEFT, 0) == 0);              /* four */
+    for (uint32_t i = 0; i < 7; i++) {
+        dispatch(ANSWER(LANE_GOING, 0), i % TASKS);
+    }
+    EXPECT(lane_tick(table, WORDS, 0, 0) == ANSWER(LANE_GOING, 0));
+    EXPECT(table[LANE_DISPATCHED] == 0);
+    EXPECT(lane_dispatch(table, WORDS, SLOTS) == ANSWER(LANE_REFUSED, LANE_REFUSED_HINT));
+    dispatch(ANSWER(LANE_EMPTY, 0), 1);
+    for (int i = 0; i < 5; i++) {
+        dispatch(ANSWER(LANE_GOING, 0), 0);
+    }
+    dispatch(ANSWER(LANE_PUSHED, 0), 0);
+    EXPECT(begin(1, LANE_POP, LANE_LEFT, 0) == 0);
+    for (int i = 0; i < 3; i++) {
+        dispatch(ANSWER(LANE_GOING, 0), 1);
+    }
+    dispatch(ANSWER(LANE_BAG, LANE_MAX_TAG), 1);
+    dispatch(ANSWER(LANE_IDLE, 0), 1);
+    EXPECT(table[5] == 19); /* the ticks made */
+    EXPECT(lane_dispatch(table, WORDS, SLOTS) == ANSWER(LANE_REFUSED, LANE_REFUSED_HINT));
+
+    table[LANE_DISPATCHED] = TASKS;
+    EXPECT(lane_dispatch(table, WORDS, 0) == ANSWER(LANE_REFUSED, LANE_REFUSED_SHAPE));
+    EXPECT(begin(0, LANE_POP, LANE_LEFT, 0) == LANE_REFUSED_SHAPE);
+    table[LANE_DISPATCHED] = 0; /* as a table of format 2 has it */
+    EXPECT(begin(0, LANE_POP, LANE_LEFT, 0) == 0);
+    EXPECT(begin(1, LANE_POP, LANE_LEFT, 0) == 0);
+    dispatch(ANSWER(LANE_GOING, 0), 1);
+}
+
 int main(void) {
     limits();
     tags();
@@ -252,6 +293,7 @@ int main(void) {
     refusals();
     empty_slices();
     calls();
+    turns();
     puts(failures == 0 ? "the header's words hold" : "the header's words do not hold");
     return failures == 0 ? 0 : 1;
 }

@@ -36,6 +36,10 @@ static void panel(void) {
     lane_panel(table, WORDS, list, 2 * LANE_MAX_PANEL_TICKS, answers, LANE_ANSWER_WORDS * LANE_MAX_PANEL_TICKS);
 }
 
+static void dispatch(void) {
+    lane_dispatch(table, WORDS, 0);
+}
+
 static void read_lane(void) {
     lane_read(table, WORDS, out, LANE_TAG_WORDS * SLOTS);
 }
@@ -81,6 +85,7 @@ int main(void) {
     print("tick", deepest, 5600);
     print("run", touched(run), 5600);
     print("panel", touched(panel), 5600);
+    print("dispatch", touched(dispatch), 5600); /* the panel's add goes on, and takes a slot */
     print("read", touched(read_lane), 600);
     memset(tag_list, 0x99, sizeof tag_list);
     print("tags_read", touched(read_tags), 600);
