@@ -118,10 +118,7 @@ waits ws k = away (taskCount ws) (following (taskCount ws) (dispatched ws)) k
 data Served (ws : List ℕ) (k h : ℕ) (done : Dispatched) : Type 0 where
   ticked : IsTickOf k h ws done → Served ws k h done
   nearer-now :
-      isBusyTask (done .words) k ≡ true
-      → taskCount (done .words) ≡ taskCount ws
-      → waits (done .words) k < waits ws k
-      → Served ws k h done
+      isBusyTask (done .words) k ≡ true → waits (done .words) k < waits ws k → Served ws k h done
 
 module _ (ws : List ℕ) (A : WellFormed ws) where
   Z : WellSized (sizesOf ws)
@@ -142,12 +139,10 @@ module _ (ws : List ℕ) (A : WellFormed ws) where
 
   module _ (k : ℕ) where
     abbrev SameWait : List ℕ → Type 0
-    SameWait vs = isBusyTask vs k ≡ true → (taskCount vs ≡ taskCount ws) × (waits vs k ≡ waits ws k)
+    SameWait vs = isBusyTask vs k ≡ true → waits vs k ≡ waits ws k
 
     by-kept : {vs : List ℕ} → Kept ws vs → SameWait vs
-    by-kept K busy =
-        let same-count = ap (λ z. z .taskCount) (K .same-sizes) in
-        (same-count, rw (same-count, K .same-dispatched))
+    by-kept K busy = let same-count = ap (λ z. z .taskCount) (K .same-sizes) in rw (same-count, K .same-dispatched)
 
     start-waits : (S T g : ℕ) → SameWait (start ws S T g .words)
     unfolding start
@@ -227,7 +222,7 @@ module _ (ws : List ℕ) (A : WellFormed ws) where
 
       other-tick : j ≢ k → Served ws k h done
       other-tick ne =
-          nearer-now (ap (λ (t : Task). isBusy (t .operation)) (other-task (λ e. ne (sym e))) ∙ busy) same-count
+          nearer-now (ap (λ (t : Task). isBusy (t .operation)) (other-task (λ e. ne (sym e))) ∙ busy)
           (rw (same-count, now-dispatched)
           (found-or-nearer (taskCount ws) (isBusyTask ws) (taskCount ws) (following (taskCount ws) (dispatched ws))
           next-is-task chosen k is-task busy ne))
@@ -278,7 +273,7 @@ fair-from (c ∷ cs) ws A k busy none near =
       where
         go : Served ws k h (dispatch ws h) → Outcome k (dispatch-call h ∷ cs) ws
         go (ticked it) = gets-tick h it
-        go (nearer-now b same w) =
+        go (nearer-now b w) =
             still-busy (dispatch-call h) b
             (others (call-accepted ws A (dispatch-call h)) b (none .1) (omega arith))
 
@@ -292,16 +287,14 @@ fair-from (c ∷ cs) ws A k busy none near =
         go false b = ends-first {cs = cs} d e b (omega (arith, as-near))
         go true b =
             still-busy d b
-            (others (call-accepted ws A d) b (none .1) (rw (other-waits ws A k d e b .1) as-near))
+            (others (call-accepted ws A d) b (none .1) (rw (other-waits ws A k d e b) as-near))
 
 pub fair-unless-ended : FairUnlessEnded
 fair-unless-ended ws passes k busy calls none enough =
     let A = is-accepted ws passes in
-    fair-from calls ws A k busy none
-    (omega (
-      arith,
-      away-below (taskCount ws) k (busy-is-task ws k busy) (following (taskCount ws) (dispatched ws)) (next-is-task ws A),
-    ))
+    let next = following (taskCount ws) (dispatched ws) in
+    let at-most = away-below (taskCount ws) k (busy-is-task ws k busy) next (next-is-task ws A) in
+    fair-from calls ws A k busy none (omega arith)
 
 -- ---- A task that stays busy.
 not-ended : (k : ℕ) (calls : List Call) (ws : List ℕ) → Outcome k calls ws → BusyThroughout k calls ws
