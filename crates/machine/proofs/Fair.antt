@@ -66,6 +66,8 @@ use Rattle.machine.specs.Demand3.{
 }
 use Rattle.machine.specs.Begun.{afterAll}
 use Rattle.machine.specs.Fair.{
+  LeaveDispatched,
+  OthersLeaveDispatched,
   dispatchHint,
   dispatches,
   NoneRefused,
@@ -136,6 +138,16 @@ module _ (ws : List ℕ) (A : WellFormed ws) where
   tested-kept : (r : Option ℕ) (list answers : List ℕ) → Kept ws (tested r ws list answers .words)
   tested-kept (some n) list answers = unchanged ws Z W
   tested-kept nothing list answers = run-kept list ws answers Z W
+
+  leave-dispatched : LeaveDispatched ws
+  unfolding run panel
+  leave-dispatched =
+      record {
+        by-tick = λ k h. rw (tick-passes ws A k h) (tick-kept ws Z W k h .same-dispatched);
+        by-run = λ list answers. tested-kept (runRefusal ws list answers) list answers .same-dispatched;
+        by-panel = λ list answers. tested-kept (panelRefusal ws list answers) list answers .same-dispatched;
+        by-begin = λ k op side argument. begin-kept ws k op side argument Z W .same-dispatched;
+      }
 
   module _ (k : ℕ) where
     abbrev SameWait : List ℕ → Type 0
@@ -236,6 +248,9 @@ module _ (ws : List ℕ) (A : WellFormed ws) where
           | inl same ↦ ticked (own-tick j chosen passes made same)
           | inr ne ↦ other-tick j chosen passes made ne
         ])
+
+pub others-leave-dispatched : OthersLeaveDispatched
+others-leave-dispatched ws passes = leave-dispatched ws (is-accepted ws passes)
 
 -- ---- Lists of calls.
 by-hint : (P : Call → Type 0) → ((h : ℕ) → P (dispatch-call h)) → ((c : Call) → dispatchHint c ≡ nothing → P c)

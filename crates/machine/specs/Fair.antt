@@ -5,12 +5,23 @@ use mathlib.Core.List.{List, [], _∷_}
 use mathlib.Core.Option.{Option, some, none as nothing}
 use Prim.Native.Nat.{ℕ, zero, suc, _≤_, _<_}
 use Rattle.machine.specs.declared.Dispatch.the-variants.{Answered}
+use Rattle.machine.specs.declared.Stored.{Stored}
 use Rattle.machine.specs.Sides.{left, sideNumber}
 use Rattle.machine.specs.Values.{stored}
 use Rattle.machine.specs.Operations.{pop, operationNumber}
 use Rattle.machine.specs.Table.{taskCount, dispatched, setDispatched}
 use Rattle.machine.specs.Answers.{refusalOf, dispatchRefusalOf}
-use Rattle.machine.specs.Calls.{tableRefusal, startWords, tick, isBusyTask, Dispatched, dispatch}
+use Rattle.machine.specs.Calls.{
+  tableRefusal,
+  startWords,
+  begin,
+  tick,
+  isBusyTask,
+  Dispatched,
+  dispatch,
+  run,
+  panel,
+}
 use Rattle.machine.specs.Demand3.{
   Call,
   start-call,
@@ -23,6 +34,19 @@ use Rattle.machine.specs.Demand3.{
   after,
 }
 use Rattle.machine.specs.Begun.{afterAll}
+
+-- ---- The task last dispatched.
+
+-- 02: "A plain tick does not touch it": nor does a begin, a run or the panel's list.
+pub record LeaveDispatched (ws : List ℕ) : Type 0 where
+  pub by-tick : (k hint : ℕ) → dispatched (tick ws k hint .words) ≡ dispatched ws
+  pub by-run : (list answers : List ℕ) → dispatched (run ws list answers .words) ≡ dispatched ws
+  pub by-panel : (list answers : List ℕ) → dispatched (panel ws list answers .words) ≡ dispatched ws
+  pub by-begin :
+      (k operation side : ℕ) (argument : Stored) → dispatched (begin ws k operation side argument .words) ≡ dispatched ws
+
+abbrev pub OthersLeaveDispatched : Type 0
+OthersLeaveDispatched = (ws : List ℕ) → tableRefusal ws nothing ≡ nothing → LeaveDispatched ws
 
 -- ---- Lists of calls with dispatches in them.
 
