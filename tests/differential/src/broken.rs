@@ -48,7 +48,9 @@ pub fn shaped(random: &mut Random, counts: &mut Counts) {
                     begins.saw(Origin::Anywhere, before, task, push, given);
                 }
             }
-            4 => dispatches::dispatch(counts, Origin::Anywhere, &mut both, hint),
+            4 => {
+                let _ = dispatches::dispatch(counts, Origin::Anywhere, &mut both, hint);
+            }
             _ => {
                 let given = both.tick(task, hint);
                 if matches!(given, Ok(_) | Err(11)) {

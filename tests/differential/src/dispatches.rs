@@ -1,5 +1,5 @@
-//! Dispatches: whose tick the table before them shows to be next, what that gives, and any word in the dispatcher's place
-//! of the header.
+//! Dispatches: which task the table before them shows to be next, what that gives, and any word in the dispatcher's
+//! place of the header.
 
 use std::collections::BTreeMap;
 
@@ -68,20 +68,14 @@ pub struct Dispatches {
     waits: BTreeMap<u32, u32>,
 }
 
-/// Makes a dispatch on a well-shaped table, holds it to the list, and its tick to that of ticks.
-pub fn dispatch(counts: &mut Counts, origin: Origin, both: &mut Both, hint: u32) {
-    let given = both.dispatch(hint);
-    saw(counts, origin, both, hint, given);
-}
-
-/// The same of one that was made last.
-pub fn saw(
+/// Makes a dispatch on a well-shaped table and holds it to the list, and its tick to the list of ticks.
+pub fn dispatch(
     counts: &mut Counts,
     origin: Origin,
-    both: &Both,
+    both: &mut Both,
     hint: u32,
-    given: Result<Option<Answer>, u32>,
-) {
+) -> Result<Option<Answer>, u32> {
+    let given = both.dispatch(hint);
     let (before, after) = (both.before(), both.table());
     let last = before[header::DISPATCHED];
     let next = next_in(before);
@@ -103,35 +97,33 @@ pub fn saw(
     };
     assert_eq!(found, gives, "dispatch: {name}");
     counts.dispatches.found[origin as usize][place] += 1;
-    if let (Some(task), Some(given)) = (next, given.transpose()) {
-        if given != Err(9) {
-            counts.tick(origin, before, after, task, given);
-        }
+    if let (Some(task), Some(ticked @ (Ok(_) | Err(11)))) = (next, given.transpose()) {
+        counts.tick(origin, before, after, task, ticked);
     }
+    given
 }
 
 /// Puts any word in the dispatcher's place of a well-shaped table, or in the one after it.
 pub fn check(random: &mut Random, counts: &mut Counts) {
     let mut table = shaped(random);
     let tasks = sizes(&table).tasks;
-    let (at, word) = (header::DISPATCHED, random.word());
+    let any = random.word();
     let place = random.below(PUT.len() as u32) as usize;
-    let (at, word) = match place {
-        0 => (at, word % tasks),
-        1 => (at, tasks - 1),
-        2 => (at, tasks),
-        3 => (at, word.max(tasks + 1)),
-        _ => (header::ZERO, word.max(1)),
-    };
-    table[at] = word;
+    match place {
+        0 => table[header::DISPATCHED] = any % tasks,
+        1 => table[header::DISPATCHED] = tasks - 1,
+        2 => table[header::DISPATCHED] = tasks,
+        3 => table[header::DISPATCHED] = any.max(tasks + 1),
+        _ => table[header::ZERO] = any.max(1),
+    }
     let (name, holds) = PUT[place];
     let mut both = Both::over(&table);
     let (_, given, _) = both.run(&[], 0, 0);
-    assert_eq!(given, if holds { 0 } else { 4 }, "{name}: {word}");
+    assert_eq!(given, if holds { 0 } else { 4 }, "{name}");
     if holds {
-        dispatch(counts, Origin::Anywhere, &mut both, 0);
+        let _ = dispatch(counts, Origin::Anywhere, &mut both, 0);
     } else {
-        assert_eq!(both.dispatch(0), Err(4), "{name}: {word}");
+        assert_eq!(both.dispatch(0), Err(4), "{name}");
     }
     counts.dispatches.put[place] += 1;
     counts.add(&both.given);

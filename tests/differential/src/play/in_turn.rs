@@ -15,8 +15,7 @@ const TICKS: u32 = 400;
 impl Play<'_> {
     /// A dispatch, which the row explains: the task that was ticked, and its answer.
     pub(super) fn dispatch(&mut self, hint: u32) -> Option<(u32, Answer)> {
-        let given = self.both.dispatch(hint);
-        dispatches::saw(self.counts, Origin::Calls, &self.both, hint, given);
+        let given = dispatches::dispatch(self.counts, Origin::Calls, &mut self.both, hint);
         let mut ticked = None;
         if let Ok(answer) = given {
             let moved = next(self.last_ticked, self.sizes.tasks, |task| {
@@ -39,8 +38,10 @@ impl Play<'_> {
     /// Dispatches alone, often until every task is idle, and the ticks that they stand for as a run on a copy: the same
     /// answers, and the same table but for the task last dispatched.
     pub(super) fn in_turn(&mut self) {
+        // With all of them busy some task waits for all others.
+        let all = self.random.once_in(2);
         for task in 0..self.sizes.tasks {
-            if self.row.notes[task as usize].is_none() && !self.random.once_in(4) {
+            if self.row.notes[task as usize].is_none() && (all || self.random.once_in(2)) {
                 self.begin_some(task);
             }
         }
