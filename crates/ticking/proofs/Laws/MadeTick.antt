@@ -1,7 +1,6 @@
 -- A tick in code, from the line's outcome to the words: what `ticking::make` relies on and comes to.
 use mathlib.Core.Path.{_≡_, refl, sym, ap, _∙_, subst}
 use mathlib.Core.Bool.{true, false}
-use mathlib.Core.Logic.{_≢_}
 use mathlib.Core.List.{List}
 use mathlib.Core.Option.{none as nothing}
 use Prim.Native.Nat.{ℕ, _+_, _*_, _-_, _≤_, _<_}
@@ -15,7 +14,7 @@ use Rattle.machine.specs.Sides.{Side, left, right, sideNumber, sideOf}
 use Rattle.machine.specs.Values.{number}
 use Rattle.machine.specs.Operations.{operationOf, argumentOk, goalOf}
 use Rattle.machine.specs.Steps.{stepOf}
-use Rattle.machine.specs.Tasks.{Task, none, wordsOf, goal}
+use Rattle.machine.specs.Tasks.{Task, wordsOf, goal}
 use Rattle.machine.specs.Table.{
   headerLength,
   nodeLength,
@@ -28,10 +27,9 @@ use Rattle.machine.specs.Table.{
   recordWords,
   task,
 }
-use Rattle.machine.specs.Allocate.{allocate}
 use Rattle.machine.specs.Lines.{Effect, writeAll}
 use Rattle.machine.specs.Answers.{refusalOf}
-use Rattle.machine.specs.Calls.{effectOf, applied, tickCounted}
+use Rattle.machine.specs.Calls.{applied, tickCounted}
 use Rattle.machine.specs.Results.{tickedOf}
 use Rattle.machine.proofs.Basics.Contradiction.{clash}
 use Rattle.machine.proofs.Words.Columns.{sizesOf, columns}
@@ -39,17 +37,15 @@ use Rattle.machine.proofs.Words.EffectLaws.{effectWords}
 use Rattle.machine.proofs.Words.TickLaws.{fit-effect}
 use Rattle.machine.proofs.Shape.ShapeLaws.{WellSized, WellShaped, well-sized, well-shaped}
 use Rattle.machine.proofs.Shape.Fits.{Fits}
-use Rattle.machine.proofs.Shape.TickKeeps.{effect-fits, allocated-node}
 use Rattle.layout.specs.declared.tasks.Task as Tasks
 use Rattle.layout.specs.Coded.{structOf, recordOf, HoldsRecord}
 use Rattle.layout.proofs.Laws.Views.{nodesOf, nodes-part}
 use Rattle.hattrick.specs.declared.ends.Done.{Done}
 use Rattle.hattrick.specs.Lent.{writesIn, hatAfter, Outcome, outcomeOf, effectIn, lineOf}
 use Rattle.figure.specs.Groups.{allSteps, ReadyIn}
-use Rattle.ticking.specs.Ticks.{MayTick, taken, isRefused, made, recorded, stored}
-use Rattle.ticking.proofs.Laws.LineWords.{taken-node}
+use Rattle.ticking.specs.Ticks.{MayTick, isRefused, effectWith, made, recorded, stored}
 use Rattle.ticking.proofs.Laws.TickReady.{meant-task, side-back, side-low, argument-fits, ready-task}
-use Rattle.ticking.proofs.Laws.TickWords.{line-is-effect, refused-words, made-words}
+use Rattle.ticking.proofs.Laws.TickWords.{line-is-effect, effect-fits, refused-words, made-words}
 
 refused-answer : (a : Answer) → isRefused a ≡ true → (n : ℕ) × (a ≡ Refused n)
 refused-answer Going h = clash (cc)
@@ -79,7 +75,7 @@ unfolding applied
 applied-made s ws k e h = rw (h, applied)
 
 -- A tick that passed its tests, with the record K that the code reads.
-module _ (ws : List ℕ) (k hint : ℕ) (M : MayTick ws k hint) where
+module _ (ws : List ℕ) (k f : ℕ) (M : MayTick ws k f) where
   Z : WellSized (sizesOf ws)
   Z = well-sized ws (M .table .length-passes)
 
@@ -93,7 +89,7 @@ module _ (ws : List ℕ) (k hint : ℕ) (M : MayTick ws k hint) where
   s = sideOf (K .side)
 
   abbrev E : Effect
-  E = effectOf ws k hint
+  E = effectWith ws k f
 
   pub header-room : headerLength ≤ length ws
   header-room = let z = Z .sized in omega arith
@@ -107,11 +103,8 @@ module _ (ws : List ℕ) (k hint : ℕ) (M : MayTick ws k hint) where
   pub record-side : K .side < 2
   record-side = side-low ws Z W k (M .is-task)
 
-  pub line-ready : {f : ℕ} → f ≡ taken K (allocate ws hint) → ReadyIn allSteps (nodesOf ws) K f
-  line-ready {f} e =
-      ready-task ws Z W k (M .is-task) (M .busy) f
-      (subst (λ (x : ℕ). x ≢ none → x < nodeCount ws) (sym e)
-      (taken-node K (allocate ws hint) (nodeCount ws) (allocated-node ws hint (M .is-hint))))
+  pub line-ready : ReadyIn allSteps (nodesOf ws) K f
+  line-ready = ready-task ws Z W k (M .is-task) (M .busy) f (M .given-node)
 
   hat-place : hatAt left + K .side ≡ hatAt s
   hat-place = ap (λ (n : ℕ). hatAt left + n) (sym (side-back ws Z W k (M .is-task))) ∙ side-place s
@@ -121,20 +114,18 @@ module _ (ws : List ℕ) (k hint : ℕ) (M : MayTick ws k hint) where
       side-place right = refl
 
   -- The outcome of the line that the code makes is the effect of the definitions.
-  pub outcome : {g f : ℕ} {ns : List ℕ} {d : Done}
+  pub outcome : {g : ℕ} {ns : List ℕ} {d : Done}
       → g ≡ goalOf (operationOf (K .operation)) (growth ws) (number (K .argument))
-      → f ≡ taken K (allocate ws hint)
       → outcomeOf ns d ≡ lineOf (stepOf (K .step)) (nodesOf ws) (getD ws (hatAt left + K .side) 0) K g f
       → outcomeOf ns d ≡ effectIn s (nodesOf ws) (hat ws s) E
-  outcome {g} {f} eg ef line =
+  outcome {g} eg line =
       line
       ∙ ap (λ (i : ℕ). lineOf (stepOf (K .step)) (nodesOf ws) (getD ws i 0) K g f) hat-place
-      ∙ ap (lineOf (stepOf (K .step)) (nodesOf ws) (hat ws s) K g) ef
-      ∙ line-is-effect ws Z W k (M .is-task) hint g (M .busy) (eg ∙ ap (goal (growth ws)) (meant-task ws Z W k (M .is-task)))
+      ∙ line-is-effect ws Z W k (M .is-task) g f (eg ∙ ap (goal (growth ws)) (meant-task ws Z W k (M .is-task)))
 
   -- ---- The words. m is how long the code finds the nodes' part to be.
   module _ {ns : List ℕ} {d : Done} {m : ℕ}
-      (out : outcomeOf ns d ≡ effectIn s (nodesOf ws) (hat ws s) (effectOf ws k hint))
+      (out : outcomeOf ns d ≡ effectIn s (nodesOf ws) (hat ws s) (effectWith ws k f))
       (all-nodes : m ≡ nodeLength * nodeCount ws) where
     nodes-are : ns ≡ writesIn s (E .writes) (nodesOf ws)
     nodes-are = ap (λ (o : Outcome). o .nodes) out
@@ -148,27 +139,27 @@ module _ (ws : List ℕ) (k hint : ℕ) (M : MayTick ws k hint) where
     record-is : recordOf (d .task) ≡ wordsOf (E .task)
     record-is = ap (λ (o : Outcome). recordOf (o .done .task)) out
 
-    fits : Fits (nodeCount ws) (growth ws) (effectOf ws k hint)
-    fits = effect-fits ws W k hint (M .is-hint) (M .busy)
+    fits : Fits (nodeCount ws) (growth ws) (effectWith ws k f)
+    fits = effect-fits ws Z W k (M .is-task) (M .busy) (M .given-node)
 
     own-side : s ≡ task ws k .side
     own-side = ap (λ (t : Task). t .side) (meant-task ws Z W k (M .is-task))
 
-    pub refused-tick : isRefused (d .answer) ≡ true → tickedOf (d .answer) (putMid headerLength m ws ns) ≡ made ws k hint
+    pub refused-tick : isRefused (d .answer) ≡ true → tickedOf (d .answer) (putMid headerLength m ws ns) ≡ made ws k f
     refused-tick r =
         let a = refused-answer (d .answer) r in
         ap (λ (n : ℕ). tickedOf (d .answer) (putMid headerLength n ws ns)) all-nodes
         ∙ ap (λ (x : Answer). tickedOf x (putMid headerLength (nodeLength * nodeCount ws) ws ns)) (a .1)
         ∙ refused-words s ws Z k E fits (sym answer-is ∙ a .1) nodes-are
-        ∙ ap (λ (z : Side). applied z ws k (effectOf ws k hint)) own-side
+        ∙ ap (λ (z : Side). applied z ws k (effectWith ws k f)) own-side
 
     pub made-tick :
         {vs : List ℕ}
         → isRefused (d .answer) ≡ false
         → vs ≡ stored (putMid headerLength m ws ns) (K .side) (d .hat) k (d .task)
-        → tickedOf (d .answer) vs ≡ made ws k hint
+        → tickedOf (d .answer) vs ≡ made ws k f
     made-tick {vs} r q =
-        let none-refused : refusalOf (effectOf ws k hint .answer) ≡ nothing
+        let none-refused : refusalOf (effectWith ws k f .answer) ≡ nothing
         = ap refusalOf (sym answer-is) ∙ made-answer (d .answer) r in
         let in-range = fit-effect (nodeCount ws) (growth ws) fits none-refused .0 in
         let written : set (putMid headerLength m ws ns) (hatAt left + K .side) (d .hat) ≡ writeAll s (E .writes) ws
@@ -184,7 +175,7 @@ module _ (ws : List ℕ) (k hint : ℕ) (M : MayTick ws k hint) where
         record-is)
         ∙ ap (λ (a : Answer). tickedOf a (effectWords s (E .writes) k (E .task) ws)) answer-is
         ∙ sym (applied-made s ws k E none-refused)
-        ∙ ap (λ (z : Side). applied z ws k (effectOf ws k hint)) own-side
+        ∙ ap (λ (z : Side). applied z ws k (effectWith ws k f)) own-side
 
   -- ---- The same of the record and of the part that the code has, which are those.
   module _ (r : Tasks.Task) (same : r ≡ structOf (recordWords ws k)) (end : ℕ) (is-end : end ≡ nodeAt (nodeCount ws)) where
@@ -199,28 +190,22 @@ module _ (ws : List ℕ) (k hint : ℕ) (M : MayTick ws k hint) where
         subst (λ (u : Tasks.Task). argumentOk (operationOf (u .operation)) (u .argument) ≡ true) (sym same)
         (argument-fits ws Z W k (M .is-task) (M .busy))
 
-    pub its-ready : {f : ℕ} → f ≡ taken r (allocate ws hint) → ReadyIn allSteps part r f
-    its-ready {f} =
-        subst
-        (λ (l : List ℕ). f ≡ taken r (allocate ws hint) → ReadyIn allSteps l r f)
-        (sym (nodes-part ws is-end))
-        (subst
-        (λ (u : Tasks.Task). f ≡ taken u (allocate ws hint) → ReadyIn allSteps (nodesOf ws) u f)
-        (sym same) line-ready)
+    pub its-ready : ReadyIn allSteps part r f
+    its-ready =
+        subst (λ (l : List ℕ). ReadyIn allSteps l r f) (sym (nodes-part ws is-end))
+        (subst (λ (u : Tasks.Task). ReadyIn allSteps (nodesOf ws) u f) (sym same) line-ready)
 
-    module _ {g f : ℕ} {ns : List ℕ} {d : Done}
+    module _ {g : ℕ} {ns : List ℕ} {d : Done}
         (goal-is : g ≡ goalOf (operationOf (r .operation)) (growth ws) (number (r .argument)))
-        (found-is : f ≡ taken r (allocate ws hint))
         (line-is : outcomeOf ns d ≡ lineOf (stepOf (r .step)) part (getD ws (hatAt left + r .side) 0) r g f) where
       done-is : outcomeOf ns d ≡ effectIn s (nodesOf ws) (hat ws s) E
       done-is =
           subst
           (λ (u : Tasks.Task).
           g ≡ goalOf (operationOf (u .operation)) (growth ws) (number (u .argument))
-          → f ≡ taken u (allocate ws hint)
           → outcomeOf ns d ≡ lineOf (stepOf (u .step)) (nodesOf ws) (getD ws (hatAt left + u .side) 0) u g f
           → outcomeOf ns d ≡ effectIn s (nodesOf ws) (hat ws s) E)
-          (sym same) outcome goal-is found-is
+          (sym same) outcome goal-is
           (line-is
           ∙ ap (λ (l : List ℕ). lineOf (stepOf (r .step)) l (getD ws (hatAt left + r .side) 0) r g f)
           (nodes-part ws is-end))
@@ -230,14 +215,14 @@ module _ (ws : List ℕ) (k hint : ℕ) (M : MayTick ws k hint) where
 
       pub its-refusal :
           isRefused (d .answer) ≡ true
-          → tickedOf (d .answer) (putMid headerLength (end - headerLength) ws ns) ≡ made ws k hint
+          → tickedOf (d .answer) (putMid headerLength (end - headerLength) ws ns) ≡ made ws k f
       its-refusal = refused-tick done-is all-nodes-lent
 
       pub its-tick :
           {vs : List ℕ}
           → isRefused (d .answer) ≡ false
           → vs ≡ stored (putMid headerLength (end - headerLength) ws ns) (r .side) (d .hat) k (d .task)
-          → tickedOf (d .answer) vs ≡ made ws k hint
+          → tickedOf (d .answer) vs ≡ made ws k f
       its-tick a q =
           made-tick done-is all-nodes-lent a
           (q
