@@ -1,4 +1,5 @@
 -- How the code holds what the definitions speak of: a task record as a struct, the nodes as words.
+use mathlib.Core.Path.{_≡_}
 use mathlib.Core.Bool.{Bool, true, false}
 use mathlib.Core.List.{List, [], _∷_, _++_}
 use Prim.Native.Nat.{ℕ, _+_, _*_, _≤_}
@@ -122,6 +123,10 @@ withValueRead t v = furtherOn t (t .step) (t .counted) v (t .registers)
 
 abbrev pub withCount : Tasks.Task → ℕ → Tasks.Task
 withCount t n = furtherOn t (t .step) n (t .value) (t .registers)
+
+-- Two structs of the same call: what a call is begun with, and no line changes.
+abbrev pub SameCall : (t u : Tasks.Task) → Type 0
+SameCall t u = (t .operation ≡ u .operation) × (t .side ≡ u .side) × (t .argument ≡ u .argument)
 
 -- The record of task k is within the table.
 abbrev pub HoldsRecord : List ℕ → ℕ → Type 0

@@ -6,7 +6,7 @@ use crate::tasks::Task;
 ghost use mathlib.Core.Path.{_≡_};
 ghost use Rattle.machine.specs.Table.{nodeCount, recordAt, recordWords};
 ghost use lib.Seq.{sets};
-ghost use Rattle.layout.specs.Coded.{structOf, recordOf, HoldsRecord};
+ghost use Rattle.layout.specs.Coded.{structOf, recordOf, SameCall, HoldsRecord};
 
 // The record of task k.
 pub fn task(table: &[u32], k: u32) -> Task
@@ -25,4 +25,15 @@ pub fn set_task(table: &mut [u32], k: u32, new: Task)
 {
     let at = record_at(table[NODE_COUNT], k);
     new.write(&mut table[at..at + RECORD_WORDS]);
+}
+
+// The record of task k, written where it goes on with the call that stands there: fewer words than a whole record.
+pub fn set_further(table: &mut [u32], k: u32, new: Task)
+    requires { ⌜ HoldsRecord (now table) k ⌝ }
+    requires { ⌜ SameCall (structOf (recordWords (now table) k)) new ⌝ }
+    ensures { λ _. ⌜ now (table .exit)
+        ≡ sets (now (table .entry)) (recordAt (nodeCount (now (table .entry))) k) (recordOf new) ⌝ }
+{
+    let at = record_at(table[NODE_COUNT], k);
+    new.write_further(&mut table[at..at + RECORD_WORDS]);
 }

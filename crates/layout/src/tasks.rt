@@ -14,6 +14,7 @@ ghost use Rattle.layout.specs.Coded.{
   withRegister,
   withValueRead,
   withCount,
+  SameCall,
 };
 
 pub struct Task {
@@ -99,12 +100,21 @@ impl Task {
         ensures { λ r. ⌜ now (words .exit) ≡ recordOf self ⌝ }
     {
         let argument = self.argument;
-        let value = self.value;
         words[0] = self.operation;
-        words[1] = self.step;
         words[2] = self.side;
         words[3] = argument.word;
         words[4] = argument.digit;
+        self.write_further(words);
+    }
+
+    // The words of a record whose call stands there already: those that the lines change as the call goes on.
+    pub fn write_further(self, words: &mut [u32])
+        requires { ⌜ length (now words) ≡ recordLength ⌝ }
+        requires { ⌜ SameCall (structOf (now words)) self ⌝ }
+        ensures { λ r. ⌜ now (words .exit) ≡ recordOf self ⌝ }
+    {
+        let value = self.value;
+        words[1] = self.step;
         words[5] = self.counted;
         words[6] = value.word;
         words[7] = value.digit;

@@ -3,6 +3,7 @@
 pub mod Laid
 pub mod Seen
 pub mod LineWords
+pub mod CallKept
 pub mod TickReady
 pub mod TickWords
 pub mod MadeTick

@@ -11,12 +11,12 @@ use Rattle.machine.specs.declared.Answer.{Answer}
 use Rattle.machine.specs.declared.Answer.the-variants.{Going, Pushed, Bag, Empty, Full, Yes, No, Refused}
 use Rattle.machine.specs.Sides.{left, opposite}
 use Rattle.machine.specs.Tasks.{none, goal}
-use Rattle.machine.specs.Table.{nodeCount, taskCount, growth, hatAt, recordAt, task}
+use Rattle.machine.specs.Table.{nodeCount, taskCount, growth, hatAt, recordAt, recordWords, task}
 use Rattle.machine.specs.Shape.{WellFormed}
 use Rattle.machine.specs.Lines.{Effect, seen, act}
 use Rattle.machine.specs.Calls.{isBusy, Ticked, applied, tickCounted}
 use Rattle.layout.specs.declared.tasks.Task as Tasks
-use Rattle.layout.specs.Coded.{recordOf}
+use Rattle.layout.specs.Coded.{structOf, recordOf, SameCall}
 
 -- Whether a task stands at 31 and searches for a free node there. (01: at step 31 the test of D precedes the search.)
 abbrev pub searchesAt31 : Tasks.Task → Bool
@@ -39,6 +39,21 @@ isRefused Full = false
 isRefused Yes = false
 isRefused No = false
 isRefused (Refused n) = true
+
+-- Whether it lets the task go on.
+abbrev pub isGoing : Answer → Bool
+isGoing Going = true
+isGoing Pushed = false
+isGoing (Bag b) = false
+isGoing Empty = false
+isGoing Full = false
+isGoing Yes = false
+isGoing No = false
+isGoing (Refused n) = false
+
+-- A task that goes on has the call of its record in the table.
+abbrev pub GoesOn : List ℕ → (k : ℕ) → (going : Bool) → (next : Tasks.Task) → Type 0
+GoesOn ws k going t = going ≡ true → SameCall (structOf (recordWords ws k)) t
 
 -- The effect of the line at which a task stands, given a node; given the one that a search finds, it is `effectOf`.
 unfoldable pub effectWith : List ℕ → (k f : ℕ) → Effect

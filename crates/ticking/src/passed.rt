@@ -19,7 +19,16 @@ ghost use Rattle.machine.specs.Shape.{WellFormed};
 ghost use Rattle.machine.specs.Calls.{tickOn};
 ghost use Rattle.layout.specs.Coded.{HoldsRecord};
 ghost use Rattle.machine.specs.Results.{tickedOf};
-ghost use Rattle.ticking.specs.Ticks.{searchesAt31, MayTick, isRefused, made, stored};
+ghost use Rattle.ticking.specs.Ticks.{
+  searchesAt31,
+  MayTick,
+  isRefused,
+  isGoing,
+  GoesOn,
+  made,
+  recorded,
+  stored,
+};
 
 // Whether a task stands at 31 and searches there: where D is none, 31 is refused and does not search.
 fn searches_at_31(t: Task) -> bool
@@ -45,13 +54,41 @@ fn is_refusal(a: Answer) -> bool
     }
 }
 
+// Whether a task goes on after a line.
+fn is_going(a: Answer) -> bool
+    ensures { λ r. ⌜ r ≡ isGoing a ⌝ }
+{
+    match a {
+        Answer::Going => true,
+        Answer::Pushed => false,
+        Answer::Bag(_) => false,
+        Answer::Empty => false,
+        Answer::Full => false,
+        Answer::Yes => false,
+        Answer::No => false,
+        Answer::Refused(_) => false,
+    }
+}
+
+// The record after a tick that is made. A task that goes on keeps its call, which is not written again.
+fn set_next(table: &mut [u32], task: u32, next: Task, going: bool)
+    requires { ⌜ HoldsRecord (now table) task × GoesOn (now table) task going next ⌝ }
+    ensures { λ _. ⌜ now (table .exit) ≡ recorded (now (table .entry)) task next ⌝ }
+{
+    if going {
+        table::set_further(table, task, next);
+        return;
+    }
+    table::set_task(table, task, next);
+}
+
 // The hat, the record and the tick count after a tick that is made.
-fn store(table: &mut [u32], side: u32, hat: u32, task: u32, next: Task)
-    requires { ⌜ (side < 2) × HoldsRecord (now table) task ⌝ }
+fn store(table: &mut [u32], side: u32, hat: u32, task: u32, next: Task, going: bool)
+    requires { ⌜ (side < 2) × HoldsRecord (now table) task × GoesOn (now table) task going next ⌝ }
     ensures { λ _. ⌜ now (table .exit) ≡ stored (now (table .entry)) side hat task next ⌝ }
 {
     table[LEFT_HAT + side as usize] = hat;
-    table::set_task(table, task, next);
+    set_next(table, task, next, going);
     table[TICK_COUNT] = wrapping_add_u32(table[TICK_COUNT], 1);
 }
 
@@ -72,7 +109,7 @@ fn make(table: &mut [u32], k: u32, taken: u32) -> Answer
         return answer;
     }
     let next = done.task;
-    store(table, side, done.hat, k, next);
+    store(table, side, done.hat, k, next, is_going(answer));
     answer
 }
 

@@ -1,18 +1,18 @@
 -- A record's words, in its struct and as a lent part of the table, and the test that they are fresh.
-use mathlib.Core.Path.{_≡_, sym, ap, _∙_}
+use mathlib.Core.Path.{_≡_, refl, sym, ap, _∙_, subst}
 use mathlib.Core.Bool.{Bool, _&&_, and-true, and-assoc}
 use mathlib.Core.List.{List, [], _∷_, _++_, append-assoc}
 use Prim.Native.Nat.{ℕ, zero, suc, _+_, _-_, _≤_}
 use native.Mathlib.Omega.{arith}
 use lib.Dec.{eqb}
-use lib.ListN.{length, getD, take, drop, drop-of-length-le}
+use lib.ListN.{length, getD, set, take, drop, drop-of-length-le}
 use lib.Seq.{sets, sets-eq, drop-cons, drop-drop}
 use borrow.Rule.Slice.PartMut.{midOf, postOf, putMid}
 use Rattle.machine.specs.Tasks.{fresh, none, recordLength, wordsOf}
 use Rattle.machine.specs.Table.{recordFrom}
 use Rattle.machine.specs.Shape.{sameWords}
 use Rattle.machine.proofs.Words.Stretches.{record-long}
-use Rattle.layout.specs.Coded.{structOf, recordOf}
+use Rattle.layout.specs.Coded.{structOf, recordOf, SameCall}
 use Rattle.layout.specs.declared.tasks.Task as Tasks
 
 -- ---- The struct of a record's words has those words.
@@ -32,7 +32,38 @@ pub words-of-struct : (r : List ℕ) → length r ≡ recordLength → recordOf 
 unfolding listed
 words-of-struct r h = listed-all recordLength 0 r (h ∙ omega arith)
 
--- A record lent as a part of the table.
+-- ---- The words of a call, and those that change as it goes on, each written in its place.
+module _ (r : List ℕ) (long : length r ≡ recordLength) (t : Tasks.Task) where
+  pub call-written :
+      SameCall (structOf (set (set (set (set r 0 (t .operation)) 2 (t .side)) 3 (t .argument .word)) 4 (t .argument .digit))) t
+  call-written =
+      subst
+      (λ (l : List ℕ).
+      SameCall (structOf (set (set (set (set l 0 (t .operation)) 2 (t .side)) 3 (t .argument .word)) 4 (t .argument .digit))) t)
+      (words-of-struct r long) (refl, refl, refl)
+
+  -- The words of a record, with those that change of t.
+  abbrev furthered : List ℕ → List ℕ
+  furthered l =
+      set (set (set (set (set (set (set (set l 1 (t .step)) 5 (t .counted)) 6 (t .value .word)) 7 (t .value .digit))
+      8 (getD (t .registers) 0 0)) 9 (getD (t .registers) 1 0)) 10 (getD (t .registers) 2 0)) 11 (getD (t .registers) 3 0)
+
+  pub further-written : SameCall (structOf r) t → furthered r ≡ recordOf t
+  further-written same =
+      ap furthered (sym (words-of-struct r long))
+      ∙ (λ i.
+      recordOf
+      (record {
+        operation = same .0 i;
+        step = t .step;
+        side = same .1 i;
+        argument = same .2 i;
+        counted = t .counted;
+        value = t .value;
+        registers = t .registers;
+      }))
+
+-- ---- A record lent as a part of the table.
 pub record-part :
     (ws : List ℕ) {at i : ℕ} → at ≡ i → midOf at ((at + recordLength) - at) ws ≡ recordFrom ws i
 record-part ws {at} e =

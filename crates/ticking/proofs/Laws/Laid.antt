@@ -1,15 +1,41 @@
 -- The nodes' part of the table, lent and laid back: a line's writes there are its writes to the table.
 use mathlib.Core.Path.{_≡_, refl, sym, ap, _∙_}
-use mathlib.Core.List.{List, [], _∷_, _++_}
+use mathlib.Core.List.{List, [], _∷_, _++_, append-assoc}
 use Prim.Native.Nat.{ℕ, suc, _+_, _*_, _≤_, _<_}
 use native.Mathlib.Omega.{arith}
 use native.Mathlib.Nat.{add-assoc}
-use lib.ListN.{length, getD, set, take, drop, length-set, List·getD-append}
-use lib.Seq.{sets, length-sets, getD-take, set-set, take-set-lt, drop-set-lt, set-append-left, length-take-le, set-getD}
+use lib.ListN.{length, getD, set, take, drop, length-set, length-append, List·getD-append}
+use lib.Seq.{
+  sets,
+  length-sets,
+  getD-take,
+  getD-set-other,
+  set-set,
+  take-set-lt,
+  drop-set-lt,
+  drop-drop,
+  drop-at,
+  set-append-left,
+  length-take-le,
+  set-getD,
+}
 use borrow.Rule.Slice.PartMut.{putMid, midOf, postOf, put-same}
 use Rattle.machine.specs.Sides.{Side, left, right, opposite, sideNumber}
 use Rattle.machine.specs.Values.{storedWords, encode}
-use Rattle.machine.specs.Table.{headerLength, nodeLength, nodeAt, hatAt, hat, linksLength}
+use Rattle.machine.specs.Tasks.{recordLength}
+use Rattle.machine.specs.Table.{
+  headerLength,
+  nodeLength,
+  nodeAt,
+  recordAt,
+  nodeCountAt,
+  nodeCount,
+  hatAt,
+  hat,
+  linksLength,
+  recordFrom,
+  recordWords,
+}
 use Rattle.machine.specs.Lines.{Write, out≔, inn≔, val≔, hat≔, writeOne, writeAll}
 use Rattle.machine.proofs.Words.EffectLaws.{InRange, AllInRange}
 use Rattle.hattrick.specs.Lent.{writeIn, writesIn, hatAfter}
@@ -61,6 +87,36 @@ module _ (a k : ℕ) (xs ys : List ℕ) (room : a ≤ length xs) where
   word-before-part i d h =
       List·getD-append (take a xs) (ys ++ postOf a k xs) d i (let q = length-take-le a xs room in omega arith)
       ∙ getD-take a xs i d h
+
+  pub after-part : length ys ≡ k → (j : ℕ) → drop (a + k + j) (putMid a k xs ys) ≡ drop (a + k + j) xs
+  after-part long j =
+      let front-long : length (take a xs ++ ys) ≡ a + k
+      = length-append (take a xs) ys ∙ (let q = length-take-le a xs room in omega arith) in
+      sym (drop-drop j (a + k) (putMid a k xs ys))
+      ∙ ap (λ (l : List ℕ). drop j (drop (a + k) l)) (sym (append-assoc (take a xs) ys (postOf a k xs)))
+      ∙ ap (drop j) (drop-at (take a xs ++ ys) (postOf a k xs) (a + k) front-long ∙ drop-drop k a xs)
+      ∙ drop-drop j (a + k) xs
+
+-- ---- A task's record, which stands after the header and the nodes.
+pub record-after-nodes :
+    (ws ns : List ℕ) (n k : ℕ)
+    → headerLength ≤ length ws
+    → n ≡ nodeLength * nodeCount ws
+    → length ns ≡ n
+    → recordWords (putMid headerLength n ws ns) k ≡ recordWords ws k
+record-after-nodes ws ns n k room e long =
+    let vs = putMid headerLength n ws ns in
+    ap (λ (S : ℕ). recordFrom vs (recordAt S k)) (word-before-part headerLength n ws ns room nodeCountAt 0 (omega arith))
+    ∙ ap (λ (m : ℕ). recordFrom vs (headerLength + m + recordLength * k)) (sym e)
+    ∙ ap (take recordLength) (after-part headerLength n ws ns room long (recordLength * k))
+    ∙ ap (λ (m : ℕ). recordFrom ws (headerLength + m + recordLength * k)) e
+
+pub record-after-hat :
+    (ws : List ℕ) (side h k : ℕ) → side < 2 → recordWords (set ws (hatAt left + side) h) k ≡ recordWords ws k
+record-after-hat ws side h k low =
+    let i = hatAt left + side in
+    ap (λ (S : ℕ). recordFrom (set ws i h) (recordAt S k)) (getD-set-other ws i nodeCountAt h 0 (λ e. omega arith))
+    ∙ ap (take recordLength) (drop-set-lt (recordAt (nodeCount ws) k) ws i h (omega arith))
 
 -- ---- A line's writes.
 abbrev Holds : (S : ℕ) → List ℕ → Type 0

@@ -1,6 +1,6 @@
 -- A tick in code, from the line's outcome to the words: what `ticking::make` relies on and comes to.
 use mathlib.Core.Path.{_≡_, refl, sym, ap, _∙_, subst}
-use mathlib.Core.Bool.{true, false}
+use mathlib.Core.Bool.{Bool, true, false}
 use mathlib.Core.List.{List}
 use mathlib.Core.Option.{none as nothing}
 use Prim.Native.Nat.{ℕ, _+_, _*_, _-_, _≤_, _<_}
@@ -37,13 +37,16 @@ use Rattle.machine.proofs.Words.EffectLaws.{effectWords}
 use Rattle.machine.proofs.Words.TickLaws.{fit-effect}
 use Rattle.machine.proofs.Shape.ShapeLaws.{WellSized, WellShaped, well-sized, well-shaped}
 use Rattle.machine.proofs.Shape.Fits.{Fits}
+use Rattle.machine.proofs.Linearizability.Model.Invariant.{noteOf}
 use Rattle.layout.specs.declared.tasks.Task as Tasks
-use Rattle.layout.specs.Coded.{structOf, recordOf, HoldsRecord}
-use Rattle.layout.proofs.Laws.Views.{nodesOf, nodes-part}
+use Rattle.layout.specs.Coded.{structOf, recordOf, codedTask, taskMeant, SameCall, HoldsRecord}
+use Rattle.layout.proofs.Laws.Views.{nodesOf, nodes-part, nodes-long}
 use Rattle.hattrick.specs.declared.ends.Done.{Done}
 use Rattle.hattrick.specs.Lent.{writesIn, hatAfter, Outcome, outcomeOf, effectIn, lineOf}
 use Rattle.figure.specs.Groups.{allSteps, ReadyIn}
-use Rattle.ticking.specs.Ticks.{MayTick, isRefused, effectWith, made, recorded, stored}
+use Rattle.ticking.specs.Ticks.{MayTick, isRefused, isGoing, GoesOn, effectWith, made, recorded, stored}
+use Rattle.ticking.proofs.Laws.Laid.{record-after-nodes}
+use Rattle.ticking.proofs.Laws.CallKept.{effect-keeps, coded-call, going-answer}
 use Rattle.ticking.proofs.Laws.TickReady.{meant-task, side-back, side-low, argument-fits, ready-task}
 use Rattle.ticking.proofs.Laws.TickWords.{line-is-effect, effect-fits, refused-words, made-words}
 
@@ -145,6 +148,21 @@ module _ (ws : List ℕ) (k f : ℕ) (M : MayTick ws k f) where
     own-side : s ≡ task ws k .side
     own-side = ap (λ (t : Task). t .side) (meant-task ws Z W k (M .is-task))
 
+    -- A task that goes on keeps its call.
+    same-call : isGoing (d .answer) ≡ true → SameCall K (d .task)
+    same-call g =
+        let going : E .answer ≡ Going = sym answer-is ∙ going-answer (d .answer) g in
+        let note = ap noteOf (meant-task ws Z W k (M .is-task)) ∙ sym (effect-keeps ws k f .kept going) in
+        subst (λ (u : Tasks.Task). SameCall u (d .task)) (line-ready .ready .canonical)
+        (subst (SameCall (codedTask (taskMeant K))) (sym (ap (λ (o : Outcome). o .done .task) out))
+        (coded-call (taskMeant K) (E .task) note))
+
+    pub keeps-call : length ns ≡ m → GoesOn (putMid headerLength m ws ns) k (isGoing (d .answer)) (d .task)
+    keeps-call long g =
+        subst (λ (r : List ℕ). SameCall (structOf r) (d .task))
+        (sym (record-after-nodes ws ns m k header-room all-nodes long))
+        (same-call g)
+
     pub refused-tick : isRefused (d .answer) ≡ true → tickedOf (d .answer) (putMid headerLength m ws ns) ≡ made ws k f
     refused-tick r =
         let a = refused-answer (d .answer) r in
@@ -212,6 +230,16 @@ module _ (ws : List ℕ) (k f : ℕ) (M : MayTick ws k f) where
 
       all-nodes-lent : end - headerLength ≡ nodeLength * nodeCount ws
       all-nodes-lent = omega arith
+
+      pub its-call :
+          {b : Bool}
+          → length ns ≡ length part
+          → b ≡ isGoing (d .answer)
+          → GoesOn (putMid headerLength (end - headerLength) ws ns) k b (d .task)
+      its-call kept e g =
+          keeps-call done-is all-nodes-lent
+          (kept ∙ ap length (nodes-part ws is-end) ∙ nodes-long ws (Z .sized) ∙ sym all-nodes-lent)
+          (sym e ∙ g)
 
       pub its-refusal :
           isRefused (d .answer) ≡ true

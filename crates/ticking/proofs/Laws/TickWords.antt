@@ -26,7 +26,7 @@ use Rattle.machine.proofs.Shape.LinesFit.{line-fits}
 use Rattle.machine.proofs.Shape.TickKeeps.{memory-fits, busy-facts}
 use Rattle.layout.specs.declared.tasks.Task as Tasks
 use Rattle.layout.specs.Coded.{structOf, taskMeant}
-use Rattle.hattrick.specs.Lent.{memoryIn, writesIn, hatAfter, effectIn, lineOf}
+use Rattle.hattrick.specs.Lent.{writesIn, hatAfter, effectIn, lineOf}
 use Rattle.ticking.specs.Ticks.{searchesAt31, effectWith}
 use Rattle.layout.proofs.Laws.Views.{nodesOf, nodes-long}
 use Rattle.ticking.proofs.Laws.Seen.{seen-in}

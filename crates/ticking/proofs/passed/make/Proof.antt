@@ -12,6 +12,7 @@ use Rattle.ticking.proofs.Laws.MadeTick.{
   its-side,
   its-argument,
   its-ready,
+  its-call,
   its-refusal,
   its-tick,
 }
@@ -109,9 +110,12 @@ returns c =
     (goal-in n .goal-of .ensures) (l .line .ensures)
     (sym (i .is-refusal .ensures) ∙ c .if1 .taken)
 
+is-going-requires : tie.Need-is-going-requires
+is-going-requires c κs = search needs
+
 store-requires : tie.Need-store-requires
 store-requires c κs =
-    let l = c .before .before .before .before .before .before in
+    let l = c .before .before .before .before .before .before .before in
     let n = l .before .before in
     let r = read-in n in
     let p = from r in
@@ -124,6 +128,8 @@ store-requires c κs =
     let count = word-before-part headerLength len t ns header nodeCountAt 0 (omega arith) in (
       its-side t (a .k) (a .taken) (p .pre) (r .task .result) (r .task .ensures) _ refl,
       omega (arith, record-room t (a .k) (a .taken) (p .pre), long, count),
+      its-call t (a .k) (a .taken) (p .pre) (r .task .result) (r .task .ensures) _ (n .node-at .ensures)
+          (goal-in n .goal-of .ensures) (l .line .ensures) (l .line .kept .0) (c .is-going .ensures),
     )
 
 same-length-2 : tie.Need-same-length-2
@@ -132,7 +138,7 @@ same-length-2 c = search needs
 returns-2 : tie.Need-returns-2
 returns-2 c =
     let w = c .before .before in
-    let e = w .before .before .before in
+    let e = w .before .before .before .before in
     let i = e .before in
     let l = i .before .before .before in
     let n = l .before .before in
@@ -163,6 +169,7 @@ make-spec =
     is-refusal-requires
     same-length
     returns
+    is-going-requires
     store-requires
     same-length-2
     returns-2)

@@ -1,8 +1,7 @@
--- `layout::tasks::Task::write` meets its contract.
-use native.Mathlib.Omega.{arith}
+-- `layout::tasks::Task::write` meets its contract: the words of the call, then the others.
+use mathlib.Core.Path.{_∙_}
 use lib.ListN.{length-set}
-use Rattle.layout.specs.Coded.{recordOf}
-use Rattle.layout.proofs.Laws.Fronts.{filled}
+use Rattle.layout.proofs.Laws.RecordWords.{call-written}
 use borrow.Author.Needs.{needs}
 use Rattle.layout.proofs.tasks.Task.write.Statement.{statement}
 use Rattle.layout.proofs.tasks.Task.write.Tie as tie
@@ -19,49 +18,16 @@ slice-write-words-3 c = search needs
 slice-write-words-4 : tie.Need-slice-write-words-4
 slice-write-words-4 c = search needs
 
-slice-write-words-5 : tie.Need-slice-write-words-5
-slice-write-words-5 c = simp length-set (omega arith)
-
-slice-write-words-6 : tie.Need-slice-write-words-6
-slice-write-words-6 c = simp length-set (omega arith)
-
-slice-write-words-7 : tie.Need-slice-write-words-7
-slice-write-words-7 c = simp length-set (omega arith)
-
-slice-write-words-8 : tie.Need-slice-write-words-8
-slice-write-words-8 c = simp length-set (omega arith)
-
-element-copy-out-words : tie.Need-element-copy-out-words
-element-copy-out-words c = search needs
-
-slice-write-words-9 : tie.Need-slice-write-words-9
-slice-write-words-9 c = simp length-set (omega arith)
-
-element-copy-out-words-2 : tie.Need-element-copy-out-words-2
-element-copy-out-words-2 c = search needs
-
-slice-write-words-10 : tie.Need-slice-write-words-10
-slice-write-words-10 c = simp length-set (omega arith)
-
-element-copy-out-words-3 : tie.Need-element-copy-out-words-3
-element-copy-out-words-3 c = search needs
-
-slice-write-words-11 : tie.Need-slice-write-words-11
-slice-write-words-11 c = simp length-set (omega arith)
-
-element-copy-out-words-4 : tie.Need-element-copy-out-words-4
-element-copy-out-words-4 c = search needs
-
-slice-write-words-12 : tie.Need-slice-write-words-12
-slice-write-words-12 c = simp length-set (omega arith)
+write-further-requires : tie.Need-write-further-requires
+write-further-requires c κs =
+    let p = c .before .before .before in
+    (simp length-set (p .pre), call-written (p .args .words .now) (p .pre) (p .args .self))
 
 same-length : tie.Need-same-length
-same-length c = simp length-set
+same-length c = c .before .before .write-further .kept .1 .0 ∙ simp length-set
 
 returns : tie.Need-returns
-returns c =
-    let a = c .before .before .before .before .before .before .args in
-    filled (a .words .now) (recordOf (a .t1)) (c .before .before .before .before .before .before .pre)
+returns c = search needs
 
 pub write-spec : {M : Type 1} → statement M
 write-spec =
@@ -71,17 +37,6 @@ write-spec =
     slice-write-words-2
     slice-write-words-3
     slice-write-words-4
-    slice-write-words-5
-    slice-write-words-6
-    slice-write-words-7
-    slice-write-words-8
-    element-copy-out-words
-    slice-write-words-9
-    element-copy-out-words-2
-    slice-write-words-10
-    element-copy-out-words-3
-    slice-write-words-11
-    element-copy-out-words-4
-    slice-write-words-12
+    write-further-requires
     same-length
     returns)
