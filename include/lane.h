@@ -33,7 +33,7 @@
  * on one table comes one call after another: the library has no lock and no atomic access. Tag lists need no table, and
  * their calls may be made at any time, each with an out slice of its own.
  *
- * FOOTPRINT. For x86-64 only. Under 10 kB of code and constants, no data, no heap; of stack about 5.5 kB in lane_tick,
+ * FOOTPRINT. For x86-64 only. Under 11 kB of code and constants, no data, no heap; of stack about 5.5 kB in lane_tick,
  * lane_dispatch, lane_run and lane_panel, at most about 0.5 kB in the others; nothing from outside but memset (`make
  * footprint` measures it).
  *
@@ -205,9 +205,9 @@ uint64_t lane_tick(uint32_t *table, size_t words, uint32_t task, uint32_t hint);
  * one itself comes last. After lane_start the first dispatch looks from task 0 on. lane_tick, lane_run and lane_panel
  * leave the turn as it is. A busy task gets its tick within as many dispatches as there are tasks, provided that none
  * of them is refused and that neither another tick of it nor lane_start ends its call first.
- * Returns LANE_IDLE times 2^40 if every task is idle; otherwise what lane_tick returns for that task, the refusals being
- * 3, 4, 9, 11. The first three are tested before the choice, so LANE_IDLE comes after them. Writes what that tick
- * writes, and table[LANE_DISPATCHED], the task; LANE_IDLE writes nothing.
+ * Returns what lane_tick returns for that task, the refusals being 3, 4, 9, 11; or LANE_IDLE times 2^40, if every task
+ * is idle and none of 3, 4 and 9 is given, which are tested before the choice. Writes what that tick writes, and the
+ * task in table[LANE_DISPATCHED]; with LANE_IDLE or LANE_REFUSED nothing.
  *
  * ```c
  * #include "lane.h"
