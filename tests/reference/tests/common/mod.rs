@@ -1,5 +1,5 @@
 //! What several tests share: a generator of numbers, mirrors, random tables, the plain row, calls made to their
-//! answers, and which nodes are free.
+//! answers, which nodes are free, and whose turn it is.
 
 #![allow(dead_code)]
 
