@@ -1,33 +1,35 @@
--- A tick in code: where it searches for a node, what it comes to, and what it stores.
+-- A tick in code: the node it takes, and what it stores.
 use mathlib.Core.Path.{_≡_}
-use mathlib.Core.Bool.{Bool, true, false, not, _&&_}
-use mathlib.Core.Logic.{_≢_}
+use mathlib.Core.Bool.{Bool, true, false}
 use mathlib.Core.List.{List}
 use Prim.Native.Nat.{ℕ, _+_, _<_}
-use lib.Dec.{eqb}
 use lib.ListN.{getD, set}
 use lib.Seq.{sets}
 use Rattle.machine.specs.declared.Answer.{Answer}
 use Rattle.machine.specs.declared.Answer.the-variants.{Going, Pushed, Bag, Empty, Full, Yes, No, Refused}
-use Rattle.machine.specs.Sides.{left, opposite}
-use Rattle.machine.specs.Tasks.{none, goal}
-use Rattle.machine.specs.Table.{nodeCount, taskCount, growth, hatAt, recordAt, recordWords, task}
+use Rattle.machine.specs.Sides.{left}
+use Rattle.machine.specs.Choice.{_≟_, if_then_else_}
+use Rattle.machine.specs.Tasks.{none}
+use Rattle.machine.specs.Table.{nodeCount, taskCount, hatAt, recordAt, recordWords, task}
 use Rattle.machine.specs.Shape.{WellFormed}
-use Rattle.machine.specs.Lines.{Effect, seen, act}
-use Rattle.machine.specs.Calls.{isBusy, Ticked, applied, tickCounted}
+use Rattle.machine.specs.Calls.{isBusy, Ticked, effectOf, applied, tickCounted}
 use Rattle.layout.specs.declared.tasks.Task as Tasks
 use Rattle.layout.specs.Coded.{structOf, recordOf, SameCall}
 
--- Whether a task stands at 31 and searches for a free node there. (01: at step 31 the test of D precedes the search.)
-abbrev pub searchesAt31 : Tasks.Task → Bool
-searchesAt31 t = eqb (t .step) 31 && not (eqb (getD (t .registers) 3 0) none)
-
--- A tick that has passed the tests before refusal 11, and whose line is given the node f, or none.
-pub record MayTick (ws : List ℕ) (k f : ℕ) : Type 0 where
+-- A tick that has passed the tests before refusal 11.
+pub record MayTick (ws : List ℕ) (k hint : ℕ) : Type 0 where
   pub table : WellFormed ws
   pub is-task : k < taskCount ws
+  pub is-hint : hint < nodeCount ws
   pub busy : isBusy (task ws k .operation) ≡ true
-  pub given-node : f ≢ none → f < nodeCount ws
+
+-- The node that a line is given: 28 and 31 search for one, 31 after its test of D. (01: at step 31 this test precedes the
+-- search.)
+abbrev pub taken : Tasks.Task → (f : ℕ) → ℕ
+taken t f =
+    if t .step ≟ 28 then f else
+    if t .step ≟ 31 then (if getD (t .registers) 3 0 ≟ none then none else f) else
+    none
 
 -- Whether an answer is a refusal.
 abbrev pub isRefused : Answer → Bool
@@ -55,15 +57,9 @@ isGoing (Refused n) = false
 abbrev pub GoesOn : List ℕ → (k : ℕ) → (going : Bool) → (next : Tasks.Task) → Type 0
 GoesOn ws k going t = going ≡ true → SameCall (structOf (recordWords ws k)) t
 
--- The effect of the line at which a task stands, given a node; given the one that a search finds, it is `effectOf`.
-unfoldable pub effectWith : List ℕ → (k f : ℕ) → Effect
-effectWith ws k f =
-    let t = task ws k in
-    act (t .step) (t .side) (opposite (t .side)) (seen (t .side) ws) t (goal (growth ws) t) f
-
 -- What a tick of a busy task comes to.
-abbrev pub made : List ℕ → (k f : ℕ) → Ticked
-made ws k f = applied (task ws k .side) ws k (effectWith ws k f)
+abbrev pub made : List ℕ → (k hint : ℕ) → Ticked
+made ws k h = applied (task ws k .side) ws k (effectOf ws k h)
 
 -- A record in its place.
 abbrev pub recorded : List ℕ → (k : ℕ) → Tasks.Task → List ℕ

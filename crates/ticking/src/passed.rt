@@ -15,27 +15,32 @@ use machine::Answer;
 use std::num::wrapping_add_u32;
 ghost use mathlib.Core.Path.{_≡_};
 ghost use Prim.Native.Nat.{_<_};
+ghost use Rattle.machine.specs.Table.{nodeCount, recordWords};
+ghost use Rattle.machine.specs.Allocate.{allocate};
 ghost use Rattle.machine.specs.Shape.{WellFormed};
 ghost use Rattle.machine.specs.Calls.{tickOn};
-ghost use Rattle.layout.specs.Coded.{HoldsRecord};
+ghost use Rattle.layout.specs.Coded.{structOf, HoldsRecord};
 ghost use Rattle.machine.specs.Results.{tickedOf};
-ghost use Rattle.ticking.specs.Ticks.{
-  searchesAt31,
-  MayTick,
-  isRefused,
-  isGoing,
-  GoesOn,
-  made,
-  recorded,
-  stored,
-};
+ghost use Rattle.ticking.specs.Ticks.{MayTick, taken, isRefused, isGoing, GoesOn, made, recorded, stored};
 
-// Whether a task stands at 31 and searches there: where D is none, 31 is refused and does not search.
-fn searches_at_31(t: Task) -> bool
-    ensures { λ r. ⌜ r ≡ searchesAt31 t ⌝ }
+// The node that a tick at 28 or 31 takes, or none; the other lines take none. 31 is refused where D is none, and does not
+// search then.
+fn found(table: &[u32], old: Task, hint: u32) -> u32
+    requires { ⌜ WellFormed (now table) × (hint < nodeCount (now table)) ⌝ }
+    ensures { λ r. ⌜ r ≡ taken old (allocate (now (table .entry)) hint) ⌝ }
 {
-    let d = t.registers[Task::D];
-    t.step == 31 && d != Task::NONE
+    let step = old.step;
+    let d = old.registers[Task::D];
+    match step {
+        28 => first_free(table, hint as usize),
+        31 => {
+            if d == Task::NONE {
+                return Task::NONE;
+            }
+            first_free(table, hint as usize)
+        }
+        _ => Task::NONE,
+    }
 }
 
 // Whether a line was refused.
@@ -92,15 +97,16 @@ fn store(table: &mut [u32], side: u32, hat: u32, task: u32, next: Task, going: b
     table[TICK_COUNT] = wrapping_add_u32(table[TICK_COUNT], 1);
 }
 
-// The tick of the busy task k, whose line is given the node `taken`, or none.
-fn make(table: &mut [u32], k: u32, taken: u32) -> Answer
-    requires { ⌜ MayTick (now table) k taken ⌝ }
-    ensures { λ r. ⌜ tickedOf r (now (table .exit)) ≡ made (now (table .entry)) k taken ⌝ }
+// The tick of the busy task k, whose record is given.
+fn make(table: &mut [u32], k: u32, old: Task, hint: u32) -> Answer
+    requires { ⌜ MayTick (now table) k hint ⌝ }
+    requires { ⌜ old ≡ structOf (recordWords (now table) k) ⌝ }
+    ensures { λ r. ⌜ tickedOf r (now (table .exit)) ≡ made (now (table .entry)) k hint ⌝ }
 {
-    let old = table::task(table, k);
     let side = old.side;
     let argument = old.argument;
     let goal = goal_of(old.operation, table[GROWTH], argument);
+    let taken = found(table, old, hint);
     let hat = table[LEFT_HAT + side as usize];
     let end = node_at(table[NODE_COUNT]);
     let done = line(&mut table[HEADER..end], hat, old, goal, taken);
@@ -113,9 +119,7 @@ fn make(table: &mut [u32], k: u32, taken: u32) -> Answer
     answer
 }
 
-// 01: checks 5, 9, 10, 11. Only 28 and 31 search for a free node. They do it before the tick proper, which reads the
-// record itself: so the compiler keeps the record in the processor. Search and tick stand in several places, so that it
-// merges neither into this function: the search's arrays would be in the frame of every tick.
+// 01: checks 5, 9, 10, 11.
 pub fn tick_on(table: &mut [u32], task: u32, hint: u32) -> Answer
     requires { ⌜ WellFormed (now table) ⌝ }
     ensures { λ r. ⌜ tickedOf r (now (table .exit)) ≡ tickOn (now (table .entry)) task hint ⌝ }
@@ -130,13 +134,5 @@ pub fn tick_on(table: &mut [u32], task: u32, hint: u32) -> Answer
     if old.operation == Task::IDLE {
         return Answer::Refused(10);
     }
-    if old.step == 28 {
-        let taken = first_free(table, hint as usize);
-        return make(table, task, taken);
-    }
-    if searches_at_31(old) {
-        let taken = first_free(table, hint as usize);
-        return make(table, task, taken);
-    }
-    make(table, task, Task::NONE)
+    make(table, task, old, hint)
 }

@@ -15,12 +15,14 @@ use Rattle.machine.specs.Steps as Steps
 use Rattle.machine.specs.Tasks.{Task, none, goal}
 use Rattle.machine.specs.Table.{growth, task}
 use Rattle.machine.specs.Lines.{Memory, seen, Write, Effect, through, noNode, spliced, act}
+use Rattle.machine.specs.Allocate.{allocate}
+use Rattle.machine.specs.Calls.{effectOf}
 use Rattle.machine.specs.Row.{Note}
 use Rattle.machine.proofs.Basics.Contradiction.{clash}
 use Rattle.machine.proofs.Linearizability.Model.Invariant.{noteOf}
 use Rattle.machine.proofs.Linearizability.Lines.Connectives.{ok-if, ok-through, ok-dcas}
 use Rattle.layout.specs.Coded.{codedTask, SameCall}
-use Rattle.ticking.specs.Ticks.{isGoing, effectWith}
+use Rattle.ticking.specs.Ticks.{isGoing}
 
 pub record KeepsCall (t : Task) (e : Effect) : Type 0 where
   pub kept : e .answer ≡ Going → noteOf (e .task) ≡ noteOf t
@@ -86,11 +88,11 @@ module _ (s o : Side) (m : Memory) (t : Task) (g f : ℕ) where
   call-kept Steps.line81 = past (λ _. keeps (λ _. refl))
   call-kept Steps.line82 = past (λ _. keeps (λ q. clash (cc)))
 
-pub effect-keeps : (ws : List ℕ) (k f : ℕ) → KeepsCall (task ws k) (effectWith ws k f)
-unfolding effectWith
-effect-keeps ws k f =
+pub effect-keeps : (ws : List ℕ) (k hint : ℕ) → KeepsCall (task ws k) (effectOf ws k hint)
+unfolding effectOf
+effect-keeps ws k hint =
     let t = task ws k in
-    call-kept (t .side) (opposite (t .side)) (seen (t .side) ws) t (goal (growth ws) t) f (t .step)
+    call-kept (t .side) (opposite (t .side)) (seen (t .side) ws) t (goal (growth ws) t) (allocate ws hint) (t .step)
 
 -- In code.
 pub coded-call : (t u : Task) → noteOf t ≡ noteOf u → SameCall (codedTask t) (codedTask u)

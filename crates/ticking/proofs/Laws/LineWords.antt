@@ -1,21 +1,19 @@
--- A tick that does not search makes the line of the definitions all the same: such a line looks at no node found.
+-- The line that a tick makes in code is the line of the definitions: what it is given, and what it does to the words.
 use mathlib.Core.Path.{_≡_, refl, _∙_}
-use mathlib.Core.Bool.{true, false}
-use mathlib.Core.Logic.{_≢_}
-use Prim.Native.Nat.{ℕ}
+use mathlib.Core.Logic.{_≢_, _⊎_, inl, inr}
+use Prim.Native.Nat.{ℕ, _<_}
+use native.Mathlib.Omega.{arith}
 use lib.ListN.{getD}
-use borrow.Author.Tests.{eq-eqb, ne-eqb}
 use Rattle.machine.specs.Sides.{Side}
 use Rattle.machine.specs.Steps.{Step, rest, stepNumber}
 use Rattle.machine.specs.Steps as Steps
 use Rattle.machine.specs.Choice.{_≟_}
 use Rattle.machine.specs.Tasks.{Task, none}
 use Rattle.machine.specs.Lines.{Memory, act}
-use Rattle.machine.proofs.Basics.Contradiction.{clash}
-use Rattle.machine.proofs.Basics.Choices.{equal}
+use Rattle.machine.proofs.Basics.Choices.{equal, by-if}
 use Rattle.layout.specs.declared.tasks.Task as Tasks
 use Rattle.layout.specs.Coded.{taskMeant}
-use Rattle.ticking.specs.Ticks.{searchesAt31}
+use Rattle.ticking.specs.Ticks.{taken}
 
 -- Only 28 and 31 look at the node found, and 31 only where D is not none.
 module _ (s o : Side) (m : Memory) (t : Task) (g f f′ : ℕ) where
@@ -60,23 +58,41 @@ module _ (s o : Side) (m : Memory) (t : Task) (g f f′ : ℕ) where
   found-unseen Steps.line81 a b = refl
   found-unseen Steps.line82 a b = refl
 
--- The same of a record, by the tests that the code makes.
-module _ (t : Tasks.Task) (not-28 : t .step ≢ 28) (not-31 : searchesAt31 t ≡ false) where
-  abbrev d : ℕ
-  d = getD (t .registers) 3 0
+module _ (t : Tasks.Task) (f : ℕ) where
+  abbrev Searches : Type 0
+  Searches = (t .step ≡ 28) ⊎ ((t .step ≡ 31) × (getD (t .registers) 3 0 ≢ none))
 
-  no-chain : t .step ≡ 31 → d ≡ none
-  no-chain e =
-      by-dec (d ≟ none) (λ n.
-      let h : searchesAt31 t ≡ true = rw (eq-eqb (t .step) 31 e, ne-eqb d none n) in clash (cc (h, not-31)))
-    where
-      by-dec : (q : Dec (d ≡ none)) → (d ≢ none → d ≡ none) → d ≡ none
-      by-dec (yes n) f = n
-      by-dec (no n) f = f n
+  -- What holds of the node found and of none, where none is given, holds of what is given.
+  by-taken :
+      (P : ℕ → Type 0)
+      → (Searches → P f)
+      → (t .step ≢ 28 → (t .step ≡ 31 → getD (t .registers) 3 0 ≡ none) → P none)
+      → P (taken t f)
+  by-taken P given kept =
+      by-if P (t .step ≟ 28) (λ a. given (inl a)) (λ a.
+      by-if P (t .step ≟ 31)
+      (λ b. by-if P (getD (t .registers) 3 0 ≟ none) (λ c. kept a (λ _. c)) (λ c. given (inr (b, c))))
+      (λ b. kept a (λ q. absurd (b q))))
 
-  pub unsearched :
-      (s o : Side) (m : Memory) (g f f′ : ℕ) (st : Step)
+  pub taken-enough :
+      (s o : Side) (m : Memory) (g : ℕ) (st : Step)
       → t .step ≡ stepNumber st
-      → act st s o m (taskMeant t) g f ≡ act st s o m (taskMeant t) g f′
-  unsearched s o m g f f′ st e =
-      found-unseen s o m (taskMeant t) g f f′ st (λ q. not-28 (e ∙ q)) (λ q. no-chain (e ∙ q))
+      → act st s o m (taskMeant t) g (taken t f) ≡ act st s o m (taskMeant t) g f
+  taken-enough s o m g st e =
+      by-taken (λ x. act st s o m (taskMeant t) g x ≡ act st s o m (taskMeant t) g f) (λ _. refl) (λ a b.
+      found-unseen s o m (taskMeant t) g none f st (λ q. a (e ∙ q)) (λ q. b (e ∙ q)))
+
+  pub taken-node : (S : ℕ) → (f ≢ none → f < S) → taken t f ≢ none → taken t f < S
+  taken-node S h = by-taken (λ x. x ≢ none → x < S) (λ _. h) (λ a b n. absurd (n refl))
+
+  -- Where a node is taken, and where none is.
+  pub taken-at : Searches → f ≡ taken t f
+  taken-at h =
+      by-taken (λ x. f ≡ x) (λ _. refl) (λ a b. elim h [ inl e ↦ absurd (a e) | inr e ↦ absurd (e .1 (b (e .0))) ])
+
+  pub taken-nowhere : t .step ≢ 28 → (t .step ≡ 31 → getD (t .registers) 3 0 ≡ none) → none ≡ taken t f
+  taken-nowhere a b =
+      by-taken (λ x. none ≡ x) (λ h. elim h [ inl e ↦ absurd (a e) | inr e ↦ absurd (e .1 (b (e .0))) ]) (λ _ _. refl)
+
+  pub taken-refused : t .step ≡ 31 → getD (t .registers) 3 0 ≡ none → none ≡ taken t f
+  taken-refused e d = taken-nowhere (λ q. omega arith) (λ _. d)

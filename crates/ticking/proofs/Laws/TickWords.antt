@@ -1,7 +1,6 @@
 -- The words that a tick in code leaves are the definition's.
-use mathlib.Core.Path.{_≡_, refl, sym, ap, _∙_, subst}
-use mathlib.Core.Bool.{true, false}
-use mathlib.Core.Logic.{_≢_}
+use mathlib.Core.Path.{_≡_, refl, sym, ap, _∙_}
+use mathlib.Core.Bool.{true}
 use mathlib.Core.List.{List, []}
 use Prim.Native.Nat.{ℕ, _*_, _≤_, _<_}
 use native.Mathlib.Omega.{arith}
@@ -10,7 +9,7 @@ use borrow.Rule.Slice.PartMut.{putMid, put-same}
 use Rattle.machine.specs.declared.Answer.the-variants.{Refused}
 use Rattle.machine.specs.Sides.{Side, left, right, opposite, sideOf}
 use Rattle.machine.specs.Steps.{stepOf}
-use Rattle.machine.specs.Tasks.{Task, none, goal}
+use Rattle.machine.specs.Tasks.{Task, goal}
 use Rattle.machine.specs.Table.{headerLength, nodeLength, nodeCount, taskCount, growth, hatAt, hat, recordWords, task}
 use Rattle.machine.specs.Allocate.{allocate}
 use Rattle.machine.specs.Lines.{Memory, Effect, seen, writeAll, act}
@@ -22,16 +21,14 @@ use Rattle.machine.proofs.Words.Columns.{sizesOf, columns}
 use Rattle.machine.proofs.Words.EffectLaws.{AllInRange}
 use Rattle.machine.proofs.Shape.ShapeLaws.{WellSized, WellShaped}
 use Rattle.machine.proofs.Shape.Fits.{answer-made, Fits, turns-back, goes-on, ends}
-use Rattle.machine.proofs.Shape.LinesFit.{line-fits}
-use Rattle.machine.proofs.Shape.TickKeeps.{memory-fits, busy-facts}
 use Rattle.layout.specs.declared.tasks.Task as Tasks
 use Rattle.layout.specs.Coded.{structOf, taskMeant}
-use Rattle.hattrick.specs.Lent.{writesIn, hatAfter, effectIn, lineOf}
-use Rattle.ticking.specs.Ticks.{searchesAt31, effectWith}
+use Rattle.hattrick.specs.Lent.{memoryIn, writesIn, hatAfter, effectIn, lineOf}
+use Rattle.ticking.specs.Ticks.{taken}
 use Rattle.layout.proofs.Laws.Views.{nodesOf, nodes-long}
 use Rattle.ticking.proofs.Laws.Seen.{seen-in}
 use Rattle.ticking.proofs.Laws.Laid.{lay, writes-laid, laid-itself, set-before-part}
-use Rattle.ticking.proofs.Laws.LineWords.{unsearched}
+use Rattle.ticking.proofs.Laws.LineWords.{taken-enough}
 use Rattle.ticking.proofs.Laws.TickReady.{meant-task, step-back}
 
 module _ (ws : List ℕ) (Z : WellSized (sizesOf ws)) (W : WellShaped (columns ws)) (k : ℕ)
@@ -44,45 +41,26 @@ module _ (ws : List ℕ) (Z : WellSized (sizesOf ws)) (W : WellShaped (columns w
 
   -- The line that the code makes, over the lent part, is the effect of the definitions, over the table.
   pub line-is-effect :
-      (g f : ℕ)
+      (h g : ℕ)
+      → isBusy (task ws k .operation) ≡ true
       → g ≡ goal (growth ws) (task ws k)
-      → lineOf (stepOf (t .step)) (nodesOf ws) (hat ws s) t g f ≡ effectIn s (nodesOf ws) (hat ws s) (effectWith ws k f)
-  unfolding lineOf effectWith
-  line-is-effect g f e =
+      → lineOf (stepOf (t .step)) (nodesOf ws) (hat ws s) t g (taken t (allocate ws h))
+      ≡ effectIn s (nodesOf ws) (hat ws s) (effectOf ws k h)
+  unfolding lineOf effectOf
+  line-is-effect h g busy e =
       let τ = taskMeant t in
+      let f = allocate ws h in
       let st = stepOf (t .step) in
       let meant = meant-task ws Z W k is-task in
       ap (effectIn s (nodesOf ws) (hat ws s))
-      (ap (λ (m : Memory). act st s (opposite s) m τ g f) (sym (seen-in ws (Z .sized) s))
+      (taken-enough t f s (opposite s) (memoryIn s (nodesOf ws) (hat ws s)) g st
+      (sym (step-back ws Z W k is-task busy))
+      ∙ ap (λ (m : Memory). act st s (opposite s) m τ g f) (sym (seen-in ws (Z .sized) s))
       ∙ ap (λ (n : ℕ). act st s (opposite s) (seen s ws) τ n f) (e ∙ ap (goal (growth ws)) (sym meant))
       ∙ ap
       (λ (u : Task).
       act (u .step) (u .side) (opposite (u .side)) (seen (u .side) ws) u (goal (growth ws) u) f)
       meant)
-
-  module _ (busy : isBusy (task ws k .operation) ≡ true) where
-    -- Given none where it does not search, the line does what the definition's does; and given the node found.
-    pub effect-none : (h : ℕ) → t .step ≢ 28 → searchesAt31 t ≡ false → effectWith ws k none ≡ effectOf ws k h
-    unfolding effectWith effectOf
-    effect-none h a b =
-        subst
-        (λ (u : Task).
-        act (u .step) (u .side) (opposite (u .side)) (seen (u .side) ws) u (goal (growth ws) u) none
-        ≡ act (u .step) (u .side) (opposite (u .side)) (seen (u .side) ws) u (goal (growth ws) u) (allocate ws h))
-        (meant-task ws Z W k is-task)
-        (unsearched t a b s (opposite s) (seen s ws) (goal (growth ws) (taskMeant t)) none (allocate ws h) (stepOf (t .step))
-        (sym (step-back ws Z W k is-task busy)))
-
-    pub effect-fits : {f : ℕ} → (f ≢ none → f < nodeCount ws) → Fits (nodeCount ws) (growth ws) (effectWith ws k f)
-    unfolding effectWith
-    effect-fits {f} is-node =
-        let τ = task ws k in
-        line-fits (nodeCount ws) (growth ws) (seen (τ .side) ws) (memory-fits ws W (τ .side)) τ f is-node (τ .step)
-        (busy-facts ws W k busy)
-
-pub effect-found : (ws : List ℕ) (k h : ℕ) → effectWith ws k (allocate ws h) ≡ effectOf ws k h
-unfolding effectWith effectOf
-effect-found ws k h = refl
 
 -- ---- Refused, the words stay; made, they are the effect's.
 none-written : {S g n : ℕ} {e : Effect} → Fits S g e → e .answer ≡ Refused n → e .writes ≡ []

@@ -20,26 +20,19 @@ use borrow.Author.Needs.{needs}
 use Rattle.ticking.proofs.passed.make.Statement.{statement}
 use Rattle.ticking.proofs.passed.make.Tie as tie
 
-task-requires : tie.Need-task-requires
-task-requires c κs =
-    let p = c .before .before in
-    record-room (p .args .table .now) (p .args .k) (p .args .taken) (p .pre)
-
--- Where the tick began, from where the record is read.
-abbrev from : tie.After-task → tie.Start
-from c = c .before .before .before
-
 slice-read-goal-of : tie.Need-slice-read-goal-of
 slice-read-goal-of c =
-    let p = from (c .before .before) in
-    omega (arith, header-room (p .args .table .now) (p .args .k) (p .args .taken) (p .pre))
+    let p = c .before .before .before in
+    omega (arith, header-room (p .args .table .now) (p .args .k) (p .args .hint) (p .pre .0))
 
 goal-of-requires : tie.Need-goal-of-requires
 goal-of-requires c κs =
-    let r = c .before .before in
-    let p = from r in
+    let p = c .before .before .before in
     let a = p .args in
-    its-argument (a .table .now) (a .k) (a .taken) (p .pre) (r .task .result) (r .task .ensures) _ refl
+    its-argument (a .table .now) (a .k) (a .hint) (p .pre .0) (a .old) (p .pre .1) _ refl
+
+found-requires : tie.Need-found-requires
+found-requires c κs = let h = c .before .before .before .before .before .pre .0 in (h .table, h .is-hint)
 
 cast-hat : tie.Need-cast-hat
 cast-hat c = search needs
@@ -50,18 +43,24 @@ add-hat c = search needs
 mul-hat : tie.Need-mul-hat
 mul-hat c = search needs
 
+-- Where the tick began, from where the end of the nodes is known; and what the line is given.
+abbrev start-of : tie.After-node-at → tie.Start
+start-of c = c .before .before .before .before .before .before .before .before .before
+
+abbrev found-in : tie.After-node-at → tie.After-found
+found-in c = c .before .before .before
+
 slice-read-hat : tie.Need-slice-read-hat
 slice-read-hat c =
-    let r = c .before .before .before .before in
-    let p = from r in
+    let p = c .before .before .before .before .before .before .before in
     let a = p .args in
-    let side = its-side (a .table .now) (a .k) (a .taken) (p .pre) (r .task .result) (r .task .ensures) _ refl in
-    omega (arith, header-room (a .table .now) (a .k) (a .taken) (p .pre), side)
+    let side = its-side (a .table .now) (a .k) (a .hint) (p .pre .0) (a .old) (p .pre .1) _ refl in
+    omega (arith, header-room (a .table .now) (a .k) (a .hint) (p .pre .0), side)
 
 slice-read-node-at : tie.Need-slice-read-node-at
 slice-read-node-at c =
-    let p = from (c .before .before .before .before .before) in
-    omega (arith, header-room (p .args .table .now) (p .args .k) (p .args .taken) (p .pre))
+    let p = c .before .before .before .before .before .before .before .before in
+    omega (arith, header-room (p .args .table .now) (p .args .k) (p .args .hint) (p .pre .0))
 
 node-at-requires : tie.Need-node-at-requires
 node-at-requires c κs = search needs
@@ -72,25 +71,18 @@ sub-line c = omega (arith, c .node-at .ensures)
 part-line-start : tie.Need-part-line-start
 part-line-start c = omega (arith, c .node-at .ensures)
 
--- What was read and computed before the line.
-abbrev goal-in : tie.After-node-at → tie.After-goal-of
-goal-in c = c .before .before .before
-
-abbrev read-in : tie.After-node-at → tie.After-task
-read-in c = c .before .before .before .before .before .before
-
 part-line-end : tie.Need-part-line-end
 part-line-end c =
-    let p = from (read-in c) in
-    omega (arith, c .node-at .ensures, nodes-room (p .args .table .now) (p .args .k) (p .args .taken) (p .pre))
+    let p = start-of c in
+    omega (arith, c .node-at .ensures, nodes-room (p .args .table .now) (p .args .k) (p .args .hint) (p .pre .0))
 
 line-requires : tie.Need-line-requires
 line-requires c κs =
     let n = c .before in
-    let r = read-in n in
-    let p = from r in
+    let p = start-of n in
     let a = p .args in
-    its-ready (a .table .now) (a .k) (a .taken) (p .pre) (r .task .result) (r .task .ensures) _ (n .node-at .ensures)
+    its-ready (a .table .now) (a .k) (a .hint) (p .pre .0) (a .old) (p .pre .1) _ (n .node-at .ensures)
+    (found-in n .found .ensures)
 
 is-refusal-requires : tie.Need-is-refusal-requires
 is-refusal-requires c κs = search needs
@@ -103,11 +95,11 @@ returns c =
     let i = c .before in
     let l = i .before .before .before in
     let n = l .before .before in
-    let r = read-in n in
-    let p = from r in
+    let f = found-in n in
+    let p = start-of n in
     let a = p .args in
-    its-refusal (a .table .now) (a .k) (a .taken) (p .pre) (r .task .result) (r .task .ensures) _ (n .node-at .ensures)
-    (goal-in n .goal-of .ensures) (l .line .ensures)
+    its-refusal (a .table .now) (a .k) (a .hint) (p .pre .0) (a .old) (p .pre .1) _ (n .node-at .ensures)
+    (f .before .before .goal-of .ensures) (f .found .ensures) (l .line .ensures)
     (sym (i .is-refusal .ensures) ∙ c .if1 .taken)
 
 is-going-requires : tie.Need-is-going-requires
@@ -117,19 +109,20 @@ store-requires : tie.Need-store-requires
 store-requires c κs =
     let l = c .before .before .before .before .before .before .before in
     let n = l .before .before in
-    let r = read-in n in
-    let p = from r in
+    let f = found-in n in
+    let p = start-of n in
     let a = p .args in
     let t = a .table .now in
     let len = n .node-at .result - headerLength in
     let ns = l .line .last .0 in
     let long = same-len-mid headerLength len t ns (l .line .kept .0) in
-    let header = header-room t (a .k) (a .taken) (p .pre) in
+    let header = header-room t (a .k) (a .hint) (p .pre .0) in
     let count = word-before-part headerLength len t ns header nodeCountAt 0 (omega arith) in (
-      its-side t (a .k) (a .taken) (p .pre) (r .task .result) (r .task .ensures) _ refl,
-      omega (arith, record-room t (a .k) (a .taken) (p .pre), long, count),
-      its-call t (a .k) (a .taken) (p .pre) (r .task .result) (r .task .ensures) _ (n .node-at .ensures)
-          (goal-in n .goal-of .ensures) (l .line .ensures) (l .line .kept .0) (c .is-going .ensures),
+      its-side t (a .k) (a .hint) (p .pre .0) (a .old) (p .pre .1) _ refl,
+      omega (arith, record-room t (a .k) (a .hint) (p .pre .0), long, count),
+      its-call t (a .k) (a .hint) (p .pre .0) (a .old) (p .pre .1) _ (n .node-at .ensures)
+          (f .before .before .goal-of .ensures) (f .found .ensures) (l .line .ensures) (l .line .kept .0)
+          (c .is-going .ensures),
     )
 
 same-length-2 : tie.Need-same-length-2
@@ -142,20 +135,20 @@ returns-2 c =
     let i = e .before in
     let l = i .before .before .before in
     let n = l .before .before in
-    let r = read-in n in
-    let p = from r in
+    let f = found-in n in
+    let p = start-of n in
     let a = p .args in
-    its-tick (a .table .now) (a .k) (a .taken) (p .pre) (r .task .result) (r .task .ensures) _ (n .node-at .ensures)
-    (goal-in n .goal-of .ensures) (l .line .ensures)
+    its-tick (a .table .now) (a .k) (a .hint) (p .pre .0) (a .old) (p .pre .1) _ (n .node-at .ensures)
+    (f .before .before .goal-of .ensures) (f .found .ensures) (l .line .ensures)
     (sym (i .is-refusal .ensures) ∙ e .if1 .left) (w .store .ensures)
 
 pub make-spec : {M : Type 1} → statement M
 make-spec =
     tie.close
     (tie.spec
-    task-requires
     slice-read-goal-of
     goal-of-requires
+    found-requires
     cast-hat
     add-hat
     mul-hat
