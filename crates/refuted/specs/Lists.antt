@@ -58,6 +58,7 @@ use Rattle.refuted.specs.Wrong.{
   takesDigitTen,
   runTurnsWords,
   dispatchesFromZero,
+  skipsNone,
   asksLastFirst,
   asksOthersAlone,
   tickIsDispatched,
@@ -573,6 +574,15 @@ entries =
       calls = begins 0 pop right 0 ++ begins 1 push right 51 ++ dispatchesOf 4 0;
       row-says = not-the-row's-answer 6;
       definitions-say = other-table 4;
+    }
+    -- Task 0 is the next by number, and idle.
+    ∷ record {
+      wrong = skipsNone;
+      S = 4;
+      T = 2;
+      calls = begins 1 pop right 0 ++ dispatchesOf 1 0;
+      row-says = passes;
+      definitions-say = other-answer 2;
     }
     -- Task 1's pop was dispatched, and a push of task 0 is due.
     ∷ record {

@@ -660,6 +660,10 @@ busyFrom m k ws = firstFrom (taskCount ws) (isBusyTask ws) m k
 abbrev pub dispatchesFromZero : Machine
 dispatchesFromZero = choosing (λ ws. busyFrom (taskCount ws) 0 ws)
 
+-- No task is skipped: the next one by number is ticked, busy or not.
+abbrev pub skipsNone : Machine
+skipsNone = choosing (λ ws. some (following (taskCount ws) (dispatched ws)))
+
 -- The task last dispatched is asked first.
 abbrev pub asksLastFirst : Machine
 asksLastFirst = choosing (λ ws. busyFrom (taskCount ws) (dispatched ws) ws)
