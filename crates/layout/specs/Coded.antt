@@ -124,7 +124,7 @@ withValueRead t v = furtherOn t (t .step) (t .counted) v (t .registers)
 abbrev pub withCount : Tasks.Task → ℕ → Tasks.Task
 withCount t n = furtherOn t (t .step) n (t .value) (t .registers)
 
--- Two structs of the same call: what a call is begun with, and no line changes.
+-- Two structs of the same call: of what it was begun with, which no line changes before it answers.
 abbrev pub SameCall : (t u : Tasks.Task) → Type 0
 SameCall t u = (t .operation ≡ u .operation) × (t .side ≡ u .side) × (t .argument ≡ u .argument)
 

@@ -27,7 +27,7 @@ pub fn set_task(table: &mut [u32], k: u32, new: Task)
     new.write(&mut table[at..at + RECORD_WORDS]);
 }
 
-// The record of task k, written where it goes on with the call that stands there: fewer words than a whole record.
+// The same, where the record goes on with the call that stands there: fewer words are written.
 pub fn set_further(table: &mut [u32], k: u32, new: Task)
     requires { ⌜ HoldsRecord (now table) k ⌝ }
     requires { ⌜ SameCall (structOf (recordWords (now table) k)) new ⌝ }

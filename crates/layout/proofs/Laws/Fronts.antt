@@ -1,9 +1,9 @@
--- A slice that is filled from the front, or whole.
+-- A slice that is filled from the front.
 use mathlib.Core.Path.{_≡_, ap, _∙_}
-use mathlib.Core.List.{List, _++_, append-nil}
+use mathlib.Core.List.{List, _++_}
 use Prim.Native.Nat.{ℕ, _+_, _≤_}
 use native.Mathlib.Omega.{arith}
-use lib.ListN.{length, take, drop, length-append, drop-of-length-le}
+use lib.ListN.{length, take, drop, length-append}
 use lib.Seq.{sets, sets-eq, length-take-le, take-at, drop-at}
 
 -- Words written at the end of the front lengthen it, and what is behind them stays.
@@ -20,9 +20,3 @@ module _ (t vs : List ℕ) (n : ℕ) (h : n + length vs ≤ length t) where
   rest-stays =
       ap (drop (n + length vs)) (sets-eq vs t n h)
       ∙ drop-at (take n t ++ vs) (drop (n + length vs) t) (n + length vs) long
-
-pub filled : (t vs : List ℕ) → length t ≡ length vs → sets t 0 vs ≡ vs
-filled t vs e =
-    sets-eq vs t 0 (omega arith)
-    ∙ ap (λ (l : List ℕ). vs ++ l) (drop-of-length-le t {i = 0 + length vs} (omega arith))
-    ∙ append-nil vs

@@ -34,19 +34,17 @@ words-of-struct r h = listed-all recordLength 0 r (h ∙ omega arith)
 
 -- ---- The words of a call, and those that change as it goes on, each written in its place.
 module _ (r : List ℕ) (long : length r ≡ recordLength) (t : Tasks.Task) where
-  pub call-written :
-      SameCall (structOf (set (set (set (set r 0 (t .operation)) 2 (t .side)) 3 (t .argument .word)) 4 (t .argument .digit))) t
-  call-written =
-      subst
-      (λ (l : List ℕ).
-      SameCall (structOf (set (set (set (set l 0 (t .operation)) 2 (t .side)) 3 (t .argument .word)) 4 (t .argument .digit))) t)
-      (words-of-struct r long) (refl, refl, refl)
+  -- A record's words with the call of t, and with what else t says.
+  abbrev called : List ℕ → List ℕ
+  called l = set (set (set (set l 0 (t .operation)) 2 (t .side)) 3 (t .argument .word)) 4 (t .argument .digit)
 
-  -- The words of a record, with those that change of t.
   abbrev furthered : List ℕ → List ℕ
   furthered l =
       set (set (set (set (set (set (set (set l 1 (t .step)) 5 (t .counted)) 6 (t .value .word)) 7 (t .value .digit))
       8 (getD (t .registers) 0 0)) 9 (getD (t .registers) 1 0)) 10 (getD (t .registers) 2 0)) 11 (getD (t .registers) 3 0)
+
+  pub call-written : SameCall (structOf (called r)) t
+  call-written = subst (λ (l : List ℕ). SameCall (structOf (called l)) t) (words-of-struct r long) (refl, refl, refl)
 
   pub further-written : SameCall (structOf r) t → furthered r ≡ recordOf t
   further-written same =
