@@ -42,17 +42,6 @@ isRefused Yes = false
 isRefused No = false
 isRefused (Refused n) = true
 
--- Whether it lets the task go on.
-abbrev pub isGoing : Answer → Bool
-isGoing Going = true
-isGoing Pushed = false
-isGoing (Bag b) = false
-isGoing Empty = false
-isGoing Full = false
-isGoing Yes = false
-isGoing No = false
-isGoing (Refused n) = false
-
 -- A task that goes on has the call of its record in the table.
 abbrev pub GoesOn : List ℕ → (k : ℕ) → (going : Bool) → (next : Tasks.Task) → Type 0
 GoesOn ws k going t = going ≡ true → SameCall (structOf (recordWords ws k)) t

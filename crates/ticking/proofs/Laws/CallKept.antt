@@ -17,12 +17,11 @@ use Rattle.machine.specs.Table.{growth, task}
 use Rattle.machine.specs.Lines.{Memory, seen, Write, Effect, through, noNode, spliced, act}
 use Rattle.machine.specs.Allocate.{allocate}
 use Rattle.machine.specs.Calls.{effectOf}
-use Rattle.machine.specs.Row.{Note}
+use Rattle.machine.specs.Row.{Note, isGoing}
 use Rattle.machine.proofs.Basics.Contradiction.{clash}
 use Rattle.machine.proofs.Linearizability.Model.Invariant.{noteOf}
 use Rattle.machine.proofs.Linearizability.Lines.Connectives.{ok-if, ok-through, ok-dcas}
 use Rattle.layout.specs.Coded.{codedTask, SameCall}
-use Rattle.ticking.specs.Ticks.{isGoing}
 
 pub record KeepsCall (t : Task) (e : Effect) : Type 0 where
   pub kept : e .answer ≡ Going → noteOf (e .task) ≡ noteOf t

@@ -32,6 +32,7 @@ use Rattle.machine.specs.Allocate.{allocate}
 use Rattle.machine.specs.Lines.{Effect, writeAll}
 use Rattle.machine.specs.Answers.{refusalOf}
 use Rattle.machine.specs.Calls.{effectOf, applied, tickCounted}
+use Rattle.machine.specs.Row.{isGoing}
 use Rattle.machine.specs.Results.{tickedOf}
 use Rattle.machine.proofs.Basics.Contradiction.{clash}
 use Rattle.machine.proofs.Words.Columns.{sizesOf, columns}
@@ -47,7 +48,7 @@ use Rattle.layout.proofs.Laws.Views.{nodesOf, nodes-part, nodes-long}
 use Rattle.hattrick.specs.declared.ends.Done.{Done}
 use Rattle.hattrick.specs.Lent.{writesIn, hatAfter, Outcome, outcomeOf, effectIn, lineOf}
 use Rattle.figure.specs.Groups.{allSteps, ReadyIn}
-use Rattle.ticking.specs.Ticks.{MayTick, taken, isRefused, isGoing, GoesOn, made, recorded, stored}
+use Rattle.ticking.specs.Ticks.{MayTick, taken, isRefused, GoesOn, made, recorded, stored}
 use Rattle.ticking.proofs.Laws.LineWords.{taken-node}
 use Rattle.ticking.proofs.Laws.Laid.{record-after-nodes}
 use Rattle.ticking.proofs.Laws.CallKept.{effect-keeps, coded-call, going-answer}
