@@ -9,7 +9,7 @@ use machine::Dispatch;
 use machine::REFUSED;
 use machine::kind;
 use shape::table_refusal;
-use ticking::passed::tick_on;
+use ticking::pairs::tick_on;
 ghost use mathlib.Core.Path.{_≡_};
 ghost use Prim.Native.Nat.{_<_};
 ghost use Rattle.machine.specs.Round.{following};

@@ -9,7 +9,7 @@ use borrow.Author.Tests.{eqb-true, le-leb, leb-true}
 use Rattle.machine.specs.Steps.{Step, stepNumber, stepOf, isStepIn}
 use Rattle.layout.specs.declared.tasks.Task as Tasks
 use Rattle.hattrick.specs.Lent.{lineOf}
-use Rattle.figure.specs.Groups.{allSteps, ReadyIn}
+use Rattle.figure.specs.Halves.{allSteps, ReadyIn}
 use Rattle.machine.proofs.Basics.Contradiction.{clash}
 use Rattle.machine.proofs.Basics.Tests.{or-either, and-left, and-right}
 use Rattle.machine.proofs.Words.StepLaws.{step-of-number}

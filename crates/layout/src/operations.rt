@@ -19,14 +19,13 @@ pub fn argument_ok(operation: u32, argument: Stored) -> bool
     }
 }
 
-// 01: goal: the argument for add and remove, growth for push, 0 for pop.
+// 01: goal: the argument for add and remove, growth for push, 0 for pop, whose argument is 0.
 pub fn goal_of(operation: u32, growth: u32, argument: Stored) -> u32
     requires { ⌜ argumentOk (operationOf operation) argument ≡ true ⌝ }
     ensures { λ r. ⌜ r ≡ goalOf (operationOf operation) growth (number argument) ⌝ }
 {
-    match operation {
-        Task::PUSH => growth,
-        Task::IDLE | Task::POP => 0,
-        _ => argument.word,
+    if operation == Task::PUSH {
+        return growth;
     }
+    argument.word
 }

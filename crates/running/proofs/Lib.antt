@@ -1,2 +1,1 @@
-pub mod RunWords
 pub mod RunTests

@@ -25,7 +25,7 @@ use Rattle.machine.specs.Calls.{
 use Rattle.machine.proofs.Basics.Tests.{and-left, and-right}
 use Rattle.shape.specs.Contracts.{numberOf}
 use Rattle.shape.proofs.Laws.PassedTable.{refused}
-use Rattle.running.specs.Runs.{MayTake}
+use Rattle.ticking.specs.Runs.{MayTake}
 
 -- ---- 3 and 4, and 13.
 abbrev listOk : List ℕ → Bool

@@ -1,74 +1,14 @@
 // The calls run and panel: any slices. A refusal changes no lent word, but for the ticks made before it.
-use machine::Answer;
-use machine::REFUSED;
 use machine::Ran;
-use machine::kind;
-use machine::payload;
 use shape::table_refusal;
-use ticking::passed::tick_on;
+use ticking::pairs::ANSWER_WORDS;
+use ticking::pairs::run_on;
 ghost use mathlib.Core.Path.{_≡_};
 ghost use mathlib.Core.Option.{none as nothing};
-ghost use Prim.Native.Nat.{_+_, _≤_};
-ghost use lib.ListN.{length};
-ghost use lib.Seq.{sets};
-ghost use Rattle.tag.specs.Tags.{largestTag};
-ghost use Rattle.machine.specs.Answers.{payloadOf, refusalOf, answerLength, answerWords};
-ghost use Rattle.machine.specs.Calls.{listRefusal, roomRefusal, runOn, tested, run, panel};
+ghost use Rattle.machine.specs.Calls.{listRefusal, roomRefusal, tested, run, panel};
 ghost use Rattle.machine.specs.Results.{runDoneOf};
 ghost use Rattle.shape.specs.Contracts.{numberOf};
-ghost use Rattle.running.specs.Runs.{MayTake, MayRun};
-
-// The words that a run writes for a tick.
-const ANSWER_WORDS: usize = 3;
-
-// The number of a refusal; 0 of a tick that was made.
-fn refusal_number(a: Answer) -> u32
-    ensures { λ r. ⌜ r ≡ numberOf (refusalOf a) ⌝ }
-{
-    match a {
-        Answer::Going => 0,
-        Answer::Pushed => 0,
-        Answer::Bag(_) => 0,
-        Answer::Empty => 0,
-        Answer::Full => 0,
-        Answer::Yes => 0,
-        Answer::No => 0,
-        Answer::Refused(n) => n,
-    }
-}
-
-// 02: three words a tick: the kind, and the tag, digit first.
-fn put_answer(answers: &mut [u32], at: usize, a: Answer)
-    requires { ⌜ (payloadOf a ≤ largestTag) × (at + answerLength ≤ length (now answers)) ⌝ }
-    ensures { λ _. ⌜ now (answers .exit) ≡ sets (now (answers .entry)) at (answerWords a) ⌝ }
-{
-    let tag = payload(a);
-    answers[at] = kind(a);
-    answers[at + 1] = tag::digit(tag);
-    answers[at + 2] = tag::low(tag);
-}
-
-// The ticks of a list that has passed all tests.
-// 01: stops at the first refused tick.
-fn run_on(table: &mut [u32], list: &[u32], answers: &mut [u32]) -> Ran
-    requires { ⌜ MayRun (now table) (now list) (now answers) ⌝ }
-    ensures { λ r. ⌜ runDoneOf r (now (table .exit)) (now (answers .exit))
-        ≡ runOn (now (list .entry)) (now (table .entry)) (now (answers .entry)) ⌝ }
-{
-    let mut at = 0;
-    let mut made = 0;
-    while at < list.len() {
-        let answer = tick_on(table, list[at], list[at + 1]);
-        if kind(answer) == REFUSED {
-            let refusal = refusal_number(answer);
-            return Ran { made, refusal };
-        }
-        put_answer(answers, ANSWER_WORDS * (made as usize), answer);
-        at += 2;
-        made += 1;
-    }
-    Ran { made, refusal: 0 }
-}
+ghost use Rattle.ticking.specs.Runs.{MayTake};
 
 // The tests that a run and the panel's list begin with: 3 and 4, and 13; 0 where all are passed.
 fn list_refusal(table: &[u32], list: &[u32]) -> u32

@@ -8,3 +8,6 @@ pub mod TickReady
 pub mod TickWords
 pub mod MadeTick
 pub mod TickTests
+pub mod RunWords
+pub mod AnswerWords
+pub mod OnePair

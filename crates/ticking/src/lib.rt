@@ -1,8 +1,9 @@
 // The call tick: any slice, any numbers. A refusal changes no lent word.
-pub mod passed;
+pub mod pairs;
+mod passed;
 
 use machine::Answer;
-use passed::tick_on;
+use pairs::tick_on;
 use shape::table_refusal;
 ghost use mathlib.Core.Path.{_≡_};
 ghost use Rattle.machine.specs.Results.{tickedOf};

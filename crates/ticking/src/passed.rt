@@ -121,7 +121,7 @@ fn make(table: &mut [u32], k: u32, old: Task, hint: u32) -> Answer
 }
 
 // 01: checks 5, 9, 10, 11.
-pub fn tick_on(table: &mut [u32], task: u32, hint: u32) -> Answer
+pub(crate) fn tick_once(table: &mut [u32], task: u32, hint: u32) -> Answer
     requires { ⌜ WellFormed (now table) ⌝ }
     ensures { λ r. ⌜ tickedOf r (now (table .exit)) ≡ tickOn (now (table .entry)) task hint ⌝ }
 {

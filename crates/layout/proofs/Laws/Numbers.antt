@@ -4,12 +4,12 @@ use mathlib.Core.Logic.{_≢_}
 use mathlib.Core.Bool.{true}
 use Prim.Native.Nat.{ℕ, _-_, _<_}
 use native.Mathlib.Omega.{arith}
-use borrow.Author.Tests.{leb-true}
+use borrow.Author.Tests.{eqb-true, leb-true}
 use Rattle.machine.specs.declared.Stored.{Stored}
 use Rattle.machine.specs.Choice.{_≟_, if_then_else_}
 use Rattle.machine.specs.Sides.{left, right, opposite, sideNumber, sideOf}
 use Rattle.machine.specs.Values.{number}
-use Rattle.machine.specs.Operations.{add, remove, operationOf, argumentOk, goalOf}
+use Rattle.machine.specs.Operations.{Operation, idle, pop, add, remove, operationOf, argumentOk, goalOf}
 use Rattle.machine.proofs.Basics.Choices.{unequal}
 
 -- The opposite side.
@@ -24,19 +24,22 @@ other-side n h = go (n ≟ 0)
 pub remove-else : (n : ℕ) → n ≢ 0 → n ≢ 1 → n ≢ 2 → n ≢ 3 → operationOf n ≡ remove
 remove-else n a b c d = rw (unequal a, unequal b, unequal c, unequal d)
 
--- Add and remove have their argument for a goal, which is a word: its digit is 0.
+-- All but a push have their argument for a goal: a pop's is 0. It is a word, since its digit is 0.
 pub goal-else :
     (n growth : ℕ) (u : Stored)
-    → n ≢ 0
     → n ≢ 1
-    → n ≢ 2
     → argumentOk (operationOf n) u ≡ true
     → u .word ≡ goalOf (operationOf n) growth (number u)
-goal-else n g u a b c ok = rw (unequal a, unequal b, unequal c) (go (n ≟ 3) (rw (unequal a, unequal b, unequal c) at ok))
+goal-else n g u b ok = rw (unequal b) (go (n ≟ 0) (n ≟ 2) (n ≟ 3) (rw (unequal b) at ok))
   where
+    other : Dec (n ≡ 0) → Dec (n ≡ 2) → Dec (n ≡ 3) → Operation
+    other d₀ d₂ d₃ = if d₀ then idle else if d₂ then pop else if d₃ then add else remove
+
     go :
-        (d : Dec (n ≡ 3))
-        → argumentOk (if d then add else remove) u ≡ true
-        → u .word ≡ goalOf (if d then add else remove) g (number u)
-    go (yes d) h = let l = leb-true (number u) 64 h in omega arith
-    go (no d) h = let l = leb-true (number u) 1023 h in omega arith
+        (d₀ : Dec (n ≡ 0)) (d₂ : Dec (n ≡ 2)) (d₃ : Dec (n ≡ 3))
+        → argumentOk (other d₀ d₂ d₃) u ≡ true
+        → u .word ≡ goalOf (other d₀ d₂ d₃) g (number u)
+    go (yes e) d₂ d₃ h = let l = eqb-true (number u) 0 h in omega arith
+    go (no e) (yes f) d₃ h = let l = eqb-true (number u) 0 h in omega arith
+    go (no e) (no f) (yes i) h = let l = leb-true (number u) 64 h in omega arith
+    go (no e) (no f) (no i) h = let l = leb-true (number u) 1023 h in omega arith

@@ -1,7 +1,7 @@
 -- `running::panel` meets its contract: 15 is tested as defined, and what passes is `run_in_room`'s.
 use mathlib.Core.Path.{_∙_}
 use borrow.Author.Needs.{needs}
-use Rattle.running.specs.Runs.{MayTake}
+use Rattle.ticking.specs.Runs.{MayTake}
 use Rattle.running.proofs.RunTests.{may-take, panel-refused-first, panel-15, panel-goes-on}
 use Rattle.running.proofs.panel.Statement.{statement}
 use Rattle.running.proofs.panel.Tie as tie

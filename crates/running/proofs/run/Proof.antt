@@ -1,7 +1,7 @@
 -- `running::run` meets its contract: where the first tests pass, the rest is `run_in_room`'s.
 use mathlib.Core.Path.{_∙_}
 use borrow.Author.Needs.{needs}
-use Rattle.running.specs.Runs.{MayTake}
+use Rattle.ticking.specs.Runs.{MayTake}
 use Rattle.running.proofs.RunTests.{may-take, run-refused-first, run-goes-on}
 use Rattle.running.proofs.run.Statement.{statement}
 use Rattle.running.proofs.run.Tie as tie

@@ -47,7 +47,7 @@ use Rattle.layout.specs.Coded.{structOf, recordOf, codedTask, taskMeant, SameCa
 use Rattle.layout.proofs.Laws.Views.{nodesOf, nodes-part, nodes-long}
 use Rattle.hattrick.specs.declared.ends.Done.{Done}
 use Rattle.hattrick.specs.Lent.{writesIn, hatAfter, Outcome, outcomeOf, effectIn, lineOf}
-use Rattle.figure.specs.Groups.{allSteps, ReadyIn}
+use Rattle.figure.specs.Halves.{allSteps, ReadyIn}
 use Rattle.ticking.specs.Ticks.{MayTick, taken, isRefused, GoesOn, made, recorded, stored}
 use Rattle.ticking.proofs.Laws.LineWords.{taken-node}
 use Rattle.ticking.proofs.Laws.Laid.{record-after-nodes}

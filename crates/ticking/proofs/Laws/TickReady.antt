@@ -36,7 +36,7 @@ use Rattle.machine.proofs.Shape.BusyLaws.{NodeOrNone, BusyFacts, counted-at-mos
 use Rattle.machine.proofs.Shape.TickKeeps.{busy-facts}
 use Rattle.layout.specs.declared.tasks.Task as Tasks
 use Rattle.layout.specs.Coded.{structOf, codedTask, taskMeant, HoldsNode, storedIn}
-use Rattle.figure.specs.Groups.{allSteps, ReadyIn}
+use Rattle.figure.specs.Halves.{allSteps, ReadyIn}
 use Rattle.figure.proofs.StepChoice.{each}
 use Rattle.layout.proofs.Laws.Views.{nodesOf, node-held, held-node, words-in, task-read}
 

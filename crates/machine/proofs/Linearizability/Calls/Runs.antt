@@ -42,7 +42,7 @@ use Rattle.machine.proofs.Linearizability.Calls.MadeTicks.{MadeTick, ma
 use Rattle.machine.proofs.Linearizability.Calls.CallsAgree.{Explains}
 
 -- The words of an answer stand for it.
-answer-back :
+pub answer-back :
     (a : Answer) → AnswerFits a → answerOf (kindOf a) (digitOf (payloadOf a)) (lowOf (payloadOf a)) ≡ some a
 unfolding answerOf plainAnswerOf ℕ-discrete
 answer-back Going h = refl
@@ -99,7 +99,7 @@ one-made {ws} {ρ} A k h list M allowed r R =
         let x = R .within i (omega arith) in
         (x .0, rw (words-back, M .given) (x .1), x .2)
 
-refused-tick : (ws : List ℕ) (k h n : ℕ) → tickRefusal ws k h ≡ some n → refusalOf (tickOn ws k h .answer) ≡ some n
+pub refused-tick : (ws : List ℕ) (k h n : ℕ) → tickRefusal ws k h ≡ some n → refusalOf (tickOn ws k h .answer) ≡ some n
 unfolding tickOn
 refused-tick ws k h n e = rw (e, tickOn)
 

@@ -1,4 +1,4 @@
--- `ticking::passed::tick_on` meets its contract: each test is the definition's, and the tick that passes is `make`'s.
+-- `ticking::passed::tick_once` meets its contract: each test is the definition's, and the tick that passes is `make`'s.
 use mathlib.Core.Path.{_≡_, sym, ap, _∙_}
 use native.Mathlib.Omega.{arith}
 use Rattle.machine.specs.Tasks.{operationWord}
@@ -8,8 +8,8 @@ use Rattle.shape.proofs.Laws.TableWords.{header-long, record-within}
 use Rattle.shape.proofs.Laws.PassedTable.{busy-task}
 use Rattle.ticking.proofs.Laws.TickTests.{tick-5, tick-9, tick-10, tick-passes}
 use borrow.Author.Needs.{needs}
-use Rattle.ticking.proofs.passed.tick_on.Statement.{statement}
-use Rattle.ticking.proofs.passed.tick_on.Tie as tie
+use Rattle.ticking.proofs.passed.tick_once.Statement.{statement}
+use Rattle.ticking.proofs.passed.tick_once.Tie as tie
 
 slice-read-if1 : tie.Need-slice-read-if1
 slice-read-if1 c =
@@ -91,8 +91,8 @@ returns-4 c =
     ∙ tick-passes (a .table .now) (p .pre) (a .task) (a .hint) (e1 r .if1 .left) (e2 r .if2 .left)
     (λ e. e3 .if3 .left (operation-read r ∙ e))
 
-pub tick-on-spec : {M : Type 1} → statement M
-tick-on-spec =
+pub tick-once-spec : {M : Type 1} → statement M
+tick-once-spec =
     tie.close
     (tie.spec
     slice-read-if1

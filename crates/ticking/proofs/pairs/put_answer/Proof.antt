@@ -1,10 +1,10 @@
--- `running::put_answer` meets its contract.
+-- `ticking::pairs::put_answer` meets its contract.
 use native.Mathlib.Omega.{arith}
 use lib.ListN.{length-set}
-use Rattle.running.proofs.RunWords.{answer-put}
+use Rattle.ticking.proofs.Laws.RunWords.{answer-put}
 use borrow.Author.Needs.{needs}
-use Rattle.running.proofs.put_answer.Statement.{statement}
-use Rattle.running.proofs.put_answer.Tie as tie
+use Rattle.ticking.proofs.pairs.put_answer.Statement.{statement}
+use Rattle.ticking.proofs.pairs.put_answer.Tie as tie
 
 payload-requires : tie.Need-payload-requires
 payload-requires c κs = search needs

@@ -1,4 +1,4 @@
--- `running::run_on` meets its contract: the ticks made and the run of the pairs ahead are the run of the list.
+-- `ticking::pairs::run_on` meets its contract: the ticks made and the run of the pairs ahead are the run of the list.
 use mathlib.Core.Path.{_≡_, refl, sym, _∙_}
 use Prim.Native.Nat.{_+_, _-_, _*_, _<_, _≤_}
 use native.Mathlib.Omega.{arith}
@@ -7,7 +7,7 @@ use borrow.Author.Needs.{needs}
 use Rattle.machine.specs.Answers.{answerLength}
 use Rattle.machine.specs.Calls.{runOn}
 use Rattle.machine.specs.Shape.{WellFormed}
-use Rattle.running.proofs.RunWords.{
+use Rattle.ticking.proofs.Laws.RunWords.{
   ahead,
   tick-passed,
   tick-tag,
@@ -16,8 +16,8 @@ use Rattle.running.proofs.RunWords.{
   run-refused,
   run-made,
 }
-use Rattle.running.proofs.run_on.Statement.{statement}
-use Rattle.running.proofs.run_on.Tie as tie
+use Rattle.ticking.proofs.pairs.run_on.Statement.{statement}
+use Rattle.ticking.proofs.pairs.run_on.Tie as tie
 
 abbrev Inv-loop : tie.InvT-loop
 Inv-loop t₀ list answers₀ at₀ made₀ t answers at made =
@@ -54,23 +54,23 @@ loop-holds c =
     let a = s .args in
     (omega arith, refl, refl, s .pre .taken .table, run-begins (a .list .now) (a .table .now) (a .answers .now))
 
-mul-tick-on : tie.Need-mul-tick-on Inv-loop μ-loop
-mul-tick-on c = search needs
+mul-tick-once : tie.Need-mul-tick-once Inv-loop μ-loop
+mul-tick-once c = search needs
 
-shared-slice-read-tick-on : tie.Need-shared-slice-read-tick-on Inv-loop μ-loop
-shared-slice-read-tick-on c = search needs
+shared-slice-read-tick-once : tie.Need-shared-slice-read-tick-once Inv-loop μ-loop
+shared-slice-read-tick-once c = search needs
 
-add-tick-on : tie.Need-add-tick-on Inv-loop μ-loop
-add-tick-on c = search needs
+add-tick-once : tie.Need-add-tick-once Inv-loop μ-loop
+add-tick-once c = search needs
 
-mul-tick-on-2 : tie.Need-mul-tick-on-2 Inv-loop μ-loop
-mul-tick-on-2 c = search needs
+mul-tick-once-2 : tie.Need-mul-tick-once-2 Inv-loop μ-loop
+mul-tick-once-2 c = search needs
 
-shared-slice-read-tick-on-2 : tie.Need-shared-slice-read-tick-on-2 Inv-loop μ-loop
-shared-slice-read-tick-on-2 c = search needs
+shared-slice-read-tick-once-2 : tie.Need-shared-slice-read-tick-once-2 Inv-loop μ-loop
+shared-slice-read-tick-once-2 c = search needs
 
-tick-on-requires : tie.Need-tick-on-requires Inv-loop μ-loop
-tick-on-requires c κs = c .before .before .before .before .loop .inv .3
+tick-once-requires : tie.Need-tick-once-requires Inv-loop μ-loop
+tick-once-requires c κs = c .before .before .before .before .loop .inv .3
 
 kind-requires : tie.Need-kind-requires Inv-loop μ-loop
 kind-requires c κs = search needs
@@ -81,14 +81,14 @@ refusal-number-requires c κs = search needs
 same-length : tie.Need-same-length Inv-loop μ-loop
 same-length c =
     let ticked = c .before .before .before .before .before in
-    ticked .tick-on .kept .0 ∙ ticked .before .before .before .before .before .loop .inv .1
+    ticked .tick-once .kept .0 ∙ ticked .before .before .before .before .before .loop .inv .1
 
 same-length-2 : tie.Need-same-length-2 Inv-loop μ-loop
 same-length-2 c = c .before .before .before .before .before .before .before .before .before .before .loop .inv .2
 
 returns : tie.Need-returns Inv-loop μ-loop
 returns c =
-    let tick = c .before .before .before .before .before .tick-on in
+    let tick = c .before .before .before .before .before .tick-once in
     let turn = c .before .before .before .before .before .before .before .before .before in
     let l = turn .before .loop in
     let list = turn .before .before .before .before .before .args .list .now in
@@ -107,7 +107,7 @@ mul-put-answer c =
 
 put-answer-requires : tie.Need-put-answer-requires Inv-loop μ-loop
 put-answer-requires c κs =
-    let tick = c .before .before .before .before .before .tick-on in
+    let tick = c .before .before .before .before .before .tick-once in
     let turn = c .before .before .before .before .before .before .before .before .before in
     let l = turn .before .loop in
     (tick-tag (l .table) _ _ (tick .result) (tick .last .0) (tick .ensures) (l .inv .3), room-here turn)
@@ -125,7 +125,7 @@ loop-again : tie.Need-loop-again Inv-loop μ-loop
 loop-again c =
     let put = c .before .before .put-answer in
     let e = c .before .before .before .before in
-    let tick = e .before .before .before .before .tick-on in
+    let tick = e .before .before .before .before .tick-once in
     let turn = e .before .before .before .before .before .before .before .before in
     let l = turn .before .loop in
     let list = turn .before .before .before .before .before .args .list .now in (
@@ -158,12 +158,12 @@ run-on-spec =
     Inv-loop
     μ-loop
     loop-holds
-    mul-tick-on
-    shared-slice-read-tick-on
-    add-tick-on
-    mul-tick-on-2
-    shared-slice-read-tick-on-2
-    tick-on-requires
+    mul-tick-once
+    shared-slice-read-tick-once
+    add-tick-once
+    mul-tick-once-2
+    shared-slice-read-tick-once-2
+    tick-once-requires
     kind-requires
     refusal-number-requires
     same-length

@@ -1,0 +1,46 @@
+-- The answer that the words of a tick stand for, by the kind.
+use mathlib.Core.Path.{_≡_, refl}
+use mathlib.Core.Logic.{_≢_}
+use mathlib.Core.Bool.{Bool, true, false, cond}
+use mathlib.Core.Option.{Option, some, none as nothing}
+use Prim.Native.Nat.{ℕ}
+use native.Mathlib.Decide.{ℕ-discrete}
+use Rattle.tag.specs.Tags.{tagOf, isTag}
+use Rattle.machine.specs.declared.Answer.{Answer}
+use Rattle.machine.specs.declared.Answer.the-variants.{Bag, No}
+use Rattle.machine.specs.Choice.{_≟_, if_then_else_}
+use Rattle.machine.specs.Answers.{plainAnswerOf, answerOf}
+use Rattle.machine.proofs.Basics.Choices.{unequal}
+use Rattle.machine.proofs.Basics.Contradiction.{clash}
+
+pub bag-words : {kind : ℕ} (digit low : ℕ) → kind ≡ 2 → (a : Answer) → answerOf kind digit low ≡ some a
+    → Bag (tagOf digit low) ≡ a
+unfolding answerOf ℕ-discrete
+bag-words digit low k a e = go (isTag digit low) (rw k at e)
+  where
+    go : (b : Bool) → cond b (some (Bag (tagOf digit low))) nothing ≡ some a → Bag (tagOf digit low) ≡ a
+    go true e = cc
+    go false e = clash (cc)
+
+module _ {kind : ℕ} (digit low : ℕ) (a : Answer) (e : answerOf kind digit low ≡ some a) where
+  -- Of any other kind.
+  plain-says : kind ≢ 2 → plainAnswerOf kind ≡ some a
+  unfolding answerOf
+  plain-says ne = go (tagOf digit low ≟ 0) (rw (unequal ne) at e)
+    where
+      go : (d : Dec (tagOf digit low ≡ 0)) → (if d then plainAnswerOf kind else nothing) ≡ some a
+          → plainAnswerOf kind ≡ some a
+      go (yes z) e = e
+      go (no z) e = clash (cc)
+
+  pub plain-words : kind ≢ 2 → (b : Answer) → plainAnswerOf kind ≡ some b → b ≡ a
+  plain-words ne b is = let says = plain-says ne in cc
+
+  pub last-words : kind ≢ 0 → kind ≢ 1 → kind ≢ 2 → kind ≢ 3 → kind ≢ 4 → kind ≢ 5 → No ≡ a
+  unfolding plainAnswerOf
+  last-words n₀ n₁ n₂ n₃ n₄ n₅ =
+      go (kind ≟ 6) (rw (unequal n₀, unequal n₁, unequal n₃, unequal n₄, unequal n₅) at plain-says n₂)
+    where
+      go : (d : Dec (kind ≡ 6)) → (if d then some No else nothing) ≡ some a → No ≡ a
+      go (yes s) e = cc
+      go (no s) e = clash (cc)

@@ -1,0 +1,73 @@
+-- A list of one pair: what it comes to is what its tick does, and the words written say the tick's answer.
+use mathlib.Core.Path.{_≡_, refl, sym, ap, _∙_}
+use mathlib.Core.Logic.{_≢_}
+use mathlib.Core.List.{List, [], _∷_}
+use mathlib.Core.Option.{Option, some, none as nothing}
+use Prim.Native.Nat.{ℕ}
+use native.Mathlib.Omega.{arith}
+use lib.ListN.{getD}
+use Rattle.machine.specs.declared.Answer.{Answer}
+use Rattle.machine.specs.declared.Answer.the-variants.{Going, Pushed, Bag, Empty, Full, Yes, No, Refused}
+use Rattle.machine.specs.declared.Ran.{Ran}
+use Rattle.machine.specs.Answers.{refusalOf, answerOf}
+use Rattle.machine.specs.Calls.{tickRefusal, Ticked, tickOn, RunDone, runOn}
+use Rattle.machine.specs.Results.{tickedOf, runDoneOf}
+use Rattle.machine.specs.Shape.{WellFormed}
+use Rattle.machine.proofs.Basics.Contradiction.{clash}
+use Rattle.machine.proofs.Shape.ShapeLaws.{well-shaped}
+use Rattle.machine.proofs.Words.RunLaws.{by-first, first-tick}
+use Rattle.machine.proofs.Words.TickLaws.{refused-unchanged, made-answer-fits}
+use Rattle.machine.proofs.Linearizability.Calls.Runs.{refused-tick, answer-back}
+
+refused-answer : (a : Answer) {n : ℕ} → refusalOf a ≡ some n → Refused n ≡ a
+refused-answer Going e = clash (cc)
+refused-answer Pushed e = clash (cc)
+refused-answer (Bag b) e = clash (cc)
+refused-answer Empty e = clash (cc)
+refused-answer Full e = clash (cc)
+refused-answer Yes e = clash (cc)
+refused-answer No e = clash (cc)
+refused-answer (Refused m) e = cc
+
+module _ (ws : List ℕ) (k h : ℕ) (answers : List ℕ) {r : Ran} {vs words : List ℕ}
+    (ran : runDoneOf r vs words ≡ runOn (k ∷ h ∷ []) ws answers) where
+  -- By what its tick gives.
+  by-tick : {o : Option ℕ} → refusalOf (tickOn ws k h .answer) ≡ o → runDoneOf r vs words ≡ by-first k h [] ws answers o
+  by-tick {o} e = ran ∙ first-tick k h [] ws answers o e
+
+  pub pair-refused : r .made ≡ 0 → tickedOf (Refused (r .refusal)) vs ≡ tickOn ws k h
+  unfolding by-first runOn
+  pair-refused none = go (refusalOf (tickOn ws k h .answer)) refl
+    where
+      go : (o : Option ℕ) → refusalOf (tickOn ws k h .answer) ≡ o → tickedOf (Refused (r .refusal)) vs ≡ tickOn ws k h
+      go (some n) e =
+          let d = by-tick e in
+          ap (λ (x : RunDone). tickedOf (Refused (x .ran .refusal)) (x .words)) d
+          ∙ ap (λ (a : Answer). tickedOf a ws) (refused-answer (tickOn ws k h .answer) e)
+          ∙ ap (tickedOf (tickOn ws k h .answer)) (sym (refused-unchanged ws k h e))
+      go nothing e = absurd (omega (arith, none, ap (λ (x : RunDone). x .ran .made) (by-tick e)))
+
+  pub pair-made :
+      WellFormed ws
+      → r .made ≢ 0
+      → {a : Answer}
+      → ((b : Answer) → answerOf (getD words 0 0) (getD words 1 0) (getD words 2 0) ≡ some b → a ≡ b)
+      → tickedOf a vs ≡ tickOn ws k h
+  unfolding by-first runOn
+  pair-made W some-made {a} says = go (refusalOf (tickOn ws k h .answer)) refl
+    where
+      allowed : refusalOf (tickOn ws k h .answer) ≡ nothing → tickRefusal ws k h ≡ nothing
+      allowed e = by (tickRefusal ws k h) refl
+        where
+          by : (o : Option ℕ) → tickRefusal ws k h ≡ o → o ≡ nothing
+          by nothing q = refl
+          by (some n) q = clash (cc (sym e ∙ refused-tick ws k h n q))
+
+      go : (o : Option ℕ) → refusalOf (tickOn ws k h .answer) ≡ o → tickedOf a vs ≡ tickOn ws k h
+      go (some n) e = absurd (some-made (ap (λ (x : RunDone). x .ran .made) (by-tick e)))
+      go nothing e =
+          let d = by-tick e in
+          let fits = made-answer-fits ws k h (well-shaped ws (W .shape-passes)) (allowed e) e in
+          let read = ap (λ (x : RunDone). answerOf (getD (x .answers) 0 0) (getD (x .answers) 1 0) (getD (x .answers) 2 0)) d in
+          ap (λ (b : Answer). tickedOf b vs) (says (tickOn ws k h .answer) (read ∙ answer-back (tickOn ws k h .answer) fits))
+          ∙ ap (λ (x : RunDone). tickedOf (tickOn ws k h .answer) (x .words)) d

@@ -1,0 +1,103 @@
+// The ticks of a list of (task, hint) pairs on a table that has passed the tests of refusals 3 and 4. All ticks are made in
+// this one loop, a single tick as a list of one pair: the compiler then sets the whole tick into the loop, and no call stands
+// between two ticks of a run.
+use crate::passed::tick_once;
+use machine::Answer;
+use machine::REFUSED;
+use machine::Ran;
+use machine::kind;
+use machine::payload;
+ghost use mathlib.Core.Path.{_≡_};
+ghost use mathlib.Core.Option.{some};
+ghost use Prim.Native.Nat.{_+_, _≤_};
+ghost use lib.ListN.{length};
+ghost use lib.Seq.{sets};
+ghost use Rattle.tag.specs.Tags.{largestTag};
+ghost use Rattle.machine.specs.declared.Answer.{Answer as Answered};
+ghost use Rattle.machine.specs.Answers.{payloadOf, refusalOf, answerLength, answerWords, answerOf};
+ghost use Rattle.machine.specs.Shape.{WellFormed};
+ghost use Rattle.machine.specs.Calls.{tickOn, runOn};
+ghost use Rattle.machine.specs.Results.{tickedOf, runDoneOf};
+ghost use Rattle.shape.specs.Contracts.{numberOf};
+ghost use Rattle.ticking.specs.Runs.{MayRun};
+
+// The words that a run writes for a tick.
+pub const ANSWER_WORDS: usize = 3;
+
+// The number of a refusal; 0 of a tick that was made.
+fn refusal_number(a: Answer) -> u32
+    ensures { λ r. ⌜ r ≡ numberOf (refusalOf a) ⌝ }
+{
+    match a {
+        Answer::Going => 0,
+        Answer::Pushed => 0,
+        Answer::Bag(_) => 0,
+        Answer::Empty => 0,
+        Answer::Full => 0,
+        Answer::Yes => 0,
+        Answer::No => 0,
+        Answer::Refused(n) => n,
+    }
+}
+
+// 02: three words a tick: the kind, and the tag, digit first.
+fn put_answer(answers: &mut [u32], at: usize, a: Answer)
+    requires { ⌜ (payloadOf a ≤ largestTag) × (at + answerLength ≤ length (now answers)) ⌝ }
+    ensures { λ _. ⌜ now (answers .exit) ≡ sets (now (answers .entry)) at (answerWords a) ⌝ }
+{
+    let tag = payload(a);
+    answers[at] = kind(a);
+    answers[at + 1] = tag::digit(tag);
+    answers[at + 2] = tag::low(tag);
+}
+
+// The ticks of a list that has passed all tests.
+// 01: stops at the first refused tick.
+pub fn run_on(table: &mut [u32], list: &[u32], answers: &mut [u32]) -> Ran
+    requires { ⌜ MayRun (now table) (now list) (now answers) ⌝ }
+    ensures { λ r. ⌜ runDoneOf r (now (table .exit)) (now (answers .exit))
+        ≡ runOn (now (list .entry)) (now (table .entry)) (now (answers .entry)) ⌝ }
+{
+    let mut at = 0;
+    let mut made = 0;
+    while at < list.len() {
+        let answer = tick_once(table, list[at], list[at + 1]);
+        if kind(answer) == REFUSED {
+            let refusal = refusal_number(answer);
+            return Ran { made, refusal };
+        }
+        put_answer(answers, ANSWER_WORDS * (made as usize), answer);
+        at += 2;
+        made += 1;
+    }
+    Ran { made, refusal: 0 }
+}
+
+// The answer that the words of a tick stand for, where they stand for one.
+fn answer_of(kind: u32, digit: u32, low: u32) -> Answer
+    ensures { λ r. ⌜ ((a : Answered) → answerOf kind digit low ≡ some a → r ≡ a) ⌝ }
+{
+    match kind {
+        0 => Answer::Going,
+        1 => Answer::Pushed,
+        2 => Answer::Bag(tag::number(digit, low)),
+        3 => Answer::Empty,
+        4 => Answer::Full,
+        5 => Answer::Yes,
+        _ => Answer::No,
+    }
+}
+
+// One tick.
+pub fn tick_on(table: &mut [u32], task: u32, hint: u32) -> Answer
+    requires { ⌜ WellFormed (now table) ⌝ }
+    ensures { λ r. ⌜ tickedOf r (now (table .exit)) ≡ tickOn (now (table .entry)) task hint ⌝ }
+{
+    let pair = [task, hint];
+    let mut words = [0u32; ANSWER_WORDS];
+    let ran = run_on(table, &pair, &mut words);
+    if ran.made == 0 {
+        return Answer::Refused(ran.refusal);
+    }
+    answer_of(words[0], words[1], words[2])
+}
