@@ -21,7 +21,7 @@ ghost use Rattle.machine.specs.Shape.{WellFormed};
 ghost use Rattle.machine.specs.Calls.{tickOn};
 ghost use Rattle.layout.specs.Coded.{structOf, HoldsRecord};
 ghost use Rattle.machine.specs.Results.{tickedOf};
-ghost use Rattle.machine.specs.Row.{isGoing};
+ghost use Rattle.machine.specs.Answers.{isGoing};
 ghost use Rattle.ticking.specs.Ticks.{MayTick, taken, isRefused, GoesOn, made, recorded, stored};
 
 // The node that a tick at 28 or 31 takes, or none; the other lines take none. 31 is refused where D is none, and does not

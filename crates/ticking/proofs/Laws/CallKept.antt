@@ -17,7 +17,8 @@ use Rattle.machine.specs.Table.{growth, task}
 use Rattle.machine.specs.Lines.{Memory, seen, Write, Effect, through, noNode, spliced, act}
 use Rattle.machine.specs.Allocate.{allocate}
 use Rattle.machine.specs.Calls.{effectOf}
-use Rattle.machine.specs.Row.{Note, isGoing}
+use Rattle.machine.specs.Answers.{isGoing}
+use Rattle.machine.specs.Row.{Note}
 use Rattle.machine.proofs.Basics.Contradiction.{clash}
 use Rattle.machine.proofs.Linearizability.Model.Invariant.{noteOf}
 use Rattle.machine.proofs.Linearizability.Lines.Connectives.{ok-if, ok-through, ok-dcas}

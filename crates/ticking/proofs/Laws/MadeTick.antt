@@ -30,9 +30,8 @@ use Rattle.machine.specs.Table.{
 }
 use Rattle.machine.specs.Allocate.{allocate}
 use Rattle.machine.specs.Lines.{Effect, writeAll}
-use Rattle.machine.specs.Answers.{refusalOf}
+use Rattle.machine.specs.Answers.{refusalOf, isGoing}
 use Rattle.machine.specs.Calls.{effectOf, applied, tickCounted}
-use Rattle.machine.specs.Row.{isGoing}
 use Rattle.machine.specs.Results.{tickedOf}
 use Rattle.machine.proofs.Basics.Contradiction.{clash}
 use Rattle.machine.proofs.Words.Columns.{sizesOf, columns}
