@@ -8,3 +8,4 @@ pub mod TickReady
 pub mod TickWords
 pub mod MadeTick
 pub mod TickTests
+pub mod TicksInRow

@@ -1,4 +1,4 @@
-// One tick on a table that has passed the tests of refusals 3 and 4.
+// One tick, and ticks in a row, on a table that has passed the tests of refusals 3 and 4.
 use alloc::first_free;
 use figure::line;
 use layout::operations::goal_of;
@@ -18,7 +18,7 @@ ghost use Prim.Native.Nat.{_<_};
 ghost use Rattle.machine.specs.Table.{nodeCount, recordWords};
 ghost use Rattle.machine.specs.Allocate.{allocate};
 ghost use Rattle.machine.specs.Shape.{WellFormed};
-ghost use Rattle.machine.specs.Calls.{tickOn};
+ghost use Rattle.machine.specs.Calls.{tickOn, ticks};
 ghost use Rattle.layout.specs.Coded.{structOf, HoldsRecord};
 ghost use Rattle.machine.specs.Results.{tickedOf};
 ghost use Rattle.machine.specs.Answers.{isGoing};
@@ -60,7 +60,7 @@ fn is_refusal(a: Answer) -> bool
     }
 }
 
-// Whether a task goes on after a line.
+// Whether a task goes on.
 fn is_going(a: Answer) -> bool
     ensures { λ r. ⌜ r ≡ isGoing a ⌝ }
 {
@@ -136,4 +136,20 @@ pub fn tick_on(table: &mut [u32], task: u32, hint: u32) -> Answer
         return Answer::Refused(10);
     }
     make(table, task, old, hint)
+}
+
+// Ticks in a row, until one does not go on, or so many.
+pub fn ticks_on(table: &mut [u32], task: u32, hint: u32, times: u32) -> Answer
+    requires { ⌜ WellFormed (now table) ⌝ }
+    ensures { λ r. ⌜ tickedOf r (now (table .exit)) ≡ ticks times (now (table .entry)) task hint ⌝ }
+{
+    let mut made = 0;
+    while made < times {
+        let answer = tick_on(table, task, hint);
+        if !is_going(answer) {
+            return answer;
+        }
+        made += 1;
+    }
+    Answer::Going
 }
