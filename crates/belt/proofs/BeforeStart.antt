@@ -2,7 +2,7 @@
 use mathlib.Core.Path.{_≡_, refl}
 use mathlib.Core.List.{[]}
 use Prim.Native.Nat.{ℕ, suc}
-use Rattle.machine.specs.Calls.{begin, tick}
+use Rattle.machine.specs.Calls.{begin, tick, ticks}
 use Rattle.printer.specs.Lines.{refusedText}
 use Rattle.belt.specs.Forms.{beginCommand, tickCommand, laneCommand}
 use Rattle.belt.specs.Space.{answeredOf}
@@ -14,7 +14,7 @@ unfolding beginCommand begin
 begin-first k op side digit argument = refl
 
 pub tick-first : (n k h : ℕ) → tickCommand (suc n) [] k h ≡ answeredOf (refusedText 3) []
-unfolding tickCommand tick
+unfolding tickCommand ticks tick
 tick-first n k h = refl
 
 pub lane-first : laneCommand [] ≡ answeredOf (refusedText 3) []

@@ -17,6 +17,7 @@ use Rattle.machine.specs.Calls.{
   applied,
   tickOn,
   tick,
+  ticks as ticksInRow,
   isBegun,
   laneFrom,
   lane,
@@ -33,5 +34,5 @@ unfolding beltRun linesOf printed answer startCommand beginCommand tickCommand l
     scanBytes ticks beginOr beginOf formOf pushOf commandWith commandOf commandRead ℕ-discrete decLt decLe Value-discrete decode stepIn
     stepOf isStepIn link value task allBelow sameWords nodeOk busyOk recordOk shapeOk heldFrom roots mark markAll visit
     visitFrom marked firstUnmarked allocate writeAll dcas act times startWords start begin effectOf applied tickOn tick
-    isBegun laneFrom lane
+    ticksInRow isBegun laneFrom lane
 worked = refl

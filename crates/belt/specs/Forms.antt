@@ -1,17 +1,14 @@
 -- What each form of the belt run does: what is printed, and the words of the table afterwards.
 -- Before an accepted start the table has no words, which is why the other calls give 3.
-use mathlib.Core.Bool.{true, false}
 use mathlib.Core.List.{List}
 use mathlib.Core.Option.{Option, some, none as nothing}
-use Prim.Native.Nat.{ℕ, zero, suc}
+use Prim.Native.Nat.{ℕ}
 use lib.ListN.{replicate}
 use Rattle.machine.specs.Values.{storedOf}
-use Rattle.machine.specs.declared.Answer.the-variants.{Going}
 use Rattle.machine.specs.declared.Reply.{Reply}
 use Rattle.machine.specs.declared.Reply.the-variants.{Accepted, Refused}
 use Rattle.machine.specs.Table.{tableLength}
-use Rattle.machine.specs.Row.{isGoing}
-use Rattle.machine.specs.Calls.{tableRefusal, start, begin, tick, lane}
+use Rattle.machine.specs.Calls.{tableRefusal, start, begin, ticks, lane}
 use Rattle.printer.specs.Lines.{refusedText, replyText, answerText, laneText}
 
 pub record Answered : Type 0 where
@@ -37,13 +34,9 @@ beginCommand ws k op side digit argument =
 
 -- `(tick task hint times)`. 01: makes ticks until an answer, a refusal, or times; it prints the last outcome.
 unfoldable pub tickCommand : (times : ℕ) → List ℕ → (k hint : ℕ) → Answered
-tickCommand zero ws k h = record { text = answerText Going; words = ws }
-tickCommand (suc n) ws k h =
-    let one = tick ws k h in
-    elim (isGoing (one .answer)) as (λ _. Answered) [
-      | true ↦ tickCommand n (one .words) k h
-      | false ↦ record { text = answerText (one .answer); words = one .words }
-    ]
+tickCommand times ws k h =
+    let last = ticks times ws k h in
+    record { text = answerText (last .answer); words = last .words }
 
 -- 01: 11 where a link is none before a slot without a bag, or the bags have no end.
 abbrev pub rowText : Option (List ℕ) → List ℕ

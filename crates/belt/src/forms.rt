@@ -8,11 +8,10 @@ use machine::Reading;
 use machine::Reply;
 use reading::read;
 use starting::start;
-use ticking::tick;
+use ticking::ticks;
 ghost use mathlib.Core.Path.{_≡_};
 ghost use Prim.Native.Nat.{_*_, _≤_};
 ghost use lib.ListN.{length, take};
-ghost use Rattle.machine.specs.Row.{isGoing};
 ghost use Rattle.printer.specs.Lines.{replyText, answerText};
 ghost use Rattle.printer.specs.Outcomes.{readingText, readingCount};
 ghost use Rattle.belt.specs.Forms.{startCommand, beginCommand, tickCommand, laneCommand};
@@ -68,43 +67,13 @@ pub fn begin_command(
     )
 }
 
-fn is_going(a: Answer) -> bool
-    ensures { λ r. ⌜ r ≡ isGoing a ⌝ }
-{
-    match a {
-        Answer::Going => true,
-        Answer::Pushed => false,
-        Answer::Bag(_) => false,
-        Answer::Empty => false,
-        Answer::Full => false,
-        Answer::Yes => false,
-        Answer::No => false,
-        Answer::Refused(_) => false,
-    }
-}
-
-// Ticks of a table, until an answer, a refusal, or so many.
-fn make_ticks(table: &mut [u32], task: u32, hint: u32, times: u32) -> Answer
-    ensures { λ r. ⌜ answeredOf (answerText r) (now (table .exit)) ≡ tickCommand times (now (table .entry)) task hint ⌝ }
-{
-    let mut made = 0;
-    while made < times {
-        let answer = tick(table, task, hint);
-        if !is_going(answer) {
-            return answer;
-        }
-        made += 1;
-    }
-    Answer::Going
-}
-
 // Ticks.
 pub fn tick_command(space: &mut [u32], len: usize, task: u32, hint: u32, times: u32) -> Answer
     requires { ⌜ len ≤ length (now space) ⌝ }
     ensures { λ r. ⌜ Leaves (now (space .entry)) (now (space .exit)) len (answerText r)
         (tickCommand times (take len (now (space .entry))) task hint) ⌝ }
 {
-    make_ticks(&mut space[..len], task, hint, times)
+    ticks(&mut space[..len], task, hint, times)
 }
 
 // A look at the lane: its bags are the first of their places.

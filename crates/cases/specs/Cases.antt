@@ -12,7 +12,7 @@ use Rattle.machine.specs.Sides.{Side, left, right}
 use Rattle.machine.specs.Values.{Value, N, X, Y, storedOf}
 use Rattle.machine.specs.Tasks.{none}
 use Rattle.machine.specs.Table.{hat, link, value}
-use Rattle.machine.specs.Row.{isGoing}
+use Rattle.machine.specs.Answers.{isGoing}
 use Rattle.machine.specs.Calls.{start, begin, tick, lane}
 
 -- What is done: a call, ticks of one task until it answers (at most so many), or a look at the table.

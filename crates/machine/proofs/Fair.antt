@@ -58,6 +58,7 @@ use Rattle.machine.specs.Demand3.{
   start-call,
   begin-call,
   tick-call,
+  ticks-call,
   dispatch-call,
   run-call,
   panel-call,
@@ -108,6 +109,8 @@ use Rattle.machine.proofs.Shape.ShapeKept.{
   begin-kept,
   run-kept,
   tick-passes,
+  tick-call-kept,
+  ticks-kept,
   start-sized,
   call-accepted,
 }
@@ -143,7 +146,8 @@ module _ (ws : List ℕ) (A : WellFormed ws) where
   unfolding run panel
   leave-dispatched =
       record {
-        by-tick = λ k h. rw (tick-passes ws A k h) (tick-kept ws Z W k h .same-dispatched);
+        by-tick = λ k h. tick-call-kept ws A k h .same-dispatched;
+        by-ticks = λ k h times. ticks-kept ws A times k h .same-dispatched;
         by-run = λ list answers. tested-kept (runRefusal ws list answers) list answers .same-dispatched;
         by-panel = λ list answers. tested-kept (panelRefusal ws list answers) list answers .same-dispatched;
         by-begin = λ k op side argument. begin-kept ws k op side argument Z W .same-dispatched;
@@ -166,14 +170,12 @@ module _ (ws : List ℕ) (A : WellFormed ws) where
             let at-rest = task-start S T g (start-sized S T g (search test-passed) .two-nodes) k in
             clash (cc (ap (λ (t : Task). isBusy (t .operation)) at-rest))
 
-    tick-waits : (j h : ℕ) → SameWait (tick ws j h .words)
-    tick-waits j h = rw (tick-passes ws A j h) (by-kept (tick-kept ws Z W j h))
-
     other-waits : (c : Call) → dispatchHint c ≡ nothing → SameWait (after c ws)
     unfolding run panel
     other-waits (start-call S T g) e = start-waits S T g
     other-waits (begin-call j op side argument) e = by-kept (begin-kept ws j op side argument Z W)
-    other-waits (tick-call j h) e = tick-waits j h
+    other-waits (tick-call j h) e = by-kept (tick-call-kept ws A j h)
+    other-waits (ticks-call j h times) e = by-kept (ticks-kept ws A times j h)
     other-waits (dispatch-call h) e = clash (cc)
     other-waits (run-call list answers) e = by-kept (tested-kept (runRefusal ws list answers) list answers)
     other-waits (panel-call list answers) e = by-kept (tested-kept (panelRefusal ws list answers) list answers)
@@ -260,6 +262,7 @@ by-hint P is-dispatch other (dispatch-call h) = is-dispatch h
 by-hint P is-dispatch other (start-call S T g) = other (start-call S T g) refl
 by-hint P is-dispatch other (begin-call k op side argument) = other (begin-call k op side argument) refl
 by-hint P is-dispatch other (tick-call k h) = other (tick-call k h) refl
+by-hint P is-dispatch other (ticks-call k h times) = other (ticks-call k h times) refl
 by-hint P is-dispatch other (run-call list answers) = other (run-call list answers) refl
 by-hint P is-dispatch other (panel-call list answers) = other (panel-call list answers) refl
 by-hint P is-dispatch other (read-call out) = other (read-call out) refl

@@ -73,6 +73,16 @@ abbrev pub dispatchRefusalOf : Dispatch → Option ℕ
 dispatchRefusalOf Idle = nothing
 dispatchRefusalOf (Answered a) = refusalOf a
 
+abbrev pub isGoing : Answer → Bool
+isGoing Going = true
+isGoing Pushed = false
+isGoing (Bag b) = false
+isGoing Empty = false
+isGoing Full = false
+isGoing Yes = false
+isGoing No = false
+isGoing (Refused n) = false
+
 -- The answers that end a call: all but "going" and the refusals.
 abbrev pub endsCall : Answer → Bool
 endsCall Going = false

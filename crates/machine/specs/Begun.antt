@@ -15,14 +15,15 @@ use Rattle.machine.specs.Choice.{_≟_, if_then_else_}
 use Rattle.machine.specs.Sides.{sideOf}
 use Rattle.machine.specs.Values.{number}
 use Rattle.machine.specs.Operations.{Operation, push, pop, operationNumber, operationOf}
-use Rattle.machine.specs.Answers.{kindOf, payloadOf, refusalOf, answerOf}
+use Rattle.machine.specs.Answers.{kindOf, payloadOf, refusalOf, isGoing, answerOf}
 use Rattle.machine.specs.Calls.{start}
-use Rattle.machine.specs.Row.{Note, isGoing, nextNoted}
+use Rattle.machine.specs.Row.{Note, nextNoted}
 use Rattle.machine.specs.Demand3.{
   Call,
   start-call,
   begin-call,
   tick-call,
+  ticks-call,
   dispatch-call,
   run-call,
   panel-call,
@@ -85,6 +86,10 @@ finish η k (some n) a =
 abbrev pub recordMade : History → ℕ → Answer → History
 recordMade η k a = cond (isGoing a) η (finish η k (η .notes k) a)
 
+-- A tick of task k with its outcome.
+abbrev pub recordTick : History → ℕ → Answer → History
+recordTick η k a = elim (refusalOf a) as (λ _. History) [ some n ↦ η | nothing ↦ recordMade η k a ]
+
 -- The ticks that a run made, by its pairs and the words that it wrote.
 unfoldable pub recordRun : History → (made : ℕ) → (list answers : List ℕ) → History
 recordRun η zero list answers = η
@@ -129,12 +134,13 @@ recordBegin η k n Accepted =
     }
 recordBegin η k n (Reply-Refused r) = η
 
--- A call, with what it gave back.
+-- A call, with what it gave back. Of ticks in a row only the last can have ended the task's call.
 abbrev pub recordCall : History → (c : Call) → Given c → History
 recordCall η (start-call S T g) r = recordStart η T r
 recordCall η (begin-call k op side argument) r =
     recordBegin η k (record { operation = operationOf op; side = sideOf side; argument = number argument }) r
-recordCall η (tick-call k h) a = elim (refusalOf a) as (λ _. History) [ some n ↦ η | nothing ↦ recordMade η k a ]
+recordCall η (tick-call k h) a = recordTick η k a
+recordCall η (ticks-call k h times) a = recordTick η k a
 recordCall η (dispatch-call h) r = recordDispatch η r
 recordCall η (run-call list answers) r = recordRun η (r .0 .made) list (r .1)
 recordCall η (panel-call list answers) r = recordRun η (r .0 .made) list (r .1)

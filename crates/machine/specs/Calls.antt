@@ -7,7 +7,7 @@ use lib.Dec.{leb, ltb, eqb}
 use lib.ListN.{length, drop}
 use Rattle.tag.specs.Tags.{allTagWords}
 use Rattle.machine.specs.declared.Answer.{Answer}
-use Rattle.machine.specs.declared.Answer.the-variants.{Refused}
+use Rattle.machine.specs.declared.Answer.the-variants.{Going, Refused}
 use Rattle.machine.specs.declared.Dispatch.{Dispatch}
 use Rattle.machine.specs.declared.Dispatch.the-variants.{Idle, Answered}
 use Rattle.machine.specs.declared.Reply.{Reply}
@@ -43,7 +43,7 @@ use Rattle.machine.specs.Table.{
 use Rattle.machine.specs.Shape.{sizesOk, lengthOk, shapeOk}
 use Rattle.machine.specs.Allocate.{allocate}
 use Rattle.machine.specs.Lines.{Effect, seen, writeAll, act}
-use Rattle.machine.specs.Answers.{answerLength, answerWords, refusalOf}
+use Rattle.machine.specs.Answers.{answerLength, answerWords, refusalOf, isGoing}
 
 -- ---- The lane.
 
@@ -248,6 +248,14 @@ tick ws k h =
       | some n ↦ record { answer = Refused n; words = ws }
       | nothing ↦ tickOn ws k h
     ]
+
+-- ---- Ticks in a row: of one task, until one does not go on, or so many. The last outcome is given; "going" where no tick
+-- was asked for.
+unfoldable pub ticks : (times : ℕ) → List ℕ → (k hint : ℕ) → Ticked
+ticks zero ws k h = record { answer = Going; words = ws }
+ticks (suc n) ws k h =
+    let one = tick ws k h in
+    elim (isGoing (one .answer)) as (λ _. Ticked) [ true ↦ ticks n (one .words) k h | false ↦ one ]
 
 -- ---- 2026-07: dispatch.
 pub record Dispatched : Type 0 where

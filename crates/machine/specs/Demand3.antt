@@ -19,17 +19,18 @@ use Rattle.machine.specs.Sides.{sideOf}
 use Rattle.machine.specs.Values.{number}
 use Rattle.machine.specs.Operations.{operationOf}
 use Rattle.machine.specs.Shape.{sameWords}
-use Rattle.machine.specs.Answers.{refusalOf}
-use Rattle.machine.specs.Calls.{start, begin, tick, tickOn, dispatch, RunDone, run, panel, lane, read}
+use Rattle.machine.specs.Answers.{refusalOf, isGoing}
+use Rattle.machine.specs.Calls.{start, begin, tick, tickOn, ticks, dispatch, RunDone, run, panel, lane, read}
 use Rattle.machine.specs.Row.{Row, emptyRow, Note, noted, feedMade, feedDispatch, feedRun}
 
 -- 01: the list holds start, begin, tick, run and reading the lane, with any arguments, and every call on the same table
--- that a request adds: 2026-01's panel, 2026-07's dispatch. A run's list and answer slice and a read's out slice are
--- that call's own: here by their contents when the call is made.
+-- that a request adds: 2026-01's panel, 2026-07's dispatch; and ticks in a row. A run's list and answer slice and a read's
+-- out slice are that call's own: here by their contents when the call is made.
 pub data Call : Type 0 where
   start-call : (S T growth : ℕ) → Call
   begin-call : (k operation side : ℕ) (argument : Stored) → Call
   tick-call : (k hint : ℕ) → Call
+  ticks-call : (k hint times : ℕ) → Call
   dispatch-call : (hint : ℕ) → Call
   run-call : (list answers : List ℕ) → Call
   panel-call : (list answers : List ℕ) → Call
@@ -40,6 +41,7 @@ abbrev pub Given : Call → Type 0
 Given (start-call S T g) = Reply
 Given (begin-call k op side argument) = Reply
 Given (tick-call k h) = Answer
+Given (ticks-call k h times) = Answer
 Given (dispatch-call h) = Dispatch
 Given (run-call list answers) = Ran × List ℕ
 Given (panel-call list answers) = Ran × List ℕ
@@ -49,6 +51,7 @@ abbrev pub given : (c : Call) → List ℕ → Given c
 given (start-call S T g) ws = start ws S T g .reply
 given (begin-call k op side argument) ws = begin ws k op side argument .reply
 given (tick-call k h) ws = tick ws k h .answer
+given (ticks-call k h times) ws = ticks times ws k h .answer
 given (dispatch-call h) ws = dispatch ws h .answer
 given (run-call list answers) ws = (run ws list answers .ran, run ws list answers .answers)
 given (panel-call list answers) ws = (panel ws list answers .ran, panel ws list answers .answers)
@@ -59,6 +62,7 @@ abbrev pub after : Call → List ℕ → List ℕ
 after (start-call S T g) ws = start ws S T g .words
 after (begin-call k op side argument) ws = begin ws k op side argument .words
 after (tick-call k h) ws = tick ws k h .words
+after (ticks-call k h times) ws = ticks times ws k h .words
 after (dispatch-call h) ws = dispatch ws h .words
 after (run-call list answers) ws = run ws list answers .words
 after (panel-call list answers) ws = panel ws list answers .words
@@ -78,6 +82,11 @@ unfoldable pub feedTick : Row → ℕ → Answer → Option Row
 feedTick ρ k a =
     elim (refusalOf a) as (λ _. Option Row) [ some n ↦ some ρ | nothing ↦ feedMade ρ k a ]
 
+-- Ticks in a row are fed as the ticks that they are: those before the last went on, and leave the row as it is.
+abbrev pub feedTicks : Row → ℕ → (times : ℕ) → Answer → Option Row
+feedTicks ρ k zero a = cond (isGoing a) (some ρ) nothing
+feedTicks ρ k (suc n) a = feedTick ρ k a
+
 -- 01: reading: the row's count and the row in order, or 12 exactly when the out slice is too short for it; never 3, 4
 -- or 11. 02: two words for a tag.
 abbrev pub feedRead : Row → List ℕ → Reading → List ℕ → Option Row
@@ -93,6 +102,7 @@ feed ρ (start-call S T g) r = feedStart ρ T r
 feed ρ (begin-call k op side argument) r =
     feedBegin ρ k (record { operation = operationOf op; side = sideOf side; argument = number argument }) r
 feed ρ (tick-call k h) a = feedTick ρ k a
+feed ρ (ticks-call k h times) a = feedTicks ρ k times a
 feed ρ (dispatch-call h) a = feedDispatch ρ a
 feed ρ (run-call list answers) r = feedRun ρ (r .0 .made) list (r .1)
 feed ρ (panel-call list answers) r = feedRun ρ (r .0 .made) list (r .1)
@@ -118,10 +128,18 @@ WithinList list ws ρ r =
     → i ≤ r .ran .made
     → (ρᵢ : Row) × (feedRun ρ i list (r .answers) ≡ some ρᵢ) × LaneIs (afterTicks i list ws) ρᵢ
 
+-- The same of ticks in a row, of which the first i are ticks in a row.
+abbrev pub WithinTicks : (k hint times : ℕ) → List ℕ → Row → Type 0
+WithinTicks k h times ws ρ =
+    (i : ℕ)
+    → i ≤ times
+    → (ρᵢ : Row) × (feedTicks ρ k i (ticks i ws k h .answer) ≡ some ρᵢ) × LaneIs (ticks i ws k h .words) ρᵢ
+
 -- The same, inside a call.
 abbrev pub Within : (c : Call) → List ℕ → Row → Type 0
 Within (run-call list answers) ws ρ = WithinList list ws ρ (run ws list answers)
 Within (panel-call list answers) ws ρ = WithinList list ws ρ (panel ws list answers)
+Within (ticks-call k h times) ws ρ = WithinTicks k h times ws ρ
 Within (start-call S T g) ws ρ = Unit {0}
 Within (begin-call k op side argument) ws ρ = Unit {0}
 Within (tick-call k h) ws ρ = Unit {0}

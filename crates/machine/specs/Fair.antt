@@ -16,6 +16,7 @@ use Rattle.machine.specs.Calls.{
   startWords,
   begin,
   tick,
+  ticks,
   isBusyTask,
   Dispatched,
   dispatch,
@@ -27,6 +28,7 @@ use Rattle.machine.specs.Demand3.{
   start-call,
   begin-call,
   tick-call,
+  ticks-call,
   dispatch-call,
   run-call,
   panel-call,
@@ -37,9 +39,10 @@ use Rattle.machine.specs.Begun.{afterAll}
 
 -- ---- The task last dispatched.
 
--- 02: "A plain tick does not touch it": nor does a begin, a run or the panel's list.
+-- 02: "A plain tick does not touch it": nor do ticks in a row, a begin, a run or the panel's list.
 pub record LeaveDispatched (ws : List ℕ) : Type 0 where
   pub by-tick : (k hint : ℕ) → dispatched (tick ws k hint .words) ≡ dispatched ws
+  pub by-ticks : (k hint times : ℕ) → dispatched (ticks times ws k hint .words) ≡ dispatched ws
   pub by-run : (list answers : List ℕ) → dispatched (run ws list answers .words) ≡ dispatched ws
   pub by-panel : (list answers : List ℕ) → dispatched (panel ws list answers .words) ≡ dispatched ws
   pub by-begin :
@@ -56,6 +59,7 @@ dispatchHint (dispatch-call h) = some h
 dispatchHint (start-call S T g) = nothing
 dispatchHint (begin-call k op side argument) = nothing
 dispatchHint (tick-call k h) = nothing
+dispatchHint (ticks-call k h times) = nothing
 dispatchHint (run-call list answers) = nothing
 dispatchHint (panel-call list answers) = nothing
 dispatchHint (read-call out) = nothing

@@ -11,7 +11,7 @@ use Rattle.machine.specs.Choice.{_≟_, if_then_else_}
 use Rattle.machine.specs.Round.{nextAfter}
 use Rattle.machine.specs.Sides.{Side, left, right}
 use Rattle.machine.specs.Operations.{Operation, idle, push, pop, add, remove}
-use Rattle.machine.specs.Answers.{refusalOf, answerOf}
+use Rattle.machine.specs.Answers.{refusalOf, isGoing, answerOf}
 
 -- 01: the task's note is the operation, side and argument.
 pub record Note : Type 0 where
@@ -104,16 +104,6 @@ answeredBy remove n a bags = sizeAnswered a bags
 
 abbrev pub answered : Note → Answer → List ℕ → Option (List ℕ)
 answered n a bags = answeredBy (n .operation) n a bags
-
-abbrev pub isGoing : Answer → Bool
-isGoing Going = true
-isGoing Pushed = false
-isGoing (Bag b) = false
-isGoing Empty = false
-isGoing Full = false
-isGoing Yes = false
-isGoing No = false
-isGoing (Refused n) = false
 
 -- A tick that was made. 01: a tick answers the call in its task's note, so a task without one gets no answer, not
 -- even "going"; after each tick's answer but "going" the task has no note.

@@ -31,6 +31,7 @@ use Rattle.machine.specs.Calls.{
   applied,
   tickOn,
   tick,
+  ticks,
   dispatchTo,
   dispatchOn,
   dispatch,
@@ -44,24 +45,26 @@ use Rattle.machine.specs.Calls.{
   read,
 }
 use Rattle.refuted.specs.Machines.{
+  inRow,
   dispatchToBy,
   dispatchChoosing,
   beginBy,
   tickOnBy,
   tickBy,
+  ticksBy,
   dispatchBy,
   runOnBy,
   runBy,
   panelBy,
   afterTicksBy,
 }
-use Rattle.refuted.specs.Wrong.{ended, wholeOn, touchesNothing, heldFromBy, leftwards, isArgument, turned}
+use Rattle.refuted.specs.Wrong.{wholeOn, touchesNothing, heldFromBy, leftwards, toRefusal, isArgument, turned}
 use Rattle.refuted.specs.Judged.{byRow, byDefinitions, afterAllBy, goingAlone, freeBelow}
 use Rattle.refuted.specs.Lists.{AllRefuted, judged, Spins, Leaks, Doubles}
 
 pub all-refuted : AllRefuted
-unfolding judged byRow byDefinitions ended wholeOn touchesNothing heldFromBy leftwards isArgument turned beginBy tickOnBy
-    dispatchToBy dispatchChoosing dispatchBy firstFrom feedDispatched feedIdle feedDispatch dispatchTo dispatchOn dispatch
+unfolding judged byRow byDefinitions wholeOn touchesNothing heldFromBy leftwards toRefusal isArgument turned beginBy
+    tickOnBy inRow ticksBy ticks dispatchToBy dispatchChoosing dispatchBy firstFrom feedDispatched feedIdle feedDispatch dispatchTo dispatchOn dispatch
     tickBy runOnBy runBy panelBy afterTicksBy feedTick pushAnswered popAnswered sizeAnswered feedMade feedRun bind
     plainAnswerOf answerOf ℕ-discrete decLt decLe Value-discrete decode stepIn stepOf isStepIn link value task
     allBelow sameWords nodeOk busyOk recordOk shapeOk heldFrom roots mark markAll visit visitFrom marked

@@ -1,14 +1,15 @@
 -- The calls over the right machine are those of the definitions.
-use mathlib.Core.Path.{_≡_, refl, ap, _∙_}
+use mathlib.Core.Path.{_≡_, refl, ap, _∙_, fun-ext}
+use mathlib.Core.Bool.{true, false}
 use mathlib.Core.List.{List, [], _∷_}
 use mathlib.Core.Option.{Option, some, none as nothing}
-use Prim.Native.Nat.{ℕ}
+use Prim.Native.Nat.{ℕ, zero, suc}
 use lib.ListN.{drop}
 use Rattle.machine.specs.declared.Answer.the-variants.{Refused}
 use Rattle.machine.specs.declared.Stored.{Stored}
 use Rattle.machine.specs.Allocate.{allocate}
 use Rattle.machine.specs.Lines.{act}
-use Rattle.machine.specs.Answers.{answerLength, refusalOf}
+use Rattle.machine.specs.Answers.{answerLength, refusalOf, isGoing}
 use Rattle.machine.specs.Calls.{
   tableRefusal,
   runRefusal,
@@ -18,6 +19,7 @@ use Rattle.machine.specs.Calls.{
   effectOf,
   tickOn,
   tick,
+  ticks,
   dispatchTo,
   dispatchOn,
   dispatch,
@@ -34,6 +36,7 @@ use Rattle.machine.specs.Demand3.{
   start-call,
   begin-call,
   tick-call,
+  ticks-call,
   dispatch-call,
   run-call,
   panel-call,
@@ -42,11 +45,14 @@ use Rattle.machine.specs.Demand3.{
   after,
 }
 use Rattle.refuted.specs.Machines.{
+  Ticks,
   beginBy,
   tickOnBy,
   dispatchToBy,
   dispatchChoosing,
+  inRow,
   tickBy,
+  ticksBy,
   dispatchBy,
   runOnBy,
   testedBy,
@@ -70,6 +76,20 @@ same-tick ws k h =
       | nothing ↦ one
     ])
     (same-tick-on ws k h)
+
+in-row-of-ticks : (n : ℕ) (ws : List ℕ) (k h : ℕ) → inRow tick n ws k h ≡ ticks n ws k h
+unfolding inRow ticks
+in-row-of-ticks zero ws k h = refl
+in-row-of-ticks (suc n) ws k h =
+    ap
+    (λ others. elim (isGoing (tick ws k h .answer)) as (λ _. Ticked) [ true ↦ others | false ↦ tick ws k h ])
+    (in-row-of-ticks n (tick ws k h .words) k h)
+
+pub same-ticks : (n : ℕ) (ws : List ℕ) (k h : ℕ) → ticksBy rightMachine n ws k h ≡ ticks n ws k h
+unfolding ticksBy
+same-ticks n ws k h =
+    ap (λ (one : Ticks). inRow one n ws k h) (fun-ext (λ vs. fun-ext (λ j. fun-ext (λ i. same-tick vs j i))))
+    ∙ in-row-of-ticks n ws k h
 
 pub same-dispatch : (ws : List ℕ) (h : ℕ) → dispatchBy rightMachine ws h ≡ dispatch ws h
 unfolding dispatchBy dispatchChoosing dispatchToBy dispatch dispatchOn dispatchTo tickOnBy tickOn effectOf
@@ -115,6 +135,7 @@ pub right-gives : (c : Call) (ws : List ℕ) → givenBy rightMachine c ws ≡ g
 right-gives (start-call S T g) ws = refl
 right-gives (begin-call k op side argument) ws = ap (λ c. c .reply) (same-begin ws k op side argument)
 right-gives (tick-call k h) ws = ap (λ one. one .answer) (same-tick ws k h)
+right-gives (ticks-call k h times) ws = ap (λ one. one .answer) (same-ticks times ws k h)
 right-gives (dispatch-call h) ws = ap (λ d. d .answer) (same-dispatch ws h)
 right-gives (run-call list answers) ws = ap (λ r. (r .ran, r .answers)) (same-run ws list answers)
 right-gives (panel-call list answers) ws = ap (λ r. (r .ran, r .answers)) (same-panel ws list answers)
@@ -124,6 +145,7 @@ pub right-leaves : (c : Call) (ws : List ℕ) → afterBy rightMachine c ws ≡ 
 right-leaves (start-call S T g) ws = refl
 right-leaves (begin-call k op side argument) ws = ap (λ c. c .words) (same-begin ws k op side argument)
 right-leaves (tick-call k h) ws = ap (λ one. one .words) (same-tick ws k h)
+right-leaves (ticks-call k h times) ws = ap (λ one. one .words) (same-ticks times ws k h)
 right-leaves (dispatch-call h) ws = ap (λ d. d .words) (same-dispatch ws h)
 right-leaves (run-call list answers) ws = ap (λ r. r .words) (same-run ws list answers)
 right-leaves (panel-call list answers) ws = ap (λ r. r .words) (same-panel ws list answers)

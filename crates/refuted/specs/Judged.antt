@@ -11,15 +11,16 @@ use Rattle.machine.specs.declared.Ran.{Ran}
 use Rattle.machine.specs.declared.Reading.{Reading}
 use Rattle.machine.specs.declared.Reading.the-variants.{Count, Refused as Reading-Refused}
 use Rattle.machine.specs.Shape.{allBelow, sameWords}
-use Rattle.machine.specs.Answers.{replyNumber, kindOf, payloadOf, dispatchKindOf, dispatchPayloadOf}
+use Rattle.machine.specs.Answers.{replyNumber, kindOf, payloadOf, dispatchKindOf, dispatchPayloadOf, isGoing}
 use Rattle.machine.specs.Allocate.{Marking}
 use Rattle.machine.specs.Calls.{RunDone, lane}
-use Rattle.machine.specs.Row.{Row, isGoing, feedRun}
+use Rattle.machine.specs.Row.{Row, feedRun}
 use Rattle.machine.specs.Demand3.{
   Call,
   start-call,
   begin-call,
   tick-call,
+  ticks-call,
   dispatch-call,
   run-call,
   panel-call,
@@ -27,9 +28,10 @@ use Rattle.machine.specs.Demand3.{
   Given,
   given,
   after,
+  feedTicks,
   feed,
 }
-use Rattle.refuted.specs.Machines.{Machine, runBy, panelBy, givenBy, afterBy, afterTicksBy}
+use Rattle.refuted.specs.Machines.{Machine, ticksBy, runBy, panelBy, givenBy, afterBy, afterTicksBy}
 
 -- A call is named by its number in the list, from 1.
 pub data Verdict : Type 0 where
@@ -49,9 +51,15 @@ abbrev pub sameWithinList : Machine → (list ws : List ℕ) → Row → RunDone
 sameWithinList M list ws ρ r =
     allBelow (suc (r .ran .made)) (λ i. sameBags (lane (afterTicksBy M i list ws)) (feedRun ρ i list (r .answers)))
 
+abbrev pub sameWithinTicks : Machine → (k hint times : ℕ) → List ℕ → Row → Bool
+sameWithinTicks M k h times ws ρ =
+    allBelow (suc times) (λ i.
+    let r = ticksBy M i ws k h in sameBags (lane (r .words)) (feedTicks ρ k i (r .answer)))
+
 abbrev pub sameWithin : Machine → (c : Call) → List ℕ → Row → Bool
 sameWithin M (run-call list answers) ws ρ = sameWithinList M list ws ρ (runBy M ws list answers)
 sameWithin M (panel-call list answers) ws ρ = sameWithinList M list ws ρ (panelBy M ws list answers)
+sameWithin M (ticks-call k h times) ws ρ = sameWithinTicks M k h times ws ρ
 sameWithin M (start-call S T g) ws ρ = true
 sameWithin M (begin-call k op side argument) ws ρ = true
 sameWithin M (tick-call k h) ws ρ = true
@@ -91,6 +99,7 @@ abbrev pub sameGiven : (c : Call) → Given c → Given c → Bool
 sameGiven (start-call S T g) r q = eqb (replyNumber r) (replyNumber q)
 sameGiven (begin-call k op side argument) r q = eqb (replyNumber r) (replyNumber q)
 sameGiven (tick-call k h) r q = sameAnswer r q
+sameGiven (ticks-call k h times) r q = sameAnswer r q
 sameGiven (dispatch-call h) r q = sameDispatch r q
 sameGiven (run-call list answers) r q = sameRan (r .0) (q .0) && sameWords (r .1) (q .1)
 sameGiven (panel-call list answers) r q = sameRan (r .0) (q .0) && sameWords (r .1) (q .1)

@@ -12,7 +12,7 @@ use Rattle.machine.specs.Table.{tableLength}
 use Rattle.machine.specs.Allocate.{marked}
 use Rattle.machine.specs.Calls.{isBegun, lane, times, start}
 use Rattle.machine.specs.Row.{emptyRow}
-use Rattle.machine.specs.Demand3.{Call, begin-call, tick-call, dispatch-call, run-call, panel-call, read-call}
+use Rattle.machine.specs.Demand3.{Call, begin-call, tick-call, ticks-call, dispatch-call, run-call, panel-call, read-call}
 use Rattle.refuted.specs.Machines.{Machine, rightMachine}
 use Rattle.refuted.specs.Wrong.{
   wholeInFirstTick,
@@ -40,6 +40,8 @@ use Rattle.refuted.specs.Wrong.{
   removeCutsAgain,
   removeLeavesLink,
   reportsUnmadeTick,
+  makesTickMore,
+  ticksAfterAnswer,
   panelTestsRoomFirst,
   panelTestsLengthFirst,
   panelCutsList,
@@ -401,6 +403,24 @@ entries =
       T = 1;
       calls = begins 0 push right 51 ++ (run-call (0 ∷ 0 ∷ 0 ∷ 4 ∷ []) (replicate 6 7) ∷ []);
       row-says = passes;
+      definitions-say = other-answer 2;
+    }
+    -- Ten ticks of a push for nine, and then one for none: it answers.
+    ∷ record {
+      wrong = makesTickMore;
+      S = 4;
+      T = 1;
+      calls = begins 0 push right 51 ++ (ticks-call 0 0 9 ∷ ticks-call 0 0 0 ∷ []);
+      row-says = not-the-row's-answer 3;
+      definitions-say = other-table 2;
+    }
+    -- The push answers at its eleventh tick, and a twelfth is refused: nobody is told of the bag.
+    ∷ record {
+      wrong = ticksAfterAnswer;
+      S = 4;
+      T = 1;
+      calls = begins 0 push right 51 ++ (ticks-call 0 0 12 ∷ []);
+      row-says = lane-is-not-the-row 2;
       definitions-say = other-answer 2;
     }
     -- 66 words, and no room for an answer.

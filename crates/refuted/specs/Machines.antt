@@ -1,10 +1,11 @@
--- What a machine is: what its ticks do, what its runs report, which lists its panel takes, what its begin refuses, what
--- its dispatches do. The calls over any machine, and the right one.
+-- What a machine is: what its ticks do, alone and in a row, what its runs report, which lists its panel takes, what its
+-- begin refuses, what its dispatches do. The calls over any machine, and the right one.
+use mathlib.Core.Bool.{true, false}
 use mathlib.Core.List.{List, [], _∷_}
 use mathlib.Core.Option.{Option, some, none as nothing}
 use Prim.Native.Nat.{ℕ, zero, suc}
 use lib.ListN.{drop}
-use Rattle.machine.specs.declared.Answer.the-variants.{Refused}
+use Rattle.machine.specs.declared.Answer.the-variants.{Going, Refused}
 use Rattle.machine.specs.declared.Dispatch.the-variants.{Idle, Answered}
 use Rattle.machine.specs.declared.Stored.{Stored}
 use Rattle.machine.specs.Sides.{Side, opposite, sideOf}
@@ -15,7 +16,7 @@ use Rattle.machine.specs.Tasks.{Task, goal}
 use Rattle.machine.specs.Table.{growth, task, setDispatched, setTask}
 use Rattle.machine.specs.Allocate.{allocate}
 use Rattle.machine.specs.Lines.{Memory, Effect, seen, act}
-use Rattle.machine.specs.Answers.{answerLength, refusalOf}
+use Rattle.machine.specs.Answers.{answerLength, refusalOf, isGoing}
 use Rattle.machine.specs.Calls.{
   tableRefusal,
   beginRefusal,
@@ -41,6 +42,7 @@ use Rattle.machine.specs.Demand3.{
   start-call,
   begin-call,
   tick-call,
+  ticks-call,
   dispatch-call,
   run-call,
   panel-call,
@@ -51,14 +53,22 @@ use Rattle.machine.specs.Demand3.{
 abbrev pub Ticks : Type 0
 Ticks = List ℕ → (k hint : ℕ) → Ticked
 
--- Dispatches are made of the machine's own ticks.
+-- Ticks in a row and dispatches are made of the machine's own ticks.
 pub record Machine : Type 0 where
   pub tickOn : Ticks
+  pub ticksInRow : Ticks → (times : ℕ) → Ticks
   pub reports : RunDone → RunDone
   pub panelRefuses : (ws list answers : List ℕ) → Option ℕ
   pub panelTakes : (list : List ℕ) → List ℕ
   pub beginRefuses : List ℕ → (k operation side : ℕ) → (argument : Stored) → Option ℕ
   pub dispatches : Ticks → List ℕ → (hint : ℕ) → Dispatched
+
+-- ---- Ticks in a row, as in Calls.
+unfoldable pub inRow : Ticks → (times : ℕ) → Ticks
+inRow tick zero ws k h = record { answer = Going; words = ws }
+inRow tick (suc n) ws k h =
+    let one = tick ws k h in
+    elim (isGoing (one .answer)) as (λ _. Ticked) [ true ↦ inRow tick n (one .words) k h | false ↦ one ]
 
 -- ---- Dispatches by the task that they choose.
 unfoldable pub dispatchToBy : Ticks → List ℕ → (k hint : ℕ) → Dispatched
@@ -85,6 +95,7 @@ abbrev pub byTicks : Ticks → Machine
 byTicks tickOn =
     record {
       tickOn = tickOn;
+      ticksInRow = inRow;
       reports = λ r. r;
       panelRefuses = panelRefusal;
       panelTakes = λ list. list;
@@ -129,6 +140,9 @@ tickBy M ws k h =
       | nothing ↦ M .tickOn ws k h
     ]
 
+unfoldable pub ticksBy : Machine → (times : ℕ) → List ℕ → (k hint : ℕ) → Ticked
+ticksBy M times ws k h = M .ticksInRow (tickBy M) times ws k h
+
 unfoldable pub dispatchBy : Machine → List ℕ → (hint : ℕ) → Dispatched
 dispatchBy M ws h = M .dispatches (M .tickOn) ws h
 
@@ -157,6 +171,7 @@ abbrev pub givenBy : Machine → (c : Call) → List ℕ → Given c
 givenBy M (start-call S T g) ws = start ws S T g .reply
 givenBy M (begin-call k op side argument) ws = beginBy M ws k op side argument .reply
 givenBy M (tick-call k h) ws = tickBy M ws k h .answer
+givenBy M (ticks-call k h times) ws = ticksBy M times ws k h .answer
 givenBy M (dispatch-call h) ws = dispatchBy M ws h .answer
 givenBy M (run-call list answers) ws = (runBy M ws list answers .ran, runBy M ws list answers .answers)
 givenBy M (panel-call list answers) ws = (panelBy M ws list answers .ran, panelBy M ws list answers .answers)
@@ -166,6 +181,7 @@ abbrev pub afterBy : Machine → Call → List ℕ → List ℕ
 afterBy M (start-call S T g) ws = start ws S T g .words
 afterBy M (begin-call k op side argument) ws = beginBy M ws k op side argument .words
 afterBy M (tick-call k h) ws = tickBy M ws k h .words
+afterBy M (ticks-call k h times) ws = ticksBy M times ws k h .words
 afterBy M (dispatch-call h) ws = dispatchBy M ws h .words
 afterBy M (run-call list answers) ws = runBy M ws list answers .words
 afterBy M (panel-call list answers) ws = panelBy M ws list answers .words

@@ -1,5 +1,5 @@
 -- The wrong machines, each under the words of the papers that name it.
-use mathlib.Core.Bool.{Bool, true, false, not, cond, _&&_, _||_}
+use mathlib.Core.Bool.{Bool, false, not, cond, _&&_, _||_}
 use mathlib.Core.List.{List, [], _∷_, _++_, map}
 use mathlib.Core.Option.{Option, some, none as nothing, Option·map}
 use Prim.Native.Nat.{ℕ, zero, suc, _+_, _-_, _*_, _/_, _%_}
@@ -95,7 +95,7 @@ use Rattle.machine.specs.Lines.{
   bagOf,
   act,
 }
-use Rattle.machine.specs.Answers.{kindOf, dispatchKindOf, answerLength, endsCall}
+use Rattle.machine.specs.Answers.{kindOf, dispatchKindOf, answerLength, refusalOf, endsCall}
 use Rattle.machine.specs.Calls.{
   unless,
   isIdle,
@@ -118,10 +118,10 @@ use Rattle.machine.specs.Calls.{
   RunDone,
   lane,
 }
-use Rattle.machine.specs.Row.{isGoing}
 use Rattle.refuted.specs.Machines.{
   Ticks,
   Machine,
+  inRow,
   dispatchChoosing,
   Line,
   Take,
@@ -141,13 +141,6 @@ abbrev pub withLine : Step → Line → Machine
 withLine at other = byLines (but act at other) allocate
 
 -- ---- "One doing a whole call in its first tick and saying "going" after."
-
--- Ticks of the definitions until one ends the call, n and one more at most.
-unfoldable pub ended : (n : ℕ) → List ℕ → (k hint : ℕ) → Ticked
-ended zero ws k h = tickOn ws k h
-ended (suc n) ws k h =
-    let one = tickOn ws k h in
-    elim (isGoing (one .answer)) as (λ _. Ticked) [ true ↦ ended n (one .words) k h | false ↦ one ]
 
 -- What is still to be said is kept as the step: 24 and then 25 for a call that was done, 17 and then 18 for another.
 abbrev pub stepAfter : Answer → Step
@@ -187,7 +180,7 @@ wholeOn op ws k h =
       | nothing ↦
           if stepNumber (t .step) ≟ stepNumber (firstStep op) then
           if operationNumber (t .operation) ≟ operationNumber op then
-          (let all = ended 100 ws k h in
+          (let all = inRow tickOn 101 ws k h in
           record {
             answer = Going;
             words = setTickCount (tickCount ws + 1) (setTask k (goto t (stepAfter (all .answer))) (all .words));
@@ -412,12 +405,45 @@ abbrev pub reportsUnmadeTick : Machine
 reportsUnmadeTick =
     record {
       tickOn = rightMachine .tickOn;
+      ticksInRow = rightMachine .ticksInRow;
       reports = oneMore;
       panelRefuses = rightMachine .panelRefuses;
       panelTakes = rightMachine .panelTakes;
       beginRefuses = rightMachine .beginRefuses;
       dispatches = rightMachine .dispatches;
     }
+
+-- ---- Ticks in a row are as many as asked for, and end at an answer.
+
+-- The right machine but for its ticks in a row.
+abbrev pub withInRow : (Ticks → (times : ℕ) → Ticks) → Machine
+withInRow ticksInRow =
+    record {
+      tickOn = rightMachine .tickOn;
+      ticksInRow = ticksInRow;
+      reports = rightMachine .reports;
+      panelRefuses = rightMachine .panelRefuses;
+      panelTakes = rightMachine .panelTakes;
+      beginRefuses = rightMachine .beginRefuses;
+      dispatches = rightMachine .dispatches;
+    }
+
+-- One tick more is made.
+abbrev pub makesTickMore : Machine
+makesTickMore = withInRow (λ tick times. inRow tick (suc times))
+
+-- They end at a refusal alone: after an answer the task is idle, and that is refused.
+unfoldable pub toRefusal : Ticks → (times : ℕ) → Ticks
+toRefusal tick zero ws k h = record { answer = Going; words = ws }
+toRefusal tick (suc n) ws k h =
+    let one = tick ws k h in
+    elim (refusalOf (one .answer)) as (λ _. Ticked) [
+      | some r ↦ one
+      | nothing ↦ toRefusal tick n (one .words) k h
+    ]
+
+abbrev pub ticksAfterAnswer : Machine
+ticksAfterAnswer = withInRow toRefusal
 
 -- ---- 2026-01: "15, panel list over 64 words, tested where 13 is tested and straight after it".
 
@@ -426,6 +452,7 @@ abbrev pub withPanel : ((ws list answers : List ℕ) → Option ℕ) → (List �
 withPanel refuses takes =
     record {
       tickOn = rightMachine .tickOn;
+      ticksInRow = rightMachine .ticksInRow;
       reports = rightMachine .reports;
       panelRefuses = refuses;
       panelTakes = takes;
@@ -470,6 +497,7 @@ abbrev pub withBegin : Ticks → After7 → Machine
 withBegin ticks after7 =
     record {
       tickOn = ticks;
+      ticksInRow = rightMachine .ticksInRow;
       reports = rightMachine .reports;
       panelRefuses = rightMachine .panelRefuses;
       panelTakes = rightMachine .panelTakes;
@@ -607,6 +635,7 @@ abbrev pub takesDigitTen : Machine
 takesDigitTen =
     record {
       tickOn = rightMachine .tickOn;
+      ticksInRow = rightMachine .ticksInRow;
       reports = rightMachine .reports;
       panelRefuses = rightMachine .panelRefuses;
       panelTakes = rightMachine .panelTakes;
@@ -628,6 +657,7 @@ abbrev pub runTurnsWords : Machine
 runTurnsWords =
     record {
       tickOn = rightMachine .tickOn;
+      ticksInRow = rightMachine .ticksInRow;
       reports = λ r. record { ran = r .ran; words = r .words; answers = turned (r .ran .made) (r .answers) };
       panelRefuses = rightMachine .panelRefuses;
       panelTakes = rightMachine .panelTakes;
@@ -642,6 +672,7 @@ abbrev pub withDispatch : (Ticks → List ℕ → (hint : ℕ) → Dispatched) �
 withDispatch dispatches =
     record {
       tickOn = rightMachine .tickOn;
+      ticksInRow = rightMachine .ticksInRow;
       reports = rightMachine .reports;
       panelRefuses = rightMachine .panelRefuses;
       panelTakes = rightMachine .panelTakes;

@@ -8,6 +8,7 @@ pub mod TickReady
 pub mod TickWords
 pub mod MadeTick
 pub mod TickTests
+pub mod TicksInRow
 pub mod RunWords
 pub mod AnswerWords
 pub mod OnePair

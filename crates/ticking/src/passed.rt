@@ -1,4 +1,4 @@
-// One tick on a table that has passed the tests of refusals 3 and 4.
+// One tick, and ticks in a row, on a table that has passed the tests of refusals 3 and 4.
 use alloc::first_free;
 use figure::line;
 use layout::operations::goal_of;
@@ -18,10 +18,10 @@ ghost use Prim.Native.Nat.{_<_};
 ghost use Rattle.machine.specs.Table.{nodeCount, recordWords};
 ghost use Rattle.machine.specs.Allocate.{allocate};
 ghost use Rattle.machine.specs.Shape.{WellFormed};
-ghost use Rattle.machine.specs.Calls.{tickOn};
+ghost use Rattle.machine.specs.Calls.{tickOn, ticks};
 ghost use Rattle.layout.specs.Coded.{structOf, HoldsRecord};
 ghost use Rattle.machine.specs.Results.{tickedOf};
-ghost use Rattle.machine.specs.Row.{isGoing};
+ghost use Rattle.machine.specs.Answers.{isGoing};
 ghost use Rattle.ticking.specs.Ticks.{MayTick, taken, isRefused, GoesOn, made, recorded, stored};
 
 // The node that a tick at 28 or 31 takes, or none; the other lines take none. 31 is refused where D is none, and does not
@@ -60,8 +60,8 @@ fn is_refusal(a: Answer) -> bool
     }
 }
 
-// Whether a task goes on after a line.
-fn is_going(a: Answer) -> bool
+// Whether a task goes on.
+pub(crate) fn is_going(a: Answer) -> bool
     ensures { λ r. ⌜ r ≡ isGoing a ⌝ }
 {
     match a {

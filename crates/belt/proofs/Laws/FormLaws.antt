@@ -3,18 +3,16 @@ use mathlib.Core.Path.{_≡_, refl, sym, ap, _∙_}
 use mathlib.Core.Bool.{Bool, true, false}
 use mathlib.Core.List.{List}
 use mathlib.Core.Option.{Option, some, none as nothing}
-use Prim.Native.Nat.{ℕ, suc, _<_}
+use Prim.Native.Nat.{ℕ, _<_}
 use native.Mathlib.Omega.{arith}
 use lib.ListN.{length, replicate, length-replicate}
 use Rattle.machine.specs.Values.{storedOf}
 use Rattle.machine.specs.declared.Answer.{Answer}
-use Rattle.machine.specs.declared.Answer.the-variants.{Going}
 use Rattle.machine.specs.declared.Reply.{Reply}
 use Rattle.machine.specs.declared.Reply.the-variants.{Accepted, Refused}
 use Rattle.machine.specs.Table.{tableLength}
 use Rattle.machine.specs.Shape.{sizesOk}
-use Rattle.machine.specs.Calls.{Changed, changed, startRefusal, start, startWords, begin, tick}
-use Rattle.machine.specs.Row.{isGoing}
+use Rattle.machine.specs.Calls.{Changed, changed, startRefusal, start, startWords, begin, Ticked, ticks}
 use Rattle.machine.proofs.Basics.Contradiction.{clash}
 use Rattle.machine.specs.Results.{changedOf, tickedOf}
 use Rattle.starting.proofs.StartTests.{start-1, start-accepted, most-nodes, most-tasks}
@@ -76,16 +74,8 @@ unfolding beginCommand
 begin-done ws k op side digit argument e = ap (λ (d : Changed). answeredOf (replyText (d .reply)) (d .words)) e
 
 -- ---- tick.
-module _ (ws : List ℕ) (k h : ℕ) {a : Answer} {ys : List ℕ} (ticked : tickedOf a ys ≡ tick ws k h) where
-  -- A tick that goes on: what is left to make is made of what it leaves.
-  pub tick-going : isGoing a ≡ true → (n : ℕ) → tickCommand (suc n) ws k h ≡ tickCommand n ys k h
-  unfolding tickCommand
-  tick-going g n = rw (← ticked, g, tickCommand) (rw (← ticked))
-
-  pub tick-done : isGoing a ≡ false → (n : ℕ) → answeredOf (answerText a) ys ≡ tickCommand (suc n) ws k h
-  unfolding tickCommand
-  tick-done g n = rw (← ticked, g, tickCommand) (rw (← ticked))
-
-pub no-tick-left : (ws : List ℕ) (k h : ℕ) {n : ℕ} → n ≡ 0 → answeredOf (answerText Going) ws ≡ tickCommand n ws k h
+pub ticks-done : (times : ℕ) (ws : List ℕ) (k h : ℕ) {ys : List ℕ} {a : Answer}
+    → tickedOf a ys ≡ ticks times ws k h
+    → answeredOf (answerText a) ys ≡ tickCommand times ws k h
 unfolding tickCommand
-no-tick-left ws k h e = rw e
+ticks-done times ws k h e = ap (λ (d : Ticked). answeredOf (answerText (d .answer)) (d .words)) e

@@ -8,4 +8,5 @@ pub mod RowSteps
 pub mod Agreement
 pub mod MadeTicks
 pub mod CallsAgree
+pub mod TicksInRow
 pub mod Runs

@@ -46,6 +46,7 @@ use Rattle.machine.specs.Calls.{
   Ticked,
   tickOn,
   tick,
+  ticks,
   Dispatched,
   dispatch,
   RunDone,
@@ -84,6 +85,7 @@ use Rattle.machine.proofs.Shape.ShapeKept.{is-accepted, table-passes, t
 use Rattle.machine.proofs.SlotRule.Reached.{node-not-none, reachable-node}
 use Rattle.machine.proofs.SlotRule.FirstFree.{allocate-first-free, allocate-none}
 use Rattle.machine.proofs.Words.TickLaws.{tick-stopped}
+use Rattle.machine.proofs.Words.RunLaws.{by-last-tick}
 use Rattle.machine.proofs.Linearizability.Calls.Agreement.{Agrees, lane-is-row}
 use Rattle.machine.proofs.Linearizability.Calls.MadeTicks.{well-linked, made-tick}
 use Rattle.machine.proofs.Linearizability.Calls.CallsAgree.{tick-explained}
@@ -147,6 +149,12 @@ pub no-tick-refused-with-11 : {ws : List ℕ} → Begun ws → (k h : ℕ) → t
 no-tick-refused-with-11 B k h e =
     let A = begun-agrees B .1 in
     tick-not-11 A k h (ap (λ (r : Ticked). refusalOf (r .answer)) (sym (tick-passes A k h)) ∙ ap refusalOf e)
+
+-- Nor ticks in a row, of which the last is a tick on such a table.
+pub no-ticks-refused-with-11 : {ws : List ℕ} → Begun ws → (n k h : ℕ) → ticks n ws k h .answer ≢ Refused 11
+no-ticks-refused-with-11 {ws} B n k h =
+    by-last-tick Begun k h (λ vs X. by-call X (tick-call k h)) (λ (r : Ticked). r .answer ≢ Refused 11)
+    (λ vs X e. refute (cc)) (λ vs X. no-tick-refused-with-11 X k h) n ws B
 
 -- 2026-07: nor a dispatch, which is a tick.
 pub no-dispatch-refused-with-11 : {ws : List ℕ} → Begun ws → (h : ℕ) → dispatch ws h .answer ≢ Answered (Refused 11)

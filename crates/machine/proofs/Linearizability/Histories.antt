@@ -28,7 +28,7 @@ use Rattle.machine.specs.Choice.{_≟_, if_then_else_}
 use Rattle.machine.specs.Sides.{Side, left, right}
 use Rattle.machine.specs.Operations.{Operation, idle, push, pop, add, remove}
 use Rattle.machine.specs.Shape.{sameWords}
-use Rattle.machine.specs.Answers.{refusalOf, answerOf}
+use Rattle.machine.specs.Answers.{refusalOf, isGoing, answerOf}
 use Rattle.machine.specs.Row.{
   Note,
   Row,
@@ -42,7 +42,6 @@ use Rattle.machine.specs.Row.{
   popAnswered,
   sizeAnswered,
   answered,
-  isGoing,
   feedMade,
   feedRun,
   nextNoted,
@@ -55,6 +54,7 @@ use Rattle.machine.specs.Demand3.{
   start-call,
   begin-call,
   tick-call,
+  ticks-call,
   dispatch-call,
   run-call,
   panel-call,
@@ -71,6 +71,7 @@ use Rattle.machine.specs.Begun.{
   withNote,
   finish,
   recordMade,
+  recordTick,
   recordRun,
   recordDispatched,
   recordDispatch,
@@ -80,6 +81,7 @@ use Rattle.machine.specs.Begun.{
   bagsPopped,
 }
 use Rattle.machine.proofs.Basics.Contradiction.{clash}
+use Rattle.machine.proofs.Words.RunLaws.{going-answer}
 
 -- ---- Bags counted.
 
@@ -241,6 +243,18 @@ module _ {ρ : Row} {η : History} (R : Recorded ρ η) (k : ℕ) (a : Answer) w
           let x = mapped (answered n a (ρ .bags)) _ q in
           same-row (ap some (x .2)) (finish-recorded n (x .0) (x .1))
 
+-- A tick, made or refused.
+tick-recorded : (k : ℕ) (a : Answer) {ρ ρ′ : Row} {η : History} → Recorded ρ η → feedTick ρ k a ≡ some ρ′
+    → Recorded ρ′ (recordTick η k a)
+unfolding feedTick
+tick-recorded k a {ρ} {ρ′} {η} R e = go (refusalOf a) e
+  where
+    go : (o : Option ℕ)
+        → elim o as (λ _. Option Row) [ some n ↦ some ρ | nothing ↦ feedMade ρ k a ] ≡ some ρ′
+        → Recorded ρ′ (elim o as (λ _. History) [ some n ↦ η | nothing ↦ recordMade η k a ])
+    go (some n) q = same-row q R
+    go nothing q = made-recorded R k a q
+
 -- The ticks that a run made.
 run-recorded : (n : ℕ) (list answers : List ℕ) {ρ ρ′ : Row} {η : History} → Recorded ρ η
     → feedRun ρ n list answers ≡ some ρ′
@@ -298,26 +312,27 @@ dispatch-recorded (Answered a) {ρ} {ρ′} {η} R e = go (refusalOf a) e
     go (some n) q = same-row q R
     go nothing q = made q
 
+-- A row that passes a test is left as it is.
+pub same-if : {ρ ρ′ : Row} (b : Bool) → cond b (some ρ) nothing ≡ some ρ′ → (b ≡ true) × (ρ ≡ ρ′)
+same-if true q = (refl, cc)
+same-if false q = clash (cc)
+
 -- A read leaves the row.
 pub same-when-read : (ρ : Row) (out : List ℕ) (x : Reading) (written : List ℕ) {ρ′ : Row}
     → feedRead ρ out x written ≡ some ρ′
     → ρ ≡ ρ′
 same-when-read ρ out x written {ρ′} e = go x e
   where
-    kept : (b : Bool) → cond b (some ρ) nothing ≡ some ρ′ → ρ ≡ ρ′
-    kept true q = cc
-    kept false q = clash (cc)
-
     go : (x : Reading) → feedRead ρ out x written ≡ some ρ′ → ρ ≡ ρ′
     go (Count n) q =
-        kept
+        same-if
         (eqb n (length (ρ .bags)) && leb (2 * n) (length out) && sameWords (take (2 * n) written) (allTagWords (ρ .bags)))
         q
-    go (Reading-Refused n) q = kept (eqb n 12 && ltb (length out) (2 * length (ρ .bags))) q
+        .1
+    go (Reading-Refused n) q = same-if (eqb n 12 && ltb (length out) (2 * length (ρ .bags))) q .1
 
 pub call-recorded : (c : Call) (r : Given c) {ρ ρ′ : Row} {η : History} → Recorded ρ η → feed ρ c r ≡ some ρ′
     → Recorded ρ′ (recordCall η c r)
-unfolding feedTick
 call-recorded (start-call S T g) Accepted R e = same-row e (nothing-recorded T)
 call-recorded (start-call S T g) (Reply-Refused n) R e = same-row e R
 call-recorded (begin-call k op side argument) Accepted R e =
@@ -329,13 +344,11 @@ call-recorded (begin-call k op side argument) Accepted R e =
       balanced = R .balanced;
     })
 call-recorded (begin-call k op side argument) (Reply-Refused n) R e = same-row e R
-call-recorded (tick-call k h) a {ρ} {ρ′} {η} R e = go (refusalOf a) e
-  where
-    go : (o : Option ℕ)
-        → elim o as (λ _. Option Row) [ some n ↦ some ρ | nothing ↦ feedMade ρ k a ] ≡ some ρ′
-        → Recorded ρ′ (elim o as (λ _. History) [ some n ↦ η | nothing ↦ recordMade η k a ])
-    go (some n) q = same-row q R
-    go nothing q = made-recorded R k a q
+call-recorded (tick-call k h) a R e = tick-recorded k a R e
+call-recorded (ticks-call k h zero) a {ρ} {ρ′} {η} R e =
+    let x = same-if (isGoing a) e in
+    subst (λ (b : Answer). Recorded ρ′ (recordTick η k b)) (sym (going-answer a (x .0))) (same-row (ap some (x .1)) R)
+call-recorded (ticks-call k h (suc n)) a R e = tick-recorded k a R e
 call-recorded (dispatch-call h) r R e = dispatch-recorded r R e
 call-recorded (run-call list answers) r R e = run-recorded (r .0 .made) list (r .1) R e
 call-recorded (panel-call list answers) r R e = run-recorded (r .0 .made) list (r .1) R e

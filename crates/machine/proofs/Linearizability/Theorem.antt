@@ -11,6 +11,7 @@ use Rattle.machine.specs.Demand3.{
   start-call,
   begin-call,
   tick-call,
+  ticks-call,
   dispatch-call,
   run-call,
   panel-call,
@@ -31,6 +32,7 @@ use Rattle.machine.proofs.Linearizability.Calls.CallsAgree.{
   dispatch-explained,
   read-explained,
 }
+use Rattle.machine.proofs.Linearizability.Calls.TicksInRow.{ticks-explained, ticks-within}
 use Rattle.machine.proofs.Linearizability.Calls.Runs.{run-explained, run-within, panel-explained, panel-within}
 
 -- One call, and the ticks inside it.
@@ -38,6 +40,7 @@ pub call-explained : {ws : List ℕ} {ρ : Row} → Agrees ws ρ → (c : Call) 
 call-explained A (start-call S T g) = start-explained A S T g
 call-explained A (begin-call k op side argument) = begin-explained A k op side argument
 call-explained A (tick-call k h) = tick-explained A k h
+call-explained A (ticks-call k h times) = ticks-explained k h A times
 call-explained A (dispatch-call h) = dispatch-explained A h
 call-explained A (run-call list answers) = run-explained A list answers
 call-explained A (panel-call list answers) = panel-explained A list answers
@@ -47,6 +50,7 @@ call-within : {ws : List ℕ} {ρ : Row} → Agrees ws ρ → (c : Call) → Wit
 call-within A (start-call S T g) = tt
 call-within A (begin-call k op side argument) = tt
 call-within A (tick-call k h) = tt
+call-within A (ticks-call k h times) = ticks-within k h A times
 call-within A (dispatch-call h) = tt
 call-within A (run-call list answers) = run-within A list answers
 call-within A (panel-call list answers) = panel-within A list answers

@@ -8,7 +8,7 @@ use lib.Dec.{ltb}
 use borrow.Author.Tests.{ltb-true}
 use Rattle.machine.specs.Shape.{WellFormed}
 use Rattle.machine.specs.Round.{nextAfter}
-use Rattle.machine.specs.Answers.{refusalOf}
+use Rattle.machine.specs.Answers.{refusalOf, isGoing}
 use Rattle.machine.specs.declared.Dispatch.the-variants.{Answered}
 use Rattle.machine.specs.declared.Stored.{Stored}
 use Rattle.machine.specs.Choice.{_≟_, if_then_else_}
@@ -33,7 +33,9 @@ use Rattle.machine.specs.Calls.{
   begin,
   isBusy,
   tickRefusal,
+  Ticked,
   tick,
+  ticks,
   tickOn,
   Dispatched,
   isBusyTask,
@@ -55,6 +57,7 @@ use Rattle.machine.specs.Demand3.{
   start-call,
   begin-call,
   tick-call,
+  ticks-call,
   dispatch-call,
   run-call,
   panel-call,
@@ -68,6 +71,7 @@ use Rattle.machine.proofs.Basics.Updates.{update}
 use Rattle.machine.proofs.Words.Columns.{sizesOf, Columns, Sized, putDispatched}
 use Rattle.machine.proofs.Words.TableLaws.{columns-setDispatched, columns-setTask}
 use Rattle.machine.proofs.Words.EffectLaws.{task-set-dispatched, task-set-task}
+use Rattle.machine.proofs.Words.RunLaws.{first-goes-on, first-is-last}
 use Rattle.machine.proofs.Shape.ShapeLaws.{WellSized, well-sized}
 use Rattle.machine.proofs.Shape.TickKeeps.{busy-passes}
 use Rattle.machine.proofs.Shape.DispatchCases.{chosen-busy}
@@ -97,6 +101,9 @@ use Rattle.machine.proofs.Registers.AlikeTables.{
   same-argument,
 }
 use Rattle.machine.proofs.Registers.AlikeTicks.{refusal-same, tick-alike, RunsAlike, schedule-alike}
+
+abbrev TicksAlike : (r q : Ticked) → Type 0
+TicksAlike r q = (q .answer ≡ r .answer) × AlikeColumns (r .words) (q .words)
 
 module _ {ws vs : List ℕ} (A : AlikeColumns ws vs) where
   -- ---- start.
@@ -267,8 +274,7 @@ module _ {ws vs : List ℕ} (A : AlikeColumns ws vs) where
   read-same out = rw (table-passes vs (A .accepted′) nothing, table-passes ws (A .accepted) nothing, read, lane-same)
 
   -- ---- tick.
-  tick-call-alike : (k h : ℕ)
-      → (tick vs k h .answer ≡ tick ws k h .answer) × AlikeColumns (tick ws k h .words) (tick vs k h .words)
+  tick-call-alike : (k h : ℕ) → TicksAlike (tick ws k h) (tick vs k h)
   tick-call-alike k h =
       rw (tick-passes vs (A .accepted′) k h, tick-passes ws (A .accepted) k h) (tick-alike A k h)
 
@@ -342,19 +348,37 @@ module _ {ws vs : List ℕ} (A : AlikeColumns ws vs) where
         tested false q =
             rw (table-passes ws (A .accepted), table-passes vs (A .accepted′), same-nodes A, q, dispatch) (refl, A)
 
-  -- ---- Every call has the same answer on both tables, and they differ only in registers that do not hold afterwards.
-  pub call-alike : (c : Call) → (given c vs ≡ given c ws) × AlikeColumns (after c ws) (after c vs)
-  call-alike (start-call S T g) = start-alike S T g
-  call-alike (begin-call k op side argument) = begin-alike k op side argument
-  call-alike (tick-call k h) = tick-call-alike k h
-  call-alike (dispatch-call h) = dispatch-alike h
-  call-alike (run-call list answers) =
-      let R = run-alike list answers in
-      (λ i. (R .same-ran i, R .same-answers i), R .words-alike)
-  call-alike (panel-call list answers) =
-      let R = panel-alike list answers in
-      (λ i. (R .same-ran i, R .same-answers i), R .words-alike)
-  call-alike (read-call out) = (λ i. (read-same out i .reading, read-same out i .out), A)
+-- ---- Ticks in a row.
+ticks-alike : (n k h : ℕ) {ws vs : List ℕ} → AlikeColumns ws vs → TicksAlike (ticks n ws k h) (ticks n vs k h)
+unfolding ticks
+ticks-alike zero k h A = (refl, A)
+ticks-alike (suc n) k h {ws} {vs} A =
+    go (isGoing (tick ws k h .answer)) refl (ticks-alike n k h (tick-call-alike A k h .1))
+  where
+    same : isGoing (tick vs k h .answer) ≡ isGoing (tick ws k h .answer)
+    same = ap isGoing (tick-call-alike A k h .0)
+
+    go : (b : Bool) → isGoing (tick ws k h .answer) ≡ b
+        → TicksAlike (ticks n (tick ws k h .words) k h) (ticks n (tick vs k h .words) k h)
+        → TicksAlike (ticks (suc n) ws k h) (ticks (suc n) vs k h)
+    go true e others = rw (first-goes-on n ws k h e, first-goes-on n vs k h (same ∙ e)) others
+    go false e others = rw (first-is-last n ws k h e, first-is-last n vs k h (same ∙ e)) (tick-call-alike A k h)
+
+-- ---- Every call has the same answer on both tables, and they differ only in registers that do not hold afterwards.
+pub call-alike : {ws vs : List ℕ} → AlikeColumns ws vs → (c : Call)
+    → (given c vs ≡ given c ws) × AlikeColumns (after c ws) (after c vs)
+call-alike A (start-call S T g) = start-alike A S T g
+call-alike A (begin-call k op side argument) = begin-alike A k op side argument
+call-alike A (tick-call k h) = tick-call-alike A k h
+call-alike A (ticks-call k h times) = ticks-alike times k h A
+call-alike A (dispatch-call h) = dispatch-alike A h
+call-alike A (run-call list answers) =
+    let R = run-alike A list answers in
+    (λ i. (R .same-ran i, R .same-answers i), R .words-alike)
+call-alike A (panel-call list answers) =
+    let R = panel-alike A list answers in
+    (λ i. (R .same-ran i, R .same-answers i), R .words-alike)
+call-alike A (read-call out) = (λ i. (read-same A out i .reading, read-same A out i .out), A)
 
 -- ---- Any list of calls.
 

@@ -50,6 +50,7 @@ use Rattle.machine.specs.Calls.{
   Ticked,
   tickOn,
   tick,
+  ticks,
   Dispatched,
   dispatch,
   RunDone,
@@ -65,6 +66,7 @@ use Rattle.machine.specs.Demand3.{
   start-call,
   begin-call,
   tick-call,
+  ticks-call,
   dispatch-call,
   run-call,
   panel-call,
@@ -83,6 +85,7 @@ use Rattle.machine.proofs.Words.StartLaws.{
   startColumns,
   columns-start,
 }
+use Rattle.machine.proofs.Words.RunLaws.{kept-in-row}
 use Rattle.machine.proofs.Shape.BusyLaws.{NodeOrNone, BusyFacts, record-of-fresh, record-of-busy}
 use Rattle.machine.proofs.Shape.ShapeLaws.{
   WellSized,
@@ -308,6 +311,10 @@ run-kept (k ∷ h ∷ list) ws answers Z W =
     go nothing K = K
 
 -- ---- Every call.
+kept-accepted : {ws vs : List ℕ} → Kept ws vs → WellFormed vs
+kept-accepted {ws} {vs} K =
+    record { length-passes = length-ok vs (K .well-sized); shape-passes = shape-ok vs (K .well-shaped) }
+
 module _ (ws : List ℕ) (A : WellFormed ws) where
   -- A table that passes both tests is not refused by them.
   pub table-passes : (others : Option ℕ) → tableRefusal ws others ≡ others
@@ -317,15 +324,14 @@ module _ (ws : List ℕ) (A : WellFormed ws) where
   unfolding tick
   tick-passes k h = rw (table-passes nothing, tick)
 
-  kept-accepted : {vs : List ℕ} → Kept ws vs → WellFormed vs
-  kept-accepted {vs} K =
-      record { length-passes = length-ok vs (K .well-sized); shape-passes = shape-ok vs (K .well-shaped) }
-
   Z : WellSized (sizesOf ws)
   Z = well-sized ws (A .length-passes)
 
   W : WellShaped (columns ws)
   W = well-shaped ws (A .shape-passes)
+
+  pub tick-call-kept : (k h : ℕ) → Kept ws (tick ws k h .words)
+  tick-call-kept k h = rw (tick-passes k h) (tick-kept ws Z W k h)
 
   -- The table of a tick that passes its tests, with that task as the one last dispatched.
   pub dispatched-accepted : (k h : ℕ) → tickRefusal ws k h ≡ nothing → WellFormed (setDispatched k (tickOn ws k h .words))
@@ -349,9 +355,6 @@ module _ (ws : List ℕ) (A : WellFormed ws) where
       go (some n) e = A
       go nothing e = start-accepted S T g (search test-passed)
 
-  tick-call-accepted : (k h : ℕ) → WellFormed (tick ws k h .words)
-  tick-call-accepted k h = rw (tick-passes k h) (kept-accepted (tick-kept ws Z W k h))
-
   -- A dispatch leaves the table as it was, or as a tick leaves it, with that task as the one last dispatched.
   dispatch-call-accepted : (h : ℕ) → WellFormed (dispatch ws h .words)
   dispatch-call-accepted h =
@@ -362,12 +365,19 @@ module _ (ws : List ℕ) (A : WellFormed ws) where
   tested-accepted (some n) list answers = A
   tested-accepted nothing list answers = kept-accepted (run-kept list ws answers Z W)
 
+module _ (ws : List ℕ) (A : WellFormed ws) where
+  pub ticks-kept : (n k h : ℕ) → Kept ws (ticks n ws k h .words)
+  ticks-kept n k h =
+      kept-in-row (Kept ws) k h (λ vs K. kept-then K (tick-call-kept vs (kept-accepted K) k h)) n ws
+      (unchanged ws (Z ws A) (W ws A))
+
   pub call-accepted : (c : Call) → WellFormed (after c ws)
   unfolding run panel
-  call-accepted (start-call S T g) = start-call-accepted S T g
-  call-accepted (begin-call k op side argument) = kept-accepted (begin-kept ws k op side argument Z W)
-  call-accepted (tick-call k h) = tick-call-accepted k h
-  call-accepted (dispatch-call h) = dispatch-call-accepted h
-  call-accepted (run-call list answers) = tested-accepted (runRefusal ws list answers) list answers
-  call-accepted (panel-call list answers) = tested-accepted (panelRefusal ws list answers) list answers
+  call-accepted (start-call S T g) = start-call-accepted ws A S T g
+  call-accepted (begin-call k op side argument) = kept-accepted (begin-kept ws k op side argument (Z ws A) (W ws A))
+  call-accepted (tick-call k h) = kept-accepted (tick-call-kept ws A k h)
+  call-accepted (ticks-call k h times) = kept-accepted (ticks-kept times k h)
+  call-accepted (dispatch-call h) = dispatch-call-accepted ws A h
+  call-accepted (run-call list answers) = tested-accepted ws A (runRefusal ws list answers) list answers
+  call-accepted (panel-call list answers) = tested-accepted ws A (panelRefusal ws list answers) list answers
   call-accepted (read-call out) = A

@@ -1,11 +1,9 @@
 -- A line that lets its task go on leaves the operation, the side and the argument as they were: whatever stands in memory.
 use mathlib.Core.Path.{_≡_, refl, ap}
-use mathlib.Core.Bool.{true}
 use mathlib.Core.Logic.{_≢_}
 use mathlib.Core.List.{List}
 use Prim.Native.Nat.{ℕ}
-use Rattle.machine.specs.declared.Answer.{Answer}
-use Rattle.machine.specs.declared.Answer.the-variants.{Going, Pushed, Bag, Empty, Full, Yes, No, Refused}
+use Rattle.machine.specs.declared.Answer.the-variants.{Going}
 use Rattle.machine.specs.Choice.{_≟_}
 use Rattle.machine.specs.Sides.{Side, opposite, sideNumber}
 use Rattle.machine.specs.Values.{_≟ᵛ_, stored}
@@ -17,7 +15,7 @@ use Rattle.machine.specs.Table.{growth, task}
 use Rattle.machine.specs.Lines.{Memory, seen, Write, Effect, through, noNode, spliced, act}
 use Rattle.machine.specs.Allocate.{allocate}
 use Rattle.machine.specs.Calls.{effectOf}
-use Rattle.machine.specs.Row.{Note, isGoing}
+use Rattle.machine.specs.Row.{Note}
 use Rattle.machine.proofs.Basics.Contradiction.{clash}
 use Rattle.machine.proofs.Linearizability.Model.Invariant.{noteOf}
 use Rattle.machine.proofs.Linearizability.Lines.Connectives.{ok-if, ok-through, ok-dcas}
@@ -100,13 +98,3 @@ coded-call t u e = (
   ap (λ (n : Note). sideNumber (n .side)) e,
   ap (λ (n : Note). stored (n .argument)) e,
 )
-
-pub going-answer : (a : Answer) → isGoing a ≡ true → a ≡ Going
-going-answer Going h = refl
-going-answer Pushed h = clash (cc)
-going-answer (Bag b) h = clash (cc)
-going-answer Empty h = clash (cc)
-going-answer Full h = clash (cc)
-going-answer Yes h = clash (cc)
-going-answer No h = clash (cc)
-going-answer (Refused n) h = clash (cc)

@@ -30,14 +30,14 @@ use Rattle.machine.specs.Table.{
 }
 use Rattle.machine.specs.Allocate.{allocate}
 use Rattle.machine.specs.Lines.{Effect, writeAll}
-use Rattle.machine.specs.Answers.{refusalOf}
+use Rattle.machine.specs.Answers.{refusalOf, isGoing}
 use Rattle.machine.specs.Calls.{effectOf, applied, tickCounted}
-use Rattle.machine.specs.Row.{isGoing}
 use Rattle.machine.specs.Results.{tickedOf}
 use Rattle.machine.proofs.Basics.Contradiction.{clash}
 use Rattle.machine.proofs.Words.Columns.{sizesOf, columns}
 use Rattle.machine.proofs.Words.EffectLaws.{effectWords}
 use Rattle.machine.proofs.Words.TickLaws.{fit-effect}
+use Rattle.machine.proofs.Words.RunLaws.{going-answer}
 use Rattle.machine.proofs.Shape.ShapeLaws.{WellSized, WellShaped, well-sized, well-shaped}
 use Rattle.machine.proofs.Shape.Fits.{Fits}
 use Rattle.machine.proofs.Shape.TickKeeps.{effect-fits, allocated-node}
@@ -51,7 +51,7 @@ use Rattle.figure.specs.Halves.{allSteps, ReadyIn}
 use Rattle.ticking.specs.Ticks.{MayTick, taken, isRefused, GoesOn, made, recorded, stored}
 use Rattle.ticking.proofs.Laws.LineWords.{taken-node}
 use Rattle.ticking.proofs.Laws.Laid.{record-after-nodes}
-use Rattle.ticking.proofs.Laws.CallKept.{effect-keeps, coded-call, going-answer}
+use Rattle.ticking.proofs.Laws.CallKept.{effect-keeps, coded-call}
 use Rattle.ticking.proofs.Laws.TickReady.{meant-task, side-back, side-low, argument-fits, ready-task}
 use Rattle.ticking.proofs.Laws.TickWords.{line-is-effect, refused-words, made-words}
 

@@ -20,8 +20,7 @@ use Rattle.machine.specs.Calls.{
   afterTick,
   runOn,
 }
-use Rattle.machine.proofs.Shape.ShapeLaws.{well-sized, well-shaped, length-ok, shape-ok}
-use Rattle.machine.proofs.Shape.TickKeeps.{tick-kept}
+use Rattle.machine.proofs.Shape.ShapeLaws.{well-shaped}
 use Rattle.machine.proofs.Words.RunLaws.{by-first, first-tick}
 use Rattle.machine.proofs.Words.TickLaws.{refused-unchanged, refused-kind, made-kind, tick-on-number}
 use Rattle.machine.specs.Results.{tickedOf, runDoneOf}
@@ -30,17 +29,6 @@ use Rattle.shape.specs.Contracts.{numberOf}
 use Rattle.layout.proofs.Laws.Fronts.{front-grows, rest-stays}
 
 -- ---- One tick.
--- A tick leaves a table that passes the tests.
-pub tick-passed :
-    (ws : List ℕ) (k h : ℕ) (a : Answer) (vs : List ℕ)
-    → tickedOf a vs ≡ tickOn ws k h
-    → WellFormed ws
-    → WellFormed vs
-tick-passed ws k h a vs ticked P =
-    let K = tick-kept ws (well-sized ws (P .length-passes)) (well-shaped ws (P .shape-passes)) k h in
-    let us = tickOn ws k h .words in
-    subst WellFormed (sym (ap (λ (t : Ticked). t .words) ticked))
-    (record { length-passes = length-ok us (K .well-sized); shape-passes = shape-ok us (K .well-shaped) })
 
 -- The number that it answers with is at most the largest tag.
 pub tick-tag :

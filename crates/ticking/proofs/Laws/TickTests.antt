@@ -1,10 +1,10 @@
 -- The tests of a tick, in 01's order: each refusal, and the tick that passes them all.
-use mathlib.Core.Path.{_≡_, ap, _∙_}
+use mathlib.Core.Path.{_≡_, refl, sym, ap, _∙_}
 use mathlib.Core.Bool.{false}
 use mathlib.Core.Logic.{_≢_}
 use mathlib.Core.List.{List}
 use mathlib.Core.Option.{none as nothing}
-use Prim.Native.Nat.{ℕ, _≤_, _<_}
+use Prim.Native.Nat.{ℕ, zero, suc, _≤_, _<_}
 use native.Mathlib.Decide.{ℕ-discrete}
 use borrow.Author.Tests.{lt-ltb, le-ltb}
 use Rattle.machine.specs.declared.Answer.the-variants.{Refused}
@@ -12,8 +12,10 @@ use Rattle.machine.specs.Operations.{operationOf}
 use Rattle.machine.specs.Tasks.{operationWord}
 use Rattle.machine.specs.Table.{nodeCount, taskCount, recordWords, task}
 use Rattle.machine.specs.Shape.{WellFormed}
-use Rattle.machine.specs.Calls.{isBusy, tableRefusal, tickOn, tick}
+use Rattle.machine.specs.Calls.{isBusy, tableRefusal, Ticked, tickOn, tick, ticks}
+use Rattle.machine.specs.Answers.{isGoing}
 use Rattle.machine.specs.Results.{tickedOf}
+use Rattle.machine.proofs.Words.RunLaws.{first-is-last}
 use Rattle.shape.specs.Contracts.{numberOf}
 use Rattle.ticking.specs.Ticks.{made}
 use Rattle.shape.proofs.Laws.PassedTable.{refused, passed, operation-is, busy-task}
@@ -27,6 +29,12 @@ module _ (ws : List ℕ) {n : ℕ} (is-number : n ≡ numberOf (tableRefusal ws 
   pub tick-goes-on : n ≡ 0 → tickOn ws k h ≡ tick ws k h
   unfolding tick
   tick-goes-on e = let P = passed ws is-number e in rw (P .length-passes, P .shape-passes, tick)
+
+  pub ticks-refused : n ≢ 0 → (times : ℕ) → times ≢ 0 → tickedOf (Refused n) ws ≡ ticks times ws k h
+  ticks-refused r zero asked = absurd (asked refl)
+  ticks-refused r (suc m) asked =
+      let e = tick-refused r in
+      e ∙ sym (first-is-last m ws k h (ap (λ (t : Ticked). isGoing (t .answer)) (sym e)))
 
 -- ---- The others, of a table that passes.
 module _ (ws : List ℕ) (P : WellFormed ws) (k h : ℕ) where

@@ -26,8 +26,8 @@ use Rattle.machine.specs.Calls.{
   begunTask,
   begin,
   effectOf,
-  Ticked,
   tickOn,
+  tick,
   Dispatched,
   dispatch,
   run,
@@ -39,6 +39,7 @@ use Rattle.machine.specs.Demand3.{
   start-call,
   begin-call,
   tick-call,
+  ticks-call,
   dispatch-call,
   run-call,
   panel-call,
@@ -53,6 +54,7 @@ use Rattle.machine.proofs.Basics.Updates.{update}
 use Rattle.machine.proofs.Words.Memories.{View, viewed, viewAfter, seen-viewed}
 use Rattle.machine.proofs.Words.StartLaws.{startView, viewed-start, task-start}
 use Rattle.machine.proofs.Words.EffectLaws.{viewed-set-dispatched, task-set-dispatched}
+use Rattle.machine.proofs.Words.RunLaws.{kept-in-row}
 use Rattle.machine.proofs.Shape.TickKeeps.{tick-allowed}
 use Rattle.machine.proofs.Shape.DispatchCases.{by-dispatch}
 use Rattle.machine.proofs.SlotRule.FirstFree.{allocate-not-kept}
@@ -65,6 +67,7 @@ use Rattle.machine.proofs.Linearizability.Calls.MadeTicks.{
   kept-roots,
   not-idle,
 }
+use Rattle.machine.proofs.Linearizability.Calls.CallsAgree.{tick-explained}
 use Rattle.machine.proofs.Linearizability.Begun.TableAfter.{viewed-after, tasks-after}
 use Rattle.machine.proofs.Linearizability.Begun.TableBegun.{by-begin}
 use Rattle.machine.proofs.Linearizability.Corollaries.{
@@ -142,6 +145,9 @@ module _ {Fact : View → (ℕ → Task) → Type 0} (L : Lasts Fact) where
         go (some n) e = rw (e, tickOn) F
         go nothing e = made-keeps k h e
 
+    tick-call-keeps : (k h : ℕ) → Of (tick ws k h .words)
+    tick-call-keeps k h = rw (tick-passes A k h) (tick-keeps k h)
+
     -- A dispatch, which is a tick or changes nothing.
     dispatch-keeps : (h : ℕ) → Of (dispatch ws h .words)
     dispatch-keeps h =
@@ -163,8 +169,12 @@ module _ {Fact : View → (ℕ → Task) → Type 0} (L : Lasts Fact) where
   call-keeps : {ws : List ℕ} {ρ : Row} → Agrees ws ρ → Of ws → (c : Call) → Of (after c ws)
   call-keeps A F (start-call S T g) = start-keeps A F S T g
   call-keeps A F (begin-call k op side argument) = begin-keeps A F k op side argument
-  call-keeps A F (tick-call k h) =
-      subst (λ (r : Ticked). Of (r .words)) (sym (tick-passes A k h)) (tick-keeps A F k h)
+  call-keeps A F (tick-call k h) = tick-call-keeps A F k h
+  call-keeps {ws} {ρ} A F (ticks-call k h times) =
+      kept-in-row (λ vs. (σ : Row) × Agrees vs σ × Of vs) k h
+      (λ vs x. let E = tick-explained (x .1) k h in (E .row, E .agrees, tick-call-keeps (x .1) (x .2) k h))
+      times ws (ρ, A, F)
+      .2
   call-keeps A F (dispatch-call h) = dispatch-keeps A F h
   call-keeps {ws} {ρ} A F (run-call list answers) =
       subst Of (run-is-its-ticks ws list answers) (ticks-keep (run ws list answers .ran .made) list ws ρ A F)

@@ -1,4 +1,4 @@
--- Each call but a list of ticks keeps the agreement of table and row, and gives back what the row gives.
+-- Each call but ticks in a row and lists of ticks keeps the agreement of table and row, and gives back what the row gives.
 use mathlib.Core.Path.{_≡_, refl, sym, ap, _∙_, fun-ext}
 use mathlib.Core.Bool.{Bool, true, false}
 use mathlib.Core.List.{List, [], _∷_}

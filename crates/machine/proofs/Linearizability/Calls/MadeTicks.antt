@@ -15,9 +15,9 @@ use Rattle.machine.specs.Tasks.{Task, fresh, none, goal, Register, regis
 use Rattle.machine.specs.Table.{nodeCount, taskCount, growth, task}
 use Rattle.machine.specs.Allocate.{allocate}
 use Rattle.machine.specs.Lines.{Memory, act}
-use Rattle.machine.specs.Answers.{refusalOf}
+use Rattle.machine.specs.Answers.{refusalOf, isGoing}
 use Rattle.machine.specs.Calls.{isBusy, tickRefusal, effectOf, tickOn}
-use Rattle.machine.specs.Row.{Note, Row, noted, withBags, answered, isGoing, feedMade}
+use Rattle.machine.specs.Row.{Note, Row, noted, withBags, answered, feedMade}
 use Rattle.machine.proofs.Basics.Contradiction.{clash, refute}
 use Rattle.machine.proofs.Basics.Choices.{by-if}
 use Rattle.machine.proofs.Basics.Updates.{update, update-same, update-other}

@@ -15,7 +15,7 @@ use Rattle.machine.specs.Choice.{_≟_, if_then_else_}
 use Rattle.machine.specs.Sides.{Side, sideOf}
 use Rattle.machine.specs.Values.{number}
 use Rattle.machine.specs.Operations.{Operation, idle, push, pop, add, remove, operationOf}
-use Rattle.machine.specs.Answers.{refusalOf, answerOf}
+use Rattle.machine.specs.Answers.{refusalOf, isGoing, answerOf}
 use Rattle.machine.specs.Calls.{isAmong}
 use Rattle.machine.specs.Row.{
   Note,
@@ -30,7 +30,6 @@ use Rattle.machine.specs.Row.{
   sizeAnswered,
   answeredBy,
   answered,
-  isGoing,
   feedMade,
   feedRun,
   nextNoted,
@@ -43,6 +42,7 @@ use Rattle.machine.specs.Demand3.{
   start-call,
   begin-call,
   tick-call,
+  ticks-call,
   dispatch-call,
   run-call,
   panel-call,
@@ -54,7 +54,7 @@ use Rattle.machine.specs.Demand3.{
 use Rattle.machine.specs.Begun.{count}
 use Rattle.machine.specs.Twice.{PushNoted, OnceInRow, SeenIn}
 use Rattle.machine.proofs.Basics.Contradiction.{clash, equal?}
-use Rattle.machine.proofs.Linearizability.Histories.{count-put, bag-taken, bound, mapped, same-when-read}
+use Rattle.machine.proofs.Linearizability.Histories.{count-put, bag-taken, bound, mapped, same-if, same-when-read}
 use Rattle.machine.proofs.Linearizability.Twice.Lists.{
   not-counted,
   not-among,
@@ -113,6 +113,7 @@ NewWhereBegun ρ (begin-call k op side argument) Accepted = operationOf op ≡ p
 NewWhereBegun ρ (begin-call k op side argument) (Reply-Refused n) = Unit {0}
 NewWhereBegun ρ (start-call S T g) r = Unit {0}
 NewWhereBegun ρ (tick-call k h) r = Unit {0}
+NewWhereBegun ρ (ticks-call k h times) r = Unit {0}
 NewWhereBegun ρ (dispatch-call h) r = Unit {0}
 NewWhereBegun ρ (run-call list answers) r = Unit {0}
 NewWhereBegun ρ (panel-call list answers) r = Unit {0}
@@ -285,6 +286,16 @@ once-made {ρ} {ρ′} O k a e = let n = bound (ρ .notes k) _ e in by-answer (n
         let x = mapped (answered n a (ρ .bags)) _ q in
         same-row (ap some (x .2)) (once-ended O k n is (x .0) (answer-leaves n (ρ .bags) (x .0) a (x .1)))
 
+once-tick : {ρ ρ′ : Row} → Once ρ → (k : ℕ) (a : Answer) → feedTick ρ k a ≡ some ρ′ → Once ρ′
+unfolding feedTick
+once-tick {ρ} {ρ′} O k a e = go (refusalOf a) e
+  where
+    go : (o : Option ℕ)
+        → elim o as (λ _. Option Row) [ some n ↦ some ρ | nothing ↦ feedMade ρ k a ] ≡ some ρ′
+        → Once ρ′
+    go (some n) q = same-row q O
+    go nothing q = once-made O k a q
+
 once-run : (n : ℕ) (list answers : List ℕ) {ρ ρ′ : Row} → Once ρ → feedRun ρ n list answers ≡ some ρ′ → Once ρ′
 unfolding feedRun
 once-run zero list answers O e = same-row e O
@@ -329,20 +340,15 @@ once-dispatch (Answered a) {ρ} {ρ′} O e = go (refusalOf a) e
 
 -- ---- Every call.
 pub once-fed : (c : Call) (r : Given c) {ρ ρ′ : Row} → Once ρ → NewWhereBegun ρ c r → feed ρ c r ≡ some ρ′ → Once ρ′
-unfolding feedTick
 once-fed (start-call S T g) Accepted O new e = same-row e (once-empty T)
 once-fed (start-call S T g) (Reply-Refused n) O new e = same-row e O
 once-fed (begin-call k op side argument) Accepted O new e =
     same-row e
     (once-begun O k (record { operation = operationOf op; side = sideOf side; argument = number argument }) new)
 once-fed (begin-call k op side argument) (Reply-Refused n) O new e = same-row e O
-once-fed (tick-call k h) a {ρ} {ρ′} O new e = go (refusalOf a) e
-  where
-    go : (o : Option ℕ)
-        → elim o as (λ _. Option Row) [ some n ↦ some ρ | nothing ↦ feedMade ρ k a ] ≡ some ρ′
-        → Once ρ′
-    go (some n) q = same-row q O
-    go nothing q = once-made O k a q
+once-fed (tick-call k h) a O new e = once-tick O k a e
+once-fed (ticks-call k h zero) a O new e = subst Once (same-if (isGoing a) e .1) O
+once-fed (ticks-call k h (suc n)) a O new e = once-tick O k a e
 once-fed (dispatch-call h) r O new e = once-dispatch r O e
 once-fed (run-call list answers) r O new e = once-run (r .0 .made) list (r .1) O e
 once-fed (panel-call list answers) r O new e = once-run (r .0 .made) list (r .1) O e

@@ -13,6 +13,7 @@ use Rattle.machine.specs.Demand3.{
   start-call,
   begin-call,
   tick-call,
+  ticks-call,
   dispatch-call,
   run-call,
   panel-call,
@@ -51,6 +52,7 @@ module _ {ws : List ℕ} {ρ : Row} (A : Agrees ws ρ) where
       go (Reply-Refused n) e = tt
   new-where-begun (start-call S T g) = tt
   new-where-begun (tick-call k h) = tt
+  new-where-begun (ticks-call k h times) = tt
   new-where-begun (dispatch-call h) = tt
   new-where-begun (run-call list answers) = tt
   new-where-begun (panel-call list answers) = tt

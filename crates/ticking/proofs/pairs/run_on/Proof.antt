@@ -7,9 +7,9 @@ use borrow.Author.Needs.{needs}
 use Rattle.machine.specs.Answers.{answerLength}
 use Rattle.machine.specs.Calls.{runOn}
 use Rattle.machine.specs.Shape.{WellFormed}
+use Rattle.ticking.proofs.Laws.TicksInRow.{tick-passed}
 use Rattle.ticking.proofs.Laws.RunWords.{
   ahead,
-  tick-passed,
   tick-tag,
   run-begins,
   run-ends,
@@ -132,7 +132,7 @@ loop-again c =
       omega (arith, l .inv .0),
       tick .kept .0 ∙ l .inv .1,
       put .kept .0 ∙ l .inv .2,
-      tick-passed (l .table) _ _ (tick .result) (tick .last .0) (tick .ensures) (l .inv .3),
+      tick-passed (l .table) (l .inv .3) _ _ (tick .ensures),
       rw (put .ensures)
           (run-made (l .at) (l .made) list (l .table) (l .answers) (pair-here turn) (tick .result) (tick .last .0)
           (tick .ensures) (λ q. e .if1 .left (e .before .kind .ensures ∙ q)) (room-here turn)
