@@ -9,7 +9,7 @@ use borrow.Author.Tests.{eqb-true, le-leb, leb-true}
 use Rattle.machine.specs.Steps.{Step, stepNumber, stepOf, isStepIn}
 use Rattle.layout.specs.declared.tasks.Task as Tasks
 use Rattle.hattrick.specs.Lent.{lineOf}
-use Rattle.figure.specs.Halves.{allSteps, ReadyIn}
+use Rattle.figure.specs.Groups.{otherLines, ReadyIn}
 use Rattle.machine.proofs.Basics.Contradiction.{clash}
 use Rattle.machine.proofs.Basics.Tests.{or-either, and-left, and-right}
 use Rattle.machine.proofs.Words.StepLaws.{step-of-number}
@@ -60,7 +60,7 @@ pub line-at :
     → lineOf st ns h t g f ≡ lineOf (stepOf n) ns h t g f
 line-at st e ns h t g f = ap (λ (u : Step). lineOf u ns h t g f) (step-at st e)
 
--- ---- A number that is a step's, and its group by its range: one computed test over all steps.
+-- ---- A number that is a step's, and its group: one computed test over all the steps that it may be.
 abbrev pub every : (ℕ → Bool) → List Step → Bool
 every p [] = true
 every p (st ∷ sts) = p (stepNumber st) && every p sts
@@ -74,29 +74,31 @@ each p (st ∷ sts) n h i =
       | inr e ↦ each p sts n (and-right (p (stepNumber st)) (every p sts) h) e
     ]
 
+-- A task that is ready in a group is ready in another that has its step.
+pub regrouped : {group other : List Step} {ns : List ℕ} {t : Tasks.Task}
+    → ReadyIn group ns t
+    → isStepIn other (t .step) ≡ true
+    → ReadyIn other ns t
+regrouped R i = record { ready = R .ready; in-group = i; bag-at-51 = R .bag-at-51 }
+
 -- Between lo and hi only steps of the group stand.
 abbrev between : (lo hi : ℕ) → List Step → ℕ → Bool
 between lo hi group n = not (leb lo n && leb n hi) || isStepIn group n
 
 -- A ready task whose step is between lo and hi is ready in the group there.
 pub within :
-    (group : List Step) (lo hi : ℕ) {ns : List ℕ} {t : Tasks.Task} {found : ℕ}
-    → every (between lo hi group) allSteps ≡ true
-    → ReadyIn allSteps ns t found
+    (group : List Step) (lo hi : ℕ) {ns : List ℕ} {t : Tasks.Task}
+    → every (between lo hi group) otherLines ≡ true
+    → ReadyIn otherLines ns t
     → lo ≤ t .step
     → t .step ≤ hi
-    → ReadyIn group ns t found
-within group lo hi {ns} {t} {found} all R l h =
-    record {
-      ready = R .ready;
-      in-group = narrowed (each (between lo hi group) allSteps (t .step) all (R .in-group));
-      bag-at-51 = R .bag-at-51;
-      found-node = R .found-node;
-    }
+    → ReadyIn group ns t
+within group lo hi {ns} {t} all R l h =
+    regrouped R (narrowed (each (between lo hi group) otherLines (t .step) all (R .in-group)))
   where
     narrowed : between lo hi group (t .step) ≡ true → isStepIn group (t .step) ≡ true
     narrowed e = rw (le-leb lo (t .step) l, le-leb (t .step) hi h) at e
 
 -- The last line is 82.
-pub step-bound : (n : ℕ) → isStepIn allSteps n ≡ true → n ≤ 82
-step-bound n i = leb-true n 82 (each (λ m. leb m 82) allSteps n refl i)
+pub step-bound : (n : ℕ) → isStepIn otherLines n ≡ true → n ≤ 82
+step-bound n i = leb-true n 82 (each (λ m. leb m 82) otherLines n refl i)

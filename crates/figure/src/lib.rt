@@ -1,15 +1,32 @@
-// The line of the figure that a tick makes, by the step number at which its task stands.
+// The line of the figure that a tick makes, by the step number at which its task stands. The lines that take a node are apart
+// from the others, so that only they are given one.
 use hattrick::ends::Done;
 use layout::tasks::Task;
 ghost use mathlib.Core.Path.{_≡_};
+ghost use mathlib.Core.Logic.{_≢_};
+ghost use Prim.Native.Nat.{ℕ};
 ghost use Rattle.machine.specs.Steps.{stepOf};
-ghost use Rattle.hattrick.specs.Lent.{lineOf, outcomeOf};
-ghost use Rattle.figure.specs.Halves.{ReadyIn, upperHalf, lowerHalf, allSteps};
+ghost use Rattle.machine.specs.Tasks.{none};
+ghost use Rattle.layout.specs.Coded.{HoldsNode};
+ghost use Rattle.hattrick.specs.Lent.{Does, lineOf, outcomeOf};
+ghost use Rattle.figure.specs.Groups.{ReadyIn, takingLines, upperLines, lowerLines, otherLines};
 
-// The upper half of the figure: push, add and pop.
-fn upper_line(ns: &mut [u32], hat: u32, t: Task, goal: u32, found: u32) -> Done
-    requires { ⌜ ReadyIn upperHalf (now ns) t found ⌝ }
+// Lines 28 and 31, which take a node.
+pub fn taking_line(ns: &mut [u32], hat: u32, t: Task, goal: u32, found: u32) -> Done
+    requires { ⌜ ReadyIn takingLines (now ns) t × (found ≢ none → HoldsNode (now ns) found) ⌝ }
     ensures { λ r. ⌜ outcomeOf (now (ns .exit)) r ≡ lineOf (stepOf (t .step)) (now (ns .entry)) hat t goal found ⌝ }
+{
+    let step = t.step;
+    match step {
+        28 => add::line28(ns, hat, t, goal, found),
+        _ => add::line31(ns, hat, t, goal, found),
+    }
+}
+
+// The others of lines 2 to 51: push, add and pop.
+fn upper_line(ns: &mut [u32], hat: u32, t: Task) -> Done
+    requires { ⌜ ReadyIn upperLines (now ns) t ⌝ }
+    ensures { λ r. ⌜ Does (stepOf (t .step)) (now (ns .entry)) hat t (outcomeOf (now (ns .exit)) r) ⌝ }
 {
     let step = t.step;
     match step {
@@ -22,8 +39,6 @@ fn upper_line(ns: &mut [u32], hat: u32, t: Task, goal: u32, found: u32) -> Done
         18 => add::line18(ns, hat, t),
         24 => add::line24(ns, hat, t),
         25 => add::line25(ns, hat, t),
-        28 => add::line28(ns, hat, t, goal, found),
-        31 => add::line31(ns, hat, t, goal, found),
         39 => pop::line39(hat, t),
         40 => pop::line40(ns, hat, t),
         42 => pop::line42(ns, hat, t),
@@ -32,10 +47,11 @@ fn upper_line(ns: &mut [u32], hat: u32, t: Task, goal: u32, found: u32) -> Done
     }
 }
 
-// The lower half: remove, unspur and the breaking of a chain.
-fn lower_line(ns: &mut [u32], hat: u32, t: Task, goal: u32, found: u32) -> Done
-    requires { ⌜ ReadyIn lowerHalf (now ns) t found ⌝ }
-    ensures { λ r. ⌜ outcomeOf (now (ns .exit)) r ≡ lineOf (stepOf (t .step)) (now (ns .entry)) hat t goal found ⌝ }
+// Lines 54 to 82: remove, unspur, and the breaking of a chain.
+fn lower_line(ns: &mut [u32], hat: u32, t: Task, goal: u32) -> Done
+    requires { ⌜ ReadyIn lowerLines (now ns) t ⌝ }
+    ensures { λ r. ⌜ ((f : ℕ) → outcomeOf (now (ns .exit)) r
+        ≡ lineOf (stepOf (t .step)) (now (ns .entry)) hat t goal f) ⌝ }
 {
     let step = t.step;
     match step {
@@ -59,15 +75,16 @@ fn lower_line(ns: &mut [u32], hat: u32, t: Task, goal: u32, found: u32) -> Done
     }
 }
 
-// 01: the tick decides by the step number, which is the figure's line number. Two ranges and a table in each: the fewer
-// choices before the line, the faster the tick. A step is never a number in between.
-pub fn line(ns: &mut [u32], hat: u32, t: Task, goal: u32, found: u32) -> Done
-    requires { ⌜ ReadyIn allSteps (now ns) t found ⌝ }
-    ensures { λ r. ⌜ outcomeOf (now (ns .exit)) r ≡ lineOf (stepOf (t .step)) (now (ns .entry)) hat t goal found ⌝ }
+// 01: the tick decides by the step number, which is the figure's line number. Two ranges, and a table of the numbers in each:
+// the fewer choices before a line, the faster the tick. A step is never a number in between.
+pub fn line(ns: &mut [u32], hat: u32, t: Task, goal: u32) -> Done
+    requires { ⌜ ReadyIn otherLines (now ns) t ⌝ }
+    ensures { λ r. ⌜ ((f : ℕ) → outcomeOf (now (ns .exit)) r
+        ≡ lineOf (stepOf (t .step)) (now (ns .entry)) hat t goal f) ⌝ }
 {
     let step = t.step;
     match step {
-        0..=51 => upper_line(ns, hat, t, goal, found),
-        _ => lower_line(ns, hat, t, goal, found),
+        0..=51 => upper_line(ns, hat, t),
+        _ => lower_line(ns, hat, t, goal),
     }
 }

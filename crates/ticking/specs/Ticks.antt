@@ -1,6 +1,6 @@
 -- A tick in code: the node it takes, and what it stores.
 use mathlib.Core.Path.{_≡_}
-use mathlib.Core.Bool.{Bool, true, false}
+use mathlib.Core.Bool.{Bool, true, false, cond}
 use mathlib.Core.List.{List}
 use Prim.Native.Nat.{ℕ, _+_, _<_}
 use lib.ListN.{getD, set}
@@ -13,8 +13,10 @@ use Rattle.machine.specs.Tasks.{none}
 use Rattle.machine.specs.Table.{nodeCount, taskCount, hatAt, recordAt, recordWords, task}
 use Rattle.machine.specs.Shape.{WellFormed}
 use Rattle.machine.specs.Calls.{isBusy, Ticked, effectOf, applied, tickCounted}
+use Rattle.machine.specs.Results.{tickedOf}
 use Rattle.layout.specs.declared.tasks.Task as Tasks
 use Rattle.layout.specs.Coded.{structOf, recordOf, SameCall}
+use Rattle.hattrick.specs.declared.ends.Done.{Done}
 
 -- A tick that has passed the tests before refusal 11.
 pub record MayTick (ws : List ℕ) (k hint : ℕ) : Type 0 where
@@ -57,3 +59,8 @@ recorded ws k t = sets ws (recordAt (nodeCount ws) k) (recordOf t)
 -- The words with a side's hat, a record and one tick more in them.
 abbrev pub stored : List ℕ → (side hat k : ℕ) → Tasks.Task → List ℕ
 stored ws side h k t = tickCounted (recorded (set ws (hatAt left + side) h) k t)
+
+-- What a line's outcome comes to: refused, the words stay.
+abbrev pub finished : List ℕ → (side k : ℕ) → Done → Ticked
+finished ws side k d =
+    cond (isRefused (d .answer)) (tickedOf (d .answer) ws) (tickedOf (d .answer) (stored ws side (d .hat) k (d .task)))

@@ -1,6 +1,8 @@
-// One tick, and ticks in a row, on a table that has passed the tests of refusals 3 and 4.
+// One tick on a table that has passed the tests of refusals 3 and 4.
 use alloc::first_free;
 use figure::line;
+use figure::taking_line;
+use hattrick::ends::Done;
 use layout::operations::goal_of;
 use layout::places::GROWTH;
 use layout::places::HEADER;
@@ -18,11 +20,11 @@ ghost use Prim.Native.Nat.{_<_};
 ghost use Rattle.machine.specs.Table.{nodeCount, recordWords};
 ghost use Rattle.machine.specs.Allocate.{allocate};
 ghost use Rattle.machine.specs.Shape.{WellFormed};
-ghost use Rattle.machine.specs.Calls.{tickOn, ticks};
+ghost use Rattle.machine.specs.Calls.{tickOn};
 ghost use Rattle.layout.specs.Coded.{structOf, HoldsRecord};
 ghost use Rattle.machine.specs.Results.{tickedOf};
 ghost use Rattle.machine.specs.Answers.{isGoing};
-ghost use Rattle.ticking.specs.Ticks.{MayTick, taken, isRefused, GoesOn, made, recorded, stored};
+ghost use Rattle.ticking.specs.Ticks.{MayTick, taken, isRefused, GoesOn, made, recorded, stored, finished};
 
 // The node that a tick at 28 or 31 takes, or none; the other lines take none. 31 is refused where D is none, and does not
 // search then.
@@ -98,7 +100,23 @@ fn store(table: &mut [u32], side: u32, hat: u32, task: u32, next: Task, going: b
     table[TICK_COUNT] = wrapping_add_u32(table[TICK_COUNT], 1);
 }
 
-// The tick of the busy task k, whose record is given.
+// What a line's outcome comes to: a refusal changes nothing, a tick that is made is stored.
+fn finish(table: &mut [u32], side: u32, k: u32, done: Done) -> Answer
+    requires { ⌜ (side < 2) × HoldsRecord (now table) k ⌝ }
+    requires { ⌜ GoesOn (now table) k (isGoing (done .answer)) (done .task) ⌝ }
+    ensures { λ r. ⌜ tickedOf r (now (table .exit)) ≡ finished (now (table .entry)) side k done ⌝ }
+{
+    let answer = done.answer;
+    if is_refusal(answer) {
+        return answer;
+    }
+    let next = done.task;
+    store(table, side, done.hat, k, next, is_going(answer));
+    answer
+}
+
+// The tick of the busy task k, whose record is given. Only lines 28 and 31 search for a node. The search stands beside them: before
+// all lines it would take the processor's registers from the others.
 fn make(table: &mut [u32], k: u32, old: Task, hint: u32) -> Answer
     requires { ⌜ MayTick (now table) k hint ⌝ }
     requires { ⌜ old ≡ structOf (recordWords (now table) k) ⌝ }
@@ -107,17 +125,20 @@ fn make(table: &mut [u32], k: u32, old: Task, hint: u32) -> Answer
     let side = old.side;
     let argument = old.argument;
     let goal = goal_of(old.operation, table[GROWTH], argument);
-    let taken = found(table, old, hint);
     let hat = table[LEFT_HAT + side as usize];
     let end = node_at(table[NODE_COUNT]);
-    let done = line(&mut table[HEADER..end], hat, old, goal, taken);
-    let answer = done.answer;
-    if is_refusal(answer) {
-        return answer;
+    let step = old.step;
+    match step {
+        28 | 31 => {
+            let taken = found(table, old, hint);
+            let done = taking_line(&mut table[HEADER..end], hat, old, goal, taken);
+            finish(table, side, k, done)
+        }
+        _ => {
+            let done = line(&mut table[HEADER..end], hat, old, goal);
+            finish(table, side, k, done)
+        }
     }
-    let next = done.task;
-    store(table, side, done.hat, k, next, is_going(answer));
-    answer
 }
 
 // 01: checks 5, 9, 10, 11.

@@ -1,8 +1,8 @@
--- `figure::line` meets its contract: in each range one computed test names the half.
+-- `figure::line` meets its contract: in each range one computed test names the group.
 use mathlib.Core.Path.{refl}
 use native.Mathlib.Omega.{arith}
 use Rattle.machine.specs.Steps.{isStepIn}
-use Rattle.figure.specs.Halves.{upperHalf, lowerHalf}
+use Rattle.figure.specs.Groups.{upperLines, lowerLines}
 use Rattle.figure.proofs.StepChoice.{within, step-bound}
 use borrow.Author.Needs.{needs}
 use Rattle.figure.proofs.line.Statement.{statement}
@@ -12,25 +12,25 @@ upper-line-requires : tie.Need-upper-line-requires
 unfolding isStepIn
 upper-line-requires c κs =
     let p = c .before .before .before .pre in
-    within upperHalf 0 51 refl p (omega arith) (omega arith)
+    within upperLines 0 51 refl p (omega arith) (omega arith)
 
 lower-line-requires : tie.Need-lower-line-requires
 unfolding isStepIn
 lower-line-requires c κs =
     let p = c .before .before .before .pre in
-    within lowerHalf 52 82 refl p (omega arith) (step-bound _ (p .in-group))
+    within lowerLines 52 82 refl p (omega arith) (step-bound _ (p .in-group))
 
 same-length : tie.Need-same-length
 same-length c = search needs
 
 returns : tie.Need-returns
-returns c = search needs
+returns c f = c .before .before .upper-line .ensures _ f
 
 same-length-2 : tie.Need-same-length-2
 same-length-2 c = search needs
 
 returns-2 : tie.Need-returns-2
-returns-2 c = search needs
+returns-2 c f = c .before .before .lower-line .ensures f
 
 pub line-spec : {M : Type 1} → statement M
 line-spec =

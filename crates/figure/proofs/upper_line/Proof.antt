@@ -1,4 +1,4 @@
--- `figure::upper_line` meets its contract: each arm is its line's, and the last arm is what is left of the half.
+-- `figure::upper_line` meets its contract: each arm is its line's, and the last arm is what is left of the upper lines.
 use mathlib.Core.Path.{_≡_, _∙_}
 use mathlib.Core.List.{List, [], _∷_}
 use Rattle.machine.specs.Steps.{
@@ -12,8 +12,6 @@ use Rattle.machine.specs.Steps.{
   line18,
   line24,
   line25,
-  line28,
-  line31,
   line39,
   line40,
   line42,
@@ -28,7 +26,7 @@ use Rattle.figure.proofs.upper_line.Tie as tie
 -- The arms before the last.
 abbrev others : List Step
 others =
-    line2 ∷ line3 ∷ line5 ∷ line8 ∷ line15 ∷ line17 ∷ line18 ∷ line24 ∷ line25 ∷ line28 ∷ line31 ∷ line39 ∷ line40 ∷ line42 ∷ line48 ∷ []
+    line2 ∷ line3 ∷ line5 ∷ line8 ∷ line15 ∷ line17 ∷ line18 ∷ line24 ∷ line25 ∷ line39 ∷ line40 ∷ line42 ∷ line48 ∷ []
 
 -- The last arm is at 51.
 at-51 : (c : tie.At-match-rest) → c .before .before .args .t .step ≡ 51
@@ -61,12 +59,6 @@ line24-requires c κs = search needs
 line25-requires : tie.Need-line25-requires
 line25-requires c κs = search needs
 
-line28-requires : tie.Need-line28-requires
-line28-requires c κs = search needs
-
-line31-requires : tie.Need-line31-requires
-line31-requires c κs = search needs
-
 line39-requires : tie.Need-line39-requires
 line39-requires c κs = search needs
 
@@ -83,106 +75,92 @@ line51-requires : tie.Need-line51-requires
 line51-requires c κs = let p = c .before .before .before .pre in (p .ready, p .bag-at-51 (at-51 (c .before)))
 
 returns : tie.Need-returns
-returns c =
+returns c g f =
     c .line2 .ensures _ _ _ ∙ line-at line2 (c .before .match .keys1) _ _ _ _ _
 
 same-length : tie.Need-same-length
 same-length c = search needs
 
 returns-2 : tie.Need-returns-2
-returns-2 c =
+returns-2 c g f =
     c .line3 .ensures _ _ ∙ line-at line3 (c .before .before .match .keys2) _ _ _ _ _
 
 same-length-2 : tie.Need-same-length-2
 same-length-2 c = search needs
 
 returns-3 : tie.Need-returns-3
-returns-3 c =
+returns-3 c g f =
     c .before .before .line5 .ensures _ _ ∙ line-at line5 (c .before .before .before .before .match .keys3) _ _ _ _ _
 
 same-length-3 : tie.Need-same-length-3
 same-length-3 c = search needs
 
 returns-4 : tie.Need-returns-4
-returns-4 c =
+returns-4 c g f =
     c .line8 .ensures _ _ ∙ line-at line8 (c .before .before .match .keys4) _ _ _ _ _
 
 returns-5 : tie.Need-returns-5
-returns-5 c =
+returns-5 c g f =
     c .line15 .ensures _ _ _ ∙ line-at line15 (c .before .match .keys5) _ _ _ _ _
 
 same-length-4 : tie.Need-same-length-4
 same-length-4 c = search needs
 
 returns-6 : tie.Need-returns-6
-returns-6 c =
+returns-6 c g f =
     c .line17 .ensures _ _ ∙ line-at line17 (c .before .before .match .keys6) _ _ _ _ _
 
 same-length-5 : tie.Need-same-length-5
 same-length-5 c = search needs
 
 returns-7 : tie.Need-returns-7
-returns-7 c =
+returns-7 c g f =
     c .line18 .ensures _ _ ∙ line-at line18 (c .before .before .match .keys7) _ _ _ _ _
 
 same-length-6 : tie.Need-same-length-6
 same-length-6 c = search needs
 
 returns-8 : tie.Need-returns-8
-returns-8 c =
+returns-8 c g f =
     c .before .before .line24 .ensures _ _ ∙ line-at line24 (c .before .before .before .before .match .keys8) _ _ _ _ _
 
 same-length-7 : tie.Need-same-length-7
 same-length-7 c = search needs
 
 returns-9 : tie.Need-returns-9
-returns-9 c =
+returns-9 c g f =
     c .before .before .line25 .ensures _ _ ∙ line-at line25 (c .before .before .before .before .match .keys9) _ _ _ _ _
+
+returns-10 : tie.Need-returns-10
+returns-10 c g f =
+    c .line39 .ensures _ _ _ ∙ line-at line39 (c .before .match .keys10) _ _ _ _ _
 
 same-length-8 : tie.Need-same-length-8
 same-length-8 c = search needs
 
-returns-10 : tie.Need-returns-10
-returns-10 c =
-    c .before .before .line28 .ensures ∙ line-at line28 (c .before .before .before .before .match .keys10) _ _ _ _ _
+returns-11 : tie.Need-returns-11
+returns-11 c g f =
+    c .line40 .ensures _ _ ∙ line-at line40 (c .before .before .match .keys11) _ _ _ _ _
 
 same-length-9 : tie.Need-same-length-9
 same-length-9 c = search needs
 
-returns-11 : tie.Need-returns-11
-returns-11 c =
-    c .before .before .line31 .ensures ∙ line-at line31 (c .before .before .before .before .match .keys11) _ _ _ _ _
-
 returns-12 : tie.Need-returns-12
-returns-12 c =
-    c .line39 .ensures _ _ _ ∙ line-at line39 (c .before .match .keys12) _ _ _ _ _
+returns-12 c g f =
+    c .line42 .ensures _ _ ∙ line-at line42 (c .before .before .match .keys12) _ _ _ _ _
 
 same-length-10 : tie.Need-same-length-10
 same-length-10 c = search needs
 
 returns-13 : tie.Need-returns-13
-returns-13 c =
-    c .line40 .ensures _ _ ∙ line-at line40 (c .before .before .match .keys13) _ _ _ _ _
+returns-13 c g f =
+    c .line48 .ensures _ _ ∙ line-at line48 (c .before .before .match .keys13) _ _ _ _ _
 
 same-length-11 : tie.Need-same-length-11
 same-length-11 c = search needs
 
 returns-14 : tie.Need-returns-14
-returns-14 c =
-    c .line42 .ensures _ _ ∙ line-at line42 (c .before .before .match .keys14) _ _ _ _ _
-
-same-length-12 : tie.Need-same-length-12
-same-length-12 c = search needs
-
-returns-15 : tie.Need-returns-15
-returns-15 c =
-    c .line48 .ensures _ _ ∙ line-at line48 (c .before .before .match .keys15) _ _ _ _ _
-
-same-length-13 : tie.Need-same-length-13
-same-length-13 c = search needs
-
-returns-16 : tie.Need-returns-16
-returns-16 c =
+returns-14 c g f =
     c .before .before .line51 .ensures _ _ ∙ line-at line51 (at-51 (c .before .before .before .before)) _ _ _ _ _
 
 pub upper-line-spec : {M : Type 1} → statement M
@@ -198,8 +176,6 @@ upper-line-spec =
     line18-requires
     line24-requires
     line25-requires
-    line28-requires
-    line31-requires
     line39-requires
     line40-requires
     line42-requires
@@ -221,16 +197,12 @@ upper-line-spec =
     returns-8
     same-length-7
     returns-9
-    same-length-8
     returns-10
-    same-length-9
+    same-length-8
     returns-11
+    same-length-9
     returns-12
     same-length-10
     returns-13
     same-length-11
-    returns-14
-    same-length-12
-    returns-15
-    same-length-13
-    returns-16)
+    returns-14)

@@ -1,23 +1,26 @@
 -- A tick in code, from the line's outcome to the words: what `ticking::make` relies on and comes to.
 use mathlib.Core.Path.{_≡_, refl, sym, ap, _∙_, subst}
-use mathlib.Core.Bool.{Bool, true, false}
-use mathlib.Core.Logic.{_≢_}
+use mathlib.Core.Bool.{Bool, true, false, cond, _||_}
+use mathlib.Core.Logic.{_≢_, _⊎_, inl, inr}
 use mathlib.Core.List.{List}
 use mathlib.Core.Option.{none as nothing}
 use Prim.Native.Nat.{ℕ, _+_, _*_, _-_, _≤_, _<_}
 use native.Mathlib.Omega.{arith}
 use lib.ListN.{length, getD, set}
 use lib.Seq.{sets}
-use borrow.Rule.Slice.PartMut.{midOf, putMid}
+use lib.Dec.{eqb}
+use borrow.Author.Tests.{ne-eqb}
+use borrow.Rule.Slice.PartMut.{midOf, putMid, same-len-mid}
 use Rattle.machine.specs.declared.Answer.{Answer}
 use Rattle.machine.specs.declared.Answer.the-variants.{Going, Pushed, Bag, Empty, Full, Yes, No, Refused}
 use Rattle.machine.specs.Sides.{Side, left, right, sideNumber, sideOf}
 use Rattle.machine.specs.Values.{number}
 use Rattle.machine.specs.Operations.{operationOf, argumentOk, goalOf}
-use Rattle.machine.specs.Steps.{stepOf}
+use Rattle.machine.specs.Steps.{stepOf, isStepIn}
 use Rattle.machine.specs.Tasks.{Task, none, wordsOf, goal}
 use Rattle.machine.specs.Table.{
   headerLength,
+  nodeCountAt,
   nodeLength,
   nodeAt,
   recordAt,
@@ -43,16 +46,17 @@ use Rattle.machine.proofs.Shape.Fits.{Fits}
 use Rattle.machine.proofs.Shape.TickKeeps.{effect-fits, allocated-node}
 use Rattle.machine.proofs.Linearizability.Model.Invariant.{noteOf}
 use Rattle.layout.specs.declared.tasks.Task as Tasks
-use Rattle.layout.specs.Coded.{structOf, recordOf, codedTask, taskMeant, SameCall, HoldsRecord}
+use Rattle.layout.specs.Coded.{structOf, recordOf, codedTask, taskMeant, SameCall, HoldsNode, HoldsRecord}
 use Rattle.layout.proofs.Laws.Views.{nodesOf, nodes-part, nodes-long}
 use Rattle.hattrick.specs.declared.ends.Done.{Done}
 use Rattle.hattrick.specs.Lent.{writesIn, hatAfter, Outcome, outcomeOf, effectIn, lineOf}
-use Rattle.figure.specs.Halves.{allSteps, ReadyIn}
-use Rattle.ticking.specs.Ticks.{MayTick, taken, isRefused, GoesOn, made, recorded, stored}
+use Rattle.figure.specs.Groups.{takingLines, otherLines, allSteps, ReadyIn}
+use Rattle.figure.proofs.StepChoice.{each, regrouped}
+use Rattle.ticking.specs.Ticks.{MayTick, taken, isRefused, GoesOn, made, recorded, stored, finished}
 use Rattle.ticking.proofs.Laws.LineWords.{taken-node}
-use Rattle.ticking.proofs.Laws.Laid.{record-after-nodes}
+use Rattle.ticking.proofs.Laws.Laid.{record-after-nodes, word-before-part}
 use Rattle.ticking.proofs.Laws.CallKept.{effect-keeps, coded-call}
-use Rattle.ticking.proofs.Laws.TickReady.{meant-task, side-back, side-low, argument-fits, ready-task}
+use Rattle.ticking.proofs.Laws.TickReady.{meant-task, side-back, side-low, held-or-none, argument-fits, ready-task}
 use Rattle.ticking.proofs.Laws.TickWords.{line-is-effect, refused-words, made-words}
 
 refused-answer : (a : Answer) → isRefused a ≡ true → (n : ℕ) × (a ≡ Refused n)
@@ -81,6 +85,10 @@ applied-made :
     → applied s ws k e ≡ tickedOf (e .answer) (effectWords s (e .writes) k (e .task) ws)
 unfolding applied
 applied-made s ws k e h = rw (h, applied)
+
+-- A step of a line that takes a node, or of another.
+abbrev taking-or-other : ℕ → Bool
+taking-or-other n = eqb n 28 || (eqb n 31 || isStepIn otherLines n)
 
 -- A tick that passed its tests, with the record K that the code reads.
 module _ (ws : List ℕ) (k hint : ℕ) (M : MayTick ws k hint) where
@@ -111,9 +119,12 @@ module _ (ws : List ℕ) (k hint : ℕ) (M : MayTick ws k hint) where
   pub record-side : K .side < 2
   record-side = side-low ws Z W k (M .is-task)
 
-  pub line-ready : {f : ℕ} → f ≡ taken K (allocate ws hint) → ReadyIn allSteps (nodesOf ws) K f
-  line-ready {f} e =
-      ready-task ws Z W k (M .is-task) (M .busy) f
+  line-ready : ReadyIn allSteps (nodesOf ws) K
+  line-ready = ready-task ws Z W k (M .is-task) (M .busy)
+
+  found-held : {f : ℕ} → f ≡ taken K (allocate ws hint) → f ≢ none → HoldsNode (nodesOf ws) f
+  found-held {f} e =
+      held-or-none ws Z W k (M .is-task) f
       (subst (λ (x : ℕ). x ≢ none → x < nodeCount ws) (sym e)
       (taken-node K (allocate ws hint) (nodeCount ws) (allocated-node ws hint (M .is-hint))))
 
@@ -163,7 +174,7 @@ module _ (ws : List ℕ) (k hint : ℕ) (M : MayTick ws k hint) where
     same-call g =
         let going : E .answer ≡ Going = sym answer-is ∙ going-answer (d .answer) g in
         let note = ap noteOf (meant-task ws Z W k (M .is-task)) ∙ sym (effect-keeps ws k hint .kept going) in
-        subst (λ (u : Tasks.Task). SameCall u (d .task)) (line-ready refl .ready .canonical)
+        subst (λ (u : Tasks.Task). SameCall u (d .task)) (line-ready .ready .canonical)
         (subst (SameCall (codedTask (taskMeant K))) (sym (ap (λ (o : Outcome). o .done .task) out))
         (coded-call (taskMeant K) (E .task) note))
 
@@ -218,14 +229,29 @@ module _ (ws : List ℕ) (k hint : ℕ) (M : MayTick ws k hint) where
         subst (λ (u : Tasks.Task). argumentOk (operationOf (u .operation)) (u .argument) ≡ true) (sym same)
         (argument-fits ws Z W k (M .is-task) (M .busy))
 
-    pub its-ready : {f : ℕ} → f ≡ taken r (allocate ws hint) → ReadyIn allSteps part r f
-    its-ready {f} =
-        subst
-        (λ (l : List ℕ). f ≡ taken r (allocate ws hint) → ReadyIn allSteps l r f)
-        (sym (nodes-part ws is-end))
-        (subst
-        (λ (u : Tasks.Task). f ≡ taken u (allocate ws hint) → ReadyIn allSteps (nodesOf ws) u f)
-        (sym same) line-ready)
+    its-ready : ReadyIn allSteps part r
+    its-ready =
+        subst (λ (l : List ℕ). ReadyIn allSteps l r) (sym (nodes-part ws is-end))
+        (subst (ReadyIn allSteps (nodesOf ws)) (sym same) line-ready)
+
+    -- At 28 and 31, and elsewhere.
+    pub takes-ready : (r .step ≡ 28) ⊎ (r .step ≡ 31) → ReadyIn takingLines part r
+    unfolding isStepIn
+    takes-ready (inl e) = regrouped its-ready (rw e refl)
+    takes-ready (inr e) = regrouped its-ready (rw e refl)
+
+    pub others-ready : ((r .step ≡ 28) ⊎ (r .step ≡ 31) → ⊥) → ReadyIn otherLines part r
+    unfolding isStepIn
+    others-ready ne = regrouped its-ready (narrowed (each taking-or-other allSteps (r .step) refl (its-ready .in-group)))
+      where
+        narrowed : taking-or-other (r .step) ≡ true → isStepIn otherLines (r .step) ≡ true
+        narrowed e = rw (ne-eqb (r .step) 28 (λ q. ne (inl q)), ne-eqb (r .step) 31 (λ q. ne (inr q))) at e
+
+    pub its-found : {f : ℕ} → f ≡ taken r (allocate ws hint) → f ≢ none → HoldsNode part f
+    its-found {f} =
+        subst (λ (l : List ℕ). f ≡ taken r (allocate ws hint) → f ≢ none → HoldsNode l f) (sym (nodes-part ws is-end))
+        (subst (λ (u : Tasks.Task). f ≡ taken u (allocate ws hint) → f ≢ none → HoldsNode (nodesOf ws) f) (sym same)
+        found-held)
 
     module _ {g f : ℕ} {ns : List ℕ} {d : Done}
         (goal-is : g ≡ goalOf (operationOf (r .operation)) (growth ws) (number (r .argument)))
@@ -247,29 +273,34 @@ module _ (ws : List ℕ) (k hint : ℕ) (M : MayTick ws k hint) where
       all-nodes-lent : end - headerLength ≡ nodeLength * nodeCount ws
       all-nodes-lent = omega arith
 
+      -- What the part's record is, once the line has been made.
+      after-length : length ns ≡ length part → length ns ≡ end - headerLength
+      after-length kept =
+          kept ∙ ap length (nodes-part ws is-end) ∙ nodes-long ws (Z .sized) ∙ sym all-nodes-lent
+
       pub its-call :
-          {b : Bool}
-          → length ns ≡ length part
-          → b ≡ isGoing (d .answer)
-          → GoesOn (putMid headerLength (end - headerLength) ws ns) k b (d .task)
-      its-call kept e g =
-          keeps-call done-is all-nodes-lent
-          (kept ∙ ap length (nodes-part ws is-end) ∙ nodes-long ws (Z .sized) ∙ sym all-nodes-lent)
-          (sym e ∙ g)
+          length ns ≡ length part
+          → GoesOn (putMid headerLength (end - headerLength) ws ns) k (isGoing (d .answer)) (d .task)
+      its-call kept = keeps-call done-is all-nodes-lent (after-length kept)
 
-      pub its-refusal :
-          isRefused (d .answer) ≡ true
-          → tickedOf (d .answer) (putMid headerLength (end - headerLength) ws ns) ≡ made ws k hint
-      its-refusal = refused-tick done-is all-nodes-lent
+      pub its-record : length ns ≡ length part → HoldsRecord (putMid headerLength (end - headerLength) ws ns) k
+      its-record kept =
+          let long = same-len-mid headerLength (end - headerLength) ws ns kept in
+          let count = word-before-part headerLength (end - headerLength) ws ns header-room nodeCountAt 0 (omega arith) in
+          omega (arith, record-room, long, count)
 
-      pub its-tick :
-          {vs : List ℕ}
-          → isRefused (d .answer) ≡ false
-          → vs ≡ stored (putMid headerLength (end - headerLength) ws ns) (r .side) (d .hat) k (d .task)
-          → tickedOf (d .answer) vs ≡ made ws k hint
-      its-tick a q =
-          made-tick done-is all-nodes-lent a
-          (q
-          ∙ ap
-          (λ (u : Tasks.Task). stored (putMid headerLength (end - headerLength) ws ns) (u .side) (d .hat) k (d .task))
-          same)
+      pub its-tick : finished (putMid headerLength (end - headerLength) ws ns) (r .side) k d ≡ made ws k hint
+      its-tick = go (isRefused (d .answer)) refl
+        where
+          after : List ℕ
+          after = putMid headerLength (end - headerLength) ws ns
+
+          go :
+              (b : Bool)
+              → isRefused (d .answer) ≡ b
+              → cond b (tickedOf (d .answer) after) (tickedOf (d .answer) (stored after (r .side) (d .hat) k (d .task)))
+              ≡ made ws k hint
+          go true a = refused-tick done-is all-nodes-lent a
+          go false a =
+              made-tick done-is all-nodes-lent a
+              (ap (λ (u : Tasks.Task). stored after (u .side) (d .hat) k (d .task)) same)

@@ -36,7 +36,7 @@ use Rattle.machine.proofs.Shape.BusyLaws.{NodeOrNone, BusyFacts, counted-at-mos
 use Rattle.machine.proofs.Shape.TickKeeps.{busy-facts}
 use Rattle.layout.specs.declared.tasks.Task as Tasks
 use Rattle.layout.specs.Coded.{structOf, codedTask, taskMeant, HoldsNode, storedIn}
-use Rattle.figure.specs.Halves.{allSteps, ReadyIn}
+use Rattle.figure.specs.Groups.{allSteps, ReadyIn}
 use Rattle.figure.proofs.StepChoice.{each}
 use Rattle.layout.proofs.Laws.Views.{nodesOf, node-held, held-node, words-in, task-read}
 
@@ -83,7 +83,7 @@ module _ (ws : List ℕ) (Z : WellSized (sizesOf ws)) (W : WellShaped (columns w
   pub side-low : record-at .side < 2
   side-low = let h = number-low (sideOf (record-at .side)) in rw side-back at h
 
-  held-or-none : (r : ℕ) → NodeOrNone (nodeCount ws) r → r ≢ none → HoldsNode (nodesOf ws) r
+  pub held-or-none : (r : ℕ) → NodeOrNone (nodeCount ws) r → r ≢ none → HoldsNode (nodesOf ws) r
   held-or-none r h n = node-held ws (Z .sized) r (h n)
 
   values-held : (x : ℕ) → HoldsNode (nodesOf ws) x → valueOk (storedIn (nodesOf ws) x) ≡ true
@@ -141,8 +141,8 @@ module _ (ws : List ℕ) (Z : WellSized (sizesOf ws)) (W : WellShaped (columns w
         = ap (λ (t : Tasks.Task). t .value) canonical in
         subst (λ (u : Stored). bagOk u ≡ true) w (rw n at (facts .value-ok))
 
-    pub ready-task : (found : ℕ) → (found ≢ none → found < nodeCount ws) → ReadyIn allSteps (nodesOf ws) record-at found
-    ready-task found h =
+    pub ready-task : ReadyIn allSteps (nodesOf ws) record-at
+    ready-task =
         record {
           ready =
               record {
@@ -153,5 +153,4 @@ module _ (ws : List ℕ) (Z : WellSized (sizesOf ws)) (W : WellShaped (columns w
               };
           in-group = is-step;
           bag-at-51 = bag-at-51;
-          found-node = held-or-none found h;
         }
