@@ -1,5 +1,6 @@
 // Tag lists in packed decimal: the baggage office's bytes read into words, and words written as such bytes. One pass
 // tests every tag, and only then another one writes.
+mod digits;
 mod packing;
 mod reading;
 mod writing;
@@ -38,15 +39,17 @@ pub fn read_tags(bytes: &[u8], words: &mut [u32]) -> Listed
         return Listed::BadLength;
     }
     let tags = bytes.len() / 5;
-    let bad = reading::first_bad(bytes, tags);
-    if bad < tags {
-        return Listed::BadTag(bad as u32);
+    let unreadable = reading::first_bad(bytes, tags);
+    if unreadable < tags {
+        let place = unreadable as u32;
+        return Listed::BadTag(place);
     }
     if words.len() < 2 * tags {
         return Listed::TooShort;
     }
     reading::put_words(bytes, tags, words);
-    Listed::Count(tags as u32)
+    let count = tags as u32;
+    Listed::Count(count)
 }
 
 // Writes two words a tag as five bytes a tag.
@@ -57,13 +60,15 @@ pub fn write_tags(words: &[u32], bytes: &mut [u8]) -> Listed
         return Listed::BadLength;
     }
     let tags = words.len() / 2;
-    let bad = writing::first_bad(words, tags);
-    if bad < tags {
-        return Listed::BadTag(bad as u32);
+    let unwritable = writing::first_bad(words, tags);
+    if unwritable < tags {
+        let place = unwritable as u32;
+        return Listed::BadTag(place);
     }
     if bytes.len() < 5 * tags {
         return Listed::TooShort;
     }
     writing::put_bytes(words, tags, bytes);
-    Listed::Count(tags as u32)
+    let count = tags as u32;
+    Listed::Count(count)
 }

@@ -2,10 +2,11 @@
 ghost use mathlib.Core.Path.{_≡_};
 ghost use mathlib.Core.Bool.{true};
 ghost use Prim.Native.Nat.{_+_, _≤_};
+ghost use lib.Dec.{leb};
 ghost use lib.ListN.{length, take, drop};
 ghost use lib.Seq.{sets};
 ghost use Rattle.tag.specs.Tags.{areDigits};
-ghost use Rattle.packed.specs.Packed.{halves, pairs};
+ghost use Rattle.packed.specs.Packed.{halves, pairs, packedNumber};
 
 // The digits of five bytes. 02: "two digits to a byte, the higher first".
 pub fn unpack(five: [u8; 5]) -> [u8; 10]
@@ -47,6 +48,19 @@ pub fn are_digits(digits: [u8; 10]) -> bool
         i += 1;
     }
     true
+}
+
+// Whether the digits of five bytes are not all 0: whether some byte is not.
+pub fn not_zero(five: [u8; 5]) -> bool
+    ensures { λ r. ⌜ r ≡ leb 1 (packedNumber five) ⌝ }
+{
+    let mut some = false;
+    let mut i: usize = 0;
+    while i < 5 {
+        some = some | (five[i] != 0);
+        i += 1;
+    }
+    some
 }
 
 // The five bytes at a place.

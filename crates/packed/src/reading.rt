@@ -1,29 +1,20 @@
 // The two passes of reading: the first bad tag of the bytes, and the words of them all.
+use super::digits;
 use super::packing::are_digits;
+use super::packing::not_zero;
 use super::packing::take_five;
 use super::packing::unpack;
 ghost use mathlib.Core.Path.{_≡_};
 ghost use Prim.Native.Nat.{_*_, _≤_};
 ghost use lib.ListN.{length};
-ghost use Rattle.packed.specs.Packed.{isPacked, packedNumber};
+ghost use Rattle.packed.specs.Packed.{isPacked};
 ghost use Rattle.packed.specs.TagLists.{reading, firstBad, putAll};
 
 // Whether five bytes are a tag.
 fn is_packed(five: [u8; 5]) -> bool
     ensures { λ r. ⌜ r ≡ isPacked five ⌝ }
 {
-    let digits = unpack(five);
-    if !are_digits(digits) {
-        return false;
-    }
-    1 <= tag::of_digits(digits)
-}
-
-// The tag of five bytes that are one.
-fn packed_number(five: [u8; 5]) -> u64
-    ensures { λ r. ⌜ r ≡ packedNumber five ⌝ }
-{
-    tag::of_digits(unpack(five))
+    are_digits(unpack(five)) & not_zero(five)
 }
 
 // The place of the first five bytes that are no tag, or the number of tags.
@@ -49,10 +40,10 @@ pub fn put_words(bytes: &[u8], tags: usize, words: &mut [u32])
 {
     let mut put: usize = 0;
     while put < tags {
-        let number = packed_number(take_five(bytes, 5 * put));
+        let tag = unpack(take_five(bytes, 5 * put));
         let at = 2 * put;
-        words[at] = tag::digit(number);
-        words[at + 1] = tag::low(number);
+        words[at] = digits::leading(tag);
+        words[at + 1] = digits::low(tag);
         put += 1;
     }
 }

@@ -1,4 +1,5 @@
 // The two passes of writing: the first bad tag of the words, and the bytes of them all.
+use super::digits;
 use super::packing::pack;
 use super::packing::put_five;
 ghost use mathlib.Core.Path.{_≡_};
@@ -22,16 +23,17 @@ pub fn first_bad(words: &[u32], tags: usize) -> usize
     tags
 }
 
-// Puts the bytes of tags in front of the out slice.
+// Puts the bytes of tags that are all good in front of the out slice.
 pub fn put_bytes(words: &[u32], tags: usize, bytes: &mut [u8])
     requires { ⌜ (2 * tags ≤ length (now words)) × (5 * tags ≤ length (now bytes)) ⌝ }
+    requires { ⌜ firstBad writing tags (now words) ≡ tags ⌝ }
     ensures { λ _. ⌜ now (bytes .exit) ≡ putAll writing tags (now (words .entry)) (now (bytes .entry)) ⌝ }
 {
     let mut put: usize = 0;
     while put < tags {
         let at = 2 * put;
-        let number = tag::number(words[at], words[at + 1]);
-        put_five(bytes, 5 * put, pack(tag::digits(number)));
+        let tag = digits::of_words(words[at], words[at + 1]);
+        put_five(bytes, 5 * put, pack(tag));
         put += 1;
     }
 }

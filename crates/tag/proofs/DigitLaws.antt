@@ -3,10 +3,10 @@ use mathlib.Core.Path.{_≡_, refl, sym, _∙_}
 use mathlib.Core.Bool.{true}
 use mathlib.Core.List.{List, [], _∷_, _++_, append-nil}
 use Prim.Native.Nat.{ℕ, zero, suc, _+_, _*_, _-_, _/_, _%_, _^_, _≤_, _<_}
-use native.Mathlib.Nat.{div-lt-iff-lt-mul, mul-assoc, pow-suc, zero-add, pow-le-pow-right}
+use native.Mathlib.Nat.{div-lt-iff-lt-mul, pow-suc, zero-add}
 use native.Mathlib.Omega.{arith}
 use lib.Dec.{leb}
-use lib.ListN.{length, length-append, drop, set, length-set, getD, drop-of-length-le}
+use lib.ListN.{length, length-append, drop, set, length-set}
 use lib.Seq.{drop-cons, drop-set-lt, getD-set-same, append-snoc}
 use borrow.Author.Tests.{leb-true, le-leb}
 use Rattle.tag.specs.Tags.{largestTag, lastDigits, tenDigits, numberFrom, numberOf, areDigits}
@@ -32,28 +32,6 @@ pub digits-end : (i n : ℕ) (stored : List ℕ) → i ≤ 0 → lastDigits i n 
 unfolding lastDigits
 digits-end zero n stored h = refl
 digits-end (suc i) n stored h = clash (omega arith)
-
--- ---- A number made from the first digit to the last.
-
-pub number-next : (digits : List ℕ) (n i : ℕ) → i < length digits
-    → numberFrom (n * 10 + getD digits i 0) (drop (suc i) digits) ≡ numberFrom n (drop i digits)
-unfolding numberFrom
-number-next digits n i h = rw (drop-cons digits i 0 h)
-
-pub number-end : (digits : List ℕ) (n i : ℕ) → length digits ≤ i → numberFrom n (drop i digits) ≡ n
-unfolding numberFrom
-number-end digits n i h = rw (drop-of-length-le digits {i = i} h)
-
--- At most c times the number of i nines: as far as i digits reach that are at most 9 c each.
-abbrev pub Reached : (c i n : ℕ) → Type 0
-Reached c i n = n + c ≤ c * 10 ^ i
-
-pub reached-next : (c i n d : ℕ) → d ≤ 9 * c → Reached c i n → Reached c (suc i) (n * 10 + d)
-reached-next c i n d h r = rw (pow-suc 10 i, ← mul-assoc c (10 ^ i) 10) (omega arith)
-
--- Bytes as digits: 255 is at most 9 * 29.
-pub bytes-reach : (i n : ℕ) → i ≤ 9 → Reached 29 i n → n ≤ 29 * 10 ^ 9
-bytes-reach i n h r = omega (arith, pow-le-pow-right {n = 10} (omega arith) h)
 
 -- ---- Digits are below 10.
 
@@ -113,14 +91,16 @@ digits-of-number digits ten h =
     let e : length digits + 0 ≡ 10 = omega arith in
     rw e at (digits-from digits 0 0 h)
 
-number-below : (digits : List ℕ) (i n : ℕ) → Reached 1 i n → areDigits digits ≡ true
-    → Reached 1 (length digits + i) (numberFrom n digits)
+number-below : (digits : List ℕ) (i n : ℕ) → n < 10 ^ i → areDigits digits ≡ true
+    → numberFrom n digits < 10 ^ (length digits + i)
 unfolding numberFrom areDigits
-number-below [] i n r h = rw (zero-add i) r
-number-below (d ∷ ds) i n r h =
+number-below [] i n below h = rw (zero-add i) below
+number-below (d ∷ ds) i n below h =
     let p = both-true (leb d 9) (areDigits ds) h in
+    let small = leb-true d 9 (p .0) in
     let e : suc (length ds) + i ≡ length ds + suc i = omega arith in
-    rw e (number-below ds (suc i) (n * 10 + d) (reached-next 1 i n d (leb-true d 9 (p .0)) r) (p .1))
+    let next : n * 10 + d < 10 ^ suc i = rw (pow-suc 10 i) (omega arith) in
+    rw e (number-below ds (suc i) (n * 10 + d) next (p .1))
 
 pub number-at-most : (digits : List ℕ) → length digits ≡ 10 → areDigits digits ≡ true → numberOf digits ≤ largestTag
 number-at-most digits ten h =

@@ -1,7 +1,7 @@
 // A tag as one number and as two words, the leading digit and the nine digits below.
 ghost use mathlib.Core.Path.{_≡_};
 ghost use Prim.Native.Nat.{_≤_};
-ghost use Rattle.tag.specs.Tags.{largestTag, tagOf, digitOf, lowOf, isTag, tenDigits, numberOf};
+ghost use Rattle.tag.specs.Tags.{largestTag, tagOf, digitOf, lowOf, isTag, tenDigits};
 
 pub const BILLION: u64 = 1_000_000_000;
 
@@ -53,24 +53,4 @@ pub fn digits(tag: u64) -> [u8; 10]
         rest = rest / 10;
     }
     digits
-}
-
-// A byte as a wider number. Of a parameter the range is known, of an array's element it is not.
-fn widened(byte: u8) -> u64
-    ensures { λ r. ⌜ (r ≡ byte) × (r ≤ 255) ⌝ }
-{
-    byte as u64
-}
-
-// The number of ten digits. Ten bytes of any value make less than 2^64.
-pub fn of_digits(digits: [u8; 10]) -> u64
-    ensures { λ r. ⌜ r ≡ numberOf digits ⌝ }
-{
-    let mut number: u64 = 0;
-    let mut i: usize = 0;
-    while i < 10 {
-        number = number * 10 + widened(digits[i]);
-        i += 1;
-    }
-    number
 }

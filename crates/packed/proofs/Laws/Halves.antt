@@ -1,47 +1,34 @@
 -- Bytes and their halves: each gives back the other.
-use mathlib.Core.Path.{_≡_, refl, sym, ap, _∙_}
+use mathlib.Core.Path.{_≡_, refl, ap, _∙_}
 use mathlib.Core.Bool.{true, _&&_}
 use mathlib.Core.List.{List, [], _∷_}
 use Prim.Native.Nat.{ℕ, zero, suc, _+_, _*_, _/_, _%_, _<_}
 use native.Mathlib.Omega.{arith}
 use lib.Dec.{leb}
-use lib.ListN.{length, length-set, getD, set, take, drop}
+use lib.ListN.{length, getD, set, take, drop}
 use lib.Seq.{getD-drop}
 use borrow.Author.Tests.{leb-true}
 use Rattle.tag.specs.Tags.{areDigits}
 use Rattle.tag.proofs.TagLaws.{clash, both-true}
 use Rattle.packed.specs.Packed.{halves, pairs}
-use Rattle.packed.proofs.Laws.Filling.{filled-next}
+use Rattle.packed.proofs.Laws.Twofold.{twofold, length-twofold, twofold-next}
 
 -- ---- Lengths.
 
+halves-twofold : (bytes : List ℕ) → halves bytes ≡ twofold (λ b. b / 16) (λ b. b % 16) bytes
+unfolding halves twofold
+halves-twofold [] = refl
+halves-twofold (b ∷ bs) = rw (halves-twofold bs)
+
 pub length-halves : (bytes : List ℕ) → length (halves bytes) ≡ 2 * length bytes
-unfolding halves
-length-halves [] = refl
-length-halves (b ∷ bs) = omega (arith, length-halves bs)
+length-halves bytes = rw (halves-twofold bytes) (length-twofold (λ b. b / 16) (λ b. b % 16) bytes)
 
 pub length-pairs : (n : ℕ) (digits : List ℕ) → length (pairs n digits) ≡ n
 unfolding pairs
 length-pairs zero ds = refl
 length-pairs (suc n) ds = ap suc (length-pairs n (drop 2 ds))
 
--- ---- What stands at a place.
-
-pub high-at : (bytes : List ℕ) (i : ℕ) → i < length bytes → getD (halves bytes) (2 * i) 0 ≡ getD bytes i 0 / 16
-unfolding halves
-high-at [] i h = clash (omega arith)
-high-at (b ∷ bs) zero h = refl
-high-at (b ∷ bs) (suc i) h =
-    let e : 2 * suc i ≡ suc (suc (2 * i)) = omega arith in
-    rw e (high-at bs i (omega arith))
-
-pub low-at : (bytes : List ℕ) (i : ℕ) → i < length bytes → getD (halves bytes) (2 * i + 1) 0 ≡ getD bytes i 0 % 16
-unfolding halves
-low-at [] i h = clash (omega arith)
-low-at (b ∷ bs) zero h = refl
-low-at (b ∷ bs) (suc i) h =
-    let e : 2 * suc i + 1 ≡ suc (suc (2 * i + 1)) = omega arith in
-    rw e (low-at bs i (omega arith))
+-- ---- What is made, and what stands at a place.
 
 -- The halves of one byte more.
 pub halves-next : (made bytes : List ℕ) (i : ℕ) → i < length bytes → length made ≡ 2 * length bytes
@@ -49,16 +36,9 @@ pub halves-next : (made bytes : List ℕ) (i : ℕ) → i < length bytes → len
     → take (2 * suc i) (set (set made (2 * i) (getD bytes i 0 / 16)) (2 * i + 1) (getD bytes i 0 % 16))
     ≡ take (2 * suc i) (halves bytes)
 halves-next made bytes i h long so-far =
-    let high = getD bytes i 0 / 16 in
-    let low = getD bytes i 0 % 16 in
-    let wanted = length-halves bytes in
-    let one : 2 * i + 1 ≡ suc (2 * i) = omega arith in
-    let two : 2 * suc i ≡ suc (2 * i + 1) = omega arith in
-    let first =
-    filled-next made (halves bytes) (2 * i) high (omega arith) (omega arith) (sym (high-at bytes i h)) so-far in
-    rw two
-    (filled-next (set made (2 * i) high) (halves bytes) (2 * i + 1) low (simp length-set (omega arith)) (omega arith)
-    (sym (low-at bytes i h)) (rw one first))
+    rw (halves-twofold bytes)
+    (twofold-next (λ b. b / 16) (λ b. b % 16) made bytes i (getD bytes i 0 / 16) (getD bytes i 0 % 16) h long refl refl
+    (rw (halves-twofold bytes) at so-far))
 
 pub pair-at : (n : ℕ) (digits : List ℕ) (i : ℕ) → i < n
     → getD (pairs n digits) i 0 ≡ getD digits (2 * i) 0 * 16 + getD digits (2 * i + 1) 0

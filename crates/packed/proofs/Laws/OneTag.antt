@@ -27,10 +27,11 @@ use Rattle.packed.proofs.Laws.Halves.{length-halves, length-pairs, halv
 ten-halves : (p : List ℕ) → length p ≡ 5 → length (halves p) ≡ 10
 ten-halves p l = omega (arith, length-halves p)
 
+pub packed-are-digits : (p : List ℕ) → isPacked p ≡ true → areDigits (halves p) ≡ true
+packed-are-digits p h = both-true (areDigits (halves p)) (leb 1 (packedNumber p)) h .0
+
 pub packed-digits : (p : List ℕ) → length p ≡ 5 → isPacked p ≡ true → tenDigits (packedNumber p) ≡ halves p
-packed-digits p l h =
-    let q = both-true (areDigits (halves p)) (leb 1 (packedNumber p)) h in
-    digits-of-number (halves p) (ten-halves p l) (q .0)
+packed-digits p l h = digits-of-number (halves p) (ten-halves p l) (packed-are-digits p h)
 
 pub packed-range : (p : List ℕ) → length p ≡ 5 → isPacked p ≡ true
     → (1 ≤ packedNumber p) × (packedNumber p ≤ largestTag)

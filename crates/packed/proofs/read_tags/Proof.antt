@@ -1,9 +1,9 @@
 -- `packed::read_tags` meets its contract: each test of the code is the definition's.
-use mathlib.Core.Path.{ap, _∙_}
+use mathlib.Core.Path.{_≡_, ap, _∙_}
 use Prim.Native.Nat.{_/_, _≤_}
 use native.Mathlib.Omega.{arith}
 use lib.ListN.{length}
-use Rattle.packed.specs.TagLists.{count, outcome, reading}
+use Rattle.packed.specs.TagLists.{count, outcome, reading, firstBad}
 use Rattle.packed.proofs.Laws.Taken.{bad-length, not-long, bad-tag, none-bad, too-short, all-taken}
 use borrow.Author.Needs.{needs}
 use Rattle.packed.proofs.read_tags.Statement.{statement}
@@ -14,6 +14,16 @@ few : (passed : tie.Else1) → length (passed .before .before .before .before .a
 few passed =
     let a = passed .before .before .before .before .args in
     not-long reading (a .bytes .now) (a .words .now) (passed .before .length-ok .ensures) (passed .if1 .left)
+
+-- A list whose tags have passed has no bad one.
+all-good : (tested : tie.Else2)
+    → let bytes = tested .before .before .before .before .before .before .args .bytes .now in
+    firstBad reading (length bytes / 5) bytes ≡ length bytes / 5
+all-good tested =
+    let passed = tested .before .before in
+    let a = passed .before .before .before .before .args in
+    none-bad reading (a .bytes .now) (a .words .now) (passed .before .length-ok .ensures) (passed .if1 .left)
+    (tested .before .first-bad .ensures) (tested .if2 .left)
 
 length-ok-requires : tie.Need-length-ok-requires
 length-ok-requires c κs = search needs
@@ -27,8 +37,8 @@ returns c =
 first-bad-requires : tie.Need-first-bad-requires
 first-bad-requires c κs = search needs
 
-cast-t8 : tie.Need-cast-t8
-cast-t8 c = omega (arith, few (c .before .before))
+cast-place : tie.Need-cast-place
+cast-place c = omega (arith, few (c .before .before))
 
 returns-2 : tie.Need-returns-2
 returns-2 c =
@@ -49,17 +59,10 @@ returns-3 c =
     (tested .before .first-bad .ensures) (tested .if2 .left) (c .if3 .taken)
 
 put-words-requires : tie.Need-put-words-requires
-put-words-requires c κs =
-    let tested = c .before .before in
-    let passed = tested .before .before in
-    let a = passed .before .before .before .before .args in
-    let good =
-    none-bad reading (a .bytes .now) (a .words .now) (passed .before .length-ok .ensures) (passed .if1 .left)
-    (tested .before .first-bad .ensures) (tested .if2 .left) in
-    (omega arith, good)
+put-words-requires c κs = (omega arith, all-good (c .before .before))
 
-cast-t13 : tie.Need-cast-t13
-cast-t13 c = omega (arith, few (c .before .before .before .before .before .before .before))
+cast-count : tie.Need-cast-count
+cast-count c = omega (arith, few (c .before .before .before .before .before .before .before))
 
 same-length : tie.Need-same-length
 same-length c = search needs
@@ -81,11 +84,11 @@ read-tags-spec =
     length-ok-requires
     returns
     first-bad-requires
-    cast-t8
+    cast-place
     returns-2
     mul-if3
     returns-3
     put-words-requires
-    cast-t13
+    cast-count
     same-length
     returns-4)

@@ -1,10 +1,10 @@
 -- `packed::write_tags` meets its contract: each test of the code is the definition's.
-use mathlib.Core.Path.{ap, _∙_}
+use mathlib.Core.Path.{_≡_, ap, _∙_}
 use Prim.Native.Nat.{_/_, _≤_}
 use native.Mathlib.Omega.{arith}
 use lib.ListN.{length}
-use Rattle.packed.specs.TagLists.{count, outcome, writing}
-use Rattle.packed.proofs.Laws.Taken.{bad-length, not-long, bad-tag, too-short, all-taken}
+use Rattle.packed.specs.TagLists.{count, outcome, writing, firstBad}
+use Rattle.packed.proofs.Laws.Taken.{bad-length, not-long, bad-tag, none-bad, too-short, all-taken}
 use borrow.Author.Needs.{needs}
 use Rattle.packed.proofs.write_tags.Statement.{statement}
 use Rattle.packed.proofs.write_tags.Tie as tie
@@ -14,6 +14,16 @@ few : (passed : tie.Else1) → length (passed .before .before .before .before .a
 few passed =
     let a = passed .before .before .before .before .args in
     not-long writing (a .words .now) (a .bytes .now) (passed .before .length-ok .ensures) (passed .if1 .left)
+
+-- A list whose tags have passed has no bad one.
+all-good : (tested : tie.Else2)
+    → let words = tested .before .before .before .before .before .before .args .words .now in
+    firstBad writing (length words / 2) words ≡ length words / 2
+all-good tested =
+    let passed = tested .before .before in
+    let a = passed .before .before .before .before .args in
+    none-bad writing (a .words .now) (a .bytes .now) (passed .before .length-ok .ensures) (passed .if1 .left)
+    (tested .before .first-bad .ensures) (tested .if2 .left)
 
 length-ok-requires : tie.Need-length-ok-requires
 length-ok-requires c κs = search needs
@@ -27,8 +37,8 @@ returns c =
 first-bad-requires : tie.Need-first-bad-requires
 first-bad-requires c κs = search needs
 
-cast-t8 : tie.Need-cast-t8
-cast-t8 c = omega (arith, few (c .before .before))
+cast-place : tie.Need-cast-place
+cast-place c = omega (arith, few (c .before .before))
 
 returns-2 : tie.Need-returns-2
 returns-2 c =
@@ -49,10 +59,10 @@ returns-3 c =
     (tested .before .first-bad .ensures) (tested .if2 .left) (c .if3 .taken)
 
 put-bytes-requires : tie.Need-put-bytes-requires
-put-bytes-requires c κs = search needs
+put-bytes-requires c κs = (omega arith, all-good (c .before .before))
 
-cast-t13 : tie.Need-cast-t13
-cast-t13 c = omega (arith, few (c .before .before .before .before .before .before .before))
+cast-count : tie.Need-cast-count
+cast-count c = omega (arith, few (c .before .before .before .before .before .before .before))
 
 same-length : tie.Need-same-length
 same-length c = search needs
@@ -74,11 +84,11 @@ write-tags-spec =
     length-ok-requires
     returns
     first-bad-requires
-    cast-t8
+    cast-place
     returns-2
     mul-if3
     returns-3
     put-bytes-requires
-    cast-t13
+    cast-count
     same-length
     returns-4)

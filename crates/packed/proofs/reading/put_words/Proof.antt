@@ -1,15 +1,16 @@
 -- `packed::reading::put_words` meets its contract: storing the words of the tags left gives what storing all gives.
 use mathlib.Core.Path.{_≡_, refl, sym, ap, _∙_}
+use mathlib.Core.Bool.{true}
 use Prim.Native.Nat.{_*_, _-_, _≤_}
 use native.Mathlib.Numerals.{add-one}
 use native.Mathlib.Omega.{arith}
 use lib.ListN.{length, length-set, take, drop}
 use lib.Seq.{sets}
-use Rattle.tag.specs.Tags.{digitOf, lowOf}
+use Rattle.tag.specs.Tags.{digitOf, lowOf, numberOf, areDigits}
 use Rattle.packed.specs.Packed.{packedNumber}
 use Rattle.packed.specs.TagLists.{reading, firstBad, turnedAll}
-use Rattle.packed.proofs.Laws.Filling.{length-part, sets-front}
-use Rattle.packed.proofs.Laws.OneTag.{packed-range, length-unpacked, words-stored}
+use Rattle.packed.proofs.Laws.Filling.{sets-front}
+use Rattle.packed.proofs.Laws.OneTag.{packed-are-digits, length-unpacked, words-stored}
 use Rattle.packed.proofs.Laws.Ways.{length-turned, good-start, good-at, put-start, put-next, put-end}
 use borrow.Author.Needs.{needs}
 use Rattle.packed.proofs.reading.put_words.Statement.{statement}
@@ -43,23 +44,24 @@ mul-take-five c = omega arith
 take-five-requires : tie.Need-take-five-requires Inv-loop μ-loop
 take-five-requires c κs = omega arith
 
-packed-number-requires : tie.Need-packed-number-requires Inv-loop μ-loop
-packed-number-requires c κs = search needs
+unpack-requires : tie.Need-unpack-requires Inv-loop μ-loop
+unpack-requires c κs = search needs
 
 mul-at : tie.Need-mul-at Inv-loop μ-loop
 mul-at c = omega arith
 
-digit-requires : tie.Need-digit-requires Inv-loop μ-loop
-digit-requires c κs =
-    let number = c .packed-number in
-    let five = c .before .take-five in
-    let turn = c .before .before in
-    let l = turn .before .loop in
-    let a = turn .before .before .before .before .args in
+-- The halves of a good tag are digits.
+are-digits : (turn : tie.After-unpack Inv-loop μ-loop) → areDigits (turn .unpack .result) ≡ true
+are-digits turn =
+    let five = turn .before .take-five in
+    let l = turn .before .before .before .loop in
+    let a = turn .before .before .before .before .before .before .args in
     let bytes = a .bytes .now in
-    let long = length-part bytes (5 * l .put) 5 (omega arith) in
     let good = good-at reading (a .tags) bytes (l .put) (omega arith) (l .inv .2) .0 in
-    rw (number .ensures, five .ensures) (packed-range (take 5 (drop (5 * l .put) bytes)) long good .1)
+    rw (turn .unpack .ensures, five .ensures) (packed-are-digits (take 5 (drop (5 * l .put) bytes)) good)
+
+leading-requires : tie.Need-leading-requires Inv-loop μ-loop
+leading-requires c κs = are-digits c
 
 mul-words : tie.Need-mul-words Inv-loop μ-loop
 mul-words c = omega arith
@@ -68,7 +70,7 @@ slice-write-words : tie.Need-slice-write-words Inv-loop μ-loop
 slice-write-words c = omega arith
 
 low-requires : tie.Need-low-requires Inv-loop μ-loop
-low-requires c κs = search needs
+low-requires c κs = are-digits (c .before)
 
 add-words : tie.Need-add-words Inv-loop μ-loop
 add-words c = omega arith
@@ -87,15 +89,15 @@ loop-less c = omega arith
 
 loop-again : tie.Need-loop-again Inv-loop μ-loop
 loop-again c =
-    let number = c .before .before .packed-number in
+    let digits = c .before .before .unpack in
     let five = c .before .before .before .take-five in
     let turn = c .before .before .before .before in
     let l = turn .before .loop in
     let a = turn .before .before .before .before .args in
     let bytes = a .bytes .now in
     let tag = packedNumber (take 5 (drop (5 * l .put) bytes)) in
-    let is : number .result ≡ tag = number .ensures ∙ ap packedNumber (five .ensures) in
-    let digit = c .before .digit .ensures ∙ ap digitOf is in
+    let is : numberOf (digits .result) ≡ tag = ap numberOf (digits .ensures) ∙ ap packedNumber (five .ensures) in
+    let digit = c .before .leading .ensures ∙ ap digitOf is in
     let low = c .low .ensures ∙ ap lowOf is in
     let stored = words-stored (l .words) (2 * l .put) tag digit low in (
       omega arith,
@@ -127,9 +129,9 @@ put-words-spec =
     loop-holds
     mul-take-five
     take-five-requires
-    packed-number-requires
+    unpack-requires
     mul-at
-    digit-requires
+    leading-requires
     mul-words
     slice-write-words
     low-requires
