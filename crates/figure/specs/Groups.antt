@@ -9,11 +9,7 @@ use Rattle.machine.specs.Steps as Steps
 use Rattle.layout.specs.declared.tasks.Task as Tasks
 use Rattle.hattrick.specs.Lent.{Ready}
 
--- Lines 28 and 31, which take a node.
-abbrev pub takingLines : List Step
-takingLines = Steps.line28 ∷ Steps.line31 ∷ []
-
--- The others of lines 2 to 51: push, add and pop of the figure.
+-- Lines 2 to 51 but 28 and 31: push, add and pop of the figure.
 abbrev pub upperLines : List Step
 upperLines =
     Steps.line2 ∷ Steps.line3 ∷ Steps.line5 ∷ Steps.line8

@@ -1,29 +1,14 @@
-// The line of the figure that a tick makes, by the step number at which its task stands. The lines that take a node are apart
-// from the others, so that only they are given one.
+// The line of the figure that a tick makes, by the step number at which its task stands: all lines but 28 and 31, which take
+// a node.
 use hattrick::ends::Done;
 use layout::tasks::Task;
 ghost use mathlib.Core.Path.{_≡_};
-ghost use mathlib.Core.Logic.{_≢_};
 ghost use Prim.Native.Nat.{ℕ};
 ghost use Rattle.machine.specs.Steps.{stepOf};
-ghost use Rattle.machine.specs.Tasks.{none};
-ghost use Rattle.layout.specs.Coded.{HoldsNode};
 ghost use Rattle.hattrick.specs.Lent.{Does, lineOf, outcomeOf};
-ghost use Rattle.figure.specs.Groups.{ReadyIn, takingLines, upperLines, lowerLines, otherLines};
+ghost use Rattle.figure.specs.Groups.{ReadyIn, upperLines, lowerLines, otherLines};
 
-// Lines 28 and 31, which take a node.
-pub fn taking_line(ns: &mut [u32], hat: u32, t: Task, goal: u32, found: u32) -> Done
-    requires { ⌜ ReadyIn takingLines (now ns) t × (found ≢ none → HoldsNode (now ns) found) ⌝ }
-    ensures { λ r. ⌜ outcomeOf (now (ns .exit)) r ≡ lineOf (stepOf (t .step)) (now (ns .entry)) hat t goal found ⌝ }
-{
-    let step = t.step;
-    match step {
-        28 => add::line28(ns, hat, t, goal, found),
-        _ => add::line31(ns, hat, t, goal, found),
-    }
-}
-
-// The others of lines 2 to 51: push, add and pop.
+// Lines 2 to 51: push, add and pop.
 fn upper_line(ns: &mut [u32], hat: u32, t: Task) -> Done
     requires { ⌜ ReadyIn upperLines (now ns) t ⌝ }
     ensures { λ r. ⌜ Does (stepOf (t .step)) (now (ns .entry)) hat t (outcomeOf (now (ns .exit)) r) ⌝ }

@@ -25,13 +25,9 @@ pub record MayTick (ws : List ℕ) (k hint : ℕ) : Type 0 where
   pub is-hint : hint < nodeCount ws
   pub busy : isBusy (task ws k .operation) ≡ true
 
--- The node that a line is given: 28 and 31 search for one, 31 after its test of D. (01: at step 31 this test precedes the
--- search.)
-abbrev pub taken : Tasks.Task → (f : ℕ) → ℕ
-taken t f =
-    if t .step ≟ 28 then f else
-    if t .step ≟ 31 then (if getD (t .registers) 3 0 ≟ none then none else f) else
-    none
+-- The node that line 31 is given. (01: at step 31 the test of D precedes the search.)
+abbrev pub foundAt31 : Tasks.Task → (f : ℕ) → ℕ
+foundAt31 t f = if getD (t .registers) 3 0 ≟ none then none else f
 
 -- Whether an answer is a refusal.
 abbrev pub isRefused : Answer → Bool

@@ -1,10 +1,11 @@
 // The call tick, and ticks in a row: any slice, any numbers. A refusal changes no lent word.
+mod in_row;
 pub mod pairs;
 mod passed;
 
+use in_row::ticks_on;
 use machine::Answer;
 use pairs::tick_on;
-use pairs::ticks_on;
 use shape::table_refusal;
 ghost use mathlib.Core.Path.{_≡_};
 ghost use Rattle.machine.specs.Results.{tickedOf};

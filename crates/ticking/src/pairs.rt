@@ -1,7 +1,6 @@
 // The ticks of a list of (task, hint) pairs on a table that has passed the tests of refusals 3 and 4. All ticks are made in
 // this one loop, a single tick as a list of one pair: the compiler then sets the whole tick into the loop, and no call stands
 // between two ticks of a run.
-use crate::passed::is_going;
 use crate::passed::tick_once;
 use machine::Answer;
 use machine::REFUSED;
@@ -17,7 +16,7 @@ ghost use Rattle.tag.specs.Tags.{largestTag};
 ghost use Rattle.machine.specs.declared.Answer.{Answer as Answered};
 ghost use Rattle.machine.specs.Answers.{payloadOf, refusalOf, answerLength, answerWords, answerOf};
 ghost use Rattle.machine.specs.Shape.{WellFormed};
-ghost use Rattle.machine.specs.Calls.{tickOn, ticks, runOn};
+ghost use Rattle.machine.specs.Calls.{tickOn, runOn};
 ghost use Rattle.machine.specs.Results.{tickedOf, runDoneOf};
 ghost use Rattle.shape.specs.Contracts.{numberOf};
 ghost use Rattle.ticking.specs.Runs.{MayRun};
@@ -101,20 +100,4 @@ pub fn tick_on(table: &mut [u32], task: u32, hint: u32) -> Answer
         return Answer::Refused(ran.refusal);
     }
     answer_of(words[0], words[1], words[2])
-}
-
-// Ticks in a row, until one does not go on, or so many.
-pub fn ticks_on(table: &mut [u32], task: u32, hint: u32, times: u32) -> Answer
-    requires { ⌜ WellFormed (now table) ⌝ }
-    ensures { λ r. ⌜ tickedOf r (now (table .exit)) ≡ ticks times (now (table .entry)) task hint ⌝ }
-{
-    let mut made = 0;
-    while made < times {
-        let answer = tick_on(table, task, hint);
-        if !is_going(answer) {
-            return answer;
-        }
-        made += 1;
-    }
-    Answer::Going
 }

@@ -1,7 +1,8 @@
 // One tick on a table that has passed the tests of refusals 3 and 4.
+use add::line28;
+use add::line31;
 use alloc::first_free;
 use figure::line;
-use figure::taking_line;
 use hattrick::ends::Done;
 use layout::operations::goal_of;
 use layout::places::GROWTH;
@@ -24,26 +25,18 @@ ghost use Rattle.machine.specs.Calls.{tickOn};
 ghost use Rattle.layout.specs.Coded.{structOf, HoldsRecord};
 ghost use Rattle.machine.specs.Results.{tickedOf};
 ghost use Rattle.machine.specs.Answers.{isGoing};
-ghost use Rattle.ticking.specs.Ticks.{MayTick, taken, isRefused, GoesOn, made, recorded, stored, finished};
+ghost use Rattle.ticking.specs.Ticks.{MayTick, foundAt31, isRefused, GoesOn, made, recorded, stored, finished};
 
-// The node that a tick at 28 or 31 takes, or none; the other lines take none. 31 is refused where D is none, and does not
-// search then.
-fn found(table: &[u32], old: Task, hint: u32) -> u32
+// The node that line 31 takes, or none. The line is refused where D is none, and does not search then.
+fn found_at_31(table: &[u32], old: Task, hint: u32) -> u32
     requires { ⌜ WellFormed (now table) × (hint < nodeCount (now table)) ⌝ }
-    ensures { λ r. ⌜ r ≡ taken old (allocate (now (table .entry)) hint) ⌝ }
+    ensures { λ r. ⌜ r ≡ foundAt31 old (allocate (now (table .entry)) hint) ⌝ }
 {
-    let step = old.step;
     let d = old.registers[Task::D];
-    match step {
-        28 => first_free(table, hint as usize),
-        31 => {
-            if d == Task::NONE {
-                return Task::NONE;
-            }
-            first_free(table, hint as usize)
-        }
-        _ => Task::NONE,
+    if d == Task::NONE {
+        return Task::NONE;
     }
+    first_free(table, hint as usize)
 }
 
 // Whether a line was refused.
@@ -115,8 +108,8 @@ fn finish(table: &mut [u32], side: u32, k: u32, done: Done) -> Answer
     answer
 }
 
-// The tick of the busy task k, whose record is given. Only lines 28 and 31 search for a node. The search stands beside them: before
-// all lines it would take the processor's registers from the others.
+// The tick of the busy task k, whose record is given. Only lines 28 and 31 search for a node, and the search stands beside each:
+// before all lines it would take the processor's registers from the others.
 fn make(table: &mut [u32], k: u32, old: Task, hint: u32) -> Answer
     requires { ⌜ MayTick (now table) k hint ⌝ }
     requires { ⌜ old ≡ structOf (recordWords (now table) k) ⌝ }
@@ -129,9 +122,14 @@ fn make(table: &mut [u32], k: u32, old: Task, hint: u32) -> Answer
     let end = node_at(table[NODE_COUNT]);
     let step = old.step;
     match step {
-        28 | 31 => {
-            let taken = found(table, old, hint);
-            let done = taking_line(&mut table[HEADER..end], hat, old, goal, taken);
+        28 => {
+            let found = first_free(table, hint as usize);
+            let done = line28(&mut table[HEADER..end], hat, old, goal, found);
+            finish(table, side, k, done)
+        }
+        31 => {
+            let found = found_at_31(table, old, hint);
+            let done = line31(&mut table[HEADER..end], hat, old, goal, found);
             finish(table, side, k, done)
         }
         _ => {

@@ -2,7 +2,7 @@
 
 use crate::refusal;
 use crate::side::Side;
-use crate::table::{self, content, header, is_content, is_tag, node, record, Sizes, NONE};
+use crate::table::{self, are_content, content, header, is_content, is_tag, node, record, Sizes, NONE};
 
 /// The sizes of a table whose shape holds, or the refusal.
 pub fn check(table: &[u32]) -> Result<Sizes, u32> {
@@ -33,22 +33,26 @@ fn holds(table: &[u32], sizes: Sizes) -> bool {
         && head[header::ZERO] == 0
         && head[header::LEFT_HAT] < sizes.nodes
         && head[header::RIGHT_HAT] < sizes.nodes
-        && nodes
-            .chunks_exact(node::WORDS)
-            .all(|node| node_holds(node, sizes))
+        && nodes_hold(nodes, sizes)
         && records
             .chunks_exact(record::WORDS)
             .all(|task| record_holds(task, sizes))
 }
 
+/// Every node, without leaving at the first that does not hold: the compiler then tests several at once.
+fn nodes_hold(nodes: &[u32], sizes: Sizes) -> bool {
+    let nodes = nodes.chunks_exact(node::WORDS);
+    nodes.fold(true, |hold, node| hold & node_holds(node, sizes))
+}
+
 fn is_link(word: u32, sizes: Sizes) -> bool {
-    word < sizes.nodes || word == NONE
+    (word < sizes.nodes) | (word == NONE)
 }
 
 fn node_holds(node: &[u32], sizes: Sizes) -> bool {
     is_link(node[node::LEFT], sizes)
-        && is_link(node[node::RIGHT], sizes)
-        && is_content(content(node, node::VALUE))
+        & is_link(node[node::RIGHT], sizes)
+        & are_content(node[node::VALUE], node[node::DIGIT])
 }
 
 fn record_holds(task: &[u32], sizes: Sizes) -> bool {

@@ -190,7 +190,12 @@ pub fn is_tag(content: Content) -> bool {
 
 /// Whether a node may hold this content: a tag, a mark, or never used.
 pub fn is_content([value, digit]: Content) -> bool {
-    value <= MAX_LOW && digit <= MAX_DIGIT || (LN..=RY).contains(&value) && digit == 0
+    are_content(value, digit)
+}
+
+/// The same of the two words.
+pub fn are_content(value: u32, digit: u32) -> bool {
+    (value <= MAX_LOW) & (digit <= MAX_DIGIT) | (LN..=RY).contains(&value) & (digit == 0)
 }
 
 /// The same mark seen from the other side; other words are their own mirror.

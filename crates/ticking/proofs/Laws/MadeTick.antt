@@ -1,7 +1,7 @@
 -- A tick in code, from the line's outcome to the words: what `ticking::make` relies on and comes to.
 use mathlib.Core.Path.{_≡_, refl, sym, ap, _∙_, subst}
 use mathlib.Core.Bool.{Bool, true, false, cond, _||_}
-use mathlib.Core.Logic.{_≢_, _⊎_, inl, inr}
+use mathlib.Core.Logic.{_≢_}
 use mathlib.Core.List.{List}
 use mathlib.Core.Option.{none as nothing}
 use Prim.Native.Nat.{ℕ, _+_, _*_, _-_, _≤_, _<_}
@@ -16,7 +16,7 @@ use Rattle.machine.specs.declared.Answer.the-variants.{Going, Pushed, Bag, Empt
 use Rattle.machine.specs.Sides.{Side, left, right, sideNumber, sideOf}
 use Rattle.machine.specs.Values.{number}
 use Rattle.machine.specs.Operations.{operationOf, argumentOk, goalOf}
-use Rattle.machine.specs.Steps.{stepOf, isStepIn}
+use Rattle.machine.specs.Steps.{line28, line31, stepOf, isStepIn}
 use Rattle.machine.specs.Tasks.{Task, none, wordsOf, goal}
 use Rattle.machine.specs.Table.{
   headerLength,
@@ -50,10 +50,10 @@ use Rattle.layout.specs.Coded.{structOf, recordOf, codedTask, taskMeant, SameCa
 use Rattle.layout.proofs.Laws.Views.{nodesOf, nodes-part, nodes-long}
 use Rattle.hattrick.specs.declared.ends.Done.{Done}
 use Rattle.hattrick.specs.Lent.{writesIn, hatAfter, Outcome, outcomeOf, effectIn, lineOf}
-use Rattle.figure.specs.Groups.{takingLines, otherLines, allSteps, ReadyIn}
-use Rattle.figure.proofs.StepChoice.{each, regrouped}
-use Rattle.ticking.specs.Ticks.{MayTick, taken, isRefused, GoesOn, made, recorded, stored, finished}
-use Rattle.ticking.proofs.Laws.LineWords.{taken-node}
+use Rattle.figure.specs.Groups.{otherLines, allSteps, ReadyIn}
+use Rattle.figure.proofs.StepChoice.{each, regrouped, line-at}
+use Rattle.ticking.specs.Ticks.{MayTick, foundAt31, isRefused, GoesOn, made, recorded, stored, finished}
+use Rattle.ticking.proofs.Laws.LineWords.{found-enough, found-node}
 use Rattle.ticking.proofs.Laws.Laid.{record-after-nodes, word-before-part}
 use Rattle.ticking.proofs.Laws.CallKept.{effect-keeps, coded-call}
 use Rattle.ticking.proofs.Laws.TickReady.{meant-task, side-back, side-low, held-or-none, argument-fits, ready-task}
@@ -113,20 +113,20 @@ module _ (ws : List ℕ) (k hint : ℕ) (M : MayTick ws k hint) where
   pub nodes-room : nodeAt (nodeCount ws) ≤ length ws
   nodes-room = let z = Z .sized in omega arith
 
-  pub record-room : HoldsRecord ws k
+  record-room : HoldsRecord ws k
   record-room = let z = Z .sized in let h = M .is-task in omega arith
 
-  pub record-side : K .side < 2
+  record-side : K .side < 2
   record-side = side-low ws Z W k (M .is-task)
 
   line-ready : ReadyIn allSteps (nodesOf ws) K
   line-ready = ready-task ws Z W k (M .is-task) (M .busy)
 
-  found-held : {f : ℕ} → f ≡ taken K (allocate ws hint) → f ≢ none → HoldsNode (nodesOf ws) f
-  found-held {f} e =
-      held-or-none ws Z W k (M .is-task) f
-      (subst (λ (x : ℕ). x ≢ none → x < nodeCount ws) (sym e)
-      (taken-node K (allocate ws hint) (nodeCount ws) (allocated-node ws hint (M .is-hint))))
+  found-low : allocate ws hint ≢ none → allocate ws hint < nodeCount ws
+  found-low = allocated-node ws hint (M .is-hint)
+
+  found-held : {f : ℕ} → (f ≢ none → f < nodeCount ws) → f ≢ none → HoldsNode (nodesOf ws) f
+  found-held {f} = held-or-none ws Z W k (M .is-task) f
 
   hat-place : hatAt left + K .side ≡ hatAt s
   hat-place = ap (λ (n : ℕ). hatAt left + n) (sym (side-back ws Z W k (M .is-task))) ∙ side-place s
@@ -136,16 +136,14 @@ module _ (ws : List ℕ) (k hint : ℕ) (M : MayTick ws k hint) where
       side-place right = refl
 
   -- The outcome of the line that the code makes is the effect of the definitions.
-  pub outcome : {g f : ℕ} {ns : List ℕ} {d : Done}
+  outcome : {g : ℕ} {ns : List ℕ} {d : Done}
       → g ≡ goalOf (operationOf (K .operation)) (growth ws) (number (K .argument))
-      → f ≡ taken K (allocate ws hint)
-      → outcomeOf ns d ≡ lineOf (stepOf (K .step)) (nodesOf ws) (getD ws (hatAt left + K .side) 0) K g f
+      → outcomeOf ns d ≡ lineOf (stepOf (K .step)) (nodesOf ws) (getD ws (hatAt left + K .side) 0) K g (allocate ws hint)
       → outcomeOf ns d ≡ effectIn s (nodesOf ws) (hat ws s) E
-  outcome {g} {f} eg ef line =
+  outcome {g} eg line =
       line
-      ∙ ap (λ (i : ℕ). lineOf (stepOf (K .step)) (nodesOf ws) (getD ws i 0) K g f) hat-place
-      ∙ ap (lineOf (stepOf (K .step)) (nodesOf ws) (hat ws s) K g) ef
-      ∙ line-is-effect ws Z W k (M .is-task) hint g (M .busy) (eg ∙ ap (goal (growth ws)) (meant-task ws Z W k (M .is-task)))
+      ∙ ap (λ (i : ℕ). lineOf (stepOf (K .step)) (nodesOf ws) (getD ws i 0) K g (allocate ws hint)) hat-place
+      ∙ line-is-effect ws Z W k (M .is-task) hint g (eg ∙ ap (goal (growth ws)) (meant-task ws Z W k (M .is-task)))
 
   -- ---- The words. m is how long the code finds the nodes' part to be.
   module _ {ns : List ℕ} {d : Done} {m : ℕ}
@@ -229,65 +227,90 @@ module _ (ws : List ℕ) (k hint : ℕ) (M : MayTick ws k hint) where
         subst (λ (u : Tasks.Task). argumentOk (operationOf (u .operation)) (u .argument) ≡ true) (sym same)
         (argument-fits ws Z W k (M .is-task) (M .busy))
 
-    its-ready : ReadyIn allSteps part r
+    pub its-ready : ReadyIn allSteps part r
     its-ready =
         subst (λ (l : List ℕ). ReadyIn allSteps l r) (sym (nodes-part ws is-end))
         (subst (ReadyIn allSteps (nodesOf ws)) (sym same) line-ready)
 
-    -- At 28 and 31, and elsewhere.
-    pub takes-ready : (r .step ≡ 28) ⊎ (r .step ≡ 31) → ReadyIn takingLines part r
+    pub others-ready : r .step ≢ 28 → r .step ≢ 31 → ReadyIn otherLines part r
     unfolding isStepIn
-    takes-ready (inl e) = regrouped its-ready (rw e refl)
-    takes-ready (inr e) = regrouped its-ready (rw e refl)
-
-    pub others-ready : ((r .step ≡ 28) ⊎ (r .step ≡ 31) → ⊥) → ReadyIn otherLines part r
-    unfolding isStepIn
-    others-ready ne = regrouped its-ready (narrowed (each taking-or-other allSteps (r .step) refl (its-ready .in-group)))
+    others-ready n₂₈ n₃₁ = regrouped its-ready (narrowed (each taking-or-other allSteps (r .step) refl (its-ready .in-group)))
       where
         narrowed : taking-or-other (r .step) ≡ true → isStepIn otherLines (r .step) ≡ true
-        narrowed e = rw (ne-eqb (r .step) 28 (λ q. ne (inl q)), ne-eqb (r .step) 31 (λ q. ne (inr q))) at e
+        narrowed e = rw (ne-eqb (r .step) 28 n₂₈, ne-eqb (r .step) 31 n₃₁) at e
 
-    pub its-found : {f : ℕ} → f ≡ taken r (allocate ws hint) → f ≢ none → HoldsNode part f
-    its-found {f} =
-        subst (λ (l : List ℕ). f ≡ taken r (allocate ws hint) → f ≢ none → HoldsNode l f) (sym (nodes-part ws is-end))
-        (subst (λ (u : Tasks.Task). f ≡ taken u (allocate ws hint) → f ≢ none → HoldsNode (nodesOf ws) f) (sym same)
-        found-held)
+    -- The node found, at 28 and at 31.
+    its-node : {f : ℕ} → (f ≢ none → f < nodeCount ws) → f ≢ none → HoldsNode part f
+    its-node {f} h = subst (λ (l : List ℕ). f ≢ none → HoldsNode l f) (sym (nodes-part ws is-end)) (found-held h)
 
-    module _ {g f : ℕ} {ns : List ℕ} {d : Done}
+    pub found-28 : {f : ℕ} → f ≡ allocate ws hint → f ≢ none → HoldsNode part f
+    found-28 e = its-node (subst (λ (x : ℕ). x ≢ none → x < nodeCount ws) (sym e) found-low)
+
+    pub found-31 : {f : ℕ} → f ≡ foundAt31 r (allocate ws hint) → f ≢ none → HoldsNode part f
+    found-31 e =
+        its-node
+        (subst (λ (x : ℕ). x ≢ none → x < nodeCount ws) (sym e)
+        (found-node r (allocate ws hint) (nodeCount ws) found-low))
+
+    -- The line that the code makes, by what it knows of the step and of the node.
+    abbrev the-line : (g : ℕ) → Outcome
+    the-line g = lineOf (stepOf (r .step)) part (getD ws (hatAt left + r .side) 0) r g (allocate ws hint)
+
+    pub at-28 : (g : ℕ) {f : ℕ} {o : Outcome}
+        → r .step ≡ 28
+        → f ≡ allocate ws hint
+        → o ≡ lineOf line28 part (getD ws (hatAt left + r .side) 0) r g f
+        → o ≡ the-line g
+    at-28 g step found line =
+        line
+        ∙ ap (lineOf line28 part (getD ws (hatAt left + r .side) 0) r g) found
+        ∙ line-at line28 step part _ r g (allocate ws hint)
+
+    pub at-31 : (g : ℕ) {f : ℕ} {o : Outcome}
+        → r .step ≡ 31
+        → f ≡ foundAt31 r (allocate ws hint)
+        → o ≡ lineOf line31 part (getD ws (hatAt left + r .side) 0) r g f
+        → o ≡ the-line g
+    at-31 g step found line =
+        line
+        ∙ ap (lineOf line31 part (getD ws (hatAt left + r .side) 0) r g) found
+        ∙ found-enough part (getD ws (hatAt left + r .side) 0) r g (allocate ws hint)
+        ∙ line-at line31 step part _ r g (allocate ws hint)
+
+    module _ {g : ℕ} {ns : List ℕ} {d : Done}
         (goal-is : g ≡ goalOf (operationOf (r .operation)) (growth ws) (number (r .argument)))
-        (found-is : f ≡ taken r (allocate ws hint))
-        (line-is : outcomeOf ns d ≡ lineOf (stepOf (r .step)) part (getD ws (hatAt left + r .side) 0) r g f) where
+        (line-is :
+        outcomeOf ns d ≡ lineOf (stepOf (r .step)) part (getD ws (hatAt left + r .side) 0) r g (allocate ws hint)) where
       done-is : outcomeOf ns d ≡ effectIn s (nodesOf ws) (hat ws s) E
       done-is =
           subst
           (λ (u : Tasks.Task).
           g ≡ goalOf (operationOf (u .operation)) (growth ws) (number (u .argument))
-          → f ≡ taken u (allocate ws hint)
-          → outcomeOf ns d ≡ lineOf (stepOf (u .step)) (nodesOf ws) (getD ws (hatAt left + u .side) 0) u g f
+          → outcomeOf ns d
+          ≡ lineOf (stepOf (u .step)) (nodesOf ws) (getD ws (hatAt left + u .side) 0) u g (allocate ws hint)
           → outcomeOf ns d ≡ effectIn s (nodesOf ws) (hat ws s) E)
-          (sym same) outcome goal-is found-is
+          (sym same) outcome goal-is
           (line-is
-          ∙ ap (λ (l : List ℕ). lineOf (stepOf (r .step)) l (getD ws (hatAt left + r .side) 0) r g f)
+          ∙ ap
+          (λ (l : List ℕ). lineOf (stepOf (r .step)) l (getD ws (hatAt left + r .side) 0) r g (allocate ws hint))
           (nodes-part ws is-end))
 
       all-nodes-lent : end - headerLength ≡ nodeLength * nodeCount ws
       all-nodes-lent = omega arith
 
-      -- What the part's record is, once the line has been made.
       after-length : length ns ≡ length part → length ns ≡ end - headerLength
       after-length kept =
           kept ∙ ap length (nodes-part ws is-end) ∙ nodes-long ws (Z .sized) ∙ sym all-nodes-lent
 
-      pub its-call :
+      -- What `finish` relies on.
+      pub its-finish :
           length ns ≡ length part
-          → GoesOn (putMid headerLength (end - headerLength) ws ns) k (isGoing (d .answer)) (d .task)
-      its-call kept = keeps-call done-is all-nodes-lent (after-length kept)
-
-      pub its-record : length ns ≡ length part → HoldsRecord (putMid headerLength (end - headerLength) ws ns) k
-      its-record kept =
+          → ((r .side < 2) × HoldsRecord (putMid headerLength (end - headerLength) ws ns) k)
+          × GoesOn (putMid headerLength (end - headerLength) ws ns) k (isGoing (d .answer)) (d .task)
+      its-finish kept =
           let long = same-len-mid headerLength (end - headerLength) ws ns kept in
           let count = word-before-part headerLength (end - headerLength) ws ns header-room nodeCountAt 0 (omega arith) in
-          omega (arith, record-room, long, count)
+          ((its-side, omega (arith, record-room, long, count)), keeps-call done-is all-nodes-lent (after-length kept))
 
       pub its-tick : finished (putMid headerLength (end - headerLength) ws ns) (r .side) k d ≡ made ws k hint
       its-tick = go (isRefused (d .answer)) refl

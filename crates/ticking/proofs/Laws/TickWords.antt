@@ -24,12 +24,10 @@ use Rattle.machine.proofs.Shape.Fits.{answer-made, Fits, turns-back, goes-on, e
 use Rattle.layout.specs.declared.tasks.Task as Tasks
 use Rattle.layout.specs.Coded.{structOf, taskMeant}
 use Rattle.hattrick.specs.Lent.{memoryIn, writesIn, hatAfter, effectIn, lineOf}
-use Rattle.ticking.specs.Ticks.{taken}
 use Rattle.layout.proofs.Laws.Views.{nodesOf, nodes-long}
 use Rattle.ticking.proofs.Laws.Seen.{seen-in}
 use Rattle.ticking.proofs.Laws.Laid.{lay, writes-laid, laid-itself, set-before-part}
-use Rattle.ticking.proofs.Laws.LineWords.{taken-enough}
-use Rattle.ticking.proofs.Laws.TickReady.{meant-task, step-back}
+use Rattle.ticking.proofs.Laws.TickReady.{meant-task}
 
 module _ (ws : List ℕ) (Z : WellSized (sizesOf ws)) (W : WellShaped (columns ws)) (k : ℕ)
     (is-task : k < taskCount ws) where
@@ -42,20 +40,17 @@ module _ (ws : List ℕ) (Z : WellSized (sizesOf ws)) (W : WellShaped (columns w
   -- The line that the code makes, over the lent part, is the effect of the definitions, over the table.
   pub line-is-effect :
       (h g : ℕ)
-      → isBusy (task ws k .operation) ≡ true
       → g ≡ goal (growth ws) (task ws k)
-      → lineOf (stepOf (t .step)) (nodesOf ws) (hat ws s) t g (taken t (allocate ws h))
+      → lineOf (stepOf (t .step)) (nodesOf ws) (hat ws s) t g (allocate ws h)
       ≡ effectIn s (nodesOf ws) (hat ws s) (effectOf ws k h)
   unfolding lineOf effectOf
-  line-is-effect h g busy e =
+  line-is-effect h g e =
       let τ = taskMeant t in
       let f = allocate ws h in
       let st = stepOf (t .step) in
       let meant = meant-task ws Z W k is-task in
       ap (effectIn s (nodesOf ws) (hat ws s))
-      (taken-enough t f s (opposite s) (memoryIn s (nodesOf ws) (hat ws s)) g st
-      (sym (step-back ws Z W k is-task busy))
-      ∙ ap (λ (m : Memory). act st s (opposite s) m τ g f) (sym (seen-in ws (Z .sized) s))
+      (ap (λ (m : Memory). act st s (opposite s) m τ g f) (sym (seen-in ws (Z .sized) s))
       ∙ ap (λ (n : ℕ). act st s (opposite s) (seen s ws) τ n f) (e ∙ ap (goal (growth ws)) (sym meant))
       ∙ ap
       (λ (u : Task).

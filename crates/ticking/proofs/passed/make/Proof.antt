@@ -4,17 +4,18 @@ use Prim.Native.Nat.{_≤_}
 use native.Mathlib.Omega.{arith}
 use lib.ListN.{length}
 use Rattle.machine.specs.Allocate.{allocate}
-use Rattle.ticking.specs.Ticks.{taken}
 use Rattle.ticking.proofs.Laws.MadeTick.{
   header-room,
   nodes-room,
   its-side,
   its-argument,
-  takes-ready,
+  its-ready,
   others-ready,
-  its-found,
-  its-call,
-  its-record,
+  found-28,
+  found-31,
+  at-28,
+  at-31,
+  its-finish,
   its-tick,
 }
 use borrow.Author.Needs.{needs}
@@ -56,7 +57,7 @@ slice-read-node-at c =
 node-at-requires : tie.Need-node-at-requires
 node-at-requires c κs = search needs
 
--- Where the tick began, from where the end of the nodes is known; and the end of what is lent.
+-- Where the tick began, from where the end of the nodes is known; the end of what is lent; and the goal.
 abbrev start-of : tie.After-node-at → tie.Start
 start-of n = n .before .before .before .before .before .before .before
 
@@ -65,53 +66,80 @@ end-within n =
     let p = start-of n in
     omega (arith, n .node-at .ensures, nodes-room (p .args .table .now) (p .args .k) (p .args .hint) (p .pre .0))
 
--- ---- Lines 28 and 31.
-abbrev before-search : tie.After-found → tie.After-node-at
-before-search c = c .before .before .before
+abbrev goal-in : tie.After-node-at → tie.After-goal-of
+goal-in n = n .before .before .before
 
-found-requires : tie.Need-found-requires
-found-requires c κs = let h = c .before .before .before .before .before .before .before .before .before .pre .0 in (h .table, h .is-hint)
+-- ---- Line 28.
+first-free-requires : tie.Need-first-free-requires
+first-free-requires c κs =
+    let h = c .before .before .before .before .before .before .before .before .before .pre .0 in
+    (h .table .length-passes, h .is-hint)
 
-sub-taking-line : tie.Need-sub-taking-line
-sub-taking-line c = omega (arith, before-search c .node-at .ensures)
+sub-line28 : tie.Need-sub-line28
+sub-line28 c = omega (arith, c .before .before .before .node-at .ensures)
 
-part-taking-line-start : tie.Need-part-taking-line-start
-part-taking-line-start c = omega (arith, before-search c .node-at .ensures)
+part-line28-start : tie.Need-part-line28-start
+part-line28-start c = omega (arith, c .before .before .before .node-at .ensures)
 
-part-taking-line-end : tie.Need-part-taking-line-end
-part-taking-line-end c = end-within (before-search c)
+part-line28-end : tie.Need-part-line28-end
+part-line28-end c = end-within (c .before .before .before)
 
-taking-line-requires : tie.Need-taking-line-requires
-taking-line-requires c κs =
+line28-requires : tie.Need-line28-requires
+line28-requires c κs =
     let f = c .before in
-    let n = before-search f in
+    let n = f .before .before .before in
     let p = start-of n in
     let a = p .args in (
-      takes-ready (a .table .now) (a .k) (a .hint) (p .pre .0) (a .old) (p .pre .1) _ (n .node-at .ensures)
-          (f .before .before .match .keys1),
-      its-found (a .table .now) (a .k) (a .hint) (p .pre .0) (a .old) (p .pre .1) _ (n .node-at .ensures)
-          (f .found .ensures),
+      its-ready (a .table .now) (a .k) (a .hint) (p .pre .0) (a .old) (p .pre .1) _ (n .node-at .ensures) .ready,
+      found-28 (a .table .now) (a .k) (a .hint) (p .pre .0) (a .old) (p .pre .1) _ (n .node-at .ensures) (f .first-free .ensures),
     )
 
 finish-requires : tie.Need-finish-requires
 finish-requires c κs =
     let l = c .before .before .before in
     let f = l .before .before in
-    let n = before-search f in
+    let n = f .before .before .before in
     let p = start-of n in
     let a = p .args in
-    let goal = n .before .before .before .goal-of .ensures in
-    let out = l .taking-line in (
-      (
-        its-side (a .table .now) (a .k) (a .hint) (p .pre .0) (a .old) (p .pre .1) _ refl,
-        its-record (a .table .now) (a .k) (a .hint) (p .pre .0) (a .old) (p .pre .1) _ (n .node-at .ensures) goal
-            (f .found .ensures) (out .ensures) (out .kept .0),
-      ),
-      its-call (a .table .now) (a .k) (a .hint) (p .pre .0) (a .old) (p .pre .1) _ (n .node-at .ensures) goal
-          (f .found .ensures) (out .ensures) (out .kept .0),
+    its-finish (a .table .now) (a .k) (a .hint) (p .pre .0) (a .old) (p .pre .1) _ (n .node-at .ensures) (goal-in n .goal-of .ensures)
+    (at-28 (a .table .now) (a .k) (a .hint) (p .pre .0) (a .old) (p .pre .1) _ (n .node-at .ensures) (goal-in n .goal-of .result) (f .before .before .match .keys1) (f .first-free .ensures) (l .line28 .ensures))
+    (l .line28 .kept .0)
+
+-- ---- Line 31.
+found-at-31-requires : tie.Need-found-at-31-requires
+found-at-31-requires c κs = let h = c .before .before .before .before .before .before .before .before .before .pre .0 in (h .table, h .is-hint)
+
+sub-line31 : tie.Need-sub-line31
+sub-line31 c = omega (arith, c .before .before .before .node-at .ensures)
+
+part-line31-start : tie.Need-part-line31-start
+part-line31-start c = omega (arith, c .before .before .before .node-at .ensures)
+
+part-line31-end : tie.Need-part-line31-end
+part-line31-end c = end-within (c .before .before .before)
+
+line31-requires : tie.Need-line31-requires
+line31-requires c κs =
+    let f = c .before in
+    let n = f .before .before .before in
+    let p = start-of n in
+    let a = p .args in (
+      its-ready (a .table .now) (a .k) (a .hint) (p .pre .0) (a .old) (p .pre .1) _ (n .node-at .ensures) .ready,
+      found-31 (a .table .now) (a .k) (a .hint) (p .pre .0) (a .old) (p .pre .1) _ (n .node-at .ensures) (f .found-at-31 .ensures),
     )
 
--- ---- The other lines. Whatever node they are given is the one that the definition gives.
+finish-requires-2 : tie.Need-finish-requires-2
+finish-requires-2 c κs =
+    let l = c .before .before .before in
+    let f = l .before .before in
+    let n = f .before .before .before in
+    let p = start-of n in
+    let a = p .args in
+    its-finish (a .table .now) (a .k) (a .hint) (p .pre .0) (a .old) (p .pre .1) _ (n .node-at .ensures) (goal-in n .goal-of .ensures)
+    (at-31 (a .table .now) (a .k) (a .hint) (p .pre .0) (a .old) (p .pre .1) _ (n .node-at .ensures) (goal-in n .goal-of .result) (f .before .before .match .keys2) (f .found-at-31 .ensures) (l .line31 .ensures))
+    (l .line31 .kept .0)
+
+-- ---- The other lines, which look at no node that they would be given.
 sub-line : tie.Need-sub-line
 sub-line c = omega (arith, c .before .node-at .ensures)
 
@@ -126,26 +154,19 @@ line-requires c κs =
     let n = c .before .before in
     let p = start-of n in
     let a = p .args in
-    others-ready (a .table .now) (a .k) (a .hint) (p .pre .0) (a .old) (p .pre .1) _ (n .node-at .ensures)
-    (c .before .match .rest .1)
+    let rest = c .before .match .rest in
+    others-ready (a .table .now) (a .k) (a .hint) (p .pre .0) (a .old) (p .pre .1) _ (n .node-at .ensures) (rest .0 .1) (rest .1)
 
-finish-requires-2 : tie.Need-finish-requires-2
-finish-requires-2 c κs =
+finish-requires-3 : tie.Need-finish-requires-3
+finish-requires-3 c κs =
     let l = c .before .before .before in
     let n = l .before .before .before in
     let p = start-of n in
     let a = p .args in
-    let goal = n .before .before .before .goal-of .ensures in
-    let out = l .line .ensures (taken (a .old) (allocate (a .table .now) (a .hint))) in (
-      (
-        its-side (a .table .now) (a .k) (a .hint) (p .pre .0) (a .old) (p .pre .1) _ refl,
-        its-record (a .table .now) (a .k) (a .hint) (p .pre .0) (a .old) (p .pre .1) _ (n .node-at .ensures) goal refl
-            out (l .line .kept .0),
-      ),
-      its-call (a .table .now) (a .k) (a .hint) (p .pre .0) (a .old) (p .pre .1) _ (n .node-at .ensures) goal refl out
-          (l .line .kept .0),
-    )
+    its-finish (a .table .now) (a .k) (a .hint) (p .pre .0) (a .old) (p .pre .1) _ (n .node-at .ensures) (goal-in n .goal-of .ensures) (l .line .ensures (allocate (a .table .now) (a .hint)))
+    (l .line .kept .0)
 
+-- ---- What each comes to.
 same-length : tie.Need-same-length
 same-length c = search needs
 
@@ -153,12 +174,12 @@ returns : tie.Need-returns
 returns c =
     let l = c .before .before .before .before .before .before in
     let f = l .before .before in
-    let n = before-search f in
+    let n = f .before .before .before in
     let p = start-of n in
     let a = p .args in
     c .before .before .finish .ensures
-    ∙ its-tick (a .table .now) (a .k) (a .hint) (p .pre .0) (a .old) (p .pre .1) _ (n .node-at .ensures)
-    (n .before .before .before .goal-of .ensures) (f .found .ensures) (l .taking-line .ensures)
+    ∙ its-tick (a .table .now) (a .k) (a .hint) (p .pre .0) (a .old) (p .pre .1) _ (n .node-at .ensures) (goal-in n .goal-of .ensures)
+    (at-28 (a .table .now) (a .k) (a .hint) (p .pre .0) (a .old) (p .pre .1) _ (n .node-at .ensures) (goal-in n .goal-of .result) (f .before .before .match .keys1) (f .first-free .ensures) (l .line28 .ensures))
 
 same-length-2 : tie.Need-same-length-2
 same-length-2 c = search needs
@@ -166,13 +187,25 @@ same-length-2 c = search needs
 returns-2 : tie.Need-returns-2
 returns-2 c =
     let l = c .before .before .before .before .before .before in
-    let n = l .before .before .before in
+    let f = l .before .before in
+    let n = f .before .before .before in
     let p = start-of n in
     let a = p .args in
     c .before .before .finish2 .ensures
-    ∙ its-tick (a .table .now) (a .k) (a .hint) (p .pre .0) (a .old) (p .pre .1) _ (n .node-at .ensures)
-    (n .before .before .before .goal-of .ensures) refl
-    (l .line .ensures (taken (a .old) (allocate (a .table .now) (a .hint))))
+    ∙ its-tick (a .table .now) (a .k) (a .hint) (p .pre .0) (a .old) (p .pre .1) _ (n .node-at .ensures) (goal-in n .goal-of .ensures)
+    (at-31 (a .table .now) (a .k) (a .hint) (p .pre .0) (a .old) (p .pre .1) _ (n .node-at .ensures) (goal-in n .goal-of .result) (f .before .before .match .keys2) (f .found-at-31 .ensures) (l .line31 .ensures))
+
+same-length-3 : tie.Need-same-length-3
+same-length-3 c = search needs
+
+returns-3 : tie.Need-returns-3
+returns-3 c =
+    let l = c .before .before .before .before .before .before in
+    let n = l .before .before .before in
+    let p = start-of n in
+    let a = p .args in
+    c .before .before .finish3 .ensures
+    ∙ its-tick (a .table .now) (a .k) (a .hint) (p .pre .0) (a .old) (p .pre .1) _ (n .node-at .ensures) (goal-in n .goal-of .ensures) (l .line .ensures (allocate (a .table .now) (a .hint)))
 
 pub make-spec : {M : Type 1} → statement M
 make-spec =
@@ -186,18 +219,26 @@ make-spec =
     slice-read-hat
     slice-read-node-at
     node-at-requires
-    found-requires
-    sub-taking-line
-    part-taking-line-start
-    part-taking-line-end
-    taking-line-requires
+    first-free-requires
+    sub-line28
+    part-line28-start
+    part-line28-end
+    line28-requires
     finish-requires
+    found-at-31-requires
+    sub-line31
+    part-line31-start
+    part-line31-end
+    line31-requires
+    finish-requires-2
     sub-line
     part-line-start
     part-line-end
     line-requires
-    finish-requires-2
+    finish-requires-3
     same-length
     returns
     same-length-2
-    returns-2)
+    returns-2
+    same-length-3
+    returns-3)

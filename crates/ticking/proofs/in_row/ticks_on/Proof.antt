@@ -1,4 +1,4 @@
--- `ticking::pairs::ticks_on` meets its contract. The loop's invariant: the ticks that are left give what all give.
+-- `ticking::in_row::ticks_on` meets its contract. The loop's invariant: the ticks that are left give what all give.
 use mathlib.Core.Path.{_≡_, refl, sym, ap, _∙_}
 use Prim.Native.Nat.{ℕ, suc, _+_, _-_, _≤_}
 use native.Mathlib.Omega.{arith}
@@ -8,8 +8,8 @@ use borrow.Author.Tests.{not-true, not-false}
 use Rattle.machine.specs.Shape.{WellFormed}
 use Rattle.machine.specs.Calls.{ticks}
 use Rattle.ticking.proofs.Laws.TicksInRow.{tick-passed, goes-on, is-last, none-left}
-use Rattle.ticking.proofs.pairs.ticks_on.Statement.{statement}
-use Rattle.ticking.proofs.pairs.ticks_on.Tie as tie
+use Rattle.ticking.proofs.in_row.ticks_on.Statement.{statement}
+use Rattle.ticking.proofs.in_row.ticks_on.Tie as tie
 
 abbrev Inv-loop : tie.InvT-loop
 Inv-loop t₀ task hint times made₀ t made =
