@@ -257,21 +257,41 @@ fn copies(load: &Load) -> usize {
 
 /// The times as S doubles: a tick without a take stays as it is, a take and the shape test grow with S.
 fn growth(rounds: usize) {
-    println!("Growth with S, nanoseconds: proved (Rust).");
+    println!("Growth with S, nanoseconds: proved (Rust). Then the bytes of the table that the shape test");
+    println!("reads in a nanosecond, beside a plain sum of the same words, which is the limit.");
     println!(
-        "{:>5} {:>22} {:>22} {:>22}",
-        "S", "tick, no take", "tick that takes", "shape test"
+        "{:>5} {:>22} {:>22} {:>22} {:>16} {:>8}",
+        "S", "tick, no take", "tick that takes", "shape test", "bytes a ns", "sum"
     );
     for nodes in ALL_SIZES {
+        let idle = loads::none(nodes);
+        let test = shape_test(rounds, &idle);
+        let bytes = 4.0 * idle.table.len() as f64;
+        let rates = format!("{:.1} ({:.1})", bytes / test.proved, bytes / test.rust);
+        let sum = bytes / plain_sum(rounds, &idle);
         let cells = [
             run_tick(rounds, &loads::walks(nodes)),
             run_tick(rounds, &loads::takes(nodes)),
-            shape_test(rounds, &loads::none(nodes)),
+            test,
         ]
         .map(|figures| format!("{:.2} ({:.2})", figures.proved, figures.rust));
         println!(
-            "{nodes:>5} {:>22} {:>22} {:>22}",
+            "{nodes:>5} {:>22} {:>22} {:>22} {rates:>16} {sum:>8.1}",
             cells[0], cells[1], cells[2]
         );
     }
+}
+
+/// The nanoseconds of a sum of all words of a table: every word is read once, and nothing is tested.
+fn plain_sum(rounds: usize, load: &Load) -> f64 {
+    let times = copies(load);
+    let sum = || {
+        nanoseconds(|| {
+            for _ in 0..times {
+                let words = black_box(&load.table).iter();
+                black_box(words.fold(0, |sum: u32, &word| sum.wrapping_add(word)));
+            }
+        }) / times as f64
+    };
+    interleaved(rounds, sum, sum).proved
 }

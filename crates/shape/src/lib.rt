@@ -1,6 +1,6 @@
 // Which tables are accepted: the tests of refusals 3 and 4, for a slice of any words.
-pub mod records;
-pub mod steps;
+mod records;
+mod steps;
 
 use layout::nodes;
 use layout::places::DISPATCHED;
@@ -15,6 +15,7 @@ use layout::places::WORD_7;
 use layout::places::table_length;
 use layout::table::task;
 use layout::values::value_ok;
+use steps::Owners;
 ghost use mathlib.Core.Path.{_≡_};
 ghost use mathlib.Core.Bool.{true};
 ghost use mathlib.Core.Option.{none as nothing};
@@ -32,6 +33,7 @@ ghost use Rattle.machine.specs.Shape.{
 ghost use Rattle.machine.specs.Calls.{tableRefusal};
 ghost use Rattle.layout.specs.Coded.{HoldsRecord};
 ghost use Rattle.shape.specs.Contracts.{taskOk, numberOf};
+ghost use Rattle.shape.specs.Owners.{OwnersOk};
 
 // 01: S slots (2 to 1,024), T tasks (1 to 16), growth (0 to 64).
 pub fn sizes_ok(slots: u32, tasks: u32, growth: u32) -> bool
@@ -94,11 +96,11 @@ fn nodes_ok(table: &[u32]) -> bool
 }
 
 // The record of task k.
-fn task_ok(table: &[u32], k: u32) -> bool
-    requires { ⌜ HoldsRecord (now table) k ⌝ }
+fn task_ok(table: &[u32], owners: &Owners, k: u32) -> bool
+    requires { ⌜ HoldsRecord (now table) k × OwnersOk (now owners) ⌝ }
     ensures { λ r. ⌜ r ≡ taskOk (now (table .entry)) k ⌝ }
 {
-    records::record_ok(task(table, k), table[NODE_COUNT], table[GROWTH])
+    records::record_ok(owners, task(table, k), table[NODE_COUNT], table[GROWTH])
 }
 
 // The record of every task, in one pass.
@@ -106,10 +108,11 @@ fn tasks_ok(table: &[u32]) -> bool
     requires { ⌜ lengthOk (now table) ≡ true ⌝ }
     ensures { λ r. ⌜ r ≡ allBelow (taskCount (now (table .entry))) (taskOk (now (table .entry))) ⌝ }
 {
+    let owners = steps::owners();
     let n = table[TASK_COUNT];
     let mut k = 0;
     while k < n {
-        if !task_ok(table, k) {
+        if !task_ok(table, &owners, k) {
             return false;
         }
         k += 1;

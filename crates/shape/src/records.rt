@@ -1,5 +1,6 @@
 // The test of a task's record, word by word.
 use crate::steps;
+use crate::steps::Owners;
 use layout::operations::argument_ok;
 use layout::operations::goal_of;
 use layout::sides::opposite;
@@ -19,6 +20,7 @@ ghost use Rattle.machine.specs.Shape.{
   recordOk,
 };
 ghost use Rattle.layout.specs.Coded.{recordOf};
+ghost use Rattle.shape.specs.Owners.{OwnersOk};
 
 // 01: a slot number below S, or 65,535 for none.
 pub(crate) fn node_or_none(slots: u32, x: u32) -> bool
@@ -71,7 +73,8 @@ fn registers_ok(slots: u32, registers: [u32; 4]) -> bool
 }
 
 // The record of a task that is in a call.
-fn busy_ok(t: Task, slots: u32, growth: u32) -> bool
+fn busy_ok(owners: &Owners, t: Task, slots: u32, growth: u32) -> bool
+    requires { ⌜ OwnersOk (now owners) ⌝ }
     requires { ⌜ 1 ≤ t .operation ⌝ }
     ensures { λ r. ⌜ r ≡ busyOk slots growth (recordOf t) ⌝ }
 {
@@ -89,18 +92,19 @@ fn busy_ok(t: Task, slots: u32, growth: u32) -> bool
     let goal = goal_of(t.operation, growth, argument);
     let v = t.value;
     let registers = t.registers;
-    steps::is_step_of(t.operation, t.step)
+    steps::is_step_of(owners, t.operation, t.step)
         && counted_ok(t.step, goal, t.counted)
         && value_read_ok(t.side, t.step, v)
         && registers_ok(slots, registers)
 }
 
 // 01: an idle record is fresh; any other is that of a task in a call.
-pub fn record_ok(t: Task, slots: u32, growth: u32) -> bool
+pub(crate) fn record_ok(owners: &Owners, t: Task, slots: u32, growth: u32) -> bool
+    requires { ⌜ OwnersOk (now owners) ⌝ }
     ensures { λ r. ⌜ r ≡ recordOk slots growth (recordOf t) ⌝ }
 {
     if t.operation == Task::IDLE {
         return t.is_fresh();
     }
-    busy_ok(t, slots, growth)
+    busy_ok(owners, t, slots, growth)
 }

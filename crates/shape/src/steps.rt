@@ -93,8 +93,17 @@ const OWNER: [u32; 83] = [
     Task::REMOVE, // 82
 ];
 
+pub(crate) type Owners = [u32; 83];
+
+// The owners, to be lent to the test of each record: a constant is written out anew wherever its elements are read.
+pub(crate) fn owners() -> Owners
+    ensures { λ r. ⌜ OwnersOk r ⌝ }
+{
+    OWNER
+}
+
 // The owner of a step; no step is past the table's end.
-fn owner(owners: &[u32; 83], step: u32) -> u32
+fn owner(owners: &Owners, step: u32) -> u32
     requires { ⌜ OwnersOk (now owners) ⌝ }
     ensures { λ o. ⌜ OwnerOk step o ⌝ }
 {
@@ -106,11 +115,11 @@ fn owner(owners: &[u32; 83], step: u32) -> u32
 }
 
 // 01: push 2, 3, 5, 8 and every add step.
-pub fn is_step_of(operation: u32, step: u32) -> bool
+pub(crate) fn is_step_of(owners: &Owners, operation: u32, step: u32) -> bool
+    requires { ⌜ OwnersOk (now owners) ⌝ }
     requires { ⌜ (1 ≤ operation) × (operation ≤ 4) ⌝ }
     ensures { λ r. ⌜ r ≡ isStepIn (stepsOf (operationOf operation)) step ⌝ }
 {
-    let owners = OWNER;
-    let o = owner(&owners, step);
+    let o = owner(owners, step);
     o == operation || operation == Task::PUSH && o == Task::ADD
 }

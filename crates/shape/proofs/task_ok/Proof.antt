@@ -28,7 +28,7 @@ returns c =
     let t = s .args .table .now in
     c .record-ok .ensures
     ∙ ap (λ k. recordOk (nodeCount t) (growth t) (recordOf k)) (r .task .ensures)
-    ∙ ap (recordOk (nodeCount t) (growth t)) (words-of-struct (recordWords t (s .args .k)) (record-long t _ (s .pre)))
+    ∙ ap (recordOk (nodeCount t) (growth t)) (words-of-struct (recordWords t (s .args .k)) (record-long t _ (s .pre .0)))
 
 pub task-ok-spec : {M : Type 1} → statement M
 task-ok-spec =

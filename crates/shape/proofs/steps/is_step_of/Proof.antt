@@ -1,23 +1,21 @@
 -- The owner of the step answers as the operation's list does.
-use mathlib.Core.Path.{_≡_, refl}
-use native.Mathlib.Decide.{ℕ-discrete}
+use mathlib.Core.Path.{_≡_}
 use borrow.Author.Tests.{eq-eqb, ne-eqb}
 use Rattle.machine.specs.Operations.{operationOf}
 use Rattle.machine.specs.Steps.{stepsOf, isStepIn}
 use Rattle.shape.specs.Owners.{owned}
-use Rattle.shape.proofs.Laws.StepTable.{agrees, entryOk, owners-if}
+use borrow.Author.Needs.{needs}
 use Rattle.shape.proofs.steps.is_step_of.Statement.{statement}
 use Rattle.shape.proofs.steps.is_step_of.Tie as tie
 
 owner-requires : tie.Need-owner-requires
-unfolding agrees entryOk isStepIn ℕ-discrete
-owner-requires c κs = owners-if _ refl tt
+owner-requires c κs = search needs
 
 rule :
     (c : tie.After-owner)
-    → let a = c .before .before .args in
+    → let a = c .before .args in
     owned (a .operation) (c .owner .result) ≡ isStepIn (stepsOf (operationOf (a .operation))) (a .step)
-rule c = let s = c .before .before in c .owner .ensures .answers (s .args .operation) (s .pre .0) (s .pre .1)
+rule c = let s = c .before in c .owner .ensures .answers (s .args .operation) (s .pre .1 .0) (s .pre .1 .1)
 
 returns : tie.Need-returns
 returns c = rw (← rule (c .before), eq-eqb (c .before .owner .result) _ (c .if1 .taken))
@@ -25,12 +23,12 @@ returns c = rw (← rule (c .before), eq-eqb (c .before .owner .result) _ (c .if
 returns-2 : tie.Need-returns-2
 returns-2 c =
     let k = c .before .before in
-    rw (← rule k, ne-eqb (k .owner .result) _ (c .before .if1 .left), eq-eqb (k .before .before .args .operation) 1 (c .if2 .taken))
+    rw (← rule k, ne-eqb (k .owner .result) _ (c .before .if1 .left), eq-eqb (k .before .args .operation) 1 (c .if2 .taken))
 
 returns-3 : tie.Need-returns-3
 returns-3 c =
     let k = c .before .before in
-    rw (← rule k, ne-eqb (k .owner .result) _ (c .before .if1 .left), ne-eqb (k .before .before .args .operation) 1 (c .if2 .left))
+    rw (← rule k, ne-eqb (k .owner .result) _ (c .before .if1 .left), ne-eqb (k .before .args .operation) 1 (c .if2 .left))
 
 pub is-step-of-spec : {M : Type 1} → statement M
 is-step-of-spec = tie.close (tie.spec owner-requires returns returns-2 returns-3)
