@@ -1,10 +1,17 @@
 -- Names for the contracts of this crate.
-use mathlib.Core.Bool.{Bool}
+use mathlib.Core.Bool.{Bool, _&&_}
 use mathlib.Core.List.{List}
 use mathlib.Core.Option.{Option, some, none as nothing}
 use Prim.Native.Nat.{ℕ}
 use Rattle.machine.specs.Table.{nodeCount, growth, recordWords}
-use Rattle.machine.specs.Shape.{recordOk}
+use Rattle.machine.specs.Sides.{left, right}
+use Rattle.machine.specs.Values.{valueOk}
+use Rattle.machine.specs.Shape.{nodeOrNone, recordOk}
+use Rattle.layout.specs.Coded.{linkIn, storedIn}
+
+-- The test of the node that words begin with, in a table of S nodes.
+abbrev pub firstOk : (S : ℕ) → List ℕ → Bool
+firstOk S ns = nodeOrNone S (linkIn ns left 0) && nodeOrNone S (linkIn ns right 0) && valueOk (storedIn ns 0)
 
 -- The test of task k's record in a table.
 abbrev pub taskOk : List ℕ → ℕ → Bool

@@ -9,6 +9,7 @@ use layout::places::HEADER;
 use layout::places::LEAST_LENGTH;
 use layout::places::LEFT_HAT;
 use layout::places::NODE_COUNT;
+use layout::places::NODE_WORDS;
 use layout::places::RIGHT_HAT;
 use layout::places::TASK_COUNT;
 use layout::places::WORD_7;
@@ -19,9 +20,9 @@ use steps::Owners;
 ghost use mathlib.Core.Path.{_≡_};
 ghost use mathlib.Core.Bool.{true};
 ghost use mathlib.Core.Option.{none as nothing};
-ghost use Prim.Native.Nat.{_+_, _≤_};
+ghost use Prim.Native.Nat.{_≤_};
 ghost use lib.ListN.{length};
-ghost use Rattle.machine.specs.Table.{headerLength, nodeLength, nodeAt, nodeCount, taskCount};
+ghost use Rattle.machine.specs.Table.{headerLength, nodeLength, nodeCount, taskCount};
 ghost use Rattle.machine.specs.Shape.{
   sizesOk,
   lengthOk,
@@ -32,7 +33,7 @@ ghost use Rattle.machine.specs.Shape.{
 };
 ghost use Rattle.machine.specs.Calls.{tableRefusal};
 ghost use Rattle.layout.specs.Coded.{HoldsRecord};
-ghost use Rattle.shape.specs.Contracts.{taskOk, numberOf};
+ghost use Rattle.shape.specs.Contracts.{firstOk, taskOk, numberOf};
 ghost use Rattle.shape.specs.Owners.{OwnersOk};
 
 // 01: S slots (2 to 1,024), T tasks (1 to 16), growth (0 to 64).
@@ -67,29 +68,30 @@ fn header_ok(table: &[u32]) -> bool
         && table[RIGHT_HAT] < slots
 }
 
-// 01: links and V are as above.
-fn node_ok(table: &[u32], x: u32) -> bool
-    requires { ⌜ nodeAt x + nodeLength ≤ length (now table) ⌝ }
-    ensures { λ r. ⌜ r ≡ nodeOk (now (table .entry)) x ⌝ }
+// 01: links and V are as above. Of the node that words begin with.
+fn node_ok(words: &[u32], slots: u32) -> bool
+    requires { ⌜ nodeLength ≤ length (now words) ⌝ }
+    ensures { λ r. ⌜ r ≡ firstOk slots (now (words .entry)) ⌝ }
 {
-    let slots = table[NODE_COUNT];
-    let words = &table[HEADER..];
-    records::node_or_none(slots, nodes::link(words, 0, x))
-        & records::node_or_none(slots, nodes::link(words, 1, x))
-        & value_ok(nodes::value(words, x))
+    records::node_or_none(slots, nodes::link(words, 0, 0))
+        & records::node_or_none(slots, nodes::link(words, 1, 0))
+        & value_ok(nodes::value(words, 0))
 }
 
 // Every node, in one pass that does not stop at the first that fails: nearly all tables pass, and a loop that always goes
-// on tests several nodes at once.
+// on tests several nodes at once. What is left of the words is a slice that moves on: with a node's number instead, the
+// compiler would read each word by itself, and not four in one.
 fn nodes_ok(table: &[u32]) -> bool
     requires { ⌜ lengthOk (now table) ≡ true ⌝ }
     ensures { λ r. ⌜ r ≡ allBelow (nodeCount (now (table .entry))) (nodeOk (now (table .entry))) ⌝ }
 {
     let n = table[NODE_COUNT];
+    let mut rest = &table[HEADER..];
     let mut ok = true;
     let mut x = 0;
     while x < n {
-        ok = ok & node_ok(table, x);
+        ok = ok & node_ok(rest, n);
+        rest = &rest[NODE_WORDS..];
         x += 1;
     }
     ok
