@@ -47,6 +47,12 @@ fn put_answer(answers: &mut [u32], at: usize, a: Answer)
 {
     let tag = payload(a);
     answers[at] = kind(a);
+    // Most ticks give no tag, and need no division.
+    if tag == 0 {
+        answers[at + 1] = 0;
+        answers[at + 2] = 0;
+        return;
+    }
     answers[at + 1] = tag::digit(tag);
     answers[at + 2] = tag::low(tag);
 }
