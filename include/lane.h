@@ -33,7 +33,7 @@
  * on one table comes one call after another: the library has no lock and no atomic access. Tag lists need no table, and
  * their calls may be made at any time, each with an out slice of its own.
  *
- * FOOTPRINT. For x86-64 only. Under 11 kB of code and constants, no data, no heap; of stack about 5.5 kB in lane_tick,
+ * FOOTPRINT. For x86-64 only. Under 14 kB of code and constants, no data, no heap; of stack about 5.6 kB in lane_tick,
  * lane_dispatch, lane_run and lane_panel, at most about 0.5 kB in the others; nothing from outside but memset (`make
  * footprint` measures it).
  *
@@ -76,7 +76,7 @@ extern "C" {
  * one also takes a table of format 2, which has 0 where format 3 has the task last dispatched, so that the first
  * dispatch looks from task 1 on. A library of format 2 refuses a table of format 3 with 4, unless that word is 0.
  */
-#define LANE_VERSION "5.0.0"
+#define LANE_VERSION "5.1.0"
 #define LANE_TABLE_FORMAT 3
 
 /* Words of a table of `slots` (2 to 1,024) and `tasks` (1 to 16): 8 for the header, 4 a slot, 12 a task. */
