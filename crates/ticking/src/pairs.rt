@@ -13,7 +13,7 @@ ghost use Prim.Native.Nat.{_+_, _≤_};
 ghost use lib.ListN.{length};
 ghost use lib.Seq.{sets};
 ghost use Rattle.tag.specs.Tags.{largestTag};
-ghost use Rattle.machine.specs.declared.Answer.{Answer as Answered};
+ghost use Rattle.machine.specs.declared.Answer.{Answer as Meaning};
 ghost use Rattle.machine.specs.Answers.{payloadOf, refusalOf, answerLength, answerWords, answerOf};
 ghost use Rattle.machine.specs.Shape.{WellFormed};
 ghost use Rattle.machine.specs.Calls.{tickOn, runOn};
@@ -81,7 +81,7 @@ pub fn run_on(table: &mut [u32], list: &[u32], answers: &mut [u32]) -> Ran
 
 // The answer that the words of a tick stand for, where they stand for one.
 fn answer_of(kind: u32, digit: u32, low: u32) -> Answer
-    ensures { λ r. ⌜ ((a : Answered) → answerOf kind digit low ≡ some a → r ≡ a) ⌝ }
+    ensures { λ r. ⌜ ((a : Meaning) → answerOf kind digit low ≡ some a → r ≡ a) ⌝ }
 {
     match kind {
         0 => Answer::Going,
