@@ -2,7 +2,7 @@
 
 pub mod Laid
 pub mod Seen
-pub mod LineWords
+pub mod FoundAt31
 pub mod CallKept
 pub mod TickReady
 pub mod TickWords

@@ -53,7 +53,7 @@ use Rattle.hattrick.specs.Lent.{writesIn, hatAfter, Outcome, outcomeOf, effectI
 use Rattle.figure.specs.Groups.{otherLines, allSteps, ReadyIn}
 use Rattle.figure.proofs.StepChoice.{each, regrouped, line-at}
 use Rattle.ticking.specs.Ticks.{MayTick, foundAt31, isRefused, GoesOn, made, recorded, stored, finished}
-use Rattle.ticking.proofs.Laws.LineWords.{found-enough, found-node}
+use Rattle.ticking.proofs.Laws.FoundAt31.{found-enough, found-node}
 use Rattle.ticking.proofs.Laws.Laid.{record-after-nodes, word-before-part}
 use Rattle.ticking.proofs.Laws.CallKept.{effect-keeps, coded-call}
 use Rattle.ticking.proofs.Laws.TickReady.{meant-task, side-back, side-low, held-or-none, argument-fits, ready-task}
