@@ -5,14 +5,14 @@ use hattrick::marks;
 use hattrick::shapes;
 use layout::nodes;
 use layout::sides;
-use layout::tasks::Task;
-use layout::values;
 use machine::Answer;
+use record::Task;
 ghost use mathlib.Core.Path.{_≡_};
 ghost use mathlib.Core.Logic.{_≢_};
 ghost use Rattle.machine.specs.Steps.{line15, line17, line18, line24, line25, line28, line31};
 ghost use Rattle.machine.specs.Tasks.{none};
-ghost use Rattle.layout.specs.Coded.{HoldsNode, codedTask, taskMeant};
+ghost use Rattle.record.specs.Coded.{codedTask, taskMeant};
+ghost use Rattle.layout.specs.Words.{HoldsNode};
 ghost use Rattle.hattrick.specs.Lent.{Ready, Does, DoesAnywhere, lineOf, outcomeOf};
 
 // 28: take a free slot, links none, V RX; D = it; counted 0; goal 0 then 15, else 31.

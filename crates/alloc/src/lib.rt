@@ -16,7 +16,7 @@ use layout::places::NODE_COUNT;
 use layout::places::RIGHT_HAT;
 use layout::places::TASK_COUNT;
 use layout::table::task;
-use layout::tasks::Task;
+use record::Task;
 ghost use mathlib.Core.Path.{_≡_};
 ghost use mathlib.Core.Bool.{true, cond, not};
 ghost use mathlib.Core.List.{[], _∷_};
@@ -38,7 +38,7 @@ ghost use Rattle.machine.specs.Allocate.{
   allocate,
 };
 ghost use Rattle.machine.proofs.SlotRule.Marking.{Room};
-ghost use Rattle.layout.specs.Coded.{taskMeant};
+ghost use Rattle.record.specs.Coded.{taskMeant};
 ghost use Rattle.alloc.specs.Bits.{Exact};
 ghost use Rattle.alloc.specs.Tables.{markingOf, Searchable, hats};
 

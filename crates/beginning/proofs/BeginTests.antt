@@ -23,8 +23,8 @@ use Rattle.machine.proofs.Basics.Tests.{and-left, and-right}
 use Rattle.machine.proofs.Words.ValueLaws.{argument-stored}
 use Rattle.machine.proofs.Words.RecordLaws.{number-of-operation, number-of-side}
 use Rattle.machine.specs.Results.{changedOf}
-use Rattle.layout.specs.declared.tasks.Task as Tasks
-use Rattle.layout.specs.Coded.{codedTask}
+use Rattle.record.specs.declared.Task as Tasks
+use Rattle.record.specs.Coded.{codedTask}
 use Rattle.shape.specs.Contracts.{numberOf}
 use Rattle.shape.proofs.Laws.PassedTable.{refused, operation-is, busy-task}
 use Rattle.beginning.proofs.SeenTests.{twice-refused, twice-passed}

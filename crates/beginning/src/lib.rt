@@ -2,12 +2,11 @@
 use layout::operations::argument_ok;
 use layout::places::TASK_COUNT;
 use layout::table;
-use layout::tasks::Task;
-use layout::values;
 use machine::Reply;
 use machine::Stored;
 use reading::Walk;
 use reading::seek;
+use record::Task;
 use shape::table_refusal;
 ghost use mathlib.Core.Path.{_≡_};
 ghost use mathlib.Core.Bool.{true, _&&_};
@@ -22,7 +21,7 @@ ghost use Rattle.machine.specs.Table.{taskCount, task};
 ghost use Rattle.machine.specs.Shape.{WellFormed};
 ghost use Rattle.machine.specs.Calls.{lane, isPush, isBegun, seenRefusal, twiceRefusal, begunTask, begin};
 ghost use Rattle.shape.specs.Contracts.{numberOf};
-ghost use Rattle.layout.specs.Coded.{codedTask};
+ghost use Rattle.record.specs.Coded.{codedTask};
 ghost use Rattle.machine.specs.Results.{changedOf};
 
 // The operation is push, pop, add or remove, and the side is left or right.

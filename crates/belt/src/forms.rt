@@ -2,13 +2,13 @@
 use crate::Bags;
 use beginning::begin;
 use layout::places::table_length;
-use layout::values::of_words;
 use machine::Answer;
 use machine::Reading;
 use machine::Reply;
 use reading::read;
 use starting::start;
 use ticking::ticks;
+use values::of_words;
 ghost use mathlib.Core.Path.{_≡_};
 ghost use Prim.Native.Nat.{_*_, _≤_};
 ghost use lib.ListN.{length, take};

@@ -4,9 +4,8 @@ use hattrick::ends::Done;
 use hattrick::marks;
 use hattrick::shapes;
 use layout::nodes;
-use layout::tasks::Task;
-use layout::values;
 use machine::Answer;
+use record::Task;
 ghost use Rattle.machine.specs.Steps.{line74, line77, line78, line79, line81, line82};
 ghost use Rattle.hattrick.specs.Lent.{Ready, Does, outcomeOf};
 

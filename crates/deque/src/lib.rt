@@ -1,7 +1,6 @@
 // The calls for C and Rust: tables, lists and out slices as a pointer and a length, answers as numbers.
 use beginning::begin;
 use dispatching::dispatch;
-use layout::values::of_words;
 use machine::Answer;
 use machine::Dispatch;
 use machine::IDLE;
@@ -18,6 +17,7 @@ use running::panel;
 use running::run;
 use starting::start;
 use ticking::tick;
+use values::of_words;
 ghost use mathlib.Core.Path.{_≡_};
 ghost use Prim.Native.Nat.{_≤_};
 ghost use Rattle.tag.specs.Tags.{largestTag};

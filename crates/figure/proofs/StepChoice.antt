@@ -7,7 +7,7 @@ use Prim.Native.Nat.{ℕ, _≤_}
 use lib.Dec.{eqb, leb}
 use borrow.Author.Tests.{eqb-true, le-leb, leb-true}
 use Rattle.machine.specs.Steps.{Step, stepNumber, stepOf, isStepIn}
-use Rattle.layout.specs.declared.tasks.Task as Tasks
+use Rattle.record.specs.declared.Task as Tasks
 use Rattle.hattrick.specs.Lent.{lineOf}
 use Rattle.figure.specs.Groups.{otherLines, ReadyIn}
 use Rattle.machine.proofs.Basics.Contradiction.{clash}

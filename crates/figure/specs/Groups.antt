@@ -6,7 +6,7 @@ use Prim.Native.Nat.{ℕ}
 use Rattle.machine.specs.Values.{bagOk}
 use Rattle.machine.specs.Steps.{Step, isStepIn, pushSteps, popSteps, removeSteps}
 use Rattle.machine.specs.Steps as Steps
-use Rattle.layout.specs.declared.tasks.Task as Tasks
+use Rattle.record.specs.declared.Task as Tasks
 use Rattle.hattrick.specs.Lent.{Ready}
 
 -- Lines 2 to 51 but 28 and 31: push, add and pop of the figure.

@@ -1,7 +1,7 @@
 // The line of the figure that a tick makes, by the step number at which its task stands: all lines but 28 and 31, which take
 // a node.
 use hattrick::ends::Done;
-use layout::tasks::Task;
+use record::Task;
 ghost use mathlib.Core.Path.{_≡_};
 ghost use Prim.Native.Nat.{ℕ};
 ghost use Rattle.machine.specs.Steps.{stepOf};

@@ -14,20 +14,10 @@ use Rattle.machine.specs.Values.{Value, decode, encode, valueOk}
 use Rattle.machine.specs.Steps.{Step}
 use Rattle.machine.specs.Tasks.{none}
 use Rattle.machine.specs.Lines.{Memory, Write, out≔, inn≔, val≔, hat≔, Effect, act}
-use Rattle.layout.specs.declared.tasks.Task as Tasks
-use Rattle.layout.specs.Coded.{
-  codedTask,
-  freshTask,
-  taskMeant,
-  atStep,
-  withRegister,
-  isSame,
-  HoldsNode,
-  linkIn,
-  storedIn,
-  setLinkIn,
-  setStoredIn,
-}
+use Rattle.record.specs.declared.Task as Tasks
+use Rattle.values.specs.Tests.{isSame}
+use Rattle.record.specs.Coded.{codedTask, freshTask, taskMeant, atStep, withRegister}
+use Rattle.layout.specs.Words.{HoldsNode, linkIn, storedIn, setLinkIn, setStoredIn}
 use Rattle.hattrick.specs.declared.ends.Done.{Done}
 
 -- ---- How a line ends, in code.

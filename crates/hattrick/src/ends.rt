@@ -1,11 +1,11 @@
 // How a line ends (the task goes to a step, answers, or is refused), and the choices that lines share.
-use layout::tasks::Task;
 use machine::Answer;
+use record::Task;
 ghost use mathlib.Core.Path.{_≡_};
 ghost use mathlib.Core.Bool.{cond, _&&_};
 ghost use Rattle.machine.specs.Steps.{stepNumber};
 ghost use Rattle.machine.specs.Lines.{back};
-ghost use Rattle.layout.specs.Coded.{taskMeant, withRegister};
+ghost use Rattle.record.specs.Coded.{taskMeant, withRegister};
 ghost use Rattle.hattrick.specs.Lent.{nextDone, answerDone, refusedDone};
 
 // The side's hat afterwards, the task's record and the answer.

@@ -1,11 +1,10 @@
 // Whether a value is a mark of a side.
-use layout::values;
 use machine::Stored;
 ghost use mathlib.Core.Path.{_≡_};
 ghost use mathlib.Core.Bool.{true};
 ghost use Rattle.machine.specs.Sides.{sideOf};
 ghost use Rattle.machine.specs.Values.{N, X, Y, decode, valueOk};
-ghost use Rattle.layout.specs.Coded.{isSame};
+ghost use Rattle.values.specs.Tests.{isSame};
 
 pub fn is_n(v: Stored, side: u32) -> bool
     requires { ⌜ valueOk v ≡ true ⌝ }

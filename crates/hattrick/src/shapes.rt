@@ -2,9 +2,8 @@
 use crate::ends;
 use crate::ends::Done;
 use layout::nodes;
-use layout::tasks::Task;
-use layout::values;
 use machine::Stored;
+use record::Task;
 ghost use mathlib.Core.Path.{_≡_};
 ghost use mathlib.Core.Bool.{true};
 ghost use Rattle.machine.specs.Sides.{sideOf};

@@ -5,7 +5,7 @@ use machine::Stored;
 ghost use mathlib.Core.Path.{_≡_};
 ghost use Prim.Native.Nat.{_<_};
 ghost use Rattle.machine.specs.Sides.{sideOf};
-ghost use Rattle.layout.specs.Coded.{HoldsNode, linkIn, setLinkIn, storedIn, setStoredIn, setNodeIn};
+ghost use Rattle.layout.specs.Words.{HoldsNode, linkIn, setLinkIn, storedIn, setStoredIn, setNodeIn};
 
 // The link of node x on a side: 0 for L, 1 for R.
 pub fn link(nodes: &[u32], side: u32, x: u32) -> u32

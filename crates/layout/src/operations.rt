@@ -1,7 +1,6 @@
 // The operations by their numbers: what each takes as its argument, and its goal.
-use crate::tasks::Task;
-use crate::values;
 use machine::Stored;
+use record::Task;
 ghost use mathlib.Core.Path.{_≡_};
 ghost use mathlib.Core.Bool.{true};
 ghost use Rattle.machine.specs.Values.{number};

@@ -2,11 +2,12 @@
 use crate::places::NODE_COUNT;
 use crate::places::RECORD_WORDS;
 use crate::places::record_at;
-use crate::tasks::Task;
+use record::Task;
 ghost use mathlib.Core.Path.{_≡_};
 ghost use Rattle.machine.specs.Table.{nodeCount, recordAt, recordWords};
 ghost use lib.Seq.{sets};
-ghost use Rattle.layout.specs.Coded.{structOf, recordOf, SameCall, HoldsRecord};
+ghost use Rattle.record.specs.Coded.{structOf, recordOf, SameCall};
+ghost use Rattle.layout.specs.Words.{HoldsRecord};
 
 // The record of task k.
 pub fn task(table: &[u32], k: u32) -> Task

@@ -5,17 +5,16 @@ use hattrick::marks;
 use hattrick::shapes;
 use layout::nodes;
 use layout::sides;
-use layout::tasks::Task;
-use layout::values;
 use machine::Answer;
 use machine::Stored;
+use record::Task;
 ghost use mathlib.Core.Path.{_≡_};
 ghost use mathlib.Core.Bool.{true};
 ghost use Rattle.machine.specs.Sides.{sideOf};
 ghost use Rattle.machine.specs.Values.{decode, bagOk, valueOk};
 ghost use Rattle.machine.specs.Steps.{stepNumber, line39, line40, line42, line48, line51};
 ghost use Rattle.machine.specs.Lines.{afterRead};
-ghost use Rattle.layout.specs.Coded.{codedTask, taskMeant};
+ghost use Rattle.record.specs.Coded.{codedTask, taskMeant};
 ghost use Rattle.hattrick.specs.Lent.{Ready, Does, DoesAnywhere, outcomeOf};
 
 // 39: A = hat; 40.

@@ -4,12 +4,11 @@ use hattrick::ends::Done;
 use hattrick::marks;
 use hattrick::shapes;
 use layout::nodes;
-use layout::tasks::Task;
-use layout::values;
 use machine::Answer;
+use record::Task;
 ghost use mathlib.Core.Path.{_≡_};
 ghost use Rattle.machine.specs.Steps.{line2, line3, line5, line8};
-ghost use Rattle.layout.specs.Coded.{codedTask, taskMeant};
+ghost use Rattle.record.specs.Coded.{codedTask, taskMeant};
 ghost use Rattle.hattrick.specs.Lent.{Ready, Does, DoesAnywhere, outcomeOf};
 
 // 2: A = hat; 3.

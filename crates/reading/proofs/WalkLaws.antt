@@ -28,14 +28,15 @@ use Rattle.machine.proofs.Basics.Contradiction.{refute, clash}
 use Rattle.machine.proofs.Words.ValueLaws.{decoded-bag}
 use Rattle.machine.proofs.Words.Columns.{sizesOf, columns, Sized}
 use Rattle.machine.proofs.Shape.ShapeLaws.{WellShaped, well-sized, well-shaped}
-use Rattle.layout.specs.Coded.{isBag, HoldsNode, linkIn, storedIn}
+use Rattle.values.specs.Tests.{isBag}
+use Rattle.layout.specs.Words.{HoldsNode, linkIn, storedIn}
 use Rattle.reading.specs.declared.Walk.{Walk}
 use Rattle.reading.specs.declared.Walk.the-variants.{Bags, NoEnd}
 use Rattle.reading.specs.Lane.{laneIn, walkOf, countOf, laid, NodeOrNone, Walkable}
 use Rattle.shape.specs.Contracts.{numberOf}
 use Rattle.shape.proofs.Laws.PassedTable.{refused, passed}
 use Rattle.layout.proofs.Laws.Fronts.{front-grows, rest-stays}
-use Rattle.layout.proofs.Laws.ValueWords.{bag-words}
+use Rattle.values.proofs.Laws.ValueWords.{bag-words}
 use Rattle.layout.proofs.Laws.Views.{nodesOf, nodes-part, node-held, held-node, words-in, link-in, value-in}
 
 -- The walk after node x, in n nodes at most.

@@ -12,7 +12,7 @@ use Rattle.machine.specs.Sides.{right}
 use Rattle.machine.specs.Values.{never, bag, N, X, Y, decode, valueOk}
 use Rattle.machine.specs.Tasks.{none}
 use Rattle.machine.specs.Calls.{isAmong}
-use Rattle.layout.specs.Coded.{HoldsNode, linkIn, storedIn}
+use Rattle.layout.specs.Words.{HoldsNode, linkIn, storedIn}
 use Rattle.reading.specs.declared.Walk.{Walk}
 use Rattle.reading.specs.declared.Walk.the-variants.{Bags, NoEnd}
 

@@ -3,14 +3,13 @@ use hattrick::ends;
 use hattrick::ends::Done;
 use hattrick::marks;
 use layout::nodes;
-use layout::tasks::Task;
-use layout::values;
 use machine::Answer;
+use record::Task;
 ghost use mathlib.Core.Path.{_≡_};
 ghost use mathlib.Core.List.{List};
 ghost use Prim.Native.Nat.{ℕ};
 ghost use Rattle.machine.specs.Steps.{line54, line56, line58, line60, line62, line64};
-ghost use Rattle.layout.specs.Coded.{codedTask, taskMeant};
+ghost use Rattle.record.specs.Coded.{codedTask, taskMeant};
 ghost use Rattle.hattrick.specs.Lent.{Ready, Does, lineOf, outcomeOf};
 
 // 54: A = hat; goal 0 then 60, else 56.

@@ -7,7 +7,7 @@ use Rattle.machine.specs.Table.{nodeCount, growth, recordWords}
 use Rattle.machine.specs.Sides.{left, right}
 use Rattle.machine.specs.Values.{valueOk}
 use Rattle.machine.specs.Shape.{nodeOrNone, recordOk}
-use Rattle.layout.specs.Coded.{linkIn, storedIn}
+use Rattle.layout.specs.Words.{linkIn, storedIn}
 
 -- The test of the node that words begin with, in a table of S nodes.
 abbrev pub firstOk : (S : ℕ) → List ℕ → Bool

@@ -15,8 +15,8 @@ use layout::places::TASK_COUNT;
 use layout::places::WORD_7;
 use layout::places::table_length;
 use layout::table::task;
-use layout::values::value_ok;
 use steps::Owners;
+use values::value_ok;
 ghost use mathlib.Core.Path.{_≡_};
 ghost use mathlib.Core.Bool.{true};
 ghost use mathlib.Core.Option.{none as nothing};
@@ -32,7 +32,7 @@ ghost use Rattle.machine.specs.Shape.{
   shapeOk,
 };
 ghost use Rattle.machine.specs.Calls.{tableRefusal};
-ghost use Rattle.layout.specs.Coded.{HoldsRecord};
+ghost use Rattle.layout.specs.Words.{HoldsRecord};
 ghost use Rattle.shape.specs.Contracts.{firstOk, taskOk, numberOf};
 ghost use Rattle.shape.specs.Owners.{OwnersOk};
 

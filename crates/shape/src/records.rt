@@ -4,9 +4,8 @@ use crate::steps::Owners;
 use layout::operations::argument_ok;
 use layout::operations::goal_of;
 use layout::sides::opposite;
-use layout::tasks::Task;
-use layout::values;
 use machine::Stored;
+use record::Task;
 ghost use mathlib.Core.Path.{_≡_};
 ghost use mathlib.Core.Bool.{_&&_};
 ghost use Prim.Native.Nat.{_≤_, _<_};
@@ -19,7 +18,7 @@ ghost use Rattle.machine.specs.Shape.{
   busyOk,
   recordOk,
 };
-ghost use Rattle.layout.specs.Coded.{recordOf};
+ghost use Rattle.record.specs.Coded.{recordOf};
 ghost use Rattle.shape.specs.Owners.{OwnersOk};
 
 // 01: a slot number below S, or 65,535 for none.

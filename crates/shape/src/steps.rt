@@ -1,5 +1,5 @@
 // Which step belongs to which operation.
-use layout::tasks::Task;
+use record::Task;
 ghost use mathlib.Core.Path.{_≡_};
 ghost use Prim.Native.Nat.{_≤_};
 ghost use Rattle.machine.specs.Operations.{operationOf};

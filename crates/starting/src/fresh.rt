@@ -1,8 +1,7 @@
 // The words of a table that start writes.
 use layout::nodes;
 use layout::places;
-use layout::tasks::Task;
-use layout::values;
+use record::Task;
 ghost use mathlib.Core.Path.{_≡_};
 ghost use mathlib.Core.List.{_++_};
 ghost use Prim.Native.Nat.{_-_, _*_, _≤_};

@@ -14,8 +14,8 @@ use Rattle.machine.specs.Table.{nodeCount, taskCount, hatAt, recordAt, recordWo
 use Rattle.machine.specs.Shape.{WellFormed}
 use Rattle.machine.specs.Calls.{isBusy, Ticked, effectOf, applied, tickCounted}
 use Rattle.machine.specs.Results.{tickedOf}
-use Rattle.layout.specs.declared.tasks.Task as Tasks
-use Rattle.layout.specs.Coded.{structOf, recordOf, SameCall}
+use Rattle.record.specs.declared.Task as Tasks
+use Rattle.record.specs.Coded.{structOf, recordOf, SameCall}
 use Rattle.hattrick.specs.declared.ends.Done.{Done}
 
 -- A tick that has passed the tests before refusal 11.

@@ -3,11 +3,10 @@ use hattrick::ends;
 use hattrick::ends::Done;
 use hattrick::shapes;
 use layout::sides;
-use layout::tasks::Task;
-use layout::values;
+use record::Task;
 ghost use mathlib.Core.Path.{_≡_};
 ghost use Rattle.machine.specs.Steps.{line67, line68, line69, line70, line72};
-ghost use Rattle.layout.specs.Coded.{codedTask, taskMeant};
+ghost use Rattle.record.specs.Coded.{codedTask, taskMeant};
 ghost use Rattle.hattrick.specs.Lent.{Ready, Does, DoesAnywhere, outcomeOf};
 
 // 67: A = hat; 68.

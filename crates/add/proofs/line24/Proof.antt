@@ -4,7 +4,8 @@ use lib.ListN.{getD}
 use Rattle.machine.specs.Sides.{opposite, sideOf}
 use Rattle.machine.specs.Lines.{act}
 use Rattle.machine.proofs.Basics.Choices.{equal, unequal}
-use Rattle.layout.specs.Coded.{linkIn, setLinkIn, withRegister}
+use Rattle.record.specs.Coded.{withRegister}
+use Rattle.layout.specs.Words.{linkIn, setLinkIn}
 use Rattle.hattrick.specs.Lent.{lineOf, nextDone, refusedDone}
 use Rattle.hattrick.proofs.Laws.Ready.{by-code, by-record, number-of-a-side, side-below-two, side-meant}
 use borrow.Author.Needs.{needs}

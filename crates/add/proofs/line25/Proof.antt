@@ -8,7 +8,7 @@ use Rattle.machine.specs.Sides.{sideOf}
 use Rattle.machine.specs.Values.{X}
 use Rattle.machine.specs.Lines.{act}
 use Rattle.machine.proofs.Basics.Choices.{equal}
-use Rattle.layout.specs.Coded.{HoldsNode}
+use Rattle.layout.specs.Words.{HoldsNode}
 use Rattle.hattrick.specs.Lent.{lineOf, refusedDone}
 use Rattle.hattrick.proofs.Laws.Ready.{by-code, node-value-ok, side-below-two}
 use Rattle.hattrick.proofs.Laws.Compared.{told, both-told}

@@ -5,7 +5,7 @@ use native.Mathlib.Omega.{arith}
 use Rattle.machine.specs.Sides.{opposite, sideOf}
 use Rattle.machine.specs.Lines.{act}
 use Rattle.machine.proofs.Basics.Choices.{equal}
-use Rattle.layout.specs.Coded.{HoldsNode}
+use Rattle.layout.specs.Words.{HoldsNode}
 use Rattle.hattrick.specs.Lent.{lineOf, refusedDone}
 use Rattle.hattrick.proofs.Laws.Ready.{by-code, number-of-a-side, side-below-two, side-meant}
 use Rattle.hattrick.proofs.Laws.Cases.{chain-ends, chain-grows}

@@ -16,8 +16,9 @@ use Rattle.machine.specs.Table.{headerLength, nodeCount, taskCount, linkWord, l
 use Rattle.machine.specs.Allocate.{heldBy, heldFrom, roots, Marking, mark, markAll, visit}
 use Rattle.machine.proofs.Basics.Choices.{if-yes}
 use Rattle.machine.proofs.SlotRule.Marking.{Room, room-markAll}
-use Rattle.layout.specs.declared.tasks.Task as Coded
-use Rattle.layout.specs.Coded.{linkIn, structOf, taskMeant}
+use Rattle.record.specs.declared.Task as Coded
+use Rattle.record.specs.Coded.{structOf, taskMeant}
+use Rattle.layout.specs.Words.{linkIn}
 use Rattle.layout.proofs.Laws.Views.{link-there, task-read}
 use Rattle.alloc.specs.Tables.{Searchable, hats}
 

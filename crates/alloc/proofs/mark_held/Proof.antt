@@ -1,7 +1,7 @@
 -- What the registers hold, marked one after another, is the list of all four marked.
 use Rattle.machine.specs.Tasks.{inA, inB, inC, inD}
 use Rattle.machine.proofs.SlotRule.Marking.{Room, room-of-mark}
-use Rattle.layout.specs.Coded.{taskMeant}
+use Rattle.record.specs.Coded.{taskMeant}
 use Rattle.alloc.specs.Tables.{markingOf}
 use Rattle.alloc.proofs.Laws.Marked.{registers-marked, found-marked}
 use borrow.Author.Needs.{needs}

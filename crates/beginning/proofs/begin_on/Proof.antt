@@ -9,8 +9,8 @@ use Rattle.machine.specs.declared.Reply.the-variants.{Accepted}
 use Rattle.machine.specs.Operations.{operationOf, argumentOk}
 use Rattle.machine.specs.Table.{nodeCount, recordAt}
 use Rattle.machine.specs.Results.{changedOf}
-use Rattle.layout.specs.declared.tasks.Task as Tasks
-use Rattle.layout.specs.Coded.{recordOf}
+use Rattle.record.specs.declared.Task as Tasks
+use Rattle.record.specs.Coded.{recordOf}
 use Rattle.shape.proofs.Laws.TableWords.{header-long, record-within}
 use Rattle.beginning.proofs.BeginTests.{
   begin-5,

@@ -3,7 +3,7 @@ use mathlib.Core.Path.{sym, ap, _∙_}
 use lib.Dec.{eqb}
 use borrow.Author.Needs.{needs}
 use Rattle.machine.specs.Values.{number}
-use Rattle.layout.specs.declared.tasks.Task as Tasks
+use Rattle.record.specs.declared.Task as Tasks
 use Rattle.shape.proofs.Laws.TableWords.{record-within}
 use Rattle.beginning.proofs.SeenTests.{other-task, push-task}
 use Rattle.beginning.proofs.pushes.Statement.{statement}

@@ -7,7 +7,8 @@ use Rattle.machine.specs.Steps.{stepNumber, line77, line82}
 use Rattle.machine.specs.Tasks.{none}
 use Rattle.machine.specs.Lines.{act}
 use Rattle.machine.proofs.Basics.Choices.{equal, unequal}
-use Rattle.layout.specs.Coded.{linkIn, withRegister}
+use Rattle.record.specs.Coded.{withRegister}
+use Rattle.layout.specs.Words.{linkIn}
 use Rattle.hattrick.specs.Lent.{lineOf, nextDone, refusedDone}
 use Rattle.hattrick.proofs.Laws.Ready.{by-code, side-below-two}
 use Rattle.hattrick.proofs.Laws.Chosen.{chosen}

@@ -4,7 +4,8 @@ use lib.ListN.{getD}
 use Rattle.machine.specs.Lines.{act}
 use Rattle.machine.proofs.Basics.Choices.{equal, unequal}
 use Rattle.machine.proofs.Words.ValueLaws.{encode-decode}
-use Rattle.layout.specs.Coded.{storedIn, withValueRead}
+use Rattle.record.specs.Coded.{withValueRead}
+use Rattle.layout.specs.Words.{storedIn}
 use Rattle.hattrick.specs.Lent.{lineOf, nextDone, refusedDone}
 use Rattle.hattrick.proofs.Laws.Ready.{by-code}
 use borrow.Author.Needs.{needs}

@@ -5,7 +5,8 @@ use Rattle.machine.specs.Sides.{sideOf}
 use Rattle.machine.specs.Tasks.{none}
 use Rattle.machine.specs.Lines.{act}
 use Rattle.machine.proofs.Basics.Choices.{equal, unequal}
-use Rattle.layout.specs.Coded.{setLinkIn, withRegister}
+use Rattle.record.specs.Coded.{withRegister}
+use Rattle.layout.specs.Words.{setLinkIn}
 use Rattle.hattrick.specs.Lent.{lineOf, nextDone, refusedDone}
 use Rattle.hattrick.proofs.Laws.Ready.{by-record, by-code, side-below-two}
 use borrow.Author.Needs.{needs}

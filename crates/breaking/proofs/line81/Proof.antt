@@ -9,7 +9,7 @@ use Rattle.machine.specs.Values.{X, _≟ᵛ_}
 use Rattle.machine.specs.Steps.{line77, line82}
 use Rattle.machine.specs.Tasks.{inB}
 use Rattle.machine.specs.Lines.{act}
-use Rattle.layout.specs.Coded.{taskMeant}
+use Rattle.record.specs.Coded.{taskMeant}
 use Rattle.hattrick.specs.Lent.{lineOf}
 use Rattle.hattrick.proofs.Laws.Ready.{side-below-two, value-read-ok}
 use Rattle.hattrick.proofs.Laws.Chosen.{chosenᵛ}

@@ -1,6 +1,6 @@
 -- `dispatching::is_busy` meets its contract: a task is busy where its operation's word is not 0.
 use mathlib.Core.Path.{ap}
-use Rattle.layout.specs.declared.tasks.Task as Tasks
+use Rattle.record.specs.declared.Task as Tasks
 use Rattle.shape.proofs.Laws.TableWords.{record-within}
 use Rattle.dispatching.proofs.DispatchTests.{busy-by-word}
 use Rattle.dispatching.proofs.is_busy.Statement.{statement}

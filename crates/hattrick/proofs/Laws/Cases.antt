@@ -32,18 +32,10 @@ use Rattle.machine.specs.Tasks.{none}
 use Rattle.machine.specs.Lines.{act, out≔, val≔}
 use Rattle.machine.proofs.Basics.Choices.{equal, unequal}
 use Rattle.machine.proofs.Words.ValueLaws.{encode-decode}
-use Rattle.layout.specs.declared.tasks.Task as Tasks
-use Rattle.layout.specs.Coded.{
-  isSame,
-  linkIn,
-  setLinkIn,
-  storedIn,
-  setStoredIn,
-  taskMeant,
-  withCount,
-  withRegister,
-  withValueRead,
-}
+use Rattle.record.specs.declared.Task as Tasks
+use Rattle.values.specs.Tests.{isSame}
+use Rattle.record.specs.Coded.{taskMeant, withCount, withRegister, withValueRead}
+use Rattle.layout.specs.Words.{linkIn, setLinkIn, storedIn, setStoredIn}
 use Rattle.hattrick.specs.Lent.{Ready, lineOf, outcomeOf, nextDone, answerDone}
 use Rattle.hattrick.proofs.Laws.Ready.{by-code, by-record, argument-meant}
 use Rattle.hattrick.proofs.Laws.Compared.{swap-done, swap-failed}

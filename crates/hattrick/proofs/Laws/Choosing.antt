@@ -8,7 +8,7 @@ use Rattle.machine.specs.Steps.{line39, line48, line51}
 use Rattle.machine.specs.Lines.{Effect, afterRead}
 use Rattle.machine.proofs.Basics.Contradiction.{clash, refute}
 use Rattle.machine.proofs.Basics.Choices.{equalᵛ, unequalᵛ}
-use Rattle.layout.specs.Coded.{isSame, isBag}
+use Rattle.values.specs.Tests.{isSame, isBag}
 
 -- ---- The cases of `afterRead`.
 pub read-bag : (o : Side) (v : Value) → isBag v ≡ true → afterRead o v ≡ line51

@@ -15,7 +15,7 @@ use Rattle.machine.specs.Steps.{Step, line2, stepNumber}
 use Rattle.machine.specs.Tasks.{Task, none, withCounted, withD}
 use Rattle.machine.specs.Lines.{Write, hat≔, backOf, noNode, spliced, next, answers, writing}
 use Rattle.machine.proofs.Words.RecordLaws.{operation-of-number}
-use Rattle.layout.specs.Coded.{isSame}
+use Rattle.values.specs.Tests.{isSame}
 use Rattle.hattrick.specs.Lent.{writesIn, hatAfter}
 
 -- ---- The next step, by a comparison of numbers and of values.

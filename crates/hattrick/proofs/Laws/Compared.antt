@@ -9,7 +9,7 @@ use Rattle.machine.specs.Values.{Value, decode, _≟ᵛ_}
 use Rattle.machine.specs.Lines.{Effect, dcas}
 use Rattle.machine.proofs.Basics.Contradiction.{clash}
 use Rattle.machine.specs.declared.Stored.{Stored}
-use Rattle.layout.specs.Coded.{isSame}
+use Rattle.values.specs.Tests.{isSame}
 
 -- r is the comparison of a value read with a value.
 module _

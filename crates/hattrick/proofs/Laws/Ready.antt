@@ -12,8 +12,9 @@ use Rattle.machine.specs.Tasks.{none}
 use Rattle.machine.proofs.Words.ValueLaws.{decoded-value-ok}
 use Rattle.machine.proofs.Words.RecordLaws.{side-of-number}
 use Rattle.machine.specs.declared.Stored.{Stored}
-use Rattle.layout.specs.declared.tasks.Task as Tasks
-use Rattle.layout.specs.Coded.{codedTask, taskMeant, storedIn}
+use Rattle.record.specs.declared.Task as Tasks
+use Rattle.record.specs.Coded.{codedTask, taskMeant}
+use Rattle.layout.specs.Words.{storedIn}
 use Rattle.hattrick.specs.Lent.{outcomeOf, Ready}
 use Rattle.hattrick.specs.declared.ends.Done.{Done}
 

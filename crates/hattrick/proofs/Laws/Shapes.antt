@@ -9,8 +9,9 @@ use Rattle.machine.specs.Values.{Value, decode, _≟ᵛ_}
 use Rattle.machine.specs.Steps.{Step, stepNumber}
 use Rattle.machine.specs.Tasks.{Task, Register, inA, inB, inC, inD, none, withA, withB, withC, withD}
 use Rattle.machine.specs.Lines.{Effect, next, refused, through}
-use Rattle.layout.specs.declared.tasks.Task as Tasks
-use Rattle.layout.specs.Coded.{codedTask, taskMeant, linkIn, storedIn, withRegister}
+use Rattle.record.specs.declared.Task as Tasks
+use Rattle.record.specs.Coded.{codedTask, taskMeant, withRegister}
+use Rattle.layout.specs.Words.{linkIn, storedIn}
 use Rattle.hattrick.specs.Lent.{
   Ready,
   outcomeOf,

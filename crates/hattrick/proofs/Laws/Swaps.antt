@@ -17,8 +17,10 @@ use Rattle.machine.proofs.Basics.Contradiction.{clash}
 use Rattle.machine.proofs.Basics.Choices.{unequal}
 use Rattle.machine.proofs.Words.ValueLaws.{bag-decoded}
 use Rattle.machine.specs.declared.Stored.{Stored}
-use Rattle.layout.specs.declared.tasks.Task as Tasks
-use Rattle.layout.specs.Coded.{isSame, storedIn, setStoredIn, taskMeant}
+use Rattle.record.specs.declared.Task as Tasks
+use Rattle.values.specs.Tests.{isSame}
+use Rattle.record.specs.Coded.{taskMeant}
+use Rattle.layout.specs.Words.{storedIn, setStoredIn}
 use Rattle.hattrick.specs.Lent.{Ready, lineOf, outcomeOf, nextDone, answerDone}
 use Rattle.hattrick.proofs.Laws.Ready.{by-code, by-record}
 use Rattle.hattrick.proofs.Laws.Compared.{swap-done, swap-failed}

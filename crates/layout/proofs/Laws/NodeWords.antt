@@ -8,7 +8,7 @@ use Rattle.machine.specs.Sides.{sideOf}
 use Rattle.machine.specs.Tasks.{none}
 use Rattle.machine.specs.Table.{nodeLength}
 use Rattle.machine.proofs.Words.RecordLaws.{number-of-side}
-use Rattle.layout.specs.Coded.{HoldsNode, linkIn, setLinkIn}
+use Rattle.layout.specs.Words.{HoldsNode, linkIn, setLinkIn}
 
 -- Within a list the default does not matter.
 pub any-default : (l : List ℕ) (i d e : ℕ) → i < length l → getD l i d ≡ getD l i e

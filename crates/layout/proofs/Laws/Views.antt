@@ -29,7 +29,8 @@ use Rattle.machine.specs.Table.{
 use Rattle.machine.proofs.Basics.Choices.{if-yes}
 use Rattle.machine.proofs.Words.ValueLaws.{stored-alike}
 use Rattle.machine.proofs.Words.Columns.{sizesOf, Sized}
-use Rattle.layout.specs.Coded.{structOf, taskMeant, HoldsNode, linkIn, storedIn}
+use Rattle.record.specs.Coded.{structOf, taskMeant}
+use Rattle.layout.specs.Words.{HoldsNode, linkIn, storedIn}
 use Rattle.layout.proofs.Laws.NodeWords.{any-default}
 
 -- The words of the nodes.

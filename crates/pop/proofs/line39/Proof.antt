@@ -1,6 +1,6 @@
 -- `pop::line39` meets its contract: A is set in the record and in its meaning alike.
 use Rattle.machine.specs.Lines.{act}
-use Rattle.layout.specs.Coded.{withRegister}
+use Rattle.record.specs.Coded.{withRegister}
 use Rattle.hattrick.specs.Lent.{lineOf, nextDone}
 use Rattle.hattrick.proofs.Laws.Ready.{by-record}
 use borrow.Author.Needs.{needs}

@@ -7,7 +7,8 @@ use Rattle.machine.specs.Steps.{stepNumber}
 use Rattle.machine.specs.Lines.{act, afterRead}
 use Rattle.machine.proofs.Basics.Choices.{equal, unequal}
 use Rattle.machine.proofs.Words.ValueLaws.{encode-decode}
-use Rattle.layout.specs.Coded.{storedIn, withValueRead}
+use Rattle.record.specs.Coded.{withValueRead}
+use Rattle.layout.specs.Words.{storedIn}
 use Rattle.hattrick.specs.Lent.{lineOf, nextDone, refusedDone}
 use Rattle.hattrick.proofs.Laws.Ready.{side-meant, by-code, side-below-two, node-value-ok}
 use borrow.Author.Needs.{needs}

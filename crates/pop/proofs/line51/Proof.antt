@@ -5,7 +5,7 @@ use lib.ListN.{getD}
 use Rattle.machine.specs.Values.{decode}
 use Rattle.machine.specs.Lines.{act}
 use Rattle.machine.proofs.Basics.Choices.{equal}
-use Rattle.layout.specs.Coded.{HoldsNode}
+use Rattle.layout.specs.Words.{HoldsNode}
 use Rattle.hattrick.specs.Lent.{lineOf, refusedDone}
 use Rattle.hattrick.proofs.Laws.Ready.{by-code, value-read-ok, node-value-ok}
 use Rattle.hattrick.proofs.Laws.Compared.{told}

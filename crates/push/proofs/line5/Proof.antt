@@ -6,7 +6,7 @@ use Rattle.machine.specs.Sides.{sideOf}
 use Rattle.machine.specs.Values.{N}
 use Rattle.machine.specs.Lines.{act}
 use Rattle.machine.proofs.Basics.Choices.{equal, unequal}
-use Rattle.layout.specs.Coded.{HoldsNode}
+use Rattle.layout.specs.Words.{HoldsNode}
 use Rattle.hattrick.specs.Lent.{lineOf, refusedDone}
 use Rattle.hattrick.proofs.Laws.Ready.{by-code, node-value-ok}
 use Rattle.hattrick.proofs.Laws.Compared.{told}

@@ -11,7 +11,7 @@ use lib.Seq.{sets}
 use Rattle.tag.specs.Tags.{tagWords}
 use Rattle.machine.specs.declared.Stored.{Stored}
 use Rattle.machine.specs.Values.{number, bagOk}
-use Rattle.layout.specs.Coded.{HoldsNode}
+use Rattle.layout.specs.Words.{HoldsNode}
 use Rattle.reading.specs.Lane.{laneIn, countOf, laid, NodeOrNone}
 use Rattle.reading.proofs.WalkLaws.{
   written,

@@ -13,7 +13,7 @@ use Rattle.machine.specs.Table.{nodeAt, nodeCount, hat}
 use Rattle.machine.specs.Calls.{lane}
 use Rattle.machine.specs.Results.{readOf}
 use Rattle.machine.proofs.Shape.ShapeLaws.{well-sized}
-use Rattle.layout.specs.Coded.{linkIn}
+use Rattle.layout.specs.Words.{linkIn}
 use Rattle.reading.specs.Lane.{laneIn, walkOf, countOf, laid, NodeOrNone, Walkable}
 use Rattle.reading.proofs.WalkLaws.{part, hat-in-part, part-ready, part-walked, bags-counted}
 use Rattle.reading.proofs.WalkLaws.{read-no-end, read-short, read-all}

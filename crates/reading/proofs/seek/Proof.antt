@@ -10,7 +10,7 @@ use Rattle.machine.specs.Sides.{left, right}
 use Rattle.machine.specs.Values.{number}
 use Rattle.machine.specs.Table.{nodeAt, nodeCount, hat}
 use Rattle.machine.proofs.Shape.ShapeLaws.{well-sized}
-use Rattle.layout.specs.Coded.{linkIn}
+use Rattle.layout.specs.Words.{linkIn}
 use Rattle.reading.specs.Lane.{walkOf}
 use Rattle.reading.proofs.WalkLaws.{part, hat-in-part, part-ready, part-walked}
 use Rattle.reading.proofs.seek.Statement.{statement}

@@ -8,7 +8,8 @@ use borrow.Author.Needs.{needs}
 use borrow.Author.Tests.{not-true, not-false}
 use Rattle.machine.specs.declared.Stored.{Stored}
 use Rattle.machine.specs.Values.{decode}
-use Rattle.layout.specs.Coded.{isBag, storedIn}
+use Rattle.values.specs.Tests.{isBag}
+use Rattle.layout.specs.Words.{storedIn}
 use Rattle.reading.specs.Lane.{laneIn, walkOf, NodeOrNone}
 use Rattle.reading.proofs.WalkLaws.{bag-told, tallied, count-begins, count-ends}
 use Rattle.reading.proofs.WalkLaws.{count-at-none, count-at-no-bag, count-at-bag}

@@ -2,7 +2,7 @@
 use Rattle.machine.specs.Choice.{_≟_, if_then_else_}
 use Rattle.machine.specs.Steps.{stepNumber, line56, line60}
 use Rattle.machine.specs.Lines.{act}
-use Rattle.layout.specs.Coded.{withRegister}
+use Rattle.record.specs.Coded.{withRegister}
 use Rattle.hattrick.specs.Lent.{lineOf, nextDone}
 use Rattle.hattrick.proofs.Laws.Ready.{by-record}
 use Rattle.hattrick.proofs.Laws.Chosen.{chosen}

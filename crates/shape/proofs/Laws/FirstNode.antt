@@ -13,7 +13,7 @@ use Rattle.machine.specs.Table.{nodeLength, nodeAt, nodeCount, valueAt, linkWor
 use Rattle.machine.specs.Values.{valueOk}
 use Rattle.machine.specs.Shape.{nodeOrNone, nodeOk}
 use Rattle.machine.proofs.Words.ValueLaws.{stored-alike}
-use Rattle.layout.specs.Coded.{linkIn, storedIn}
+use Rattle.layout.specs.Words.{linkIn, storedIn}
 use Rattle.layout.proofs.Laws.NodeWords.{any-default}
 use Rattle.shape.specs.Contracts.{firstOk}
 

@@ -12,8 +12,8 @@ use Rattle.machine.specs.Operations.{operationOf, argumentOk, goalOf}
 use Rattle.machine.specs.Steps.{stepsOf, isStepIn}
 use Rattle.machine.specs.Shape.{nodeOrNone, valueReadOk, countedOk, busyOk}
 use Rattle.machine.proofs.Words.RecordLaws.{side-of-number}
-use Rattle.layout.specs.declared.tasks.Task as Tasks
-use Rattle.layout.specs.Coded.{recordOf}
+use Rattle.record.specs.declared.Task as Tasks
+use Rattle.record.specs.Coded.{recordOf}
 
 -- ---- The value read at step 48: N or X of the opposite side.
 module _ (side far : ℕ) (is-far : far ≡ sideNumber (opposite (sideOf side))) (u n : Stored) (is-n : n ≡ encode (N (sideOf far)))

@@ -3,8 +3,8 @@ use mathlib.Core.Path.{ap, _∙_}
 use Rattle.machine.specs.Table.{nodeCount, growth, recordWords}
 use Rattle.machine.specs.Shape.{recordOk}
 use Rattle.machine.proofs.Words.Stretches.{record-long}
-use Rattle.layout.specs.Coded.{recordOf}
-use Rattle.layout.proofs.Laws.RecordWords.{words-of-struct}
+use Rattle.record.specs.Coded.{recordOf}
+use Rattle.record.proofs.Laws.RecordWords.{words-of-struct}
 use borrow.Author.Needs.{needs}
 use Rattle.shape.proofs.task_ok.Statement.{statement}
 use Rattle.shape.proofs.task_ok.Tie as tie

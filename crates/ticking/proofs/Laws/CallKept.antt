@@ -19,7 +19,7 @@ use Rattle.machine.specs.Row.{Note}
 use Rattle.machine.proofs.Basics.Contradiction.{clash}
 use Rattle.machine.proofs.Linearizability.Model.Invariant.{noteOf}
 use Rattle.machine.proofs.Linearizability.Lines.Connectives.{ok-if, ok-through, ok-dcas}
-use Rattle.layout.specs.Coded.{codedTask, SameCall}
+use Rattle.record.specs.Coded.{codedTask, SameCall}
 
 pub record KeepsCall (t : Task) (e : Effect) : Type 0 where
   pub kept : e .answer ≡ Going → noteOf (e .task) ≡ noteOf t

@@ -9,7 +9,7 @@ use Rattle.machine.specs.Steps.{line31}
 use Rattle.machine.specs.Tasks.{none}
 use Rattle.machine.specs.Lines.{act}
 use Rattle.machine.proofs.Basics.Choices.{equal, by-if}
-use Rattle.layout.specs.declared.tasks.Task as Tasks
+use Rattle.record.specs.declared.Task as Tasks
 use Rattle.hattrick.specs.Lent.{lineOf}
 use Rattle.ticking.specs.Ticks.{foundAt31}
 

@@ -45,8 +45,9 @@ use Rattle.machine.proofs.Shape.ShapeLaws.{WellSized, WellShaped, well-sized, w
 use Rattle.machine.proofs.Shape.Fits.{Fits}
 use Rattle.machine.proofs.Shape.TickKeeps.{effect-fits, allocated-node}
 use Rattle.machine.proofs.Linearizability.Model.Invariant.{noteOf}
-use Rattle.layout.specs.declared.tasks.Task as Tasks
-use Rattle.layout.specs.Coded.{structOf, recordOf, codedTask, taskMeant, SameCall, HoldsNode, HoldsRecord}
+use Rattle.record.specs.declared.Task as Tasks
+use Rattle.record.specs.Coded.{structOf, recordOf, codedTask, taskMeant, SameCall}
+use Rattle.layout.specs.Words.{HoldsNode, HoldsRecord}
 use Rattle.layout.proofs.Laws.Views.{nodesOf, nodes-part, nodes-long}
 use Rattle.hattrick.specs.declared.ends.Done.{Done}
 use Rattle.hattrick.specs.Lent.{writesIn, hatAfter, Outcome, outcomeOf, effectIn, lineOf}

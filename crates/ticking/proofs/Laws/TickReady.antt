@@ -34,8 +34,9 @@ use Rattle.machine.proofs.Words.Columns.{sizesOf, columns}
 use Rattle.machine.proofs.Shape.ShapeLaws.{WellSized, WellShaped}
 use Rattle.machine.proofs.Shape.BusyLaws.{NodeOrNone, BusyFacts, counted-at-most}
 use Rattle.machine.proofs.Shape.TickKeeps.{busy-facts}
-use Rattle.layout.specs.declared.tasks.Task as Tasks
-use Rattle.layout.specs.Coded.{structOf, codedTask, taskMeant, HoldsNode, storedIn}
+use Rattle.record.specs.declared.Task as Tasks
+use Rattle.record.specs.Coded.{structOf, codedTask, taskMeant}
+use Rattle.layout.specs.Words.{HoldsNode, storedIn}
 use Rattle.figure.specs.Groups.{allSteps, ReadyIn}
 use Rattle.figure.proofs.StepChoice.{each}
 use Rattle.layout.proofs.Laws.Views.{nodesOf, node-held, held-node, words-in, task-read}

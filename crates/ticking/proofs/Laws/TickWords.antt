@@ -21,8 +21,8 @@ use Rattle.machine.proofs.Words.Columns.{sizesOf, columns}
 use Rattle.machine.proofs.Words.EffectLaws.{AllInRange}
 use Rattle.machine.proofs.Shape.ShapeLaws.{WellSized, WellShaped}
 use Rattle.machine.proofs.Shape.Fits.{answer-made, Fits, turns-back, goes-on, ends}
-use Rattle.layout.specs.declared.tasks.Task as Tasks
-use Rattle.layout.specs.Coded.{structOf, taskMeant}
+use Rattle.record.specs.declared.Task as Tasks
+use Rattle.record.specs.Coded.{structOf, taskMeant}
 use Rattle.hattrick.specs.Lent.{memoryIn, writesIn, hatAfter, effectIn, lineOf}
 use Rattle.layout.proofs.Laws.Views.{nodesOf, nodes-long}
 use Rattle.ticking.proofs.Laws.Seen.{seen-in}

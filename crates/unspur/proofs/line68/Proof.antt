@@ -4,7 +4,7 @@ use Rattle.machine.specs.Values.{Y}
 use Rattle.machine.specs.Steps.{line69}
 use Rattle.machine.specs.Lines.{act, back}
 use Rattle.machine.proofs.Words.ValueLaws.{Y-mark, mark-has-word, mark-value-ok}
-use Rattle.layout.specs.Coded.{taskMeant}
+use Rattle.record.specs.Coded.{taskMeant}
 use Rattle.hattrick.specs.Lent.{lineOf}
 use Rattle.hattrick.proofs.Laws.Shapes.{by-mark}
 use borrow.Author.Needs.{needs}

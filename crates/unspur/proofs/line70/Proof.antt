@@ -4,7 +4,7 @@ use Rattle.machine.specs.Sides.{sideOf}
 use Rattle.machine.specs.Steps.{line72}
 use Rattle.machine.specs.Tasks.{inC}
 use Rattle.machine.specs.Lines.{act, back}
-use Rattle.layout.specs.Coded.{taskMeant}
+use Rattle.record.specs.Coded.{taskMeant}
 use Rattle.hattrick.specs.Lent.{lineOf}
 use Rattle.hattrick.proofs.Laws.Ready.{side-below-two}
 use Rattle.hattrick.proofs.Laws.Shapes.{followed}

@@ -5,7 +5,7 @@ use Rattle.machine.specs.Sides.{sideOf}
 use Rattle.machine.specs.Steps.{stepNumber}
 use Rattle.machine.specs.Lines.{act, back}
 use Rattle.machine.proofs.Basics.Choices.{equal, unequal}
-use Rattle.layout.specs.Coded.{taskMeant}
+use Rattle.record.specs.Coded.{taskMeant}
 use Rattle.hattrick.specs.Lent.{lineOf, nextDone, refusedDone, hatAfter}
 use Rattle.hattrick.proofs.Laws.Ready.{by-record}
 use Rattle.hattrick.proofs.Laws.Chosen.{swapped, hat-swapped, no-node-written}

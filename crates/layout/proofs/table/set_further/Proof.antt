@@ -4,8 +4,8 @@ use mathlib.Core.List.{List}
 use Prim.Native.Nat.{ℕ, _+_, _-_}
 use borrow.Rule.Slice.PartMut.{putMid}
 use Rattle.machine.specs.Tasks.{recordLength}
-use Rattle.layout.specs.Coded.{structOf, recordOf, SameCall}
-use Rattle.layout.proofs.Laws.RecordWords.{record-part, record-part-long, record-put}
+use Rattle.record.specs.Coded.{structOf, recordOf, SameCall}
+use Rattle.layout.proofs.Laws.RecordParts.{record-part, record-part-long, record-put}
 use borrow.Author.Needs.{needs}
 use Rattle.layout.proofs.table.set_further.Statement.{statement}
 use Rattle.layout.proofs.table.set_further.Tie as tie

@@ -3,8 +3,8 @@ use mathlib.Core.Path.{refl, ap, _∙_}
 use Prim.Native.Nat.{_+_, _-_}
 use borrow.Rule.Slice.PartMut.{putMid}
 use Rattle.machine.specs.Tasks.{recordLength}
-use Rattle.layout.specs.Coded.{recordOf}
-use Rattle.layout.proofs.Laws.RecordWords.{record-put}
+use Rattle.record.specs.Coded.{recordOf}
+use Rattle.layout.proofs.Laws.RecordParts.{record-put}
 use borrow.Author.Needs.{needs}
 use Rattle.layout.proofs.table.set_task.Statement.{statement}
 use Rattle.layout.proofs.table.set_task.Tie as tie

@@ -1,7 +1,7 @@
 -- `layout::table::task` meets its contract: the part read is the record.
 use mathlib.Core.Path.{ap, _∙_}
-use Rattle.layout.specs.Coded.{structOf}
-use Rattle.layout.proofs.Laws.RecordWords.{record-part}
+use Rattle.record.specs.Coded.{structOf}
+use Rattle.layout.proofs.Laws.RecordParts.{record-part}
 use borrow.Author.Needs.{needs}
 use Rattle.layout.proofs.table.task.Statement.{statement}
 use Rattle.layout.proofs.table.task.Tie as tie

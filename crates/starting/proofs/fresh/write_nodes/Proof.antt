@@ -8,7 +8,7 @@ use Rattle.machine.specs.Sides.{right}
 use Rattle.machine.specs.Values.{never, X, encode}
 use Rattle.machine.specs.Tasks.{none}
 use Rattle.machine.specs.Table.{nodeLength, nodeWords}
-use Rattle.layout.specs.Coded.{setNodeIn}
+use Rattle.layout.specs.Words.{setNodeIn}
 use Rattle.starting.proofs.Filling.{filling, sentinels-written}
 use borrow.Author.Needs.{needs}
 use Rattle.starting.proofs.fresh.write_nodes.Statement.{statement}

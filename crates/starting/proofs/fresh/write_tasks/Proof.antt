@@ -9,8 +9,8 @@ use borrow.Author.Needs.{needs}
 use borrow.Rule.Slice.PartMut.{putMid}
 use Rattle.machine.specs.Tasks.{fresh, recordLength, wordsOf}
 use Rattle.machine.specs.Table.{nodeAt, recordAt}
-use Rattle.layout.specs.Coded.{recordOf}
-use Rattle.layout.proofs.Laws.RecordWords.{record-part-long, record-put}
+use Rattle.record.specs.Coded.{recordOf}
+use Rattle.layout.proofs.Laws.RecordParts.{record-part-long, record-put}
 use Rattle.starting.proofs.Filling.{filling, filling-more, filling-done}
 use Rattle.starting.proofs.fresh.write_tasks.Statement.{statement}
 use Rattle.starting.proofs.fresh.write_tasks.Tie as tie

@@ -7,7 +7,7 @@ use lib.ListN.{length}
 use Rattle.machine.specs.Values.{never}
 use Rattle.machine.specs.Tasks.{none}
 use Rattle.machine.specs.Table.{nodeLength, nodeWords}
-use Rattle.layout.specs.Coded.{setNodeIn}
+use Rattle.layout.specs.Words.{setNodeIn}
 use Rattle.starting.proofs.Filling.{filling, filling-more, filling-done}
 use borrow.Author.Needs.{needs}
 use Rattle.starting.proofs.fresh.write_unused.Statement.{statement}

@@ -7,7 +7,7 @@ use lib.ListN.{set, length-set}
 use lib.Seq.{getD-set-other}
 use Rattle.machine.specs.Sides.{left}
 use Rattle.machine.specs.Table.{nodeCount, hatAt, nodeCountAt}
-use Rattle.layout.specs.Coded.{structOf, SameCall}
+use Rattle.record.specs.Coded.{structOf, SameCall}
 use Rattle.ticking.proofs.Laws.Laid.{record-after-hat}
 use borrow.Author.Needs.{needs}
 use Rattle.ticking.proofs.passed.store.Statement.{statement}

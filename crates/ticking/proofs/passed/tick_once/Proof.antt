@@ -3,7 +3,7 @@ use mathlib.Core.Path.{_≡_, sym, ap, _∙_}
 use native.Mathlib.Omega.{arith}
 use Rattle.machine.specs.Tasks.{operationWord}
 use Rattle.machine.specs.Table.{recordWords}
-use Rattle.layout.specs.declared.tasks.Task as Tasks
+use Rattle.record.specs.declared.Task as Tasks
 use Rattle.shape.proofs.Laws.TableWords.{header-long, record-within}
 use Rattle.shape.proofs.Laws.PassedTable.{busy-task}
 use Rattle.ticking.proofs.Laws.TickTests.{tick-5, tick-9, tick-10, tick-passes}
