@@ -1,13 +1,5 @@
--- What the proofs of a tick share: the words it leaves are the definition's.
+-- What the proofs of lists of ticks and of ticks in a row share.
 
-pub mod Laid
-pub mod Seen
-pub mod FoundAt31
-pub mod CallKept
-pub mod TickReady
-pub mod TickWords
-pub mod MadeTick
-pub mod TickTests
 pub mod TicksInRow
 pub mod RunWords
 pub mod AnswerWords

@@ -1,7 +1,6 @@
 // The call tick, and ticks in a row: any slice, any numbers. A refusal changes no lent word.
 mod in_row;
 pub mod pairs;
-mod passed;
 
 use in_row::ticks_on;
 use machine::Answer;

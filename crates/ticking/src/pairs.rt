@@ -1,12 +1,12 @@
 // The ticks of a list of (task, hint) pairs on a table that has passed the tests of refusals 3 and 4. All ticks are made in
 // this one loop, a single tick as a list of one pair: the compiler then sets the whole tick into the loop, and no call stands
 // between two ticks of a run.
-use crate::passed::tick_once;
 use machine::Answer;
 use machine::REFUSED;
 use machine::Ran;
 use machine::kind;
 use machine::payload;
+use stepping::tick_once;
 ghost use mathlib.Core.Path.{_≡_};
 ghost use mathlib.Core.Option.{some};
 ghost use Prim.Native.Nat.{_+_, _≤_};

@@ -1,7 +1,7 @@
 -- `ticking::tick` meets its contract: refusals 3 and 4, then `tick_on`.
 use mathlib.Core.Path.{_∙_}
 use Rattle.shape.proofs.Laws.PassedTable.{passed}
-use Rattle.ticking.proofs.Laws.TickTests.{tick-refused, tick-goes-on}
+use Rattle.stepping.proofs.Laws.TickTests.{tick-refused, tick-goes-on}
 use borrow.Author.Needs.{needs}
 use Rattle.ticking.proofs.tick.Statement.{statement}
 use Rattle.ticking.proofs.tick.Tie as tie

@@ -1,6 +1,6 @@
 -- `ticking::ticks` meets its contract: none asked for, refusals 3 and 4, then `ticks_on`.
 use Rattle.shape.proofs.Laws.PassedTable.{passed}
-use Rattle.ticking.proofs.Laws.TickTests.{ticks-refused}
+use Rattle.stepping.proofs.Laws.TickTests.{ticks-refused}
 use Rattle.ticking.proofs.Laws.TicksInRow.{none-left}
 use borrow.Author.Needs.{needs}
 use Rattle.ticking.proofs.ticks.Statement.{statement}

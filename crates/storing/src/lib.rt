@@ -1,0 +1,83 @@
+// What a line's outcome comes to in the table: a refusal changes nothing, a tick that is made is stored.
+use hattrick::ends::Done;
+use layout::places::LEFT_HAT;
+use layout::places::TICK_COUNT;
+use layout::table;
+use machine::Answer;
+use record::Task;
+use std::num::wrapping_add_u32;
+ghost use mathlib.Core.Path.{_≡_};
+ghost use Prim.Native.Nat.{_<_};
+ghost use Rattle.layout.specs.Words.{HoldsRecord};
+ghost use Rattle.machine.specs.Results.{tickedOf};
+ghost use Rattle.machine.specs.Answers.{isGoing};
+ghost use Rattle.storing.specs.Outcomes.{isRefused, GoesOn, recorded, stored, finished};
+
+// Whether a line was refused.
+fn is_refusal(a: Answer) -> bool
+    ensures { λ r. ⌜ r ≡ isRefused a ⌝ }
+{
+    match a {
+        Answer::Going => false,
+        Answer::Pushed => false,
+        Answer::Bag(_) => false,
+        Answer::Empty => false,
+        Answer::Full => false,
+        Answer::Yes => false,
+        Answer::No => false,
+        Answer::Refused(_) => true,
+    }
+}
+
+// Whether a task goes on.
+pub fn is_going(a: Answer) -> bool
+    ensures { λ r. ⌜ r ≡ isGoing a ⌝ }
+{
+    match a {
+        Answer::Going => true,
+        Answer::Pushed => false,
+        Answer::Bag(_) => false,
+        Answer::Empty => false,
+        Answer::Full => false,
+        Answer::Yes => false,
+        Answer::No => false,
+        Answer::Refused(_) => false,
+    }
+}
+
+// The record after a tick that is made. A task that goes on keeps its call, which is not written again.
+fn set_next(table: &mut [u32], task: u32, next: Task, going: bool)
+    requires { ⌜ HoldsRecord (now table) task × GoesOn (now table) task going next ⌝ }
+    ensures { λ _. ⌜ now (table .exit) ≡ recorded (now (table .entry)) task next ⌝ }
+{
+    if going {
+        table::set_further(table, task, next);
+        return;
+    }
+    table::set_task(table, task, next);
+}
+
+// The hat, the record and the tick count after a tick that is made.
+fn store(table: &mut [u32], side: u32, hat: u32, task: u32, next: Task, going: bool)
+    requires { ⌜ (side < 2) × HoldsRecord (now table) task × GoesOn (now table) task going next ⌝ }
+    ensures { λ _. ⌜ now (table .exit) ≡ stored (now (table .entry)) side hat task next ⌝ }
+{
+    table[LEFT_HAT + side as usize] = hat;
+    set_next(table, task, next, going);
+    table[TICK_COUNT] = wrapping_add_u32(table[TICK_COUNT], 1);
+}
+
+// What a line's outcome comes to: a refusal changes nothing, a tick that is made is stored.
+pub fn finish(table: &mut [u32], side: u32, k: u32, done: Done) -> Answer
+    requires { ⌜ (side < 2) × HoldsRecord (now table) k ⌝ }
+    requires { ⌜ GoesOn (now table) k (isGoing (done .answer)) (done .task) ⌝ }
+    ensures { λ r. ⌜ tickedOf r (now (table .exit)) ≡ finished (now (table .entry)) side k done ⌝ }
+{
+    let answer = done.answer;
+    if is_refusal(answer) {
+        return answer;
+    }
+    let next = done.task;
+    store(table, side, done.hat, k, next, is_going(answer));
+    answer
+}
