@@ -1,4 +1,3 @@
 -- What the proofs of the search share.
 
-pub mod HeldTable
 pub mod Marked

@@ -1,14 +1,6 @@
 // The search for a free node: what the hats and the tasks reach is marked, and the first node without a mark is it.
 // In each function n is the number of the table's nodes. The marks, one a node, and the queue of marked nodes,
 // which ends at tail, have a place for each of the 1,024 nodes that a table may have.
-mod held;
-
-use crate::held::A;
-use crate::held::B;
-use crate::held::C;
-use crate::held::D;
-use crate::held::HELD;
-use crate::held::entry;
 use layout::nodes::link;
 use layout::places::HEADER;
 use layout::places::LEFT_HAT;
@@ -17,6 +9,12 @@ use layout::places::RIGHT_HAT;
 use layout::places::TASK_COUNT;
 use layout::table::task;
 use record::Task;
+use steps::held::A;
+use steps::held::B;
+use steps::held::C;
+use steps::held::D;
+use steps::held::Held;
+use steps::held::entry;
 ghost use mathlib.Core.Path.{_≡_};
 ghost use mathlib.Core.Bool.{true, cond, not};
 ghost use mathlib.Core.List.{[], _∷_};
@@ -39,7 +37,7 @@ ghost use Rattle.machine.specs.Allocate.{
 };
 ghost use Rattle.machine.proofs.SlotRule.Marking.{Room};
 ghost use Rattle.record.specs.Coded.{taskMeant};
-ghost use Rattle.alloc.specs.Bits.{Exact};
+ghost use Rattle.steps.specs.Bits.{Exact};
 ghost use Rattle.alloc.specs.Tables.{markingOf, Searchable, hats};
 
 // Marks x and puts it at the end of the queue, unless it is no node or has a mark. Answers where the queue now ends,
@@ -115,7 +113,7 @@ fn mark_held(
     queue: &mut [u32; 1024],
     tail: usize,
     n: usize,
-    held: &[u8; 83],
+    held: &Held,
     task: Task,
 ) -> usize
     requires { ⌜ Exact (now held) × Room n (markingOf (now marks) (now queue) tail) ⌝ }
@@ -144,7 +142,7 @@ fn mark_tasks(
     let n = table[NODE_COUNT] as usize;
     let count = table[TASK_COUNT];
     // Once here, and not at each task.
-    let held = HELD;
+    let held = steps::held::held();
     let mut k = 0;
     while k < count {
         tail = mark_held(marks, queue, tail, n, &held, task(table, k));

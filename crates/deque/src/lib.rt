@@ -1,14 +1,14 @@
 // The calls for C and Rust: tables, lists and out slices as a pointer and a length, answers as numbers.
+use answers::IDLE;
+use answers::kind;
+use answers::payload;
 use beginning::begin;
 use dispatching::dispatch;
 use machine::Answer;
 use machine::Dispatch;
-use machine::IDLE;
 use machine::Ran;
 use machine::Reading;
 use machine::Reply;
-use machine::kind;
-use machine::payload;
 use packed::Listed;
 use packed::read_tags;
 use packed::write_tags;

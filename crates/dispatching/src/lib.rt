@@ -1,12 +1,12 @@
 // The call dispatch: any slice, any hint. A refusal and "idle" change no lent word.
+use answers::REFUSED;
+use answers::kind;
 use layout::places::DISPATCHED;
 use layout::places::NODE_COUNT;
 use layout::places::TASK_COUNT;
 use layout::table::task;
 use machine::Answer;
 use machine::Dispatch;
-use machine::REFUSED;
-use machine::kind;
 use record::Task;
 use shape::table_refusal;
 use ticking::pairs::tick_on;

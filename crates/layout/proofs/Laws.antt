@@ -1,6 +1,5 @@
 -- What the proofs about nodes and records share, here and in the crates above.
 
-pub mod Tables
 pub mod NodeWords
 pub mod Numbers
 pub mod RecordParts

@@ -1,6 +1,5 @@
 -- What the proofs of the tests share, and what a table that passes them gives the code.
 
-pub mod StepTable
 pub mod RecordWords
 pub mod TableWords
 pub mod Below

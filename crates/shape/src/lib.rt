@@ -1,6 +1,5 @@
 // Which tables are accepted: the tests of refusals 3 and 4, for a slice of any words.
 mod records;
-mod steps;
 
 use layout::nodes;
 use layout::places::DISPATCHED;
@@ -15,7 +14,7 @@ use layout::places::TASK_COUNT;
 use layout::places::WORD_7;
 use layout::places::table_length;
 use layout::table::task;
-use steps::Owners;
+use steps::owners::Owners;
 use values::value_ok;
 ghost use mathlib.Core.Path.{_≡_};
 ghost use mathlib.Core.Bool.{true};
@@ -34,7 +33,7 @@ ghost use Rattle.machine.specs.Shape.{
 ghost use Rattle.machine.specs.Calls.{tableRefusal};
 ghost use Rattle.layout.specs.Words.{HoldsRecord};
 ghost use Rattle.shape.specs.Contracts.{firstOk, taskOk, numberOf};
-ghost use Rattle.shape.specs.Owners.{OwnersOk};
+ghost use Rattle.steps.specs.Owners.{OwnersOk};
 
 // 01: S slots (2 to 1,024), T tasks (1 to 16), growth (0 to 64).
 pub fn sizes_ok(slots: u32, tasks: u32, growth: u32) -> bool
@@ -110,7 +109,7 @@ fn tasks_ok(table: &[u32]) -> bool
     requires { ⌜ lengthOk (now table) ≡ true ⌝ }
     ensures { λ r. ⌜ r ≡ allBelow (taskCount (now (table .entry))) (taskOk (now (table .entry))) ⌝ }
 {
-    let owners = steps::owners();
+    let owners = steps::owners::owners();
     let n = table[TASK_COUNT];
     let mut k = 0;
     while k < n {

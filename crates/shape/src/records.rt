@@ -1,11 +1,11 @@
 // The test of a task's record, word by word.
-use crate::steps;
-use crate::steps::Owners;
 use layout::operations::argument_ok;
 use layout::operations::goal_of;
 use layout::sides::opposite;
 use machine::Stored;
 use record::Task;
+use steps::owners::Owners;
+use steps::owners::is_step_of;
 ghost use mathlib.Core.Path.{_≡_};
 ghost use mathlib.Core.Bool.{_&&_};
 ghost use Prim.Native.Nat.{_≤_, _<_};
@@ -19,7 +19,7 @@ ghost use Rattle.machine.specs.Shape.{
   recordOk,
 };
 ghost use Rattle.record.specs.Coded.{recordOf};
-ghost use Rattle.shape.specs.Owners.{OwnersOk};
+ghost use Rattle.steps.specs.Owners.{OwnersOk};
 
 // 01: a slot number below S, or 65,535 for none.
 pub(crate) fn node_or_none(slots: u32, x: u32) -> bool
@@ -91,7 +91,7 @@ fn busy_ok(owners: &Owners, t: Task, slots: u32, growth: u32) -> bool
     let goal = goal_of(t.operation, growth, argument);
     let v = t.value;
     let registers = t.registers;
-    steps::is_step_of(owners, t.operation, t.step)
+    is_step_of(owners, t.operation, t.step)
         && counted_ok(t.step, goal, t.counted)
         && value_read_ok(t.side, t.step, v)
         && registers_ok(slots, registers)

@@ -1,30 +1,18 @@
 -- What a line's outcome comes to in the words of the table.
 use mathlib.Core.Path.{_≡_}
-use mathlib.Core.Bool.{Bool, true, false, cond}
+use mathlib.Core.Bool.{Bool, true, cond}
 use mathlib.Core.List.{List}
 use Prim.Native.Nat.{ℕ, _+_}
 use lib.ListN.{set}
 use lib.Seq.{sets}
-use Rattle.machine.specs.declared.Answer.{Answer}
-use Rattle.machine.specs.declared.Answer.the-variants.{Going, Pushed, Bag, Empty, Full, Yes, No, Refused}
 use Rattle.machine.specs.Sides.{left}
 use Rattle.machine.specs.Table.{nodeCount, hatAt, recordAt, recordWords}
 use Rattle.machine.specs.Calls.{Ticked, tickCounted}
 use Rattle.machine.specs.Results.{tickedOf}
+use Rattle.answers.specs.Refusals.{isRefused}
 use Rattle.record.specs.declared.Task as Tasks
 use Rattle.record.specs.Coded.{structOf, recordOf, SameCall}
 use Rattle.hattrick.specs.declared.ends.Done.{Done}
-
--- Whether an answer is a refusal.
-abbrev pub isRefused : Answer → Bool
-isRefused Going = false
-isRefused Pushed = false
-isRefused (Bag b) = false
-isRefused Empty = false
-isRefused Full = false
-isRefused Yes = false
-isRefused No = false
-isRefused (Refused n) = true
 
 -- A task that goes on has the call of its record in the table.
 abbrev pub GoesOn : List ℕ → (k : ℕ) → (going : Bool) → (next : Tasks.Task) → Type 0

@@ -1,4 +1,6 @@
 // What a line's outcome comes to in the table: a refusal changes nothing, a tick that is made is stored.
+use answers::is_going;
+use answers::is_refusal;
 use hattrick::ends::Done;
 use layout::places::LEFT_HAT;
 use layout::places::TICK_COUNT;
@@ -11,39 +13,7 @@ ghost use Prim.Native.Nat.{_<_};
 ghost use Rattle.layout.specs.Words.{HoldsRecord};
 ghost use Rattle.machine.specs.Results.{tickedOf};
 ghost use Rattle.machine.specs.Answers.{isGoing};
-ghost use Rattle.storing.specs.Outcomes.{isRefused, GoesOn, recorded, stored, finished};
-
-// Whether a line was refused.
-fn is_refusal(a: Answer) -> bool
-    ensures { λ r. ⌜ r ≡ isRefused a ⌝ }
-{
-    match a {
-        Answer::Going => false,
-        Answer::Pushed => false,
-        Answer::Bag(_) => false,
-        Answer::Empty => false,
-        Answer::Full => false,
-        Answer::Yes => false,
-        Answer::No => false,
-        Answer::Refused(_) => true,
-    }
-}
-
-// Whether a task goes on.
-pub fn is_going(a: Answer) -> bool
-    ensures { λ r. ⌜ r ≡ isGoing a ⌝ }
-{
-    match a {
-        Answer::Going => true,
-        Answer::Pushed => false,
-        Answer::Bag(_) => false,
-        Answer::Empty => false,
-        Answer::Full => false,
-        Answer::Yes => false,
-        Answer::No => false,
-        Answer::Refused(_) => false,
-    }
-}
+ghost use Rattle.storing.specs.Outcomes.{GoesOn, recorded, stored, finished};
 
 // The record after a tick that is made. A task that goes on keeps its call, which is not written again.
 fn set_next(table: &mut [u32], task: u32, next: Task, going: bool)

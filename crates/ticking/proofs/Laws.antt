@@ -2,5 +2,4 @@
 
 pub mod TicksInRow
 pub mod RunWords
-pub mod AnswerWords
 pub mod OnePair

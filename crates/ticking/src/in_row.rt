@@ -1,7 +1,7 @@
 // Ticks of one task in a row, on a table that has passed the tests of refusals 3 and 4.
 use crate::pairs::tick_on;
+use answers::is_going;
 use machine::Answer;
-use storing::is_going;
 ghost use mathlib.Core.Path.{_≡_};
 ghost use Rattle.machine.specs.Shape.{WellFormed};
 ghost use Rattle.machine.specs.Calls.{ticks};

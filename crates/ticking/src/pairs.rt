@@ -1,20 +1,19 @@
 // The ticks of a list of (task, hint) pairs on a table that has passed the tests of refusals 3 and 4. All ticks are made in
 // this one loop, a single tick as a list of one pair: the compiler then sets the whole tick into the loop, and no call stands
 // between two ticks of a run.
+use answers::REFUSED;
+use answers::answer_of;
+use answers::kind;
+use answers::payload;
 use machine::Answer;
-use machine::REFUSED;
 use machine::Ran;
-use machine::kind;
-use machine::payload;
 use stepping::tick_once;
 ghost use mathlib.Core.Path.{_≡_};
-ghost use mathlib.Core.Option.{some};
 ghost use Prim.Native.Nat.{_+_, _≤_};
 ghost use lib.ListN.{length};
 ghost use lib.Seq.{sets};
 ghost use Rattle.tag.specs.Tags.{largestTag};
-ghost use Rattle.machine.specs.declared.Answer.{Answer as Meaning};
-ghost use Rattle.machine.specs.Answers.{payloadOf, refusalOf, answerLength, answerWords, answerOf};
+ghost use Rattle.machine.specs.Answers.{payloadOf, refusalOf, answerLength, answerWords};
 ghost use Rattle.machine.specs.Shape.{WellFormed};
 ghost use Rattle.machine.specs.Calls.{tickOn, runOn};
 ghost use Rattle.machine.specs.Results.{tickedOf, runDoneOf};
@@ -77,21 +76,6 @@ pub fn run_on(table: &mut [u32], list: &[u32], answers: &mut [u32]) -> Ran
         made += 1;
     }
     Ran { made, refusal: 0 }
-}
-
-// The answer that the words of a tick stand for, where they stand for one.
-fn answer_of(kind: u32, digit: u32, low: u32) -> Answer
-    ensures { λ r. ⌜ ((a : Meaning) → answerOf kind digit low ≡ some a → r ≡ a) ⌝ }
-{
-    match kind {
-        0 => Answer::Going,
-        1 => Answer::Pushed,
-        2 => Answer::Bag(tag::number(digit, low)),
-        3 => Answer::Empty,
-        4 => Answer::Full,
-        5 => Answer::Yes,
-        _ => Answer::No,
-    }
 }
 
 // One tick.

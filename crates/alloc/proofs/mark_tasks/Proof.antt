@@ -3,13 +3,10 @@ use mathlib.Core.Path.{_≡_, refl}
 use Prim.Native.Nat.{_-_, _≤_}
 use native.Mathlib.Omega.{arith}
 use native.Mathlib.Nat.{sub-zero}
-use native.Mathlib.Decide.{ℕ-discrete}
-use Rattle.machine.specs.Steps.{stepIn, stepOf}
 use Rattle.machine.specs.Table.{nodeCount}
 use Rattle.machine.specs.Allocate.{heldFrom, markAll}
 use Rattle.machine.proofs.SlotRule.Marking.{Room}
 use Rattle.alloc.specs.Tables.{markingOf}
-use Rattle.alloc.proofs.Laws.HeldTable.{agrees, entryOk, exact-if}
 use Rattle.alloc.proofs.Laws.Marked.{held-marked, held-kept, held-end, room-of-list}
 use borrow.Author.Needs.{needs}
 use Rattle.alloc.proofs.mark_tasks.Statement.{statement}
@@ -34,15 +31,19 @@ cast-n c = search needs
 shared-slice-read-count : tie.Need-shared-slice-read-count Inv-loop μ-loop
 shared-slice-read-count c = search needs
 
+held-requires : tie.Need-held-requires Inv-loop μ-loop
+held-requires c κs = search needs
+
 loop-holds : tie.Need-loop-holds Inv-loop μ-loop
-loop-holds c = (omega arith, c .before .before .before .pre .room, rw sub-zero)
+loop-holds c = (omega arith, c .before .before .before .before .pre .room, rw sub-zero)
 
 task-requires : tie.Need-task-requires Inv-loop μ-loop
 task-requires c κs = search needs
 
 mark-held-requires : tie.Need-mark-held-requires Inv-loop μ-loop
-unfolding agrees entryOk stepOf stepIn ℕ-discrete
-mark-held-requires c κs = (exact-if _ refl tt, c .before .before .before .before .before .loop .inv .1)
+mark-held-requires c κs =
+    let l = c .before .before .before .before .before in
+    (l .before .held .ensures, l .loop .inv .1)
 
 add-k : tie.Need-add-k Inv-loop μ-loop
 add-k c = search needs
@@ -54,7 +55,7 @@ loop-again : tie.Need-loop-again Inv-loop μ-loop
 loop-again c =
     let r = c .before in
     let p = r .before .before .before .before in
-    let w = p .before .before .before .before .before .args .table .now in
+    let w = p .before .before .before .before .before .before .args .table .now in
     let l = p .before .loop in
     let h = p .loop-test .taken in
     let e = held-marked w (l .k) _ _ _ h (r .task .ensures) (c .mark-held .ensures) in
@@ -62,7 +63,7 @@ loop-again c =
 
 returns : tie.Need-returns Inv-loop μ-loop
 returns c =
-    let w = c .before .before .before .before .before .args .table .now in
+    let w = c .before .before .before .before .before .before .args .table .now in
     let l = c .before .loop in
     held-end w (l .k) _ _ (c .loop-test .left) (l .inv .2)
 
@@ -75,6 +76,7 @@ mark-tasks-spec =
     shared-slice-read-n
     cast-n
     shared-slice-read-count
+    held-requires
     loop-holds
     task-requires
     mark-held-requires

@@ -53,33 +53,15 @@ use Rattle.hattrick.specs.declared.ends.Done.{Done}
 use Rattle.hattrick.specs.Lent.{writesIn, hatAfter, Outcome, outcomeOf, effectIn, lineOf}
 use Rattle.figure.specs.Groups.{otherLines, allSteps, ReadyIn}
 use Rattle.figure.proofs.StepChoice.{each, regrouped, line-at}
-use Rattle.storing.specs.Outcomes.{isRefused, GoesOn, recorded, stored, finished}
+use Rattle.answers.specs.Refusals.{isRefused}
+use Rattle.answers.proofs.Laws.Refusals.{refused-answer, refusal-number, made-answer}
+use Rattle.storing.specs.Outcomes.{GoesOn, recorded, stored, finished}
 use Rattle.stepping.specs.Steps.{MayTick, foundAt31, made}
 use Rattle.stepping.proofs.Laws.FoundAt31.{found-enough, found-node}
 use Rattle.storing.proofs.Laws.Laid.{record-after-nodes, word-before-part}
 use Rattle.stepping.proofs.Laws.CallKept.{effect-keeps, coded-call}
 use Rattle.stepping.proofs.Laws.TickReady.{meant-task, side-back, side-low, held-or-none, argument-fits, ready-task}
 use Rattle.stepping.proofs.Laws.TickWords.{line-is-effect, refused-words, made-words}
-
-refused-answer : (a : Answer) → isRefused a ≡ true → (n : ℕ) × (a ≡ Refused n)
-refused-answer Going h = clash (cc)
-refused-answer Pushed h = clash (cc)
-refused-answer (Bag b) h = clash (cc)
-refused-answer Empty h = clash (cc)
-refused-answer Full h = clash (cc)
-refused-answer Yes h = clash (cc)
-refused-answer No h = clash (cc)
-refused-answer (Refused n) h = (n, refl)
-
-made-answer : (a : Answer) → isRefused a ≡ false → refusalOf a ≡ nothing
-made-answer Going h = refl
-made-answer Pushed h = refl
-made-answer (Bag b) h = refl
-made-answer Empty h = refl
-made-answer Full h = refl
-made-answer Yes h = refl
-made-answer No h = refl
-made-answer (Refused n) h = clash (cc)
 
 applied-made :
     (s : Side) (ws : List ℕ) (k : ℕ) (e : Effect)
@@ -186,10 +168,10 @@ module _ (ws : List ℕ) (k hint : ℕ) (M : MayTick ws k hint) where
 
     pub refused-tick : isRefused (d .answer) ≡ true → tickedOf (d .answer) (putMid headerLength m ws ns) ≡ made ws k hint
     refused-tick r =
-        let a = refused-answer (d .answer) r in
+        let a = refused-answer (d .answer) (refusal-number (d .answer) r .1) in
         ap (λ (n : ℕ). tickedOf (d .answer) (putMid headerLength n ws ns)) all-nodes
-        ∙ ap (λ (x : Answer). tickedOf x (putMid headerLength (nodeLength * nodeCount ws) ws ns)) (a .1)
-        ∙ refused-words s ws Z k E fits (sym answer-is ∙ a .1) nodes-are
+        ∙ ap (λ (x : Answer). tickedOf x (putMid headerLength (nodeLength * nodeCount ws) ws ns)) a
+        ∙ refused-words s ws Z k E fits (sym answer-is ∙ a) nodes-are
         ∙ ap (λ (z : Side). applied z ws k (effectOf ws k hint)) own-side
 
     pub made-tick :

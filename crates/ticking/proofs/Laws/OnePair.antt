@@ -7,7 +7,7 @@ use Prim.Native.Nat.{ℕ}
 use native.Mathlib.Omega.{arith}
 use lib.ListN.{getD}
 use Rattle.machine.specs.declared.Answer.{Answer}
-use Rattle.machine.specs.declared.Answer.the-variants.{Going, Pushed, Bag, Empty, Full, Yes, No, Refused}
+use Rattle.machine.specs.declared.Answer.the-variants.{Refused}
 use Rattle.machine.specs.declared.Ran.{Ran}
 use Rattle.machine.specs.Answers.{refusalOf, answerOf}
 use Rattle.machine.specs.Calls.{tickRefusal, Ticked, tickOn, RunDone, runOn}
@@ -17,17 +17,8 @@ use Rattle.machine.proofs.Basics.Contradiction.{clash}
 use Rattle.machine.proofs.Shape.ShapeLaws.{well-shaped}
 use Rattle.machine.proofs.Words.RunLaws.{by-first, first-tick}
 use Rattle.machine.proofs.Words.TickLaws.{refused-unchanged, made-answer-fits}
+use Rattle.answers.proofs.Laws.Refusals.{refused-answer}
 use Rattle.machine.proofs.Linearizability.Calls.Runs.{refused-tick, answer-back}
-
-refused-answer : (a : Answer) {n : ℕ} → refusalOf a ≡ some n → Refused n ≡ a
-refused-answer Going e = clash (cc)
-refused-answer Pushed e = clash (cc)
-refused-answer (Bag b) e = clash (cc)
-refused-answer Empty e = clash (cc)
-refused-answer Full e = clash (cc)
-refused-answer Yes e = clash (cc)
-refused-answer No e = clash (cc)
-refused-answer (Refused m) e = cc
 
 module _ (ws : List ℕ) (k h : ℕ) (answers : List ℕ) {r : Ran} {vs words : List ℕ}
     (ran : runDoneOf r vs words ≡ runOn (k ∷ h ∷ []) ws answers) where
@@ -43,7 +34,7 @@ module _ (ws : List ℕ) (k h : ℕ) (answers : List ℕ) {r : Ran} {vs words : 
       go (some n) e =
           let d = by-tick e in
           ap (λ (x : RunDone). tickedOf (Refused (x .ran .refusal)) (x .words)) d
-          ∙ ap (λ (a : Answer). tickedOf a ws) (refused-answer (tickOn ws k h .answer) e)
+          ∙ ap (λ (a : Answer). tickedOf a ws) (sym (refused-answer (tickOn ws k h .answer) e))
           ∙ ap (tickedOf (tickOn ws k h .answer)) (sym (refused-unchanged ws k h e))
       go nothing e = absurd (omega (arith, none, ap (λ (x : RunDone). x .ran .made) (by-tick e)))
 

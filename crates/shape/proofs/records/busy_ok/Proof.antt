@@ -12,7 +12,7 @@ use Rattle.shape.proofs.records.counted_ok.Reads as counted-ok-reads
 use Rattle.layout.proofs.operations.goal_of.Reads as goal-of-reads
 use Rattle.shape.proofs.records.registers_ok.Reads as registers-ok-reads
 use Rattle.shape.proofs.records.value_read_ok.Reads as value-read-ok-reads
-use Rattle.shape.proofs.steps.is_step_of.Reads as is-step-of-reads
+use Rattle.steps.proofs.owners.is_step_of.Reads as is-step-of-reads
 use Rattle.shape.proofs.records.busy_ok.Statement.{statement}
 use Rattle.shape.proofs.records.busy_ok.Tie as tie
 use Rattle.shape.proofs.records.busy_ok.Reads as reads

@@ -13,8 +13,9 @@ use Rattle.machine.specs.Tasks.{Register, inA, inB, inC, inD}
 use Rattle.machine.specs.Registers.{holds}
 use Rattle.machine.proofs.Basics.Tests.{agreed, and-left, and-right}
 use Rattle.machine.proofs.Basics.Choices.{if-no}
-use Rattle.layout.proofs.Laws.Tables.{at, every}
-use Rattle.alloc.specs.Bits.{isIn, Exact}
+use Rattle.steps.proofs.Laws.Tables.{at, every}
+use Rattle.steps.proofs.Laws.OwnerTable.{inTable}
+use Rattle.steps.specs.Bits.{isIn, Exact}
 
 -- ---- The test of an entry: it answers as the definition does, for each register.
 unfoldable pub agrees : (step entry : ℕ) → Register → Bool
@@ -31,10 +32,6 @@ each-agrees s e h inC = search (and-left, and-right) depth 4
 each-agrees s e h inD = search (and-left, and-right) depth 4
 
 -- ---- No step is past the table's end.
-abbrev inTable : List Step → Bool
-inTable [] = true
-inTable (st ∷ sts) = leb (stepNumber st) 82 && inTable sts
-
 absent : (sts : List Step) (s : ℕ) → 83 ≤ s → inTable sts ≡ true → stepIn sts s ≡ rest
 unfolding stepIn
 absent [] s h t = refl

@@ -4,10 +4,12 @@ ghost use mathlib.Core.Path.{_≡_};
 ghost use Prim.Native.Nat.{_≤_};
 ghost use Rattle.machine.specs.Operations.{operationOf};
 ghost use Rattle.machine.specs.Steps.{stepsOf, isStepIn};
-ghost use Rattle.shape.specs.Owners.{OwnerOk, OwnersOk};
+ghost use Rattle.steps.specs.Owners.{OwnerOk, OwnersOk};
+
+pub type Owners = [u32; 83];
 
 // 01's list, by the step's number: the operation whose list has the step, or 0 where no list has it.
-const OWNER: [u32; 83] = [
+const OWNER: Owners = [
     0,
     0,
     Task::PUSH, // 2
@@ -93,10 +95,8 @@ const OWNER: [u32; 83] = [
     Task::REMOVE, // 82
 ];
 
-pub(crate) type Owners = [u32; 83];
-
 // The owners, to be lent to the test of each record: a constant is written out anew wherever its elements are read.
-pub(crate) fn owners() -> Owners
+pub fn owners() -> Owners
     ensures { λ r. ⌜ OwnersOk r ⌝ }
 {
     OWNER
@@ -115,7 +115,7 @@ fn owner(owners: &Owners, step: u32) -> u32
 }
 
 // 01: push 2, 3, 5, 8 and every add step.
-pub(crate) fn is_step_of(owners: &Owners, operation: u32, step: u32) -> bool
+pub fn is_step_of(owners: &Owners, operation: u32, step: u32) -> bool
     requires { ⌜ OwnersOk (now owners) ⌝ }
     requires { ⌜ (1 ≤ operation) × (operation ≤ 4) ⌝ }
     ensures { λ r. ⌜ r ≡ isStepIn (stepsOf (operationOf operation)) step ⌝ }

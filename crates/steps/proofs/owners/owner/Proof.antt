@@ -1,8 +1,8 @@
 -- The word read is the table's, which is right; past its end no operation has the step.
-use Rattle.shape.proofs.Laws.StepTable.{none-past-end}
+use Rattle.steps.proofs.Laws.OwnerTable.{none-past-end}
 use borrow.Author.Needs.{needs}
-use Rattle.shape.proofs.steps.owner.Statement.{statement}
-use Rattle.shape.proofs.steps.owner.Tie as tie
+use Rattle.steps.proofs.owners.owner.Statement.{statement}
+use Rattle.steps.proofs.owners.owner.Tie as tie
 
 returns : tie.Need-returns
 returns c = none-past-end (c .before .args .step) (c .if1 .taken)

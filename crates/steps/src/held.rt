@@ -3,7 +3,7 @@ ghost use mathlib.Core.Path.{_≡_};
 ghost use Rattle.machine.specs.Steps.{stepOf};
 ghost use Rattle.machine.specs.Tasks.{Register};
 ghost use Rattle.machine.specs.Registers.{holds};
-ghost use Rattle.alloc.specs.Bits.{isIn, Exact};
+ghost use Rattle.steps.specs.Bits.{isIn, Exact};
 
 // The bit of each register in an entry of the table.
 const NOTHING: u8 = 0;
@@ -16,8 +16,10 @@ pub const C: u8 = 4;
 
 pub const D: u8 = 8;
 
+pub type Held = [u8; 83];
+
 // By the step's number: the bits of the registers that hold there.
-pub const HELD: [u8; 83] = [
+const HELD: Held = [
     NOTHING,
     NOTHING,
     D, // 2
@@ -103,8 +105,15 @@ pub const HELD: [u8; 83] = [
     A, // 82
 ];
 
+// The table, to be lent to each task of a search: a constant is written out anew wherever its elements are read.
+pub fn held() -> Held
+    ensures { λ r. ⌜ Exact r ⌝ }
+{
+    HELD
+}
+
 // The bits of the registers that hold at a step; no step is past the table's end.
-pub fn entry(held: &[u8; 83], step: u32) -> u8
+pub fn entry(held: &Held, step: u32) -> u8
     requires { ⌜ Exact (now held) ⌝ }
     ensures { λ e. ⌜ ((r : Register) → isIn e r ≡ holds (stepOf step) r) ⌝ }
 {

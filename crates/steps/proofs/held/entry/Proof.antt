@@ -1,8 +1,8 @@
 -- The word read is the table's, which is exact; past its end no register holds.
-use Rattle.alloc.proofs.Laws.HeldTable.{none-past-end}
+use Rattle.steps.proofs.Laws.HeldTable.{none-past-end}
 use borrow.Author.Needs.{needs}
-use Rattle.alloc.proofs.held.entry.Statement.{statement}
-use Rattle.alloc.proofs.held.entry.Tie as tie
+use Rattle.steps.proofs.held.entry.Statement.{statement}
+use Rattle.steps.proofs.held.entry.Tie as tie
 
 returns : tie.Need-returns
 returns c = none-past-end (c .before .args .step) (c .if1 .taken)

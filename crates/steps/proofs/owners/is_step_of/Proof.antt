@@ -3,10 +3,10 @@ use mathlib.Core.Path.{_≡_}
 use borrow.Author.Tests.{eq-eqb, ne-eqb}
 use Rattle.machine.specs.Operations.{operationOf}
 use Rattle.machine.specs.Steps.{stepsOf, isStepIn}
-use Rattle.shape.specs.Owners.{owned}
+use Rattle.steps.specs.Owners.{owned}
 use borrow.Author.Needs.{needs}
-use Rattle.shape.proofs.steps.is_step_of.Statement.{statement}
-use Rattle.shape.proofs.steps.is_step_of.Tie as tie
+use Rattle.steps.proofs.owners.is_step_of.Statement.{statement}
+use Rattle.steps.proofs.owners.is_step_of.Tie as tie
 
 owner-requires : tie.Need-owner-requires
 owner-requires c κs = search needs

@@ -1,13 +1,13 @@
--- `ticking::pairs::answer_of` meets its contract: each arm's kind stands for its answer.
+-- `answers::answer_of` meets its contract: each arm's kind stands for its answer.
 use mathlib.Core.Path.{refl, ap, _∙_}
 use native.Mathlib.Omega.{arith}
 use native.Mathlib.Decide.{ℕ-discrete}
 use borrow.Author.Needs.{needs}
 use Rattle.machine.specs.declared.Answer.the-variants.{Bag}
 use Rattle.machine.specs.Answers.{plainAnswerOf}
-use Rattle.ticking.proofs.Laws.AnswerWords.{bag-words, plain-words, last-words}
-use Rattle.ticking.proofs.pairs.answer_of.Statement.{statement}
-use Rattle.ticking.proofs.pairs.answer_of.Tie as tie
+use Rattle.answers.proofs.Laws.AnswerWords.{bag-words, plain-words, last-words}
+use Rattle.answers.proofs.answer_of.Statement.{statement}
+use Rattle.answers.proofs.answer_of.Tie as tie
 
 returns : tie.Need-returns
 unfolding plainAnswerOf ℕ-discrete

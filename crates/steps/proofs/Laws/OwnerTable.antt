@@ -11,8 +11,8 @@ use Rattle.machine.specs.Choice.{_≟_, _<?_}
 use Rattle.machine.specs.Operations.{Operation, idle, push, pop, add, remove, operationOf}
 use Rattle.machine.specs.Steps.{Step, stepNumber, stepsOf, isStepIn}
 use Rattle.machine.proofs.Basics.Tests.{agreed, and-left, and-right}
-use Rattle.layout.proofs.Laws.Tables.{at, every}
-use Rattle.shape.specs.Owners.{owned, OwnerOk, OwnersOk}
+use Rattle.steps.proofs.Laws.Tables.{at, every}
+use Rattle.steps.specs.Owners.{owned, OwnerOk, OwnersOk}
 
 -- ---- The test of an entry: it answers as the operation's list does, for each operation.
 unfoldable pub agrees : (step owner operation : ℕ) → Bool
@@ -45,7 +45,7 @@ entry-answers s o h =
     }
 
 -- ---- No step is past the table's end.
-abbrev inTable : List Step → Bool
+abbrev pub inTable : List Step → Bool
 inTable [] = true
 inTable (st ∷ sts) = leb (stepNumber st) 82 && inTable sts
 

@@ -1,0 +1,92 @@
+// A tick's answer by its numbers: the kind and what comes with it, whether the task goes on or is refused, and the answer
+// that the words of a tick stand for.
+use machine::Answer;
+ghost use mathlib.Core.Path.{_≡_};
+ghost use mathlib.Core.Option.{some};
+ghost use Rattle.machine.specs.declared.Answer.{Answer as Meaning};
+ghost use Rattle.machine.specs.Answers.{kindOf, payloadOf, isGoing, answerOf};
+ghost use Rattle.answers.specs.Refusals.{isRefused};
+
+// The kind of a refusal, which a run does not write, and that of a dispatch which finds no task busy.
+pub const REFUSED: u32 = 7;
+
+pub const IDLE: u32 = 8;
+
+// 01: 0 going, 1 pushed, 2 bag, 3 empty, 4 full, 5 yes, 6 no.
+pub fn kind(a: Answer) -> u32
+    ensures { λ r. ⌜ r ≡ kindOf a ⌝ }
+{
+    match a {
+        Answer::Going => 0,
+        Answer::Pushed => 1,
+        Answer::Bag(_) => 2,
+        Answer::Empty => 3,
+        Answer::Full => 4,
+        Answer::Yes => 5,
+        Answer::No => 6,
+        Answer::Refused(_) => REFUSED,
+    }
+}
+
+// 01: then the bag or 0. Of a refusal: its number.
+pub fn payload(a: Answer) -> u64
+    ensures { λ r. ⌜ r ≡ payloadOf a ⌝ }
+{
+    match a {
+        Answer::Going => 0,
+        Answer::Pushed => 0,
+        Answer::Bag(b) => b,
+        Answer::Empty => 0,
+        Answer::Full => 0,
+        Answer::Yes => 0,
+        Answer::No => 0,
+        Answer::Refused(n) => n as u64,
+    }
+}
+
+// Whether an answer is a refusal.
+pub fn is_refusal(a: Answer) -> bool
+    ensures { λ r. ⌜ r ≡ isRefused a ⌝ }
+{
+    match a {
+        Answer::Going => false,
+        Answer::Pushed => false,
+        Answer::Bag(_) => false,
+        Answer::Empty => false,
+        Answer::Full => false,
+        Answer::Yes => false,
+        Answer::No => false,
+        Answer::Refused(_) => true,
+    }
+}
+
+// Whether a task goes on.
+pub fn is_going(a: Answer) -> bool
+    ensures { λ r. ⌜ r ≡ isGoing a ⌝ }
+{
+    match a {
+        Answer::Going => true,
+        Answer::Pushed => false,
+        Answer::Bag(_) => false,
+        Answer::Empty => false,
+        Answer::Full => false,
+        Answer::Yes => false,
+        Answer::No => false,
+        Answer::Refused(_) => false,
+    }
+}
+
+// The answer that the words of a tick stand for, where they stand for one.
+pub fn answer_of(kind: u32, digit: u32, low: u32) -> Answer
+    ensures { λ r. ⌜ ((a : Meaning) → answerOf kind digit low ≡ some a → r ≡ a) ⌝ }
+{
+    match kind {
+        0 => Answer::Going,
+        1 => Answer::Pushed,
+        2 => Answer::Bag(tag::number(digit, low)),
+        3 => Answer::Empty,
+        4 => Answer::Full,
+        5 => Answer::Yes,
+        _ => Answer::No,
+    }
+}

@@ -1,0 +1,5 @@
+-- Each table answers as the definitions do, by one test of all its entries.
+
+pub mod Tables
+pub mod OwnerTable
+pub mod HeldTable
