@@ -4,7 +4,8 @@ use mathlib.Core.Bool.{Bool, true, false}
 use mathlib.Core.List.{List, _++_}
 use Prim.Native.Nat.{ℕ, _≤_, _<_}
 use lib.ListN.{length, take, drop}
-use Rattle.reader.specs.Kept.{Kept, keptOf, keptAtFirst, keepByte, keptCommand, ScanKept, Represents}
+use Rattle.scanning.specs.Kept.{Kept, keptOf, keptAtFirst, keepByte, ScanKept, Represents}
+use Rattle.reader.specs.KeptCommand.{keptCommand}
 use Rattle.printer.specs.Writing.{Written, roomFor}
 use Rattle.belt.specs.Run.{answer}
 use Rattle.belt.specs.Space.{largestTable, mostBags}

@@ -9,9 +9,9 @@ use lib.ListN.{length, getD, drop, length-append, length-map}
 use lib.Seq.{getD-drop}
 use borrow.Author.Tests.{leb-true}
 use Rattle.tag.specs.Tags.{tagOf, tenDigits, areDigits, tagsIn}
+use Rattle.tag.proofs.TagLaws.{both-true}
 use Rattle.tag.proofs.DigitLaws.{length-last, last-are-digits}
 use Rattle.reader.specs.Text.{bytes}
-use Rattle.reader.proofs.Laws.SameTexts.{and-true}
 use Rattle.printer.specs.Lines.{tagText, spaced, bagText}
 use Rattle.printer.specs.Writing.{Written, shortRoom}
 use Rattle.printer.proofs.Laws.WritingLaws.{written-append}
@@ -23,8 +23,8 @@ tag-length tag = simp length-map (length-last 10 tag)
 digit-at : (digits : List ℕ) (i : ℕ) → areDigits digits ≡ true → getD digits i 0 ≤ 9
 unfolding areDigits
 digit-at [] i h = omega arith
-digit-at (d ∷ ds) zero h = leb-true d 9 (and-true (leb d 9) (areDigits ds) h .0)
-digit-at (d ∷ ds) (suc i) h = digit-at ds i (and-true (leb d 9) (areDigits ds) h .1)
+digit-at (d ∷ ds) zero h = leb-true d 9 (both-true (leb d 9) (areDigits ds) h .0)
+digit-at (d ∷ ds) (suc i) h = digit-at ds i (both-true (leb d 9) (areDigits ds) h .1)
 
 text-at : (digits : List ℕ) (i : ℕ) → i < length digits
     → 48 + getD digits i 0 ≡ getD (map (λ (d : ℕ). 48 + d) digits) i 0

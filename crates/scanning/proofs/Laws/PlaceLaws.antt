@@ -1,5 +1,5 @@
 -- Every line has one number for each 0 in its text, and a number has no more digits than it is wide.
-use mathlib.Core.Bool.{Bool, true, false, cond}
+use mathlib.Core.Bool.{Bool, true, false, cond, false≢true}
 use mathlib.Core.List.{List, [], _∷_, _++_}
 use mathlib.Core.Path.{_≡_, refl}
 use Prim.Native.Nat.{ℕ, suc, _+_, _-_, _<_, _≤_}
@@ -10,7 +10,8 @@ use borrow.Author.Tests.{leb-true}
 use lib.Dec.{leb}
 use lib.ListN.{length, length-append, length-set}
 use lib.Seq.{getD-set-same, getD-append-seam}
-use Rattle.reader.specs.Scanned.{
+use Rattle.tag.proofs.TagLaws.{both-true}
+use Rattle.scanning.specs.Scanned.{
   Scanned,
   nothing,
   opened,
@@ -24,12 +25,11 @@ use Rattle.reader.specs.Scanned.{
   placesIn,
   WellScanned,
 }
-use Rattle.reader.proofs.Laws.SameTexts.{false-not-true, and-true}
 
 -- ---- The bytes that are digits.
 pub digit-range : (b : ℕ) → isDigit b ≡ true → (48 ≤ b) × (b ≤ 57)
 digit-range b e =
-    let both = and-true (leb 48 b) (leb b 57) e in
+    let both = both-true (leb 48 b) (leb b 57) e in
     (leb-true 48 b (both .0), leb-true b 57 (both .1))
 
 pub digit-small : (b : ℕ) → isDigit b ≡ true → b - zeroDigit < 10
@@ -63,13 +63,13 @@ places-more (x ∷ l) b = rw (places-more l b) (go (isDigit x))
 -- ---- At first, and after one byte more of each kind.
 pub nothing-well : WellScanned nothing
 unfolding placesIn
-nothing-well = record { placed = refl; narrow = omega arith; some = λ e. false-not-true e }
+nothing-well = record { placed = refl; narrow = omega arith; some = λ e. absurd (false≢true e) }
 
 module _ {σ : Scanned} (W : WellScanned σ) where
   pub appended-well : (b : ℕ) → isDigit b ≡ false → WellScanned (appended σ b)
   unfolding placesIn
   appended-well b h =
-      record { placed = rw (places-more (σ .text) b, h) (omega (arith, W .placed)); narrow = W .narrow; some = λ e. false-not-true e }
+      record { placed = rw (places-more (σ .text) b, h) (omega (arith, W .placed)); narrow = W .narrow; some = λ e. absurd (false≢true e) }
 
   pub opened-well : (d : ℕ) → d < 10 → WellScanned (opened σ d)
   unfolding placesIn

@@ -2,8 +2,8 @@
 use Prim.Native.Nat.{_-_}
 use native.Mathlib.Omega.{arith}
 use lib.ListN.{length}
-use Rattle.reader.specs.Kept.{keptOf}
-use Rattle.reader.proofs.Laws.LineLaws.{
+use Rattle.scanning.specs.Kept.{keptOf}
+use Rattle.scanning.proofs.Laws.LineLaws.{
   line-fed,
   chunk-ends,
   Scanning,
@@ -11,8 +11,8 @@ use Rattle.reader.proofs.Laws.LineLaws.{
   scanning-goes-on,
   scanning-ends,
 }
-use Rattle.reader.proofs.scanning.scan_line.Statement.{statement}
-use Rattle.reader.proofs.scanning.scan_line.Tie as tie
+use Rattle.scanning.proofs.scan_line.Statement.{statement}
+use Rattle.scanning.proofs.scan_line.Tie as tie
 
 abbrev Inv-loop : tie.InvT-loop
 Inv-loop chunk from text₀ numbers₀ scan₀ i₀ text numbers scan i =

@@ -8,7 +8,7 @@ use native.Mathlib.Omega.{arith}
 use lib.ListN.{length, getD, set, length-append, length-set, List·getD-append, List·getD-eq-default}
 use lib.Seq.{getD-set-same, getD-set-other, getD-append-seam}
 use Rattle.tag.specs.Tags.{largestTag}
-use Rattle.reader.specs.Kept.{keptNumber, UpToTag}
+use Rattle.scanning.specs.Kept.{keptNumber, UpToTag}
 
 -- ---- No number is kept above the largest tag.
 pub up-to-tag-set : (held : List ℕ) (i v : ℕ) → UpToTag held → v ≤ largestTag → UpToTag (set held i v)

@@ -4,7 +4,7 @@ use mathlib.Core.List.{List, [], _∷_, _++_}
 use mathlib.Core.Path.{_≡_}
 use Prim.Native.Nat.{ℕ, _+_, _*_, _-_}
 use lib.ListN.{length}
-use Rattle.reader.specs.Scanned.{isDigit, zeroDigit}
+use Rattle.scanning.specs.Scanned.{isDigit, zeroDigit}
 
 -- digits, at least one
 pub data Numeral : List ℕ → Type 0 where

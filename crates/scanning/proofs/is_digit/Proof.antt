@@ -1,8 +1,8 @@
 -- Each branch is one case of the definition.
 use mathlib.Core.Path.{sym}
 use borrow.Author.Tests.{lt-leb, le-leb}
-use Rattle.reader.proofs.scanning.is_digit.Statement.{statement}
-use Rattle.reader.proofs.scanning.is_digit.Tie as tie
+use Rattle.scanning.proofs.is_digit.Statement.{statement}
+use Rattle.scanning.proofs.is_digit.Tie as tie
 
 returns : tie.Need-returns
 returns c = sym (rw (lt-leb _ _ (c .if1 .taken)))

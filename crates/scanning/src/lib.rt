@@ -3,8 +3,8 @@ ghost use mathlib.Core.List.{List};
 ghost use mathlib.Core.Path.{_≡_};
 ghost use Prim.Native.Nat.{ℕ, _+_, _*_, _≤_, _<_, min};
 ghost use lib.ListN.{length};
-ghost use Rattle.reader.specs.Scanned.{isDigit};
-ghost use Rattle.reader.specs.Kept.{
+ghost use Rattle.scanning.specs.Scanned.{isDigit};
+ghost use Rattle.scanning.specs.Kept.{
   textPlaces,
   keptNumber,
   keptOf,

@@ -4,9 +4,9 @@ use Prim.Native.Nat.{_<_, _≤_}
 use native.Mathlib.Omega.{arith}
 use borrow.Author.Needs.{needs}
 use borrow.Author.Tests.{lt-ltb, le-ltb}
-use Rattle.reader.specs.Kept.{textPlaces}
-use Rattle.reader.proofs.scanning.put.Statement.{statement}
-use Rattle.reader.proofs.scanning.put.Tie as tie
+use Rattle.scanning.specs.Kept.{textPlaces}
+use Rattle.scanning.proofs.put.Statement.{statement}
+use Rattle.scanning.proofs.put.Tie as tie
 
 element-write-text : tie.Need-element-write-text
 element-write-text c = search needs

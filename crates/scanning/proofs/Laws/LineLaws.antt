@@ -9,9 +9,9 @@ use borrow.Author.Tests.{eq-eqb, ne-eqb}
 use lib.Dec.{eqb}
 use lib.ListN.{length, getD, drop, drop-of-length-le, length-drop}
 use lib.Seq.{drop-cons}
-use Rattle.reader.specs.Scanned.{firstLine, lineFeed}
-use Rattle.reader.specs.Kept.{Kept, keepByte, keepBytes, ScansLine, Counts}
-use Rattle.reader.proofs.Laws.ScanLaws.{byte-counts}
+use Rattle.scanning.specs.Scanned.{firstLine, lineFeed}
+use Rattle.scanning.specs.Kept.{Kept, keepByte, keepBytes, ScansLine, Counts}
+use Rattle.scanning.proofs.Laws.ScanLaws.{byte-counts}
 
 -- ---- Where the line ends.
 module _ (chunk : List ℕ) (i : ℕ) where

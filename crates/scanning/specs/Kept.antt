@@ -6,11 +6,9 @@ use Prim.Native.Nat.{ℕ, _+_, _-_, _≤_, _<_, min}
 use lib.Dec.{ltb}
 use lib.ListN.{length, getD, take, drop, set, replicate}
 use Rattle.tag.specs.Tags.{largestTag}
-use Rattle.reader.specs.Scanned.{Scanned, zeroDigit, isDigit, withDigit, WellScanned, firstLine}
-use Rattle.reader.specs.Commands.{commandWith}
-use Rattle.reader.specs.declared.Command.{Command}
-use Rattle.reader.specs.declared.scanning.Scan.{Scan}
-use Rattle.reader.specs.declared.scanning.Stop.{Stop}
+use Rattle.scanning.specs.Scanned.{Scanned, zeroDigit, isDigit, withDigit, WellScanned, firstLine}
+use Rattle.scanning.specs.declared.Scan.{Scan}
+use Rattle.scanning.specs.declared.Stop.{Stop}
 
 -- places for the first bytes of a text: one more than the longest form has
 abbrev pub textPlaces : ℕ
@@ -87,14 +85,6 @@ keepByte k b =
 unfoldable pub keepBytes : Kept → List ℕ → Kept
 keepBytes k [] = k
 keepBytes k (b ∷ bs) = keepBytes (keepByte k b) bs
-
--- as many numbers as a form has at most
-abbrev pub firstThree : List ℕ → List ℕ
-firstThree ns = getD ns 0 0 ∷ getD ns 1 0 ∷ getD ns 2 0 ∷ []
-
--- the command that is read off what is kept
-unfoldable pub keptCommand : Kept → Command
-keptCommand k = commandWith (take (k .scan .length) (k .text)) (firstThree (k .numbers)) (k .scan .width)
 
 -- The chunk is scanned from a place up to the next line feed or its end.
 pub record ScansLine (chunk : List ℕ) (from : ℕ) (before : Kept) (text numbers : List ℕ) (r : Stop) : Type 0 where

@@ -1,12 +1,12 @@
 -- What is kept stands for what is scanned: at the start, and after one byte more of each kind.
-use mathlib.Core.Bool.{Bool, true, false, cond}
+use mathlib.Core.Bool.{Bool, true, false, cond, false≢true}
 use mathlib.Core.List.{List, [], _∷_, _++_}
 use mathlib.Core.Path.{_≡_, refl, sym, _∙_}
 use Prim.Native.Nat.{ℕ, zero, suc, _+_, _-_, _<_, min}
 use native.Mathlib.Omega.{arith}
 use lib.Dec.{ltb}
 use lib.ListN.{length, getD, take, set, length-set}
-use Rattle.reader.specs.Scanned.{
+use Rattle.scanning.specs.Scanned.{
   Scanned,
   nothing,
   opened,
@@ -18,8 +18,7 @@ use Rattle.reader.specs.Scanned.{
   scanByte,
   scanBytes,
 }
-use Rattle.reader.specs.Commands.{commandOf, commandRead}
-use Rattle.reader.specs.Kept.{
+use Rattle.scanning.specs.Kept.{
   textPlaces,
   numberPlaces,
   keptNumber,
@@ -32,14 +31,12 @@ use Rattle.reader.specs.Kept.{
   keepExtended,
   keepByte,
   keepBytes,
-  keptCommand,
   Counts,
   ScanKept,
   Represents,
 }
-use Rattle.reader.proofs.Laws.SameTexts.{false-not-true, byte-kept}
-use Rattle.reader.proofs.Laws.FormLaws.{command-kept}
-use Rattle.reader.proofs.Laws.NumberLaws.{
+use Rattle.scanning.proofs.Laws.KeptTexts.{byte-kept}
+use Rattle.scanning.proofs.Laws.NumberLaws.{
   up-to-tag-set,
   more-number-count,
   more-first,
@@ -47,7 +44,7 @@ use Rattle.reader.proofs.Laws.NumberLaws.{
   other-first,
   other-last,
 }
-use Rattle.reader.proofs.Laws.PlaceLaws.{
+use Rattle.scanning.proofs.Laws.PlaceLaws.{
   digit-small,
   other-byte,
   further-digit,
@@ -72,7 +69,7 @@ first-kept text h =
       text-places = h;
       number-places = refl;
       up-to-tag = λ i. omega (arith, zeros i);
-      counts = record { short = omega arith; few = omega arith; some = λ e. false-not-true e };
+      counts = record { short = omega arith; few = omega arith; some = λ e. absurd (false≢true e) };
     }
 
 pub first-represents : (text : List ℕ) → Represents (keptAtFirst text) nothing
@@ -90,7 +87,7 @@ first-represents text =
 -- ---- The counts after one byte more of each kind.
 module _ (k : Kept) (C : Counts (k .scan)) where
   other-counts : (b : ℕ) → Counts (keepOther k b .scan)
-  other-counts b = record { short = omega arith; few = C .few; some = λ e. false-not-true e }
+  other-counts b = record { short = omega arith; few = C .few; some = λ e. absurd (false≢true e) }
 
   opened-counts : (d : ℕ) → Counts (keepOpened k d .scan)
   opened-counts d = record { short = omega arith; few = omega arith; some = λ e. omega arith }
@@ -219,7 +216,7 @@ module _ {k : Kept} {σ : Scanned} (K : ScanKept k) (R : Represents k σ) where
           well-scanned = extended-well (R .well-scanned) d h (sym (R .in-number) ∙ is-open);
         }
 
--- ---- One byte, many, and the command.
+-- ---- One byte, and many.
 pub byte-represents : {k : Kept} {σ : Scanned} → ScanKept k → Represents k σ → (b : ℕ)
     → Represents (keepByte k b) (scanByte σ b)
 unfolding keepByte
@@ -244,14 +241,3 @@ pub bytes-represents : {k : Kept} {σ : Scanned} → ScanKept k → Represents k
 unfolding keepBytes scanBytes
 bytes-represents K R [] = R
 bytes-represents K R (b ∷ bs) = bytes-represents (byte-scan-kept K b) (byte-represents K R b) bs
-
-pub command-represents : {k : Kept} {σ : Scanned} → Represents k σ → keptCommand k ≡ commandOf σ
-unfolding keptCommand commandOf
-command-represents {k} {σ} R =
-    rw (R .text-kept, R .width-kept) (command-kept σ (R .well-scanned) (k .numbers) (R .first))
-
--- So the command read off what is kept of a line is the command of the line.
-pub line-command : (text line : List ℕ) → length text ≡ textPlaces
-    → keptCommand (keepBytes (keptAtFirst text) line) ≡ commandRead line
-unfolding commandRead
-line-command text line h = command-represents (bytes-represents (first-kept text h) (first-represents text) line)

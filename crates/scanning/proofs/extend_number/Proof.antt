@@ -1,8 +1,8 @@
 -- The number at the last place used gets one digit more.
 use native.Mathlib.Omega.{arith}
 use borrow.Author.Needs.{needs}
-use Rattle.reader.proofs.scanning.extend_number.Statement.{statement}
-use Rattle.reader.proofs.scanning.extend_number.Tie as tie
+use Rattle.scanning.proofs.extend_number.Statement.{statement}
+use Rattle.scanning.proofs.extend_number.Tie as tie
 
 sub-place : tie.Need-sub-place
 sub-place c = omega (arith, c .before .pre .counts .some (c .before .pre .is-open))

@@ -1,7 +1,7 @@
 -- One byte more.
 use borrow.Author.Needs.{needs}
-use Rattle.reader.proofs.scanning.append_byte.Statement.{statement}
-use Rattle.reader.proofs.scanning.append_byte.Tie as tie
+use Rattle.scanning.proofs.append_byte.Statement.{statement}
+use Rattle.scanning.proofs.append_byte.Tie as tie
 
 put-requires : tie.Need-put-requires
 put-requires c κs = search needs

@@ -1,6 +1,6 @@
 -- Scanning finds the text and the numerals that a line is written with: the values of the numerals are its numbers, and
 -- the last of them is as wide as it has digits.
-use mathlib.Core.Bool.{Bool, true, false}
+use mathlib.Core.Bool.{Bool, true, false, false≢true}
 use mathlib.Core.List.{List, [], _∷_, _++_, map, append-assoc, append-nil}
 use mathlib.Core.Logic.{_⊎_, inl, inr}
 use mathlib.Core.Path.{_≡_, refl, sym, ap, _∙_}
@@ -8,12 +8,10 @@ use Prim.Native.Nat.{ℕ, suc, _+_, _*_, _-_}
 use native.Mathlib.Omega.{arith}
 use lib.ListN.{length, length-append}
 use lib.Seq.{getD-append-seam, set-append-seam}
-use Rattle.reader.specs.Scanned.{Scanned, nothing, isDigit, zeroDigit, appended, scanByte, scanBytes}
-use Rattle.reader.specs.Commands.{beginText, pushOf, commandWith, commandOf, commandRead}
-use Rattle.reader.specs.Written.{Numeral, last, then, valueAfter, value, beginsWithDigit}
-use Rattle.reader.specs.Written.{Written, ended, byte, number, widthAfter, lastWidth}
-use Rattle.reader.proofs.Laws.SameTexts.{false-not-true}
-use Rattle.reader.proofs.Laws.PlaceLaws.{other-byte, further-digit, first-digit}
+use Rattle.scanning.specs.Scanned.{Scanned, nothing, isDigit, zeroDigit, appended, scanByte, scanBytes}
+use Rattle.scanning.specs.Written.{Numeral, last, then, valueAfter, value, beginsWithDigit}
+use Rattle.scanning.specs.Written.{Written, ended, byte, number, widthAfter}
+use Rattle.scanning.proofs.Laws.PlaceLaws.{other-byte, further-digit, first-digit}
 
 -- ---- Every line is written with some text and numerals.
 pub record Parts (line : List ℕ) : Type 0 where
@@ -117,26 +115,9 @@ scan-written (number {ds} {line} {text} {numerals} m e w) σ (inl f) =
       numbers-found = rw a (r .numbers-found ∙ append-assoc (σ .numbers) (value ds ∷ []) (map value numerals));
       width-found = rw a (r .width-found);
     }
-scan-written (number {ds} {line} m e w) σ (inr g) = false-not-true (sym g ∙ numeral-begins line m)
+scan-written (number {ds} {line} m e w) σ (inr g) = absurd (false≢true (sym g ∙ numeral-begins line m))
 
 -- ---- The whole line.
 pub written-scanned : {line text : List ℕ} {numerals : List (List ℕ)} → Written line text numerals
     → Finds nothing line text numerals
 written-scanned w = scan-written w nothing (inl refl)
-
--- ---- So they alone decide what a line says.
-pub written-says : {line text : List ℕ} {numerals : List (List ℕ)} → Written line text numerals
-    → commandRead line ≡ commandWith text (map value numerals) (lastWidth numerals)
-unfolding commandRead commandOf lastWidth
-written-says w = let r = written-scanned w in rw (r .text-found, r .numbers-found, r .width-found)
-
--- ---- The tag of a push is its second numeral, and is as wide as that has digits.
-pub push-left-says : {line ds es : List ℕ} → Written line (beginText "push" "left") (ds ∷ es ∷ [])
-    → commandRead line ≡ pushOf 0 (value ds) (value es) (length es)
-unfolding commandWith widthAfter lastWidth
-push-left-says w = written-says w
-
-pub push-right-says : {line ds es : List ℕ} → Written line (beginText "push" "right") (ds ∷ es ∷ [])
-    → commandRead line ≡ pushOf 1 (value ds) (value es) (length es)
-unfolding commandWith widthAfter lastWidth
-push-right-says w = written-says w

@@ -5,11 +5,11 @@ use Prim.Native.Nat.{_≤_}
 use native.Mathlib.Omega.{arith}
 use borrow.Author.Needs.{needs}
 use borrow.Author.Tests.{not-true, not-false}
-use Rattle.reader.specs.Scanned.{isDigit}
-use Rattle.reader.specs.Kept.{keepByte}
-use Rattle.reader.proofs.Laws.PlaceLaws.{digit-range}
-use Rattle.reader.proofs.scanning.scan_byte.Statement.{statement}
-use Rattle.reader.proofs.scanning.scan_byte.Tie as tie
+use Rattle.scanning.specs.Scanned.{isDigit}
+use Rattle.scanning.specs.Kept.{keepByte}
+use Rattle.scanning.proofs.Laws.PlaceLaws.{digit-range}
+use Rattle.scanning.proofs.scan_byte.Statement.{statement}
+use Rattle.scanning.proofs.scan_byte.Tie as tie
 
 -- Past the first test the byte is a digit.
 a-digit : (c : tie.Else1) → isDigit (c .before .before .args .b) ≡ true

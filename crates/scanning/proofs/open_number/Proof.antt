@@ -1,7 +1,7 @@
 -- One byte and one number more.
 use borrow.Author.Needs.{needs}
-use Rattle.reader.proofs.scanning.open_number.Statement.{statement}
-use Rattle.reader.proofs.scanning.open_number.Tie as tie
+use Rattle.scanning.proofs.open_number.Statement.{statement}
+use Rattle.scanning.proofs.open_number.Tie as tie
 
 put-requires : tie.Need-put-requires
 put-requires c κs = search needs
