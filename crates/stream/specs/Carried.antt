@@ -6,7 +6,8 @@ use Prim.Native.Nat.{ℕ, _≤_, _<_}
 use lib.ListN.{length, take, drop}
 use Rattle.scanning.specs.Kept.{Kept, keptOf, keptAtFirst, keepByte, ScanKept, Represents}
 use Rattle.reader.specs.KeptCommand.{keptCommand}
-use Rattle.printer.specs.Writing.{Written, roomFor}
+use Rattle.writing.specs.Writing.{Written}
+use Rattle.printer.specs.Room.{roomFor}
 use Rattle.belt.specs.Run.{answer}
 use Rattle.belt.specs.Space.{largestTable, mostBags}
 use Rattle.stream.specs.Session.{Step, Service, State}

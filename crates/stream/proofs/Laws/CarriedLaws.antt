@@ -15,8 +15,8 @@ use Rattle.scanning.proofs.Laws.ScanLaws.{bytes-scan-kept}
 use Rattle.scanning.proofs.Laws.LineLaws.{line-within}
 use Rattle.reader.specs.declared.Command.{Command}
 use Rattle.reader.specs.KeptCommand.{keptCommand}
-use Rattle.printer.specs.Writing.{Written}
-use Rattle.printer.proofs.Laws.WritingLaws.{written-append}
+use Rattle.writing.specs.Writing.{Written}
+use Rattle.writing.proofs.Laws.WritingLaws.{written-append}
 use Rattle.belt.specs.Run.{answer}
 use Rattle.belt.specs.Space.{Leaves}
 use Rattle.stream.specs.Session.{silent, takeBytes, endInput}
