@@ -22,9 +22,9 @@ use Rattle.machine.specs.Calls.{
   laneFrom,
   lane,
 }
-use Rattle.reader.specs.Scanned.{scanByte, scanBytes}
+use Rattle.scanning.specs.Scanned.{scanByte, scanBytes}
 use Rattle.reader.specs.Commands.{ticks, beginOr, beginOf, formOf, pushOf, commandWith, commandOf, commandRead}
-use Rattle.printer.specs.Lines.{digitsIn, spaced}
+use Rattle.writing.specs.Numerals.{digitsIn, spaced}
 use Rattle.belt.specs.Forms.{startCommand, beginCommand, tickCommand, laneCommand}
 use Rattle.belt.specs.Run.{answer, printed, linesOf, beltRun}
 use Rattle.belt.specs.Paper.{paperInput, paperOutput}

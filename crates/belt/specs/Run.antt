@@ -3,9 +3,9 @@ use mathlib.Core.Bool.{cond}
 use mathlib.Core.List.{List, [], _∷_, _++_, map}
 use Prim.Native.Nat.{ℕ}
 use lib.Dec.{eqb}
+use Rattle.scanning.specs.Scanned.{lineFeed}
 use Rattle.reader.specs.declared.Command.{Command}
 use Rattle.reader.specs.declared.Command.the-variants as Commands
-use Rattle.reader.specs.Scanned.{lineFeed}
 use Rattle.reader.specs.Commands.{commandRead}
 use Rattle.printer.specs.Lines.{unreadText}
 use Rattle.belt.specs.Forms.{Answered, startCommand, beginCommand, tickCommand, laneCommand}

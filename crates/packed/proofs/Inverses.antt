@@ -10,11 +10,9 @@ use lib.Seq.{length-take-le, take-all, take-at, drop-at}
 use borrow.Author.Tests.{le-leb, eq-eqb}
 use Rattle.tag.specs.Tags.{tagOf}
 use Rattle.tag.proofs.TagLaws.{tag-of-words, digit-of-tag, low-of-tag, tag-range, number-is-tag}
-use Rattle.packed.specs.Packed.{packedNumber}
-use Rattle.packed.specs.TagLists.{count, outcome, Way, firstBad, turnedAll, lengthOk, listTaken, reading, writing}
-use Rattle.packed.specs.RoundTrips.{WrittenIsRead, ReadIsWritten}
-use Rattle.packed.proofs.Laws.Halves.{pairs-of-halves}
-use Rattle.packed.proofs.Laws.OneTag.{
+use Rattle.packing.specs.Packed.{packedNumber}
+use Rattle.packing.proofs.Laws.Halves.{pairs-of-halves}
+use Rattle.packing.proofs.Laws.OneTag.{
   packed-digits,
   packed-range,
   bytes-number,
@@ -23,6 +21,8 @@ use Rattle.packed.proofs.Laws.OneTag.{
   length-unpacked,
   length-packed,
 }
+use Rattle.packed.specs.TagLists.{count, outcome, Way, firstBad, turnedAll, lengthOk, listTaken, reading, writing}
+use Rattle.packed.specs.RoundTrips.{WrittenIsRead, ReadIsWritten}
 use Rattle.packed.proofs.Laws.Ways.{first-good, length-turned}
 use Rattle.packed.proofs.Laws.Taken.{accepted, all-taken}
 

@@ -2,7 +2,7 @@
 use mathlib.Core.Path.{_≡_, refl}
 use mathlib.Core.List.{map}
 use Rattle.tag.specs.Tags.{lastDigits, numberFrom, areDigits}
-use Rattle.packed.specs.Packed.{halves, pairs}
+use Rattle.packing.specs.Packed.{halves, pairs}
 use Rattle.packed.specs.TagLists.{firstBad, turnedAll}
 use Rattle.packed.specs.Examples.{Example, examples}
 

@@ -1,4 +1,3 @@
-pub mod Packed
 pub mod TagLists
 pub mod RoundTrips
 pub mod Examples

@@ -5,9 +5,9 @@ use mathlib.Core.List.{List, [], _++_}
 use Prim.Native.Nat.{ℕ, zero, suc, _*_, _/_, _%_}
 use lib.Dec.{leb, ltb, eqb}
 use lib.ListN.{length, take, drop}
+use Rattle.packing.specs.Packed.{isPacked, unpacked, areTag, packed}
 use Rattle.packed.specs.declared.Listed.{Listed}
 use Rattle.packed.specs.declared.Listed.the-variants.{Count, BadLength, BadTag, TooShort}
-use Rattle.packed.specs.Packed.{isPacked, unpacked, areTag, packed}
 
 -- ---- Answers.
 

@@ -1,7 +1,5 @@
 // Tag lists in packed decimal: the baggage office's bytes read into words, and words written as such bytes. One pass
 // tests every tag, and only then another one writes.
-mod digits;
-mod packing;
 mod reading;
 mod writing;
 

@@ -1,21 +1,12 @@
 // The two passes of reading: the first bad tag of the bytes, and the words of them all.
-use super::digits;
-use super::packing::are_digits;
-use super::packing::not_zero;
-use super::packing::take_five;
-use super::packing::unpack;
+use packing::digits;
+use packing::is_packed;
+use packing::take_five;
+use packing::unpack;
 ghost use mathlib.Core.Path.{_≡_};
 ghost use Prim.Native.Nat.{_*_, _≤_};
 ghost use lib.ListN.{length};
-ghost use Rattle.packed.specs.Packed.{isPacked};
 ghost use Rattle.packed.specs.TagLists.{reading, firstBad, putAll};
-
-// Whether five bytes are a tag.
-fn is_packed(five: [u8; 5]) -> bool
-    ensures { λ r. ⌜ r ≡ isPacked five ⌝ }
-{
-    are_digits(unpack(five)) & not_zero(five)
-}
 
 // The place of the first five bytes that are no tag, or the number of tags.
 pub fn first_bad(bytes: &[u8], tags: usize) -> usize

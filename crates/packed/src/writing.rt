@@ -1,7 +1,7 @@
 // The two passes of writing: the first bad tag of the words, and the bytes of them all.
-use super::digits;
-use super::packing::pack;
-use super::packing::put_five;
+use packing::digits;
+use packing::pack;
+use packing::put_five;
 ghost use mathlib.Core.Path.{_≡_};
 ghost use Prim.Native.Nat.{_*_, _≤_};
 ghost use lib.ListN.{length};

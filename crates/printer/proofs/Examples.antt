@@ -1,15 +1,15 @@
--- The lines of 01's belt run with the tags of 02, and of the largest numbers, computed.
+-- The lines of 01's belt run with the tags of 02, and the other lines, computed.
 use mathlib.Core.Path.{_≡_, refl}
 use mathlib.Core.List.{List, [], _∷_, _++_}
 use Prim.Native.Nat.{ℕ}
+use Rattle.tag.specs.Tags.{lastDigits, tagsIn}
 use Rattle.machine.specs.declared.Reply.the-variants as Replies
 use Rattle.machine.specs.declared.Answer.the-variants as Answers
 use Rattle.machine.specs.declared.Reading.the-variants as Readings
+use Rattle.reader.specs.Text.{bytes}
+use Rattle.writing.specs.Numerals.{digitsIn, spaced}
 use Rattle.printer.specs.declared.Outcome.{Outcome}
 use Rattle.printer.specs.declared.Outcome.the-variants.{Replied, Ticked, Lane, Unread}
-use Rattle.tag.specs.Tags.{lastDigits, tagsIn}
-use Rattle.reader.specs.Text.{bytes}
-use Rattle.printer.specs.Lines.{digitsIn, decimal, tagText, spaced}
 use Rattle.printer.specs.Outcomes.{textOf}
 
 -- The lines of some outcomes, over the same words.
@@ -48,19 +48,3 @@ pub other-lines : printed
     ≡ bytes "(full)\n(yes)\n(no)\n(unread)\n(lane)\n(lane 0000000051 9999999999)\n(refused 3)\n(refused 1)\n"
 unfolding lastDigits tagsIn spaced digitsIn
 other-lines = refl
-
-pub largest-tag : tagText 9_999_999_999 ≡ bytes "9999999999"
-unfolding lastDigits
-largest-tag = refl
-
-pub inner-zeros : tagText 1_000_000_020 ≡ bytes "1000000020"
-unfolding lastDigits
-inner-zeros = refl
-
-pub largest-word : decimal 4294967295 ≡ bytes "4294967295"
-unfolding digitsIn
-largest-word = refl
-
-pub zero-digit : decimal 0 ≡ bytes "0"
-unfolding digitsIn
-zero-digit = refl

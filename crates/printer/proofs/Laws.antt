@@ -1,5 +1,3 @@
 -- What the proofs of the printer share.
 
-pub mod WritingLaws
-pub mod Decimals
-pub mod Rows
+pub mod LineLaws

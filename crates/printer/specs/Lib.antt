@@ -1,3 +1,3 @@
 pub mod Lines
 pub mod Outcomes
-pub mod Writing
+pub mod Room

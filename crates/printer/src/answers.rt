@@ -1,16 +1,17 @@
 // The answers of the calls as lines of text, put at a place of a buffer; the place after the line is given back.
-use crate::writing::put;
-use crate::writing::put_bag;
-use crate::writing::put_lane;
-use crate::writing::put_refused;
+use crate::lines::put_bag;
+use crate::lines::put_lane;
+use crate::lines::put_refused;
 use machine::Answer;
 use machine::Reading;
 use machine::Reply;
+use writing::put;
 ghost use Prim.Native.Nat.{_+_, _*_, _≤_};
 ghost use lib.ListN.{length};
+ghost use Rattle.writing.specs.Writing.{Written};
 ghost use Rattle.printer.specs.Lines.{replyText, answerText};
 ghost use Rattle.printer.specs.Outcomes.{readingText, readingCount};
-ghost use Rattle.printer.specs.Writing.{Written, shortRoom, roomFor};
+ghost use Rattle.printer.specs.Room.{shortRoom, roomFor};
 
 // What start and begin answer.
 pub fn print_reply(reply: Reply, out: &mut [u8], at: usize) -> usize

@@ -1,6 +1,6 @@
 // The outcomes of the belt run as lines of text, written into a lent buffer.
 mod answers;
-mod writing;
+mod lines;
 
 use answers::print_answer;
 use answers::print_reading;
@@ -11,8 +11,9 @@ use machine::Reply;
 use writing::put;
 ghost use Prim.Native.Nat.{_+_, _*_, _≤_};
 ghost use lib.ListN.{length};
+ghost use Rattle.writing.specs.Writing.{Written};
 ghost use Rattle.printer.specs.Outcomes.{countOf, textOf};
-ghost use Rattle.printer.specs.Writing.{Written, roomFor};
+ghost use Rattle.printer.specs.Room.{roomFor};
 
 // What a line of the belt run comes to: the answer of a call, or that the line is not read.
 pub enum Outcome {

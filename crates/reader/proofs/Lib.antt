@@ -1,3 +1,3 @@
 pub mod Laws
-pub mod WrittenLaws
+pub mod WrittenSays
 pub mod Worked

@@ -1,8 +1,8 @@
 -- The definitions give each example what it says.
 use mathlib.Core.List.{map}
 use mathlib.Core.Path.{_≡_, refl}
+use Rattle.scanning.specs.Scanned.{scanByte, scanBytes}
 use Rattle.reader.specs.Text.{bytes}
-use Rattle.reader.specs.Scanned.{scanByte, scanBytes}
 use Rattle.reader.specs.Commands.{ticks, beginOr, beginOf, formOf, pushOf, commandWith, commandOf, commandRead}
 use Rattle.reader.specs.Examples.{Example, examples}
 

@@ -6,8 +6,8 @@ use Prim.Native.String.{String, _++_}
 use lib.Dec.{eqb, leb}
 use lib.ListN.{getD}
 use Rattle.tag.specs.Tags.{digitOf, lowOf}
+use Rattle.scanning.specs.Scanned.{Scanned, nothing, scanBytes}
 use Rattle.reader.specs.Text.{bytes, same}
-use Rattle.reader.specs.Scanned.{Scanned, nothing, scanBytes}
 use Rattle.reader.specs.declared.Command.{Command}
 use Rattle.reader.specs.declared.Command.the-variants.{Start, Begin, Tick, Lane, Unread}
 
@@ -61,7 +61,7 @@ pushOf side task tag width =
     cond (leb task largestNumber && eqb width tagWidth) (Begin task 1 side (digitOf tag) (lowOf tag)) Unread
 
 -- the command of a line with this text and these numbers, the last of them so many digits wide; a line has one number
--- for each 0 in its text (`line-well` of `proofs/Laws/PlaceLaws`), so the last number of a push is its tag
+-- for each 0 in its text (`line-well` of `scanning/proofs/Laws/PlaceLaws`), so the last number of a push is its tag
 unfoldable pub commandWith : (text numbers : List ℕ) (width : ℕ) → Command
 commandWith text ns width =
     cond (same text (beginText "push" "left")) (pushOf 0 (getD ns 0 0) (getD ns 1 0) width)

@@ -1,6 +1,4 @@
 pub mod Text
-pub mod Scanned
-pub mod Written
 pub mod Commands
-pub mod Kept
+pub mod KeptCommand
 pub mod Examples

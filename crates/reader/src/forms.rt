@@ -1,12 +1,13 @@
 // The form of a line, by its text.
 use crate::Command;
-use crate::scanning::Numbers;
+use scanning::Numbers;
 ghost use mathlib.Core.Path.{_≡_};
 ghost use Rattle.reader.specs.Text.{same};
 ghost use Prim.Native.Nat.{_≤_};
 ghost use Rattle.tag.specs.Tags.{largestTag};
+ghost use Rattle.scanning.specs.Kept.{UpToTag};
 ghost use Rattle.reader.specs.Commands.{ticks, beginOr, beginOf, formOf, pushOf, commandWith};
-ghost use Rattle.reader.specs.Kept.{firstThree, UpToTag};
+ghost use Rattle.reader.specs.KeptCommand.{firstThree};
 
 // 01: "a number above 4,294,967,295".
 const LARGEST: u64 = 4_294_967_295;

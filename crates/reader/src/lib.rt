@@ -1,12 +1,12 @@
-// The commands of the belt run: the bytes of a line are scanned in constant memory, and its form is read off.
+// The commands of the belt run: the form of a line is read off what is kept of it.
 mod forms;
-pub mod scanning;
 
 use forms::command_with;
 use scanning::Numbers;
 use scanning::Scan;
 ghost use mathlib.Core.Path.{_≡_};
-ghost use Rattle.reader.specs.Kept.{keptOf, keptCommand, ScanKept};
+ghost use Rattle.scanning.specs.Kept.{keptOf, ScanKept};
+ghost use Rattle.reader.specs.KeptCommand.{keptCommand};
 
 // What a line says. Operations are 1 push, 2 pop, 3 add, 4 remove; sides 0 left, 1 right. The tag of a push is its
 // leading digit and, as the argument, the nine digits below; the others have digit 0.

@@ -4,8 +4,8 @@ use mathlib.Core.Bool.{Bool, true, false, cond}
 use mathlib.Core.List.{List, [], _∷_, _++_, map, flatten, append-assoc, append-nil}
 use Prim.Native.Nat.{ℕ}
 use lib.Dec.{eqb}
+use Rattle.scanning.specs.Scanned.{lineFeed, scanBytes}
 use Rattle.reader.specs.declared.Command.{Command}
-use Rattle.reader.specs.Scanned.{lineFeed, scanBytes}
 use Rattle.reader.specs.Commands.{commandOf, commandRead}
 use Rattle.belt.specs.Run.{printed, inFront, linesOf, beltRun}
 use Rattle.stream.specs.Session.{

@@ -4,8 +4,10 @@ use mathlib.Core.Bool.{Bool, true, false}
 use mathlib.Core.List.{List, _++_}
 use Prim.Native.Nat.{ℕ, _≤_, _<_}
 use lib.ListN.{length, take, drop}
-use Rattle.reader.specs.Kept.{Kept, keptOf, keptAtFirst, keepByte, keptCommand, ScanKept, Represents}
-use Rattle.printer.specs.Writing.{Written, roomFor}
+use Rattle.scanning.specs.Kept.{Kept, keptOf, keptAtFirst, keepByte, ScanKept, Represents}
+use Rattle.reader.specs.KeptCommand.{keptCommand}
+use Rattle.writing.specs.Writing.{Written}
+use Rattle.printer.specs.Room.{roomFor}
 use Rattle.belt.specs.Run.{answer}
 use Rattle.belt.specs.Space.{largestTable, mostBags}
 use Rattle.stream.specs.Session.{Step, Service, State}

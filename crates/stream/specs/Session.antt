@@ -4,7 +4,7 @@ use mathlib.Core.Bool.{Bool, true, false, cond}
 use mathlib.Core.List.{List, [], _∷_, _++_}
 use Prim.Native.Nat.{ℕ}
 use lib.Dec.{eqb}
-use Rattle.reader.specs.Scanned.{Scanned, nothing, scanByte, lineFeed}
+use Rattle.scanning.specs.Scanned.{Scanned, nothing, scanByte, lineFeed}
 use Rattle.reader.specs.Commands.{commandOf}
 use Rattle.belt.specs.Run.{answer}
 

@@ -9,8 +9,8 @@ use lib.ListN.{length, take, drop, length-append}
 use lib.Seq.{sets, drop-drop}
 use borrow.Author.Tests.{not-true, not-false}
 use Rattle.tag.proofs.TagLaws.{clash}
+use Rattle.packing.proofs.Laws.Filling.{sets-append}
 use Rattle.packed.specs.TagLists.{Way, firstBad, turnedAll}
-use Rattle.packed.proofs.Laws.Filling.{sets-append}
 
 -- All tags are good: so are the first and all those after it.
 pub first-good : (w : Way) (n : ℕ) (list : List ℕ) → firstBad w (suc n) list ≡ suc n

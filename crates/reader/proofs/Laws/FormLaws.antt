@@ -1,5 +1,5 @@
 -- The first bytes of a text, the first three numbers, and the width of the last one are enough to tell the command.
-use mathlib.Core.Bool.{Bool, true, false, cond}
+use mathlib.Core.Bool.{Bool, true, false, cond, and-false}
 use mathlib.Core.List.{List, [], _∷_}
 use mathlib.Core.Logic.{_⊎_, inl, inr}
 use mathlib.Core.Path.{_≡_, refl, ap, _∙_}
@@ -10,8 +10,9 @@ use borrow.Author.Tests.{lt-leb, ne-eqb}
 use lib.Dec.{T, leb, ltb, lit<}
 use lib.ListN.{length, getD, take}
 use Rattle.tag.specs.Tags.{largestTag}
+use Rattle.scanning.specs.Scanned.{Scanned, placesIn, WellScanned}
+use Rattle.scanning.specs.Kept.{textPlaces, keptNumber, countedDigits}
 use Rattle.reader.specs.Text.{bytes, same}
-use Rattle.reader.specs.Scanned.{Scanned, placesIn, WellScanned}
 use Rattle.reader.specs.Commands.{
   largestNumber,
   allFit,
@@ -24,8 +25,8 @@ use Rattle.reader.specs.Commands.{
   commandWith,
 }
 use Rattle.reader.specs.declared.Command.the-variants.{Unread}
-use Rattle.reader.specs.Kept.{textPlaces, keptNumber, countedDigits, firstThree}
-use Rattle.reader.proofs.Laws.SameTexts.{and-false, same-equal, same-take}
+use Rattle.reader.specs.KeptCommand.{firstThree}
+use Rattle.reader.proofs.Laws.SameTexts.{same-equal, same-take}
 
 -- ---- No form has as many bytes as are kept.
 module _ (l : List ℕ) where

@@ -1,35 +1,24 @@
--- When two texts are the same, and a text of which the first bytes are kept.
-use mathlib.Core.Bool.{Bool, true, false, cond, _&&_}
-use mathlib.Core.List.{List, [], _∷_, _++_}
-use mathlib.Core.Path.{_≡_, refl, sym, ap, _∙_}
-use Prim.Native.Nat.{ℕ, zero, suc, _+_, _<_, _≤_, min}
-use native.Mathlib.Decide.{decLt}
+-- When two texts are the same.
+use mathlib.Core.Bool.{Bool, true, false, _&&_, and-false, false≢true}
+use mathlib.Core.List.{List, [], _∷_}
+use mathlib.Core.Path.{_≡_, refl, sym, ap}
+use Prim.Native.Nat.{ℕ, zero, suc, _+_, _<_, _≤_}
 use native.Mathlib.Numerals.{add-one}
 use native.Mathlib.Omega.{arith}
-use borrow.Author.Tests.{eq-eqb, ne-eqb, eqb-true, lt-ltb, le-ltb}
-use lib.Dec.{eqb, ltb}
-use lib.ListN.{length, getD, take, drop, set, length-append, length-take, drop-of-length-le}
-use lib.Seq.{drop-cons, take-suc-set, take-all, take-append-le}
+use borrow.Author.Tests.{eq-eqb, ne-eqb, eqb-true}
+use lib.Dec.{eqb}
+use lib.ListN.{length, getD, take, drop, drop-of-length-le}
+use lib.Seq.{drop-cons}
+use Rattle.tag.proofs.TagLaws.{both-true}
 use Rattle.reader.specs.Text.{same}
-
-pub false-not-true : {P : Type 0} → _≡_ {A = Bool} false true → P
-false-not-true e = let z : _≡_ {A = ℕ} 0 1 = cc in absurd (omega arith)
-
-pub and-true : (a b : Bool) → (a && b) ≡ true → (a ≡ true) × (b ≡ true)
-and-true true b h = (refl, h)
-and-true false b h = false-not-true h
-
-pub and-false : (b : Bool) → b && false ≡ false
-and-false true = refl
-and-false false = refl
 
 pub same-equal : (xs ys : List ℕ) → same xs ys ≡ true → xs ≡ ys
 same-equal [] [] h = refl
-same-equal [] (y ∷ ys) h = false-not-true h
-same-equal (x ∷ xs) [] h = false-not-true h
+same-equal [] (y ∷ ys) h = absurd (false≢true h)
+same-equal (x ∷ xs) [] h = absurd (false≢true h)
 same-equal (x ∷ xs) (y ∷ ys) h =
-    let e : x ≡ y = eqb-true x y (and-true (eqb x y) (same xs ys) h .0) in
-    let f : xs ≡ ys = same-equal xs ys (and-true (eqb x y) (same xs ys) h .1) in
+    let e : x ≡ y = eqb-true x y (both-true (eqb x y) (same xs ys) h .0) in
+    let f : xs ≡ ys = same-equal xs ys (both-true (eqb x y) (same xs ys) h .1) in
     λ i. e i ∷ f i
 
 -- ---- Two texts compared byte by byte.
@@ -64,29 +53,3 @@ same-take zero xs ys h = absurd (omega arith)
 same-take (suc m) [] ys h = refl
 same-take (suc m) (x ∷ xs) [] h = refl
 same-take (suc m) (x ∷ xs) (y ∷ ys) h = ap (λ (b : Bool). eqb x y && b) (same-take m xs ys (omega arith))
-
--- ---- The first m bytes of a text l stand in a list t, n of them: a byte b more.
-module _ (m : ℕ) (t l : List ℕ) (n b : ℕ) (long : length t ≡ m) (small : n ≤ m) (e : take n t ≡ take m l) where
-  kept-length : n ≡ min m (length l)
-  kept-length =
-      let a : length (take n t) ≡ min n (length t) = length-take n t in
-      let b : length (take n t) ≡ min m (length l) = ap length e ∙ length-take m l in
-      omega arith
-
-  pub byte-kept : take (min m (n + 1)) (cond (ltb n m) (set t n b) t) ≡ take m (l ++ (b ∷ []))
-  byte-kept = go (decLt n m)
-    where
-      go : Dec (n < m) → take (min m (n + 1)) (cond (ltb n m) (set t n b) t) ≡ take m (l ++ (b ∷ []))
-      go (yes h) =
-          let k = kept-length in
-          let more : min m (n + 1) ≡ suc n = omega arith in
-          let f : n < length t = omega arith in
-          let g : length l ≤ m = omega arith in
-          let j : length (l ++ (b ∷ [])) ≤ m = simp length-append (omega arith) in
-          rw (more, lt-ltb n m h, take-suc-set t n b f, e, take-all m l g, take-all m (l ++ (b ∷ [])) j)
-      go (no h) =
-          let k = kept-length in
-          let same-count : min m (n + 1) ≡ n = omega arith in
-          let g : m ≤ length l = omega arith in
-          let full : m ≤ n = omega arith in
-          rw (same-count, le-ltb n m full) (e ∙ sym (take-append-le m l (b ∷ []) g))

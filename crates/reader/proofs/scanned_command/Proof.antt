@@ -3,7 +3,7 @@ use mathlib.Core.Path.{sym}
 use native.Mathlib.Omega.{arith}
 use borrow.Author.Needs.{needs}
 use lib.Seq.{length-take-le}
-use Rattle.reader.specs.Kept.{keptCommand}
+use Rattle.reader.specs.KeptCommand.{keptCommand}
 use Rattle.reader.proofs.scanned_command.Statement.{statement}
 use Rattle.reader.proofs.scanned_command.Tie as tie
 

@@ -7,15 +7,16 @@ use native.Mathlib.Omega.{arith}
 use lib.Dec.{ltb}
 use lib.ListN.{length, take, drop, take-append-drop}
 use lib.Seq.{slice, length-take-le}
+use Rattle.scanning.specs.declared.Scan.{Scan}
+use Rattle.scanning.specs.declared.Stop.{Stop}
+use Rattle.scanning.specs.Scanned.{firstLine}
+use Rattle.scanning.specs.Kept.{Kept, keptOf, noNumbers, noScan, keptAtFirst, ScansLine}
+use Rattle.scanning.proofs.Laws.ScanLaws.{bytes-scan-kept}
+use Rattle.scanning.proofs.Laws.LineLaws.{line-within}
 use Rattle.reader.specs.declared.Command.{Command}
-use Rattle.reader.specs.declared.scanning.Scan.{Scan}
-use Rattle.reader.specs.declared.scanning.Stop.{Stop}
-use Rattle.reader.specs.Scanned.{firstLine}
-use Rattle.reader.specs.Kept.{Kept, keptOf, noNumbers, noScan, keptAtFirst, keptCommand, ScansLine}
-use Rattle.reader.proofs.Laws.ScanLaws.{bytes-scan-kept}
-use Rattle.reader.proofs.Laws.LineLaws.{line-within}
-use Rattle.printer.specs.Writing.{Written}
-use Rattle.printer.proofs.Laws.WritingLaws.{written-append}
+use Rattle.reader.specs.KeptCommand.{keptCommand}
+use Rattle.writing.specs.Writing.{Written}
+use Rattle.writing.proofs.Laws.WritingLaws.{written-append}
 use Rattle.belt.specs.Run.{answer}
 use Rattle.belt.specs.Space.{Leaves}
 use Rattle.stream.specs.Session.{silent, takeBytes, endInput}

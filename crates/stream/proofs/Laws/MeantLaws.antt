@@ -7,16 +7,12 @@ use native.Mathlib.Omega.{arith}
 use lib.Dec.{eqb}
 use lib.ListN.{length, take, drop, length-append, length-drop}
 use lib.Seq.{take-append-seam}
-use Rattle.reader.specs.Scanned.{lineFeed}
+use Rattle.scanning.specs.Scanned.{lineFeed}
+use Rattle.scanning.specs.Kept.{textPlaces}
+use Rattle.scanning.proofs.Laws.ScanLaws.{first-kept, first-represents, byte-scan-kept, byte-represents}
 use Rattle.reader.specs.Commands.{commandOf}
-use Rattle.reader.specs.Kept.{textPlaces, keptCommand}
-use Rattle.reader.proofs.Laws.ScanLaws.{
-  first-kept,
-  first-represents,
-  byte-scan-kept,
-  byte-represents,
-  command-represents,
-}
+use Rattle.reader.specs.KeptCommand.{keptCommand}
+use Rattle.reader.proofs.Laws.CommandLaws.{command-represents}
 use Rattle.belt.specs.Run.{answer}
 use Rattle.belt.specs.Space.{largestTable}
 use Rattle.stream.specs.Session.{

@@ -8,8 +8,8 @@ use borrow.Author.Tests.{eqb-true, lt-ltb, le-ltb}
 use lib.Dec.{eqb, ltb}
 use lib.ListN.{length, take, drop, length-drop, take-append-drop}
 use lib.Seq.{slice, slice-empty, take-nil, take-take, length-take-le, drop-append-le}
-use Rattle.reader.specs.Scanned.{lineFeed, firstLine}
-use Rattle.reader.specs.Kept.{keepBytes}
+use Rattle.scanning.specs.Scanned.{lineFeed, firstLine}
+use Rattle.scanning.specs.Kept.{keepBytes}
 use Rattle.stream.specs.Session.{Step, silent, after, Service, takeByte, takeBytes}
 use Rattle.stream.specs.Carried.{Loan, lineOf, loanWith, endLineIn, goOnIn, lent}
 use Rattle.stream.proofs.Laws.Chunks.{takeBytes-append}

@@ -4,7 +4,7 @@ use Prim.Native.Nat.{_+_, _*_, _-_, _≤_}
 use native.Mathlib.Numerals.{add-one}
 use native.Mathlib.Omega.{arith}
 use lib.ListN.{drop}
-use Rattle.packed.specs.Packed.{isPacked}
+use Rattle.packing.specs.Packed.{isPacked}
 use Rattle.packed.specs.TagLists.{reading, firstBad}
 use Rattle.packed.proofs.Laws.Ways.{first-start, first-passed, first-found, first-none}
 use borrow.Author.Needs.{needs}

@@ -7,10 +7,10 @@ use native.Mathlib.Omega.{arith}
 use lib.ListN.{length, length-set, take, drop}
 use lib.Seq.{sets}
 use Rattle.tag.specs.Tags.{digitOf, lowOf, numberOf, areDigits}
-use Rattle.packed.specs.Packed.{packedNumber}
+use Rattle.packing.specs.Packed.{packedNumber}
+use Rattle.packing.proofs.Laws.Filling.{sets-front}
+use Rattle.packing.proofs.Laws.OneTag.{packed-are-digits, length-unpacked, words-stored}
 use Rattle.packed.specs.TagLists.{reading, firstBad, turnedAll}
-use Rattle.packed.proofs.Laws.Filling.{sets-front}
-use Rattle.packed.proofs.Laws.OneTag.{packed-are-digits, length-unpacked, words-stored}
 use Rattle.packed.proofs.Laws.Ways.{length-turned, good-start, good-at, put-start, put-next, put-end}
 use borrow.Author.Needs.{needs}
 use Rattle.packed.proofs.reading.put_words.Statement.{statement}

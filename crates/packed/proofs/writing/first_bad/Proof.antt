@@ -5,8 +5,8 @@ use native.Mathlib.Numerals.{add-one}
 use native.Mathlib.Omega.{arith}
 use lib.ListN.{drop}
 use Rattle.tag.specs.Tags.{isTag}
+use Rattle.packing.proofs.Laws.OneTag.{words-at}
 use Rattle.packed.specs.TagLists.{writing, firstBad}
-use Rattle.packed.proofs.Laws.OneTag.{words-at}
 use Rattle.packed.proofs.Laws.Ways.{first-start, first-passed, first-found, first-none}
 use borrow.Author.Needs.{needs}
 use Rattle.packed.proofs.writing.first_bad.Statement.{statement}

@@ -8,10 +8,10 @@ use lib.Seq.{sets}
 use Rattle.tag.specs.Tags.{tagOf, isTag, tenDigits}
 use Rattle.tag.proofs.TagLaws.{tag-range}
 use Rattle.tag.proofs.DigitLaws.{last-are-digits}
-use Rattle.packed.specs.Packed.{pairs, packed}
+use Rattle.packing.specs.Packed.{pairs, packed}
+use Rattle.packing.proofs.Laws.Filling.{sets-front}
+use Rattle.packing.proofs.Laws.OneTag.{words-at, length-packed}
 use Rattle.packed.specs.TagLists.{writing, firstBad, turnedAll}
-use Rattle.packed.proofs.Laws.Filling.{sets-front}
-use Rattle.packed.proofs.Laws.OneTag.{words-at, length-packed}
 use Rattle.packed.proofs.Laws.Ways.{length-turned, good-start, good-at, put-start, put-next, put-end}
 use Rattle.packed.proofs.writing.put_bytes.Statement.{statement}
 use Rattle.packed.proofs.writing.put_bytes.Tie as tie
