@@ -75,6 +75,7 @@ use Rattle.refuted.specs.Judged.{
   lane-is-not-the-row,
   other-answer,
   other-table,
+  madeBy,
   byRow,
   byDefinitions,
   afterAllBy,
@@ -673,11 +674,13 @@ pub record Judged : Type 0 where
 unfoldable pub judged : Entry → Judged
 judged e =
     let ws = begunWith (e .S) (e .T) in
+    let rightly = madeBy rightMachine (e .calls) ws in
+    let wrongly = madeBy (e .wrong) (e .calls) ws in
     record {
-      right-by-row = byRow rightMachine (e .calls) 1 ws (emptyRow (e .T));
-      right-by-definitions = byDefinitions rightMachine (e .calls) 1 ws;
-      wrong-by-row = byRow (e .wrong) (e .calls) 1 ws (emptyRow (e .T));
-      wrong-by-definitions = byDefinitions (e .wrong) (e .calls) 1 ws;
+      right-by-row = byRow rightMachine rightly 1 (emptyRow (e .T));
+      right-by-definitions = byDefinitions rightly 1;
+      wrong-by-row = byRow (e .wrong) wrongly 1 (emptyRow (e .T));
+      wrong-by-definitions = byDefinitions wrongly 1;
     }
 
 abbrev pub expected : Entry → Judged
