@@ -63,7 +63,7 @@ use Rattle.refuted.specs.Machines.{
   runOnBy,
   runBy,
   panelBy,
-  afterTicksBy,
+  tablesBy,
 }
 use Rattle.refuted.specs.Wrong.{wholeOn, touchesNothing, heldFromBy, leftwards, toRefusal, isArgument, turned}
 use Rattle.refuted.specs.Judged.{passes, madeBy, byRow, byDefinitions, afterAllBy, goingAlone, freeBelow}
@@ -120,7 +120,7 @@ all-failing (e ∷ es) sized =
 fails-as-said : map failing entries ≡ map expected entries
 unfolding failing madeBy byRow byDefinitions wholeOn touchesNothing heldFromBy leftwards toRefusal isArgument turned
     beginBy tickOnBy inRow ticksBy ticks dispatchToBy dispatchChoosing dispatchBy firstFrom feedDispatched feedIdle
-    feedDispatch dispatchTo dispatchOn dispatch tickBy runOnBy runBy panelBy afterTicksBy feedTick pushAnswered
+    feedDispatch dispatchTo dispatchOn dispatch tickBy runOnBy runBy panelBy tablesBy feedTick pushAnswered
     popAnswered sizeAnswered feedMade feedRun bind plainAnswerOf answerOf ℕ-discrete decLt decLe Value-discrete decode
     stepIn stepOf isStepIn link value task allBelow sameWords nodeOk busyOk recordOk shapeOk heldFrom roots mark markAll
     visit visitFrom marked firstUnmarked allocate writeAll dcas act times startWords start begin effectOf applied tickOn

@@ -4,6 +4,7 @@ use mathlib.Core.Bool.{Bool, true, false, _&&_}
 use mathlib.Core.List.{List, [], _∷_}
 use mathlib.Core.Option.{Option, some, none as nothing}
 use Prim.Native.Nat.{ℕ, zero, suc}
+use lib.ListN.{getD}
 use native.Mathlib.Omega.{arith}
 use borrow.Author.Tests.{eq-eqb}
 use Rattle.machine.specs.declared.Reply.the-variants.{Accepted}
@@ -17,9 +18,10 @@ use Rattle.machine.specs.Answers.{
   payloadOf,
   dispatchKindOf,
   dispatchPayloadOf,
+  answerOf,
 }
 use Rattle.machine.specs.Calls.{Ticked, start, RunDone, run, panel, lane}
-use Rattle.machine.specs.Row.{Row, emptyRow}
+use Rattle.machine.specs.Row.{Row, emptyRow, feedMade, feedRun}
 use Rattle.machine.specs.Demand3.{
   Call,
   start-call,
@@ -42,10 +44,12 @@ use Rattle.machine.specs.Demand3.{
   Within,
   Explained,
 }
+use Rattle.machine.proofs.Basics.Contradiction.{clash}
 use Rattle.machine.proofs.Shape.ShapeLaws.{all-below}
 use Rattle.machine.proofs.Linearizability.Calls.CallsAgree.{same-words-refl}
 use Rattle.machine.proofs.Linearizability.Theorem.{demand3}
-use Rattle.refuted.specs.Machines.{rightMachine, afterTicksBy, givenBy, afterBy}
+use Rattle.machine.proofs.Linearizability.Histories.{bound}
+use Rattle.refuted.specs.Machines.{rightMachine, tablesBy, givenBy, afterBy}
 use Rattle.refuted.specs.Judged.{
   Verdict,
   passes,
@@ -77,14 +81,24 @@ use Rattle.refuted.proofs.Right.{
 same-bags : {l : Option (List ℕ)} {r : Option Row} (ρ : Row) → l ≡ some (ρ .bags) → r ≡ some ρ → sameBags l r ≡ true
 same-bags ρ is-lane is-row = rw (is-lane, is-row) (same-words-refl (ρ .bags))
 
-same-after-ticks : (i : ℕ) (list ws : List ℕ) → afterTicksBy rightMachine i list ws ≡ afterTicks i list ws
-unfolding afterTicksBy afterTicks
-same-after-ticks zero list ws = refl
-same-after-ticks (suc i) [] ws = refl
-same-after-ticks (suc i) (k ∷ []) ws = refl
-same-after-ticks (suc i) (k ∷ h ∷ list) ws =
-    ap (λ one. afterTicksBy rightMachine i list (one .words)) (same-tick-on ws k h)
-    ∙ same-after-ticks i list _
+-- The tables of a list are those after its ticks, as far as the row is fed.
+same-tables : (i : ℕ) (list answers ws : List ℕ) (ρ : Row) {ρ′ : Row}
+    → feedRun ρ i list answers ≡ some ρ′
+    → getD (tablesBy rightMachine list ws) i [] ≡ afterTicks i list ws
+unfolding tablesBy afterTicks feedRun
+same-tables zero [] answers ws ρ e = refl
+same-tables zero (k ∷ []) answers ws ρ e = refl
+same-tables zero (k ∷ h ∷ list) answers ws ρ e = refl
+same-tables (suc i) [] answers ws ρ e = clash (cc)
+same-tables (suc i) (k ∷ []) answers ws ρ e = clash (cc)
+same-tables (suc i) (k ∷ h ∷ list) [] ws ρ e = clash (cc)
+same-tables (suc i) (k ∷ h ∷ list) (kind ∷ []) ws ρ e = clash (cc)
+same-tables (suc i) (k ∷ h ∷ list) (kind ∷ digit ∷ []) ws ρ e = clash (cc)
+same-tables (suc i) (k ∷ h ∷ list) (kind ∷ digit ∷ low ∷ answers) ws ρ e =
+    let told = bound (answerOf kind digit low) _ e in
+    let fed = bound (feedMade ρ k (told .0)) _ (told .2) in
+    ap (λ one. getD (tablesBy rightMachine list (one .words)) i []) (same-tick-on ws k h)
+    ∙ same-tables i list answers _ (fed .0) (fed .2)
 
 within-list : (list ws : List ℕ) (ρ : Row) (r : RunDone)
     → WithinList list ws ρ r
@@ -92,7 +106,7 @@ within-list : (list ws : List ℕ) (ρ : Row) (r : RunDone)
 within-list list ws ρ r W =
     all-below (suc (r .ran .made)) _ (λ i l.
     let w = W i (omega arith) in
-    same-bags (w .0) (ap lane (same-after-ticks i list ws) ∙ w .2) (w .1))
+    same-bags (w .0) (ap lane (same-tables i list (r .answers) ws ρ (w .1)) ∙ w .2) (w .1))
 
 within-ticks : (k h times : ℕ) (ws : List ℕ) (ρ : Row)
     → WithinTicks k h times ws ρ

@@ -31,7 +31,7 @@ use Rattle.machine.specs.Demand3.{
   feedTicks,
   feed,
 }
-use Rattle.refuted.specs.Machines.{Machine, ticksBy, runBy, panelBy, givenBy, afterBy, afterTicksBy}
+use Rattle.refuted.specs.Machines.{Machine, ticksBy, runBy, panelBy, givenBy, afterBy, tablesBy}
 
 -- A call is named by its number in the list, from 1.
 pub data Verdict : Type 0 where
@@ -62,7 +62,8 @@ sameBags (some bags) (some ρ) = sameWords bags (ρ .bags)
 
 abbrev pub sameWithinList : Machine → (list ws : List ℕ) → Row → RunDone → Bool
 sameWithinList M list ws ρ r =
-    allBelow (suc (r .ran .made)) (λ i. sameBags (lane (afterTicksBy M i list ws)) (feedRun ρ i list (r .answers)))
+    let tables = tablesBy M list ws in
+    allBelow (suc (r .ran .made)) (λ i. sameBags (lane (getD tables i [])) (feedRun ρ i list (r .answers)))
 
 abbrev pub sameWithinTicks : Machine → (k hint times : ℕ) → List ℕ → Row → Bool
 sameWithinTicks M k h times ws ρ =

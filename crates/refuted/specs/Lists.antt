@@ -427,14 +427,19 @@ entries =
       row-says = passes;
       definitions-say = other-answer 1;
     }
-    -- 33 ticks of a pop in one list: its four are made, and where the list is to be refused, a fifth is.
+    -- Three pushes of 11 ticks each in one list: 32 ticks are made, and the third push stands before its last.
     ∷ record {
       wrong = panelCutsList;
-      S = 4;
-      T = 1;
-      calls = begins 0 pop right 0 ++ (panel-call (times 33 (0 ∷ 0 ∷ [])) (replicate 99 7) ∷ []);
+      S = 5;
+      T = 3;
+      calls =
+          begins 0 push right 51
+          ++ begins 1 push right 52
+          ++ begins 2 push right 53
+          ++ (panel-call (times 11 (0 ∷ 0 ∷ []) ++ times 11 (1 ∷ 0 ∷ []) ++ times 11 (2 ∷ 0 ∷ [])) (replicate 99 7)
+          ∷ []);
       row-says = passes;
-      definitions-say = other-answer 2;
+      definitions-say = other-answer 4;
     }
     -- A task that is to push 51 is to begin the same push again: 16, and not 8.
     ∷ record {
