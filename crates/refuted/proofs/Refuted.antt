@@ -117,19 +117,18 @@ all-failing (e ∷ es) sized =
     let further = and-right (sizesOk (e .S) (e .T) 0) (allSized es) sized in
     rw (judged-failing e here, all-failing es further)
 
-fails-as-said : map failing entries ≡ map expected entries
-unfolding failing madeBy byRow byDefinitions wholeOn touchesNothing heldFromBy leftwards toRefusal isArgument turned
-    beginBy tickOnBy inRow ticksBy ticks dispatchToBy dispatchChoosing dispatchBy firstFrom feedDispatched feedIdle
-    feedDispatch dispatchTo dispatchOn dispatch tickBy runOnBy runBy panelBy tablesBy feedTick pushAnswered
-    popAnswered sizeAnswered feedMade feedRun bind plainAnswerOf answerOf ℕ-discrete decLt decLe Value-discrete decode
-    stepIn stepOf isStepIn link value task allBelow sameWords nodeOk busyOk recordOk shapeOk heldFrom roots mark markAll
-    visit visitFrom marked firstUnmarked allocate writeAll dcas act times startWords start begin effectOf applied tickOn
-    tick runOn run panel isBegun laneFrom lane readInto read allTagWords
-fails-as-said = refl
-
 pub all-refuted : AllRefuted
-unfolding allSized
-all-refuted = (all-failing entries refl ∙ fails-as-said, refl)
+unfolding failing allSized madeBy byRow byDefinitions wholeOn touchesNothing heldFromBy leftwards toRefusal isArgument
+    turned beginBy tickOnBy inRow ticksBy ticks dispatchToBy dispatchChoosing dispatchBy firstFrom feedDispatched
+    feedIdle feedDispatch dispatchTo dispatchOn dispatch tickBy runOnBy runBy panelBy tablesBy feedTick pushAnswered
+    popAnswered sizeAnswered feedMade feedRun bind plainAnswerOf answerOf ℕ-discrete decLt decLe Value-discrete decode
+    stepIn stepOf isStepIn link value task allBelow sameWords nodeOk busyOk recordOk shapeOk heldFrom roots mark
+    markAll visit visitFrom marked firstUnmarked allocate writeAll dcas act times startWords start begin effectOf
+    applied tickOn tick runOn run panel isBegun laneFrom lane readInto read allTagWords
+all-refuted =
+    let right-passes = all-failing entries refl in
+    let fails-as-said : map failing entries ≡ map expected entries = refl in
+    (right-passes ∙ fails-as-said, refl)
 
 -- ---- What the further theorems exclude.
 
