@@ -25,11 +25,14 @@ use Rattle.refuted.specs.Wrong.{
   emptyWithoutHat,
   emptyWithoutValue,
   popLeavesBag,
+  popWritesBagBack,
   popAnswers51,
+  popAnswersArgument,
   freesHeldNode,
   freesChain,
   freesHatsNode,
   followsLeftAlone,
+  rereadsLinkUnguarded,
   rereadsLink,
   removeWithoutY,
   removeMarksX,
@@ -48,6 +51,7 @@ use Rattle.refuted.specs.Wrong.{
   beginTestsBusyFirst,
   searchesLaneAlone,
   searchesPushesAlone,
+  searchesLeftEndAlone,
   searchesOthersAlone,
   searchesAllArguments,
   refusesAddsToo,
@@ -247,9 +251,25 @@ entries =
       row-says = lane-is-not-the-row 17;
       definitions-say = other-table 17;
     }
-    -- A pop takes 52 and answers 51.
+    ∷ record {
+      wrong = popWritesBagBack;
+      S = 4;
+      T = 1;
+      calls = wholly 11 0 push 51 ++ wholly 4 0 pop 0;
+      row-says = lane-is-not-the-row 17;
+      definitions-say = other-table 17;
+    }
+    -- A pop takes 52 and answers 51, or 0.
     ∷ record {
       wrong = popAnswers51;
+      S = 4;
+      T = 1;
+      calls = wholly 11 0 push 52 ++ wholly 4 0 pop 0;
+      row-says = not-the-row's-answer 17;
+      definitions-say = other-answer 17;
+    }
+    ∷ record {
+      wrong = popAnswersArgument;
       S = 4;
       T = 1;
       calls = wholly 11 0 push 52 ++ wholly 4 0 pop 0;
@@ -301,6 +321,14 @@ entries =
       definitions-say = other-table 30;
     }
     -- Case 5: the hat moves to the lane's next node, not to the spur.
+    ∷ record {
+      wrong = rereadsLinkUnguarded;
+      S = 4;
+      T = 2;
+      calls = hatToSpur;
+      row-says = passes;
+      definitions-say = other-table 28;
+    }
     ∷ record {
       wrong = rereadsLink;
       S = 4;
@@ -474,6 +502,15 @@ entries =
       calls = pushedAgain;
       row-says = passes;
       definitions-say = other-answer 12;
+    }
+    -- Bags 52 and 51 are in the lane, and a task is to push 51.
+    ∷ record {
+      wrong = searchesLeftEndAlone;
+      S = 4;
+      T = 1;
+      calls = wholly 6 0 add 1 ++ wholly 3 0 push 52 ++ wholly 3 0 push 51 ++ begins 0 push right 51;
+      row-says = passes;
+      definitions-say = other-answer 16;
     }
     -- A task is to add 5 nodes, another to push bag 5.
     ∷ record {
