@@ -151,4 +151,4 @@ unfolding afterAllBy beginBy tickOnBy tickBy ℕ-discrete decLt decLe Value-disc
     link value task allBelow sameWords nodeOk busyOk recordOk shapeOk heldFrom roots mark markAll visit visitFrom
     marked firstUnmarked allocate writeAll dcas act times startWords start begin effectOf applied tickOn tick
     isBegun laneFrom lane
-doubles = (refl, refl, refl, refl, refl, refl, refl)
+doubles = (refl, refl, refl, refl, refl, refl, refl, refl, refl)

@@ -136,6 +136,10 @@ pushedAtOnce =
 abbrev pub pushedAgain : List Call
 pushedAgain = wholly 6 0 add 1 ++ wholly 3 0 push 51 ++ wholly 3 0 push 51
 
+-- The same with three nodes, and bag 52 at the left end.
+abbrev pub pushedAgainBehind : List Call
+pushedAgainBehind = wholly 7 0 add 2 ++ wholly 3 0 push 52 ++ wholly 3 0 push 51 ++ wholly 3 0 push 51
+
 -- n dispatches with a hint.
 abbrev pub dispatchesOf : (n hint : ℕ) → List Call
 dispatchesOf n h = replicate n (dispatch-call h)
@@ -503,14 +507,13 @@ entries =
       row-says = passes;
       definitions-say = other-answer 12;
     }
-    -- Bags 52 and 51 are in the lane, and a task is to push 51.
     ∷ record {
       wrong = searchesLeftEndAlone;
-      S = 4;
+      S = 5;
       T = 1;
-      calls = wholly 6 0 add 1 ++ wholly 3 0 push 52 ++ wholly 3 0 push 51 ++ begins 0 push right 51;
+      calls = pushedAgainBehind;
       row-says = passes;
-      definitions-say = other-answer 16;
+      definitions-say = other-answer 17;
     }
     -- A task is to add 5 nodes, another to push bag 5.
     ∷ record {
@@ -746,8 +749,10 @@ abbrev pub Doubles : Type 0
 Doubles =
     (lane (afterAllBy searchesLaneAlone pushedAtOnce (begunWith 4 2)) ≡ some (51 ∷ 51 ∷ []))
     × (lane (afterAllBy searchesPushesAlone pushedAgain (begunWith 4 1)) ≡ some (51 ∷ 51 ∷ []))
+    × (lane (afterAllBy searchesLeftEndAlone pushedAgainBehind (begunWith 5 1)) ≡ some (52 ∷ 51 ∷ 51 ∷ []))
     × (lane (afterAllBy testsWhenAnswering pushedAtOnce (begunWith 4 2)) ≡ some (51 ∷ []))
     × (isBegun (afterAllBy testsWhenAnswering pushedAtOnce (begunWith 4 2)) 2 51 ≡ true)
     × (lane (afterAllBy rightMachine pushedAtOnce (begunWith 4 2)) ≡ some (51 ∷ []))
     × (isBegun (afterAllBy rightMachine pushedAtOnce (begunWith 4 2)) 2 51 ≡ false)
     × (lane (afterAllBy rightMachine pushedAgain (begunWith 4 1)) ≡ some (51 ∷ []))
+    × (lane (afterAllBy rightMachine pushedAgainBehind (begunWith 5 1)) ≡ some (52 ∷ 51 ∷ []))
