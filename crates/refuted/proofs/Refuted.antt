@@ -1,17 +1,24 @@
 -- Every wrong machine is refuted, by computation over the definitions.
-use mathlib.Core.Path.{refl}
+use mathlib.Core.Path.{_≡_, refl, _∙_}
+use mathlib.Core.Bool.{Bool, true, _&&_}
+use mathlib.Core.List.{List, [], _∷_, map}
 use mathlib.Core.Option.{bind}
+use Prim.Native.Nat.{ℕ}
+use lib.ListN.{replicate, length-replicate}
+use borrow.Author.Tests.{eq-eqb}
 use native.Mathlib.Decide.{ℕ-discrete, decLt, decLe}
 use Rattle.tag.specs.Tags.{allTagWords}
+use Rattle.machine.specs.declared.Reply.the-variants.{Accepted}
 use Rattle.machine.specs.Round.{firstFrom}
 use Rattle.machine.specs.Values.{Value-discrete, decode}
 use Rattle.machine.specs.Steps.{stepIn, stepOf, isStepIn}
-use Rattle.machine.specs.Table.{link, value, task}
-use Rattle.machine.specs.Shape.{allBelow, sameWords, nodeOk, busyOk, recordOk, shapeOk}
+use Rattle.machine.specs.Table.{tableLength, link, value, task}
+use Rattle.machine.specs.Shape.{sizesOk, allBelow, sameWords, nodeOk, busyOk, recordOk, shapeOk}
 use Rattle.machine.specs.Allocate.{heldFrom, roots, mark, markAll, visit, visitFrom, marked, firstUnmarked, allocate}
 use Rattle.machine.specs.Lines.{writeAll, dcas, act}
 use Rattle.machine.specs.Answers.{plainAnswerOf, answerOf}
 use Rattle.machine.specs.Row.{
+  emptyRow,
   pushAnswered,
   popAnswered,
   sizeAnswered,
@@ -56,21 +63,74 @@ use Rattle.refuted.specs.Machines.{
   runOnBy,
   runBy,
   panelBy,
-  afterTicksBy,
+  tablesBy,
 }
 use Rattle.refuted.specs.Wrong.{wholeOn, touchesNothing, heldFromBy, leftwards, toRefusal, isArgument, turned}
-use Rattle.refuted.specs.Judged.{byRow, byDefinitions, afterAllBy, goingAlone, freeBelow}
-use Rattle.refuted.specs.Lists.{AllRefuted, judged, Spins, Leaks, Doubles}
+use Rattle.refuted.specs.Judged.{passes, madeBy, byRow, byDefinitions, afterAllBy, goingAlone, freeBelow}
+use Rattle.refuted.specs.Lists.{
+  Entry,
+  entries,
+  begunWith,
+  Judged,
+  judged,
+  expected,
+  AllRefuted,
+  Spins,
+  Leaks,
+  Doubles,
+}
+use Rattle.machine.proofs.Basics.Tests.{and-left, and-right}
+use Rattle.refuted.proofs.RightPasses.{right-passes-row, right-passes-definitions}
+
+-- ---- Of an entry it is computed how its wrong machine fails; the right one passes on every list.
+failing : Entry → Judged
+failing e =
+    let wrongly = madeBy (e .wrong) (e .calls) (begunWith (e .S) (e .T)) in
+    record {
+      right-by-row = passes;
+      right-by-definitions = passes;
+      wrong-by-row = byRow (e .wrong) wrongly 1 (emptyRow (e .T));
+      wrong-by-definitions = byDefinitions wrongly 1;
+    }
+
+accepted : (S T : ℕ) → sizesOk S T 0 ≡ true → start (replicate (tableLength S T) 7) S T 0 .reply ≡ Accepted
+unfolding start
+accepted S T sized = rw (sized, eq-eqb _ _ (length-replicate {A = ℕ} (tableLength S T) 7))
+
+judged-failing : (e : Entry) → sizesOk (e .S) (e .T) 0 ≡ true → judged e ≡ failing e
+unfolding judged failing
+judged-failing e sized =
+    rw (
+      right-passes-row (e .S) (e .T) 0 _ (accepted (e .S) (e .T) sized) (e .calls),
+      right-passes-definitions (e .calls) 1 (begunWith (e .S) (e .T)),
+    )
+
+allSized : List Entry → Bool
+allSized [] = true
+allSized (e ∷ es) = sizesOk (e .S) (e .T) 0 && allSized es
+
+all-failing : (es : List Entry) → allSized es ≡ true → map judged es ≡ map failing es
+unfolding allSized
+all-failing [] sized = refl
+all-failing (e ∷ es) sized =
+    let here = and-left (sizesOk (e .S) (e .T) 0) (allSized es) sized in
+    let further = and-right (sizesOk (e .S) (e .T) 0) (allSized es) sized in
+    rw (judged-failing e here, all-failing es further)
 
 pub all-refuted : AllRefuted
-unfolding judged byRow byDefinitions wholeOn touchesNothing heldFromBy leftwards toRefusal isArgument turned beginBy
-    tickOnBy inRow ticksBy ticks dispatchToBy dispatchChoosing dispatchBy firstFrom feedDispatched feedIdle feedDispatch dispatchTo dispatchOn dispatch
-    tickBy runOnBy runBy panelBy afterTicksBy feedTick pushAnswered popAnswered sizeAnswered feedMade feedRun bind
-    plainAnswerOf answerOf ℕ-discrete decLt decLe Value-discrete decode stepIn stepOf isStepIn link value task
-    allBelow sameWords nodeOk busyOk recordOk shapeOk heldFrom roots mark markAll visit visitFrom marked
-    firstUnmarked allocate writeAll dcas act times startWords start begin effectOf applied tickOn tick runOn run
-    panel isBegun laneFrom lane readInto read allTagWords
-all-refuted = (refl, refl)
+unfolding failing allSized madeBy byRow byDefinitions wholeOn touchesNothing heldFromBy leftwards toRefusal isArgument
+    turned beginBy tickOnBy inRow ticksBy ticks dispatchToBy dispatchChoosing dispatchBy firstFrom feedDispatched
+    feedIdle feedDispatch dispatchTo dispatchOn dispatch tickBy runOnBy runBy panelBy tablesBy feedTick pushAnswered
+    popAnswered sizeAnswered feedMade feedRun bind plainAnswerOf answerOf ℕ-discrete decLt decLe Value-discrete decode
+    stepIn stepOf isStepIn link value task allBelow sameWords nodeOk busyOk recordOk shapeOk heldFrom roots mark
+    markAll visit visitFrom marked firstUnmarked allocate writeAll dcas act times startWords start begin effectOf
+    applied tickOn tick runOn run panel isBegun laneFrom lane readInto read allTagWords
+all-refuted =
+    let right-passes = all-failing entries refl in
+    let fails-as-said : map failing entries ≡ map expected entries = refl in
+    (right-passes ∙ fails-as-said, refl)
+
+-- ---- What the further theorems exclude.
 
 pub spins : Spins
 unfolding goingAlone afterAllBy beginBy tickOnBy tickBy ℕ-discrete decLt decLe Value-discrete decode stepIn stepOf
@@ -91,4 +151,4 @@ unfolding afterAllBy beginBy tickOnBy tickBy ℕ-discrete decLt decLe Value-disc
     link value task allBelow sameWords nodeOk busyOk recordOk shapeOk heldFrom roots mark markAll visit visitFrom
     marked firstUnmarked allocate writeAll dcas act times startWords start begin effectOf applied tickOn tick
     isBegun laneFrom lane
-doubles = (refl, refl, refl, refl, refl, refl, refl)
+doubles = (refl, refl, refl, refl, refl, refl, refl, refl, refl)

@@ -31,7 +31,7 @@ use Rattle.machine.specs.Demand3.{
   feedTicks,
   feed,
 }
-use Rattle.refuted.specs.Machines.{Machine, ticksBy, runBy, panelBy, givenBy, afterBy, afterTicksBy}
+use Rattle.refuted.specs.Machines.{Machine, ticksBy, runBy, panelBy, givenBy, afterBy, tablesBy}
 
 -- A call is named by its number in the list, from 1.
 pub data Verdict : Type 0 where
@@ -41,6 +41,19 @@ pub data Verdict : Type 0 where
   other-answer : (call : ℕ) → Verdict
   other-table : (call : ℕ) → Verdict
 
+-- A call as a machine made it: the table before, what it gave back, and the table as it left it.
+pub record Made : Type 0 where
+  pub call : Call
+  pub before : List ℕ
+  pub gave : Given call
+  pub left : List ℕ
+
+-- Calls that a machine makes one after another. Both judges read one such list, so that its ticks are computed once.
+unfoldable pub madeBy : Machine → List Call → List ℕ → List Made
+madeBy M [] ws = []
+madeBy M (c ∷ cs) ws =
+    record { call = c; before = ws; gave = givenBy M c ws; left = afterBy M c ws } ∷ madeBy M cs (afterBy M c ws)
+
 -- ---- Demand 3, as Demand3.Explained says it.
 abbrev pub sameBags : Option (List ℕ) → Option Row → Bool
 sameBags nothing r = false
@@ -49,7 +62,8 @@ sameBags (some bags) (some ρ) = sameWords bags (ρ .bags)
 
 abbrev pub sameWithinList : Machine → (list ws : List ℕ) → Row → RunDone → Bool
 sameWithinList M list ws ρ r =
-    allBelow (suc (r .ran .made)) (λ i. sameBags (lane (afterTicksBy M i list ws)) (feedRun ρ i list (r .answers)))
+    let tables = tablesBy M list ws in
+    allBelow (suc (r .ran .made)) (λ i. sameBags (lane (getD tables i [])) (feedRun ρ i list (r .answers)))
 
 abbrev pub sameWithinTicks : Machine → (k hint times : ℕ) → List ℕ → Row → Bool
 sameWithinTicks M k h times ws ρ =
@@ -66,14 +80,14 @@ sameWithin M (tick-call k h) ws ρ = true
 sameWithin M (dispatch-call h) ws ρ = true
 sameWithin M (read-call out) ws ρ = true
 
-unfoldable pub byRow : Machine → List Call → (number : ℕ) → List ℕ → Row → Verdict
-byRow M [] n ws ρ = passes
-byRow M (c ∷ cs) n ws ρ =
-    elim (feed ρ c (givenBy M c ws)) as (λ _. Verdict) [
+unfoldable pub byRow : Machine → List Made → (number : ℕ) → Row → Verdict
+byRow M [] n ρ = passes
+byRow M (m ∷ ms) n ρ =
+    elim (feed ρ (m .call) (m .gave)) as (λ _. Verdict) [
       | nothing ↦ not-the-row's-answer n
       | some ρ′ ↦
-          elim (sameWithin M c ws ρ && sameBags (lane (afterBy M c ws)) (some ρ′)) as (λ _. Verdict) [
-            | true ↦ byRow M cs (suc n) (afterBy M c ws) ρ′
+          elim (sameWithin M (m .call) (m .before) ρ && sameBags (lane (m .left)) (some ρ′)) as (λ _. Verdict) [
+            | true ↦ byRow M ms (suc n) ρ′
             | false ↦ lane-is-not-the-row n
           ]
     ]
@@ -105,14 +119,14 @@ sameGiven (run-call list answers) r q = sameRan (r .0) (q .0) && sameWords (r .1
 sameGiven (panel-call list answers) r q = sameRan (r .0) (q .0) && sameWords (r .1) (q .1)
 sameGiven (read-call out) r q = sameReading (r .0) (q .0) && sameWords (r .1) (q .1)
 
-unfoldable pub byDefinitions : Machine → List Call → (number : ℕ) → List ℕ → Verdict
-byDefinitions M [] n ws = passes
-byDefinitions M (c ∷ cs) n ws =
-    elim (sameGiven c (givenBy M c ws) (given c ws)) as (λ _. Verdict) [
+unfoldable pub byDefinitions : List Made → (number : ℕ) → Verdict
+byDefinitions [] n = passes
+byDefinitions (m ∷ ms) n =
+    elim (sameGiven (m .call) (m .gave) (given (m .call) (m .before))) as (λ _. Verdict) [
       | false ↦ other-answer n
       | true ↦
-          elim (sameWords (afterBy M c ws) (after c ws)) as (λ _. Verdict) [
-            | true ↦ byDefinitions M cs (suc n) (afterBy M c ws)
+          elim (sameWords (m .left) (after (m .call) (m .before))) as (λ _. Verdict) [
+            | true ↦ byDefinitions ms (suc n)
             | false ↦ other-table n
           ]
     ]

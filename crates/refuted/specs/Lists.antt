@@ -25,11 +25,14 @@ use Rattle.refuted.specs.Wrong.{
   emptyWithoutHat,
   emptyWithoutValue,
   popLeavesBag,
+  popWritesBagBack,
   popAnswers51,
+  popAnswersArgument,
   freesHeldNode,
   freesChain,
   freesHatsNode,
   followsLeftAlone,
+  rereadsLinkUnguarded,
   rereadsLink,
   removeWithoutY,
   removeMarksX,
@@ -48,6 +51,7 @@ use Rattle.refuted.specs.Wrong.{
   beginTestsBusyFirst,
   searchesLaneAlone,
   searchesPushesAlone,
+  searchesLeftEndAlone,
   searchesOthersAlone,
   searchesAllArguments,
   refusesAddsToo,
@@ -75,6 +79,7 @@ use Rattle.refuted.specs.Judged.{
   lane-is-not-the-row,
   other-answer,
   other-table,
+  madeBy,
   byRow,
   byDefinitions,
   afterAllBy,
@@ -102,20 +107,38 @@ ticks n k h = replicate n (tick-call k h)
 abbrev pub wholly : (n k : ℕ) → Operation → ℕ → List Call
 wholly n k op argument = begins k op right argument ++ ticks n k 0
 
--- Two spare nodes are added and given back.
+-- Two nodes are added and given back.
 abbrev pub addedAndRemoved : List Call
-addedAndRemoved = wholly 7 0 add 2 ++ wholly 14 0 remove 0
+addedAndRemoved = wholly 6 0 add 1 ++ wholly 10 0 remove 0
+
+-- The same, while a push of task 1 stalls at 5 with one of the two, node 3, in B.
+abbrev pub removedFromPush : List Call
+removedFromPush = wholly 6 0 add 1 ++ wholly 2 1 push 51 ++ wholly 10 0 remove 0
+
+-- Case 5: an add makes the lane end at node 2, and the push moves the hat to the spur, node 3.
+abbrev pub hatToSpur : List Call
+hatToSpur = removedFromPush ++ wholly 5 0 add 0 ++ ticks 1 1 0
+
+-- A remove stalls at 64 beside that push; after an add of task 2 the push moves the hat to the node cut off.
+abbrev pub hatToNodeCutOff : List Call
+hatToNodeCutOff =
+    wholly 6 0 add 1 ++ wholly 2 1 push 51 ++ wholly 3 0 remove 0 ++ wholly 5 2 add 0 ++ ticks 1 1 0
 
 -- Of three spare nodes one remove is to leave two, and the other none: it stands at 78 when the first one cuts.
 abbrev pub twoRemoves : List Call
 twoRemoves = wholly 8 0 add 3 ++ wholly 6 1 remove 2 ++ wholly 6 0 remove 0 ++ ticks 1 1 0 ++ ticks 1 0 0
 
--- Two tasks are to push bag 51, both at once; and one task, twice.
+-- Two nodes are added; two tasks are to push bag 51, both at once; and one task, twice.
 abbrev pub pushedAtOnce : List Call
-pushedAtOnce = begins 0 push right 51 ++ begins 1 push right 51 ++ ticks 11 0 0 ++ ticks 11 1 0
+pushedAtOnce =
+    wholly 6 0 add 1 ++ begins 0 push right 51 ++ begins 1 push right 51 ++ ticks 3 0 0 ++ ticks 3 1 0
 
 abbrev pub pushedAgain : List Call
-pushedAgain = wholly 11 0 push 51 ++ wholly 11 0 push 51
+pushedAgain = wholly 6 0 add 1 ++ wholly 3 0 push 51 ++ wholly 3 0 push 51
+
+-- The same with three nodes, and bag 52 at the left end.
+abbrev pub pushedAgainBehind : List Call
+pushedAgainBehind = wholly 7 0 add 2 ++ wholly 3 0 push 52 ++ wholly 3 0 push 51 ++ wholly 3 0 push 51
 
 -- n dispatches with a hint.
 abbrev pub dispatchesOf : (n hint : ℕ) → List Call
@@ -232,7 +255,15 @@ entries =
       row-says = lane-is-not-the-row 17;
       definitions-say = other-table 17;
     }
-    -- A pop takes 52 and answers 51.
+    ∷ record {
+      wrong = popWritesBagBack;
+      S = 4;
+      T = 1;
+      calls = wholly 11 0 push 51 ++ wholly 4 0 pop 0;
+      row-says = lane-is-not-the-row 17;
+      definitions-say = other-table 17;
+    }
+    -- A pop takes 52 and answers 51, or 0.
     ∷ record {
       wrong = popAnswers51;
       S = 4;
@@ -241,24 +272,30 @@ entries =
       row-says = not-the-row's-answer 17;
       definitions-say = other-answer 17;
     }
-    -- A push of task 1 stalls at 5 with node 4 in B; a remove cuts 4 off, an add takes it again as the second node of its
-    -- chain; the stalled push moves the hat past the first one, and the next bag is behind an empty node.
+    ∷ record {
+      wrong = popAnswersArgument;
+      S = 4;
+      T = 1;
+      calls = wholly 11 0 push 52 ++ wholly 4 0 pop 0;
+      row-says = not-the-row's-answer 17;
+      definitions-say = other-answer 17;
+    }
+    -- An add takes node 3, which the stalled push has in B, again as the second node of its chain; the push moves the hat
+    -- past the first one, and the next bag is behind an empty node.
     ∷ record {
       wrong = freesHeldNode;
-      S = 6;
+      S = 5;
       T = 2;
       calls =
-          wholly 7 0 add 2
-          ++ wholly 2 1 push 51
-          ++ wholly 14 0 remove 0
+          removedFromPush
           ++ begins 0 add right 2
-          ++ ticks 1 0 5
           ++ ticks 1 0 4
+          ++ ticks 1 0 3
           ++ ticks 5 0 0
           ++ ticks 1 1 0
           ++ wholly 3 0 push 52;
-      row-says = lane-is-not-the-row 39;
-      definitions-say = other-table 29;
+      row-says = lane-is-not-the-row 34;
+      definitions-say = other-table 24;
     }
     -- An add stalls at 15 with node 2 in D, another add takes it; spliced in twice, it leads to itself.
     ∷ record {
@@ -281,75 +318,56 @@ entries =
     -- Case 5 with the hat on the spur: an add takes the hat's node, and the next bag is there, beside the lane.
     ∷ record {
       wrong = freesHatsNode;
-      S = 6;
+      S = 5;
       T = 2;
-      calls =
-          wholly 7 0 add 2
-          ++ wholly 2 1 push 51
-          ++ wholly 14 0 remove 0
-          ++ wholly 5 0 add 0
-          ++ ticks 1 1 0
-          ++ begins 0 add right 0
-          ++ ticks 5 0 4
-          ++ wholly 3 0 push 52;
-      row-says = lane-is-not-the-row 43;
-      definitions-say = other-table 35;
+      calls = hatToSpur ++ begins 0 add right 0 ++ ticks 5 0 3 ++ wholly 3 0 push 52;
+      row-says = lane-is-not-the-row 38;
+      definitions-say = other-table 30;
     }
     -- Case 5: the hat moves to the lane's next node, not to the spur.
     ∷ record {
-      wrong = rereadsLink;
-      S = 6;
+      wrong = rereadsLinkUnguarded;
+      S = 4;
       T = 2;
-      calls = wholly 7 0 add 2 ++ wholly 2 1 push 51 ++ wholly 14 0 remove 0 ++ wholly 5 0 add 0 ++ ticks 1 1 0;
+      calls = hatToSpur;
       row-says = passes;
-      definitions-say = other-table 33;
+      definitions-say = other-table 28;
     }
-    -- A remove stalls at 64; after an add a stalled push moves the hat to the node cut off, which still has RN, and the next
-    -- bag is pushed there, beside the lane.
+    ∷ record {
+      wrong = rereadsLink;
+      S = 4;
+      T = 2;
+      calls = hatToSpur;
+      row-says = passes;
+      definitions-say = other-table 28;
+    }
+    -- The hat is on the node cut off, which still has RN, and the next bag is pushed there, beside the lane.
     ∷ record {
       wrong = removeWithoutY;
-      S = 6;
+      S = 5;
       T = 3;
-      calls =
-          wholly 7 0 add 2
-          ++ wholly 2 1 push 51
-          ++ wholly 3 0 remove 0
-          ++ wholly 5 2 add 0
-          ++ ticks 1 1 0
-          ++ wholly 3 2 push 52;
-      row-says = lane-is-not-the-row 26;
-      definitions-say = other-table 15;
+      calls = hatToNodeCutOff ++ wholly 3 2 push 52;
+      row-says = lane-is-not-the-row 25;
+      definitions-say = other-table 14;
     }
     -- The same calls: the hat is on a node that looks like the lane's end, a chain is spliced in there, and the next bag is
     -- beside the lane.
     ∷ record {
       wrong = removeMarksX;
-      S = 8;
+      S = 6;
       T = 3;
-      calls =
-          wholly 7 0 add 2
-          ++ wholly 2 1 push 51
-          ++ wholly 3 0 remove 0
-          ++ wholly 5 2 add 0
-          ++ ticks 1 1 0
-          ++ wholly 12 2 push 52;
-      row-says = lane-is-not-the-row 35;
-      definitions-say = other-table 15;
+      calls = hatToNodeCutOff ++ wholly 12 2 push 52;
+      row-says = lane-is-not-the-row 34;
+      definitions-say = other-table 14;
     }
     -- Case 5 to its end: the push at the spur does not come back to the lane.
     ∷ record {
       wrong = trustsHat;
-      S = 6;
+      S = 5;
       T = 2;
-      calls =
-          wholly 7 0 add 2
-          ++ wholly 2 1 push 51
-          ++ wholly 14 0 remove 0
-          ++ wholly 5 0 add 0
-          ++ ticks 1 1 0
-          ++ wholly 19 0 push 52;
+      calls = hatToSpur ++ wholly 19 0 push 52;
       row-says = passes;
-      definitions-say = other-table 37;
+      definitions-say = other-table 32;
     }
     -- An add of 0 takes its one node and says "no".
     ∷ record {
@@ -372,7 +390,7 @@ entries =
     -- A remove is at 78 with node 3 read; another remove marks that node, and the swap fails.
     ∷ record {
       wrong = failedSwapSpins;
-      S = 8;
+      S = 6;
       T = 2;
       calls = twoRemoves;
       row-says = passes;
@@ -381,20 +399,20 @@ entries =
     -- A remove that is done begins again.
     ∷ record {
       wrong = removeCutsAgain;
-      S = 6;
+      S = 4;
       T = 1;
       calls = addedAndRemoved;
       row-says = passes;
-      definitions-say = other-answer 23;
+      definitions-say = other-answer 18;
     }
-    -- The link from node 1 to node 4, which was cut off, is still there.
+    -- The link from node 1 to node 3, which was cut off, is still there.
     ∷ record {
       wrong = removeLeavesLink;
-      S = 6;
+      S = 4;
       T = 1;
       calls = addedAndRemoved;
       row-says = passes;
-      definitions-say = other-table 13;
+      definitions-say = other-table 12;
     }
     -- The second tick of a run has a hint out of range: the run says that it was made, and the tick count that it was not.
     ∷ record {
@@ -405,23 +423,23 @@ entries =
       row-says = passes;
       definitions-say = other-answer 2;
     }
-    -- Ten ticks of a push for nine, and then one for none: it answers.
+    -- Three ticks of a pop for two, and then one for none: it answers.
     ∷ record {
       wrong = makesTickMore;
       S = 4;
       T = 1;
-      calls = begins 0 push right 51 ++ (ticks-call 0 0 9 ∷ ticks-call 0 0 0 ∷ []);
+      calls = begins 0 pop right 0 ++ (ticks-call 0 0 2 ∷ ticks-call 0 0 0 ∷ []);
       row-says = not-the-row's-answer 3;
       definitions-say = other-table 2;
     }
-    -- The push answers at its eleventh tick, and a twelfth is refused: nobody is told of the bag.
+    -- The push answers at its third tick, and a fourth is refused: nobody is told of the bag.
     ∷ record {
       wrong = ticksAfterAnswer;
       S = 4;
       T = 1;
-      calls = begins 0 push right 51 ++ (ticks-call 0 0 12 ∷ []);
-      row-says = lane-is-not-the-row 2;
-      definitions-say = other-answer 2;
+      calls = wholly 5 0 add 0 ++ begins 0 push right 51 ++ (ticks-call 0 0 4 ∷ []);
+      row-says = lane-is-not-the-row 8;
+      definitions-say = other-answer 8;
     }
     -- 66 words, and no room for an answer.
     ∷ record {
@@ -479,7 +497,7 @@ entries =
       T = 2;
       calls = pushedAtOnce;
       row-says = passes;
-      definitions-say = other-answer 2;
+      definitions-say = other-answer 9;
     }
     ∷ record {
       wrong = searchesPushesAlone;
@@ -487,7 +505,15 @@ entries =
       T = 1;
       calls = pushedAgain;
       row-says = passes;
-      definitions-say = other-answer 13;
+      definitions-say = other-answer 12;
+    }
+    ∷ record {
+      wrong = searchesLeftEndAlone;
+      S = 5;
+      T = 1;
+      calls = pushedAgainBehind;
+      row-says = passes;
+      definitions-say = other-answer 17;
     }
     -- A task is to add 5 nodes, another to push bag 5.
     ∷ record {
@@ -514,7 +540,7 @@ entries =
       T = 2;
       calls = pushedAtOnce;
       row-says = passes;
-      definitions-say = other-answer 2;
+      definitions-say = other-answer 9;
     }
     -- A pop has read 0000000051; that bag leaves, and 1000000051 comes to its node. The pop answers the bag that is gone.
     ∷ record {
@@ -673,11 +699,13 @@ pub record Judged : Type 0 where
 unfoldable pub judged : Entry → Judged
 judged e =
     let ws = begunWith (e .S) (e .T) in
+    let rightly = madeBy rightMachine (e .calls) ws in
+    let wrongly = madeBy (e .wrong) (e .calls) ws in
     record {
-      right-by-row = byRow rightMachine (e .calls) 1 ws (emptyRow (e .T));
-      right-by-definitions = byDefinitions rightMachine (e .calls) 1 ws;
-      wrong-by-row = byRow (e .wrong) (e .calls) 1 ws (emptyRow (e .T));
-      wrong-by-definitions = byDefinitions (e .wrong) (e .calls) 1 ws;
+      right-by-row = byRow rightMachine rightly 1 (emptyRow (e .T));
+      right-by-definitions = byDefinitions rightly 1;
+      wrong-by-row = byRow (e .wrong) wrongly 1 (emptyRow (e .T));
+      wrong-by-definitions = byDefinitions wrongly 1;
     }
 
 abbrev pub expected : Entry → Judged
@@ -704,25 +732,27 @@ AllRefuted =
 
 -- ---- What the further theorems exclude, on the same lists.
 
--- A remove alone answers within 4S + 154 of its ticks (2026-08), which are 186 for 8 nodes; the one that spins does not.
+-- A remove alone answers within 4S + 154 of its ticks (2026-08), which are 178 for 6 nodes; the one that spins does not.
 abbrev pub Spins : Type 0
 Spins =
-    (goingAlone failedSwapSpins 186 0 (afterAllBy failedSwapSpins twoRemoves (begunWith 8 2)) ≡ 186)
-    × (goingAlone rightMachine 186 0 (afterAllBy rightMachine twoRemoves (begunWith 8 2)) ≡ 4)
+    (goingAlone failedSwapSpins 178 0 (afterAllBy failedSwapSpins twoRemoves (begunWith 6 2)) ≡ 178)
+    × (goingAlone rightMachine 178 0 (afterAllBy rightMachine twoRemoves (begunWith 6 2)) ≡ 4)
 
 -- With no task in a call and no bag, all nodes but the two sentinels are free; the link that is left holds one more.
 abbrev pub Leaks : Type 0
 Leaks =
-    (freeBelow 6 (marked (afterAllBy removeLeavesLink addedAndRemoved (begunWith 6 1))) ≡ 3)
-    × (freeBelow 6 (marked (afterAllBy rightMachine addedAndRemoved (begunWith 6 1))) ≡ 4)
+    (freeBelow 4 (marked (afterAllBy removeLeavesLink addedAndRemoved (begunWith 4 1))) ≡ 1)
+    × (freeBelow 4 (marked (afterAllBy rightMachine addedAndRemoved (begunWith 4 1))) ≡ 2)
 
 -- No lane has a bag twice (2026-03), and no busy push is of a bag that the lane has.
 abbrev pub Doubles : Type 0
 Doubles =
     (lane (afterAllBy searchesLaneAlone pushedAtOnce (begunWith 4 2)) ≡ some (51 ∷ 51 ∷ []))
     × (lane (afterAllBy searchesPushesAlone pushedAgain (begunWith 4 1)) ≡ some (51 ∷ 51 ∷ []))
+    × (lane (afterAllBy searchesLeftEndAlone pushedAgainBehind (begunWith 5 1)) ≡ some (52 ∷ 51 ∷ 51 ∷ []))
     × (lane (afterAllBy testsWhenAnswering pushedAtOnce (begunWith 4 2)) ≡ some (51 ∷ []))
     × (isBegun (afterAllBy testsWhenAnswering pushedAtOnce (begunWith 4 2)) 2 51 ≡ true)
     × (lane (afterAllBy rightMachine pushedAtOnce (begunWith 4 2)) ≡ some (51 ∷ []))
     × (isBegun (afterAllBy rightMachine pushedAtOnce (begunWith 4 2)) 2 51 ≡ false)
     × (lane (afterAllBy rightMachine pushedAgain (begunWith 4 1)) ≡ some (51 ∷ []))
+    × (lane (afterAllBy rightMachine pushedAgainBehind (begunWith 5 1)) ≡ some (52 ∷ 51 ∷ []))

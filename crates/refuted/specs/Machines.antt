@@ -187,9 +187,8 @@ afterBy M (run-call list answers) ws = runBy M ws list answers .words
 afterBy M (panel-call list answers) ws = panelBy M ws list answers .words
 afterBy M (read-call out) ws = ws
 
--- The table after the first i ticks of a list of pairs.
-unfoldable pub afterTicksBy : Machine → (i : ℕ) → (list ws : List ℕ) → List ℕ
-afterTicksBy M zero list ws = ws
-afterTicksBy M (suc i) [] ws = ws
-afterTicksBy M (suc i) (k ∷ []) ws = ws
-afterTicksBy M (suc i) (k ∷ h ∷ list) ws = afterTicksBy M i list (M .tickOn ws k h .words)
+-- The tables that a list of pairs leads through: before each of its ticks, and after the last.
+unfoldable pub tablesBy : Machine → (list ws : List ℕ) → List (List ℕ)
+tablesBy M [] ws = ws ∷ []
+tablesBy M (k ∷ []) ws = ws ∷ []
+tablesBy M (k ∷ h ∷ list) ws = ws ∷ tablesBy M list (M .tickOn ws k h .words)

@@ -1,7 +1,7 @@
 -- The wrong machines, each under the words of the papers that name it.
 use mathlib.Core.Bool.{Bool, false, not, cond, _&&_, _||_}
 use mathlib.Core.List.{List, [], _∷_, _++_, map}
-use mathlib.Core.Option.{Option, some, none as nothing, Option·map}
+use mathlib.Core.Option.{Option, some, none as nothing}
 use Prim.Native.Nat.{ℕ, zero, suc, _+_, _-_, _*_, _/_, _%_}
 use lib.Dec.{leb, ltb, eqb}
 use lib.ListN.{length, take, drop}
@@ -247,20 +247,37 @@ emptyWithoutValue =
     withLine line48 (λ st s o m t g f.
     through (t .B) t (if m .hat ≟ t .A then answers Empty else next t line39))
 
--- ---- "One that pops the same bag always": the bag stays where it is.
+-- ---- "One that pops the same bag always": nothing is written.
 abbrev pub popLeavesBag : Machine
 popLeavesBag =
     withLine line51 (λ st s o m t g f.
     through (t .B) t
     (dcas (m .hat ≟ t .A) (m .val (t .B) ≟ᵛ t .value) (answers (Bag (bagOf (t .value)))) (next t line39)))
 
--- The same: a bag leaves, and the answer is always 51.
+-- The same: the hat moves, and the bag is written back where it was.
+abbrev pub popWritesBagBack : Machine
+popWritesBagBack =
+    withLine line51 (λ st s o m t g f.
+    through (t .B) t
+    (dcas (m .hat ≟ t .A) (m .val (t .B) ≟ᵛ t .value)
+    (writing (hat≔ (t .B) ∷ val≔ (t .B) (t .value) ∷ []) (answers (Bag (bagOf (t .value)))))
+    (next t line39)))
+
+-- The same: a bag leaves, and the answer is always 51, or the argument of the pop.
 abbrev pub popAnswers51 : Machine
 popAnswers51 =
     withLine line51 (λ st s o m t g f.
     through (t .B) t
     (dcas (m .hat ≟ t .A) (m .val (t .B) ≟ᵛ t .value)
     (writing (hat≔ (t .B) ∷ val≔ (t .B) (N s) ∷ []) (answers (Bag 51)))
+    (next t line39)))
+
+abbrev pub popAnswersArgument : Machine
+popAnswersArgument =
+    withLine line51 (λ st s o m t g f.
+    through (t .B) t
+    (dcas (m .hat ≟ t .A) (m .val (t .B) ≟ᵛ t .value)
+    (writing (hat≔ (t .B) ∷ val≔ (t .B) (N s) ∷ []) (answers (Bag (t .argument))))
     (next t line39)))
 
 -- ---- "Freeing a slot when it leaves the lane while a stalled task holds it", and other takes of a slot to which a chain of
@@ -311,7 +328,16 @@ followsLeftAlone =
     firstUnmarked (nodeCount ws) (markAll (nodeCount ws) unmarked (leftwards ws (nodeCount ws) (roots ws)) .marks)
     (nodeCount ws) hint)
 
--- ---- "Rereading A.R inside the swap of 5, which hides the spur": guarded against none.
+-- ---- "Rereading A.R inside the swap of 5, which hides the spur": after the same tests.
+abbrev pub rereadsLinkUnguarded : Machine
+rereadsLinkUnguarded =
+    withLine line5 (λ st s o m t g f.
+    through (t .A) t (through (t .B) t
+    (dcas (m .hat ≟ t .A) (m .val (t .A) ≟ᵛ N s)
+    (writing (hat≔ (m .out (t .A)) ∷ val≔ (t .A) (bag (t .argument)) ∷ []) (answers Pushed))
+    (next t line8))))
+
+-- Guarded against none.
 abbrev pub rereadsLink : Machine
 rereadsLink =
     withLine line5 (λ st s o m t g f.
@@ -513,15 +539,16 @@ withBegin ticks after7 =
 abbrev pub testsBusy : List ℕ → (k : ℕ) → Option ℕ → Option ℕ
 testsBusy ws k others = unless (isIdle (task ws k .operation)) 8 others
 
--- 16 for a push where a test is met, and then 8.
-abbrev pub refusesWhere : (List ℕ → (k n : ℕ) → Bool) → Machine
+-- 11 where the lane has no end, 16 where its bags meet a test, and then what the tests after it give.
+abbrev pub testsBags : (List ℕ → Bool) → (bags : Option (List ℕ)) → Option ℕ → Option ℕ
+testsBags test nothing others = some 11
+testsBags test (some bags) others = unless (not (test bags)) 16 others
+
+-- The right machine but for the test of 16 that a push's begin makes of the lane's bags.
+abbrev pub refusesWhere : (List ℕ → (k n : ℕ) → (bags : List ℕ) → Bool) → Machine
 refusesWhere seenIn =
     withBegin (rightMachine .tickOn) (λ ws k op n.
-    unless (not (isPush op && seenIn ws k n)) 16 (testsBusy ws k nothing))
-
-abbrev pub standsIn : ℕ → Option (List ℕ) → Bool
-standsIn n nothing = false
-standsIn n (some bags) = isAmong n bags
+    cond (isPush op) (testsBags (seenIn ws k n) (lane ws) (testsBusy ws k nothing)) (testsBusy ws k nothing))
 
 -- 8 is tested before 16.
 abbrev pub beginTestsBusyFirst : Machine
@@ -530,16 +557,24 @@ beginTestsBusyFirst =
 
 -- The lane is searched, and the busy pushes are not.
 abbrev pub searchesLaneAlone : Machine
-searchesLaneAlone = refusesWhere (λ ws k n. standsIn n (lane ws))
+searchesLaneAlone = refusesWhere (λ ws k n bags. isAmong n bags)
 
 -- The busy pushes are searched, and the lane is not.
 abbrev pub searchesPushesAlone : Machine
-searchesPushesAlone = refusesWhere (λ ws k n. isBegun ws (taskCount ws) n)
+searchesPushesAlone = refusesWhere (λ ws k n bags. isBegun ws (taskCount ws) n)
+
+-- Of the lane only the left end is searched.
+abbrev pub isFirst : ℕ → List ℕ → Bool
+isFirst n [] = false
+isFirst n (b ∷ bs) = eqb n b
+
+abbrev pub searchesLeftEndAlone : Machine
+searchesLeftEndAlone = refusesWhere (λ ws k n bags. isFirst n bags || isBegun ws (taskCount ws) n)
 
 -- Only the other tasks' pushes are searched.
 abbrev pub searchesOthersAlone : Machine
 searchesOthersAlone =
-    refusesWhere (λ ws k n. standsIn n (lane ws) || isBegun (setTask k fresh ws) (taskCount ws) n)
+    refusesWhere (λ ws k n bags. isAmong n bags || isBegun (setTask k fresh ws) (taskCount ws) n)
 
 -- The arguments of all busy tasks are searched: of adds and removes too.
 unfoldable pub isArgument : List ℕ → (m n : ℕ) → Bool
@@ -547,7 +582,11 @@ isArgument ws zero n = false
 isArgument ws (suc m) n = isBusy (task ws m .operation) && eqb n (task ws m .argument) || isArgument ws m n
 
 abbrev pub searchesAllArguments : Machine
-searchesAllArguments = refusesWhere (λ ws k n. standsIn n (lane ws) || isArgument ws (taskCount ws) n)
+searchesAllArguments = refusesWhere (λ ws k n bags. isAmong n bags || isArgument ws (taskCount ws) n)
+
+abbrev pub standsIn : ℕ → Option (List ℕ) → Bool
+standsIn n nothing = false
+standsIn n (some bags) = isAmong n bags
 
 -- An add is refused as a push is.
 abbrev pub refusesAddsToo : Machine
@@ -613,8 +652,7 @@ popLeavesDigit =
 -- 16 compares the nine digits below.
 abbrev pub searchesLow : Machine
 searchesLow =
-    refusesWhere (λ ws k n.
-    standsIn (lowOf n) (Option·map (map lowOf) (lane ws)) || isBegun ws (taskCount ws) n)
+    refusesWhere (λ ws k n bags. isAmong (lowOf n) (map lowOf bags) || isBegun ws (taskCount ws) n)
 
 -- ---- "V 0 with a digit of 1 to 9 is a tag": 42 takes it for never used.
 abbrev pub zeroUnused : Value → Value

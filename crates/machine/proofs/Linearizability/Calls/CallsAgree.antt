@@ -105,7 +105,7 @@ pub record Explains (ws : List ℕ) (ρ : Row) (c : Call) : Type 0 where
   pub given-by-row : feed ρ c (given c ws) ≡ some row
   pub agrees : Agrees (after c ws) row
 
-same-words-refl : (l : List ℕ) → sameWords l l ≡ true
+pub same-words-refl : (l : List ℕ) → sameWords l l ≡ true
 unfolding sameWords
 same-words-refl [] = refl
 same-words-refl (x ∷ l) = rw (eq-eqb x x refl) (same-words-refl l)
