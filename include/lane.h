@@ -76,7 +76,7 @@ extern "C" {
  * one also takes a table of format 2, which has 0 where format 3 has the task last dispatched, so that the first
  * dispatch looks from task 1 on. A library of format 2 refuses a table of format 3 with 4, unless that word is 0.
  */
-#define LANE_VERSION "5.1.0"
+#define LANE_VERSION "5.2.0"
 #define LANE_TABLE_FORMAT 3
 
 /* Words of a table of `slots` (2 to 1,024) and `tasks` (1 to 16): 8 for the header, 4 a slot, 12 a task. */

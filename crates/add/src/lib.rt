@@ -8,12 +8,9 @@ use layout::sides;
 use machine::Answer;
 use record::Task;
 ghost use mathlib.Core.Path.{_≡_};
-ghost use mathlib.Core.Logic.{_≢_};
 ghost use Rattle.machine.specs.Steps.{line15, line17, line18, line24, line25};
-ghost use Rattle.machine.specs.Tasks.{none};
 ghost use Rattle.record.specs.Coded.{codedTask, taskMeant};
-ghost use Rattle.layout.specs.Words.{HoldsNode};
-ghost use Rattle.hattrick.specs.Lent.{Ready, Does, DoesAnywhere, lineOf, outcomeOf};
+ghost use Rattle.hattrick.specs.Lent.{Ready, Does, DoesAnywhere, outcomeOf};
 
 // 15: A = hat; 17.
 pub fn line15(hat: u32, t: Task) -> Done

@@ -1,11 +1,11 @@
-// A tick's answer by its numbers: the kind and what comes with it, whether the task goes on or is refused, and the answer
+// A tick's answer by its numbers: the kind and what comes with it, whether the task goes on or is refused and by which number, and the answer
 // that the words of a tick stand for.
 use machine::Answer;
 ghost use mathlib.Core.Path.{_≡_};
 ghost use mathlib.Core.Option.{some};
 ghost use Rattle.machine.specs.declared.Answer.{Answer as Meaning};
-ghost use Rattle.machine.specs.Answers.{kindOf, payloadOf, isGoing, answerOf};
-ghost use Rattle.answers.specs.Refusals.{isRefused};
+ghost use Rattle.machine.specs.Answers.{kindOf, payloadOf, refusalOf, isGoing, answerOf};
+ghost use Rattle.answers.specs.Refusals.{numberOf, isRefused};
 
 // The kind of a refusal, which a run does not write, and that of a dispatch which finds no task busy.
 pub const REFUSED: u32 = 7;
@@ -57,6 +57,22 @@ pub fn is_refusal(a: Answer) -> bool
         Answer::Yes => false,
         Answer::No => false,
         Answer::Refused(_) => true,
+    }
+}
+
+// The number of a refusal; 0 of a tick that was made.
+pub fn refusal_number(a: Answer) -> u32
+    ensures { λ r. ⌜ r ≡ numberOf (refusalOf a) ⌝ }
+{
+    match a {
+        Answer::Going => 0,
+        Answer::Pushed => 0,
+        Answer::Bag(_) => 0,
+        Answer::Empty => 0,
+        Answer::Full => 0,
+        Answer::Yes => 0,
+        Answer::No => 0,
+        Answer::Refused(n) => n,
     }
 }
 

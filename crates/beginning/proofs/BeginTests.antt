@@ -25,7 +25,7 @@ use Rattle.machine.proofs.Words.RecordLaws.{number-of-operation, number-of-side
 use Rattle.machine.specs.Results.{changedOf}
 use Rattle.record.specs.declared.Task as Tasks
 use Rattle.record.specs.Coded.{codedTask}
-use Rattle.shape.specs.Contracts.{numberOf}
+use Rattle.answers.specs.Refusals.{numberOf}
 use Rattle.shape.proofs.Laws.PassedTable.{refused, operation-is, busy-task}
 use Rattle.beginning.proofs.SeenTests.{twice-refused, twice-passed}
 

@@ -19,7 +19,7 @@ use Rattle.machine.proofs.Basics.Choices.{if-yes, by-if}
 use Rattle.machine.proofs.Basics.Contradiction.{clash}
 use Rattle.reading.specs.declared.Walk.the-variants.{Bags, NoEnd}
 use Rattle.reading.specs.Lane.{walkOf}
-use Rattle.shape.specs.Contracts.{numberOf}
+use Rattle.answers.specs.Refusals.{numberOf}
 use Rattle.shape.proofs.Laws.PassedTable.{operation-is}
 
 -- ---- The number of push.

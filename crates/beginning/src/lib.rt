@@ -20,7 +20,7 @@ ghost use Rattle.machine.specs.Steps.{firstStep, stepNumber};
 ghost use Rattle.machine.specs.Table.{taskCount, task};
 ghost use Rattle.machine.specs.Shape.{WellFormed};
 ghost use Rattle.machine.specs.Calls.{lane, isPush, isBegun, seenRefusal, twiceRefusal, begunTask, begin};
-ghost use Rattle.shape.specs.Contracts.{numberOf};
+ghost use Rattle.answers.specs.Refusals.{numberOf};
 ghost use Rattle.record.specs.Coded.{codedTask};
 ghost use Rattle.machine.specs.Results.{changedOf};
 

@@ -34,7 +34,7 @@ use Rattle.machine.specs.Results.{tickedOf, dispatchedOf}
 use Rattle.machine.proofs.Basics.Rounds.{following-below, first-below}
 use Rattle.machine.proofs.Words.TickLaws.{refused-unchanged, refused-kind, made-kind}
 use Rattle.machine.proofs.Shape.ShapeLaws.{well-shaped}
-use Rattle.shape.specs.Contracts.{numberOf}
+use Rattle.answers.specs.Refusals.{numberOf}
 use Rattle.shape.proofs.Laws.PassedTable.{refused, operation-is, busy-task}
 use Rattle.dispatching.specs.Chosen.{taskOr}
 

@@ -12,7 +12,5 @@ pub mod Panel
 pub mod Fair
 -- The slot rule: what is reachable, what is taken.
 pub mod SlotRule
--- Request 2026-06: which registers hold.
-pub mod Registers
 -- Demand 3.
 pub mod Linearizability

@@ -11,7 +11,6 @@ pub mod Shape
 pub mod Reach
 pub mod Allocate
 pub mod Lines
-pub mod LinesUse
 pub mod Answers
 pub mod Calls
 pub mod Results
@@ -22,4 +21,3 @@ pub mod Demand3
 pub mod Begun
 pub mod Fair
 pub mod Twice
-pub mod Unseen

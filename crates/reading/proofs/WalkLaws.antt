@@ -33,7 +33,7 @@ use Rattle.layout.specs.Words.{HoldsNode, linkIn, storedIn}
 use Rattle.reading.specs.declared.Walk.{Walk}
 use Rattle.reading.specs.declared.Walk.the-variants.{Bags, NoEnd}
 use Rattle.reading.specs.Lane.{laneIn, walkOf, countOf, laid, NodeOrNone, Walkable}
-use Rattle.shape.specs.Contracts.{numberOf}
+use Rattle.answers.specs.Refusals.{numberOf}
 use Rattle.shape.proofs.Laws.PassedTable.{refused, passed}
 use Rattle.layout.proofs.Laws.Fronts.{front-grows, rest-stays}
 use Rattle.values.proofs.Laws.ValueWords.{bag-words}

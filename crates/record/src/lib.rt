@@ -2,7 +2,7 @@
 // definitions of tasks say where in a record a word stands.
 use machine::Stored;
 ghost use mathlib.Core.Path.{_≡_};
-ghost use Prim.Native.Nat.{_+_, _≤_, _<_};
+ghost use Prim.Native.Nat.{_<_};
 ghost use lib.ListN.{length};
 ghost use Rattle.machine.specs.Tasks.{fresh, recordLength, wordsOf};
 ghost use Rattle.machine.specs.Shape.{sameWords};

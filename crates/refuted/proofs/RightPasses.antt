@@ -46,7 +46,7 @@ use Rattle.machine.specs.Demand3.{
 }
 use Rattle.machine.proofs.Basics.Contradiction.{clash}
 use Rattle.machine.proofs.Shape.ShapeLaws.{all-below}
-use Rattle.machine.proofs.Linearizability.Calls.CallsAgree.{same-words-refl}
+use Rattle.machine.proofs.Words.RecordLaws.{same-words-refl}
 use Rattle.machine.proofs.Linearizability.Theorem.{demand3}
 use Rattle.machine.proofs.Linearizability.Histories.{bound}
 use Rattle.refuted.specs.Machines.{rightMachine, tablesBy, givenBy, afterBy}

@@ -23,7 +23,7 @@ use Rattle.machine.specs.Calls.{
   panel,
 }
 use Rattle.machine.proofs.Basics.Tests.{and-left, and-right}
-use Rattle.shape.specs.Contracts.{numberOf}
+use Rattle.answers.specs.Refusals.{numberOf}
 use Rattle.shape.proofs.Laws.PassedTable.{refused}
 use Rattle.ticking.specs.Runs.{MayTake}
 

@@ -7,7 +7,7 @@ ghost use mathlib.Core.Path.{_≡_};
 ghost use mathlib.Core.Option.{none as nothing};
 ghost use Rattle.machine.specs.Calls.{listRefusal, roomRefusal, tested, run, panel};
 ghost use Rattle.machine.specs.Results.{runDoneOf};
-ghost use Rattle.shape.specs.Contracts.{numberOf};
+ghost use Rattle.answers.specs.Refusals.{numberOf};
 ghost use Rattle.ticking.specs.Runs.{MayTake};
 
 // The tests that a run and the panel's list begin with: 3 and 4, and 13; 0 where all are passed.

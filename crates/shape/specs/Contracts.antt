@@ -1,7 +1,6 @@
 -- Names for the contracts of this crate.
 use mathlib.Core.Bool.{Bool, _&&_}
 use mathlib.Core.List.{List}
-use mathlib.Core.Option.{Option, some, none as nothing}
 use Prim.Native.Nat.{ℕ}
 use Rattle.machine.specs.Table.{nodeCount, growth, recordWords}
 use Rattle.machine.specs.Sides.{left, right}
@@ -16,8 +15,3 @@ firstOk S ns = nodeOrNone S (linkIn ns left 0) && nodeOrNone S (linkIn ns right 
 -- The test of task k's record in a table.
 abbrev pub taskOk : List ℕ → ℕ → Bool
 taskOk ws k = recordOk (nodeCount ws) (growth ws) (recordWords ws k)
-
--- The number of a refusal; 0, which is none of 01's, where a call is not refused.
-abbrev pub numberOf : Option ℕ → ℕ
-numberOf nothing = 0
-numberOf (some n) = n

@@ -32,7 +32,8 @@ ghost use Rattle.machine.specs.Shape.{
 };
 ghost use Rattle.machine.specs.Calls.{tableRefusal};
 ghost use Rattle.layout.specs.Words.{HoldsRecord};
-ghost use Rattle.shape.specs.Contracts.{firstOk, taskOk, numberOf};
+ghost use Rattle.answers.specs.Refusals.{numberOf};
+ghost use Rattle.shape.specs.Contracts.{firstOk, taskOk};
 ghost use Rattle.steps.specs.Owners.{OwnersOk};
 
 // 01: S slots (2 to 1,024), T tasks (1 to 16), growth (0 to 64).

@@ -6,11 +6,18 @@ use Prim.Native.Nat.{ℕ, zero, suc, _+_, _*_, _-_, _/_, _%_, _^_, _≤_, _<_}
 use native.Mathlib.Nat.{div-lt-iff-lt-mul, pow-suc, zero-add}
 use native.Mathlib.Omega.{arith}
 use lib.Dec.{leb}
-use lib.ListN.{length, length-append, drop, set, length-set}
+use lib.ListN.{length, length-append, getD, drop, set, length-set}
 use lib.Seq.{drop-cons, drop-set-lt, getD-set-same, append-snoc}
 use borrow.Author.Tests.{leb-true, le-leb}
 use Rattle.tag.specs.Tags.{largestTag, lastDigits, tenDigits, numberFrom, numberOf, areDigits}
 use Rattle.tag.proofs.TagLaws.{clash, both-true}
+
+-- Past the end a list reads as 0, a digit too.
+pub digit-at : (digits : List ℕ) (i : ℕ) → areDigits digits ≡ true → getD digits i 0 ≤ 9
+unfolding areDigits
+digit-at [] i h = omega arith
+digit-at (d ∷ ds) zero h = leb-true d 9 (both-true (leb d 9) (areDigits ds) h .0)
+digit-at (d ∷ ds) (suc i) h = digit-at ds i (both-true (leb d 9) (areDigits ds) h .1)
 
 -- ---- Digits stored from the last to the first.
 

@@ -1,2 +1,3 @@
 pub mod TagLaws
 pub mod DigitLaws
+pub mod Stores

@@ -5,6 +5,7 @@ use answers::REFUSED;
 use answers::answer_of;
 use answers::kind;
 use answers::payload;
+use answers::refusal_number;
 use machine::Answer;
 use machine::Ran;
 use stepping::tick_once;
@@ -13,31 +14,14 @@ ghost use Prim.Native.Nat.{_+_, _≤_};
 ghost use lib.ListN.{length};
 ghost use lib.Seq.{sets};
 ghost use Rattle.tag.specs.Tags.{largestTag};
-ghost use Rattle.machine.specs.Answers.{payloadOf, refusalOf, answerLength, answerWords};
+ghost use Rattle.machine.specs.Answers.{payloadOf, answerLength, answerWords};
 ghost use Rattle.machine.specs.Shape.{WellFormed};
 ghost use Rattle.machine.specs.Calls.{tickOn, runOn};
 ghost use Rattle.machine.specs.Results.{tickedOf, runDoneOf};
-ghost use Rattle.shape.specs.Contracts.{numberOf};
 ghost use Rattle.ticking.specs.Runs.{MayRun};
 
 // The words that a run writes for a tick.
 pub const ANSWER_WORDS: usize = 3;
-
-// The number of a refusal; 0 of a tick that was made.
-fn refusal_number(a: Answer) -> u32
-    ensures { λ r. ⌜ r ≡ numberOf (refusalOf a) ⌝ }
-{
-    match a {
-        Answer::Going => 0,
-        Answer::Pushed => 0,
-        Answer::Bag(_) => 0,
-        Answer::Empty => 0,
-        Answer::Full => 0,
-        Answer::Yes => 0,
-        Answer::No => 0,
-        Answer::Refused(n) => n,
-    }
-}
 
 // 02: three words a tick: the kind, and the tag, digit first.
 fn put_answer(answers: &mut [u32], at: usize, a: Answer)

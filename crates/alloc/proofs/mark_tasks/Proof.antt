@@ -1,5 +1,5 @@
 -- Marking what the tasks from k on hold gives what marking all that the tasks hold gives at the start.
-use mathlib.Core.Path.{_≡_, refl}
+use mathlib.Core.Path.{_≡_}
 use Prim.Native.Nat.{_-_, _≤_}
 use native.Mathlib.Omega.{arith}
 use native.Mathlib.Nat.{sub-zero}

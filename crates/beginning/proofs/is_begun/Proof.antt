@@ -2,7 +2,6 @@
 use mathlib.Core.Path.{_≡_, refl, sym, _∙_}
 use Prim.Native.Nat.{_≤_}
 use native.Mathlib.Omega.{arith}
-use Rattle.machine.specs.Values.{number}
 use Rattle.machine.specs.Table.{taskCount}
 use Rattle.machine.specs.Calls.{isBegun}
 use Rattle.shape.proofs.Laws.TableWords.{header-long}

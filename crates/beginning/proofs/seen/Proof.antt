@@ -2,7 +2,6 @@
 use mathlib.Core.Path.{_≡_, sym, ap, _∙_}
 use mathlib.Core.Bool.{Bool}
 use borrow.Author.Needs.{needs}
-use Rattle.machine.specs.Values.{number}
 use Rattle.machine.specs.Calls.{lane}
 use Rattle.reading.specs.declared.Walk.the-variants.{Bags}
 use Rattle.reading.specs.Lane.{walkOf}

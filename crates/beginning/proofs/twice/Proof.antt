@@ -4,7 +4,7 @@ use mathlib.Core.Option.{none as nothing}
 use borrow.Author.Needs.{needs}
 use Rattle.machine.specs.Values.{number}
 use Rattle.machine.specs.Calls.{lane, seenRefusal}
-use Rattle.shape.specs.Contracts.{numberOf}
+use Rattle.answers.specs.Refusals.{numberOf}
 use Rattle.beginning.proofs.SeenTests.{twice-other, twice-push}
 use Rattle.beginning.proofs.twice.Statement.{statement}
 use Rattle.beginning.proofs.twice.Tie as tie

@@ -16,7 +16,7 @@ use Rattle.machine.specs.Table.{nodeCount, hat, link, value}
 use Rattle.machine.specs.Calls.{tableRefusal, laneFrom, lane, ReadDone, readInto, read}
 use Rattle.machine.specs.Results.{readOf}
 use Rattle.machine.proofs.Basics.Choices.{by-if}
-use Rattle.shape.specs.Contracts.{numberOf}
+use Rattle.answers.specs.Refusals.{numberOf}
 use Rattle.shape.proofs.Laws.PassedTable.{passed, few-nodes}
 use Rattle.printer.specs.Lines.{laneText}
 use Rattle.printer.specs.Outcomes.{readingText, readingCount}

@@ -7,7 +7,7 @@ use Prim.Native.Nat.{ℕ, _≤_}
 use lib.Dec.{leb, eqb}
 use native.Mathlib.Omega.{arith}
 use native.Mathlib.Decide.{ℕ-discrete}
-use borrow.Author.Tests.{leb-true, eqb-true}
+use borrow.Author.Tests.{leb-true, eqb-true, eq-eqb}
 use Rattle.machine.specs.declared.Stored.{Stored}
 use Rattle.machine.specs.Choice.{_≟_, if_then_else_}
 use Rattle.machine.specs.Sides.{Side, left, right, opposite, sideNumber, sideOf}
@@ -137,6 +137,11 @@ same-words (x ∷ xs) (y ∷ ys) h =
     let a = eqb-true x y (and-left (eqb x y) (sameWords xs ys) h) in
     let b = same-words xs ys (and-right (eqb x y) (sameWords xs ys) h) in
     rw (a, b)
+
+pub same-words-refl : (l : List ℕ) → sameWords l l ≡ true
+unfolding sameWords
+same-words-refl [] = refl
+same-words-refl (x ∷ l) = rw (eq-eqb x x refl) (same-words-refl l)
 
 -- What is read at any step is as V may be.
 pub read-value-ok : (s : Side) (step : ℕ) (u : Stored) → valueReadOk s step u ≡ true → valueOk u ≡ true

@@ -9,7 +9,7 @@ use lib.ListN.{length, take, drop, length-append}
 use lib.Seq.{sets, drop-drop}
 use borrow.Author.Tests.{not-true, not-false}
 use Rattle.tag.proofs.TagLaws.{clash}
-use Rattle.packing.proofs.Laws.Filling.{sets-append}
+use Rattle.tag.proofs.Stores.{sets-append}
 use Rattle.packed.specs.TagLists.{Way, firstBad, turnedAll}
 
 -- All tags are good: so are the first and all those after it.

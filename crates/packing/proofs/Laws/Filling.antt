@@ -1,10 +1,10 @@
 -- Lists filled element by element: an array that is made, and a slice that is stored into.
 use mathlib.Core.Path.{_≡_, sym, _∙_}
-use mathlib.Core.List.{List, [], _∷_, _++_}
+use mathlib.Core.List.{List, _++_}
 use Prim.Native.Nat.{ℕ, suc, _+_, _≤_, _<_}
 use native.Mathlib.Omega.{arith}
-use lib.ListN.{length, getD, set, take, drop, length-drop, drop-of-length-le}
-use lib.Seq.{sets, sets-eq, length-take-le, getD-take, getD-drop, take-all, take-suc, take-suc-set, drop-cons}
+use lib.ListN.{length, getD, set, take, drop, length-drop}
+use lib.Seq.{sets, sets-eq, length-take-le, getD-take, getD-drop, take-all, take-suc, take-suc-set}
 
 -- ---- An array, made from its first element on.
 
@@ -22,25 +22,6 @@ length-part l at n h = length-take-le n (drop at l) (simp length-drop (omega ari
 
 pub part-at : (l : List ℕ) (at n i : ℕ) → i < n → getD l (at + i) 0 ≡ getD (take n (drop at l)) i 0
 part-at l at n i h = rw (getD-take n (drop at l) i 0 h, getD-drop at l i 0)
-
--- ---- Stores one after another.
-
-pub sets-append : (xs ys l : List ℕ) (i : ℕ) → sets (sets l i xs) (i + length xs) ys ≡ sets l i (xs ++ ys)
-sets-append [] ys l i =
-    let e : i + 0 ≡ i = omega arith in
-    rw e
-sets-append (x ∷ xs) ys l i =
-    let e : i + suc (length xs) ≡ suc i + length xs = omega arith in
-    rw e (sets-append xs ys (set l i x) (suc i))
-
-pub sets-next : (l xs : List ℕ) (at i : ℕ) → i < length xs
-    → sets (set l (at + i) (getD xs i 0)) (at + suc i) (drop (suc i) xs) ≡ sets l (at + i) (drop i xs)
-sets-next l xs at i h =
-    let e : at + suc i ≡ suc (at + i) = omega arith in
-    rw (e, drop-cons xs i 0 h)
-
-pub sets-end : (l xs : List ℕ) (at i : ℕ) → length xs ≤ i → sets l at (drop i xs) ≡ l
-sets-end l xs at i h = rw (drop-of-length-le xs {i = i} h)
 
 -- Stores from the first element on.
 pub sets-front : (l xs : List ℕ) (n : ℕ) → length xs ≡ n → n ≤ length l → sets l 0 xs ≡ xs ++ drop n l

@@ -8,7 +8,7 @@ use lib.ListN.{length, getD, drop, drop-of-length-le}
 use lib.Seq.{drop-cons, append-snoc}
 use Rattle.tag.specs.Tags.{billion, largestTag, digitOf, lowOf, lastDigits, tenDigits, numberFrom, numberOf, areDigits}
 use Rattle.tag.proofs.TagLaws.{digit-of-tag, low-of-tag}
-use Rattle.packing.proofs.Laws.Digits.{digit-at}
+use Rattle.tag.proofs.DigitLaws.{digit-at}
 use Rattle.packing.proofs.Laws.Twofold.{twofold}
 
 -- ---- The words of ten digits.

@@ -6,7 +6,7 @@ use native.Mathlib.Omega.{arith}
 use lib.ListN.{length, length-set, getD, take}
 use Rattle.packing.specs.Packed.{pairs}
 use Rattle.packing.proofs.Laws.Filling.{filled-next, filled-end}
-use Rattle.packing.proofs.Laws.Digits.{digit-at}
+use Rattle.tag.proofs.DigitLaws.{digit-at}
 use Rattle.packing.proofs.Laws.Halves.{length-pairs, pair-at}
 use Rattle.packing.proofs.pack.Statement.{statement}
 use Rattle.packing.proofs.pack.Tie as tie

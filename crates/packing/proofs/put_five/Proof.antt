@@ -8,7 +8,7 @@ use lib.ListN.{length, length-set, drop}
 use lib.Seq.{sets}
 use borrow.Kind.Array.{eInt, good-length}
 use mir.Syntax.{w8}
-use Rattle.packing.proofs.Laws.Filling.{sets-next, sets-end}
+use Rattle.tag.proofs.Stores.{sets-next, sets-end}
 use Rattle.packing.proofs.put_five.Statement.{statement}
 use Rattle.packing.proofs.put_five.Tie as tie
 

@@ -21,7 +21,6 @@ use Rattle.reading.proofs.WalkLaws.{
   fewer-ahead,
   write-at-bag,
 }
-use borrow.Author.Needs.{needs}
 use Rattle.reading.proofs.copy.Statement.{statement}
 use Rattle.reading.proofs.copy.Tie as tie
 

@@ -7,7 +7,6 @@ use native.Mathlib.Decide.{ℕ-discrete}
 use lib.ListN.{length}
 use borrow.Author.Needs.{needs}
 use Rattle.machine.specs.Sides.{left, right}
-use Rattle.machine.specs.Values.{number}
 use Rattle.machine.specs.Table.{nodeAt, nodeCount, hat}
 use Rattle.machine.proofs.Shape.ShapeLaws.{well-sized}
 use Rattle.layout.specs.Words.{linkIn}

@@ -1,17 +1,14 @@
 -- A record's words, in its struct and as a lent part of the table, and the test that they are fresh.
 use mathlib.Core.Path.{_≡_, refl, sym, ap, _∙_, subst}
 use mathlib.Core.Bool.{Bool, _&&_, and-true, and-assoc}
-use mathlib.Core.List.{List, [], _∷_, _++_, append-assoc}
-use Prim.Native.Nat.{ℕ, zero, suc, _+_, _-_, _≤_}
+use mathlib.Core.List.{List, [], _∷_}
+use Prim.Native.Nat.{ℕ, zero, suc, _+_, _-_}
 use native.Mathlib.Omega.{arith}
 use lib.Dec.{eqb}
-use lib.ListN.{length, getD, set, take, drop, drop-of-length-le}
-use lib.Seq.{sets, sets-eq, drop-cons, drop-drop}
-use borrow.Rule.Slice.PartMut.{midOf, postOf, putMid}
+use lib.ListN.{length, getD, set, drop, drop-of-length-le}
+use lib.Seq.{drop-cons}
 use Rattle.machine.specs.Tasks.{fresh, none, recordLength, wordsOf}
-use Rattle.machine.specs.Table.{recordFrom}
 use Rattle.machine.specs.Shape.{sameWords}
-use Rattle.machine.proofs.Words.Stretches.{record-long}
 use Rattle.record.specs.Coded.{structOf, recordOf, SameCall}
 use Rattle.record.specs.declared.Task as Tasks
 

@@ -7,7 +7,7 @@ use native.Mathlib.Nat.{add-assoc}
 use native.Mathlib.Omega.{arith}
 use lib.ListN.{length, getD, take, drop, length-drop}
 use lib.Seq.{getD-drop, drop-drop, take-all}
-use Rattle.machine.specs.Sides.{Side, left, right, sideNumber}
+use Rattle.machine.specs.Sides.{Side, left, right}
 use Rattle.machine.specs.Tasks.{none}
 use Rattle.machine.specs.Table.{nodeLength, nodeAt, nodeCount, valueAt, linkWord, valueWords, linksLength}
 use Rattle.machine.specs.Values.{valueOk}

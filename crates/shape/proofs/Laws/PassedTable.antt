@@ -15,7 +15,7 @@ use Rattle.machine.specs.Calls.{unless, tableRefusal, isBusy}
 use Rattle.machine.proofs.Basics.Choices.{if-yes, by-if}
 use Rattle.machine.proofs.Words.Columns.{sizesOf}
 use Rattle.machine.proofs.Shape.ShapeLaws.{WellSized, well-sized}
-use Rattle.shape.specs.Contracts.{numberOf}
+use Rattle.answers.specs.Refusals.{numberOf}
 
 -- The first two tests decide alone where one of them fails, and leave the rest to the others where both pass.
 decided :

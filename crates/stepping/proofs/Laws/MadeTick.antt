@@ -12,7 +12,7 @@ use lib.Dec.{eqb}
 use borrow.Author.Tests.{ne-eqb}
 use borrow.Rule.Slice.PartMut.{midOf, putMid, same-len-mid}
 use Rattle.machine.specs.declared.Answer.{Answer}
-use Rattle.machine.specs.declared.Answer.the-variants.{Going, Pushed, Bag, Empty, Full, Yes, No, Refused}
+use Rattle.machine.specs.declared.Answer.the-variants.{Going}
 use Rattle.machine.specs.Sides.{Side, left, right, sideNumber, sideOf}
 use Rattle.machine.specs.Values.{number}
 use Rattle.machine.specs.Operations.{operationOf, argumentOk, goalOf}
@@ -36,7 +36,6 @@ use Rattle.machine.specs.Lines.{Effect, writeAll}
 use Rattle.machine.specs.Answers.{refusalOf, isGoing}
 use Rattle.machine.specs.Calls.{effectOf, applied, tickCounted}
 use Rattle.machine.specs.Results.{tickedOf}
-use Rattle.machine.proofs.Basics.Contradiction.{clash}
 use Rattle.machine.proofs.Words.Columns.{sizesOf, columns}
 use Rattle.machine.proofs.Words.EffectLaws.{effectWords}
 use Rattle.machine.proofs.Words.TickLaws.{fit-effect}

@@ -16,7 +16,7 @@ use Rattle.machine.specs.Calls.{isBusy, tableRefusal, Ticked, tickOn, tick, tic
 use Rattle.machine.specs.Answers.{isGoing}
 use Rattle.machine.specs.Results.{tickedOf}
 use Rattle.machine.proofs.Words.RunLaws.{first-is-last}
-use Rattle.shape.specs.Contracts.{numberOf}
+use Rattle.answers.specs.Refusals.{numberOf}
 use Rattle.stepping.specs.Steps.{made}
 use Rattle.shape.proofs.Laws.PassedTable.{refused, passed, operation-is, busy-task}
 

@@ -1,6 +1,5 @@
 -- The words that a tick in code leaves are the definition's.
 use mathlib.Core.Path.{_≡_, refl, sym, ap, _∙_}
-use mathlib.Core.Bool.{true}
 use mathlib.Core.List.{List, []}
 use Prim.Native.Nat.{ℕ, _*_, _≤_, _<_}
 use native.Mathlib.Omega.{arith}
@@ -14,7 +13,7 @@ use Rattle.machine.specs.Table.{headerLength, nodeLength, nodeCount, taskCount,
 use Rattle.machine.specs.Allocate.{allocate}
 use Rattle.machine.specs.Lines.{Memory, Effect, seen, writeAll, act}
 use Rattle.machine.specs.Answers.{refusalOf}
-use Rattle.machine.specs.Calls.{isBusy, effectOf, applied}
+use Rattle.machine.specs.Calls.{effectOf, applied}
 use Rattle.machine.specs.Results.{tickedOf}
 use Rattle.machine.proofs.Basics.Contradiction.{clash}
 use Rattle.machine.proofs.Words.Columns.{sizesOf, columns}
@@ -23,7 +22,7 @@ use Rattle.machine.proofs.Shape.ShapeLaws.{WellSized, WellShaped}
 use Rattle.machine.proofs.Shape.Fits.{answer-made, Fits, turns-back, goes-on, ends}
 use Rattle.record.specs.declared.Task as Tasks
 use Rattle.record.specs.Coded.{structOf, taskMeant}
-use Rattle.hattrick.specs.Lent.{memoryIn, writesIn, hatAfter, effectIn, lineOf}
+use Rattle.hattrick.specs.Lent.{writesIn, hatAfter, effectIn, lineOf}
 use Rattle.layout.proofs.Laws.Views.{nodesOf, nodes-long}
 use Rattle.stepping.proofs.Laws.Seen.{seen-in}
 use Rattle.storing.proofs.Laws.Laid.{lay, writes-laid, laid-itself, set-before-part}

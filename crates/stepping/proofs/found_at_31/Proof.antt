@@ -1,5 +1,4 @@
 -- `stepping::found_at_31` meets its contract: D decides whether there is a search.
-use mathlib.Core.Path.{_∙_}
 use Rattle.machine.proofs.Basics.Choices.{equal, unequal}
 use borrow.Author.Needs.{needs}
 use Rattle.stepping.proofs.found_at_31.Statement.{statement}

@@ -10,7 +10,7 @@ use Rattle.machine.specs.declared.Answer.{Answer}
 use Rattle.machine.specs.declared.Answer.the-variants.{Refused}
 use Rattle.machine.specs.declared.Ran.{Ran}
 use Rattle.machine.specs.Answers.{refusalOf, answerOf}
-use Rattle.machine.specs.Calls.{tickRefusal, Ticked, tickOn, RunDone, runOn}
+use Rattle.machine.specs.Calls.{tickRefusal, tickOn, RunDone, runOn}
 use Rattle.machine.specs.Results.{tickedOf, runDoneOf}
 use Rattle.machine.specs.Shape.{WellFormed}
 use Rattle.machine.proofs.Basics.Contradiction.{clash}

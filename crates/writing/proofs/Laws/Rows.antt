@@ -1,16 +1,12 @@
 -- A tag and a row of tags, written byte by byte and tag after tag.
 use mathlib.Core.Path.{_≡_, refl, sym, ap, _∙_}
-use mathlib.Core.Bool.{true}
 use mathlib.Core.List.{List, [], _∷_, _++_, map, append-nil, append-assoc}
 use Prim.Native.Nat.{ℕ, zero, suc, _+_, _*_, _≤_, _<_}
 use native.Mathlib.Omega.{arith}
-use lib.Dec.{leb}
 use lib.ListN.{length, getD, drop, length-map}
 use lib.Seq.{getD-drop}
-use borrow.Author.Tests.{leb-true}
-use Rattle.tag.specs.Tags.{tagOf, tenDigits, areDigits, tagsIn}
-use Rattle.tag.proofs.TagLaws.{both-true}
-use Rattle.tag.proofs.DigitLaws.{length-last, last-are-digits}
+use Rattle.tag.specs.Tags.{tagOf, tenDigits, tagsIn}
+use Rattle.tag.proofs.DigitLaws.{length-last, last-are-digits, digit-at}
 use Rattle.reader.specs.Text.{bytes}
 use Rattle.writing.specs.Numerals.{tagText, spaced}
 use Rattle.writing.specs.Writing.{Written}
@@ -19,12 +15,6 @@ use Rattle.writing.proofs.Laws.WritingLaws.{written-append}
 -- ---- The bytes of a tag.
 pub tag-length : (tag : ℕ) → length (tagText tag) ≡ 10
 tag-length tag = simp length-map (length-last 10 tag)
-
-digit-at : (digits : List ℕ) (i : ℕ) → areDigits digits ≡ true → getD digits i 0 ≤ 9
-unfolding areDigits
-digit-at [] i h = omega arith
-digit-at (d ∷ ds) zero h = leb-true d 9 (both-true (leb d 9) (areDigits ds) h .0)
-digit-at (d ∷ ds) (suc i) h = digit-at ds i (both-true (leb d 9) (areDigits ds) h .1)
 
 text-at : (digits : List ℕ) (i : ℕ) → i < length digits
     → 48 + getD digits i 0 ≡ getD (map (λ (d : ℕ). 48 + d) digits) i 0

@@ -5,7 +5,8 @@ use native.Mathlib.Numerals.{add-one}
 use native.Mathlib.Omega.{arith}
 use lib.ListN.{length, drop, length-set}
 use lib.Seq.{sets}
-use Rattle.writing.proofs.Laws.WritingLaws.{sets-from-zero, sets-next, sets-none}
+use Rattle.tag.proofs.Stores.{sets-next, sets-end}
+use Rattle.writing.proofs.Laws.WritingLaws.{sets-from-zero}
 use Rattle.writing.proofs.put.Statement.{statement}
 use Rattle.writing.proofs.put.Tie as tie
 
@@ -56,7 +57,7 @@ returns c =
     let l = c .before .loop in
     let a = c .before .before .args in
     record {
-      buffer = sym (sets-none (l .out) (a .text .now) (a .at) (l .i) (omega arith)) ∙ l .inv .2;
+      buffer = sym (sets-end (l .out) (a .text .now) (a .at + l .i) (l .i) (omega arith)) ∙ l .inv .2;
       end = omega arith;
     }
 

@@ -7,7 +7,8 @@ use borrow.Author.Needs.{needs}
 use lib.ListN.{length, drop, length-set}
 use lib.Seq.{sets}
 use Rattle.writing.specs.Numerals.{tagText}
-use Rattle.writing.proofs.Laws.WritingLaws.{sets-from-zero, sets-next, sets-none}
+use Rattle.tag.proofs.Stores.{sets-next, sets-end}
+use Rattle.writing.proofs.Laws.WritingLaws.{sets-from-zero}
 use Rattle.writing.proofs.Laws.Rows.{tag-length, tag-digit, tag-byte}
 use Rattle.writing.proofs.put_tag.Statement.{statement}
 use Rattle.writing.proofs.put_tag.Tie as tie
@@ -72,7 +73,7 @@ returns c =
     let l = c .before .loop in
     let ten = tag-length (a .tag) in
     record {
-      buffer = sym (sets-none (l .out) (tagText (a .tag)) (a .at) (l .i) (omega arith)) ∙ l .inv .2;
+      buffer = sym (sets-end (l .out) (tagText (a .tag)) (a .at + l .i) (l .i) (omega arith)) ∙ l .inv .2;
       end = omega arith;
     }
 

@@ -1,7 +1,7 @@
 -- Each call but ticks in a row and lists of ticks keeps the agreement of table and row, and gives back what the row gives.
 use mathlib.Core.Path.{_≡_, refl, sym, ap, _∙_, fun-ext}
 use mathlib.Core.Bool.{Bool, true, false}
-use mathlib.Core.List.{List, [], _∷_}
+use mathlib.Core.List.{List}
 use mathlib.Core.Option.{Option, some, none as nothing, bind}
 use Prim.Native.Nat.{ℕ, _*_, _≤_}
 use native.Mathlib.Omega.{arith}
@@ -21,7 +21,7 @@ use Rattle.machine.specs.Sides.{right, sideOf}
 use Rattle.machine.specs.Operations.{Operation, idle, push, pop, add, remove, operationOf}
 use Rattle.machine.specs.Tasks.{Task}
 use Rattle.machine.specs.Table.{taskCount, dispatched, task, setDispatched, setTask}
-use Rattle.machine.specs.Shape.{sizesOk, sameWords, WellFormed}
+use Rattle.machine.specs.Shape.{sizesOk, WellFormed}
 use Rattle.machine.specs.Answers.{refusalOf}
 use Rattle.machine.specs.Calls.{
   isIdle,
@@ -75,6 +75,7 @@ use Rattle.machine.proofs.Basics.Contradiction.{clash}
 use Rattle.machine.proofs.Basics.Choices.{by-if}
 use Rattle.machine.proofs.Basics.Tests.{and-left, and-right, test-passed}
 use Rattle.machine.proofs.Basics.Updates.{update, update-same, update-other}
+use Rattle.machine.proofs.Words.RecordLaws.{same-words-refl}
 use Rattle.machine.proofs.Words.ValueLaws.{never-has-word}
 use Rattle.machine.proofs.Words.StartLaws.{viewed-start, task-start}
 use Rattle.machine.proofs.Words.TableLaws.{columns-setDispatched, columns-setTask}
@@ -104,11 +105,6 @@ pub record Explains (ws : List ℕ) (ρ : Row) (c : Call) : Type 0 where
   pub row : Row
   pub given-by-row : feed ρ c (given c ws) ≡ some row
   pub agrees : Agrees (after c ws) row
-
-pub same-words-refl : (l : List ℕ) → sameWords l l ≡ true
-unfolding sameWords
-same-words-refl [] = refl
-same-words-refl (x ∷ l) = rw (eq-eqb x x refl) (same-words-refl l)
 
 explains :
     {ws : List ℕ} {ρ : Row} {c : Call}

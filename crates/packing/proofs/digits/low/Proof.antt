@@ -2,7 +2,7 @@
 use native.Mathlib.Omega.{arith}
 use borrow.Kind.Array.{eInt, good-length}
 use mir.Syntax.{w8}
-use Rattle.packing.proofs.Laws.Digits.{digit-at}
+use Rattle.tag.proofs.DigitLaws.{digit-at}
 use Rattle.packing.proofs.Laws.Words.{low-digits}
 use borrow.Author.Needs.{needs}
 use Rattle.packing.proofs.digits.low.Statement.{statement}

@@ -22,8 +22,9 @@ use Rattle.machine.specs.Tasks.{
   withD,
   withRegisters,
 }
-use Rattle.machine.specs.Registers.{among, uses, Way, ways, OneOf}
+use Rattle.machine.specs.Registers.{among}
+use Rattle.registers.specs.Paths.{uses, Way, ways, OneOf}
 use Rattle.machine.specs.Lines.{Memory, Effect, act}
 
 -- ---- Nothing is left out.
 

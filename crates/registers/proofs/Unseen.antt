@@ -4,21 +4,21 @@ use mathlib.Core.Bool.{Bool, true, false, cond}
 use mathlib.Core.List.{List}
 use Prim.Native.Nat.{ℕ, _<_}
 use lib.ListN.{length}
 use Rattle.machine.specs.Shape.{WellFormed}
 use Rattle.machine.specs.Choice.{_≟_, if_then_else_}
 use Rattle.machine.specs.Values.{encode}
 use Rattle.machine.specs.Tasks.{Task, fresh, none, wordsOf, inA, inB, inC, inD}
 use Rattle.machine.specs.Registers.{holds}
 use Rattle.machine.specs.Table.{tableLength, nodeCount, taskCount, growth, value, task, setTask}
 use Rattle.machine.specs.Calls.{isBusy}
-use Rattle.machine.specs.Unseen.{SameButUnneeded, Alike, UnneededUnseen, cleared, ClearingUnseen}
+use Rattle.registers.specs.Unseen.{SameButUnneeded, Alike, UnneededUnseen, cleared, ClearingUnseen}
 use Rattle.machine.proofs.Words.ValueLaws.{encode-decode}
 use Rattle.machine.proofs.Basics.Updates.{update}
 use Rattle.machine.proofs.Words.Columns.{sizesOf, countsOf, columns, sizes-equal, columns-equal}
 use Rattle.machine.proofs.Words.TableLaws.{columns-setTask}
 use Rattle.machine.proofs.Words.EffectLaws.{task-set-task}
 use Rattle.machine.proofs.Shape.BusyLaws.{NodeOrNone, BusyFacts, record-of-busy}
 use Rattle.machine.proofs.Shape.ShapeLaws.{
   WellSized,
   WellShaped,
   well-sized,
@@ -27,13 +27,13 @@ use Rattle.machine.proofs.Shape.ShapeLaws.{
   shape-ok,
   same-last-words,
 }
 use Rattle.machine.proofs.Shape.WritesKeep.{put-record-shaped}
 use Rattle.machine.proofs.Shape.TickKeeps.{busy-facts, busy-is-task, task-has-word}
 use Rattle.machine.proofs.Shape.ShapeKept.{is-accepted}
-use Rattle.machine.specs.LinesUse.{AgreeOn}
-use Rattle.machine.proofs.Registers.Agreeing.{plain, agree-from, agree-self, mixed-inside}
-use Rattle.machine.proofs.Registers.AlikeTables.{unrecorded, AlikeColumns}
-use Rattle.machine.proofs.Registers.AlikeCalls.{calls-alike}
+use Rattle.registers.specs.LinesUse.{AgreeOn}
+use Rattle.registers.proofs.Agreeing.{plain, agree-from, agree-self, mixed-inside}
+use Rattle.registers.proofs.AlikeTables.{unrecorded, AlikeColumns}
+use Rattle.registers.proofs.AlikeCalls.{calls-alike}
 
 -- ---- Tables that are alike have the same columns but for registers that do not hold.
 records-agree : {t u : Task} → SameButUnneeded t u → AgreeOn (holds (t .step)) t u

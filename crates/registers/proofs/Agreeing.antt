@@ -1,13 +1,14 @@
 -- Records that agree in all but some registers: those that hold at their step stay the same through the same effect.
 use mathlib.Core.Path.{_≡_, refl, sym, ap, _∙_, subst}
 use mathlib.Core.Bool.{Bool, true, false, cond}
 use Rattle.machine.specs.Steps.{Step}
 use Rattle.machine.specs.Tasks.{Task, none, Register, inA, inB, inC, inD, register, withRegisters}
-use Rattle.machine.specs.Registers.{among, uses, Way, ways, OneOf, here, later, holds}
+use Rattle.machine.specs.Registers.{among, holds}
+use Rattle.registers.specs.Paths.{uses, Way, ways, OneOf, here, later}
 use Rattle.machine.specs.Table.{value, task}
 use Rattle.machine.specs.Lines.{Effect}
-use Rattle.machine.proofs.Registers.Paths.{needed-holds, holds-needed}
-use Rattle.machine.specs.LinesUse.{mixed, AgreeOn, After, goes-on, has-answered, turned-back}
+use Rattle.registers.proofs.Paths.{needed-holds, holds-needed}
+use Rattle.registers.specs.LinesUse.{mixed, AgreeOn, After, goes-on, has-answered, turned-back}
 
 -- The record without its registers.
 abbrev pub plain : Task → Task

@@ -22,11 +22,11 @@ use Rattle.machine.specs.Allocate.{
   marked,
   allocate,
 }
 use Rattle.machine.specs.Lines.{Write, out≔, inn≔, val≔, hat≔, seen}
-use Rattle.machine.specs.LinesUse.{AgreeOn}
+use Rattle.registers.specs.LinesUse.{AgreeOn}
 use Rattle.machine.proofs.Words.Memories.{seenIn}
 use Rattle.machine.proofs.Words.Columns.{Columns, columns, viewOf, putBody, putOne, putAll}
-use Rattle.machine.proofs.Registers.Agreeing.{agree-self}
+use Rattle.registers.proofs.Agreeing.{agree-self}
 
 -- The columns of a table without its task records.
 abbrev pub unrecorded : Columns → Columns

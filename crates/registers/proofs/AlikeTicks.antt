@@ -25,11 +25,11 @@ use Rattle.machine.specs.Calls.{
   afterTick,
   runOn,
 }
-use Rattle.machine.specs.LinesUse.{AgreeOn, SameEffect}
-use Rattle.machine.proofs.Registers.LinesUse.{uses-enough}
+use Rattle.registers.specs.LinesUse.{AgreeOn, SameEffect}
+use Rattle.registers.proofs.LinesUse.{uses-enough}
 use Rattle.machine.proofs.Basics.Updates.{update}
 use Rattle.machine.proofs.Words.Columns.{sizesOf, Columns, columns, putTickCount, putAll}
 use Rattle.machine.proofs.Shape.ShapeLaws.{
   WellSized,
   WellShaped,
   well-sized,
@@ -37,10 +37,10 @@ use Rattle.machine.proofs.Shape.ShapeLaws.{
   length-ok,
   shape-ok,
 }
 use Rattle.machine.proofs.Shape.TickKeeps.{tick-kept}
 use Rattle.machine.proofs.Words.TickLaws.{tick-stopped, tick-answer, tick-refused, tick-columns, tick-task}
-use Rattle.machine.proofs.Registers.Agreeing.{plain, agree-plain, agree-uses, agree-after}
-use Rattle.machine.proofs.Registers.AlikeTables.{
+use Rattle.registers.proofs.Agreeing.{plain, agree-plain, agree-uses, agree-after}
+use Rattle.registers.proofs.AlikeTables.{
   unrecorded,
   AlikeColumns,
   unrecorded-put-all,

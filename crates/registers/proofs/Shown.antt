@@ -7,23 +7,25 @@ use mathlib.Core.List.{List, [], _∷_, _++_}
 use Prim.Native.Nat.{ℕ}
 use native.Mathlib.Decide.{ℕ-discrete}
 use lib.Dec.{eqb}
-use borrow.Author.Tests.{eq-eqb, eqb-true, not-true}
+use borrow.Author.Tests.{eqb-true, not-true}
 use Rattle.machine.specs.declared.Answer.{Answer}
 use Rattle.machine.specs.Sides.{left, right}
 use Rattle.machine.specs.Values.{Value, bag, N, X, Y, encode, storedWords, Value-discrete}
 use Rattle.machine.specs.Operations.{push}
 use Rattle.machine.specs.Steps.{Step, stepNumber, stepOf}
 use Rattle.machine.specs.Tasks.{Task, none, Register, inA, inB, inC, inD, register}
-use Rattle.machine.specs.Registers.{among, uses, Way, ways}
+use Rattle.machine.specs.Registers.{among}
+use Rattle.registers.specs.Paths.{uses, Way, ways}
 use Rattle.machine.specs.Shape.{sameWords}
 use Rattle.machine.specs.Lines.{Memory, Write, out≔, inn≔, val≔, hat≔, Effect, dcas, act}
 use Rattle.machine.specs.Answers.{kindOf, payloadOf}
-use Rattle.machine.specs.LinesUse.{with, SameBut, UseShows, UsesShow, WaysGone}
+use Rattle.registers.specs.LinesUse.{with, SameBut, UseShows, UsesShow, WaysGone}
 use Rattle.machine.proofs.Basics.Contradiction.{clash, refute}
+use Rattle.machine.proofs.Words.RecordLaws.{same-words-refl}
 use Rattle.machine.proofs.Words.StepLaws.{step-of-number}
 use Rattle.machine.proofs.Basics.Tests.{agreed, and-left, and-right, or-either}
 use Rattle.machine.proofs.Basics.Everywhere.{everyRegister, each-step, each-register, each, implies, implied}
-use Rattle.machine.proofs.Registers.Paths.{everyWay, each-way}
+use Rattle.registers.proofs.Paths.{everyWay, each-way}
 
 -- ---- Tables to try the lines on.
 
@@ -150,11 +152,6 @@ unfolding act dcas ℕ-discrete Value-discrete
 ways-tried = each-step (λ st. everyWay (ways st) (wayTried st)) refl
 
 -- ---- Each use and each way.
-same-self : (l : List ℕ) → sameWords l l ≡ true
-unfolding sameWords
-same-self [] = refl
-same-self (x ∷ xs) = rw (eq-eqb x x refl) (same-self xs)
-
 differs-from : (st : Step) (r : Register) (x : ℕ) (a : Sample) → differsAt st r x a ≡ true → UseShows st r
 differs-from st r x a d =
     record {
@@ -168,7 +165,7 @@ differs-from st r x a d =
           let f = effectIn st a (with r x (taskIn a st)) in
           let no : sameWords (shows r e) (shows r f) ≡ false = not-true (sameWords (shows r e) (shows r f)) d in
           let yes : sameWords (shows r e) (shows r f) ≡ true =
-          ap (λ (l : List ℕ). sameWords (shows r e) l) (shows-same r e f S) ∙ same-self (shows r e) in
+          ap (λ (l : List ℕ). sameWords (shows r e) l) (shows-same r e f S) ∙ same-words-refl (shows r e) in
           refute (cc);
     }
 

@@ -61,8 +61,9 @@ use Rattle.machine.specs.Tasks.{
   withCounted,
   withValue,
 }
-use Rattle.machine.specs.Registers.{among, uses, Way, _setting_, to, ways, OneOf}
+use Rattle.machine.specs.Registers.{among}
+use Rattle.registers.specs.Paths.{uses, Way, _setting_, to, ways, OneOf}
 use Rattle.machine.specs.Lines.{
   Memory,
   Write,
   Effect,
@@ -76,7 +77,7 @@ use Rattle.machine.specs.Lines.{
   afterRead,
   act,
 }
-use Rattle.machine.specs.LinesUse.{
+use Rattle.registers.specs.LinesUse.{
   mixed,
   AgreeOn,
   goes-on,

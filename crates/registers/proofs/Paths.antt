@@ -6,12 +6,13 @@ use mathlib.Core.Bool.{Bool, true, false, not, _&&_, _||_}
 use mathlib.Core.List.{List, [], _∷_}
 use Prim.Native.Nat.{ℕ, zero, suc}
 use borrow.Author.Tests.{not-true}
 use Rattle.machine.specs.Steps.{Step}
 use Rattle.machine.specs.Tasks.{Register}
-use Rattle.machine.specs.Registers.{among, uses, Way, ways, OneOf, Needed, here, later, holds, HoldsExactly}
+use Rattle.machine.specs.Registers.{among, holds}
+use Rattle.registers.specs.Paths.{uses, Way, ways, OneOf, Needed, here, later, HoldsExactly, NoOtherTable}
 use Rattle.machine.proofs.Basics.Contradiction.{clash}
 use Rattle.machine.proofs.Basics.Tests.{and-left, and-right, or-either}
 use Rattle.machine.proofs.Basics.Everywhere.{each, implies, implied}
 
 -- ---- Tests of all ways on from a step, and of some.
 abbrev pub everyWay : List Way → (Way → Bool) → Bool
@@ -83,3 +84,13 @@ holds-needed st r h = path-needed 5 st r (implied (holds st r) (pathWithin 5 st 
 
 pub holds-exactly : HoldsExactly
 holds-exactly st r = (holds-needed st r, needed-holds)
+
+-- ---- No other table.
+pub no-other-table : NoOtherTable
+no-other-table table e st r = go (table st r) (holds st r) refl refl
+  where
+    go : (a b : Bool) → table st r ≡ a → holds st r ≡ b → a ≡ b
+    go true true p q = refl
+    go false false p q = refl
+    go true false p q = clash (cc (q, needed-holds (e st r .0 p)))
+    go false true p q = clash (cc (p, e st r .1 (holds-needed st r q)))

@@ -50,9 +50,9 @@ use Rattle.machine.specs.Calls.{
   lane,
   read,
 }
 use Rattle.machine.specs.Lines.{Memory}
-use Rattle.machine.specs.Unseen.{Alike, SameFor}
+use Rattle.registers.specs.Unseen.{Alike, SameFor}
 use Rattle.machine.specs.Demand3.{
   Call,
   start-call,
   begin-call,
@@ -83,9 +83,9 @@ use Rattle.machine.proofs.Shape.ShapeKept.{
   dispatched-accepted,
   call-accepted,
 }
-use Rattle.machine.specs.LinesUse.{AgreeOn}
-use Rattle.machine.proofs.Registers.Agreeing.{agree-self, mixed-inside}
-use Rattle.machine.proofs.Registers.AlikeTables.{
+use Rattle.registers.specs.LinesUse.{AgreeOn}
+use Rattle.registers.proofs.Agreeing.{agree-self, mixed-inside}
+use Rattle.registers.proofs.AlikeTables.{
   unrecorded,
   AlikeColumns,
   alike-self,
@@ -100,7 +100,7 @@ use Rattle.machine.proofs.Registers.AlikeTables.{
   same-operation,
   same-argument,
 }
-use Rattle.machine.proofs.Registers.AlikeTicks.{refusal-same, tick-alike, RunsAlike, schedule-alike}
+use Rattle.registers.proofs.AlikeTicks.{refusal-same, tick-alike, RunsAlike, schedule-alike}
 
 abbrev TicksAlike : (r q : Ticked) → Type 0
 TicksAlike r q = (q .answer ≡ r .answer) × AlikeColumns (r .words) (q .words)
