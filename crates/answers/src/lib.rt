@@ -1,10 +1,14 @@
-// A tick's answer by its numbers: the kind and what comes with it, whether the task goes on or is refused and by which number, and the answer
-// that the words of a tick stand for.
+// A tick's answer by its numbers: the kind and what comes with it, whether the task goes on or is refused, and by which
+// number; its three words put, and the answer that such words stand for.
 use machine::Answer;
 ghost use mathlib.Core.Path.{_≡_};
 ghost use mathlib.Core.Option.{some};
+ghost use Prim.Native.Nat.{_+_, _≤_};
+ghost use lib.ListN.{length};
+ghost use lib.Seq.{sets};
+ghost use Rattle.tag.specs.Tags.{largestTag};
 ghost use Rattle.machine.specs.declared.Answer.{Answer as Meaning};
-ghost use Rattle.machine.specs.Answers.{kindOf, payloadOf, refusalOf, isGoing, answerOf};
+ghost use Rattle.machine.specs.Answers.{kindOf, payloadOf, refusalOf, isGoing, answerLength, answerWords, answerOf};
 ghost use Rattle.answers.specs.Refusals.{numberOf, isRefused};
 
 // The kind of a refusal, which a run does not write, and that of a dispatch which finds no task busy.
@@ -90,6 +94,26 @@ pub fn is_going(a: Answer) -> bool
         Answer::No => false,
         Answer::Refused(_) => false,
     }
+}
+
+// The words that a run writes for a tick.
+pub const ANSWER_WORDS: usize = 3;
+
+// 02: three words a tick: the kind, and the tag, digit first.
+pub fn put_answer(answers: &mut [u32], at: usize, a: Answer)
+    requires { ⌜ (payloadOf a ≤ largestTag) × (at + answerLength ≤ length (now answers)) ⌝ }
+    ensures { λ _. ⌜ now (answers .exit) ≡ sets (now (answers .entry)) at (answerWords a) ⌝ }
+{
+    let tag = payload(a);
+    answers[at] = kind(a);
+    // Most ticks give no tag, and need no division.
+    if tag == 0 {
+        answers[at + 1] = 0;
+        answers[at + 2] = 0;
+        return;
+    }
+    answers[at + 1] = tag::digit(tag);
+    answers[at + 2] = tag::low(tag);
 }
 
 // The answer that the words of a tick stand for, where they stand for one.

@@ -1,7 +1,7 @@
 // The calls run and panel: any slices. A refusal changes no lent word, but for the ticks made before it.
+use answers::ANSWER_WORDS;
 use machine::Ran;
 use shape::table_refusal;
-use ticking::pairs::ANSWER_WORDS;
 use ticking::pairs::run_on;
 ghost use mathlib.Core.Path.{_≡_};
 ghost use mathlib.Core.Option.{none as nothing};

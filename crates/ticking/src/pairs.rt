@@ -1,44 +1,20 @@
 // The ticks of a list of (task, hint) pairs on a table that has passed the tests of refusals 3 and 4. All ticks are made in
 // this one loop, a single tick as a list of one pair: the compiler then sets the whole tick into the loop, and no call stands
 // between two ticks of a run.
+use answers::ANSWER_WORDS;
 use answers::REFUSED;
 use answers::answer_of;
 use answers::kind;
-use answers::payload;
+use answers::put_answer;
 use answers::refusal_number;
 use machine::Answer;
 use machine::Ran;
 use stepping::tick_once;
 ghost use mathlib.Core.Path.{_≡_};
-ghost use Prim.Native.Nat.{_+_, _≤_};
-ghost use lib.ListN.{length};
-ghost use lib.Seq.{sets};
-ghost use Rattle.tag.specs.Tags.{largestTag};
-ghost use Rattle.machine.specs.Answers.{payloadOf, answerLength, answerWords};
 ghost use Rattle.machine.specs.Shape.{WellFormed};
 ghost use Rattle.machine.specs.Calls.{tickOn, runOn};
 ghost use Rattle.machine.specs.Results.{tickedOf, runDoneOf};
 ghost use Rattle.ticking.specs.Runs.{MayRun};
-
-// The words that a run writes for a tick.
-pub const ANSWER_WORDS: usize = 3;
-
-// 02: three words a tick: the kind, and the tag, digit first.
-fn put_answer(answers: &mut [u32], at: usize, a: Answer)
-    requires { ⌜ (payloadOf a ≤ largestTag) × (at + answerLength ≤ length (now answers)) ⌝ }
-    ensures { λ _. ⌜ now (answers .exit) ≡ sets (now (answers .entry)) at (answerWords a) ⌝ }
-{
-    let tag = payload(a);
-    answers[at] = kind(a);
-    // Most ticks give no tag, and need no division.
-    if tag == 0 {
-        answers[at + 1] = 0;
-        answers[at + 2] = 0;
-        return;
-    }
-    answers[at + 1] = tag::digit(tag);
-    answers[at + 2] = tag::low(tag);
-}
 
 // The ticks of a list that has passed all tests.
 // 01: stops at the first refused tick.

@@ -1,15 +1,19 @@
--- The answer that the words of a tick stand for, by the kind.
+-- The words of an answer as they are put, and the answer that words stand for, by the kind.
 use mathlib.Core.Path.{_≡_}
 use mathlib.Core.Logic.{_≢_}
 use mathlib.Core.Bool.{Bool, true, false, cond}
+use mathlib.Core.List.{List}
 use mathlib.Core.Option.{some, none as nothing}
-use Prim.Native.Nat.{ℕ}
+use Prim.Native.Nat.{ℕ, _+_}
+use native.Mathlib.Numerals.{towards-suc}
+use lib.ListN.{set}
+use lib.Seq.{sets}
 use native.Mathlib.Decide.{ℕ-discrete}
-use Rattle.tag.specs.Tags.{tagOf, isTag}
+use Rattle.tag.specs.Tags.{tagOf, isTag, digitOf, lowOf}
 use Rattle.machine.specs.declared.Answer.{Answer}
 use Rattle.machine.specs.declared.Answer.the-variants.{Bag, No}
 use Rattle.machine.specs.Choice.{_≟_, if_then_else_}
-use Rattle.machine.specs.Answers.{plainAnswerOf, answerOf}
+use Rattle.machine.specs.Answers.{kindOf, payloadOf, answerWords, plainAnswerOf, answerOf}
 use Rattle.machine.proofs.Basics.Choices.{unequal}
 use Rattle.machine.proofs.Basics.Contradiction.{clash}
 
@@ -44,3 +48,13 @@ module _ {kind : ℕ} (digit low : ℕ) (a : Answer) (e : answerOf kind digit lo
       go : (d : Dec (kind ≡ 6)) → (if d then some No else nothing) ≡ some a → No ≡ a
       go (yes s) e = cc
       go (no s) e = clash (cc)
+
+-- The words of an answer, written one after the other.
+pub answer-put :
+    (answers : List ℕ) (at : ℕ) (a : Answer) {kind tag digit low : ℕ}
+    → kind ≡ kindOf a
+    → tag ≡ payloadOf a
+    → digit ≡ digitOf tag
+    → low ≡ lowOf tag
+    → set (set (set answers at kind) (at + 1) digit) (at + 2) low ≡ sets answers at (answerWords a)
+answer-put answers at a k p d l = rw (d, l, k, p) (simp (towards-suc))

@@ -5,11 +5,11 @@ use mathlib.Core.List.{List, _∷_, _++_, append-assoc}
 use mathlib.Core.Option.{Option, some, none as nothing}
 use Prim.Native.Nat.{ℕ, suc, _+_, _*_, _≤_, _<_}
 use native.Mathlib.Nat.{add-zero, zero-add}
-use native.Mathlib.Numerals.{add-one, towards-suc}
+use native.Mathlib.Numerals.{add-one}
 use native.Mathlib.Omega.{arith}
-use lib.ListN.{length, getD, set, take, drop, take-append-drop, drop-of-length-le}
+use lib.ListN.{length, getD, take, drop, take-append-drop, drop-of-length-le}
 use lib.Seq.{sets, drop-cons, drop-drop}
-use Rattle.tag.specs.Tags.{largestTag, digitOf, lowOf}
+use Rattle.tag.specs.Tags.{largestTag}
 use Rattle.machine.specs.declared.Answer.{Answer}
 use Rattle.machine.specs.Answers.{kindOf, payloadOf, answerLength, answerWords, refusalOf}
 use Rattle.machine.specs.Calls.{
@@ -66,16 +66,6 @@ module _ (k h : ℕ) (list ws answers : List ℕ) where
     first-made e =
         first-tick k h list ws answers nothing (ap refusalOf answer-is ∙ made-kind a e)
         ∙ ap (λ (t : Ticked). afterTick (t .answer) (runOn list (t .words) (drop answerLength answers))) (sym ticked)
-
--- The words of its answer, written one after the other.
-pub answer-put :
-    (answers : List ℕ) (at : ℕ) (a : Answer) {kind tag digit low : ℕ}
-    → kind ≡ kindOf a
-    → tag ≡ payloadOf a
-    → digit ≡ digitOf tag
-    → low ≡ lowOf tag
-    → set (set (set answers at kind) (at + 1) digit) (at + 2) low ≡ sets answers at (answerWords a)
-answer-put answers at a k p d l = rw (d, l, k, p) (simp (towards-suc))
 
 -- ---- The run of the pairs ahead, behind the ticks made.
 abbrev behind : (made : ℕ) (front : List ℕ) → RunDone → RunDone

@@ -1,12 +1,12 @@
--- `ticking::pairs::put_answer` meets its contract: both words of no tag are 0.
+-- `answers::put_answer` meets its contract: both words of no tag are 0.
 use mathlib.Core.Path.{sym, ap}
 use native.Mathlib.Omega.{arith}
 use lib.ListN.{length-set}
 use Rattle.tag.specs.Tags.{digitOf, lowOf}
-use Rattle.ticking.proofs.Laws.RunWords.{answer-put}
+use Rattle.answers.proofs.Laws.AnswerWords.{answer-put}
 use borrow.Author.Needs.{needs}
-use Rattle.ticking.proofs.pairs.put_answer.Statement.{statement}
-use Rattle.ticking.proofs.pairs.put_answer.Tie as tie
+use Rattle.answers.proofs.put_answer.Statement.{statement}
+use Rattle.answers.proofs.put_answer.Tie as tie
 
 payload-requires : tie.Need-payload-requires
 payload-requires c κs = search needs
