@@ -16,6 +16,9 @@ pub const REFUSED: u32 = 7;
 
 pub const IDLE: u32 = 8;
 
+// The words that a run writes for a tick.
+pub const ANSWER_WORDS: usize = 3;
+
 // 01: 0 going, 1 pushed, 2 bag, 3 empty, 4 full, 5 yes, 6 no.
 pub fn kind(a: Answer) -> u32
     ensures { λ r. ⌜ r ≡ kindOf a ⌝ }
@@ -95,9 +98,6 @@ pub fn is_going(a: Answer) -> bool
         Answer::Refused(_) => false,
     }
 }
-
-// The words that a run writes for a tick.
-pub const ANSWER_WORDS: usize = 3;
 
 // 02: three words a tick: the kind, and the tag, digit first.
 pub fn put_answer(answers: &mut [u32], at: usize, a: Answer)

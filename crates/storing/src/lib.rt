@@ -37,7 +37,7 @@ fn store(table: &mut [u32], side: u32, hat: u32, task: u32, next: Task, going: b
     table[TICK_COUNT] = wrapping_add_u32(table[TICK_COUNT], 1);
 }
 
-// What a line's outcome comes to: a refusal changes nothing, a tick that is made is stored.
+// The answer, and its words where the line was not refused.
 pub fn finish(table: &mut [u32], side: u32, k: u32, done: Done) -> Answer
     requires { ⌜ (side < 2) × HoldsRecord (now table) k ⌝ }
     requires { ⌜ GoesOn (now table) k (isGoing (done .answer)) (done .task) ⌝ }
