@@ -104,6 +104,7 @@ use Rattle.machine.specs.Calls.{
   isPush,
   isAmong,
   isBegun,
+  seenRefusal,
   twiceRefusal,
   tickRefusal,
   listRefusal,
@@ -584,16 +585,17 @@ isArgument ws (suc m) n = isBusy (task ws m .operation) && eqb n (task ws m .arg
 abbrev pub searchesAllArguments : Machine
 searchesAllArguments = refusesWhere (λ ws k n bags. isAmong n bags || isArgument ws (taskCount ws) n)
 
-abbrev pub standsIn : ℕ → Option (List ℕ) → Bool
-standsIn n nothing = false
-standsIn n (some bags) = isAmong n bags
-
 -- An add is refused as a push is.
 abbrev pub refusesAddsToo : Machine
 refusesAddsToo =
     withBegin (rightMachine .tickOn) (λ ws k op n.
-    unless (not ((isPush op || eqb (operationNumber op) (operationNumber add)) && standsIn n (lane ws))) 16
+    cond (isPush op || eqb (operationNumber op) (operationNumber add))
+    (seenRefusal ws n (lane ws) (testsBusy ws k nothing))
     (testsBusy ws k nothing))
+
+abbrev pub standsIn : ℕ → Option (List ℕ) → Bool
+standsIn n nothing = false
+standsIn n (some bags) = isAmong n bags
 
 -- Begin does not test at all; the tick that would answer "pushed" is refused where the lane has the bag.
 abbrev pub testsWhenAnswering : Machine
