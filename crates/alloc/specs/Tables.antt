@@ -1,9 +1,8 @@
 -- How the code holds the marking, and what each function that marks asks of it and of the table.
-use mathlib.Core.List.{List, [], _∷_}
+use mathlib.Core.List.{List}
 use Prim.Native.Nat.{ℕ}
-use Rattle.machine.specs.Sides.{left, right}
-use Rattle.machine.specs.Table.{nodeCount, hat}
-use Rattle.machine.specs.Allocate.{Marking}
+use Rattle.machine.specs.Table.{nodeCount, laneCount}
+use Rattle.machine.specs.Allocate.{hatsFrom, Marking}
 use Rattle.machine.proofs.Words.Columns.{sizesOf}
 use Rattle.machine.proofs.Shape.ShapeLaws.{WellSized}
 use Rattle.machine.proofs.SlotRule.Marking.{Room}
@@ -17,5 +16,6 @@ pub record Searchable (ws : List ℕ) (m : Marking) : Type 0 where
   pub well-sized : WellSized (sizesOf ws)
   pub room : Room (nodeCount ws) m
 
+-- The hats of every lane.
 abbrev pub hats : List ℕ → List ℕ
-hats ws = hat ws left ∷ hat ws right ∷ []
+hats ws = hatsFrom ws (laneCount ws) 0

@@ -2,10 +2,10 @@
 // In each function n is the number of the table's nodes. The marks, one a node, and the queue of marked nodes,
 // which ends at tail, have a place for each of the 1,024 nodes that a table may have.
 use layout::nodes::link;
+use layout::places::HATS;
 use layout::places::HEADER;
-use layout::places::LEFT_HAT;
+use layout::places::LANE_COUNT;
 use layout::places::NODE_COUNT;
-use layout::places::RIGHT_HAT;
 use layout::places::TASK_COUNT;
 use layout::table::task;
 use record::Task;
@@ -75,17 +75,29 @@ fn mark_both(
     mark(marks, queue, next, n, y)
 }
 
-// Marks both hats.
-fn mark_hats(table: &[u32], marks: &mut [u8; 1024], queue: &mut [u32; 1024], tail: usize) -> usize
+// Marks the hats of every lane.
+fn mark_hats(
+    table: &[u32],
+    marks: &mut [u8; 1024],
+    queue: &mut [u32; 1024],
+    mut tail: usize,
+) -> usize
     requires { ⌜ Searchable (now table) (markingOf (now marks) (now queue) tail) ⌝ }
     ensures { λ r. ⌜ markingOf (now (marks .exit)) (now (queue .exit)) r
         ≡ markAll (nodeCount (now (table .entry))) (markingOf (now (marks .entry)) (now (queue .entry)) tail)
         (hats (now (table .entry))) ⌝ }
 {
     let n = table[NODE_COUNT] as usize;
-    let l = table[LEFT_HAT];
-    let r = table[RIGHT_HAT];
-    mark_both(marks, queue, tail, n, l, r)
+    let count = table[LANE_COUNT] as usize;
+    let mut l = 0;
+    while l < count {
+        let at = HATS + 2 * l;
+        let left = table[at];
+        let right = table[at + 1];
+        tail = mark_both(marks, queue, tail, n, left, right);
+        l += 1;
+    }
+    tail
 }
 
 // Marks the node x of a register if its bit was found to be 1.

@@ -2,9 +2,9 @@
 use mathlib.Core.Path.{_≡_, refl, sym, ap, _∙_}
 use mathlib.Core.Bool.{Bool, true, false, not, _&&_, _||_}
 use mathlib.Core.Logic.{_≢_}
-use mathlib.Core.List.{List}
-use mathlib.Core.Option.{Option, some, none as nothing}
-use Prim.Native.Nat.{ℕ, suc, _-_, _<_}
+use mathlib.Core.List.{List, [], _∷_, _++_}
+use mathlib.Core.Option.{Option, some, none as nothing, Option·map, bind}
+use Prim.Native.Nat.{ℕ, suc, _+_, _-_, _<_}
 use native.Mathlib.Omega.{arith}
 use native.Mathlib.Decide.{ℕ-discrete}
 use lib.Dec.{eqb}
@@ -14,13 +14,24 @@ use Rattle.machine.specs.Operations.{Operation, idle, push, pop, add, remove, o
 use Rattle.machine.specs.Tasks.{Task, operationWord, argumentWords, taskOf}
 use Rattle.machine.specs.Table.{taskCount, recordWords, task}
 use Rattle.machine.specs.Shape.{WellFormed}
-use Rattle.machine.specs.Calls.{unless, lane, isPush, isAmong, isBegun, seenRefusal, twiceRefusal}
+use Rattle.machine.specs.Calls.{
+  unless,
+  lane,
+  lanesBelow,
+  allLanes,
+  isPush,
+  isAmong,
+  isBegun,
+  seenRefusal,
+  twiceRefusal,
+}
 use Rattle.machine.proofs.Basics.Choices.{if-yes, by-if}
 use Rattle.machine.proofs.Basics.Contradiction.{clash}
 use Rattle.reading.specs.declared.Walk.the-variants.{Bags, NoEnd}
 use Rattle.reading.specs.Lane.{walkOf}
 use Rattle.answers.specs.Refusals.{numberOf}
 use Rattle.shape.proofs.Laws.PassedTable.{operation-is}
+use Rattle.beginning.specs.Seen.{twiceSeen, standing, firstOf}
 
 -- ---- The number of push.
 pub push-number : (n : ℕ) → n ≡ 1 → operationOf n ≡ push
@@ -69,36 +80,98 @@ module _ (ws : List ℕ) (n k : ℕ) where
     pub begun-below : pushing ws (k - 1) n ≡ false → isBegun ws (k - 1) n ≡ isBegun ws k n
     begun-below h = sym (turn ∙ rw h)
 
--- ---- The number of the refusal, by what the walk and the tasks say.
+-- ---- One lane: what its walk says.
+module _ (n : ℕ) where
+  pub stands-no-end : (bags : Option (List ℕ)) → walkOf n bags ≡ NoEnd → 11 ≡ standing n bags
+  stands-no-end nothing h = refl
+  stands-no-end (some bags) h = clash (cc)
+
+  pub stands-walked :
+      (bags : Option (List ℕ)) (m : ℕ) {b : Bool} → walkOf n bags ≡ Bags m b → twiceSeen b ≡ standing n bags
+  stands-walked nothing m {b} h = clash (cc)
+  stands-walked (some bags) m {b} h = let e : isAmong n bags ≡ b = cc in rw e
+
+  -- ---- Two lots of lanes, one after the other.
+  among-both : (xs ys : List ℕ) → isAmong n (xs ++ ys) ≡ isAmong n xs || isAmong n ys
+  among-both [] ys = refl
+  among-both (x ∷ xs) ys = go (eqb n x) (isAmong n xs) (isAmong n ys) (among-both xs ys)
+    where
+      go : (b d e : Bool) {c : Bool} → c ≡ d || e → b || c ≡ (b || d) || e
+      go true d e h = refl
+      go false d e h = h
+
+  first-of-both : (a b : Bool) → firstOf (twiceSeen a) (twiceSeen b) ≡ twiceSeen (a || b)
+  first-of-both true true = refl
+  first-of-both true false = refl
+  first-of-both false true = refl
+  first-of-both false false = refl
+
+  first-no-end : (a : Bool) → firstOf (twiceSeen a) 11 ≡ 11
+  first-no-end true = refl
+  first-no-end false = refl
+
+  stands-both :
+      (xs ys : Option (List ℕ))
+      → firstOf (standing n xs) (standing n ys) ≡ standing n (bind xs (λ before. Option·map (_++_ before) ys))
+  unfolding bind
+  stands-both nothing ys = refl
+  stands-both (some xs) nothing = first-no-end (isAmong n xs)
+  stands-both (some xs) (some ys) = first-of-both (isAmong n xs) (isAmong n ys) ∙ rw (among-both xs ys)
+
+-- ---- The loop over the lanes: l are walked.
+module _ (ws : List ℕ) (n l : ℕ) where
+  pub none-walked : l ≡ 0 → 0 ≡ standing n (lanesBelow ws l)
+  unfolding lanesBelow
+  none-walked e = rw e
+
+  pub one-more :
+      {a b : ℕ}
+      → a ≡ standing n (lanesBelow ws l)
+      → b ≡ standing n (lane ws l)
+      → firstOf a b ≡ standing n (lanesBelow ws (l + 1))
+  unfolding lanesBelow
+  one-more e h =
+      let next : l + 1 ≡ suc l = omega arith in rw (e, h, next) (stands-both n (lanesBelow ws l) (lane ws l))
+
+-- ---- The number of the refusal, by what the lanes and the tasks say.
 module _ (ws : List ℕ) (n : ℕ) where
-  pub seen-no-end : (l : Option (List ℕ)) → walkOf n l ≡ NoEnd → 11 ≡ numberOf (seenRefusal ws n l nothing)
-  seen-no-end nothing h = refl
-  seen-no-end (some bags) h = clash (cc)
+  in-lanes :
+      (bags : Option (List ℕ)) → standing n bags ≢ 0 → standing n bags ≡ numberOf (seenRefusal ws n bags nothing)
+  in-lanes nothing h = refl
+  in-lanes (some bags) h = go (isAmong n bags) h
+    where
+      go :
+          (b : Bool)
+          → twiceSeen b ≢ 0
+          → twiceSeen b ≡ numberOf (unless (not (b || isBegun ws (taskCount ws) n)) 16 nothing)
+      go true h = refl
+      go false h = absurd (h refl)
 
-  pub seen-in-lane :
-      (l : Option (List ℕ)) (m : ℕ) → walkOf n l ≡ Bags m true → 16 ≡ numberOf (seenRefusal ws n l nothing)
-  seen-in-lane nothing m h = clash (cc)
-  seen-in-lane (some bags) m h = let e : isAmong n bags ≡ true = cc in rw e
+  by-tasks :
+      (bags : Option (List ℕ)) (b : Bool)
+      → standing n bags ≡ 0
+      → isBegun ws (taskCount ws) n ≡ b
+      → numberOf (unless (not b) 16 nothing) ≡ numberOf (seenRefusal ws n bags nothing)
+  by-tasks nothing b h e = absurd (omega (arith, h))
+  by-tasks (some bags) b h e = go (isAmong n bags) h
+    where
+      go :
+          (a : Bool)
+          → twiceSeen a ≡ 0
+          → numberOf (unless (not b) 16 nothing) ≡ numberOf (unless (not (a || isBegun ws (taskCount ws) n)) 16 nothing)
+      go true h = absurd (omega (arith, h))
+      go false h = rw e
 
-  module _ (l : Option (List ℕ)) (m : ℕ) (walked : walkOf n l ≡ Bags m false) where
-    by-tasks :
-        (b : Bool)
-        → isBegun ws (taskCount ws) n ≡ b
-        → numberOf (seenRefusal ws n l nothing) ≡ numberOf (unless (not b) 16 nothing)
-    by-tasks b h = go l walked
-      where
-        go :
-            (l : Option (List ℕ))
-            → walkOf n l ≡ Bags m false
-            → numberOf (seenRefusal ws n l nothing) ≡ numberOf (unless (not b) 16 nothing)
-        go nothing w = clash (cc)
-        go (some bags) w = let e : isAmong n bags ≡ false = cc in rw (e, h)
+  module _ (bags : Option (List ℕ)) {r : ℕ} (is-number : r ≡ standing n bags) where
+    pub seen-standing : r ≢ 0 → r ≡ numberOf (seenRefusal ws n bags nothing)
+    seen-standing h = is-number ∙ in-lanes bags (λ e. h (is-number ∙ e))
 
-    pub seen-begun : isBegun ws (taskCount ws) n ≡ true → 16 ≡ numberOf (seenRefusal ws n l nothing)
-    seen-begun h = sym (by-tasks true h)
+    module _ (not-standing : r ≡ 0) where
+      pub seen-begun : isBegun ws (taskCount ws) n ≡ true → 16 ≡ numberOf (seenRefusal ws n bags nothing)
+      seen-begun h = by-tasks bags true (sym is-number ∙ not-standing) h
 
-    pub seen-new : isBegun ws (taskCount ws) n ≡ false → 0 ≡ numberOf (seenRefusal ws n l nothing)
-    seen-new h = sym (by-tasks false h)
+      pub seen-new : isBegun ws (taskCount ws) n ≡ false → 0 ≡ numberOf (seenRefusal ws n bags nothing)
+      seen-new h = by-tasks bags false (sym is-number ∙ not-standing) h
 
   -- ---- Only a push is refused.
   no-push : (op : Operation) → isPush op ≡ false → (others : Option ℕ) → twiceRefusal ws op n others ≡ others
@@ -114,7 +187,8 @@ module _ (ws : List ℕ) (n : ℕ) where
 
     pub twice-push :
         operation ≡ 1
-        → numberOf (seenRefusal ws n (lane ws) nothing) ≡ numberOf (twiceRefusal ws (operationOf operation) n nothing)
+        → numberOf (seenRefusal ws n (allLanes ws) nothing)
+        ≡ numberOf (twiceRefusal ws (operationOf operation) n nothing)
     twice-push e = rw (push-number operation e)
 
   -- ---- By its number the refusal is known, and that there is none.
@@ -134,7 +208,7 @@ module _ (ws : List ℕ) (n : ℕ) where
 
   by-twice : (op : Operation) → ByNumber (twiceRefusal ws op n)
   by-twice idle others = (λ h. absurd (h refl), λ _. refl)
-  by-twice push others = by-seen (lane ws) others
+  by-twice push others = by-seen (allLanes ws) others
   by-twice pop others = (λ h. absurd (h refl), λ _. refl)
   by-twice add others = (λ h. absurd (h refl), λ _. refl)
   by-twice remove others = (λ h. absurd (h refl), λ _. refl)

@@ -8,7 +8,7 @@ use Rattle.machine.specs.Values.{storedOf}
 use Rattle.machine.specs.declared.Reply.{Reply}
 use Rattle.machine.specs.declared.Reply.the-variants.{Accepted, Refused}
 use Rattle.machine.specs.Table.{tableLength}
-use Rattle.machine.specs.Calls.{tableRefusal, start, begin, ticks, lane}
+use Rattle.machine.specs.Calls.{laneRefusal, start, begin, ticks, lane}
 use Rattle.printer.specs.Lines.{refusedText, replyText, answerText, laneText}
 
 pub record Answered : Type 0 where
@@ -20,16 +20,23 @@ abbrev pub startedFrom : (old : List ℕ) → Reply → (new : List ℕ) → Lis
 startedFrom old Accepted new = new
 startedFrom old (Refused n) new = old
 
+-- 02: "The lane program starts one lane, so its lines are as before." All its forms are about that one.
+abbrev pub lanesStarted : ℕ
+lanesStarted = 1
+
+abbrev pub theLane : ℕ
+theLane = 0
+
 -- `(start (slots S) (tasks T) (growth g))`: a start of a table that has the right length.
 unfoldable pub startCommand : List ℕ → (S T growth : ℕ) → Answered
 startCommand ws S T g =
-    let d = start (replicate (tableLength S T) 0) S T g in
+    let d = start (replicate (tableLength S T) 0) S T g lanesStarted in
     record { text = replyText (d .reply); words = startedFrom ws (d .reply) (d .words) }
 
 -- `(begin task (operation side argument))`, the argument by its two words.
 unfoldable pub beginCommand : List ℕ → (k operation side digit argument : ℕ) → Answered
 beginCommand ws k op side digit argument =
-    let d = begin ws k op side (storedOf digit argument) in
+    let d = begin ws k theLane op side (storedOf digit argument) in
     record { text = replyText (d .reply); words = d .words }
 
 -- `(tick task hint times)`. 01: makes ticks until an answer, a refusal, or times; it prints the last outcome.
@@ -48,9 +55,9 @@ unfoldable pub laneCommand : List ℕ → Answered
 laneCommand ws =
     record {
       text =
-          elim (tableRefusal ws nothing) as (λ _. List ℕ) [
+          elim (laneRefusal ws theLane nothing) as (λ _. List ℕ) [
             | some n ↦ refusedText n
-            | nothing ↦ rowText (lane ws)
+            | nothing ↦ rowText (lane ws theLane)
           ];
       words = ws;
     }

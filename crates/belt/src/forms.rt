@@ -17,6 +17,11 @@ ghost use Rattle.printer.specs.Outcomes.{readingText, readingCount};
 ghost use Rattle.belt.specs.Forms.{startCommand, beginCommand, tickCommand, laneCommand};
 ghost use Rattle.belt.specs.Space.{largestTable, answeredOf, Leaves};
 
+// 02: the program starts one lane, and all its forms are about that one.
+const LANES: u32 = 1;
+
+const LANE: u32 = 0;
+
 // What a start answers, and how many words of the space the table takes afterwards.
 pub struct Started {
     pub reply: Reply,
@@ -37,7 +42,7 @@ pub fn start_command(space: &mut [u32], len: usize, slots: u32, tasks: u32, grow
             len,
         };
     }
-    let reply = start(&mut space[..need], slots, tasks, growth);
+    let reply = start(&mut space[..need], slots, tasks, growth, LANES);
     match reply {
         Reply::Accepted => Started { reply, len: need },
         Reply::Refused(_) => Started { reply, len },
@@ -61,6 +66,7 @@ pub fn begin_command(
     begin(
         &mut space[..len],
         task,
+        LANE,
         operation,
         side,
         of_words(digit, argument),
@@ -83,5 +89,5 @@ pub fn lane_command(space: &[u32], len: usize, bags: &mut Bags) -> Reading
         ≡ laneCommand (take len (now (space .entry))) ⌝ }
     ensures { λ r. ⌜ 2 * readingCount r ≤ length (now (bags .exit)) ⌝ }
 {
-    read(&space[..len], bags)
+    read(&space[..len], LANE, bags)
 }

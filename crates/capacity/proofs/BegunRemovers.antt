@@ -1,11 +1,10 @@
 -- In every table that our calls lead to, links have removers.
 use mathlib.Core.Path.{_≡_, refl, sym, ap, _∙_, subst}
 use mathlib.Core.List.{List}
-use Prim.Native.Nat.{ℕ, zero, suc}
-use native.Mathlib.Omega.{arith}
-use native.Mathlib.Decide.{ℕ-discrete}
-use Rattle.machine.specs.Choice.{_≟_}
+use Prim.Native.Nat.{ℕ, _+_, _*_, _-_, _%_, _<_}
+use Rattle.machine.specs.Choice.{_≟_, _<?_, if_then_else_}
 use Rattle.machine.specs.Sides.{Side, left, right}
+use Rattle.machine.specs.Values.{never, X}
 use Rattle.machine.specs.Operations.{Operation, idle, push, pop, add, remove}
 use Rattle.machine.specs.Steps.{firstStep}
 use Rattle.machine.specs.Tasks.{Task, none, fresh}
@@ -13,7 +12,6 @@ use Rattle.machine.specs.Table.{task}
 use Rattle.machine.specs.Calls.{begunTask}
 use Rattle.machine.specs.Begun.{Begun}
 use Rattle.machine.proofs.Basics.Contradiction.{clash}
-use Rattle.machine.proofs.Basics.Choices.{if-no}
 use Rattle.machine.proofs.Basics.Updates.{update, update-wrote, update-other, wrote-all}
 use Rattle.machine.proofs.Words.Memories.{View, viewed, view}
 use Rattle.machine.proofs.Words.StartLaws.{startView}
@@ -46,18 +44,27 @@ no-links-no-removers {M} fresh-tasks no-link =
           subst (λ (t : Task). Sure (duty (t .step)) (t .side) (view (t .side) M) t) (sym (fresh-tasks j)) tt;
     }
 
-start-no-link : (s : Side) (μ : Mark) (n : ℕ)
-    → view s startView .val n ≡ marked μ s
-    → view s startView .out n ≡ none
-unfolding ℕ-discrete
-start-no-link left μ zero v = refl
-start-no-link left end (suc zero) v = clash (cc)
-start-no-link left cut (suc zero) v = clash (cc)
-start-no-link left μ (suc (suc x)) v = if-no (suc (suc x) ≟ 1) 0 none (λ e. omega arith)
-start-no-link right end zero v = clash (cc)
-start-no-link right cut zero v = clash (cc)
-start-no-link right μ (suc zero) v = refl
-start-no-link right μ (suc (suc x)) v = if-no (suc (suc x) ≟ 0) 1 none (λ e. omega arith)
+start-no-link : (L : ℕ) (s : Side) (μ : Mark) (n : ℕ)
+    → view s (startView L) .val n ≡ marked μ s
+    → view s (startView L) .out n ≡ none
+start-no-link L left μ n v = go μ (n <? 2 * L) (n % 2 ≟ 0) v
+  where
+    go : (μ : Mark) (d : Dec (n < 2 * L)) (p : Dec (n % 2 ≡ 0))
+        → (if d then (if p then X left else X right) else never) ≡ marked μ left
+        → (if d then (if p then none else n - 1) else none) ≡ none
+    go μ (no h) p v = refl
+    go μ (yes h) (yes e) v = refl
+    go end (yes h) (no e) v = clash (cc)
+    go cut (yes h) (no e) v = clash (cc)
+start-no-link L right μ n v = go μ (n <? 2 * L) (n % 2 ≟ 0) v
+  where
+    go : (μ : Mark) (d : Dec (n < 2 * L)) (p : Dec (n % 2 ≡ 0))
+        → (if d then (if p then X left else X right) else never) ≡ marked μ right
+        → (if d then (if p then n + 1 else none) else none) ≡ none
+    go μ (no h) p v = refl
+    go end (yes h) (yes e) v = clash (cc)
+    go cut (yes h) (yes e) v = clash (cc)
+    go μ (yes h) (no e) v = refl
 
 -- ---- Begin: a record without a duty is put in the place of another.
 module _ {M : View} {ts : ℕ → Task} (H : LinksHaveRemovers M ts) (k : ℕ) (t : Task)
@@ -101,10 +108,10 @@ first-no-duty remove = refl
 removers-last : Lasts LinksHaveRemovers
 removers-last =
     record {
-      at-start = λ fresh-tasks. no-links-no-removers fresh-tasks start-no-link;
+      at-start = λ L few fresh-tasks. no-links-no-removers fresh-tasks (start-no-link L);
       at-begin =
-          λ H k was-fresh op s argument.
-          removers-after-begin H k (begunTask op s argument) (ap (λ (x : Task). duty (x .step)) was-fresh)
+          λ H k was-fresh l op s argument.
+          removers-after-begin H k (begunTask l op s argument) (ap (λ (x : Task). duty (x .step)) was-fresh)
           (first-no-duty op);
       at-tick = λ H I R k g f busy free-f. removers-after-tick I R H k g f busy free-f;
     }

@@ -35,13 +35,13 @@ pub record KeepsRemovers (held : ℕ → Bool) (class : ℕ → Class) (z : Side
   pub still-cut : (μ : Mark) (n : ℕ) → m' .val n ≡ marked μ z → m' .out n ≢ none → StillCut z m m' d d' t t' μ n
   pub link-stays : (x : ℕ) → held x ≡ true → Old class x → m .out x ≢ none → LinkStays z m m' x
 
--- A tick of a task on side s with effect e: on its own side, where its duty counts, on the other side, and what its new
--- step says of A and B.
-pub record RemoversAfter (held : ℕ → Bool) (class : ℕ → Class) (s o : Side) (m : View) (d : Duty) (t : Task)
+-- A tick of a task of lane ℓ on side s with effect e: on its own side, where its duty counts, on the other side, and
+-- what its new step says of A and B.
+pub record RemoversAfter (held : ℕ → Bool) (class : ℕ → Class) (ℓ : ℕ) (s o : Side) (m : View) (d : Duty) (t : Task)
     (e : Effect) : Type 0 where
-  pub near : KeepsRemovers held class s m (written s (e .writes) m) d (duty (e .task .step)) t (e .task)
-  pub far : KeepsRemovers held class o (swapped m) (swapped (written s (e .writes) m)) no-duty no-duty t (e .task)
-  pub sure : Sure (duty (e .task .step)) s (written s (e .writes) m) (e .task)
+  pub near : KeepsRemovers held class s m (written ℓ s (e .writes) m) d (duty (e .task .step)) t (e .task)
+  pub far : KeepsRemovers held class o (swapped m) (swapped (written ℓ s (e .writes) m)) no-duty no-duty t (e .task)
+  pub sure : Sure (duty (e .task .step)) s (written ℓ s (e .writes) m) (e .task)
 
 -- ---- Values that are no mark X or Y of a side.
 pub record Plain (z : Side) (v : Value) : Type 0 where

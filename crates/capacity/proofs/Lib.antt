@@ -19,6 +19,6 @@ pub mod Theorem
 pub mod PushEffects
 pub mod PushesAlone
 pub mod WhenFull
-pub mod Capacity
 pub mod NewNumber
 pub mod FillsUp
+pub mod Capacity

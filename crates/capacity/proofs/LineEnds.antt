@@ -50,9 +50,10 @@ read-off o (N z) = by-if (λ (st : Step). duty st ≡ no-duty) (N z ≟ᵛ N o) 
 read-off o (X z) = by-if (λ (st : Step). duty st ≡ no-duty) (X z ≟ᵛ X o) (λ _. refl) (λ _. refl)
 read-off o (Y z) = refl
 
-module _ {held : ℕ → Bool} {class : ℕ → Class} {s o : Side} {m : View} {t : Task} where
+module _ {held : ℕ → Bool} {class : ℕ → Class} {ℓ : ℕ} {s o : Side} {m : View} {t : Task} where
   -- A tick that is refused leaves the task with its duty.
-  pub stays : {st : Step} → t .step ≡ st → Sure (duty st) s m t → RemoversAfter held class s o m (duty st) t (refused t)
+  pub stays : {st : Step} → t .step ≡ st → Sure (duty st) s m t
+      → RemoversAfter held class ℓ s o m (duty st) t (refused t)
   stays {st} e u =
       record {
         near =
@@ -67,13 +68,13 @@ module _ {held : ℕ → Bool} {class : ℕ → Class} {s o : Side} {m : View} {
       }
 
   pub past : {st : Step} → t .step ≡ st → Sure (duty st) s m t → {x : ℕ} {e : Effect}
-      → (x ≢ none → RemoversAfter held class s o m (duty st) t e)
-      → RemoversAfter held class s o m (duty st) t (through x t e)
-  past {st} e u h = ok-through (RemoversAfter held class s o m (duty st) t) (λ _. stays e u) h
+      → (x ≢ none → RemoversAfter held class ℓ s o m (duty st) t e)
+      → RemoversAfter held class ℓ s o m (duty st) t (through x t e)
+  past {st} e u h = ok-through (RemoversAfter held class ℓ s o m (duty st) t) (λ _. stays e u) h
 
   -- A task without a duty goes to a step without a duty, and writes nothing.
   pub off : {t' : Task} {a : Answer} → duty (t' .step) ≡ no-duty
-      → RemoversAfter held class s o m no-duty t (record { writes = []; task = t'; answer = a })
+      → RemoversAfter held class ℓ s o m no-duty t (record { writes = []; task = t'; answer = a })
   off {t'} e =
       record {
         near = same-words (λ n. refl) (λ n. refl);
@@ -85,7 +86,7 @@ module _ {held : ℕ → Bool} {class : ℕ → Class} {s o : Side} {m : View} {
   pub goes : (d : Duty) {t' : Task} {a : Answer}
       → Sure (duty (t' .step)) s m t'
       → ((μ : Mark) (n : ℕ) → Cuts d μ t n (m .out n) → Cuts (duty (t' .step)) μ t' n (m .out n))
-      → RemoversAfter held class s o m d t (record { writes = []; task = t'; answer = a })
+      → RemoversAfter held class ℓ s o m d t (record { writes = []; task = t'; answer = a })
   goes d u c =
       record {
         near =

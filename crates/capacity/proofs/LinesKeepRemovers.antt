@@ -59,35 +59,36 @@ use Rattle.capacity.proofs.RemoveLines.{
 }
 
 -- x-cut: where an X leads, there is a Y.
-module _ (held : ℕ → Bool) (k : ℕ) (s o : Side) (w : Opposite s o) (m : View) (class : ℕ → Class)
+module _ (L : ℕ) (held : ℕ → Bool) (k : ℕ) (s o : Side) (w : Opposite s o) (m : View) (class : ℕ → Class)
     (x-cut : (n : ℕ) → m .val n ≡ X s → m .out n ≢ none → m .val (m .out n) ≡ Y s)
     (t : Task) (g f : ℕ) where
   abbrev Ok : Duty → Effect → Type 0
-  Ok d e = RemoversAfter held class s o m d t e
+  Ok d e = RemoversAfter held class (t .lane) s o m d t e
 
   abbrev LineOk : Step → Type 0
   LineOk st =
-      t .step ≡ st → TaskOk k s o m class st t → Sure (duty st) s m t → Ok (duty st) (act st s o (seenIn s m) t g f)
+      t .step ≡ st → TaskOk k s o m class st t → Sure (duty st) s m t
+      → Ok (duty st) (act st s o (seenIn (t .lane) s m) t g f)
 
-  pub removers-after : (f ≢ none → TakeOk held m class f) → (st : Step) → LineOk st
+  pub removers-after : (f ≢ none → TakeOk L held m class f) → (st : Step) → LineOk st
   unfolding act
   removers-after free-f rest e h u = off refl
   removers-after free-f Steps.line2 e h u = line2-cut held k s o w m class t g f e h u
   removers-after free-f Steps.line3 e h u = line3-cut held k s o w m class t g f e h u
-  removers-after free-f Steps.line5 e h u = line5-cut held k s o w m class x-cut t g f e h u
+  removers-after free-f Steps.line5 e h u = line5-cut L held k s o w m class x-cut t g f e h u
   removers-after free-f Steps.line8 e h u = line8-cut held k s o w m class t g f e h u
   removers-after free-f Steps.line15 e h u = line15-cut held k s o w m class t g f e h u
   removers-after free-f Steps.line17 e h u = line17-cut held k s o w m class t g f e h u
   removers-after free-f Steps.line18 e h u = line18-cut held k s o w m class t g f e h u
-  removers-after free-f Steps.line24 e h u = line24-cut held k s o w m class x-cut t g f e h u
-  removers-after free-f Steps.line25 e h u = line25-cut held k s o w m class x-cut t g f e h u
-  removers-after free-f Steps.line28 e h u = line28-cut held k s o w m class x-cut t g f free-f e h u
-  removers-after free-f Steps.line31 e h u = line31-cut held k s o w m class x-cut t g f free-f e h u
+  removers-after free-f Steps.line24 e h u = line24-cut L held k s o w m class x-cut t g f e h u
+  removers-after free-f Steps.line25 e h u = line25-cut L held k s o w m class x-cut t g f e h u
+  removers-after free-f Steps.line28 e h u = line28-cut L held k s o w m class x-cut t g f free-f e h u
+  removers-after free-f Steps.line31 e h u = line31-cut L held k s o w m class x-cut t g f free-f e h u
   removers-after free-f Steps.line39 e h u = line39-cut held k s o w m class t g f e h u
   removers-after free-f Steps.line40 e h u = line40-cut held k s o w m class t g f e h u
   removers-after free-f Steps.line42 e h u = line42-cut held k s o w m class t g f e h u
   removers-after free-f Steps.line48 e h u = line48-cut held k s o w m class t g f e h u
-  removers-after free-f Steps.line51 e h u = line51-cut held k s o w m class x-cut t g f e h u
+  removers-after free-f Steps.line51 e h u = line51-cut L held k s o w m class x-cut t g f e h u
   removers-after free-f Steps.line54 e h u = line54-cut held k s o w m class t g f e h u
   removers-after free-f Steps.line56 e h u = line56-cut held k s o w m class t g f e h u
   removers-after free-f Steps.line58 e h u = line58-cut held k s o w m class t g f e h u
@@ -98,7 +99,7 @@ module _ (held : ℕ → Bool) (k : ℕ) (s o : Side) (w : Opposite s o) (m : Vi
   removers-after free-f Steps.line68 e h u = line68-cut held k s o w m class t g f e h u
   removers-after free-f Steps.line69 e h u = line69-cut held k s o w m class t g f e h u
   removers-after free-f Steps.line70 e h u = line70-cut held k s o w m class t g f e h u
-  removers-after free-f Steps.line72 e h u = line72-cut held k s o w m class x-cut t g f e h u
+  removers-after free-f Steps.line72 e h u = line72-cut L held k s o w m class x-cut t g f e h u
   removers-after free-f Steps.line74 e h u = line74-cut held k s o w m class t g f e h u
   removers-after free-f Steps.line77 e h u = line77-cut held k s o w m class t g f e h u
   removers-after free-f Steps.line78 e h u = line78-cut held k s o w m class t g f e h u

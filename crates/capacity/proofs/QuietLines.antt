@@ -23,11 +23,12 @@ use Rattle.capacity.proofs.LineEnds.{back-off, read-off, past, off}
 module _ (held : ℕ → Bool) (k : ℕ) (s o : Side) (w : Opposite s o) (m : View) (class : ℕ → Class)
     (t : Task) (g f : ℕ) where
   abbrev Ok : Duty → Effect → Type 0
-  Ok d e = RemoversAfter held class s o m d t e
+  Ok d e = RemoversAfter held class (t .lane) s o m d t e
 
   abbrev LineOk : Step → Type 0
   LineOk st =
-      t .step ≡ st → TaskOk k s o m class st t → Sure (duty st) s m t → Ok (duty st) (act st s o (seenIn s m) t g f)
+      t .step ≡ st → TaskOk k s o m class st t → Sure (duty st) s m t
+      → Ok (duty st) (act st s o (seenIn (t .lane) s m) t g f)
 
   pub line2-cut : LineOk Steps.line2
   unfolding act
@@ -122,7 +123,7 @@ module _ (held : ℕ → Bool) (k : ℕ) (s o : Side) (w : Opposite s o) (m : Vi
   pub line54-cut : LineOk Steps.line54
   unfolding act
   line54-cut e h u =
-      ok-if (Ok no-duty) (λ st. next (withA t (m .hats s)) st) (_ ≟ _) (λ _. off refl) (λ _. off refl)
+      ok-if (Ok no-duty) (λ st. next (withA t (m .hats (t .lane) s)) st) (_ ≟ _) (λ _. off refl) (λ _. off refl)
 
   pub line56-cut : LineOk Steps.line56
   unfolding act

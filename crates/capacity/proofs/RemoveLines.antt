@@ -54,11 +54,12 @@ use Rattle.capacity.proofs.LineEnds.{past, off, goes}
 module _ (held : ℕ → Bool) (k : ℕ) (s o : Side) (w : Opposite s o) (m : View) (class : ℕ → Class)
     (t : Task) (g f : ℕ) where
   abbrev Ok : Duty → Effect → Type 0
-  Ok d e = RemoversAfter held class s o m d t e
+  Ok d e = RemoversAfter held class (t .lane) s o m d t e
 
   abbrev LineOk : Step → Type 0
   LineOk st =
-      t .step ≡ st → TaskOk k s o m class st t → Sure (duty st) s m t → Ok (duty st) (act st s o (seenIn s m) t g f)
+      t .step ≡ st → TaskOk k s o m class st t → Sure (duty st) s m t
+      → Ok (duty st) (act st s o (seenIn (t .lane) s m) t g f)
 
   pub line60-cut : LineOk Steps.line60
   unfolding act
@@ -85,7 +86,7 @@ module _ (held : ℕ → Bool) (k : ℕ) (s o : Side) (w : Opposite s o) (m : Vi
       t' = goto t Steps.line64
 
       m' : View
-      m' = written s (val≔ (t .A) (X s) ∷ val≔ (t .B) (Y s) ∷ []) m
+      m' = written (t .lane) s (val≔ (t .A) (X s) ∷ val≔ (t .B) (Y s) ∷ []) m
 
       is-linked : m .val (t .A) ≡ N s → m .val (t .B) ≡ N s → m .out (t .A) ≡ t .B
       is-linked a b = elim u [ inl q ↦ q | inr (inl q) ↦ clash (cc) | inr (inr q) ↦ clash (cc) ]
@@ -213,7 +214,7 @@ module _ (held : ℕ → Bool) (k : ℕ) (s o : Side) (w : Opposite s o) (m : Vi
       t' = goto t Steps.line79
 
       m' : View
-      m' = written s (val≔ (t .B) (Y s) ∷ []) m
+      m' = written (t .lane) s (val≔ (t .B) (Y s) ∷ []) m
 
       at-B-cut : (μ : Mark) (n : ℕ) → n ≡ t .B → m' .val n ≡ Y s → m' .val n ≡ marked μ s
           → StillCut s m m' at-A at-both t t' μ n

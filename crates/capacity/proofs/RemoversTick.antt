@@ -26,12 +26,13 @@ use Rattle.machine.proofs.Linearizability.Model.Invariant.{
   Invariant,
   RegistersHeld,
   Roots,
+  every-lane,
   Kept,
   goes-on,
   has-answered,
   TickOk,
 }
-use Rattle.machine.proofs.Linearizability.Model.LaneViews.{lane-view}
+use Rattle.machine.proofs.Linearizability.Model.LaneViews.{lanes-view}
 use Rattle.machine.proofs.Linearizability.Writes.FreeNode.{take-ok}
 use Rattle.machine.proofs.Linearizability.Lines.Tick.{tick-ok}
 use Rattle.machine.proofs.Linearizability.Lines.InvariantTick.{guarantees-view, effectIn}
@@ -174,8 +175,8 @@ module _ {held : ℕ → Bool} {class : ℕ → Class} {z : Side} (m m' : View)
   sure-stays Steps.line82 R h u = Y-then (t .A) (R inA refl) (cc (h .relies)) u
 
 -- ---- The tick.
-module _ {held : ℕ → Bool} {M : View} {ts : ℕ → Task} {class : ℕ → Class} {r : List ℕ}
-    (I : Invariant M ts class r) (R : Roots held M ts) (H : LinksHaveRemovers M ts)
+module _ {L : ℕ} {held : ℕ → Bool} {M : View} {ts : ℕ → Task} {class : ℕ → Class} {r : ℕ → List ℕ}
+    (I : Invariant L M ts class r) (R : Roots L held M ts) (H : LinksHaveRemovers M ts)
     (k g f : ℕ) (busy : ts k .operation ≢ idle) (free-f : f ≢ none → held f ≡ false) where
   abbrev s : Side
   s = ts k .side
@@ -190,7 +191,7 @@ module _ {held : ℕ → Bool} {M : View} {ts : ℕ → Task} {class : ℕ → C
   e = effectIn M ts k g f
 
   abbrev m' : View
-  m' = written s (e .writes) m
+  m' = written (ts k .lane) s (e .writes) m
 
   abbrev M' : View
   M' = view s m'
@@ -205,14 +206,14 @@ module _ {held : ℕ → Bool} {M : View} {ts : ℕ → Task} {class : ℕ → C
       let u = subst (λ (z : Side). Sure (duty (ts j .step)) z (view z M) (ts j)) (c .on-side) (H .sure j) in
       end-leads-to-Y (duty (ts j .step)) s m (ts j) n (m .out n) (c .cuts) u
 
-  effect-ok : TickOk held k s o m class (rowFrom s r) (ts k) e
+  effect-ok : TickOk held L k s o m class (λ l. rowFrom s (r l)) (ts k) e
   effect-ok =
-      tick-ok held k (lane-view s (I .lane)) (ts k) g f (λ h. take-ok I R s f (free-f h)) busy (ts k .step)
-      (I .task-ok k)
+      tick-ok held k (lanes-view s (I .lanes)) (ts k) (I .own-lane k) g f (λ h. take-ok I R s f (free-f h)) busy
+      (ts k .step) (I .task-ok k)
 
-  cutters : RemoversAfter held class s o m (duty (ts k .step)) (ts k) e
+  cutters : RemoversAfter held class (ts k .lane) s o m (duty (ts k .step)) (ts k) e
   cutters =
-      removers-after held k s o (sides s) m class x-cut (ts k) g f (λ h. take-ok I R s f (free-f h)) (ts k .step) refl
+      removers-after L held k s o (sides s) m class x-cut (ts k) g f (λ h. take-ok I R s f (free-f h)) (ts k .step) refl
       (I .task-ok k) (H .sure k)
 
   -- ---- The nodes.
@@ -284,9 +285,10 @@ module _ {held : ℕ → Bool} {M : View} {ts : ℕ → Task} {class : ℕ → C
   other-sure : (j : ℕ) → j ≢ k → Sure (duty (ts j .step)) (ts j .side) (view (ts j .side) M') (ts j)
   other-sure j ne =
       let z : Side = ts j .side in
-      let S = lane-view z (I .lane) .structure in
+      let D = lanes-view z (I .lanes) in
+      let S = D .lane (ts j .lane) (I .own-lane j) .structure in
       let G = guarantees-view s z M m' (effect-ok .guarantees) in
-      sure-stays (view z M) (view z M') (S .none-free) (G .near .Y-stays) (Y-in-spur S) (links-after z)
+      sure-stays (view z M) (view z M') (S .none-free) (G .near .Y-stays) (Y-in-spur S (every-lane D)) (links-after z)
       (ts j) (ts j .step) (R .registers j) (I .task-ok j) (H .sure j)
 
   own-sure : Sure (duty (e .task .step)) (e .task .side) (view (e .task .side) M') (e .task)
@@ -304,7 +306,7 @@ module _ {held : ℕ → Bool} {M : View} {ts : ℕ → Task} {class : ℕ → C
           subst (λ (y : Task). Sure (duty (y .step)) (y .side) (view (y .side) M') y) (sym q) tt
 
   pub removers-after-tick : LinksHaveRemovers
-      (viewAfter (ts k .side) (effectIn M ts k g f .writes) M) (update ts k (effectIn M ts k g f .task))
+      (viewAfter (ts k .lane) (ts k .side) (effectIn M ts k g f .writes) M) (update ts k (effectIn M ts k g f .task))
   removers-after-tick =
       record {
         has-removers = λ z. removers-view s z m' near-removers far-removers;

@@ -40,15 +40,16 @@ use Rattle.capacity.proofs.KeepsRemovers.{
 use Rattle.capacity.proofs.LineEnds.{chain-owner, back-off, past, off}
 
 -- x-cut: where an X leads, there is a Y.
-module _ (held : ℕ → Bool) (k : ℕ) (s o : Side) (w : Opposite s o) (m : View) (class : ℕ → Class)
+module _ (L : ℕ) (held : ℕ → Bool) (k : ℕ) (s o : Side) (w : Opposite s o) (m : View) (class : ℕ → Class)
     (x-cut : (n : ℕ) → m .val n ≡ X s → m .out n ≢ none → m .val (m .out n) ≡ Y s)
     (t : Task) (g f : ℕ) where
   abbrev Ok : Duty → Effect → Type 0
-  Ok d e = RemoversAfter held class s o m d t e
+  Ok d e = RemoversAfter held class (t .lane) s o m d t e
 
   abbrev LineOk : Step → Type 0
   LineOk st =
-      t .step ≡ st → TaskOk k s o m class st t → Sure (duty st) s m t → Ok (duty st) (act st s o (seenIn s m) t g f)
+      t .step ≡ st → TaskOk k s o m class st t → Sure (duty st) s m t
+      → Ok (duty st) (act st s o (seenIn (t .lane) s m) t g f)
 
   pub line5-cut : LineOk Steps.line5
   unfolding act
@@ -105,7 +106,7 @@ module _ (held : ℕ → Bool) (k : ℕ) (s o : Side) (w : Opposite s o) (m : Vi
             far = same-words (λ n. refl) (λ n. refl);
             sure =
                 subst
-                (λ (d : Duty). Sure d s (written s (hat≔ (t .C) ∷ []) m) (goto t (back t)))
+                (λ (d : Duty). Sure d s (written (t .lane) s (hat≔ (t .C) ∷ []) m) (goto t (back t)))
                 (sym no-duty-back) tt;
           }
 
@@ -168,7 +169,7 @@ module _ (held : ℕ → Bool) (k : ℕ) (s o : Side) (w : Opposite s o) (m : Vi
                       ];
                 };
             far = plain-value (λ n. refl) wv N-plain;
-            sure = subst (λ (d : Duty). Sure d s (written s l m) t') (sym q) tt;
+            sure = subst (λ (d : Duty). Sure d s (written (t .lane) s l m) t') (sym q) tt;
           }
 
       by-operation : m .val (t .A) ≡ X s → (op : Operation) → Ok no-duty (spliced op l t)
@@ -179,10 +180,10 @@ module _ (held : ℕ → Bool) (k : ℕ) (s o : Side) (w : Opposite s o) (m : Vi
       by-operation v remove = done v refl
 
   -- A node that is not held is not f's.
-  apart : TakeOk held m class f → (x : ℕ) → held x ≡ true → x ≢ f
+  apart : TakeOk L held m class f → (x : ℕ) → held x ≡ true → x ≢ f
   apart K x r z = refute (cc (K .not-held))
 
-  pub line28-cut : (f ≢ none → TakeOk held m class f) → LineOk Steps.line28
+  pub line28-cut : (f ≢ none → TakeOk L held m class f) → LineOk Steps.line28
   unfolding act
   line28-cut free-f e h u =
       ok-if (Ok no-duty) (λ x. x) (_ ≟ _) (λ _. off refl) (λ some.
@@ -223,10 +224,10 @@ module _ (held : ℕ → Bool) (k : ℕ) (s o : Side) (w : Opposite s o) (m : Vi
                       as-before (b .1) (sym (wi .elsewhere n (b .0))) (λ c. absurd c);
                   link-stays = λ x r _ _. same-link (wi .elsewhere x (apart (free-f some) x r));
                 };
-            sure = subst (λ (d : Duty). Sure d s (written s l m) t') (sym q) tt;
+            sure = subst (λ (d : Duty). Sure d s (written (t .lane) s l m) t') (sym q) tt;
           }
 
-  pub line31-cut : (f ≢ none → TakeOk held m class f) → LineOk Steps.line31
+  pub line31-cut : (f ≢ none → TakeOk L held m class f) → LineOk Steps.line31
   unfolding act
   line31-cut free-f e h u =
       past e u (λ _.
@@ -276,5 +277,5 @@ module _ (held : ℕ → Bool) (k : ℕ) (s o : Side) (w : Opposite s o) (m : Vi
                       let not-D : x ≢ t .D = λ z. refute (cc (head-new (h .chain))) in
                       same-link (wd .elsewhere x not-D ∙ wi .elsewhere x (apart (free-f some) x r));
                 };
-            sure = subst (λ (d : Duty). Sure d s (written s l m) t') (sym q) tt;
+            sure = subst (λ (d : Duty). Sure d s (written (t .lane) s l m) t') (sym q) tt;
           }

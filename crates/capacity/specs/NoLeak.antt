@@ -1,14 +1,15 @@
--- No node leaks: when no task is in a call, the main list and the nodes under the hats are all that is held.
+-- No node leaks: when no task is in a call, the main lists of the lanes and the nodes under the hats are all that is
+-- held.
 use mathlib.Core.Path.{_≡_}
 use mathlib.Core.List.{List}
 use mathlib.Core.Option.{some}
-use Prim.Native.Nat.{ℕ, suc, _+_, _-_, _≤_, _<_}
+use Prim.Native.Nat.{ℕ, zero, suc, _+_, _-_, _≤_, _<_}
 use lib.ListN.{length, getD}
 use Rattle.machine.specs.Sides.{Side, left, right, opposite}
 use Rattle.machine.specs.Values.{bag, N, X, Y}
 use Rattle.machine.specs.Operations.{idle}
 use Rattle.machine.specs.Tasks.{none}
-use Rattle.machine.specs.Table.{nodeCount, hat, link, value, task}
+use Rattle.machine.specs.Table.{nodeCount, laneCount, hat, link, value, task}
 use Rattle.machine.specs.Reach.{Reachable, Free}
 use Rattle.machine.specs.Calls.{lane}
 use Rattle.machine.specs.Begun.{Begun}
@@ -17,7 +18,8 @@ use Rattle.machine.specs.Begun.{Begun}
 abbrev pub Idle : List ℕ → Type 0
 Idle ws = (k : ℕ) → task ws k .operation ≡ idle
 
--- ---- The main list, from left to right: l spare nodes of the left side, the bags, r spare nodes of the right side.
+-- ---- The main list of a lane, from left to right: l spare nodes of the left side, the bags, r spare nodes of the
+-- right side.
 abbrev pub listSize : (l : ℕ) → (bags : List ℕ) → (r : ℕ) → ℕ
 listSize l bags r = l + length bags + r
 
@@ -40,39 +42,56 @@ pub record MainList (ws : List ℕ) (at : ℕ → ℕ) (l : ℕ) (bags : List �
 
 -- ---- The hats.
 
--- A hat is at the innermost spare node of its side; or at a node beside the list, which is Y, has no
--- outward link, and leads inward to the node next to the innermost spare one.
-pub data HatPlace (ws : List ℕ) (s : Side) (spare next : ℕ) : Type 0 where
-  in-list : hat ws s ≡ spare → HatPlace ws s spare next
+-- A hat of lane ℓ is at the innermost spare node of its side; or at a node beside the list, which is Y, has no outward
+-- link, and leads inward to the node next to the innermost spare one. The last number is how many nodes beside the list
+-- the hat holds.
+pub data HatPlace (ws : List ℕ) (ℓ : ℕ) (s : Side) (spare next : ℕ) : (beside : ℕ) → Type 0 where
+  in-list : hat ws ℓ s ≡ spare → HatPlace ws ℓ s spare next 0
   beside :
-      value ws (hat ws s) ≡ Y s
-      → link ws s (hat ws s) ≡ none
-      → link ws (opposite s) (hat ws s) ≡ next
-      → HatPlace ws s spare next
+      value ws (hat ws ℓ s) ≡ Y s
+      → link ws s (hat ws ℓ s) ≡ none
+      → link ws (opposite s) (hat ws ℓ s) ≡ next
+      → HatPlace ws ℓ s spare next 1
 
--- How many nodes beside the list the hat holds.
-abbrev pub besideCount : {ws : List ℕ} {s : Side} {spare next : ℕ} → HatPlace ws s spare next → ℕ
-besideCount (in-list e) = 0
-besideCount (beside y o i) = 1
-
--- ---- What is held: the nodes of the list, and the nodes under the hats.
-pub data Held (ws : List ℕ) (at : ℕ → ℕ) (size x : ℕ) : Type 0 where
-  listed : (i : ℕ) → i < size → at i ≡ x → Held ws at size x
-  under-hat : (s : Side) → hat ws s ≡ x → value ws x ≡ Y s → Held ws at size x
-
--- An idle table is five numbers: l, how many bags, r, and whether each hat is beside the list.
-pub record IdleTable (ws : List ℕ) : Type 0 where
+-- ---- A lane of an idle table: its places and five numbers, l, how many bags, r, and x and y, how many nodes beside
+-- the list the left hat and the right hat hold.
+pub record LaneShape : Type 0 where
   pub at : ℕ → ℕ
   pub l : ℕ
-  pub r : ℕ
   pub bags : List ℕ
-  pub lane-is : lane ws ≡ some bags
-  pub main-list : MainList ws at l bags r
-  pub left-hat : HatPlace ws left (at (l - 1)) (at l)
-  pub right-hat : HatPlace ws right (at (l + length bags)) (at (l + length bags - 1))
-  -- All that is reachable is in the list or under a hat, and all of the list is reachable.
-  pub held : (x : ℕ) → Reachable ws x → Held ws at (listSize l bags r) x
-  pub reached : (i : ℕ) → i < listSize l bags r → Reachable ws (at i)
+  pub r : ℕ
+  pub x : ℕ
+  pub y : ℕ
+
+abbrev pub listOf : LaneShape → ℕ
+listOf I = listSize (I .l) (I .bags) (I .r)
+
+abbrev pub laneSize : LaneShape → ℕ
+laneSize I = listOf I + (I .x + I .y)
+
+pub record IdleLane (ws : List ℕ) (ℓ : ℕ) (I : LaneShape) : Type 0 where
+  pub lane-is : lane ws ℓ ≡ some (I .bags)
+  pub main-list : MainList ws (I .at) (I .l) (I .bags) (I .r)
+  pub left-hat : HatPlace ws ℓ left (I .at (I .l - 1)) (I .at (I .l)) (I .x)
+  pub right-hat :
+      HatPlace ws ℓ right (I .at (I .l + length (I .bags))) (I .at (I .l + length (I .bags) - 1)) (I .y)
+  pub reached : (i : ℕ) → i < listOf I → Reachable ws (I .at i)
+
+-- ---- What a lane holds: the nodes of its list, and the nodes under its hats.
+pub data Held (ws : List ℕ) (ℓ : ℕ) (I : LaneShape) (x : ℕ) : Type 0 where
+  listed : (i : ℕ) → i < listOf I → I .at i ≡ x → Held ws ℓ I x
+  under-hat : (s : Side) → hat ws ℓ s ≡ x → value ws x ≡ Y s → Held ws ℓ I x
+
+-- An idle table is five numbers for each lane.
+pub record IdleTable (ws : List ℕ) : Type 0 where
+  pub shape : (lane : ℕ) → LaneShape
+  pub idle-lane : (ℓ : ℕ) → ℓ < laneCount ws → IdleLane ws ℓ (shape ℓ)
+  -- All that is reachable is held by a lane, and no node is in the lists of two.
+  pub held : (x : ℕ) → Reachable ws x → (ℓ : ℕ) × (ℓ < laneCount ws) × Held ws ℓ (shape ℓ) x
+  pub lists-apart :
+      (ℓ j p q : ℕ) → ℓ < laneCount ws → j < laneCount ws → p < listOf (shape ℓ) → q < listOf (shape j)
+      → shape ℓ .at p ≡ shape j .at q
+      → ℓ ≡ j
 
 -- ---- How many nodes are free.
 
@@ -82,13 +101,16 @@ pub data CountBelow (P : ℕ → Type 0) : (n c : ℕ) → Type 0 where
   one-more : {n c : ℕ} → P n → CountBelow P n c → CountBelow P (suc n) (suc c)
   not-this : {n c : ℕ} → (P n → ⊥) → CountBelow P n c → CountBelow P (suc n) c
 
--- All nodes but the list's and those beside it are free: free = S - (l + b + r) - (x + y).
+-- f 0 + .. + f (n - 1).
+unfoldable pub total : (ℕ → ℕ) → (n : ℕ) → ℕ
+total f zero = 0
+total f (suc n) = total f n + f n
+
+-- All nodes but the lists' and those beside them are free: free = S - the lanes' (l + b + r) - (x + y).
 pub record AllCounted (ws : List ℕ) (T : IdleTable ws) : Type 0 where
   pub free : ℕ
   pub free-nodes : CountBelow (Free ws) (nodeCount ws) free
-  pub all-counted :
-      free + listSize (T .l) (T .bags) (T .r) + (besideCount (T .left-hat) + besideCount (T .right-hat))
-      ≡ nodeCount ws
+  pub all-counted : free + total (λ ℓ. laneSize (T .shape ℓ)) (laneCount ws) ≡ nodeCount ws
 
 -- Every table that our calls lead to is such a table at every moment when no task is in a call.
 abbrev pub NoLeak : Type 0

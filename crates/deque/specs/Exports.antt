@@ -8,7 +8,8 @@ use Rattle.machine.specs.declared.Ran.{Ran}
 use Rattle.machine.specs.Answers.{kindOf, payloadOf, dispatchKindOf, dispatchPayloadOf}
 use Rattle.packed.specs.TagLists as TagLists
 
--- Two words in one number of 64 bits.
+-- Two words in one number of 64 bits. In what a run, a panel's list, a read and a tag list give, the high one is the
+-- refusal or 0 and the low one the count.
 abbrev pub pairOf : (high low : ℕ) → ℕ
 pairOf high low = high * 2 ^ 32 + low
 
@@ -20,17 +21,17 @@ answerNumber a = kindOf a * 2 ^ 40 + payloadOf a
 abbrev pub dispatchNumber : Dispatch → ℕ
 dispatchNumber d = dispatchKindOf d * 2 ^ 40 + dispatchPayloadOf d
 
--- The ticks made with the number that stopped the run, or with 0.
+-- The number that stopped the run, or 0, with the ticks made.
 abbrev pub ranNumber : Ran → ℕ
-ranNumber r = pairOf (r .made) (r .refusal)
+ranNumber r = pairOf (r .refusal) (r .made)
 
--- The count, or 2^32 plus the refusal.
+-- 0 with the count of the tags, or the refusal with 0.
 abbrev pub readingNumber : Reading → ℕ
-readingNumber (Count n) = n
-readingNumber (Refused n) = 4294967296 + n
+readingNumber (Count n) = pairOf 0 n
+readingNumber (Refused n) = pairOf n 0
 
--- 2026-05: the number of tags, or the refusal with its place; only 18 has one.
+-- 2026-05: 0 with the number of tags, or the refusal with its place; only 18 has one.
 abbrev pub listNumber : TagLists.Answer → ℕ
-listNumber (TagLists.count n) = n
+listNumber (TagLists.count n) = pairOf 0 n
 listNumber (TagLists.refused number) = pairOf number 0
 listNumber (TagLists.refusedAt number place) = pairOf number place

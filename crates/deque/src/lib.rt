@@ -68,15 +68,15 @@ fn reply_number(r: Reply) -> u32
 fn ran_number(ran: Ran) -> u64
     ensures { λ n. ⌜ n ≡ ranNumber ran ⌝ }
 {
-    pair(ran.made, ran.refusal)
+    pair(ran.refusal, ran.made)
 }
 
 fn reading_number(r: Reading) -> u64
     ensures { λ n. ⌜ n ≡ readingNumber r ⌝ }
 {
     match r {
-        Reading::Count(n) => n as u64,
-        Reading::Refused(n) => 4_294_967_296 + (n as u64),
+        Reading::Count(n) => pair(0, n),
+        Reading::Refused(n) => pair(n, 0),
     }
 }
 
@@ -84,7 +84,7 @@ fn list_number(l: Listed) -> u64
     ensures { λ n. ⌜ n ≡ listNumber (answerOf l) ⌝ }
 {
     match l {
-        Listed::Count(n) => n as u64,
+        Listed::Count(n) => pair(0, n),
         Listed::BadLength => pair(17, 0),
         Listed::BadTag(place) => pair(18, place),
         Listed::TooShort => pair(19, 0),
@@ -93,11 +93,17 @@ fn list_number(l: Listed) -> u64
 
 // 0, or the refusal.
 #[no_mangle]
-pub extern "C" fn lane_start(table: &mut [u32], slots: u32, tasks: u32, growth: u32) -> u32
-    ensures { λ r. ⌜ r ≡ replyNumber (calls.start (now (table .entry)) slots tasks growth .reply) ⌝ }
-    ensures { λ r. ⌜ now (table .exit) ≡ calls.start (now (table .entry)) slots tasks growth .words ⌝ }
+pub extern "C" fn lane_start(
+    table: &mut [u32],
+    slots: u32,
+    tasks: u32,
+    growth: u32,
+    lanes: u32,
+) -> u32
+    ensures { λ r. ⌜ r ≡ replyNumber (calls.start (now (table .entry)) slots tasks growth lanes .reply) ⌝ }
+    ensures { λ r. ⌜ now (table .exit) ≡ calls.start (now (table .entry)) slots tasks growth lanes .words ⌝ }
 {
-    reply_number(start(table, slots, tasks, growth))
+    reply_number(start(table, slots, tasks, growth, lanes))
 }
 
 // 0, or the refusal.
@@ -105,17 +111,25 @@ pub extern "C" fn lane_start(table: &mut [u32], slots: u32, tasks: u32, growth: 
 pub extern "C" fn lane_begin(
     table: &mut [u32],
     task: u32,
+    lane: u32,
     operation: u32,
     side: u32,
     digit: u32,
     argument: u32,
 ) -> u32
     ensures { λ r. ⌜ r
-        ≡ replyNumber (calls.begin (now (table .entry)) task operation side (storedOf digit argument) .reply) ⌝ }
+        ≡ replyNumber (calls.begin (now (table .entry)) task lane operation side (storedOf digit argument) .reply) ⌝ }
     ensures { λ r. ⌜ now (table .exit)
-        ≡ calls.begin (now (table .entry)) task operation side (storedOf digit argument) .words ⌝ }
+        ≡ calls.begin (now (table .entry)) task lane operation side (storedOf digit argument) .words ⌝ }
 {
-    reply_number(begin(table, task, operation, side, of_words(digit, argument)))
+    reply_number(begin(
+        table,
+        task,
+        lane,
+        operation,
+        side,
+        of_words(digit, argument),
+    ))
 }
 
 // The kind times 2^40 plus the tag or 0; kind 7 for a refusal, with its number.
@@ -136,11 +150,12 @@ pub extern "C" fn lane_dispatch(table: &mut [u32], hint: u32) -> u64
     dispatch_number(dispatch(table, hint))
 }
 
-// The ticks made times 2^32 plus the refusal that stopped the run, or 0.
+// The refusal that stopped the run, or 0, times 2^32, plus the ticks made.
 #[no_mangle]
 pub extern "C" fn lane_run(table: &mut [u32], list: &[u32], answers: &mut [u32]) -> u64
     ensures { λ r. ⌜ r ≡ ranNumber (calls.run (now (table .entry)) (now (list .entry)) (now (answers .entry)) .ran) ⌝ }
-    ensures { λ r. ⌜ now (table .exit) ≡ calls.run (now (table .entry)) (now (list .entry)) (now (answers .entry)) .words ⌝ }
+    ensures { λ r. ⌜ now (table .exit)
+        ≡ calls.run (now (table .entry)) (now (list .entry)) (now (answers .entry)) .words ⌝ }
     ensures { λ r. ⌜ now (answers .exit)
         ≡ calls.run (now (table .entry)) (now (list .entry)) (now (answers .entry)) .answers ⌝ }
 {
@@ -150,21 +165,23 @@ pub extern "C" fn lane_run(table: &mut [u32], list: &[u32], answers: &mut [u32])
 // The same for the panel's list.
 #[no_mangle]
 pub extern "C" fn lane_panel(table: &mut [u32], list: &[u32], answers: &mut [u32]) -> u64
-    ensures { λ r. ⌜ r ≡ ranNumber (calls.panel (now (table .entry)) (now (list .entry)) (now (answers .entry)) .ran) ⌝ }
-    ensures { λ r. ⌜ now (table .exit) ≡ calls.panel (now (table .entry)) (now (list .entry)) (now (answers .entry)) .words ⌝ }
+    ensures { λ r. ⌜ r
+        ≡ ranNumber (calls.panel (now (table .entry)) (now (list .entry)) (now (answers .entry)) .ran) ⌝ }
+    ensures { λ r. ⌜ now (table .exit)
+        ≡ calls.panel (now (table .entry)) (now (list .entry)) (now (answers .entry)) .words ⌝ }
     ensures { λ r. ⌜ now (answers .exit)
         ≡ calls.panel (now (table .entry)) (now (list .entry)) (now (answers .entry)) .answers ⌝ }
 {
     ran_number(panel(table, list, answers))
 }
 
-// The count of the tags, or 2^32 plus the refusal.
+// The count of the lane's tags, or the refusal times 2^32.
 #[no_mangle]
-pub extern "C" fn lane_read(table: &[u32], out: &mut [u32]) -> u64
-    ensures { λ r. ⌜ r ≡ readingNumber (calls.read (now (table .entry)) (now (out .entry)) .reading) ⌝ }
-    ensures { λ r. ⌜ now (out .exit) ≡ calls.read (now (table .entry)) (now (out .entry)) .out ⌝ }
+pub extern "C" fn lane_read(table: &[u32], lane: u32, out: &mut [u32]) -> u64
+    ensures { λ r. ⌜ r ≡ readingNumber (calls.read (now (table .entry)) lane (now (out .entry)) .reading) ⌝ }
+    ensures { λ r. ⌜ now (out .exit) ≡ calls.read (now (table .entry)) lane (now (out .entry)) .out ⌝ }
 {
-    reading_number(read(table, out))
+    reading_number(read(table, lane, out))
 }
 
 // 2026-05: the number of the tags read, or the refusal times 2^32, plus the place of 18.

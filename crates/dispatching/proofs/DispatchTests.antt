@@ -81,7 +81,7 @@ none-left ws m k so-far e = ap (taskOr (taskCount ws)) (rw (e, firstFrom) at so-
 -- The choice ends in a task, or in none.
 module _ (ws : List ℕ) (P : WellFormed ws) where
   pub last-is-task : dispatched ws < taskCount ws
-  last-is-task = well-shaped ws (P .shape-passes) .counts-ok .is-task
+  last-is-task = well-shaped ws (P .length-passes) (P .shape-passes) .counts-ok .is-task
 
   chosen-is-task : {k : ℕ} → nextBusy ws ≡ some k → k < taskCount ws
   chosen-is-task e =

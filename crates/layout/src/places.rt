@@ -1,40 +1,52 @@
 // Where the words of a table stand: the places in the header, and how many words a header, a node and a record have.
 ghost use mathlib.Core.Path.{_≡_};
-ghost use Rattle.machine.specs.Table.{nodeAt, recordAt, tableLength};
+ghost use Prim.Native.Nat.{_<_};
+ghost use Rattle.machine.specs.Sides.{sideOf};
+ghost use Rattle.machine.specs.Table.{mostLanes, hatAt, nodeAt, recordAt, tableLength};
 
-// 01: S, T, growth, left hat, right hat, tick count; 02: the task last dispatched; 0.
+// 02: S, T, growth, lanes, tick count, the task last dispatched, four pairs of hats, 0, 0.
 pub const NODE_COUNT: usize = 0;
 
 pub const TASK_COUNT: usize = 1;
 
 pub const GROWTH: usize = 2;
 
-// The right hat stands next: a hat is at this place plus its side.
-pub const LEFT_HAT: usize = 3;
+pub const LANE_COUNT: usize = 3;
 
-pub const RIGHT_HAT: usize = 4;
+pub const TICK_COUNT: usize = 4;
 
-pub const TICK_COUNT: usize = 5;
+pub const DISPATCHED: usize = 5;
 
-pub const DISPATCHED: usize = 6;
+// The left hat of lane 0: a hat is at this place plus twice its lane plus its side.
+pub const HATS: usize = 6;
 
-pub const WORD_7: usize = 7;
+pub const WORD_14: usize = 14;
+
+pub const WORD_15: usize = 15;
 
 // The nodes stand after the header, the records after the nodes.
-pub const HEADER: usize = 8;
+pub const HEADER: usize = 16;
 
 pub const NODE_WORDS: usize = 4;
 
-pub const RECORD_WORDS: usize = 12;
+pub const RECORD_WORDS: usize = 13;
 
 // The words of a node's value, after its links.
 pub const VALUE: usize = 2;
 
-// 02: refusal 3 for fewer than 28 words, the length of two slots and one task.
-pub const LEAST_LENGTH: usize = 28;
+// 02: refusal 3 for fewer than 37 words, the length of two slots and one task.
+pub const LEAST_LENGTH: usize = 37;
 
 // The length of the largest table.
-pub const LARGEST_LENGTH: usize = 4_296;
+pub const LARGEST_LENGTH: usize = 4_320;
+
+// The place of a lane's hat on a side.
+pub fn hat_at(lane: u32, side: u32) -> usize
+    requires { ⌜ (lane < mostLanes) × (side < 2) ⌝ }
+    ensures { λ r. ⌜ r ≡ hatAt lane (sideOf side) ⌝ }
+{
+    HATS + 2 * (lane as usize) + side as usize
+}
 
 // The place of node x; of S, the place after the nodes.
 pub fn node_at(x: u32) -> usize
@@ -50,7 +62,7 @@ pub fn record_at(slots: u32, k: u32) -> usize
     HEADER + NODE_WORDS * (slots as usize) + RECORD_WORDS * (k as usize)
 }
 
-// 02: 8 + 4S + 12T words.
+// 02: 16 + 4S + 13T words.
 pub fn table_length(slots: u32, tasks: u32) -> usize
     ensures { λ r. ⌜ r ≡ tableLength slots tasks ⌝ }
 {

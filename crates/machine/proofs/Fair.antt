@@ -12,10 +12,11 @@ use Rattle.machine.specs.Round.{following, firstFrom}
 use Rattle.machine.specs.Values.{Value-discrete, decode}
 use Rattle.machine.specs.Steps.{stepIn, stepOf, isStepIn}
 use Rattle.machine.specs.Tasks.{Task}
-use Rattle.machine.specs.Table.{taskCount, dispatched, link, value, task, setDispatched}
+use Rattle.machine.specs.Table.{taskCount, dispatched, hat, link, value, task, setDispatched}
 use Rattle.machine.specs.Shape.{allBelow, sameWords, nodeOk, busyOk, recordOk, shapeOk, WellFormed}
 use Rattle.machine.specs.Allocate.{
   heldFrom,
+  hatsFrom,
   roots,
   mark,
   markAll,
@@ -34,6 +35,7 @@ use Rattle.machine.specs.Calls.{
   tickRefusal,
   changed,
   times,
+  startNodes,
   startWords,
   start,
   begin,
@@ -87,7 +89,7 @@ use Rattle.machine.specs.Fair.{
   LastOfThree,
 }
 use Rattle.machine.proofs.Basics.Contradiction.{clash, refute, equal?}
-use Rattle.machine.proofs.Basics.Tests.{test-passed}
+use Rattle.machine.proofs.Basics.Tests.{test-passed, tests-left}
 use Rattle.machine.proofs.Basics.Updates.{update-other}
 use Rattle.machine.proofs.Basics.Rounds.{
   following-below,
@@ -130,7 +132,7 @@ module _ (ws : List ℕ) (A : WellFormed ws) where
   Z = well-sized ws (A .length-passes)
 
   W : WellShaped (columns ws)
-  W = well-shaped ws (A .shape-passes)
+  W = well-shaped ws (A .length-passes) (A .shape-passes)
 
   next-is-task : following (taskCount ws) (dispatched ws) < taskCount ws
   next-is-task = following-below (taskCount ws) (dispatched ws) (W .counts-ok .is-task)
@@ -150,7 +152,7 @@ module _ (ws : List ℕ) (A : WellFormed ws) where
         by-ticks = λ k h times. ticks-kept ws A times k h .same-dispatched;
         by-run = λ list answers. tested-kept (runRefusal ws list answers) list answers .same-dispatched;
         by-panel = λ list answers. tested-kept (panelRefusal ws list answers) list answers .same-dispatched;
-        by-begin = λ k op side argument. begin-kept ws k op side argument Z W .same-dispatched;
+        by-begin = λ k l op side argument. begin-kept ws k l op side argument Z W .same-dispatched;
       }
 
   module _ (k : ℕ) where
@@ -160,26 +162,27 @@ module _ (ws : List ℕ) (A : WellFormed ws) where
     by-kept : {vs : List ℕ} → Kept ws vs → SameWait vs
     by-kept K busy = let same-count = ap (λ z. z .taskCount) (K .same-sizes) in rw (same-count, K .same-dispatched)
 
-    start-waits : (S T g : ℕ) → SameWait (start ws S T g .words)
+    start-waits : (S T g L : ℕ) → SameWait (start ws S T g L .words)
     unfolding start
-    start-waits S T g = go (startRefusal ws S T g) refl
+    start-waits S T g L = go (startRefusal ws S T g L) refl
       where
-        go : (r : Option ℕ) → startRefusal ws S T g ≡ r → SameWait (changed r ws (startWords S T g) .words)
+        go : (r : Option ℕ) → startRefusal ws S T g L ≡ r → SameWait (changed r ws (startWords S T g L) .words)
         go (some n) e = by-kept (unchanged ws Z W)
         go nothing e = λ busy.
-            let at-rest = task-start S T g (start-sized S T g (search test-passed) .two-nodes) k in
+            let Y = start-sized S T g L (search test-passed) (search (test-passed, tests-left)) in
+            let at-rest = task-start S T g L (Y .lanes-fit) (Y .most-lanes) k in
             clash (cc (ap (λ (t : Task). isBusy (t .operation)) at-rest))
 
     other-waits : (c : Call) → dispatchHint c ≡ nothing → SameWait (after c ws)
     unfolding run panel
-    other-waits (start-call S T g) e = start-waits S T g
-    other-waits (begin-call j op side argument) e = by-kept (begin-kept ws j op side argument Z W)
+    other-waits (start-call S T g L) e = start-waits S T g L
+    other-waits (begin-call j l op side argument) e = by-kept (begin-kept ws j l op side argument Z W)
     other-waits (tick-call j h) e = by-kept (tick-call-kept ws A j h)
     other-waits (ticks-call j h times) e = by-kept (ticks-kept ws A times j h)
     other-waits (dispatch-call h) e = clash (cc)
     other-waits (run-call list answers) e = by-kept (tested-kept (runRefusal ws list answers) list answers)
     other-waits (panel-call list answers) e = by-kept (tested-kept (panelRefusal ws list answers) list answers)
-    other-waits (read-call out) e = by-kept (unchanged ws Z W)
+    other-waits (read-call l out) e = by-kept (unchanged ws Z W)
 
   -- ---- Dispatches.
   module _ (k : ℕ) (busy : isBusyTask ws k ≡ true) (h : ℕ) where
@@ -259,13 +262,13 @@ by-hint : (P : Call → Type 0) → ((h : ℕ) → P (dispatch-call h)) → ((c 
     → (c : Call)
     → P c
 by-hint P is-dispatch other (dispatch-call h) = is-dispatch h
-by-hint P is-dispatch other (start-call S T g) = other (start-call S T g) refl
-by-hint P is-dispatch other (begin-call k op side argument) = other (begin-call k op side argument) refl
+by-hint P is-dispatch other (start-call S T g L) = other (start-call S T g L) refl
+by-hint P is-dispatch other (begin-call k l op side argument) = other (begin-call k l op side argument) refl
 by-hint P is-dispatch other (tick-call k h) = other (tick-call k h) refl
 by-hint P is-dispatch other (ticks-call k h times) = other (ticks-call k h times) refl
 by-hint P is-dispatch other (run-call list answers) = other (run-call list answers) refl
 by-hint P is-dispatch other (panel-call list answers) = other (panel-call list answers) refl
-by-hint P is-dispatch other (read-call out) = other (read-call out) refl
+by-hint P is-dispatch other (read-call l out) = other (read-call l out) refl
 
 -- With more dispatches to come than the task waits.
 fair-from : (calls : List Call) (ws : List ℕ) → WellFormed ws → (k : ℕ) → isBusyTask ws k ≡ true → NoneRefused calls ws
@@ -334,7 +337,8 @@ fair ws passes k calls B none enough =
 
 -- ---- T - 1 dispatches are not enough.
 pub last-of-three : LastOfThree
-unfolding turns afterAll firstFrom dispatchTo dispatchOn dispatch ℕ-discrete decLt decLe Value-discrete decode stepIn
-    stepOf isStepIn link value task allBelow sameWords nodeOk busyOk recordOk shapeOk heldFrom roots mark markAll visit
-    visitFrom marked firstUnmarked allocate writeAll dcas act times startWords start begin effectOf applied tickOn tick
+unfolding turns afterAll hat hatsFrom startNodes firstFrom dispatchTo dispatchOn dispatch ℕ-discrete decLt decLe
+    Value-discrete decode stepIn stepOf isStepIn link value task allBelow sameWords nodeOk busyOk recordOk shapeOk
+    heldFrom roots mark markAll visit visitFrom marked firstUnmarked allocate writeAll dcas act times startWords start
+    begin effectOf applied tickOn tick
 last-of-three = refl

@@ -9,7 +9,7 @@ use Rattle.machine.specs.Round.{following}
 use Rattle.machine.specs.Sides.{left, right}
 use Rattle.machine.specs.Tasks.{Task, none, inA, inB, inC, inD}
 use Rattle.machine.specs.Registers.{heldIn}
-use Rattle.machine.specs.Table.{nodeCount, taskCount, hat, link, task}
+use Rattle.machine.specs.Table.{nodeCount, taskCount, laneCount, hat, link, task}
 
 -- The nodes that a task holds against reuse: those of the registers that hold at its step, and none for the others.
 abbrev pub heldBy : Task → List ℕ
@@ -20,9 +20,14 @@ unfoldable pub heldFrom : List ℕ → (n k : ℕ) → List ℕ
 heldFrom ws zero k = []
 heldFrom ws (suc n) k = heldBy (task ws k) ++ heldFrom ws n (suc k)
 
--- Where the marking begins: the hats, and what the tasks hold.
+-- The hats of the lanes from l on, n of them.
+unfoldable pub hatsFrom : List ℕ → (n l : ℕ) → List ℕ
+hatsFrom ws zero l = []
+hatsFrom ws (suc n) l = hat ws l left ∷ hat ws l right ∷ hatsFrom ws n (suc l)
+
+-- Where the marking begins: the hats of every lane, and what the tasks hold.
 unfoldable pub roots : List ℕ → List ℕ
-roots ws = hat ws left ∷ hat ws right ∷ heldFrom ws (taskCount ws) 0
+roots ws = hatsFrom ws (laneCount ws) 0 ++ heldFrom ws (taskCount ws) 0
 
 -- 01: S is at most 1,024.
 abbrev pub largestCount : ℕ

@@ -38,9 +38,9 @@ use Rattle.machine.specs.Demand3.{
 -- A table that an accepted start, on any slice, and then any calls lead to.
 pub data Begun : List ℕ → Type 0 where
   by-start :
-      (S T growth : ℕ) (old : List ℕ)
-      → start old S T growth .reply ≡ Accepted
-      → Begun (start old S T growth .words)
+      (S T growth lanes : ℕ) (old : List ℕ)
+      → start old S T growth lanes .reply ≡ Accepted
+      → Begun (start old S T growth lanes .words)
   by-call : {ws : List ℕ} → Begun ws → (c : Call) → Begun (after c ws)
 
 -- The table as a list of calls leaves it.
@@ -136,15 +136,15 @@ recordBegin η k n (Reply-Refused r) = η
 
 -- A call, with what it gave back. Of ticks in a row only the last can have ended the task's call.
 abbrev pub recordCall : History → (c : Call) → Given c → History
-recordCall η (start-call S T g) r = recordStart η T r
-recordCall η (begin-call k op side argument) r =
-    recordBegin η k (record { operation = operationOf op; side = sideOf side; argument = number argument }) r
+recordCall η (start-call S T g lanes) r = recordStart η T r
+recordCall η (begin-call k l op side argument) r =
+    recordBegin η k (record { lane = l; operation = operationOf op; side = sideOf side; argument = number argument }) r
 recordCall η (tick-call k h) a = recordTick η k a
 recordCall η (ticks-call k h times) a = recordTick η k a
 recordCall η (dispatch-call h) r = recordDispatch η r
 recordCall η (run-call list answers) r = recordRun η (r .0 .made) list (r .1)
 recordCall η (panel-call list answers) r = recordRun η (r .0 .made) list (r .1)
-recordCall η (read-call out) r = η
+recordCall η (read-call l out) r = η
 
 -- A list of calls, each on the table as the one before left it.
 unfoldable pub history : List Call → List ℕ → History → History
@@ -158,17 +158,20 @@ unfoldable pub count : ℕ → List ℕ → ℕ
 count b [] = 0
 count b (x ∷ xs) = (if x ≟ b then 1 else 0) + count b xs
 
--- A finished operation is this one, with an answer of this kind.
-abbrev pub isOf : Operation → Answer → Finished → Bool
-isOf op a f = eqb (operationNumber (f .note .operation)) (operationNumber op) && eqb (kindOf (f .answer)) (kindOf a)
+-- A finished operation is this one, on lane l, with an answer of this kind.
+abbrev pub isOf : (l : ℕ) → Operation → Answer → Finished → Bool
+isOf l op a f =
+    eqb (operationNumber (f .note .operation)) (operationNumber op)
+    && eqb (kindOf (f .answer)) (kindOf a)
+    && eqb (f .note .lane) l
 
--- The bags of the finished pushes answered "pushed".
-unfoldable pub bagsPushed : List Finished → List ℕ
-bagsPushed [] = []
-bagsPushed (f ∷ fs) = cond (isOf push Pushed f) (f .note .argument ∷ bagsPushed fs) (bagsPushed fs)
+-- The bags of the finished pushes on lane l answered "pushed".
+unfoldable pub bagsPushed : (l : ℕ) → List Finished → List ℕ
+bagsPushed l [] = []
+bagsPushed l (f ∷ fs) = cond (isOf l push Pushed f) (f .note .argument ∷ bagsPushed l fs) (bagsPushed l fs)
 
--- The bags that the finished pops were answered with.
-unfoldable pub bagsPopped : List Finished → List ℕ
-bagsPopped [] = []
-bagsPopped (f ∷ fs) =
-    let b = payloadOf (f .answer) in cond (isOf pop (Bag b) f) (b ∷ bagsPopped fs) (bagsPopped fs)
+-- The bags that the finished pops on lane l were answered with.
+unfoldable pub bagsPopped : (l : ℕ) → List Finished → List ℕ
+bagsPopped l [] = []
+bagsPopped l (f ∷ fs) =
+    let b = payloadOf (f .answer) in cond (isOf l pop (Bag b) f) (b ∷ bagsPopped l fs) (bagsPopped l fs)

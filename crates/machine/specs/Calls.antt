@@ -1,7 +1,7 @@
 -- The calls: for every table and all numbers, the answer and every lent word afterwards.
 use mathlib.Core.Bool.{Bool, true, false, not, _&&_, _||_}
 use mathlib.Core.List.{List, [], _∷_, _++_}
-use mathlib.Core.Option.{Option, some, none as nothing, Option·map}
+use mathlib.Core.Option.{Option, some, none as nothing, Option·map, bind}
 use Prim.Native.Nat.{ℕ, zero, suc, _+_, _*_, _-_, _/_, _%_, _^_}
 use lib.Dec.{leb, ltb, eqb}
 use lib.ListN.{length, drop}
@@ -16,9 +16,9 @@ use Rattle.machine.specs.declared.Reading.{Reading}
 use Rattle.machine.specs.declared.Reading.the-variants.{Count, Refused as Reading-Refused}
 use Rattle.machine.specs.declared.Ran.{Ran}
 use Rattle.machine.specs.declared.Stored.{Stored}
-use Rattle.machine.specs.Choice.{_≟_, if_then_else_}
+use Rattle.machine.specs.Choice.{_≟_, _<?_, if_then_else_}
 use Rattle.machine.specs.Round.{nextAfter}
-use Rattle.machine.specs.Sides.{Side, left, right, opposite, sideOf}
+use Rattle.machine.specs.Sides.{Side, left, right, opposite, sideNumber, sideOf}
 use Rattle.machine.specs.Values.{never, bag, N, X, Y, number}
 use Rattle.machine.specs.Operations.{Operation, idle, push, pop, add, remove, operationOf, argumentOk}
 use Rattle.machine.specs.Steps.{firstStep}
@@ -28,9 +28,10 @@ use Rattle.machine.specs.Table.{
   nodeCount,
   taskCount,
   growth,
-  hat,
+  laneCount,
   tickCount,
   dispatched,
+  hat,
   headerWords,
   nodeWords,
   link,
@@ -40,12 +41,12 @@ use Rattle.machine.specs.Table.{
   setDispatched,
   setTask,
 }
-use Rattle.machine.specs.Shape.{sizesOk, lengthOk, shapeOk}
+use Rattle.machine.specs.Shape.{lanesOk, sizesOk, lengthOk, shapeOk}
 use Rattle.machine.specs.Allocate.{allocate}
 use Rattle.machine.specs.Lines.{Effect, seen, writeAll, act}
 use Rattle.machine.specs.Answers.{answerLength, answerWords, refusalOf, isGoing}
 
--- ---- The lane.
+-- ---- The lanes.
 
 -- The bag numbers from node x on along R, in n nodes at most; nothing where a link is none, or n bags have no end.
 unfoldable pub laneFrom : List ℕ → (n x : ℕ) → Option (List ℕ)
@@ -60,9 +61,18 @@ laneFrom ws (suc n) x =
       | Y z ↦ some []
     ]
 
--- 01: the lane is read from the left hat's R along R while V is a bag.
-unfoldable pub lane : List ℕ → Option (List ℕ)
-lane ws = laneFrom ws (nodeCount ws) (link ws right (hat ws left))
+-- 01: the lane is read from the left hat's R along R while V is a bag. 2026-12: lane l from its own left hat.
+unfoldable pub lane : List ℕ → (l : ℕ) → Option (List ℕ)
+lane ws l = laneFrom ws (nodeCount ws) (link ws right (hat ws l left))
+
+-- The bag numbers of the first n lanes, one lane after another; nothing where one of them cannot be read.
+unfoldable pub lanesBelow : List ℕ → (n : ℕ) → Option (List ℕ)
+lanesBelow ws zero = some []
+lanesBelow ws (suc n) = bind (lanesBelow ws n) (λ before. Option·map (_++_ before) (lane ws n))
+
+-- Those of all lanes.
+abbrev pub allLanes : List ℕ → Option (List ℕ)
+allLanes ws = lanesBelow ws (laneCount ws)
 
 -- ---- Refusals, in the order of 01's table.
 
@@ -85,16 +95,22 @@ isBusy pop = true
 isBusy add = true
 isBusy remove = true
 
-abbrev pub startRefusal : List ℕ → (S T growth : ℕ) → Option ℕ
-startRefusal ws S T g =
-    unless (sizesOk S T g) 1
-    (unless (eqb (length ws) (tableLength S T)) 2 nothing)
+-- 02: "25, lanes out of range at start, before 1"; S under twice the lanes is 1.
+abbrev pub startRefusal : List ℕ → (S T growth lanes : ℕ) → Option ℕ
+startRefusal ws S T g lanes =
+    unless (lanesOk lanes) 25
+    (unless (sizesOk S T g lanes) 1
+    (unless (eqb (length ws) (tableLength S T)) 2 nothing))
 
 -- The tests that all the other calls begin with.
 abbrev pub tableRefusal : List ℕ → Option ℕ → Option ℕ
 tableRefusal ws others = unless (lengthOk ws) 3 (unless (shapeOk ws) 4 others)
 
--- ---- 2026-03: a bag number already in the lane.
+-- 02: "26, lane out of range at begin, read or sheet, straight after 4".
+abbrev pub laneRefusal : List ℕ → (l : ℕ) → Option ℕ → Option ℕ
+laneRefusal ws l others = tableRefusal ws (unless (ltb l (laneCount ws)) 26 others)
+
+-- ---- 2026-03: a bag number already in the lane; since 2026-12 in any lane.
 abbrev pub isPush : Operation → Bool
 isPush idle = false
 isPush push = true
@@ -113,22 +129,23 @@ isBegun ws (suc m) n =
     isPush (task ws m .operation) && eqb n (task ws m .argument) || isBegun ws m n
 
 -- 02: "Begin of a push shall refuse a bag number that stands in the lane or is the argument of a busy push. The lane is
--- read as by the read call"; "a refusal 11 of the lane walk stands between 7 and 16".
+-- read as by the read call"; "a refusal 11 of the lane walk stands between 7 and 16". 2026-12: "the twice-seen tag of
+-- 16 is looked for in all lanes".
 abbrev pub seenRefusal : List ℕ → ℕ → (bags : Option (List ℕ)) → Option ℕ → Option ℕ
 seenRefusal ws n nothing others = some 11
 seenRefusal ws n (some bags) others = unless (not (isAmong n bags || isBegun ws (taskCount ws) n)) 16 others
 
 -- Begins of the other operations walk nothing.
 abbrev pub twiceRefusal : List ℕ → Operation → ℕ → Option ℕ → Option ℕ
-twiceRefusal ws push n others = seenRefusal ws n (lane ws) others
+twiceRefusal ws push n others = seenRefusal ws n (allLanes ws) others
 twiceRefusal ws idle n others = others
 twiceRefusal ws pop n others = others
 twiceRefusal ws add n others = others
 twiceRefusal ws remove n others = others
 
-abbrev pub beginRefusal : List ℕ → (k operation side : ℕ) → (argument : Stored) → Option ℕ
-beginRefusal ws k op side argument =
-    tableRefusal ws
+abbrev pub beginRefusal : List ℕ → (k lane operation side : ℕ) → (argument : Stored) → Option ℕ
+beginRefusal ws k l op side argument =
+    laneRefusal ws l
     (unless (ltb k (taskCount ws)) 5
     (unless (leb 1 op && leb op 4 && leb side 1) 6
     (unless (argumentOk (operationOf op) argument) 7
@@ -147,7 +164,8 @@ tickRefusal ws k h =
 abbrev pub dispatchRefusal : List ℕ → (hint : ℕ) → Option ℕ
 dispatchRefusal ws h = tableRefusal ws (unless (ltb h (nodeCount ws)) 9 nothing)
 
--- The tests that a run and the panel's list begin with, and the one that both end with: room for the words of each tick.
+-- The tests that a run and the panel's list begin with, and the one that both end with: room for the words of each
+-- tick.
 abbrev pub listRefusal : (ws list : List ℕ) → Option ℕ → Option ℕ
 listRefusal ws list others =
     tableRefusal ws (unless (eqb (length list % 2) 0 && leb (length list) 8192) 13 others)
@@ -177,22 +195,31 @@ unfoldable pub times : ℕ → List ℕ → List ℕ
 times zero l = []
 times (suc n) l = l ++ times n l
 
--- 01: slot 0 as L none, R 1, V LX and slot 1 as L 0, R none, V RX. The hats are 0 and 1, other slots have no links and
--- V 0, the tick count is 0 and all tasks are idle. 02: "A start writes T - 1 there", as the task last dispatched.
-unfoldable pub startWords : (S T growth : ℕ) → List ℕ
-startWords S T g =
-    headerWords S T g 0 1 0 (T - 1)
-    ++ (nodeWords none 1 (X left)
-    ++ (nodeWords 0 none (X right)
-    ++ (times (S - 2) (nodeWords none none never)
-    ++ times T (wordsOf fresh))))
+-- 02: "Lane k, from 0, starts with slots 2k and 2k + 1"; "unused ones none". 01: the hats are 0 and 1.
+abbrev pub startHat : (lanes l : ℕ) → Side → ℕ
+startHat lanes l s = if l <? lanes then 2 * l + sideNumber s else none
 
-unfoldable pub start : List ℕ → (S T growth : ℕ) → Changed
-start ws S T g = changed (startRefusal ws S T g) ws (startWords S T g)
+-- The nodes of the lanes from l on, n of them. 01: slot 0 as L none, R 1, V LX and slot 1 as L 0, R none, V RX.
+unfoldable pub startNodes : (n l : ℕ) → List ℕ
+startNodes zero l = []
+startNodes (suc n) l =
+    nodeWords none (2 * l + 1) (X left) ++ (nodeWords (2 * l) none (X right) ++ startNodes n (suc l))
 
--- 01: begin writes a fresh record with operation, side, argument and first step.
-abbrev pub begunTask : Operation → Side → ℕ → Task
-begunTask op s argument =
+-- 01: other slots have no links and V 0, the tick count is 0 and all tasks are idle. 02: "A start writes T - 1 there",
+-- as the task last dispatched.
+unfoldable pub startWords : (S T growth lanes : ℕ) → List ℕ
+startWords S T g lanes =
+    headerWords S T g lanes 0 (T - 1) (startHat lanes)
+    ++ (startNodes lanes 0
+    ++ (times (S - 2 * lanes) (nodeWords none none never)
+    ++ times T (wordsOf fresh)))
+
+unfoldable pub start : List ℕ → (S T growth lanes : ℕ) → Changed
+start ws S T g lanes = changed (startRefusal ws S T g lanes) ws (startWords S T g lanes)
+
+-- 01: begin writes a fresh record with operation, side, argument and first step; 02: and its lane.
+abbrev pub begunTask : (lane : ℕ) → Operation → Side → ℕ → Task
+begunTask l op s argument =
     record {
       operation = op;
       step = firstStep op;
@@ -204,12 +231,13 @@ begunTask op s argument =
       B = none;
       C = none;
       D = none;
+      lane = l;
     }
 
-unfoldable pub begin : List ℕ → (k operation side : ℕ) → (argument : Stored) → Changed
-begin ws k op side argument =
-    changed (beginRefusal ws k op side argument) ws
-    (setTask k (begunTask (operationOf op) (sideOf side) (number argument)) ws)
+unfoldable pub begin : List ℕ → (k lane operation side : ℕ) → (argument : Stored) → Changed
+begin ws k l op side argument =
+    changed (beginRefusal ws k l op side argument) ws
+    (setTask k (begunTask l (operationOf op) (sideOf side) (number argument)) ws)
 
 -- ---- tick.
 pub record Ticked : Type 0 where
@@ -220,18 +248,18 @@ pub record Ticked : Type 0 where
 unfoldable pub effectOf : List ℕ → (k hint : ℕ) → Effect
 effectOf ws k h =
     let t = task ws k in
-    act (t .step) (t .side) (opposite (t .side)) (seen (t .side) ws) t (goal (growth ws) t) (allocate ws h)
+    act (t .step) (t .side) (opposite (t .side)) (seen (t .lane) (t .side) ws) t (goal (growth ws) t) (allocate ws h)
 
 -- 01: the tick count rises by 1 with each tick made and goes from 4,294,967,295 to 0.
 abbrev pub tickCounted : List ℕ → List ℕ
 tickCounted ws = setTickCount ((tickCount ws + 1) % 2 ^ 32) ws
 
--- The table after an effect of a task on side s; a refusal leaves it as it was.
-unfoldable pub applied : Side → List ℕ → ℕ → Effect → Ticked
-applied s ws k e =
+-- The table after an effect of a task on side s of a lane; a refusal leaves it as it was.
+unfoldable pub applied : (lane : ℕ) → Side → List ℕ → ℕ → Effect → Ticked
+applied l s ws k e =
     elim (refusalOf (e .answer)) as (λ _. Ticked) [
       | some n ↦ record { answer = e .answer; words = ws }
-      | nothing ↦ record { answer = e .answer; words = tickCounted (setTask k (e .task) (writeAll s (e .writes) ws)) }
+      | nothing ↦ record { answer = e .answer; words = tickCounted (setTask k (e .task) (writeAll l s (e .writes) ws)) }
     ]
 
 -- A tick on a table that has passed 3 and 4.
@@ -239,7 +267,7 @@ unfoldable pub tickOn : List ℕ → (k hint : ℕ) → Ticked
 tickOn ws k h =
     elim (tickRefusal ws k h) as (λ _. Ticked) [
       | some n ↦ record { answer = Refused n; words = ws }
-      | nothing ↦ applied (task ws k .side) ws k (effectOf ws k h)
+      | nothing ↦ applied (task ws k .lane) (task ws k .side) ws k (effectOf ws k h)
     ]
 
 unfoldable pub tick : List ℕ → (k hint : ℕ) → Ticked
@@ -249,8 +277,8 @@ tick ws k h =
       | nothing ↦ tickOn ws k h
     ]
 
--- ---- Ticks in a row: of one task, until one does not go on, or so many. The last outcome is given; "going" where no tick
--- was asked for.
+-- ---- Ticks in a row: of one task, until one does not go on, or so many. The last outcome is given; "going" where no
+-- tick was asked for.
 unfoldable pub ticks : (times : ℕ) → List ℕ → (k hint : ℕ) → Ticked
 ticks zero ws k h = record { answer = Going; words = ws }
 ticks (suc n) ws k h =
@@ -269,7 +297,7 @@ isBusyTask ws k = isBusy (task ws k .operation)
 abbrev pub nextBusy : List ℕ → Option ℕ
 nextBusy ws = nextAfter (taskCount ws) (isBusyTask ws) (dispatched ws)
 
--- A tick of task k. 02: "header word 6, counted from 0, keeps that task". A refusal leaves every word as it was.
+-- A tick of task k, and the header keeps that task. A refusal leaves every word as it was.
 unfoldable pub dispatchTo : List ℕ → (k hint : ℕ) → Dispatched
 dispatchTo ws k h =
     let one = tickOn ws k h in
@@ -334,7 +362,7 @@ run ws list answers = tested (runRefusal ws list answers) ws list answers
 unfoldable pub panel : List ℕ → (list answers : List ℕ) → RunDone
 panel ws list answers = tested (panelRefusal ws list answers) ws list answers
 
--- ---- Reading the lane.
+-- ---- Reading a lane.
 pub record ReadDone : Type 0 where
   pub reading : Reading
   pub out : List ℕ
@@ -351,9 +379,9 @@ readInto (some bags) out =
       | false ↦ unread 12 out
     ]
 
-unfoldable pub read : List ℕ → (out : List ℕ) → ReadDone
-read ws out =
-    elim (tableRefusal ws nothing) as (λ _. ReadDone) [
+unfoldable pub read : List ℕ → (lane : ℕ) → (out : List ℕ) → ReadDone
+read ws l out =
+    elim (laneRefusal ws l nothing) as (λ _. ReadDone) [
       | some n ↦ unread n out
-      | nothing ↦ readInto (lane ws) out
+      | nothing ↦ readInto (lane ws l) out
     ]

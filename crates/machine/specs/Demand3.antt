@@ -3,7 +3,7 @@ use mathlib.Core.Path.{_≡_}
 use mathlib.Core.Bool.{cond, _&&_}
 use mathlib.Core.List.{List, [], _∷_}
 use mathlib.Core.Option.{Option, some, none as nothing}
-use Prim.Native.Nat.{ℕ, zero, suc, _*_, _≤_}
+use Prim.Native.Nat.{ℕ, zero, suc, _*_, _≤_, _<_}
 use lib.Dec.{leb, ltb, eqb}
 use lib.ListN.{length, take}
 use Rattle.tag.specs.Tags.{allTagWords}
@@ -24,57 +24,58 @@ use Rattle.machine.specs.Calls.{start, begin, tick, tickOn, ticks, dispa
 use Rattle.machine.specs.Row.{Row, emptyRow, Note, noted, feedMade, feedDispatch, feedRun}
 
 -- 01: the list holds start, begin, tick, run and reading the lane, with any arguments, and every call on the same table
--- that a request adds: 2026-01's panel, 2026-07's dispatch; and ticks in a row. A run's list and answer slice and a read's
--- out slice are that call's own: here by their contents when the call is made.
+-- that a request adds: 2026-01's panel, 2026-07's dispatch; and ticks in a row. A run's list and answer slice and a
+-- read's out slice are that call's own: here by their contents when the call is made.
 pub data Call : Type 0 where
-  start-call : (S T growth : ℕ) → Call
-  begin-call : (k operation side : ℕ) (argument : Stored) → Call
+  start-call : (S T growth lanes : ℕ) → Call
+  begin-call : (k lane operation side : ℕ) (argument : Stored) → Call
   tick-call : (k hint : ℕ) → Call
   ticks-call : (k hint times : ℕ) → Call
   dispatch-call : (hint : ℕ) → Call
   run-call : (list answers : List ℕ) → Call
   panel-call : (list answers : List ℕ) → Call
-  read-call : (out : List ℕ) → Call
+  read-call : (lane : ℕ) (out : List ℕ) → Call
 
 -- What a call gives back: its answer, with a slice of its own as it leaves it.
 abbrev pub Given : Call → Type 0
-Given (start-call S T g) = Reply
-Given (begin-call k op side argument) = Reply
+Given (start-call S T g lanes) = Reply
+Given (begin-call k l op side argument) = Reply
 Given (tick-call k h) = Answer
 Given (ticks-call k h times) = Answer
 Given (dispatch-call h) = Dispatch
 Given (run-call list answers) = Ran × List ℕ
 Given (panel-call list answers) = Ran × List ℕ
-Given (read-call out) = Reading × List ℕ
+Given (read-call l out) = Reading × List ℕ
 
 abbrev pub given : (c : Call) → List ℕ → Given c
-given (start-call S T g) ws = start ws S T g .reply
-given (begin-call k op side argument) ws = begin ws k op side argument .reply
+given (start-call S T g lanes) ws = start ws S T g lanes .reply
+given (begin-call k l op side argument) ws = begin ws k l op side argument .reply
 given (tick-call k h) ws = tick ws k h .answer
 given (ticks-call k h times) ws = ticks times ws k h .answer
 given (dispatch-call h) ws = dispatch ws h .answer
 given (run-call list answers) ws = (run ws list answers .ran, run ws list answers .answers)
 given (panel-call list answers) ws = (panel ws list answers .ran, panel ws list answers .answers)
-given (read-call out) ws = (read ws out .reading, read ws out .out)
+given (read-call l out) ws = (read ws l out .reading, read ws l out .out)
 
 -- The table as a call leaves it.
 abbrev pub after : Call → List ℕ → List ℕ
-after (start-call S T g) ws = start ws S T g .words
-after (begin-call k op side argument) ws = begin ws k op side argument .words
+after (start-call S T g lanes) ws = start ws S T g lanes .words
+after (begin-call k l op side argument) ws = begin ws k l op side argument .words
 after (tick-call k h) ws = tick ws k h .words
 after (ticks-call k h times) ws = ticks times ws k h .words
 after (dispatch-call h) ws = dispatch ws h .words
 after (run-call list answers) ws = run ws list answers .words
 after (panel-call list answers) ws = panel ws list answers .words
-after (read-call out) ws = ws
+after (read-call l out) ws = ws
 
 -- ---- The row, fed a call and what it gave back: the row afterwards, or nothing where the row does not give that.
-abbrev pub feedStart : Row → (T : ℕ) → Reply → Option Row
-feedStart ρ T Accepted = some (emptyRow T)
-feedStart ρ T (Reply-Refused n) = some ρ
+abbrev pub feedStart : Row → (T lanes : ℕ) → Reply → Option Row
+feedStart ρ T lanes Accepted = some (emptyRow T lanes)
+feedStart ρ T lanes (Reply-Refused n) = some ρ
 
+-- 2026-12: none is accepted on a lane that is not there.
 abbrev pub feedBegin : Row → ℕ → Note → Reply → Option Row
-feedBegin ρ k n Accepted = some (noted ρ k (some n))
+feedBegin ρ k n Accepted = cond (ltb (n .lane) (ρ .lanes)) (some (noted ρ k (some n))) nothing
 feedBegin ρ k n (Reply-Refused r) = some ρ
 
 -- 01: a refused tick leaves the note.
@@ -88,31 +89,34 @@ feedTicks ρ k zero a = cond (isGoing a) (some ρ) nothing
 feedTicks ρ k (suc n) a = feedTick ρ k a
 
 -- 01: reading: the row's count and the row in order, or 12 exactly when the out slice is too short for it; never 3, 4
--- or 11. 02: two words for a tag.
-abbrev pub feedRead : Row → List ℕ → Reading → List ℕ → Option Row
-feedRead ρ out (Count n) written =
+-- or 11. 02: two words for a tag. 2026-12: of lane l its row, or 26 exactly when there is no such lane.
+abbrev pub feedRead : Row → (l : ℕ) → List ℕ → Reading → List ℕ → Option Row
+feedRead ρ l out (Count n) written =
     cond
-    (eqb n (length (ρ .bags)) && leb (2 * n) (length out) && sameWords (take (2 * n) written) (allTagWords (ρ .bags)))
+    (ltb l (ρ .lanes)
+    && eqb n (length (ρ .bags l))
+    && leb (2 * n) (length out)
+    && sameWords (take (2 * n) written) (allTagWords (ρ .bags l)))
     (some ρ) nothing
-feedRead ρ out (Reading-Refused n) written =
-    cond (eqb n 12 && ltb (length out) (2 * length (ρ .bags))) (some ρ) nothing
+feedRead ρ l out (Reading-Refused n) written =
+    cond (cond (ltb l (ρ .lanes)) (eqb n 12 && ltb (length out) (2 * length (ρ .bags l))) (eqb n 26)) (some ρ) nothing
 
 abbrev pub feed : Row → (c : Call) → Given c → Option Row
-feed ρ (start-call S T g) r = feedStart ρ T r
-feed ρ (begin-call k op side argument) r =
-    feedBegin ρ k (record { operation = operationOf op; side = sideOf side; argument = number argument }) r
+feed ρ (start-call S T g lanes) r = feedStart ρ T lanes r
+feed ρ (begin-call k l op side argument) r =
+    feedBegin ρ k (record { lane = l; operation = operationOf op; side = sideOf side; argument = number argument }) r
 feed ρ (tick-call k h) a = feedTick ρ k a
 feed ρ (ticks-call k h times) a = feedTicks ρ k times a
 feed ρ (dispatch-call h) a = feedDispatch ρ a
 feed ρ (run-call list answers) r = feedRun ρ (r .0 .made) list (r .1)
 feed ρ (panel-call list answers) r = feedRun ρ (r .0 .made) list (r .1)
-feed ρ (read-call out) r = feedRead ρ out (r .0) (r .1)
+feed ρ (read-call l out) r = feedRead ρ l out (r .0) (r .1)
 
 -- ---- The claim.
 
--- The lane in the table is the row.
-abbrev pub LaneIs : List ℕ → Row → Type 0
-LaneIs ws ρ = lane ws ≡ some (ρ .bags)
+-- The lane in the table is the row; since 2026-12 each lane its own.
+abbrev pub LanesAre : List ℕ → Row → Type 0
+LanesAre ws ρ = (l : ℕ) → l < ρ .lanes → lane ws l ≡ some (ρ .bags l)
 
 -- The table after the first i ticks of a list of pairs.
 unfoldable pub afterTicks : (i : ℕ) → (list ws : List ℕ) → List ℕ
@@ -126,38 +130,38 @@ abbrev pub WithinList : (list ws : List ℕ) → Row → RunDone → Type 0
 WithinList list ws ρ r =
     (i : ℕ)
     → i ≤ r .ran .made
-    → (ρᵢ : Row) × (feedRun ρ i list (r .answers) ≡ some ρᵢ) × LaneIs (afterTicks i list ws) ρᵢ
+    → (ρᵢ : Row) × (feedRun ρ i list (r .answers) ≡ some ρᵢ) × LanesAre (afterTicks i list ws) ρᵢ
 
 -- The same of ticks in a row, of which the first i are ticks in a row.
 abbrev pub WithinTicks : (k hint times : ℕ) → List ℕ → Row → Type 0
 WithinTicks k h times ws ρ =
     (i : ℕ)
     → i ≤ times
-    → (ρᵢ : Row) × (feedTicks ρ k i (ticks i ws k h .answer) ≡ some ρᵢ) × LaneIs (ticks i ws k h .words) ρᵢ
+    → (ρᵢ : Row) × (feedTicks ρ k i (ticks i ws k h .answer) ≡ some ρᵢ) × LanesAre (ticks i ws k h .words) ρᵢ
 
 -- The same, inside a call.
 abbrev pub Within : (c : Call) → List ℕ → Row → Type 0
 Within (run-call list answers) ws ρ = WithinList list ws ρ (run ws list answers)
 Within (panel-call list answers) ws ρ = WithinList list ws ρ (panel ws list answers)
 Within (ticks-call k h times) ws ρ = WithinTicks k h times ws ρ
-Within (start-call S T g) ws ρ = Unit {0}
-Within (begin-call k op side argument) ws ρ = Unit {0}
+Within (start-call S T g lanes) ws ρ = Unit {0}
+Within (begin-call k l op side argument) ws ρ = Unit {0}
 Within (tick-call k h) ws ρ = Unit {0}
 Within (dispatch-call h) ws ρ = Unit {0}
-Within (read-call out) ws ρ = Unit {0}
+Within (read-call l out) ws ρ = Unit {0}
 
 -- The row explains a list of calls, each on the table as the one before left it.
 abbrev pub Explained : List Call → List ℕ → Row → Type 0
-Explained [] ws ρ = LaneIs ws ρ
+Explained [] ws ρ = LanesAre ws ρ
 Explained (c ∷ cs) ws ρ =
-    LaneIs ws ρ
+    LanesAre ws ρ
     × Within c ws ρ
     × ((ρ′ : Row) × (feed ρ c (given c ws) ≡ some ρ′) × Explained cs (after c ws) ρ′)
 
 -- 01: the first call gets the table as an accepted start left it.
 abbrev pub Demand3 : Type 0
 Demand3 =
-    (S T growth : ℕ) (old : List ℕ)
-    → start old S T growth .reply ≡ Accepted
+    (S T growth lanes : ℕ) (old : List ℕ)
+    → start old S T growth lanes .reply ≡ Accepted
     → (calls : List Call)
-    → Explained calls (start old S T growth .words) (emptyRow T)
+    → Explained calls (start old S T growth lanes .words) (emptyRow T lanes)

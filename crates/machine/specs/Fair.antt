@@ -46,7 +46,8 @@ pub record LeaveDispatched (ws : List ℕ) : Type 0 where
   pub by-run : (list answers : List ℕ) → dispatched (run ws list answers .words) ≡ dispatched ws
   pub by-panel : (list answers : List ℕ) → dispatched (panel ws list answers .words) ≡ dispatched ws
   pub by-begin :
-      (k operation side : ℕ) (argument : Stored) → dispatched (begin ws k operation side argument .words) ≡ dispatched ws
+      (k lane operation side : ℕ) (argument : Stored)
+      → dispatched (begin ws k lane operation side argument .words) ≡ dispatched ws
 
 abbrev pub OthersLeaveDispatched : Type 0
 OthersLeaveDispatched = (ws : List ℕ) → tableRefusal ws nothing ≡ nothing → LeaveDispatched ws
@@ -56,13 +57,13 @@ OthersLeaveDispatched = (ws : List ℕ) → tableRefusal ws nothing ≡ nothing 
 -- The hint of a call that is a dispatch.
 abbrev pub dispatchHint : Call → Option ℕ
 dispatchHint (dispatch-call h) = some h
-dispatchHint (start-call S T g) = nothing
-dispatchHint (begin-call k op side argument) = nothing
+dispatchHint (start-call S T g lanes) = nothing
+dispatchHint (begin-call k l op side argument) = nothing
 dispatchHint (tick-call k h) = nothing
 dispatchHint (ticks-call k h times) = nothing
 dispatchHint (run-call list answers) = nothing
 dispatchHint (panel-call list answers) = nothing
-dispatchHint (read-call out) = nothing
+dispatchHint (read-call l out) = nothing
 
 -- How many dispatches there are.
 abbrev pub dispatches : List Call → ℕ
@@ -151,9 +152,9 @@ turns zero ws = []
 turns (suc n) ws = let vs = dispatch ws 0 .words in dispatched vs ∷ turns n vs
 
 abbrev pub beginsPop : ℕ → Call
-beginsPop k = begin-call k (operationNumber pop) (sideNumber left) (stored 0)
+beginsPop k = begin-call k 0 (operationNumber pop) (sideNumber left) (stored 0)
 
 -- Of three tasks, all busy since the start, the last one gets its tick at the third dispatch.
 abbrev pub LastOfThree : Type 0
 LastOfThree =
-    turns 3 (afterAll (beginsPop 0 ∷ beginsPop 1 ∷ beginsPop 2 ∷ []) (startWords 4 3 0)) ≡ 0 ∷ 1 ∷ 2 ∷ []
+    turns 3 (afterAll (beginsPop 0 ∷ beginsPop 1 ∷ beginsPop 2 ∷ []) (startWords 4 3 0 1)) ≡ 0 ∷ 1 ∷ 2 ∷ []

@@ -62,16 +62,17 @@ use Rattle.machine.specs.Table.{hat, link, value, setHat, setLink, setVa
 
 -- ---- What a task sees of the table.
 
--- 01: the left side exchanges the hats, L with R, and each mark with its mirror. So a task sees its own hat, links that
--- lead outward (R on the right side) and inward, and marks that carry a side.
+-- 01: the left side exchanges the hats, L with R, and each mark with its mirror. So a task sees its own hat, which
+-- since 2026-12 is that of its lane, links that lead outward (R on the right side) and inward, and marks that carry a
+-- side.
 pub record Memory : Type 0 where
   pub out : ℕ → ℕ
   pub inn : ℕ → ℕ
   pub val : ℕ → Value
   pub hat : ℕ
 
-abbrev pub seen : Side → List ℕ → Memory
-seen s ws = record { out = link ws s; inn = link ws (opposite s); val = value ws; hat = hat ws s }
+abbrev pub seen : (lane : ℕ) → Side → List ℕ → Memory
+seen l s ws = record { out = link ws s; inn = link ws (opposite s); val = value ws; hat = hat ws l s }
 
 -- ---- What a tick does: its writes in the order named, the record afterwards, the answer.
 pub data Write : Type 0 where
@@ -85,16 +86,16 @@ pub record Effect : Type 0 where
   pub task : Task
   pub answer : Answer
 
--- One write of a task on side s, and several in order.
-abbrev pub writeOne : Side → Write → List ℕ → List ℕ
-writeOne s (out≔ x y) ws = setLink s x y ws
-writeOne s (inn≔ x y) ws = setLink (opposite s) x y ws
-writeOne s (val≔ x v) ws = setValue x v ws
-writeOne s (hat≔ x) ws = setHat s x ws
+-- One write of a task on side s of a lane, and several in order.
+abbrev pub writeOne : (lane : ℕ) → Side → Write → List ℕ → List ℕ
+writeOne l s (out≔ x y) ws = setLink s x y ws
+writeOne l s (inn≔ x y) ws = setLink (opposite s) x y ws
+writeOne l s (val≔ x v) ws = setValue x v ws
+writeOne l s (hat≔ x) ws = setHat l s x ws
 
-unfoldable pub writeAll : Side → List Write → List ℕ → List ℕ
-writeAll s [] ws = ws
-writeAll s (w ∷ l) ws = writeAll s l (writeOne s w ws)
+unfoldable pub writeAll : (lane : ℕ) → Side → List Write → List ℕ → List ℕ
+writeAll l s [] ws = ws
+writeAll l s (w ∷ more) ws = writeAll l s more (writeOne l s w ws)
 
 -- ---- How a tick ends.
 
@@ -117,8 +118,8 @@ refused t = record { writes = []; task = t; answer = Refused 11 }
 abbrev pub through : ℕ → Task → Effect → Effect
 through x t e = if x ≟ none then refused t else e
 
--- 01's swap (the figure's DCAS): both places are compared, then both are written. 02: "A swap compares and writes the digit
--- with V as one thing": a value is compared and written whole.
+-- 01's swap (the figure's DCAS): both places are compared, then both are written. 02: "A swap compares and writes the
+-- digit with V as one thing": a value is compared and written whole.
 unfoldable pub dcas : {P Q : Type 0} → Dec P → Dec Q → Effect → Effect → Effect
 dcas (yes p) (yes q) done failed = done
 dcas (yes p) (no q) done failed = failed

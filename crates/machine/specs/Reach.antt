@@ -7,12 +7,12 @@ use Prim.Native.Nat.{ℕ, _<_}
 use Rattle.machine.specs.Sides.{Side}
 use Rattle.machine.specs.Tasks.{none, Register, register}
 use Rattle.machine.specs.Registers.{holds}
-use Rattle.machine.specs.Table.{nodeCount, hat, link, task}
+use Rattle.machine.specs.Table.{nodeCount, laneCount, hat, link, task}
 
 -- 01: a chain of links, L or R, leads to the node from a hat or any task's register, itself included. 2026-06: only
--- from a register that holds its node at the task's step.
+-- from a register that holds its node at the task's step. 2026-12: from a hat of any lane.
 pub data Reachable (ws : List ℕ) : ℕ → Type 0 where
-  from-hat : (s : Side) → Reachable ws (hat ws s)
+  from-hat : (l : ℕ) (s : Side) → l < laneCount ws → Reachable ws (hat ws l s)
   from-register : (k : ℕ) (r : Register)
       → holds (task ws k .step) r ≡ true
       → register (task ws k) r ≢ none

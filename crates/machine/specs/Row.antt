@@ -13,40 +13,53 @@ use Rattle.machine.specs.Sides.{Side, left, right}
 use Rattle.machine.specs.Operations.{Operation, idle, push, pop, add, remove}
 use Rattle.machine.specs.Answers.{refusalOf, isGoing, answerOf}
 
--- 01: the task's note is the operation, side and argument.
+-- 01: the task's note is the operation, side and argument; since 2026-12 also the lane.
 pub record Note : Type 0 where
+  pub lane : ℕ
   pub operation : Operation
   pub side : Side
   pub argument : ℕ
 
--- 01: it keeps a row of bags, left end first, and for each task a note or none. 02: "The row of bags in the mission is a
--- row of such tags": a bag is its tag, one number, and refusal 7 sees to it that a push's is one. Since 2026-07 also how
--- many tasks there are, by the start's argument, and the task last dispatched.
+-- 01: it keeps a row of bags, left end first, and for each task a note or none. 02: "The row of bags in the mission is
+-- a row of such tags": a bag is its tag, one number, and refusal 7 sees to it that a push's is one. Since 2026-07 also
+-- how many tasks there are, by the start's argument, and the task last dispatched. Since 2026-12 "each lane is now its
+-- own row of bags", and there are as many as the start's argument says.
 pub record Row : Type 0 where
-  pub bags : List ℕ
+  pub lanes : ℕ
+  pub bags : (lane : ℕ) → List ℕ
   pub notes : ℕ → Option Note
   pub tasks : ℕ
   pub dispatched : ℕ
 
 -- 01: at first the row is empty and there are no notes. 02: "T - 1 after a start".
-abbrev pub emptyRow : (T : ℕ) → Row
-emptyRow T = record { bags = []; notes = λ k. nothing; tasks = T; dispatched = T - 1 }
+abbrev pub emptyRow : (T lanes : ℕ) → Row
+emptyRow T lanes =
+    record { lanes = lanes; bags = λ l. []; notes = λ k. nothing; tasks = T; dispatched = T - 1 }
 
 -- With one thing set.
 abbrev pub noted : Row → ℕ → Option Note → Row
 noted ρ k n =
     record {
+      lanes = ρ .lanes;
       bags = ρ .bags;
       notes = λ j. if j ≟ k then n else ρ .notes j;
       tasks = ρ .tasks;
       dispatched = ρ .dispatched;
     }
 
-abbrev pub withBags : Row → List ℕ → Row
-withBags ρ bags = record { bags = bags; notes = ρ .notes; tasks = ρ .tasks; dispatched = ρ .dispatched }
+abbrev pub withBags : Row → (lane : ℕ) → List ℕ → Row
+withBags ρ l bags =
+    record {
+      lanes = ρ .lanes;
+      bags = λ j. if j ≟ l then bags else ρ .bags j;
+      notes = ρ .notes;
+      tasks = ρ .tasks;
+      dispatched = ρ .dispatched;
+    }
 
 abbrev pub withDispatched : ℕ → Row → Row
-withDispatched k ρ = record { bags = ρ .bags; notes = ρ .notes; tasks = ρ .tasks; dispatched = k }
+withDispatched k ρ =
+    record { lanes = ρ .lanes; bags = ρ .bags; notes = ρ .notes; tasks = ρ .tasks; dispatched = k }
 
 -- A bag put at a side's end.
 abbrev pub put : Side → ℕ → List ℕ → List ℕ
@@ -106,12 +119,13 @@ abbrev pub answered : Note → Answer → List ℕ → Option (List ℕ)
 answered n a bags = answeredBy (n .operation) n a bags
 
 -- A tick that was made. 01: a tick answers the call in its task's note, so a task without one gets no answer, not
--- even "going"; after each tick's answer but "going" the task has no note.
+-- even "going"; after each tick's answer but "going" the task has no note. 02: each lane's row is "explained by the
+-- calls on it".
 unfoldable pub feedMade : Row → ℕ → Answer → Option Row
 feedMade ρ k a =
     bind (ρ .notes k)
     (λ n. cond (isGoing a) (some ρ)
-    (Option·map (λ bags. noted (withBags ρ bags) k nothing) (answered n a (ρ .bags))))
+    (Option·map (λ bags. noted (withBags ρ (n .lane) bags) k nothing) (answered n a (ρ .bags (n .lane)))))
 
 -- 01: run: the ticks it reports made, by its pairs and the words it wrote, one after another.
 unfoldable pub feedRun : Row → (made : ℕ) → (list answers : List ℕ) → Option Row

@@ -2,7 +2,7 @@
 use mathlib.Core.Path.{_≡_}
 use mathlib.Core.Bool.{Bool, true, false, cond, _&&_, _||_}
 use mathlib.Core.List.{List, [], _∷_}
-use Prim.Native.Nat.{ℕ, zero, suc}
+use Prim.Native.Nat.{ℕ, zero, suc, _*_}
 use lib.Dec.{leb, ltb, eqb}
 use lib.ListN.{length}
 use Rattle.machine.specs.declared.Stored.{Stored}
@@ -35,29 +35,40 @@ use Rattle.machine.specs.Tasks.{
   countedWord,
   valueReadWords,
   registerWord,
+  laneWord,
 }
 use Rattle.machine.specs.Table.{
   tableLength,
   nodeCount,
   taskCount,
   growth,
-  hat,
+  laneCount,
   dispatched,
-  word7,
+  mostLanes,
+  hatWord,
+  word14,
+  word15,
   linkWord,
   valueWords,
   recordWords,
 }
 
--- 01: S slots (2 to 1,024), T tasks (1 to 16), growth (0 to 64).
-abbrev pub sizesOk : (S T growth : ℕ) → Bool
-sizesOk S T g = leb 2 S && leb S 1024 && leb 1 T && leb T 16 && leb g 64
+-- 02: one to four lanes.
+abbrev pub lanesOk : (lanes : ℕ) → Bool
+lanesOk lanes = leb 1 lanes && leb lanes mostLanes
 
--- Refusal 3: under 28 words (02), which is the length of the least sizes, header S, T or growth out of range, or length not matching.
+-- 01: S slots (2 to 1,024), T tasks (1 to 16), growth (0 to 64). 02: "S is at least twice the lanes", which are at
+-- least one.
+abbrev pub sizesOk : (S T growth lanes : ℕ) → Bool
+sizesOk S T g lanes = leb (2 * lanes) S && leb S 1024 && leb 1 T && leb T 16 && leb g 64
+
+-- Refusal 3: under 37 words (02), which is the length of the least sizes, header S, T, growth or lanes out of range, or
+-- length not matching.
 abbrev pub lengthOk : List ℕ → Bool
 lengthOk ws =
     leb (tableLength 2 1) (length ws)
-    && sizesOk (nodeCount ws) (taskCount ws) (growth ws)
+    && lanesOk (laneCount ws)
+    && sizesOk (nodeCount ws) (taskCount ws) (growth ws) (laneCount ws)
     && eqb (length ws) (tableLength (nodeCount ws) (taskCount ws))
 
 -- Every number below n passes a test.
@@ -76,13 +87,17 @@ sameWords (x ∷ xs) (y ∷ ys) = eqb x y && sameWords xs ys
 abbrev pub nodeOrNone : (S x : ℕ) → Bool
 nodeOrNone S x = ltb x S || eqb x none
 
--- 01: hats are below S. 02: word 6 "must be below T in the shape, so only word 7 must be 0".
+-- 01: hats are below S. 02: "unused ones none".
+abbrev pub hatOk : List ℕ → (lane : ℕ) → Side → Bool
+hatOk ws l s = cond (ltb l (laneCount ws)) (ltb (hatWord ws l s) (nodeCount ws)) (eqb (hatWord ws l s) none)
+
+-- 02: the dispatcher's task "must be below T in the shape"; the last two words are 0.
 abbrev pub headerOk : List ℕ → Bool
 headerOk ws =
     ltb (dispatched ws) (taskCount ws)
-    && eqb (word7 ws) 0
-    && ltb (hat ws left) (nodeCount ws)
-    && ltb (hat ws right) (nodeCount ws)
+    && eqb (word14 ws) 0
+    && eqb (word15 ws) 0
+    && allBelow mostLanes (λ l. hatOk ws l left && hatOk ws l right)
 
 -- 01: links and V are as above; 02: V with its digit.
 unfoldable pub nodeOk : List ℕ → ℕ → Bool
@@ -95,7 +110,8 @@ nodeOk ws x =
 abbrev pub valueReadOk : Side → (step : ℕ) → Stored → Bool
 valueReadOk s step u =
     cond (eqb step (stepNumber line51)) (bagOk u)
-    (cond (eqb step (stepNumber line48)) (sameStored u (encode (N (opposite s))) || sameStored u (encode (X (opposite s))))
+    (cond (eqb step (stepNumber line48))
+    (sameStored u (encode (N (opposite s))) || sameStored u (encode (X (opposite s))))
     (valueOk u))
 
 -- 01: counted is 0 at step 54, below the goal at steps 31, 56, 58 and at most the goal elsewhere.
@@ -105,9 +121,9 @@ countedOk step goal n =
     (cond (isStepIn (line31 ∷ line56 ∷ line58 ∷ []) step) (ltb n goal)
     (leb n goal))
 
--- The words of a task that is in a call. 01: the step is of its operation.
-unfoldable pub busyOk : (S growth : ℕ) → List ℕ → Bool
-busyOk S g r =
+-- The words of a task that is in a call. 01: the step is of its operation. 02: its lane is "below the lanes".
+unfoldable pub busyOk : (S growth lanes : ℕ) → List ℕ → Bool
+busyOk S g lanes r =
     let op = operationOf (operationWord r) in
     leb (operationWord r) 4
     && leb (sideWord r) 1
@@ -119,17 +135,18 @@ busyOk S g r =
     && nodeOrNone S (registerWord r inB)
     && nodeOrNone S (registerWord r inC)
     && nodeOrNone S (registerWord r inD)
+    && ltb (laneWord r) lanes
 
 -- 01: an idle record is fresh.
-unfoldable pub recordOk : (S growth : ℕ) → List ℕ → Bool
-recordOk S g r = cond (eqb (operationWord r) 0) (sameWords r (wordsOf fresh)) (busyOk S g r)
+unfoldable pub recordOk : (S growth lanes : ℕ) → List ℕ → Bool
+recordOk S g lanes r = cond (eqb (operationWord r) 0) (sameWords r (wordsOf fresh)) (busyOk S g lanes r)
 
 -- 01: the shape, of a table whose sizes and length are right.
 unfoldable pub shapeOk : List ℕ → Bool
 shapeOk ws =
     headerOk ws
     && allBelow (nodeCount ws) (nodeOk ws)
-    && allBelow (taskCount ws) (λ k. recordOk (nodeCount ws) (growth ws) (recordWords ws k))
+    && allBelow (taskCount ws) (λ k. recordOk (nodeCount ws) (growth ws) (laneCount ws) (recordWords ws k))
 
 -- A table passes the tests of refusals 3 and 4.
 pub record WellFormed (ws : List ℕ) : Type 0 where

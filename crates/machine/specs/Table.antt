@@ -6,13 +6,13 @@ use lib.ListN.{getD, set, take, drop}
 use lib.Seq.{sets}
 use Rattle.machine.specs.declared.Stored.{Stored}
 use Rattle.machine.specs.Choice.{_<?_, if_then_else_}
-use Rattle.machine.specs.Sides.{Side, sideNumber}
+use Rattle.machine.specs.Sides.{Side, left, right, sideNumber}
 use Rattle.machine.specs.Values.{Value, never, encode, decode, storedWords, storedAt, storedLength}
 use Rattle.machine.specs.Tasks.{Task, fresh, none, recordLength, wordsOf, taskOf}
 
--- 02: a table is 8 + 4S + 12T words. 01: in the order header, slots, tasks.
+-- 02: "the length is 16 + 4S + 13T". 01: in the order header, slots, tasks.
 abbrev pub headerLength : ℕ
-headerLength = 8
+headerLength = 16
 
 -- A node's two links, and then its value.
 abbrev pub linksLength : ℕ
@@ -30,7 +30,8 @@ recordAt S k = nodeAt S + recordLength * k
 abbrev pub tableLength : (S T : ℕ) → ℕ
 tableLength S T = recordAt S T
 
--- ---- The header: S, T, growth, left hat, right hat, tick count, and since 2026-07 the task last dispatched; 0.
+-- ---- The header. 02: "S, T, growth, lanes, tick count, the dispatcher's task, four pairs of hats (left first, unused
+-- ones none), 0, 0".
 abbrev pub nodeCountAt : ℕ
 nodeCountAt = 0
 
@@ -39,6 +40,9 @@ taskCountAt = 1
 
 abbrev pub growthAt : ℕ
 growthAt = 2
+
+abbrev pub laneCountAt : ℕ
+laneCountAt = 3
 
 abbrev pub nodeCount : List ℕ → ℕ
 nodeCount ws = getD ws nodeCountAt 0
@@ -49,30 +53,54 @@ taskCount ws = getD ws taskCountAt 0
 abbrev pub growth : List ℕ → ℕ
 growth ws = getD ws growthAt 0
 
-abbrev pub hatAt : Side → ℕ
-hatAt s = 3 + sideNumber s
-
-abbrev pub hat : List ℕ → Side → ℕ
-hat ws s = getD ws (hatAt s) 0
+abbrev pub laneCount : List ℕ → ℕ
+laneCount ws = getD ws laneCountAt 0
 
 abbrev pub tickCountAt : ℕ
-tickCountAt = 5
+tickCountAt = 4
 
 abbrev pub tickCount : List ℕ → ℕ
 tickCount ws = getD ws tickCountAt 0
 
--- 02: "header word 6, counted from 0, keeps that task".
+-- 2026-07's "that task", the one last dispatched.
 abbrev pub dispatchedAt : ℕ
-dispatchedAt = 6
+dispatchedAt = 5
 
 abbrev pub dispatched : List ℕ → ℕ
 dispatched ws = getD ws dispatchedAt 0
 
-abbrev pub word7 : List ℕ → ℕ
-word7 ws = getD ws 7 0
+-- 02: one to four lanes, which are counted from 0.
+abbrev pub mostLanes : ℕ
+mostLanes = 4
 
-abbrev pub headerWords : (S T growth leftHat rightHat ticks dispatched : ℕ) → List ℕ
-headerWords S T g lh rh n d = S ∷ T ∷ g ∷ lh ∷ rh ∷ n ∷ d ∷ 0 ∷ []
+abbrev pub hatAt : (lane : ℕ) → Side → ℕ
+hatAt l s = 6 + 2 * l + sideNumber s
+
+abbrev pub hatWord : List ℕ → (lane : ℕ) → Side → ℕ
+hatWord ws l s = getD ws (hatAt l s) 0
+
+-- A lane's hat on a side. A number past the four pairs has none.
+unfoldable pub hat : List ℕ → (lane : ℕ) → Side → ℕ
+hat ws l s = if l <? mostLanes then hatWord ws l s else none
+
+-- The two words that are always 0.
+abbrev pub word14At : ℕ
+word14At = 14
+
+abbrev pub word14 : List ℕ → ℕ
+word14 ws = getD ws word14At 0
+
+abbrev pub word15At : ℕ
+word15At = 15
+
+abbrev pub word15 : List ℕ → ℕ
+word15 ws = getD ws word15At 0
+
+abbrev pub headerWords : (S T growth lanes ticks dispatched : ℕ) → (hats : (lane : ℕ) → Side → ℕ) → List ℕ
+headerWords S T g lanes n d h =
+    S ∷ T ∷ g ∷ lanes ∷ n ∷ d
+    ∷ h 0 left ∷ h 0 right ∷ h 1 left ∷ h 1 right ∷ h 2 left ∷ h 2 right ∷ h 3 left ∷ h 3 right
+    ∷ 0 ∷ 0 ∷ []
 
 -- ---- A node (01: slot): L, R, V and its leading digit.
 abbrev pub linkAt : Side → ℕ → ℕ
@@ -110,8 +138,8 @@ unfoldable pub task : List ℕ → ℕ → Task
 task ws k = if k <? taskCount ws then taskOf (recordWords ws k) else fresh
 
 -- ---- Writes.
-abbrev pub setHat : Side → ℕ → List ℕ → List ℕ
-setHat s x ws = set ws (hatAt s) x
+abbrev pub setHat : (lane : ℕ) → Side → ℕ → List ℕ → List ℕ
+setHat l s x ws = set ws (hatAt l s) x
 
 abbrev pub setTickCount : ℕ → List ℕ → List ℕ
 setTickCount n ws = set ws tickCountAt n

@@ -12,8 +12,8 @@ use Rattle.machine.specs.Steps.{Step, rest, stepNumber, stepOf}
 abbrev pub none : ℕ
 none = 65535
 
--- 01: operation, step, side, argument, counted, value read, and four registers, node numbers or none. Argument and value
--- read include the digit that 02 gives them.
+-- 01: operation, step, side, argument, counted, value read, and four registers, node numbers or none. Argument and
+-- value read include the digit that 02 gives them. 02: "A task's last word is its lane".
 pub record Task : Type 0 where
   pub operation : Operation
   pub step : Step
@@ -25,8 +25,9 @@ pub record Task : Type 0 where
   pub B : ℕ
   pub C : ℕ
   pub D : ℕ
+  pub lane : ℕ
 
--- 02: a fresh record is eight zeros and four nones.
+-- 02: a fresh record is eight zeros and four nones, and the lane is "0 when idle".
 abbrev pub fresh : Task
 fresh =
     record {
@@ -40,6 +41,7 @@ fresh =
       B = none;
       C = none;
       D = none;
+      lane = 0;
     }
 
 -- The registers, by name.
@@ -58,9 +60,9 @@ goal growth t = goalOf (t .operation) growth (t .argument)
 
 -- ---- The words of a record.
 abbrev pub recordLength : ℕ
-recordLength = 12
+recordLength = 13
 
--- In 01's order, each leading digit after the word that it belongs to.
+-- In 01's order, each leading digit after the word that it belongs to; the lane last.
 abbrev pub wordsOf : Task → List ℕ
 wordsOf t =
     operationNumber (t .operation)
@@ -69,7 +71,7 @@ wordsOf t =
     ∷ (storedWords (stored (t .argument))
     ++ (t .counted
     ∷ (storedWords (encode (t .value))
-    ++ (t .A ∷ t .B ∷ t .C ∷ t .D ∷ []))))
+    ++ (t .A ∷ t .B ∷ t .C ∷ t .D ∷ t .lane ∷ []))))
 
 -- Each by its name. No other file says where in a record a word stands.
 abbrev pub operationWord : List ℕ → ℕ
@@ -96,6 +98,9 @@ registerWord r inB = getD r 9 0
 registerWord r inC = getD r 10 0
 registerWord r inD = getD r 11 0
 
+abbrev pub laneWord : List ℕ → ℕ
+laneWord r = getD r 12 0
+
 -- The record of its words.
 abbrev pub taskOf : List ℕ → Task
 taskOf r =
@@ -110,6 +115,7 @@ taskOf r =
       B = registerWord r inB;
       C = registerWord r inC;
       D = registerWord r inD;
+      lane = laneWord r;
     }
 
 -- ---- The record of the same call further on: at a step, with a count, a value read and registers.
@@ -126,6 +132,7 @@ further t st n v a b c d =
       B = b;
       C = c;
       D = d;
+      lane = t .lane;
     }
 
 -- With one thing set.

@@ -7,7 +7,7 @@ use lib.ListN.{length}
 use Rattle.machine.specs.declared.Answer.the-variants.{Going, Refused}
 use Rattle.machine.specs.declared.Dispatch.the-variants.{Idle, Answered}
 use Rattle.machine.specs.declared.Stored.{Stored}
-use Rattle.machine.specs.Table.{nodeCount, taskCount, task}
+use Rattle.machine.specs.Table.{nodeCount, taskCount, laneCount, task}
 use Rattle.machine.specs.Calls.{isBusy, begin, tick, dispatch}
 use Rattle.machine.specs.Begun.{Begun}
 use Rattle.machine.specs.Answers.{endsCall}
@@ -19,7 +19,7 @@ use Rattle.machine.specs.Answers.{endsCall}
 pub data Move : Type 0 where
   ticks : (k hint : ℕ) → Move
   dispatches : (hint : ℕ) → Move
-  begins : (k operation side : ℕ) (argument : Stored) → Move
+  begins : (k lane operation side : ℕ) (argument : Stored) → Move
 
 -- The moves are made one after another and no tick answers: n ticks, those of dispatches too, say "going", other ticks
 -- and dispatches are refused, some dispatches are idle, and begins are accepted or refused.
@@ -51,14 +51,15 @@ pub data AnswerFree : (n : ℕ) (moves : List Move) (ws : List ℕ) → Type 0 w
       → AnswerFree n moves (dispatch ws h .words)
       → AnswerFree n (dispatches h ∷ moves) ws
   begun :
-      {n k op side : ℕ} {argument : Stored} {moves : List Move} {ws : List ℕ}
-      → AnswerFree n moves (begin ws k op side argument .words)
-      → AnswerFree n (begins k op side argument ∷ moves) ws
+      {n k l op side : ℕ} {argument : Stored} {moves : List Move} {ws : List ℕ}
+      → AnswerFree n moves (begin ws k l op side argument .words)
+      → AnswerFree n (begins k l op side argument ∷ moves) ws
 
--- With S nodes and T tasks, so many ticks are too many: the first factor counts how often a tick can disturb the other
--- tasks before some call answers, and one more; the second, the ticks that all tasks can make between two of these.
-abbrev pub tooManyTicks : (S T : ℕ) → ℕ
-tooManyTicks S T = (T * (T + 1) + 3) * (T * (6 * S + 153) + 1)
+-- With S nodes, T tasks and so many lanes, so many ticks are too many: the first factor counts how often a tick can
+-- disturb the other tasks before some call answers, by a task or by a hat that moves, and one more; the second, the
+-- ticks that all tasks can make between two of these.
+abbrev pub tooManyTicks : (S T lanes : ℕ) → ℕ
+tooManyTicks S T lanes = (T * (T + 1) + 2 * lanes + 1) * (T * (6 * S + 153) + 1)
 
 -- From any table that start and our calls can reach, whatever the ticks and begins: of so many ticks made, one ends a
 -- call.
@@ -68,7 +69,7 @@ LockFree =
     → Begun ws
     → (n : ℕ) (moves : List Move)
     → AnswerFree n moves ws
-    → n < tooManyTicks (nodeCount ws) (taskCount ws)
+    → n < tooManyTicks (nodeCount ws) (taskCount ws) (laneCount ws)
 
 -- ---- The same, as what a schedule of ticks comes to.
 
@@ -101,6 +102,6 @@ SomeCallAnswers =
     (ws : List ℕ)
     → Begun ws
     → (turns : List Turn)
-    → tooManyTicks (nodeCount ws) (taskCount ws) ≤ length turns
+    → tooManyTicks (nodeCount ws) (taskCount ws) (laneCount ws) ≤ length turns
     → OfBusy ws turns
     → SomeAnswers turns ws

@@ -7,10 +7,10 @@ use mathlib.Core.Option.{Option, some, none as nothing, Option·map}
 use Prim.Native.Nat.{ℕ, zero, suc, _+_, _*_, _-_, _≤_, _<_}
 use native.Mathlib.Omega.{arith}
 use native.Mathlib.Nat.{add-zero, zero-add, sub-zero}
-use lib.Dec.{eqb}
+use lib.Dec.{eqb, ltb}
 use lib.ListN.{length, take, drop, take-append-drop}
 use lib.Seq.{sets, drop-drop}
-use borrow.Author.Tests.{le-leb, lt-leb}
+use borrow.Author.Tests.{le-leb, lt-leb, lt-ltb, le-ltb}
 use Rattle.tag.specs.Tags.{tagWords, allTagWords}
 use Rattle.machine.specs.declared.Reading.the-variants.{Count, Refused}
 use Rattle.machine.specs.declared.Stored.{Stored}
@@ -18,10 +18,10 @@ use Rattle.machine.specs.Choice.{_≟_, _<?_, if_then_else_}
 use Rattle.machine.specs.Sides.{left, right}
 use Rattle.machine.specs.Values.{Value, never, bag, N, X, Y, number, encode, decode, bagOk, valueOk}
 use Rattle.machine.specs.Tasks.{none}
-use Rattle.machine.specs.Table.{headerLength, nodeAt, nodeCount, hat, valueWords, link}
+use Rattle.machine.specs.Table.{headerLength, nodeAt, nodeCount, laneCount, mostLanes, hatWord, hat, valueWords, link}
 use borrow.Rule.Slice.PartMut.{midOf}
 use Rattle.machine.specs.Shape.{WellFormed}
-use Rattle.machine.specs.Calls.{isAmong, tableRefusal, laneFrom, lane, readInto, read}
+use Rattle.machine.specs.Calls.{unless, isAmong, tableRefusal, laneFrom, lane, readInto, read}
 use Rattle.machine.specs.Results.{readOf}
 use Rattle.machine.proofs.Basics.Choices.{equal, unequal, if-yes}
 use Rattle.machine.proofs.Basics.Contradiction.{refute, clash}
@@ -65,15 +65,15 @@ module _ (ws : List ℕ) (sized : Sized (sizesOf ws)) where
       (ap (λ (v : Value). atValue v (laneFrom ws n (link ws right x))) (value-in ws sized x)
       ∙ ap (atValue (decode (storedIn (nodesOf ws) x))) rest)
 
-  lane-in : lane ws ≡ after (nodesOf ws) (nodeCount ws) (hat ws left)
+  lane-in : (l : ℕ) → lane ws l ≡ after (nodesOf ws) (nodeCount ws) (hat ws l left)
   unfolding lane
-  lane-in =
-      ap (laneFrom ws (nodeCount ws)) (link-in ws sized right (hat ws left))
-      ∙ lane-from-in (nodeCount ws) (linkIn (nodesOf ws) right (hat ws left))
+  lane-in l =
+      ap (laneFrom ws (nodeCount ws)) (link-in ws sized right (hat ws l left))
+      ∙ lane-from-in (nodeCount ws) (linkIn (nodesOf ws) right (hat ws l left))
 
   module _ (W : WellShaped (columns ws)) where
-    pub hat-in : HoldsNode (nodesOf ws) (hat ws left)
-    hat-in = node-held ws sized (hat ws left) (W .hats-ok left)
+    pub hat-in : (l : ℕ) → l < laneCount ws → HoldsNode (nodesOf ws) (hat ws l left)
+    hat-in l is-lane = node-held ws sized (hat ws l left) (W .hats-ok l left .used is-lane)
 
     pub walkable : Walkable (nodesOf ws)
     walkable =
@@ -262,22 +262,33 @@ module _ (ns : List ℕ) (slots i x n : ℕ) (more : i < n) (ahead : countOf (la
       ∙ ap (λ (l : Option (List ℕ)). written i l out) (sym bag-ahead)
 
 -- ---- The walk of a table that has passed the tests of refusals 3 and 4, from the left hat's R.
-module _ (ws : List ℕ) (P : WellFormed ws) where
+module _ (ws : List ℕ) (P : WellFormed ws) (l : ℕ) (is-lane : l < laneCount ws) where
   Z : Sized (sizesOf ws)
   Z = well-sized ws (P .length-passes) .sized
 
   pub table-walkable : Walkable (nodesOf ws)
-  table-walkable = walkable ws Z (well-shaped ws (P .shape-passes))
+  table-walkable = walkable ws Z (well-shaped ws (P .length-passes) (P .shape-passes))
 
-  pub left-hat-in : HoldsNode (nodesOf ws) (hat ws left)
-  left-hat-in = hat-in ws Z (well-shaped ws (P .shape-passes))
+  -- The hat is the word at its place.
+  hat-there : hat ws l left ≡ hatWord ws l left
+  unfolding hat
+  hat-there =
+      let few = well-sized ws (P .length-passes) .most-lanes in
+      if-yes (l <? mostLanes) (hatWord ws l left) none (omega arith)
 
-  module _ (from : ℕ) (first : from ≡ linkIn (nodesOf ws) right (hat ws left)) where
+  pub left-hat-in : HoldsNode (nodesOf ws) (hatWord ws l left)
+  left-hat-in =
+      subst (HoldsNode (nodesOf ws)) hat-there
+      (hat-in ws Z (well-shaped ws (P .length-passes) (P .shape-passes)) l is-lane)
+
+  module _ (from : ℕ) (first : from ≡ linkIn (nodesOf ws) right (hatWord ws l left)) where
     pub first-in : NodeOrNone (nodesOf ws) from
-    first-in = rw first (table-walkable .links (hat ws left) left-hat-in)
+    first-in = rw first (table-walkable .links (hatWord ws l left) left-hat-in)
 
-    pub lane-walked : laneIn (nodesOf ws) (nodeCount ws) from ≡ lane ws
-    lane-walked = rw first (sym (lane-in ws Z))
+    pub lane-walked : laneIn (nodesOf ws) (nodeCount ws) from ≡ lane ws l
+    lane-walked =
+        rw first
+        (ap (after (nodesOf ws) (nodeCount ws)) (sym hat-there) ∙ sym (lane-in ws Z l))
 
   -- The part of the table that the code lends is the nodes' part.
   module _ {end : ℕ} (is-end : end ≡ nodeAt (nodeCount ws)) where
@@ -287,30 +298,36 @@ module _ (ws : List ℕ) (P : WellFormed ws) where
     is-part : nodesOf ws ≡ part
     is-part = sym (nodes-part ws is-end)
 
-    pub hat-in-part : HoldsNode part (hat ws left)
+    pub hat-in-part : HoldsNode part (hatWord ws l left)
     hat-in-part = rw (sym is-part) left-hat-in
 
-    module _ {from : ℕ} (first : from ≡ linkIn part right (hat ws left)) where
-      starts : from ≡ linkIn (nodesOf ws) right (hat ws left)
-      starts = first ∙ ap (λ (ns : List ℕ). linkIn ns right (hat ws left)) (sym is-part)
+    module _ {from : ℕ} (first : from ≡ linkIn part right (hatWord ws l left)) where
+      starts : from ≡ linkIn (nodesOf ws) right (hatWord ws l left)
+      starts = first ∙ ap (λ (ns : List ℕ). linkIn ns right (hatWord ws l left)) (sym is-part)
 
       pub part-ready : Walkable part × NodeOrNone part from
       part-ready =
           subst (λ (ns : List ℕ). Walkable ns × NodeOrNone ns from) is-part (table-walkable, first-in from starts)
 
-      pub part-walked : laneIn part (nodeCount ws) from ≡ lane ws
+      pub part-walked : laneIn part (nodeCount ws) from ≡ lane ws l
       part-walked =
           ap (λ (ns : List ℕ). laneIn ns (nodeCount ws) from) (sym is-part) ∙ lane-walked from starts
 
 -- ---- Refusals 3 and 4 by their number.
-module _ (ws : List ℕ) {n : ℕ} (is-number : n ≡ numberOf (tableRefusal ws nothing)) (out : List ℕ) where
-  pub read-refused : n ≢ 0 → readOf (Refused n) out ≡ read ws out
+module _ (ws : List ℕ) {n : ℕ} (is-number : n ≡ numberOf (tableRefusal ws nothing)) (l : ℕ) (out : List ℕ) where
+  pub read-refused : n ≢ 0 → readOf (Refused n) out ≡ read ws l out
   unfolding read
-  read-refused h = rw (refused ws is-number h nothing, read)
+  read-refused h = rw (refused ws is-number h (unless (ltb l (laneCount ws)) 26 nothing), read)
 
-  pub read-goes-on : n ≡ 0 → readInto (lane ws) out ≡ read ws out
+  pub read-no-lane : n ≡ 0 → laneCount ws ≤ l → readOf (Refused 26) out ≡ read ws l out
   unfolding read
-  read-goes-on e = let P = passed ws is-number e in rw (P .length-passes, P .shape-passes, read)
+  read-no-lane e h =
+      let P = passed ws is-number e in rw (P .length-passes, P .shape-passes, le-ltb l (laneCount ws) h, read)
+
+  pub read-goes-on : n ≡ 0 → l < laneCount ws → readInto (lane ws l) out ≡ read ws l out
+  unfolding read
+  read-goes-on e h =
+      let P = passed ws is-number e in rw (P .length-passes, P .shape-passes, lt-ltb l (laneCount ws) h, read)
 
 -- ---- What the walk says of its count.
 pub bags-counted :

@@ -2,15 +2,16 @@
 // walk and then writes them. A refusal changes no lent word.
 use layout::nodes;
 use layout::places::HEADER;
-use layout::places::LEFT_HAT;
+use layout::places::LANE_COUNT;
 use layout::places::NODE_COUNT;
+use layout::places::hat_at;
 use layout::places::node_at;
 use machine::Reading;
 use machine::Stored;
 use record::Task;
 use shape::table_refusal;
 ghost use mathlib.Core.Path.{_≡_};
-ghost use Prim.Native.Nat.{_*_, _≤_};
+ghost use Prim.Native.Nat.{_*_, _≤_, _<_};
 ghost use mathlib.Core.Bool.{_||_};
 ghost use mathlib.Core.Option.{some};
 ghost use lib.Dec.{eqb};
@@ -18,6 +19,7 @@ ghost use lib.ListN.{length};
 ghost use Rattle.machine.specs.Values.{number};
 ghost use Rattle.machine.specs.Calls.{lane, readInto, read};
 ghost use Rattle.machine.specs.Results.{readOf};
+ghost use Rattle.machine.specs.Table.{laneCount};
 ghost use Rattle.machine.specs.Shape.{WellFormed};
 ghost use Rattle.reading.specs.Lane.{laneIn, countOf, walkOf, laid, NodeOrNone, Walkable};
 
@@ -61,15 +63,15 @@ fn walk_from(ns: &[u32], slots: u32, from: u32, sought: u64) -> Walk
     Walk::NoEnd
 }
 
-// The lane of a table that has passed the tests of refusals 3 and 4, walked for a tag that is sought.
-pub fn seek(table: &[u32], sought: u64) -> Walk
-    requires { ⌜ WellFormed (now table) ⌝ }
-    ensures { λ r. ⌜ r ≡ walkOf sought (lane (now (table .entry))) ⌝ }
+// A lane of a table that has passed the tests of refusals 3 and 4, walked for a tag that is sought.
+pub fn seek(table: &[u32], l: u32, sought: u64) -> Walk
+    requires { ⌜ WellFormed (now table) × (l < laneCount (now table)) ⌝ }
+    ensures { λ r. ⌜ r ≡ walkOf sought (lane (now (table .entry)) l) ⌝ }
 {
     let slots = table[NODE_COUNT];
     let ns = &table[HEADER..node_at(slots)];
     // 01: the lane is read from the left hat's R along R while V is a bag.
-    let from = nodes::link(ns, 1, table[LEFT_HAT]);
+    let from = nodes::link(ns, 1, table[hat_at(l, 0)]);
     walk_from(ns, slots, from, sought)
 }
 
@@ -89,14 +91,14 @@ fn copy(ns: &[u32], slots: u32, from: u32, n: u32, out: &mut [u32])
     }
 }
 
-// The read of a table that has passed the tests of refusals 3 and 4.
-fn read_lane(table: &[u32], out: &mut [u32]) -> Reading
-    requires { ⌜ WellFormed (now table) ⌝ }
-    ensures { λ r. ⌜ readOf r (now (out .exit)) ≡ readInto (lane (now (table .entry))) (now (out .entry)) ⌝ }
+// The read of a table that has passed the tests of refusals 3, 4 and 26.
+fn read_lane(table: &[u32], l: u32, out: &mut [u32]) -> Reading
+    requires { ⌜ WellFormed (now table) × (l < laneCount (now table)) ⌝ }
+    ensures { λ r. ⌜ readOf r (now (out .exit)) ≡ readInto (lane (now (table .entry)) l) (now (out .entry)) ⌝ }
 {
     let slots = table[NODE_COUNT];
     let ns = &table[HEADER..node_at(slots)];
-    let from = nodes::link(ns, 1, table[LEFT_HAT]);
+    let from = nodes::link(ns, 1, table[hat_at(l, 0)]);
     // A read seeks no tag.
     let walk = walk_from(ns, slots, from, 0);
     match walk {
@@ -114,13 +116,16 @@ fn read_lane(table: &[u32], out: &mut [u32]) -> Reading
     }
 }
 
-// 01: refusals 3, 4, 11 and 12, then the bags in order and their count.
-pub fn read(table: &[u32], out: &mut [u32]) -> Reading
-    ensures { λ r. ⌜ readOf r (now (out .exit)) ≡ read (now (table .entry)) (now (out .entry)) ⌝ }
+// 01 and 02: refusals 3, 4, 26, 11 and 12, then the bags in order and their count.
+pub fn read(table: &[u32], l: u32, out: &mut [u32]) -> Reading
+    ensures { λ r. ⌜ readOf r (now (out .exit)) ≡ read (now (table .entry)) l (now (out .entry)) ⌝ }
 {
     let n = table_refusal(table);
     if n != 0 {
         return Reading::Refused(n);
     }
-    read_lane(table, out)
+    if table[LANE_COUNT] <= l {
+        return Reading::Refused(26);
+    }
+    read_lane(table, l, out)
 }

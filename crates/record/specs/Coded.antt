@@ -21,6 +21,7 @@ use Rattle.machine.specs.Tasks.{
   countedWord,
   valueReadWords,
   registerWord,
+  laneWord,
   taskOf,
 }
 
@@ -35,6 +36,7 @@ structOf r =
       counted = countedWord r;
       value = valueReadWords r;
       registers = registerWord r inA ∷ registerWord r inB ∷ registerWord r inC ∷ registerWord r inD ∷ [];
+      lane = laneWord r;
     }
 
 abbrev pub recordOf : Tasks.Task → List ℕ
@@ -49,6 +51,7 @@ recordOf t =
     ∷ getD (t .registers) 1 0
     ∷ getD (t .registers) 2 0
     ∷ getD (t .registers) 3 0
+    ∷ t .lane
     ∷ []))))
 
 -- The struct of a record, and the record of a struct.
@@ -72,6 +75,7 @@ furtherOn t st n v rs =
       counted = n;
       value = v;
       registers = rs;
+      lane = t .lane;
     }
 
 abbrev pub atStep : Tasks.Task → ℕ → Tasks.Task
@@ -88,4 +92,5 @@ withCount t n = furtherOn t (t .step) n (t .value) (t .registers)
 
 -- Two structs of the same call: of what it was begun with, which no line changes before it answers.
 abbrev pub SameCall : (t u : Tasks.Task) → Type 0
-SameCall t u = (t .operation ≡ u .operation) × (t .side ≡ u .side) × (t .argument ≡ u .argument)
+SameCall t u =
+    (t .operation ≡ u .operation) × (t .side ≡ u .side) × (t .argument ≡ u .argument) × (t .lane ≡ u .lane)

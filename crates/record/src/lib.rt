@@ -6,7 +6,16 @@ ghost use Prim.Native.Nat.{_<_};
 ghost use lib.ListN.{length};
 ghost use Rattle.machine.specs.Tasks.{fresh, recordLength, wordsOf};
 ghost use Rattle.machine.specs.Shape.{sameWords};
-ghost use Rattle.record.specs.Coded.{freshTask, recordOf, structOf, atStep, withRegister, withValueRead, withCount, SameCall};
+ghost use Rattle.record.specs.Coded.{
+  freshTask,
+  recordOf,
+  structOf,
+  atStep,
+  withRegister,
+  withValueRead,
+  withCount,
+  SameCall,
+};
 
 pub struct Task {
     pub operation: u32,
@@ -16,6 +25,7 @@ pub struct Task {
     pub counted: u32,
     pub value: Stored,
     pub registers: [u32; 4],
+    pub lane: u32,
 }
 
 impl Task {
@@ -48,7 +58,7 @@ impl Task {
 
     pub const D: usize = 3;
 
-    // 02: a fresh record is eight zeros and four nones.
+    // 02: a fresh record is eight zeros, four nones and a zero.
     pub fn fresh() -> Self
         ensures { λ r. ⌜ r ≡ freshTask ⌝ }
     {
@@ -60,6 +70,7 @@ impl Task {
             counted: 0,
             value: Stored { word: 0, digit: 0 },
             registers: [Task::NONE, Task::NONE, Task::NONE, Task::NONE],
+            lane: 0,
         }
     }
 
@@ -82,6 +93,7 @@ impl Task {
                 digit: words[7],
             },
             registers: [words[8], words[9], words[10], words[11]],
+            lane: words[12],
         }
     }
 
@@ -95,6 +107,7 @@ impl Task {
         words[2] = self.side;
         words[3] = argument.word;
         words[4] = argument.digit;
+        words[12] = self.lane;
         self.write_further(words);
     }
 
@@ -133,6 +146,7 @@ impl Task {
             & (self.registers[Task::B] == Task::NONE)
             & (self.registers[Task::C] == Task::NONE)
             & (self.registers[Task::D] == Task::NONE)
+            & (self.lane == 0)
     }
 
     // The same record, written out word by word: the compiler then keeps a record that a line changes in the processor,
@@ -154,6 +168,7 @@ impl Task {
             counted: self.counted,
             value,
             registers: [a, b, c, d],
+            lane: self.lane,
         }
     }
 

@@ -12,9 +12,20 @@ use Rattle.machine.specs.declared.Reply.the-variants.{Accepted}
 use Rattle.machine.specs.Round.{firstFrom}
 use Rattle.machine.specs.Values.{Value-discrete, decode}
 use Rattle.machine.specs.Steps.{stepIn, stepOf, isStepIn}
-use Rattle.machine.specs.Table.{tableLength, link, value, task}
-use Rattle.machine.specs.Shape.{sizesOk, allBelow, sameWords, nodeOk, busyOk, recordOk, shapeOk}
-use Rattle.machine.specs.Allocate.{heldFrom, roots, mark, markAll, visit, visitFrom, marked, firstUnmarked, allocate}
+use Rattle.machine.specs.Table.{tableLength, hat, link, value, task}
+use Rattle.machine.specs.Shape.{lanesOk, sizesOk, allBelow, sameWords, nodeOk, busyOk, recordOk, shapeOk}
+use Rattle.machine.specs.Allocate.{
+  hatsFrom,
+  heldFrom,
+  roots,
+  mark,
+  markAll,
+  visit,
+  visitFrom,
+  marked,
+  firstUnmarked,
+  allocate,
+}
 use Rattle.machine.specs.Lines.{writeAll, dcas, act}
 use Rattle.machine.specs.Answers.{plainAnswerOf, answerOf}
 use Rattle.machine.specs.Row.{
@@ -48,6 +59,8 @@ use Rattle.machine.specs.Calls.{
   isBegun,
   laneFrom,
   lane,
+  lanesBelow,
+  startNodes,
   readInto,
   read,
 }
@@ -66,6 +79,7 @@ use Rattle.refuted.specs.Machines.{
   tablesBy,
 }
 use Rattle.refuted.specs.Wrong.{wholeOn, touchesNothing, heldFromBy, leftwards, toRefusal, isArgument, turned}
+use Rattle.refuted.specs.WrongLanes.{onLanes, isBegunOn}
 use Rattle.refuted.specs.Judged.{passes, madeBy, byRow, byDefinitions, afterAllBy, goingAlone, freeBelow}
 use Rattle.refuted.specs.Lists.{
   Entry,
@@ -85,46 +99,52 @@ use Rattle.refuted.proofs.RightPasses.{right-passes-row, right-passes-d
 -- ---- Of an entry it is computed how its wrong machine fails; the right one passes on every list.
 failing : Entry → Judged
 failing e =
-    let wrongly = madeBy (e .wrong) (e .calls) (begunWith (e .S) (e .T)) in
+    let wrongly = madeBy (e .wrong) (e .calls) (begunWith (e .S) (e .T) (e .lanes)) in
     record {
       right-by-row = passes;
       right-by-definitions = passes;
-      wrong-by-row = byRow (e .wrong) wrongly 1 (emptyRow (e .T));
+      wrong-by-row = byRow (e .wrong) wrongly 1 (emptyRow (e .T) (e .lanes));
       wrong-by-definitions = byDefinitions wrongly 1;
     }
 
-accepted : (S T : ℕ) → sizesOk S T 0 ≡ true → start (replicate (tableLength S T) 7) S T 0 .reply ≡ Accepted
+accepted : (S T lanes : ℕ) → lanesOk lanes ≡ true → sizesOk S T 0 lanes ≡ true
+    → start (replicate (tableLength S T) 7) S T 0 lanes .reply ≡ Accepted
 unfolding start
-accepted S T sized = rw (sized, eq-eqb _ _ (length-replicate {A = ℕ} (tableLength S T) 7))
+accepted S T lanes few sized = rw (few, sized, eq-eqb _ _ (length-replicate {A = ℕ} (tableLength S T) 7))
 
-judged-failing : (e : Entry) → sizesOk (e .S) (e .T) 0 ≡ true → judged e ≡ failing e
+judged-failing : (e : Entry) → lanesOk (e .lanes) ≡ true → sizesOk (e .S) (e .T) 0 (e .lanes) ≡ true
+    → judged e ≡ failing e
 unfolding judged failing
-judged-failing e sized =
+judged-failing e few sized =
     rw (
-      right-passes-row (e .S) (e .T) 0 _ (accepted (e .S) (e .T) sized) (e .calls),
-      right-passes-definitions (e .calls) 1 (begunWith (e .S) (e .T)),
+      right-passes-row (e .S) (e .T) 0 (e .lanes) _ (accepted (e .S) (e .T) (e .lanes) few sized) (e .calls),
+      right-passes-definitions (e .calls) 1 (begunWith (e .S) (e .T) (e .lanes)),
     )
 
 allSized : List Entry → Bool
 allSized [] = true
-allSized (e ∷ es) = sizesOk (e .S) (e .T) 0 && allSized es
+allSized (e ∷ es) = lanesOk (e .lanes) && (sizesOk (e .S) (e .T) 0 (e .lanes) && allSized es)
 
 all-failing : (es : List Entry) → allSized es ≡ true → map judged es ≡ map failing es
 unfolding allSized
 all-failing [] sized = refl
 all-failing (e ∷ es) sized =
-    let here = and-left (sizesOk (e .S) (e .T) 0) (allSized es) sized in
-    let further = and-right (sizesOk (e .S) (e .T) 0) (allSized es) sized in
-    rw (judged-failing e here, all-failing es further)
+    let ok = sizesOk (e .S) (e .T) 0 (e .lanes) in
+    let few = and-left (lanesOk (e .lanes)) (ok && allSized es) sized in
+    let others = and-right (lanesOk (e .lanes)) (ok && allSized es) sized in
+    let here = and-left ok (allSized es) others in
+    let further = and-right ok (allSized es) others in
+    rw (judged-failing e few here, all-failing es further)
 
 pub all-refuted : AllRefuted
-unfolding failing allSized madeBy byRow byDefinitions wholeOn touchesNothing heldFromBy leftwards toRefusal isArgument
-    turned beginBy tickOnBy inRow ticksBy ticks dispatchToBy dispatchChoosing dispatchBy firstFrom feedDispatched
-    feedIdle feedDispatch dispatchTo dispatchOn dispatch tickBy runOnBy runBy panelBy tablesBy feedTick pushAnswered
-    popAnswered sizeAnswered feedMade feedRun bind plainAnswerOf answerOf ℕ-discrete decLt decLe Value-discrete decode
-    stepIn stepOf isStepIn link value task allBelow sameWords nodeOk busyOk recordOk shapeOk heldFrom roots mark
-    markAll visit visitFrom marked firstUnmarked allocate writeAll dcas act times startWords start begin effectOf
-    applied tickOn tick runOn run panel isBegun laneFrom lane readInto read allTagWords
+unfolding failing allSized madeBy byRow byDefinitions onLanes isBegunOn wholeOn touchesNothing heldFromBy leftwards
+    toRefusal isArgument turned beginBy tickOnBy inRow ticksBy ticks dispatchToBy dispatchChoosing dispatchBy
+    firstFrom feedDispatched feedIdle feedDispatch dispatchTo dispatchOn dispatch tickBy runOnBy runBy panelBy
+    tablesBy feedTick pushAnswered popAnswered sizeAnswered feedMade feedRun bind plainAnswerOf answerOf ℕ-discrete
+    decLt decLe Value-discrete decode stepIn stepOf isStepIn hat link value task allBelow sameWords nodeOk busyOk
+    recordOk shapeOk hatsFrom heldFrom roots mark markAll visit visitFrom marked firstUnmarked allocate writeAll dcas
+    act times startNodes startWords start begin effectOf applied tickOn tick runOn run panel isBegun laneFrom lane
+    lanesBelow readInto read allTagWords
 all-refuted =
     let right-passes = all-failing entries refl in
     let fails-as-said : map failing entries ≡ map expected entries = refl in
@@ -134,21 +154,21 @@ all-refuted =
 
 pub spins : Spins
 unfolding goingAlone afterAllBy beginBy tickOnBy tickBy ℕ-discrete decLt decLe Value-discrete decode stepIn stepOf
-    isStepIn link value task allBelow sameWords nodeOk busyOk recordOk shapeOk heldFrom roots mark markAll visit
-    visitFrom marked firstUnmarked allocate writeAll dcas act times startWords start begin effectOf applied tickOn
-    tick isBegun laneFrom lane
+    isStepIn hat link value task allBelow sameWords nodeOk busyOk recordOk shapeOk hatsFrom heldFrom roots mark
+    markAll visit visitFrom marked firstUnmarked allocate writeAll dcas act times startNodes startWords start begin
+    effectOf applied tickOn tick isBegun laneFrom lane lanesBelow bind
 spins = (refl, refl)
 
 pub leaks : Leaks
 unfolding freeBelow afterAllBy beginBy tickOnBy tickBy ℕ-discrete decLt decLe Value-discrete decode stepIn stepOf
-    isStepIn link value task allBelow sameWords nodeOk busyOk recordOk shapeOk heldFrom roots mark markAll visit
-    visitFrom marked firstUnmarked allocate writeAll dcas act times startWords start begin effectOf applied tickOn
-    tick isBegun laneFrom lane
+    isStepIn hat link value task allBelow sameWords nodeOk busyOk recordOk shapeOk hatsFrom heldFrom roots mark
+    markAll visit visitFrom marked firstUnmarked allocate writeAll dcas act times startNodes startWords start begin
+    effectOf applied tickOn tick isBegun laneFrom lane lanesBelow bind
 leaks = (refl, refl)
 
 pub doubles : Doubles
-unfolding afterAllBy beginBy tickOnBy tickBy ℕ-discrete decLt decLe Value-discrete decode stepIn stepOf isStepIn
-    link value task allBelow sameWords nodeOk busyOk recordOk shapeOk heldFrom roots mark markAll visit visitFrom
-    marked firstUnmarked allocate writeAll dcas act times startWords start begin effectOf applied tickOn tick
-    isBegun laneFrom lane
-doubles = (refl, refl, refl, refl, refl, refl, refl, refl, refl)
+unfolding afterAllBy beginBy tickOnBy tickBy ℕ-discrete decLt decLe Value-discrete decode stepIn stepOf isStepIn hat
+    link value task allBelow sameWords nodeOk busyOk recordOk shapeOk hatsFrom heldFrom roots mark markAll visit
+    visitFrom marked firstUnmarked allocate writeAll dcas act times startNodes startWords start begin effectOf applied
+    tickOn tick isBegun isBegunOn laneFrom lane lanesBelow bind
+doubles = (refl, refl, refl, refl, refl, refl, refl, refl, refl, refl, refl, refl, refl)

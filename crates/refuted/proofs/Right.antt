@@ -95,10 +95,10 @@ pub same-dispatch : (ws : List ℕ) (h : ℕ) → dispatchBy rightMachine ws h �
 unfolding dispatchBy dispatchChoosing dispatchToBy dispatch dispatchOn dispatchTo tickOnBy tickOn effectOf
 same-dispatch ws h = refl
 
-pub same-begin : (ws : List ℕ) (k op side : ℕ) (argument : Stored)
-    → beginBy rightMachine ws k op side argument ≡ begin ws k op side argument
+pub same-begin : (ws : List ℕ) (k l op side : ℕ) (argument : Stored)
+    → beginBy rightMachine ws k l op side argument ≡ begin ws k l op side argument
 unfolding beginBy begin
-same-begin ws k op side argument = refl
+same-begin ws k l op side argument = refl
 
 -- What a run does after its first tick.
 runs-on : Ticked → (ws answers : List ℕ) → (Ticked → RunDone) → RunDone
@@ -113,7 +113,8 @@ unfolding runOnBy runOn runs-on
 same-run-on [] ws answers = refl
 same-run-on (k ∷ []) ws answers = refl
 same-run-on (k ∷ h ∷ list) ws answers =
-    ap (λ one. runs-on one ws answers (λ t. runOnBy rightMachine list (t .words) (drop answerLength answers))) (same-tick-on ws k h)
+    ap (λ one. runs-on one ws answers (λ t. runOnBy rightMachine list (t .words) (drop answerLength answers)))
+    (same-tick-on ws k h)
     ∙ ap (λ others. runs-on (tickOn ws k h) ws answers (λ t. others))
     (same-run-on list (tickOn ws k h .words) (drop answerLength answers))
 
@@ -132,21 +133,21 @@ module _ (ws list answers : List ℕ) where
 
 -- Every call gives back the same and leaves the same table.
 pub right-gives : (c : Call) (ws : List ℕ) → givenBy rightMachine c ws ≡ given c ws
-right-gives (start-call S T g) ws = refl
-right-gives (begin-call k op side argument) ws = ap (λ c. c .reply) (same-begin ws k op side argument)
+right-gives (start-call S T g lanes) ws = refl
+right-gives (begin-call k l op side argument) ws = ap (λ c. c .reply) (same-begin ws k l op side argument)
 right-gives (tick-call k h) ws = ap (λ one. one .answer) (same-tick ws k h)
 right-gives (ticks-call k h times) ws = ap (λ one. one .answer) (same-ticks times ws k h)
 right-gives (dispatch-call h) ws = ap (λ d. d .answer) (same-dispatch ws h)
 right-gives (run-call list answers) ws = ap (λ r. (r .ran, r .answers)) (same-run ws list answers)
 right-gives (panel-call list answers) ws = ap (λ r. (r .ran, r .answers)) (same-panel ws list answers)
-right-gives (read-call out) ws = refl
+right-gives (read-call l out) ws = refl
 
 pub right-leaves : (c : Call) (ws : List ℕ) → afterBy rightMachine c ws ≡ after c ws
-right-leaves (start-call S T g) ws = refl
-right-leaves (begin-call k op side argument) ws = ap (λ c. c .words) (same-begin ws k op side argument)
+right-leaves (start-call S T g lanes) ws = refl
+right-leaves (begin-call k l op side argument) ws = ap (λ c. c .words) (same-begin ws k l op side argument)
 right-leaves (tick-call k h) ws = ap (λ one. one .words) (same-tick ws k h)
 right-leaves (ticks-call k h times) ws = ap (λ one. one .words) (same-ticks times ws k h)
 right-leaves (dispatch-call h) ws = ap (λ d. d .words) (same-dispatch ws h)
 right-leaves (run-call list answers) ws = ap (λ r. r .words) (same-run ws list answers)
 right-leaves (panel-call list answers) ws = ap (λ r. r .words) (same-panel ws list answers)
-right-leaves (read-call out) ws = refl
+right-leaves (read-call l out) ws = refl

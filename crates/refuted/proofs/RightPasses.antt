@@ -20,7 +20,7 @@ use Rattle.machine.specs.Answers.{
   dispatchPayloadOf,
   answerOf,
 }
-use Rattle.machine.specs.Calls.{Ticked, start, RunDone, run, panel, lane}
+use Rattle.machine.specs.Calls.{Ticked, start, RunDone, run, panel}
 use Rattle.machine.specs.Row.{Row, emptyRow, feedMade, feedRun}
 use Rattle.machine.specs.Demand3.{
   Call,
@@ -37,7 +37,7 @@ use Rattle.machine.specs.Demand3.{
   after,
   feedTicks,
   feed,
-  LaneIs,
+  LanesAre,
   afterTicks,
   WithinList,
   WithinTicks,
@@ -59,6 +59,7 @@ use Rattle.refuted.specs.Judged.{
   other-table,
   madeBy,
   sameBags,
+  sameLanes,
   sameWithinList,
   sameWithinTicks,
   sameWithin,
@@ -78,8 +79,11 @@ use Rattle.refuted.proofs.Right.{
 }
 
 -- ---- By the row: demand 3.
-same-bags : {l : Option (List ℕ)} {r : Option Row} (ρ : Row) → l ≡ some (ρ .bags) → r ≡ some ρ → sameBags l r ≡ true
-same-bags ρ is-lane is-row = rw (is-lane, is-row) (same-words-refl (ρ .bags))
+same-lanes : (ws : List ℕ) {r : Option Row} (ρ : Row) → LanesAre ws ρ → r ≡ some ρ → sameLanes ws r ≡ true
+same-lanes ws ρ are-rows is-row =
+    rw is-row
+    (all-below (ρ .lanes) _ (λ l h.
+    ap (λ (x : Option (List ℕ)). sameBags x (ρ .bags l)) (are-rows l h) ∙ same-words-refl (ρ .bags l)))
 
 -- The tables of a list are those after its ticks, as far as the row is fed.
 same-tables : (i : ℕ) (list answers ws : List ℕ) (ρ : Row) {ρ′ : Row}
@@ -106,7 +110,8 @@ within-list : (list ws : List ℕ) (ρ : Row) (r : RunDone)
 within-list list ws ρ r W =
     all-below (suc (r .ran .made)) _ (λ i l.
     let w = W i (omega arith) in
-    same-bags (w .0) (ap lane (same-tables i list (r .answers) ws ρ (w .1)) ∙ w .2) (w .1))
+    same-lanes _ (w .0)
+    (subst (λ (vs : List ℕ). LanesAre vs (w .0)) (sym (same-tables i list (r .answers) ws ρ (w .1))) (w .2)) (w .1))
 
 within-ticks : (k h times : ℕ) (ws : List ℕ) (ρ : Row)
     → WithinTicks k h times ws ρ
@@ -115,7 +120,7 @@ within-ticks k h times ws ρ W =
     all-below (suc times) _ (λ i l.
     let w = W i (omega arith) in
     let same = same-ticks i ws k h in
-    same-bags (w .0) (ap (λ (r : Ticked). lane (r .words)) same ∙ w .2)
+    same-lanes _ (w .0) (subst (λ (r : Ticked). LanesAre (r .words) (w .0)) (sym same) (w .2))
     (ap (λ (r : Ticked). feedTicks ρ k i (r .answer)) same ∙ w .1))
 
 within-same : (c : Call) (ws : List ℕ) (ρ : Row) → Within c ws ρ → sameWithin rightMachine c ws ρ ≡ true
@@ -126,13 +131,13 @@ within-same (panel-call list answers) ws ρ W =
     ap (λ (r : RunDone). sameWithinList rightMachine list ws ρ r) (same-panel ws list answers)
     ∙ within-list list ws ρ (panel ws list answers) W
 within-same (ticks-call k h times) ws ρ W = within-ticks k h times ws ρ W
-within-same (start-call S T g) ws ρ W = refl
-within-same (begin-call k op side argument) ws ρ W = refl
+within-same (start-call S T g lanes) ws ρ W = refl
+within-same (begin-call k l op side argument) ws ρ W = refl
 within-same (tick-call k h) ws ρ W = refl
 within-same (dispatch-call h) ws ρ W = refl
-within-same (read-call out) ws ρ W = refl
+within-same (read-call l out) ws ρ W = refl
 
-explained-lane : (cs : List Call) (ws : List ℕ) (ρ : Row) → Explained cs ws ρ → LaneIs ws ρ
+explained-lane : (cs : List Call) (ws : List ℕ) (ρ : Row) → Explained cs ws ρ → LanesAre ws ρ
 explained-lane [] ws ρ E = E
 explained-lane (c ∷ cs) ws ρ E = E .0
 
@@ -164,15 +169,16 @@ explained-passes (c ∷ cs) n ws ρ E =
     let others : Explained cs vs (F .0) =
     subst (λ (us : List ℕ). Explained cs us (F .0)) (sym (right-leaves c ws)) (F .2) in
     row-passes n (feed ρ c (givenBy rightMachine c ws))
-    (λ ρ′. sameWithin rightMachine c ws ρ && sameBags (lane vs) (some ρ′))
+    (λ ρ′. sameWithin rightMachine c ws ρ && sameLanes vs (some ρ′))
     (λ ρ′. byRow rightMachine (madeBy rightMachine cs vs) (suc n) ρ′)
     (F .0) fed
-    (rw (within-same c ws ρ (E .1)) (same-bags (F .0) (explained-lane cs vs (F .0) others) refl))
+    (rw (within-same c ws ρ (E .1)) (same-lanes vs (F .0) (explained-lane cs vs (F .0) others) refl))
     (explained-passes cs (suc n) vs (F .0) others)
 
-pub right-passes-row : (S T g : ℕ) (old : List ℕ) → start old S T g .reply ≡ Accepted → (cs : List Call)
-    → byRow rightMachine (madeBy rightMachine cs (start old S T g .words)) 1 (emptyRow T) ≡ passes
-right-passes-row S T g old accepted cs = explained-passes cs 1 _ (emptyRow T) (demand3 S T g old accepted cs)
+pub right-passes-row : (S T g lanes : ℕ) (old : List ℕ) → start old S T g lanes .reply ≡ Accepted → (cs : List Call)
+    → byRow rightMachine (madeBy rightMachine cs (start old S T g lanes .words)) 1 (emptyRow T lanes) ≡ passes
+right-passes-row S T g lanes old accepted cs =
+    explained-passes cs 1 _ (emptyRow T lanes) (demand3 S T g lanes old accepted cs)
 
 -- ---- By the definitions, on any table.
 same-reading : (r : Reading) → sameReading r r ≡ true
@@ -183,8 +189,8 @@ same-ran : (r : Ran) (l : List ℕ) → sameRan r r && sameWords l l ≡ true
 same-ran r l = rw (eq-eqb (r .made) (r .made) refl, eq-eqb (r .refusal) (r .refusal) refl) (same-words-refl l)
 
 same-given : (c : Call) (r : Given c) → sameGiven c r r ≡ true
-same-given (start-call S T g) r = eq-eqb (replyNumber r) (replyNumber r) refl
-same-given (begin-call k op side argument) r = eq-eqb (replyNumber r) (replyNumber r) refl
+same-given (start-call S T g lanes) r = eq-eqb (replyNumber r) (replyNumber r) refl
+same-given (begin-call k l op side argument) r = eq-eqb (replyNumber r) (replyNumber r) refl
 same-given (tick-call k h) r = rw (eq-eqb (kindOf r) (kindOf r) refl) (eq-eqb (payloadOf r) (payloadOf r) refl)
 same-given (ticks-call k h times) r = rw (eq-eqb (kindOf r) (kindOf r) refl) (eq-eqb (payloadOf r) (payloadOf r) refl)
 same-given (dispatch-call h) r =
@@ -192,7 +198,7 @@ same-given (dispatch-call h) r =
     (eq-eqb (dispatchPayloadOf r) (dispatchPayloadOf r) refl)
 same-given (run-call list answers) r = same-ran (r .0) (r .1)
 same-given (panel-call list answers) r = same-ran (r .0) (r .1)
-same-given (read-call out) r = rw (same-reading (r .0)) (same-words-refl (r .1))
+same-given (read-call l out) r = rw (same-reading (r .0)) (same-words-refl (r .1))
 
 -- What the definitions make of one call.
 definitions-judge : (number : ℕ) → (gives leaves : Bool) → (others : Verdict) → Verdict

@@ -55,30 +55,34 @@ madeBy M (c ∷ cs) ws =
     record { call = c; before = ws; gave = givenBy M c ws; left = afterBy M c ws } ∷ madeBy M cs (afterBy M c ws)
 
 -- ---- Demand 3, as Demand3.Explained says it.
-abbrev pub sameBags : Option (List ℕ) → Option Row → Bool
-sameBags nothing r = false
-sameBags (some bags) nothing = false
-sameBags (some bags) (some ρ) = sameWords bags (ρ .bags)
+abbrev pub sameBags : Option (List ℕ) → List ℕ → Bool
+sameBags nothing row = false
+sameBags (some bags) row = sameWords bags row
+
+-- Each lane is its row.
+abbrev pub sameLanes : List ℕ → Option Row → Bool
+sameLanes ws nothing = false
+sameLanes ws (some ρ) = allBelow (ρ .lanes) (λ l. sameBags (lane ws l) (ρ .bags l))
 
 abbrev pub sameWithinList : Machine → (list ws : List ℕ) → Row → RunDone → Bool
 sameWithinList M list ws ρ r =
     let tables = tablesBy M list ws in
-    allBelow (suc (r .ran .made)) (λ i. sameBags (lane (getD tables i [])) (feedRun ρ i list (r .answers)))
+    allBelow (suc (r .ran .made)) (λ i. sameLanes (getD tables i []) (feedRun ρ i list (r .answers)))
 
 abbrev pub sameWithinTicks : Machine → (k hint times : ℕ) → List ℕ → Row → Bool
 sameWithinTicks M k h times ws ρ =
     allBelow (suc times) (λ i.
-    let r = ticksBy M i ws k h in sameBags (lane (r .words)) (feedTicks ρ k i (r .answer)))
+    let r = ticksBy M i ws k h in sameLanes (r .words) (feedTicks ρ k i (r .answer)))
 
 abbrev pub sameWithin : Machine → (c : Call) → List ℕ → Row → Bool
 sameWithin M (run-call list answers) ws ρ = sameWithinList M list ws ρ (runBy M ws list answers)
 sameWithin M (panel-call list answers) ws ρ = sameWithinList M list ws ρ (panelBy M ws list answers)
 sameWithin M (ticks-call k h times) ws ρ = sameWithinTicks M k h times ws ρ
-sameWithin M (start-call S T g) ws ρ = true
-sameWithin M (begin-call k op side argument) ws ρ = true
+sameWithin M (start-call S T g lanes) ws ρ = true
+sameWithin M (begin-call k l op side argument) ws ρ = true
 sameWithin M (tick-call k h) ws ρ = true
 sameWithin M (dispatch-call h) ws ρ = true
-sameWithin M (read-call out) ws ρ = true
+sameWithin M (read-call l out) ws ρ = true
 
 unfoldable pub byRow : Machine → List Made → (number : ℕ) → Row → Verdict
 byRow M [] n ρ = passes
@@ -86,7 +90,7 @@ byRow M (m ∷ ms) n ρ =
     elim (feed ρ (m .call) (m .gave)) as (λ _. Verdict) [
       | nothing ↦ not-the-row's-answer n
       | some ρ′ ↦
-          elim (sameWithin M (m .call) (m .before) ρ && sameBags (lane (m .left)) (some ρ′)) as (λ _. Verdict) [
+          elim (sameWithin M (m .call) (m .before) ρ && sameLanes (m .left) (some ρ′)) as (λ _. Verdict) [
             | true ↦ byRow M ms (suc n) ρ′
             | false ↦ lane-is-not-the-row n
           ]
@@ -110,14 +114,14 @@ sameReading (Reading-Refused n) (Count m) = false
 sameReading (Reading-Refused n) (Reading-Refused m) = eqb n m
 
 abbrev pub sameGiven : (c : Call) → Given c → Given c → Bool
-sameGiven (start-call S T g) r q = eqb (replyNumber r) (replyNumber q)
-sameGiven (begin-call k op side argument) r q = eqb (replyNumber r) (replyNumber q)
+sameGiven (start-call S T g lanes) r q = eqb (replyNumber r) (replyNumber q)
+sameGiven (begin-call k l op side argument) r q = eqb (replyNumber r) (replyNumber q)
 sameGiven (tick-call k h) r q = sameAnswer r q
 sameGiven (ticks-call k h times) r q = sameAnswer r q
 sameGiven (dispatch-call h) r q = sameDispatch r q
 sameGiven (run-call list answers) r q = sameRan (r .0) (q .0) && sameWords (r .1) (q .1)
 sameGiven (panel-call list answers) r q = sameRan (r .0) (q .0) && sameWords (r .1) (q .1)
-sameGiven (read-call out) r q = sameReading (r .0) (q .0) && sameWords (r .1) (q .1)
+sameGiven (read-call l out) r q = sameReading (r .0) (q .0) && sameWords (r .1) (q .1)
 
 unfoldable pub byDefinitions : List Made → (number : ℕ) → Verdict
 byDefinitions [] n = passes

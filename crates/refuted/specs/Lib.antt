@@ -1,4 +1,5 @@
 pub mod Machines
 pub mod Wrong
+pub mod WrongLanes
 pub mod Judged
 pub mod Lists

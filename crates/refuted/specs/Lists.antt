@@ -10,9 +10,19 @@ use Rattle.machine.specs.Operations.{Operation, push, pop, add, remove, operati
 use Rattle.machine.specs.Sides.{Side, left, right, sideNumber}
 use Rattle.machine.specs.Table.{tableLength}
 use Rattle.machine.specs.Allocate.{marked}
-use Rattle.machine.specs.Calls.{isBegun, lane, times, start}
+use Rattle.machine.specs.Calls.{isBegun, lane, allLanes, times, start}
 use Rattle.machine.specs.Row.{emptyRow}
-use Rattle.machine.specs.Demand3.{Call, begin-call, tick-call, ticks-call, dispatch-call, run-call, panel-call, read-call}
+use Rattle.machine.specs.Demand3.{
+  Call,
+  start-call,
+  begin-call,
+  tick-call,
+  ticks-call,
+  dispatch-call,
+  run-call,
+  panel-call,
+  read-call,
+}
 use Rattle.refuted.specs.Machines.{Machine, rightMachine}
 use Rattle.refuted.specs.Wrong.{
   wholeInFirstTick,
@@ -72,6 +82,21 @@ use Rattle.refuted.specs.Wrong.{
   refusalMovesOn,
   hintAfterChoice,
 }
+use Rattle.refuted.specs.WrongLanes.{
+  ticksFirstLane,
+  storesInFirstLane,
+  freesOtherLanes,
+  readsFirstLane,
+  searchesOwnLane,
+  searchesOwnPushes,
+  testsTaskFirst,
+  takesAnyLane,
+  startTestsSizesFirst,
+  startTakesFiveLanes,
+  startTakesNodeLess,
+  startMakesFirstLane,
+  startSharesNodes,
+}
 use Rattle.refuted.specs.Judged.{
   Verdict,
   passes,
@@ -92,13 +117,18 @@ pub record Entry : Type 0 where
   pub wrong : Machine
   pub S : ℕ
   pub T : ℕ
+  pub lanes : ℕ
   pub calls : List Call
   pub row-says : Verdict
   pub definitions-say : Verdict
 
--- A begin on a side, and n ticks of a task with a hint.
+-- A begin on a side of a lane.
+abbrev pub beginsOn : (lane k : ℕ) → Operation → Side → ℕ → List Call
+beginsOn l k op s argument = begin-call k l (operationNumber op) (sideNumber s) (stored argument) ∷ []
+
+-- A begin on a side of lane 0, and n ticks of a task with a hint.
 abbrev pub begins : ℕ → Operation → Side → ℕ → List Call
-begins k op s argument = begin-call k (operationNumber op) (sideNumber s) (stored argument) ∷ []
+begins k op s argument = beginsOn 0 k op s argument
 
 abbrev pub ticks : (n k hint : ℕ) → List Call
 ticks n k h = replicate n (tick-call k h)
@@ -140,6 +170,17 @@ pushedAgain = wholly 6 0 add 1 ++ wholly 3 0 push 51 ++ wholly 3 0 push 51
 abbrev pub pushedAgainBehind : List Call
 pushedAgainBehind = wholly 7 0 add 2 ++ wholly 3 0 push 52 ++ wholly 3 0 push 51 ++ wholly 3 0 push 51
 
+-- A push of bag 51 at the right end of a lane, by task 0 or another; alone it takes eleven ticks.
+abbrev pub pushed51On : (lane k : ℕ) → List Call
+pushed51On l k = beginsOn l k push right 51 ++ ticks 11 k 0
+
+-- Bag 51 is pushed on lane 0, and then on lane 1; by two tasks, both at once.
+abbrev pub pushedInLanes : List Call
+pushedInLanes = pushed51On 0 0 ++ pushed51On 1 0
+
+abbrev pub pushedInLanesAtOnce : List Call
+pushedInLanesAtOnce = begins 0 push right 51 ++ beginsOn 1 1 push right 51 ++ ticks 11 0 0 ++ ticks 11 1 0
+
 -- n dispatches with a hint.
 abbrev pub dispatchesOf : (n hint : ℕ) → List Call
 dispatchesOf n h = replicate n (dispatch-call h)
@@ -155,6 +196,7 @@ entries =
       wrong = wholeInFirstTick push;
       S = 4;
       T = 1;
+      lanes = 1;
       calls = wholly 3 0 push 51;
       row-says = lane-is-not-the-row 2;
       definitions-say = other-table 2;
@@ -164,6 +206,7 @@ entries =
       wrong = wholeInFirstTick add;
       S = 4;
       T = 1;
+      lanes = 1;
       calls = wholly 3 0 add 0;
       row-says = passes;
       definitions-say = other-table 2;
@@ -173,6 +216,7 @@ entries =
       wrong = goingForever;
       S = 4;
       T = 1;
+      lanes = 1;
       calls = wholly 11 0 push 51;
       row-says = passes;
       definitions-say = other-answer 12;
@@ -182,6 +226,7 @@ entries =
       wrong = ticksTouchNothing;
       S = 4;
       T = 1;
+      lanes = 1;
       calls = wholly 1 0 push 51;
       row-says = passes;
       definitions-say = other-table 2;
@@ -191,6 +236,7 @@ entries =
       wrong = refusesAll;
       S = 4;
       T = 1;
+      lanes = 1;
       calls = wholly 1 0 push 51;
       row-says = passes;
       definitions-say = other-answer 2;
@@ -200,6 +246,7 @@ entries =
       wrong = fullUnsearched;
       S = 4;
       T = 1;
+      lanes = 1;
       calls = wholly 4 0 push 51;
       row-says = passes;
       definitions-say = other-answer 5;
@@ -209,6 +256,7 @@ entries =
       wrong = emptyUncompared;
       S = 4;
       T = 2;
+      lanes = 1;
       calls = wholly 5 0 add 0 ++ wholly 2 1 pop 0 ++ wholly 3 0 push 51 ++ ticks 1 1 0;
       row-says = not-the-row's-answer 14;
       definitions-say = other-answer 14;
@@ -218,6 +266,7 @@ entries =
       wrong = emptyInTwoTicks;
       S = 4;
       T = 2;
+      lanes = 1;
       calls = wholly 5 0 add 0 ++ wholly 4 1 pop 0 ++ wholly 3 0 push 51 ++ ticks 1 1 0;
       row-says = not-the-row's-answer 16;
       definitions-say = other-answer 11;
@@ -227,6 +276,7 @@ entries =
       wrong = emptyWithoutHat;
       S = 4;
       T = 2;
+      lanes = 1;
       calls = wholly 5 0 add 0 ++ wholly 3 1 pop 0 ++ wholly 3 0 push 51 ++ ticks 1 1 0;
       row-says = not-the-row's-answer 15;
       definitions-say = other-answer 15;
@@ -236,6 +286,7 @@ entries =
       wrong = emptyWithoutValue;
       S = 4;
       T = 2;
+      lanes = 1;
       calls =
           begins 0 add left 0
           ++ ticks 5 0 0
@@ -251,6 +302,7 @@ entries =
       wrong = popLeavesBag;
       S = 4;
       T = 1;
+      lanes = 1;
       calls = wholly 11 0 push 51 ++ wholly 4 0 pop 0;
       row-says = lane-is-not-the-row 17;
       definitions-say = other-table 17;
@@ -259,6 +311,7 @@ entries =
       wrong = popWritesBagBack;
       S = 4;
       T = 1;
+      lanes = 1;
       calls = wholly 11 0 push 51 ++ wholly 4 0 pop 0;
       row-says = lane-is-not-the-row 17;
       definitions-say = other-table 17;
@@ -268,6 +321,7 @@ entries =
       wrong = popAnswers51;
       S = 4;
       T = 1;
+      lanes = 1;
       calls = wholly 11 0 push 52 ++ wholly 4 0 pop 0;
       row-says = not-the-row's-answer 17;
       definitions-say = other-answer 17;
@@ -276,16 +330,18 @@ entries =
       wrong = popAnswersArgument;
       S = 4;
       T = 1;
+      lanes = 1;
       calls = wholly 11 0 push 52 ++ wholly 4 0 pop 0;
       row-says = not-the-row's-answer 17;
       definitions-say = other-answer 17;
     }
-    -- An add takes node 3, which the stalled push has in B, again as the second node of its chain; the push moves the hat
-    -- past the first one, and the next bag is behind an empty node.
+    -- An add takes node 3, which the stalled push has in B, again as the second node of its chain; the push moves the
+    -- hat past the first one, and the next bag is behind an empty node.
     ∷ record {
       wrong = freesHeldNode;
       S = 5;
       T = 2;
+      lanes = 1;
       calls =
           removedFromPush
           ++ begins 0 add right 2
@@ -302,6 +358,7 @@ entries =
       wrong = freesChain;
       S = 4;
       T = 2;
+      lanes = 1;
       calls = wholly 1 0 add 0 ++ wholly 5 1 add 0 ++ ticks 6 0 0 ++ wholly 3 0 push 51 ++ wholly 3 0 push 52;
       row-says = lane-is-not-the-row 22;
       definitions-say = other-table 4;
@@ -311,6 +368,7 @@ entries =
       wrong = followsLeftAlone;
       S = 4;
       T = 1;
+      lanes = 1;
       calls = wholly 5 0 add 0 ++ wholly 7 0 add 0 ++ wholly 3 0 push 51 ++ wholly 3 0 push 52;
       row-says = lane-is-not-the-row 22;
       definitions-say = other-table 8;
@@ -320,6 +378,7 @@ entries =
       wrong = freesHatsNode;
       S = 5;
       T = 2;
+      lanes = 1;
       calls = hatToSpur ++ begins 0 add right 0 ++ ticks 5 0 3 ++ wholly 3 0 push 52;
       row-says = lane-is-not-the-row 38;
       definitions-say = other-table 30;
@@ -329,6 +388,7 @@ entries =
       wrong = rereadsLinkUnguarded;
       S = 4;
       T = 2;
+      lanes = 1;
       calls = hatToSpur;
       row-says = passes;
       definitions-say = other-table 28;
@@ -337,6 +397,7 @@ entries =
       wrong = rereadsLink;
       S = 4;
       T = 2;
+      lanes = 1;
       calls = hatToSpur;
       row-says = passes;
       definitions-say = other-table 28;
@@ -346,16 +407,18 @@ entries =
       wrong = removeWithoutY;
       S = 5;
       T = 3;
+      lanes = 1;
       calls = hatToNodeCutOff ++ wholly 3 2 push 52;
       row-says = lane-is-not-the-row 25;
       definitions-say = other-table 14;
     }
-    -- The same calls: the hat is on a node that looks like the lane's end, a chain is spliced in there, and the next bag is
-    -- beside the lane.
+    -- The same calls: the hat is on a node that looks like the lane's end, a chain is spliced in there, and the next
+    -- bag is beside the lane.
     ∷ record {
       wrong = removeMarksX;
       S = 6;
       T = 3;
+      lanes = 1;
       calls = hatToNodeCutOff ++ wholly 12 2 push 52;
       row-says = lane-is-not-the-row 34;
       definitions-say = other-table 14;
@@ -365,6 +428,7 @@ entries =
       wrong = trustsHat;
       S = 5;
       T = 2;
+      lanes = 1;
       calls = hatToSpur ++ wholly 19 0 push 52;
       row-says = passes;
       definitions-say = other-table 32;
@@ -374,6 +438,7 @@ entries =
       wrong = figureLine37;
       S = 4;
       T = 1;
+      lanes = 1;
       calls = wholly 1 0 add 0;
       row-says = passes;
       definitions-say = other-answer 2;
@@ -383,6 +448,7 @@ entries =
       wrong = figureLine32;
       S = 3;
       T = 1;
+      lanes = 1;
       calls = wholly 2 0 add 2;
       row-says = passes;
       definitions-say = other-answer 3;
@@ -392,6 +458,7 @@ entries =
       wrong = failedSwapSpins;
       S = 6;
       T = 2;
+      lanes = 1;
       calls = twoRemoves;
       row-says = passes;
       definitions-say = other-table 25;
@@ -401,6 +468,7 @@ entries =
       wrong = removeCutsAgain;
       S = 4;
       T = 1;
+      lanes = 1;
       calls = addedAndRemoved;
       row-says = passes;
       definitions-say = other-answer 18;
@@ -410,15 +478,18 @@ entries =
       wrong = removeLeavesLink;
       S = 4;
       T = 1;
+      lanes = 1;
       calls = addedAndRemoved;
       row-says = passes;
       definitions-say = other-table 12;
     }
-    -- The second tick of a run has a hint out of range: the run says that it was made, and the tick count that it was not.
+    -- The second tick of a run has a hint out of range: the run says that it was made, and the tick count that it was
+    -- not.
     ∷ record {
       wrong = reportsUnmadeTick;
       S = 4;
       T = 1;
+      lanes = 1;
       calls = begins 0 push right 51 ++ (run-call (0 ∷ 0 ∷ 0 ∷ 4 ∷ []) (replicate 6 7) ∷ []);
       row-says = passes;
       definitions-say = other-answer 2;
@@ -428,6 +499,7 @@ entries =
       wrong = makesTickMore;
       S = 4;
       T = 1;
+      lanes = 1;
       calls = begins 0 pop right 0 ++ (ticks-call 0 0 2 ∷ ticks-call 0 0 0 ∷ []);
       row-says = not-the-row's-answer 3;
       definitions-say = other-table 2;
@@ -437,6 +509,7 @@ entries =
       wrong = ticksAfterAnswer;
       S = 4;
       T = 1;
+      lanes = 1;
       calls = wholly 5 0 add 0 ++ begins 0 push right 51 ++ (ticks-call 0 0 4 ∷ []);
       row-says = lane-is-not-the-row 8;
       definitions-say = other-answer 8;
@@ -446,6 +519,7 @@ entries =
       wrong = panelTestsRoomFirst;
       S = 4;
       T = 1;
+      lanes = 1;
       calls = panel-call (replicate 66 0) [] ∷ [];
       row-says = passes;
       definitions-say = other-answer 1;
@@ -455,6 +529,7 @@ entries =
       wrong = panelTestsLengthFirst;
       S = 4;
       T = 1;
+      lanes = 1;
       calls = panel-call (replicate 65 0) (replicate 99 7) ∷ [];
       row-says = passes;
       definitions-say = other-answer 1;
@@ -464,6 +539,7 @@ entries =
       wrong = panelCutsList;
       S = 5;
       T = 3;
+      lanes = 1;
       calls =
           begins 0 push right 51
           ++ begins 1 push right 52
@@ -478,6 +554,7 @@ entries =
       wrong = beginTestsBusyFirst;
       S = 4;
       T = 1;
+      lanes = 1;
       calls = begins 0 push right 51 ++ begins 0 push right 51;
       row-says = passes;
       definitions-say = other-answer 2;
@@ -486,6 +563,7 @@ entries =
       wrong = searchesOthersAlone;
       S = 4;
       T = 1;
+      lanes = 1;
       calls = begins 0 push right 51 ++ begins 0 push right 51;
       row-says = passes;
       definitions-say = other-answer 2;
@@ -495,6 +573,7 @@ entries =
       wrong = searchesLaneAlone;
       S = 4;
       T = 2;
+      lanes = 1;
       calls = pushedAtOnce;
       row-says = passes;
       definitions-say = other-answer 9;
@@ -503,6 +582,7 @@ entries =
       wrong = searchesPushesAlone;
       S = 4;
       T = 1;
+      lanes = 1;
       calls = pushedAgain;
       row-says = passes;
       definitions-say = other-answer 12;
@@ -511,6 +591,7 @@ entries =
       wrong = searchesLeftEndAlone;
       S = 5;
       T = 1;
+      lanes = 1;
       calls = pushedAgainBehind;
       row-says = passes;
       definitions-say = other-answer 17;
@@ -520,6 +601,7 @@ entries =
       wrong = searchesAllArguments;
       S = 4;
       T = 2;
+      lanes = 1;
       calls = begins 0 add right 5 ++ begins 1 push right 5;
       row-says = passes;
       definitions-say = other-answer 2;
@@ -529,6 +611,7 @@ entries =
       wrong = refusesAddsToo;
       S = 4;
       T = 1;
+      lanes = 1;
       calls = wholly 11 0 push 5 ++ begins 0 add right 5;
       row-says = passes;
       definitions-say = other-answer 13;
@@ -538,15 +621,18 @@ entries =
       wrong = testsWhenAnswering;
       S = 4;
       T = 2;
+      lanes = 1;
       calls = pushedAtOnce;
       row-says = passes;
       definitions-say = other-answer 9;
     }
-    -- A pop has read 0000000051; that bag leaves, and 1000000051 comes to its node. The pop answers the bag that is gone.
+    -- A pop has read 0000000051; that bag leaves, and 1000000051 comes to its node. The pop answers the bag that is
+    -- gone.
     ∷ record {
       wrong = popComparesLow;
       S = 4;
       T = 2;
+      lanes = 1;
       calls =
           wholly 11 0 push 51
           ++ wholly 3 1 pop 0
@@ -561,6 +647,7 @@ entries =
       wrong = pushWritesLow;
       S = 4;
       T = 1;
+      lanes = 1;
       calls = wholly 11 0 push 1_000_000_051;
       row-says = lane-is-not-the-row 12;
       definitions-say = other-table 12;
@@ -570,7 +657,8 @@ entries =
       wrong = popLeavesDigit;
       S = 4;
       T = 1;
-      calls = wholly 11 0 push 1_000_000_051 ++ wholly 4 0 pop 0 ++ (read-call [] ∷ []);
+      lanes = 1;
+      calls = wholly 11 0 push 1_000_000_051 ++ wholly 4 0 pop 0 ++ (read-call 0 [] ∷ []);
       row-says = not-the-row's-answer 18;
       definitions-say = other-table 17;
     }
@@ -579,6 +667,7 @@ entries =
       wrong = searchesLow;
       S = 4;
       T = 1;
+      lanes = 1;
       calls = wholly 11 0 push 51 ++ begins 0 push right 1_000_000_051;
       row-says = passes;
       definitions-say = other-answer 13;
@@ -588,6 +677,7 @@ entries =
       wrong = popPassesZero;
       S = 4;
       T = 1;
+      lanes = 1;
       calls = wholly 11 0 push 1_000_000_000 ++ wholly 3 0 pop 0;
       row-says = passes;
       definitions-say = other-table 16;
@@ -596,7 +686,8 @@ entries =
       wrong = takesDigitTen;
       S = 4;
       T = 1;
-      calls = begin-call 0 (operationNumber push) (sideNumber right) (storedOf 10 0) ∷ [];
+      lanes = 1;
+      calls = begin-call 0 0 (operationNumber push) (sideNumber right) (storedOf 10 0) ∷ [];
       row-says = passes;
       definitions-say = other-answer 1;
     }
@@ -605,6 +696,7 @@ entries =
       wrong = runTurnsWords;
       S = 4;
       T = 1;
+      lanes = 1;
       calls =
           wholly 11 0 push 1_000_000_051
           ++ begins 0 pop right 0
@@ -617,6 +709,7 @@ entries =
       wrong = dispatchesFromZero;
       S = 4;
       T = 2;
+      lanes = 1;
       calls = begins 0 pop right 0 ++ begins 1 push right 51 ++ dispatchesOf 4 0;
       row-says = not-the-row's-answer 6;
       definitions-say = other-table 4;
@@ -626,6 +719,7 @@ entries =
       wrong = skipsNone;
       S = 4;
       T = 2;
+      lanes = 1;
       calls = begins 1 pop right 0 ++ dispatchesOf 1 0;
       row-says = passes;
       definitions-say = other-answer 2;
@@ -635,6 +729,7 @@ entries =
       wrong = asksLastFirst;
       S = 4;
       T = 2;
+      lanes = 1;
       calls = begins 1 pop right 0 ++ dispatchesOf 1 0 ++ begins 0 push right 51 ++ dispatchesOf 3 0;
       row-says = not-the-row's-answer 6;
       definitions-say = other-table 4;
@@ -644,6 +739,7 @@ entries =
       wrong = asksOthersAlone;
       S = 4;
       T = 2;
+      lanes = 1;
       calls = begins 1 pop right 0 ++ dispatchesOf 1 0;
       row-says = not-the-row's-answer 2;
       definitions-say = other-answer 2;
@@ -653,6 +749,7 @@ entries =
       wrong = tickIsDispatched;
       S = 4;
       T = 2;
+      lanes = 1;
       calls = popAboutToAnswer ++ ticks 1 0 0 ++ dispatchesOf 1 0;
       row-says = not-the-row's-answer 7;
       definitions-say = other-table 6;
@@ -662,6 +759,7 @@ entries =
       wrong = idleMovesOn;
       S = 4;
       T = 2;
+      lanes = 1;
       calls = dispatchesOf 1 0 ++ popAboutToAnswer ++ dispatchesOf 1 0;
       row-says = not-the-row's-answer 7;
       definitions-say = other-table 1;
@@ -670,6 +768,7 @@ entries =
       wrong = refusalMovesOn;
       S = 4;
       T = 2;
+      lanes = 1;
       calls = popAboutToAnswer ++ dispatchesOf 1 4 ++ dispatchesOf 1 0;
       row-says = not-the-row's-answer 7;
       definitions-say = other-table 6;
@@ -679,15 +778,150 @@ entries =
       wrong = hintAfterChoice;
       S = 4;
       T = 1;
+      lanes = 1;
       calls = dispatchesOf 1 4;
       row-says = passes;
       definitions-say = other-answer 1;
     }
+    -- A push on lane 1 of two puts its bag into lane 0.
+    ∷ record {
+      wrong = ticksFirstLane;
+      S = 6;
+      T = 1;
+      lanes = 2;
+      calls = pushed51On 1 0;
+      row-says = lane-is-not-the-row 12;
+      definitions-say = other-table 2;
+    }
+    -- A push on lane 1 moves the right hat of lane 0, so that a pop on lane 1 finds it empty.
+    ∷ record {
+      wrong = storesInFirstLane;
+      S = 6;
+      T = 1;
+      lanes = 2;
+      calls = pushed51On 1 0 ++ beginsOn 1 0 pop right 0 ++ ticks 4 0 0;
+      row-says = not-the-row's-answer 17;
+      definitions-say = other-table 12;
+    }
+    -- A push on lane 0 takes lane 1's left end, node 2, and then lane 1 cannot be read.
+    ∷ record {
+      wrong = freesOtherLanes;
+      S = 6;
+      T = 1;
+      lanes = 2;
+      calls = begins 0 push right 51 ++ ticks 4 0 2;
+      row-says = lane-is-not-the-row 5;
+      definitions-say = other-table 5;
+    }
+    -- Lane 1 has bag 51, and is read; lane 2 is not there.
+    ∷ record {
+      wrong = readsFirstLane;
+      S = 6;
+      T = 1;
+      lanes = 2;
+      calls = pushed51On 1 0 ++ (read-call 1 (replicate 2 7) ∷ []);
+      row-says = not-the-row's-answer 13;
+      definitions-say = other-answer 13;
+    }
+    ∷ record {
+      wrong = readsFirstLane;
+      S = 6;
+      T = 1;
+      lanes = 2;
+      calls = read-call 2 [] ∷ [];
+      row-says = not-the-row's-answer 1;
+      definitions-say = other-answer 1;
+    }
+    -- Bag 51 is in lane 0, and a task is to push it on lane 1; two tasks are to push it, each on its lane.
+    ∷ record {
+      wrong = searchesOwnLane;
+      S = 6;
+      T = 1;
+      lanes = 2;
+      calls = pushedInLanes;
+      row-says = passes;
+      definitions-say = other-answer 13;
+    }
+    ∷ record {
+      wrong = searchesOwnPushes;
+      S = 6;
+      T = 2;
+      lanes = 2;
+      calls = pushedInLanesAtOnce;
+      row-says = passes;
+      definitions-say = other-answer 2;
+    }
+    -- There is no task 1 and no lane 1.
+    ∷ record {
+      wrong = testsTaskFirst;
+      S = 4;
+      T = 1;
+      lanes = 1;
+      calls = beginsOn 1 1 push right 51;
+      row-says = passes;
+      definitions-say = other-answer 1;
+    }
+    ∷ record {
+      wrong = takesAnyLane;
+      S = 4;
+      T = 1;
+      lanes = 1;
+      calls = beginsOn 1 0 push right 51;
+      row-says = not-the-row's-answer 1;
+      definitions-say = other-answer 1;
+    }
+    -- A start with five lanes and growth 65; with five lanes; with seven nodes for four lanes.
+    ∷ record {
+      wrong = startTestsSizesFirst;
+      S = 10;
+      T = 1;
+      lanes = 1;
+      calls = start-call 10 1 65 5 ∷ [];
+      row-says = passes;
+      definitions-say = other-answer 1;
+    }
+    ∷ record {
+      wrong = startTakesFiveLanes;
+      S = 10;
+      T = 1;
+      lanes = 1;
+      calls = start-call 10 1 0 5 ∷ [];
+      row-says = lane-is-not-the-row 1;
+      definitions-say = other-answer 1;
+    }
+    ∷ record {
+      wrong = startTakesNodeLess;
+      S = 7;
+      T = 1;
+      lanes = 1;
+      calls = start-call 7 1 0 4 ∷ [];
+      row-says = passes;
+      definitions-say = other-answer 1;
+    }
+    -- A start with two lanes: lane 1 cannot be read; a bag that is pushed on lane 0 is in lane 1 too.
+    ∷ record {
+      wrong = startMakesFirstLane;
+      S = 6;
+      T = 1;
+      lanes = 1;
+      calls = start-call 6 1 0 2 ∷ [];
+      row-says = lane-is-not-the-row 1;
+      definitions-say = other-table 1;
+    }
+    ∷ record {
+      wrong = startSharesNodes;
+      S = 6;
+      T = 1;
+      lanes = 1;
+      calls = start-call 6 1 0 2 ∷ pushed51On 0 0;
+      row-says = lane-is-not-the-row 13;
+      definitions-say = other-table 1;
+    }
     ∷ []
 
--- A table begun with so many nodes and tasks, and growth 0.
-abbrev pub begunWith : (S T : ℕ) → List ℕ
-begunWith S T = start (replicate (tableLength S T) 7) S T 0 .words
+-- A table begun with so many nodes, tasks and lanes, and growth 0.
+abbrev pub begunWith : (S T lanes : ℕ) → List ℕ
+begunWith S T lanes = start (replicate (tableLength S T) 7) S T 0 lanes .words
 
 -- ---- The claim: on every list the right machine passes, and the wrong one fails as is said.
 pub record Judged : Type 0 where
@@ -698,13 +932,13 @@ pub record Judged : Type 0 where
 
 unfoldable pub judged : Entry → Judged
 judged e =
-    let ws = begunWith (e .S) (e .T) in
+    let ws = begunWith (e .S) (e .T) (e .lanes) in
     let rightly = madeBy rightMachine (e .calls) ws in
     let wrongly = madeBy (e .wrong) (e .calls) ws in
     record {
-      right-by-row = byRow rightMachine rightly 1 (emptyRow (e .T));
+      right-by-row = byRow rightMachine rightly 1 (emptyRow (e .T) (e .lanes));
       right-by-definitions = byDefinitions rightly 1;
-      wrong-by-row = byRow (e .wrong) wrongly 1 (emptyRow (e .T));
+      wrong-by-row = byRow (e .wrong) wrongly 1 (emptyRow (e .T) (e .lanes));
       wrong-by-definitions = byDefinitions wrongly 1;
     }
 
@@ -732,27 +966,32 @@ AllRefuted =
 
 -- ---- What the further theorems exclude, on the same lists.
 
--- A remove alone answers within 4S + 154 of its ticks (2026-08), which are 178 for 6 nodes; the one that spins does not.
+-- A remove alone answers within 4S + 154 of its ticks (2026-08), which are 178 for 6 nodes; the one that spins does
+-- not.
 abbrev pub Spins : Type 0
 Spins =
-    (goingAlone failedSwapSpins 178 0 (afterAllBy failedSwapSpins twoRemoves (begunWith 6 2)) ≡ 178)
-    × (goingAlone rightMachine 178 0 (afterAllBy rightMachine twoRemoves (begunWith 6 2)) ≡ 4)
+    (goingAlone failedSwapSpins 178 0 (afterAllBy failedSwapSpins twoRemoves (begunWith 6 2 1)) ≡ 178)
+    × (goingAlone rightMachine 178 0 (afterAllBy rightMachine twoRemoves (begunWith 6 2 1)) ≡ 4)
 
 -- With no task in a call and no bag, all nodes but the two sentinels are free; the link that is left holds one more.
 abbrev pub Leaks : Type 0
 Leaks =
-    (freeBelow 4 (marked (afterAllBy removeLeavesLink addedAndRemoved (begunWith 4 1))) ≡ 1)
-    × (freeBelow 4 (marked (afterAllBy rightMachine addedAndRemoved (begunWith 4 1))) ≡ 2)
+    (freeBelow 4 (marked (afterAllBy removeLeavesLink addedAndRemoved (begunWith 4 1 1))) ≡ 1)
+    × (freeBelow 4 (marked (afterAllBy rightMachine addedAndRemoved (begunWith 4 1 1))) ≡ 2)
 
--- No lane has a bag twice (2026-03), and no busy push is of a bag that the lane has.
+-- No lane has a bag twice (2026-03), no two lanes have it (2026-12), and no busy push is of a bag that a lane has.
 abbrev pub Doubles : Type 0
 Doubles =
-    (lane (afterAllBy searchesLaneAlone pushedAtOnce (begunWith 4 2)) ≡ some (51 ∷ 51 ∷ []))
-    × (lane (afterAllBy searchesPushesAlone pushedAgain (begunWith 4 1)) ≡ some (51 ∷ 51 ∷ []))
-    × (lane (afterAllBy searchesLeftEndAlone pushedAgainBehind (begunWith 5 1)) ≡ some (52 ∷ 51 ∷ 51 ∷ []))
-    × (lane (afterAllBy testsWhenAnswering pushedAtOnce (begunWith 4 2)) ≡ some (51 ∷ []))
-    × (isBegun (afterAllBy testsWhenAnswering pushedAtOnce (begunWith 4 2)) 2 51 ≡ true)
-    × (lane (afterAllBy rightMachine pushedAtOnce (begunWith 4 2)) ≡ some (51 ∷ []))
-    × (isBegun (afterAllBy rightMachine pushedAtOnce (begunWith 4 2)) 2 51 ≡ false)
-    × (lane (afterAllBy rightMachine pushedAgain (begunWith 4 1)) ≡ some (51 ∷ []))
-    × (lane (afterAllBy rightMachine pushedAgainBehind (begunWith 5 1)) ≡ some (52 ∷ 51 ∷ []))
+    (lane (afterAllBy searchesLaneAlone pushedAtOnce (begunWith 4 2 1)) 0 ≡ some (51 ∷ 51 ∷ []))
+    × (lane (afterAllBy searchesPushesAlone pushedAgain (begunWith 4 1 1)) 0 ≡ some (51 ∷ 51 ∷ []))
+    × (lane (afterAllBy searchesLeftEndAlone pushedAgainBehind (begunWith 5 1 1)) 0 ≡ some (52 ∷ 51 ∷ 51 ∷ []))
+    × (lane (afterAllBy testsWhenAnswering pushedAtOnce (begunWith 4 2 1)) 0 ≡ some (51 ∷ []))
+    × (isBegun (afterAllBy testsWhenAnswering pushedAtOnce (begunWith 4 2 1)) 2 51 ≡ true)
+    × (lane (afterAllBy rightMachine pushedAtOnce (begunWith 4 2 1)) 0 ≡ some (51 ∷ []))
+    × (isBegun (afterAllBy rightMachine pushedAtOnce (begunWith 4 2 1)) 2 51 ≡ false)
+    × (lane (afterAllBy rightMachine pushedAgain (begunWith 4 1 1)) 0 ≡ some (51 ∷ []))
+    × (lane (afterAllBy rightMachine pushedAgainBehind (begunWith 5 1 1)) 0 ≡ some (52 ∷ 51 ∷ []))
+    × (allLanes (afterAllBy searchesOwnLane pushedInLanes (begunWith 6 1 2)) ≡ some (51 ∷ 51 ∷ []))
+    × (allLanes (afterAllBy rightMachine pushedInLanes (begunWith 6 1 2)) ≡ some (51 ∷ []))
+    × (allLanes (afterAllBy searchesOwnPushes pushedInLanesAtOnce (begunWith 6 2 2)) ≡ some (51 ∷ 51 ∷ []))
+    × (allLanes (afterAllBy rightMachine pushedInLanesAtOnce (begunWith 6 2 2)) ≡ some (51 ∷ []))

@@ -1,5 +1,6 @@
--- What a machine is: what its ticks do, alone and in a row, what its runs report, which lists its panel takes, what its
--- begin refuses, what its dispatches do. The calls over any machine, and the right one.
+-- What a machine is: what its starts and reads do, what its ticks do, alone and in a row, what its runs report, which
+-- lists its panel takes, what its begin refuses, what its dispatches do. The calls over any machine, and the right
+-- one.
 use mathlib.Core.Bool.{true, false}
 use mathlib.Core.List.{List, [], _∷_}
 use mathlib.Core.Option.{Option, some, none as nothing}
@@ -35,6 +36,7 @@ use Rattle.machine.specs.Calls.{
   changed,
   start,
   begunTask,
+  ReadDone,
   read,
 }
 use Rattle.machine.specs.Demand3.{
@@ -55,12 +57,14 @@ Ticks = List ℕ → (k hint : ℕ) → Ticked
 
 -- Ticks in a row and dispatches are made of the machine's own ticks.
 pub record Machine : Type 0 where
+  pub starts : List ℕ → (S T growth lanes : ℕ) → Changed
+  pub reads : List ℕ → (lane : ℕ) → (out : List ℕ) → ReadDone
   pub tickOn : Ticks
   pub ticksInRow : Ticks → (times : ℕ) → Ticks
   pub reports : RunDone → RunDone
   pub panelRefuses : (ws list answers : List ℕ) → Option ℕ
   pub panelTakes : (list : List ℕ) → List ℕ
-  pub beginRefuses : List ℕ → (k operation side : ℕ) → (argument : Stored) → Option ℕ
+  pub beginRefuses : List ℕ → (k lane operation side : ℕ) → (argument : Stored) → Option ℕ
   pub dispatches : Ticks → List ℕ → (hint : ℕ) → Dispatched
 
 -- ---- Ticks in a row, as in Calls.
@@ -94,6 +98,8 @@ dispatchChoosing choice tickOn ws h =
 abbrev pub byTicks : Ticks → Machine
 byTicks tickOn =
     record {
+      starts = start;
+      reads = read;
       tickOn = tickOn;
       ticksInRow = inRow;
       reports = λ r. r;
@@ -116,8 +122,9 @@ tickOnBy line take ws k h =
       | some n ↦ record { answer = Refused n; words = ws }
       | nothing ↦
           let t = task ws k in
-          applied (t .side) ws k
-          (line (t .step) (t .side) (opposite (t .side)) (seen (t .side) ws) t (goal (growth ws) t) (take ws h))
+          applied (t .lane) (t .side) ws k
+          (line (t .step) (t .side) (opposite (t .side)) (seen (t .lane) (t .side) ws) t
+          (goal (growth ws) t) (take ws h))
     ]
 
 abbrev pub byLines : Line → Take → Machine
@@ -127,11 +134,11 @@ byLines line take = byTicks (tickOnBy line take)
 abbrev pub rightMachine : Machine
 rightMachine = byLines act allocate
 
--- ---- The calls over a machine, as in Calls. Start and reading are no machine's own.
-unfoldable pub beginBy : Machine → List ℕ → (k operation side : ℕ) → (argument : Stored) → Changed
-beginBy M ws k op side argument =
-    changed (M .beginRefuses ws k op side argument) ws
-    (setTask k (begunTask (operationOf op) (sideOf side) (number argument)) ws)
+-- ---- The calls over a machine, as in Calls.
+unfoldable pub beginBy : Machine → List ℕ → (k lane operation side : ℕ) → (argument : Stored) → Changed
+beginBy M ws k l op side argument =
+    changed (M .beginRefuses ws k l op side argument) ws
+    (setTask k (begunTask l (operationOf op) (sideOf side) (number argument)) ws)
 
 unfoldable pub tickBy : Machine → List ℕ → (k hint : ℕ) → Ticked
 tickBy M ws k h =
@@ -168,24 +175,24 @@ panelBy M ws list answers = testedBy M (M .panelRefuses ws list answers) ws (M .
 
 -- What a call gives back, and the table as it leaves it.
 abbrev pub givenBy : Machine → (c : Call) → List ℕ → Given c
-givenBy M (start-call S T g) ws = start ws S T g .reply
-givenBy M (begin-call k op side argument) ws = beginBy M ws k op side argument .reply
+givenBy M (start-call S T g lanes) ws = M .starts ws S T g lanes .reply
+givenBy M (begin-call k l op side argument) ws = beginBy M ws k l op side argument .reply
 givenBy M (tick-call k h) ws = tickBy M ws k h .answer
 givenBy M (ticks-call k h times) ws = ticksBy M times ws k h .answer
 givenBy M (dispatch-call h) ws = dispatchBy M ws h .answer
 givenBy M (run-call list answers) ws = (runBy M ws list answers .ran, runBy M ws list answers .answers)
 givenBy M (panel-call list answers) ws = (panelBy M ws list answers .ran, panelBy M ws list answers .answers)
-givenBy M (read-call out) ws = (read ws out .reading, read ws out .out)
+givenBy M (read-call l out) ws = (M .reads ws l out .reading, M .reads ws l out .out)
 
 abbrev pub afterBy : Machine → Call → List ℕ → List ℕ
-afterBy M (start-call S T g) ws = start ws S T g .words
-afterBy M (begin-call k op side argument) ws = beginBy M ws k op side argument .words
+afterBy M (start-call S T g lanes) ws = M .starts ws S T g lanes .words
+afterBy M (begin-call k l op side argument) ws = beginBy M ws k l op side argument .words
 afterBy M (tick-call k h) ws = tickBy M ws k h .words
 afterBy M (ticks-call k h times) ws = ticksBy M times ws k h .words
 afterBy M (dispatch-call h) ws = dispatchBy M ws h .words
 afterBy M (run-call list answers) ws = runBy M ws list answers .words
 afterBy M (panel-call list answers) ws = panelBy M ws list answers .words
-afterBy M (read-call out) ws = ws
+afterBy M (read-call l out) ws = ws
 
 -- The tables that a list of pairs leads through: before each of its ticks, and after the last.
 unfoldable pub tablesBy : Machine → (list ws : List ℕ) → List (List ℕ)

@@ -1,4 +1,4 @@
--- The wrong machines, each under the words of the papers that name it.
+-- The wrong machines, each under the words of the papers that name it. Those of 2026-12 stand in WrongLanes.
 use mathlib.Core.Bool.{Bool, false, not, cond, _&&_, _||_}
 use mathlib.Core.List.{List, [], _∷_, _++_, map}
 use mathlib.Core.Option.{Option, some, none as nothing}
@@ -10,6 +10,7 @@ use Rattle.tag.specs.Tags.{lowOf}
 use Rattle.machine.specs.declared.Answer.{Answer}
 use Rattle.machine.specs.declared.Answer.the-variants.{Going, Pushed, Bag, Empty, Full, Yes, No, Refused}
 use Rattle.machine.specs.declared.Dispatch.the-variants.{Idle}
+use Rattle.machine.specs.declared.Stored.{Stored}
 use Rattle.machine.specs.Round.{following, firstFrom}
 use Rattle.machine.specs.Sides.{left, right}
 use Rattle.machine.specs.Choice.{_≟_, if_then_else_}
@@ -56,6 +57,7 @@ use Rattle.machine.specs.Registers.{heldIn}
 use Rattle.machine.specs.Table.{
   nodeCount,
   taskCount,
+  laneCount,
   tickCount,
   dispatched,
   hat,
@@ -69,6 +71,7 @@ use Rattle.machine.specs.Table.{
   setTask,
 }
 use Rattle.machine.specs.Allocate.{
+  hatsFrom,
   heldBy,
   heldFrom,
   roots,
@@ -101,6 +104,7 @@ use Rattle.machine.specs.Calls.{
   isIdle,
   isBusy,
   tableRefusal,
+  laneRefusal,
   isPush,
   isAmong,
   isBegun,
@@ -117,7 +121,7 @@ use Rattle.machine.specs.Calls.{
   nextBusy,
   Dispatched,
   RunDone,
-  lane,
+  allLanes,
 }
 use Rattle.refuted.specs.Machines.{
   Ticks,
@@ -195,7 +199,7 @@ wholeInFirstTick op = byTicks (wholeOn op)
 
 -- ---- "One whose tasks say "going" forever": what would answer begins the call again.
 abbrev pub again : Task → Effect
-again t = next (begunTask (t .operation) (t .side) (t .argument)) (firstStep (t .operation))
+again t = next (begunTask (t .lane) (t .operation) (t .side) (t .argument)) (firstStep (t .operation))
 
 abbrev pub goingForever : Machine
 goingForever =
@@ -281,8 +285,8 @@ popAnswersArgument =
     (writing (hat≔ (t .B) ∷ val≔ (t .B) (N s) ∷ []) (answers (Bag (t .argument))))
     (next t line39)))
 
--- ---- "Freeing a slot when it leaves the lane while a stalled task holds it", and other takes of a slot to which a chain of
--- links leads "from a hat or any task's register".
+-- ---- "Freeing a slot when it leaves the lane while a stalled task holds it", and other takes of a slot to which a
+-- chain of links leads "from a hat or any task's register".
 
 -- The first node from the hint on that nothing of a list leads to, or none.
 abbrev pub takeFrom : (roots : List ℕ → List ℕ) → Take
@@ -296,7 +300,7 @@ heldFromBy held ws zero k = []
 heldFromBy held ws (suc n) k = held (task ws k) ++ heldFromBy held ws n (suc k)
 
 abbrev pub rootsBy : (Task → List ℕ) → List ℕ → List ℕ
-rootsBy held ws = hat ws left ∷ hat ws right ∷ heldFromBy held ws (taskCount ws) 0
+rootsBy held ws = hatsFrom ws (laneCount ws) 0 ++ heldFromBy held ws (taskCount ws) 0
 
 -- A or B of a push or pop does not hold.
 abbrev pub letsGo : Operation → Task → List ℕ
@@ -316,7 +320,7 @@ freesChain =
 
 -- The right hat does not hold its node.
 abbrev pub freesHatsNode : Machine
-freesHatsNode = byLines act (takeFrom (λ ws. hat ws left ∷ heldFrom ws (taskCount ws) 0))
+freesHatsNode = byLines act (takeFrom (λ ws. hat ws 0 left ∷ heldFrom ws (taskCount ws) 0))
 
 -- Chains go along L alone: nodes and what n links to the left of them lead to.
 unfoldable pub leftwards : List ℕ → (n : ℕ) → List ℕ → List ℕ
@@ -381,8 +385,8 @@ trustsHat =
     next (withValue t v) (if v ≟ᵛ N s then line18 else if v ≟ᵛ X s then line24 else line15))))
     allocate
 
--- ---- "The figure's lines 32 and 37 lose that chain and fail for n = 0": 37 returns the last node that 31 made, and for
--- n = 0 there is none.
+-- ---- "The figure's lines 32 and 37 lose that chain and fail for n = 0": 37 returns the last node that 31 made, and
+-- for n = 0 there is none.
 abbrev pub figureLine37 : Machine
 figureLine37 =
     withLine line28 (λ st s o m t g f.
@@ -428,17 +432,23 @@ oneMore r =
     }
     else r
 
-abbrev pub reportsUnmadeTick : Machine
-reportsUnmadeTick =
+-- The right machine but for what its runs report.
+abbrev pub withReports : (RunDone → RunDone) → Machine
+withReports reports =
     record {
+      starts = rightMachine .starts;
+      reads = rightMachine .reads;
       tickOn = rightMachine .tickOn;
       ticksInRow = rightMachine .ticksInRow;
-      reports = oneMore;
+      reports = reports;
       panelRefuses = rightMachine .panelRefuses;
       panelTakes = rightMachine .panelTakes;
       beginRefuses = rightMachine .beginRefuses;
       dispatches = rightMachine .dispatches;
     }
+
+abbrev pub reportsUnmadeTick : Machine
+reportsUnmadeTick = withReports oneMore
 
 -- ---- Ticks in a row are as many as asked for, and end at an answer.
 
@@ -446,6 +456,8 @@ reportsUnmadeTick =
 abbrev pub withInRow : (Ticks → (times : ℕ) → Ticks) → Machine
 withInRow ticksInRow =
     record {
+      starts = rightMachine .starts;
+      reads = rightMachine .reads;
       tickOn = rightMachine .tickOn;
       ticksInRow = ticksInRow;
       reports = rightMachine .reports;
@@ -478,6 +490,8 @@ ticksAfterAnswer = withInRow toRefusal
 abbrev pub withPanel : ((ws list answers : List ℕ) → Option ℕ) → (List ℕ → List ℕ) → Machine
 withPanel refuses takes =
     record {
+      starts = rightMachine .starts;
+      reads = rightMachine .reads;
       tickOn = rightMachine .tickOn;
       ticksInRow = rightMachine .ticksInRow;
       reports = rightMachine .reports;
@@ -515,54 +529,61 @@ panelCutsList = withPanel runRefusal (take 64)
 -- ---- 2026-03: "Begin of a push shall refuse a bag number that stands in the lane or is the argument of a busy push";
 -- "16, given by begin after 7 and before 8".
 
--- What a begin of task k tests after 7, of an operation and its argument.
-abbrev pub After7 : Type 0
-After7 = List ℕ → (k : ℕ) → Operation → (n : ℕ) → Option ℕ
-
--- The right machine but for its ticks, and for what its begin tests after 7.
-abbrev pub withBegin : Ticks → After7 → Machine
-withBegin ticks after7 =
+-- The right machine but for its ticks, and for what its begin refuses.
+abbrev pub withRefusal : Ticks → (List ℕ → (k lane operation side : ℕ) → (argument : Stored) → Option ℕ) → Machine
+withRefusal ticks refuses =
     record {
+      starts = rightMachine .starts;
+      reads = rightMachine .reads;
       tickOn = ticks;
       ticksInRow = rightMachine .ticksInRow;
       reports = rightMachine .reports;
       panelRefuses = rightMachine .panelRefuses;
       panelTakes = rightMachine .panelTakes;
-      beginRefuses = λ ws k op side argument.
-          tableRefusal ws
-          (unless (ltb k (taskCount ws)) 5
-          (unless (leb 1 op && leb op 4 && leb side 1) 6
-          (unless (argumentOk (operationOf op) argument) 7
-          (after7 ws k (operationOf op) (number argument)))));
+      beginRefuses = refuses;
       dispatches = rightMachine .dispatches;
     }
+
+-- What a begin of task k on a lane tests after 7, of an operation and its argument.
+abbrev pub After7 : Type 0
+After7 = List ℕ → (k lane : ℕ) → Operation → (n : ℕ) → Option ℕ
+
+-- The right machine but for its ticks, and for what its begin tests after 7.
+abbrev pub withBegin : Ticks → After7 → Machine
+withBegin ticks after7 =
+    withRefusal ticks (λ ws k l op side argument.
+    laneRefusal ws l
+    (unless (ltb k (taskCount ws)) 5
+    (unless (leb 1 op && leb op 4 && leb side 1) 6
+    (unless (argumentOk (operationOf op) argument) 7
+    (after7 ws k l (operationOf op) (number argument))))))
 
 abbrev pub testsBusy : List ℕ → (k : ℕ) → Option ℕ → Option ℕ
 testsBusy ws k others = unless (isIdle (task ws k .operation)) 8 others
 
--- 11 where the lane has no end, 16 where its bags meet a test, and then what the tests after it give.
+-- 11 where a lane has no end, 16 where the bags meet a test, and then what the tests after it give.
 abbrev pub testsBags : (List ℕ → Bool) → (bags : Option (List ℕ)) → Option ℕ → Option ℕ
 testsBags test nothing others = some 11
 testsBags test (some bags) others = unless (not (test bags)) 16 others
 
--- The right machine but for the test of 16 that a push's begin makes of the lane's bags.
-abbrev pub refusesWhere : (List ℕ → (k n : ℕ) → (bags : List ℕ) → Bool) → Machine
+-- The right machine but for the test of 16 that a push's begin on a lane makes of the bags of all lanes.
+abbrev pub refusesWhere : (List ℕ → (k lane n : ℕ) → (bags : List ℕ) → Bool) → Machine
 refusesWhere seenIn =
-    withBegin (rightMachine .tickOn) (λ ws k op n.
-    cond (isPush op) (testsBags (seenIn ws k n) (lane ws) (testsBusy ws k nothing)) (testsBusy ws k nothing))
+    withBegin (rightMachine .tickOn) (λ ws k l op n.
+    cond (isPush op) (testsBags (seenIn ws k l n) (allLanes ws) (testsBusy ws k nothing)) (testsBusy ws k nothing))
 
 -- 8 is tested before 16.
 abbrev pub beginTestsBusyFirst : Machine
 beginTestsBusyFirst =
-    withBegin (rightMachine .tickOn) (λ ws k op n. testsBusy ws k (twiceRefusal ws op n nothing))
+    withBegin (rightMachine .tickOn) (λ ws k l op n. testsBusy ws k (twiceRefusal ws op n nothing))
 
 -- The lane is searched, and the busy pushes are not.
 abbrev pub searchesLaneAlone : Machine
-searchesLaneAlone = refusesWhere (λ ws k n bags. isAmong n bags)
+searchesLaneAlone = refusesWhere (λ ws k l n bags. isAmong n bags)
 
 -- The busy pushes are searched, and the lane is not.
 abbrev pub searchesPushesAlone : Machine
-searchesPushesAlone = refusesWhere (λ ws k n bags. isBegun ws (taskCount ws) n)
+searchesPushesAlone = refusesWhere (λ ws k l n bags. isBegun ws (taskCount ws) n)
 
 -- Of the lane only the left end is searched.
 abbrev pub isFirst : ℕ → List ℕ → Bool
@@ -570,12 +591,12 @@ isFirst n [] = false
 isFirst n (b ∷ bs) = eqb n b
 
 abbrev pub searchesLeftEndAlone : Machine
-searchesLeftEndAlone = refusesWhere (λ ws k n bags. isFirst n bags || isBegun ws (taskCount ws) n)
+searchesLeftEndAlone = refusesWhere (λ ws k l n bags. isFirst n bags || isBegun ws (taskCount ws) n)
 
 -- Only the other tasks' pushes are searched.
 abbrev pub searchesOthersAlone : Machine
 searchesOthersAlone =
-    refusesWhere (λ ws k n bags. isAmong n bags || isBegun (setTask k fresh ws) (taskCount ws) n)
+    refusesWhere (λ ws k l n bags. isAmong n bags || isBegun (setTask k fresh ws) (taskCount ws) n)
 
 -- The arguments of all busy tasks are searched: of adds and removes too.
 unfoldable pub isArgument : List ℕ → (m n : ℕ) → Bool
@@ -583,14 +604,14 @@ isArgument ws zero n = false
 isArgument ws (suc m) n = isBusy (task ws m .operation) && eqb n (task ws m .argument) || isArgument ws m n
 
 abbrev pub searchesAllArguments : Machine
-searchesAllArguments = refusesWhere (λ ws k n bags. isAmong n bags || isArgument ws (taskCount ws) n)
+searchesAllArguments = refusesWhere (λ ws k l n bags. isAmong n bags || isArgument ws (taskCount ws) n)
 
 -- An add is refused as a push is.
 abbrev pub refusesAddsToo : Machine
 refusesAddsToo =
-    withBegin (rightMachine .tickOn) (λ ws k op n.
+    withBegin (rightMachine .tickOn) (λ ws k l op n.
     cond (isPush op || eqb (operationNumber op) (operationNumber add))
-    (seenRefusal ws n (lane ws) (testsBusy ws k nothing))
+    (seenRefusal ws n (allLanes ws) (testsBusy ws k nothing))
     (testsBusy ws k nothing))
 
 abbrev pub standsIn : ℕ → Option (List ℕ) → Bool
@@ -603,9 +624,9 @@ testsWhenAnswering =
     withBegin
     (λ ws k h.
     let one = tickOn ws k h in
-    cond (eqb (kindOf (one .answer)) (kindOf Pushed) && standsIn (task ws k .argument) (lane ws))
+    cond (eqb (kindOf (one .answer)) (kindOf Pushed) && standsIn (task ws k .argument) (allLanes ws))
     (record { answer = Refused 16; words = ws }) one)
-    (λ ws k op n. testsBusy ws k nothing)
+    (λ ws k l op n. testsBusy ws k nothing)
 
 -- ---- 2026-04: "A swap compares and writes the digit with V as one thing, and 16 compares whole tags."
 
@@ -654,7 +675,7 @@ popLeavesDigit =
 -- 16 compares the nine digits below.
 abbrev pub searchesLow : Machine
 searchesLow =
-    refusesWhere (λ ws k n bags. isAmong (lowOf n) (map lowOf bags) || isBegun ws (taskCount ws) n)
+    refusesWhere (λ ws k l n bags. isAmong (lowOf n) (map lowOf bags) || isBegun ws (taskCount ws) n)
 
 -- ---- "V 0 with a digit of 1 to 9 is a tag": 42 takes it for never used.
 abbrev pub zeroUnused : Value → Value
@@ -673,17 +694,9 @@ popPassesZero =
 -- ---- "... and is 1 to 9,999,999,999": a begin takes 10,000,000,000.
 abbrev pub takesDigitTen : Machine
 takesDigitTen =
-    record {
-      tickOn = rightMachine .tickOn;
-      ticksInRow = rightMachine .ticksInRow;
-      reports = rightMachine .reports;
-      panelRefuses = rightMachine .panelRefuses;
-      panelTakes = rightMachine .panelTakes;
-      beginRefuses = λ ws k op side argument.
-          cond (isPush (operationOf op) && eqb (number argument) 10_000_000_000) nothing
-          (rightMachine .beginRefuses ws k op side argument);
-      dispatches = rightMachine .dispatches;
-    }
+    withRefusal (rightMachine .tickOn) (λ ws k l op side argument.
+    cond (isPush (operationOf op) && eqb (number argument) 10_000_000_000) nothing
+    (rightMachine .beginRefuses ws k l op side argument))
 
 -- ---- "... the run write two words for a tag, digit first": of n ticks it writes the digit last.
 unfoldable pub turned : (n : ℕ) → List ℕ → List ℕ
@@ -695,15 +708,7 @@ turned (suc n) (kind ∷ digit ∷ low ∷ l) = kind ∷ low ∷ digit ∷ turne
 
 abbrev pub runTurnsWords : Machine
 runTurnsWords =
-    record {
-      tickOn = rightMachine .tickOn;
-      ticksInRow = rightMachine .ticksInRow;
-      reports = λ r. record { ran = r .ran; words = r .words; answers = turned (r .ran .made) (r .answers) };
-      panelRefuses = rightMachine .panelRefuses;
-      panelTakes = rightMachine .panelTakes;
-      beginRefuses = rightMachine .beginRefuses;
-      dispatches = rightMachine .dispatches;
-    }
+    withReports (λ r. record { ran = r .ran; words = r .words; answers = turned (r .ran .made) (r .answers) })
 
 -- ---- 2026-07: "A dispatcher ticks the next busy task after the one it last ticked, going round by task number".
 
@@ -711,6 +716,8 @@ runTurnsWords =
 abbrev pub withDispatch : (Ticks → List ℕ → (hint : ℕ) → Dispatched) → Machine
 withDispatch dispatches =
     record {
+      starts = rightMachine .starts;
+      reads = rightMachine .reads;
       tickOn = rightMachine .tickOn;
       ticksInRow = rightMachine .ticksInRow;
       reports = rightMachine .reports;

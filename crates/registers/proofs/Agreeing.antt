@@ -28,6 +28,7 @@ module _ {p : Register → Bool} {t u : Task} where
         B = chosen inB i;
         C = chosen inC i;
         D = chosen inD i;
+        lane = e i .lane;
       }
     where
       chosen : (r : Register) → register u r ≡ cond (p r) (register t r) (register u r)

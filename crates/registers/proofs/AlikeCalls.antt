@@ -17,8 +17,21 @@ use Rattle.machine.specs.Values.{Value, never, bag, N, X, Y, number}
 use Rattle.machine.specs.Operations.{Operation, idle, push, pop, add, remove, operationOf}
 use Rattle.machine.specs.Tasks.{Task, none}
 use Rattle.machine.specs.Registers.{holds}
-use Rattle.machine.specs.Table.{nodeCount, taskCount, dispatched, hat, link, value, task, setDispatched, setTask}
+use Rattle.machine.specs.Table.{
+  nodeCount,
+  taskCount,
+  laneCount,
+  dispatched,
+  hat,
+  link,
+  value,
+  task,
+  setDispatched,
+  setTask,
+}
 use Rattle.machine.specs.Calls.{
+  unless,
+  laneRefusal,
   startRefusal,
   tableRefusal,
   isBegun,
@@ -48,6 +61,11 @@ use Rattle.machine.specs.Calls.{
   panel,
   laneFrom,
   lane,
+  lanesBelow,
+  allLanes,
+  ReadDone,
+  unread,
+  readInto,
   read,
 }
 use Rattle.machine.specs.Lines.{Memory}
@@ -65,7 +83,7 @@ use Rattle.machine.specs.Demand3.{
   given,
   after,
 }
-use Rattle.machine.proofs.Basics.Tests.{test-passed}
+use Rattle.machine.proofs.Basics.Tests.{test-passed, tests-left}
 use Rattle.machine.proofs.Words.ValueLaws.{HasWord, never-has-word}
 use Rattle.machine.proofs.Basics.Updates.{update}
 use Rattle.machine.proofs.Words.Columns.{sizesOf, Columns, Sized, putDispatched}
@@ -94,6 +112,7 @@ use Rattle.registers.proofs.AlikeTables.{
   same-growth,
   same-ticks,
   same-dispatched,
+  same-lanes,
   same-hat,
   same-links,
   same-seen,
@@ -110,19 +129,19 @@ module _ {ws vs : List ℕ} (A : AlikeColumns ws vs) where
   abbrev ChangedAlike : (c d : Changed) → Type 0
   ChangedAlike c d = (d .reply ≡ c .reply) × AlikeColumns (c .words) (d .words)
 
-  start-alike : (S T g : ℕ) → ChangedAlike (start ws S T g) (start vs S T g)
+  start-alike : (S T g L : ℕ) → ChangedAlike (start ws S T g L) (start vs S T g L)
   unfolding start
-  start-alike S T g =
-      subst (λ (r : Option ℕ). ChangedAlike (start ws S T g) (changed r vs (startWords S T g))) (sym same)
-      (go (startRefusal ws S T g) refl)
+  start-alike S T g L =
+      subst (λ (r : Option ℕ). ChangedAlike (start ws S T g L) (changed r vs (startWords S T g L))) (sym same)
+      (go (startRefusal ws S T g L) refl)
     where
-      same : startRefusal vs S T g ≡ startRefusal ws S T g
+      same : startRefusal vs S T g L ≡ startRefusal ws S T g L
       same = rw (ap (λ (c : Columns). c .sizes .length) (A .same-words))
 
-      go : (r : Option ℕ) → startRefusal ws S T g ≡ r
-          → ChangedAlike (changed r ws (startWords S T g)) (changed r vs (startWords S T g))
+      go : (r : Option ℕ) → startRefusal ws S T g L ≡ r
+          → ChangedAlike (changed r ws (startWords S T g L)) (changed r vs (startWords S T g L))
       go (some n) e = (refl, A)
-      go nothing e = (refl, alike-self (start-accepted S T g (search test-passed)))
+      go nothing e = (refl, alike-self (start-accepted S T g L (search test-passed) (search (test-passed, tests-left))))
 
   -- ---- begin.
 
@@ -164,7 +183,7 @@ module _ {ws vs : List ℕ} (A : AlikeColumns ws vs) where
 
   -- ---- The lane, and begin.
   same-value : (x : ℕ) → value vs x ≡ value ws x
-  same-value x = ap (λ (m : Memory). m .val x) (same-seen A right)
+  same-value x = ap (λ (m : Memory). m .val x) (same-seen A 0 right)
 
   lane-from-same : (n x : ℕ) → laneFrom vs n x ≡ laneFrom ws n x
   unfolding laneFrom
@@ -195,10 +214,18 @@ module _ {ws vs : List ℕ} (A : AlikeColumns ws vs) where
           ap (one vs) (same-value x)
           ∙ each (value ws x) (ap (λ (l : Side → ℕ → ℕ). laneFrom vs n (l right x)) (same-links A) ∙ e)
 
-  lane-same : lane vs ≡ lane ws
+  lane-same : (l : ℕ) → lane vs l ≡ lane ws l
   unfolding lane
-  lane-same =
-      rw (same-nodes A, same-links A, same-hat A left) (lane-from-same (nodeCount ws) (link ws right (hat ws left)))
+  lane-same l =
+      rw (same-nodes A, same-links A, same-hat A l left) (lane-from-same (nodeCount ws) (link ws right (hat ws l left)))
+
+  below-same : (n : ℕ) → lanesBelow vs n ≡ lanesBelow ws n
+  unfolding lanesBelow
+  below-same zero = refl
+  below-same (suc n) = rw (below-same n, lane-same n)
+
+  lanes-same : allLanes vs ≡ allLanes ws
+  lanes-same = ap (lanesBelow vs) (same-lanes A) ∙ below-same (laneCount ws)
 
   begun-same : (m n : ℕ) → isBegun vs m n ≡ isBegun ws m n
   unfolding isBegun
@@ -206,7 +233,7 @@ module _ {ws vs : List ℕ} (A : AlikeColumns ws vs) where
   begun-same (suc m) n = rw (same-operation A m, same-argument A m, begun-same m n)
 
   twice-same : (op : Operation) (n : ℕ) (others : Option ℕ) → twiceRefusal vs op n others ≡ twiceRefusal ws op n others
-  twice-same push n others = rw (lane-same) (go (lane ws))
+  twice-same push n others = rw lanes-same (go (allLanes ws))
     where
       go : (bags : Option (List ℕ)) → seenRefusal vs n bags others ≡ seenRefusal ws n bags others
       go nothing = refl
@@ -216,36 +243,37 @@ module _ {ws vs : List ℕ} (A : AlikeColumns ws vs) where
   twice-same add n others = refl
   twice-same remove n others = refl
 
-  begin-alike : (k op side : ℕ) (argument : Stored)
-      → ChangedAlike (begin ws k op side argument) (begin vs k op side argument)
+  begin-alike : (k l op side : ℕ) (argument : Stored)
+      → ChangedAlike (begin ws k l op side argument) (begin vs k l op side argument)
   unfolding begin
-  begin-alike k op side argument =
-      subst (λ (r : Option ℕ). ChangedAlike (begin ws k op side argument) (changed r vs (setTask k t vs))) (sym same)
-      (go (beginRefusal ws k op side argument) refl
-      (call-accepted ws (A .accepted) (begin-call k op side argument))
+  begin-alike k l op side argument =
+      subst (λ (r : Option ℕ). ChangedAlike (begin ws k l op side argument) (changed r vs (setTask k t vs))) (sym same)
+      (go (beginRefusal ws k l op side argument) refl
+      (call-accepted ws (A .accepted) (begin-call k l op side argument))
       (subst (λ (r : Option ℕ). WellFormed (changed r vs (setTask k t vs) .words)) same
-      (call-accepted vs (A .accepted′) (begin-call k op side argument))))
+      (call-accepted vs (A .accepted′) (begin-call k l op side argument))))
     where
       t : Task
-      t = begunTask (operationOf op) (sideOf side) (number argument)
+      t = begunTask l (operationOf op) (sideOf side) (number argument)
 
-      same : beginRefusal vs k op side argument ≡ beginRefusal ws k op side argument
+      same : beginRefusal vs k l op side argument ≡ beginRefusal ws k l op side argument
       same =
           rw (
             table-passes ws (A .accepted),
             table-passes vs (A .accepted′),
+            same-lanes A,
             same-count A,
             same-operation A k,
             twice-same (operationOf op),
           )
 
-      go : (r : Option ℕ) → beginRefusal ws k op side argument ≡ r
+      go : (r : Option ℕ) → beginRefusal ws k l op side argument ≡ r
           → WellFormed (changed r ws (setTask k t ws) .words)
           → WellFormed (changed r vs (setTask k t vs) .words)
           → ChangedAlike (changed r ws (setTask k t ws)) (changed r vs (setTask k t vs))
       go (some n) e a b = (refl, A)
       go nothing e a b =
-          (refl, begun-alike k t (begin-allowed ws k op side argument e .is-task) never-has-word a b)
+          (refl, begun-alike k t (begin-allowed ws k l op side argument e .is-task) never-has-word a b)
 
   -- ---- run and panel.
 
@@ -268,10 +296,23 @@ module _ {ws vs : List ℕ} (A : AlikeColumns ws vs) where
     unfolding panel
     panel-alike = list-alike _
 
-  -- ---- Reading the lane.
-  read-same : (out : List ℕ) → read vs out ≡ read ws out
+  -- ---- Reading a lane.
+  read-same : (l : ℕ) (out : List ℕ) → read vs l out ≡ read ws l out
   unfolding read
-  read-same out = rw (table-passes vs (A .accepted′) nothing, table-passes ws (A .accepted) nothing, read, lane-same)
+  read-same l out = ap (done vs) same ∙ go (laneRefusal ws l nothing)
+    where
+      same : laneRefusal vs l nothing ≡ laneRefusal ws l nothing
+      same =
+          table-passes vs (A .accepted′) (unless (ltb l (laneCount vs)) 26 nothing)
+          ∙ ap (λ (n : ℕ). unless (ltb l n) 26 nothing) (same-lanes A)
+          ∙ sym (table-passes ws (A .accepted) (unless (ltb l (laneCount ws)) 26 nothing))
+
+      done : List ℕ → Option ℕ → ReadDone
+      done xs r = elim r as (λ _. ReadDone) [ some n ↦ unread n out | nothing ↦ readInto (lane xs l) out ]
+
+      go : (r : Option ℕ) → done vs r ≡ done ws r
+      go (some n) = refl
+      go nothing = ap (λ (b : Option (List ℕ)). readInto b out) (lane-same l)
 
   -- ---- tick.
   tick-call-alike : (k h : ℕ) → TicksAlike (tick ws k h) (tick vs k h)
@@ -367,8 +408,8 @@ ticks-alike (suc n) k h {ws} {vs} A =
 -- ---- Every call has the same answer on both tables, and they differ only in registers that do not hold afterwards.
 pub call-alike : {ws vs : List ℕ} → AlikeColumns ws vs → (c : Call)
     → (given c vs ≡ given c ws) × AlikeColumns (after c ws) (after c vs)
-call-alike A (start-call S T g) = start-alike A S T g
-call-alike A (begin-call k op side argument) = begin-alike A k op side argument
+call-alike A (start-call S T g L) = start-alike A S T g L
+call-alike A (begin-call k l op side argument) = begin-alike A k l op side argument
 call-alike A (tick-call k h) = tick-call-alike A k h
 call-alike A (ticks-call k h times) = ticks-alike times k h A
 call-alike A (dispatch-call h) = dispatch-alike A h
@@ -378,7 +419,7 @@ call-alike A (run-call list answers) =
 call-alike A (panel-call list answers) =
     let R = panel-alike A list answers in
     (λ i. (R .same-ran i, R .same-answers i), R .words-alike)
-call-alike A (read-call out) = (λ i. (read-same A out i .reading, read-same A out i .out), A)
+call-alike A (read-call l out) = (λ i. (read-same A l out i .reading, read-same A l out i .out), A)
 
 -- ---- Any list of calls.
 
@@ -391,6 +432,7 @@ views-alike {ws} {vs} A =
       same-nodes = same-nodes A;
       same-count = same-count A;
       same-growth = same-growth A;
+      same-lanes = same-lanes A;
       same-hats = same-hat A;
       same-ticks = same-ticks A;
       same-dispatched = same-dispatched A;
@@ -406,6 +448,7 @@ views-alike {ws} {vs} A =
             same-argument = ap (λ (t : Task). t .argument) e;
             same-counted = ap (λ (t : Task). t .counted) e;
             same-value = ap (λ (t : Task). t .value) e;
+            same-lane = ap (λ (t : Task). t .lane) e;
             same-registers =
                 λ r h. mixed-inside (holds (task ws k .step)) (task ws k) (task vs k) (task vs k) e r h;
           };

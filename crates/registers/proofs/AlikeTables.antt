@@ -8,10 +8,11 @@ use Rattle.machine.specs.Shape.{WellFormed}
 use Rattle.machine.specs.Sides.{Side, left, right}
 use Rattle.machine.specs.Tasks.{Task, none, Register, inA, inB, inC, inD}
 use Rattle.machine.specs.Registers.{holds, heldIn}
-use Rattle.machine.specs.Table.{nodeCount, taskCount, growth, tickCount, dispatched, hat, link, value, task}
+use Rattle.machine.specs.Table.{nodeCount, taskCount, growth, laneCount, tickCount, dispatched, hat, link, value, task}
 use Rattle.machine.specs.Allocate.{
   heldBy,
   heldFrom,
+  hatsFrom,
   roots,
   largestCount,
   Marking,
@@ -48,17 +49,18 @@ alike-self {ws} a =
       same-tasks = λ k. agree-self (holds (task ws k .step)) (task ws k);
     }
 
-unrecorded-put-one : (s : Side) (w : Write) (c : Columns) → unrecorded (putOne s w c) ≡ putOne s w (unrecorded c)
-unrecorded-put-one s (out≔ x y) c = refl
-unrecorded-put-one s (inn≔ x y) c = refl
-unrecorded-put-one s (val≔ x v) c = refl
-unrecorded-put-one s (hat≔ x) c = refl
+unrecorded-put-one : (j : ℕ) (s : Side) (w : Write) (c : Columns)
+    → unrecorded (putOne j s w c) ≡ putOne j s w (unrecorded c)
+unrecorded-put-one j s (out≔ x y) c = refl
+unrecorded-put-one j s (inn≔ x y) c = refl
+unrecorded-put-one j s (val≔ x v) c = refl
+unrecorded-put-one j s (hat≔ x) c = refl
 
-pub unrecorded-put-all : (s : Side) (l : List Write) (c : Columns)
-    → unrecorded (putAll s l c) ≡ putAll s l (unrecorded c)
-unrecorded-put-all s [] c = refl
-unrecorded-put-all s (w ∷ l) c =
-    unrecorded-put-all s l (putOne s w c) ∙ ap (putAll s l) (unrecorded-put-one s w c)
+pub unrecorded-put-all : (j : ℕ) (s : Side) (l : List Write) (c : Columns)
+    → unrecorded (putAll j s l c) ≡ putAll j s l (unrecorded c)
+unrecorded-put-all j s [] c = refl
+unrecorded-put-all j s (w ∷ l) c =
+    unrecorded-put-all j s l (putOne j s w c) ∙ ap (putAll j s l) (unrecorded-put-one j s w c)
 
 -- ---- The same nodes are held, so the same node is taken.
 held-same : (t u : Task) → AgreeOn (holds (t .step)) t u → heldBy u ≡ heldBy t
@@ -90,15 +92,18 @@ module _ {ws vs : List ℕ} (A : AlikeColumns ws vs) where
   pub same-dispatched : dispatched vs ≡ dispatched ws
   same-dispatched = ap (λ (c : Columns). c .counts .dispatched) (A .same-words)
 
-  pub same-hat : (s : Side) → hat vs s ≡ hat ws s
-  same-hat s = ap (λ (c : Columns). c .hats s) (A .same-words)
+  pub same-lanes : laneCount vs ≡ laneCount ws
+  same-lanes = ap (λ (c : Columns). c .sizes .laneCount) (A .same-words)
+
+  pub same-hat : (l : ℕ) (s : Side) → hat vs l s ≡ hat ws l s
+  same-hat l s = ap (λ (c : Columns). c .hats l s) (A .same-words)
 
   pub same-links : link vs ≡ link ws
   same-links = ap (λ (c : Columns). c .links) (A .same-words)
 
-  pub same-seen : (s : Side) → seen s vs ≡ seen s ws
+  pub same-seen : (l : ℕ) (s : Side) → seen l s vs ≡ seen l s ws
   unfolding value
-  same-seen s = ap (λ c. seenIn s (viewOf s c)) (A .same-words)
+  same-seen l s = ap (λ c. seenIn l s (viewOf s c)) (A .same-words)
 
   pub same-operation : (k : ℕ) → task vs k .operation ≡ task ws k .operation
   same-operation k = ap (λ (y : Task). y .operation) (A .same-tasks k)
@@ -114,9 +119,15 @@ module _ {ws vs : List ℕ} (A : AlikeColumns ws vs) where
       ap (λ (l : List ℕ). l ++ heldFrom vs n (suc k)) one
       ∙ ap (λ (l : List ℕ). heldBy (task ws k) ++ l) (held-from-same n (suc k))
 
+  hats-from-same : (n l : ℕ) → hatsFrom vs n l ≡ hatsFrom ws n l
+  unfolding hatsFrom
+  hats-from-same zero l = refl
+  hats-from-same (suc n) l = cc (same-hat l left, same-hat l right, hats-from-same n (suc l))
+
   roots-same : roots vs ≡ roots ws
   unfolding roots
-  roots-same = cc (same-hat left, same-hat right, same-count, held-from-same (taskCount ws) 0)
+  roots-same =
+      rw (same-lanes, same-count, hats-from-same (laneCount ws) 0, held-from-same (taskCount ws) 0)
 
   visit-same : (m : Marking) (i : ℕ) → visit vs m i ≡ visit ws m i
   unfolding visit

@@ -69,24 +69,27 @@ module _ {ws vs : List ℕ} (A : AlikeColumns ws vs) (k h : ℕ) where
 
   -- The same line acts on both records, with the same side, memory, goal and free node.
   line-of-both : effectOf vs k h
-      ≡ act (t .step) (t .side) (opposite (t .side)) (seen (t .side) ws) u (goal (growth ws) t) (allocate ws h)
+      ≡ act (t .step) (t .side) (opposite (t .side)) (seen (t .lane) (t .side) ws)
+      u (goal (growth ws) t) (allocate ws h)
   unfolding effectOf
   line-of-both =
       let o = opposite (t .side) in
       ap
       (λ (y : Task).
-      act (y .step) (y .side) (opposite (y .side)) (seen (y .side) vs) u (goal (growth vs) y) (allocate vs h))
+      act (y .step) (y .side) (opposite (y .side)) (seen (y .lane) (y .side) vs) u (goal (growth vs) y) (allocate vs h))
       same-plain
-      ∙ ap (λ (m : Memory). act (t .step) (t .side) o m u (goal (growth vs) t) (allocate vs h)) (same-seen A (t .side))
-      ∙ ap (λ (n : ℕ). act (t .step) (t .side) o (seen (t .side) ws) u (goal n t) (allocate vs h)) (same-growth A)
-      ∙ ap (act (t .step) (t .side) o (seen (t .side) ws) u (goal (growth ws) t)) (allocate-same A h)
+      ∙ ap (λ (m : Memory). act (t .step) (t .side) o m u (goal (growth vs) t) (allocate vs h))
+      (same-seen A (t .lane) (t .side))
+      ∙ ap (λ (n : ℕ). act (t .step) (t .side) o (seen (t .lane) (t .side) ws) u (goal n t) (allocate vs h))
+      (same-growth A)
+      ∙ ap (act (t .step) (t .side) o (seen (t .lane) (t .side) ws) u (goal (growth ws) t)) (allocate-same A h)
 
   effects-same : SameEffect (t .step) t u (effectOf ws k h) (effectOf vs k h)
   unfolding effectOf
   effects-same =
       subst (λ (f : Effect). SameEffect (t .step) t u (effectOf ws k h) f) (sym line-of-both)
-      (uses-enough (t .step) (t .side) (opposite (t .side)) (seen (t .side) ws) t u (goal (growth ws) t) (allocate ws h)
-      (agree-uses t u (A .same-tasks k)))
+      (uses-enough (t .step) (t .side) (opposite (t .side)) (seen (t .lane) (t .side) ws)
+      t u (goal (growth ws) t) (allocate ws h) (agree-uses t u (A .same-tasks k)))
 
   answers-same : effectOf vs k h .answer ≡ effectOf ws k h .answer
   answers-same = effects-same .same-answer
@@ -100,7 +103,7 @@ module _ {ws vs : List ℕ} (A : AlikeColumns ws vs) (k h : ℕ) where
     sizes xs a = well-sized xs (a .length-passes)
 
     shape : (xs : List ℕ) → WellFormed xs → WellShaped (columns xs)
-    shape xs a = well-shaped xs (a .shape-passes)
+    shape xs a = well-shaped xs (a .length-passes) (a .shape-passes)
 
     still-accepted : (xs : List ℕ) → WellFormed xs → WellFormed (tickOn xs k h .words)
     still-accepted xs a =
@@ -111,8 +114,8 @@ module _ {ws vs : List ℕ} (A : AlikeColumns ws vs) (k h : ℕ) where
         }
 
     -- All words but the task records, after writes and a record.
-    abbrev leaves : ℕ → Side → List Write → Columns → Columns
-    leaves n s l c = putTickCount ((n + 1) % 2 ^ 32) (putAll s l c)
+    abbrev leaves : (ticks lane : ℕ) → Side → List Write → Columns → Columns
+    leaves n j s l c = putTickCount ((n + 1) % 2 ^ 32) (putAll j s l c)
 
     module _ (made : refusalOf (effectOf ws k h .answer) ≡ nothing) where
       made′ : refusalOf (effectOf vs k h .answer) ≡ nothing
@@ -121,21 +124,23 @@ module _ {ws vs : List ℕ} (A : AlikeColumns ws vs) (k h : ℕ) where
       words-after : (xs : List ℕ) (a : WellFormed xs) (p : tickRefusal xs k h ≡ nothing)
           → refusalOf (effectOf xs k h .answer) ≡ nothing
           → unrecorded (columns (tickOn xs k h .words))
-          ≡ leaves (tickCount xs) (task xs k .side) (effectOf xs k h .writes) (unrecorded (columns xs))
+          ≡ leaves (tickCount xs) (task xs k .lane) (task xs k .side) (effectOf xs k h .writes)
+          (unrecorded (columns xs))
       words-after xs a p q =
           ap unrecorded (tick-columns xs k h p (sizes xs a) (shape xs a) q)
           ∙ ap (putTickCount ((tickCount xs + 1) % 2 ^ 32))
-          (unrecorded-put-all (task xs k .side) (effectOf xs k h .writes) (columns xs))
+          (unrecorded-put-all (task xs k .lane) (task xs k .side) (effectOf xs k h .writes) (columns xs))
 
       words-same : unrecorded (columns (tickOn vs k h .words)) ≡ unrecorded (columns (tickOn ws k h .words))
       words-same =
           words-after vs (A .accepted′) allowed′ made′
-          ∙ ap (leaves (tickCount vs) (u .side) (effectOf vs k h .writes)) (A .same-words)
-          ∙ ap (λ (l : List Write). leaves (tickCount vs) (u .side) l (unrecorded (columns ws)))
+          ∙ ap (leaves (tickCount vs) (u .lane) (u .side) (effectOf vs k h .writes)) (A .same-words)
+          ∙ ap (λ (l : List Write). leaves (tickCount vs) (u .lane) (u .side) l (unrecorded (columns ws)))
           (effects-same .same-writes)
-          ∙ ap (λ (y : Task). leaves (tickCount vs) (y .side) (effectOf ws k h .writes) (unrecorded (columns ws)))
-          same-plain
-          ∙ ap (λ (n : ℕ). leaves n (t .side) (effectOf ws k h .writes) (unrecorded (columns ws))) (same-ticks A)
+          ∙ ap (λ (y : Task).
+          leaves (tickCount vs) (y .lane) (y .side) (effectOf ws k h .writes) (unrecorded (columns ws))) same-plain
+          ∙ ap (λ (n : ℕ). leaves n (t .lane) (t .side) (effectOf ws k h .writes) (unrecorded (columns ws)))
+          (same-ticks A)
           ∙ sym (words-after ws (A .accepted) allowed made)
 
       tasks-same : (j : ℕ) → AgreeOn (holds (task (tickOn ws k h .words) j .step)) (task (tickOn ws k h .words) j)

@@ -60,6 +60,7 @@ taskIn a st =
       B = 1;
       C = 2;
       D = a .D;
+      lane = 0;
     }
 
 abbrev samples : List Sample
@@ -100,14 +101,14 @@ shows r e =
 -- Effects that show different words are not the same.
 shows-same : (r : Register) (e f : Effect) → SameBut r e f → shows r f ≡ shows r e
 shows-same r e f S =
-    ap (λ (a : Answer). kindOf a ∷ payloadOf a ∷ stepNumber (f .task .step) ∷ others r (f .task) ++ allWords (f .writes))
-    (S .same-answer)
+    ap (λ (a : Answer). kindOf a ∷ payloadOf a ∷ stepNumber (f .task .step) ∷ others r (f .task)
+    ++ allWords (f .writes)) (S .same-answer)
     ∙ ap (λ (st : Step). kindOf (e .answer) ∷ payloadOf (e .answer) ∷ stepNumber st ∷ others r (f .task)
     ++ allWords (f .writes)) (S .same-step)
     ∙ ap (λ (l : List ℕ). kindOf (e .answer) ∷ payloadOf (e .answer) ∷ stepNumber (e .task .step) ∷ l
     ++ allWords (f .writes)) (same-rest r (S .same-others))
-    ∙ ap (λ (l : List Write). kindOf (e .answer) ∷ payloadOf (e .answer) ∷ stepNumber (e .task .step) ∷ others r (e .task)
-    ++ allWords l) (S .same-writes)
+    ∙ ap (λ (l : List Write). kindOf (e .answer) ∷ payloadOf (e .answer) ∷ stepNumber (e .task .step)
+    ∷ others r (e .task) ++ allWords l) (S .same-writes)
   where
     same-rest : (r : Register) → ((q : Register) → q ≢ r → register (f .task) q ≡ register (e .task) q)
         → others r (f .task) ≡ others r (e .task)

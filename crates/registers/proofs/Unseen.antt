@@ -9,7 +9,7 @@ use Rattle.machine.specs.Choice.{_≟_, if_then_else_}
 use Rattle.machine.specs.Values.{encode}
 use Rattle.machine.specs.Tasks.{Task, fresh, none, wordsOf, inA, inB, inC, inD}
 use Rattle.machine.specs.Registers.{holds}
-use Rattle.machine.specs.Table.{tableLength, nodeCount, taskCount, growth, value, task, setTask}
+use Rattle.machine.specs.Table.{tableLength, nodeCount, taskCount, growth, laneCount, value, task, setTask}
 use Rattle.machine.specs.Calls.{isBusy}
 use Rattle.registers.specs.Unseen.{SameButUnneeded, Alike, UnneededUnseen, cleared, ClearingUnseen}
 use Rattle.machine.proofs.Words.ValueLaws.{encode-decode}
@@ -52,6 +52,7 @@ records-agree {t} {u} same = agree-from {p = holds (t .step)} same-plain (same .
           B = none;
           C = none;
           D = none;
+          lane = same .same-lane i;
         }
 
 module _ {ws vs : List ℕ} (A : Alike ws vs) where
@@ -68,10 +69,10 @@ module _ {ws vs : List ℕ} (A : Alike ws vs) where
   sizes′ = well-sized vs (accepted′ .length-passes)
 
   shape : WellShaped (columns ws)
-  shape = well-shaped ws (accepted .shape-passes)
+  shape = well-shaped ws (accepted .length-passes) (accepted .shape-passes)
 
   shape′ : WellShaped (columns vs)
-  shape′ = well-shaped vs (accepted′ .shape-passes)
+  shape′ = well-shaped vs (accepted′ .length-passes) (accepted′ .shape-passes)
 
   same-length : length vs ≡ length ws
   same-length =
@@ -97,8 +98,8 @@ module _ {ws vs : List ℕ} (A : Alike ws vs) where
         accepted = accepted;
         accepted′ = accepted′;
         same-words =
-            columns-equal (sizes-equal same-length (A .same-nodes) (A .same-count) (A .same-growth))
-            (fun-ext (A .same-hats)) same-counts
+            columns-equal (sizes-equal same-length (A .same-nodes) (A .same-count) (A .same-growth) (A .same-lanes))
+            (fun-ext (λ l. fun-ext (A .same-hats l))) same-counts
             (fun-ext (λ s. fun-ext (A .same-links s))) (fun-ext same-value-words) refl;
         same-tasks = λ k. records-agree (A .same-tasks k);
       }
@@ -116,9 +117,9 @@ module _ {ws : List ℕ} (accepted : WellFormed ws) (k : ℕ) (is-task : k < tas
   Z = well-sized ws (accepted .length-passes)
 
   W : WellShaped (columns ws)
-  W = well-shaped ws (accepted .shape-passes)
+  W = well-shaped ws (accepted .length-passes) (accepted .shape-passes)
 
-  cleared-facts : BusyFacts (nodeCount ws) (growth ws) (cleared t)
+  cleared-facts : BusyFacts (nodeCount ws) (growth ws) (laneCount ws) (cleared t)
   cleared-facts =
       let F = busy-facts ws W k busy in
       record {
@@ -132,6 +133,7 @@ module _ {ws : List ℕ} (accepted : WellFormed ws) (k : ℕ) (is-task : k < tas
         B-ok = kept-or-none (holds (t .step) inB) (F .B-ok);
         C-ok = kept-or-none (holds (t .step) inC) (F .C-ok);
         D-ok = kept-or-none (holds (t .step) inD) (F .D-ok);
+        lane-ok = F .lane-ok;
       }
     where
       kept-or-none : (b : Bool) {x : ℕ} → NodeOrNone (nodeCount ws) x → NodeOrNone (nodeCount ws) (cond b x none)
@@ -141,7 +143,7 @@ module _ {ws : List ℕ} (accepted : WellFormed ws) (k : ℕ) (is-task : k < tas
   still-accepted : WellFormed (setTask k (cleared t) ws)
   still-accepted =
       let c = cleared t in
-      let ok = record-of-busy (nodeCount ws) (growth ws) c cleared-facts in
+      let ok = record-of-busy (nodeCount ws) (growth ws) (laneCount ws) c cleared-facts in
       let same = sym (columns-setTask ws (Z .sized) k c is-task) in
       record {
         length-passes = length-ok (setTask k c ws) (subst WellSized (ap (λ b. b .sizes) same) Z);

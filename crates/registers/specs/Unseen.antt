@@ -11,6 +11,7 @@ use Rattle.machine.specs.Table.{
   nodeCount,
   taskCount,
   growth,
+  laneCount,
   hat,
   tickCount,
   dispatched,
@@ -30,6 +31,7 @@ pub record SameButUnneeded (t u : Task) : Type 0 where
   pub same-argument : u .argument ≡ t .argument
   pub same-counted : u .counted ≡ t .counted
   pub same-value : u .value ≡ t .value
+  pub same-lane : u .lane ≡ t .lane
   pub same-registers : (r : Register) → holds (t .step) r ≡ true → register u r ≡ register t r
 
 -- Two accepted tables are the same but for such registers.
@@ -39,15 +41,16 @@ pub record Alike (ws vs : List ℕ) : Type 0 where
   pub same-nodes : nodeCount vs ≡ nodeCount ws
   pub same-count : taskCount vs ≡ taskCount ws
   pub same-growth : growth vs ≡ growth ws
-  pub same-hats : (s : Side) → hat vs s ≡ hat ws s
+  pub same-lanes : laneCount vs ≡ laneCount ws
+  pub same-hats : (l : ℕ) (s : Side) → hat vs l s ≡ hat ws l s
   pub same-ticks : tickCount vs ≡ tickCount ws
   pub same-dispatched : dispatched vs ≡ dispatched ws
   pub same-links : (s : Side) (x : ℕ) → link vs s x ≡ link ws s x
   pub same-values : (x : ℕ) → value vs x ≡ value ws x
   pub same-tasks : (k : ℕ) → SameButUnneeded (task ws k) (task vs k)
 
--- Every call of a list gives the same on both tables, its answer and the words that it writes into a slice of its own, and
--- the tables that the list leaves are alike.
+-- Every call of a list gives the same on both tables, its answer and the words that it writes into a slice of its own,
+-- and the tables that the list leaves are alike.
 abbrev pub SameFor : List Call → (ws vs : List ℕ) → Type 0
 SameFor [] ws vs = Alike ws vs
 SameFor (c ∷ cs) ws vs = (given c vs ≡ given c ws) × SameFor cs (after c ws) (after c vs)

@@ -4,25 +4,28 @@ mod records;
 use layout::nodes;
 use layout::places::DISPATCHED;
 use layout::places::GROWTH;
+use layout::places::HATS;
 use layout::places::HEADER;
+use layout::places::LANE_COUNT;
 use layout::places::LEAST_LENGTH;
-use layout::places::LEFT_HAT;
 use layout::places::NODE_COUNT;
 use layout::places::NODE_WORDS;
-use layout::places::RIGHT_HAT;
 use layout::places::TASK_COUNT;
-use layout::places::WORD_7;
+use layout::places::WORD_14;
+use layout::places::WORD_15;
 use layout::places::table_length;
 use layout::table::task;
+use record::Task;
 use steps::owners::Owners;
 use values::value_ok;
 ghost use mathlib.Core.Path.{_≡_};
 ghost use mathlib.Core.Bool.{true};
 ghost use mathlib.Core.Option.{none as nothing};
-ghost use Prim.Native.Nat.{_≤_};
+ghost use Prim.Native.Nat.{_≤_, _<_};
 ghost use lib.ListN.{length};
-ghost use Rattle.machine.specs.Table.{headerLength, nodeLength, nodeCount, taskCount};
+ghost use Rattle.machine.specs.Table.{headerLength, nodeLength, nodeCount, taskCount, mostLanes};
 ghost use Rattle.machine.specs.Shape.{
+  lanesOk,
   sizesOk,
   lengthOk,
   headerOk,
@@ -33,39 +36,81 @@ ghost use Rattle.machine.specs.Shape.{
 ghost use Rattle.machine.specs.Calls.{tableRefusal};
 ghost use Rattle.layout.specs.Words.{HoldsRecord};
 ghost use Rattle.answers.specs.Refusals.{numberOf};
-ghost use Rattle.shape.specs.Contracts.{firstOk, taskOk};
+ghost use Rattle.shape.specs.Contracts.{firstOk, hatsOk, taskOk};
 ghost use Rattle.steps.specs.Owners.{OwnersOk};
 
-// 01: S slots (2 to 1,024), T tasks (1 to 16), growth (0 to 64).
-pub fn sizes_ok(slots: u32, tasks: u32, growth: u32) -> bool
-    ensures { λ r. ⌜ r ≡ sizesOk slots tasks growth ⌝ }
+// 02: one to four lanes.
+pub fn lanes_ok(lanes: u32) -> bool
+    ensures { λ r. ⌜ r ≡ lanesOk lanes ⌝ }
 {
-    2 <= slots && slots <= 1_024 && 1 <= tasks && tasks <= 16 && growth <= 64
+    (1 <= lanes) & (lanes <= 4)
 }
 
-// 01's refusal 3: under 28 words, header S, T or growth out of range, or length not matching.
+// 01: S slots (2 to 1,024), T tasks (1 to 16), growth (0 to 64). 02: S is at least twice the lanes.
+pub fn sizes_ok(slots: u32, tasks: u32, growth: u32, lanes: u32) -> bool
+    ensures { λ r. ⌜ r ≡ sizesOk slots tasks growth lanes ⌝ }
+{
+    lanes <= slots / 2 && slots <= 1_024 && 1 <= tasks && tasks <= 16 && growth <= 64
+}
+
+// 01's refusal 3: under 37 words, header S, T, growth or lanes out of range, or length not matching.
 pub fn length_ok(table: &[u32]) -> bool
     ensures { λ r. ⌜ r ≡ lengthOk (now (table .entry)) ⌝ }
 {
     if table.len() < LEAST_LENGTH {
         return false;
     }
-    if !sizes_ok(table[NODE_COUNT], table[TASK_COUNT], table[GROWTH]) {
+    if !lanes_ok(table[LANE_COUNT]) {
+        return false;
+    }
+    if !sizes_ok(
+        table[NODE_COUNT],
+        table[TASK_COUNT],
+        table[GROWTH],
+        table[LANE_COUNT],
+    ) {
         return false;
     }
     table.len() == table_length(table[NODE_COUNT], table[TASK_COUNT])
 }
 
-// 01: hats are below S. 02: the task last dispatched is below T, so only the last word is 0.
+// 01: hats are below S. 02: unused ones none. Those of lane l.
+fn hats_ok(table: &[u32], l: u32) -> bool
+    requires { ⌜ (headerLength ≤ length (now table)) × (l < mostLanes) ⌝ }
+    ensures { λ r. ⌜ r ≡ hatsOk (now (table .entry)) l ⌝ }
+{
+    let at = HATS + 2 * (l as usize);
+    if l < table[LANE_COUNT] {
+        let slots = table[NODE_COUNT];
+        return (table[at] < slots) & (table[at + 1] < slots);
+    }
+    (table[at] == Task::NONE) & (table[at + 1] == Task::NONE)
+}
+
+// The hats of every lane.
+fn all_hats_ok(table: &[u32]) -> bool
+    requires { ⌜ headerLength ≤ length (now table) ⌝ }
+    ensures { λ r. ⌜ r ≡ allBelow mostLanes (hatsOk (now (table .entry))) ⌝ }
+{
+    let mut l = 0;
+    while l < 4 {
+        if !hats_ok(table, l) {
+            return false;
+        }
+        l += 1;
+    }
+    true
+}
+
+// 02: the task last dispatched is below T, and the last two words are 0.
 fn header_ok(table: &[u32]) -> bool
     requires { ⌜ headerLength ≤ length (now table) ⌝ }
     ensures { λ r. ⌜ r ≡ headerOk (now (table .entry)) ⌝ }
 {
-    let slots = table[NODE_COUNT];
     table[DISPATCHED] < table[TASK_COUNT]
-        && table[WORD_7] == 0
-        && table[LEFT_HAT] < slots
-        && table[RIGHT_HAT] < slots
+        && table[WORD_14] == 0
+        && table[WORD_15] == 0
+        && all_hats_ok(table)
 }
 
 // 01: links and V are as above. Of the node that words begin with.
@@ -78,9 +123,9 @@ fn node_ok(words: &[u32], slots: u32) -> bool
         & value_ok(nodes::value(words, 0))
 }
 
-// Every node, in one pass that does not stop at the first that fails: nearly all tables pass, and a loop that always goes
-// on tests several nodes at once. What is left of the words is a slice that moves on: with a node's number instead, the
-// compiler would read each word by itself, and not four in one.
+// Every node, in one pass that does not stop at the first that fails: nearly all tables pass, and a loop that always
+// goes on tests several nodes at once. What is left of the words is a slice that moves on: with a node's number
+// instead, the compiler would read each word by itself, and not four in one.
 fn nodes_ok(table: &[u32]) -> bool
     requires { ⌜ lengthOk (now table) ≡ true ⌝ }
     ensures { λ r. ⌜ r ≡ allBelow (nodeCount (now (table .entry))) (nodeOk (now (table .entry))) ⌝ }
@@ -102,7 +147,13 @@ fn task_ok(table: &[u32], owners: &Owners, k: u32) -> bool
     requires { ⌜ HoldsRecord (now table) k × OwnersOk (now owners) ⌝ }
     ensures { λ r. ⌜ r ≡ taskOk (now (table .entry)) k ⌝ }
 {
-    records::record_ok(owners, task(table, k), table[NODE_COUNT], table[GROWTH])
+    records::record_ok(
+        owners,
+        task(table, k),
+        table[NODE_COUNT],
+        table[GROWTH],
+        table[LANE_COUNT],
+    )
 }
 
 // The record of every task, in one pass.

@@ -9,6 +9,7 @@ use steps::owners::is_step_of;
 ghost use mathlib.Core.Path.{_≡_};
 ghost use mathlib.Core.Bool.{_&&_};
 ghost use Prim.Native.Nat.{_≤_, _<_};
+ghost use lib.Dec.{ltb};
 ghost use lib.ListN.{getD};
 ghost use Rattle.machine.specs.Sides.{sideOf};
 ghost use Rattle.machine.specs.Shape.{
@@ -55,27 +56,29 @@ fn value_read_ok(side: u32, step: u32, v: Stored) -> bool
     }
 }
 
-// 01: a task's four registers A, B, C and D, slot numbers or none.
-fn registers_ok(slots: u32, registers: [u32; 4]) -> bool
+// 01: a task's four registers A, B, C and D, slot numbers or none. 02: its lane, below the lanes.
+fn registers_ok(slots: u32, lanes: u32, registers: [u32; 4], lane: u32) -> bool
     ensures { λ r. ⌜
         r
         ≡ nodeOrNone slots (getD registers 0 0)
         && nodeOrNone slots (getD registers 1 0)
         && nodeOrNone slots (getD registers 2 0)
         && nodeOrNone slots (getD registers 3 0)
+        && ltb lane lanes
         ⌝ }
 {
     node_or_none(slots, registers[Task::A])
         & node_or_none(slots, registers[Task::B])
         & node_or_none(slots, registers[Task::C])
         & node_or_none(slots, registers[Task::D])
+        & (lane < lanes)
 }
 
 // The record of a task that is in a call.
-fn busy_ok(owners: &Owners, t: Task, slots: u32, growth: u32) -> bool
+fn busy_ok(owners: &Owners, t: Task, slots: u32, growth: u32, lanes: u32) -> bool
     requires { ⌜ OwnersOk (now owners) ⌝ }
     requires { ⌜ 1 ≤ t .operation ⌝ }
-    ensures { λ r. ⌜ r ≡ busyOk slots growth (recordOf t) ⌝ }
+    ensures { λ r. ⌜ r ≡ busyOk slots growth lanes (recordOf t) ⌝ }
 {
     // 01: operation is 0 to 4, side is 0 or 1.
     if t.operation > Task::REMOVE {
@@ -94,16 +97,16 @@ fn busy_ok(owners: &Owners, t: Task, slots: u32, growth: u32) -> bool
     is_step_of(owners, t.operation, t.step)
         && counted_ok(t.step, goal, t.counted)
         && value_read_ok(t.side, t.step, v)
-        && registers_ok(slots, registers)
+        && registers_ok(slots, lanes, registers, t.lane)
 }
 
 // 01: an idle record is fresh; any other is that of a task in a call.
-pub(crate) fn record_ok(owners: &Owners, t: Task, slots: u32, growth: u32) -> bool
+pub(crate) fn record_ok(owners: &Owners, t: Task, slots: u32, growth: u32, lanes: u32) -> bool
     requires { ⌜ OwnersOk (now owners) ⌝ }
-    ensures { λ r. ⌜ r ≡ recordOk slots growth (recordOf t) ⌝ }
+    ensures { λ r. ⌜ r ≡ recordOk slots growth lanes (recordOf t) ⌝ }
 {
     if t.operation == Task::IDLE {
         return t.is_fresh();
     }
-    busy_ok(owners, t, slots, growth)
+    busy_ok(owners, t, slots, growth, lanes)
 }

@@ -1,18 +1,18 @@
 -- A list filled from the front: what is written so far, and what is still to come.
 use mathlib.Core.Path.{_≡_, sym, ap, _∙_}
-use mathlib.Core.List.{List, _++_, append-assoc, append-nil}
+use mathlib.Core.List.{List, [], _∷_, _++_, append-assoc, append-nil}
 use Prim.Native.Nat.{ℕ, suc, _+_, _-_, _*_, _≤_}
 use native.Mathlib.Omega.{arith}
-use lib.ListN.{length, take}
+use lib.ListN.{length, set, take}
 use lib.Seq.{sets, length-sets, length-take-le, take-append-le, take-append-add}
 use borrow.Rule.Slice.PartMut.{putMid, postOf}
 use Rattle.machine.specs.Sides.{left, right}
 use Rattle.machine.specs.Values.{never, X}
 use Rattle.machine.specs.Tasks.{none, fresh, wordsOf}
-use Rattle.machine.specs.Table.{headerLength, nodeLength, headerWords, nodeWords, nodeAt}
-use Rattle.machine.specs.Calls.{times, startWords}
+use Rattle.machine.specs.Table.{headerLength, word14At, nodeLength, hatAt, headerWords, nodeWords, nodeAt}
+use Rattle.machine.specs.Calls.{times, startHat, startNodes, startWords}
+use Rattle.starting.specs.Fresh.{startHats}
 use Rattle.layout.proofs.Laws.Fronts.{front-grows}
-use Rattle.starting.specs.Fresh.{startNodes}
 
 -- The front up to n, and m times the list e after it.
 abbrev pub filling : (t : List ℕ) (n m : ℕ) → List ℕ → List ℕ
@@ -35,40 +35,94 @@ pub filling-done : (t e : List ℕ) (n m : ℕ) → m ≡ 0 → filling t n m e 
 unfolding times
 filling-done t e n m q = rw q (append-nil (take n t))
 
--- ---- The nodes' part: the sentinels are written, and the others are to come.
-pub sentinels-written :
-    (ns : List ℕ) (S : ℕ)
-    → nodeLength * 2 ≤ length ns
-    → let first = nodeWords none 1 (X left) in
-    let second = nodeWords 0 none (X right) in
-    filling (sets (sets ns (nodeLength * 0) first) (nodeLength * 1) second) (nodeLength * 2) (S - 2) (nodeWords none none never)
-    ≡ startNodes S
-sentinels-written ns S h =
-    let first = nodeWords none 1 (X left) in
-    let second = nodeWords 0 none (X right) in
-    let rest = times (S - 2) (nodeWords none none never) in
-    let l = length-sets ns 0 first in
-    ap (λ (t : List ℕ). t ++ rest) (front-grows (sets ns 0 first) second nodeLength (omega arith))
-    ∙ ap (λ (t : List ℕ). (t ++ second) ++ rest) (front-grows ns first 0 (omega arith))
+-- ---- The sentinels: those of the lanes before l are written, and those of m lanes are to come.
+abbrev pub sentinels : (ns : List ℕ) (n m l : ℕ) → List ℕ
+sentinels ns n m l = take n ns ++ startNodes m l
+
+-- The words of lane l's two sentinels, written one after the other.
+abbrev pub written : (ns : List ℕ) (l : ℕ) → List ℕ
+written ns l =
+    sets (sets ns (nodeLength * (2 * l)) (nodeWords none (2 * l + 1) (X left))) (nodeLength * (2 * l + 1))
+    (nodeWords (2 * l) none (X right))
+
+pub sentinels-more :
+    (ns : List ℕ) (l m m′ : ℕ)
+    → nodeLength * (2 * (l + 1)) ≤ length ns
+    → m ≡ suc m′
+    → sentinels (written ns l) (nodeLength * (2 * (l + 1))) m′ (l + 1) ≡ sentinels ns (nodeLength * (2 * l)) m l
+unfolding startNodes
+sentinels-more ns l m m′ h q =
+    let first = nodeWords none (2 * l + 1) (X left) in
+    let second = nodeWords (2 * l) none (X right) in
+    let at = nodeLength * (2 * l) in
+    let long = length-sets ns at first in
+    let e₁ : nodeLength * (2 * l + 1) ≡ at + nodeLength = omega arith in
+    let e₂ : nodeLength * (2 * (l + 1)) ≡ at + nodeLength + nodeLength = omega arith in
+    let e₃ : l + 1 ≡ suc l = omega arith in
+    rw (e₁, e₂, e₃, q)
+    (ap (λ (t : List ℕ). t ++ startNodes m′ (suc l))
+    (front-grows (sets ns at first) second (at + nodeLength) (omega arith))
+    ∙ ap (λ (t : List ℕ). (t ++ second) ++ startNodes m′ (suc l)) (front-grows ns first at (omega arith))
+    ∙ append-assoc (take at ns ++ first) second (startNodes m′ (suc l))
+    ∙ append-assoc (take at ns) first (second ++ startNodes m′ (suc l)))
+
+pub sentinels-done : (ns : List ℕ) (n m l : ℕ) → m ≡ 0 → sentinels ns n m l ≡ take n ns
+unfolding startNodes
+sentinels-done ns n m l q = rw q (append-nil (take n ns))
+
+-- ---- The header: the hats of a lane, and the words before and after the four pairs.
+pub hats-written :
+    (t : List ℕ) {at n left′ right′ x y : ℕ}
+    → at ≡ n
+    → x ≡ left′
+    → y ≡ right′
+    → set (set t at x) (at + 1) y ≡ sets t n (left′ ∷ right′ ∷ [])
+hats-written t {at} {n} {left′} {right′} e h k =
+    let next : n + 1 ≡ suc n = omega arith in
+    rw (e, h, k) (ap (λ (m : ℕ). set (set t n left′) m right′) next)
+
+abbrev pair : (lanes l : ℕ) → List ℕ
+pair lanes l = startHat lanes l left ∷ startHat lanes l right ∷ []
+
+pub pairs-written :
+    (lanes : ℕ) (t₀ : List ℕ) {t₁ t₂ t₃ t₄ : List ℕ}
+    → t₁ ≡ sets t₀ (hatAt 0 left) (pair lanes 0)
+    → t₂ ≡ sets t₁ (hatAt 1 left) (pair lanes 1)
+    → t₃ ≡ sets t₂ (hatAt 2 left) (pair lanes 2)
+    → t₄ ≡ sets t₃ (hatAt 3 left) (pair lanes 3)
+    → t₄ ≡ sets t₀ (hatAt 0 left) (startHats lanes)
+pairs-written lanes t₀ e₁ e₂ e₃ e₄ = rw (e₄, e₃, e₂, e₁)
+
+pub header-written :
+    (S T g lanes : ℕ) (t₀ : List ℕ) {t₁ : List ℕ}
+    → t₁ ≡ sets (sets t₀ 0 (S ∷ T ∷ g ∷ lanes ∷ 0 ∷ (T - 1) ∷ [])) (hatAt 0 left) (startHats lanes)
+    → sets t₁ word14At (0 ∷ 0 ∷ []) ≡ sets t₀ 0 (headerWords S T g lanes 0 (T - 1) (startHat lanes))
+header-written S T g lanes t₀ e = rw e
 
 -- ---- The table, piece by piece: the header, the nodes' part, the tasks.
-module _ (S T g : ℕ) (t₀ t₁ ns t₂ : List ℕ) (m : ℕ) (long : headerLength ≤ length t₀) where
+module _ (S T g lanes : ℕ) (t₀ t₁ ns t₂ : List ℕ) (m : ℕ) (long : headerLength ≤ length t₀) where
+  abbrev head : List ℕ
+  head = headerWords S T g lanes 0 (T - 1) (startHat lanes)
+
+  abbrev unused : List ℕ
+  unused = times (S - 2 * lanes) (nodeWords none none never)
+
   pub started :
-      t₁ ≡ sets t₀ 0 (headerWords S T g 0 1 0 (T - 1))
+      t₁ ≡ sets t₀ 0 head
       → nodeLength * S ≤ length ns
-      → take (nodeLength * S) ns ≡ startNodes S
+      → take (nodeLength * S) ns ≡ startNodes lanes 0 ++ unused
       → t₂ ≡ take (nodeAt S) (putMid headerLength m t₁ ns) ++ times T (wordsOf fresh)
-      → t₂ ≡ startWords S T g
+      → t₂ ≡ startWords S T g lanes
   unfolding startWords
   started e₁ enough e e₂ =
-      let l₁ : length t₁ ≡ length t₀ = rw e₁ (length-sets t₀ 0 (headerWords S T g 0 1 0 (T - 1))) in
-      let header : take headerLength t₁ ≡ headerWords S T g 0 1 0 (T - 1)
-      = rw e₁ (front-grows t₀ (headerWords S T g 0 1 0 (T - 1)) 0 (omega arith)) in
-      let eight : length (take headerLength t₁) ≡ headerLength = length-take-le headerLength t₁ (omega arith) in
+      let l₁ : length t₁ ≡ length t₀ = rw e₁ (length-sets t₀ 0 head) in
+      let header : take headerLength t₁ ≡ head = rw e₁ (front-grows t₀ head 0 (omega arith)) in
+      let header-long : length (take headerLength t₁) ≡ headerLength = length-take-le headerLength t₁ (omega arith) in
       let after = ns ++ postOf headerLength m t₁ in
       let front : take (nodeAt S) (putMid headerLength m t₁ ns) ≡ take headerLength t₁ ++ take (nodeLength * S) ns
-      = ap (λ (n : ℕ). take (n + nodeLength * S) (take headerLength t₁ ++ after)) (sym eight)
+      = ap (λ (n : ℕ). take (n + nodeLength * S) (take headerLength t₁ ++ after)) (sym header-long)
       ∙ take-append-add (take headerLength t₁) after (nodeLength * S)
       ∙ ap (λ (l : List ℕ). take headerLength t₁ ++ l)
       (take-append-le (nodeLength * S) ns (postOf headerLength m t₁) enough) in
-      rw (e₂, front, header, e)
+      let nodes = append-assoc (startNodes lanes 0) unused (times T (wordsOf fresh)) in
+      rw (e₂, front, header, e) (ap (λ (l : List ℕ). head ++ l) nodes)

@@ -1,12 +1,12 @@
--- The nodes' words of a table that start writes, as a part of the table.
-use mathlib.Core.List.{List, _++_}
-use Prim.Native.Nat.{ℕ, _-_}
+-- The hats' words of a table that start writes, as a part of its header.
+use mathlib.Core.List.{List, [], _∷_}
+use Prim.Native.Nat.{ℕ}
 use Rattle.machine.specs.Sides.{left, right}
-use Rattle.machine.specs.Values.{never, X}
-use Rattle.machine.specs.Tasks.{none}
-use Rattle.machine.specs.Table.{nodeWords}
-use Rattle.machine.specs.Calls.{times}
+use Rattle.machine.specs.Calls.{startHat}
 
-abbrev pub startNodes : (S : ℕ) → List ℕ
-startNodes S =
-    nodeWords none 1 (X left) ++ (nodeWords 0 none (X right) ++ times (S - 2) (nodeWords none none never))
+abbrev pub startHats : (lanes : ℕ) → List ℕ
+startHats lanes =
+    startHat lanes 0 left ∷ startHat lanes 0 right
+    ∷ startHat lanes 1 left ∷ startHat lanes 1 right
+    ∷ startHat lanes 2 left ∷ startHat lanes 2 right
+    ∷ startHat lanes 3 left ∷ startHat lanes 3 right ∷ []

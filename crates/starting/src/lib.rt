@@ -4,21 +4,25 @@ mod fresh;
 use fresh::write_all;
 use layout::places::table_length;
 use machine::Reply;
+use shape::lanes_ok;
 use shape::sizes_ok;
 ghost use mathlib.Core.Path.{_≡_};
 ghost use Rattle.machine.specs.Results.{changedOf};
 ghost use Rattle.machine.specs.Calls.{start};
 
-// 01: refusals 1 and 2, then the words of a table with all tasks idle and no bag.
-pub fn start(table: &mut [u32], slots: u32, tasks: u32, growth: u32) -> Reply
-    ensures { λ r. ⌜ changedOf r (now (table .exit)) ≡ start (now (table .entry)) slots tasks growth ⌝ }
+// 02: refusal 25; 01: refusals 1 and 2, then the words of a table with all tasks idle and no bag.
+pub fn start(table: &mut [u32], slots: u32, tasks: u32, growth: u32, lanes: u32) -> Reply
+    ensures { λ r. ⌜ changedOf r (now (table .exit)) ≡ start (now (table .entry)) slots tasks growth lanes ⌝ }
 {
-    if !sizes_ok(slots, tasks, growth) {
+    if !lanes_ok(lanes) {
+        return Reply::Refused(25);
+    }
+    if !sizes_ok(slots, tasks, growth, lanes) {
         return Reply::Refused(1);
     }
     if table.len() != table_length(slots, tasks) {
         return Reply::Refused(2);
     }
-    write_all(table, slots, tasks, growth);
+    write_all(table, slots, tasks, growth, lanes);
     Reply::Accepted
 }

@@ -24,4 +24,4 @@ foundAt31 t f = if getD (t .registers) 3 0 ≟ none then none else f
 
 -- What a tick of a busy task comes to.
 abbrev pub made : List ℕ → (k hint : ℕ) → Ticked
-made ws k h = applied (task ws k .side) ws k (effectOf ws k h)
+made ws k h = applied (task ws k .lane) (task ws k .side) ws k (effectOf ws k h)

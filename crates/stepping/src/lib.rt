@@ -4,9 +4,9 @@ use figure::line;
 use layout::operations::goal_of;
 use layout::places::GROWTH;
 use layout::places::HEADER;
-use layout::places::LEFT_HAT;
 use layout::places::NODE_COUNT;
 use layout::places::TASK_COUNT;
+use layout::places::hat_at;
 use layout::places::node_at;
 use layout::table;
 use machine::Answer;
@@ -36,8 +36,8 @@ fn found_at_31(table: &[u32], old: Task, hint: u32) -> u32
     first_free(table, hint as usize)
 }
 
-// The tick of the busy task k, whose record is given. Only lines 28 and 31 search for a node, and the search stands beside each:
-// before all lines it would take the processor's registers from the others.
+// The tick of the busy task k, whose record is given. Only lines 28 and 31 search for a node, and the search stands
+// beside each: before all lines it would take the processor's registers from the others.
 fn make(table: &mut [u32], k: u32, old: Task, hint: u32) -> Answer
     requires { ⌜ MayTick (now table) k hint ⌝ }
     requires { ⌜ old ≡ structOf (recordWords (now table) k) ⌝ }
@@ -46,23 +46,24 @@ fn make(table: &mut [u32], k: u32, old: Task, hint: u32) -> Answer
     let side = old.side;
     let argument = old.argument;
     let goal = goal_of(old.operation, table[GROWTH], argument);
-    let hat = table[LEFT_HAT + side as usize];
+    let at = hat_at(old.lane, side);
+    let hat = table[at];
     let end = node_at(table[NODE_COUNT]);
     let step = old.step;
     match step {
         28 => {
             let found = first_free(table, hint as usize);
             let done = line28(&mut table[HEADER..end], hat, old, goal, found);
-            finish(table, side, k, done)
+            finish(table, at, k, done)
         }
         31 => {
             let found = found_at_31(table, old, hint);
             let done = line31(&mut table[HEADER..end], hat, old, goal, found);
-            finish(table, side, k, done)
+            finish(table, at, k, done)
         }
         _ => {
             let done = line(&mut table[HEADER..end], hat, old, goal);
-            finish(table, side, k, done)
+            finish(table, at, k, done)
         }
     }
 }

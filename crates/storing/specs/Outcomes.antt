@@ -2,11 +2,10 @@
 use mathlib.Core.Path.{_≡_}
 use mathlib.Core.Bool.{Bool, true, cond}
 use mathlib.Core.List.{List}
-use Prim.Native.Nat.{ℕ, _+_}
+use Prim.Native.Nat.{ℕ, _<_}
 use lib.ListN.{set}
 use lib.Seq.{sets}
-use Rattle.machine.specs.Sides.{left}
-use Rattle.machine.specs.Table.{nodeCount, hatAt, recordAt, recordWords}
+use Rattle.machine.specs.Table.{headerLength, nodeCountAt, nodeCount, recordAt, recordWords}
 use Rattle.machine.specs.Calls.{Ticked, tickCounted}
 use Rattle.machine.specs.Results.{tickedOf}
 use Rattle.answers.specs.Refusals.{isRefused}
@@ -22,11 +21,15 @@ GoesOn ws k going t = going ≡ true → SameCall (structOf (recordWords ws k)) 
 abbrev pub recorded : List ℕ → (k : ℕ) → Tasks.Task → List ℕ
 recorded ws k t = sets ws (recordAt (nodeCount ws) k) (recordOf t)
 
--- The words with a side's hat, a record and one tick more in them.
-abbrev pub stored : List ℕ → (side hat k : ℕ) → Tasks.Task → List ℕ
-stored ws side h k t = tickCounted (recorded (set ws (hatAt left + side) h) k t)
+-- A hat's place is in the header, and not the first, where the nodes are counted.
+abbrev pub IsHat : ℕ → Type 0
+IsHat at = (nodeCountAt < at) × (at < headerLength)
+
+-- The words with a hat at its place, a record and one tick more in them.
+abbrev pub stored : List ℕ → (at hat k : ℕ) → Tasks.Task → List ℕ
+stored ws at h k t = tickCounted (recorded (set ws at h) k t)
 
 -- What a line's outcome comes to: refused, the words stay.
-abbrev pub finished : List ℕ → (side k : ℕ) → Done → Ticked
-finished ws side k d =
-    cond (isRefused (d .answer)) (tickedOf (d .answer) ws) (tickedOf (d .answer) (stored ws side (d .hat) k (d .task)))
+abbrev pub finished : List ℕ → (at k : ℕ) → Done → Ticked
+finished ws at k d =
+    cond (isRefused (d .answer)) (tickedOf (d .answer) ws) (tickedOf (d .answer) (stored ws at (d .hat) k (d .task)))

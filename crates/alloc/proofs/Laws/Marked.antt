@@ -2,7 +2,7 @@
 use mathlib.Core.Path.{_≡_, refl, sym, ap, _∙_}
 use mathlib.Core.Bool.{Bool, cond}
 use mathlib.Core.List.{List, [], _∷_, _++_}
-use Prim.Native.Nat.{ℕ, suc, _+_, _-_, _<_, _≤_}
+use Prim.Native.Nat.{ℕ, suc, _+_, _*_, _-_, _<_, _≤_}
 use native.Mathlib.Omega.{arith}
 use native.Mathlib.Numerals.{add-one}
 use lib.ListN.{length, getD}
@@ -12,8 +12,20 @@ use Rattle.machine.specs.Choice.{_<?_}
 use Rattle.machine.specs.Sides.{Side, left, right}
 use Rattle.machine.specs.Tasks.{Task, none, inA, inB, inC, inD}
 use Rattle.machine.specs.Registers.{heldIn}
-use Rattle.machine.specs.Table.{headerLength, nodeCount, taskCount, linkWord, link, recordWords, task}
-use Rattle.machine.specs.Allocate.{heldBy, heldFrom, roots, Marking, mark, markAll, visit}
+use Rattle.machine.specs.Table.{
+  headerLength,
+  nodeCount,
+  taskCount,
+  laneCount,
+  mostLanes,
+  hatWord,
+  hat,
+  linkWord,
+  link,
+  recordWords,
+  task,
+}
+use Rattle.machine.specs.Allocate.{hatsFrom, heldBy, heldFrom, roots, Marking, mark, markAll, visit}
 use Rattle.machine.proofs.Basics.Choices.{if-yes}
 use Rattle.machine.proofs.SlotRule.Marking.{Room, room-markAll}
 use Rattle.record.specs.declared.Task as Coded
@@ -41,6 +53,36 @@ pub roots-marked : (ws : List ℕ) (m v u : Marking) → v ≡ markAll (nodeCoun
     → u ≡ markAll (nodeCount ws) v (heldFrom ws (taskCount ws) 0) → u ≡ markAll (nodeCount ws) m (roots ws)
 unfolding roots
 roots-marked ws m v u e f = rw (f, e, markAll-append (nodeCount ws) m (hats ws) (heldFrom ws (taskCount ws) 0))
+
+-- ---- One turn of the loop over the lanes, with l of them passed: the two hats read are marked.
+module _ (ws : List ℕ) (l : ℕ) (m : Marking) where
+  abbrev hats-left : ℕ → List ℕ
+  hats-left i = hatsFrom ws (laneCount ws - i) i
+
+  hat-read : l < mostLanes → (s : Side) → hat ws l s ≡ hatWord ws l s
+  unfolding hat
+  hat-read h s = if-yes (l <? mostLanes) (hatWord ws l s) none h
+
+  pub hats-kept : (v u : Marking) → l < laneCount ws → laneCount ws ≤ mostLanes
+      → v ≡ markAll (nodeCount ws) m (getD ws (6 + 2 * l) 0 ∷ getD ws (6 + 2 * l + 1) 0 ∷ [])
+      → markAll (nodeCount ws) m (hats-left l) ≡ u
+      → markAll (nodeCount ws) v (hats-left (l + 1)) ≡ u
+  unfolding hatsFrom
+  hats-kept v u h few e q =
+      let n : laneCount ws - l ≡ suc (laneCount ws - suc l) = omega arith in
+      let z : 6 + 2 * l + 0 ≡ 6 + 2 * l = omega arith in
+      let a : hat ws l left ≡ getD ws (6 + 2 * l) 0 = hat-read (omega arith) left ∙ ap (λ (i : ℕ). getD ws i 0) z in
+      let b : hat ws l right ≡ getD ws (6 + 2 * l + 1) 0 = hat-read (omega arith) right in
+      let read : v ≡ markAll (nodeCount ws) m (hat ws l left ∷ hat ws l right ∷ []) =
+      e
+      ∙ ap (λ (x : ℕ). markAll (nodeCount ws) m (x ∷ getD ws (6 + 2 * l + 1) 0 ∷ [])) (sym a)
+      ∙ ap (λ (x : ℕ). markAll (nodeCount ws) m (hat ws l left ∷ x ∷ [])) (sym b) in
+      rw (read, add-one)
+      (sym (markAll-append (nodeCount ws) m (hat ws l left ∷ hat ws l right ∷ []) (hats-left (suc l))) ∙ (rw n at q))
+
+  pub hats-end : (u : Marking) → laneCount ws ≤ l → markAll (nodeCount ws) m (hats-left l) ≡ u → m ≡ u
+  unfolding hatsFrom markAll
+  hats-end u h q = let n : laneCount ws - l ≡ 0 = omega arith in rw n at q
 
 -- ---- What a task's registers hold, one after another.
 pub registers-marked : (S : ℕ) (m₀ m₁ m₂ m₃ m₄ : Marking) (t : Task) → m₁ ≡ mark S m₀ (heldIn t inA)

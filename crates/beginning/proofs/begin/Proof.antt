@@ -1,6 +1,9 @@
--- `beginning::begin` meets its contract: refusals 3 and 4, then `begin_on`.
+-- `beginning::begin` meets its contract: refusals 3, 4 and 26, then `begin_on`.
+use native.Mathlib.Omega.{arith}
+use Rattle.machine.specs.Shape.{WellFormed}
+use Rattle.shape.proofs.Laws.TableWords.{header-long}
 use Rattle.shape.proofs.Laws.PassedTable.{passed}
-use Rattle.beginning.proofs.BeginTests.{begin-refused}
+use Rattle.beginning.proofs.BeginTests.{begin-refused, begin-no-lane}
 use borrow.Author.Needs.{needs}
 use Rattle.beginning.proofs.begin.Statement.{statement}
 use Rattle.beginning.proofs.begin.Tie as tie
@@ -13,23 +16,50 @@ same-length c = search needs
 
 returns : tie.Need-returns
 returns c =
-    let p = c .before .before .before .before in
-    let a = p .args in
-    begin-refused (a .table .now) (c .before .table-refusal .ensures) (a .task) (a .operation) (a .side) (a .argument)
-    (c .if1 .taken)
+    let a = c .before .before .before .before .args in
+    begin-refused (a .table .now) (c .before .table-refusal .ensures)
+    (a .task) (a .l) (a .operation) (a .side) (a .argument) (c .if1 .taken)
 
-begin-on-requires : tie.Need-begin-on-requires
-begin-on-requires c κs =
-    let p = c .before .before .before .before .before in
-    passed (p .args .table .now) (c .before .before .table-refusal .ensures) (c .before .if1 .left)
+-- What passed.
+passes : (c : tie.Else1) → WellFormed (c .before .before .before .before .args .table .now)
+passes c =
+    passed (c .before .before .before .before .args .table .now) (c .before .table-refusal .ensures) (c .if1 .left)
+
+slice-read-if2 : tie.Need-slice-read-if2
+slice-read-if2 c =
+    let e = c .before in
+    let P = passes e in
+    omega (arith, header-long (e .before .before .before .before .args .table .now) (P .length-passes))
 
 same-length-2 : tie.Need-same-length-2
 same-length-2 c = search needs
 
 returns-2 : tie.Need-returns-2
-returns-2 c = search needs
+returns-2 c =
+    let e = c .before .before in
+    let a = e .before .before .before .before .args in
+    begin-no-lane (a .table .now) (e .before .table-refusal .ensures)
+    (a .task) (a .l) (a .operation) (a .side) (a .argument) (e .if1 .left) (c .if2 .taken)
+
+begin-on-requires : tie.Need-begin-on-requires
+begin-on-requires c κs = let l = c .before in (passes (l .before .before), l .if2 .left)
+
+same-length-3 : tie.Need-same-length-3
+same-length-3 c = search needs
+
+returns-3 : tie.Need-returns-3
+returns-3 c = search needs
 
 pub begin-spec : {M : Type 1} → statement M
 begin-spec =
     tie.close
-    (tie.spec table-refusal-requires same-length returns begin-on-requires same-length-2 returns-2)
+    (tie.spec
+    table-refusal-requires
+    same-length
+    returns
+    slice-read-if2
+    same-length-2
+    returns-2
+    begin-on-requires
+    same-length-3
+    returns-3)

@@ -29,13 +29,14 @@ use Rattle.beginning.proofs.begin_on.Tie as tie
 slice-read-if1 : tie.Need-slice-read-if1
 slice-read-if1 c =
     let p = c .before .before in
-    omega (arith, header-long (p .args .table .now) (p .pre .length-passes))
+    omega (arith, header-long (p .args .table .now) (p .pre .0 .length-passes))
 
 returns : tie.Need-returns
 returns c =
     let p = c .before .before .before in
     let a = p .args in
-    begin-5 (a .table .now) (p .pre) (a .task) (a .operation) (a .side) (a .argument) (c .if1 .taken)
+    begin-5 (a .table .now) (p .pre .0) (a .task) (a .l) (a .operation) (a .side) (a .argument)
+    (p .pre .1) (c .if1 .taken)
 
 call-ok-requires : tie.Need-call-ok-requires
 call-ok-requires c κs = search needs
@@ -46,8 +47,8 @@ returns-2 c =
     let p = e .before .before .before in
     let a = p .args in
     let f = c .before .call-ok in
-    begin-6 (a .table .now) (p .pre) (a .task) (a .operation) (a .side) (a .argument) (e .if1 .left)
-    (sym (f .ensures) ∙ not-true (f .result) (c .if2 .taken))
+    begin-6 (a .table .now) (p .pre .0) (a .task) (a .l) (a .operation) (a .side) (a .argument)
+    (p .pre .1) (e .if1 .left) (sym (f .ensures) ∙ not-true (f .result) (c .if2 .taken))
 
 argument-ok-requires : tie.Need-argument-ok-requires
 argument-ok-requires c κs = search needs
@@ -72,7 +73,8 @@ returns-3 c =
     let p = e1 .before .before .before in
     let a = p .args in
     let g = c .before .argument-ok in
-    begin-7 (a .table .now) (p .pre) (a .task) (a .operation) (a .side) (a .argument) (e1 .if1 .left) (call-passed e2)
+    begin-7 (a .table .now) (p .pre .0) (a .task) (a .l) (a .operation) (a .side) (a .argument) (p .pre .1)
+    (e1 .if1 .left) (call-passed e2)
     (sym (g .ensures) ∙ not-true (g .result) (c .if3 .taken))
 
 twice-requires : tie.Need-twice-requires
@@ -89,14 +91,15 @@ returns-4 c =
     let e1 = e2 .before .before in
     let p = e1 .before .before .before in
     let a = p .args in
-    begin-twice (a .table .now) (p .pre) (a .task) (a .operation) (a .side) (a .argument) (e1 .if1 .left)
+    begin-twice (a .table .now) (p .pre .0) (a .task) (a .l) (a .operation) (a .side) (a .argument) (p .pre .1)
+    (e1 .if1 .left)
     (call-passed e2) (argument-passed e3) (r .twice .ensures) (c .if4 .taken)
 
 task-requires : tie.Need-task-requires
 task-requires c κs =
     let e1 = c .before .before .before .before .before .before .before .before in
     let p = e1 .before .before .before in
-    record-within (p .args .table .now) (p .pre .length-passes) (p .args .task) (e1 .if1 .left)
+    record-within (p .args .table .now) (p .pre .0 .length-passes) (p .args .task) (e1 .if1 .left)
 
 same-length-2 : tie.Need-same-length-2
 same-length-2 c = search needs
@@ -110,7 +113,8 @@ returns-5 c =
     let e1 = e2 .before .before in
     let p = e1 .before .before .before in
     let a = p .args in
-    begin-8 (a .table .now) (p .pre) (a .task) (a .operation) (a .side) (a .argument) (e1 .if1 .left) (call-passed e2)
+    begin-8 (a .table .now) (p .pre .0) (a .task) (a .l) (a .operation) (a .side) (a .argument) (p .pre .1)
+    (e1 .if1 .left) (call-passed e2)
     (argument-passed e3) (e4 .before .twice .ensures) (e4 .if4 .left)
     (λ q. c .if5 .taken (ap (λ (t : Tasks.Task). t .operation) (r .task .ensures) ∙ q))
 
@@ -129,7 +133,7 @@ set-task-requires c κs =
     let e4 = c .before .before .before .before .before .before in
     let e1 = e4 .before .before .before .before .before .before .before in
     let p = e1 .before .before .before in
-    record-within (p .args .table .now) (p .pre .length-passes) (p .args .task) (e1 .if1 .left)
+    record-within (p .args .table .now) (p .pre .0 .length-passes) (p .args .task) (e1 .if1 .left)
 
 same-length-3 : tie.Need-same-length-3
 same-length-3 c = search needs
@@ -149,7 +153,8 @@ returns-6 c =
     ap (changedOf Accepted)
     (w .set-task .ensures
     ∙ ap (λ (k : Tasks.Task). sets t (recordAt (nodeCount t) (a .task)) (recordOf k)) (w .before .begun .ensures))
-    ∙ begin-accepted t (p .pre) (a .task) (a .operation) (a .side) (a .argument) (e1 .if1 .left) (call-passed e2)
+    ∙ begin-accepted t (p .pre .0) (a .task) (a .l) (a .operation) (a .side) (a .argument) (p .pre .1)
+    (e1 .if1 .left) (call-passed e2)
     (argument-passed e3) (e4 .before .twice .ensures) (e4 .if4 .left)
     (sym (ap (λ (k : Tasks.Task). k .operation) (r .task .ensures)) ∙ e5 .if5 .left)
 

@@ -1,4 +1,4 @@
--- `beginning::begun` meets its contract: a fresh record, at its first step, with the three numbers.
+-- `beginning::begun` meets its contract: a fresh record, at its first step, with the numbers of the call.
 use Rattle.beginning.proofs.BeginTests.{begun-record}
 use borrow.Author.Needs.{needs}
 use Rattle.beginning.proofs.begun.Statement.{statement}
@@ -19,7 +19,8 @@ returns c =
     let a = p .args in
     let step = c .before .first-step .ensures in
     let fresh = c .before .before .fresh .ensures in
-    rw (c .at .ensures, fresh, step) (begun-record (a .operation) (a .side) (a .argument) (p .pre .0) (p .pre .1) (p .pre .2))
+    rw (c .at .ensures, fresh, step)
+    (begun-record (a .l) (a .operation) (a .side) (a .argument) (p .pre .0) (p .pre .1) (p .pre .2))
 
 pub begun-spec : {M : Type 1} → statement M
 begun-spec = tie.close (tie.spec fresh-requires first-step-requires at-requires returns)

@@ -3,7 +3,7 @@ use mathlib.Core.Path.{ap, _∙_}
 use mathlib.Core.Option.{none as nothing}
 use borrow.Author.Needs.{needs}
 use Rattle.machine.specs.Values.{number}
-use Rattle.machine.specs.Calls.{lane, seenRefusal}
+use Rattle.machine.specs.Calls.{allLanes, seenRefusal}
 use Rattle.answers.specs.Refusals.{numberOf}
 use Rattle.beginning.proofs.SeenTests.{twice-other, twice-push}
 use Rattle.beginning.proofs.twice.Statement.{statement}
@@ -23,7 +23,9 @@ returns-2 : tie.Need-returns-2
 returns-2 c =
     let e = c .before .before in
     let a = e .before .before .args in
-    let said = ap (λ n. numberOf (seenRefusal (a .table .now) n (lane (a .table .now)) nothing)) (c .before .number .ensures) in
+    let said =
+    ap (λ n. numberOf (seenRefusal (a .table .now) n (allLanes (a .table .now)) nothing))
+    (c .before .number .ensures) in
     c .seen .ensures ∙ said ∙ twice-push (a .table .now) (number (a .argument)) (a .operation) (e .if1 .left)
 
 pub twice-spec : {M : Type 1} → statement M

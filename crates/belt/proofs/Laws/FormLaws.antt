@@ -17,7 +17,15 @@ use Rattle.machine.proofs.Basics.Contradiction.{clash}
 use Rattle.machine.specs.Results.{changedOf, tickedOf}
 use Rattle.starting.proofs.StartTests.{start-1, start-accepted, most-nodes, most-tasks}
 use Rattle.printer.specs.Lines.{replyText, answerText}
-use Rattle.belt.specs.Forms.{Answered, startedFrom, startCommand, beginCommand, tickCommand}
+use Rattle.belt.specs.Forms.{
+  Answered,
+  lanesStarted,
+  theLane,
+  startedFrom,
+  startCommand,
+  beginCommand,
+  tickCommand,
+}
 use Rattle.belt.specs.Space.{largestTable, answeredOf}
 
 -- ---- start.
@@ -28,47 +36,51 @@ module _ (ws : List ℕ) (S T g : ℕ) where
   abbrev from-start : Changed → Answered
   from-start d = answeredOf (replyText (d .reply)) (startedFrom ws (d .reply) (d .words))
 
-  out-of-range : sizesOk S T g ≡ false → answeredOf (replyText (Refused 1)) ws ≡ startCommand ws S T g
+  out-of-range : sizesOk S T g lanesStarted ≡ false → answeredOf (replyText (Refused 1)) ws ≡ startCommand ws S T g
   unfolding startCommand
-  out-of-range h = ap from-start (start-1 new S T g h)
+  out-of-range h = ap from-start (start-1 new S T g lanesStarted refl h)
 
-  in-range : sizesOk S T g ≡ true → answeredOf (replyText Accepted) (startWords S T g) ≡ startCommand ws S T g
+  in-range :
+      sizesOk S T g lanesStarted ≡ true
+      → answeredOf (replyText Accepted) (startWords S T g lanesStarted) ≡ startCommand ws S T g
   unfolding startCommand
-  in-range h = ap from-start (start-accepted new S T g h (length-replicate (tableLength S T) 0))
+  in-range h = ap from-start (start-accepted new S T g lanesStarted refl h (length-replicate (tableLength S T) 0))
 
   -- A table that is larger than the largest has sizes out of range.
   pub too-large : largestTable < tableLength S T → answeredOf (replyText (Refused 1)) ws ≡ startCommand ws S T g
-  too-large h = out-of-range (go (sizesOk S T g) refl)
+  too-large h = out-of-range (go (sizesOk S T g lanesStarted) refl)
     where
-      go : (b : Bool) → sizesOk S T g ≡ b → b ≡ false
+      go : (b : Bool) → sizesOk S T g lanesStarted ≡ b → b ≡ false
       go false e = refl
-      go true e = absurd (omega (arith, most-nodes ws S T g e, most-tasks ws S T g e))
+      go true e =
+          absurd (omega (arith, most-nodes ws S T g lanesStarted refl e, most-tasks ws S T g lanesStarted refl e))
 
   module _ (part : List ℕ) (long : length part ≡ tableLength S T) where
     -- Whatever words the part has.
-    same-start : from-start (start part S T g) ≡ startCommand ws S T g
-    same-start = go (sizesOk S T g) refl
+    same-start : from-start (start part S T g lanesStarted) ≡ startCommand ws S T g
+    same-start = go (sizesOk S T g lanesStarted) refl
       where
-        go : (b : Bool) → sizesOk S T g ≡ b → from-start (start part S T g) ≡ startCommand ws S T g
-        go true s = ap from-start (sym (start-accepted part S T g s long)) ∙ in-range s
-        go false s = ap from-start (sym (start-1 part S T g s)) ∙ out-of-range s
+        go : (b : Bool) → sizesOk S T g lanesStarted ≡ b
+            → from-start (start part S T g lanesStarted) ≡ startCommand ws S T g
+        go true s = ap from-start (sym (start-accepted part S T g lanesStarted refl s long)) ∙ in-range s
+        go false s = ap from-start (sym (start-1 part S T g lanesStarted refl s)) ∙ out-of-range s
 
-    pub start-done : {r : Reply} {ys : List ℕ} → changedOf r ys ≡ start part S T g
+    pub start-done : {r : Reply} {ys : List ℕ} → changedOf r ys ≡ start part S T g lanesStarted
         → answeredOf (replyText r) (startedFrom ws r ys) ≡ startCommand ws S T g
     start-done e = ap from-start e ∙ same-start
 
     -- A refused start leaves the part as it was.
-    pub start-kept : {n : ℕ} {ys : List ℕ} → changedOf (Refused n) ys ≡ start part S T g → ys ≡ part
+    pub start-kept : {n : ℕ} {ys : List ℕ} → changedOf (Refused n) ys ≡ start part S T g lanesStarted → ys ≡ part
     unfolding start
-    start-kept {n} {ys} e = go (startRefusal part S T g) e
+    start-kept {n} {ys} e = go (startRefusal part S T g lanesStarted) e
       where
-        go : (o : Option ℕ) → changedOf (Refused n) ys ≡ changed o part (startWords S T g) → ys ≡ part
+        go : (o : Option ℕ) → changedOf (Refused n) ys ≡ changed o part (startWords S T g lanesStarted) → ys ≡ part
         go (some m) e = ap (λ (d : Changed). d .words) e
         go nothing e = clash (cc (ap (λ (d : Changed). d .reply) e))
 
 -- ---- begin.
 pub begin-done : (ws : List ℕ) (k op side digit argument : ℕ) {ys : List ℕ} {r : Reply}
-    → changedOf r ys ≡ begin ws k op side (storedOf digit argument)
+    → changedOf r ys ≡ begin ws k theLane op side (storedOf digit argument)
     → answeredOf (replyText r) ys ≡ beginCommand ws k op side digit argument
 unfolding beginCommand
 begin-done ws k op side digit argument e = ap (λ (d : Changed). answeredOf (replyText (d .reply)) (d .words)) e

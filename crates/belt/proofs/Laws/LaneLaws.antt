@@ -1,9 +1,11 @@
 -- A read into places enough for the bags of any table: what is printed is the lane.
 use mathlib.Core.Path.{_≡_, refl, sym, ap, subst}
+use mathlib.Core.Bool.{Bool, true, false}
 use mathlib.Core.List.{List, [], _∷_}
 use mathlib.Core.Option.{Option, some, none as nothing, Option·map}
 use Prim.Native.Nat.{ℕ, zero, suc, _*_, _≤_}
 use native.Mathlib.Omega.{arith}
+use lib.Dec.{ltb}
 use lib.ListN.{length, length-append, drop}
 use borrow.Author.Tests.{le-leb}
 use Rattle.tag.proofs.TagLaws.{length-tag-words, tags-in-words}
@@ -12,15 +14,17 @@ use Rattle.machine.specs.Choice.{_≟_}
 use Rattle.machine.specs.Sides.{left, right}
 use Rattle.machine.specs.Values.{Value, never, bag, N, X, Y}
 use Rattle.machine.specs.Tasks.{none}
-use Rattle.machine.specs.Table.{nodeCount, hat, link, value}
-use Rattle.machine.specs.Calls.{tableRefusal, laneFrom, lane, ReadDone, readInto, read}
+use Rattle.machine.specs.Table.{nodeCount, laneCount, hat, link, value}
+use Rattle.machine.specs.Calls.{unless, laneRefusal, laneFrom, lane, ReadDone, readInto, read}
 use Rattle.machine.specs.Results.{readOf}
+use Rattle.machine.specs.Shape.{lengthOk, shapeOk}
 use Rattle.machine.proofs.Basics.Choices.{by-if}
+use Rattle.machine.proofs.Basics.Contradiction.{clash}
 use Rattle.answers.specs.Refusals.{numberOf}
 use Rattle.shape.proofs.Laws.PassedTable.{passed, few-nodes}
 use Rattle.printer.specs.Lines.{laneText}
 use Rattle.printer.specs.Outcomes.{readingText, readingCount}
-use Rattle.belt.specs.Forms.{rowText, laneCommand}
+use Rattle.belt.specs.Forms.{theLane, rowText, laneCommand}
 use Rattle.belt.specs.Space.{mostBags, answeredOf}
 
 -- ---- A lane has no more bags than the table has nodes.
@@ -54,11 +58,21 @@ lane-from-short ws (suc n) x =
     at-node (X z) rest h = omega arith
     at-node (Y z) rest h = omega arith
 
-lane-short : (ws : List ℕ) → tableRefusal ws nothing ≡ nothing → countedIn (lane ws) ≤ mostBags
+-- A table whose lane is not refused is not refused itself.
+table-passes :
+    (a b c : Bool)
+    → unless a 3 (unless b 4 (unless c 26 nothing)) ≡ nothing
+    → 0 ≡ numberOf (unless a 3 (unless b 4 nothing))
+table-passes true true c h = refl
+table-passes true false c h = clash (cc)
+table-passes false b c h = clash (cc)
+
+lane-short : (ws : List ℕ) (l : ℕ) → laneRefusal ws l nothing ≡ nothing → countedIn (lane ws l) ≤ mostBags
 unfolding lane
-lane-short ws e =
-    let few : nodeCount ws ≤ mostBags = few-nodes ws (passed ws {n = 0} (sym (ap numberOf e)) refl) in
-    omega (arith, lane-from-short ws (nodeCount ws) (link ws right (hat ws left)), few)
+lane-short ws l e =
+    let zero-is = table-passes (lengthOk ws) (shapeOk ws) (ltb l (laneCount ws)) e in
+    let few : nodeCount ws ≤ mostBags = few-nodes ws (passed ws {n = 0} zero-is refl) in
+    omega (arith, lane-from-short ws (nodeCount ws) (link ws right (hat ws l left)), few)
 
 -- ---- The read.
 abbrev Prints : List ℕ → ReadDone → Type 0
@@ -74,15 +88,15 @@ module _ (out : List ℕ) (places : length out ≡ 2 * mostBags) where
         simp length-append (omega (arith, length-tag-words bags)),
       )
 
-  read-prints : (ws : List ℕ) → Prints (laneCommand ws .text) (read ws out)
+  read-prints : (ws : List ℕ) → Prints (laneCommand ws .text) (read ws theLane out)
   unfolding read laneCommand
-  read-prints ws = go (tableRefusal ws nothing) refl
+  read-prints ws = go (laneRefusal ws theLane nothing) refl
     where
-      go : (o : Option ℕ) → tableRefusal ws nothing ≡ o → Prints (laneCommand ws .text) (read ws out)
+      go : (o : Option ℕ) → laneRefusal ws theLane nothing ≡ o → Prints (laneCommand ws .text) (read ws theLane out)
       go (some n) e = rw (e, read, laneCommand) (refl, omega arith)
-      go nothing e = rw (e, read, laneCommand) (row-prints (lane ws) (lane-short ws e))
+      go nothing e = rw (e, read, laneCommand) (row-prints (lane ws theLane) (lane-short ws theLane e))
 
-  pub lane-done : (ws : List ℕ) {r : Reading} {ys : List ℕ} → readOf r ys ≡ read ws out
+  pub lane-done : (ws : List ℕ) {r : Reading} {ys : List ℕ} → readOf r ys ≡ read ws theLane out
       → (answeredOf (readingText r ys) ws ≡ laneCommand ws) × (2 * readingCount r ≤ length ys)
   unfolding laneCommand
   lane-done ws {r} {ys} e =

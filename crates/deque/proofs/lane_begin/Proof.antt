@@ -25,7 +25,7 @@ returns c =
     let a = n .before .before .before .args in
     let e =
     b .begin .ensures
-    ∙ ap (begin (a .table .now) (a .task) (a .operation) (a .side)) (n .of-words .ensures) in (
+    ∙ ap (begin (a .table .now) (a .task) (a .lane) (a .operation) (a .side)) (n .of-words .ensures) in (
       c .reply-number .ensures ∙ ap (λ (d : Changed). replyNumber (d .reply)) e,
       ap (λ (d : Changed). d .words) e,
     )

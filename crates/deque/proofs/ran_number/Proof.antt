@@ -1,4 +1,4 @@
--- `deque::ran_number` meets its contract: the ticks made above the refusal.
+-- `deque::ran_number` meets its contract: the refusal above the ticks made.
 use borrow.Author.Needs.{needs}
 use Rattle.deque.proofs.ran_number.Statement.{statement}
 use Rattle.deque.proofs.ran_number.Tie as tie

@@ -6,25 +6,22 @@ use Rattle.deque.proofs.reading_number.Tie as tie
 enum-known-r : tie.Need-enum-known-r
 enum-known-r c = search needs
 
-cast-result : tie.Need-cast-result
-cast-result c = search needs
+pair-requires : tie.Need-pair-requires
+pair-requires c κs = search needs
 
 enum-known-r-2 : tie.Need-enum-known-r-2
 enum-known-r-2 c = search needs
 
-cast-result-2 : tie.Need-cast-result-2
-cast-result-2 c = search needs
-
-add-result : tie.Need-add-result
-add-result c = search needs
+pair-requires-2 : tie.Need-pair-requires-2
+pair-requires-2 c κs = search needs
 
 returns : tie.Need-returns
-returns c = search needs
+returns c = rw (c .before .before .r .given .1) (c .pair .ensures)
 
 returns-2 : tie.Need-returns-2
-returns-2 c = rw (c .before .r2 .given .1)
+returns-2 c = rw (c .before .before .r2 .given .1) (c .pair2 .ensures)
 
 pub reading-number-spec : {M : Type 1} → statement M
 reading-number-spec =
     tie.close
-    (tie.spec enum-known-r cast-result enum-known-r-2 cast-result-2 add-result returns returns-2)
+    (tie.spec enum-known-r pair-requires enum-known-r-2 pair-requires-2 returns returns-2)

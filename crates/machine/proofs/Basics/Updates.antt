@@ -85,6 +85,20 @@ updateSide-all f left v P here others right = others right
 updateSide-all f right v P here others left = others left
 updateSide-all f right v P here others right = here
 
+-- ---- A function of a number and a side with one value written: the hats of the lanes.
+abbrev pub updateHat : {T : Type 0} → (ℕ → Side → T) → ℕ → Side → T → ℕ → Side → T
+updateHat f l s v = update f l (updateSide (f l) s v)
+
+module _ {T : Type 0} (f : ℕ → Side → T) (l : ℕ) (s : Side) (v : T) where
+  pub updateHat-own : updateHat f l s v l ≡ updateSide (f l) s v
+  updateHat-own = update-same f l (updateSide (f l) s v)
+
+  pub updateHat-same : updateHat f l s v l s ≡ v
+  updateHat-same = ap (λ (g : Side → T). g s) updateHat-own ∙ updateSide-same (f l) s v
+
+  pub updateHat-elsewhere : (j : ℕ) → j ≢ l → updateHat f l s v j ≡ f j
+  updateHat-elsewhere = update-other f l (updateSide (f l) s v)
+
 -- ---- The relation.
 
 -- f' is f with v at x: what proofs use, however f' is computed.

@@ -9,7 +9,7 @@ use native.Mathlib.Omega.{arith}
 use lib.Dec.{leb, ltb, eqb}
 use lib.ListN.{length, drop}
 use Rattle.tag.specs.Tags.{allTagWords}
-use borrow.Author.Tests.{le-leb, lt-leb}
+use borrow.Author.Tests.{le-leb, lt-leb, lt-ltb}
 use Rattle.machine.specs.declared.Answer.the-variants.{Refused}
 use Rattle.machine.specs.declared.Dispatch.the-variants.{Answered}
 use Rattle.machine.specs.declared.Reply.the-variants.{Accepted, Refused as Reply-Refused}
@@ -20,7 +20,7 @@ use Rattle.machine.specs.Values.{number}
 use Rattle.machine.specs.Operations.{Operation, idle, push, pop, add, remove, operationOf, argumentOk}
 use Rattle.machine.specs.Tasks.{none, Register, register}
 use Rattle.machine.specs.Registers.{holds}
-use Rattle.machine.specs.Table.{nodeCount, taskCount, task, setTask}
+use Rattle.machine.specs.Table.{nodeCount, taskCount, laneCount, task, setTask}
 use Rattle.machine.specs.Shape.{lengthOk, shapeOk}
 use Rattle.machine.specs.Reach.{Reachable, from-register}
 use Rattle.machine.specs.Allocate.{allocate}
@@ -62,8 +62,9 @@ use Rattle.machine.specs.Calls.{
   read,
 }
 use Rattle.machine.specs.Row.{Row, emptyRow}
-use Rattle.machine.specs.Demand3.{Call, tick-call, given, after, LaneIs, afterTicks, Explained}
+use Rattle.machine.specs.Demand3.{Call, tick-call, given, after, LanesAre, afterTicks}
 use Rattle.machine.specs.FirstFree.{TakesFirstFree}
+use Rattle.machine.specs.Twice.{allBags}
 use Rattle.machine.specs.Begun.{
   Begun,
   by-start,
@@ -86,10 +87,10 @@ use Rattle.machine.proofs.SlotRule.Reached.{node-not-none, reachable-no
 use Rattle.machine.proofs.SlotRule.FirstFree.{allocate-first-free, allocate-none}
 use Rattle.machine.proofs.Words.TickLaws.{tick-stopped}
 use Rattle.machine.proofs.Words.RunLaws.{by-last-tick}
-use Rattle.machine.proofs.Linearizability.Calls.Agreement.{Agrees, lane-is-row}
+use Rattle.machine.proofs.Linearizability.Calls.Agreement.{Agrees, lanes-are-rows, all-lanes-are-rows}
 use Rattle.machine.proofs.Linearizability.Calls.MadeTicks.{well-linked, made-tick}
 use Rattle.machine.proofs.Linearizability.Calls.CallsAgree.{tick-explained}
-use Rattle.machine.proofs.Linearizability.Theorem.{call-explained, started-agrees, demand3}
+use Rattle.machine.proofs.Linearizability.Theorem.{call-explained, started-agrees}
 use Rattle.machine.proofs.Linearizability.Histories.{
   Balanced,
   Recorded,
@@ -99,7 +100,7 @@ use Rattle.machine.proofs.Linearizability.Histories.{
 
 -- A table that our calls lead to agrees with a row.
 pub begun-agrees : {ws : List ℕ} → Begun ws → (ρ : Row) × Agrees ws ρ
-begun-agrees (by-start S T g old accepted) = (emptyRow T, started-agrees S T g old accepted)
+begun-agrees (by-start S T g L old accepted) = (emptyRow T L, started-agrees S T g L old accepted)
 begun-agrees (by-call B c) =
     let E = call-explained (begun-agrees B .1) c in
     (E .row, E .agrees)
@@ -111,7 +112,8 @@ pub no-call-refused-with-3-or-4 : {ws : List ℕ} → Begun ws → (others : Opt
 no-call-refused-with-3-or-4 {ws} B = table-passes ws (begun-agrees B .1 .accepted)
 
 -- A test with another number than 11.
-other-number : (passed : Bool) {n : ℕ} {others : Option ℕ} → n ≢ 11 → others ≢ some 11 → unless passed n others ≢ some 11
+other-number : (passed : Bool) {n : ℕ} {others : Option ℕ} → n ≢ 11 → others ≢ some 11
+    → unless passed n others ≢ some 11
 other-number true other later = later
 other-number false {n} other later = λ e. let same : n ≡ 11 = cc in other same
 
@@ -166,36 +168,37 @@ no-dispatch-refused-with-11 {ws} B h =
     of-tick : {ρ : Row} → Agrees ws ρ → (k : ℕ) → Answered (tickOn ws k h .answer) ≢ Answered (Refused 11)
     of-tick A k e = tick-not-11 A k h (ap dispatchRefusalOf e)
 
--- 2026-03: nor a begin, which walks the lane.
-module _ {ws : List ℕ} (B : Begun ws) (k op side : ℕ) (argument : Stored) where
+-- 2026-03: nor a begin, which walks the lanes.
+module _ {ws : List ℕ} (B : Begun ws) (k l op side : ℕ) (argument : Stored) where
   twice-not-11 : (o : Operation) (others : Option ℕ) → others ≢ some 11
       → twiceRefusal ws o (number argument) others ≢ some 11
   twice-not-11 push others later =
       let n = number argument in
-      let bags = begun-agrees B .0 .bags in
-      rw (lane-is-row (begun-agrees B .1))
+      let bags = allBags (begun-agrees B .0) in
+      rw (all-lanes-are-rows (begun-agrees B .1))
       (other-number (not (isAmong n bags || isBegun ws (taskCount ws) n)) {n = 16} (λ e. omega arith) later)
   twice-not-11 idle others later = later
   twice-not-11 pop others later = later
   twice-not-11 add others later = later
   twice-not-11 remove others later = later
 
-  pub no-begin-refused-with-11 : begin ws k op side argument .reply ≢ Reply-Refused 11
+  pub no-begin-refused-with-11 : begin ws k l op side argument .reply ≢ Reply-Refused 11
   unfolding begin
-  no-begin-refused-with-11 = go (beginRefusal ws k op side argument) tests
+  no-begin-refused-with-11 = go (beginRefusal ws k l op side argument) tests
     where
-      tests : beginRefusal ws k op side argument ≢ some 11
+      tests : beginRefusal ws k l op side argument ≢ some 11
       tests =
           other-number (lengthOk ws) (λ e. omega arith)
           (other-number (shapeOk ws) (λ e. omega arith)
+          (other-number (ltb l (laneCount ws)) (λ e. omega arith)
           (other-number (ltb k (taskCount ws)) (λ e. omega arith)
           (other-number (leb 1 op && leb op 4 && leb side 1) (λ e. omega arith)
           (other-number (argumentOk (operationOf op) argument) (λ e. omega arith)
           (twice-not-11 (operationOf op) _
-          (other-number (isIdle (task ws k .operation)) (λ e. omega arith) not-refused))))))
+          (other-number (isIdle (task ws k .operation)) (λ e. omega arith) not-refused)))))))
 
       go : (r : Option ℕ) → r ≢ some 11
-          → changed r ws (setTask k (begunTask (operationOf op) (sideOf side) (number argument)) ws) .reply
+          → changed r ws (setTask k (begunTask l (operationOf op) (sideOf side) (number argument)) ws) .reply
           ≢ Reply-Refused 11
       go (some n) f = λ e. let same : n ≡ 11 = cc in f (ap some same)
       go nothing f = λ e. refute (cc)
@@ -339,47 +342,53 @@ module _ (ws list answers : List ℕ) where
   unfolding panel
   panel-is-its-ticks = tested-is-its-ticks (panelRefusal ws list answers)
 
--- ---- Reading the lane.
+-- ---- Reading a lane.
 
--- Where the lane is the row: its count and the row in order where it fits into the out slice, and 12 where it does not.
-pub reading-gives-the-row : {ws : List ℕ} → Begun ws → (ρ : Row) → LaneIs ws ρ → (out : List ℕ)
-    → (2 * length (ρ .bags) ≤ length out
-    → read ws out
+-- Where the lanes are the rows: a lane's count and its row in order where it fits into the out slice, and 12 where it
+-- does not.
+pub reading-gives-the-row : {ws : List ℕ} → Begun ws → (ρ : Row) → LanesAre ws ρ → (l : ℕ) → l < ρ .lanes
+    → l < laneCount ws
+    → (out : List ℕ)
+    → (2 * length (ρ .bags l) ≤ length out
+    → read ws l out
     ≡ record {
-      reading = Count (length (ρ .bags));
-      out = allTagWords (ρ .bags) ++ drop (2 * length (ρ .bags)) out;
+      reading = Count (length (ρ .bags l));
+      out = allTagWords (ρ .bags l) ++ drop (2 * length (ρ .bags l)) out;
     })
-    × (length out < 2 * length (ρ .bags) → read ws out ≡ unread 12 out)
+    × (length out < 2 * length (ρ .bags l) → read ws l out ≡ unread 12 out)
 unfolding read readInto
-reading-gives-the-row {ws} B ρ is out =
-    let passes = no-call-refused-with-3-or-4 B nothing in (
-      λ fits. rw (passes, read, is, le-leb _ _ fits, readInto),
-      λ short. rw (passes, read, is, lt-leb _ _ short, readInto),
+reading-gives-the-row {ws} B ρ are l h is-lane out =
+    let passes = no-call-refused-with-3-or-4 B (unless (ltb l (laneCount ws)) 26 nothing) in
+    let lane-passes = lt-ltb l (laneCount ws) is-lane in
+    let is = are l h in (
+      λ fits. rw (passes, lane-passes, read, is, le-leb _ _ fits, readInto),
+      λ short. rw (passes, lane-passes, read, is, lt-leb _ _ short, readInto),
     )
 
 -- ---- Bags counted.
-explained-recorded : (cs : List Call) (ws : List ℕ) (ρ : Row) (η : History) → Explained cs ws ρ → Recorded ρ η
-    → (bags : List ℕ)
-    × (lane (afterAll cs ws) ≡ some bags)
-    × ((b : ℕ) → Balanced b bags (history cs ws η .finished))
+agreed-recorded : (cs : List Call) {ws : List ℕ} {ρ : Row} {η : History} → Agrees ws ρ → Recorded ρ η
+    → (ρ′ : Row)
+    × Agrees (afterAll cs ws) ρ′
+    × ((l b : ℕ) → Balanced l b (ρ′ .bags l) (history cs ws η .finished))
 unfolding afterAll history
-explained-recorded [] ws ρ η E R = (ρ .bags, E, R .balanced)
-explained-recorded (c ∷ cs) ws ρ η E R =
-    let next = E .2 in
-    explained-recorded cs (after c ws) (next .0) (recordCall η c (given c ws)) (next .2)
-    (call-recorded c (given c ws) R (next .1))
+agreed-recorded [] {ρ = ρ} A R = (ρ, A, R .balanced)
+agreed-recorded (c ∷ cs) {ws} A R =
+    let E = call-explained A c in
+    agreed-recorded cs (E .agrees) (call-recorded c (given c ws) R (E .given-by-row))
 
--- No bag is lost or doubled: after every list of calls each bag is in the lane as often as it was pushed and not popped
--- since the latest start.
+-- No bag is lost or doubled: after every list of calls each bag is in a lane as often as it was pushed there and not
+-- popped since the latest start.
 pub bags-conserved :
-    (S T growth : ℕ) (old : List ℕ)
-    → start old S T growth .reply ≡ Accepted
-    → (calls : List Call)
+    (S T growth lanes : ℕ) (old : List ℕ)
+    → start old S T growth lanes .reply ≡ Accepted
+    → (calls : List Call) (l : ℕ)
+    → l < laneCount (afterAll calls (start old S T growth lanes .words))
     → (bags : List ℕ)
-    × (lane (afterAll calls (start old S T growth .words)) ≡ some bags)
+    × (lane (afterAll calls (start old S T growth lanes .words)) l ≡ some bags)
     × ((b : ℕ)
-    → count b bags + count b (bagsPopped (history calls (start old S T growth .words) (noHistory T) .finished))
-    ≡ count b (bagsPushed (history calls (start old S T growth .words) (noHistory T) .finished)))
-bags-conserved S T g old accepted calls =
-    explained-recorded calls (start old S T g .words) (emptyRow T) (noHistory T)
-    (demand3 S T g old accepted calls) (nothing-recorded T)
+    → count b bags + count b (bagsPopped l (history calls (start old S T growth lanes .words) (noHistory T) .finished))
+    ≡ count b (bagsPushed l (history calls (start old S T growth lanes .words) (noHistory T) .finished)))
+bags-conserved S T g L old accepted calls l is-lane =
+    let x = agreed-recorded calls (started-agrees S T g L old accepted) (nothing-recorded T L) in
+    let A = x .1 in
+    (x .0 .bags l, lanes-are-rows A l (subst (λ (n : ℕ). l < n) (sym (A .same-lanes)) is-lane), x .2 l)

@@ -2,6 +2,8 @@
 use mathlib.Core.Path.{_≡_, refl, sym, ap, _∙_, subst}
 use mathlib.Core.Bool.{Bool, true, false, cond, _&&_}
 use mathlib.Core.List.{List, [], _∷_, _++_, reverse, reverse-cons, reverse-reverse}
+use mathlib.Core.Logic.{_≢_}
+use borrow.Author.Tests.{eq-eqb, ne-eqb}
 use mathlib.Core.Option.{Option, some, none as nothing, Option·map, bind}
 use Prim.Native.Nat.{ℕ, zero, suc, _+_, _*_}
 use native.Mathlib.Omega.{arith}
@@ -81,6 +83,7 @@ use Rattle.machine.specs.Begun.{
   bagsPopped,
 }
 use Rattle.machine.proofs.Basics.Contradiction.{clash}
+use Rattle.machine.proofs.Basics.Choices.{by-if}
 use Rattle.machine.proofs.Words.RunLaws.{going-answer}
 
 -- ---- Bags counted.
@@ -118,20 +121,20 @@ bag-taken right x bags bags′ e = go (takeFirst x (reverse bags)) refl e
         ∙ reverse-cons x l
         ∙ ap (λ (m : List ℕ). m ++ (x ∷ [])) same
 
--- The bag b is as often in the row or popped as it was pushed.
-abbrev pub Balanced : (b : ℕ) → (bags : List ℕ) → List Finished → Type 0
-Balanced b bags fs = count b bags + count b (bagsPopped fs) ≡ count b (bagsPushed fs)
+-- The bag b is as often in lane l's row or popped from it as it was pushed there.
+abbrev pub Balanced : (l b : ℕ) → (bags : List ℕ) → List Finished → Type 0
+Balanced l b bags fs = count b bags + count b (bagsPopped l fs) ≡ count b (bagsPushed l fs)
 
-module _ (b : ℕ) (s : Side) (v : ℕ) (bags bags′ : List ℕ) (fs : List Finished) (before : Balanced b bags fs) where
+module _ (l b : ℕ) (s : Side) (v : ℕ) (bags bags′ : List ℕ) (fs : List Finished) (before : Balanced l b bags fs) where
   abbrev asked : Operation → Note
-  asked op = record { operation = op; side = s; argument = v }
+  asked op = record { lane = l; operation = op; side = s; argument = v }
 
   abbrev Result : Operation → Answer → Type 0
   Result op a =
       answered (asked op) a bags ≡ some bags′
-      → Balanced b bags′ (record { note = asked op; answer = a } ∷ fs)
+      → Balanced l b bags′ (record { note = asked op; answer = a } ∷ fs)
 
-  size-balanced : (a : Answer) → sizeAnswered a bags ≡ some bags′ → Balanced b bags′ fs
+  size-balanced : (a : Answer) → sizeAnswered a bags ≡ some bags′ → Balanced l b bags′ fs
   unfolding sizeAnswered
   size-balanced Yes e = let q : bags ≡ bags′ = cc in rw (← q) before
   size-balanced No e = let q : bags ≡ bags′ = cc in rw (← q) before
@@ -147,7 +150,7 @@ module _ (b : ℕ) (s : Side) (v : ℕ) (bags bags′ : List ℕ) (fs : List Fin
   push-balanced Pushed e =
       let q : put s v bags ≡ bags′ = cc in
       let c = count-put s v b bags in
-      rw (← q) (omega arith)
+      rw (← q, eq-eqb l l refl) (omega arith)
   push-balanced Full e = let q : bags ≡ bags′ = cc in rw (← q) before
   push-balanced Going e = clash (cc)
   push-balanced (Bag x) e = clash (cc)
@@ -161,12 +164,12 @@ module _ (b : ℕ) (s : Side) (v : ℕ) (bags bags′ : List ℕ) (fs : List Fin
   pop-balanced (Bag x) e =
       let c = count-put s x b bags′ in
       let same = rw (bag-taken s x bags bags′ e) at before in
-      omega arith
+      rw (eq-eqb l l refl) (omega arith)
   pop-balanced Empty e = go bags before e
     where
-      go : (l : List ℕ) → Balanced b l fs → popAnswered (asked pop) Empty l ≡ some bags′ → Balanced b bags′ fs
+      go : (xs : List ℕ) → Balanced l b xs fs → popAnswered (asked pop) Empty xs ≡ some bags′ → Balanced l b bags′ fs
       go [] h q = let same : [] ≡ bags′ = cc in rw (← same) h
-      go (x ∷ l) h q = clash (cc)
+      go (x ∷ xs) h q = clash (cc)
   pop-balanced Going e = clash (cc)
   pop-balanced Pushed e = clash (cc)
   pop-balanced Full e = clash (cc)
@@ -182,6 +185,24 @@ module _ (b : ℕ) (s : Side) (v : ℕ) (bags bags′ : List ℕ) (fs : List Fin
   answer-balanced add a e = size-balanced a e
   answer-balanced remove a e = size-balanced a e
 
+-- What is finished on another lane counts for nothing.
+module _ (l : ℕ) (f : Finished) (fs : List Finished) (ne : f .note .lane ≢ l) where
+  no-lane : (a c : Bool) → a && c && false ≡ false
+  no-lane true true = refl
+  no-lane true false = refl
+  no-lane false c = refl
+
+  other-pushed : bagsPushed l (f ∷ fs) ≡ bagsPushed l fs
+  unfolding bagsPushed
+  other-pushed = rw (ne-eqb (f .note .lane) l ne, no-lane)
+
+  other-popped : bagsPopped l (f ∷ fs) ≡ bagsPopped l fs
+  unfolding bagsPopped
+  other-popped = rw (ne-eqb (f .note .lane) l ne, no-lane)
+
+  other-balanced : (b : ℕ) (bags : List ℕ) → Balanced l b bags fs → Balanced l b bags (f ∷ fs)
+  other-balanced b bags h = rw (other-pushed, other-popped) h
+
 -- ---- What the row keeps and what the history keeps, call by call.
 pub bound : {T U : Type 0} (o : Option T) (f : T → Option U) {y : U} → bind o f ≡ some y
     → (x : T) × (o ≡ some x) × (f x ≡ some y)
@@ -194,17 +215,17 @@ pub mapped : {T U : Type 0} (o : Option T) (f : T → U) {y : U} → Option·map
 mapped nothing f e = clash (cc)
 mapped (some x) f e = (x, refl, cc)
 
--- The history has the row's notes, tasks and task last dispatched, and every bag is balanced.
+-- The history has the row's notes, tasks and task last dispatched, and every bag is balanced on every lane.
 pub record Recorded (ρ : Row) (η : History) : Type 0 where
   pub same-notes : η .notes ≡ ρ .notes
   pub same-tasks : η .tasks ≡ ρ .tasks
   pub same-dispatched : η .dispatched ≡ ρ .dispatched
-  pub balanced : (b : ℕ) → Balanced b (ρ .bags) (η .finished)
+  pub balanced : (l b : ℕ) → Balanced l b (ρ .bags l) (η .finished)
 
-pub nothing-recorded : (T : ℕ) → Recorded (emptyRow T) (noHistory T)
+pub nothing-recorded : (T L : ℕ) → Recorded (emptyRow T L) (noHistory T)
 unfolding count bagsPushed bagsPopped
-nothing-recorded T =
-    record { same-notes = refl; same-tasks = refl; same-dispatched = refl; balanced = λ b. refl }
+nothing-recorded T L =
+    record { same-notes = refl; same-tasks = refl; same-dispatched = refl; balanced = λ l b. refl }
 
 same-row : {ρ ρ′ : Row} {η : History} → some ρ ≡ some ρ′ → Recorded ρ η → Recorded ρ′ η
 same-row {ρ} {ρ′} {η} e R = let q : ρ ≡ ρ′ = cc in subst (λ (x : Row). Recorded x η) q R
@@ -214,17 +235,25 @@ same-with k n e = ap (λ (f : ℕ → Option Note). withNote f k n) e
 
 -- A tick that was made.
 module _ {ρ : Row} {η : History} (R : Recorded ρ η) (k : ℕ) (a : Answer) where
-  finish-recorded : (n : Note) (bags : List ℕ) → answered n a (ρ .bags) ≡ some bags
-      → Recorded (noted (withBags ρ bags) k nothing) (finish η k (some n) a)
+  finish-recorded : (n : Note) (bags : List ℕ) → answered n a (ρ .bags (n .lane)) ≡ some bags
+      → Recorded (noted (withBags ρ (n .lane) bags) k nothing) (finish η k (some n) a)
   finish-recorded n bags e =
       record {
         same-notes = same-with k nothing (R .same-notes);
         same-tasks = R .same-tasks;
         same-dispatched = R .same-dispatched;
         balanced =
-            λ b.
-            answer-balanced b (n .side) (n .argument) (ρ .bags) bags (η .finished) (R .balanced b) (n .operation) a e;
+            λ l b.
+            by-if (λ xs. Balanced l b xs (record { note = n; answer = a } ∷ η .finished)) (l ≟ n .lane)
+            (λ q. subst (λ (j : ℕ). Balanced j b bags (record { note = n; answer = a } ∷ η .finished)) (sym q) (own b))
+            (λ ne. other-balanced l (record { note = n; answer = a }) (η .finished) (λ q. ne (sym q)) b (ρ .bags l)
+            (R .balanced l b));
       }
+    where
+      own : (b : ℕ) → Balanced (n .lane) b bags (record { note = n; answer = a } ∷ η .finished)
+      own b =
+          answer-balanced (n .lane) b (n .side) (n .argument) (ρ .bags (n .lane)) bags (η .finished)
+          (R .balanced (n .lane) b) (n .operation) a e
 
   made-recorded : {ρ′ : Row} → feedMade ρ k a ≡ some ρ′ → Recorded ρ′ (recordMade η k a)
   unfolding feedMade
@@ -235,12 +264,12 @@ module _ {ρ : Row} {η : History} (R : Recorded ρ η) (k : ℕ) (a : Answer) w
     where
       by-answer : (n : Note) (g : Bool)
           → cond g (some ρ)
-          (Option·map (λ bags. noted (withBags ρ bags) k nothing) (answered n a (ρ .bags)))
+          (Option·map (λ bags. noted (withBags ρ (n .lane) bags) k nothing) (answered n a (ρ .bags (n .lane))))
           ≡ some ρ′
           → Recorded ρ′ (cond g η (finish η k (some n) a))
       by-answer n true q = same-row q R
       by-answer n false q =
-          let x = mapped (answered n a (ρ .bags)) _ q in
+          let x = mapped (answered n a (ρ .bags (n .lane))) _ q in
           same-row (ap some (x .2)) (finish-recorded n (x .0) (x .1))
 
 -- A tick, made or refused.
@@ -318,32 +347,33 @@ same-if true q = (refl, cc)
 same-if false q = clash (cc)
 
 -- A read leaves the row.
-pub same-when-read : (ρ : Row) (out : List ℕ) (x : Reading) (written : List ℕ) {ρ′ : Row}
-    → feedRead ρ out x written ≡ some ρ′
+pub same-when-read : (ρ : Row) (l : ℕ) (out : List ℕ) (x : Reading) (written : List ℕ) {ρ′ : Row}
+    → feedRead ρ l out x written ≡ some ρ′
     → ρ ≡ ρ′
-same-when-read ρ out x written {ρ′} e = go x e
-  where
-    go : (x : Reading) → feedRead ρ out x written ≡ some ρ′ → ρ ≡ ρ′
-    go (Count n) q =
-        same-if
-        (eqb n (length (ρ .bags)) && leb (2 * n) (length out) && sameWords (take (2 * n) written) (allTagWords (ρ .bags)))
-        q
-        .1
-    go (Reading-Refused n) q = same-if (eqb n 12 && ltb (length out) (2 * length (ρ .bags))) q .1
+same-when-read ρ l out (Count n) written q =
+    same-if
+    (ltb l (ρ .lanes)
+    && eqb n (length (ρ .bags l))
+    && leb (2 * n) (length out)
+    && sameWords (take (2 * n) written) (allTagWords (ρ .bags l)))
+    q
+    .1
+same-when-read ρ l out (Reading-Refused n) written q =
+    same-if (cond (ltb l (ρ .lanes)) (eqb n 12 && ltb (length out) (2 * length (ρ .bags l))) (eqb n 26)) q .1
 
 pub call-recorded : (c : Call) (r : Given c) {ρ ρ′ : Row} {η : History} → Recorded ρ η → feed ρ c r ≡ some ρ′
     → Recorded ρ′ (recordCall η c r)
-call-recorded (start-call S T g) Accepted R e = same-row e (nothing-recorded T)
-call-recorded (start-call S T g) (Reply-Refused n) R e = same-row e R
-call-recorded (begin-call k op side argument) Accepted R e =
-    same-row e
+call-recorded (start-call S T g L) Accepted R e = same-row e (nothing-recorded T L)
+call-recorded (start-call S T g L) (Reply-Refused n) R e = same-row e R
+call-recorded (begin-call k l op side argument) Accepted {ρ} R e =
+    same-row (ap some (same-if (ltb l (ρ .lanes)) e .1))
     (record {
       same-notes = same-with k _ (R .same-notes);
       same-tasks = R .same-tasks;
       same-dispatched = R .same-dispatched;
       balanced = R .balanced;
     })
-call-recorded (begin-call k op side argument) (Reply-Refused n) R e = same-row e R
+call-recorded (begin-call k l op side argument) (Reply-Refused n) R e = same-row e R
 call-recorded (tick-call k h) a R e = tick-recorded k a R e
 call-recorded (ticks-call k h zero) a {ρ} {ρ′} {η} R e =
     let x = same-if (isGoing a) e in
@@ -352,5 +382,5 @@ call-recorded (ticks-call k h (suc n)) a R e = tick-recorded k a R e
 call-recorded (dispatch-call h) r R e = dispatch-recorded r R e
 call-recorded (run-call list answers) r R e = run-recorded (r .0 .made) list (r .1) R e
 call-recorded (panel-call list answers) r R e = run-recorded (r .0 .made) list (r .1) R e
-call-recorded (read-call out) r {ρ} {ρ′} {η} R e =
-    subst (λ (x : Row). Recorded x η) (same-when-read ρ out (r .0) (r .1) e) R
+call-recorded (read-call l out) r {ρ} {ρ′} {η} R e =
+    subst (λ (x : Row). Recorded x η) (same-when-read ρ l out (r .0) (r .1) e) R

@@ -2,6 +2,7 @@
 
 pub mod ClassChanges
 pub mod MainWrites
+pub mod OtherLanes
 pub mod Push
 pub mod Pop
 pub mod Unspur

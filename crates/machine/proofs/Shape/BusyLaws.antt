@@ -58,7 +58,7 @@ node-or-none-ok S x h =
     ]
 
 -- ---- A task in a call, at a step.
-pub record BusyAt (S growth : ℕ) (st : Step) (t : Task) : Type 0 where
+pub record BusyAt (S growth lanes : ℕ) (st : Step) (t : Task) : Type 0 where
   pub busy : isBusy (t .operation) ≡ true
   pub step-ok : isStepIn (stepsOf (t .operation)) (stepNumber st) ≡ true
   pub argument-ok : argumentOk (t .operation) (stored (t .argument)) ≡ true
@@ -69,10 +69,11 @@ pub record BusyAt (S growth : ℕ) (st : Step) (t : Task) : Type 0 where
   pub B-ok : NodeOrNone S (t .B)
   pub C-ok : NodeOrNone S (t .C)
   pub D-ok : NodeOrNone S (t .D)
+  pub lane-ok : t .lane < lanes
 
 -- The facts of a busy record.
-abbrev pub BusyFacts : (S growth : ℕ) → Task → Type 0
-BusyFacts S g t = BusyAt S g (t .step) t
+abbrev pub BusyFacts : (S growth lanes : ℕ) → Task → Type 0
+BusyFacts S g L t = BusyAt S g L (t .step) t
 
 busy-number : (op : Operation) → isBusy op ≡ true → eqb (operationNumber op) 0 ≡ false
 busy-number idle h = sym h
@@ -92,12 +93,12 @@ side-at-most : (s : Side) → leb (sideNumber s) 1 ≡ true
 side-at-most left = refl
 side-at-most right = refl
 
-pub record-of-fresh : (S g : ℕ) → recordOk S g (wordsOf fresh) ≡ true
+pub record-of-fresh : (S g L : ℕ) → recordOk S g L (wordsOf fresh) ≡ true
 unfolding recordOk sameWords
-record-of-fresh S g = refl
+record-of-fresh S g L = refl
 
-module _ (S g : ℕ) (t : Task) where
-  pub record-of-busy : BusyFacts S g t → recordOk S g (wordsOf t) ≡ true
+module _ (S g L : ℕ) (t : Task) where
+  pub record-of-busy : BusyFacts S g L t → recordOk S g L (wordsOf t) ≡ true
   unfolding recordOk busyOk
   record-of-busy F =
       rw (
@@ -115,55 +116,58 @@ module _ (S g : ℕ) (t : Task) where
         node-or-none-ok S (t .B) (F .B-ok),
         node-or-none-ok S (t .C) (F .C-ok),
         node-or-none-ok S (t .D) (F .D-ok),
+        lt-ltb (t .lane) L (F .lane-ok),
       )
 
-  busy-test : recordOk S g (wordsOf t) ≡ true → isBusy (t .operation) ≡ true → busyOk S g (wordsOf t) ≡ true
+  busy-test : recordOk S g L (wordsOf t) ≡ true → isBusy (t .operation) ≡ true → busyOk S g L (wordsOf t) ≡ true
   unfolding recordOk
   busy-test h b = rw (busy-number (t .operation) b) at h
 
   pub busy-of-record :
-      HasWord (t .value) → recordOk S g (wordsOf t) ≡ true → isBusy (t .operation) ≡ true → BusyFacts S g t
+      HasWord (t .value) → recordOk S g L (wordsOf t) ≡ true → isBusy (t .operation) ≡ true → BusyFacts S g L t
   unfolding busyOk
   busy-of-record w h b =
       let test =
       rw (operation-of-number (t .operation), side-of-number (t .side), number-stored (t .argument))
       at (busy-test h b)
       in
-      let A-test : nodeOrNone S (t .A) ≡ true = search (and-left, and-right) depth 9 in
-      let B-test : nodeOrNone S (t .B) ≡ true = search (and-left, and-right) depth 9 in
-      let C-test : nodeOrNone S (t .C) ≡ true = search (and-left, and-right) depth 9 in
-      let D-test : nodeOrNone S (t .D) ≡ true = search (and-left, and-right) depth 9 in
+      let A-test : nodeOrNone S (t .A) ≡ true = search (and-left, and-right) depth 10 in
+      let B-test : nodeOrNone S (t .B) ≡ true = search (and-left, and-right) depth 10 in
+      let C-test : nodeOrNone S (t .C) ≡ true = search (and-left, and-right) depth 10 in
+      let D-test : nodeOrNone S (t .D) ≡ true = search (and-left, and-right) depth 10 in
+      let lane-test : ltb (t .lane) L ≡ true = search (and-left, and-right) depth 10 in
       record {
         busy = b;
-        step-ok = search (and-left, and-right) depth 9;
-        argument-ok = search (and-left, and-right) depth 9;
-        counted-ok = search (and-left, and-right) depth 9;
-        value-ok = search (and-left, and-right) depth 9;
+        step-ok = search (and-left, and-right) depth 10;
+        argument-ok = search (and-left, and-right) depth 10;
+        counted-ok = search (and-left, and-right) depth 10;
+        value-ok = search (and-left, and-right) depth 10;
         has-word = w;
         A-ok = node-or-none S (t .A) A-test;
         B-ok = node-or-none S (t .B) B-test;
         C-ok = node-or-none S (t .C) C-test;
         D-ok = node-or-none S (t .D) D-test;
+        lane-ok = ltb-true (t .lane) L lane-test;
       }
 
 -- An idle record is fresh.
 pub idle-of-record :
-    (S g : ℕ) (t : Task) → recordOk S g (wordsOf t) ≡ true → t .operation ≡ idle → wordsOf t ≡ wordsOf fresh
+    (S g L : ℕ) (t : Task) → recordOk S g L (wordsOf t) ≡ true → t .operation ≡ idle → wordsOf t ≡ wordsOf fresh
 unfolding recordOk
-idle-of-record S g t h e =
+idle-of-record S g L t h e =
     let number : eqb (operationNumber (t .operation)) 0 ≡ true = ap (λ op. eqb (operationNumber op) 0) e in
     same-words (wordsOf t) (wordsOf fresh) (rw number at h)
 
 -- ---- What the facts say at a step.
-module _ {S g : ℕ} {st : Step} {t : Task} where
-  pub not-idle : BusyAt S g st t → t .operation ≢ idle
+module _ {S g L : ℕ} {st : Step} {t : Task} where
+  pub not-idle : BusyAt S g L st t → t .operation ≢ idle
   not-idle F e = let b = F .busy in refute (cc)
 
   -- At every step the value read is as V may be, and counted is at most the goal.
-  pub value-read-ok : BusyAt S g st t → valueOk (encode (t .value)) ≡ true
+  pub value-read-ok : BusyAt S g L st t → valueOk (encode (t .value)) ≡ true
   value-read-ok F = read-value-ok (t .side) (stepNumber st) (encode (t .value)) (F .value-ok)
 
-  pub counted-at-most : BusyAt S g st t → t .counted ≤ goal g t
+  pub counted-at-most : BusyAt S g L st t → t .counted ≤ goal g t
   counted-at-most F =
       go (eqb (stepNumber st) 54) (isStepIn (line31 ∷ line56 ∷ line58 ∷ []) (stepNumber st)) (F .counted-ok)
     where
@@ -178,9 +182,9 @@ module _ {S g : ℕ} {st : Step} {t : Task} where
       go false true h = let l = ltb-true n m h in omega arith
       go false false h = leb-true n m h
 
-module _ {S g : ℕ} {t : Task} where
+module _ {S g L : ℕ} {t : Task} where
   -- At 51 a bag was read.
-  pub bag-at-51 : BusyAt S g line51 t → (b : ℕ) × (t .value ≡ bag b) × (bagOk (stored b) ≡ true)
+  pub bag-at-51 : BusyAt S g L line51 t → (b : ℕ) × (t .value ≡ bag b) × (bagOk (stored b) ≡ true)
   bag-at-51 F =
       let u = encode (t .value) in (
         number u,

@@ -86,18 +86,18 @@ answer-tag No h = zero-le
 answer-tag (Refused n) h = absurd h
 
 -- A tick is refused, or writes what fits and then goes on with a record that fits, or ends with a fresh one.
-pub data Fits (S growth : ℕ) : Effect → Type 0 where
-  turns-back : {t : Task} → Fits S growth (refused t)
+pub data Fits (S growth lanes : ℕ) : Effect → Type 0 where
+  turns-back : {t : Task} → Fits S growth lanes (refused t)
   goes-on :
       {l : List Write} {t : Task}
       → WritesFit S l
-      → BusyFacts S growth t
-      → Fits S growth (record { writes = l; task = t; answer = Going })
+      → BusyFacts S growth lanes t
+      → Fits S growth lanes (record { writes = l; task = t; answer = Going })
   ends :
       {l : List Write} {a : Answer}
       → WritesFit S l
       → AnswerFits a
-      → Fits S growth (record { writes = l; task = fresh; answer = a })
+      → Fits S growth lanes (record { writes = l; task = fresh; answer = a })
 
 pub record MemoryFits (S : ℕ) (m : Memory) : Type 0 where
   pub out-ok : (x : ℕ) → NodeOrNone S (m .out x)
@@ -118,7 +118,7 @@ pub none-fits : {S : ℕ} → NodeOrNone S none
 none-fits n = absurd (n refl)
 
 -- What a task t may write, of which its line makes a choice: its registers, the value that it read, a mark, none.
-module _ {S g : ℕ} {st : Step} (t : Task) (F : BusyAt S g st t) where
+module _ {S g L : ℕ} {st : Step} (t : Task) (F : BusyAt S g L st t) where
   pub A-fits : NodeOrNone S (t .A)
   A-fits = F .A-ok
 
@@ -137,23 +137,23 @@ module _ {S g : ℕ} {st : Step} (t : Task) (F : BusyAt S g st t) where
 pub ruleset fitting = (A-fits, B-fits, C-fits, D-fits, value-fits, N-fits, X-fits, Y-fits, none-fits)
 
 -- A line fits, for a task t that stands at it, sees m and would take the node f.
-abbrev pub LineFits : (S growth : ℕ) → Memory → Task → (f : ℕ) → Step → Type 0
-LineFits S g m t f st = BusyAt S g st t → Fits S g (act st (t .side) (opposite (t .side)) m t (goal g t) f)
+abbrev pub LineFits : (S growth lanes : ℕ) → Memory → Task → (f : ℕ) → Step → Type 0
+LineFits S g L m t f st = BusyAt S g L st t → Fits S g L (act st (t .side) (opposite (t .side)) m t (goal g t) f)
 
 -- ---- Tests taken apart.
-module _ (S g : ℕ) where
-  pub by-through : (t : Task) {x : ℕ} {e : Effect} → (x ≢ none → Fits S g e) → Fits S g (through x t e)
+module _ (S g L : ℕ) where
+  pub by-through : (t : Task) {x : ℕ} {e : Effect} → (x ≢ none → Fits S g L e) → Fits S g L (through x t e)
   by-through t {x} {e} f = go (x ≟ none)
     where
-      go : (d : Dec (x ≡ none)) → Fits S g (if d then refused t else e)
+      go : (d : Dec (x ≡ none)) → Fits S g L (if d then refused t else e)
       go (yes h) = turns-back
       go (no h) = f h
 
   pub by-dcas :
       {A B : Type 0} {e e′ : Effect} (d : Dec A) (d′ : Dec B)
-      → Fits S g e
-      → Fits S g e′
-      → Fits S g (dcas d d′ e e′)
+      → Fits S g L e
+      → Fits S g L e′
+      → Fits S g L (dcas d d′ e e′)
   unfolding dcas
   by-dcas (yes h) (yes k) f f′ = f
   by-dcas (yes h) (no k) f f′ = f′

@@ -45,40 +45,40 @@ use Rattle.machine.proofs.Shape.RemoveFits.{
   line82-fits,
 }
 
-module _ (S g : ℕ) (m : Memory) (M : MemoryFits S m) (t : Task) (f : ℕ) (f-ok : NodeOrNone S f) where
-  pub line-fits : (st : Step) → LineFits S g m t f st
+module _ (S g L : ℕ) (m : Memory) (M : MemoryFits S m) (t : Task) (f : ℕ) (f-ok : NodeOrNone S f) where
+  pub line-fits : (st : Step) → LineFits S g L m t f st
   unfolding act isStepIn
   line-fits rest F = goes-on tt (moves F (lands (part F) refl))
-  line-fits Steps.line2 F = line2-fits S g m M t f F
-  line-fits Steps.line3 F = line3-fits S g m M t f F
-  line-fits Steps.line5 F = line5-fits S g m M t f F
-  line-fits Steps.line8 F = line8-fits S g m M t f F
-  line-fits Steps.line15 F = line15-fits S g m M t f F
-  line-fits Steps.line17 F = line17-fits S g m M t f F
-  line-fits Steps.line18 F = line18-fits S g m M t f F
-  line-fits Steps.line24 F = line24-fits S g m M t f F
-  line-fits Steps.line25 F = line25-fits S g m M t f F
-  line-fits Steps.line28 F = line28-fits S g m M t f f-ok F
-  line-fits Steps.line31 F = line31-fits S g m M t f f-ok F
-  line-fits Steps.line39 F = line39-fits S g m M t f F
-  line-fits Steps.line40 F = line40-fits S g m M t f F
-  line-fits Steps.line42 F = line42-fits S g m M t f F
-  line-fits Steps.line48 F = line48-fits S g m M t f F
-  line-fits Steps.line51 F = line51-fits S g m M t f F
-  line-fits Steps.line54 F = line54-fits S g m M t f F
-  line-fits Steps.line56 F = line56-fits S g m M t f F
-  line-fits Steps.line58 F = line58-fits S g m M t f F
-  line-fits Steps.line60 F = line60-fits S g m M t f F
-  line-fits Steps.line62 F = line62-fits S g m M t f F
-  line-fits Steps.line64 F = line64-fits S g m M t f F
-  line-fits Steps.line67 F = line67-fits S g m M t f F
-  line-fits Steps.line68 F = line68-fits S g m M t f F
-  line-fits Steps.line69 F = line69-fits S g m M t f F
-  line-fits Steps.line70 F = line70-fits S g m M t f F
-  line-fits Steps.line72 F = line72-fits S g m M t f F
-  line-fits Steps.line74 F = line74-fits S g m M t f F
-  line-fits Steps.line77 F = line77-fits S g m M t f F
-  line-fits Steps.line78 F = line78-fits S g m M t f F
-  line-fits Steps.line79 F = line79-fits S g m M t f F
-  line-fits Steps.line81 F = line81-fits S g m M t f F
-  line-fits Steps.line82 F = line82-fits S g m M t f F
+  line-fits Steps.line2 F = line2-fits S g L m M t f F
+  line-fits Steps.line3 F = line3-fits S g L m M t f F
+  line-fits Steps.line5 F = line5-fits S g L m M t f F
+  line-fits Steps.line8 F = line8-fits S g L m M t f F
+  line-fits Steps.line15 F = line15-fits S g L m M t f F
+  line-fits Steps.line17 F = line17-fits S g L m M t f F
+  line-fits Steps.line18 F = line18-fits S g L m M t f F
+  line-fits Steps.line24 F = line24-fits S g L m M t f F
+  line-fits Steps.line25 F = line25-fits S g L m M t f F
+  line-fits Steps.line28 F = line28-fits S g L m M t f f-ok F
+  line-fits Steps.line31 F = line31-fits S g L m M t f f-ok F
+  line-fits Steps.line39 F = line39-fits S g L m M t f F
+  line-fits Steps.line40 F = line40-fits S g L m M t f F
+  line-fits Steps.line42 F = line42-fits S g L m M t f F
+  line-fits Steps.line48 F = line48-fits S g L m M t f F
+  line-fits Steps.line51 F = line51-fits S g L m M t f F
+  line-fits Steps.line54 F = line54-fits S g L m M t f F
+  line-fits Steps.line56 F = line56-fits S g L m M t f F
+  line-fits Steps.line58 F = line58-fits S g L m M t f F
+  line-fits Steps.line60 F = line60-fits S g L m M t f F
+  line-fits Steps.line62 F = line62-fits S g L m M t f F
+  line-fits Steps.line64 F = line64-fits S g L m M t f F
+  line-fits Steps.line67 F = line67-fits S g L m M t f F
+  line-fits Steps.line68 F = line68-fits S g L m M t f F
+  line-fits Steps.line69 F = line69-fits S g L m M t f F
+  line-fits Steps.line70 F = line70-fits S g L m M t f F
+  line-fits Steps.line72 F = line72-fits S g L m M t f F
+  line-fits Steps.line74 F = line74-fits S g L m M t f F
+  line-fits Steps.line77 F = line77-fits S g L m M t f F
+  line-fits Steps.line78 F = line78-fits S g L m M t f F
+  line-fits Steps.line79 F = line79-fits S g L m M t f F
+  line-fits Steps.line81 F = line81-fits S g L m M t f F
+  line-fits Steps.line82 F = line82-fits S g L m M t f F

@@ -98,7 +98,7 @@ back-lands t h = go (t .operation) h (t .D ≟ none)
     go remove h d = lands h refl
 
 -- ---- The record after a line: t stood at st with the facts F.
-module _ {S g : ℕ} {st : Step} {t : Task} (F : BusyAt S g st t) where
+module _ {S g L : ℕ} {st : Step} {t : Task} (F : BusyAt S g L st t) where
   pub part : hasPart (t .operation) (partOf st) ≡ true
   part = sym (step-in-part st (t .operation)) ∙ F .step-ok
 
@@ -113,7 +113,7 @@ module _ {S g : ℕ} {st : Step} {t : Task} (F : BusyAt S g st t) where
       → NodeOrNone S b
       → NodeOrNone S c
       → NodeOrNone S d
-      → BusyFacts S g (further t st′ n v a b c d)
+      → BusyFacts S g L (further t st′ n v a b c d)
   stands st′ p n-ok v-ok word a-ok b-ok c-ok d-ok =
       record {
         busy = F .busy;
@@ -126,6 +126,7 @@ module _ {S g : ℕ} {st : Step} {t : Task} (F : BusyAt S g st t) where
         B-ok = b-ok;
         C-ok = c-ok;
         D-ok = d-ok;
+        lane-ok = F .lane-ok;
       }
 
   -- At an ordinary step: with one register changed, or none, or with another value read.
@@ -137,24 +138,24 @@ module _ {S g : ℕ} {st : Step} {t : Task} (F : BusyAt S g st t) where
         → NodeOrNone S b
         → NodeOrNone S c
         → NodeOrNone S d
-        → BusyFacts S g (goto (withRegisters t a b c d) st′)
+        → BusyFacts S g L (goto (withRegisters t a b c d) st′)
     moves-registers (lands p q) =
         stands st′ p (ordinary-counted st′ q (goal g t) (t .counted) (counted-at-most F))
         (ordinary-value st′ q (t .side) (encode (t .value)) (value-read-ok F)) (F .has-word)
 
-    pub moves : Lands (t .operation) st′ → BusyFacts S g (goto t st′)
+    pub moves : Lands (t .operation) st′ → BusyFacts S g L (goto t st′)
     moves l = moves-registers l (F .A-ok) (F .B-ok) (F .C-ok) (F .D-ok)
 
-    pub moves-A : Lands (t .operation) st′ → {x : ℕ} → NodeOrNone S x → BusyFacts S g (goto (withA t x) st′)
+    pub moves-A : Lands (t .operation) st′ → {x : ℕ} → NodeOrNone S x → BusyFacts S g L (goto (withA t x) st′)
     moves-A l h = moves-registers l h (F .B-ok) (F .C-ok) (F .D-ok)
 
-    pub moves-B : Lands (t .operation) st′ → {x : ℕ} → NodeOrNone S x → BusyFacts S g (goto (withB t x) st′)
+    pub moves-B : Lands (t .operation) st′ → {x : ℕ} → NodeOrNone S x → BusyFacts S g L (goto (withB t x) st′)
     moves-B l h = moves-registers l (F .A-ok) h (F .C-ok) (F .D-ok)
 
-    pub moves-C : Lands (t .operation) st′ → {x : ℕ} → NodeOrNone S x → BusyFacts S g (goto (withC t x) st′)
+    pub moves-C : Lands (t .operation) st′ → {x : ℕ} → NodeOrNone S x → BusyFacts S g L (goto (withC t x) st′)
     moves-C l h = moves-registers l (F .A-ok) (F .B-ok) h (F .D-ok)
 
-    pub moves-value : Lands (t .operation) st′ → (v : Value) → ValueFits v → BusyFacts S g (goto (withValue t v) st′)
+    pub moves-value : Lands (t .operation) st′ → (v : Value) → ValueFits v → BusyFacts S g L (goto (withValue t v) st′)
     moves-value (lands p q) v h =
         stands st′ p (ordinary-counted st′ q (goal g t) (t .counted) (counted-at-most F))
         (ordinary-value st′ q (t .side) (encode v) (h .1)) (h .0) (F .A-ok) (F .B-ok) (F .C-ok) (F .D-ok)

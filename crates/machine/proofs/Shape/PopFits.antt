@@ -34,35 +34,35 @@ use Rattle.machine.proofs.Shape.Moves.{
 }
 use Rattle.machine.proofs.Basics.Choices.{by-if}
 
-module _ (S g : ℕ) (m : Memory) (M : MemoryFits S m) (t : Task) (f : ℕ) where
-  pub line39-fits : LineFits S g m t f line39
+module _ (S g L : ℕ) (m : Memory) (M : MemoryFits S m) (t : Task) (f : ℕ) where
+  pub line39-fits : LineFits S g L m t f line39
   unfolding act isStepIn
   line39-fits F = goes-on tt (moves-A F (lands (part F) refl) (λ _. M .hat-ok))
 
-  pub line40-fits : LineFits S g m t f line40
+  pub line40-fits : LineFits S g L m t f line40
   unfolding act isStepIn
   line40-fits F =
-      by-through S g t (λ _.
+      by-through S g L t (λ _.
       goes-on tt
       (moves-B F (lands-if (_ ≟ _) (lands (part F) refl) (lands (part F) refl)) (M .inn-ok (t .A))))
 
   -- The opposite side's N or X was read for 48.
   reads-48 :
-      BusyAt S g line42 t
+      BusyAt S g L line42 t
       → (v : Value)
       → HasWord v
       → valueReadOk (t .side) (stepNumber line48) (encode v) ≡ true
-      → BusyFacts S g (goto (withValue t v) line48)
+      → BusyFacts S g L (goto (withValue t v) line48)
   unfolding isStepIn
   reads-48 F v word ok =
       stands F line48 (part F) (F .counted-ok) ok word (F .A-ok) (F .B-ok) (F .C-ok) (F .D-ok)
 
   -- A bag was read for 51.
   read-fits :
-      BusyAt S g line42 t
+      BusyAt S g L line42 t
       → (v : Value)
       → ValueFits v
-      → BusyFacts S g (goto (withValue t v) (afterRead (opposite (t .side)) v))
+      → BusyFacts S g L (goto (withValue t v) (afterRead (opposite (t .side)) v))
   unfolding isStepIn
   read-fits F never h = moves-value F (lands (part F) refl) never h
   read-fits F (bag n) h =
@@ -72,37 +72,37 @@ module _ (S g : ℕ) (m : Memory) (M : MemoryFits S m) (t : Task) (f : ℕ) wher
       let w = encode (N z) in
       let n = encode (N (opposite (t .side))) in
       let x = encode (X (opposite (t .side))) in
-      by-if (λ st. BusyFacts S g (goto (withValue t (N z)) st)) (_ ≟ᵛ _)
+      by-if (λ st. BusyFacts S g L (goto (withValue t (N z)) st)) (_ ≟ᵛ _)
       (λ e. reads-48 F (N z) (h .0) (or-left (sameStored w n) (sameStored w x) (stored-same (ap encode e))))
       (λ _. moves-value F (lands (part F) refl) (N z) h)
   read-fits F (X z) h =
       let w = encode (X z) in
       let n = encode (N (opposite (t .side))) in
       let x = encode (X (opposite (t .side))) in
-      by-if (λ st. BusyFacts S g (goto (withValue t (X z)) st)) (_ ≟ᵛ _)
+      by-if (λ st. BusyFacts S g L (goto (withValue t (X z)) st)) (_ ≟ᵛ _)
       (λ e. reads-48 F (X z) (h .0) (or-right (sameStored w n) (sameStored w x) (stored-same (ap encode e))))
       (λ _. moves-value F (lands (part F) refl) (X z) h)
   read-fits F (Y z) h = moves-value F (lands (part F) refl) (Y z) h
 
-  pub line42-fits : LineFits S g m t f line42
+  pub line42-fits : LineFits S g L m t f line42
   unfolding act
   line42-fits F =
-      by-through S g t (λ _. goes-on tt (read-fits F (m .val (t .B)) (M .val-ok (t .B))))
+      by-through S g L t (λ _. goes-on tt (read-fits F (m .val (t .B)) (M .val-ok (t .B))))
 
-  pub line48-fits : LineFits S g m t f line48
+  pub line48-fits : LineFits S g L m t f line48
   unfolding act isStepIn
   line48-fits F =
-      by-through S g t (λ _.
-      by-dcas S g _ _ (ends tt tt)
+      by-through S g L t (λ _.
+      by-dcas S g L _ _ (ends tt tt)
       (goes-on tt (moves F (lands (part F) refl))))
 
   -- The tag of the bag that was read.
-  tag-at-51 : BusyAt S g line51 t → bagOk (stored (bagOf (t .value))) ≡ true
+  tag-at-51 : BusyAt S g L line51 t → bagOk (stored (bagOf (t .value))) ≡ true
   tag-at-51 F = let b = bag-at-51 F in subst (λ v. bagOk (stored (bagOf v)) ≡ true) (sym (b .1)) (b .2)
 
-  pub line51-fits : LineFits S g m t f line51
+  pub line51-fits : LineFits S g L m t f line51
   unfolding act isStepIn
   line51-fits F =
-      by-through S g t (λ nB.
-      by-dcas S g _ _ (ends (search fitting) (tag-at-51 F))
+      by-through S g L t (λ nB.
+      by-dcas S g L _ _ (ends (search fitting) (tag-at-51 F))
       (goes-on tt (moves F (lands (part F) refl))))

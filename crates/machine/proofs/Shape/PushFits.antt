@@ -39,32 +39,32 @@ bag-argument pop n h k = clash (cc)
 bag-argument add n h k = clash (cc)
 bag-argument remove n h k = clash (cc)
 
-module _ (S g : ℕ) (m : Memory) (M : MemoryFits S m) (t : Task) (f : ℕ) where
-  pub line2-fits : LineFits S g m t f line2
+module _ (S g L : ℕ) (m : Memory) (M : MemoryFits S m) (t : Task) (f : ℕ) where
+  pub line2-fits : LineFits S g L m t f line2
   unfolding act isStepIn
   line2-fits F = goes-on tt (moves-A F (lands (part F) refl) (λ _. M .hat-ok))
 
-  pub line3-fits : LineFits S g m t f line3
+  pub line3-fits : LineFits S g L m t f line3
   unfolding act isStepIn
   line3-fits F =
-      by-through S g t (λ _.
+      by-through S g L t (λ _.
       goes-on tt
       (moves-B F (lands-if (_ ≟ _) (lands (part F) refl) (lands (part F) refl)) (M .out-ok (t .A))))
 
-  pub line5-fits : LineFits S g m t f line5
+  pub line5-fits : LineFits S g L m t f line5
   unfolding act isStepIn
   line5-fits F =
       let n = t .argument in
       let ok = bag-argument (t .operation) (stored n) (part F) (F .argument-ok) in
       let fits : ValueFits (bag n) = (bag-has-word n ok, bag-value-ok (stored n) ok) in
-      by-through S g t (λ nA.
-      by-through S g t (λ nB.
-      by-dcas S g _ _ (ends (search fitting) tt)
+      by-through S g L t (λ nA.
+      by-through S g L t (λ nB.
+      by-dcas S g L _ _ (ends (search fitting) tt)
       (goes-on tt (moves F (lands (part F) refl)))))
 
-  pub line8-fits : LineFits S g m t f line8
+  pub line8-fits : LineFits S g L m t f line8
   unfolding act isStepIn
   line8-fits F =
       let grows = push-grows (t .operation) (part F) in
-      by-through S g t (λ _.
+      by-through S g L t (λ _.
       goes-on tt (moves F (lands-if (_ ≟ᵛ _) (lands grows refl) (lands grows refl))))

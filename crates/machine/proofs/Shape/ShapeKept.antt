@@ -3,13 +3,13 @@ use mathlib.Core.Path.{_≡_, refl, ap, sym, _∙_, subst}
 use mathlib.Core.Bool.{true, not, _&&_, _||_}
 use mathlib.Core.List.{List, [], _∷_}
 use mathlib.Core.Option.{Option, some, none as nothing}
-use Prim.Native.Nat.{ℕ, _≤_, _<_}
+use Prim.Native.Nat.{ℕ, _*_, _%_, _≤_, _<_}
 use lib.Dec.{leb, ltb}
 use lib.ListN.{drop}
 use native.Mathlib.Omega.{arith}
 use borrow.Author.Tests.{leb-true, le-leb, ltb-true}
 use Rattle.machine.specs.declared.Stored.{Stored}
-use Rattle.machine.specs.Choice.{_≟_}
+use Rattle.machine.specs.Choice.{_≟_, _<?_}
 use Rattle.machine.specs.Sides.{Side, left, right, sideOf}
 use Rattle.machine.specs.Values.{never, stored, number, encode, valueOk}
 use Rattle.machine.specs.Operations.{
@@ -25,8 +25,8 @@ use Rattle.machine.specs.Operations.{
 }
 use Rattle.machine.specs.Steps.{stepNumber, stepsOf, isStepIn, firstStep}
 use Rattle.machine.specs.Tasks.{Task, wordsOf}
-use Rattle.machine.specs.Table.{nodeCount, taskCount, growth, task, setDispatched, setTask}
-use Rattle.machine.specs.Shape.{sizesOk, valueReadOk, countedOk, WellFormed}
+use Rattle.machine.specs.Table.{nodeCount, taskCount, growth, laneCount, mostLanes, task, setDispatched, setTask}
+use Rattle.machine.specs.Shape.{lanesOk, sizesOk, valueReadOk, countedOk, WellFormed}
 use Rattle.machine.specs.Answers.{answerLength, refusalOf}
 use Rattle.machine.specs.Calls.{
   isIdle,
@@ -42,11 +42,12 @@ use Rattle.machine.specs.Calls.{
   runRefusal,
   panelRefusal,
   changed,
+  startHat,
   startWords,
   start,
   begunTask,
   begin,
-  lane,
+  allLanes,
   Ticked,
   tickOn,
   tick,
@@ -80,17 +81,18 @@ use Rattle.machine.proofs.Words.Columns.{sizesOf, columns}
 use Rattle.machine.proofs.Words.TableLaws.{columns-setDispatched, columns-setTask}
 use Rattle.machine.proofs.Words.StartLaws.{
   startLink,
-  startHat,
   startValue,
   startColumns,
   columns-start,
 }
 use Rattle.machine.proofs.Words.RunLaws.{kept-in-row}
+use Rattle.machine.proofs.Words.Stretches.{side-small}
 use Rattle.machine.proofs.Shape.BusyLaws.{NodeOrNone, BusyFacts, record-of-fresh, record-of-busy}
 use Rattle.machine.proofs.Shape.ShapeLaws.{
   WellSized,
   well-sized,
   length-ok,
+  HatFits,
   WellShaped,
   well-shaped,
   shape-ok,
@@ -110,24 +112,32 @@ is-accepted ws e =
     }
 
 -- ---- start.
-start-value-ok : (x : ℕ) → valueOk (encode (startValue x)) ≡ true
-start-value-ok x =
-    by-if (λ v. valueOk (encode v) ≡ true) (x ≟ 0) (λ _. refl) (λ _.
-    by-if (λ v. valueOk (encode v) ≡ true) (x ≟ 1) (λ _. refl) (λ _. refl))
+start-value-ok : (L x : ℕ) → valueOk (encode (startValue L x)) ≡ true
+start-value-ok L x =
+    by-if (λ v. valueOk (encode v) ≡ true) (x <? 2 * L) (λ _.
+    by-if (λ v. valueOk (encode v) ≡ true) (x % 2 ≟ 0) (λ _. refl) (λ _. refl)) (λ _. refl)
 
-start-link-ok : (S : ℕ) → 2 ≤ S → (s : Side) (x : ℕ) → NodeOrNone S (startLink s x)
-start-link-ok S two left x = by-if (NodeOrNone S) (x ≟ 1) (λ _ _. omega arith) (λ _. none-fits)
-start-link-ok S two right x = by-if (NodeOrNone S) (x ≟ 0) (λ _ _. omega arith) (λ _. none-fits)
+start-link-ok : (S L : ℕ) → 2 * L ≤ S → (s : Side) (x : ℕ) → NodeOrNone S (startLink L s x)
+start-link-ok S L room left x =
+    by-if (NodeOrNone S) (x <? 2 * L) (λ l.
+    by-if (NodeOrNone S) (x % 2 ≟ 0) (λ _. none-fits) (λ _ _. omega arith)) (λ _. none-fits)
+start-link-ok S L room right x =
+    by-if (NodeOrNone S) (x <? 2 * L) (λ l.
+    by-if (NodeOrNone S) (x % 2 ≟ 0) (λ even _. omega arith) (λ _. none-fits)) (λ _. none-fits)
 
-start-hat-ok : (S : ℕ) → 2 ≤ S → (s : Side) → startHat s < S
-start-hat-ok S two left = omega arith
-start-hat-ok S two right = omega arith
+start-hat-ok : (S L : ℕ) → 2 * L ≤ S → (l : ℕ) (s : Side) → HatFits S L l (startHat L l s)
+start-hat-ok S L room l s =
+    by-if (HatFits S L l) (l <? L)
+    (λ h. record { used = λ _. let b = side-small s in omega arith; unused = λ q. absurd (omega arith) })
+    (λ h. record { used = λ q. absurd (h q); unused = λ _. refl })
 
-module _ (S T g : ℕ) (h : sizesOk S T g ≡ true) where
-  pub start-sized : WellSized (startColumns S T g .sizes)
+module _ (S T g L : ℕ) (lanes : lanesOk L ≡ true) (h : sizesOk S T g L ≡ true) where
+  pub start-sized : WellSized (startColumns S T g L .sizes)
   start-sized =
       record {
-        two-nodes = leb-true 2 S (search (and-left, and-right));
+        one-lane = leb-true 1 L (search (and-left, and-right));
+        most-lanes = leb-true L mostLanes (search (and-left, and-right));
+        lanes-fit = leb-true (2 * L) S (search (and-left, and-right));
         most-nodes = leb-true S 1024 (search (and-left, and-right));
         one-task = leb-true 1 T (search (and-left, and-right));
         most-tasks = leb-true T 16 (search (and-left, and-right));
@@ -135,22 +145,22 @@ module _ (S T g : ℕ) (h : sizesOk S T g ≡ true) where
         sized = refl;
       }
 
-  start-shaped : WellShaped (startColumns S T g)
+  start-shaped : WellShaped (startColumns S T g L)
   start-shaped =
       record {
         counts-ok = start-last-words T (start-sized .one-task);
-        hats-ok = start-hat-ok S (start-sized .two-nodes);
-        links-ok = start-link-ok S (start-sized .two-nodes);
-        values-ok = start-value-ok;
-        records-ok = λ k. record-of-fresh S g;
+        hats-ok = start-hat-ok S L (start-sized .lanes-fit);
+        links-ok = start-link-ok S L (start-sized .lanes-fit);
+        values-ok = start-value-ok L;
+        records-ok = λ k. record-of-fresh S g L;
       }
 
-  pub start-accepted : WellFormed (startWords S T g)
+  pub start-accepted : WellFormed (startWords S T g L)
   start-accepted =
-      let same = sym (columns-start S T g (start-sized .two-nodes)) in
+      let same = sym (columns-start S T g L (start-sized .lanes-fit) (start-sized .most-lanes)) in
       record {
-        length-passes = length-ok (startWords S T g) (subst WellSized (ap (λ c. c .sizes) same) start-sized);
-        shape-passes = shape-ok (startWords S T g) (subst WellShaped same start-shaped);
+        length-passes = length-ok (startWords S T g L) (subst WellSized (ap (λ c. c .sizes) same) start-sized);
+        shape-passes = shape-ok (startWords S T g L) (subst WellShaped same start-shaped);
       }
 
 -- ---- begin.
@@ -161,8 +171,9 @@ begun-busy n h =
     by-if (λ op. isBusy op ≡ true) (n ≟ 2) (λ _. refl) (λ _.
     by-if (λ op. isBusy op ≡ true) (n ≟ 3) (λ _. refl) (λ _. refl))))
 
-module _ (S g : ℕ) (s : Side) (n : ℕ) where
-  begun-facts : (op : Operation) → isBusy op ≡ true → argumentOk op (stored n) ≡ true → BusyFacts S g (begunTask op s n)
+module _ (S g L : ℕ) (l : ℕ) (is-lane : l < L) (s : Side) (n : ℕ) where
+  begun-facts : (op : Operation) → isBusy op ≡ true → argumentOk op (stored n) ≡ true
+      → BusyFacts S g L (begunTask l op s n)
   unfolding isStepIn
   begun-facts op b h =
       record {
@@ -176,6 +187,7 @@ module _ (S g : ℕ) (s : Side) (n : ℕ) where
         B-ok = none-fits;
         C-ok = none-fits;
         D-ok = none-fits;
+        lane-ok = is-lane;
       }
     where
       first-step : (op : Operation) → isStepIn (stepsOf op) (stepNumber (firstStep op)) ≡ true
@@ -200,7 +212,8 @@ module _ (S g : ℕ) (s : Side) (n : ℕ) where
       first-value remove = refl
 
 -- A begin that passes its tests.
-pub record BeginAllowed (ws : List ℕ) (k op side : ℕ) (argument : Stored) : Type 0 where
+pub record BeginAllowed (ws : List ℕ) (k l op side : ℕ) (argument : Stored) : Type 0 where
+  pub is-lane : l < laneCount ws
   pub is-task : k < taskCount ws
   pub some-operation : 1 ≤ op
   pub last-operation : op ≤ 4
@@ -213,7 +226,7 @@ pub not-seen-twice :
     (ws : List ℕ) (op : Operation) (n : ℕ) (others : Option ℕ)
     → twiceRefusal ws op n others ≡ nothing
     → others ≡ nothing
-not-seen-twice ws push n others e = go (lane ws) e
+not-seen-twice ws push n others e = go (allLanes ws) e
   where
     go : (bags : Option (List ℕ)) → seenRefusal ws n bags others ≡ nothing → others ≡ nothing
     go nothing e = clash (cc)
@@ -223,37 +236,41 @@ not-seen-twice ws pop n others e = e
 not-seen-twice ws add n others e = e
 not-seen-twice ws remove n others e = e
 
-module _ (ws : List ℕ) (k op side : ℕ) (argument : Stored) where
-  pub begin-allowed : beginRefusal ws k op side argument ≡ nothing → BeginAllowed ws k op side argument
+module _ (ws : List ℕ) (k l op side : ℕ) (argument : Stored) where
+  pub begin-allowed : beginRefusal ws k l op side argument ≡ nothing → BeginAllowed ws k l op side argument
   begin-allowed e =
+      let lane-test : ltb l (laneCount ws) ≡ true = search (test-passed, tests-left) in
       let a : ltb k (taskCount ws) ≡ true = search (test-passed, tests-left) in
       let numbers : leb 1 op && leb op 4 && leb side 1 ≡ true = search (test-passed, tests-left) in
       let b : leb 1 op ≡ true = search (and-left, and-right) in
       let c : leb op 4 ≡ true = search (and-left, and-right) in
       let d : leb side 1 ≡ true = search (and-left, and-right) in
       record {
+        is-lane = ltb-true l (laneCount ws) lane-test;
         is-task = ltb-true k (taskCount ws) a;
         some-operation = leb-true 1 op b;
         last-operation = leb-true op 4 c;
         last-side = leb-true side 1 d;
-        argument-fits = search (test-passed, tests-left) depth 7;
-        was-idle = search (test-passed, tests-left, not-seen-twice) depth 8;
+        argument-fits = search (test-passed, tests-left) depth 8;
+        was-idle = search (test-passed, tests-left, not-seen-twice) depth 9;
       }
 
   module _ (Z : WellSized (sizesOf ws)) (W : WellShaped (columns ws)) where
     begun : Task
-    begun = begunTask (operationOf op) (sideOf side) (number argument)
+    begun = begunTask l (operationOf op) (sideOf side) (number argument)
 
-    accepted-kept : BeginAllowed ws k op side argument → Kept ws (setTask k begun ws)
+    accepted-kept : BeginAllowed ws k l op side argument → Kept ws (setTask k begun ws)
     unfolding begun
     accepted-kept A =
         let S = nodeCount ws in
         let g = growth ws in
         let busy = begun-busy op (A .some-operation) in
         let same-argument = argument-stored (operationOf op) argument (A .argument-fits) in
-        let fits = subst (λ (u : Stored). argumentOk (operationOf op) u ≡ true) (sym same-argument) (A .argument-fits) in
-        let F = begun-facts S g (sideOf side) (number argument) (operationOf op) busy fits in
-        let recorded = put-record-shaped (columns ws) W k (wordsOf begun) (record-of-busy S g begun F) in
+        let fits =
+        subst (λ (u : Stored). argumentOk (operationOf op) u ≡ true) (sym same-argument) (A .argument-fits) in
+        let L = laneCount ws in
+        let F = begun-facts S g L l (A .is-lane) (sideOf side) (number argument) (operationOf op) busy fits in
+        let recorded = put-record-shaped (columns ws) W k (wordsOf begun) (record-of-busy S g L begun F) in
         let same = sym (columns-setTask ws (Z .sized) k begun (A .is-task)) in
         record {
           same-sizes = ap (λ c. c .sizes) (sym same);
@@ -262,13 +279,13 @@ module _ (ws : List ℕ) (k op side : ℕ) (argument : Stored) where
           well-shaped = subst WellShaped same recorded;
         }
 
-    pub begin-kept : Kept ws (begin ws k op side argument .words)
+    pub begin-kept : Kept ws (begin ws k l op side argument .words)
     unfolding begin begun
-    begin-kept = go (beginRefusal ws k op side argument) refl
+    begin-kept = go (beginRefusal ws k l op side argument) refl
       where
         go :
             (r : Option ℕ)
-            → beginRefusal ws k op side argument ≡ r
+            → beginRefusal ws k l op side argument ≡ r
             → Kept ws (changed r ws (setTask k begun ws) .words)
         go (some n) e = unchanged ws Z W
         go nothing e = accepted-kept (begin-allowed e)
@@ -328,13 +345,14 @@ module _ (ws : List ℕ) (A : WellFormed ws) where
   Z = well-sized ws (A .length-passes)
 
   W : WellShaped (columns ws)
-  W = well-shaped ws (A .shape-passes)
+  W = well-shaped ws (A .length-passes) (A .shape-passes)
 
   pub tick-call-kept : (k h : ℕ) → Kept ws (tick ws k h .words)
   tick-call-kept k h = rw (tick-passes k h) (tick-kept ws Z W k h)
 
   -- The table of a tick that passes its tests, with that task as the one last dispatched.
-  pub dispatched-accepted : (k h : ℕ) → tickRefusal ws k h ≡ nothing → WellFormed (setDispatched k (tickOn ws k h .words))
+  pub dispatched-accepted : (k h : ℕ) → tickRefusal ws k h ≡ nothing
+      → WellFormed (setDispatched k (tickOn ws k h .words))
   dispatched-accepted k h passes =
       let vs = tickOn ws k h .words in
       let K = tick-kept ws Z W k h in
@@ -347,13 +365,13 @@ module _ (ws : List ℕ) (A : WellFormed ws) where
             (subst WellShaped same (put-dispatched-shaped (columns vs) (K .well-shaped) k is-task));
       }
 
-  start-call-accepted : (S T g : ℕ) → WellFormed (start ws S T g .words)
+  start-call-accepted : (S T g L : ℕ) → WellFormed (start ws S T g L .words)
   unfolding start
-  start-call-accepted S T g = go (startRefusal ws S T g) refl
+  start-call-accepted S T g L = go (startRefusal ws S T g L) refl
     where
-      go : (r : Option ℕ) → startRefusal ws S T g ≡ r → WellFormed (changed r ws (startWords S T g) .words)
+      go : (r : Option ℕ) → startRefusal ws S T g L ≡ r → WellFormed (changed r ws (startWords S T g L) .words)
       go (some n) e = A
-      go nothing e = start-accepted S T g (search test-passed)
+      go nothing e = start-accepted S T g L (search test-passed) (search (test-passed, tests-left))
 
   -- A dispatch leaves the table as it was, or as a tick leaves it, with that task as the one last dispatched.
   dispatch-call-accepted : (h : ℕ) → WellFormed (dispatch ws h .words)
@@ -373,11 +391,11 @@ module _ (ws : List ℕ) (A : WellFormed ws) where
 
   pub call-accepted : (c : Call) → WellFormed (after c ws)
   unfolding run panel
-  call-accepted (start-call S T g) = start-call-accepted ws A S T g
-  call-accepted (begin-call k op side argument) = kept-accepted (begin-kept ws k op side argument (Z ws A) (W ws A))
+  call-accepted (start-call S T g L) = start-call-accepted ws A S T g L
+  call-accepted (begin-call k l op side argument) = kept-accepted (begin-kept ws k l op side argument (Z ws A) (W ws A))
   call-accepted (tick-call k h) = kept-accepted (tick-call-kept ws A k h)
   call-accepted (ticks-call k h times) = kept-accepted (ticks-kept times k h)
   call-accepted (dispatch-call h) = dispatch-call-accepted ws A h
   call-accepted (run-call list answers) = tested-accepted ws A (runRefusal ws list answers) list answers
   call-accepted (panel-call list answers) = tested-accepted ws A (panelRefusal ws list answers) list answers
-  call-accepted (read-call out) = A
+  call-accepted (read-call l out) = A

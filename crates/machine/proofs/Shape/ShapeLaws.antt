@@ -1,12 +1,12 @@
 -- The tests of the sizes, the length and the shape as facts about the table's columns, both ways.
 use mathlib.Core.Path.{_≡_, refl, sym, _∙_}
-use mathlib.Core.Bool.{Bool, true}
+use mathlib.Core.Bool.{Bool, true, false, cond, _&&_}
 use mathlib.Core.List.{List}
-use Prim.Native.Nat.{ℕ, zero, suc, _≤_, _<_}
+use Prim.Native.Nat.{ℕ, zero, suc, _*_, _≤_, _<_}
 use lib.Dec.{leb, ltb, eqb}
 use lib.ListN.{length}
 use native.Mathlib.Omega.{arith}
-use borrow.Author.Tests.{leb-true, le-leb, ltb-true, lt-ltb, eqb-true, eq-eqb}
+use borrow.Author.Tests.{leb-true, le-leb, ltb-true, lt-ltb, le-ltb, eqb-true, eq-eqb}
 use Rattle.machine.specs.Choice.{_<?_, _≟_, if_then_else_}
 use Rattle.machine.specs.Sides.{Side, left, right}
 use Rattle.machine.specs.Values.{never, encode, valueOk}
@@ -16,15 +16,19 @@ use Rattle.machine.specs.Table.{
   nodeCount,
   taskCount,
   growth,
-  hat,
+  laneCount,
   dispatched,
-  word7,
+  mostLanes,
+  hatWord,
+  hat,
+  word14,
+  word15,
   linkWord,
   valueWords,
   link,
   recordWords,
 }
-use Rattle.machine.specs.Shape.{lengthOk, allBelow, nodeOrNone, nodeOk, recordOk, shapeOk}
+use Rattle.machine.specs.Shape.{lengthOk, allBelow, nodeOrNone, hatOk, nodeOk, recordOk, shapeOk}
 use Rattle.machine.proofs.Basics.Tests.{and-left, and-right}
 use Rattle.machine.proofs.Words.Columns.{
   Sizes,
@@ -49,7 +53,9 @@ use Rattle.machine.proofs.Basics.Choices.{if-yes}
 
 -- ---- The sizes and the length.
 pub record WellSized (z : Sizes) : Type 0 where
-  pub two-nodes : 2 ≤ z .nodeCount
+  pub one-lane : 1 ≤ z .laneCount
+  pub most-lanes : z .laneCount ≤ mostLanes
+  pub lanes-fit : 2 * z .laneCount ≤ z .nodeCount
   pub most-nodes : z .nodeCount ≤ 1024
   pub one-task : 1 ≤ z .taskCount
   pub most-tasks : z .taskCount ≤ 16
@@ -62,14 +68,19 @@ module _ (ws : List ℕ) where
       let S = nodeCount ws in
       let T = taskCount ws in
       let g = growth ws in
-      let a : leb 2 S ≡ true = search (and-left, and-right) depth 9 in
+      let L = laneCount ws in
+      let l : leb 1 L ≡ true = search (and-left, and-right) depth 9 in
+      let m : leb L mostLanes ≡ true = search (and-left, and-right) depth 9 in
+      let a : leb (2 * L) S ≡ true = search (and-left, and-right) depth 9 in
       let b : leb S 1024 ≡ true = search (and-left, and-right) depth 9 in
       let c : leb 1 T ≡ true = search (and-left, and-right) depth 9 in
       let d : leb T 16 ≡ true = search (and-left, and-right) depth 9 in
       let e : leb g 64 ≡ true = search (and-left, and-right) depth 9 in
       let f : eqb (length ws) (tableLength S T) ≡ true = search (and-left, and-right) depth 9 in
       record {
-        two-nodes = leb-true 2 S a;
+        one-lane = leb-true 1 L l;
+        most-lanes = leb-true L mostLanes m;
+        lanes-fit = leb-true (2 * L) S a;
         most-nodes = leb-true S 1024 b;
         one-task = leb-true 1 T c;
         most-tasks = leb-true T 16 d;
@@ -82,9 +93,12 @@ module _ (ws : List ℕ) where
       let S = nodeCount ws in
       let T = taskCount ws in
       let g = growth ws in
+      let L = laneCount ws in
       rw (
         le-leb (tableLength 2 1) (length ws) (omega arith),
-        le-leb 2 S (Z .two-nodes),
+        le-leb 1 L (Z .one-lane),
+        le-leb L mostLanes (Z .most-lanes),
+        le-leb (2 * L) S (Z .lanes-fit),
         le-leb S 1024 (Z .most-nodes),
         le-leb 1 T (Z .one-task),
         le-leb T 16 (Z .most-tasks),
@@ -110,29 +124,38 @@ below-all (suc n) test h x l =
 -- ---- The shape.
 pub record LastWordsOk (T : ℕ) (n : Counts) : Type 0 where
   pub is-task : n .dispatched < T
-  pub word7-zero : n .word7 ≡ 0
+  pub word14-zero : n .word14 ≡ 0
+  pub word15-zero : n .word15 ≡ 0
 
 pub start-last-words : (T : ℕ) → 1 ≤ T → LastWordsOk T (startCounts T)
-start-last-words T h = record { is-task = omega arith; word7-zero = refl }
+start-last-words T h = record { is-task = omega arith; word14-zero = refl; word15-zero = refl }
 
 pub counted-last-words : (m : ℕ) {T : ℕ} {n : Counts} → LastWordsOk T n → LastWordsOk T (countedAs m n)
-counted-last-words m Z = record { is-task = Z .is-task; word7-zero = Z .word7-zero }
+counted-last-words m Z =
+    record { is-task = Z .is-task; word14-zero = Z .word14-zero; word15-zero = Z .word15-zero }
 
 pub dispatched-last-words : (k : ℕ) {T : ℕ} {n : Counts} → k < T → LastWordsOk T n → LastWordsOk T (dispatchedTo k n)
-dispatched-last-words k h Z = record { is-task = h; word7-zero = Z .word7-zero }
+dispatched-last-words k h Z = record { is-task = h; word14-zero = Z .word14-zero; word15-zero = Z .word15-zero }
 
--- The last word is then known.
+-- The last words are then known.
 pub same-last-words : {T U : ℕ} {m n : Counts} → LastWordsOk T m → LastWordsOk U n → m .tickCount ≡ n .tickCount
     → m .dispatched ≡ n .dispatched
     → m ≡ n
-same-last-words Y Z e d = counts-equal e d (Y .word7-zero ∙ sym (Z .word7-zero))
+same-last-words Y Z e d =
+    counts-equal e d (Y .word14-zero ∙ sym (Z .word14-zero)) (Y .word15-zero ∙ sym (Z .word15-zero))
+
+-- A hat of lane l, of L lanes: a node, and of a lane that is not there none.
+pub record HatFits (S L l x : ℕ) : Type 0 where
+  pub used : l < L → x < S
+  pub unused : L ≤ l → x ≡ none
 
 pub record WellShaped (c : Columns) : Type 0 where
   pub counts-ok : LastWordsOk (c .sizes .taskCount) (c .counts)
-  pub hats-ok : (s : Side) → c .hats s < c .sizes .nodeCount
+  pub hats-ok : (l : ℕ) (s : Side) → HatFits (c .sizes .nodeCount) (c .sizes .laneCount) l (c .hats l s)
   pub links-ok : (s : Side) (x : ℕ) → NodeOrNone (c .sizes .nodeCount) (c .links s x)
   pub values-ok : (x : ℕ) → valueOk (c .values x) ≡ true
-  pub records-ok : (k : ℕ) → recordOk (c .sizes .nodeCount) (c .sizes .growth) (c .records k) ≡ true
+  pub records-ok : (k : ℕ)
+      → recordOk (c .sizes .nodeCount) (c .sizes .growth) (c .sizes .laneCount) (c .records k) ≡ true
 
 -- A column holds to a property where its function does below the bound, and the other value does.
 column-all :
@@ -158,37 +181,80 @@ module _ (ws : List ℕ) where
   node-value x h = search (and-left, and-right)
 
   record-test : ℕ → Bool
-  record-test k = recordOk (nodeCount ws) (growth ws) (recordWords ws k)
+  record-test k = recordOk (nodeCount ws) (growth ws) (laneCount ws) (recordWords ws k)
 
-  pub well-shaped : shapeOk ws ≡ true → WellShaped (columns ws)
-  unfolding shapeOk record-test link
-  well-shaped h =
+  hats-test : ℕ → Bool
+  hats-test l = hatOk ws l left && hatOk ws l right
+
+  hat-fits : (l : ℕ) (s : Side) → hatOk ws l s ≡ true → HatFits (nodeCount ws) (laneCount ws) l (hatWord ws l s)
+  hat-fits l s h =
+      record {
+        used = λ q. ltb-true (hatWord ws l s) (nodeCount ws) (rw (lt-ltb l (laneCount ws) q) at h);
+        unused = λ q. eqb-true (hatWord ws l s) none (rw (le-ltb l (laneCount ws) q) at h);
+      }
+
+  fits-hat : (l : ℕ) (s : Side) → HatFits (nodeCount ws) (laneCount ws) l (hatWord ws l s) → hatOk ws l s ≡ true
+  fits-hat l s H =
+      elim (l <? laneCount ws) [
+        | yes q ↦ rw (lt-ltb l (laneCount ws) q) (lt-ltb (hatWord ws l s) (nodeCount ws) (H .used q))
+        | no q ↦
+            let p : laneCount ws ≤ l = omega arith in
+            rw (le-ltb l (laneCount ws) p) (eq-eqb (hatWord ws l s) none (H .unused p))
+      ]
+
+  hats-fit : laneCount ws ≤ mostLanes → allBelow mostLanes hats-test ≡ true → (l : ℕ) (s : Side)
+      → HatFits (nodeCount ws) (laneCount ws) l (hat ws l s)
+  unfolding hat hats-test
+  hats-fit few h l s = go (l <? mostLanes)
+    where
+      both : (z : Side) → hatOk ws l left && hatOk ws l right ≡ true → hatOk ws l z ≡ true
+      both left q = and-left (hatOk ws l left) (hatOk ws l right) q
+      both right q = and-right (hatOk ws l left) (hatOk ws l right) q
+
+      go : (d : Dec (l < mostLanes)) → HatFits (nodeCount ws) (laneCount ws) l (if d then hatWord ws l s else none)
+      go (yes q) = hat-fits l s (both s (below-all mostLanes hats-test h l q))
+      go (no q) = record { used = λ p. absurd (omega arith); unused = λ p. refl }
+
+  pub well-shaped : lengthOk ws ≡ true → shapeOk ws ≡ true → WellShaped (columns ws)
+  unfolding shapeOk record-test link hats-test
+  well-shaped length-passes h =
       let S = nodeCount ws in
       let T = taskCount ws in
+      let L = laneCount ws in
+      let hats : allBelow mostLanes hats-test ≡ true = search (and-left, and-right) depth 6 in
       let nodes : allBelow S (nodeOk ws) ≡ true = search (and-left, and-right) in
       let records : allBelow T record-test ≡ true = search (and-left, and-right) in
       let a : ltb (dispatched ws) T ≡ true = search (and-left, and-right) depth 6 in
-      let b : eqb (word7 ws) 0 ≡ true = search (and-left, and-right) depth 6 in
-      let c : ltb (hat ws left) S ≡ true = search (and-left, and-right) depth 6 in
-      let d : ltb (hat ws right) S ≡ true = search (and-left, and-right) depth 6 in
+      let b : eqb (word14 ws) 0 ≡ true = search (and-left, and-right) depth 6 in
+      let c : eqb (word15 ws) 0 ≡ true = search (and-left, and-right) depth 6 in
       let node = below-all S (nodeOk ws) nodes in
       record {
-        counts-ok = record { is-task = ltb-true (dispatched ws) T a; word7-zero = eqb-true (word7 ws) 0 b };
-        hats-ok = λ s. elim s [ left ↦ ltb-true (hat ws left) S c | right ↦ ltb-true (hat ws right) S d ];
+        counts-ok =
+            record {
+              is-task = ltb-true (dispatched ws) T a;
+              word14-zero = eqb-true (word14 ws) 0 b;
+              word15-zero = eqb-true (word15 ws) 0 c;
+            };
+        hats-ok = hats-fit (well-sized ws length-passes .most-lanes) hats;
         links-ok =
             λ s.
             column-all (NodeOrNone S) S none (linkWord ws s) (λ n. absurd (n refl)) (λ x l. node-links x (node x l) s);
-        values-ok = column-all (λ u. valueOk u ≡ true) S (encode never) (valueWords ws) refl (λ x l. node-value x (node x l));
+        values-ok =
+            column-all (λ u. valueOk u ≡ true) S (encode never) (valueWords ws) refl (λ x l. node-value x (node x l));
         records-ok =
-            column-all (λ r. recordOk S (growth ws) r ≡ true) T (wordsOf fresh) (recordWords ws)
-            (record-of-fresh S (growth ws)) (below-all T record-test records);
+            column-all (λ r. recordOk S (growth ws) L r ≡ true) T (wordsOf fresh) (recordWords ws)
+            (record-of-fresh S (growth ws) L) (below-all T record-test records);
       }
 
   module _ (W : WellShaped (columns ws)) where
     shaped-node : (x : ℕ) → x < nodeCount ws → nodeOk ws x ≡ true
     unfolding nodeOk link
     shaped-node x l =
-        rw (link-ok left, link-ok right, rw (if-yes (x <? nodeCount ws) (valueWords ws x) (encode never) l) at (W .values-ok x))
+        rw (
+          link-ok left,
+          link-ok right,
+          rw (if-yes (x <? nodeCount ws) (valueWords ws x) (encode never) l) at (W .values-ok x),
+        )
       where
         S : ℕ
         S = nodeCount ws
@@ -201,15 +267,22 @@ module _ (ws : List ℕ) where
     unfolding record-test
     shaped-record k l = rw (if-yes (k <? taskCount ws) (recordWords ws k) (wordsOf fresh) l) at (W .records-ok k)
 
+    shaped-hats : (l : ℕ) → l < mostLanes → hats-test l ≡ true
+    unfolding hat hats-test
+    shaped-hats l h = rw (fits-hat l left (fits left), fits-hat l right (fits right))
+      where
+        fits : (s : Side) → HatFits (nodeCount ws) (laneCount ws) l (hatWord ws l s)
+        fits s = rw (if-yes (l <? mostLanes) (hatWord ws l s) none h) at (W .hats-ok l s)
+
     pub shape-ok : shapeOk ws ≡ true
-    unfolding shapeOk record-test
+    unfolding shapeOk record-test hats-test
     shape-ok =
         let S = nodeCount ws in
         rw (
           lt-ltb (dispatched ws) (taskCount ws) (W .counts-ok .is-task),
-          eq-eqb (word7 ws) 0 (W .counts-ok .word7-zero),
-          lt-ltb (hat ws left) S (W .hats-ok left),
-          lt-ltb (hat ws right) S (W .hats-ok right),
+          eq-eqb (word14 ws) 0 (W .counts-ok .word14-zero),
+          eq-eqb (word15 ws) 0 (W .counts-ok .word15-zero),
+          all-below mostLanes hats-test shaped-hats,
           all-below S (nodeOk ws) shaped-node,
           all-below (taskCount ws) record-test shaped-record,
         )

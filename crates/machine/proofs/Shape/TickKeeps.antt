@@ -4,6 +4,7 @@ use mathlib.Core.Bool.{Bool, true, false}
 use mathlib.Core.List.{List}
 use mathlib.Core.Option.{Option, some, none as nothing}
 use Prim.Native.Nat.{ℕ, zero, suc, _<_}
+use native.Mathlib.Omega.{arith}
 use lib.Dec.{ltb, eqb}
 use lib.ListN.{getD}
 use borrow.Author.Tests.{ltb-true, lt-ltb}
@@ -12,7 +13,17 @@ use Rattle.machine.specs.Choice.{_<?_, if_then_else_}
 use Rattle.machine.specs.Sides.{Side, opposite}
 use Rattle.machine.specs.Operations.{idle}
 use Rattle.machine.specs.Tasks.{Task, fresh, wordsOf, valueReadWords, taskOf}
-use Rattle.machine.specs.Table.{nodeCount, taskCount, growth, dispatched, value, recordWords, task}
+use Rattle.machine.specs.Table.{
+  nodeCount,
+  taskCount,
+  growth,
+  laneCount,
+  mostLanes,
+  dispatched,
+  value,
+  recordWords,
+  task,
+}
 use Rattle.machine.specs.Shape.{recordOk}
 use Rattle.machine.specs.Round.{following}
 use Rattle.machine.specs.Allocate.{firstUnmarked, marked, allocate}
@@ -79,17 +90,17 @@ allocated-node ws h l = first-unmarked-node (nodeCount ws) (marked ws .marks) (n
 
 -- ---- What a task finds in a table of the right shape.
 module _ (ws : List ℕ) (W : WellShaped (columns ws)) where
-  pub memory-fits : (s : Side) → MemoryFits (nodeCount ws) (seen s ws)
+  pub memory-fits : (l : ℕ) → l < laneCount ws → (s : Side) → MemoryFits (nodeCount ws) (seen l s ws)
   unfolding value
-  memory-fits s =
+  memory-fits l is-lane s =
       record {
         out-ok = W .links-ok s;
         inn-ok = W .links-ok (opposite s);
         val-ok = λ x. (decoded-has-word (columns ws .values x), decoded-value-ok (columns ws .values x));
-        hat-ok = W .hats-ok s;
+        hat-ok = W .hats-ok l s .used is-lane;
       }
 
-  record-ok : (k : ℕ) → recordOk (nodeCount ws) (growth ws) (wordsOf (task ws k)) ≡ true
+  record-ok : (k : ℕ) → recordOk (nodeCount ws) (growth ws) (laneCount ws) (wordsOf (task ws k)) ≡ true
   unfolding task
   record-ok k = go (k <? taskCount ws)
     where
@@ -99,14 +110,17 @@ module _ (ws : List ℕ) (W : WellShaped (columns ws)) where
       g : ℕ
       g = growth ws
 
+      L : ℕ
+      L = laneCount ws
+
       r : List ℕ
       r = recordWords ws k
 
-      go : (d : Dec (k < taskCount ws)) → recordOk S g (wordsOf (if d then taskOf r else fresh)) ≡ true
-      go (no n) = record-of-fresh S g
+      go : (d : Dec (k < taskCount ws)) → recordOk S g L (wordsOf (if d then taskOf r else fresh)) ≡ true
+      go (no n) = record-of-fresh S g L
       go (yes l) =
-          let ok : recordOk S g r ≡ true = rw (if-yes (k <? taskCount ws) r (wordsOf fresh) l) at (W .records-ok k) in
-          rw (words-of-task S g r ok) (read-passes S g r ok)
+          let ok : recordOk S g L r ≡ true = rw (if-yes (k <? taskCount ws) r (wordsOf fresh) l) at (W .records-ok k) in
+          rw (words-of-task S g L r ok) (read-passes S g L r ok)
 
   pub task-has-word : (k : ℕ) → HasWord (task ws k .value)
   unfolding task
@@ -115,25 +129,26 @@ module _ (ws : List ℕ) (W : WellShaped (columns ws)) where
       (λ _. decoded-has-word (valueReadWords (recordWords ws k))) (λ _. never-has-word)
 
   pub busy-facts :
-      (k : ℕ) → isBusy (task ws k .operation) ≡ true → BusyFacts (nodeCount ws) (growth ws) (task ws k)
-  busy-facts k = busy-of-record (nodeCount ws) (growth ws) (task ws k) (task-has-word k) (record-ok k)
+      (k : ℕ) → isBusy (task ws k .operation) ≡ true → BusyFacts (nodeCount ws) (growth ws) (laneCount ws) (task ws k)
+  busy-facts k = busy-of-record (nodeCount ws) (growth ws) (laneCount ws) (task ws k) (task-has-word k) (record-ok k)
 
   pub idle-fresh : (k : ℕ) → task ws k .operation ≡ idle → task ws k ≡ fresh
   idle-fresh k e =
       let t = task ws k in
-      let same = idle-of-record (nodeCount ws) (growth ws) t (record-ok k) e in
+      let same = idle-of-record (nodeCount ws) (growth ws) (laneCount ws) t (record-ok k) e in
       sym (task-of-words t (task-has-word k)) ∙ ap taskOf same ∙ fresh-of-words
 
   pub effect-fits :
       (k h : ℕ)
       → h < nodeCount ws
       → isBusy (task ws k .operation) ≡ true
-      → Fits (nodeCount ws) (growth ws) (effectOf ws k h)
+      → Fits (nodeCount ws) (growth ws) (laneCount ws) (effectOf ws k h)
   unfolding effectOf
   effect-fits k h l b =
       let t = task ws k in
-      line-fits (nodeCount ws) (growth ws) (seen (t .side) ws) (memory-fits (t .side)) t
-      (allocate ws h) (allocated-node ws h l) (t .step) (busy-facts k b)
+      let F = busy-facts k b in
+      line-fits (nodeCount ws) (growth ws) (laneCount ws) (seen (t .lane) (t .side) ws)
+      (memory-fits (t .lane) (F .lane-ok) (t .side)) t (allocate ws h) (allocated-node ws h l) (t .step) F
 
 -- ---- The table after it.
 
@@ -164,7 +179,8 @@ pub busy-passes : (ws : List ℕ) (k h : ℕ) → isBusy (task ws k .operation) 
     → tickRefusal ws k h ≡ nothing
 busy-passes ws k h b l = rw (lt-ltb k (taskCount ws) (busy-is-task ws k b), lt-ltb h (nodeCount ws) l, b)
 
--- The words vs have the sizes of ws and the right shape; and 02: "A plain tick does not touch" the task last dispatched.
+-- The words vs have the sizes of ws and the right shape; and 02: "A plain tick does not touch" the task last
+-- dispatched.
 pub record Kept (ws vs : List ℕ) : Type 0 where
   pub same-sizes : sizesOf vs ≡ sizesOf ws
   pub same-dispatched : dispatched vs ≡ dispatched ws
@@ -175,33 +191,39 @@ module _ (ws : List ℕ) (Z : WellSized (sizesOf ws)) (W : WellShaped (columns w
   pub unchanged : Kept ws ws
   unchanged = record { same-sizes = refl; same-dispatched = refl; well-sized = Z; well-shaped = W }
 
-  module _ (k : ℕ) (is-task : k < taskCount ws) (s : Side) where
+  module _ (k : ℕ) (is-task : k < taskCount ws) (j : ℕ) (is-lane : j < laneCount ws) (s : Side) where
+    has-hats : j < mostLanes
+    has-hats = omega (arith, Z .most-lanes)
+
     effect-kept :
         (l : List Write) (t : Task)
         → WritesFit (nodeCount ws) l
-        → recordOk (nodeCount ws) (growth ws) (wordsOf t) ≡ true
-        → Kept ws (effectWords s l k t ws)
+        → recordOk (nodeCount ws) (growth ws) (laneCount ws) (wordsOf t) ≡ true
+        → Kept ws (effectWords j s l k t ws)
     effect-kept l t fit ok =
-        let c = putAll s l (columns ws) in
-        let z = put-all-rest s l (columns ws) .sizes in
+        let c = putAll j s l (columns ws) in
+        let z = put-all-rest j s l (columns ws) .sizes in
         let in-range = all-in-range (nodeCount ws) l fit in
-        let sizes = effect-sizes ws (Z .sized) s l in-range k is-task t in
-        let ok-after = subst (λ z. recordOk (z .nodeCount) (z .growth) (wordsOf t) ≡ true) (sym z) ok in
-        let recorded = put-record-shaped c (put-all-shaped s l (columns ws) W fit) k (wordsOf t) ok-after in
-        let same = sym (columns-effect ws (Z .sized) s l in-range k is-task t) in
+        let sizes = effect-sizes ws (Z .sized) j has-hats s l in-range k is-task t in
+        let ok-after =
+        subst (λ z. recordOk (z .nodeCount) (z .growth) (z .laneCount) (wordsOf t) ≡ true) (sym z) ok in
+        let recorded = put-record-shaped c (put-all-shaped j s l (columns ws) is-lane W fit) k (wordsOf t) ok-after in
+        let same = sym (columns-effect ws (Z .sized) j has-hats s l in-range k is-task t) in
         record {
           same-sizes = sizes;
-          same-dispatched = effect-dispatched ws (Z .sized) s l in-range k is-task t;
+          same-dispatched = effect-dispatched ws (Z .sized) j has-hats s l in-range k is-task t;
           well-sized = subst WellSized (sym sizes) Z;
           well-shaped = subst WellShaped same (put-ticks-shaped _ recorded _);
         }
 
-    applied-kept : {e : Effect} → Fits (nodeCount ws) (growth ws) e → Kept ws (applied s ws k e .words)
+    applied-kept : {e : Effect} → Fits (nodeCount ws) (growth ws) (laneCount ws) e → Kept ws (applied j s ws k e .words)
     unfolding applied
     applied-kept turns-back = unchanged
-    applied-kept (goes-on {l} {t} fit F) = effect-kept l t fit (record-of-busy (nodeCount ws) (growth ws) t F)
+    applied-kept (goes-on {l} {t} fit F) =
+        effect-kept l t fit (record-of-busy (nodeCount ws) (growth ws) (laneCount ws) t F)
     applied-kept (ends {l} {a} fit answers) =
-        rw (answer-made a answers, applied) (effect-kept l fresh fit (record-of-fresh (nodeCount ws) (growth ws)))
+        rw (answer-made a answers, applied)
+        (effect-kept l fresh fit (record-of-fresh (nodeCount ws) (growth ws) (laneCount ws)))
 
   pub tick-kept : (k h : ℕ) → Kept ws (tickOn ws k h .words)
   unfolding tickOn
@@ -213,9 +235,11 @@ module _ (ws : List ℕ) (Z : WellSized (sizesOf ws)) (W : WellShaped (columns w
           → Kept ws
           (elim r as (λ _. Ticked) [
             | some n ↦ record { answer = Refused n; words = ws }
-            | nothing ↦ applied (task ws k .side) ws k (effectOf ws k h)
+            | nothing ↦ applied (task ws k .lane) (task ws k .side) ws k (effectOf ws k h)
           ] .words)
       go (some n) e = unchanged
       go nothing e =
           let allowed = tick-allowed ws k h e in
-          applied-kept k (allowed .0) (task ws k .side) (effect-fits ws W k h (allowed .1) (allowed .2))
+          let F = busy-facts ws W k (allowed .2) in
+          applied-kept k (allowed .0) (task ws k .lane) (F .lane-ok) (task ws k .side)
+          (effect-fits ws W k h (allowed .1) (allowed .2))

@@ -3,12 +3,20 @@ use mathlib.Core.Path.{_≡_, subst, sym}
 use mathlib.Core.Bool.{true}
 use mathlib.Core.List.{List, [], _∷_}
 use Prim.Native.Nat.{ℕ, _<_}
+use native.Mathlib.Omega.{arith}
 use Rattle.machine.specs.declared.Stored.{Stored}
 use Rattle.machine.specs.Sides.{Side, opposite}
 use Rattle.machine.specs.Values.{valueOk, encode}
 use Rattle.machine.specs.Shape.{recordOk}
 use Rattle.machine.specs.Lines.{Write, out≔, inn≔, val≔, hat≔}
-use Rattle.machine.proofs.Basics.Updates.{update, update-all, updateSide-all}
+use Rattle.machine.proofs.Basics.Updates.{
+  update,
+  update-all,
+  updateSide,
+  updateSide-all,
+  update-wrote,
+  wrote-all,
+}
 use Rattle.machine.proofs.Words.Columns.{
   Columns,
   putHat,
@@ -22,7 +30,7 @@ use Rattle.machine.proofs.Words.Columns.{
 }
 use Rattle.machine.proofs.Words.EffectLaws.{InRange, AllInRange, put-one-rest}
 use Rattle.machine.proofs.Shape.BusyLaws.{NodeOrNone}
-use Rattle.machine.proofs.Shape.ShapeLaws.{WellShaped, counted-last-words, dispatched-last-words}
+use Rattle.machine.proofs.Shape.ShapeLaws.{HatFits, WellShaped, counted-last-words, dispatched-last-words}
 use Rattle.machine.proofs.Shape.Fits.{WriteFits, WritesFit}
 
 -- What fits is in range.
@@ -38,11 +46,18 @@ all-in-range S (w ∷ l) h = (fit-in-range S w (h .0), all-in-range S l (h .1))
 
 -- ---- One write of each kind.
 module _ (c : Columns) (W : WellShaped c) where
-  put-hat-shaped : (s : Side) (x : ℕ) → x < c .sizes .nodeCount → WellShaped (putHat s x c)
-  put-hat-shaped s x h =
+  put-hat-shaped : (j : ℕ) → j < c .sizes .laneCount → (s : Side) (x : ℕ) → x < c .sizes .nodeCount
+      → WellShaped (putHat j s x c)
+  put-hat-shaped j is-lane s x h =
+      let S = c .sizes .nodeCount in
+      let L = c .sizes .laneCount in
       record {
         counts-ok = W .counts-ok;
-        hats-ok = updateSide-all (c .hats) s x (λ y. y < c .sizes .nodeCount) h (W .hats-ok);
+        hats-ok =
+            wrote-all (λ l f. (z : Side) → HatFits S L l (f z)) (update-wrote (c .hats) j (updateSide (c .hats j) s x))
+            (updateSide-all (c .hats j) s x (λ y. HatFits S L j y)
+            (record { used = λ _. h; unused = λ q. absurd (omega arith) }) (W .hats-ok j))
+            (λ l _. W .hats-ok l);
         links-ok = W .links-ok;
         values-ok = W .values-ok;
         records-ok = W .records-ok;
@@ -72,7 +87,8 @@ module _ (c : Columns) (W : WellShaped c) where
       }
 
   pub put-record-shaped :
-      (k : ℕ) (r : List ℕ) → recordOk (c .sizes .nodeCount) (c .sizes .growth) r ≡ true → WellShaped (putRecord k r c)
+      (k : ℕ) (r : List ℕ) → recordOk (c .sizes .nodeCount) (c .sizes .growth) (c .sizes .laneCount) r ≡ true
+      → WellShaped (putRecord k r c)
   put-record-shaped k r h =
       record {
         counts-ok = W .counts-ok;
@@ -80,7 +96,8 @@ module _ (c : Columns) (W : WellShaped c) where
         links-ok = W .links-ok;
         values-ok = W .values-ok;
         records-ok =
-            update-all (c .records) k r (λ q. recordOk (c .sizes .nodeCount) (c .sizes .growth) q ≡ true) h (W .records-ok);
+            update-all (c .records) k r
+            (λ q. recordOk (c .sizes .nodeCount) (c .sizes .growth) (c .sizes .laneCount) q ≡ true) h (W .records-ok);
       }
 
   pub put-ticks-shaped : (n : ℕ) → WellShaped (putTickCount n c)
@@ -103,16 +120,22 @@ module _ (c : Columns) (W : WellShaped c) where
         records-ok = W .records-ok;
       }
 
-  put-one-shaped : (s : Side) (w : Write) → WriteFits (c .sizes .nodeCount) w → WellShaped (putOne s w c)
-  put-one-shaped s (out≔ x y) h = put-link-shaped s x y (h .1)
-  put-one-shaped s (inn≔ x y) h = put-link-shaped (opposite s) x y (h .1)
-  put-one-shaped s (val≔ x v) h = put-value-shaped x (encode v) (h .1 .1)
-  put-one-shaped s (hat≔ x) h = put-hat-shaped s x h
+  put-one-shaped : (j : ℕ) → j < c .sizes .laneCount → (s : Side) (w : Write) → WriteFits (c .sizes .nodeCount) w
+      → WellShaped (putOne j s w c)
+  put-one-shaped j is-lane s (out≔ x y) h = put-link-shaped s x y (h .1)
+  put-one-shaped j is-lane s (inn≔ x y) h = put-link-shaped (opposite s) x y (h .1)
+  put-one-shaped j is-lane s (val≔ x v) h = put-value-shaped x (encode v) (h .1 .1)
+  put-one-shaped j is-lane s (hat≔ x) h = put-hat-shaped j is-lane s x h
 
 -- ---- Several writes.
 pub put-all-shaped :
-    (s : Side) (l : List Write) (c : Columns) → WellShaped c → WritesFit (c .sizes .nodeCount) l → WellShaped (putAll s l c)
-put-all-shaped s [] c W h = W
-put-all-shaped s (w ∷ l) c W h =
-    put-all-shaped s l (putOne s w c) (put-one-shaped c W s w (h .0))
-    (subst (λ z. WritesFit (z .nodeCount) l) (sym (put-one-rest s w c .sizes)) (h .1))
+    (j : ℕ) (s : Side) (l : List Write) (c : Columns)
+    → j < c .sizes .laneCount
+    → WellShaped c
+    → WritesFit (c .sizes .nodeCount) l
+    → WellShaped (putAll j s l c)
+put-all-shaped j s [] c is-lane W h = W
+put-all-shaped j s (w ∷ l) c is-lane W h =
+    let same = sym (put-one-rest j s w c .sizes) in
+    put-all-shaped j s l (putOne j s w c) (subst (λ z. j < z .laneCount) same is-lane)
+    (put-one-shaped c W j is-lane s w (h .0)) (subst (λ z. WritesFit (z .nodeCount) l) same (h .1))

@@ -14,11 +14,12 @@ use Rattle.machine.specs.Choice.{_≟_, _<?_, if_then_else_}
 use Rattle.machine.specs.Sides.{Side, left, right}
 use Rattle.machine.specs.Tasks.{Task, none, fresh, taskOf, Register, inA, inB, inC, inD, register}
 use Rattle.machine.specs.Registers.{holds, heldIn}
-use Rattle.machine.specs.Table.{nodeCount, taskCount, hat, link, recordWords, task}
+use Rattle.machine.specs.Table.{nodeCount, taskCount, laneCount, hat, link, recordWords, task}
 use Rattle.machine.specs.Reach.{Reachable, from-hat, from-register, along}
 use Rattle.machine.specs.Allocate.{
   heldBy,
   heldFrom,
+  hatsFrom,
   roots,
   largestCount,
   Marking,
@@ -56,7 +57,7 @@ use Rattle.machine.proofs.SlotRule.Marking.{
 -- What the theorems below ask of a table: its nodes are few, and hats, links and registers name nodes or none.
 pub record WellLinked (ws : List ℕ) : Type 0 where
   pub few : nodeCount ws ≤ largestCount
-  pub hats : (s : Side) → hat ws s < nodeCount ws
+  pub hats : (l : ℕ) (s : Side) → l < laneCount ws → hat ws l s < nodeCount ws
   pub links : (s : Side) (x : ℕ) → link ws s x ≢ none → link ws s x < nodeCount ws
   pub registers : (k : ℕ) (r : Register) → register (task ws k) r ≢ none → register (task ws k) r < nodeCount ws
 
@@ -65,7 +66,7 @@ pub node-not-none : {S x : ℕ} → S ≤ largestCount → x < S → x ≢ none
 node-not-none few h e = omega arith
 
 pub reachable-node : {ws : List ℕ} {x : ℕ} → WellLinked ws → Reachable ws x → x < nodeCount ws
-reachable-node W (from-hat s) = W .hats s
+reachable-node W (from-hat l s h) = W .hats l s h
 reachable-node W (from-register k r h n) = W .registers k r n
 reachable-node W (along s c n) = W .links s _ n
 
@@ -107,17 +108,44 @@ module _ (ws : List ℕ) (P : ℕ → Type 0) where
   each-held f zero k = record {}
   each-held f (suc n) k = each-heldBy (task ws k) (heldFrom ws n (suc k)) (f k) (each-held f n (suc k))
 
+  -- The hats of n lanes from l on, beside other numbers.
+  each-hat : (n l : ℕ) (xs : List ℕ) → ((j : ℕ) (s : Side) → j < n + l → P (hat ws j s)) → Each P xs
+      → Each P (hatsFrom ws n l ++ xs)
+  unfolding hatsFrom
+  each-hat zero l xs h e = e
+  each-hat (suc n) l xs h e =
+      (h l left (omega arith), (h l right (omega arith), each-hat n (suc l) xs (λ j s q. h j s (omega arith)) e))
+
+  hat-among : (n l : ℕ) (xs : List ℕ) → Each P (hatsFrom ws n l ++ xs) → (j : ℕ) (s : Side) → l ≤ j → j < n + l
+      → P (hat ws j s)
+  unfolding hatsFrom
+  hat-among zero l xs e j s a b = absurd (omega arith)
+  hat-among (suc n) l xs e j s a b =
+      by (j ≟ l) s (λ q. hat-among n (suc l) xs (e .1 .1) j s q (omega arith))
+    where
+      by : Dec (j ≡ l) → (z : Side) → (suc l ≤ j → P (hat ws j z)) → P (hat ws j z)
+      by (yes q) left later = rw q (e .0)
+      by (yes q) right later = rw q (e .1 .0)
+      by (no q) z later = later (omega arith)
+
+  beside-hats : (n l : ℕ) (xs : List ℕ) → Each P (hatsFrom ws n l ++ xs) → Each P xs
+  unfolding hatsFrom
+  beside-hats zero l xs e = e
+  beside-hats (suc n) l xs e = beside-hats n (suc l) xs (e .1 .1)
+
   -- A root is a hat or what a register of a task holds.
-  pub each-root : ((s : Side) → P (hat ws s)) → ((k : ℕ) (r : Register) → P (heldIn (task ws k) r))
+  pub each-root : ((l : ℕ) (s : Side) → l < laneCount ws → P (hat ws l s))
+      → ((k : ℕ) (r : Register) → P (heldIn (task ws k) r))
       → Each P (roots ws)
   unfolding roots
-  each-root h f = search (h left, h right, each-held f (taskCount ws) 0)
+  each-root h f =
+      each-hat (laneCount ws) 0 (heldFrom ws (taskCount ws) 0) (λ j s q. h j s (omega arith))
+      (each-held f (taskCount ws) 0)
 
-  -- Every hat is a root.
-  pub root-hat : Each P (roots ws) → (s : Side) → P (hat ws s)
+  -- Every hat of a lane is a root.
+  pub root-hat : Each P (roots ws) → (l : ℕ) (s : Side) → l < laneCount ws → P (hat ws l s)
   unfolding roots
-  root-hat e left = search
-  root-hat e right = search
+  root-hat e l s h = hat-among (laneCount ws) 0 (heldFrom ws (taskCount ws) 0) e l s (omega arith) (omega arith)
 
   held-register : (n k j : ℕ) (r : Register) → Each P (heldFrom ws n k) → k ≤ j → j < n + k
       → P (heldIn (task ws j) r)
@@ -136,7 +164,9 @@ module _ (ws : List ℕ) (P : ℕ → Type 0) where
   -- What a register of a task holds is a root.
   pub root-register : Each P (roots ws) → (k : ℕ) (r : Register) → k < taskCount ws → P (heldIn (task ws k) r)
   unfolding roots
-  root-register e k r l = held-register (taskCount ws) 0 k r (search) (omega arith) (omega arith)
+  root-register e k r l =
+      held-register (taskCount ws) 0 k r (beside-hats (laneCount ws) 0 (heldFrom ws (taskCount ws) 0) e)
+      (omega arith) (omega arith)
 
 -- ---- Sound: what is queued is reachable, and what is marked is queued.
 record Sound (ws : List ℕ) (m : Marking) : Type 0 where
@@ -250,7 +280,7 @@ module _ {ws : List ℕ} (W : WellLinked ws) where
   -- A root that is a node is reachable.
   roots-reachable : Each (λ x. x < nodeCount ws → Reachable ws x) (roots ws)
   roots-reachable =
-      each-root ws (λ x. x < nodeCount ws → Reachable ws x) (λ s _. from-hat s)
+      each-root ws (λ x. x < nodeCount ws → Reachable ws x) (λ l s h _. from-hat l s h)
       (λ k r. held-reachable k r (holds (task ws k .step) r) refl)
     where
       held-reachable : (k : ℕ) (r : Register) (b : Bool) → holds (task ws k .step) r ≡ b
@@ -281,8 +311,8 @@ module _ {ws : List ℕ} (W : WellLinked ws) where
       rw (q .2) at (d .reached (q .0) (q .1))
 
   pub reachable-marked : {x : ℕ} → Reachable ws x → getD (marked ws .marks) x 0 ≢ 0
-  reachable-marked (from-hat s) =
-      marked-done .grows .stays (hat ws s) (root-hat ws _ roots-have-marks s (W .hats s))
+  reachable-marked (from-hat l s h) =
+      marked-done .grows .stays (hat ws l s) (root-hat ws _ roots-have-marks l s h (W .hats l s h))
   reachable-marked (from-register k r h n) =
       let e : heldIn (task ws k) r ≡ register (task ws k) r = rw h in
       let m = root-register ws _ roots-have-marks k r (register-task ws k r n) in
@@ -315,8 +345,8 @@ module _ {ws : List ℕ} (W : WellLinked ws) where
   pub keeps-reachable : {x : ℕ} → keeps ws x ≡ true → Reachable ws x
   keeps-reachable {x} h = marked-reachable W (keeps-marked ws x h .1)
 
-  pub keeps-hat : (s : Side) → keeps ws (hat ws s) ≡ true
-  keeps-hat s = reachable-keeps (from-hat s)
+  pub keeps-hat : (l : ℕ) (s : Side) → l < laneCount ws → keeps ws (hat ws l s) ≡ true
+  keeps-hat l s h = reachable-keeps (from-hat l s h)
 
   pub keeps-register : (k : ℕ) (r : Register) → holds (task ws k .step) r ≡ true → register (task ws k) r ≢ none
       → keeps ws (register (task ws k) r) ≡ true

@@ -14,16 +14,18 @@ use Rattle.machine.specs.Table.{
   nodeCount,
   taskCount,
   growth,
-  hat,
+  laneCount,
   tickCount,
   dispatched,
-  word7,
+  hat,
+  word14,
+  word15,
   link,
   valueWords,
   recordWords,
 }
 use Rattle.machine.specs.Lines.{Write, out≔, inn≔, val≔, hat≔}
-use Rattle.machine.proofs.Basics.Updates.{is-update, update, updateSide}
+use Rattle.machine.proofs.Basics.Updates.{is-update, update, updateSide, updateHat}
 use Rattle.machine.proofs.Words.Memories.{View}
 
 -- A function below a bound, with one value from the bound on.
@@ -36,27 +38,29 @@ pub record Sizes : Type 0 where
   pub nodeCount : ℕ
   pub taskCount : ℕ
   pub growth : ℕ
+  pub laneCount : ℕ
 
--- The tick count and the header's words after it.
+-- The header's other words but the hats: the counts that change, and the last two words.
 pub record Counts : Type 0 where
   pub tickCount : ℕ
   pub dispatched : ℕ
-  pub word7 : ℕ
+  pub word14 : ℕ
+  pub word15 : ℕ
 
 -- As start leaves them, with another tick count, and with another task last dispatched.
 abbrev pub startCounts : (T : ℕ) → Counts
-startCounts T = record { tickCount = 0; dispatched = T - 1; word7 = 0 }
+startCounts T = record { tickCount = 0; dispatched = T - 1; word14 = 0; word15 = 0 }
 
 abbrev pub countedAs : ℕ → Counts → Counts
-countedAs n c = record { tickCount = n; dispatched = c .dispatched; word7 = c .word7 }
+countedAs n c = record { tickCount = n; dispatched = c .dispatched; word14 = c .word14; word15 = c .word15 }
 
 abbrev pub dispatchedTo : ℕ → Counts → Counts
-dispatchedTo k c = record { tickCount = c .tickCount; dispatched = k; word7 = c .word7 }
+dispatchedTo k c = record { tickCount = c .tickCount; dispatched = k; word14 = c .word14; word15 = c .word15 }
 
 -- The words of the table. A number that is no node has the words of never used, one that is no task has a fresh record.
 pub record Columns : Type 0 where
   pub sizes : Sizes
-  pub hats : Side → ℕ
+  pub hats : (lane : ℕ) → Side → ℕ
   pub counts : Counts
   pub links : Side → ℕ → ℕ
   pub values : ℕ → Stored
@@ -64,10 +68,17 @@ pub record Columns : Type 0 where
 
 abbrev pub sizesOf : List ℕ → Sizes
 sizesOf ws =
-    record { length = length ws; nodeCount = nodeCount ws; taskCount = taskCount ws; growth = growth ws }
+    record {
+      length = length ws;
+      nodeCount = nodeCount ws;
+      taskCount = taskCount ws;
+      growth = growth ws;
+      laneCount = laneCount ws;
+    }
 
 abbrev pub countsOf : List ℕ → Counts
-countsOf ws = record { tickCount = tickCount ws; dispatched = dispatched ws; word7 = word7 ws }
+countsOf ws =
+    record { tickCount = tickCount ws; dispatched = dispatched ws; word14 = word14 ws; word15 = word15 ws }
 
 abbrev pub columns : List ℕ → Columns
 columns ws =
@@ -98,7 +109,7 @@ abbrev pub tasks : Columns → ℕ → Task
 tasks c k = taskOf (c .records k)
 
 -- ---- Writes to the columns: in the header, and after it.
-abbrev pub putHeader : (hats : Side → ℕ) → Counts → Columns → Columns
+abbrev pub putHeader : (hats : ℕ → Side → ℕ) → Counts → Columns → Columns
 putHeader hats counts c =
     record {
       sizes = c .sizes;
@@ -120,8 +131,8 @@ putBody links values records c =
       records = records;
     }
 
-abbrev pub putHat : Side → ℕ → Columns → Columns
-putHat s x c = putHeader (updateSide (c .hats) s x) (c .counts) c
+abbrev pub putHat : (lane : ℕ) → Side → ℕ → Columns → Columns
+putHat l s x c = putHeader (updateHat (c .hats) l s x) (c .counts) c
 
 abbrev pub putTickCount : ℕ → Columns → Columns
 putTickCount n c = putHeader (c .hats) (countedAs n (c .counts)) c
@@ -138,16 +149,16 @@ putValue x u c = putBody (c .links) (update (c .values) x u) (c .records) c
 abbrev pub putRecord : ℕ → List ℕ → Columns → Columns
 putRecord k r c = putBody (c .links) (c .values) (update (c .records) k r) c
 
--- One write of a task on side s, and several in order.
-abbrev pub putOne : Side → Write → Columns → Columns
-putOne s (out≔ x y) c = putLink s x y c
-putOne s (inn≔ x y) c = putLink (opposite s) x y c
-putOne s (val≔ x v) c = putValue x (encode v) c
-putOne s (hat≔ x) c = putHat s x c
+-- One write of a task on side s of a lane, and several in order.
+abbrev pub putOne : (lane : ℕ) → Side → Write → Columns → Columns
+putOne l s (out≔ x y) c = putLink s x y c
+putOne l s (inn≔ x y) c = putLink (opposite s) x y c
+putOne l s (val≔ x v) c = putValue x (encode v) c
+putOne l s (hat≔ x) c = putHat l s x c
 
-abbrev pub putAll : Side → List Write → Columns → Columns
-putAll s [] c = c
-putAll s (w ∷ l) c = putAll s l (putOne s w c)
+abbrev pub putAll : (lane : ℕ) → Side → List Write → Columns → Columns
+putAll l s [] c = c
+putAll l s (w ∷ more) c = putAll l s more (putOne l s w c)
 
 -- ---- Equal columns.
 pub sizes-equal :
@@ -156,16 +167,19 @@ pub sizes-equal :
     → y .nodeCount ≡ z .nodeCount
     → y .taskCount ≡ z .taskCount
     → y .growth ≡ z .growth
+    → y .laneCount ≡ z .laneCount
     → y ≡ z
-sizes-equal p q r s = λ i. record { length = p i; nodeCount = q i; taskCount = r i; growth = s i }
+sizes-equal p q r s t =
+    λ i. record { length = p i; nodeCount = q i; taskCount = r i; growth = s i; laneCount = t i }
 
 pub counts-equal :
     {m n : Counts}
     → m .tickCount ≡ n .tickCount
     → m .dispatched ≡ n .dispatched
-    → m .word7 ≡ n .word7
+    → m .word14 ≡ n .word14
+    → m .word15 ≡ n .word15
     → m ≡ n
-counts-equal p q r = λ i. record { tickCount = p i; dispatched = q i; word7 = r i }
+counts-equal p q r s = λ i. record { tickCount = p i; dispatched = q i; word14 = r i; word15 = s i }
 
 pub columns-equal :
     {b c : Columns}

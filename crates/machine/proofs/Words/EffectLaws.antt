@@ -9,6 +9,8 @@ use Rattle.machine.specs.Tasks.{Task, fresh, wordsOf, taskOf}
 use Rattle.machine.specs.Table.{
   nodeCount,
   taskCount,
+  laneCount,
+  mostLanes,
   tickCount,
   dispatched,
   value,
@@ -62,17 +64,17 @@ pub record Untouched (b c : Columns) : Type 0 where
   pub counts : b .counts ≡ c .counts
   pub records : b .records ≡ c .records
 
-pub put-one-rest : (s : Side) (w : Write) (c : Columns) → Untouched (putOne s w c) c
-put-one-rest s (out≔ x y) c = record { sizes = refl; counts = refl; records = refl }
-put-one-rest s (inn≔ x y) c = record { sizes = refl; counts = refl; records = refl }
-put-one-rest s (val≔ x v) c = record { sizes = refl; counts = refl; records = refl }
-put-one-rest s (hat≔ x) c = record { sizes = refl; counts = refl; records = refl }
+pub put-one-rest : (j : ℕ) (s : Side) (w : Write) (c : Columns) → Untouched (putOne j s w c) c
+put-one-rest j s (out≔ x y) c = record { sizes = refl; counts = refl; records = refl }
+put-one-rest j s (inn≔ x y) c = record { sizes = refl; counts = refl; records = refl }
+put-one-rest j s (val≔ x v) c = record { sizes = refl; counts = refl; records = refl }
+put-one-rest j s (hat≔ x) c = record { sizes = refl; counts = refl; records = refl }
 
-pub put-all-rest : (s : Side) (l : List Write) (c : Columns) → Untouched (putAll s l c) c
-put-all-rest s [] c = record { sizes = refl; counts = refl; records = refl }
-put-all-rest s (w ∷ l) c =
-    let a = put-all-rest s l (putOne s w c) in
-    let b = put-one-rest s w c in
+pub put-all-rest : (j : ℕ) (s : Side) (l : List Write) (c : Columns) → Untouched (putAll j s l c) c
+put-all-rest j s [] c = record { sizes = refl; counts = refl; records = refl }
+put-all-rest j s (w ∷ l) c =
+    let a = put-all-rest j s l (putOne j s w c) in
+    let b = put-one-rest j s w c in
     record {
       sizes = a .sizes ∙ b .sizes;
       counts = a .counts ∙ b .counts;
@@ -81,50 +83,50 @@ put-all-rest s (w ∷ l) c =
 
 -- Writes as columns hold them are writes as a view has them.
 view-put-one :
-    (S : ℕ) (s : Side) (w : Write) (c : Columns) → InRange S w → viewOf s (putOne s w c) ≡ write s w (viewOf s c)
-view-put-one S left (out≔ x y) c h = refl
-view-put-one S right (out≔ x y) c h = refl
-view-put-one S left (inn≔ x y) c h = refl
-view-put-one S right (inn≔ x y) c h = refl
-view-put-one S s (val≔ x v) c h =
+    (S j : ℕ) (s : Side) (w : Write) (c : Columns) → InRange S w → viewOf s (putOne j s w c) ≡ write j s w (viewOf s c)
+view-put-one S j left (out≔ x y) c h = refl
+view-put-one S j right (out≔ x y) c h = refl
+view-put-one S j left (inn≔ x y) c h = refl
+view-put-one S j right (inn≔ x y) c h = refl
+view-put-one S j s (val≔ x v) c h =
     view-equal refl refl (map-update decode (c .values) x (encode v) v (h .1)) refl
-view-put-one S left (hat≔ x) c h = refl
-view-put-one S right (hat≔ x) c h = refl
+view-put-one S j left (hat≔ x) c h = refl
+view-put-one S j right (hat≔ x) c h = refl
 
 view-put-all :
-    (S : ℕ) (s : Side) (l : List Write) (c : Columns)
+    (S j : ℕ) (s : Side) (l : List Write) (c : Columns)
     → AllInRange S l
-    → viewOf s (putAll s l c) ≡ written s l (viewOf s c)
-view-put-all S s [] c h = refl
-view-put-all S s (w ∷ l) c h =
-    view-put-all S s l (putOne s w c) (h .1) ∙ ap (written s l) (view-put-one S s w c (h .0))
+    → viewOf s (putAll j s l c) ≡ written j s l (viewOf s c)
+view-put-all S j s [] c h = refl
+view-put-all S j s (w ∷ l) c h =
+    view-put-all S j s l (putOne j s w c) (h .1) ∙ ap (written j s l) (view-put-one S j s w c (h .0))
 
 -- ---- On the words.
-module _ (s : Side) where
+module _ (j : ℕ) (is-lane : j < mostLanes) (s : Side) where
   columns-write-one :
       (w : Write) (ws : List ℕ)
       → Sized (sizesOf ws)
       → InRange (nodeCount ws) w
-      → columns (writeOne s w ws) ≡ putOne s w (columns ws)
+      → columns (writeOne j s w ws) ≡ putOne j s w (columns ws)
   columns-write-one (out≔ x y) ws sized h = columns-setLink ws sized s x y h
   columns-write-one (inn≔ x y) ws sized h = columns-setLink ws sized (opposite s) x y h
   columns-write-one (val≔ x v) ws sized h = columns-setValue ws sized x v (h .0)
-  columns-write-one (hat≔ x) ws sized h = columns-setHat ws sized s x
+  columns-write-one (hat≔ x) ws sized h = columns-setHat ws sized j is-lane s x
 
   pub columns-write-all :
       (l : List Write) (ws : List ℕ)
       → Sized (sizesOf ws)
       → AllInRange (nodeCount ws) l
-      → columns (writeAll s l ws) ≡ putAll s l (columns ws)
+      → columns (writeAll j s l ws) ≡ putAll j s l (columns ws)
   unfolding writeAll
   columns-write-all [] ws sized h = refl
   columns-write-all (w ∷ l) ws sized h =
       let one = columns-write-one w ws sized (h .0) in
-      let vs = writeOne s w ws in
-      let same : sizesOf vs ≡ sizesOf ws = ap (λ c. c .sizes) one ∙ put-one-rest s w (columns ws) .sizes in
+      let vs = writeOne j s w ws in
+      let same : sizesOf vs ≡ sizesOf ws = ap (λ c. c .sizes) one ∙ put-one-rest j s w (columns ws) .sizes in
       columns-write-all l vs (subst Sized (sym same) sized)
       (subst (λ z. AllInRange (z .nodeCount) l) (sym same) (h .1))
-      ∙ ap (putAll s l) one
+      ∙ ap (putAll j s l) one
 
 view-columns : (s : Side) (c : Columns) → viewOf right c ≡ view s (viewOf s c)
 view-columns left c = refl
@@ -156,6 +158,9 @@ module _ (ws : List ℕ) (sized : Sized (sizesOf ws)) (k : ℕ) where
       ∙ ap tasks (columns-setDispatched ws sized k)
       ∙ sym (task-by-columns ws)
 
+  pub lanes-set-dispatched : laneCount (setDispatched k ws) ≡ laneCount ws
+  lanes-set-dispatched = ap (λ c. c .sizes .laneCount) (columns-setDispatched ws sized k)
+
 -- ---- A record written: begin.
 module _ (ws : List ℕ) (sized : Sized (sizesOf ws)) (k : ℕ) (is-task : k < taskCount ws) (t : Task) where
   pub viewed-set-task : (s : Side) → viewed s (setTask k t ws) ≡ viewed s ws
@@ -170,12 +175,14 @@ module _ (ws : List ℕ) (sized : Sized (sizesOf ws)) (k : ℕ) (is-task : k < t
       ∙ ap (λ (f : ℕ → Task). update f k t) (sym (task-by-columns ws))
 
 -- ---- A whole effect: the words that `applied` gives where the answer is no refusal.
-abbrev pub effectWords : Side → List Write → (k : ℕ) → Task → List ℕ → List ℕ
-effectWords s l k t ws = tickCounted (setTask k t (writeAll s l ws))
+abbrev pub effectWords : (lane : ℕ) → Side → List Write → (k : ℕ) → Task → List ℕ → List ℕ
+effectWords j s l k t ws = tickCounted (setTask k t (writeAll j s l ws))
 
 module _
     (ws : List ℕ)
     (sized : Sized (sizesOf ws))
+    (j : ℕ)
+    (is-lane : j < mostLanes)
     (s : Side)
     (l : List Write)
     (in-range : AllInRange (nodeCount ws) l)
@@ -183,22 +190,22 @@ module _
     (is-task : k < taskCount ws)
     (t : Task) where
   -- The columns once the writes are made, and once the record is set too.
-  columns-written : columns (writeAll s l ws) ≡ putAll s l (columns ws)
-  columns-written = columns-write-all s l ws sized in-range
+  columns-written : columns (writeAll j s l ws) ≡ putAll j s l (columns ws)
+  columns-written = columns-write-all j is-lane s l ws sized in-range
 
-  recorded : columns (setTask k t (writeAll s l ws)) ≡ putRecord k (wordsOf t) (putAll s l (columns ws))
+  recorded : columns (setTask k t (writeAll j s l ws)) ≡ putRecord k (wordsOf t) (putAll j s l (columns ws))
   recorded =
-      let same = ap (λ c. c .sizes) columns-written ∙ put-all-rest s l (columns ws) .sizes in
-      columns-setTask (writeAll s l ws) (subst Sized (sym same) sized) k t
+      let same = ap (λ c. c .sizes) columns-written ∙ put-all-rest j s l (columns ws) .sizes in
+      columns-setTask (writeAll j s l ws) (subst Sized (sym same) sized) k t
       (subst (λ z. k < z .taskCount) (sym same) is-task)
       ∙ ap (putRecord k (wordsOf t)) columns-written
 
   pub columns-effect :
-      columns (effectWords s l k t ws)
-      ≡ putTickCount ((tickCount ws + 1) % 2 ^ 32) (putRecord k (wordsOf t) (putAll s l (columns ws)))
+      columns (effectWords j s l k t ws)
+      ≡ putTickCount ((tickCount ws + 1) % 2 ^ 32) (putRecord k (wordsOf t) (putAll j s l (columns ws)))
   columns-effect =
-      let vs = setTask k t (writeAll s l ws) in
-      let rest = put-all-rest s l (columns ws) in
+      let vs = setTask k t (writeAll j s l ws) in
+      let rest = put-all-rest j s l (columns ws) in
       let same = ap (λ c. c .sizes) recorded ∙ rest .sizes in
       let ticks : tickCount vs ≡ tickCount ws
       = ap (λ c. c .counts .tickCount) recorded ∙ ap (λ n. n .tickCount) (rest .counts) in
@@ -206,28 +213,28 @@ module _
       ∙ ap (λ n. putTickCount ((n + 1) % 2 ^ 32) (columns vs)) ticks
       ∙ ap (putTickCount ((tickCount ws + 1) % 2 ^ 32)) recorded
 
-  pub effect-sizes : sizesOf (effectWords s l k t ws) ≡ sizesOf ws
-  effect-sizes = ap (λ c. c .sizes) columns-effect ∙ put-all-rest s l (columns ws) .sizes
+  pub effect-sizes : sizesOf (effectWords j s l k t ws) ≡ sizesOf ws
+  effect-sizes = ap (λ c. c .sizes) columns-effect ∙ put-all-rest j s l (columns ws) .sizes
 
-  pub effect-dispatched : dispatched (effectWords s l k t ws) ≡ dispatched ws
+  pub effect-dispatched : dispatched (effectWords j s l k t ws) ≡ dispatched ws
   effect-dispatched =
       ap (λ c. c .counts .dispatched) columns-effect
-      ∙ ap (λ n. n .dispatched) (put-all-rest s l (columns ws) .counts)
+      ∙ ap (λ n. n .dispatched) (put-all-rest j s l (columns ws) .counts)
 
-  pub viewed-effect : viewed right (effectWords s l k t ws) ≡ viewAfter s l (viewed right ws)
+  pub viewed-effect : viewed right (effectWords j s l k t ws) ≡ viewAfter j s l (viewed right ws)
   unfolding value
   viewed-effect =
       let c = columns ws in
       ap (viewOf right) columns-effect
-      ∙ view-columns s (putAll s l c)
-      ∙ ap (view s) (view-put-all (nodeCount ws) s l c in-range)
-      ∙ ap (λ m. view s (written s l m)) (sym (view-viewed s ws))
+      ∙ view-columns s (putAll j s l c)
+      ∙ ap (view s) (view-put-all (nodeCount ws) j s l c in-range)
+      ∙ ap (λ m. view s (written j s l m)) (sym (view-viewed s ws))
 
-  pub task-effect : HasWord (t .value) → task (effectWords s l k t ws) ≡ update (task ws) k t
+  pub task-effect : HasWord (t .value) → task (effectWords j s l k t ws) ≡ update (task ws) k t
   task-effect h =
       let c = columns ws in
-      task-by-columns (effectWords s l k t ws)
+      task-by-columns (effectWords j s l k t ws)
       ∙ ap tasks columns-effect
-      ∙ tasks-put-record k t (putAll s l c) h
-      ∙ ap (λ (r : ℕ → List ℕ). update (λ j. taskOf (r j)) k t) (put-all-rest s l c .records)
+      ∙ tasks-put-record k t (putAll j s l c) h
+      ∙ ap (λ (r : ℕ → List ℕ). update (λ i. taskOf (r i)) k t) (put-all-rest j s l c .records)
       ∙ ap (λ (f : ℕ → Task). update f k t) (sym (task-by-columns ws))

@@ -1,4 +1,4 @@
--- The table as a side sees it, with both hats: what a line sees of it, and what a tick's writes make of it.
+-- The table as a side sees it, with the hats of all lanes: what a line sees of it, and what a tick's writes make of it.
 use mathlib.Core.Path.{_≡_, refl}
 use mathlib.Core.List.{List, [], _∷_}
 use Prim.Native.Nat.{ℕ}
@@ -6,32 +6,32 @@ use Rattle.machine.specs.Sides.{Side, left, right, opposite}
 use Rattle.machine.specs.Values.{Value}
 use Rattle.machine.specs.Table.{hat, link, value}
 use Rattle.machine.specs.Lines.{Memory, seen, Write, out≔, inn≔, val≔, hat≔}
-use Rattle.machine.proofs.Basics.Updates.{update, updateSide}
+use Rattle.machine.proofs.Basics.Updates.{update, updateHat}
 
--- Links lead outward and inward from the side that looks; the hats are those of the sides by name.
+-- Links lead outward and inward from the side that looks; the hats are those of the lanes, and of the sides by name.
 pub record View : Type 0 where
   pub out : ℕ → ℕ
   pub inn : ℕ → ℕ
   pub val : ℕ → Value
-  pub hats : Side → ℕ
+  pub hats : (lane : ℕ) → Side → ℕ
 
 abbrev pub viewed : Side → List ℕ → View
 viewed s ws = record { out = link ws s; inn = link ws (opposite s); val = value ws; hats = hat ws }
 
--- What a line of side s sees: its own hat alone.
-abbrev pub seenIn : Side → View → Memory
-seenIn s m = record { out = m .out; inn = m .inn; val = m .val; hat = m .hats s }
+-- What a line of side s of a lane sees: its own hat alone.
+abbrev pub seenIn : (lane : ℕ) → Side → View → Memory
+seenIn l s m = record { out = m .out; inn = m .inn; val = m .val; hat = m .hats l s }
 
--- One write of a task on side s, and several in order.
-abbrev pub write : Side → Write → View → View
-write s (out≔ x y) m = record { out = update (m .out) x y; inn = m .inn; val = m .val; hats = m .hats }
-write s (inn≔ x y) m = record { out = m .out; inn = update (m .inn) x y; val = m .val; hats = m .hats }
-write s (val≔ x v) m = record { out = m .out; inn = m .inn; val = update (m .val) x v; hats = m .hats }
-write s (hat≔ x) m = record { out = m .out; inn = m .inn; val = m .val; hats = updateSide (m .hats) s x }
+-- One write of a task on side s of a lane, and several in order.
+abbrev pub write : (lane : ℕ) → Side → Write → View → View
+write l s (out≔ x y) m = record { out = update (m .out) x y; inn = m .inn; val = m .val; hats = m .hats }
+write l s (inn≔ x y) m = record { out = m .out; inn = update (m .inn) x y; val = m .val; hats = m .hats }
+write l s (val≔ x v) m = record { out = m .out; inn = m .inn; val = update (m .val) x v; hats = m .hats }
+write l s (hat≔ x) m = record { out = m .out; inn = m .inn; val = m .val; hats = updateHat (m .hats) l s x }
 
-abbrev pub written : Side → List Write → View → View
-written s [] m = m
-written s (w ∷ l) m = written s l (write s w m)
+abbrev pub written : (lane : ℕ) → Side → List Write → View → View
+written l s [] m = m
+written l s (w ∷ more) m = written l s more (write l s w m)
 
 abbrev pub swapped : View → View
 swapped m = record { out = m .inn; inn = m .out; val = m .val; hats = m .hats }
@@ -41,9 +41,9 @@ abbrev pub view : Side → View → View
 view left m = swapped m
 view right m = m
 
--- What the writes of a task on side s make of the right side's view.
-abbrev pub viewAfter : Side → List Write → View → View
-viewAfter s l M = view s (written s l (view s M))
+-- What the writes of a task on side s of a lane make of the right side's view.
+abbrev pub viewAfter : (lane : ℕ) → Side → List Write → View → View
+viewAfter l s ws M = view s (written l s ws (view s M))
 
 pub view-view : (s : Side) (m : View) → view s (view s m) ≡ m
 view-view left m = refl
@@ -54,9 +54,9 @@ view-viewed left ws = refl
 view-viewed right ws = refl
 
 -- What the line of a side sees of the words it sees of their view.
-pub seen-viewed : (s : Side) (ws : List ℕ) → seenIn s (view s (viewed right ws)) ≡ seen s ws
-seen-viewed left ws = refl
-seen-viewed right ws = refl
+pub seen-viewed : (l : ℕ) (s : Side) (ws : List ℕ) → seenIn l s (view s (viewed right ws)) ≡ seen l s ws
+seen-viewed l left ws = refl
+seen-viewed l right ws = refl
 
 pub view-equal : {m n : View} → m .out ≡ n .out → m .inn ≡ n .inn → m .val ≡ n .val → m .hats ≡ n .hats → m ≡ n
 view-equal o i v h = λ j. record { out = o j; inn = i j; val = v j; hats = h j }

@@ -39,6 +39,7 @@ use Rattle.machine.specs.Tasks.{
   countedWord,
   valueReadWords,
   registerWord,
+  laneWord,
   taskOf,
 }
 use Rattle.machine.specs.Shape.{sameWords, valueReadOk, busyOk, recordOk}
@@ -104,8 +105,9 @@ pub task-equal :
     → t .B ≡ u .B
     → t .C ≡ u .C
     → t .D ≡ u .D
+    → t .lane ≡ u .lane
     → t ≡ u
-task-equal o st s n c v a b g d =
+task-equal o st s n c v a b g d l =
     λ i. record {
       operation = o i;
       step = st i;
@@ -117,12 +119,13 @@ task-equal o st s n c v a b g d =
       B = b i;
       C = g i;
       D = d i;
+      lane = l i;
     }
 
 pub task-of-words : (t : Task) → HasWord (t .value) → taskOf (wordsOf t) ≡ t
 task-of-words t h =
     task-equal (operation-of-number (t .operation)) (step-of-number (t .step)) (side-of-number (t .side))
-    (number-stored (t .argument)) refl h refl refl refl refl
+    (number-stored (t .argument)) refl h refl refl refl refl refl
 
 pub fresh-of-words : taskOf (wordsOf fresh) ≡ fresh
 fresh-of-words = task-of-words fresh never-has-word
@@ -171,47 +174,47 @@ wordsRead r =
     ∷ (storedWords (argumentWords r)
     ++ (countedWord r
     ∷ (storedWords (valueReadWords r)
-    ++ (registerWord r inA ∷ registerWord r inB ∷ registerWord r inC ∷ registerWord r inD ∷ []))))
+    ++ (registerWord r inA ∷ registerWord r inB ∷ registerWord r inC ∷ registerWord r inD ∷ laneWord r ∷ []))))
 
-module _ (S g : ℕ) (r : List ℕ) where
-  words-of-busy : busyOk S g r ≡ true → wordsOf (taskOf r) ≡ wordsRead r
+module _ (S g L : ℕ) (r : List ℕ) where
+  words-of-busy : busyOk S g L r ≡ true → wordsOf (taskOf r) ≡ wordsRead r
   unfolding busyOk
   words-of-busy h =
       let o = operationWord r in
       let st = stepWord r in
       let s = sideWord r in
       let v = valueReadWords r in
-      let o-ok : leb o 4 ≡ true = search (and-left, and-right) depth 9 in
-      let st-ok : isStepIn (stepsOf (operationOf o)) st ≡ true = search (and-left, and-right) depth 9 in
-      let s-ok : leb s 1 ≡ true = search (and-left, and-right) depth 9 in
-      let v-ok : valueReadOk (sideOf s) st v ≡ true = search (and-left, and-right) depth 9 in
-      let u-ok : argumentOk (operationOf o) (argumentWords r) ≡ true = search (and-left, and-right) depth 9 in
+      let o-ok : leb o 4 ≡ true = search (and-left, and-right) depth 10 in
+      let st-ok : isStepIn (stepsOf (operationOf o)) st ≡ true = search (and-left, and-right) depth 10 in
+      let s-ok : leb s 1 ≡ true = search (and-left, and-right) depth 10 in
+      let v-ok : valueReadOk (sideOf s) st v ≡ true = search (and-left, and-right) depth 10 in
+      let u-ok : argumentOk (operationOf o) (argumentWords r) ≡ true = search (and-left, and-right) depth 10 in
       λ i. number-of-operation o (leb-true o 4 o-ok) i
       ∷ number-of-step (stepsOf (operationOf o)) st st-ok i
       ∷ number-of-side s (leb-true s 1 s-ok) i
       ∷ (storedWords (argument-stored (operationOf o) (argumentWords r) u-ok i)
       ++ (countedWord r
       ∷ (storedWords (encode-decode v (read-value-ok (sideOf s) st v v-ok) i)
-      ++ (registerWord r inA ∷ registerWord r inB ∷ registerWord r inC ∷ registerWord r inD ∷ []))))
+      ++ (registerWord r inA ∷ registerWord r inB ∷ registerWord r inC ∷ registerWord r inD ∷ laneWord r ∷ []))))
 
-  pub words-of-task : recordOk S g r ≡ true → wordsOf (taskOf r) ≡ wordsRead r
+  pub words-of-task : recordOk S g L r ≡ true → wordsOf (taskOf r) ≡ wordsRead r
   unfolding recordOk
   words-of-task = go (eqb (operationWord r) 0)
     where
-      go : (t : Bool) → cond t (sameWords r (wordsOf fresh)) (busyOk S g r) ≡ true → wordsOf (taskOf r) ≡ wordsRead r
+      go : (t : Bool) → cond t (sameWords r (wordsOf fresh)) (busyOk S g L r) ≡ true → wordsOf (taskOf r) ≡ wordsRead r
       go true h =
           let e = same-words r (wordsOf fresh) h in
           ap (λ l. wordsOf (taskOf l)) e ∙ ap wordsOf fresh-of-words ∙ ap wordsRead (sym e)
       go false h = words-of-busy h
 
   -- The words as they are read pass too.
-  pub read-passes : recordOk S g r ≡ true → recordOk S g (wordsRead r) ≡ true
+  pub read-passes : recordOk S g L r ≡ true → recordOk S g L (wordsRead r) ≡ true
   unfolding recordOk busyOk sameWords
   read-passes = go (eqb (operationWord r) 0)
     where
       go :
           (t : Bool)
-          → cond t (sameWords r (wordsOf fresh)) (busyOk S g r) ≡ true
-          → cond t (sameWords (wordsRead r) (wordsOf fresh)) (busyOk S g (wordsRead r)) ≡ true
+          → cond t (sameWords r (wordsOf fresh)) (busyOk S g L r) ≡ true
+          → cond t (sameWords (wordsRead r) (wordsOf fresh)) (busyOk S g L (wordsRead r)) ≡ true
       go true h = rw (same-words r (wordsOf fresh) h) refl
       go false h = h

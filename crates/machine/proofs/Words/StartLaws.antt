@@ -1,7 +1,7 @@
 -- The table that start leaves: its columns, and the view and the tasks that it stands for.
 use mathlib.Core.Path.{_≡_, refl, ap, sym, _∙_, fun-ext}
-use mathlib.Core.List.{List, _++_}
-use Prim.Native.Nat.{ℕ, zero, suc, _+_, _*_, _-_, _≤_, _<_}
+use mathlib.Core.List.{List, [], _∷_, _++_}
+use Prim.Native.Nat.{ℕ, zero, suc, _+_, _*_, _-_, _/_, _%_, _≤_, _<_}
 use lib.ListN.{length, getD, length-append, List·getD-append}
 use lib.Seq.{getD-append-add}
 use native.Mathlib.Omega.{arith}
@@ -9,14 +9,18 @@ use native.Mathlib.Nat.{add-assoc}
 use native.Mathlib.Decide.{ℕ-discrete}
 use Rattle.machine.specs.Choice.{_≟_, _<?_, if_then_else_}
 use Rattle.machine.specs.Sides.{Side, left, right, sideNumber}
-use Rattle.machine.specs.Values.{Value, never, X, encode}
+use Rattle.machine.specs.Values.{Value, never, X, encode, storedAt}
 use Rattle.machine.specs.Tasks.{Task, none, fresh, recordLength, wordsOf}
 use Rattle.machine.specs.Table.{
   nodeLength,
   nodeAt,
   tableLength,
+  headerLength,
   nodeCount,
   taskCount,
+  mostLanes,
+  hatWord,
+  hat,
   headerWords,
   nodeWords,
   linkWord,
@@ -29,7 +33,7 @@ use Rattle.machine.specs.Table.{
   task,
   linksLength,
 }
-use Rattle.machine.specs.Calls.{times, startWords}
+use Rattle.machine.specs.Calls.{times, startHat, startNodes, startWords}
 use Rattle.machine.proofs.Basics.Choices.{by-if, if-no, if-yes}
 use Rattle.machine.proofs.Words.Memories.{View, viewed, view-equal}
 use Rattle.machine.proofs.Words.ValueLaws.{HasWord, X-mark, never-has-word, mark-has-word, stored-alike}
@@ -62,166 +66,259 @@ times-at (suc n) l (suc i) c h k =
     let e : suc i * length l + c ≡ length l + (i * length l + c) = omega arith in
     rw e (getD-append-add l (times n l) (i * length l + c) 0 ∙ times-at n l i c (omega arith) k)
 
--- ---- 01's started table, as functions.
-abbrev pub startLink : Side → ℕ → ℕ
-startLink left x = if x ≟ 1 then 0 else none
-startLink right x = if x ≟ 0 then 1 else none
+-- ---- 02's started table, as functions: node x is of lane x / 2, and of its left side where x is even.
+abbrev pub startLink : (lanes : ℕ) → Side → ℕ → ℕ
+startLink L left x = if x <? 2 * L then (if x % 2 ≟ 0 then none else x - 1) else none
+startLink L right x = if x <? 2 * L then (if x % 2 ≟ 0 then x + 1 else none) else none
 
-abbrev pub startHat : Side → ℕ
-startHat left = 0
-startHat right = 1
+abbrev pub startValue : (lanes : ℕ) → ℕ → Value
+startValue L x = if x <? 2 * L then (if x % 2 ≟ 0 then X left else X right) else never
 
-abbrev pub startValue : ℕ → Value
-startValue x = if x ≟ 0 then X left else if x ≟ 1 then X right else never
-
-abbrev pub startView : View
-startView =
+abbrev pub startView : (lanes : ℕ) → View
+startView L =
     record {
-      out = startLink right;
-      inn = startLink left;
-      val = startValue;
-      hats = startHat;
+      out = startLink L right;
+      inn = startLink L left;
+      val = startValue L;
+      hats = startHat L;
     }
 
-abbrev pub startColumns : (S T growth : ℕ) → Columns
-startColumns S T g =
+abbrev pub startColumns : (S T growth lanes : ℕ) → Columns
+startColumns S T g L =
     record {
-      sizes = record { length = tableLength S T; nodeCount = S; taskCount = T; growth = g };
-      hats = startHat;
+      sizes = record { length = tableLength S T; nodeCount = S; taskCount = T; growth = g; laneCount = L };
+      hats = startHat L;
       counts = startCounts T;
-      links = startLink;
-      values = λ x. encode (startValue x);
+      links = startLink L;
+      values = λ x. encode (startValue L x);
       records = λ k. wordsOf fresh;
     }
 
+-- ---- The nodes of the lanes, at a place.
+
+-- A lane's two nodes.
+abbrev pair : ℕ → List ℕ
+pair l = nodeWords none (2 * l + 1) (X left) ++ nodeWords (2 * l) none (X right)
+
+pairLength : ℕ
+pairLength = 2 * nodeLength
+
+length-pairs : (n l : ℕ) → length (startNodes n l) ≡ n * pairLength
+unfolding startNodes pairLength
+length-pairs zero l = refl
+length-pairs (suc n) l = length-append (pair l) (startNodes n (suc l)) ∙ omega (arith, length-pairs n (suc l))
+
+pair-at : (n l i c : ℕ) → i < n → c < pairLength
+    → getD (startNodes n l) (i * pairLength + c) 0 ≡ getD (pair (l + i)) c 0
+unfolding startNodes pairLength
+pair-at zero l i c h k = absurd (omega arith)
+pair-at (suc n) l zero c h k =
+    let e : 0 * pairLength + c ≡ c = omega arith in
+    let z : l + 0 ≡ l = omega arith in
+    ap (λ (x : ℕ). getD (startNodes (suc n) l) x 0) e
+    ∙ List·getD-append (pair l) (startNodes n (suc l)) 0 c k
+    ∙ ap (λ (m : ℕ). getD (pair m) c 0) (sym z)
+pair-at (suc n) l (suc i) c h k =
+    let e : suc i * pairLength + c ≡ length (pair l) + (i * pairLength + c) = omega arith in
+    let z : l + suc i ≡ suc l + i = omega arith in
+    ap (λ (x : ℕ). getD (startNodes (suc n) l) x 0) e
+    ∙ getD-append-add (pair l) (startNodes n (suc l)) (i * pairLength + c) 0
+    ∙ pair-at n (suc l) i c (omega arith) k
+    ∙ ap (λ (m : ℕ). getD (pair m) c 0) (sym z)
+
 -- ---- The words of start, read.
-module _ (S T g : ℕ) (two : 2 ≤ S) where
+module _ (S T g L : ℕ) (room : 2 * L ≤ S) where
   spare : List ℕ
   spare = nodeWords none none never
 
-  -- The header and the first two nodes.
   front : List ℕ
-  front = headerWords S T g 0 1 0 (T - 1) ++ (nodeWords none 1 (X left) ++ nodeWords 0 none (X right))
+  front = headerWords S T g L 0 (T - 1) (startHat L)
 
-  length-nodes : length (times (S - 2) spare) ≡ (S - 2) * nodeLength
+  others : List ℕ
+  others = times (S - 2 * L) spare ++ times T (wordsOf fresh)
+
+  length-spares : length (times (S - 2 * L) spare) ≡ (S - 2 * L) * nodeLength
   unfolding spare
-  length-nodes = length-times (S - 2) spare
+  length-spares = length-times (S - 2 * L) spare
 
-  length-start : length (startWords S T g) ≡ tableLength S T
-  unfolding startWords front spare
+  length-start : length (startWords S T g L) ≡ tableLength S T
+  unfolding startWords front spare others pairLength
   length-start =
-      length-append front (times (S - 2) spare ++ times T (wordsOf fresh))
+      length-append front (startNodes L 0 ++ others)
       ∙ omega (
         arith,
-        length-append (times (S - 2) spare) (times T (wordsOf fresh)),
-        length-nodes,
+        length-append (startNodes L 0) others,
+        length-pairs L 0,
+        length-append (times (S - 2 * L) spare) (times T (wordsOf fresh)),
+        length-spares,
         length-times T (wordsOf fresh),
       )
 
-  spare-at :
-      (y c : ℕ) → y < S - 2 → c < nodeLength → getD (startWords S T g) (nodeAt (suc (suc y)) + c) 0 ≡ getD spare c 0
-  unfolding startWords front spare
-  spare-at y c h k =
-      let i = y * nodeLength + c in
-      let e : nodeAt (suc (suc y)) + c ≡ nodeAt 2 + i = omega arith in
+  node-at :
+      (x c : ℕ)
+      → x < 2 * L
+      → c < nodeLength
+      → getD (startWords S T g L) (nodeAt x + c) 0 ≡ getD (pair (x / 2)) (nodeLength * (x % 2) + c) 0
+  unfolding startWords front spare others pairLength
+  node-at x c h k =
+      let i = (x / 2) * pairLength + (nodeLength * (x % 2) + c) in
+      let e : nodeAt x + c ≡ length front + i = omega arith in
       rw e (
-      getD-append-add front (times (S - 2) spare ++ times T (wordsOf fresh)) i 0
-      ∙ List·getD-append (times (S - 2) spare) (times T (wordsOf fresh)) 0 i (omega (arith, length-nodes))
-      ∙ times-at (S - 2) spare y c h k)
+      getD-append-add front (startNodes L 0 ++ others) i 0
+      ∙ List·getD-append (startNodes L 0) others 0 i (omega (arith, length-pairs L 0))
+      ∙ pair-at L 0 (x / 2) (nodeLength * (x % 2) + c) (omega arith) (omega arith)
+      ∙ ap (λ (m : ℕ). getD (pair m) (nodeLength * (x % 2) + c) 0) (omega arith))
+
+  spare-at :
+      (x c : ℕ) → 2 * L ≤ x → x < S → c < nodeLength → getD (startWords S T g L) (nodeAt x + c) 0 ≡ getD spare c 0
+  unfolding startWords front spare others pairLength
+  spare-at x c l h k =
+      let n = length (startNodes L 0) in
+      let i = (x - 2 * L) * nodeLength + c in
+      let e : nodeAt x + c ≡ length front + (n + i) = omega (arith, length-pairs L 0) in
+      rw e (
+      getD-append-add front (startNodes L 0 ++ others) (n + i) 0
+      ∙ getD-append-add (startNodes L 0) others i 0
+      ∙ List·getD-append (times (S - 2 * L) spare) (times T (wordsOf fresh)) 0 i (omega (arith, length-spares))
+      ∙ times-at (S - 2 * L) spare (x - 2 * L) c (omega arith) k)
 
   record-at :
       (k c : ℕ)
       → k < T
       → c < recordLength
-      → getD (startWords S T g) (recordAt S k + c) 0 ≡ getD (wordsOf fresh) c 0
-  unfolding startWords front spare
+      → getD (startWords S T g L) (recordAt S k + c) 0 ≡ getD (wordsOf fresh) c 0
+  unfolding startWords front spare others pairLength
   record-at k c h q =
-      let n = length (times (S - 2) spare) in
+      let n = length (startNodes L 0) in
+      let m = length (times (S - 2 * L) spare) in
       let i = k * recordLength + c in
-      let e : recordAt S k + c ≡ nodeAt 2 + (n + i) = omega (arith, length-nodes) in
+      let e : recordAt S k + c ≡ length front + (n + (m + i)) = omega (arith, length-pairs L 0, length-spares) in
       rw e (
-      getD-append-add front (times (S - 2) spare ++ times T (wordsOf fresh)) (n + i) 0
-      ∙ getD-append-add (times (S - 2) spare) (times T (wordsOf fresh)) i 0
+      getD-append-add front (startNodes L 0 ++ others) (n + (m + i)) 0
+      ∙ getD-append-add (startNodes L 0) others (m + i) 0
+      ∙ getD-append-add (times (S - 2 * L) spare) (times T (wordsOf fresh)) i 0
       ∙ times-at T (wordsOf fresh) k c h q)
 
-  link-else : (s : Side) (y : ℕ) → startLink s (suc (suc y)) ≡ none
-  link-else left y = if-no (suc (suc y) ≟ 1) 0 none (λ e. omega arith)
-  link-else right y = if-no (suc (suc y) ≟ 0) 1 none (λ e. omega arith)
+  -- ---- A node's words, by its place in its pair.
+  pair-left : (x : ℕ) (d : Dec (x % 2 ≡ 0))
+      → getD (pair (x / 2)) (nodeLength * (x % 2) + sideNumber left) 0 ≡ (if d then none else x - 1)
+  pair-left x (yes e) = rw e
+  pair-left x (no e) = let q : x % 2 ≡ 1 = omega arith in rw q (omega arith)
+
+  pair-right : (x : ℕ) (d : Dec (x % 2 ≡ 0))
+      → getD (pair (x / 2)) (nodeLength * (x % 2) + sideNumber right) 0 ≡ (if d then x + 1 else none)
+  pair-right x (yes e) = rw e (omega arith)
+  pair-right x (no e) = let q : x % 2 ≡ 1 = omega arith in rw q
+
+  pair-link : (s : Side) (x : ℕ) → x < 2 * L
+      → getD (pair (x / 2)) (nodeLength * (x % 2) + sideNumber s) 0 ≡ startLink L s x
+  pair-link left x h =
+      pair-left x (x % 2 ≟ 0) ∙ sym (if-yes (x <? 2 * L) (if x % 2 ≟ 0 then none else x - 1) none h)
+  pair-link right x h =
+      pair-right x (x % 2 ≟ 0) ∙ sym (if-yes (x <? 2 * L) (if x % 2 ≟ 0 then x + 1 else none) none h)
+
+  pair-value : (x : ℕ) (d : Dec (x % 2 ≡ 0))
+      → storedAt (pair (x / 2)) (nodeLength * (x % 2) + linksLength) ≡ encode (if d then X left else X right)
+  pair-value x (yes e) = rw e
+  pair-value x (no e) = let q : x % 2 ≡ 1 = omega arith in rw q
 
   spare-link : (s : Side) → getD spare (sideNumber s) 0 ≡ none
   unfolding spare
   spare-link left = refl
   spare-link right = refl
 
-  link-start : (s : Side) (x : ℕ) → link (startWords S T g) s x ≡ startLink s x
-  unfolding link startWords ℕ-discrete
-  link-start left zero = if-yes (0 <? S) none none (omega arith)
-  link-start right zero = if-yes (0 <? S) 1 none (omega arith)
-  link-start left (suc zero) = if-yes (1 <? S) 0 none (omega arith)
-  link-start right (suc zero) = if-yes (1 <? S) none none (omega arith)
-  link-start s (suc (suc y)) = go (suc (suc y) <? S) ∙ sym (link-else s y)
+  link-else : (s : Side) (x : ℕ) → 2 * L ≤ x → startLink L s x ≡ none
+  link-else left x h = if-no (x <? 2 * L) (if x % 2 ≟ 0 then none else x - 1) none (λ l. omega arith)
+  link-else right x h = if-no (x <? 2 * L) (if x % 2 ≟ 0 then x + 1 else none) none (λ l. omega arith)
+
+  link-start : (s : Side) (x : ℕ) → link (startWords S T g L) s x ≡ startLink L s x
+  unfolding link startWords
+  link-start s x = go (x <? S) (x <? 2 * L)
     where
-      go :
-          (d : Dec (suc (suc y) < S)) → (if d then linkWord (startWords S T g) s (suc (suc y)) else none) ≡ none
-      go (yes h) = spare-at y (sideNumber s) (omega arith) (omega (arith, side-small s)) ∙ spare-link s
-      go (no h) = refl
+      go : (d : Dec (x < S)) → Dec (x < 2 * L)
+          → (if d then linkWord (startWords S T g L) s x else none) ≡ startLink L s x
+      go (yes l) (yes h) = node-at x (sideNumber s) h (omega (arith, side-small s)) ∙ pair-link s x h
+      go (yes l) (no h) =
+          spare-at x (sideNumber s) (omega arith) l (omega (arith, side-small s))
+          ∙ spare-link s
+          ∙ sym (link-else s x (omega arith))
+      go (no l) d = sym (link-else s x (omega arith))
 
-  value-else : (y : ℕ) → encode (startValue (suc (suc y))) ≡ encode never
-  value-else y =
-      ap encode (
-      if-no (suc (suc y) ≟ 0) (X left) (if suc (suc y) ≟ 1 then X right else never) (λ e. omega arith)
-      ∙ if-no (suc (suc y) ≟ 1) (X right) never (λ e. omega arith))
+  value-else : (x : ℕ) → 2 * L ≤ x → encode (startValue L x) ≡ encode never
+  value-else x h = ap encode (if-no (x <? 2 * L) (if x % 2 ≟ 0 then X left else X right) never (λ l. omega arith))
 
-  value-start : (x : ℕ) → columns (startWords S T g) .values x ≡ encode (startValue x)
-  unfolding startWords ℕ-discrete spare
-  value-start zero = if-yes (0 <? S) (encode (X left)) (encode never) (omega arith)
-  value-start (suc zero) = if-yes (1 <? S) (encode (X right)) (encode never) (omega arith)
-  value-start (suc (suc y)) = go (suc (suc y) <? S) ∙ sym (value-else y)
+  value-start : (x : ℕ) → columns (startWords S T g L) .values x ≡ encode (startValue L x)
+  unfolding startWords spare
+  value-start x = go (x <? S) (x <? 2 * L)
     where
-      go :
-          (d : Dec (suc (suc y) < S))
-          → (if d then valueWords (startWords S T g) (suc (suc y)) else encode never) ≡ encode never
-      go (yes h) =
-          stored-alike spare (startWords S T g) (valueAt (suc (suc y))) linksLength (λ c k.
-          rw (add-assoc (nodeAt (suc (suc y))) linksLength c)
-          (spare-at y (linksLength + c) (omega arith) (omega arith)))
-      go (no h) = refl
+      go : (d : Dec (x < S)) → Dec (x < 2 * L)
+          → (if d then valueWords (startWords S T g L) x else encode never) ≡ encode (startValue L x)
+      go (yes l) (yes h) =
+          stored-alike (pair (x / 2)) (startWords S T g L) (valueAt x) (nodeLength * (x % 2) + linksLength) (λ c k.
+          rw (add-assoc (nodeAt x) linksLength c, add-assoc (nodeLength * (x % 2)) linksLength c)
+          (node-at x (linksLength + c) h (omega arith)))
+          ∙ pair-value x (x % 2 ≟ 0)
+          ∙ sym (ap encode (if-yes (x <? 2 * L) (if x % 2 ≟ 0 then X left else X right) never h))
+      go (yes l) (no h) =
+          stored-alike spare (startWords S T g L) (valueAt x) linksLength (λ c k.
+          rw (add-assoc (nodeAt x) linksLength c)
+          (spare-at x (linksLength + c) (omega arith) l (omega arith)))
+          ∙ sym (value-else x (omega arith))
+      go (no l) d = sym (value-else x (omega arith))
 
-  record-start : (k : ℕ) → columns (startWords S T g) .records k ≡ wordsOf fresh
+  record-start : (k : ℕ) → columns (startWords S T g L) .records k ≡ wordsOf fresh
   unfolding startWords
   record-start k = go (k <? T)
     where
-      go : (d : Dec (k < T)) → (if d then recordWords (startWords S T g) k else wordsOf fresh) ≡ wordsOf fresh
+      go : (d : Dec (k < T)) → (if d then recordWords (startWords S T g L) k else wordsOf fresh) ≡ wordsOf fresh
       go (yes h) =
-          record-alike (startWords S T g) (wordsOf fresh) (recordAt S k) refl (omega (arith, length-start))
+          record-alike (startWords S T g L) (wordsOf fresh) (recordAt S k) refl (omega (arith, length-start))
           (λ c q. record-at k c h q)
       go (no h) = refl
 
-  hat-start : (s : Side) → columns (startWords S T g) .hats s ≡ startHat s
-  unfolding startWords
-  hat-start left = refl
-  hat-start right = refl
+  -- ---- The hats: four pairs, those of lanes that are not there none.
+  module _ (few : L ≤ mostLanes) where
+    hat-word : (l : ℕ) (s : Side) → l < mostLanes → hatWord (startWords S T g L) l s ≡ startHat L l s
+    unfolding startWords
+    hat-word zero left h = refl
+    hat-word zero right h = refl
+    hat-word (suc zero) left h = refl
+    hat-word (suc zero) right h = refl
+    hat-word (suc (suc zero)) left h = refl
+    hat-word (suc (suc zero)) right h = refl
+    hat-word (suc (suc (suc zero))) left h = refl
+    hat-word (suc (suc (suc zero))) right h = refl
+    hat-word (suc (suc (suc (suc l)))) s h = absurd (omega arith)
 
-  pub columns-start : columns (startWords S T g) ≡ startColumns S T g
-  unfolding startWords
-  columns-start =
-      columns-equal (sizes-equal length-start refl refl refl) (fun-ext hat-start) refl
-      (fun-ext (λ s. fun-ext (link-start s))) (fun-ext value-start) (fun-ext record-start)
+    hat-start : (l : ℕ) (s : Side) → hat (startWords S T g L) l s ≡ startHat L l s
+    unfolding hat
+    hat-start l s = go (l <? mostLanes)
+      where
+        go : (d : Dec (l < mostLanes)) → (if d then hatWord (startWords S T g L) l s else none) ≡ startHat L l s
+        go (yes h) = hat-word l s h
+        go (no h) = sym (if-no (l <? L) (2 * l + sideNumber s) none (λ q. omega arith))
 
-start-has-word : (x : ℕ) → HasWord (startValue x)
-start-has-word x =
-    by-if HasWord (x ≟ 0) (λ _. mark-has-word {s = left} X-mark) (λ _.
-    by-if HasWord (x ≟ 1) (λ _. mark-has-word {s = right} X-mark) (λ _. never-has-word))
+    pub columns-start : columns (startWords S T g L) ≡ startColumns S T g L
+    unfolding startWords
+    columns-start =
+        columns-equal (sizes-equal length-start refl refl refl refl) (fun-ext (λ l. fun-ext (hat-start l))) refl
+        (fun-ext (λ s. fun-ext (link-start s))) (fun-ext value-start) (fun-ext record-start)
+
+start-has-word : (L x : ℕ) → HasWord (startValue L x)
+start-has-word L x =
+    by-if HasWord (x <? 2 * L) (λ _.
+    by-if HasWord (x % 2 ≟ 0) (λ _. mark-has-word {s = left} X-mark) (λ _. mark-has-word {s = right} X-mark))
+    (λ _. never-has-word)
 
 -- ---- What the started table stands for.
-module _ (S T g : ℕ) (two : 2 ≤ S) where
-  pub viewed-start : viewed right (startWords S T g) ≡ startView
+module _ (S T g L : ℕ) (room : 2 * L ≤ S) (few : L ≤ mostLanes) where
+  pub viewed-start : viewed right (startWords S T g L) ≡ startView L
   unfolding value
   viewed-start =
-      ap (viewOf right) (columns-start S T g two)
-      ∙ view-equal refl refl (fun-ext start-has-word) refl
+      ap (viewOf right) (columns-start S T g L room few)
+      ∙ view-equal refl refl (fun-ext (start-has-word L)) refl
 
-  pub task-start : (k : ℕ) → task (startWords S T g) k ≡ fresh
+  pub task-start : (k : ℕ) → task (startWords S T g L) k ≡ fresh
   task-start k =
-      ap (λ (f : ℕ → Task). f k) (task-by-columns (startWords S T g) ∙ ap tasks (columns-start S T g two))
+      ap (λ (f : ℕ → Task). f k) (task-by-columns (startWords S T g L) ∙ ap tasks (columns-start S T g L room few))
       ∙ fresh-of-words

@@ -17,6 +17,7 @@ use lib.Seq.{
   ext-getD,
 }
 use native.Mathlib.Omega.{arith}
+use Rattle.machine.specs.Choice.{_<?_, if_then_else_}
 use Rattle.machine.specs.Sides.{Side, left, right, sideNumber}
 use Rattle.machine.specs.Values.{never, encode}
 use Rattle.machine.specs.Tasks.{none, fresh, recordLength, wordsOf}
@@ -25,9 +26,14 @@ use Rattle.machine.specs.Table.{
   nodeLength,
   nodeCount,
   taskCount,
+  mostLanes,
   hatAt,
+  hatWord,
   hat,
   tickCountAt,
+  dispatchedAt,
+  word14At,
+  word15At,
   nodeAt,
   valueAt,
   linkWord,
@@ -39,11 +45,11 @@ use Rattle.machine.specs.Table.{
   nodeCountAt,
   taskCountAt,
   growthAt,
+  laneCountAt,
 }
 use Rattle.machine.proofs.Words.ValueLaws.{stored-alike}
 use Rattle.machine.proofs.Words.Columns.{
   sizesOf,
-  countsOf,
   columns,
   putBody,
   sizes-equal,
@@ -133,7 +139,18 @@ pub side-small : (s : Side) → sideNumber s ≤ 1
 side-small left = omega arith
 side-small right = omega arith
 
-module _ {ws vs : List ℕ} {p n : ℕ} (W : Wrote ws vs p n) (past-sizes : hatAt left ≤ p) where
+-- Hats that are alike, lane by lane.
+pub hats-kept : (ws vs : List ℕ) → ((l : ℕ) (s : Side) → l < mostLanes → hatWord vs l s ≡ hatWord ws l s)
+    → hat vs ≡ hat ws
+unfolding hat
+hats-kept ws vs same = fun-ext (λ l. fun-ext (λ s. go l s (l <? mostLanes)))
+  where
+    go : (l : ℕ) (s : Side) (d : Dec (l < mostLanes))
+        → (if d then hatWord vs l s else none) ≡ (if d then hatWord ws l s else none)
+    go l s (yes h) = same l s h
+    go l s (no h) = refl
+
+module _ {ws vs : List ℕ} {p n : ℕ} (W : Wrote ws vs p n) (past-sizes : tickCountAt ≤ p) where
   before : (j : ℕ) → j < p → getD vs j 0 ≡ getD ws j 0
   before j h = W .other j (inl h)
 
@@ -144,16 +161,14 @@ module _ {ws vs : List ℕ} {p n : ℕ} (W : Wrote ws vs p n) (past-sizes : hatA
   same-tasks = before taskCountAt (omega arith)
 
   pub same-sizes : sizesOf vs ≡ sizesOf ws
-  same-sizes = sizes-equal (W .long) same-nodes same-tasks (before growthAt (omega arith))
+  same-sizes =
+      sizes-equal (W .long) same-nodes same-tasks (before growthAt (omega arith)) (before laneCountAt (omega arith))
 
-  pub hats-before : hatAt right < p → hat vs ≡ hat ws
-  hats-before h = fun-ext (λ s. before (hatAt s) (let b = side-small s in omega arith))
-
-  pub counts-off : (p + n ≤ tickCountAt) ⊎ (headerLength ≤ p) → countsOf vs ≡ countsOf ws
-  counts-off o = counts-equal (other 0 (omega arith)) (other 1 (omega arith)) (other 2 (omega arith))
-    where
-      other : (c : ℕ) → tickCountAt + c < headerLength → getD vs (tickCountAt + c) 0 ≡ getD ws (tickCountAt + c) 0
-      other c h = W .other (tickCountAt + c) (elim o [ inl l ↦ inr (omega arith) | inr l ↦ inl (omega arith) ])
+  pub hats-off : (p + n ≤ hatAt 0 left) ⊎ (hatAt mostLanes left ≤ p) → hat vs ≡ hat ws
+  hats-off o =
+      hats-kept ws vs (λ l s h.
+      let b = side-small s in
+      W .other (hatAt l s) (elim o [ inl q ↦ inr (omega arith) | inr q ↦ inl (omega arith) ]))
 
   module _ (off-nodes : (p + n ≤ headerLength) ⊎ (nodeAt (nodeCount ws) ≤ p)) where
     off : (x j : ℕ) → x < nodeCount ws → nodeAt x ≤ j → j < nodeAt x + nodeLength → getD vs j 0 ≡ getD ws j 0
@@ -189,4 +204,7 @@ module _ {ws vs : List ℕ} {p n : ℕ} (W : Wrote ws vs p n) (past-sizes : hatA
       → columns vs .values ≡ values
       → columns vs .records ≡ records
       → columns vs ≡ putBody links values records (columns ws)
-  past-header h = columns-equal same-sizes (hats-before (omega arith)) (counts-off (inr h))
+  past-header h =
+      columns-equal same-sizes (hats-off (inr (omega arith)))
+      (counts-equal (before tickCountAt (omega arith)) (before dispatchedAt (omega arith))
+      (before word14At (omega arith)) (before word15At (omega arith)))

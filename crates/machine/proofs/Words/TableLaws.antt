@@ -1,18 +1,20 @@
 -- What every column of the table is after each kind of write to the words.
-use mathlib.Core.Path.{_≡_, refl, ap, _∙_, fun-ext}
+use mathlib.Core.Path.{_≡_, refl, ap, sym, _∙_, fun-ext}
 use mathlib.Core.Logic.{_≢_, _⊎_, inl, inr}
 use mathlib.Core.List.{List}
 use Prim.Native.Nat.{ℕ, _+_, _-_, _≤_, _<_}
 use lib.Seq.{getD-set-same, getD-set-other}
 use native.Mathlib.Omega.{arith}
-use Rattle.machine.specs.Choice.{_<?_, _≟_}
+use Rattle.machine.specs.Choice.{_<?_, _≟_, if_then_else_}
 use Rattle.machine.specs.Sides.{Side, left, right, opposite}
 use Rattle.machine.specs.Values.{Value, never, encode, storedLength, storedWords}
 use Rattle.machine.specs.Tasks.{Task, none, fresh, recordLength, wordsOf}
 use Rattle.machine.specs.Table.{
   nodeCount,
   taskCount,
+  mostLanes,
   hatAt,
+  hatWord,
   hat,
   tickCountAt,
   dispatchedAt,
@@ -31,7 +33,8 @@ use Rattle.machine.specs.Table.{
   setValue,
   setTask,
 }
-use Rattle.machine.proofs.Basics.Updates.{is-updateSide, update, updateSide}
+use Rattle.machine.proofs.Basics.Updates.{is-update, is-updateSide, update, updateSide, updateHat}
+use Rattle.machine.proofs.Basics.Choices.{if-yes, if-no}
 use Rattle.machine.proofs.Words.ValueLaws.{stored-alike, stored-written}
 use Rattle.machine.proofs.Words.Columns.{
   sizesOf,
@@ -58,8 +61,7 @@ use Rattle.machine.proofs.Words.Stretches.{
   same-nodes,
   same-tasks,
   same-sizes,
-  hats-before,
-  counts-off,
+  hats-off,
   links-off,
   values-off,
   records-off,
@@ -67,23 +69,45 @@ use Rattle.machine.proofs.Words.Stretches.{
 }
 
 -- ---- A hat.
-module _ (ws : List ℕ) (sized : Sized (sizesOf ws)) (s : Side) (x : ℕ) where
-  hats-apart : (z : Side) → hatAt (opposite z) ≢ hatAt z
+module _ (ws : List ℕ) (sized : Sized (sizesOf ws)) (l : ℕ) (is-lane : l < mostLanes) (s : Side) (x : ℕ) where
+  hats-apart : (z : Side) → hatAt l (opposite z) ≢ hatAt l z
   hats-apart left e = absurd (omega arith)
   hats-apart right e = absurd (omega arith)
 
-  hat-after : hat (setHat s x ws) ≡ updateSide (hat ws) s x
-  hat-after =
-      is-updateSide (hat ws) (hat (setHat s x ws)) s x
-      (getD-set-same ws (hatAt s) x 0 (omega (arith, side-small s)))
-      (getD-set-other ws (hatAt s) (hatAt (opposite s)) x 0 (hats-apart s))
+  hat-is : (vs : List ℕ) (z : Side) → hat vs l z ≡ hatWord vs l z
+  unfolding hat
+  hat-is vs z = if-yes (l <? mostLanes) (hatWord vs l z) none is-lane
 
-  pub columns-setHat : columns (setHat s x ws) ≡ putHat s x (columns ws)
+  own-hats : hat (setHat l s x ws) l ≡ updateSide (hat ws l) s x
+  own-hats =
+      is-updateSide (hat ws l) (hat (setHat l s x ws) l) s x
+      (hat-is (setHat l s x ws) s ∙ getD-set-same ws (hatAt l s) x 0 (omega (arith, side-small s)))
+      (hat-is (setHat l s x ws) (opposite s)
+      ∙ getD-set-other ws (hatAt l s) (hatAt l (opposite s)) x 0 (hats-apart s)
+      ∙ sym (hat-is ws (opposite s)))
+
+  other-hats : (j : ℕ) → j ≢ l → hat (setHat l s x ws) j ≡ hat ws j
+  unfolding hat
+  other-hats j ne = fun-ext (λ z. go z (j <? mostLanes))
+    where
+      go : (z : Side) (d : Dec (j < mostLanes))
+          → (if d then hatWord (setHat l s x ws) j z else none) ≡ (if d then hatWord ws j z else none)
+      go z (yes h) =
+          getD-set-other ws (hatAt l s) (hatAt j z) x 0
+          (λ e. let a = side-small s in let b = side-small z in absurd (ne (omega arith)))
+      go z (no h) = refl
+
+  hat-after : hat (setHat l s x ws) ≡ updateHat (hat ws) l s x
+  hat-after = is-update (hat ws) l (updateSide (hat ws l) s x) (hat (setHat l s x ws)) own-hats other-hats
+
+  pub columns-setHat : columns (setHat l s x ws) ≡ putHat l s x (columns ws)
   columns-setHat =
       let b = side-small s in
-      let W = set-wrote ws (hatAt s) x in
-      let past : hatAt left ≤ hatAt s = omega arith in
-      columns-equal (same-sizes W past) hat-after (counts-off W past (inl (omega arith)))
+      let W = set-wrote ws (hatAt l s) x in
+      let past : tickCountAt ≤ hatAt l s = omega arith in
+      columns-equal (same-sizes W past) hat-after
+      (counts-equal (W .other _ (inl (omega arith))) (W .other _ (inl (omega arith)))
+      (W .other _ (inr (omega arith))) (W .other _ (inr (omega arith))))
       (links-off W past (inl (omega arith))) (values-off W past (inl (omega arith))) (records-off W past (omega arith))
 
 -- ---- The tick count.
@@ -91,20 +115,22 @@ module _ (ws : List ℕ) (sized : Sized (sizesOf ws)) where
   pub columns-setTickCount : (n : ℕ) → columns (setTickCount n ws) ≡ putTickCount n (columns ws)
   columns-setTickCount n =
       let W = set-wrote ws tickCountAt n in
-      let past : hatAt left ≤ tickCountAt = omega arith in
+      let past : tickCountAt ≤ tickCountAt = omega arith in
       let own = getD-set-same ws tickCountAt n 0 (omega arith) in
-      columns-equal (same-sizes W past) (hats-before W past (omega arith))
-      (counts-equal own (W .other _ (inr (omega arith))) (W .other _ (inr (omega arith))))
+      columns-equal (same-sizes W past) (hats-off W past (inl (omega arith)))
+      (counts-equal own
+      (W .other _ (inr (omega arith))) (W .other _ (inr (omega arith))) (W .other _ (inr (omega arith))))
       (links-off W past (inl (omega arith))) (values-off W past (inl (omega arith))) (records-off W past (omega arith))
 
   -- ---- The task last dispatched.
   pub columns-setDispatched : (k : ℕ) → columns (setDispatched k ws) ≡ putDispatched k (columns ws)
   columns-setDispatched k =
       let W = set-wrote ws dispatchedAt k in
-      let past : hatAt left ≤ dispatchedAt = omega arith in
+      let past : tickCountAt ≤ dispatchedAt = omega arith in
       let own = getD-set-same ws dispatchedAt k 0 (omega arith) in
-      columns-equal (same-sizes W past) (hats-before W past (omega arith))
-      (counts-equal (W .other _ (inl (omega arith))) own (W .other _ (inr (omega arith))))
+      columns-equal (same-sizes W past) (hats-off W past (inl (omega arith)))
+      (counts-equal (W .other _ (inl (omega arith))) own
+      (W .other _ (inr (omega arith))) (W .other _ (inr (omega arith))))
       (links-off W past (inl (omega arith))) (values-off W past (inl (omega arith))) (records-off W past (omega arith))
 
 -- ---- A link.

@@ -4,7 +4,7 @@ use mathlib.Core.Logic.{_≢_}
 use mathlib.Core.Bool.{Bool, true, false}
 use mathlib.Core.List.{List}
 use mathlib.Core.Option.{Option, some, none as nothing}
-use Prim.Native.Nat.{ℕ, _+_, _%_, _^_, _≤_, zero-le}
+use Prim.Native.Nat.{ℕ, _+_, _%_, _^_, _≤_, zero-le, _<_}
 use native.Mathlib.Omega.{arith}
 use lib.Dec.{ltb}
 use Rattle.tag.specs.Tags.{largestTag}
@@ -12,7 +12,7 @@ use Rattle.machine.specs.declared.Answer.{Answer}
 use Rattle.machine.specs.declared.Answer.the-variants.{Going, Pushed, Bag, Empty, Full, Yes, No, Refused}
 use Rattle.machine.specs.Sides.{Side, right}
 use Rattle.machine.specs.Tasks.{wordsOf}
-use Rattle.machine.specs.Table.{nodeCount, taskCount, growth, tickCount, task}
+use Rattle.machine.specs.Table.{nodeCount, taskCount, growth, laneCount, mostLanes, tickCount, task}
 use Rattle.machine.specs.Shape.{lengthOk, shapeOk}
 use Rattle.machine.specs.Lines.{Effect}
 use Rattle.machine.specs.Answers.{kindOf, payloadOf, dispatchPayloadOf, refusalOf}
@@ -42,36 +42,36 @@ use Rattle.machine.proofs.Words.EffectLaws.{AllInRange, effectWords, co
 use Rattle.machine.proofs.Shape.ShapeLaws.{WellSized, WellShaped, well-shaped}
 use Rattle.machine.proofs.Shape.Fits.{AnswerFits, answer-tag, Fits, turns-back, goes-on, ends}
 use Rattle.machine.proofs.Shape.WritesKeep.{all-in-range}
-use Rattle.machine.proofs.Shape.TickKeeps.{tick-allowed, effect-fits}
+use Rattle.machine.proofs.Shape.TickKeeps.{tick-allowed, busy-facts, effect-fits}
 
 -- An effect that fits and is no refusal stays in range.
 pub fit-effect :
-    (S g : ℕ) {e : Effect}
-    → Fits S g e
+    (S g L : ℕ) {e : Effect}
+    → Fits S g L e
     → refusalOf (e .answer) ≡ nothing
     → AllInRange S (e .writes) × HasWord (e .task .value)
-fit-effect S g turns-back made = clash (cc)
-fit-effect S g (goes-on {l} fit F) made = (all-in-range S l fit, F .has-word)
-fit-effect S g (ends {l} fit answers) made = (all-in-range S l fit, never-has-word)
+fit-effect S g L turns-back made = clash (cc)
+fit-effect S g L (goes-on {l} fit F) made = (all-in-range S l fit, F .has-word)
+fit-effect S g L (ends {l} fit answers) made = (all-in-range S l fit, never-has-word)
 
-applied-answer : (s : Side) (ws : List ℕ) (k : ℕ) (e : Effect) → applied s ws k e .answer ≡ e .answer
+applied-answer : (j : ℕ) (s : Side) (ws : List ℕ) (k : ℕ) (e : Effect) → applied j s ws k e .answer ≡ e .answer
 unfolding applied
-applied-answer s ws k e = go (refusalOf (e .answer))
+applied-answer j s ws k e = go (refusalOf (e .answer))
   where
     go :
         (r : Option ℕ)
         → elim r as (λ _. Ticked) [
           | some n ↦ record { answer = e .answer; words = ws }
-          | nothing ↦ record { answer = e .answer; words = effectWords s (e .writes) k (e .task) ws }
+          | nothing ↦ record { answer = e .answer; words = effectWords j s (e .writes) k (e .task) ws }
         ] .answer
         ≡ e .answer
     go (some n) = refl
     go nothing = refl
 
-applied-refused : (s : Side) (ws : List ℕ) (k : ℕ) (e : Effect) {n : ℕ} → refusalOf (e .answer) ≡ some n
-    → applied s ws k e .words ≡ ws
+applied-refused : (j : ℕ) (s : Side) (ws : List ℕ) (k : ℕ) (e : Effect) {n : ℕ} → refusalOf (e .answer) ≡ some n
+    → applied j s ws k e .words ≡ ws
 unfolding applied
-applied-refused s ws k e r = rw (r, applied)
+applied-refused j s ws k e r = rw (r, applied)
 
 -- A tick that does not pass its tests changes nothing.
 pub tick-stopped : (ws : List ℕ) (k h : ℕ) {n : ℕ} → tickRefusal ws k h ≡ some n
@@ -83,21 +83,26 @@ tick-stopped ws k h e = rw (e, tickOn)
 module _ (ws : List ℕ) (k h : ℕ) (allowed : tickRefusal ws k h ≡ nothing) where
   pub tick-answer : tickOn ws k h .answer ≡ effectOf ws k h .answer
   unfolding tickOn
-  tick-answer = rw (allowed, tickOn) (applied-answer (task ws k .side) ws k (effectOf ws k h))
+  tick-answer = rw (allowed, tickOn) (applied-answer (task ws k .lane) (task ws k .side) ws k (effectOf ws k h))
 
   -- Where its line refuses it, it leaves the table as it was.
   pub tick-refused : {n : ℕ} → refusalOf (effectOf ws k h .answer) ≡ some n → tickOn ws k h .words ≡ ws
   unfolding tickOn
-  tick-refused r = rw (allowed, tickOn) (applied-refused (task ws k .side) ws k (effectOf ws k h) r)
+  tick-refused r = rw (allowed, tickOn) (applied-refused (task ws k .lane) (task ws k .side) ws k (effectOf ws k h) r)
 
   -- It is made where its line does not refuse it.
   module _
       (Z : WellSized (sizesOf ws))
       (W : WellShaped (columns ws))
       (made : refusalOf (effectOf ws k h .answer) ≡ nothing) where
+    own-lane : task ws k .lane < mostLanes
+    own-lane =
+        let F = busy-facts ws W k (tick-allowed ws k h allowed .2) in
+        omega (arith, F .lane-ok, Z .most-lanes)
+
     tick-words :
         tickOn ws k h .words
-        ≡ effectWords (task ws k .side) (effectOf ws k h .writes) k (effectOf ws k h .task) ws
+        ≡ effectWords (task ws k .lane) (task ws k .side) (effectOf ws k h .writes) k (effectOf ws k h .task) ws
     unfolding tickOn applied
     tick-words = rw (allowed, tickOn, made, applied)
 
@@ -105,28 +110,30 @@ module _ (ws : List ℕ) (k h : ℕ) (allowed : tickRefusal ws k h ≡ nothing) 
         AllInRange (nodeCount ws) (effectOf ws k h .writes) × HasWord (effectOf ws k h .task .value)
     tick-in-range =
         let a = tick-allowed ws k h allowed in
-        fit-effect (nodeCount ws) (growth ws) (effect-fits ws W k h (a .1) (a .2)) made
+        fit-effect (nodeCount ws) (growth ws) (laneCount ws) (effect-fits ws W k h (a .1) (a .2)) made
 
     -- Every word of the table after it.
     pub tick-columns :
         columns (tickOn ws k h .words)
         ≡ putTickCount ((tickCount ws + 1) % 2 ^ 32)
         (putRecord k (wordsOf (effectOf ws k h .task))
-        (putAll (task ws k .side) (effectOf ws k h .writes) (columns ws)))
+        (putAll (task ws k .lane) (task ws k .side) (effectOf ws k h .writes) (columns ws)))
     tick-columns =
         let e = effectOf ws k h in
         let is-task = tick-allowed ws k h allowed .0 in
         ap columns tick-words
-        ∙ columns-effect ws (Z .sized) (task ws k .side) (e .writes) (tick-in-range .0) k is-task (e .task)
+        ∙ columns-effect ws (Z .sized) (task ws k .lane) own-lane (task ws k .side)
+        (e .writes) (tick-in-range .0) k is-task (e .task)
 
     pub tick-viewed :
         viewed right (tickOn ws k h .words)
-        ≡ viewAfter (task ws k .side) (effectOf ws k h .writes) (viewed right ws)
+        ≡ viewAfter (task ws k .lane) (task ws k .side) (effectOf ws k h .writes) (viewed right ws)
     tick-viewed =
         let e = effectOf ws k h in
         let is-task = tick-allowed ws k h allowed .0 in
         ap (viewed right) tick-words
-        ∙ viewed-effect ws (Z .sized) (task ws k .side) (e .writes) (tick-in-range .0) k is-task (e .task)
+        ∙ viewed-effect ws (Z .sized) (task ws k .lane) own-lane (task ws k .side)
+        (e .writes) (tick-in-range .0) k is-task (e .task)
 
     pub tick-task : task (tickOn ws k h .words) ≡ update (task ws) k (effectOf ws k h .task)
     tick-task =
@@ -134,7 +141,8 @@ module _ (ws : List ℕ) (k h : ℕ) (allowed : tickRefusal ws k h ≡ nothing) 
         let s = task ws k .side in
         let r = tick-in-range in
         let is-task = tick-allowed ws k h allowed .0 in
-        ap task tick-words ∙ task-effect ws (Z .sized) s (e .writes) (r .0) k is-task (e .task) (r .1)
+        ap task tick-words
+        ∙ task-effect ws (Z .sized) (task ws k .lane) own-lane s (e .writes) (r .0) k is-task (e .task) (r .1)
 
 -- ---- A refused tick, by its answer.
 
@@ -169,10 +177,10 @@ made-kind No e = refl
 made-kind (Refused n) e = absurd (e refl)
 
 -- ---- The number that a tick answers with, of a bag or of a refusal, is at most the largest tag.
-fit-number : (S g : ℕ) {e : Effect} → Fits S g e → payloadOf (e .answer) ≤ largestTag
-fit-number S g turns-back = omega arith
-fit-number S g (goes-on fit F) = zero-le
-fit-number S g (ends {l} {a} fit answers) = answer-tag a answers
+fit-number : (S g L : ℕ) {e : Effect} → Fits S g L e → payloadOf (e .answer) ≤ largestTag
+fit-number S g L turns-back = omega arith
+fit-number S g L (goes-on fit F) = zero-le
+fit-number S g L (ends {l} {a} fit answers) = answer-tag a answers
 
 -- The numbers of a list of refusals are small where each is.
 small-number :
@@ -189,10 +197,10 @@ no-number : (m : ℕ) → nothing ≡ some m → m ≤ largestTag
 no-number m e = clash (cc)
 
 -- A tick that is made ends with an answer that fits.
-fit-answer : (S g : ℕ) {e : Effect} → Fits S g e → refusalOf (e .answer) ≡ nothing → AnswerFits (e .answer)
-fit-answer S g turns-back made = clash (cc)
-fit-answer S g (goes-on fit F) made = tt
-fit-answer S g (ends fit answers) made = answers
+fit-answer : (S g L : ℕ) {e : Effect} → Fits S g L e → refusalOf (e .answer) ≡ nothing → AnswerFits (e .answer)
+fit-answer S g L turns-back made = clash (cc)
+fit-answer S g L (goes-on fit F) made = tt
+fit-answer S g L (ends fit answers) made = answers
 
 pub made-answer-fits :
     (ws : List ℕ) (k h : ℕ)
@@ -204,7 +212,8 @@ made-answer-fits ws k h W e made =
     let a = tick-allowed ws k h e in
     let is = tick-answer ws k h e in
     subst AnswerFits (sym is)
-    (fit-answer (nodeCount ws) (growth ws) (effect-fits ws W k h (a .1) (a .2)) (ap refusalOf (sym is) ∙ made))
+    (fit-answer (nodeCount ws) (growth ws) (laneCount ws) (effect-fits ws W k h (a .1) (a .2))
+    (ap refusalOf (sym is) ∙ made))
 
 pub tick-on-number : (ws : List ℕ) (k h : ℕ) → WellShaped (columns ws) → payloadOf (tickOn ws k h .answer) ≤ largestTag
 tick-on-number ws k h W = go (tickRefusal ws k h) refl
@@ -219,7 +228,8 @@ tick-on-number ws k h W = go (tickRefusal ws k h) refl
     go (some n) e = rw (tick-stopped ws k h e) (small n e)
     go nothing e =
         let a = tick-allowed ws k h e in
-        rw (tick-answer ws k h e) (fit-number (nodeCount ws) (growth ws) (effect-fits ws W k h (a .1) (a .2)))
+        rw (tick-answer ws k h e)
+        (fit-number (nodeCount ws) (growth ws) (laneCount ws) (effect-fits ws W k h (a .1) (a .2)))
 
 pub tick-number : (ws : List ℕ) (k h : ℕ) → payloadOf (tick ws k h .answer) ≤ largestTag
 unfolding tick
@@ -238,8 +248,9 @@ tick-number ws k h = go (tableRefusal ws nothing) refl
         ≤ largestTag
     go (some n) e = small n e
     go nothing e =
+        let length-test : lengthOk ws ≡ true = search test-passed in
         let shape-test : shapeOk ws ≡ true = search (test-passed, tests-left) in
-        tick-on-number ws k h (well-shaped ws shape-test)
+        tick-on-number ws k h (well-shaped ws length-test shape-test)
 
 -- The same of a dispatch.
 pub dispatch-number : (ws : List ℕ) (h : ℕ) → dispatchPayloadOf (dispatch ws h .answer) ≤ largestTag
@@ -267,5 +278,6 @@ dispatch-number ws h = tested (dispatchRefusal ws h) refl
     tested : (r : Option ℕ) → dispatchRefusal ws h ≡ r → dispatchPayloadOf (dispatch ws h .answer) ≤ largestTag
     tested (some n) e = rw (e, dispatch) (small n e)
     tested nothing e =
+        let length-test : lengthOk ws ≡ true = search test-passed in
         let shape-test : shapeOk ws ≡ true = search (test-passed, tests-left) in
-        rw (e, dispatch) (chosen (well-shaped ws shape-test) (nextBusy ws) refl)
+        rw (e, dispatch) (chosen (well-shaped ws length-test shape-test) (nextBusy ws) refl)

@@ -2,12 +2,12 @@
 use mathlib.Core.Path.{_≡_, refl, sym, ap, _∙_, subst}
 use mathlib.Core.Logic.{_≢_, inl, inr}
 use mathlib.Core.List.{List}
-use Prim.Native.Nat.{ℕ, suc, _+_, _≤_}
+use Prim.Native.Nat.{ℕ, suc, _+_, _≤_, _<_}
 use native.Mathlib.Omega.{arith}
 use Rattle.machine.specs.declared.Stored.{Stored}
-use Rattle.machine.specs.Sides.{left, right}
+use Rattle.machine.specs.Sides.{right}
 use Rattle.machine.specs.Tasks.{Task}
-use Rattle.machine.specs.Table.{nodeCount, taskCount, growth, task}
+use Rattle.machine.specs.Table.{nodeCount, taskCount, growth, laneCount, task}
 use Rattle.machine.specs.Calls.{isBusy, begin}
 use Rattle.machine.specs.Demand3.{begin-call}
 use Rattle.machine.specs.Begun.{Begun, by-call}
@@ -21,7 +21,7 @@ use Rattle.progress.proofs.LockFree.Disturbances.{HatDisturbs, disturbs
 use Rattle.progress.proofs.LockFree.Sums.{sum}
 use Rattle.progress.proofs.SoloBound.AtFirst.{most}
 use Rattle.progress.proofs.LockFree.TableTick.{DisturbsIn, CalmlyLeft}
-use Rattle.progress.proofs.LockFree.Potential.{Potential, patient-first}
+use Rattle.progress.proofs.LockFree.Potential.{bothHats, Potential, patient-first}
 
 -- The begin is accepted: one task is another, and nothing else.
 module _ {ws after : List ℕ} (X : Begun after) {k : ℕ} {t : Task} (B : BegunTable ws after k t) {D P : ℕ}
@@ -64,7 +64,9 @@ module _ {ws after : List ℕ} (X : Begun after) {k : ℕ} {t : Task} (B : Begun
                   (Φ .may-disturb j (sym (busy-before j ne) ∙ busy))
             ];
         hats-move =
-            λ z. same-for (λ S T gr m x. HatDisturbs z (view z m) (Φ .hats z)) k refl (Φ .hats-move z);
+            λ l q z.
+            same-for (λ S T gr m x. HatDisturbs l z (view z m) (Φ .hats l z)) k refl
+            (Φ .hats-move l (subst (λ (n : ℕ). l < n) (B .same-lanes) q) z);
         patience =
             λ j busy. elim (equal? j k) [
               | inl q ↦
@@ -88,28 +90,29 @@ module _ {ws after : List ℕ} (X : Begun after) {k : ℕ} {t : Task} (B : Begun
             ] in
             (omega (arith, b .0), b .1 ∙ ap (most 2) (sym (B .same-nodes)));
         few-disturbances =
-            subst (λ (T : ℕ). sum T (Φ .d) + (Φ .hats left + Φ .hats right) ≤ D) (sym (B .same-count))
-            (Φ .few-disturbances);
+            subst (λ (T : ℕ). sum T (Φ .d) + sum (laneCount after) (bothHats (Φ .hats)) ≤ D) (sym (B .same-count))
+            (subst (λ (n : ℕ). sum (taskCount ws) (Φ .d) + sum n (bothHats (Φ .hats)) ≤ D) (sym (B .same-lanes))
+            (Φ .few-disturbances));
         few-ticks = subst (λ (T : ℕ). sum T (Φ .p) ≤ P) (sym (B .same-count)) (Φ .few-ticks);
       }
 
 -- A begin, accepted or refused.
-module _ {ws : List ℕ} (X : Begun ws) (k op side : ℕ) (argument : Stored) where
+module _ {ws : List ℕ} (X : Begun ws) (k l op side : ℕ) (argument : Stored) where
   abbrev then : List ℕ
-  then = begin ws k op side argument .words
+  then = begin ws k l op side argument .words
 
   A : Agrees ws (begun-agrees X .0)
   A = begun-agrees X .1
 
   pub begin-nodes : nodeCount then ≡ nodeCount ws
   begin-nodes =
-      by-begin A k op side argument (λ c. nodeCount (c .words) ≡ nodeCount ws) (λ n. refl) (λ vs T. T .same-nodes)
+      by-begin A k l op side argument (λ c. nodeCount (c .words) ≡ nodeCount ws) (λ n. refl) (λ vs T. T .same-nodes)
 
   pub begin-tasks : taskCount then ≡ taskCount ws
   begin-tasks =
-      by-begin A k op side argument (λ c. taskCount (c .words) ≡ taskCount ws) (λ n. refl) (λ vs T. T .same-count)
+      by-begin A k l op side argument (λ c. taskCount (c .words) ≡ taskCount ws) (λ n. refl) (λ vs T. T .same-count)
 
   pub begin-keeps : {D P : ℕ} → Potential ws D P → Potential then D P
   begin-keeps {D} {P} Φ =
-      by-begin A k op side argument (λ c. Begun (c .words) → Potential (c .words) D P) (λ n _. Φ)
-      (λ vs T B. begun-keeps B T Φ) (by-call X (begin-call k op side argument))
+      by-begin A k l op side argument (λ c. Begun (c .words) → Potential (c .words) D P) (λ n _. Φ)
+      (λ vs T B. begun-keeps B T Φ) (by-call X (begin-call k l op side argument))

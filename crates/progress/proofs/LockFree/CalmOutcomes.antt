@@ -3,7 +3,7 @@ use mathlib.Core.Path.{_≡_, refl}
 use mathlib.Core.Logic.{_≢_, _⊎_, inl, inr}
 use mathlib.Core.Bool.{Bool, true}
 use mathlib.Core.List.{List, [], _∷_}
-use Prim.Native.Nat.{ℕ, suc}
+use Prim.Native.Nat.{ℕ, suc, _<_}
 use Rattle.machine.specs.declared.Answer.the-variants.{Going}
 use Rattle.machine.specs.Choice.{_≟_}
 use Rattle.machine.specs.Sides.{Side}
@@ -23,7 +23,7 @@ use Rattle.machine.proofs.Linearizability.Writes.ChainGrowth.{head-new}
 use Rattle.machine.proofs.Linearizability.Lines.Connectives.{ok-if}
 use Rattle.machine.proofs.Linearizability.Model.Phases.{TaskOk}
 use Rattle.machine.proofs.Linearizability.Writes.Take.{TakeOk}
-use Rattle.machine.proofs.Linearizability.Model.Invariant.{Lane}
+use Rattle.machine.proofs.Linearizability.Model.Invariant.{Lanes}
 use Rattle.progress.proofs.SoloBound.Walks.{ends-cut}
 use Rattle.progress.proofs.SoloBound.Budget.{SoonOrLate, soon, late}
 use Rattle.progress.proofs.SoloBound.Spending.{no-node-answers}
@@ -32,21 +32,21 @@ use Rattle.progress.proofs.LockFree.Calmness.{calm-untouched}
 use Rattle.progress.proofs.LockFree.Disturbances.{Room, Disturbs}
 use Rattle.progress.proofs.LockFree.Outcome.{Outcome, is-calm, goes, ended, passing}
 
-module _ (T : ℕ) {held : ℕ → Bool} (k : ℕ) {s o : Side} {m : View} {class : ℕ → Class} {r : List ℕ}
-    (L : Lane s o m class r) (H : ClosedSet held m) (t : Task) (g f n : ℕ) where
+module _ (T : ℕ) {held : ℕ → Bool} (k : ℕ) {L : ℕ} {s o : Side} {m : View} {class : ℕ → Class} {r : ℕ → List ℕ}
+    (D : Lanes L s o m class r) (H : ClosedSet L held m) (t : Task) (own : t .lane < L) (g f n : ℕ) where
   abbrev Ok : Effect → Type 0
-  Ok e = Outcome T held class s o m n e
+  Ok e = Outcome T L held class (t .lane) s o m n e
 
   abbrev LineOk : Step → Type 0
-  LineOk st = TaskOk k s o m class st t → Disturbs st T s m t n → Ok (act st s o (seenIn s m) t g f)
+  LineOk st = TaskOk k s o m class st t → Disturbs st T s m t n → Ok (act st s o (seenIn (t .lane) s m) t g f)
 
   -- Held old nodes keep their words.
   untouched : (l : List Write) (t' : Task)
-      → written s l m .hats ≡ m .hats
-      → ((x : ℕ) → held x ≡ true → Old class x → SameIn m (written s l m) x)
-      → Disturbs (t' .step) T s (written s l m) t' n
+      → written (t .lane) s l m .hats ≡ m .hats
+      → ((x : ℕ) → held x ≡ true → Old class x → SameIn m (written (t .lane) s l m) x)
+      → Disturbs (t' .step) T s (written (t .lane) s l m) t' n
       → Ok (record { writes = l; task = t'; answer = Going })
-  untouched l t' same-hats same b = is-calm (calm-untouched (L .structure) H same-hats same) b
+  untouched l t' same-hats same b = is-calm (calm-untouched (D .lane (t .lane) own .structure) D H same-hats same) b
 
   -- ---- Line 24.
   pub line24-outcome : LineOk Steps.line24
@@ -60,19 +60,19 @@ module _ (T : ℕ) {held : ℕ → Bool} (k : ℕ) {s o : Side} {m : View} {clas
       not-D : (x : ℕ) → Old class x → update (m .inn) (t .D) (t .A) x ≡ m .inn x
       not-D x x-old = update-other (m .inn) (t .D) (t .A) x (λ e. refute (cc (head-new (h .chain))))
 
-      past-as-before : m .out (update (m .inn) (t .D) (t .A) (m .hats s)) ≡ past s m
-      past-as-before = cc (not-D (m .hats s) (hat-old (L .structure)))
+      past-as-before : m .out (update (m .inn) (t .D) (t .A) (m .hats (t .lane) s)) ≡ past (t .lane) s m
+      past-as-before = cc (not-D (m .hats (t .lane) s) (hat-old (D .lane (t .lane) own .structure)))
 
-      at-end : SoonOrLate (Room s m ⊎ (t .A ≡ past s m)) 1 2 n
+      at-end : SoonOrLate (Room (t .lane) s m ⊎ (t .A ≡ past (t .lane) s m)) 1 2 n
           → SoonOrLate
-          ((m .val (m .out (update (m .inn) (t .D) (t .A) (m .hats s))) ≡ N s)
-          ⊎ (t .A ≡ m .out (update (m .inn) (t .D) (t .A) (m .hats s)))) 1 2 n
+          ((m .val (m .out (update (m .inn) (t .D) (t .A) (m .hats (t .lane) s))) ≡ N s)
+          ⊎ (t .A ≡ m .out (update (m .inn) (t .D) (t .A) (m .hats (t .lane) s)))) 1 2 n
       at-end (soon (inl v) l) = soon (inl (cc (past-as-before))) l
       at-end (soon (inr e) l) = soon (inr (cc (past-as-before))) l
       at-end (late l) = late l
 
   -- ---- Lines 28 and 31.
-  pub line28-outcome : (f ≢ none → TakeOk held m class f) → LineOk Steps.line28
+  pub line28-outcome : (f ≢ none → TakeOk L held m class f) → LineOk Steps.line28
   unfolding act
   line28-outcome free-f h b =
       ok-if Ok (λ e. e) (_ ≟ _) (λ _. ended (no-node-answers (t .operation))) (λ some.
@@ -84,7 +84,7 @@ module _ (T : ℕ) {held : ℕ → Bool} (k : ℕ) {s o : Side} {m : View} {clas
       taken = out≔ f none ∷ inn≔ f none ∷ val≔ f (X s) ∷ []
 
       same : f ≢ none → (x : ℕ) → held x ≡ true → Old class x
-          → SameIn m (written s (out≔ f none ∷ inn≔ f none ∷ val≔ f (X s) ∷ []) m) x
+          → SameIn m (written (t .lane) s (out≔ f none ∷ inn≔ f none ∷ val≔ f (X s) ∷ []) m) x
       same some x x-held _ =
           let apart : x ≢ f = λ e. refute (cc (free-f some .not-held)) in
           record {
@@ -93,7 +93,7 @@ module _ (T : ℕ) {held : ℕ → Bool} (k : ℕ) {s o : Side} {m : View} {clas
             same-val = update-other (m .val) f (X s) x apart;
           }
 
-  pub line31-outcome : (f ≢ none → TakeOk held m class f) → LineOk Steps.line31
+  pub line31-outcome : (f ≢ none → TakeOk L held m class f) → LineOk Steps.line31
   unfolding act
   line31-outcome free-f h b =
       passing t (λ _.
@@ -109,7 +109,7 @@ module _ (T : ℕ) {held : ℕ → Bool} (k : ℕ) {s o : Side} {m : View} {clas
       one-more = withCounted (withD t f) (suc (t .counted))
 
       same : f ≢ none → (x : ℕ) → held x ≡ true → Old class x
-          → SameIn m (written s (val≔ f (N s) ∷ inn≔ f none ∷ out≔ f (t .D) ∷ inn≔ (t .D) f ∷ []) m) x
+          → SameIn m (written (t .lane) s (val≔ f (N s) ∷ inn≔ f none ∷ out≔ f (t .D) ∷ inn≔ (t .D) f ∷ []) m) x
       same some x x-held x-old =
           let apart : x ≢ f = λ e. refute (cc (free-f some .not-held)) in
           let not-D : x ≢ t .D = λ e. refute (cc (head-new (h .chain))) in
@@ -129,12 +129,12 @@ module _ (T : ℕ) {held : ℕ → Bool} (k : ℕ) {s o : Side} {m : View} {clas
       (λ _. is-calm calm tt)
       (λ _. goes (goto t Steps.line77) tt))
     where
-      calm : Calm held class m (written s (val≔ (t .B) (Y s) ∷ []) m)
+      calm : Calm held class m (written (t .lane) s (val≔ (t .B) (Y s) ∷ []) m)
       calm =
           record {
             same-hats = refl;
             main-same =
-                λ x c. record {
+                λ x l c. record {
                   same-out = refl;
                   same-inn = refl;
                   same-val = update-other (m .val) (t .B) (Y s) x (λ e. refute (cc (h .relies .B-spur)));
@@ -153,12 +153,12 @@ module _ (T : ℕ) {held : ℕ → Bool} (k : ℕ) {s o : Side} {m : View} {clas
   line79-outcome h b =
       passing t (λ _. is-calm calm tt)
     where
-      calm : Calm held class m (written s (out≔ (t .A) none ∷ []) m)
+      calm : Calm held class m (written (t .lane) s (out≔ (t .A) none ∷ []) m)
       calm =
           record {
             same-hats = refl;
             main-same =
-                λ x c. record {
+                λ x l c. record {
                   same-out = update-other (m .out) (t .A) none x (λ e. refute (cc (h .relies .A-spur)));
                   same-inn = refl;
                   same-val = refl;

@@ -1,11 +1,11 @@
 -- The task last dispatched is no part of the potential; a dispatch that makes no tick leaves the table as it was.
-use mathlib.Core.Path.{_≡_, refl, ap}
+use mathlib.Core.Path.{_≡_, refl, ap, subst}
 use mathlib.Core.List.{List}
-use Prim.Native.Nat.{ℕ}
+use Prim.Native.Nat.{ℕ, _<_}
 use Rattle.machine.specs.declared.Answer.the-variants.{Refused}
 use Rattle.machine.specs.declared.Dispatch.the-variants.{Idle, Answered}
 use Rattle.machine.specs.Sides.{right}
-use Rattle.machine.specs.Table.{nodeCount, taskCount, growth, setDispatched}
+use Rattle.machine.specs.Table.{nodeCount, taskCount, growth, laneCount, setDispatched}
 use Rattle.machine.specs.Answers.{dispatchRefusalOf}
 use Rattle.machine.specs.Calls.{Dispatched, dispatch}
 use Rattle.machine.specs.Begun.{Begun}
@@ -24,6 +24,9 @@ module _ (ws : List ℕ) (sized : Sized (sizesOf ws)) (k : ℕ) where
   pub dispatched-tasks : taskCount (setDispatched k ws) ≡ taskCount ws
   dispatched-tasks = ap (λ (c : Columns). c .sizes .taskCount) (columns-setDispatched ws sized k)
 
+  dispatched-lanes : laneCount (setDispatched k ws) ≡ laneCount ws
+  dispatched-lanes = ap (λ (c : Columns). c .sizes .laneCount) (columns-setDispatched ws sized k)
+
   dispatched-growth : growth (setDispatched k ws) ≡ growth ws
   dispatched-growth = ap (λ (c : Columns). c .sizes .growth) (columns-setDispatched ws sized k)
 
@@ -36,7 +39,9 @@ module _ (ws : List ℕ) (sized : Sized (sizesOf ws)) (k : ℕ) where
         may-disturb = λ j.
             rw (dispatched-tasks, viewed-set-dispatched ws sized k right, task-set-dispatched ws sized k)
             (Φ .may-disturb j);
-        hats-move = λ z. rw (viewed-set-dispatched ws sized k right) (Φ .hats-move z);
+        hats-move = λ l q z.
+            rw (viewed-set-dispatched ws sized k right)
+            (Φ .hats-move l (subst (λ (n : ℕ). l < n) dispatched-lanes q) z);
         patience = λ j.
             rw (
               dispatched-nodes,
@@ -47,7 +52,7 @@ module _ (ws : List ℕ) (sized : Sized (sizesOf ws)) (k : ℕ) where
             (Φ .patience j);
         idle-yet = λ j.
             rw (dispatched-tasks, dispatched-nodes, task-set-dispatched ws sized k) (Φ .idle-yet j);
-        few-disturbances = rw dispatched-tasks (Φ .few-disturbances);
+        few-disturbances = rw (dispatched-tasks, dispatched-lanes) (Φ .few-disturbances);
         few-ticks = rw dispatched-tasks (Φ .few-ticks);
       }
 

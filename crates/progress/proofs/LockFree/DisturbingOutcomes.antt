@@ -1,5 +1,5 @@
 -- The lines that disturb: 25, 62, 64 and 72.
-use mathlib.Core.Path.{_≡_, refl, sym}
+use mathlib.Core.Path.{_≡_, refl, sym, ap, subst}
 use mathlib.Core.Logic.{_≢_, _⊎_, inl, inr}
 use mathlib.Core.Bool.{Bool}
 use mathlib.Core.List.{List, [], _∷_}
@@ -13,7 +13,7 @@ use Rattle.machine.specs.Steps.{Step}
 use Rattle.machine.specs.Steps as Steps
 use Rattle.machine.specs.Tasks.{Task, none, goto}
 use Rattle.machine.specs.Lines.{out≔, val≔, hat≔, Effect, next, writing, spliced, back, act}
-use Rattle.machine.proofs.Basics.Contradiction.{clash, refute}
+use Rattle.machine.proofs.Basics.Contradiction.{clash, refute, equal?}
 use Rattle.machine.proofs.Basics.Updates.{
   it-is,
   it-is-not,
@@ -21,17 +21,18 @@ use Rattle.machine.proofs.Basics.Updates.{
   update-wrote,
   wrote?,
   update-other,
-  updateSide-same,
+  updateHat-same,
+  updateHat-elsewhere,
 }
 use Rattle.machine.proofs.Words.Memories.{View, seenIn, written}
-use Rattle.machine.proofs.Linearizability.Model.Sides.{updateSide-other}
+use Rattle.machine.proofs.Linearizability.Model.Sides.{updateHat-far}
 use Rattle.machine.proofs.Linearizability.Model.Classes.{Class, main, in-main, in-near, in-far, old-class}
 use Rattle.machine.proofs.Linearizability.Model.Structure.{linked, cut-off, Frame, Structure}
 use Rattle.machine.proofs.Linearizability.Model.Reversal.{reversed}
 use Rattle.machine.proofs.Linearizability.Model.Nodes.{N-from-b, N-before-n, own-mark-not-far}
 use Rattle.machine.proofs.Linearizability.Lines.Connectives.{ok-if, ok-dcas}
 use Rattle.machine.proofs.Linearizability.Model.Phases.{TaskOk}
-use Rattle.machine.proofs.Linearizability.Model.Invariant.{Lane}
+use Rattle.machine.proofs.Linearizability.Model.Invariant.{Lane, Lanes}
 use Rattle.progress.proofs.SoloBound.AtHat.{
   a-bag,
   far-N,
@@ -49,91 +50,97 @@ use Rattle.progress.proofs.SoloBound.AtHat.{
   past-off-Y,
 }
 use Rattle.progress.proofs.SoloBound.Budget.{SoonOrLate, soon, late, in-any-case}
-use Rattle.progress.proofs.LockFree.Change.{past, BothSteady, BothNoCut}
+use Rattle.progress.proofs.LockFree.Change.{past, Steady, BothSteady, BothNoCut}
 use Rattle.progress.proofs.LockFree.Disturbances.{Room, Moving, Disturbs}
 use Rattle.progress.proofs.LockFree.Outcome.{Outcome, cuts, disturbs, moves, goes, ended, passing}
 use Rattle.progress.proofs.LockFree.QuietOutcomes.{back-disturbs, chain-op}
 
-module _ (T : ℕ) (held : ℕ → Bool) (k : ℕ) {s o : Side} {m : View} {class : ℕ → Class} {r : List ℕ}
-    (L : Lane s o m class r) (t : Task) (g f n : ℕ) where
-  open Frame (L .frame) using (at, index, a, b)
-
+module _ (T : ℕ) (held : ℕ → Bool) (k : ℕ) {L : ℕ} {s o : Side} {m : View} {class : ℕ → Class} {r : ℕ → List ℕ}
+    (D : Lanes L s o m class r) (t : Task) (own : t .lane < L) (g f n : ℕ) where
   abbrev Ok : Effect → Type 0
-  Ok e = Outcome T held class s o m n e
+  Ok e = Outcome T L held class (t .lane) s o m n e
 
   abbrev LineOk : Step → Type 0
-  LineOk st = TaskOk k s o m class st t → Disturbs st T s m t n → Ok (act st s o (seenIn s m) t g f)
+  LineOk st = TaskOk k s o m class st t → Disturbs st T s m t n → Ok (act st s o (seenIn (t .lane) s m) t g f)
 
-  Z : Structure s o m class (L .frame)
-  Z = L .structure
+  abbrev mine : Lane (t .lane) s o m class (r (t .lane))
+  mine = D .lane (t .lane) own
 
-  -- The far hat's node holds a mark of the far side.
-  far-not-X : m .val (m .hats o) ≢ X s
-  far-not-X x =
-      let w = L .structure .sides in
-      elim (hat-value (reversed (L .structure))) [
-        | hat-N v ↦ refute (cc)
-        | hat-X v ↦ refute (cc)
-        | hat-Y v ↦ refute (cc)
-      ]
+  abbrev Z : Structure (t .lane) s o m class (mine .frame)
+  Z = mine .structure
 
-  far-not-N : m .val (m .hats o) ≢ N s
-  far-not-N x =
-      let w = L .structure .sides in
-      elim (hat-value (reversed (L .structure))) [
-        | hat-N v ↦ refute (cc)
-        | hat-X v ↦ refute (cc)
-        | hat-Y v ↦ refute (cc)
-      ]
+  -- ---- What is at the hats of each lane.
+  module _ (l : ℕ) (is-lane : l < L) where
+    abbrev S : Structure l s o m class (D .lane l is-lane .frame)
+    S = D .lane l is-lane .structure
 
-  behind-not-X : m .val (m .inn (m .hats s)) ≢ X s
-  behind-not-X x =
-      let w = L .structure .sides in
-      elim (behind-value (L .structure)) [ a-bag u v ↦ refute (cc) | far-N v ↦ refute (cc) | far-X v ↦ refute (cc) ]
+    -- The far hat's node holds a mark of the far side.
+    far-not-X : m .val (m .hats l o) ≢ X s
+    far-not-X x =
+        let w = S .sides in
+        elim (hat-value (reversed S)) [
+          | hat-N v ↦ refute (cc)
+          | hat-X v ↦ refute (cc)
+          | hat-Y v ↦ refute (cc)
+        ]
 
-  b-main : class (at b) ≡ main
-  b-main = L .structure .main-list .is-main b (L .structure .b≤n)
+    far-not-N : m .val (m .hats l o) ≢ N s
+    far-not-N x =
+        let w = S .sides in
+        elim (hat-value (reversed S)) [
+          | hat-N v ↦ refute (cc)
+          | hat-X v ↦ refute (cc)
+          | hat-Y v ↦ refute (cc)
+        ]
+
+    behind-not-X : m .val (m .inn (m .hats l s)) ≢ X s
+    behind-not-X x =
+        let w = S .sides in
+        elim (behind-value S) [ a-bag u v ↦ refute (cc) | far-N v ↦ refute (cc) | far-X v ↦ refute (cc) ]
+
+    b-main : class (D .lane l is-lane .frame .at (D .lane l is-lane .frame .b)) ≡ main l
+    b-main = S .main-list .is-main (D .lane l is-lane .frame .b) (S .b≤n)
 
   -- ---- Line 25.
   module _ (is-X : m .val (t .A) ≡ X s) where
     abbrev spliced-view : View
-    spliced-view = written s (out≔ (t .A) (t .D) ∷ val≔ (t .A) (N s) ∷ []) m
+    spliced-view = written (t .lane) s (out≔ (t .A) (t .D) ∷ val≔ (t .A) (N s) ∷ []) m
 
-    past-as-before : update (m .out) (t .A) (t .D) (m .inn (m .hats s)) ≡ past s m
-    past-as-before = update-other (m .out) (t .A) (t .D) (m .inn (m .hats s)) (λ e. behind-not-X (cc))
+    past-as-before : (l : ℕ) → l < L → update (m .out) (t .A) (t .D) (m .inn (m .hats l s)) ≡ past l s m
+    past-as-before l q = update-other (m .out) (t .A) (t .D) (m .inn (m .hats l s)) (λ e. behind-not-X l q (cc))
 
-    far-as-before : update (m .out) (t .A) (t .D) (m .hats o) ≡ m .out (m .hats o)
-    far-as-before = update-other (m .out) (t .A) (t .D) (m .hats o) (λ e. far-not-X (cc))
+    far-as-before : (l : ℕ) → l < L → update (m .out) (t .A) (t .D) (m .hats l o) ≡ m .out (m .hats l o)
+    far-as-before l q = update-other (m .out) (t .A) (t .D) (m .hats l o) (λ e. far-not-X l q (cc))
 
-    splice-steady : BothSteady s o m spliced-view
+    splice-steady : BothSteady L s o m spliced-view
     splice-steady =
         record {
           near =
-              record {
+              λ l q. record {
                 behind-same = refl;
-                past-same = past-as-before;
+                past-same = past-as-before l q;
                 stays-off-Y =
-                    λ ne y. elim (wrote? (update-wrote (m .val) (t .A) (N s)) (m .hats s)) [
+                    λ ne y. elim (wrote? (update-wrote (m .val) (t .A) (N s)) (m .hats l s)) [
                       | it-is e q ↦ refute (cc)
                       | it-is-not e q ↦ ne (cc)
                     ];
               };
           far =
-              record {
-                behind-same = far-as-before;
-                past-same = cc (far-as-before);
+              λ l q. record {
+                behind-same = far-as-before l q;
+                past-same = cc (far-as-before l q);
                 stays-off-Y =
-                    λ ne y. ne (cc (update-other (m .val) (t .A) (N s) (m .hats o) (λ e. far-not-X (cc))));
+                    λ ne y. ne (cc (update-other (m .val) (t .A) (N s) (m .hats l o) (λ e. far-not-X l q (cc))));
               };
         }
 
-    splice-no-cut : BothNoCut held class s o m spliced-view
+    splice-no-cut : BothNoCut L held class s o m spliced-view
     splice-no-cut =
         record {
           near =
-              record {
+              λ l _. record {
                 N-stays =
-                    λ v. elim (wrote? (update-wrote (m .val) (t .A) (N s)) (past s m)) [
+                    λ v. elim (wrote? (update-wrote (m .val) (t .A) (N s)) (past l s m)) [
                       | it-is e q ↦ q
                       | it-is-not e q ↦ cc
                     ];
@@ -144,9 +151,9 @@ module _ (T : ℕ) (held : ℕ → Bool) (k : ℕ) {s o : Side} {m : View} {clas
                     ];
               };
           far =
-              record {
+              λ l _. record {
                 N-stays =
-                    λ v. elim (wrote? (update-wrote (m .val) (t .A) (N s)) (m .inn (m .out (m .hats o)))) [
+                    λ v. elim (wrote? (update-wrote (m .val) (t .A) (N s)) (m .inn (m .out (m .hats l o)))) [
                       | it-is e q ↦ clash (cc)
                       | it-is-not e q ↦ cc
                     ];
@@ -158,15 +165,15 @@ module _ (T : ℕ) (held : ℕ → Bool) (k : ℕ) {s o : Side} {m : View} {clas
               };
         }
 
-    room-after : Room s m ⊎ (t .A ≡ past s m) → Room s spliced-view
+    room-after : Room (t .lane) s m ⊎ (t .A ≡ past (t .lane) s m) → Room (t .lane) s spliced-view
     room-after p =
-        let q = past-as-before in
-        elim (wrote? (update-wrote (m .val) (t .A) (N s)) (past s m)) [
+        let q = past-as-before (t .lane) own in
+        elim (wrote? (update-wrote (m .val) (t .A) (N s)) (past (t .lane) s m)) [
           | it-is e u ↦ cc
           | it-is-not e u ↦ elim p [ inl v ↦ cc | inr d ↦ absurd (e (sym d)) ]
         ]
 
-    splices : SoonOrLate (Room s m ⊎ (t .A ≡ past s m)) 1 2 n → (op : Operation)
+    splices : SoonOrLate (Room (t .lane) s m ⊎ (t .A ≡ past (t .lane) s m)) 1 2 n → (op : Operation)
         → Ok (spliced op (out≔ (t .A) (t .D) ∷ val≔ (t .A) (N s) ∷ []) t)
     splices (soon p l) push =
         disturbs {i = n - 1} splice-steady splice-no-cut (omega arith) (soon (room-after p) (omega arith))
@@ -187,61 +194,89 @@ module _ (T : ℕ) (held : ℕ → Bool) (k : ℕ) {s o : Side} {m : View} {clas
   -- ---- Line 62.
   module _ (h : TaskOk k s o m class Steps.line62 t) (A-N : m .val (t .A) ≡ N s) (B-N : m .val (t .B) ≡ N s) where
     abbrev cut-view : View
-    cut-view = written s (val≔ (t .A) (X s) ∷ val≔ (t .B) (Y s) ∷ []) m
+    cut-view = written (t .lane) s (val≔ (t .A) (X s) ∷ val≔ (t .B) (Y s) ∷ []) m
 
-    -- B is beyond the hat.
-    hat-not-B : m .val (m .hats s) ≢ Y s → m .hats s ≢ t .B
-    hat-not-B ne e =
-        let q = hat-at Z ne in
-        let S = L .structure in
-        let w = S .sides in
-        elim (old-class (S .sides) (class (t .A)) (h .relies .A-old)) [
-          | in-near c ↦ refute (cc (b-main, h .relies .spur-next c))
-          | in-far c ↦ own-mark-not-far Z (t .A) (cc) c
-          | in-main c ↦
-              elim (h .relies .main-next c) [
-                | cut-off d y ↦ refute (cc)
-                | linked d ↦
-                    let i : ℕ = index (t .A) in
-                    let at-i = S .main-list .at-index (t .A) c in
-                    let i≤n = S .main-list .index-le (t .A) c in
-                    let b≤i : b ≤ i = N-from-b Z i i≤n (cc) in
-                    let i<n : i < L .frame .n = N-before-n Z i i≤n (cc) in
-                    let same : suc i ≡ b =
-                    cc (
-                      S .links .links-out i i<n,
-                      S .main-list .index-at (suc i) i<n,
-                      S .main-list .index-at b (S .b≤n),
-                    ) in
-                    omega arith
+    -- B is beyond the hat of its lane, and is the hat of no other.
+    hat-not-B : (l : ℕ) (q : l < L) → m .val (m .hats l s) ≢ Y s → m .hats l s ≢ t .B
+    hat-not-B l q ne e =
+        let at-hat = hat-at (S l q) ne in
+        let w = S l q .sides in
+        let c = b-main l q in
+        elim (old-class (Z .sides) (class (t .A)) (h .relies .A-old)) [
+          | in-near d ↦ refute (cc (h .relies .spur-next d))
+          | in-far d ↦ own-mark-not-far Z (t .A) (cc) d
+          | in-main i d ↦
+              elim (h .relies .main-next i d) [
+                | cut-off u y ↦ refute (cc)
+                | linked u ↦ behind-hat l q (at-hat) e u (same-lane l q at-hat e i d u)
               ]
         ]
+      where
+        -- A leads to B, so it is in the lane that B is in.
+        same-lane : (l : ℕ) (q : l < L) → m .hats l s ≡ D .lane l q .frame .at (D .lane l q .frame .b)
+            → m .hats l s ≡ t .B
+            → (i : ℕ)
+            → class (t .A) ≡ main i
+            → m .out (t .A) ≡ t .B
+            → class (t .A) ≡ main l
+        same-lane l q at-hat e i d u =
+            let p = D .below (t .A) i d in
+            let G = D .lane i p .frame in
+            let R = S i p in
+            let at-i = R .main-list .at-index (t .A) d in
+            let i≤n = R .main-list .index-le (t .A) d in
+            let i<n : G .index (t .A) < G .n = N-before-n R (G .index (t .A)) i≤n (cc) in
+            let c = b-main l q in
+            let same : l ≡ i =
+            cc (R .links .links-out (G .index (t .A)) i<n, R .main-list .is-main (suc (G .index (t .A))) i<n) in
+            cc
 
-    cut-steady : BothSteady s o m cut-view
+        behind-hat : (l : ℕ) (q : l < L) → m .hats l s ≡ D .lane l q .frame .at (D .lane l q .frame .b)
+            → m .hats l s ≡ t .B
+            → m .out (t .A) ≡ t .B
+            → class (t .A) ≡ main l
+            → ⊥
+        behind-hat l q at-hat e u d =
+            let G = D .lane l q .frame in
+            let R = S l q in
+            let i : ℕ = G .index (t .A) in
+            let at-i = R .main-list .at-index (t .A) d in
+            let i≤n = R .main-list .index-le (t .A) d in
+            let b≤i : G .b ≤ i = N-from-b R i i≤n (cc) in
+            let i<n : i < G .n = N-before-n R i i≤n (cc) in
+            let same : suc i ≡ G .b =
+            cc (
+              R .links .links-out i i<n,
+              R .main-list .index-at (suc i) i<n,
+              R .main-list .index-at (G .b) (R .b≤n),
+            ) in
+            omega arith
+
+    cut-steady : BothSteady L s o m cut-view
     cut-steady =
         record {
           near =
-              record {
+              λ l q. record {
                 behind-same = refl;
                 past-same = refl;
                 stays-off-Y =
-                    λ ne y. elim (wrote? (update-wrote (update (m .val) (t .A) (X s)) (t .B) (Y s)) (m .hats s)) [
-                      | it-is e q ↦ hat-not-B ne e
-                      | it-is-not e q ↦
-                          elim (wrote? (update-wrote (m .val) (t .A) (X s)) (m .hats s)) [
+                    λ ne y. elim (wrote? (update-wrote (update (m .val) (t .A) (X s)) (t .B) (Y s)) (m .hats l s)) [
+                      | it-is e v ↦ hat-not-B l q ne e
+                      | it-is-not e v ↦
+                          elim (wrote? (update-wrote (m .val) (t .A) (X s)) (m .hats l s)) [
                             | it-is d u ↦ refute (cc)
                             | it-is-not d u ↦ ne (cc)
                           ]
                     ];
               };
           far =
-              record {
+              λ l q. record {
                 behind-same = refl;
                 past-same = refl;
                 stays-off-Y =
                     λ ne y. ne (cc (
-                      update-other (update (m .val) (t .A) (X s)) (t .B) (Y s) (m .hats o) (λ e. far-not-N (cc)),
-                      update-other (m .val) (t .A) (X s) (m .hats o) (λ e. far-not-N (cc)),
+                      update-other (update (m .val) (t .A) (X s)) (t .B) (Y s) (m .hats l o) (λ e. far-not-N l q (cc)),
+                      update-other (m .val) (t .A) (X s) (m .hats l o) (λ e. far-not-N l q (cc)),
                     ));
               };
         }
@@ -257,43 +292,44 @@ module _ (T : ℕ) (held : ℕ → Bool) (k : ℕ) {s o : Side} {m : View} {clas
   -- ---- Line 64.
   module _ (h : TaskOk k s o m class Steps.line64 t) (leads : m .out (t .A) ≡ t .B) where
     abbrev unlinked : View
-    unlinked = written s (out≔ (t .A) none ∷ []) m
+    unlinked = written (t .lane) s (out≔ (t .A) none ∷ []) m
 
-    behind-not-A : m .inn (m .hats s) ≢ t .A
-    behind-not-A e = refute (cc (past-hat Z, b-main, h .relies .B-spur))
+    behind-not-A : (l : ℕ) → l < L → m .inn (m .hats l s) ≢ t .A
+    behind-not-A l q e = refute (cc (past-hat (S l q), b-main l q, h .relies .B-spur))
 
-    far-not-A : m .hats o ≢ t .A
-    far-not-A e =
-        let S = L .structure in
-        elim (S .far-hat) [
-          | inl q ↦
-              let l : a < L .frame .n = omega (arith, S .a<b, S .b≤n) in
-              refute (cc (S .links .links-out a l, S .main-list .is-main (suc a) l, h .relies .B-spur))
+    far-not-A : (l : ℕ) → l < L → m .hats l o ≢ t .A
+    far-not-A l q e =
+        let R = S l q in
+        let G = D .lane l q .frame in
+        elim (R .far-hat) [
+          | inl u ↦
+              let p : G .a < G .n = omega (arith, R .a<b, R .b≤n) in
+              refute (cc (R .links .links-out (G .a) p, R .main-list .is-main (suc (G .a)) p, h .relies .B-spur))
           | inr y ↦ h .relies .not-far (cc (y .in-spur)) leads
         ]
 
-    unlink-steady : BothSteady s o m unlinked
+    unlink-steady : BothSteady L s o m unlinked
     unlink-steady =
         record {
           near =
-              record {
+              λ l q. record {
                 behind-same = refl;
-                past-same = update-other (m .out) (t .A) none (m .inn (m .hats s)) behind-not-A;
+                past-same = update-other (m .out) (t .A) none (m .inn (m .hats l s)) (behind-not-A l q);
                 stays-off-Y = λ ne. ne;
               };
           far =
-              record {
-                behind-same = update-other (m .out) (t .A) none (m .hats o) far-not-A;
-                past-same = cc (update-other (m .out) (t .A) none (m .hats o) far-not-A);
+              λ l q. record {
+                behind-same = update-other (m .out) (t .A) none (m .hats l o) (far-not-A l q);
+                past-same = cc (update-other (m .out) (t .A) none (m .hats l o) (far-not-A l q));
                 stays-off-Y = λ ne. ne;
               };
         }
 
-    unlink-no-cut : BothNoCut held class s o m unlinked
+    unlink-no-cut : BothNoCut L held class s o m unlinked
     unlink-no-cut =
         record {
-          near = record { N-stays = λ v. v; no-X = λ x _ _ ne. ne };
-          far = record { N-stays = λ v. v; no-X = λ x _ _ ne. ne };
+          near = λ l q. record { N-stays = λ v. v; no-X = λ x _ _ ne. ne };
+          far = λ l q. record { N-stays = λ v. v; no-X = λ x _ _ ne. ne };
         }
 
   pub line64-outcome : LineOk Steps.line64
@@ -305,53 +341,73 @@ module _ (T : ℕ) (held : ℕ → Bool) (k : ℕ) {s o : Side} {m : View} {clas
       (λ _. goes (goto t Steps.line74) tt))
 
   -- ---- Line 72.
-  module _ (h : TaskOk k s o m class Steps.line72 t) (at-A : m .hats s ≡ t .A) where
+  module _ (h : TaskOk k s o m class Steps.line72 t) (at-A : m .hats (t .lane) s ≡ t .A) where
     abbrev moved : View
-    moved = written s (hat≔ (t .C) ∷ []) m
+    moved = written (t .lane) s (hat≔ (t .C) ∷ []) m
 
-    hat-moved : moved .hats s ≡ t .C
-    hat-moved = updateSide-same (m .hats) s (t .C)
+    hat-moved : moved .hats (t .lane) s ≡ t .C
+    hat-moved = updateHat-same (m .hats) (t .lane) s (t .C)
 
-    far-stays : moved .hats o ≡ m .hats o
-    far-stays = updateSide-other (m .hats) s o (t .C) (L .structure .sides)
+    far-stays : (l : ℕ) → moved .hats l o ≡ m .hats l o
+    far-stays l =
+        elim (equal? l (t .lane)) [
+          | inl e ↦
+              subst (λ (j : ℕ). moved .hats j o ≡ m .hats j o) (sym e)
+              (updateHat-far (m .hats) (t .lane) s o (t .C) (Z .sides))
+          | inr ne ↦ ap (λ (f : Side → ℕ). f o) (updateHat-elsewhere (m .hats) (t .lane) s (t .C) l ne)
+        ]
 
-    C-inward : m .inn (t .C) ≡ m .inn (m .hats s)
+    C-inward : m .inn (t .C) ≡ m .inn (m .hats (t .lane) s)
     C-inward =
-        let S = L .structure in
         let q = inn-hat Z in
-        let l : j Z < L .frame .n = omega (arith, j-next Z, S .b≤n) in
-        let j-main : class (m .inn (t .A)) ≡ main = cc (S .main-list .is-main (j Z) (omega arith)) in
-        elim (h .relies .C-follows j-main) [
-          | inl e ↦ let z = j-next Z in cc (past-hat Z, S .links .links-in (j Z) l)
+        let l : j Z < mine .frame .n = omega (arith, j-next Z, Z .b≤n) in
+        let j-main : class (m .inn (t .A)) ≡ main (t .lane) = cc (Z .main-list .is-main (j Z) (omega arith)) in
+        elim (h .relies .C-follows (t .lane) j-main) [
+          | inl e ↦ let z = j-next Z in cc (past-hat Z, Z .links .links-in (j Z) l)
           | inr y ↦ cc (y .leads-back)
         ]
 
-    move-steady : BothSteady s o m moved
+    own-steady : Steady (t .lane) s m moved
+    own-steady =
+        record {
+          behind-same = cc (hat-moved, C-inward);
+          past-same = cc (hat-moved, C-inward);
+          stays-off-Y = λ ne. absurd (ne (cc (h .relies .A-Y)));
+        }
+
+    -- The hats of the other lanes stay.
+    other-steady : (l : ℕ) → l ≢ t .lane → Steady l s m moved
+    other-steady l ne =
+        let same : moved .hats l s ≡ m .hats l s =
+        ap (λ (f : Side → ℕ). f s) (updateHat-elsewhere (m .hats) (t .lane) s (t .C) l ne) in
+        record { behind-same = cc; past-same = cc; stays-off-Y = λ off y. off (cc) }
+
+    move-steady : BothSteady L s o m moved
     move-steady =
         record {
           near =
-              record {
-                behind-same = cc (hat-moved, C-inward);
-                past-same = cc (hat-moved, C-inward);
-                stays-off-Y = λ ne. absurd (ne (cc (h .relies .A-Y)));
-              };
+              λ l q. elim (equal? l (t .lane)) [
+                | inl e ↦ subst (λ (j : ℕ). Steady j s m moved) (sym e) own-steady
+                | inr ne ↦ other-steady l ne
+              ];
           far =
-              record {
-                behind-same = cc (far-stays);
-                past-same = cc (far-stays);
-                stays-off-Y = λ ne y. ne (cc (far-stays));
+              λ l q. record {
+                behind-same = cc (far-stays l);
+                past-same = cc (far-stays l);
+                stays-off-Y = λ ne y. ne (cc (far-stays l));
               };
         }
 
-    move-no-cut : BothNoCut held class s o m moved
+    move-no-cut : BothNoCut L held class s o m moved
     move-no-cut =
         record {
-          near = record { N-stays = λ v. v; no-X = λ x _ _ ne. ne };
-          far = record { N-stays = λ v. v; no-X = λ x _ _ ne. ne };
+          near = λ l q. record { N-stays = λ v. v; no-X = λ x _ _ ne. ne };
+          far = λ l q. record { N-stays = λ v. v; no-X = λ x _ _ ne. ne };
         }
 
     -- The splices left, with the hat moved.
-    room-then : {i : ℕ} (w : Moving s m t n) → w .splices ≤ i → SoonOrLate ((t .D ≡ none) × Room s moved) 0 1 i
+    room-then : {i : ℕ} (w : Moving s m t n) → w .splices ≤ i
+        → SoonOrLate ((t .D ≡ none) × Room (t .lane) s moved) 0 1 i
     room-then w l =
         elim (w .may-splice) [
           | soon p h ↦ soon (p .0, cc (hat-moved, C-inward, p .1)) (omega arith)
@@ -359,17 +415,18 @@ module _ (T : ℕ) (held : ℕ → Bool) (k : ℕ) {s o : Side} {m : View} {clas
         ]
 
     by-move : (w : Moving s m t n)
-        → SoonOrLate (m .inn (t .A) ≡ m .inn (m .hats s) → t .C ≡ past s m) (w .splices) (suc (w .splices)) n
+        → SoonOrLate (m .inn (t .A) ≡ m .inn (m .hats (t .lane) s) → t .C ≡ past (t .lane) s m)
+        (w .splices) (suc (w .splices)) n
         → Ok (writing (hat≔ (t .C) ∷ []) (next t (back t)))
     by-move w (soon e l) =
-        let d : t .C ≡ past s m = e (cc) in
+        let d : t .C ≡ past (t .lane) s m = e (cc) in
         moves move-steady move-no-cut (cc (h .relies .A-Y)) (λ y. past-off-Y Z (cc (hat-moved)))
-        (back-disturbs T s moved (goto t (back t)) (t .operation) (t .D ≟ none) (chain-op T held k L t g f n (h .chain))
-        (room-then w l))
+        (back-disturbs T s moved (goto t (back t)) (t .operation) (t .D ≟ none)
+        (chain-op T held k D t own g f n (h .chain)) (room-then w l))
     by-move w (late l) =
         disturbs {i = n - 1} move-steady move-no-cut (omega arith)
-        (back-disturbs T s moved (goto t (back t)) (t .operation) (t .D ≟ none) (chain-op T held k L t g f n (h .chain))
-        (room-then w (omega arith)))
+        (back-disturbs T s moved (goto t (back t)) (t .operation) (t .D ≟ none)
+        (chain-op T held k D t own g f n (h .chain)) (room-then w (omega arith)))
 
   more : {P : Type 0} {i : ℕ} → i ≤ n → SoonOrLate P 0 1 i → SoonOrLate P 0 1 n
   more l (soon p h) = soon p (omega arith)
@@ -382,5 +439,5 @@ module _ (T : ℕ) (held : ℕ → Bool) (k : ℕ) {s o : Side} {m : View} {clas
       ok-if Ok (λ l. writing l (next t (back t))) (_ ≟ _)
       (λ e. by-move h (cc) w (w .may-move))
       (λ _. goes (goto t (back t))
-      (back-disturbs T s m (goto t (back t)) (t .operation) (t .D ≟ none) (chain-op T held k L t g f n (h .chain))
+      (back-disturbs T s m (goto t (back t)) (t .operation) (t .D ≟ none) (chain-op T held k D t own g f n (h .chain))
       (more (in-any-case (omega arith) (w .may-move)) (w .may-splice)))))

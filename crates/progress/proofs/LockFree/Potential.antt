@@ -11,12 +11,20 @@ use Rattle.machine.specs.declared.Answer.the-variants.{Going}
 use Rattle.machine.specs.Sides.{Side, left, right, opposite}
 use Rattle.machine.specs.Values.{Y}
 use Rattle.machine.specs.Tasks.{Task}
-use Rattle.machine.specs.Table.{nodeCount, taskCount, growth, task}
+use Rattle.machine.specs.Table.{nodeCount, taskCount, growth, laneCount, task}
 use Rattle.machine.specs.Lines.{Effect}
 use Rattle.machine.specs.Calls.{isBusy, tickRefusal, effectOf, tickOn}
 use Rattle.machine.specs.Begun.{Begun}
 use Rattle.machine.proofs.Basics.Contradiction.{equal?, clash}
-use Rattle.machine.proofs.Basics.Updates.{update, update-same, update-other, updateSide}
+use Rattle.machine.proofs.Basics.Updates.{
+  update,
+  update-same,
+  update-other,
+  updateSide,
+  updateHat,
+  updateHat-own,
+  updateHat-elsewhere,
+}
 use Rattle.machine.proofs.Words.Memories.{View, viewed, written, view}
 use Rattle.machine.proofs.SlotRule.Reached.{keeps}
 use Rattle.machine.proofs.Shape.TickKeeps.{tick-allowed}
@@ -29,6 +37,7 @@ use Rattle.machine.proofs.Linearizability.Begun.TableAfter.{
   other-after,
   nodes-after,
   task-count-after,
+  lanes-after,
   in-after,
   own-side,
   own-busy,
@@ -45,7 +54,7 @@ use Rattle.progress.proofs.LockFree.Change.{
 }
 use Rattle.progress.proofs.LockFree.Disturbances.{Disturbs, HatDisturbs, disturbs-at-first, hat-stays}
 use Rattle.progress.proofs.LockFree.Outcome.{Outcome, ends, is-calm, cuts, disturbs, moves}
-use Rattle.progress.proofs.LockFree.Sums.{sum, sum-suc, sum-const, sum-update}
+use Rattle.progress.proofs.LockFree.Sums.{sum, sum-le, sum-suc, sum-const, sum-update}
 use Rattle.progress.proofs.LockFree.TableTick.{
   DisturbsIn,
   CalmlyLeft,
@@ -56,19 +65,23 @@ use Rattle.progress.proofs.LockFree.TableTick.{
   calm-hats,
 }
 
+-- What the two hats of a lane have.
+abbrev pub bothHats : (hats : (lane : ℕ) → Side → ℕ) → (l : ℕ) → ℕ
+bothHats hats l = hats l left + hats l right
+
 pub record Potential (ws : List ℕ) (D P : ℕ) : Type 0 where
   pub d : ℕ → ℕ
-  pub hats : Side → ℕ
+  pub hats : (lane : ℕ) → Side → ℕ
   pub p : ℕ → ℕ
   pub may-disturb : (j : ℕ) → isBusy (task ws j .operation) ≡ true
       → DisturbsIn (taskCount ws) (viewed right ws) (task ws j) (d j)
-  pub hats-move : (z : Side) → HatDisturbs z (view z (viewed right ws)) (hats z)
+  pub hats-move : (l : ℕ) → l < laneCount ws → (z : Side) → HatDisturbs l z (view z (viewed right ws)) (hats l z)
   pub patience : (j : ℕ) → isBusy (task ws j .operation) ≡ true
       → CalmlyLeft (nodeCount ws) (growth ws) (viewed right ws) (task ws j) (p j)
   -- A task that is idle may begin a call.
   pub idle-yet : (j : ℕ) → isBusy (task ws j .operation) ≡ false
       → (suc (taskCount ws) ≤ d j) × (p j ≡ most 2 (nodeCount ws))
-  pub few-disturbances : sum (taskCount ws) d + (hats left + hats right) ≤ D
+  pub few-disturbances : sum (taskCount ws) d + sum (laneCount ws) (bothHats hats) ≤ D
   pub few-ticks : sum (taskCount ws) p ≤ P
 
 -- ---- At first.
@@ -84,40 +97,94 @@ module _ {ws : List ℕ} (begun : Begun ws) where
       (λ j l. omega arith)
 
   pub potential-first : 1 ≤ taskCount ws
-      → Potential ws (taskCount ws * suc (taskCount ws) + 2) (taskCount ws * most 2 (nodeCount ws))
+      → Potential ws (taskCount ws * suc (taskCount ws) + laneCount ws * 2) (taskCount ws * most 2 (nodeCount ws))
   potential-first some =
       let T = taskCount ws in
       record {
         d = λ _. suc T;
-        hats = λ _. 1;
+        hats = λ _ _. 1;
         p = λ _. most 2 (nodeCount ws);
         may-disturb =
             λ j _. let t = task ws j in
             disturbs-at-first (t .step) T (t .side) (view (t .side) (viewed right ws)) t (suc T) some (omega arith);
-        hats-move = λ z. late (omega arith);
+        hats-move = λ l h z. late (omega arith);
         patience = patient-first;
         idle-yet = λ j _. (omega arith, refl);
-        few-disturbances = omega (arith, sum-const T (suc T) (λ _. suc T) (λ j l. omega arith));
+        few-disturbances =
+            omega (
+              arith,
+              sum-const T (suc T) (λ _. suc T) (λ j l. omega arith),
+              sum-const (laneCount ws) 2 (bothHats (λ _ _. 1)) (λ j l. omega arith),
+            );
         few-ticks = few-first;
       }
 
 -- ---- The hat that moves.
-hat-moved : (s z : Side) (m' : View) (hats : Side → ℕ) → m' .val (m' .hats s) ≢ Y s
-    → ((z : Side) → HatDisturbs z (view z (view s m')) (hats z))
-    → HatDisturbs z (view z (view s m')) (updateSide hats s 0 z)
-hat-moved left left m' hats off b = soon off (omega arith)
-hat-moved left right m' hats off b = b right
-hat-moved right left m' hats off b = b left
-hat-moved right right m' hats off b = soon off (omega arith)
+side-moved : (ℓ : ℕ) (s z : Side) (m' : View) (hats : Side → ℕ) → m' .val (m' .hats ℓ s) ≢ Y s
+    → ((z : Side) → HatDisturbs ℓ z (view z (view s m')) (hats z))
+    → HatDisturbs ℓ z (view z (view s m')) (updateSide hats s 0 z)
+side-moved ℓ left left m' hats off b = soon off (omega arith)
+side-moved ℓ left right m' hats off b = b right
+side-moved ℓ right left m' hats off b = b left
+side-moved ℓ right right m' hats off b = soon off (omega arith)
 
-fewer-hats : (s : Side) (hats : Side → ℕ) → 1 ≤ hats s
+hat-moved : (L ℓ : ℕ) (s : Side) (m' : View) (hats : ℕ → Side → ℕ) → m' .val (m' .hats ℓ s) ≢ Y s
+    → ((l : ℕ) → l < L → (z : Side) → HatDisturbs l z (view z (view s m')) (hats l z))
+    → (l : ℕ)
+    → l < L
+    → (z : Side)
+    → HatDisturbs l z (view z (view s m')) (updateHat hats ℓ s 0 l z)
+hat-moved L ℓ s m' hats off b l h z =
+    elim (equal? l ℓ) [
+      | inl e ↦
+          subst (λ (j : ℕ). HatDisturbs j z (view z (view s m')) (updateHat hats ℓ s 0 j z)) (sym e)
+          (subst (λ (f : Side → ℕ). HatDisturbs ℓ z (view z (view s m')) (f z)) (sym (updateHat-own hats ℓ s 0))
+          (side-moved ℓ s z m' (hats ℓ) off
+          (subst (λ (j : ℕ). (z : Side) → HatDisturbs j z (view z (view s m')) (hats j z)) e (b l h))))
+      | inr ne ↦
+          subst (λ (f : Side → ℕ). HatDisturbs l z (view z (view s m')) (f z))
+          (sym (updateHat-elsewhere hats ℓ s 0 l ne)) (b l h z)
+    ]
+
+fewer-sides : (s : Side) (hats : Side → ℕ) → 1 ≤ hats s
     → suc (updateSide hats s 0 left + updateSide hats s 0 right) ≤ hats left + hats right
-fewer-hats left hats h = omega arith
-fewer-hats right hats h = omega arith
+fewer-sides left hats h = omega arith
+fewer-sides right hats h = omega arith
 
-hat-had : (s : Side) (m : View) {n : ℕ} → m .val (m .hats s) ≡ Y s → HatDisturbs s m n → 1 ≤ n
-hat-had s m v (soon ne h) = absurd (ne v)
-hat-had s m v (late h) = h
+fewer-hats : (L ℓ : ℕ) (s : Side) (hats : ℕ → Side → ℕ) → ℓ < L → 1 ≤ hats ℓ s
+    → suc (sum L (bothHats (updateHat hats ℓ s 0))) ≤ sum L (bothHats hats)
+fewer-hats L ℓ s hats is-lane h =
+    let v : ℕ = updateSide (hats ℓ) s 0 left + updateSide (hats ℓ) s 0 right in
+    let one = fewer-sides s (hats ℓ) h in
+    let all = sum-le L (bothHats (updateHat hats ℓ s 0)) (update (bothHats hats) ℓ v) (λ j _. at j) in
+    let less = sum-update L (bothHats hats) ℓ v 1 is-lane (omega arith) in
+    omega arith
+  where
+    both : (f : Side → ℕ) → ℕ
+    both f = f left + f right
+
+    at : (j : ℕ)
+        → bothHats (updateHat hats ℓ s 0) j
+        ≤ update (bothHats hats) ℓ (updateSide (hats ℓ) s 0 left + updateSide (hats ℓ) s 0 right) j
+    at j =
+        let v : ℕ = updateSide (hats ℓ) s 0 left + updateSide (hats ℓ) s 0 right in
+        elim (equal? j ℓ) [
+          | inl e ↦
+              let p : bothHats (updateHat hats ℓ s 0) j ≡ v =
+              ap (λ (i : ℕ). bothHats (updateHat hats ℓ s 0) i) e ∙ ap both (updateHat-own hats ℓ s 0) in
+              let q : update (bothHats hats) ℓ v j ≡ v =
+              ap (update (bothHats hats) ℓ v) e ∙ update-same (bothHats hats) ℓ v in
+              omega arith
+          | inr ne ↦
+              let p : bothHats (updateHat hats ℓ s 0) j ≡ bothHats hats j =
+              ap both (updateHat-elsewhere hats ℓ s 0 j ne) in
+              let q : update (bothHats hats) ℓ v j ≡ bothHats hats j = update-other (bothHats hats) ℓ v j ne in
+              omega arith
+        ]
+
+hat-had : (ℓ : ℕ) (s : Side) (m : View) {n : ℕ} → m .val (m .hats ℓ s) ≡ Y s → HatDisturbs ℓ s m n → 1 ≤ n
+hat-had ℓ s m v (soon ne h) = absurd (ne v)
+hat-had ℓ s m v (late h) = h
 
 -- ---- A tick that goes on.
 pub data Falls (after : List ℕ) (D P : ℕ) : Type 0 where
@@ -142,7 +209,7 @@ module _ {ws : List ℕ} (begun : Begun ws) (k h : ℕ) (passes : tickRefusal ws
   m = view (task ws k .side) (viewed right ws)
 
   abbrev m' : View
-  m' = written (task ws k .side) (effectOf ws k h .writes) m
+  m' = written (task ws k .lane) (task ws k .side) (effectOf ws k h .writes) m
 
   abbrev M' : View
   M' = view (task ws k .side) m'
@@ -188,10 +255,14 @@ module _ {ws : List ℕ} (begun : Begun ws) (k h : ℕ) (passes : tickRefusal ws
       (in-after agrees k h passes (λ S T gr m t. DisturbsIn T m t (f k)) k (own-after agrees k h passes)
       (own-side agrees k h passes (λ z m. Disturbs (e .task .step) T z m (e .task) (f k)) same own))
 
-  hats-after : (f : Side → ℕ) → ((z : Side) → HatDisturbs z (view z M') (f z)) → (z : Side)
-      → HatDisturbs z (view z (viewed right after)) (f z)
-  hats-after f b z =
-      in-after agrees k h passes (λ S T gr m t. HatDisturbs z (view z m) (f z)) k (own-after agrees k h passes) (b z)
+  hats-after : (f : ℕ → Side → ℕ) → ((l : ℕ) → l < laneCount ws → (z : Side) → HatDisturbs l z (view z M') (f l z))
+      → (l : ℕ)
+      → l < laneCount after
+      → (z : Side)
+      → HatDisturbs l z (view z (viewed right after)) (f l z)
+  hats-after f b l is-lane z =
+      in-after agrees k h passes (λ S T gr m t. HatDisturbs l z (view z m) (f l z)) k (own-after agrees k h passes)
+      (b l (subst (λ (n : ℕ). l < n) (lanes-after agrees k h passes) is-lane) z)
 
   -- The tasks that are idle were idle, and are others.
   idle-after : (f g : ℕ → ℕ) (c : ℕ)
@@ -213,17 +284,20 @@ module _ {ws : List ℕ} (begun : Begun ws) (k h : ℕ) (passes : tickRefusal ws
             (omega (arith, b .0), b .1)
       ]
 
-  -- The sums are over the same tasks.
+  -- The sums are over the same tasks, and the same lanes.
   over-after : (F : ℕ → Type 0) → F T → F (taskCount after)
   over-after F b = subst F (sym (task-count-after agrees k h passes)) b
 
+  over-lanes : (F : ℕ → Type 0) → F (laneCount ws) → F (laneCount after)
+  over-lanes F b = subst F (sym (lanes-after agrees k h passes)) b
+
   -- ---- Disturbances: the ticks are counted anew.
-  afresh : {D' : ℕ} → suc D' ≤ D → (f : ℕ → ℕ) (hats : Side → ℕ)
+  afresh : {D' : ℕ} → suc D' ≤ D → (f : ℕ → ℕ) (hats : ℕ → Side → ℕ)
       → ((j : ℕ) → j ≢ k → Φ .d j ≤ f j)
       → ((j : ℕ) → j ≢ k → isBusy (task ws j .operation) ≡ true → DisturbsIn T M' (task ws j) (f j))
       → Disturbs (e .task .step) T (task ws k .side) m' (e .task) (f k)
-      → ((z : Side) → HatDisturbs z (view z M') (hats z))
-      → sum T f + (hats left + hats right) ≤ D'
+      → ((l : ℕ) → l < laneCount ws → (z : Side) → HatDisturbs l z (view z M') (hats l z))
+      → sum T f + sum (laneCount ws) (bothHats hats) ≤ D'
       → Falls after D P
   afresh {D'} less f hats as-many others own hats-then few =
       disturbances-fall less
@@ -237,13 +311,16 @@ module _ {ws : List ℕ} (begun : Begun ws) (k h : ℕ) (passes : tickRefusal ws
         idle-yet =
             idle-after f (λ _. most 2 (nodeCount after)) (most 2 (nodeCount after))
             (λ j ne i. (omega (arith, Φ .idle-yet j i .0, as-many j ne), refl));
-        few-disturbances = over-after (λ (n : ℕ). sum n f + (hats left + hats right) ≤ D') few;
+        few-disturbances =
+            over-after (λ (n : ℕ). sum n f + sum (laneCount after) (bothHats hats) ≤ D')
+            (over-lanes (λ (n : ℕ). sum T f + sum n (bothHats hats) ≤ D') few);
         few-ticks = few-first (begun-ticked begun k h);
       })
 
-  module _ (W : BothSteady (task ws k .side) (opposite (task ws k .side)) m m') where
-    hats-steady : (z : Side) → HatDisturbs z (view z M') (Φ .hats z)
-    hats-steady z = hat-stays (steady-view (task ws k .side) z (viewed right ws) m' W) (Φ .hats-move z)
+  module _ (W : BothSteady (laneCount ws) (task ws k .side) (opposite (task ws k .side)) m m') where
+    hats-steady : (l : ℕ) → l < laneCount ws → (z : Side) → HatDisturbs l z (view z M') (Φ .hats l z)
+    hats-steady l q z =
+        hat-stays (steady-view (task ws k .side) z (viewed right ws) m' W l q) (Φ .hats-move l q z)
 
     -- A cut.
     cut-falls : suc T ≤ Φ .d k → Disturbs (e .task .step) T (task ws k .side) m' (e .task) 1 → Falls after D P
@@ -259,20 +336,24 @@ module _ {ws : List ℕ} (begun : Begun ws) (k h : ℕ) (passes : tickRefusal ws
         (λ j ne busy.
         let same-d : update (λ i. suc (Φ .d i)) k 1 j ≡ suc (Φ .d j) = update-other (λ i. suc (Φ .d i)) k 1 j ne in
         steady-others begun k h passes j T (Φ .d j) (f j) (omega arith)
-        (steady-view (task ws k .side) (task ws j .side) (viewed right ws) m' W) (inr (omega arith))
+        (steady-view (task ws k .side) (task ws j .side) (viewed right ws) m' W (task ws j .lane)
+        (agrees .invariant .own-lane j))
+        (inr (omega arith))
         (Φ .may-disturb j busy))
         (subst (λ (n : ℕ). Disturbs (e .task .step) T (task ws k .side) m' (e .task) n)
         (sym (update-same (λ j. suc (Φ .d j)) k 1)) own)
         hats-steady (omega arith)
 
-    module _ (U : BothNoCut (keeps ws) (begun-agrees begun .1 .class) (task ws k .side) (opposite (task ws k .side))
-        m m') where
+    module _ (U : BothNoCut (laneCount ws) (keeps ws) (begun-agrees begun .1 .class)
+        (task ws k .side) (opposite (task ws k .side)) m m') where
       others-steady : (d' : ℕ) (j : ℕ) → Φ .d j ≤ d' → isBusy (task ws j .operation) ≡ true
           → DisturbsIn T M' (task ws j) d'
       others-steady d' j le busy =
           steady-others begun k h passes j T (Φ .d j) d' le
-          (steady-view (task ws k .side) (task ws j .side) (viewed right ws) m' W)
-          (inl (no-cut-view (task ws k .side) (task ws j .side) (viewed right ws) m' U))
+          (steady-view (task ws k .side) (task ws j .side) (viewed right ws) m' W (task ws j .lane)
+          (agrees .invariant .own-lane j))
+          (inl (no-cut-view (task ws k .side) (task ws j .side) (viewed right ws) m' U (task ws j .lane)
+          (agrees .invariant .own-lane j)))
           (Φ .may-disturb j busy)
 
       -- Another disturbance of the task.
@@ -292,17 +373,21 @@ module _ {ws : List ℕ} (begun : Begun ws) (k h : ℕ) (passes : tickRefusal ws
           hats-steady (omega arith)
 
       -- The hat moves off Y.
-      move-falls : m .val (m .hats (task ws k .side)) ≡ Y (task ws k .side)
-          → m' .val (m' .hats (task ws k .side)) ≢ Y (task ws k .side)
+      move-falls : m .val (m .hats (task ws k .lane) (task ws k .side)) ≡ Y (task ws k .side)
+          → m' .val (m' .hats (task ws k .lane) (task ws k .side)) ≢ Y (task ws k .side)
           → Disturbs (e .task .step) T (task ws k .side) m' (e .task) (Φ .d k)
           → Falls after D P
       move-falls on-Y off own =
           let s = task ws k .side in
-          let fewer = fewer-hats s (Φ .hats) (hat-had s (view s (viewed right ws)) on-Y (Φ .hats-move s)) in
+          let ℓ = task ws k .lane in
+          let is-lane = agrees .invariant .own-lane k in
+          let fewer =
+          fewer-hats (laneCount ws) ℓ s (Φ .hats) is-lane
+          (hat-had ℓ s (view s (viewed right ws)) on-Y (Φ .hats-move ℓ is-lane s)) in
           let had = Φ .few-disturbances in
-          afresh {D' = D - 1} (omega arith) (Φ .d) (updateSide (Φ .hats) s 0) (λ j ne. omega arith)
+          afresh {D' = D - 1} (omega arith) (Φ .d) (updateHat (Φ .hats) ℓ s 0) (λ j ne. omega arith)
           (λ j ne busy. others-steady (Φ .d j) j (omega arith) busy) own
-          (λ z. hat-moved s z m' (Φ .hats) off hats-steady) (omega arith)
+          (hat-moved (laneCount ws) ℓ s m' (Φ .hats) off hats-steady) (omega arith)
 
   -- ---- Calm ticks: the task has one tick less, and the others have as many.
   calm-falls : Calm (keeps ws) (begun-agrees begun .1 .class) m m'
@@ -325,7 +410,9 @@ module _ {ws : List ℕ} (begun : Begun ws) (k h : ℕ) (passes : tickRefusal ws
         may-disturb =
             disturb-after (Φ .d)
             (λ j ne busy. calm-others begun k h passes j C T (Φ .d j) (Φ .may-disturb j busy)) own-d;
-        hats-move = hats-after (Φ .hats) (λ z. calm-hats begun k h passes C z (Φ .hats z) (Φ .hats-move z));
+        hats-move =
+            hats-after (Φ .hats)
+            (λ l q z. calm-hats begun k h passes C l q z (Φ .hats l z) (Φ .hats-move l q z));
         patience =
             each-after (λ S T gr m t n. CalmlyLeft S gr m t n) p'
             (λ j ne busy.
@@ -340,11 +427,12 @@ module _ {ws : List ℕ} (begun : Begun ws) (k h : ℕ) (passes : tickRefusal ws
             let same-nodes = nodes-after agrees k h passes in
             (b .0, update-other (Φ .p) k v j ne ∙ b .1 ∙ ap (most 2) (sym same-nodes)));
         few-disturbances =
-            over-after (λ (n : ℕ). sum n (Φ .d) + (Φ .hats left + Φ .hats right) ≤ D) (Φ .few-disturbances);
+            over-after (λ (n : ℕ). sum n (Φ .d) + sum (laneCount after) (bothHats (Φ .hats)) ≤ D)
+            (over-lanes (λ (n : ℕ). sum T (Φ .d) + sum n (bothHats (Φ .hats)) ≤ D) (Φ .few-disturbances));
         few-ticks = over-after (λ (n : ℕ). sum n p' ≤ P - 1) (omega arith);
       })
 
-  by-outcome : Outcome T (keeps ws) (begun-agrees begun .1 .class) (task ws k .side)
+  by-outcome : Outcome T (laneCount ws) (keeps ws) (begun-agrees begun .1 .class) (task ws k .lane) (task ws k .side)
       (opposite (task ws k .side)) m (Φ .d k) (effectOf ws k h)
       → Falls after D P
   by-outcome (ends ne) = absurd (ne going)

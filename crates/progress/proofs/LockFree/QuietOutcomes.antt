@@ -3,7 +3,7 @@ use mathlib.Core.Path.{_≡_}
 use mathlib.Core.Logic.{_≢_, _⊎_, inl, inr}
 use mathlib.Core.Bool.{Bool}
 use mathlib.Core.List.{List}
-use Prim.Native.Nat.{ℕ, suc}
+use Prim.Native.Nat.{ℕ, suc, _<_}
 use native.Mathlib.Omega.{arith}
 use Rattle.machine.specs.Choice.{_≟_}
 use Rattle.machine.specs.Sides.{Side}
@@ -19,7 +19,7 @@ use Rattle.machine.proofs.Linearizability.Model.Classes.{Class}
 use Rattle.machine.proofs.Linearizability.Writes.ChainGrowth.{head-some}
 use Rattle.machine.proofs.Linearizability.Lines.Connectives.{ok-if, ok-dcas}
 use Rattle.machine.proofs.Linearizability.Model.Phases.{MaybeChain, with-chain, without-chain, TaskOk}
-use Rattle.machine.proofs.Linearizability.Model.Invariant.{Lane}
+use Rattle.machine.proofs.Linearizability.Model.Invariant.{Lanes}
 use Rattle.progress.proofs.SoloBound.AtHat.{hat-N, hat-X, hat-Y, hat-value, hat-at, past-hat}
 use Rattle.progress.proofs.SoloBound.Budget.{SoonOrLate, soon, late, in-any-case}
 use Rattle.progress.proofs.LockFree.Change.{past}
@@ -29,7 +29,7 @@ use Rattle.progress.proofs.LockFree.Outcome.{Outcome, goes, ended, pass
 -- Back, to 2 without a chain and to 15 with one.
 pub back-disturbs : (T : ℕ) (s : Side) (m : View) (t : Task) {n : ℕ} (op : Operation) {x : ℕ} (d : Dec (x ≡ none))
     → (x ≡ none → op ≡ push)
-    → SoonOrLate ((x ≡ none) × Room s m) 0 1 n
+    → SoonOrLate ((x ≡ none) × Room (t .lane) s m) 0 1 n
     → Disturbs (backOf op d) T s m t n
 back-disturbs T s m t push (yes e) f (soon p h) = soon (p .1) h
 back-disturbs T s m t push (yes e) f (late h) = late h
@@ -44,31 +44,31 @@ back-disturbs T s m t add d f (late h) = h
 back-disturbs T s m t remove d f (soon p h) = clash (cc (f (p .0)))
 back-disturbs T s m t remove d f (late h) = h
 
-module _ (T : ℕ) (held : ℕ → Bool) (k : ℕ) {s o : Side} {m : View} {class : ℕ → Class} {r : List ℕ}
-    (L : Lane s o m class r) (t : Task) (g f n : ℕ) where
+module _ (T : ℕ) (held : ℕ → Bool) (k : ℕ) {L : ℕ} {s o : Side} {m : View} {class : ℕ → Class} {r : ℕ → List ℕ}
+    (D : Lanes L s o m class r) (t : Task) (own : t .lane < L) (g f n : ℕ) where
   abbrev Ok : Effect → Type 0
-  Ok e = Outcome T held class s o m n e
+  Ok e = Outcome T L held class (t .lane) s o m n e
 
   abbrev LineOk : Step → Type 0
-  LineOk st = TaskOk k s o m class st t → Disturbs st T s m t n → Ok (act st s o (seenIn s m) t g f)
+  LineOk st = TaskOk k s o m class st t → Disturbs st T s m t n → Ok (act st s o (seenIn (t .lane) s m) t g f)
 
   -- A task without a chain is a push.
   pub chain-op : MaybeChain k s m class (t .D) (t .operation) → t .D ≡ none → t .operation ≡ push
-  chain-op (with-chain H) e = absurd (head-some H (L .structure .none-free) e)
+  chain-op (with-chain H) e = absurd (head-some H (D .lane (t .lane) own .structure .none-free) e)
   chain-op (without-chain H p) e = p
 
   -- The hat off Y is at its index.
-  hat-past : m .val (m .hats s) ≢ Y s → m .hats s ≡ past s m
-  hat-past ne = cc (hat-at (L .structure) ne, past-hat (L .structure))
+  hat-past : m .val (m .hats (t .lane) s) ≢ Y s → m .hats (t .lane) s ≡ past (t .lane) s m
+  hat-past ne = cc (hat-at (D .lane (t .lane) own .structure) ne, past-hat (D .lane (t .lane) own .structure))
 
-  no-X-at-hat : Room s m → m .val (m .hats s) ≢ X s
+  no-X-at-hat : Room (t .lane) s m → m .val (m .hats (t .lane) s) ≢ X s
   no-X-at-hat v x = let q = hat-past (λ y. refute (cc)) in refute (cc)
 
   -- ---- Push.
   pub line2-outcome : LineOk Steps.line2
   unfolding act
-  line2-outcome h (soon v l) = goes (goto (withA t (m .hats s)) Steps.line3) (soon (v, no-X-at-hat v) l)
-  line2-outcome h (late l) = goes (goto (withA t (m .hats s)) Steps.line3) (late l)
+  line2-outcome h (soon v l) = goes (goto (withA t (m .hats (t .lane) s)) Steps.line3) (soon (v, no-X-at-hat v) l)
+  line2-outcome h (late l) = goes (goto (withA t (m .hats (t .lane) s)) Steps.line3) (late l)
 
   pub line3-outcome : LineOk Steps.line3
   unfolding act
@@ -101,7 +101,7 @@ module _ (T : ℕ) (held : ℕ → Bool) (k : ℕ) {s o : Side} {m : View} {clas
   -- ---- Moving the hat.
   pub line67-outcome : LineOk Steps.line67
   unfolding act
-  line67-outcome h b = goes (goto (withA t (m .hats s)) Steps.line68) b
+  line67-outcome h b = goes (goto (withA t (m .hats (t .lane) s)) Steps.line68) b
 
   pub line68-outcome : LineOk Steps.line68
   unfolding act
@@ -131,23 +131,23 @@ module _ (T : ℕ) (held : ℕ → Bool) (k : ℕ) {s o : Side} {m : View} {clas
   pub line15-outcome : LineOk Steps.line15
   unfolding act
   line15-outcome h b =
-      goes (goto (withA t (m .hats s)) Steps.line17)
-      (elim (hat-value (L .structure)) [
+      goes (goto (withA t (m .hats (t .lane) s)) Steps.line17)
+      (elim (hat-value (D .lane (t .lane) own .structure)) [
         | hat-N v ↦ soon (inr (inl (hat-past (λ y. refute (cc))))) b
         | hat-X v ↦ soon (inr (inl (hat-past (λ y. refute (cc))))) b
         | hat-Y v ↦ soon (inr (inr v)) b
       ])
 
   abbrev Sought : Type 0
-  Sought = SoonOrLate (Room s m ⊎ (t .A ≡ past s m) ⊎ (m .val (t .A) ≡ Y s)) 1 2 n
+  Sought = SoonOrLate (Room (t .lane) s m ⊎ (t .A ≡ past (t .lane) s m) ⊎ (m .val (t .A) ≡ Y s)) 1 2 n
 
-  on-N : m .val (t .A) ≡ N s → Sought → SoonOrLate (Room s m) 1 2 n
+  on-N : m .val (t .A) ≡ N s → Sought → SoonOrLate (Room (t .lane) s m) 1 2 n
   on-N v (soon (inl p) l) = soon p l
   on-N v (soon (inr (inl e)) l) = soon (cc) l
   on-N v (soon (inr (inr y)) l) = clash (cc)
   on-N v (late l) = late l
 
-  on-X : m .val (t .A) ≡ X s → Sought → SoonOrLate (Room s m ⊎ (t .A ≡ past s m)) 1 2 n
+  on-X : m .val (t .A) ≡ X s → Sought → SoonOrLate (Room (t .lane) s m ⊎ (t .A ≡ past (t .lane) s m)) 1 2 n
   on-X v (soon (inl p) l) = soon (inl p) l
   on-X v (soon (inr (inl e)) l) = soon (inr e) l
   on-X v (soon (inr (inr y)) l) = clash (cc)
@@ -164,8 +164,8 @@ module _ (T : ℕ) (held : ℕ → Bool) (k : ℕ) {s o : Side} {m : View} {clas
       ok-if Ok F (_ ≟ᵛ _) (λ e. goes (goto (withValue t v) Steps.line24) (on-X e b)) (λ _.
       goes (goto (withValue t v) Steps.line15) (in-any-case (omega arith) b)))))
 
-  on-link : SoonOrLate (Room s m) 1 2 n
-      → SoonOrLate (Room s m ⊎ (m .out (t .A) ≡ past s m) ⊎ (m .val (m .out (t .A)) ≡ Y s)) 1 2 n
+  on-link : SoonOrLate (Room (t .lane) s m) 1 2 n
+      → SoonOrLate (Room (t .lane) s m ⊎ (m .out (t .A) ≡ past (t .lane) s m) ⊎ (m .val (m .out (t .A)) ≡ Y s)) 1 2 n
   on-link (soon p l) = soon (inl p) l
   on-link (late l) = late l
 
@@ -180,7 +180,7 @@ module _ (T : ℕ) (held : ℕ → Bool) (k : ℕ) {s o : Side} {m : View} {clas
   -- ---- Pop.
   pub line39-outcome : LineOk Steps.line39
   unfolding act
-  line39-outcome h b = goes (goto (withA t (m .hats s)) Steps.line40) tt
+  line39-outcome h b = goes (goto (withA t (m .hats (t .lane) s)) Steps.line40) tt
 
   pub line40-outcome : LineOk Steps.line40
   unfolding act
@@ -223,9 +223,9 @@ module _ (T : ℕ) (held : ℕ → Bool) (k : ℕ) {s o : Side} {m : View} {clas
   pub line54-outcome : LineOk Steps.line54
   unfolding act
   line54-outcome h b =
-      ok-if Ok (λ st. next (withA t (m .hats s)) st) (_ ≟ _)
-      (λ _. goes (goto (withA t (m .hats s)) Steps.line60) b)
-      (λ _. goes (goto (withA t (m .hats s)) Steps.line56) b)
+      ok-if Ok (λ st. next (withA t (m .hats (t .lane) s)) st) (_ ≟ _)
+      (λ _. goes (goto (withA t (m .hats (t .lane) s)) Steps.line60) b)
+      (λ _. goes (goto (withA t (m .hats (t .lane) s)) Steps.line56) b)
 
   pub line56-outcome : LineOk Steps.line56
   unfolding act

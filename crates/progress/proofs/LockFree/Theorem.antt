@@ -6,7 +6,7 @@ use Prim.Native.Nat.{ℕ, zero, suc, _+_, _*_, _≤_}
 use native.Mathlib.Omega.{arith}
 use Rattle.machine.specs.declared.Answer.the-variants.{Going, Refused}
 use Rattle.machine.specs.declared.Dispatch.the-variants.{Answered}
-use Rattle.machine.specs.Table.{nodeCount, taskCount, setDispatched}
+use Rattle.machine.specs.Table.{nodeCount, taskCount, laneCount, setDispatched}
 use Rattle.machine.specs.Answers.{refusalOf, dispatchRefusalOf}
 use Rattle.machine.specs.Calls.{
   tickRefusal,
@@ -174,13 +174,14 @@ allowed n moves ws D P X Φ (dispatch-refused {n = i} {h = h} {moves = l} e rest
 allowed n moves ws D P X Φ (idle {n = i} {h = h} {moves = l} e rest) =
     subst (λ (x : List ℕ). Potential x D P → i ≤ allows (nodeCount x) (taskCount x) D P) (idle-stays X h e)
     (λ Φ'. allowed i l (dispatch ws h .words) D P (by-call X (dispatch-call h)) Φ' rest) Φ
-allowed n moves ws D P X Φ (begun {n = i} {k = k} {op = op} {side = side} {argument = argument} {moves = l} rest) =
-    let c = begin-call k op side argument in
-    let same-nodes = begin-nodes X k op side argument in
-    let same-tasks = begin-tasks X k op side argument in
+allowed n moves ws D P X Φ
+    (begun {n = i} {k = k} {l = j} {op = op} {side = side} {argument = argument} {moves = l} rest) =
+    let c = begin-call k j op side argument in
+    let same-nodes = begin-nodes X k j op side argument in
+    let same-tasks = begin-tasks X k j op side argument in
     subst (λ (S : ℕ). i ≤ allows S (taskCount ws) D P) same-nodes
-    (subst (λ (T : ℕ). i ≤ allows (nodeCount (begin ws k op side argument .words)) T D P) same-tasks
-    (allowed i l (begin ws k op side argument .words) D P (by-call X c) (begin-keeps X k op side argument Φ) rest))
+    (subst (λ (T : ℕ). i ≤ allows (nodeCount (begin ws k j op side argument .words)) T D P) same-tasks
+    (allowed i l (begin ws k j op side argument .words) D P (by-call X c) (begin-keeps X k j op side argument Φ) rest))
 
 walk-calm : (S : ℕ) → walkTicks 2 S ≡ 6 * S
 walk-calm zero = refl
@@ -190,8 +191,9 @@ walk-calm (suc S) = omega (arith, walk-calm S)
 pub lock-free : LockFree
 lock-free ws X n moves quiet =
     let T = taskCount ws in
+    let L = laneCount ws in
     let some-task : 1 ≤ T = well-sized ws (begun-agrees X .1 .accepted .length-passes) .one-task in
-    let l = allowed n moves ws (T * suc T + 2) (T * most 2 (nodeCount ws)) X (potential-first X some-task) quiet in
+    let l = allowed n moves ws (T * suc T + L * 2) (T * most 2 (nodeCount ws)) X (potential-first X some-task) quiet in
     let few =
-    subst (λ (w : ℕ). n ≤ (T * suc T + 2) * suc (T * (w + 153)) + T * (w + 153)) (walk-calm (nodeCount ws)) l in
+    subst (λ (w : ℕ). n ≤ (T * suc T + L * 2) * suc (T * (w + 153)) + T * (w + 153)) (walk-calm (nodeCount ws)) l in
     omega arith

@@ -59,19 +59,20 @@ use Rattle.progress.proofs.SoloBound.Budget.{
 use Rattle.progress.proofs.SoloBound.Spending.{no-node-answers, goes, answered, passing, swapping}
 
 module _ (extra S g : ℕ) (few : g ≤ 64) {s o : Side} {m : View} {class : ℕ → Class} {r : List ℕ}
-    (L : Lane s o m class r) (size : L .frame .n ≤ S) (t : Task) (f n : ℕ) where
+    (t : Task) (L : Lane (t .lane) s o m class r) (size : L .frame .n ≤ S) (f n : ℕ) where
   abbrev Ok : Effect → Type 0
-  Ok e = Spends extra S g s m n e
+  Ok e = Spends extra S g (t .lane) s m n e
 
   abbrev LineOk : Step → Type 0
-  LineOk st = Left extra st S g s m t n → Ok (act st s o (seenIn s m) t g f)
+  LineOk st = Left extra st S g s m t n → Ok (act st s o (seenIn (t .lane) s m) t g f)
 
   -- ---- Taking nodes.
 
   -- A value other than Y, written anywhere, leaves a hat off Y there.
-  still-off-Y : (x : ℕ) (v : Value) → v ≢ Y s → m .val (m .hats s) ≢ Y s → update (m .val) x v (m .hats s) ≢ Y s
+  still-off-Y : (x : ℕ) (v : Value) → v ≢ Y s → m .val (m .hats (t .lane) s) ≢ Y s
+      → update (m .val) x v (m .hats (t .lane) s) ≢ Y s
   still-off-Y x v nv ne y =
-      elim (wrote? (update-wrote (m .val) x v) (m .hats s)) [
+      elim (wrote? (update-wrote (m .val) x v) (m .hats (t .lane) s)) [
         | it-is e q ↦ nv (cc)
         | it-is-not e q ↦ ne (cc)
       ]
@@ -101,8 +102,9 @@ module _ (extra S g : ℕ) (few : g ≤ 64) {s o : Side} {m : View} {class : ℕ
   one-more = withCounted (withD t f) (suc (t .counted))
 
   grows : t .counted < g
-      → SoonOrLate (m .val (m .hats s) ≢ Y s) ((g - t .counted) + (2 * S + 8)) ((g - t .counted) + (2 * S + 85)) n
-      → Ok (act line31 s o (seenIn s m) t g f)
+      → SoonOrLate (m .val (m .hats (t .lane) s) ≢ Y s)
+      ((g - t .counted) + (2 * S + 8)) ((g - t .counted) + (2 * S + 85)) n
+      → Ok (act line31 s o (seenIn (t .lane) s m) t g f)
   unfolding act
   grows below (soon ne h) =
       let off = still-off-Y f (N s) (λ q. refute (cc)) ne in
@@ -124,15 +126,15 @@ module _ (extra S g : ℕ) (few : g ≤ 64) {s o : Side} {m : View} {class : ℕ
   line31-spends G = grows (G .below) (G .when)
 
   -- ---- Seeking the end of main.
-  seeks : (k : ℕ) → m .val (m .hats s) ≢ Y s → 2 * S + 6 ≤ k → Seeking S s m (m .hats s) k
+  seeks : (k : ℕ) → m .val (m .hats (t .lane) s) ≢ Y s → 2 * S + 6 ≤ k → Seeking S (t .lane) s m (m .hats (t .lane) s) k
   seeks k ne h = seek-sure (at-hat refl ne) (omega arith)
 
   pub line15-spends : LineOk line15
   unfolding act
   line15-spends (soon ne h) =
-      goes (goto (withA t (m .hats s)) line17) (omega arith) (seeks (n - 1) ne (omega arith))
+      goes (goto (withA t (m .hats (t .lane) s)) line17) (omega arith) (seeks (n - 1) ne (omega arith))
   line15-spends (late h) =
-      goes (goto (withA t (m .hats s)) line17) (omega arith)
+      goes (goto (withA t (m .hats (t .lane) s)) line17) (omega arith)
       (elim (hat-value (L .structure)) [
         | hat-N v ↦ seeks (n - 1) (λ y. refute (cc)) (omega arith)
         | hat-X v ↦ seeks (n - 1) (λ y. refute (cc)) (omega arith)
@@ -145,7 +147,7 @@ module _ (extra S g : ℕ) (few : g ≤ 64) {s o : Side} {m : View} {class : ℕ
       → (m .val (t .A) ≡ X s → Left extra line24 S g s m t (n - 1))
       → (m .val (t .A) ≢ N s → m .val (t .A) ≢ Y s → m .val (t .A) ≢ X s → Left extra line15 S g s m t (n - 1))
       → 1 ≤ n
-      → Ok (act line17 s o (seenIn s m) t g f)
+      → Ok (act line17 s o (seenIn (t .lane) s m) t g f)
   unfolding act
   by-value on-N on-Y on-X on-other some =
       let v = m .val (t .A) in
@@ -202,17 +204,18 @@ module _ (extra S g : ℕ) (few : g ≤ 64) {s o : Side} {m : View} {class : ℕ
   abbrev splice : List Write
   splice = out≔ (t .A) (t .D) ∷ val≔ (t .A) (N s) ∷ []
 
-  splices : 1 ≤ n → ((t' : Task) → Left extra line2 S g s (written s splice m) t' (n - 1)) → (op : Operation)
+  splices : 1 ≤ n → Left extra line2 S g s (written (t .lane) s splice m) t (n - 1) → (op : Operation)
       → Ok (spliced op splice t)
-  splices some h push = goes (goto (withCounted (withD t none) 0) line2) some (h t)
+  splices some h push = goes (goto (withCounted (withD t none) 0) line2) some h
   splices some h idle = answered (λ q. refute (cc))
   splices some h pop = answered (λ q. refute (cc))
   splices some h add = answered (λ q. refute (cc))
   splices some h remove = answered (λ q. refute (cc))
 
-  hat-N-after : (m .val (m .hats s) ≡ N s) ⊎ (m .hats s ≡ t .A) → update (m .val) (t .A) (N s) (m .hats s) ≡ N s
+  hat-N-after : (m .val (m .hats (t .lane) s) ≡ N s) ⊎ (m .hats (t .lane) s ≡ t .A)
+      → update (m .val) (t .A) (N s) (m .hats (t .lane) s) ≡ N s
   hat-N-after R =
-      elim (wrote? (update-wrote (m .val) (t .A) (N s)) (m .hats s)) [
+      elim (wrote? (update-wrote (m .val) (t .A) (N s)) (m .hats (t .lane) s)) [
         | it-is e q ↦ q
         | it-is-not ne q ↦ elim R [ inl u ↦ cc | inr e ↦ absurd (ne e) ]
       ]
@@ -223,10 +226,10 @@ module _ (extra S g : ℕ) (few : g ≤ 64) {s o : Side} {m : View} {class : ℕ
       passing t (λ _.
       swapping _ _
       (λ _ _.
-      splices (omega arith) (λ t'. start-N (hat-N-after (path-ready (e .0 .path))) (omega arith)) (t .operation))
+      splices (omega arith) (start-N (hat-N-after (path-ready (e .0 .path))) (omega arith)) (t .operation))
       (λ ne. absurd (ne (cc) (cc))))
   line25-spends (late h) =
       passing t (λ _.
       swapping _ _
-      (λ _ _. splices (omega arith) (λ t'. start-anywhere (omega arith)) (t .operation))
+      (λ _ _. splices (omega arith) (start-anywhere (omega arith)) (t .operation))
       (λ _. goes (goto t line15) (omega arith) (late (omega arith))))

@@ -45,7 +45,7 @@ pub path-ready : {s : Side} {out : ℕ → ℕ} {val : ℕ → Value} {hat i x :
 path-ready (at-hat e ne) = inr e
 path-ready (on-path P v q) = inl (elim (path-ready P) [ inl u ↦ u | inr e ↦ cc ])
 
-module _ {s o : Side} {m : View} {class : ℕ → Class} {F : Frame} (S : Structure s o m class F) where
+module _ {ℓ : ℕ} {s o : Side} {m : View} {class : ℕ → Class} {F : Frame} (S : Structure ℓ s o m class F) where
   open View m using (out, inn, val, hats)
   open Frame F using (at, n, b)
 
@@ -63,7 +63,7 @@ module _ {s o : Side} {m : View} {class : ℕ → Class} {F : Frame} (S : Struct
         | inr l ↦ let e : b ≡ n = omega (arith, S .b≤n) in inr (cc (S .values .X-last))
       ]
 
-  pub hat-value : HatValue s (val (hats s))
+  pub hat-value : HatValue s (val (hats ℓ s))
   hat-value =
       elim (S .near-hat j j-next) [
         | inl e ↦ elim b-value [ inl v ↦ hat-N (cc) | inr v ↦ hat-X (cc) ]
@@ -71,10 +71,10 @@ module _ {s o : Side} {m : View} {class : ℕ → Class} {F : Frame} (S : Struct
       ]
 
   -- A hat off Y is at its index.
-  pub hat-at : val (hats s) ≢ Y s → hats s ≡ at b
+  pub hat-at : val (hats ℓ s) ≢ Y s → hats ℓ s ≡ at b
   hat-at ne = elim (S .near-hat j j-next) [ inl e ↦ e | inr y ↦ absurd (ne (y .is-Y)) ]
 
-  pub hat-leads : val (hats s) ≡ N s → out (hats s) ≢ none
+  pub hat-leads : val (hats ℓ s) ≡ N s → out (hats ℓ s) ≢ none
   hat-leads v =
       let e = hat-at (λ y. refute (cc)) in
       elim (less? b n) [
@@ -83,7 +83,7 @@ module _ {s o : Side} {m : View} {class : ℕ → Class} {F : Frame} (S : Struct
       ]
 
   -- The path from the hat is main.
-  pub path-at : {i x : ℕ} → Path s out val (hats s) i x → (x ≡ at (b + i)) × (b + i ≤ n)
+  pub path-at : {i x : ℕ} → Path s out val (hats ℓ s) i x → (x ≡ at (b + i)) × (b + i ≤ n)
   path-at (at-hat e ne) =
       let z : b + 0 ≡ b = omega arith in
       let q = hat-at ne in
@@ -96,14 +96,14 @@ module _ {s o : Side} {m : View} {class : ℕ → Class} {F : Frame} (S : Struct
       (cc (S .links .links-out (b + i) l), omega arith)
 
   -- A node on the path with N leads on; the hat's node holds N unless the path ends at the hat.
-  pub path-leads : {i x : ℕ} → Path s out val (hats s) i x → val x ≡ N s → out x ≢ none
+  pub path-leads : {i x : ℕ} → Path s out val (hats ℓ s) i x → val x ≡ N s → out x ≢ none
   path-leads {i} {x} P v e =
       let w = path-at P in
       let q = w .0 in
       let l : b + i < n = N-before-n S (b + i) (w .1) (cc) in
       at-some S (suc (b + i)) l (cc (S .links .links-out (b + i) l))
 
-  pub path-value : {i x : ℕ} → Path s out val (hats s) i x → (val x ≡ N s) ⊎ (val x ≡ X s)
+  pub path-value : {i x : ℕ} → Path s out val (hats ℓ s) i x → (val x ≡ N s) ⊎ (val x ≡ X s)
   path-value {i} {x} P =
       let w = path-at P in
       let q = w .0 in
@@ -112,27 +112,27 @@ module _ {s o : Side} {m : View} {class : ℕ → Class} {F : Frame} (S : Struct
         | inr l ↦ let e : b + i ≡ n = omega (arith, w .1) in inr (cc (S .values .X-last))
       ]
 
-  pub inn-hat : inn (hats s) ≡ at j
+  pub inn-hat : inn (hats ℓ s) ≡ at j
   inn-hat =
       elim (S .near-hat j j-next) [
         | inl e ↦ let q = j-next in cc (S .links .links-in j (omega (arith, j-next, S .b≤n)))
         | inr y ↦ y .leads-back
       ]
 
-  pub behind-some : inn (hats s) ≢ none
+  pub behind-some : inn (hats ℓ s) ≢ none
   behind-some e = at-some S j (omega (arith, j-next, S .b≤n)) (cc (inn-hat))
 
   -- The node that follows the one behind the hat: main's at the hat's index.
-  pub past-hat : out (inn (hats s)) ≡ at b
+  pub past-hat : out (inn (hats ℓ s)) ≡ at b
   past-hat = let q = j-next in cc (inn-hat, S .links .links-out j (omega (arith, j-next, S .b≤n)))
 
-  pub past-some : out (inn (hats s)) ≢ none
+  pub past-some : out (inn (hats ℓ s)) ≢ none
   past-some e = at-some S b (S .b≤n) (cc (past-hat))
 
-  pub past-off-Y : val (out (inn (hats s))) ≢ Y s
+  pub past-off-Y : val (out (inn (hats ℓ s))) ≢ Y s
   past-off-Y y = elim b-value [ inl v ↦ refute (cc (past-hat)) | inr v ↦ refute (cc (past-hat)) ]
 
-  pub behind-value : Popped o (val (inn (hats s)))
+  pub behind-value : Popped o (val (inn (hats ℓ s)))
   behind-value =
       let l : j < n = omega (arith, j-next, S .b≤n) in
       let e = inn-hat in

@@ -54,81 +54,81 @@ pub data Marking (extra : ℕ) (s : Side) (m : View) (B : ℕ) (v : Value) (n : 
 -- ---- Push and add.
 
 -- Line 2.
-pub data AtStart (S : ℕ) (s : Side) (m : View) (n : ℕ) : Type 0 where
-  start-N : m .val (m .hats s) ≡ N s → 3 ≤ n → AtStart S s m n
-  start-off-Y : m .val (m .hats s) ≢ Y s → 2 * S + 77 ≤ n → AtStart S s m n
-  start-anywhere : 2 * S + 86 ≤ n → AtStart S s m n
+pub data AtStart (S : ℕ) (ℓ : ℕ) (s : Side) (m : View) (n : ℕ) : Type 0 where
+  start-N : m .val (m .hats ℓ s) ≡ N s → 3 ≤ n → AtStart S ℓ s m n
+  start-off-Y : m .val (m .hats ℓ s) ≢ Y s → 2 * S + 77 ≤ n → AtStart S ℓ s m n
+  start-anywhere : 2 * S + 86 ≤ n → AtStart S ℓ s m n
 
 -- Lines 3 and 5, with A at the hat, whose node holds N, X or Y; or with a hat that has moved.
-pub data Pushing (s : Side) (m : View) (A a b c d n : ℕ) : Type 0 where
-  push-N : m .hats s ≡ A → m .val A ≡ N s → a ≤ n → Pushing s m A a b c d n
-  push-X : m .hats s ≡ A → m .val A ≡ X s → b ≤ n → Pushing s m A a b c d n
-  push-Y : m .hats s ≡ A → m .val A ≡ Y s → c ≤ n → Pushing s m A a b c d n
-  push-stale : d ≤ n → Pushing s m A a b c d n
+pub data Pushing (ℓ : ℕ) (s : Side) (m : View) (A a b c d n : ℕ) : Type 0 where
+  push-N : m .hats ℓ s ≡ A → m .val A ≡ N s → a ≤ n → Pushing ℓ s m A a b c d n
+  push-X : m .hats ℓ s ≡ A → m .val A ≡ X s → b ≤ n → Pushing ℓ s m A a b c d n
+  push-Y : m .hats ℓ s ≡ A → m .val A ≡ Y s → c ≤ n → Pushing ℓ s m A a b c d n
+  push-stale : d ≤ n → Pushing ℓ s m A a b c d n
 
 -- Line 8.
-pub data Choosing (S : ℕ) (s : Side) (m : View) (A n : ℕ) : Type 0 where
-  choose-X : m .hats s ≡ A → m .val A ≡ X s → 2 * S + 74 ≤ n → Choosing S s m A n
-  choose-Y : m .val A ≡ Y s → 2 * S + 83 ≤ n → Choosing S s m A n
-  choose-stale : 2 * S + 151 ≤ n → Choosing S s m A n
+pub data Choosing (S : ℕ) (ℓ : ℕ) (s : Side) (m : View) (A n : ℕ) : Type 0 where
+  choose-X : m .hats ℓ s ≡ A → m .val A ≡ X s → 2 * S + 74 ≤ n → Choosing S ℓ s m A n
+  choose-Y : m .val A ≡ Y s → 2 * S + 83 ≤ n → Choosing S ℓ s m A n
+  choose-stale : 2 * S + 151 ≤ n → Choosing S ℓ s m A n
 
 -- A is on the path from the hat to the end of main; after i links of at most S.
-abbrev pub OnPath : (s : Side) → View → (i A : ℕ) → Type 0
-OnPath s m i A = Path s (m .out) (m .val) (m .hats s) i A
+abbrev pub OnPath : (ℓ : ℕ) → (s : Side) → View → (i A : ℕ) → Type 0
+OnPath ℓ s m i A = Path s (m .out) (m .val) (m .hats ℓ s) i A
 
 -- Line 17: A is on the way from the hat to the end of main, and then the push is near its end; or it comes from a hat
 -- on Y; or the walk may end anywhere.
-pub data Seeking (S : ℕ) (s : Side) (m : View) (A n : ℕ) : Type 0 where
-  seek-sure : {i : ℕ} → OnPath s m i A → 2 * S + 6 ≤ n + 2 * i → Seeking S s m A n
-  seek-Y : m .val A ≡ Y s → 2 * S + 83 ≤ n → Seeking S s m A n
-  seek-stale : {j : ℕ} → EndsWithin (m .out) j A → 2 * j + (2 * S + 90) ≤ n → Seeking S s m A n
+pub data Seeking (S : ℕ) (ℓ : ℕ) (s : Side) (m : View) (A n : ℕ) : Type 0 where
+  seek-sure : {i : ℕ} → OnPath ℓ s m i A → 2 * S + 6 ≤ n + 2 * i → Seeking S ℓ s m A n
+  seek-Y : m .val A ≡ Y s → 2 * S + 83 ≤ n → Seeking S ℓ s m A n
+  seek-stale : {j : ℕ} → EndsWithin (m .out) j A → 2 * j + (2 * S + 90) ≤ n → Seeking S ℓ s m A n
 
 -- Line 18.
-pub data Stepping (S : ℕ) (s : Side) (m : View) (A n : ℕ) : Type 0 where
-  step-sure : {i : ℕ} → OnPath s m i A → m .val A ≡ N s → 2 * S + 5 ≤ n + 2 * i → Stepping S s m A n
-  step-stale : {j : ℕ} → EndsWithin (m .out) j A → 2 * j + (2 * S + 89) ≤ n → Stepping S s m A n
+pub data Stepping (S : ℕ) (ℓ : ℕ) (s : Side) (m : View) (A n : ℕ) : Type 0 where
+  step-sure : {i : ℕ} → OnPath ℓ s m i A → m .val A ≡ N s → 2 * S + 5 ≤ n + 2 * i → Stepping S ℓ s m A n
+  step-stale : {j : ℕ} → EndsWithin (m .out) j A → 2 * j + (2 * S + 89) ≤ n → Stepping S ℓ s m A n
 
 -- Lines 24 and 25: A is the end of main.
-pub record AtEnd (s : Side) (m : View) (A : ℕ) : Type 0 where
+pub record AtEnd (ℓ : ℕ) (s : Side) (m : View) (A : ℕ) : Type 0 where
   pub links : ℕ
-  pub path : OnPath s m links A
+  pub path : OnPath ℓ s m links A
   pub is-X : m .val A ≡ X s
 
 -- Line 31.
-pub record Growing (S g : ℕ) (s : Side) (m : View) (counted n : ℕ) : Type 0 where
+pub record Growing (S g : ℕ) (ℓ : ℕ) (s : Side) (m : View) (counted n : ℕ) : Type 0 where
   pub below : counted < g
-  pub when : SoonOrLate (m .val (m .hats s) ≢ Y s) ((g - counted) + (2 * S + 8)) ((g - counted) + (2 * S + 85)) n
+  pub when : SoonOrLate (m .val (m .hats ℓ s) ≢ Y s) ((g - counted) + (2 * S + 8)) ((g - counted) + (2 * S + 85)) n
 
 abbrev pub Left : (extra : ℕ) → Step → (S g : ℕ) (s : Side) → View → Task → (n : ℕ) → Type 0
 Left extra rest S g s m t n = ⊥
 -- Push.
-Left extra Steps.line2 S g s m t n = AtStart S s m n
-Left extra Steps.line3 S g s m t n = Pushing s m (t .A) 2 (2 * S + 76) (2 * S + 85) (2 * S + 153) n
-Left extra Steps.line5 S g s m t n = Pushing s m (t .A) 1 (2 * S + 75) (2 * S + 84) (2 * S + 152) n
-Left extra Steps.line8 S g s m t n = Choosing S s m (t .A) n
+Left extra Steps.line2 S g s m t n = AtStart S (t .lane) s m n
+Left extra Steps.line3 S g s m t n = Pushing (t .lane) s m (t .A) 2 (2 * S + 76) (2 * S + 85) (2 * S + 153) n
+Left extra Steps.line5 S g s m t n = Pushing (t .lane) s m (t .A) 1 (2 * S + 75) (2 * S + 84) (2 * S + 152) n
+Left extra Steps.line8 S g s m t n = Choosing S (t .lane) s m (t .A) n
 -- Moving the hat off a Y.
 Left extra Steps.line67 S g s m t n = 2 * S + 82 ≤ n
-Left extra Steps.line68 S g s m t n = SoonOrLate (m .hats s ≡ t .A) (2 * S + 81) (2 * S + 90) n
-Left extra Steps.line69 S g s m t n = SoonOrLate (m .hats s ≡ t .A) (2 * S + 80) (2 * S + 89) n
+Left extra Steps.line68 S g s m t n = SoonOrLate (m .hats (t .lane) s ≡ t .A) (2 * S + 81) (2 * S + 90) n
+Left extra Steps.line69 S g s m t n = SoonOrLate (m .hats (t .lane) s ≡ t .A) (2 * S + 80) (2 * S + 89) n
 Left extra Steps.line70 S g s m t n =
-    SoonOrLate ((m .hats s ≡ t .A) × (t .B ≡ m .inn (t .A))) (2 * S + 79) (2 * S + 88) n
+    SoonOrLate ((m .hats (t .lane) s ≡ t .A) × (t .B ≡ m .inn (t .A))) (2 * S + 79) (2 * S + 88) n
 Left extra Steps.line72 S g s m t n =
-    SoonOrLate ((m .hats s ≡ t .A) × (m .val (t .C) ≢ Y s)) (2 * S + 78) (2 * S + 87) n
+    SoonOrLate ((m .hats (t .lane) s ≡ t .A) × (m .val (t .C) ≢ Y s)) (2 * S + 78) (2 * S + 87) n
 -- Add.
-Left extra Steps.line28 S g s m t n = SoonOrLate (m .val (m .hats s) ≡ X s) (2 * S + 73) (2 * S + 150) n
-Left extra Steps.line31 S g s m t n = Growing S g s m (t .counted) n
-Left extra Steps.line15 S g s m t n = SoonOrLate (m .val (m .hats s) ≢ Y s) (2 * S + 7) (2 * S + 84) n
-Left extra Steps.line17 S g s m t n = Seeking S s m (t .A) n
-Left extra Steps.line18 S g s m t n = Stepping S s m (t .A) n
-Left extra Steps.line24 S g s m t n = SoonOrLate (AtEnd s m (t .A)) 5 (2 * S + 88) n
+Left extra Steps.line28 S g s m t n = SoonOrLate (m .val (m .hats (t .lane) s) ≡ X s) (2 * S + 73) (2 * S + 150) n
+Left extra Steps.line31 S g s m t n = Growing S g (t .lane) s m (t .counted) n
+Left extra Steps.line15 S g s m t n = SoonOrLate (m .val (m .hats (t .lane) s) ≢ Y s) (2 * S + 7) (2 * S + 84) n
+Left extra Steps.line17 S g s m t n = Seeking S (t .lane) s m (t .A) n
+Left extra Steps.line18 S g s m t n = Stepping S (t .lane) s m (t .A) n
+Left extra Steps.line24 S g s m t n = SoonOrLate (AtEnd (t .lane) s m (t .A)) 5 (2 * S + 88) n
 Left extra Steps.line25 S g s m t n =
-    SoonOrLate (AtEnd s m (t .A) × (m .out (t .A) ≡ t .B)) 4 (2 * S + 87) n
+    SoonOrLate (AtEnd (t .lane) s m (t .A) × (m .out (t .A) ≡ t .B)) 4 (2 * S + 87) n
 -- Pop.
 Left extra Steps.line39 S g s m t n = 4 ≤ n
-Left extra Steps.line40 S g s m t n = SoonOrLate (m .hats s ≡ t .A) 3 7 n
-Left extra Steps.line42 S g s m t n = SoonOrLate ((m .hats s ≡ t .A) × (t .B ≡ m .inn (t .A))) 2 6 n
-Left extra Steps.line48 S g s m t n = SoonOrLate ((m .hats s ≡ t .A) × (m .val (t .B) ≡ t .value)) 1 5 n
-Left extra Steps.line51 S g s m t n = SoonOrLate ((m .hats s ≡ t .A) × (m .val (t .B) ≡ t .value)) 1 5 n
+Left extra Steps.line40 S g s m t n = SoonOrLate (m .hats (t .lane) s ≡ t .A) 3 7 n
+Left extra Steps.line42 S g s m t n = SoonOrLate ((m .hats (t .lane) s ≡ t .A) × (t .B ≡ m .inn (t .A))) 2 6 n
+Left extra Steps.line48 S g s m t n = SoonOrLate ((m .hats (t .lane) s ≡ t .A) × (m .val (t .B) ≡ t .value)) 1 5 n
+Left extra Steps.line51 S g s m t n = SoonOrLate ((m .hats (t .lane) s ≡ t .A) × (m .val (t .B) ≡ t .value)) 1 5 n
 -- Remove.
 Left extra Steps.line54 S g s m t n = walkTicks extra S + 4 ≤ n
 Left extra Steps.line56 S g s m t n = Walking extra (m .out) (t .A) 3 n
@@ -144,6 +144,6 @@ Left extra Steps.line81 S g s m t n = Walking extra (m .out) (t .A) 2 n
 Left extra Steps.line82 S g s m t n = 1 ≤ n
 
 -- A tick with effect e, of a task that has n ticks left: it answers, or leaves one tick less.
-pub record Spends (extra S g : ℕ) (s : Side) (m : View) (n : ℕ) (e : Effect) : Type 0 where
+pub record Spends (extra S g ℓ : ℕ) (s : Side) (m : View) (n : ℕ) (e : Effect) : Type 0 where
   pub spends : e .answer ≡ Going
-      → (1 ≤ n) × Left extra (e .task .step) S g s (written s (e .writes) m) (e .task) (n - 1)
+      → (1 ≤ n) × Left extra (e .task .step) S g s (written ℓ s (e .writes) m) (e .task) (n - 1)

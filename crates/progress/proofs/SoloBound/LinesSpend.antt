@@ -58,38 +58,38 @@ use Rattle.progress.proofs.SoloBound.AddSpends.{
 }
 
 module _ (k extra S g : ℕ) {s o : Side} {m : View} {class : ℕ → Class} {r : List ℕ}
-    (L : Lane s o m class r) (size : L .frame .n ≤ S) (short : (x : ℕ) → EndsWithin (m .out) S x) (t : Task) (f n : ℕ)
-    (few : (t .operation ≡ push) ⊎ (t .operation ≡ add) → g ≤ 64) where
+    (t : Task) (L : Lane (t .lane) s o m class r) (size : L .frame .n ≤ S) (short : (x : ℕ) → EndsWithin (m .out) S x)
+    (f n : ℕ) (few : (t .operation ≡ push) ⊎ (t .operation ≡ add) → g ≤ 64) where
   pub line-spends : (st : Step) → TaskOk k s o m class st t → Left extra st S g s m t n
-      → Spends extra S g s m n (act st s o (seenIn s m) t g f)
+      → Spends extra S g (t .lane) s m n (act st s o (seenIn (t .lane) s m) t g f)
   line-spends rest h b = absurd b
-  line-spends Steps.line2 h b = line2-spends extra S g L t f n b
-  line-spends Steps.line3 h b = line3-spends extra S g L t f n b
-  line-spends Steps.line5 h b = line5-spends extra S g L t f n b
-  line-spends Steps.line8 h b = line8-spends extra S g L t f n b
-  line-spends Steps.line15 h b = line15-spends extra S g (few (h .belongs)) L size t f n b
-  line-spends Steps.line17 h b = line17-spends extra S g (few (h .belongs)) L size t f n b
-  line-spends Steps.line18 h b = line18-spends extra S g (few (h .belongs)) L size t f n b
-  line-spends Steps.line24 h b = line24-spends extra S g (few (h .belongs)) L size t f n b
-  line-spends Steps.line25 h b = line25-spends extra S g (few (h .belongs)) L size t f n b
-  line-spends Steps.line28 h b = line28-spends extra S g (few (h .belongs)) L size t f n b
-  line-spends Steps.line31 h b = line31-spends extra S g (few (h .belongs)) L size t f n b
-  line-spends Steps.line39 h b = line39-spends extra S g L t f n b
-  line-spends Steps.line40 h b = line40-spends extra S g L t f n b
-  line-spends Steps.line42 h b = line42-spends extra S g L t f n b
-  line-spends Steps.line48 h b = line48-spends extra S g L t f n b
-  line-spends Steps.line51 h b = line51-spends extra S g L t f n b
+  line-spends Steps.line2 h b = line2-spends extra S g t L f n b
+  line-spends Steps.line3 h b = line3-spends extra S g t L f n b
+  line-spends Steps.line5 h b = line5-spends extra S g t L f n b
+  line-spends Steps.line8 h b = line8-spends extra S g t L f n b
+  line-spends Steps.line15 h b = line15-spends extra S g (few (h .belongs)) t L size f n b
+  line-spends Steps.line17 h b = line17-spends extra S g (few (h .belongs)) t L size f n b
+  line-spends Steps.line18 h b = line18-spends extra S g (few (h .belongs)) t L size f n b
+  line-spends Steps.line24 h b = line24-spends extra S g (few (h .belongs)) t L size f n b
+  line-spends Steps.line25 h b = line25-spends extra S g (few (h .belongs)) t L size f n b
+  line-spends Steps.line28 h b = line28-spends extra S g (few (h .belongs)) t L size f n b
+  line-spends Steps.line31 h b = line31-spends extra S g (few (h .belongs)) t L size f n b
+  line-spends Steps.line39 h b = line39-spends extra S g t L f n b
+  line-spends Steps.line40 h b = line40-spends extra S g t L f n b
+  line-spends Steps.line42 h b = line42-spends extra S g t L f n b
+  line-spends Steps.line48 h b = line48-spends extra S g t L f n b
+  line-spends Steps.line51 h b = line51-spends extra S g t L f n b
   line-spends Steps.line54 h b = line54-spends extra S g s o m t f n short b
   line-spends Steps.line56 h b = line56-spends extra S g s o m t f n short b
   line-spends Steps.line58 h b = line58-spends extra S g s o m t f n short b
   line-spends Steps.line60 h b = line60-spends extra S g s o m t f n short b
   line-spends Steps.line62 h b = line62-spends extra S g s o m t f n short b
   line-spends Steps.line64 h b = line64-spends extra S g s o m t f n short b
-  line-spends Steps.line67 h b = line67-spends extra S g L t f n b
-  line-spends Steps.line68 h b = line68-spends extra S g L t f n b
-  line-spends Steps.line69 h b = line69-spends extra S g L t f n b
-  line-spends Steps.line70 h b = line70-spends extra S g L t f n b
-  line-spends Steps.line72 h b = line72-spends extra S g L t f n b
+  line-spends Steps.line67 h b = line67-spends extra S g t L f n b
+  line-spends Steps.line68 h b = line68-spends extra S g t L f n b
+  line-spends Steps.line69 h b = line69-spends extra S g t L f n b
+  line-spends Steps.line70 h b = line70-spends extra S g t L f n b
+  line-spends Steps.line72 h b = line72-spends extra S g t L f n b
   line-spends Steps.line74 h b = line74-spends extra S g s o m t f n short b
   line-spends Steps.line77 h b = line77-spends extra S g s o m t f n short b
   line-spends Steps.line78 h b = line78-spends extra S g s o m t f n short b

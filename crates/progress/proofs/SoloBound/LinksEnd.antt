@@ -38,8 +38,8 @@ abbrev pub LinksEnd : View → Type 0
 LinksEnd m = WalksEnd (m .out) × WalksEnd (m .inn)
 
 -- They end after an effect.
-pub record EndsAfter (s : Side) (m : View) (e : Effect) : Type 0 where
-  pub links-end : LinksEnd (written s (e .writes) m)
+pub record EndsAfter (ℓ : ℕ) (s : Side) (m : View) (e : Effect) : Type 0 where
+  pub links-end : LinksEnd (written ℓ s (e .writes) m)
 
 -- A chain leads outward to itself or to none.
 chain-out : {k : ℕ} {s : Side} {out inn : ℕ → ℕ} {val : ℕ → Value} {class : ℕ → Class} {d : ℕ}
@@ -59,14 +59,14 @@ chain-out H x c ne =
     ]
 
 -- Of the structure it is only used that inward links of old nodes lead to old nodes.
-module _ (held : ℕ → Bool) (k : ℕ) (s o : Side) (m : View) (class : ℕ → Class)
+module _ (L : ℕ) (held : ℕ → Bool) (k : ℕ) (s o : Side) (m : View) (class : ℕ → Class)
     (inn-closed : (x : ℕ) → Old class x → m .inn x ≢ none → Old class (m .inn x))
     (E : LinksEnd m) (t : Task) (g f : ℕ) where
   abbrev Ok : Effect → Type 0
-  Ok e = EndsAfter s m e
+  Ok e = EndsAfter (t .lane) s m e
 
   abbrev LineOk : Step → Type 0
-  LineOk st = TaskOk k s o m class st t → Ok (act st s o (seenIn s m) t g f)
+  LineOk st = TaskOk k s o m class st t → Ok (act st s o (seenIn (t .lane) s m) t g f)
 
   -- The links are as they were.
   quiet : {t' : Task} {a : Answer} → Ok (record { writes = []; task = t'; answer = a })
@@ -130,7 +130,7 @@ module _ (held : ℕ → Bool) (k : ℕ) (s o : Side) (m : View) (class : ℕ �
             (walks-cut (update-wrote (m .out) f none) (E .0), walks-cut (update-wrote (m .inn) f none) (E .1));
       })
 
-  line31-ends : (f ≢ none → TakeOk held m class f) → LineOk Steps.line31
+  line31-ends : (f ≢ none → TakeOk L held m class f) → LineOk Steps.line31
   unfolding act
   line31-ends free-f h =
       ok-through Ok (λ _. quiet) (λ _.
@@ -226,7 +226,7 @@ module _ (held : ℕ → Bool) (k : ℕ) (s o : Side) (m : View) (class : ℕ �
       ok-through Ok (λ _. quiet) (λ _.
       ok-if Ok (λ e. e) (_ ≟ _) (λ _. quiet) (λ _. quiet))
 
-  pub links-end-after : (f ≢ none → TakeOk held m class f) → (st : Step) → LineOk st
+  pub links-end-after : (f ≢ none → TakeOk L held m class f) → (st : Step) → LineOk st
   unfolding act
   links-end-after free-f rest h = quiet
   links-end-after free-f Steps.line2 h = quiet

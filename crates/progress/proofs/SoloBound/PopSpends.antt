@@ -19,16 +19,16 @@ use Rattle.progress.proofs.SoloBound.Budget.{soon, late, Left, Spends}
 use Rattle.progress.proofs.SoloBound.Spending.{goes, answered, passing, swapping}
 
 module _ (extra S g : ℕ) {s o : Side} {m : View} {class : ℕ → Class} {r : List ℕ}
-    (L : Lane s o m class r) (t : Task) (f n : ℕ) where
+    (t : Task) (L : Lane (t .lane) s o m class r) (f n : ℕ) where
   abbrev Ok : Effect → Type 0
-  Ok e = Spends extra S g s m n e
+  Ok e = Spends extra S g (t .lane) s m n e
 
   abbrev LineOk : Step → Type 0
-  LineOk st = Left extra st S g s m t n → Ok (act st s o (seenIn s m) t g f)
+  LineOk st = Left extra st S g s m t n → Ok (act st s o (seenIn (t .lane) s m) t g f)
 
   pub line39-spends : LineOk line39
   unfolding act
-  line39-spends h = goes (goto (withA t (m .hats s)) line40) (omega arith) (soon refl (omega arith))
+  line39-spends h = goes (goto (withA t (m .hats (t .lane) s)) line40) (omega arith) (soon refl (omega arith))
 
   pub line40-spends : LineOk line40
   unfolding act

@@ -26,7 +26,7 @@ use Rattle.machine.specs.Steps.{
 use Rattle.machine.specs.Tasks.{Task, none, goto, withA, withB, withC}
 use Rattle.machine.specs.Lines.{Write, Effect, next, writing, backOf, back, act}
 use Rattle.machine.proofs.Basics.Contradiction.{clash, refute}
-use Rattle.machine.proofs.Basics.Updates.{updateSide-same}
+use Rattle.machine.proofs.Basics.Updates.{updateHat-same}
 use Rattle.machine.proofs.Words.Memories.{View, seenIn, written}
 use Rattle.machine.proofs.Linearizability.Model.Classes.{Class}
 use Rattle.machine.proofs.Linearizability.Model.Invariant.{Lane}
@@ -60,9 +60,9 @@ use Rattle.progress.proofs.SoloBound.Spending.{goes, answered, passing,
 
 -- Back, to 2 or to 15, with a hat off Y, and with any.
 module _ {extra S g : ℕ} {s : Side} {m : View} {n : ℕ} {l : List Write} (t : Task) where
-  back-off-Y : 2 * S + 78 ≤ n → written s l m .val (written s l m .hats s) ≢ Y s
+  back-off-Y : 2 * S + 78 ≤ n → written (t .lane) s l m .val (written (t .lane) s l m .hats (t .lane) s) ≢ Y s
       → (op : Operation) {x : ℕ} (d : Dec (x ≡ none))
-      → Spends extra S g s m n (record { writes = l; task = goto t (backOf op d); answer = Going })
+      → Spends extra S g (t .lane) s m n (record { writes = l; task = goto t (backOf op d); answer = Going })
   back-off-Y h ne push (yes e) = goes (goto t line2) (omega arith) (start-off-Y ne (omega arith))
   back-off-Y h ne push (no e) = goes (goto t line15) (omega arith) (soon ne (omega arith))
   back-off-Y h ne idle d = goes (goto t line15) (omega arith) (soon ne (omega arith))
@@ -71,7 +71,7 @@ module _ {extra S g : ℕ} {s : Side} {m : View} {n : ℕ} {l : List Write} (t :
   back-off-Y h ne remove d = goes (goto t line15) (omega arith) (soon ne (omega arith))
 
   back-anywhere : 2 * S + 87 ≤ n → (op : Operation) {x : ℕ} (d : Dec (x ≡ none))
-      → Spends extra S g s m n (record { writes = l; task = goto t (backOf op d); answer = Going })
+      → Spends extra S g (t .lane) s m n (record { writes = l; task = goto t (backOf op d); answer = Going })
   back-anywhere h push (yes e) = goes (goto t line2) (omega arith) (start-anywhere (omega arith))
   back-anywhere h push (no e) = goes (goto t line15) (omega arith) (late (omega arith))
   back-anywhere h idle d = goes (goto t line15) (omega arith) (late (omega arith))
@@ -80,25 +80,26 @@ module _ {extra S g : ℕ} {s : Side} {m : View} {n : ℕ} {l : List Write} (t :
   back-anywhere h remove d = goes (goto t line15) (omega arith) (late (omega arith))
 
 module _ (extra S g : ℕ) {s o : Side} {m : View} {class : ℕ → Class} {r : List ℕ}
-    (L : Lane s o m class r) (t : Task) (f n : ℕ) where
+    (t : Task) (L : Lane (t .lane) s o m class r) (f n : ℕ) where
   abbrev Ok : Effect → Type 0
-  Ok e = Spends extra S g s m n e
+  Ok e = Spends extra S g (t .lane) s m n e
 
   abbrev LineOk : Step → Type 0
-  LineOk st = Left extra st S g s m t n → Ok (act st s o (seenIn s m) t g f)
+  LineOk st = Left extra st S g s m t n → Ok (act st s o (seenIn (t .lane) s m) t g f)
 
   pub line2-spends : LineOk line2
   unfolding act
-  line2-spends (start-N v h) = goes (goto (withA t (m .hats s)) line3) (omega arith) (push-N refl v (omega arith))
+  line2-spends (start-N v h) =
+      goes (goto (withA t (m .hats (t .lane) s)) line3) (omega arith) (push-N refl v (omega arith))
   line2-spends (start-off-Y ne h) =
-      goes (goto (withA t (m .hats s)) line3) (omega arith)
+      goes (goto (withA t (m .hats (t .lane) s)) line3) (omega arith)
       (elim (hat-value (L .structure)) [
         | hat-N v ↦ push-N refl v (omega arith)
         | hat-X v ↦ push-X refl v (omega arith)
         | hat-Y v ↦ absurd (ne v)
       ])
   line2-spends (start-anywhere h) =
-      goes (goto (withA t (m .hats s)) line3) (omega arith)
+      goes (goto (withA t (m .hats (t .lane) s)) line3) (omega arith)
       (elim (hat-value (L .structure)) [
         | hat-N v ↦ push-N refl v (omega arith)
         | hat-X v ↦ push-X refl v (omega arith)
@@ -168,7 +169,7 @@ module _ (extra S g : ℕ) {s o : Side} {m : View} {class : ℕ → Class} {r : 
   -- ---- Moving the hat.
   pub line67-spends : LineOk line67
   unfolding act
-  line67-spends h = goes (goto (withA t (m .hats s)) line68) (omega arith) (soon refl (omega arith))
+  line67-spends h = goes (goto (withA t (m .hats (t .lane) s)) line68) (omega arith) (soon refl (omega arith))
 
   pub line68-spends : LineOk line68
   unfolding act
@@ -211,7 +212,8 @@ module _ (extra S g : ℕ) {s o : Side} {m : View} {class : ℕ → Class} {r : 
   line72-spends (soon e h) =
       passing t (λ _.
       ok-if Ok (λ l. writing l (next t (back t))) (_ ≟ _)
-      (λ _. back-off-Y t (omega arith) (rw (updateSide-same (m .hats) s (t .C)) (e .1)) (t .operation) (t .D ≟ none))
+      (λ _. back-off-Y t (omega arith) (rw (updateHat-same (m .hats) (t .lane) s (t .C)) (e .1))
+      (t .operation) (t .D ≟ none))
       (λ ne. absurd (ne (cc))))
   line72-spends (late h) =
       passing t (λ _.

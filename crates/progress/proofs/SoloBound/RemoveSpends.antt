@@ -63,20 +63,20 @@ module _ {extra : ℕ} {out : ℕ → ℕ} {x c n : ℕ} (w : Walking extra out 
 module _ (extra S g : ℕ) (s o : Side) (m : View) (t : Task) (f n : ℕ)
     (short : (x : ℕ) → EndsWithin (m .out) S x) where
   abbrev Ok : Effect → Type 0
-  Ok e = Spends extra S g s m n e
+  Ok e = Spends extra S g (t .lane) s m n e
 
   abbrev LineOk : Step → Type 0
-  LineOk st = Left extra st S g s m t n → Ok (act st s o (seenIn s m) t g f)
+  LineOk st = Left extra st S g s m t n → Ok (act st s o (seenIn (t .lane) s m) t g f)
 
   pub line54-spends : LineOk line54
   unfolding act
   line54-spends h =
-      ok-if Ok (λ st. next (withA t (m .hats s)) st) (_ ≟ _)
-      (λ _. goes (goto (withA t (m .hats s)) line60) (omega arith) (from-hat (omega arith)))
-      (λ _. goes (goto (withA t (m .hats s)) line56) (omega arith) (from-hat (omega arith)))
+      ok-if Ok (λ st. next (withA t (m .hats (t .lane) s)) st) (_ ≟ _)
+      (λ _. goes (goto (withA t (m .hats (t .lane) s)) line60) (omega arith) (from-hat (omega arith)))
+      (λ _. goes (goto (withA t (m .hats (t .lane) s)) line56) (omega arith) (from-hat (omega arith)))
     where
-      from-hat : {c k : ℕ} → walkTicks extra S + c ≤ k → Walking extra (m .out) (m .hats s) c k
-      from-hat l = record { links = S; ends = short (m .hats s); within = l }
+      from-hat : {c k : ℕ} → walkTicks extra S + c ≤ k → Walking extra (m .out) (m .hats (t .lane) s) c k
+      from-hat l = record { links = S; ends = short (m .hats (t .lane) s); within = l }
 
   pub line56-spends : LineOk line56
   unfolding act

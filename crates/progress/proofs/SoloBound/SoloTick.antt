@@ -13,7 +13,7 @@ use Rattle.machine.specs.Sides.{Side, left, right, opposite}
 use Rattle.machine.specs.Operations.{idle, push, add, goalOf}
 use Rattle.machine.specs.Steps.{line31, isStepIn}
 use Rattle.machine.specs.Tasks.{Task, none, goal}
-use Rattle.machine.specs.Table.{nodeCount, growth, link, task}
+use Rattle.machine.specs.Table.{nodeCount, growth, laneCount, link, task}
 use Rattle.machine.specs.Allocate.{allocate}
 use Rattle.machine.specs.Lines.{Memory, Effect, act}
 use Rattle.machine.specs.Calls.{isBusy, tickRefusal, effectOf, tickOn}
@@ -62,14 +62,21 @@ module _ (extra : ℕ) {ws : List ℕ} (begun : Begun ws) (k : ℕ) where
   sizes = well-sized ws (A .accepted .length-passes)
 
   shape : WellShaped (columns ws)
-  shape = well-shaped ws (A .accepted .shape-passes)
+  shape = well-shaped ws (A .accepted .length-passes) (A .accepted .shape-passes)
 
-  lane : Lane s (opposite s) m (A .class) (rowFrom s (begun-agrees begun .0 .bags))
-  lane = lane-view s (A .invariant .lane)
+  abbrev ℓ : ℕ
+  ℓ = task ws k .lane
+
+  -- The task's own lane.
+  own : Lane ℓ right left (viewed right ws) (A .class) (begun-agrees begun .0 .bags ℓ)
+  own = A .invariant .lanes .lane ℓ (A .invariant .own-lane k)
+
+  lane : Lane ℓ s (opposite s) m (A .class) (rowFrom s (begun-agrees begun .0 .bags ℓ))
+  lane = lane-view s own
 
   -- Main has at most S nodes.
   few-in-main : lane .frame .n ≤ nodeCount ws
-  few-in-main = omega (arith, main-size lane (nodeCount ws) (main-is-node ws (A .invariant .lane)))
+  few-in-main = omega (arith, main-size lane (nodeCount ws) (main-is-node ws own))
 
   -- Walks have at most S links.
   links-below : (z : Side) → LinksBelow (nodeCount ws) (link ws z)
@@ -91,13 +98,14 @@ module _ (extra : ℕ) {ws : List ℕ} (begun : Begun ws) (k : ℕ) where
     not-idle : task ws k .operation ≢ idle
     not-idle e = refute (cc)
 
-    facts : BusyAt (nodeCount ws) (growth ws) (task ws k .step) (task ws k)
+    facts : BusyAt (nodeCount ws) (growth ws) (laneCount ws) (task ws k .step) (task ws k)
     facts = busy-facts ws shape k busy
 
     few : (task ws k .operation ≡ push) ⊎ (task ws k .operation ≡ add) → goal (growth ws) (task ws k) ≤ 64
     few (inl e) = rw e (sizes .most-growth)
     few (inr e) =
-        rw e (leb-true (task ws k .argument) 64 (rw (number-stored (task ws k .argument)) at (rw e at (facts .argument-ok))))
+        rw e (leb-true (task ws k .argument) 64
+        (rw (number-stored (task ws k .argument)) at (rw e at (facts .argument-ok))))
 
     counted-below : task ws k .step ≡ line31 → task ws k .counted < goal (growth ws) (task ws k)
     unfolding isStepIn
@@ -121,16 +129,16 @@ module _ (extra : ℕ) {ws : List ℕ} (begun : Begun ws) (k : ℕ) where
     abbrev after : List ℕ
     after = tickOn ws k h .words
 
-    spends : Spends extra (nodeCount ws) (goal (growth ws) (task ws k)) s m n (effectOf ws k h)
+    spends : Spends extra (nodeCount ws) (goal (growth ws) (task ws k)) ℓ s m n (effectOf ws k h)
     unfolding effectOf
     spends =
         let g = goal (growth ws) (task ws k) in
         let busy = tick-allowed ws k h passes .2 in
         subst
         (λ (y : Memory).
-        Spends extra (nodeCount ws) g s m n (act (task ws k .step) s (opposite s) y (task ws k) g (allocate ws h)))
-        (seen-viewed s ws)
-        (line-spends k extra (nodeCount ws) g lane few-in-main short (task ws k) (allocate ws h) n (few busy)
+        Spends extra (nodeCount ws) g ℓ s m n (act (task ws k .step) s (opposite s) y (task ws k) g (allocate ws h)))
+        (seen-viewed ℓ s ws)
+        (line-spends k extra (nodeCount ws) g (task ws k) lane few-in-main short (allocate ws h) n (few busy)
         (task ws k .step) (A .invariant .task-ok k) (B .left))
 
     -- What is left after a tick that goes on.
@@ -151,7 +159,7 @@ module _ (extra : ℕ) {ws : List ℕ} (begun : Begun ws) (k : ℕ) where
             left =
                 in-after A k h passes (λ S T gr M t. LeftWith extra S gr M t (n - 1)) k (own-after A k h passes)
                 (own-side A k h passes (LeftFor (goal (growth ws) (e .task))) same
-                (subst (λ (g : ℕ). LeftFor g s (written s (e .writes) m)) (sym same-goal) (spends .spends going .1)));
+                (subst (λ (g : ℕ). LeftFor g s (written ℓ s (e .writes) m)) (sym same-goal) (spends .spends going .1)));
           }
 
     pub continues : e .answer ≡ Going → Continues

@@ -21,25 +21,25 @@ no-node-answers pop e = refute (cc)
 no-node-answers add e = refute (cc)
 no-node-answers remove e = refute (cc)
 
-module _ {extra S g : ℕ} {s : Side} {m : View} {n : ℕ} where
-  pub goes : {l : List Write} (t : Task) → 1 ≤ n → Left extra (t .step) S g s (written s l m) t (n - 1)
-      → Spends extra S g s m n (record { writes = l; task = t; answer = Going })
+module _ {extra S g ℓ : ℕ} {s : Side} {m : View} {n : ℕ} where
+  pub goes : {l : List Write} (t : Task) → 1 ≤ n → Left extra (t .step) S g s (written ℓ s l m) t (n - 1)
+      → Spends extra S g ℓ s m n (record { writes = l; task = t; answer = Going })
   goes t h b = record { spends = λ _. (h, b) }
 
   pub answered : {l : List Write} {t : Task} {a : Answer} → a ≢ Going
-      → Spends extra S g s m n (record { writes = l; task = t; answer = a })
+      → Spends extra S g ℓ s m n (record { writes = l; task = t; answer = a })
   answered ne = record { spends = λ e. absurd (ne e) }
 
   -- A refusal is no "going".
-  pub passing : (t : Task) {x : ℕ} {e : Effect} → (x ≢ none → Spends extra S g s m n e)
-      → Spends extra S g s m n (through x t e)
-  passing t h = ok-through (Spends extra S g s m n) (λ _. answered (λ e. refute (cc))) h
+  pub passing : (t : Task) {x : ℕ} {e : Effect} → (x ≢ none → Spends extra S g ℓ s m n e)
+      → Spends extra S g ℓ s m n (through x t e)
+  passing t h = ok-through (Spends extra S g ℓ s m n) (λ _. answered (λ e. refute (cc))) h
 
   -- A swap that fails, with what that says.
   pub swapping : {P Q : Type 0} {done failed : Effect} (d : Dec P) (e : Dec Q)
-      → (P → Q → Spends extra S g s m n done)
-      → ((P → Q → ⊥) → Spends extra S g s m n failed)
-      → Spends extra S g s m n (dcas d e done failed)
+      → (P → Q → Spends extra S g ℓ s m n done)
+      → ((P → Q → ⊥) → Spends extra S g ℓ s m n failed)
+      → Spends extra S g ℓ s m n (dcas d e done failed)
   unfolding dcas
   swapping (yes p) (yes q) f h = f p q
   swapping (yes p) (no q) f h = h (λ _. q)

@@ -33,15 +33,19 @@ words-of-struct r h = listed-all recordLength 0 r (h ∙ omega arith)
 module _ (r : List ℕ) (long : length r ≡ recordLength) (t : Tasks.Task) where
   -- A record's words with the call of t, and with what else t says.
   abbrev called : List ℕ → List ℕ
-  called l = set (set (set (set l 0 (t .operation)) 2 (t .side)) 3 (t .argument .word)) 4 (t .argument .digit)
+  called l =
+      set (set (set (set (set l 0 (t .operation)) 2 (t .side)) 3 (t .argument .word))
+      4 (t .argument .digit)) 12 (t .lane)
 
   abbrev furthered : List ℕ → List ℕ
   furthered l =
       set (set (set (set (set (set (set (set l 1 (t .step)) 5 (t .counted)) 6 (t .value .word)) 7 (t .value .digit))
-      8 (getD (t .registers) 0 0)) 9 (getD (t .registers) 1 0)) 10 (getD (t .registers) 2 0)) 11 (getD (t .registers) 3 0)
+      8 (getD (t .registers) 0 0)) 9 (getD (t .registers) 1 0))
+      10 (getD (t .registers) 2 0)) 11 (getD (t .registers) 3 0)
 
   pub call-written : SameCall (structOf (called r)) t
-  call-written = subst (λ (l : List ℕ). SameCall (structOf (called l)) t) (words-of-struct r long) (refl, refl, refl)
+  call-written =
+      subst (λ (l : List ℕ). SameCall (structOf (called l)) t) (words-of-struct r long) (refl, refl, refl, refl)
 
   pub further-written : SameCall (structOf r) t → furthered r ≡ recordOf t
   further-written same =
@@ -56,6 +60,7 @@ module _ (r : List ℕ) (long : length r ≡ recordLength) (t : Tasks.Task) wher
         counted = t .counted;
         value = t .value;
         registers = t .registers;
+        lane = same .3 i;
       }))
 
 -- ---- A fresh record.
@@ -75,6 +80,7 @@ isFresh t =
     && eqb (getD (t .registers) 1 0) none
     && eqb (getD (t .registers) 2 0) none
     && eqb (getD (t .registers) 3 0) none
+    && eqb (t .lane) 0
 
 pub fresh-words : (t : Tasks.Task) → isFresh t ≡ sameWords (recordOf t) (wordsOf fresh)
 unfolding sameWords

@@ -3,6 +3,7 @@ use mathlib.Core.Path.{_≡_, ap, _∙_}
 use mathlib.Core.Bool.{Bool, true, false, _&&_, and-assoc, and-true, and-false}
 use mathlib.Core.List.{List}
 use Prim.Native.Nat.{ℕ, _≤_, _<_}
+use lib.Dec.{ltb}
 use lib.ListN.{getD}
 use borrow.Author.Tests.{le-leb, lt-leb}
 use Rattle.machine.specs.declared.Stored.{Stored}
@@ -16,20 +17,20 @@ use Rattle.record.specs.declared.Task as Tasks
 use Rattle.record.specs.Coded.{recordOf}
 
 -- ---- The value read at step 48: N or X of the opposite side.
-module _ (side far : ℕ) (is-far : far ≡ sideNumber (opposite (sideOf side))) (u n : Stored) (is-n : n ≡ encode (N (sideOf far)))
-  where
-    mark-of-far : (m : Side → Value) → encode (m (sideOf far)) ≡ encode (m (opposite (sideOf side)))
-    mark-of-far m = ap (λ (k : ℕ). encode (m (sideOf k))) is-far ∙ ap (λ (s : Side). encode (m s)) (side-of-number _)
+module _ (side far : ℕ) (is-far : far ≡ sideNumber (opposite (sideOf side)))
+    (u n : Stored) (is-n : n ≡ encode (N (sideOf far))) where
+  mark-of-far : (m : Side → Value) → encode (m (sideOf far)) ≡ encode (m (opposite (sideOf side)))
+  mark-of-far m = ap (λ (k : ℕ). encode (m (sideOf k))) is-far ∙ ap (λ (s : Side). encode (m s)) (side-of-number _)
 
-    pub read-n : sameStored u n ≡ true → true ≡ valueReadOk (sideOf side) 48 u
-    read-n e = rw (← mark-of-far N, ← is-n, e)
+  pub read-n : sameStored u n ≡ true → true ≡ valueReadOk (sideOf side) 48 u
+  read-n e = rw (← mark-of-far N, ← is-n, e)
 
-    pub read-not-n :
-        sameStored u n ≡ false
-        → (x : Stored)
-        → x ≡ encode (X (sideOf far))
-        → sameStored u x ≡ valueReadOk (sideOf side) 48 u
-    read-not-n e x is-x = rw (← mark-of-far N, ← is-n, ← mark-of-far X, ← is-x, e)
+  pub read-not-n :
+      sameStored u n ≡ false
+      → (x : Stored)
+      → x ≡ encode (X (sideOf far))
+      → sameStored u x ≡ valueReadOk (sideOf side) 48 u
+  read-not-n e x is-x = rw (← mark-of-far N, ← is-n, ← mark-of-far X, ← is-x, e)
 
 -- ---- A record of a task that is in a call.
 
@@ -40,16 +41,20 @@ callOk g t =
     && countedOk (t .step) (goalOf (operationOf (t .operation)) g (number (t .argument))) (t .counted)
     && valueReadOk (sideOf (t .side)) (t .step) (t .value)
 
-abbrev pub registersOk : (S : ℕ) → List ℕ → Bool
-registersOk S rs =
-    nodeOrNone S (getD rs 0 0) && nodeOrNone S (getD rs 1 0) && nodeOrNone S (getD rs 2 0) && nodeOrNone S (getD rs 3 0)
+abbrev pub registersOk : (S lanes : ℕ) → List ℕ → (lane : ℕ) → Bool
+registersOk S L rs l =
+    nodeOrNone S (getD rs 0 0)
+    && nodeOrNone S (getD rs 1 0)
+    && nodeOrNone S (getD rs 2 0)
+    && nodeOrNone S (getD rs 3 0)
+    && ltb l L
 
-module _ (S g : ℕ) (t : Tasks.Task) where
-  pub operation-fails : 4 < t .operation → false ≡ busyOk S g (recordOf t)
+module _ (S g L : ℕ) (t : Tasks.Task) where
+  pub operation-fails : 4 < t .operation → false ≡ busyOk S g L (recordOf t)
   unfolding busyOk
   operation-fails h = rw (lt-leb (t .operation) 4 h)
 
-  pub side-fails : t .operation ≤ 4 → 1 < t .side → false ≡ busyOk S g (recordOf t)
+  pub side-fails : t .operation ≤ 4 → 1 < t .side → false ≡ busyOk S g L (recordOf t)
   unfolding busyOk
   side-fails h k = rw (le-leb (t .operation) 4 h, lt-leb (t .side) 1 k)
 
@@ -57,16 +62,21 @@ module _ (S g : ℕ) (t : Tasks.Task) where
       t .operation ≤ 4
       → t .side ≤ 1
       → argumentOk (operationOf (t .operation)) (t .argument) ≡ false
-      → false ≡ busyOk S g (recordOf t)
+      → false ≡ busyOk S g L (recordOf t)
   unfolding busyOk
   argument-fails h k e =
-      rw (le-leb (t .operation) 4 h, le-leb (t .side) 1 k, e, and-false (isStepIn (stepsOf (operationOf (t .operation))) (t .step)))
+      rw (
+        le-leb (t .operation) 4 h,
+        le-leb (t .side) 1 k,
+        e,
+        and-false (isStepIn (stepsOf (operationOf (t .operation))) (t .step)),
+      )
 
   pub busy-tests :
       t .operation ≤ 4
       → t .side ≤ 1
       → argumentOk (operationOf (t .operation)) (t .argument) ≡ true
-      → callOk g t && registersOk S (t .registers) ≡ busyOk S g (recordOf t)
+      → callOk g t && registersOk S L (t .registers) (t .lane) ≡ busyOk S g L (recordOf t)
   unfolding busyOk
   busy-tests h k e =
       rw (

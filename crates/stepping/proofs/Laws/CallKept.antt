@@ -1,4 +1,5 @@
--- A line that lets its task go on leaves the operation, the side and the argument as they were: whatever stands in memory.
+-- A line that lets its task go on leaves the operation, the side and the argument as they were: whatever stands in
+-- memory.
 use mathlib.Core.Path.{_≡_, refl, ap}
 use mathlib.Core.Logic.{_≢_}
 use mathlib.Core.List.{List}
@@ -60,7 +61,8 @@ module _ (s o : Side) (m : Memory) (t : Task) (g f : ℕ) where
   call-kept Steps.line18 = past (λ _. keeps (λ _. refl))
   call-kept Steps.line24 = past (λ _. past (λ _. keeps (λ _. refl)))
   call-kept Steps.line25 = past (λ _. ok-dcas P _ _ (λ _ _. spliced-keeps (t .operation) _) (keeps (λ _. refl)))
-  call-kept Steps.line28 = ok-if P (λ e. e) (_ ≟ _) (λ _. keeps (λ q. absurd (no-node-answers (t .operation) q))) (λ _. keeps (λ _. refl))
+  call-kept Steps.line28 =
+      ok-if P (λ e. e) (_ ≟ _) (λ _. keeps (λ q. absurd (no-node-answers (t .operation) q))) (λ _. keeps (λ _. refl))
   call-kept Steps.line31 = past (λ _. ok-if P (λ e. e) (_ ≟ _) (λ _. keeps (λ _. refl)) (λ _. keeps (λ _. refl)))
   call-kept Steps.line39 = keeps (λ _. refl)
   call-kept Steps.line40 = past (λ _. keeps (λ _. refl))
@@ -89,7 +91,8 @@ pub effect-keeps : (ws : List ℕ) (k hint : ℕ) → KeepsCall (task ws k) (eff
 unfolding effectOf
 effect-keeps ws k hint =
     let t = task ws k in
-    call-kept (t .side) (opposite (t .side)) (seen (t .side) ws) t (goal (growth ws) t) (allocate ws hint) (t .step)
+    call-kept (t .side) (opposite (t .side)) (seen (t .lane) (t .side) ws)
+    t (goal (growth ws) t) (allocate ws hint) (t .step)
 
 -- In code.
 pub coded-call : (t u : Task) → noteOf t ≡ noteOf u → SameCall (codedTask t) (codedTask u)
@@ -97,4 +100,5 @@ coded-call t u e = (
   ap (λ (n : Note). operationNumber (n .operation)) e,
   ap (λ (n : Note). sideNumber (n .side)) e,
   ap (λ (n : Note). stored (n .argument)) e,
+  ap (λ (n : Note). n .lane) e,
 )

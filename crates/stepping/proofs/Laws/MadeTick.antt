@@ -26,8 +26,10 @@ use Rattle.machine.specs.Table.{
   recordAt,
   nodeCount,
   growth,
+  laneCount,
+  mostLanes,
   hatAt,
-  hat,
+  hatWord,
   recordWords,
   task,
 }
@@ -54,20 +56,31 @@ use Rattle.figure.specs.Groups.{otherLines, allSteps, ReadyIn}
 use Rattle.figure.proofs.StepChoice.{each, regrouped, line-at}
 use Rattle.answers.specs.Refusals.{isRefused}
 use Rattle.answers.proofs.Laws.Refusals.{refused-answer, refusal-number, made-answer}
-use Rattle.storing.specs.Outcomes.{GoesOn, recorded, stored, finished}
+use Rattle.storing.specs.Outcomes.{IsHat, GoesOn, recorded, stored, finished}
 use Rattle.stepping.specs.Steps.{MayTick, foundAt31, made}
 use Rattle.stepping.proofs.Laws.FoundAt31.{found-enough, found-node}
 use Rattle.storing.proofs.Laws.Laid.{record-after-nodes, word-before-part}
 use Rattle.stepping.proofs.Laws.CallKept.{effect-keeps, coded-call}
-use Rattle.stepping.proofs.Laws.TickReady.{meant-task, side-back, side-low, held-or-none, argument-fits, ready-task}
+use Rattle.stepping.proofs.Laws.TickReady.{
+  meant-task,
+  side-low,
+  lane-low,
+  held-or-none,
+  argument-fits,
+  ready-task,
+}
 use Rattle.stepping.proofs.Laws.TickWords.{line-is-effect, refused-words, made-words}
 
 applied-made :
-    (s : Side) (ws : List ℕ) (k : ℕ) (e : Effect)
+    (ℓ : ℕ) (s : Side) (ws : List ℕ) (k : ℕ) (e : Effect)
     → refusalOf (e .answer) ≡ nothing
-    → applied s ws k e ≡ tickedOf (e .answer) (effectWords s (e .writes) k (e .task) ws)
+    → applied ℓ s ws k e ≡ tickedOf (e .answer) (effectWords ℓ s (e .writes) k (e .task) ws)
 unfolding applied
-applied-made s ws k e h = rw (h, applied)
+applied-made ℓ s ws k e h = rw (h, applied)
+
+side-low-of : (s : Side) → sideNumber s < 2
+side-low-of left = omega arith
+side-low-of right = omega arith
 
 -- A step of a line that takes a node, or of another.
 abbrev taking-or-other : ℕ → Bool
@@ -79,13 +92,16 @@ module _ (ws : List ℕ) (k hint : ℕ) (M : MayTick ws k hint) where
   Z = well-sized ws (M .table .length-passes)
 
   W : WellShaped (columns ws)
-  W = well-shaped ws (M .table .shape-passes)
+  W = well-shaped ws (M .table .length-passes) (M .table .shape-passes)
 
   abbrev K : Tasks.Task
   K = structOf (recordWords ws k)
 
   abbrev s : Side
   s = sideOf (K .side)
+
+  abbrev ℓ : ℕ
+  ℓ = K .lane
 
   abbrev E : Effect
   E = effectOf ws k hint
@@ -111,31 +127,29 @@ module _ (ws : List ℕ) (k hint : ℕ) (M : MayTick ws k hint) where
   found-held : {f : ℕ} → (f ≢ none → f < nodeCount ws) → f ≢ none → HoldsNode (nodesOf ws) f
   found-held {f} = held-or-none ws Z W k (M .is-task) f
 
-  hat-place : hatAt left + K .side ≡ hatAt s
-  hat-place = ap (λ (n : ℕ). hatAt left + n) (sym (side-back ws Z W k (M .is-task))) ∙ side-place s
-    where
-      side-place : (z : Side) → hatAt left + sideNumber z ≡ hatAt z
-      side-place left = refl
-      side-place right = refl
+  record-lane : K .lane < mostLanes
+  record-lane = lane-low ws Z W k (M .is-task) (M .busy)
 
   -- The outcome of the line that the code makes is the effect of the definitions.
-  outcome : {g : ℕ} {ns : List ℕ} {d : Done}
+  outcome : {g at : ℕ} {ns : List ℕ} {d : Done}
+      → at ≡ hatAt ℓ s
       → g ≡ goalOf (operationOf (K .operation)) (growth ws) (number (K .argument))
-      → outcomeOf ns d ≡ lineOf (stepOf (K .step)) (nodesOf ws) (getD ws (hatAt left + K .side) 0) K g (allocate ws hint)
-      → outcomeOf ns d ≡ effectIn s (nodesOf ws) (hat ws s) E
-  outcome {g} eg line =
+      → outcomeOf ns d ≡ lineOf (stepOf (K .step)) (nodesOf ws) (getD ws at 0) K g (allocate ws hint)
+      → outcomeOf ns d ≡ effectIn s (nodesOf ws) (hatWord ws ℓ s) E
+  outcome {g} is-at eg line =
       line
-      ∙ ap (λ (i : ℕ). lineOf (stepOf (K .step)) (nodesOf ws) (getD ws i 0) K g (allocate ws hint)) hat-place
-      ∙ line-is-effect ws Z W k (M .is-task) hint g (eg ∙ ap (goal (growth ws)) (meant-task ws Z W k (M .is-task)))
+      ∙ ap (λ (i : ℕ). lineOf (stepOf (K .step)) (nodesOf ws) (getD ws i 0) K g (allocate ws hint)) is-at
+      ∙ line-is-effect ws Z W k (M .is-task) record-lane hint g
+      (eg ∙ ap (goal (growth ws)) (meant-task ws Z W k (M .is-task)))
 
   -- ---- The words. m is how long the code finds the nodes' part to be.
   module _ {ns : List ℕ} {d : Done} {m : ℕ}
-      (out : outcomeOf ns d ≡ effectIn s (nodesOf ws) (hat ws s) (effectOf ws k hint))
+      (out : outcomeOf ns d ≡ effectIn s (nodesOf ws) (hatWord ws ℓ s) (effectOf ws k hint))
       (all-nodes : m ≡ nodeLength * nodeCount ws) where
     nodes-are : ns ≡ writesIn s (E .writes) (nodesOf ws)
     nodes-are = ap (λ (o : Outcome). o .nodes) out
 
-    hat-is : d .hat ≡ hatAfter (E .writes) (hat ws s)
+    hat-is : d .hat ≡ hatAfter (E .writes) (hatWord ws ℓ s)
     hat-is = ap (λ (o : Outcome). o .done .hat) out
 
     answer-is : d .answer ≡ E .answer
@@ -144,11 +158,12 @@ module _ (ws : List ℕ) (k hint : ℕ) (M : MayTick ws k hint) where
     record-is : recordOf (d .task) ≡ wordsOf (E .task)
     record-is = ap (λ (o : Outcome). recordOf (o .done .task)) out
 
-    fits : Fits (nodeCount ws) (growth ws) (effectOf ws k hint)
+    fits : Fits (nodeCount ws) (growth ws) (laneCount ws) (effectOf ws k hint)
     fits = effect-fits ws W k hint (M .is-hint) (M .busy)
 
-    own-side : s ≡ task ws k .side
-    own-side = ap (λ (t : Task). t .side) (meant-task ws Z W k (M .is-task))
+    own-end : applied ℓ s ws k (effectOf ws k hint) ≡ made ws k hint
+    own-end =
+        ap (λ (t : Task). applied (t .lane) (t .side) ws k (effectOf ws k hint)) (meant-task ws Z W k (M .is-task))
 
     -- A task that goes on keeps its call.
     same-call : isGoing (d .answer) ≡ true → SameCall K (d .task)
@@ -165,45 +180,51 @@ module _ (ws : List ℕ) (k hint : ℕ) (M : MayTick ws k hint) where
         (sym (record-after-nodes ws ns m k header-room all-nodes long))
         (same-call g)
 
-    pub refused-tick : isRefused (d .answer) ≡ true → tickedOf (d .answer) (putMid headerLength m ws ns) ≡ made ws k hint
+    pub refused-tick : isRefused (d .answer) ≡ true
+        → tickedOf (d .answer) (putMid headerLength m ws ns) ≡ made ws k hint
     refused-tick r =
         let a = refused-answer (d .answer) (refusal-number (d .answer) r .1) in
         ap (λ (n : ℕ). tickedOf (d .answer) (putMid headerLength n ws ns)) all-nodes
         ∙ ap (λ (x : Answer). tickedOf x (putMid headerLength (nodeLength * nodeCount ws) ws ns)) a
-        ∙ refused-words s ws Z k E fits (sym answer-is ∙ a) nodes-are
-        ∙ ap (λ (z : Side). applied z ws k (effectOf ws k hint)) own-side
+        ∙ refused-words ℓ record-lane s ws Z k E fits (sym answer-is ∙ a) nodes-are
+        ∙ own-end
 
     pub made-tick :
-        {vs : List ℕ}
+        {vs : List ℕ} {at : ℕ}
+        → at ≡ hatAt ℓ s
         → isRefused (d .answer) ≡ false
-        → vs ≡ stored (putMid headerLength m ws ns) (K .side) (d .hat) k (d .task)
+        → vs ≡ stored (putMid headerLength m ws ns) at (d .hat) k (d .task)
         → tickedOf (d .answer) vs ≡ made ws k hint
-    made-tick {vs} r q =
+    made-tick {vs} {at} is-at r q =
         let none-refused : refusalOf (effectOf ws k hint .answer) ≡ nothing
         = ap refusalOf (sym answer-is) ∙ made-answer (d .answer) r in
-        let in-range = fit-effect (nodeCount ws) (growth ws) fits none-refused .0 in
-        let written : set (putMid headerLength m ws ns) (hatAt left + K .side) (d .hat) ≡ writeAll s (E .writes) ws
-        = ap (λ (n : ℕ). set (putMid headerLength n ws ns) (hatAt left + K .side) (d .hat)) all-nodes
-        ∙ ap (λ (i : ℕ). set (putMid headerLength (nodeLength * nodeCount ws) ws ns) i (d .hat)) hat-place
-        ∙ made-words s ws Z k E in-range nodes-are hat-is in
+        let in-range = fit-effect (nodeCount ws) (growth ws) (laneCount ws) fits none-refused .0 in
+        let written : set (putMid headerLength m ws ns) at (d .hat) ≡ writeAll ℓ s (E .writes) ws
+        = ap (λ (n : ℕ). set (putMid headerLength n ws ns) at (d .hat)) all-nodes
+        ∙ ap (λ (i : ℕ). set (putMid headerLength (nodeLength * nodeCount ws) ws ns) i (d .hat)) is-at
+        ∙ made-words ℓ record-lane s ws Z k E in-range nodes-are hat-is in
         ap (tickedOf (d .answer))
         (q
         ∙ ap (λ (l : List ℕ). tickCounted (recorded l k (d .task))) written
         ∙ ap
         (λ (l : List ℕ).
-        tickCounted (sets (writeAll s (E .writes) ws) (recordAt (nodeCount (writeAll s (E .writes) ws)) k) l))
+        tickCounted (sets (writeAll ℓ s (E .writes) ws) (recordAt (nodeCount (writeAll ℓ s (E .writes) ws)) k) l))
         record-is)
-        ∙ ap (λ (a : Answer). tickedOf a (effectWords s (E .writes) k (E .task) ws)) answer-is
-        ∙ sym (applied-made s ws k E none-refused)
-        ∙ ap (λ (z : Side). applied z ws k (effectOf ws k hint)) own-side
+        ∙ ap (λ (a : Answer). tickedOf a (effectWords ℓ s (E .writes) k (E .task) ws)) answer-is
+        ∙ sym (applied-made ℓ s ws k E none-refused)
+        ∙ own-end
 
   -- ---- The same of the record and of the part that the code has, which are those.
-  module _ (r : Tasks.Task) (same : r ≡ structOf (recordWords ws k)) (end : ℕ) (is-end : end ≡ nodeAt (nodeCount ws)) where
+  module _ (r : Tasks.Task) (same : r ≡ structOf (recordWords ws k))
+      (end : ℕ) (is-end : end ≡ nodeAt (nodeCount ws)) where
     abbrev part : List ℕ
     part = midOf headerLength (end - headerLength) ws
 
     pub its-side : r .side < 2
     its-side = subst (λ (u : Tasks.Task). u .side < 2) (sym same) record-side
+
+    pub its-lane : r .lane < mostLanes
+    its-lane = subst (λ (u : Tasks.Task). u .lane < mostLanes) (sym same) record-lane
 
     pub its-argument : argumentOk (operationOf (r .operation)) (r .argument) ≡ true
     its-argument =
@@ -217,7 +238,8 @@ module _ (ws : List ℕ) (k hint : ℕ) (M : MayTick ws k hint) where
 
     pub others-ready : r .step ≢ 28 → r .step ≢ 31 → ReadyIn otherLines part r
     unfolding isStepIn
-    others-ready n₂₈ n₃₁ = regrouped its-ready (narrowed (each taking-or-other allSteps (r .step) refl (its-ready .in-group)))
+    others-ready n₂₈ n₃₁ =
+        regrouped its-ready (narrowed (each taking-or-other allSteps (r .step) refl (its-ready .in-group)))
       where
         narrowed : taking-or-other (r .step) ≡ true → isStepIn otherLines (r .step) ≡ true
         narrowed e = rw (ne-eqb (r .step) 28 n₂₈, ne-eqb (r .step) 31 n₃₁) at e
@@ -235,47 +257,48 @@ module _ (ws : List ℕ) (k hint : ℕ) (M : MayTick ws k hint) where
         (subst (λ (x : ℕ). x ≢ none → x < nodeCount ws) (sym e)
         (found-node r (allocate ws hint) (nodeCount ws) found-low))
 
-    -- The line that the code makes, by what it knows of the step and of the node.
-    abbrev the-line : (g : ℕ) → Outcome
-    the-line g = lineOf (stepOf (r .step)) part (getD ws (hatAt left + r .side) 0) r g (allocate ws hint)
+    -- The line that the code makes, by what it knows of the step and of the node, with the word at a hat's place.
+    abbrev the-line : (at g : ℕ) → Outcome
+    the-line at g = lineOf (stepOf (r .step)) part (getD ws at 0) r g (allocate ws hint)
 
-    pub at-28 : (g : ℕ) {f : ℕ} {o : Outcome}
+    pub at-28 : (at g : ℕ) {f : ℕ} {o : Outcome}
         → r .step ≡ 28
         → f ≡ allocate ws hint
-        → o ≡ lineOf line28 part (getD ws (hatAt left + r .side) 0) r g f
-        → o ≡ the-line g
-    at-28 g step found line =
+        → o ≡ lineOf line28 part (getD ws at 0) r g f
+        → o ≡ the-line at g
+    at-28 at g step found line =
         line
-        ∙ ap (lineOf line28 part (getD ws (hatAt left + r .side) 0) r g) found
+        ∙ ap (lineOf line28 part (getD ws at 0) r g) found
         ∙ line-at line28 step part _ r g (allocate ws hint)
 
-    pub at-31 : (g : ℕ) {f : ℕ} {o : Outcome}
+    pub at-31 : (at g : ℕ) {f : ℕ} {o : Outcome}
         → r .step ≡ 31
         → f ≡ foundAt31 r (allocate ws hint)
-        → o ≡ lineOf line31 part (getD ws (hatAt left + r .side) 0) r g f
-        → o ≡ the-line g
-    at-31 g step found line =
+        → o ≡ lineOf line31 part (getD ws at 0) r g f
+        → o ≡ the-line at g
+    at-31 at g step found line =
         line
-        ∙ ap (lineOf line31 part (getD ws (hatAt left + r .side) 0) r g) found
-        ∙ found-enough part (getD ws (hatAt left + r .side) 0) r g (allocate ws hint)
+        ∙ ap (lineOf line31 part (getD ws at 0) r g) found
+        ∙ found-enough part (getD ws at 0) r g (allocate ws hint)
         ∙ line-at line31 step part _ r g (allocate ws hint)
 
-    module _ {g : ℕ} {ns : List ℕ} {d : Done}
+    module _ {at g : ℕ} {ns : List ℕ} {d : Done} (is-at : at ≡ hatAt (r .lane) (sideOf (r .side)))
         (goal-is : g ≡ goalOf (operationOf (r .operation)) (growth ws) (number (r .argument)))
         (line-is :
-        outcomeOf ns d ≡ lineOf (stepOf (r .step)) part (getD ws (hatAt left + r .side) 0) r g (allocate ws hint)) where
-      done-is : outcomeOf ns d ≡ effectIn s (nodesOf ws) (hat ws s) E
+        outcomeOf ns d ≡ lineOf (stepOf (r .step)) part (getD ws at 0) r g (allocate ws hint)) where
+      done-is : outcomeOf ns d ≡ effectIn s (nodesOf ws) (hatWord ws ℓ s) E
       done-is =
           subst
           (λ (u : Tasks.Task).
-          g ≡ goalOf (operationOf (u .operation)) (growth ws) (number (u .argument))
+          at ≡ hatAt (u .lane) (sideOf (u .side))
+          → g ≡ goalOf (operationOf (u .operation)) (growth ws) (number (u .argument))
           → outcomeOf ns d
-          ≡ lineOf (stepOf (u .step)) (nodesOf ws) (getD ws (hatAt left + u .side) 0) u g (allocate ws hint)
-          → outcomeOf ns d ≡ effectIn s (nodesOf ws) (hat ws s) E)
-          (sym same) outcome goal-is
+          ≡ lineOf (stepOf (u .step)) (nodesOf ws) (getD ws at 0) u g (allocate ws hint)
+          → outcomeOf ns d ≡ effectIn s (nodesOf ws) (hatWord ws ℓ s) E)
+          (sym same) outcome is-at goal-is
           (line-is
           ∙ ap
-          (λ (l : List ℕ). lineOf (stepOf (r .step)) l (getD ws (hatAt left + r .side) 0) r g (allocate ws hint))
+          (λ (l : List ℕ). lineOf (stepOf (r .step)) l (getD ws at 0) r g (allocate ws hint))
           (nodes-part ws is-end))
 
       all-nodes-lent : end - headerLength ≡ nodeLength * nodeCount ws
@@ -285,17 +308,26 @@ module _ (ws : List ℕ) (k hint : ℕ) (M : MayTick ws k hint) where
       after-length kept =
           kept ∙ ap length (nodes-part ws is-end) ∙ nodes-long ws (Z .sized) ∙ sym all-nodes-lent
 
+      hat-in-header : IsHat at
+      hat-in-header =
+          let low = its-lane in
+          let side = side-low-of (sideOf (r .side)) in
+          (omega arith, omega arith)
+
       -- What `finish` relies on.
       pub its-finish :
           length ns ≡ length part
-          → ((r .side < 2) × HoldsRecord (putMid headerLength (end - headerLength) ws ns) k)
+          → (IsHat at × HoldsRecord (putMid headerLength (end - headerLength) ws ns) k)
           × GoesOn (putMid headerLength (end - headerLength) ws ns) k (isGoing (d .answer)) (d .task)
       its-finish kept =
           let long = same-len-mid headerLength (end - headerLength) ws ns kept in
-          let count = word-before-part headerLength (end - headerLength) ws ns header-room nodeCountAt 0 (omega arith) in
-          ((its-side, omega (arith, record-room, long, count)), keeps-call done-is all-nodes-lent (after-length kept))
+          let count =
+          word-before-part headerLength (end - headerLength) ws ns header-room nodeCountAt 0 (omega arith) in (
+            (hat-in-header, omega (arith, record-room, long, count)),
+            keeps-call done-is all-nodes-lent (after-length kept),
+          )
 
-      pub its-tick : finished (putMid headerLength (end - headerLength) ws ns) (r .side) k d ≡ made ws k hint
+      pub its-tick : finished (putMid headerLength (end - headerLength) ws ns) at k d ≡ made ws k hint
       its-tick = go (isRefused (d .answer)) refl
         where
           after : List ℕ
@@ -304,9 +336,9 @@ module _ (ws : List ℕ) (k hint : ℕ) (M : MayTick ws k hint) where
           go :
               (b : Bool)
               → isRefused (d .answer) ≡ b
-              → cond b (tickedOf (d .answer) after) (tickedOf (d .answer) (stored after (r .side) (d .hat) k (d .task)))
+              → cond b (tickedOf (d .answer) after) (tickedOf (d .answer) (stored after at (d .hat) k (d .task)))
               ≡ made ws k hint
           go true a = refused-tick done-is all-nodes-lent a
           go false a =
-              made-tick done-is all-nodes-lent a
-              (ap (λ (u : Tasks.Task). stored after (u .side) (d .hat) k (d .task)) same)
+              made-tick done-is all-nodes-lent
+              (is-at ∙ ap (λ (u : Tasks.Task). hatAt (u .lane) (sideOf (u .side))) same) a refl

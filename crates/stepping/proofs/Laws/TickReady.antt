@@ -24,7 +24,7 @@ use Rattle.machine.specs.Operations.{
 }
 use Rattle.machine.specs.Steps.{stepNumber, stepOf, stepsOf, isStepIn}
 use Rattle.machine.specs.Tasks.{Task, none}
-use Rattle.machine.specs.Table.{nodeCount, taskCount, growth, valueWords, recordWords, task}
+use Rattle.machine.specs.Table.{nodeCount, taskCount, growth, laneCount, mostLanes, valueWords, recordWords, task}
 use Rattle.machine.specs.Shape.{recordOk}
 use Rattle.machine.specs.Calls.{isBusy}
 use Rattle.machine.proofs.Basics.Contradiction.{clash}
@@ -41,7 +41,7 @@ use Rattle.figure.specs.Groups.{allSteps, ReadyIn}
 use Rattle.figure.proofs.StepChoice.{each}
 use Rattle.layout.proofs.Laws.Views.{nodesOf, node-held, held-node, words-in, task-read}
 
-number-low : (s : Side) → sideNumber s < 2
+pub number-low : (s : Side) → sideNumber s < 2
 number-low left = omega arith
 number-low right = omega arith
 
@@ -72,11 +72,11 @@ module _ (ws : List ℕ) (Z : WellSized (sizesOf ws)) (W : WellShaped (columns w
   pub meant-task : taskMeant (structOf (recordWords ws k)) ≡ task ws k
   meant-task = task-read ws k is-task
 
-  record-passes : recordOk (nodeCount ws) (growth ws) (recordWords ws k) ≡ true
+  record-passes : recordOk (nodeCount ws) (growth ws) (laneCount ws) (recordWords ws k) ≡ true
   record-passes = rw (if-yes (k <? taskCount ws) (recordWords ws k) _ is-task) at (W .records-ok k)
 
   canonical : codedTask (taskMeant (structOf (recordWords ws k))) ≡ structOf (recordWords ws k)
-  canonical = ap structOf (words-of-task (nodeCount ws) (growth ws) (recordWords ws k) record-passes)
+  canonical = ap structOf (words-of-task (nodeCount ws) (growth ws) (laneCount ws) (recordWords ws k) record-passes)
 
   pub side-back : sideNumber (sideOf (record-at .side)) ≡ record-at .side
   side-back = ap (λ (t : Tasks.Task). t .side) canonical
@@ -94,8 +94,8 @@ module _ (ws : List ℕ) (Z : WellSized (sizesOf ws)) (W : WellShaped (columns w
       (if-yes (x <? nodeCount ws) (valueWords ws x) (encode never) l ∙ words-in ws (Z .sized) x l) (W .values-ok x)
 
   module _ (busy : isBusy (task ws k .operation) ≡ true) where
-    facts : BusyFacts (nodeCount ws) (growth ws) (taskMeant (structOf (recordWords ws k)))
-    facts = subst (BusyFacts (nodeCount ws) (growth ws)) (sym meant-task) (busy-facts ws W k busy)
+    facts : BusyFacts (nodeCount ws) (growth ws) (laneCount ws) (taskMeant (structOf (recordWords ws k)))
+    facts = subst (BusyFacts (nodeCount ws) (growth ws) (laneCount ws)) (sym meant-task) (busy-facts ws W k busy)
 
     registers-held :
         (i : ℕ)
@@ -114,6 +114,9 @@ module _ (ws : List ℕ) (Z : WellSized (sizesOf ws)) (W : WellShaped (columns w
         by-place (suc (suc zero)) h = held-or-none _ (facts .C-ok)
         by-place (suc (suc (suc zero))) h = held-or-none _ (facts .D-ok)
         by-place (suc (suc (suc (suc i)))) h = absurd (omega arith)
+
+    pub lane-low : record-at .lane < mostLanes
+    lane-low = let few = Z .most-lanes in let l = facts .lane-ok in omega arith
 
     pub step-back : stepNumber (stepOf (record-at .step)) ≡ record-at .step
     step-back = ap (λ (t : Tasks.Task). t .step) canonical

@@ -30,18 +30,20 @@ use Rattle.machine.specs.Table.{
   recordAt,
   nodeCountAt,
   nodeCount,
+  mostLanes,
   hatAt,
-  hat,
+  hatWord,
   linksLength,
   recordFrom,
   recordWords,
 }
 use Rattle.machine.specs.Lines.{Write, out≔, inn≔, val≔, hat≔, writeOne, writeAll}
+use Rattle.storing.specs.Outcomes.{IsHat}
 use Rattle.machine.proofs.Words.EffectLaws.{InRange, AllInRange}
 use Rattle.hattrick.specs.Lent.{writeIn, writesIn, hatAfter}
 
-abbrev pub lay : (S : ℕ) → Side → List ℕ → (ns : List ℕ) → (h : ℕ) → List ℕ
-lay S s ws ns h = putMid headerLength (nodeLength * S) (set ws (hatAt s) h) ns
+abbrev pub lay : (S lane : ℕ) → Side → List ℕ → (ns : List ℕ) → (h : ℕ) → List ℕ
+lay S l s ws ns h = putMid headerLength (nodeLength * S) (set ws (hatAt l s) h) ns
 
 -- Words written on one side of a seam.
 append-set-right : (xs ys : List ℕ) (j v : ℕ) → set (xs ++ ys) (length xs + j) v ≡ xs ++ set ys j v
@@ -68,7 +70,9 @@ append-sets-left xs ys j (v ∷ vs) h =
 -- ---- One store, in the part and in the header.
 module _ (a k : ℕ) (xs ys : List ℕ) (room : a ≤ length xs) where
   sets-in-part :
-      (vs : List ℕ) (j : ℕ) → j + length vs ≤ length ys → sets (putMid a k xs ys) (a + j) vs ≡ putMid a k xs (sets ys j vs)
+      (vs : List ℕ) (j : ℕ)
+      → j + length vs ≤ length ys
+      → sets (putMid a k xs ys) (a + j) vs ≡ putMid a k xs (sets ys j vs)
   sets-in-part vs j h =
       let front = take a xs in
       let after = postOf a k xs in
@@ -106,15 +110,16 @@ pub record-after-nodes :
     → recordWords (putMid headerLength n ws ns) k ≡ recordWords ws k
 record-after-nodes ws ns n k room e long =
     let vs = putMid headerLength n ws ns in
-    ap (λ (S : ℕ). recordFrom vs (recordAt S k)) (word-before-part headerLength n ws ns room nodeCountAt 0 (omega arith))
+    ap (λ (S : ℕ). recordFrom vs (recordAt S k))
+    (word-before-part headerLength n ws ns room nodeCountAt 0 (omega arith))
     ∙ ap (λ (m : ℕ). recordFrom vs (headerLength + m + recordLength * k)) (sym e)
     ∙ ap (take recordLength) (after-part headerLength n ws ns room long (recordLength * k))
     ∙ ap (λ (m : ℕ). recordFrom ws (headerLength + m + recordLength * k)) e
 
-pub record-after-hat :
-    (ws : List ℕ) (side h k : ℕ) → side < 2 → recordWords (set ws (hatAt left + side) h) k ≡ recordWords ws k
-record-after-hat ws side h k low =
-    let i = hatAt left + side in
+pub record-after-hat : (ws : List ℕ) (i h k : ℕ) → IsHat i → recordWords (set ws i h) k ≡ recordWords ws k
+record-after-hat ws i h k is-hat =
+    let low = is-hat .0 in
+    let high = is-hat .1 in
     ap (λ (S : ℕ). recordFrom (set ws i h) (recordAt S k)) (getD-set-other ws i nodeCountAt h 0 (λ e. omega arith))
     ∙ ap (take recordLength) (drop-set-lt (recordAt (nodeCount ws) k) ws i h (omega arith))
 
@@ -132,28 +137,29 @@ side-word : (s : Side) → sideNumber s < 2
 side-word left = omega arith
 side-word right = omega arith
 
-module _ (S : ℕ) (s : Side) (ws : List ℕ) (room : headerLength ≤ length ws) where
-  long : (h : ℕ) → headerLength ≤ length (set ws (hatAt s) h)
-  long h = let e = length-set ws (hatAt s) h in omega arith
+module _ (S ℓ : ℕ) (is-lane : ℓ < mostLanes) (s : Side) (ws : List ℕ) (room : headerLength ≤ length ws) where
+  long : (h : ℕ) → headerLength ≤ length (set ws (hatAt ℓ s) h)
+  long h = let e = length-set ws (hatAt ℓ s) h in omega arith
 
   -- Words of a node.
   node-words : (ns : List ℕ) (h x c : ℕ) (vs : List ℕ) → Holds S ns → x < S → c + length vs ≤ nodeLength
-      → sets (lay S s ws ns h) (nodeAt x + c) vs ≡ lay S s ws (sets ns (nodeLength * x + c) vs) h
+      → sets (lay S ℓ s ws ns h) (nodeAt x + c) vs ≡ lay S ℓ s ws (sets ns (nodeLength * x + c) vs) h
   node-words ns h x c vs hold l m =
-      ap (λ (n : ℕ). sets (lay S s ws ns h) n vs) (add-assoc headerLength (nodeLength * x) c)
-      ∙ sets-in-part headerLength (nodeLength * S) (set ws (hatAt s) h) ns (long h) vs (nodeLength * x + c) (omega arith)
+      ap (λ (n : ℕ). sets (lay S ℓ s ws ns h) n vs) (add-assoc headerLength (nodeLength * x) c)
+      ∙ sets-in-part headerLength (nodeLength * S) (set ws (hatAt ℓ s) h) ns (long h)
+      vs (nodeLength * x + c) (omega arith)
 
   one-write : (w : Write) (ns : List ℕ) (h : ℕ) → Holds S ns → InRange S w
-      → writeOne s w (lay S s ws ns h) ≡ lay S s ws (writeIn s w ns) (hatAfter (w ∷ []) h)
+      → writeOne ℓ s w (lay S ℓ s ws ns h) ≡ lay S ℓ s ws (writeIn s w ns) (hatAfter (w ∷ []) h)
   one-write (out≔ x y) ns h hold l =
       node-words ns h x (sideNumber s) (y ∷ []) hold l (let q = side-word s in omega arith)
   one-write (inn≔ x y) ns h hold l =
       node-words ns h x (sideNumber (opposite s)) (y ∷ []) hold l (let q = side-word (opposite s) in omega arith)
   one-write (val≔ x v) ns h hold l = node-words ns h x linksLength (storedWords (encode v)) hold (l .0) (omega arith)
   one-write (hat≔ x) ns h hold l =
-      set-before-part headerLength (nodeLength * S) (set ws (hatAt s) h) ns (long h) (hatAt s) x
+      set-before-part headerLength (nodeLength * S) (set ws (hatAt ℓ s) h) ns (long h) (hatAt ℓ s) x
       (let q = side-word s in omega arith)
-      ∙ ap (λ (l : List ℕ). putMid headerLength (nodeLength * S) l ns) (set-set ws (hatAt s) h x)
+      ∙ ap (λ (l : List ℕ). putMid headerLength (nodeLength * S) l ns) (set-set ws (hatAt ℓ s) h x)
 
   hat-then : (w : Write) (l : List Write) (h : ℕ) → hatAfter l (hatAfter (w ∷ []) h) ≡ hatAfter (w ∷ l) h
   hat-then (out≔ x y) l h = refl
@@ -163,17 +169,17 @@ module _ (S : ℕ) (s : Side) (ws : List ℕ) (room : headerLength ≤ length ws
 
   -- The writes to the table are the writes to the part and to the hat.
   pub writes-laid : (l : List Write) (ns : List ℕ) (h : ℕ) → Holds S ns → AllInRange S l
-      → writeAll s l (lay S s ws ns h) ≡ lay S s ws (writesIn s l ns) (hatAfter l h)
+      → writeAll ℓ s l (lay S ℓ s ws ns h) ≡ lay S ℓ s ws (writesIn s l ns) (hatAfter l h)
   unfolding writeAll
   writes-laid [] ns h hold q = refl
   writes-laid (w ∷ l) ns h hold q =
-      ap (writeAll s l) (one-write w ns h hold (q .0))
+      ap (writeAll ℓ s l) (one-write w ns h hold (q .0))
       ∙ writes-laid l (writeIn s w ns) (hatAfter (w ∷ []) h) (write-holds S s w ns hold) (q .1)
-      ∙ ap (λ (x : ℕ). lay S s ws (writesIn s l (writeIn s w ns)) x) (hat-then w l h)
+      ∙ ap (λ (x : ℕ). lay S ℓ s ws (writesIn s l (writeIn s w ns)) x) (hat-then w l h)
 
   -- The table is its own part laid back.
-  pub laid-itself : lay S s ws (midOf headerLength (nodeLength * S) ws) (hat ws s) ≡ ws
+  pub laid-itself : lay S ℓ s ws (midOf headerLength (nodeLength * S) ws) (hatWord ws ℓ s) ≡ ws
   laid-itself =
       let n = nodeLength * S in
-      ap (λ (l : List ℕ). putMid headerLength n l (midOf headerLength n ws)) (set-getD ws (hatAt s) 0)
+      ap (λ (l : List ℕ). putMid headerLength n l (midOf headerLength n ws)) (set-getD ws (hatAt ℓ s) 0)
       ∙ put-same headerLength n ws

@@ -1,20 +1,16 @@
 -- `storing::store` meets its contract: three stores, one after another.
 use mathlib.Core.Path.{_≡_, sym, _∙_, subst}
 use mathlib.Core.List.{List}
-use Prim.Native.Nat.{ℕ, _+_}
+use Prim.Native.Nat.{ℕ}
 use native.Mathlib.Omega.{arith}
 use lib.ListN.{set, length-set}
 use lib.Seq.{getD-set-other}
-use Rattle.machine.specs.Sides.{left}
-use Rattle.machine.specs.Table.{nodeCount, hatAt, nodeCountAt}
+use Rattle.machine.specs.Table.{nodeCount, nodeCountAt}
 use Rattle.record.specs.Coded.{structOf, SameCall}
 use Rattle.storing.proofs.Laws.Laid.{record-after-hat}
 use borrow.Author.Needs.{needs}
 use Rattle.storing.proofs.store.Statement.{statement}
 use Rattle.storing.proofs.store.Tie as tie
-
-add-table : tie.Need-add-table
-add-table c = search needs
 
 mul-table : tie.Need-mul-table
 mul-table c = search needs
@@ -26,12 +22,12 @@ set-next-requires : tie.Need-set-next-requires
 set-next-requires c κs =
     let p = c .before .before in
     let a = p .args in
-    let i = hatAt left + a .side in
+    let i = a .at in
     let same : nodeCount (set (a .table .now) i (a .hat)) ≡ nodeCount (a .table .now)
-    = getD-set-other (a .table .now) i nodeCountAt (a .hat) 0 (λ e. omega arith) in (
+    = getD-set-other (a .table .now) i nodeCountAt (a .hat) 0 (λ e. omega (arith, p .pre .0)) in (
       omega (arith, p .pre .1, same, length-set (a .table .now) i (a .hat)),
       λ g. subst (λ (r : List ℕ). SameCall (structOf r) (a .next))
-          (sym (record-after-hat (a .table .now) (a .side) (a .hat) (a .task) (p .pre .0))) (p .pre .2 g),
+          (sym (record-after-hat (a .table .now) (a .at) (a .hat) (a .task) (p .pre .0))) (p .pre .2 g),
     )
 
 slice-read-wrapping-add-u32 : tie.Need-slice-read-wrapping-add-u32
@@ -39,7 +35,7 @@ slice-read-wrapping-add-u32 c =
     let w = c .before .before .before in
     let p = w .before .before .before in
     let a = p .args in
-    omega (arith, p .pre .1, w .set-next .kept .0, length-set (a .table .now) (hatAt left + a .side) (a .hat))
+    omega (arith, p .pre .1, w .set-next .kept .0, length-set (a .table .now) (a .at) (a .hat))
 
 wrapping-add-u32-requires : tie.Need-wrapping-add-u32-requires
 wrapping-add-u32-requires c κs = search needs
@@ -49,13 +45,13 @@ slice-write-table-2 c =
     let w = c .before .before .before .before in
     let p = w .before .before .before in
     let a = p .args in
-    omega (arith, p .pre .1, w .set-next .kept .0, length-set (a .table .now) (hatAt left + a .side) (a .hat))
+    omega (arith, p .pre .1, w .set-next .kept .0, length-set (a .table .now) (a .at) (a .hat))
 
 same-length : tie.Need-same-length
 same-length c =
     let w = c .before .before .before .before in
     let a = w .before .before .before .args in
-    simp length-set (w .set-next .kept .0 ∙ length-set (a .table .now) (hatAt left + a .side) (a .hat))
+    simp length-set (w .set-next .kept .0 ∙ length-set (a .table .now) (a .at) (a .hat))
 
 returns : tie.Need-returns
 returns c = rw (c .wrapping-add-u32 .ensures, c .before .before .before .before .set-next .ensures)
@@ -64,7 +60,6 @@ pub store-spec : {M : Type 1} → statement M
 store-spec =
     tie.close
     (tie.spec
-    add-table
     mul-table
     slice-write-table
     set-next-requires

@@ -58,7 +58,9 @@ module _ (ws : List ℕ) (k h : ℕ) (answers : List ℕ) {r : Ran} {vs words : 
       go (some n) e = absurd (some-made (ap (λ (x : RunDone). x .ran .made) (by-tick e)))
       go nothing e =
           let d = by-tick e in
-          let fits = made-answer-fits ws k h (well-shaped ws (W .shape-passes)) (allowed e) e in
-          let read = ap (λ (x : RunDone). answerOf (getD (x .answers) 0 0) (getD (x .answers) 1 0) (getD (x .answers) 2 0)) d in
-          ap (λ (b : Answer). tickedOf b vs) (says (tickOn ws k h .answer) (read ∙ answer-back (tickOn ws k h .answer) fits))
+          let fits = made-answer-fits ws k h (well-shaped ws (W .length-passes) (W .shape-passes)) (allowed e) e in
+          let read =
+          ap (λ (x : RunDone). answerOf (getD (x .answers) 0 0) (getD (x .answers) 1 0) (getD (x .answers) 2 0)) d in
+          ap (λ (b : Answer). tickedOf b vs)
+          (says (tickOn ws k h .answer) (read ∙ answer-back (tickOn ws k h .answer) fits))
           ∙ ap (λ (x : RunDone). tickedOf (tickOn ws k h .answer) (x .words)) d

@@ -38,7 +38,7 @@ pub tick-tag :
     → payloadOf a ≤ largestTag
 tick-tag ws k h a vs ticked P =
     subst (λ (t : Ticked). payloadOf (t .answer) ≤ largestTag) (sym ticked)
-    (tick-on-number ws k h (well-shaped ws (P .shape-passes)))
+    (tick-on-number ws k h (well-shaped ws (P .length-passes) (P .shape-passes)))
 
 -- The number of a refusal is what it answers with.
 refused-number : (a : Answer) → kindOf a ≡ 7 → refusalOf a ≡ some (numberOf (refusalOf a))
@@ -61,7 +61,8 @@ module _ (k h : ℕ) (list ws answers : List ℕ) where
         first-tick k h list ws answers (some n) r
         ∙ ap (λ (l : List ℕ). stopped n l answers) (sym (refused-unchanged ws k h r) ∙ words-are)
 
-    first-made : kindOf a ≢ 7 → runOn (k ∷ h ∷ list) ws answers ≡ afterTick a (runOn list vs (drop answerLength answers))
+    first-made : kindOf a ≢ 7
+        → runOn (k ∷ h ∷ list) ws answers ≡ afterTick a (runOn list vs (drop answerLength answers))
     unfolding by-first
     first-made e =
         first-tick k h list ws answers nothing (ap refusalOf answer-is ∙ made-kind a e)

@@ -4,6 +4,7 @@ use lib.ListN.{take}
 use lib.Seq.{length-take-le}
 use Rattle.machine.specs.Calls.{begin}
 use borrow.Author.Needs.{needs}
+use Rattle.belt.specs.Forms.{theLane}
 use Rattle.belt.proofs.Laws.SpaceLaws.{front-leaves}
 use Rattle.belt.proofs.Laws.FormLaws.{begin-done}
 use Rattle.belt.proofs.forms.begin_command.Statement.{statement}
@@ -33,7 +34,7 @@ returns c =
     let p = n .before .before .before in
     let a = p .args in
     let t = take (a .len) (a .space .now) in
-    let begun = done .ensures ∙ ap (begin t (a .task) (a .operation) (a .side)) (n .of-words .ensures) in
+    let begun = done .ensures ∙ ap (begin t (a .task) theLane (a .operation) (a .side)) (n .of-words .ensures) in
     front-leaves (a .space .now) (done .last .0) (a .len) (p .pre) (done .kept .0)
     (begin-done t (a .task) (a .operation) (a .side) (a .digit) (a .argument) begun)
 

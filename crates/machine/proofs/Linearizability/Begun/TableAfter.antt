@@ -7,7 +7,7 @@ use mathlib.Core.Option.{none as nothing}
 use Prim.Native.Nat.{ℕ}
 use Rattle.machine.specs.Sides.{Side, right}
 use Rattle.machine.specs.Tasks.{Task}
-use Rattle.machine.specs.Table.{nodeCount, taskCount, growth, task}
+use Rattle.machine.specs.Table.{nodeCount, taskCount, growth, laneCount, task}
 use Rattle.machine.specs.Calls.{isBusy, tickRefusal, effectOf, tickOn}
 use Rattle.machine.specs.Row.{Row, Note}
 use Rattle.machine.proofs.Basics.Updates.{update, update-same, update-other}
@@ -26,7 +26,8 @@ module _ {ws : List ℕ} {ρ : Row} (A : Agrees ws ρ) (k h : ℕ) (passes : tic
 
   -- The view that the line leaves, from the task's side and from the right.
   abbrev pub lineLeaves : View
-  lineLeaves = written (task ws k .side) (effectOf ws k h .writes) (view (task ws k .side) (viewed right ws))
+  lineLeaves =
+      written (task ws k .lane) (task ws k .side) (effectOf ws k h .writes) (view (task ws k .side) (viewed right ws))
 
   abbrev pub tickLeaves : View
   tickLeaves = view (task ws k .side) lineLeaves
@@ -35,20 +36,20 @@ module _ {ws : List ℕ} {ρ : Row} (A : Agrees ws ρ) (k h : ℕ) (passes : tic
   sizes = well-sized ws (A .accepted .length-passes)
 
   shape : WellShaped (columns ws)
-  shape = well-shaped ws (A .accepted .shape-passes)
+  shape = well-shaped ws (A .accepted .length-passes) (A .accepted .shape-passes)
 
   pub viewed-after : viewed right after ≡ tickLeaves
   viewed-after = tick-viewed ws k h passes sizes shape (effect-made A k h passes)
 
   -- As the task saw it, so its side sees it now.
   pub own-viewed : viewed (task ws k .side) after
-      ≡ written (task ws k .side) (effectOf ws k h .writes) (viewed (task ws k .side) ws)
+      ≡ written (task ws k .lane) (task ws k .side) (effectOf ws k h .writes) (viewed (task ws k .side) ws)
   own-viewed =
       let s = task ws k .side in
       sym (view-viewed s after)
       ∙ ap (view s) viewed-after
       ∙ view-view s lineLeaves
-      ∙ ap (written s (effectOf ws k h .writes)) (view-viewed s ws)
+      ∙ ap (written (task ws k .lane) s (effectOf ws k h .writes)) (view-viewed s ws)
 
   pub tasks-after : task after ≡ update (task ws) k (effectOf ws k h .task)
   tasks-after = tick-task ws k h passes sizes shape (effect-made A k h passes)
@@ -66,7 +67,10 @@ module _ {ws : List ℕ} {ρ : Row} (A : Agrees ws ρ) (k h : ℕ) (passes : tic
   pub task-count-after : taskCount after ≡ taskCount ws
   task-count-after = ap (λ z. z .taskCount) (tick-kept ws sizes shape k h .same-sizes)
 
-  growth-after : growth after ≡ growth ws
+  pub lanes-after : laneCount after ≡ laneCount ws
+  lanes-after = ap (λ z. z .laneCount) (tick-kept ws sizes shape k h .same-sizes)
+
+  pub growth-after : growth after ≡ growth ws
   growth-after = ap (λ z. z .growth) (tick-kept ws sizes shape k h .same-sizes)
 
   -- What is said of the sizes, of the view that the tick leaves and of a record is true of the table afterwards.

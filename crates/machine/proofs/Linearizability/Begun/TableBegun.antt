@@ -9,7 +9,7 @@ use Rattle.machine.specs.declared.Stored.{Stored}
 use Rattle.machine.specs.Sides.{Side, sideOf}
 use Rattle.machine.specs.Operations.{operationOf}
 use Rattle.machine.specs.Tasks.{Task, fresh}
-use Rattle.machine.specs.Table.{nodeCount, taskCount, growth, task, setTask}
+use Rattle.machine.specs.Table.{nodeCount, taskCount, growth, laneCount, task, setTask}
 use Rattle.machine.specs.Calls.{beginRefusal, Changed, changed, begunTask, begin}
 use Rattle.machine.specs.Row.{Row}
 use Rattle.machine.proofs.Basics.Contradiction.{clash}
@@ -33,31 +33,33 @@ pub record BegunTable (ws vs : List ℕ) (k : ℕ) (t : Task) : Type 0 where
   pub same-nodes : nodeCount vs ≡ nodeCount ws
   pub same-count : taskCount vs ≡ taskCount ws
   pub same-growth : growth vs ≡ growth ws
+  pub same-lanes : laneCount vs ≡ laneCount ws
+  pub is-lane : t .lane < laneCount ws
 
-module _ {ws : List ℕ} {ρ : Row} (A : Agrees ws ρ) (k op side : ℕ) (argument : Stored) where
+module _ {ws : List ℕ} {ρ : Row} (A : Agrees ws ρ) (k l op side : ℕ) (argument : Stored) where
   abbrev t : Task
-  t = begunTask (operationOf op) (sideOf side) (number argument)
+  t = begunTask l (operationOf op) (sideOf side) (number argument)
 
   sizes : WellSized (sizesOf ws)
   sizes = well-sized ws (A .accepted .length-passes)
 
   shape : WellShaped (columns ws)
-  shape = well-shaped ws (A .accepted .shape-passes)
+  shape = well-shaped ws (A .accepted .length-passes) (A .accepted .shape-passes)
 
   -- What is true of a refused begin, and of an accepted one, is true of the begin.
   pub by-begin : (P : Changed → Type 0)
       → ((n : ℕ) → P (record { reply = Reply-Refused n; words = ws }))
       → ((vs : List ℕ) → BegunTable ws vs k t → P (record { reply = Accepted; words = vs }))
-      → P (begin ws k op side argument)
+      → P (begin ws k l op side argument)
   unfolding begin
   by-begin P refused accepted =
-      go (beginRefusal ws k op side argument) refl (begin-kept ws k op side argument sizes shape)
+      go (beginRefusal ws k l op side argument) refl (begin-kept ws k l op side argument sizes shape)
     where
-      go : (r : Option ℕ) → beginRefusal ws k op side argument ≡ r → Kept ws (changed r ws (setTask k t ws) .words)
+      go : (r : Option ℕ) → beginRefusal ws k l op side argument ≡ r → Kept ws (changed r ws (setTask k t ws) .words)
           → P (changed r ws (setTask k t ws))
       go (some n) e K = refused n
       go nothing e K =
-          let B = begin-allowed ws k op side argument e in
+          let B = begin-allowed ws k l op side argument e in
           accepted (setTask k t ws)
           (record {
             is-task = B .is-task;
@@ -67,9 +69,11 @@ module _ {ws : List ℕ} {ρ : Row} (A : Agrees ws ρ) (k op side : ℕ) (argume
             same-nodes = ap (λ z. z .nodeCount) (K .same-sizes);
             same-count = ap (λ z. z .taskCount) (K .same-sizes);
             same-growth = ap (λ z. z .growth) (K .same-sizes);
+            same-lanes = ap (λ z. z .laneCount) (K .same-sizes);
+            is-lane = B .is-lane;
           })
 
-  pub accepted-begin : begin ws k op side argument .reply ≡ Accepted
-      → BegunTable ws (begin ws k op side argument .words) k t
+  pub accepted-begin : begin ws k l op side argument .reply ≡ Accepted
+      → BegunTable ws (begin ws k l op side argument .words) k t
   accepted-begin =
       by-begin (λ c. c .reply ≡ Accepted → BegunTable ws (c .words) k t) (λ n e. clash (cc)) (λ vs T _. T)

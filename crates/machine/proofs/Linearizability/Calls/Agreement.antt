@@ -1,16 +1,18 @@
--- The table and the row agree; so the lane in the table is the row.
-use mathlib.Core.Path.{_≡_}
+-- The table and the row agree; so each lane in the table is its row.
+use mathlib.Core.Path.{_≡_, refl, sym, ap, _∙_, subst}
 use mathlib.Core.List.{List}
-use mathlib.Core.Option.{Option, some, none as nothing}
-use Prim.Native.Nat.{ℕ}
+use mathlib.Core.Option.{Option, some, none as nothing, bind}
+use Prim.Native.Nat.{ℕ, zero, suc, _≤_, _<_}
+use native.Mathlib.Omega.{arith}
 use Rattle.machine.specs.Shape.{WellFormed}
 use Rattle.machine.specs.Sides.{right}
 use Rattle.machine.specs.Operations.{Operation, idle, push, pop, add, remove}
 use Rattle.machine.specs.Tasks.{Task}
-use Rattle.machine.specs.Table.{taskCount, dispatched, task}
-use Rattle.machine.specs.Calls.{lane}
+use Rattle.machine.specs.Table.{taskCount, laneCount, dispatched, task}
+use Rattle.machine.specs.Calls.{lanesBelow, allLanes}
+use Rattle.machine.specs.Twice.{rowsBelow, allBags}
 use Rattle.machine.specs.Row.{Note, Row}
-use Rattle.machine.specs.Demand3.{LaneIs}
+use Rattle.machine.specs.Demand3.{LanesAre}
 use Rattle.machine.proofs.Words.Memories.{viewed}
 use Rattle.machine.proofs.Linearizability.Model.Classes.{Class}
 use Rattle.machine.proofs.Linearizability.Model.Invariant.{Invariant, noteOf}
@@ -30,10 +32,23 @@ noteIn t = noteUnder (t .operation) (noteOf t)
 pub record Agrees (ws : List ℕ) (ρ : Row) : Type 0 where
   pub accepted : WellFormed ws
   pub class : ℕ → Class
-  pub invariant : Invariant (viewed right ws) (task ws) class (ρ .bags)
+  pub invariant : Invariant (laneCount ws) (viewed right ws) (task ws) class (ρ .bags)
   pub notes : (k : ℕ) → ρ .notes k ≡ noteIn (task ws k)
+  pub same-lanes : ρ .lanes ≡ laneCount ws
   pub same-count : ρ .tasks ≡ taskCount ws
   pub same-dispatched : ρ .dispatched ≡ dispatched ws
 
-pub lane-is-row : {ws : List ℕ} {ρ : Row} → Agrees ws ρ → LaneIs ws ρ
-lane-is-row {ws} A = lane-row ws (A .invariant .lane)
+pub lanes-are-rows : {ws : List ℕ} {ρ : Row} → Agrees ws ρ → LanesAre ws ρ
+lanes-are-rows {ws} A l h =
+    lane-row ws (A .invariant .lanes .lane l (subst (λ (n : ℕ). l < n) (A .same-lanes) h))
+
+-- All lanes, one after another, are the rows one after another.
+module _ (ws : List ℕ) (ρ : Row) (A : LanesAre ws ρ) where
+  lanes-below : (n : ℕ) → n ≤ ρ .lanes → lanesBelow ws n ≡ some (rowsBelow (ρ .bags) n)
+  unfolding lanesBelow rowsBelow bind
+  lanes-below zero h = refl
+  lanes-below (suc n) h = rw (lanes-below n (omega arith), A n h)
+
+pub all-lanes-are-rows : {ws : List ℕ} {ρ : Row} → Agrees ws ρ → allLanes ws ≡ some (allBags ρ)
+all-lanes-are-rows {ws} {ρ} A =
+    ap (lanesBelow ws) (sym (A .same-lanes)) ∙ lanes-below ws ρ (lanes-are-rows A) (ρ .lanes) (omega arith)

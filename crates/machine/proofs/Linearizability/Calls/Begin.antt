@@ -2,14 +2,14 @@
 use mathlib.Core.Path.{_≡_, refl}
 use mathlib.Core.Logic.{_≢_, inl, inr}
 use mathlib.Core.List.{List}
-use Prim.Native.Nat.{ℕ}
+use Prim.Native.Nat.{ℕ, _<_}
 use Rattle.machine.specs.Sides.{Side}
 use Rattle.machine.specs.Operations.{Operation, idle, push, pop, add, remove}
 use Rattle.machine.specs.Steps.{firstStep}
 use Rattle.machine.specs.Tasks.{Task}
 use Rattle.machine.specs.Calls.{begunTask}
 use Rattle.machine.proofs.Basics.Contradiction.{clash}
-use Rattle.machine.proofs.Basics.Updates.{update, update-wrote, wrote-all}
+use Rattle.machine.proofs.Basics.Updates.{update, update-all, update-wrote, wrote-all}
 use Rattle.machine.proofs.Words.Memories.{View, view}
 use Rattle.machine.proofs.Linearizability.Model.Classes.{Class, new}
 use Rattle.machine.proofs.Linearizability.Model.Phases.{
@@ -45,25 +45,28 @@ idle-none-new removing s m class t e b c = clash (cc)
 
 begun-ok : {k : ℕ} {s o : Side} {m : View} {class : ℕ → Class}
     → ((x : ℕ) → class x ≢ new k)
-    → (op : Operation) (z : Side) (v : ℕ)
-    → TaskOk k s o m class (firstStep op) (begunTask op z v)
-begun-ok h idle z v = record { relies = tt; chain = record { none-new = h; no-head = refl }; belongs = refl }
-begun-ok h push z v = record { relies = tt; chain = record { none-new = h; no-head = refl }; belongs = refl }
-begun-ok h pop z v = record { relies = tt; chain = record { none-new = h; no-head = refl }; belongs = refl }
-begun-ok h add z v = record { relies = tt; chain = record { none-new = h; no-head = refl }; belongs = inr refl }
-begun-ok h remove z v = record { relies = tt; chain = record { none-new = h; no-head = refl }; belongs = refl }
+    → (l : ℕ) (op : Operation) (z : Side) (v : ℕ)
+    → TaskOk k s o m class (firstStep op) (begunTask l op z v)
+begun-ok h l idle z v = record { relies = tt; chain = record { none-new = h; no-head = refl }; belongs = refl }
+begun-ok h l push z v = record { relies = tt; chain = record { none-new = h; no-head = refl }; belongs = refl }
+begun-ok h l pop z v = record { relies = tt; chain = record { none-new = h; no-head = refl }; belongs = refl }
+begun-ok h l add z v = record { relies = tt; chain = record { none-new = h; no-head = refl }; belongs = inr refl }
+begun-ok h l remove z v = record { relies = tt; chain = record { none-new = h; no-head = refl }; belongs = refl }
 
-pub invariant-begin : {M : View} {ts : ℕ → Task} {class : ℕ → Class} {r : List ℕ}
-    → Invariant M ts class r
+pub invariant-begin : {L : ℕ} {M : View} {ts : ℕ → Task} {class : ℕ → Class} {r : ℕ → List ℕ}
+    → Invariant L M ts class r
     → (k : ℕ)
     → ts k .operation ≡ idle
+    → (l : ℕ)
+    → l < L
     → (op : Operation) (z : Side) (v : ℕ)
-    → Invariant M (update ts k (begunTask op z v)) class r
-invariant-begin {M} {ts} {class} I k e op z v =
+    → Invariant L M (update ts k (begunTask l op z v)) class r
+invariant-begin {L} {M} {ts} {class} I k e l is-lane op z v =
     record {
-      lane = I .lane;
+      lanes = I .lanes;
+      own-lane = update-all ts k (begunTask l op z v) (λ x. x .lane < L) is-lane (I .own-lane);
       task-ok =
-          wrote-all (λ j x. TaskOkIn j M class x) (update-wrote ts k (begunTask op z v)) (begun-ok none-new op z v)
+          wrote-all (λ j x. TaskOkIn j M class x) (update-wrote ts k (begunTask l op z v)) (begun-ok none-new l op z v)
           (λ j ne. I .task-ok j);
     }
   where

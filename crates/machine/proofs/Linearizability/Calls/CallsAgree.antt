@@ -1,29 +1,30 @@
--- Each call but ticks in a row and lists of ticks keeps the agreement of table and row, and gives back what the row gives.
-use mathlib.Core.Path.{_≡_, refl, sym, ap, _∙_, fun-ext}
+-- Each call but ticks in a row and lists of ticks keeps the agreement of table and row, and gives back what the row
+-- gives.
+use mathlib.Core.Path.{_≡_, refl, sym, ap, _∙_, subst, fun-ext}
 use mathlib.Core.Bool.{Bool, true, false}
 use mathlib.Core.List.{List}
 use mathlib.Core.Option.{Option, some, none as nothing, bind}
-use Prim.Native.Nat.{ℕ, _*_, _≤_}
+use Prim.Native.Nat.{ℕ, _*_, _≤_, _<_}
 use native.Mathlib.Omega.{arith}
-use native.Mathlib.Decide.{ℕ-discrete}
-use lib.Dec.{leb}
+use lib.Dec.{leb, ltb}
 use lib.ListN.{length, drop}
 use lib.Seq.{take-at}
-use borrow.Author.Tests.{eq-eqb, leb-false, lt-ltb, leb-true}
+use borrow.Author.Tests.{eq-eqb, leb-false, lt-ltb, le-ltb}
 use Rattle.tag.specs.Tags.{allTagWords}
 use Rattle.tag.proofs.TagLaws.{length-tag-words}
 use Rattle.machine.specs.declared.Dispatch.the-variants.{Idle, Answered}
 use Rattle.machine.specs.Round.{nextAfter}
 use Rattle.machine.specs.Values.{number}
 use Rattle.machine.specs.declared.Stored.{Stored}
-use Rattle.machine.specs.Choice.{_≟_}
+use Rattle.machine.specs.Choice.{_≟_, _<?_}
 use Rattle.machine.specs.Sides.{right, sideOf}
 use Rattle.machine.specs.Operations.{Operation, idle, push, pop, add, remove, operationOf}
 use Rattle.machine.specs.Tasks.{Task}
-use Rattle.machine.specs.Table.{taskCount, dispatched, task, setDispatched, setTask}
-use Rattle.machine.specs.Shape.{sizesOk, WellFormed}
+use Rattle.machine.specs.Table.{taskCount, laneCount, dispatched, task, setDispatched, setTask}
+use Rattle.machine.specs.Shape.{lanesOk, sizesOk, WellFormed}
 use Rattle.machine.specs.Answers.{refusalOf}
 use Rattle.machine.specs.Calls.{
+  unless,
   isIdle,
   isBusy,
   startRefusal,
@@ -73,7 +74,7 @@ use Rattle.machine.specs.Demand3.{
 }
 use Rattle.machine.proofs.Basics.Contradiction.{clash}
 use Rattle.machine.proofs.Basics.Choices.{by-if}
-use Rattle.machine.proofs.Basics.Tests.{and-left, and-right, test-passed}
+use Rattle.machine.proofs.Basics.Tests.{test-passed, tests-left}
 use Rattle.machine.proofs.Basics.Updates.{update, update-same, update-other}
 use Rattle.machine.proofs.Words.RecordLaws.{same-words-refl}
 use Rattle.machine.proofs.Words.ValueLaws.{never-has-word}
@@ -88,6 +89,7 @@ use Rattle.machine.proofs.Words.EffectLaws.{
 use Rattle.machine.proofs.Shape.ShapeLaws.{well-sized}
 use Rattle.machine.proofs.Shape.DispatchCases.{by-dispatch}
 use Rattle.machine.proofs.Shape.ShapeKept.{
+  start-sized,
   start-accepted,
   begin-allowed,
   table-passes,
@@ -97,7 +99,7 @@ use Rattle.machine.proofs.Shape.ShapeKept.{
 use Rattle.machine.proofs.Linearizability.Model.Invariant.{noteOf}
 use Rattle.machine.proofs.Linearizability.Calls.Start.{startClass, invariant-start}
 use Rattle.machine.proofs.Linearizability.Calls.Begin.{invariant-begin}
-use Rattle.machine.proofs.Linearizability.Calls.Agreement.{noteIn, noteUnder, Agrees, lane-is-row}
+use Rattle.machine.proofs.Linearizability.Calls.Agreement.{noteIn, noteUnder, Agrees, lanes-are-rows}
 use Rattle.machine.proofs.Linearizability.Calls.MadeTicks.{made-tick}
 
 -- What a call comes to: the row afterwards, which the row's lines give, and the agreement of table and row again.
@@ -113,28 +115,19 @@ explains :
 explains x = record { row = x .0; given-by-row = x .1; agrees = x .2 }
 
 -- ---- start.
-pub start-agrees : (S T g : ℕ) → sizesOk S T g ≡ true → Agrees (startWords S T g) (emptyRow T)
-unfolding ℕ-discrete startWords
-start-agrees S T g ok =
-    let two : 2 ≤ S = leb-true 2 S (search (and-left, and-right)) in
+pub start-agrees : (S T g L : ℕ) → lanesOk L ≡ true → sizesOk S T g L ≡ true
+    → Agrees (startWords S T g L) (emptyRow T L)
+unfolding startWords
+start-agrees S T g L lanes ok =
+    let Z = start-sized S T g L lanes ok in
     record {
-      accepted = start-accepted S T g ok;
-      class = startClass;
+      accepted = start-accepted S T g L lanes ok;
+      class = startClass L;
       invariant =
-          rw (viewed-start S T g two)
-          (invariant-start
-          (record {
-            out-0 = refl;
-            out-1 = refl;
-            inn-0 = refl;
-            inn-1 = refl;
-            val-0 = refl;
-            val-1 = refl;
-            hat-left = refl;
-            hat-right = refl;
-          })
-          (task-start S T g two));
-      notes = λ k. ap noteIn (sym (task-start S T g two k));
+          rw (viewed-start S T g L (Z .lanes-fit) (Z .most-lanes))
+          (invariant-start (Z .one-lane) (Z .most-lanes) (task-start S T g L (Z .lanes-fit) (Z .most-lanes)));
+      notes = λ k. ap noteIn (sym (task-start S T g L (Z .lanes-fit) (Z .most-lanes) k));
+      same-lanes = refl;
       same-count = refl;
       same-dispatched = refl;
     }
@@ -145,11 +138,14 @@ dispatched-agrees : {ws : List ℕ} {ρ : Row} → Agrees ws ρ → (k : ℕ) �
 dispatched-agrees {ws} {ρ} A k accepted =
     let sized = well-sized ws (A .accepted .length-passes) .sized in
     let same = columns-setDispatched ws sized k in
+    let lanes-after : laneCount (setDispatched k ws) ≡ laneCount ws = ap (λ c. c .sizes .laneCount) same in
     record {
       accepted = accepted;
       class = A .class;
-      invariant = rw (viewed-set-dispatched ws sized k right, task-set-dispatched ws sized k) (A .invariant);
+      invariant =
+          rw (lanes-after, viewed-set-dispatched ws sized k right, task-set-dispatched ws sized k) (A .invariant);
       notes = λ j. rw (task-set-dispatched ws sized k) (A .notes j);
+      same-lanes = A .same-lanes ∙ sym lanes-after;
       same-count = A .same-count ∙ sym (ap (λ c. c .sizes .taskCount) same);
       same-dispatched = sym (ap (λ c. c .counts .dispatched) same);
     }
@@ -163,16 +159,17 @@ idle-operation add h = clash (cc)
 idle-operation remove h = clash (cc)
 
 module _ {ws : List ℕ} {ρ : Row} (A : Agrees ws ρ) where
-  pub start-explained : (S T g : ℕ) → Explains ws ρ (start-call S T g)
+  pub start-explained : (S T g L : ℕ) → Explains ws ρ (start-call S T g L)
   unfolding start
-  start-explained S T g = explains (go (startRefusal ws S T g) refl)
+  start-explained S T g L = explains (go (startRefusal ws S T g L) refl)
     where
       Result : Changed → Type 0
-      Result c = (ρ′ : Row) × (feedStart ρ T (c .reply) ≡ some ρ′) × Agrees (c .words) ρ′
+      Result c = (ρ′ : Row) × (feedStart ρ T L (c .reply) ≡ some ρ′) × Agrees (c .words) ρ′
 
-      go : (r : Option ℕ) → startRefusal ws S T g ≡ r → Result (changed r ws (startWords S T g))
+      go : (r : Option ℕ) → startRefusal ws S T g L ≡ r → Result (changed r ws (startWords S T g L))
       go (some n) e = (ρ, refl, A)
-      go nothing e = (emptyRow T, refl, start-agrees S T g (search test-passed))
+      go nothing e =
+          (emptyRow T L, refl, start-agrees S T g L (search test-passed) (search (test-passed, tests-left)))
 
   -- ---- begin.
   begun-note : (n : ℕ) → 1 ≤ n → (m : Note) → noteUnder (operationOf n) m ≡ some m
@@ -182,18 +179,18 @@ module _ {ws : List ℕ} {ρ : Row} (A : Agrees ws ρ) where
       by-if (λ op. noteUnder op m ≡ some m) (n ≟ 2) (λ _. refl) (λ _.
       by-if (λ op. noteUnder op m ≡ some m) (n ≟ 3) (λ _. refl) (λ _. refl))))
 
-  pub begin-explained : (k op side : ℕ) (argument : Stored) → Explains ws ρ (begin-call k op side argument)
+  pub begin-explained : (k l op side : ℕ) (argument : Stored) → Explains ws ρ (begin-call k l op side argument)
   unfolding begin
-  begin-explained k op side argument =
+  begin-explained k l op side argument =
       explains
-      (go (beginRefusal ws k op side argument) refl
-      (call-accepted ws (A .accepted) (begin-call k op side argument)))
+      (go (beginRefusal ws k l op side argument) refl
+      (call-accepted ws (A .accepted) (begin-call k l op side argument)))
     where
       t : Task
-      t = begunTask (operationOf op) (sideOf side) (number argument)
+      t = begunTask l (operationOf op) (sideOf side) (number argument)
 
       n : Note
-      n = record { operation = operationOf op; side = sideOf side; argument = number argument }
+      n = record { lane = l; operation = operationOf op; side = sideOf side; argument = number argument }
 
       Result : Changed → Type 0
       Result c = (ρ′ : Row) × (feedBegin ρ k n (c .reply) ≡ some ρ′) × Agrees (c .words) ρ′
@@ -208,26 +205,29 @@ module _ {ws : List ℕ} {ρ : Row} (A : Agrees ws ρ) where
 
       go :
           (r : Option ℕ)
-          → beginRefusal ws k op side argument ≡ r
+          → beginRefusal ws k l op side argument ≡ r
           → WellFormed (changed r ws (setTask k t ws) .words)
           → Result (changed r ws (setTask k t ws))
       go (some m) e ok = (ρ, refl, A)
       go nothing e ok =
-          let B = begin-allowed ws k op side argument e in
+          let B = begin-allowed ws k l op side argument e in
           let Z = well-sized ws (A .accepted .length-passes) in
           let viewed-after = viewed-set-task ws (Z .sized) k (B .is-task) t right in
           let task-after = task-set-task ws (Z .sized) k (B .is-task) t never-has-word in
-          let columns-after = columns-setTask ws (Z .sized) k t (B .is-task) in (
+          let columns-after = columns-setTask ws (Z .sized) k t (B .is-task) in
+          let lanes-after : laneCount (setTask k t ws) ≡ laneCount ws = ap (λ c. c .sizes .laneCount) columns-after in
+          let is-lane : l < ρ .lanes = subst (λ (m : ℕ). l < m) (sym (A .same-lanes)) (B .is-lane) in (
             noted ρ k (some n),
-            refl,
+            rw (lt-ltb l (ρ .lanes) is-lane),
             record {
               accepted = ok;
               class = A .class;
               invariant =
-                  rw (viewed-after, task-after)
+                  rw (lanes-after, viewed-after, task-after)
                   (invariant-begin (A .invariant) k (idle-operation (task ws k .operation) (B .was-idle))
-                  (operationOf op) (sideOf side) (number argument));
+                  l (B .is-lane) (operationOf op) (sideOf side) (number argument));
               notes = λ j. rw task-after (notes-after (B .some-operation) j);
+              same-lanes = A .same-lanes ∙ sym lanes-after;
               same-count = A .same-count ∙ sym (ap (λ c. c .sizes .taskCount) columns-after);
               same-dispatched = A .same-dispatched ∙ sym (ap (λ c. c .counts .dispatched) columns-after);
             },
@@ -283,7 +283,8 @@ module _ {ws : List ℕ} {ρ : Row} (A : Agrees ws ρ) where
 
       made : (k : ℕ) → nextBusy ws ≡ some k → tickRefusal ws k h ≡ nothing
           → refusalOf (tickOn ws k h .answer) ≡ nothing
-          → Result (record { answer = Answered (tickOn ws k h .answer); words = setDispatched k (tickOn ws k h .words) })
+          → Result
+          (record { answer = Answered (tickOn ws k h .answer); words = setDispatched k (tickOn ws k h .words) })
       made k chosen passes q =
           let M = made-tick A k h passes in (
             withDispatched k (M .row),
@@ -291,37 +292,54 @@ module _ {ws : List ℕ} {ρ : Row} (A : Agrees ws ρ) where
             dispatched-agrees (M .agrees) k (dispatched-accepted ws (A .accepted) k h passes),
           )
 
-  -- ---- Reading the lane.
-  pub read-explained : (out : List ℕ) → Explains ws ρ (read-call out)
+  -- ---- Reading a lane.
+  pub read-explained : (l : ℕ) (out : List ℕ) → Explains ws ρ (read-call l out)
   unfolding read readInto
-  read-explained out = explains passed
+  read-explained l out = explains (by-lane (l <? laneCount ws))
     where
       Result : ReadDone → Type 0
-      Result r = (ρ′ : Row) × (feedRead ρ out (r .reading) (r .out) ≡ some ρ′) × Agrees ws ρ′
+      Result r = (ρ′ : Row) × (feedRead ρ l out (r .reading) (r .out) ≡ some ρ′) × Agrees ws ρ′
 
       n : ℕ
-      n = length (ρ .bags)
+      n = length (ρ .bags l)
 
       written : List ℕ
-      written = allTagWords (ρ .bags)
+      written = allTagWords (ρ .bags l)
 
-      go : (b : Bool) → leb (2 * n) (length out) ≡ b → Result (readInto (some (ρ .bags)) out)
-      go true e =
+      go : l < ρ .lanes → (b : Bool) → leb (2 * n) (length out) ≡ b → Result (readInto (some (ρ .bags l)) out)
+      go h true e =
           rw (e, readInto) (
             ρ,
             rw (
+              lt-ltb l (ρ .lanes) h,
               eq-eqb n n refl,
               e,
-              take-at written (drop (2 * n) out) (2 * n) (length-tag-words (ρ .bags)),
+              take-at written (drop (2 * n) out) (2 * n) (length-tag-words (ρ .bags l)),
               same-words-refl written,
             ),
             A,
           )
-      go false e =
+      go h false e =
           rw (e, readInto)
-          (ρ, rw (lt-ltb (length out) (2 * n) (leb-false (2 * n) (length out) e)), A)
+          (ρ, rw (lt-ltb l (ρ .lanes) h, lt-ltb (length out) (2 * n) (leb-false (2 * n) (length out) e)), A)
 
-      passed : Result (read ws out)
-      passed =
-          rw (table-passes ws (A .accepted) nothing, read, lane-is-row A)
-          (go (leb (2 * n) (length out)) refl)
+      -- 26 exactly when there is no such lane.
+      by-lane : Dec (l < laneCount ws) → Result (read ws l out)
+      by-lane (yes h) =
+          let is-lane : l < ρ .lanes = subst (λ (m : ℕ). l < m) (sym (A .same-lanes)) h in
+          rw (
+            table-passes ws (A .accepted) (unless (ltb l (laneCount ws)) 26 nothing),
+            lt-ltb l (laneCount ws) h,
+            read,
+            lanes-are-rows A l is-lane,
+          )
+          (go is-lane (leb (2 * n) (length out)) refl)
+      by-lane (no h) =
+          let past : laneCount ws ≤ l = omega arith in
+          let no-lane : ρ .lanes ≤ l = subst (λ (m : ℕ). m ≤ l) (sym (A .same-lanes)) past in
+          rw (
+            table-passes ws (A .accepted) (unless (ltb l (laneCount ws)) 26 nothing),
+            le-ltb l (laneCount ws) past,
+            read,
+          )
+          (ρ, rw (le-ltb l (ρ .lanes) no-lane), A)

@@ -1,5 +1,5 @@
 -- A tick that is made keeps the agreement of the table and the row, and its answer is one that the row gives.
-use mathlib.Core.Path.{_≡_, refl, sym, ap, _∙_, subst}
+use mathlib.Core.Path.{_≡_, refl, sym, ap, _∙_, subst, fun-ext}
 use mathlib.Core.Bool.{true, false}
 use mathlib.Core.List.{List}
 use mathlib.Core.Logic.{_≢_}
@@ -12,7 +12,7 @@ use Rattle.machine.specs.Choice.{_≟_, if_then_else_}
 use Rattle.machine.specs.Sides.{Side, left, right, opposite}
 use Rattle.machine.specs.Operations.{Operation, idle, push, pop, add, remove}
 use Rattle.machine.specs.Tasks.{Task, fresh, none, goal, Register, register, inA, inB, inC, inD}
-use Rattle.machine.specs.Table.{nodeCount, taskCount, growth, task}
+use Rattle.machine.specs.Table.{nodeCount, taskCount, growth, laneCount, task}
 use Rattle.machine.specs.Allocate.{allocate}
 use Rattle.machine.specs.Lines.{Memory, act}
 use Rattle.machine.specs.Answers.{refusalOf, isGoing}
@@ -47,7 +47,7 @@ module _ {ws : List ℕ} (A : WellFormed ws) where
   sizes = well-sized ws (A .length-passes)
 
   shape : WellShaped (columns ws)
-  shape = well-shaped ws (A .shape-passes)
+  shape = well-shaped ws (A .length-passes) (A .shape-passes)
 
   registers-ok : (k : ℕ) (r : Register) → NodeOrNone (nodeCount ws) (register (task ws k) r)
   registers-ok k r = go (task ws k .operation) refl
@@ -76,13 +76,13 @@ module _ {ws : List ℕ} (A : WellFormed ws) where
   well-linked =
       record {
         few = sizes .most-nodes;
-        hats = shape .hats-ok;
+        hats = λ l s. shape .hats-ok l s .used;
         links = shape .links-ok;
         registers = registers-ok;
       }
 
   -- What the marking keeps is closed under links and holds the hats and the registers that hold.
-  pub kept-roots : Roots (keeps ws) (viewed right ws) (task ws)
+  pub kept-roots : Roots (laneCount ws) (keeps ws) (viewed right ws) (task ws)
   kept-roots =
       let W = well-linked in
       record {
@@ -142,15 +142,15 @@ module _ {ws : List ℕ} {ρ : Row} (A : Agrees ws ρ) (k h : ℕ) (passes : tic
   is-busy : isBusy (task ws k .operation) ≡ true
   is-busy = tick-allowed ws k h passes .2
 
-  pub keeps-invariant : TickKeeps (viewed right ws) (task ws) (ρ .bags) k (effectOf ws k h)
+  pub keeps-invariant : TickKeeps (laneCount ws) (viewed right ws) (task ws) (ρ .bags) k (effectOf ws k h)
   unfolding effectOf
   keeps-invariant =
       let s = task ws k .side in
       subst
       (λ (m : Memory).
-      TickKeeps (viewed right ws) (task ws) (ρ .bags) k
+      TickKeeps (laneCount ws) (viewed right ws) (task ws) (ρ .bags) k
       (act (task ws k .step) s (opposite s) m (task ws k) (goal (growth ws) (task ws k)) (allocate ws h)))
-      (seen-viewed s ws)
+      (seen-viewed (task ws k .lane) s ws)
       (invariant-tick (A .invariant) (kept-roots (A .accepted)) k (goal (growth ws) (task ws k)) (allocate ws h)
       (not-idle (task ws k .operation) is-busy)
       (allocate-not-kept (well-linked (A .accepted)) is-hint))
@@ -167,16 +167,18 @@ module _ {ws : List ℕ} {ρ : Row} (A : Agrees ws ρ) (k h : ℕ) (passes : tic
 
   -- The table afterwards, with a row that has the bags that the invariant speaks of.
   agrees-after : (ρ′ : Row) → ρ′ .bags ≡ keeps-invariant .r' → ((j : ℕ) → ρ′ .notes j ≡ noteIn (tasks-after j))
+      → ρ′ .lanes ≡ ρ .lanes
       → ρ′ .tasks ≡ ρ .tasks
       → ρ′ .dispatched ≡ ρ .dispatched
       → Agrees (tickOn ws k h .words) ρ′
-  agrees-after ρ′ same-bags same-notes same-tasks same-dispatched =
+  agrees-after ρ′ same-bags same-notes same-lanes same-tasks same-dispatched =
       let Z = sizes (A .accepted) in
       let W = shape (A .accepted) in
       let K = tick-kept ws Z W k h in
       let e = effectOf ws k h in
       let viewed-after = tick-viewed ws k h passes Z W effect-made in
       let task-after = tick-task ws k h passes Z W effect-made in
+      let lanes-after : laneCount (tickOn ws k h .words) ≡ laneCount ws = ap (λ z. z .laneCount) (K .same-sizes) in
       record {
         accepted =
             record {
@@ -185,8 +187,9 @@ module _ {ws : List ℕ} {ρ : Row} (A : Agrees ws ρ) (k h : ℕ) (passes : tic
             };
         class = keeps-invariant .class';
         invariant =
-            rw (viewed-after, task-after, same-bags) (keeps-invariant .invariant);
+            rw (lanes-after, viewed-after, task-after, same-bags) (keeps-invariant .invariant);
         notes = λ j. rw task-after (same-notes j);
+        same-lanes = same-lanes ∙ A .same-lanes ∙ sym lanes-after;
         same-count = same-tasks ∙ A .same-count ∙ sym (ap (λ z. z .taskCount) (K .same-sizes));
         same-dispatched = same-dispatched ∙ A .same-dispatched ∙ sym (K .same-dispatched);
       }
@@ -218,42 +221,63 @@ module _ {ws : List ℕ} {ρ : Row} (A : Agrees ws ρ) (k h : ℕ) (passes : tic
   feed-going e = rw (answer-is, e, note)
 
   feed-answer : {r : List ℕ} → effectOf ws k h .answer ≢ Going
-      → answered (noteOf (task ws k)) (effectOf ws k h .answer) (ρ .bags) ≡ some r
-      → feedMade ρ k (tickOn ws k h .answer) ≡ some (noted (withBags ρ r) k nothing)
+      → answered (noteOf (task ws k)) (effectOf ws k h .answer) (ρ .bags (task ws k .lane)) ≡ some r
+      → feedMade ρ k (tickOn ws k h .answer) ≡ some (noted (withBags ρ (task ws k .lane) r) k nothing)
   unfolding feedMade bind
   feed-answer n e = rw (answer-is, note, not-going (effectOf ws k h .answer) n, e)
 
   pub made-tick : MadeTick ws ρ k h
   made-tick = go (keeps-invariant .kept)
     where
-      T : TickKeeps (viewed right ws) (task ws) (ρ .bags) k (effectOf ws k h)
+      T : TickKeeps (laneCount ws) (viewed right ws) (task ws) (ρ .bags) k (effectOf ws k h)
       T = keeps-invariant
 
       s : Side
       s = task ws k .side
 
+      ℓ : ℕ
+      ℓ = task ws k .lane
+
       no-answer-number : refusalOf (tickOn ws k h .answer) ≡ nothing
       no-answer-number = ap refusalOf answer-is ∙ effect-made
 
+      -- The other lanes' rows are as they were.
+      same-rows : ρ .bags ℓ ≡ T .r' ℓ → ρ .bags ≡ T .r'
+      same-rows e =
+          fun-ext (λ j.
+          elim (j ≟ ℓ) [
+            | yes q ↦ ap (ρ .bags) q ∙ e ∙ ap (T .r') (sym q)
+            | no n ↦ sym (T .other-rows j n)
+          ])
+
+      moved-row : withBags ρ ℓ (T .r' ℓ) .bags ≡ T .r'
+      moved-row =
+          fun-ext (λ j.
+          by-if (λ (l : List ℕ). l ≡ T .r' j) (j ≟ ℓ) (λ q. ap (T .r') (sym q)) (λ n. sym (T .other-rows j n)))
+
       go : Kept (task ws k) (effectOf ws k h) → MadeTick ws ρ k h
       go (goes-on e same) =
-          let same-row : rowFrom s (T .r') ≡ rowFrom s (ρ .bags) =
+          let same-row : rowFrom s (T .r' ℓ) ≡ rowFrom s (ρ .bags ℓ) =
           subst
           (λ (a : Answer).
-          RowStep (task ws k .operation) (task ws k .argument) a (rowFrom s (ρ .bags)) (rowFrom s (T .r')))
+          RowStep (task ws k .operation) (task ws k .argument) a (rowFrom s (ρ .bags ℓ)) (rowFrom s (T .r' ℓ)))
           e (T .row-step) in
           record {
             row = ρ;
             no-number = no-answer-number;
             given = feed-going e;
-            agrees = agrees-after ρ (sym (same-row-from s (T .r') (ρ .bags) same-row)) (notes-going same) refl refl;
+            agrees =
+                agrees-after ρ (same-rows (sym (same-row-from s (T .r' ℓ) (ρ .bags ℓ) same-row))) (notes-going same)
+                refl refl refl;
           }
       go (has-answered n fresh-now) =
-          let bags = given-by-row (noteOf (task ws k)) (ρ .bags) (T .r') (effectOf ws k h .answer) n (T .row-step) in
+          let bags =
+          given-by-row (noteOf (task ws k)) (ρ .bags ℓ) (T .r' ℓ) (effectOf ws k h .answer) n (T .row-step) in
           record {
-            row = noted (withBags ρ (T .r')) k nothing;
+            row = noted (withBags ρ ℓ (T .r' ℓ)) k nothing;
             no-number = no-answer-number;
             given = feed-answer n bags;
             agrees =
-                agrees-after (noted (withBags ρ (T .r')) k nothing) refl (notes-ended fresh-now) refl refl;
+                agrees-after (noted (withBags ρ ℓ (T .r' ℓ)) k nothing) moved-row (notes-ended fresh-now)
+                refl refl refl;
           }

@@ -28,7 +28,7 @@ pub data Reads (out : ℕ → ℕ) (val : ℕ → Value) : (x : ℕ) → List �
   at-mark : {x : ℕ} (z : Side) → x ≢ none → owner (val x) ≡ of z → Reads out val x []
   at-bag : {x : ℕ} {l : List ℕ} (b : ℕ) → x ≢ none → val x ≡ bag b → Reads out val (out x) l → Reads out val x (b ∷ l)
 
-module _ {s o : Side} {m : View} {class : ℕ → Class} {r : List ℕ} (L : Lane s o m class r) where
+module _ {ℓ : ℕ} {s o : Side} {m : View} {class : ℕ → Class} {r : List ℕ} (L : Lane ℓ s o m class r) where
   open Frame (L .frame) using (at, n, a, b, bags)
 
   reads-from : (d i : ℕ) → a < i → i + d ≡ b → Reads (m .out) (m .val) (at i) (segment bags i d)
@@ -49,7 +49,7 @@ module _ {s o : Side} {m : View} {class : ℕ → Class} {r : List ℕ} (L : Lan
       (rw (S .links .links-out i i<n) (reads-from d (suc i) (omega arith) (omega arith)))
 
   -- The far hat leads to the first place after index a.
-  first-place : m .out (m .hats o) ≡ at (suc a)
+  first-place : m .out (m .hats ℓ o) ≡ at (suc a)
   first-place =
       let S = L .structure in
       elim (S .far-hat) [
@@ -57,20 +57,20 @@ module _ {s o : Side} {m : View} {class : ℕ → Class} {r : List ℕ} (L : Lan
         | inr y ↦ y .leads-back
       ]
 
-  pub reads-row : Reads (m .out) (m .val) (m .out (m .hats o)) r
+  pub reads-row : Reads (m .out) (m .val) (m .out (m .hats ℓ o)) r
   reads-row =
       rw (first-place, ← L .row-is)
       (reads-from (b - suc a) (suc a) (omega arith) (omega (arith, L .structure .a<b)))
 
   -- The nodes of main are no more than the numbers that bound them.
-  pub main-size : (S : ℕ) → ((x : ℕ) → class x ≡ main → x < S) → suc n ≤ S
+  pub main-size : (S : ℕ) → ((x : ℕ) → class x ≡ main ℓ → x < S) → suc n ≤ S
   main-size S below =
       let M = L .structure .main-list in
       pigeonhole S (suc n) at (λ i h. below (at i) (M .is-main i (omega arith)))
       (λ i j hi hj e. cc (M .index-at i (omega arith), M .index-at j (omega arith)))
 
   -- The row and the two ends of main are different nodes of main.
-  pub row-length : (S : ℕ) → ((x : ℕ) → class x ≡ main → x < S) → length r + 2 ≤ S
+  pub row-length : (S : ℕ) → ((x : ℕ) → class x ≡ main ℓ → x < S) → length r + 2 ≤ S
   row-length S below = omega (arith, length-row, main-size S below, L .structure .a<b, L .structure .b≤n)
     where
       length-row : length r ≡ b - suc a
@@ -106,22 +106,22 @@ module _ (ws : List ℕ) where
       laneFrom-bag n x b ne v
       ∙ ap (Option·map (_∷_ b)) (laneFrom-reads n (link ws right x) R (omega arith))
 
-  pub laneFrom-row : {class : ℕ → Class} {r : List ℕ}
-      → Lane right left (viewed right ws) class r
+  pub laneFrom-row : {ℓ : ℕ} {class : ℕ → Class} {r : List ℕ}
+      → Lane ℓ right left (viewed right ws) class r
       → (n : ℕ)
       → length r < n
-      → laneFrom ws n (link ws right (hat ws left)) ≡ some r
-  laneFrom-row L n h = laneFrom-reads n (link ws right (hat ws left)) (reads-row L) h
+      → laneFrom ws n (link ws right (hat ws ℓ left)) ≡ some r
+  laneFrom-row {ℓ} L n h = laneFrom-reads n (link ws right (hat ws ℓ left)) (reads-row L) h
 
   -- A number that is no node reads as never used, so main has nodes only.
   value-outside : (x : ℕ) → ¬ (x < nodeCount ws) → value ws x ≡ never
   unfolding value
   value-outside x h = ap decode (if-no (x <? nodeCount ws) (valueWords ws x) (encode never) h) ∙ never-has-word
 
-  pub main-is-node : {class : ℕ → Class} {r : List ℕ}
-      → Lane right left (viewed right ws) class r
+  pub main-is-node : {ℓ : ℕ} {class : ℕ → Class} {r : List ℕ}
+      → Lane ℓ right left (viewed right ws) class r
       → (x : ℕ)
-      → class x ≡ main
+      → class x ≡ main ℓ
       → x < nodeCount ws
   main-is-node L x c =
       elim (x <? nodeCount ws) [
@@ -129,6 +129,7 @@ module _ (ws : List ℕ) where
         | no l ↦ absurd (main-not-never (L .structure) x c (value-outside x l))
       ]
 
-  pub lane-row : {class : ℕ → Class} {r : List ℕ} → Lane right left (viewed right ws) class r → lane ws ≡ some r
+  pub lane-row : {ℓ : ℕ} {class : ℕ → Class} {r : List ℕ} → Lane ℓ right left (viewed right ws) class r
+      → lane ws ℓ ≡ some r
   unfolding lane
   lane-row L = laneFrom-row L (nodeCount ws) (omega (arith, row-length L (nodeCount ws) (main-is-node L)))

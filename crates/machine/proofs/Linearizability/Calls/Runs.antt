@@ -37,7 +37,7 @@ use Rattle.machine.proofs.Words.TickLaws.{made-answer-fits}
 use Rattle.machine.proofs.Shape.ShapeLaws.{well-shaped}
 use Rattle.machine.proofs.Shape.Fits.{AnswerFits}
 use Rattle.machine.proofs.Words.RunLaws.{by-first, first-tick}
-use Rattle.machine.proofs.Linearizability.Calls.Agreement.{Agrees, lane-is-row}
+use Rattle.machine.proofs.Linearizability.Calls.Agreement.{Agrees, lanes-are-rows}
 use Rattle.machine.proofs.Linearizability.Calls.MadeTicks.{MadeTick, made-tick}
 use Rattle.machine.proofs.Linearizability.Calls.CallsAgree.{Explains}
 
@@ -69,7 +69,7 @@ none-made {ws} {ρ} A n list answers =
     record { row = ρ; given-by-row = refl; agrees = A; within = at-once }
   where
     at-once : WithinList list ws ρ (stopped n ws answers)
-    at-once zero h = (ρ, refl, lane-is-row A)
+    at-once zero h = (ρ, refl, lanes-are-rows A)
     at-once (suc i) h = absurd (omega arith)
 
 -- One tick is made, and then the others.
@@ -91,10 +91,11 @@ one-made {ws} {ρ} A k h list M allowed r R =
         let a = tickOn ws k h .answer in answerOf (kindOf a) (digitOf (payloadOf a)) (lowOf (payloadOf a)) ≡ some a
     words-back =
         answer-back (tickOn ws k h .answer)
-        (made-answer-fits ws k h (well-shaped ws (A .accepted .shape-passes)) allowed (M .no-number))
+        (made-answer-fits ws k h
+        (well-shaped ws (A .accepted .length-passes) (A .accepted .shape-passes)) allowed (M .no-number))
 
     at : WithinList (k ∷ h ∷ list) ws ρ (afterTick (tickOn ws k h .answer) r)
-    at zero l = (ρ, refl, lane-is-row A)
+    at zero l = (ρ, refl, lanes-are-rows A)
     at (suc i) l =
         let x = R .within i (omega arith) in
         (x .0, rw (words-back, M .given) (x .1), x .2)
@@ -115,7 +116,8 @@ ticks-explained (k ∷ h ∷ list) {ws} {ρ} answers A =
         (r : Option ℕ)
         → tickRefusal ws k h ≡ r
         → ((M : MadeTick ws ρ k h)
-        → RunExplained list (tickOn ws k h .words) (M .row) (runOn list (tickOn ws k h .words) (drop answerLength answers)))
+        → RunExplained list (tickOn ws k h .words) (M .row)
+        (runOn list (tickOn ws k h .words) (drop answerLength answers)))
         → RunExplained (k ∷ h ∷ list) ws ρ (runOn (k ∷ h ∷ list) ws answers)
     go (some n) e others =
         subst (RunExplained (k ∷ h ∷ list) ws ρ)

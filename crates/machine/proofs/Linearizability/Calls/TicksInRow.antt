@@ -12,7 +12,7 @@ use Rattle.machine.specs.Row.{Note, Row, feedMade}
 use Rattle.machine.specs.Demand3.{ticks-call, feedTick, Within}
 use Rattle.machine.proofs.Basics.Contradiction.{clash}
 use Rattle.machine.proofs.Words.RunLaws.{going-answer, first-goes-on, first-is-last, one-in-row}
-use Rattle.machine.proofs.Linearizability.Calls.Agreement.{Agrees, lane-is-row}
+use Rattle.machine.proofs.Linearizability.Calls.Agreement.{Agrees, lanes-are-rows}
 use Rattle.machine.proofs.Linearizability.Calls.CallsAgree.{Explains, tick-explained}
 
 going-stays : (ρ : Row) (k : ℕ) {ρ′ : Row} → feedTick ρ k Going ≡ some ρ′ → ρ′ ≡ ρ
@@ -51,4 +51,4 @@ module _ (k h : ℕ) where
   ticks-explained A (suc n) = let x = ticks-come n A in record { row = x .0; given-by-row = x .1; agrees = x .2 }
 
   pub ticks-within : {ws : List ℕ} {ρ : Row} → Agrees ws ρ → (n : ℕ) → Within (ticks-call k h n) ws ρ
-  ticks-within A n i l = let E = ticks-explained A i in (E .row, E .given-by-row, lane-is-row (E .agrees))
+  ticks-within A n i l = let E = ticks-explained A i in (E .row, E .given-by-row, lanes-are-rows (E .agrees))

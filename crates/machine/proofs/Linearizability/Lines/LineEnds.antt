@@ -25,7 +25,7 @@ use Rattle.machine.proofs.Linearizability.Model.Phases.{
   Chains,
   TaskOk,
 }
-use Rattle.machine.proofs.Linearizability.Model.Invariant.{Lane, RowStep, noteOf, goes-on, has-answered, TickOk}
+use Rattle.machine.proofs.Linearizability.Model.Invariant.{Lanes, RowStep, noteOf, goes-on, has-answered, TickOk}
 use Rattle.machine.proofs.Linearizability.Lines.Connectives.{ok-through}
 
 pub fresh-ok : {k : ℕ} {s o : Side} {m : View} {class : ℕ → Class}
@@ -33,42 +33,44 @@ pub fresh-ok : {k : ℕ} {s o : Side} {m : View} {class : ℕ → Class}
     → TaskOk k s o m class rest fresh
 fresh-ok h = record { relies = tt; chain = record { none-new = h; no-head = refl }; belongs = refl }
 
-module _ {held : ℕ → Bool} {k : ℕ} {s o : Side} {m : View} {class : ℕ → Class} {r : List ℕ} {t : Task} where
+module _ {held : ℕ → Bool} {L k : ℕ} {s o : Side} {m : View} {class : ℕ → Class} {r : ℕ → List ℕ} {t : Task} where
   -- Through a register that is not none.
   pub past : {x : ℕ} {e : Effect}
       → x ≢ none
-      → TickOk held k s o m class r t e
-      → TickOk held k s o m class r t (through x t e)
-  past some h = ok-through (TickOk held k s o m class r t) (λ e. absurd (some e)) (λ _. h)
+      → TickOk held L k s o m class r t e
+      → TickOk held L k s o m class r t (through x t e)
+  past some h = ok-through (TickOk held L k s o m class r t) (λ e. absurd (some e)) (λ _. h)
 
-  pub goes : Lane s o m class r
+  pub goes : Lanes L s o m class r
       → {t' : Task}
       → noteOf t' ≡ noteOf t
       → TaskOk k s o m class (t' .step) t'
-      → TickOk held k s o m class r t (record { writes = []; task = t'; answer = Going })
-  goes L e h =
+      → TickOk held L k s o m class r t (record { writes = []; task = t'; answer = Going })
+  goes D e h =
       record {
         class' = class;
         r' = r;
-        lane = L;
+        lanes = D;
         row-step = refl;
+        other-rows = λ l ne. refl;
         guarantees = guarantees-refl held k;
         task-ok = h;
         kept = goes-on refl e;
       }
 
-  pub answers-ok : Lane s o m class r
+  pub answers-ok : Lanes L s o m class r
       → (a : Answer)
       → a ≢ Going
-      → RowStep (t .operation) (t .argument) a r r
+      → RowStep (t .operation) (t .argument) a (r (t .lane)) (r (t .lane))
       → NoChain k class (t .D)
-      → TickOk held k s o m class r t (answers a)
-  answers-ok L a ne e h =
+      → TickOk held L k s o m class r t (answers a)
+  answers-ok D a ne e h =
       record {
         class' = class;
         r' = r;
-        lane = L;
+        lanes = D;
         row-step = e;
+        other-rows = λ l ne. refl;
         guarantees = guarantees-refl held k;
         task-ok = fresh-ok (h .none-new);
         kept = has-answered ne refl;

@@ -3,7 +3,7 @@ use mathlib.Core.Path.{_≡_, refl, sym, _∙_}
 use mathlib.Core.Logic.{_≢_, _⊎_, inl, inr}
 use mathlib.Core.Bool.{Bool}
 use mathlib.Core.List.{List, []}
-use Prim.Native.Nat.{ℕ, suc, _-_}
+use Prim.Native.Nat.{ℕ, suc, _-_, _<_}
 use native.Mathlib.Omega.{arith}
 use Rattle.machine.specs.declared.Answer.the-variants.{Empty, Yes}
 use Rattle.machine.specs.Choice.{_≟_}
@@ -30,7 +30,7 @@ use Rattle.machine.specs.Lines.{Effect, next, answers, afterRead, act}
 use Rattle.machine.proofs.Basics.Contradiction.{refute}
 use Rattle.machine.proofs.Words.Memories.{View, seenIn}
 use Rattle.machine.proofs.Linearizability.Model.Classes.{Class, spur, Old}
-use Rattle.machine.proofs.Linearizability.Model.Structure.{linked, Frame}
+use Rattle.machine.proofs.Linearizability.Model.Structure.{linked, Frame, Structure}
 use Rattle.machine.proofs.Linearizability.Model.Nodes.{
   old-some,
   spur-some,
@@ -44,41 +44,47 @@ use Rattle.machine.proofs.Linearizability.Model.Segments.{segment-empty
 use Rattle.machine.proofs.Linearizability.Model.Chain.{NoChain}
 use Rattle.machine.proofs.Linearizability.Model.Reliance.{PopPair, EmptyPair, BagPair, CutPair, SpurPair}
 use Rattle.machine.proofs.Linearizability.Model.Phases.{TaskOk}
-use Rattle.machine.proofs.Linearizability.Model.Invariant.{Lane, TickOk}
+use Rattle.machine.proofs.Linearizability.Model.Invariant.{Lane, Lanes, every-lane, TickOk}
 use Rattle.machine.proofs.Linearizability.Lines.Connectives.{ok-if, ok-dcas}
 use Rattle.machine.proofs.Linearizability.Lines.LineEnds.{past, goes, answers-ok}
 
-module _ (held : ℕ → Bool) (k : ℕ) {s o : Side} {m : View} {class : ℕ → Class} {r : List ℕ}
-    (L : Lane s o m class r) (t : Task) (g f : ℕ) where
-  open Frame (L .frame) using (a, b, bags)
+module _ (held : ℕ → Bool) (k : ℕ) {L : ℕ} {s o : Side} {m : View} {class : ℕ → Class} {r : ℕ → List ℕ}
+    (D : Lanes L s o m class r) (t : Task) (own : t .lane < L) (g f : ℕ) where
+  open Frame (D .lane (t .lane) own .frame) using (a, b, bags)
 
   abbrev Ok : Effect → Type 0
-  Ok e = TickOk held k s o m class r t e
+  Ok e = TickOk held L k s o m class r t e
 
   abbrev LineOk : Step → Type 0
-  LineOk st = TaskOk k s o m class st t → Ok (act st s o (seenIn s m) t g f)
+  LineOk st = TaskOk k s o m class st t → Ok (act st s o (seenIn (t .lane) s m) t g f)
+
+  abbrev mine : Lane (t .lane) s o m class (r (t .lane))
+  mine = D .lane (t .lane) own
+
+  abbrev S : Structure (t .lane) s o m class (mine .frame)
+  S = mine .structure
 
   some : (x : ℕ) → Old class x → x ≢ none
-  some = old-some (L .structure)
+  some = old-some S
 
   -- ---- Pop.
   pub line39-ok : LineOk line39
   unfolding act
-  line39-ok h = goes L refl (record { relies = hat-old (L .structure); chain = h .chain; belongs = h .belongs })
+  line39-ok h = goes D refl (record { relies = hat-old S; chain = h .chain; belongs = h .belongs })
 
   pub line40-ok : LineOk line40
   unfolding act
   line40-ok h =
       past (some _ (h .relies))
       (ok-if Ok (λ st. next (withB t (m .inn (t .A))) st) (_ ≟ _)
-      (λ e. goes L refl (record { relies = tt; chain = h .chain; belongs = h .belongs }))
-      (λ e. goes L refl (record { relies = pair e; chain = h .chain; belongs = h .belongs })))
+      (λ e. goes D refl (record { relies = tt; chain = h .chain; belongs = h .belongs }))
+      (λ e. goes D refl (record { relies = pair e; chain = h .chain; belongs = h .belongs })))
     where
       pair : m .inn (t .A) ≢ none → PopPair o m class (t .A) (m .inn (t .A))
       pair e =
           record {
             A-old = h .relies;
-            B-old = inn-old (L .structure) _ (h .relies) e;
+            B-old = inn-old S (every-lane D) _ (h .relies) e;
             B-precedes = inr (linked refl);
           }
 
@@ -87,19 +93,19 @@ module _ (held : ℕ → Bool) (k : ℕ) {s o : Side} {m : View} {class : ℕ �
   line42-ok h = past (some _ (h .relies .B-old)) (by-value (m .val (t .B)))
     where
       again : (v : Value) → Ok (next (withValue t v) line39)
-      again v = goes L refl (record { relies = tt; chain = h .chain; belongs = h .belongs })
+      again v = goes D refl (record { relies = tt; chain = h .chain; belongs = h .belongs })
 
       empty-pair : (v : Value) → (v ≡ N o) ⊎ (v ≡ X o) → EmptyPair o m class (t .A) (t .B) v
       empty-pair v e = record { pair = h .relies; read-mark = e }
 
       to-48 : (v : Value) → (v ≡ N o) ⊎ (v ≡ X o) → Ok (next (withValue t v) line48)
-      to-48 v e = goes L refl (record { relies = empty-pair v e; chain = h .chain; belongs = h .belongs })
+      to-48 v e = goes D refl (record { relies = empty-pair v e; chain = h .chain; belongs = h .belongs })
 
       bag-pair : (b : ℕ) → BagPair o m class (t .A) (t .B) (bag b)
       bag-pair b = record { pair = h .relies; bag-read = b; read-bag = refl }
 
       to-51 : (b : ℕ) → Ok (next (withValue t (bag b)) line51)
-      to-51 b = goes L refl (record { relies = bag-pair b; chain = h .chain; belongs = h .belongs })
+      to-51 b = goes D refl (record { relies = bag-pair b; chain = h .chain; belongs = h .belongs })
 
       by-value : (v : Value) → Ok (next (withValue t v) (afterRead o v))
       by-value never = again never
@@ -111,7 +117,7 @@ module _ (held : ℕ → Bool) (k : ℕ) {s o : Side} {m : View} {class : ℕ �
       by-value (Y z) = again (Y z)
 
   -- The hat is A and B holds a mark of the other side: there is no bag between the hats.
-  module _ (p : EmptyPair o m class (t .A) (t .B) (t .value)) (hat-A : m .hats s ≡ t .A)
+  module _ (p : EmptyPair o m class (t .A) (t .B) (t .value)) (hat-A : m .hats (t .lane) s ≡ t .A)
       (B-value : m .val (t .B) ≡ t .value) where
     B-mark : (m .val (t .B) ≡ N o) ⊎ (m .val (t .B) ≡ X o)
     B-mark = elim (p .read-mark) [ inl u ↦ inl (B-value ∙ u) | inr u ↦ inr (B-value ∙ u) ]
@@ -121,13 +127,13 @@ module _ (held : ℕ → Bool) (k : ℕ) {s o : Side} {m : View} {class : ℕ �
 
     hats-adjacent : b ≡ suc a
     hats-adjacent =
-        let before : suc (b - 1) ≡ b = omega (arith, L .structure .a<b) in
-        pop-empty (L .structure) before hat-A (p .pair .B-precedes) B-not-Y B-mark
+        let before : suc (b - 1) ≡ b = omega (arith, S .a<b) in
+        pop-empty S before hat-A (p .pair .B-precedes) B-not-Y B-mark
 
-    row-empty : r ≡ []
+    row-empty : r (t .lane) ≡ []
     row-empty =
         let e = hats-adjacent in
-        sym (L .row-is) ∙ segment-empty bags (suc a) (b - suc a) (omega arith)
+        sym (mine .row-is) ∙ segment-empty bags (suc a) (b - suc a) (omega arith)
 
   pub line48-ok : LineOk line48
   unfolding act
@@ -136,19 +142,19 @@ module _ (held : ℕ → Bool) (k : ℕ) {s o : Side} {m : View} {class : ℕ �
       (ok-dcas Ok _ _
       (λ hat-A B-value.
       let q = row-empty (h .relies) (cc) (cc) in
-      answers-ok L Empty (λ e. refute (cc)) (h .belongs, q, q) (h .chain))
-      (goes L refl (record { relies = tt; chain = h .chain; belongs = h .belongs })))
+      answers-ok D Empty (λ e. refute (cc)) (h .belongs, q, q) (h .chain))
+      (goes D refl (record { relies = tt; chain = h .chain; belongs = h .belongs })))
 
   -- ---- Remove.
   pub line54-ok : LineOk line54
   unfolding act
   line54-ok h =
-      ok-if Ok (λ st. next (withA t (m .hats s)) st) (_ ≟ _)
-      (λ _. goes L refl (record { relies = hat-old (L .structure); chain = h .chain; belongs = h .belongs }))
-      (λ _. goes L refl (record { relies = hat-old (L .structure); chain = h .chain; belongs = h .belongs }))
+      ok-if Ok (λ st. next (withA t (m .hats (t .lane) s)) st) (_ ≟ _)
+      (λ _. goes D refl (record { relies = hat-old S; chain = h .chain; belongs = h .belongs }))
+      (λ _. goes D refl (record { relies = hat-old S; chain = h .chain; belongs = h .belongs }))
 
   answers-yes : t .operation ≡ remove → NoChain k class (t .D) → Ok (answers Yes)
-  answers-yes e h = answers-ok L Yes (λ e. refute (cc)) (inr e, refl) h
+  answers-yes e h = answers-ok D Yes (λ e. refute (cc)) (inr e, refl) h
 
   pub line56-ok : LineOk line56
   unfolding act
@@ -156,7 +162,7 @@ module _ (held : ℕ → Bool) (k : ℕ) {s o : Side} {m : View} {class : ℕ �
       past (some _ (h .relies))
       (ok-if Ok (λ e. e) (_ ≟ᵛ _)
       (λ _. answers-yes (h .belongs) (h .chain))
-      (λ _. goes L refl (record { relies = h .relies; chain = h .chain; belongs = h .belongs })))
+      (λ _. goes D refl (record { relies = h .relies; chain = h .chain; belongs = h .belongs })))
 
   pub line58-ok : LineOk line58
   unfolding act
@@ -165,11 +171,11 @@ module _ (held : ℕ → Bool) (k : ℕ) {s o : Side} {m : View} {class : ℕ �
       (ok-if Ok (λ e. e) (_ ≟ _)
       (λ _. answers-yes (h .belongs) (h .chain))
       (λ e. ok-if Ok F (_ ≟ _)
-      (λ _. goes L refl (record { relies = A-old e; chain = h .chain; belongs = h .belongs }))
-      (λ _. goes L refl (record { relies = A-old e; chain = h .chain; belongs = h .belongs }))))
+      (λ _. goes D refl (record { relies = A-old e; chain = h .chain; belongs = h .belongs }))
+      (λ _. goes D refl (record { relies = A-old e; chain = h .chain; belongs = h .belongs }))))
     where
       A-old : m .out (t .A) ≢ none → Old class (m .out (t .A))
-      A-old e = out-old (L .structure) _ (h .relies) e
+      A-old e = out-old S (every-lane D) _ (h .relies) e
 
       F : Step → Effect
       F st = next (withCounted (withA t (m .out (t .A))) (suc (t .counted))) st
@@ -180,28 +186,28 @@ module _ (held : ℕ → Bool) (k : ℕ) {s o : Side} {m : View} {class : ℕ �
       past (some _ (h .relies))
       (ok-if Ok (λ e. e) (_ ≟ _)
       (λ _. answers-yes (h .belongs) (h .chain))
-      (λ e. goes L refl (record { relies = pair e; chain = h .chain; belongs = h .belongs })))
+      (λ e. goes D refl (record { relies = pair e; chain = h .chain; belongs = h .belongs })))
     where
       pair : m .out (t .A) ≢ none → CutPair s m class (t .A) (m .out (t .A))
       pair e =
           record {
             A-old = h .relies;
-            B-old = out-old (L .structure) _ (h .relies) e;
-            main-next = λ _. linked refl;
-            spur-next = λ c. spur-out (L .structure) _ c e;
+            B-old = out-old S (every-lane D) _ (h .relies) e;
+            main-next = λ _ _. linked refl;
+            spur-next = λ c. spur-out S _ c e;
           }
 
   -- A node of the spur and what its outward link leads to.
   spur-pair : (x : ℕ) → class x ≡ spur s → m .out x ≢ none → SpurPair s class x (m .out x)
-  spur-pair x c e = record { A-spur = c; B-spur = spur-out (L .structure) x c e }
+  spur-pair x c e = record { A-spur = c; B-spur = spur-out S x c e }
 
   pub line74-ok : LineOk line74
   unfolding act
   line74-ok h =
-      past (spur-some (L .structure) _ (h .relies))
+      past (spur-some S _ (h .relies))
       (ok-if Ok F (_ ≟ _)
-      (λ e. goes L refl (record { relies = h .relies; chain = h .chain; belongs = h .belongs }))
-      (λ e. goes L refl (record { relies = pair e; chain = h .chain; belongs = h .belongs })))
+      (λ e. goes D refl (record { relies = h .relies; chain = h .chain; belongs = h .belongs }))
+      (λ e. goes D refl (record { relies = pair e; chain = h .chain; belongs = h .belongs })))
     where
       pair : m .out (t .B) ≢ none → SpurPair s class (t .B) (m .out (t .B))
       pair e = spur-pair (t .B) (h .relies) e
@@ -212,18 +218,18 @@ module _ (held : ℕ → Bool) (k : ℕ) {s o : Side} {m : View} {class : ℕ �
   pub line77-ok : LineOk line77
   unfolding act
   line77-ok h =
-      past (spur-some (L .structure) _ (h .relies .B-spur))
-      (goes L refl (record { relies = h .relies; chain = h .chain; belongs = h .belongs }))
+      past (spur-some S _ (h .relies .B-spur))
+      (goes D refl (record { relies = h .relies; chain = h .chain; belongs = h .belongs }))
 
   pub line81-ok : LineOk line81
   unfolding act
   line81-ok h =
-      past (spur-some (L .structure) _ (h .relies))
+      past (spur-some S _ (h .relies))
       (ok-if Ok F (_ ≟ _)
-      (λ e. goes L refl (record { relies = h .relies; chain = h .chain; belongs = h .belongs }))
+      (λ e. goes D refl (record { relies = h .relies; chain = h .chain; belongs = h .belongs }))
       (λ e. ok-if Ok F (_ ≟ᵛ _)
-      (λ _. goes L refl (record { relies = h .relies; chain = h .chain; belongs = h .belongs }))
-      (λ _. goes L refl (record { relies = pair e; chain = h .chain; belongs = h .belongs }))))
+      (λ _. goes D refl (record { relies = h .relies; chain = h .chain; belongs = h .belongs }))
+      (λ _. goes D refl (record { relies = pair e; chain = h .chain; belongs = h .belongs }))))
     where
       pair : m .out (t .A) ≢ none → SpurPair s class (t .A) (m .out (t .A))
       pair e = spur-pair (t .A) (h .relies) e

@@ -3,7 +3,7 @@ use mathlib.Core.Path.{_≡_, refl}
 use mathlib.Core.Logic.{_≢_, inl}
 use mathlib.Core.Bool.{Bool}
 use mathlib.Core.List.{List}
-use Prim.Native.Nat.{ℕ}
+use Prim.Native.Nat.{ℕ, _<_}
 use Rattle.machine.specs.Choice.{_≟_}
 use Rattle.machine.specs.Sides.{Side}
 use Rattle.machine.specs.Values.{Y, _≟ᵛ_}
@@ -33,39 +33,46 @@ use Rattle.machine.proofs.Linearizability.Model.Nodes.{
 }
 use Rattle.machine.proofs.Linearizability.Model.Reliance.{PushPair, OnY, BehindY, PastY}
 use Rattle.machine.proofs.Linearizability.Model.Phases.{with-chain, without-chain, TaskOk}
-use Rattle.machine.proofs.Linearizability.Model.Invariant.{Lane, TickOk}
+use Rattle.machine.proofs.Linearizability.Model.Structure.{Structure}
+use Rattle.machine.proofs.Linearizability.Model.Invariant.{Lane, Lanes, every-lane, TickOk}
 use Rattle.machine.proofs.Linearizability.Lines.Connectives.{ok-if}
 use Rattle.machine.proofs.Linearizability.Lines.LineEnds.{past, goes, back-ok}
 
-module _ (held : ℕ → Bool) (k : ℕ) {s o : Side} {m : View} {class : ℕ → Class} {r : List ℕ}
-    (L : Lane s o m class r) (t : Task) (g f : ℕ) where
+module _ (held : ℕ → Bool) (k : ℕ) {L : ℕ} {s o : Side} {m : View} {class : ℕ → Class} {r : ℕ → List ℕ}
+    (D : Lanes L s o m class r) (t : Task) (own : t .lane < L) (g f : ℕ) where
   abbrev Ok : Effect → Type 0
-  Ok e = TickOk held k s o m class r t e
+  Ok e = TickOk held L k s o m class r t e
 
   abbrev LineOk : Step → Type 0
-  LineOk st = TaskOk k s o m class st t → Ok (act st s o (seenIn s m) t g f)
+  LineOk st = TaskOk k s o m class st t → Ok (act st s o (seenIn (t .lane) s m) t g f)
+
+  abbrev mine : Lane (t .lane) s o m class (r (t .lane))
+  mine = D .lane (t .lane) own
+
+  abbrev S : Structure (t .lane) s o m class (mine .frame)
+  S = mine .structure
 
   some : (x : ℕ) → Old class x → x ≢ none
-  some = old-some (L .structure)
+  some = old-some S
 
   pub line2-ok : LineOk line2
   unfolding act
-  line2-ok h = goes L refl (record { relies = hat-old (L .structure); chain = h .chain; belongs = h .belongs })
+  line2-ok h = goes D refl (record { relies = hat-old S; chain = h .chain; belongs = h .belongs })
 
   pub line3-ok : LineOk line3
   unfolding act
   line3-ok h =
       past (some _ (h .relies))
       (ok-if Ok (λ st. next (withB t (m .out (t .A))) st) (_ ≟ _)
-      (λ e. goes L refl (record { relies = h .relies; chain = h .chain; belongs = h .belongs }))
-      (λ e. goes L refl (record { relies = pair e; chain = h .chain; belongs = h .belongs })))
+      (λ e. goes D refl (record { relies = h .relies; chain = h .chain; belongs = h .belongs }))
+      (λ e. goes D refl (record { relies = pair e; chain = h .chain; belongs = h .belongs })))
     where
       pair : m .out (t .A) ≢ none → PushPair s m class (t .A) (m .out (t .A))
       pair e =
           record {
             A-old = h .relies;
-            B-old = out-old (L .structure) _ (h .relies) e;
-            B-follows = λ _. inl refl;
+            B-old = out-old S (every-lane D) _ (h .relies) e;
+            B-follows = λ _ _. inl refl;
           }
 
   pub line8-ok : LineOk line8
@@ -74,34 +81,34 @@ module _ (held : ℕ → Bool) (k : ℕ) {s o : Side} {m : View} {class : ℕ �
       let no-chain = without-chain (h .chain) (h .belongs) in
       past (some _ (h .relies))
       (ok-if Ok (λ st. next t st) (_ ≟ᵛ _)
-      (λ e. goes L refl (record { relies = tt; chain = h .chain; belongs = inl (h .belongs) }))
-      (λ e. goes L refl (record { relies = tt; chain = no-chain; belongs = inl (h .belongs) })))
+      (λ e. goes D refl (record { relies = tt; chain = h .chain; belongs = inl (h .belongs) }))
+      (λ e. goes D refl (record { relies = tt; chain = no-chain; belongs = inl (h .belongs) })))
 
   pub line67-ok : LineOk line67
   unfolding act
-  line67-ok h = goes L refl (record { relies = hat-old (L .structure); chain = h .chain; belongs = h .belongs })
+  line67-ok h = goes D refl (record { relies = hat-old S; chain = h .chain; belongs = h .belongs })
 
   pub line68-ok : LineOk line68
   unfolding act
   line68-ok h =
       past (some _ (h .relies))
       (ok-if Ok (λ st. next t st) (_ ≟ᵛ _)
-      (λ e. goes L refl (record { relies = on-Y e; chain = h .chain; belongs = h .belongs }))
-      (λ e. goes L refl goes-back))
+      (λ e. goes D refl (record { relies = on-Y e; chain = h .chain; belongs = h .belongs }))
+      (λ e. goes D refl goes-back))
     where
       on-Y : m .val (t .A) ≡ Y s → OnY s m class (t .A)
-      on-Y e = record { A-spur = Y-in-spur (L .structure) _ (h .relies) e; A-Y = e }
+      on-Y e = record { A-spur = Y-in-spur S (every-lane D) _ (h .relies) e; A-Y = e }
 
       goes-back : TaskOk k s o m class (back t) (goto t (back t))
       goes-back =
-          back-ok (L .structure .none-free) (goto t (back t)) (t .operation) refl (t .D ≟ none)
+          back-ok (S .none-free) (goto t (back t)) (t .operation) refl (t .D ≟ none)
           (h .chain) (h .belongs)
 
   pub line69-ok : LineOk line69
   unfolding act
   line69-ok h =
-      past (spur-some (L .structure) _ (h .relies .A-spur))
-      (goes L refl (record { relies = behind-Y; chain = h .chain; belongs = h .belongs }))
+      past (spur-some S _ (h .relies .A-spur))
+      (goes D refl (record { relies = behind-Y; chain = h .chain; belongs = h .belongs }))
     where
       behind-Y : BehindY s m class (t .A) (m .inn (t .A))
       behind-Y = record { A-spur = h .relies .A-spur; A-Y = h .relies .A-Y; B-inward = refl }
@@ -111,19 +118,19 @@ module _ (held : ℕ → Bool) (k : ℕ) {s o : Side} {m : View} {class : ℕ �
   line70-ok h =
       past (some _ B-old)
       (ok-if Ok (λ st. next (withC t (m .out (t .B))) st) (_ ≟ _)
-      (λ e. goes L refl goes-back)
-      (λ e. goes L refl (record { relies = past-Y e; chain = h .chain; belongs = h .belongs })))
+      (λ e. goes D refl goes-back)
+      (λ e. goes D refl (record { relies = past-Y e; chain = h .chain; belongs = h .belongs })))
     where
       B-old : Old class (t .B)
-      B-old = cc (h .relies .B-inward, L .structure .near-spur .inward-old (t .A) (h .relies .A-spur))
+      B-old = cc (h .relies .B-inward, S .near-spur .inward-old (t .A) (h .relies .A-spur))
 
       past-Y : m .out (t .B) ≢ none → PastY s m class (t .A) (m .out (t .B))
       past-Y e =
           record {
             A-spur = h .relies .A-spur;
             A-Y = h .relies .A-Y;
-            C-old = out-old (L .structure) _ B-old e;
-            C-follows = λ _. inl (cc (h .relies .B-inward));
+            C-old = out-old S (every-lane D) _ B-old e;
+            C-follows = λ _ _. inl (cc (h .relies .B-inward));
           }
 
       u : Task
@@ -131,23 +138,23 @@ module _ (held : ℕ → Bool) (k : ℕ) {s o : Side} {m : View} {class : ℕ �
 
       goes-back : TaskOk k s o m class (back t) u
       goes-back =
-          back-ok (L .structure .none-free) u (t .operation) refl (t .D ≟ none) (h .chain) (h .belongs)
+          back-ok (S .none-free) u (t .operation) refl (t .D ≟ none) (h .chain) (h .belongs)
 
   pub line15-ok : LineOk line15
   unfolding act
-  line15-ok h = goes L refl (record { relies = hat-old (L .structure); chain = h .chain; belongs = h .belongs })
+  line15-ok h = goes D refl (record { relies = hat-old S; chain = h .chain; belongs = h .belongs })
 
   pub line17-ok : LineOk line17
   unfolding act
   line17-ok h =
       past (some _ (h .relies))
       (ok-if Ok F (_ ≟ᵛ _)
-      (λ _. goes L refl (record { relies = h .relies; chain = h .chain; belongs = h .belongs }))
+      (λ _. goes D refl (record { relies = h .relies; chain = h .chain; belongs = h .belongs }))
       (λ _. ok-if Ok F (_ ≟ᵛ _)
-      (λ _. goes L refl (record { relies = tt; chain = with-chain (h .chain); belongs = h .belongs }))
+      (λ _. goes D refl (record { relies = tt; chain = with-chain (h .chain); belongs = h .belongs }))
       (λ _. ok-if Ok F (_ ≟ᵛ _)
-      (λ _. goes L refl (record { relies = h .relies; chain = h .chain; belongs = h .belongs }))
-      (λ _. goes L refl (record { relies = tt; chain = h .chain; belongs = h .belongs })))))
+      (λ _. goes D refl (record { relies = h .relies; chain = h .chain; belongs = h .belongs }))
+      (λ _. goes D refl (record { relies = tt; chain = h .chain; belongs = h .belongs })))))
     where
       F : Step → Effect
       F st = next (withValue t (m .val (t .A))) st
@@ -157,8 +164,8 @@ module _ (held : ℕ → Bool) (k : ℕ) {s o : Side} {m : View} {class : ℕ �
   line18-ok h =
       past (some _ (h .relies))
       (ok-if Ok (λ st. next (withA t (m .out (t .A))) st) (_ ≟ _)
-      (λ e. goes L refl (record { relies = tt; chain = h .chain; belongs = h .belongs }))
-      (λ e. goes L refl (record { relies = A-old e; chain = h .chain; belongs = h .belongs })))
+      (λ e. goes D refl (record { relies = tt; chain = h .chain; belongs = h .belongs }))
+      (λ e. goes D refl (record { relies = A-old e; chain = h .chain; belongs = h .belongs })))
     where
       A-old : m .out (t .A) ≢ none → Old class (m .out (t .A))
-      A-old e = out-old (L .structure) _ (h .relies) e
+      A-old e = out-old S (every-lane D) _ (h .relies) e

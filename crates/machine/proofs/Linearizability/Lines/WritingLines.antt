@@ -1,9 +1,9 @@
 -- The lines that write nodes or hats, but for those that build a chain: 5, 51, 62, 64, 72, 78, 79 and 82.
 use mathlib.Core.Path.{_≡_, refl, ap, sym, subst, _∙_}
 use mathlib.Core.Logic.{_≢_, inr}
-use mathlib.Core.Bool.{Bool}
+use mathlib.Core.Bool.{Bool, true}
 use mathlib.Core.List.{List, [], _∷_, _++_}
-use Prim.Native.Nat.{ℕ, suc, _-_}
+use Prim.Native.Nat.{ℕ, suc, _-_, _<_}
 use native.Mathlib.Omega.{arith}
 use Rattle.machine.specs.declared.Answer.{Answer}
 use Rattle.machine.specs.declared.Answer.the-variants.{Pushed, Bag, No}
@@ -14,7 +14,15 @@ use Rattle.machine.specs.Steps.{Step, line5, line51, line62, line64, lin
 use Rattle.machine.specs.Tasks.{Task, none, goto}
 use Rattle.machine.specs.Lines.{Write, out≔, val≔, hat≔, Effect, next, answers, writing, back, bagOf, act}
 use Rattle.machine.proofs.Basics.Contradiction.{clash, refute}
-use Rattle.machine.proofs.Basics.Updates.{Wrote, update, update-wrote, updateSide}
+use Rattle.machine.proofs.Basics.Updates.{
+  Wrote,
+  update,
+  update-same,
+  update-other,
+  update-wrote,
+  updateHat,
+  updateHat-elsewhere,
+}
 use Rattle.machine.proofs.Words.Memories.{View, seenIn, written, view-equal}
 use Rattle.machine.proofs.Linearizability.Model.Classes.{
   Class,
@@ -34,14 +42,24 @@ use Rattle.machine.proofs.Linearizability.Writes.ClassChanges.{
   cutClass,
   cutClass-cut,
 }
-use Rattle.machine.proofs.Linearizability.Model.Structure.{LinkedOrCut, Frame}
-use Rattle.machine.proofs.Linearizability.Model.Guarantee.{Guarantees, guarantees-refl}
+use Rattle.machine.proofs.Linearizability.Model.Structure.{LinkedOrCut, Frame, Structure}
+use Rattle.machine.proofs.Linearizability.Model.Guarantee.{Guarantees, GuaranteesIn, guarantees-refl}
 use Rattle.machine.proofs.Linearizability.Model.Nodes.{old-some, spur-some, own-mark-not-far}
 use Rattle.machine.proofs.Linearizability.Writes.MainWrites.{value-guarantee, value-chains-kept}
+use Rattle.machine.proofs.Linearizability.Writes.OtherLanes.{LeftAlone, other-lane}
 use Rattle.machine.proofs.Linearizability.Writes.Push.{push-main, push-keeps, pushedFrame}
 use Rattle.machine.proofs.Linearizability.Writes.Pop.{pop-main, pop-in-row, pop-bag, pop-keeps, poppedFrame}
 use Rattle.machine.proofs.Linearizability.Writes.Unspur.{unspur-keeps}
-use Rattle.machine.proofs.Linearizability.Writes.Cut.{cut-A, cut-B, cut-keeps, cut-guarantees, cutFrame}
+use Rattle.machine.proofs.Linearizability.Writes.Cut.{
+  cut-A,
+  cut-B,
+  cut-keeps,
+  cut-stays-main,
+  cut-was-main,
+  cut-same-value,
+  cut-guarantees,
+  cutFrame,
+}
 use Rattle.machine.proofs.Linearizability.Writes.Spur.{SpurStep, spur-keeps, spur-guarantees}
 use Rattle.machine.proofs.Linearizability.Writes.SpurLines.{spur-cut, spur-mark-Y, spur-unlink, unlink}
 use Rattle.machine.proofs.Linearizability.Model.Segments.{row-pushed, row-popped}
@@ -50,6 +68,10 @@ use Rattle.machine.proofs.Linearizability.Model.Phases.{with-chain, wit
 use Rattle.machine.proofs.Linearizability.Model.Invariant.{
   Lane,
   same-places,
+  Lanes,
+  every-lane,
+  same-lanes,
+  one-lane,
   RowStep,
   Kept,
   goes-on,
@@ -60,30 +82,68 @@ use Rattle.machine.proofs.Linearizability.Model.Invariant.{
 use Rattle.machine.proofs.Linearizability.Lines.Connectives.{ok-if, ok-dcas}
 use Rattle.machine.proofs.Linearizability.Lines.LineEnds.{fresh-ok, past, goes, answers-ok, back-ok}
 
-module _ (held : ℕ → Bool) (k : ℕ) {s o : Side} {m : View} {class : ℕ → Class} {r : List ℕ}
-    (L : Lane s o m class r) (t : Task) (g f : ℕ) where
-  open Frame (L .frame) using (at, index, n, a, b, bags)
+module _ (held : ℕ → Bool) (k : ℕ) {L : ℕ} {s o : Side} {m : View} {class : ℕ → Class} {r : ℕ → List ℕ}
+    (D : Lanes L s o m class r) (t : Task) (own : t .lane < L) (g f : ℕ) where
+  open Frame (D .lane (t .lane) own .frame) using (a, b, bags)
 
   abbrev Ok : Effect → Type 0
-  Ok e = TickOk held k s o m class r t e
+  Ok e = TickOk held L k s o m class r t e
 
   abbrev LineOk : Step → Type 0
-  LineOk st = TaskOk k s o m class st t → Ok (act st s o (seenIn s m) t g f)
+  LineOk st = TaskOk k s o m class st t → Ok (act st s o (seenIn (t .lane) s m) t g f)
+
+  abbrev mine : Lane (t .lane) s o m class (r (t .lane))
+  mine = D .lane (t .lane) own
+
+  abbrev S : Structure (t .lane) s o m class (mine .frame)
+  S = mine .structure
 
   some : (x : ℕ) → Old class x → x ≢ none
-  some = old-some (L .structure)
+  some = old-some S
 
   -- A value written to a node of main.
-  value-written : (x : ℕ) (v : Value)
-      → class x ≡ main
-      → Guarantees held k s o (m .out) (m .inn) (m .val) class (m .out) (m .inn) (update (m .val) x v) class
-  value-written x v c =
+  value-written : (u : ℕ → Bool) (x : ℕ) (v : Value)
+      → class x ≡ main (t .lane)
+      → Guarantees u k s o (m .out) (m .inn) (m .val) class (m .out) (m .inn) (update (m .val) x v) class
+  value-written u x v c =
       let w = update-wrote (m .val) x v in
       record {
-        near = value-guarantee w c held;
-        far = value-guarantee w c held;
+        near = value-guarantee w c u;
+        far = value-guarantee w c u;
         chains = value-chains-kept k w (cc);
       }
+
+  -- The hat moves to y and the value v is written to x, a node of the task's lane: the other lanes are left alone.
+  abbrev moved : (y x : ℕ) → Value → View
+  moved y x v = written (t .lane) s (hat≔ y ∷ val≔ x v ∷ []) m
+
+  others-alone : (y x : ℕ) (v : Value) → class x ≡ main (t .lane) → (l : ℕ) → l ≢ t .lane
+      → LeftAlone l m (moved y x v) class class
+  others-alone y x v c l ne =
+      record {
+        stays-main = λ z q. q;
+        was-main = λ z q. q;
+        same-words =
+            λ z q.
+            record {
+              same-out = refl;
+              same-inn = refl;
+              same-val = update-wrote (m .val) x v .elsewhere z (λ e. ne (cc));
+            };
+        same-hats = updateHat-elsewhere (m .hats) (t .lane) s y l ne;
+      }
+
+  -- The lanes after it, with the task's own as R says.
+  lanes-moved : (y x : ℕ) (v : Value) → class x ≡ main (t .lane) → {G : Frame} (q : List ℕ)
+      → Structure (t .lane) s o (moved y x v) class G
+      → rowOf G ≡ q
+      → Lanes L s o (moved y x v) class (update r (t .lane) q)
+  lanes-moved y x v c {G} q R row-is =
+      one-lane D (t .lane)
+      (record { frame = G; structure = R; row-is = row-is ∙ sym (update-same r (t .lane) q) })
+      (update-other r (t .lane) q)
+      (λ l h ne. other-lane (D .lane l h .structure) R (value-written (λ _. true) x v c) (others-alone y x v c l ne))
+      (D .below)
 
   pub line5-ok : LineOk line5
   unfolding act
@@ -91,28 +151,26 @@ module _ (held : ℕ → Bool) (k : ℕ) {s o : Side} {m : View} {class : ℕ �
       past (some _ (h .relies .A-old))
       (past (some _ (h .relies .B-old))
       (ok-dcas Ok _ _ (λ hat-A read. done (cc) (cc))
-      (goes L refl (record { relies = h .relies .A-old; chain = h .chain; belongs = h .belongs }))))
+      (goes D refl (record { relies = h .relies .A-old; chain = h .chain; belongs = h .belongs }))))
     where
-      done : m .hats s ≡ t .A
+      done : m .hats (t .lane) s ≡ t .A
           → m .val (t .A) ≡ N s
           → Ok (writing (hat≔ (t .B) ∷ val≔ (t .A) (bag (t .argument)) ∷ []) (answers Pushed))
       done e v =
-          let S = L .structure in
           let w = update-wrote (m .val) (t .A) (bag (t .argument)) in
           let w-bags = update-wrote bags b (t .argument) in
+          let c = push-main S e v in
+          let longer : List ℕ = r (t .lane) ++ (t .argument ∷ []) in
           record {
             class' = class;
-            r' = r ++ (t .argument ∷ []);
-            lane =
-                record {
-                  frame = pushedFrame (L .frame) (t .argument);
-                  structure = push-keeps S e v w (h .relies .B-follows);
-                  row-is =
-                      row-pushed bags _ a b (t .argument) (S .a<b) w-bags
-                      ∙ ap (λ (l : List ℕ). l ++ (t .argument ∷ [])) (L .row-is);
-                };
-            row-step = (h .belongs, refl);
-            guarantees = value-written (t .A) (bag (t .argument)) (push-main S e v);
+            r' = update r (t .lane) longer;
+            lanes =
+                lanes-moved (t .B) (t .A) (bag (t .argument)) c longer (push-keeps S e v w (h .relies .B-follows))
+                (row-pushed bags _ a b (t .argument) (S .a<b) w-bags
+                ∙ ap (λ (l : List ℕ). l ++ (t .argument ∷ [])) (mine .row-is));
+            row-step = (h .belongs, update-same r (t .lane) longer);
+            other-rows = update-other r (t .lane) longer;
+            guarantees = value-written held (t .A) (bag (t .argument)) c;
             task-ok = fresh-ok (h .chain .none-new);
             kept = has-answered (λ e. refute (cc)) refl;
           }
@@ -122,13 +180,12 @@ module _ (held : ℕ → Bool) (k : ℕ) {s o : Side} {m : View} {class : ℕ �
   line51-ok h =
       past (some _ (h .relies .pair .B-old))
       (ok-dcas Ok _ _ (λ hat-A read. done (cc) (cc))
-      (goes L refl (record { relies = tt; chain = h .chain; belongs = h .belongs })))
+      (goes D refl (record { relies = tt; chain = h .chain; belongs = h .belongs })))
     where
-      done : m .hats s ≡ t .A
+      done : m .hats (t .lane) s ≡ t .A
           → m .val (t .B) ≡ t .value
           → Ok (writing (hat≔ (t .B) ∷ val≔ (t .B) (N s) ∷ []) (answers (Bag (bagOf (t .value)))))
       done e q =
-          let S = L .structure in
           let v : ℕ = h .relies .bag-read in
           let value-bag : t .value ≡ bag v = h .relies .read-bag in
           let B-bag : m .val (t .B) ≡ bag v = q ∙ value-bag in
@@ -138,21 +195,20 @@ module _ (held : ℕ → Bool) (k : ℕ) {s o : Side} {m : View} {class : ℕ �
           let ej : suc j ≡ b = omega (arith, S .a<b) in
           let w = update-wrote (m .val) (t .B) (N s) in
           let bag-j : bags j ≡ bagOf (t .value) = pop-bag S ej e p not-Y B-bag ∙ cc in
+          let c = pop-main S ej e p not-Y in
+          let shorter : List ℕ = rowOf (poppedFrame (mine .frame) j) in
           record {
             class' = class;
-            r' = rowOf (poppedFrame (L .frame) j);
-            lane =
-                record {
-                  frame = poppedFrame (L .frame) j;
-                  structure = pop-keeps S ej e p not-Y B-bag w;
-                  row-is = refl;
-                };
+            r' = update r (t .lane) shorter;
+            lanes = lanes-moved (t .B) (t .B) (N s) c shorter (pop-keeps S ej e p not-Y B-bag w) refl;
             row-step = (
               h .belongs,
-              sym (L .row-is)
-                  ∙ row-popped bags a j b _ (pop-in-row S ej e p not-Y B-bag) ej bag-j,
+              rw (update-same r (t .lane) shorter)
+                  (sym (mine .row-is)
+                  ∙ row-popped bags a j b _ (pop-in-row S ej e p not-Y B-bag) ej bag-j),
             );
-            guarantees = value-written (t .B) (N s) (pop-main S ej e p not-Y);
+            other-rows = update-other r (t .lane) shorter;
+            guarantees = value-written held (t .B) (N s) c;
             task-ok = fresh-ok (h .chain .none-new);
             kept = has-answered (λ e. refute (cc)) refl;
           }
@@ -161,46 +217,61 @@ module _ (held : ℕ → Bool) (k : ℕ) {s o : Side} {m : View} {class : ℕ �
   unfolding act
   line72-ok h =
       past (some _ (h .relies .C-old))
-      (ok-if Ok (λ l. writing l (next t (back t))) (_ ≟ _) (λ e. done (cc)) (λ _. goes L refl (goes-back (m .hats))))
+      (ok-if Ok (λ l. writing l (next t (back t))) (_ ≟ _) (λ e. done (cc)) (λ _. goes D refl (goes-back (m .hats))))
     where
-      goes-back : (hats : Side → ℕ)
+      goes-back : (hats : ℕ → Side → ℕ)
           → TaskOk k s o (record { out = m .out; inn = m .inn; val = m .val; hats = hats }) class (back t)
           (goto t (back t))
       goes-back hats =
-          back-ok (L .structure .none-free) (goto t (back t)) (t .operation) refl (t .D ≟ none)
+          back-ok (S .none-free) (goto t (back t)) (t .operation) refl (t .D ≟ none)
           (elim (h .chain) [ with-chain c ↦ with-chain c | without-chain c e ↦ without-chain c e ]) (h .belongs)
 
-      done : m .hats s ≡ t .A → Ok (writing (hat≔ (t .C) ∷ []) (next t (back t)))
+      hats-alone : (l : ℕ) → l ≢ t .lane → LeftAlone l m (written (t .lane) s (hat≔ (t .C) ∷ []) m) class class
+      hats-alone l ne =
+          record {
+            stays-main = λ x q. q;
+            was-main = λ x q. q;
+            same-words = λ x q. record { same-out = refl; same-inn = refl; same-val = refl };
+            same-hats = updateHat-elsewhere (m .hats) (t .lane) s (t .C) l ne;
+          }
+
+      done : m .hats (t .lane) s ≡ t .A → Ok (writing (hat≔ (t .C) ∷ []) (next t (back t)))
       done e =
+          let R = unspur-keeps S e (h .relies .A-spur) (h .relies .C-follows) in
           record {
             class' = class;
             r' = r;
-            lane = same-places L (unspur-keeps (L .structure) e (h .relies .A-spur) (h .relies .C-follows));
+            lanes =
+                one-lane D (t .lane) (same-places mine R) (λ l ne. refl)
+                (λ l q ne. other-lane (D .lane l q .structure) R (guarantees-refl (λ _. true) k) (hats-alone l ne))
+                (D .below);
             row-step = refl;
+            other-rows = λ l ne. refl;
             guarantees = guarantees-refl held k;
-            task-ok = goes-back (updateSide (m .hats) s (t .C));
+            task-ok = goes-back (updateHat (m .hats) (t .lane) s (t .C));
             kept = goes-on refl refl;
           }
 
   -- A tick that writes the spur and main's last link only.
   module _ (l : List Write)
-      (same-inn : written s l m .inn ≡ m .inn) (same-hats : written s l m .hats ≡ m .hats)
-      (T : SpurStep k s o (at n) (m .out) (m .inn) (m .val) class
-      (written s l m .out) (written s l m .val) class) where
+      (same-inn : written (t .lane) s l m .inn ≡ m .inn) (same-hats : written (t .lane) s l m .hats ≡ m .hats)
+      (T : SpurStep k s o (m .out) (m .inn) (m .val) class
+      (written (t .lane) s l m .out) (written (t .lane) s l m .val) class) where
     spur-written : {t' : Task} {a : Answer}
-        → RowStep (t .operation) (t .argument) a r r
+        → RowStep (t .operation) (t .argument) a (r (t .lane)) (r (t .lane))
         → Kept t (record { writes = l; task = t'; answer = a })
-        → TaskOk k s o (written s l m) class (t' .step) t'
+        → TaskOk k s o (written (t .lane) s l m) class (t' .step) t'
         → Ok (record { writes = l; task = t'; answer = a })
     spur-written row-step kept task-ok =
         record {
           class' = class;
           r' = r;
-          lane =
-              subst (λ (v : View). Lane s o v class r) (view-equal refl (sym same-inn) refl (sym same-hats))
-              (same-places L (spur-keeps (L .structure) T));
+          lanes =
+              subst (λ (v : View). Lanes L s o v class r) (view-equal refl (sym same-inn) refl (sym same-hats))
+              (same-lanes D (λ j h. spur-keeps (D .lane j h .structure) T) (λ x j c. c));
           row-step = row-step;
-          guarantees = rw same-inn (spur-guarantees (L .structure) T held);
+          other-rows = λ j ne. refl;
+          guarantees = rw same-inn (spur-guarantees S T (every-lane D) held);
           task-ok = task-ok;
           kept = kept;
         }
@@ -210,27 +281,27 @@ module _ (held : ℕ → Bool) (k : ℕ) {s o : Side} {m : View} {class : ℕ �
   line64-ok h =
       past (some _ (h .relies .A-old))
       (ok-if Ok (λ l. writing l (next t line74)) (_ ≟ _) (λ e. done (cc))
-      (λ e. goes L refl (record { relies = h .relies .B-spur; chain = h .chain; belongs = h .belongs })))
+      (λ e. goes D refl (record { relies = h .relies .B-spur; chain = h .chain; belongs = h .belongs })))
     where
       done : m .out (t .A) ≡ t .B → Ok (writing (out≔ (t .A) none ∷ []) (next t line74))
       done e =
           let p = h .relies in
           let w = update-wrote (m .out) (t .A) none in
-          let T = unlink (L .structure) k w (p .B-spur) e (p .A-old) (λ c. p .not-far c e) in
+          let T = unlink S k w (p .B-spur) e (p .A-old) (λ c. p .not-far c e) in
           spur-written (out≔ (t .A) none ∷ []) refl refl T refl (goes-on refl refl)
           (record { relies = p .B-spur; chain = h .chain; belongs = h .belongs })
 
   pub line78-ok : LineOk line78
   unfolding act
   line78-ok h =
-      past (spur-some (L .structure) _ (h .relies .B-spur))
+      past (spur-some S _ (h .relies .B-spur))
       (ok-if Ok (λ e. e) (_ ≟ᵛ _) (λ _. done)
-      (λ e. goes L refl (record { relies = h .relies; chain = h .chain; belongs = h .belongs })))
+      (λ e. goes D refl (record { relies = h .relies; chain = h .chain; belongs = h .belongs })))
     where
       done : Ok (writing (val≔ (t .B) (Y s) ∷ []) (next t line79))
       done =
           let w = update-wrote (m .val) (t .B) (Y s) in
-          let T = spur-mark-Y (L .structure) k w (h .relies .B-spur) in
+          let T = spur-mark-Y S k w (h .relies .B-spur) in
           spur-written (val≔ (t .B) (Y s) ∷ []) refl refl T refl (goes-on refl refl)
           (record { relies = h .relies; chain = h .chain; belongs = h .belongs })
 
@@ -238,8 +309,8 @@ module _ (held : ℕ → Bool) (k : ℕ) {s o : Side} {m : View} {class : ℕ �
   unfolding act
   line79-ok h =
       let w = update-wrote (m .out) (t .A) none in
-      let T = spur-unlink (L .structure) k w (h .relies .A-spur) in
-      past (spur-some (L .structure) _ (h .relies .A-spur))
+      let T = spur-unlink S k w (h .relies .A-spur) in
+      past (spur-some S _ (h .relies .A-spur))
       (spur-written (out≔ (t .A) none ∷ []) refl refl T refl (goes-on refl refl)
       (record { relies = h .relies .B-spur; chain = h .chain; belongs = h .belongs }))
 
@@ -247,8 +318,8 @@ module _ (held : ℕ → Bool) (k : ℕ) {s o : Side} {m : View} {class : ℕ �
   unfolding act
   line82-ok h =
       let w = update-wrote (m .out) (t .A) none in
-      let T = spur-unlink (L .structure) k w (h .relies) in
-      past (spur-some (L .structure) _ (h .relies))
+      let T = spur-unlink S k w (h .relies) in
+      past (spur-some S _ (h .relies))
       (spur-written (out≔ (t .A) none ∷ []) refl refl T
       (inr (h .belongs), refl) (has-answered (λ e. refute (cc)) refl) (fresh-ok (h .chain .none-new)))
 
@@ -260,25 +331,35 @@ module _ (held : ℕ → Bool) (k : ℕ) {s o : Side} {m : View} {class : ℕ �
     w-X : Wrote (m .val) (t .A) (X s) (update (m .val) (t .A) (X s))
     w-X = update-wrote (m .val) (t .A) (X s)
 
-    w-Y : Wrote (update (m .val) (t .A) (X s)) (t .B) (Y s) (written s cut-writes m .val)
+    w-Y : Wrote (update (m .val) (t .A) (X s)) (t .B) (Y s) (written (t .lane) s cut-writes m .val)
     w-Y = update-wrote (update (m .val) (t .A) (X s)) (t .B) (Y s)
 
-    module _ (A-main : class (t .A) ≡ main) where
-      abbrev class₁ : ℕ → Class
-      class₁ = cutClass s class index (index (t .A))
+    -- A is in main of lane i, which the cut shortens; the others are left alone.
+    module _ (i : ℕ) (A-main : class (t .A) ≡ main i) where
+      abbrev cut-lane : Lane i s o m class (r i)
+      cut-lane = D .lane i (D .below (t .A) i A-main)
 
-      cut : (x : ℕ) → Cut s class index (index (t .A)) class₁ x
-      cut = cutClass-cut s class index (index (t .A))
+      abbrev R : Structure i s o m class (cut-lane .frame)
+      R = cut-lane .structure
+
+      abbrev index : ℕ → ℕ
+      index = cut-lane .frame .index
+
+      abbrev class₁ : ℕ → Class
+      class₁ = cutClass i s class index (index (t .A))
+
+      cut : (x : ℕ) → Cut i s class index (index (t .A)) class₁ x
+      cut = cutClass-cut i s class index (index (t .A))
 
       next-A : LinkedOrCut s (m .out) (m .val) class (t .A) (t .B)
-      next-A = h .relies .main-next A-main
+      next-A = h .relies .main-next i A-main
 
-      cut-pair : UnlinkPair s o (written s cut-writes m) class₁ (t .A) (t .B)
+      cut-pair : UnlinkPair s o (written (t .lane) s cut-writes m) class₁ (t .A) (t .B)
       cut-pair =
-          let c = cut-A (L .structure) w-X w-Y cut A-main A-N B-N next-A in
+          let c = cut-A R w-X w-Y cut A-main A-N B-N next-A in
           record {
             A-old = cc;
-            B-spur = cut-B (L .structure) w-X w-Y cut A-main A-N B-N next-A;
+            B-spur = cut-B R w-X w-Y cut A-main A-N B-N next-A;
             B-Y = w-Y .here;
             not-far = λ d. clash (cc);
           }
@@ -287,19 +368,46 @@ module _ (held : ℕ → Bool) (k : ℕ) {s o : Side} {m : View} {class : ℕ �
       cut-none-new x q =
           elim (cut x) [ goes-to-spur c l e ↦ refute (cc) | not-cut l e ↦ h .chain .none-new x (cc) ]
 
+      cut-guaranteed : (u : ℕ → Bool) → GuaranteesIn u k s o m class (written (t .lane) s cut-writes m) class₁
+      cut-guaranteed u = cut-guarantees R w-X w-Y cut A-main A-N B-N next-A u k
+
+      cut-structure : Structure i s o (written (t .lane) s cut-writes m) class₁ (cutFrame (cut-lane .frame) (t .A))
+      cut-structure = cut-keeps R w-X w-Y cut A-main A-N B-N next-A
+
+      cut-alone : (l : ℕ) → l ≢ i → LeftAlone l m (written (t .lane) s cut-writes m) class class₁
+      cut-alone l ne =
+          record {
+            stays-main = λ x q. cut-stays-main R w-X w-Y cut A-main A-N B-N next-A x l ne q;
+            was-main = λ x q. cut-was-main R w-X w-Y cut A-main A-N B-N next-A x l q;
+            same-words =
+                λ x q.
+                record {
+                  same-out = refl;
+                  same-inn = refl;
+                  same-val = cut-same-value R w-X w-Y cut A-main A-N B-N next-A x l ne q;
+                };
+            same-hats = refl;
+          }
+
       line62-main : Ok (writing cut-writes (next t line64))
       line62-main =
           record {
             class' = class₁;
             r' = r;
-            lane =
-                record {
-                  frame = cutFrame (L .frame) (t .A);
-                  structure = cut-keeps (L .structure) w-X w-Y cut A-main A-N B-N next-A;
-                  row-is = L .row-is;
-                };
+            lanes =
+                one-lane D i
+                (record {
+                  frame = cutFrame (cut-lane .frame) (t .A);
+                  structure = cut-structure;
+                  row-is = cut-lane .row-is;
+                })
+                (λ l ne. refl)
+                (λ l q ne.
+                other-lane (D .lane l q .structure) cut-structure (cut-guaranteed (λ _. true)) (cut-alone l ne))
+                (λ x l c. D .below x l (cut-was-main R w-X w-Y cut A-main A-N B-N next-A x l c));
             row-step = refl;
-            guarantees = cut-guarantees (L .structure) w-X w-Y cut A-main A-N B-N next-A held k;
+            other-rows = λ l ne. refl;
+            guarantees = cut-guaranteed held;
             task-ok =
                 record {
                   relies = cut-pair;
@@ -313,23 +421,23 @@ module _ (held : ℕ → Bool) (k : ℕ) {s o : Side} {m : View} {class : ℕ �
       B-spur : class (t .B) ≡ spur s
       B-spur = h .relies .spur-next A-spur
 
-      spur-cut-pair : UnlinkPair s o (written s cut-writes m) class (t .A) (t .B)
+      spur-cut-pair : UnlinkPair s o (written (t .lane) s cut-writes m) class (t .A) (t .B)
       spur-cut-pair =
-          let sides = L .structure .sides in
+          let sides = S .sides in
           record { A-old = h .relies .A-old; B-spur = B-spur; B-Y = w-Y .here; not-far = λ d. clash (cc) }
 
       line62-spur : Ok (writing cut-writes (next t line64))
       line62-spur =
-          let T = spur-cut (L .structure) k w-X w-Y A-spur B-spur (λ y. refute (cc)) in
+          let T = spur-cut S k w-X w-Y A-spur B-spur (λ y. refute (cc)) in
           spur-written cut-writes refl refl T refl (goes-on refl refl)
           (record { relies = spur-cut-pair; chain = h .chain; belongs = h .belongs })
 
     line62-done : Ok (writing cut-writes (next t line64))
     line62-done =
-        elim (old-class (L .structure .sides) (class (t .A)) (h .relies .A-old)) [
-          | in-main c ↦ line62-main c
+        elim (old-class (S .sides) (class (t .A)) (h .relies .A-old)) [
+          | in-main i c ↦ line62-main i c
           | in-near c ↦ line62-spur c
-          | in-far c ↦ absurd (own-mark-not-far (L .structure) (t .A) (cc) c)
+          | in-far c ↦ absurd (own-mark-not-far S (t .A) (cc) c)
         ]
 
   pub line62-ok : LineOk line62
@@ -338,4 +446,4 @@ module _ (held : ℕ → Bool) (k : ℕ) {s o : Side} {m : View} {class : ℕ �
       past (some _ (h .relies .A-old))
       (past (some _ (h .relies .B-old))
       (ok-dcas Ok _ _ (λ A-N B-N. line62-done h (cc) (cc))
-      (answers-ok L No (λ e. refute (cc)) (inr (h .belongs), refl) (h .chain))))
+      (answers-ok D No (λ e. refute (cc)) (inr (h .belongs), refl) (h .chain))))

@@ -9,17 +9,18 @@ use Rattle.machine.specs.Tasks.{none}
 use Rattle.machine.proofs.Basics.Contradiction.{clash, refute}
 use Rattle.machine.proofs.Linearizability.Model.Sides.{Opposite}
 
--- main: in the list that carries the row. spur s: cut off on side s at some time. new k: in the chain that task k
--- builds and has not spliced in. free: none of these, so what it holds does not matter.
+-- main l: in the list that carries the row of lane l. spur s: cut off on side s at some time. new k: in the chain that
+-- task k builds and has not spliced in. free: none of these, so what it holds does not matter.
 pub data Class : Type 0 where
-  free main : Class
+  free : Class
+  main : ℕ → Class
   spur : Side → Class
   new : ℕ → Class
 
--- Old: main, or a spur of either side.
+-- Old: main of any lane, or a spur of either side.
 abbrev pub old : Class → Bool
 old free = false
-old main = true
+old (main l) = true
 old (spur z) = true
 old (new k) = false
 
@@ -28,13 +29,13 @@ Old class x = old (class x) ≡ true
 
 -- The class of an old node, where s and o are the two sides.
 pub data OldClass (s o : Side) (c : Class) : Type 0 where
-  in-main : c ≡ main → OldClass s o c
+  in-main : (l : ℕ) → c ≡ main l → OldClass s o c
   in-near : c ≡ spur s → OldClass s o c
   in-far : c ≡ spur o → OldClass s o c
 
 pub old-class : {s o : Side} → Opposite s o → (c : Class) → old c ≡ true → OldClass s o c
 old-class w free h = clash (cc)
-old-class w main h = in-main refl
+old-class w (main l) h = in-main l refl
 old-class w (spur z) h = elim (w .either z) [ inl e ↦ in-near (cc) | inr e ↦ in-far (cc) ]
 old-class w (new k) h = clash (cc)
 

@@ -19,14 +19,15 @@ pub record Guarantee (held : ℕ → Bool) (s : Side)
   pub spur-stays : (x : ℕ) → held x ≡ true → class x ≡ spur s → class' x ≡ spur s
   pub spur-inward : (x : ℕ) → held x ≡ true → class x ≡ spur s → inn' x ≡ inn x
   pub Y-stays : (x : ℕ) → held x ≡ true → class x ≡ spur s → val x ≡ Y s → val' x ≡ Y s
-  pub spur-not-main : (x : ℕ) → class x ≡ spur s → class' x ≢ main
-  -- A node of main stays in main or is cut off; what it led to outward is still there, or was cut off behind it.
-  pub main-old : (x : ℕ) → class x ≡ main → Old class' x
-  pub main-outward : (x : ℕ) → class x ≡ main → out x ≢ none
+  pub spur-not-main : (x l : ℕ) → class x ≡ spur s → class' x ≢ main l
+  -- A node of main, of any lane, stays in main or is cut off; what it led to outward is still there, or was cut off
+  -- behind it.
+  pub main-old : (x l : ℕ) → class x ≡ main l → Old class' x
+  pub main-outward : (x l : ℕ) → class x ≡ main l → out x ≢ none
       → (out' x ≡ out x) ⊎ CutFrom s inn' val' class' (out x) x
   -- A node that is cut off keeps its inward link, which led to main.
-  pub cut-inward : (x : ℕ) → class x ≡ main → class' x ≡ spur s → inn' x ≡ inn x
-  pub cut-behind-main : (x : ℕ) → class x ≡ main → class' x ≡ spur s → class (inn x) ≡ main
+  pub cut-inward : (x l : ℕ) → class x ≡ main l → class' x ≡ spur s → inn' x ≡ inn x
+  pub cut-behind-main : (x l : ℕ) → class x ≡ main l → class' x ≡ spur s → class (inn x) ≡ main l
 
 -- A node's words are as before.
 pub record SameWords (out inn : ℕ → ℕ) (val : ℕ → Value) (out' inn' : ℕ → ℕ) (val' : ℕ → Value) (x : ℕ) : Type 0 where
@@ -67,11 +68,11 @@ guarantee-refl held =
       spur-stays = λ x _ h. h;
       spur-inward = λ x _ h. refl;
       Y-stays = λ x _ h y. y;
-      spur-not-main = λ x h e. refute (cc);
-      main-old = λ x h. cc;
-      main-outward = λ x h ne. inl refl;
-      cut-inward = λ x h c. refl;
-      cut-behind-main = λ x h c. clash (cc);
+      spur-not-main = λ x l h e. refute (cc);
+      main-old = λ x l h. cc;
+      main-outward = λ x l h ne. inl refl;
+      cut-inward = λ x l h c. refl;
+      cut-behind-main = λ x l h c. clash (cc);
     }
 
 chains-kept-refl : (k : ℕ) {out inn : ℕ → ℕ} {val : ℕ → Value} {class : ℕ → Class}

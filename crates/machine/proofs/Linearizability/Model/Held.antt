@@ -1,8 +1,8 @@
--- A set of nodes that is closed under links and holds the hats holds main.
+-- A set of nodes that is closed under links and holds the hats of the lanes holds main of each.
 use mathlib.Core.Path.{_≡_, refl}
 use mathlib.Core.Logic.{_≢_, inl, inr}
 use mathlib.Core.Bool.{Bool, true}
-use Prim.Native.Nat.{ℕ, suc, zero, _+_, _-_, _≤_}
+use Prim.Native.Nat.{ℕ, suc, zero, _+_, _-_, _≤_, _<_}
 use native.Mathlib.Omega.{arith}
 use Rattle.machine.specs.Sides.{Side, left, right}
 use Rattle.machine.specs.Tasks.{none}
@@ -14,37 +14,37 @@ use Rattle.machine.proofs.Linearizability.Model.Nodes.{at-some}
 abbrev pub Closed : (ℕ → Bool) → (ℕ → ℕ) → Type 0
 Closed held link = (x : ℕ) → held x ≡ true → link x ≢ none → held (link x) ≡ true
 
--- The set is closed under links and has the hats.
-pub record ClosedSet (held : ℕ → Bool) (m : View) : Type 0 where
+-- The set is closed under links and has the hats of the L lanes.
+pub record ClosedSet (L : ℕ) (held : ℕ → Bool) (m : View) : Type 0 where
   pub out-closed : Closed held (m .out)
   pub inn-closed : Closed held (m .inn)
-  pub hats-held : (z : Side) → held (m .hats z) ≡ true
+  pub hats-held : (l : ℕ) (z : Side) → l < L → held (m .hats l z) ≡ true
 
-pub all-closed : {m : View} → ClosedSet (λ _. true) m
-all-closed = record { out-closed = λ _ _ _. refl; inn-closed = λ _ _ _. refl; hats-held = λ _. refl }
+pub all-closed : {L : ℕ} {m : View} → ClosedSet L (λ _. true) m
+all-closed = record { out-closed = λ _ _ _. refl; inn-closed = λ _ _ _. refl; hats-held = λ _ _ _. refl }
 
-pub closed-swapped : {held : ℕ → Bool} {m : View} → ClosedSet held m → ClosedSet held (swapped m)
+pub closed-swapped : {L : ℕ} {held : ℕ → Bool} {m : View} → ClosedSet L held m → ClosedSet L held (swapped m)
 closed-swapped H = record { out-closed = H .inn-closed; inn-closed = H .out-closed; hats-held = H .hats-held }
 
-pub closed-view : (s : Side) {held : ℕ → Bool} {M : View} → ClosedSet held M → ClosedSet held (view s M)
+pub closed-view : (s : Side) {L : ℕ} {held : ℕ → Bool} {M : View} → ClosedSet L held M → ClosedSet L held (view s M)
 closed-view left H = closed-swapped H
 closed-view right H = H
 
 -- One node of a linked line brings all of them.
-module _ {held : ℕ → Bool} {m : View} (H : ClosedSet held m) {at : ℕ → ℕ} {n : ℕ} (L : Linked (m .out) (m .inn) at n)
-    (some : (i : ℕ) → i ≤ n → at i ≢ none) where
+module _ {L : ℕ} {held : ℕ → Bool} {m : View} (H : ClosedSet L held m)
+    {at : ℕ → ℕ} {n : ℕ} (K : Linked (m .out) (m .inn) at n) (some : (i : ℕ) → i ≤ n → at i ≢ none) where
   held-outward : (i d : ℕ) → i + d ≤ n → held (at i) ≡ true → held (at (i + d)) ≡ true
   held-outward i zero h r = let e : i + 0 ≡ i = omega arith in cc
   held-outward i (suc d) h r =
       let e : i + suc d ≡ suc (i + d) = omega arith in
-      let l = L .links-out (i + d) (omega arith) in
+      let l = K .links-out (i + d) (omega arith) in
       let before = held-outward i d (omega arith) r in
       cc (H .out-closed (at (i + d)) before (λ z. some (suc (i + d)) (omega arith) (cc)))
 
   held-inward : (d : ℕ) → d ≤ n → held (at d) ≡ true → held (at 0) ≡ true
   held-inward zero h r = r
   held-inward (suc d) h r =
-      let l = L .links-in d h in
+      let l = K .links-in d h in
       held-inward d (omega arith) (cc (H .inn-closed (at (suc d)) r (λ z. some d (omega arith) (cc))))
 
   pub line-held : (i j : ℕ) → i ≤ n → j ≤ n → held (at i) ≡ true → held (at j) ≡ true
@@ -52,14 +52,14 @@ module _ {held : ℕ → Bool} {m : View} (H : ClosedSet held m) {at : ℕ → �
       let e : 0 + j ≡ j = omega arith in
       cc (held-outward 0 j (omega arith) (held-inward i h r))
 
-module _ {s o : Side} {m : View} {class : ℕ → Class} {F : Frame} (S : Structure s o m class F) where
+module _ {ℓ : ℕ} {s o : Side} {m : View} {class : ℕ → Class} {F : Frame} (S : Structure ℓ s o m class F) where
   open Frame F using (at, index, n, b)
 
-  pub main-held : {held : ℕ → Bool} → ClosedSet held m → (x : ℕ) → class x ≡ main → held x ≡ true
-  main-held {held} H x h =
+  pub main-held : {L : ℕ} {held : ℕ → Bool} → ClosedSet L held m → ℓ < L → (x : ℕ) → class x ≡ main ℓ → held x ≡ true
+  main-held {L} {held} H is-lane x h =
       elim (S .near-hat j e) [
-        | inl q ↦ from b (S .b≤n) (cc (H .hats-held s))
-        | inr y ↦ from j l (cc (H .inn-closed (m .hats s) (H .hats-held s) (λ z. at-some S j l (cc))))
+        | inl q ↦ from b (S .b≤n) (cc (H .hats-held ℓ s is-lane))
+        | inr y ↦ from j l (cc (H .inn-closed (m .hats ℓ s) (H .hats-held ℓ s is-lane) (λ z. at-some S j l (cc))))
       ]
     where
       j : ℕ

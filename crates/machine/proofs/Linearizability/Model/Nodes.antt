@@ -7,7 +7,7 @@ use Rattle.machine.specs.Sides.{Side}
 use Rattle.machine.specs.Values.{Value, never, bag, N, X, Y}
 use Rattle.machine.specs.Tasks.{none}
 use Rattle.machine.proofs.Basics.Contradiction.{clash, less?, refute}
-use Rattle.machine.proofs.Words.Memories.{View}
+use Rattle.machine.proofs.Words.Memories.{View, swapped}
 use Rattle.machine.proofs.Linearizability.Model.Classes.{
   Class,
   main,
@@ -21,8 +21,8 @@ use Rattle.machine.proofs.Linearizability.Model.Classes.{
   of,
   owner,
 }
-use Rattle.machine.proofs.Linearizability.Model.Structure.{Frame, Structure}
-use Rattle.machine.proofs.Linearizability.Model.Reversal.{reversed}
+use Rattle.machine.proofs.Linearizability.Model.Structure.{Frame, Structure, InLanes}
+use Rattle.machine.proofs.Linearizability.Model.Reversal.{reversedFrame, reversed}
 
 -- The value at index i of main, by the zone that i is in.
 pub data Zone (s o : Side) (v : Value) (F : Frame) (i : ℕ) : Type 0 where
@@ -32,7 +32,7 @@ pub data Zone (s o : Side) (v : Value) (F : Frame) (i : ℕ) : Type 0 where
   near-zone : F .b ≤ i → i < F .n → v ≡ N s → Zone s o v F i
   last : i ≡ F .n → v ≡ X s → Zone s o v F i
 
-module _ {s o : Side} {m : View} {class : ℕ → Class} {F : Frame} (S : Structure s o m class F) where
+module _ {ℓ : ℕ} {s o : Side} {m : View} {class : ℕ → Class} {F : Frame} (S : Structure ℓ s o m class F) where
   open View m using (out, val, hats)
   open Frame F using (at, index, n, a, b, bags)
 
@@ -58,12 +58,12 @@ module _ {s o : Side} {m : View} {class : ℕ → Class} {F : Frame} (S : Struct
             ]
       ]
 
-  pub zone : (x : ℕ) → class x ≡ main → Zone s o (val x) F (index x)
+  pub zone : (x : ℕ) → class x ≡ main ℓ → Zone s o (val x) F (index x)
   zone x c =
       subst (λ (y : ℕ). Zone s o (val y) F (index x)) (S .main-list .at-index x c)
       (zone-at (index x) (S .main-list .index-le x c))
 
-  pub main-not-never : (x : ℕ) → class x ≡ main → val x ≢ never
+  pub main-not-never : (x : ℕ) → class x ≡ main ℓ → val x ≢ never
   main-not-never x c =
       λ v. elim (zone x c) [
         | first e u ↦ refute (cc)
@@ -98,6 +98,15 @@ module _ {s o : Side} {m : View} {class : ℕ → Class} {F : Frame} (S : Struct
         | last e u ↦ e
       ]
 
+  -- Only the last node of main leads into the spur.
+  pub leads-to-spur : (x : ℕ) → class x ≡ main ℓ → class (out x) ≡ spur s → x ≡ at n
+  leads-to-spur x c d =
+      let e = S .main-list .at-index x c in
+      elim (less? (index x) n) [
+        | inl l ↦ clash (cc (S .links .links-out (index x) l, S .main-list .is-main (suc (index x)) l))
+        | inr l ↦ let z : index x ≡ n = omega (arith, S .main-list .index-le x c) in cc
+      ]
+
   pub old-some : (x : ℕ) → Old class x → x ≢ none
   old-some x h = old-not-none class (S .none-free) x h
 
@@ -107,37 +116,50 @@ module _ {s o : Side} {m : View} {class : ℕ → Class} {F : Frame} (S : Struct
   pub spur-some : (x : ℕ) {z : Side} → class x ≡ spur z → x ≢ none
   spur-some x h = old-some x (cc)
 
-  pub hat-old : Old class (hats s)
+  pub hat-old : Old class (hats ℓ s)
   hat-old =
       elim (S .near-hat (b - 1) (omega (arith, S .a<b))) [
         | inl h ↦ cc (S .main-list .is-main b (S .b≤n))
         | inr y ↦ cc (y .in-spur)
       ]
 
+  pub spur-out : (x : ℕ) → class x ≡ spur s → out x ≢ none → class (out x) ≡ spur s
+  spur-out x c ne = elim (S .near-spur .outward-spur x c) [ inl f ↦ absurd (ne f) | inr f ↦ f ]
+
+  -- An old node whose mark is of side s is not in spur o.
+  pub own-mark-not-far : (x : ℕ) → owner (val x) ≡ of s → class x ≢ spur o
+  own-mark-not-far x v c = refute (cc (S .far-spur .own-mark x c))
+
+-- What leads from an old node, and a node with a Y, whatever lane a node of main is in.
+module _ {ℓ : ℕ} {s o : Side} {m : View} {class : ℕ → Class} {F : Frame} (S : Structure ℓ s o m class F)
+    (every : InLanes s o m class) where
+  open View m using (out, val)
+
+  main-out-old : {j : ℕ} {G : Frame} → Structure j s o m class G → (x : ℕ) → class x ≡ main j → out x ≢ none
+      → Old class (out x)
+  main-out-old {j} {G} R x c ne =
+      let e = R .main-list .at-index x c in
+      elim (less? (G .index x) (G .n)) [
+        | inl l ↦ cc (R .links .links-out (G .index x) l, R .main-list .is-main (suc (G .index x)) l)
+        | inr l ↦
+            let z : G .index x ≡ G .n = omega (arith, R .main-list .index-le x c) in
+            elim (R .last-out) [ inl f ↦ absurd (ne (cc)) | inr y ↦ cc (y .in-spur) ]
+      ]
+
   pub out-old : (x : ℕ) → Old class x → out x ≢ none → Old class (out x)
   out-old x h ne =
       elim (old-class (S .sides) (class x) h) [
-        | in-main c ↦
-            let e = S .main-list .at-index x c in
-            elim (less? (index x) n) [
-              | inl l ↦ cc (S .links .links-out (index x) l, S .main-list .is-main (suc (index x)) l)
-              | inr l ↦
-                  let z : index x ≡ n = omega (arith, S .main-list .index-le x c) in
-                  elim (S .last-out) [ inl f ↦ absurd (ne (cc)) | inr y ↦ cc (y .in-spur) ]
-            ]
+        | in-main j c ↦ main-out-old (every x j c .1) x c ne
         | in-near c ↦ elim (S .near-spur .outward-spur x c) [ inl f ↦ absurd (ne f) | inr f ↦ cc ]
         | in-far c ↦ S .far-spur .inward-old x c
       ]
-
-  pub spur-out : (x : ℕ) → class x ≡ spur s → out x ≢ none → class (out x) ≡ spur s
-  spur-out x c ne = elim (S .near-spur .outward-spur x c) [ inl f ↦ absurd (ne f) | inr f ↦ f ]
 
   -- Main holds no Y, so an old node with Y s is in spur s.
   pub Y-in-spur : (x : ℕ) → Old class x → val x ≡ Y s → class x ≡ spur s
   Y-in-spur x h v =
       elim (old-class (S .sides) (class x) h) [
-        | in-main c ↦
-            elim (zone x c) [
+        | in-main j c ↦
+            elim (zone (every x j c .1) x c) [
               | first e u ↦ clash (cc)
               | far-zone p q u ↦ clash (cc)
               | row-zone w p q u ↦ clash (cc)
@@ -148,10 +170,12 @@ module _ {s o : Side} {m : View} {class : ℕ → Class} {F : Frame} (S : Struct
         | in-far c ↦ clash (cc (S .far-spur .own-mark x c))
       ]
 
-  -- An old node whose mark is of side s is not in spur o.
-  pub own-mark-not-far : (x : ℕ) → owner (val x) ≡ of s → class x ≢ spur o
-  own-mark-not-far x v c = refute (cc (S .far-spur .own-mark x c))
+-- The same from the other side.
+pub in-lanes-reversed : {s o : Side} {m : View} {class : ℕ → Class} → InLanes s o m class
+    → InLanes o s (swapped m) class
+in-lanes-reversed every x j c = (reversedFrame (every x j c .0), reversed (every x j c .1))
 
-module _ {s o : Side} {m : View} {class : ℕ → Class} {F : Frame} (S : Structure s o m class F) where
+module _ {ℓ : ℕ} {s o : Side} {m : View} {class : ℕ → Class} {F : Frame} (S : Structure ℓ s o m class F)
+    (every : InLanes s o m class) where
   pub inn-old : (x : ℕ) → Old class x → m .inn x ≢ none → Old class (m .inn x)
-  inn-old = out-old (reversed S)
+  inn-old = out-old (reversed S) (in-lanes-reversed every)

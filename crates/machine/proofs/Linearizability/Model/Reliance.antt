@@ -61,7 +61,7 @@ pub record BagPair (o : Side) (m : View) (class : ℕ → Class) (A B : ℕ) (v 
 pub record CutPair (s : Side) (m : View) (class : ℕ → Class) (A B : ℕ) : Type 0 where
   pub A-old : Old class A
   pub B-old : Old class B
-  pub main-next : class A ≡ main → LinkedOrCut s (m .out) (m .val) class A B
+  pub main-next : (l : ℕ) → class A ≡ main l → LinkedOrCut s (m .out) (m .val) class A B
   pub spur-next : class A ≡ spur s → class B ≡ spur s
 
 -- Line 64: B has been cut off; a node of the far spur does not lead to it.

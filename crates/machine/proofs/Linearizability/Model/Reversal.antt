@@ -20,14 +20,14 @@ reversedFrame F =
       bags = λ i. F .bags (F .n - i);
     }
 
-module _ {s o : Side} {m : View} {class : ℕ → Class} {F : Frame} (S : Structure s o m class F) where
+module _ {ℓ : ℕ} {s o : Side} {m : View} {class : ℕ → Class} {F : Frame} (S : Structure ℓ s o m class F) where
   open View m using (out, inn, val)
   open Frame F using (at, index, n, a, b)
 
   at-equal : (i j : ℕ) → i ≡ j → at i ≡ at j
   at-equal i j e = cc
 
-  main-reversed : Main class (λ i. at (n - i)) (λ x. n - index x) n
+  main-reversed : Main ℓ class (λ i. at (n - i)) (λ x. n - index x) n
   main-reversed =
       record {
         is-main = λ i h. S .main-list .is-main (n - i) (omega arith);
@@ -72,7 +72,7 @@ module _ {s o : Side} {m : View} {class : ℕ → Class} {F : Frame} (S : Struct
         X-last = rw (reversedFrame, n-n) (S .values .X-first);
       }
 
-  pub reversed : Structure o s (swapped m) class (reversedFrame F)
+  pub reversed : Structure ℓ o s (swapped m) class (reversedFrame F)
   reversed =
       record {
         sides = exchanged (S .sides);

@@ -1,4 +1,5 @@
--- The structure of the deque, seen from side s: the list that carries the row, the hats and the spurs.
+-- The structure of a lane, seen from side s: the list that carries its row, its hats and the spurs, which all lanes
+-- share.
 use mathlib.Core.Path.{_≡_}
 use mathlib.Core.Logic.{_⊎_}
 use Prim.Native.Nat.{ℕ, suc, _≤_, _<_}
@@ -15,10 +16,10 @@ pub record CutFrom (s : Side) (inn : ℕ → ℕ) (val : ℕ → Value) (class :
   pub is-Y : val y ≡ Y s
   pub leads-back : inn y ≡ x
 
--- y follows x outward, if x is in main: linked, or cut off behind x.
+-- y follows x outward, if x is in main of any lane: linked, or cut off behind x.
 abbrev pub Follows :
     (s : Side) (out inn : ℕ → ℕ) (val : ℕ → Value) (class : ℕ → Class) (x y : ℕ) → Type 0
-Follows s out inn val class x y = class x ≡ main → (out x ≡ y) ⊎ CutFrom s inn val class y x
+Follows s out inn val class x y = (l : ℕ) → class x ≡ main l → (out x ≡ y) ⊎ CutFrom s inn val class y x
 
 -- The link of x leads to y, or y has been cut off on side z.
 pub data LinkedOrCut (z : Side) (link : ℕ → ℕ) (val : ℕ → Value) (class : ℕ → Class) (x y : ℕ) : Type 0 where
@@ -29,12 +30,12 @@ pub data LinkedOrCut (z : Side) (link : ℕ → ℕ) (val : ℕ → Value) (clas
 abbrev pub Precedes : (o : Side) (inn : ℕ → ℕ) (val : ℕ → Value) (class : ℕ → Class) (x y : ℕ) → Type 0
 Precedes o inn val class x y = (class x ≡ spur o) ⊎ LinkedOrCut o inn val class x y
 
--- The class main is exactly at 0 .. at n, each once: index is at's inverse.
-pub record Main (class : ℕ → Class) (at index : ℕ → ℕ) (n : ℕ) : Type 0 where
-  pub is-main : (i : ℕ) → i ≤ n → class (at i) ≡ main
+-- The class main of a lane is exactly at 0 .. at n, each once: index is at's inverse.
+pub record Main (ℓ : ℕ) (class : ℕ → Class) (at index : ℕ → ℕ) (n : ℕ) : Type 0 where
+  pub is-main : (i : ℕ) → i ≤ n → class (at i) ≡ main ℓ
   pub index-at : (i : ℕ) → i ≤ n → index (at i) ≡ i
-  pub index-le : (x : ℕ) → class x ≡ main → index x ≤ n
-  pub at-index : (x : ℕ) → class x ≡ main → at (index x) ≡ x
+  pub index-le : (x : ℕ) → class x ≡ main ℓ → index x ≤ n
+  pub at-index : (x : ℕ) → class x ≡ main ℓ → at (index x) ≡ x
 
 -- Where the parts of a lane are, by their indices in main.
 pub record Frame : Type 0 where
@@ -69,8 +70,8 @@ pub record Spur (s : Side) (out inn : ℕ → ℕ) (val : ℕ → Value) (class 
   pub inward-old : (x : ℕ) → class x ≡ spur s → Old class (inn x)
   pub outward-spur : (x : ℕ) → class x ≡ spur s → (out x ≡ none) ⊎ (class (out x) ≡ spur s)
 
--- The deque seen from side s. A hat is at its index, or at a node that was cut off there.
-module _ (s o : Side) (m : View) (class : ℕ → Class) (F : Frame) where
+-- Lane ℓ seen from side s. A hat is at its index, or at a node that was cut off there.
+module _ (ℓ : ℕ) (s o : Side) (m : View) (class : ℕ → Class) (F : Frame) where
   open View m using (out, inn, val, hats)
   open Frame F using (at, index, n, a, b)
 
@@ -79,13 +80,17 @@ module _ (s o : Side) (m : View) (class : ℕ → Class) (F : Frame) where
     pub none-free : class none ≡ free
     pub a<b : a < b
     pub b≤n : b ≤ n
-    pub main-list : Main class at index n
+    pub main-list : Main ℓ class at index n
     pub values : MainValues s o val F
     pub links : Linked out inn at n
     -- Main's ends lead to none, or to a node that was cut off there.
     pub last-out : (out (at n) ≡ none) ⊎ CutFrom s inn val class (out (at n)) (at n)
     pub first-in : (inn (at 0) ≡ none) ⊎ CutFrom o out val class (inn (at 0)) (at 0)
-    pub near-hat : (j : ℕ) → suc j ≡ b → (hats s ≡ at b) ⊎ CutFrom s inn val class (hats s) (at j)
-    pub far-hat : (hats o ≡ at a) ⊎ CutFrom o out val class (hats o) (at (suc a))
+    pub near-hat : (j : ℕ) → suc j ≡ b → (hats ℓ s ≡ at b) ⊎ CutFrom s inn val class (hats ℓ s) (at j)
+    pub far-hat : (hats ℓ o ≡ at a) ⊎ CutFrom o out val class (hats ℓ o) (at (suc a))
     pub near-spur : Spur s out inn val class
     pub far-spur : Spur o inn out val class
+
+-- Every node of main is in a lane of this structure.
+abbrev pub InLanes : (s o : Side) → View → (ℕ → Class) → Type 0
+InLanes s o m class = (x ℓ : ℕ) → class x ≡ main ℓ → (F : Frame) × Structure ℓ s o m class F

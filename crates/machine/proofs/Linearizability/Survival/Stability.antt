@@ -34,7 +34,7 @@ use Rattle.machine.proofs.Linearizability.Model.Guarantee.{Guarantee}
 module _ {held : ℕ → Bool} {s : Side}
     {out inn : ℕ → ℕ} {val : ℕ → Value} {class : ℕ → Class} {out' inn' : ℕ → ℕ} {val' : ℕ → Value} {class' : ℕ → Class}
     (G : Guarantee held s out inn val class out' inn' val' class') where
-  cut-from-stable : (x y : ℕ) → held y ≡ true → CutFrom s inn val class y x → CutFrom s inn' val' class' y x
+  pub cut-from-stable : (x y : ℕ) → held y ≡ true → CutFrom s inn val class y x → CutFrom s inn' val' class' y x
   cut-from-stable x y r h =
       record {
         in-spur = G .spur-stays y r (h .in-spur);
@@ -43,18 +43,18 @@ module _ {held : ℕ → Bool} {s : Side}
       }
 
   linked-or-cut-stable : class none ≡ free
-      → (x y : ℕ)
-      → class x ≡ main
+      → (x y l : ℕ)
+      → class x ≡ main l
       → held y ≡ true
       → Old class y
       → LinkedOrCut s out val class x y
       → LinkedOrCut s out' val' class' x y
-  linked-or-cut-stable none-free x y c r y-old (linked e) =
-      elim (G .main-outward x c (λ z. refute (cc))) [
+  linked-or-cut-stable none-free x y l c r y-old (linked e) =
+      elim (G .main-outward x l c (λ z. refute (cc))) [
         | inl g ↦ linked (cc)
         | inr q ↦ cut-off (cc (q .in-spur)) (cc (q .is-Y))
       ]
-  linked-or-cut-stable none-free x y c r y-old (cut-off d v) =
+  linked-or-cut-stable none-free x y l c r y-old (cut-off d v) =
       cut-off (G .spur-stays y r d) (G .Y-stays y r d v)
 
 -- From both sides' guarantees.
@@ -65,17 +65,18 @@ module _ {held : ℕ → Bool} {s o : Side} (w : Opposite s o)
   pub old-stable : (x : ℕ) → held x ≡ true → Old class x → Old class' x
   old-stable x r h =
       elim (old-class w (class x) h) [
-        | in-main e ↦ near .main-old x e
+        | in-main l e ↦ near .main-old x l e
         | in-near e ↦ cc (near .spur-stays x r e)
         | in-far e ↦ cc (far .spur-stays x r e)
       ]
 
-  was-main : (x : ℕ) → Old class x → class' x ≡ main → class x ≡ main
-  was-main x h m =
+  -- What is in main of some lane was in main.
+  was-main : (x l : ℕ) → Old class x → class' x ≡ main l → (j : ℕ) × (class x ≡ main j)
+  was-main x l h m =
       elim (old-class w (class x) h) [
-        | in-main e ↦ e
-        | in-near e ↦ absurd (near .spur-not-main x e m)
-        | in-far e ↦ absurd (far .spur-not-main x e m)
+        | in-main j e ↦ (j, e)
+        | in-near e ↦ absurd (near .spur-not-main x l e m)
+        | in-far e ↦ absurd (far .spur-not-main x l e m)
       ]
 
   -- Lines 5 and 72.
@@ -85,11 +86,12 @@ module _ {held : ℕ → Bool} {s o : Side} (w : Opposite s o)
       → Old class y
       → Follows s out inn val class x y
       → Follows s out' inn' val' class' x y
-  follows-stable x y r x-old y-old follows m =
-      let c = was-main x x-old m in
-      elim (follows c) [
+  follows-stable x y r x-old y-old follows l m =
+      let j = was-main x l x-old m .0 in
+      let c = was-main x l x-old m .1 in
+      elim (follows j c) [
         | inl e ↦
-            elim (near .main-outward x c (λ z. refute (cc))) [ inl g ↦ inl (cc) | inr q ↦ inr (rw (← e) q) ]
+            elim (near .main-outward x j c (λ z. refute (cc))) [ inl g ↦ inl (cc) | inr q ↦ inr (rw (← e) q) ]
         | inr q ↦ inr (cut-from-stable near x y r q)
       ]
 
@@ -106,7 +108,7 @@ module _ {held : ℕ → Bool} {s o : Side} (w : Opposite s o)
       inr (cut-off (far .spur-stays y ry c) (far .Y-stays y ry c v))
   precedes-stable x y rx ry x-old y-old (inr (linked e)) =
       elim (old-class w (class x) x-old) [
-        | in-main c ↦ inr (linked-or-cut-stable far none-free x y c ry y-old (linked e))
+        | in-main l c ↦ inr (linked-or-cut-stable far none-free x y l c ry y-old (linked e))
         | in-near c ↦ inr (linked (near .spur-inward x rx c ∙ e))
         | in-far c ↦ inl (far .spur-stays x rx c)
       ]
@@ -121,7 +123,7 @@ module _ {held : ℕ → Bool} {s o : Side} (w : Opposite s o)
       → out' x ≢ y
   not-far-stable x y r x-old y-spur not-far c' =
       elim (old-class w (class x) x-old) [
-        | in-main c ↦ λ e. refute (cc (far .cut-inward x c c', far .cut-behind-main x c c'))
+        | in-main l c ↦ λ e. refute (cc (far .cut-inward x l c c', far .cut-behind-main x l c c'))
         | in-near c ↦ clash (cc (near .spur-stays x r c))
         | in-far c ↦ λ e. not-far c (cc (far .spur-inward x r c))
       ]
@@ -131,12 +133,14 @@ module _ {held : ℕ → Bool} {s o : Side} (w : Opposite s o)
       → held y ≡ true
       → Old class x
       → Old class y
-      → (class x ≡ main → LinkedOrCut s out val class x y)
-      → class' x ≡ main
+      → ((l : ℕ) → class x ≡ main l → LinkedOrCut s out val class x y)
+      → (l : ℕ)
+      → class' x ≡ main l
       → LinkedOrCut s out' val' class' x y
-  main-next-stable x y r x-old y-old next m =
-      let c = was-main x x-old m in
-      linked-or-cut-stable near none-free x y c r y-old (next c)
+  main-next-stable x y r x-old y-old next l m =
+      let j = was-main x l x-old m .0 in
+      let c = was-main x l x-old m .1 in
+      linked-or-cut-stable near none-free x y j c r y-old (next j c)
 
   -- If x went from main to the spur, y went with it: this looks at the spur after the tick.
   pub spur-next-stable : Spur s out' inn' val' class'
@@ -146,14 +150,14 @@ module _ {held : ℕ → Bool} {s o : Side} (w : Opposite s o)
       → held y ≡ true
       → Old class x
       → Old class y
-      → (class x ≡ main → LinkedOrCut s out val class x y)
+      → ((l : ℕ) → class x ≡ main l → LinkedOrCut s out val class x y)
       → (class x ≡ spur s → class y ≡ spur s)
       → class' x ≡ spur s
       → class' y ≡ spur s
   spur-next-stable spur' none-free' x y rx ry x-old y-old next spur-next c' =
       elim (old-class w (class x) x-old) [
-        | in-main c ↦
-            elim (linked-or-cut-stable near none-free x y c ry y-old (next c)) [
+        | in-main l c ↦
+            elim (linked-or-cut-stable near none-free x y l c ry y-old (next l c)) [
               | linked e ↦
                   elim (spur' .outward-spur x c') [
                     | inl z ↦ clash (cc (old-stable y ry y-old))

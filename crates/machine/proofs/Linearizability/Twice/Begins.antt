@@ -14,7 +14,7 @@ use Rattle.machine.specs.declared.Stored.{Stored}
 use Rattle.machine.specs.Sides.{Side, left, right, sideNumber}
 use Rattle.machine.specs.Values.{number, bagOk}
 use Rattle.machine.specs.Operations.{Operation, idle, push, pop, add, remove, operationNumber, operationOf}
-use Rattle.machine.specs.Table.{taskCount, task}
+use Rattle.machine.specs.Table.{taskCount, laneCount, task}
 use Rattle.machine.specs.Calls.{
   unless,
   isIdle,
@@ -28,7 +28,7 @@ use Rattle.machine.specs.Calls.{
   begin,
 }
 use Rattle.machine.specs.Row.{Note, Row}
-use Rattle.machine.specs.Twice.{PushNoted, SeenIn, BeginsNew}
+use Rattle.machine.specs.Twice.{PushNoted, allBags, SeenIn, BeginsNew}
 use Rattle.machine.proofs.Basics.Contradiction.{clash, refute, equal?}
 use Rattle.machine.proofs.Basics.Tests.{
   and-left,
@@ -42,7 +42,7 @@ use Rattle.machine.proofs.Basics.Tests.{
 use Rattle.machine.proofs.Shape.TickKeeps.{busy-is-task}
 use Rattle.machine.proofs.Shape.ShapeKept.{table-passes}
 use Rattle.machine.proofs.Linearizability.Model.Invariant.{noteOf}
-use Rattle.machine.proofs.Linearizability.Calls.Agreement.{Agrees, noteUnder, lane-is-row}
+use Rattle.machine.proofs.Linearizability.Calls.Agreement.{Agrees, noteUnder, all-lanes-are-rows}
 
 is-push : (op : Operation) → isPush op ≡ true → op ≡ push
 is-push push e = refl
@@ -78,6 +78,7 @@ module _ {ws : List ℕ} {ρ : Row} (A : Agrees ws ρ) where
   busy-noted k e =
       let t = task ws k in
       record {
+        lane = t .lane;
         side = t .side;
         note-is = A .notes k ∙ rw e;
       }
@@ -116,44 +117,45 @@ module _ {ws : List ℕ} {ρ : Row} (A : Agrees ws ρ) where
       ]
 
   abbrev isSeen : ℕ → Bool
-  isSeen n = isAmong n (ρ .bags) || isBegun ws (taskCount ws) n
+  isSeen n = isAmong n (allBags ρ) || isBegun ws (taskCount ws) n
 
   seen-so : (n : ℕ) → isSeen n ≡ true → SeenIn ρ n
   seen-so n e =
-      elim (or-either (isAmong n (ρ .bags)) (isBegun ws (taskCount ws) n) e) [
+      elim (or-either (isAmong n (allBags ρ)) (isBegun ws (taskCount ws) n) e) [
         | inl q ↦ inl q
         | inr q ↦ inr (begun-noted (taskCount ws) n q)
       ]
 
   tests-so : (n : ℕ) → SeenIn ρ n → isSeen n ≡ true
-  tests-so n (inl q) = or-left (isAmong n (ρ .bags)) (isBegun ws (taskCount ws) n) q
+  tests-so n (inl q) = or-left (isAmong n (allBags ρ)) (isBegun ws (taskCount ws) n) q
   tests-so n (inr N) =
       let k = N .0 in
       let is = ap isBusy (noted-busy k n (N .1) .0) in
-      or-right (isAmong n (ρ .bags)) (isBegun ws (taskCount ws) n)
+      or-right (isAmong n (allBags ρ)) (isBegun ws (taskCount ws) n)
       (noted-begun (taskCount ws) n k (busy-is-task ws k is) (N .1))
 
   -- ---- Begin.
   twice-is : (n : ℕ) (others : Option ℕ) → twiceRefusal ws push n others ≡ unless (not (isSeen n)) 16 others
-  twice-is n others = rw (lane-is-row A)
+  twice-is n others = rw (all-lanes-are-rows A)
 
   -- An accepted push is of a bag not seen.
-  pub accepted-new : (k op side : ℕ) (argument : Stored) → begin ws k op side argument .reply ≡ Accepted
+  pub accepted-new : (k l op side : ℕ) (argument : Stored) → begin ws k l op side argument .reply ≡ Accepted
       → operationOf op ≡ push
       → SeenIn ρ (number argument)
       → ⊥
   unfolding begin
-  accepted-new k op side argument e is-push seen =
+  accepted-new k l op side argument e is-push seen =
       let n = number argument in
       let others = unless (isIdle (task ws k .operation)) 8 nothing in
-      let none-met : beginRefusal ws k op side argument ≡ nothing = accepted-so _ _ _ e in
-      let not-met : twiceRefusal ws (operationOf op) n others ≡ nothing = search tests-left depth 8 in
+      let none-met : beginRefusal ws k l op side argument ≡ nothing = accepted-so _ _ _ e in
+      let not-met : twiceRefusal ws (operationOf op) n others ≡ nothing = search tests-left depth 9 in
       let not-16 : unless (not (isSeen n)) 16 others ≡ nothing =
       sym (twice-is n others) ∙ ap (λ (o : Operation). twiceRefusal ws o n others) (sym is-push) ∙ not-met in
       not-both (isSeen n) (test-passed (not (isSeen n)) 16 others not-16) (tests-so n seen)
 
-  -- A push that passes 5, 6 and 7.
-  module _ (k : ℕ) (s : Side) (argument : Stored) (is-task : k < taskCount ws) (is-bag : bagOk argument ≡ true) where
+  -- A push that passes 26, 5, 6 and 7.
+  module _ (k l : ℕ) (s : Side) (argument : Stored)
+      (is-task : k < taskCount ws) (is-lane : l < laneCount ws) (is-bag : bagOk argument ≡ true) where
     side-passes : (z : Side) → leb (sideNumber z) 1 ≡ true
     side-passes left = refl
     side-passes right = refl
@@ -161,12 +163,13 @@ module _ {ws : List ℕ} {ρ : Row} (A : Agrees ws ρ) where
     abbrev after-16 : Option ℕ
     after-16 = unless (isIdle (task ws k .operation)) 8 nothing
 
-    refusal-is : beginRefusal ws k (operationNumber push) (sideNumber s) argument
+    refusal-is : beginRefusal ws k l (operationNumber push) (sideNumber s) argument
         ≡ unless (not (isSeen (number argument))) 16 after-16
     unfolding ℕ-discrete
     refusal-is =
         rw (
           table-passes ws (A .accepted),
+          lt-ltb l (laneCount ws) is-lane,
           lt-ltb k (taskCount ws) is-task,
           side-passes s,
           is-bag,
@@ -193,7 +196,7 @@ module _ {ws : List ℕ} {ρ : Row} (A : Agrees ws ρ) where
 
     pub begins-new :
         BeginsNew ρ (number argument) (isIdle (task ws k .operation))
-        (begin ws k (operationNumber push) (sideNumber s) argument .reply)
+        (begin ws k l (operationNumber push) (sideNumber s) argument .reply)
     unfolding begin
     begins-new =
         record {

@@ -4,8 +4,9 @@ use mathlib.Core.Logic.{_≢_, inl, inr}
 use mathlib.Core.Bool.{Bool, true, false, cond}
 use mathlib.Core.List.{List, [], _∷_}
 use mathlib.Core.Option.{Option, some, none as nothing, Option·map}
-use Prim.Native.Nat.{ℕ, zero, suc, _≤_}
+use Prim.Native.Nat.{ℕ, zero, suc, _+_, _≤_, _<_}
 use native.Mathlib.Omega.{arith}
+use lib.Dec.{ltb}
 use Rattle.machine.specs.declared.Answer.{Answer}
 use Rattle.machine.specs.declared.Answer.the-variants.{Going, Pushed, Bag, Empty, Full, Yes, No, Refused}
 use Rattle.machine.specs.declared.Dispatch.{Dispatch}
@@ -52,9 +53,17 @@ use Rattle.machine.specs.Demand3.{
   feed,
 }
 use Rattle.machine.specs.Begun.{count}
-use Rattle.machine.specs.Twice.{PushNoted, OnceInRow, SeenIn}
-use Rattle.machine.proofs.Basics.Contradiction.{clash, equal?}
-use Rattle.machine.proofs.Linearizability.Histories.{count-put, bag-taken, bound, mapped, same-if, same-when-read}
+use Rattle.machine.specs.Twice.{PushNoted, rowsBelow, allBags, OnceInRow, SeenIn}
+use Rattle.machine.proofs.Basics.Contradiction.{clash, equal?, less?}
+use Rattle.machine.proofs.Basics.Choices.{if-yes, if-no}
+use Rattle.machine.proofs.Linearizability.Histories.{
+  count-put,
+  bag-taken,
+  bound,
+  mapped,
+  same-if,
+  same-when-read,
+}
 use Rattle.machine.proofs.Linearizability.Twice.Lists.{
   not-counted,
   not-among,
@@ -62,74 +71,86 @@ use Rattle.machine.proofs.Linearizability.Twice.Lists.{
   count-other,
   count-more,
   places-differ,
+  count-append,
+  rows-untouched,
+  rows-changed,
 }
 
 -- No bag is twice in the row or in noted pushes, counted.
 pub record Once (ρ : Row) : Type 0 where
-  pub at-most-once : (b : ℕ) → count b (ρ .bags) ≤ 1
-  pub not-yet : (k b : ℕ) → PushNoted ρ k b → count b (ρ .bags) ≡ 0
+  pub at-most-once : (b : ℕ) → count b (allBags ρ) ≤ 1
+  pub not-yet : (k b : ℕ) → PushNoted ρ k b → count b (allBags ρ) ≡ 0
   pub one-task : (j k b : ℕ) → PushNoted ρ j b → PushNoted ρ k b → j ≡ k
 
 pub once-in-row : {ρ : Row} → Once ρ → OnceInRow ρ
 once-in-row {ρ} O =
     record {
-      different = places-differ (ρ .bags) (O .at-most-once);
-      not-in-row = λ k b n. not-among b (ρ .bags) (O .not-yet k b n);
+      different = places-differ (allBags ρ) (O .at-most-once);
+      not-in-row = λ k b n. not-among b (allBags ρ) (O .not-yet k b n);
       one-task = O .one-task;
     }
 
 same-row : {ρ ρ′ : Row} → some ρ ≡ some ρ′ → Once ρ → Once ρ′
 same-row {ρ} {ρ′} e O = let q : ρ ≡ ρ′ = cc in subst Once q O
 
-pub once-empty : (T : ℕ) → Once (emptyRow T)
-unfolding count
-once-empty T =
+-- Empty rows have no bag.
+none-there : (b n : ℕ) → count b (rowsBelow (λ l. []) n) ≡ 0
+unfolding rowsBelow count
+none-there b zero = refl
+none-there b (suc n) = let e = none-there b n in let c = count-append b (rowsBelow (λ l. []) n) [] in omega arith
+
+pub once-empty : (T L : ℕ) → Once (emptyRow T L)
+once-empty T L =
     record {
-      at-most-once = λ b. omega arith;
-      not-yet = λ k b n. refl;
+      at-most-once = λ b. let e = none-there b L in omega arith;
+      not-yet = λ k b n. none-there b L;
       one-task = λ j k b n m. clash (cc (n .note-is));
     }
 
 -- ---- Notes, with one replaced.
 data NotedThere (ρ : Row) (k : ℕ) (m : Option Note) (j b : ℕ) : Type 0 where
   the-new-one :
-      j ≡ k → (s : Side) → m ≡ some (record { operation = push; side = s; argument = b }) → NotedThere ρ k m j b
+      j ≡ k → (l : ℕ) (s : Side) → m ≡ some (record { lane = l; operation = push; side = s; argument = b })
+      → NotedThere ρ k m j b
   one-before : j ≢ k → PushNoted ρ j b → NotedThere ρ k m j b
 
 noted-there : (ρ : Row) (k : ℕ) (m : Option Note) (j b : ℕ) → PushNoted (noted ρ k m) j b → NotedThere ρ k m j b
 noted-there ρ k m j b N = go (j ≟ k) (N .note-is)
   where
     go : (d : Dec (j ≡ k))
-        → (if d then m else ρ .notes j) ≡ some (record { operation = push; side = N .side; argument = b })
+        → (if d then m else ρ .notes j)
+        ≡ some (record { lane = N .lane; operation = push; side = N .side; argument = b })
         → NotedThere ρ k m j b
-    go (yes e) q = the-new-one e (N .side) q
-    go (no n) q = one-before n (record { side = N .side; note-is = q })
+    go (yes e) q = the-new-one e (N .lane) (N .side) q
+    go (no n) q = one-before n (record { lane = N .lane; side = N .side; note-is = q })
 
 -- ---- Begin.
 
 -- An accepted begin of a push is of a bag that the row has not seen.
 abbrev pub NewWhereBegun : Row → (c : Call) → Given c → Type 0
-NewWhereBegun ρ (begin-call k op side argument) Accepted = operationOf op ≡ push → SeenIn ρ (number argument) → ⊥
-NewWhereBegun ρ (begin-call k op side argument) (Reply-Refused n) = Unit {0}
-NewWhereBegun ρ (start-call S T g) r = Unit {0}
+NewWhereBegun ρ (begin-call k l op side argument) Accepted = operationOf op ≡ push → SeenIn ρ (number argument) → ⊥
+NewWhereBegun ρ (begin-call k l op side argument) (Reply-Refused n) = Unit {0}
+NewWhereBegun ρ (start-call S T g L) r = Unit {0}
 NewWhereBegun ρ (tick-call k h) r = Unit {0}
 NewWhereBegun ρ (ticks-call k h times) r = Unit {0}
 NewWhereBegun ρ (dispatch-call h) r = Unit {0}
 NewWhereBegun ρ (run-call list answers) r = Unit {0}
 NewWhereBegun ρ (panel-call list answers) r = Unit {0}
-NewWhereBegun ρ (read-call out) r = Unit {0}
+NewWhereBegun ρ (read-call l out) r = Unit {0}
 
 module _ {ρ : Row} (O : Once ρ) (k : ℕ) (n : Note) (new : n .operation ≡ push → SeenIn ρ (n .argument) → ⊥) where
   -- A note of the new push is of a bag not seen.
-  new-bag : (b : ℕ) (s : Side) → some n ≡ some (record { operation = push; side = s; argument = b }) → SeenIn ρ b → ⊥
-  new-bag b s e seen =
-      let same : n ≡ record { operation = push; side = s; argument = b } = cc in
+  new-bag : (b l : ℕ) (s : Side) → some n ≡ some (record { lane = l; operation = push; side = s; argument = b })
+      → SeenIn ρ b
+      → ⊥
+  new-bag b l s e seen =
+      let same : n ≡ record { lane = l; operation = push; side = s; argument = b } = cc in
       new (ap (λ (m : Note). m .operation) same) (subst (SeenIn ρ) (sym (ap (λ (m : Note). m .argument) same)) seen)
 
-  not-there : (b : ℕ) → (SeenIn ρ b → ⊥) → count b (ρ .bags) ≡ 0
-  not-there b unseen = not-counted b (ρ .bags) (go (isAmong b (ρ .bags)) refl)
+  not-there : (b : ℕ) → (SeenIn ρ b → ⊥) → count b (allBags ρ) ≡ 0
+  not-there b unseen = not-counted b (allBags ρ) (go (isAmong b (allBags ρ)) refl)
     where
-      go : (t : Bool) → isAmong b (ρ .bags) ≡ t → isAmong b (ρ .bags) ≡ false
+      go : (t : Bool) → isAmong b (allBags ρ) ≡ t → isAmong b (allBags ρ) ≡ false
       go true e = absurd (unseen (inl e))
       go false e = e
 
@@ -139,19 +160,19 @@ module _ {ρ : Row} (O : Once ρ) (k : ℕ) (n : Note) (new : n .operation ≡ p
         at-most-once = O .at-most-once;
         not-yet = λ j b N.
             elim (noted-there ρ k (some n) j b N) [
-              | the-new-one e s q ↦ not-there b (new-bag b s q)
+              | the-new-one e l s q ↦ not-there b (new-bag b l s q)
               | one-before ne M ↦ O .not-yet j b M
             ];
         one-task = λ i j b N M.
             elim (noted-there ρ k (some n) i b N) [
-              | the-new-one e s q ↦
+              | the-new-one e l s q ↦
                   elim (noted-there ρ k (some n) j b M) [
-                    | the-new-one d z p ↦ e ∙ sym d
-                    | one-before nd M′ ↦ absurd (new-bag b s q (inr (j, M′)))
+                    | the-new-one d j z p ↦ e ∙ sym d
+                    | one-before nd M′ ↦ absurd (new-bag b l s q (inr (j, M′)))
                   ]
               | one-before ne N′ ↦
                   elim (noted-there ρ k (some n) j b M) [
-                    | the-new-one d z p ↦ absurd (new-bag b z p (inr (i, N′)))
+                    | the-new-one d l z p ↦ absurd (new-bag b l z p (inr (i, N′)))
                     | one-before nd M′ ↦ O .one-task i j b N′ M′
                   ]
             ];
@@ -225,14 +246,14 @@ module _ (n : Note) (bags bags′ : List ℕ) where
 
 module _ {ρ : Row} (O : Once ρ) (k : ℕ) (n : Note) (is-noted : ρ .notes k ≡ some n) (bags : List ℕ) where
   abbrev ended : Row
-  ended = noted (withBags ρ bags) k nothing
+  ended = noted (withBags ρ (n .lane) bags) k nothing
 
   -- The other tasks' notes are as they were.
   others : (j b : ℕ) → PushNoted ended j b → (j ≢ k) × PushNoted ρ j b
   others j b N =
-      elim (noted-there (withBags ρ bags) k nothing j b N) [
-        | the-new-one e s q ↦ clash (cc)
-        | one-before ne M ↦ (ne, record { side = M .side; note-is = M .note-is })
+      elim (noted-there (withBags ρ (n .lane) bags) k nothing j b N) [
+        | the-new-one e l s q ↦ clash (cc)
+        | one-before ne M ↦ (ne, record { lane = M .lane; side = M .side; note-is = M .note-is })
       ]
 
   one-task-ended : (i j b : ℕ) → PushNoted ended i b → PushNoted ended j b → i ≡ j
@@ -241,13 +262,47 @@ module _ {ρ : Row} (O : Once ρ) (k : ℕ) (n : Note) (is-noted : ρ .notes k �
   own-push : n .operation ≡ push → PushNoted ρ k (n .argument)
   own-push is-push =
       record {
+        lane = n .lane;
         side = n .side;
         note-is =
             is-noted
-            ∙ ap (λ (op : Operation). some (record { operation = op; side = n .side; argument = n .argument })) is-push;
+            ∙ ap (λ (op : Operation).
+            some (record { lane = n .lane; operation = op; side = n .side; argument = n .argument })) is-push;
       }
 
-  once-ended : Leaves n (ρ .bags) bags → Once ended
+  -- The other rows are as they were.
+  others-same : (j : ℕ) → j ≢ n .lane → ended .bags j ≡ ρ .bags j
+  others-same j ne = if-no (j ≟ n .lane) bags (ρ .bags j) ne
+
+  own-row : ended .bags (n .lane) ≡ bags
+  own-row = if-yes (n .lane ≟ n .lane) bags (ρ .bags (n .lane)) refl
+
+  -- So what the answer leaves of a bag in its row it leaves in all rows.
+  all-counts : (b : ℕ) → n .lane < ρ .lanes
+      → count b (allBags ended) + count b (ρ .bags (n .lane)) ≡ count b (allBags ρ) + count b bags
+  all-counts b h =
+      let c = rows-changed (ρ .bags) (ended .bags) (n .lane) others-same b (ρ .lanes) h in
+      let q = ap (count b) own-row in
+      omega arith
+
+  same-counts : (b : ℕ) → ρ .lanes ≤ n .lane → count b (allBags ended) ≡ count b (allBags ρ)
+  same-counts b h = rows-untouched (ρ .bags) (ended .bags) (n .lane) others-same b (ρ .lanes) h
+
+  all-leave : Leaves n (ρ .bags (n .lane)) bags → Leaves n (allBags ρ) (allBags ended)
+  unfolding count
+  all-leave (no-more fewer) =
+      no-more (λ b.
+      elim (less? (n .lane) (ρ .lanes)) [
+        | inl h ↦ omega (arith, all-counts b h, fewer b)
+        | inr h ↦ omega (arith, same-counts b h)
+      ])
+  all-leave (one-more is-push counts) =
+      elim (less? (n .lane) (ρ .lanes)) [
+        | inl h ↦ one-more is-push (λ b. omega (arith, all-counts b h, counts b))
+        | inr h ↦ no-more (λ b. omega (arith, same-counts b h))
+      ]
+
+  once-ended : Leaves n (allBags ρ) (allBags ended) → Once ended
   once-ended (no-more fewer) =
       record {
         at-most-once = λ b. omega (arith, fewer b, O .at-most-once b);
@@ -260,14 +315,14 @@ module _ {ρ : Row} (O : Once ρ) (k : ℕ) (n : Note) (is-noted : ρ .notes k �
             elim (equal? (n .argument) b) [
               | inl e ↦
                   let none-before = O .not-yet k b (subst (PushNoted ρ k) e (own-push is-push)) in
-                  omega (arith, counts b, count-first b (n .argument) (ρ .bags) e)
-              | inr ne ↦ omega (arith, counts b, count-other b (n .argument) (ρ .bags) ne, O .at-most-once b)
+                  omega (arith, counts b, count-first b (n .argument) (allBags ρ) e)
+              | inr ne ↦ omega (arith, counts b, count-other b (n .argument) (allBags ρ) ne, O .at-most-once b)
             ];
         not-yet = λ j b N.
             let M = others j b N in
             elim (equal? (n .argument) b) [
               | inl e ↦ absurd (M .0 (O .one-task j k b (M .1) (subst (PushNoted ρ k) e (own-push is-push))))
-              | inr ne ↦ counts b ∙ count-other b (n .argument) (ρ .bags) ne ∙ O .not-yet j b (M .1)
+              | inr ne ↦ counts b ∙ count-other b (n .argument) (allBags ρ) ne ∙ O .not-yet j b (M .1)
             ];
         one-task = one-task-ended;
       }
@@ -278,13 +333,15 @@ once-made {ρ} {ρ′} O k a e = let n = bound (ρ .notes k) _ e in by-answer (n
   where
     by-answer : (n : Note) → ρ .notes k ≡ some n → (g : Bool)
         → cond g (some ρ)
-        (Option·map (λ bags. noted (withBags ρ bags) k nothing) (answered n a (ρ .bags)))
+        (Option·map (λ bags. noted (withBags ρ (n .lane) bags) k nothing) (answered n a (ρ .bags (n .lane))))
         ≡ some ρ′
         → Once ρ′
     by-answer n is true q = same-row q O
     by-answer n is false q =
-        let x = mapped (answered n a (ρ .bags)) _ q in
-        same-row (ap some (x .2)) (once-ended O k n is (x .0) (answer-leaves n (ρ .bags) (x .0) a (x .1)))
+        let x = mapped (answered n a (ρ .bags (n .lane))) _ q in
+        same-row (ap some (x .2))
+        (once-ended O k n is (x .0)
+        (all-leave O k n is (x .0) (answer-leaves n (ρ .bags (n .lane)) (x .0) a (x .1))))
 
 once-tick : {ρ ρ′ : Row} → Once ρ → (k : ℕ) (a : Answer) → feedTick ρ k a ≡ some ρ′ → Once ρ′
 unfolding feedTick
@@ -323,10 +380,10 @@ once-dispatch (Answered a) {ρ} {ρ′} O e = go (refusalOf a) e
     ticked k P =
         record {
           at-most-once = P .at-most-once;
-          not-yet = λ j b N. P .not-yet j b (record { side = N .side; note-is = N .note-is });
+          not-yet = λ j b N. P .not-yet j b (record { lane = N .lane; side = N .side; note-is = N .note-is });
           one-task = λ i j b N M.
-              P .one-task i j b (record { side = N .side; note-is = N .note-is })
-              (record { side = M .side; note-is = M .note-is });
+              P .one-task i j b (record { lane = N .lane; side = N .side; note-is = N .note-is })
+              (record { lane = M .lane; side = M .side; note-is = M .note-is });
         }
 
     go : (o : Option ℕ)
@@ -340,16 +397,17 @@ once-dispatch (Answered a) {ρ} {ρ′} O e = go (refusalOf a) e
 
 -- ---- Every call.
 pub once-fed : (c : Call) (r : Given c) {ρ ρ′ : Row} → Once ρ → NewWhereBegun ρ c r → feed ρ c r ≡ some ρ′ → Once ρ′
-once-fed (start-call S T g) Accepted O new e = same-row e (once-empty T)
-once-fed (start-call S T g) (Reply-Refused n) O new e = same-row e O
-once-fed (begin-call k op side argument) Accepted O new e =
-    same-row e
-    (once-begun O k (record { operation = operationOf op; side = sideOf side; argument = number argument }) new)
-once-fed (begin-call k op side argument) (Reply-Refused n) O new e = same-row e O
+once-fed (start-call S T g L) Accepted O new e = same-row e (once-empty T L)
+once-fed (start-call S T g L) (Reply-Refused n) O new e = same-row e O
+once-fed (begin-call k l op side argument) Accepted {ρ} O new e =
+    same-row (ap some (same-if (ltb l (ρ .lanes)) e .1))
+    (once-begun O k
+    (record { lane = l; operation = operationOf op; side = sideOf side; argument = number argument }) new)
+once-fed (begin-call k l op side argument) (Reply-Refused n) O new e = same-row e O
 once-fed (tick-call k h) a O new e = once-tick O k a e
 once-fed (ticks-call k h zero) a O new e = subst Once (same-if (isGoing a) e .1) O
 once-fed (ticks-call k h (suc n)) a O new e = once-tick O k a e
 once-fed (dispatch-call h) r O new e = once-dispatch r O e
 once-fed (run-call list answers) r O new e = once-run (r .0 .made) list (r .1) O e
 once-fed (panel-call list answers) r O new e = once-run (r .0 .made) list (r .1) O e
-once-fed (read-call out) r {ρ} O new e = subst Once (same-when-read ρ out (r .0) (r .1) e) O
+once-fed (read-call l out) r {ρ} O new e = subst Once (same-when-read ρ l out (r .0) (r .1) e) O

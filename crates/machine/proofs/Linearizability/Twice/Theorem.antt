@@ -28,6 +28,7 @@ use Rattle.machine.specs.Twice.{
   NoTwice,
   NoTwiceInside,
   PushNoted,
+  allBags,
   TablesHaveOnce,
   rowAfter,
   RowSince,
@@ -35,7 +36,7 @@ use Rattle.machine.specs.Twice.{
   RowsHaveOnce,
   PushesBeginNew,
 }
-use Rattle.machine.proofs.Linearizability.Calls.Agreement.{Agrees, lane-is-row}
+use Rattle.machine.proofs.Linearizability.Calls.Agreement.{Agrees, lanes-are-rows, all-lanes-are-rows}
 use Rattle.machine.proofs.Linearizability.Theorem.{call-explained, started-agrees}
 use Rattle.machine.proofs.Linearizability.Histories.{bound}
 use Rattle.machine.proofs.Linearizability.Corollaries.{begun-inside-runs}
@@ -45,18 +46,18 @@ use Rattle.machine.proofs.Linearizability.Twice.Begins.{busy-noted, acc
 -- ---- Every call, on a table that agrees with the row.
 module _ {ws : List ℕ} {ρ : Row} (A : Agrees ws ρ) where
   new-where-begun : (c : Call) → NewWhereBegun ρ c (given c ws)
-  new-where-begun (begin-call k op side argument) = go (begin ws k op side argument .reply) refl
+  new-where-begun (begin-call k l op side argument) = go (begin ws k l op side argument .reply) refl
     where
-      go : (r : Reply) → begin ws k op side argument .reply ≡ r → NewWhereBegun ρ (begin-call k op side argument) r
-      go Accepted e = accepted-new A k op side argument e
+      go : (r : Reply) → begin ws k l op side argument .reply ≡ r → NewWhereBegun ρ (begin-call k l op side argument) r
+      go Accepted e = accepted-new A k l op side argument e
       go (Reply-Refused n) e = tt
-  new-where-begun (start-call S T g) = tt
+  new-where-begun (start-call S T g L) = tt
   new-where-begun (tick-call k h) = tt
   new-where-begun (ticks-call k h times) = tt
   new-where-begun (dispatch-call h) = tt
   new-where-begun (run-call list answers) = tt
   new-where-begun (panel-call list answers) = tt
-  new-where-begun (read-call out) = tt
+  new-where-begun (read-call l out) = tt
 
   once-called : Once ρ → (c : Call) → Once (call-explained A c .row)
   once-called O c = once-fed c (given c ws) O (new-where-begun c) (call-explained A c .given-by-row)
@@ -73,8 +74,8 @@ rows-agree (c ∷ cs) {ws} {ρ} {ρ′} A O e =
 
 row-agrees : {ws : List ℕ} {ρ : Row} → RowSince ws ρ → Agrees ws ρ × Once ρ
 row-agrees {ws} {ρ} R =
-    let began = started-agrees (R .S) (R .T) (R .growth) (R .old) (R .accepted) in
-    let x = rows-agree (R .calls) began (once-empty (R .T)) (R .row-is) in
+    let began = started-agrees (R .S) (R .T) (R .growth) (R .lanes) (R .old) (R .accepted) in
+    let x = rows-agree (R .calls) began (once-empty (R .T) (R .lanes)) (R .row-is) in
     (subst (λ (vs : List ℕ). Agrees vs ρ) (R .leads-to) (x .0), x .1)
 
 pub rows-have-once : RowsHaveOnce
@@ -98,28 +99,30 @@ row-one-more (d ∷ cs) c ws ρ e f =
 one-more : {ws : List ℕ} {ρ ρ′ : Row} (c : Call) → RowSince ws ρ → feed ρ c (given c ws) ≡ some ρ′
     → RowSince (after c ws) ρ′
 one-more {ws} {ρ} {ρ′} c R f =
-    let began = start (R .old) (R .S) (R .T) (R .growth) .words in
+    let began = start (R .old) (R .S) (R .T) (R .growth) (R .lanes) .words in
     record {
       S = R .S;
       T = R .T;
       growth = R .growth;
+      lanes = R .lanes;
       old = R .old;
       accepted = R .accepted;
       calls = R .calls ++ (c ∷ []);
       leads-to = after-one-more (R .calls) c began ∙ ap (after c) (R .leads-to);
       row-is =
-          row-one-more (R .calls) c began (emptyRow (R .T)) (R .row-is)
+          row-one-more (R .calls) c began (emptyRow (R .T) (R .lanes)) (R .row-is)
           (subst (λ (vs : List ℕ). feed ρ c (given c vs) ≡ some ρ′) (sym (R .leads-to)) f);
     }
 
 begun-row : {ws : List ℕ} → Begun ws → (ρ : Row) × RowSince ws ρ
 unfolding rowAfter afterAll
-begun-row (by-start S T g old accepted) = (
-  emptyRow T,
+begun-row (by-start S T g L old accepted) = (
+  emptyRow T L,
   record {
     S = S;
     T = T;
     growth = g;
+    lanes = L;
     old = old;
     accepted = accepted;
     calls = [];
@@ -133,7 +136,7 @@ begun-row (by-call B c) =
     (E .row, one-more c (x .1) (E .given-by-row))
 
 pub each-has-row : EachHasRow
-each-has-row ws B = let x = begun-row B in (x .0, x .1, lane-is-row (row-agrees (x .1) .0))
+each-has-row ws B = let x = begun-row B in (x .0, x .1, lanes-are-rows (row-agrees (x .1) .0))
 
 -- ---- Tables.
 pub tables-have-once : TablesHaveOnce
@@ -142,10 +145,10 @@ tables-have-once ws B =
     let A = row-agrees (begun-row B .1) .0 in
     let O = rows-have-once ws ρ (begun-row B .1) in
     record {
-      bags = ρ .bags;
-      lane-is = lane-is-row A;
+      bags = allBags ρ;
+      lanes-are = all-lanes-are-rows A;
       different = O .different;
-      not-in-lane = λ k e. O .not-in-row k (task ws k .argument) (busy-noted A k e);
+      not-in-lanes = λ k e. O .not-in-row k (task ws k .argument) (busy-noted A k e);
       one-task = λ j k d e same.
           O .one-task j k (task ws k .argument) (subst (PushNoted ρ j) same (busy-noted A j d)) (busy-noted A k e);
     }
@@ -156,11 +159,12 @@ same-some e = cc
 pub no-twice : NoTwice
 no-twice ws B bags is-lane =
     let O = tables-have-once ws B in
-    subst AllDifferent (same-some (sym (O .lane-is) ∙ is-lane)) (O .different)
+    subst AllDifferent (same-some (sym (O .lanes-are) ∙ is-lane)) (O .different)
 
 pub no-twice-inside : NoTwiceInside
 no-twice-inside ws B i list = no-twice _ (begun-inside-runs i list B)
 
 -- ---- Begin.
 pub pushes-begin-new : PushesBeginNew
-pushes-begin-new ws ρ R k s argument is-task is-bag = begins-new (row-agrees R .0) k s argument is-task is-bag
+pushes-begin-new ws ρ R k l s argument is-task is-lane is-bag =
+    begins-new (row-agrees R .0) k l s argument is-task is-lane is-bag

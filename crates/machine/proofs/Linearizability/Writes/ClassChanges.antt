@@ -10,35 +10,41 @@ use Rattle.machine.proofs.Basics.Contradiction.{clash, refute}
 use Rattle.machine.proofs.Basics.Choices.{if-no, if-yes}
 use Rattle.machine.proofs.Linearizability.Model.Classes.{Class, free, main, spur, new}
 
--- ---- A cut on side s: the nodes of main beyond index i go to spur s.
-pub data Cut (s : Side) (class : ℕ → Class) (index : ℕ → ℕ) (i : ℕ) (class' : ℕ → Class) (x : ℕ) : Type 0 where
-  goes-to-spur : class x ≡ main → i < index x → class' x ≡ spur s → Cut s class index i class' x
-  not-cut : (class x ≡ main → index x ≤ i) → class' x ≡ class x → Cut s class index i class' x
+-- ---- A cut of lane ℓ on side s: the nodes of its main beyond index i go to spur s.
+pub data Cut (ℓ : ℕ) (s : Side) (class : ℕ → Class) (index : ℕ → ℕ) (i : ℕ) (class' : ℕ → Class) (x : ℕ) : Type 0 where
+  goes-to-spur : class x ≡ main ℓ → i < index x → class' x ≡ spur s → Cut ℓ s class index i class' x
+  not-cut : (class x ≡ main ℓ → index x ≤ i) → class' x ≡ class x → Cut ℓ s class index i class' x
 
-cutOne : Side → {i p : ℕ} → Dec (i < p) → Class → Class
-cutOne s d free = free
-cutOne s d main = if_then_else_ d (spur s) main
-cutOne s d (spur z) = spur z
-cutOne s d (new j) = new j
+cutOne : (ℓ : ℕ) → Side → {i p : ℕ} → Dec (i < p) → ((l : ℕ) → Dec (l ≡ ℓ)) → Class → Class
+cutOne ℓ s d own free = free
+cutOne ℓ s d own (main l) = if_then_else_ (own l) (if_then_else_ d (spur s) (main l)) (main l)
+cutOne ℓ s d own (spur z) = spur z
+cutOne ℓ s d own (new j) = new j
 
-pub cutClass : Side → (ℕ → Class) → (ℕ → ℕ) → ℕ → ℕ → Class
-cutClass s class index i x = cutOne s (i <? index x) (class x)
+pub cutClass : (ℓ : ℕ) → Side → (ℕ → Class) → (ℕ → ℕ) → ℕ → ℕ → Class
+cutClass ℓ s class index i x = cutOne ℓ s (i <? index x) (λ l. l ≟ ℓ) (class x)
 
-pub cutClass-cut : (s : Side) (class : ℕ → Class) (index : ℕ → ℕ) (i x : ℕ)
-    → Cut s class index i (cutClass s class index i) x
+pub cutClass-cut : (ℓ : ℕ) (s : Side) (class : ℕ → Class) (index : ℕ → ℕ) (i x : ℕ)
+    → Cut ℓ s class index i (cutClass ℓ s class index i) x
 unfolding cutClass cutOne
-cutClass-cut s class index i x = go (class x) refl (i <? index x) refl
+cutClass-cut ℓ s class index i x = go (class x) refl
   where
-    go : (c : Class)
-        → class x ≡ c
+    of-main : (l : ℕ)
+        → class x ≡ main l
+        → (c : Dec (l ≡ ℓ))
+        → (l ≟ ℓ) ≡ c
         → (d : Dec (i < index x))
         → (i <? index x) ≡ d
-        → Cut s class index i (cutClass s class index i) x
-    go free e d q = not-cut (λ m. clash (cc)) (cc)
-    go main e (yes h) q = goes-to-spur e h (cc)
-    go main e (no h) q = not-cut (λ m. omega arith) (cc)
-    go (spur z) e d q = not-cut (λ m. clash (cc)) (cc)
-    go (new j) e d q = not-cut (λ m. clash (cc)) (cc)
+        → Cut ℓ s class index i (cutClass ℓ s class index i) x
+    of-main l e (yes h) p (yes k) q = goes-to-spur (cc) k (cc)
+    of-main l e (yes h) p (no k) q = not-cut (λ m. omega arith) (cc)
+    of-main l e (no h) p d q = not-cut (λ m. absurd (h (cc))) (cc)
+
+    go : (c : Class) → class x ≡ c → Cut ℓ s class index i (cutClass ℓ s class index i) x
+    go free e = not-cut (λ m. clash (cc)) (cc)
+    go (main l) e = of-main l e (l ≟ ℓ) refl (i <? index x) refl
+    go (spur z) e = not-cut (λ m. clash (cc)) (cc)
+    go (new j) e = not-cut (λ m. clash (cc)) (cc)
 
 -- ---- A splice: the chain of task k joins the class c.
 pub data Joined (k : ℕ) (c : Class) (class class' : ℕ → Class) (x : ℕ) : Type 0 where
@@ -47,7 +53,7 @@ pub data Joined (k : ℕ) (c : Class) (class class' : ℕ → Class) (x : ℕ) :
 
 joinOne : Class → Class → (k : ℕ) → ((j : ℕ) → Dec (j ≡ k)) → Class
 joinOne free c k d = free
-joinOne main c k d = main
+joinOne (main l) c k d = main l
 joinOne (spur z) c k d = spur z
 joinOne (new j) c k d = if_then_else_ (d j) c (new j)
 
@@ -69,16 +75,16 @@ joinedClass-joined k c class x = go (class x) refl
 
     go : (u : Class) → class x ≡ u → Joined k c class (joinedClass k c class) x
     go free e = not-joined (λ h. refute (cc)) (cc)
-    go main e = not-joined (λ h. refute (cc)) (cc)
+    go (main l) e = not-joined (λ h. refute (cc)) (cc)
     go (spur z) e = not-joined (λ h. refute (cc)) (cc)
     go (new j) e = by-number j e (j ≟ k) refl
 
 -- at' is at up to n and the chain from n + 1 on; index' is its inverse.
-pub record Extended (k : ℕ) (class : ℕ → Class) (at index : ℕ → ℕ) (n : ℕ) (node place : ℕ → ℕ) (at' index' : ℕ → ℕ)
+pub record Extended (ℓ k : ℕ) (class : ℕ → Class) (at index : ℕ → ℕ) (n : ℕ) (node place : ℕ → ℕ) (at' index' : ℕ → ℕ)
     : Type 0 where
   pub before : (i : ℕ) → i ≤ n → at' i ≡ at i
   pub behind : (i j : ℕ) → i ≡ suc (n + j) → at' i ≡ node j
-  pub index-main : (x : ℕ) → class x ≡ main → index' x ≡ index x
+  pub index-main : (x : ℕ) → class x ≡ main ℓ → index' x ≡ index x
   pub index-new : (x : ℕ) → class x ≡ new k → index' x ≡ suc (n + place x)
 
 pub extendedAt : (ℕ → ℕ) → ℕ → (ℕ → ℕ) → ℕ → ℕ
@@ -86,17 +92,17 @@ extendedAt at n node i = if i ≤? n then at i else node (i - suc n)
 
 indexOne : Class → ℕ → ℕ → ℕ
 indexOne free p q = p
-indexOne main p q = p
+indexOne (main l) p q = p
 indexOne (spur z) p q = p
 indexOne (new j) p q = q
 
 pub extendedIndex : (ℕ → Class) → (ℕ → ℕ) → ℕ → (ℕ → ℕ) → ℕ → ℕ
 extendedIndex class index n place x = indexOne (class x) (index x) (suc (n + place x))
 
-pub extended : (k : ℕ) (class : ℕ → Class) (at index : ℕ → ℕ) (n : ℕ) (node place : ℕ → ℕ)
-    → Extended k class at index n node place (extendedAt at n node) (extendedIndex class index n place)
+pub extended : (ℓ k : ℕ) (class : ℕ → Class) (at index : ℕ → ℕ) (n : ℕ) (node place : ℕ → ℕ)
+    → Extended ℓ k class at index n node place (extendedAt at n node) (extendedIndex class index n place)
 unfolding extendedAt extendedIndex indexOne
-extended k class at index n node place =
+extended ℓ k class at index n node place =
     record {
       before = λ i h. if-yes (i ≤? n) (at i) (node (i - suc n)) h;
       behind =
@@ -117,7 +123,7 @@ pub data Taken (k : ℕ) (held : ℕ → Bool) (f : ℕ) (class class' : ℕ →
 
 dropOne : Bool → Class → Class
 dropOne h free = free
-dropOne h main = main
+dropOne h (main l) = main l
 dropOne true (spur z) = spur z
 dropOne false (spur z) = free
 dropOne h (new j) = new j
@@ -139,7 +145,7 @@ takenClass-taken k held f class x = go (x ≟ f) refl (held x) refl (class x) re
         → Taken k held f class (takenClass k held f class) x
     go (yes e) q h p c u = is-taken e (cc)
     go (no e) q h p free u = not-dropped e (λ z c. clash (cc)) (cc)
-    go (no e) q h p main u = not-dropped e (λ z c. clash (cc)) (cc)
+    go (no e) q h p (main l) u = not-dropped e (λ z c. clash (cc)) (cc)
     go (no e) q true p (spur z) u = not-dropped e (λ y c. p) (cc)
     go (no e) q false p (spur z) u = dropped e z u p (cc)
     go (no e) q h p (new j) u = not-dropped e (λ z c. clash (cc)) (cc)

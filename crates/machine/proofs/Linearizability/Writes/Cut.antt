@@ -1,4 +1,4 @@
--- Line 62 with A in main: main ends at A, and what was beyond goes to the spur.
+-- Line 62 with A in main of a lane: main ends at A, and what was beyond goes to the spur.
 use mathlib.Core.Path.{_≡_, refl, ap, sym, _∙_}
 use mathlib.Core.Logic.{_≢_, _⊎_, inl, inr}
 use mathlib.Core.Bool.{Bool}
@@ -40,10 +40,10 @@ use Rattle.machine.proofs.Linearizability.Model.Nodes.{
 abbrev pub cutFrame : Frame → (A : ℕ) → Frame
 cutFrame F A = record { at = F .at; index = F .index; n = F .index A; a = F .a; b = F .b; bags = F .bags }
 
-module _ {s o : Side} {m : View} {class : ℕ → Class} {F : Frame} (S : Structure s o m class F)
+module _ {ℓ : ℕ} {s o : Side} {m : View} {class : ℕ → Class} {F : Frame} (S : Structure ℓ s o m class F)
     {A B : ℕ} {val₁ val' : ℕ → Value} (wrote-X : Wrote (m .val) A (X s) val₁) (wrote-Y : Wrote val₁ B (Y s) val')
-    {class' : ℕ → Class} (cut : (x : ℕ) → Cut s class (F .index) (F .index A) class' x)
-    (A-main : class A ≡ main) (A-N : m .val A ≡ N s) (B-N : m .val B ≡ N s)
+    {class' : ℕ → Class} (cut : (x : ℕ) → Cut ℓ s class (F .index) (F .index A) class' x)
+    (A-main : class A ≡ main ℓ) (A-N : m .val A ≡ N s) (B-N : m .val B ≡ N s)
     (next : LinkedOrCut s (m .out) (m .val) class A B) where
   open View m using (out, inn, val, hats)
   open Frame F using (at, index, n, b)
@@ -64,7 +64,7 @@ module _ {s o : Side} {m : View} {class : ℕ → Class} {F : Frame} (S : Struct
   B-at : B ≡ at (suc (index A))
   B-at = elim next [ linked e ↦ cc (A-at, S .links .links-out (index A) A<n) | cut-off c y ↦ clash (cc) ]
 
-  B-main : class B ≡ main
+  B-main : class B ≡ main ℓ
   B-main = cc (B-at, S .main-list .is-main (suc (index A)) A<n)
 
   -- ---- The classes.
@@ -86,14 +86,14 @@ module _ {s o : Side} {m : View} {class : ℕ → Class} {F : Frame} (S : Struct
             clash (let q = k (S .main-list .is-main i l) in let p = S .main-list .index-at i l in omega arith)
       ]
 
-  within : (i : ℕ) → i ≤ index A → class' (at i) ≡ main
+  within : (i : ℕ) → i ≤ index A → class' (at i) ≡ main ℓ
   within i h =
       elim (cut (at i)) [
         | goes-to-spur c k e ↦ clash (let p = S .main-list .index-at i (omega (arith, A≤n)) in omega arith)
         | not-cut k e ↦ cc (S .main-list .is-main i (omega (arith, A≤n)))
       ]
 
-  pub cut-A : class' A ≡ main
+  pub cut-A : class' A ≡ main ℓ
   cut-A = cc (within (index A) (omega arith), A-at)
 
   pub cut-B : class' B ≡ spur s
@@ -123,7 +123,7 @@ module _ {s o : Side} {m : View} {class : ℕ → Class} {F : Frame} (S : Struct
       }
 
   -- ---- The nodes of main beyond A, which are in the spur now.
-  mark-beyond : (x : ℕ) → class x ≡ main → index A < index x → owner (val' x) ≡ of s
+  mark-beyond : (x : ℕ) → class x ≡ main ℓ → index A < index x → owner (val' x) ≡ of s
   mark-beyond x c h =
       let l = S .a<b in
       let p = b≤A in
@@ -140,14 +140,14 @@ module _ {s o : Side} {m : View} {class : ℕ → Class} {F : Frame} (S : Struct
             ]
       ]
 
-  inward-beyond : (x : ℕ) → class x ≡ main → index A < index x → class (inn x) ≡ main
+  inward-beyond : (x : ℕ) → class x ≡ main ℓ → index A < index x → class (inn x) ≡ main ℓ
   inward-beyond x c h =
       let j : ℕ = index x - 1 in
       let e : suc j ≡ index x = omega arith in
       let l = S .main-list .index-le x c in
       cc (S .links .links-in j (omega arith), S .main-list .at-index x c, S .main-list .is-main j (omega arith))
 
-  outward-beyond : (x : ℕ) → class x ≡ main → index A < index x → (out x ≡ none) ⊎ (class' (out x) ≡ spur s)
+  outward-beyond : (x : ℕ) → class x ≡ main ℓ → index A < index x → (out x ≡ none) ⊎ (class' (out x) ≡ spur s)
   outward-beyond x c h =
       let e = S .main-list .at-index x c in
       let l = S .main-list .index-le x c in
@@ -192,7 +192,7 @@ module _ {s o : Side} {m : View} {class : ℕ → Class} {F : Frame} (S : Struct
       }
 
   -- ---- Main, which ends at A now.
-  cut-main-list : Main class' at index (index A)
+  cut-main-list : Main ℓ class' at index (index A)
   cut-main-list =
       record {
         is-main = within;
@@ -225,7 +225,7 @@ module _ {s o : Side} {m : View} {class : ℕ → Class} {F : Frame} (S : Struct
         leads-back = cc (S .links .links-in (index A) A<n, B-at);
       })
 
-  pub cut-keeps : Structure s o (record { out = out; inn = inn; val = val'; hats = hats }) class' (cutFrame F A)
+  pub cut-keeps : Structure ℓ s o (record { out = out; inn = inn; val = val'; hats = hats }) class' (cutFrame F A)
   cut-keeps =
       record {
         sides = S .sides;
@@ -248,6 +248,16 @@ module _ {s o : Side} {m : View} {class : ℕ → Class} {F : Frame} (S : Struct
         far-spur = cut-far-spur;
       }
 
+  -- The other lanes keep their nodes and the words of these.
+  pub cut-stays-main : (x j : ℕ) → j ≢ ℓ → class x ≡ main j → class' x ≡ main j
+  cut-stays-main x j ne h = elim (cut x) [ goes-to-spur c l e ↦ absurd (ne (cc)) | not-cut l e ↦ cc ]
+
+  pub cut-was-main : (x j : ℕ) → class' x ≡ main j → class x ≡ main j
+  cut-was-main x j h = elim (cut x) [ goes-to-spur c l e ↦ clash (cc) | not-cut l e ↦ cc ]
+
+  pub cut-same-value : (x j : ℕ) → j ≢ ℓ → class x ≡ main j → val' x ≡ val x
+  cut-same-value x j ne h = same x (λ e. ne (cc)) (λ e. ne (cc (B-main)))
+
   -- ---- The guarantee.
   cut-near : (held : ℕ → Bool) → Guarantee held s out inn val class out inn val' class'
   cut-near held =
@@ -255,12 +265,12 @@ module _ {s o : Side} {m : View} {class : ℕ → Class} {F : Frame} (S : Struct
         spur-stays = λ x _ h. spur-stays x s h;
         spur-inward = λ x _ h. refl;
         Y-stays = λ x _ h y. same-spur x s h ∙ y;
-        spur-not-main = λ x h e. refute (cc (spur-stays x s h));
-        main-old = λ x h. stays-old x (cc);
-        main-outward = λ x _ _. inl refl;
-        cut-inward = λ x h c. refl;
+        spur-not-main = λ x j h e. refute (cc (spur-stays x s h));
+        main-old = λ x j h. stays-old x (cc);
+        main-outward = λ x j _ _. inl refl;
+        cut-inward = λ x j h c. refl;
         cut-behind-main =
-            λ x h c. elim (cut x) [ goes-to-spur k l e ↦ inward-beyond x h l | not-cut l e ↦ clash (cc) ];
+            λ x j h c. elim (cut x) [ goes-to-spur k l e ↦ cc (inward-beyond x k l) | not-cut l e ↦ clash (cc) ];
       }
 
   cut-far : (held : ℕ → Bool) → Guarantee held o inn out val class inn out val' class'
@@ -269,11 +279,11 @@ module _ {s o : Side} {m : View} {class : ℕ → Class} {F : Frame} (S : Struct
         spur-stays = λ x _ h. spur-stays x o h;
         spur-inward = λ x _ h. refl;
         Y-stays = λ x _ h y. same-spur x o h ∙ y;
-        spur-not-main = λ x h e. refute (cc (spur-stays x o h));
-        main-old = λ x h. stays-old x (cc);
-        main-outward = λ x _ _. inl refl;
-        cut-inward = λ x h c. refl;
-        cut-behind-main = λ x h c. clash (cc (was-far-spur x c));
+        spur-not-main = λ x j h e. refute (cc (spur-stays x o h));
+        main-old = λ x j h. stays-old x (cc);
+        main-outward = λ x j _ _. inl refl;
+        cut-inward = λ x j h c. refl;
+        cut-behind-main = λ x j h c. clash (cc (was-far-spur x c));
       }
 
   cut-chains : (k : ℕ) → ChainsKept k out inn val class out inn val' class'

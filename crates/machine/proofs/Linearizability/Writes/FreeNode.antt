@@ -30,11 +30,11 @@ use Rattle.machine.proofs.Linearizability.Model.Phases.{
   facts,
   leading-holds,
 }
-use Rattle.machine.proofs.Linearizability.Model.Invariant.{Invariant, Roots}
+use Rattle.machine.proofs.Linearizability.Model.Invariant.{Invariant, none-is-free, Roots}
 use Rattle.machine.proofs.Linearizability.Writes.Take.{TakeOk}
 
-module _ {held : ℕ → Bool} {M : View} {ts : ℕ → Task} {class : ℕ → Class} {r : List ℕ}
-    (I : Invariant M ts class r) (R : Roots held M ts) where
+module _ {L : ℕ} {held : ℕ → Bool} {M : View} {ts : ℕ → Task} {class : ℕ → Class} {r : ℕ → List ℕ}
+    (I : Invariant L M ts class r) (R : Roots L held M ts) where
   chain-held : (j : ℕ) (s : Side)
       → holds (ts j .step) inD ≡ true
       → HasChainIn j s (view s M) class (ts j .D)
@@ -44,12 +44,12 @@ module _ {held : ℕ → Bool} {M : View} {ts : ℕ → Task} {class : ℕ → C
   chain-held j s d H x h =
       let C = H .chain in
       let l = C .place-le x h in
-      let D-held = R .registers j inD d (head-some H (I .lane .structure .none-free)) in
+      let D-held = R .registers j inD d (head-some H (none-is-free I)) in
       let e = C .node-place x h in
       cc (line-held (closed-view s (R .closed)) (C .links) some 0 (H .place x) (omega arith) l (cc (H .head)))
     where
       some : (i : ℕ) → i ≤ H .m → H .node i ≢ none
-      some i q e = refute (cc (H .chain .is-new i q, I .lane .structure .none-free))
+      some i q e = refute (cc (H .chain .is-new i q, none-is-free I))
 
   new-held : (j x : ℕ) → class x ≡ new j → held x ≡ true
   new-held j x h = go (facts (ts j .step) .phase) (leading-holds (ts j .step)) (I .task-ok j .chain)
@@ -69,7 +69,7 @@ module _ {held : ℕ → Bool} {M : View} {ts : ℕ → Task} {class : ℕ → C
       go popping d H = absurd (H .none-new x h)
       go removing d H = absurd (H .none-new x h)
 
-  pub take-ok : (s : Side) (f : ℕ) → held f ≡ false → TakeOk held (view s M) class f
+  pub take-ok : (s : Side) (f : ℕ) → held f ≡ false → TakeOk L held (view s M) class f
   take-ok s f h =
       record {
         closed = closed-view s (R .closed);

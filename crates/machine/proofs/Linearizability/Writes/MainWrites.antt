@@ -13,7 +13,7 @@ use Rattle.machine.proofs.Linearizability.Model.Structure.{CutFrom, Spu
 use Rattle.machine.proofs.Linearizability.Model.Guarantee.{Guarantee, ChainsKept}
 
 module _ {val val' : ℕ → Value} {class : ℕ → Class} {x : ℕ} {v : Value}
-    (w : Wrote val x v val') (c : class x ≡ main) where
+    {ℓ : ℕ} (w : Wrote val x v val') (c : class x ≡ main ℓ) where
   pub cut-from-kept : {z : Side} {inn : ℕ → ℕ} {y u : ℕ} → CutFrom z inn val class y u → CutFrom z inn val' class y u
   cut-from-kept h =
       record {
@@ -37,11 +37,11 @@ module _ {val val' : ℕ → Value} {class : ℕ → Class} {x : ℕ} {v : Value
         spur-stays = λ y _ h. h;
         spur-inward = λ y _ h. refl;
         Y-stays = λ y _ h q. w .elsewhere y (λ e. refute (cc)) ∙ q;
-        spur-not-main = λ y h e. refute (cc);
-        main-old = λ y h. cc;
-        main-outward = λ y h ne. inl refl;
-        cut-inward = λ y h q. refl;
-        cut-behind-main = λ y h q. clash (cc);
+        spur-not-main = λ y l h e. refute (cc);
+        main-old = λ y l h. cc;
+        main-outward = λ y l h ne. inl refl;
+        cut-inward = λ y l h q. refl;
+        cut-behind-main = λ y l h q. clash (cc);
       }
 
 pub value-chains-kept : (k : ℕ) {out inn : ℕ → ℕ} {val val' : ℕ → Value} {class : ℕ → Class} {x : ℕ} {v : Value}

@@ -6,9 +6,9 @@ use native.Mathlib.Omega.{arith}
 use Rattle.machine.specs.Sides.{Side}
 use Rattle.machine.specs.Values.{Value, bag, N, X, Y}
 use Rattle.machine.proofs.Basics.Contradiction.{clash, equal?, less?}
-use Rattle.machine.proofs.Basics.Updates.{updateSide, updateSide-same, Wrote}
+use Rattle.machine.proofs.Basics.Updates.{updateHat, updateHat-same, Wrote}
 use Rattle.machine.proofs.Words.Memories.{View}
-use Rattle.machine.proofs.Linearizability.Model.Sides.{updateSide-other}
+use Rattle.machine.proofs.Linearizability.Model.Sides.{updateHat-far}
 use Rattle.machine.proofs.Linearizability.Model.Classes.{Class, main}
 use Rattle.machine.proofs.Linearizability.Model.Structure.{
   linked,
@@ -33,8 +33,8 @@ use Rattle.machine.proofs.Linearizability.Writes.MainWrites.{cut-from-k
 abbrev pub poppedFrame : Frame → (j : ℕ) → Frame
 poppedFrame F j = record { at = F .at; index = F .index; n = F .n; a = F .a; b = j; bags = F .bags }
 
-module _ {s o : Side} {m : View} {class : ℕ → Class} {F : Frame} (S : Structure s o m class F)
-    {A B j : ℕ} (j-before-b : suc j ≡ F .b) (hat-A : m .hats s ≡ A)
+module _ {ℓ : ℕ} {s o : Side} {m : View} {class : ℕ → Class} {F : Frame} (S : Structure ℓ s o m class F)
+    {A B j : ℕ} (j-before-b : suc j ≡ F .b) (hat-A : m .hats ℓ s ≡ A)
     (precedes : Precedes o (m .inn) (m .val) class A B) (B-not-Y : m .val B ≢ Y o) where
   open View m using (out, inn, val, hats)
   open Frame F using (at, n, a, b, bags)
@@ -61,7 +61,7 @@ module _ {s o : Side} {m : View} {class : ℕ → Class} {F : Frame} (S : Struct
         | inr y ↦ cc (inn-A)
       ]
 
-  pub pop-main : class B ≡ main
+  pub pop-main : class B ≡ main ℓ
   pop-main = cc (pop-at, S .main-list .is-main j (omega (arith, j<n)))
 
   -- N o or X o inward of the hat: there is no bag.
@@ -109,7 +109,7 @@ module _ {s o : Side} {m : View} {class : ℕ → Class} {F : Frame} (S : Struct
             X-last = kept-at n (omega arith) (omega arith) ∙ S .values .X-last;
           }
 
-      pub pop-keeps : Structure s o (record { out = out; inn = inn; val = val'; hats = updateSide hats s B }) class
+      pub pop-keeps : Structure ℓ s o (record { out = out; inn = inn; val = val'; hats = updateHat hats ℓ s B }) class
           (poppedFrame F j)
       pop-keeps =
           record {
@@ -122,9 +122,9 @@ module _ {s o : Side} {m : View} {class : ℕ → Class} {F : Frame} (S : Struct
             links = S .links;
             last-out = elim (S .last-out) [ inl h ↦ inl h | inr y ↦ inr (cut-from-kept wrote pop-main y) ];
             first-in = elim (S .first-in) [ inl h ↦ inl h | inr y ↦ inr (cut-from-kept wrote pop-main y) ];
-            near-hat = λ k e. inl (updateSide-same hats s B ∙ pop-at);
+            near-hat = λ k e. inl (updateHat-same hats ℓ s B ∙ pop-at);
             far-hat =
-                rw (updateSide-other hats s o B (S .sides))
+                rw (updateHat-far hats ℓ s o B (S .sides))
                 (elim (S .far-hat) [ inl h ↦ inl h | inr y ↦ inr (cut-from-kept wrote pop-main y) ]);
             near-spur = spur-kept wrote pop-main (S .near-spur);
             far-spur = spur-kept wrote pop-main (S .far-spur);

@@ -6,9 +6,9 @@ use native.Mathlib.Omega.{arith}
 use Rattle.machine.specs.Sides.{Side}
 use Rattle.machine.specs.Values.{Value, bag, N}
 use Rattle.machine.proofs.Basics.Contradiction.{clash, equal?}
-use Rattle.machine.proofs.Basics.Updates.{update, updateSide, updateSide-same, Wrote, update-wrote}
+use Rattle.machine.proofs.Basics.Updates.{update, updateHat, updateHat-same, Wrote, update-wrote}
 use Rattle.machine.proofs.Words.Memories.{View}
-use Rattle.machine.proofs.Linearizability.Model.Sides.{updateSide-other}
+use Rattle.machine.proofs.Linearizability.Model.Sides.{updateHat-far}
 use Rattle.machine.proofs.Linearizability.Model.Classes.{Class, main}
 use Rattle.machine.proofs.Linearizability.Model.Structure.{CutFrom, Follows, Frame, MainValues, Structure}
 use Rattle.machine.proofs.Linearizability.Model.Nodes.{at-apart, N-before-n}
@@ -19,8 +19,8 @@ abbrev pub pushedFrame : Frame → (v : ℕ) → Frame
 pushedFrame F v =
     record { at = F .at; index = F .index; n = F .n; a = F .a; b = suc (F .b); bags = update (F .bags) (F .b) v }
 
-module _ {s o : Side} {m : View} {class : ℕ → Class} {F : Frame} (S : Structure s o m class F)
-    {A : ℕ} (hat-A : m .hats s ≡ A) (A-N : m .val A ≡ N s) where
+module _ {ℓ : ℕ} {s o : Side} {m : View} {class : ℕ → Class} {F : Frame} (S : Structure ℓ s o m class F)
+    {A : ℕ} (hat-A : m .hats ℓ s ≡ A) (A-N : m .val A ≡ N s) where
   open View m using (out, inn, val, hats)
   open Frame F using (at, n, b, bags)
 
@@ -28,7 +28,7 @@ module _ {s o : Side} {m : View} {class : ℕ → Class} {F : Frame} (S : Struct
   A-at-b : A ≡ at b
   A-at-b = elim (S .near-hat (b - 1) (omega arith)) [ inl h ↦ cc | inr y ↦ clash (cc) ]
 
-  pub push-main : class A ≡ main
+  pub push-main : class A ≡ main ℓ
   push-main = cc (A-at-b, S .main-list .is-main b (S .b≤n))
 
   b<n : b < n
@@ -61,7 +61,7 @@ module _ {s o : Side} {m : View} {class : ℕ → Class} {F : Frame} (S : Struct
     -- The hat's new place: the next of main, or a node cut off behind A.
     push-hat : (j : ℕ) → suc j ≡ suc b → (B ≡ at (suc b)) ⊎ CutFrom s inn val' class B (at j)
     push-hat j e =
-        elim (follows push-main) [
+        elim (follows ℓ push-main) [
           | inl h ↦ inl (cc (A-at-b, S .links .links-out b b<n))
           | inr y ↦
               let z : j ≡ b = omega arith in
@@ -69,7 +69,7 @@ module _ {s o : Side} {m : View} {class : ℕ → Class} {F : Frame} (S : Struct
               inr (rw (← k) (cut-from-kept wrote push-main y))
         ]
 
-    pub push-keeps : Structure s o (record { out = out; inn = inn; val = val'; hats = updateSide hats s B }) class
+    pub push-keeps : Structure ℓ s o (record { out = out; inn = inn; val = val'; hats = updateHat hats ℓ s B }) class
         (pushedFrame F v)
     push-keeps =
         record {
@@ -82,9 +82,9 @@ module _ {s o : Side} {m : View} {class : ℕ → Class} {F : Frame} (S : Struct
           links = S .links;
           last-out = elim (S .last-out) [ inl h ↦ inl h | inr y ↦ inr (cut-from-kept wrote push-main y) ];
           first-in = elim (S .first-in) [ inl h ↦ inl h | inr y ↦ inr (cut-from-kept wrote push-main y) ];
-          near-hat = rw (updateSide-same hats s B) push-hat;
+          near-hat = rw (updateHat-same hats ℓ s B) push-hat;
           far-hat =
-              rw (updateSide-other hats s o B (S .sides))
+              rw (updateHat-far hats ℓ s o B (S .sides))
               (elim (S .far-hat) [ inl h ↦ inl h | inr y ↦ inr (cut-from-kept wrote push-main y) ]);
           near-spur = spur-kept wrote push-main (S .near-spur);
           far-spur = spur-kept wrote push-main (S .far-spur);

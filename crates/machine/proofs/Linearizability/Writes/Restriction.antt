@@ -2,7 +2,7 @@
 use mathlib.Core.Path.{_≡_, _∙_}
 use mathlib.Core.Logic.{_⊎_, inl, inr}
 use mathlib.Core.Bool.{Bool, true}
-use Prim.Native.Nat.{ℕ, suc, _-_, _≤_}
+use Prim.Native.Nat.{ℕ, suc, _-_, _≤_, _<_}
 use native.Mathlib.Omega.{arith}
 use Rattle.machine.specs.Sides.{Side}
 use Rattle.machine.specs.Values.{Value}
@@ -38,8 +38,8 @@ use Rattle.machine.proofs.Linearizability.Model.Reversal.{reversed}
 pub record Restricted (held : ℕ → Bool)
     (out inn : ℕ → ℕ) (val : ℕ → Value) (class : ℕ → Class)
     (out' inn' : ℕ → ℕ) (val' : ℕ → Value) (class' : ℕ → Class) : Type 0 where
-  pub main-stays : (x : ℕ) → class x ≡ main → class' x ≡ main
-  pub was-main : (x : ℕ) → class' x ≡ main → class x ≡ main
+  pub main-stays : (x l : ℕ) → class x ≡ main l → class' x ≡ main l
+  pub was-main : (x l : ℕ) → class' x ≡ main l → class x ≡ main l
   pub spur-stays : (x : ℕ) (z : Side) → held x ≡ true → class x ≡ spur z → class' x ≡ spur z
   pub was-spur : (x : ℕ) (z : Side) → class' x ≡ spur z → class x ≡ spur z
   pub spur-held : (x : ℕ) (z : Side) → class' x ≡ spur z → held x ≡ true
@@ -78,15 +78,16 @@ module _ {held : ℕ → Bool} {out inn : ℕ → ℕ} {val : ℕ → Value} {cl
         spur-stays = λ x r h. T .spur-stays x s r h;
         spur-inward = λ x r h. let c = T .spur-stays x s r h in T .same-words x (cc) .same-inn;
         Y-stays = λ x r h y. let c = T .spur-stays x s r h in T .same-words x (cc) .same-val ∙ y;
-        spur-not-main = λ x h e. refute (cc (T .was-main x e));
-        main-old = λ x h. cc (T .main-stays x h);
-        main-outward = λ x h ne. inl (T .same-words x (cc (T .main-stays x h)) .same-out);
-        cut-inward = λ x h c. clash (cc (T .main-stays x h));
-        cut-behind-main = λ x h c. clash (cc (T .main-stays x h));
+        spur-not-main = λ x l h e. refute (cc (T .was-main x l e));
+        main-old = λ x l h. cc (T .main-stays x l h);
+        main-outward = λ x l h ne. inl (T .same-words x (cc (T .main-stays x l h)) .same-out);
+        cut-inward = λ x l h c. clash (cc (T .main-stays x l h));
+        cut-behind-main = λ x l h c. clash (cc (T .main-stays x l h));
       }
 
-module _ {s o : Side} {m : View} {class : ℕ → Class} {F : Frame} (S : Structure s o m class F)
-    {held : ℕ → Bool} (H : ClosedSet held m) {out' inn' : ℕ → ℕ} {val' : ℕ → Value} {class' : ℕ → Class}
+module _ {ℓ : ℕ} {s o : Side} {m : View} {class : ℕ → Class} {F : Frame} (S : Structure ℓ s o m class F)
+    {L : ℕ} {held : ℕ → Bool} (H : ClosedSet L held m) (is-lane : ℓ < L)
+    {out' inn' : ℕ → ℕ} {val' : ℕ → Value} {class' : ℕ → Class}
     (T : Restricted held (m .out) (m .inn) (m .val) class out' inn' val' class') where
   open View m using (out, inn, val)
   open Frame F using (at, index, n)
@@ -94,21 +95,21 @@ module _ {s o : Side} {m : View} {class : ℕ → Class} {F : Frame} (S : Struct
   stays-old : (x : ℕ) → Old class x → held x ≡ true → Old class' x
   stays-old x h r =
       elim (old-class (S .sides) (class x) h) [
-        | in-main e ↦ cc (T .main-stays x e)
+        | in-main l e ↦ cc (T .main-stays x l e)
         | in-near e ↦ cc (T .spur-stays x s r e)
         | in-far e ↦ cc (T .spur-stays x o r e)
       ]
 
   words-at : (i : ℕ) → i ≤ n → SameWords out inn val out' inn' val' (at i)
-  words-at i h = T .same-words (at i) (cc (T .main-stays (at i) (S .main-list .is-main i h)))
+  words-at i h = T .same-words (at i) (cc (T .main-stays (at i) ℓ (S .main-list .is-main i h)))
 
-  restricted-main-list : Main class' at index n
+  restricted-main-list : Main ℓ class' at index n
   restricted-main-list =
       record {
-        is-main = λ i h. T .main-stays _ (S .main-list .is-main i h);
+        is-main = λ i h. T .main-stays _ ℓ (S .main-list .is-main i h);
         index-at = S .main-list .index-at;
-        index-le = λ x h. S .main-list .index-le x (T .was-main x h);
-        at-index = λ x h. S .main-list .at-index x (T .was-main x h);
+        index-le = λ x h. S .main-list .index-le x (T .was-main x ℓ h);
+        at-index = λ x h. S .main-list .at-index x (T .was-main x ℓ h);
       }
 
   restricted-values : MainValues s o val' F
@@ -133,7 +134,7 @@ module _ {s o : Side} {m : View} {class : ℕ → Class} {F : Frame} (S : Struct
   -- The outward end of main and the near spur; the far ones are these of the structure reversed.
   restricted-last-out : (out' (at n) ≡ none) ⊎ CutFrom s inn' val' class' (out' (at n)) (at n)
   restricted-last-out =
-      let last-held = main-held S H (at n) (S .main-list .is-main n (omega arith)) in
+      let last-held = main-held S H is-lane (at n) (S .main-list .is-main n (omega arith)) in
       rw (words-at n (omega arith) .same-out)
       (elim (S .last-out) [
         | inl h ↦ inl h
@@ -161,8 +162,9 @@ module _ {s o : Side} {m : View} {class : ℕ → Class} {F : Frame} (S : Struct
             ];
       }
 
-module _ {s o : Side} {m : View} {class : ℕ → Class} {F : Frame} (S : Structure s o m class F)
-    {held : ℕ → Bool} (H : ClosedSet held m) {out' inn' : ℕ → ℕ} {val' : ℕ → Value} {class' : ℕ → Class}
+module _ {ℓ : ℕ} {s o : Side} {m : View} {class : ℕ → Class} {F : Frame} (S : Structure ℓ s o m class F)
+    {L : ℕ} {held : ℕ → Bool} (H : ClosedSet L held m) (is-lane : ℓ < L)
+    {out' inn' : ℕ → ℕ} {val' : ℕ → Value} {class' : ℕ → Class}
     (T : Restricted held (m .out) (m .inn) (m .val) class out' inn' val' class') where
   open View m using (hats)
   open Frame F using (at, n)
@@ -172,27 +174,28 @@ module _ {s o : Side} {m : View} {class : ℕ → Class} {F : Frame} (S : Struct
 
   restricted-first-in : (inn' (at 0) ≡ none) ⊎ CutFrom o out' val' class' (inn' (at 0)) (at 0)
   restricted-first-in =
-      rw (← n-n) (restricted-last-out (reversed S) (closed-swapped H) (restricted-swap T))
+      rw (← n-n) (restricted-last-out (reversed S) (closed-swapped H) is-lane (restricted-swap T))
 
-  pub restricted-keeps : Structure s o (record { out = out'; inn = inn'; val = val'; hats = hats }) class' F
+  pub restricted-keeps : Structure ℓ s o (record { out = out'; inn = inn'; val = val'; hats = hats }) class' F
   restricted-keeps =
       record {
         sides = S .sides;
         none-free = T .none-free;
         a<b = S .a<b;
         b≤n = S .b≤n;
-        main-list = restricted-main-list S H T;
-        values = restricted-values S H T;
-        links = restricted-links S H T;
-        last-out = restricted-last-out S H T;
+        main-list = restricted-main-list S H is-lane T;
+        values = restricted-values S H is-lane T;
+        links = restricted-links S H is-lane T;
+        last-out = restricted-last-out S H is-lane T;
         first-in = restricted-first-in;
         near-hat =
-            λ j e. elim (S .near-hat j e) [ inl h ↦ inl h | inr y ↦ inr (restricted-cut-from T (H .hats-held s) y) ];
+            λ j e.
+            elim (S .near-hat j e) [ inl h ↦ inl h | inr y ↦ inr (restricted-cut-from T (H .hats-held ℓ s is-lane) y) ];
         far-hat =
             elim (S .far-hat) [
               | inl h ↦ inl h
-              | inr y ↦ inr (restricted-cut-from (restricted-swap T) (H .hats-held o) y)
+              | inr y ↦ inr (restricted-cut-from (restricted-swap T) (H .hats-held ℓ o is-lane) y)
             ];
-        near-spur = restricted-near-spur S H T;
-        far-spur = restricted-near-spur (reversed S) (closed-swapped H) (restricted-swap T);
+        near-spur = restricted-near-spur S H is-lane T;
+        far-spur = restricted-near-spur (reversed S) (closed-swapped H) is-lane (restricted-swap T);
       }

@@ -1,4 +1,4 @@
--- Line 25 with A in main: the chain of the task becomes the end of main.
+-- Line 25 with A in main of a lane: the chain of the task becomes the end of main.
 use mathlib.Core.Path.{_≡_, refl, _∙_}
 use mathlib.Core.Logic.{_≢_, _⊎_, inl, inr}
 use mathlib.Core.Bool.{Bool}
@@ -28,14 +28,14 @@ abbrev pub splicedFrame : Frame → (at' index' : ℕ → ℕ) (last : ℕ) → 
 splicedFrame F at' index' last =
     record { at = at'; index = index'; n = suc (F .n + last); a = F .a; b = F .b; bags = F .bags }
 
-module _ {s o : Side} {m : View} {class : ℕ → Class} {F : Frame} (S : Structure s o m class F)
+module _ {ℓ : ℕ} {s o : Side} {m : View} {class : ℕ → Class} {F : Frame} (S : Structure ℓ s o m class F)
     {k : ℕ} {node place : ℕ → ℕ} {last : ℕ} (C : Chain s k (m .out) (m .inn) (m .val) class node place last)
     {A : ℕ} {out' : ℕ → ℕ} (wrote-out : Wrote (m .out) A (node 0) out')
     {val' : ℕ → Value} (wrote-val : Wrote (m .val) A (N s) val')
     (A-X : m .val A ≡ X s) (head-in : m .inn (node 0) ≡ A)
-    {class' : ℕ → Class} (join : (x : ℕ) → Joined k main class class' x)
-    {at' index' : ℕ → ℕ} (E : Extended k class (F .at) (F .index) (F .n) node place at' index')
-    (A-main : class A ≡ main) where
+    {class' : ℕ → Class} (join : (x : ℕ) → Joined k (main ℓ) class class' x)
+    {at' index' : ℕ → ℕ} (E : Extended ℓ k class (F .at) (F .index) (F .n) node place at' index')
+    (A-main : class A ≡ main ℓ) where
   open View m using (out, inn, val, hats)
   open Frame F using (at, index, n, a, b)
 
@@ -55,13 +55,17 @@ module _ {s o : Side} {m : View} {class : ℕ → Class} {F : Frame} (S : Struct
   was-spur : (x : ℕ) (z : Side) → class' x ≡ spur z → class x ≡ spur z
   was-spur x z h = elim (join x) [ joins p e ↦ clash (cc) | not-joined p e ↦ cc ]
 
-  main-stays : (x : ℕ) → class x ≡ main → class' x ≡ main
-  main-stays x h = cc (old-same join x (cc))
+  pub splice-main-stays : (x j : ℕ) → class x ≡ main j → class' x ≡ main j
+  splice-main-stays x j h = cc (old-same join x (cc))
+
+  -- A node of main was there, or has joined lane ℓ.
+  pub splice-was-main : (x j : ℕ) → class' x ≡ main j → (class x ≡ main j) ⊎ (j ≡ ℓ)
+  splice-was-main x j h = elim (join x) [ joins p e ↦ inr (cc) | not-joined p e ↦ inl (cc) ]
 
   stays-old : (x : ℕ) → Old class x → Old class' x
   stays-old x h = cc (old-same join x h)
 
-  joined-at : (j : ℕ) → j ≤ last → class' (node j) ≡ main
+  joined-at : (j : ℕ) → j ≤ last → class' (node j) ≡ main ℓ
   joined-at j h = new-joins join (node j) (C .is-new j h)
 
   -- ---- The words: only A's outward link and value change.
@@ -112,12 +116,12 @@ module _ {s o : Side} {m : View} {class : ℕ → Class} {F : Frame} (S : Struct
             in-chain (i - suc n) e (omega arith) (E .behind i (i - suc n) e)
       ]
 
-  spliced-main-list : Main class' at' index' (suc (n + last))
+  spliced-main-list : Main ℓ class' at' index' (suc (n + last))
   spliced-main-list =
       record {
         is-main =
             λ i h. elim (place? i h) [
-              | in-front l e ↦ cc (main-stays (at i) (S .main-list .is-main i l))
+              | in-front l e ↦ cc (splice-main-stays (at i) ℓ (S .main-list .is-main i l))
               | in-chain j p l e ↦ cc (joined-at j l)
             ];
         index-at =
@@ -130,7 +134,7 @@ module _ {s o : Side} {m : View} {class : ℕ → Class} {F : Frame} (S : Struct
             λ x h. elim (join x) [
               | joins p e ↦ let z = E .index-new x p in omega (arith, C .place-le x p)
               | not-joined p e ↦
-                  let d : class x ≡ main = cc in
+                  let d : class x ≡ main ℓ = cc in
                   let z = E .index-main x d in
                   omega (arith, S .main-list .index-le x d)
             ];
@@ -138,7 +142,7 @@ module _ {s o : Side} {m : View} {class : ℕ → Class} {F : Frame} (S : Struct
             λ x h. elim (join x) [
               | joins p e ↦ E .behind (index' x) (place x) (E .index-new x p) ∙ C .node-place x p
               | not-joined p e ↦
-                  let d : class x ≡ main = cc in
+                  let d : class x ≡ main ℓ = cc in
                   let l = S .main-list .index-le x d in
                   cc (E .index-main x d, E .before (index x) l, S .main-list .at-index x d)
             ];
@@ -228,7 +232,7 @@ module _ {s o : Side} {m : View} {class : ℕ → Class} {F : Frame} (S : Struct
             ];
       }
 
-  pub splice-keeps : Structure s o (record { out = out'; inn = inn; val = val'; hats = hats }) class'
+  pub splice-keeps : Structure ℓ s o (record { out = out'; inn = inn; val = val'; hats = hats }) class'
       (splicedFrame F at' index' last)
   splice-keeps =
       let p = S .a<b in
@@ -257,9 +261,9 @@ module _ {s o : Side} {m : View} {class : ℕ → Class} {F : Frame} (S : Struct
       }
 
   -- ---- The guarantee: what A led to before was cut off behind it.
-  splice-outward : (x : ℕ) → class x ≡ main → out x ≢ none
+  splice-outward : (x j : ℕ) → class x ≡ main j → out x ≢ none
       → (out' x ≡ out x) ⊎ CutFrom s inn val' class' (out x) x
-  splice-outward x h ne =
+  splice-outward x j h ne =
       elim (equal? x A) [
         | inr e ↦ inl (wrote-out .elsewhere x e)
         | inl e ↦
@@ -275,11 +279,11 @@ module _ {s o : Side} {m : View} {class : ℕ → Class} {F : Frame} (S : Struct
         spur-stays = λ x _ h. spur-stays x s h;
         spur-inward = λ x _ h. refl;
         Y-stays = λ x _ h y. same-val-spur x s h ∙ y;
-        spur-not-main = λ x h e. refute (cc (spur-stays x s h));
-        main-old = λ x h. stays-old x (cc);
+        spur-not-main = λ x j h e. refute (cc (spur-stays x s h));
+        main-old = λ x j h. stays-old x (cc);
         main-outward = splice-outward;
-        cut-inward = λ x h c. refl;
-        cut-behind-main = λ x h c. clash (cc (main-stays x h));
+        cut-inward = λ x j h c. refl;
+        cut-behind-main = λ x j h c. clash (cc (splice-main-stays x j h));
       }
 
   splice-far : (held : ℕ → Bool) → Guarantee held o inn out val class inn out' val' class'
@@ -288,11 +292,11 @@ module _ {s o : Side} {m : View} {class : ℕ → Class} {F : Frame} (S : Struct
         spur-stays = λ x _ h. spur-stays x o h;
         spur-inward = λ x _ h. same-out-spur x o h;
         Y-stays = λ x _ h y. same-val-spur x o h ∙ y;
-        spur-not-main = λ x h e. refute (cc (spur-stays x o h));
-        main-old = λ x h. stays-old x (cc);
-        main-outward = λ x h ne. inl refl;
-        cut-inward = λ x h c. clash (cc (main-stays x h));
-        cut-behind-main = λ x h c. clash (cc (main-stays x h));
+        spur-not-main = λ x j h e. refute (cc (spur-stays x o h));
+        main-old = λ x j h. stays-old x (cc);
+        main-outward = λ x j h ne. inl refl;
+        cut-inward = λ x j h c. clash (cc (splice-main-stays x j h));
+        cut-behind-main = λ x j h c. clash (cc (splice-main-stays x j h));
       }
 
   pub splice-guarantees : (held : ℕ → Bool) → Guarantees held k s o out inn val class out' inn val' class'

@@ -29,15 +29,15 @@ use Rattle.machine.proofs.Linearizability.Writes.MainWrites.{value-chai
 use Rattle.machine.proofs.Linearizability.Writes.Joined.{old-same, new-joins, joined-chains}
 use Rattle.machine.proofs.Linearizability.Writes.Spur.{SpurClasses, SpurStep}
 
-module _ {s o : Side} {m : View} {class : ℕ → Class} {F : Frame} (S : Structure s o m class F) (k : ℕ) where
+module _ {ℓ : ℕ} {s o : Side} {m : View} {class : ℕ → Class} {F : Frame} (S : Structure ℓ s o m class F) (k : ℕ) where
   open View m using (out, inn, val)
   open Frame F using (at, index, n)
 
   same-classes : SpurClasses o class class
   same-classes =
       record {
-        main-stays = λ x h. h;
-        was-main = λ x h. h;
+        main-stays = λ x l h. h;
+        was-main = λ x l h. h;
         spur-stays = λ x z h. h;
         was-far-spur = λ x h. h;
         none-free = S .none-free;
@@ -50,12 +50,12 @@ module _ {s o : Side} {m : View} {class : ℕ → Class} {F : Frame} (S : Struct
       → class A ≡ spur s
       → class B ≡ spur s
       → val A ≢ Y s
-      → SpurStep k s o (at n) out inn val class out val' class
+      → SpurStep k s o out inn val class out val' class
   spur-cut {A} {B} wrote-X wrote-Y A-spur B-spur A-not-Y =
       record {
         classes = same-classes;
         main-value =
-            λ x h. wrote-Y .elsewhere x (λ e. refute (cc)) ∙ wrote-X .elsewhere x (λ e. refute (cc));
+            λ x l h. wrote-Y .elsewhere x (λ e. refute (cc)) ∙ wrote-X .elsewhere x (λ e. refute (cc));
         far-value =
             λ x h. wrote-Y .elsewhere x (λ e. refute (cc)) ∙ wrote-X .elsewhere x (λ e. refute (cc));
         Y-stays =
@@ -64,7 +64,7 @@ module _ {s o : Side} {m : View} {class : ℕ → Class} {F : Frame} (S : Struct
               | it-is-not e v ↦
                   elim (wrote? wrote-X x) [ it-is f u ↦ absurd (A-not-Y (cc)) | it-is-not f u ↦ cc ]
             ];
-        main-outward = λ x h. inl refl;
+        main-outward = λ x l h. inl refl;
         far-outward = λ x h. refl;
         near-spur =
             record {
@@ -94,14 +94,14 @@ module _ {s o : Side} {m : View} {class : ℕ → Class} {F : Frame} (S : Struct
   pub spur-mark-Y : {B : ℕ} {val' : ℕ → Value}
       → Wrote val B (Y s) val'
       → class B ≡ spur s
-      → SpurStep k s o (at n) out inn val class out val' class
+      → SpurStep k s o out inn val class out val' class
   spur-mark-Y {B} wrote B-spur =
       record {
         classes = same-classes;
-        main-value = λ x h. wrote .elsewhere x (λ e. refute (cc));
+        main-value = λ x l h. wrote .elsewhere x (λ e. refute (cc));
         far-value = λ x h. wrote .elsewhere x (λ e. refute (cc));
         Y-stays = λ x h y. elim (wrote? wrote x) [ it-is e v ↦ v | it-is-not e v ↦ cc ];
-        main-outward = λ x h. inl refl;
+        main-outward = λ x l h. inl refl;
         far-outward = λ x h. refl;
         near-spur =
             record {
@@ -130,46 +130,37 @@ module _ {s o : Side} {m : View} {class : ℕ → Class} {F : Frame} (S : Struct
   pub spur-unlink : {A : ℕ} {out' : ℕ → ℕ}
       → Wrote out A none out'
       → class A ≡ spur s
-      → SpurStep k s o (at n) out inn val class out' val class
+      → SpurStep k s o out inn val class out' val class
   spur-unlink {A} wrote A-spur =
       record {
         classes = same-classes;
-        main-value = λ x h. refl;
+        main-value = λ x l h. refl;
         far-value = λ x h. refl;
         Y-stays = λ x h y. y;
-        main-outward = λ x h. inl (wrote .elsewhere x (λ e. refute (cc)));
+        main-outward = λ x l h. inl (wrote .elsewhere x (λ e. refute (cc)));
         far-outward = λ x h. wrote .elsewhere x (λ e. refute (cc));
         near-spur = unlinked-spur wrote;
         chains = out-chains-kept k wrote (cc);
       }
 
-  -- Line 64 with A in main.
-  main-unlink : {A B : ℕ} {out' : ℕ → ℕ}
+  -- Line 64 with A in main, of any lane.
+  main-unlink : {A B j : ℕ} {out' : ℕ → ℕ}
       → Wrote out A none out'
       → class B ≡ spur s
       → out A ≡ B
-      → class A ≡ main
-      → SpurStep k s o (at n) out inn val class out' val class
+      → class A ≡ main j
+      → SpurStep k s o out inn val class out' val class
   main-unlink {A} {B} wrote B-spur out-A A-main =
       record {
         classes = same-classes;
-        main-value = λ x h. refl;
+        main-value = λ x l h. refl;
         far-value = λ x h. refl;
         Y-stays = λ x h y. y;
-        main-outward = λ x h. elim (wrote? wrote x) [ it-is f v ↦ inr (cc (A-last), v) | it-is-not f v ↦ inl v ];
+        main-outward = λ x l h. elim (wrote? wrote x) [ it-is f v ↦ inr (cc, v) | it-is-not f v ↦ inl v ];
         far-outward = λ x h. wrote .elsewhere x (λ f. refute (cc));
         near-spur = unlinked-spur wrote;
         chains = out-chains-kept k wrote (cc);
       }
-    where
-      -- Only the last node of main leads into the spur.
-      A-last : A ≡ at n
-      A-last =
-          let e = S .main-list .at-index A A-main in
-          elim (less? (index A) n) [
-            | inl l ↦ clash (cc (S .links .links-out (index A) l, S .main-list .is-main (suc (index A)) l))
-            | inr l ↦ let z : index A ≡ n = omega (arith, S .main-list .index-le A A-main) in cc
-          ]
 
   -- Line 64: A is not in the far spur.
   pub unlink : {A B : ℕ} {out' : ℕ → ℕ}
@@ -178,10 +169,10 @@ module _ {s o : Side} {m : View} {class : ℕ → Class} {F : Frame} (S : Struct
       → out A ≡ B
       → Old class A
       → class A ≢ spur o
-      → SpurStep k s o (at n) out inn val class out' val class
+      → SpurStep k s o out inn val class out' val class
   unlink {A} wrote B-spur out-A A-old not-far =
       elim (old-class (S .sides) (class A) A-old) [
-        | in-main c ↦ main-unlink wrote B-spur out-A c
+        | in-main j c ↦ main-unlink wrote B-spur out-A c
         | in-near c ↦ spur-unlink wrote c
         | in-far c ↦ absurd (not-far c)
       ]
@@ -195,8 +186,8 @@ module _ {s o : Side} {m : View} {class : ℕ → Class} {F : Frame} (S : Struct
     join-classes : SpurClasses o class class'
     join-classes =
         record {
-          main-stays = λ x h. cc (old-same join x (cc));
-          was-main = λ x h. elim (join x) [ joins p e ↦ clash (cc) | not-joined p e ↦ cc ];
+          main-stays = λ x l h. cc (old-same join x (cc));
+          was-main = λ x l h. elim (join x) [ joins p e ↦ clash (cc) | not-joined p e ↦ cc ];
           spur-stays = λ x z h. cc (old-same join x (cc));
           was-far-spur = λ x h. elim (join x) [ joins p e ↦ clash (cc) | not-joined p e ↦ cc ];
           none-free =
@@ -271,14 +262,14 @@ module _ {s o : Side} {m : View} {class : ℕ → Class} {F : Frame} (S : Struct
               ];
         }
 
-    pub spur-splice : SpurStep k s o (at n) out inn val class out' val' class'
+    pub spur-splice : SpurStep k s o out inn val class out' val' class'
     spur-splice =
         record {
           classes = join-classes;
-          main-value = λ x h. wrote-val .elsewhere x (λ e. refute (cc));
+          main-value = λ x l h. wrote-val .elsewhere x (λ e. refute (cc));
           far-value = λ x h. wrote-val .elsewhere x (λ e. refute (cc));
           Y-stays = λ x h y. wrote-val .elsewhere x (λ e. refute (cc)) ∙ y;
-          main-outward = λ x h. inl (wrote-out .elsewhere x (λ e. refute (cc)));
+          main-outward = λ x l h. inl (wrote-out .elsewhere x (λ e. refute (cc)));
           far-outward = λ x h. wrote-out .elsewhere x (λ e. refute (cc));
           near-spur = joined-spur;
           chains = joined-chains join refl wrote-out wrote-val (cc);

@@ -28,33 +28,35 @@ use Rattle.machine.proofs.Linearizability.Writes.Restriction.{
   restricted-keeps,
 }
 use Rattle.machine.proofs.Linearizability.Model.Phases.{TaskOk}
-use Rattle.machine.proofs.Linearizability.Model.Invariant.{Lane, same-places, noteOf, goes-on, TickOk}
+use Rattle.machine.proofs.Linearizability.Model.Invariant.{Lanes, same-lanes, noteOf, goes-on, TickOk}
 
 -- The set is closed under links and holds the hats; f is outside it and in no chain.
-pub record TakeOk (held : ℕ → Bool) (m : View) (class : ℕ → Class) (f : ℕ) : Type 0 where
-  pub closed : ClosedSet held m
+pub record TakeOk (L : ℕ) (held : ℕ → Bool) (m : View) (class : ℕ → Class) (f : ℕ) : Type 0 where
+  pub closed : ClosedSet L held m
   pub not-held : held f ≡ false
   pub not-new : (j : ℕ) → class f ≢ new j
 
-module _ {held : ℕ → Bool} (k : ℕ) {s o : Side} {m : View} {class : ℕ → Class} {r : List ℕ}
-    (L : Lane s o m class r) {f : ℕ} (K : TakeOk held m class f) (f-some : f ≢ none) where
+module _ {L : ℕ} {held : ℕ → Bool} (k : ℕ) {s o : Side} {m : View} {class : ℕ → Class} {r : ℕ → List ℕ}
+    (D : Lanes L s o m class r) (none-free : class none ≡ free) {f : ℕ} (K : TakeOk L held m class f)
+    (f-some : f ≢ none) where
   abbrev class₁ : ℕ → Class
   class₁ = takenClass k held f class
 
   change : (x : ℕ) → Taken k held f class class₁ x
   change = takenClass-taken k held f class
 
-  main-stays : (x : ℕ) → class x ≡ main → class₁ x ≡ main
-  main-stays x h =
-      let x-held = main-held (L .structure) (K .closed) x h in
+  main-stays : (x l : ℕ) → class x ≡ main l → class₁ x ≡ main l
+  main-stays x l h =
+      let is-lane = D .below x l h in
+      let x-held = main-held (D .lane l is-lane .structure) (K .closed) is-lane x h in
       elim (change x) [
         | is-taken e q ↦ clash (cc (K .not-held))
         | dropped e z c n q ↦ clash (cc)
         | not-dropped e n q ↦ cc
       ]
 
-  was-main : (x : ℕ) → class₁ x ≡ main → class x ≡ main
-  was-main x h =
+  was-main : (x l : ℕ) → class₁ x ≡ main l → class x ≡ main l
+  was-main x l h =
       elim (change x) [
         | is-taken e q ↦ clash (cc)
         | dropped e z c n q ↦ clash (cc)
@@ -87,7 +89,6 @@ module _ {held : ℕ → Bool} (k : ℕ) {s o : Side} {m : View} {class : ℕ �
 
   none-stays : class₁ none ≡ free
   none-stays =
-      let e₀ = L .structure .none-free in
       elim (change none) [
         | is-taken e q ↦ absurd (f-some (sym e))
         | dropped e z c n q ↦ q
@@ -123,10 +124,10 @@ module _ {held : ℕ → Bool} (k : ℕ) {s o : Side} {m : View} {class : ℕ �
       ]
 
   -- A tick that takes f and writes nothing but nodes of the task's own chain.
-  module _ (l : List Write) (same-hats : written s l m .hats ≡ m .hats)
-      (same-words : (x : ℕ) → class₁ x ≢ new k → SameIn m (written s l m) x) where
+  module _ (t : Task) (l : List Write) (same-hats : written (t .lane) s l m .hats ≡ m .hats)
+      (same-words : (x : ℕ) → class₁ x ≢ new k → SameIn m (written (t .lane) s l m) x) where
     restricted : Restricted held (m .out) (m .inn) (m .val) class
-        (written s l m .out) (written s l m .inn) (written s l m .val) class₁
+        (written (t .lane) s l m .out) (written (t .lane) s l m .inn) (written (t .lane) s l m .val) class₁
     restricted =
         record {
           main-stays = main-stays;
@@ -139,7 +140,7 @@ module _ {held : ℕ → Bool} (k : ℕ) {s o : Side} {m : View} {class : ℕ �
         }
 
     chains-kept : ChainsKept k (m .out) (m .inn) (m .val) class
-        (written s l m .out) (written s l m .inn) (written s l m .val) class₁
+        (written (t .lane) s l m .out) (written (t .lane) s l m .inn) (written (t .lane) s l m .val) class₁
     chains-kept =
         record {
           stays-new = λ x j ne h. new-stays x j h;
@@ -147,18 +148,20 @@ module _ {held : ℕ → Bool} (k : ℕ) {s o : Side} {m : View} {class : ℕ �
           was-new = λ x j ne h. was-new x j (λ e. ne (cc (taken-new))) h;
         }
 
-    pub takes : {t t' : Task}
+    pub takes : {t' : Task}
         → noteOf t' ≡ noteOf t
-        → TaskOk k s o (written s l m) class₁ (t' .step) t'
-        → TickOk held k s o m class r t (record { writes = l; task = t'; answer = Going })
+        → TaskOk k s o (written (t .lane) s l m) class₁ (t' .step) t'
+        → TickOk held L k s o m class r t (record { writes = l; task = t'; answer = Going })
     takes e h =
         record {
           class' = class₁;
           r' = r;
-          lane =
-              subst (λ (v : View). Lane s o v class₁ r) (view-equal refl refl refl (sym same-hats))
-              (same-places L (restricted-keeps (L .structure) (K .closed) restricted));
+          lanes =
+              subst (λ (v : View). Lanes L s o v class₁ r) (view-equal refl refl refl (sym same-hats))
+              (same-lanes D
+              (λ j is-lane. restricted-keeps (D .lane j is-lane .structure) (K .closed) is-lane restricted) was-main);
           row-step = refl;
+          other-rows = λ j ne. refl;
           guarantees =
               record {
                 near = restricted-guarantee restricted;

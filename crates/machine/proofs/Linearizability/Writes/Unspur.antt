@@ -6,14 +6,14 @@ use native.Mathlib.Omega.{arith}
 use Rattle.machine.specs.Sides.{Side}
 use Rattle.machine.specs.Lines.{hat≔}
 use Rattle.machine.proofs.Basics.Contradiction.{clash}
-use Rattle.machine.proofs.Basics.Updates.{updateSide-same}
+use Rattle.machine.proofs.Basics.Updates.{updateHat-same}
 use Rattle.machine.proofs.Words.Memories.{View, write}
-use Rattle.machine.proofs.Linearizability.Model.Sides.{updateSide-other}
+use Rattle.machine.proofs.Linearizability.Model.Sides.{updateHat-far}
 use Rattle.machine.proofs.Linearizability.Model.Classes.{Class, spur}
 use Rattle.machine.proofs.Linearizability.Model.Structure.{CutFrom, Follows, Frame, Structure}
 
-module _ {s o : Side} {m : View} {class : ℕ → Class} {F : Frame} (S : Structure s o m class F)
-    {A C : ℕ} (hat-A : m .hats s ≡ A) (A-spur : class A ≡ spur s)
+module _ {ℓ : ℕ} {s o : Side} {m : View} {class : ℕ → Class} {F : Frame} (S : Structure ℓ s o m class F)
+    {A C : ℕ} (hat-A : m .hats ℓ s ≡ A) (A-spur : class A ≡ spur s)
     (follows : Follows s (m .out) (m .inn) (m .val) class (m .inn A) C) where
   open View m using (inn, val, hats)
   open Frame F using (at, b)
@@ -25,13 +25,13 @@ module _ {s o : Side} {m : View} {class : ℕ → Class} {F : Frame} (S : Struct
         | inl h ↦ clash (cc (S .main-list .is-main b (S .b≤n)))
         | inr y ↦
             let i : inn A ≡ at j = cc in
-            elim (follows (cc (S .main-list .is-main j (omega (arith, S .b≤n))))) [
+            elim (follows ℓ (cc (S .main-list .is-main j (omega (arith, S .b≤n))))) [
               | inl h ↦ inl (cc (S .links .links-out j (omega (arith, S .b≤n))))
               | inr z ↦ inr (rw (← i) z)
             ]
       ]
 
-  pub unspur-keeps : Structure s o (write s (hat≔ C) m) class F
+  pub unspur-keeps : Structure ℓ s o (write ℓ s (hat≔ C) m) class F
   unspur-keeps =
       record {
         sides = S .sides;
@@ -43,8 +43,8 @@ module _ {s o : Side} {m : View} {class : ℕ → Class} {F : Frame} (S : Struct
         links = S .links;
         last-out = S .last-out;
         first-in = S .first-in;
-        near-hat = rw (updateSide-same hats s C) unspur-hat;
-        far-hat = rw (updateSide-other hats s o C (S .sides)) (S .far-hat);
+        near-hat = rw (updateHat-same hats ℓ s C) unspur-hat;
+        far-hat = rw (updateHat-far hats ℓ s o C (S .sides)) (S .far-hat);
         near-spur = S .near-spur;
         far-spur = S .far-spur;
       }

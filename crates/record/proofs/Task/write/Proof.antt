@@ -1,5 +1,6 @@
 -- `record::Task::write` meets its contract: the words of the call, then the others.
 use mathlib.Core.Path.{_∙_}
+use native.Mathlib.Omega.{arith}
 use lib.ListN.{length-set}
 use Rattle.record.proofs.Laws.RecordWords.{call-written}
 use borrow.Author.Needs.{needs}
@@ -17,6 +18,9 @@ slice-write-words-3 c = search needs
 
 slice-write-words-4 : tie.Need-slice-write-words-4
 slice-write-words-4 c = search needs
+
+slice-write-words-5 : tie.Need-slice-write-words-5
+slice-write-words-5 c = simp length-set (omega (arith, c .before .before .pre))
 
 write-further-requires : tie.Need-write-further-requires
 write-further-requires c κs =
@@ -37,6 +41,7 @@ write-spec =
     slice-write-words-2
     slice-write-words-3
     slice-write-words-4
+    slice-write-words-5
     write-further-requires
     same-length
     returns)

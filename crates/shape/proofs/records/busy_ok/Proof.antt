@@ -71,13 +71,13 @@ flag c =
 returns : tie.Need-returns
 returns c =
     let a = c .before .before .args in
-    operation-fails (a .slots) (a .growth) (a .t) (c .if1 .taken)
+    operation-fails (a .slots) (a .growth) (a .lanes) (a .t) (c .if1 .taken)
 
 returns-2 : tie.Need-returns-2
 returns-2 c =
     let e = c .before .before in
     let a = e .before .before .args in
-    side-fails (a .slots) (a .growth) (a .t) (e .if1 .left) (c .if2 .taken)
+    side-fails (a .slots) (a .growth) (a .lanes) (a .t) (e .if1 .left) (c .if2 .taken)
 
 argument-ok-requires : tie.Need-argument-ok-requires
 argument-ok-requires c κs = search needs
@@ -87,7 +87,7 @@ returns-3 c =
     let f = c .before .before .before in
     let e = f .before .before in
     let a = e .before .before .args in
-    argument-fails (a .slots) (a .growth) (a .t) (e .if1 .left) (f .if2 .left)
+    argument-fails (a .slots) (a .growth) (a .lanes) (a .t) (e .if1 .left) (f .if2 .left)
     (sym (c .before .argument-ok .ensures) ∙ not-true (c .before .argument-ok .result) (c .if3 .taken))
 
 goal-of-requires : tie.Need-goal-of-requires
@@ -112,7 +112,7 @@ returns-4 c =
     let e = f .before .before in
     let a = e .before .before .args in
     passed (flag (c .before .before)) (c .before .if6 .taken) (c .registers-ok .ensures)
-    ∙ busy-tests (a .slots) (a .growth) (a .t) (e .if1 .left) (f .if2 .left) (argument-passes d)
+    ∙ busy-tests (a .slots) (a .growth) (a .lanes) (a .t) (e .if1 .left) (f .if2 .left) (argument-passes d)
 
 returns-5 : tie.Need-returns-5
 returns-5 c =
@@ -121,7 +121,7 @@ returns-5 c =
     let e = f .before .before in
     let a = e .before .before .args in
     failed _ (flag (c .before)) (c .if6 .left) refl
-    ∙ busy-tests (a .slots) (a .growth) (a .t) (e .if1 .left) (f .if2 .left) (argument-passes d)
+    ∙ busy-tests (a .slots) (a .growth) (a .lanes) (a .t) (e .if1 .left) (f .if2 .left) (argument-passes d)
 
 pub busy-ok-spec : {M : Type 1} → statement M
 busy-ok-spec =

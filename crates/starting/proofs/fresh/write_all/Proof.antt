@@ -41,7 +41,7 @@ returns c =
     let t = header .write-header .last .0 in
     let w = nodes .write-nodes in
     let long = w .kept .0 ∙ mid-len headerLength (length t) t (omega arith) in
-    started (a .slots) (a .tasks) (a .growth) (a .table .now) t (w .last .0) (tasks .write-tasks .last .0)
+    started (a .slots) (a .tasks) (a .growth) (a .lanes) (a .table .now) t (w .last .0) (tasks .write-tasks .last .0)
     (length t - headerLength) (omega (arith, s .pre)) (header .write-header .ensures)
     (omega (arith, s .pre, long, header .write-header .kept .0)) (w .ensures) (tasks .write-tasks .ensures)
 

@@ -17,13 +17,13 @@ abbrev unused : List ℕ
 unused = nodeWords none none never
 
 abbrev Inv-loop : tie.InvT-loop
-Inv-loop ns₀ slots x₀ ns x =
+Inv-loop ns₀ first slots x₀ ns x =
     (x ≤ slots)
     × (length ns ≡ length ns₀)
-    × (filling ns (nodeLength * x) (slots - x) unused ≡ filling ns₀ (nodeLength * 2) (slots - 2) unused)
+    × (filling ns (nodeLength * x) (slots - x) unused ≡ filling ns₀ (nodeLength * first) (slots - first) unused)
 
 abbrev μ-loop : tie.MeasureT-loop
-μ-loop ns₀ slots x₀ ns x = slots - x
+μ-loop ns₀ first slots x₀ ns x = slots - x
 
 loop-holds : tie.Need-loop-holds Inv-loop μ-loop
 loop-holds c = (c .before .pre .0, refl, refl)
