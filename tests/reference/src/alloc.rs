@@ -1,6 +1,6 @@
 //! Which nodes are reachable, and the first that is not.
 
-use crate::table::{header, node, record, Sizes};
+use crate::table::{node, record, Sizes};
 
 /// The first free node from the hint upward, going round past the last.
 ///
@@ -36,15 +36,16 @@ fn held(step: u32) -> &'static [usize] {
     }
 }
 
-/// Marks every node to which a chain of links leads from a hat or a register that holds its node.
+/// Marks every node to which a chain of links leads from a hat of any lane or a register that holds its node.
 fn reachable(table: &[u32], sizes: Sizes) -> [bool; Sizes::MAX_NODES] {
     let mut work = Worklist {
         reached: [false; Sizes::MAX_NODES],
         pending: [0; Sizes::MAX_NODES],
         length: 0,
     };
-    work.add(table[header::LEFT_HAT]);
-    work.add(table[header::RIGHT_HAT]);
+    for &hat in &table[sizes.hats()] {
+        work.add(hat);
+    }
     for task in table[sizes.record(0)..].chunks_exact(record::WORDS) {
         for &register in held(task[record::STEP]) {
             work.add(task[register]);

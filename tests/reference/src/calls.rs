@@ -4,43 +4,68 @@ use crate::answer::Answer;
 use crate::refusal;
 use crate::shape;
 use crate::step;
-use crate::table::{self, content, header, node, record, Content, Sizes, LX, NONE, RX};
+use crate::table::{
+    self, content, header, node, record, Content, Sizes, LEFT, LX, NONE, RIGHT, RX,
+};
 
 /// Longest schedule of a run, in words.
 const MAX_SCHEDULE: usize = 8192;
 /// The same for the maintenance panel, whose firmware takes 32 ticks.
 const MAX_PANEL_SCHEDULE: usize = 64;
 
-/// Writes an empty deque of two sentinels, with all tasks idle.
-pub fn start(table: &mut [u32], slots: u32, tasks: u32, growth: u32) -> Result<(), u32> {
-    let sizes = Sizes::new(slots, tasks, growth).ok_or(refusal::START_SIZES)?;
+/// Writes lanes of two sentinels each, which are empty deques, with all tasks idle.
+pub fn start(
+    table: &mut [u32],
+    slots: u32,
+    tasks: u32,
+    growth: u32,
+    lanes: u32,
+) -> Result<(), u32> {
+    if !Sizes::are_lanes(lanes) {
+        return Err(refusal::LANES);
+    }
+    let sizes = Sizes::new(slots, tasks, growth, lanes).ok_or(refusal::START_SIZES)?;
     if table.len() != sizes.words() {
         return Err(refusal::START_LENGTH);
     }
     let (head, rest) = table.split_at_mut(header::WORDS);
     let (nodes, records) = rest.split_at_mut(node::WORDS * slots as usize);
+    // The hats of unused lanes stay none.
+    head.fill(NONE);
     // The first dispatch looks from task 0 on.
-    head.copy_from_slice(&[slots, tasks, growth, 0, 1, 0, tasks - 1, 0]);
+    head[..header::HATS].copy_from_slice(&[slots, tasks, growth, lanes, 0, tasks - 1]);
+    for at in header::ZEROS {
+        head[at] = 0;
+    }
     for node in nodes.chunks_exact_mut(node::WORDS) {
         node.copy_from_slice(&[NONE, NONE, 0, 0]);
     }
-    nodes[..2 * node::WORDS].copy_from_slice(&[NONE, 1, LX, 0, 0, NONE, RX, 0]);
+    for (lane, sentinels) in (0..lanes).zip(nodes.chunks_exact_mut(2 * node::WORDS)) {
+        let (left, right) = (2 * lane, 2 * lane + 1);
+        sentinels.copy_from_slice(&[NONE, right, LX, 0, left, NONE, RX, 0]);
+        head[header::hat(lane, LEFT)] = left;
+        head[header::hat(lane, RIGHT)] = right;
+    }
     for task in records.chunks_exact_mut(record::WORDS) {
         task.copy_from_slice(&record::FRESH);
     }
     Ok(())
 }
 
-/// Gives an idle task an operation. The argument has its leading digit before it.
+/// Gives an idle task an operation on a lane. The argument has its leading digit before it.
 pub fn begin(
     table: &mut [u32],
     task: u32,
+    lane: u32,
     operation: u32,
     side: u32,
     digit: u32,
     argument: u32,
 ) -> Result<(), u32> {
     let sizes = shape::check(table)?;
+    if lane >= sizes.lanes {
+        return Err(refusal::LANE);
+    }
     if task >= sizes.tasks {
         return Err(refusal::TASK);
     }
@@ -52,7 +77,7 @@ pub fn begin(
         return Err(refusal::ARGUMENT);
     }
     if operation == table::PUSH {
-        // The whole walk comes first: no tag is known to be there on a deque that cannot be read.
+        // The whole walk comes first: no tag is known to be there where some lane cannot be read.
         if stands(table, sizes, given)? || is_pushed(table, sizes, given) {
             return Err(refusal::TWICE);
         }
@@ -67,6 +92,7 @@ pub fn begin(
     words[record::SIDE] = side;
     words[record::ARGUMENT] = argument;
     words[record::ARGUMENT_DIGIT] = digit;
+    words[record::LANE] = lane;
     table[at..at + record::WORDS].copy_from_slice(&words);
     Ok(())
 }
@@ -78,11 +104,11 @@ pub fn tick(table: &mut [u32], task: u32, hint: u32) -> Result<Answer, u32> {
 }
 
 /// Makes the ticks of a schedule of (task, hint) pairs up to the first refused;
-/// returns how many were made, and the refusal or 0.
+/// returns the refusal or 0, and how many were made.
 pub fn run(table: &mut [u32], list: &[u32], answers: &mut [u32]) -> (u32, u32) {
     match scheduled_sizes(table, list, answers, MAX_SCHEDULE) {
         Ok(sizes) => scheduled_ticks(table, sizes, list, answers),
-        Err(number) => (0, number),
+        Err(number) => (number, 0),
     }
 }
 
@@ -90,7 +116,7 @@ pub fn run(table: &mut [u32], list: &[u32], answers: &mut [u32]) -> (u32, u32) {
 pub fn panel(table: &mut [u32], list: &[u32], answers: &mut [u32]) -> (u32, u32) {
     match scheduled_sizes(table, list, answers, MAX_PANEL_SCHEDULE) {
         Ok(sizes) => scheduled_ticks(table, sizes, list, answers),
-        Err(number) => (0, number),
+        Err(number) => (number, 0),
     }
 }
 
@@ -105,22 +131,25 @@ fn scheduled_ticks(
         // A tick keeps the shape, so it was tested once for all of them.
         match checked_tick(table, sizes, pair[0], pair[1]) {
             Ok(answer) => words.copy_from_slice(&answer.words()),
-            Err(number) => return (made, number),
+            Err(number) => return (number, made),
         }
         made += 1;
     }
-    (made, 0)
+    (0, made)
 }
 
-/// Writes the tags of the deque, leftmost first, two words each, and returns their count.
-pub fn read(table: &[u32], out: &mut [u32]) -> Result<u32, u32> {
+/// Writes the tags of a lane, leftmost first, two words each, and returns their count.
+pub fn read(table: &[u32], lane: u32, out: &mut [u32]) -> Result<u32, u32> {
     let sizes = shape::check(table)?;
+    if lane >= sizes.lanes {
+        return Err(refusal::LANE);
+    }
     // The whole walk comes before the first write.
     let mut count = 0;
-    walk(table, sizes, |_| count += 1)?;
+    walk(table, sizes, lane, |_| count += 1)?;
     let out = out.get_mut(..2 * count).ok_or(refusal::OUT_LENGTH)?;
     let mut places = out.chunks_exact_mut(2);
-    walk(table, sizes, |[low, digit]| {
+    walk(table, sizes, lane, |[low, digit]| {
         if let Some(place) = places.next() {
             place.copy_from_slice(&[digit, low]);
         }
@@ -128,10 +157,12 @@ pub fn read(table: &[u32], out: &mut [u32]) -> Result<u32, u32> {
     Ok(count as u32)
 }
 
-/// Whether a tag stands in the deque.
+/// Whether a tag stands in any lane.
 fn stands(table: &[u32], sizes: Sizes, wanted: Content) -> Result<bool, u32> {
     let mut found = false;
-    walk(table, sizes, |tag| found |= tag == wanted)?;
+    for lane in 0..sizes.lanes {
+        walk(table, sizes, lane, |tag| found |= tag == wanted)?;
+    }
     Ok(found)
 }
 
@@ -143,9 +174,9 @@ fn is_pushed(table: &[u32], sizes: Sizes, tag: Content) -> bool {
     })
 }
 
-/// Shows the tags of the deque, leftmost first, up to its end; there may be none to find.
-fn walk(table: &[u32], sizes: Sizes, mut show: impl FnMut(Content)) -> Result<(), u32> {
-    let mut number = table[header::LEFT_HAT];
+/// Shows the tags of a lane, leftmost first, up to its end; there may be none to find.
+fn walk(table: &[u32], sizes: Sizes, lane: u32, mut show: impl FnMut(Content)) -> Result<(), u32> {
+    let mut number = table[header::hat(lane, LEFT)];
     for _ in 0..sizes.nodes {
         number = next(table, sizes, number)?;
         let content = content(table, sizes.node(number) + node::VALUE);

@@ -69,7 +69,7 @@ impl Rest<'_> {
             ("add ", table::ADD),
             ("remove ", table::REMOVE),
         ])?;
-        let side = self.word(&[("left ", 0), ("right ", 1)])?;
+        let side = self.word(&[("left ", table::LEFT), ("right ", table::RIGHT)])?;
         let (digit, argument) = match operation {
             table::PUSH => self.tag()?,
             _ => (0, self.number()?),

@@ -7,6 +7,10 @@ use crate::calls;
 use crate::form::{self, Form};
 use crate::table::{self, Sizes};
 
+/// The program starts one lane, and all calls are on it.
+const LANES: u32 = 1;
+/// That lane.
+const LANE: u32 = 0;
 /// Bytes of a read.
 const READ: usize = 65_536;
 
@@ -59,7 +63,8 @@ impl Program {
                 digit,
                 argument,
             } => {
-                calls::begin(&mut self.table, task, operation, side, digit, argument)?;
+                let table = &mut self.table;
+                calls::begin(table, task, LANE, operation, side, digit, argument)?;
                 Ok(String::from("(ok)"))
             }
             Form::Tick { task, hint, times } => self.tick(task, hint, times),
@@ -69,9 +74,9 @@ impl Program {
 
     /// A refused start keeps the table that was there.
     fn start(&mut self, nodes: u32, tasks: u32, growth: u32) -> Result<String, u32> {
-        let words = Sizes::new(nodes, tasks, growth).map_or(0, Sizes::words);
+        let words = Sizes::new(nodes, tasks, growth, LANES).map_or(0, Sizes::words);
         let mut table = vec![0; words];
-        calls::start(&mut table, nodes, tasks, growth)?;
+        calls::start(&mut table, nodes, tasks, growth, LANES)?;
         self.table = table;
         Ok(String::from("(ok)"))
     }
@@ -89,7 +94,7 @@ impl Program {
 
     fn read(&self) -> Result<String, u32> {
         let mut words = [0; 2 * Sizes::MAX_NODES];
-        let count = calls::read(&self.table, &mut words)?;
+        let count = calls::read(&self.table, LANE, &mut words)?;
         let mut text = String::from("(lane");
         for pair in words.chunks_exact(2).take(count as usize) {
             text.push_str(&format!(" {:010}", table::tag(pair[0], pair[1])));

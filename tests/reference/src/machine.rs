@@ -11,6 +11,8 @@ pub struct Machine<'a> {
     table: &'a mut [u32],
     sizes: Sizes,
     record: usize,
+    /// Index of the hat of the task's lane and side.
+    hat: usize,
     /// The side of the task's operation.
     pub side: &'static Side,
 }
@@ -37,12 +39,14 @@ impl<'a> Machine<'a> {
     /// The view of a task below the number of tasks.
     pub fn new(table: &'a mut [u32], sizes: Sizes, task: u32) -> Machine<'a> {
         let record = sizes.record(task);
-        let side = Side::numbered(table[record + record::SIDE]);
+        let side = table[record + record::SIDE];
+        let hat = header::hat(table[record + record::LANE], side);
         Machine {
             table,
             sizes,
             record,
-            side,
+            hat,
+            side: Side::numbered(side),
         }
     }
 
@@ -72,9 +76,9 @@ impl<'a> Machine<'a> {
         *ticks = ticks.wrapping_add(1);
     }
 
-    /// The hat of this side.
+    /// The hat of the task's lane and side.
     pub fn hat(&self) -> u32 {
-        self.table[self.side.hat]
+        self.table[self.hat]
     }
 
     /// How many nodes the operation chains or passes.
@@ -150,7 +154,7 @@ impl<'a> Machine<'a> {
     pub fn move_hat(&self, to: usize) -> Result<Swap<1>, u32> {
         match self.get(to) {
             NONE => Err(refusal::NO_NODE),
-            new => Ok(swap_word(self.side.hat, self.get(A), new)),
+            new => Ok(swap_word(self.hat, self.get(A), new)),
         }
     }
 

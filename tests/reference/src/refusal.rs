@@ -1,6 +1,8 @@
 //! The refusal numbers, in the order in which they are tested.
 
-/// Start: a size is out of range.
+/// Start: the number of lanes is out of range.
+pub const LANES: u32 = 25;
+/// Start: another size is out of range, or there are too few nodes for the lanes.
 pub const START_SIZES: u32 = 1;
 /// Start: the slice does not have the length the sizes ask for.
 pub const START_LENGTH: u32 = 2;
@@ -8,13 +10,15 @@ pub const START_LENGTH: u32 = 2;
 pub const SIZES: u32 = 3;
 /// Some word holds a value it may not hold.
 pub const SHAPE: u32 = 4;
+/// No such lane.
+pub const LANE: u32 = 26;
 /// No such task.
 pub const TASK: u32 = 5;
 /// No such operation or side.
 pub const OPERATION: u32 = 6;
 /// The argument is out of its operation's range.
 pub const ARGUMENT: u32 = 7;
-/// Begin of a push: the tag is in the deque, or on its way there.
+/// Begin of a push: the tag is in a lane, or on its way there.
 pub const TWICE: u32 = 16;
 /// The task is in the middle of an operation.
 pub const BUSY: u32 = 8;

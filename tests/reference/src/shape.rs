@@ -2,7 +2,9 @@
 
 use crate::refusal;
 use crate::side::Side;
-use crate::table::{self, are_content, content, header, is_content, is_tag, node, record, Sizes, NONE};
+use crate::table::{
+    self, are_content, content, header, is_content, is_tag, node, record, Sizes, LEFT, NONE,
+};
 
 /// The sizes of a table whose shape holds, or the refusal.
 pub fn check(table: &[u32]) -> Result<Sizes, u32> {
@@ -22,6 +24,7 @@ fn sizes(table: &[u32]) -> Option<Sizes> {
         table[header::NODES],
         table[header::TASKS],
         table[header::GROWTH],
+        table[header::LANES],
     )
     .filter(|sizes| sizes.words() == table.len())
 }
@@ -29,14 +32,21 @@ fn sizes(table: &[u32]) -> Option<Sizes> {
 fn holds(table: &[u32], sizes: Sizes) -> bool {
     let (head, rest) = table.split_at(header::WORDS);
     let (nodes, records) = rest.split_at(sizes.node(sizes.nodes) - header::WORDS);
-    head[header::DISPATCHED] < sizes.tasks
-        && head[header::ZERO] == 0
-        && head[header::LEFT_HAT] < sizes.nodes
-        && head[header::RIGHT_HAT] < sizes.nodes
+    header_holds(head, sizes)
         && nodes_hold(nodes, sizes)
         && records
             .chunks_exact(record::WORDS)
             .all(|task| record_holds(task, sizes))
+}
+
+/// A lane that is not used has no hats.
+fn header_holds(head: &[u32], sizes: Sizes) -> bool {
+    let hats = sizes.hats();
+    let unused = hats.end..header::hat(Sizes::MAX_LANES, LEFT);
+    head[header::DISPATCHED] < sizes.tasks
+        && head[hats].iter().all(|&hat| hat < sizes.nodes)
+        && head[unused].iter().all(|&hat| hat == NONE)
+        && header::ZEROS.iter().all(|&at| head[at] == 0)
 }
 
 /// Every node, without leaving at the first that does not hold: the compiler then tests several at once.
@@ -66,7 +76,10 @@ fn record_holds(task: &[u32], sizes: Sizes) -> bool {
         && table::argument_fits(operation, content(task, record::ARGUMENT))
         && counted_holds(task, sizes)
         && value_holds(task)
-        && task[record::A..].iter().all(|&word| is_link(word, sizes))
+        && task[record::A..=record::D]
+            .iter()
+            .all(|&word| is_link(word, sizes))
+        && task[record::LANE] < sizes.lanes
 }
 
 fn counted_holds(task: &[u32], sizes: Sizes) -> bool {

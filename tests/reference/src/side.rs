@@ -1,11 +1,9 @@
 //! The words in which the two sides differ, so that the steps are written once.
 
-use crate::table::{self, header, mark, node, Content};
+use crate::table::{self, mark, node, Content};
 
 /// What a step needs to know of its side.
 pub struct Side {
-    /// Header word of this side's hat.
-    pub hat: usize,
     /// Link towards the values.
     pub inward: usize,
     /// Link towards the terminator.
@@ -23,7 +21,6 @@ pub struct Side {
 }
 
 const RIGHT: Side = Side {
-    hat: header::RIGHT_HAT,
     inward: node::LEFT,
     outward: node::RIGHT,
     null: mark(table::RN),
@@ -43,7 +40,6 @@ impl Side {
 
     const fn mirrored(self) -> Side {
         Side {
-            hat: header::LEFT_HAT + header::RIGHT_HAT - self.hat,
             inward: self.outward,
             outward: self.inward,
             null: far(self.null),

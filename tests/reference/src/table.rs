@@ -1,5 +1,7 @@
 //! Where every word of the table lies and which values it may hold.
 
+use std::ops::Range;
+
 /// No node: the value of an absent link or an unset register.
 pub const NONE: u32 = 65_535;
 
@@ -42,26 +44,36 @@ pub const ADD: u32 = 3;
 /// Remove spare nodes.
 pub const REMOVE: u32 = 4;
 
+/// The left side, as calls and records name it.
+pub const LEFT: u32 = 0;
+/// The right side.
+pub const RIGHT: u32 = 1;
+
 /// Word indices in the header.
 pub mod header {
     /// Length of the header.
-    pub const WORDS: usize = 8;
+    pub const WORDS: usize = 16;
     /// Number of nodes.
     pub const NODES: usize = 0;
     /// Number of tasks.
     pub const TASKS: usize = 1;
     /// Spare nodes a push asks for beyond the terminator.
     pub const GROWTH: usize = 2;
-    /// The left sentinel.
-    pub const LEFT_HAT: usize = 3;
-    /// The right sentinel.
-    pub const RIGHT_HAT: usize = 4;
+    /// Number of lanes.
+    pub const LANES: usize = 3;
     /// Ticks made.
-    pub const TICKS: usize = 5;
+    pub const TICKS: usize = 4;
     /// The task last dispatched.
-    pub const DISPATCHED: usize = 6;
-    /// The word that is always 0.
-    pub const ZERO: usize = 7;
+    pub const DISPATCHED: usize = 5;
+    /// The first of the hats, which are the sentinels: a pair for each lane there may be, the left one first.
+    pub const HATS: usize = 6;
+    /// The words that are always 0.
+    pub const ZEROS: [usize; 2] = [14, 15];
+
+    /// The hat of a lane and a side.
+    pub const fn hat(lane: u32, side: u32) -> usize {
+        HATS + 2 * lane as usize + side as usize
+    }
 }
 
 /// Word offsets in a node.
@@ -83,7 +95,7 @@ pub mod record {
     use super::NONE;
 
     /// Length of a record.
-    pub const WORDS: usize = 12;
+    pub const WORDS: usize = 13;
     /// What the task is doing.
     pub const OPERATION: usize = 0;
     /// Line of the figure that is next.
@@ -108,8 +120,10 @@ pub mod record {
     pub const C: usize = 10;
     /// Register D.
     pub const D: usize = 11;
+    /// The lane of the operation.
+    pub const LANE: usize = 12;
     /// The record of an idle task.
-    pub const FRESH: [u32; WORDS] = [0, 0, 0, 0, 0, 0, 0, 0, NONE, NONE, NONE, NONE];
+    pub const FRESH: [u32; WORDS] = [0, 0, 0, 0, 0, 0, 0, 0, NONE, NONE, NONE, NONE, 0];
 }
 
 /// The sizes of a table, known to be in range.
@@ -121,29 +135,45 @@ pub struct Sizes {
     pub tasks: u32,
     /// Goal of the allocation made by a push.
     pub growth: u32,
+    /// Number of lanes, each a deque over the same nodes.
+    pub lanes: u32,
 }
 
 impl Sizes {
     /// Most nodes a table may have.
     pub const MAX_NODES: usize = 1024;
+    /// Most lanes a table may have.
+    pub const MAX_LANES: u32 = 4;
     /// The shortest table: two nodes and one task.
     pub const MIN_WORDS: usize = header::WORDS + 2 * node::WORDS + record::WORDS;
 
-    /// The sizes, if all are in range.
-    pub fn new(nodes: u32, tasks: u32, growth: u32) -> Option<Sizes> {
-        let fits = (2..=Sizes::MAX_NODES as u32).contains(&nodes)
+    /// The sizes, if all are in range; each lane starts with two nodes of its own.
+    pub fn new(nodes: u32, tasks: u32, growth: u32, lanes: u32) -> Option<Sizes> {
+        let fits = Sizes::are_lanes(lanes)
+            && (2 * lanes..=Sizes::MAX_NODES as u32).contains(&nodes)
             && (1..=16).contains(&tasks)
             && growth <= 64;
         fits.then_some(Sizes {
             nodes,
             tasks,
             growth,
+            lanes,
         })
+    }
+
+    /// Whether a table may have so many lanes.
+    pub fn are_lanes(lanes: u32) -> bool {
+        (1..=Sizes::MAX_LANES).contains(&lanes)
     }
 
     /// Length of the table.
     pub fn words(self) -> usize {
         self.record(self.tasks)
+    }
+
+    /// Indices of the hats of its lanes.
+    pub fn hats(self) -> Range<usize> {
+        header::HATS..header::hat(self.lanes, LEFT)
     }
 
     /// Index of a node's first word.

@@ -3,19 +3,17 @@
 mod common;
 
 use common::calls::{begin, whole};
-use common::tables::sizes;
+use common::tables::{sizes, LANE};
 use reference::table::{
-    header, mirror, node, record, ADD, LX, MAX_TAG, NONE, POP, PUSH, REMOVE, RN, RX, RY,
+    header, mirror, node, record, ADD, LEFT, LX, MAX_TAG, NONE, POP, PUSH, REMOVE, RIGHT, RN, RX,
+    RY,
 };
 use reference::{read, start, tick, Answer};
-
-const RIGHT: u32 = 1;
-const LEFT: u32 = 0;
 
 /// One thing a case does or finds.
 #[derive(Clone)]
 enum Act {
-    /// Start on a slice of so many words, with the refusal or 0.
+    /// Start one lane on a slice of so many words, with the refusal or 0.
     Start {
         words: usize,
         nodes: u32,
@@ -85,7 +83,7 @@ fn play_act(table: &mut Vec<u32>, act: &Act, at: usize) {
             refused,
         } => {
             let mut fresh = vec![5; words];
-            let found = start(&mut fresh, nodes, tasks, growth);
+            let found = start(&mut fresh, nodes, tasks, growth, 1);
             assert_eq!(found, expected(refused), "act {at}");
             if refused == 0 {
                 *table = fresh;
@@ -95,7 +93,7 @@ fn play_act(table: &mut Vec<u32>, act: &Act, at: usize) {
         }
         &Begin(task, operation, side, argument, refused) => {
             let before = table.clone();
-            let found = begin(table, task, operation, side, argument);
+            let found = begin(table, task, LANE, operation, side, argument);
             assert_eq!(found, expected(refused), "act {at}");
             if refused != 0 {
                 assert_eq!(*table, before, "act {at}");
@@ -112,8 +110,7 @@ fn play_act(table: &mut Vec<u32>, act: &Act, at: usize) {
             assert_eq!(tick(table, task, 0), Ok(answer), "act {at}");
         }
         &Hat(side, number) => {
-            let hat = [header::LEFT_HAT, header::RIGHT_HAT][side as usize];
-            assert_eq!(table[hat], number, "act {at}");
+            assert_eq!(table[header::hat(LANE, side)], number, "act {at}");
         }
         &Node(number, words) => {
             let from = sizes(table).node(number);
@@ -135,7 +132,11 @@ fn play_act(table: &mut Vec<u32>, act: &Act, at: usize) {
         Tags(tags) => {
             let words = 2 * tags.len();
             let mut out = vec![9; words + 2];
-            assert_eq!(read(table, &mut out), Ok(tags.len() as u32), "act {at}");
+            assert_eq!(
+                read(table, LANE, &mut out),
+                Ok(tags.len() as u32),
+                "act {at}"
+            );
             assert_eq!(whole(&out[..words]), *tags, "act {at}");
             assert_eq!(out[words..], [9, 9], "act {at}");
         }
@@ -153,7 +154,7 @@ fn expected(refused: u32) -> Result<(), u32> {
 
 fn accepted(nodes: u32, tasks: u32, growth: u32) -> Act {
     Start {
-        words: 8 + 4 * nodes as usize + 12 * tasks as usize,
+        words: 16 + 4 * nodes as usize + 13 * tasks as usize,
         nodes,
         tasks,
         growth,
@@ -334,7 +335,7 @@ fn case_5_the_spur() {
 #[test]
 fn case_6_the_shortest_table() {
     let exact = Start {
-        words: 28,
+        words: 37,
         nodes: 2,
         tasks: 1,
         growth: 0,
@@ -343,7 +344,7 @@ fn case_6_the_shortest_table() {
     let mut acts = vec![exact];
     acts.extend(started_words());
     acts.push(Start {
-        words: 27,
+        words: 36,
         nodes: 2,
         tasks: 1,
         growth: 0,
@@ -355,7 +356,7 @@ fn case_6_the_shortest_table() {
 #[test]
 fn case_7_too_many_nodes() {
     both_sides(&[Start {
-        words: 8 + 4 * 1025 + 12,
+        words: 16 + 4 * 1025 + 13,
         nodes: 1025,
         tasks: 1,
         growth: 0,

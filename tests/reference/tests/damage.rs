@@ -4,12 +4,15 @@
 mod common;
 
 use common::random::Random;
-use common::tables::{shaped, started};
-use reference::table::{PUSH, REMOVE};
+use common::tables::{shaped, started_lanes};
+use reference::table::{header, Sizes, PUSH, REMOVE};
 use reference::{begin, dispatch, read, run, start, tick};
 
+/// Calls by their refusal; at 0 those that were accepted.
+type Counts = [u32; 27];
+
 /// Makes one call with arbitrary arguments and checks what it leaves.
-fn call(random: &mut Random, table: &mut [u32], counts: &mut [u32; 17]) {
+fn call(random: &mut Random, table: &mut [u32], counts: &mut Counts) {
     let before = table.to_vec();
     let number = match random.below(6) {
         0 => {
@@ -18,7 +21,8 @@ fn call(random: &mut Random, table: &mut [u32], counts: &mut [u32; 17]) {
             } else {
                 (2 + random.below(8), 1 + random.below(3), random.below(66))
             };
-            let number = refused(start(table, nodes, tasks, growth));
+            let lanes = near(random, 6);
+            let number = refused(start(table, nodes, tasks, growth, lanes));
             if number == 0 {
                 assert_eq!(run(table, &[], &mut []), (0, 0));
             }
@@ -28,6 +32,7 @@ fn call(random: &mut Random, table: &mut [u32], counts: &mut [u32; 17]) {
             let number = refused(begin(
                 table,
                 near(random, 4),
+                near(random, 3),
                 near(random, 5),
                 near(random, 2),
                 random.digit(),
@@ -59,7 +64,7 @@ fn call(random: &mut Random, table: &mut [u32], counts: &mut [u32; 17]) {
         4 => {
             let list: Vec<u32> = (0..random.below(40)).map(|_| near(random, 4)).collect();
             let mut answers = vec![8; random.below(70) as usize];
-            let (made, number) = run(table, &list, &mut answers);
+            let (number, made) = run(table, &list, &mut answers);
             let made = made as usize;
             assert!(2 * made <= list.len());
             assert!(answers.iter().skip(3 * made).all(|&word| word == 8));
@@ -72,7 +77,7 @@ fn call(random: &mut Random, table: &mut [u32], counts: &mut [u32; 17]) {
         }
         _ => {
             let mut out = vec![8; random.below(20) as usize];
-            let found = read(table, &mut out);
+            let found = read(table, near(random, 3), &mut out);
             let written = 2 * found.unwrap_or(0) as usize;
             assert!(out[written..].iter().all(|&word| word == 8));
             assert_eq!(table, before);
@@ -101,13 +106,13 @@ fn near(random: &mut Random, bound: u32) -> u32 {
 #[test]
 fn slices_of_any_words() {
     let mut random = Random::new(11);
-    let mut counts = [0; 17];
+    let mut counts: Counts = [0; 27];
     for _ in 0..20_000 {
-        let length = random.below(80) as usize;
+        let length = random.below(100) as usize;
         let mut table: Vec<u32> = (0..length).map(|_| random.word()).collect();
         call(&mut random, &mut table, &mut counts);
     }
-    for number in 1..=3 {
+    for number in [1, 2, 3, 25] {
         assert!(counts[number] > 0, "{counts:?}");
     }
 }
@@ -115,16 +120,18 @@ fn slices_of_any_words() {
 #[test]
 fn started_tables_with_damaged_words() {
     let mut random = Random::new(12);
-    let mut counts = [0; 17];
-    for _ in 0..6_000 {
-        let mut table = started(2 + random.below(5), 1 + random.below(3), random.below(3));
+    let mut counts: Counts = [0; 27];
+    for _ in 0..12_000 {
+        let lanes = 1 + random.below(Sizes::MAX_LANES);
+        let nodes = 2 * lanes + random.below(5);
+        let mut table = started_lanes(nodes, 1 + random.below(3), random.below(3), lanes);
         begin_some(&mut random, &mut table);
         for _ in 0..random.below(3) {
             let at = random.below(table.len() as u32) as usize;
             table[at] = random.word();
         }
         match random.below(12) {
-            0 => table.truncate(random.below(80) as usize),
+            0 => table.truncate(random.below(100) as usize),
             1 => table.push(random.word()),
             _ => {}
         }
@@ -132,8 +139,8 @@ fn started_tables_with_damaged_words() {
             call(&mut random, &mut table, &mut counts);
         }
     }
-    // 15 is the panel's.
-    for number in (0..=14).chain([16]) {
+    // 15 is the panel's, and those between 16 and 25 are of none of these calls.
+    for number in (0..=14).chain([16, 25, 26]) {
         assert!(counts[number] > 0, "{number}: {counts:?}");
     }
 }
@@ -141,7 +148,7 @@ fn started_tables_with_damaged_words() {
 #[test]
 fn tables_of_good_shape_and_no_sense() {
     let mut random = Random::new(13);
-    let mut counts = [0; 17];
+    let mut counts: Counts = [0; 27];
     for _ in 0..10_000 {
         let mut table = shaped(&mut random);
         assert_eq!(run(&mut table, &[], &mut []), (0, 0), "shape");
@@ -149,7 +156,7 @@ fn tables_of_good_shape_and_no_sense() {
             call(&mut random, &mut table, &mut counts);
         }
     }
-    for number in [0, 1, 2, 5, 6, 7, 8, 9, 10, 11, 12, 13, 14, 16] {
+    for number in [0, 1, 2, 5, 6, 7, 8, 9, 10, 11, 12, 13, 14, 16, 25, 26] {
         assert!(counts[number] > 0, "{counts:?}");
     }
     assert_eq!((counts[3], counts[4]), (0, 0));
@@ -170,21 +177,21 @@ fn a_run_is_its_ticks_on_any_table() {
             .collect();
         let mut answers = vec![8; 3 * list.len() / 2];
         let found = run(&mut table, &list, &mut answers);
-        let mut wanted = (0, 0);
+        let (mut refused, mut made) = (0, 0);
         for (pair, words) in list.chunks(2).zip(answers.chunks(3)) {
             match tick(&mut single, pair[0], pair[1]) {
                 Ok(answer) => {
                     assert_eq!(words, answer.words());
-                    wanted.0 += 1;
+                    made += 1;
                 }
                 Err(number) => {
-                    wanted.1 = number;
+                    refused = number;
                     stopped += 1;
                     break;
                 }
             }
         }
-        assert_eq!(found, wanted);
+        assert_eq!(found, (refused, made));
         assert_eq!(table, single);
     }
     assert!(stopped > 100);
@@ -193,8 +200,9 @@ fn a_run_is_its_ticks_on_any_table() {
 fn begin_some(random: &mut Random, table: &mut [u32]) {
     for task in 0..3 {
         let operation = PUSH + random.below(REMOVE);
+        let lane = random.below(table[header::LANES]);
         let (side, digit, argument) = (random.below(2), random.below(2), random.below(2));
-        let _ = begin(table, task, operation, side, digit, argument);
+        let _ = begin(table, task, lane, operation, side, digit, argument);
         for _ in 0..random.below(12) {
             let _ = tick(table, task, 0);
         }

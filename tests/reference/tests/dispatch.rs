@@ -4,19 +4,17 @@ mod common;
 
 use common::calls::begin;
 use common::random::Random;
-use common::tables::{shaped, sizes, started};
+use common::tables::{shaped, sizes, started, LANE};
 use common::turns::next_in;
-use reference::table::{header, record, POP, PUSH};
+use reference::table::{header, record, POP, PUSH, RIGHT};
 use reference::{dispatch, panel, run, start, tick, Answer};
-
-const RIGHT: u32 = 1;
 
 /// A started table with the task last dispatched, and these tasks in a pop.
 fn with_pops(tasks: u32, last: u32, busy: &[u32]) -> Vec<u32> {
     let mut table = started(4, tasks, 0);
     table[header::DISPATCHED] = last;
     for &task in busy {
-        begin(&mut table, task, POP, RIGHT, 0).expect("begin");
+        begin(&mut table, task, LANE, POP, RIGHT, 0).expect("begin");
     }
     table
 }
@@ -91,10 +89,10 @@ fn a_start_has_the_next_dispatch_look_from_task_0_on() {
     for tasks in 1..=16 {
         let all: Vec<u32> = (0..tasks).collect();
         let mut table = with_pops(tasks, tasks / 2, &all);
-        assert_eq!(start(&mut table, 4, tasks, 0), Ok(()));
+        assert_eq!(start(&mut table, 4, tasks, 0, 1), Ok(()));
         assert_eq!(table[header::DISPATCHED], tasks - 1);
         for task in all {
-            begin(&mut table, task, POP, RIGHT, 0).expect("begin");
+            begin(&mut table, task, LANE, POP, RIGHT, 0).expect("begin");
         }
         assert_eq!(check(&mut table, 0), Ok(Some(Answer::Going)));
         assert_eq!(table[header::DISPATCHED], 0);
@@ -115,7 +113,7 @@ fn refusals_and_idle_in_order() {
         for (long, broken) in [(true, true), (true, false), (false, true), (false, false)] {
             for hint in [0, 3, 4, u32::MAX] {
                 let mut table = good.clone();
-                table[header::ZERO] = u32::from(broken);
+                table[header::ZEROS[0]] = u32::from(broken);
                 table.extend(long.then_some(0));
                 let before = table.clone();
                 let wanted = match (long, broken, hint < 4) {
@@ -178,12 +176,21 @@ fn no_other_call_but_start_touches_its_word() {
             let call = random.below(4) as usize;
             let is_made = match call {
                 0 => {
+                    let lane = random.below(table[header::LANES]);
                     let (operation, side) = (PUSH + random.below(4), random.below(2));
-                    begin(&mut table, task, operation, side, random.below(3).into()).is_ok()
+                    begin(
+                        &mut table,
+                        task,
+                        lane,
+                        operation,
+                        side,
+                        random.below(3).into(),
+                    )
+                    .is_ok()
                 }
                 1 => tick(&mut table, task, hint).is_ok(),
-                2 => run(&mut table, &list, &mut [0; 6]).0 > 0,
-                _ => panel(&mut table, &list, &mut [0; 6]).0 > 0,
+                2 => run(&mut table, &list, &mut [0; 6]).1 > 0,
+                _ => panel(&mut table, &list, &mut [0; 6]).1 > 0,
             };
             made[call] += u32::from(is_made);
             assert_eq!(table[header::DISPATCHED], last, "call {call}");

@@ -3,23 +3,25 @@
 mod common;
 
 use common::calls::{begin, tags};
-use common::tables::{sizes, started, steps_of};
+use common::tables::{sizes, started, started_lanes, steps_of, LANE};
 use reference::table::{
-    header, node, record, ADD, LN, LX, LY, MAX_TAG, NONE, POP, PUSH, REMOVE, RN, RX, RY,
+    header, node, record, ADD, LEFT, LN, LX, LY, MAX_TAG, NONE, POP, PUSH, REMOVE, RIGHT, RN, RX,
+    RY,
 };
 use reference::{dispatch, panel, read, run, start, tick, Answer};
 
 /// What every call but start refuses the table with.
 fn refused_by_all(table: &[u32], number: u32, what: &str) {
     let mut lent = table.to_vec();
-    assert_eq!(begin(&mut lent, 0, PUSH, 1, 5), Err(number), "{what}");
+    let found = begin(&mut lent, 0, LANE, PUSH, 1, 5);
+    assert_eq!(found, Err(number), "{what}");
     assert_eq!(tick(&mut lent, 0, 0), Err(number), "{what}");
     assert_eq!(dispatch(&mut lent, 0), Err(number), "{what}");
     let mut answers = [8; 4];
-    assert_eq!(run(&mut lent, &[0, 0], &mut answers), (0, number), "{what}");
-    assert_eq!(run(&mut lent, &[], &mut answers), (0, number), "{what}");
+    assert_eq!(run(&mut lent, &[0, 0], &mut answers), (number, 0), "{what}");
+    assert_eq!(run(&mut lent, &[], &mut answers), (number, 0), "{what}");
     let mut out = [8; 4];
-    assert_eq!(read(&lent, &mut out), Err(number), "{what}");
+    assert_eq!(read(&lent, LANE, &mut out), Err(number), "{what}");
     assert_eq!(lent, table, "{what}");
     assert_eq!((answers, out), ([8; 4], [8; 4]), "{what}");
 }
@@ -47,15 +49,60 @@ fn subsets(numbers: &[u32]) -> Vec<(Vec<u32>, u32)> {
 fn faulty(chosen: &[u32]) -> Vec<u32> {
     let mut table = started(4, 2, 0);
     let at = sizes(&table).record(0);
-    begin(&mut table, 0, PUSH, 1, 51).expect("begin");
+    begin(&mut table, 0, LANE, PUSH, 1, 51).expect("begin");
     table[at + record::STEP] = 3;
     if chosen.contains(&4) {
-        table[header::ZERO] = 1;
+        table[header::ZEROS[1]] = 1;
     }
     if chosen.contains(&3) {
         table.push(0);
     }
     table
+}
+
+/// The length of a table, as the paper gives it.
+fn length(nodes: u32, tasks: u32) -> usize {
+    16 + 4 * nodes as usize + 13 * tasks as usize
+}
+
+/// What is no number of lanes.
+const NO_LANES: [u32; 5] = [0, 5, 6, NONE, u32::MAX];
+
+#[test]
+fn start_in_order() {
+    for (chosen, first) in subsets(&[25, 1, 2]) {
+        for lanes in 1..=4 {
+            // One node short of two for each lane, and every other size past its limit.
+            let bad_sizes = [
+                (2 * lanes - 1, 1, 0),
+                (1025, 1, 0),
+                (2 * lanes, 0, 0),
+                (2 * lanes, 17, 0),
+                (2 * lanes, 1, 65),
+            ];
+            for (bad_size, bad_lanes) in bad_sizes.into_iter().zip(NO_LANES) {
+                let (nodes, tasks, growth) = if chosen.contains(&1) {
+                    bad_size
+                } else {
+                    (2 * lanes, 1, 0)
+                };
+                let lanes = if chosen.contains(&25) {
+                    bad_lanes
+                } else {
+                    lanes
+                };
+                let words = length(nodes, tasks) - usize::from(chosen.contains(&2));
+                let mut table = vec![3; words];
+                let found = start(&mut table, nodes, tasks, growth, lanes);
+                assert_eq!(
+                    found,
+                    Err(first),
+                    "{chosen:?}, {lanes} lanes, {nodes} nodes"
+                );
+                assert_eq!(table, vec![3; words], "{chosen:?}");
+            }
+        }
+    }
 }
 
 #[test]
@@ -72,20 +119,20 @@ fn start_1_and_2() {
         (2, 1, u32::MAX),
     ];
     for (nodes, tasks, growth) in bad {
-        for words in [0, 27, 28, 29] {
+        for words in [0, 36, 37, 38] {
             let mut table = vec![3; words];
-            assert_eq!(start(&mut table, nodes, tasks, growth), Err(1));
+            assert_eq!(start(&mut table, nodes, tasks, growth, 1), Err(1));
             assert_eq!(table, vec![3; words]);
         }
     }
     for (nodes, tasks, growth) in [(2, 1, 0), (1024, 16, 64), (5, 3, 1)] {
-        let exact = 8 + 4 * nodes as usize + 12 * tasks as usize;
-        for words in [0, exact - 1, exact + 1, exact + 12] {
+        let exact = length(nodes, tasks);
+        for words in [0, exact - 1, exact + 1, exact + 13] {
             let mut table = vec![3; words];
-            assert_eq!(start(&mut table, nodes, tasks, growth), Err(2));
+            assert_eq!(start(&mut table, nodes, tasks, growth, 1), Err(2));
             assert_eq!(table, vec![3; words]);
         }
-        assert_eq!(start(&mut vec![3; exact], nodes, tasks, growth), Ok(()));
+        assert_eq!(start(&mut vec![3; exact], nodes, tasks, growth, 1), Ok(()));
     }
 }
 
@@ -98,7 +145,7 @@ fn all_others_3() {
     }
     let shortest = started(2, 1, 0);
     assert!(shape_holds(&shortest));
-    refused_by_all(&shortest[..27], 3, "27 words");
+    refused_by_all(&shortest[..36], 3, "36 words");
     let mut long = good.clone();
     long.push(0);
     refused_by_all(&long, 3, "long");
@@ -106,6 +153,8 @@ fn all_others_3() {
         (header::NODES, &[0, 1, 3, 5, 1025, u32::MAX][..]),
         (header::TASKS, &[0, 2, 17, u32::MAX]),
         (header::GROWTH, &[65, u32::MAX]),
+        // Four nodes are enough for two lanes.
+        (header::LANES, &[0, 3, 4, 5, NONE, u32::MAX]),
     ] {
         for &value in values {
             let mut table = good.clone();
@@ -115,10 +164,44 @@ fn all_others_3() {
     }
     // Sizes out of range on slices of the length they ask for.
     for (nodes, tasks) in [(1, 2), (1025, 1), (4, 0), (2, 17)] {
-        let mut table = vec![0; 8 + 4 * nodes + 12 * tasks];
-        table[header::NODES] = nodes as u32;
-        table[header::TASKS] = tasks as u32;
+        let mut table = vec![0; length(nodes, tasks)];
+        table[header::NODES] = nodes;
+        table[header::TASKS] = tasks;
+        table[header::LANES] = 1;
         refused_by_all(&table, 3, "matching length");
+    }
+}
+
+/// Two nodes for each lane are enough, and one fewer is not.
+#[test]
+fn all_others_3_lanes() {
+    for lanes in 1..=4 {
+        for nodes in 2 * lanes..=9 {
+            let good = started_lanes(nodes, 1, 0, lanes);
+            assert!(shape_holds(&good));
+            for bad in NO_LANES.into_iter().chain(nodes / 2 + 1..5) {
+                let mut table = good.clone();
+                table[header::LANES] = bad;
+                refused_by_all(&table, 3, "lanes");
+            }
+        }
+    }
+}
+
+/// What was a table before 2026-04, and before 2026-12, is none now.
+#[test]
+fn all_others_3_tables_of_before() {
+    for (header_words, node_words, record_words) in [(8, 3, 10), (8, 4, 12)] {
+        for (nodes, tasks) in (2..=1024).flat_map(|nodes| [1, 2, 16].map(|tasks| (nodes, tasks))) {
+            let words = header_words + node_words * nodes as usize + record_words * tasks as usize;
+            let mut table = vec![0; words];
+            table[..8].copy_from_slice(&[nodes, tasks, 0, 0, 1, 0, tasks - 1, 0]);
+            // The left hat stood where the lanes stand now.
+            for left_hat in 0..5 {
+                table[3] = left_hat;
+                assert_eq!(run(&mut table, &[], &mut []), (3, 0));
+            }
+        }
     }
 }
 
@@ -129,9 +212,8 @@ fn all_others_4_header_and_nodes() {
     let links: &[u32] = &[4, 5, 65_534, 65_536, u32::MAX];
     let mut words = vec![
         (header::DISPATCHED, &[1, 2, u32::MAX][..]),
-        (header::ZERO, &[1, u32::MAX]),
-        (header::LEFT_HAT, &[4, NONE, u32::MAX]),
-        (header::RIGHT_HAT, &[4, NONE, u32::MAX]),
+        (header::ZEROS[0], &[1, NONE, u32::MAX]),
+        (header::ZEROS[1], &[1, NONE, u32::MAX]),
     ];
     for number in 0..4 {
         let at = size.node(number);
@@ -153,6 +235,51 @@ fn all_others_4_header_and_nodes() {
                 assert!(shape_holds(&table), "{content:?}");
             } else {
                 refused_by_all(&table, 4, "content");
+            }
+        }
+    }
+}
+
+/// A hat of a lane in use is any node, and one of another lane is none.
+#[test]
+fn all_others_4_hats() {
+    for lanes in 1..=4 {
+        let good = started_lanes(9, 2, 0, lanes);
+        for (lane, side) in (0..4).flat_map(|lane| [(lane, LEFT), (lane, RIGHT)]) {
+            for hat in (0..12).chain([65_534, NONE, 65_536, u32::MAX]) {
+                let mut table = good.clone();
+                table[header::hat(lane, side)] = hat;
+                let holds = if lane < lanes { hat < 9 } else { hat == NONE };
+                if holds {
+                    assert!(shape_holds(&table), "lane {lane} of {lanes}, {hat}");
+                } else {
+                    refused_by_all(&table, 4, "hat");
+                }
+            }
+        }
+    }
+}
+
+/// The lane of a busy task is one of the lanes; that of an idle one is 0.
+#[test]
+fn all_others_4_lane() {
+    for lanes in 1..=4 {
+        for operation in [PUSH, POP, ADD, REMOVE] {
+            let mut busy = started_lanes(9, 2, 0, lanes);
+            let idle = busy.clone();
+            let argument = u64::from(operation == PUSH);
+            begin(&mut busy, 1, LANE, operation, 1, argument).expect("begin");
+            for lane in (0..6).chain([NONE, u32::MAX]) {
+                for (good, holds) in [(&busy, lane < lanes), (&idle, lane == 0)] {
+                    let mut table = good.clone();
+                    let at = sizes(good).record(1) + record::LANE;
+                    table[at] = lane;
+                    if holds {
+                        assert!(shape_holds(&table), "lane {lane} of {lanes}");
+                    } else {
+                        refused_by_all(&table, 4, "lane");
+                    }
+                }
             }
         }
     }
@@ -196,11 +323,11 @@ fn may_be_pushed([value, digit]: [u32; 2]) -> bool {
 
 #[test]
 fn all_others_4_idle_record() {
-    let good = started(4, 2, 3);
+    let good = started_lanes(4, 2, 3, 2);
     let at = sizes(&good).record(1);
     for offset in 1..record::WORDS {
         let mut table = good.clone();
-        table[at + offset] = if offset < record::A { 1 } else { 0 };
+        table[at + offset] = 1;
         refused_by_all(&table, 4, "idle record");
     }
     let mut table = good;
@@ -225,7 +352,7 @@ fn all_others_4_steps() {
         for &step in &every {
             let mut table = started(4, 1, 1);
             let at = sizes(&table).record(0);
-            begin(&mut table, 0, operation, 1, argument).expect("begin");
+            begin(&mut table, 0, LANE, operation, 1, argument).expect("begin");
             table[at + record::STEP] = step;
             table[at + record::VALUE] = match step {
                 48 => LX,
@@ -273,7 +400,7 @@ fn all_others_4_argument() {
             let mut table = started(4, 1, 0);
             let at = sizes(&table).record(0);
             let argument = u64::from(operation == PUSH);
-            begin(&mut table, 0, operation, side, argument).expect("begin");
+            begin(&mut table, 0, LANE, operation, side, argument).expect("begin");
             table[at + record::ARGUMENT..at + record::COUNTED].copy_from_slice(&content);
             if fits {
                 assert!(shape_holds(&table), "{operation} {content:?}");
@@ -289,7 +416,7 @@ fn begin_7() {
     for (operation, [argument, digit], fits) in arguments() {
         for side in [0, 1] {
             let mut table = started(4, 1, 0);
-            let found = reference::begin(&mut table, 0, operation, side, digit, argument);
+            let found = reference::begin(&mut table, 0, LANE, operation, side, digit, argument);
             let wanted = if fits { Ok(()) } else { Err(7) };
             assert_eq!(found, wanted, "{operation} {digit} {argument}");
         }
@@ -303,8 +430,8 @@ fn all_others_4_side_and_registers() {
             let mut table = started(4, 1, 0);
             let at = sizes(&table).record(0);
             let argument = u64::from(operation == PUSH);
-            begin(&mut table, 0, operation, side, argument).expect("begin");
-            for register in record::A..record::WORDS {
+            begin(&mut table, 0, LANE, operation, side, argument).expect("begin");
+            for register in record::A..=record::D {
                 for (number, holds) in [(0, true), (3, true), (4, false), (65_536, false)] {
                     let mut table = table.clone();
                     table[at + register] = number;
@@ -331,7 +458,7 @@ fn all_others_4_counted() {
                         POP => 0,
                         _ => u64::from(goal),
                     };
-                    begin(&mut table, 0, operation, 1, argument).expect("begin");
+                    begin(&mut table, 0, LANE, operation, 1, argument).expect("begin");
                     table[at + record::STEP] = step;
                     table[at + record::COUNTED] = counted;
                     table[at + record::VALUE] = if step == 48 { LN } else { 1 };
@@ -355,7 +482,7 @@ fn all_others_4_value_read() {
             for content in contents() {
                 let mut table = started(4, 1, 0);
                 let at = sizes(&table).record(0);
-                begin(&mut table, 0, POP, side, 0).expect("begin");
+                begin(&mut table, 0, LANE, POP, side, 0).expect("begin");
                 table[at + record::STEP] = step;
                 table[at + record::VALUE..at + record::A].copy_from_slice(&content);
                 let holds = match (step, side) {
@@ -370,124 +497,170 @@ fn all_others_4_value_read() {
     }
 }
 
-/// The tags of a deque, two of them with one low part and one with none.
+/// The tags of a lane, two of them with one low part and one with none.
 const STANDING: [u64; 3] = [61, 2_000_000_061, 3_000_000_000];
 /// The tag of a busy push beside them.
 const PUSHED: u64 = 4_000_000_051;
 
-/// A table of 6 nodes with these tags in its deque, task 0 in a push and task 1 idle.
-fn standing() -> Vec<u32> {
-    let mut table = started(6, 2, 0);
+/// A table of 8 nodes with these tags in one of its two lanes and none in the other, task 0 in a push on lane 0 and
+/// task 1 idle.
+fn standing(lane: u32) -> Vec<u32> {
+    let mut table = started_lanes(8, 2, 0, 2);
     #[rustfmt::skip]
-    table[8..8 + 4 * 5].copy_from_slice(&[
+    table[16..16 + 4 * 8].copy_from_slice(&[
         NONE, 1, LX, 0,
         0, 2, 61, 0,
         1, 3, 61, 2,
         2, 4, 0, 3,
         3, NONE, RX, 0,
+        NONE, NONE, 0, 0,
+        NONE, 7, LX, 0,
+        6, NONE, RX, 0,
     ]);
-    table[header::RIGHT_HAT] = 4;
-    assert_eq!(tags(&table), Ok(STANDING.to_vec()));
-    begin(&mut table, 0, PUSH, 1, PUSHED).expect("begin");
+    for (lane, hats) in [(lane, [0, 4]), (1 - lane, [6, 7])] {
+        let at = header::hat(lane, LEFT);
+        table[at..at + 2].copy_from_slice(&hats);
+    }
+    assert_eq!(tags(&table, lane), Ok(STANDING.to_vec()));
+    assert_eq!(tags(&table, 1 - lane), Ok(vec![]));
+    begin(&mut table, 0, 0, PUSH, 1, PUSHED).expect("begin");
     table
 }
 
-/// A link each that leaves this deque without an end: the hat's, the last tag's, and two that lead back.
-const UNREADABLE: [(usize, u32); 4] = [
-    (8 + 1, NONE),
-    (8 + 4 * 3 + 1, NONE),
-    (8 + 4 + 1, 1),
-    (8 + 4 * 3 + 1, 2),
+/// A link each that leaves a lane without an end: of the lane with the tags the hat's, the last tag's, and two that
+/// lead back; of the other lane the hat's.
+const UNREADABLE: [(usize, u32); 5] = [
+    (16 + 1, NONE),
+    (16 + 4 * 3 + 1, NONE),
+    (16 + 4 + 1, 1),
+    (16 + 4 * 3 + 1, 2),
+    (16 + 4 * 6 + 1, NONE),
 ];
 
 #[test]
 fn begin_in_order() {
-    for (chosen, first) in subsets(&[3, 4, 5, 6, 7, 11, 16, 8]) {
-        // Ways to be refused with 6, with 11 and with 16.
-        let bad_calls = [(5, 1), (0, 1), (PUSH, 2), (u32::MAX, u32::MAX)];
-        for (way, (bad_operation, bad_side)) in bad_calls.into_iter().enumerate() {
-            let mut table = standing();
-            let (word, link) = UNREADABLE[way];
-            if chosen.contains(&11) {
-                table[word] = link;
+    for (chosen, first) in subsets(&[3, 4, 26, 5, 6, 7, 11, 16, 8]) {
+        // Ways to be refused with 26, with 6, with 11 and with 16, for pushes on the lane of the tags and on the other.
+        let bad_calls = [
+            (2, 5, 1),
+            (3, 0, 1),
+            (4, REMOVE, u32::MAX),
+            (NONE, PUSH, 2),
+            (u32::MAX, u32::MAX, u32::MAX),
+        ];
+        for (way, (bad_lane, bad_operation, bad_side)) in bad_calls.into_iter().enumerate() {
+            for (tags_lane, push_lane) in [(0, 0), (0, 1), (1, 0), (1, 1)] {
+                let mut table = standing(tags_lane);
+                let (word, link) = UNREADABLE[way];
+                if chosen.contains(&11) {
+                    table[word] = link;
+                }
+                if chosen.contains(&4) {
+                    table[header::ZEROS[0]] = 1;
+                }
+                if chosen.contains(&3) {
+                    table.push(0);
+                }
+                let before = table.clone();
+                let lane = if chosen.contains(&26) {
+                    bad_lane
+                } else {
+                    push_lane
+                };
+                let busy = u32::from(!chosen.contains(&8));
+                let task = if chosen.contains(&5) { 2 } else { busy };
+                let (operation, side) = if chosen.contains(&6) {
+                    (bad_operation, bad_side)
+                } else {
+                    (PUSH, 1)
+                };
+                // Of those that are nowhere, some share a low part with one that is somewhere.
+                let arguments = match (chosen.contains(&7), chosen.contains(&16)) {
+                    (true, _) => [0, MAX_TAG + 1, 0, MAX_TAG + 1, 0],
+                    (false, true) => {
+                        let [one, two, three] = STANDING;
+                        [PUSHED, one, two, three, one]
+                    }
+                    (false, false) => [51, 1_000_000_061, 9_000_000_000, 52, 53],
+                };
+                let argument = arguments[way];
+                let found = begin(&mut table, task, lane, operation, side, argument);
+                assert_eq!(found, Err(first), "{chosen:?}");
+                assert_eq!(table, before, "{chosen:?}");
             }
-            if chosen.contains(&4) {
-                table[header::ZERO] = 1;
-            }
-            if chosen.contains(&3) {
-                table.push(0);
-            }
-            let before = table.clone();
-            let busy = u32::from(!chosen.contains(&8));
-            let task = if chosen.contains(&5) { 2 } else { busy };
-            let (operation, side) = if chosen.contains(&6) {
-                (bad_operation, bad_side)
-            } else {
-                (PUSH, 1)
-            };
-            // Of those that are nowhere, some share a low part with one that is somewhere.
-            let arguments = match (chosen.contains(&7), chosen.contains(&16)) {
-                (true, _) => [0, MAX_TAG + 1, 0, MAX_TAG + 1],
-                (false, true) => [PUSHED, STANDING[0], STANDING[1], STANDING[2]],
-                (false, false) => [51, 1_000_000_061, 9_000_000_000, 52],
-            };
-            let argument = arguments[way];
-            let found = begin(&mut table, task, operation, side, argument);
-            assert_eq!(found, Err(first), "{chosen:?}");
-            assert_eq!(table, before, "{chosen:?}");
         }
     }
     let mut table = faulty(&[]);
-    assert_eq!(begin(&mut table, 1, PUSH, 1, 52), Ok(()));
-    assert_eq!(begin(&mut table, 1, PUSH, 1, 53), Err(8));
+    assert_eq!(begin(&mut table, 1, LANE, PUSH, 1, 52), Ok(()));
+    assert_eq!(begin(&mut table, 1, LANE, PUSH, 1, 53), Err(8));
 }
 
-/// What a push of each tag is refused with on a task, or 0.
+#[test]
+fn begin_and_read_26() {
+    for lanes in 1..=4 {
+        let good = started_lanes(9, 1, 0, lanes);
+        for lane in (0..9).chain([NONE, u32::MAX]) {
+            let wanted = if lane < lanes { Ok(()) } else { Err(26) };
+            for (operation, argument) in [(PUSH, 51), (POP, 0), (ADD, 1), (REMOVE, 1)] {
+                let mut table = good.clone();
+                let found = begin(&mut table, 0, lane, operation, 1, argument);
+                assert_eq!(found, wanted, "lane {lane} of {lanes}");
+                assert_eq!(table == good, found.is_err(), "lane {lane} of {lanes}");
+            }
+            let found = tags(&good, lane);
+            assert_eq!(found, wanted.map(|()| vec![]), "lane {lane} of {lanes}");
+        }
+    }
+}
+
+/// What a push of each tag is refused with on a task, or 0: the same at both sides of every lane.
 fn pushes(table: &[u32], task: u32, tags: &[u64]) -> Vec<u32> {
+    let ends = (0..table[header::LANES]).flat_map(|lane| [(lane, LEFT), (lane, RIGHT)]);
     let push = |&tag: &u64| {
-        let given = [0, 1].map(|side| {
+        let mut given = ends.clone().map(|(lane, side)| {
             let mut lent = table.to_vec();
-            let found = begin(&mut lent, task, PUSH, side, tag);
+            let found = begin(&mut lent, task, lane, PUSH, side, tag);
             assert_eq!(found.is_err(), lent == table, "{tag}");
             found.err().unwrap_or(0)
         });
-        assert_eq!(given[0], given[1], "{tag}");
-        given[0]
+        let first = given.next().expect("a lane");
+        assert!(given.all(|number| number == first), "{tag}");
+        first
     };
     tags.iter().map(push).collect()
 }
 
 #[test]
-fn begin_16_in_the_deque() {
-    let table = standing();
-    assert_eq!(pushes(&table, 1, &STANDING), [16, 16, 16]);
-    assert_eq!(pushes(&table, 0, &STANDING), [16, 16, 16]);
-    assert_eq!(pushes(&table, 1, &[1, 60, 62, MAX_TAG]), [0; 4]);
-    // Whole tags are compared, and not their digits or low parts.
-    let others = [1_000_000_061, 3_000_000_061, 2_000_000_060, 2_000_000_000];
-    assert_eq!(pushes(&table, 1, &others), [0; 4]);
-    // A tag in a node outside of it, and one in the left hat's node, are not in it.
-    let mut table = table;
-    table[8 + 4 * 5 + 2] = 70;
-    table[8 + 2] = 71;
-    assert_eq!(pushes(&table, 1, &[70, 71, 61]), [0, 0, 16]);
-    // V 0 with its digit is in it; without, it ends it.
-    table[8 + 4 * 2 + 2] = 0;
-    let [first, second, third] = STANDING;
-    let known = [first, second, 2_000_000_000, third];
-    assert_eq!(pushes(&table, 1, &known), [16, 0, 16, 16]);
-    table[8 + 4 * 2 + 3] = 0;
-    assert_eq!(pushes(&table, 1, &known), [16, 0, 0, 0]);
+fn begin_16_in_a_lane() {
+    for mut table in [0, 1].map(standing) {
+        assert_eq!(pushes(&table, 1, &STANDING), [16, 16, 16]);
+        assert_eq!(pushes(&table, 0, &STANDING), [16, 16, 16]);
+        assert_eq!(pushes(&table, 1, &[1, 60, 62, MAX_TAG]), [0; 4]);
+        // Whole tags are compared, and not their digits or low parts.
+        let others = [1_000_000_061, 3_000_000_061, 2_000_000_060, 2_000_000_000];
+        assert_eq!(pushes(&table, 1, &others), [0; 4]);
+        // A tag in a node outside of it, and one in the left hat's node, are not in it.
+        table[16 + 4 * 5 + 2] = 70;
+        table[16 + 2] = 71;
+        assert_eq!(pushes(&table, 1, &[70, 71, 61]), [0, 0, 16]);
+        // V 0 with its digit is in it; without, it ends it.
+        table[16 + 4 * 2 + 2] = 0;
+        let [first, second, third] = STANDING;
+        let known = [first, second, 2_000_000_000, third];
+        assert_eq!(pushes(&table, 1, &known), [16, 0, 16, 16]);
+        table[16 + 4 * 2 + 3] = 0;
+        assert_eq!(pushes(&table, 1, &known), [16, 0, 0, 0]);
+    }
 }
 
 #[test]
 fn begin_16_of_a_busy_push() {
     let tags = [1_000_000_051, 51, 2_000_000_051, 1_000_000_000];
     for step in steps_of(PUSH) {
-        for side in [0, 1] {
-            let mut table = started(4, 3, 1);
+        for (lane, side) in [(0, LEFT), (0, RIGHT), (1, LEFT), (1, RIGHT)] {
+            let mut table = started_lanes(6, 3, 1, 2);
             let at = sizes(&table).record(1);
-            begin(&mut table, 1, PUSH, side, tags[0]).expect("begin");
+            begin(&mut table, 1, lane, PUSH, side, tags[0]).expect("begin");
             table[at + record::STEP] = step;
             assert!(shape_holds(&table), "{step}");
             assert_eq!(pushes(&table, 0, &tags), [16, 0, 0, 0], "{step}");
@@ -498,9 +671,9 @@ fn begin_16_of_a_busy_push() {
     }
     // Arguments of adds and removes are no tags, and neither is what a pop has read.
     for (operation, argument) in [(ADD, 51), (REMOVE, 51), (POP, 0)] {
-        let mut table = started(4, 2, 0);
+        let mut table = started_lanes(4, 2, 0, 2);
         let at = sizes(&table).record(0);
-        begin(&mut table, 0, operation, 1, argument).expect("begin");
+        begin(&mut table, 0, 1, operation, 1, argument).expect("begin");
         table[at + record::VALUE] = 51;
         assert_eq!(pushes(&table, 1, &[51]), [0], "{operation}");
         assert_eq!(pushes(&table, 0, &[51]), [8], "{operation}");
@@ -509,38 +682,42 @@ fn begin_16_of_a_busy_push() {
 
 #[test]
 fn begin_16_until_the_answer() {
-    let mut table = started(3, 2, 0);
-    // Pushed: from the begin to the pop's answer.
-    begin(&mut table, 0, PUSH, 1, 51).expect("begin");
-    while tick(&mut table, 0, 0) == Ok(Answer::Going) {
-        assert_eq!(pushes(&table, 1, &[51]), [16]);
+    for (lanes, lane) in [(1, 0), (2, 0), (2, 1)] {
+        let mut table = started_lanes(2 * lanes + 1, 2, 0, lanes);
+        // Pushed: from the begin to the pop's answer.
+        begin(&mut table, 0, lane, PUSH, 1, 51).expect("begin");
+        while tick(&mut table, 0, 0) == Ok(Answer::Going) {
+            assert_eq!(pushes(&table, 1, &[51]), [16]);
+        }
+        assert_eq!(tags(&table, lane), Ok(vec![51]));
+        begin(&mut table, 0, lane, POP, 0, 0).expect("begin");
+        for _ in 0..3 {
+            assert_eq!(tick(&mut table, 0, 0), Ok(Answer::Going));
+            assert_eq!(pushes(&table, 1, &[51]), [16]);
+        }
+        assert_eq!(tick(&mut table, 0, 0), Ok(Answer::Bag(51)));
+        assert_eq!(pushes(&table, 1, &[51]), [0]);
+        // Full: to its answer.
+        let mut table = started_lanes(2 * lanes, 2, 0, lanes);
+        begin(&mut table, 0, lane, PUSH, 1, 51).expect("begin");
+        for _ in 0..3 {
+            assert_eq!(tick(&mut table, 0, 0), Ok(Answer::Going));
+            assert_eq!(pushes(&table, 1, &[51]), [16]);
+        }
+        assert_eq!(tick(&mut table, 0, 0), Ok(Answer::Full));
+        assert_eq!(pushes(&table, 1, &[51]), [0]);
     }
-    assert_eq!(tags(&table), Ok(vec![51]));
-    begin(&mut table, 0, POP, 0, 0).expect("begin");
-    for _ in 0..3 {
-        assert_eq!(tick(&mut table, 0, 0), Ok(Answer::Going));
-        assert_eq!(pushes(&table, 1, &[51]), [16]);
-    }
-    assert_eq!(tick(&mut table, 0, 0), Ok(Answer::Bag(51)));
-    assert_eq!(pushes(&table, 1, &[51]), [0]);
-    // Full: to its answer.
-    let mut table = started(2, 2, 0);
-    begin(&mut table, 0, PUSH, 1, 51).expect("begin");
-    for _ in 0..3 {
-        assert_eq!(tick(&mut table, 0, 0), Ok(Answer::Going));
-        assert_eq!(pushes(&table, 1, &[51]), [16]);
-    }
-    assert_eq!(tick(&mut table, 0, 0), Ok(Answer::Full));
-    assert_eq!(pushes(&table, 1, &[51]), [0]);
 }
 
 #[test]
 fn begin_11_before_16() {
-    for (word, link) in UNREADABLE {
-        let mut table = standing();
+    for ((word, link), lane) in UNREADABLE.into_iter().flat_map(|way| [(way, 0), (way, 1)]) {
+        let mut table = standing(lane);
         table[word] = link;
         assert!(shape_holds(&table));
-        assert_eq!(tags(&table), Err(11));
+        let found = [0, 1].map(|lane| tags(&table, lane));
+        let (ends, no_end): (Vec<_>, Vec<_>) = found.into_iter().partition(Result::is_ok);
+        assert_eq!((ends.len(), no_end), (1, vec![Err(11)]));
         // Whether the tag is a busy push's, or met before the fault, or nowhere; on an idle and on a busy task.
         for task in [0, 1] {
             assert_eq!(pushes(&table, task, &STANDING), [11; 3]);
@@ -549,9 +726,9 @@ fn begin_11_before_16() {
         }
         // The others walk nothing.
         for (operation, argument) in [(POP, 0), (ADD, 1), (REMOVE, 1)] {
-            assert_eq!(begin(&mut table, 0, operation, 1, argument), Err(8));
+            assert_eq!(begin(&mut table, 0, lane, operation, 1, argument), Err(8));
             let mut table = table.clone();
-            assert_eq!(begin(&mut table, 1, operation, 1, argument), Ok(()));
+            assert_eq!(begin(&mut table, 1, lane, operation, 1, argument), Ok(()));
         }
     }
 }
@@ -566,12 +743,13 @@ fn begin_writes_its_record_only() {
         (ADD, 0, 64, 28),
         (REMOVE, 0, 1023, 54),
     ] {
-        for side in [0, 1] {
-            let mut table = started(4, 3, 2);
+        for (lane, side) in (0..4).flat_map(|lane| [(lane, LEFT), (lane, RIGHT)]) {
+            let mut table = started_lanes(8, 3, 2, 4);
             let mut wanted = table.clone();
             let at = sizes(&table).record(1);
             wanted[at..at + 5].copy_from_slice(&[operation, step, side, argument, digit]);
-            let found = reference::begin(&mut table, 1, operation, side, digit, argument);
+            wanted[at + 12] = lane;
+            let found = reference::begin(&mut table, 1, lane, operation, side, digit, argument);
             assert_eq!(found, Ok(()));
             assert_eq!(table, wanted);
         }
@@ -583,10 +761,10 @@ fn tick_in_order() {
     for (chosen, first) in subsets(&[3, 4, 5, 9, 10, 11]) {
         let mut table = faulty(&chosen);
         if chosen.contains(&10) {
-            let at = 8 + 4 * 4;
+            let at = 16 + 4 * 4;
             table[at..at + record::WORDS].copy_from_slice(&record::FRESH);
         } else if !chosen.contains(&11) {
-            table[8 + 4 * 4 + record::A] = 1;
+            table[16 + 4 * 4 + record::A] = 1;
         }
         let before = table.clone();
         let task = if chosen.contains(&5) { 2 } else { 0 };
@@ -663,7 +841,7 @@ fn tick_11_at_every_step() {
                 let mut table = started(nodes, 1, 1);
                 let at = sizes(&table).record(0);
                 let argument = if operation == POP { 0 } else { 1 };
-                begin(&mut table, 0, operation, side, argument).expect("begin");
+                begin(&mut table, 0, LANE, operation, side, argument).expect("begin");
                 table[at + record::STEP] = step;
                 table[at + record::VALUE] = match (step, side) {
                     (48, 0) => RX,
@@ -701,15 +879,16 @@ fn steps_of_the_register_table_are_all_steps() {
 
 #[test]
 fn read_in_order() {
-    for (chosen, first) in subsets(&[3, 4, 11, 12]) {
+    for (chosen, first) in subsets(&[3, 4, 26, 11, 12]) {
         let mut table = faulty(&chosen);
         // Two tags, then the right sentinel or a way back.
         let last = if chosen.contains(&11) { 1 } else { 3 };
-        table[8 + 4..8 + 4 * 4].copy_from_slice(&[0, 2, 51, 0, 1, last, 0, 9, 2, NONE, RX, 0]);
-        table[header::RIGHT_HAT] = 3;
+        table[16 + 4..16 + 4 * 4].copy_from_slice(&[0, 2, 51, 0, 1, last, 0, 9, 2, NONE, RX, 0]);
+        table[header::hat(LANE, RIGHT)] = 3;
+        let lane = if chosen.contains(&26) { 1 } else { LANE };
         let length = if chosen.contains(&12) { 3 } else { 4 };
         let mut out = vec![6; length];
-        assert_eq!(read(&table, &mut out), Err(first), "{chosen:?}");
+        assert_eq!(read(&table, lane, &mut out), Err(first), "{chosen:?}");
         assert_eq!(out, vec![6; length], "{chosen:?}");
     }
 }
@@ -718,8 +897,8 @@ fn read_in_order() {
 fn read_11_and_12() {
     let mut table = started(4, 1, 0);
     let mut read_nodes = |nodes: [[u32; 4]; 4], out: &mut [u32]| {
-        table[8..8 + 16].copy_from_slice(nodes.as_flattened());
-        read(&table, out)
+        table[16..16 + 16].copy_from_slice(nodes.as_flattened());
+        read(&table, LANE, out)
     };
     let (hat, end) = ([NONE, 1, LX, 0], [2, NONE, RX, 0]);
     let (one, two, three) = ([0, 2, 51, 0], [1, 3, 0, 9], [2, 0, 53, 1]);
@@ -757,7 +936,7 @@ fn run_in_order() {
     for (chosen, first) in subsets(&[3, 4, 13, 14]) {
         for odd in [true, false] {
             let mut table = faulty(&chosen);
-            table[8 + 4 * 4 + record::A] = 1;
+            table[16 + 4 * 4 + record::A] = 1;
             let before = table.clone();
             let length = match (chosen.contains(&13), odd) {
                 (true, true) => 3,
@@ -768,7 +947,7 @@ fn run_in_order() {
             let room = 3 * (length / 2) - usize::from(chosen.contains(&14));
             let mut answers = vec![6; room];
             let found = run(&mut table, &list, &mut answers);
-            assert_eq!(found, (0, first), "{chosen:?}");
+            assert_eq!(found, (first, 0), "{chosen:?}");
             assert_eq!(table, before, "{chosen:?}");
             assert_eq!(answers, vec![6; room], "{chosen:?}");
         }
@@ -780,7 +959,7 @@ fn panel_in_order() {
     for (chosen, first) in subsets(&[3, 4, 13, 15, 14]) {
         for odd in [true, false] {
             let mut table = faulty(&chosen);
-            table[8 + 4 * 4 + record::A] = 1;
+            table[16 + 4 * 4 + record::A] = 1;
             let before = table.clone();
             let length = match (chosen.contains(&13), chosen.contains(&15), odd) {
                 (true, true, true) => 65,
@@ -797,7 +976,7 @@ fn panel_in_order() {
             };
             let mut answers = vec![6; room];
             let found = panel(&mut table, &list, &mut answers);
-            assert_eq!(found, (0, first), "{chosen:?}");
+            assert_eq!(found, (first, 0), "{chosen:?}");
             assert_eq!(table, before, "{chosen:?}");
             assert_eq!(answers, vec![6; room], "{chosen:?}");
         }
@@ -811,9 +990,9 @@ fn panel_runs_short_schedules() {
         let exact: usize = 3 * (length / 2);
         for room in [0, 1, exact.saturating_sub(1), exact, exact + 2] {
             let mut table = started(4, 1, 0);
-            begin(&mut table, 0, POP, 1, 0).expect("begin");
+            begin(&mut table, 0, LANE, POP, 1, 0).expect("begin");
             // Without a way inward the pop goes round for ever.
-            table[8 + 4] = NONE;
+            table[16 + 4] = NONE;
             let mut other = table.clone();
             let list = vec![0; length];
             let mut answers = vec![6; room];
@@ -822,7 +1001,7 @@ fn panel_runs_short_schedules() {
             assert_eq!(found, run(&mut other, &list, &mut others));
             assert_eq!((table, answers), (other, others));
             if length == 64 && room >= exact {
-                assert_eq!(found, (32, 0));
+                assert_eq!(found, (0, 32));
             }
         }
     }
@@ -832,20 +1011,20 @@ fn panel_runs_short_schedules() {
 fn run_stops_at_the_first_refused_tick() {
     for (pair, number) in [([2, 9], 5), ([1, 4], 9), ([1, 0], 10)] {
         let mut table = started(4, 2, 0);
-        begin(&mut table, 0, PUSH, 1, 51).expect("begin");
+        begin(&mut table, 0, LANE, PUSH, 1, 51).expect("begin");
         let mut wanted = table.clone();
         for _ in 0..2 {
             assert_eq!(tick(&mut wanted, 0, 0), Ok(Answer::Going));
         }
         let list = [0, 0, 0, 0, pair[0], pair[1], 0, 0];
         let mut answers = [6; 13];
-        assert_eq!(run(&mut table, &list, &mut answers), (2, number));
+        assert_eq!(run(&mut table, &list, &mut answers), (number, 2));
         assert_eq!(table, wanted);
         assert_eq!(answers, [0, 0, 0, 0, 0, 0, 6, 6, 6, 6, 6, 6, 6]);
     }
     // A register that is none, met in the third tick.
     let mut table = started(4, 1, 0);
-    begin(&mut table, 0, ADD, 1, 0).expect("begin");
+    begin(&mut table, 0, LANE, ADD, 1, 0).expect("begin");
     let at = sizes(&table).record(0);
     table[at + record::STEP] = 15;
     let mut wanted = table.clone();
@@ -853,7 +1032,7 @@ fn run_stops_at_the_first_refused_tick() {
         assert_eq!(tick(&mut wanted, 0, 0), Ok(Answer::Going));
     }
     let mut answers = [6; 12];
-    assert_eq!(run(&mut table, &[0; 8], &mut answers), (2, 11));
+    assert_eq!(run(&mut table, &[0; 8], &mut answers), (11, 2));
     assert_eq!(table, wanted);
     assert_eq!(answers, [0, 0, 0, 0, 0, 0, 6, 6, 6, 6, 6, 6]);
 }
@@ -861,12 +1040,12 @@ fn run_stops_at_the_first_refused_tick() {
 #[test]
 fn run_takes_the_longest_schedule() {
     let mut table = started(4, 1, 0);
-    begin(&mut table, 0, POP, 1, 0).expect("begin");
+    begin(&mut table, 0, LANE, POP, 1, 0).expect("begin");
     // Without a way inward the pop goes round for ever.
-    table[8 + 4] = NONE;
+    table[16 + 4] = NONE;
     table[header::TICKS] = u32::MAX - 95;
     let mut answers = vec![6; 3 * 4096];
-    assert_eq!(run(&mut table, &vec![0; 8192], &mut answers), (4096, 0));
+    assert_eq!(run(&mut table, &vec![0; 8192], &mut answers), (0, 4096));
     assert!(answers.iter().all(|&word| word == 0));
     // The tick count went round to 0 on the way.
     assert_eq!(table[header::TICKS], 4000);
@@ -886,15 +1065,15 @@ fn run_writes_the_number_of_each_answer() {
     assert_eq!(words(Answer::No), [6, 0, 0]);
 
     let mut table = started(4, 2, 0);
-    begin(&mut table, 0, PUSH, 1, 7_000_000_051).expect("begin");
-    begin(&mut table, 1, POP, 0, 0).expect("begin");
+    begin(&mut table, 0, LANE, PUSH, 1, 7_000_000_051).expect("begin");
+    begin(&mut table, 1, LANE, POP, 0, 0).expect("begin");
     let list: Vec<u32> = [0; 11]
         .iter()
         .chain(&[1; 4])
         .flat_map(|&task| [task, 0])
         .collect();
     let mut answers = [6; 45];
-    assert_eq!(run(&mut table, &list, &mut answers), (15, 0));
+    assert_eq!(run(&mut table, &list, &mut answers), (0, 15));
     let mut wanted = [0; 45];
     wanted[30] = 1;
     wanted[42..].copy_from_slice(&[2, 7, 51]);

@@ -6,20 +6,17 @@ mod common;
 use common::calls::{begin, call, to_answer, Call};
 use common::free::{first, free};
 use common::paths::{Needed, STEPS};
-use common::tables::{sizes, started, steps_of};
-use reference::table::{node, record, ADD, LX, POP, PUSH, REMOVE, RX};
+use common::tables::{sizes, started, steps_of, LANE};
+use reference::table::{node, record, ADD, LEFT, LX, POP, PUSH, REMOVE, RIGHT, RX};
 use reference::{read, tick, Answer};
 use Answer::{Bag, Empty, Full, Going, No, Pushed, Yes};
 
-const LEFT: u32 = 0;
-const RIGHT: u32 = 1;
-
-const ADD_RIGHT: Option<Call> = Some((ADD, RIGHT, 0));
-const ADD_RIGHT_TWO: Option<Call> = Some((ADD, RIGHT, 1));
-const ADD_LEFT_TWO: Option<Call> = Some((ADD, LEFT, 1));
-const REMOVE_RIGHT: Option<Call> = Some((REMOVE, RIGHT, 0));
-const PUSH_RIGHT: Option<Call> = Some((PUSH, RIGHT, 51));
-const PUSH_LEFT: Option<Call> = Some((PUSH, LEFT, 52));
+const ADD_RIGHT: Option<Call> = Some((LANE, ADD, RIGHT, 0));
+const ADD_RIGHT_TWO: Option<Call> = Some((LANE, ADD, RIGHT, 1));
+const ADD_LEFT_TWO: Option<Call> = Some((LANE, ADD, LEFT, 1));
+const REMOVE_RIGHT: Option<Call> = Some((LANE, REMOVE, RIGHT, 0));
+const PUSH_RIGHT: Option<Call> = Some((LANE, PUSH, RIGHT, 51));
+const PUSH_LEFT: Option<Call> = Some((LANE, PUSH, LEFT, 52));
 
 /// A task begins a call, or goes on with its own; it gets so many ticks, and the last of them gives this.
 type Part = (u32, Option<Call>, u32, Answer);
@@ -88,8 +85,8 @@ fn step(table: &[u32], task: u32) -> u32 {
 
 /// Ticks of a part; by both rules they take the same nodes, so that they are the same ticks.
 fn play(table: &mut [u32], needed: &Needed, (task, call, ticks, answer): Part) {
-    if let Some((operation, side, argument)) = call {
-        begin(table, task, operation, side, argument).expect("begin");
+    if let Some((lane, operation, side, argument)) = call {
+        begin(table, task, lane, operation, side, argument).expect("begin");
     }
     for number in 1..=ticks {
         if matches!(step(table, task), 28 | 31) {
@@ -126,28 +123,28 @@ fn full_by_all_four_registers_and_not_now() {
 /// slots removed behind them. From each slot that was cut off a link leads to the next, so that A holds them all.
 fn bags_pass(slots: u32) -> Vec<u32> {
     let mut table = started(slots, 2, 0);
-    begin(&mut table, 1, POP, LEFT, 0).expect("begin");
+    begin(&mut table, 1, LANE, POP, LEFT, 0).expect("begin");
     assert_eq!(tick(&mut table, 1, 0), Ok(Going));
     for bag in 1..=slots - 2 {
         let tag = u64::from(bag);
-        assert_eq!(call(&mut table, 0, (PUSH, RIGHT, tag)), Pushed);
-        assert_eq!(call(&mut table, 0, (POP, LEFT, 0)), Bag(tag));
+        assert_eq!(call(&mut table, 0, (LANE, PUSH, RIGHT, tag)), Pushed);
+        assert_eq!(call(&mut table, 0, (LANE, POP, LEFT, 0)), Bag(tag));
         // One slot too many is left standing, two are cut off.
         let removed = if bag % 2 == 1 { No } else { Yes };
-        assert_eq!(call(&mut table, 0, (REMOVE, LEFT, 0)), removed);
+        assert_eq!(call(&mut table, 0, (LANE, REMOVE, LEFT, 0)), removed);
     }
     assert_eq!(step(&table, 1), 40);
-    assert_eq!(read(&table, &mut []), Ok(0));
+    assert_eq!(read(&table, LANE, &mut []), Ok(0));
     table
 }
 
 /// Nothing that the other task does makes a node free.
 fn full_at_both_ends(table: &mut [u32]) {
     for side in [LEFT, RIGHT] {
-        assert_eq!(call(table, 0, (PUSH, side, 51)), Full);
-        assert_eq!(call(table, 0, (ADD, side, 0)), No);
-        assert_eq!(call(table, 0, (POP, side, 0)), Empty);
-        assert_eq!(call(table, 0, (REMOVE, side, 0)), Yes);
+        assert_eq!(call(table, 0, (LANE, PUSH, side, 51)), Full);
+        assert_eq!(call(table, 0, (LANE, ADD, side, 0)), No);
+        assert_eq!(call(table, 0, (LANE, POP, side, 0)), Empty);
+        assert_eq!(call(table, 0, (LANE, REMOVE, side, 0)), Yes);
     }
 }
 
@@ -159,9 +156,9 @@ fn a_stalled_pop_keeps_all_nodes_until_its_answer() {
         full_at_both_ends(&mut table);
         assert_eq!(to_answer(&mut table, 1), Empty);
         for tag in 1..=u64::from(slots - 2) {
-            assert_eq!(call(&mut table, 0, (PUSH, RIGHT, tag)), Pushed);
+            assert_eq!(call(&mut table, 0, (LANE, PUSH, RIGHT, tag)), Pushed);
         }
-        assert_eq!(call(&mut table, 0, (PUSH, RIGHT, 51)), Full);
+        assert_eq!(call(&mut table, 0, (LANE, PUSH, RIGHT, 51)), Full);
     }
 }
 
@@ -186,7 +183,7 @@ fn standing(operation: u32, step: u32, side: u32, register: usize) -> Vec<u32> {
         POP => 0,
         _ => 1,
     };
-    begin(&mut table, 0, operation, side, argument).expect("begin");
+    begin(&mut table, 0, LANE, operation, side, argument).expect("begin");
     let at = sizes.record(0);
     table[at + record::STEP] = step;
     table[at + record::VALUE] = match (step, side) {
@@ -207,7 +204,7 @@ fn a_register_holds_exactly_where_a_path_uses_it() {
             for register in record::A..=record::D {
                 for side in [LEFT, RIGHT] {
                     let mut table = standing(operation, step, side, register);
-                    begin(&mut table, 1, ADD, side, 0).expect("begin");
+                    begin(&mut table, 1, LANE, ADD, side, 0).expect("begin");
                     let held = needed.holds(step, register);
                     let answer = if held { No } else { Going };
                     let at = (operation, step, side, register);

@@ -1,4 +1,4 @@
-//! Random call lists against a plain row that sees only arguments and answers.
+//! Random call lists against plain rows, one for each lane, that see only arguments and answers.
 
 mod common;
 
@@ -6,19 +6,24 @@ use std::collections::BTreeMap;
 
 use common::random::Random;
 use common::row::{Note, Row};
-use common::tables::started;
-use reference::table::{header, record, tag, Sizes, ADD, POP, PUSH, REMOVE};
+use common::tables::started_lanes;
+use reference::table::{header, record, tag, Sizes, ADD, LEFT, POP, PUSH, REMOVE};
 use reference::{begin, dispatch, panel, run, start, tick, Answer};
-
-const LEFT: u32 = 0;
 
 /// What a list of calls came across, so that a test cannot pass on nothing.
 #[derive(Default)]
 struct Seen {
-    /// By side and step.
-    steps: BTreeMap<(u32, u32), u32>,
+    /// By lane, side and step.
+    steps: BTreeMap<(u32, u32, u32), u32>,
     answers: [u32; 7],
     longest: usize,
+    /// The most lanes that had tags at one time.
+    filled: usize,
+    /// Begins on a lane that there is not.
+    no_lane: u32,
+    /// Pushes answered "full" on a lane that was empty, and pushes refused for a tag that only another lane had.
+    full_empty: u32,
+    other_lane: u32,
     stopped_runs: u32,
     no_node: u32,
     /// Dispatches with every task idle, and the most that a busy task waited for its own.
@@ -34,6 +39,8 @@ struct Player {
     random: Random,
     table: Vec<u32>,
     sizes: Sizes,
+    /// The most lanes that a later start may ask for.
+    most_lanes: u32,
     row: Row,
     next_tag: u32,
     /// Tags that were popped.
@@ -47,12 +54,19 @@ struct Player {
 }
 
 impl Player {
-    fn new(seed: u64, nodes: u32, tasks: u32, growth: u32) -> Player {
+    fn new(seed: u64, sizes: Sizes) -> Player {
+        let Sizes {
+            nodes,
+            tasks,
+            growth,
+            lanes,
+        } = sizes;
         Player {
             random: Random::new(seed),
-            table: started(nodes, tasks, growth),
-            sizes: Sizes::new(nodes, tasks, growth).expect("sizes in range"),
-            row: Row::new(tasks),
+            table: started_lanes(nodes, tasks, growth, lanes),
+            sizes,
+            most_lanes: lanes,
+            row: Row::new(tasks, lanes),
             next_tag: 0,
             past: Vec::new(),
             favourite: 0,
@@ -77,7 +91,8 @@ impl Player {
             80..=86 => self.run(),
             87..=90 => {
                 let length = self.random.below(2 * self.sizes.nodes + 2) as usize;
-                self.row.check_short(&self.table, length);
+                let lane = self.random.below(self.sizes.lanes + 1);
+                self.row.check_short(&self.table, lane, length);
             }
             91 => self.refused_start(),
             92 if self.random.once_in(2) => self.spur(),
@@ -88,7 +103,13 @@ impl Player {
             _ => self.favourite = self.random.below(self.sizes.tasks),
         }
         self.row.check(&self.table);
-        self.seen.longest = self.seen.longest.max(self.row.tags.len());
+        let lengths = self.row.tags.iter().map(|tags| tags.len());
+        // Each lane keeps two nodes that hold no tag.
+        let most = self.sizes.nodes - 2 * self.sizes.lanes;
+        assert!(lengths.clone().sum::<usize>() <= most as usize);
+        let filled = lengths.clone().filter(|&length| length > 0).count();
+        self.seen.longest = lengths.fold(self.seen.longest, usize::max);
+        self.seen.filled = self.seen.filled.max(filled);
     }
 
     fn begin(&mut self) {
@@ -115,8 +136,10 @@ impl Player {
             self.churn_side
         };
         if wild {
+            let lane = self.random.below(self.sizes.lanes + 2);
             let (digit, argument) = (self.random.digit(), self.random.word());
             let note = Note {
+                lane,
                 operation,
                 side,
                 digit,
@@ -125,20 +148,22 @@ impl Player {
             self.begin_note(task, note);
             return;
         }
+        let lane = self.lane();
         let argument = match operation {
             PUSH => self.any_tag(),
             POP => 0,
             _ => self.random.pick(&[0, 0, 1, 2, 3]),
         };
-        self.begin_with(task, operation, side, argument);
+        self.begin_note(task, Note::new(lane, operation, side, argument));
     }
 
-    fn begin_with(&mut self, task: u32, operation: u32, side: u32, argument: u64) {
-        self.begin_note(task, Note::new(operation, side, argument));
+    fn lane(&mut self) -> u32 {
+        self.random.below(self.sizes.lanes)
     }
 
     fn begin_note(&mut self, task: u32, note: Note) {
         let Note {
+            lane,
             operation,
             side,
             digit,
@@ -148,11 +173,15 @@ impl Player {
         let other_digit = is_push && (0..10).any(|other| self.row.has(tag(other, argument)));
         let again = is_push && self.past.contains(&note.tag());
         let wanted = self.row.begin(task, note);
+        self.seen.no_lane += u32::from(wanted == Err(26));
         self.seen.twice += u32::from(wanted == Err(16));
+        self.seen.other_lane +=
+            u32::from(wanted == Err(16) && !self.row.lane_has(lane, note.tag()));
         self.seen.again += u32::from(wanted == Ok(()) && again);
         self.seen.other_digit += u32::from(wanted == Ok(()) && other_digit);
         let before = self.table.clone();
-        let found = begin(&mut self.table, task, operation, side, digit, argument);
+        let table = &mut self.table;
+        let found = begin(table, task, lane, operation, side, digit, argument);
         assert_eq!(found, wanted);
         if found.is_err() {
             assert_eq!(self.table, before);
@@ -184,22 +213,22 @@ impl Player {
         }
         let stalled = self.random.below(self.sizes.tasks - 1);
         let other = stalled + 1;
-        let side = self.random.below(2);
-        self.operate(other, ADD, side, 2);
+        let (lane, side) = (self.lane(), self.random.below(2));
+        self.operate(other, Note::new(lane, ADD, side, 2));
         self.finish(stalled);
         let tag = self.tag();
-        self.begin_with(stalled, PUSH, side, tag);
+        self.begin_note(stalled, Note::new(lane, PUSH, side, tag));
         self.tick(stalled, 0);
         self.tick(stalled, 0);
-        self.operate(other, REMOVE, side, 0);
+        self.operate(other, Note::new(lane, REMOVE, side, 0));
         let count = self.random.below(3);
-        self.operate(other, ADD, side, count.into());
+        self.operate(other, Note::new(lane, ADD, side, count.into()));
         // Both may now be anywhere in what follows.
         self.tick(stalled, 0);
         self.favourite = self.random.pick(&[stalled, other]);
         let operation = self.random.pick(&[PUSH, ADD]);
         let argument = if operation == PUSH { self.tag() } else { 1 };
-        self.begin_with(other, operation, side, argument);
+        self.begin_note(other, Note::new(lane, operation, side, argument));
     }
 
     /// A tag that was never pushed. Each low part, from 0 on, comes with every digit.
@@ -218,9 +247,9 @@ impl Player {
         known.unwrap_or_else(|| self.tag())
     }
 
-    fn operate(&mut self, task: u32, operation: u32, side: u32, argument: u64) {
+    fn operate(&mut self, task: u32, note: Note) {
         self.finish(task);
-        self.begin_with(task, operation, side, argument);
+        self.begin_note(task, note);
         self.finish(task);
     }
 
@@ -239,8 +268,9 @@ impl Player {
 
     fn look(&mut self, task: u32) {
         let at = self.sizes.record(task);
-        let key = (self.table[at + record::SIDE], self.table[at + record::STEP]);
-        *self.seen.steps.entry(key).or_default() += 1;
+        let [lane, side, step] =
+            [record::LANE, record::SIDE, record::STEP].map(|field| self.table[at + field]);
+        *self.seen.steps.entry((lane, side, step)).or_default() += 1;
     }
 
     fn tick(&mut self, task: u32, hint: u32) {
@@ -255,6 +285,7 @@ impl Player {
                 let ticks = before[header::TICKS].wrapping_add(1);
                 assert_eq!(self.table[header::TICKS], ticks);
                 self.seen.answers[answer.words()[0] as usize] += 1;
+                self.other_hats_stay(task, &before);
                 self.answered(task, answer);
             }
             Err(number) => {
@@ -268,6 +299,15 @@ impl Player {
             }
         }
         self.row.check(&self.table);
+    }
+
+    /// A tick may move the hat of its task's lane and side, and no other.
+    fn other_hats_stay(&self, task: u32, before: &[u32]) {
+        let note = self.row.note(task);
+        let own = header::hat(note.lane, note.side);
+        for hat in (header::HATS..header::ZEROS[0]).filter(|&hat| hat != own) {
+            assert_eq!(self.table[hat], before[hat], "{note:?}, hat {hat}");
+        }
     }
 
     /// By the row alone: whose tick it is, and whether it is any.
@@ -295,6 +335,10 @@ impl Player {
     }
 
     fn answered(&mut self, task: u32, answer: Answer) {
+        if answer == Answer::Full {
+            let lane = self.row.note(task).lane as usize;
+            self.seen.full_empty += u32::from(self.row.tags[lane].is_empty());
+        }
         self.row.tick(task, answer.words());
         self.popped(answer);
     }
@@ -317,7 +361,7 @@ impl Player {
             .collect();
         let mut answers = vec![77; 3 * count + self.random.below(3) as usize];
         let mut whole = self.table.clone();
-        let (made, number) = call(&mut whole, &list, &mut answers);
+        let (number, made) = call(&mut whole, &list, &mut answers);
         let made = made as usize;
         for (pair, words) in list.chunks(2).zip(answers.chunks(3)).take(made) {
             self.look(pair[0]);
@@ -340,33 +384,50 @@ impl Player {
 
     fn refused_start(&mut self) {
         let before = self.table.clone();
-        let Sizes { nodes, tasks, .. } = self.sizes;
-        assert_eq!(start(&mut self.table, nodes, tasks, 65), Err(1));
-        let other = if nodes == 2 { 3 } else { 2 };
-        assert_eq!(start(&mut self.table, other, tasks, 0), Err(2));
+        let Sizes {
+            nodes,
+            tasks,
+            lanes,
+            ..
+        } = self.sizes;
+        let table = &mut self.table;
+        assert_eq!(start(table, nodes, tasks, 0, 0), Err(25));
+        assert_eq!(start(table, nodes, tasks, 65, 5), Err(25));
+        assert_eq!(start(table, nodes, tasks, 65, lanes), Err(1));
+        let least = 2 * lanes;
+        assert_eq!(start(table, least - 1, tasks, 0, lanes), Err(1));
+        let other = if nodes == least { least + 1 } else { least };
+        assert_eq!(start(table, other, tasks, 0, lanes), Err(2));
         assert_eq!(self.table, before);
     }
 
+    /// The lanes may be others on the same slice.
     fn accepted_start(&mut self) {
+        self.sizes.lanes = 1 + self.random.below(self.most_lanes);
         let Sizes {
             nodes,
             tasks,
             growth,
+            lanes,
         } = self.sizes;
-        assert_eq!(start(&mut self.table, nodes, tasks, growth), Ok(()));
-        self.row = Row::new(tasks);
+        let found = start(&mut self.table, nodes, tasks, growth, lanes);
+        assert_eq!(found, Ok(()));
+        self.row = Row::new(tasks, lanes);
         self.row.check(&self.table);
     }
 
-    /// Each task alone comes to its answer, and the row can then be popped.
+    /// Each task alone comes to its answer, and the rows can then be popped.
     fn drain(&mut self) {
         for task in 0..self.sizes.tasks {
             self.finish(task);
         }
-        while !self.row.tags.is_empty() {
-            let length = self.row.tags.len();
-            self.operate(0, POP, LEFT, 0);
-            assert_eq!(self.row.tags.len() + 1, length);
+        for lane in 0..self.sizes.lanes {
+            let length = |player: &Player| player.row.tags[lane as usize].len();
+            while length(self) > 0 {
+                let before = length(self);
+                self.operate(0, Note::new(lane, POP, LEFT, 0));
+                assert_eq!(length(self) + 1, before);
+            }
         }
     }
 
@@ -381,10 +442,11 @@ impl Player {
     }
 }
 
-fn play(seed: u64, sizes: (u32, u32, u32), calls: u32) -> Seen {
-    let (nodes, tasks, growth) = sizes;
-    println!("nodes {nodes}, tasks {tasks}, growth {growth}");
-    let mut player = Player::new(seed, nodes, tasks, growth);
+fn play(seed: u64, sizes: (u32, u32, u32, u32), calls: u32) -> Seen {
+    let (nodes, tasks, growth, lanes) = sizes;
+    println!("nodes {nodes}, tasks {tasks}, growth {growth}, lanes {lanes}");
+    let sizes = Sizes::new(nodes, tasks, growth, lanes).expect("sizes in range");
+    let mut player = Player::new(seed, sizes);
     for number in 0..calls {
         if number % 1500 == 1499 {
             player.drain();
@@ -402,7 +464,7 @@ fn small_tables_follow_the_row() {
         for tasks in [1, 2, 3, 5] {
             let seen = play(
                 seed * 100 + u64::from(tasks),
-                (nodes, tasks, nodes % 3),
+                (nodes, tasks, nodes % 3, 1),
                 1500,
             );
             assert!(seen.stopped_runs > 0);
@@ -418,27 +480,64 @@ fn small_tables_follow_the_row() {
 }
 
 #[test]
-fn larger_tables_follow_the_row() {
-    for (seed, sizes) in (5000..).zip([(16, 16, 3), (24, 4, 0), (40, 8, 1), (100, 3, 64)]) {
-        let seen = play(seed, sizes, 4000);
-        assert!(seen.answers[1] > 20 && seen.answers[2] > 20);
-        assert!(seen.longest > 2);
-        assert!(seen.twice > 5 && seen.again > 5);
+fn small_tables_of_several_lanes_follow_their_rows() {
+    for (seed, lanes) in (200..).zip(2..=4) {
+        let mut filled = 0;
+        let spares = [0, 1, 2, 3, 4, 9].into_iter();
+        for (spare, tasks) in spares.flat_map(|spare| [1, 2, 3, 5].map(|tasks| (spare, tasks))) {
+            let seen = play(
+                seed * 100 + u64::from(10 * spare + tasks),
+                (2 * lanes + spare, tasks, spare % 3, lanes),
+                2000,
+            );
+            assert!(seen.answers[3] > 0 && seen.no_lane > 0);
+            assert!(spare > 4 || seen.full_empty > 0);
+            if spare > 0 {
+                assert!(seen.answers[1] > 0 && seen.answers[2] > 0);
+                assert!(seen.other_lane > 0 && seen.again > 0);
+            }
+            filled = filled.max(seen.filled);
+        }
+        assert_eq!(filled, lanes as usize);
     }
 }
 
 #[test]
-fn every_step_and_answer_is_met_on_both_sides() {
+fn larger_tables_follow_the_row() {
+    for (seed, sizes) in (5000..).zip([
+        (16, 16, 3, 1),
+        (24, 4, 0, 1),
+        (40, 8, 1, 1),
+        (100, 3, 64, 1),
+        (16, 16, 3, 4),
+        (24, 4, 0, 3),
+        (40, 8, 1, 2),
+        (300, 3, 64, 4),
+    ]) {
+        let seen = play(seed, sizes, 4000);
+        assert!(seen.answers[1] > 20 && seen.answers[2] > 20);
+        assert!(seen.longest > 2);
+        assert!(seen.twice > 5 && seen.again > 5);
+        let (.., lanes) = sizes;
+        assert!(lanes == 1 || seen.filled > 1 && seen.other_lane > 5);
+    }
+}
+
+#[test]
+fn every_step_is_met_on_both_sides_of_every_lane_and_every_answer() {
     let mut steps = BTreeMap::new();
     let mut answers = [0; 7];
     let mut no_node = 0;
     for (seed, sizes) in (9000..).zip([
-        (8, 3, 1),
-        (10, 4, 2),
-        (12, 3, 0),
-        (12, 5, 1),
-        (16, 3, 2),
-        (20, 4, 1),
+        (8, 3, 1, 1),
+        (10, 4, 2, 1),
+        (12, 3, 0, 1),
+        (12, 5, 1, 1),
+        (16, 3, 2, 1),
+        (20, 4, 1, 1),
+        (16, 3, 1, 4),
+        (20, 4, 0, 4),
+        (28, 4, 2, 4),
     ]) {
         let seen = play(seed, sizes, 20_000);
         for (key, count) in seen.steps {
@@ -452,10 +551,11 @@ fn every_step_and_answer_is_met_on_both_sides() {
     println!("steps {steps:?}\nanswers {answers:?}\nrefused 11: {no_node}");
     for operation in [PUSH, POP, ADD, REMOVE] {
         for step in common::tables::steps_of(operation) {
-            for side in [0, 1] {
+            for key in (0..4).flat_map(|lane| [(lane, 0, step), (lane, 1, step)]) {
+                let (lane, side, _) = key;
                 assert!(
-                    steps.contains_key(&(side, step)),
-                    "side {side}, step {step}"
+                    steps.contains_key(&key),
+                    "lane {lane}, side {side}, step {step}"
                 );
             }
         }

@@ -3,27 +3,25 @@
 mod common;
 
 use common::calls::{begin, call, to_answer};
-use common::tables::started;
-use reference::table::{POP, PUSH};
+use common::tables::{started, LANE};
+use reference::table::{LEFT, POP, PUSH, RIGHT};
 use reference::{tick, Answer};
 
-const LEFT: u32 = 0;
-const RIGHT: u32 = 1;
 /// In each the pop gets four ticks.
 const ROUNDS: usize = 25_000;
 
 /// Task 0 pops at one end, task 1 pushes a bag and pops it, again and again, at an end of its own.
 fn starve(end: u32, other: u32) {
     let mut table = started(4, 2, 0);
-    begin(&mut table, 0, POP, end, 0).expect("begin");
+    begin(&mut table, 0, LANE, POP, end, 0).expect("begin");
     for round in 0..ROUNDS {
         for _ in 0..3 {
             assert_eq!(tick(&mut table, 0, 0), Ok(Answer::Going));
         }
         // The pop has read the hat and the value beside it; one of the two changes, and its compare fails.
         let (between, answer) = [
-            ((PUSH, other, 51), Answer::Pushed),
-            ((POP, other, 0), Answer::Bag(51)),
+            ((LANE, PUSH, other, 51), Answer::Pushed),
+            ((LANE, POP, other, 0), Answer::Bag(51)),
         ][round % 2];
         assert_eq!(call(&mut table, 1, between), answer);
         assert_eq!(tick(&mut table, 0, 0), Ok(Answer::Going), "round {round}");

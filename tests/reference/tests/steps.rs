@@ -1,4 +1,4 @@
-//! Every step's words, the same from the left, and the choice of a free node.
+//! Every step's words on each lane, the same from the left, and the choice of a free node.
 
 mod common;
 
@@ -6,9 +6,9 @@ use common::calls::begin;
 use common::free::{first, free};
 use common::paths::Needed;
 use common::random::Random;
-use common::tables::{mirrored, shaped, sizes, started};
+use common::tables::{mirrored, shaped, sizes, started, started_lanes, LANE};
 use reference::table::{
-    header, node, record, Sizes, ADD, LN, LX, LY, NONE, POP, PUSH, REMOVE, RN, RX, RY,
+    header, node, record, Sizes, ADD, LEFT, LN, LX, LY, NONE, POP, PUSH, REMOVE, RIGHT, RN, RX, RY,
 };
 use reference::{run, tick, Answer};
 
@@ -183,19 +183,26 @@ const ROWS: &[Row] = &[
     (REMOVE, 0, 82, &[(A, 1)], &[(R(1), NONE)], Done(Answer::Yes)),
 ];
 
-/// Six nodes: a terminator, two nulls and a terminator, and two never used.
-fn base() -> Vec<u32> {
+/// Six nodes: a terminator, two nulls and a terminator, and two never used. The hats of one lane are on the first two;
+/// of the other two lanes the right hat is where that of no row is before its tick, and no hat leads further.
+fn base(lane: u32) -> Vec<u32> {
     let mut table = started(6, 2, 2);
-    table[8..8 + 16].copy_from_slice(&[NONE, 1, LX, 0, 0, 2, RN, 0, 1, 3, RN, 0, 2, NONE, RX, 0]);
+    table[16..16 + 16].copy_from_slice(&[NONE, 1, LX, 0, 0, 2, RN, 0, 1, 3, RN, 0, 2, NONE, RX, 0]);
+    table[header::LANES] = 3;
+    for other in 0..3 {
+        let hats = if other == lane { [0, 1] } else { [2, 0] };
+        let at = header::hat(other, LEFT);
+        table[at..at + 2].copy_from_slice(&hats);
+    }
     table
 }
 
-fn set(table: &mut [u32], words: &[(Word, u32)]) {
+fn set(table: &mut [u32], lane: u32, words: &[(Word, u32)]) {
     let sizes = sizes(table);
     let task = sizes.record(1);
     for &(word, value) in words {
         let at = match word {
-            Hat => header::RIGHT_HAT,
+            Hat => header::hat(lane, RIGHT),
             L(number) => sizes.node(number) + node::LEFT,
             R(number) => sizes.node(number) + node::RIGHT,
             V(number) => sizes.node(number) + node::VALUE,
@@ -214,15 +221,18 @@ fn set(table: &mut [u32], words: &[(Word, u32)]) {
 
 #[test]
 fn every_step_writes_its_words_and_no_other() {
-    for (row, (operation, argument, step, before, after, next)) in ROWS.iter().enumerate() {
-        let mut table = base();
+    let rows = ROWS.iter().enumerate();
+    for ((row, entry), lane) in rows.flat_map(|row| [0, 1, 2].map(|lane| (row, lane))) {
+        let (operation, argument, step, before, after, next) = entry;
+        let what = format!("row {row}, step {step}, lane {lane}");
+        let mut table = base(lane);
         let task = sizes(&table).record(1);
-        begin(&mut table, 1, *operation, 1, *argument).expect("begin");
+        begin(&mut table, 1, lane, *operation, RIGHT, *argument).expect("begin");
         table[task + record::STEP] = *step;
         table[header::TICKS] = u32::MAX;
-        set(&mut table, before);
+        set(&mut table, lane, before);
         let mut wanted = table.clone();
-        set(&mut wanted, after);
+        set(&mut wanted, lane, after);
         wanted[header::TICKS] = 0;
         let answer = match next {
             To(step) => {
@@ -235,14 +245,10 @@ fn every_step_writes_its_words_and_no_other() {
             }
         };
         let mut left = mirrored(&table);
-        assert_eq!(tick(&mut table, 1, 0), Ok(answer), "row {row}, step {step}");
-        assert_eq!(table, wanted, "row {row}, step {step}");
-        assert_eq!(
-            tick(&mut left, 1, 0),
-            Ok(answer),
-            "left row {row}, step {step}"
-        );
-        assert_eq!(left, mirrored(&wanted), "left row {row}, step {step}");
+        assert_eq!(tick(&mut table, 1, 0), Ok(answer), "{what}");
+        assert_eq!(table, wanted, "{what}");
+        assert_eq!(tick(&mut left, 1, 0), Ok(answer), "left {what}");
+        assert_eq!(left, mirrored(&wanted), "left {what}");
     }
 }
 
@@ -309,14 +315,49 @@ fn the_first_free_node_from_the_hint() {
     assert!(none > 0);
 }
 
+/// All nodes but the sentinels hang on one hat of one lane, by one of its node's links. A task of any lane finds none of
+/// them free, and every one of them as soon as the link is gone.
+#[test]
+fn a_node_that_some_lane_leads_to_is_not_free() {
+    for lanes in 1..=4 {
+        let pairs = (0..lanes).flat_map(|holder| (0..lanes).map(move |lane| (holder, lane)));
+        for (holder, lane) in pairs {
+            for (side, link) in [
+                (LEFT, node::LEFT),
+                (LEFT, node::RIGHT),
+                (RIGHT, node::LEFT),
+                (RIGHT, node::RIGHT),
+            ] {
+                let first = 2 * lanes;
+                let mut table = started_lanes(first + 3, 1, 0, lanes);
+                let sizes = sizes(&table);
+                for number in first..first + 2 {
+                    table[sizes.node(number) + link] = number + 1;
+                }
+                begin(&mut table, 0, lane, ADD, RIGHT, 0).expect("begin");
+                let mut held = table.clone();
+                let hat = held[header::hat(holder, side)];
+                held[sizes.node(hat) + link] = first;
+                for hint in 0..sizes.nodes {
+                    assert_eq!(tick(&mut held.clone(), 0, hint), Ok(Answer::No));
+                    let mut ticked = table.clone();
+                    assert_eq!(tick(&mut ticked, 0, hint), Ok(Answer::Going));
+                    let taken = ticked[sizes.record(0) + record::D];
+                    assert_eq!(taken, hint.max(first));
+                }
+            }
+        }
+    }
+}
+
 #[test]
 fn the_largest_table_fills_up() {
     let mut table = started(1024, 16, 64);
     let mut added = 0;
     loop {
-        begin(&mut table, 15, ADD, added % 2, 63).expect("begin");
+        begin(&mut table, 15, LANE, ADD, added % 2, 63).expect("begin");
         let mut answers = vec![0; 3 * 4096];
-        let (made, number) = run(&mut table, &[[15, 1023]; 4096].concat(), &mut answers);
+        let (number, made) = run(&mut table, &[[15, 1023]; 4096].concat(), &mut answers);
         // Idle after its answer, the task is refused.
         assert_eq!(number, 10);
         match answers[3 * made as usize - 3] {
@@ -327,7 +368,7 @@ fn the_largest_table_fills_up() {
     }
     // 15 chains of 64, and one of the 62 nodes left.
     assert_eq!(added, 16);
-    let sizes = Sizes::new(1024, 16, 64).expect("sizes in range");
+    let sizes = Sizes::new(1024, 16, 64, 1).expect("sizes in range");
     assert!((0..1024).all(|number| table[sizes.node(number) + node::VALUE] != 0));
     let marks = [LN, LX, RN, RX];
     assert!((0..1024).all(|number| marks.contains(&table[sizes.node(number) + node::VALUE])));

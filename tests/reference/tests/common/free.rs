@@ -1,7 +1,7 @@
 //! Which nodes are free, in the words of the paper: reachability spreads until nothing changes.
 
 use super::tables::sizes;
-use reference::table::{header, node, record, NONE};
+use reference::table::{header, node, record, LEFT, NONE, RIGHT};
 
 /// The free nodes in order, where `holds` says of a step and a register whether that register holds its node there.
 pub fn free(table: &[u32], holds: impl Fn(u32, usize) -> bool) -> Vec<u32> {
@@ -30,10 +30,13 @@ pub fn free(table: &[u32], holds: impl Fn(u32, usize) -> bool) -> Vec<u32> {
         .collect()
 }
 
-/// The hats, and what the registers hold.
+/// The hats of every lane, and what the registers hold.
 fn roots(table: &[u32], holds: impl Fn(u32, usize) -> bool) -> Vec<u32> {
     let sizes = sizes(table);
-    let mut roots = vec![table[header::LEFT_HAT], table[header::RIGHT_HAT]];
+    let mut roots = Vec::new();
+    for lane in 0..sizes.lanes {
+        roots.extend([LEFT, RIGHT].map(|side| table[header::hat(lane, side)]));
+    }
     for task in 0..sizes.tasks {
         let at = sizes.record(task);
         let held = (record::A..=record::D)

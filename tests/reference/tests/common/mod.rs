@@ -1,4 +1,4 @@
-//! What several tests share: a generator of numbers, mirrors, random tables, the plain row, calls made to their
+//! What several tests share: a generator of numbers, mirrors, random tables, the plain rows, calls made to their
 //! answers, which nodes are free, and whose turn it is.
 
 #![allow(dead_code)]

@@ -1,4 +1,4 @@
-//! The plain row of the paper, fed with arguments and answers alone.
+//! The plain rows of the paper, one for each lane, fed with arguments and answers alone.
 
 use std::collections::VecDeque;
 
@@ -6,13 +6,12 @@ use super::calls::{tags, whole};
 use super::random::Random;
 use super::turns::Turns;
 use reference::read;
-use reference::table::{argument_fits, digit, low_part, tag, ADD, POP, PUSH, REMOVE};
-
-const LEFT: u32 = 0;
+use reference::table::{argument_fits, digit, low_part, tag, ADD, LEFT, POP, PUSH, REMOVE};
 
 /// The call that a task is in the middle of.
 #[derive(Clone, Copy, Debug)]
 pub struct Note {
+    pub lane: u32,
     pub operation: u32,
     pub side: u32,
     pub digit: u32,
@@ -21,8 +20,9 @@ pub struct Note {
 
 impl Note {
     /// A call with its argument as one number.
-    pub fn new(operation: u32, side: u32, argument: u64) -> Note {
+    pub fn new(lane: u32, operation: u32, side: u32, argument: u64) -> Note {
         Note {
+            lane,
             operation,
             side,
             digit: digit(argument),
@@ -36,17 +36,18 @@ impl Note {
     }
 }
 
-/// The row of the paper: it never looks at the table.
+/// The rows of the paper, with one note for each task: they never look at the table.
 pub struct Row {
-    pub tags: VecDeque<u64>,
+    /// By lane.
+    pub tags: Vec<VecDeque<u64>>,
     pub notes: Vec<Option<Note>>,
     pub turns: Turns,
 }
 
 impl Row {
-    pub fn new(tasks: u32) -> Row {
+    pub fn new(tasks: u32, lanes: u32) -> Row {
         Row {
-            tags: VecDeque::new(),
+            tags: vec![VecDeque::new(); lanes as usize],
             notes: vec![None; tasks as usize],
             turns: Turns::new(tasks),
         }
@@ -56,11 +57,15 @@ impl Row {
     /// noted.
     pub fn begin(&mut self, task: u32, note: Note) -> Result<(), u32> {
         let Note {
+            lane,
             operation,
             side,
             digit,
             argument,
         } = note;
+        if lane as usize >= self.tags.len() {
+            return Err(26);
+        }
         let busy = self.notes.get(task as usize).ok_or(5u32)?.is_some();
         let refusals = [
             (6, !(PUSH..=REMOVE).contains(&operation) || side > 1),
@@ -77,19 +82,25 @@ impl Row {
         }
     }
 
-    /// Explains the answer of a tick by the note of its task.
+    /// The call that a tick was made of.
+    pub fn note(&self, task: u32) -> Note {
+        self.notes[task as usize].expect("a tick was made without a note")
+    }
+
+    /// Explains the answer of a tick by the note of its task, which names the lane whose row alone may move.
     pub fn tick(&mut self, task: u32, words: [u32; 3]) {
-        let note = self.notes[task as usize].expect("a tick was made without a note");
+        let note = self.note(task);
         let [kind, digit, low] = words;
         assert!(kind == 2 || [digit, low] == [0, 0], "words of {kind}");
         let (side, popped) = (note.side, tag(digit, low));
+        let tags = &mut self.tags[note.lane as usize];
         match (kind, note.operation) {
             (0, _) => return,
-            (1, PUSH) if side == LEFT => self.tags.push_front(note.tag()),
-            (1, PUSH) => self.tags.push_back(note.tag()),
-            (2, POP) if side == LEFT => assert_eq!(self.tags.pop_front(), Some(popped)),
-            (2, POP) => assert_eq!(self.tags.pop_back(), Some(popped)),
-            (3, POP) => assert!(self.tags.is_empty(), "empty, with {:?}", self.tags),
+            (1, PUSH) if side == LEFT => tags.push_front(note.tag()),
+            (1, PUSH) => tags.push_back(note.tag()),
+            (2, POP) if side == LEFT => assert_eq!(tags.pop_front(), Some(popped)),
+            (2, POP) => assert_eq!(tags.pop_back(), Some(popped)),
+            (3, POP) => assert!(tags.is_empty(), "empty, with {tags:?}"),
             (4, PUSH) => {}
             (5 | 6, ADD | REMOVE) => {}
             (_, operation) => panic!("answer {kind} to operation {operation}"),
@@ -107,17 +118,27 @@ impl Row {
         Some(task)
     }
 
-    /// The tags of the row, then those of busy pushes.
-    fn all_tags(&self) -> Vec<u64> {
+    /// The tags of the rows and of the busy pushes, each with its lane.
+    fn places(&self) -> impl Iterator<Item = (u32, u64)> + '_ {
+        let rows = (0..).zip(&self.tags);
+        let standing = rows.flat_map(|(lane, row)| row.iter().map(move |&tag| (lane, tag)));
         let pushes = self.notes.iter().flatten();
         let pushed = pushes.filter(|note| note.operation == PUSH);
-        let tags = self.tags.iter().copied();
-        tags.chain(pushed.map(|note| note.tag())).collect()
+        standing.chain(pushed.map(|note| (note.lane, note.tag())))
     }
 
-    /// Whether a push of this tag is turned back: it stands in the row, or a busy push has it.
+    fn all_tags(&self) -> Vec<u64> {
+        self.places().map(|(_, tag)| tag).collect()
+    }
+
+    /// Whether a push of this tag is turned back: it stands in a row, or a busy push has it.
     pub fn has(&self, tag: u64) -> bool {
         self.all_tags().contains(&tag)
+    }
+
+    /// Whether it is this lane's.
+    pub fn lane_has(&self, lane: u32, tag: u64) -> bool {
+        self.places().any(|place| place == (lane, tag))
     }
 
     /// One of the tags that a push is turned back for, if there is any.
@@ -126,7 +147,7 @@ impl Row {
         (!tags.is_empty()).then(|| random.pick(&tags))
     }
 
-    /// No tag is in two places: of the row, of a busy push.
+    /// No tag is in two places: of the rows, of a busy push.
     pub fn check_once(&self) {
         let mut tags = self.all_tags();
         tags.sort_unstable();
@@ -134,22 +155,28 @@ impl Row {
         assert_eq!(twice, None, "a tag in two places");
     }
 
+    /// Every lane in the table is its row.
     pub fn check(&self, table: &[u32]) {
         self.check_once();
-        let read = tags(table).expect("the deque is read");
-        assert!(self.tags.iter().eq(&read));
+        for (lane, row) in (0..).zip(&self.tags) {
+            let read = tags(table, lane).expect("the lane is read");
+            assert!(row.iter().eq(&read), "lane {lane}: {row:?}, {read:?}");
+        }
     }
 
-    pub fn check_short(&self, table: &[u32], length: usize) {
+    /// A lane read to an out slice of this length; 26 exactly where there is no such lane.
+    pub fn check_short(&self, table: &[u32], lane: u32, length: usize) {
         let mut out = vec![3; length];
-        let count = self.tags.len();
-        if length < 2 * count {
-            assert_eq!(read(table, &mut out), Err(12));
-            assert!(out.iter().all(|&word| word == 3));
-        } else {
-            assert_eq!(read(table, &mut out), Ok(count as u32));
-            assert!(self.tags.iter().eq(&whole(&out[..2 * count])));
-            assert!(out[2 * count..].iter().all(|&word| word == 3));
+        let found = read(table, lane, &mut out);
+        let words = 2 * found.unwrap_or(0) as usize;
+        assert!(out[words..].iter().all(|&word| word == 3));
+        match self.tags.get(lane as usize) {
+            None => assert_eq!(found, Err(26)),
+            Some(row) if length < 2 * row.len() => assert_eq!(found, Err(12)),
+            Some(row) => {
+                assert_eq!(found, Ok(row.len() as u32));
+                assert!(row.iter().eq(&whole(&out[..words])));
+            }
         }
     }
 }

@@ -2,15 +2,23 @@
 
 use super::random::Random;
 use reference::table::{
-    goal, header, mark, mirror, node, record, step_belongs, Content, Sizes, ADD, IDLE, LN, LX, LY,
-    MAX_LOW, NEVER_USED, NONE, POP, PUSH, RN, RX, RY,
+    goal, header, mark, mirror, node, record, step_belongs, Content, Sizes, ADD, IDLE, LEFT, LN,
+    LX, LY, MAX_LOW, NEVER_USED, NONE, POP, PUSH, RIGHT, RN, RX, RY,
 };
 
-/// A table as an accepted start leaves it.
+/// The lane of a table that has one.
+pub const LANE: u32 = 0;
+
+/// A table of one lane as an accepted start leaves it.
 pub fn started(nodes: u32, tasks: u32, growth: u32) -> Vec<u32> {
-    let sizes = Sizes::new(nodes, tasks, growth).expect("sizes in range");
+    started_lanes(nodes, tasks, growth, 1)
+}
+
+/// The same of so many lanes.
+pub fn started_lanes(nodes: u32, tasks: u32, growth: u32, lanes: u32) -> Vec<u32> {
+    let sizes = Sizes::new(nodes, tasks, growth, lanes).expect("sizes in range");
     let mut table = vec![7; sizes.words()];
-    reference::start(&mut table, nodes, tasks, growth).expect("start");
+    reference::start(&mut table, nodes, tasks, growth, lanes).expect("start");
     table
 }
 
@@ -20,6 +28,7 @@ pub fn sizes(table: &[u32]) -> Sizes {
         table[header::NODES],
         table[header::TASKS],
         table[header::GROWTH],
+        table[header::LANES],
     )
     .expect("sizes in range")
 }
@@ -28,7 +37,9 @@ pub fn sizes(table: &[u32]) -> Sizes {
 pub fn mirrored(table: &[u32]) -> Vec<u32> {
     let sizes = sizes(table);
     let mut result = table.to_vec();
-    result.swap(header::LEFT_HAT, header::RIGHT_HAT);
+    for lane in 0..sizes.lanes {
+        result.swap(header::hat(lane, LEFT), header::hat(lane, RIGHT));
+    }
     for number in 0..sizes.nodes {
         let at = sizes.node(number);
         result.swap(at + node::LEFT, at + node::RIGHT);
@@ -46,10 +57,12 @@ pub fn mirrored(table: &[u32]) -> Vec<u32> {
 
 /// A small table whose shape holds and whose words are otherwise arbitrary.
 pub fn shaped(random: &mut Random) -> Vec<u32> {
+    let lanes = 1 + random.below(Sizes::MAX_LANES);
     let sizes = Sizes::new(
-        2 + random.below(7),
+        2 * lanes + random.below(7),
         1 + random.below(4),
         random.pick(&[0, 1, 2, 64]),
+        lanes,
     )
     .expect("sizes in range");
     shaped_of(random, sizes)
@@ -61,10 +74,18 @@ pub fn shaped_of(random: &mut Random, sizes: Sizes) -> Vec<u32> {
     table[header::NODES] = sizes.nodes;
     table[header::TASKS] = sizes.tasks;
     table[header::GROWTH] = sizes.growth;
-    table[header::LEFT_HAT] = random.below(sizes.nodes);
-    table[header::RIGHT_HAT] = random.below(sizes.nodes);
+    table[header::LANES] = sizes.lanes;
     table[header::TICKS] = random.word();
     table[header::DISPATCHED] = random.below(sizes.tasks);
+    for lane in 0..Sizes::MAX_LANES {
+        for side in [LEFT, RIGHT] {
+            table[header::hat(lane, side)] = if lane < sizes.lanes {
+                random.below(sizes.nodes)
+            } else {
+                NONE
+            };
+        }
+    }
     for number in 0..sizes.nodes {
         let at = sizes.node(number);
         let [value, digit] = content(random);
@@ -77,12 +98,7 @@ pub fn shaped_of(random: &mut Random, sizes: Sizes) -> Vec<u32> {
         table[at..at + record::WORDS].copy_from_slice(&words);
         // Without help few swaps would find what they compare.
         if words[record::A] != NONE && random.once_in(2) {
-            let hat = if words[record::SIDE] == 1 {
-                header::RIGHT_HAT
-            } else {
-                header::LEFT_HAT
-            };
-            table[hat] = words[record::A];
+            table[header::hat(words[record::LANE], words[record::SIDE])] = words[record::A];
         }
     }
     table
@@ -135,9 +151,10 @@ fn shaped_record(random: &mut Random, sizes: Sizes) -> [u32; record::WORDS] {
     };
     words[record::VALUE] = value;
     words[record::VALUE_DIGIT] = digit;
-    for register in &mut words[record::A..] {
+    for register in &mut words[record::A..=record::D] {
         *register = link(random, sizes);
     }
+    words[record::LANE] = random.below(sizes.lanes);
     words
 }
 
