@@ -47,21 +47,25 @@ def row(y, place, label, words, fill, width):
 
 
 def table():
-    header = ["S", "T", "growth", "left hat", "right hat", "ticks", "dispatched", "0"]
+    sizes = ["S", "T", "growth", "lanes", "ticks", "dispatched"]
+    hats = [f"{side} hat {lane}" for lane in range(4) for side in ("left", "right")]
+    header = sizes + hats + ["0", "0"]
     node = ["L", "R", "V", "digit"]
-    task = ["operation", "step", "side", "argument", "digit", "counted", "value", "digit", "A", "B", "C", "D"]
-    parts = [text(20, 30, "A table of 8 + 4S + 12T words", 16, "start", weight="bold")]
-    parts += row(70, str, "header", header, FILLS["header"], 96)
-    parts += row(150, lambda i: f"8 + 4x + {i}", "node x, below S", node, FILLS["node"], 192)
-    parts += row(230, lambda i: f"+ {i}" if i else "8 + 4S + 12k", "task k, below T", task, FILLS["task"], 64)
+    task = ["operation", "step", "side", "argument", "digit", "counted", "value", "digit", "A", "B", "C", "D", "lane"]
+    parts = [text(20, 30, "A table of 16 + 4S + 13T words", 16, "start", weight="bold")]
+    parts += row(70, str, "header", header[:8], FILLS["header"], 104)
+    parts += row(134, lambda i: str(8 + i), "", header[8:], FILLS["header"], 104)
+    parts += row(214, lambda i: f"16 + 4x + {i}", "node x, below S", node, FILLS["node"], 208)
+    parts += row(294, lambda i: f"+ {i}" if i else "16 + 4S + 13k", "task k, below T", task, FILLS["task"], 64)
     notes = [
-        "The nodes' words, from word 8 on, are lent to a line as a mutable part: a line cannot touch the header or a record.",
-        "L, R and A to D are node numbers, or 65,535 for none. A tag is its digit, 0 to 9, before the nine digits of V. V may",
-        "also be a mark, or 0 for never used, both with digit 0; V 0 with a digit of 1 to 9 is a tag. Word 6 has the task last",
-        "dispatched, T - 1 after a start.",
+        "The nodes' words, from word 16 on, are lent to a line as a mutable part: a line cannot touch the header or a record.",
+        "Each lane has its own two hats; those of lanes that are not there are 65,535, none. L, R and A to D are node numbers,",
+        "or none. A tag is its digit, 0 to 9, before the nine digits of V. V may also be a mark, or 0 for never used, both with",
+        "digit 0; V 0 with a digit of 1 to 9 is a tag. Word 5 has the task last dispatched, T - 1 after a start. A task's lane",
+        "is below the lanes, and 0 while it is idle.",
     ]
-    parts += [text(20, 300 + 17 * i, note, 12, "start", SOFT) for i, note in enumerate(notes)]
-    drawing("table.svg", 980, 369, "Where each word of the table stands", parts)
+    parts += [text(20, 364 + 17 * i, note, 12, "start", SOFT) for i, note in enumerate(notes)]
+    drawing("table.svg", 1042, 450, "Where each word of the table stands", parts)
 
 
 def node(x, y, number, value, fill, dash=""):

@@ -1,6 +1,7 @@
 /*
- * The proved lane machine for C and C++: a double-ended queue of bags over one lent table of words, worked on by up to
- * sixteen tasks, one tick at a time. Link with libdeque.a, or with liblane.a, its name where it is installed.
+ * The proved lane machine for C and C++: one to four lanes, each a double-ended queue of bags, over one lent table of
+ * words, worked on by up to sixteen tasks, one tick at a time. Link with libdeque.a, or with liblane.a, its name where
+ * it is installed.
  *
  * ```c
  * #include <stdio.h>
@@ -8,15 +9,15 @@
  *
  * int main(void) {
  *     static uint32_t table[LANE_WORDS(4, 1)];
- *     uint32_t tags[LANE_TAG_WORDS * LANE_MAX_BAGS(4)];
+ *     uint32_t tags[LANE_TAG_WORDS * LANE_MAX_BAGS(4, 1)];
  *     size_t words = LANE_WORDS(4, 1);
- *     uint32_t refusal = lane_start(table, words, 4, 1, 0);
+ *     uint32_t refusal = lane_start(table, words, 4, 1, 0, 1);
  *     if (refusal != 0) {
  *         fprintf(stderr, "%s\n", lane_refusal_text(refusal));
  *         return 1;
  *     }
- *     uint64_t answer = lane_call(table, words, 0, LANE_PUSH, LANE_RIGHT, 51);
- *     uint64_t reading = lane_read(table, words, tags, LANE_TAG_WORDS * LANE_MAX_BAGS(4));
+ *     uint64_t answer = lane_call(table, words, 0, 0, LANE_PUSH, LANE_RIGHT, 51);
+ *     uint64_t reading = lane_read(table, words, 0, tags, LANE_TAG_WORDS * LANE_MAX_BAGS(4, 1));
  *     return LANE_KIND(answer) == LANE_PUSHED && reading == 1 && lane_tag(tags[0], tags[1]) == 51 ? 0 : 1;
  * }
  * ```
@@ -34,25 +35,31 @@
  * their calls may be made at any time, each with an out slice of its own.
  *
  * FOOTPRINT. For x86-64 only. Under 14 kB of code and constants, no data, no heap; of stack about 5.6 kB in lane_tick,
- * lane_dispatch, lane_run and lane_panel, at most about 0.5 kB in the others; nothing from outside but memset (`make
+ * lane_dispatch, lane_run and lane_panel, under 0.6 kB in the others; nothing from outside but memset (`make
  * footprint` measures it).
  *
- * SLOTS. A slot, also called a node, is the place of one bag. Slots at an end of the lane with no bag are spare; each
- * end always has one at least, so a table of S slots carries at most S - 2 bags. A slot is free when nothing may use
- * it, neither the lane nor a call that stands in the middle.
+ * LANES. The lanes of a table are numbered from 0. Each is a row of bags of its own, and all share the slots. A begin
+ * says which lane its call is on, and the call changes nothing of another lane: lanes do not meet but in which slots
+ * are free, and in that a tag is in one place of all of them. Who has one lane starts 1 and says lane 0.
  *
- * FULL. A push is "full" when no slot is free, and that is not about the bags alone: spare slots at the other end
- * count, and so does what a call left in the middle may still use, up to S - 2 slots, so that a push may be full on an
- * empty lane. Do not leave a call standing while bags pass. The way out: tick every busy task to its answer; then at
- * the other end push, pop the bag again, remove 0; and try again. Full again, with no other task in a call: S - 2 bags
- * are in the lane, or S - 3 and the last place is at the other end. Full at both ends, one after the other: S - 2.
+ * SLOTS. A slot, also called a node, is the place of one bag. Slots at an end of a lane with no bag are spare; each end
+ * always has one at least, so a table of S slots and L lanes carries at most S - 2L bags in all, with one lane S - 2. A
+ * slot is free when nothing may use it, neither a lane nor a call that stands in the middle.
+ *
+ * FULL. A push is "full" when no slot is free, and that is not about the bags alone: spare slots at other ends count,
+ * those of other lanes too, and so does what a call left in the middle may still use, up to S - 2L slots, so that a
+ * push may be full with no bag in any lane. Do not leave a call standing while bags pass. The way out: tick every busy
+ * task to its answer; then at one other end after another, of every lane, push, pop the bag again, remove 0, and try
+ * again each time. Full to the last, with no other task in a call: no other end has place for more than one bag, so
+ * that with one lane S - 2 bags are in it, or S - 3 and the last place is at the other end. Full at every end, one
+ * after the other: S - 2L.
  *
  * TAGS. A bag goes by its tag of ten digits, 1 to 9,999,999,999: a number of 64 bits, or two words of 32, the leading
  * digit and the low part, the nine digits below it. Calls take and write the digit first. lane_tag makes the number of
  * the words, lane_tag_digit and lane_tag_low the words of the number; "%010" PRIu64 prints it with its zeros.
  *
- * TWICE. A tag is in one place at most: a push of a tag that stands in the lane, or that a busy push has, is refused
- * when it is begun (16). So no lane that lane_start began holds a tag twice.
+ * TWICE. A tag is in one place at most: a push of a tag that stands in any lane, or that a busy push on any lane has,
+ * is refused when it is begun (16). So no table that lane_start began holds a tag twice.
  *
  * TURNS. The caller says whose tick is next, or lets lane_dispatch tick the busy tasks in turn. Both go together: other
  * ticks leave the turn as it is.
@@ -72,23 +79,26 @@ extern "C" {
 #endif
 
 /*
- * The library's version; and the number of the table's format: only libraries of this format work on the table. This
- * one also takes a table of format 2, which has 0 where format 3 has the task last dispatched, so that the first
- * dispatch looks from task 1 on. A library of format 2 refuses a table of format 3 with 4, unless that word is 0.
+ * The library's version; and the number of the table's format: only libraries of this format work on the table. One of
+ * an older format is refused with 3, since its length does not fit its sizes, and so is one of this format by an older
+ * library.
  */
-#define LANE_VERSION "5.2.0"
-#define LANE_TABLE_FORMAT 3
+#define LANE_VERSION "6.0.0"
+#define LANE_TABLE_FORMAT 4
 
-/* Words of a table of `slots` (2 to 1,024) and `tasks` (1 to 16): 8 for the header, 4 a slot, 12 a task. */
-#define LANE_WORDS(slots, tasks) (8 + 4 * (size_t)(slots) + 12 * (size_t)(tasks))
+/*
+ * Words of a table of `slots` (2 to 1,024, and two a lane at least) and `tasks` (1 to 16), whatever the lanes: 16 for
+ * the header, 4 a slot, 13 a task.
+ */
+#define LANE_WORDS(slots, tasks) (16 + 4 * (size_t)(slots) + 13 * (size_t)(tasks))
 
 /* Words that a read writes for each tag, and a run for each tick; bytes of a tag in packed decimal. */
 #define LANE_TAG_WORDS 2
 #define LANE_ANSWER_WORDS 3
 #define LANE_TAG_BYTES 5
 
-/* The most bags that a table of so many slots carries. */
-#define LANE_MAX_BAGS(slots) ((slots) - 2)
+/* The most bags that a table of so many slots and lanes carries, in all lanes together. */
+#define LANE_MAX_BAGS(slots, lanes) ((slots) - 2 * (lanes))
 
 /* Within so many of its own ticks a call answers while no other task is ticked, on a table that lane_start began. */
 #define LANE_MAX_TICKS_ALONE(slots) (4 * (slots) + 154)
@@ -99,6 +109,8 @@ extern "C" {
 #define LANE_MIN_TASKS 1
 #define LANE_MAX_TASKS 16
 #define LANE_MAX_GROWTH 64
+#define LANE_MIN_LANES 1
+#define LANE_MAX_LANES 4
 #define LANE_MIN_TAG 1
 #define LANE_MAX_TAG UINT64_C(9999999999)
 #define LANE_MAX_DIGIT 9        /* of a tag, the leading one */
@@ -108,10 +120,10 @@ extern "C" {
 #define LANE_MAX_TICKS 4096     /* of one run */
 #define LANE_MAX_PANEL_TICKS 32 /* of one list of the panel */
 #define LANE_LIST_TAGS 1024     /* the most of one tag list */
-#define LANE_MIN_WORDS 28       /* of a table */
-#define LANE_MAX_WORDS 4296
+#define LANE_MIN_WORDS 37       /* of a table */
+#define LANE_MAX_WORDS 4320
 
-/* The ends of the lane. */
+/* The ends of a lane. */
 #define LANE_LEFT 0
 #define LANE_RIGHT 1
 
@@ -123,9 +135,9 @@ extern "C" {
 
 /* What a tick and a dispatch answer: the kind, which a run writes too (but 7 and 8). */
 #define LANE_GOING 0   /* the call is not finished */
-#define LANE_PUSHED 1  /* a push put its bag in the lane */
+#define LANE_PUSHED 1  /* a push put its bag in its lane */
 #define LANE_BAG 2     /* a pop took a bag; the value is its tag */
-#define LANE_EMPTY 3   /* a pop found the lane empty */
+#define LANE_EMPTY 3   /* a pop found its lane empty */
 #define LANE_FULL 4    /* a push found no free slot */
 #define LANE_YES 5     /* an add added as many as were free, one at least; a remove has nothing more to do (below) */
 #define LANE_NO 6      /* an add found no free slot; a remove gave back nothing (below) */
@@ -138,9 +150,9 @@ extern "C" {
  */
 
 /* Refusals. Each call tests those of its list in the order given there. */
-#define LANE_REFUSED_SIZES 1     /* start: slots, tasks or growth out of range */
+#define LANE_REFUSED_SIZES 1     /* start: slots, tasks or growth out of range, or fewer than two slots a lane */
 #define LANE_REFUSED_LENGTH 2    /* start: the table is not LANE_WORDS(slots, tasks) long */
-#define LANE_REFUSED_TABLE 3     /* under 28 words, or a header out of range or not matching the length */
+#define LANE_REFUSED_TABLE 3     /* under 37 words, or sizes in the header out of range or not matching the length */
 #define LANE_REFUSED_SHAPE 4     /* some word of the table holds what it may not hold */
 #define LANE_REFUSED_TASK 5      /* no such task */
 #define LANE_REFUSED_OPERATION 6 /* no such operation or side */
@@ -148,26 +160,32 @@ extern "C" {
 #define LANE_REFUSED_BUSY 8      /* the task is in the middle of a call */
 #define LANE_REFUSED_HINT 9      /* hint not below the number of slots */
 #define LANE_REFUSED_IDLE 10     /* the task has no call */
-#define LANE_REFUSED_NO_SLOT 11  /* a link or register that is needed is none, or the lane has no end (below) */
+#define LANE_REFUSED_NO_SLOT 11  /* a link or register that is needed is none, or a lane has no end (below) */
 #define LANE_REFUSED_OUT 12      /* out slice under two words a tag */
 #define LANE_REFUSED_LIST 13     /* list of odd length, or of more than 4,096 ticks */
 #define LANE_REFUSED_ANSWERS 14  /* answer slice under three words a tick */
 #define LANE_REFUSED_PANEL 15    /* panel: list of more than 32 ticks */
-#define LANE_REFUSED_TWICE 16    /* begin of a push: the tag is in the lane or in a busy push */
+#define LANE_REFUSED_TWICE 16    /* begin of a push: the tag is in a lane or in a busy push */
 #define LANE_REFUSED_TAGS 17     /* tag list: not a whole number of tags, or more than 1,024 */
 #define LANE_REFUSED_NO_TAG 18   /* tag list: a place holds no tag */
 #define LANE_REFUSED_TAGS_OUT 19 /* tag list: out slice too short for it */
+#define LANE_REFUSED_LANES 25    /* start: not one to four lanes */
+#define LANE_REFUSED_LANE 26     /* begin, read: no such lane */
 
 /* The word of the table, counted from 0, that has the task last dispatched: below the number of tasks. */
-#define LANE_DISPATCHED 6
+#define LANE_DISPATCHED 5
 
 /* The two parts of what lane_tick and lane_dispatch return: the kind, and the tag or the refusal. */
 #define LANE_KIND(answer) ((uint32_t)((answer) >> 40))
 #define LANE_VALUE(answer) ((answer) & UINT64_C(0xffffffffff))
 
-/* The two halves of what lane_run, lane_panel, lane_read, lane_tags_read and lane_tags_write return. */
-#define LANE_PAIR_HIGH(pair) ((uint32_t)((pair) >> 32))
-#define LANE_PAIR_LOW(pair) ((uint32_t)((pair) & 0xffffffffu))
+/*
+ * The two halves of what lane_run, lane_panel, lane_read, lane_tags_read and lane_tags_write return: the refusal, or 0;
+ * and the count, of the ticks made or of the tags. With a refusal the count is 0, but for a run and the panel's list,
+ * which have made so many ticks before it, and for 18, where it is the place.
+ */
+#define LANE_REFUSAL(pair) ((uint32_t)((pair) >> 32))
+#define LANE_COUNT(pair) ((uint32_t)((pair) & 0xffffffffu))
 
 /*
  * On a table that lane_start began and only these calls have written since, lent whole, no call gives 3, 4 or 11,
@@ -175,20 +193,21 @@ extern "C" {
  */
 
 /*
- * Begins an empty lane; the table's words may be anything before. `growth` (0 to 64) is how many spare slots a push
- * adds beyond the one it needs.
- * Returns 0, or a refusal: 1, 2. Writes every word of the table.
+ * Begins empty lanes, `lanes` of them (1 to 4); the table's words may be anything before. `growth` (0 to 64) is how
+ * many spare slots a push adds beyond the one it needs.
+ * Returns 0, or a refusal: 25, 1, 2. Writes every word of the table.
  */
-uint32_t lane_start(uint32_t *table, size_t words, uint32_t slots, uint32_t tasks, uint32_t growth);
+uint32_t lane_start(uint32_t *table, size_t words, uint32_t slots, uint32_t tasks, uint32_t growth, uint32_t lanes);
 
 /*
- * Gives an idle task a call. The tag of a push is `digit` and `argument`, its low part; for the others `digit` is 0.
- * Nothing of a call is done before the task's ticks. For a push the lane is walked as by lane_read (11), and the tag
- * looked for there and in every busy push, the task's own included (16).
- * Returns 0, or a refusal: 3, 4, 5, 6, 7, 11 (push), 16 (push), 8. Writes the task's twelve words.
+ * Gives an idle task a call on `lane`, from 0. The tag of a push is `digit` and `argument`, its low part; for the
+ * others `digit` is 0. Nothing of a call is done before the task's ticks, which take no lane: the task keeps it. For a
+ * push every lane is walked as by lane_read (11), and the tag looked for there and in every busy push, the task's own
+ * included (16).
+ * Returns 0, or a refusal: 3, 4, 26, 5, 6, 7, 11 (push), 16 (push), 8. Writes the task's thirteen words.
  */
-uint32_t lane_begin(uint32_t *table, size_t words, uint32_t task, uint32_t operation, uint32_t side, uint32_t digit,
-                    uint32_t argument);
+uint32_t lane_begin(uint32_t *table, size_t words, uint32_t task, uint32_t lane, uint32_t operation, uint32_t side,
+                    uint32_t digit, uint32_t argument);
 
 /*
  * Makes one tick of a busy task. If the tick takes a free slot, it is the first one from `hint` (below the number of
@@ -218,8 +237,9 @@ uint64_t lane_tick(uint32_t *table, size_t words, uint32_t task, uint32_t hint);
  *     uint64_t answer;
  *     uint32_t ended[2];
  *     int count = 0;
- *     if (lane_start(table, words, 8, 2, 0) != 0 || lane_begin(table, words, 0, LANE_PUSH, LANE_LEFT, 0, 51) != 0 ||
- *         lane_begin(table, words, 1, LANE_POP, LANE_RIGHT, 0, 0) != 0) {
+ *     if (lane_start(table, words, 8, 2, 0, 1) != 0 ||
+ *         lane_begin(table, words, 0, 0, LANE_PUSH, LANE_LEFT, 0, 51) != 0 ||
+ *         lane_begin(table, words, 1, 0, LANE_POP, LANE_RIGHT, 0, 0) != 0) {
  *         return 1;
  *     }
  *     while (LANE_KIND(answer = lane_dispatch(table, words, 0)) < LANE_REFUSED) {
@@ -235,9 +255,9 @@ uint64_t lane_dispatch(uint32_t *table, size_t words, uint32_t hint);
 
 /*
  * Makes the ticks of a list of (task, hint) pairs, two words each, up to the first refused.
- * Returns LANE_PAIR_HIGH: the ticks made; LANE_PAIR_LOW: 0, or the refusal: 3, 4, 13, 14 before any tick; 5, 9, 10, 11
- * at the tick that it stopped at. Writes the table as the ticks made do, and three words of `answers` for each: the
- * kind, then the digit and the low part of the tag, 0 and 0 where there is none. Later words of `answers` stay.
+ * Returns LANE_COUNT: the ticks made; LANE_REFUSAL: 0, or the refusal: 3, 4, 13, 14 before any tick; 5, 9, 10, 11 at
+ * the tick that it stopped at. Writes the table as the ticks made do, and three words of `answers` for each: the kind,
+ * then the digit and the low part of the tag, 0 and 0 where there is none. Later words of `answers` stay.
  *
  * ```c
  * #include "lane.h"
@@ -247,12 +267,13 @@ uint64_t lane_dispatch(uint32_t *table, size_t words, uint32_t hint);
  *     size_t words = LANE_WORDS(8, 2);
  *     static const uint32_t list[] = {0, 0, 1, 0, 0, 0, 1, 0};
  *     uint32_t answers[LANE_ANSWER_WORDS * 4];
- *     if (lane_start(table, words, 8, 2, 0) != 0 || lane_begin(table, words, 0, LANE_PUSH, LANE_LEFT, 0, 51) != 0 ||
- *         lane_begin(table, words, 1, LANE_POP, LANE_RIGHT, 0, 0) != 0) {
+ *     if (lane_start(table, words, 8, 2, 0, 1) != 0 ||
+ *         lane_begin(table, words, 0, 0, LANE_PUSH, LANE_LEFT, 0, 51) != 0 ||
+ *         lane_begin(table, words, 1, 0, LANE_POP, LANE_RIGHT, 0, 0) != 0) {
  *         return 1;
  *     }
  *     uint64_t ran = lane_run(table, words, list, 8, answers, LANE_ANSWER_WORDS * 4);
- *     return LANE_PAIR_HIGH(ran) == 4 && LANE_PAIR_LOW(ran) == 0 && answers[9] == LANE_GOING ? 0 : 1;
+ *     return LANE_REFUSAL(ran) == 0 && LANE_COUNT(ran) == 4 && answers[9] == LANE_GOING ? 0 : 1;
  * }
  * ```
  */
@@ -267,18 +288,38 @@ uint64_t lane_panel(uint32_t *table, size_t words, const uint32_t *list, size_t 
                     size_t answers_words);
 
 /*
- * Reads the tags of the lane, left end first. LANE_TAG_WORDS * LANE_MAX_BAGS(slots) words of `out` are enough for every
- * lane that lane_start began.
- * Returns LANE_PAIR_HIGH: 0, and LANE_PAIR_LOW: how many tags there are; or LANE_PAIR_HIGH: 1, and LANE_PAIR_LOW: the
- * refusal: 3, 4, 11, 12. Writes two words of `out` for each tag, the digit and the low part; later words stay.
+ * Reads the tags of `lane`, left end first. LANE_TAG_WORDS * LANE_MAX_BAGS(slots, lanes) words of `out` are enough for
+ * every lane that lane_start began.
+ * Returns LANE_COUNT: how many tags there are; LANE_REFUSAL: 0, or the refusal: 3, 4, 26, 11, 12. Writes two words of
+ * `out` for each tag, the digit and the low part; later words stay.
+ *
+ * ```c
+ * #include "lane.h"
+ *
+ * int main(void) {
+ *     static uint32_t table[LANE_WORDS(8, 1)];
+ *     size_t words = LANE_WORDS(8, 1);
+ *     uint32_t tags[LANE_TAG_WORDS * LANE_MAX_BAGS(8, 2)];
+ *     size_t out_words = LANE_TAG_WORDS * LANE_MAX_BAGS(8, 2);
+ *     if (lane_start(table, words, 8, 1, 0, 2) != 0 ||
+ *         LANE_KIND(lane_call(table, words, 0, 1, LANE_PUSH, LANE_LEFT, 51)) != LANE_PUSHED) {
+ *         return 1;
+ *     }
+ *     if (LANE_COUNT(lane_read(table, words, 0, tags, out_words)) != 0 ||
+ *         LANE_COUNT(lane_read(table, words, 1, tags, out_words)) != 1 || lane_tag(tags[0], tags[1]) != 51) {
+ *         return 1;
+ *     }
+ *     return LANE_REFUSAL(lane_read(table, words, 2, tags, out_words)) == LANE_REFUSED_LANE ? 0 : 1;
+ * }
+ * ```
  */
-uint64_t lane_read(const uint32_t *table, size_t words, uint32_t *out, size_t out_words);
+uint64_t lane_read(const uint32_t *table, size_t words, uint32_t lane, uint32_t *out, size_t out_words);
 
 /*
  * Reads a tag list in packed decimal: `bytes` is LANE_TAG_BYTES times the number of its tags, 0 to 1,024 of them.
- * Returns LANE_PAIR_HIGH: 0, and LANE_PAIR_LOW: how many tags there are; or LANE_PAIR_HIGH: the refusal: 17, 18, 19,
- * and LANE_PAIR_LOW: for 18 the place, from 0, of the first tag that has a half byte above 9 or is zero, else 0. 17 is
- * for `bytes` that are no multiple of 5 or above 5,120, 19 for under two words of `out` a tag.
+ * Returns LANE_COUNT: how many tags there are, for 18 the place, from 0, of the first tag that has a half byte above 9
+ * or is zero; LANE_REFUSAL: 0, or the refusal: 17, 18, 19. 17 is for `bytes` that are no multiple of 5 or above 5,120,
+ * 19 for under two words of `out` a tag.
  * Writes two words of `out` for each tag, the digit and the low part; later words stay.
  *
  * ```c
@@ -289,7 +330,7 @@ uint64_t lane_read(const uint32_t *table, size_t words, uint32_t *out, size_t ou
  *     uint32_t tags[LANE_TAG_WORDS * 2];
  *     uint8_t again[LANE_TAG_BYTES];
  *     uint64_t read = lane_tags_read(list, LANE_TAG_BYTES * 2, tags, LANE_TAG_WORDS * 2);
- *     if (LANE_PAIR_HIGH(read) != LANE_REFUSED_NO_TAG || LANE_PAIR_LOW(read) != 1) {
+ *     if (LANE_REFUSAL(read) != LANE_REFUSED_NO_TAG || LANE_COUNT(read) != 1) {
  *         return 1;
  *     }
  *     read = lane_tags_read(list, LANE_TAG_BYTES, tags, LANE_TAG_WORDS * 2);
@@ -329,16 +370,16 @@ static inline uint32_t lane_tag_low(uint64_t tag) {
 }
 
 /*
- * Begins a call and ticks its task with hint 0 until it answers, while no other task gets a tick. The argument is one
- * number, of a push its tag.
+ * Begins a call on a lane and ticks its task with hint 0 until it answers, while no other task gets a tick. The
+ * argument is one number, of a push its tag.
  * Returns what lane_tick returns: the answer, or LANE_REFUSED with the refusal of the begin or of the tick. On a table
  * that lane_start began it is never LANE_GOING; on any other, LANE_GOING after LANE_MAX_TICKS_ALONE(slots) ticks
  * without an answer, and the task is still busy. Each tick tests the whole table: at many slots lane_run is faster.
  */
-static inline uint64_t lane_call(uint32_t *table, size_t words, uint32_t task, uint32_t operation, uint32_t side,
-                                 uint64_t argument) {
+static inline uint64_t lane_call(uint32_t *table, size_t words, uint32_t task, uint32_t lane, uint32_t operation,
+                                 uint32_t side, uint64_t argument) {
     uint32_t digit = lane_tag_digit(argument), low = lane_tag_low(argument);
-    uint32_t refusal = lane_begin(table, words, task, operation, side, digit, low);
+    uint32_t refusal = lane_begin(table, words, task, lane, operation, side, digit, low);
     uint64_t answer = (uint64_t)LANE_REFUSED << 40 | refusal;
     uint32_t left = refusal == 0 ? LANE_MAX_TICKS_ALONE(table[0]) : 0;
     while (left > 0) {
@@ -348,13 +389,16 @@ static inline uint64_t lane_call(uint32_t *table, size_t words, uint32_t task, u
     return answer;
 }
 
-/* A refusal in words, for a message: a constant text in English; "not refused" for 0, "no refusal" above 19. */
+/*
+ * A refusal in words, for a message: a constant text in English; "not refused" for 0, "no refusal" for a number that no
+ * call gives.
+ */
 static inline const char *lane_refusal_text(uint32_t refusal) {
     switch (refusal) {
     case 0:
         return "not refused";
     case LANE_REFUSED_SIZES:
-        return "slots, tasks or growth out of range";
+        return "slots, tasks or growth out of range, or fewer than two slots a lane";
     case LANE_REFUSED_LENGTH:
         return "not as many words as the sizes ask for";
     case LANE_REFUSED_TABLE:
@@ -374,7 +418,7 @@ static inline const char *lane_refusal_text(uint32_t refusal) {
     case LANE_REFUSED_IDLE:
         return "the task is idle";
     case LANE_REFUSED_NO_SLOT:
-        return "a link or register that is needed is none, or the lane has no end";
+        return "a link or register that is needed is none, or a lane has no end";
     case LANE_REFUSED_OUT:
         return "the out slice is too short for the tags";
     case LANE_REFUSED_LIST:
@@ -384,13 +428,17 @@ static inline const char *lane_refusal_text(uint32_t refusal) {
     case LANE_REFUSED_PANEL:
         return "a panel's list of more than 32 ticks";
     case LANE_REFUSED_TWICE:
-        return "the tag is in the lane or in a busy push";
+        return "the tag is in a lane or in a busy push";
     case LANE_REFUSED_TAGS:
         return "not a whole number of tags, or more than 1,024";
     case LANE_REFUSED_NO_TAG:
         return "a place of the tag list holds no tag";
     case LANE_REFUSED_TAGS_OUT:
         return "the out slice is too short for the tag list";
+    case LANE_REFUSED_LANES:
+        return "not one to four lanes";
+    case LANE_REFUSED_LANE:
+        return "no such lane";
     default:
         return "no refusal";
     }

@@ -37,27 +37,27 @@ static void print_ticks(int times) {
 
 static void print_lane(void) {
     uint32_t out[LANE_TAG_WORDS * SLOTS];
-    uint64_t reading = lane_read(table, WORDS, out, LANE_TAG_WORDS * SLOTS);
-    if (LANE_PAIR_HIGH(reading) != 0) {
-        print_reply(LANE_PAIR_LOW(reading));
+    uint64_t reading = lane_read(table, WORDS, 0, out, LANE_TAG_WORDS * SLOTS);
+    if (LANE_REFUSAL(reading) != 0) {
+        print_reply(LANE_REFUSAL(reading));
         return;
     }
     printf("(lane");
-    for (uint32_t place = 0; place < LANE_PAIR_LOW(reading); place++) {
+    for (uint32_t place = 0; place < LANE_COUNT(reading); place++) {
         printf(" %010" PRIu64, lane_tag(out[2 * place], out[2 * place + 1]));
     }
     puts(")");
 }
 
 int main(void) {
-    print_reply(lane_start(table, WORDS, SLOTS, TASKS, 0));
-    print_reply(lane_begin(table, WORDS, 0, LANE_PUSH, LANE_RIGHT, 0, 51));
+    print_reply(lane_start(table, WORDS, SLOTS, TASKS, 0, 1));
+    print_reply(lane_begin(table, WORDS, 0, 0, LANE_PUSH, LANE_RIGHT, 0, 51));
     print_ticks(10);
     print_ticks(1);
     print_lane();
-    print_reply(lane_begin(table, WORDS, 0, LANE_POP, LANE_LEFT, 0, 0));
+    print_reply(lane_begin(table, WORDS, 0, 0, LANE_POP, LANE_LEFT, 0, 0));
     print_ticks(4);
-    print_reply(lane_begin(table, WORDS, 0, LANE_POP, LANE_RIGHT, 0, 0));
+    print_reply(lane_begin(table, WORDS, 0, 0, LANE_POP, LANE_RIGHT, 0, 0));
     print_ticks(4);
     print_ticks(1);
     return 0;

@@ -19,7 +19,7 @@ static void check(uint32_t refusal) {
 
 /* A call to its answer: the kind; a bag's tag goes to `tag`, if it is not NULL. */
 static uint32_t call(uint32_t task, uint32_t operation, uint32_t side, uint64_t argument, uint64_t *tag) {
-    uint64_t answer = lane_call(table, WORDS, task, operation, side, argument);
+    uint64_t answer = lane_call(table, WORDS, task, 0, operation, side, argument);
     if (LANE_KIND(answer) == LANE_REFUSED) {
         check((uint32_t)LANE_VALUE(answer));
     }
@@ -65,11 +65,11 @@ static int push_for_sure(uint32_t side, uint64_t tag) {
 }
 
 static void print_lane(void) {
-    uint32_t tags[LANE_TAG_WORDS * LANE_MAX_BAGS(SLOTS)];
-    uint64_t reading = lane_read(table, WORDS, tags, LANE_TAG_WORDS * LANE_MAX_BAGS(SLOTS));
-    check(LANE_PAIR_HIGH(reading) == 0 ? 0 : LANE_PAIR_LOW(reading));
+    uint32_t tags[LANE_TAG_WORDS * LANE_MAX_BAGS(SLOTS, 1)];
+    uint64_t reading = lane_read(table, WORDS, 0, tags, LANE_TAG_WORDS * LANE_MAX_BAGS(SLOTS, 1));
+    check(LANE_REFUSAL(reading));
     printf("  lane:");
-    for (uint32_t place = 0; place < LANE_PAIR_LOW(reading); place++) {
+    for (uint32_t place = 0; place < LANE_COUNT(reading); place++) {
         printf(" %010" PRIu64, lane_tag(tags[2 * place], tags[2 * place + 1]));
     }
     puts("");
@@ -77,10 +77,10 @@ static void print_lane(void) {
 
 int main(void) {
     uint64_t tag = 0;
-    check(lane_start(table, WORDS, SLOTS, TASKS, 0));
+    check(lane_start(table, WORDS, SLOTS, TASKS, 0, 1));
 
     puts("the sleeper begins a pop, gets one tick, and stalls");
-    check(lane_begin(table, WORDS, SLEEPER, LANE_POP, LANE_LEFT, 0, 0));
+    check(lane_begin(table, WORDS, SLEEPER, 0, LANE_POP, LANE_LEFT, 0, 0));
     if (LANE_KIND(lane_tick(table, WORDS, SLEEPER, 0)) != LANE_GOING) {
         return 1;
     }

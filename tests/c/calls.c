@@ -14,7 +14,7 @@ static void expect(int holds, const char *what, int line) {
 }
 
 #define EXPECT(condition) expect((condition), #condition, __LINE__)
-#define PAIR(high, low) ((uint64_t)(high) << 32 | (uint64_t)(low))
+#define PAIR(refusal, count) ((uint64_t)(refusal) << 32 | (uint64_t)(count))
 #define ANSWER(kind, value) ((uint64_t)(kind) << 40 | (uint64_t)(value))
 
 enum { SLOTS = 8, TASKS = 2, WORDS = LANE_WORDS(SLOTS, TASKS), MANY = LANE_MAX_TICKS + 1 };
@@ -23,12 +23,17 @@ static uint32_t table[LANE_MAX_WORDS];
 static uint32_t list[2 * MANY];
 static uint32_t answers[LANE_ANSWER_WORDS * MANY];
 
+/* One lane, as most of the tests have it. */
 static void begin_again(void) {
-    EXPECT(lane_start(table, WORDS, SLOTS, TASKS, 0) == 0);
+    EXPECT(lane_start(table, WORDS, SLOTS, TASKS, 0, 1) == 0);
 }
 
 static uint32_t begin(uint32_t task, uint32_t operation, uint32_t side, uint64_t argument) {
-    return lane_begin(table, WORDS, task, operation, side, lane_tag_digit(argument), lane_tag_low(argument));
+    return lane_begin(table, WORDS, task, 0, operation, side, lane_tag_digit(argument), lane_tag_low(argument));
+}
+
+static uint64_t call(uint32_t task, uint32_t operation, uint32_t side, uint64_t argument) {
+    return lane_call(table, WORDS, task, 0, operation, side, argument);
 }
 
 /* Each limit is accepted, and the number beyond it is not. */
@@ -36,15 +41,24 @@ static void limits(void) {
     static uint32_t longer[LANE_WORDS(LANE_MAX_SLOTS + 1, LANE_MAX_TASKS)];
     EXPECT(LANE_WORDS(LANE_MIN_SLOTS, LANE_MIN_TASKS) == LANE_MIN_WORDS);
     EXPECT(LANE_WORDS(LANE_MAX_SLOTS, LANE_MAX_TASKS) == LANE_MAX_WORDS);
-    EXPECT(lane_start(table, LANE_MIN_WORDS, LANE_MIN_SLOTS, LANE_MIN_TASKS, 0) == 0);
-    EXPECT(lane_start(table, LANE_MIN_WORDS - 4, LANE_MIN_SLOTS - 1, LANE_MIN_TASKS, 0) == LANE_REFUSED_SIZES);
-    EXPECT(lane_start(table, LANE_MIN_WORDS - 12, LANE_MIN_SLOTS, LANE_MIN_TASKS - 1, 0) == LANE_REFUSED_SIZES);
-    EXPECT(lane_start(table, LANE_MIN_WORDS - 1, LANE_MIN_SLOTS, LANE_MIN_TASKS, 0) == LANE_REFUSED_LENGTH);
-    EXPECT(lane_start(table, LANE_MAX_WORDS, LANE_MAX_SLOTS, LANE_MAX_TASKS, LANE_MAX_GROWTH) == 0);
-    EXPECT(lane_start(table, LANE_MAX_WORDS, LANE_MAX_SLOTS, LANE_MAX_TASKS, LANE_MAX_GROWTH + 1) ==
+    EXPECT(lane_start(table, LANE_MIN_WORDS, LANE_MIN_SLOTS, LANE_MIN_TASKS, 0, 1) == 0);
+    EXPECT(lane_start(table, LANE_MIN_WORDS - 4, LANE_MIN_SLOTS - 1, LANE_MIN_TASKS, 0, 1) == LANE_REFUSED_SIZES);
+    EXPECT(lane_start(table, LANE_MIN_WORDS - 13, LANE_MIN_SLOTS, LANE_MIN_TASKS - 1, 0, 1) == LANE_REFUSED_SIZES);
+    EXPECT(lane_start(table, LANE_MIN_WORDS - 1, LANE_MIN_SLOTS, LANE_MIN_TASKS, 0, 1) == LANE_REFUSED_LENGTH);
+    EXPECT(lane_start(table, LANE_MAX_WORDS, LANE_MAX_SLOTS, LANE_MAX_TASKS, LANE_MAX_GROWTH, LANE_MAX_LANES) == 0);
+    EXPECT(lane_start(table, LANE_MAX_WORDS, LANE_MAX_SLOTS, LANE_MAX_TASKS, LANE_MAX_GROWTH + 1, 1) ==
            LANE_REFUSED_SIZES);
-    EXPECT(lane_start(longer, LANE_MAX_WORDS + 4, LANE_MAX_SLOTS + 1, LANE_MAX_TASKS, 0) == LANE_REFUSED_SIZES);
-    EXPECT(lane_start(table, LANE_MAX_WORDS, LANE_MAX_SLOTS, LANE_MAX_TASKS + 1, 0) == LANE_REFUSED_SIZES);
+    EXPECT(lane_start(longer, LANE_MAX_WORDS + 4, LANE_MAX_SLOTS + 1, LANE_MAX_TASKS, 0, 1) == LANE_REFUSED_SIZES);
+    EXPECT(lane_start(table, LANE_MAX_WORDS, LANE_MAX_SLOTS, LANE_MAX_TASKS + 1, 0, 1) == LANE_REFUSED_SIZES);
+    for (uint32_t lanes = LANE_MIN_LANES; lanes <= LANE_MAX_LANES; lanes++) {
+        uint32_t least = 2 * lanes;
+        EXPECT(lane_start(table, LANE_WORDS(least, 1), least, 1, 0, lanes) == 0);
+        EXPECT(LANE_MAX_BAGS(least, lanes) == 0);
+        EXPECT(lane_start(table, LANE_WORDS(least - 1, 1), least - 1, 1, 0, lanes) == LANE_REFUSED_SIZES);
+    }
+    EXPECT(lane_start(table, WORDS, SLOTS, TASKS, 0, LANE_MIN_LANES - 1) == LANE_REFUSED_LANES);
+    EXPECT(lane_start(table, WORDS, SLOTS, TASKS, 0, LANE_MAX_LANES + 1) == LANE_REFUSED_LANES);
+    EXPECT(lane_start(table, WORDS, 0, 0, 0, LANE_MAX_LANES + 1) == LANE_REFUSED_LANES); /* before the sizes */
 
     static const struct {
         uint32_t operation;
@@ -61,9 +75,9 @@ static void limits(void) {
         begin_again();
         EXPECT(begin(0, operation, LANE_LEFT, arguments[i].most + 1) == LANE_REFUSED_ARGUMENT);
         EXPECT(begin(0, operation, LANE_LEFT, UINT64_MAX) == LANE_REFUSED_ARGUMENT);
-        EXPECT(lane_begin(table, WORDS, 0, operation, LANE_LEFT, LANE_MAX_DIGIT + 1, 0) == LANE_REFUSED_ARGUMENT);
-        EXPECT(lane_begin(table, WORDS, 0, operation, LANE_LEFT, 0, LANE_MAX_LOW + 1) == LANE_REFUSED_ARGUMENT);
-        EXPECT(lane_begin(table, WORDS, 0, operation, LANE_LEFT, 1, 0) ==
+        EXPECT(lane_begin(table, WORDS, 0, 0, operation, LANE_LEFT, LANE_MAX_DIGIT + 1, 0) == LANE_REFUSED_ARGUMENT);
+        EXPECT(lane_begin(table, WORDS, 0, 0, operation, LANE_LEFT, 0, LANE_MAX_LOW + 1) == LANE_REFUSED_ARGUMENT);
+        EXPECT(lane_begin(table, WORDS, 0, 0, operation, LANE_LEFT, 1, 0) ==
                (operation == LANE_PUSH ? 0 : LANE_REFUSED_ARGUMENT));
     }
     begin_again();
@@ -71,8 +85,8 @@ static void limits(void) {
 
     EXPECT(begin(0, LANE_POP, LANE_LEFT, 0) == 0);
     EXPECT(lane_run(table, WORDS, list, 2 * LANE_MAX_TICKS, answers, LANE_ANSWER_WORDS * LANE_MAX_TICKS) ==
-           PAIR(4, LANE_REFUSED_IDLE));
-    EXPECT(lane_run(table, WORDS, list, 2 * MANY, answers, LANE_ANSWER_WORDS * MANY) == PAIR(0, LANE_REFUSED_LIST));
+           PAIR(LANE_REFUSED_IDLE, 4));
+    EXPECT(lane_run(table, WORDS, list, 2 * MANY, answers, LANE_ANSWER_WORDS * MANY) == PAIR(LANE_REFUSED_LIST, 0));
 }
 
 /* A number and its two words; tags with one low part, and some with none, go in and come out whole. */
@@ -85,12 +99,12 @@ static void tags(void) {
     begin_again();
     for (int i = 0; i < SOME; i++) {
         EXPECT(lane_tag(lane_tag_digit(some[i]), lane_tag_low(some[i])) == some[i]);
-        EXPECT(lane_call(table, WORDS, 0, LANE_PUSH, LANE_RIGHT, some[i]) == ANSWER(LANE_PUSHED, 0));
-        EXPECT(lane_call(table, WORDS, 0, LANE_PUSH, LANE_LEFT, some[i]) == ANSWER(LANE_REFUSED, LANE_REFUSED_TWICE));
+        EXPECT(call(0, LANE_PUSH, LANE_RIGHT, some[i]) == ANSWER(LANE_PUSHED, 0));
+        EXPECT(call(0, LANE_PUSH, LANE_LEFT, some[i]) == ANSWER(LANE_REFUSED, LANE_REFUSED_TWICE));
     }
-    EXPECT(lane_read(table, WORDS, answers, LANE_TAG_WORDS * SOME - 1) == PAIR(1, LANE_REFUSED_OUT));
+    EXPECT(lane_read(table, WORDS, 0, answers, LANE_TAG_WORDS * SOME - 1) == PAIR(LANE_REFUSED_OUT, 0));
     answers[LANE_TAG_WORDS * SOME] = 7;
-    EXPECT(lane_read(table, WORDS, answers, LANE_TAG_WORDS * SOME + 1) == SOME);
+    EXPECT(lane_read(table, WORDS, 0, answers, LANE_TAG_WORDS * SOME + 1) == SOME);
     for (int i = 0; i < SOME; i++) {
         EXPECT(answers[2 * i] == lane_tag_digit(some[i]) && answers[2 * i + 1] == lane_tag_low(some[i]));
     }
@@ -98,7 +112,7 @@ static void tags(void) {
     answers[LANE_ANSWER_WORDS * 4] = 7;
     for (int i = 0; i < SOME; i++) {
         EXPECT(begin(0, LANE_POP, LANE_LEFT, 0) == 0);
-        EXPECT(lane_run(table, WORDS, list, 8, answers, LANE_ANSWER_WORDS * 4) == PAIR(4, 0));
+        EXPECT(lane_run(table, WORDS, list, 8, answers, LANE_ANSWER_WORDS * 4) == 4);
         EXPECT(answers[9] == LANE_BAG && lane_tag(answers[10], answers[11]) == some[i]);
     }
     EXPECT(answers[LANE_ANSWER_WORDS * 4] == 7);
@@ -148,7 +162,7 @@ static void tag_lists(void) {
 /* Every refusal that a caller can ask for comes with its number, and every number has a text of its own. */
 static void refusals(void) {
     begin_again();
-    EXPECT(lane_begin(table, LANE_MIN_WORDS - 1, 0, LANE_POP, LANE_LEFT, 0, 0) == LANE_REFUSED_TABLE);
+    EXPECT(lane_begin(table, LANE_MIN_WORDS - 1, 0, 0, LANE_POP, LANE_LEFT, 0, 0) == LANE_REFUSED_TABLE);
     EXPECT(begin(TASKS, LANE_POP, LANE_LEFT, 0) == LANE_REFUSED_TASK);
     EXPECT(begin(0, 5, LANE_LEFT, 0) == LANE_REFUSED_OPERATION);
     EXPECT(begin(0, LANE_POP, 2, 0) == LANE_REFUSED_OPERATION);
@@ -159,53 +173,80 @@ static void refusals(void) {
     EXPECT(begin(0, LANE_PUSH, LANE_LEFT, 1000000051) == LANE_REFUSED_BUSY);
     EXPECT(begin(0, LANE_PUSH, LANE_LEFT, 51) == LANE_REFUSED_TWICE);
     EXPECT(begin(1, LANE_PUSH, LANE_LEFT, 51) == LANE_REFUSED_TWICE);
-    EXPECT(lane_run(table, WORDS, list, 3, answers, 6) == PAIR(0, LANE_REFUSED_LIST));
-    EXPECT(lane_run(table, WORDS, list, 4, answers, 5) == PAIR(0, LANE_REFUSED_ANSWERS));
-    EXPECT(lane_panel(table, WORDS, list, 2 * LANE_MAX_PANEL_TICKS + 1, answers, 0) == PAIR(0, LANE_REFUSED_LIST));
-    EXPECT(lane_panel(table, WORDS, list, 2 * LANE_MAX_PANEL_TICKS + 2, answers, 0) == PAIR(0, LANE_REFUSED_PANEL));
-    EXPECT(lane_panel(table, WORDS, list, 2 * LANE_MAX_PANEL_TICKS, answers, 0) == PAIR(0, LANE_REFUSED_ANSWERS));
-    EXPECT(lane_panel(table, WORDS, list, 4, answers, 5) == PAIR(0, LANE_REFUSED_ANSWERS));
-    EXPECT(lane_panel(table, WORDS, list, 4, answers, 6) == PAIR(2, 0));
-    table[7] = 1;
-    EXPECT(lane_read(table, WORDS, answers, 1) == PAIR(1, LANE_REFUSED_SHAPE));
-    table[7] = 0;
-    table[9] = 65535; /* the left hat's link to the right made none, which no call does */
-    EXPECT(lane_read(table, WORDS, answers, 1) == PAIR(1, LANE_REFUSED_NO_SLOT));
+    EXPECT(lane_run(table, WORDS, list, 3, answers, 6) == PAIR(LANE_REFUSED_LIST, 0));
+    EXPECT(lane_run(table, WORDS, list, 4, answers, 5) == PAIR(LANE_REFUSED_ANSWERS, 0));
+    EXPECT(lane_panel(table, WORDS, list, 2 * LANE_MAX_PANEL_TICKS + 1, answers, 0) == PAIR(LANE_REFUSED_LIST, 0));
+    EXPECT(lane_panel(table, WORDS, list, 2 * LANE_MAX_PANEL_TICKS + 2, answers, 0) == PAIR(LANE_REFUSED_PANEL, 0));
+    EXPECT(lane_panel(table, WORDS, list, 2 * LANE_MAX_PANEL_TICKS, answers, 0) == PAIR(LANE_REFUSED_ANSWERS, 0));
+    EXPECT(lane_panel(table, WORDS, list, 4, answers, 5) == PAIR(LANE_REFUSED_ANSWERS, 0));
+    EXPECT(lane_panel(table, WORDS, list, 4, answers, 6) == 2);
+    table[15] = 1;
+    EXPECT(lane_read(table, WORDS, 0, answers, 1) == PAIR(LANE_REFUSED_SHAPE, 0));
+    table[15] = 0;
+    table[17] = 65535; /* the left hat's link to the right made none, which no call does */
+    EXPECT(lane_read(table, WORDS, 0, answers, 1) == PAIR(LANE_REFUSED_NO_SLOT, 0));
     EXPECT(begin(1, LANE_PUSH, LANE_LEFT, 0) == LANE_REFUSED_ARGUMENT);
     EXPECT(begin(1, LANE_PUSH, LANE_LEFT, 51) == LANE_REFUSED_NO_SLOT); /* 51 is in a busy push */
     EXPECT(begin(1, LANE_POP, LANE_LEFT, 0) == 0);
 
-    for (uint32_t one = 0; one <= 20; one++) {
+    for (uint32_t one = 0; one <= LANE_REFUSED_LANE + 1; one++) {
+        int given = one <= LANE_REFUSED_TAGS_OUT || one == LANE_REFUSED_LANES || one == LANE_REFUSED_LANE;
         EXPECT(strlen(lane_refusal_text(one)) > 0);
-        for (uint32_t other = 0; other < one; other++) {
+        EXPECT(given == (strcmp(lane_refusal_text(one), lane_refusal_text(4294967295u)) != 0));
+        for (uint32_t other = 0; given && other < one; other++) {
             EXPECT(strcmp(lane_refusal_text(one), lane_refusal_text(other)) != 0);
         }
     }
-    EXPECT(strcmp(lane_refusal_text(20), lane_refusal_text(4294967295u)) == 0);
+}
+
+/* Every pair has the refusal, or 0, in its high half and the count in its low one. */
+static void pairs(void) {
+    static const uint8_t tag_list[] = {0, 0, 0, 0, 0x51, 0, 0, 0, 0, 0x0a};
+    static const uint32_t two_tags[] = {0, 51, LANE_MAX_DIGIT + 1, 51};
+    uint32_t words[LANE_TAG_WORDS * 2];
+    uint8_t bytes[LANE_TAG_BYTES * 2];
+    EXPECT(LANE_REFUSAL(PAIR(LANE_REFUSED_LANE, 4294967295u)) == LANE_REFUSED_LANE);
+    EXPECT(LANE_COUNT(PAIR(LANE_REFUSED_LANE, 4294967295u)) == 4294967295u);
+    uint64_t (*const runs[])(uint32_t *, size_t, const uint32_t *, size_t, uint32_t *, size_t) = {lane_run, lane_panel};
+    for (size_t i = 0; i < 2; i++) {
+        begin_again();
+        EXPECT(begin(0, LANE_POP, LANE_LEFT, 0) == 0);
+        EXPECT(runs[i](table, WORDS, list, 6, answers, 9) == PAIR(0, 3));
+        EXPECT(runs[i](table, WORDS, list, 6, answers, 9) == PAIR(LANE_REFUSED_IDLE, 1)); /* one is made */
+        EXPECT(runs[i](table, WORDS, list, 6, answers, 8) == PAIR(LANE_REFUSED_ANSWERS, 0));
+    }
+    EXPECT(call(0, LANE_PUSH, LANE_LEFT, 51) == ANSWER(LANE_PUSHED, 0));
+    EXPECT(lane_read(table, WORDS, 0, answers, LANE_TAG_WORDS) == PAIR(0, 1));
+    EXPECT(lane_read(table, WORDS, 0, answers, LANE_TAG_WORDS - 1) == PAIR(LANE_REFUSED_OUT, 0));
+    EXPECT(lane_tags_read(tag_list, LANE_TAG_BYTES, words, LANE_TAG_WORDS) == PAIR(0, 1));
+    EXPECT(lane_tags_read(tag_list, LANE_TAG_BYTES * 2, words, LANE_TAG_WORDS * 2) == PAIR(LANE_REFUSED_NO_TAG, 1));
+    EXPECT(lane_tags_write(two_tags, LANE_TAG_WORDS, bytes, LANE_TAG_BYTES) == PAIR(0, 1));
+    EXPECT(lane_tags_write(two_tags, LANE_TAG_WORDS * 2, bytes, LANE_TAG_BYTES * 2) == PAIR(LANE_REFUSED_NO_TAG, 1));
 }
 
 /* NULL with length 0 is an empty slice, in every place of every call. */
 static void empty_slices(void) {
-    EXPECT(lane_start(NULL, 0, SLOTS, TASKS, 0) == LANE_REFUSED_LENGTH);
-    EXPECT(lane_start(NULL, 0, 0, TASKS, 0) == LANE_REFUSED_SIZES);
-    EXPECT(lane_begin(NULL, 0, 0, LANE_POP, LANE_LEFT, 0, 0) == LANE_REFUSED_TABLE);
+    EXPECT(lane_start(NULL, 0, SLOTS, TASKS, 0, 1) == LANE_REFUSED_LENGTH);
+    EXPECT(lane_start(NULL, 0, 0, TASKS, 0, 1) == LANE_REFUSED_SIZES);
+    EXPECT(lane_start(NULL, 0, SLOTS, TASKS, 0, 0) == LANE_REFUSED_LANES);
+    EXPECT(lane_begin(NULL, 0, 0, 0, LANE_POP, LANE_LEFT, 0, 0) == LANE_REFUSED_TABLE);
     EXPECT(lane_tick(NULL, 0, 0, 0) == ANSWER(LANE_REFUSED, LANE_REFUSED_TABLE));
     EXPECT(lane_dispatch(NULL, 0, 0) == ANSWER(LANE_REFUSED, LANE_REFUSED_TABLE));
-    EXPECT(lane_run(NULL, 0, NULL, 0, NULL, 0) == PAIR(0, LANE_REFUSED_TABLE));
-    EXPECT(lane_run(NULL, 0, list, 2, answers, 3) == PAIR(0, LANE_REFUSED_TABLE));
-    EXPECT(lane_panel(NULL, 0, NULL, 0, NULL, 0) == PAIR(0, LANE_REFUSED_TABLE));
-    EXPECT(lane_read(NULL, 0, NULL, 0) == PAIR(1, LANE_REFUSED_TABLE));
-    EXPECT(lane_read(NULL, 0, answers, 2) == PAIR(1, LANE_REFUSED_TABLE));
-    EXPECT(lane_call(NULL, 0, 0, LANE_POP, LANE_LEFT, 0) == ANSWER(LANE_REFUSED, LANE_REFUSED_TABLE));
+    EXPECT(lane_run(NULL, 0, NULL, 0, NULL, 0) == PAIR(LANE_REFUSED_TABLE, 0));
+    EXPECT(lane_run(NULL, 0, list, 2, answers, 3) == PAIR(LANE_REFUSED_TABLE, 0));
+    EXPECT(lane_panel(NULL, 0, NULL, 0, NULL, 0) == PAIR(LANE_REFUSED_TABLE, 0));
+    EXPECT(lane_read(NULL, 0, 0, NULL, 0) == PAIR(LANE_REFUSED_TABLE, 0));
+    EXPECT(lane_read(NULL, 0, 0, answers, 2) == PAIR(LANE_REFUSED_TABLE, 0));
+    EXPECT(lane_call(NULL, 0, 0, 0, LANE_POP, LANE_LEFT, 0) == ANSWER(LANE_REFUSED, LANE_REFUSED_TABLE));
     begin_again();
     EXPECT(lane_run(table, WORDS, NULL, 0, NULL, 0) == 0);
     EXPECT(lane_run(table, WORDS, NULL, 0, answers, 3) == 0);
     EXPECT(lane_panel(table, WORDS, NULL, 0, NULL, 0) == 0);
-    EXPECT(lane_read(table, WORDS, NULL, 0) == 0);
+    EXPECT(lane_read(table, WORDS, 0, NULL, 0) == 0);
     EXPECT(begin(0, LANE_PUSH, LANE_RIGHT, 51) == 0);
-    EXPECT(lane_run(table, WORDS, list, 2, NULL, 0) == PAIR(0, LANE_REFUSED_ANSWERS));
-    EXPECT(LANE_PAIR_HIGH(lane_run(table, WORDS, list, 22, answers, 33)) == 11);
-    EXPECT(lane_read(table, WORDS, NULL, 0) == PAIR(1, LANE_REFUSED_OUT));
+    EXPECT(lane_run(table, WORDS, list, 2, NULL, 0) == PAIR(LANE_REFUSED_ANSWERS, 0));
+    EXPECT(lane_run(table, WORDS, list, 22, answers, 33) == 11);
+    EXPECT(lane_read(table, WORDS, 0, NULL, 0) == PAIR(LANE_REFUSED_OUT, 0));
 
     static const uint8_t list[LANE_TAG_BYTES] = {0, 0, 0, 0, 0x51};
     static const uint32_t tag[LANE_TAG_WORDS] = {0, 51};
@@ -221,29 +262,74 @@ static void empty_slices(void) {
 /* A call to its answer; S - 2 bags and no more; what a remove says. */
 static void calls(void) {
     begin_again();
-    EXPECT(lane_call(table, WORDS, 1, LANE_POP, LANE_LEFT, 0) == ANSWER(LANE_EMPTY, 0));
-    EXPECT(lane_call(table, WORDS, 0, LANE_PUSH, LANE_LEFT, 0) == ANSWER(LANE_REFUSED, LANE_REFUSED_ARGUMENT));
-    for (uint64_t tag = 1; tag <= LANE_MAX_BAGS(SLOTS); tag++) {
-        EXPECT(lane_call(table, WORDS, 0, LANE_PUSH, LANE_RIGHT, tag) == ANSWER(LANE_PUSHED, 0));
-        EXPECT(lane_call(table, WORDS, 1, LANE_PUSH, LANE_LEFT, tag) == ANSWER(LANE_REFUSED, LANE_REFUSED_TWICE));
+    EXPECT(call(1, LANE_POP, LANE_LEFT, 0) == ANSWER(LANE_EMPTY, 0));
+    EXPECT(call(0, LANE_PUSH, LANE_LEFT, 0) == ANSWER(LANE_REFUSED, LANE_REFUSED_ARGUMENT));
+    for (uint64_t tag = 1; tag <= LANE_MAX_BAGS(SLOTS, 1); tag++) {
+        EXPECT(call(0, LANE_PUSH, LANE_RIGHT, tag) == ANSWER(LANE_PUSHED, 0));
+        EXPECT(call(1, LANE_PUSH, LANE_LEFT, tag) == ANSWER(LANE_REFUSED, LANE_REFUSED_TWICE));
     }
-    EXPECT(lane_call(table, WORDS, 0, LANE_PUSH, LANE_RIGHT, 99) == ANSWER(LANE_FULL, 0));
-    EXPECT(lane_call(table, WORDS, 0, LANE_PUSH, LANE_LEFT, 99) == ANSWER(LANE_FULL, 0));
-    EXPECT(lane_read(table, WORDS, answers, LANE_TAG_WORDS * LANE_MAX_BAGS(SLOTS)) == LANE_MAX_BAGS(SLOTS));
-    EXPECT(lane_call(table, WORDS, 1, LANE_POP, LANE_LEFT, 0) == ANSWER(LANE_BAG, 1));
-    EXPECT(lane_call(table, WORDS, 1, LANE_PUSH, LANE_RIGHT, 2) == ANSWER(LANE_REFUSED, LANE_REFUSED_TWICE));
-    EXPECT(lane_call(table, WORDS, 1, LANE_REMOVE, LANE_RIGHT, 0) == ANSWER(LANE_YES, 0)); /* nothing is spare there */
-    EXPECT(lane_call(table, WORDS, 1, LANE_REMOVE, LANE_LEFT, 0) == ANSWER(LANE_NO, 0));   /* one more than asked for */
-    EXPECT(lane_call(table, WORDS, 1, LANE_REMOVE, LANE_LEFT, 0) == ANSWER(LANE_NO, 0));
-    EXPECT(lane_call(table, WORDS, 0, LANE_PUSH, LANE_RIGHT, 99) == ANSWER(LANE_FULL, 0)); /* it is at the other end */
-    EXPECT(lane_call(table, WORDS, 0, LANE_PUSH, LANE_LEFT, 99) == ANSWER(LANE_PUSHED, 0));
+    EXPECT(call(0, LANE_PUSH, LANE_RIGHT, 99) == ANSWER(LANE_FULL, 0));
+    EXPECT(call(0, LANE_PUSH, LANE_LEFT, 99) == ANSWER(LANE_FULL, 0));
+    EXPECT(lane_read(table, WORDS, 0, answers, LANE_TAG_WORDS * LANE_MAX_BAGS(SLOTS, 1)) == LANE_MAX_BAGS(SLOTS, 1));
+    EXPECT(call(1, LANE_POP, LANE_LEFT, 0) == ANSWER(LANE_BAG, 1));
+    EXPECT(call(1, LANE_PUSH, LANE_RIGHT, 2) == ANSWER(LANE_REFUSED, LANE_REFUSED_TWICE));
+    EXPECT(call(1, LANE_REMOVE, LANE_RIGHT, 0) == ANSWER(LANE_YES, 0)); /* nothing is spare there */
+    EXPECT(call(1, LANE_REMOVE, LANE_LEFT, 0) == ANSWER(LANE_NO, 0));   /* one more than asked for */
+    EXPECT(call(1, LANE_REMOVE, LANE_LEFT, 0) == ANSWER(LANE_NO, 0));
+    EXPECT(call(0, LANE_PUSH, LANE_RIGHT, 99) == ANSWER(LANE_FULL, 0)); /* it is at the other end */
+    EXPECT(call(0, LANE_PUSH, LANE_LEFT, 99) == ANSWER(LANE_PUSHED, 0));
 
     /* A table that no start made, on which a pop goes round for ever: the helper comes back. */
     begin_again();
-    table[8 + 4 * 1] = 1; /* the right end's link to the left is itself */
-    EXPECT(lane_call(table, WORDS, 0, LANE_POP, LANE_RIGHT, 0) == ANSWER(LANE_GOING, 0));
-    EXPECT(table[5] == LANE_MAX_TICKS_ALONE(SLOTS));
+    table[16 + 4 * 1] = 1; /* the right end's link to the left is itself */
+    EXPECT(call(0, LANE_POP, LANE_RIGHT, 0) == ANSWER(LANE_GOING, 0));
+    EXPECT(table[4] == LANE_MAX_TICKS_ALONE(SLOTS));
     EXPECT(begin(0, LANE_POP, LANE_LEFT, 0) == LANE_REFUSED_BUSY);
+}
+
+/* Each lane is a row of its own; the slots and the tags are of all of them; one that is not there is refused. */
+static void lanes(void) {
+    enum { LANES = 2, MOST = LANE_MAX_BAGS(SLOTS, LANES) };
+    EXPECT(lane_start(table, WORDS, SLOTS, TASKS, 0, LANES) == 0);
+    for (uint32_t lane = 0; lane < LANES; lane++) {
+        EXPECT(lane_call(table, WORDS, 0, lane, LANE_PUSH, LANE_LEFT, 51 + lane) == ANSWER(LANE_PUSHED, 0));
+    }
+    for (uint32_t lane = 0; lane < LANES; lane++) {
+        EXPECT(lane_read(table, WORDS, lane, answers, LANE_TAG_WORDS) == 1);
+        EXPECT(lane_tag(answers[0], answers[1]) == 51 + lane);
+        EXPECT(lane_begin(table, WORDS, 0, lane, LANE_PUSH, LANE_LEFT, 0, 51) == LANE_REFUSED_TWICE);
+        EXPECT(lane_begin(table, WORDS, 0, lane, LANE_PUSH, LANE_LEFT, 0, 52) == LANE_REFUSED_TWICE);
+    }
+    EXPECT(lane_begin(table, WORDS, 1, 1, LANE_PUSH, LANE_RIGHT, 0, 53) == 0);
+    EXPECT(lane_begin(table, WORDS, 0, 0, LANE_PUSH, LANE_RIGHT, 0, 53) == LANE_REFUSED_TWICE);
+    while (LANE_KIND(lane_tick(table, WORDS, 1, 0)) == LANE_GOING) { /* on the lane that the begin named */
+    }
+    EXPECT(lane_read(table, WORDS, 0, answers, LANE_TAG_WORDS * MOST) == 1);
+    EXPECT(lane_read(table, WORDS, 1, answers, LANE_TAG_WORDS * MOST) == 2);
+    EXPECT(lane_call(table, WORDS, 0, 1, LANE_PUSH, LANE_RIGHT, 54) == ANSWER(LANE_PUSHED, 0));
+    EXPECT(lane_call(table, WORDS, 0, 0, LANE_PUSH, LANE_RIGHT, 55) == ANSWER(LANE_FULL, 0)); /* lane 1 has the slots */
+    EXPECT(LANE_COUNT(lane_read(table, WORDS, 0, answers, LANE_TAG_WORDS * MOST)) +
+               LANE_COUNT(lane_read(table, WORDS, 1, answers, LANE_TAG_WORDS * MOST)) ==
+           MOST);
+    EXPECT(lane_call(table, WORDS, 0, 1, LANE_POP, LANE_LEFT, 0) == ANSWER(LANE_BAG, 52));
+    EXPECT(lane_call(table, WORDS, 0, 0, LANE_POP, LANE_RIGHT, 0) == ANSWER(LANE_BAG, 51));
+    EXPECT(lane_call(table, WORDS, 0, 0, LANE_POP, LANE_RIGHT, 0) == ANSWER(LANE_EMPTY, 0));
+
+    EXPECT(lane_begin(table, WORDS, TASKS, LANES, LANE_POP, LANE_LEFT, 0, 0) == LANE_REFUSED_LANE); /* before 5 */
+    EXPECT(lane_begin(table, WORDS, TASKS, LANES - 1, LANE_POP, LANE_LEFT, 0, 0) == LANE_REFUSED_TASK);
+    EXPECT(lane_call(table, WORDS, 0, LANES, LANE_POP, LANE_LEFT, 0) == ANSWER(LANE_REFUSED, LANE_REFUSED_LANE));
+    EXPECT(lane_read(table, WORDS, LANES, answers, 0) == PAIR(LANE_REFUSED_LANE, 0));
+
+    EXPECT(lane_start(table, WORDS, SLOTS, TASKS, 0, LANES) == 0);
+    table[16 + 4 * 2 + 1] = 65535; /* the link to the right of lane 1's left end made none, which no call does */
+    EXPECT(lane_read(table, WORDS, 0, answers, 0) == 0);
+    EXPECT(lane_read(table, WORDS, 1, answers, 0) == PAIR(LANE_REFUSED_NO_SLOT, 0));
+    EXPECT(lane_begin(table, WORDS, 0, 0, LANE_PUSH, LANE_LEFT, 0, 51) == LANE_REFUSED_NO_SLOT); /* a push walks all */
+    EXPECT(lane_begin(table, WORDS, 0, 0, LANE_POP, LANE_LEFT, 0, 0) == 0);
+    table[3] = 1; /* one lane, and the hats of two */
+    EXPECT(lane_read(table, WORDS, LANES, answers, 0) == PAIR(LANE_REFUSED_SHAPE, 0));
+    table[3] = LANE_MAX_LANES + 1;
+    EXPECT(lane_read(table, WORDS, LANES, answers, 0) == PAIR(LANE_REFUSED_TABLE, 0));
 }
 
 static void dispatch(uint64_t answer, uint32_t task) {
@@ -274,13 +360,13 @@ static void turns(void) {
     }
     dispatch(ANSWER(LANE_BAG, LANE_MAX_TAG), 1);
     dispatch(ANSWER(LANE_IDLE, 0), 1);
-    EXPECT(table[5] == 19); /* the ticks made */
+    EXPECT(table[4] == 19); /* the ticks made */
     EXPECT(lane_dispatch(table, WORDS, SLOTS) == ANSWER(LANE_REFUSED, LANE_REFUSED_HINT));
 
     table[LANE_DISPATCHED] = TASKS;
     EXPECT(lane_dispatch(table, WORDS, 0) == ANSWER(LANE_REFUSED, LANE_REFUSED_SHAPE));
     EXPECT(begin(0, LANE_POP, LANE_LEFT, 0) == LANE_REFUSED_SHAPE);
-    table[LANE_DISPATCHED] = 0; /* as a table of format 2 has it */
+    table[LANE_DISPATCHED] = 0; /* as if task 0 had been dispatched last */
     EXPECT(begin(0, LANE_POP, LANE_LEFT, 0) == 0);
     EXPECT(begin(1, LANE_POP, LANE_LEFT, 0) == 0);
     dispatch(ANSWER(LANE_GOING, 0), 1);
@@ -291,8 +377,10 @@ int main(void) {
     tags();
     tag_lists();
     refusals();
+    pairs();
     empty_slices();
     calls();
+    lanes();
     turns();
     puts(failures == 0 ? "the header's words hold" : "the header's words do not hold");
     return failures == 0 ? 0 : 1;

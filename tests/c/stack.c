@@ -6,7 +6,8 @@
 
 #include "lane.h"
 
-enum { SLOTS = LANE_MAX_SLOTS, TASKS = LANE_MAX_TASKS, WORDS = LANE_MAX_WORDS, PAINT = 0xa5, SPACE = 65536 };
+enum { SLOTS = LANE_MAX_SLOTS, TASKS = LANE_MAX_TASKS, WORDS = LANE_MAX_WORDS, LAST = LANE_MAX_LANES - 1 };
+enum { PAINT = 0xa5, SPACE = 65536 };
 
 static uint32_t table[WORDS], out[LANE_TAG_WORDS * SLOTS];
 static uint32_t tags[LANE_TAG_WORDS * LANE_LIST_TAGS];
@@ -16,11 +17,11 @@ static unsigned char stack[SPACE];
 static ucontext_t here, there;
 
 static void start(void) {
-    lane_start(table, WORDS, SLOTS, TASKS, LANE_MAX_GROWTH);
+    lane_start(table, WORDS, SLOTS, TASKS, LANE_MAX_GROWTH, LANE_MAX_LANES);
 }
 
 static void begin(void) {
-    lane_begin(table, WORDS, 0, LANE_PUSH, LANE_RIGHT, 0, 51);
+    lane_begin(table, WORDS, 0, LAST, LANE_PUSH, LANE_RIGHT, 0, 51);
 }
 
 static void tick(void) {
@@ -32,7 +33,7 @@ static void run(void) {
 }
 
 static void panel(void) {
-    lane_begin(table, WORDS, 0, LANE_ADD, LANE_RIGHT, 0, LANE_MAX_ADD);
+    lane_begin(table, WORDS, 0, LAST, LANE_ADD, LANE_RIGHT, 0, LANE_MAX_ADD);
     lane_panel(table, WORDS, list, 2 * LANE_MAX_PANEL_TICKS, answers, LANE_ANSWER_WORDS * LANE_MAX_PANEL_TICKS);
 }
 
@@ -41,7 +42,7 @@ static void dispatch(void) {
 }
 
 static void read_lane(void) {
-    lane_read(table, WORDS, out, LANE_TAG_WORDS * SLOTS);
+    lane_read(table, WORDS, LAST, out, LANE_TAG_WORDS * SLOTS);
 }
 
 static void read_tags(void) {

@@ -18,11 +18,11 @@ use crate::Tag;
 pub enum Answer {
     /// The call is not finished.
     Going,
-    /// A push put its bag in the lane.
+    /// A push put its bag in its lane.
     Pushed,
     /// A pop took the bag with this tag.
     Bag(Tag),
-    /// A pop found the lane empty.
+    /// A pop found its lane empty.
     Empty,
     /// A push found no free slot.
     Full,
@@ -103,7 +103,7 @@ impl fmt::Display for Answer {
 #[non_exhaustive]
 #[repr(u32)]
 pub enum Refusal {
-    /// Start: slots, tasks or growth out of range.
+    /// Start: slots, tasks or growth out of range, or fewer than two slots a lane.
     Sizes = 1,
     /// Start: not as many words as the sizes ask for.
     Length = 2,
@@ -123,8 +123,8 @@ pub enum Refusal {
     Hint = 9,
     /// Tick: the task has no call.
     Idle = 10,
-    /// A link or register that is needed is none, or the lane has no end; never on a table begun by start and written
-    /// by these calls alone.
+    /// A link or register that is needed is none, or a lane has no end; never on a table begun by start and written by
+    /// these calls alone.
     NoSlot = 11,
     /// Read: the out slice is too short for the tags.
     Out = 12,
@@ -134,7 +134,7 @@ pub enum Refusal {
     Answers = 14,
     /// Panel: more than 32 ticks.
     Panel = 15,
-    /// Begin of a push: the tag is in the lane or in a busy push.
+    /// Begin of a push: the tag is in a lane or in a busy push.
     Twice = 16,
     /// Tag list: not a whole number of tags, or more than 1,024.
     Tags = 17,
@@ -142,10 +142,14 @@ pub enum Refusal {
     NoTag = 18,
     /// Tag list: the out slice is too short for it.
     TagsOut = 19,
+    /// Start: not one to four lanes. A [`Lane`](crate::Lane) has one.
+    Lanes = 25,
+    /// Begin, read: no such lane. A [`Lane`](crate::Lane) asks for none.
+    Lane = 26,
 }
 
 impl Refusal {
-    const ALL: [Refusal; 19] = [
+    const ALL: [Refusal; 21] = [
         Refusal::Sizes,
         Refusal::Length,
         Refusal::Table,
@@ -165,6 +169,8 @@ impl Refusal {
         Refusal::Tags,
         Refusal::NoTag,
         Refusal::TagsOut,
+        Refusal::Lanes,
+        Refusal::Lane,
     ];
 
     /// The refusal of a number; none for a number that no call gives.
@@ -173,10 +179,14 @@ impl Refusal {
     /// assert_eq!(lane::Refusal::from_number(10), Some(lane::Refusal::Idle));
     /// ```
     pub const fn from_number(number: u32) -> Option<Refusal> {
-        match number {
-            1..=19 => Some(Refusal::ALL[number as usize - 1]),
-            _ => None,
+        let mut place = 0;
+        while place < Refusal::ALL.len() {
+            if Refusal::ALL[place].number() == number {
+                return Some(Refusal::ALL[place]);
+            }
+            place += 1;
         }
+        None
     }
 
     /// Its number.
@@ -192,7 +202,7 @@ impl Refusal {
 impl fmt::Display for Refusal {
     fn fmt(&self, formatter: &mut fmt::Formatter<'_>) -> fmt::Result {
         let reason = match self {
-            Refusal::Sizes => "slots, tasks or growth out of range",
+            Refusal::Sizes => "slots, tasks or growth out of range, or fewer than two slots a lane",
             Refusal::Length => "not as many words as the sizes ask for",
             Refusal::Table => "the words are no table",
             Refusal::Shape => "the table's shape is broken",
@@ -202,15 +212,17 @@ impl fmt::Display for Refusal {
             Refusal::Busy => "the task is busy",
             Refusal::Hint => "the hint is not the number of a slot",
             Refusal::Idle => "the task is idle",
-            Refusal::NoSlot => "a link or register that is needed is none, or the lane has no end",
+            Refusal::NoSlot => "a link or register that is needed is none, or a lane has no end",
             Refusal::Out => "the out slice is too short for the tags",
             Refusal::List => "a run takes at most 4,096 ticks",
             Refusal::Answers => "fewer places for answers than ticks",
             Refusal::Panel => "a panel's list of more than 32 ticks",
-            Refusal::Twice => "the tag is in the lane or in a busy push",
+            Refusal::Twice => "the tag is in a lane or in a busy push",
             Refusal::Tags => "not a whole number of tags, or more than 1,024",
             Refusal::NoTag => "a place of the tag list holds no tag",
             Refusal::TagsOut => "the out slice is too short for the tag list",
+            Refusal::Lanes => "not one to four lanes",
+            Refusal::Lane => "no such lane",
         };
         write!(formatter, "refused {}: {reason}", self.number())
     }
@@ -334,12 +346,10 @@ mod tests {
 
     #[test]
     fn every_refusal_is_decoded_once_and_back() {
-        for number in 1..=19 {
-            let refusal = Refusal::from_number(number).expect("a refusal");
-            assert_eq!(refusal.number(), number);
-        }
-        for number in [0, 20, u32::MAX] {
-            assert_eq!(Refusal::from_number(number), None);
+        for number in (0..=99).chain([u32::MAX]) {
+            let refusal = Refusal::from_number(number);
+            let given = matches!(number, 1..=19 | 25..=26);
+            assert_eq!(refusal.map(Refusal::number), given.then_some(number));
         }
     }
 }

@@ -2,7 +2,7 @@
 
 use crate::{outcome, Answer, Refusal};
 
-/// What a dispatch did. [`Lane::dispatched`](crate::Lane::dispatched) says which task it ticked.
+/// What a dispatch did. [`Lanes::dispatched`](crate::Lanes::dispatched) says which task it ticked.
 ///
 /// ```
 /// use lane::{Dispatched, Lane, Refusal};

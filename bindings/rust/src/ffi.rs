@@ -13,11 +13,13 @@ mod library {
             slots: u32,
             tasks: u32,
             growth: u32,
+            lanes: u32,
         ) -> u32;
         pub fn lane_begin(
             table: *mut u32,
             words: usize,
             task: u32,
+            lane: u32,
             operation: u32,
             side: u32,
             digit: u32,
@@ -41,7 +43,13 @@ mod library {
             answers: *mut u32,
             answers_words: usize,
         ) -> u64;
-        pub fn lane_read(table: *const u32, words: usize, out: *mut u32, out_words: usize) -> u64;
+        pub fn lane_read(
+            table: *const u32,
+            words: usize,
+            lane: u32,
+            out: *mut u32,
+            out_words: usize,
+        ) -> u64;
         pub fn lane_tags_read(
             list: *const u8,
             bytes: usize,
@@ -60,41 +68,45 @@ mod library {
 // Safety, for each call below: a slice is valid for its length and a mutable one is lent to nobody else; the library
 // touches nothing outside the slices and keeps no pointer. It takes every length, 0 included.
 
-/// Writes an empty lane: 0, or the refusal.
+/// Writes empty lanes, 1 to 4 of them: 0, or the refusal.
 ///
 /// ```
 /// use lane::ffi;
 ///
-/// assert_eq!(ffi::start(&mut [0; 36], 4, 1, 0), 0);
-/// assert_eq!(ffi::start(&mut [], 4, 1, 0), 2);
+/// assert_eq!(ffi::start(&mut [0; 45], 4, 1, 0, 2), 0);
+/// assert_eq!(ffi::start(&mut [], 4, 1, 0, 5), 25);
+/// assert_eq!(ffi::start(&mut [], 4, 1, 0, 3), 1);
+/// assert_eq!(ffi::start(&mut [], 4, 1, 0, 2), 2);
 /// ```
-pub fn start(table: &mut [u32], slots: u32, tasks: u32, growth: u32) -> u32 {
+pub fn start(table: &mut [u32], slots: u32, tasks: u32, growth: u32, lanes: u32) -> u32 {
     let (pointer, words) = (table.as_mut_ptr(), table.len());
-    unsafe { library::lane_start(pointer, words, slots, tasks, growth) }
+    unsafe { library::lane_start(pointer, words, slots, tasks, growth, lanes) }
 }
 
-/// Gives an idle task a call, its argument with the leading digit before it: 0, or the refusal.
+/// Gives an idle task a call on a lane, its argument with the leading digit before it: 0, or the refusal.
 ///
 /// ```
 /// use lane::ffi;
 ///
-/// let mut table = [0; 36];
-/// assert_eq!(ffi::start(&mut table, 4, 1, 0), 0);
-/// assert_eq!(ffi::begin(&mut table, 0, 1, 0, 9, 51), 0);
-/// assert_eq!(ffi::begin(&mut table, 0, 1, 0, 9, 51), 16);
-/// assert_eq!(ffi::begin(&mut table, 0, 1, 0, 0, 51), 8);
-/// assert_eq!(ffi::begin(&mut table, 0, 1, 0, 10, 51), 7);
+/// let mut table = [0; 45];
+/// assert_eq!(ffi::start(&mut table, 4, 1, 0, 2), 0);
+/// assert_eq!(ffi::begin(&mut table, 0, 1, 1, 0, 9, 51), 0);
+/// assert_eq!(ffi::begin(&mut table, 0, 0, 1, 0, 9, 51), 16);
+/// assert_eq!(ffi::begin(&mut table, 0, 0, 1, 0, 0, 51), 8);
+/// assert_eq!(ffi::begin(&mut table, 0, 0, 1, 0, 10, 51), 7);
+/// assert_eq!(ffi::begin(&mut table, 0, 2, 1, 0, 10, 51), 26);
 /// ```
 pub fn begin(
     table: &mut [u32],
     task: u32,
+    lane: u32,
     operation: u32,
     side: u32,
     digit: u32,
     argument: u32,
 ) -> u32 {
     let (pointer, words) = (table.as_mut_ptr(), table.len());
-    unsafe { library::lane_begin(pointer, words, task, operation, side, digit, argument) }
+    unsafe { library::lane_begin(pointer, words, task, lane, operation, side, digit, argument) }
 }
 
 /// Makes one tick: the kind (0 to 6) times 2^40 plus the tag or 0; kind 7 for a refusal, with its number.
@@ -102,8 +114,8 @@ pub fn begin(
 /// ```
 /// use lane::ffi;
 ///
-/// let mut table = [0; 36];
-/// assert_eq!(ffi::start(&mut table, 4, 1, 0), 0);
+/// let mut table = [0; 45];
+/// assert_eq!(ffi::start(&mut table, 4, 1, 0, 1), 0);
 /// assert_eq!(ffi::tick(&mut table, 0, 0), 7 << 40 | 10);
 /// ```
 pub fn tick(table: &mut [u32], task: u32, hint: u32) -> u64 {
@@ -117,11 +129,11 @@ pub fn tick(table: &mut [u32], task: u32, hint: u32) -> u64 {
 /// ```
 /// use lane::ffi;
 ///
-/// let mut table = [0; 36];
-/// assert_eq!(ffi::start(&mut table, 4, 1, 0), 0);
+/// let mut table = [0; 45];
+/// assert_eq!(ffi::start(&mut table, 4, 1, 0, 1), 0);
 /// assert_eq!(ffi::dispatch(&mut table, 0), 8 << 40);
 /// assert_eq!(ffi::dispatch(&mut table, 4), 7 << 40 | 9);
-/// assert_eq!(ffi::begin(&mut table, 0, 2, 0, 0, 0), 0);
+/// assert_eq!(ffi::begin(&mut table, 0, 0, 2, 0, 0, 0), 0);
 /// assert_eq!(ffi::dispatch(&mut table, 0), 0);
 /// ```
 pub fn dispatch(table: &mut [u32], hint: u32) -> u64 {
@@ -130,16 +142,16 @@ pub fn dispatch(table: &mut [u32], hint: u32) -> u64 {
 }
 
 /// Makes the ticks of a list of (task, hint) pairs and writes three words for each, the kind, then the tag's leading
-/// digit and low part: the ticks made times 2^32 plus the refusal that stopped the run, or 0.
+/// digit and low part: the refusal that stopped the run, or 0, times 2^32 plus the ticks made.
 ///
 /// ```
 /// use lane::ffi;
 ///
-/// let mut table = [0; 36];
+/// let mut table = [0; 45];
 /// let mut answers = [9; 15];
-/// assert_eq!(ffi::start(&mut table, 4, 1, 0), 0);
-/// assert_eq!(ffi::begin(&mut table, 0, 2, 0, 0, 0), 0);
-/// assert_eq!(ffi::run(&mut table, &[0; 10], &mut answers), 4 << 32 | 10);
+/// assert_eq!(ffi::start(&mut table, 4, 1, 0, 1), 0);
+/// assert_eq!(ffi::begin(&mut table, 0, 0, 2, 0, 0, 0), 0);
+/// assert_eq!(ffi::run(&mut table, &[0; 10], &mut answers), 10 << 32 | 4);
 /// assert_eq!(answers, [0, 0, 0, 0, 0, 0, 0, 0, 0, 3, 0, 0, 9, 9, 9]);
 /// ```
 pub fn run(table: &mut [u32], list: &[u32], answers: &mut [u32]) -> u64 {
@@ -153,10 +165,10 @@ pub fn run(table: &mut [u32], list: &[u32], answers: &mut [u32]) -> u64 {
 /// ```
 /// use lane::ffi;
 ///
-/// let mut table = [0; 36];
-/// assert_eq!(ffi::start(&mut table, 4, 1, 0), 0);
-/// assert_eq!(ffi::panel(&mut table, &[0; 66], &mut []), 15);
-/// assert_eq!(ffi::panel(&mut table, &[0; 64], &mut [0; 96]), 10);
+/// let mut table = [0; 45];
+/// assert_eq!(ffi::start(&mut table, 4, 1, 0, 1), 0);
+/// assert_eq!(ffi::panel(&mut table, &[0; 66], &mut []), 15 << 32);
+/// assert_eq!(ffi::panel(&mut table, &[0; 64], &mut [0; 96]), 10 << 32);
 /// ```
 pub fn panel(table: &mut [u32], list: &[u32], answers: &mut [u32]) -> u64 {
     let (pointer, words) = (table.as_mut_ptr(), table.len());
@@ -164,20 +176,21 @@ pub fn panel(table: &mut [u32], list: &[u32], answers: &mut [u32]) -> u64 {
     unsafe { library::lane_panel(pointer, words, list.as_ptr(), list.len(), out, out_words) }
 }
 
-/// Writes the tags of the lane, left end first, two words each, the leading digit first: their count, or 2^32 plus the
-/// refusal.
+/// Writes the tags of a lane, left end first, two words each, the leading digit first: their count, or the refusal
+/// times 2^32.
 ///
 /// ```
 /// use lane::ffi;
 ///
-/// let mut table = [0; 36];
-/// assert_eq!(ffi::start(&mut table, 4, 1, 0), 0);
-/// assert_eq!(ffi::read(&table, &mut []), 0);
-/// assert_eq!(ffi::read(&table[1..], &mut []), 1 << 32 | 3);
+/// let mut table = [0; 45];
+/// assert_eq!(ffi::start(&mut table, 4, 1, 0, 2), 0);
+/// assert_eq!(ffi::read(&table, 1, &mut []), 0);
+/// assert_eq!(ffi::read(&table, 2, &mut []), 26 << 32);
+/// assert_eq!(ffi::read(&table[1..], 2, &mut []), 3 << 32);
 /// ```
-pub fn read(table: &[u32], out: &mut [u32]) -> u64 {
+pub fn read(table: &[u32], lane: u32, out: &mut [u32]) -> u64 {
     let (pointer, words) = (table.as_ptr(), table.len());
-    unsafe { library::lane_read(pointer, words, out.as_mut_ptr(), out.len()) }
+    unsafe { library::lane_read(pointer, words, lane, out.as_mut_ptr(), out.len()) }
 }
 
 /// Reads a tag list in packed decimal, five bytes a tag, to two words a tag, the leading digit first: the count of its

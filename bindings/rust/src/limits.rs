@@ -1,6 +1,6 @@
 //! The machine's limits, as `include/lane.h` has them for C.
 
-/// The fewest slots of a table.
+/// The fewest slots of a table; with several lanes twice as many as they are.
 pub const MIN_SLOTS: u32 = 2;
 /// The most slots of a table.
 pub const MAX_SLOTS: u32 = 1024;
@@ -10,6 +10,10 @@ pub const MIN_TASKS: u32 = 1;
 pub const MAX_TASKS: u32 = 16;
 /// The most spare slots that a push adds beyond the one it needs.
 pub const MAX_GROWTH: u32 = 64;
+/// The fewest lanes of a table.
+pub const MIN_LANES: u32 = 1;
+/// The most lanes of a table.
+pub const MAX_LANES: u32 = 4;
 /// The greatest leading digit of a [`Tag`](crate::Tag).
 pub const MAX_DIGIT: u32 = 9;
 /// The greatest low part of a [`Tag`](crate::Tag), the nine digits below the leading one.
@@ -27,29 +31,13 @@ pub const TAG_BYTES: usize = 5;
 /// The most tags of a tag list.
 pub const LIST_TAGS: usize = 1024;
 
-/// The words of a table: 8 for the header, 4 a slot, 12 a task.
+/// The words of a table, whatever its lanes: 16 for the header, 4 a slot, 13 a task.
 ///
 /// ```
-/// assert_eq!(lane::words(4, 1), 36);
+/// assert_eq!(lane::words(4, 1), 45);
 /// ```
 pub const fn words(slots: u32, tasks: u32) -> usize {
-    8 + 4 * slots as usize + 12 * tasks as usize
-}
-
-/// The most bags that a table of so many slots carries: all but one spare slot at each end.
-///
-/// ```
-/// use lane::{Answer, Lane, Operation, Side, Tag};
-///
-/// let mut lane = Lane::start([0; lane::words(4, 1)], 4, 1, 0)?;
-/// for tag in (1..=lane::max_bags(4).into()).filter_map(Tag::new) {
-///     assert_eq!(lane.call(0, Operation::Push(tag), Side::Right)?, Answer::Pushed);
-/// }
-/// assert_eq!(lane.call(0, Operation::Push(Tag::MAX), Side::Left)?, Answer::Full);
-/// # Ok::<(), lane::Refusal>(())
-/// ```
-pub const fn max_bags(slots: u32) -> u32 {
-    slots.saturating_sub(2)
+    16 + 4 * slots as usize + 13 * tasks as usize
 }
 
 /// Within so many of its own ticks a call answers while no other task is ticked, on a table that start began.

@@ -2,7 +2,7 @@
 
 use core::fmt;
 
-use crate::{ffi, halves, known, Refusal, Tags, TAG_BYTES};
+use crate::{ffi, pair, Refusal, Tags, TAG_BYTES};
 
 /// Reads a tag list in packed decimal, ten digits in [`TAG_BYTES`] bytes, the higher digit first, and gives the tags.
 /// It writes two words for each, as [`Lane::read`](crate::Lane::read) does; places after them stay as they were, and a
@@ -51,13 +51,13 @@ pub fn tags_write<'a>(tags: &[[u32; 2]], out: &'a mut [u8]) -> Result<&'a [u8], 
 
 /// What the number of either call says: how many tags, or the refusal.
 fn answer(number: u64) -> Result<usize, RefusedTags> {
-    let [number, low] = halves(number);
-    if number == 0 {
-        return Ok(low as usize);
+    match pair(number) {
+        (None, count) => Ok(count),
+        (Some(refusal), place) => Err(RefusedTags {
+            refusal,
+            place: (refusal == Refusal::NoTag).then_some(place),
+        }),
     }
-    let refusal = known(Refusal::from_number(number));
-    let place = (refusal == Refusal::NoTag).then_some(low as usize);
-    Err(RefusedTags { refusal, place })
 }
 
 /// A tag list that was refused. `?` makes a [`Refusal`] of it.

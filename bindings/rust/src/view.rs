@@ -5,28 +5,29 @@
 
 use core::fmt;
 
-use crate::{ffi, halves, known, Operation, Refusal, Side, Tag};
+use crate::{ffi, known, pair, Operation, Refusal, Side, Tag};
 
 /// The format's places: words of the header, widths, and words of a node and of a task.
 mod place {
     pub const SLOTS: usize = 0;
     pub const TASKS: usize = 1;
     pub const GROWTH: usize = 2;
-    pub const LEFT_HAT: usize = 3;
-    pub const RIGHT_HAT: usize = 4;
-    pub const TICKS: usize = 5;
-    pub const DISPATCHED: usize = 6;
-    pub const HEADER: usize = 8;
+    pub const LANES: usize = 3;
+    pub const TICKS: usize = 4;
+    pub const DISPATCHED: usize = 5;
+    pub const HATS: usize = 6;
+    pub const HEADER: usize = 16;
     pub const NODE: usize = 4;
     pub const RIGHT_LINK: usize = 1;
     pub const VALUE: usize = 2;
     pub const DIGIT: usize = 3;
-    pub const RECORD: usize = 12;
+    pub const RECORD: usize = 13;
     pub const OPERATION: usize = 0;
     pub const STEP: usize = 1;
     pub const SIDE: usize = 2;
     pub const ARGUMENT: usize = 3;
     pub const ARGUMENT_DIGIT: usize = 4;
+    pub const LANE: usize = 12;
 }
 
 /// Words that the library has accepted as a table.
@@ -36,18 +37,12 @@ pub(crate) struct View<'a> {
 }
 
 impl<'a> View<'a> {
-    /// The words as a table, or [`Refusal::Table`] or [`Refusal::Shape`]; beside it why the lane cannot be read, if it
-    /// cannot.
-    pub fn of(words: &'a [u32]) -> Result<(View<'a>, Option<Refusal>), Refusal> {
-        let view = View { words };
-        // A read with no place for bags: the tests of the table, of the lane, and then of the places.
-        match halves(ffi::read(words, &mut [])) {
-            [0, _] => Ok((view, None)),
-            [_, number] => match known(Refusal::from_number(number)) {
-                Refusal::Out => Ok((view, None)),
-                Refusal::NoSlot => Ok((view, Some(Refusal::NoSlot))),
-                refusal => Err(refusal),
-            },
+    /// The words as a table, or [`Refusal::Table`] or [`Refusal::Shape`].
+    pub fn of(words: &'a [u32]) -> Result<View<'a>, Refusal> {
+        // Every table has a lane 0; whether it can be walked is not asked here.
+        match bags(words, 0) {
+            Err(refusal @ (Refusal::Table | Refusal::Shape)) => Err(refusal),
+            _ => Ok(View { words }),
         }
     }
 
@@ -59,20 +54,22 @@ impl<'a> View<'a> {
         self.words[place::TASKS]
     }
 
+    pub fn lanes(self) -> u32 {
+        self.words[place::LANES]
+    }
+
     /// The task last dispatched.
     pub fn dispatched(self) -> u32 {
         self.words[place::DISPATCHED]
     }
 
-    /// Only where the lane can be read.
-    pub fn bags(self) -> Bags<'a> {
-        Bags {
-            view: self,
-            node: self.right_of(self.words[place::LEFT_HAT]),
-        }
+    /// The left hat and the right hat of a lane below [`View::lanes`].
+    fn hats(self, lane: u32) -> [u32; 2] {
+        let at = place::HATS + 2 * lane as usize;
+        [self.words[at], self.words[at + 1]]
     }
 
-    /// The twelve words of a task below [`View::tasks`].
+    /// The thirteen words of a task below [`View::tasks`].
     fn record(self, task: u32) -> &'a [u32] {
         let nodes = place::NODE * self.slots() as usize;
         let at = place::HEADER + nodes + place::RECORD * task as usize;
@@ -87,13 +84,24 @@ impl<'a> View<'a> {
         let at = place::HEADER + place::NODE * number as usize;
         &self.words[at..at + place::NODE]
     }
+}
 
-    fn right_of(self, node: u32) -> u32 {
-        self.node(node)[place::RIGHT_LINK]
+/// The tags of a lane, or the refusal that a read of it gets.
+pub(crate) fn bags(words: &[u32], lane: u32) -> Result<Bags<'_>, Refusal> {
+    // A read with no place for tags: the tests of the table, of the lane, and then of the places.
+    match pair(ffi::read(words, lane, &mut [])) {
+        (None | Some(Refusal::Out), _) => {
+            let view = View { words };
+            let [left_hat, _] = view.hats(lane);
+            let node = view.node(left_hat)[place::RIGHT_LINK];
+            Ok(Bags { view, node })
+        }
+        (Some(refusal), _) => Err(refusal),
     }
 }
 
-/// The tags of a lane, left end first, read where they stand. [`Lane::bags`](crate::Lane::bags) gives it.
+/// The tags of a lane, left end first, read where they stand. [`Lane::bags`](crate::Lane::bags) and
+/// [`Lanes::bags`](crate::Lanes::bags) give it.
 #[derive(Clone)]
 pub struct Bags<'a> {
     view: View<'a>,
@@ -120,23 +128,22 @@ impl fmt::Debug for Bags<'_> {
     }
 }
 
-/// What the words show of a lane: its sizes, bags, hats and tasks, or why they are no table.
-pub(crate) fn show(words: &[u32], formatter: &mut fmt::Formatter<'_>) -> fmt::Result {
-    let mut shown = formatter.debug_struct("Lane");
+/// What the words show of a table: its sizes, each lane's bags and hats, and its tasks, or why they are no table. One
+/// lane stands for itself, several are a list.
+pub(crate) fn show(name: &str, words: &[u32], formatter: &mut fmt::Formatter<'_>) -> fmt::Result {
+    let mut shown = formatter.debug_struct(name);
     match View::of(words) {
         Err(refusal) => shown
             .field("refused", &refusal)
             .field("words", &words.len()),
-        Ok((view, unread)) => {
+        Ok(view) => {
             shown
                 .field("slots", &view.slots())
                 .field("growth", &words[place::GROWTH]);
-            match unread {
-                None => shown.field("bags", &view.bags()),
-                Some(refusal) => shown.field("bags", &refusal),
+            match view.lanes() {
+                1 => Row { view, lane: 0 }.fields(&mut shown),
+                _ => shown.field("lanes", &Rows(view)),
             }
-            .field("left_hat", &words[place::LEFT_HAT])
-            .field("right_hat", &words[place::RIGHT_HAT])
             .field("ticks", &words[place::TICKS])
             .field("dispatched", &view.dispatched())
             .field("tasks", &Tasks(view))
@@ -145,36 +152,79 @@ pub(crate) fn show(words: &[u32], formatter: &mut fmt::Formatter<'_>) -> fmt::Re
     .finish()
 }
 
+struct Rows<'a>(View<'a>);
+
+impl fmt::Debug for Rows<'_> {
+    fn fmt(&self, formatter: &mut fmt::Formatter<'_>) -> fmt::Result {
+        let rows = (0..self.0.lanes()).map(|lane| Row { view: self.0, lane });
+        formatter.debug_list().entries(rows).finish()
+    }
+}
+
+/// A lane of a table.
+struct Row<'a> {
+    view: View<'a>,
+    lane: u32,
+}
+
+impl Row<'_> {
+    fn fields<'s, 'a, 'b>(
+        &self,
+        shown: &'s mut fmt::DebugStruct<'a, 'b>,
+    ) -> &'s mut fmt::DebugStruct<'a, 'b> {
+        let [left_hat, right_hat] = self.view.hats(self.lane);
+        match bags(self.view.words, self.lane) {
+            Ok(bags) => shown.field("bags", &bags),
+            Err(refusal) => shown.field("bags", &refusal),
+        }
+        .field("left_hat", &left_hat)
+        .field("right_hat", &right_hat)
+    }
+}
+
+impl fmt::Debug for Row<'_> {
+    fn fmt(&self, formatter: &mut fmt::Formatter<'_>) -> fmt::Result {
+        self.fields(&mut formatter.debug_struct("Lane")).finish()
+    }
+}
+
 struct Tasks<'a>(View<'a>);
 
 impl fmt::Debug for Tasks<'_> {
     fn fmt(&self, formatter: &mut fmt::Formatter<'_>) -> fmt::Result {
-        let records = (0..self.0.tasks()).map(|task| Record(self.0.record(task)));
-        formatter.debug_list().entries(records).finish()
+        let tasks = (0..self.0.tasks()).map(|task| Task { view: self.0, task });
+        formatter.debug_list().entries(tasks).finish()
     }
 }
 
-struct Record<'a>(&'a [u32]);
+struct Task<'a> {
+    view: View<'a>,
+    task: u32,
+}
 
-impl fmt::Debug for Record<'_> {
+impl fmt::Debug for Task<'_> {
     fn fmt(&self, formatter: &mut fmt::Formatter<'_>) -> fmt::Result {
-        let (argument, digit) = (self.0[place::ARGUMENT], self.0[place::ARGUMENT_DIGIT]);
-        let operation = match self.0[place::OPERATION] {
+        let record = self.view.record(self.task);
+        let (argument, digit) = (record[place::ARGUMENT], record[place::ARGUMENT_DIGIT]);
+        let operation = match record[place::OPERATION] {
             0 => return formatter.write_str("Idle"),
             1 => Operation::Push(known(Tag::from_words([digit, argument]))),
             2 => Operation::Pop,
             3 => Operation::Add(argument),
             _ => Operation::Remove(argument),
         };
-        let side = match self.0[place::SIDE] {
+        let side = match record[place::SIDE] {
             0 => Side::Left,
             _ => Side::Right,
         };
-        formatter
-            .debug_struct("Busy")
+        let mut shown = formatter.debug_struct("Busy");
+        if self.view.lanes() > 1 {
+            shown.field("lane", &record[place::LANE]);
+        }
+        shown
             .field("operation", &operation)
             .field("side", &side)
-            .field("step", &self.0[place::STEP])
+            .field("step", &record[place::STEP])
             .finish()
     }
 }

@@ -1,4 +1,4 @@
-//! The wrapper's calls on small lanes: what they give, and which refusal each wrong number gets.
+//! The wrapper's calls on a small table with one lane: what they give, and which refusal each wrong number gets.
 
 use lane::{words, Answer, Lane, Operation, Refusal, Side, Tag};
 
@@ -112,10 +112,10 @@ fn the_panel_takes_32_ticks() {
 
 #[test]
 fn wrong_numbers_get_their_refusals_and_change_nothing() {
-    let sizes = Lane::start([7; 28], 1025, 1, 0).unwrap_err();
-    assert_eq!((sizes.refusal, sizes.words), (Refusal::Sizes, [7; 28]));
-    let length = Lane::start([7; 27], 2, 1, 0).unwrap_err();
-    assert_eq!((length.refusal, length.words), (Refusal::Length, [7; 27]));
+    let sizes = Lane::start([7; 37], 1025, 1, 0).unwrap_err();
+    assert_eq!((sizes.refusal, sizes.words), (Refusal::Sizes, [7; 37]));
+    let length = Lane::start([7; 36], 2, 1, 0).unwrap_err();
+    assert_eq!((length.refusal, length.words), (Refusal::Length, [7; 36]));
     let mut lane = small();
     lane.begin(1, Operation::Pop, Side::Left).expect("idle");
     let before = lane.clone();
@@ -175,13 +175,13 @@ fn lent_words_are_tested_at_every_call() {
     assert_eq!(read(&Lane::over(&table), 8), Ok(vec![]));
     assert_eq!(Lane::over(&mut table[1..]).tick(0, 0), Err(Refusal::Table));
     // The second zero of the header; the digit of the first slot, which has a mark.
-    for place in [7, 11] {
+    for place in [15, 19] {
         table[place] = 1;
         assert_eq!(read(&Lane::over(&table), 8), Err(Refusal::Shape));
         table[place] = 0;
     }
     // The left hat's link to the right made none, which no call does.
-    table[9] = 65_535;
+    table[17] = 65_535;
     let mut lane = Lane::over(&mut table[..]);
     assert_eq!(read(&lane, 8), Err(Refusal::NoSlot));
     // A push walks the lane, the others do not.

@@ -4,6 +4,9 @@ use lane::{words, Answer, Dispatched, Lane, Operation, Refusal, Side, Tag};
 
 const GOING: Result<Dispatched, Refusal> = Ok(Dispatched::Ticked(Answer::Going));
 
+/// The word that has the task last dispatched.
+const DISPATCHED: usize = 5;
+
 fn started() -> Lane<Vec<u32>> {
     Lane::start(vec![7; words(8, 3)], 8, 3, 0).expect("the sizes fit")
 }
@@ -34,7 +37,7 @@ fn busy_tasks_are_ticked_in_turn_to_their_answers() {
         assert_eq!(lane.dispatched(), Ok(task));
         // The same words but for the task last dispatched, which a plain tick leaves.
         let mut table = ticked.into_words();
-        table[6] = task;
+        table[DISPATCHED] = task;
         assert_eq!(lane.words(), table);
         if answer != Answer::Going {
             ended.push((task, answer));
@@ -79,13 +82,13 @@ fn the_hint_is_tested_before_the_choice() {
 fn the_word_names_a_task_or_the_shape_is_broken() {
     let mut table = started().into_words();
     for (word, read) in [(0, Ok(0)), (2, Ok(2)), (3, Err(Refusal::Shape))] {
-        table[6] = word;
+        table[DISPATCHED] = word;
         let mut lane = Lane::over(&mut table[..]);
         assert_eq!(lane.dispatched(), read);
         assert_eq!(lane.dispatch(0), read.map(|_| Dispatched::Idle));
     }
-    // As a table of format 2 has it: the first dispatch looks from task 1 on.
-    table[6] = 0;
+    // As if task 0 had been dispatched last: the next dispatch looks from task 1 on.
+    table[DISPATCHED] = 0;
     let mut lane = Lane::over(table);
     for task in 0..3 {
         lane.begin(task, Operation::Pop, Side::Left).expect("idle");

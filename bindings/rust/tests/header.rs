@@ -1,6 +1,6 @@
 //! The wrapper's constants and texts are those of `include/lane.h`, and the library keeps to them.
 
-use lane::{tags_write, words, Lane, Operation, Refusal, Side, Tag};
+use lane::{tags_write, words, Lane, Lanes, Operation, Refusal, Side, Tag};
 
 const HEADER: &str = include_str!("../../../include/lane.h");
 
@@ -24,6 +24,8 @@ fn the_header_has_the_same_numbers() {
         ("LANE_MIN_TASKS", lane::MIN_TASKS),
         ("LANE_MAX_TASKS", lane::MAX_TASKS),
         ("LANE_MAX_GROWTH", lane::MAX_GROWTH),
+        ("LANE_MIN_LANES", lane::MIN_LANES),
+        ("LANE_MAX_LANES", lane::MAX_LANES),
         ("LANE_MAX_DIGIT", lane::MAX_DIGIT),
         ("LANE_MAX_LOW", lane::MAX_LOW),
         ("LANE_MAX_ADD", lane::MAX_ADD),
@@ -49,7 +51,7 @@ fn the_header_has_the_same_numbers() {
 
 #[test]
 fn the_header_has_the_same_texts() {
-    for refusal in (1..=19).filter_map(Refusal::from_number) {
+    for refusal in (1..=99).filter_map(Refusal::from_number) {
         // A list of odd length cannot be handed to the wrapper.
         if refusal != Refusal::List {
             let shown = refusal.to_string();
@@ -61,22 +63,30 @@ fn the_header_has_the_same_texts() {
 
 #[test]
 fn each_limit_is_accepted_and_the_number_beyond_it_is_not() {
-    let sizes = |slots, tasks, growth| {
+    let sizes = |slots, tasks, growth, lanes| {
         let table = vec![0; words(slots, tasks)];
-        let started = Lane::start(table, slots, tasks, growth);
+        let started = Lanes::start(table, slots, tasks, growth, lanes);
         started.map(|_| ()).map_err(Refusal::from)
     };
-    assert_eq!(sizes(lane::MIN_SLOTS, lane::MIN_TASKS, 0), Ok(()));
-    let most = (lane::MAX_SLOTS, lane::MAX_TASKS, lane::MAX_GROWTH);
-    assert_eq!(sizes(most.0, most.1, most.2), Ok(()));
-    for (slots, tasks, growth) in [
-        (lane::MIN_SLOTS - 1, lane::MIN_TASKS, 0),
-        (lane::MIN_SLOTS, lane::MIN_TASKS - 1, 0),
-        (most.0 + 1, most.1, most.2),
-        (most.0, most.1 + 1, most.2),
-        (most.0, most.1, most.2 + 1),
-    ] {
-        assert_eq!(sizes(slots, tasks, growth), Err(Refusal::Sizes));
+    for lanes in lane::MIN_LANES..=lane::MAX_LANES {
+        let least = (lane::MIN_SLOTS * lanes, lane::MIN_TASKS);
+        assert_eq!(sizes(least.0, least.1, 0, lanes), Ok(()));
+        let most = (lane::MAX_SLOTS, lane::MAX_TASKS, lane::MAX_GROWTH);
+        assert_eq!(sizes(most.0, most.1, most.2, lanes), Ok(()));
+        for (slots, tasks, growth) in [
+            (least.0 - 1, least.1, 0),
+            (least.0, least.1 - 1, 0),
+            (most.0 + 1, most.1, most.2),
+            (most.0, most.1 + 1, most.2),
+            (most.0, most.1, most.2 + 1),
+        ] {
+            let refused = sizes(slots, tasks, growth, lanes);
+            assert_eq!(refused, Err(Refusal::Sizes));
+            for lanes in [lane::MIN_LANES - 1, lane::MAX_LANES + 1] {
+                let refused = sizes(slots, tasks, growth, lanes);
+                assert_eq!(refused, Err(Refusal::Lanes));
+            }
+        }
     }
 
     let begin = |operation| {

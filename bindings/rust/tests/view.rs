@@ -1,6 +1,6 @@
 //! What the wrapper reads of a table by itself, held to the library's calls, on tables from start and on damaged ones.
 
-use lane::{words, Answer, Lane, Operation, Refusal, Side, Tag};
+use lane::{words, Answer, Lane, Lanes, Operation, Refusal, Side, Tag};
 
 /// Numbers below a bound, the same at each run (xorshift).
 struct Random(u64);
@@ -33,17 +33,20 @@ impl Random {
     }
 }
 
-/// The bags without a buffer are those of a read; a task is busy exactly where a begin says so.
-fn same(lane: &Lane<Vec<u32>>) {
-    let mut out = [[0; 2]; 16];
-    match (lane.read(&mut out), lane.bags()) {
-        (Ok(read), Ok(bags)) => assert!(bags.eq(read), "{lane:?}"),
-        (read, bags) => assert_eq!(read.map(|_| ()), bags.map(|_| ())),
+/// The bags without a buffer are those of a read, of every lane, and of one that is not there the refusal is the same;
+/// a task is busy exactly where a begin says so.
+fn same(lanes: &Lanes<Vec<u32>>) {
+    for lane in 0..=lane::MAX_LANES {
+        let mut out = [[0; 2]; 16];
+        match (lanes.read(lane, &mut out), lanes.bags(lane)) {
+            (Ok(read), Ok(bags)) => assert!(bags.eq(read), "{lanes:?}"),
+            (read, bags) => assert_eq!(read.map(|_| ()), bags.map(|_| ())),
+        }
     }
     for task in 0..5 {
-        let begun = lane.clone().begin(task, Operation::Pop, Side::Left);
+        let begun = lanes.clone().begin(task, 0, Operation::Pop, Side::Left);
         assert_eq!(
-            lane.is_busy(task),
+            lanes.is_busy(task),
             match begun {
                 Ok(()) => Ok(false),
                 Err(Refusal::Busy) => Ok(true),
@@ -53,28 +56,50 @@ fn same(lane: &Lane<Vec<u32>>) {
     }
 }
 
+/// Every table can be shown, with the bags of each lane as a read gives them.
+fn shown(lanes: &Lanes<Vec<u32>>) {
+    let shown = format!("{lanes:?}");
+    match lanes.lanes() {
+        Ok(count) => {
+            for lane in 0..count {
+                let bags = match lanes.bags(lane) {
+                    Ok(bags) => format!("bags: {bags:?}, "),
+                    Err(refusal) => format!("bags: {refusal:?}, "),
+                };
+                assert!(shown.contains(&bags), "{bags} in {shown}");
+            }
+            assert_eq!(shown.matches("bags: ").count(), count as usize);
+        }
+        Err(refusal) => assert!(shown.starts_with(&format!("Lanes {{ refused: {refusal:?}"))),
+    }
+}
+
 #[test]
 fn tables_from_start_are_read_as_the_library_reads_them() {
     let mut random = Random(51);
     for _ in 0..200 {
-        let (slots, tasks) = (2 + random.below(10), 1 + random.below(4));
+        let (count, tasks) = (1 + random.below(lane::MAX_LANES), 1 + random.below(4));
+        let slots = 2 * count + random.below(10);
         let table = vec![0; words(slots, tasks)];
-        let mut lane = Lane::start(table, slots, tasks, random.below(3)).expect("the sizes fit");
-        assert_eq!((lane.slots(), lane.tasks()), (Ok(slots), Ok(tasks)));
+        let mut lanes =
+            Lanes::start(table, slots, tasks, random.below(3), count).expect("the sizes fit");
+        assert_eq!((lanes.slots(), lanes.tasks()), (Ok(slots), Ok(tasks)));
+        assert_eq!(lanes.lanes(), Ok(count));
         for _ in 0..200 {
             let task = random.below(tasks);
-            if lane.is_busy(task) == Ok(true) {
-                let _ = lane.tick(task, random.below(slots)).expect("a busy task");
+            if lanes.is_busy(task) == Ok(true) {
+                let _ = lanes.tick(task, random.below(slots)).expect("a busy task");
             } else {
-                let (operation, side) = (random.operation(), random.side());
-                match lane.begin(task, operation, side) {
+                let (lane, operation, side) =
+                    (random.below(count), random.operation(), random.side());
+                match lanes.begin(task, lane, operation, side) {
                     Err(Refusal::Twice) => assert!(matches!(operation, Operation::Push(_))),
                     begun => begun.expect("an idle task"),
                 }
             }
-            same(&lane);
+            same(&lanes);
         }
-        assert!(format!("{lane:?}").starts_with("Lane { slots: "));
+        shown(&lanes);
     }
 }
 
@@ -82,12 +107,13 @@ fn tables_from_start_are_read_as_the_library_reads_them() {
 fn damaged_tables_are_refused_as_the_library_refuses_them() {
     let mut random = Random(52);
     for _ in 0..20_000 {
-        let mut table = vec![0; words(4, 2)];
-        let mut lane = Lane::start(&mut table[..], 4, 2, 0).expect("the sizes fit");
-        lane.begin(1, Operation::Push(random.tag()), Side::Right)
+        let mut table = vec![0; words(6, 2)];
+        let mut lanes = Lanes::start(&mut table[..], 6, 2, 0, 2).expect("the sizes fit");
+        lanes
+            .begin(1, 1, Operation::Push(random.tag()), Side::Right)
             .expect("idle");
         for _ in 0..random.below(11) {
-            assert_eq!(lane.tick(1, 0), Ok(Answer::Going));
+            assert_eq!(lanes.tick(1, 0), Ok(Answer::Going));
         }
         for _ in 0..1 + random.below(3) {
             let place = random.below(table.len() as u32) as usize;
@@ -99,9 +125,9 @@ fn damaged_tables_are_refused_as_the_library_refuses_them() {
             };
         }
         table.truncate(table.len() - random.below(2) as usize);
-        let lane = Lane::over(table);
-        same(&lane);
-        assert!(format!("{lane:?}").starts_with("Lane { "));
+        let lanes = Lanes::over(table);
+        same(&lanes);
+        shown(&lanes);
     }
 }
 
@@ -134,9 +160,9 @@ fn a_call_that_never_answers_comes_back_as_going() {
         .expect("the sizes fit")
         .into_words();
     // The right end's link to the left made itself, which no call does.
-    table[8 + 4] = 1;
+    table[16 + 4] = 1;
     let mut lane = Lane::over(table);
     assert_eq!(lane.call(0, Operation::Pop, Side::Right), Ok(Answer::Going));
-    assert_eq!(lane.words()[5], lane::max_ticks_alone(8));
+    assert_eq!(lane.words()[4], lane::max_ticks_alone(8));
     assert_eq!(lane.is_busy(0), Ok(true));
 }

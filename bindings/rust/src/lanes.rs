@@ -1,0 +1,403 @@
+//! A table with one to four lanes, and the calls on it.
+
+use core::fmt;
+
+use crate::view::{self, View};
+use crate::{
+    ffi, max_ticks_alone, outcome, pair, reply, Answer, Bags, Dispatched, NotStarted, Operation,
+    Ran, Refusal, Side, Tags,
+};
+
+/// A table with one to four lanes, numbered from 0, and the calls on it. The words are owned (`Vec<u32>`, `[u32; N]`)
+/// or lent (`&mut [u32]`; `&[u32]` to read). [`Lane`](crate::Lane) is the same for those who have one lane.
+///
+/// The lanes share the slots, and a tag is in one place of all of them. Else a call changes nothing of a lane but its
+/// own: each is its own row of bags.
+///
+/// No call trusts the words: a table that was damaged is refused with [`Refusal::Table`] or [`Refusal::Shape`].
+///
+/// `Debug` shows each lane's bags and hats, and the tasks:
+///
+/// ```
+/// use lane::{Lanes, Operation, Side, Tag};
+///
+/// let mut lanes = Lanes::start([0; lane::words(4, 2)], 4, 2, 0, 2)?;
+/// lanes.begin(1, 1, Operation::Push(Tag::MAX), Side::Right)?;
+/// assert_eq!(
+///     format!("{lanes:?}"),
+///     "Lanes { slots: 4, growth: 0, lanes: [Lane { bags: [], left_hat: 0, right_hat: 1 }, \
+///      Lane { bags: [], left_hat: 2, right_hat: 3 }], ticks: 0, dispatched: 1, \
+///      tasks: [Idle, Busy { lane: 1, operation: Push(9999999999), side: Right, step: 2 }] }"
+/// );
+/// assert_eq!(format!("{:?}", Lanes::over([0; 37])), "Lanes { refused: Table, words: 37 }");
+/// # Ok::<(), lane::Refusal>(())
+/// ```
+#[derive(Clone, PartialEq, Eq)]
+pub struct Lanes<W> {
+    words: W,
+}
+
+// Over no words, so that nobody has to say of which type they are.
+impl Lanes<()> {
+    /// The most bags that a table of so many slots and lanes carries, in all lanes together: all but one spare slot at
+    /// each end.
+    ///
+    /// ```
+    /// use lane::{Answer, Lanes, Operation, Side, Tag};
+    ///
+    /// let mut lanes = Lanes::start([0; lane::words(8, 1)], 8, 1, 0, 2)?;
+    /// for tag in (1..=Lanes::max_bags(8, 2).into()).filter_map(Tag::new) {
+    ///     let lane = tag.number() as u32 % 2;
+    ///     assert_eq!(lanes.call(0, lane, Operation::Push(tag), Side::Right)?, Answer::Pushed);
+    /// }
+    /// assert_eq!(lanes.call(0, 1, Operation::Push(Tag::MAX), Side::Left)?, Answer::Full);
+    /// # Ok::<(), lane::Refusal>(())
+    /// ```
+    pub const fn max_bags(slots: u32, lanes: u32) -> u32 {
+        slots.saturating_sub(lanes.saturating_mul(2))
+    }
+}
+
+impl<W: AsRef<[u32]> + AsMut<[u32]>> Lanes<W> {
+    /// Writes empty lanes over words of any content, as many as [`words`](crate::words) says: slots 2 to 1,024, and two
+    /// a lane at least, tasks 1 to 16, growth 0 to 64, the slots that a push adds beyond the one it needs, and lanes 1
+    /// to 4. A refusal gives the words back.
+    ///
+    /// ```
+    /// use lane::{Lanes, Refusal};
+    ///
+    /// let lanes = Lanes::start([0; lane::words(8, 1)], 8, 1, 0, 4)?;
+    /// assert_eq!(lanes.lanes()?, 4);
+    ///
+    /// let refused = Lanes::start(vec![7; 61], 8, 1, 0, 5).unwrap_err();
+    /// assert_eq!(refused.refusal, Refusal::Lanes);
+    /// assert_eq!(refused.words, [7; 61]);
+    /// let refused = Lanes::start([7; lane::words(7, 1)], 7, 1, 0, 4).unwrap_err();
+    /// assert_eq!(refused.refusal, Refusal::Sizes);
+    /// # Ok::<(), Refusal>(())
+    /// ```
+    pub fn start(
+        mut words: W,
+        slots: u32,
+        tasks: u32,
+        growth: u32,
+        lanes: u32,
+    ) -> Result<Lanes<W>, NotStarted<W>> {
+        match reply(ffi::start(words.as_mut(), slots, tasks, growth, lanes)) {
+            Ok(()) => Ok(Lanes { words }),
+            Err(refusal) => Err(NotStarted { refusal, words }),
+        }
+    }
+
+    /// Gives an idle task a call on a lane. Nothing of it is done before the task's ticks, which take no lane: the task
+    /// keeps it. A push of a tag that is in any lane or in a busy push is refused, on its own task too:
+    /// [`Refusal::Twice`].
+    ///
+    /// ```
+    /// use lane::{Lanes, Operation, Refusal, Side, Tag};
+    ///
+    /// let mut lanes = Lanes::start([0; lane::words(8, 2)], 8, 2, 0, 2)?;
+    /// lanes.begin(0, 1, Operation::Push(Tag::MAX), Side::Right)?;
+    /// assert_eq!(lanes.begin(0, 0, Operation::Pop, Side::Right), Err(Refusal::Busy));
+    /// assert_eq!(lanes.begin(1, 0, Operation::Push(Tag::MAX), Side::Left), Err(Refusal::Twice));
+    /// assert_eq!(lanes.begin(1, 2, Operation::Pop, Side::Left), Err(Refusal::Lane));
+    /// # Ok::<(), Refusal>(())
+    /// ```
+    pub fn begin(
+        &mut self,
+        task: u32,
+        lane: u32,
+        operation: Operation,
+        side: Side,
+    ) -> Result<(), Refusal> {
+        let [digit, argument] = operation.argument();
+        let (number, side) = (operation.number(), side.number());
+        let words = self.words.as_mut();
+        reply(ffi::begin(words, task, lane, number, side, digit, argument))
+    }
+
+    /// Makes one tick of a busy task. If the tick takes a free slot, it is the first one from `hint` (below the number
+    /// of slots) upward, going round. 0 always works; a hint just past the slots in use shortens the search a little.
+    ///
+    /// ```
+    /// use lane::{Answer, Lanes, Operation, Side, Tag};
+    ///
+    /// let mut lanes = Lanes::start([0; lane::words(8, 1)], 8, 1, 0, 2)?;
+    /// lanes.begin(0, 1, Operation::Push(Tag::MAX), Side::Right)?;
+    /// let answer = loop {
+    ///     match lanes.tick(0, 0)? {
+    ///         Answer::Going => {}
+    ///         answer => break answer,
+    ///     }
+    /// };
+    /// assert_eq!(answer, Answer::Pushed);
+    /// # Ok::<(), lane::Refusal>(())
+    /// ```
+    pub fn tick(&mut self, task: u32, hint: u32) -> Result<Answer, Refusal> {
+        outcome(ffi::tick(self.words.as_mut(), task, hint))
+    }
+
+    /// Makes one tick, with this hint, of the next busy task after the one last dispatched, going round by task number,
+    /// whatever the lanes; that one itself comes last. [`Lanes::dispatched`] then says which it was. After a start the
+    /// first dispatch looks from task 0 on; [`Lanes::tick`], [`Lanes::run`] and [`Lanes::panel`] leave the turn as it
+    /// is.
+    ///
+    /// A busy task gets its tick within as many dispatches as there are tasks, provided that none of them is refused
+    /// and that neither another tick of it nor a start ends its call first.
+    ///
+    /// ```
+    /// use lane::{Answer, Dispatched, Lanes, Operation, Side, Tag};
+    ///
+    /// let mut lanes = Lanes::start([0; lane::words(8, 2)], 8, 2, 0, 2)?;
+    /// lanes.begin(0, 0, Operation::Push(Tag::MAX), Side::Right)?;
+    /// lanes.begin(1, 1, Operation::Pop, Side::Left)?;
+    /// let mut ended = Vec::new();
+    /// while let Dispatched::Ticked(answer) = lanes.dispatch(0)? {
+    ///     if answer != Answer::Going {
+    ///         ended.push((lanes.dispatched()?, answer));
+    ///     }
+    /// }
+    /// assert_eq!(ended, [(1, Answer::Empty), (0, Answer::Pushed)]);
+    /// # Ok::<(), lane::Refusal>(())
+    /// ```
+    pub fn dispatch(&mut self, hint: u32) -> Result<Dispatched, Refusal> {
+        Dispatched::of(ffi::dispatch(self.words.as_mut(), hint))
+    }
+
+    /// Begins a call on a lane and ticks its task with hint 0 until it answers, while no other task gets a tick.
+    ///
+    /// On a table that start began it is never [`Answer::Going`]. On any other it may be, after [`max_ticks_alone`]
+    /// ticks without an answer, and the task is still busy. Each tick tests the whole table: at many slots
+    /// [`Lanes::run`] is faster.
+    ///
+    /// ```
+    /// use lane::{Answer, Lanes, Operation, Side, Tag};
+    ///
+    /// let mut lanes = Lanes::start([0; lane::words(8, 1)], 8, 1, 0, 2)?;
+    /// assert_eq!(lanes.call(0, 1, Operation::Push(Tag::MAX), Side::Right)?, Answer::Pushed);
+    /// assert_eq!(lanes.call(0, 0, Operation::Pop, Side::Left)?, Answer::Empty);
+    /// assert_eq!(lanes.call(0, 1, Operation::Pop, Side::Left)?, Answer::Bag(Tag::MAX));
+    /// # Ok::<(), lane::Refusal>(())
+    /// ```
+    pub fn call(
+        &mut self,
+        task: u32,
+        lane: u32,
+        operation: Operation,
+        side: Side,
+    ) -> Result<Answer, Refusal> {
+        self.begin(task, lane, operation, side)?;
+        for _ in 0..max_ticks_alone(self.slots()?) {
+            match self.tick(task, 0)? {
+                Answer::Going => {}
+                answer => return Ok(answer),
+            }
+        }
+        Ok(Answer::Going)
+    }
+
+    /// Makes the ticks of a list of (task, hint) pairs up to the first refused, at most
+    /// [`MAX_TICKS`](crate::MAX_TICKS), and writes three words for each tick made.
+    ///
+    /// ```
+    /// use lane::{Answer, Lanes, Operation, Refusal, Side};
+    ///
+    /// let mut lanes = Lanes::start([0; lane::words(8, 2)], 8, 2, 0, 2)?;
+    /// lanes.begin(1, 1, Operation::Pop, Side::Left)?;
+    /// let mut answers = [[0; 3]; 8];
+    /// let ran = lanes.run(&[[1, 0]; 8], &mut answers);
+    /// assert_eq!(ran.made(), 4);
+    /// assert_eq!(ran.answers().last(), Some(Answer::Empty));
+    /// assert_eq!(ran.refusal(), Some(Refusal::Idle));
+    /// # Ok::<(), Refusal>(())
+    /// ```
+    pub fn run<'a>(&mut self, list: &[[u32; 2]], answers: &'a mut [[u32; 3]]) -> Ran<'a> {
+        let (ticks, places) = (list.as_flattened(), answers.as_flattened_mut());
+        let number = ffi::run(self.words.as_mut(), ticks, places);
+        ran(number, answers)
+    }
+
+    /// The same from the maintenance panel, whose list has at most [`MAX_PANEL_TICKS`](crate::MAX_PANEL_TICKS): up to
+    /// them it gives and writes what [`Lanes::run`] does.
+    ///
+    /// ```
+    /// use lane::{Lanes, Operation, Refusal, Side};
+    ///
+    /// let mut lanes = Lanes::start([0; lane::words(8, 1)], 8, 1, 0, 2)?;
+    /// lanes.begin(0, 1, Operation::Pop, Side::Left)?;
+    /// let mut answers = [[0; 3]; 33];
+    /// assert_eq!(lanes.panel(&[[0, 0]; 33], &mut answers).refusal(), Some(Refusal::Panel));
+    /// assert_eq!(lanes.panel(&[[0, 0]; 3], &mut answers).made(), 3);
+    /// # Ok::<(), Refusal>(())
+    /// ```
+    pub fn panel<'a>(&mut self, list: &[[u32; 2]], answers: &'a mut [[u32; 3]]) -> Ran<'a> {
+        let (ticks, places) = (list.as_flattened(), answers.as_flattened_mut());
+        let number = ffi::panel(self.words.as_mut(), ticks, places);
+        ran(number, answers)
+    }
+}
+
+impl<W: AsRef<[u32]>> Lanes<W> {
+    /// Takes words that hold a table already. Every call tests them.
+    ///
+    /// ```
+    /// use lane::{Lanes, Refusal};
+    ///
+    /// let table = Lanes::start(vec![0; lane::words(8, 1)], 8, 1, 0, 2)?.into_words();
+    /// assert_eq!(Lanes::over(&table).bags(1)?.next(), None);
+    /// assert_eq!(Lanes::over(&table[1..]).lanes(), Err(Refusal::Table));
+    /// # Ok::<(), Refusal>(())
+    /// ```
+    pub fn over(words: W) -> Lanes<W> {
+        Lanes { words }
+    }
+
+    /// Writes the tags of a lane, left end first, two words each, and gives those written. [`Lanes::max_bags`] places
+    /// are enough.
+    ///
+    /// ```
+    /// use lane::{Lanes, Operation, Refusal, Side, Tag};
+    ///
+    /// let mut lanes = Lanes::start([0; lane::words(8, 1)], 8, 1, 0, 2)?;
+    /// for tag in [Tag::MAX, Tag::MIN] {
+    ///     let _ = lanes.call(0, 1, Operation::Push(tag), Side::Right)?;
+    /// }
+    /// let mut out = [[0; 2]; Lanes::max_bags(8, 2) as usize];
+    /// assert!(lanes.read(1, &mut out)?.eq([Tag::MAX, Tag::MIN]));
+    /// assert_eq!(out, [[9, 999_999_999], [0, 1], [0, 0], [0, 0]]);
+    /// assert_eq!(lanes.read(1, &mut out[..1]).err(), Some(Refusal::Out));
+    /// assert_eq!(lanes.read(2, &mut out).err(), Some(Refusal::Lane));
+    /// # Ok::<(), Refusal>(())
+    /// ```
+    pub fn read<'a>(&self, lane: u32, out: &'a mut [[u32; 2]]) -> Result<Tags<'a>, Refusal> {
+        match pair(ffi::read(self.words(), lane, out.as_flattened_mut())) {
+            (None, count) => Ok(Tags::of(&out[..count])),
+            (Some(refusal), _) => Err(refusal),
+        }
+    }
+
+    /// The tags of a lane, left end first, without a buffer.
+    ///
+    /// ```
+    /// use lane::{Lanes, Operation, Refusal, Side, Tag};
+    ///
+    /// let mut lanes = Lanes::start([0; lane::words(8, 1)], 8, 1, 0, 2)?;
+    /// for tag in [Tag::MAX, Tag::MIN] {
+    ///     let _ = lanes.call(0, 1, Operation::Push(tag), Side::Right)?;
+    /// }
+    /// assert!(lanes.bags(0)?.eq([]));
+    /// assert!(lanes.bags(1)?.eq([Tag::MAX, Tag::MIN]));
+    /// assert_eq!(lanes.bags(2).err(), Some(Refusal::Lane));
+    /// # Ok::<(), Refusal>(())
+    /// ```
+    pub fn bags(&self, lane: u32) -> Result<Bags<'_>, Refusal> {
+        view::bags(self.words(), lane)
+    }
+
+    /// The number of lanes.
+    ///
+    /// ```
+    /// let lanes = lane::Lanes::start([0; lane::words(8, 1)], 8, 1, 0, 3)?;
+    /// assert_eq!(lanes.lanes(), Ok(3));
+    /// # Ok::<(), lane::Refusal>(())
+    /// ```
+    pub fn lanes(&self) -> Result<u32, Refusal> {
+        Ok(self.view()?.lanes())
+    }
+
+    /// The number of slots.
+    ///
+    /// ```
+    /// let lanes = lane::Lanes::start([0; lane::words(8, 1)], 8, 1, 0, 2)?;
+    /// assert_eq!(lanes.slots(), Ok(8));
+    /// # Ok::<(), lane::Refusal>(())
+    /// ```
+    pub fn slots(&self) -> Result<u32, Refusal> {
+        Ok(self.view()?.slots())
+    }
+
+    /// The number of tasks.
+    ///
+    /// ```
+    /// let lanes = lane::Lanes::start([0; lane::words(8, 3)], 8, 3, 0, 2)?;
+    /// assert_eq!(lanes.tasks(), Ok(3));
+    /// # Ok::<(), lane::Refusal>(())
+    /// ```
+    pub fn tasks(&self) -> Result<u32, Refusal> {
+        Ok(self.view()?.tasks())
+    }
+
+    /// Whether a task is in the middle of a call, on whatever lane.
+    ///
+    /// ```
+    /// use lane::{Lanes, Operation, Refusal, Side};
+    ///
+    /// let mut lanes = Lanes::start([0; lane::words(8, 2)], 8, 2, 0, 2)?;
+    /// lanes.begin(1, 1, Operation::Pop, Side::Left)?;
+    /// assert_eq!((lanes.is_busy(0), lanes.is_busy(1)), (Ok(false), Ok(true)));
+    /// assert_eq!(lanes.is_busy(2), Err(Refusal::Task));
+    /// # Ok::<(), Refusal>(())
+    /// ```
+    pub fn is_busy(&self, task: u32) -> Result<bool, Refusal> {
+        let view = self.view()?;
+        if task < view.tasks() {
+            Ok(view.is_busy(task))
+        } else {
+            Err(Refusal::Task)
+        }
+    }
+
+    /// The task last dispatched; after a start the one with the highest number.
+    ///
+    /// ```
+    /// use lane::{Dispatched, Lanes, Operation, Side};
+    ///
+    /// let mut lanes = Lanes::start([0; lane::words(8, 3)], 8, 3, 0, 2)?;
+    /// assert_eq!(lanes.dispatched(), Ok(2));
+    /// lanes.begin(1, 1, Operation::Pop, Side::Left)?;
+    /// assert_ne!(lanes.dispatch(0)?, Dispatched::Idle);
+    /// assert_eq!(lanes.dispatched(), Ok(1));
+    /// # Ok::<(), lane::Refusal>(())
+    /// ```
+    pub fn dispatched(&self) -> Result<u32, Refusal> {
+        Ok(self.view()?.dispatched())
+    }
+
+    /// The table.
+    ///
+    /// ```
+    /// let lanes = lane::Lanes::start([7; lane::words(8, 1)], 8, 1, 0, 2)?;
+    /// assert_eq!(lanes.words()[..4], [8, 1, 0, 2]);
+    /// # Ok::<(), lane::Refusal>(())
+    /// ```
+    pub fn words(&self) -> &[u32] {
+        self.words.as_ref()
+    }
+
+    /// The table, given back.
+    ///
+    /// ```
+    /// let lanes = lane::Lanes::start(vec![0; lane::words(8, 1)], 8, 1, 0, 2)?;
+    /// let table: Vec<u32> = lanes.into_words();
+    /// assert_eq!(table.len(), lane::words(8, 1));
+    /// # Ok::<(), lane::Refusal>(())
+    /// ```
+    pub fn into_words(self) -> W {
+        self.words
+    }
+
+    fn view(&self) -> Result<View<'_>, Refusal> {
+        View::of(self.words())
+    }
+}
+
+impl<W: AsRef<[u32]>> fmt::Debug for Lanes<W> {
+    fn fmt(&self, formatter: &mut fmt::Formatter<'_>) -> fmt::Result {
+        view::show("Lanes", self.words(), formatter)
+    }
+}
+
+fn ran(number: u64, answers: &[[u32; 3]]) -> Ran<'_> {
+    let (refusal, made) = pair(number);
+    Ran::new(&answers[..made], refusal)
+}
