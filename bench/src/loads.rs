@@ -1,16 +1,15 @@
 //! The tables and tick lists that are measured, prepared by the second program.
 
-use reference::table::{node, Sizes, ADD, POP, PUSH, REMOVE};
+use reference::table::{Sizes, ADD, LEFT, POP, PUSH, REMOVE, RIGHT};
 
 /// Tasks of every table.
 pub const TASKS: u32 = 16;
 /// Most ticks of a run.
 const MOST_TICKS: u32 = 4096;
+/// Most that an add may ask for.
+const MOST_ADDED: u32 = 64;
 /// Tags from here on, with digit 0, are in no lane below.
 pub const NEW_TAG: u32 = 2000;
-const LEFT: u32 = 0;
-/// The right end.
-pub const RIGHT: u32 = 1;
 
 /// A table, and the ticks to make on it.
 pub struct Load {
@@ -32,46 +31,53 @@ impl Load {
     }
 }
 
-/// 16 removes that walk along spare nodes; none answers and nothing is taken.
-pub fn walks(nodes: u32) -> Load {
-    let mut table = started(nodes);
-    while taken(&table, nodes) < nodes {
-        finish(&mut table, ADD, RIGHT, 64);
+/// 16 removes that walk along spare nodes, of which each lane has its share; none answers and nothing is taken.
+pub fn walks(nodes: u32, lanes: u32) -> Load {
+    let mut table = started(nodes, lanes);
+    let share = nodes / lanes;
+    for lane in 0..lanes {
+        let mut more = share - 2;
+        while more > 0 {
+            // An add of n takes n + 1 nodes.
+            let added = (more - 1).min(MOST_ADDED);
+            finish(&mut table, lane, ADD, added);
+            more -= added + 1;
+        }
     }
-    begin_all(&mut table, REMOVE, 1023);
+    begin_all(&mut table, lanes, REMOVE, 1023);
     // A walk of n spare nodes answers at tick 2n + 2.
-    let each = 2 * (nodes - 2);
+    let each = 2 * (share - 2);
     let list = in_turn((TASKS * each).min(MOST_TICKS));
     Load { table, list }
 }
 
 /// The first 64 ticks of the same, to be made one call each.
-pub fn short_walks(nodes: u32) -> Load {
-    let Load { table, mut list } = walks(nodes);
+pub fn short_walks(nodes: u32, lanes: u32) -> Load {
+    let Load { table, mut list } = walks(nodes, lanes);
     list.truncate(2 * 64);
     Load { table, list }
 }
 
 /// 16 pops of an empty lane, all of which answer: four ticks each.
-pub fn pops(nodes: u32) -> Load {
-    let mut table = started(nodes);
-    begin_all(&mut table, POP, 0);
+pub fn pops(nodes: u32, lanes: u32) -> Load {
+    let mut table = started(nodes, lanes);
+    begin_all(&mut table, lanes, POP, 0);
     let list = in_turn(4 * TASKS);
     Load { table, list }
 }
 
 /// 16 adds of 64 nodes until all nodes are taken: every tick takes one.
-pub fn takes(nodes: u32) -> Load {
-    let mut table = started(nodes);
-    begin_all(&mut table, ADD, 64);
-    let list = in_turn(nodes - 2);
+pub fn takes(nodes: u32, lanes: u32) -> Load {
+    let mut table = started(nodes, lanes);
+    begin_all(&mut table, lanes, ADD, MOST_ADDED);
+    let list = in_turn(nodes - 2 * lanes);
     Load { table, list }
 }
 
-/// 16 pushes at both ends of a lane half full, until each has answered or 4,096 ticks are made.
-pub fn pushes(nodes: u32) -> Load {
-    let mut table = filled(nodes, nodes / 2);
-    begin_all(&mut table, PUSH, NEW_TAG);
+/// 16 pushes at both ends of lanes half full, until each has answered or 4,096 ticks are made.
+pub fn pushes(nodes: u32, lanes: u32) -> Load {
+    let mut table = filled(nodes, lanes, nodes / 2);
+    begin_all(&mut table, lanes, PUSH, NEW_TAG);
     let mut list = Vec::new();
     let mut after = table.clone();
     let mut busy = true;
@@ -88,54 +94,48 @@ pub fn pushes(nodes: u32) -> Load {
 }
 
 /// The same table and no ticks: a run of them is the test of the shape alone.
-pub fn none(nodes: u32) -> Load {
+pub fn none(nodes: u32, lanes: u32) -> Load {
     Load {
         list: Vec::new(),
-        ..pushes(nodes)
+        ..pushes(nodes, lanes)
     }
 }
 
-/// A lane of so many bags.
-pub fn filled(nodes: u32, bags: u32) -> Vec<u32> {
-    let mut table = started(nodes);
+/// Lanes of so many bags in all, each with its share.
+pub fn filled(nodes: u32, lanes: u32, bags: u32) -> Vec<u32> {
+    let mut table = started(nodes, lanes);
     for bag in 1..=bags {
-        finish(&mut table, PUSH, RIGHT, bag);
+        finish(&mut table, bag % lanes, PUSH, bag);
     }
     table
 }
 
-fn started(nodes: u32) -> Vec<u32> {
-    let sizes = Sizes::new(nodes, TASKS, 0).expect("sizes in range");
+fn started(nodes: u32, lanes: u32) -> Vec<u32> {
+    let sizes = Sizes::new(nodes, TASKS, 0, lanes).expect("sizes in range");
     let mut table = vec![0; sizes.words()];
-    reference::start(&mut table, nodes, TASKS, 0).expect("an accepted start");
+    reference::start(&mut table, nodes, TASKS, 0, lanes).expect("an accepted start");
     table
 }
 
-/// Every task the same operation, at the left and the right in turn; a remove at the right, where the nodes are. Each
-/// push has a tag of its own, from the argument on.
-fn begin_all(table: &mut [u32], operation: u32, argument: u32) {
+/// Every task the same operation, as many tasks on each lane, at the left and the right in turn; a remove at the right,
+/// where the nodes are. Each push has a tag of its own, from the argument on.
+fn begin_all(table: &mut [u32], lanes: u32, operation: u32, argument: u32) {
     for task in 0..TASKS {
+        let lane = task * lanes / TASKS;
         let side = if operation == REMOVE || task % 2 == 1 {
             RIGHT
         } else {
             LEFT
         };
         let argument = argument + if operation == PUSH { task } else { 0 };
-        reference::begin(table, task, operation, side, 0, argument).expect("an idle task");
+        reference::begin(table, task, lane, operation, side, 0, argument).expect("an idle task");
     }
 }
 
-/// A call of task 0, to its answer.
-fn finish(table: &mut [u32], operation: u32, side: u32, argument: u32) {
-    reference::begin(table, 0, operation, side, 0, argument).expect("an idle task");
+/// A call of task 0 at the right end of a lane, to its answer.
+fn finish(table: &mut [u32], lane: u32, operation: u32, argument: u32) {
+    reference::begin(table, 0, lane, operation, RIGHT, 0, argument).expect("an idle task");
     while let Ok(reference::Answer::Going) = reference::tick(table, 0, 0) {}
-}
-
-/// The nodes in use: those whose value was ever written.
-fn taken(table: &[u32], nodes: u32) -> u32 {
-    let sizes = Sizes::new(nodes, TASKS, 0).expect("sizes in range");
-    let value = |number: &u32| table[sizes.node(*number) + node::VALUE];
-    (0..nodes).filter(|number| value(number) != 0).count() as u32
 }
 
 /// So many ticks, the tasks in turn, every search from node 0.

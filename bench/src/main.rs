@@ -13,39 +13,77 @@ use std::hint::black_box;
 use loads::Load;
 use measure::{interleaved, nanoseconds, Figures};
 use programs::{Program, PROVED, RUST};
-use reference::table::PUSH;
+use reference::table::{header, PUSH, RIGHT};
 
 /// Words of all copies of a table in one round: they stay in the nearest cache.
 const ROUND_WORDS: usize = 6000;
 const SIZES: [u32; 3] = [16, 128, 1024];
 const ALL_SIZES: [u32; 7] = [16, 32, 64, 128, 256, 512, 1024];
 
-/// What makes a load for so many nodes.
-type Make = fn(u32) -> Load;
+/// What makes a load for so many nodes and lanes.
+type Make = fn(u32, u32) -> Load;
 /// What measures a load in so many rounds.
 type Measure = fn(usize, &Load) -> Figures;
 
-const ROWS: [(&str, Make, Measure); 7] = [
+/// What is measured, and on how many lanes.
+const ROWS: [(&str, u32, Make, Measure); 10] = [
     (
         "tick, no take: 16 removes that walk",
+        1,
         loads::walks,
         run_tick,
     ),
-    ("tick, no take: 16 pops, empty lane", loads::pops, run_tick),
-    ("tick, each takes a node: 16 adds", loads::takes, run_tick),
-    ("tick, some take a node: 16 pushes", loads::pushes, run_tick),
+    (
+        "tick, no take: 16 pops, empty lane",
+        1,
+        loads::pops,
+        run_tick,
+    ),
+    (
+        "tick, each takes a node: 16 adds",
+        1,
+        loads::takes,
+        run_tick,
+    ),
+    (
+        "tick, some take a node: 16 pushes",
+        1,
+        loads::pushes,
+        run_tick,
+    ),
     (
         "single tick, with its shape test",
+        1,
         loads::short_walks,
         single_tick,
     ),
     (
         "dispatch, with its shape test",
+        1,
         loads::short_walks,
         single_dispatch,
     ),
     (
         "shape test alone: a run of no ticks",
+        1,
+        loads::none,
+        shape_test,
+    ),
+    (
+        "tick, no take: 16 removes that walk",
+        4,
+        loads::walks,
+        run_tick,
+    ),
+    (
+        "tick, each takes a node: 16 adds",
+        4,
+        loads::takes,
+        run_tick,
+    ),
+    (
+        "shape test alone: a run of no ticks",
+        4,
         loads::none,
         shape_test,
     ),
@@ -84,23 +122,27 @@ fn main() {
 /// The table of ratios.
 fn ratios(rounds: usize) {
     println!(
-        "{:38} {:>5} {:>6} {:>9} {:>9} {:>6} {:>6}",
-        "nanoseconds", "S", "ticks", "proved", "Rust", "ratio", "low10"
+        "{:38} {:>5} {:>5} {:>6} {:>9} {:>9} {:>6} {:>6}",
+        "nanoseconds", "S", "lanes", "ticks", "proved", "Rust", "ratio", "low10"
     );
-    for (name, make, measure) in ROWS {
+    for (name, lanes, make, measure) in ROWS {
         for nodes in SIZES {
-            let load = make(nodes);
-            show(name, nodes, load.ticks(), &measure(rounds, &load));
+            let load = make(nodes, lanes);
+            show(name, nodes, lanes, load.ticks(), &measure(rounds, &load));
         }
     }
-    let thousand = loads::filled(1024, 1000);
-    let read = reading(rounds, &thousand, 1000);
-    show("reading 1,000 bags, the whole call", 1024, 0, &read);
-    let begin = beginning(rounds, &thousand);
-    show("begin of a push, 1,000 bags", 1024, 0, &begin);
+    let [one, four] = [1, 4].map(|lanes| loads::filled(1024, lanes, 1000));
+    let read = reading(rounds, &one, 1000);
+    show("reading 1,000 bags, the whole call", 1024, 1, 0, &read);
+    let read = reading(rounds, &four, 250);
+    show("reading 250 bags, one lane of four", 1024, 4, 0, &read);
+    for (lanes, table) in [(1, one), (4, four)] {
+        let begin = beginning(rounds, &table);
+        show("begin of a push, 1,000 bags", 1024, lanes, 0, &begin);
+    }
 }
 
-fn show(name: &str, nodes: u32, ticks: usize, figures: &Figures) {
+fn show(name: &str, nodes: u32, lanes: u32, ticks: usize, figures: &Figures) {
     let Figures {
         proved,
         rust,
@@ -108,7 +150,7 @@ fn show(name: &str, nodes: u32, ticks: usize, figures: &Figures) {
     } = figures;
     let ratio = figures.ratio();
     println!(
-        "{name:38} {nodes:>5} {ticks:>6} {proved:>9.2} {rust:>9.2} {ratio:>6.2} {low_ratio:>6.2}"
+        "{name:38} {nodes:>5} {lanes:>5} {ticks:>6} {proved:>9.2} {rust:>9.2} {ratio:>6.2} {low_ratio:>6.2}"
     );
 }
 
@@ -118,7 +160,7 @@ fn run_tick(rounds: usize, load: &Load) -> Figures {
     let mut tables = [load.table.clone(), load.table.clone()];
     let proved = (PROVED.run)(&mut tables[0], &load.list, &mut answers[0]);
     let rust = (RUST.run)(&mut tables[1], &load.list, &mut answers[1]);
-    assert_eq!(proved, (load.ticks() as u64) << 32, "a tick was refused");
+    assert_eq!(proved, load.ticks() as u64, "a tick was refused");
     assert_eq!(proved, rust, "the programs differ in what a run returns");
     assert_eq!(
         tables[0], tables[1],
@@ -208,28 +250,29 @@ fn shape_test(rounds: usize, load: &Load) -> Figures {
     interleaved(rounds, work(&PROVED), work(&RUST))
 }
 
-/// A read of the whole lane.
+/// A read of the last lane, which has so many bags.
 fn reading(rounds: usize, table: &[u32], bags: u64) -> Figures {
+    let lane = table[header::LANES] - 1;
     let out = vec![0; 2 * bags as usize];
     let mut outs = [out.clone(), out.clone()];
-    assert_eq!((PROVED.read)(table, &mut outs[0]), bags);
-    assert_eq!((RUST.read)(table, &mut outs[1]), bags);
+    assert_eq!((PROVED.read)(table, lane, &mut outs[0]), bags);
+    assert_eq!((RUST.read)(table, lane, &mut outs[1]), bags);
     assert_eq!(outs[0], outs[1], "the programs differ in the tags read");
     let work = |program: &'static Program| {
         let mut out = out.clone();
         move || {
             nanoseconds(|| {
-                black_box((program.read)(black_box(table), &mut out));
+                black_box((program.read)(black_box(table), lane, &mut out));
             })
         }
     };
     interleaved(rounds, work(&PROVED), work(&RUST))
 }
 
-/// The begin of a push that is accepted: no tag of the whole lane is its own.
+/// The begin of a push that is accepted: no tag of any lane is its own.
 fn beginning(rounds: usize, table: &[u32]) -> Figures {
     let begin = |program: &Program, table: &mut [u32]| {
-        (program.begin)(table, 0, PUSH, loads::RIGHT, 0, loads::NEW_TAG)
+        (program.begin)(table, 0, 0, PUSH, RIGHT, 0, loads::NEW_TAG)
     };
     let mut tables = [table.to_vec(), table.to_vec()];
     assert_eq!(begin(&PROVED, &mut tables[0]), 0);
@@ -264,14 +307,14 @@ fn growth(rounds: usize) {
         "S", "tick, no take", "tick that takes", "shape test", "bytes a ns", "sum"
     );
     for nodes in ALL_SIZES {
-        let idle = loads::none(nodes);
+        let idle = loads::none(nodes, 1);
         let test = shape_test(rounds, &idle);
         let bytes = 4.0 * idle.table.len() as f64;
         let rates = format!("{:.1} ({:.1})", bytes / test.proved, bytes / test.rust);
         let sum = bytes / plain_sum(rounds, &idle);
         let cells = [
-            run_tick(rounds, &loads::walks(nodes)),
-            run_tick(rounds, &loads::takes(nodes)),
+            run_tick(rounds, &loads::walks(nodes, 1)),
+            run_tick(rounds, &loads::takes(nodes, 1)),
             test,
         ]
         .map(|figures| format!("{:.2} ({:.2})", figures.proved, figures.rust));

@@ -5,16 +5,16 @@ use reference::Answer;
 
 /// The calls that are measured, answers as numbers of 64 bits.
 pub struct Program {
-    /// Task, operation, side, digit and argument of a call.
-    pub begin: fn(&mut [u32], u32, u32, u32, u32, u32) -> u32,
+    /// Task, lane, operation, side, digit and argument of a call.
+    pub begin: fn(&mut [u32], u32, u32, u32, u32, u32, u32) -> u32,
     /// One tick with its test of the table's shape.
     pub tick: fn(&mut [u32], u32, u32) -> u64,
     /// The same of the next busy task.
     pub dispatch: fn(&mut [u32], u32) -> u64,
     /// A list of ticks.
     pub run: fn(&mut [u32], &[u32], &mut [u32]) -> u64,
-    /// The tags of the lane.
-    pub read: fn(&[u32], &mut [u32]) -> u64,
+    /// The tags of a lane.
+    pub read: fn(&[u32], u32, &mut [u32]) -> u64,
     /// A tag list in packed decimal, to words.
     pub read_tags: fn(&[u8], &mut [u32]) -> u64,
     /// The same from words.
@@ -34,8 +34,8 @@ pub const PROVED: Program = Program {
 
 /// The second program in Rust.
 pub const RUST: Program = Program {
-    begin: |table, task, operation, side, digit, argument| {
-        let begun = reference::begin(table, task, operation, side, digit, argument);
+    begin: |table, task, lane, operation, side, digit, argument| {
+        let begun = reference::begin(table, task, lane, operation, side, digit, argument);
         begun.err().unwrap_or(0)
     },
     tick: |table, task, hint| answer(reference::tick(table, task, hint)),
@@ -44,9 +44,9 @@ pub const RUST: Program = Program {
         given.transpose().map_or(8 << 40, answer)
     },
     run: |table, list, answers| pair(reference::run(table, list, answers)),
-    read: |table, out| match reference::read(table, out) {
+    read: |table, lane, out| match reference::read(table, lane, out) {
         Ok(count) => u64::from(count),
-        Err(number) => pair((1, number)),
+        Err(number) => pair((number, 0)),
     },
     read_tags: |bytes, words| pair(reference::read_tags(bytes, words)),
     write_tags: |words, bytes| pair(reference::write_tags(words, bytes)),

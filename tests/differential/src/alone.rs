@@ -26,7 +26,7 @@ pub fn run(random: &mut Random, both: &mut Both, sizes: Sizes, task: u32) -> (u3
         let list: Vec<u32> = (0..RUN)
             .flat_map(|_| [task, random.below(sizes.nodes)])
             .collect();
-        let (made, number, answers) = both.run(&list, 3 * RUN as usize, random.word());
+        let (number, made, answers) = both.run(&list, 3 * RUN as usize, random.word());
         let answers = answers.chunks(3).take(made as usize);
         words.extend(answers.map(|words| [words[0], words[1], words[2]]));
         refusal = number;

@@ -10,6 +10,7 @@ use crate::common::calls::whole;
 use crate::common::row::Note;
 use crate::counts::Given;
 use crate::lent::Lent;
+use crate::starts;
 
 /// Calls that are shown when a comparison fails.
 const SHOWN: usize = 40;
@@ -18,8 +19,8 @@ const SHOWN: usize = 40;
 #[derive(Debug)]
 #[allow(dead_code)]
 enum Call {
-    /// Slots, tasks, growth.
-    Start(u32, u32, u32),
+    /// Slots, tasks, growth, lanes.
+    Start([u32; 4]),
     /// Task, call.
     Begin(u32, Note),
     /// Task, hint.
@@ -30,12 +31,15 @@ enum Call {
     Run(usize, usize),
     /// The same, from the panel.
     Panel(usize, usize),
-    /// Words of the out slice.
-    Read(usize),
+    /// Lane, words of the out slice.
+    Read(u32, usize),
 }
 
 /// A list of ticks over a table and an answer slice, with what it gives in one number.
 type Entry = fn(&mut [u32], &[u32], &mut [u32]) -> u64;
+
+/// What such a list gave: the refusal or 0, the ticks made, and the answer slice.
+pub type Ran = (u32, u32, Vec<u32>);
 
 fn reference_run(table: &mut [u32], list: &[u32], answers: &mut [u32]) -> u64 {
     pair(reference::run(table, list, answers))
@@ -78,12 +82,17 @@ impl Both {
         self.before.words()
     }
 
-    pub fn start(&mut self, slots: u32, tasks: u32, growth: u32) -> Result<(), u32> {
-        self.note(Call::Start(slots, tasks, growth));
-        let proved = ffi::start(self.proved.words_mut(), slots, tasks, growth);
-        let second = reference::start(self.second.words_mut(), slots, tasks, growth);
+    /// Slots, tasks, growth and lanes, in this order.
+    pub fn start(&mut self, given: [u32; 4]) -> Result<(), u32> {
+        self.note(Call::Start(given));
+        let [slots, tasks, growth, lanes] = given;
+        let proved = ffi::start(self.proved.words_mut(), slots, tasks, growth, lanes);
+        let second = reference::start(self.second.words_mut(), slots, tasks, growth, lanes);
         let number = second.err().unwrap_or(0);
         self.compare(proved, number);
+        let place = starts::place(given, self.table().len());
+        starts::hold(place, number);
+        self.given.starts[place] += 1;
         self.done(0, number, second.is_ok());
         second
     }
@@ -91,14 +100,15 @@ impl Both {
     pub fn begin(&mut self, task: u32, call: Note) -> Result<(), u32> {
         self.note(Call::Begin(task, call));
         let Note {
+            lane,
             operation,
             side,
             digit,
             argument,
         } = call;
         let (proved, second) = (self.proved.words_mut(), self.second.words_mut());
-        let proved = ffi::begin(proved, task, operation, side, digit, argument);
-        let second = reference::begin(second, task, operation, side, digit, argument);
+        let proved = ffi::begin(proved, task, lane, operation, side, digit, argument);
+        let second = reference::begin(second, task, lane, operation, side, digit, argument);
         let number = second.err().unwrap_or(0);
         self.compare(proved, number);
         self.done(1, number, second.is_ok());
@@ -125,19 +135,19 @@ impl Both {
         second
     }
 
-    /// Gives the ticks made, the refusal or 0, and the answer slice, which had `content` in every word.
-    pub fn run(&mut self, list: &[u32], length: usize, content: u32) -> (u32, u32, Vec<u32>) {
+    /// The answer slice had `content` in every word.
+    pub fn run(&mut self, list: &[u32], length: usize, content: u32) -> Ran {
         self.note(Call::Run(list.len(), length));
         self.ticks(3, [ffi::run, reference_run], list, length, content)
     }
 
     /// The same from the panel.
-    pub fn panel(&mut self, list: &[u32], length: usize, content: u32) -> (u32, u32, Vec<u32>) {
+    pub fn panel(&mut self, list: &[u32], length: usize, content: u32) -> Ran {
         self.note(Call::Panel(list.len(), length));
-        let given = self.ticks(4, [ffi::panel, reference_panel], list, length, content);
-        self.given.panel_ticks += u64::from(given.0);
-        self.given.panel_whole += u64::from(given.0 == 32);
-        given
+        let ran = self.ticks(4, [ffi::panel, reference_panel], list, length, content);
+        self.given.panel_ticks += u64::from(ran.1);
+        self.given.panel_whole += u64::from(ran.1 == 32);
+        ran
     }
 
     fn ticks(
@@ -147,13 +157,13 @@ impl Both {
         list: &[u32],
         length: usize,
         content: u32,
-    ) -> (u32, u32, Vec<u32>) {
+    ) -> Ran {
         let mut proved = Lent::new(&vec![content; length]);
         let mut second = proved.clone();
         let ran = programs[0](self.proved.words_mut(), list, proved.words_mut());
         let other = programs[1](self.second.words_mut(), list, second.words_mut());
         self.compare(halves(ran), halves(other));
-        let [made, number] = halves(other);
+        let [number, made] = halves(other);
         assert!(proved == second, "the programs differ in a run's answers");
         let rest = &second.words()[3 * made as usize..];
         assert!(
@@ -161,19 +171,19 @@ impl Both {
             "a run wrote past its answers"
         );
         self.done(call, number, made > 0);
-        (made, number, second.words().to_vec())
+        (number, made, second.words().to_vec())
     }
 
-    /// Gives the tags, or the refusal; the out slice had `content` in every word.
-    pub fn read(&mut self, length: usize, content: u32) -> Result<Vec<u64>, u32> {
-        self.note(Call::Read(length));
+    /// Gives the tags of a lane, or the refusal; the out slice had `content` in every word.
+    pub fn read(&mut self, lane: u32, length: usize, content: u32) -> Result<Vec<u64>, u32> {
+        self.note(Call::Read(lane, length));
         let mut proved = Lent::new(&vec![content; length]);
         let mut second = proved.clone();
-        let count = ffi::read(self.proved.words(), proved.words_mut());
-        let reading = reference::read(self.second.words(), second.words_mut());
+        let count = ffi::read(self.proved.words(), lane, proved.words_mut());
+        let reading = reference::read(self.second.words(), lane, second.words_mut());
         let words = match reading {
             Ok(count) => [0, count],
-            Err(number) => [1, number],
+            Err(number) => [number, 0],
         };
         self.compare(halves(count), words);
         assert!(proved == second, "the programs differ in the tags read");

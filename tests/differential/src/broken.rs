@@ -1,6 +1,6 @@
 //! Tables that no start reaches: well-shaped ones, damaged ones and any words, with any numbers.
 
-use reference::table::{content, header, is_tag, node, record, Sizes, MAX_LOW, PUSH};
+use reference::table::{content, header, is_tag, node, record, Content, Sizes, MAX_LOW, PUSH};
 
 use crate::both::Both;
 use crate::common::random::Random;
@@ -9,23 +9,33 @@ use crate::common::tables::{shaped_of, sizes};
 use crate::counts::{Counts, Origin};
 use crate::dispatches;
 
-/// Calls on a well-shaped table, which stays well-shaped: never 3 or 4.
+/// Calls on a well-shaped table.
 pub fn shaped(random: &mut Random, counts: &mut Counts) {
-    let table = shaped_table(random);
-    let sizes = sizes(&table);
-    let mut both = Both::over(&table);
+    let mut both = Both::over(&shaped_table(random));
+    calls(random, counts, &mut both);
+    counts.add(&both.given);
+}
+
+/// A few calls on a table that is well-shaped and stays so: never 3 or 4.
+pub fn calls(random: &mut Random, counts: &mut Counts, both: &mut Both) {
+    let sizes = sizes(both.table());
     for _ in 0..random.below(12) {
         let task = random.below(sizes.tasks + 1);
+        let lane = match random.below(8) {
+            0 => sizes.lanes + random.below(2),
+            _ => random.below(sizes.lanes),
+        };
         let hint = random.below(sizes.nodes + 1);
         match random.below(10) {
             0 => {
                 let length = random.below(2 * sizes.nodes + 2) as usize;
-                let reading = both.read(length, 0);
+                let reading = both.read(lane, length, 0);
                 assert!(!matches!(reading, Err(3 | 4)), "a tick broke the shape");
             }
-            1 => ticks(random, &mut both),
+            1 => ticks(random, both),
             2 => {
                 let call = Note {
+                    lane,
                     operation: random.below(6),
                     side: random.below(3),
                     digit: random.digit(),
@@ -34,22 +44,23 @@ pub fn shaped(random: &mut Random, counts: &mut Counts) {
                 let _ = both.begin(task, call);
             }
             3 => {
-                // The tags of such a table, and others, differ in the digit alone.
+                let [argument, digit] = some_tag(random, both.table(), sizes);
                 let push = Note {
+                    lane,
                     operation: PUSH,
                     side: random.below(2),
-                    digit: random.pick(&[0, 1, 9]),
-                    argument: random.pick(&[0, 1, 2, MAX_LOW]),
+                    digit,
+                    argument,
                 };
                 let given = both.begin(task, push);
-                if !matches!(given, Err(5 | 7)) {
+                if !matches!(given, Err(5 | 7 | 26)) {
                     let before = both.before();
                     let begins = &mut counts.begins;
                     begins.saw(Origin::Anywhere, before, task, push, given);
                 }
             }
             4 => {
-                let _ = dispatches::dispatch(counts, Origin::Anywhere, &mut both, hint);
+                let _ = dispatches::dispatch(counts, Origin::Anywhere, both, hint);
             }
             _ => {
                 let given = both.tick(task, hint);
@@ -59,7 +70,16 @@ pub fn shaped(random: &mut Random, counts: &mut Counts) {
             }
         }
     }
-    counts.add(&both.given);
+}
+
+/// What some slot has, or one of the few tags of such tables: they, and others, differ in the digit alone.
+fn some_tag(random: &mut Random, table: &[u32], sizes: Sizes) -> Content {
+    let standing = content(table, sizes.node(random.below(sizes.nodes)) + node::VALUE);
+    let known = [0, 1, 2, MAX_LOW].map(|low| [low, random.pick(&[0, 1, 9])]);
+    match random.below(4) {
+        0 => standing,
+        _ => random.pick(&known),
+    }
 }
 
 /// Each call on words that were a table, or never were.
@@ -68,7 +88,9 @@ pub fn damaged(random: &mut Random, counts: &mut Counts) {
     let mut both = Both::over(&words);
     for _ in 0..random.below(6) {
         let [one, two, three, four] = [(); 4].map(|()| random.word());
+        let lane = random.pick(&[0, 0, 0, 1, 2, 3, 4, 5, one]);
         let call = Note {
+            lane,
             operation: two % 8,
             side: three % 4,
             digit: random.digit(),
@@ -76,17 +98,17 @@ pub fn damaged(random: &mut Random, counts: &mut Counts) {
         };
         match random.below(9) {
             0 => {
-                let _ = both.start(one, two, three);
+                let _ = both.start([one, two, three, lane]);
             }
             1 => {
                 let (slots, tasks) = (words.first().copied(), words.get(1).copied());
-                let _ = both.start(slots.unwrap_or(2), tasks.unwrap_or(1), three);
+                let _ = both.start([slots.unwrap_or(2), tasks.unwrap_or(1), three, lane]);
             }
             2 | 3 => {
                 let _ = both.begin(one % 20, call);
             }
             4 => {
-                let _ = both.read(random.below(50) as usize, four);
+                let _ = both.read(lane, random.below(50) as usize, four);
             }
             5 => ticks(random, &mut both),
             6 => {
@@ -138,7 +160,8 @@ fn any_sizes(random: &mut Random) -> Sizes {
     };
     let [most, limit] = [[2, 4, 16], [1, 3, 65]].map(|bounds| random.pick(&bounds));
     let (tasks, growth) = (1 + random.below(most), random.below(limit));
-    Sizes::new(nodes, tasks, growth).expect("sizes in range")
+    let lanes = 1 + random.below(Sizes::MAX_LANES.min(nodes / 2));
+    Sizes::new(nodes, tasks, growth, lanes).expect("sizes in range")
 }
 
 fn shaped_table(random: &mut Random) -> Vec<u32> {

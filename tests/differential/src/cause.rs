@@ -139,9 +139,10 @@ impl View<'_> {
         }
     }
 
+    /// That of its lane and side.
     fn hat(&self) -> u32 {
-        let hats = [header::RIGHT_HAT, header::LEFT_HAT];
-        self.table[hats[usize::from(self.left)]]
+        let side = self.field(record::SIDE);
+        self.table[header::hat(self.field(record::LANE), side)]
     }
 
     fn word(&self, register: usize, fields: [usize; 2]) -> u32 {

@@ -4,23 +4,27 @@ use reference::table::{header, node, record, Sizes};
 use reference::Answer;
 
 use crate::alone::Alone;
+use crate::apart::Apart;
 use crate::begins::Begins;
 use crate::cause;
+use crate::common::tables::sizes;
 use crate::digits::Digits;
 use crate::dispatches::Dispatches;
 use crate::idle::Idle;
 use crate::lists::Lists;
 use crate::outcomes::{Leads, Outcome, OUTCOMES};
+use crate::starts;
 use crate::stretch::Stretches;
+use crate::words::Words;
 
 /// The calls, and what each can give by the paper; 0 stands for no refusal.
 const GIVEN: [(&str, &[usize]); 7] = [
-    ("start", &[0, 1, 2]),
-    ("begin", &[0, 3, 4, 5, 6, 7, 8, 11, 16]),
+    ("start", &[0, 1, 2, 25]),
+    ("begin", &[0, 3, 4, 5, 6, 7, 8, 11, 16, 26]),
     ("tick", &[0, 3, 4, 5, 9, 10, 11]),
     ("run", &[0, 3, 4, 5, 9, 10, 11, 13, 14]),
     ("panel", &[0, 3, 4, 5, 9, 10, 11, 13, 14, 15]),
-    ("read", &[0, 3, 4, 11, 12]),
+    ("read", &[0, 3, 4, 11, 12, 26]),
     ("dispatch", &[0, 3, 4, 9, 11]),
 ];
 /// All steps that change the digit of a node, and whether a table that start and the calls reach shows it.
@@ -32,7 +36,9 @@ pub const NAMES: [&str; 4] = ["push", "pop", "add", "remove"];
 #[derive(Default)]
 pub struct Given {
     /// By call and refusal.
-    pub refusals: [[u64; 17]; GIVEN.len()],
+    pub refusals: [[u64; 27]; GIVEN.len()],
+    /// Starts, as they are listed.
+    pub starts: [u64; starts::FOUND.len()],
     /// Ticks that the panel's lists made.
     pub panel_ticks: u64,
     /// Lists of the panel that made 32 ticks.
@@ -57,6 +63,10 @@ pub struct Counts {
     given: Given,
     /// Ticks at which the tick count went to 0.
     wraps: u64,
+    /// Ticks of tasks of several lanes.
+    apart: Apart,
+    /// Words of the lanes.
+    pub words: Words,
     /// Digits in each place.
     pub digits: Digits,
     /// Begins of a push.
@@ -82,6 +92,8 @@ impl Counts {
             digits: Digits::default(),
             given: Given::default(),
             wraps: 0,
+            apart: Apart::new(),
+            words: Words::default(),
             begins: Begins::default(),
             dispatches: Dispatches::default(),
             alone: Alone::default(),
@@ -100,6 +112,9 @@ impl Counts {
                 *sum += count;
             }
         }
+        for (sum, count) in self.given.starts.iter_mut().zip(given.starts) {
+            *sum += count;
+        }
     }
 
     /// Counts a tick of a busy task and holds it to the list of outcomes: what the table before the tick shows must
@@ -112,12 +127,7 @@ impl Counts {
         task: u32,
         given: Result<Answer, u32>,
     ) {
-        let sizes = Sizes::new(
-            before[header::NODES],
-            before[header::TASKS],
-            before[header::GROWTH],
-        );
-        let sizes = sizes.expect("a table");
+        let sizes = sizes(before);
         let at = sizes.record(task);
         let leads = match given {
             Ok(Answer::Going) => Leads::To(after[at + record::STEP]),
@@ -145,6 +155,9 @@ impl Counts {
             self.changed[place][origin as usize][side] += 1;
         }
         self.wraps += u64::from(after[header::TICKS] < before[header::TICKS]);
+        if let (Origin::Calls, Ok(answer)) = (origin, given) {
+            self.apart.tick(before, after, sizes, task, answer);
+        }
     }
 
     /// Prints all counts; gives what was to be seen and was not, or seen and was not to be.
@@ -167,6 +180,9 @@ impl Counts {
         }
         self.report_changed(&mut faults);
         self.report_given(&mut faults);
+        faults.extend(starts::report(&self.given.starts));
+        faults.extend(self.apart.report());
+        faults.extend(self.words.report());
         faults.extend(self.digits.report());
         faults.extend(self.begins.report());
         faults.extend(self.dispatches.report());
@@ -199,6 +215,7 @@ impl Counts {
             refusals,
             panel_ticks,
             panel_whole,
+            ..
         } = &self.given;
         println!("the panel made {panel_ticks} ticks; {panel_whole} of its lists made 32");
         if *panel_whole == 0 {

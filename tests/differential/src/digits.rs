@@ -57,7 +57,7 @@ pub fn check(random: &mut Random, counts: &mut Counts) {
     };
     let (name, holds) = PLACES[beside as usize];
     let mut both = Both::over(&table);
-    let (_, given, _) = both.run(&[], 0, 0);
+    let (given, ..) = both.run(&[], 0, 0);
     let wanted = if holds[size] { 0 } else { 4 };
     assert_eq!(given, wanted, "digit {} beside {name}", table[place]);
     counts.digits.seen[beside as usize][size] += 1;

@@ -1,5 +1,5 @@
-//! Idle tables: five numbers say what is in use, each call alone changes them as listed, and all slots but two take
-//! bags again.
+//! Idle tables: five numbers a lane say what is in use, each call alone changes those of its own end as listed, and all
+//! slots but two a lane take bags again.
 
 mod call;
 mod list;
@@ -13,17 +13,14 @@ use crate::common::random::Random;
 use crate::common::row::Note;
 use crate::counts::Counts;
 use call::CASES;
-use list::List;
+use list::Lanes;
 
-/// Holds a table with every task idle to what is claimed of it: calls alone, of each operation, and pushes until both
+/// Holds a table with every task idle to what is claimed of it: calls alone, of each operation, and pushes until all
 /// ends are full, each on a copy. Tables without a spur are many, so few of them get it all.
 pub fn check(random: &mut Random, counts: &mut Counts, table: &[u32], sizes: Sizes) {
-    let list = List::of(table, sizes);
-    let [left, right] = list.ends.map(|end| end.spur as usize);
-    counts.idle.tables[left][right] += 1;
-    let spurs = left + right;
+    let lanes = Lanes::of(table, sizes);
+    let spurs = counts.idle.saw(&lanes);
     assert!(spurs == 0 || sizes.tasks > 1, "a spur made by one task");
-    assert!(spurs < 2 || !list.tags.is_empty(), "two spurs and no bag");
     for operation in [PUSH, POP, ADD, REMOVE] {
         if spurs > 0 || random.once_in(4) {
             let mut quiet = Quiet::over(random, counts, table, sizes);
@@ -32,10 +29,10 @@ pub fn check(random: &mut Random, counts: &mut Counts, table: &[u32], sizes: Siz
             quiet.done();
         }
     }
-    for side in [0, 1] {
+    for _ in 0..2 {
         if random.once_in(if spurs > 0 { 1 } else { 20 } + sizes.nodes / 16) {
             let mut quiet = Quiet::over(random, counts, table, sizes);
-            quiet.fill(side);
+            quiet.fill();
             quiet.done();
         }
     }
@@ -46,7 +43,7 @@ struct Quiet<'a> {
     random: &'a mut Random,
     counts: &'a mut Counts,
     both: Both,
-    list: List,
+    lanes: Lanes,
     sizes: Sizes,
 }
 
@@ -61,27 +58,27 @@ impl<'a> Quiet<'a> {
             random,
             counts,
             both: Both::over(table),
-            list: List::of(table, sizes),
+            lanes: Lanes::of(table, sizes),
             sizes,
         }
     }
 
     /// A call of this operation, removes often near what is there.
     fn any(&mut self, operation: u32) -> Note {
-        let side = self.random.below(2);
-        let spare = self.list.ends[side as usize].spare;
+        let (lane, side) = (self.random.below(self.sizes.lanes), self.random.below(2));
+        let spare = self.lanes.0[lane as usize].ends[side as usize].spare;
         let argument = match operation {
-            PUSH => return Note::new(PUSH, side, self.tag()),
+            PUSH => return Note::new(lane, PUSH, side, self.tag()),
             POP => 0,
             ADD if self.random.once_in(2) => self.random.below(65),
             REMOVE if self.random.once_in(8) => self.random.below(1024),
             REMOVE => self.random.below(spare),
             _ => self.random.below(3),
         };
-        Note::new(operation, side, argument.into())
+        Note::new(lane, operation, side, argument.into())
     }
 
-    /// A tag that is not in the lane; one of the lane may have its low part.
+    /// A tag that is in no lane; one that is in a lane may have its low part.
     fn tag(&mut self) -> u64 {
         loop {
             let any = 1 + self.random.next() % MAX_TAG;
@@ -91,23 +88,24 @@ impl<'a> Quiet<'a> {
                 _ => low_part(any),
             };
             let tag = tag(self.random.below(10), low);
-            if tag > 0 && !self.list.tags.contains(&tag) {
+            if tag > 0 && !self.lanes.tags().any(|standing| standing == tag) {
                 return tag;
             }
         }
     }
 
-    /// A tag of the lane, if there is any.
+    /// A tag that is in a lane, if there is any.
     fn standing(&mut self) -> Option<u64> {
-        let place = self.random.next() as usize % self.list.tags.len().max(1);
-        self.list.tags.get(place).copied()
+        let tags: Vec<u64> = self.lanes.tags().collect();
+        (!tags.is_empty()).then(|| self.random.pick(&tags))
     }
 
-    /// A push of a tag that is in the lane, at either end and by any task, is turned back.
+    /// A push of a tag that is in a lane, on any lane, at either end and by any task, is turned back.
     fn push_again(&mut self) {
         if let Some(tag) = self.standing() {
             let (task, side) = (self.random.below(self.sizes.tasks), self.random.below(2));
-            let given = self.both.begin(task, Note::new(PUSH, side, tag));
+            let lane = self.random.below(self.sizes.lanes);
+            let given = self.both.begin(task, Note::new(lane, PUSH, side, tag));
             assert_eq!(given, Err(16));
         }
     }
@@ -115,7 +113,10 @@ impl<'a> Quiet<'a> {
     /// A call alone by any task: its answer and the table after it are as listed.
     fn call(&mut self, call: Note) -> Answer {
         let Note {
-            operation, side, ..
+            lane,
+            operation,
+            side,
+            ..
         } = call;
         if self.random.once_in(4) {
             self.push_again();
@@ -125,29 +126,37 @@ impl<'a> Quiet<'a> {
         begun.expect("the task is idle");
         let (ticks, words) = alone::run(self.random, &mut self.both, self.sizes, task);
         self.counts.alone.saw(self.sizes.nodes, operation, ticks);
-        let case = self.list.case(call, self.sizes) as usize;
-        let spur = self.list.ends[side as usize].spur as usize;
+        let case = self.lanes.case(call, self.sizes) as usize;
+        let spur = self.lanes.0[lane as usize].ends[side as usize].spur as usize;
         self.counts.idle.calls[case][spur][side as usize] += 1;
         let (name, _) = CASES[case];
-        let answer = self.list.make(call, self.sizes);
+        let answer = self.lanes.make(call, self.sizes);
         assert_eq!(words, answer.words(), "answer alone: {name}");
-        let after = List::of(self.both.table(), self.sizes);
-        assert_eq!(after, self.list, "left alone: {name}");
+        let after = Lanes::of(self.both.table(), self.sizes);
+        assert_eq!(after, self.lanes, "left alone: {name}");
         answer
     }
 
-    /// Pushes at one end until it is full, then at the other: every slot but two has a bag.
-    fn fill(&mut self, first: u32) {
-        for side in [first, 1 - first] {
+    /// Pushes at each end of each lane until it is full, in any order: every slot but two a lane has a bag.
+    fn fill(&mut self) {
+        let Sizes { nodes, lanes, .. } = self.sizes;
+        let mut ends: Vec<(u32, u32)> =
+            (0..lanes).flat_map(|lane| [(lane, 0), (lane, 1)]).collect();
+        while !ends.is_empty() {
+            let place = self.random.below(ends.len() as u32);
+            let (lane, side) = ends.swap_remove(place as usize);
             let mut answer = Answer::Pushed;
             while answer == Answer::Pushed {
                 let push = self.any(PUSH);
-                answer = self.call(Note { side, ..push });
+                answer = self.call(Note { lane, side, ..push });
             }
         }
-        let nodes = self.sizes.nodes as usize;
-        let tags = self.both.read(2 * nodes, 0).expect("the lane is read");
-        assert_eq!(tags.len(), nodes - 2, "bags when both ends are full");
+        let bags = (0..lanes).map(|lane| {
+            let tags = self.both.read(lane, 2 * nodes as usize, 0);
+            tags.expect("the lane is read").len() as u32
+        });
+        let bags: u32 = bags.sum();
+        assert_eq!(bags, nodes - 2 * lanes, "bags when all ends are full");
     }
 
     fn done(self) {
@@ -158,27 +167,59 @@ impl<'a> Quiet<'a> {
 /// What was seen of idle tables.
 #[derive(Default)]
 pub struct Idle {
-    /// By spurs, left and right.
-    tables: [[u64; 2]; 2],
+    /// Tables by lanes, from 1.
+    tables: [u64; 4],
+    /// Their lanes by spurs, left and right.
+    lanes: [[u64; 2]; 2],
+    /// Tables with spurs on several lanes.
+    several: u64,
     /// Calls alone by case, spur and side.
     calls: [[[u64; 2]; 2]; CASES.len()],
 }
 
 impl Idle {
+    /// Counts a table; gives its lanes with spurs.
+    fn saw(&mut self, lanes: &Lanes) -> usize {
+        let mut spurred = 0;
+        for list in &lanes.0 {
+            let [left, right] = list.ends.map(|end| end.spur as usize);
+            self.lanes[left][right] += 1;
+            spurred += left.max(right);
+            assert!(
+                left + right < 2 || !list.tags.is_empty(),
+                "two spurs and no bag"
+            );
+        }
+        self.tables[lanes.0.len() - 1] += 1;
+        self.several += u64::from(spurred > 1);
+        spurred
+    }
+
     /// Prints the counts; gives what was never seen.
     pub fn report(&self) -> Vec<String> {
-        let [[neither, right], [left, both]] = self.tables;
-        let all = neither + left + right + both;
+        let [[_, right], [left, both]] = self.lanes;
         println!(
-            "\nidle tables: {all}; hat on a spur at the left {}, at the right {}, at both {both}",
+            "\nidle tables by lanes: {:?}; with spurs on several lanes: {}",
+            self.tables, self.several
+        );
+        println!(
+            "lanes of them with the hat on a spur at the left {}, at the right {}, at both {both}",
             left + both,
             right + both
         );
         let mut faults = Vec::new();
-        for (name, count) in [("left", left), ("right", right), ("left and right", both)] {
+        for (name, count) in [
+            ("at the left", left),
+            ("at the right", right),
+            ("at the left and the right", both),
+            ("on several lanes", self.several),
+        ] {
             if count == 0 {
-                faults.push(format!("no idle table with a spur at the {name}"));
+                faults.push(format!("no idle table with a spur {name}"));
             }
+        }
+        if self.tables.contains(&0) {
+            faults.push(format!("idle tables by lanes: {:?}", self.tables));
         }
         self.report_calls(&mut faults);
         faults

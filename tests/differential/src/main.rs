@@ -7,6 +7,7 @@
 #![forbid(unsafe_code)]
 
 mod alone;
+mod apart;
 mod begins;
 mod both;
 mod broken;
@@ -19,7 +20,9 @@ mod lent;
 mod lists;
 mod outcomes;
 mod play;
+mod starts;
 mod stretch;
+mod words;
 
 #[path = "../../reference/tests/common/mod.rs"]
 mod common;
@@ -29,6 +32,7 @@ use std::process::ExitCode;
 use std::time::{Duration, Instant};
 
 use common::random::Random;
+use common::tables::shaped;
 use counts::Counts;
 use reference::table::Sizes;
 
@@ -36,6 +40,8 @@ const ROUNDS: u64 = 24;
 /// Slots of the tables of a round.
 const SMALL: RangeInclusive<u32> = 2..=12;
 const LARGE: u32 = 1024;
+/// Lanes of the ten plays of a size, from any of them on, going round; where it allows fewer, the numbers begin again.
+const LANES: [u32; 10] = [1, 2, 1, 3, 1, 2, 1, 4, 2, 1];
 
 struct Options {
     seed: u64,
@@ -90,18 +96,26 @@ fn options() -> Option<Options> {
     Some(options)
 }
 
-/// Small tables of every size with few and many tasks, a large one, and tables from anywhere; and tag lists.
+/// Small tables of every size with every number of lanes that it allows, few and many tasks; a few slots for each of
+/// several lanes; a large one, and tables from anywhere; and tag lists.
 fn round(random: &mut Random, counts: &mut Counts) {
     for nodes in SMALL {
+        let first = random.below(LANES.len() as u32) as usize;
+        let lanes = LANES.iter().cycle().skip(first);
         let many = 9 + random.below(8);
-        for tasks in [1, 2, 3, 3, 4, 4, 5, 6, 8, many] {
-            let any = random.below(65);
-            let growth = random.pick(&[0, 0, 0, 1, 2, 3, any]);
-            play(random, counts, (nodes, tasks, growth), 600);
+        for (tasks, lanes) in [1, 2, 3, 3, 4, 4, 5, 6, 8, many].into_iter().zip(lanes) {
+            let most = Sizes::MAX_LANES.min(nodes / 2);
+            small(random, counts, nodes, tasks, 1 + (lanes - 1) % most);
         }
     }
+    for lanes in [2, 3, 4, 2, 3, 4] {
+        let (nodes, tasks) = (lanes * (3 + random.below(4)), 3 + random.below(8));
+        small(random, counts, nodes, tasks, lanes);
+    }
     let (tasks, growth) = (1 + random.below(16), random.below(65));
-    play(random, counts, (LARGE, tasks, growth), 300);
+    let lanes = 1 + random.below(Sizes::MAX_LANES);
+    let sizes = Sizes::new(LARGE, tasks, growth, lanes);
+    play::play(random, counts, sizes.expect("sizes in range"), 300);
     for _ in 0..40_000 {
         broken::shaped(random, counts);
         broken::damaged(random, counts);
@@ -109,12 +123,15 @@ fn round(random: &mut Random, counts: &mut Counts) {
     for _ in 0..4_000 {
         digits::check(random, counts);
         dispatches::check(random, counts);
+        let table = shaped(random);
+        words::check(random, counts, table);
     }
     lists::check(random, &mut counts.lists);
 }
 
-fn play(random: &mut Random, counts: &mut Counts, sizes: (u32, u32, u32), calls: u32) {
-    let (nodes, tasks, growth) = sizes;
-    let sizes = Sizes::new(nodes, tasks, growth).expect("sizes in range");
-    play::play(random, counts, sizes, calls);
+fn small(random: &mut Random, counts: &mut Counts, nodes: u32, tasks: u32, lanes: u32) {
+    let any = random.below(65);
+    let growth = random.pick(&[0, 0, 0, 1, 2, 3, any]);
+    let sizes = Sizes::new(nodes, tasks, growth, lanes);
+    play::play(random, counts, sizes.expect("sizes in range"), 600);
 }

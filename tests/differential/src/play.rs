@@ -1,18 +1,22 @@
-//! Lists of calls on tables that start begins and the calls alone write, explained by the plain row.
+//! Lists of calls on tables that start begins and the calls alone write, explained by the plain rows of the lanes.
 
 mod adversary;
 mod delay;
 mod in_turn;
 
-use reference::table::{header, low_part, record, tag, Sizes, ADD, MAX_TAG, POP, PUSH, REMOVE};
+use reference::table::{
+    content, digit, header, is_tag, low_part, node, record, tag, Sizes, ADD, LEFT, MAX_TAG, NONE,
+    POP, PUSH, REMOVE,
+};
 use reference::Answer;
 
 use crate::alone;
-use crate::both::Both;
+use crate::both::{Both, Ran};
 use crate::common::random::Random;
 use crate::common::row::{Note, Row};
 use crate::counts::{Counts, Origin};
 use crate::idle;
+use crate::words;
 
 /// Which operations prevail for a while.
 const MIXES: [&[u32]; 6] = [
@@ -27,7 +31,22 @@ const MIXES: [&[u32]; 6] = [
 /// Low parts from here on are new; the smaller ones are among any numbers.
 const FIRST_LOW: u32 = 10_000;
 
-/// A table, the row beside it, and what prevails in the calls.
+/// One end of one lane.
+#[derive(Clone, Copy)]
+struct End {
+    lane: u32,
+    side: u32,
+}
+
+impl End {
+    /// The other end of the same lane.
+    fn other(self) -> End {
+        let side = 1 - self.side;
+        End { side, ..self }
+    }
+}
+
+/// A table, the rows beside it, and what prevails in the calls.
 pub struct Play<'a> {
     random: &'a mut Random,
     counts: &'a mut Counts,
@@ -39,8 +58,8 @@ pub struct Play<'a> {
     /// Tags that were popped.
     past: Vec<u64>,
     mix: &'static [u32],
-    /// The side that prevails.
-    side: u32,
+    /// The end that prevails.
+    end: End,
     /// The task that gets most ticks, so that others stall.
     favourite: u32,
     /// Ticks made since one ended a call, or since the start.
@@ -53,9 +72,9 @@ pub struct Play<'a> {
 pub fn play(random: &mut Random, counts: &mut Counts, sizes: Sizes, calls: u32) {
     let mut play = Play {
         both: Both::over(&vec![random.word(); sizes.words()]),
-        row: Row::new(sizes.tasks),
+        row: Row::new(sizes.tasks, sizes.lanes),
         mix: MIXES[0],
-        side: 0,
+        end: End { lane: 0, side: 0 },
         favourite: 0,
         stretch: 0,
         last_ticked: 0,
@@ -65,7 +84,7 @@ pub fn play(random: &mut Random, counts: &mut Counts, sizes: Sizes, calls: u32) 
         counts,
         sizes,
     };
-    play.start(sizes.nodes, sizes.tasks, sizes.growth);
+    play.start([sizes.nodes, sizes.tasks, sizes.growth, sizes.lanes]);
     for _ in 0..calls {
         play.call();
     }
@@ -96,7 +115,7 @@ impl Play<'_> {
             85 => self.roll(),
             86..=87 => {
                 self.mix = self.random.pick(&MIXES);
-                self.side = self.random.below(2);
+                self.end = self.any_end();
             }
             88 if self.random.once_in(20) => self.start_again(),
             89 if self.random.once_in(10) => self.extend(),
@@ -112,22 +131,30 @@ impl Play<'_> {
         }
     }
 
-    /// After a call: reading gives the row, and never 3, 4 or 11; no tag is in two places.
+    fn any_end(&mut self) -> End {
+        let (lane, side) = (self.random.below(self.sizes.lanes), self.random.below(2));
+        End { lane, side }
+    }
+
+    /// After a call: each lane is its row, reading any of them gives that and never 3, 4, 11 or 26, and no tag is in two
+    /// places.
     fn check(&mut self) {
         self.row.check_once();
-        let length = 2 * self.row.tags.len() + self.random.below(2) as usize;
-        let tags = self.both.read(length, 0).expect("the lane is read");
-        assert!(
-            self.row.tags.iter().eq(&tags),
-            "lane {tags:?}, row {:?}",
-            self.row.tags
-        );
+        walked(&self.row, self.both.table(), self.sizes);
+        let lane = self.random.below(self.sizes.lanes);
+        let row = &self.row.tags[lane as usize];
+        let length = 2 * row.len() + self.random.below(2) as usize;
+        let tags = self.both.read(lane, length, 0).expect("the lane is read");
+        assert!(row.iter().eq(&tags), "lane {lane}: {tags:?}, row {row:?}");
         // Less often where walks are long.
         if self.random.once_in(12 + self.sizes.nodes / 8) {
             self.alone();
         }
         if self.random.once_in(60 + self.sizes.nodes / 4) {
             self.idle();
+        }
+        if self.random.once_in(60 + self.sizes.nodes / 4) {
+            words::check(self.random, self.counts, self.both.table().to_vec());
         }
     }
 
@@ -168,20 +195,29 @@ impl Play<'_> {
         idle::check(self.random, self.counts, both.table(), self.sizes);
     }
 
+    /// Of any lane, sometimes one that there is not, to an out slice of any length.
     fn read(&mut self) {
+        let lane = match self.random.below(8) {
+            0 => self.random.word(),
+            _ => self.random.below(self.sizes.lanes + 1),
+        };
         let length = self.random.below(2 * self.sizes.nodes + 2) as usize;
         let content = self.random.word();
-        let short = length < 2 * self.row.tags.len();
-        match self.both.read(length, content) {
-            Ok(tags) => assert!(!short && self.row.tags.iter().eq(&tags), "lane {tags:?}"),
-            Err(number) => assert!(short && number == 12, "a read was refused with {number}"),
-        }
+        let wanted = match self.row.tags.get(lane as usize) {
+            None => Err(26),
+            Some(row) if length < 2 * row.len() => Err(12),
+            Some(row) => Ok(row.iter().copied().collect()),
+        };
+        assert_eq!(self.both.read(lane, length, content), wanted, "lane {lane}");
     }
 
-    fn start(&mut self, slots: u32, tasks: u32, growth: u32) {
-        if self.both.start(slots, tasks, growth).is_ok() {
-            self.sizes = Sizes::new(slots, tasks, growth).expect("accepted sizes are in range");
-            self.row = Row::new(tasks);
+    fn start(&mut self, given: [u32; 4]) {
+        if self.both.start(given).is_ok() {
+            let [slots, tasks, growth, lanes] = given;
+            let sizes = Sizes::new(slots, tasks, growth, lanes);
+            self.sizes = sizes.expect("accepted sizes are in range");
+            self.row = Row::new(tasks, lanes);
+            self.end = self.any_end();
             self.favourite = 0;
             self.stretch = 0;
             self.last_ticked = tasks - 1;
@@ -189,27 +225,27 @@ impl Play<'_> {
         self.check();
     }
 
-    /// On the same words: the same sizes, or 3 slots for a task.
+    /// On the same words: the same sizes, or 13 slots for 4 tasks; and any lanes.
     fn start_again(&mut self) {
         let Sizes { nodes, tasks, .. } = self.sizes;
-        let growth = self.random.below(65);
+        let (growth, lanes) = (self.random.below(65), self.random.below(6));
         let (slots, tasks) = match self.random.below(3) {
-            0 if tasks > 1 => (nodes + 3, tasks - 1),
-            1 if nodes > 4 => (nodes - 3, tasks + 1),
+            0 if tasks > 4 => (nodes + 13, tasks - 4),
+            1 if nodes > 14 => (nodes - 13, tasks + 4),
             _ => (nodes, tasks),
         };
-        self.start(slots, tasks, growth);
+        self.start([slots, tasks, growth, lanes]);
     }
 
-    fn begin(&mut self, task: u32, operation: u32, side: u32, argument: u64) {
-        self.begin_call(task, Note::new(operation, side, argument));
+    fn begin(&mut self, task: u32, operation: u32, end: End, argument: u64) {
+        self.begin_call(task, Note::new(end.lane, operation, end.side, argument));
     }
 
     fn begin_call(&mut self, task: u32, call: Note) {
         let wanted = self.row.begin(task, call);
         let given = self.both.begin(task, call);
         assert_eq!(given, wanted, "begin");
-        if call.operation == PUSH && !matches!(given, Err(5..=7)) {
+        if call.operation == PUSH && !matches!(given, Err(5..=7 | 26)) {
             let before = self.both.before();
             let begins = &mut self.counts.begins;
             begins.saw(Origin::Calls, before, task, call, given);
@@ -218,35 +254,36 @@ impl Play<'_> {
         self.check();
     }
 
-    /// The tag of a busy push comes again, on its own task or on any.
+    /// The tag of a busy push comes again, on its own task or on any, for any end of any lane.
     fn begin_again(&mut self, task: u32) {
         if let Some(Some(push)) = self.row.notes.get(task as usize).copied() {
             if push.operation == PUSH {
                 let any = self.random.below(self.sizes.tasks);
-                let (other, side) = (self.random.pick(&[task, any]), self.random.below(2));
-                self.begin_call(other, Note { side, ..push });
+                let other = self.random.pick(&[task, any]);
+                let End { lane, side } = self.any_end();
+                self.begin_call(other, Note { lane, side, ..push });
             }
         }
     }
 
     fn begin_some(&mut self, task: u32) {
         let operation = self.random.pick(self.mix);
-        let side = if self.random.once_in(4) {
-            1 - self.side
-        } else {
-            self.side
+        let end = match self.random.below(4) {
+            0 => self.end.other(),
+            1 => self.any_end(),
+            _ => self.end,
         };
         match operation {
             PUSH => {
                 let tag = self.any_tag();
-                self.begin(task, PUSH, side, tag);
+                self.begin(task, PUSH, end, tag);
             }
-            _ => self.begin_with(task, operation, side),
+            _ => self.begin_with(task, operation, end),
         }
     }
 
     /// A push is of a tag that is nowhere.
-    fn begin_with(&mut self, task: u32, operation: u32, side: u32) {
+    fn begin_with(&mut self, task: u32, operation: u32, end: End) {
         let argument = match operation {
             PUSH => self.tag(),
             POP => 0,
@@ -254,7 +291,7 @@ impl Play<'_> {
             REMOVE if self.random.once_in(20) => self.random.below(1024).into(),
             _ => self.random.pick(&[0, 0, 0, 1, 1, 2, 3]),
         };
-        self.begin(task, operation, side, argument);
+        self.begin(task, operation, end, argument);
     }
 
     /// A tag that is nowhere: mostly a new one, of which ten have one low part, often one with V 0.
@@ -386,9 +423,9 @@ impl Play<'_> {
         let length = (3 * (list.len() / 2) + self.random.below(3) as usize)
             .saturating_sub(self.random.below(2) as usize);
         let content = self.random.word();
-        let (made, number, answers) = self.both.run(&list, length, content);
-        assert_ne!(number, 15, "a run was refused for the panel");
-        self.replay(&list, made as usize, number, &answers);
+        let ran = self.both.run(&list, length, content);
+        assert_ne!(ran.0, 15, "a run was refused for the panel");
+        self.replay(&list, ran);
         self.check();
     }
 
@@ -406,10 +443,10 @@ impl Play<'_> {
             _ => exact + self.random.below(3),
         };
         let content = self.random.word();
-        let given = self.both.panel(&list, length as usize, content);
+        let ran = self.both.panel(&list, length as usize, content);
         if words <= 64 {
             let mut both = Both::over(self.both.before());
-            assert_eq!(both.run(&list, length as usize, content), given, "a run");
+            assert_eq!(both.run(&list, length as usize, content), ran, "a run");
             assert_eq!(both.table(), self.both.table(), "a run's table");
             self.counts.add(&both.given);
         } else {
@@ -418,10 +455,9 @@ impl Play<'_> {
             } else {
                 15
             };
-            assert_eq!((given.0, given.1), (0, wanted), "{words} words");
+            assert_eq!((ran.0, ran.1), (wanted, 0), "{words} words");
         }
-        let (made, number, answers) = given;
-        self.replay(&list, made as usize, number, &answers);
+        self.replay(&list, ran);
         self.check();
     }
 
@@ -443,7 +479,8 @@ impl Play<'_> {
         list
     }
 
-    fn replay(&mut self, list: &[u32], made: usize, number: u32, answers: &[u32]) {
+    fn replay(&mut self, list: &[u32], (number, made, answers): Ran) {
+        let made = made as usize;
         let mut before = self.both.before().to_vec();
         let mut after = before.clone();
         for (pair, words) in list.chunks(2).zip(answers.chunks(3)).take(made) {
@@ -453,7 +490,8 @@ impl Play<'_> {
             self.counts
                 .tick(Origin::Calls, &before, &after, pair[0], given);
             self.made(pair[0], answer);
-            self.row.check(&after);
+            self.row.check_once();
+            walked(&self.row, &after, self.sizes);
             before.copy_from_slice(&after);
         }
         assert!(
@@ -472,34 +510,61 @@ impl Play<'_> {
 
     fn any_numbers(&mut self) {
         let [one, two, three, four] = [(); 4].map(|()| self.random.word());
+        let lane = self.random.pick(&[0, 1, 2, 3, 4, one]);
         let call = Note {
+            lane,
             operation: two % 8,
             side: three % 4,
             digit: self.random.digit(),
             argument: four,
         };
         match self.random.below(4) {
-            0 => self.start(one, two, three),
+            0 => self.start([one, two, three, lane]),
             1 => self.begin_call(one, call),
             2 => self.begin_call(one % 20, call),
             _ => self.tick(one, two),
         }
     }
 
-    /// Every task comes to its answer, and every bag is taken.
+    /// Every task comes to its answer, and every bag of every lane is taken.
     fn drain(&mut self) {
         for task in 0..self.sizes.tasks {
             self.finish(task);
         }
-        while !self.row.tags.is_empty() {
-            let length = self.row.tags.len();
-            let side = self.random.below(2);
-            self.begin(0, POP, side, 0);
-            self.finish(0);
-            assert_eq!(self.row.tags.len() + 1, length, "a pop took no bag");
+        for lane in 0..self.sizes.lanes {
+            self.empty(lane);
         }
         let at = self.sizes.record(0);
         assert_eq!(self.both.table()[at..at + record::WORDS], record::FRESH);
-        assert_eq!(self.both.table()[header::ZERO], 0);
+        assert_eq!(header::ZEROS.map(|zero| self.both.table()[zero]), [0, 0]);
+    }
+
+    /// Pops at either end, each of which takes a bag, until there is none.
+    fn empty(&mut self, lane: u32) {
+        for left in (0..self.row.tags[lane as usize].len()).rev() {
+            let side = self.random.below(2);
+            self.begin(0, POP, End { lane, side }, 0);
+            self.finish(0);
+            let length = self.row.tags[lane as usize].len();
+            assert_eq!(length, left, "a pop took no bag");
+        }
+    }
+}
+
+/// Every lane is its row: from the left hat's R along R while there is a tag.
+fn walked(row: &Row, table: &[u32], sizes: Sizes) {
+    let right = |slot| table[sizes.node(slot) + node::RIGHT];
+    let held = |slot| {
+        assert_ne!(slot, NONE, "a lane has no end");
+        content(table, sizes.node(slot) + node::VALUE)
+    };
+    for (lane, row) in (0..).zip(&row.tags) {
+        let mut slot = right(table[header::hat(lane, LEFT)]);
+        for &tag in row {
+            let wanted = [low_part(tag), digit(tag)];
+            assert_eq!(held(slot), wanted, "lane {lane}, row {row:?}");
+            slot = right(slot);
+        }
+        assert!(!is_tag(held(slot)), "lane {lane} is longer than {row:?}");
     }
 }

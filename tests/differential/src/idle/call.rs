@@ -1,9 +1,9 @@
-//! What a call alone does to an idle table, by five numbers.
+//! What a call alone does to an idle table, by the five numbers of its lane and the free slots.
 
 use reference::table::{Sizes, ADD, POP, PUSH};
 use reference::Answer;
 
-use super::list::{End, List};
+use super::list::{End, Lanes, List};
 use crate::common::row::Note;
 
 /// What decides, as the right side sees it: r spare slots, n the argument.
@@ -38,15 +38,16 @@ pub const CASES: [(&str, [bool; 2]); 11] = [
     ("remove n, r above n + 2", [true, false]),
 ];
 
-impl List {
+impl Lanes {
     /// The case of a call alone.
     pub fn case(&self, call: Note, sizes: Sizes) -> Case {
-        let (End { spare, spur }, free) = (self.ends[call.side as usize], self.free(sizes));
+        let List { ends, tags } = &self.0[call.lane as usize];
+        let (End { spare, spur }, free) = (ends[call.side as usize], self.free(sizes));
         match call.operation {
             PUSH if spare > 1 => PushSpare,
             PUSH if free + spur > 0 => PushTake,
             PUSH => PushNone,
-            POP if self.tags.is_empty() => PopNone,
+            POP if tags.is_empty() => PopNone,
             POP => PopBag,
             ADD if free > 0 => AddTake,
             ADD => AddNone,
@@ -57,10 +58,11 @@ impl List {
         }
     }
 
-    /// Its answer; the list is then as the call leaves it.
+    /// Its answer; the lists are then as the call leaves them, all but that of its lane as they were.
     pub fn make(&mut self, call: Note, sizes: Sizes) -> Answer {
         let (case, free) = (self.case(call, sizes), self.free(sizes));
-        let End { spare, spur } = &mut self.ends[call.side as usize];
+        let list = &mut self.0[call.lane as usize];
+        let End { spare, spur } = &mut list.ends[call.side as usize];
         match case {
             PushSpare => *spare -= 1,
             PushTake => *spare = (free + *spur).min(sizes.growth + 1),
@@ -74,16 +76,18 @@ impl List {
         }
         match case {
             PushSpare | PushTake => {
-                self.put(call);
+                list.put(call);
                 Answer::Pushed
             }
             PushNone => Answer::Full,
-            PopBag | PopNone => self.take(call.side).map_or(Answer::Empty, Answer::Bag),
+            PopBag | PopNone => list.take(call.side).map_or(Answer::Empty, Answer::Bag),
             AddNone | RemoveOne => Answer::No,
             AddTake | RemoveSpur | RemoveFew | RemoveMore => Answer::Yes,
         }
     }
+}
 
+impl List {
     fn put(&mut self, push: Note) {
         match push.side {
             0 => self.tags.push_front(push.tag()),

@@ -1,10 +1,12 @@
-//! All that is in use on an idle table: the list from end to end, and under each hat at most one slot beside it.
+//! All that is in use on an idle table: of each lane the list from end to end, and under each hat at most one slot beside
+//! it.
 
 use std::collections::VecDeque;
 
 use reference::count_free;
 use reference::table::{
-    content, header, is_tag, mark, node, tag, Content, Sizes, LN, LX, LY, NONE, RN, RX, RY,
+    content, header, is_tag, mark, node, tag, Content, Sizes, LEFT, LN, LX, LY, NONE, RIGHT, RN,
+    RX, RY,
 };
 
 /// One end of the list.
@@ -16,7 +18,7 @@ pub struct End {
     pub spur: u32,
 }
 
-/// The five numbers of an idle table, with its tags.
+/// The five numbers of a lane of an idle table, with its tags.
 #[derive(Clone, Debug, PartialEq, Eq)]
 pub struct List {
     /// Left, right.
@@ -26,42 +28,69 @@ pub struct List {
 }
 
 impl List {
-    /// The list in the words; they must be those of such a list, and every other slot must be free.
-    pub fn of(table: &[u32], sizes: Sizes) -> List {
-        let words = Words { table, sizes };
+    /// The list of a lane in the words; they must be those of such a list.
+    fn of(table: &[u32], sizes: Sizes, lane: u32) -> List {
+        let words = Words { table, sizes, lane };
         let slots = words.walk();
         let (left, tags) = words.left_and_tags(&slots);
         let inner = left + tags.len();
         let spurs = [
-            (header::LEFT_HAT, left - 1, [NONE, slots[left], LY, 0]),
-            (header::RIGHT_HAT, inner, [slots[inner - 1], NONE, RY, 0]),
+            (LEFT, left - 1, [NONE, slots[left], LY, 0]),
+            (RIGHT, inner, [slots[inner - 1], NONE, RY, 0]),
         ];
-        let [x, y] = spurs.map(|(hat, place, beside)| words.spur(hat, slots[place], beside));
+        let [x, y] = spurs.map(|(side, place, beside)| words.spur(side, slots[place], beside));
         let ends = [(left, x), (slots.len() - inner, y)].map(|(spare, spur)| End {
             spare: spare as u32,
             spur,
         });
-        let list = List { ends, tags };
-        assert_eq!(count_free(table, sizes), list.free(sizes), "free slots");
-        list
+        List { ends, tags }
+    }
+
+    /// The slots in use.
+    fn used(&self) -> u32 {
+        let [left, right] = self.ends.map(|end| end.spare + end.spur);
+        left + self.tags.len() as u32 + right
+    }
+}
+
+/// The lists of all lanes of an idle table.
+#[derive(Clone, Debug, PartialEq, Eq)]
+pub struct Lanes(pub Vec<List>);
+
+impl Lanes {
+    /// The lists in the words; every slot of none of them must be free.
+    pub fn of(table: &[u32], sizes: Sizes) -> Lanes {
+        let lists = (0..sizes.lanes).map(|lane| List::of(table, sizes, lane));
+        let lanes = Lanes(lists.collect());
+        assert_eq!(count_free(table, sizes), lanes.free(sizes), "free slots");
+        lanes
     }
 
     /// The slots that are left.
     pub fn free(&self, sizes: Sizes) -> u32 {
-        let [left, right] = self.ends.map(|end| end.spare + end.spur);
-        sizes.nodes - left - self.tags.len() as u32 - right
+        sizes.nodes - self.0.iter().map(List::used).sum::<u32>()
+    }
+
+    /// The tags of all lanes.
+    pub fn tags(&self) -> impl Iterator<Item = u64> + '_ {
+        self.0.iter().flat_map(|list| &list.tags).copied()
     }
 }
 
 struct Words<'a> {
     table: &'a [u32],
     sizes: Sizes,
+    lane: u32,
 }
 
 impl Words<'_> {
     /// L, R, V and digit of a slot.
     fn slot(&self, slot: u32) -> &[u32] {
         &self.table[self.sizes.node(slot)..][..node::WORDS]
+    }
+
+    fn hat(&self, side: u32) -> u32 {
+        self.table[header::hat(self.lane, side)]
     }
 
     /// The slots of the list from the left end to the right one, each linked to the one before.
@@ -86,7 +115,7 @@ impl Words<'_> {
 
     /// From the left hat outward; a spur leads there by way of the slot next to the innermost spare one.
     fn left_end(&self) -> u32 {
-        let mut slot = self.table[header::LEFT_HAT];
+        let mut slot = self.hat(LEFT);
         if let &[_, inside, LY, 0] = self.slot(slot) {
             slot = inside;
         }
@@ -123,8 +152,8 @@ impl Words<'_> {
     }
 
     /// 0 where the hat is on the innermost spare slot, 1 where it is on a slot with these words.
-    fn spur(&self, hat: usize, innermost: u32, beside: [u32; node::WORDS]) -> u32 {
-        let slot = self.table[hat];
+    fn spur(&self, side: u32, innermost: u32, beside: [u32; node::WORDS]) -> u32 {
+        let slot = self.hat(side);
         if slot == innermost {
             return 0;
         }

@@ -18,20 +18,29 @@ enum Next {
 }
 
 impl Play<'_> {
-    /// On a fresh table the tasks push, and some may remove, at one end. A tick that answers is not made, and one that
-    /// disturbs only when no calm one is left. Where the chains share out the slots, each splice makes all others walk
-    /// again.
+    /// On a fresh table the tasks push, and some may remove, at one end or at the ends of several lanes. A tick that
+    /// answers is not made, and one that disturbs only when no calm one is left. Where the chains share out the slots,
+    /// each splice makes all others at its end walk again.
     pub(super) fn delay(&mut self) {
-        let Sizes { nodes, tasks, .. } = self.sizes;
+        let Sizes {
+            nodes,
+            tasks,
+            lanes,
+            ..
+        } = self.sizes;
         let growth = self.random.below(1 + nodes / tasks).min(64);
-        self.start(nodes, tasks, growth);
-        let side = self.random.below(2);
+        self.start([nodes, tasks, growth, lanes]);
         let mix = self
             .random
             .pick(&[&[PUSH][..], &[PUSH, PUSH, PUSH, REMOVE]]);
+        let together = self.random.once_in(2);
+        let mut end = self.any_end();
         for task in 0..tasks {
             let operation = self.random.pick(mix);
-            self.begin_with(task, operation, side);
+            self.begin_with(task, operation, end);
+            if !together {
+                end.lane = self.random.below(lanes);
+            }
         }
         for _ in 0..TICKS {
             let hint = self.random.below(nodes);

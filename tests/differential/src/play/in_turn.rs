@@ -60,7 +60,7 @@ impl Play<'_> {
         let ran = both.run(&list, answers.len(), 0);
         assert_eq!(
             ran,
-            (list.len() as u32 / 2, 0, answers),
+            (0, list.len() as u32 / 2, answers),
             "dispatches as a run"
         );
         table.copy_from_slice(self.both.table());
