@@ -67,14 +67,14 @@ use Rattle.capacity.proofs.NewNumber.{new-number}
 use Rattle.capacity.proofs.PushesAlone.{OnItsWay, begun-on-its-way}
 use Rattle.capacity.proofs.WhenFull.{ends-made, still-on-its-way, push-answers}
 
-same-some : {T : Type 0} {x y : T} → some x ≡ some y → x ≡ y
+pub same-some : {T : Type 0} {x y : T} → some x ≡ some y → x ≡ y
 same-some e = cc
 
 same-lane : {l j : ℕ} → main l ≡ main j → l ≡ j
 same-lane e = cc
 
 -- A lane there is its row.
-row-of : {ws : List ℕ} {ρ : Row} → Agrees ws ρ → (ℓ : ℕ) → ℓ < laneCount ws → lane ws ℓ ≡ some (ρ .bags ℓ)
+pub row-of : {ws : List ℕ} {ρ : Row} → Agrees ws ρ → (ℓ : ℕ) → ℓ < laneCount ws → lane ws ℓ ≡ some (ρ .bags ℓ)
 row-of A ℓ h = lanes-are-rows A ℓ (subst (λ (n : ℕ). ℓ < n) (sym (A .same-lanes)) h)
 
 -- ---- How many bags there are room for.
@@ -170,7 +170,7 @@ most-bags ws bags B is-all =
 -- ---- The lane on the way of a push.
 
 -- A begin leaves the lane.
-lane-begun : {ws : List ℕ} → Begun ws → (ℓ : ℕ) → ℓ < laneCount ws → (k l op side : ℕ) (argument : Stored)
+pub lane-begun : {ws : List ℕ} → Begun ws → (ℓ : ℕ) → ℓ < laneCount ws → (k l op side : ℕ) (argument : Stored)
     → begin ws k l op side argument .reply ≡ Accepted
     → lane (begin ws k l op side argument .words) ℓ ≡ lane ws ℓ
 lane-begun {ws} B ℓ is-lane k l op side argument accepted =
@@ -187,7 +187,7 @@ lane-begun {ws} B ℓ is-lane k l op side argument accepted =
     ∙ sym (row-of A ℓ is-lane)
 
 -- A tick that goes on leaves it.
-fed-going : (ρ : Row) (k : ℕ) {ρ′ : Row} → feedMade ρ k Going ≡ some ρ′ → ρ ≡ ρ′
+pub fed-going : (ρ : Row) (k : ℕ) {ρ′ : Row} → feedMade ρ k Going ≡ some ρ′ → ρ ≡ ρ′
 unfolding feedMade bind
 fed-going ρ k {ρ′} = go (ρ .notes k)
   where
@@ -196,22 +196,22 @@ fed-going ρ k {ρ′} = go (ρ .notes k)
     go nothing e = clash (cc)
 
 module _ {ws : List ℕ} (B : Begun ws) (k h : ℕ) (made : refusalOf (tick ws k h .answer) ≡ nothing) where
-  is-tick : tick ws k h ≡ tickOn ws k h
+  pub is-tick : tick ws k h ≡ tickOn ws k h
   is-tick = tick-passes (begun-agrees B .1) k h
 
-  tick-made : MadeTick ws (begun-agrees B .0) k h
+  pub tick-made : MadeTick ws (begun-agrees B .0) k h
   tick-made = made-tick (begun-agrees B .1) k h (made-passes B k h made)
 
-  fed : feedMade (begun-agrees B .0) k (tick ws k h .answer) ≡ some (tick-made .row)
+  pub fed : feedMade (begun-agrees B .0) k (tick ws k h .answer) ≡ some (tick-made .row)
   fed = ap (λ (r : Ticked). feedMade (begun-agrees B .0) k (r .answer)) is-tick ∙ tick-made .given
 
-  lane-then : (ℓ : ℕ) → ℓ < laneCount ws → lane (tick ws k h .words) ℓ ≡ some (tick-made .row .bags ℓ)
+  pub lane-then : (ℓ : ℕ) → ℓ < laneCount ws → lane (tick ws k h .words) ℓ ≡ some (tick-made .row .bags ℓ)
   lane-then ℓ is-lane =
       let same = lanes-after (begun-agrees B .1) k h (made-passes B k h made) in
       ap (λ (r : Ticked). lane (r .words) ℓ) is-tick
       ∙ row-of (tick-made .agrees) ℓ (subst (λ (n : ℕ). ℓ < n) (sym same) is-lane)
 
-lane-going : {ws : List ℕ} → Begun ws → (ℓ : ℕ) → ℓ < laneCount ws → (k h : ℕ) → tick ws k h .answer ≡ Going
+pub lane-going : {ws : List ℕ} → Begun ws → (ℓ : ℕ) → ℓ < laneCount ws → (k h : ℕ) → tick ws k h .answer ≡ Going
     → lane (tick ws k h .words) ℓ ≡ lane ws ℓ
 lane-going {ws} B ℓ is-lane k h going =
     let made = ap refusalOf going in
@@ -227,7 +227,7 @@ abbrev PushGives : (ℓ : ℕ) → Answer → (bags vs : List ℕ) → Type 0
 PushGives ℓ a bags vs =
     ((a ≡ Pushed) × ((more : List ℕ) × (lane vs ℓ ≡ some more) × (length more ≡ suc (length bags)))) ⊎ (a ≡ Full)
 
-length-put : (s : Side) (b : ℕ) (bags : List ℕ) → length (put s b bags) ≡ suc (length bags)
+pub length-put : (s : Side) (b : ℕ) (bags : List ℕ) → length (put s b bags) ≡ suc (length bags)
 length-put left b bags = refl
 length-put right b bags = let e = length-append bags (b ∷ []) in omega arith
 

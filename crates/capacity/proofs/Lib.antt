@@ -22,3 +22,7 @@ pub mod WhenFull
 pub mod NewNumber
 pub mod FillsUp
 pub mod Capacity
+-- Calls alone, exactly.
+pub mod Alone
+-- The machine for one user.
+pub mod OneUser

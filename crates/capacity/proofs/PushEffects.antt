@@ -78,7 +78,7 @@ abbrev pub OtherEnd : (ℓ : ℕ) → (o : Side) → (j : ℕ) → (z : Side) �
 OtherEnd ℓ o j z = (j ≢ ℓ) ⊎ (z ≡ o)
 
 -- Its hat is not written with ours.
-other-hat : (hats : ℕ → Side → ℕ) {ℓ : ℕ} {s o : Side} (v : ℕ) → Opposite s o → {j : ℕ} {z : Side} → OtherEnd ℓ o j z
+pub other-hat : (hats : ℕ → Side → ℕ) {ℓ : ℕ} {s o : Side} (v : ℕ) → Opposite s o → {j : ℕ} {z : Side} → OtherEnd ℓ o j z
     → updateHat hats ℓ s v j z ≡ hats j z
 other-hat hats {ℓ} {s} {o} v w {j} {z} (inl ne) =
     ap (λ (f : Side → ℕ). f z) (updateHat-elsewhere hats ℓ s v j ne)

@@ -65,7 +65,7 @@ same-main : {l j : ℕ} → main l ≡ main j → j ≡ l
 same-main e = cc
 
 -- The numbers of a push and of a side are read back.
-side-number : (s : Side) → sideOf (sideNumber s) ≡ s
+pub side-number : (s : Side) → sideOf (sideNumber s) ≡ s
 unfolding ℕ-discrete
 side-number left = refl
 side-number right = refl

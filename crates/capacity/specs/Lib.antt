@@ -1,2 +1,5 @@
 pub mod NoLeak
 pub mod Capacity
+pub mod Alone
+pub mod OneUser
+pub mod OneUserExactly

@@ -1,0 +1,509 @@
+-- A remove alone: what it walks, and what it cuts off.
+use mathlib.Core.Path.{_≡_, refl, sym, ap, _∙_, subst}
+use mathlib.Core.Logic.{_≢_, inl, inr}
+use mathlib.Core.List.{List}
+use Prim.Native.Nat.{ℕ, zero, suc, _+_, _-_, _≤_, _<_}
+use native.Mathlib.Omega.{arith}
+use Rattle.machine.specs.declared.Answer.{Answer}
+use Rattle.machine.specs.declared.Answer.the-variants.{Yes, No}
+use Rattle.machine.specs.Choice.{_≟_}
+use Rattle.machine.specs.Sides.{Side}
+use Rattle.machine.specs.Values.{Value, never, N, X, Y, _≟ᵛ_}
+use Rattle.machine.specs.Operations.{remove}
+use Rattle.machine.specs.Steps.{line54, line56, line58, line60, line62, line64, line74, line77, line81, line82}
+use Rattle.machine.specs.Tasks.{Task, none, further}
+use Rattle.machine.specs.Table.{nodeCount, growth, laneCount, hat, link, value}
+use Rattle.machine.specs.Lines.{Effect, next, writing, act}
+use Rattle.machine.specs.Calls.{begunTask}
+use Rattle.machine.specs.Reach.{from-hat}
+use Rattle.machine.specs.Begun.{Begun}
+use Rattle.capacity.specs.NoLeak.{Idle, HatPlace, in-list, beside, IdleTable}
+use Rattle.capacity.specs.Alone.{spareOf, spurOf}
+use Rattle.machine.proofs.Basics.Contradiction.{clash, less?}
+use Rattle.machine.proofs.Basics.Updates.{update, update-same, update-other}
+use Rattle.machine.proofs.Words.Memories.{View, viewed}
+use Rattle.machine.proofs.Linearizability.Lines.Connectives.{ok-if, ok-through}
+use Rattle.capacity.proofs.Alone.Ends.{Spares, spareAt, innerAt, idle-end, not-Y, last-none}
+use Rattle.capacity.proofs.Alone.Runs.{ok-swap, Leads, Answered, Next, going, ending, line-leads}
+use Rattle.capacity.proofs.Alone.Left.{Left, left-unchanged, reached-some}
+use Rattle.capacity.proofs.Alone.Others.{K, some-spare, at-some, Others}
+use Rattle.capacity.proofs.Alone.Finish.{left-by, spares-differ}
+
+module _ {ws : List ℕ} (B : Begun ws) (idle-now : Idle ws) (T : IdleTable ws) (ℓ : ℕ) (is-lane : ℓ < laneCount ws)
+    (s : Side) (k v : ℕ) where
+  -- What it answers and leaves.
+  pub data RemoveLeaves (a : Answer) (vs : List ℕ) : Type 0 where
+    on-spur-yes :
+        a ≡ Yes
+        → value ws (hat ws ℓ s) ≡ Y s
+        → Left ws T ℓ s (spareOf s (T .shape ℓ)) (spurOf s (T .shape ℓ)) vs
+        → RemoveLeaves a vs
+    few-yes :
+        a ≡ Yes
+        → value ws (hat ws ℓ s) ≢ Y s
+        → spareOf s (T .shape ℓ) < v + 2
+        → Left ws T ℓ s (spareOf s (T .shape ℓ)) (spurOf s (T .shape ℓ)) vs
+        → RemoveLeaves a vs
+    one-no :
+        a ≡ No
+        → value ws (hat ws ℓ s) ≢ Y s
+        → spareOf s (T .shape ℓ) ≡ v + 2
+        → Left ws T ℓ s (spareOf s (T .shape ℓ)) (spurOf s (T .shape ℓ)) vs
+        → RemoveLeaves a vs
+    cuts-yes :
+        a ≡ Yes
+        → value ws (hat ws ℓ s) ≢ Y s
+        → v + 2 < spareOf s (T .shape ℓ)
+        → Left ws T ℓ s (suc v) 0 vs
+        → RemoveLeaves a vs
+
+  abbrev t0 : Task
+  t0 = begunTask ℓ remove s v
+
+  abbrev Leads′ : Task → View → Type 0
+  Leads′ = Leads k ℓ s (nodeCount ws) (laneCount ws) (growth ws) RemoveLeaves
+
+  abbrev Next′ : View → Effect → Type 0
+  Next′ m e = Next k ℓ s (nodeCount ws) (laneCount ws) (growth ws) RemoveLeaves m e
+
+  abbrev Answered′ : View → List ℕ → Type 0
+  Answered′ = Answered k ℓ s (nodeCount ws) (laneCount ws) (growth ws) RemoveLeaves
+
+  abbrev m0 : View
+  m0 = viewed s ws
+
+  abbrev H : ℕ
+  H = hat ws ℓ s
+
+  abbrev at : ℕ → ℕ
+  at = spareAt s (T .shape ℓ)
+
+  abbrev r : ℕ
+  r = spareOf s (T .shape ℓ)
+
+  H-some : hat ws ℓ s ≢ none
+  H-some = reached-some B (from-hat ℓ s is-lane)
+
+  unchanged : {vs : List ℕ} → Answered′ m0 vs → Left ws T ℓ s (spareOf s (T .shape ℓ)) (spurOf s (T .shape ℓ)) vs
+  unchanged A =
+      left-unchanged T ℓ is-lane s (A .ended .begun) (A .ended .idle-now) (A .same-nodes) (A .same-growth) (A .same-lanes) (A .ended .sees)
+
+  -- ---- With the hat on a spur.
+  module _ (y : value ws (hat ws ℓ s) ≡ Y s) (o : link ws s (hat ws ℓ s) ≡ none) where
+    spur-ends : {vs : List ℕ} → Answered′ m0 vs → RemoveLeaves Yes vs
+    spur-ends A = on-spur-yes refl y (unchanged A)
+
+    spur-leads : Leads′ (begunTask ℓ remove s v) m0
+    unfolding act
+    spur-leads =
+        line-leads k ℓ s _ _ _ _ (λ f.
+        ok-if (Next′ m0) (λ st. next (further t0 line54 0 never H none none none) st) (_ ≟ _)
+        (λ _.
+        going refl
+        (line-leads k ℓ s _ _ _ _ (λ f'.
+        ok-through (Next′ m0) (λ e. absurd (H-some e)) (λ _.
+        ok-if (Next′ m0) (λ e. e) (_ ≟ _) (λ _. ending (λ e. clash (cc)) (λ vs A. spur-ends A)) (λ ne. absurd (ne o))))))
+        (λ _.
+        going refl
+        (line-leads k ℓ s _ _ _ _ (λ f'.
+        ok-through (Next′ m0) (λ e. absurd (H-some e)) (λ _.
+        ok-if (Next′ m0) (λ e. e) (_ ≟ᵛ _) (λ e. clash (cc)) (λ _.
+        going refl
+        (line-leads k ℓ s _ _ _ _ (λ f''.
+        ok-through (Next′ m0) (λ e. absurd (H-some e)) (λ _.
+        ok-if (Next′ m0) (λ e. e) (_ ≟ _) (λ _. ending (λ e. clash (cc)) (λ vs A. spur-ends A)) (λ ne. absurd (ne o)))))))))))
+
+  -- ---- With the hat in the list.
+  module _ (hat-at : hat ws ℓ s ≡ spareAt s (T .shape ℓ) 0) where
+    E : Spares ws s (spareAt s (T .shape ℓ)) (spareOf s (T .shape ℓ))
+    E = idle-end (K B idle-now T ℓ is-lane s) s .spares
+
+    off-Y : value ws (hat ws ℓ s) ≢ Y s
+    off-Y y = not-Y E (ap (value ws) (sym hat-at) ∙ y)
+
+    some-at : (i x : ℕ) → i < spareOf s (T .shape ℓ) → x ≡ spareAt s (T .shape ℓ) i → x ≢ none
+    some-at i x l e q = at-some B idle-now T ℓ is-lane s i l (sym e ∙ q)
+
+    differ : (i j : ℕ) → i < spareOf s (T .shape ℓ) → j < spareOf s (T .shape ℓ) → i ≢ j
+        → spareAt s (T .shape ℓ) i ≢ spareAt s (T .shape ℓ) j
+    differ i j hi hj ne e = ne (spares-differ B idle-now T ℓ is-lane s i j hi hj e)
+
+    -- A node of the own end written.
+    own-other : (i x : ℕ) → i < spareOf s (T .shape ℓ) → x ≡ spareAt s (T .shape ℓ) i → (y : ℕ)
+        → ((j : ℕ) → j < spareOf s (T .shape ℓ) → spareAt s (T .shape ℓ) j ≢ y)
+        → y ≢ x
+    own-other i x l e y n q = n i l (sym (q ∙ e))
+
+    -- The nodes up to v stay, the one at v is the last; from j on nothing is unlinked yet, and after j nothing is marked.
+    record Cut (m : View) (j : ℕ) : Type 0 where
+      pub past : v < j
+      pub others : Others B idle-now T ℓ is-lane s m
+      pub hat-same : m .hats ℓ s ≡ spareAt s (T .shape ℓ) 0
+      pub keep-val : (i : ℕ) → i < v → m .val (spareAt s (T .shape ℓ) i) ≡ N s
+      pub last-val : m .val (spareAt s (T .shape ℓ) v) ≡ X s
+      pub keep-out : (i : ℕ) → i < v → m .out (spareAt s (T .shape ℓ) i) ≡ spareAt s (T .shape ℓ) (suc i)
+      pub rest-out : (i : ℕ) → j ≤ i → i < spareOf s (T .shape ℓ) → m .out (spareAt s (T .shape ℓ) i) ≡ link ws s (spareAt s (T .shape ℓ) i)
+      pub rest-val : (i : ℕ) → j < i → i < spareOf s (T .shape ℓ) → m .val (spareAt s (T .shape ℓ) i) ≡ value ws (spareAt s (T .shape ℓ) i)
+
+    cut-done : (m : View) (j : ℕ) → Cut m j → v + 2 < spareOf s (T .shape ℓ) → {vs : List ℕ} → Answered′ m vs
+        → RemoveLeaves Yes vs
+    cut-done m j C more A =
+        cuts-yes refl off-Y more
+        (left-by B idle-now T ℓ is-lane s (C .others)
+        (record {
+          some = omega arith;
+          N-before = λ i h. C .keep-val i (omega arith);
+          X-last = λ i h.
+              let e : i ≡ v = omega arith in
+              ap (λ (q : ℕ). m .val (spareAt s (T .shape ℓ) q)) e ∙ C .last-val;
+          leads = λ i h. C .keep-out i (omega arith);
+          hat-at = C .hat-same;
+        })
+        (A .ended .begun) (A .ended .idle-now) (A .same-nodes) (A .same-growth) (A .same-lanes) (A .ended .sees))
+
+    -- An outward link of the own end, behind v, set to none.
+    module _ {m : View} {j : ℕ} (C : Cut m j) (x : ℕ) (e : x ≡ spareAt s (T .shape ℓ) j) (l : j < spareOf s (T .shape ℓ)) where
+      abbrev unlinked : View
+      unlinked = record { out = update (m .out) x none; inn = m .inn; val = m .val; hats = m .hats }
+
+      at-not-x : (i : ℕ) → i < spareOf s (T .shape ℓ) → i ≢ j → spareAt s (T .shape ℓ) i ≢ x
+      at-not-x i li ne q = differ i j li l ne (q ∙ e)
+
+      others-unlinked : Others B idle-now T ℓ is-lane s unlinked
+      others-unlinked =
+          record {
+            safe = λ y a n.
+                let w = C .others .safe y a n in
+                record {
+                  same-out = update-other (m .out) x none y (own-other j x l e y n) ∙ w .same-out;
+                  same-inn = w .same-inn;
+                  same-val = w .same-val;
+                };
+            same-inward = C .others .same-inward;
+            hats = C .others .hats;
+          }
+
+    -- ---- Line 82.
+    at-82 : (m : View) (j : ℕ) → Cut m j → (x n : ℕ) (u : Value) (b c : ℕ) → x ≡ spareAt s (T .shape ℓ) j
+        → j < spareOf s (T .shape ℓ)
+        → v + 2 < spareOf s (T .shape ℓ)
+        → Leads′ (further t0 line82 n u x b c none) m
+    unfolding act
+    at-82 m j C x n u b c e l more =
+        line-leads k ℓ s _ _ _ _ (λ f.
+        ok-through (Next′ m) (λ z. absurd (some-at j x l e z)) (λ _.
+        ending (λ z. clash (cc)) (λ vs A.
+        let p = C .past in
+        cut-done (unlinked C x e l) (suc j)
+        (record {
+          past = omega arith;
+          others = others-unlinked C x e l;
+          hat-same = C .hat-same;
+          keep-val = C .keep-val;
+          last-val = C .last-val;
+          keep-out = λ i h.
+              update-other (m .out) x none _ (at-not-x C x e l i (omega arith) (λ q. omega arith)) ∙ C .keep-out i h;
+          rest-out = λ i h li.
+              update-other (m .out) x none _ (at-not-x C x e l i li (λ q. omega arith)) ∙ C .rest-out i (omega arith) li;
+          rest-val = λ i h li. C .rest-val i (omega arith) li;
+        }) more A)))
+
+    -- ---- Lines 77 to 81: the next node is marked, and this one is unlinked.
+    module _ {m : View} {j : ℕ} (C : Cut m j) (x b : ℕ) (e : x ≡ spareAt s (T .shape ℓ) j)
+        (eb : b ≡ spareAt s (T .shape ℓ) (suc j)) (l : suc j < spareOf s (T .shape ℓ)) where
+      abbrev marked : View
+      marked = record { out = m .out; inn = m .inn; val = update (m .val) b (Y s); hats = m .hats }
+
+      abbrev onward : View
+      onward = record { out = update (m .out) x none; inn = m .inn; val = update (m .val) b (Y s); hats = m .hats }
+
+      not-b : (i : ℕ) → i < spareOf s (T .shape ℓ) → i ≢ suc j → spareAt s (T .shape ℓ) i ≢ b
+      not-b i li ne q = differ i (suc j) li l ne (q ∙ eb)
+
+      not-x : (i : ℕ) → i < spareOf s (T .shape ℓ) → i ≢ j → spareAt s (T .shape ℓ) i ≢ x
+      not-x i li ne q = differ i j li (omega arith) ne (q ∙ e)
+
+      cut-onward : Cut onward (suc j)
+      cut-onward =
+          let p = C .past in
+          record {
+            past = omega arith;
+            others =
+                record {
+                  safe = λ y a n.
+                      let w = C .others .safe y a n in
+                      record {
+                        same-out = update-other (m .out) x none y (own-other j x (omega arith) e y n) ∙ w .same-out;
+                        same-inn = w .same-inn;
+                        same-val = update-other (m .val) b (Y s) y (own-other (suc j) b l eb y n) ∙ w .same-val;
+                      };
+                  same-inward = C .others .same-inward;
+                  hats = C .others .hats;
+                };
+            hat-same = C .hat-same;
+            keep-val = λ i h.
+                update-other (m .val) b (Y s) _ (not-b i (omega arith) (λ q. omega arith)) ∙ C .keep-val i h;
+            last-val =
+                update-other (m .val) b (Y s) _ (not-b v (omega arith) (λ q. omega arith)) ∙ C .last-val;
+            keep-out = λ i h.
+                update-other (m .out) x none _ (not-x i (omega arith) (λ q. omega arith)) ∙ C .keep-out i h;
+            rest-out = λ i h li.
+                update-other (m .out) x none _ (not-x i li (λ q. omega arith)) ∙ C .rest-out i (omega arith) li;
+            rest-val = λ i h li.
+                update-other (m .val) b (Y s) _ (not-b i li (λ q. omega arith)) ∙ C .rest-val i (omega arith) li;
+          }
+
+      -- The node at b leads on as it did.
+      on-b : onward .out b ≡ link ws s (spareAt s (T .shape ℓ) (suc j))
+      on-b = ap (onward .out) eb ∙ cut-onward .rest-out (suc j) (omega arith) l
+
+      read-b : m .val b ≡ value ws (spareAt s (T .shape ℓ) (suc j))
+      read-b = ap (m .val) eb ∙ C .rest-val (suc j) (omega arith) l
+
+      x-some : x ≢ none
+      x-some = some-at j x (omega arith) e
+
+      b-some : b ≢ none
+      b-some = some-at (suc j) b l eb
+
+      -- Line 81 is told what comes next.
+      next-node : (n : ℕ) (c : ℕ) → Leads′ (further t0 line81 n (m .val b) b b c none) onward
+          → (u : Value)
+          → Leads′ (further t0 line77 n u x b c none) m
+      unfolding act
+      next-node n c on-81 u =
+          line-leads k ℓ s _ _ _ _ (λ f.
+          ok-through (Next′ m) (λ z. absurd (b-some z)) (λ _.
+          going refl
+          (line-leads k ℓ s _ _ _ _ (λ f'.
+          ok-through (Next′ m) (λ z. absurd (b-some z)) (λ _.
+          ok-if (Next′ m) (λ q. q) (_ ≟ᵛ _)
+          (λ _.
+          going refl
+          (line-leads k ℓ s _ _ _ _ (λ f''.
+          ok-through (Next′ marked) (λ z. absurd (x-some z)) (λ _. going refl on-81))))
+          (λ ne. absurd (ne refl)))))))
+
+    loop : (fuel j : ℕ) (m : View) → Cut m j → (x b n : ℕ) (u : Value) (c : ℕ) → x ≡ spareAt s (T .shape ℓ) j
+        → b ≡ spareAt s (T .shape ℓ) (suc j)
+        → suc (suc (j + fuel)) ≡ spareOf s (T .shape ℓ)
+        → v + 2 < spareOf s (T .shape ℓ)
+        → Leads′ (further t0 line77 n u x b c none) m
+    unfolding act
+    loop zero j m C x b n u c e eb l more =
+        let h : suc j < spareOf s (T .shape ℓ) = omega arith in
+        let ends-here : onward C x b e eb h .out b ≡ none =
+        on-b C x b e eb h ∙ last-none (K B idle-now T ℓ is-lane s) s (suc j) (omega arith) in
+        next-node C x b e eb h n c
+        (line-leads k ℓ s _ _ _ _ (λ f.
+        ok-through (Next′ (onward C x b e eb h)) (λ z. absurd (b-some C x b e eb h z)) (λ _.
+        ok-if (Next′ (onward C x b e eb h)) (λ st. next (further t0 line81 n (m .val b) b (onward C x b e eb h .out b) c none) st) (_ ≟ _)
+        (λ _.
+        going refl
+        (at-82 (onward C x b e eb h) (suc j) (cut-onward C x b e eb h) b n (m .val b) (onward C x b e eb h .out b) c eb h more))
+        (λ ne. absurd (ne ends-here)))))
+        u
+    loop (suc fuel) j m C x b n u c e eb l more =
+        let h : suc j < spareOf s (T .shape ℓ) = omega arith in
+        let on : onward C x b e eb h .out b ≡ spareAt s (T .shape ℓ) (suc (suc j)) =
+        on-b C x b e eb h ∙ E .leads (suc j) (omega arith) in
+        let is-N : m .val b ≡ N s = read-b C x b e eb h ∙ E .N-before (suc j) (omega arith) in
+        let rest =
+        loop fuel (suc j) (onward C x b e eb h) (cut-onward C x b e eb h) b (onward C x b e eb h .out b) n (m .val b) c eb on
+        (omega arith) more in
+        next-node C x b e eb h n c
+        (line-leads k ℓ s _ _ _ _ (λ f.
+        ok-through (Next′ (onward C x b e eb h)) (λ z. absurd (b-some C x b e eb h z)) (λ _.
+        ok-if (Next′ (onward C x b e eb h)) (λ st. next (further t0 line81 n (m .val b) b (onward C x b e eb h .out b) c none) st) (_ ≟ _)
+        (λ z. absurd (some-at (suc (suc j)) _ (omega arith) on z))
+        (λ _.
+        ok-if (Next′ (onward C x b e eb h)) (λ st. next (further t0 line81 n (m .val b) b (onward C x b e eb h .out b) c none) st) (_ ≟ᵛ _)
+        (λ z. clash (cc)) (λ _. going refl rest)))))
+        u
+
+    -- ---- Lines 62 to 74: the cut.
+    module _ (x b : ℕ) (e : x ≡ spareAt s (T .shape ℓ) v) (eb : b ≡ spareAt s (T .shape ℓ) (suc v))
+        (more : v + 2 < spareOf s (T .shape ℓ)) where
+      abbrev m62 : View
+      m62 = record { out = m0 .out; inn = m0 .inn; val = update (update (m0 .val) x (X s)) b (Y s); hats = m0 .hats }
+
+      abbrev m64 : View
+      m64 =
+          record {
+            out = update (m0 .out) x none;
+            inn = m0 .inn;
+            val = update (update (m0 .val) x (X s)) b (Y s);
+            hats = m0 .hats;
+          }
+
+      no-x : (i : ℕ) → i < spareOf s (T .shape ℓ) → i ≢ v → spareAt s (T .shape ℓ) i ≢ x
+      no-x i li ne q = differ i v li (omega arith) ne (q ∙ e)
+
+      no-b : (i : ℕ) → i < spareOf s (T .shape ℓ) → i ≢ suc v → spareAt s (T .shape ℓ) i ≢ b
+      no-b i li ne q = differ i (suc v) li (omega arith) ne (q ∙ eb)
+
+      val-then : (i : ℕ) → i < spareOf s (T .shape ℓ) → i ≢ v → i ≢ suc v
+          → m64 .val (spareAt s (T .shape ℓ) i) ≡ value ws (spareAt s (T .shape ℓ) i)
+      val-then i li nx nb =
+          update-other (update (m0 .val) x (X s)) b (Y s) _ (no-b i li nb) ∙ update-other (m0 .val) x (X s) _ (no-x i li nx)
+
+      cut-first : Cut m64 (suc v)
+      cut-first =
+          record {
+            past = omega arith;
+            others =
+                record {
+                  safe = λ y a n.
+                      record {
+                        same-out = update-other (m0 .out) x none y (own-other v x (omega arith) e y n);
+                        same-inn = refl;
+                        same-val =
+                            update-other (update (m0 .val) x (X s)) b (Y s) y (own-other (suc v) b (omega arith) eb y n)
+                            ∙ update-other (m0 .val) x (X s) y (own-other v x (omega arith) e y n);
+                      };
+                  same-inward = λ y a. refl;
+                  hats = λ j z o. refl;
+                };
+            hat-same = hat-at;
+            keep-val = λ i h.
+                val-then i (omega arith) (λ q. omega arith) (λ q. omega arith) ∙ E .N-before i (omega arith);
+            last-val =
+                update-other (update (m0 .val) x (X s)) b (Y s) _ (no-b v (omega arith) (λ q. omega arith))
+                ∙ ap (update (m0 .val) x (X s)) (sym e)
+                ∙ update-same (m0 .val) x (X s);
+            keep-out = λ i h.
+                update-other (m0 .out) x none _ (no-x i (omega arith) (λ q. omega arith)) ∙ E .leads i (omega arith);
+            rest-out = λ i h li. update-other (m0 .out) x none _ (no-x i li (λ q. omega arith));
+            rest-val = λ i h li. val-then i li (λ q. omega arith) (λ q. omega arith);
+          }
+
+      on-first : m64 .out b ≡ spareAt s (T .shape ℓ) (suc (suc v))
+      on-first =
+          ap (m64 .out) eb ∙ cut-first .rest-out (suc v) (omega arith) (omega arith) ∙ E .leads (suc v) (omega arith)
+
+      to-b : link ws s x ≡ b
+      to-b = ap (link ws s) e ∙ E .leads v (omega arith) ∙ sym eb
+
+      at-74 : (n : ℕ) (u : Value) (c : ℕ) → Leads′ (further t0 line74 n u x b c none) m64
+      unfolding act
+      at-74 n u c =
+          line-leads k ℓ s _ _ _ _ (λ f.
+          ok-through (Next′ m64) (λ z. absurd (some-at (suc v) b (omega arith) eb z)) (λ _.
+          ok-if (Next′ m64) (λ st. next (further t0 line74 n u b (m64 .out b) c none) st) (_ ≟ _)
+          (λ z. absurd (some-at (suc (suc v)) _ (omega arith) on-first z))
+          (λ _.
+          going refl
+          (loop (spareOf s (T .shape ℓ) - suc (suc (suc v))) (suc v) m64 cut-first b (m64 .out b) n u c eb on-first
+          (omega arith) more))))
+
+      at-64 : (n : ℕ) (u : Value) (c : ℕ) → Leads′ (further t0 line64 n u x b c none) m62
+      unfolding act
+      at-64 n u c =
+          line-leads k ℓ s _ _ _ _ (λ f.
+          ok-through (Next′ m62) (λ z. absurd (some-at v x (omega arith) e z)) (λ _.
+          ok-if (Next′ m62) (λ l. writing l (next (further t0 line64 n u x b c none) line74)) (_ ≟ _)
+          (λ _. going refl (at-74 n u c)) (λ ne. absurd (ne to-b))))
+
+    -- ---- Lines 60 and 62.
+    at-62 : (x b n : ℕ) (u : Value) (c : ℕ) → x ≡ spareAt s (T .shape ℓ) v → b ≡ spareAt s (T .shape ℓ) (suc v)
+        → suc v < spareOf s (T .shape ℓ)
+        → Leads′ (further t0 line62 n u x b c none) m0
+    unfolding act
+    at-62 x b n u c e eb l =
+        line-leads k ℓ s _ _ _ _ (λ f.
+        ok-through (Next′ m0) (λ z. absurd (some-at v x (omega arith) e z)) (λ _.
+        ok-through (Next′ m0) (λ z. absurd (some-at (suc v) b l eb z)) (λ _.
+        ok-swap (Next′ m0) _ _
+        (λ _ b-N.
+        elim (less? (v + 2) (spareOf s (T .shape ℓ))) [
+          | inl more ↦ going refl (at-64 x b e eb more n u c)
+          | inr few ↦
+              let q = E .X-last (suc v) (omega arith) in
+              clash (cc (ap (value ws) eb))
+        ])
+        (λ ne.
+        elim (less? (v + 2) (spareOf s (T .shape ℓ))) [
+          | inl more ↦
+              absurd (ne (ap (value ws) e ∙ E .N-before v (omega arith)) (ap (value ws) eb ∙ E .N-before (suc v) (omega arith)))
+          | inr few ↦ ending (λ z. clash (cc)) (λ vs A. one-no refl off-Y (omega arith) (unchanged A))
+        ]))))
+
+    at-60 : (x n : ℕ) (u : Value) (b c : ℕ) → x ≡ spareAt s (T .shape ℓ) v → v < spareOf s (T .shape ℓ)
+        → Leads′ (further t0 line60 n u x b c none) m0
+    unfolding act
+    at-60 x n u b c e l =
+        line-leads k ℓ s _ _ _ _ (λ f.
+        ok-through (Next′ m0) (λ z. absurd (some-at v x l e z)) (λ _.
+        ok-if (Next′ m0) (λ q. q) (_ ≟ _)
+        (λ z.
+        elim (less? (suc v) (spareOf s (T .shape ℓ))) [
+          | inl more ↦ absurd (some-at (suc v) (link ws s x) more (ap (link ws s) e ∙ E .leads v more) z)
+          | inr few ↦ ending (λ q. clash (cc)) (λ vs A. few-yes refl off-Y (omega arith) (unchanged A))
+        ])
+        (λ ne.
+        elim (less? (suc v) (spareOf s (T .shape ℓ))) [
+          | inl more ↦ going refl (at-62 x (link ws s x) n u c e (ap (link ws s) e ∙ E .leads v more) more)
+          | inr few ↦
+              absurd (ne (ap (link ws s) e ∙ last-none (K B idle-now T ℓ is-lane s) s v (omega arith)))
+        ])))
+
+    -- ---- Lines 56 and 58: the walk to the node at v.
+    walk-step : (i x : ℕ) (u : Value) (b c : ℕ) → x ≡ spareAt s (T .shape ℓ) i → i < v → i < spareOf s (T .shape ℓ)
+        → ((x' : ℕ) → x' ≡ spareAt s (T .shape ℓ) (suc i) → suc i ≢ v → suc i < spareOf s (T .shape ℓ)
+        → Leads′ (further t0 line56 (suc i) u x' b c none) m0)
+        → Leads′ (further t0 line56 i u x b c none) m0
+    unfolding act
+    walk-step i x u b c e below l again =
+        elim (less? (suc i) (spareOf s (T .shape ℓ))) [
+          | inr few ↦
+              let is-X : value ws x ≡ X s = ap (value ws) e ∙ E .X-last i (omega arith) in
+              line-leads k ℓ s _ _ _ _ (λ f.
+              ok-through (Next′ m0) (λ z. absurd (some-at i x l e z)) (λ _.
+              ok-if (Next′ m0) (λ q. q) (_ ≟ᵛ _)
+              (λ _. ending (λ q. clash (cc)) (λ vs A. few-yes refl off-Y (omega arith) (unchanged A)))
+              (λ ne. absurd (ne is-X))))
+          | inl more ↦
+              let is-N : value ws x ≡ N s = ap (value ws) e ∙ E .N-before i more in
+              let on : link ws s x ≡ spareAt s (T .shape ℓ) (suc i) = ap (link ws s) e ∙ E .leads i more in
+              line-leads k ℓ s _ _ _ _ (λ f.
+              ok-through (Next′ m0) (λ z. absurd (some-at i x l e z)) (λ _.
+              ok-if (Next′ m0) (λ q. q) (_ ≟ᵛ _) (λ z. clash (cc)) (λ _.
+              going refl
+              (line-leads k ℓ s _ _ _ _ (λ f'.
+              ok-through (Next′ m0) (λ z. absurd (some-at i x l e z)) (λ _.
+              ok-if (Next′ m0) (λ q. q) (_ ≟ _)
+              (λ z. absurd (some-at (suc i) _ more on z))
+              (λ _.
+              ok-if (Next′ m0) (λ st. next (further t0 line58 (suc i) u (link ws s x) b c none) st) (_ ≟ _)
+              (λ there.
+              going refl
+              (at-60 (link ws s x) (suc i) u b c (on ∙ ap (spareAt s (T .shape ℓ)) there) (subst (λ (q : ℕ). q < spareOf s (T .shape ℓ)) there more)))
+              (λ ne. going refl (again (link ws s x) on ne more)))))))))
+        ]
+
+    walk : (fuel i x : ℕ) (u : Value) (b c : ℕ) → x ≡ spareAt s (T .shape ℓ) i → suc (i + fuel) ≡ v
+        → i < spareOf s (T .shape ℓ)
+        → Leads′ (further t0 line56 i u x b c none) m0
+    walk zero i x u b c e l h = walk-step i x u b c e (omega arith) h (λ x' e' ne h'. absurd (ne (omega arith)))
+    walk (suc fuel) i x u b c e l h =
+        walk-step i x u b c e (omega arith) h (λ x' e' ne h'. walk fuel (suc i) x' u b c e' (omega arith) h')
+
+    list-leads : Leads′ (begunTask ℓ remove s v) m0
+    unfolding act
+    list-leads =
+        let one = some-spare B idle-now T ℓ is-lane s in
+        line-leads k ℓ s _ _ _ _ (λ f.
+        ok-if (Next′ m0) (λ st. next (further t0 line54 0 never H none none none) st) (_ ≟ _)
+        (λ z.
+        going refl
+        (at-60 H 0 never none none (hat-at ∙ ap (spareAt s (T .shape ℓ)) (sym z))
+        (subst (λ (q : ℕ). q < spareOf s (T .shape ℓ)) (sym z) one)))
+        (λ ne. going refl (walk (v - 1) 0 H never none none hat-at (omega arith) one)))
+
+  pub remove-leads : Leads k ℓ s (nodeCount ws) (laneCount ws) (growth ws) RemoveLeaves (begunTask ℓ remove s v) (viewed s ws)
+  remove-leads = go (idle-end (K B idle-now T ℓ is-lane s) s .hat-place)
+    where
+      go : {y : ℕ} → HatPlace ws ℓ s (spareAt s (T .shape ℓ) 0) (innerAt s (T .shape ℓ)) y
+          → Leads′ (begunTask ℓ remove s v) (viewed s ws)
+      go (in-list e) = list-leads e
+      go (beside y o i) = spur-leads y o
