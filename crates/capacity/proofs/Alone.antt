@@ -2,17 +2,16 @@
 
 -- The ends of a lane in a table with no task in a call.
 pub mod Ends
--- A call tick by tick.
+-- A call tick by tick, what it leaves, and the rows.
 pub mod Runs
--- The rows.
-pub mod Rows
--- What a call leaves.
 pub mod Left
--- Pops.
+pub mod Rows
+-- The outcomes, by what a call finds at its end.
+pub mod Outcomes
+-- What each call comes to.
 pub mod Pop
--- The theorem.
-pub mod Theorem
--- Pushes and adds: what is reached, and what is taken.
+pub mod Remove
+-- Pushes and adds: what is reached, what is taken, and what is spliced in.
 pub mod Reach
 pub mod Others
 pub mod Build
@@ -20,5 +19,7 @@ pub mod Splice
 pub mod Finish
 pub mod Push
 pub mod Add
-pub mod Remove
+-- How many nodes are free, and the theorem.
 pub mod Counts
+pub mod Takes
+pub mod Theorem

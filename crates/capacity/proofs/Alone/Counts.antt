@@ -85,6 +85,10 @@ module _ {ws vs : List ℕ} (T : IdleTable ws) (C : AllCounted ws T) (ℓ : ℕ)
   pub counted-then : AllCounted vs (no-leak vs (K .begun) (K .idle-now) .0)
   counted-then = no-leak vs (K .begun) (K .idle-now) .1
 
+  pub sum-then : counted-then .free + (o .spare + o .spur + length (o .bags))
+      ≡ C .free + (spareOf s (T .shape ℓ) + spurOf s (T .shape ℓ) + length (T .shape ℓ .bags))
+  sum-then = balance (no-leak vs (K .begun) (K .idle-now) .0) counted-then
+
 -- ---- How many are free.
 pub none-free : {vs : List ℕ} {n c : ℕ} → CountBelow (Free vs) n c → ((x : ℕ) → x < n → Reachable vs x) → c ≡ 0
 none-free none-below all = refl

@@ -1,7 +1,7 @@
--- The two ends of a lane in a table with no task in a call, seen from their sides; and that a table has just one such number
--- of spare nodes at an end.
+-- The two ends of a lane in a table with no task in a call, seen from their sides; and that a table has just one such
+-- number of spare nodes at an end.
 use mathlib.Core.Path.{_≡_, refl, sym, ap, _∙_, subst}
-use mathlib.Core.Logic.{_≢_, inl, inr}
+use mathlib.Core.Logic.{_≢_, _⊎_, inl, inr}
 use mathlib.Core.List.{List}
 use Prim.Native.Nat.{ℕ, zero, suc, _+_, _-_, _≤_, _<_}
 use native.Mathlib.Omega.{arith}
@@ -12,7 +12,27 @@ use Rattle.machine.specs.Tasks.{none}
 use Rattle.machine.specs.Table.{hat, link, value}
 use Rattle.capacity.specs.NoLeak.{MainList, HatPlace, in-list, beside, LaneShape, listOf, IdleLane}
 use Rattle.capacity.specs.Alone.{spareOf, spurOf}
-use Rattle.machine.proofs.Basics.Contradiction.{refute, less?}
+use Rattle.machine.proofs.Basics.Contradiction.{refute, equal?, less?}
+use Rattle.machine.proofs.Basics.Updates.{updateHat, updateHat-elsewhere}
+use Rattle.machine.proofs.Linearizability.Model.Sides.{Opposite, updateHat-far}
+
+-- Another end than the one of lane ℓ on the side whose opposite is o.
+abbrev pub OtherEnd : (ℓ : ℕ) → (o : Side) → (j : ℕ) → (z : Side) → Type 0
+OtherEnd ℓ o j z = (j ≢ ℓ) ⊎ (z ≡ o)
+
+-- Its hat is not written with ours.
+pub other-hat : (hats : ℕ → Side → ℕ) {ℓ : ℕ} {s o : Side} (v : ℕ) → Opposite s o → {j : ℕ} {z : Side}
+    → OtherEnd ℓ o j z
+    → updateHat hats ℓ s v j z ≡ hats j z
+other-hat hats {ℓ} {s} {o} v w {j} {z} (inl ne) =
+    ap (λ (f : Side → ℕ). f z) (updateHat-elsewhere hats ℓ s v j ne)
+other-hat hats {ℓ} {s} {o} v w {j} {z} (inr e) =
+    elim (equal? j ℓ) [
+      | inl q ↦
+          subst (λ (i : ℕ). updateHat hats ℓ s v i z ≡ hats i z) (sym q)
+          (subst (λ (y : Side). updateHat hats ℓ s v ℓ y ≡ hats ℓ y) (sym e) (updateHat-far hats ℓ s o v w))
+      | inr ne ↦ ap (λ (f : Side → ℕ). f z) (updateHat-elsewhere hats ℓ s v j ne)
+    ]
 
 -- c spare nodes of side z, from the innermost one outward.
 pub record Spares (ws : List ℕ) (z : Side) (at : ℕ → ℕ) (c : ℕ) : Type 0 where
@@ -75,6 +95,20 @@ module _ {ws : List ℕ} {ℓ : ℕ} {z : Side} {at at' : ℕ → ℕ} {inner in
 
   pub same-spurs : y ≡ y'
   same-spurs = same-start .1
+
+-- The spur is there just where the hat is at a Y.
+pub spur-by-hat : {ws : List ℕ} {ℓ : ℕ} {z : Side} {at : ℕ → ℕ} {inner c y : ℕ} → EndIs ws ℓ z at inner c y
+    → (value ws (hat ws ℓ z) ≡ Y z → y ≡ 1)
+    × (value ws (hat ws ℓ z) ≢ Y z → y ≡ 0)
+    × (y ≤ 1)
+spur-by-hat {ws} {ℓ} {z} {at} {inner} E = go (E .hat-place)
+  where
+    go : {y : ℕ} → HatPlace ws ℓ z (at 0) inner y
+        → (value ws (hat ws ℓ z) ≡ Y z → y ≡ 1)
+        × (value ws (hat ws ℓ z) ≢ Y z → y ≡ 0)
+        × (y ≤ 1)
+    go (in-list e) = ((λ u. absurd (not-Y (E .spares) (ap (value ws) (sym e) ∙ u))), (λ _. refl), omega arith)
+    go (beside u o i) = ((λ _. refl), (λ ne. absurd (ne u)), omega arith)
 
 -- ---- The ends of an idle lane.
 

@@ -19,8 +19,7 @@ use Rattle.machine.proofs.Basics.Updates.{update, update-same, update-other, up
 use Rattle.machine.proofs.Words.Memories.{View, viewed}
 use Rattle.machine.proofs.Linearizability.Model.Sides.{sides}
 use Rattle.machine.proofs.Linearizability.Model.Guarantee.{SameIn}
-use Rattle.capacity.proofs.PushEffects.{other-hat}
-use Rattle.capacity.proofs.Alone.Ends.{Spares, not-Y, sparePlace, spareAt, spare-listed, idle-end, last-none}
+use Rattle.capacity.proofs.Alone.Ends.{other-hat, Spares, not-Y, sparePlace, spareAt, spare-listed, idle-end, last-none}
 use Rattle.capacity.proofs.Alone.Reach.{Reach, at-hat, at-root, outward, inward, from-view, idle-root}
 use Rattle.capacity.proofs.Alone.Left.{Left, out-is, val-is, hat-is}
 use Rattle.capacity.proofs.Alone.Others.{K, Alive, spare-alive, some-spare, at-some, Stage, Others, others-kept}

@@ -1,4 +1,5 @@
--- What a call alone leaves: its own end with its numbers, and all other ends as they were; so the five numbers of each lane.
+-- What a call alone leaves: its own end with its numbers, and all other ends as they were; so the five numbers of each
+-- lane.
 use mathlib.Core.Path.{_≡_, refl, sym, ap, _∙_, subst}
 use mathlib.Core.Logic.{_≢_, inl, inr}
 use mathlib.Core.List.{List}
@@ -17,9 +18,8 @@ use Rattle.machine.proofs.SlotRule.Reached.{WellLinked, reachable-node, node-no
 use Rattle.machine.proofs.Linearizability.Model.Sides.{sides}
 use Rattle.machine.proofs.Linearizability.Calls.MadeTicks.{well-linked}
 use Rattle.machine.proofs.Linearizability.Corollaries.{begun-agrees}
-use Rattle.capacity.proofs.PushEffects.{OtherEnd}
-use Rattle.capacity.proofs.FillsUp.{same-some}
 use Rattle.capacity.proofs.Alone.Ends.{
+  OtherEnd,
   EndIs,
   same-spares,
   same-spurs,
@@ -29,6 +29,9 @@ use Rattle.capacity.proofs.Alone.Ends.{
   EndKept,
   end-kept,
 }
+
+pub same-some : {T : Type 0} {x y : T} → some x ≡ some y → x ≡ y
+same-some e = cc
 
 -- ---- An end of a lane, all of whose nodes are as they were.
 abbrev pub OtherKept : (ws vs : List ℕ) → IdleTable ws → (j : ℕ) → (z : Side) → Type 0

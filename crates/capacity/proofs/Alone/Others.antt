@@ -20,8 +20,8 @@ use Rattle.machine.proofs.Linearizability.Model.Guarantee.{SameIn}
 use Rattle.machine.proofs.Linearizability.Calls.MadeTicks.{well-linked}
 use Rattle.machine.proofs.Linearizability.Corollaries.{begun-agrees}
 use Rattle.capacity.proofs.Theorem.{list-not-Y, one-hat}
-use Rattle.capacity.proofs.PushEffects.{OtherEnd}
 use Rattle.capacity.proofs.Alone.Ends.{
+  OtherEnd,
   EndIs,
   not-Y,
   sparePlace,

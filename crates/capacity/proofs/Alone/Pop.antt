@@ -26,8 +26,7 @@ use Rattle.machine.proofs.Basics.Updates.{update, update-same, update-other, up
 use Rattle.machine.proofs.Words.Memories.{View, viewed}
 use Rattle.machine.proofs.Linearizability.Model.Sides.{sides}
 use Rattle.machine.proofs.Linearizability.Lines.Connectives.{ok-if, ok-through}
-use Rattle.capacity.proofs.PushEffects.{OtherEnd, other-hat}
-use Rattle.capacity.proofs.Alone.Ends.{EndIs, spareAt, innerAt, idle-end, inner-leads, inner-listed, leads-in}
+use Rattle.capacity.proofs.Alone.Ends.{OtherEnd, other-hat, EndIs, spareAt, innerAt, idle-end, inner-leads, inner-listed, leads-in}
 use Rattle.capacity.proofs.Alone.Runs as Runs
 use Rattle.capacity.proofs.Alone.Runs.{ok-swap, Leads, Answered, Next, going, ending, line-leads}
 use Rattle.capacity.proofs.Alone.Left.{

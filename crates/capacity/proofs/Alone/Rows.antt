@@ -4,27 +4,106 @@ use mathlib.Core.Logic.{_≢_}
 use mathlib.Core.Bool.{true, false}
 use mathlib.Core.List.{List, [], _∷_, reverse-append, reverse-reverse}
 use mathlib.Core.Option.{Option, some, none as nothing, bind, Option·map}
-use Prim.Native.Nat.{ℕ, _<_}
+use Prim.Native.Nat.{ℕ, zero, suc, _<_}
+use native.Mathlib.Omega.{arith}
+use lib.Dec.{ltb}
+use lib.ListN.{length, length-append}
 use Rattle.machine.specs.Choice.{_≟_, if_then_else_}
 use Rattle.machine.specs.declared.Answer.{Answer}
 use Rattle.machine.specs.declared.Answer.the-variants.{Going, Pushed, Bag, Empty, Full, Yes, No, Refused}
-use Rattle.machine.specs.Sides.{Side, left, right}
+use Rattle.machine.specs.declared.Reply.{Reply}
+use Rattle.machine.specs.declared.Reply.the-variants.{Accepted}
+use Rattle.machine.specs.declared.Stored.{Stored}
+use Rattle.machine.specs.Sides.{Side, left, right, sideNumber, sideOf}
+use Rattle.machine.specs.Values.{number, stored}
+use Rattle.machine.specs.Operations.{Operation, operationNumber, operationOf}
 use Rattle.machine.specs.Table.{laneCount, task}
 use Rattle.machine.specs.Answers.{refusalOf, isGoing, endsCall}
-use Rattle.machine.specs.Calls.{Ticked, tickOn, tick, lane}
-use Rattle.machine.specs.Demand3.{tick-call}
-use Rattle.machine.specs.Begun.{Begun, by-call}
+use Rattle.machine.specs.Calls.{begin, Ticked, tickOn, tick, lane, lanesBelow}
 use Rattle.machine.specs.Row.{Note, Row, noted, withBags, put, takeBag, answered, feedMade}
+use Rattle.machine.specs.Demand3.{tick-call, feedBegin}
+use Rattle.machine.specs.Begun.{Begun, by-call}
+use Rattle.machine.specs.Twice.{rowsBelow}
+use Rattle.capacity.specs.NoLeak.{Idle, IdleTable}
 use Rattle.capacity.specs.Capacity.{AloneTo, ends-now, ends-later}
-use Rattle.capacity.specs.Alone.{fromEnd}
+use Rattle.capacity.specs.Alone.{Outcome, fromEnd, LeavesIdle}
 use Rattle.machine.proofs.Basics.Contradiction.{clash}
 use Rattle.machine.proofs.Basics.Choices.{if-yes, if-no}
-use Rattle.machine.proofs.Linearizability.Calls.Agreement.{noteIn}
-use Rattle.machine.proofs.Linearizability.Corollaries.{begun-agrees, made-passes}
-use Rattle.machine.proofs.Linearizability.Histories.{bag-taken}
+use Rattle.machine.proofs.Linearizability.Calls.Agreement.{Agrees, noteUnder, noteIn, lanes-are-rows}
+use Rattle.machine.proofs.Linearizability.Calls.MadeTicks.{MadeTick, made-tick}
+use Rattle.machine.proofs.Linearizability.Calls.CallsAgree.{begin-explained}
+use Rattle.machine.proofs.Linearizability.Corollaries.{begun-agrees, tick-passes, made-passes}
+use Rattle.machine.proofs.Linearizability.Histories.{same-if, bag-taken}
 use Rattle.machine.proofs.Linearizability.Begun.TableAfter.{lanes-after}
-use Rattle.capacity.proofs.WhenFull.{ends-made}
-use Rattle.capacity.proofs.FillsUp.{same-some, row-of, fed-going, is-tick, tick-made, fed, lane-then, lane-going}
+use Rattle.machine.proofs.Linearizability.Begun.TableBegun.{accepted-begin}
+use Rattle.capacity.proofs.Alone.Runs.{ends-made, begun-table, begun-at}
+use Rattle.capacity.proofs.Alone.Left.{same-some, Left, leaves-idle}
+
+-- A lane there is its row.
+pub row-of : {ws : List ℕ} {ρ : Row} → Agrees ws ρ → (ℓ : ℕ) → ℓ < laneCount ws → lane ws ℓ ≡ some (ρ .bags ℓ)
+row-of A ℓ h = lanes-are-rows A ℓ (subst (λ (n : ℕ). ℓ < n) (sym (A .same-lanes)) h)
+
+-- All lanes, one after another.
+pub lanes-below : (ws : List ℕ) (f : ℕ → List ℕ) (n : ℕ) → ((l : ℕ) → l < n → lane ws l ≡ some (f l))
+    → lanesBelow ws n ≡ some (rowsBelow f n)
+unfolding lanesBelow rowsBelow bind
+lanes-below ws f zero are = refl
+lanes-below ws f (suc n) are = rw (lanes-below ws f n (λ l h. are l (omega arith)), are n (omega arith))
+
+-- ---- On the way.
+
+-- A begin leaves the lane.
+pub lane-begun : {ws : List ℕ} → Begun ws → (ℓ : ℕ) → ℓ < laneCount ws → (k l op side : ℕ) (argument : Stored)
+    → begin ws k l op side argument .reply ≡ Accepted
+    → lane (begin ws k l op side argument .words) ℓ ≡ lane ws ℓ
+lane-begun {ws} B ℓ is-lane k l op side argument accepted =
+    let A = begun-agrees B .1 in
+    let ρ = begun-agrees B .0 in
+    let E = begin-explained A k l op side argument in
+    let n : Note = record { lane = l; operation = operationOf op; side = sideOf side; argument = number argument } in
+    let fed = subst (λ (r : Reply). feedBegin ρ k n r ≡ some (E .row)) accepted (E .given-by-row) in
+    let T = accepted-begin A k l op side argument accepted in
+    let there : ℓ < laneCount (begin ws k l op side argument .words) =
+    subst (λ (j : ℕ). ℓ < j) (sym (T .same-lanes)) is-lane in
+    row-of (E .agrees) ℓ there
+    ∙ ap (λ (x : Row). some (x .bags ℓ)) (sym (same-if (ltb l (ρ .lanes)) fed .1))
+    ∙ sym (row-of A ℓ is-lane)
+
+-- A tick that goes on leaves it.
+pub fed-going : (ρ : Row) (k : ℕ) {ρ′ : Row} → feedMade ρ k Going ≡ some ρ′ → ρ ≡ ρ′
+unfolding feedMade bind
+fed-going ρ k {ρ′} = go (ρ .notes k)
+  where
+    go : (n : Option Note) → bind n (λ _. some ρ) ≡ some ρ′ → ρ ≡ ρ′
+    go (some n) e = same-some e
+    go nothing e = clash (cc)
+
+module _ {ws : List ℕ} (B : Begun ws) (k h : ℕ) (made : refusalOf (tick ws k h .answer) ≡ nothing) where
+  pub is-tick : tick ws k h ≡ tickOn ws k h
+  is-tick = tick-passes (begun-agrees B .1) k h
+
+  pub tick-made : MadeTick ws (begun-agrees B .0) k h
+  tick-made = made-tick (begun-agrees B .1) k h (made-passes B k h made)
+
+  pub fed : feedMade (begun-agrees B .0) k (tick ws k h .answer) ≡ some (tick-made .row)
+  fed = ap (λ (r : Ticked). feedMade (begun-agrees B .0) k (r .answer)) is-tick ∙ tick-made .given
+
+  pub lane-then : (ℓ : ℕ) → ℓ < laneCount ws → lane (tick ws k h .words) ℓ ≡ some (tick-made .row .bags ℓ)
+  lane-then ℓ is-lane =
+      let same = lanes-after (begun-agrees B .1) k h (made-passes B k h made) in
+      ap (λ (r : Ticked). lane (r .words) ℓ) is-tick
+      ∙ row-of (tick-made .agrees) ℓ (subst (λ (n : ℕ). ℓ < n) (sym same) is-lane)
+
+pub lane-going : {ws : List ℕ} → Begun ws → (ℓ : ℕ) → ℓ < laneCount ws → (k h : ℕ) → tick ws k h .answer ≡ Going
+    → lane (tick ws k h .words) ℓ ≡ lane ws ℓ
+lane-going {ws} B ℓ is-lane k h going =
+    let made = ap refusalOf going in
+    let ρ = begun-agrees B .0 in
+    let is-fed = subst (λ (a : Answer). feedMade ρ k a ≡ some (tick-made B k h made .row)) going (fed B k h made) in
+    let same = fed-going ρ k is-fed in
+    lane-then B k h made ℓ is-lane
+    ∙ ap (λ (x : Row). some (x .bags ℓ)) (sym same)
+    ∙ sym (row-of (begun-agrees B .1) ℓ is-lane)
 
 pub ends-not-going : (a : Answer) → endsCall a ≡ true → isGoing a ≡ false
 ends-not-going Going e = clash (cc)
@@ -110,7 +189,11 @@ module _ (k : ℕ) (n : Note) where
       more)
 
 -- ---- What the row says of each answer.
-put-from-end : (s : Side) (b : ℕ) (rest : List ℕ) → fromEnd s (put s b rest) ≡ b ∷ fromEnd s rest
+pub length-put : (s : Side) (b : ℕ) (bags : List ℕ) → length (put s b bags) ≡ suc (length bags)
+length-put left b bags = refl
+length-put right b bags = let e = length-append bags (b ∷ []) in omega arith
+
+pub put-from-end : (s : Side) (b : ℕ) (rest : List ℕ) → fromEnd s (put s b rest) ≡ b ∷ fromEnd s rest
 put-from-end left b rest = refl
 put-from-end right b rest = reverse-append rest (b ∷ [])
 
@@ -122,3 +205,38 @@ pop-takes s b bags rest e = ap (fromEnd s) (bag-taken s b bags rest e) ∙ put-f
 pub from-end-back : (s : Side) (l : List ℕ) → fromEnd s (fromEnd s l) ≡ l
 from-end-back left l = refl
 from-end-back right l = reverse-reverse l
+
+-- ---- A call alone, as a whole.
+module _ {ws vs : List ℕ} (B : Begun ws) (idle-now : Idle ws) (T : IdleTable ws) (k ℓ : ℕ) (op : Operation) (s : Side)
+    (v : ℕ) (a : Answer) (accepted : begin ws k ℓ (operationNumber op) (sideNumber s) (stored v) .reply ≡ Accepted)
+    (alone-to : AloneTo k a vs (begin ws k ℓ (operationNumber op) (sideNumber s) (stored v) .words)) where
+  pub is-lane : ℓ < laneCount ws
+  is-lane = begun-table B idle-now k ℓ op s v accepted .is-lane
+
+  abbrev pub note : Note
+  note = record { lane = ℓ; operation = op; side = s; argument = v }
+
+  pub rows : noteUnder op note ≡ some note → RowsThen note (laneCount ws) (λ j. T .shape j .bags) a vs
+  rows busy =
+      let P = begun-at B idle-now k ℓ op s v accepted in
+      let same = begun-table B idle-now k ℓ op s v accepted .same-lanes in
+      subst (λ (L : ℕ). RowsThen note L (λ j. T .shape j .bags) a vs) same
+      (rows-alone k note (λ j. T .shape j .bags) (P .begun) (ap noteIn (P .own) ∙ busy)
+      (subst (λ (L : ℕ). ℓ < L) (sym same) is-lane)
+      (λ j l.
+      let l' = subst (λ (L : ℕ). j < L) same l in
+      lane-begun B j l' k ℓ (operationNumber op) (sideNumber s) (stored v) accepted ∙ T .idle-lane j l' .lane-is)
+      alone-to)
+
+  -- It comes to an outcome: its answer, the numbers that it leaves at its end, and the bags that the row then has.
+  abbrev pub ComesTo : Outcome → Type 0
+  ComesTo o = (a ≡ o .answer) × LeavesIdle ws vs T ℓ s o
+
+  pub comes-to : (o : Outcome) → noteUnder op note ≡ some note → a ≡ o .answer
+      → Left ws T ℓ s (o .spare) (o .spur) vs
+      → answered note (o .answer) (T .shape ℓ .bags) ≡ some (o .bags)
+      → ComesTo o
+  comes-to o busy is-a K row-says =
+      let R = rows busy in
+      let given = subst (λ (x : Answer). answered note x (T .shape ℓ .bags) ≡ some (R .bags)) is-a (R .given) in
+      (is-a, leaves-idle T ℓ is-lane s o K (R .own ∙ sym given ∙ row-says) (R .others))

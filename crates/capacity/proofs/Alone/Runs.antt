@@ -5,14 +5,13 @@ use mathlib.Core.Bool.{true}
 use mathlib.Core.List.{List}
 use mathlib.Core.Option.{none as nothing}
 use Prim.Native.Nat.{ℕ, _<_}
-use native.Mathlib.Decide.{ℕ-discrete}
 use Rattle.machine.specs.declared.Answer.{Answer}
-use Rattle.machine.specs.declared.Answer.the-variants.{Going}
+use Rattle.machine.specs.declared.Answer.the-variants.{Going, Pushed, Bag, Empty, Full, Yes, No, Refused}
 use Rattle.machine.specs.declared.Reply.the-variants.{Accepted}
 use Rattle.machine.specs.Choice.{_≟_}
 use Rattle.machine.specs.Sides.{Side, opposite, sideNumber, sideOf}
 use Rattle.machine.specs.Values.{stored}
-use Rattle.machine.specs.Operations.{Operation, idle, push, pop, add, remove, operationNumber, operationOf}
+use Rattle.machine.specs.Operations.{Operation, operationNumber, operationOf}
 use Rattle.machine.specs.Tasks.{Task, fresh, goal}
 use Rattle.machine.specs.Table.{nodeCount, growth, laneCount, task}
 use Rattle.machine.specs.Allocate.{allocate}
@@ -28,6 +27,7 @@ use Rattle.machine.proofs.Basics.Contradiction.{clash}
 use Rattle.machine.proofs.Basics.Updates.{update-same, update-other}
 use Rattle.machine.proofs.Words.Memories.{View, viewed, written, seenIn}
 use Rattle.machine.proofs.Words.TickLaws.{tick-answer}
+use Rattle.machine.proofs.Words.RecordLaws.{operation-of-number, side-of-number}
 use Rattle.machine.proofs.Words.ValueLaws.{number-stored}
 use Rattle.machine.proofs.Shape.ShapeLaws.{well-shaped}
 use Rattle.machine.proofs.Shape.TickKeeps.{idle-fresh, tick-allowed}
@@ -44,8 +44,17 @@ use Rattle.machine.proofs.Linearizability.Begun.TableAfter.{
   growth-after,
 }
 use Rattle.machine.proofs.Linearizability.Begun.TableBegun.{BegunTable, accepted-begin}
-use Rattle.capacity.proofs.PushesAlone.{side-number}
-use Rattle.capacity.proofs.WhenFull.{ends-made}
+
+-- An answer that ends a call is no refusal, and not "going".
+pub ends-made : (a : Answer) → endsCall a ≡ true → refusalOf a ≡ nothing
+ends-made Going e = clash (cc)
+ends-made Pushed e = refl
+ends-made (Bag b) e = refl
+ends-made Empty e = refl
+ends-made Full e = refl
+ends-made Yes e = refl
+ends-made No e = refl
+ends-made (Refused n) e = clash (cc)
 
 -- A swap whose compares are known to match or not.
 pub ok-swap : (P : Effect → Type 0) {A B : Type 0} {done failed : Effect} (d : Dec A) (e : Dec B)
@@ -266,14 +275,6 @@ module _ (k ℓ : ℕ) (s : Side) where
     line-leads next = search-leads (λ ws P _ _ h _. next (allocate ws h))
 
 -- ---- The begin.
-operation-number : (op : Operation) → operationOf (operationNumber op) ≡ op
-unfolding ℕ-discrete
-operation-number idle = refl
-operation-number push = refl
-operation-number pop = refl
-operation-number add = refl
-operation-number remove = refl
-
 module _ {ws : List ℕ} (B : Begun ws) (idle-now : Idle ws) (k ℓ : ℕ) (op : Operation) (s : Side) (v : ℕ)
     (accepted : begin ws k ℓ (operationNumber op) (sideNumber s) (stored v) .reply ≡ Accepted) where
   abbrev begun-words : List ℕ
@@ -281,8 +282,8 @@ module _ {ws : List ℕ} (B : Begun ws) (idle-now : Idle ws) (k ℓ : ℕ) (op :
 
   pub begun-table : BegunTable ws begun-words k (begunTask ℓ op s v)
   begun-table =
-      subst (λ (o : Operation). BegunTable ws begun-words k (begunTask ℓ o s v)) (operation-number op)
-      (subst (λ (z : Side). BegunTable ws begun-words k (begunTask ℓ (operationOf (operationNumber op)) z v)) (side-number s)
+      subst (λ (o : Operation). BegunTable ws begun-words k (begunTask ℓ o s v)) (operation-of-number op)
+      (subst (λ (z : Side). BegunTable ws begun-words k (begunTask ℓ (operationOf (operationNumber op)) z v)) (side-of-number s)
       (subst
       (λ n. BegunTable ws begun-words k (begunTask ℓ (operationOf (operationNumber op)) (sideOf (sideNumber s)) n))
       (number-stored v)

@@ -22,8 +22,7 @@ use Rattle.machine.proofs.Words.Memories.{View, viewed}
 use Rattle.machine.proofs.Linearizability.Model.Sides.{sides}
 use Rattle.machine.proofs.Linearizability.Model.Guarantee.{SameIn}
 use Rattle.machine.proofs.Linearizability.Lines.Connectives.{ok-if, ok-through}
-use Rattle.capacity.proofs.PushEffects.{OtherEnd, other-hat}
-use Rattle.capacity.proofs.Alone.Ends.{not-Y, spareAt, innerAt, idle-end, leads-in}
+use Rattle.capacity.proofs.Alone.Ends.{OtherEnd, other-hat, not-Y, spareAt, innerAt, idle-end, leads-in}
 use Rattle.capacity.proofs.Alone.Pop.{hat-inward}
 use Rattle.capacity.proofs.Alone.Runs.{ok-swap, Leads, Next, going, line-leads}
 use Rattle.capacity.proofs.Alone.Reach.{Reach, at-hat, at-root, outward, inward}

@@ -48,38 +48,10 @@ use Rattle.capacity.specs.OneUserExactly.{
 }
 use Rattle.machine.proofs.Basics.Contradiction.{clash}
 use Rattle.machine.proofs.Basics.Choices.{by-if}
+use Rattle.machine.proofs.Words.RecordLaws.{operation-of-number, side-of-number}
 use Rattle.machine.proofs.Words.ValueLaws.{number-stored}
 use Rattle.machine.proofs.Linearizability.Twice.Lists.{count-other, count-append, not-counted, not-among, rows-changed}
-use Rattle.capacity.proofs.PushesAlone.{side-number}
-use Rattle.capacity.proofs.FillsUp.{length-put}
-
--- ---- A push: "pushed" where there is room, which is then one less; "full" where there is none.
-pub data Pushing (m m' : ℕ) (o : Outcome) : Type 0 where
-  one-more : (n : ℕ) → m ≡ suc n → m' ≡ n → o .answer ≡ Pushed → 1 ≤ o .spare → Pushing m m' o
-  no-room : m ≡ 0 → m' ≡ 0 → o .answer ≡ Full → 1 ≤ o .spare → Pushing m m' o
-
-least-some : (a b : ℕ) → 1 ≤ a → 1 ≤ b → 1 ≤ least a b
-least-some a b h k = by-if (λ (n : ℕ). 1 ≤ n) (a <? b) (λ _. h) (λ _. k)
-
-least-below : (a b : ℕ) → least a b ≤ a
-least-below a b = by-if (λ (n : ℕ). n ≤ a) (a <? b) (λ _. omega arith) (λ ne. omega arith)
-
-module _ (s : Side) (v g f : ℕ) (bags : List ℕ) (r y : ℕ) (some-spare : 1 ≤ r) where
-  abbrev roomThen : Outcome → ℕ
-  roomThen o = o .spare + o .spur + (f + (r + y + length bags) - (o .spare + o .spur + length (o .bags))) - 1
-
-  pushing : Pushing (r + y + f - 1) (roomThen (pushAlone s v g f bags r y)) (pushAlone s v g f bags r y)
-  pushing =
-      let longer = length-put s v bags in
-      by-if (λ (o : Outcome). Pushing (r + y + f - 1) (roomThen o) o) (1 <? r)
-      (λ more. one-more (r + y + f - 2) (omega arith) (omega arith) refl (omega arith))
-      (λ single.
-      by-if (λ (o : Outcome). Pushing (r + y + f - 1) (roomThen o) o) (f + y ≟ 0)
-      (λ none-left. no-room (omega arith) (omega arith) refl some-spare)
-      (λ some-left.
-      let a = least-some (f + y) (suc g) (omega arith) (omega arith) in
-      let b = least-below (f + y) (suc g) in
-      one-more (r + y + f - 2) (omega arith) (omega arith) refl a))
+use Rattle.capacity.proofs.Alone.Outcomes.{one-more, no-room, pushing}
 
 -- ---- The room in the next state.
 with-side : (s : Side) (n : ℕ) (f : Side → ℕ) → withSide s n f s ≡ n
@@ -205,10 +177,6 @@ side-passes : (z : Side) → leb (sideNumber z) 1 ≡ true
 side-passes left = refl
 side-passes right = refl
 
-push-number : operationOf (operationNumber push) ≡ push
-unfolding ℕ-discrete
-push-number = refl
-
 module _ (k l : ℕ) (s : Side) where
   abbrev pushOf : ℕ → WholeCall
   pushOf v = record { task = k; lane = l; operation = operationNumber push; side = sideNumber s; argument = stored v }
@@ -227,8 +195,8 @@ module _ (k l : ℕ) (s : Side) where
   push-state σ v passes =
       let F : Operation → Side → ℕ → State = λ op z n. stateThen σ l z (outcome σ l op z n) in
       ap (λ (r : Option ℕ). callDone r σ (pushOf v) .state) passes
-      ∙ ap (λ (op : Operation). F op (sideOf (sideNumber s)) (number (stored v))) push-number
-      ∙ ap (λ (z : Side). F push z (number (stored v))) (side-number s)
+      ∙ ap (λ (op : Operation). F op (sideOf (sideNumber s)) (number (stored v))) (operation-of-number push)
+      ∙ ap (λ (z : Side). F push z (number (stored v))) (side-of-number s)
       ∙ ap (F push s) (number-stored v)
 
   pushes-new : (σ : State) (tags : List ℕ) → k < σ .tasks → l < σ .lanes → AllNew (bagsOf σ) tags
@@ -239,8 +207,8 @@ module _ (k l : ℕ) (s : Side) where
       let next = stateThen σ l s (outcome σ l push s v) in (
         passes,
         refl,
-        push-number,
-        side-number s,
+        (operation-of-number push),
+        side-of-number s,
         subst (λ (τ : State). Pushes l s τ (pushCalls k l s tags)) (sym (push-state σ v passes))
             (pushes-new next tags is-task is-lane
             (all-new (bagsOf σ) (bagsOf next) v (λ w ne q. still-new σ l s v w is-lane ne q) tags (new .2) (new .3))),

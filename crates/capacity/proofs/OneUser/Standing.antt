@@ -2,7 +2,7 @@
 use mathlib.Core.Path.{_≡_, refl, sym, ap, _∙_, subst}
 use mathlib.Core.Bool.{Bool, true, false, not, _||_}
 use mathlib.Core.List.{List}
-use mathlib.Core.Option.{some, none as nothing, bind}
+use mathlib.Core.Option.{some, none as nothing}
 use Prim.Native.Nat.{ℕ, zero, suc, _≤_, _<_}
 use native.Mathlib.Omega.{arith}
 use lib.Dec.{ltb}
@@ -13,7 +13,6 @@ use Rattle.machine.specs.Operations.{Operation, idle, push, pop, add, remove, o
 use Rattle.machine.specs.Table.{nodeCount, taskCount, growth, laneCount, task}
 use Rattle.machine.specs.Calls.{
   lane,
-  lanesBelow,
   allLanes,
   unless,
   isIdle,
@@ -31,6 +30,7 @@ use Rattle.capacity.specs.Alone.{spareOf, spurOf}
 use Rattle.capacity.specs.OneUser.{State, WholeCall, bagsOf, isTwice, refusal}
 use Rattle.capacity.specs.OneUserExactly.{readFrom, StandsAs}
 use Rattle.machine.proofs.Linearizability.Corollaries.{no-call-refused-with-3-or-4}
+use Rattle.capacity.proofs.Alone.Rows.{lanes-below}
 
 pub record Standing (S : ℕ) (ws : List ℕ) (σ : State) : Type 0 where
   pub begun : Begun ws
@@ -45,13 +45,6 @@ pub record Standing (S : ℕ) (ws : List ℕ) (σ : State) : Type 0 where
   pub spare-is : (l : ℕ) → l < laneCount ws → (s : Side) → spareOf s (table .shape l) ≡ σ .lane l .spare s
   pub spur-is : (l : ℕ) → l < laneCount ws → (s : Side) → spurOf s (table .shape l) ≡ σ .lane l .spur s
   pub free-is : counted .free ≡ σ .free
-
--- All lanes, one after another.
-lanes-below : (ws : List ℕ) (f : ℕ → List ℕ) (n : ℕ) → ((l : ℕ) → l < n → lane ws l ≡ some (f l))
-    → lanesBelow ws n ≡ some (rowsBelow f n)
-unfolding lanesBelow rowsBelow bind
-lanes-below ws f zero are = refl
-lanes-below ws f (suc n) are = rw (lanes-below ws f n (λ l h. are l (omega arith)), are n (omega arith))
 
 or-false : (b : Bool) → b || false ≡ b
 or-false true = refl

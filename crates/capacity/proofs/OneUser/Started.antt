@@ -27,10 +27,10 @@ use Rattle.machine.proofs.Words.StartLaws.{startValue, viewed-start, task-start
 use Rattle.machine.proofs.Shape.ShapeKept.{start-sized}
 use Rattle.machine.proofs.Linearizability.Calls.Agreement.{lanes-are-rows}
 use Rattle.machine.proofs.Linearizability.Calls.CallsAgree.{start-agrees}
-use Rattle.capacity.proofs.Counting.{total-same}
+use Rattle.capacity.proofs.Counting.{total-same, total-const}
 use Rattle.capacity.proofs.Theorem.{no-leak}
-use Rattle.capacity.proofs.FillsUp.{same-some, total-const}
 use Rattle.capacity.proofs.Alone.Ends.{EndIs, idle-end}
+use Rattle.capacity.proofs.Alone.Left.{same-some}
 use Rattle.capacity.proofs.OneUser.Standing.{Standing}
 
 -- An end whose hat is at its X.

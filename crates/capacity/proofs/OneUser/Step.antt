@@ -34,6 +34,7 @@ use Rattle.capacity.specs.OneUser.{
 }
 use Rattle.capacity.specs.OneUserExactly.{ticksThen, wholeCall}
 use Rattle.machine.proofs.Basics.Choices.{by-if}
+use Rattle.machine.proofs.Words.RecordLaws.{number-of-operation, number-of-side}
 use Rattle.machine.proofs.Words.ValueLaws.{argument-stored}
 use Rattle.machine.proofs.Shape.ShapeKept.{BeginAllowed, begin-allowed, tick-call-kept}
 use Rattle.machine.proofs.Linearizability.Corollaries.{begun-agrees}
@@ -57,17 +58,6 @@ ticks-tasks k (h ∷ hints) {ws} B =
         → taskCount (ticksWith (h ∷ hints) ws k .words) ≡ taskCount ws
     go true e rest = rw (e, ticksWith) (rest ∙ once)
     go false e rest = rw (e, ticksWith) once
-
--- ---- The begin's numbers.
-operation-back : (n : ℕ) → 1 ≤ n → n ≤ 4 → operationNumber (operationOf n) ≡ n
-operation-back n l h =
-    by-if (λ op. operationNumber op ≡ n) (n ≟ 0) (λ e. sym e) (λ a.
-    by-if (λ op. operationNumber op ≡ n) (n ≟ 1) (λ e. sym e) (λ b.
-    by-if (λ op. operationNumber op ≡ n) (n ≟ 2) (λ e. sym e) (λ c.
-    by-if (λ op. operationNumber op ≡ n) (n ≟ 3) (λ e. sym e) (λ d. omega arith))))
-
-side-back : (n : ℕ) → n ≤ 1 → sideNumber (sideOf n) ≡ n
-side-back n h = by-if (λ s. sideNumber s ≡ n) (n ≟ 0) (λ e. sym e) (λ a. omega arith)
 
 -- ---- The numbers of the two sides.
 side-then : (s : Side) (f g : Side → ℕ) (n : ℕ) → f s ≡ n → f (opposite s) ≡ g (opposite s) → (z : Side)
@@ -175,8 +165,8 @@ module _ {S : ℕ} {ws : List ℕ} {σ : State} (P : Standing S ws σ) where
       same-begin : begin ws k (c .lane) (operationNumber op) (sideNumber s) (stored v) ≡ begun-now
       same-begin =
           ap (λ (n : ℕ). begin ws k (c .lane) n (sideNumber s) (stored v))
-          (operation-back (c .operation) (allowed .some-operation) (allowed .last-operation))
-          ∙ ap (λ (n : ℕ). begin ws k (c .lane) (c .operation) n (stored v)) (side-back (c .side) (allowed .last-side))
+          (number-of-operation (c .operation) (allowed .last-operation))
+          ∙ ap (λ (n : ℕ). begin ws k (c .lane) (c .operation) n (stored v)) (number-of-side (c .side) (allowed .last-side))
           ∙ ap (λ (u : Stored). begin ws k (c .lane) (c .operation) (c .side) u)
           (argument-stored op (c .argument) (allowed .argument-fits))
 
