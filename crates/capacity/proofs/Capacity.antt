@@ -1,9 +1,9 @@
 -- What fits: just S bags less two for each lane when all ends were pushed until "full".
-use mathlib.Core.Path.{_≡_, refl, sym, ap, _∙_, subst}
+use mathlib.Core.Path.{_≡_, refl, sym, _∙_, subst}
 use mathlib.Core.Logic.{_⊎_, inl, inr}
 use mathlib.Core.List.{List, [], _∷_}
 use mathlib.Core.Option.{some}
-use Prim.Native.Nat.{ℕ, _+_, _*_, _-_, _≤_, _<_}
+use Prim.Native.Nat.{ℕ, _+_, _*_, _-_, _<_}
 use native.Mathlib.Omega.{arith}
 use lib.ListN.{length}
 use Rattle.machine.specs.declared.Answer.{Answer}
@@ -36,7 +36,7 @@ use Rattle.capacity.proofs.Counting.{total-two, total-same, length-rows
 use Rattle.capacity.proofs.Theorem.{no-leak}
 use Rattle.capacity.proofs.Alone.Ends.{OtherEnd}
 use Rattle.capacity.proofs.Alone.Rows.{lanes-below}
-use Rattle.capacity.proofs.Alone.Outcomes.{Pushing, no-room}
+use Rattle.capacity.proofs.Alone.Outcomes.{no-room}
 use Rattle.capacity.proofs.Alone.Outcomes as Outcomes
 use Rattle.capacity.proofs.Alone.Theorem.{free-after}
 use Rattle.capacity.proofs.FillsUp.{tableOf, countOf, PushDone, push-done}

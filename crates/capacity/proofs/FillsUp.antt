@@ -5,11 +5,11 @@ use mathlib.Core.Bool.{true}
 use mathlib.Core.List.{List}
 use Prim.Native.Nat.{ℕ, zero, suc, _+_, _*_, _-_, _≤_, _<_}
 use native.Mathlib.Omega.{arith}
-use lib.ListN.{length, replicate, length-replicate}
+use lib.ListN.{replicate, length-replicate}
 use Rattle.machine.specs.declared.Answer.{Answer}
 use Rattle.machine.specs.declared.Answer.the-variants.{Pushed, Full}
 use Rattle.machine.specs.declared.Reply.the-variants.{Accepted}
-use Rattle.machine.specs.Sides.{Side, left, right, sideNumber}
+use Rattle.machine.specs.Sides.{Side, sideNumber}
 use Rattle.machine.specs.Values.{stored, bagOk}
 use Rattle.machine.specs.Operations.{push, operationNumber}
 use Rattle.machine.specs.Table.{nodeCount, growth, laneCount}

@@ -1,5 +1,7 @@
 -- The machine for one user: the table stands as its state, gives its answers, and stands as the next one.
 
+-- What a call leaves of a state.
+pub mod States
 -- The table that stands as a state; its refusals and its reads.
 pub mod Standing
 -- One whole call.
@@ -8,7 +10,9 @@ pub mod Step
 pub mod Started
 -- One whole call after another.
 pub mod Theorem
--- What fits.
+-- What fits, and what to do about "full".
 pub mod Room
--- A worked example, computed.
+pub mod GiveBack
+pub mod FullAdvice
+-- Worked examples, computed.
 pub mod Example

@@ -1,5 +1,5 @@
--- Calls alone, exactly: on a table with no task in a call, what a call that gets all the ticks answers, and the five numbers
--- of its lane that it leaves.
+-- Calls alone, exactly: on a table with no task in a call, what a call that gets all the ticks answers, and the five
+-- numbers of its lane that it leaves.
 use mathlib.Core.Path.{_≡_}
 use mathlib.Core.Logic.{_≢_}
 use mathlib.Core.Bool.{true, false}
@@ -22,8 +22,8 @@ use Rattle.progress.specs.Solo.{HintsBelow}
 use Rattle.capacity.specs.NoLeak.{Idle, LaneShape, IdleTable, AllCounted}
 use Rattle.capacity.specs.Capacity.{AloneTo}
 
--- ---- What a call finds at its end of the lane: the bags, spare nodes, and a node beside the list under the hat (a spur: 1,
--- else 0); and what it answers and leaves there.
+-- ---- What a call finds at its end of the lane: the bags, r spare nodes, and y nodes beside the list under the hat (a
+-- spur: 1, else 0); and what it answers and leaves there.
 pub record Outcome : Type 0 where
   pub answer : Answer
   pub bags : List ℕ
@@ -41,7 +41,8 @@ fromEnd right bags = reverse bags
 abbrev pub least : ℕ → ℕ → ℕ
 least a b = if a <? b then a else b
 
--- A push of v, with growth g and f free nodes.
+-- A push of v, with growth g and f free nodes. Where no spare node but the last is left, it leaves its spur and then
+-- takes nodes, that one among them.
 abbrev pub pushAlone : Side → (v g f : ℕ) → (bags : List ℕ) → (r y : ℕ) → Outcome
 pushAlone s v g f bags r y =
     if 1 <? r then leaves Pushed (put s v bags) (r - 1) 0 else
@@ -56,13 +57,14 @@ popFrom s (b ∷ rest) r y = leaves (Bag b) (fromEnd s rest) (suc r) 0
 abbrev pub popAlone : Side → (bags : List ℕ) → (r y : ℕ) → Outcome
 popAlone s bags r y = popFrom s (fromEnd s bags) r y
 
--- An add of n.
+-- An add of n, which leaves its spur when it has taken its nodes.
 abbrev pub addAlone : (n f : ℕ) → (bags : List ℕ) → (r y : ℕ) → Outcome
 addAlone n f bags r y =
     if f ≟ 0 then leaves No bags r y else
     leaves Yes bags (r + least f (suc n)) 0
 
--- A remove of n: what it cuts off is free.
+-- A remove of n: it keeps n spare nodes and the last, and what it cuts off is free. A single node more is the last one,
+-- which it cannot mark.
 abbrev pub removeAlone : (n : ℕ) → (bags : List ℕ) → (r y : ℕ) → Outcome
 removeAlone n bags r y =
     if y ≟ 1 then leaves Yes bags r y else
@@ -70,7 +72,7 @@ removeAlone n bags r y =
     if r ≟ n + 2 then leaves No bags r y else
     leaves Yes bags (suc n) 0
 
--- An operation on side s, with its argument, the table's growth and f free nodes.
+-- An operation on side s, with its argument, the table's growth and f free nodes. ("Idle" is never begun.)
 abbrev pub alone : Operation → Side → (argument g f : ℕ) → (bags : List ℕ) → (r y : ℕ) → Outcome
 alone idle s n g f bags r y = leaves Going bags r y
 alone push s n g f bags r y = pushAlone s n g f bags r y
@@ -108,7 +110,8 @@ pub record LeavesIdle (ws vs : List ℕ) (T : IdleTable ws) (ℓ : ℕ) (s : Sid
   pub others : (T' : IdleTable vs) (j : ℕ) → j < laneCount ws → j ≢ ℓ → SameNumbers (T .shape j) (T' .shape j)
 
 -- What is said of a call on side s of lane ℓ of a table with no task in a call.
-abbrev pub aloneAt : (ws : List ℕ) (T : IdleTable ws) → AllCounted ws T → (ℓ : ℕ) → Operation → Side → (argument : ℕ) → Outcome
+abbrev pub aloneAt : (ws : List ℕ) (T : IdleTable ws) → AllCounted ws T → (ℓ : ℕ) → Operation → Side → (argument : ℕ)
+    → Outcome
 aloneAt ws T C ℓ op s n =
     alone op s n (growth ws) (C .free) (T .shape ℓ .bags) (spareOf s (T .shape ℓ)) (spurOf s (T .shape ℓ))
 

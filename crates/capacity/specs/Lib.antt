@@ -3,3 +3,4 @@ pub mod Capacity
 pub mod Alone
 pub mod OneUser
 pub mod OneUserExactly
+pub mod Room

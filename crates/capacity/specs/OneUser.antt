@@ -1,24 +1,26 @@
 -- The machine for one user: who makes one whole call after another, each a begin whose task then gets all the ticks,
 -- needs to know only this page.
+use mathlib.Core.Path.{_≡_}
 use mathlib.Core.Bool.{Bool, not, _&&_}
 use mathlib.Core.List.{List, [], _∷_}
 use mathlib.Core.Option.{Option, some, none as nothing}
-use Prim.Native.Nat.{ℕ, _+_, _*_, _-_}
+use Prim.Native.Nat.{ℕ, _+_, _*_, _-_, _≤_, _<_}
 use lib.Dec.{leb, ltb}
 use lib.ListN.{length}
 use Rattle.machine.specs.declared.Answer.{Answer}
 use Rattle.machine.specs.declared.Answer.the-variants.{Refused}
 use Rattle.machine.specs.declared.Stored.{Stored}
 use Rattle.machine.specs.Choice.{_≟_, if_then_else_}
-use Rattle.machine.specs.Sides.{Side, left, right, sideOf}
-use Rattle.machine.specs.Values.{number}
-use Rattle.machine.specs.Operations.{Operation, operationOf, argumentOk}
+use Rattle.machine.specs.Sides.{Side, left, right, sideNumber, sideOf}
+use Rattle.machine.specs.Values.{number, stored}
+use Rattle.machine.specs.Operations.{Operation, operationNumber, operationOf, argumentOk}
 use Rattle.machine.specs.Calls.{unless, isPush, isAmong}
 use Rattle.machine.specs.Twice.{rowsBelow}
+use Rattle.capacity.specs.NoLeak.{total}
 use Rattle.capacity.specs.Alone.{Outcome, alone}
 
--- ---- What is kept: of each lane its bags, left end first, and at each of its ends how much is spare and whether there is
--- a spur (1, else 0); and how much is free for all lanes.
+-- ---- What is kept: of each lane its bags, left end first, and at each of its ends how much is spare and whether there
+-- is a spur (1, else 0); and how much is free for all lanes.
 pub record LaneState : Type 0 where
   pub bags : List ℕ
   pub spare : Side → ℕ
@@ -46,6 +48,11 @@ pub record WholeCall : Type 0 where
   pub operation : ℕ
   pub side : ℕ
   pub argument : Stored
+
+-- A call by its operation, side and number.
+abbrev pub callOf : (task lane : ℕ) → Operation → Side → (argument : ℕ) → WholeCall
+callOf k l op s n =
+    record { task = k; lane = l; operation = operationNumber op; side = sideNumber s; argument = stored n }
 
 -- ---- Its refusals.
 abbrev pub bagsOf : State → List ℕ
@@ -119,3 +126,13 @@ allCalls σ (c ∷ cs) =
     let one = oneCall σ c in
     let rest = allCalls (one .state) cs in
     record { answers = one .answer ∷ rest .answers; state = rest .state }
+
+-- ---- What is true of the state of a table of S nodes: at each end something is spare, and there is one spur at most;
+-- and every node is a bag's, spare, a spur or free.
+abbrev pub sizeOf : LaneState → ℕ
+sizeOf i = length (i .bags) + (i .spare left + i .spur left) + (i .spare right + i .spur right)
+
+pub record Holds (S : ℕ) (σ : State) : Type 0 where
+  pub some-spare : (l : ℕ) → l < σ .lanes → (s : Side) → 1 ≤ σ .lane l .spare s
+  pub one-spur : (l : ℕ) → l < σ .lanes → (s : Side) → σ .lane l .spur s ≤ 1
+  pub all-counted : σ .free + total (λ l. sizeOf (σ .lane l)) (σ .lanes) ≡ S

@@ -15,7 +15,7 @@ use Rattle.machine.specs.Sides.{Side, sideNumber, sideOf}
 use Rattle.machine.specs.Values.{Y, stored, number}
 use Rattle.machine.specs.Operations.{Operation, idle, push, pop, add, remove, operationNumber, operationOf}
 use Rattle.machine.specs.Tasks.{Task}
-use Rattle.machine.specs.Table.{nodeCount, laneCount, hat, value, task, setTask}
+use Rattle.machine.specs.Table.{nodeCount, laneCount, hat, value, setTask}
 use Rattle.machine.specs.Answers.{isGoing}
 use Rattle.machine.specs.Calls.{isBusy, beginRefusal, changed, begunTask, begin, tick}
 use Rattle.machine.specs.Begun.{Begun}

@@ -1,33 +1,30 @@
--- Twelve whole calls on six nodes, two tasks, growth 1 and one lane, computed by the state alone.
+-- Worked examples, computed by the state alone: whole calls with their refusals, and what to do about "full".
 use mathlib.Core.Path.{_≡_, refl}
 use mathlib.Core.List.{List, [], _∷_}
 use Prim.Native.Nat.{ℕ}
 use native.Mathlib.Decide.{ℕ-discrete, decLt}
-use Rattle.machine.specs.declared.Answer.the-variants.{Pushed, Bag, Empty, Yes, No, Refused}
-use Rattle.machine.specs.Sides.{Side, left, right, sideNumber}
-use Rattle.machine.specs.Values.{stored}
-use Rattle.machine.specs.Operations.{Operation, push, pop, add, remove, operationNumber}
+use Rattle.machine.specs.declared.Answer.the-variants.{Pushed, Bag, Empty, Full, Yes, No, Refused}
+use Rattle.machine.specs.Sides.{left, right}
+use Rattle.machine.specs.Operations.{push, pop, add, remove}
 use Rattle.machine.specs.Twice.{rowsBelow}
-use Rattle.capacity.specs.OneUser.{startState, WholeCall, allCalls}
+use Rattle.capacity.specs.OneUser.{State, startState, WholeCall, callOf, allCalls}
+use Rattle.capacity.specs.Room.{room, Loader, giveBack, lastAnswer}
 
-abbrev call : (task lane : ℕ) → Operation → Side → (argument : ℕ) → WholeCall
-call k l op s n =
-    record { task = k; lane = l; operation = operationNumber op; side = sideNumber s; argument = stored n }
-
+-- ---- Twelve whole calls on six nodes, two tasks, growth 1 and one lane.
 abbrev calls : List WholeCall
 calls =
-    call 0 0 push right 51
-    ∷ call 1 0 push left 51
-    ∷ call 0 1 push right 52
-    ∷ call 2 0 push right 52
-    ∷ call 0 0 push right 0
-    ∷ call 0 0 pop left 0
-    ∷ call 1 0 pop left 0
-    ∷ call 0 0 add right 1
-    ∷ call 0 0 add left 0
-    ∷ call 0 0 remove right 0
-    ∷ call 0 0 remove left 0
-    ∷ call 0 0 push left 51
+    callOf 0 0 push right 51
+    ∷ callOf 1 0 push left 51
+    ∷ callOf 0 1 push right 52
+    ∷ callOf 2 0 push right 52
+    ∷ callOf 0 0 push right 0
+    ∷ callOf 0 0 pop left 0
+    ∷ callOf 1 0 pop left 0
+    ∷ callOf 0 0 add right 1
+    ∷ callOf 0 0 add left 0
+    ∷ callOf 0 0 remove right 0
+    ∷ callOf 0 0 remove left 0
+    ∷ callOf 0 0 push left 51
     ∷ []
 
 pub worked : allCalls (startState 6 2 1 1) calls .answers
@@ -36,10 +33,37 @@ unfolding allCalls rowsBelow ℕ-discrete decLt
 worked = refl
 
 -- What is spare and free then: left 1, right 1, free 3.
-pub left-then : allCalls (startState 6 2 1 1) calls .state .lane 0 .spare left ≡ 1
+pub worked-numbers :
+    (allCalls (startState 6 2 1 1) calls .state .lane 0 .spare left ≡ 1)
+    × (allCalls (startState 6 2 1 1) calls .state .lane 0 .spare right ≡ 1)
+    × (allCalls (startState 6 2 1 1) calls .state .free ≡ 3)
 unfolding allCalls rowsBelow ℕ-discrete decLt
-left-then = refl
+worked-numbers = (refl, refl, refl)
 
-pub free-then : allCalls (startState 6 2 1 1) calls .state .free ≡ 3
-unfolding allCalls rowsBelow ℕ-discrete decLt
-free-then = refl
+-- ---- Seven nodes and one lane: four nodes are added on the left, and a push on the right takes the last one.
+abbrev crowded : State
+crowded = allCalls (startState 7 1 0 1) (callOf 0 0 add left 3 ∷ callOf 0 0 push right 51 ∷ []) .state
+
+abbrev onLeft : Loader
+onLeft = record { task = 0; lane = 0; side = left; tag = 53 }
+
+-- The next push there is "full". Of the five spare nodes on the left four are given back, and then it is "pushed".
+pub given-back :
+    (lastAnswer crowded (callOf 0 0 push right 52) [] ≡ Full)
+    × (room crowded 0 left ≡ 4)
+    × (giveBack crowded onLeft .free ≡ 4)
+    × (lastAnswer crowded (callOf 0 0 push right 52) (onLeft ∷ []) ≡ Pushed)
+unfolding lastAnswer allCalls rowsBelow ℕ-discrete decLt
+given-back = (refl, refl, refl, refl)
+
+-- With two spare nodes there, a remove of 0 says "no", and the push stays "full".
+abbrev twoSpare : State
+twoSpare = allCalls (startState 4 1 0 1) (callOf 0 0 add left 0 ∷ callOf 0 0 push right 51 ∷ []) .state
+
+pub not-given-back :
+    (room twoSpare 0 left ≡ 1)
+    × (giveBack twoSpare onLeft .free ≡ 0)
+    × (lastAnswer twoSpare (callOf 0 0 push right 52) (onLeft ∷ []) ≡ Full)
+    × (allCalls twoSpare (callOf 0 0 remove left 0 ∷ []) .answers ≡ (No ∷ []))
+unfolding lastAnswer allCalls rowsBelow ℕ-discrete decLt
+not-given-back = (refl, refl, refl, refl)

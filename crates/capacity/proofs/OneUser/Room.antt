@@ -1,42 +1,43 @@
--- What fits, by the state alone.
+-- What fits, by the state alone: how many new tags an end takes, and when a call is "full".
 use mathlib.Core.Path.{_≡_, refl, sym, ap, _∙_, subst}
 use mathlib.Core.Logic.{_≢_}
 use mathlib.Core.Bool.{Bool, true, false, _||_}
 use mathlib.Core.List.{List, [], _∷_}
-use mathlib.Core.Option.{Option, none as nothing}
+use mathlib.Core.Option.{Option, some, none as nothing}
 use Prim.Native.Nat.{ℕ, suc, _+_, _-_, _≤_, _<_}
 use native.Mathlib.Omega.{arith}
 use native.Mathlib.Decide.{ℕ-discrete}
-use lib.Dec.{leb, eqb}
+use lib.Dec.{leb, ltb, eqb}
 use lib.ListN.{length}
-use borrow.Author.Tests.{eqb-false, lt-ltb}
+use borrow.Author.Tests.{eqb-false, ltb-true, lt-ltb}
 use Rattle.machine.specs.declared.Answer.{Answer}
 use Rattle.machine.specs.declared.Answer.the-variants.{Pushed, Full}
 use Rattle.machine.specs.Choice.{_≟_, _<?_}
 use Rattle.machine.specs.Sides.{Side, left, right, sideNumber, sideOf}
 use Rattle.machine.specs.Values.{stored, number, bagOk}
-use Rattle.machine.specs.Operations.{Operation, push, operationNumber, operationOf}
+use Rattle.machine.specs.Operations.{Operation, idle, push, pop, add, remove, operationOf}
 use Rattle.machine.specs.Calls.{isAmong}
 use Rattle.machine.specs.Row.{put}
 use Rattle.machine.specs.Begun.{count}
 use Rattle.machine.specs.Twice.{rowsBelow}
-use Rattle.capacity.specs.Alone.{Outcome, least, pushAlone}
+use Rattle.capacity.specs.Alone.{Outcome, fromEnd, pushAlone, popFrom, alone}
 use Rattle.capacity.specs.OneUser.{
   LaneState,
   State,
   WholeCall,
+  callOf,
   bagsOf,
   refusal,
   outcome,
-  withSide,
   freeThen,
   stateThen,
   Done,
   callDone,
   oneCall,
   allCalls,
+  Holds,
 }
-use Rattle.capacity.specs.OneUserExactly.{
+use Rattle.capacity.specs.Room.{
   room,
   Pushes,
   pushAnswers,
@@ -48,29 +49,17 @@ use Rattle.capacity.specs.OneUserExactly.{
 }
 use Rattle.machine.proofs.Basics.Contradiction.{clash}
 use Rattle.machine.proofs.Basics.Choices.{by-if}
+use Rattle.machine.proofs.Basics.Tests.{test-passed}
 use Rattle.machine.proofs.Words.RecordLaws.{operation-of-number, side-of-number}
 use Rattle.machine.proofs.Words.ValueLaws.{number-stored}
 use Rattle.machine.proofs.Linearizability.Twice.Lists.{count-other, count-append, not-counted, not-among, rows-changed}
 use Rattle.capacity.proofs.Alone.Outcomes.{one-more, no-room, pushing}
+use Rattle.capacity.proofs.OneUser.States.{spare-then, spur-then, call-done}
 
 -- ---- The room in the next state.
-with-side : (s : Side) (n : ℕ) (f : Side → ℕ) → withSide s n f s ≡ n
-with-side left n f = refl
-with-side right n f = refl
-
 module _ (σ : State) (l : ℕ) (s : Side) (o : Outcome) where
-  spare-then : stateThen σ l s o .lane l .spare s ≡ o .spare
-  spare-then =
-      by-if (λ (i : LaneState). i .spare s ≡ o .spare) (l ≟ l) (λ _. with-side s (o .spare) (σ .lane l .spare))
-      (λ ne. absurd (ne refl))
-
-  spur-then : stateThen σ l s o .lane l .spur s ≡ o .spur
-  spur-then =
-      by-if (λ (i : LaneState). i .spur s ≡ o .spur) (l ≟ l) (λ _. with-side s (o .spur) (σ .lane l .spur))
-      (λ ne. absurd (ne refl))
-
   room-then : room (stateThen σ l s o) l s ≡ o .spare + o .spur + freeThen σ l s o - 1
-  room-then = let a = spare-then in let b = spur-then in omega arith
+  room-then = let a = spare-then σ l s o in let b = spur-then σ l s o in omega arith
 
 -- ---- A push that is not refused.
 pub data Pushed-to (m : ℕ) (l : ℕ) (s : Side) (d : Done) : Type 0 where
@@ -90,7 +79,7 @@ by-outcome σ l s v h =
           is-full e (room-then σ l s o ∙ e') a (subst (λ (i : ℕ). 1 ≤ i) (sym (spare-then σ l s o)) kept)
     ]
 
-one-push : (σ : State) (l : ℕ) (s : Side) (c : WholeCall) → 1 ≤ σ .lane l .spare s → refusal σ c ≡ nothing → c .lane ≡ l
+pub one-push : (σ : State) (l : ℕ) (s : Side) (c : WholeCall) → 1 ≤ σ .lane l .spare s → refusal σ c ≡ nothing → c .lane ≡ l
     → operationOf (c .operation) ≡ push
     → sideOf (c .side) ≡ s
     → Pushed-to (room σ l s) l s (oneCall σ c)
@@ -173,31 +162,18 @@ all-new bags bags′ v keeps (w ∷ tags) off new =
       all-new bags bags′ v keeps tags (both .1) (new .3),
     )
 
-side-passes : (z : Side) → leb (sideNumber z) 1 ≡ true
+pub side-passes : (z : Side) → leb (sideNumber z) 1 ≡ true
 side-passes left = refl
 side-passes right = refl
 
 module _ (k l : ℕ) (s : Side) where
-  abbrev pushOf : ℕ → WholeCall
-  pushOf v = record { task = k; lane = l; operation = operationNumber push; side = sideNumber s; argument = stored v }
-
-  not-refused : (σ : State) (v : ℕ) → k < σ .tasks → l < σ .lanes → bagOk (stored v) ≡ true → isAmong v (bagsOf σ) ≡ false
-      → refusal σ (pushOf v) ≡ nothing
+  pub not-refused : (σ : State) (v : ℕ) → k < σ .tasks → l < σ .lanes → bagOk (stored v) ≡ true → isAmong v (bagsOf σ) ≡ false
+      → refusal σ (callOf k l push s v) ≡ nothing
   unfolding ℕ-discrete
   not-refused σ v is-task is-lane is-bag new =
       let new′ : isAmong (number (stored v)) (bagsOf σ) ≡ false =
       ap (λ (n : ℕ). isAmong n (bagsOf σ)) (number-stored v) ∙ new in
       rw (lt-ltb l (σ .lanes) is-lane, lt-ltb k (σ .tasks) is-task, side-passes s, is-bag, new′)
-
-  -- What it comes to.
-  push-state : (σ : State) (v : ℕ) → refusal σ (pushOf v) ≡ nothing
-      → oneCall σ (pushOf v) .state ≡ stateThen σ l s (outcome σ l push s v)
-  push-state σ v passes =
-      let F : Operation → Side → ℕ → State = λ op z n. stateThen σ l z (outcome σ l op z n) in
-      ap (λ (r : Option ℕ). callDone r σ (pushOf v) .state) passes
-      ∙ ap (λ (op : Operation). F op (sideOf (sideNumber s)) (number (stored v))) (operation-of-number push)
-      ∙ ap (λ (z : Side). F push z (number (stored v))) (side-of-number s)
-      ∙ ap (F push s) (number-stored v)
 
   pushes-new : (σ : State) (tags : List ℕ) → k < σ .tasks → l < σ .lanes → AllNew (bagsOf σ) tags
       → Pushes l s σ (pushCalls k l s tags)
@@ -209,7 +185,7 @@ module _ (k l : ℕ) (s : Side) where
         refl,
         (operation-of-number push),
         side-of-number s,
-        subst (λ (τ : State). Pushes l s τ (pushCalls k l s tags)) (sym (push-state σ v passes))
+        subst (λ (τ : State). Pushes l s τ (pushCalls k l s tags)) (sym (ap (λ (d : Done). d .state) (call-done σ k l push s v passes)))
             (pushes-new next tags is-task is-lane
             (all-new (bagsOf σ) (bagsOf next) v (λ w ne q. still-new σ l s v w is-lane ne q) tags (new .2) (new .3))),
       )
@@ -225,3 +201,73 @@ new-tags-fit σ k l s tags is-task is-lane some-spare new =
 
 pub start-room : StartRoom
 start-room S T g s h = omega arith
+
+-- ---- What is known of a state at each of its ends.
+pub record EndsHold (σ : State) : Type 0 where
+  pub some-spare : (l : ℕ) → l < σ .lanes → (s : Side) → 1 ≤ σ .lane l .spare s
+  pub one-spur : (l : ℕ) → l < σ .lanes → (s : Side) → σ .lane l .spur s ≤ 1
+
+pub ends-hold : {S : ℕ} {σ : State} → Holds S σ → EndsHold σ
+ends-hold H = record { some-spare = H .some-spare; one-spur = H .one-spur }
+
+-- ---- A call that is "full" is a push, at an end that has no room.
+full-pushes : (op : Operation) (s : Side) (n g f : ℕ) (bags : List ℕ) (r y : ℕ)
+    → alone op s n g f bags r y .answer ≡ Full
+    → op ≡ push
+full-pushes push s n g f bags r y = λ e. refl
+full-pushes idle s n g f bags r y = λ e. clash (cc)
+full-pushes pop s n g f bags r y = go (fromEnd s bags)
+  where
+    go : (l : List ℕ) → popFrom s l r y .answer ≡ Full → pop ≡ push
+    go [] e = clash (cc)
+    go (b ∷ l) e = clash (cc)
+full-pushes add s n g f bags r y =
+    by-if (λ (o : Outcome). o .answer ≡ Full → add ≡ push) (f ≟ 0) (λ _ e. clash (cc)) (λ _ e. clash (cc))
+full-pushes remove s n g f bags r y =
+    by-if (λ (o : Outcome). o .answer ≡ Full → remove ≡ push) (y ≟ 1) (λ _ e. clash (cc)) (λ _.
+    by-if (λ (o : Outcome). o .answer ≡ Full → remove ≡ push) (r <? n + 2) (λ _ e. clash (cc)) (λ _.
+    by-if (λ (o : Outcome). o .answer ≡ Full → remove ≡ push) (r ≟ n + 2) (λ _ e. clash (cc)) (λ _ e. clash (cc))))
+
+-- A push that is not refused, at the end of a lane that there is.
+pub record IsPush (σ : State) (c : WholeCall) : Type 0 where
+  pub passes : refusal σ c ≡ nothing
+  pub is-push : operationOf (c .operation) ≡ push
+  pub is-lane : c .lane < σ .lanes
+
+lane-passes : (σ : State) (c : WholeCall) → refusal σ c ≡ nothing → c .lane < σ .lanes
+lane-passes σ c e = ltb-true (c .lane) (σ .lanes) (test-passed (ltb (c .lane) (σ .lanes)) 26 _ e)
+
+pub full-push : (σ : State) (c : WholeCall) → oneCall σ c .answer ≡ Full → IsPush σ c
+full-push σ c = go (refusal σ c) refl
+  where
+    go : (o : Option ℕ) → refusal σ c ≡ o → callDone o σ c .answer ≡ Full → IsPush σ c
+    go (some n) q e = clash (cc)
+    go nothing q e =
+        let i = σ .lane (c .lane) in
+        let s = sideOf (c .side) in
+        record {
+          passes = q;
+          is-push =
+              full-pushes (operationOf (c .operation)) s (number (c .argument)) (σ .growth) (σ .free) (i .bags)
+              (i .spare s) (i .spur s) e;
+          is-lane = lane-passes σ c q;
+        }
+
+-- Whether it is "full" is a matter of the room at its end.
+module _ {σ : State} (H : EndsHold σ) (c : WholeCall) (P : IsPush σ c) where
+  abbrev pub ownRoom : ℕ
+  ownRoom = room σ (c .lane) (sideOf (c .side))
+
+  pushed-to : Pushed-to (room σ (c .lane) (sideOf (c .side))) (c .lane) (sideOf (c .side)) (oneCall σ c)
+  pushed-to =
+      one-push σ (c .lane) (sideOf (c .side)) c (H .some-spare (c .lane) (P .is-lane) (sideOf (c .side))) (P .passes) refl
+      (P .is-push) refl
+
+  pub with-room : 1 ≤ ownRoom → oneCall σ c .answer ≡ Pushed
+  with-room l = elim pushed-to [ is-pushed n e q a kept ↦ a | is-full e q a kept ↦ absurd (omega arith) ]
+
+  pub without-room : ownRoom ≡ 0 → oneCall σ c .answer ≡ Full
+  without-room z = elim pushed-to [ is-pushed n e q a kept ↦ absurd (omega arith) | is-full e q a kept ↦ a ]
+
+  pub full-no-room : oneCall σ c .answer ≡ Full → ownRoom ≡ 0
+  full-no-room full = elim pushed-to [ is-pushed n e q a kept ↦ clash (cc) | is-full e q a kept ↦ e ]

@@ -3,9 +3,10 @@ use mathlib.Core.Path.{_≡_, refl, sym, ap, _∙_, subst}
 use mathlib.Core.Bool.{Bool, true, false, not, _||_}
 use mathlib.Core.List.{List}
 use mathlib.Core.Option.{some, none as nothing}
-use Prim.Native.Nat.{ℕ, zero, suc, _≤_, _<_}
+use Prim.Native.Nat.{ℕ, zero, suc, _+_, _≤_, _<_}
 use native.Mathlib.Omega.{arith}
 use lib.Dec.{ltb}
+use lib.ListN.{length}
 use borrow.Author.Tests.{ltb-true}
 use Rattle.machine.specs.Sides.{Side, left, right}
 use Rattle.machine.specs.Values.{number}
@@ -25,11 +26,13 @@ use Rattle.machine.specs.Calls.{
 }
 use Rattle.machine.specs.Begun.{Begun}
 use Rattle.machine.specs.Twice.{rowsBelow}
-use Rattle.capacity.specs.NoLeak.{Idle, IdleTable, AllCounted}
+use Rattle.capacity.specs.NoLeak.{Idle, laneSize, IdleTable, total, AllCounted}
 use Rattle.capacity.specs.Alone.{spareOf, spurOf}
-use Rattle.capacity.specs.OneUser.{State, WholeCall, bagsOf, isTwice, refusal}
+use Rattle.capacity.specs.OneUser.{State, WholeCall, bagsOf, isTwice, refusal, sizeOf, Holds}
 use Rattle.capacity.specs.OneUserExactly.{readFrom, StandsAs}
 use Rattle.machine.proofs.Linearizability.Corollaries.{no-call-refused-with-3-or-4}
+use Rattle.capacity.proofs.Counting.{total-same}
+use Rattle.capacity.proofs.Alone.Ends.{same-spares, same-spurs, spur-by-hat, idle-end}
 use Rattle.capacity.proofs.Alone.Rows.{lanes-below}
 
 pub record Standing (S : ℕ) (ws : List ℕ) (σ : State) : Type 0 where
@@ -94,9 +97,42 @@ module _ {S : ℕ} {ws : List ℕ} {σ : State} (P : Standing S ws σ) where
       go true e = rw (passes, e, read, lane-is l (ltb-true l (laneCount ws) e))
       go false e = rw (passes, e, read)
 
-  some-spare : (l : ℕ) → l < laneCount ws → (s : Side) → 1 ≤ σ .lane l .spare s
-  some-spare l h left = subst (λ (n : ℕ). 1 ≤ n) (P .spare-is l h left) (P .table .idle-lane l h .main-list .some-left)
-  some-spare l h right = subst (λ (n : ℕ). 1 ≤ n) (P .spare-is l h right) (P .table .idle-lane l h .main-list .some-right)
+  -- ---- The numbers, which are the same in whatever way the table is taken for an idle one.
+  module _ (T : IdleTable ws) (l : ℕ) (h : l < laneCount ws) (s : Side) where
+    spare-same : spareOf s (T .shape l) ≡ σ .lane l .spare s
+    spare-same = same-spares (idle-end (T .idle-lane l h) s) (idle-end (P .table .idle-lane l h) s) ∙ P .spare-is l h s
+
+    spur-same : spurOf s (T .shape l) ≡ σ .lane l .spur s
+    spur-same = same-spurs (idle-end (T .idle-lane l h) s) (idle-end (P .table .idle-lane l h) s) ∙ P .spur-is l h s
+
+  holds : Holds (nodeCount ws) σ
+  holds =
+      record {
+        some-spare =
+            λ l h s.
+            let k = lane-there l h in
+            subst (λ (n : ℕ). 1 ≤ n) (P .spare-is l k s) (idle-end (P .table .idle-lane l k) s .spares .some);
+        one-spur =
+            λ l h s.
+            let k = lane-there l h in
+            subst (λ (n : ℕ). n ≤ 1) (P .spur-is l k s) (spur-by-hat (idle-end (P .table .idle-lane l k) s) .2);
+        all-counted = counted-by-state;
+      }
+    where
+      size-is : (l : ℕ) → l < laneCount ws → laneSize (P .table .shape l) ≡ sizeOf (σ .lane l)
+      size-is l h =
+          let a = P .spare-is l h left in
+          let b = P .spare-is l h right in
+          let c = P .spur-is l h left in
+          let d = P .spur-is l h right in
+          let e = ap length (P .bags-are l h) in
+          omega arith
+
+      counted-by-state : σ .free + total (λ l. sizeOf (σ .lane l)) (σ .lanes) ≡ nodeCount ws
+      counted-by-state =
+          let same = total-same (λ l. laneSize (P .table .shape l)) (λ l. sizeOf (σ .lane l)) (laneCount ws) size-is in
+          let lanes = ap (total (λ l. sizeOf (σ .lane l))) (P .lanes-are) in
+          omega (arith, P .counted .all-counted, P .free-is)
 
   pub stands-as : StandsAs ws σ
   stands-as =
@@ -106,7 +142,9 @@ module _ {S : ℕ} {ws : List ℕ} {σ : State} (P : Standing S ws σ) where
         growth-is = P .growth-is;
         lanes-are = P .lanes-are;
         lane-is = λ l h. lane-is l (lane-there l h);
-        some-spare = λ l h. some-spare l (lane-there l h);
+        spare-is = λ T l h. spare-same T l (lane-there l h);
+        spur-is = λ T l h. spur-same T l (lane-there l h);
         free-are = rw (sym (P .free-is)) (P .counted .free-nodes);
+        holds = holds;
         reads = reads;
       }

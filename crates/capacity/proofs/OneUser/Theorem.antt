@@ -21,7 +21,6 @@ use Rattle.machine.specs.Table.{nodeCount, taskCount, growth, laneCount}
 use Rattle.machine.specs.Answers.{isGoing}
 use Rattle.machine.specs.Calls.{unless, start, begin, Ticked, tick, ticks}
 use Rattle.machine.specs.Begun.{Begun}
-use Rattle.progress.specs.Solo.{HintsBelow}
 use Rattle.capacity.specs.NoLeak.{Idle, IdleTable, AllCounted}
 use Rattle.capacity.specs.Alone.{Outcome, fromEnd, popFrom, alone, spareOf, spurOf, ticksWith}
 use Rattle.capacity.specs.OneUser.{State, startState, WholeCall, isTwice, refusal, outcome, callDone, oneCall, allCalls}
@@ -34,14 +33,13 @@ use Rattle.capacity.specs.OneUserExactly.{
   StandsAs,
   OneUser,
   NeverGoing,
-  OnlyThese,
+  FiveRefusals,
   FromAnyIdle,
   ticksThen,
   rowThen,
-  rowCall,
   InARow,
-  Once,
-  callsOnce,
+  OneHint,
+  callsOfOne,
   HintedBelow,
   Played,
   rowCalls,
@@ -51,6 +49,7 @@ use Rattle.machine.proofs.Basics.Contradiction.{clash, refute}
 use Rattle.machine.proofs.Basics.Choices.{by-if}
 use Rattle.machine.proofs.Basics.Tests.{and-left, and-right, test-passed, tests-left}
 use Rattle.capacity.proofs.Theorem.{no-leak}
+use Rattle.capacity.proofs.Alone.Theorem.{same-hints}
 use Rattle.capacity.proofs.OneUser.Standing.{Standing, stands-as}
 use Rattle.capacity.proofs.OneUser.Step.{one-call}
 use Rattle.capacity.proofs.OneUser.Started.{start-stands}
@@ -187,8 +186,8 @@ these true true true false e n q = inr (inr (inr (inl (cc))))
 these true true true true false n q = inr (inr (inr (inr (cc))))
 these true true true true true n q = clash (cc)
 
-pub only-these : OnlyThese
-only-these σ c n e =
+pub five-refusals : FiveRefusals
+five-refusals σ c n e =
     these (ltb (c .lane) (σ .lanes)) (ltb (c .task) (σ .tasks))
     (leb 1 (c .operation) && leb (c .operation) 4 && leb (c .side) 1)
     (argumentOk (operationOf (c .operation)) (c .argument))
@@ -214,25 +213,21 @@ in-a-row ws c n h =
     go Accepted us = row-ticks n us (c .task) h
     go (Reply-Refused m) us = refl
 
-below : (S n h : ℕ) → h < S → HintsBelow S (replicate n h)
-below S zero h l = tt
-below S (suc n) h l = (l, below S n h l)
-
-abbrev spread : (n : ℕ) → List Once → List Hinted
+abbrev spread : (n : ℕ) → List OneHint → List Hinted
 spread n [] = []
 spread n (c ∷ cs) = record { call = c .call; hints = replicate n (c .hint) } ∷ spread n cs
 
-spread-calls : (n : ℕ) (calls : List Once) → callsOf (spread n calls) ≡ callsOnce calls
+spread-calls : (n : ℕ) (calls : List OneHint) → callsOf (spread n calls) ≡ callsOfOne calls
 spread-calls n [] = refl
 spread-calls n (c ∷ calls) = ap (λ (l : List WholeCall). c .call ∷ l) (spread-calls n calls)
 
-spread-enough : (S : ℕ) (calls : List Once) → HintedBelow S calls → Enough S (spread (4 * S + 154) calls)
+spread-enough : (S : ℕ) (calls : List OneHint) → HintedBelow S calls → Enough S (spread (4 * S + 154) calls)
 spread-enough S [] b = tt
 spread-enough S (c ∷ calls) b =
     let long = length-replicate (4 * S + 154) (c .hint) in
-    (below S (4 * S + 154) (c .hint) (b .0), omega arith, spread-enough S calls (b .1))
+    (same-hints S (4 * S + 154) (c .hint) (b .0), omega arith, spread-enough S calls (b .1))
 
-rows-are : (n : ℕ) (calls : List Once) (ws : List ℕ) → wholeCalls ws (spread n calls) ≡ rowCalls n ws calls
+rows-are : (n : ℕ) (calls : List OneHint) (ws : List ℕ) → wholeCalls ws (spread n calls) ≡ rowCalls n ws calls
 unfolding wholeCalls rowCalls
 rows-are n [] ws = refl
 rows-are n (c ∷ calls) ws =
