@@ -2,6 +2,7 @@
 
 -- The ends of a lane in a table with no task in a call.
 pub mod Ends
+pub mod CallEnds
 -- A call tick by tick, what it leaves, and the rows.
 pub mod Runs
 pub mod Left

@@ -20,5 +20,3 @@ pub mod BeginKeeps
 pub mod DispatchKeeps
 pub mod Theorem
 pub mod Schedules
--- The cabinet drains.
-pub mod Drain

@@ -15,21 +15,20 @@ use Rattle.machine.specs.Table.{nodeCount, growth, laneCount, hat, value}
 use Rattle.machine.specs.Lines.{Effect, next, act}
 use Rattle.machine.specs.Calls.{begunTask}
 use Rattle.machine.specs.Reach.{Reachable, from-hat}
-use Rattle.machine.specs.Begun.{Begun}
-use Rattle.capacity.specs.NoLeak.{Idle, HatPlace, in-list, beside, IdleTable}
-use Rattle.capacity.specs.Alone.{spareOf, spurOf}
+use Rattle.capacity.specs.NoLeak.{HatPlace, in-list, beside, IdleTable}
+use Rattle.capacity.specs.Alone.{spurOf}
 use Rattle.machine.proofs.Basics.Contradiction.{clash}
 use Rattle.machine.proofs.Basics.Updates.{update, update-other, updateHat-same}
 use Rattle.machine.proofs.Words.Memories.{View, viewed}
 use Rattle.machine.proofs.Linearizability.Model.Guarantee.{SameIn}
 use Rattle.machine.proofs.Linearizability.Lines.Connectives.{ok-if, ok-through}
 use Rattle.capacity.proofs.Theorem.{list-not-Y}
-use Rattle.capacity.proofs.Alone.Ends.{spareAt, innerAt, spare-listed, idle-end, not-Y, inner-leads}
+use Rattle.capacity.proofs.Alone.Ends.{spare-listed, idle-end, not-Y, inner-leads}
 use Rattle.capacity.proofs.Alone.Runs.{Leads, Answered, Next, going, ending, line-leads}
 use Rattle.capacity.proofs.Alone.Reach.{Reach}
 use Rattle.capacity.proofs.Alone.Left.{Left, val-is, left-unchanged, reached-some}
 use Rattle.capacity.proofs.Alone.Others.{
-  K,
+  own-lane,
   inner-alive,
   some-spare,
   at-some,
@@ -50,9 +49,21 @@ use Rattle.capacity.proofs.Alone.Splice.{
   splice-leads,
 }
 use Rattle.capacity.proofs.Alone.Finish.{left-by, reached-by, others-spliced, own-spliced, reach-spliced}
+use Rattle.capacity.proofs.Alone.CallEnds.{CallEnd, spares, spare, inner}
 
-module _ {ws : List ℕ} (B : Begun ws) (idle-now : Idle ws) (T : IdleTable ws) (ℓ : ℕ) (is-lane : ℓ < laneCount ws)
-    (s : Side) (k v : ℕ) where
+module _ (end : CallEnd) (k v : ℕ) where
+  abbrev pub ws : List ℕ
+  ws = end .words
+
+  abbrev pub T : IdleTable (end .words)
+  T = end .table
+
+  abbrev pub ℓ : ℕ
+  ℓ = end .lane
+
+  abbrev pub s : Side
+  s = end .side
+
   -- What it answers and leaves.
   pub data AddLeaves (a : Answer) (vs : List ℕ) : Type 0 where
     adds :
@@ -60,14 +71,14 @@ module _ {ws : List ℕ} (B : Begun ws) (idle-now : Idle ws) (T : IdleTable ws) 
         → (c : ℕ)
         → 1 ≤ c
         → c ≤ suc v
-        → Left ws T ℓ s (spareOf s (T .shape ℓ) + c) 0 vs
+        → Left ws T ℓ s (spares end + c) 0 vs
         → (value ws (hat ws ℓ s) ≡ Y s → value vs (hat ws ℓ s) ≡ Y s)
         → (c ≡ suc v)
         ⊎ ((x : ℕ) → x < nodeCount ws → (x ≡ hat ws ℓ s → value ws (hat ws ℓ s) ≢ Y s) → Reachable vs x)
         → AddLeaves a vs
     says-no :
         a ≡ No
-        → Left ws T ℓ s (spareOf s (T .shape ℓ)) (spurOf s (T .shape ℓ)) vs
+        → Left ws T ℓ s (spares end) (spurOf s (T .shape ℓ)) vs
         → ((x : ℕ) → x < nodeCount ws → Reachable vs x)
         → AddLeaves a vs
 
@@ -81,7 +92,7 @@ module _ {ws : List ℕ} (B : Begun ws) (idle-now : Idle ws) (T : IdleTable ws) 
   Next′ m e = Next k ℓ s (nodeCount ws) (laneCount ws) (growth ws) AddLeaves m e
 
   abbrev Answered′ : View → List ℕ → Type 0
-  Answered′ = Answered k ℓ s (nodeCount ws) (laneCount ws) (growth ws) AddLeaves
+  Answered′ = Answered s (nodeCount ws) (laneCount ws) (growth ws)
 
   -- Reached, but for a spur that the hat has left.
   abbrev AllBut : View → (d : ℕ) → Type 0
@@ -89,14 +100,14 @@ module _ {ws : List ℕ} (B : Begun ws) (idle-now : Idle ws) (T : IdleTable ws) 
       (x : ℕ) → x < nodeCount ws → (x ≡ hat ws ℓ s → value ws (hat ws ℓ s) ≢ Y s) → Reach (laneCount ws) m d x
 
   -- ---- With the chain made and the hat in the list.
-  module _ (m : View) (d i : ℕ) (new : ℕ → ℕ) (St : Stage B idle-now T ℓ is-lane s m)
-      (hat-at : m .hats ℓ s ≡ spareAt s (T .shape ℓ) 0) (C : Chain B idle-now T ℓ is-lane s m d (suc i) new)
+  module _ (m : View) (d i : ℕ) (new : ℕ → ℕ) (St : Stage end m)
+      (hat-at : m .hats ℓ s ≡ spare end 0) (C : Chain end m d (suc i) new)
       (few : i ≤ v) (all : (i ≡ v) ⊎ AllBut m d)
       (spur-same : value ws (hat ws ℓ s) ≡ Y s → m .val (hat ws ℓ s) ≡ Y s) where
     d-some : d ≢ none
     d-some e = C .not-none 0 (omega arith) (sym (C .head) ∙ e)
 
-    module _ (x : ℕ) (x-last : x ≡ spareAt s (T .shape ℓ) (spareOf s (T .shape ℓ) - 1)) where
+    module _ (x : ℕ) (x-last : x ≡ spare end (spares end - 1)) where
       abbrev mA : View
       mA =
           record {
@@ -109,60 +120,59 @@ module _ {ws : List ℕ} (B : Begun ws) (idle-now : Idle ws) (T : IdleTable ws) 
       added : (vs : List ℕ) → Answered′ mA vs → AddLeaves Yes vs
       added vs A =
           adds refl (suc i) (omega arith) (omega arith)
-          (left-by B idle-now T ℓ is-lane s (others-spliced B idle-now T ℓ is-lane s St hat-at C x x-last)
-          (own-spliced B idle-now T ℓ is-lane s St hat-at C x x-last)
-          (A .ended .begun) (A .ended .idle-now) (A .same-nodes) (A .same-growth) (A .same-lanes) (A .ended .sees))
+          (left-by end (others-spliced end St hat-at C x x-last)
+          (own-spliced end St hat-at C x x-last)
+          A)
           (λ y.
-          val-is s vs (A .ended .sees) (hat ws ℓ s)
+          val-is s vs (A .sees) (hat ws ℓ s)
           ∙ update-other (m .val) x (N s) (hat ws ℓ s)
           (λ e.
-          list-not-Y (K B idle-now T ℓ is-lane s .main-list) _
-          (spare-listed (K B idle-now T ℓ is-lane s) s (spareOf s (T .shape ℓ) - 1) (omega (arith, some-spare B idle-now T ℓ is-lane s)))
+          list-not-Y (own-lane end .main-list) _
+          (spare-listed (own-lane end) s (spares end - 1) (omega (arith, some-spare end)))
           s (ap (value ws) (sym (e ∙ x-last)) ∙ y))
           ∙ spur-same y)
           (elim all [
             | inl e ↦ inl (ap suc e)
             | inr used ↦
                 inr (λ y l stays.
-                reached-by B idle-now T ℓ is-lane s (A .ended .begun) (A .ended .idle-now) (A .same-lanes)
-                (A .ended .sees)
-                (reach-spliced B idle-now T ℓ is-lane s St hat-at C x x-last (used y l stays)))
+                reached-by end A
+                (reach-spliced end St hat-at C x x-last (used y l stays)))
           ])
 
     list-leads : (u : Value) (a b c : ℕ) → Leads′ (further t0 line15 i u a b c d) m
     list-leads =
-        splice-leads B idle-now T ℓ is-lane s k (growth ws) AddLeaves t0 m i d St hat-at d-some
+        splice-leads end k (growth ws) AddLeaves t0 m i d St hat-at d-some
         (λ x u b c x-last. ending (λ e. clash (cc)) (added x x-last))
 
   -- ---- With the chain made and the hat on its spur.
-  module _ (m : View) (d i : ℕ) (new : ℕ → ℕ) (St : Stage B idle-now T ℓ is-lane s m)
-      (C : Chain B idle-now T ℓ is-lane s m d (suc i) new) (few : i ≤ v)
-      (all : (i ≡ v) ⊎ AllUsed B idle-now T ℓ is-lane s m d)
+  module _ (m : View) (d i : ℕ) (new : ℕ → ℕ) (St : Stage end m)
+      (C : Chain end m d (suc i) new) (few : i ≤ v)
+      (all : (i ≡ v) ⊎ AllUsed end m d)
       (y : value ws (hat ws ℓ s) ≡ Y s) (on-H : m .hats ℓ s ≡ hat ws ℓ s) (same-H : SameIn (viewed s ws) m (hat ws ℓ s)) where
     H-some : m .hats ℓ s ≢ none
-    H-some e = reached-some B (from-hat ℓ s is-lane) (sym on-H ∙ e)
+    H-some e = reached-some (end .begun) (from-hat ℓ s (end .is-lane)) (sym on-H ∙ e)
 
     H-Y : m .val (m .hats ℓ s) ≡ Y s
     H-Y = ap (m .val) on-H ∙ same-H .same-val ∙ y
 
-    to-p : m .inn (m .hats ℓ s) ≡ innerAt s (T .shape ℓ)
-    to-p = ap (m .inn) on-H ∙ behind-H B idle-now T ℓ is-lane s St y on-H same-H
+    to-p : m .inn (m .hats ℓ s) ≡ inner end
+    to-p = ap (m .inn) on-H ∙ behind-H end St y on-H same-H
 
-    to-first : m .out (m .inn (m .hats ℓ s)) ≡ spareAt s (T .shape ℓ) 0
+    to-first : m .out (m .inn (m .hats ℓ s)) ≡ spare end 0
     to-first =
         ap (m .out) to-p
-        ∙ St .same _ (inner-alive B idle-now T ℓ is-lane s) .same-out
-        ∙ inner-leads (K B idle-now T ℓ is-lane s) s
+        ∙ St .same _ (inner-alive end) .same-out
+        ∙ inner-leads (own-lane end) s
 
-    after-move : (u : Value) (a b c : ℕ) → Leads′ (further t0 line15 i u a b c d) (moved ℓ s m (spareAt s (T .shape ℓ) 0))
+    after-move : (u : Value) (a b c : ℕ) → Leads′ (further t0 line15 i u a b c d) (moved ℓ s m (spare end 0))
     after-move =
-        list-leads (moved ℓ s m (spareAt s (T .shape ℓ) 0)) d i new (stage-moved B idle-now T ℓ is-lane s St)
-        (updateHat-same (m .hats) ℓ s (spareAt s (T .shape ℓ) 0)) (chain-moved B idle-now T ℓ is-lane s St C) few
+        list-leads (moved ℓ s m (spare end 0)) d i new (stage-moved end St)
+        (updateHat-same (m .hats) ℓ s (spare end 0)) (chain-moved end St C) few
         (elim all [
           | inl e ↦ inl e
           | inr used ↦
               inr (λ x l stays.
-              reach-moved B idle-now T ℓ is-lane s St y on-H same-H (used x l) (λ e. stays e y))
+              reach-moved end St y on-H same-H (used x l) (λ e. stays e y))
         ])
         (λ _. same-H .same-val ∙ y)
 
@@ -179,8 +189,8 @@ module _ {ws : List ℕ} (B : Begun ws) (idle-now : Idle ws) (T : IdleTable ws) 
         (λ _.
         going refl
         (unspur-leads k ℓ s _ _ _ _ t0 m i (m .val (m .hats ℓ s)) d H-some H-Y
-        (λ e. p-some B idle-now T ℓ is-lane s (sym to-p ∙ e))
-        (λ e. at-some B idle-now T ℓ is-lane s 0 (some-spare B idle-now T ℓ is-lane s) (sym to-first ∙ e))
+        (λ e. p-some end (sym to-p ∙ e))
+        (λ e. at-some end 0 (some-spare end) (sym to-first ∙ e))
         (λ a' b' c'.
         subst (λ (x : ℕ). Leads′ (further t0 line15 i (m .val (m .hats ℓ s)) a' b' c' d) (moved ℓ s m x)) (sym to-first)
         (after-move (m .val (m .hats ℓ s)) a' b' c'))
@@ -188,7 +198,7 @@ module _ {ws : List ℕ} (B : Begun ws) (idle-now : Idle ws) (T : IdleTable ws) 
         (λ ne. absurd (ne H-Y)))))))
 
   -- ---- From the begin.
-  first-stage : HatNow B idle-now T ℓ is-lane s (viewed s ws) → Stage B idle-now T ℓ is-lane s (viewed s ws)
+  first-stage : HatNow end (viewed s ws) → Stage end (viewed s ws)
   first-stage hat-now =
       record {
         same = λ x a. record { same-out = refl; same-inn = refl; same-val = refl };
@@ -196,39 +206,39 @@ module _ {ws : List ℕ} (B : Begun ws) (idle-now : Idle ws) (T : IdleTable ws) 
         hat-now = hat-now;
       }
 
-  first-hat : HatNow B idle-now T ℓ is-lane s (viewed s ws)
-  first-hat = go (idle-end (K B idle-now T ℓ is-lane s) s .hat-place)
+  first-hat : HatNow end (viewed s ws)
+  first-hat = go (idle-end (own-lane end) s .hat-place)
     where
-      go : {y : ℕ} → HatPlace ws ℓ s (spareAt s (T .shape ℓ) 0) (innerAt s (T .shape ℓ)) y
-          → HatNow B idle-now T ℓ is-lane s (viewed s ws)
+      go : {y : ℕ} → HatPlace ws ℓ s (spare end 0) (inner end) y
+          → HatNow end (viewed s ws)
       go (in-list e) = on-list e
       go (beside y o i) = on-spur y refl (record { same-out = refl; same-inn = refl; same-val = refl })
 
   pub add-leads : Leads k ℓ s (nodeCount ws) (laneCount ws) (growth ws) AddLeaves (begunTask ℓ add s v) (viewed s ws)
   add-leads =
-      build-leads B idle-now T ℓ is-lane s k (growth ws) AddLeaves t0 never none none none (hat ws)
+      build-leads end k (growth ws) AddLeaves t0 never none none none (hat ws)
       (λ m d i new St same-hats C few all.
       by-hat m d i new St same-hats C few all (St .hat-now) never none none none)
       (viewed s ws) 0 (first-stage first-hat) refl
       (λ used.
       ending (λ e. clash (cc)) (λ vs A.
       says-no refl
-      (left-unchanged T ℓ is-lane s (A .ended .begun) (A .ended .idle-now) (A .same-nodes) (A .same-growth) (A .same-lanes) (A .ended .sees))
+      (left-unchanged T ℓ (end .is-lane) s A)
       (λ x l.
-      reached-by B idle-now T ℓ is-lane s (A .ended .begun) (A .ended .idle-now) (A .same-lanes) (A .ended .sees)
+      reached-by end A
       (used x l))))
     where
-      by-hat : (m : View) (d i : ℕ) (new : ℕ → ℕ) → Stage B idle-now T ℓ is-lane s m
+      by-hat : (m : View) (d i : ℕ) (new : ℕ → ℕ) → Stage end m
           → m .hats ≡ hat ws
-          → Chain B idle-now T ℓ is-lane s m d (suc i) new
+          → Chain end m d (suc i) new
           → i ≤ v
-          → (i ≡ v) ⊎ AllUsed B idle-now T ℓ is-lane s m d
-          → HatNow B idle-now T ℓ is-lane s m
+          → (i ≡ v) ⊎ AllUsed end m d
+          → HatNow end m
           → (u : Value) (a b c : ℕ)
           → Leads′ (further t0 line15 i u a b c d) m
       by-hat m d i new St same-hats C few all (on-spur y on-H same-H) = spur-leads m d i new St C few all y on-H same-H
       by-hat m d i new St same-hats C few all (on-list e) =
           list-leads m d i new St e C few (elim all [ inl q ↦ inl q | inr used ↦ inr (λ x l _. used x l) ])
           (λ y.
-          let H-at : hat ws ℓ s ≡ spareAt s (T .shape ℓ) 0 = ap (λ (h : ℕ → Side → ℕ). h ℓ s) (sym same-hats) ∙ e in
-          absurd (not-Y (idle-end (K B idle-now T ℓ is-lane s) s .spares) (ap (value ws) (sym H-at) ∙ y)))
+          let H-at : hat ws ℓ s ≡ spare end 0 = ap (λ (h : ℕ → Side → ℕ). h ℓ s) (sym same-hats) ∙ e in
+          absurd (not-Y (idle-end (own-lane end) s .spares) (ap (value ws) (sym H-at) ∙ y)))

@@ -13,8 +13,7 @@ use Rattle.machine.specs.Tasks.{Task, none, goal, further}
 use Rattle.machine.specs.Table.{nodeCount, laneCount, hat}
 use Rattle.machine.specs.Allocate.{allocate}
 use Rattle.machine.specs.Lines.{Effect, out≔, inn≔, val≔, next, answers, writing, noNode, act}
-use Rattle.machine.specs.Begun.{Begun}
-use Rattle.capacity.specs.NoLeak.{Idle, IdleTable}
+use Rattle.capacity.specs.NoLeak.{IdleTable}
 use Rattle.machine.proofs.Basics.Updates.{update, update-same, update-other}
 use Rattle.machine.proofs.Words.Memories.{View, viewed}
 use Rattle.machine.proofs.Linearizability.Model.Guarantee.{SameIn}
@@ -22,17 +21,23 @@ use Rattle.machine.proofs.Linearizability.Lines.Connectives.{ok-if, ok-through}
 use Rattle.capacity.proofs.Alone.Runs.{Leads, Next, going, search-leads}
 use Rattle.capacity.proofs.Alone.Reach.{Reach, at-hat, at-root, outward, root-28, root-31, found-new, found-none}
 use Rattle.capacity.proofs.Alone.Others.{Alive, Stage, HatNow, on-list, on-spur, alive-reached}
+use Rattle.capacity.proofs.Alone.CallEnds.{CallEnd}
 
-module _ {ws : List ℕ} (B : Begun ws) (idle-now : Idle ws) (T : IdleTable ws) (ℓ : ℕ) (is-lane : ℓ < laneCount ws)
-    (s : Side) where
-  abbrev L : ℕ
-  L = laneCount ws
+module _ (end : CallEnd) where
+  abbrev pub ws : List ℕ
+  ws = end .words
+
+  abbrev pub T : IdleTable (end .words)
+  T = end .table
+
+  abbrev pub ℓ : ℕ
+  ℓ = end .lane
+
+  abbrev pub s : Side
+  s = end .side
 
   abbrev IsAlive : ℕ → Type 0
-  IsAlive x = Alive B idle-now T ℓ is-lane s x
-
-  abbrev At-stage : View → Type 0
-  At-stage m = Stage B idle-now T ℓ is-lane s m
+  IsAlive x = Alive end x
 
   -- A chain of c new nodes that begins at d.
   pub record Chain (m : View) (d c : ℕ) (new : ℕ → ℕ) : Type 0 where
@@ -42,7 +47,7 @@ module _ {ws : List ℕ} (B : Begun ws) (idle-now : Idle ws) (T : IdleTable ws) 
     pub X-last : (i : ℕ) → suc i ≡ c → m .val (new i) ≡ X s
     pub leads : (i : ℕ) → suc i < c → m .out (new i) ≡ new (suc i)
     pub first-in : m .inn (new 0) ≡ none
-    pub not-alive : (i : ℕ) → i < c → Alive B idle-now T ℓ is-lane s (new i) → ⊥
+    pub not-alive : (i : ℕ) → i < c → Alive end (new i) → ⊥
     pub not-none : (i : ℕ) → i < c → new i ≢ none
     pub not-hat : (i : ℕ) → i < c → new i ≢ m .hats ℓ s
 
@@ -60,7 +65,7 @@ module _ {ws : List ℕ} (B : Begun ws) (idle-now : Idle ws) (T : IdleTable ws) 
   AllUsed m d = (x : ℕ) → x < nodeCount ws → Reach (laneCount ws) m d x
 
   -- ---- Writes to a node that is not in use.
-  module _ {m m' : View} (G : Stage B idle-now T ℓ is-lane s m) (d f : ℕ)
+  module _ {m m' : View} (G : Stage end m) (d f : ℕ)
       (apart-d : IsAlive d → ⊥) (apart-f : IsAlive f → ⊥) (d-off : d ≢ m .hats ℓ s) (f-off : f ≢ m .hats ℓ s)
       (same-hats : m' .hats ≡ m .hats)
       (same-out : (x : ℕ) → x ≢ f → x ≢ d → m' .out x ≡ m .out x)
@@ -77,7 +82,7 @@ module _ {ws : List ℕ} (B : Begun ws) (idle-now : Idle ws) (T : IdleTable ws) 
     hat-same : m' .hats ℓ s ≡ m .hats ℓ s
     hat-same = ap (λ (h : ℕ → Side → ℕ). h ℓ s) same-hats
 
-    kept-stage : Stage B idle-now T ℓ is-lane s m'
+    kept-stage : Stage end m'
     kept-stage =
         record {
           same =
@@ -86,7 +91,7 @@ module _ {ws : List ℕ} (B : Begun ws) (idle-now : Idle ws) (T : IdleTable ws) 
           hat-now = go (G .hat-now);
         }
       where
-        go : HatNow B idle-now T ℓ is-lane s m → HatNow B idle-now T ℓ is-lane s m'
+        go : HatNow end m → HatNow end m'
         go (on-list e) = on-list (hat-same ∙ e)
         go (on-spur v e w) =
             on-spur v (hat-same ∙ e) (same-at (hat ws ℓ s) (λ q. f-off (sym q ∙ sym e)) (λ q. d-off (sym q ∙ sym e)) w)
@@ -106,7 +111,7 @@ module _ {ws : List ℕ} (B : Begun ws) (idle-now : Idle ws) (T : IdleTable ws) 
     abbrev pub Built : Type 0
     Built =
         (m : View) (d n : ℕ) (new : ℕ → ℕ)
-        → Stage B idle-now T ℓ is-lane s m
+        → Stage end m
         → m .hats ≡ hats0
         → Chain m d (suc n) new
         → n ≤ goal g t0
@@ -115,7 +120,7 @@ module _ {ws : List ℕ} (B : Begun ws) (idle-now : Idle ws) (T : IdleTable ws) 
 
     module _ (built : Built) where
       -- One node more.
-      module _ (m : View) (d n f : ℕ) (new : ℕ → ℕ) (St : Stage B idle-now T ℓ is-lane s m) (C : Chain m d (suc n) new)
+      module _ (m : View) (d n f : ℕ) (new : ℕ → ℕ) (St : Stage end m) (C : Chain m d (suc n) new)
           (f-some : f ≢ none) (unused : Reach (laneCount ws) m d f → ⊥) where
         abbrev m' : View
         m' =
@@ -127,7 +132,7 @@ module _ {ws : List ℕ} (B : Begun ws) (idle-now : Idle ws) (T : IdleTable ws) 
             }
 
         f-dead : IsAlive f → ⊥
-        f-dead x = unused (alive-reached B idle-now T ℓ is-lane s St x)
+        f-dead x = unused (alive-reached end St x)
 
         d-dead : IsAlive d → ⊥
         d-dead x = C .not-alive 0 (omega arith) (subst IsAlive (C .head) x)
@@ -139,12 +144,12 @@ module _ {ws : List ℕ} (B : Begun ws) (idle-now : Idle ws) (T : IdleTable ws) 
         d-f e = f-new 0 (omega arith) (sym (C .head) ∙ e)
 
         f-off : f ≢ m .hats ℓ s
-        f-off e = unused (subst (Reach (laneCount ws) m d) (sym e) (at-hat ℓ s is-lane))
+        f-off e = unused (subst (Reach (laneCount ws) m d) (sym e) (at-hat ℓ s (end .is-lane)))
 
         d-off : d ≢ m .hats ℓ s
         d-off e = C .not-hat 0 (omega arith) (sym (C .head) ∙ e)
 
-        stage-more : Stage B idle-now T ℓ is-lane s m'
+        stage-more : Stage end m'
         stage-more =
             kept-stage St d f d-dead f-dead d-off f-off refl
             (λ x nf nd. update-other (m .out) f d x nf)
@@ -199,12 +204,12 @@ module _ {ws : List ℕ} (B : Begun ws) (idle-now : Idle ws) (T : IdleTable ws) 
             off-now (suc i) l = C .not-hat i (omega arith)
 
       -- Line 31.
-      more-step : (m : View) (d n : ℕ) (new : ℕ → ℕ) → Stage B idle-now T ℓ is-lane s m
+      more-step : (m : View) (d n : ℕ) (new : ℕ → ℕ) → Stage end m
           → m .hats ≡ hats0
           → Chain m d (suc n) new
           → n < goal g t0
           → ((m' : View) (d' : ℕ) (new' : ℕ → ℕ)
-          → Stage B idle-now T ℓ is-lane s m'
+          → Stage end m'
           → m' .hats ≡ hats0
           → Chain m' d' (suc (suc n)) new'
           → suc n ≢ goal g t0
@@ -238,7 +243,7 @@ module _ {ws : List ℕ} (B : Begun ws) (idle-now : Idle ws) (T : IdleTable ws) 
           (stage-more m d n (allocate us h) new St C some-left unused) hats-same
           (chain-more m d n (allocate us h) new St C some-left unused) not-done)))))
 
-      more-leads : (fuel : ℕ) (m : View) (d n : ℕ) (new : ℕ → ℕ) → Stage B idle-now T ℓ is-lane s m
+      more-leads : (fuel : ℕ) (m : View) (d n : ℕ) (new : ℕ → ℕ) → Stage end m
           → m .hats ≡ hats0
           → Chain m d (suc n) new
           → suc (n + fuel) ≡ goal g t0
@@ -250,7 +255,7 @@ module _ {ws : List ℕ} (B : Begun ws) (idle-now : Idle ws) (T : IdleTable ws) 
           (λ m' d' new' St' q C' ne. more-leads fuel m' d' (suc n) new' St' q C' (omega arith))
 
       -- The first node.
-      module _ (m : View) (f : ℕ) (St : Stage B idle-now T ℓ is-lane s m) (f-some : f ≢ none)
+      module _ (m : View) (f : ℕ) (St : Stage end m) (f-some : f ≢ none)
           (unused : Reach (laneCount ws) m none f → ⊥) where
         abbrev m1 : View
         m1 =
@@ -262,12 +267,12 @@ module _ {ws : List ℕ} (B : Begun ws) (idle-now : Idle ws) (T : IdleTable ws) 
             }
 
         dead : IsAlive f → ⊥
-        dead x = unused (alive-reached B idle-now T ℓ is-lane s St x)
+        dead x = unused (alive-reached end St x)
 
         off : f ≢ m .hats ℓ s
-        off e = unused (subst (Reach (laneCount ws) m none) (sym e) (at-hat ℓ s is-lane))
+        off e = unused (subst (Reach (laneCount ws) m none) (sym e) (at-hat ℓ s (end .is-lane)))
 
-        stage-one : Stage B idle-now T ℓ is-lane s m1
+        stage-one : Stage end m1
         stage-one =
             kept-stage St f f dead dead off off refl
             (λ x nf nd. update-other (m .out) f none x nf)
@@ -289,7 +294,7 @@ module _ {ws : List ℕ} (B : Begun ws) (idle-now : Idle ws) (T : IdleTable ws) 
             }
 
       -- Line 28.
-      pub build-leads : (m : View) (n : ℕ) → Stage B idle-now T ℓ is-lane s m
+      pub build-leads : (m : View) (n : ℕ) → Stage end m
           → m .hats ≡ hats0
           → (AllUsed m none → Next k ℓ s (nodeCount ws) (laneCount ws) g Q m (answers (noNode (t0 .operation))))
           → Leads k ℓ s (nodeCount ws) (laneCount ws) g Q (further t0 line28 n u a b c none) m

@@ -10,8 +10,7 @@ use Rattle.machine.specs.Values.{bag, N, X}
 use Rattle.machine.specs.Tasks.{none}
 use Rattle.machine.specs.Table.{nodeCount, growth, laneCount, hat, value}
 use Rattle.machine.specs.Reach.{Reachable}
-use Rattle.machine.specs.Begun.{Begun}
-use Rattle.capacity.specs.NoLeak.{Idle, in-list, LaneShape, IdleTable}
+use Rattle.capacity.specs.NoLeak.{in-list, LaneShape, IdleTable}
 use Rattle.capacity.specs.Alone.{spareOf}
 use Rattle.machine.proofs.Basics.Contradiction.{equal?, less?}
 use Rattle.machine.proofs.Basics.Choices.{if-yes, if-no}
@@ -19,11 +18,13 @@ use Rattle.machine.proofs.Basics.Updates.{update, update-same, update-other, up
 use Rattle.machine.proofs.Words.Memories.{View, viewed}
 use Rattle.machine.proofs.Linearizability.Model.Sides.{sides}
 use Rattle.machine.proofs.Linearizability.Model.Guarantee.{SameIn}
-use Rattle.capacity.proofs.Alone.Ends.{other-hat, Spares, not-Y, sparePlace, spareAt, spare-listed, idle-end, last-none}
+use Rattle.capacity.proofs.Alone.Ends.{other-hat, Spares, not-Y, sparePlace, spare-listed, idle-end, last-none}
 use Rattle.capacity.proofs.Alone.Reach.{Reach, at-hat, at-root, outward, inward, from-view, idle-root}
+use Rattle.capacity.proofs.Alone.Runs.{Answered}
 use Rattle.capacity.proofs.Alone.Left.{Left, out-is, val-is, hat-is}
-use Rattle.capacity.proofs.Alone.Others.{K, Alive, spare-alive, some-spare, at-some, Stage, Others, others-kept}
+use Rattle.capacity.proofs.Alone.Others.{own-lane, Alive, spare-alive, some-spare, at-some, Stage, Others, others-kept}
 use Rattle.capacity.proofs.Alone.Build.{Chain}
+use Rattle.capacity.proofs.Alone.CallEnds.{CallEnd, spares, spare, inner}
 
 places-differ : (I : LaneShape) (s : Side) (i j : ℕ) → i < spareOf s I → j < spareOf s I
     → sparePlace s I i ≡ sparePlace s I j
@@ -31,22 +32,24 @@ places-differ : (I : LaneShape) (s : Side) (i j : ℕ) → i < spareOf s I → j
 places-differ I left i j hi hj e = omega arith
 places-differ I right i j hi hj e = omega arith
 
-module _ {ws : List ℕ} (B : Begun ws) (idle-now : Idle ws) (T : IdleTable ws) (ℓ : ℕ) (is-lane : ℓ < laneCount ws)
-    (s : Side) where
-  abbrev L : ℕ
-  L = laneCount ws
+module _ (end : CallEnd) where
+  abbrev pub ws : List ℕ
+  ws = end .words
 
-  abbrev at : ℕ → ℕ
-  at = spareAt s (T .shape ℓ)
+  abbrev pub T : IdleTable (end .words)
+  T = end .table
 
-  abbrev r : ℕ
-  r = spareOf s (T .shape ℓ)
+  abbrev pub ℓ : ℕ
+  ℓ = end .lane
 
-  pub spares-differ : (i j : ℕ) → i < spareOf s (T .shape ℓ) → j < spareOf s (T .shape ℓ)
-      → spareAt s (T .shape ℓ) i ≡ spareAt s (T .shape ℓ) j
+  abbrev pub s : Side
+  s = end .side
+
+  pub spares-differ : (i j : ℕ) → i < spares end → j < spares end
+      → spare end i ≡ spare end j
       → i ≡ j
   spares-differ i j hi hj e =
-      let k = K B idle-now T ℓ is-lane s in
+      let k = own-lane end in
       places-differ (T .shape ℓ) s i j hi hj
       (k .main-list .different _ _ (spare-listed k s i hi) (spare-listed k s j hj) e)
 
@@ -59,57 +62,55 @@ module _ {ws : List ℕ} (B : Begun ws) (idle-now : Idle ws) (T : IdleTable ws) 
     pub hat-at : m .hats ℓ s ≡ at' 0
 
   -- So it is left.
-  pub left-by : {m : View} {at' : ℕ → ℕ} {c : ℕ} → Others B idle-now T ℓ is-lane s m → OwnList m at' c → {vs : List ℕ}
-      → Begun vs
-      → Idle vs
-      → nodeCount vs ≡ nodeCount ws
-      → growth vs ≡ growth ws
-      → laneCount vs ≡ laneCount ws
-      → viewed s vs ≡ m
+  abbrev pub AnsweredAt : View → List ℕ → Type 0
+  AnsweredAt = Answered s (nodeCount ws) (laneCount ws) (growth ws)
+
+  pub left-by : {m : View} {at' : ℕ → ℕ} {c : ℕ} {vs : List ℕ} → Others end m → OwnList m at' c → AnsweredAt m vs
       → Left ws T ℓ s c 0 vs
-  left-by {m} {at'} {c} O E {vs} begun idle-then nodes growths lanes sees =
+  left-by {m} {at'} {c} {vs} O E A =
       record {
-        begun = begun;
-        idle-now = idle-then;
-        same-nodes = nodes;
-        same-growth = growths;
-        same-lanes = lanes;
+        begun = A .begun;
+        idle-now = A .idle-now;
+        same-nodes = A .same-nodes;
+        same-growth = A .same-growth;
+        same-lanes = A .same-lanes;
         at = at';
         inner = 0;
         own-end =
-            record { spares = own; leads-out = λ v. absurd (not-Y own (ap (value vs) (sym at-0) ∙ v)); hat-place = in-list at-0 };
-        others-kept = λ j z h o. others-kept B idle-now T ℓ is-lane s O vs sees j z h o;
+            record {
+              spares = own;
+              leads-out = λ v. absurd (not-Y own (ap (value vs) (sym at-0) ∙ v));
+              hat-place = in-list at-0;
+            };
+        others-kept = λ j z h o. others-kept end O vs (A .sees) j z h o;
       }
     where
       own : Spares vs s at' c
       own =
           record {
             some = E .some;
-            N-before = λ i h. val-is s vs sees (at' i) ∙ E .N-before i h;
-            X-last = λ i h. val-is s vs sees (at' i) ∙ E .X-last i h;
-            leads = λ i h. out-is s vs sees (at' i) ∙ E .leads i h;
+            N-before = λ i h. val-is s vs (A .sees) (at' i) ∙ E .N-before i h;
+            X-last = λ i h. val-is s vs (A .sees) (at' i) ∙ E .X-last i h;
+            leads = λ i h. out-is s vs (A .sees) (at' i) ∙ E .leads i h;
           }
 
       at-0 : hat vs ℓ s ≡ at' 0
-      at-0 = hat-is s vs sees ℓ s ∙ E .hat-at
+      at-0 = hat-is s vs (A .sees) ℓ s ∙ E .hat-at
 
   -- What is reached in the last view is reached in the table.
-  pub reached-by : {m : View} {vs : List ℕ} → Begun vs → Idle vs → laneCount vs ≡ laneCount ws → viewed s vs ≡ m
-      → {x : ℕ}
-      → Reach (laneCount ws) m none x
-      → Reachable vs x
-  reached-by {m} {vs} begun idle-then lanes sees {x} c =
-      from-view s vs (idle-root begun idle-then)
-      (subst (λ (i : ℕ). Reach i (viewed s vs) none x) (sym lanes)
-      (subst (λ (y : View). Reach (laneCount ws) y none x) (sym sees) c))
+  pub reached-by : {m : View} {vs : List ℕ} → AnsweredAt m vs → {x : ℕ} → Reach (laneCount ws) m none x → Reachable vs x
+  reached-by {m} {vs} A {x} c =
+      from-view s vs (idle-root (A .begun) (A .idle-now))
+      (subst (λ (i : ℕ). Reach i (viewed s vs) none x) (sym (A .same-lanes))
+      (subst (λ (y : View). Reach (laneCount ws) y none x) (sym (A .sees)) c))
 
   -- ---- Before anything is written.
-  pub own-first : {m : View} → Stage B idle-now T ℓ is-lane s m → m .hats ℓ s ≡ spareAt s (T .shape ℓ) 0
-      → OwnList m (spareAt s (T .shape ℓ)) (spareOf s (T .shape ℓ))
+  pub own-first : {m : View} → Stage end m → m .hats ℓ s ≡ spare end 0
+      → OwnList m (spare end) (spares end)
   own-first {m} St e =
-      let E = idle-end (K B idle-now T ℓ is-lane s) s .spares in
-      let w : (i : ℕ) → i < spareOf s (T .shape ℓ) → SameIn (viewed s ws) m (spareAt s (T .shape ℓ) i) =
-      λ i l. St .same _ (spare-alive B idle-now T ℓ is-lane s i l) in
+      let E = idle-end (own-lane end) s .spares in
+      let w : (i : ℕ) → i < spares end → SameIn (viewed s ws) m (spare end i) =
+      λ i l. St .same _ (spare-alive end i l) in
       record {
         some = E .some;
         N-before = λ i h. w i (omega arith) .same-val ∙ E .N-before i h;
@@ -129,12 +130,12 @@ module _ {ws : List ℕ} (B : Begun ws) (idle-now : Idle ws) (T : IdleTable ws) 
           hats = updateHat (m .hats) ℓ s (m .out (m .hats ℓ s));
         }
 
-    module _ (O : Others B idle-now T ℓ is-lane s m) {at' : ℕ → ℕ} {c : ℕ} (E : OwnList m at' (suc c)) (more : 1 ≤ c)
-        (first : at' 0 ≡ spareAt s (T .shape ℓ) 0) (apart : (i : ℕ) → i < c → at' (suc i) ≢ at' 0) where
-      hat-first : m .hats ℓ s ≡ spareAt s (T .shape ℓ) 0
+    module _ (O : Others end m) {at' : ℕ → ℕ} {c : ℕ} (E : OwnList m at' (suc c)) (more : 1 ≤ c)
+        (first : at' 0 ≡ spare end 0) (apart : (i : ℕ) → i < c → at' (suc i) ≢ at' 0) where
+      hat-first : m .hats ℓ s ≡ spare end 0
       hat-first = E .hat-at ∙ first
 
-      pub others-put : Others B idle-now T ℓ is-lane s bagPut
+      pub others-put : Others end bagPut
       others-put =
           record {
             safe = λ x a n.
@@ -144,7 +145,7 @@ module _ {ws : List ℕ} (B : Begun ws) (idle-now : Idle ws) (T : IdleTable ws) 
                   same-inn = w .same-inn;
                   same-val =
                       update-other (m .val) (m .hats ℓ s) (bag v) x
-                      (λ e. n 0 (some-spare B idle-now T ℓ is-lane s) (sym (e ∙ hat-first)))
+                      (λ e. n 0 (some-spare end) (sym (e ∙ hat-first)))
                       ∙ w .same-val;
                 };
             same-inward = O .same-inward;
@@ -177,7 +178,7 @@ module _ {ws : List ℕ} (B : Begun ws) (idle-now : Idle ws) (T : IdleTable ws) 
         reach-h : Reach (laneCount ws) bagPut none h
         reach-h =
             let here : Reach (laneCount ws) bagPut none (at' 1) =
-            subst (Reach (laneCount ws) bagPut none) hat-put (at-hat ℓ s is-lane) in
+            subst (Reach (laneCount ws) bagPut none) hat-put (at-hat ℓ s (end .is-lane)) in
             let q : m .inn (at' 1) ≡ h = back ∙ sym (E .hat-at) in
             subst (Reach (laneCount ws) bagPut none) q (inward here (λ e. h-some (sym q ∙ e)))
 
@@ -202,9 +203,9 @@ module _ {ws : List ℕ} (B : Begun ws) (idle-now : Idle ws) (T : IdleTable ws) 
         reach-put (inward c ne) = inward (reach-put c) ne
 
   -- ---- A splice: the chain behind the last spare node.
-  module _ {m : View} (St : Stage B idle-now T ℓ is-lane s m) (hat-at : m .hats ℓ s ≡ spareAt s (T .shape ℓ) 0)
-      {d c : ℕ} {new : ℕ → ℕ} (C : Chain B idle-now T ℓ is-lane s m d c new) (x : ℕ)
-      (x-last : x ≡ spareAt s (T .shape ℓ) (spareOf s (T .shape ℓ) - 1)) where
+  module _ {m : View} (St : Stage end m) (hat-at : m .hats ℓ s ≡ spare end 0)
+      {d c : ℕ} {new : ℕ → ℕ} (C : Chain end m d c new) (x : ℕ)
+      (x-last : x ≡ spare end (spares end - 1)) where
     abbrev mA : View
     mA =
         record {
@@ -214,13 +215,13 @@ module _ {ws : List ℕ} (B : Begun ws) (idle-now : Idle ws) (T : IdleTable ws) 
           hats = m .hats;
         }
 
-    some-at : 0 < spareOf s (T .shape ℓ)
-    some-at = some-spare B idle-now T ℓ is-lane s
+    some-at : 0 < spares end
+    some-at = some-spare end
 
-    dead-d : Alive B idle-now T ℓ is-lane s d → ⊥
-    dead-d a = C .not-alive 0 (C .some) (subst (Alive B idle-now T ℓ is-lane s) (C .head) a)
+    dead-d : Alive end d → ⊥
+    dead-d a = C .not-alive 0 (C .some) (subst (Alive end) (C .head) a)
 
-    pub others-spliced : Others B idle-now T ℓ is-lane s
+    pub others-spliced : Others end
         (record {
           out = update (m .out) x d;
           inn = update (m .inn) d x;
@@ -231,51 +232,51 @@ module _ {ws : List ℕ} (B : Begun ws) (idle-now : Idle ws) (T : IdleTable ws) 
         record {
           safe = λ y a n.
               let w = St .same y a in
-              let ne : y ≢ x = λ e. n (spareOf s (T .shape ℓ) - 1) (omega (arith, some-at)) (sym (e ∙ x-last)) in
-              let nd : y ≢ d = λ e. dead-d (subst (Alive B idle-now T ℓ is-lane s) e a) in
+              let ne : y ≢ x = λ e. n (spares end - 1) (omega (arith, some-at)) (sym (e ∙ x-last)) in
+              let nd : y ≢ d = λ e. dead-d (subst (Alive end) e a) in
               record {
                 same-out = update-other (m .out) x d y ne ∙ w .same-out;
                 same-inn = update-other (m .inn) d x y nd ∙ w .same-inn;
                 same-val = update-other (m .val) x (N s) y ne ∙ w .same-val;
               };
           same-inward = λ y a.
-              let nd : y ≢ d = λ e. dead-d (subst (Alive B idle-now T ℓ is-lane s) e a) in
+              let nd : y ≢ d = λ e. dead-d (subst (Alive end) e a) in
               update-other (m .inn) d x y nd ∙ St .same y a .same-inn;
           hats = St .hats;
         }
 
     -- The spare nodes, and then the chain.
     abbrev pub joined : ℕ → ℕ
-    joined i = if i <? spareOf s (T .shape ℓ) then spareAt s (T .shape ℓ) i else new (i - spareOf s (T .shape ℓ))
+    joined i = if i <? spares end then spare end i else new (i - spares end)
 
-    pub joined-old : (i : ℕ) → i < spareOf s (T .shape ℓ) → joined i ≡ spareAt s (T .shape ℓ) i
-    joined-old i l = if-yes (i <? spareOf s (T .shape ℓ)) _ _ l
+    pub joined-old : (i : ℕ) → i < spares end → joined i ≡ spare end i
+    joined-old i l = if-yes (i <? spares end) _ _ l
 
-    pub joined-new : (i : ℕ) → spareOf s (T .shape ℓ) ≤ i → joined i ≡ new (i - spareOf s (T .shape ℓ))
-    joined-new i l = if-no (i <? spareOf s (T .shape ℓ)) _ _ (λ h. omega arith)
+    pub joined-new : (i : ℕ) → spares end ≤ i → joined i ≡ new (i - spares end)
+    joined-new i l = if-no (i <? spares end) _ _ (λ h. omega arith)
 
     new-not-x : (i : ℕ) → i < c → new i ≢ x
     new-not-x i l e =
         C .not-alive i l
-        (subst (Alive B idle-now T ℓ is-lane s) (sym (e ∙ x-last))
-        (spare-alive B idle-now T ℓ is-lane s _ (omega (arith, some-at))))
+        (subst (Alive end) (sym (e ∙ x-last))
+        (spare-alive end _ (omega (arith, some-at))))
 
-    old-not-x : (i : ℕ) → suc i < spareOf s (T .shape ℓ) → spareAt s (T .shape ℓ) i ≢ x
+    old-not-x : (i : ℕ) → suc i < spares end → spare end i ≢ x
     old-not-x i l e =
-        let q = spares-differ i (spareOf s (T .shape ℓ) - 1) (omega arith) (omega arith) (e ∙ x-last) in
+        let q = spares-differ i (spares end - 1) (omega arith) (omega arith) (e ∙ x-last) in
         omega arith
 
-    first-own : OwnList m (spareAt s (T .shape ℓ)) (spareOf s (T .shape ℓ))
+    first-own : OwnList m (spare end) (spares end)
     first-own = own-first St hat-at
 
-    N-now : (i : ℕ) → suc i < spareOf s (T .shape ℓ) + c → mA .val (joined i) ≡ N s
+    N-now : (i : ℕ) → suc i < spares end + c → mA .val (joined i) ≡ N s
     N-now i h =
-        elim (less? i (spareOf s (T .shape ℓ))) [
+        elim (less? i (spares end)) [
           | inl l ↦
-              elim (equal? (suc i) (spareOf s (T .shape ℓ))) [
+              elim (equal? (suc i) (spares end)) [
                 | inl e ↦
                     let q : joined i ≡ x =
-                    joined-old i l ∙ ap (spareAt s (T .shape ℓ)) (omega arith) ∙ sym x-last in
+                    joined-old i l ∙ ap (spare end) (omega arith) ∙ sym x-last in
                     ap (mA .val) q ∙ update-same (m .val) x (N s)
                 | inr ne ↦
                     ap (mA .val) (joined-old i l)
@@ -284,19 +285,19 @@ module _ {ws : List ℕ} (B : Begun ws) (idle-now : Idle ws) (T : IdleTable ws) 
               ]
           | inr l ↦
               ap (mA .val) (joined-new i l)
-              ∙ update-other (m .val) x (N s) _ (new-not-x (i - spareOf s (T .shape ℓ)) (omega arith))
-              ∙ C .N-before (i - spareOf s (T .shape ℓ)) (omega arith)
+              ∙ update-other (m .val) x (N s) _ (new-not-x (i - spares end) (omega arith))
+              ∙ C .N-before (i - spares end) (omega arith)
         ]
 
-    leads-now : (i : ℕ) → suc i < spareOf s (T .shape ℓ) + c → mA .out (joined i) ≡ joined (suc i)
+    leads-now : (i : ℕ) → suc i < spares end + c → mA .out (joined i) ≡ joined (suc i)
     leads-now i h =
-        elim (less? i (spareOf s (T .shape ℓ))) [
+        elim (less? i (spares end)) [
           | inl l ↦
-              elim (equal? (suc i) (spareOf s (T .shape ℓ))) [
+              elim (equal? (suc i) (spares end)) [
                 | inl e ↦
                     let q : joined i ≡ x =
-                    joined-old i l ∙ ap (spareAt s (T .shape ℓ)) (omega arith) ∙ sym x-last in
-                    let z : suc i - spareOf s (T .shape ℓ) ≡ 0 = omega arith in
+                    joined-old i l ∙ ap (spare end) (omega arith) ∙ sym x-last in
+                    let z : suc i - spares end ≡ 0 = omega arith in
                     ap (mA .out) q
                     ∙ update-same (m .out) x d
                     ∙ C .head
@@ -309,10 +310,10 @@ module _ {ws : List ℕ} (B : Begun ws) (idle-now : Idle ws) (T : IdleTable ws) 
                     ∙ sym (joined-old (suc i) (omega arith))
               ]
           | inr l ↦
-              let z : suc i - spareOf s (T .shape ℓ) ≡ suc (i - spareOf s (T .shape ℓ)) = omega arith in
+              let z : suc i - spares end ≡ suc (i - spares end) = omega arith in
               ap (mA .out) (joined-new i l)
-              ∙ update-other (m .out) x d _ (new-not-x (i - spareOf s (T .shape ℓ)) (omega arith))
-              ∙ C .leads (i - spareOf s (T .shape ℓ)) (omega arith)
+              ∙ update-other (m .out) x d _ (new-not-x (i - spares end) (omega arith))
+              ∙ C .leads (i - spares end) (omega arith)
               ∙ ap new (sym z)
               ∙ sym (joined-new (suc i) (omega arith))
         ]
@@ -323,7 +324,7 @@ module _ {ws : List ℕ} (B : Begun ws) (idle-now : Idle ws) (T : IdleTable ws) 
           inn = update (m .inn) d x;
           val = update (m .val) x (N s);
           hats = m .hats;
-        }) joined (spareOf s (T .shape ℓ) + c)
+        }) joined (spares end + c)
     own-spliced =
         record {
           some = omega (arith, some-at);
@@ -331,39 +332,39 @@ module _ {ws : List ℕ} (B : Begun ws) (idle-now : Idle ws) (T : IdleTable ws) 
           X-last = λ i h.
               let one = C .some in
               ap (mA .val) (joined-new i (omega arith))
-              ∙ update-other (m .val) x (N s) _ (new-not-x (i - spareOf s (T .shape ℓ)) (omega arith))
-              ∙ C .X-last (i - spareOf s (T .shape ℓ)) (omega arith);
+              ∙ update-other (m .val) x (N s) _ (new-not-x (i - spares end) (omega arith))
+              ∙ C .X-last (i - spares end) (omega arith);
           leads = leads-now;
           hat-at = hat-at ∙ sym (joined-old 0 some-at);
         }
 
-    pub joined-apart : (i : ℕ) → suc i < spareOf s (T .shape ℓ) + c → joined (suc i) ≢ joined 0
+    pub joined-apart : (i : ℕ) → suc i < spares end + c → joined (suc i) ≢ joined 0
     joined-apart i h e =
-        elim (less? (suc i) (spareOf s (T .shape ℓ))) [
+        elim (less? (suc i) (spares end)) [
           | inl l ↦
               let q = spares-differ (suc i) 0 l some-at (sym (joined-old (suc i) l) ∙ e ∙ joined-old 0 some-at) in
               omega arith
           | inr l ↦
-              C .not-alive (suc i - spareOf s (T .shape ℓ)) (omega arith)
-              (subst (Alive B idle-now T ℓ is-lane s)
+              C .not-alive (suc i - spares end) (omega arith)
+              (subst (Alive end)
               (sym (sym (joined-new (suc i) l) ∙ e ∙ joined-old 0 some-at))
-              (spare-alive B idle-now T ℓ is-lane s 0 some-at))
+              (spare-alive end 0 some-at))
         ]
 
     -- All that was reached is reached.
-    reach-own : (i : ℕ) → i < spareOf s (T .shape ℓ) → Reach (laneCount ws) mA none (spareAt s (T .shape ℓ) i)
-    reach-own zero l = subst (Reach (laneCount ws) mA none) hat-at (at-hat ℓ s is-lane)
+    reach-own : (i : ℕ) → i < spares end → Reach (laneCount ws) mA none (spare end i)
+    reach-own zero l = subst (Reach (laneCount ws) mA none) hat-at (at-hat ℓ s (end .is-lane))
     reach-own (suc i) l =
-        let q : mA .out (spareAt s (T .shape ℓ) i) ≡ spareAt s (T .shape ℓ) (suc i) =
+        let q : mA .out (spare end i) ≡ spare end (suc i) =
         update-other (m .out) x d _ (old-not-x i l) ∙ first-own .leads i l in
         subst (Reach (laneCount ws) mA none) q
-        (outward (reach-own i (omega arith)) (λ e. at-some B idle-now T ℓ is-lane s (suc i) l (sym q ∙ e)))
+        (outward (reach-own i (omega arith)) (λ e. at-some end (suc i) l (sym q ∙ e)))
 
     x-out : m .out x ≡ none
     x-out =
         ap (m .out) x-last
-        ∙ St .same _ (spare-alive B idle-now T ℓ is-lane s _ (omega (arith, some-at))) .same-out
-        ∙ last-none (K B idle-now T ℓ is-lane s) s (spareOf s (T .shape ℓ) - 1) (omega (arith, some-at))
+        ∙ St .same _ (spare-alive end _ (omega (arith, some-at))) .same-out
+        ∙ last-none (own-lane end) s (spares end - 1) (omega (arith, some-at))
 
     d-inn : m .inn d ≡ none
     d-inn = ap (m .inn) (C .head) ∙ C .first-in
@@ -379,7 +380,7 @@ module _ {ws : List ℕ} (B : Begun ws) (idle-now : Idle ws) (T : IdleTable ws) 
     reach-spliced (at-hat j z l) = at-hat j z l
     reach-spliced (at-root ne) =
         let here : Reach (laneCount ws) mA none x =
-        subst (Reach (laneCount ws) mA none) (sym x-last) (reach-own (spareOf s (T .shape ℓ) - 1) (omega (arith, some-at))) in
+        subst (Reach (laneCount ws) mA none) (sym x-last) (reach-own (spares end - 1) (omega (arith, some-at))) in
         let q : mA .out x ≡ d = update-same (m .out) x d in
         subst (Reach (laneCount ws) mA none) q (outward here (λ e. ne (sym q ∙ e)))
     reach-spliced (outward {x = y} k ne) =

@@ -18,6 +18,7 @@ use Rattle.machine.proofs.SlotRule.Reached.{WellLinked, reachable-node, node-no
 use Rattle.machine.proofs.Linearizability.Model.Sides.{sides}
 use Rattle.machine.proofs.Linearizability.Calls.MadeTicks.{well-linked}
 use Rattle.machine.proofs.Linearizability.Corollaries.{begun-agrees}
+use Rattle.capacity.proofs.Alone.Runs.{Answered}
 use Rattle.capacity.proofs.Alone.Ends.{
   OtherEnd,
   EndIs,
@@ -131,24 +132,21 @@ module _ {ws : List ℕ} (B : Begun ws) where
   reached-some c = node-not-none (W .few) (reachable-node W c)
 
 -- ---- A table whose view is as it was.
-pub left-unchanged : {ws vs : List ℕ} (T : IdleTable ws) (ℓ : ℕ) → ℓ < laneCount ws → (s : Side) → Begun vs → Idle vs
-    → nodeCount vs ≡ nodeCount ws
-    → growth vs ≡ growth ws
-    → laneCount vs ≡ laneCount ws
-    → viewed s vs ≡ viewed s ws
+pub left-unchanged : {ws vs : List ℕ} (T : IdleTable ws) (ℓ : ℕ) → ℓ < laneCount ws → (s : Side)
+    → Answered s (nodeCount ws) (laneCount ws) (growth ws) (viewed s ws) vs
     → Left ws T ℓ s (spareOf s (T .shape ℓ)) (spurOf s (T .shape ℓ)) vs
-left-unchanged {ws} {vs} T ℓ is-lane s begun idle-then nodes growths lanes sees =
+left-unchanged {ws} {vs} T ℓ is-lane s A =
     let I = T .shape ℓ in
     record {
-      begun = begun;
-      idle-now = idle-then;
-      same-nodes = nodes;
-      same-growth = growths;
-      same-lanes = lanes;
+      begun = A .begun;
+      idle-now = A .idle-now;
+      same-nodes = A .same-nodes;
+      same-growth = A .same-growth;
+      same-lanes = A .same-lanes;
       at = spareAt s I;
       inner = innerAt s I;
       own-end =
           end-kept (idle-end (T .idle-lane ℓ is-lane) s)
-          (end-unchanged ws vs s sees ℓ s (spareAt s I) (innerAt s I) (spareOf s I));
-      others-kept = λ j z h _. end-unchanged ws vs s sees j z _ _ _;
+          (end-unchanged ws vs s (A .sees) ℓ s (spareAt s I) (innerAt s I) (spareOf s I));
+      others-kept = λ j z h _. end-unchanged ws vs s (A .sees) j z _ _ _;
     }

@@ -8,9 +8,8 @@ use Rattle.machine.specs.Sides.{Side, left, right, opposite}
 use Rattle.machine.specs.Values.{N, X, Y}
 use Rattle.machine.specs.Tasks.{none}
 use Rattle.machine.specs.Table.{laneCount, hat, link, value}
-use Rattle.machine.specs.Begun.{Begun}
 use Rattle.machine.specs.Reach.{Reachable}
-use Rattle.capacity.specs.NoLeak.{Idle, HatPlace, in-list, beside, LaneShape, listOf, IdleLane, IdleTable}
+use Rattle.capacity.specs.NoLeak.{HatPlace, in-list, beside, LaneShape, listOf, IdleLane, IdleTable}
 use Rattle.capacity.specs.Alone.{spareOf}
 use Rattle.machine.proofs.Basics.Contradiction.{refute, equal?, less?}
 use Rattle.machine.proofs.Words.Memories.{View, viewed}
@@ -36,6 +35,7 @@ use Rattle.capacity.proofs.Alone.Ends.{
 use Rattle.capacity.proofs.Alone.Pop.{hat-inward}
 use Rattle.capacity.proofs.Alone.Reach.{Reach, at-hat, at-root, outward, inward, to-view, idle-root}
 use Rattle.capacity.proofs.Alone.Left.{OtherKept, inn-is, val-is, hat-is, same-either, reached-some}
+use Rattle.capacity.proofs.Alone.CallEnds.{CallEnd, spares, spare, inner}
 
 -- The spare nodes of a lane's two ends are at different places.
 places-apart : (I : LaneShape) (s : Side) (i j : ℕ) → i < spareOf s I → j < spareOf (opposite s) I
@@ -60,34 +60,27 @@ hat-mark {ws} {j} {z} {at} {inner} {c} E = go (E .hat-place)
           | inr l ↦ is-X (ap (value ws) e ∙ E .spares .X-last 0 (omega (arith, E .spares .some)))
         ]
 
-module _ {ws : List ℕ} (B : Begun ws) (idle-now : Idle ws) (T : IdleTable ws) (ℓ : ℕ) (is-lane : ℓ < laneCount ws)
-    (s : Side) where
-  abbrev pub L : ℕ
-  L = laneCount ws
+module _ (end : CallEnd) where
+  abbrev pub ws : List ℕ
+  ws = end .words
 
-  abbrev pub I : LaneShape
-  I = T .shape ℓ
+  abbrev pub T : IdleTable (end .words)
+  T = end .table
 
-  pub K : IdleLane ws ℓ (T .shape ℓ)
-  K = T .idle-lane ℓ is-lane
+  abbrev pub ℓ : ℕ
+  ℓ = end .lane
 
-  abbrev pub m0 : View
-  m0 = viewed s ws
+  abbrev pub s : Side
+  s = end .side
+
+  pub own-lane : IdleLane ws ℓ (T .shape ℓ)
+  own-lane = T .idle-lane ℓ (end .is-lane)
 
   abbrev pub H : ℕ
   H = hat ws ℓ s
 
-  abbrev pub p : ℕ
-  p = innerAt s I
-
-  abbrev pub r : ℕ
-  r = spareOf s I
-
-  abbrev pub at : ℕ → ℕ
-  at = spareAt s I
-
   W : WellLinked ws
-  W = well-linked (begun-agrees B .1 .accepted)
+  W = well-linked (begun-agrees (end .begun) .1 .accepted)
 
   -- In use, and not a spur that the hat may leave.
   pub record Alive (x : ℕ) : Type 0 where
@@ -95,7 +88,7 @@ module _ {ws : List ℕ} (B : Begun ws) (idle-now : Idle ws) (T : IdleTable ws) 
     pub stays : x ≡ hat ws ℓ s → value ws (hat ws ℓ s) ≢ Y s
 
   to-reach : {x : ℕ} → Reachable ws x → Reach (laneCount ws) (viewed s ws) none x
-  to-reach c = to-view s ws (idle-root B idle-now) c
+  to-reach c = to-view s ws (idle-root (end .begun) (end .idle-now)) c
 
   pub list-alive : (j i : ℕ) (h : j < laneCount ws) → i < listOf (T .shape j) → Alive (T .shape j .at i)
   list-alive j i h l =
@@ -104,13 +97,13 @@ module _ {ws : List ℕ} (B : Begun ws) (idle-now : Idle ws) (T : IdleTable ws) 
         stays = λ e v. list-not-Y (T .idle-lane j h .main-list) i l s (ap (value ws) e ∙ v);
       }
 
-  pub spare-alive : (i : ℕ) → i < spareOf s (T .shape ℓ) → Alive (spareAt s (T .shape ℓ) i)
-  spare-alive i l = list-alive ℓ _ is-lane (spare-listed K s i l)
+  pub spare-alive : (i : ℕ) → i < spares end → Alive (spare end i)
+  spare-alive i l = list-alive ℓ _ (end .is-lane) (spare-listed own-lane s i l)
 
-  pub inner-alive : Alive (innerAt s (T .shape ℓ))
-  inner-alive = list-alive ℓ _ is-lane (inner-listed K s)
+  pub inner-alive : Alive (inner end)
+  inner-alive = list-alive ℓ _ (end .is-lane) (inner-listed own-lane s)
 
-  -- The other hats are at other nodes than a spur.
+  -- The other hats are (spare end) other nodes than a spur.
   pub other-hat-alive : (j : ℕ) (z : Side) → j < laneCount ws → OtherEnd ℓ (opposite s) j z → Alive (hat ws j z)
   other-hat-alive j z h other =
       record {
@@ -135,11 +128,11 @@ module _ {ws : List ℕ} (B : Begun ws) (idle-now : Idle ws) (T : IdleTable ws) 
       on-s : z ≡ s → hat ws j z ≡ hat ws ℓ s → value ws (hat ws ℓ s) ≡ Y s → OtherEnd ℓ (opposite s) j z → ⊥
       on-s q e v (inr u) = on-o u e v
       on-s q e v (inl ne) =
-          ne (sym (one-hat W T s ℓ j is-lane h v (sym e ∙ ap (hat ws j) q)))
+          ne (sym (one-hat W T s ℓ j (end .is-lane) h v (sym e ∙ ap (hat ws j) q)))
 
   -- ---- While no node of the lane is written: the hat may have left its spur.
   pub data HatNow (m : View) : Type 0 where
-    on-list : m .hats ℓ s ≡ spareAt s (T .shape ℓ) 0 → HatNow m
+    on-list : m .hats ℓ s ≡ spare end 0 → HatNow m
     on-spur : value ws (hat ws ℓ s) ≡ Y s → m .hats ℓ s ≡ hat ws ℓ s → SameIn (viewed s ws) m (hat ws ℓ s) → HatNow m
 
   pub record Stage (m : View) : Type 0 where
@@ -147,31 +140,31 @@ module _ {ws : List ℕ} (B : Begun ws) (idle-now : Idle ws) (T : IdleTable ws) 
     pub hats : (j : ℕ) (z : Side) → OtherEnd ℓ (opposite s) j z → m .hats j z ≡ hat ws j z
     pub hat-now : HatNow m
 
-  pub some-spare : 0 < spareOf s (T .shape ℓ)
-  some-spare = idle-end K s .spares .some
+  pub some-spare : 0 < spares end
+  some-spare = idle-end own-lane s .spares .some
 
-  pub at-some : (i : ℕ) → i < spareOf s (T .shape ℓ) → spareAt s (T .shape ℓ) i ≢ none
-  at-some i l = reached-some B (K .reached _ (spare-listed K s i l))
+  pub at-some : (i : ℕ) → i < spares end → spare end i ≢ none
+  at-some i l = reached-some (end .begun) (own-lane .reached _ (spare-listed own-lane s i l))
 
-  pub p-some : innerAt s (T .shape ℓ) ≢ none
-  p-some = reached-some B (K .reached _ (inner-listed K s))
+  pub p-some : inner end ≢ none
+  p-some = reached-some (end .begun) (own-lane .reached _ (inner-listed own-lane s))
 
   module _ {m : View} (G : Stage m) {d : ℕ} where
     -- The first spare node and the one before it are reached.
-    start-reached : Reach (laneCount ws) m d (spareAt s (T .shape ℓ) 0) × Reach (laneCount ws) m d (innerAt s (T .shape ℓ))
+    start-reached : Reach (laneCount ws) m d (spare end 0) × Reach (laneCount ws) m d (inner end)
     start-reached = go (G .hat-now)
       where
-        go : HatNow m → Reach (laneCount ws) m d (spareAt s (T .shape ℓ) 0) × Reach (laneCount ws) m d (innerAt s (T .shape ℓ))
+        go : HatNow m → Reach (laneCount ws) m d (spare end 0) × Reach (laneCount ws) m d (inner end)
         go (on-list e) =
-            let at-0 : Reach (laneCount ws) m d (at 0) = subst (Reach (laneCount ws) m d) e (at-hat ℓ s is-lane) in
-            let back : m .inn (at 0) ≡ p = G .same (at 0) (spare-alive 0 some-spare) .same-inn ∙ leads-in K s in
+            let at-0 : Reach (laneCount ws) m d (spare end 0) = subst (Reach (laneCount ws) m d) e (at-hat ℓ s (end .is-lane)) in
+            let back : m .inn (spare end 0) ≡ inner end = G .same (spare end 0) (spare-alive 0 some-spare) .same-inn ∙ leads-in own-lane s in
             (at-0, subst (Reach (laneCount ws) m d) back (inward at-0 (λ q. p-some (sym back ∙ q))))
         go (on-spur v e same-H) =
-            let at-H : Reach (laneCount ws) m d H = subst (Reach (laneCount ws) m d) e (at-hat ℓ s is-lane) in
-            let back : m .inn H ≡ p = same-H .same-inn ∙ hat-inward K s in
-            let at-p : Reach (laneCount ws) m d p =
+            let at-H : Reach (laneCount ws) m d H = subst (Reach (laneCount ws) m d) e (at-hat ℓ s (end .is-lane)) in
+            let back : m .inn H ≡ inner end = same-H .same-inn ∙ hat-inward own-lane s in
+            let at-p : Reach (laneCount ws) m d (inner end) =
             subst (Reach (laneCount ws) m d) back (inward at-H (λ q. p-some (sym back ∙ q))) in
-            let fore : m .out p ≡ at 0 = G .same p inner-alive .same-out ∙ inner-leads K s in
+            let fore : m .out (inner end) ≡ spare end 0 = G .same (inner end) inner-alive .same-out ∙ inner-leads own-lane s in
             (subst (Reach (laneCount ws) m d) fore (outward at-p (λ q. at-some 0 some-spare (sym fore ∙ q))), at-p)
 
     -- What is alive is reached.
@@ -184,16 +177,16 @@ module _ {ws : List ℕ} (B : Begun ws) (idle-now : Idle ws) (T : IdleTable ws) 
           | inl e ↦
               elim (sides s .either z) [
                 | inr q ↦ subst (Reach (laneCount ws) m d) (G .hats j z (inr q)) (at-hat j z h)
-                | inl q ↦ own (ap (λ (i : ℕ). hat ws i z) e ∙ ap (hat ws ℓ) q) (idle-end K s .hat-place)
+                | inl q ↦ own (ap (λ (i : ℕ). hat ws i z) e ∙ ap (hat ws ℓ) q) (idle-end own-lane s .hat-place)
               ]
         ]
       where
-        own : {y : ℕ} → hat ws j z ≡ hat ws ℓ s → HatPlace ws ℓ s (spareAt s (T .shape ℓ) 0) (innerAt s (T .shape ℓ)) y
+        own : {y : ℕ} → hat ws j z ≡ hat ws ℓ s → HatPlace ws ℓ s (spare end 0) (inner end) y
             → Reach (laneCount ws) m d (hat ws j z)
         own q (in-list e) = subst (Reach (laneCount ws) m d) (sym (q ∙ e)) (start-reached .0)
         own q (beside v o i) = absurd (stays q v)
     alive-reached-by (at-root ne) stays = absurd (ne refl)
-    alive-reached-by (outward {x} c ne) stays = go (λ a. alive-reached-by c a) (idle-end K s .hat-place)
+    alive-reached-by (outward {x} c ne) stays = go (λ a. alive-reached-by c a) (idle-end own-lane s .hat-place)
       where
         alive : ((x ≡ hat ws ℓ s → value ws (hat ws ℓ s) ≢ Y s) → Reach (laneCount ws) m d x)
             → (x ≡ hat ws ℓ s → value ws (hat ws ℓ s) ≢ Y s)
@@ -203,15 +196,15 @@ module _ {ws : List ℕ} (B : Begun ws) (idle-now : Idle ws) (T : IdleTable ws) 
             subst (Reach (laneCount ws) m d) q (outward (again a) (λ u. ne (sym q ∙ u)))
 
         go : {y : ℕ} → ((x ≡ hat ws ℓ s → value ws (hat ws ℓ s) ≢ Y s) → Reach (laneCount ws) m d x)
-            → HatPlace ws ℓ s (spareAt s (T .shape ℓ) 0) (innerAt s (T .shape ℓ)) y
+            → HatPlace ws ℓ s (spare end 0) (inner end) y
             → Reach (laneCount ws) m d (link ws s x)
-        go again (in-list e) = alive again (λ _ v. not-Y (idle-end K s .spares) (ap (value ws) (sym e) ∙ v))
+        go again (in-list e) = alive again (λ _ v. not-Y (idle-end own-lane s .spares) (ap (value ws) (sym e) ∙ v))
         go again (beside v o i) =
             elim (equal? x (hat ws ℓ s)) [
               | inl q ↦ absurd (ne (ap (link ws s) q ∙ o))
               | inr nq ↦ alive again (λ q _. nq q)
             ]
-    alive-reached-by (inward {x} c ne) stays = go (λ a. alive-reached-by c a) (idle-end K s .hat-place)
+    alive-reached-by (inward {x} c ne) stays = go (λ a. alive-reached-by c a) (idle-end own-lane s .hat-place)
       where
         alive : ((x ≡ hat ws ℓ s → value ws (hat ws ℓ s) ≢ Y s) → Reach (laneCount ws) m d x)
             → (x ≡ hat ws ℓ s → value ws (hat ws ℓ s) ≢ Y s)
@@ -221,13 +214,13 @@ module _ {ws : List ℕ} (B : Begun ws) (idle-now : Idle ws) (T : IdleTable ws) 
             subst (Reach (laneCount ws) m d) q (inward (again a) (λ u. ne (sym q ∙ u)))
 
         go : {y : ℕ} → ((x ≡ hat ws ℓ s → value ws (hat ws ℓ s) ≢ Y s) → Reach (laneCount ws) m d x)
-            → HatPlace ws ℓ s (spareAt s (T .shape ℓ) 0) (innerAt s (T .shape ℓ)) y
+            → HatPlace ws ℓ s (spare end 0) (inner end) y
             → Reach (laneCount ws) m d (link ws (opposite s) x)
-        go again (in-list e) = alive again (λ _ v. not-Y (idle-end K s .spares) (ap (value ws) (sym e) ∙ v))
+        go again (in-list e) = alive again (λ _ v. not-Y (idle-end own-lane s .spares) (ap (value ws) (sym e) ∙ v))
         go again (beside v o i) =
             elim (equal? x (hat ws ℓ s)) [
               | inl q ↦
-                  subst (Reach (laneCount ws) m d) (sym (ap (link ws (opposite s)) q ∙ hat-inward K s)) (start-reached .1)
+                  subst (Reach (laneCount ws) m d) (sym (ap (link ws (opposite s)) q ∙ hat-inward own-lane s)) (start-reached .1)
               | inr nq ↦ alive again (λ q _. nq q)
             ]
 
@@ -236,7 +229,7 @@ module _ {ws : List ℕ} (B : Begun ws) (idle-now : Idle ws) (T : IdleTable ws) 
 
   -- ---- At the end: own spare nodes may have been written, all else that is alive has not.
   pub record Others (m : View) : Type 0 where
-    pub safe : (x : ℕ) → Alive x → ((i : ℕ) → i < spareOf s (T .shape ℓ) → spareAt s (T .shape ℓ) i ≢ x)
+    pub safe : (x : ℕ) → Alive x → ((i : ℕ) → i < spares end → spare end i ≢ x)
         → SameIn (viewed s ws) m x
     pub same-inward : (x : ℕ) → Alive x → m .inn x ≡ link ws (opposite s) x
     pub hats : (j : ℕ) (z : Side) → OtherEnd ℓ (opposite s) j z → m .hats j z ≡ hat ws j z
@@ -247,37 +240,37 @@ module _ {ws : List ℕ} (B : Begun ws) (idle-now : Idle ws) (T : IdleTable ws) 
 
   module _ {m : View} (O : Others m) (vs : List ℕ) (sees : viewed s vs ≡ m) (j : ℕ) (z : Side) (h : j < laneCount ws)
       (other : OtherEnd ℓ (opposite s) j z) where
-    words-same : (x : ℕ) → Alive x → ((i : ℕ) → i < spareOf s (T .shape ℓ) → spareAt s (T .shape ℓ) i ≢ x) → (y : Side)
+    words-same : (x : ℕ) → Alive x → ((i : ℕ) → i < spares end → spare end i ≢ x) → (y : Side)
         → link vs y x ≡ link ws y x
     words-same x a n y = let w = O .safe x a n in same-either s vs sees ws x (w .same-out) (w .same-inn) y
 
-    value-same : (x : ℕ) → Alive x → ((i : ℕ) → i < spareOf s (T .shape ℓ) → spareAt s (T .shape ℓ) i ≢ x)
+    value-same : (x : ℕ) → Alive x → ((i : ℕ) → i < spares end → spare end i ≢ x)
         → value vs x ≡ value ws x
     value-same x a n = val-is s vs sees x ∙ O .safe x a n .same-val
 
     -- The spare nodes of the other end are not ours.
-    apart-lists : (i : ℕ) → i < spareOf s (T .shape ℓ) → (q : ℕ) → q < listOf (T .shape j) → j ≢ ℓ
-        → spareAt s (T .shape ℓ) i ≢ T .shape j .at q
+    apart-lists : (i : ℕ) → i < spares end → (q : ℕ) → q < listOf (T .shape j) → j ≢ ℓ
+        → spare end i ≢ T .shape j .at q
     apart-lists i l q lq ne e =
-        ne (sym (T .lists-apart ℓ j (sparePlace s (T .shape ℓ) i) q is-lane h (spare-listed K s i l) lq e))
+        ne (sym (T .lists-apart ℓ j (sparePlace s (T .shape ℓ) i) q (end .is-lane) h (spare-listed own-lane s i l) lq e))
 
-    apart-spares : (c i : ℕ) → c < spareOf z (T .shape j) → i < spareOf s (T .shape ℓ)
-        → spareAt s (T .shape ℓ) i ≢ spareAt z (T .shape j) c
+    apart-spares : (c i : ℕ) → c < spareOf z (T .shape j) → i < spares end
+        → spare end i ≢ spareAt z (T .shape j) c
     apart-spares c i lc li =
         elim (equal? j ℓ) [
           | inr ne ↦ apart-lists i li _ (spare-listed (T .idle-lane j h) z c lc) ne
           | inl e ↦ by-side e other
         ]
       where
-        by-side : j ≡ ℓ → OtherEnd ℓ (opposite s) j z → spareAt s (T .shape ℓ) i ≢ spareAt z (T .shape j) c
+        by-side : j ≡ ℓ → OtherEnd ℓ (opposite s) j z → spare end i ≢ spareAt z (T .shape j) c
         by-side e (inl ne) = absurd (ne e)
         by-side e (inr q) = λ same.
             let c' : c < spareOf (opposite s) (T .shape ℓ) =
             subst (λ (y : Side). c < spareOf y (T .shape ℓ)) q (subst (λ (u : ℕ). c < spareOf z (T .shape u)) e lc) in
-            let same' : spareAt s (T .shape ℓ) i ≡ spareAt (opposite s) (T .shape ℓ) c =
+            let same' : spare end i ≡ spareAt (opposite s) (T .shape ℓ) c =
             same ∙ ap (λ (u : ℕ). spareAt z (T .shape u) c) e ∙ ap (λ (y : Side). spareAt y (T .shape ℓ) c) q in
             places-apart (T .shape ℓ) s i c li c'
-            (K .main-list .different _ _ (spare-listed K s i li) (spare-listed K (opposite s) c c') same')
+            (own-lane .main-list .different _ _ (spare-listed own-lane s i li) (spare-listed own-lane (opposite s) c c') same')
 
     inner-same : link vs z (innerAt z (T .shape j)) ≡ link ws z (innerAt z (T .shape j))
     inner-same =
@@ -296,8 +289,8 @@ module _ {ws : List ℕ} (B : Begun ws) (idle-now : Idle ws) (T : IdleTable ws) 
             subst (λ (y : Side). link vs y x ≡ link ws y x) (sym q) (inn-is s vs sees x ∙ O .same-inward x a)
 
     -- The hat's node, where it is beside the list.
-    hat-safe : value ws (hat ws j z) ≡ Y z → (i : ℕ) → i < spareOf s (T .shape ℓ) → spareAt s (T .shape ℓ) i ≢ hat ws j z
-    hat-safe v i l e = list-not-Y (K .main-list) _ (spare-listed K s i l) z (ap (value ws) e ∙ v)
+    hat-safe : value ws (hat ws j z) ≡ Y z → (i : ℕ) → i < spares end → spare end i ≢ hat ws j z
+    hat-safe v i l e = list-not-Y (own-lane .main-list) _ (spare-listed own-lane s i l) z (ap (value ws) e ∙ v)
 
     pub others-kept : OtherKept ws vs T j z
     others-kept =

@@ -27,7 +27,6 @@ use Rattle.machine.proofs.Words.Memories.{View, viewed}
 use Rattle.machine.proofs.Linearizability.Model.Sides.{sides}
 use Rattle.machine.proofs.Linearizability.Lines.Connectives.{ok-if, ok-through}
 use Rattle.capacity.proofs.Alone.Ends.{OtherEnd, other-hat, EndIs, spareAt, innerAt, idle-end, inner-leads, inner-listed, leads-in}
-use Rattle.capacity.proofs.Alone.Runs as Runs
 use Rattle.capacity.proofs.Alone.Runs.{ok-swap, Leads, Answered, Next, going, ending, line-leads}
 use Rattle.capacity.proofs.Alone.Left.{
   OtherKept,
@@ -116,7 +115,7 @@ module _ {ws : List ℕ} (B : Begun ws) (T : IdleTable ws) (k ℓ : ℕ) (is-lan
   Next′ = Next k ℓ s (nodeCount ws) (laneCount ws) (growth ws) PopLeaves m
 
   abbrev Answered′ : View → List ℕ → Type 0
-  Answered′ = Answered k ℓ s (nodeCount ws) (laneCount ws) (growth ws) PopLeaves
+  Answered′ = Answered s (nodeCount ws) (laneCount ws) (growth ws)
 
   p-some : p ≢ none
   p-some = reached-some B (K .reached _ (inner-listed K s))
@@ -127,7 +126,7 @@ module _ {ws : List ℕ} (B : Begun ws) (T : IdleTable ws) (k ℓ : ℕ) (is-lan
   -- ---- "Empty": all is as it was.
   unchanged : {vs : List ℕ} → Answered′ m vs → Left ws T ℓ s (spareOf s (T .shape ℓ)) (spurOf s (T .shape ℓ)) vs
   unchanged A =
-      left-unchanged T ℓ is-lane s (A .ended .begun) (A .ended .idle-now) (A .same-nodes) (A .same-growth) (A .same-lanes) (A .ended .sees)
+      left-unchanged T ℓ is-lane s A
 
   -- ---- A bag: its node is spare now.
   module _ {b : ℕ} (p-bag : value ws p ≡ bag b) where
@@ -143,8 +142,8 @@ module _ {ws : List ℕ} (B : Begun ws) (T : IdleTable ws) (k ℓ : ℕ) (is-lan
     popped : {vs : List ℕ} → Answered′ m' vs → Left ws T ℓ s (suc (spareOf s (T .shape ℓ))) 0 vs
     popped {vs} A =
         record {
-          begun = A .ended .begun;
-          idle-now = A .ended .idle-now;
+          begun = A .begun;
+          idle-now = A .idle-now;
           same-nodes = A .same-nodes;
           same-growth = A .same-growth;
           same-lanes = A .same-lanes;
@@ -155,7 +154,7 @@ module _ {ws : List ℕ} (B : Begun ws) (T : IdleTable ws) (k ℓ : ℕ) (is-lan
         }
       where
         sees : viewed s vs ≡ m'
-        sees = A .ended .sees
+        sees = A .sees
 
         at' : ℕ → ℕ
         at' zero = p

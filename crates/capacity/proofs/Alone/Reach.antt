@@ -66,9 +66,6 @@ module _ (s : Side) (ws : List ℕ) {d : ℕ} (R : OneRoot ws d) where
   from-view (inward c ne) = along (opposite s) (from-view c) ne
 
 -- ---- Tables with no task in a call.
-rest-holds : (r : Register) → holds rest r ≡ false
-rest-holds r = refl
-
 pub idle-root : {ws : List ℕ} → Begun ws → Idle ws → OneRoot ws none
 idle-root {ws} B idle-now =
     record {
@@ -84,9 +81,6 @@ idle-root {ws} B idle-now =
         idle-fresh ws (well-shaped ws (ok .length-passes) (ok .shape-passes)) j (idle-now j)
 
 -- ---- A call that searches.
-not-held : (r : Register) → holds line28 r ≡ false
-not-held r = refl
-
 held-31 : (r : Register) (t : Task) → holds line31 r ≡ true → register t r ≡ t .D
 held-31 inA t h = clash (cc)
 held-31 inB t h = clash (cc)

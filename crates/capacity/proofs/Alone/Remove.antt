@@ -16,44 +16,55 @@ use Rattle.machine.specs.Table.{nodeCount, growth, laneCount, hat, link, value}
 use Rattle.machine.specs.Lines.{Effect, next, writing, act}
 use Rattle.machine.specs.Calls.{begunTask}
 use Rattle.machine.specs.Reach.{from-hat}
-use Rattle.machine.specs.Begun.{Begun}
-use Rattle.capacity.specs.NoLeak.{Idle, HatPlace, in-list, beside, IdleTable}
-use Rattle.capacity.specs.Alone.{spareOf, spurOf}
+use Rattle.capacity.specs.NoLeak.{HatPlace, in-list, beside, IdleTable}
+use Rattle.capacity.specs.Alone.{spurOf}
 use Rattle.machine.proofs.Basics.Contradiction.{clash, less?}
 use Rattle.machine.proofs.Basics.Updates.{update, update-same, update-other}
 use Rattle.machine.proofs.Words.Memories.{View, viewed}
 use Rattle.machine.proofs.Linearizability.Lines.Connectives.{ok-if, ok-through}
-use Rattle.capacity.proofs.Alone.Ends.{Spares, spareAt, innerAt, idle-end, not-Y, last-none}
+use Rattle.capacity.proofs.Alone.Ends.{Spares, idle-end, not-Y, last-none}
 use Rattle.capacity.proofs.Alone.Runs.{ok-swap, Leads, Answered, Next, going, ending, line-leads}
 use Rattle.capacity.proofs.Alone.Left.{Left, left-unchanged, reached-some}
-use Rattle.capacity.proofs.Alone.Others.{K, some-spare, at-some, Others}
+use Rattle.capacity.proofs.Alone.Others.{own-lane, some-spare, at-some, Others}
 use Rattle.capacity.proofs.Alone.Finish.{left-by, spares-differ}
+use Rattle.capacity.proofs.Alone.CallEnds.{CallEnd, spares, spare, inner}
 
-module _ {ws : List ℕ} (B : Begun ws) (idle-now : Idle ws) (T : IdleTable ws) (ℓ : ℕ) (is-lane : ℓ < laneCount ws)
-    (s : Side) (k v : ℕ) where
+module _ (end : CallEnd) (k v : ℕ) where
+  abbrev pub ws : List ℕ
+  ws = end .words
+
+  abbrev pub T : IdleTable (end .words)
+  T = end .table
+
+  abbrev pub ℓ : ℕ
+  ℓ = end .lane
+
+  abbrev pub s : Side
+  s = end .side
+
   -- What it answers and leaves.
   pub data RemoveLeaves (a : Answer) (vs : List ℕ) : Type 0 where
     on-spur-yes :
         a ≡ Yes
         → value ws (hat ws ℓ s) ≡ Y s
-        → Left ws T ℓ s (spareOf s (T .shape ℓ)) (spurOf s (T .shape ℓ)) vs
+        → Left ws T ℓ s (spares end) (spurOf s (T .shape ℓ)) vs
         → RemoveLeaves a vs
     few-yes :
         a ≡ Yes
         → value ws (hat ws ℓ s) ≢ Y s
-        → spareOf s (T .shape ℓ) < v + 2
-        → Left ws T ℓ s (spareOf s (T .shape ℓ)) (spurOf s (T .shape ℓ)) vs
+        → spares end < v + 2
+        → Left ws T ℓ s (spares end) (spurOf s (T .shape ℓ)) vs
         → RemoveLeaves a vs
     one-no :
         a ≡ No
         → value ws (hat ws ℓ s) ≢ Y s
-        → spareOf s (T .shape ℓ) ≡ v + 2
-        → Left ws T ℓ s (spareOf s (T .shape ℓ)) (spurOf s (T .shape ℓ)) vs
+        → spares end ≡ v + 2
+        → Left ws T ℓ s (spares end) (spurOf s (T .shape ℓ)) vs
         → RemoveLeaves a vs
     cuts-yes :
         a ≡ Yes
         → value ws (hat ws ℓ s) ≢ Y s
-        → v + 2 < spareOf s (T .shape ℓ)
+        → v + 2 < spares end
         → Left ws T ℓ s (suc v) 0 vs
         → RemoveLeaves a vs
 
@@ -67,7 +78,7 @@ module _ {ws : List ℕ} (B : Begun ws) (idle-now : Idle ws) (T : IdleTable ws) 
   Next′ m e = Next k ℓ s (nodeCount ws) (laneCount ws) (growth ws) RemoveLeaves m e
 
   abbrev Answered′ : View → List ℕ → Type 0
-  Answered′ = Answered k ℓ s (nodeCount ws) (laneCount ws) (growth ws) RemoveLeaves
+  Answered′ = Answered s (nodeCount ws) (laneCount ws) (growth ws)
 
   abbrev m0 : View
   m0 = viewed s ws
@@ -75,18 +86,12 @@ module _ {ws : List ℕ} (B : Begun ws) (idle-now : Idle ws) (T : IdleTable ws) 
   abbrev H : ℕ
   H = hat ws ℓ s
 
-  abbrev at : ℕ → ℕ
-  at = spareAt s (T .shape ℓ)
-
-  abbrev r : ℕ
-  r = spareOf s (T .shape ℓ)
-
   H-some : hat ws ℓ s ≢ none
-  H-some = reached-some B (from-hat ℓ s is-lane)
+  H-some = reached-some (end .begun) (from-hat ℓ s (end .is-lane))
 
-  unchanged : {vs : List ℕ} → Answered′ m0 vs → Left ws T ℓ s (spareOf s (T .shape ℓ)) (spurOf s (T .shape ℓ)) vs
+  unchanged : {vs : List ℕ} → Answered′ m0 vs → Left ws T ℓ s (spares end) (spurOf s (T .shape ℓ)) vs
   unchanged A =
-      left-unchanged T ℓ is-lane s (A .ended .begun) (A .ended .idle-now) (A .same-nodes) (A .same-growth) (A .same-lanes) (A .ended .sees)
+      left-unchanged T ℓ (end .is-lane) s A
 
   -- ---- With the hat on a spur.
   module _ (y : value ws (hat ws ℓ s) ≡ Y s) (o : link ws s (hat ws ℓ s) ≡ none) where
@@ -114,62 +119,62 @@ module _ {ws : List ℕ} (B : Begun ws) (idle-now : Idle ws) (T : IdleTable ws) 
         ok-if (Next′ m0) (λ e. e) (_ ≟ _) (λ _. ending (λ e. clash (cc)) (λ vs A. spur-ends A)) (λ ne. absurd (ne o)))))))))))
 
   -- ---- With the hat in the list.
-  module _ (hat-at : hat ws ℓ s ≡ spareAt s (T .shape ℓ) 0) where
-    E : Spares ws s (spareAt s (T .shape ℓ)) (spareOf s (T .shape ℓ))
-    E = idle-end (K B idle-now T ℓ is-lane s) s .spares
+  module _ (hat-at : hat ws ℓ s ≡ spare end 0) where
+    E : Spares ws s (spare end) (spares end)
+    E = idle-end (own-lane end) s .spares
 
     off-Y : value ws (hat ws ℓ s) ≢ Y s
     off-Y y = not-Y E (ap (value ws) (sym hat-at) ∙ y)
 
-    some-at : (i x : ℕ) → i < spareOf s (T .shape ℓ) → x ≡ spareAt s (T .shape ℓ) i → x ≢ none
-    some-at i x l e q = at-some B idle-now T ℓ is-lane s i l (sym e ∙ q)
+    some-at : (i x : ℕ) → i < spares end → x ≡ spare end i → x ≢ none
+    some-at i x l e q = at-some end i l (sym e ∙ q)
 
-    differ : (i j : ℕ) → i < spareOf s (T .shape ℓ) → j < spareOf s (T .shape ℓ) → i ≢ j
-        → spareAt s (T .shape ℓ) i ≢ spareAt s (T .shape ℓ) j
-    differ i j hi hj ne e = ne (spares-differ B idle-now T ℓ is-lane s i j hi hj e)
+    differ : (i j : ℕ) → i < spares end → j < spares end → i ≢ j
+        → spare end i ≢ spare end j
+    differ i j hi hj ne e = ne (spares-differ end i j hi hj e)
 
     -- A node of the own end written.
-    own-other : (i x : ℕ) → i < spareOf s (T .shape ℓ) → x ≡ spareAt s (T .shape ℓ) i → (y : ℕ)
-        → ((j : ℕ) → j < spareOf s (T .shape ℓ) → spareAt s (T .shape ℓ) j ≢ y)
+    own-other : (i x : ℕ) → i < spares end → x ≡ spare end i → (y : ℕ)
+        → ((j : ℕ) → j < spares end → spare end j ≢ y)
         → y ≢ x
     own-other i x l e y n q = n i l (sym (q ∙ e))
 
     -- The nodes up to v stay, the one at v is the last; from j on nothing is unlinked yet, and after j nothing is marked.
     record Cut (m : View) (j : ℕ) : Type 0 where
       pub past : v < j
-      pub others : Others B idle-now T ℓ is-lane s m
-      pub hat-same : m .hats ℓ s ≡ spareAt s (T .shape ℓ) 0
-      pub keep-val : (i : ℕ) → i < v → m .val (spareAt s (T .shape ℓ) i) ≡ N s
-      pub last-val : m .val (spareAt s (T .shape ℓ) v) ≡ X s
-      pub keep-out : (i : ℕ) → i < v → m .out (spareAt s (T .shape ℓ) i) ≡ spareAt s (T .shape ℓ) (suc i)
-      pub rest-out : (i : ℕ) → j ≤ i → i < spareOf s (T .shape ℓ) → m .out (spareAt s (T .shape ℓ) i) ≡ link ws s (spareAt s (T .shape ℓ) i)
-      pub rest-val : (i : ℕ) → j < i → i < spareOf s (T .shape ℓ) → m .val (spareAt s (T .shape ℓ) i) ≡ value ws (spareAt s (T .shape ℓ) i)
+      pub others : Others end m
+      pub hat-same : m .hats ℓ s ≡ spare end 0
+      pub keep-val : (i : ℕ) → i < v → m .val (spare end i) ≡ N s
+      pub last-val : m .val (spare end v) ≡ X s
+      pub keep-out : (i : ℕ) → i < v → m .out (spare end i) ≡ spare end (suc i)
+      pub rest-out : (i : ℕ) → j ≤ i → i < spares end → m .out (spare end i) ≡ link ws s (spare end i)
+      pub rest-val : (i : ℕ) → j < i → i < spares end → m .val (spare end i) ≡ value ws (spare end i)
 
-    cut-done : (m : View) (j : ℕ) → Cut m j → v + 2 < spareOf s (T .shape ℓ) → {vs : List ℕ} → Answered′ m vs
+    cut-done : (m : View) (j : ℕ) → Cut m j → v + 2 < spares end → {vs : List ℕ} → Answered′ m vs
         → RemoveLeaves Yes vs
     cut-done m j C more A =
         cuts-yes refl off-Y more
-        (left-by B idle-now T ℓ is-lane s (C .others)
+        (left-by end (C .others)
         (record {
           some = omega arith;
           N-before = λ i h. C .keep-val i (omega arith);
           X-last = λ i h.
               let e : i ≡ v = omega arith in
-              ap (λ (q : ℕ). m .val (spareAt s (T .shape ℓ) q)) e ∙ C .last-val;
+              ap (λ (q : ℕ). m .val (spare end q)) e ∙ C .last-val;
           leads = λ i h. C .keep-out i (omega arith);
           hat-at = C .hat-same;
         })
-        (A .ended .begun) (A .ended .idle-now) (A .same-nodes) (A .same-growth) (A .same-lanes) (A .ended .sees))
+        A)
 
     -- An outward link of the own end, behind v, set to none.
-    module _ {m : View} {j : ℕ} (C : Cut m j) (x : ℕ) (e : x ≡ spareAt s (T .shape ℓ) j) (l : j < spareOf s (T .shape ℓ)) where
+    module _ {m : View} {j : ℕ} (C : Cut m j) (x : ℕ) (e : x ≡ spare end j) (l : j < spares end) where
       abbrev unlinked : View
       unlinked = record { out = update (m .out) x none; inn = m .inn; val = m .val; hats = m .hats }
 
-      at-not-x : (i : ℕ) → i < spareOf s (T .shape ℓ) → i ≢ j → spareAt s (T .shape ℓ) i ≢ x
+      at-not-x : (i : ℕ) → i < spares end → i ≢ j → spare end i ≢ x
       at-not-x i li ne q = differ i j li l ne (q ∙ e)
 
-      others-unlinked : Others B idle-now T ℓ is-lane s unlinked
+      others-unlinked : Others end unlinked
       others-unlinked =
           record {
             safe = λ y a n.
@@ -184,9 +189,9 @@ module _ {ws : List ℕ} (B : Begun ws) (idle-now : Idle ws) (T : IdleTable ws) 
           }
 
     -- ---- Line 82.
-    at-82 : (m : View) (j : ℕ) → Cut m j → (x n : ℕ) (u : Value) (b c : ℕ) → x ≡ spareAt s (T .shape ℓ) j
-        → j < spareOf s (T .shape ℓ)
-        → v + 2 < spareOf s (T .shape ℓ)
+    at-82 : (m : View) (j : ℕ) → Cut m j → (x n : ℕ) (u : Value) (b c : ℕ) → x ≡ spare end j
+        → j < spares end
+        → v + 2 < spares end
         → Leads′ (further t0 line82 n u x b c none) m
     unfolding act
     at-82 m j C x n u b c e l more =
@@ -209,18 +214,18 @@ module _ {ws : List ℕ} (B : Begun ws) (idle-now : Idle ws) (T : IdleTable ws) 
         }) more A)))
 
     -- ---- Lines 77 to 81: the next node is marked, and this one is unlinked.
-    module _ {m : View} {j : ℕ} (C : Cut m j) (x b : ℕ) (e : x ≡ spareAt s (T .shape ℓ) j)
-        (eb : b ≡ spareAt s (T .shape ℓ) (suc j)) (l : suc j < spareOf s (T .shape ℓ)) where
+    module _ {m : View} {j : ℕ} (C : Cut m j) (x b : ℕ) (e : x ≡ spare end j)
+        (eb : b ≡ spare end (suc j)) (l : suc j < spares end) where
       abbrev marked : View
       marked = record { out = m .out; inn = m .inn; val = update (m .val) b (Y s); hats = m .hats }
 
       abbrev onward : View
       onward = record { out = update (m .out) x none; inn = m .inn; val = update (m .val) b (Y s); hats = m .hats }
 
-      not-b : (i : ℕ) → i < spareOf s (T .shape ℓ) → i ≢ suc j → spareAt s (T .shape ℓ) i ≢ b
+      not-b : (i : ℕ) → i < spares end → i ≢ suc j → spare end i ≢ b
       not-b i li ne q = differ i (suc j) li l ne (q ∙ eb)
 
-      not-x : (i : ℕ) → i < spareOf s (T .shape ℓ) → i ≢ j → spareAt s (T .shape ℓ) i ≢ x
+      not-x : (i : ℕ) → i < spares end → i ≢ j → spare end i ≢ x
       not-x i li ne q = differ i j li (omega arith) ne (q ∙ e)
 
       cut-onward : Cut onward (suc j)
@@ -254,10 +259,10 @@ module _ {ws : List ℕ} (B : Begun ws) (idle-now : Idle ws) (T : IdleTable ws) 
           }
 
       -- The node at b leads on as it did.
-      on-b : onward .out b ≡ link ws s (spareAt s (T .shape ℓ) (suc j))
+      on-b : onward .out b ≡ link ws s (spare end (suc j))
       on-b = ap (onward .out) eb ∙ cut-onward .rest-out (suc j) (omega arith) l
 
-      read-b : m .val b ≡ value ws (spareAt s (T .shape ℓ) (suc j))
+      read-b : m .val b ≡ value ws (spare end (suc j))
       read-b = ap (m .val) eb ∙ C .rest-val (suc j) (omega arith) l
 
       x-some : x ≢ none
@@ -284,16 +289,16 @@ module _ {ws : List ℕ} (B : Begun ws) (idle-now : Idle ws) (T : IdleTable ws) 
           ok-through (Next′ marked) (λ z. absurd (x-some z)) (λ _. going refl on-81))))
           (λ ne. absurd (ne refl)))))))
 
-    loop : (fuel j : ℕ) (m : View) → Cut m j → (x b n : ℕ) (u : Value) (c : ℕ) → x ≡ spareAt s (T .shape ℓ) j
-        → b ≡ spareAt s (T .shape ℓ) (suc j)
-        → suc (suc (j + fuel)) ≡ spareOf s (T .shape ℓ)
-        → v + 2 < spareOf s (T .shape ℓ)
+    loop : (fuel j : ℕ) (m : View) → Cut m j → (x b n : ℕ) (u : Value) (c : ℕ) → x ≡ spare end j
+        → b ≡ spare end (suc j)
+        → suc (suc (j + fuel)) ≡ spares end
+        → v + 2 < spares end
         → Leads′ (further t0 line77 n u x b c none) m
     unfolding act
     loop zero j m C x b n u c e eb l more =
-        let h : suc j < spareOf s (T .shape ℓ) = omega arith in
+        let h : suc j < spares end = omega arith in
         let ends-here : onward C x b e eb h .out b ≡ none =
-        on-b C x b e eb h ∙ last-none (K B idle-now T ℓ is-lane s) s (suc j) (omega arith) in
+        on-b C x b e eb h ∙ last-none (own-lane end) s (suc j) (omega arith) in
         next-node C x b e eb h n c
         (line-leads k ℓ s _ _ _ _ (λ f.
         ok-through (Next′ (onward C x b e eb h)) (λ z. absurd (b-some C x b e eb h z)) (λ _.
@@ -304,8 +309,8 @@ module _ {ws : List ℕ} (B : Begun ws) (idle-now : Idle ws) (T : IdleTable ws) 
         (λ ne. absurd (ne ends-here)))))
         u
     loop (suc fuel) j m C x b n u c e eb l more =
-        let h : suc j < spareOf s (T .shape ℓ) = omega arith in
-        let on : onward C x b e eb h .out b ≡ spareAt s (T .shape ℓ) (suc (suc j)) =
+        let h : suc j < spares end = omega arith in
+        let on : onward C x b e eb h .out b ≡ spare end (suc (suc j)) =
         on-b C x b e eb h ∙ E .leads (suc j) (omega arith) in
         let is-N : m .val b ≡ N s = read-b C x b e eb h ∙ E .N-before (suc j) (omega arith) in
         let rest =
@@ -322,8 +327,8 @@ module _ {ws : List ℕ} (B : Begun ws) (idle-now : Idle ws) (T : IdleTable ws) 
         u
 
     -- ---- Lines 62 to 74: the cut.
-    module _ (x b : ℕ) (e : x ≡ spareAt s (T .shape ℓ) v) (eb : b ≡ spareAt s (T .shape ℓ) (suc v))
-        (more : v + 2 < spareOf s (T .shape ℓ)) where
+    module _ (x b : ℕ) (e : x ≡ spare end v) (eb : b ≡ spare end (suc v))
+        (more : v + 2 < spares end) where
       abbrev m62 : View
       m62 = record { out = m0 .out; inn = m0 .inn; val = update (update (m0 .val) x (X s)) b (Y s); hats = m0 .hats }
 
@@ -336,14 +341,14 @@ module _ {ws : List ℕ} (B : Begun ws) (idle-now : Idle ws) (T : IdleTable ws) 
             hats = m0 .hats;
           }
 
-      no-x : (i : ℕ) → i < spareOf s (T .shape ℓ) → i ≢ v → spareAt s (T .shape ℓ) i ≢ x
+      no-x : (i : ℕ) → i < spares end → i ≢ v → spare end i ≢ x
       no-x i li ne q = differ i v li (omega arith) ne (q ∙ e)
 
-      no-b : (i : ℕ) → i < spareOf s (T .shape ℓ) → i ≢ suc v → spareAt s (T .shape ℓ) i ≢ b
+      no-b : (i : ℕ) → i < spares end → i ≢ suc v → spare end i ≢ b
       no-b i li ne q = differ i (suc v) li (omega arith) ne (q ∙ eb)
 
-      val-then : (i : ℕ) → i < spareOf s (T .shape ℓ) → i ≢ v → i ≢ suc v
-          → m64 .val (spareAt s (T .shape ℓ) i) ≡ value ws (spareAt s (T .shape ℓ) i)
+      val-then : (i : ℕ) → i < spares end → i ≢ v → i ≢ suc v
+          → m64 .val (spare end i) ≡ value ws (spare end i)
       val-then i li nx nb =
           update-other (update (m0 .val) x (X s)) b (Y s) _ (no-b i li nb) ∙ update-other (m0 .val) x (X s) _ (no-x i li nx)
 
@@ -377,7 +382,7 @@ module _ {ws : List ℕ} (B : Begun ws) (idle-now : Idle ws) (T : IdleTable ws) 
             rest-val = λ i h li. val-then i li (λ q. omega arith) (λ q. omega arith);
           }
 
-      on-first : m64 .out b ≡ spareAt s (T .shape ℓ) (suc (suc v))
+      on-first : m64 .out b ≡ spare end (suc (suc v))
       on-first =
           ap (m64 .out) eb ∙ cut-first .rest-out (suc v) (omega arith) (omega arith) ∙ E .leads (suc v) (omega arith)
 
@@ -393,7 +398,7 @@ module _ {ws : List ℕ} (B : Begun ws) (idle-now : Idle ws) (T : IdleTable ws) 
           (λ z. absurd (some-at (suc (suc v)) _ (omega arith) on-first z))
           (λ _.
           going refl
-          (loop (spareOf s (T .shape ℓ) - suc (suc (suc v))) (suc v) m64 cut-first b (m64 .out b) n u c eb on-first
+          (loop (spares end - suc (suc (suc v))) (suc v) m64 cut-first b (m64 .out b) n u c eb on-first
           (omega arith) more))))
 
       at-64 : (n : ℕ) (u : Value) (c : ℕ) → Leads′ (further t0 line64 n u x b c none) m62
@@ -405,8 +410,8 @@ module _ {ws : List ℕ} (B : Begun ws) (idle-now : Idle ws) (T : IdleTable ws) 
           (λ _. going refl (at-74 n u c)) (λ ne. absurd (ne to-b))))
 
     -- ---- Lines 60 and 62.
-    at-62 : (x b n : ℕ) (u : Value) (c : ℕ) → x ≡ spareAt s (T .shape ℓ) v → b ≡ spareAt s (T .shape ℓ) (suc v)
-        → suc v < spareOf s (T .shape ℓ)
+    at-62 : (x b n : ℕ) (u : Value) (c : ℕ) → x ≡ spare end v → b ≡ spare end (suc v)
+        → suc v < spares end
         → Leads′ (further t0 line62 n u x b c none) m0
     unfolding act
     at-62 x b n u c e eb l =
@@ -415,20 +420,20 @@ module _ {ws : List ℕ} (B : Begun ws) (idle-now : Idle ws) (T : IdleTable ws) 
         ok-through (Next′ m0) (λ z. absurd (some-at (suc v) b l eb z)) (λ _.
         ok-swap (Next′ m0) _ _
         (λ _ b-N.
-        elim (less? (v + 2) (spareOf s (T .shape ℓ))) [
+        elim (less? (v + 2) (spares end)) [
           | inl more ↦ going refl (at-64 x b e eb more n u c)
           | inr few ↦
               let q = E .X-last (suc v) (omega arith) in
               clash (cc (ap (value ws) eb))
         ])
         (λ ne.
-        elim (less? (v + 2) (spareOf s (T .shape ℓ))) [
+        elim (less? (v + 2) (spares end)) [
           | inl more ↦
               absurd (ne (ap (value ws) e ∙ E .N-before v (omega arith)) (ap (value ws) eb ∙ E .N-before (suc v) (omega arith)))
           | inr few ↦ ending (λ z. clash (cc)) (λ vs A. one-no refl off-Y (omega arith) (unchanged A))
         ]))))
 
-    at-60 : (x n : ℕ) (u : Value) (b c : ℕ) → x ≡ spareAt s (T .shape ℓ) v → v < spareOf s (T .shape ℓ)
+    at-60 : (x n : ℕ) (u : Value) (b c : ℕ) → x ≡ spare end v → v < spares end
         → Leads′ (further t0 line60 n u x b c none) m0
     unfolding act
     at-60 x n u b c e l =
@@ -436,25 +441,25 @@ module _ {ws : List ℕ} (B : Begun ws) (idle-now : Idle ws) (T : IdleTable ws) 
         ok-through (Next′ m0) (λ z. absurd (some-at v x l e z)) (λ _.
         ok-if (Next′ m0) (λ q. q) (_ ≟ _)
         (λ z.
-        elim (less? (suc v) (spareOf s (T .shape ℓ))) [
+        elim (less? (suc v) (spares end)) [
           | inl more ↦ absurd (some-at (suc v) (link ws s x) more (ap (link ws s) e ∙ E .leads v more) z)
           | inr few ↦ ending (λ q. clash (cc)) (λ vs A. few-yes refl off-Y (omega arith) (unchanged A))
         ])
         (λ ne.
-        elim (less? (suc v) (spareOf s (T .shape ℓ))) [
+        elim (less? (suc v) (spares end)) [
           | inl more ↦ going refl (at-62 x (link ws s x) n u c e (ap (link ws s) e ∙ E .leads v more) more)
           | inr few ↦
-              absurd (ne (ap (link ws s) e ∙ last-none (K B idle-now T ℓ is-lane s) s v (omega arith)))
+              absurd (ne (ap (link ws s) e ∙ last-none (own-lane end) s v (omega arith)))
         ])))
 
     -- ---- Lines 56 and 58: the walk to the node at v.
-    walk-step : (i x : ℕ) (u : Value) (b c : ℕ) → x ≡ spareAt s (T .shape ℓ) i → i < v → i < spareOf s (T .shape ℓ)
-        → ((x' : ℕ) → x' ≡ spareAt s (T .shape ℓ) (suc i) → suc i ≢ v → suc i < spareOf s (T .shape ℓ)
+    walk-step : (i x : ℕ) (u : Value) (b c : ℕ) → x ≡ spare end i → i < v → i < spares end
+        → ((x' : ℕ) → x' ≡ spare end (suc i) → suc i ≢ v → suc i < spares end
         → Leads′ (further t0 line56 (suc i) u x' b c none) m0)
         → Leads′ (further t0 line56 i u x b c none) m0
     unfolding act
     walk-step i x u b c e below l again =
-        elim (less? (suc i) (spareOf s (T .shape ℓ))) [
+        elim (less? (suc i) (spares end)) [
           | inr few ↦
               let is-X : value ws x ≡ X s = ap (value ws) e ∙ E .X-last i (omega arith) in
               line-leads k ℓ s _ _ _ _ (λ f.
@@ -464,7 +469,7 @@ module _ {ws : List ℕ} (B : Begun ws) (idle-now : Idle ws) (T : IdleTable ws) 
               (λ ne. absurd (ne is-X))))
           | inl more ↦
               let is-N : value ws x ≡ N s = ap (value ws) e ∙ E .N-before i more in
-              let on : link ws s x ≡ spareAt s (T .shape ℓ) (suc i) = ap (link ws s) e ∙ E .leads i more in
+              let on : link ws s x ≡ spare end (suc i) = ap (link ws s) e ∙ E .leads i more in
               line-leads k ℓ s _ _ _ _ (λ f.
               ok-through (Next′ m0) (λ z. absurd (some-at i x l e z)) (λ _.
               ok-if (Next′ m0) (λ q. q) (_ ≟ᵛ _) (λ z. clash (cc)) (λ _.
@@ -477,12 +482,12 @@ module _ {ws : List ℕ} (B : Begun ws) (idle-now : Idle ws) (T : IdleTable ws) 
               ok-if (Next′ m0) (λ st. next (further t0 line58 (suc i) u (link ws s x) b c none) st) (_ ≟ _)
               (λ there.
               going refl
-              (at-60 (link ws s x) (suc i) u b c (on ∙ ap (spareAt s (T .shape ℓ)) there) (subst (λ (q : ℕ). q < spareOf s (T .shape ℓ)) there more)))
+              (at-60 (link ws s x) (suc i) u b c (on ∙ ap (spare end) there) (subst (λ (q : ℕ). q < spares end) there more)))
               (λ ne. going refl (again (link ws s x) on ne more)))))))))
         ]
 
-    walk : (fuel i x : ℕ) (u : Value) (b c : ℕ) → x ≡ spareAt s (T .shape ℓ) i → suc (i + fuel) ≡ v
-        → i < spareOf s (T .shape ℓ)
+    walk : (fuel i x : ℕ) (u : Value) (b c : ℕ) → x ≡ spare end i → suc (i + fuel) ≡ v
+        → i < spares end
         → Leads′ (further t0 line56 i u x b c none) m0
     walk zero i x u b c e l h = walk-step i x u b c e (omega arith) h (λ x' e' ne h'. absurd (ne (omega arith)))
     walk (suc fuel) i x u b c e l h =
@@ -491,19 +496,19 @@ module _ {ws : List ℕ} (B : Begun ws) (idle-now : Idle ws) (T : IdleTable ws) 
     list-leads : Leads′ (begunTask ℓ remove s v) m0
     unfolding act
     list-leads =
-        let one = some-spare B idle-now T ℓ is-lane s in
+        let one = some-spare end in
         line-leads k ℓ s _ _ _ _ (λ f.
         ok-if (Next′ m0) (λ st. next (further t0 line54 0 never H none none none) st) (_ ≟ _)
         (λ z.
         going refl
-        (at-60 H 0 never none none (hat-at ∙ ap (spareAt s (T .shape ℓ)) (sym z))
-        (subst (λ (q : ℕ). q < spareOf s (T .shape ℓ)) (sym z) one)))
+        (at-60 H 0 never none none (hat-at ∙ ap (spare end) (sym z))
+        (subst (λ (q : ℕ). q < spares end) (sym z) one)))
         (λ ne. going refl (walk (v - 1) 0 H never none none hat-at (omega arith) one)))
 
   pub remove-leads : Leads k ℓ s (nodeCount ws) (laneCount ws) (growth ws) RemoveLeaves (begunTask ℓ remove s v) (viewed s ws)
-  remove-leads = go (idle-end (K B idle-now T ℓ is-lane s) s .hat-place)
+  remove-leads = go (idle-end (own-lane end) s .hat-place)
     where
-      go : {y : ℕ} → HatPlace ws ℓ s (spareAt s (T .shape ℓ) 0) (innerAt s (T .shape ℓ)) y
+      go : {y : ℕ} → HatPlace ws ℓ s (spare end 0) (inner end) y
           → Leads′ (begunTask ℓ remove s v) (viewed s ws)
       go (in-list e) = list-leads e
       go (beside y o i) = spur-leads y o

@@ -66,6 +66,15 @@ ok-swap P (yes p) (yes q) f g = f p q
 ok-swap P (yes p) (no q) f g = g (λ _ b. q b)
 ok-swap P (no p) e f g = g (λ a _. p a)
 
+-- A call on side s has answered, in a table of these sizes, and m is the view that it leaves.
+pub record Answered (s : Side) (S L g : ℕ) (m : View) (vs : List ℕ) : Type 0 where
+  pub begun : Begun vs
+  pub idle-now : Idle vs
+  pub same-nodes : nodeCount vs ≡ S
+  pub same-lanes : laneCount vs ≡ L
+  pub same-growth : growth vs ≡ g
+  pub sees : viewed s vs ≡ m
+
 module _ (k ℓ : ℕ) (s : Side) where
   -- Task k stands with the record t, on side s of lane ℓ, whose view is m; no other task is in a call.
   pub record At (t : Task) (m : View) (ws : List ℕ) : Type 0 where
@@ -75,12 +84,6 @@ module _ (k ℓ : ℕ) (s : Side) where
     pub on-side : t .side ≡ s
     pub others : (j : ℕ) → j ≢ k → task ws j ≡ fresh
     pub sees : viewed s ws ≡ m
-
-  -- The call has ended, with the view m.
-  pub record Ended (m : View) (vs : List ℕ) : Type 0 where
-    pub begun : Begun vs
-    pub idle-now : Idle vs
-    pub sees : viewed s vs ≡ m
 
   pub record SameSizes (ws vs : List ℕ) : Type 0 where
     pub nodes : nodeCount vs ≡ nodeCount ws
@@ -143,8 +146,17 @@ module _ (k ℓ : ℕ) (s : Side) where
               sees = sees-then ∙ ap (λ (x : Effect). written ℓ s (x .writes) m) same;
             }
 
+    sizes-then : SameSizes ws after
+    sizes-then =
+        record {
+          nodes = nodes-after A k h passes;
+          lanes = lanes-after A k h passes;
+          growths = growth-after A k h passes;
+        }
+
     -- It answers.
-    ends : {e : Effect} → effectOf ws k h ≡ e → e .answer ≢ Going → Ended (written ℓ s (e .writes) m) after
+    ends : {e : Effect} → effectOf ws k h ≡ e → e .answer ≢ Going
+        → Answered s (nodeCount ws) (laneCount ws) (growth ws) (written ℓ s (e .writes) m) after
     ends {e} same answers =
         record {
           begun = begun-ticked (P .begun) k h;
@@ -156,6 +168,9 @@ module _ (k ℓ : ℕ) (s : Side) where
                     ∙ ap (λ (x : Task). x .operation) (fresh-then (keeps-invariant A k h passes .kept))
                 | no i ↦ ap (λ (x : Task). x .operation) (other-after A k h passes j i ∙ P .others j i)
               ];
+          same-nodes = sizes-then .nodes;
+          same-lanes = sizes-then .lanes;
+          same-growth = sizes-then .growths;
           sees = sees-then ∙ ap (λ (x : Effect). written ℓ s (x .writes) m) same;
         }
       where
@@ -163,27 +178,12 @@ module _ (k ℓ : ℕ) (s : Side) where
         fresh-then (has-answered ne fresh-now) = fresh-now
         fresh-then (goes-on e _) = absurd (answers (ap (λ (x : Effect). x .answer) (sym same) ∙ e))
 
-    sizes-then : SameSizes ws after
-    sizes-then =
-        record {
-          nodes = nodes-after A k h passes;
-          lanes = lanes-after A k h passes;
-          growths = growth-after A k h passes;
-        }
-
   -- ---- What a call leads to: whatever hints it gets, an answer and a table of which Q is true.
   module _ (S L g : ℕ) (Q : Answer → List ℕ → Type 0) where
     pub record Leads (t : Task) (m : View) : Type 0 where
       pub leads : {a : Answer} {vs ws : List ℕ} → At t m ws → nodeCount ws ≡ S → laneCount ws ≡ L → growth ws ≡ g
           → AloneTo k a vs ws
           → Q a vs
-
-    -- The table afterwards has the same sizes.
-    pub record Answered (m : View) (vs : List ℕ) : Type 0 where
-      pub ended : Ended m vs
-      pub same-nodes : nodeCount vs ≡ S
-      pub same-growth : growth vs ≡ g
-      pub same-lanes : laneCount vs ≡ L
 
     abbrev pub lineAt : Task → View → (f : ℕ) → Effect
     lineAt t m f = act (t .step) s (opposite s) (seenIn ℓ s m) t (goal g t) f
@@ -193,7 +193,7 @@ module _ (k ℓ : ℕ) (s : Side) where
       going : e .answer ≡ Going → Leads (e .task) (written ℓ s (e .writes) m) → Next m e
       ending :
           e .answer ≢ Going
-          → ((vs : List ℕ) → Answered (written ℓ s (e .writes) m) vs → Q (e .answer) vs)
+          → ((vs : List ℕ) → Answered s S L g (written ℓ s (e .writes) m) vs → Q (e .answer) vs)
           → Next m e
 
     module _ {t : Task} {m : View} {ws : List ℕ} (P : At t m ws) (nodes : nodeCount ws ≡ S)
@@ -212,7 +212,9 @@ module _ (k ℓ : ℕ) (s : Side) where
       abbrev e : Effect
       e = lineAt t m (allocate ws h)
 
-      last-tick : {a : Answer} {vs : List ℕ} → tickRefusal ws k h ≡ nothing → endsCall a ≡ true → tick ws k h .answer ≡ a → tick ws k h .words ≡ vs
+      last-tick : {a : Answer} {vs : List ℕ} → tickRefusal ws k h ≡ nothing → endsCall a ≡ true
+          → tick ws k h .answer ≡ a
+          → tick ws k h .words ≡ vs
           → Next m (lineAt t m (allocate ws h))
           → Q a vs
       last-tick {a} {vs} passes is-end is-a leaves (going goes-on-now next) =
@@ -222,20 +224,23 @@ module _ (k ℓ : ℕ) (s : Side) where
           clash (cc)
       last-tick {a} {vs} passes is-end is-a leaves (ending ne done) =
           let line = line-is passes in
-          let z = sizes-then P h passes in
+          let A = ends P h passes line ne in
           let words : tickOn ws k h .words ≡ vs = ap (λ (r : Ticked). r .words) (sym is-tick) ∙ leaves in
           subst (λ (x : Answer). Q x vs)
           (ap (λ (r : Effect). r .answer) (sym line) ∙ sym (says passes) ∙ is-a)
           (done vs
-          (subst (Answered (written ℓ s (e .writes) m)) words
+          (subst (Answered s S L g (written ℓ s (e .writes) m)) words
           (record {
-            ended = ends P h passes line ne;
-            same-nodes = z .nodes ∙ nodes;
-            same-growth = z .growths ∙ growths;
-            same-lanes = z .lanes ∙ lanes;
+            begun = A .begun;
+            idle-now = A .idle-now;
+            same-nodes = A .same-nodes ∙ nodes;
+            same-lanes = A .same-lanes ∙ lanes;
+            same-growth = A .same-growth ∙ growths;
+            sees = A .sees;
           })))
 
-      one-more : {a : Answer} {vs : List ℕ} → tickRefusal ws k h ≡ nothing → tick ws k h .answer ≡ Going → AloneTo k a vs (tick ws k h .words)
+      one-more : {a : Answer} {vs : List ℕ} → tickRefusal ws k h ≡ nothing → tick ws k h .answer ≡ Going
+          → AloneTo k a vs (tick ws k h .words)
           → Next m (lineAt t m (allocate ws h))
           → Q a vs
       one-more {a} {vs} passes is-going more (ending ne done) =

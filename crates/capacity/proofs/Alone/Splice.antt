@@ -13,21 +13,20 @@ use Rattle.machine.specs.Steps.{line15, line17, line18, line24, line25, line67,
 use Rattle.machine.specs.Tasks.{Task, none, further}
 use Rattle.machine.specs.Table.{nodeCount, laneCount, hat, link, value}
 use Rattle.machine.specs.Lines.{Effect, out≔, val≔, next, writing, backOf, spliced, act}
-use Rattle.machine.specs.Begun.{Begun}
-use Rattle.capacity.specs.NoLeak.{Idle, HatPlace, in-list, beside, IdleTable}
-use Rattle.capacity.specs.Alone.{spareOf}
+use Rattle.capacity.specs.NoLeak.{HatPlace, in-list, beside, IdleTable}
 use Rattle.machine.proofs.Basics.Contradiction.{clash, equal?}
 use Rattle.machine.proofs.Basics.Updates.{update, updateHat, updateHat-same}
 use Rattle.machine.proofs.Words.Memories.{View, viewed}
 use Rattle.machine.proofs.Linearizability.Model.Sides.{sides}
 use Rattle.machine.proofs.Linearizability.Model.Guarantee.{SameIn}
 use Rattle.machine.proofs.Linearizability.Lines.Connectives.{ok-if, ok-through}
-use Rattle.capacity.proofs.Alone.Ends.{OtherEnd, other-hat, not-Y, spareAt, innerAt, idle-end, leads-in}
+use Rattle.capacity.proofs.Alone.Ends.{OtherEnd, other-hat, not-Y, idle-end, leads-in}
 use Rattle.capacity.proofs.Alone.Pop.{hat-inward}
 use Rattle.capacity.proofs.Alone.Runs.{ok-swap, Leads, Next, going, line-leads}
 use Rattle.capacity.proofs.Alone.Reach.{Reach, at-hat, at-root, outward, inward}
-use Rattle.capacity.proofs.Alone.Others.{K, Alive, spare-alive, some-spare, at-some, p-some, Stage, on-list}
+use Rattle.capacity.proofs.Alone.Others.{own-lane, Alive, spare-alive, some-spare, at-some, p-some, Stage, on-list}
 use Rattle.capacity.proofs.Alone.Build.{Chain}
+use Rattle.capacity.proofs.Alone.CallEnds.{CallEnd, spares, spare, inner}
 
 -- With a chain, back is 15.
 back-15 : (op : Operation) {x : ℕ} (d : Dec (x ≡ none)) → x ≢ none → backOf op d ≡ line15
@@ -96,29 +95,31 @@ module _ (k ℓ : ℕ) (s : Side) (S L g : ℕ) (Q : Answer → List ℕ → Typ
     unfolding act
     unspur-leads a b c = line-leads k ℓ s _ _ _ _ (λ f. going refl (at-68 b c))
 
-module _ {ws : List ℕ} (B : Begun ws) (idle-now : Idle ws) (T : IdleTable ws) (ℓ : ℕ) (is-lane : ℓ < laneCount ws)
-    (s : Side) where
-  abbrev IsStage : View → Type 0
-  IsStage m = Stage B idle-now T ℓ is-lane s m
+module _ (end : CallEnd) where
+  abbrev pub ws : List ℕ
+  ws = end .words
 
-  abbrev at : ℕ → ℕ
-  at = spareAt s (T .shape ℓ)
+  abbrev pub T : IdleTable (end .words)
+  T = end .table
 
-  abbrev r : ℕ
-  r = spareOf s (T .shape ℓ)
+  abbrev pub ℓ : ℕ
+  ℓ = end .lane
+
+  abbrev pub s : Side
+  s = end .side
 
   -- ---- The hat leaves its spur.
-  module _ {m : View} (St : Stage B idle-now T ℓ is-lane s m) where
+  module _ {m : View} (St : Stage end m) where
     abbrev m* : View
-    m* = moved ℓ s m (spareAt s (T .shape ℓ) 0)
+    m* = moved ℓ s m (spare end 0)
 
-    hat-moved : m* .hats ℓ s ≡ spareAt s (T .shape ℓ) 0
-    hat-moved = updateHat-same (m .hats) ℓ s (spareAt s (T .shape ℓ) 0)
+    hat-moved : m* .hats ℓ s ≡ spare end 0
+    hat-moved = updateHat-same (m .hats) ℓ s (spare end 0)
 
     others-stay : (j : ℕ) (z : Side) → OtherEnd ℓ (opposite s) j z → m* .hats j z ≡ m .hats j z
-    others-stay j z o = other-hat (m .hats) (spareAt s (T .shape ℓ) 0) (sides s) o
+    others-stay j z o = other-hat (m .hats) (spare end 0) (sides s) o
 
-    pub stage-moved : Stage B idle-now T ℓ is-lane s (moved ℓ s m (spareAt s (T .shape ℓ) 0))
+    pub stage-moved : Stage end (moved ℓ s m (spare end 0))
     stage-moved =
         record {
           same = λ x a. let w = St .same x a in
@@ -127,8 +128,8 @@ module _ {ws : List ℕ} (B : Begun ws) (idle-now : Idle ws) (T : IdleTable ws) 
           hat-now = on-list hat-moved;
         }
 
-    pub chain-moved : {d c : ℕ} {new : ℕ → ℕ} → Chain B idle-now T ℓ is-lane s m d c new
-        → Chain B idle-now T ℓ is-lane s (moved ℓ s m (spareAt s (T .shape ℓ) 0)) d c new
+    pub chain-moved : {d c : ℕ} {new : ℕ → ℕ} → Chain end m d c new
+        → Chain end (moved ℓ s m (spare end 0)) d c new
     chain-moved C =
         record {
           some = C .some;
@@ -141,38 +142,38 @@ module _ {ws : List ℕ} (B : Begun ws) (idle-now : Idle ws) (T : IdleTable ws) 
           not-none = C .not-none;
           not-hat = λ i l e.
               C .not-alive i l
-              (subst (Alive B idle-now T ℓ is-lane s) (sym (e ∙ hat-moved))
-              (spare-alive B idle-now T ℓ is-lane s 0 (some-spare B idle-now T ℓ is-lane s)));
+              (subst (Alive end) (sym (e ∙ hat-moved))
+              (spare-alive end 0 (some-spare end)));
         }
 
     -- All that was reached, but the spur, is reached.
     module _ (v : value ws (hat ws ℓ s) ≡ Y s) (at-H : m .hats ℓ s ≡ hat ws ℓ s)
         (same-H : SameIn (viewed s ws) m (hat ws ℓ s)) where
       out-H : m .out (hat ws ℓ s) ≡ none
-      out-H = same-H .same-out ∙ go (idle-end (K B idle-now T ℓ is-lane s) s .hat-place)
+      out-H = same-H .same-out ∙ go (idle-end (own-lane end) s .hat-place)
         where
-          go : {y inner : ℕ} → HatPlace ws ℓ s (spareAt s (T .shape ℓ) 0) inner y
+          go : {y inner : ℕ} → HatPlace ws ℓ s (spare end 0) inner y
               → link ws s (hat ws ℓ s) ≡ none
           go (in-list e) =
-              absurd (not-Y (idle-end (K B idle-now T ℓ is-lane s) s .spares)
+              absurd (not-Y (idle-end (own-lane end) s .spares)
               (ap (value ws) (sym e) ∙ v))
           go (beside _ o _) = o
 
-      pub behind-H : m .inn (hat ws ℓ s) ≡ innerAt s (T .shape ℓ)
-      behind-H = same-H .same-inn ∙ hat-inward (K B idle-now T ℓ is-lane s) s
+      pub behind-H : m .inn (hat ws ℓ s) ≡ inner end
+      behind-H = same-H .same-inn ∙ hat-inward (own-lane end) s
 
-      reach-p : {d : ℕ} → Reach (laneCount ws) m* d (innerAt s (T .shape ℓ))
+      reach-p : {d : ℕ} → Reach (laneCount ws) m* d (inner end)
       reach-p {d} =
-          let a0 = spare-alive B idle-now T ℓ is-lane s 0 (some-spare B idle-now T ℓ is-lane s) in
-          let back : m .inn (at 0) ≡ innerAt s (T .shape ℓ) =
-          St .same (at 0) a0 .same-inn ∙ leads-in (K B idle-now T ℓ is-lane s) s in
-          let at-0 : Reach (laneCount ws) m* d (at 0) =
-          subst (Reach (laneCount ws) m* d) hat-moved (at-hat ℓ s is-lane) in
+          let a0 = spare-alive end 0 (some-spare end) in
+          let back : m .inn (spare end 0) ≡ inner end =
+          St .same (spare end 0) a0 .same-inn ∙ leads-in (own-lane end) s in
+          let at-0 : Reach (laneCount ws) m* d (spare end 0) =
+          subst (Reach (laneCount ws) m* d) hat-moved (at-hat ℓ s (end .is-lane)) in
           subst (Reach (laneCount ws) m* d) back
-          (inward at-0 (λ q. p-some B idle-now T ℓ is-lane s (sym back ∙ q)))
+          (inward at-0 (λ q. p-some end (sym back ∙ q)))
 
       pub reach-moved : {d x : ℕ} → Reach (laneCount ws) m d x → x ≢ hat ws ℓ s
-          → Reach (laneCount ws) (moved ℓ s m (spareAt s (T .shape ℓ) 0)) d x
+          → Reach (laneCount ws) (moved ℓ s m (spare end 0)) d x
       reach-moved {d} (at-hat j z h) ne =
           elim (equal? j ℓ) [
             | inr nj ↦ subst (Reach (laneCount ws) m* d) (others-stay j z (inl nj)) (at-hat j z h)
@@ -196,36 +197,36 @@ module _ {ws : List ℕ} (B : Begun ws) (idle-now : Idle ws) (T : IdleTable ws) 
 
   -- ---- Lines 15 to 25, with the hat in the list.
   module _ (k g : ℕ) (Q : Answer → List ℕ → Type 0) (t0 : Task) (m : View) (n d : ℕ)
-      (St : Stage B idle-now T ℓ is-lane s m) (hat-at : m .hats ℓ s ≡ spareAt s (T .shape ℓ) 0) (d-some : d ≢ none) where
+      (St : Stage end m) (hat-at : m .hats ℓ s ≡ spare end 0) (d-some : d ≢ none) where
     abbrev Leads″ : Task → View → Type 0
     Leads″ = Leads k ℓ s (nodeCount ws) (laneCount ws) g Q
 
     abbrev Next″ : View → Effect → Type 0
     Next″ = Next k ℓ s (nodeCount ws) (laneCount ws) g Q
 
-    -- The view at 25.
+    -- The view spare end 25.
     abbrev pub linkedBack : (x : ℕ) → View
     linkedBack x = record { out = m .out; inn = update (m .inn) d x; val = m .val; hats = m .hats }
 
     abbrev pub Spliced : Type 0
     Spliced =
         (x : ℕ) (u : Value) (b c : ℕ)
-        → x ≡ spareAt s (T .shape ℓ) (spareOf s (T .shape ℓ) - 1)
+        → x ≡ spare end (spares end - 1)
         → Next k ℓ s (nodeCount ws) (laneCount ws) g Q
         (record { out = m .out; inn = update (m .inn) d x; val = m .val; hats = m .hats })
         (spliced (t0 .operation) (out≔ x d ∷ val≔ x (N s) ∷ []) (further t0 line25 n u x b c d))
 
     module _ (splices : Spliced) where
-      some : 0 < spareOf s (T .shape ℓ)
-      some = some-spare B idle-now T ℓ is-lane s
+      some : 0 < spares end
+      some = some-spare end
 
-      place-some : (i x : ℕ) → i < spareOf s (T .shape ℓ) → x ≡ spareAt s (T .shape ℓ) i → x ≢ none
-      place-some i x l e q = at-some B idle-now T ℓ is-lane s i l (sym e ∙ q)
+      place-some : (i x : ℕ) → i < spares end → x ≡ spare end i → x ≢ none
+      place-some i x l e q = at-some end i l (sym e ∙ q)
 
-      val-at : (i x : ℕ) → i < spareOf s (T .shape ℓ) → x ≡ spareAt s (T .shape ℓ) i → m .val x ≡ value ws (spareAt s (T .shape ℓ) i)
-      val-at i x l e = ap (m .val) e ∙ St .same _ (spare-alive B idle-now T ℓ is-lane s i l) .same-val
+      val-at : (i x : ℕ) → i < spares end → x ≡ spare end i → m .val x ≡ value ws (spare end i)
+      val-at i x l e = ap (m .val) e ∙ St .same _ (spare-alive end i l) .same-val
 
-      at-25 : (x : ℕ) (u : Value) (b c : ℕ) → x ≡ spareAt s (T .shape ℓ) (spareOf s (T .shape ℓ) - 1)
+      at-25 : (x : ℕ) (u : Value) (b c : ℕ) → x ≡ spare end (spares end - 1)
           → m .out x ≡ b
           → Leads″ (further t0 line25 n u x b c d) (linkedBack x)
       unfolding act
@@ -236,9 +237,9 @@ module _ {ws : List ℕ} (B : Begun ws) (idle-now : Idle ws) (T : IdleTable ws) 
           (λ ne.
           absurd (ne q
           (val-at _ x (omega (arith, some)) e
-          ∙ idle-end (K B idle-now T ℓ is-lane s) s .spares .X-last _ (omega (arith, some)))))))
+          ∙ idle-end (own-lane end) s .spares .X-last _ (omega (arith, some)))))))
 
-      at-24 : (x : ℕ) (u : Value) (b c : ℕ) → x ≡ spareAt s (T .shape ℓ) (spareOf s (T .shape ℓ) - 1)
+      at-24 : (x : ℕ) (u : Value) (b c : ℕ) → x ≡ spare end (spares end - 1)
           → Leads″ (further t0 line24 n u x b c d) m
       unfolding act
       at-24 x u b c e =
@@ -248,29 +249,29 @@ module _ {ws : List ℕ} (B : Begun ws) (idle-now : Idle ws) (T : IdleTable ws) 
           going refl (at-25 x u (m .out x) c e refl))))
 
       -- The walk to the end.
-      walk : (fuel i x : ℕ) (u : Value) (b c : ℕ) → suc (i + fuel) ≡ spareOf s (T .shape ℓ)
-          → x ≡ spareAt s (T .shape ℓ) i
+      walk : (fuel i x : ℕ) (u : Value) (b c : ℕ) → suc (i + fuel) ≡ spares end
+          → x ≡ spare end i
           → Leads″ (further t0 line17 n u x b c d) m
       unfolding act
       walk zero i x u b c l e =
           let is-X : m .val x ≡ X s =
-          val-at i x (omega arith) e ∙ idle-end (K B idle-now T ℓ is-lane s) s .spares .X-last i (omega arith) in
+          val-at i x (omega arith) e ∙ idle-end (own-lane end) s .spares .X-last i (omega arith) in
           line-leads k ℓ s _ _ _ _ (λ f.
           ok-through (Next″ m) (λ z. absurd (place-some i x (omega arith) e z)) (λ _.
           ok-if (Next″ m) (λ st. next (further t0 line17 n (m .val x) x b c d) st) (_ ≟ᵛ _) (λ q. clash (cc)) (λ _.
           ok-if (Next″ m) (λ st. next (further t0 line17 n (m .val x) x b c d) st) (_ ≟ᵛ _) (λ q. clash (cc)) (λ _.
           ok-if (Next″ m) (λ st. next (further t0 line17 n (m .val x) x b c d) st) (_ ≟ᵛ _)
           (λ _.
-          let z : i ≡ spareOf s (T .shape ℓ) - 1 = omega arith in
-          going refl (at-24 x (m .val x) b c (e ∙ ap (spareAt s (T .shape ℓ)) z)))
+          let z : i ≡ spares end - 1 = omega arith in
+          going refl (at-24 x (m .val x) b c (e ∙ ap (spare end) z)))
           (λ ne. absurd (ne is-X))))))
       walk (suc fuel) i x u b c l e =
           let is-N : m .val x ≡ N s =
-          val-at i x (omega arith) e ∙ idle-end (K B idle-now T ℓ is-lane s) s .spares .N-before i (omega arith) in
-          let on : m .out x ≡ spareAt s (T .shape ℓ) (suc i) =
+          val-at i x (omega arith) e ∙ idle-end (own-lane end) s .spares .N-before i (omega arith) in
+          let on : m .out x ≡ spare end (suc i) =
           ap (m .out) e
-          ∙ St .same _ (spare-alive B idle-now T ℓ is-lane s i (omega arith)) .same-out
-          ∙ idle-end (K B idle-now T ℓ is-lane s) s .spares .leads i (omega arith) in
+          ∙ St .same _ (spare-alive end i (omega arith)) .same-out
+          ∙ idle-end (own-lane end) s .spares .leads i (omega arith) in
           let further-on = walk fuel (suc i) (m .out x) (m .val x) b c (omega arith) on in
           line-leads k ℓ s _ _ _ _ (λ f.
           ok-through (Next″ m) (λ z. absurd (place-some i x (omega arith) e z)) (λ _.
@@ -288,4 +289,4 @@ module _ {ws : List ℕ} (B : Begun ws) (idle-now : Idle ws) (T : IdleTable ws) 
       unfolding act
       splice-leads u a b c =
           line-leads k ℓ s _ _ _ _ (λ f.
-          going refl (walk (spareOf s (T .shape ℓ) - 1) 0 (m .hats ℓ s) u b c (omega (arith, some)) hat-at))
+          going refl (walk (spares end - 1) 0 (m .hats ℓ s) u b c (omega (arith, some)) hat-at))

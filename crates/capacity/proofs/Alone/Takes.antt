@@ -23,6 +23,7 @@ use Rattle.capacity.proofs.IdleTables.{idle-table}
 use Rattle.capacity.proofs.Theorem.{list-not-Y, one-hat}
 use Rattle.capacity.proofs.Alone.Ends.{not-Y, spareAt, innerAt, idle-end}
 use Rattle.capacity.proofs.Alone.Runs.{call-leads}
+use Rattle.capacity.proofs.Alone.CallEnds.{callEnd}
 use Rattle.capacity.proofs.Alone.Left.{Left}
 use Rattle.capacity.proofs.Alone.Rows.{is-lane, ComesTo, comes-to, length-put}
 use Rattle.capacity.proofs.Alone.Outcomes.{
@@ -42,7 +43,7 @@ use Rattle.capacity.proofs.Alone.Push.{PushLeaves, at-spare, at-taken, 
 pub push-alone : CallAlone push
 unfolding pushAnswered
 push-alone ws vs B idle-now T C k ℓ s v a accepted alone-to =
-    go (call-leads B idle-now k ℓ push s v accepted (push-leads B idle-now T ℓ here s k v) alone-to)
+    go (call-leads B idle-now k ℓ push s v accepted (push-leads (callEnd B idle-now T ℓ here s) k v) alone-to)
   where
     here : ℓ < laneCount ws
     here = is-lane B idle-now T k ℓ push s v a accepted alone-to
@@ -55,7 +56,7 @@ push-alone ws vs B idle-now T C k ℓ s v a accepted alone-to =
         comes-to B idle-now T k ℓ push s v a accepted alone-to (leaves Pushed (put s v (T .shape ℓ .bags)) c 0) refl
         is-pushed K refl
 
-    go : PushLeaves B idle-now T ℓ here s k v a vs
+    go : PushLeaves (callEnd B idle-now T ℓ here s) k v a vs
         → Says (pushAlone s v (growth ws) (C .free) (T .shape ℓ .bags) (spareOf s (T .shape ℓ)) (spurOf s (T .shape ℓ)))
     go (at-spare more is-pushed K) =
         subst Says (sym (push-spare s v (growth ws) (C .free) (T .shape ℓ .bags) (spareOf s (T .shape ℓ)) (spurOf s (T .shape ℓ)) more))
@@ -141,7 +142,7 @@ module _ {ws vs : List ℕ} (B : Begun ws) (T : IdleTable ws) (ℓ : ℕ) (here 
 pub add-alone : CallAlone add
 unfolding sizeAnswered
 add-alone ws vs B idle-now T C k ℓ s v a accepted alone-to =
-    go (call-leads B idle-now k ℓ add s v accepted (add-leads B idle-now T ℓ here s k v) alone-to)
+    go (call-leads B idle-now k ℓ add s v accepted (add-leads (callEnd B idle-now T ℓ here s) k v) alone-to)
   where
     here : ℓ < laneCount ws
     here = is-lane B idle-now T k ℓ add s v a accepted alone-to
@@ -172,7 +173,7 @@ add-alone ws vs B idle-now T C k ℓ s v a accepted alone-to =
         let same : C .free ≡ c = omega arith in
         ((λ z''. omega arith), least-first (C .free) (suc v) (omega arith) ∙ same)
 
-    go : AddLeaves B idle-now T ℓ here s k v a vs
+    go : AddLeaves (callEnd B idle-now T ℓ here s) k v a vs
         → Says (addAlone v (C .free) (T .shape ℓ .bags) (spareOf s (T .shape ℓ)) (spurOf s (T .shape ℓ)))
     go (adds says-yes c one few K spur all) =
         let o = leaves Yes (T .shape ℓ .bags) (spareOf s (T .shape ℓ) + c) 0 in

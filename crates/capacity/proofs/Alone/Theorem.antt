@@ -41,6 +41,7 @@ use Rattle.machine.proofs.Shape.ShapeKept.{begin-allowed}
 use Rattle.progress.proofs.SoloBound.Theorem.{answers-alone}
 use Rattle.capacity.proofs.Alone.Ends.{spur-by-hat, idle-end}
 use Rattle.capacity.proofs.Alone.Runs.{begun-table, begun-at, call-leads}
+use Rattle.capacity.proofs.Alone.CallEnds.{callEnd}
 use Rattle.capacity.proofs.Alone.Left.{same-some, Left}
 use Rattle.capacity.proofs.Alone.Rows.{
   ends-not-going,
@@ -119,7 +120,7 @@ pop-alone ws vs B idle-now T C k ℓ s v a accepted alone-to =
 pub remove-alone : CallAlone remove
 unfolding sizeAnswered
 remove-alone ws vs B idle-now T C k ℓ s v a accepted alone-to =
-    go (call-leads B idle-now k ℓ remove s v accepted (remove-leads B idle-now T ℓ here s k v) alone-to)
+    go (call-leads B idle-now k ℓ remove s v accepted (remove-leads (callEnd B idle-now T ℓ here s) k v) alone-to)
   where
     here : ℓ < laneCount ws
     here = is-lane B idle-now T k ℓ remove s v a accepted alone-to
@@ -143,7 +144,7 @@ remove-alone ws vs B idle-now T C k ℓ s v a accepted alone-to =
     y : ℕ
     y = spurOf s (T .shape ℓ)
 
-    go : RemoveLeaves B idle-now T ℓ here s k v a vs → Says (removeAlone v (T .shape ℓ .bags) r y)
+    go : RemoveLeaves (callEnd B idle-now T ℓ here s) k v a vs → Says (removeAlone v (T .shape ℓ .bags) r y)
     go (on-spur-yes says-yes on K) =
         subst Says (sym (remove-spur v (T .shape ℓ .bags) r y (spur .0 on)))
         (comes (leaves Yes (T .shape ℓ .bags) r y) says-yes K refl)

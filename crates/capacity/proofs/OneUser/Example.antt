@@ -1,7 +1,6 @@
 -- Worked examples, computed by the state alone: whole calls with their refusals, and what to do about "full".
 use mathlib.Core.Path.{_≡_, refl}
 use mathlib.Core.List.{List, [], _∷_}
-use Prim.Native.Nat.{ℕ}
 use native.Mathlib.Decide.{ℕ-discrete, decLt}
 use Rattle.machine.specs.declared.Answer.the-variants.{Pushed, Bag, Empty, Full, Yes, No, Refused}
 use Rattle.machine.specs.Sides.{left, right}
