@@ -11,7 +11,6 @@ pub mod Rows
 pub mod Outcomes
 -- What each call comes to.
 pub mod Pop
-pub mod Remove
 -- Pushes and adds: what is reached, what is taken, and what is spliced in.
 pub mod Reach
 pub mod Others
@@ -20,6 +19,9 @@ pub mod Splice
 pub mod Finish
 pub mod Push
 pub mod Add
+-- Removes: what is cut off.
+pub mod Cut
+pub mod Remove
 -- How many nodes are free, and the theorem.
 pub mod Counts
 pub mod Takes

@@ -81,7 +81,8 @@ module _ {ws : List ℕ} (B : Begun ws) (idle-now : Idle ws)
 -- ---- A push leaves the other ends, and where it is "full" its own is filled and no node is free.
 module _ {ws vs : List ℕ} (B : Begun ws) (idle-now : Idle ws) {ℓ : ℕ} {s : Side} {a : Answer}
     (D : PushDone B idle-now ℓ s a vs) where
-  others-stay : (j : ℕ) (z : Side) → j < laneCount ws → OtherEnd ℓ (opposite s) j z → EndFilled ws j z → EndFilled vs j z
+  others-stay : (j : ℕ) (z : Side) → j < laneCount ws → OtherEnd ℓ (opposite s) j z → EndFilled ws j z
+      → EndFilled vs j z
   others-stay j z h other F =
       let K = D .left-idle in
       let T₀ = tableOf B idle-now in

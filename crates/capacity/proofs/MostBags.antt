@@ -1,5 +1,5 @@
--- How many bags there are room for at every moment: the nodes of all lists are different, and the two ends of each carry
--- no bag.
+-- How many bags there are room for at every moment: the nodes of all lists are different, and the two ends of each
+-- carry no bag.
 use mathlib.Core.Path.{_≡_, refl, sym, ap, _∙_, subst}
 use mathlib.Core.Bool.{false}
 use mathlib.Core.List.{List}

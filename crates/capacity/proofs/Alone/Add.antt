@@ -148,7 +148,8 @@ module _ (end : CallEnd) (k v : ℕ) where
   module _ (m : View) (d i : ℕ) (new : ℕ → ℕ) (St : Stage end m)
       (C : Chain end m d (suc i) new) (few : i ≤ v)
       (all : (i ≡ v) ⊎ AllUsed end m d)
-      (y : value ws (hat ws ℓ s) ≡ Y s) (on-H : m .hats ℓ s ≡ hat ws ℓ s) (same-H : SameIn (viewed s ws) m (hat ws ℓ s)) where
+      (y : value ws (hat ws ℓ s) ≡ Y s) (on-H : m .hats ℓ s ≡ hat ws ℓ s)
+      (same-H : SameIn (viewed s ws) m (hat ws ℓ s)) where
     H-some : m .hats ℓ s ≢ none
     H-some e = reached-some (end .begun) (from-hat ℓ s (end .is-lane)) (sym on-H ∙ e)
 

@@ -51,7 +51,8 @@ module _ (end : CallEnd) where
     pub not-none : (i : ℕ) → i < c → new i ≢ none
     pub not-hat : (i : ℕ) → i < c → new i ≢ m .hats ℓ s
 
-  chain-reached : {m : View} {d c : ℕ} {new : ℕ → ℕ} → Chain m d c new → (i : ℕ) → i < c → Reach (laneCount ws) m d (new i)
+  chain-reached : {m : View} {d c : ℕ} {new : ℕ → ℕ} → Chain m d c new → (i : ℕ) → i < c
+      → Reach (laneCount ws) m d (new i)
   chain-reached {m} {d} {c} {new} C zero l =
       let e = C .head in
       subst (Reach (laneCount ws) m d) e (at-root (λ q. C .not-none 0 l (sym e ∙ q)))
@@ -229,7 +230,13 @@ module _ (end : CallEnd) where
           let unused : Reach (laneCount ws) m d (allocate us h) → ⊥ =
           λ x. found-new k ℓ s P R h low some-left (subst (λ (i : ℕ). Reach i m d (allocate us h)) (sym lanes) x) in
           ok-if (Next′ m)
-          (λ st. writing (val≔ (allocate us h) (N s) ∷ inn≔ (allocate us h) none ∷ out≔ (allocate us h) d ∷ inn≔ d (allocate us h) ∷ [])
+          (λ st.
+          writing
+          (val≔ (allocate us h) (N s)
+          ∷ inn≔ (allocate us h) none
+          ∷ out≔ (allocate us h) d
+          ∷ inn≔ d (allocate us h)
+          ∷ [])
           (next (further t0 line31 (suc n) u a b c (allocate us h)) st)) (_ ≟ _)
           (λ done.
           going refl (built (m' m d n (allocate us h) new St C some-left unused) (allocate us h) (suc n)

@@ -154,11 +154,15 @@ module _ {ws : List ℕ} {ℓ : ℕ} {I : LaneShape} (K : IdleLane ws ℓ I) whe
             record {
               some = M .some-left;
               N-before = λ i h. M .N-left (I .l - suc i) (omega arith) (omega arith);
-              X-last = λ i h. let e : I .l - suc i ≡ 0 = omega arith in ap (λ (j : ℕ). value ws (I .at j)) e ∙ M .X-left;
+              X-last =
+                  λ i h.
+                  let e : I .l - suc i ≡ 0 = omega arith in
+                  ap (λ (j : ℕ). value ws (I .at j)) e ∙ M .X-left;
               leads =
                   λ i h.
                   let e : I .l - suc i ≡ suc (I .l - suc (suc i)) = omega arith in
-                  ap (λ (j : ℕ). link ws left (I .at j)) e ∙ M .leads-left (I .l - suc (suc i)) (omega (arith, M .some-right));
+                  ap (λ (j : ℕ). link ws left (I .at j)) e
+                  ∙ M .leads-left (I .l - suc (suc i)) (omega (arith, M .some-right));
             };
         leads-out = λ _. inner-leads left;
         hat-place = K .left-hat;

@@ -22,7 +22,16 @@ use Rattle.capacity.proofs.Alone.Ends.{other-hat, Spares, not-Y, spareP
 use Rattle.capacity.proofs.Alone.Reach.{Reach, at-hat, at-root, outward, inward, from-view, idle-root}
 use Rattle.capacity.proofs.Alone.Runs.{Answered}
 use Rattle.capacity.proofs.Alone.Left.{Left, out-is, val-is, hat-is}
-use Rattle.capacity.proofs.Alone.Others.{own-lane, Alive, spare-alive, some-spare, at-some, Stage, Others, others-kept}
+use Rattle.capacity.proofs.Alone.Others.{
+  own-lane,
+  Alive,
+  spare-alive,
+  some-spare,
+  at-some,
+  Stage,
+  Others,
+  others-kept,
+}
 use Rattle.capacity.proofs.Alone.Build.{Chain}
 use Rattle.capacity.proofs.Alone.CallEnds.{CallEnd, spares, spare, inner}
 
@@ -164,7 +173,9 @@ module _ (end : CallEnd) where
             X-last = λ i h. kept-val i (omega arith) ∙ E .X-last (suc i) (omega arith);
             leads = λ i h. E .leads (suc i) (omega arith);
             hat-at =
-                updateHat-same (m .hats) ℓ s (m .out (m .hats ℓ s)) ∙ ap (m .out) (E .hat-at) ∙ E .leads 0 (omega arith);
+                updateHat-same (m .hats) ℓ s (m .out (m .hats ℓ s))
+                ∙ ap (m .out) (E .hat-at)
+                ∙ E .leads 0 (omega arith);
           }
 
       -- All that was reached is reached.

@@ -1,4 +1,5 @@
--- What a call on one end of a lane leaves alone: all nodes that are in use, but those of its own end; and the other hats.
+-- What a call on one end of a lane leaves alone: all nodes that are in use, but those of its own end; and the other
+-- hats.
 use mathlib.Core.Path.{_≡_, refl, sym, ap, _∙_, subst}
 use mathlib.Core.Logic.{_≢_, inl, inr}
 use mathlib.Core.List.{List}
@@ -49,7 +50,8 @@ pub data HatMark (ws : List ℕ) (j : ℕ) (z : Side) : Type 0 where
   is-N : value ws (hat ws j z) ≡ N z → HatMark ws j z
   is-X : value ws (hat ws j z) ≡ X z → HatMark ws j z
 
-pub hat-mark : {ws : List ℕ} {j : ℕ} {z : Side} {at : ℕ → ℕ} {inner c y : ℕ} → EndIs ws j z at inner c y → HatMark ws j z
+pub hat-mark : {ws : List ℕ} {j : ℕ} {z : Side} {at : ℕ → ℕ} {inner c y : ℕ} → EndIs ws j z at inner c y
+    → HatMark ws j z
 hat-mark {ws} {j} {z} {at} {inner} {c} E = go (E .hat-place)
   where
     go : {y : ℕ} → HatPlace ws j z (at 0) inner y → HatMark ws j z
@@ -156,15 +158,18 @@ module _ (end : CallEnd) where
       where
         go : HatNow m → Reach (laneCount ws) m d (spare end 0) × Reach (laneCount ws) m d (inner end)
         go (on-list e) =
-            let at-0 : Reach (laneCount ws) m d (spare end 0) = subst (Reach (laneCount ws) m d) e (at-hat ℓ s (end .is-lane)) in
-            let back : m .inn (spare end 0) ≡ inner end = G .same (spare end 0) (spare-alive 0 some-spare) .same-inn ∙ leads-in own-lane s in
+            let at-0 : Reach (laneCount ws) m d (spare end 0) =
+            subst (Reach (laneCount ws) m d) e (at-hat ℓ s (end .is-lane)) in
+            let back : m .inn (spare end 0) ≡ inner end =
+            G .same (spare end 0) (spare-alive 0 some-spare) .same-inn ∙ leads-in own-lane s in
             (at-0, subst (Reach (laneCount ws) m d) back (inward at-0 (λ q. p-some (sym back ∙ q))))
         go (on-spur v e same-H) =
             let at-H : Reach (laneCount ws) m d H = subst (Reach (laneCount ws) m d) e (at-hat ℓ s (end .is-lane)) in
             let back : m .inn H ≡ inner end = same-H .same-inn ∙ hat-inward own-lane s in
             let at-p : Reach (laneCount ws) m d (inner end) =
             subst (Reach (laneCount ws) m d) back (inward at-H (λ q. p-some (sym back ∙ q))) in
-            let fore : m .out (inner end) ≡ spare end 0 = G .same (inner end) inner-alive .same-out ∙ inner-leads own-lane s in
+            let fore : m .out (inner end) ≡ spare end 0 =
+            G .same (inner end) inner-alive .same-out ∙ inner-leads own-lane s in
             (subst (Reach (laneCount ws) m d) fore (outward at-p (λ q. at-some 0 some-spare (sym fore ∙ q))), at-p)
 
     -- What is alive is reached.
@@ -220,7 +225,8 @@ module _ (end : CallEnd) where
         go again (beside v o i) =
             elim (equal? x (hat ws ℓ s)) [
               | inl q ↦
-                  subst (Reach (laneCount ws) m d) (sym (ap (link ws (opposite s)) q ∙ hat-inward own-lane s)) (start-reached .1)
+                  subst (Reach (laneCount ws) m d) (sym (ap (link ws (opposite s)) q ∙ hat-inward own-lane s))
+                  (start-reached .1)
               | inr nq ↦ alive again (λ q _. nq q)
             ]
 
@@ -252,7 +258,8 @@ module _ (end : CallEnd) where
     apart-lists : (i : ℕ) → i < spares end → (q : ℕ) → q < listOf (T .shape j) → j ≢ ℓ
         → spare end i ≢ T .shape j .at q
     apart-lists i l q lq ne e =
-        ne (sym (T .lists-apart ℓ j (sparePlace s (T .shape ℓ) i) q (end .is-lane) h (spare-listed own-lane s i l) lq e))
+        ne (sym
+        (T .lists-apart ℓ j (sparePlace s (T .shape ℓ) i) q (end .is-lane) h (spare-listed own-lane s i l) lq e))
 
     apart-spares : (c i : ℕ) → c < spareOf z (T .shape j) → i < spares end
         → spare end i ≢ spareAt z (T .shape j) c
@@ -270,7 +277,8 @@ module _ (end : CallEnd) where
             let same' : spare end i ≡ spareAt (opposite s) (T .shape ℓ) c =
             same ∙ ap (λ (u : ℕ). spareAt z (T .shape u) c) e ∙ ap (λ (y : Side). spareAt y (T .shape ℓ) c) q in
             places-apart (T .shape ℓ) s i c li c'
-            (own-lane .main-list .different _ _ (spare-listed own-lane s i li) (spare-listed own-lane (opposite s) c c') same')
+            (own-lane .main-list .different _ _ (spare-listed own-lane s i li)
+            (spare-listed own-lane (opposite s) c c') same')
 
     inner-same : link vs z (innerAt z (T .shape j)) ≡ link ws z (innerAt z (T .shape j))
     inner-same =

@@ -26,7 +26,17 @@ use Rattle.machine.proofs.Basics.Updates.{update, update-same, update-other, up
 use Rattle.machine.proofs.Words.Memories.{View, viewed}
 use Rattle.machine.proofs.Linearizability.Model.Sides.{sides}
 use Rattle.machine.proofs.Linearizability.Lines.Connectives.{ok-if, ok-through}
-use Rattle.capacity.proofs.Alone.Ends.{OtherEnd, other-hat, EndIs, spareAt, innerAt, idle-end, inner-leads, inner-listed, leads-in}
+use Rattle.capacity.proofs.Alone.Ends.{
+  OtherEnd,
+  other-hat,
+  EndIs,
+  spareAt,
+  innerAt,
+  idle-end,
+  inner-leads,
+  inner-listed,
+  leads-in,
+}
 use Rattle.capacity.proofs.Alone.Runs.{ok-swap, Leads, Answered, Next, going, ending, line-leads}
 use Rattle.capacity.proofs.Alone.Left.{
   OtherKept,
@@ -44,7 +54,8 @@ pub data Inner (z : Side) (v : Value) : Type 0 where
   far-N : v ≡ N (opposite z) → Inner z v
   far-X : v ≡ X (opposite z) → Inner z v
 
-pub inner-value : {ws : List ℕ} {ℓ : ℕ} {I : LaneShape} → IdleLane ws ℓ I → (z : Side) → Inner z (value ws (innerAt z I))
+pub inner-value : {ws : List ℕ} {ℓ : ℕ} {I : LaneShape} → IdleLane ws ℓ I → (z : Side)
+    → Inner z (value ws (innerAt z I))
 inner-value {ws} {ℓ} {I} K left =
     let M = K .main-list in
     let e : I .l + 0 ≡ I .l = omega arith in
@@ -207,11 +218,13 @@ module _ {ws : List ℕ} (B : Begun ws) (T : IdleTable ws) (k ℓ : ℕ) (is-lan
           where
             N-now : (i : ℕ) → suc i < suc r → value vs (at' i) ≡ N s
             N-now zero l = val-is s vs sees p ∙ update-same (value ws) p (N s)
-            N-now (suc i) l = same-val _ (no-bag ℓ s is-lane i (omega arith)) ∙ idle-end K s .spares .N-before i (omega arith)
+            N-now (suc i) l =
+                same-val _ (no-bag ℓ s is-lane i (omega arith)) ∙ idle-end K s .spares .N-before i (omega arith)
 
             X-now : (i : ℕ) → suc i ≡ suc r → value vs (at' i) ≡ X s
             X-now zero l = absurd (omega (arith, idle-end K s .spares .some))
-            X-now (suc i) l = same-val _ (no-bag ℓ s is-lane i (omega arith)) ∙ idle-end K s .spares .X-last i (omega arith)
+            X-now (suc i) l =
+                same-val _ (no-bag ℓ s is-lane i (omega arith)) ∙ idle-end K s .spares .X-last i (omega arith)
 
             leads-now : (i : ℕ) → suc i < suc r → link vs s (at' i) ≡ at' (suc i)
             leads-now zero l = same-link p s ∙ inner-leads K s

@@ -302,7 +302,8 @@ module _ (end : CallEnd) (k v : ℕ) where
 
           after-splice : (u' : Value) (b c : ℕ) → Leads′ (further t0 line2 0 u' x b c none) mA
           after-splice u' b c =
-              push-now mA 0 u' hA-some (λ e. d-some (sym on-A ∙ e)) (ap (mA .val) (EA' .hat-at) ∙ EA' .N-before 0 (omega arith))
+              push-now mA 0 u' hA-some (λ e. d-some (sym on-A ∙ e))
+              (ap (mA .val) (EA' .hat-at) ∙ EA' .N-before 0 (omega arith))
               pushed x b c
 
         spliced-push : (u' : Value) (a b c : ℕ)

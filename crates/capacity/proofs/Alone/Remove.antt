@@ -2,32 +2,39 @@
 use mathlib.Core.Path.{_≡_, refl, sym, ap, _∙_, subst}
 use mathlib.Core.Logic.{_≢_, inl, inr}
 use mathlib.Core.List.{List}
-use Prim.Native.Nat.{ℕ, zero, suc, _+_, _-_, _≤_, _<_}
+use Prim.Native.Nat.{ℕ, zero, suc, _+_, _-_, _<_}
 use native.Mathlib.Omega.{arith}
-use Rattle.machine.specs.declared.Answer.{Answer}
-use Rattle.machine.specs.declared.Answer.the-variants.{Yes, No}
+use Rattle.machine.specs.declared.Answer.the-variants.{Yes}
 use Rattle.machine.specs.Choice.{_≟_}
 use Rattle.machine.specs.Sides.{Side}
 use Rattle.machine.specs.Values.{Value, never, N, X, Y, _≟ᵛ_}
 use Rattle.machine.specs.Operations.{remove}
-use Rattle.machine.specs.Steps.{line54, line56, line58, line60, line62, line64, line74, line77, line81, line82}
+use Rattle.machine.specs.Steps.{line54, line56, line58, line60, line62}
 use Rattle.machine.specs.Tasks.{Task, none, further}
 use Rattle.machine.specs.Table.{nodeCount, growth, laneCount, hat, link, value}
-use Rattle.machine.specs.Lines.{Effect, next, writing, act}
+use Rattle.machine.specs.Lines.{Effect, next, act}
 use Rattle.machine.specs.Calls.{begunTask}
 use Rattle.machine.specs.Reach.{from-hat}
 use Rattle.capacity.specs.NoLeak.{HatPlace, in-list, beside, IdleTable}
 use Rattle.capacity.specs.Alone.{spurOf}
 use Rattle.machine.proofs.Basics.Contradiction.{clash, less?}
-use Rattle.machine.proofs.Basics.Updates.{update, update-same, update-other}
 use Rattle.machine.proofs.Words.Memories.{View, viewed}
 use Rattle.machine.proofs.Linearizability.Lines.Connectives.{ok-if, ok-through}
-use Rattle.capacity.proofs.Alone.Ends.{Spares, idle-end, not-Y, last-none}
+use Rattle.capacity.proofs.Alone.Ends.{idle-end, last-none}
 use Rattle.capacity.proofs.Alone.Runs.{ok-swap, Leads, Answered, Next, going, ending, line-leads}
 use Rattle.capacity.proofs.Alone.Left.{Left, left-unchanged, reached-some}
-use Rattle.capacity.proofs.Alone.Others.{own-lane, some-spare, at-some, Others}
-use Rattle.capacity.proofs.Alone.Finish.{left-by, spares-differ}
+use Rattle.capacity.proofs.Alone.Others.{own-lane, some-spare}
 use Rattle.capacity.proofs.Alone.CallEnds.{CallEnd, spares, spare, inner}
+use Rattle.capacity.proofs.Alone.Cut.{
+  RemoveLeaves,
+  on-spur-yes,
+  few-yes,
+  one-no,
+  own-spares,
+  off-Y,
+  some-at,
+  at-64,
+}
 
 module _ (end : CallEnd) (k v : ℕ) where
   abbrev pub ws : List ℕ
@@ -42,40 +49,14 @@ module _ (end : CallEnd) (k v : ℕ) where
   abbrev pub s : Side
   s = end .side
 
-  -- What it answers and leaves.
-  pub data RemoveLeaves (a : Answer) (vs : List ℕ) : Type 0 where
-    on-spur-yes :
-        a ≡ Yes
-        → value ws (hat ws ℓ s) ≡ Y s
-        → Left ws T ℓ s (spares end) (spurOf s (T .shape ℓ)) vs
-        → RemoveLeaves a vs
-    few-yes :
-        a ≡ Yes
-        → value ws (hat ws ℓ s) ≢ Y s
-        → spares end < v + 2
-        → Left ws T ℓ s (spares end) (spurOf s (T .shape ℓ)) vs
-        → RemoveLeaves a vs
-    one-no :
-        a ≡ No
-        → value ws (hat ws ℓ s) ≢ Y s
-        → spares end ≡ v + 2
-        → Left ws T ℓ s (spares end) (spurOf s (T .shape ℓ)) vs
-        → RemoveLeaves a vs
-    cuts-yes :
-        a ≡ Yes
-        → value ws (hat ws ℓ s) ≢ Y s
-        → v + 2 < spares end
-        → Left ws T ℓ s (suc v) 0 vs
-        → RemoveLeaves a vs
-
   abbrev t0 : Task
   t0 = begunTask ℓ remove s v
 
-  abbrev Leads′ : Task → View → Type 0
-  Leads′ = Leads k ℓ s (nodeCount ws) (laneCount ws) (growth ws) RemoveLeaves
+  abbrev pub Leads′ : Task → View → Type 0
+  Leads′ = Leads k ℓ s (nodeCount ws) (laneCount ws) (growth ws) (RemoveLeaves end k v)
 
   abbrev Next′ : View → Effect → Type 0
-  Next′ m e = Next k ℓ s (nodeCount ws) (laneCount ws) (growth ws) RemoveLeaves m e
+  Next′ m e = Next k ℓ s (nodeCount ws) (laneCount ws) (growth ws) (RemoveLeaves end k v) m e
 
   abbrev Answered′ : View → List ℕ → Type 0
   Answered′ = Answered s (nodeCount ws) (laneCount ws) (growth ws)
@@ -95,7 +76,7 @@ module _ (end : CallEnd) (k v : ℕ) where
 
   -- ---- With the hat on a spur.
   module _ (y : value ws (hat ws ℓ s) ≡ Y s) (o : link ws s (hat ws ℓ s) ≡ none) where
-    spur-ends : {vs : List ℕ} → Answered′ m0 vs → RemoveLeaves Yes vs
+    spur-ends : {vs : List ℕ} → Answered′ m0 vs → RemoveLeaves end k v Yes vs
     spur-ends A = on-spur-yes refl y (unchanged A)
 
     spur-leads : Leads′ (begunTask ℓ remove s v) m0
@@ -107,7 +88,8 @@ module _ (end : CallEnd) (k v : ℕ) where
         going refl
         (line-leads k ℓ s _ _ _ _ (λ f'.
         ok-through (Next′ m0) (λ e. absurd (H-some e)) (λ _.
-        ok-if (Next′ m0) (λ e. e) (_ ≟ _) (λ _. ending (λ e. clash (cc)) (λ vs A. spur-ends A)) (λ ne. absurd (ne o))))))
+        ok-if (Next′ m0) (λ e. e) (_ ≟ _) (λ _. ending (λ e. clash (cc)) (λ vs A. spur-ends A))
+        (λ ne. absurd (ne o))))))
         (λ _.
         going refl
         (line-leads k ℓ s _ _ _ _ (λ f'.
@@ -116,299 +98,11 @@ module _ (end : CallEnd) (k v : ℕ) where
         going refl
         (line-leads k ℓ s _ _ _ _ (λ f''.
         ok-through (Next′ m0) (λ e. absurd (H-some e)) (λ _.
-        ok-if (Next′ m0) (λ e. e) (_ ≟ _) (λ _. ending (λ e. clash (cc)) (λ vs A. spur-ends A)) (λ ne. absurd (ne o)))))))))))
+        ok-if (Next′ m0) (λ e. e) (_ ≟ _) (λ _. ending (λ e. clash (cc)) (λ vs A. spur-ends A))
+        (λ ne. absurd (ne o)))))))))))
 
   -- ---- With the hat in the list.
   module _ (hat-at : hat ws ℓ s ≡ spare end 0) where
-    E : Spares ws s (spare end) (spares end)
-    E = idle-end (own-lane end) s .spares
-
-    off-Y : value ws (hat ws ℓ s) ≢ Y s
-    off-Y y = not-Y E (ap (value ws) (sym hat-at) ∙ y)
-
-    some-at : (i x : ℕ) → i < spares end → x ≡ spare end i → x ≢ none
-    some-at i x l e q = at-some end i l (sym e ∙ q)
-
-    differ : (i j : ℕ) → i < spares end → j < spares end → i ≢ j
-        → spare end i ≢ spare end j
-    differ i j hi hj ne e = ne (spares-differ end i j hi hj e)
-
-    -- A node of the own end written.
-    own-other : (i x : ℕ) → i < spares end → x ≡ spare end i → (y : ℕ)
-        → ((j : ℕ) → j < spares end → spare end j ≢ y)
-        → y ≢ x
-    own-other i x l e y n q = n i l (sym (q ∙ e))
-
-    -- The nodes up to v stay, the one at v is the last; from j on nothing is unlinked yet, and after j nothing is marked.
-    record Cut (m : View) (j : ℕ) : Type 0 where
-      pub past : v < j
-      pub others : Others end m
-      pub hat-same : m .hats ℓ s ≡ spare end 0
-      pub keep-val : (i : ℕ) → i < v → m .val (spare end i) ≡ N s
-      pub last-val : m .val (spare end v) ≡ X s
-      pub keep-out : (i : ℕ) → i < v → m .out (spare end i) ≡ spare end (suc i)
-      pub rest-out : (i : ℕ) → j ≤ i → i < spares end → m .out (spare end i) ≡ link ws s (spare end i)
-      pub rest-val : (i : ℕ) → j < i → i < spares end → m .val (spare end i) ≡ value ws (spare end i)
-
-    cut-done : (m : View) (j : ℕ) → Cut m j → v + 2 < spares end → {vs : List ℕ} → Answered′ m vs
-        → RemoveLeaves Yes vs
-    cut-done m j C more A =
-        cuts-yes refl off-Y more
-        (left-by end (C .others)
-        (record {
-          some = omega arith;
-          N-before = λ i h. C .keep-val i (omega arith);
-          X-last = λ i h.
-              let e : i ≡ v = omega arith in
-              ap (λ (q : ℕ). m .val (spare end q)) e ∙ C .last-val;
-          leads = λ i h. C .keep-out i (omega arith);
-          hat-at = C .hat-same;
-        })
-        A)
-
-    -- An outward link of the own end, behind v, set to none.
-    module _ {m : View} {j : ℕ} (C : Cut m j) (x : ℕ) (e : x ≡ spare end j) (l : j < spares end) where
-      abbrev unlinked : View
-      unlinked = record { out = update (m .out) x none; inn = m .inn; val = m .val; hats = m .hats }
-
-      at-not-x : (i : ℕ) → i < spares end → i ≢ j → spare end i ≢ x
-      at-not-x i li ne q = differ i j li l ne (q ∙ e)
-
-      others-unlinked : Others end unlinked
-      others-unlinked =
-          record {
-            safe = λ y a n.
-                let w = C .others .safe y a n in
-                record {
-                  same-out = update-other (m .out) x none y (own-other j x l e y n) ∙ w .same-out;
-                  same-inn = w .same-inn;
-                  same-val = w .same-val;
-                };
-            same-inward = C .others .same-inward;
-            hats = C .others .hats;
-          }
-
-    -- ---- Line 82.
-    at-82 : (m : View) (j : ℕ) → Cut m j → (x n : ℕ) (u : Value) (b c : ℕ) → x ≡ spare end j
-        → j < spares end
-        → v + 2 < spares end
-        → Leads′ (further t0 line82 n u x b c none) m
-    unfolding act
-    at-82 m j C x n u b c e l more =
-        line-leads k ℓ s _ _ _ _ (λ f.
-        ok-through (Next′ m) (λ z. absurd (some-at j x l e z)) (λ _.
-        ending (λ z. clash (cc)) (λ vs A.
-        let p = C .past in
-        cut-done (unlinked C x e l) (suc j)
-        (record {
-          past = omega arith;
-          others = others-unlinked C x e l;
-          hat-same = C .hat-same;
-          keep-val = C .keep-val;
-          last-val = C .last-val;
-          keep-out = λ i h.
-              update-other (m .out) x none _ (at-not-x C x e l i (omega arith) (λ q. omega arith)) ∙ C .keep-out i h;
-          rest-out = λ i h li.
-              update-other (m .out) x none _ (at-not-x C x e l i li (λ q. omega arith)) ∙ C .rest-out i (omega arith) li;
-          rest-val = λ i h li. C .rest-val i (omega arith) li;
-        }) more A)))
-
-    -- ---- Lines 77 to 81: the next node is marked, and this one is unlinked.
-    module _ {m : View} {j : ℕ} (C : Cut m j) (x b : ℕ) (e : x ≡ spare end j)
-        (eb : b ≡ spare end (suc j)) (l : suc j < spares end) where
-      abbrev marked : View
-      marked = record { out = m .out; inn = m .inn; val = update (m .val) b (Y s); hats = m .hats }
-
-      abbrev onward : View
-      onward = record { out = update (m .out) x none; inn = m .inn; val = update (m .val) b (Y s); hats = m .hats }
-
-      not-b : (i : ℕ) → i < spares end → i ≢ suc j → spare end i ≢ b
-      not-b i li ne q = differ i (suc j) li l ne (q ∙ eb)
-
-      not-x : (i : ℕ) → i < spares end → i ≢ j → spare end i ≢ x
-      not-x i li ne q = differ i j li (omega arith) ne (q ∙ e)
-
-      cut-onward : Cut onward (suc j)
-      cut-onward =
-          let p = C .past in
-          record {
-            past = omega arith;
-            others =
-                record {
-                  safe = λ y a n.
-                      let w = C .others .safe y a n in
-                      record {
-                        same-out = update-other (m .out) x none y (own-other j x (omega arith) e y n) ∙ w .same-out;
-                        same-inn = w .same-inn;
-                        same-val = update-other (m .val) b (Y s) y (own-other (suc j) b l eb y n) ∙ w .same-val;
-                      };
-                  same-inward = C .others .same-inward;
-                  hats = C .others .hats;
-                };
-            hat-same = C .hat-same;
-            keep-val = λ i h.
-                update-other (m .val) b (Y s) _ (not-b i (omega arith) (λ q. omega arith)) ∙ C .keep-val i h;
-            last-val =
-                update-other (m .val) b (Y s) _ (not-b v (omega arith) (λ q. omega arith)) ∙ C .last-val;
-            keep-out = λ i h.
-                update-other (m .out) x none _ (not-x i (omega arith) (λ q. omega arith)) ∙ C .keep-out i h;
-            rest-out = λ i h li.
-                update-other (m .out) x none _ (not-x i li (λ q. omega arith)) ∙ C .rest-out i (omega arith) li;
-            rest-val = λ i h li.
-                update-other (m .val) b (Y s) _ (not-b i li (λ q. omega arith)) ∙ C .rest-val i (omega arith) li;
-          }
-
-      -- The node at b leads on as it did.
-      on-b : onward .out b ≡ link ws s (spare end (suc j))
-      on-b = ap (onward .out) eb ∙ cut-onward .rest-out (suc j) (omega arith) l
-
-      read-b : m .val b ≡ value ws (spare end (suc j))
-      read-b = ap (m .val) eb ∙ C .rest-val (suc j) (omega arith) l
-
-      x-some : x ≢ none
-      x-some = some-at j x (omega arith) e
-
-      b-some : b ≢ none
-      b-some = some-at (suc j) b l eb
-
-      -- Line 81 is told what comes next.
-      next-node : (n : ℕ) (c : ℕ) → Leads′ (further t0 line81 n (m .val b) b b c none) onward
-          → (u : Value)
-          → Leads′ (further t0 line77 n u x b c none) m
-      unfolding act
-      next-node n c on-81 u =
-          line-leads k ℓ s _ _ _ _ (λ f.
-          ok-through (Next′ m) (λ z. absurd (b-some z)) (λ _.
-          going refl
-          (line-leads k ℓ s _ _ _ _ (λ f'.
-          ok-through (Next′ m) (λ z. absurd (b-some z)) (λ _.
-          ok-if (Next′ m) (λ q. q) (_ ≟ᵛ _)
-          (λ _.
-          going refl
-          (line-leads k ℓ s _ _ _ _ (λ f''.
-          ok-through (Next′ marked) (λ z. absurd (x-some z)) (λ _. going refl on-81))))
-          (λ ne. absurd (ne refl)))))))
-
-    loop : (fuel j : ℕ) (m : View) → Cut m j → (x b n : ℕ) (u : Value) (c : ℕ) → x ≡ spare end j
-        → b ≡ spare end (suc j)
-        → suc (suc (j + fuel)) ≡ spares end
-        → v + 2 < spares end
-        → Leads′ (further t0 line77 n u x b c none) m
-    unfolding act
-    loop zero j m C x b n u c e eb l more =
-        let h : suc j < spares end = omega arith in
-        let ends-here : onward C x b e eb h .out b ≡ none =
-        on-b C x b e eb h ∙ last-none (own-lane end) s (suc j) (omega arith) in
-        next-node C x b e eb h n c
-        (line-leads k ℓ s _ _ _ _ (λ f.
-        ok-through (Next′ (onward C x b e eb h)) (λ z. absurd (b-some C x b e eb h z)) (λ _.
-        ok-if (Next′ (onward C x b e eb h)) (λ st. next (further t0 line81 n (m .val b) b (onward C x b e eb h .out b) c none) st) (_ ≟ _)
-        (λ _.
-        going refl
-        (at-82 (onward C x b e eb h) (suc j) (cut-onward C x b e eb h) b n (m .val b) (onward C x b e eb h .out b) c eb h more))
-        (λ ne. absurd (ne ends-here)))))
-        u
-    loop (suc fuel) j m C x b n u c e eb l more =
-        let h : suc j < spares end = omega arith in
-        let on : onward C x b e eb h .out b ≡ spare end (suc (suc j)) =
-        on-b C x b e eb h ∙ E .leads (suc j) (omega arith) in
-        let is-N : m .val b ≡ N s = read-b C x b e eb h ∙ E .N-before (suc j) (omega arith) in
-        let rest =
-        loop fuel (suc j) (onward C x b e eb h) (cut-onward C x b e eb h) b (onward C x b e eb h .out b) n (m .val b) c eb on
-        (omega arith) more in
-        next-node C x b e eb h n c
-        (line-leads k ℓ s _ _ _ _ (λ f.
-        ok-through (Next′ (onward C x b e eb h)) (λ z. absurd (b-some C x b e eb h z)) (λ _.
-        ok-if (Next′ (onward C x b e eb h)) (λ st. next (further t0 line81 n (m .val b) b (onward C x b e eb h .out b) c none) st) (_ ≟ _)
-        (λ z. absurd (some-at (suc (suc j)) _ (omega arith) on z))
-        (λ _.
-        ok-if (Next′ (onward C x b e eb h)) (λ st. next (further t0 line81 n (m .val b) b (onward C x b e eb h .out b) c none) st) (_ ≟ᵛ _)
-        (λ z. clash (cc)) (λ _. going refl rest)))))
-        u
-
-    -- ---- Lines 62 to 74: the cut.
-    module _ (x b : ℕ) (e : x ≡ spare end v) (eb : b ≡ spare end (suc v))
-        (more : v + 2 < spares end) where
-      abbrev m62 : View
-      m62 = record { out = m0 .out; inn = m0 .inn; val = update (update (m0 .val) x (X s)) b (Y s); hats = m0 .hats }
-
-      abbrev m64 : View
-      m64 =
-          record {
-            out = update (m0 .out) x none;
-            inn = m0 .inn;
-            val = update (update (m0 .val) x (X s)) b (Y s);
-            hats = m0 .hats;
-          }
-
-      no-x : (i : ℕ) → i < spares end → i ≢ v → spare end i ≢ x
-      no-x i li ne q = differ i v li (omega arith) ne (q ∙ e)
-
-      no-b : (i : ℕ) → i < spares end → i ≢ suc v → spare end i ≢ b
-      no-b i li ne q = differ i (suc v) li (omega arith) ne (q ∙ eb)
-
-      val-then : (i : ℕ) → i < spares end → i ≢ v → i ≢ suc v
-          → m64 .val (spare end i) ≡ value ws (spare end i)
-      val-then i li nx nb =
-          update-other (update (m0 .val) x (X s)) b (Y s) _ (no-b i li nb) ∙ update-other (m0 .val) x (X s) _ (no-x i li nx)
-
-      cut-first : Cut m64 (suc v)
-      cut-first =
-          record {
-            past = omega arith;
-            others =
-                record {
-                  safe = λ y a n.
-                      record {
-                        same-out = update-other (m0 .out) x none y (own-other v x (omega arith) e y n);
-                        same-inn = refl;
-                        same-val =
-                            update-other (update (m0 .val) x (X s)) b (Y s) y (own-other (suc v) b (omega arith) eb y n)
-                            ∙ update-other (m0 .val) x (X s) y (own-other v x (omega arith) e y n);
-                      };
-                  same-inward = λ y a. refl;
-                  hats = λ j z o. refl;
-                };
-            hat-same = hat-at;
-            keep-val = λ i h.
-                val-then i (omega arith) (λ q. omega arith) (λ q. omega arith) ∙ E .N-before i (omega arith);
-            last-val =
-                update-other (update (m0 .val) x (X s)) b (Y s) _ (no-b v (omega arith) (λ q. omega arith))
-                ∙ ap (update (m0 .val) x (X s)) (sym e)
-                ∙ update-same (m0 .val) x (X s);
-            keep-out = λ i h.
-                update-other (m0 .out) x none _ (no-x i (omega arith) (λ q. omega arith)) ∙ E .leads i (omega arith);
-            rest-out = λ i h li. update-other (m0 .out) x none _ (no-x i li (λ q. omega arith));
-            rest-val = λ i h li. val-then i li (λ q. omega arith) (λ q. omega arith);
-          }
-
-      on-first : m64 .out b ≡ spare end (suc (suc v))
-      on-first =
-          ap (m64 .out) eb ∙ cut-first .rest-out (suc v) (omega arith) (omega arith) ∙ E .leads (suc v) (omega arith)
-
-      to-b : link ws s x ≡ b
-      to-b = ap (link ws s) e ∙ E .leads v (omega arith) ∙ sym eb
-
-      at-74 : (n : ℕ) (u : Value) (c : ℕ) → Leads′ (further t0 line74 n u x b c none) m64
-      unfolding act
-      at-74 n u c =
-          line-leads k ℓ s _ _ _ _ (λ f.
-          ok-through (Next′ m64) (λ z. absurd (some-at (suc v) b (omega arith) eb z)) (λ _.
-          ok-if (Next′ m64) (λ st. next (further t0 line74 n u b (m64 .out b) c none) st) (_ ≟ _)
-          (λ z. absurd (some-at (suc (suc v)) _ (omega arith) on-first z))
-          (λ _.
-          going refl
-          (loop (spares end - suc (suc (suc v))) (suc v) m64 cut-first b (m64 .out b) n u c eb on-first
-          (omega arith) more))))
-
-      at-64 : (n : ℕ) (u : Value) (c : ℕ) → Leads′ (further t0 line64 n u x b c none) m62
-      unfolding act
-      at-64 n u c =
-          line-leads k ℓ s _ _ _ _ (λ f.
-          ok-through (Next′ m62) (λ z. absurd (some-at v x (omega arith) e z)) (λ _.
-          ok-if (Next′ m62) (λ l. writing l (next (further t0 line64 n u x b c none) line74)) (_ ≟ _)
-          (λ _. going refl (at-74 n u c)) (λ ne. absurd (ne to-b))))
-
     -- ---- Lines 60 and 62.
     at-62 : (x b n : ℕ) (u : Value) (c : ℕ) → x ≡ spare end v → b ≡ spare end (suc v)
         → suc v < spares end
@@ -416,21 +110,22 @@ module _ (end : CallEnd) (k v : ℕ) where
     unfolding act
     at-62 x b n u c e eb l =
         line-leads k ℓ s _ _ _ _ (λ f.
-        ok-through (Next′ m0) (λ z. absurd (some-at v x (omega arith) e z)) (λ _.
-        ok-through (Next′ m0) (λ z. absurd (some-at (suc v) b l eb z)) (λ _.
+        ok-through (Next′ m0) (λ z. absurd (some-at end k v hat-at v x (omega arith) e z)) (λ _.
+        ok-through (Next′ m0) (λ z. absurd (some-at end k v hat-at (suc v) b l eb z)) (λ _.
         ok-swap (Next′ m0) _ _
         (λ _ b-N.
         elim (less? (v + 2) (spares end)) [
-          | inl more ↦ going refl (at-64 x b e eb more n u c)
+          | inl more ↦ going refl (at-64 end k v hat-at x b e eb more n u c)
           | inr few ↦
-              let q = E .X-last (suc v) (omega arith) in
+              let q = own-spares end k v hat-at .X-last (suc v) (omega arith) in
               clash (cc (ap (value ws) eb))
         ])
         (λ ne.
         elim (less? (v + 2) (spares end)) [
           | inl more ↦
-              absurd (ne (ap (value ws) e ∙ E .N-before v (omega arith)) (ap (value ws) eb ∙ E .N-before (suc v) (omega arith)))
-          | inr few ↦ ending (λ z. clash (cc)) (λ vs A. one-no refl off-Y (omega arith) (unchanged A))
+              absurd (ne (ap (value ws) e ∙ own-spares end k v hat-at .N-before v (omega arith))
+              (ap (value ws) eb ∙ own-spares end k v hat-at .N-before (suc v) (omega arith)))
+          | inr few ↦ ending (λ z. clash (cc)) (λ vs A. one-no refl (off-Y end k v hat-at) (omega arith) (unchanged A))
         ]))))
 
     at-60 : (x n : ℕ) (u : Value) (b c : ℕ) → x ≡ spare end v → v < spares end
@@ -438,16 +133,18 @@ module _ (end : CallEnd) (k v : ℕ) where
     unfolding act
     at-60 x n u b c e l =
         line-leads k ℓ s _ _ _ _ (λ f.
-        ok-through (Next′ m0) (λ z. absurd (some-at v x l e z)) (λ _.
+        ok-through (Next′ m0) (λ z. absurd (some-at end k v hat-at v x l e z)) (λ _.
         ok-if (Next′ m0) (λ q. q) (_ ≟ _)
         (λ z.
         elim (less? (suc v) (spares end)) [
-          | inl more ↦ absurd (some-at (suc v) (link ws s x) more (ap (link ws s) e ∙ E .leads v more) z)
-          | inr few ↦ ending (λ q. clash (cc)) (λ vs A. few-yes refl off-Y (omega arith) (unchanged A))
+          | inl more ↦ absurd (some-at end k v hat-at (suc v) (link ws s x) more
+              (ap (link ws s) e ∙ own-spares end k v hat-at .leads v more) z)
+          | inr few ↦ ending (λ q. clash (cc)) (λ vs A. few-yes refl (off-Y end k v hat-at) (omega arith) (unchanged A))
         ])
         (λ ne.
         elim (less? (suc v) (spares end)) [
-          | inl more ↦ going refl (at-62 x (link ws s x) n u c e (ap (link ws s) e ∙ E .leads v more) more)
+          | inl more ↦ going refl
+              (at-62 x (link ws s x) n u c e (ap (link ws s) e ∙ own-spares end k v hat-at .leads v more) more)
           | inr few ↦
               absurd (ne (ap (link ws s) e ∙ last-none (own-lane end) s v (omega arith)))
         ])))
@@ -461,28 +158,29 @@ module _ (end : CallEnd) (k v : ℕ) where
     walk-step i x u b c e below l again =
         elim (less? (suc i) (spares end)) [
           | inr few ↦
-              let is-X : value ws x ≡ X s = ap (value ws) e ∙ E .X-last i (omega arith) in
+              let is-X : value ws x ≡ X s = ap (value ws) e ∙ own-spares end k v hat-at .X-last i (omega arith) in
               line-leads k ℓ s _ _ _ _ (λ f.
-              ok-through (Next′ m0) (λ z. absurd (some-at i x l e z)) (λ _.
+              ok-through (Next′ m0) (λ z. absurd (some-at end k v hat-at i x l e z)) (λ _.
               ok-if (Next′ m0) (λ q. q) (_ ≟ᵛ _)
-              (λ _. ending (λ q. clash (cc)) (λ vs A. few-yes refl off-Y (omega arith) (unchanged A)))
+              (λ _. ending (λ q. clash (cc)) (λ vs A. few-yes refl (off-Y end k v hat-at) (omega arith) (unchanged A)))
               (λ ne. absurd (ne is-X))))
           | inl more ↦
-              let is-N : value ws x ≡ N s = ap (value ws) e ∙ E .N-before i more in
-              let on : link ws s x ≡ spare end (suc i) = ap (link ws s) e ∙ E .leads i more in
+              let is-N : value ws x ≡ N s = ap (value ws) e ∙ own-spares end k v hat-at .N-before i more in
+              let on : link ws s x ≡ spare end (suc i) = ap (link ws s) e ∙ own-spares end k v hat-at .leads i more in
               line-leads k ℓ s _ _ _ _ (λ f.
-              ok-through (Next′ m0) (λ z. absurd (some-at i x l e z)) (λ _.
+              ok-through (Next′ m0) (λ z. absurd (some-at end k v hat-at i x l e z)) (λ _.
               ok-if (Next′ m0) (λ q. q) (_ ≟ᵛ _) (λ z. clash (cc)) (λ _.
               going refl
               (line-leads k ℓ s _ _ _ _ (λ f'.
-              ok-through (Next′ m0) (λ z. absurd (some-at i x l e z)) (λ _.
+              ok-through (Next′ m0) (λ z. absurd (some-at end k v hat-at i x l e z)) (λ _.
               ok-if (Next′ m0) (λ q. q) (_ ≟ _)
-              (λ z. absurd (some-at (suc i) _ more on z))
+              (λ z. absurd (some-at end k v hat-at (suc i) _ more on z))
               (λ _.
               ok-if (Next′ m0) (λ st. next (further t0 line58 (suc i) u (link ws s x) b c none) st) (_ ≟ _)
               (λ there.
               going refl
-              (at-60 (link ws s x) (suc i) u b c (on ∙ ap (spare end) there) (subst (λ (q : ℕ). q < spares end) there more)))
+              (at-60 (link ws s x) (suc i) u b c (on ∙ ap (spare end) there)
+              (subst (λ (q : ℕ). q < spares end) there more)))
               (λ ne. going refl (again (link ws s x) on ne more)))))))))
         ]
 
@@ -505,7 +203,7 @@ module _ (end : CallEnd) (k v : ℕ) where
         (subst (λ (q : ℕ). q < spares end) (sym z) one)))
         (λ ne. going refl (walk (v - 1) 0 H never none none hat-at (omega arith) one)))
 
-  pub remove-leads : Leads k ℓ s (nodeCount ws) (laneCount ws) (growth ws) RemoveLeaves (begunTask ℓ remove s v) (viewed s ws)
+  pub remove-leads : Leads′ (begunTask ℓ remove s v) (viewed s ws)
   remove-leads = go (idle-end (own-lane end) s .hat-place)
     where
       go : {y : ℕ} → HatPlace ws ℓ s (spare end 0) (inner end) y

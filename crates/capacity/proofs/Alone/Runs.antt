@@ -107,7 +107,8 @@ module _ (k ℓ : ℕ) (s : Side) where
     effect-is =
         let f = allocate ws h in
         let g = growth ws in
-        ap (λ (x : Task). act (x .step) (x .side) (opposite (x .side)) (seen (x .lane) (x .side) ws) x (goal g x) f) (P .own)
+        ap (λ (x : Task). act (x .step) (x .side) (opposite (x .side)) (seen (x .lane) (x .side) ws) x (goal g x) f)
+        (P .own)
         ∙ ap (λ (z : Side). act (t .step) z (opposite z) (seen (t .lane) z ws) t (goal g t) f) (P .on-side)
         ∙ ap (λ (l : ℕ). act (t .step) s (opposite s) (seen l s ws) t (goal g t) f) (P .on-lane)
         ∙ ap (λ (y : View). act (t .step) s (opposite s) (seenIn ℓ s y) t (goal g t) f) (P .sees)
@@ -288,7 +289,8 @@ module _ {ws : List ℕ} (B : Begun ws) (idle-now : Idle ws) (k ℓ : ℕ) (op :
   pub begun-table : BegunTable ws begun-words k (begunTask ℓ op s v)
   begun-table =
       subst (λ (o : Operation). BegunTable ws begun-words k (begunTask ℓ o s v)) (operation-of-number op)
-      (subst (λ (z : Side). BegunTable ws begun-words k (begunTask ℓ (operationOf (operationNumber op)) z v)) (side-of-number s)
+      (subst (λ (z : Side). BegunTable ws begun-words k (begunTask ℓ (operationOf (operationNumber op)) z v))
+      (side-of-number s)
       (subst
       (λ n. BegunTable ws begun-words k (begunTask ℓ (operationOf (operationNumber op)) (sideOf (sideNumber s)) n))
       (number-stored v)

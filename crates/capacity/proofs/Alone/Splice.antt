@@ -24,7 +24,16 @@ use Rattle.capacity.proofs.Alone.Ends.{OtherEnd, other-hat, not-Y, idle
 use Rattle.capacity.proofs.Alone.Pop.{hat-inward}
 use Rattle.capacity.proofs.Alone.Runs.{ok-swap, Leads, Next, going, line-leads}
 use Rattle.capacity.proofs.Alone.Reach.{Reach, at-hat, at-root, outward, inward}
-use Rattle.capacity.proofs.Alone.Others.{own-lane, Alive, spare-alive, some-spare, at-some, p-some, Stage, on-list}
+use Rattle.capacity.proofs.Alone.Others.{
+  own-lane,
+  Alive,
+  spare-alive,
+  some-spare,
+  at-some,
+  p-some,
+  Stage,
+  on-list,
+}
 use Rattle.capacity.proofs.Alone.Build.{Chain}
 use Rattle.capacity.proofs.Alone.CallEnds.{CallEnd, spares, spare, inner}
 
@@ -285,7 +294,8 @@ module _ (end : CallEnd) where
           (λ _. going refl further-on)))))
           (λ ne. absurd (ne is-N))))
 
-      pub splice-leads : (u : Value) (a b c : ℕ) → Leads k ℓ s (nodeCount ws) (laneCount ws) g Q (further t0 line15 n u a b c d) m
+      pub splice-leads : (u : Value) (a b c : ℕ)
+          → Leads k ℓ s (nodeCount ws) (laneCount ws) g Q (further t0 line15 n u a b c d) m
       unfolding act
       splice-leads u a b c =
           line-leads k ℓ s _ _ _ _ (λ f.

@@ -59,7 +59,8 @@ push-alone ws vs B idle-now T C k ℓ s v a accepted alone-to =
     go : PushLeaves (callEnd B idle-now T ℓ here s) k v a vs
         → Says (pushAlone s v (growth ws) (C .free) (T .shape ℓ .bags) (spareOf s (T .shape ℓ)) (spurOf s (T .shape ℓ)))
     go (at-spare more is-pushed K) =
-        subst Says (sym (push-spare s v (growth ws) (C .free) (T .shape ℓ .bags) (spareOf s (T .shape ℓ)) (spurOf s (T .shape ℓ)) more))
+        subst Says (sym (push-spare s v (growth ws) (C .free) (T .shape ℓ .bags) (spareOf s (T .shape ℓ))
+        (spurOf s (T .shape ℓ)) more))
         (pushed (spareOf s (T .shape ℓ) - 1) is-pushed K)
     go (at-taken single is-pushed c some-taken few K all) =
         let f = C .free in
@@ -137,7 +138,10 @@ module _ {ws vs : List ℕ} (B : Begun ws) (T : IdleTable ws) (ℓ : ℕ) (here 
 
   spur-free : Free vs (hat ws ℓ s)
   spur-free =
-      record { is-node = subst (λ (n : ℕ). hat ws ℓ s < n) (sym (K .same-nodes)) (W .hats ℓ s here); unreached = unreached }
+      record {
+        is-node = subst (λ (n : ℕ). hat ws ℓ s < n) (sym (K .same-nodes)) (W .hats ℓ s here);
+        unreached = unreached;
+      }
 
 pub add-alone : CallAlone add
 unfolding sizeAnswered

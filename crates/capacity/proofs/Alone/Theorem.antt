@@ -63,7 +63,8 @@ use Rattle.capacity.proofs.Alone.Outcomes.{
 }
 use Rattle.capacity.proofs.Alone.Counts.{balance}
 use Rattle.capacity.proofs.Alone.Pop.{PopLeaves, gives-bag, says-empty, pop-leads}
-use Rattle.capacity.proofs.Alone.Remove.{RemoveLeaves, on-spur-yes, few-yes, one-no, cuts-yes, remove-leads}
+use Rattle.capacity.proofs.Alone.Cut.{RemoveLeaves, on-spur-yes, few-yes, one-no, cuts-yes}
+use Rattle.capacity.proofs.Alone.Remove.{remove-leads}
 use Rattle.capacity.proofs.Alone.Takes.{push-alone, add-alone}
 
 -- ---- A pop: what the row gives.
@@ -215,7 +216,8 @@ module _ (op : Operation) {ws : List ℕ} (B : Begun ws) (idle-now : Idle ws) (k
   not-idle : op ≢ idle
   not-idle e =
       idle-refused ws k ℓ (sideNumber s) (stored v)
-      (subst (λ (o : Operation). begin ws k ℓ (operationNumber o) (sideNumber s) (stored v) .reply ≡ Accepted) e accepted)
+      (subst (λ (o : Operation). begin ws k ℓ (operationNumber o) (sideNumber s) (stored v) .reply ≡ Accepted) e
+      accepted)
 
   pub comes-to-answer : AloneTo k
       (ticksWith hints (begin ws k ℓ (operationNumber op) (sideNumber s) (stored v) .words) k .answer)

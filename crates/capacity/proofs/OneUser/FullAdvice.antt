@@ -1,5 +1,5 @@
--- What to do about "full": after the three calls at another end the push that was "full" is "pushed", if that end had room
--- for two tags; and so for one end after another.
+-- What to do about "full": after the three calls at another end the push that was "full" is "pushed", if that end had
+-- room for two tags; and so for one end after another.
 use mathlib.Core.Path.{_≡_, refl, sym, ap, _∙_, subst}
 use mathlib.Core.Logic.{_⊎_, inl, inr}
 use mathlib.Core.List.{List, [], _∷_}
@@ -320,7 +320,8 @@ last-is c (p ∷ ps) {σ} H full can =
     let all = still-all σ σ′ (K .same-tasks) (K .same-lanes) (K .same-bags) (p ∷ ps) can in
     let again = full-again H K c full in
     let G = given (K .holds) c again p (all .0) in
-    let tried = if-yes (kindOf (oneCall σ c .answer) ≟ kindOf Full) _ _ (ap kindOf full) in
+    let tried : lastAnswer σ c (p ∷ ps) ≡ lastAnswer (giveBack σ′ p) c ps =
+    if-yes (kindOf (oneCall σ c .answer) ≟ kindOf Full) _ _ (ap kindOf full) in
     elim (less? 1 (roomAt σ p)) [
       | inl more ↦
           let enough : 2 ≤ roomAt σ′ p = omega (arith, K .same-room (p .lane) (p .side)) in
@@ -346,7 +347,8 @@ one-total f = omega arith
 
 pub one-lane-full : OneLaneFull
 one-lane-full S σ H one-lane k s tag full =
-    by-side s (subst (λ (z : Side). room σ 0 z ≡ 0) (side-of-number s) (none-there (ends-hold H) (callOf k 0 push s tag) full))
+    by-side s (subst (λ (z : Side). room σ 0 z ≡ 0) (side-of-number s)
+    (none-there (ends-hold H) (callOf k 0 push s tag) full))
   where
     here : 0 < σ .lanes
     here = omega arith

@@ -141,7 +141,8 @@ module _ {σ : State} (p : Loader) (P : CanPush σ p) (none-free : σ .free ≡ 
   -- With the push "pushed": it leaves c spare nodes and f free ones, and the remove d and f'.
   module _ (c f : ℕ) (comes-to : alone push s (p .tag) (σ .growth) 0 bags r y ≡ leaves Pushed (put s (p .tag) bags) c 0)
       (sum : f + suc c ≡ r + y) (a : Answer) (d f' : ℕ)
-      (cuts : alone remove s 0 (σ .growth) f bags (suc c) 0 ≡ leaves a bags d 0) (sum' : f' + d ≡ f + suc c) (keeps : 1 ≤ d) where
+      (cuts : alone remove s 0 (σ .growth) f bags (suc c) 0 ≡ leaves a bags d 0) (sum' : f' + d ≡ f + suc c)
+      (keeps : 1 ≤ d) where
     N₁ : Numbers σ₁ l s (put s (p .tag) bags) c 0 f
     N₁ = call-numbers first k push (p .tag) passes comes-to f (omega (arith, longer))
 

@@ -79,7 +79,8 @@ by-outcome σ l s v h =
           is-full e (room-then σ l s o ∙ e') a (subst (λ (i : ℕ). 1 ≤ i) (sym (spare-then σ l s o)) kept)
     ]
 
-pub one-push : (σ : State) (l : ℕ) (s : Side) (c : WholeCall) → 1 ≤ σ .lane l .spare s → refusal σ c ≡ nothing → c .lane ≡ l
+pub one-push : (σ : State) (l : ℕ) (s : Side) (c : WholeCall) → 1 ≤ σ .lane l .spare s → refusal σ c ≡ nothing
+    → c .lane ≡ l
     → operationOf (c .operation) ≡ push
     → sideOf (c .side) ≡ s
     → Pushed-to (room σ l s) l s (oneCall σ c)
@@ -167,7 +168,8 @@ side-passes left = refl
 side-passes right = refl
 
 module _ (k l : ℕ) (s : Side) where
-  pub not-refused : (σ : State) (v : ℕ) → k < σ .tasks → l < σ .lanes → bagOk (stored v) ≡ true → isAmong v (bagsOf σ) ≡ false
+  pub not-refused : (σ : State) (v : ℕ) → k < σ .tasks → l < σ .lanes → bagOk (stored v) ≡ true
+      → isAmong v (bagsOf σ) ≡ false
       → refusal σ (callOf k l push s v) ≡ nothing
   unfolding ℕ-discrete
   not-refused σ v is-task is-lane is-bag new =
@@ -185,7 +187,8 @@ module _ (k l : ℕ) (s : Side) where
         refl,
         (operation-of-number push),
         side-of-number s,
-        subst (λ (τ : State). Pushes l s τ (pushCalls k l s tags)) (sym (ap (λ (d : Done). d .state) (call-done σ k l push s v passes)))
+        subst (λ (τ : State). Pushes l s τ (pushCalls k l s tags))
+            (sym (ap (λ (d : Done). d .state) (call-done σ k l push s v passes)))
             (pushes-new next tags is-task is-lane
             (all-new (bagsOf σ) (bagsOf next) v (λ w ne q. still-new σ l s v w is-lane ne q) tags (new .2) (new .3))),
       )
@@ -260,8 +263,8 @@ module _ {σ : State} (H : EndsHold σ) (c : WholeCall) (P : IsPush σ c) where
 
   pushed-to : Pushed-to (room σ (c .lane) (sideOf (c .side))) (c .lane) (sideOf (c .side)) (oneCall σ c)
   pushed-to =
-      one-push σ (c .lane) (sideOf (c .side)) c (H .some-spare (c .lane) (P .is-lane) (sideOf (c .side))) (P .passes) refl
-      (P .is-push) refl
+      one-push σ (c .lane) (sideOf (c .side)) c (H .some-spare (c .lane) (P .is-lane) (sideOf (c .side))) (P .passes)
+      refl (P .is-push) refl
 
   pub with-room : 1 ≤ ownRoom → oneCall σ c .answer ≡ Pushed
   with-room l = elim pushed-to [ is-pushed n e q a kept ↦ a | is-full e q a kept ↦ absurd (omega arith) ]

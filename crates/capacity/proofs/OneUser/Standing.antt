@@ -72,7 +72,8 @@ module _ {S : ℕ} {ws : List ℕ} {σ : State} (P : Standing S ws σ) where
 
   -- ---- Refusals.
   twice-is : (k : ℕ) (op : Operation) (n : ℕ)
-      → twiceRefusal ws op n (unless (isIdle (task ws k .operation)) 8 nothing) ≡ unless (not (isTwice σ op n)) 16 nothing
+      → twiceRefusal ws op n (unless (isIdle (task ws k .operation)) 8 nothing)
+      ≡ unless (not (isTwice σ op n)) 16 nothing
   twice-is k push n = rw (lanes-then, none-begun (taskCount ws) n, P .no-call k, or-false (isAmong n (bagsOf σ)))
   twice-is k idle n = rw (P .no-call k)
   twice-is k pop n = rw (P .no-call k)

@@ -1,4 +1,4 @@
--- One whole call on a table that stands as a state: it answers as the state says, and leaves a table that stands as the next.
+-- One whole call on a table that stands as a state: it answers as the state says, and the table stands as the next one.
 use mathlib.Core.Path.{_≡_, refl, sym, ap, _∙_, subst}
 use mathlib.Core.Bool.{Bool, true, false}
 use mathlib.Core.List.{List, [], _∷_}
@@ -166,7 +166,8 @@ module _ {S : ℕ} {ws : List ℕ} {σ : State} (P : Standing S ws σ) where
       same-begin =
           ap (λ (n : ℕ). begin ws k (c .lane) n (sideNumber s) (stored v))
           (number-of-operation (c .operation) (allowed .last-operation))
-          ∙ ap (λ (n : ℕ). begin ws k (c .lane) (c .operation) n (stored v)) (number-of-side (c .side) (allowed .last-side))
+          ∙ ap (λ (n : ℕ). begin ws k (c .lane) (c .operation) n (stored v))
+          (number-of-side (c .side) (allowed .last-side))
           ∙ ap (λ (u : Stored). begin ws k (c .lane) (c .operation) (c .side) u)
           (argument-stored op (c .argument) (allowed .argument-fits))
 
@@ -196,9 +197,10 @@ module _ {S : ℕ} {ws : List ℕ} {σ : State} (P : Standing S ws σ) where
       tasks-then : taskCount (done .words) ≡ taskCount ws
       unfolding done
       tasks-then =
-          ticks-tasks k hints (by-call (P .begun) (begin-call (c .task) (c .lane) (c .operation) (c .side) (c .argument)))
-          ∙ accepted-begin (begun-agrees (P .begun) .1) (c .task) (c .lane) (c .operation) (c .side) (c .argument) accepted
-          .same-count
+          let A = begun-agrees (P .begun) .1 in
+          ticks-tasks k hints
+          (by-call (P .begun) (begin-call (c .task) (c .lane) (c .operation) (c .side) (c .argument)))
+          ∙ accepted-begin A (c .task) (c .lane) (c .operation) (c .side) (c .argument) accepted .same-count
 
       by-accepted : Step c (wholeCall ws c hints) (callDone nothing σ c)
       unfolding done

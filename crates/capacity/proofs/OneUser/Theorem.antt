@@ -23,7 +23,17 @@ use Rattle.machine.specs.Calls.{unless, start, begin, Ticked, tick, ticks}
 use Rattle.machine.specs.Begun.{Begun}
 use Rattle.capacity.specs.NoLeak.{Idle, IdleTable, AllCounted}
 use Rattle.capacity.specs.Alone.{Outcome, fromEnd, popFrom, alone, spareOf, spurOf, ticksWith}
-use Rattle.capacity.specs.OneUser.{State, startState, WholeCall, isTwice, refusal, outcome, callDone, oneCall, allCalls}
+use Rattle.capacity.specs.OneUser.{
+  State,
+  startState,
+  WholeCall,
+  isTwice,
+  refusal,
+  outcome,
+  callDone,
+  oneCall,
+  allCalls,
+}
 use Rattle.capacity.specs.OneUserExactly.{
   wholeCall,
   Hinted,
@@ -248,7 +258,8 @@ one-user-in-a-row S T g L old accepted calls b =
     let σ = startState S T g L in
     subst
     (λ (l : List WholeCall).
-    (rowCalls n ws calls .answers ≡ allCalls σ l .answers) × StandsAs (rowCalls n ws calls .words) (allCalls σ l .state))
+    (rowCalls n ws calls .answers ≡ allCalls σ l .answers) × StandsAs (rowCalls n ws calls .words)
+    (allCalls σ l .state))
     (spread-calls n calls)
     (subst
     (λ (p : Played).
