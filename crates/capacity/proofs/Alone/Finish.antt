@@ -217,7 +217,8 @@ module _ (end : CallEnd) where
   module _ {m : View} (St : Stage end m) (hat-at : m .hats ℓ s ≡ spare end 0)
       {d c : ℕ} {new : ℕ → ℕ} (C : Chain end m d c new) (x : ℕ)
       (x-last : x ≡ spare end (spares end - 1)) where
-    abbrev mA : View
+    -- The view with the chain behind x.
+    abbrev pub mA : View
     mA =
         record {
           out = update (m .out) x d;
@@ -232,13 +233,7 @@ module _ (end : CallEnd) where
     dead-d : Alive end d → ⊥
     dead-d a = C .not-alive 0 (C .some) (subst (Alive end) (C .head) a)
 
-    pub others-spliced : Others end
-        (record {
-          out = update (m .out) x d;
-          inn = update (m .inn) d x;
-          val = update (m .val) x (N s);
-          hats = m .hats;
-        })
+    pub others-spliced : Others end mA
     others-spliced =
         record {
           safe = λ y a n.
@@ -329,13 +324,7 @@ module _ (end : CallEnd) where
               ∙ sym (joined-new (suc i) (omega arith))
         ]
 
-    pub own-spliced : OwnList
-        (record {
-          out = update (m .out) x d;
-          inn = update (m .inn) d x;
-          val = update (m .val) x (N s);
-          hats = m .hats;
-        }) joined (spares end + c)
+    pub own-spliced : OwnList mA joined (spares end + c)
     own-spliced =
         record {
           some = omega (arith, some-at);
@@ -381,13 +370,7 @@ module _ (end : CallEnd) where
     d-inn = ap (m .inn) (C .head) ∙ C .first-in
 
     pub reach-spliced : {y : ℕ} → Reach (laneCount ws) m d y
-        → Reach (laneCount ws)
-        (record {
-          out = update (m .out) x d;
-          inn = update (m .inn) d x;
-          val = update (m .val) x (N s);
-          hats = m .hats;
-        }) none y
+        → Reach (laneCount ws) mA none y
     reach-spliced (at-hat j z l) = at-hat j z l
     reach-spliced (at-root ne) =
         let here : Reach (laneCount ws) mA none x =
