@@ -118,7 +118,7 @@ module _ (end : CallEnd) (k v : ℕ) where
           | inl more ↦ going refl (at-64 end k v hat-at x b e eb more n u c)
           | inr few ↦
               let q = own-spares end k v hat-at .X-last (suc v) (omega arith) in
-              clash (cc (ap (value ws) eb))
+              clash (cc)
         ])
         (λ ne.
         elim (less? (v + 2) (spares end)) [

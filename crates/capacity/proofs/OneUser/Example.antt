@@ -1,12 +1,48 @@
 -- Worked examples, computed by the state alone: whole calls with their refusals, and what to do about "full".
 use mathlib.Core.Path.{_≡_, refl}
 use mathlib.Core.List.{List, [], _∷_}
-use native.Mathlib.Decide.{ℕ-discrete, decLt}
+use mathlib.Core.Option.{bind}
+use native.Mathlib.Decide.{ℕ-discrete, decLt, decLe}
+use lib.ListN.{replicate}
 use Rattle.machine.specs.declared.Answer.the-variants.{Pushed, Bag, Empty, Full, Yes, No, Refused}
 use Rattle.machine.specs.Sides.{left, right}
 use Rattle.machine.specs.Operations.{push, pop, add, remove}
+use Rattle.machine.specs.Values.{Value-discrete, decode}
+use Rattle.machine.specs.Steps.{stepIn, stepOf, isStepIn}
+use Rattle.machine.specs.Table.{tableLength, hat, link, value, task}
+use Rattle.machine.specs.Shape.{allBelow, sameWords, nodeOk, busyOk, recordOk, shapeOk}
+use Rattle.machine.specs.Allocate.{
+  hatsFrom,
+  heldFrom,
+  roots,
+  mark,
+  markAll,
+  visit,
+  visitFrom,
+  marked,
+  firstUnmarked,
+  allocate,
+}
+use Rattle.machine.specs.Lines.{writeAll, dcas, act}
+use Rattle.machine.specs.Calls.{
+  times,
+  startWords,
+  start,
+  begin,
+  effectOf,
+  applied,
+  tickOn,
+  tick,
+  isBegun,
+  laneFrom,
+  lane,
+  lanesBelow,
+  startNodes,
+}
 use Rattle.machine.specs.Twice.{rowsBelow}
+use Rattle.capacity.specs.Alone.{ticksWith}
 use Rattle.capacity.specs.OneUser.{State, startState, WholeCall, callOf, allCalls}
+use Rattle.capacity.specs.OneUserExactly.{Hinted, wholeCalls}
 use Rattle.capacity.specs.Room.{room, Loader, giveBack, lastAnswer}
 
 -- ---- Twelve whole calls on six nodes, two tasks, growth 1 and one lane.
@@ -66,3 +102,32 @@ pub not-given-back :
     × (allCalls twoSpare (callOf 0 0 remove left 0 ∷ []) .answers ≡ (No ∷ []))
 unfolding lastAnswer allCalls rowsBelow ℕ-discrete decLt
 not-given-back = (refl, refl, refl, refl)
+
+-- ---- The table itself, tick by tick on its words: the last place, a pop that makes a spare node, an add that finds none
+-- free, and removes; the same answers.
+abbrev onWords : List WholeCall
+onWords =
+    callOf 0 0 push right 51
+    ∷ callOf 0 0 push left 52
+    ∷ callOf 0 0 push right 53
+    ∷ callOf 0 0 pop left 0
+    ∷ callOf 0 0 add right 1
+    ∷ callOf 0 0 push right 51
+    ∷ callOf 0 0 remove left 0
+    ∷ callOf 0 0 push left 53
+    ∷ []
+
+abbrev hinted : List WholeCall → List Hinted
+hinted [] = []
+hinted (c ∷ cs) = record { call = c; hints = replicate 170 1 } ∷ hinted cs
+
+pub same-on-words :
+    (wholeCalls (start (replicate (tableLength 4 1) 7) 4 1 0 1 .words) (hinted onWords) .answers
+    ≡ (Pushed ∷ Pushed ∷ Full ∷ Bag 52 ∷ No ∷ Refused 16 ∷ No ∷ Pushed ∷ []))
+    × (allCalls (startState 4 1 0 1) onWords .answers
+    ≡ (Pushed ∷ Pushed ∷ Full ∷ Bag 52 ∷ No ∷ Refused 16 ∷ No ∷ Pushed ∷ []))
+unfolding wholeCalls ticksWith allCalls rowsBelow ℕ-discrete decLt decLe Value-discrete decode stepIn stepOf
+    isStepIn hat link value task allBelow sameWords nodeOk busyOk recordOk shapeOk hatsFrom heldFrom roots mark
+    markAll visit visitFrom marked firstUnmarked allocate writeAll dcas act times startNodes startWords start begin
+    effectOf applied tickOn tick isBegun laneFrom lane lanesBelow bind
+same-on-words = (refl, refl)
