@@ -4,7 +4,7 @@ use mathlib.Core.Logic.{_⊎_}
 use mathlib.Core.Bool.{true, false}
 use mathlib.Core.List.{List, [], _∷_}
 use mathlib.Core.Option.{none as nothing}
-use Prim.Native.Nat.{ℕ, zero, suc, _+_, _-_, _≤_, _<_}
+use Prim.Native.Nat.{ℕ, zero, suc, _+_, _*_, _-_, _≤_, _<_}
 use lib.ListN.{length}
 use Rattle.machine.specs.Choice.{_≟_, _<?_, if_then_else_}
 use Rattle.machine.specs.declared.Answer.{Answer}
@@ -166,3 +166,12 @@ OneLaneFull =
     → oneCall σ (callOf k 0 push s tag) .answer ≡ Full
     → room σ 0 (opposite s) < 2
     → (length (σ .lane 0 .bags) + 2 ≡ S) ⊎ ((length (σ .lane 0 .bags) + 3 ≡ S) × (room σ 0 (opposite s) ≡ 1))
+
+-- No room at any end of any lane: all lanes together have S bags less two for each lane.
+abbrev pub AllFull : Type 0
+AllFull =
+    (S : ℕ) (σ : State)
+    → Holds S σ
+    → 1 ≤ σ .lanes
+    → ((l : ℕ) → l < σ .lanes → (s : Side) → room σ l s ≡ 0)
+    → length (bagsOf σ) + 2 * σ .lanes ≡ S

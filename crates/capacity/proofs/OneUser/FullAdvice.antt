@@ -4,7 +4,7 @@ use mathlib.Core.Path.{_≡_, refl, sym, ap, _∙_, subst}
 use mathlib.Core.Logic.{_⊎_, inl, inr}
 use mathlib.Core.List.{List, [], _∷_}
 use mathlib.Core.Option.{Option}
-use Prim.Native.Nat.{ℕ, _+_, _-_, _≤_, _<_}
+use Prim.Native.Nat.{ℕ, _+_, _*_, _-_, _≤_, _<_}
 use native.Mathlib.Omega.{arith}
 use lib.ListN.{length}
 use Rattle.machine.specs.Choice.{_≟_, _<?_, if_then_else_}
@@ -43,11 +43,13 @@ use Rattle.capacity.specs.Room.{
   AllCanPush,
   FullToTheLast,
   OneLaneFull,
+  AllFull,
 }
 use Rattle.machine.proofs.Basics.Contradiction.{clash, equal?, less?}
 use Rattle.machine.proofs.Basics.Choices.{by-if, if-yes, if-no}
 use Rattle.machine.proofs.Words.RecordLaws.{side-of-number}
 use Rattle.machine.proofs.Linearizability.Model.Sides.{sides}
+use Rattle.capacity.proofs.Counting.{total-two, total-same, length-rows, total-const}
 use Rattle.capacity.proofs.OneUser.States.{
   Elsewhere,
   own-lane,
@@ -374,3 +376,22 @@ one-lane-full S σ H one-lane k s tag full =
           | inl one ↦ inr (omega (arith, sum), one)
           | inr ne ↦ inl (omega (arith, sum))
         ]
+
+-- ---- With no room anywhere.
+pub all-full : AllFull
+all-full S σ H some-lane full =
+    let lengths : ℕ → ℕ = λ l. length (σ .lane l .bags) in
+    let none-left = full 0 some-lane left in
+    let one = H .some-spare 0 some-lane left in
+    let same = total-same (λ l. sizeOf (σ .lane l)) (λ l. lengths l + 2) (σ .lanes) bags-and-ends in
+    let both = total-two lengths (λ l. 2) (σ .lanes) in
+    let rows = length-rows (λ l. σ .lane l .bags) (σ .lanes) in
+    omega (arith, H .all-counted, total-const 2 (σ .lanes))
+  where
+    bags-and-ends : (l : ℕ) → l < σ .lanes → sizeOf (σ .lane l) ≡ length (σ .lane l .bags) + 2
+    bags-and-ends l h =
+        let a = full l h left in
+        let b = full l h right in
+        let c = H .some-spare l h left in
+        let d = H .some-spare l h right in
+        omega arith
