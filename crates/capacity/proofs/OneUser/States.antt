@@ -1,18 +1,15 @@
 -- What a whole call leaves of a state: the numbers of its own end, and all else as it was.
 use mathlib.Core.Path.{_≡_, refl, sym, ap, _∙_}
 use mathlib.Core.Logic.{_≢_, inl, inr}
-use mathlib.Core.Bool.{not, _&&_}
 use mathlib.Core.List.{List}
 use mathlib.Core.Option.{Option, none as nothing}
 use Prim.Native.Nat.{ℕ, zero, suc, _+_}
 use native.Mathlib.Omega.{arith}
-use lib.Dec.{leb, ltb}
 use lib.ListN.{length}
 use Rattle.machine.specs.Choice.{_≟_}
 use Rattle.machine.specs.Sides.{Side, left, right, opposite, sideNumber, sideOf}
 use Rattle.machine.specs.Values.{number, stored}
-use Rattle.machine.specs.Operations.{Operation, operationOf, argumentOk}
-use Rattle.machine.specs.Calls.{unless, isPush, isAmong}
+use Rattle.machine.specs.Operations.{Operation}
 use Rattle.machine.specs.Twice.{rowsBelow}
 use Rattle.capacity.specs.Alone.{Outcome, alone}
 use Rattle.capacity.specs.OneUser.{
@@ -162,14 +159,6 @@ module _ {σ : State} {l : ℕ} {s : Side} {bags : List ℕ} {r y f : ℕ} (N : 
   call-elsewhere = rw (done-is) (state-elsewhere σ l s o)
 
 -- ---- What is refused depends on the tasks, the lanes and the bags.
-abbrev refusalBy : (lanes tasks : ℕ) → (bags : List ℕ) → WholeCall → Option ℕ
-refusalBy lanes tasks bags c =
-    unless (ltb (c .lane) lanes) 26
-    (unless (ltb (c .task) tasks) 5
-    (unless (leb 1 (c .operation) && leb (c .operation) 4 && leb (c .side) 1) 6
-    (unless (argumentOk (operationOf (c .operation)) (c .argument)) 7
-    (unless (not (isPush (operationOf (c .operation)) && isAmong (number (c .argument)) bags)) 16 nothing))))
-
 pub rows-same : (f g : ℕ → List ℕ) (n : ℕ) → ((j : ℕ) → f j ≡ g j) → rowsBelow f n ≡ rowsBelow g n
 unfolding rowsBelow
 rows-same f g zero same = refl
@@ -184,6 +173,5 @@ module _ (σ τ : State) (tasks : τ .tasks ≡ σ .tasks) (lanes : τ .lanes �
 
   pub refusal-same : (c : WholeCall) → refusal τ c ≡ refusal σ c
   refusal-same c =
-      ap (λ (n : ℕ). refusalBy n (τ .tasks) (bagsOf τ) c) lanes
-      ∙ ap (λ (n : ℕ). refusalBy (σ .lanes) n (bagsOf τ) c) tasks
-      ∙ ap (λ (bags : List ℕ). refusalBy (σ .lanes) (σ .tasks) bags c) bags-same
+      let same = rows-same (λ j. τ .lane j .bags) (λ j. σ .lane j .bags) (σ .lanes) bags in
+      rw (lanes, tasks, same) refl
