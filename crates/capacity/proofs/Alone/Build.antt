@@ -99,9 +99,6 @@ module _ (end : CallEnd) where
 
   -- ---- The lines.
   module _ (k g : ℕ) (Q : Answer → List ℕ → Type 0) (t0 : Task) (u : Value) (a b c : ℕ) (hats0 : ℕ → Side → ℕ) where
-    abbrev Leads′ : Task → View → Type 0
-    Leads′ = Leads k ℓ s (nodeCount ws) (laneCount ws) g Q
-
     abbrev Next′ : View → Effect → Type 0
     Next′ m e = Next k ℓ s (nodeCount ws) (laneCount ws) g Q m e
 

@@ -25,7 +25,7 @@ use Rattle.capacity.proofs.Counting.{total-same}
 use Rattle.capacity.proofs.Theorem.{no-leak}
 
 -- ---- Sums that differ at one place.
-pub total-one : (f h : ℕ → ℕ) (n ℓ : ℕ) → ℓ < n → ((j : ℕ) → j < n → j ≢ ℓ → f j ≡ h j)
+total-one : (f h : ℕ → ℕ) (n ℓ : ℕ) → ℓ < n → ((j : ℕ) → j < n → j ≢ ℓ → f j ≡ h j)
     → total f n + h ℓ ≡ total h n + f ℓ
 unfolding total
 total-one f h zero ℓ l same = absurd (omega arith)

@@ -111,7 +111,7 @@ module _ (s : Side) (vs : List ℕ) {m : View} (sees : viewed s vs ≡ m) where
       ]
 
 -- All as it was.
-pub end-unchanged : (ws vs : List ℕ) (s : Side) → viewed s vs ≡ viewed s ws
+end-unchanged : (ws vs : List ℕ) (s : Side) → viewed s vs ≡ viewed s ws
     → (j : ℕ) (z : Side) (at : ℕ → ℕ) (inner c : ℕ)
     → EndKept ws vs j z at inner c
 end-unchanged ws vs s sees j z at inner c =

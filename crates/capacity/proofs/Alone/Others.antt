@@ -45,12 +45,12 @@ places-apart I left i j hi hj e = omega arith
 places-apart I right i j hi hj e = omega arith
 
 -- An end's hat holds a mark of its side.
-pub data HatMark (ws : List ℕ) (j : ℕ) (z : Side) : Type 0 where
+data HatMark (ws : List ℕ) (j : ℕ) (z : Side) : Type 0 where
   is-Y : value ws (hat ws j z) ≡ Y z → HatMark ws j z
   is-N : value ws (hat ws j z) ≡ N z → HatMark ws j z
   is-X : value ws (hat ws j z) ≡ X z → HatMark ws j z
 
-pub hat-mark : {ws : List ℕ} {j : ℕ} {z : Side} {at : ℕ → ℕ} {inner c y : ℕ} → EndIs ws j z at inner c y
+hat-mark : {ws : List ℕ} {j : ℕ} {z : Side} {at : ℕ → ℕ} {inner c y : ℕ} → EndIs ws j z at inner c y
     → HatMark ws j z
 hat-mark {ws} {j} {z} {at} {inner} {c} E = go (E .hat-place)
   where

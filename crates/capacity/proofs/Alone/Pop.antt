@@ -49,12 +49,12 @@ use Rattle.capacity.proofs.Alone.Left.{
 }
 
 -- What stands before the spare nodes of an end: a bag, or a mark of the other side.
-pub data Inner (z : Side) (v : Value) : Type 0 where
+data Inner (z : Side) (v : Value) : Type 0 where
   a-bag : (b : ℕ) → v ≡ bag b → Inner z v
   far-N : v ≡ N (opposite z) → Inner z v
   far-X : v ≡ X (opposite z) → Inner z v
 
-pub inner-value : {ws : List ℕ} {ℓ : ℕ} {I : LaneShape} → IdleLane ws ℓ I → (z : Side)
+inner-value : {ws : List ℕ} {ℓ : ℕ} {I : LaneShape} → IdleLane ws ℓ I → (z : Side)
     → Inner z (value ws (innerAt z I))
 inner-value {ws} {ℓ} {I} K left =
     let M = K .main-list in

@@ -40,7 +40,7 @@ use Rattle.capacity.proofs.Alone.Runs.{ends-made, begun-table, begun-at
 use Rattle.capacity.proofs.Alone.Left.{same-some, Left, leaves-idle}
 
 -- A lane there is its row.
-pub row-of : {ws : List ℕ} {ρ : Row} → Agrees ws ρ → (ℓ : ℕ) → ℓ < laneCount ws → lane ws ℓ ≡ some (ρ .bags ℓ)
+row-of : {ws : List ℕ} {ρ : Row} → Agrees ws ρ → (ℓ : ℕ) → ℓ < laneCount ws → lane ws ℓ ≡ some (ρ .bags ℓ)
 row-of A ℓ h = lanes-are-rows A ℓ (subst (λ (n : ℕ). ℓ < n) (sym (A .same-lanes)) h)
 
 -- All lanes, one after another.
@@ -53,7 +53,7 @@ lanes-below ws f (suc n) are = rw (lanes-below ws f n (λ l h. are l (omega arit
 -- ---- On the way.
 
 -- A begin leaves the lane.
-pub lane-begun : {ws : List ℕ} → Begun ws → (ℓ : ℕ) → ℓ < laneCount ws → (k l op side : ℕ) (argument : Stored)
+lane-begun : {ws : List ℕ} → Begun ws → (ℓ : ℕ) → ℓ < laneCount ws → (k l op side : ℕ) (argument : Stored)
     → begin ws k l op side argument .reply ≡ Accepted
     → lane (begin ws k l op side argument .words) ℓ ≡ lane ws ℓ
 lane-begun {ws} B ℓ is-lane k l op side argument accepted =
@@ -70,7 +70,7 @@ lane-begun {ws} B ℓ is-lane k l op side argument accepted =
     ∙ sym (row-of A ℓ is-lane)
 
 -- A tick that goes on leaves it.
-pub fed-going : (ρ : Row) (k : ℕ) {ρ′ : Row} → feedMade ρ k Going ≡ some ρ′ → ρ ≡ ρ′
+fed-going : (ρ : Row) (k : ℕ) {ρ′ : Row} → feedMade ρ k Going ≡ some ρ′ → ρ ≡ ρ′
 unfolding feedMade bind
 fed-going ρ k {ρ′} = go (ρ .notes k)
   where
@@ -79,22 +79,22 @@ fed-going ρ k {ρ′} = go (ρ .notes k)
     go nothing e = clash (cc)
 
 module _ {ws : List ℕ} (B : Begun ws) (k h : ℕ) (made : refusalOf (tick ws k h .answer) ≡ nothing) where
-  pub is-tick : tick ws k h ≡ tickOn ws k h
+  is-tick : tick ws k h ≡ tickOn ws k h
   is-tick = tick-passes (begun-agrees B .1) k h
 
-  pub tick-made : MadeTick ws (begun-agrees B .0) k h
+  tick-made : MadeTick ws (begun-agrees B .0) k h
   tick-made = made-tick (begun-agrees B .1) k h (made-passes B k h made)
 
-  pub fed : feedMade (begun-agrees B .0) k (tick ws k h .answer) ≡ some (tick-made .row)
+  fed : feedMade (begun-agrees B .0) k (tick ws k h .answer) ≡ some (tick-made .row)
   fed = ap (λ (r : Ticked). feedMade (begun-agrees B .0) k (r .answer)) is-tick ∙ tick-made .given
 
-  pub lane-then : (ℓ : ℕ) → ℓ < laneCount ws → lane (tick ws k h .words) ℓ ≡ some (tick-made .row .bags ℓ)
+  lane-then : (ℓ : ℕ) → ℓ < laneCount ws → lane (tick ws k h .words) ℓ ≡ some (tick-made .row .bags ℓ)
   lane-then ℓ is-lane =
       let same = lanes-after (begun-agrees B .1) k h (made-passes B k h made) in
       ap (λ (r : Ticked). lane (r .words) ℓ) is-tick
       ∙ row-of (tick-made .agrees) ℓ (subst (λ (n : ℕ). ℓ < n) (sym same) is-lane)
 
-pub lane-going : {ws : List ℕ} → Begun ws → (ℓ : ℕ) → ℓ < laneCount ws → (k h : ℕ) → tick ws k h .answer ≡ Going
+lane-going : {ws : List ℕ} → Begun ws → (ℓ : ℕ) → ℓ < laneCount ws → (k h : ℕ) → tick ws k h .answer ≡ Going
     → lane (tick ws k h .words) ℓ ≡ lane ws ℓ
 lane-going {ws} B ℓ is-lane k h going =
     let made = ap refusalOf going in

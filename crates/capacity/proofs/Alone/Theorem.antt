@@ -53,14 +53,7 @@ use Rattle.capacity.proofs.Alone.Rows.{
   ComesTo,
   comes-to,
 }
-use Rattle.capacity.proofs.Alone.Outcomes.{
-  pop-bag,
-  pop-empty,
-  remove-spur,
-  remove-few,
-  remove-one,
-  remove-more,
-}
+use Rattle.capacity.proofs.Alone.Outcomes.{pop-bag, pop-empty, remove-spur, remove-few, remove-one, remove-more}
 use Rattle.capacity.proofs.Alone.Counts.{balance}
 use Rattle.capacity.proofs.Alone.Pop.{PopLeaves, gives-bag, says-empty, pop-leads}
 use Rattle.capacity.proofs.Alone.Cut.{RemoveLeaves, on-spur-yes, few-yes, one-no, cuts-yes}
@@ -80,7 +73,7 @@ unfolding popAnswered
 none-there s [] rest r y n e = (pop-empty s r y, sym (same-some e))
 none-there s (b ∷ bags) rest r y n e = clash (cc)
 
-pub pop-alone : CallAlone pop
+pop-alone : CallAlone pop
 unfolding popAnswered
 pop-alone ws vs B idle-now T C k ℓ s v a accepted alone-to =
     go (call-leads B idle-now k ℓ pop s v accepted (pop-leads B T k ℓ here s v) alone-to)
@@ -118,7 +111,7 @@ pop-alone ws vs B idle-now T C k ℓ s v a accepted alone-to =
         (given-for is-empty ∙ ap some (q .1)))
 
 -- ---- A remove.
-pub remove-alone : CallAlone remove
+remove-alone : CallAlone remove
 unfolding sizeAnswered
 remove-alone ws vs B idle-now T C k ℓ s v a accepted alone-to =
     go (call-leads B idle-now k ℓ remove s v accepted (remove-leads (callEnd B idle-now T ℓ here s) k v) alone-to)

@@ -37,16 +37,7 @@ use Rattle.capacity.specs.OneUser.{
   allCalls,
   Holds,
 }
-use Rattle.capacity.specs.Room.{
-  room,
-  Pushes,
-  pushAnswers,
-  RoomRule,
-  pushCalls,
-  AllNew,
-  NewTagsFit,
-  StartRoom,
-}
+use Rattle.capacity.specs.Room.{room, Pushes, pushAnswers, RoomRule, pushCalls, AllNew, NewTagsFit, StartRoom}
 use Rattle.machine.proofs.Basics.Contradiction.{clash}
 use Rattle.machine.proofs.Basics.Choices.{by-if}
 use Rattle.machine.proofs.Basics.Tests.{test-passed}

@@ -159,7 +159,7 @@ module _ {σ : State} {l : ℕ} {s : Side} {bags : List ℕ} {r y f : ℕ} (N : 
   call-elsewhere = rw (done-is) (state-elsewhere σ l s o)
 
 -- ---- What is refused depends on the tasks, the lanes and the bags.
-pub rows-same : (f g : ℕ → List ℕ) (n : ℕ) → ((j : ℕ) → f j ≡ g j) → rowsBelow f n ≡ rowsBelow g n
+rows-same : (f g : ℕ → List ℕ) (n : ℕ) → ((j : ℕ) → f j ≡ g j) → rowsBelow f n ≡ rowsBelow g n
 unfolding rowsBelow
 rows-same f g zero same = refl
 rows-same f g (suc n) same = rw (rows-same f g n same, same n) refl

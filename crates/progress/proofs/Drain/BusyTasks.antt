@@ -5,12 +5,8 @@ use mathlib.Core.Bool.{Bool, true, false, cond}
 use mathlib.Core.List.{List}
 use Prim.Native.Nat.{ℕ, zero, suc, _+_, _*_, _-_, _≤_, _<_}
 use native.Mathlib.Omega.{arith}
-use Rattle.machine.specs.Calls.{
-  isBusyTask,
-}
-use Rattle.progress.specs.Drain.{
-  busyBelow,
-}
+use Rattle.machine.specs.Calls.{isBusyTask}
+use Rattle.progress.specs.Drain.{busyBelow}
 use Rattle.machine.proofs.Basics.Contradiction.{clash, refute, equal?}
 use Rattle.progress.proofs.LockFree.Sums.{sum}
 

@@ -48,13 +48,7 @@ use Rattle.machine.proofs.Linearizability.Begun.TableAfter.{
   own-busy,
 }
 use Rattle.progress.proofs.SoloBound.AtFirst.{most}
-use Rattle.progress.proofs.LockFree.Potential.{
-  Potential,
-  Falls,
-  ticks-fall,
-  disturbances-fall,
-  potential-falls,
-}
+use Rattle.progress.proofs.LockFree.Potential.{Potential, Falls, ticks-fall, disturbances-fall, potential-falls}
 use Rattle.progress.proofs.LockFree.DispatchKeeps.{
   dispatched-nodes,
   dispatched-tasks,
@@ -67,7 +61,7 @@ use Rattle.progress.proofs.SoloBound.SoloTick.{LeftIn, continues}
 use Rattle.progress.proofs.Drain.BusyTasks.{busy-same, busy-fewer, idle-sum}
 
 -- ---- What a potential allows where some tasks are idle: their shares, which nobody uses, are taken away.
-pub idle-shares : (ws : List ℕ) {D P : ℕ} → Potential ws D P → (i : ℕ) → busyTasks ws + i ≡ taskCount ws
+idle-shares : (ws : List ℕ) {D P : ℕ} → Potential ws D P → (i : ℕ) → busyTasks ws + i ≡ taskCount ws
     → (i * suc (taskCount ws) ≤ D) × (i * most 2 (nodeCount ws) ≤ P)
 idle-shares ws Φ i count =
     let d = idle-sum ws (taskCount ws) (suc (taskCount ws)) (Φ .d) (λ j b. Φ .idle-yet j b .0) i count in

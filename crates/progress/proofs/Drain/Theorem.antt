@@ -11,13 +11,7 @@ use Rattle.machine.specs.declared.Answer.the-variants.{Going}
 use Rattle.machine.specs.declared.Dispatch.the-variants.{Answered}
 use Rattle.machine.specs.Table.{nodeCount, taskCount, laneCount, setDispatched}
 use Rattle.machine.specs.Answers.{endsCall}
-use Rattle.machine.specs.Calls.{
-  isBusyTask,
-  tickRefusal,
-  effectOf,
-  tickOn,
-  dispatch,
-}
+use Rattle.machine.specs.Calls.{isBusyTask, tickRefusal, effectOf, tickOn, dispatch}
 use Rattle.machine.specs.Demand3.{dispatch-call}
 use Rattle.machine.specs.Begun.{Begun, by-call}
 use Rattle.progress.specs.Solo.{HintsBelow}
@@ -41,10 +35,7 @@ use Rattle.machine.proofs.Linearizability.Calls.MadeTicks.{effect-made}
 use Rattle.machine.proofs.Linearizability.Corollaries.{begun-agrees}
 use Rattle.progress.proofs.SoloBound.AtFirst.{most}
 use Rattle.progress.proofs.SoloBound.EndsOrGoes.{by-answer}
-use Rattle.progress.proofs.LockFree.Potential.{
-  Potential,
-  potential-first,
-}
+use Rattle.progress.proofs.LockFree.Potential.{Potential, potential-first}
 use Rattle.progress.proofs.LockFree.Theorem.{walk-calm}
 use Rattle.progress.proofs.SoloBound.SoloTick.{LeftIn, left-in-first}
 use Rattle.progress.proofs.SoloBound.Theorem.{walk-alone}
