@@ -106,7 +106,8 @@ module _ (end : CallEnd) (k v : ℕ) where
         → y ≢ x
     own-other i x l e y n q = n i l (sym (q ∙ e))
 
-    -- The nodes up to v stay, the one at v is the last; from j on nothing is unlinked yet, and after j nothing is marked.
+    -- The nodes up to v stay, the one at v is the last; from j on nothing is unlinked yet, and after j nothing is
+    -- marked.
     record Cut (m : View) (j : ℕ) : Type 0 where
       pub past : v < j
       pub others : Others end m
@@ -176,7 +177,8 @@ module _ (end : CallEnd) (k v : ℕ) where
           keep-out = λ i h.
               update-other (m .out) x none _ (at-not-x C x e l i (omega arith) (λ q. omega arith)) ∙ C .keep-out i h;
           rest-out = λ i h li.
-              update-other (m .out) x none _ (at-not-x C x e l i li (λ q. omega arith)) ∙ C .rest-out i (omega arith) li;
+              update-other (m .out) x none _ (at-not-x C x e l i li (λ q. omega arith))
+              ∙ C .rest-out i (omega arith) li;
           rest-val = λ i h li. C .rest-val i (omega arith) li;
         }) more A)))
 
@@ -264,33 +266,35 @@ module _ (end : CallEnd) (k v : ℕ) where
     unfolding act
     loop zero j m C x b n u c e eb l more =
         let h : suc j < spares end = omega arith in
-        let ends-here : onward C x b e eb h .out b ≡ none =
+        let m′ = onward C x b e eb h in
+        let t81 : ℕ → Task = λ b′. further t0 line81 n (m .val b) b b′ c none in
+        let ends-here : m′ .out b ≡ none =
         on-b C x b e eb h ∙ last-none (own-lane end) s (suc j) (omega arith) in
         next-node C x b e eb h n c
         (line-leads k ℓ s _ _ _ _ (λ f.
-        ok-through (Next′ (onward C x b e eb h)) (λ z. absurd (b-some C x b e eb h z)) (λ _.
-        ok-if (Next′ (onward C x b e eb h)) (λ st. next (further t0 line81 n (m .val b) b (onward C x b e eb h .out b) c none) st) (_ ≟ _)
+        ok-through (Next′ m′) (λ z. absurd (b-some C x b e eb h z)) (λ _.
+        ok-if (Next′ m′) (λ st. next (t81 (m′ .out b)) st) (_ ≟ _)
         (λ _.
         going refl
-        (at-82 (onward C x b e eb h) (suc j) (cut-onward C x b e eb h) b n (m .val b) (onward C x b e eb h .out b) c eb h more))
+        (at-82 m′ (suc j) (cut-onward C x b e eb h) b n (m .val b) (m′ .out b) c eb h more))
         (λ ne. absurd (ne ends-here)))))
         u
     loop (suc fuel) j m C x b n u c e eb l more =
         let h : suc j < spares end = omega arith in
-        let on : onward C x b e eb h .out b ≡ spare end (suc (suc j)) =
+        let m′ = onward C x b e eb h in
+        let t81 : ℕ → Task = λ b′. further t0 line81 n (m .val b) b b′ c none in
+        let on : m′ .out b ≡ spare end (suc (suc j)) =
         on-b C x b e eb h ∙ own-spares .leads (suc j) (omega arith) in
         let is-N : m .val b ≡ N s = read-b C x b e eb h ∙ own-spares .N-before (suc j) (omega arith) in
         let rest =
-        loop fuel (suc j) (onward C x b e eb h) (cut-onward C x b e eb h) b (onward C x b e eb h .out b) n (m .val b) c eb on
-        (omega arith) more in
+        loop fuel (suc j) m′ (cut-onward C x b e eb h) b (m′ .out b) n (m .val b) c eb on (omega arith) more in
         next-node C x b e eb h n c
         (line-leads k ℓ s _ _ _ _ (λ f.
-        ok-through (Next′ (onward C x b e eb h)) (λ z. absurd (b-some C x b e eb h z)) (λ _.
-        ok-if (Next′ (onward C x b e eb h)) (λ st. next (further t0 line81 n (m .val b) b (onward C x b e eb h .out b) c none) st) (_ ≟ _)
+        ok-through (Next′ m′) (λ z. absurd (b-some C x b e eb h z)) (λ _.
+        ok-if (Next′ m′) (λ st. next (t81 (m′ .out b)) st) (_ ≟ _)
         (λ z. absurd (some-at (suc (suc j)) _ (omega arith) on z))
         (λ _.
-        ok-if (Next′ (onward C x b e eb h)) (λ st. next (further t0 line81 n (m .val b) b (onward C x b e eb h .out b) c none) st) (_ ≟ᵛ _)
-        (λ z. clash (cc)) (λ _. going refl rest)))))
+        ok-if (Next′ m′) (λ st. next (t81 (m′ .out b)) st) (_ ≟ᵛ _) (λ z. clash (cc)) (λ _. going refl rest)))))
         u
 
     -- ---- Lines 62 to 74: the cut.
@@ -317,7 +321,8 @@ module _ (end : CallEnd) (k v : ℕ) where
       val-then : (i : ℕ) → i < spares end → i ≢ v → i ≢ suc v
           → m64 .val (spare end i) ≡ value ws (spare end i)
       val-then i li nx nb =
-          update-other (update (m0 .val) x (X s)) b (Y s) _ (no-b i li nb) ∙ update-other (m0 .val) x (X s) _ (no-x i li nx)
+          update-other (update (m0 .val) x (X s)) b (Y s) _ (no-b i li nb)
+          ∙ update-other (m0 .val) x (X s) _ (no-x i li nx)
 
       cut-first : Cut m64 (suc v)
       cut-first =
@@ -344,14 +349,17 @@ module _ (end : CallEnd) (k v : ℕ) where
                 ∙ ap (update (m0 .val) x (X s)) (sym e)
                 ∙ update-same (m0 .val) x (X s);
             keep-out = λ i h.
-                update-other (m0 .out) x none _ (no-x i (omega arith) (λ q. omega arith)) ∙ own-spares .leads i (omega arith);
+                update-other (m0 .out) x none _ (no-x i (omega arith) (λ q. omega arith))
+                ∙ own-spares .leads i (omega arith);
             rest-out = λ i h li. update-other (m0 .out) x none _ (no-x i li (λ q. omega arith));
             rest-val = λ i h li. val-then i li (λ q. omega arith) (λ q. omega arith);
           }
 
       on-first : m64 .out b ≡ spare end (suc (suc v))
       on-first =
-          ap (m64 .out) eb ∙ cut-first .rest-out (suc v) (omega arith) (omega arith) ∙ own-spares .leads (suc v) (omega arith)
+          ap (m64 .out) eb
+          ∙ cut-first .rest-out (suc v) (omega arith) (omega arith)
+          ∙ own-spares .leads (suc v) (omega arith)
 
       to-b : link ws s x ≡ b
       to-b = ap (link ws s) e ∙ own-spares .leads v (omega arith) ∙ sym eb

@@ -103,8 +103,8 @@ pub not-given-back :
 unfolding lastAnswer allCalls rowsBelow ℕ-discrete decLt
 not-given-back = (refl, refl, refl, refl)
 
--- ---- The table itself, tick by tick on its words: the last place, a pop that makes a spare node, an add that finds none
--- free, and removes; the same answers.
+-- ---- The table itself, tick by tick on its words: the last places, a pop that makes a spare node, an add that finds
+-- none free, and a remove; the same answers.
 abbrev onWords : List WholeCall
 onWords =
     callOf 0 0 push right 51

@@ -8,7 +8,17 @@ use Rattle.machine.specs.declared.Answer.the-variants.{Going, Refused}
 use Rattle.machine.specs.declared.Dispatch.the-variants.{Answered}
 use Rattle.machine.specs.Table.{nodeCount, taskCount, laneCount, setDispatched}
 use Rattle.machine.specs.Answers.{refusalOf, dispatchRefusalOf}
-use Rattle.machine.specs.Calls.{tickRefusal, begin, effectOf, Ticked, tickOn, tick, nextBusy, Dispatched, dispatch}
+use Rattle.machine.specs.Calls.{
+  tickRefusal,
+  begin,
+  effectOf,
+  Ticked,
+  tickOn,
+  tick,
+  nextBusy,
+  Dispatched,
+  dispatch,
+}
 use Rattle.machine.specs.Demand3.{begin-call, tick-call, dispatch-call}
 use Rattle.machine.specs.Begun.{Begun, by-call}
 use Rattle.progress.specs.LockFree.{

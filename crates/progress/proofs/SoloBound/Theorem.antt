@@ -10,7 +10,14 @@ use lib.ListN.{length}
 use Rattle.machine.specs.Table.{nodeCount, task}
 use Rattle.machine.specs.Calls.{isBusy, tickRefusal, Ticked, tickOn}
 use Rattle.machine.specs.Begun.{Begun}
-use Rattle.progress.specs.Solo.{AnswersAlone, answers-now, answers-later, HintsBelow, SoloBound, CloserSoloBound}
+use Rattle.progress.specs.Solo.{
+  AnswersAlone,
+  answers-now,
+  answers-later,
+  HintsBelow,
+  SoloBound,
+  CloserSoloBound,
+}
 use Rattle.machine.proofs.Shape.TickKeeps.{busy-passes}
 use Rattle.machine.proofs.Linearizability.Corollaries.{begun-agrees, tick-passes, begun-ticked}
 use Rattle.machine.proofs.Linearizability.Begun.TableAfter.{nodes-after}
