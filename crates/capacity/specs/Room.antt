@@ -77,7 +77,9 @@ NewTagsFit =
 abbrev pub StartRoom : Type 0
 StartRoom = (S T growth : ℕ) (s : Side) → 2 ≤ S → room (startState S T growth 1) 0 s ≡ S - 2
 
--- ---- What to do about "full": at another end push a tag, pop the bag again and remove 0; then try again.
+-- ---- What to do about "full". README: "at one other end after another, of every lane, push, pop the bag again, remove
+-- 0, and try again each time". What is claimed of the state here is so of the table, which gives the same answers
+-- (`FromAnyIdle`).
 
 -- An end, and a tag and a task to push it with. The tag is in no lane.
 pub record Loader : Type 0 where
@@ -137,7 +139,8 @@ lastAnswer σ c (p ∷ ps) =
     let tried = oneCall σ c in
     if kindOf (tried .answer) ≟ kindOf Full then lastAnswer (giveBack (tried .state) p) c ps else tried .answer
 
--- It is "pushed" if one of the ends had room for two tags, and else "full" to the last.
+-- It is "pushed" if one of the ends had room for two tags. README: "Full to the last ..: no other end has place for more
+-- than one bag".
 abbrev pub foundRoom : State → List Loader → Answer
 foundRoom σ [] = Full
 foundRoom σ (p ∷ ps) = if 1 <? roomAt σ p then Pushed else foundRoom σ ps
@@ -156,7 +159,7 @@ FullToTheLast =
     → AllCanPush σ ps
     → lastAnswer σ c ps ≡ foundRoom σ ps
 
--- With one lane: then S - 2 bags are in it, or S - 3, and the last place is at the other end.
+-- README: "so that with one lane S - 2 bags are in it, or S - 3 and the last place is at the other end".
 abbrev pub OneLaneFull : Type 0
 OneLaneFull =
     (S : ℕ) (σ : State)
@@ -167,7 +170,7 @@ OneLaneFull =
     → room σ 0 (opposite s) < 2
     → (length (σ .lane 0 .bags) + 2 ≡ S) ⊎ ((length (σ .lane 0 .bags) + 3 ≡ S) × (room σ 0 (opposite s) ≡ 1))
 
--- No room at any end of any lane: all lanes together have S bags less two for each lane.
+-- README: "Full at every end, one straight after the other: S - 2L".
 abbrev pub AllFull : Type 0
 AllFull =
     (S : ℕ) (σ : State)
