@@ -84,8 +84,11 @@ fn five_pairs_of_steps_are_lost() {
 #[test]
 fn the_last_ticks_are_counted() {
     let mut random = Random::new(11);
-    for width in [1, 2, 3, 7, 64, 4095, 4096] {
-        for odds in [1, 2, 5] {
+    let odds = [1, 2, 5];
+    let wide = [(4095, &odds[1..2]), (4096, &odds[1..2])];
+    let all = [1, 2, 3, 7, 64].map(|width| (width, &odds[..]));
+    for (width, odds) in all.into_iter().chain(wide) {
+        for &odds in odds {
             let mut words = fresh(width);
             let mut all = Vec::new();
             let mut count = random.pick(&[0, 1, 7, u32::MAX - 1, u32::MAX, u32::MAX - width]);
@@ -123,7 +126,7 @@ fn a_later_count_is_the_last_one_plus_1() {
 fn damaged_words_are_no_window() {
     let mut random = Random::new(23);
     for width in [1, 2, 5, 4096] {
-        for feeds in [0, 1, 2, width - 1, width, width + 1, 2 * width] {
+        for feeds in [0, 1, 2, width - 1, width, width + 1] {
             let mut words = fresh(width);
             for count in 0..feeds {
                 fed(&mut words, count, random.once_in(2));
