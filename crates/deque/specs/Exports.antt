@@ -10,8 +10,8 @@ use Rattle.machine.specs.Answers.{kindOf, payloadOf, dispatchKindOf, dispatchPa
 use Rattle.packed.specs.TagLists as TagLists
 use Rattle.window.specs.Window as Window
 
--- Two words in one number of 64 bits. In what a run, a panel's list, a read, a tag list and a window give, the high one
--- is the refusal or 0 and the low one the count.
+-- Two words in one number of 64 bits. In what a run, a panel's list, a read, a tag list and a feed give, the high one
+-- is the refusal or 0 and the low one the count, or the place of 18.
 abbrev pub pairOf : (high low : ℕ) → ℕ
 pairOf high low = high * 2 ^ 32 + low
 

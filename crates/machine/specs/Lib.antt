@@ -20,4 +20,5 @@ pub mod Row
 pub mod Demand3
 pub mod Begun
 pub mod Fair
+pub mod InRow
 pub mod Twice

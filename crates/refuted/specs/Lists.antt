@@ -19,6 +19,7 @@ use Rattle.machine.specs.Demand3.{
   tick-call,
   ticks-call,
   dispatch-call,
+  dispatches-call,
   run-call,
   panel-call,
   read-call,
@@ -97,6 +98,7 @@ use Rattle.refuted.specs.WrongLanes.{
   startMakesFirstLane,
   startSharesNodes,
 }
+use Rattle.refuted.specs.WrongInRow.{makesDispatchMore, staysWithTask, dispatchesAfterAnswer}
 use Rattle.refuted.specs.Judged.{
   Verdict,
   passes,
@@ -782,6 +784,36 @@ entries =
       calls = dispatchesOf 1 4;
       row-says = passes;
       definitions-say = other-answer 1;
+    }
+    -- Three dispatches of a pop for two.
+    ∷ record {
+      wrong = makesDispatchMore;
+      S = 4;
+      T = 1;
+      lanes = 1;
+      calls = begins 0 pop right 0 ++ (dispatches-call 0 2 ∷ []);
+      row-says = not-the-row's-answer 2;
+      definitions-say = other-answer 2;
+    }
+    -- Task 0 pops and task 1 pushes. The pop answers at the fourth dispatch, which is the push's turn.
+    ∷ record {
+      wrong = staysWithTask;
+      S = 4;
+      T = 2;
+      lanes = 1;
+      calls = begins 0 pop right 0 ++ begins 1 push right 51 ++ (dispatches-call 0 9 ∷ []);
+      row-says = not-the-row's-answer 3;
+      definitions-say = other-answer 3;
+    }
+    -- The pop answers at the fourth dispatch, and a fifth finds no task busy: nobody is told of the answer.
+    ∷ record {
+      wrong = dispatchesAfterAnswer;
+      S = 4;
+      T = 1;
+      lanes = 1;
+      calls = begins 0 pop right 0 ++ (dispatches-call 0 9 ∷ []);
+      row-says = not-the-row's-answer 2;
+      definitions-say = other-answer 2;
     }
     -- A push on lane 1 of two puts its bag into lane 0.
     ∷ record {

@@ -30,7 +30,7 @@ use Rattle.machine.specs.Choice.{_≟_, if_then_else_}
 use Rattle.machine.specs.Sides.{Side, left, right}
 use Rattle.machine.specs.Operations.{Operation, idle, push, pop, add, remove}
 use Rattle.machine.specs.Shape.{sameWords}
-use Rattle.machine.specs.Answers.{refusalOf, isGoing, answerOf}
+use Rattle.machine.specs.Answers.{refusalOf, isGoing, dispatchGoesOn, answerOf}
 use Rattle.machine.specs.Row.{
   Note,
   Row,
@@ -58,11 +58,13 @@ use Rattle.machine.specs.Demand3.{
   tick-call,
   ticks-call,
   dispatch-call,
+  dispatches-call,
   run-call,
   panel-call,
   read-call,
   Given,
   feedTick,
+  feedDispatches,
   feedRead,
   feed,
 }
@@ -77,6 +79,7 @@ use Rattle.machine.specs.Begun.{
   recordRun,
   recordDispatched,
   recordDispatch,
+  recordDispatches,
   recordCall,
   count,
   bagsPushed,
@@ -346,6 +349,23 @@ pub same-if : {ρ ρ′ : Row} (b : Bool) → cond b (some ρ) nothing ≡ some 
 same-if true q = (refl, cc)
 same-if false q = clash (cc)
 
+-- A row that is fed where a test fails.
+pub unless-going : {r : Option Row} {ρ′ : Row} (b : Bool) → cond b nothing r ≡ some ρ′ → r ≡ some ρ′
+unless-going true q = clash (cc)
+unless-going false q = q
+
+-- Dispatches in a row.
+dispatches-recorded : (n m : ℕ) (d : Dispatch) {ρ ρ′ : Row} {η : History} → Recorded ρ η
+    → feedDispatches ρ n m d ≡ some ρ′
+    → Recorded ρ′ (recordDispatches η n m d)
+unfolding feedDispatches recordDispatches
+dispatches-recorded zero zero d R e = same-row (ap some (same-if (dispatchGoesOn d) e .1)) R
+dispatches-recorded zero (suc m) d R e = clash (cc)
+dispatches-recorded (suc n) zero d R e = dispatch-recorded d R (unless-going (dispatchGoesOn d) e)
+dispatches-recorded (suc n) (suc m) d {ρ} R e =
+    let x = bound (feedDispatch ρ (Answered Going)) _ e in
+    dispatches-recorded n m d (dispatch-recorded (Answered Going) R (x .1)) (x .2)
+
 -- A read leaves the row.
 pub same-when-read : (ρ : Row) (l : ℕ) (out : List ℕ) (x : Reading) (written : List ℕ) {ρ′ : Row}
     → feedRead ρ l out x written ≡ some ρ′
@@ -380,6 +400,7 @@ call-recorded (ticks-call k h zero) a {ρ} {ρ′} {η} R e =
     subst (λ (b : Answer). Recorded ρ′ (recordTick η k b)) (sym (going-answer a (x .0))) (same-row (ap some (x .1)) R)
 call-recorded (ticks-call k h (suc n)) a R e = tick-recorded k a R e
 call-recorded (dispatch-call h) r R e = dispatch-recorded r R e
+call-recorded (dispatches-call h times) r R e = dispatches-recorded times (r .1) (r .0) R e
 call-recorded (run-call list answers) r R e = run-recorded (r .0 .made) list (r .1) R e
 call-recorded (panel-call list answers) r R e = run-recorded (r .0 .made) list (r .1) R e
 call-recorded (read-call l out) r {ρ} {ρ′} {η} R e =

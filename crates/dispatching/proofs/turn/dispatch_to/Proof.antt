@@ -1,11 +1,11 @@
--- `dispatching::dispatch_to` meets its contract: the table of the tick, and the word of the task last dispatched.
+-- `dispatching::turn::dispatch_to` meets its contract: the table of the tick, and the word of the task last dispatched.
 use mathlib.Core.Path.{sym, _∙_}
 use native.Mathlib.Omega.{arith}
 use Rattle.shape.proofs.Laws.TableWords.{header-long}
 use Rattle.dispatching.proofs.DispatchTests.{to-refused, to-made}
 use borrow.Author.Needs.{needs}
-use Rattle.dispatching.proofs.dispatch_to.Statement.{statement}
-use Rattle.dispatching.proofs.dispatch_to.Tie as tie
+use Rattle.dispatching.proofs.turn.dispatch_to.Statement.{statement}
+use Rattle.dispatching.proofs.turn.dispatch_to.Tie as tie
 
 tick-on-requires : tie.Need-tick-on-requires
 tick-on-requires c κs = search needs

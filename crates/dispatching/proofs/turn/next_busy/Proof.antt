@@ -1,4 +1,4 @@
--- `dispatching::next_busy` meets its contract: asking the tasks left gives what asking all gives.
+-- `dispatching::turn::next_busy` meets its contract: asking the tasks left gives what asking all gives.
 use mathlib.Core.Path.{_≡_, refl, sym, _∙_}
 use Prim.Native.Nat.{_<_}
 use native.Mathlib.Omega.{arith}
@@ -6,8 +6,8 @@ use Rattle.machine.specs.Round.{following, firstFrom}
 use Rattle.machine.specs.Calls.{isBusyTask, nextBusy}
 use Rattle.shape.proofs.Laws.TableWords.{header-long}
 use Rattle.dispatching.proofs.DispatchTests.{last-is-task, choice-ends, choice-goes-on, none-left}
-use Rattle.dispatching.proofs.next_busy.Statement.{statement}
-use Rattle.dispatching.proofs.next_busy.Tie as tie
+use Rattle.dispatching.proofs.turn.next_busy.Statement.{statement}
+use Rattle.dispatching.proofs.turn.next_busy.Tie as tie
 
 abbrev Inv-loop : tie.InvT-loop
 Inv-loop table n k₀ left₀ k left = (k < n) × (firstFrom n (isBusyTask table) left (following n k) ≡ nextBusy table)

@@ -3,8 +3,8 @@ use Prim.Native.Nat.{_+_}
 use native.Mathlib.Omega.{arith}
 use borrow.Author.Tests.{lt-ltb, le-ltb}
 use borrow.Author.Needs.{needs}
-use Rattle.dispatching.proofs.task_after.Statement.{statement}
-use Rattle.dispatching.proofs.task_after.Tie as tie
+use Rattle.dispatching.proofs.turn.task_after.Statement.{statement}
+use Rattle.dispatching.proofs.turn.task_after.Tie as tie
 
 add-if1 : tie.Need-add-if1
 add-if1 c = search needs

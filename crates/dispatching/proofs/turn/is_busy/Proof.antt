@@ -1,10 +1,10 @@
--- `dispatching::is_busy` meets its contract: a task is busy where its operation's word is not 0.
+-- `dispatching::turn::is_busy` meets its contract: a task is busy where its operation's word is not 0.
 use mathlib.Core.Path.{ap}
 use Rattle.record.specs.declared.Task as Tasks
 use Rattle.shape.proofs.Laws.TableWords.{record-within}
 use Rattle.dispatching.proofs.DispatchTests.{busy-by-word}
-use Rattle.dispatching.proofs.is_busy.Statement.{statement}
-use Rattle.dispatching.proofs.is_busy.Tie as tie
+use Rattle.dispatching.proofs.turn.is_busy.Statement.{statement}
+use Rattle.dispatching.proofs.turn.is_busy.Tie as tie
 
 task-requires : tie.Need-task-requires
 task-requires c κs =
