@@ -199,7 +199,7 @@ times (suc n) l = l ++ times n l
 abbrev pub startHat : (lanes l : ℕ) → Side → ℕ
 startHat lanes l s = if l <? lanes then 2 * l + sideNumber s else none
 
--- The nodes of the lanes from l on, n of them. 01: slot 0 as L none, R 1, V LX and slot 1 as L 0, R none, V RX.
+-- The nodes of n lanes, from lane l on. 01: slot 0 as L none, R 1, V LX and slot 1 as L 0, R none, V RX.
 unfoldable pub startNodes : (n l : ℕ) → List ℕ
 startNodes zero l = []
 startNodes (suc n) l =

@@ -154,7 +154,7 @@ afterTicks (suc i) [] ws = ws
 afterTicks (suc i) (k ∷ []) ws = ws
 afterTicks (suc i) (k ∷ h ∷ list) ws = afterTicks i list (tickOn ws k h .words)
 
--- After every tick made of a list, the lane is the row fed the words so far that were written for it.
+-- After every tick made of a list, each lane is its row, fed the words so far that were written for it.
 abbrev pub WithinList : (list ws : List ℕ) → Row → RunDone → Type 0
 WithinList list ws ρ r =
     (i : ℕ)
