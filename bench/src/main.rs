@@ -7,11 +7,12 @@ mod lists;
 mod loads;
 mod measure;
 mod programs;
+mod windows;
 
 use std::hint::black_box;
 
 use loads::Load;
-use measure::{interleaved, nanoseconds, Figures};
+use measure::{interleaved, nanoseconds, plain_sum, Figures};
 use programs::{Program, PROVED, RUST};
 use reference::table::{header, POP, PUSH, RIGHT};
 
@@ -122,6 +123,8 @@ fn main() {
     growth(rounds / 2);
     println!();
     lists::rows(rounds);
+    println!();
+    windows::rows(rounds);
     println!();
     lines::rows(line_rounds);
 }
@@ -365,7 +368,7 @@ fn growth(rounds: usize) {
         let test = shape_test(rounds, &idle);
         let bytes = 4.0 * idle.table.len() as f64;
         let rates = format!("{:.1} ({:.1})", bytes / test.proved, bytes / test.rust);
-        let sum = bytes / plain_sum(rounds, &idle);
+        let sum = bytes / plain_sum(rounds, &idle.table, copies(&idle));
         let cells = [
             run_tick(rounds, &loads::walks(nodes, 1)),
             run_tick(rounds, &loads::takes(nodes, 1)),
@@ -377,18 +380,4 @@ fn growth(rounds: usize) {
             cells[0], cells[1], cells[2]
         );
     }
-}
-
-/// The nanoseconds of a sum of all words of a table: every word is read once, and nothing is tested.
-fn plain_sum(rounds: usize, load: &Load) -> f64 {
-    let times = copies(load);
-    let sum = || {
-        nanoseconds(|| {
-            for _ in 0..times {
-                let words = black_box(&load.table).iter();
-                black_box(words.fold(0, |sum: u32, &word| sum.wrapping_add(word)));
-            }
-        }) / times as f64
-    };
-    interleaved(rounds, sum, sum).proved
 }

@@ -48,6 +48,9 @@
 //! The baggage office sends and wants lists of tags in packed decimal. [`tags_read`] and [`tags_write`] take them to
 //! two words a tag, as [`Lane::read`] writes them, and back; they need no table.
 //!
+//! A [`Window`] counts how many of the last ticks lost the swap of their line, which warns of tasks that fight over an
+//! end. It is fed each tick, or ticks and feeds at once.
+//!
 //! [`Answer::Yes`] of a remove says that nothing more is to be done by it, and not that a slot was given back.
 //! [`Answer::No`] of a remove, with no other task in a call, means exactly one spare slot more than asked for; trying
 //! again changes nothing.
@@ -97,6 +100,7 @@ mod limits;
 mod list;
 mod tag;
 mod view;
+mod window;
 
 pub use answer::{Answer, NotStarted, Ran, Refusal};
 pub use call::{Operation, Side};
@@ -104,13 +108,14 @@ pub use dispatched::Dispatched;
 pub use lane::Lane;
 pub use lanes::Lanes;
 pub use limits::{
-    max_ticks_alone, words, LIST_TAGS, MAX_ADD, MAX_DIGIT, MAX_GROWTH, MAX_LANES, MAX_LOW,
-    MAX_PANEL_TICKS, MAX_REMOVE, MAX_SLOTS, MAX_TASKS, MAX_TICKS, MIN_LANES, MIN_SLOTS, MIN_TASKS,
-    TAG_BYTES,
+    max_ticks_alone, window_words, words, LIST_TAGS, MAX_ADD, MAX_DIGIT, MAX_GROWTH, MAX_LANES,
+    MAX_LOW, MAX_PANEL_TICKS, MAX_REMOVE, MAX_SLOTS, MAX_TASKS, MAX_TICKS, MAX_WIDTH, MIN_LANES,
+    MIN_SLOTS, MIN_TASKS, TAG_BYTES,
 };
 pub use list::{tags_read, tags_write, RefusedTags};
 pub use tag::{ParseTagError, Tag, Tags};
 pub use view::Bags;
+pub use window::{Watched, Window};
 
 /// The library's version.
 pub const VERSION: &str = env!("CARGO_PKG_VERSION");

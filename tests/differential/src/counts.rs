@@ -18,6 +18,7 @@ use crate::one_user::played::Users;
 use crate::outcomes::{Leads, Outcome, OUTCOMES};
 use crate::starts;
 use crate::stretch::Stretches;
+use crate::windows::Windows;
 use crate::words::Words;
 
 /// The calls, and what each can give by the paper; 0 stands for no refusal.
@@ -92,6 +93,8 @@ pub struct Counts {
     pub users: Users,
     /// Tag lists.
     pub lists: Lists,
+    /// Windows of lost swaps.
+    pub windows: Windows,
 }
 
 impl Counts {
@@ -114,6 +117,7 @@ impl Counts {
             idle: Idle::default(),
             users: Users::default(),
             lists: Lists::default(),
+            windows: Windows::default(),
         }
     }
 
@@ -169,6 +173,9 @@ impl Counts {
             self.changed[place][origin as usize][side] += 1;
         }
         self.wraps += u64::from(after[header::TICKS] < before[header::TICKS]);
+        if given.is_ok() {
+            self.windows.tick(before, after, sizes, task, outcome);
+        }
         if let (Origin::Calls, Ok(answer)) = (origin, given) {
             self.apart.tick(before, after, sizes, task, answer);
         }
@@ -207,6 +214,7 @@ impl Counts {
         faults.extend(self.idle.report());
         faults.extend(self.users.report());
         faults.extend(self.lists.report());
+        faults.extend(self.windows.report());
         faults
     }
 

@@ -21,6 +21,7 @@ mod shape;
 mod side;
 mod step;
 pub mod table;
+pub mod window;
 
 pub use alloc::count_free;
 pub use answer::Answer;
