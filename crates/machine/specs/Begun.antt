@@ -12,12 +12,10 @@ use Rattle.machine.specs.declared.Dispatch.the-variants.{Idle, Answered}
 use Rattle.machine.specs.declared.Reply.{Reply}
 use Rattle.machine.specs.declared.Reply.the-variants.{Accepted, Refused as Reply-Refused}
 use Rattle.machine.specs.Choice.{_≟_, if_then_else_}
-use Rattle.machine.specs.Sides.{sideOf}
-use Rattle.machine.specs.Values.{number}
-use Rattle.machine.specs.Operations.{Operation, push, pop, operationNumber, operationOf}
+use Rattle.machine.specs.Operations.{Operation, push, pop, operationNumber}
 use Rattle.machine.specs.Answers.{kindOf, payloadOf, refusalOf, isGoing, answerOf}
 use Rattle.machine.specs.Calls.{start}
-use Rattle.machine.specs.Row.{Note, nextNoted}
+use Rattle.machine.specs.Row.{Note, newNote, nextNoted}
 use Rattle.machine.specs.Demand3.{
   Call,
   start-call,
@@ -144,8 +142,7 @@ recordBegin η k n (Reply-Refused r) = η
 -- A call, with what it gave back. Of ticks in a row only the last can have ended the task's call.
 abbrev pub recordCall : History → (c : Call) → Given c → History
 recordCall η (start-call S T g lanes) r = recordStart η T r
-recordCall η (begin-call k l op side argument) r =
-    recordBegin η k (record { lane = l; operation = operationOf op; side = sideOf side; argument = number argument }) r
+recordCall η (begin-call k l op side argument) r = recordBegin η k (newNote l op side argument) r
 recordCall η (tick-call k h) a = recordTick η k a
 recordCall η (ticks-call k h times) a = recordTick η k a
 recordCall η (dispatch-call h) r = recordDispatch η r

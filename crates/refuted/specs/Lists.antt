@@ -73,6 +73,7 @@ use Rattle.refuted.specs.Wrong.{
   searchesLow,
   popPassesZero,
   takesDigitTen,
+  takesAnyNumbers,
   runTurnsWords,
   dispatchesFromZero,
   skipsNone,
@@ -691,7 +692,17 @@ entries =
       T = 1;
       lanes = 1;
       calls = begin-call 0 0 (operationNumber push) (sideNumber right) (storedOf 10 0) ∷ [];
-      row-says = passes;
+      row-says = not-the-row's-answer 1;
+      definitions-say = other-answer 1;
+    }
+    -- Operation 5 on side 9, by task 7 of one.
+    ∷ record {
+      wrong = takesAnyNumbers;
+      S = 4;
+      T = 1;
+      lanes = 1;
+      calls = begin-call 7 0 5 9 (stored 0) ∷ [];
+      row-says = not-the-row's-answer 1;
       definitions-say = other-answer 1;
     }
     -- A run pops 1000000051.

@@ -21,7 +21,7 @@ use Rattle.machine.specs.Table.{laneCount, task}
 use Rattle.machine.specs.Answers.{refusalOf, isGoing, endsCall}
 use Rattle.machine.specs.Calls.{begin, Ticked, tickOn, tick, lane, lanesBelow}
 use Rattle.machine.specs.Row.{Note, Row, noted, withBags, put, takeBag, answered, feedMade}
-use Rattle.machine.specs.Demand3.{tick-call, feedBegin}
+use Rattle.machine.specs.Demand3.{tick-call, isCall, feedBegin}
 use Rattle.machine.specs.Begun.{Begun, by-call}
 use Rattle.machine.specs.Twice.{rowsBelow}
 use Rattle.capacity.specs.NoLeak.{Idle, IdleTable}
@@ -60,13 +60,12 @@ lane-begun {ws} B ℓ is-lane k l op side argument accepted =
     let A = begun-agrees B .1 in
     let ρ = begun-agrees B .0 in
     let E = begin-explained A k l op side argument in
-    let n : Note = record { lane = l; operation = operationOf op; side = sideOf side; argument = number argument } in
-    let fed = subst (λ (r : Reply). feedBegin ρ k n r ≡ some (E .row)) accepted (E .given-by-row) in
+    let fed = subst (λ (r : Reply). feedBegin ρ k l op side argument r ≡ some (E .row)) accepted (E .given-by-row) in
     let T = accepted-begin A k l op side argument accepted in
     let there : ℓ < laneCount (begin ws k l op side argument .words) =
     subst (λ (j : ℕ). ℓ < j) (sym (T .same-lanes)) is-lane in
     row-of (E .agrees) ℓ there
-    ∙ ap (λ (x : Row). some (x .bags ℓ)) (sym (same-if (ltb l (ρ .lanes)) fed .1))
+    ∙ ap (λ (x : Row). some (x .bags ℓ)) (sym (same-if (isCall ρ k l op side argument) fed .1))
     ∙ sym (row-of A ℓ is-lane)
 
 -- A tick that goes on leaves it.

@@ -63,6 +63,7 @@ use Rattle.machine.specs.Demand3.{
   panel-call,
   read-call,
   Given,
+  isCall,
   feedTick,
   feedDispatches,
   feedRead,
@@ -386,7 +387,7 @@ pub call-recorded : (c : Call) (r : Given c) {ρ ρ′ : Row} {η : History} →
 call-recorded (start-call S T g L) Accepted R e = same-row e (nothing-recorded T L)
 call-recorded (start-call S T g L) (Reply-Refused n) R e = same-row e R
 call-recorded (begin-call k l op side argument) Accepted {ρ} R e =
-    same-row (ap some (same-if (ltb l (ρ .lanes)) e .1))
+    same-row (ap some (same-if (isCall ρ k l op side argument) e .1))
     (record {
       same-notes = same-with k _ (R .same-notes);
       same-tasks = R .same-tasks;
