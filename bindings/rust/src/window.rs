@@ -7,9 +7,9 @@ use crate::{ffi, pair, reply, view, Answer, Dispatched, Lanes, NotStarted, Refus
 /// How many of the last ticks lost the swap of their line: a number that rises while tasks fight over an end. The words
 /// are owned (`Vec<u32>`, `[u32; N]`) or lent (`&mut [u32]`), as many as [`window_words`](crate::window_words) says.
 ///
-/// Every tick is to be fed, of whatever task and lane, each once and in order; [`Window::tick`] and [`Window::dispatch`]
-/// tick and feed at once. A tick that was not fed, or a start, leaves a gap in the counts: the next feed is refused with
-/// [`Refusal::Count`], and a new [`Window::start`] begins anew.
+/// Every tick is to be fed, of whatever task and lane, each once and in order; [`Window::tick`] and
+/// [`Window::dispatch`] tick and feed at once. A tick that was not fed, or a start, leaves a gap in the counts: the
+/// next feed is refused with [`Refusal::Count`], and a new [`Window::start`] begins anew.
 ///
 /// No call trusts the words: a window that was damaged is refused with [`Refusal::Window`].
 ///

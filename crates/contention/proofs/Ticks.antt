@@ -4,7 +4,7 @@ use mathlib.Core.Bool.{true}
 use mathlib.Core.List.{List, [], _∷_}
 use mathlib.Core.Option.{Option, some, none as nothing}
 use Prim.Native.Nat.{ℕ, zero, suc, _*_, _<_}
-use lib.ListN.{getD, drop}
+use lib.ListN.{drop}
 use lib.Dec.{ltb}
 use native.Mathlib.Omega.{arith}
 use Rattle.machine.specs.declared.Answer.{Answer}
@@ -85,7 +85,7 @@ step-word ws k W l =
     let same = if-yes (k <? taskCount ws) r (wordsOf fresh) l in
     let passes : recordOk (nodeCount ws) (growth ws) (laneCount ws) r ≡ true
     = subst (λ (x : List ℕ). recordOk (nodeCount ws) (growth ws) (laneCount ws) x ≡ true) same (W .records-ok k) in
-    sym (ap (λ (x : List ℕ). getD x 1 0) (words-of-task (nodeCount ws) (growth ws) (laneCount ws) r passes))
+    sym (ap stepWord (words-of-task (nodeCount ws) (growth ws) (laneCount ws) r passes))
     ∙ ap (λ (t : Task). stepNumber (t .step)) (sym (if-yes (k <? taskCount ws) (taskOf r) fresh l))
 
 -- A tick that is made has passed its tests.

@@ -14,8 +14,8 @@ pub enum Fed {
     OutOfTurn,
 }
 
-// 02: "lost are 5 to 8, 25 to 15, 48 or 51 to 39 and 62 to 0, and no other pair". Steps that fight come in any order,
-// so there is no branch.
+// 02: "lost are 5 to 8, 25 to 15, 48 or 51 to 39 and 62 to 0, and no other pair". No branch: which pair comes next is
+// anybody's guess.
 fn is_lost(before: u32, after: u32) -> bool
     ensures { λ r. ⌜ r ≡ isLost before after ⌝ }
 {
