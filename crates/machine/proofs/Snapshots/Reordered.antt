@@ -99,7 +99,7 @@ module _ (order : Order) (keeps : Keeps order) (ws : List ℕ) where
         ∙ drop-at nodes records (nodeLength * S) (keeps S (nodePart ws))
 
 -- Header, nodes and records are the whole.
-part-long : (ws : List ℕ) → nodeAt (nodeCount ws) ≤ length ws → length (nodePart ws) ≡ nodeLength * nodeCount ws
+pub part-long : (ws : List ℕ) → nodeAt (nodeCount ws) ≤ length ws → length (nodePart ws) ≡ nodeLength * nodeCount ws
 part-long ws enough =
     length-take-le (nodeLength * nodeCount ws) (drop headerLength ws)
     (let e = length-drop headerLength ws in omega (arith, enough))
@@ -157,7 +157,7 @@ module _ (ws : List ℕ) (enough : nodeAt (nodeCount ws) ≤ length ws) where
       (transposed-twice nodeLength n (nodePart ws) (let e = part-long ws enough in omega arith))
 
   -- Word x of column c of a snapshot is word c of node x.
-  in-part : (j : ℕ) → j < nodeLength * n → getD (nodePart ws) j 0 ≡ getD ws (headerLength + j) 0
+  pub in-part : (j : ℕ) → j < nodeLength * n → getD (nodePart ws) j 0 ≡ getD ws (headerLength + j) 0
   in-part j h = getD-take (nodeLength * n) (drop headerLength ws) j 0 h ∙ getD-drop headerLength ws j 0
 
   pub column-word : (x c : ℕ) → x < n → c < nodeLength
