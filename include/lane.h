@@ -23,7 +23,7 @@
  * ```
  *
  * Every call takes any words, any lengths and any numbers, and answers them; no call trusts its caller. A refusal
- * leaves all that is lent as it was; only a run, or the panel's list, keeps the ticks before the one refused.
+ * leaves all that is lent as it was; only a call of several ticks keeps those before the one refused.
  *
  * POINTERS. Lengths are in words of 32 bits, of a list in packed decimal in bytes. A pointer is aligned for what it
  * points to and valid for its length, and the slices of one call do not overlap: these are the only things that the
@@ -34,9 +34,8 @@
  * on one table comes one call after another: the library has no lock and no atomic access. Tag lists need no table, and
  * their calls may be made at any time, each with an out slice of its own.
  *
- * FOOTPRINT. For x86-64 only. Under 14 kB of code and constants, no data, no heap; of stack about 5.6 kB in lane_tick,
- * lane_dispatch, lane_run and lane_panel, under 0.6 kB in the others; nothing from outside but memset (`make
- * footprint` measures it).
+ * FOOTPRINT. For x86-64 only. Under 15 kB of code and constants, no data, no heap; of stack under 5.7 kB in the calls
+ * that tick, under 0.6 kB in the others; nothing from outside but memset (`make footprint` measures it).
  *
  * LANES. The lanes of a table are numbered from 0. Each is a row of bags of its own, and all share the slots. A begin
  * says which lane its call is on, and the call changes nothing of another lane: lanes do not meet but in which slots
@@ -46,13 +45,33 @@
  * always has one at least, so a table of S slots and L lanes carries at most S - 2L bags in all, with one lane S - 2. A
  * slot is free when nothing may use it, neither a lane nor a call that stands in the middle.
  *
+ * WHOLE CALLS. With no task in a call, the answer of a call that then gets all the ticks (lane_call), and what it
+ * leaves, are told by the bags and three numbers: r slots are spare at its end, f slots are free, and y is 1 where the
+ * end has a slot on a spur, else 0.
+ *
+ *   push      r above 1                  pushed  r - 1
+ *             r 1, f + y above 0         pushed  r is f + y, and at most growth + 1
+ *             r 1, f + y 0               full    as before
+ *   pop       a bag at the end           it      r + 1
+ *             no bag in the lane         empty   as before
+ *   add n     f above 0                  yes     r more by f, and at most by n + 1
+ *             f 0                        no      as before
+ *   remove n  y 1, or r up to n + 1      yes     as before
+ *             y 0, r is n + 2            no      as before
+ *             y 0, r above n + 2         yes     r is n + 1; the others are free
+ *
+ * After "pushed", a bag and an add's "yes" y is 0. No other end changes, and f is what is left of the slots. After
+ * lane_start r is 1 and y 0 at every end, and f is S - 2L. So who makes whole calls alone, by whatever tasks, can
+ * foretell every answer from these few numbers: y stays 0, and no call is refused but with 26, 5, 6, 7 or 16, in this
+ * order. An end takes r + y + f - 1 new bags, and is full then.
+ *
  * FULL. A push is "full" when no slot is free, and that is not about the bags alone: spare slots at other ends count,
  * those of other lanes too, and so does what a call left in the middle may still use, up to S - 2L slots, so that a
- * push may be full with no bag in any lane. Do not leave a call standing while bags pass. The way out: tick every busy
- * task to its answer; then at one other end after another, of every lane, push, pop the bag again, remove 0, and try
- * again each time. Full to the last, with no other task in a call: no other end has place for more than one bag, so
- * that with one lane S - 2 bags are in it, or S - 3 and the last place is at the other end. Full at every end, one
- * after the other: S - 2L.
+ * push may be full with no bag in any lane. Do not leave a call standing while bags pass. The way out: drain the table
+ * (at lane_dispatches); then at one other end after another, of every lane, push, pop the bag again, remove 0, which
+ * frees by the rows above what is spare there, unless r is 2, and try again each time. Full to the last, with no other
+ * task in a call: no other end has place for more than one bag, so that with one lane S - 2 bags are in it, or S - 3
+ * and the last place is at the other end. Full at every end, one after the other: S - 2L.
  *
  * TAGS. A bag goes by its tag of ten digits, 1 to 9,999,999,999: a number of 64 bits, or two words of 32, the leading
  * digit and the low part, the nine digits below it. Calls take and write the digit first. lane_tag makes the number of
@@ -62,7 +81,7 @@
  * is refused when it is begun (16). So no table that lane_start began holds a tag twice.
  *
  * TURNS. The caller says whose tick is next, or lets lane_dispatch tick the busy tasks in turn. Both go together: other
- * ticks leave the turn as it is.
+ * ticks leave the turn as it is. lane_ticks and lane_dispatches make many of them in a row.
  *
  * TAG LISTS. The baggage office sends and wants lists of up to 1,024 tags in packed decimal: ten digits in five bytes,
  * two to a byte, the higher first. lane_tags_read and lane_tags_write take them to two words a tag, as lane_read writes
@@ -83,7 +102,7 @@ extern "C" {
  * an older format is refused with 3, since its length does not fit its sizes, and so is one of this format by an older
  * library.
  */
-#define LANE_VERSION "6.0.0"
+#define LANE_VERSION "6.1.0"
 #define LANE_TABLE_FORMAT 4
 
 /*
@@ -133,7 +152,7 @@ extern "C" {
 #define LANE_ADD 3    /* make a free slot a spare one at the end, and so many more: 0 to 64 */
 #define LANE_REMOVE 4 /* give back the spare slots at the end but the one that stays and so many: 0 to 1,023 */
 
-/* What a tick and a dispatch answer: the kind, which a run writes too (but 7 and 8). */
+/* What ticks and dispatches answer: the kind, which a run writes too (but 7 and 8). */
 #define LANE_GOING 0   /* the call is not finished */
 #define LANE_PUSHED 1  /* a push put its bag in its lane */
 #define LANE_BAG 2     /* a pop took a bag; the value is its tag */
@@ -172,10 +191,14 @@ extern "C" {
 #define LANE_REFUSED_LANES 25    /* start: not one to four lanes */
 #define LANE_REFUSED_LANE 26     /* begin, read: no such lane */
 
-/* The word of the table, counted from 0, that has the task last dispatched: below the number of tasks. */
+/*
+ * Words of the table, counted from 0: the ticks made since lane_start, by whatever call, which go from 4,294,967,295 to
+ * 0; and the task last dispatched, below the number of tasks.
+ */
+#define LANE_TICK_COUNT 4
 #define LANE_DISPATCHED 5
 
-/* The two parts of what lane_tick and lane_dispatch return: the kind, and the tag or the refusal. */
+/* The two parts of what ticks and dispatches return: the kind, and the tag or the refusal. */
 #define LANE_KIND(answer) ((uint32_t)((answer) >> 40))
 #define LANE_VALUE(answer) ((answer) & UINT64_C(0xffffffffff))
 
@@ -220,6 +243,31 @@ uint32_t lane_begin(uint32_t *table, size_t words, uint32_t task, uint32_t lane,
 uint64_t lane_tick(uint32_t *table, size_t words, uint32_t task, uint32_t hint);
 
 /*
+ * Makes ticks of one task, each with this hint, until one does not say LANE_GOING, or `times` of them. The table is
+ * tested once for all.
+ * Returns what lane_tick returns for the last. Writes what the ticks made write; a tick that is refused with 11 after
+ * others, which no table of lane_start's comes to, leaves those made. With `times` 0 it returns LANE_GOING times 2^40,
+ * and neither tests nor touches the table.
+ *
+ * ```c
+ * #include "lane.h"
+ *
+ * int main(void) {
+ *     static uint32_t table[LANE_WORDS(8, 1)];
+ *     size_t words = LANE_WORDS(8, 1);
+ *     if (lane_start(table, words, 8, 1, 0, 1) != 0 ||
+ *         lane_begin(table, words, 0, 0, LANE_PUSH, LANE_LEFT, 0, 51) != 0 ||
+ *         LANE_KIND(lane_ticks(table, words, 0, 0, 10)) != LANE_GOING) {
+ *         return 1;
+ *     }
+ *     uint64_t answer = lane_ticks(table, words, 0, 0, LANE_MAX_TICKS_ALONE(8));
+ *     return LANE_KIND(answer) == LANE_PUSHED && table[LANE_TICK_COUNT] == 11 ? 0 : 1;
+ * }
+ * ```
+ */
+uint64_t lane_ticks(uint32_t *table, size_t words, uint32_t task, uint32_t hint, uint32_t times);
+
+/*
  * Makes one tick, with this hint, of the next busy task after the one last dispatched, going round by task number; that
  * one itself comes last. After lane_start the first dispatch looks from task 0 on. lane_tick, lane_run and lane_panel
  * leave the turn as it is. A busy task gets its tick within as many dispatches as there are tasks, provided that none
@@ -227,6 +275,41 @@ uint64_t lane_tick(uint32_t *table, size_t words, uint32_t task, uint32_t hint);
  * Returns what lane_tick returns for that task, the refusals being 3, 4, 9, 11; or LANE_IDLE times 2^40, if every task
  * is idle and none of 3, 4 and 9 is given, which are tested before the choice. Writes what that tick writes, and the
  * task in table[LANE_DISPATCHED]; with LANE_IDLE or LANE_REFUSED nothing.
+ *
+ * ```c
+ * #include "lane.h"
+ *
+ * int main(void) {
+ *     static uint32_t table[LANE_WORDS(8, 2)];
+ *     size_t words = LANE_WORDS(8, 2);
+ *     if (lane_start(table, words, 8, 2, 0, 1) != 0 || LANE_KIND(lane_dispatch(table, words, 0)) != LANE_IDLE ||
+ *         lane_begin(table, words, 0, 0, LANE_PUSH, LANE_LEFT, 0, 51) != 0 ||
+ *         lane_begin(table, words, 1, 0, LANE_POP, LANE_RIGHT, 0, 0) != 0) {
+ *         return 1;
+ *     }
+ *     for (uint32_t turn = 0; turn < 4; turn++) {
+ *         if (LANE_KIND(lane_dispatch(table, words, 0)) != LANE_GOING || table[LANE_DISPATCHED] != turn % 2) {
+ *             return 1;
+ *         }
+ *     }
+ *     return 0;
+ * }
+ * ```
+ */
+uint64_t lane_dispatch(uint32_t *table, size_t words, uint32_t hint);
+
+/*
+ * Makes dispatches, each with this hint, until a call ends, every task is idle, one is refused, or `times` of them say
+ * LANE_GOING. The table is tested once for all.
+ * Returns what lane_dispatch returns for the last. Where a call ended, table[LANE_DISPATCHED] has its task, and
+ * table[LANE_TICK_COUNT] tells how many ticks were made. What is written, and `times` 0, are as in lane_ticks.
+ *
+ * DRAIN. With no begin meanwhile, on a table that lane_start began, every call comes to its answer, whatever the hints:
+ *
+ *     while (LANE_KIND(lane_dispatches(table, words, 0, UINT32_MAX)) < LANE_REFUSED) {}
+ *
+ * ends with LANE_IDLE, after an answer for each task that was in a call. Its ticks are at most 4S + 154 for the last
+ * task in a call, and (b(T + 1) + 2L + 1)(b(6S + 153) + 1) for each answer before, with b tasks in calls until then.
  *
  * ```c
  * #include "lane.h"
@@ -242,16 +325,14 @@ uint64_t lane_tick(uint32_t *table, size_t words, uint32_t task, uint32_t hint);
  *         lane_begin(table, words, 1, 0, LANE_POP, LANE_RIGHT, 0, 0) != 0) {
  *         return 1;
  *     }
- *     while (LANE_KIND(answer = lane_dispatch(table, words, 0)) < LANE_REFUSED) {
- *         if (LANE_KIND(answer) != LANE_GOING) {
- *             ended[count++] = table[LANE_DISPATCHED];
- *         }
+ *     while (LANE_KIND(answer = lane_dispatches(table, words, 0, UINT32_MAX)) < LANE_REFUSED) {
+ *         ended[count++] = table[LANE_DISPATCHED];
  *     }
  *     return LANE_KIND(answer) == LANE_IDLE && count == 2 && ended[0] == 1 && ended[1] == 0 ? 0 : 1;
  * }
  * ```
  */
-uint64_t lane_dispatch(uint32_t *table, size_t words, uint32_t hint);
+uint64_t lane_dispatches(uint32_t *table, size_t words, uint32_t hint, uint32_t times);
 
 /*
  * Makes the ticks of a list of (task, hint) pairs, two words each, up to the first refused.
@@ -370,23 +451,20 @@ static inline uint32_t lane_tag_low(uint64_t tag) {
 }
 
 /*
- * Begins a call on a lane and ticks its task with hint 0 until it answers, while no other task gets a tick. The
- * argument is one number, of a push its tag.
+ * Begins a call on a lane and ticks its task with hint 0 until it answers, while no other task gets a tick: one
+ * lane_begin and one lane_ticks, each with its one test of the table. The argument is one number, of a push its tag.
  * Returns what lane_tick returns: the answer, or LANE_REFUSED with the refusal of the begin or of the tick. On a table
  * that lane_start began it is never LANE_GOING; on any other, LANE_GOING after LANE_MAX_TICKS_ALONE(slots) ticks
- * without an answer, and the task is still busy. Each tick tests the whole table: at many slots lane_run is faster.
+ * without an answer, and the task is still busy.
  */
 static inline uint64_t lane_call(uint32_t *table, size_t words, uint32_t task, uint32_t lane, uint32_t operation,
                                  uint32_t side, uint64_t argument) {
     uint32_t digit = lane_tag_digit(argument), low = lane_tag_low(argument);
     uint32_t refusal = lane_begin(table, words, task, lane, operation, side, digit, low);
-    uint64_t answer = (uint64_t)LANE_REFUSED << 40 | refusal;
-    uint32_t left = refusal == 0 ? LANE_MAX_TICKS_ALONE(table[0]) : 0;
-    while (left > 0) {
-        answer = lane_tick(table, words, task, 0);
-        left = LANE_KIND(answer) == LANE_GOING ? left - 1 : 0;
+    if (refusal != 0) {
+        return (uint64_t)LANE_REFUSED << 40 | refusal;
     }
-    return answer;
+    return lane_ticks(table, words, task, 0, LANE_MAX_TICKS_ALONE(table[0]));
 }
 
 /*

@@ -101,6 +101,16 @@ pub fn none(nodes: u32, lanes: u32) -> Load {
     }
 }
 
+/// An empty lane whose right end has one spare node more than it keeps, so that no push takes one; and no ticks.
+pub fn empty(nodes: u32, lanes: u32) -> Load {
+    let mut table = started(nodes, lanes);
+    finish(&mut table, 0, ADD, 0);
+    Load {
+        table,
+        list: Vec::new(),
+    }
+}
+
 /// Lanes of so many bags in all, each with its share.
 pub fn filled(nodes: u32, lanes: u32, bags: u32) -> Vec<u32> {
     let mut table = started(nodes, lanes);

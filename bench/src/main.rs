@@ -13,7 +13,7 @@ use std::hint::black_box;
 use loads::Load;
 use measure::{interleaved, nanoseconds, Figures};
 use programs::{Program, PROVED, RUST};
-use reference::table::{header, PUSH, RIGHT};
+use reference::table::{header, POP, PUSH, RIGHT};
 
 /// Words of all copies of a table in one round: they stay in the nearest cache.
 const ROUND_WORDS: usize = 6000;
@@ -26,7 +26,7 @@ type Make = fn(u32, u32) -> Load;
 type Measure = fn(usize, &Load) -> Figures;
 
 /// What is measured, and on how many lanes.
-const ROWS: [(&str, u32, Make, Measure); 10] = [
+const ROWS: [(&str, u32, Make, Measure); 12] = [
     (
         "tick, no take: 16 removes that walk",
         1,
@@ -62,6 +62,13 @@ const ROWS: [(&str, u32, Make, Measure); 10] = [
         1,
         loads::short_walks,
         single_dispatch,
+    ),
+    ("push and pop, each one call", 1, loads::empty, whole_calls),
+    (
+        "push and pop, by single ticks",
+        1,
+        loads::empty,
+        single_calls,
     ),
     (
         "shape test alone: a run of no ticks",
@@ -229,6 +236,53 @@ fn singly(
                 }
             }) / load.ticks() as f64
         }
+    };
+    interleaved(rounds, work(&PROVED), work(&RUST))
+}
+
+/// A push and a pop, each a begin and its ticks in a row.
+fn whole_calls(rounds: usize, load: &Load) -> Figures {
+    pushed_and_popped(rounds, load, |program, table| {
+        (program.ticks)(table, 0, 0, lane::max_ticks_alone(table[header::NODES]))
+    })
+}
+
+/// The same by single ticks, each of which tests the whole table.
+fn single_calls(rounds: usize, load: &Load) -> Figures {
+    pushed_and_popped(rounds, load, |program, table| loop {
+        let answer = (program.tick)(table, 0, 0);
+        if answer != 0 {
+            break answer;
+        }
+    })
+}
+
+/// A push and a pop at one end, after which the lane is as it was; `finish` ticks task 0 to its answer.
+fn pushed_and_popped(
+    rounds: usize,
+    load: &Load,
+    finish: impl Fn(&Program, &mut [u32]) -> u64 + Copy,
+) -> Figures {
+    let tag = loads::NEW_TAG;
+    let calls = [(PUSH, tag, 1 << 40), (POP, 0, 2 << 40 | u64::from(tag))];
+    let make = move |program: &Program, table: &mut [u32]| {
+        for (operation, argument, answer) in calls {
+            let begun = (program.begin)(table, 0, 0, operation, RIGHT, 0, argument);
+            assert_eq!(begun, 0, "an idle task, and a new tag");
+            assert_eq!(finish(program, table), answer, "a call's answer");
+        }
+    };
+    let mut tables = [load.table.clone(), load.table.clone()];
+    make(&PROVED, &mut tables[0]);
+    make(&RUST, &mut tables[1]);
+    assert_eq!(
+        tables[0], tables[1],
+        "the programs differ in the table after a call"
+    );
+    let times = copies(load);
+    let work = |program: &'static Program| {
+        let mut table = load.table.clone();
+        move || nanoseconds(|| (0..times).for_each(|_| make(program, &mut table))) / times as f64
     };
     interleaved(rounds, work(&PROVED), work(&RUST))
 }

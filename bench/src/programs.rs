@@ -9,7 +9,9 @@ pub struct Program {
     pub begin: fn(&mut [u32], u32, u32, u32, u32, u32, u32) -> u32,
     /// One tick with its test of the table's shape.
     pub tick: fn(&mut [u32], u32, u32) -> u64,
-    /// The same of the next busy task.
+    /// Ticks of one task in a row: task, hint, and how many at most.
+    pub ticks: fn(&mut [u32], u32, u32, u32) -> u64,
+    /// One tick of the next busy task.
     pub dispatch: fn(&mut [u32], u32) -> u64,
     /// A list of ticks.
     pub run: fn(&mut [u32], &[u32], &mut [u32]) -> u64,
@@ -25,6 +27,7 @@ pub struct Program {
 pub const PROVED: Program = Program {
     begin: ffi::begin,
     tick: ffi::tick,
+    ticks: ffi::ticks,
     dispatch: ffi::dispatch,
     run: ffi::run,
     read: ffi::read,
@@ -39,6 +42,7 @@ pub const RUST: Program = Program {
         begun.err().unwrap_or(0)
     },
     tick: |table, task, hint| answer(reference::tick(table, task, hint)),
+    ticks: |table, task, hint, times| answer(reference::ticks(table, task, hint, times)),
     dispatch: |table, hint| {
         let given = reference::dispatch(table, hint);
         given.transpose().map_or(8 << 40, answer)

@@ -18,13 +18,9 @@ static void print_reply(uint32_t refusal) {
 }
 
 /* Ticks of task 0 until an answer, a refusal, or so many; prints the last outcome. */
-static void print_ticks(int times) {
+static void print_ticks(uint32_t times) {
     static const char *const names[] = {"going", "pushed", "bag", "empty", "full", "yes", "no"};
-    uint64_t outcome;
-    do {
-        outcome = lane_tick(table, WORDS, 0, 0);
-        times--;
-    } while (LANE_KIND(outcome) == LANE_GOING && times > 0);
+    uint64_t outcome = lane_ticks(table, WORDS, 0, 0, times);
     uint32_t kind = LANE_KIND(outcome);
     if (kind == LANE_BAG) {
         printf("(bag %010" PRIu64 ")\n", LANE_VALUE(outcome));

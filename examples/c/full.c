@@ -31,18 +31,11 @@ static uint32_t call(uint32_t task, uint32_t operation, uint32_t side, uint64_t 
 
 /* Ticks every task that is in a call, in turn, until all have answered. */
 static void finish_all(void) {
-    int busy;
+    uint64_t answer;
     do {
-        busy = 0;
-        for (uint32_t task = 0; task < TASKS; task++) {
-            uint64_t answer = lane_tick(table, WORDS, task, 0);
-            if (LANE_KIND(answer) != LANE_REFUSED) {
-                busy = 1;
-            } else if (LANE_VALUE(answer) != LANE_REFUSED_IDLE) {
-                check((uint32_t)LANE_VALUE(answer));
-            }
-        }
-    } while (busy);
+        answer = lane_dispatches(table, WORDS, 0, UINT32_MAX);
+    } while (LANE_KIND(answer) < LANE_REFUSED);
+    check((uint32_t)LANE_VALUE(answer));
 }
 
 /* A push that does not give up at the first "full". Returns 0 if the lane has no room at this end. */

@@ -232,6 +232,10 @@ static void empty_slices(void) {
     EXPECT(lane_begin(NULL, 0, 0, 0, LANE_POP, LANE_LEFT, 0, 0) == LANE_REFUSED_TABLE);
     EXPECT(lane_tick(NULL, 0, 0, 0) == ANSWER(LANE_REFUSED, LANE_REFUSED_TABLE));
     EXPECT(lane_dispatch(NULL, 0, 0) == ANSWER(LANE_REFUSED, LANE_REFUSED_TABLE));
+    EXPECT(lane_ticks(NULL, 0, 0, 0, 1) == ANSWER(LANE_REFUSED, LANE_REFUSED_TABLE));
+    EXPECT(lane_dispatches(NULL, 0, 0, 1) == ANSWER(LANE_REFUSED, LANE_REFUSED_TABLE));
+    EXPECT(lane_ticks(NULL, 0, 0, 0, 0) == ANSWER(LANE_GOING, 0)); /* no tick, no test */
+    EXPECT(lane_dispatches(NULL, 0, 0, 0) == ANSWER(LANE_GOING, 0));
     EXPECT(lane_run(NULL, 0, NULL, 0, NULL, 0) == PAIR(LANE_REFUSED_TABLE, 0));
     EXPECT(lane_run(NULL, 0, list, 2, answers, 3) == PAIR(LANE_REFUSED_TABLE, 0));
     EXPECT(lane_panel(NULL, 0, NULL, 0, NULL, 0) == PAIR(LANE_REFUSED_TABLE, 0));
@@ -283,8 +287,37 @@ static void calls(void) {
     begin_again();
     table[16 + 4 * 1] = 1; /* the right end's link to the left is itself */
     EXPECT(call(0, LANE_POP, LANE_RIGHT, 0) == ANSWER(LANE_GOING, 0));
-    EXPECT(table[4] == LANE_MAX_TICKS_ALONE(SLOTS));
+    EXPECT(table[LANE_TICK_COUNT] == LANE_MAX_TICKS_ALONE(SLOTS));
     EXPECT(begin(0, LANE_POP, LANE_LEFT, 0) == LANE_REFUSED_BUSY);
+}
+
+/* The kind of such a call's answer. */
+static uint32_t kind(uint32_t operation, uint32_t side, uint64_t argument) {
+    return LANE_KIND(call(0, operation, side, argument));
+}
+
+/* The rows for whole calls, with growth 1: beside each call what is spare at the right and at the left, and free. */
+static void whole_calls(void) {
+    EXPECT(lane_start(table, WORDS, SLOTS, TASKS, 1, 1) == 0); /* 1 1 6 */
+    EXPECT(kind(LANE_REMOVE, LANE_RIGHT, 0) == LANE_YES);      /* 1 1 6 */
+    EXPECT(kind(LANE_PUSH, LANE_RIGHT, 1) == LANE_PUSHED);     /* 2 1 4: r is growth + 1 */
+    EXPECT(kind(LANE_REMOVE, LANE_RIGHT, 0) == LANE_NO);       /* 2 1 4: n + 2 */
+    EXPECT(kind(LANE_PUSH, LANE_RIGHT, 2) == LANE_PUSHED);     /* 1 1 4 */
+    EXPECT(kind(LANE_ADD, LANE_LEFT, 1) == LANE_YES);          /* 1 3 2 */
+    EXPECT(kind(LANE_REMOVE, LANE_LEFT, 1) == LANE_NO);        /* 1 3 2: n + 2 */
+    EXPECT(kind(LANE_REMOVE, LANE_LEFT, 2) == LANE_YES);       /* 1 3 2: up to n + 1 */
+    EXPECT(kind(LANE_ADD, LANE_RIGHT, 9) == LANE_YES);         /* 3 3 0: all that were free */
+    EXPECT(kind(LANE_ADD, LANE_RIGHT, 0) == LANE_NO);          /* 3 3 0 */
+    EXPECT(kind(LANE_REMOVE, LANE_LEFT, 0) == LANE_YES);       /* 3 1 2 */
+    EXPECT(kind(LANE_POP, LANE_LEFT, 0) == LANE_BAG);          /* 3 2 2 */
+    EXPECT(kind(LANE_POP, LANE_LEFT, 0) == LANE_BAG);          /* 3 3 2 */
+    EXPECT(kind(LANE_POP, LANE_LEFT, 0) == LANE_EMPTY);        /* 3 3 2 */
+    for (uint64_t tag = 1; tag <= 3 + 2 - 1; tag++) {          /* the room at the right */
+        EXPECT(kind(LANE_PUSH, LANE_RIGHT, tag) == LANE_PUSHED);
+    }
+    EXPECT(kind(LANE_PUSH, LANE_RIGHT, 9) == LANE_FULL);   /* 1 3 0 */
+    EXPECT(kind(LANE_REMOVE, LANE_LEFT, 0) == LANE_YES);   /* 1 1 2 */
+    EXPECT(kind(LANE_PUSH, LANE_RIGHT, 9) == LANE_PUSHED); /* 2 1 0 */
 }
 
 /* Each lane is a row of its own; the slots and the tags are of all of them; one that is not there is refused. */
@@ -360,7 +393,7 @@ static void turns(void) {
     }
     dispatch(ANSWER(LANE_BAG, LANE_MAX_TAG), 1);
     dispatch(ANSWER(LANE_IDLE, 0), 1);
-    EXPECT(table[4] == 19); /* the ticks made */
+    EXPECT(table[LANE_TICK_COUNT] == 19);
     EXPECT(lane_dispatch(table, WORDS, SLOTS) == ANSWER(LANE_REFUSED, LANE_REFUSED_HINT));
 
     table[LANE_DISPATCHED] = TASKS;
@@ -372,6 +405,64 @@ static void turns(void) {
     dispatch(ANSWER(LANE_GOING, 0), 1);
 }
 
+/* So many ticks of a task in a row, dispatches if there is no such task; single ones on a copy come to the same. */
+static void in_row(uint32_t task, uint32_t times, uint64_t answer) {
+    static uint32_t copy[WORDS];
+    uint32_t hint = 5;
+    uint64_t single = ANSWER(LANE_GOING, 0), last;
+    memcpy(copy, table, sizeof copy);
+    for (uint32_t i = 0; i < times && LANE_KIND(single) == LANE_GOING; i++) {
+        single = task < TASKS ? lane_tick(copy, WORDS, task, hint) : lane_dispatch(copy, WORDS, hint);
+    }
+    last = task < TASKS ? lane_ticks(table, WORDS, task, hint, times) : lane_dispatches(table, WORDS, hint, times);
+    EXPECT(last == answer && single == answer);
+    EXPECT(memcmp(copy, table, sizeof copy) == 0);
+}
+
+/* Ticks and dispatches in a row stop at an answer, at a refusal, or after so many; a drain gives every answer. */
+static void rows(void) {
+    enum { IN_TURN = TASKS, LONG = 70000 };
+    begin_again();
+    EXPECT(begin(0, LANE_PUSH, LANE_RIGHT, LANE_MAX_TAG) == 0); /* eleven ticks */
+    in_row(0, 0, ANSWER(LANE_GOING, 0));
+    in_row(0, 1, ANSWER(LANE_GOING, 0));
+    in_row(0, 9, ANSWER(LANE_GOING, 0));
+    EXPECT(table[LANE_TICK_COUNT] == 10);
+    in_row(0, UINT32_MAX, ANSWER(LANE_PUSHED, 0));
+    EXPECT(table[LANE_TICK_COUNT] == 11);
+    in_row(0, 2, ANSWER(LANE_REFUSED, LANE_REFUSED_IDLE));
+    EXPECT(lane_ticks(table, WORDS, 0, SLOTS, 2) == ANSWER(LANE_REFUSED, LANE_REFUSED_HINT));
+    EXPECT(lane_ticks(table, WORDS, TASKS, SLOTS, 2) == ANSWER(LANE_REFUSED, LANE_REFUSED_TASK));
+    EXPECT(lane_dispatches(table, WORDS, SLOTS, 2) == ANSWER(LANE_REFUSED, LANE_REFUSED_HINT));
+    in_row(IN_TURN, 2, ANSWER(LANE_IDLE, 0));
+
+    EXPECT(begin(0, LANE_POP, LANE_RIGHT, 0) == 0);
+    EXPECT(begin(1, LANE_POP, LANE_LEFT, 0) == 0);
+    in_row(IN_TURN, 6, ANSWER(LANE_GOING, 0));
+    in_row(IN_TURN, 9, ANSWER(LANE_BAG, LANE_MAX_TAG));
+    EXPECT(table[LANE_DISPATCHED] == 0 && table[LANE_TICK_COUNT] == 18);
+    in_row(IN_TURN, 9, ANSWER(LANE_EMPTY, 0)); /* of the other, whose swap failed */
+    EXPECT(table[LANE_DISPATCHED] == 1);
+    in_row(IN_TURN, 9, ANSWER(LANE_IDLE, 0));
+
+    for (uint32_t task = 0; task <= IN_TURN; task += IN_TURN) { /* on tables that no start made */
+        begin_again();
+        EXPECT(begin(0, LANE_ADD, LANE_RIGHT, 0) == 0);
+        table[16 + 4 * SLOTS + 1] = 15; /* past the line that takes a slot */
+        in_row(task, 9, ANSWER(LANE_REFUSED, LANE_REFUSED_NO_SLOT));
+        EXPECT(table[LANE_TICK_COUNT] == 2); /* those before it are made */
+        table[15] = 1;
+        in_row(task, 9, ANSWER(LANE_REFUSED, LANE_REFUSED_SHAPE));
+        in_row(task, 0, ANSWER(LANE_GOING, 0));
+
+        begin_again();
+        table[16 + 4 * 1] = 1; /* a pop at the right goes round for ever */
+        EXPECT(begin(0, LANE_POP, LANE_RIGHT, 0) == 0);
+        in_row(task, LONG, ANSWER(LANE_GOING, 0));
+        EXPECT(table[LANE_TICK_COUNT] == LONG);
+    }
+}
+
 int main(void) {
     limits();
     tags();
@@ -380,8 +471,10 @@ int main(void) {
     pairs();
     empty_slices();
     calls();
+    whole_calls();
     lanes();
     turns();
+    rows();
     puts(failures == 0 ? "the header's words hold" : "the header's words do not hold");
     return failures == 0 ? 0 : 1;
 }

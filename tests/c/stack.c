@@ -28,6 +28,11 @@ static void tick(void) {
     lane_tick(table, WORDS, 0, 0);
 }
 
+static void ticks(void) {
+    lane_begin(table, WORDS, 1, LAST, LANE_PUSH, LANE_LEFT, 0, 52);
+    lane_ticks(table, WORDS, 1, 0, LANE_MAX_TICKS_ALONE(SLOTS));
+}
+
 static void run(void) {
     lane_run(table, WORDS, list, 2 * LANE_MAX_TICKS, answers, LANE_ANSWER_WORDS * LANE_MAX_TICKS);
 }
@@ -39,6 +44,10 @@ static void panel(void) {
 
 static void dispatch(void) {
     lane_dispatch(table, WORDS, 0);
+}
+
+static void dispatches(void) {
+    lane_dispatches(table, WORDS, 0, UINT32_MAX);
 }
 
 static void read_lane(void) {
@@ -83,10 +92,12 @@ int main(void) {
         size_t bytes = touched(tick);
         deepest = bytes > deepest ? bytes : deepest;
     }
-    print("tick", deepest, 5600);
-    print("run", touched(run), 5600);
-    print("panel", touched(panel), 5600);
-    print("dispatch", touched(dispatch), 5600); /* the panel's add goes on, and takes a slot */
+    print("tick", deepest, 5700);
+    print("ticks", touched(ticks), 5700);
+    print("run", touched(run), 5700);
+    print("panel", touched(panel), 5700);
+    print("dispatch", touched(dispatch), 5700);     /* the panel's add goes on, and takes a slot */
+    print("dispatches", touched(dispatches), 5700); /* more of them */
     print("read", touched(read_lane), 600);
     memset(tag_list, 0x99, sizeof tag_list);
     print("tags_read", touched(read_tags), 600);

@@ -1,6 +1,6 @@
 //! The belt run of the paper, printed as the paper prints it: `cargo run --example belt`.
 
-use lane::{Answer, Lane, Operation, Refusal, Side, Tag};
+use lane::{Lane, Operation, Refusal, Side, Tag};
 
 fn main() {
     let tag = Tag::new(51).expect("not 0, and ten digits");
@@ -26,14 +26,7 @@ fn print_reply(reply: &Result<(), Refusal>) {
 
 /// Ticks of task 0 until an answer, a refusal, or so many; prints the last outcome.
 fn print_ticks(lane: &mut Lane<Vec<u32>>, times: u32) {
-    let mut outcome = lane.tick(0, 0);
-    for _ in 1..times {
-        if outcome != Ok(Answer::Going) {
-            break;
-        }
-        outcome = lane.tick(0, 0);
-    }
-    match outcome {
+    match lane.ticks(0, 0, times) {
         Ok(answer) => println!("({answer})"),
         Err(refusal) => println!("(refused {})", refusal.number()),
     }

@@ -2,7 +2,8 @@
 
 use crate::{outcome, Answer, Refusal};
 
-/// What a dispatch did. [`Lanes::dispatched`](crate::Lanes::dispatched) says which task it ticked.
+/// What a dispatch did, or the last of several. [`Lanes::dispatched`](crate::Lanes::dispatched) says which task it
+/// ticked.
 ///
 /// ```
 /// use lane::{Dispatched, Lane, Refusal};

@@ -1,8 +1,8 @@
 //! The static library's functions over any slices and any numbers, as it takes and gives them.
 //!
 //! For programs that keep their own words, and for tests that hand in damaged ones. All are safe to call: the library
-//! answers every slice and every number, and a refusal leaves all that is lent as it was. This module has the crate's
-//! only unsafe code.
+//! answers every slice and every number, and a refusal leaves all that is lent as it was, but for the ticks before it in
+//! a call of several. This module has the crate's only unsafe code.
 
 mod library {
     // Nothing checks these lines against the library; `include/lane.h` has the same ones for C.
@@ -26,7 +26,9 @@ mod library {
             argument: u32,
         ) -> u32;
         pub fn lane_tick(table: *mut u32, words: usize, task: u32, hint: u32) -> u64;
+        pub fn lane_ticks(table: *mut u32, words: usize, task: u32, hint: u32, times: u32) -> u64;
         pub fn lane_dispatch(table: *mut u32, words: usize, hint: u32) -> u64;
+        pub fn lane_dispatches(table: *mut u32, words: usize, hint: u32, times: u32) -> u64;
         pub fn lane_run(
             table: *mut u32,
             words: usize,
@@ -123,6 +125,26 @@ pub fn tick(table: &mut [u32], task: u32, hint: u32) -> u64 {
     unsafe { library::lane_tick(pointer, words, task, hint) }
 }
 
+/// Makes ticks of one task until one does not say "going", or so many: what [`tick`] gives for the last; with 0 of them
+/// "going", whatever the words.
+///
+/// ```
+/// use lane::ffi;
+///
+/// let mut table = [0; 45];
+/// assert_eq!(ffi::start(&mut table, 4, 1, 0, 1), 0);
+/// assert_eq!(ffi::begin(&mut table, 0, 0, 2, 0, 0, 0), 0);
+/// assert_eq!(ffi::ticks(&mut table, 0, 0, 3), 0);
+/// assert_eq!(ffi::ticks(&mut table, 0, 0, 9), 3 << 40);
+/// assert_eq!(table[4], 4);
+/// assert_eq!(ffi::ticks(&mut table, 0, 0, 9), 7 << 40 | 10);
+/// assert_eq!(ffi::ticks(&mut [], 0, 0, 0), 0);
+/// ```
+pub fn ticks(table: &mut [u32], task: u32, hint: u32, times: u32) -> u64 {
+    let (pointer, words) = (table.as_mut_ptr(), table.len());
+    unsafe { library::lane_ticks(pointer, words, task, hint, times) }
+}
+
 /// Makes one tick of the next busy task after the one last dispatched: what [`tick`] gives, or kind 8 times 2^40 with
 /// every task idle.
 ///
@@ -139,6 +161,28 @@ pub fn tick(table: &mut [u32], task: u32, hint: u32) -> u64 {
 pub fn dispatch(table: &mut [u32], hint: u32) -> u64 {
     let (pointer, words) = (table.as_mut_ptr(), table.len());
     unsafe { library::lane_dispatch(pointer, words, hint) }
+}
+
+/// Makes dispatches until one does not say "going", or so many: what [`dispatch`] gives for the last; with 0 of them
+/// "going", whatever the words.
+///
+/// ```
+/// use lane::ffi;
+///
+/// let mut table = [0; 58];
+/// assert_eq!(ffi::start(&mut table, 4, 2, 0, 1), 0);
+/// for task in 0..2 {
+///     assert_eq!(ffi::begin(&mut table, task, 0, 2, 0, 0, 0), 0);
+/// }
+/// assert_eq!(ffi::dispatches(&mut table, 0, u32::MAX), 3 << 40);
+/// assert_eq!(table[4..6], [7, 0]);
+/// assert_eq!(ffi::dispatches(&mut table, 0, u32::MAX), 3 << 40);
+/// assert_eq!(table[4..6], [8, 1]);
+/// assert_eq!(ffi::dispatches(&mut table, 0, u32::MAX), 8 << 40);
+/// ```
+pub fn dispatches(table: &mut [u32], hint: u32, times: u32) -> u64 {
+    let (pointer, words) = (table.as_mut_ptr(), table.len());
+    unsafe { library::lane_dispatches(pointer, words, hint, times) }
 }
 
 /// Makes the ticks of a list of (task, hint) pairs and writes three words for each, the kind, then the tag's leading

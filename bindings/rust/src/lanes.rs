@@ -137,6 +137,28 @@ impl<W: AsRef<[u32]> + AsMut<[u32]>> Lanes<W> {
         outcome(ffi::tick(self.words.as_mut(), task, hint))
     }
 
+    /// Makes ticks of a busy task, each with this hint, until one does not say [`Answer::Going`], or so many, and gives
+    /// what [`Lanes::tick`] gives for the last. The table is tested once for all of them; with 0 of them it is not
+    /// looked at, and the answer is [`Answer::Going`].
+    ///
+    /// A refusal of the first tick changes nothing. A later one is refused with [`Refusal::NoSlot`] alone, on a table
+    /// that no start began, and the ticks before it stay made.
+    ///
+    /// ```
+    /// use lane::{Answer, Lanes, Operation, Refusal, Side, Tag};
+    ///
+    /// let mut lanes = Lanes::start([0; lane::words(8, 1)], 8, 1, 0, 2)?;
+    /// lanes.begin(0, 1, Operation::Push(Tag::MAX), Side::Right)?;
+    /// assert_eq!(lanes.ticks(0, 0, 10)?, Answer::Going);
+    /// assert_eq!(lanes.ticks(0, 0, u32::MAX)?, Answer::Pushed);
+    /// assert_eq!(lanes.tick_count()?, 11);
+    /// assert_eq!(lanes.ticks(0, 0, u32::MAX), Err(Refusal::Idle));
+    /// # Ok::<(), Refusal>(())
+    /// ```
+    pub fn ticks(&mut self, task: u32, hint: u32, times: u32) -> Result<Answer, Refusal> {
+        outcome(ffi::ticks(self.words.as_mut(), task, hint, times))
+    }
+
     /// Makes one tick, with this hint, of the next busy task after the one last dispatched, going round by task number,
     /// whatever the lanes; that one itself comes last. [`Lanes::dispatched`] then says which it was. After a start the
     /// first dispatch looks from task 0 on; [`Lanes::tick`], [`Lanes::run`] and [`Lanes::panel`] leave the turn as it
@@ -151,24 +173,46 @@ impl<W: AsRef<[u32]> + AsMut<[u32]>> Lanes<W> {
     /// let mut lanes = Lanes::start([0; lane::words(8, 2)], 8, 2, 0, 2)?;
     /// lanes.begin(0, 0, Operation::Push(Tag::MAX), Side::Right)?;
     /// lanes.begin(1, 1, Operation::Pop, Side::Left)?;
-    /// let mut ended = Vec::new();
-    /// while let Dispatched::Ticked(answer) = lanes.dispatch(0)? {
-    ///     if answer != Answer::Going {
-    ///         ended.push((lanes.dispatched()?, answer));
-    ///     }
+    /// for task in [0, 1, 0, 1] {
+    ///     assert_eq!(lanes.dispatch(0)?, Dispatched::Ticked(Answer::Going));
+    ///     assert_eq!(lanes.dispatched()?, task);
     /// }
-    /// assert_eq!(ended, [(1, Answer::Empty), (0, Answer::Pushed)]);
     /// # Ok::<(), lane::Refusal>(())
     /// ```
     pub fn dispatch(&mut self, hint: u32) -> Result<Dispatched, Refusal> {
         Dispatched::of(ffi::dispatch(self.words.as_mut(), hint))
     }
 
-    /// Begins a call on a lane and ticks its task with hint 0 until it answers, while no other task gets a tick.
+    /// Makes dispatches, each with this hint, until a call ends, every task is idle, or so many are made, and gives
+    /// what [`Lanes::dispatch`] gives for the last. [`Lanes::dispatched`] then says whose call ended, and
+    /// [`Lanes::tick_count`] how many ticks were made. The table is tested once for all of them; with 0 of them it is
+    /// not looked at, and the answer is [`Answer::Going`]. Refusals are as in [`Lanes::ticks`].
+    ///
+    /// With no begin in between, dispatches drain a table that start began: every call gets its answer, and then they
+    /// are [`Dispatched::Idle`].
+    ///
+    /// ```
+    /// use lane::{Answer, Dispatched, Lanes, Operation, Side, Tag};
+    ///
+    /// let mut lanes = Lanes::start([0; lane::words(8, 2)], 8, 2, 0, 2)?;
+    /// lanes.begin(0, 0, Operation::Push(Tag::MAX), Side::Right)?;
+    /// lanes.begin(1, 1, Operation::Pop, Side::Left)?;
+    /// let mut ended = Vec::new();
+    /// while let Dispatched::Ticked(answer) = lanes.dispatches(0, u32::MAX)? {
+    ///     ended.push((lanes.dispatched()?, answer, lanes.tick_count()?));
+    /// }
+    /// assert_eq!(ended, [(1, Answer::Empty, 8), (0, Answer::Pushed, 15)]);
+    /// # Ok::<(), lane::Refusal>(())
+    /// ```
+    pub fn dispatches(&mut self, hint: u32, times: u32) -> Result<Dispatched, Refusal> {
+        Dispatched::of(ffi::dispatches(self.words.as_mut(), hint, times))
+    }
+
+    /// Begins a call on a lane and ticks its task with hint 0 until it answers, while no other task gets a tick: one
+    /// [`Lanes::begin`] and one [`Lanes::ticks`], each with its one test of the table.
     ///
     /// On a table that start began it is never [`Answer::Going`]. On any other it may be, after [`max_ticks_alone`]
-    /// ticks without an answer, and the task is still busy. Each tick tests the whole table: at many slots
-    /// [`Lanes::run`] is faster.
+    /// ticks without an answer, and the task is still busy.
     ///
     /// ```
     /// use lane::{Answer, Lanes, Operation, Side, Tag};
@@ -187,13 +231,8 @@ impl<W: AsRef<[u32]> + AsMut<[u32]>> Lanes<W> {
         side: Side,
     ) -> Result<Answer, Refusal> {
         self.begin(task, lane, operation, side)?;
-        for _ in 0..max_ticks_alone(self.slots()?) {
-            match self.tick(task, 0)? {
-                Answer::Going => {}
-                answer => return Ok(answer),
-            }
-        }
-        Ok(Answer::Going)
+        let slots = View::accepted(self.words()).slots();
+        self.ticks(task, 0, max_ticks_alone(slots))
     }
 
     /// Makes the ticks of a list of (task, hint) pairs up to the first refused, at most
@@ -361,6 +400,20 @@ impl<W: AsRef<[u32]>> Lanes<W> {
     /// ```
     pub fn dispatched(&self) -> Result<u32, Refusal> {
         Ok(self.view()?.dispatched())
+    }
+
+    /// The ticks made since the start, by whatever call; it goes from [`u32::MAX`] to 0.
+    ///
+    /// ```
+    /// use lane::{Answer, Lanes, Operation, Side};
+    ///
+    /// let mut lanes = Lanes::start([0; lane::words(8, 1)], 8, 1, 0, 2)?;
+    /// assert_eq!(lanes.call(0, 1, Operation::Pop, Side::Left)?, Answer::Empty);
+    /// assert_eq!(lanes.tick_count(), Ok(4));
+    /// # Ok::<(), lane::Refusal>(())
+    /// ```
+    pub fn tick_count(&self) -> Result<u32, Refusal> {
+        Ok(self.view()?.tick_count())
     }
 
     /// The table.

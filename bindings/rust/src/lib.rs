@@ -34,15 +34,16 @@
 //!
 //! [`Answer::Full`] is not about the bags alone: spare slots at other ends count, those of other lanes too, and so does
 //! what a call left in the middle may still use, up to S - 2L slots, so that a push may be full with no bag in any
-//! lane. Do not leave a call standing while bags pass. The way out: tick every busy task to its answer; then at one
-//! other end after another, of every lane, push, pop the bag again, remove 0, and try again each time. Full to the
-//! last, with no other task in a call: no other end has place for more than one bag, so that with one lane S - 2 bags
-//! are in it, or S - 3 and the last place is at the other end.
+//! lane. Do not leave a call standing while bags pass. The way out: drain the table, as below; then at one other end
+//! after another, of every lane, push, pop the bag again, remove 0, and try again each time. Full to the last, with no
+//! other task in a call: no other end has place for more than one bag, so that with one lane S - 2 bags are in it, or
+//! S - 3 and the last place is at the other end.
 //!
 //! A bag goes by its [`Tag`] of ten digits, which is in one place at most: a push of a tag that stands in any lane, or
 //! that a busy push has, is refused when it is begun ([`Refusal::Twice`]).
 //!
-//! The caller says whose tick is next, or lets [`Lanes::dispatch`] tick the busy tasks in turn.
+//! The caller says whose tick is next, or lets [`Lanes::dispatch`] tick the busy tasks in turn. [`Lanes::ticks`] and
+//! [`Lanes::dispatches`] make many of them in a row, with one test of the table.
 //!
 //! The baggage office sends and wants lists of tags in packed decimal. [`tags_read`] and [`tags_write`] take them to
 //! two words a tag, as [`Lane::read`] writes them, and back; they need no table.
@@ -51,8 +52,33 @@
 //! [`Answer::No`] of a remove, with no other task in a call, means exactly one spare slot more than asked for; trying
 //! again changes nothing.
 //!
-//! Different tables may be used by different threads, and a shared `&Lane` may be read by several. A tick, a dispatch
-//! and a run take about 5.6 kB of stack, the other calls under 0.6 kB. The library is for x86-64.
+//! Different tables may be used by different threads, and a shared `&Lane` may be read by several. Calls that tick take
+//! about 5.6 kB of stack, the others under 0.6 kB. The library is for x86-64.
+//!
+//! # What a caller can count on
+//!
+//! This is proved of tables that a start began and these calls alone have written since; the README says it in full.
+//!
+//! With no task in a call, what a call that then gets all the ticks ([`Lanes::call`]) answers and leaves is told by the
+//! bags, the spare slots at its end, r, the free slots, f, and whether that end has a slot on a spur, y, 1 or 0:
+//!
+//! | call | when | answer | then |
+//! |---|---|---|---|
+//! | push | r above 1 | pushed | r - 1 |
+//! | push | r 1, f + y above 0 | pushed | r is f + y, and at most growth + 1 |
+//! | push | r 1, f + y 0 | full | as before |
+//! | pop | a bag | the bag | r + 1 |
+//! | pop | no bag | empty | as before |
+//! | add n | f above 0 | yes | r more by f, and at most by n + 1 |
+//! | add n | f 0 | no | as before |
+//! | remove n | y 1, or r up to n + 1 | yes | as before |
+//! | remove n | y 0, r is n + 2 | no | as before |
+//! | remove n | y 0, r above n + 2 | yes | r is n + 1; the others are free |
+//!
+//! After "pushed", a bag and an add's "yes" y is 0. A start leaves r 1 and y 0 at every end, and S - 2L free. So who
+//! makes whole calls alone can foretell every answer; an end takes r + y + f - 1 new bags, and is full then.
+//!
+//! With no new begin, [`Lanes::dispatches`] drains a table: every call under way gets its answer.
 //!
 //! # Where the library is
 //!

@@ -42,8 +42,13 @@ impl<'a> View<'a> {
         // Every table has a lane 0; whether it can be walked is not asked here.
         match bags(words, 0) {
             Err(refusal @ (Refusal::Table | Refusal::Shape)) => Err(refusal),
-            _ => Ok(View { words }),
+            _ => Ok(View::accepted(words)),
         }
+    }
+
+    /// The same of words that a call has just accepted.
+    pub fn accepted(words: &'a [u32]) -> View<'a> {
+        View { words }
     }
 
     pub fn slots(self) -> u32 {
@@ -61,6 +66,10 @@ impl<'a> View<'a> {
     /// The task last dispatched.
     pub fn dispatched(self) -> u32 {
         self.words[place::DISPATCHED]
+    }
+
+    pub fn tick_count(self) -> u32 {
+        self.words[place::TICKS]
     }
 
     /// The left hat and the right hat of a lane below [`View::lanes`].
@@ -91,7 +100,7 @@ pub(crate) fn bags(words: &[u32], lane: u32) -> Result<Bags<'_>, Refusal> {
     // A read with no place for tags: the tests of the table, of the lane, and then of the places.
     match pair(ffi::read(words, lane, &mut [])) {
         (None | Some(Refusal::Out), _) => {
-            let view = View { words };
+            let view = View::accepted(words);
             let [left_hat, _] = view.hats(lane);
             let node = view.node(left_hat)[place::RIGHT_LINK];
             Ok(Bags { view, node })
@@ -144,7 +153,7 @@ pub(crate) fn show(name: &str, words: &[u32], formatter: &mut fmt::Formatter<'_>
                 1 => Row { view, lane: 0 }.fields(&mut shown),
                 _ => shown.field("lanes", &Rows(view)),
             }
-            .field("ticks", &words[place::TICKS])
+            .field("ticks", &view.tick_count())
             .field("dispatched", &view.dispatched())
             .field("tasks", &Tasks(view))
         }

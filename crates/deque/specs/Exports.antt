@@ -9,7 +9,7 @@ use Rattle.machine.specs.Answers.{kindOf, payloadOf, dispatchKindOf, dispatchPa
 use Rattle.packed.specs.TagLists as TagLists
 
 -- Two words in one number of 64 bits. In what a run, a panel's list, a read and a tag list give, the high one is the
--- refusal or 0 and the low one the count.
+-- refusal or 0 and the low one the count, or the place of 18.
 abbrev pub pairOf : (high low : ℕ) → ℕ
 pairOf high low = high * 2 ^ 32 + low
 

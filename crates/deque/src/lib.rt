@@ -4,6 +4,7 @@ use answers::kind;
 use answers::payload;
 use beginning::begin;
 use dispatching::dispatch;
+use dispatching::dispatches;
 use machine::Answer;
 use machine::Dispatch;
 use machine::Ran;
@@ -17,6 +18,7 @@ use running::panel;
 use running::run;
 use starting::start;
 use ticking::tick;
+use ticking::ticks;
 use values::of_words;
 ghost use mathlib.Core.Path.{_≡_};
 ghost use Prim.Native.Nat.{_≤_};
@@ -141,6 +143,15 @@ pub extern "C" fn lane_tick(table: &mut [u32], task: u32, hint: u32) -> u64
     answer_number(tick(table, task, hint))
 }
 
+// As the last of the ticks made: until one does not go on, or so many.
+#[no_mangle]
+pub extern "C" fn lane_ticks(table: &mut [u32], task: u32, hint: u32, times: u32) -> u64
+    ensures { λ r. ⌜ r ≡ answerNumber (calls.ticks times (now (table .entry)) task hint .answer) ⌝ }
+    ensures { λ r. ⌜ now (table .exit) ≡ calls.ticks times (now (table .entry)) task hint .words ⌝ }
+{
+    answer_number(ticks(table, task, hint, times))
+}
+
 // As a tick, of the next busy task after the one last dispatched; kind 8 where no task is busy.
 #[no_mangle]
 pub extern "C" fn lane_dispatch(table: &mut [u32], hint: u32) -> u64
@@ -148,6 +159,15 @@ pub extern "C" fn lane_dispatch(table: &mut [u32], hint: u32) -> u64
     ensures { λ r. ⌜ now (table .exit) ≡ calls.dispatch (now (table .entry)) hint .words ⌝ }
 {
     dispatch_number(dispatch(table, hint))
+}
+
+// As the last of the dispatches made: until one does not go on, or so many.
+#[no_mangle]
+pub extern "C" fn lane_dispatches(table: &mut [u32], hint: u32, times: u32) -> u64
+    ensures { λ r. ⌜ r ≡ dispatchNumber (calls.dispatches times (now (table .entry)) hint .answer) ⌝ }
+    ensures { λ r. ⌜ now (table .exit) ≡ calls.dispatches times (now (table .entry)) hint .words ⌝ }
+{
+    dispatch_number(dispatches(table, hint, times))
 }
 
 // The refusal that stopped the run, or 0, times 2^32, plus the ticks made.

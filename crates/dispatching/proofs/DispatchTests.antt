@@ -1,4 +1,4 @@
--- The tests of a dispatch, in 02's order, the choice of the task, and what its tick leaves.
+-- The choice of the task whose turn it is, and what its tick leaves.
 use mathlib.Core.Path.{_≡_, refl, sym, ap, _∙_}
 use mathlib.Core.Bool.{true, false, not}
 use mathlib.Core.Logic.{_≢_}
@@ -122,26 +122,12 @@ module _ (ws : List ℕ) (k h : ℕ) (a : Answer) (vs : List ℕ) (ticked : tick
   unfolding dispatchTo
   to-made e = rw (ap refusalOf answer-is ∙ made-kind a e, dispatchTo, answer-is, words-are)
 
--- ---- The tests, and what follows them.
-module _ (ws : List ℕ) {n : ℕ} (is-number : n ≡ numberOf (tableRefusal ws nothing)) (h : ℕ) where
-  pub dispatch-3-4 : n ≢ 0 → dispatchedOf (Answered (Refused n)) ws ≡ dispatch ws h
-  unfolding dispatch
-  dispatch-3-4 r = rw (refused ws is-number r _, dispatch)
+-- ---- What follows the choice.
+module _ (ws : List ℕ) (h : ℕ) where
+  pub on-idle : nextBusy ws ≡ nothing → dispatchedOf Idle ws ≡ dispatchOn ws h
+  unfolding dispatchOn
+  on-idle e = rw (e, dispatchOn)
 
-module _ (ws : List ℕ) (P : WellFormed ws) (h : ℕ) where
-  pub dispatch-9 : nodeCount ws ≤ h → dispatchedOf (Answered (Refused 9)) ws ≡ dispatch ws h
-  unfolding dispatch
-  dispatch-9 b = rw (P .length-passes, P .shape-passes, le-ltb h (nodeCount ws) b, dispatch)
-
-  module _ (is-hint : h < nodeCount ws) where
-    hint-passes : dispatchOn ws h ≡ dispatch ws h
-    unfolding dispatch
-    hint-passes = rw (P .length-passes, P .shape-passes, lt-ltb h (nodeCount ws) is-hint, dispatch)
-
-    pub dispatch-idle : nextBusy ws ≡ nothing → dispatchedOf Idle ws ≡ dispatch ws h
-    unfolding dispatchOn
-    dispatch-idle e = (rw (e, dispatchOn)) ∙ hint-passes
-
-    pub dispatch-ticks : {k : ℕ} → nextBusy ws ≡ some k → dispatchTo ws k h ≡ dispatch ws h
-    unfolding dispatchOn
-    dispatch-ticks e = (rw (e, dispatchOn)) ∙ hint-passes
+  pub on-ticks : {k : ℕ} → nextBusy ws ≡ some k → dispatchTo ws k h ≡ dispatchOn ws h
+  unfolding dispatchOn
+  on-ticks e = rw (e, dispatchOn)

@@ -1,1 +1,3 @@
 pub mod DispatchTests
+pub mod DispatchRefusals
+pub mod DispatchesInRow

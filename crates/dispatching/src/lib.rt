@@ -1,88 +1,54 @@
-// The call dispatch: any slice, any hint. A refusal and "idle" change no lent word.
-use answers::REFUSED;
-use answers::kind;
-use layout::places::DISPATCHED;
+// The call dispatch, and dispatches in a row: any slice, any numbers. A refusal and "idle" change no lent word.
+mod in_row;
+mod turn;
+
+use in_row::dispatches_on;
 use layout::places::NODE_COUNT;
-use layout::places::TASK_COUNT;
-use layout::table::task;
 use machine::Answer;
 use machine::Dispatch;
-use record::Task;
 use shape::table_refusal;
-use ticking::pairs::tick_on;
+use turn::dispatch_on;
 ghost use mathlib.Core.Path.{_≡_};
-ghost use Prim.Native.Nat.{_<_};
-ghost use Rattle.machine.specs.Round.{following};
-ghost use Rattle.machine.specs.Table.{taskCount};
-ghost use Rattle.machine.specs.Shape.{WellFormed};
-ghost use Rattle.machine.specs.Calls.{isBusyTask, nextBusy, dispatchTo, dispatch};
+ghost use Rattle.machine.specs.Calls.{dispatchRefusal, dispatch, dispatches};
 ghost use Rattle.machine.specs.Results.{dispatchedOf};
-ghost use Rattle.dispatching.specs.Chosen.{taskOr};
+ghost use Rattle.answers.specs.Refusals.{numberOf};
 
-// The task after task k of n, going round past n - 1 to 0.
-fn task_after(n: u32, k: u32) -> u32
-    requires { ⌜ k < n ⌝ }
-    ensures { λ r. ⌜ (r ≡ following n k) × (r < n) ⌝ }
+// 02: refusals 3, 4 and 9, by number; 0 where none of them is due.
+fn dispatch_refusal(table: &[u32], hint: u32) -> u32
+    ensures { λ r. ⌜ r ≡ numberOf (dispatchRefusal (now (table .entry)) hint) ⌝ }
 {
-    if k + 1 < n {
-        return k + 1;
+    let n = table_refusal(table);
+    if n != 0 {
+        return n;
+    }
+    if table[NODE_COUNT] <= hint {
+        return 9;
     }
     0
 }
 
-// Whether task k is in a call.
-fn is_busy(table: &[u32], k: u32) -> bool
-    requires { ⌜ WellFormed (now table) × (k < taskCount (now table)) ⌝ }
-    ensures { λ r. ⌜ r ≡ isBusyTask (now (table .entry)) k ⌝ }
-{
-    task(table, k).operation != Task::IDLE
-}
-
-// 02: the next busy task after the one last dispatched, going round; T where no task is busy.
-fn next_busy(table: &[u32]) -> u32
-    requires { ⌜ WellFormed (now table) ⌝ }
-    ensures { λ r. ⌜ r ≡ taskOr (taskCount (now (table .entry))) (nextBusy (now (table .entry))) ⌝ }
-{
-    let n = table[TASK_COUNT];
-    let mut k = table[DISPATCHED];
-    let mut left = n;
-    while 0 < left {
-        k = task_after(n, k);
-        if is_busy(table, k) {
-            return k;
-        }
-        left -= 1;
-    }
-    n
-}
-
-// A tick of task k, which is then the one last dispatched.
-fn dispatch_to(table: &mut [u32], k: u32, hint: u32) -> Dispatch
-    requires { ⌜ WellFormed (now table) ⌝ }
-    ensures { λ r. ⌜ dispatchedOf r (now (table .exit)) ≡ dispatchTo (now (table .entry)) k hint ⌝ }
-{
-    let answer = tick_on(table, k, hint);
-    if kind(answer) == REFUSED {
-        return Dispatch::Answered(answer);
-    }
-    table[DISPATCHED] = k;
-    Dispatch::Answered(answer)
-}
-
-// 02: refusals 3, 4 and 9, then "idle" where no task is busy, or one tick of the next busy one, which 11 may refuse.
+// 02: after these, "idle" where no task is busy, or one tick of the next busy one, which 11 may refuse.
 pub fn dispatch(table: &mut [u32], hint: u32) -> Dispatch
     ensures { λ r. ⌜ dispatchedOf r (now (table .exit)) ≡ dispatch (now (table .entry)) hint ⌝ }
 {
-    let n = table_refusal(table);
+    let n = dispatch_refusal(table, hint);
     if n != 0 {
         return Dispatch::Answered(Answer::Refused(n));
     }
-    if table[NODE_COUNT] <= hint {
-        return Dispatch::Answered(Answer::Refused(9));
+    dispatch_on(table, hint)
+}
+
+// Dispatches until a call ends, every task is idle, a refusal, or so many; the last outcome. A dispatch keeps what the
+// tests of refusals 3, 4 and 9 found, so they are made once; and not at all where none is asked for.
+pub fn dispatches(table: &mut [u32], hint: u32, times: u32) -> Dispatch
+    ensures { λ r. ⌜ dispatchedOf r (now (table .exit)) ≡ dispatches times (now (table .entry)) hint ⌝ }
+{
+    if times == 0 {
+        return Dispatch::Answered(Answer::Going);
     }
-    let k = next_busy(table);
-    if k == table[TASK_COUNT] {
-        return Dispatch::Idle;
+    let n = dispatch_refusal(table, hint);
+    if n != 0 {
+        return Dispatch::Answered(Answer::Refused(n));
     }
-    dispatch_to(table, k, hint)
+    dispatches_on(table, hint, times)
 }

@@ -8,7 +8,7 @@ ghost use Rattle.machine.specs.Lines.{back};
 ghost use Rattle.record.specs.Coded.{taskMeant, withRegister};
 ghost use Rattle.hattrick.specs.Lent.{nextDone, answerDone, refusedDone};
 
-// The side's hat afterwards, the task's record and the answer.
+// The hat afterwards, the lane's on that side, the task's record and the answer.
 pub struct Done {
     pub hat: u32,
     pub task: Task,

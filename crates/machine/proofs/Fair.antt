@@ -1,10 +1,10 @@
 -- Request 2026-07: a busy task gets its tick within T dispatches. Each one that ticks another task comes nearer to it.
-use mathlib.Core.Path.{_≡_, refl, sym, ap, _∙_}
+use mathlib.Core.Path.{_≡_, refl, sym, ap, _∙_, subst}
 use mathlib.Core.Logic.{_≢_, inl, inr}
 use mathlib.Core.Bool.{Bool, true, false}
 use mathlib.Core.List.{List, [], _∷_}
 use mathlib.Core.Option.{Option, some, none as nothing}
-use Prim.Native.Nat.{ℕ, _<_, _≤_}
+use Prim.Native.Nat.{ℕ, zero, suc, _+_, _<_, _≤_}
 use native.Mathlib.Omega.{arith}
 use native.Mathlib.Decide.{ℕ-discrete, decLt, decLe}
 use Rattle.machine.specs.declared.Dispatch.the-variants.{Answered}
@@ -27,7 +27,7 @@ use Rattle.machine.specs.Allocate.{
   allocate,
 }
 use Rattle.machine.specs.Lines.{writeAll, dcas, act}
-use Rattle.machine.specs.Answers.{refusalOf, dispatchRefusalOf}
+use Rattle.machine.specs.Answers.{refusalOf, dispatchRefusalOf, dispatchGoesOn}
 use Rattle.machine.specs.Calls.{
   startRefusal,
   runRefusal,
@@ -51,6 +51,9 @@ use Rattle.machine.specs.Calls.{
   dispatchTo,
   dispatchOn,
   dispatch,
+  dispatches,
+  dispatchesMade,
+  wentOn,
   tested,
   run,
   panel,
@@ -62,6 +65,7 @@ use Rattle.machine.specs.Demand3.{
   tick-call,
   ticks-call,
   dispatch-call,
+  dispatches-call,
   run-call,
   panel-call,
   read-call,
@@ -71,10 +75,12 @@ use Rattle.machine.specs.Begun.{afterAll}
 use Rattle.machine.specs.Fair.{
   LeaveDispatched,
   OthersLeaveDispatched,
-  dispatchHint,
-  dispatches,
+  InRow,
+  dispatchesOf,
+  dispatchCount,
   NoneRefused,
   IsTickOf,
+  TicksTask,
   GetsTick,
   ticks-it,
   after-it,
@@ -103,6 +109,14 @@ use Rattle.machine.proofs.Words.TableLaws.{columns-setDispatched}
 use Rattle.machine.proofs.Words.EffectLaws.{task-set-dispatched}
 use Rattle.machine.proofs.Words.StartLaws.{task-start}
 use Rattle.machine.proofs.Words.TickLaws.{tick-answer, tick-task}
+use Rattle.machine.proofs.Words.DispatchLaws.{
+  going-dispatch,
+  others-follow,
+  one-more-made,
+  none-follows,
+  one-made,
+  one-dispatch,
+}
 use Rattle.machine.proofs.Shape.ShapeLaws.{WellSized, WellShaped, well-sized, well-shaped}
 use Rattle.machine.proofs.Shape.TickKeeps.{Kept, unchanged, busy-is-task, tick-kept}
 use Rattle.machine.proofs.Shape.DispatchCases.{by-dispatch}
@@ -173,13 +187,14 @@ module _ (ws : List ℕ) (A : WellFormed ws) where
             let at-rest = task-start S T g L (Y .lanes-fit) (Y .most-lanes) k in
             clash (cc (ap (λ (t : Task). isBusy (t .operation)) at-rest))
 
-    other-waits : (c : Call) → dispatchHint c ≡ nothing → SameWait (after c ws)
+    other-waits : (c : Call) → dispatchesOf c ≡ nothing → SameWait (after c ws)
     unfolding run panel
     other-waits (start-call S T g L) e = start-waits S T g L
     other-waits (begin-call j l op side argument) e = by-kept (begin-kept ws j l op side argument Z W)
     other-waits (tick-call j h) e = by-kept (tick-call-kept ws A j h)
     other-waits (ticks-call j h times) e = by-kept (ticks-kept ws A times j h)
     other-waits (dispatch-call h) e = clash (cc)
+    other-waits (dispatches-call h times) e = clash (cc)
     other-waits (run-call list answers) e = by-kept (tested-kept (runRefusal ws list answers) list answers)
     other-waits (panel-call list answers) e = by-kept (tested-kept (panelRefusal ws list answers) list answers)
     other-waits (read-call l out) e = by-kept (unchanged ws Z W)
@@ -257,58 +272,129 @@ module _ (ws : List ℕ) (A : WellFormed ws) where
 pub others-leave-dispatched : OthersLeaveDispatched
 others-leave-dispatched ws passes = leave-dispatched ws (is-accepted ws passes)
 
+-- ---- Dispatches in a row.
+
+-- What they do for a busy task k: one of them ticks it, or they leave it busy, and nearer by as many as are made.
+data RowServed (ws : List ℕ) (k h n : ℕ) : Type 0 where
+  ticked-at :
+      (i : ℕ)
+      → i < dispatchesMade n ws h
+      → IsTickOf k h (dispatches i ws h .words) (dispatch (dispatches i ws h .words) h)
+      → RowServed ws k h n
+  nearer-by :
+      isBusyTask (dispatches n ws h .words) k ≡ true
+      → waits (dispatches n ws h .words) k + dispatchesMade n ws h ≤ waits ws k
+      → RowServed ws k h n
+
+row-serves : (n : ℕ) (ws : List ℕ) → WellFormed ws → (k : ℕ) → isBusyTask ws k ≡ true → (h : ℕ)
+    → dispatchRefusalOf (dispatches n ws h .answer) ≡ nothing
+    → RowServed ws k h n
+unfolding dispatches wentOn
+row-serves zero ws A k busy h none = nearer-by busy (omega arith)
+row-serves (suc n) ws A k busy h none =
+    go (dispatchGoesOn (dispatch ws h .answer)) refl
+    (λ b. row-serves n (dispatch ws h .words) (call-accepted ws A (dispatch-call h)) k b h)
+  where
+    first : dispatchRefusalOf (dispatch ws h .answer) ≡ nothing → Served ws k h (dispatch ws h)
+    first = dispatch-serves ws A k busy h
+
+    is-last : dispatchGoesOn (dispatch ws h .answer) ≡ false → Served ws k h (dispatch ws h) → RowServed ws k h (suc n)
+    is-last e (ticked it) = ticked-at 0 (rw (one-made n ws h e) (omega arith)) it
+    is-last e (nearer-now b w) =
+        nearer-by (rw (none-follows n ws h e) b) (rw (none-follows n ws h e, one-made n ws h e) (omega arith))
+
+    follow : dispatchGoesOn (dispatch ws h .answer) ≡ true
+        → waits (dispatch ws h .words) k < waits ws k
+        → RowServed (dispatch ws h .words) k h n
+        → RowServed ws k h (suc n)
+    follow e w (ticked-at i m it) =
+        ticked-at (suc i) (rw (one-more-made n ws h e) (omega arith)) (rw (others-follow i ws h e) it)
+    follow e w (nearer-by b near) =
+        nearer-by (rw (others-follow n ws h e) b)
+        (rw (others-follow n ws h e, one-more-made n ws h e) (omega arith))
+
+    goes-on : dispatchGoesOn (dispatch ws h .answer) ≡ true
+        → (isBusyTask (dispatch ws h .words) k ≡ true → RowServed (dispatch ws h .words) k h n)
+        → Served ws k h (dispatch ws h)
+        → RowServed ws k h (suc n)
+    goes-on e others (ticked it) = ticked-at 0 (rw (one-more-made n ws h e) (omega arith)) it
+    goes-on e others (nearer-now b w) = follow e w (others b)
+
+    go : (b : Bool) → dispatchGoesOn (dispatch ws h .answer) ≡ b
+        → (isBusyTask (dispatch ws h .words) k ≡ true
+        → dispatchRefusalOf (dispatches n (dispatch ws h .words) h .answer) ≡ nothing
+        → RowServed (dispatch ws h .words) k h n)
+        → RowServed ws k h (suc n)
+    go false e others =
+        is-last e (first (ap (λ (d : Dispatched). dispatchRefusalOf (d .answer)) (sym (none-follows n ws h e)) ∙ none))
+    go true e others =
+        goes-on e
+        (λ b. others b (ap (λ (d : Dispatched). dispatchRefusalOf (d .answer)) (sym (others-follow n ws h e)) ∙ none))
+        (first (ap dispatchRefusalOf (going-dispatch (dispatch ws h .answer) e)))
+
 -- ---- Lists of calls.
-by-hint : (P : Call → Type 0) → ((h : ℕ) → P (dispatch-call h)) → ((c : Call) → dispatchHint c ≡ nothing → P c)
-    → (c : Call)
-    → P c
-by-hint P is-dispatch other (dispatch-call h) = is-dispatch h
-by-hint P is-dispatch other (start-call S T g L) = other (start-call S T g L) refl
-by-hint P is-dispatch other (begin-call k l op side argument) = other (begin-call k l op side argument) refl
-by-hint P is-dispatch other (tick-call k h) = other (tick-call k h) refl
-by-hint P is-dispatch other (ticks-call k h times) = other (ticks-call k h times) refl
-by-hint P is-dispatch other (run-call list answers) = other (run-call list answers) refl
-by-hint P is-dispatch other (panel-call list answers) = other (panel-call list answers) refl
-by-hint P is-dispatch other (read-call l out) = other (read-call l out) refl
+
+-- The table that dispatches leave.
+after-row : (c : Call) (d : InRow) → dispatchesOf c ≡ some d → (ws : List ℕ)
+    → after c ws ≡ dispatches (d .times) ws (d .hint) .words
+after-row (dispatch-call h) d e ws =
+    let same : record { hint = h; times = 1 } ≡ d = cc in
+    subst (λ (x : InRow). dispatch ws h .words ≡ dispatches (x .times) ws (x .hint) .words) same
+    (ap (λ (r : Dispatched). r .words) (sym (one-dispatch ws h)))
+after-row (dispatches-call h times) d e ws =
+    let same : record { hint = h; times = times } ≡ d = cc in
+    ap (λ (x : InRow). dispatches (x .times) ws (x .hint) .words) same
+after-row (start-call S T g L) d e ws = clash (cc)
+after-row (begin-call k l op side argument) d e ws = clash (cc)
+after-row (tick-call k h) d e ws = clash (cc)
+after-row (ticks-call k h times) d e ws = clash (cc)
+after-row (run-call list answers) d e ws = clash (cc)
+after-row (panel-call list answers) d e ws = clash (cc)
+after-row (read-call l out) d e ws = clash (cc)
 
 -- With more dispatches to come than the task waits.
 fair-from : (calls : List Call) (ws : List ℕ) → WellFormed ws → (k : ℕ) → isBusyTask ws k ≡ true → NoneRefused calls ws
-    → waits ws k < dispatches calls
+    → waits ws k < dispatchCount calls ws
     → Outcome k calls ws
 fair-from [] ws A k busy none near = absurd (omega arith)
 fair-from (c ∷ cs) ws A k busy none near =
-    by-hint Step is-dispatch other c (λ B b n w. fair-from cs (after c ws) B k b n w) none near
+    go (dispatchesOf c) refl near (λ b w. fair-from cs (after c ws) (call-accepted ws A c) k b (none .1) w)
   where
-    Step : Call → Type 0
-    Step d =
-        (WellFormed (after d ws)
-        → isBusyTask (after d ws) k ≡ true
-        → NoneRefused cs (after d ws)
-        → waits (after d ws) k < dispatches cs
-        → Outcome k cs (after d ws))
-        → NoneRefused (d ∷ cs) ws
-        → waits ws k < dispatches (d ∷ cs)
-        → Outcome k (d ∷ cs) ws
+    Others : Type 0
+    Others =
+        isBusyTask (after c ws) k ≡ true
+        → waits (after c ws) k < dispatchCount cs (after c ws)
+        → Outcome k cs (after c ws)
 
-    is-dispatch : (h : ℕ) → Step (dispatch-call h)
-    is-dispatch h others none near = go (dispatch-serves ws A k busy h (none .0 h refl))
-      where
-        go : Served ws k h (dispatch ws h) → Outcome k (dispatch-call h ∷ cs) ws
-        go (ticked it) = gets-tick h it
-        go (nearer-now b w) =
-            still-busy (dispatch-call h) b
-            (others (call-accepted ws A (dispatch-call h)) b (none .1) (omega arith))
+    by-row : (d : InRow) → dispatchesOf c ≡ some d
+        → waits ws k < dispatchesMade (d .times) ws (d .hint) + dispatchCount cs (after c ws)
+        → Others
+        → RowServed ws k (d .hint) (d .times)
+        → Outcome k (c ∷ cs) ws
+    by-row d e near others (ticked-at i m it) =
+        gets-tick c (record { row = d; asked = e; place = i; is-made = m; is-tick = it })
+    by-row d e near others (nearer-by b w) =
+        let same = after-row c d e ws in
+        let still : isBusyTask (after c ws) k ≡ true = rw same b in
+        let near-then : waits (after c ws) k < dispatchCount cs (after c ws) =
+        subst (λ vs. waits vs k < dispatchCount cs (after c ws)) (sym same) (omega arith) in
+        still-busy c still (others still near-then)
 
-    other : (d : Call) → dispatchHint d ≡ nothing → Step d
-    other d e others none near = go (isBusyTask (after d ws) k) refl
-      where
-        as-near : waits ws k < dispatches cs
-        as-near = rw (e, dispatches) at near
+    no-row : dispatchesOf c ≡ nothing → waits ws k < dispatchCount cs (after c ws) → Others → (b : Bool)
+        → isBusyTask (after c ws) k ≡ b
+        → Outcome k (c ∷ cs) ws
+    no-row e near others false b = ends-first {cs = cs} c e b (omega (arith, near))
+    no-row e near others true b = still-busy c b (others b (rw (other-waits ws A k c e b) near))
 
-        go : (b : Bool) → isBusyTask (after d ws) k ≡ b → Outcome k (d ∷ cs) ws
-        go false b = ends-first {cs = cs} d e b (omega (arith, as-near))
-        go true b =
-            still-busy d b
-            (others (call-accepted ws A d) b (none .1) (rw (other-waits ws A k d e b) as-near))
+    go : (o : Option InRow) → dispatchesOf c ≡ o
+        → waits ws k
+        < elim o as (λ _. ℕ) [ some d ↦ dispatchesMade (d .times) ws (d .hint) | nothing ↦ 0 ]
+        + dispatchCount cs (after c ws)
+        → Others
+        → Outcome k (c ∷ cs) ws
+    go (some d) e near others =
+        by-row d e near others (row-serves (d .times) ws A k busy (d .hint) (none .0 d e))
+    go nothing e near others = no-row e (omega arith) others (isBusyTask (after c ws) k) refl
 
 pub fair-unless-ended : FairUnlessEnded
 fair-unless-ended ws passes k busy calls none enough =
@@ -320,7 +406,7 @@ fair-unless-ended ws passes k busy calls none enough =
 -- ---- A task that stays busy.
 not-ended : (k : ℕ) (calls : List Call) (ws : List ℕ) → Outcome k calls ws → BusyThroughout k calls ws
     → GetsTick k calls ws
-not-ended k calls ws (gets-tick h it) B = ticks-it h it
+not-ended k calls ws (gets-tick c it) B = ticks-it c it
 not-ended k (c ∷ []) ws (ends-first d e q more) B = absurd (omega arith)
 not-ended k (c ∷ b ∷ cs) ws (ends-first d e q more) B = clash (cc (B .1 .0))
 not-ended k (c ∷ cs) ws (still-busy d q later) B = after-it c (not-ended k cs (after c ws) later (B .1))
@@ -330,7 +416,7 @@ fair ws passes k calls B none enough =
     let T = well-sized ws (is-accepted ws passes .length-passes) .one-task in
     not-ended k calls ws (fair-unless-ended ws passes k (first calls B enough T) calls none enough) B
   where
-    first : (calls : List Call) → BusyThroughout k calls ws → taskCount ws ≤ dispatches calls → 1 ≤ taskCount ws
+    first : (calls : List Call) → BusyThroughout k calls ws → taskCount ws ≤ dispatchCount calls ws → 1 ≤ taskCount ws
         → isBusyTask ws k ≡ true
     first [] B enough one = absurd (omega arith)
     first (c ∷ cs) B enough one = B .0

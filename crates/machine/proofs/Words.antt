@@ -11,3 +11,4 @@ pub mod EffectLaws
 pub mod StartLaws
 pub mod TickLaws
 pub mod RunLaws
+pub mod DispatchLaws

@@ -83,6 +83,11 @@ isGoing Yes = false
 isGoing No = false
 isGoing (Refused n) = false
 
+-- Of a dispatch: the tick that it made goes on.
+abbrev pub dispatchGoesOn : Dispatch → Bool
+dispatchGoesOn Idle = false
+dispatchGoesOn (Answered a) = isGoing a
+
 -- The answers that end a call: all but "going" and the refusals.
 abbrev pub endsCall : Answer → Bool
 endsCall Going = false

@@ -6,18 +6,16 @@ use mathlib.Core.Option.{Option, some, none as nothing}
 use Prim.Native.Nat.{ℕ, zero, suc, _-_}
 use lib.Dec.{eqb}
 use Rattle.machine.specs.declared.Answer.{Answer}
-use Rattle.machine.specs.declared.Answer.the-variants.{Pushed, Bag}
+use Rattle.machine.specs.declared.Answer.the-variants.{Going, Pushed, Bag}
 use Rattle.machine.specs.declared.Dispatch.{Dispatch}
 use Rattle.machine.specs.declared.Dispatch.the-variants.{Idle, Answered}
 use Rattle.machine.specs.declared.Reply.{Reply}
 use Rattle.machine.specs.declared.Reply.the-variants.{Accepted, Refused as Reply-Refused}
 use Rattle.machine.specs.Choice.{_≟_, if_then_else_}
-use Rattle.machine.specs.Sides.{sideOf}
-use Rattle.machine.specs.Values.{number}
-use Rattle.machine.specs.Operations.{Operation, push, pop, operationNumber, operationOf}
+use Rattle.machine.specs.Operations.{Operation, push, pop, operationNumber}
 use Rattle.machine.specs.Answers.{kindOf, payloadOf, refusalOf, isGoing, answerOf}
 use Rattle.machine.specs.Calls.{start}
-use Rattle.machine.specs.Row.{Note, nextNoted}
+use Rattle.machine.specs.Row.{Note, newNote, nextNoted}
 use Rattle.machine.specs.Demand3.{
   Call,
   start-call,
@@ -25,6 +23,7 @@ use Rattle.machine.specs.Demand3.{
   tick-call,
   ticks-call,
   dispatch-call,
+  dispatches-call,
   run-call,
   panel-call,
   read-call,
@@ -119,6 +118,12 @@ recordDispatch η (Answered a) =
       | nothing ↦ recordDispatched η (nextNoted (η .notes) (η .tasks) (η .dispatched)) a
     ]
 
+-- Dispatches in a row: those that went on, and the last where one did not.
+unfoldable pub recordDispatches : History → (times wentOn : ℕ) → Dispatch → History
+recordDispatches η zero m d = η
+recordDispatches η (suc n) zero d = recordDispatch η d
+recordDispatches η (suc n) (suc m) d = recordDispatches (recordDispatch η (Answered Going)) n m d
+
 -- A start with its reply, and a begin of task k with a note and its reply.
 abbrev pub recordStart : History → (T : ℕ) → Reply → History
 recordStart η T Accepted = noHistory T
@@ -137,11 +142,11 @@ recordBegin η k n (Reply-Refused r) = η
 -- A call, with what it gave back. Of ticks in a row only the last can have ended the task's call.
 abbrev pub recordCall : History → (c : Call) → Given c → History
 recordCall η (start-call S T g lanes) r = recordStart η T r
-recordCall η (begin-call k l op side argument) r =
-    recordBegin η k (record { lane = l; operation = operationOf op; side = sideOf side; argument = number argument }) r
+recordCall η (begin-call k l op side argument) r = recordBegin η k (newNote l op side argument) r
 recordCall η (tick-call k h) a = recordTick η k a
 recordCall η (ticks-call k h times) a = recordTick η k a
 recordCall η (dispatch-call h) r = recordDispatch η r
+recordCall η (dispatches-call h times) r = recordDispatches η times (r .1) (r .0)
 recordCall η (run-call list answers) r = recordRun η (r .0 .made) list (r .1)
 recordCall η (panel-call list answers) r = recordRun η (r .0 .made) list (r .1)
 recordCall η (read-call l out) r = η

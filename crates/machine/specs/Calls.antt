@@ -1,5 +1,5 @@
 -- The calls: for every table and all numbers, the answer and every lent word afterwards.
-use mathlib.Core.Bool.{Bool, true, false, not, _&&_, _||_}
+use mathlib.Core.Bool.{Bool, true, false, cond, not, _&&_, _||_}
 use mathlib.Core.List.{List, [], _∷_, _++_}
 use mathlib.Core.Option.{Option, some, none as nothing, Option·map, bind}
 use Prim.Native.Nat.{ℕ, zero, suc, _+_, _*_, _-_, _/_, _%_, _^_}
@@ -44,7 +44,7 @@ use Rattle.machine.specs.Table.{
 use Rattle.machine.specs.Shape.{lanesOk, sizesOk, lengthOk, shapeOk}
 use Rattle.machine.specs.Allocate.{allocate}
 use Rattle.machine.specs.Lines.{Effect, seen, writeAll, act}
-use Rattle.machine.specs.Answers.{answerLength, answerWords, refusalOf, isGoing}
+use Rattle.machine.specs.Answers.{answerLength, answerWords, refusalOf, isGoing, dispatchGoesOn}
 
 -- ---- The lanes.
 
@@ -199,7 +199,7 @@ times (suc n) l = l ++ times n l
 abbrev pub startHat : (lanes l : ℕ) → Side → ℕ
 startHat lanes l s = if l <? lanes then 2 * l + sideNumber s else none
 
--- The nodes of the lanes from l on, n of them. 01: slot 0 as L none, R 1, V LX and slot 1 as L 0, R none, V RX.
+-- The nodes of n lanes, from lane l on. 01: slot 0 as L none, R 1, V LX and slot 1 as L 0, R none, V RX.
 unfoldable pub startNodes : (n l : ℕ) → List ℕ
 startNodes zero l = []
 startNodes (suc n) l =
@@ -320,6 +320,25 @@ dispatch ws h =
       | some n ↦ record { answer = Answered (Refused n); words = ws }
       | nothing ↦ dispatchOn ws h
     ]
+
+-- ---- Dispatches in a row: until one does not go on, or so many. The last outcome is given; "going" where no dispatch
+-- was asked for.
+unfoldable pub dispatches : (times : ℕ) → List ℕ → (hint : ℕ) → Dispatched
+dispatches zero ws h = record { answer = Answered Going; words = ws }
+dispatches (suc n) ws h =
+    let one = dispatch ws h in
+    elim (dispatchGoesOn (one .answer)) as (λ _. Dispatched) [ true ↦ dispatches n (one .words) h | false ↦ one ]
+
+-- How many of them went on.
+unfoldable pub wentOn : (times : ℕ) → List ℕ → (hint : ℕ) → ℕ
+wentOn zero ws h = 0
+wentOn (suc n) ws h =
+    let one = dispatch ws h in
+    elim (dispatchGoesOn (one .answer)) as (λ _. ℕ) [ true ↦ suc (wentOn n (one .words) h) | false ↦ 0 ]
+
+-- How many were made: where fewer went on than were asked for, the one that did not as well.
+abbrev pub dispatchesMade : (times : ℕ) → List ℕ → (hint : ℕ) → ℕ
+dispatchesMade n ws h = let m = wentOn n ws h in cond (ltb m n) (suc m) m
 
 -- ---- run and panel.
 pub record RunDone : Type 0 where

@@ -1,48 +1,65 @@
 -- Demand 3: one claim about a list of calls on one table, and nothing but the table and the row in it.
 use mathlib.Core.Path.{_≡_}
-use mathlib.Core.Bool.{cond, _&&_}
+use mathlib.Core.Bool.{Bool, cond, _&&_}
 use mathlib.Core.List.{List, [], _∷_}
-use mathlib.Core.Option.{Option, some, none as nothing}
+use mathlib.Core.Option.{Option, some, none as nothing, bind}
 use Prim.Native.Nat.{ℕ, zero, suc, _*_, _≤_, _<_}
 use lib.Dec.{leb, ltb, eqb}
 use lib.ListN.{length, take}
 use Rattle.tag.specs.Tags.{allTagWords}
 use Rattle.machine.specs.declared.Answer.{Answer}
+use Rattle.machine.specs.declared.Answer.the-variants.{Going}
 use Rattle.machine.specs.declared.Dispatch.{Dispatch}
+use Rattle.machine.specs.declared.Dispatch.the-variants.{Answered}
 use Rattle.machine.specs.declared.Reply.{Reply}
 use Rattle.machine.specs.declared.Reply.the-variants.{Accepted, Refused as Reply-Refused}
 use Rattle.machine.specs.declared.Reading.{Reading}
 use Rattle.machine.specs.declared.Reading.the-variants.{Count, Refused as Reading-Refused}
 use Rattle.machine.specs.declared.Ran.{Ran}
 use Rattle.machine.specs.declared.Stored.{Stored}
-use Rattle.machine.specs.Sides.{sideOf}
-use Rattle.machine.specs.Values.{number}
-use Rattle.machine.specs.Operations.{operationOf}
+use Rattle.machine.specs.Operations.{operationOf, argumentOk}
 use Rattle.machine.specs.Shape.{sameWords}
-use Rattle.machine.specs.Answers.{refusalOf, isGoing}
-use Rattle.machine.specs.Calls.{start, begin, tick, tickOn, ticks, dispatch, RunDone, run, panel, lane, read}
-use Rattle.machine.specs.Row.{Row, emptyRow, Note, noted, feedMade, feedDispatch, feedRun}
+use Rattle.machine.specs.Answers.{refusalOf, isGoing, dispatchGoesOn}
+use Rattle.machine.specs.Calls.{
+  start,
+  begin,
+  tick,
+  tickOn,
+  ticks,
+  dispatch,
+  dispatches,
+  wentOn,
+  RunDone,
+  run,
+  panel,
+  lane,
+  read,
+}
+use Rattle.machine.specs.Row.{Row, emptyRow, newNote, noted, feedMade, feedDispatch, feedRun}
 
 -- 01: the list holds start, begin, tick, run and reading the lane, with any arguments, and every call on the same table
--- that a request adds: 2026-01's panel, 2026-07's dispatch; and ticks in a row. A run's list and answer slice and a
--- read's out slice are that call's own: here by their contents when the call is made.
+-- that a request adds: 2026-01's panel, 2026-07's dispatch; and ticks and dispatches in a row. A run's list and answer
+-- slice and a read's out slice are that call's own: here by their contents when the call is made.
 pub data Call : Type 0 where
   start-call : (S T growth lanes : ℕ) → Call
   begin-call : (k lane operation side : ℕ) (argument : Stored) → Call
   tick-call : (k hint : ℕ) → Call
   ticks-call : (k hint times : ℕ) → Call
   dispatch-call : (hint : ℕ) → Call
+  dispatches-call : (hint times : ℕ) → Call
   run-call : (list answers : List ℕ) → Call
   panel-call : (list answers : List ℕ) → Call
   read-call : (lane : ℕ) (out : List ℕ) → Call
 
--- What a call gives back: its answer, with a slice of its own as it leaves it.
+-- What a call gives back: its answer, with a slice of its own as it leaves it. Of dispatches in a row also how many went
+-- on, which the tick count tells.
 abbrev pub Given : Call → Type 0
 Given (start-call S T g lanes) = Reply
 Given (begin-call k l op side argument) = Reply
 Given (tick-call k h) = Answer
 Given (ticks-call k h times) = Answer
 Given (dispatch-call h) = Dispatch
+Given (dispatches-call h times) = Dispatch × ℕ
 Given (run-call list answers) = Ran × List ℕ
 Given (panel-call list answers) = Ran × List ℕ
 Given (read-call l out) = Reading × List ℕ
@@ -53,6 +70,7 @@ given (begin-call k l op side argument) ws = begin ws k l op side argument .repl
 given (tick-call k h) ws = tick ws k h .answer
 given (ticks-call k h times) ws = ticks times ws k h .answer
 given (dispatch-call h) ws = dispatch ws h .answer
+given (dispatches-call h times) ws = (dispatches times ws h .answer, wentOn times ws h)
 given (run-call list answers) ws = (run ws list answers .ran, run ws list answers .answers)
 given (panel-call list answers) ws = (panel ws list answers .ran, panel ws list answers .answers)
 given (read-call l out) ws = (read ws l out .reading, read ws l out .out)
@@ -64,6 +82,7 @@ after (begin-call k l op side argument) ws = begin ws k l op side argument .word
 after (tick-call k h) ws = tick ws k h .words
 after (ticks-call k h times) ws = ticks times ws k h .words
 after (dispatch-call h) ws = dispatch ws h .words
+after (dispatches-call h times) ws = dispatches times ws h .words
 after (run-call list answers) ws = run ws list answers .words
 after (panel-call list answers) ws = panel ws list answers .words
 after (read-call l out) ws = ws
@@ -73,10 +92,21 @@ abbrev pub feedStart : Row → (T lanes : ℕ) → Reply → Option Row
 feedStart ρ T lanes Accepted = some (emptyRow T lanes)
 feedStart ρ T lanes (Reply-Refused n) = some ρ
 
--- 2026-12: none is accepted on a lane that is not there.
-abbrev pub feedBegin : Row → ℕ → Note → Reply → Option Row
-feedBegin ρ k n Accepted = cond (ltb (n .lane) (ρ .lanes)) (some (noted ρ k (some n))) nothing
-feedBegin ρ k n (Reply-Refused r) = some ρ
+-- The numbers of a begin are a call's: a task, a lane (2026-12), an operation, a side and an argument of it.
+abbrev pub isCall : Row → (k lane operation side : ℕ) → (argument : Stored) → Bool
+isCall ρ k l op side argument =
+    ltb k (ρ .tasks)
+    && ltb l (ρ .lanes)
+    && leb 1 op
+    && leb op 4
+    && leb side 1
+    && argumentOk (operationOf op) argument
+
+-- 01: the task's note is the operation, side and argument. No other numbers are accepted.
+abbrev pub feedBegin : Row → (k lane operation side : ℕ) → (argument : Stored) → Reply → Option Row
+feedBegin ρ k l op side argument Accepted =
+    cond (isCall ρ k l op side argument) (some (noted ρ k (some (newNote l op side argument)))) nothing
+feedBegin ρ k l op side argument (Reply-Refused r) = some ρ
 
 -- 01: a refused tick leaves the note.
 unfoldable pub feedTick : Row → ℕ → Answer → Option Row
@@ -87,6 +117,13 @@ feedTick ρ k a =
 abbrev pub feedTicks : Row → ℕ → (times : ℕ) → Answer → Option Row
 feedTicks ρ k zero a = cond (isGoing a) (some ρ) nothing
 feedTicks ρ k (suc n) a = feedTick ρ k a
+
+-- Dispatches in a row too: those that went on, and then the last, where fewer went on than were asked for.
+unfoldable pub feedDispatches : Row → (times wentOn : ℕ) → Dispatch → Option Row
+feedDispatches ρ zero zero d = cond (dispatchGoesOn d) (some ρ) nothing
+feedDispatches ρ zero (suc m) d = nothing
+feedDispatches ρ (suc n) zero d = cond (dispatchGoesOn d) nothing (feedDispatch ρ d)
+feedDispatches ρ (suc n) (suc m) d = bind (feedDispatch ρ (Answered Going)) (λ ρ′. feedDispatches ρ′ n m d)
 
 -- 01: reading: the row's count and the row in order, or 12 exactly when the out slice is too short for it; never 3, 4
 -- or 11. 02: two words for a tag. 2026-12: of lane l its row, or 26 exactly when there is no such lane.
@@ -103,11 +140,11 @@ feedRead ρ l out (Reading-Refused n) written =
 
 abbrev pub feed : Row → (c : Call) → Given c → Option Row
 feed ρ (start-call S T g lanes) r = feedStart ρ T lanes r
-feed ρ (begin-call k l op side argument) r =
-    feedBegin ρ k (record { lane = l; operation = operationOf op; side = sideOf side; argument = number argument }) r
+feed ρ (begin-call k l op side argument) r = feedBegin ρ k l op side argument r
 feed ρ (tick-call k h) a = feedTick ρ k a
 feed ρ (ticks-call k h times) a = feedTicks ρ k times a
 feed ρ (dispatch-call h) a = feedDispatch ρ a
+feed ρ (dispatches-call h times) r = feedDispatches ρ times (r .1) (r .0)
 feed ρ (run-call list answers) r = feedRun ρ (r .0 .made) list (r .1)
 feed ρ (panel-call list answers) r = feedRun ρ (r .0 .made) list (r .1)
 feed ρ (read-call l out) r = feedRead ρ l out (r .0) (r .1)
@@ -125,7 +162,7 @@ afterTicks (suc i) [] ws = ws
 afterTicks (suc i) (k ∷ []) ws = ws
 afterTicks (suc i) (k ∷ h ∷ list) ws = afterTicks i list (tickOn ws k h .words)
 
--- After every tick made of a list, the lane is the row fed the words so far that were written for it.
+-- After every tick made of a list, each lane is its row, fed the words so far that were written for it.
 abbrev pub WithinList : (list ws : List ℕ) → Row → RunDone → Type 0
 WithinList list ws ρ r =
     (i : ℕ)
@@ -139,11 +176,21 @@ WithinTicks k h times ws ρ =
     → i ≤ times
     → (ρᵢ : Row) × (feedTicks ρ k i (ticks i ws k h .answer) ≡ some ρᵢ) × LanesAre (ticks i ws k h .words) ρᵢ
 
+-- And of dispatches in a row.
+abbrev pub WithinDispatches : (hint times : ℕ) → List ℕ → Row → Type 0
+WithinDispatches h times ws ρ =
+    (i : ℕ)
+    → i ≤ times
+    → (ρᵢ : Row)
+    × (feedDispatches ρ i (wentOn i ws h) (dispatches i ws h .answer) ≡ some ρᵢ)
+    × LanesAre (dispatches i ws h .words) ρᵢ
+
 -- The same, inside a call.
 abbrev pub Within : (c : Call) → List ℕ → Row → Type 0
 Within (run-call list answers) ws ρ = WithinList list ws ρ (run ws list answers)
 Within (panel-call list answers) ws ρ = WithinList list ws ρ (panel ws list answers)
 Within (ticks-call k h times) ws ρ = WithinTicks k h times ws ρ
+Within (dispatches-call h times) ws ρ = WithinDispatches h times ws ρ
 Within (start-call S T g lanes) ws ρ = Unit {0}
 Within (begin-call k l op side argument) ws ρ = Unit {0}
 Within (tick-call k h) ws ρ = Unit {0}

@@ -18,6 +18,7 @@ use Rattle.machine.specs.Demand3.{
   tick-call,
   ticks-call,
   dispatch-call,
+  dispatches-call,
   run-call,
   panel-call,
   read-call,
@@ -94,6 +95,7 @@ startedRow (begin-call k l op side argument) r = nothing
 startedRow (tick-call k h) r = nothing
 startedRow (ticks-call k h times) r = nothing
 startedRow (dispatch-call h) r = nothing
+startedRow (dispatches-call h times) r = nothing
 startedRow (run-call list answers) r = nothing
 startedRow (panel-call list answers) r = nothing
 startedRow (read-call l out) r = nothing

@@ -3,7 +3,7 @@ use mathlib.Core.Path.{_≡_}
 use mathlib.Core.Bool.{true, false}
 use mathlib.Core.List.{List, [], _∷_}
 use mathlib.Core.Option.{Option, some, none as nothing}
-use Prim.Native.Nat.{ℕ, zero, suc, _≤_, _<_}
+use Prim.Native.Nat.{ℕ, zero, suc, _+_, _≤_, _<_}
 use Rattle.machine.specs.declared.Dispatch.the-variants.{Answered}
 use Rattle.machine.specs.declared.Stored.{Stored}
 use Rattle.machine.specs.Sides.{left, sideNumber}
@@ -20,6 +20,8 @@ use Rattle.machine.specs.Calls.{
   isBusyTask,
   Dispatched,
   dispatch,
+  dispatches,
+  dispatchesMade,
   run,
   panel,
 }
@@ -30,6 +32,7 @@ use Rattle.machine.specs.Demand3.{
   tick-call,
   ticks-call,
   dispatch-call,
+  dispatches-call,
   run-call,
   panel-call,
   read-call,
@@ -54,28 +57,39 @@ OthersLeaveDispatched = (ws : List ℕ) → tableRefusal ws nothing ≡ nothing 
 
 -- ---- Lists of calls with dispatches in them.
 
--- The hint of a call that is a dispatch.
-abbrev pub dispatchHint : Call → Option ℕ
-dispatchHint (dispatch-call h) = some h
-dispatchHint (start-call S T g lanes) = nothing
-dispatchHint (begin-call k l op side argument) = nothing
-dispatchHint (tick-call k h) = nothing
-dispatchHint (ticks-call k h times) = nothing
-dispatchHint (run-call list answers) = nothing
-dispatchHint (panel-call list answers) = nothing
-dispatchHint (read-call l out) = nothing
+-- Dispatches in a row: their hint, and how many are asked for.
+pub record InRow : Type 0 where
+  pub hint : ℕ
+  pub times : ℕ
 
--- How many dispatches there are.
-abbrev pub dispatches : List Call → ℕ
-dispatches [] = 0
-dispatches (c ∷ cs) =
-    elim (dispatchHint c) as (λ _. ℕ) [ some h ↦ suc (dispatches cs) | nothing ↦ dispatches cs ]
+-- Those that a call asks for, where it asks for dispatches; a dispatch is one in a row.
+abbrev pub dispatchesOf : Call → Option InRow
+dispatchesOf (dispatch-call h) = some (record { hint = h; times = 1 })
+dispatchesOf (dispatches-call h times) = some (record { hint = h; times = times })
+dispatchesOf (start-call S T g lanes) = nothing
+dispatchesOf (begin-call k l op side argument) = nothing
+dispatchesOf (tick-call k h) = nothing
+dispatchesOf (ticks-call k h times) = nothing
+dispatchesOf (run-call list answers) = nothing
+dispatchesOf (panel-call list answers) = nothing
+dispatchesOf (read-call l out) = nothing
 
--- 02: "provided none is refused".
+-- How many dispatches a call makes, and a list of calls.
+abbrev pub madeBy : Call → List ℕ → ℕ
+madeBy c ws =
+    elim (dispatchesOf c) as (λ _. ℕ) [ some d ↦ dispatchesMade (d .times) ws (d .hint) | nothing ↦ 0 ]
+
+abbrev pub dispatchCount : List Call → List ℕ → ℕ
+dispatchCount [] ws = 0
+dispatchCount (c ∷ cs) ws = madeBy c ws + dispatchCount cs (after c ws)
+
+-- 02: "provided none is refused". Of dispatches in a row only the last can be.
 abbrev pub NoneRefused : List Call → List ℕ → Type 0
 NoneRefused [] ws = Unit {0}
 NoneRefused (c ∷ cs) ws =
-    ((h : ℕ) → dispatchHint c ≡ some h → dispatchRefusalOf (dispatch ws h .answer) ≡ nothing)
+    ((d : InRow)
+    → dispatchesOf c ≡ some d
+    → dispatchRefusalOf (dispatches (d .times) ws (d .hint) .answer) ≡ nothing)
     × NoneRefused cs (after c ws)
 
 -- What a dispatch did is the tick of task k, made; and k is the task last dispatched.
@@ -84,14 +98,20 @@ pub record IsTickOf (k hint : ℕ) (ws : List ℕ) (done : Dispatched) : Type 0 
   pub same-answer : done .answer ≡ Answered (tick ws k hint .answer)
   pub same-words : done .words ≡ setDispatched k (tick ws k hint .words)
 
+-- A dispatch of a call ticks task k: one of those made, on the table that the dispatches before it left.
+pub record TicksTask (k : ℕ) (c : Call) (ws : List ℕ) : Type 0 where
+  pub row : InRow
+  pub asked : dispatchesOf c ≡ some row
+  pub place : ℕ
+  pub is-made : place < dispatchesMade (row .times) ws (row .hint)
+  pub is-tick :
+      let vs = dispatches place ws (row .hint) .words in IsTickOf k (row .hint) vs (dispatch vs (row .hint))
+
 -- ---- The claim, for a task that stays busy.
 
 -- Some dispatch of the list ticks task k.
 pub data GetsTick (k : ℕ) : List Call → List ℕ → Type 0 where
-  ticks-it :
-      {cs : List Call} {ws : List ℕ} (h : ℕ)
-      → IsTickOf k h ws (dispatch ws h)
-      → GetsTick k (dispatch-call h ∷ cs) ws
+  ticks-it : {cs : List Call} {ws : List ℕ} (c : Call) → TicksTask k c ws → GetsTick k (c ∷ cs) ws
   after-it : {cs : List Call} {ws : List ℕ} (c : Call) → GetsTick k cs (after c ws) → GetsTick k (c ∷ cs) ws
 
 -- Task k is busy before every call of the list.
@@ -108,7 +128,7 @@ Fair =
     → (k : ℕ) (calls : List Call)
     → BusyThroughout k calls ws
     → NoneRefused calls ws
-    → taskCount ws ≤ dispatches calls
+    → taskCount ws ≤ dispatchCount calls ws
     → GetsTick k calls ws
 
 -- ---- The same for every list: the task gets its tick, or another call ends it first.
@@ -116,15 +136,12 @@ Fair =
 -- What becomes of a busy task k: a dispatch ticks it; or, while dispatches are still to come, a call that is no
 -- dispatch ends the task's call.
 pub data Outcome (k : ℕ) : List Call → List ℕ → Type 0 where
-  gets-tick :
-      {cs : List Call} {ws : List ℕ} (h : ℕ)
-      → IsTickOf k h ws (dispatch ws h)
-      → Outcome k (dispatch-call h ∷ cs) ws
+  gets-tick : {cs : List Call} {ws : List ℕ} (c : Call) → TicksTask k c ws → Outcome k (c ∷ cs) ws
   ends-first :
       {cs : List Call} {ws : List ℕ} (c : Call)
-      → dispatchHint c ≡ nothing
+      → dispatchesOf c ≡ nothing
       → isBusyTask (after c ws) k ≡ false
-      → 0 < dispatches cs
+      → 0 < dispatchCount cs (after c ws)
       → Outcome k (c ∷ cs) ws
   still-busy :
       {cs : List Call} {ws : List ℕ} (c : Call)
@@ -141,7 +158,7 @@ FairUnlessEnded =
     → isBusyTask ws k ≡ true
     → (calls : List Call)
     → NoneRefused calls ws
-    → taskCount ws ≤ dispatches calls
+    → taskCount ws ≤ dispatchCount calls ws
     → Outcome k calls ws
 
 -- ---- T - 1 dispatches are not enough.

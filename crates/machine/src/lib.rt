@@ -46,7 +46,7 @@ pub enum Reply {
     Refused(u32),
 }
 
-// What reading the lane answers: how many bags it wrote, or the refusal.
+// What reading a lane answers: how many bags it wrote, or the refusal.
 pub enum Reading {
     Count(u32),
     Refused(u32),

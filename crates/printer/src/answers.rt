@@ -43,7 +43,7 @@ pub fn print_answer(answer: Answer, out: &mut [u8], at: usize) -> usize
     }
 }
 
-// What reading the lane answers. The tags that it counted are the first of those in the words.
+// What reading a lane answers. The tags that it counted are the first of those in the words.
 pub fn print_reading(reading: Reading, words: &[u32], out: &mut [u8], at: usize) -> usize
     requires { ⌜ 2 * readingCount reading ≤ length (now words) ⌝ }
     requires { ⌜ at + roomFor (readingCount reading) ≤ length (now out) ⌝ }

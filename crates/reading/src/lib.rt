@@ -1,4 +1,4 @@
-// The walk along R, for every call that reads the lane; and the call read, on any slices, which counts the bags by that
+// The walk along R, for every call that reads a lane; and the call read, on any slices, which counts the bags by that
 // walk and then writes them. A refusal changes no lent word.
 use layout::nodes;
 use layout::places::HEADER;

@@ -39,7 +39,7 @@ use Rattle.machine.specs.Row.{
   feedIdle,
   feedDispatch,
 }
-use Rattle.machine.specs.Demand3.{feedTick}
+use Rattle.machine.specs.Demand3.{feedTick, feedDispatches}
 use Rattle.machine.specs.Calls.{
   times,
   startWords,
@@ -53,6 +53,8 @@ use Rattle.machine.specs.Calls.{
   dispatchTo,
   dispatchOn,
   dispatch,
+  dispatches,
+  wentOn,
   runOn,
   run,
   panel,
@@ -72,7 +74,9 @@ use Rattle.refuted.specs.Machines.{
   tickOnBy,
   tickBy,
   ticksBy,
+  turnsInRow,
   dispatchBy,
+  dispatchesBy,
   runOnBy,
   runBy,
   panelBy,
@@ -80,7 +84,17 @@ use Rattle.refuted.specs.Machines.{
 }
 use Rattle.refuted.specs.Wrong.{wholeOn, touchesNothing, heldFromBy, leftwards, toRefusal, isArgument, turned}
 use Rattle.refuted.specs.WrongLanes.{onLanes, isBegunOn}
-use Rattle.refuted.specs.Judged.{passes, madeBy, byRow, byDefinitions, afterAllBy, goingAlone, freeBelow}
+use Rattle.refuted.specs.WrongInRow.{toIdle}
+use Rattle.refuted.specs.Judged.{
+  passes,
+  madeBy,
+  byRow,
+  byDefinitions,
+  afterAllBy,
+  goingAlone,
+  dispatchesToIdle,
+  freeBelow,
+}
 use Rattle.refuted.specs.Lists.{
   Entry,
   entries,
@@ -90,6 +104,7 @@ use Rattle.refuted.specs.Lists.{
   expected,
   AllRefuted,
   Spins,
+  NeverDrains,
   Leaks,
   Doubles,
 }
@@ -138,7 +153,8 @@ all-failing (e ∷ es) sized =
 
 pub all-refuted : AllRefuted
 unfolding failing allSized madeBy byRow byDefinitions onLanes isBegunOn wholeOn touchesNothing heldFromBy leftwards
-    toRefusal isArgument turned beginBy tickOnBy inRow ticksBy ticks dispatchToBy dispatchChoosing dispatchBy
+    toRefusal toIdle isArgument turned beginBy tickOnBy inRow ticksBy ticks dispatchToBy dispatchChoosing dispatchBy
+    turnsInRow dispatchesBy dispatches wentOn feedDispatches
     firstFrom feedDispatched feedIdle feedDispatch dispatchTo dispatchOn dispatch tickBy runOnBy runBy panelBy
     tablesBy feedTick pushAnswered popAnswered sizeAnswered feedMade feedRun bind plainAnswerOf answerOf ℕ-discrete
     decLt decLe Value-discrete decode stepIn stepOf isStepIn hat link value task allBelow sameWords nodeOk busyOk
@@ -158,6 +174,14 @@ unfolding goingAlone afterAllBy beginBy tickOnBy tickBy ℕ-discrete decLt decLe
     markAll visit visitFrom marked firstUnmarked allocate writeAll dcas act times startNodes startWords start begin
     effectOf applied tickOn tick isBegun laneFrom lane lanesBelow bind
 spins = (refl, refl)
+
+pub never-drains : NeverDrains
+unfolding dispatchesToIdle afterAllBy beginBy tickOnBy tickBy dispatchToBy dispatchChoosing dispatchBy firstFrom
+    dispatchTo dispatchOn dispatch ℕ-discrete decLt decLe Value-discrete decode stepIn stepOf isStepIn hat link value
+    task allBelow sameWords nodeOk busyOk recordOk shapeOk hatsFrom heldFrom roots mark markAll visit visitFrom marked
+    firstUnmarked allocate writeAll dcas act times startNodes startWords start begin effectOf applied tickOn tick
+    isBegun laneFrom lane lanesBelow bind
+never-drains = (refl, refl)
 
 pub leaks : Leaks
 unfolding freeBelow afterAllBy beginBy tickOnBy tickBy ℕ-discrete decLt decLe Value-discrete decode stepIn stepOf

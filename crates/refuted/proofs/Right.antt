@@ -1,6 +1,6 @@
 -- The calls over the right machine are those of the definitions.
 use mathlib.Core.Path.{_≡_, refl, ap, _∙_, fun-ext}
-use mathlib.Core.Bool.{true, false}
+use mathlib.Core.Bool.{Bool, true, false}
 use mathlib.Core.List.{List, [], _∷_}
 use mathlib.Core.Option.{Option, some, none as nothing}
 use Prim.Native.Nat.{ℕ, zero, suc}
@@ -9,7 +9,7 @@ use Rattle.machine.specs.declared.Answer.the-variants.{Refused}
 use Rattle.machine.specs.declared.Stored.{Stored}
 use Rattle.machine.specs.Allocate.{allocate}
 use Rattle.machine.specs.Lines.{act}
-use Rattle.machine.specs.Answers.{answerLength, refusalOf, isGoing}
+use Rattle.machine.specs.Answers.{answerLength, refusalOf, isGoing, dispatchGoesOn}
 use Rattle.machine.specs.Calls.{
   tableRefusal,
   runRefusal,
@@ -22,7 +22,10 @@ use Rattle.machine.specs.Calls.{
   ticks,
   dispatchTo,
   dispatchOn,
+  Dispatched,
   dispatch,
+  dispatches,
+  wentOn,
   RunDone,
   afterTick,
   stopped,
@@ -38,6 +41,7 @@ use Rattle.machine.specs.Demand3.{
   tick-call,
   ticks-call,
   dispatch-call,
+  dispatches-call,
   run-call,
   panel-call,
   read-call,
@@ -53,7 +57,11 @@ use Rattle.refuted.specs.Machines.{
   inRow,
   tickBy,
   ticksBy,
+  Turns,
+  RowDone,
+  turnsInRow,
   dispatchBy,
+  dispatchesBy,
   runOnBy,
   testedBy,
   runBy,
@@ -94,6 +102,32 @@ same-ticks n ws k h =
 pub same-dispatch : (ws : List ℕ) (h : ℕ) → dispatchBy rightMachine ws h ≡ dispatch ws h
 unfolding dispatchBy dispatchChoosing dispatchToBy dispatch dispatchOn dispatchTo tickOnBy tickOn effectOf
 same-dispatch ws h = refl
+
+-- Dispatches in a row, with how many went on.
+abbrev pub rowOf : (n : ℕ) (ws : List ℕ) (h : ℕ) → RowDone
+rowOf n ws h = record { last = dispatches n ws h; wentOn = wentOn n ws h }
+
+row-of-dispatches : (n : ℕ) (ws : List ℕ) (h : ℕ) → turnsInRow dispatch n ws h ≡ rowOf n ws h
+unfolding turnsInRow dispatches wentOn
+row-of-dispatches zero ws h = refl
+row-of-dispatches (suc n) ws h =
+    go (dispatchGoesOn (dispatch ws h .answer)) refl (row-of-dispatches n (dispatch ws h .words) h)
+  where
+    vs : List ℕ
+    vs = dispatch ws h .words
+
+    go : (b : Bool) → dispatchGoesOn (dispatch ws h .answer) ≡ b → turnsInRow dispatch n vs h ≡ rowOf n vs h
+        → turnsInRow dispatch (suc n) ws h ≡ rowOf (suc n) ws h
+    go true e others =
+        rw (e, turnsInRow, dispatches, wentOn)
+        (ap (λ (r : RowDone). record { last = r .last; wentOn = suc (r .wentOn) }) others)
+    go false e others = rw (e, turnsInRow, dispatches, wentOn)
+
+pub same-dispatches : (n : ℕ) (ws : List ℕ) (h : ℕ) → dispatchesBy rightMachine n ws h ≡ rowOf n ws h
+unfolding dispatchesBy
+same-dispatches n ws h =
+    ap (λ (one : Turns). turnsInRow one n ws h) (fun-ext (λ vs. fun-ext (λ i. same-dispatch vs i)))
+    ∙ row-of-dispatches n ws h
 
 pub same-begin : (ws : List ℕ) (k l op side : ℕ) (argument : Stored)
     → beginBy rightMachine ws k l op side argument ≡ begin ws k l op side argument
@@ -138,6 +172,7 @@ right-gives (begin-call k l op side argument) ws = ap (λ c. c .reply) (same-beg
 right-gives (tick-call k h) ws = ap (λ one. one .answer) (same-tick ws k h)
 right-gives (ticks-call k h times) ws = ap (λ one. one .answer) (same-ticks times ws k h)
 right-gives (dispatch-call h) ws = ap (λ d. d .answer) (same-dispatch ws h)
+right-gives (dispatches-call h times) ws = ap (λ r. (r .last .answer, r .wentOn)) (same-dispatches times ws h)
 right-gives (run-call list answers) ws = ap (λ r. (r .ran, r .answers)) (same-run ws list answers)
 right-gives (panel-call list answers) ws = ap (λ r. (r .ran, r .answers)) (same-panel ws list answers)
 right-gives (read-call l out) ws = refl
@@ -148,6 +183,7 @@ right-leaves (begin-call k l op side argument) ws = ap (λ c. c .words) (same-be
 right-leaves (tick-call k h) ws = ap (λ one. one .words) (same-tick ws k h)
 right-leaves (ticks-call k h times) ws = ap (λ one. one .words) (same-ticks times ws k h)
 right-leaves (dispatch-call h) ws = ap (λ d. d .words) (same-dispatch ws h)
+right-leaves (dispatches-call h times) ws = ap (λ r. r .last .words) (same-dispatches times ws h)
 right-leaves (run-call list answers) ws = ap (λ r. r .words) (same-run ws list answers)
 right-leaves (panel-call list answers) ws = ap (λ r. r .words) (same-panel ws list answers)
 right-leaves (read-call l out) ws = refl

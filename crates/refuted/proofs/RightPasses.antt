@@ -7,6 +7,7 @@ use Prim.Native.Nat.{ℕ, zero, suc}
 use lib.ListN.{getD}
 use native.Mathlib.Omega.{arith}
 use borrow.Author.Tests.{eq-eqb}
+use Rattle.machine.specs.declared.Dispatch.{Dispatch}
 use Rattle.machine.specs.declared.Reply.the-variants.{Accepted}
 use Rattle.machine.specs.declared.Ran.{Ran}
 use Rattle.machine.specs.declared.Reading.{Reading}
@@ -29,6 +30,7 @@ use Rattle.machine.specs.Demand3.{
   tick-call,
   ticks-call,
   dispatch-call,
+  dispatches-call,
   run-call,
   panel-call,
   read-call,
@@ -36,11 +38,13 @@ use Rattle.machine.specs.Demand3.{
   given,
   after,
   feedTicks,
+  feedDispatches,
   feed,
   LanesAre,
   afterTicks,
   WithinList,
   WithinTicks,
+  WithinDispatches,
   Within,
   Explained,
 }
@@ -49,7 +53,7 @@ use Rattle.machine.proofs.Shape.ShapeLaws.{all-below}
 use Rattle.machine.proofs.Words.RecordLaws.{same-words-refl}
 use Rattle.machine.proofs.Linearizability.Theorem.{demand3}
 use Rattle.machine.proofs.Linearizability.Histories.{bound}
-use Rattle.refuted.specs.Machines.{rightMachine, tablesBy, givenBy, afterBy}
+use Rattle.refuted.specs.Machines.{rightMachine, RowDone, tablesBy, givenBy, afterBy}
 use Rattle.refuted.specs.Judged.{
   Verdict,
   passes,
@@ -62,8 +66,10 @@ use Rattle.refuted.specs.Judged.{
   sameLanes,
   sameWithinList,
   sameWithinTicks,
+  sameWithinDispatches,
   sameWithin,
   byRow,
+  sameDispatch,
   sameRan,
   sameReading,
   sameGiven,
@@ -72,6 +78,7 @@ use Rattle.refuted.specs.Judged.{
 use Rattle.refuted.proofs.Right.{
   same-tick-on,
   same-ticks,
+  same-dispatches,
   same-run,
   same-panel,
   right-gives,
@@ -123,6 +130,16 @@ within-ticks k h times ws ρ W =
     same-lanes _ (w .0) (subst (λ (r : Ticked). LanesAre (r .words) (w .0)) (sym same) (w .2))
     (ap (λ (r : Ticked). feedTicks ρ k i (r .answer)) same ∙ w .1))
 
+within-dispatches : (h times : ℕ) (ws : List ℕ) (ρ : Row)
+    → WithinDispatches h times ws ρ
+    → sameWithinDispatches rightMachine h times ws ρ ≡ true
+within-dispatches h times ws ρ W =
+    all-below (suc times) _ (λ i l.
+    let w = W i (omega arith) in
+    let same = same-dispatches i ws h in
+    same-lanes _ (w .0) (subst (λ (r : RowDone). LanesAre (r .last .words) (w .0)) (sym same) (w .2))
+    (ap (λ (r : RowDone). feedDispatches ρ i (r .wentOn) (r .last .answer)) same ∙ w .1))
+
 within-same : (c : Call) (ws : List ℕ) (ρ : Row) → Within c ws ρ → sameWithin rightMachine c ws ρ ≡ true
 within-same (run-call list answers) ws ρ W =
     ap (λ (r : RunDone). sameWithinList rightMachine list ws ρ r) (same-run ws list answers)
@@ -131,6 +148,7 @@ within-same (panel-call list answers) ws ρ W =
     ap (λ (r : RunDone). sameWithinList rightMachine list ws ρ r) (same-panel ws list answers)
     ∙ within-list list ws ρ (panel ws list answers) W
 within-same (ticks-call k h times) ws ρ W = within-ticks k h times ws ρ W
+within-same (dispatches-call h times) ws ρ W = within-dispatches h times ws ρ W
 within-same (start-call S T g lanes) ws ρ W = refl
 within-same (begin-call k l op side argument) ws ρ W = refl
 within-same (tick-call k h) ws ρ W = refl
@@ -188,14 +206,18 @@ same-reading (Refused n) = eq-eqb n n refl
 same-ran : (r : Ran) (l : List ℕ) → sameRan r r && sameWords l l ≡ true
 same-ran r l = rw (eq-eqb (r .made) (r .made) refl, eq-eqb (r .refusal) (r .refusal) refl) (same-words-refl l)
 
+same-turn : (d : Dispatch) → sameDispatch d d ≡ true
+same-turn d =
+    rw (eq-eqb (dispatchKindOf d) (dispatchKindOf d) refl)
+    (eq-eqb (dispatchPayloadOf d) (dispatchPayloadOf d) refl)
+
 same-given : (c : Call) (r : Given c) → sameGiven c r r ≡ true
 same-given (start-call S T g lanes) r = eq-eqb (replyNumber r) (replyNumber r) refl
 same-given (begin-call k l op side argument) r = eq-eqb (replyNumber r) (replyNumber r) refl
 same-given (tick-call k h) r = rw (eq-eqb (kindOf r) (kindOf r) refl) (eq-eqb (payloadOf r) (payloadOf r) refl)
 same-given (ticks-call k h times) r = rw (eq-eqb (kindOf r) (kindOf r) refl) (eq-eqb (payloadOf r) (payloadOf r) refl)
-same-given (dispatch-call h) r =
-    rw (eq-eqb (dispatchKindOf r) (dispatchKindOf r) refl)
-    (eq-eqb (dispatchPayloadOf r) (dispatchPayloadOf r) refl)
+same-given (dispatch-call h) r = same-turn r
+same-given (dispatches-call h times) r = rw (same-turn (r .0)) (eq-eqb (r .1) (r .1) refl)
 same-given (run-call list answers) r = same-ran (r .0) (r .1)
 same-given (panel-call list answers) r = same-ran (r .0) (r .1)
 same-given (read-call l out) r = rw (same-reading (r .0)) (same-words-refl (r .1))

@@ -7,6 +7,7 @@ use lib.Dec.{eqb}
 use lib.ListN.{getD}
 use Rattle.machine.specs.declared.Answer.{Answer}
 use Rattle.machine.specs.declared.Dispatch.{Dispatch}
+use Rattle.machine.specs.declared.Dispatch.the-variants.{Idle, Answered}
 use Rattle.machine.specs.declared.Ran.{Ran}
 use Rattle.machine.specs.declared.Reading.{Reading}
 use Rattle.machine.specs.declared.Reading.the-variants.{Count, Refused as Reading-Refused}
@@ -22,6 +23,7 @@ use Rattle.machine.specs.Demand3.{
   tick-call,
   ticks-call,
   dispatch-call,
+  dispatches-call,
   run-call,
   panel-call,
   read-call,
@@ -29,9 +31,20 @@ use Rattle.machine.specs.Demand3.{
   given,
   after,
   feedTicks,
+  feedDispatches,
   feed,
 }
-use Rattle.refuted.specs.Machines.{Machine, ticksBy, runBy, panelBy, givenBy, afterBy, tablesBy}
+use Rattle.refuted.specs.Machines.{
+  Machine,
+  ticksBy,
+  dispatchBy,
+  dispatchesBy,
+  runBy,
+  panelBy,
+  givenBy,
+  afterBy,
+  tablesBy,
+}
 
 -- A call is named by its number in the list, from 1.
 pub data Verdict : Type 0 where
@@ -74,10 +87,17 @@ sameWithinTicks M k h times ws ρ =
     allBelow (suc times) (λ i.
     let r = ticksBy M i ws k h in sameLanes (r .words) (feedTicks ρ k i (r .answer)))
 
+abbrev pub sameWithinDispatches : Machine → (hint times : ℕ) → List ℕ → Row → Bool
+sameWithinDispatches M h times ws ρ =
+    allBelow (suc times) (λ i.
+    let r = dispatchesBy M i ws h in
+    sameLanes (r .last .words) (feedDispatches ρ i (r .wentOn) (r .last .answer)))
+
 abbrev pub sameWithin : Machine → (c : Call) → List ℕ → Row → Bool
 sameWithin M (run-call list answers) ws ρ = sameWithinList M list ws ρ (runBy M ws list answers)
 sameWithin M (panel-call list answers) ws ρ = sameWithinList M list ws ρ (panelBy M ws list answers)
 sameWithin M (ticks-call k h times) ws ρ = sameWithinTicks M k h times ws ρ
+sameWithin M (dispatches-call h times) ws ρ = sameWithinDispatches M h times ws ρ
 sameWithin M (start-call S T g lanes) ws ρ = true
 sameWithin M (begin-call k l op side argument) ws ρ = true
 sameWithin M (tick-call k h) ws ρ = true
@@ -119,6 +139,7 @@ sameGiven (begin-call k l op side argument) r q = eqb (replyNumber r) (replyNumb
 sameGiven (tick-call k h) r q = sameAnswer r q
 sameGiven (ticks-call k h times) r q = sameAnswer r q
 sameGiven (dispatch-call h) r q = sameDispatch r q
+sameGiven (dispatches-call h times) r q = sameDispatch (r .0) (q .0) && eqb (r .1) (q .1)
 sameGiven (run-call list answers) r q = sameRan (r .0) (q .0) && sameWords (r .1) (q .1)
 sameGiven (panel-call list answers) r q = sameRan (r .0) (q .0) && sameWords (r .1) (q .1)
 sameGiven (read-call l out) r q = sameReading (r .0) (q .0) && sameWords (r .1) (q .1)
@@ -148,6 +169,13 @@ goingAlone M zero k ws = 0
 goingAlone M (suc n) k ws =
     let one = M .tickOn ws k 0 in
     elim (isGoing (one .answer)) as (λ _. ℕ) [ true ↦ suc (goingAlone M n k (one .words)) | false ↦ 0 ]
+
+-- How many of at most n dispatches, with hint 0, are not "idle" before one is.
+unfoldable pub dispatchesToIdle : Machine → (n : ℕ) → List ℕ → ℕ
+dispatchesToIdle M zero ws = 0
+dispatchesToIdle M (suc n) ws =
+    let one = dispatchBy M ws 0 in
+    elim (one .answer) as (λ _. ℕ) [ Idle ↦ 0 | Answered a ↦ suc (dispatchesToIdle M n (one .words)) ]
 
 -- How many of the first n nodes are free.
 unfoldable pub freeBelow : (n : ℕ) → Marking → ℕ

@@ -1,5 +1,6 @@
 pub mod Machines
 pub mod Wrong
 pub mod WrongLanes
+pub mod WrongInRow
 pub mod Judged
 pub mod Lists

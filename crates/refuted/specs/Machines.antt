@@ -1,6 +1,6 @@
 -- What a machine is: what its starts and reads do, what its ticks do, alone and in a row, what its runs report, which
--- lists its panel takes, what its begin refuses, what its dispatches do. The calls over any machine, and the right
--- one.
+-- lists its panel takes, what its begin refuses, what its dispatches do, alone and in a row. The calls over any machine,
+-- and the right one.
 use mathlib.Core.Bool.{true, false}
 use mathlib.Core.List.{List, [], _∷_}
 use mathlib.Core.Option.{Option, some, none as nothing}
@@ -17,7 +17,7 @@ use Rattle.machine.specs.Tasks.{Task, goal}
 use Rattle.machine.specs.Table.{growth, task, setDispatched, setTask}
 use Rattle.machine.specs.Allocate.{allocate}
 use Rattle.machine.specs.Lines.{Memory, Effect, seen, act}
-use Rattle.machine.specs.Answers.{answerLength, refusalOf, isGoing}
+use Rattle.machine.specs.Answers.{answerLength, refusalOf, isGoing, dispatchGoesOn}
 use Rattle.machine.specs.Calls.{
   tableRefusal,
   beginRefusal,
@@ -46,6 +46,7 @@ use Rattle.machine.specs.Demand3.{
   tick-call,
   ticks-call,
   dispatch-call,
+  dispatches-call,
   run-call,
   panel-call,
   read-call,
@@ -55,7 +56,16 @@ use Rattle.machine.specs.Demand3.{
 abbrev pub Ticks : Type 0
 Ticks = List ℕ → (k hint : ℕ) → Ticked
 
--- Ticks in a row and dispatches are made of the machine's own ticks.
+-- One dispatch.
+abbrev pub Turns : Type 0
+Turns = List ℕ → (hint : ℕ) → Dispatched
+
+-- What dispatches in a row come to: the last of them, and how many went on.
+pub record RowDone : Type 0 where
+  pub last : Dispatched
+  pub wentOn : ℕ
+
+-- Ticks in a row and dispatches are made of the machine's own ticks, dispatches in a row of its own dispatches.
 pub record Machine : Type 0 where
   pub starts : List ℕ → (S T growth lanes : ℕ) → Changed
   pub reads : List ℕ → (lane : ℕ) → (out : List ℕ) → ReadDone
@@ -65,7 +75,8 @@ pub record Machine : Type 0 where
   pub panelRefuses : (ws list answers : List ℕ) → Option ℕ
   pub panelTakes : (list : List ℕ) → List ℕ
   pub beginRefuses : List ℕ → (k lane operation side : ℕ) → (argument : Stored) → Option ℕ
-  pub dispatches : Ticks → List ℕ → (hint : ℕ) → Dispatched
+  pub dispatches : Ticks → Turns
+  pub dispatchesInRow : Turns → (times : ℕ) → List ℕ → (hint : ℕ) → RowDone
 
 -- ---- Ticks in a row, as in Calls.
 unfoldable pub inRow : Ticks → (times : ℕ) → Ticks
@@ -94,6 +105,17 @@ dispatchChoosing choice tickOn ws h =
           ]
     ]
 
+-- ---- Dispatches in a row, as in Calls.
+unfoldable pub turnsInRow : Turns → (times : ℕ) → List ℕ → (hint : ℕ) → RowDone
+turnsInRow turn zero ws h = record { last = record { answer = Answered Going; words = ws }; wentOn = 0 }
+turnsInRow turn (suc n) ws h =
+    let one = turn ws h in
+    let others = turnsInRow turn n (one .words) h in
+    elim (dispatchGoesOn (one .answer)) as (λ _. RowDone) [
+      | true ↦ record { last = others .last; wentOn = suc (others .wentOn) }
+      | false ↦ record { last = one; wentOn = 0 }
+    ]
+
 -- A machine that is wrong in its ticks alone.
 abbrev pub byTicks : Ticks → Machine
 byTicks tickOn =
@@ -107,6 +129,7 @@ byTicks tickOn =
       panelTakes = λ list. list;
       beginRefuses = beginRefusal;
       dispatches = dispatchChoosing nextBusy;
+      dispatchesInRow = turnsInRow;
     }
 
 -- ---- A machine by what a line does and which node a take gives.
@@ -153,6 +176,9 @@ ticksBy M times ws k h = M .ticksInRow (tickBy M) times ws k h
 unfoldable pub dispatchBy : Machine → List ℕ → (hint : ℕ) → Dispatched
 dispatchBy M ws h = M .dispatches (M .tickOn) ws h
 
+unfoldable pub dispatchesBy : Machine → (times : ℕ) → List ℕ → (hint : ℕ) → RowDone
+dispatchesBy M times ws h = M .dispatchesInRow (dispatchBy M) times ws h
+
 unfoldable pub runOnBy : Machine → (list : List ℕ) (ws answers : List ℕ) → RunDone
 runOnBy M [] ws answers = stopped 0 ws answers
 runOnBy M (k ∷ []) ws answers = stopped 0 ws answers
@@ -180,6 +206,8 @@ givenBy M (begin-call k l op side argument) ws = beginBy M ws k l op side argume
 givenBy M (tick-call k h) ws = tickBy M ws k h .answer
 givenBy M (ticks-call k h times) ws = ticksBy M times ws k h .answer
 givenBy M (dispatch-call h) ws = dispatchBy M ws h .answer
+givenBy M (dispatches-call h times) ws =
+    let done = dispatchesBy M times ws h in (done .last .answer, done .wentOn)
 givenBy M (run-call list answers) ws = (runBy M ws list answers .ran, runBy M ws list answers .answers)
 givenBy M (panel-call list answers) ws = (panelBy M ws list answers .ran, panelBy M ws list answers .answers)
 givenBy M (read-call l out) ws = (M .reads ws l out .reading, M .reads ws l out .out)
@@ -190,6 +218,7 @@ afterBy M (begin-call k l op side argument) ws = beginBy M ws k l op side argume
 afterBy M (tick-call k h) ws = tickBy M ws k h .words
 afterBy M (ticks-call k h times) ws = ticksBy M times ws k h .words
 afterBy M (dispatch-call h) ws = dispatchBy M ws h .words
+afterBy M (dispatches-call h times) ws = dispatchesBy M times ws h .last .words
 afterBy M (run-call list answers) ws = runBy M ws list answers .words
 afterBy M (panel-call list answers) ws = panelBy M ws list answers .words
 afterBy M (read-call l out) ws = ws

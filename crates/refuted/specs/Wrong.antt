@@ -127,6 +127,7 @@ use Rattle.refuted.specs.Machines.{
   Ticks,
   Machine,
   inRow,
+  Turns,
   dispatchChoosing,
   Line,
   Take,
@@ -445,6 +446,7 @@ withReports reports =
       panelTakes = rightMachine .panelTakes;
       beginRefuses = rightMachine .beginRefuses;
       dispatches = rightMachine .dispatches;
+      dispatchesInRow = rightMachine .dispatchesInRow;
     }
 
 abbrev pub reportsUnmadeTick : Machine
@@ -465,6 +467,7 @@ withInRow ticksInRow =
       panelTakes = rightMachine .panelTakes;
       beginRefuses = rightMachine .beginRefuses;
       dispatches = rightMachine .dispatches;
+      dispatchesInRow = rightMachine .dispatchesInRow;
     }
 
 -- One tick more is made.
@@ -499,6 +502,7 @@ withPanel refuses takes =
       panelTakes = takes;
       beginRefuses = rightMachine .beginRefuses;
       dispatches = rightMachine .dispatches;
+      dispatchesInRow = rightMachine .dispatchesInRow;
     }
 
 abbrev pub overLong : (list : List ℕ) → Option ℕ → Option ℕ
@@ -542,6 +546,7 @@ withRefusal ticks refuses =
       panelTakes = rightMachine .panelTakes;
       beginRefuses = refuses;
       dispatches = rightMachine .dispatches;
+      dispatchesInRow = rightMachine .dispatchesInRow;
     }
 
 -- What a begin of task k on a lane tests after 7, of an operation and its argument.
@@ -698,6 +703,10 @@ takesDigitTen =
     cond (isPush (operationOf op) && eqb (number argument) 10_000_000_000) nothing
     (rightMachine .beginRefuses ws k l op side argument))
 
+-- ---- 01: 5, 6 and 7 at begin: no number is tested.
+abbrev pub takesAnyNumbers : Machine
+takesAnyNumbers = withRefusal (rightMachine .tickOn) (λ ws k l op side argument. tableRefusal ws nothing)
+
 -- ---- "... the run write two words for a tag, digit first": of n ticks it writes the digit last.
 unfoldable pub turned : (n : ℕ) → List ℕ → List ℕ
 turned zero l = l
@@ -713,7 +722,7 @@ runTurnsWords =
 -- ---- 2026-07: "A dispatcher ticks the next busy task after the one it last ticked, going round by task number".
 
 -- The right machine but for its dispatches, and for the task that they choose.
-abbrev pub withDispatch : (Ticks → List ℕ → (hint : ℕ) → Dispatched) → Machine
+abbrev pub withDispatch : (Ticks → Turns) → Machine
 withDispatch dispatches =
     record {
       starts = rightMachine .starts;
@@ -725,6 +734,7 @@ withDispatch dispatches =
       panelTakes = rightMachine .panelTakes;
       beginRefuses = rightMachine .beginRefuses;
       dispatches = dispatches;
+      dispatchesInRow = rightMachine .dispatchesInRow;
     }
 
 abbrev pub choosing : (List ℕ → Option ℕ) → Machine

@@ -4,7 +4,7 @@ use mathlib.Core.List.{List, _++_}
 use mathlib.Core.Option.{Option, some, none as nothing}
 use Prim.Native.Nat.{ℕ, zero, suc, _-_, _*_}
 use lib.Dec.{leb, ltb, eqb}
-use lib.ListN.{length}
+use lib.ListN.{length, take}
 use Rattle.machine.specs.declared.Answer.the-variants.{Refused}
 use Rattle.machine.specs.Choice.{_<?_, if_then_else_}
 use Rattle.machine.specs.Sides.{Side, opposite, sideNumber}
@@ -76,6 +76,7 @@ withRead reads =
       panelTakes = rightMachine .panelTakes;
       beginRefuses = rightMachine .beginRefuses;
       dispatches = rightMachine .dispatches;
+      dispatchesInRow = rightMachine .dispatchesInRow;
     }
 
 -- Every read is of lane 0.
@@ -130,6 +131,7 @@ withStart test words =
       panelTakes = rightMachine .panelTakes;
       beginRefuses = rightMachine .beginRefuses;
       dispatches = rightMachine .dispatches;
+      dispatchesInRow = rightMachine .dispatchesInRow;
     }
 
 -- 1 is tested before 25.
@@ -140,12 +142,14 @@ startTestsSizesFirst =
 -- Five lanes are taken.
 abbrev pub startTakesFiveLanes : Machine
 startTakesFiveLanes =
-    withStart (λ S T g lanes others. unless (leb lanes 5) 25 (unless (sizesOk S T g lanes) 1 others)) startWords
+    withStart (λ S T g lanes others. unless (leb 1 lanes && leb lanes 5) 25 (unless (sizesOk S T g lanes) 1 others)) startWords
 
--- One node fewer than twice the lanes is taken.
+-- One node fewer than twice the lanes is taken; what is written is cut to the slice.
 abbrev pub startTakesNodeLess : Machine
 startTakesNodeLess =
-    withStart (λ S T g lanes others. unless (lanesOk lanes) 25 (unless (sizesOk (suc S) T g lanes) 1 others)) startWords
+    withStart (λ S T g lanes others.
+    unless (lanesOk lanes) 25 (unless (sizesOk S T g lanes || sizesOk (suc S) T g lanes) 1 others))
+    (λ S T g lanes. take (tableLength S T) (startWords S T g lanes))
 
 -- The tests of a start.
 abbrev pub testsStart : (S T growth lanes : ℕ) → Option ℕ → Option ℕ

@@ -8,7 +8,7 @@ use lib.Dec.{ltb}
 use borrow.Author.Tests.{ltb-true}
 use Rattle.machine.specs.Shape.{WellFormed}
 use Rattle.machine.specs.Round.{nextAfter}
-use Rattle.machine.specs.Answers.{refusalOf, isGoing}
+use Rattle.machine.specs.Answers.{refusalOf, isGoing, dispatchGoesOn}
 use Rattle.machine.specs.declared.Dispatch.the-variants.{Answered}
 use Rattle.machine.specs.declared.Stored.{Stored}
 use Rattle.machine.specs.Choice.{_≟_, if_then_else_}
@@ -56,6 +56,8 @@ use Rattle.machine.specs.Calls.{
   dispatchTo,
   dispatchOn,
   dispatch,
+  dispatches,
+  wentOn,
   tested,
   run,
   panel,
@@ -77,6 +79,7 @@ use Rattle.machine.specs.Demand3.{
   tick-call,
   ticks-call,
   dispatch-call,
+  dispatches-call,
   run-call,
   panel-call,
   read-call,
@@ -90,6 +93,7 @@ use Rattle.machine.proofs.Words.Columns.{sizesOf, Columns, Sized, putDispatched
 use Rattle.machine.proofs.Words.TableLaws.{columns-setDispatched, columns-setTask}
 use Rattle.machine.proofs.Words.EffectLaws.{task-set-dispatched, task-set-task}
 use Rattle.machine.proofs.Words.RunLaws.{first-goes-on, first-is-last}
+use Rattle.machine.proofs.Words.DispatchLaws.{others-follow, one-went-on, none-follows, none-went-on}
 use Rattle.machine.proofs.Shape.ShapeLaws.{WellSized, well-sized}
 use Rattle.machine.proofs.Shape.TickKeeps.{busy-passes}
 use Rattle.machine.proofs.Shape.DispatchCases.{chosen-busy}
@@ -405,6 +409,43 @@ ticks-alike (suc n) k h {ws} {vs} A =
     go true e others = rw (first-goes-on n ws k h e, first-goes-on n vs k h (same ∙ e)) others
     go false e others = rw (first-is-last n ws k h e, first-is-last n vs k h (same ∙ e)) (tick-call-alike A k h)
 
+-- ---- Dispatches in a row.
+dispatches-alike : (n h : ℕ) {ws vs : List ℕ} → AlikeColumns ws vs
+    → (dispatches n vs h .answer ≡ dispatches n ws h .answer)
+    × (wentOn n vs h ≡ wentOn n ws h)
+    × AlikeColumns (dispatches n ws h .words) (dispatches n vs h .words)
+unfolding dispatches wentOn
+dispatches-alike zero h A = (refl, refl, A)
+dispatches-alike (suc n) h {ws} {vs} A =
+    go (dispatchGoesOn (dispatch ws h .answer)) refl (dispatches-alike n h (dispatch-alike A h .1))
+  where
+    same : dispatchGoesOn (dispatch vs h .answer) ≡ dispatchGoesOn (dispatch ws h .answer)
+    same = ap dispatchGoesOn (dispatch-alike A h .0)
+
+    go : (b : Bool) → dispatchGoesOn (dispatch ws h .answer) ≡ b
+        → (dispatches n (dispatch vs h .words) h .answer ≡ dispatches n (dispatch ws h .words) h .answer)
+        × (wentOn n (dispatch vs h .words) h ≡ wentOn n (dispatch ws h .words) h)
+        × AlikeColumns (dispatches n (dispatch ws h .words) h .words) (dispatches n (dispatch vs h .words) h .words)
+        → (dispatches (suc n) vs h .answer ≡ dispatches (suc n) ws h .answer)
+        × (wentOn (suc n) vs h ≡ wentOn (suc n) ws h)
+        × AlikeColumns (dispatches (suc n) ws h .words) (dispatches (suc n) vs h .words)
+    go true e others =
+        rw (
+          others-follow n ws h e,
+          others-follow n vs h (same ∙ e),
+          one-went-on n ws h e,
+          one-went-on n vs h (same ∙ e),
+        )
+        (others .0, ap suc (others .1), others .2)
+    go false e others =
+        rw (
+          none-follows n ws h e,
+          none-follows n vs h (same ∙ e),
+          none-went-on n ws h e,
+          none-went-on n vs h (same ∙ e),
+        )
+        (dispatch-alike A h .0, refl, dispatch-alike A h .1)
+
 -- ---- Every call has the same answer on both tables, and they differ only in registers that do not hold afterwards.
 pub call-alike : {ws vs : List ℕ} → AlikeColumns ws vs → (c : Call)
     → (given c vs ≡ given c ws) × AlikeColumns (after c ws) (after c vs)
@@ -413,6 +454,9 @@ call-alike A (begin-call k l op side argument) = begin-alike A k l op side argum
 call-alike A (tick-call k h) = tick-call-alike A k h
 call-alike A (ticks-call k h times) = ticks-alike times k h A
 call-alike A (dispatch-call h) = dispatch-alike A h
+call-alike A (dispatches-call h times) =
+    let R = dispatches-alike times h A in
+    (λ i. (R .0 i, R .1 i), R .2)
 call-alike A (run-call list answers) =
     let R = run-alike A list answers in
     (λ i. (R .same-ran i, R .same-answers i), R .words-alike)

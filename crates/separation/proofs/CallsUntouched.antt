@@ -1,9 +1,11 @@
 -- Every call leaves a lane as it is, unless it ticks a task that is in a call on it.
 use mathlib.Core.Path.{_≡_, refl, sym, ap, _∙_, subst}
 use mathlib.Core.Logic.{_≢_}
+use mathlib.Core.Bool.{Bool, true, false}
 use mathlib.Core.List.{List, [], _∷_}
 use mathlib.Core.Option.{Option, some, none as nothing}
-use Prim.Native.Nat.{ℕ, zero, suc}
+use Prim.Native.Nat.{ℕ, zero, suc, _<_}
+use native.Mathlib.Omega.{arith}
 use Rattle.machine.specs.declared.Reply.the-variants.{Accepted}
 use Rattle.machine.specs.declared.Stored.{Stored}
 use Rattle.machine.specs.Choice.{_≟_}
@@ -12,6 +14,7 @@ use Rattle.machine.specs.Values.{number}
 use Rattle.machine.specs.Operations.{operationOf}
 use Rattle.machine.specs.Tasks.{Task}
 use Rattle.machine.specs.Table.{task}
+use Rattle.machine.specs.Answers.{dispatchGoesOn}
 use Rattle.machine.specs.Calls.{
   isBusy,
   startRefusal,
@@ -23,9 +26,10 @@ use Rattle.machine.specs.Calls.{
   effectOf,
   tickOn,
   tick,
-  nextBusy,
   Dispatched,
   dispatch,
+  dispatches,
+  dispatchesMade,
   run,
   panel,
 }
@@ -36,14 +40,16 @@ use Rattle.machine.specs.Demand3.{
   tick-call,
   ticks-call,
   dispatch-call,
+  dispatches-call,
   run-call,
   panel-call,
   read-call,
   afterTicks,
 }
-use Rattle.machine.specs.Begun.{Begun}
+use Rattle.machine.specs.Begun.{Begun, by-call}
 use Rattle.machine.proofs.Basics.Contradiction.{refute}
 use Rattle.machine.proofs.Words.RunLaws.{kept-in-row}
+use Rattle.machine.proofs.Words.DispatchLaws.{others-follow, one-more-made, none-follows, one-made}
 use Rattle.machine.proofs.Words.TickLaws.{tick-stopped}
 use Rattle.machine.proofs.Shape.DispatchCases.{by-dispatch}
 use Rattle.machine.proofs.Linearizability.Model.Invariant.{Kept, goes-on, has-answered}
@@ -58,7 +64,7 @@ use Rattle.machine.proofs.Linearizability.Corollaries.{
   run-is-its-ticks,
   panel-is-its-ticks,
 }
-use Rattle.separation.specs.Apart.{SameLane, NotOn, NoneOn, CallsUntouched}
+use Rattle.separation.specs.Apart.{SameLane, NotOn, NoneOn, ChoosesOther, CallsUntouched}
 use Rattle.separation.proofs.BegunApart.{begin-stays}
 use Rattle.separation.proofs.Tables.{same-lane, lane-unchanged, others-same, dispatched-too, tick-stays}
 
@@ -142,7 +148,7 @@ begin-keeps {ws} B m k l op side argument =
     (rw (T .viewed-same right, T .tasks-then)
     (begin-stays k (T .was-fresh) l (operationOf op) (sideOf side) (number argument) m)))
 
-dispatch-keeps : {ws : List ℕ} → Begun ws → (m h : ℕ) → ((k : ℕ) → nextBusy ws ≡ some k → NotOn m ws k)
+dispatch-keeps : {ws : List ℕ} → Begun ws → (m h : ℕ) → ChoosesOther m ws
     → SameLane m ws (dispatch ws h .words)
 dispatch-keeps {ws} B m h not-on =
     let A = begun-agrees B .1 in
@@ -150,6 +156,30 @@ dispatch-keeps {ws} B m h not-on =
     by-dispatch ws (A .accepted) h (λ (r : Dispatched). SameLane m ws (r .words)) same (λ _. same) (λ k n _ _. same)
     (λ k is-next _ _.
     others-same (dispatched-too (ticked-sized A k h) k (tick-stays B k h)) .other-lanes m (not-on k is-next))
+
+dispatches-keep : (n : ℕ) {ws : List ℕ} → Begun ws → (m h : ℕ)
+    → ((i : ℕ) → i < dispatchesMade n ws h → ChoosesOther m (dispatches i ws h .words))
+    → SameLane m ws (dispatches n ws h .words)
+unfolding dispatches
+dispatches-keep zero {ws} B m h other = same-lane-refl m ws
+dispatches-keep (suc n) {ws} B m h other =
+    go (dispatchGoesOn (dispatch ws h .answer)) refl (dispatches-keep n (by-call B (dispatch-call h)) m h)
+  where
+    vs : List ℕ
+    vs = dispatch ws h .words
+
+    go : (b : Bool) → dispatchGoesOn (dispatch ws h .answer) ≡ b
+        → (((i : ℕ) → i < dispatchesMade n vs h → ChoosesOther m (dispatches i vs h .words))
+        → SameLane m vs (dispatches n vs h .words))
+        → SameLane m ws (dispatches (suc n) ws h .words)
+    go false e others =
+        rw (none-follows n ws h e) (dispatch-keeps B m h (other 0 (rw (one-made n ws h e) (omega arith))))
+    go true e others =
+        rw (others-follow n ws h e)
+        (then (dispatch-keeps B m h (other 0 (rw (one-more-made n ws h e) (omega arith))))
+        (others (λ i l.
+        subst (λ (r : Dispatched). ChoosesOther m (r .words)) (others-follow i ws h e)
+        (other (suc i) (rw (one-more-made n ws h e) (omega arith))))))
 
 pub calls-untouched : CallsUntouched
 calls-untouched ws B m (start-call S T g lanes) a = start-keeps m S T g lanes a
@@ -164,6 +194,7 @@ calls-untouched ws B m (ticks-call k h times) a =
     times ws (B, a, same-lane-refl m ws)
     .2
 calls-untouched ws B m (dispatch-call h) a = dispatch-keeps B m h a
+calls-untouched ws B m (dispatches-call h times) a = dispatches-keep times B m h a
 calls-untouched ws B m (run-call list answers) a =
     subst (SameLane m ws) (run-is-its-ticks ws list answers) (ticks-keep (run ws list answers .ran .made) list B m a)
 calls-untouched ws B m (panel-call list answers) a =

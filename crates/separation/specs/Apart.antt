@@ -15,7 +15,7 @@ use Rattle.machine.specs.Shape.{WellFormed}
 use Rattle.machine.specs.Registers.{holds}
 use Rattle.machine.specs.Reach.{Reachable}
 use Rattle.machine.specs.Lines.{Effect, seen, act}
-use Rattle.machine.specs.Calls.{isBusy, start, effectOf, tickOn, nextBusy}
+use Rattle.machine.specs.Calls.{isBusy, start, effectOf, tickOn, nextBusy, dispatches, dispatchesMade}
 use Rattle.machine.specs.Demand3.{
   Call,
   start-call,
@@ -23,6 +23,7 @@ use Rattle.machine.specs.Demand3.{
   tick-call,
   ticks-call,
   dispatch-call,
+  dispatches-call,
   run-call,
   panel-call,
   read-call,
@@ -86,13 +87,19 @@ NoneOn m ws [] = Unit {0}
 NoneOn m ws (k ∷ []) = Unit {0}
 NoneOn m ws (k ∷ h ∷ list) = NotOn m ws k × NoneOn m ws list
 
+-- A dispatch would choose a task that is in no call on lane m.
+abbrev pub ChoosesOther : (m : ℕ) → List ℕ → Type 0
+ChoosesOther m ws = (k : ℕ) → nextBusy ws ≡ some k → NotOn m ws k
+
 -- A call ticks no task that is in a call on lane m, and begins no new table.
 abbrev pub Avoids : (m : ℕ) → List ℕ → Call → Type 0
 Avoids m ws (start-call S T g lanes) = start ws S T g lanes .reply ≢ Accepted
 Avoids m ws (begin-call k l op side argument) = Unit {0}
 Avoids m ws (tick-call k h) = NotOn m ws k
 Avoids m ws (ticks-call k h times) = NotOn m ws k
-Avoids m ws (dispatch-call h) = (k : ℕ) → nextBusy ws ≡ some k → NotOn m ws k
+Avoids m ws (dispatch-call h) = ChoosesOther m ws
+Avoids m ws (dispatches-call h times) =
+    (i : ℕ) → i < dispatchesMade times ws h → ChoosesOther m (dispatches i ws h .words)
 Avoids m ws (run-call list answers) = NoneOn m ws list
 Avoids m ws (panel-call list answers) = NoneOn m ws list
 Avoids m ws (read-call l out) = Unit {0}

@@ -53,7 +53,7 @@ pub fn sizes_ok(slots: u32, tasks: u32, growth: u32, lanes: u32) -> bool
     lanes <= slots / 2 && slots <= 1_024 && 1 <= tasks && tasks <= 16 && growth <= 64
 }
 
-// 01's refusal 3: under 37 words, header S, T, growth or lanes out of range, or length not matching.
+// Refusal 3: under 37 words, header S, T, growth or (02) lanes out of range, or length not matching.
 pub fn length_ok(table: &[u32]) -> bool
     ensures { λ r. ⌜ r ≡ lengthOk (now (table .entry)) ⌝ }
 {

@@ -13,7 +13,7 @@ use crate::{LARGE, SMALL};
 const RUN: u32 = 32;
 
 /// Within so many ticks of its own a busy task answers, as is proved.
-fn bound(nodes: u32) -> u32 {
+pub fn bound(nodes: u32) -> u32 {
     4 * nodes + 154
 }
 

@@ -4,6 +4,7 @@ use std::collections::VecDeque;
 use std::fmt;
 
 use lane::ffi;
+use reference::table::header;
 use reference::Answer;
 
 use crate::common::calls::whole;
@@ -25,8 +26,12 @@ enum Call {
     Begin(u32, Note),
     /// Task, hint.
     Tick(u32, u32),
+    /// Task, hint, how many.
+    Ticks(u32, u32, u32),
     /// Hint.
     Dispatch(u32),
+    /// Hint, how many.
+    Dispatches(u32, u32),
     /// Words of the list, words of the answer slice.
     Run(usize, usize),
     /// The same, from the panel.
@@ -119,8 +124,20 @@ impl Both {
         self.note(Call::Tick(task, hint));
         let proved = ffi::tick(self.proved.words_mut(), task, hint);
         let second = reference::tick(self.second.words_mut(), task, hint);
-        self.compare([proved >> 40, proved % (1 << 40)], parts(second));
+        self.compare(number_parts(proved), parts(second));
         self.done(2, second.err().unwrap_or(0), second.is_ok());
+        second
+    }
+
+    /// Ticks of one task in a row: what the last gave.
+    pub fn ticks(&mut self, task: u32, hint: u32, times: u32) -> Result<Answer, u32> {
+        self.note(Call::Ticks(task, hint, times));
+        let proved = ffi::ticks(self.proved.words_mut(), task, hint, times);
+        let second = reference::ticks(self.second.words_mut(), task, hint, times);
+        self.compare(number_parts(proved), parts(second));
+        // Only 11 comes after ticks that were made.
+        let made = times > 0 && matches!(second, Ok(_) | Err(11));
+        self.done(7, second.err().unwrap_or(0), made);
         second
     }
 
@@ -129,28 +146,43 @@ impl Both {
         self.note(Call::Dispatch(hint));
         let proved = ffi::dispatch(self.proved.words_mut(), hint);
         let second = reference::dispatch(self.second.words_mut(), hint);
-        let wanted = second.transpose().map_or([8, 0], parts);
-        self.compare([proved >> 40, proved % (1 << 40)], wanted);
+        self.compare(number_parts(proved), dispatch_parts(second));
         self.done(6, second.err().unwrap_or(0), matches!(second, Ok(Some(_))));
         second
+    }
+
+    /// Dispatches in a row: what the last gave. After one that was made none is "idle".
+    pub fn dispatches(&mut self, hint: u32, times: u32) -> Result<Option<Answer>, u32> {
+        self.note(Call::Dispatches(hint, times));
+        let proved = ffi::dispatches(self.proved.words_mut(), hint, times);
+        let second = reference::dispatches(self.second.words_mut(), hint, times);
+        self.compare(number_parts(proved), dispatch_parts(second));
+        let made = times > 0 && matches!(second, Ok(Some(_)) | Err(11));
+        self.done(8, second.err().unwrap_or(0), made);
+        second
+    }
+
+    /// The ticks that the last call made, by the table's count.
+    pub fn ticks_made(&self) -> u32 {
+        self.table()[header::TICKS].wrapping_sub(self.before()[header::TICKS])
     }
 
     /// The answer slice had `content` in every word.
     pub fn run(&mut self, list: &[u32], length: usize, content: u32) -> Ran {
         self.note(Call::Run(list.len(), length));
-        self.ticks(3, [ffi::run, reference_run], list, length, content)
+        self.list(3, [ffi::run, reference_run], list, length, content)
     }
 
     /// The same from the panel.
     pub fn panel(&mut self, list: &[u32], length: usize, content: u32) -> Ran {
         self.note(Call::Panel(list.len(), length));
-        let ran = self.ticks(4, [ffi::panel, reference_panel], list, length, content);
+        let ran = self.list(4, [ffi::panel, reference_panel], list, length, content);
         self.given.panel_ticks += u64::from(ran.1);
         self.given.panel_whole += u64::from(ran.1 == 32);
         ran
     }
 
-    fn ticks(
+    fn list(
         &mut self,
         call: usize,
         programs: [Entry; 2],
@@ -235,7 +267,17 @@ impl Drop for Both {
     }
 }
 
-/// The kind of what a tick gives, and the tag or the refusal.
+/// The two parts of what a tick or a dispatch of the library gives: the kind, and the tag or the refusal.
+fn number_parts(number: u64) -> [u64; 2] {
+    [number >> 40, number % (1 << 40)]
+}
+
+/// The same of a dispatch, which may be "idle", by the second program.
+fn dispatch_parts(given: Result<Option<Answer>, u32>) -> [u64; 2] {
+    given.transpose().map_or([8, 0], parts)
+}
+
+/// The same of a tick.
 fn parts(given: Result<Answer, u32>) -> [u64; 2] {
     match given {
         Ok(Answer::Bag(tag)) => [2, tag],

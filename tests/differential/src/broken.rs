@@ -8,6 +8,7 @@ use crate::common::row::Note;
 use crate::common::tables::{shaped_of, sizes};
 use crate::counts::{Counts, Origin};
 use crate::dispatches;
+use crate::in_row;
 
 /// Calls on a well-shaped table.
 pub fn shaped(random: &mut Random, counts: &mut Counts) {
@@ -26,14 +27,14 @@ pub fn calls(random: &mut Random, counts: &mut Counts, both: &mut Both) {
             _ => random.below(sizes.lanes),
         };
         let hint = random.below(sizes.nodes + 1);
-        match random.below(10) {
-            0 => {
+        match random.below(32) {
+            0..=2 => {
                 let length = random.below(2 * sizes.nodes + 2) as usize;
                 let reading = both.read(lane, length, 0);
                 assert!(!matches!(reading, Err(3 | 4)), "a tick broke the shape");
             }
-            1 => ticks(random, both),
-            2 => {
+            3..=5 => ticks(random, both),
+            6..=8 => {
                 let call = Note {
                     lane,
                     operation: random.below(6),
@@ -43,7 +44,7 @@ pub fn calls(random: &mut Random, counts: &mut Counts, both: &mut Both) {
                 };
                 let _ = both.begin(task, call);
             }
-            3 => {
+            9..=11 => {
                 let [argument, digit] = some_tag(random, both.table(), sizes);
                 let push = Note {
                     lane,
@@ -59,9 +60,11 @@ pub fn calls(random: &mut Random, counts: &mut Counts, both: &mut Both) {
                     begins.saw(Origin::Anywhere, before, task, push, given);
                 }
             }
-            4 => {
+            12..=14 => {
                 let _ = dispatches::dispatch(counts, Origin::Anywhere, both, hint);
             }
+            15 => in_row::ticks(random, counts, both, task, hint),
+            16 => in_row::dispatches(random, counts, both, hint),
             _ => {
                 let given = both.tick(task, hint);
                 if matches!(given, Ok(_) | Err(11)) {
@@ -96,24 +99,26 @@ pub fn damaged(random: &mut Random, counts: &mut Counts) {
             digit: random.digit(),
             argument: four,
         };
-        match random.below(9) {
-            0 => {
+        match random.below(20) {
+            0 | 1 => {
                 let _ = both.start([one, two, three, lane]);
             }
-            1 => {
+            2 | 3 => {
                 let (slots, tasks) = (words.first().copied(), words.get(1).copied());
                 let _ = both.start([slots.unwrap_or(2), tasks.unwrap_or(1), three, lane]);
             }
-            2 | 3 => {
+            4..=7 => {
                 let _ = both.begin(one % 20, call);
             }
-            4 => {
+            8 | 9 => {
                 let _ = both.read(lane, random.below(50) as usize, four);
             }
-            5 => ticks(random, &mut both),
-            6 => {
+            10 | 11 => ticks(random, &mut both),
+            12 | 13 => {
                 let _ = both.dispatch(two);
             }
+            14 => in_row::ticks(random, counts, &mut both, one % 20, two),
+            15 => in_row::dispatches(random, counts, &mut both, two),
             _ => {
                 let _ = both.tick(one % 20, two);
             }

@@ -10,15 +10,18 @@ use crate::cause;
 use crate::common::tables::sizes;
 use crate::digits::Digits;
 use crate::dispatches::Dispatches;
+use crate::drain::Drains;
 use crate::idle::Idle;
+use crate::in_row::InRow;
 use crate::lists::Lists;
+use crate::one_user::played::Users;
 use crate::outcomes::{Leads, Outcome, OUTCOMES};
 use crate::starts;
 use crate::stretch::Stretches;
 use crate::words::Words;
 
 /// The calls, and what each can give by the paper; 0 stands for no refusal.
-const GIVEN: [(&str, &[usize]); 7] = [
+const GIVEN: [(&str, &[usize]); 9] = [
     ("start", &[0, 1, 2, 25]),
     ("begin", &[0, 3, 4, 5, 6, 7, 8, 11, 16, 26]),
     ("tick", &[0, 3, 4, 5, 9, 10, 11]),
@@ -26,6 +29,8 @@ const GIVEN: [(&str, &[usize]); 7] = [
     ("panel", &[0, 3, 4, 5, 9, 10, 11, 13, 14, 15]),
     ("read", &[0, 3, 4, 11, 12, 26]),
     ("dispatch", &[0, 3, 4, 9, 11]),
+    ("ticks", &[0, 3, 4, 5, 9, 10, 11]),
+    ("dispatches", &[0, 3, 4, 9, 11]),
 ];
 /// All steps that change the digit of a node, and whether a table that start and the calls reach shows it.
 const CHANGE: [(u32, bool); 5] = [(5, true), (28, false), (31, false), (51, true), (78, false)];
@@ -73,12 +78,18 @@ pub struct Counts {
     pub begins: Begins,
     /// Dispatches.
     pub dispatches: Dispatches,
+    /// Ticks and dispatches in a row.
+    pub in_row: InRow,
+    /// Dispatches until every task is idle.
+    pub drains: Drains,
     /// Calls that get all the ticks.
     pub alone: Alone,
     /// Ticks without an answer.
     pub stretches: Stretches,
     /// Tables with every task idle.
     pub idle: Idle,
+    /// Lists of whole calls.
+    pub users: Users,
     /// Tag lists.
     pub lists: Lists,
 }
@@ -96,9 +107,12 @@ impl Counts {
             words: Words::default(),
             begins: Begins::default(),
             dispatches: Dispatches::default(),
+            in_row: InRow::default(),
+            drains: Drains::default(),
             alone: Alone::default(),
             stretches: Stretches::default(),
             idle: Idle::default(),
+            users: Users::default(),
             lists: Lists::default(),
         }
     }
@@ -186,9 +200,12 @@ impl Counts {
         faults.extend(self.digits.report());
         faults.extend(self.begins.report());
         faults.extend(self.dispatches.report());
+        faults.extend(self.in_row.report());
         faults.extend(self.alone.report());
-        self.stretches.report();
+        faults.extend(self.stretches.report());
+        faults.extend(self.drains.report());
         faults.extend(self.idle.report());
+        faults.extend(self.users.report());
         faults.extend(self.lists.report());
         faults
     }
@@ -226,7 +243,7 @@ impl Counts {
                 .filter(|&number| counts[number] > 0)
                 .map(|number| format!("{number}: {}", counts[number]))
                 .collect();
-            println!("{name:8} gave {}", seen.join(", "));
+            println!("{name:10} gave {}", seen.join(", "));
             for (number, count) in counts.iter().enumerate() {
                 if (*count > 0) != wanted.contains(&number) {
                     faults.push(format!("{name} gave {number} {count} times"));

@@ -1,10 +1,11 @@
 //! Idle tables: five numbers a lane say what is in use, each call alone changes those of its own end as listed, and all
 //! slots but two a lane take bags again.
 
+mod any;
 mod call;
-mod list;
+pub mod list;
 
-use reference::table::{low_part, tag, Sizes, ADD, MAX_TAG, POP, PUSH, REMOVE};
+use reference::table::{Sizes, ADD, POP, PUSH, REMOVE};
 use reference::Answer;
 
 use crate::alone;
@@ -24,7 +25,7 @@ pub fn check(random: &mut Random, counts: &mut Counts, table: &[u32], sizes: Siz
     for operation in [PUSH, POP, ADD, REMOVE] {
         if spurs > 0 || random.once_in(4) {
             let mut quiet = Quiet::over(random, counts, table, sizes);
-            let call = quiet.any(operation);
+            let call = quiet.lanes.any(quiet.random, operation);
             quiet.call(call);
             quiet.done();
         }
@@ -63,46 +64,9 @@ impl<'a> Quiet<'a> {
         }
     }
 
-    /// A call of this operation, removes often near what is there.
-    fn any(&mut self, operation: u32) -> Note {
-        let (lane, side) = (self.random.below(self.sizes.lanes), self.random.below(2));
-        let spare = self.lanes.0[lane as usize].ends[side as usize].spare;
-        let argument = match operation {
-            PUSH => return Note::new(lane, PUSH, side, self.tag()),
-            POP => 0,
-            ADD if self.random.once_in(2) => self.random.below(65),
-            REMOVE if self.random.once_in(8) => self.random.below(1024),
-            REMOVE => self.random.below(spare),
-            _ => self.random.below(3),
-        };
-        Note::new(lane, operation, side, argument.into())
-    }
-
-    /// A tag that is in no lane; one that is in a lane may have its low part.
-    fn tag(&mut self) -> u64 {
-        loop {
-            let any = 1 + self.random.next() % MAX_TAG;
-            let low = match self.random.below(4) {
-                0 => 0,
-                1 => self.standing().map_or(0, low_part),
-                _ => low_part(any),
-            };
-            let tag = tag(self.random.below(10), low);
-            if tag > 0 && !self.lanes.tags().any(|standing| standing == tag) {
-                return tag;
-            }
-        }
-    }
-
-    /// A tag that is in a lane, if there is any.
-    fn standing(&mut self) -> Option<u64> {
-        let tags: Vec<u64> = self.lanes.tags().collect();
-        (!tags.is_empty()).then(|| self.random.pick(&tags))
-    }
-
     /// A push of a tag that is in a lane, on any lane, at either end and by any task, is turned back.
     fn push_again(&mut self) {
-        if let Some(tag) = self.standing() {
+        if let Some(tag) = self.lanes.standing(self.random) {
             let (task, side) = (self.random.below(self.sizes.tasks), self.random.below(2));
             let lane = self.random.below(self.sizes.lanes);
             let given = self.both.begin(task, Note::new(lane, PUSH, side, tag));
@@ -147,7 +111,7 @@ impl<'a> Quiet<'a> {
             let (lane, side) = ends.swap_remove(place as usize);
             let mut answer = Answer::Pushed;
             while answer == Answer::Pushed {
-                let push = self.any(PUSH);
+                let push = self.lanes.any(self.random, PUSH);
                 answer = self.call(Note { lane, side, ..push });
             }
         }

@@ -15,9 +15,13 @@ mod cause;
 mod counts;
 mod digits;
 mod dispatches;
+mod drain;
 mod idle;
+mod in_row;
 mod lent;
 mod lists;
+mod nearest;
+mod one_user;
 mod outcomes;
 mod play;
 mod starts;
@@ -34,6 +38,7 @@ use std::time::{Duration, Instant};
 use common::random::Random;
 use common::tables::shaped;
 use counts::Counts;
+use one_user::played;
 use reference::table::Sizes;
 
 const ROUNDS: u64 = 24;
@@ -114,8 +119,9 @@ fn round(random: &mut Random, counts: &mut Counts) {
     }
     let (tasks, growth) = (1 + random.below(16), random.below(65));
     let lanes = 1 + random.below(Sizes::MAX_LANES);
-    let sizes = Sizes::new(LARGE, tasks, growth, lanes);
-    play::play(random, counts, sizes.expect("sizes in range"), 300);
+    let sizes = Sizes::new(LARGE, tasks, growth, lanes).expect("sizes in range");
+    play::play(random, counts, sizes, 300);
+    played::from_start(random, counts, sizes, 40);
     for _ in 0..40_000 {
         broken::shaped(random, counts);
         broken::damaged(random, counts);
@@ -132,6 +138,7 @@ fn round(random: &mut Random, counts: &mut Counts) {
 fn small(random: &mut Random, counts: &mut Counts, nodes: u32, tasks: u32, lanes: u32) {
     let any = random.below(65);
     let growth = random.pick(&[0, 0, 0, 1, 2, 3, any]);
-    let sizes = Sizes::new(nodes, tasks, growth, lanes);
-    play::play(random, counts, sizes.expect("sizes in range"), 600);
+    let sizes = Sizes::new(nodes, tasks, growth, lanes).expect("sizes in range");
+    play::play(random, counts, sizes, 600);
+    played::from_start(random, counts, sizes, 40);
 }

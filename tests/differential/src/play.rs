@@ -2,6 +2,7 @@
 
 mod adversary;
 mod delay;
+mod in_row;
 mod in_turn;
 
 use reference::table::{
@@ -16,6 +17,7 @@ use crate::common::random::Random;
 use crate::common::row::{Note, Row};
 use crate::counts::{Counts, Origin};
 use crate::idle;
+use crate::one_user::played;
 use crate::words;
 
 /// Which operations prevail for a while.
@@ -88,13 +90,14 @@ pub fn play(random: &mut Random, counts: &mut Counts, sizes: Sizes, calls: u32) 
     for _ in 0..calls {
         play.call();
     }
-    play.drain();
+    play.idle();
+    play.empty_all();
     play.counts.add(&play.both.given);
 }
 
 impl Play<'_> {
     fn call(&mut self) {
-        match self.random.below(110) {
+        match self.random.below(112) {
             0..=54 => {
                 let (task, hint) = self.pair();
                 if matches!(self.row.notes.get(task as usize), Some(None)) {
@@ -127,6 +130,8 @@ impl Play<'_> {
                 self.dispatch(hint);
             }
             103 if self.random.once_in(4) => self.in_turn(),
+            104 | 105 => self.ticks(),
+            106 | 107 => self.dispatches(),
             _ => self.favourite = self.random.below(self.sizes.tasks),
         }
     }
@@ -175,10 +180,26 @@ impl Play<'_> {
         }
     }
 
-    /// On a copy of the table every busy task comes to its answer, in any order; what is claimed of an idle table then
-    /// holds.
+    /// On a copy of the table every busy task comes to its answer; what is claimed of an idle table then holds, and one
+    /// user can go on from there.
     fn idle(&mut self) {
         let mut both = Both::over(self.both.table());
+        if self.random.once_in(2) {
+            let drains = &mut self.counts.drains;
+            drains.drain(self.random, &mut both, self.sizes);
+        } else {
+            self.finish_all(&mut both);
+        }
+        self.counts.add(&both.given);
+        idle::check(self.random, self.counts, both.table(), self.sizes);
+        // Less often where much is free.
+        if self.random.once_in(12 + self.sizes.nodes / 16) {
+            played::from_idle(self.random, self.counts, both.table(), self.sizes, 20);
+        }
+    }
+
+    /// Every busy task of a copy runs alone to its answer, one after another in any order.
+    fn finish_all(&mut self, both: &mut Both) {
         let notes = (0..).zip(&self.row.notes);
         let mut busy: Vec<(u32, Note)> = notes
             .filter_map(|(task, &note)| Some((task, note?)))
@@ -186,13 +207,11 @@ impl Play<'_> {
         while !busy.is_empty() {
             let place = self.random.below(busy.len() as u32);
             let (task, note) = busy.swap_remove(place as usize);
-            let (ticks, _) = alone::run(self.random, &mut both, self.sizes, task);
+            let (ticks, _) = alone::run(self.random, both, self.sizes, task);
             self.counts
                 .alone
                 .saw(self.sizes.nodes, note.operation, ticks);
         }
-        self.counts.add(&both.given);
-        idle::check(self.random, self.counts, both.table(), self.sizes);
     }
 
     /// Of any lane, sometimes one that there is not, to an out slice of any length.
@@ -481,23 +500,15 @@ impl Play<'_> {
 
     fn replay(&mut self, list: &[u32], (number, made, answers): Ran) {
         let made = made as usize;
-        let mut before = self.both.before().to_vec();
-        let mut after = before.clone();
+        let mut ticks = Replayed::from(self.both.before());
         for (pair, words) in list.chunks(2).zip(answers.chunks(3)).take(made) {
-            let given = reference::tick(&mut after, pair[0], pair[1]);
+            let given = ticks.next(|table| reference::tick(table, pair[0], pair[1]));
             let answer = given.expect("the run made this tick");
             assert_eq!(answer.words(), words, "the run's answer");
-            self.counts
-                .tick(Origin::Calls, &before, &after, pair[0], given);
             self.made(pair[0], answer);
-            self.row.check_once();
-            walked(&self.row, &after, self.sizes);
-            before.copy_from_slice(&after);
+            self.replayed(&ticks, pair[0], answer);
         }
-        assert!(
-            after == self.both.table(),
-            "the run's table is not that of its ticks"
-        );
+        self.replayed_all(&ticks);
         match (number, list.get(2 * made..)) {
             (0, rest) => assert_eq!(rest, Some(&[][..]), "the run stopped early"),
             (13, _) => assert!(list.len() % 2 == 1 || list.len() > 8192),
@@ -506,6 +517,23 @@ impl Play<'_> {
             (_, Some(&[task, hint, ..])) => self.refused(task, hint, number),
             (_, rest) => panic!("refused {number} at {rest:?}"),
         }
+    }
+
+    /// After a tick of a call of several: it is counted, and every lane is its row.
+    fn replayed(&mut self, ticks: &Replayed, task: u32, answer: Answer) {
+        let Replayed { before, after } = ticks;
+        self.counts
+            .tick(Origin::Calls, before, after, task, Ok(answer));
+        self.row.check_once();
+        walked(&self.row, after, self.sizes);
+    }
+
+    /// After the last of them.
+    fn replayed_all(&self, ticks: &Replayed) {
+        assert!(
+            ticks.after == self.both.table(),
+            "the call's table is not that of its ticks"
+        );
     }
 
     fn any_numbers(&mut self) {
@@ -527,7 +555,7 @@ impl Play<'_> {
     }
 
     /// Every task comes to its answer, and every bag of every lane is taken.
-    fn drain(&mut self) {
+    fn empty_all(&mut self) {
         for task in 0..self.sizes.tasks {
             self.finish(task);
         }
@@ -548,6 +576,27 @@ impl Play<'_> {
             let length = self.row.tags[lane as usize].len();
             assert_eq!(length, left, "a pop took no bag");
         }
+    }
+}
+
+/// The ticks of a call of several, one by one on a copy of the table before it.
+struct Replayed {
+    before: Vec<u32>,
+    after: Vec<u32>,
+}
+
+impl Replayed {
+    fn from(table: &[u32]) -> Replayed {
+        Replayed {
+            before: table.to_vec(),
+            after: table.to_vec(),
+        }
+    }
+
+    /// The next tick.
+    fn next<T>(&mut self, tick: impl FnOnce(&mut [u32]) -> T) -> T {
+        self.before.copy_from_slice(&self.after);
+        tick(&mut self.after)
     }
 }
 

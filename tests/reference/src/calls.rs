@@ -103,6 +103,23 @@ pub fn tick(table: &mut [u32], task: u32, hint: u32) -> Result<Answer, u32> {
     checked_tick(table, sizes, task, hint)
 }
 
+/// Makes ticks of one task until one does not answer "going", or so many; returns what the last one does. Where none is
+/// asked for, nothing is tested.
+pub fn ticks(table: &mut [u32], task: u32, hint: u32, times: u32) -> Result<Answer, u32> {
+    if times == 0 {
+        return Ok(Answer::Going);
+    }
+    // A tick keeps the shape, so it is tested once for all of them.
+    let sizes = shape::check(table)?;
+    for _ in 0..times {
+        match checked_tick(table, sizes, task, hint)? {
+            Answer::Going => {}
+            answer => return Ok(answer),
+        }
+    }
+    Ok(Answer::Going)
+}
+
 /// Makes the ticks of a schedule of (task, hint) pairs up to the first refused;
 /// returns the refusal or 0, and how many were made.
 pub fn run(table: &mut [u32], list: &[u32], answers: &mut [u32]) -> (u32, u32) {

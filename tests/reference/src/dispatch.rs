@@ -8,10 +8,37 @@ use crate::table::{header, record, Sizes, IDLE};
 
 /// Makes one tick of the next busy task after the one last dispatched; none where every task is idle.
 pub fn dispatch(table: &mut [u32], hint: u32) -> Result<Option<Answer>, u32> {
+    let sizes = check(table, hint)?;
+    checked_dispatch(table, sizes, hint)
+}
+
+/// Makes dispatches until one does not answer "going", or so many; returns what the last one does. Where none is asked
+/// for, nothing is tested.
+pub fn dispatches(table: &mut [u32], hint: u32, times: u32) -> Result<Option<Answer>, u32> {
+    if times == 0 {
+        return Ok(Some(Answer::Going));
+    }
+    let sizes = check(table, hint)?;
+    for _ in 0..times {
+        match checked_dispatch(table, sizes, hint)? {
+            Some(Answer::Going) => {}
+            answer => return Ok(answer),
+        }
+    }
+    Ok(Some(Answer::Going))
+}
+
+/// The tests before the choice of a task; a tick keeps what they find.
+fn check(table: &[u32], hint: u32) -> Result<Sizes, u32> {
     let sizes = shape::check(table)?;
     if hint >= sizes.nodes {
         return Err(refusal::HINT);
     }
+    Ok(sizes)
+}
+
+/// A dispatch on a table that has passed them.
+fn checked_dispatch(table: &mut [u32], sizes: Sizes, hint: u32) -> Result<Option<Answer>, u32> {
     let Some(task) = next_busy(table, sizes) else {
         return Ok(None);
     };

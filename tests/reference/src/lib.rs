@@ -24,6 +24,6 @@ pub mod table;
 
 pub use alloc::count_free;
 pub use answer::Answer;
-pub use calls::{begin, panel, read, run, start, tick};
-pub use dispatch::dispatch;
+pub use calls::{begin, panel, read, run, start, tick, ticks};
+pub use dispatch::{dispatch, dispatches};
 pub use lists::{read_tags, write_tags};

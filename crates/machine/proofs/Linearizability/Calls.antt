@@ -9,4 +9,5 @@ pub mod Agreement
 pub mod MadeTicks
 pub mod CallsAgree
 pub mod TicksInRow
+pub mod DispatchesInRow
 pub mod Runs

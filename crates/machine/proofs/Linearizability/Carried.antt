@@ -18,6 +18,7 @@ use Rattle.machine.specs.Demand3.{
   tick-call,
   ticks-call,
   dispatch-call,
+  dispatches-call,
   run-call,
   panel-call,
   read-call,
@@ -86,6 +87,7 @@ module _ (P : List ℕ → Row → Type 0) (C : Carried P) where
   started (tick-call k h) ws = tt
   started (ticks-call k h times) ws = tt
   started (dispatch-call h) ws = tt
+  started (dispatches-call h times) ws = tt
   started (run-call list answers) ws = tt
   started (panel-call list answers) ws = tt
   started (read-call l out) ws = tt

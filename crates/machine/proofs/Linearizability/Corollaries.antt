@@ -50,6 +50,7 @@ use Rattle.machine.specs.Calls.{
   ticks,
   Dispatched,
   dispatch,
+  dispatches,
   RunDone,
   stopped,
   afterTick,
@@ -63,7 +64,7 @@ use Rattle.machine.specs.Calls.{
   read,
 }
 use Rattle.machine.specs.Row.{Row, emptyRow}
-use Rattle.machine.specs.Demand3.{Call, tick-call, given, after, LanesAre, afterTicks}
+use Rattle.machine.specs.Demand3.{Call, tick-call, dispatch-call, given, after, LanesAre, afterTicks}
 use Rattle.machine.specs.FirstFree.{TakesFirstFree}
 use Rattle.machine.specs.Twice.{allBags}
 use Rattle.machine.specs.Begun.{
@@ -87,6 +88,7 @@ use Rattle.machine.proofs.SlotRule.Reached.{node-not-none, reachable-no
 use Rattle.machine.proofs.SlotRule.FirstFree.{allocate-first-free, allocate-none}
 use Rattle.machine.proofs.Words.TickLaws.{tick-stopped}
 use Rattle.machine.proofs.Words.RunLaws.{by-last-tick}
+use Rattle.machine.proofs.Words.DispatchLaws.{by-last-dispatch}
 use Rattle.machine.proofs.Linearizability.Calls.Agreement.{Agrees, lanes-are-rows, all-lanes-are-rows}
 use Rattle.machine.proofs.Linearizability.Calls.MadeTicks.{well-linked, made-tick}
 use Rattle.machine.proofs.Linearizability.Calls.CallsAgree.{tick-explained}
@@ -167,6 +169,14 @@ no-dispatch-refused-with-11 {ws} B h =
   where
     of-tick : {ρ : Row} → Agrees ws ρ → (k : ℕ) → Answered (tickOn ws k h .answer) ≢ Answered (Refused 11)
     of-tick A k e = tick-not-11 A k h (ap dispatchRefusalOf e)
+
+-- Nor dispatches in a row, of which the last is one on such a table.
+pub no-dispatches-refused-with-11 : {ws : List ℕ} → Begun ws → (n h : ℕ)
+    → dispatches n ws h .answer ≢ Answered (Refused 11)
+no-dispatches-refused-with-11 {ws} B n h =
+    by-last-dispatch Begun h (λ vs X. by-call X (dispatch-call h))
+    (λ (r : Dispatched). r .answer ≢ Answered (Refused 11)) (λ vs X e. refute (cc))
+    (λ vs X. no-dispatch-refused-with-11 X h) n ws B
 
 -- 2026-03: nor a begin, which walks the lanes.
 module _ {ws : List ℕ} (B : Begun ws) (k l op side : ℕ) (argument : Stored) where

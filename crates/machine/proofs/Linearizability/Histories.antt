@@ -31,7 +31,7 @@ use Rattle.machine.specs.Counts.{count}
 use Rattle.machine.specs.Sides.{Side, left, right}
 use Rattle.machine.specs.Operations.{Operation, idle, push, pop, add, remove}
 use Rattle.machine.specs.Shape.{sameWords}
-use Rattle.machine.specs.Answers.{refusalOf, isGoing, answerOf}
+use Rattle.machine.specs.Answers.{refusalOf, isGoing, dispatchGoesOn, answerOf}
 use Rattle.machine.specs.Row.{
   Note,
   Row,
@@ -59,11 +59,14 @@ use Rattle.machine.specs.Demand3.{
   tick-call,
   ticks-call,
   dispatch-call,
+  dispatches-call,
   run-call,
   panel-call,
   read-call,
   Given,
+  isCall,
   feedTick,
+  feedDispatches,
   feedRead,
   feed,
 }
@@ -78,6 +81,7 @@ use Rattle.machine.specs.Begun.{
   recordRun,
   recordDispatched,
   recordDispatch,
+  recordDispatches,
   recordCall,
   bagsPushed,
   bagsPopped,
@@ -346,6 +350,23 @@ pub same-if : {ρ ρ′ : Row} (b : Bool) → cond b (some ρ) nothing ≡ some 
 same-if true q = (refl, cc)
 same-if false q = clash (cc)
 
+-- A row that is fed where a test fails.
+pub unless-going : {r : Option Row} {ρ′ : Row} (b : Bool) → cond b nothing r ≡ some ρ′ → r ≡ some ρ′
+unless-going true q = clash (cc)
+unless-going false q = q
+
+-- Dispatches in a row.
+dispatches-recorded : (n m : ℕ) (d : Dispatch) {ρ ρ′ : Row} {η : History} → Recorded ρ η
+    → feedDispatches ρ n m d ≡ some ρ′
+    → Recorded ρ′ (recordDispatches η n m d)
+unfolding feedDispatches recordDispatches
+dispatches-recorded zero zero d R e = same-row (ap some (same-if (dispatchGoesOn d) e .1)) R
+dispatches-recorded zero (suc m) d R e = clash (cc)
+dispatches-recorded (suc n) zero d R e = dispatch-recorded d R (unless-going (dispatchGoesOn d) e)
+dispatches-recorded (suc n) (suc m) d {ρ} R e =
+    let x = bound (feedDispatch ρ (Answered Going)) _ e in
+    dispatches-recorded n m d (dispatch-recorded (Answered Going) R (x .1)) (x .2)
+
 -- A read leaves the row.
 pub same-when-read : (ρ : Row) (l : ℕ) (out : List ℕ) (x : Reading) (written : List ℕ) {ρ′ : Row}
     → feedRead ρ l out x written ≡ some ρ′
@@ -366,7 +387,7 @@ pub call-recorded : (c : Call) (r : Given c) {ρ ρ′ : Row} {η : History} →
 call-recorded (start-call S T g L) Accepted R e = same-row e (nothing-recorded T L)
 call-recorded (start-call S T g L) (Reply-Refused n) R e = same-row e R
 call-recorded (begin-call k l op side argument) Accepted {ρ} R e =
-    same-row (ap some (same-if (ltb l (ρ .lanes)) e .1))
+    same-row (ap some (same-if (isCall ρ k l op side argument) e .1))
     (record {
       same-notes = same-with k _ (R .same-notes);
       same-tasks = R .same-tasks;
@@ -380,6 +401,7 @@ call-recorded (ticks-call k h zero) a {ρ} {ρ′} {η} R e =
     subst (λ (b : Answer). Recorded ρ′ (recordTick η k b)) (sym (going-answer a (x .0))) (same-row (ap some (x .1)) R)
 call-recorded (ticks-call k h (suc n)) a R e = tick-recorded k a R e
 call-recorded (dispatch-call h) r R e = dispatch-recorded r R e
+call-recorded (dispatches-call h times) r R e = dispatches-recorded times (r .1) (r .0) R e
 call-recorded (run-call list answers) r R e = run-recorded (r .0 .made) list (r .1) R e
 call-recorded (panel-call list answers) r R e = run-recorded (r .0 .made) list (r .1) R e
 call-recorded (read-call l out) r {ρ} {ρ′} {η} R e =

@@ -15,6 +15,7 @@ use Rattle.machine.specs.Demand3.{
   tick-call,
   ticks-call,
   dispatch-call,
+  dispatches-call,
   run-call,
   panel-call,
   read-call,
@@ -48,6 +49,7 @@ use Rattle.machine.proofs.Linearizability.Calls.CallsAgree.{
   read-explained,
 }
 use Rattle.machine.proofs.Linearizability.Calls.TicksInRow.{ticks-explained, ticks-within}
+use Rattle.machine.proofs.Linearizability.Calls.DispatchesInRow.{dispatches-explained, dispatches-within}
 use Rattle.machine.proofs.Linearizability.Calls.Runs.{run-explained, run-within, panel-explained, panel-within}
 use Rattle.machine.proofs.Linearizability.Carried.{Carried, always, always-so}
 
@@ -58,6 +60,7 @@ call-explained A (begin-call k l op side argument) = begin-explained A k l op si
 call-explained A (tick-call k h) = tick-explained A k h
 call-explained A (ticks-call k h times) = ticks-explained k h A times
 call-explained A (dispatch-call h) = dispatch-explained A h
+call-explained A (dispatches-call h times) = dispatches-explained h times A
 call-explained A (run-call list answers) = run-explained A list answers
 call-explained A (panel-call list answers) = panel-explained A list answers
 call-explained A (read-call l out) = read-explained A l out
@@ -68,6 +71,7 @@ call-within A (begin-call k l op side argument) = tt
 call-within A (tick-call k h) = tt
 call-within A (ticks-call k h times) = ticks-within k h A times
 call-within A (dispatch-call h) = tt
+call-within A (dispatches-call h times) = dispatches-within h times A
 call-within A (run-call list answers) = run-within A list answers
 call-within A (panel-call list answers) = panel-within A list answers
 call-within A (read-call l out) = tt

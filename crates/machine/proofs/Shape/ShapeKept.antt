@@ -69,6 +69,7 @@ use Rattle.machine.specs.Demand3.{
   tick-call,
   ticks-call,
   dispatch-call,
+  dispatches-call,
   run-call,
   panel-call,
   read-call,
@@ -86,6 +87,7 @@ use Rattle.machine.proofs.Words.StartLaws.{
   columns-start,
 }
 use Rattle.machine.proofs.Words.RunLaws.{kept-in-row}
+use Rattle.machine.proofs.Words.DispatchLaws.{kept-in-dispatches}
 use Rattle.machine.proofs.Words.Stretches.{side-small}
 use Rattle.machine.proofs.Shape.BusyLaws.{NodeOrNone, BusyFacts, record-of-fresh, record-of-busy}
 use Rattle.machine.proofs.Shape.ShapeLaws.{
@@ -379,6 +381,13 @@ module _ (ws : List ℕ) (A : WellFormed ws) where
       by-dispatch ws A h (λ (r : Dispatched). WellFormed (r .words)) A (λ e. A) (λ k n e q. A)
       (λ k e passes made. dispatched-accepted k h passes)
 
+  pub dispatch-same-sizes : (h : ℕ) → sizesOf (dispatch ws h .words) ≡ sizesOf ws
+  dispatch-same-sizes h =
+      by-dispatch ws A h (λ (r : Dispatched). sizesOf (r .words) ≡ sizesOf ws) refl (λ e. refl) (λ k n e q. refl)
+      (λ k e passes made.
+      let K = tick-kept ws Z W k h in
+      ap (λ c. c .sizes) (columns-setDispatched (tickOn ws k h .words) (K .well-sized .sized) k) ∙ K .same-sizes)
+
   tested-accepted : (r : Option ℕ) (list answers : List ℕ) → WellFormed (tested r ws list answers .words)
   tested-accepted (some n) list answers = A
   tested-accepted nothing list answers = kept-accepted (run-kept list ws answers Z W)
@@ -396,6 +405,8 @@ module _ (ws : List ℕ) (A : WellFormed ws) where
   call-accepted (tick-call k h) = kept-accepted (tick-call-kept ws A k h)
   call-accepted (ticks-call k h times) = kept-accepted (ticks-kept times k h)
   call-accepted (dispatch-call h) = dispatch-call-accepted ws A h
+  call-accepted (dispatches-call h times) =
+      kept-in-dispatches WellFormed h (λ vs B. dispatch-call-accepted vs B h) times ws A
   call-accepted (run-call list answers) = tested-accepted ws A (runRefusal ws list answers) list answers
   call-accepted (panel-call list answers) = tested-accepted ws A (panelRefusal ws list answers) list answers
   call-accepted (read-call l out) = A

@@ -3,13 +3,16 @@ use mathlib.Core.Path.{_≡_, refl, ap, sym, _∙_}
 use mathlib.Core.Bool.{Bool, true, false}
 use mathlib.Core.List.{List, _∷_}
 use mathlib.Core.Option.{Option, some, none as nothing}
-use Prim.Native.Nat.{ℕ, zero, suc}
+use Prim.Native.Nat.{ℕ, zero, suc, _≤_}
+use native.Mathlib.Omega.{arith}
 use lib.ListN.{drop}
+use Rattle.tag.specs.Tags.{largestTag}
 use Rattle.machine.specs.declared.Answer.{Answer}
 use Rattle.machine.specs.declared.Answer.the-variants.{Going, Pushed, Bag, Empty, Full, Yes, No, Refused}
-use Rattle.machine.specs.Answers.{answerLength, refusalOf, isGoing}
+use Rattle.machine.specs.Answers.{answerLength, payloadOf, refusalOf, isGoing}
 use Rattle.machine.specs.Calls.{Ticked, tickOn, tick, ticks, RunDone, stopped, afterTick, runOn}
 use Rattle.machine.proofs.Basics.Contradiction.{clash}
+use Rattle.machine.proofs.Words.TickLaws.{tick-number}
 
 module _ (k h : ℕ) (list ws answers : List ℕ) where
   unfoldable pub by-first : Option ℕ → RunDone
@@ -81,3 +84,9 @@ module _ (P : List ℕ → Type 0) (k h : ℕ) (keeps : (ws : List ℕ) → P ws
 
   pub kept-in-row : (n : ℕ) (ws : List ℕ) → P ws → P (ticks n ws k h .words)
   kept-in-row = by-last-tick (λ r. P (r .words)) (λ ws p. p) keeps
+
+-- The number that comes with the last answer is a tag's, or a refusal's.
+pub ticks-number : (n : ℕ) (ws : List ℕ) (k h : ℕ) → payloadOf (ticks n ws k h .answer) ≤ largestTag
+ticks-number n ws k h =
+    by-last-tick (λ vs. Unit {0}) k h (λ vs p. tt) (λ r. payloadOf (r .answer) ≤ largestTag) (λ vs p. omega arith)
+    (λ vs p. tick-number vs k h) n ws tt

@@ -55,11 +55,11 @@ alone (h ∷ hints) ws k n X b B more low =
     (subst (λ (S : ℕ). HintsBelow S hints) (sym (nodes-after (begun-agrees X .1) k h p)) (low .1)))
 
 -- A busy task has 4S + 153 ticks left at most.
-walk-alone : (S : ℕ) → walkTicks 0 S ≡ 4 * S
+pub walk-alone : (S : ℕ) → walkTicks 0 S ≡ 4 * S
 walk-alone zero = refl
 walk-alone (suc S) = omega (arith, walk-alone S)
 
-answers-alone : (ws : List ℕ) → Begun ws → (k : ℕ) → isBusy (task ws k .operation) ≡ true → (hints : List ℕ)
+pub answers-alone : (ws : List ℕ) → Begun ws → (k : ℕ) → isBusy (task ws k .operation) ≡ true → (hints : List ℕ)
     → 4 * nodeCount ws + 154 ≤ length hints
     → HintsBelow (nodeCount ws) hints
     → AnswersAlone k hints ws

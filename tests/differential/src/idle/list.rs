@@ -46,6 +46,11 @@ impl List {
         List { ends, tags }
     }
 
+    /// Whether a hat is on a spur.
+    pub fn has_spur(&self) -> bool {
+        self.ends.iter().any(|end| end.spur > 0)
+    }
+
     /// The slots in use.
     fn used(&self) -> u32 {
         let [left, right] = self.ends.map(|end| end.spare + end.spur);
@@ -58,6 +63,16 @@ impl List {
 pub struct Lanes(pub Vec<List>);
 
 impl Lanes {
+    /// After a start every lane is empty, with one spare slot at each end.
+    pub fn started(sizes: Sizes) -> Lanes {
+        let end = End { spare: 1, spur: 0 };
+        let list = List {
+            ends: [end; 2],
+            tags: VecDeque::new(),
+        };
+        Lanes(vec![list; sizes.lanes as usize])
+    }
+
     /// The lists in the words; every slot of none of them must be free.
     pub fn of(table: &[u32], sizes: Sizes) -> Lanes {
         let lists = (0..sizes.lanes).map(|lane| List::of(table, sizes, lane));
@@ -69,6 +84,11 @@ impl Lanes {
     /// The slots that are left.
     pub fn free(&self, sizes: Sizes) -> u32 {
         sizes.nodes - self.0.iter().map(List::used).sum::<u32>()
+    }
+
+    /// Whether a tag is in a lane.
+    pub fn has(&self, tag: u64) -> bool {
+        self.tags().any(|standing| standing == tag)
     }
 
     /// The tags of all lanes.

@@ -16,23 +16,28 @@ impl Play<'_> {
     /// A dispatch, which the row explains: the task that was ticked, and its answer.
     pub(super) fn dispatch(&mut self, hint: u32) -> Option<(u32, Answer)> {
         let given = dispatches::dispatch(self.counts, Origin::Calls, &mut self.both, hint);
-        let mut ticked = None;
-        if let Ok(answer) = given {
-            let moved = next(self.last_ticked, self.sizes.tasks, |task| {
-                self.row.notes[task as usize].is_some()
-            });
-            let task = self.row.dispatch(answer.map(Answer::words));
-            self.counts.dispatches.unmoved += u64::from(moved != task);
-            self.counts.dispatches.waited(&self.row);
-            ticked = task.zip(answer);
-        }
-        if let Some((task, answer)) = ticked {
+        let answer = given.ok().flatten();
+        let task = given.ok().and_then(|answer| self.turn(answer));
+        if let Some(task) = task {
             let word = self.both.table()[header::DISPATCHED];
             assert_eq!(word, task, "the word for the task last dispatched");
-            self.count_made(task, answer);
         }
         self.check();
-        ticked
+        task.zip(answer)
+    }
+
+    /// The row explains a dispatch that was not refused, none for "idle": the task that was ticked.
+    pub(super) fn turn(&mut self, answer: Option<Answer>) -> Option<u32> {
+        let moved = next(self.last_ticked, self.sizes.tasks, |task| {
+            self.row.notes[task as usize].is_some()
+        });
+        let task = self.row.dispatch(answer.map(Answer::words));
+        self.counts.dispatches.unmoved += u64::from(moved != task);
+        self.counts.dispatches.waited(&self.row);
+        if let Some((task, answer)) = task.zip(answer) {
+            self.count_made(task, answer);
+        }
+        task
     }
 
     /// Dispatches alone, often until every task is idle, and the ticks that they stand for as a run on a copy: the same

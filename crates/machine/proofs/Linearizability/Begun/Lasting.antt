@@ -40,6 +40,7 @@ use Rattle.machine.specs.Demand3.{
   tick-call,
   ticks-call,
   dispatch-call,
+  dispatches-call,
   run-call,
   panel-call,
   read-call,
@@ -54,6 +55,7 @@ use Rattle.machine.proofs.Words.Memories.{View, viewed, viewAfter, seen
 use Rattle.machine.proofs.Words.StartLaws.{startView, viewed-start, task-start}
 use Rattle.machine.proofs.Words.EffectLaws.{viewed-set-dispatched, task-set-dispatched, lanes-set-dispatched}
 use Rattle.machine.proofs.Words.RunLaws.{kept-in-row}
+use Rattle.machine.proofs.Words.DispatchLaws.{kept-in-dispatches}
 use Rattle.machine.proofs.Shape.TickKeeps.{tick-allowed}
 use Rattle.machine.proofs.Shape.DispatchCases.{by-dispatch}
 use Rattle.machine.proofs.Shape.ShapeKept.{start-sized}
@@ -67,7 +69,7 @@ use Rattle.machine.proofs.Linearizability.Calls.MadeTicks.{
   kept-roots,
   not-idle,
 }
-use Rattle.machine.proofs.Linearizability.Calls.CallsAgree.{tick-explained}
+use Rattle.machine.proofs.Linearizability.Calls.CallsAgree.{tick-explained, dispatch-explained}
 use Rattle.machine.proofs.Linearizability.Begun.TableAfter.{viewed-after, tasks-after, lanes-after}
 use Rattle.machine.proofs.Linearizability.Begun.TableBegun.{by-begin}
 use Rattle.machine.proofs.Linearizability.Corollaries.{
@@ -185,6 +187,11 @@ module _ {Fact : (lanes : ℕ) → View → (ℕ → Task) → Type 0} (L : Last
       times ws (ρ, A, F)
       .2
   call-keeps A F (dispatch-call h) = dispatch-keeps A F h
+  call-keeps {ws} {ρ} A F (dispatches-call h times) =
+      kept-in-dispatches (λ vs. (σ : Row) × Agrees vs σ × Of vs) h
+      (λ vs x. let E = dispatch-explained (x .1) h in (E .row, E .agrees, dispatch-keeps (x .1) (x .2) h))
+      times ws (ρ, A, F)
+      .2
   call-keeps {ws} {ρ} A F (run-call list answers) =
       subst Of (run-is-its-ticks ws list answers) (ticks-keep (run ws list answers .ran .made) list ws ρ A F)
   call-keeps {ws} {ρ} A F (panel-call list answers) =

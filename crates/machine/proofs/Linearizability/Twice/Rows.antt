@@ -16,10 +16,11 @@ use Rattle.machine.specs.Choice.{_≟_, if_then_else_}
 use Rattle.machine.specs.Sides.{Side, sideOf}
 use Rattle.machine.specs.Values.{number}
 use Rattle.machine.specs.Operations.{Operation, idle, push, pop, add, remove, operationOf}
-use Rattle.machine.specs.Answers.{refusalOf, isGoing, answerOf}
+use Rattle.machine.specs.Answers.{refusalOf, isGoing, dispatchGoesOn, answerOf}
 use Rattle.machine.specs.Calls.{isAmong}
 use Rattle.machine.specs.Row.{
   Note,
+  newNote,
   Row,
   emptyRow,
   noted,
@@ -45,11 +46,14 @@ use Rattle.machine.specs.Demand3.{
   tick-call,
   ticks-call,
   dispatch-call,
+  dispatches-call,
   run-call,
   panel-call,
   read-call,
   Given,
+  isCall,
   feedTick,
+  feedDispatches,
   feed,
 }
 use Rattle.machine.specs.Counts.{count}
@@ -63,6 +67,7 @@ use Rattle.machine.proofs.Linearizability.Histories.{
   bound,
   mapped,
   same-if,
+  unless-going,
   same-when-read,
 }
 use Rattle.machine.proofs.Linearizability.Twice.Lists.{
@@ -134,6 +139,7 @@ NewWhereBegun ρ (start-call S T g L) r = Unit {0}
 NewWhereBegun ρ (tick-call k h) r = Unit {0}
 NewWhereBegun ρ (ticks-call k h times) r = Unit {0}
 NewWhereBegun ρ (dispatch-call h) r = Unit {0}
+NewWhereBegun ρ (dispatches-call h times) r = Unit {0}
 NewWhereBegun ρ (run-call list answers) r = Unit {0}
 NewWhereBegun ρ (panel-call list answers) r = Unit {0}
 NewWhereBegun ρ (read-call l out) r = Unit {0}
@@ -395,19 +401,28 @@ once-dispatch (Answered a) {ρ} {ρ′} O e = go (refusalOf a) e
         let y = mapped (feedMade ρ (x .0) a) _ (x .2) in
         same-row (ap some (y .2)) (ticked (x .0) (once-made O (x .0) a (y .1)))
 
+once-dispatches : (n m : ℕ) (d : Dispatch) {ρ ρ′ : Row} → Once ρ → feedDispatches ρ n m d ≡ some ρ′ → Once ρ′
+unfolding feedDispatches
+once-dispatches zero zero d O e = subst Once (same-if (dispatchGoesOn d) e .1) O
+once-dispatches zero (suc m) d O e = clash (cc)
+once-dispatches (suc n) zero d O e = once-dispatch d O (unless-going (dispatchGoesOn d) e)
+once-dispatches (suc n) (suc m) d {ρ} O e =
+    let x = bound (feedDispatch ρ (Answered Going)) _ e in
+    once-dispatches n m d (once-dispatch (Answered Going) O (x .1)) (x .2)
+
 -- ---- Every call.
 pub once-fed : (c : Call) (r : Given c) {ρ ρ′ : Row} → Once ρ → NewWhereBegun ρ c r → feed ρ c r ≡ some ρ′ → Once ρ′
 once-fed (start-call S T g L) Accepted O new e = same-row e (once-empty T L)
 once-fed (start-call S T g L) (Reply-Refused n) O new e = same-row e O
 once-fed (begin-call k l op side argument) Accepted {ρ} O new e =
-    same-row (ap some (same-if (ltb l (ρ .lanes)) e .1))
-    (once-begun O k
-    (record { lane = l; operation = operationOf op; side = sideOf side; argument = number argument }) new)
+    same-row (ap some (same-if (isCall ρ k l op side argument) e .1))
+    (once-begun O k (newNote l op side argument) new)
 once-fed (begin-call k l op side argument) (Reply-Refused n) O new e = same-row e O
 once-fed (tick-call k h) a O new e = once-tick O k a e
 once-fed (ticks-call k h zero) a O new e = subst Once (same-if (isGoing a) e .1) O
 once-fed (ticks-call k h (suc n)) a O new e = once-tick O k a e
 once-fed (dispatch-call h) r O new e = once-dispatch r O e
+once-fed (dispatches-call h times) r O new e = once-dispatches times (r .1) (r .0) O e
 once-fed (run-call list answers) r O new e = once-run (r .0 .made) list (r .1) O e
 once-fed (panel-call list answers) r O new e = once-run (r .0 .made) list (r .1) O e
 once-fed (read-call l out) r {ρ} O new e = subst Once (same-when-read ρ l out (r .0) (r .1) e) O

@@ -15,6 +15,7 @@ use Rattle.machine.specs.Demand3.{
   tick-call,
   ticks-call,
   dispatch-call,
+  dispatches-call,
   run-call,
   panel-call,
   read-call,
@@ -55,6 +56,7 @@ module _ {ws : List ℕ} {ρ : Row} (A : Agrees ws ρ) where
   new-where-begun (tick-call k h) = tt
   new-where-begun (ticks-call k h times) = tt
   new-where-begun (dispatch-call h) = tt
+  new-where-begun (dispatches-call h times) = tt
   new-where-begun (run-call list answers) = tt
   new-where-begun (panel-call list answers) = tt
   new-where-begun (read-call l out) = tt
