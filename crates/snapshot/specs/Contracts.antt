@@ -3,7 +3,7 @@ use mathlib.Core.Bool.{Bool, _&&_}
 use mathlib.Core.List.{List, _++_}
 use Prim.Native.Nat.{ℕ, _+_, _*_}
 use lib.ListN.{length, getD, take, drop}
-use Rattle.machine.specs.Values.{valueOk}
+use Rattle.machine.specs.Values.{storedOf, valueOk}
 use Rattle.machine.specs.Table.{headerLength, nodeLength, nodeAt, nodeCount}
 use Rattle.machine.specs.Shape.{allBelow, nodeOrNone}
 use Rattle.machine.specs.Snapshots.{listed, nodePart}
@@ -30,7 +30,7 @@ linksOk S links = allBelow (length links) (linkOk S links)
 
 -- Values, each with its leading digit.
 abbrev pub storedOk : (words digits : List ℕ) → ℕ → Bool
-storedOk words digits x = valueOk (record { word = getD words x 0; digit = getD digits x 0 })
+storedOk words digits x = valueOk (storedOf (getD digits x 0) (getD words x 0))
 
 abbrev pub valuesOk : (words digits : List ℕ) → Bool
 valuesOk words digits = allBelow (length words) (storedOk words digits)

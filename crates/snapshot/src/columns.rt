@@ -2,8 +2,8 @@
 use layout::places::HEADER;
 use layout::places::NODE_COUNT;
 use layout::places::node_at;
-use machine::Stored;
 use shape::records::node_or_none;
+use values::of_words;
 use values::value_ok;
 ghost use mathlib.Core.Path.{_≡_};
 ghost use mathlib.Core.Bool.{true};
@@ -33,11 +33,7 @@ fn values_ok(words: &[u32], digits: &[u32]) -> bool
     let mut ok = true;
     let mut x = 0;
     while x < words.len() {
-        ok = ok
-            & value_ok(Stored {
-                word: words[x],
-                digit: digits[x],
-            });
+        ok = ok & value_ok(of_words(digits[x], words[x]));
         x += 1;
     }
     ok

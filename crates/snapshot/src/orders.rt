@@ -4,7 +4,7 @@ use layout::places::HEADER;
 use layout::places::NODE_COUNT;
 use layout::places::NODE_WORDS;
 use layout::places::node_at;
-use machine::Stored;
+use values::of_words;
 ghost use mathlib.Core.Path.{_≡_};
 ghost use mathlib.Core.Bool.{true};
 ghost use Prim.Native.Nat.{_*_, _≤_, _<_};
@@ -69,16 +69,7 @@ fn write_nodes(columns: &[u32], ns: &mut [u32], slots: u32)
     let mut x = 0;
     while x < slots {
         let i = x as usize;
-        nodes::write(
-            ns,
-            x,
-            left[i],
-            right[i],
-            Stored {
-                word: words[i],
-                digit: digits[i],
-            },
-        );
+        nodes::write(ns, x, left[i], right[i], of_words(digits[i], words[i]));
         x += 1;
     }
 }

@@ -10,7 +10,7 @@ use lib.Seq.{length-take-le, getD-take, getD-drop, drop-drop}
 use Rattle.machine.specs.declared.Stored.{Stored}
 use Rattle.machine.specs.Choice.{_<?_}
 use Rattle.machine.specs.Sides.{left, right}
-use Rattle.machine.specs.Values.{valueOk}
+use Rattle.machine.specs.Values.{storedOf, valueOk}
 use Rattle.machine.specs.Tasks.{recordLength}
 use Rattle.machine.specs.Table.{
   headerLength,
@@ -107,7 +107,7 @@ module _ (ss : List ℕ) (enough : nodeAt (nodeCount ss) ≤ length ss) where
   at c x = getD ss (headerLength + (S * c + x)) 0
 
   abbrev valueIn : ℕ → Stored
-  valueIn x = record { word = at 2 x; digit = at 3 x }
+  valueIn x = storedOf (at 3 x) (at 2 x)
 
   node-alike : (x : ℕ) → x < S → nodeOk (byNodes ss) x
       ≡ nodeOrNone S (at 0 x) && nodeOrNone S (at 1 x) && valueOk (valueIn x)
@@ -157,7 +157,7 @@ module _ (ss : List ℕ) (enough : nodeAt (nodeCount ss) ≤ length ss) where
       ∙ from-part (2 * S + x) (S * 2 + x) (omega arith) (omega arith) in
       let d : getD digits x 0 ≡ at 3 x =
       getD-drop (3 * S) (nodePart ss) x 0 ∙ from-part (3 * S + x) (S * 3 + x) (omega arith) (omega arith) in
-      ap (λ (u : Stored). valueOk u) (λ i. record { word = v i; digit = d i })
+      ap (λ (n : ℕ). valueOk (storedOf n (getD words x 0))) d ∙ ap (λ (n : ℕ). valueOk (storedOf (at 3 x) n)) v
 
   links-alike : linksOk S links
       ≡ allBelow S (λ x. nodeOrNone S (at 0 x)) && allBelow S (λ x. nodeOrNone S (at 1 x))

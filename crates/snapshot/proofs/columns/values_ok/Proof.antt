@@ -4,6 +4,7 @@ use Prim.Native.Nat.{_-_, _≤_}
 use native.Mathlib.Omega.{arith}
 use lib.ListN.{length}
 use Rattle.machine.specs.Shape.{allBelow}
+use Rattle.machine.specs.Values.{valueOk}
 use Rattle.snapshot.specs.Contracts.{storedOk}
 use Rattle.shape.proofs.Laws.Below.{none-below, one-tested}
 use borrow.Author.Needs.{needs}
@@ -20,17 +21,20 @@ loop-holds : tie.Need-loop-holds Inv-loop μ-loop
 loop-holds c =
     let a = c .before .before .args in (omega arith, sym (none-below (storedOk (a .words .now) (a .digits .now))))
 
-mul-t5 : tie.Need-mul-t5 Inv-loop μ-loop
-mul-t5 c = search needs
+mul-of-words : tie.Need-mul-of-words Inv-loop μ-loop
+mul-of-words c = search needs
 
-shared-slice-read-t8 : tie.Need-shared-slice-read-t8 Inv-loop μ-loop
-shared-slice-read-t8 c = search needs
+shared-slice-read-of-words : tie.Need-shared-slice-read-of-words Inv-loop μ-loop
+shared-slice-read-of-words c = search needs
 
-mul-t9 : tie.Need-mul-t9 Inv-loop μ-loop
-mul-t9 c = search needs
+mul-of-words-2 : tie.Need-mul-of-words-2 Inv-loop μ-loop
+mul-of-words-2 c = search needs
 
-shared-slice-read-t11 : tie.Need-shared-slice-read-t11 Inv-loop μ-loop
-shared-slice-read-t11 c = search needs
+shared-slice-read-of-words-2 : tie.Need-shared-slice-read-of-words-2 Inv-loop μ-loop
+shared-slice-read-of-words-2 c = search needs
+
+of-words-requires : tie.Need-of-words-requires Inv-loop μ-loop
+of-words-requires c κs = search needs
 
 value-ok-requires : tie.Need-value-ok-requires Inv-loop μ-loop
 value-ok-requires c κs = search needs
@@ -43,9 +47,13 @@ loop-less c = search needs
 
 loop-again : tie.Need-loop-again Inv-loop μ-loop
 loop-again c =
-    let l = c .before .before .before .before .loop in
-    let a = c .before .before .before .before .before .before .before .args in
-    (omega arith, one-tested (storedOk (a .words .now) (a .digits .now)) (l .x) (l .inv .1) (c .value-ok .ensures))
+    let n = c .before in
+    let l = n .before .before .before .before .loop in
+    let a = n .before .before .before .before .before .before .before .args in (
+      omega arith,
+      one-tested (storedOk (a .words .now) (a .digits .now)) (l .x) (l .inv .1)
+          (c .value-ok .ensures ∙ ap valueOk (n .of-words .ensures)),
+    )
 
 returns : tie.Need-returns Inv-loop μ-loop
 returns c =
@@ -61,10 +69,11 @@ values-ok-spec =
     Inv-loop
     μ-loop
     loop-holds
-    mul-t5
-    shared-slice-read-t8
-    mul-t9
-    shared-slice-read-t11
+    mul-of-words
+    shared-slice-read-of-words
+    mul-of-words-2
+    shared-slice-read-of-words-2
+    of-words-requires
     value-ok-requires
     add-x
     loop-less

@@ -7,6 +7,7 @@ use lib.ListN.{length, getD, take}
 use lib.Seq.{take-all, length-take-le}
 use Rattle.machine.specs.Table.{nodeLength}
 use Rattle.machine.specs.Snapshots.{rows, transposed}
+use Rattle.layout.specs.Words.{setNodeIn}
 use Rattle.snapshot.proofs.Laws.Fronts.{no-row, in-left, node-words, one-node}
 use borrow.Author.Needs.{needs}
 use Rattle.snapshot.proofs.orders.write_nodes.Statement.{statement}
@@ -101,17 +102,20 @@ mul-write-2 c = search needs
 shared-slice-read-write-2 : tie.Need-shared-slice-read-write-2 Inv-loop μ-loop
 shared-slice-read-write-2 c = search needs
 
-mul-t32 : tie.Need-mul-t32 Inv-loop μ-loop
-mul-t32 c = search needs
+mul-of-words : tie.Need-mul-of-words Inv-loop μ-loop
+mul-of-words c = search needs
 
-shared-slice-read-t34 : tie.Need-shared-slice-read-t34 Inv-loop μ-loop
-shared-slice-read-t34 c = search needs
+shared-slice-read-of-words : tie.Need-shared-slice-read-of-words Inv-loop μ-loop
+shared-slice-read-of-words c = search needs
 
-mul-t35 : tie.Need-mul-t35 Inv-loop μ-loop
-mul-t35 c = search needs
+mul-of-words-2 : tie.Need-mul-of-words-2 Inv-loop μ-loop
+mul-of-words-2 c = search needs
 
-shared-slice-read-t37 : tie.Need-shared-slice-read-t37 Inv-loop μ-loop
-shared-slice-read-t37 c = search needs
+shared-slice-read-of-words-2 : tie.Need-shared-slice-read-of-words-2 Inv-loop μ-loop
+shared-slice-read-of-words-2 c = search needs
+
+of-words-requires : tie.Need-of-words-requires Inv-loop μ-loop
+of-words-requires c κs = search needs
 
 write-requires : tie.Need-write-requires Inv-loop μ-loop
 write-requires c κs = search needs
@@ -125,14 +129,15 @@ loop-less c = search needs
 loop-again : tie.Need-loop-again Inv-loop μ-loop
 loop-again c =
     let w = c .before .before in
-    let turn = w .before .before .before .before .before .before in
+    let n = w .before in
+    let turn = n .before .before .before .before .before .before in
     let l = turn .before .loop in
     let s = turn .before .before .before .before .before .before .before .before in
     let a = s .args in
     let cs = a .columns .now in (
       omega arith,
       w .write .kept .0 ∙ l .inv .1,
-      ap (take (nodeLength * (l .x + 1))) (w .write .ensures)
+      ap (take (nodeLength * (l .x + 1))) (w .write .ensures ∙ ap (setNodeIn (l .ns) (l .x) _ _) (n .of-words .ensures))
           ∙ one-node (l .ns) (wordIn (a .slots) cs) (l .x) _ (omega (arith, l .inv .1, s .pre)) (l .inv .2)
           (node-words (a .slots) cs (s .pre .0) (l .x) (omega arith)) refl,
     )
@@ -180,10 +185,11 @@ write-nodes-spec =
     shared-slice-read-write
     mul-write-2
     shared-slice-read-write-2
-    mul-t32
-    shared-slice-read-t34
-    mul-t35
-    shared-slice-read-t37
+    mul-of-words
+    shared-slice-read-of-words
+    mul-of-words-2
+    shared-slice-read-of-words-2
+    of-words-requires
     write-requires
     add-x
     loop-less
