@@ -3,7 +3,7 @@ use mathlib.Core.Path.{_≡_}
 use mathlib.Core.Bool.{Bool, cond, _&&_}
 use mathlib.Core.List.{List, [], _∷_}
 use mathlib.Core.Option.{Option, some, none as nothing}
-use Prim.Native.Nat.{ℕ, zero, suc, _+_, _-_}
+use Prim.Native.Nat.{ℕ, zero, suc, _-_}
 use lib.Dec.{eqb}
 use Rattle.machine.specs.declared.Answer.{Answer}
 use Rattle.machine.specs.declared.Answer.the-variants.{Going, Pushed, Bag}
@@ -157,11 +157,6 @@ history [] ws η = η
 history (c ∷ cs) ws η = history cs (after c ws) (recordCall η c (given c ws))
 
 -- ---- The bags.
-
--- How often a bag is in a list of bags.
-unfoldable pub count : ℕ → List ℕ → ℕ
-count b [] = 0
-count b (x ∷ xs) = (if x ≟ b then 1 else 0) + count b xs
 
 -- A finished operation is this one, on lane l, with an answer of this kind.
 abbrev pub isOf : (l : ℕ) → Operation → Answer → Finished → Bool

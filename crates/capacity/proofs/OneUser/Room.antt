@@ -18,7 +18,7 @@ use Rattle.machine.specs.Values.{stored, number, bagOk}
 use Rattle.machine.specs.Operations.{Operation, idle, push, pop, add, remove, operationOf}
 use Rattle.machine.specs.Calls.{isAmong}
 use Rattle.machine.specs.Row.{put}
-use Rattle.machine.specs.Begun.{count}
+use Rattle.machine.specs.Counts.{count}
 use Rattle.machine.specs.Twice.{rowsBelow}
 use Rattle.capacity.specs.Alone.{Outcome, fromEnd, pushAlone, popFrom, alone}
 use Rattle.capacity.specs.OneUser.{
@@ -43,7 +43,8 @@ use Rattle.machine.proofs.Basics.Choices.{by-if}
 use Rattle.machine.proofs.Basics.Tests.{test-passed}
 use Rattle.machine.proofs.Words.RecordLaws.{operation-of-number, side-of-number}
 use Rattle.machine.proofs.Words.ValueLaws.{number-stored}
-use Rattle.machine.proofs.Linearizability.Twice.Lists.{count-other, count-append, not-counted, not-among, rows-changed}
+use Rattle.machine.proofs.Basics.Counts.{count-append}
+use Rattle.machine.proofs.Linearizability.Twice.Lists.{count-other, not-counted, not-among, rows-changed}
 use Rattle.capacity.proofs.Alone.Outcomes.{one-more, no-room, pushing}
 use Rattle.capacity.proofs.OneUser.States.{spare-then, spur-then, call-done}
 

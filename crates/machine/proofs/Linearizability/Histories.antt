@@ -27,6 +27,7 @@ use Rattle.machine.specs.declared.Reply.the-variants.{Accepted, Refused 
 use Rattle.machine.specs.declared.Reading.{Reading}
 use Rattle.machine.specs.declared.Reading.the-variants.{Count, Refused as Reading-Refused}
 use Rattle.machine.specs.Choice.{_≟_, if_then_else_}
+use Rattle.machine.specs.Counts.{count}
 use Rattle.machine.specs.Sides.{Side, left, right}
 use Rattle.machine.specs.Operations.{Operation, idle, push, pop, add, remove}
 use Rattle.machine.specs.Shape.{sameWords}
@@ -82,7 +83,6 @@ use Rattle.machine.specs.Begun.{
   recordDispatch,
   recordDispatches,
   recordCall,
-  count,
   bagsPushed,
   bagsPopped,
 }

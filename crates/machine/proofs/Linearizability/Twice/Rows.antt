@@ -56,10 +56,11 @@ use Rattle.machine.specs.Demand3.{
   feedDispatches,
   feed,
 }
-use Rattle.machine.specs.Begun.{count}
+use Rattle.machine.specs.Counts.{count}
 use Rattle.machine.specs.Twice.{PushNoted, rowsBelow, allBags, OnceInRow, SeenIn}
 use Rattle.machine.proofs.Basics.Contradiction.{clash, equal?, less?}
 use Rattle.machine.proofs.Basics.Choices.{if-yes, if-no}
+use Rattle.machine.proofs.Basics.Counts.{count-append}
 use Rattle.machine.proofs.Linearizability.Histories.{
   count-put,
   bag-taken,
@@ -76,7 +77,6 @@ use Rattle.machine.proofs.Linearizability.Twice.Lists.{
   count-other,
   count-more,
   places-differ,
-  count-append,
   rows-untouched,
   rows-changed,
 }
