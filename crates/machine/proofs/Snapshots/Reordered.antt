@@ -88,7 +88,7 @@ module _ (order : Order) (keeps : Keeps order) (ws : List ℕ) where
     unfolding reordered
     after-header = drop-at (take headerLength ws) (nodes ++ records) headerLength front
 
-    pub node-part : take (nodeLength * S) (drop headerLength (reordered order ws)) ≡ nodes
+    node-part : take (nodeLength * S) (drop headerLength (reordered order ws)) ≡ nodes
     node-part =
         ap (take (nodeLength * S)) after-header ∙ take-at nodes records (nodeLength * S) (keeps S (nodePart ws))
 
@@ -135,7 +135,7 @@ module _ (order back : Order) (keeps : Keeps order) (ws : List ℕ) (enough : no
 -- ---- The two orders.
 
 -- A word of column c is among the nodes' words.
-pub column-within : (S x c : ℕ) → x < S → c < nodeLength → S * c + x < nodeLength * S
+column-within : (S x c : ℕ) → x < S → c < nodeLength → S * c + x < nodeLength * S
 column-within S x zero h k = omega arith
 column-within S x (suc zero) h k = omega arith
 column-within S x (suc (suc zero)) h k = omega arith

@@ -78,10 +78,10 @@ has-columns ss passes = go (length ss <? nodeAt (nodeCount ss))
         let front = length-take headerLength ss in
         absurd (omega arith)
 
-pub columns-long : (ws : List ℕ) → nodeAt (nodeCount ws) ≤ length ws → length (byColumns ws) ≡ length ws
+columns-long : (ws : List ℕ) → nodeAt (nodeCount ws) ≤ length ws → length (byColumns ws) ≡ length ws
 columns-long ws enough = same-length (λ S. transposed S nodeLength) columns-keep ws enough
 
-pub nodes-long : (ss : List ℕ) → nodeAt (nodeCount ss) ≤ length ss → length (byNodes ss) ≡ length ss
+nodes-long : (ss : List ℕ) → nodeAt (nodeCount ss) ≤ length ss → length (byNodes ss) ≡ length ss
 nodes-long ss enough = same-length (λ S. transposed nodeLength S) nodes-keep ss enough
 
 -- ---- What is accepted.
@@ -143,7 +143,7 @@ module _ (ws out : List ℕ) (accepted : takeSnapshot ws out .reply ≡ Accepted
   pub taken-back : byNodes (takeSnapshot ws out .words) ≡ ws
   taken-back = ap byNodes words-taken ∙ nodes-of-columns ws room
 
-  pub put-taken : (old : List ℕ) → length old ≡ length ws
+  put-taken : (old : List ℕ) → length old ≡ length ws
       → putBack (takeSnapshot ws out .words) old ≡ record { reply = Accepted; words = ws }
   put-taken old long =
       put-accepted (takeSnapshot ws out .words) old

@@ -126,7 +126,7 @@ unfolding transposed
 at-transposed m n l r c h k = at-rows n m (λ c r. getD l (n * r + c) 0) c r k h
 
 -- Nothing else has each word at its place.
-pub is-transposed : (m n : ℕ) (l out : List ℕ) → length out ≡ m * n
+is-transposed : (m n : ℕ) (l out : List ℕ) → length out ≡ m * n
     → ((r c : ℕ) → r < m → c < n → getD out (m * c + r) 0 ≡ getD l (n * r + c) 0)
     → out ≡ transposed m n l
 unfolding transposed

@@ -85,7 +85,6 @@ module _ (n : ℕ) (cs : List ℕ) (long : length cs ≡ nodeLength * n) (x : �
       ≡ listed nodeLength (λ c. getD cs (n * c + x) 0)
   unfolding listed
   node-words =
-      let at : ℕ → ℕ = λ i. getD cs i 0 in
       let e₀ : n * 0 + x ≡ x = omega arith in
       let e₁ : n * 1 + x ≡ n + x = omega arith in
       let e₂ : n * 2 + x ≡ 2 * n + x = omega arith in

@@ -4,7 +4,7 @@ use mathlib.Core.Bool.{_&&_}
 use mathlib.Core.List.{List, [], _++_, append-nil, append-assoc}
 use Prim.Native.Nat.{ℕ, _+_, _*_, _-_, _≤_}
 use native.Mathlib.Omega.{arith}
-use lib.ListN.{length, take, drop, length-append, length-drop, drop-of-length-le}
+use lib.ListN.{length, take, drop, length-drop, drop-of-length-le}
 use lib.Seq.{length-take-le, take-append-add, take-at, drop-at}
 use borrow.Rule.Slice.PartMut.{putMid, postOf}
 use Rattle.machine.specs.Table.{headerLength, nodeLength, nodeAt, nodeCount}
@@ -47,16 +47,6 @@ module _ (S : ℕ) (from to : List ℕ) (enough : nodeAt S ≤ length from) (sam
       ∙ ap (λ (l : List ℕ). l ++ r) front
       ∙ ap (λ (l : List ℕ). (take headerLength from ++ nodes) ++ l) rest
       ∙ append-assoc (take headerLength from) nodes (drop (nodeAt S) from)
-
-  pub ends-long : length (withEnds S from to) ≡ length from
-  ends-long =
-      let nodes = take (nodeLength * S) (drop headerLength to) in
-      let joined = length-append (take headerLength from) (nodes ++ drop (nodeAt S) from) in
-      let after = length-append nodes (drop (nodeAt S) from) in
-      let last = length-drop (nodeAt S) from in
-      let h = header-long in
-      let n = nodes-long in
-      omega (arith, enough)
 
   -- Words written between them.
   pub between : (ys : List ℕ) {end : ℕ} → end ≡ nodeAt S
