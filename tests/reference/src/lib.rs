@@ -19,6 +19,7 @@ mod machine;
 pub mod refusal;
 mod shape;
 mod side;
+mod snapshot;
 mod step;
 pub mod table;
 
@@ -27,3 +28,4 @@ pub use answer::Answer;
 pub use calls::{begin, panel, read, run, start, tick, ticks};
 pub use dispatch::{dispatch, dispatches};
 pub use lists::{read_tags, write_tags};
+pub use snapshot::{put, take};
