@@ -7,6 +7,7 @@ mod lists;
 mod loads;
 mod measure;
 mod programs;
+mod snapshots;
 
 use std::hint::black_box;
 
@@ -122,6 +123,8 @@ fn main() {
     growth(rounds / 2);
     println!();
     lists::rows(rounds);
+    println!();
+    snapshots::rows(rounds);
     println!();
     lines::rows(line_rounds);
 }

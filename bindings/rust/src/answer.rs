@@ -142,6 +142,8 @@ pub enum Refusal {
     NoTag = 18,
     /// Tag list: the out slice is too short for it.
     TagsOut = 19,
+    /// Take, put: the snapshot and the table differ in length.
+    Snapshot = 22,
     /// Start: not one to four lanes. A [`Lane`](crate::Lane) has one.
     Lanes = 25,
     /// Begin, read: no such lane. A [`Lane`](crate::Lane) asks for none.
@@ -149,7 +151,7 @@ pub enum Refusal {
 }
 
 impl Refusal {
-    const ALL: [Refusal; 21] = [
+    const ALL: [Refusal; 22] = [
         Refusal::Sizes,
         Refusal::Length,
         Refusal::Table,
@@ -169,6 +171,7 @@ impl Refusal {
         Refusal::Tags,
         Refusal::NoTag,
         Refusal::TagsOut,
+        Refusal::Snapshot,
         Refusal::Lanes,
         Refusal::Lane,
     ];
@@ -221,6 +224,7 @@ impl fmt::Display for Refusal {
             Refusal::Tags => "not a whole number of tags, or more than 1,024",
             Refusal::NoTag => "a place of the tag list holds no tag",
             Refusal::TagsOut => "the out slice is too short for the tag list",
+            Refusal::Snapshot => "the snapshot and the table differ in length",
             Refusal::Lanes => "not one to four lanes",
             Refusal::Lane => "no such lane",
         };
@@ -348,7 +352,7 @@ mod tests {
     fn every_refusal_is_decoded_once_and_back() {
         for number in (0..=99).chain([u32::MAX]) {
             let refusal = Refusal::from_number(number);
-            let given = matches!(number, 1..=19 | 25..=26);
+            let given = matches!(number, 1..=19 | 22 | 25..=26);
             assert_eq!(refusal.map(Refusal::number), given.then_some(number));
         }
     }

@@ -48,6 +48,10 @@
 //! The baggage office sends and wants lists of tags in packed decimal. [`tags_read`] and [`tags_write`] take them to
 //! two words a tag, as [`Lane::read`] writes them, and back; they need no table.
 //!
+//! A [`Snapshot`] holds the words of a table by columns, to keep and to compare. [`Lanes::take`] takes one, and
+//! [`Lanes::put`] puts it back: the table is then what it was, and the calls after it are answered as those after the
+//! moment at which it was taken. Put back only what you took, whole.
+//!
 //! [`Answer::Yes`] of a remove says that nothing more is to be done by it, and not that a slot was given back.
 //! [`Answer::No`] of a remove, with no other task in a call, means exactly one spare slot more than asked for; trying
 //! again changes nothing.
@@ -57,7 +61,8 @@
 //!
 //! # What a caller can count on
 //!
-//! This is proved of tables that a start began and these calls alone have written since; the README says it in full.
+//! This is proved of tables that a start began and these calls alone have written since, a put only of a snapshot that
+//! was taken of such a table and not altered; the README says it in full.
 //!
 //! With no task in a call, what a call that then gets all the ticks ([`Lanes::call`]) answers and leaves is told by the
 //! bags, the spare slots at its end, r, the free slots, f, and whether that end has a slot on a spur, y, 1 or 0:
@@ -95,6 +100,7 @@ mod lane;
 mod lanes;
 mod limits;
 mod list;
+mod snapshot;
 mod tag;
 mod view;
 
@@ -109,6 +115,7 @@ pub use limits::{
     TAG_BYTES,
 };
 pub use list::{tags_read, tags_write, RefusedTags};
+pub use snapshot::Snapshot;
 pub use tag::{ParseTagError, Tag, Tags};
 pub use view::Bags;
 

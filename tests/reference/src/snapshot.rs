@@ -14,16 +14,10 @@ pub fn take(table: &[u32], snapshot: &mut [u32]) -> Result<(), u32> {
     snapshot[..between.start].copy_from_slice(&table[..between.start]);
     snapshot[between.end..].copy_from_slice(&table[between.end..]);
     let nodes = table[between.clone()].chunks_exact(node::WORDS);
-    let (left, rest) = snapshot[between].split_at_mut(nodes.len());
-    let (right, rest) = rest.split_at_mut(nodes.len());
-    let (values, digits) = rest.split_at_mut(nodes.len());
-    let links = left.iter_mut().zip(right);
-    let contents = values.iter_mut().zip(digits);
-    for (node, ((left, right), (value, digit))) in nodes.zip(links.zip(contents)) {
-        *left = node[node::LEFT];
-        *right = node[node::RIGHT];
-        *value = node[node::VALUE];
-        *digit = node[node::DIGIT];
+    for (column, words) in snapshot[between].chunks_exact_mut(nodes.len()).enumerate() {
+        for (word, node) in words.iter_mut().zip(nodes.clone()) {
+            *word = node[column];
+        }
     }
     Ok(())
 }
@@ -37,15 +31,12 @@ pub fn put(snapshot: &[u32], table: &mut [u32]) -> Result<(), u32> {
     let between = sizes.node(0)..sizes.record(0);
     table[..between.start].copy_from_slice(&snapshot[..between.start]);
     table[between.end..].copy_from_slice(&snapshot[between.end..]);
-    let [left, right, values, digits] = sizes.columns(&snapshot[between.clone()]);
-    let links = left.iter().zip(right);
-    let contents = values.iter().zip(digits);
-    let nodes = table[between].chunks_exact_mut(node::WORDS);
-    for (node, ((left, right), (value, digit))) in nodes.zip(links.zip(contents)) {
-        node[node::LEFT] = *left;
-        node[node::RIGHT] = *right;
-        node[node::VALUE] = *value;
-        node[node::DIGIT] = *digit;
+    let columns = sizes.columns(&snapshot[between.clone()]);
+    let nodes = &mut table[between];
+    for (column, words) in columns.into_iter().enumerate() {
+        for (node, word) in nodes.chunks_exact_mut(node::WORDS).zip(words) {
+            node[column] = *word;
+        }
     }
     Ok(())
 }

@@ -18,7 +18,8 @@ impl Kept {
             return;
         }
         if self.0.len() as u32 == MOST {
-            self.0.swap_remove(random.below(MOST) as usize);
+            // Any but the latest.
+            self.0.remove(random.below(MOST - 1) as usize);
         }
         self.0.push((snapshot, row.clone()));
     }
