@@ -1,36 +1,23 @@
 -- What fits: just S bags less two for each lane when all ends were pushed until "full".
-use mathlib.Core.Path.{_≡_, refl, sym, subst, _∙_}
+use mathlib.Core.Path.{_≡_, refl, sym, _∙_, subst}
 use mathlib.Core.Logic.{_⊎_, inl, inr}
 use mathlib.Core.List.{List, [], _∷_}
-use mathlib.Core.Option.{some, bind}
-use Prim.Native.Nat.{ℕ, zero, suc, _+_, _*_, _-_, _≤_, _<_}
+use mathlib.Core.Option.{some}
+use Prim.Native.Nat.{ℕ, _+_, _*_, _-_, _<_}
 use native.Mathlib.Omega.{arith}
 use lib.ListN.{length}
+use Rattle.machine.specs.declared.Answer.{Answer}
+use Rattle.machine.specs.declared.Answer.the-variants.{Full}
 use Rattle.machine.specs.Sides.{Side, left, right, opposite}
-use Rattle.machine.specs.Values.{X}
-use Rattle.machine.specs.Table.{nodeCount, laneCount, hat, value}
-use Rattle.machine.specs.Reach.{Reachable}
-use Rattle.machine.specs.Calls.{lanesBelow, allLanes}
+use Rattle.machine.specs.Table.{nodeCount, laneCount}
+use Rattle.machine.specs.Calls.{allLanes}
 use Rattle.machine.specs.Begun.{Begun}
 use Rattle.machine.specs.Twice.{rowsBelow}
-use Rattle.capacity.specs.NoLeak.{
-  Idle,
-  HatPlace,
-  in-list,
-  beside,
-  LaneShape,
-  laneSize,
-  IdleLane,
-  IdleTable,
-  CountBelow,
-  none-below,
-  one-more,
-  not-this,
-  AllCounted,
-}
+use Rattle.capacity.specs.NoLeak.{Idle, laneSize, IdleTable, AllCounted}
 use Rattle.capacity.specs.Capacity.{
   FilledFrom,
   is-full,
+  one-more,
   End,
   FilledEnds,
   all-filled,
@@ -38,84 +25,47 @@ use Rattle.capacity.specs.Capacity.{
   Among,
   first,
   later,
-  Capacity,
 }
 use Rattle.capacity.specs.Capacity as Capacity
-use Rattle.machine.proofs.Basics.Contradiction.{less?, equal?, clash}
+use Rattle.capacity.specs.Alone.{spareOf, spurOf}
+use Rattle.machine.proofs.Basics.Contradiction.{clash, equal?}
 use Rattle.machine.proofs.Shape.ShapeLaws.{well-sized}
 use Rattle.machine.proofs.Linearizability.Model.Sides.{sides}
 use Rattle.machine.proofs.Linearizability.Corollaries.{begun-agrees}
-use Rattle.capacity.proofs.Counting.{total-two, total-same}
+use Rattle.capacity.proofs.Counting.{total-two, total-same, length-rows, total-const}
 use Rattle.capacity.proofs.Theorem.{no-leak}
-use Rattle.capacity.proofs.PushEffects.{OtherEnd}
-use Rattle.capacity.proofs.WhenFull.{IsFull, push-answers, push-full}
-use Rattle.capacity.proofs.FillsUp.{length-rows, total-const}
+use Rattle.capacity.proofs.Alone.Ends.{OtherEnd}
+use Rattle.capacity.proofs.Alone.Rows.{lanes-below}
+use Rattle.capacity.proofs.Alone.Outcomes.{no-room}
+use Rattle.capacity.proofs.Alone.Outcomes as Outcomes
+use Rattle.capacity.proofs.Alone.Theorem.{free-after}
+use Rattle.capacity.proofs.FillsUp.{tableOf, countOf, PushDone, push-done}
 
--- ---- A table with no task in a call, every node reached, and all hats at the ends of their lists.
-none-counted : {P : ℕ → Type 0} {n c : ℕ} → CountBelow P n c → ((x : ℕ) → x < n → P x → ⊥) → c ≡ 0
-none-counted none-below never = refl
-none-counted (one-more {n} p C) never = absurd (never n (omega arith) p)
-none-counted (not-this p C) never = none-counted C (λ x l. never x (omega arith))
+-- ---- An end that is filled: its last node alone is spare there, and there is no spur.
+pub record EndFilled (ws : List ℕ) (j : ℕ) (z : Side) : Type 0 where
+  pub one-spare : (T : IdleTable ws) → spareOf z (T .shape j) ≡ 1
+  pub no-spur : (T : IdleTable ws) → spurOf z (T .shape j) ≡ 0
 
--- A hat at an X is in the list.
-at-end-listed : {ws : List ℕ} {ℓ : ℕ} {s : Side} {spare next c : ℕ} → HatPlace ws ℓ s spare next c
-    → value ws (hat ws ℓ s) ≡ X s
-    → (c ≡ 0) × (value ws spare ≡ X s)
-at-end-listed (in-list e) v = (refl, cc)
-at-end-listed (beside y o i) v = clash (cc)
+abbrev NoneFree : List ℕ → Type 0
+NoneFree ws = (T : IdleTable ws) (C : AllCounted ws T) → C .free ≡ 0
 
+-- ---- A table with every end filled and no node free: a lane is its bags and its two ends.
 module _ {ws : List ℕ} (B : Begun ws) (idle-now : Idle ws)
-    (at-ends : (ℓ : ℕ) → ℓ < laneCount ws → (s : Side) → value ws (hat ws ℓ s) ≡ X s)
-    (all-reached : (x : ℕ) → x < nodeCount ws → Reachable ws x) where
+    (all-ends : (ℓ : ℕ) → ℓ < laneCount ws → (s : Side) → EndFilled ws ℓ s) (none-free : NoneFree ws) where
   abbrev T : IdleTable ws
   T = no-leak ws B idle-now .0
 
   counted : AllCounted ws T
   counted = no-leak ws B idle-now .1
 
-  none-free : counted .free ≡ 0
-  none-free = none-counted (counted .free-nodes) (λ x l F. F .unreached (all-reached x l))
-
   abbrev bagsOf : ℕ → List ℕ
   bagsOf ℓ = T .shape ℓ .bags
 
-  -- A lane is its bags and its two ends.
-  module _ (ℓ : ℕ) (is-lane : ℓ < laneCount ws) where
-    abbrev I : LaneShape
-    I = T .shape ℓ
-
-    N : IdleLane ws ℓ (T .shape ℓ)
-    N = T .idle-lane ℓ is-lane
-
-    one-left : I .l ≡ 1
-    one-left =
-        let M = N .main-list in
-        let v = at-end-listed (N .left-hat) (at-ends ℓ is-lane left) .1 in
-        elim (less? 0 (I .l - 1)) [
-          | inl l ↦ clash (cc (M .N-left (I .l - 1) l (omega (arith, M .some-left))))
-          | inr l ↦ omega (arith, M .some-left)
-        ]
-
-    one-right : I .r ≡ 1
-    one-right =
-        let M = N .main-list in
-        let v = at-end-listed (N .right-hat) (at-ends ℓ is-lane right) .1 in
-        let z : I .l + length (I .bags) + 0 ≡ I .l + length (I .bags) = omega arith in
-        elim (less? 1 (I .r)) [
-          | inl l ↦ clash (cc (M .N-right 0 l))
-          | inr l ↦ omega (arith, M .some-right)
-        ]
-
-    lane-filled : laneSize I ≡ length (I .bags) + 2
-    lane-filled =
-        let x = at-end-listed (N .left-hat) (at-ends ℓ is-lane left) .0 in
-        let y = at-end-listed (N .right-hat) (at-ends ℓ is-lane right) .0 in
-        omega (arith, one-left, one-right)
-
-  all-below : (n : ℕ) → n ≤ laneCount ws → lanesBelow ws n ≡ some (rowsBelow bagsOf n)
-  unfolding lanesBelow rowsBelow bind
-  all-below zero h = refl
-  all-below (suc n) h = rw (all-below n (omega arith), T .idle-lane n h .lane-is)
+  lane-filled : (ℓ : ℕ) → ℓ < laneCount ws → laneSize (T .shape ℓ) ≡ length (bagsOf ℓ) + 2
+  lane-filled ℓ h =
+      let l = all-ends ℓ h left in
+      let r = all-ends ℓ h right in
+      omega (arith, l .one-spare T, l .no-spur T, r .one-spare T, r .no-spur T)
 
   filled : (bags : List ℕ) × (allLanes ws ≡ some bags) × (length bags + 2 * laneCount ws ≡ nodeCount ws)
   filled =
@@ -124,53 +74,110 @@ module _ {ws : List ℕ} (B : Begun ws) (idle-now : Idle ws)
       let same = total-same (λ ℓ. laneSize (T .shape ℓ)) (λ ℓ. lengths ℓ + 2) L lane-filled in
       let both = total-two lengths (λ ℓ. 2) L in (
         rowsBelow bagsOf L,
-        all-below L (omega arith),
-        omega (arith, counted .all-counted, none-free, length-rows bagsOf L, total-const 2 L),
+        lanes-below ws bagsOf L (λ ℓ h. T .idle-lane ℓ h .lane-is),
+        omega (arith, counted .all-counted, none-free T counted, length-rows bagsOf L, total-const 2 L),
       )
 
+-- ---- A push leaves the other ends, and where it is "full" its own is filled and no node is free.
+module _ {ws vs : List ℕ} (B : Begun ws) (idle-now : Idle ws) {ℓ : ℕ} {s : Side} {a : Answer}
+    (D : PushDone B idle-now ℓ s a vs) where
+  others-stay : (j : ℕ) (z : Side) → j < laneCount ws → OtherEnd ℓ (opposite s) j z → EndFilled ws j z
+      → EndFilled vs j z
+  others-stay j z h other F =
+      let K = D .left-idle in
+      let T₀ = tableOf B idle-now in
+      elim (equal? j ℓ) [
+        | inr ne ↦
+            record {
+              one-spare = λ T'. K .others T' j h ne .same-spare z ∙ F .one-spare T₀;
+              no-spur = λ T'. K .others T' j h ne .same-spur z ∙ F .no-spur T₀;
+            }
+        | inl e ↦ at-far e other F
+      ]
+    where
+      at-far : j ≡ ℓ → OtherEnd ℓ (opposite s) j z → EndFilled ws j z → EndFilled vs j z
+      at-far e (inl ne) F = absurd (ne e)
+      at-far e (inr q) F =
+          let K = D .left-idle in
+          let T₀ = tableOf B idle-now in
+          let F' = subst (λ (i : ℕ). EndFilled ws i (opposite s)) e (subst (EndFilled ws j) q F) in
+          subst (EndFilled vs j) (sym q)
+          (subst (λ (i : ℕ). EndFilled vs i (opposite s)) (sym e)
+          (record {
+            one-spare = λ T'. K .far-spare T' ∙ F' .one-spare T₀;
+            no-spur = λ T'. K .far-spur T' ∙ F' .no-spur T₀;
+          }))
+
+  full-end : a ≡ Full → EndFilled vs ℓ s × NoneFree vs
+  full-end full =
+      elim (D .by-room) [
+        | Outcomes.one-more n m m' pushed kept ↦ clash (cc (D .answers))
+        | no-room m m' says kept ↦
+            let K = D .left-idle in (
+              record {
+                one-spare = λ T'. K .own-spare T' ∙ omega arith;
+                no-spur = λ T'. K .own-spur T' ∙ omega arith;
+              },
+              (λ T' C'.
+                  let sum =
+                  free-after ws vs (tableOf B idle-now) (countOf B idle-now) ℓ (D .is-lane) s (D .outcome) K T' C' in
+                  omega arith),
+            )
+      ]
+
 -- ---- Pushes on one end until "full".
-pub record Filled (ws : List ℕ) (ℓ : ℕ) (s : Side) (vs : List ℕ) : Type 0 where
-  pub last : List ℕ
-  pub is-full-there : IsFull last ℓ s vs
-  pub same-count : nodeCount vs ≡ nodeCount ws
+record Filled (ws : List ℕ) (ℓ : ℕ) (s : Side) (vs : List ℕ) : Type 0 where
+  pub begun : Begun vs
+  pub idle-now : Idle vs
+  pub same-nodes : nodeCount vs ≡ nodeCount ws
   pub same-lanes : laneCount vs ≡ laneCount ws
-  pub far-end : (j : ℕ) (z : Side) → OtherEnd ℓ (opposite s) j z → j < laneCount ws → value ws (hat ws j z) ≡ X z
-      → value vs (hat vs j z) ≡ X z
+  pub own-end : EndFilled vs ℓ s
+  pub none-free : NoneFree vs
+  pub other-ends :
+      (j : ℕ) (z : Side) → j < laneCount ws → OtherEnd ℓ (opposite s) j z → EndFilled ws j z → EndFilled vs j z
 
 fills : {ws vs : List ℕ} {ℓ : ℕ} {s : Side} → Begun ws → Idle ws → FilledFrom ℓ s vs ws → Filled ws ℓ s vs
-fills {ws} B idle-now (is-full P) =
-    let F = push-full B idle-now P in
+fills B idle-now (is-full P) =
+    let D = push-done B idle-now P in
+    let K = D .left-idle in
+    let F = full-end B idle-now D refl in
     record {
-      last = ws;
-      is-full-there = F;
-      same-count = F .answered .same-count;
-      same-lanes = F .answered .same-lanes;
-      far-end = F .answered .far-end;
+      begun = K .begun;
+      idle-now = K .idle-now;
+      same-nodes = K .same-nodes;
+      same-lanes = K .same-lanes;
+      own-end = F .0;
+      none-free = F .1;
+      other-ends = others-stay B idle-now D;
     }
-fills B idle-now (Capacity.one-more P more) =
-    let A = push-answers B idle-now P in
-    let F = fills (A .begun) (A .idle-now) more in
+fills B idle-now (one-more P more) =
+    let D = push-done B idle-now P in
+    let K = D .left-idle in
+    let F = fills (K .begun) (K .idle-now) more in
     record {
-      last = F .last;
-      is-full-there = F .is-full-there;
-      same-count = F .same-count ∙ A .same-count;
-      same-lanes = F .same-lanes ∙ A .same-lanes;
-      far-end =
-          λ j z y h v.
-          F .far-end j z y (subst (λ (n : ℕ). j < n) (sym (A .same-lanes)) h) (A .far-end j z y h v);
+      begun = F .begun;
+      idle-now = F .idle-now;
+      same-nodes = F .same-nodes ∙ K .same-nodes;
+      same-lanes = F .same-lanes ∙ K .same-lanes;
+      own-end = F .own-end;
+      none-free = F .none-free;
+      other-ends =
+          λ j z h other E.
+          F .other-ends j z (subst (λ (n : ℕ). j < n) (sym (K .same-lanes)) h) other
+          (others-stay B idle-now D j z h other E);
     }
 
--- A hat at an end stays at one, on every end: also on the one that was filled.
+-- A filled end stays so, whichever it is.
 ends-stay : {ws vs : List ℕ} {ℓ : ℕ} {s : Side} → Filled ws ℓ s vs → (j : ℕ) (z : Side) → j < laneCount ws
-    → value ws (hat ws j z) ≡ X z
-    → value vs (hat vs j z) ≡ X z
-ends-stay {ws} {vs} {ℓ} {s} F j z h v =
+    → EndFilled ws j z
+    → EndFilled vs j z
+ends-stay {ws} {vs} {ℓ} {s} F j z h E =
     elim (equal? j ℓ) [
-      | inr ne ↦ F .far-end j z (inl ne) h v
+      | inr ne ↦ F .other-ends j z h (inl ne) E
       | inl e ↦
           elim (sides s .either z) [
-            | inr q ↦ F .far-end j z (inr q) h v
-            | inl q ↦ cc (F .is-full-there .at-end)
+            | inr q ↦ F .other-ends j z h (inr q) E
+            | inl q ↦ subst (λ (i : ℕ). EndFilled vs i z) (sym e) (subst (EndFilled vs ℓ) (sym q) (F .own-end))
           ]
     ]
 
@@ -178,15 +185,11 @@ ends-stay {ws} {vs} {ℓ} {s} F j z h v =
 record AllFilled (ws : List ℕ) (ends : List End) (vs : List ℕ) : Type 0 where
   pub begun : Begun vs
   pub idle-now : Idle vs
-  pub same-count : nodeCount vs ≡ nodeCount ws
+  pub same-nodes : nodeCount vs ≡ nodeCount ws
   pub same-lanes : laneCount vs ≡ laneCount ws
-  pub stay : (j : ℕ) (z : Side) → j < laneCount ws → value ws (hat ws j z) ≡ X z → value vs (hat vs j z) ≡ X z
-  pub at-ends : (j : ℕ) (z : Side) → j < laneCount ws → Among (j, z) ends → value vs (hat vs j z) ≡ X z
-  pub all-reached :
-      ((x : ℕ) → x < nodeCount ws → Reachable ws x) ⊎ ((e : End) × Among e ends)
-      → (x : ℕ)
-      → x < nodeCount vs
-      → Reachable vs x
+  pub stay : (j : ℕ) (z : Side) → j < laneCount ws → EndFilled ws j z → EndFilled vs j z
+  pub at-ends : (j : ℕ) (z : Side) → j < laneCount ws → Among (j, z) ends → EndFilled vs j z
+  pub none-free : NoneFree ws ⊎ ((e : End) × Among e ends) → NoneFree vs
 
 -- One end, then the others.
 one-end-more : {ws us vs : List ℕ} {ℓ : ℕ} {s : Side} {ends : List End} → Filled ws ℓ s us → AllFilled us ends vs
@@ -195,18 +198,18 @@ one-end-more {ws} {us} {vs} {ℓ} {s} {ends} F G =
     record {
       begun = G .begun;
       idle-now = G .idle-now;
-      same-count = G .same-count ∙ F .same-count;
+      same-nodes = G .same-nodes ∙ F .same-nodes;
       same-lanes = G .same-lanes ∙ F .same-lanes;
-      stay = λ j z h v. G .stay j z (still j h) (ends-stay F j z h v);
+      stay = λ j z h E. G .stay j z (still j h) (ends-stay F j z h E);
       at-ends = there;
-      all-reached = λ _. G .all-reached (inl (F .is-full-there .all-reached));
+      none-free = λ _. G .none-free (inl (F .none-free));
     }
   where
     still : (j : ℕ) → j < laneCount ws → j < laneCount us
     still j h = subst (λ (n : ℕ). j < n) (sym (F .same-lanes)) h
 
-    there : (j : ℕ) (z : Side) → j < laneCount ws → Among (j, z) ((ℓ, s) ∷ ends) → value vs (hat vs j z) ≡ X z
-    there j z h first = G .stay ℓ s (still ℓ h) (F .is-full-there .at-end)
+    there : (j : ℕ) (z : Side) → j < laneCount ws → Among (j, z) ((ℓ, s) ∷ ends) → EndFilled vs j z
+    there j z h first = G .stay ℓ s (still ℓ h) (F .own-end)
     there j z h (later a) = G .at-ends j z (still j h) a
 
 fill-ends : {ws vs : List ℕ} {ends : List End} → Begun ws → Idle ws → FilledEnds vs ends ws → AllFilled ws ends vs
@@ -214,26 +217,21 @@ fill-ends {ws} {vs} B idle-now all-filled =
     record {
       begun = B;
       idle-now = idle-now;
-      same-count = refl;
+      same-nodes = refl;
       same-lanes = refl;
-      stay = λ j z h v. v;
+      stay = λ j z h E. E;
       at-ends = λ j z h a. not-there a;
-      all-reached = λ r. by-start r;
+      none-free = by-start;
     }
   where
     not-there : {e : End} {Q : Type 0} → Among e [] → Q
     not-there a = elim a [ ]
 
-    by-start : ((x : ℕ) → x < nodeCount ws → Reachable ws x) ⊎ ((e : End) × Among e [])
-        → (x : ℕ)
-        → x < nodeCount ws
-        → Reachable ws x
-    by-start (inl r) = r
+    by-start : NoneFree ws ⊎ ((e : End) × Among e []) → NoneFree ws
+    by-start (inl n) = n
     by-start (inr (e, a)) = not-there a
-fill-ends {ws} {vs} B idle-now (next-filled {us = us} {ends} ℓ s first-end others) =
-    let F = fills B idle-now first-end in
-    let A = F .is-full-there .answered in
-    one-end-more F (fill-ends (A .begun) (A .idle-now) others)
+fill-ends B idle-now (next-filled ℓ s first-end others) =
+    let F = fills B idle-now first-end in one-end-more F (fill-ends (F .begun) (F .idle-now) others)
 
 pub capacity : Capacity.Capacity
 capacity ws vs ends B idle-now all-ends filled-so =
@@ -243,8 +241,8 @@ capacity ws vs ends B idle-now all-ends filled-so =
     let r =
     filled (F .begun) (F .idle-now)
     (λ ℓ h s. let l = subst (λ (n : ℕ). ℓ < n) (F .same-lanes) h in F .at-ends ℓ s l (all-ends ℓ l s))
-    (F .all-reached (inr (_, some-end))) in (
+    (F .none-free (inr (_, some-end))) in (
       r .0,
       r .1,
-      subst (λ (n : ℕ). length (r .0) + 2 * n ≡ nodeCount ws) (F .same-lanes) (r .2 ∙ F .same-count),
+      subst (λ (n : ℕ). length (r .0) + 2 * n ≡ nodeCount ws) (F .same-lanes) (r .2 ∙ F .same-nodes),
     )

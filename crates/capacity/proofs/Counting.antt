@@ -2,8 +2,11 @@
 use mathlib.Core.Path.{_≡_, refl, sym, ap, _∙_, subst}
 use mathlib.Core.Logic.{_≢_, _⊎_, inl, inr}
 use mathlib.Core.Bool.{Bool, true, false, cond}
-use Prim.Native.Nat.{ℕ, zero, suc, _+_, _≤_, _<_}
+use mathlib.Core.List.{List}
+use Prim.Native.Nat.{ℕ, zero, suc, _+_, _*_, _≤_, _<_}
 use native.Mathlib.Omega.{arith}
+use lib.ListN.{length, length-append}
+use Rattle.machine.specs.Twice.{rowsBelow}
 use Rattle.capacity.specs.NoLeak.{CountBelow, none-below, one-more, not-this, total}
 use Rattle.machine.proofs.Basics.Contradiction.{clash, equal?}
 use Rattle.machine.proofs.Basics.Updates.{Wrote, it-is, it-is-not, wrote?, update, update-wrote}
@@ -214,6 +217,16 @@ pub total-same : (f g : ℕ → ℕ) (n : ℕ) → ((ℓ : ℕ) → ℓ < n → 
 unfolding total
 total-same f g zero h = refl
 total-same f g (suc n) h = omega (arith, total-same f g n (λ ℓ l. h ℓ (omega arith)), h n (omega arith))
+
+pub length-rows : (f : ℕ → List ℕ) (n : ℕ) → length (rowsBelow f n) ≡ total (λ ℓ. length (f ℓ)) n
+unfolding rowsBelow total
+length-rows f zero = refl
+length-rows f (suc n) = let e = length-append (rowsBelow f n) (f n) in omega (arith, length-rows f n)
+
+pub total-const : (c n : ℕ) → total (λ ℓ. c) n ≡ c * n
+unfolding total
+total-const c zero = omega arith
+total-const c (suc n) = omega (arith, total-const c n)
 
 -- A test that decides P counts P.
 pub count-decides : (P : ℕ → Type 0) (p : ℕ → Bool) (n : ℕ)

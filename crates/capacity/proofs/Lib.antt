@@ -15,10 +15,12 @@ pub mod BegunRemovers
 pub mod IdleTables
 pub mod Counting
 pub mod Theorem
--- Pushes alone: when they are "full", and what fits.
-pub mod PushEffects
-pub mod PushesAlone
-pub mod WhenFull
+-- Calls alone, exactly.
+pub mod Alone
+-- What fits: at every moment, and by pushes alone until "full".
+pub mod MostBags
 pub mod NewNumber
 pub mod FillsUp
 pub mod Capacity
+-- The machine for one user.
+pub mod OneUser

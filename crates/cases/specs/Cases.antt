@@ -146,6 +146,7 @@ cases =
           ∷ begins 0 0 3 1 0 0 ⟶ ok
           ∷ ticks 0 0 100 ⟶ answers 5 Yes
           ∷ looks-at-node 1 ⟶ node-is 0 2 (N right)
+          ∷ looks-at-node 2 ⟶ node-is 1 none (X right)
           ∷ ticks 1 0 1 ⟶ answers 1 Pushed
           ∷ looks-at-hat 0 right ⟶ hat-is 4
           ∷ looks-at-node 4 ⟶ node-is 1 none (Y right)

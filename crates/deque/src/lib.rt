@@ -16,6 +16,8 @@ use packed::write_tags;
 use reading::read;
 use running::panel;
 use running::run;
+use snapshot::put;
+use snapshot::take;
 use starting::start;
 use ticking::tick;
 use ticking::ticks;
@@ -26,6 +28,7 @@ ghost use Rattle.tag.specs.Tags.{largestTag};
 ghost use Rattle.machine.specs.Values.{storedOf};
 ghost use Rattle.machine.specs.Answers.{replyNumber, payloadOf, dispatchPayloadOf};
 ghost use Rattle.machine.specs.Calls as calls;
+ghost use Rattle.machine.specs.Snapshots.{takeSnapshot, putBack};
 ghost use Rattle.deque.specs.Exports.{pairOf, answerNumber, dispatchNumber, ranNumber, readingNumber, listNumber};
 ghost use Rattle.packed.specs.TagLists.{answerOf, readTags, writeTags};
 
@@ -202,6 +205,24 @@ pub extern "C" fn lane_read(table: &[u32], lane: u32, out: &mut [u32]) -> u64
     ensures { λ r. ⌜ now (out .exit) ≡ calls.read (now (table .entry)) lane (now (out .entry)) .out ⌝ }
 {
     reading_number(read(table, lane, out))
+}
+
+// 2026-10: a snapshot of the table; 0, or the refusal.
+#[no_mangle]
+pub extern "C" fn lane_take(table: &[u32], snapshot: &mut [u32]) -> u32
+    ensures { λ r. ⌜ r ≡ replyNumber (takeSnapshot (now (table .entry)) (now (snapshot .entry)) .reply) ⌝ }
+    ensures { λ r. ⌜ now (snapshot .exit) ≡ takeSnapshot (now (table .entry)) (now (snapshot .entry)) .words ⌝ }
+{
+    reply_number(take(table, snapshot))
+}
+
+// The table that a snapshot puts back; 0, or the refusal.
+#[no_mangle]
+pub extern "C" fn lane_put(snapshot: &[u32], table: &mut [u32]) -> u32
+    ensures { λ r. ⌜ r ≡ replyNumber (putBack (now (snapshot .entry)) (now (table .entry)) .reply) ⌝ }
+    ensures { λ r. ⌜ now (table .exit) ≡ putBack (now (snapshot .entry)) (now (table .entry)) .words ⌝ }
+{
+    reply_number(put(snapshot, table))
 }
 
 // 2026-05: the number of the tags read, or the refusal times 2^32, plus the place of 18.

@@ -8,6 +8,8 @@ pub mod Words
 pub mod Shape
 -- Request 2026-01: the panel's list beside a run.
 pub mod Panel
+-- Request 2026-10: taking a snapshot and putting it back.
+pub mod Snapshots
 -- Request 2026-07: a busy task gets its tick within T dispatches.
 pub mod Fair
 -- Dispatches in a row: how many went on, by the tick count.

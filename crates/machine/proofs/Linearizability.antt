@@ -8,7 +8,8 @@ pub mod Survival
 -- Every line, every tick, every call.
 pub mod Lines
 pub mod Calls
--- Every list of calls: demand 3.
+-- Every list of calls, takes and puts: demand 3.
+pub mod Carried
 pub mod Theorem
 -- What follows from it.
 pub mod Histories
@@ -16,3 +17,6 @@ pub mod Corollaries
 pub mod Begun
 -- No bag number twice.
 pub mod Twice
+-- Request 2026-10: what else is true where a row is known, and that a snapshot brings its row back.
+pub mod WhereKnown
+pub mod RowsComeBack

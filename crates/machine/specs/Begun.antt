@@ -3,7 +3,7 @@ use mathlib.Core.Path.{_≡_}
 use mathlib.Core.Bool.{Bool, cond, _&&_}
 use mathlib.Core.List.{List, [], _∷_}
 use mathlib.Core.Option.{Option, some, none as nothing}
-use Prim.Native.Nat.{ℕ, zero, suc, _+_, _-_}
+use Prim.Native.Nat.{ℕ, zero, suc, _-_}
 use lib.Dec.{eqb}
 use Rattle.machine.specs.declared.Answer.{Answer}
 use Rattle.machine.specs.declared.Answer.the-variants.{Going, Pushed, Bag}
@@ -12,12 +12,10 @@ use Rattle.machine.specs.declared.Dispatch.the-variants.{Idle, Answered}
 use Rattle.machine.specs.declared.Reply.{Reply}
 use Rattle.machine.specs.declared.Reply.the-variants.{Accepted, Refused as Reply-Refused}
 use Rattle.machine.specs.Choice.{_≟_, if_then_else_}
-use Rattle.machine.specs.Sides.{sideOf}
-use Rattle.machine.specs.Values.{number}
-use Rattle.machine.specs.Operations.{Operation, push, pop, operationNumber, operationOf}
+use Rattle.machine.specs.Operations.{Operation, push, pop, operationNumber}
 use Rattle.machine.specs.Answers.{kindOf, payloadOf, refusalOf, isGoing, answerOf}
 use Rattle.machine.specs.Calls.{start}
-use Rattle.machine.specs.Row.{Note, nextNoted}
+use Rattle.machine.specs.Row.{Note, newNote, nextNoted}
 use Rattle.machine.specs.Demand3.{
   Call,
   start-call,
@@ -144,8 +142,7 @@ recordBegin η k n (Reply-Refused r) = η
 -- A call, with what it gave back. Of ticks in a row only the last can have ended the task's call.
 abbrev pub recordCall : History → (c : Call) → Given c → History
 recordCall η (start-call S T g lanes) r = recordStart η T r
-recordCall η (begin-call k l op side argument) r =
-    recordBegin η k (record { lane = l; operation = operationOf op; side = sideOf side; argument = number argument }) r
+recordCall η (begin-call k l op side argument) r = recordBegin η k (newNote l op side argument) r
 recordCall η (tick-call k h) a = recordTick η k a
 recordCall η (ticks-call k h times) a = recordTick η k a
 recordCall η (dispatch-call h) r = recordDispatch η r
@@ -160,11 +157,6 @@ history [] ws η = η
 history (c ∷ cs) ws η = history cs (after c ws) (recordCall η c (given c ws))
 
 -- ---- The bags.
-
--- How often a bag is in a list of bags.
-unfoldable pub count : ℕ → List ℕ → ℕ
-count b [] = 0
-count b (x ∷ xs) = (if x ≟ b then 1 else 0) + count b xs
 
 -- A finished operation is this one, on lane l, with an answer of this kind.
 abbrev pub isOf : (l : ℕ) → Operation → Answer → Finished → Bool

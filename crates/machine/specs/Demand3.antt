@@ -1,6 +1,6 @@
 -- Demand 3: one claim about a list of calls on one table, and nothing but the table and the row in it.
 use mathlib.Core.Path.{_≡_}
-use mathlib.Core.Bool.{cond, _&&_}
+use mathlib.Core.Bool.{Bool, cond, _&&_}
 use mathlib.Core.List.{List, [], _∷_}
 use mathlib.Core.Option.{Option, some, none as nothing, bind}
 use Prim.Native.Nat.{ℕ, zero, suc, _*_, _≤_, _<_}
@@ -17,9 +17,7 @@ use Rattle.machine.specs.declared.Reading.{Reading}
 use Rattle.machine.specs.declared.Reading.the-variants.{Count, Refused as Reading-Refused}
 use Rattle.machine.specs.declared.Ran.{Ran}
 use Rattle.machine.specs.declared.Stored.{Stored}
-use Rattle.machine.specs.Sides.{sideOf}
-use Rattle.machine.specs.Values.{number}
-use Rattle.machine.specs.Operations.{operationOf}
+use Rattle.machine.specs.Operations.{operationOf, argumentOk}
 use Rattle.machine.specs.Shape.{sameWords}
 use Rattle.machine.specs.Answers.{refusalOf, isGoing, dispatchGoesOn}
 use Rattle.machine.specs.Calls.{
@@ -37,7 +35,7 @@ use Rattle.machine.specs.Calls.{
   lane,
   read,
 }
-use Rattle.machine.specs.Row.{Row, emptyRow, Note, noted, feedMade, feedDispatch, feedRun}
+use Rattle.machine.specs.Row.{Row, emptyRow, newNote, noted, feedMade, feedDispatch, feedRun}
 
 -- 01: the list holds start, begin, tick, run and reading the lane, with any arguments, and every call on the same table
 -- that a request adds: 2026-01's panel, 2026-07's dispatch; and ticks and dispatches in a row. A run's list and answer
@@ -94,10 +92,21 @@ abbrev pub feedStart : Row → (T lanes : ℕ) → Reply → Option Row
 feedStart ρ T lanes Accepted = some (emptyRow T lanes)
 feedStart ρ T lanes (Reply-Refused n) = some ρ
 
--- 2026-12: none is accepted on a lane that is not there.
-abbrev pub feedBegin : Row → ℕ → Note → Reply → Option Row
-feedBegin ρ k n Accepted = cond (ltb (n .lane) (ρ .lanes)) (some (noted ρ k (some n))) nothing
-feedBegin ρ k n (Reply-Refused r) = some ρ
+-- The numbers of a begin are a call's: a task, a lane (2026-12), an operation, a side and an argument of it.
+abbrev pub isCall : Row → (k lane operation side : ℕ) → (argument : Stored) → Bool
+isCall ρ k l op side argument =
+    ltb k (ρ .tasks)
+    && ltb l (ρ .lanes)
+    && leb 1 op
+    && leb op 4
+    && leb side 1
+    && argumentOk (operationOf op) argument
+
+-- 01: the task's note is the operation, side and argument. No other numbers are accepted.
+abbrev pub feedBegin : Row → (k lane operation side : ℕ) → (argument : Stored) → Reply → Option Row
+feedBegin ρ k l op side argument Accepted =
+    cond (isCall ρ k l op side argument) (some (noted ρ k (some (newNote l op side argument)))) nothing
+feedBegin ρ k l op side argument (Reply-Refused r) = some ρ
 
 -- 01: a refused tick leaves the note.
 unfoldable pub feedTick : Row → ℕ → Answer → Option Row
@@ -131,8 +140,7 @@ feedRead ρ l out (Reading-Refused n) written =
 
 abbrev pub feed : Row → (c : Call) → Given c → Option Row
 feed ρ (start-call S T g lanes) r = feedStart ρ T lanes r
-feed ρ (begin-call k l op side argument) r =
-    feedBegin ρ k (record { lane = l; operation = operationOf op; side = sideOf side; argument = number argument }) r
+feed ρ (begin-call k l op side argument) r = feedBegin ρ k l op side argument r
 feed ρ (tick-call k h) a = feedTick ρ k a
 feed ρ (ticks-call k h times) a = feedTicks ρ k times a
 feed ρ (dispatch-call h) a = feedDispatch ρ a

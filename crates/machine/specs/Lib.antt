@@ -1,4 +1,5 @@
 pub mod Choice
+pub mod Counts
 pub mod Round
 pub mod Sides
 pub mod Values
@@ -15,6 +16,7 @@ pub mod Answers
 pub mod Calls
 pub mod Results
 pub mod Panel
+pub mod Snapshots
 pub mod FirstFree
 pub mod Row
 pub mod Demand3
@@ -22,3 +24,4 @@ pub mod Begun
 pub mod Fair
 pub mod InRow
 pub mod Twice
+pub mod Events

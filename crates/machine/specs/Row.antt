@@ -9,8 +9,10 @@ use Rattle.machine.specs.declared.Dispatch.{Dispatch}
 use Rattle.machine.specs.declared.Dispatch.the-variants.{Idle, Answered}
 use Rattle.machine.specs.Choice.{_≟_, if_then_else_}
 use Rattle.machine.specs.Round.{nextAfter}
-use Rattle.machine.specs.Sides.{Side, left, right}
-use Rattle.machine.specs.Operations.{Operation, idle, push, pop, add, remove}
+use Rattle.machine.specs.declared.Stored.{Stored}
+use Rattle.machine.specs.Sides.{Side, left, right, sideOf}
+use Rattle.machine.specs.Values.{number}
+use Rattle.machine.specs.Operations.{Operation, idle, push, pop, add, remove, operationOf}
 use Rattle.machine.specs.Answers.{refusalOf, isGoing, answerOf}
 
 -- 01: the task's note is the operation, side and argument; since 2026-12 also the lane.
@@ -20,8 +22,13 @@ pub record Note : Type 0 where
   pub side : Side
   pub argument : ℕ
 
+-- That of a begin with these numbers.
+abbrev pub newNote : (lane operation side : ℕ) → (argument : Stored) → Note
+newNote l op side argument =
+    record { lane = l; operation = operationOf op; side = sideOf side; argument = number argument }
+
 -- 01: it keeps a row of bags, left end first, and for each task a note or none. 02: "The row of bags in the mission is
--- a row of such tags": a bag is its tag, one number, and refusal 7 sees to it that a push's is one. Since 2026-07 also
+-- a row of such tags": a bag is its tag, one number. Since 2026-07 also
 -- how many tasks there are, by the start's argument, and the task last dispatched. Since 2026-12 "each lane is now its
 -- own row of bags", and there are as many as the start's argument says.
 pub record Row : Type 0 where

@@ -4,3 +4,5 @@
 pub mod SoloBound
 -- Beyond the order: some call answers under every schedule.
 pub mod LockFree
+-- Beyond the order: dispatches alone come to "idle".
+pub mod Drain

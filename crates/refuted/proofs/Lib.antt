@@ -1,3 +1,4 @@
 pub mod Right
 pub mod RightPasses
 pub mod Refuted
+pub mod SnapshotsRefuted

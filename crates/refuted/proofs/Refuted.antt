@@ -85,7 +85,16 @@ use Rattle.refuted.specs.Machines.{
 use Rattle.refuted.specs.Wrong.{wholeOn, touchesNothing, heldFromBy, leftwards, toRefusal, isArgument, turned}
 use Rattle.refuted.specs.WrongLanes.{onLanes, isBegunOn}
 use Rattle.refuted.specs.WrongInRow.{toIdle}
-use Rattle.refuted.specs.Judged.{passes, madeBy, byRow, byDefinitions, afterAllBy, goingAlone, freeBelow}
+use Rattle.refuted.specs.Judged.{
+  passes,
+  madeBy,
+  byRow,
+  byDefinitions,
+  afterAllBy,
+  goingAlone,
+  dispatchesToIdle,
+  freeBelow,
+}
 use Rattle.refuted.specs.Lists.{
   Entry,
   entries,
@@ -95,6 +104,7 @@ use Rattle.refuted.specs.Lists.{
   expected,
   AllRefuted,
   Spins,
+  NeverDrains,
   Leaks,
   Doubles,
 }
@@ -164,6 +174,14 @@ unfolding goingAlone afterAllBy beginBy tickOnBy tickBy ℕ-discrete decLt decLe
     markAll visit visitFrom marked firstUnmarked allocate writeAll dcas act times startNodes startWords start begin
     effectOf applied tickOn tick isBegun laneFrom lane lanesBelow bind
 spins = (refl, refl)
+
+pub never-drains : NeverDrains
+unfolding dispatchesToIdle afterAllBy beginBy tickOnBy tickBy dispatchToBy dispatchChoosing dispatchBy firstFrom
+    dispatchTo dispatchOn dispatch ℕ-discrete decLt decLe Value-discrete decode stepIn stepOf isStepIn hat link value
+    task allBelow sameWords nodeOk busyOk recordOk shapeOk hatsFrom heldFrom roots mark markAll visit visitFrom marked
+    firstUnmarked allocate writeAll dcas act times startNodes startWords start begin effectOf applied tickOn tick
+    isBegun laneFrom lane lanesBelow bind
+never-drains = (refl, refl)
 
 pub leaks : Leaks
 unfolding freeBelow afterAllBy beginBy tickOnBy tickBy ℕ-discrete decLt decLe Value-discrete decode stepIn stepOf

@@ -7,6 +7,7 @@ use lib.Dec.{eqb}
 use lib.ListN.{getD}
 use Rattle.machine.specs.declared.Answer.{Answer}
 use Rattle.machine.specs.declared.Dispatch.{Dispatch}
+use Rattle.machine.specs.declared.Dispatch.the-variants.{Idle, Answered}
 use Rattle.machine.specs.declared.Ran.{Ran}
 use Rattle.machine.specs.declared.Reading.{Reading}
 use Rattle.machine.specs.declared.Reading.the-variants.{Count, Refused as Reading-Refused}
@@ -36,6 +37,7 @@ use Rattle.machine.specs.Demand3.{
 use Rattle.refuted.specs.Machines.{
   Machine,
   ticksBy,
+  dispatchBy,
   dispatchesBy,
   runBy,
   panelBy,
@@ -167,6 +169,13 @@ goingAlone M zero k ws = 0
 goingAlone M (suc n) k ws =
     let one = M .tickOn ws k 0 in
     elim (isGoing (one .answer)) as (λ _. ℕ) [ true ↦ suc (goingAlone M n k (one .words)) | false ↦ 0 ]
+
+-- How many of at most n dispatches, with hint 0, are not "idle" before one is.
+unfoldable pub dispatchesToIdle : Machine → (n : ℕ) → List ℕ → ℕ
+dispatchesToIdle M zero ws = 0
+dispatchesToIdle M (suc n) ws =
+    let one = dispatchBy M ws 0 in
+    elim (one .answer) as (λ _. ℕ) [ Idle ↦ 0 | Answered a ↦ suc (dispatchesToIdle M n (one .words)) ]
 
 -- How many of the first n nodes are free.
 unfoldable pub freeBelow : (n : ℕ) → Marking → ℕ

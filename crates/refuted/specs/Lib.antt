@@ -4,3 +4,4 @@ pub mod WrongLanes
 pub mod WrongInRow
 pub mod Judged
 pub mod Lists
+pub mod WrongSnapshots

@@ -73,6 +73,7 @@ use Rattle.refuted.specs.Wrong.{
   searchesLow,
   popPassesZero,
   takesDigitTen,
+  takesAnyNumbers,
   runTurnsWords,
   dispatchesFromZero,
   skipsNone,
@@ -111,6 +112,7 @@ use Rattle.refuted.specs.Judged.{
   byDefinitions,
   afterAllBy,
   goingAlone,
+  dispatchesToIdle,
   freeBelow,
 }
 
@@ -690,7 +692,17 @@ entries =
       T = 1;
       lanes = 1;
       calls = begin-call 0 0 (operationNumber push) (sideNumber right) (storedOf 10 0) ∷ [];
-      row-says = passes;
+      row-says = not-the-row's-answer 1;
+      definitions-say = other-answer 1;
+    }
+    -- Operation 5 on side 9, by task 7 of one.
+    ∷ record {
+      wrong = takesAnyNumbers;
+      S = 4;
+      T = 1;
+      lanes = 1;
+      calls = begin-call 7 0 5 9 (stored 0) ∷ [];
+      row-says = not-the-row's-answer 1;
       definitions-say = other-answer 1;
     }
     -- A run pops 1000000051.
@@ -1004,6 +1016,13 @@ abbrev pub Spins : Type 0
 Spins =
     (goingAlone failedSwapSpins 178 0 (afterAllBy failedSwapSpins twoRemoves (begunWith 6 2 1)) ≡ 178)
     × (goingAlone rightMachine 178 0 (afterAllBy rightMachine twoRemoves (begunWith 6 2 1)) ≡ 4)
+
+-- Dispatches alone come to "idle", with one task in a call after 4S + 154 of them at the most, which are 162 for 2 nodes;
+-- those of a call that begins again for ever do not.
+abbrev pub NeverDrains : Type 0
+NeverDrains =
+    (dispatchesToIdle goingForever 163 (afterAllBy goingForever (begins 0 push right 51) (begunWith 2 1 1)) ≡ 163)
+    × (dispatchesToIdle rightMachine 163 (afterAllBy rightMachine (begins 0 push right 51) (begunWith 2 1 1)) ≡ 4)
 
 -- With no task in a call and no bag, all nodes but the two sentinels are free; the link that is left holds one more.
 abbrev pub Leaks : Type 0

@@ -703,6 +703,10 @@ takesDigitTen =
     cond (isPush (operationOf op) && eqb (number argument) 10_000_000_000) nothing
     (rightMachine .beginRefuses ws k l op side argument))
 
+-- ---- 01: 5, 6 and 7 at begin: no number is tested.
+abbrev pub takesAnyNumbers : Machine
+takesAnyNumbers = withRefusal (rightMachine .tickOn) (λ ws k l op side argument. tableRefusal ws nothing)
+
 -- ---- "... the run write two words for a tag, digit first": of n ticks it writes the digit last.
 unfoldable pub turned : (n : ℕ) → List ℕ → List ℕ
 turned zero l = l

@@ -1,5 +1,5 @@
 // Which tables are accepted: the tests of refusals 3 and 4, for a slice of any words.
-mod records;
+pub mod records;
 
 use layout::nodes;
 use layout::places::DISPATCHED;
@@ -103,7 +103,7 @@ fn all_hats_ok(table: &[u32]) -> bool
 }
 
 // 02: the task last dispatched is below T, and the last two words are 0.
-fn header_ok(table: &[u32]) -> bool
+pub fn header_ok(table: &[u32]) -> bool
     requires { ⌜ headerLength ≤ length (now table) ⌝ }
     ensures { λ r. ⌜ r ≡ headerOk (now (table .entry)) ⌝ }
 {
@@ -157,7 +157,7 @@ fn task_ok(table: &[u32], owners: &Owners, k: u32) -> bool
 }
 
 // The record of every task, in one pass.
-fn tasks_ok(table: &[u32]) -> bool
+pub fn tasks_ok(table: &[u32]) -> bool
     requires { ⌜ lengthOk (now table) ≡ true ⌝ }
     ensures { λ r. ⌜ r ≡ allBelow (taskCount (now (table .entry))) (taskOk (now (table .entry))) ⌝ }
 {

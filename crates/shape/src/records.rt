@@ -23,7 +23,7 @@ ghost use Rattle.record.specs.Coded.{recordOf};
 ghost use Rattle.steps.specs.Owners.{OwnersOk};
 
 // 01: a slot number below S, or 65,535 for none.
-pub(crate) fn node_or_none(slots: u32, x: u32) -> bool
+pub fn node_or_none(slots: u32, x: u32) -> bool
     ensures { λ r. ⌜ r ≡ nodeOrNone slots x ⌝ }
 {
     (x < slots) | (x == Task::NONE)

@@ -15,6 +15,7 @@ use Rattle.machine.specs.declared.Dispatch.the-variants.{Answered}
 use Rattle.machine.specs.declared.Reply.the-variants.{Accepted, Refused as Reply-Refused}
 use Rattle.machine.specs.declared.Reading.the-variants.{Count}
 use Rattle.machine.specs.declared.Stored.{Stored}
+use Rattle.machine.specs.Counts.{count}
 use Rattle.machine.specs.Sides.{sideOf}
 use Rattle.machine.specs.Values.{number}
 use Rattle.machine.specs.Operations.{Operation, idle, push, pop, add, remove, operationOf, argumentOk}
@@ -75,7 +76,6 @@ use Rattle.machine.specs.Begun.{
   noHistory,
   recordCall,
   history,
-  count,
   bagsPushed,
   bagsPopped,
 }

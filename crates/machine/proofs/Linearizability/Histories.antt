@@ -27,6 +27,7 @@ use Rattle.machine.specs.declared.Reply.the-variants.{Accepted, Refused 
 use Rattle.machine.specs.declared.Reading.{Reading}
 use Rattle.machine.specs.declared.Reading.the-variants.{Count, Refused as Reading-Refused}
 use Rattle.machine.specs.Choice.{_≟_, if_then_else_}
+use Rattle.machine.specs.Counts.{count}
 use Rattle.machine.specs.Sides.{Side, left, right}
 use Rattle.machine.specs.Operations.{Operation, idle, push, pop, add, remove}
 use Rattle.machine.specs.Shape.{sameWords}
@@ -63,6 +64,7 @@ use Rattle.machine.specs.Demand3.{
   panel-call,
   read-call,
   Given,
+  isCall,
   feedTick,
   feedDispatches,
   feedRead,
@@ -81,7 +83,6 @@ use Rattle.machine.specs.Begun.{
   recordDispatch,
   recordDispatches,
   recordCall,
-  count,
   bagsPushed,
   bagsPopped,
 }
@@ -386,7 +387,7 @@ pub call-recorded : (c : Call) (r : Given c) {ρ ρ′ : Row} {η : History} →
 call-recorded (start-call S T g L) Accepted R e = same-row e (nothing-recorded T L)
 call-recorded (start-call S T g L) (Reply-Refused n) R e = same-row e R
 call-recorded (begin-call k l op side argument) Accepted {ρ} R e =
-    same-row (ap some (same-if (ltb l (ρ .lanes)) e .1))
+    same-row (ap some (same-if (isCall ρ k l op side argument) e .1))
     (record {
       same-notes = same-with k _ (R .same-notes);
       same-tasks = R .same-tasks;

@@ -1,8 +1,10 @@
--- Demand 3: every list of calls on a table that our start began is explained by the plain row.
-use mathlib.Core.Path.{_≡_, refl}
-use mathlib.Core.List.{List, [], _∷_}
+-- Demand 3: along every list of calls, takes and puts the plain row explains what is answered, wherever a row is known;
+-- so every list of calls alone, on a table that our start began, is explained.
+use mathlib.Core.Path.{_≡_, refl, ap, subst}
+use mathlib.Core.List.{List, [], _∷_, map}
 use mathlib.Core.Option.{Option, some, none as nothing}
 use Prim.Native.Nat.{ℕ}
+use Rattle.machine.specs.declared.Reply.{Reply}
 use Rattle.machine.specs.declared.Reply.the-variants.{Accepted}
 use Rattle.machine.specs.Calls.{startRefusal, changed, startWords, start}
 use Rattle.machine.specs.Row.{Row, emptyRow}
@@ -17,9 +19,22 @@ use Rattle.machine.specs.Demand3.{
   run-call,
   panel-call,
   read-call,
+  given,
+  after,
+  feed,
   Within,
   Explained,
   Demand3,
+}
+use Rattle.machine.specs.Events.{
+  call-event,
+  Kept,
+  Known,
+  fedRow,
+  startedRow,
+  Along,
+  LanesAreInside,
+  Demand3WithSnapshots,
 }
 use Rattle.machine.proofs.Basics.Contradiction.{clash}
 use Rattle.machine.proofs.Basics.Tests.{test-passed, tests-left}
@@ -36,6 +51,7 @@ use Rattle.machine.proofs.Linearizability.Calls.CallsAgree.{
 use Rattle.machine.proofs.Linearizability.Calls.TicksInRow.{ticks-explained, ticks-within}
 use Rattle.machine.proofs.Linearizability.Calls.DispatchesInRow.{dispatches-explained, dispatches-within}
 use Rattle.machine.proofs.Linearizability.Calls.Runs.{run-explained, run-within, panel-explained, panel-within}
+use Rattle.machine.proofs.Linearizability.Carried.{Carried, always, always-so}
 
 -- One call, and the ticks inside it.
 pub call-explained : {ws : List ℕ} {ρ : Row} → Agrees ws ρ → (c : Call) → Explains ws ρ c
@@ -60,13 +76,6 @@ call-within A (run-call list answers) = run-within A list answers
 call-within A (panel-call list answers) = panel-within A list answers
 call-within A (read-call l out) = tt
 
--- Where table and row agree, the row explains whatever is called.
-pub explained : (cs : List Call) {ws : List ℕ} {ρ : Row} → Agrees ws ρ → Explained cs ws ρ
-explained [] A = lanes-are-rows A
-explained (c ∷ cs) A =
-    let E = call-explained A c in
-    (lanes-are-rows A, call-within A c, (E .row, E .given-by-row, explained cs (E .agrees)))
-
 -- An accepted start makes a table that agrees with the empty row of its tasks.
 pub started-agrees :
     (S T g L : ℕ) (old : List ℕ)
@@ -83,5 +92,48 @@ started-agrees S T g L old = go (startRefusal old S T g L) refl
     go (some n) e q = clash (cc)
     go nothing e q = start-agrees S T g L (search test-passed) (search (test-passed, tests-left))
 
+-- ---- With snapshots.
+pub agreement-carried : Carried Agrees
+agreement-carried =
+    record {
+      at-start = started-agrees;
+      at-call = λ A c. let E = call-explained A c in (E .row, E .given-by-row, E .agrees);
+    }
+
+pub demand3-with-snapshots : Demand3WithSnapshots
+demand3-with-snapshots =
+    always-so Agrees LanesAreInside (λ ws ρ A. (lanes-are-rows A, call-within A)) (always Agrees agreement-carried)
+
+-- ---- Of calls alone: where a row is known, calls leave one known.
+explained : (cs : List Call) (ws : List ℕ) (ρ : Row) (ks : List Kept)
+    → Along LanesAreInside (map call-event cs) ws (record { row = some ρ; kept = ks })
+    → Explained cs ws ρ
+explained [] ws ρ ks p = p .0
+explained (c ∷ cs) ws ρ ks p =
+    let next = p .1 in (
+      p .0 .0,
+      p .0 .1 c,
+      go (λ σ. explained cs (after c ws) σ ks) (feed ρ c (given c ws)) refl (next .0) (next .1) (next .2),
+    )
+  where
+    Rest : Known → Type 0
+    Rest κ = Along LanesAreInside (map call-event cs) (after c ws) κ
+
+    go : ((σ : Row) → Rest (record { row = some σ; kept = ks }) → Explained cs (after c ws) σ)
+        → (r : Option Row)
+        → feed ρ c (given c ws) ≡ r
+        → (κ : Known)
+        → fedRow r ks ≡ some κ
+        → Rest κ
+        → (σ : Row) × (feed ρ c (given c ws) ≡ some σ) × Explained cs (after c ws) σ
+    go others nothing e κ q rest = clash (cc)
+    go others (some σ) e κ q rest =
+        let same : κ ≡ record { row = some σ; kept = ks } = cc in (σ, e, others σ (subst Rest same rest))
+
 pub demand3 : Demand3
-demand3 S T g L old accepted calls = explained calls (started-agrees S T g L old accepted)
+demand3 S T g L old accepted calls =
+    let p = demand3-with-snapshots old (call-event (start-call S T g L) ∷ map call-event calls) .1 in
+    let began = start old S T g L .words in
+    let row = ap (λ (r : Reply). startedRow (start-call S T g L) r) accepted in
+    let same : p .0 ≡ record { row = some (emptyRow T L); kept = [] } = cc (p .1, row) in
+    explained calls began (emptyRow T L) [] (subst (Along LanesAreInside (map call-event calls) began) same (p .2))

@@ -24,10 +24,10 @@ module _ (ws : List ℕ) (sized : Sized (sizesOf ws)) (k : ℕ) where
   pub dispatched-tasks : taskCount (setDispatched k ws) ≡ taskCount ws
   dispatched-tasks = ap (λ (c : Columns). c .sizes .taskCount) (columns-setDispatched ws sized k)
 
-  dispatched-lanes : laneCount (setDispatched k ws) ≡ laneCount ws
+  pub dispatched-lanes : laneCount (setDispatched k ws) ≡ laneCount ws
   dispatched-lanes = ap (λ (c : Columns). c .sizes .laneCount) (columns-setDispatched ws sized k)
 
-  dispatched-growth : growth (setDispatched k ws) ≡ growth ws
+  pub dispatched-growth : growth (setDispatched k ws) ≡ growth ws
   dispatched-growth = ap (λ (c : Columns). c .sizes .growth) (columns-setDispatched ws sized k)
 
   pub dispatched-keeps : {D P : ℕ} → Potential ws D P → Potential (setDispatched k ws) D P

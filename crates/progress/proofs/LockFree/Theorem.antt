@@ -67,7 +67,7 @@ each S T = suc (T * most 2 S)
 abbrev allows : (S T D P : ℕ) → ℕ
 allows S T D P = D * each S T + P
 
-times-less : (D' D c : ℕ) → suc D' ≤ D → D' * c + c ≤ D * c
+pub times-less : (D' D c : ℕ) → suc D' ≤ D → D' * c + c ≤ D * c
 times-less D' zero c h = absurd (omega arith)
 times-less zero (suc D) c h = omega arith
 times-less (suc D') (suc D) c h = omega (arith, times-less D' D c (omega arith))
@@ -183,7 +183,7 @@ allowed n moves ws D P X Φ
     (subst (λ (T : ℕ). i ≤ allows (nodeCount (begin ws k j op side argument .words)) T D P) same-tasks
     (allowed i l (begin ws k j op side argument .words) D P (by-call X c) (begin-keeps X k j op side argument Φ) rest))
 
-walk-calm : (S : ℕ) → walkTicks 2 S ≡ 6 * S
+pub walk-calm : (S : ℕ) → walkTicks 2 S ≡ 6 * S
 walk-calm zero = refl
 walk-calm (suc S) = omega (arith, walk-calm S)
 

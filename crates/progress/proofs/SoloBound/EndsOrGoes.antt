@@ -16,7 +16,7 @@ use Rattle.machine.proofs.Linearizability.Calls.MadeTicks.{effect-made}
 use Rattle.machine.proofs.Linearizability.Corollaries.{begun-agrees, tick-passes}
 
 -- An answer that is no refusal.
-by-answer : (a : Answer) → refusalOf a ≡ nothing → (P : Type 0) → (endsCall a ≡ true → P) → (a ≡ Going → P) → P
+pub by-answer : (a : Answer) → refusalOf a ≡ nothing → (P : Type 0) → (endsCall a ≡ true → P) → (a ≡ Going → P) → P
 by-answer Going e P ends goes = goes refl
 by-answer Pushed e P ends goes = ends refl
 by-answer (Bag b) e P ends goes = ends refl

@@ -15,12 +15,16 @@ use Rattle.progress.specs.Solo.{
   answers-now,
   answers-later,
   HintsBelow,
+  AnswersWithinAt,
   SoloBound,
+  SoloBoundWhereKnown,
   CloserSoloBound,
 }
 use Rattle.machine.proofs.Shape.TickKeeps.{busy-passes}
 use Rattle.machine.proofs.Linearizability.Corollaries.{begun-agrees, tick-passes, begun-ticked}
 use Rattle.machine.proofs.Linearizability.Begun.TableAfter.{nodes-after}
+use Rattle.machine.proofs.Linearizability.Carried.{always-so}
+use Rattle.machine.proofs.Linearizability.WhereKnown.{begun-where-known}
 use Rattle.progress.proofs.SoloBound.Budget.{walkTicks}
 use Rattle.progress.proofs.SoloBound.AtFirst.{most}
 use Rattle.progress.proofs.SoloBound.EndsOrGoes.{ends-or-goes}
@@ -51,11 +55,11 @@ alone (h ∷ hints) ws k n X b B more low =
     (subst (λ (S : ℕ). HintsBelow S hints) (sym (nodes-after (begun-agrees X .1) k h p)) (low .1)))
 
 -- A busy task has 4S + 153 ticks left at most.
-walk-alone : (S : ℕ) → walkTicks 0 S ≡ 4 * S
+pub walk-alone : (S : ℕ) → walkTicks 0 S ≡ 4 * S
 walk-alone zero = refl
 walk-alone (suc S) = omega (arith, walk-alone S)
 
-answers-alone : (ws : List ℕ) → Begun ws → (k : ℕ) → isBusy (task ws k .operation) ≡ true → (hints : List ℕ)
+pub answers-alone : (ws : List ℕ) → Begun ws → (k : ℕ) → isBusy (task ws k .operation) ≡ true → (hints : List ℕ)
     → 4 * nodeCount ws + 154 ≤ length hints
     → HintsBelow (nodeCount ws) hints
     → AnswersAlone k hints ws
@@ -68,3 +72,9 @@ closer-solo-bound ws B k busy hints enough low = answers-alone ws B k busy hints
 
 pub solo-bound : SoloBound
 solo-bound ws B k busy hints enough low = answers-alone ws B k busy hints (omega arith) low
+
+-- 2026-10: where a row is known.
+pub solo-bound-where-known : SoloBoundWhereKnown
+solo-bound-where-known =
+    always-so (λ ws ρ. Begun ws) (λ ws ρ. AnswersWithinAt (λ S. 8 * S + 400) ws) (λ ws ρ B. solo-bound ws B)
+    begun-where-known

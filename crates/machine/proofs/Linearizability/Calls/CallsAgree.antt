@@ -9,7 +9,7 @@ use native.Mathlib.Omega.{arith}
 use lib.Dec.{leb, ltb}
 use lib.ListN.{length, drop}
 use lib.Seq.{take-at}
-use borrow.Author.Tests.{eq-eqb, leb-false, lt-ltb, le-ltb}
+use borrow.Author.Tests.{eq-eqb, leb-false, lt-ltb, le-ltb, le-leb}
 use Rattle.tag.specs.Tags.{allTagWords}
 use Rattle.tag.proofs.TagLaws.{length-tag-words}
 use Rattle.machine.specs.declared.Dispatch.the-variants.{Idle, Answered}
@@ -49,6 +49,7 @@ use Rattle.machine.specs.Row.{
   Note,
   Row,
   emptyRow,
+  newNote,
   noted,
   withDispatched,
   hasNote,
@@ -190,10 +191,10 @@ module _ {ws : List ℕ} {ρ : Row} (A : Agrees ws ρ) where
       t = begunTask l (operationOf op) (sideOf side) (number argument)
 
       n : Note
-      n = record { lane = l; operation = operationOf op; side = sideOf side; argument = number argument }
+      n = newNote l op side argument
 
       Result : Changed → Type 0
-      Result c = (ρ′ : Row) × (feedBegin ρ k n (c .reply) ≡ some ρ′) × Agrees (c .words) ρ′
+      Result c = (ρ′ : Row) × (feedBegin ρ k l op side argument (c .reply) ≡ some ρ′) × Agrees (c .words) ρ′
 
       notes-after : 1 ≤ op → (j : ℕ) → noted ρ k (some n) .notes j ≡ noteIn (update (task ws) k t j)
       notes-after some-operation j =
@@ -216,9 +217,17 @@ module _ {ws : List ℕ} {ρ : Row} (A : Agrees ws ρ) where
           let task-after = task-set-task ws (Z .sized) k (B .is-task) t never-has-word in
           let columns-after = columns-setTask ws (Z .sized) k t (B .is-task) in
           let lanes-after : laneCount (setTask k t ws) ≡ laneCount ws = ap (λ c. c .sizes .laneCount) columns-after in
-          let is-lane : l < ρ .lanes = subst (λ (m : ℕ). l < m) (sym (A .same-lanes)) (B .is-lane) in (
+          let is-lane : l < ρ .lanes = subst (λ (m : ℕ). l < m) (sym (A .same-lanes)) (B .is-lane) in
+          let is-task : k < ρ .tasks = subst (λ (m : ℕ). k < m) (sym (A .same-count)) (B .is-task) in (
             noted ρ k (some n),
-            rw (lt-ltb l (ρ .lanes) is-lane),
+            rw (
+              lt-ltb k (ρ .tasks) is-task,
+              lt-ltb l (ρ .lanes) is-lane,
+              le-leb 1 op (B .some-operation),
+              le-leb op 4 (B .last-operation),
+              le-leb side 1 (B .last-side),
+              B .argument-fits,
+            ),
             record {
               accepted = ok;
               class = A .class;

@@ -2,17 +2,18 @@
 use mathlib.Core.Path.{_≡_, refl, sym, ap, _∙_}
 use mathlib.Core.Logic.{_≢_, inl, inr}
 use mathlib.Core.Bool.{false}
-use mathlib.Core.List.{List, [], _∷_, _++_}
+use mathlib.Core.List.{List, [], _∷_}
 use Prim.Native.Nat.{ℕ, zero, suc, _+_, _≤_, _<_}
 use native.Mathlib.Omega.{arith}
 use lib.ListN.{length, getD}
 use borrow.Author.Tests.{eq-eqb, ne-eqb}
 use Rattle.machine.specs.Choice.{_≟_}
 use Rattle.machine.specs.Calls.{isAmong}
-use Rattle.machine.specs.Begun.{count}
+use Rattle.machine.specs.Counts.{count}
 use Rattle.machine.specs.Twice.{AllDifferent, rowsBelow}
 use Rattle.machine.proofs.Basics.Contradiction.{clash, equal?}
 use Rattle.machine.proofs.Basics.Choices.{if-yes, if-no}
+use Rattle.machine.proofs.Basics.Counts.{count-append}
 
 module _ (b : ℕ) where
   -- The first is there once more than in the others; what is another number, as often.
@@ -71,13 +72,7 @@ places-differ (x ∷ l) once (suc i) (suc j) hi hj e =
     ap suc
     (places-differ l (λ b. let m = count-more b x l in omega (arith, once b)) i j (omega arith) (omega arith) e)
 
--- ---- Rows one after another.
-pub count-append : (b : ℕ) (xs ys : List ℕ) → count b (xs ++ ys) ≡ count b xs + count b ys
-unfolding count
-count-append b [] ys = omega arith
-count-append b (x ∷ xs) ys = let e = count-append b xs ys in omega arith
-
--- One row changed changes the count of all by what it changes that of the row.
+-- ---- Rows one after another. One row changed changes the count of all by what it changes that of the row.
 module _ (f f′ : ℕ → List ℕ) (l : ℕ) (same : (j : ℕ) → j ≢ l → f′ j ≡ f j) (b : ℕ) where
   pub rows-untouched : (n : ℕ) → n ≤ l → count b (rowsBelow f′ n) ≡ count b (rowsBelow f n)
   unfolding rowsBelow

@@ -20,6 +20,7 @@ use Rattle.machine.specs.Answers.{refusalOf, isGoing, dispatchGoesOn, an
 use Rattle.machine.specs.Calls.{isAmong}
 use Rattle.machine.specs.Row.{
   Note,
+  newNote,
   Row,
   emptyRow,
   noted,
@@ -50,14 +51,16 @@ use Rattle.machine.specs.Demand3.{
   panel-call,
   read-call,
   Given,
+  isCall,
   feedTick,
   feedDispatches,
   feed,
 }
-use Rattle.machine.specs.Begun.{count}
+use Rattle.machine.specs.Counts.{count}
 use Rattle.machine.specs.Twice.{PushNoted, rowsBelow, allBags, OnceInRow, SeenIn}
 use Rattle.machine.proofs.Basics.Contradiction.{clash, equal?, less?}
 use Rattle.machine.proofs.Basics.Choices.{if-yes, if-no}
+use Rattle.machine.proofs.Basics.Counts.{count-append}
 use Rattle.machine.proofs.Linearizability.Histories.{
   count-put,
   bag-taken,
@@ -74,7 +77,6 @@ use Rattle.machine.proofs.Linearizability.Twice.Lists.{
   count-other,
   count-more,
   places-differ,
-  count-append,
   rows-untouched,
   rows-changed,
 }
@@ -413,9 +415,8 @@ pub once-fed : (c : Call) (r : Given c) {ρ ρ′ : Row} → Once ρ → NewWher
 once-fed (start-call S T g L) Accepted O new e = same-row e (once-empty T L)
 once-fed (start-call S T g L) (Reply-Refused n) O new e = same-row e O
 once-fed (begin-call k l op side argument) Accepted {ρ} O new e =
-    same-row (ap some (same-if (ltb l (ρ .lanes)) e .1))
-    (once-begun O k
-    (record { lane = l; operation = operationOf op; side = sideOf side; argument = number argument }) new)
+    same-row (ap some (same-if (isCall ρ k l op side argument) e .1))
+    (once-begun O k (newNote l op side argument) new)
 once-fed (begin-call k l op side argument) (Reply-Refused n) O new e = same-row e O
 once-fed (tick-call k h) a O new e = once-tick O k a e
 once-fed (ticks-call k h zero) a O new e = subst Once (same-if (isGoing a) e .1) O

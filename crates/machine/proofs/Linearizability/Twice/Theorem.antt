@@ -74,7 +74,7 @@ rows-agree (c ∷ cs) {ws} {ρ} {ρ′} A O e =
     let E = call-explained A c in
     rows-agree cs (E .agrees) (once-called A O c) (rw (E .given-by-row) at e)
 
-row-agrees : {ws : List ℕ} {ρ : Row} → RowSince ws ρ → Agrees ws ρ × Once ρ
+pub row-agrees : {ws : List ℕ} {ρ : Row} → RowSince ws ρ → Agrees ws ρ × Once ρ
 row-agrees {ws} {ρ} R =
     let began = started-agrees (R .S) (R .T) (R .growth) (R .lanes) (R .old) (R .accepted) in
     let x = rows-agree (R .calls) began (once-empty (R .T) (R .lanes)) (R .row-is) in
@@ -98,7 +98,7 @@ row-one-more (d ∷ cs) c ws ρ e f =
     let x = bound (feed ρ d (given d ws)) _ e in
     rw (x .1) (row-one-more cs c (after d ws) (x .0) (x .2) f)
 
-one-more : {ws : List ℕ} {ρ ρ′ : Row} (c : Call) → RowSince ws ρ → feed ρ c (given c ws) ≡ some ρ′
+pub one-more : {ws : List ℕ} {ρ ρ′ : Row} (c : Call) → RowSince ws ρ → feed ρ c (given c ws) ≡ some ρ′
     → RowSince (after c ws) ρ′
 one-more {ws} {ρ} {ρ′} c R f =
     let began = start (R .old) (R .S) (R .T) (R .growth) (R .lanes) .words in

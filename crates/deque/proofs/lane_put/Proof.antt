@@ -1,0 +1,26 @@
+-- `deque::lane_put` meets its contract: the number and the words of `put`.
+use mathlib.Core.Path.{ap, _∙_}
+use Rattle.machine.specs.Answers.{replyNumber}
+use Rattle.machine.specs.Calls.{Changed}
+use borrow.Author.Needs.{needs}
+use Rattle.deque.proofs.lane_put.Statement.{statement}
+use Rattle.deque.proofs.lane_put.Tie as tie
+
+put-requires : tie.Need-put-requires
+put-requires c κs = search needs
+
+reply-number-requires : tie.Need-reply-number-requires
+reply-number-requires c κs = search needs
+
+same-length : tie.Need-same-length
+same-length c = search needs
+
+returns : tie.Need-returns
+returns c =
+    let e = c .before .before .before .put .ensures in (
+      c .reply-number .ensures ∙ ap (λ (d : Changed). replyNumber (d .reply)) e,
+      ap (λ (d : Changed). d .words) e,
+    )
+
+pub lane-put-spec : {M : Type 1} → statement M
+lane-put-spec = tie.close (tie.spec put-requires reply-number-requires same-length returns)

@@ -1,0 +1,184 @@
+-- A relation between words and row that starts bring about and calls keep is true at every place of a list of events at
+-- which a row is known: it is about the words, so putting them back puts it back.
+use mathlib.Core.Path.{_≡_, refl, sym, ap, subst}
+use mathlib.Core.Bool.{Bool, true, false, cond}
+use mathlib.Core.List.{List, [], _∷_}
+use mathlib.Core.Option.{Option, some, none as nothing, bind}
+use Prim.Native.Nat.{ℕ}
+use Rattle.machine.specs.declared.Reply.{Reply}
+use Rattle.machine.specs.declared.Reply.the-variants.{Accepted, Refused as Reply-Refused}
+use Rattle.machine.specs.Shape.{sameWords}
+use Rattle.machine.specs.Calls.{Changed, start}
+use Rattle.machine.specs.Snapshots.{byNodes, takeSnapshot, putBack}
+use Rattle.machine.specs.Row.{Row, emptyRow}
+use Rattle.machine.specs.Demand3.{
+  Call,
+  start-call,
+  begin-call,
+  tick-call,
+  ticks-call,
+  dispatch-call,
+  dispatches-call,
+  run-call,
+  panel-call,
+  read-call,
+  given,
+  after,
+  feed,
+}
+use Rattle.machine.specs.Events.{
+  Event,
+  call-event,
+  take-event,
+  put-event,
+  eventGiven,
+  afterEvent,
+  Kept,
+  Known,
+  nothingKnown,
+  rowKept,
+  keep,
+  fedRow,
+  startedRow,
+  feedCall,
+  feedTake,
+  feedPut,
+  feedEvent,
+  Where,
+  Along,
+  Always,
+  afterEvents,
+  knownAfter,
+}
+use Rattle.machine.proofs.Words.RecordLaws.{same-words}
+use Rattle.machine.proofs.Snapshots.RoundTrips.{put, put-refused, taken-back}
+
+pub record Carried (P : List ℕ → Row → Type 0) : Type 0 where
+  pub at-start : (S T g L : ℕ) (old : List ℕ) → start old S T g L .reply ≡ Accepted
+      → P (start old S T g L .words) (emptyRow T L)
+  pub at-call : {ws : List ℕ} {ρ : Row} → P ws ρ → (c : Call)
+      → (ρ′ : Row) × (feed ρ c (given c ws) ≡ some ρ′) × P (after c ws) ρ′
+
+module _ (P : List ℕ → Row → Type 0) (C : Carried P) where
+  -- The words that each kept snapshot puts back have it with the row kept.
+  abbrev AllKept : List Kept → Type 0
+  AllKept [] = Unit {0}
+  AllKept (k ∷ ks) = P (byNodes (k .snapshot)) (k .row) × AllKept ks
+
+  pub record Holds (ws : List ℕ) (κ : Known) : Type 0 where
+    pub present : Where P ws (κ .row)
+    pub kept : AllKept (κ .kept)
+
+  pub holds-of-nothing : (ws : List ℕ) → Holds ws nothingKnown
+  holds-of-nothing ws = record { present = tt; kept = tt }
+
+  abbrev Next : Event → List ℕ → Known → Type 0
+  Next e ws κ = (κ′ : Known) × (feedEvent κ e (eventGiven e ws) ≡ some κ′) × Holds (afterEvent e ws) κ′
+
+  -- ---- A call.
+  started : (c : Call) (ws : List ℕ) → Where P (after c ws) (startedRow c (given c ws))
+  started (start-call S T g L) ws = go (start ws S T g L .reply) refl
+    where
+      go : (r : Reply) → start ws S T g L .reply ≡ r
+          → Where P (start ws S T g L .words) (startedRow (start-call S T g L) r)
+      go Accepted e = C .at-start S T g L ws e
+      go (Reply-Refused n) e = tt
+  started (begin-call k l op side argument) ws = tt
+  started (tick-call k h) ws = tt
+  started (ticks-call k h times) ws = tt
+  started (dispatch-call h) ws = tt
+  started (dispatches-call h times) ws = tt
+  started (run-call list answers) ws = tt
+  started (panel-call list answers) ws = tt
+  started (read-call l out) ws = tt
+
+  after-call : (c : Call) (ws : List ℕ) (known : Option Row) (ks : List Kept) → Where P ws known → AllKept ks
+      → (κ′ : Known) × (feedCall known ks c (given c ws) ≡ some κ′) × Holds (after c ws) κ′
+  after-call c ws nothing ks p K =
+      (record { row = startedRow c (given c ws); kept = ks }, refl, record { present = started c ws; kept = K })
+  after-call c ws (some ρ) ks p K =
+      let x = C .at-call p c in
+      (record { row = some (x .0); kept = ks }, ap (λ r. fedRow r ks) (x .1), record { present = x .2; kept = K })
+
+  -- ---- A take.
+  kept-too : (ws ss : List ℕ) (known : Option Row) (ks : List Kept) → Where P ws known → AllKept ks → byNodes ss ≡ ws
+      → AllKept (keep ss known ks)
+  kept-too ws ss nothing ks p K back = K
+  kept-too ws ss (some ρ) ks p K back = (subst (λ (vs : List ℕ). P vs ρ) (sym back) p, K)
+
+  after-take : (out ws : List ℕ) (κ : Known) → Holds ws κ → Next (take-event out) ws κ
+  after-take out ws κ H =
+      (feedTake κ (takeSnapshot ws out .reply) (takeSnapshot ws out .words), refl, go (takeSnapshot ws out .reply) refl)
+    where
+      go : (q : Reply) → takeSnapshot ws out .reply ≡ q → Holds ws (feedTake κ q (takeSnapshot ws out .words))
+      go Accepted e =
+          record {
+            present = H .present;
+            kept =
+                kept-too ws (takeSnapshot ws out .words) (κ .row) (κ .kept) (H .present) (H .kept)
+                (taken-back ws out e);
+          }
+      go (Reply-Refused n) e = H
+
+  -- ---- A put.
+  pub found : (ss : List ℕ) (ks : List Kept) → AllKept ks → Where P (byNodes ss) (rowKept ss ks)
+  unfolding rowKept
+  found ss [] K = tt
+  found ss (k ∷ ks) K = go (sameWords ss (k .snapshot)) refl (found ss ks (K .1))
+    where
+      go : (b : Bool) → sameWords ss (k .snapshot) ≡ b → Where P (byNodes ss) (rowKept ss ks)
+          → Where P (byNodes ss) (cond b (some (k .row)) (rowKept ss ks))
+      go true e others =
+          subst (λ (vs : List ℕ). P (byNodes vs) (k .row)) (sym (same-words ss (k .snapshot) e)) (K .0)
+      go false e others = others
+
+  after-put : (ss ws : List ℕ) (κ : Known) → Holds ws κ → Next (put-event ss) ws κ
+  after-put ss ws κ H = (feedPut κ ss (putBack ss ws .reply), refl, go (putBack ss ws .reply) refl)
+    where
+      go : (q : Reply) → putBack ss ws .reply ≡ q → Holds (putBack ss ws .words) (feedPut κ ss q)
+      go Accepted e =
+          record {
+            present =
+                subst (λ (vs : List ℕ). Where P vs (rowKept ss (κ .kept)))
+                (sym (ap (λ (c : Changed). c .words) (put ss ws e .is)))
+                (found ss (κ .kept) (H .kept));
+            kept = H .kept;
+          }
+      go (Reply-Refused n) e = subst (λ (vs : List ℕ). Holds vs κ) (sym (put-refused ss ws n e)) H
+
+  -- ---- Every event, and every list of them.
+  after-event : (e : Event) (ws : List ℕ) (κ : Known) → Holds ws κ → Next e ws κ
+  after-event (call-event c) ws κ H = after-call c ws (κ .row) (κ .kept) (H .present) (H .kept)
+  after-event (take-event out) ws κ H = after-take out ws κ H
+  after-event (put-event ss) ws κ H = after-put ss ws κ H
+
+  pub holds-after : (es : List Event) (ws : List ℕ) (κ κ′ : Known) → Holds ws κ → knownAfter es ws κ ≡ some κ′
+      → Holds (afterEvents es ws) κ′
+  unfolding afterEvents knownAfter bind
+  holds-after [] ws κ κ′ H e = let same : κ ≡ κ′ = cc in subst (Holds ws) same H
+  holds-after (v ∷ es) ws κ κ′ H e =
+      let x = after-event v ws κ H in
+      holds-after es (afterEvent v ws) (x .0) κ′ (x .2) (rw (x .1) at e)
+
+  along : (es : List Event) (ws : List ℕ) (κ : Known) → Holds ws κ → Along P es ws κ
+  along [] ws κ H = H .present
+  along (e ∷ es) ws κ H =
+      let x = after-event e ws κ H in (H .present, (x .0, x .1, along es (afterEvent e ws) (x .0) (x .2)))
+
+  pub always : Always P
+  always ws es = along es ws nothingKnown (holds-of-nothing ws)
+
+-- ---- What follows from a claim is claimed as well.
+module _ (P Q : List ℕ → Row → Type 0) (so : (ws : List ℕ) (ρ : Row) → P ws ρ → Q ws ρ) where
+  where-so : (ws : List ℕ) (known : Option Row) → Where P ws known → Where Q ws known
+  where-so ws nothing p = tt
+  where-so ws (some ρ) p = so ws ρ p
+
+  along-so : (es : List Event) (ws : List ℕ) (κ : Known) → Along P es ws κ → Along Q es ws κ
+  along-so [] ws κ p = where-so ws (κ .row) p
+  along-so (e ∷ es) ws κ p =
+      let next = p .1 in
+      (where-so ws (κ .row) (p .0), (next .0, next .1, along-so es (afterEvent e ws) (next .0) (next .2)))
+
+  pub always-so : Always P → Always Q
+  always-so A ws es = along-so es ws nothingKnown (A ws es)

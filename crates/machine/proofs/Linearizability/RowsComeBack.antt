@@ -1,0 +1,127 @@
+-- A snapshot taken while a row is known is kept for good, and put back it brings back that row.
+use mathlib.Core.Path.{_≡_, refl, sym, _∙_, subst}
+use mathlib.Core.Bool.{Bool, true, false, cond}
+use mathlib.Core.List.{List, [], _∷_}
+use mathlib.Core.Option.{Option, some, none as nothing, bind}
+use Prim.Native.Nat.{ℕ, _<_}
+use Rattle.machine.specs.declared.Reply.{Reply}
+use Rattle.machine.specs.declared.Reply.the-variants.{Accepted, Refused as Reply-Refused}
+use Rattle.machine.specs.Shape.{sameWords}
+use Rattle.machine.specs.Snapshots.{byNodes, takeSnapshot, putBack}
+use Rattle.machine.specs.Row.{Row}
+use Rattle.machine.specs.Demand3.{given, feed}
+use Rattle.machine.specs.Events.{
+  Event,
+  call-event,
+  take-event,
+  put-event,
+  eventGiven,
+  afterEvent,
+  Kept,
+  Known,
+  nothingKnown,
+  rowKept,
+  keep,
+  fedRow,
+  feedCall,
+  feedTake,
+  feedPut,
+  feedEvent,
+  Where,
+  afterEvents,
+  knownAfter,
+  SameRow,
+  RowsComeBack,
+}
+use Rattle.machine.proofs.Basics.Contradiction.{clash}
+use Rattle.machine.proofs.Words.RecordLaws.{same-words-refl}
+use Rattle.machine.proofs.Snapshots.RoundTrips.{taken-back}
+use Rattle.machine.proofs.Linearizability.Calls.Agreement.{Agrees, lanes-are-rows}
+use Rattle.machine.proofs.Linearizability.Histories.{bound}
+use Rattle.machine.proofs.Linearizability.Carried.{holds-of-nothing, holds-after, found}
+use Rattle.machine.proofs.Linearizability.Theorem.{agreement-carried}
+
+-- Rows that agree with the same words are the same.
+one-row : {ws : List ℕ} {ρ σ : Row} → Agrees ws ρ → Agrees ws σ → SameRow ρ σ
+one-row {ws} {ρ} {σ} A B =
+    let same : ρ .lanes ≡ σ .lanes = A .same-lanes ∙ sym (B .same-lanes) in
+    record {
+      lanes = same;
+      bags = λ l h.
+          same-some (sym (lanes-are-rows A l h) ∙ lanes-are-rows B l (subst (λ (n : ℕ). l < n) same h));
+      notes = λ k. A .notes k ∙ sym (B .notes k);
+      tasks = A .same-count ∙ sym (B .same-count);
+      dispatched = A .same-dispatched ∙ sym (B .same-dispatched);
+    }
+  where
+    same-some : {x y : List ℕ} → some x ≡ some y → x ≡ y
+    same-some e = cc
+
+-- A snapshot once kept stays so.
+module _ (ss : List ℕ) where
+  abbrev IsKept : List Kept → Type 0
+  IsKept ks = (ρ : Row) × (rowKept ss ks ≡ some ρ)
+
+  newly-kept : (ρ : Row) (ks : List Kept) → rowKept ss (keep ss (some ρ) ks) ≡ some ρ
+  unfolding rowKept
+  newly-kept ρ ks = rw (same-words-refl ss)
+
+  one-more-kept : (ts : List ℕ) (known : Option Row) (ks : List Kept) → IsKept ks → IsKept (keep ts known ks)
+  unfolding rowKept
+  one-more-kept ts nothing ks K = K
+  one-more-kept ts (some σ) ks K = go (sameWords ss ts)
+    where
+      go : (b : Bool) → (ρ : Row) × (cond b (some σ) (rowKept ss ks) ≡ some ρ)
+      go true = (σ, refl)
+      go false = K
+
+  stays : {κ κ′ : Known} → some κ ≡ some κ′ → IsKept (κ .kept) → IsKept (κ′ .kept)
+  stays {κ} {κ′} e K = let same : κ ≡ κ′ = cc in subst (λ (k : Known). IsKept (k .kept)) same K
+
+  stays-kept : (e : Event) (ws : List ℕ) (κ κ′ : Known) → feedEvent κ e (eventGiven e ws) ≡ some κ′
+      → IsKept (κ .kept)
+      → IsKept (κ′ .kept)
+  stays-kept (call-event c) ws κ κ′ f K = go (κ .row) f
+    where
+      fed : (r : Option Row) → fedRow r (κ .kept) ≡ some κ′ → IsKept (κ′ .kept)
+      fed nothing q = clash (cc)
+      fed (some σ) q = stays q K
+
+      go : (known : Option Row) → feedCall known (κ .kept) c (given c ws) ≡ some κ′ → IsKept (κ′ .kept)
+      go nothing q = stays q K
+      go (some ρ) q = fed (feed ρ c (given c ws)) q
+  stays-kept (take-event out) ws κ κ′ f K = go (takeSnapshot ws out .reply) f
+    where
+      go : (r : Reply) → some (feedTake κ r (takeSnapshot ws out .words)) ≡ some κ′ → IsKept (κ′ .kept)
+      go Accepted q = stays q (one-more-kept (takeSnapshot ws out .words) (κ .row) (κ .kept) K)
+      go (Reply-Refused n) q = stays q K
+  stays-kept (put-event ts) ws κ κ′ f K = go (putBack ts ws .reply) f
+    where
+      go : (r : Reply) → some (feedPut κ ts r) ≡ some κ′ → IsKept (κ′ .kept)
+      go Accepted q = stays q K
+      go (Reply-Refused n) q = stays q K
+
+  always-kept : (es : List Event) (ws : List ℕ) (κ κ′ : Known) → knownAfter es ws κ ≡ some κ′ → IsKept (κ .kept)
+      → IsKept (κ′ .kept)
+  unfolding knownAfter bind
+  always-kept [] ws κ κ′ e K = stays e K
+  always-kept (v ∷ es) ws κ κ′ e K =
+      let x = bound (feedEvent κ v (eventGiven v ws)) _ e in
+      always-kept es (afterEvent v ws) (x .0) κ′ (x .2) (stays-kept v ws κ (x .0) (x .1) K)
+
+pub rows-come-back : RowsComeBack
+unfolding knownAfter bind afterEvents
+rows-come-back began before since out κ κ′ ρ e is-row accepted f =
+    let ws = afterEvents before began in
+    let ss = takeSnapshot ws out .words in
+    let none-yet = holds-of-nothing Agrees agreement-carried began in
+    let H = holds-after Agrees agreement-carried before began nothingKnown κ none-yet e in
+    let A : Agrees ws ρ = subst (Where Agrees ws) is-row (H .present) in
+    let κ₁ = feedTake κ Accepted ss in
+    let g : knownAfter since ws κ₁ ≡ some κ′ = rw accepted at f in
+    let H′ = holds-after Agrees agreement-carried (take-event out ∷ since) ws κ κ′ H f in
+    let K : IsKept ss (κ₁ .kept) = rw is-row (ρ, newly-kept ss ρ (κ .kept)) in
+    let F = always-kept ss since ws κ₁ κ′ g K in
+    let B : Agrees (byNodes ss) (F .0) =
+    subst (Where Agrees (byNodes ss)) (F .1) (found Agrees agreement-carried ss (κ′ .kept) (H′ .kept)) in
+    (F .0, F .1, one-row A (subst (λ (vs : List ℕ). Agrees vs (F .0)) (taken-back ws out accepted) B))

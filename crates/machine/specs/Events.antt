@@ -1,0 +1,198 @@
+-- Demand 3 since 2026-10: what is known along a list of calls, takes and puts, and what is claimed where a row is
+-- known. Of calls alone it is `Demand3.Demand3`.
+use mathlib.Core.Path.{_≡_}
+use mathlib.Core.Bool.{cond}
+use mathlib.Core.List.{List, [], _∷_}
+use mathlib.Core.Option.{Option, some, none as nothing, bind}
+use Prim.Native.Nat.{ℕ, _<_}
+use lib.ListN.{length}
+use Rattle.machine.specs.declared.Reply.{Reply}
+use Rattle.machine.specs.declared.Reply.the-variants.{Accepted, Refused as Reply-Refused}
+use Rattle.machine.specs.Shape.{sameWords}
+use Rattle.machine.specs.Snapshots.{takeSnapshot, putBack}
+use Rattle.machine.specs.Row.{Row, emptyRow}
+use Rattle.machine.specs.Demand3.{
+  Call,
+  start-call,
+  begin-call,
+  tick-call,
+  ticks-call,
+  dispatch-call,
+  dispatches-call,
+  run-call,
+  panel-call,
+  read-call,
+  Given,
+  given,
+  after,
+  feed,
+  LanesAre,
+  Within,
+}
+use Rattle.machine.specs.Begun.{Begun}
+use Rattle.machine.specs.Twice.{OnceInTable, RowSince}
+
+-- A call as before, or a snapshot taken into a slice, or one put back. Slices are by their contents, as in `Call`.
+pub data Event : Type 0 where
+  call-event : Call → Event
+  take-event : (out : List ℕ) → Event
+  put-event : (snapshot : List ℕ) → Event
+
+-- What an event gives back, and the table as it leaves it.
+abbrev pub EventGiven : Event → Type 0
+EventGiven (call-event c) = Given c
+EventGiven (take-event out) = Reply × List ℕ
+EventGiven (put-event ss) = Reply
+
+abbrev pub eventGiven : (e : Event) → List ℕ → EventGiven e
+eventGiven (call-event c) ws = given c ws
+eventGiven (take-event out) ws = (takeSnapshot ws out .reply, takeSnapshot ws out .words)
+eventGiven (put-event ss) ws = putBack ss ws .reply
+
+abbrev pub afterEvent : Event → List ℕ → List ℕ
+afterEvent (call-event c) ws = after c ws
+afterEvent (take-event out) ws = ws
+afterEvent (put-event ss) ws = putBack ss ws .words
+
+-- ---- What is known, by the events' arguments and answers alone.
+
+-- A snapshot taken of a table that demand 3 spoke of, with the row of that moment.
+pub record Kept : Type 0 where
+  pub snapshot : List ℕ
+  pub row : Row
+
+-- The row, or nothing where demand 3 says nothing at present; and the snapshots kept, the latest first. None is ever
+-- dropped.
+pub record Known : Type 0 where
+  pub row : Option Row
+  pub kept : List Kept
+
+-- Before any start, of whatever words.
+abbrev pub nothingKnown : Known
+nothingKnown = record { row = nothing; kept = [] }
+
+-- 02: "taken of a table that demand 3 speaks of, and not altered since": the row of a kept snapshot with these very
+-- words.
+unfoldable pub rowKept : (snapshot : List ℕ) → List Kept → Option Row
+rowKept ss [] = nothing
+rowKept ss (k ∷ ks) = cond (sameWords ss (k .snapshot)) (some (k .row)) (rowKept ss ks)
+
+-- A snapshot taken while nothing is known is not kept.
+abbrev pub keep : (snapshot : List ℕ) → Option Row → List Kept → List Kept
+keep ss nothing ks = ks
+keep ss (some ρ) ks = record { snapshot = ss; row = ρ } ∷ ks
+
+-- A call while a row is known is fed to it as before: nothing at all where the row does not give that answer.
+abbrev pub fedRow : Option Row → List Kept → Option Known
+fedRow nothing ks = nothing
+fedRow (some ρ) ks = some (record { row = some ρ; kept = ks })
+
+-- A call while nothing is known: an accepted start makes the empty row known, and any other answer passes.
+abbrev pub startedRow : (c : Call) → Given c → Option Row
+startedRow (start-call S T g lanes) Accepted = some (emptyRow T lanes)
+startedRow (start-call S T g lanes) (Reply-Refused n) = nothing
+startedRow (begin-call k l op side argument) r = nothing
+startedRow (tick-call k h) r = nothing
+startedRow (ticks-call k h times) r = nothing
+startedRow (dispatch-call h) r = nothing
+startedRow (dispatches-call h times) r = nothing
+startedRow (run-call list answers) r = nothing
+startedRow (panel-call list answers) r = nothing
+startedRow (read-call l out) r = nothing
+
+abbrev pub feedCall : Option Row → List Kept → (c : Call) → Given c → Option Known
+feedCall nothing ks c r = some (record { row = startedRow c r; kept = ks })
+feedCall (some ρ) ks c r = fedRow (feed ρ c r) ks
+
+-- A take is a look; a snapshot taken while a row is known is kept with it.
+abbrev pub feedTake : Known → Reply → (snapshot : List ℕ) → Known
+feedTake κ Accepted ss = record { row = κ .row; kept = keep ss (κ .row) (κ .kept) }
+feedTake κ (Reply-Refused n) ss = κ
+
+-- 02: "the answers after it are those of a row whose history ends where it was taken, and demand 3 speaks of that table
+-- again. After any other snapshot put back it says nothing until the next start or a snapshot of the first kind."
+abbrev pub feedPut : Known → (snapshot : List ℕ) → Reply → Known
+feedPut κ ss Accepted = record { row = rowKept ss (κ .kept); kept = κ .kept }
+feedPut κ ss (Reply-Refused n) = κ
+
+-- What is known afterwards; nothing at all where a known row does not give that answer.
+abbrev pub feedEvent : Known → (e : Event) → EventGiven e → Option Known
+feedEvent κ (call-event c) r = feedCall (κ .row) (κ .kept) c r
+feedEvent κ (take-event out) r = some (feedTake κ (r .0) (r .1))
+feedEvent κ (put-event ss) r = some (feedPut κ ss r)
+
+-- ---- The claim.
+
+-- A claim about a table and its row, where a row is known.
+abbrev pub Where : (Claim : List ℕ → Row → Type 0) → List ℕ → Option Row → Type 0
+Where Claim ws nothing = Unit {0}
+Where Claim ws (some ρ) = Claim ws ρ
+
+-- Along a list of events, each on the table as the one before left it: the row, where one is known, gives every answer,
+-- and the claim is true of it at every place.
+abbrev pub Along : (Claim : List ℕ → Row → Type 0) → List Event → List ℕ → Known → Type 0
+Along Claim [] ws κ = Where Claim ws (κ .row)
+Along Claim (e ∷ es) ws κ =
+    Where Claim ws (κ .row)
+    × ((κ′ : Known) × (feedEvent κ e (eventGiven e ws) ≡ some κ′) × Along Claim es (afterEvent e ws) κ′)
+
+-- Along every list of events, on any words whatever: an accepted start among them makes a row known.
+abbrev pub Always : (Claim : List ℕ → Row → Type 0) → Type 0
+Always Claim = (ws : List ℕ) (events : List Event) → Along Claim events ws nothingKnown
+
+-- Demand 3: each lane in the table is its row, and so inside whatever call is made there.
+abbrev pub LanesAreInside : List ℕ → Row → Type 0
+LanesAreInside ws ρ = LanesAre ws ρ × ((c : Call) → Within c ws ρ)
+
+abbrev pub Demand3WithSnapshots : Type 0
+Demand3WithSnapshots = Always LanesAreInside
+
+-- 02: "a row whose history ends where it was taken": where a row is known, a start and calls, with no snapshot among
+-- them, lead to this very table, and the row is theirs.
+abbrev pub HistoriesKnown : Type 0
+HistoriesKnown = Always RowSince
+
+-- So the facts about the tables that our calls lead to are true there: 02: "The facts of 2026-03 and 2026-08 hold there
+-- on the same condition." (That of 2026-08 is `progress/specs/Solo.SoloBoundWhereKnown`.)
+abbrev pub BegunWhereKnown : Type 0
+BegunWhereKnown = Always (λ ws ρ. Begun ws)
+
+abbrev pub OnceWhereKnown : Type 0
+OnceWhereKnown = Always (λ ws ρ. OnceInTable ws)
+
+-- 22 alone can refuse a take where a row is known: 3 and 4 are not met there.
+abbrev pub TakesWhereKnown : Type 0
+TakesWhereKnown = Always (λ ws ρ. (out : List ℕ) → length out ≡ length ws → takeSnapshot ws out .reply ≡ Accepted)
+
+-- ---- What a snapshot of the first kind brings back.
+
+-- The table after a list of events, and what is known then.
+unfoldable pub afterEvents : List Event → List ℕ → List ℕ
+afterEvents [] ws = ws
+afterEvents (e ∷ es) ws = afterEvents es (afterEvent e ws)
+
+unfoldable pub knownAfter : List Event → List ℕ → Known → Option Known
+knownAfter [] ws κ = some κ
+knownAfter (e ∷ es) ws κ = bind (feedEvent κ e (eventGiven e ws)) (λ κ′. knownAfter es (afterEvent e ws) κ′)
+
+-- Two rows that nobody can tell apart: they keep the same of every lane there is.
+pub record SameRow (ρ σ : Row) : Type 0 where
+  pub lanes : ρ .lanes ≡ σ .lanes
+  pub bags : (l : ℕ) → l < ρ .lanes → ρ .bags l ≡ σ .bags l
+  pub notes : (k : ℕ) → ρ .notes k ≡ σ .notes k
+  pub tasks : ρ .tasks ≡ σ .tasks
+  pub dispatched : ρ .dispatched ≡ σ .dispatched
+
+-- A snapshot taken while a row is known is put back, after any events: that row is known again. (That the table is the
+-- one taken is `Snapshots.PutsBackTaken`.)
+abbrev pub RowsComeBack : Type 0
+RowsComeBack =
+    (began : List ℕ)
+    → (before since : List Event) (out : List ℕ) (κ κ′ : Known) (ρ : Row)
+    → let ws = afterEvents before began in
+    let snapshot = takeSnapshot ws out .words in
+    knownAfter before began nothingKnown ≡ some κ
+    → κ .row ≡ some ρ
+    → takeSnapshot ws out .reply ≡ Accepted
+    → knownAfter (take-event out ∷ since) ws κ ≡ some κ′
+    → (ρ′ : Row) × (feedPut κ′ snapshot Accepted .row ≡ some ρ′) × SameRow ρ ρ′
