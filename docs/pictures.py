@@ -1,5 +1,6 @@
 #!/usr/bin/env python3
-"""Draws docs/table.svg (where each word of the table stands) and docs/spur.svg (a hat on a spur)."""
+"""Draws docs/table.svg (where each word of the table stands), docs/spur.svg (a hat on a spur) and docs/fight.svg (lost
+swaps, as examples/c/fight.c prints them)."""
 
 import pathlib
 
@@ -99,5 +100,34 @@ def spur():
     drawing("spur.svg", 800, 400, "A hat on a spur", parts)
 
 
+def fight():
+    """The number of a window over time, from what the example prints."""
+    phases, points = [], []
+    for line in (HERE.parent / "examples/c/fight.expected").read_text().splitlines():
+        if line.startswith("  tick"):
+            tick, lost = line.removeprefix("  tick").split(":")
+            points.append((int(tick), int(lost)))
+        else:
+            phases.append((line, points[-1][0] if points else 0))
+    left, top, width, height = 60, 60, 720, 120
+    last, most = points[-1][0], max(lost for _, lost in points) + 1
+    x = lambda tick: round(left + width * tick / last, 1)
+    y = lambda lost: round(top + height - height * lost / most, 1)
+    parts = [text(20, 30, "Lost swaps among the last 64 ticks", 16, "start", weight="bold")]
+    ends = [begun for _, begun in phases[1:]] + [last]
+    fills = [FILLS["free"], FILLS["spur"], FILLS["free"]]
+    for (name, begun), end, fill in zip(phases, ends, fills):
+        parts.append(f'<rect x="{x(begun)}" y="{top}" width="{x(end) - x(begun)}" height="{height}" fill="{fill}"/>')
+        parts.append(text((x(begun) + x(end)) / 2, top - 8, name, 12, fill=SOFT))
+    parts.append(f'<path d="M {left} {top} V {top + height} H {left + width}" fill="none" stroke="{INK}"/>')
+    parts += [text(left - 8, y(lost) + 4, str(lost), 11, "end", SOFT) for lost in range(most)]
+    parts += [text(x(tick), top + height + 18, str(tick), 11, fill=SOFT) for tick in range(0, last + 1, 96)]
+    line = " ".join(f"{x(tick)},{y(lost)}" for tick, lost in [(0, 0)] + points)
+    parts.append(f'<polyline points="{line}" fill="none" stroke="{INK}" stroke-width="2"/>')
+    parts.append(text(left + width / 2, top + height + 38, "ticks", 12, fill=SOFT))
+    drawing("fight.svg", 800, 230, "Lost swaps while two tasks fight over an end", parts)
+
+
 table()
 spur()
+fight()

@@ -31,10 +31,10 @@
  * allocates nothing and has no state of its own.
  *
  * THREADS. Different tables may be used by different threads at the same time, and so may reads and takes of one table.
- * All else on one table comes one call after another: the library has no lock and no atomic access. Tag lists need no
- * table, and their calls may be made at any time, each with an out slice of its own.
+ * All else on one table comes one call after another: the library has no lock and no atomic access. Tag lists and
+ * windows need no table, and their calls may be made at any time, each with an out slice or a window of its own.
  *
- * FOOTPRINT. For x86-64 only. Under 15 kB of code and constants, no data, no heap; of stack under 5.7 kB in the calls
+ * FOOTPRINT. For x86-64 only. Under 19 kB of code and constants, no data, no heap; of stack under 5.7 kB in the calls
  * that tick, under 0.6 kB in the others; nothing from outside but memset (`make footprint` measures it).
  *
  * LANES. The lanes of a table are numbered from 0. Each is a row of bags of its own, and all share the slots. A begin
@@ -87,6 +87,11 @@
  * two to a byte, the higher first. lane_tags_read and lane_tags_write take them to two words a tag, as lane_read writes
  * them, and back. They need no table, and a list may hold a tag twice.
  *
+ * LOST SWAPS. A task that finds another one in its way loses the swap of its line, at step 5, 25, 48 or 51, and goes
+ * round again; or, a remove at 62, it says "no", which it does also where no other task is about. A window counts such
+ * ticks among the last W: a number that rises while tasks fight over an end. lane_window makes one, lane_feed feeds it
+ * a tick; lane_watch_tick and lane_watch_dispatch tick and feed at once.
+ *
  * SNAPSHOTS. A snapshot holds the words of a table in another order, by columns: the header, every slot's L, every R,
  * every V, every leading digit, then the tasks. It is as long as the table. lane_take takes one, and lane_put puts it
  * back: the table then has every word that it had, with its bags, the calls in the middle, the turn and the tick count,
@@ -99,7 +104,7 @@
  * table that lane_start began holds again after a snapshot that was taken of such a table and is put back as it was;
  * after any other that is accepted nothing is said of the answers, nor that a tag is in one place, until the next
  * lane_start or such a snapshot. What is counted, the dispatches up to a task's tick or the ticks up to an answer, is
- * counted with no lane_put in between.
+ * counted with no lane_put in between, and a window is to be made fresh after it.
  */
 #ifndef LANE_H
 #define LANE_H
@@ -130,6 +135,9 @@ extern "C" {
 #define LANE_ANSWER_WORDS 3
 #define LANE_TAG_BYTES 5
 
+/* Words of a window that looks back on `width` ticks (1 to 4,096). */
+#define LANE_WINDOW_WORDS(width) ((size_t)(width) + 4)
+
 /* The most bags that a table of so many slots and lanes carries, in all lanes together. */
 #define LANE_MAX_BAGS(slots, lanes) ((slots) - 2 * (lanes))
 
@@ -153,6 +161,7 @@ extern "C" {
 #define LANE_MAX_TICKS 4096     /* of one run */
 #define LANE_MAX_PANEL_TICKS 32 /* of one list of the panel */
 #define LANE_LIST_TAGS 1024     /* the most of one tag list */
+#define LANE_MAX_WIDTH 4096     /* ticks that a window looks back on */
 #define LANE_MIN_WORDS 37       /* of a table */
 #define LANE_MAX_WORDS 4320
 
@@ -203,6 +212,8 @@ extern "C" {
 #define LANE_REFUSED_NO_TAG 18   /* tag list: a place holds no tag */
 #define LANE_REFUSED_TAGS_OUT 19 /* tag list: out slice too short for it */
 #define LANE_REFUSED_SNAPSHOT 22 /* take, put: the snapshot and the table differ in length */
+#define LANE_REFUSED_WINDOW 23   /* window: width out of range, not so long, or a word that no feed leaves there */
+#define LANE_REFUSED_COUNT 24    /* window: a count that is not the one after the last */
 #define LANE_REFUSED_LANES 25    /* start: not one to four lanes */
 #define LANE_REFUSED_LANE 26     /* begin, read: no such lane */
 
@@ -218,9 +229,9 @@ extern "C" {
 #define LANE_VALUE(answer) ((answer) & UINT64_C(0xffffffffff))
 
 /*
- * The two halves of what lane_run, lane_panel, lane_read, lane_tags_read and lane_tags_write return: the refusal, or 0;
- * and the count, of the ticks made or of the tags. With a refusal the count is 0, but for a run and the panel's list,
- * which have made so many ticks before it, and for 18, where it is the place.
+ * The two halves of what lane_run, lane_panel, lane_read, lane_tags_read, lane_tags_write and lane_feed return: the
+ * refusal, or 0; and the count, of the ticks made, of the tags or of the lost swaps. With a refusal the count is 0, but
+ * for a run and the panel's list, which have made so many ticks before it, and for 18, where it is the place.
  */
 #define LANE_REFUSAL(pair) ((uint32_t)((pair) >> 32))
 #define LANE_COUNT(pair) ((uint32_t)((pair) & 0xffffffffu))
@@ -486,6 +497,45 @@ uint64_t lane_tags_read(const uint8_t *list, size_t bytes, uint32_t *out, size_t
  */
 uint64_t lane_tags_write(const uint32_t *tags, size_t words, uint8_t *out, size_t out_bytes);
 
+/*
+ * Makes the window a fresh one, in which no tick is fed, that looks back on `width` ticks (1 to 4,096); its words may
+ * be anything before.
+ * Returns 0, or 23, if `width` is out of range or `words` is not LANE_WINDOW_WORDS(width). Writes every word.
+ */
+uint32_t lane_window(uint32_t *window, size_t words, uint32_t width);
+
+/*
+ * Feeds a window the next tick that was made: its count, table[LANE_TICK_COUNT] after it, and its task's step before
+ * and after (lane_step). Every tick is to be fed, of whatever task and lane, each once and in order. The first count
+ * may be any number; each later one is the last one plus 1, with 0 after 4,294,967,295. Lost are the steps 5 to 8, 25
+ * to 15, 48 or 51 to 39 and 62 to 0, and no others.
+ * Returns LANE_COUNT: how many of the last `width` ticks fed lost their swap, this one included; LANE_REFUSAL: 0, or
+ * the refusal: 23, 24. Writes four words of the window; with a refusal none. After a 24, as when lane_start or
+ * lane_put set the count anew or ticks were made that were not fed, lane_window begins the window anew.
+ *
+ * ```c
+ * #include "lane.h"
+ *
+ * int main(void) {
+ *     uint32_t window[LANE_WINDOW_WORDS(3)];
+ *     static const uint32_t steps[][2] = {{5, 8}, {3, 5}, {51, 39}, {51, 0}, {8, 67}, {62, 64}};
+ *     static const uint32_t lost[] = {1, 1, 2, 1, 1, 0};
+ *     if (lane_window(window, LANE_WINDOW_WORDS(3), 3) != 0) {
+ *         return 1;
+ *     }
+ *     uint32_t count = UINT32_MAX - 2;
+ *     for (int i = 0; i < 6; i++) {
+ *         if (lane_feed(window, LANE_WINDOW_WORDS(3), count++, steps[i][0], steps[i][1]) != lost[i]) {
+ *             return 1;
+ *         }
+ *     }
+ *     uint64_t fed = lane_feed(window, LANE_WINDOW_WORDS(3), count + 1, 2, 3);
+ *     return count == 3 && LANE_REFUSAL(fed) == LANE_REFUSED_COUNT ? 0 : 1;
+ * }
+ * ```
+ */
+uint64_t lane_feed(uint32_t *window, size_t words, uint32_t count, uint32_t before, uint32_t after);
+
 /* Those below are no part of the library and of its proofs: they are written here, over the calls above. */
 
 /* The tag of a digit and a low part. */
@@ -518,6 +568,74 @@ static inline uint64_t lane_call(uint32_t *table, size_t words, uint32_t task, u
         return (uint64_t)LANE_REFUSED << 40 | refusal;
     }
     return lane_ticks(table, words, task, 0, LANE_MAX_TICKS_ALONE(table[0]));
+}
+
+/*
+ * The step at which a task stands, the number of a line of the figure; 0 for a task that is idle or is not there. The
+ * words may be anything.
+ */
+static inline uint32_t lane_step(const uint32_t *table, size_t words, uint32_t task) {
+    size_t record = words == 0 ? 0 : LANE_WORDS(table[0], task);
+    return record + 1 < words ? table[record + 1] : 0;
+}
+
+/*
+ * Makes one tick as lane_tick does, and feeds it to the window.
+ * Returns what lane_tick returns, and in `*fed` what lane_feed returns; a tick that is refused is not fed, and leaves
+ * `*fed` as it is.
+ *
+ * ```c
+ * #include "lane.h"
+ *
+ * int main(void) {
+ *     static uint32_t table[LANE_WORDS(8, 2)];
+ *     uint32_t window[LANE_WINDOW_WORDS(16)];
+ *     size_t words = LANE_WORDS(8, 2), window_words = LANE_WINDOW_WORDS(16);
+ *     uint64_t fed = 0;
+ *     if (lane_start(table, words, 8, 2, 4, 1) != 0 || lane_window(window, window_words, 16) != 0 ||
+ *         LANE_KIND(lane_call(table, words, 0, 0, LANE_ADD, LANE_RIGHT, 4)) != LANE_YES) {
+ *         return 1;
+ *     }
+ *     for (uint32_t task = 0; task < 2; task++) {
+ *         if (lane_begin(table, words, task, 0, LANE_PUSH, LANE_RIGHT, 0, 51 + task) != 0) {
+ *             return 1;
+ *         }
+ *     }
+ *     for (uint32_t turn = 0; turn < 6; turn++) {
+ *         lane_watch_tick(table, words, turn % 2, 0, window, window_words, &fed);
+ *     }
+ *     return LANE_REFUSAL(fed) == 0 && LANE_COUNT(fed) == 1 && lane_step(table, words, 1) == 8 ? 0 : 1;
+ * }
+ * ```
+ */
+static inline uint64_t lane_watch_tick(uint32_t *table, size_t words, uint32_t task, uint32_t hint, uint32_t *window,
+                                       size_t window_words, uint64_t *fed) {
+    uint32_t before = lane_step(table, words, task);
+    uint64_t answer = lane_tick(table, words, task, hint);
+    if (LANE_KIND(answer) != LANE_REFUSED) {
+        uint32_t after = lane_step(table, words, task);
+        *fed = lane_feed(window, window_words, table[LANE_TICK_COUNT], before, after);
+    }
+    return answer;
+}
+
+/*
+ * Makes one dispatch as lane_dispatch does, and feeds its tick to the window.
+ * Returns what lane_dispatch returns, and in `*fed` what lane_feed returns; with LANE_IDLE or LANE_REFUSED there is no
+ * tick, and `*fed` stays as it is.
+ */
+static inline uint64_t lane_watch_dispatch(uint32_t *table, size_t words, uint32_t hint, uint32_t *window,
+                                           size_t window_words, uint64_t *fed) {
+    uint32_t before[LANE_MAX_TASKS];
+    for (uint32_t task = 0; task < LANE_MAX_TASKS; task++) {
+        before[task] = lane_step(table, words, task);
+    }
+    uint64_t answer = lane_dispatch(table, words, hint);
+    if (LANE_KIND(answer) < LANE_REFUSED) {
+        uint32_t task = table[LANE_DISPATCHED];
+        *fed = lane_feed(window, window_words, table[LANE_TICK_COUNT], before[task], lane_step(table, words, task));
+    }
+    return answer;
 }
 
 /*
@@ -568,6 +686,10 @@ static inline const char *lane_refusal_text(uint32_t refusal) {
         return "the out slice is too short for the tag list";
     case LANE_REFUSED_SNAPSHOT:
         return "the snapshot and the table differ in length";
+    case LANE_REFUSED_WINDOW:
+        return "the words are no window";
+    case LANE_REFUSED_COUNT:
+        return "the count does not follow the last one fed";
     case LANE_REFUSED_LANES:
         return "not one to four lanes";
     case LANE_REFUSED_LANE:

@@ -8,11 +8,12 @@ mod loads;
 mod measure;
 mod programs;
 mod snapshots;
+mod windows;
 
 use std::hint::black_box;
 
 use loads::Load;
-use measure::{interleaved, nanoseconds, Figures};
+use measure::{interleaved, nanoseconds, plain_sum, Figures};
 use programs::{Program, PROVED, RUST};
 use reference::table::{header, POP, PUSH, RIGHT};
 
@@ -125,6 +126,8 @@ fn main() {
     lists::rows(rounds);
     println!();
     snapshots::rows(rounds);
+    println!();
+    windows::rows(rounds);
     println!();
     lines::rows(line_rounds);
 }
@@ -368,7 +371,7 @@ fn growth(rounds: usize) {
         let test = shape_test(rounds, &idle);
         let bytes = 4.0 * idle.table.len() as f64;
         let rates = format!("{:.1} ({:.1})", bytes / test.proved, bytes / test.rust);
-        let sum = bytes / plain_sum(rounds, &idle);
+        let sum = bytes / plain_sum(rounds, &idle.table, copies(&idle));
         let cells = [
             run_tick(rounds, &loads::walks(nodes, 1)),
             run_tick(rounds, &loads::takes(nodes, 1)),
@@ -380,18 +383,4 @@ fn growth(rounds: usize) {
             cells[0], cells[1], cells[2]
         );
     }
-}
-
-/// The nanoseconds of a sum of all words of a table: every word is read once, and nothing is tested.
-fn plain_sum(rounds: usize, load: &Load) -> f64 {
-    let times = copies(load);
-    let sum = || {
-        nanoseconds(|| {
-            for _ in 0..times {
-                let words = black_box(&load.table).iter();
-                black_box(words.fold(0, |sum: u32, &word| sum.wrapping_add(word)));
-            }
-        }) / times as f64
-    };
-    interleaved(rounds, sum, sum).proved
 }

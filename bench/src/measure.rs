@@ -1,5 +1,6 @@
 //! Rounds of the two programs in turn, and the middle of what they took.
 
+use std::hint::black_box;
 use std::time::Instant;
 
 /// Nanoseconds of the two programs for one unit of work.
@@ -57,4 +58,17 @@ pub fn nanoseconds(work: impl FnOnce()) -> f64 {
     let begun = Instant::now();
     work();
     begun.elapsed().as_nanos() as f64
+}
+
+/// The nanoseconds of a sum of words, so many times a round: every word is read once, and nothing is tested.
+pub fn plain_sum(rounds: usize, words: &[u32], times: usize) -> f64 {
+    let sum = || {
+        nanoseconds(|| {
+            for _ in 0..times {
+                let words = black_box(words).iter();
+                black_box(words.fold(0, |sum: u32, &word| sum.wrapping_add(word)));
+            }
+        }) / times as f64
+    };
+    interleaved(rounds, sum, sum).proved
 }

@@ -25,6 +25,10 @@ pub struct Program {
     pub read_tags: fn(&[u8], &mut [u32]) -> u64,
     /// The same from words.
     pub write_tags: fn(&[u32], &mut [u8]) -> u64,
+    /// A fresh window of some width.
+    pub window: fn(&mut [u32], u32) -> u32,
+    /// A window fed: count, step before and step after.
+    pub feed: fn(&mut [u32], u32, u32, u32) -> u64,
 }
 
 /// The proved machine, from the static library.
@@ -39,6 +43,8 @@ pub const PROVED: Program = Program {
     put: ffi::put,
     read_tags: ffi::tags_read,
     write_tags: ffi::tags_write,
+    window: ffi::window,
+    feed: ffi::feed,
 };
 
 /// The second program in Rust.
@@ -62,6 +68,8 @@ pub const RUST: Program = Program {
     put: |snapshot, table| refusal(reference::put(snapshot, table)),
     read_tags: |bytes, words| pair(reference::read_tags(bytes, words)),
     write_tags: |words, bytes| pair(reference::write_tags(words, bytes)),
+    window: reference::window::window,
+    feed: |words, count, before, after| pair(reference::window::feed(words, count, before, after)),
 };
 
 fn refusal(given: Result<(), u32>) -> u32 {

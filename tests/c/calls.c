@@ -190,8 +190,7 @@ static void refusals(void) {
     EXPECT(begin(1, LANE_POP, LANE_LEFT, 0) == 0);
 
     for (uint32_t one = 0; one <= LANE_REFUSED_LANE + 1; one++) {
-        int given = one <= LANE_REFUSED_TAGS_OUT || one == LANE_REFUSED_SNAPSHOT || one == LANE_REFUSED_LANES ||
-                    one == LANE_REFUSED_LANE;
+        int given = one <= LANE_REFUSED_TAGS_OUT || (one >= LANE_REFUSED_SNAPSHOT && one <= LANE_REFUSED_LANE);
         EXPECT(strlen(lane_refusal_text(one)) > 0);
         EXPECT(given == (strcmp(lane_refusal_text(one), lane_refusal_text(4294967295u)) != 0));
         for (uint32_t other = 0; given && other < one; other++) {
@@ -268,6 +267,14 @@ static void empty_slices(void) {
     EXPECT(lane_tags_write(NULL, 0, NULL, 0) == 0);
     EXPECT(lane_tags_write(NULL, 0, bytes, LANE_TAG_BYTES) == 0);
     EXPECT(lane_tags_write(tag, LANE_TAG_WORDS, NULL, 0) == PAIR(LANE_REFUSED_TAGS_OUT, 0));
+
+    uint64_t fed = 7;
+    EXPECT(lane_window(NULL, 0, 1) == LANE_REFUSED_WINDOW);
+    EXPECT(lane_feed(NULL, 0, 1, 5, 8) == PAIR(LANE_REFUSED_WINDOW, 0));
+    EXPECT(lane_step(NULL, 0, 0) == 0);
+    EXPECT(lane_watch_tick(NULL, 0, 0, 0, NULL, 0, &fed) == ANSWER(LANE_REFUSED, LANE_REFUSED_TABLE));
+    EXPECT(lane_watch_dispatch(NULL, 0, 0, NULL, 0, &fed) == ANSWER(LANE_REFUSED, LANE_REFUSED_TABLE));
+    EXPECT(fed == 7);
 }
 
 /* A call to its answer; S - 2 bags and no more; what a remove says. */
@@ -534,6 +541,78 @@ static void snapshot_refusals(void) {
     }
 }
 
+/* A window's limits, its refusals in their order, and the number that it gives; what is refused stays as it was. */
+static void windows(void) {
+    enum { WIDTH = 3, WINDOW = LANE_WINDOW_WORDS(WIDTH), WIDEST = LANE_WINDOW_WORDS(LANE_MAX_WIDTH) };
+    static uint32_t wide[WIDEST + 1], window[WINDOW + 1], kept[WINDOW];
+    static const uint32_t steps[][2] = {{5, 8}, {25, 15}, {48, 39}, {51, 39}, {62, 0}, {62, 64}, {48, 0}, {78, 77}};
+    static const uint32_t lost[] = {1, 2, 3, 3, 3, 2, 1, 0};
+
+    EXPECT(lane_window(wide, WIDEST, LANE_MAX_WIDTH) == 0 && wide[0] == LANE_MAX_WIDTH);
+    EXPECT(lane_feed(wide, WIDEST, 9, 5, 8) == PAIR(0, 1));
+    EXPECT(lane_window(wide, WIDEST + 1, LANE_MAX_WIDTH + 1) == LANE_REFUSED_WINDOW);
+    EXPECT(lane_window(wide, WIDEST + 1, LANE_MAX_WIDTH) == LANE_REFUSED_WINDOW);
+    EXPECT(lane_window(wide, LANE_WINDOW_WORDS(0), 0) == LANE_REFUSED_WINDOW);
+    EXPECT(wide[0] == LANE_MAX_WIDTH && wide[1] == 1);
+
+    memset(window, 0xa5, sizeof window);
+    EXPECT(lane_window(window, WINDOW, WIDTH) == 0 && window[0] == WIDTH);
+    for (int i = 1; i < WINDOW; i++) {
+        EXPECT(window[i] == 0);
+    }
+    EXPECT(window[WINDOW] == 0xa5a5a5a5u);
+    for (uint32_t i = 0; i < 8; i++) {
+        uint32_t count = UINT32_MAX - 1 + i;
+        EXPECT(lane_feed(window, WINDOW, count, steps[i][0], steps[i][1]) == PAIR(0, lost[i]));
+        memcpy(kept, window, sizeof kept);
+        EXPECT(lane_feed(window, WINDOW, count, 5, 8) == PAIR(LANE_REFUSED_COUNT, 0));
+        EXPECT(lane_feed(window, WINDOW, count + 2, 5, 8) == PAIR(LANE_REFUSED_COUNT, 0));
+        EXPECT(lane_feed(window, WINDOW + 1, count, 5, 8) == PAIR(LANE_REFUSED_WINDOW, 0)); /* before the count */
+        EXPECT(memcmp(window, kept, sizeof kept) == 0);
+    }
+    window[4] = 2;
+    EXPECT(lane_feed(window, WINDOW, 6, 5, 8) == PAIR(LANE_REFUSED_WINDOW, 0));
+}
+
+/* Two pops at one end in turn, ticked and watched; then two pushes, dispatched and watched. */
+static void watched(void) {
+    enum { WIDTH = 8, WINDOW = LANE_WINDOW_WORDS(WIDTH) };
+    static uint32_t window[WINDOW];
+    uint64_t fed = 7;
+    begin_again();
+    EXPECT(call(0, LANE_ADD, LANE_RIGHT, 3) == ANSWER(LANE_YES, 0));
+    EXPECT(call(0, LANE_PUSH, LANE_RIGHT, 51) == ANSWER(LANE_PUSHED, 0));
+    EXPECT(lane_window(window, WINDOW, WIDTH) == 0);
+    EXPECT(lane_watch_dispatch(table, WORDS, 0, window, WINDOW, &fed) == ANSWER(LANE_IDLE, 0));
+    EXPECT(lane_watch_tick(table, WORDS, 0, 0, window, WINDOW, &fed) == ANSWER(LANE_REFUSED, LANE_REFUSED_IDLE));
+    EXPECT(fed == 7 && window[1] == 0);
+    EXPECT(begin(0, LANE_POP, LANE_RIGHT, 0) == 0 && begin(1, LANE_POP, LANE_RIGHT, 0) == 0);
+    EXPECT(lane_step(table, WORDS, 1) == 39);
+    for (uint32_t tick = 0; tick < 6; tick++) {
+        EXPECT(lane_watch_tick(table, WORDS, tick % 2, 0, window, WINDOW, &fed) == ANSWER(LANE_GOING, 0));
+        EXPECT(fed == 0);
+    }
+    EXPECT(lane_watch_tick(table, WORDS, 0, 0, window, WINDOW, &fed) == ANSWER(LANE_BAG, 51) && fed == 0);
+    EXPECT(lane_step(table, WORDS, 0) == 0 && lane_step(table, WORDS, 1) == 51);
+    EXPECT(lane_watch_tick(table, WORDS, 1, 0, window, WINDOW, &fed) == ANSWER(LANE_GOING, 0) && fed == 1);
+    for (uint32_t tick = 0; tick < 3; tick++) {
+        EXPECT(lane_watch_dispatch(table, WORDS, 0, window, WINDOW, &fed) == ANSWER(LANE_GOING, 0) && fed == 1);
+    }
+    EXPECT(lane_watch_dispatch(table, WORDS, 0, window, WINDOW, &fed) == ANSWER(LANE_EMPTY, 0) && fed == 1);
+    EXPECT(table[LANE_DISPATCHED] == 1 && window[3] == table[LANE_TICK_COUNT]);
+
+    EXPECT(begin(0, LANE_PUSH, LANE_RIGHT, 52) == 0 && begin(1, LANE_PUSH, LANE_RIGHT, 53) == 0);
+    for (uint32_t turn = 0; turn < 4; turn++) {
+        EXPECT(lane_watch_dispatch(table, WORDS, 0, window, WINDOW, &fed) == ANSWER(LANE_GOING, 0));
+    }
+    EXPECT(fed == 0); /* the lost pop is out of the window */
+    EXPECT(lane_watch_dispatch(table, WORDS, 0, window, WINDOW, &fed) == ANSWER(LANE_PUSHED, 0) && fed == 0);
+    EXPECT(lane_watch_dispatch(table, WORDS, 0, window, WINDOW, &fed) == ANSWER(LANE_GOING, 0) && fed == 1);
+    EXPECT(lane_tick(table, WORDS, 1, 0) == ANSWER(LANE_GOING, 0)); /* not fed */
+    EXPECT(lane_watch_tick(table, WORDS, 1, 0, window, WINDOW, &fed) == ANSWER(LANE_GOING, 0));
+    EXPECT(fed == PAIR(LANE_REFUSED_COUNT, 0));
+}
+
 int main(void) {
     limits();
     tags();
@@ -548,6 +627,8 @@ int main(void) {
     rows();
     snapshots();
     snapshot_refusals();
+    windows();
+    watched();
     puts(failures == 0 ? "the header's words hold" : "the header's words do not hold");
     return failures == 0 ? 0 : 1;
 }

@@ -13,6 +13,7 @@ static uint32_t table[WORDS], snapshot[WORDS], out[LANE_TAG_WORDS * SLOTS];
 static uint32_t tags[LANE_TAG_WORDS * LANE_LIST_TAGS];
 static uint8_t tag_list[LANE_TAG_BYTES * LANE_LIST_TAGS];
 static uint32_t list[2 * LANE_MAX_TICKS], answers[LANE_ANSWER_WORDS * LANE_MAX_TICKS];
+static uint32_t window[LANE_WINDOW_WORDS(LANE_MAX_WIDTH)];
 static unsigned char stack[SPACE];
 static ucontext_t here, there;
 
@@ -70,6 +71,14 @@ static void write_tags(void) {
     lane_tags_write(tags, LANE_TAG_WORDS * LANE_LIST_TAGS, tag_list, sizeof tag_list);
 }
 
+static void make_window(void) {
+    lane_window(window, LANE_WINDOW_WORDS(LANE_MAX_WIDTH), LANE_MAX_WIDTH);
+}
+
+static void feed(void) {
+    lane_feed(window, LANE_WINDOW_WORDS(LANE_MAX_WIDTH), 9, 5, 8);
+}
+
 static size_t touched(void (*call)(void)) {
     size_t at = 0;
     memset(stack, PAINT, SPACE);
@@ -112,6 +121,8 @@ int main(void) {
     memset(tag_list, 0x99, sizeof tag_list);
     print("tags_read", touched(read_tags), 600);
     print("tags_write", touched(write_tags), 600);
+    print("window", touched(make_window), 600);
+    print("feed", touched(feed), 600);
     if (failures > 0) {
         puts("more stack than include/lane.h says");
     }

@@ -144,6 +144,10 @@ pub enum Refusal {
     TagsOut = 19,
     /// Take, put: the snapshot and the table differ in length.
     Snapshot = 22,
+    /// Window: its width is out of range, it is not so long, or a word is not as feeds leave it.
+    Window = 23,
+    /// Window: a count that is not the one after the last.
+    Count = 24,
     /// Start: not one to four lanes. A [`Lane`](crate::Lane) has one.
     Lanes = 25,
     /// Begin, read: no such lane. A [`Lane`](crate::Lane) asks for none.
@@ -151,7 +155,7 @@ pub enum Refusal {
 }
 
 impl Refusal {
-    const ALL: [Refusal; 22] = [
+    const ALL: [Refusal; 24] = [
         Refusal::Sizes,
         Refusal::Length,
         Refusal::Table,
@@ -172,6 +176,8 @@ impl Refusal {
         Refusal::NoTag,
         Refusal::TagsOut,
         Refusal::Snapshot,
+        Refusal::Window,
+        Refusal::Count,
         Refusal::Lanes,
         Refusal::Lane,
     ];
@@ -225,6 +231,8 @@ impl fmt::Display for Refusal {
             Refusal::NoTag => "a place of the tag list holds no tag",
             Refusal::TagsOut => "the out slice is too short for the tag list",
             Refusal::Snapshot => "the snapshot and the table differ in length",
+            Refusal::Window => "the words are no window",
+            Refusal::Count => "the count does not follow the last one fed",
             Refusal::Lanes => "not one to four lanes",
             Refusal::Lane => "no such lane",
         };
@@ -234,7 +242,7 @@ impl fmt::Display for Refusal {
 
 impl core::error::Error for Refusal {}
 
-/// A start that was refused, with the words as they were. `?` makes a [`Refusal`] of it.
+/// A start, of a table or of a window, that was refused, with the words as they were. `?` makes a [`Refusal`] of it.
 ///
 /// ```
 /// use lane::{Lane, Refusal};
@@ -352,7 +360,7 @@ mod tests {
     fn every_refusal_is_decoded_once_and_back() {
         for number in (0..=99).chain([u32::MAX]) {
             let refusal = Refusal::from_number(number);
-            let given = matches!(number, 1..=19 | 22 | 25..=26);
+            let given = matches!(number, 1..=19 | 22..=26);
             assert_eq!(refusal.map(Refusal::number), given.then_some(number));
         }
     }

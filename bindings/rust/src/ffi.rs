@@ -76,6 +76,14 @@ mod library {
             out: *mut u8,
             out_bytes: usize,
         ) -> u64;
+        pub fn lane_window(window: *mut u32, words: usize, width: u32) -> u32;
+        pub fn lane_feed(
+            window: *mut u32,
+            words: usize,
+            count: u32,
+            before: u32,
+            after: u32,
+        ) -> u64;
     }
 }
 
@@ -318,4 +326,35 @@ pub fn tags_read(bytes: &[u8], words: &mut [u32]) -> u64 {
 pub fn tags_write(words: &[u32], bytes: &mut [u8]) -> u64 {
     let (out, out_bytes) = (bytes.as_mut_ptr(), bytes.len());
     unsafe { library::lane_tags_write(words.as_ptr(), words.len(), out, out_bytes) }
+}
+
+/// Writes a fresh window that looks back on so many ticks, 1 to 4,096: 0, or the refusal.
+///
+/// ```
+/// use lane::ffi;
+///
+/// let mut window = [7; 6];
+/// assert_eq!(ffi::window(&mut window, 3), 23);
+/// assert_eq!(ffi::window(&mut window, 2), 0);
+/// assert_eq!(window, [2, 0, 0, 0, 0, 0]);
+/// ```
+pub fn window(window: &mut [u32], width: u32) -> u32 {
+    unsafe { library::lane_window(window.as_mut_ptr(), window.len(), width) }
+}
+
+/// Feeds a window a tick by its count and its task's step before and after: the lost swaps among the last ticks fed, or
+/// the refusal times 2^32.
+///
+/// ```
+/// use lane::ffi;
+///
+/// let mut window = [2, 0, 0, 0, 0, 0];
+/// assert_eq!(ffi::feed(&mut window, 7, 5, 8), 1);
+/// assert_eq!(ffi::feed(&mut window, 7, 5, 8), 24 << 32);
+/// assert_eq!(window, [2, 1, 1, 7, 1, 0]);
+/// assert_eq!(ffi::feed(&mut window[1..], 8, 5, 8), 23 << 32);
+/// ```
+pub fn feed(window: &mut [u32], count: u32, before: u32, after: u32) -> u64 {
+    let (pointer, words) = (window.as_mut_ptr(), window.len());
+    unsafe { library::lane_feed(pointer, words, count, before, after) }
 }

@@ -430,12 +430,23 @@ impl<W: AsRef<[u32]>> Lanes<W> {
     /// # Ok::<(), Refusal>(())
     /// ```
     pub fn is_busy(&self, task: u32) -> Result<bool, Refusal> {
-        let view = self.view()?;
-        if task < view.tasks() {
-            Ok(view.is_busy(task))
-        } else {
-            Err(Refusal::Task)
-        }
+        Ok(self.view_of(task)?.is_busy(task))
+    }
+
+    /// The step at which a task stands, the number of a line of the figure; 0 for an idle one. A
+    /// [`Window`](crate::Window) is fed it.
+    ///
+    /// ```
+    /// use lane::{Lanes, Operation, Refusal, Side};
+    ///
+    /// let mut lanes = Lanes::start([0; lane::words(8, 2)], 8, 2, 0, 2)?;
+    /// lanes.begin(1, 1, Operation::Pop, Side::Left)?;
+    /// assert_eq!((lanes.step(0), lanes.step(1)), (Ok(0), Ok(39)));
+    /// assert_eq!(lanes.step(2), Err(Refusal::Task));
+    /// # Ok::<(), Refusal>(())
+    /// ```
+    pub fn step(&self, task: u32) -> Result<u32, Refusal> {
+        Ok(self.view_of(task)?.step(task))
     }
 
     /// The task last dispatched; after a start the one with the highest number.
@@ -493,6 +504,16 @@ impl<W: AsRef<[u32]>> Lanes<W> {
 
     fn view(&self) -> Result<View<'_>, Refusal> {
         View::of(self.words())
+    }
+
+    /// The same, if there is such a task.
+    fn view_of(&self, task: u32) -> Result<View<'_>, Refusal> {
+        let view = self.view()?;
+        if task < view.tasks() {
+            Ok(view)
+        } else {
+            Err(Refusal::Task)
+        }
     }
 }
 

@@ -52,6 +52,9 @@
 //! [`Lanes::put`] puts it back: the table is then what it was, and the calls after it are answered as those after the
 //! moment at which it was taken. Put back only what you took, whole.
 //!
+//! A [`Window`] counts how many of the last ticks lost the swap of their line, which warns of tasks that fight over an
+//! end. It is fed each tick, or ticks and feeds at once.
+//!
 //! [`Answer::Yes`] of a remove says that nothing more is to be done by it, and not that a slot was given back.
 //! [`Answer::No`] of a remove, with no other task in a call, means exactly one spare slot more than asked for; trying
 //! again changes nothing.
@@ -103,6 +106,7 @@ mod list;
 mod snapshot;
 mod tag;
 mod view;
+mod window;
 
 pub use answer::{Answer, NotStarted, Ran, Refusal};
 pub use call::{Operation, Side};
@@ -110,14 +114,15 @@ pub use dispatched::Dispatched;
 pub use lane::Lane;
 pub use lanes::Lanes;
 pub use limits::{
-    max_ticks_alone, words, LIST_TAGS, MAX_ADD, MAX_DIGIT, MAX_GROWTH, MAX_LANES, MAX_LOW,
-    MAX_PANEL_TICKS, MAX_REMOVE, MAX_SLOTS, MAX_TASKS, MAX_TICKS, MIN_LANES, MIN_SLOTS, MIN_TASKS,
-    TAG_BYTES,
+    max_ticks_alone, window_words, words, LIST_TAGS, MAX_ADD, MAX_DIGIT, MAX_GROWTH, MAX_LANES,
+    MAX_LOW, MAX_PANEL_TICKS, MAX_REMOVE, MAX_SLOTS, MAX_TASKS, MAX_TICKS, MAX_WIDTH, MIN_LANES,
+    MIN_SLOTS, MIN_TASKS, TAG_BYTES,
 };
 pub use list::{tags_read, tags_write, RefusedTags};
 pub use snapshot::Snapshot;
 pub use tag::{ParseTagError, Tag, Tags};
 pub use view::Bags;
+pub use window::{Watched, Window};
 
 /// The library's version.
 pub const VERSION: &str = env!("CARGO_PKG_VERSION");

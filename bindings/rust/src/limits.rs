@@ -31,6 +31,9 @@ pub const TAG_BYTES: usize = 5;
 /// The most tags of a tag list.
 pub const LIST_TAGS: usize = 1024;
 
+/// The most ticks that a [`Window`](crate::Window) looks back on; the fewest are 1.
+pub const MAX_WIDTH: u32 = 4096;
+
 /// The words of a table, whatever its lanes: 16 for the header, 4 a slot, 13 a task.
 ///
 /// ```
@@ -38,6 +41,15 @@ pub const LIST_TAGS: usize = 1024;
 /// ```
 pub const fn words(slots: u32, tasks: u32) -> usize {
     16 + 4 * slots as usize + 13 * tasks as usize
+}
+
+/// The words of a [`Window`](crate::Window) that looks back on so many ticks.
+///
+/// ```
+/// assert_eq!(lane::window_words(64), 68);
+/// ```
+pub const fn window_words(width: u32) -> usize {
+    width as usize + 4
 }
 
 /// Within so many of its own ticks a call answers while no other task is ticked, on a table that start began.

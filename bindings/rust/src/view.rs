@@ -89,10 +89,22 @@ impl<'a> View<'a> {
         self.record(task)[place::OPERATION] != 0
     }
 
+    /// The line of the figure at which a task below [`View::tasks`] stands; 0 for one that is idle.
+    pub fn step(self, task: u32) -> u32 {
+        self.record(task)[place::STEP]
+    }
+
     fn node(self, number: u32) -> &'a [u32] {
         let at = place::HEADER + place::NODE * number as usize;
         &self.words[at..at + place::NODE]
     }
+}
+
+/// The step of a task in words that may be anything; 0 for one that is idle or is not there.
+pub(crate) fn step(words: &[u32], task: u32) -> u32 {
+    let slots = words.get(place::SLOTS).copied().unwrap_or(0);
+    let at = crate::words(slots, task) + place::STEP;
+    words.get(at).copied().unwrap_or(0)
 }
 
 /// The tags of a lane, or the refusal that a read of it gets.

@@ -1,6 +1,6 @@
 //! The wrapper's constants and texts are those of `include/lane.h`, and the library keeps to them.
 
-use lane::{tags_write, words, Lane, Lanes, Operation, Refusal, Side, Tag};
+use lane::{tags_write, window_words, words, Lane, Lanes, Operation, Refusal, Side, Tag, Window};
 
 const HEADER: &str = include_str!("../../../include/lane.h");
 
@@ -34,6 +34,7 @@ fn the_header_has_the_same_numbers() {
         ("LANE_MAX_PANEL_TICKS", lane::MAX_PANEL_TICKS as u32),
         ("LANE_TAG_BYTES", lane::TAG_BYTES as u32),
         ("LANE_LIST_TAGS", lane::LIST_TAGS as u32),
+        ("LANE_MAX_WIDTH", lane::MAX_WIDTH),
         ("LANE_LEFT", Side::Left.number()),
         ("LANE_RIGHT", Side::Right.number()),
         ("LANE_PUSH", Operation::Push(Tag::MIN).number()),
@@ -107,4 +108,12 @@ fn each_limit_is_accepted_and_the_number_beyond_it_is_not() {
     assert_eq!(written, Ok(lane::TAG_BYTES * lane::LIST_TAGS));
     let beyond = tags_write(&most, &mut list).map_err(Refusal::from);
     assert_eq!(beyond, Err(Refusal::Tags));
+
+    let window = |width| {
+        let started = Window::start(vec![7; window_words(width)], width);
+        started.map(|_| ()).map_err(Refusal::from)
+    };
+    assert_eq!([1, lane::MAX_WIDTH].map(window), [Ok(()); 2]);
+    let beyond = [0, lane::MAX_WIDTH + 1].map(window);
+    assert_eq!(beyond, [Err(Refusal::Window); 2]);
 }

@@ -1,4 +1,5 @@
 -- The answers as single numbers, for C and Rust.
+use mathlib.Core.Bool.{Bool, cond}
 use Prim.Native.Nat.{ℕ, _+_, _*_, _^_}
 use Rattle.machine.specs.declared.Answer.{Answer}
 use Rattle.machine.specs.declared.Dispatch.{Dispatch}
@@ -7,9 +8,10 @@ use Rattle.machine.specs.declared.Reading.the-variants.{Count, Refused}
 use Rattle.machine.specs.declared.Ran.{Ran}
 use Rattle.machine.specs.Answers.{kindOf, payloadOf, dispatchKindOf, dispatchPayloadOf}
 use Rattle.packed.specs.TagLists as TagLists
+use Rattle.window.specs.Window as Window
 
--- Two words in one number of 64 bits. In what a run, a panel's list, a read and a tag list give, the high one is the
--- refusal or 0 and the low one the count, or the place of 18.
+-- Two words in one number of 64 bits. In what a run, a panel's list, a read, a tag list and a feed give, the high one
+-- is the refusal or 0 and the low one the count, or the place of 18.
 abbrev pub pairOf : (high low : ℕ) → ℕ
 pairOf high low = high * 2 ^ 32 + low
 
@@ -35,3 +37,12 @@ abbrev pub listNumber : TagLists.Answer → ℕ
 listNumber (TagLists.count n) = pairOf 0 n
 listNumber (TagLists.refused number) = pairOf number 0
 listNumber (TagLists.refusedAt number place) = pairOf number place
+
+-- 2026-11: 0 where a window was made fresh, or 23.
+abbrev pub freshNumber : (made : Bool) → ℕ
+freshNumber made = cond made 0 23
+
+-- 0 with the lost swaps, or the refusal with 0.
+abbrev pub fedNumber : Window.Answer → ℕ
+fedNumber (Window.lost swaps) = pairOf 0 swaps
+fedNumber (Window.refused number) = pairOf number 0

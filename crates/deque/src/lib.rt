@@ -22,15 +22,21 @@ use starting::start;
 use ticking::tick;
 use ticking::ticks;
 use values::of_words;
+use window::Fed;
+use window::feed;
+use window::fresh;
 ghost use mathlib.Core.Path.{_≡_};
 ghost use Prim.Native.Nat.{_≤_};
+ghost use lib.ListN.{length};
 ghost use Rattle.tag.specs.Tags.{largestTag};
 ghost use Rattle.machine.specs.Values.{storedOf};
 ghost use Rattle.machine.specs.Answers.{replyNumber, payloadOf, dispatchPayloadOf};
 ghost use Rattle.machine.specs.Calls as calls;
 ghost use Rattle.machine.specs.Snapshots.{takeSnapshot, putBack};
 ghost use Rattle.deque.specs.Exports.{pairOf, answerNumber, dispatchNumber, ranNumber, readingNumber, listNumber};
+ghost use Rattle.deque.specs.Exports.{freshNumber, fedNumber};
 ghost use Rattle.packed.specs.TagLists.{answerOf, readTags, writeTags};
+ghost use Rattle.window.specs.Window as windows;
 
 // Two words in one number of 64 bits.
 fn pair(high: u32, low: u32) -> u64
@@ -93,6 +99,16 @@ fn list_number(l: Listed) -> u64
         Listed::BadLength => pair(17, 0),
         Listed::BadTag(place) => pair(18, place),
         Listed::TooShort => pair(19, 0),
+    }
+}
+
+fn fed_number(f: Fed) -> u64
+    ensures { λ n. ⌜ n ≡ fedNumber (windows.answerOf f) ⌝ }
+{
+    match f {
+        Fed::Lost(n) => pair(0, n),
+        Fed::BadWindow => pair(23, 0),
+        Fed::OutOfTurn => pair(24, 0),
     }
 }
 
@@ -241,4 +257,22 @@ pub extern "C" fn lane_tags_write(words: &[u32], bytes: &mut [u8]) -> u64
     ensures { λ r. ⌜ now (bytes .exit) ≡ writeTags (now (words .entry)) (now (bytes .entry)) .out ⌝ }
 {
     list_number(write_tags(words, bytes))
+}
+
+// 2026-11: a fresh window; 0, or 23.
+#[no_mangle]
+pub extern "C" fn lane_window(window: &mut [u32], width: u32) -> u32
+    ensures { λ r. ⌜ r ≡ freshNumber (windows.sizesOk (length (now (window .entry))) width) ⌝ }
+    ensures { λ r. ⌜ now (window .exit) ≡ windows.freshLeaves (now (window .entry)) width ⌝ }
+{
+    if fresh(window, width) { 0 } else { 23 }
+}
+
+// The refusal, or 0, times 2^32, plus the lost swaps among the last W ticks fed.
+#[no_mangle]
+pub extern "C" fn lane_feed(window: &mut [u32], count: u32, before: u32, after: u32) -> u64
+    ensures { λ r. ⌜ r ≡ fedNumber (windows.feed (now (window .entry)) count before after .answer) ⌝ }
+    ensures { λ r. ⌜ now (window .exit) ≡ windows.feed (now (window .entry)) count before after .words ⌝ }
+{
+    fed_number(feed(window, count, before, after))
 }

@@ -19,6 +19,7 @@ use crate::outcomes::{Leads, Outcome, OUTCOMES};
 use crate::snapshots::Snapshots;
 use crate::starts;
 use crate::stretch::Stretches;
+use crate::windows::Windows;
 use crate::words::Words;
 
 /// The calls, and what each can give by the paper; 0 stands for no refusal.
@@ -97,6 +98,8 @@ pub struct Counts {
     pub lists: Lists,
     /// Snapshots put back.
     pub snapshots: Snapshots,
+    /// Windows of lost swaps.
+    pub windows: Windows,
 }
 
 impl Counts {
@@ -120,6 +123,7 @@ impl Counts {
             users: Users::default(),
             lists: Lists::default(),
             snapshots: Snapshots::default(),
+            windows: Windows::default(),
         }
     }
 
@@ -175,6 +179,9 @@ impl Counts {
             self.changed[place][origin as usize][side] += 1;
         }
         self.wraps += u64::from(after[header::TICKS] < before[header::TICKS]);
+        if given.is_ok() {
+            self.windows.tick(before, after, sizes, task, outcome);
+        }
         if let (Origin::Calls, Ok(answer)) = (origin, given) {
             self.apart.tick(before, after, sizes, task, answer);
         }
@@ -214,6 +221,7 @@ impl Counts {
         faults.extend(self.users.report());
         faults.extend(self.lists.report());
         faults.extend(self.snapshots.report());
+        faults.extend(self.windows.report());
         faults
     }
 

@@ -27,6 +27,7 @@ mod play;
 mod snapshots;
 mod starts;
 mod stretch;
+mod windows;
 mod words;
 
 #[path = "../../reference/tests/common/mod.rs"]
@@ -103,7 +104,7 @@ fn options() -> Option<Options> {
 }
 
 /// Small tables of every size with every number of lanes that it allows, few and many tasks; a few slots for each of
-/// several lanes; a large one, and tables from anywhere; and tag lists.
+/// several lanes; a large one, and tables from anywhere; and tag lists and windows.
 fn round(random: &mut Random, counts: &mut Counts) {
     for nodes in SMALL {
         let first = random.below(LANES.len() as u32) as usize;
@@ -135,6 +136,7 @@ fn round(random: &mut Random, counts: &mut Counts) {
         words::check(random, counts, table);
     }
     lists::check(random, &mut counts.lists);
+    windows::check(random, &mut counts.windows);
 }
 
 fn small(random: &mut Random, counts: &mut Counts, nodes: u32, tasks: u32, lanes: u32) {

@@ -22,6 +22,7 @@ mod side;
 mod snapshot;
 mod step;
 pub mod table;
+pub mod window;
 
 pub use alloc::count_free;
 pub use answer::Answer;

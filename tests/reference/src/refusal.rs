@@ -44,3 +44,7 @@ pub const NO_TAG: u32 = 18;
 pub const TAGS_OUT: u32 = 19;
 /// The snapshot and the table differ in length.
 pub const SNAPSHOT_LENGTH: u32 = 22;
+/// The words are no window.
+pub const WINDOW: u32 = 23;
+/// The count fed to a window does not follow the last one.
+pub const COUNT: u32 = 24;

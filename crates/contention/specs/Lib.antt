@@ -1,0 +1,2 @@
+pub mod LostSwaps
+pub mod Watched

@@ -1,0 +1,5 @@
+pub mod Lost
+pub mod Window
+pub mod History
+pub mod Examples
+pub mod Wrong
