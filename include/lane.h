@@ -30,11 +30,11 @@
  * library cannot test. NULL with length 0 is accepted everywhere, as an empty slice. The library keeps no pointer,
  * allocates nothing and has no state of its own.
  *
- * THREADS. Different tables may be used by different threads at the same time, and so may reads of one table. All else
- * on one table comes one call after another: the library has no lock and no atomic access. Tag lists and windows need
- * no table, and their calls may be made at any time, each with an out slice or a window of its own.
+ * THREADS. Different tables may be used by different threads at the same time, and so may reads and takes of one table.
+ * All else on one table comes one call after another: the library has no lock and no atomic access. Tag lists and
+ * windows need no table, and their calls may be made at any time, each with an out slice or a window of its own.
  *
- * FOOTPRINT. For x86-64 only. Under 16 kB of code and constants, no data, no heap; of stack under 5.7 kB in the calls
+ * FOOTPRINT. For x86-64 only. Under 19 kB of code and constants, no data, no heap; of stack under 5.7 kB in the calls
  * that tick, under 0.6 kB in the others; nothing from outside but memset (`make footprint` measures it).
  *
  * LANES. The lanes of a table are numbered from 0. Each is a row of bags of its own, and all share the slots. A begin
@@ -91,6 +91,20 @@
  * round again; or, a remove at 62, it says "no", which it does also where no other task is about. A window counts such
  * ticks among the last W: a number that rises while tasks fight over an end. lane_window makes one, lane_feed feeds it
  * a tick; lane_watch_tick and lane_watch_dispatch tick and feed at once.
+ *
+ * SNAPSHOTS. A snapshot holds the words of a table in another order, by columns: the header, every slot's L, every R,
+ * every V, every leading digit, then the tasks. It is as long as the table. lane_take takes one, and lane_put puts it
+ * back: the table then has every word that it had, with its bags, the calls in the middle, the turn and the tick count,
+ * and the calls after it are answered as those after the moment at which it was taken. What happened since is not in
+ * the table any more, a bag that was popped stands in its lane again: whether that is so in the hall is the caller's to
+ * know. Taking changes nothing, and a start does not spoil an older snapshot.
+ *
+ * Put back only what you took, whole. lane_put tests what any call tests of a table (3, 4), before it writes a word;
+ * whether the words were altered on their way, or belong to two snapshots, no test can tell. So what is said here of a
+ * table that lane_start began holds again after a snapshot that was taken of such a table and is put back as it was;
+ * after any other that is accepted nothing is said of the answers, nor that a tag is in one place, until the next
+ * lane_start or such a snapshot. What is counted, the dispatches up to a task's tick or the ticks up to an answer, is
+ * counted with no lane_put in between, and a window is to be made fresh after it.
  */
 #ifndef LANE_H
 #define LANE_H
@@ -107,7 +121,7 @@ extern "C" {
  * an older format is refused with 3, since its length does not fit its sizes, and so is one of this format by an older
  * library.
  */
-#define LANE_VERSION "6.2.0"
+#define LANE_VERSION "6.3.0"
 #define LANE_TABLE_FORMAT 4
 
 /*
@@ -197,6 +211,7 @@ extern "C" {
 #define LANE_REFUSED_TAGS 17     /* tag list: not a whole number of tags, or more than 1,024 */
 #define LANE_REFUSED_NO_TAG 18   /* tag list: a place holds no tag */
 #define LANE_REFUSED_TAGS_OUT 19 /* tag list: out slice too short for it */
+#define LANE_REFUSED_SNAPSHOT 22 /* take, put: the snapshot and the table differ in length */
 #define LANE_REFUSED_WINDOW 23   /* window: width out of range, not so long, or a word that no feed leaves there */
 #define LANE_REFUSED_COUNT 24    /* window: a count that is not the one after the last */
 #define LANE_REFUSED_LANES 25    /* start: not one to four lanes */
@@ -223,7 +238,7 @@ extern "C" {
 
 /*
  * On a table that lane_start began and only these calls have written since, lent whole, no call gives 3, 4 or 11,
- * whatever the tasks, hints and lists.
+ * whatever the tasks, hints and lists; 3 and 4 of lane_put are about the snapshot.
  */
 
 /*
@@ -408,6 +423,44 @@ uint64_t lane_panel(uint32_t *table, size_t words, const uint32_t *list, size_t 
 uint64_t lane_read(const uint32_t *table, size_t words, uint32_t lane, uint32_t *out, size_t out_words);
 
 /*
+ * Takes a snapshot of a table: its words by columns, as many as the table has.
+ * Returns 0, or a refusal: 22, 3, 4. Writes every word of `snapshot`.
+ */
+uint32_t lane_take(const uint32_t *table, size_t words, uint32_t *snapshot, size_t snapshot_words);
+
+/*
+ * Puts a snapshot back. The table's words may be anything before; its slots, tasks, growth and lanes are then those of
+ * the snapshot, which are others only where LANE_WORDS is the same. To take the table again gives the same snapshot.
+ * Returns 0, or a refusal: 22; 3 and 4 of the table that the snapshot would give. Writes every word of the table.
+ *
+ * ```c
+ * #include <string.h>
+ * #include "lane.h"
+ *
+ * int main(void) {
+ *     static uint32_t table[LANE_WORDS(8, 1)], snapshot[LANE_WORDS(8, 1)], again[LANE_WORDS(8, 1)];
+ *     size_t words = LANE_WORDS(8, 1);
+ *     if (lane_start(table, words, 8, 1, 0, 1) != 0 ||
+ *         LANE_KIND(lane_call(table, words, 0, 0, LANE_PUSH, LANE_LEFT, 51)) != LANE_PUSHED ||
+ *         lane_take(table, words, snapshot, words) != 0) {
+ *         return 1;
+ *     }
+ *     for (int i = 0; i < 2; i++) { // twice the same answer
+ *         if (lane_call(table, words, 0, 0, LANE_POP, LANE_RIGHT, 0) != ((uint64_t)LANE_BAG << 40 | 51) ||
+ *             lane_put(snapshot, words, table, words) != 0) {
+ *             return 1;
+ *         }
+ *     }
+ *     if (lane_take(table, words, again, words) != 0 || memcmp(again, snapshot, sizeof snapshot) != 0) {
+ *         return 1;
+ *     }
+ *     return lane_put(snapshot, words - 1, table, words) == LANE_REFUSED_SNAPSHOT ? 0 : 1;
+ * }
+ * ```
+ */
+uint32_t lane_put(const uint32_t *snapshot, size_t snapshot_words, uint32_t *table, size_t words);
+
+/*
  * Reads a tag list in packed decimal: `bytes` is LANE_TAG_BYTES times the number of its tags, 0 to 1,024 of them.
  * Returns LANE_COUNT: how many tags there are, for 18 the place, from 0, of the first tag that has a half byte above 9
  * or is zero; LANE_REFUSAL: 0, or the refusal: 17, 18, 19. 17 is for `bytes` that are no multiple of 5 or above 5,120,
@@ -457,8 +510,8 @@ uint32_t lane_window(uint32_t *window, size_t words, uint32_t width);
  * may be any number; each later one is the last one plus 1, with 0 after 4,294,967,295. Lost are the steps 5 to 8, 25
  * to 15, 48 or 51 to 39 and 62 to 0, and no others.
  * Returns LANE_COUNT: how many of the last `width` ticks fed lost their swap, this one included; LANE_REFUSAL: 0, or
- * the refusal: 23, 24. Writes four words of the window; with a refusal none. After a 24, as when lane_start began the
- * count anew or ticks were made that were not fed, lane_window begins the window anew.
+ * the refusal: 23, 24. Writes four words of the window; with a refusal none. After a 24, as when lane_start or
+ * lane_put set the count anew or ticks were made that were not fed, lane_window begins the window anew.
  *
  * ```c
  * #include "lane.h"
@@ -631,6 +684,8 @@ static inline const char *lane_refusal_text(uint32_t refusal) {
         return "a place of the tag list holds no tag";
     case LANE_REFUSED_TAGS_OUT:
         return "the out slice is too short for the tag list";
+    case LANE_REFUSED_SNAPSHOT:
+        return "the snapshot and the table differ in length";
     case LANE_REFUSED_WINDOW:
         return "the words are no window";
     case LANE_REFUSED_COUNT:

@@ -7,6 +7,7 @@ mod lists;
 mod loads;
 mod measure;
 mod programs;
+mod snapshots;
 mod windows;
 
 use std::hint::black_box;
@@ -123,6 +124,8 @@ fn main() {
     growth(rounds / 2);
     println!();
     lists::rows(rounds);
+    println!();
+    snapshots::rows(rounds);
     println!();
     windows::rows(rounds);
     println!();

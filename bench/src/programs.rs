@@ -17,6 +17,10 @@ pub struct Program {
     pub run: fn(&mut [u32], &[u32], &mut [u32]) -> u64,
     /// The tags of a lane.
     pub read: fn(&[u32], u32, &mut [u32]) -> u64,
+    /// A snapshot of a table.
+    pub take: fn(&[u32], &mut [u32]) -> u32,
+    /// A snapshot put back to a table.
+    pub put: fn(&[u32], &mut [u32]) -> u32,
     /// A tag list in packed decimal, to words.
     pub read_tags: fn(&[u8], &mut [u32]) -> u64,
     /// The same from words.
@@ -35,6 +39,8 @@ pub const PROVED: Program = Program {
     dispatch: ffi::dispatch,
     run: ffi::run,
     read: ffi::read,
+    take: ffi::take,
+    put: ffi::put,
     read_tags: ffi::tags_read,
     write_tags: ffi::tags_write,
     window: ffi::window,
@@ -45,7 +51,7 @@ pub const PROVED: Program = Program {
 pub const RUST: Program = Program {
     begin: |table, task, lane, operation, side, digit, argument| {
         let begun = reference::begin(table, task, lane, operation, side, digit, argument);
-        begun.err().unwrap_or(0)
+        refusal(begun)
     },
     tick: |table, task, hint| answer(reference::tick(table, task, hint)),
     ticks: |table, task, hint, times| answer(reference::ticks(table, task, hint, times)),
@@ -58,11 +64,17 @@ pub const RUST: Program = Program {
         Ok(count) => u64::from(count),
         Err(number) => pair((number, 0)),
     },
+    take: |table, snapshot| refusal(reference::take(table, snapshot)),
+    put: |snapshot, table| refusal(reference::put(snapshot, table)),
     read_tags: |bytes, words| pair(reference::read_tags(bytes, words)),
     write_tags: |words, bytes| pair(reference::write_tags(words, bytes)),
     window: reference::window::window,
     feed: |words, count, before, after| pair(reference::window::feed(words, count, before, after)),
 };
+
+fn refusal(given: Result<(), u32>) -> u32 {
+    given.err().unwrap_or(0)
+}
 
 fn answer(given: Result<Answer, u32>) -> u64 {
     match given {

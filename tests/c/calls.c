@@ -190,7 +190,7 @@ static void refusals(void) {
     EXPECT(begin(1, LANE_POP, LANE_LEFT, 0) == 0);
 
     for (uint32_t one = 0; one <= LANE_REFUSED_LANE + 1; one++) {
-        int given = one <= LANE_REFUSED_TAGS_OUT || (one >= LANE_REFUSED_WINDOW && one <= LANE_REFUSED_LANE);
+        int given = one <= LANE_REFUSED_TAGS_OUT || (one >= LANE_REFUSED_SNAPSHOT && one <= LANE_REFUSED_LANE);
         EXPECT(strlen(lane_refusal_text(one)) > 0);
         EXPECT(given == (strcmp(lane_refusal_text(one), lane_refusal_text(4294967295u)) != 0));
         for (uint32_t other = 0; given && other < one; other++) {
@@ -242,7 +242,13 @@ static void empty_slices(void) {
     EXPECT(lane_read(NULL, 0, 0, NULL, 0) == PAIR(LANE_REFUSED_TABLE, 0));
     EXPECT(lane_read(NULL, 0, 0, answers, 2) == PAIR(LANE_REFUSED_TABLE, 0));
     EXPECT(lane_call(NULL, 0, 0, 0, LANE_POP, LANE_LEFT, 0) == ANSWER(LANE_REFUSED, LANE_REFUSED_TABLE));
+    EXPECT(lane_take(NULL, 0, NULL, 0) == LANE_REFUSED_TABLE);
+    EXPECT(lane_put(NULL, 0, NULL, 0) == LANE_REFUSED_TABLE);
+    EXPECT(lane_take(NULL, 0, answers, WORDS) == LANE_REFUSED_SNAPSHOT);
+    EXPECT(lane_put(NULL, 0, answers, WORDS) == LANE_REFUSED_SNAPSHOT);
     begin_again();
+    EXPECT(lane_take(table, WORDS, NULL, 0) == LANE_REFUSED_SNAPSHOT);
+    EXPECT(lane_put(table, WORDS, NULL, 0) == LANE_REFUSED_SNAPSHOT);
     EXPECT(lane_run(table, WORDS, NULL, 0, NULL, 0) == 0);
     EXPECT(lane_run(table, WORDS, NULL, 0, answers, 3) == 0);
     EXPECT(lane_panel(table, WORDS, NULL, 0, NULL, 0) == 0);
@@ -471,6 +477,70 @@ static void rows(void) {
     }
 }
 
+/* The words by columns, and back; what is counted from there comes again; a table of other sizes and of any words. */
+static void snapshots(void) {
+    enum { HEADER = 16, NODE = 4, TASK_WORDS = HEADER + NODE * SLOTS };
+    static uint32_t snapshot[WORDS], kept[WORDS], again[WORDS];
+    begin_again();
+    EXPECT(call(0, LANE_PUSH, LANE_RIGHT, LANE_MAX_TAG) == ANSWER(LANE_PUSHED, 0));
+    EXPECT(begin(1, LANE_POP, LANE_LEFT, 0) == 0);
+    memcpy(kept, table, sizeof kept);
+    EXPECT(lane_take(table, WORDS, snapshot, WORDS) == 0);
+    EXPECT(memcmp(table, kept, sizeof kept) == 0);
+    EXPECT(memcmp(snapshot, table, HEADER * sizeof snapshot[0]) == 0);
+    for (int i = 0; i < NODE * SLOTS; i++) {
+        EXPECT(snapshot[HEADER + i] == table[HEADER + NODE * (i % SLOTS) + i / SLOTS]);
+    }
+    EXPECT(memcmp(snapshot + TASK_WORDS, table + TASK_WORDS, (WORDS - TASK_WORDS) * sizeof snapshot[0]) == 0);
+
+    for (int i = 0; i < 3; i++) {
+        EXPECT(lane_ticks(table, WORDS, 1, 0, UINT32_MAX) == ANSWER(LANE_BAG, LANE_MAX_TAG));
+        EXPECT(table[LANE_TICK_COUNT] == 15);
+        EXPECT(begin(0, LANE_PUSH, LANE_LEFT, LANE_MAX_TAG) == 0); /* it was taken */
+        if (i == 1) {
+            memset(table, 0xff, sizeof kept);
+        }
+        EXPECT(lane_put(snapshot, WORDS, table, WORDS) == 0);
+        EXPECT(memcmp(table, kept, sizeof kept) == 0);
+        EXPECT(begin(0, LANE_PUSH, LANE_LEFT, LANE_MAX_TAG) == LANE_REFUSED_TWICE); /* and stands there again */
+        EXPECT(lane_take(table, WORDS, again, WORDS) == 0 && memcmp(again, snapshot, sizeof snapshot) == 0);
+    }
+
+    enum { WIDE = 15, WIDE_WORDS = LANE_WORDS(WIDE, 1) };
+    static uint32_t wide[WIDE_WORDS], long_one[WIDE_WORDS];
+    EXPECT(LANE_WORDS(2, 5) == WIDE_WORDS); /* 13 slots for 4 tasks */
+    EXPECT(lane_start(wide, WIDE_WORDS, 2, 5, 0, 1) == 0 && lane_take(wide, WIDE_WORDS, long_one, WIDE_WORDS) == 0);
+    EXPECT(lane_start(wide, WIDE_WORDS, WIDE, 1, 0, 4) == 0);
+    EXPECT(lane_put(long_one, WIDE_WORDS, wide, WIDE_WORDS) == 0);
+    EXPECT(lane_begin(wide, WIDE_WORDS, 4, 0, LANE_POP, LANE_LEFT, 0, 0) == 0);
+    EXPECT(lane_begin(wide, WIDE_WORDS, 0, 1, LANE_POP, LANE_LEFT, 0, 0) == LANE_REFUSED_LANE);
+}
+
+/* 22, then 3, then 4, of the table in taking and of the snapshot in putting back; and no word is written. */
+static void snapshot_refusals(void) {
+    static uint32_t snapshot[WORDS + 1], kept[WORDS];
+    static const size_t lengths[] = {0, LANE_MIN_WORDS, WORDS - 1, WORDS + 1};
+    static const uint32_t shapes[] = {LANE_REFUSED_TABLE, LANE_REFUSED_SHAPE};
+    for (uint32_t i = 0; i < 2; i++) {
+        begin_again();
+        EXPECT(lane_take(table, WORDS, snapshot, WORDS) == 0);
+        table[15] = snapshot[15] = 1;
+        if (shapes[i] == LANE_REFUSED_TABLE) {
+            table[3] = snapshot[3] = LANE_MAX_LANES + 1;
+        }
+        memset(kept, 7, sizeof kept);
+        for (int j = 0; j < 4; j++) {
+            EXPECT(lane_take(table, WORDS, answers, lengths[j]) == LANE_REFUSED_SNAPSHOT);
+            EXPECT(lane_put(snapshot, lengths[j], kept, WORDS) == LANE_REFUSED_SNAPSHOT);
+        }
+        EXPECT(lane_take(table, WORDS, kept, WORDS) == shapes[i]);
+        EXPECT(lane_put(snapshot, WORDS, kept, WORDS) == shapes[i]);
+        for (int j = 0; j < WORDS; j++) {
+            EXPECT(kept[j] == 0x07070707);
+        }
+    }
+}
+
 /* A window's limits, its refusals in their order, and the number that it gives; what is refused stays as it was. */
 static void windows(void) {
     enum { WIDTH = 3, WINDOW = LANE_WINDOW_WORDS(WIDTH), WIDEST = LANE_WINDOW_WORDS(LANE_MAX_WIDTH) };
@@ -555,6 +625,8 @@ int main(void) {
     lanes();
     turns();
     rows();
+    snapshots();
+    snapshot_refusals();
     windows();
     watched();
     puts(failures == 0 ? "the header's words hold" : "the header's words do not hold");

@@ -9,7 +9,7 @@
 enum { SLOTS = LANE_MAX_SLOTS, TASKS = LANE_MAX_TASKS, WORDS = LANE_MAX_WORDS, LAST = LANE_MAX_LANES - 1 };
 enum { PAINT = 0xa5, SPACE = 65536 };
 
-static uint32_t table[WORDS], out[LANE_TAG_WORDS * SLOTS];
+static uint32_t table[WORDS], snapshot[WORDS], out[LANE_TAG_WORDS * SLOTS];
 static uint32_t tags[LANE_TAG_WORDS * LANE_LIST_TAGS];
 static uint8_t tag_list[LANE_TAG_BYTES * LANE_LIST_TAGS];
 static uint32_t list[2 * LANE_MAX_TICKS], answers[LANE_ANSWER_WORDS * LANE_MAX_TICKS];
@@ -53,6 +53,14 @@ static void dispatches(void) {
 
 static void read_lane(void) {
     lane_read(table, WORDS, LAST, out, LANE_TAG_WORDS * SLOTS);
+}
+
+static void take(void) {
+    lane_take(table, WORDS, snapshot, WORDS);
+}
+
+static void put(void) {
+    lane_put(snapshot, WORDS, table, WORDS);
 }
 
 static void read_tags(void) {
@@ -108,6 +116,8 @@ int main(void) {
     print("dispatch", touched(dispatch), 5700);     /* the panel's add goes on, and takes a slot */
     print("dispatches", touched(dispatches), 5700); /* more of them */
     print("read", touched(read_lane), 600);
+    print("take", touched(take), 600);
+    print("put", touched(put), 600);
     memset(tag_list, 0x99, sizeof tag_list);
     print("tags_read", touched(read_tags), 600);
     print("tags_write", touched(write_tags), 600);

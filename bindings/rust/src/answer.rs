@@ -142,6 +142,8 @@ pub enum Refusal {
     NoTag = 18,
     /// Tag list: the out slice is too short for it.
     TagsOut = 19,
+    /// Take, put: the snapshot and the table differ in length.
+    Snapshot = 22,
     /// Window: its width is out of range, it is not so long, or a word is not as feeds leave it.
     Window = 23,
     /// Window: a count that is not the one after the last.
@@ -153,7 +155,7 @@ pub enum Refusal {
 }
 
 impl Refusal {
-    const ALL: [Refusal; 23] = [
+    const ALL: [Refusal; 24] = [
         Refusal::Sizes,
         Refusal::Length,
         Refusal::Table,
@@ -173,6 +175,7 @@ impl Refusal {
         Refusal::Tags,
         Refusal::NoTag,
         Refusal::TagsOut,
+        Refusal::Snapshot,
         Refusal::Window,
         Refusal::Count,
         Refusal::Lanes,
@@ -227,6 +230,7 @@ impl fmt::Display for Refusal {
             Refusal::Tags => "not a whole number of tags, or more than 1,024",
             Refusal::NoTag => "a place of the tag list holds no tag",
             Refusal::TagsOut => "the out slice is too short for the tag list",
+            Refusal::Snapshot => "the snapshot and the table differ in length",
             Refusal::Window => "the words are no window",
             Refusal::Count => "the count does not follow the last one fed",
             Refusal::Lanes => "not one to four lanes",
@@ -356,7 +360,7 @@ mod tests {
     fn every_refusal_is_decoded_once_and_back() {
         for number in (0..=99).chain([u32::MAX]) {
             let refusal = Refusal::from_number(number);
-            let given = matches!(number, 1..=19 | 23..=26);
+            let given = matches!(number, 1..=19 | 22..=26);
             assert_eq!(refusal.map(Refusal::number), given.then_some(number));
         }
     }

@@ -52,6 +52,18 @@ mod library {
             out: *mut u32,
             out_words: usize,
         ) -> u64;
+        pub fn lane_take(
+            table: *const u32,
+            words: usize,
+            snapshot: *mut u32,
+            snapshot_words: usize,
+        ) -> u32;
+        pub fn lane_put(
+            snapshot: *const u32,
+            snapshot_words: usize,
+            table: *mut u32,
+            words: usize,
+        ) -> u32;
         pub fn lane_tags_read(
             list: *const u8,
             bytes: usize,
@@ -243,6 +255,45 @@ pub fn panel(table: &mut [u32], list: &[u32], answers: &mut [u32]) -> u64 {
 pub fn read(table: &[u32], lane: u32, out: &mut [u32]) -> u64 {
     let (pointer, words) = (table.as_ptr(), table.len());
     unsafe { library::lane_read(pointer, words, lane, out.as_mut_ptr(), out.len()) }
+}
+
+/// Takes a snapshot of a table, its words by columns: 0, or the refusal.
+///
+/// ```
+/// use lane::ffi;
+///
+/// let (mut table, mut snapshot) = ([0; 45], [7; 45]);
+/// assert_eq!(ffi::start(&mut table, 4, 1, 0, 1), 0);
+/// assert_eq!(ffi::take(&table, &mut snapshot[1..]), 22);
+/// assert_eq!(ffi::take(&table, &mut snapshot), 0);
+/// assert_eq!(snapshot[..16], table[..16]);
+/// assert_eq!(snapshot[16..20], [65_535, 0, 65_535, 65_535]); // every L
+/// assert_eq!(ffi::take(&table[1..], &mut snapshot[1..]), 3);
+/// ```
+pub fn take(table: &[u32], snapshot: &mut [u32]) -> u32 {
+    let (out, out_words) = (snapshot.as_mut_ptr(), snapshot.len());
+    unsafe { library::lane_take(table.as_ptr(), table.len(), out, out_words) }
+}
+
+/// Puts a snapshot back over a table's words, whatever they are: 0, or the refusal.
+///
+/// ```
+/// use lane::ffi;
+///
+/// let (mut table, mut snapshot) = ([0; 45], [0; 45]);
+/// assert_eq!(ffi::start(&mut table, 4, 1, 0, 1), 0);
+/// assert_eq!(ffi::take(&table, &mut snapshot), 0);
+/// let mut other = [7; 45];
+/// assert_eq!(ffi::put(&snapshot, &mut other), 0);
+/// assert_eq!(other, table);
+/// assert_eq!(ffi::put(&snapshot, &mut other[1..]), 22);
+/// snapshot[16] = 4; // no slot
+/// assert_eq!(ffi::put(&snapshot, &mut other), 4);
+/// assert_eq!(other, table);
+/// ```
+pub fn put(snapshot: &[u32], table: &mut [u32]) -> u32 {
+    let (pointer, words) = (table.as_mut_ptr(), table.len());
+    unsafe { library::lane_put(snapshot.as_ptr(), snapshot.len(), pointer, words) }
 }
 
 /// Reads a tag list in packed decimal, five bytes a tag, to two words a tag, the leading digit first: the count of its

@@ -5,7 +5,7 @@ use core::fmt;
 use crate::view::{self, View};
 use crate::{
     ffi, max_ticks_alone, outcome, pair, reply, Answer, Bags, Dispatched, NotStarted, Operation,
-    Ran, Refusal, Side, Tags,
+    Ran, Refusal, Side, Snapshot, Tags,
 };
 
 /// A table with one to four lanes, numbered from 0, and the calls on it. The words are owned (`Vec<u32>`, `[u32; N]`)
@@ -274,6 +274,38 @@ impl<W: AsRef<[u32]> + AsMut<[u32]>> Lanes<W> {
         let number = ffi::panel(self.words.as_mut(), ticks, places);
         ran(number, answers)
     }
+
+    /// Puts a snapshot back: every word of the table is then as it was when the snapshot was taken, with the bags, the
+    /// calls in the middle, the turn and the tick count. What the words are before is not looked at; slots, tasks,
+    /// growth and lanes are the snapshot's.
+    ///
+    /// Put back only what you took, whole. A snapshot that would give no table is refused with [`Refusal::Table`] or
+    /// [`Refusal::Shape`], and changes nothing; whether it was altered on its way no test can tell. What this crate
+    /// says of tables that start began holds again after a snapshot that was taken of such a table and not altered;
+    /// after any other nothing is said of the answers until the next start or such a snapshot.
+    ///
+    /// ```
+    /// use lane::{Answer, Lanes, Operation, Refusal, Side, Snapshot, Tag};
+    ///
+    /// let mut lanes = Lanes::start([0; lane::words(8, 2)], 8, 2, 0, 2)?;
+    /// lanes.begin(1, 1, Operation::Push(Tag::MAX), Side::Right)?;
+    /// let mut snapshot = Snapshot::over([0; lane::words(8, 2)]);
+    /// lanes.take(&mut snapshot)?;
+    /// for _ in 0..2 {
+    ///     assert_eq!(lanes.ticks(1, 0, u32::MAX)?, Answer::Pushed);
+    ///     assert!(lanes.bags(1)?.eq([Tag::MAX]));
+    ///     lanes.put(&snapshot)?; // the push is in the middle again
+    ///     assert!(lanes.bags(1)?.eq([]));
+    /// }
+    ///
+    /// let mut altered = snapshot.into_words();
+    /// altered[16] = 8; // no slot
+    /// assert_eq!(lanes.put(&Snapshot::over(altered)), Err(Refusal::Shape));
+    /// # Ok::<(), Refusal>(())
+    /// ```
+    pub fn put<S: AsRef<[u32]>>(&mut self, snapshot: &Snapshot<S>) -> Result<(), Refusal> {
+        reply(ffi::put(snapshot.words(), self.words.as_mut()))
+    }
 }
 
 impl<W: AsRef<[u32]>> Lanes<W> {
@@ -331,6 +363,26 @@ impl<W: AsRef<[u32]>> Lanes<W> {
     /// ```
     pub fn bags(&self, lane: u32) -> Result<Bags<'_>, Refusal> {
         view::bags(self.words(), lane)
+    }
+
+    /// Takes a snapshot: every word of it is written. It is as long as the table, else [`Refusal::Snapshot`].
+    ///
+    /// ```
+    /// use lane::{Lanes, Refusal, Snapshot};
+    ///
+    /// let lanes = Lanes::start([0; lane::words(8, 1)], 8, 1, 0, 2)?;
+    /// let mut snapshot = Snapshot::over([0; lane::words(8, 1)]);
+    /// lanes.take(&mut snapshot)?;
+    /// let mut other = Lanes::over([0; lane::words(8, 1)]);
+    /// other.put(&snapshot)?;
+    /// assert_eq!(other, lanes);
+    ///
+    /// let mut short = Snapshot::over([0; lane::words(7, 1)]);
+    /// assert_eq!(lanes.take(&mut short), Err(Refusal::Snapshot));
+    /// # Ok::<(), Refusal>(())
+    /// ```
+    pub fn take<S: AsMut<[u32]>>(&self, snapshot: &mut Snapshot<S>) -> Result<(), Refusal> {
+        reply(ffi::take(self.words(), snapshot.words_mut()))
     }
 
     /// The number of lanes.

@@ -48,6 +48,10 @@
 //! The baggage office sends and wants lists of tags in packed decimal. [`tags_read`] and [`tags_write`] take them to
 //! two words a tag, as [`Lane::read`] writes them, and back; they need no table.
 //!
+//! A [`Snapshot`] holds the words of a table by columns, to keep and to compare. [`Lanes::take`] takes one, and
+//! [`Lanes::put`] puts it back: the table is then what it was, and the calls after it are answered as those after the
+//! moment at which it was taken. Put back only what you took, whole.
+//!
 //! A [`Window`] counts how many of the last ticks lost the swap of their line, which warns of tasks that fight over an
 //! end. It is fed each tick, or ticks and feeds at once.
 //!
@@ -60,7 +64,8 @@
 //!
 //! # What a caller can count on
 //!
-//! This is proved of tables that a start began and these calls alone have written since; the README says it in full.
+//! This is proved of tables that a start began and these calls alone have written since, a put only of a snapshot that
+//! was taken of such a table and not altered; the README says it in full.
 //!
 //! With no task in a call, what a call that then gets all the ticks ([`Lanes::call`]) answers and leaves is told by the
 //! bags, the spare slots at its end, r, the free slots, f, and whether that end has a slot on a spur, y, 1 or 0:
@@ -98,6 +103,7 @@ mod lane;
 mod lanes;
 mod limits;
 mod list;
+mod snapshot;
 mod tag;
 mod view;
 mod window;
@@ -113,6 +119,7 @@ pub use limits::{
     MIN_SLOTS, MIN_TASKS, TAG_BYTES,
 };
 pub use list::{tags_read, tags_write, RefusedTags};
+pub use snapshot::Snapshot;
 pub use tag::{ParseTagError, Tag, Tags};
 pub use view::Bags;
 pub use window::{Watched, Window};

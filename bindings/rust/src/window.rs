@@ -9,7 +9,8 @@ use crate::{ffi, pair, reply, view, Answer, Dispatched, Lanes, NotStarted, Refus
 ///
 /// Every tick is to be fed, of whatever task and lane, each once and in order; [`Window::tick`] and
 /// [`Window::dispatch`] tick and feed at once. A tick that was not fed, or a start, leaves a gap in the counts: the
-/// next feed is refused with [`Refusal::Count`], and a new [`Window::start`] begins anew.
+/// next feed is refused with [`Refusal::Count`], and a new [`Window::start`] begins anew. So it does after a
+/// [`Lanes::put`], where the count may follow by chance alone.
 ///
 /// No call trusts the words: a window that was damaged is refused with [`Refusal::Window`].
 ///

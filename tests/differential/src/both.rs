@@ -38,6 +38,10 @@ enum Call {
     Panel(usize, usize),
     /// Lane, words of the out slice.
     Read(u32, usize),
+    /// Words of the snapshot.
+    Take(usize),
+    /// The same.
+    Put(usize),
 }
 
 /// A list of ticks over a table and an answer slice, with what it gives in one number.
@@ -226,6 +230,35 @@ impl Both {
         );
         self.done(5, reading.err().unwrap_or(0), false);
         reading.map(|_| whole(tags))
+    }
+
+    /// Gives the snapshot, or the refusal; its slice had `content` in every word.
+    pub fn take(&mut self, length: usize, content: u32) -> Result<Vec<u32>, u32> {
+        self.note(Call::Take(length));
+        let mut proved = Lent::new(&vec![content; length]);
+        let mut second = proved.clone();
+        let number = ffi::take(self.proved.words(), proved.words_mut());
+        let taken = reference::take(self.second.words(), second.words_mut());
+        self.compare(number, taken.err().unwrap_or(0));
+        assert!(proved == second, "the programs differ in the snapshot");
+        let words = second.words();
+        assert!(
+            taken.is_ok() || words.iter().all(|&word| word == content),
+            "a take that was refused wrote"
+        );
+        self.done(9, taken.err().unwrap_or(0), false);
+        taken.map(|()| words.to_vec())
+    }
+
+    /// Puts these words back.
+    pub fn put(&mut self, snapshot: &[u32]) -> Result<(), u32> {
+        self.note(Call::Put(snapshot.len()));
+        let proved = ffi::put(snapshot, self.proved.words_mut());
+        let second = reference::put(snapshot, self.second.words_mut());
+        let number = second.err().unwrap_or(0);
+        self.compare(proved, number);
+        self.done(10, number, second.is_ok());
+        second
     }
 
     fn note(&mut self, call: Call) {

@@ -9,6 +9,7 @@ use crate::common::tables::{shaped_of, sizes};
 use crate::counts::{Counts, Origin};
 use crate::dispatches;
 use crate::in_row;
+use crate::snapshots;
 
 /// Calls on a well-shaped table.
 pub fn shaped(random: &mut Random, counts: &mut Counts) {
@@ -20,6 +21,7 @@ pub fn shaped(random: &mut Random, counts: &mut Counts) {
 /// A few calls on a table that is well-shaped and stays so: never 3 or 4.
 pub fn calls(random: &mut Random, counts: &mut Counts, both: &mut Both) {
     let sizes = sizes(both.table());
+    let mut taken = None;
     for _ in 0..random.below(12) {
         let task = random.below(sizes.tasks + 1);
         let lane = match random.below(8) {
@@ -65,6 +67,10 @@ pub fn calls(random: &mut Random, counts: &mut Counts, both: &mut Both) {
             }
             15 => in_row::ticks(random, counts, both, task, hint),
             16 => in_row::dispatches(random, counts, both, hint),
+            17 => match &taken {
+                None => taken = Some(snapshots::take(random, both)),
+                Some(snapshot) => assert_eq!(both.put(snapshot), Ok(())),
+            },
             _ => {
                 let given = both.tick(task, hint);
                 if matches!(given, Ok(_) | Err(11)) {
@@ -99,7 +105,7 @@ pub fn damaged(random: &mut Random, counts: &mut Counts) {
             digit: random.digit(),
             argument: four,
         };
-        match random.below(20) {
+        match random.below(24) {
             0 | 1 => {
                 let _ = both.start([one, two, three, lane]);
             }
@@ -119,6 +125,13 @@ pub fn damaged(random: &mut Random, counts: &mut Counts) {
             }
             14 => in_row::ticks(random, counts, &mut both, one % 20, two),
             15 => in_row::dispatches(random, counts, &mut both, two),
+            16 | 17 => {
+                let length = words.len() + random.pick(&[0, 0, 0, 1]);
+                let _ = both.take(length, four);
+            }
+            18 | 19 => {
+                let _ = both.put(&words[random.pick(&[0, 0, 0, 1]).min(words.len())..]);
+            }
             _ => {
                 let _ = both.tick(one % 20, two);
             }
@@ -169,7 +182,8 @@ fn any_sizes(random: &mut Random) -> Sizes {
     Sizes::new(nodes, tasks, growth, lanes).expect("sizes in range")
 }
 
-fn shaped_table(random: &mut Random) -> Vec<u32> {
+/// Of any sizes, mostly few slots.
+pub fn shaped_table(random: &mut Random) -> Vec<u32> {
     let sizes = any_sizes(random);
     let mut table = shaped_of(random, sizes);
     // A lane without an end is rare by chance.

@@ -16,13 +16,14 @@ use crate::in_row::InRow;
 use crate::lists::Lists;
 use crate::one_user::played::Users;
 use crate::outcomes::{Leads, Outcome, OUTCOMES};
+use crate::snapshots::Snapshots;
 use crate::starts;
 use crate::stretch::Stretches;
 use crate::windows::Windows;
 use crate::words::Words;
 
 /// The calls, and what each can give by the paper; 0 stands for no refusal.
-const GIVEN: [(&str, &[usize]); 9] = [
+const GIVEN: [(&str, &[usize]); 11] = [
     ("start", &[0, 1, 2, 25]),
     ("begin", &[0, 3, 4, 5, 6, 7, 8, 11, 16, 26]),
     ("tick", &[0, 3, 4, 5, 9, 10, 11]),
@@ -32,6 +33,8 @@ const GIVEN: [(&str, &[usize]); 9] = [
     ("dispatch", &[0, 3, 4, 9, 11]),
     ("ticks", &[0, 3, 4, 5, 9, 10, 11]),
     ("dispatches", &[0, 3, 4, 9, 11]),
+    ("take", &[0, 3, 4, 22]),
+    ("put", &[0, 3, 4, 22]),
 ];
 /// All steps that change the digit of a node, and whether a table that start and the calls reach shows it.
 const CHANGE: [(u32, bool); 5] = [(5, true), (28, false), (31, false), (51, true), (78, false)];
@@ -93,6 +96,8 @@ pub struct Counts {
     pub users: Users,
     /// Tag lists.
     pub lists: Lists,
+    /// Snapshots put back.
+    pub snapshots: Snapshots,
     /// Windows of lost swaps.
     pub windows: Windows,
 }
@@ -117,6 +122,7 @@ impl Counts {
             idle: Idle::default(),
             users: Users::default(),
             lists: Lists::default(),
+            snapshots: Snapshots::default(),
             windows: Windows::default(),
         }
     }
@@ -214,6 +220,7 @@ impl Counts {
         faults.extend(self.idle.report());
         faults.extend(self.users.report());
         faults.extend(self.lists.report());
+        faults.extend(self.snapshots.report());
         faults.extend(self.windows.report());
         faults
     }

@@ -1,11 +1,13 @@
-//! A digit put in each of its places in a well-shaped table: whether the shape then holds.
+//! A digit put in each of its places in a well-shaped table: whether the shape then holds, there and in a snapshot.
 
 use reference::table::{node, record, IDLE, MAX_DIGIT, MAX_LOW, PUSH};
 
 use crate::both::Both;
+use crate::common::columns::by_columns;
 use crate::common::random::Random;
 use crate::common::tables::{shaped, sizes};
 use crate::counts::Counts;
+use crate::snapshots;
 
 /// What a digit stands beside.
 #[derive(Clone, Copy)]
@@ -60,6 +62,10 @@ pub fn check(random: &mut Random, counts: &mut Counts) {
     let (given, ..) = both.run(&[], 0, 0);
     let wanted = if holds[size] { 0 } else { 4 };
     assert_eq!(given, wanted, "digit {} beside {name}", table[place]);
+    match wanted {
+        0 => assert_eq!(both.put(&by_columns(&table)), Ok(())),
+        _ => snapshots::turned_back(&mut both, wanted),
+    }
     counts.digits.seen[beside as usize][size] += 1;
     counts.add(&both.given);
 }

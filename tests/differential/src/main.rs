@@ -24,6 +24,7 @@ mod nearest;
 mod one_user;
 mod outcomes;
 mod play;
+mod snapshots;
 mod starts;
 mod stretch;
 mod windows;
@@ -130,6 +131,7 @@ fn round(random: &mut Random, counts: &mut Counts) {
     for _ in 0..4_000 {
         digits::check(random, counts);
         dispatches::check(random, counts);
+        snapshots::check(random, counts);
         let table = shaped(random);
         words::check(random, counts, table);
     }

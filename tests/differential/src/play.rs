@@ -1,9 +1,11 @@
-//! Lists of calls on tables that start begins and the calls alone write, explained by the plain rows of the lanes.
+//! Lists of calls on tables that start begins and the calls alone write, explained by the plain rows of the lanes, with
+//! snapshots taken and put back.
 
 mod adversary;
 mod delay;
 mod in_row;
 mod in_turn;
+mod snapshots;
 
 use reference::table::{
     content, digit, header, is_tag, low_part, node, record, tag, Sizes, ADD, LEFT, MAX_TAG, NONE,
@@ -13,6 +15,7 @@ use reference::Answer;
 
 use crate::alone;
 use crate::both::{Both, Ran};
+use crate::common::kept::Kept;
 use crate::common::random::Random;
 use crate::common::row::{Note, Row};
 use crate::counts::{Counts, Origin};
@@ -68,6 +71,8 @@ pub struct Play<'a> {
     stretch: u32,
     /// The task of the last tick made, by a dispatch or not.
     last_ticked: u32,
+    /// Snapshots taken so far.
+    kept: Kept,
 }
 
 /// Plays so many calls on a table of these sizes.
@@ -82,6 +87,7 @@ pub fn play(random: &mut Random, counts: &mut Counts, sizes: Sizes, calls: u32) 
         last_ticked: 0,
         new_tags: 0,
         past: Vec::new(),
+        kept: Kept::default(),
         random,
         counts,
         sizes,
@@ -97,7 +103,7 @@ pub fn play(random: &mut Random, counts: &mut Counts, sizes: Sizes, calls: u32) 
 
 impl Play<'_> {
     fn call(&mut self) {
-        match self.random.below(112) {
+        match self.random.below(116) {
             0..=54 => {
                 let (task, hint) = self.pair();
                 if matches!(self.row.notes.get(task as usize), Some(None)) {
@@ -132,6 +138,13 @@ impl Play<'_> {
             103 if self.random.once_in(4) => self.in_turn(),
             104 | 105 => self.ticks(),
             106 | 107 => self.dispatches(),
+            108 => {
+                self.take();
+            }
+            109 if self.random.once_in(2) => self.put_back(),
+            110 if self.random.once_in(3) => self.put_other(),
+            111 if self.random.once_in(4) => self.again(),
+            111 if self.random.once_in(8) => self.other_sizes(),
             _ => self.favourite = self.random.below(self.sizes.tasks),
         }
     }

@@ -9,6 +9,7 @@ use crate::common::random::Random;
 use crate::common::row::Note;
 use crate::common::tables::sizes;
 use crate::counts::Counts;
+use crate::snapshots;
 
 /// Changes a table of these sizes; gives none where it has no place for it.
 type Put = fn(&mut Random, &mut [u32], Sizes) -> Option<()>;
@@ -171,6 +172,7 @@ pub fn check(random: &mut Random, counts: &mut Counts, mut table: Vec<u32>) {
         assert_eq!(both.dispatch(0), Err(gives), "{name}");
         assert_eq!(both.panel(&[], 0, 0).0, gives, "{name}");
         assert_eq!(both.read(0, 0, 0), Err(gives), "{name}");
+        snapshots::turned_back(&mut both, gives);
     }
     counts.add(&both.given);
 }

@@ -42,6 +42,8 @@ pub const TAGS_LENGTH: u32 = 17;
 pub const NO_TAG: u32 = 18;
 /// The out slice is too short for the tag list.
 pub const TAGS_OUT: u32 = 19;
+/// The snapshot and the table differ in length.
+pub const SNAPSHOT_LENGTH: u32 = 22;
 /// The words are no window.
 pub const WINDOW: u32 = 23;
 /// The count fed to a window does not follow the last one.

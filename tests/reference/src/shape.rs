@@ -16,6 +16,16 @@ pub fn check(table: &[u32]) -> Result<Sizes, u32> {
     }
 }
 
+/// The same of the table that a snapshot stands for: its header and its records stand where the table's do.
+pub fn check_columns(snapshot: &[u32]) -> Result<Sizes, u32> {
+    let sizes = sizes(snapshot).ok_or(refusal::SIZES)?;
+    if columns_hold(snapshot, sizes) {
+        Ok(sizes)
+    } else {
+        Err(refusal::SHAPE)
+    }
+}
+
 fn sizes(table: &[u32]) -> Option<Sizes> {
     if table.len() < Sizes::MIN_WORDS {
         return None;
@@ -30,13 +40,26 @@ fn sizes(table: &[u32]) -> Option<Sizes> {
 }
 
 fn holds(table: &[u32], sizes: Sizes) -> bool {
-    let (head, rest) = table.split_at(header::WORDS);
-    let (nodes, records) = rest.split_at(sizes.node(sizes.nodes) - header::WORDS);
+    let (head, nodes, records) = sizes.parts(table);
+    header_holds(head, sizes) && nodes_hold(nodes, sizes) && records_hold(records, sizes)
+}
+
+fn columns_hold(snapshot: &[u32], sizes: Sizes) -> bool {
+    let (head, columns, records) = sizes.parts(snapshot);
+    let [left, right, values, digits] = sizes.columns(columns);
+    let links_hold = |links: &[u32]| {
+        links
+            .iter()
+            .fold(true, |hold, &word| hold & is_link(word, sizes))
+    };
+    let contents = values.iter().zip(digits);
     header_holds(head, sizes)
-        && nodes_hold(nodes, sizes)
-        && records
-            .chunks_exact(record::WORDS)
-            .all(|task| record_holds(task, sizes))
+        && links_hold(left)
+        && links_hold(right)
+        && contents.fold(true, |hold, (&value, &digit)| {
+            hold & are_content(value, digit)
+        })
+        && records_hold(records, sizes)
 }
 
 /// A lane that is not used has no hats.
@@ -63,6 +86,12 @@ fn node_holds(node: &[u32], sizes: Sizes) -> bool {
     is_link(node[node::LEFT], sizes)
         & is_link(node[node::RIGHT], sizes)
         & are_content(node[node::VALUE], node[node::DIGIT])
+}
+
+fn records_hold(records: &[u32], sizes: Sizes) -> bool {
+    records
+        .chunks_exact(record::WORDS)
+        .all(|task| record_holds(task, sizes))
 }
 
 fn record_holds(task: &[u32], sizes: Sizes) -> bool {

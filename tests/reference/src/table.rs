@@ -171,6 +171,19 @@ impl Sizes {
         self.record(self.tasks)
     }
 
+    /// The header, the nodes' words and the records; in a snapshot the columns stand in the nodes' place.
+    pub fn parts(self, words: &[u32]) -> (&[u32], &[u32], &[u32]) {
+        let (head, rest) = words.split_at(header::WORDS);
+        let (nodes, records) = rest.split_at(node::WORDS * self.nodes as usize);
+        (head, nodes, records)
+    }
+
+    /// The columns of a snapshot, which stand in the nodes' place: every L, every R, every V, every leading digit.
+    pub fn columns(self, words: &[u32]) -> [&[u32]; node::WORDS] {
+        let length = self.nodes as usize;
+        std::array::from_fn(|column| &words[column * length..][..length])
+    }
+
     /// Indices of the hats of its lanes.
     pub fn hats(self) -> Range<usize> {
         header::HATS..header::hat(self.lanes, LEFT)

@@ -3,10 +3,11 @@
 
 mod common;
 
+use common::columns::by_columns;
 use common::random::Random;
 use common::tables::{shaped, started_lanes};
 use reference::table::{header, Sizes, PUSH, REMOVE};
-use reference::{begin, dispatch, read, run, start, tick};
+use reference::{begin, dispatch, put, read, run, start, take, tick};
 
 /// Calls by their refusal; at 0 those that were accepted.
 type Counts = [u32; 27];
@@ -14,7 +15,7 @@ type Counts = [u32; 27];
 /// Makes one call with arbitrary arguments and checks what it leaves.
 fn call(random: &mut Random, table: &mut [u32], counts: &mut Counts) {
     let before = table.to_vec();
-    let number = match random.below(6) {
+    let number = match random.below(8) {
         0 => {
             let (nodes, tasks, growth) = if random.once_in(2) {
                 (random.word(), random.word(), random.word())
@@ -75,6 +76,28 @@ fn call(random: &mut Random, table: &mut [u32], counts: &mut Counts) {
             }
             number
         }
+        5 => {
+            let mut snapshot = vec![8; near_length(random, table)];
+            let found = take(table, &mut snapshot);
+            if found.is_err() {
+                assert!(snapshot.iter().all(|&word| word == 8));
+            }
+            assert_eq!(table, before);
+            refused(found)
+        }
+        6 => {
+            // A table that is none has no order: its words stand as they are.
+            let mut snapshot = match run(table, &[], &mut []) {
+                (0, _) => by_columns(table),
+                _ => before.clone(),
+            };
+            snapshot.resize(near_length(random, table), 8);
+            let number = refused(put(&snapshot, table));
+            if number == 0 {
+                assert_eq!(run(table, &[], &mut []), (0, 0));
+            }
+            number
+        }
         _ => {
             let mut out = vec![8; random.below(20) as usize];
             let found = read(table, near(random, 3), &mut out);
@@ -92,6 +115,15 @@ fn call(random: &mut Random, table: &mut [u32], counts: &mut Counts) {
 
 fn refused(found: Result<(), u32>) -> u32 {
     found.err().unwrap_or(0)
+}
+
+/// Mostly the length of the table, sometimes another.
+fn near_length(random: &mut Random, table: &[u32]) -> usize {
+    if random.once_in(8) {
+        random.below(100) as usize
+    } else {
+        table.len()
+    }
 }
 
 /// Mostly a number below the bound, sometimes any.
@@ -112,7 +144,7 @@ fn slices_of_any_words() {
         let mut table: Vec<u32> = (0..length).map(|_| random.word()).collect();
         call(&mut random, &mut table, &mut counts);
     }
-    for number in [1, 2, 3, 25] {
+    for number in [1, 2, 3, 22, 25] {
         assert!(counts[number] > 0, "{counts:?}");
     }
 }
@@ -139,8 +171,8 @@ fn started_tables_with_damaged_words() {
             call(&mut random, &mut table, &mut counts);
         }
     }
-    // 15 is the panel's, and those between 16 and 25 are of none of these calls.
-    for number in (0..=14).chain([16, 25, 26]) {
+    // 15 is the panel's, and the others between 16 and 25 are of none of these calls.
+    for number in (0..=14).chain([16, 22, 25, 26]) {
         assert!(counts[number] > 0, "{number}: {counts:?}");
     }
 }
@@ -156,7 +188,7 @@ fn tables_of_good_shape_and_no_sense() {
             call(&mut random, &mut table, &mut counts);
         }
     }
-    for number in [0, 1, 2, 5, 6, 7, 8, 9, 10, 11, 12, 13, 14, 16, 25, 26] {
+    for number in [0, 1, 2, 5, 6, 7, 8, 9, 10, 11, 12, 13, 14, 16, 22, 25, 26] {
         assert!(counts[number] > 0, "{counts:?}");
     }
     assert_eq!((counts[3], counts[4]), (0, 0));

@@ -3,12 +3,13 @@
 mod common;
 
 use common::calls::{begin, tags};
+use common::columns::by_columns;
 use common::tables::{sizes, started, started_lanes, steps_of, LANE};
 use reference::table::{
     header, node, record, ADD, LEFT, LN, LX, LY, MAX_TAG, NONE, POP, PUSH, REMOVE, RIGHT, RN, RX,
     RY,
 };
-use reference::{dispatch, panel, read, run, start, tick, Answer};
+use reference::{dispatch, panel, put, read, run, start, take, tick, Answer};
 
 /// What every call but start refuses the table with.
 fn refused_by_all(table: &[u32], number: u32, what: &str) {
@@ -24,10 +25,33 @@ fn refused_by_all(table: &[u32], number: u32, what: &str) {
     assert_eq!(read(&lent, LANE, &mut out), Err(number), "{what}");
     assert_eq!(lent, table, "{what}");
     assert_eq!((answers, out), ([8; 4], [8; 4]), "{what}");
+    let mut snapshot = vec![8; table.len()];
+    assert_eq!(take(table, &mut snapshot), Err(number), "{what}");
+    assert_eq!(snapshot, vec![8; table.len()], "{what}");
+    assert_eq!(put_over(table, number == 3), Err(number), "{what}");
 }
 
+/// What putting a table back gives; without sizes there is no order, and the words stand as they are.
+fn put_over(table: &[u32], no_sizes: bool) -> Result<(), u32> {
+    let snapshot = if no_sizes {
+        table.to_vec()
+    } else {
+        by_columns(table)
+    };
+    let mut over = vec![8; table.len()];
+    let found = put(&snapshot, &mut over);
+    match found {
+        Ok(()) => assert_eq!(over, table),
+        Err(_) => assert_eq!(over, vec![8; table.len()]),
+    }
+    found
+}
+
+/// In the table and in its snapshot alike.
 fn shape_holds(table: &[u32]) -> bool {
-    run(&mut table.to_vec(), &[], &mut []) == (0, 0)
+    let holds = run(&mut table.to_vec(), &[], &mut []) == (0, 0);
+    assert_eq!(put_over(table, false).is_ok(), holds);
+    holds
 }
 
 /// All lists of faults, with the number wanted: that of the first in order.

@@ -1,14 +1,16 @@
-//! Random call lists against plain rows, one for each lane, that see only arguments and answers.
+//! Random call lists against plain rows, one for each lane, that see only arguments and answers; a snapshot put back
+//! brings back the rows of its moment.
 
 mod common;
 
 use std::collections::BTreeMap;
 
+use common::kept::Kept;
 use common::random::Random;
 use common::row::{Note, Row};
 use common::tables::started_lanes;
 use reference::table::{header, record, tag, Sizes, ADD, LEFT, POP, PUSH, REMOVE};
-use reference::{begin, dispatch, panel, run, start, tick, Answer};
+use reference::{begin, dispatch, panel, put, run, start, take, tick, Answer};
 
 /// What a list of calls came across, so that a test cannot pass on nothing.
 #[derive(Default)]
@@ -33,6 +35,9 @@ struct Seen {
     twice: u32,
     again: u32,
     other_digit: u32,
+    /// Snapshots put back, and those of them with other lanes, so of another start.
+    put_back: u32,
+    put_over_start: u32,
 }
 
 struct Player {
@@ -50,6 +55,7 @@ struct Player {
     /// Whether adds and removes prevail; with stalled pushes they leave spurs.
     churn: bool,
     churn_side: u32,
+    kept: Kept,
     seen: Seen,
 }
 
@@ -72,6 +78,7 @@ impl Player {
             favourite: 0,
             churn: false,
             churn_side: 0,
+            kept: Kept::default(),
             seen: Seen::default(),
         }
     }
@@ -100,6 +107,9 @@ impl Player {
                 self.churn = self.random.once_in(2);
                 self.churn_side = self.random.below(2);
             }
+            94 => self.take(),
+            95 if self.random.once_in(2) => self.put_back(),
+            95 => self.refused_snapshots(),
             _ => self.favourite = self.random.below(self.sizes.tasks),
         }
         self.row.check(&self.table);
@@ -382,6 +392,35 @@ impl Player {
         assert_eq!(whole, self.table);
     }
 
+    fn take(&mut self) {
+        let mut snapshot = vec![77; self.table.len()];
+        assert_eq!(take(&self.table, &mut snapshot), Ok(()));
+        self.kept.keep(snapshot, &self.row, &mut self.random);
+    }
+
+    /// A snapshot that was taken: the rows are those of its moment, and the lanes may be others.
+    fn put_back(&mut self) {
+        if let Some(snapshot) = self.kept.pick(&mut self.random) {
+            assert_eq!(put(&snapshot, &mut self.table), Ok(()));
+            self.row = self.kept.row_of(&snapshot).expect("taken before");
+            let lanes = self.row.tags.len() as u32;
+            self.seen.put_back += 1;
+            self.seen.put_over_start += u32::from(lanes != self.sizes.lanes);
+            self.sizes.lanes = lanes;
+            assert_eq!(self.table[header::DISPATCHED], self.row.turns.last());
+        }
+    }
+
+    fn refused_snapshots(&mut self) {
+        let before = self.table.clone();
+        let mut words = vec![77; before.len() - 1];
+        assert_eq!(take(&self.table, &mut words), Err(22));
+        assert_eq!(words, vec![77; before.len() - 1]);
+        assert_eq!(put(&words, &mut self.table), Err(22));
+        assert_eq!(put(&[&words[..], &[7]].concat(), &mut self.table), Err(3));
+        assert_eq!(self.table, before);
+    }
+
     fn refused_start(&mut self) {
         let before = self.table.clone();
         let Sizes {
@@ -527,7 +566,7 @@ fn larger_tables_follow_the_row() {
 fn every_step_is_met_on_both_sides_of_every_lane_and_every_answer() {
     let mut steps = BTreeMap::new();
     let mut answers = [0; 7];
-    let mut no_node = 0;
+    let (mut no_node, mut put_back, mut put_over_start) = (0, 0, 0);
     for (seed, sizes) in (9000..).zip([
         (8, 3, 1, 1),
         (10, 4, 2, 1),
@@ -547,8 +586,12 @@ fn every_step_is_met_on_both_sides_of_every_lane_and_every_answer() {
             *sum += count;
         }
         no_node += seen.no_node;
+        put_back += seen.put_back;
+        put_over_start += seen.put_over_start;
     }
     println!("steps {steps:?}\nanswers {answers:?}\nrefused 11: {no_node}");
+    println!("put back {put_back}, over another start {put_over_start}");
+    assert!(put_back > 500 && put_over_start > 50);
     for operation in [PUSH, POP, ADD, REMOVE] {
         for step in common::tables::steps_of(operation) {
             for key in (0..4).flat_map(|lane| [(lane, 0, step), (lane, 1, step)]) {

@@ -1,10 +1,12 @@
-//! What several tests share: a generator of numbers, mirrors, random tables, the plain rows, calls made to their
-//! answers, which nodes are free, and whose turn it is.
+//! What several tests share: a generator of numbers, mirrors, random tables, the plain rows and the snapshots kept with
+//! them, the order of a snapshot, calls made to their answers, which nodes are free, and whose turn it is.
 
 #![allow(dead_code)]
 
 pub mod calls;
+pub mod columns;
 pub mod free;
+pub mod kept;
 pub mod paths;
 pub mod random;
 pub mod row;

@@ -9,7 +9,7 @@ use reference::read;
 use reference::table::{argument_fits, digit, low_part, tag, ADD, LEFT, POP, PUSH, REMOVE};
 
 /// The call that a task is in the middle of.
-#[derive(Clone, Copy, Debug)]
+#[derive(Clone, Copy, Debug, PartialEq, Eq)]
 pub struct Note {
     pub lane: u32,
     pub operation: u32,
@@ -37,6 +37,7 @@ impl Note {
 }
 
 /// The rows of the paper, with one note for each task: they never look at the table.
+#[derive(Clone)]
 pub struct Row {
     /// By lane.
     pub tags: Vec<VecDeque<u64>>,
@@ -116,6 +117,13 @@ impl Row {
         self.turns.took(task, &self.notes);
         self.tick(task, words);
         Some(task)
+    }
+
+    /// Whether no call can tell two rows apart: by tags, notes and the task last dispatched.
+    pub fn is(&self, other: &Row) -> bool {
+        self.tags == other.tags
+            && self.notes == other.notes
+            && self.turns.last() == other.turns.last()
     }
 
     /// The tags of the rows and of the busy pushes, each with its lane.

@@ -20,6 +20,7 @@ pub fn next_in(table: &[u32]) -> Option<u32> {
 }
 
 /// The turns of the tasks since a start.
+#[derive(Clone)]
 pub struct Turns {
     /// The task last dispatched.
     last: u32,
@@ -36,6 +37,16 @@ impl Turns {
             waits: vec![0; tasks as usize],
             longest: 0,
         }
+    }
+
+    /// The task last dispatched.
+    pub fn last(&self) -> u32 {
+        self.last
+    }
+
+    /// A snapshot of this moment was put back: dispatches are counted anew.
+    pub fn put_back(&mut self) {
+        self.waits.fill(0);
     }
 
     /// The next task with a note, going round, after the task last dispatched.
