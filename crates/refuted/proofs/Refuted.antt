@@ -84,7 +84,7 @@ use Rattle.refuted.specs.Machines.{
 }
 use Rattle.refuted.specs.Wrong.{wholeOn, touchesNothing, heldFromBy, leftwards, toRefusal, isArgument, turned}
 use Rattle.refuted.specs.WrongLanes.{onLanes, isBegunOn}
-use Rattle.refuted.specs.WrongInRow.{toIdle}
+use Rattle.refuted.specs.WrongInRow.{toIdle, pastIdle}
 use Rattle.refuted.specs.Judged.{
   passes,
   madeBy,
@@ -153,7 +153,7 @@ all-failing (e ∷ es) sized =
 
 pub all-refuted : AllRefuted
 unfolding failing allSized madeBy byRow byDefinitions onLanes isBegunOn wholeOn touchesNothing heldFromBy leftwards
-    toRefusal toIdle isArgument turned beginBy tickOnBy inRow ticksBy ticks dispatchToBy dispatchChoosing dispatchBy
+    toRefusal toIdle pastIdle isArgument turned beginBy tickOnBy inRow ticksBy ticks dispatchToBy dispatchChoosing dispatchBy
     turnsInRow dispatchesBy dispatches wentOn feedDispatches
     firstFrom feedDispatched feedIdle feedDispatch dispatchTo dispatchOn dispatch tickBy runOnBy runBy panelBy
     tablesBy feedTick pushAnswered popAnswered sizeAnswered feedMade feedRun bind plainAnswerOf answerOf ℕ-discrete

@@ -99,7 +99,12 @@ use Rattle.refuted.specs.WrongLanes.{
   startMakesFirstLane,
   startSharesNodes,
 }
-use Rattle.refuted.specs.WrongInRow.{makesDispatchMore, staysWithTask, dispatchesAfterAnswer}
+use Rattle.refuted.specs.WrongInRow.{
+  makesDispatchMore,
+  staysWithTask,
+  dispatchesAfterAnswer,
+  dispatchesPastIdle,
+}
 use Rattle.refuted.specs.Judged.{
   Verdict,
   passes,
@@ -826,6 +831,16 @@ entries =
       calls = begins 0 pop right 0 ++ (dispatches-call 0 9 ∷ []);
       row-says = not-the-row's-answer 2;
       definitions-say = other-answer 2;
+    }
+    -- No task is busy, and two dispatches say "going".
+    ∷ record {
+      wrong = dispatchesPastIdle;
+      S = 4;
+      T = 1;
+      lanes = 1;
+      calls = dispatches-call 0 2 ∷ [];
+      row-says = not-the-row's-answer 1;
+      definitions-say = other-answer 1;
     }
     -- A push on lane 1 of two puts its bag into lane 0.
     ∷ record {

@@ -1,5 +1,5 @@
 -- Wrong dispatches in a row: they are to be as many as asked for, in turn, and to end at an answer.
-use mathlib.Core.Bool.{Bool, true, false}
+use mathlib.Core.Bool.{Bool, true, false, _||_}
 use mathlib.Core.List.{List}
 use mathlib.Core.Option.{some, none as nothing}
 use Prim.Native.Nat.{ℕ, zero, suc}
@@ -7,7 +7,7 @@ use lib.Dec.{eqb}
 use Rattle.machine.specs.declared.Answer.the-variants.{Going, Refused}
 use Rattle.machine.specs.declared.Dispatch.{Dispatch}
 use Rattle.machine.specs.declared.Dispatch.the-variants.{Idle, Answered}
-use Rattle.machine.specs.Answers.{kindOf}
+use Rattle.machine.specs.Answers.{kindOf, dispatchKindOf, dispatchGoesOn}
 use Rattle.machine.specs.Calls.{nextBusy}
 use Rattle.refuted.specs.Machines.{Machine, Turns, RowDone, dispatchChoosing, turnsInRow, rightMachine}
 
@@ -57,3 +57,17 @@ toIdle turn (suc n) ws h =
 
 abbrev pub dispatchesAfterAnswer : Machine
 dispatchesAfterAnswer = withDispatches toIdle
+
+-- They go on at "idle", and say "going" in the end.
+unfoldable pub pastIdle : Turns → (times : ℕ) → List ℕ → (hint : ℕ) → RowDone
+pastIdle turn zero ws h = record { last = record { answer = Answered Going; words = ws }; wentOn = 0 }
+pastIdle turn (suc n) ws h =
+    let one = turn ws h in
+    let others = pastIdle turn n (one .words) h in
+    elim (dispatchGoesOn (one .answer) || eqb (dispatchKindOf (one .answer)) (dispatchKindOf Idle)) as (λ _. RowDone) [
+      | true ↦ record { last = others .last; wentOn = suc (others .wentOn) }
+      | false ↦ record { last = one; wentOn = 0 }
+    ]
+
+abbrev pub dispatchesPastIdle : Machine
+dispatchesPastIdle = withDispatches pastIdle
