@@ -7,7 +7,7 @@ use Rattle.machine.specs.declared.Reading.{Reading}
 use Rattle.machine.specs.declared.Reading.the-variants.{Count, Refused}
 use Rattle.machine.specs.declared.Ran.{Ran}
 use Rattle.machine.specs.Answers.{kindOf, payloadOf, dispatchKindOf, dispatchPayloadOf}
-use Rattle.packed.specs.TagLists as TagLists
+use Rattle.tag_lists.specs.TagLists as TagLists
 use Rattle.window.specs.Window as Window
 
 -- Two words in one number of 64 bits. In what a run, a panel's list, a read, a tag list and a feed give, the high one

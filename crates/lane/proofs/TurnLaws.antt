@@ -7,14 +7,14 @@ use native.Mathlib.Omega.{arith}
 use lib.ListN.{length, take}
 use lib.Seq.{slice, sets, length-sets, take-take, length-take-le}
 use Rattle.machine.proofs.Basics.Contradiction.{clash}
-use Rattle.belt.specs.Run.{beltRun}
-use Rattle.stream.specs.declared.Carried.{Carried}
-use Rattle.stream.specs.Session.{Step, after, takeBytes, endInput, atFirst, meant}
-use Rattle.stream.specs.Carried.{Loan, loanOf, lent, lentAtFirst, Serves, InOrder, Onward}
-use Rattle.stream.proofs.Laws.Chunks.{takeBytes-append}
-use Rattle.stream.proofs.Laws.TakenLaws.{parts-taken}
-use Rattle.stream.proofs.Laws.MeantLaws.{Agrees, first-holds, bytes-follow, input-follows}
-use Rattle.stream.proofs.WholeRun.{input-is-belt-run}
+use Rattle.program_answer.specs.Run.{beltRun}
+use Rattle.program_stream.specs.declared.Carried.{Carried}
+use Rattle.program_stream.specs.Session.{Step, after, takeBytes, endInput, atFirst, meant}
+use Rattle.program_stream.specs.Carried.{Loan, loanOf, lent, lentAtFirst, Serves, InOrder, Onward}
+use Rattle.program_stream.proofs.Laws.Chunks.{takeBytes-append}
+use Rattle.program_stream.proofs.Laws.TakenLaws.{parts-taken}
+use Rattle.program_stream.proofs.Laws.MeantLaws.{Agrees, first-holds, bytes-follow, input-follows}
+use Rattle.program_stream.proofs.WholeRun.{input-is-belt-run}
 use Rattle.lane.specs.Turns.{laidIn, EachFits, Answers, Taken, turnWith, Turned, inputTaken, Ran}
 
 -- ---- Pieces, and then others.

@@ -6,10 +6,10 @@ use mathlib.Core.List.{List, [], _∷_, flatten}
 use Prim.Native.Nat.{ℕ, _≤_, _<_}
 use lib.ListN.{length, take}
 use lib.Seq.{sets}
-use Rattle.belt.specs.Run.{beltRun}
-use Rattle.stream.specs.declared.Carried.{Carried}
-use Rattle.stream.specs.Session.{Step, Service, takeBytes, endInput, takeInput, atFirst, meant}
-use Rattle.stream.specs.Carried.{Loan, loanOf, lent, lentAtFirst, InOrder, Holds, Onward}
+use Rattle.program_answer.specs.Run.{beltRun}
+use Rattle.program_stream.specs.declared.Carried.{Carried}
+use Rattle.program_stream.specs.Session.{Step, Service, takeBytes, endInput, takeInput, atFirst, meant}
+use Rattle.program_stream.specs.Carried.{Loan, loanOf, lent, lentAtFirst, InOrder, Holds, Onward}
 
 -- Texts laid at the front of the output, one after another.
 abbrev pub laidIn : (out : List ℕ) → List (List ℕ) → List ℕ

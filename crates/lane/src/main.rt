@@ -1,24 +1,24 @@
 // The lane program: reads the lines of a belt run from standard input, and writes their answers to standard output.
-use belt::BAG_WORDS;
-use belt::Bags;
-use layout::places::LARGEST_LENGTH;
 use libc::STDERR_FILENO;
 use libc::STDIN_FILENO;
 use libc::STDOUT_FILENO;
-use scanning::NUMBER_PLACES;
-use scanning::Numbers;
-use scanning::TEXT_PLACES;
-use scanning::Text;
-use stream::Carried;
-use stream::begin_session;
-use stream::finish;
-use stream::serve_lines;
+use program_answer::BAG_WORDS;
+use program_answer::Bags;
+use program_stream::Carried;
+use program_stream::begin_session;
+use program_stream::finish;
+use program_stream::serve_lines;
+use table_layout::places::LARGEST_LENGTH;
+use text_scan::NUMBER_PLACES;
+use text_scan::Numbers;
+use text_scan::TEXT_PLACES;
+use text_scan::Text;
 ghost use mathlib.Core.Path.{_≡_};
 ghost use Prim.Native.Nat.{_≤_};
 ghost use lib.ListN.{length};
-ghost use Rattle.scanning.specs.Kept.{textPlaces};
-ghost use Rattle.belt.specs.Space.{largestTable};
-ghost use Rattle.stream.specs.Carried.{loanOf, InOrder, lineRoom};
+ghost use Rattle.text_scan.specs.Kept.{textPlaces};
+ghost use Rattle.program_answer.specs.Space.{largestTable};
+ghost use Rattle.program_stream.specs.Carried.{loanOf, InOrder, lineRoom};
 ghost use Rattle.lane.specs.Turns.{Taken, Turned, Ran};
 
 // What a turn leaves: what is carried, how many bytes it took, and whether the session goes on. It ends with its input,

@@ -153,7 +153,7 @@ abbrev pub HistoriesKnown : Type 0
 HistoriesKnown = Always RowSince
 
 -- So the facts about the tables that our calls lead to are true there: 02: "The facts of 2026-03 and 2026-08 hold there
--- on the same condition." (That of 2026-08 is `progress/specs/Solo.SoloBoundWhereKnown`.)
+-- on the same condition." (That of 2026-08 is `machine_progress/specs/Solo.SoloBoundWhereKnown`.)
 abbrev pub BegunWhereKnown : Type 0
 BegunWhereKnown = Always (λ ws ρ. Begun ws)
 

@@ -5,7 +5,7 @@ use Prim.Native.Nat.{_-_}
 use native.Mathlib.Omega.{arith}
 use lib.ListN.{length}
 use borrow.Author.Needs.{needs}
-use Rattle.stream.specs.Carried.{loanOf}
+use Rattle.program_stream.specs.Carried.{loanOf}
 use Rattle.lane.proofs.TurnLaws.{
   Answering,
   answering-starts,

@@ -4,8 +4,8 @@ use native.Mathlib.Omega.{arith}
 use lib.ListN.{length}
 use borrow.Author.Needs.{needs}
 use borrow.Author.Tests.{not-false}
-use Rattle.stream.specs.Carried.{loanOf, lentAtFirst, InOrder}
-use Rattle.stream.proofs.Laws.MeantLaws.{first-in-order}
+use Rattle.program_stream.specs.Carried.{loanOf, lentAtFirst, InOrder}
+use Rattle.program_stream.proofs.Laws.MeantLaws.{first-in-order}
 use Rattle.lane.proofs.TurnLaws.{Running, running-starts, running-goes-on, ran-so-far, ran-to-stop}
 use Rattle.lane.proofs.run.Statement.{statement}
 use Rattle.lane.proofs.run.Tie as tie

@@ -1,0 +1,221 @@
+-- The tests of refusals 11 and 16: busy pushes, what the walk finds, and the number that a push is refused with.
+use mathlib.Core.Path.{_≡_, refl, sym, ap, _∙_}
+use mathlib.Core.Bool.{Bool, true, false, not, _&&_, _||_}
+use mathlib.Core.Logic.{_≢_}
+use mathlib.Core.List.{List, [], _∷_, _++_}
+use mathlib.Core.Option.{Option, some, none as nothing, Option·map, bind}
+use Prim.Native.Nat.{ℕ, suc, _+_, _-_, _<_}
+use native.Mathlib.Omega.{arith}
+use native.Mathlib.Decide.{ℕ-discrete}
+use lib.Dec.{eqb}
+use Rattle.machine.specs.Choice.{_≟_, _<?_}
+use Rattle.machine.specs.Values.{number}
+use Rattle.machine.specs.Operations.{Operation, idle, push, pop, add, remove, operationOf}
+use Rattle.machine.specs.Tasks.{Task, operationWord, argumentWords, taskOf}
+use Rattle.machine.specs.Table.{taskCount, recordWords, task}
+use Rattle.machine.specs.Shape.{WellFormed}
+use Rattle.machine.specs.Calls.{
+  unless,
+  lane,
+  lanesBelow,
+  allLanes,
+  isPush,
+  isAmong,
+  isBegun,
+  seenRefusal,
+  twiceRefusal,
+}
+use Rattle.machine.proofs.Basics.Choices.{if-yes, by-if}
+use Rattle.machine.proofs.Basics.Contradiction.{clash}
+use Rattle.call_read.specs.declared.Walk.the-variants.{Bags, NoEnd}
+use Rattle.call_read.specs.Lane.{walkOf}
+use Rattle.answers.specs.Refusals.{numberOf}
+use Rattle.table_shape.proofs.Laws.PassedTable.{operation-is}
+use Rattle.call_begin.specs.Seen.{twiceSeen, standing, firstOf}
+
+-- ---- The number of push.
+pub push-number : (n : ℕ) → n ≡ 1 → operationOf n ≡ push
+unfolding ℕ-discrete
+push-number n e = rw e refl
+
+pub other-number : (n : ℕ) → n ≢ 1 → isPush (operationOf n) ≡ false
+other-number n h =
+    by-if (λ op. isPush op ≡ false) (n ≟ 0) (λ _. refl) (λ _.
+    by-if (λ op. isPush op ≡ false) (n ≟ 1) (λ e. absurd (h e)) (λ _.
+    by-if (λ op. isPush op ≡ false) (n ≟ 2) (λ _. refl) (λ _.
+    by-if (λ op. isPush op ≡ false) (n ≟ 3) (λ _. refl) (λ _. refl))))
+
+-- ---- One task.
+abbrev pub pushing : List ℕ → (k n : ℕ) → Bool
+pushing ws k n = isPush (task ws k .operation) && eqb n (task ws k .argument)
+
+module _ (ws : List ℕ) (P : WellFormed ws) (k : ℕ) (is-task : k < taskCount ws) (n : ℕ) where
+  argument-is : task ws k .argument ≡ number (argumentWords (recordWords ws k))
+  unfolding task
+  argument-is = ap (λ (t : Task). t .argument) (if-yes (k <? taskCount ws) (taskOf (recordWords ws k)) _ is-task)
+
+  pub other-task : operationWord (recordWords ws k) ≢ 1 → pushing ws k n ≡ false
+  other-task h =
+      let o = ap isPush (operation-is ws P k is-task) ∙ other-number (operationWord (recordWords ws k)) h in rw o
+
+  pub push-task :
+      operationWord (recordWords ws k) ≡ 1 → pushing ws k n ≡ eqb n (number (argumentWords (recordWords ws k)))
+  push-task e =
+      let o = operation-is ws P k is-task ∙ push-number (operationWord (recordWords ws k)) e in rw (o, argument-is)
+
+-- ---- The loop over the tasks: k are still to test.
+module _ (ws : List ℕ) (n k : ℕ) where
+  pub begun-ends : k ≡ 0 → isBegun ws k n ≡ false
+  unfolding isBegun
+  begun-ends e = rw e refl
+
+  module _ (more : 0 < k) where
+    turn : isBegun ws k n ≡ pushing ws (k - 1) n || isBegun ws (k - 1) n
+    unfolding isBegun
+    turn = let e : k ≡ suc (k - 1) = omega arith in ap (λ (m : ℕ). isBegun ws m n) e
+
+    pub begun-here : pushing ws (k - 1) n ≡ true → isBegun ws k n ≡ true
+    begun-here h = turn ∙ rw h
+
+    pub begun-below : pushing ws (k - 1) n ≡ false → isBegun ws (k - 1) n ≡ isBegun ws k n
+    begun-below h = sym (turn ∙ rw h)
+
+-- ---- One lane: what its walk says.
+module _ (n : ℕ) where
+  pub stands-no-end : (bags : Option (List ℕ)) → walkOf n bags ≡ NoEnd → 11 ≡ standing n bags
+  stands-no-end nothing h = refl
+  stands-no-end (some bags) h = clash (cc)
+
+  pub stands-walked :
+      (bags : Option (List ℕ)) (m : ℕ) {b : Bool} → walkOf n bags ≡ Bags m b → twiceSeen b ≡ standing n bags
+  stands-walked nothing m {b} h = clash (cc)
+  stands-walked (some bags) m {b} h = let e : isAmong n bags ≡ b = cc in rw e
+
+  -- ---- Two lots of lanes, one after the other.
+  among-both : (xs ys : List ℕ) → isAmong n (xs ++ ys) ≡ isAmong n xs || isAmong n ys
+  among-both [] ys = refl
+  among-both (x ∷ xs) ys = go (eqb n x) (isAmong n xs) (isAmong n ys) (among-both xs ys)
+    where
+      go : (b d e : Bool) {c : Bool} → c ≡ d || e → b || c ≡ (b || d) || e
+      go true d e h = refl
+      go false d e h = h
+
+  first-of-both : (a b : Bool) → firstOf (twiceSeen a) (twiceSeen b) ≡ twiceSeen (a || b)
+  first-of-both true true = refl
+  first-of-both true false = refl
+  first-of-both false true = refl
+  first-of-both false false = refl
+
+  first-no-end : (a : Bool) → firstOf (twiceSeen a) 11 ≡ 11
+  first-no-end true = refl
+  first-no-end false = refl
+
+  stands-both :
+      (xs ys : Option (List ℕ))
+      → firstOf (standing n xs) (standing n ys) ≡ standing n (bind xs (λ before. Option·map (_++_ before) ys))
+  unfolding bind
+  stands-both nothing ys = refl
+  stands-both (some xs) nothing = first-no-end (isAmong n xs)
+  stands-both (some xs) (some ys) = first-of-both (isAmong n xs) (isAmong n ys) ∙ rw (among-both xs ys)
+
+-- ---- The loop over the lanes: l are walked.
+module _ (ws : List ℕ) (n l : ℕ) where
+  pub none-walked : l ≡ 0 → 0 ≡ standing n (lanesBelow ws l)
+  unfolding lanesBelow
+  none-walked e = rw e
+
+  pub one-more :
+      {a b : ℕ}
+      → a ≡ standing n (lanesBelow ws l)
+      → b ≡ standing n (lane ws l)
+      → firstOf a b ≡ standing n (lanesBelow ws (l + 1))
+  unfolding lanesBelow
+  one-more e h =
+      let next : l + 1 ≡ suc l = omega arith in rw (e, h, next) (stands-both n (lanesBelow ws l) (lane ws l))
+
+-- ---- The number of the refusal, by what the lanes and the tasks say.
+module _ (ws : List ℕ) (n : ℕ) where
+  in-lanes :
+      (bags : Option (List ℕ)) → standing n bags ≢ 0 → standing n bags ≡ numberOf (seenRefusal ws n bags nothing)
+  in-lanes nothing h = refl
+  in-lanes (some bags) h = go (isAmong n bags) h
+    where
+      go :
+          (b : Bool)
+          → twiceSeen b ≢ 0
+          → twiceSeen b ≡ numberOf (unless (not (b || isBegun ws (taskCount ws) n)) 16 nothing)
+      go true h = refl
+      go false h = absurd (h refl)
+
+  by-tasks :
+      (bags : Option (List ℕ)) (b : Bool)
+      → standing n bags ≡ 0
+      → isBegun ws (taskCount ws) n ≡ b
+      → numberOf (unless (not b) 16 nothing) ≡ numberOf (seenRefusal ws n bags nothing)
+  by-tasks nothing b h e = absurd (omega (arith, h))
+  by-tasks (some bags) b h e = go (isAmong n bags) h
+    where
+      go :
+          (a : Bool)
+          → twiceSeen a ≡ 0
+          → numberOf (unless (not b) 16 nothing) ≡ numberOf (unless (not (a || isBegun ws (taskCount ws) n)) 16 nothing)
+      go true h = absurd (omega (arith, h))
+      go false h = rw e
+
+  module _ (bags : Option (List ℕ)) {r : ℕ} (is-number : r ≡ standing n bags) where
+    pub seen-standing : r ≢ 0 → r ≡ numberOf (seenRefusal ws n bags nothing)
+    seen-standing h = is-number ∙ in-lanes bags (λ e. h (is-number ∙ e))
+
+    module _ (not-standing : r ≡ 0) where
+      pub seen-begun : isBegun ws (taskCount ws) n ≡ true → 16 ≡ numberOf (seenRefusal ws n bags nothing)
+      seen-begun h = by-tasks bags true (sym is-number ∙ not-standing) h
+
+      pub seen-new : isBegun ws (taskCount ws) n ≡ false → 0 ≡ numberOf (seenRefusal ws n bags nothing)
+      seen-new h = by-tasks bags false (sym is-number ∙ not-standing) h
+
+  -- ---- Only a push is refused.
+  no-push : (op : Operation) → isPush op ≡ false → (others : Option ℕ) → twiceRefusal ws op n others ≡ others
+  no-push idle h others = refl
+  no-push push h others = clash (cc)
+  no-push pop h others = refl
+  no-push add h others = refl
+  no-push remove h others = refl
+
+  module _ (operation : ℕ) where
+    pub twice-other : operation ≢ 1 → 0 ≡ numberOf (twiceRefusal ws (operationOf operation) n nothing)
+    twice-other h = sym (ap numberOf (no-push (operationOf operation) (other-number operation h) nothing))
+
+    pub twice-push :
+        operation ≡ 1
+        → numberOf (seenRefusal ws n (allLanes ws) nothing)
+        ≡ numberOf (twiceRefusal ws (operationOf operation) n nothing)
+    twice-push e = rw (push-number operation e)
+
+  -- ---- By its number the refusal is known, and that there is none.
+  abbrev ByNumber : (Option ℕ → Option ℕ) → Type 0
+  ByNumber f =
+      (others : Option ℕ)
+      → (numberOf (f nothing) ≢ 0 → f others ≡ some (numberOf (f nothing)))
+      × (numberOf (f nothing) ≡ 0 → f others ≡ others)
+
+  one-test : (b : Bool) → ByNumber (unless b 16)
+  one-test true others = (λ h. absurd (h refl), λ _. refl)
+  one-test false others = (λ _. refl, λ e. absurd (omega (arith, e)))
+
+  by-seen : (l : Option (List ℕ)) → ByNumber (seenRefusal ws n l)
+  by-seen nothing others = (λ _. refl, λ e. absurd (omega (arith, e)))
+  by-seen (some bags) others = one-test (not (isAmong n bags || isBegun ws (taskCount ws) n)) others
+
+  by-twice : (op : Operation) → ByNumber (twiceRefusal ws op n)
+  by-twice idle others = (λ h. absurd (h refl), λ _. refl)
+  by-twice push others = by-seen (allLanes ws) others
+  by-twice pop others = (λ h. absurd (h refl), λ _. refl)
+  by-twice add others = (λ h. absurd (h refl), λ _. refl)
+  by-twice remove others = (λ h. absurd (h refl), λ _. refl)
+
+  module _ (op : Operation) {r : ℕ} (is-number : r ≡ numberOf (twiceRefusal ws op n nothing)) (others : Option ℕ) where
+    pub twice-refused : r ≢ 0 → twiceRefusal ws op n others ≡ some r
+    twice-refused h = by-twice op others .0 (λ e. h (is-number ∙ e)) ∙ ap some (sym is-number)
+
+    pub twice-passed : r ≡ 0 → twiceRefusal ws op n others ≡ others
+    twice-passed e = by-twice op others .1 (sym is-number ∙ e)

@@ -1,0 +1,65 @@
+-- `call_begin::begin` meets its contract: refusals 3, 4 and 26, then `begin_on`.
+use native.Mathlib.Omega.{arith}
+use Rattle.machine.specs.Shape.{WellFormed}
+use Rattle.table_shape.proofs.Laws.TableWords.{header-long}
+use Rattle.table_shape.proofs.Laws.PassedTable.{passed}
+use Rattle.call_begin.proofs.BeginTests.{begin-refused, begin-no-lane}
+use borrow.Author.Needs.{needs}
+use Rattle.call_begin.proofs.begin.Statement.{statement}
+use Rattle.call_begin.proofs.begin.Tie as tie
+
+table-refusal-requires : tie.Need-table-refusal-requires
+table-refusal-requires c κs = search needs
+
+same-length : tie.Need-same-length
+same-length c = search needs
+
+returns : tie.Need-returns
+returns c =
+    let a = c .before .before .before .before .args in
+    begin-refused (a .table .now) (c .before .table-refusal .ensures)
+    (a .task) (a .l) (a .operation) (a .side) (a .argument) (c .if1 .taken)
+
+-- What passed.
+passes : (c : tie.Else1) → WellFormed (c .before .before .before .before .args .table .now)
+passes c =
+    passed (c .before .before .before .before .args .table .now) (c .before .table-refusal .ensures) (c .if1 .left)
+
+slice-read-if2 : tie.Need-slice-read-if2
+slice-read-if2 c =
+    let e = c .before in
+    let P = passes e in
+    omega (arith, header-long (e .before .before .before .before .args .table .now) (P .length-passes))
+
+same-length-2 : tie.Need-same-length-2
+same-length-2 c = search needs
+
+returns-2 : tie.Need-returns-2
+returns-2 c =
+    let e = c .before .before in
+    let a = e .before .before .before .before .args in
+    begin-no-lane (a .table .now) (e .before .table-refusal .ensures)
+    (a .task) (a .l) (a .operation) (a .side) (a .argument) (e .if1 .left) (c .if2 .taken)
+
+begin-on-requires : tie.Need-begin-on-requires
+begin-on-requires c κs = let l = c .before in (passes (l .before .before), l .if2 .left)
+
+same-length-3 : tie.Need-same-length-3
+same-length-3 c = search needs
+
+returns-3 : tie.Need-returns-3
+returns-3 c = search needs
+
+pub begin-spec : {M : Type 1} → statement M
+begin-spec =
+    tie.close
+    (tie.spec
+    table-refusal-requires
+    same-length
+    returns
+    slice-read-if2
+    same-length-2
+    returns-2
+    begin-on-requires
+    same-length-3
+    returns-3)

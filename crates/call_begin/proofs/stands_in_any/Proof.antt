@@ -1,0 +1,78 @@
+-- `call_begin::stands_in_any` meets its contract: what the lanes walked so far say.
+use mathlib.Core.Path.{_≡_, refl, ap, _∙_}
+use Prim.Native.Nat.{ℕ, _-_, _≤_}
+use native.Mathlib.Omega.{arith}
+use Rattle.machine.specs.Table.{laneCount}
+use Rattle.machine.specs.Calls.{lanesBelow}
+use Rattle.machine.proofs.Shape.ShapeLaws.{well-sized}
+use Rattle.table_shape.proofs.Laws.TableWords.{header-long}
+use Rattle.call_begin.specs.Seen.{standing}
+use Rattle.call_begin.proofs.SeenTests.{none-walked, one-more}
+use Rattle.call_begin.proofs.stands_in_any.Statement.{statement}
+use Rattle.call_begin.proofs.stands_in_any.Tie as tie
+
+abbrev Inv-loop : tie.InvT-loop
+Inv-loop table tag lanes says₀ l₀ says l =
+    (l ≤ lanes) × (lanes ≡ laneCount table) × (says ≡ standing tag (lanesBelow table l))
+
+abbrev μ-loop : tie.MeasureT-loop
+μ-loop table tag lanes says₀ l₀ says l = lanes - l
+
+shared-slice-read-lanes : tie.Need-shared-slice-read-lanes Inv-loop μ-loop
+shared-slice-read-lanes c =
+    let p = c .before .before in omega (arith, header-long (p .args .table .now) (p .pre .length-passes))
+
+loop-holds : tie.Need-loop-holds Inv-loop μ-loop
+loop-holds c =
+    let a = c .before .before .args in
+    (omega arith, refl, none-walked (a .table .now) (a .tag) 0 refl)
+
+stands-requires : tie.Need-stands-requires Inv-loop μ-loop
+stands-requires c κs =
+    let l = c .before in
+    (l .before .before .before .pre, omega (arith, l .loop .inv .1))
+
+first-of-requires : tie.Need-first-of-requires Inv-loop μ-loop
+first-of-requires c κs = tt
+
+add-l : tie.Need-add-l Inv-loop μ-loop
+add-l c =
+    let l = c .before .before .before in
+    let p = l .before .before .before in
+    omega (arith, l .loop .inv .1, well-sized (p .args .table .now) (p .pre .length-passes) .most-lanes)
+
+loop-less : tie.Need-loop-less Inv-loop μ-loop
+loop-less c = omega arith
+
+loop-again : tie.Need-loop-again Inv-loop μ-loop
+loop-again c =
+    let one = c .before in
+    let l = one .before .before in
+    let a = l .before .before .before .args in (
+      omega arith,
+      l .loop .inv .1,
+      c .first-of .ensures
+          ∙ one-more (a .table .now) (a .tag) (l .loop .l) (l .loop .inv .2) (one .stands .ensures),
+    )
+
+returns : tie.Need-returns Inv-loop μ-loop
+returns c =
+    let l = c .before in
+    let a = l .before .before .before .args in
+    let all : l .loop .l ≡ laneCount (a .table .now) = omega (arith, l .loop .inv) in
+    l .loop .inv .2 ∙ ap (λ (n : ℕ). standing (a .tag) (lanesBelow (a .table .now) n)) all
+
+pub stands-in-any-spec : {M : Type 1} → statement M
+stands-in-any-spec =
+    tie.close
+    (tie.spec
+    Inv-loop
+    μ-loop
+    shared-slice-read-lanes
+    loop-holds
+    stands-requires
+    first-of-requires
+    add-l
+    loop-less
+    loop-again
+    returns)

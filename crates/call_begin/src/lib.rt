@@ -1,0 +1,218 @@
+// The call begin: any slice, any numbers. A refusal changes no lent word.
+use call_read::Walk;
+use call_read::seek;
+use machine::Reply;
+use machine::Stored;
+use table_layout::operations::argument_ok;
+use table_layout::places::LANE_COUNT;
+use table_layout::places::TASK_COUNT;
+use table_layout::table;
+use table_record::Task;
+use table_shape::table_refusal;
+ghost use mathlib.Core.Path.{_≡_};
+ghost use mathlib.Core.Bool.{true, _&&_};
+ghost use mathlib.Core.Option.{none as nothing};
+ghost use Prim.Native.Nat.{_≤_, _<_};
+ghost use lib.Dec.{leb, eqb};
+ghost use Rattle.machine.specs.Sides.{sideOf};
+ghost use Rattle.machine.specs.Values.{number};
+ghost use Rattle.machine.specs.Operations.{operationOf, argumentOk};
+ghost use Rattle.machine.specs.Steps.{firstStep, stepNumber};
+ghost use Rattle.machine.specs.Table.{taskCount, laneCount, task};
+ghost use Rattle.machine.specs.Shape.{WellFormed};
+ghost use Rattle.machine.specs.Calls.{lane, allLanes, isPush, isBegun, seenRefusal, twiceRefusal, begunTask, begin};
+ghost use Rattle.answers.specs.Refusals.{numberOf};
+ghost use Rattle.table_record.specs.Coded.{codedTask};
+ghost use Rattle.machine.specs.Results.{changedOf};
+ghost use Rattle.call_begin.specs.Seen.{standing, firstOf};
+
+// The operation is push, pop, add or remove, and the side is left or right.
+fn call_ok(operation: u32, side: u32) -> bool
+    ensures { λ r. ⌜ r ≡ (leb 1 operation && leb operation 4 && leb side 1) ⌝ }
+{
+    1 <= operation && operation <= 4 && side <= 1
+}
+
+// The step at which an operation begins.
+fn first_step(operation: u32) -> u32
+    ensures { λ r. ⌜ r ≡ stepNumber (firstStep (operationOf operation)) ⌝ }
+{
+    match operation {
+        Task::IDLE => 0,
+        Task::PUSH => Task::FIRST_OF_PUSH,
+        Task::POP => Task::FIRST_OF_POP,
+        Task::ADD => Task::FIRST_OF_ADD,
+        _ => Task::FIRST_OF_REMOVE,
+    }
+}
+
+// 01: a fresh record with operation, side, argument and first step; 02: and its lane.
+fn begun(l: u32, operation: u32, side: u32, argument: Stored) -> Task
+    requires { ⌜ (operation ≤ 4) × (side ≤ 1) × (argumentOk (operationOf operation) argument ≡ true) ⌝ }
+    ensures { λ r. ⌜ r ≡ codedTask (begunTask l (operationOf operation) (sideOf side) (number argument)) ⌝ }
+{
+    let mut k = Task::fresh().at(first_step(operation));
+    k.operation = operation;
+    k.side = side;
+    k.argument = argument;
+    k.lane = l;
+    k
+}
+
+// Whether task k is a busy push of that tag.
+fn pushes(table: &[u32], k: u32, tag: u64) -> bool
+    requires { ⌜ WellFormed (now table) × (k < taskCount (now table)) ⌝ }
+    ensures { λ r. ⌜ r ≡ (isPush (task (now (table .entry)) k .operation)
+        && eqb tag (task (now (table .entry)) k .argument)) ⌝ }
+{
+    let t = table::task(table, k);
+    if t.operation != Task::PUSH {
+        return false;
+    }
+    tag == table_values::number(t.argument)
+}
+
+// Whether any task is a busy push of that tag.
+fn is_begun(table: &[u32], tag: u64) -> bool
+    requires { ⌜ WellFormed (now table) ⌝ }
+    ensures { λ r. ⌜ r ≡ isBegun (now (table .entry)) (taskCount (now (table .entry))) tag ⌝ }
+{
+    let mut k = table[TASK_COUNT];
+    while 0 < k {
+        k -= 1;
+        if pushes(table, k, tag) {
+            return true;
+        }
+    }
+    false
+}
+
+// Whether the tag stands in lane l: 16 where it does, 0 where it does not, and 11 where the lane cannot be walked.
+fn stands(table: &[u32], l: u32, tag: u64) -> u32
+    requires { ⌜ WellFormed (now table) × (l < laneCount (now table)) ⌝ }
+    ensures { λ r. ⌜ r ≡ standing tag (lane (now (table .entry)) l) ⌝ }
+{
+    let walk = seek(table, l, tag);
+    match walk {
+        Walk::NoEnd => {
+            return 11;
+        }
+        Walk::Bags(_, found) => {
+            if found {
+                return 16;
+            }
+            return 0;
+        }
+    }
+}
+
+// Of two such numbers the one that is said of both: 11 before 16, and 16 before 0.
+fn first_of(a: u32, b: u32) -> u32
+    ensures { λ r. ⌜ r ≡ firstOf a b ⌝ }
+{
+    if a == 11 {
+        return a;
+    }
+    if b == 0 {
+        return a;
+    }
+    b
+}
+
+// The same of all lanes: each of them is walked before 16 is said.
+fn stands_in_any(table: &[u32], tag: u64) -> u32
+    requires { ⌜ WellFormed (now table) ⌝ }
+    ensures { λ r. ⌜ r ≡ standing tag (allLanes (now (table .entry))) ⌝ }
+{
+    let lanes = table[LANE_COUNT];
+    let mut says = 0;
+    let mut l = 0;
+    while l < lanes {
+        says = first_of(says, stands(table, l, tag));
+        l += 1;
+    }
+    says
+}
+
+// 02: "a bag number that stands in the lane or is the argument of a busy push", of any lane. The number of the refusal,
+// 11 or 16; 0 where the tag is new.
+fn seen(table: &[u32], tag: u64) -> u32
+    requires { ⌜ WellFormed (now table) ⌝ }
+    ensures { λ r. ⌜ r
+        ≡ numberOf (seenRefusal (now (table .entry)) tag (allLanes (now (table .entry))) nothing) ⌝ }
+{
+    let says = stands_in_any(table, tag);
+    if says != 0 {
+        return says;
+    }
+    if is_begun(table, tag) {
+        return 16;
+    }
+    0
+}
+
+// The same for any operation; only a push walks.
+fn twice(table: &[u32], operation: u32, argument: Stored) -> u32
+    requires { ⌜ WellFormed (now table) ⌝ }
+    ensures { λ r. ⌜ r
+        ≡ numberOf (twiceRefusal (now (table .entry)) (operationOf operation) (number argument) nothing) ⌝ }
+{
+    if operation != Task::PUSH {
+        return 0;
+    }
+    seen(table, table_values::number(argument))
+}
+
+// 01: checks 5, 6 and 7; 02: 11 and 16 of a push; 01: 8, then the record.
+fn begin_on(
+    table: &mut [u32],
+    task: u32,
+    l: u32,
+    operation: u32,
+    side: u32,
+    argument: Stored,
+) -> Reply
+    requires { ⌜ WellFormed (now table) × (l < laneCount (now table)) ⌝ }
+    ensures { λ r. ⌜ changedOf r (now (table .exit)) ≡ begin (now (table .entry)) task l operation side argument ⌝ }
+{
+    if table[TASK_COUNT] <= task {
+        return Reply::Refused(5);
+    }
+    if !call_ok(operation, side) {
+        return Reply::Refused(6);
+    }
+    if !argument_ok(operation, argument) {
+        return Reply::Refused(7);
+    }
+    let n = twice(table, operation, argument);
+    if n != 0 {
+        return Reply::Refused(n);
+    }
+    let old = table::task(table, task);
+    if old.operation != Task::IDLE {
+        return Reply::Refused(8);
+    }
+    table::set_task(table, task, begun(l, operation, side, argument));
+    Reply::Accepted
+}
+
+// 01 and 02: refusals 3, 4, 26, 5, 6, 7, 11, 16 and 8, then the record of a task that begins a call.
+pub fn begin(
+    table: &mut [u32],
+    task: u32,
+    l: u32,
+    operation: u32,
+    side: u32,
+    argument: Stored,
+) -> Reply
+    ensures { λ r. ⌜ changedOf r (now (table .exit)) ≡ begin (now (table .entry)) task l operation side argument ⌝ }
+{
+    let n = table_refusal(table);
+    if n != 0 {
+        return Reply::Refused(n);
+    }
+    if table[LANE_COUNT] <= l {
+        return Reply::Refused(26);
+    }
+    begin_on(table, task, l, operation, side, argument)
+}

@@ -1,0 +1,69 @@
+-- Refusals 3, 4 and 9 of a dispatch by their number, and what follows them.
+use mathlib.Core.Path.{_≡_, refl, sym, ap, _∙_}
+use mathlib.Core.Bool.{Bool, true, false}
+use mathlib.Core.Logic.{_≢_}
+use mathlib.Core.List.{List}
+use mathlib.Core.Option.{Option, some, none as nothing}
+use Prim.Native.Nat.{ℕ, _≤_, _<_}
+use native.Mathlib.Omega.{arith}
+use lib.Dec.{ltb}
+use borrow.Author.Tests.{lt-ltb, le-ltb, ltb-true}
+use Rattle.machine.specs.declared.Answer.the-variants.{Refused}
+use Rattle.machine.specs.declared.Dispatch.the-variants.{Answered}
+use Rattle.machine.specs.Table.{nodeCount}
+use Rattle.machine.specs.Shape.{lengthOk, shapeOk, WellFormed}
+use Rattle.machine.specs.Calls.{unless, tableRefusal, dispatchRefusal, dispatchOn, dispatch}
+use Rattle.machine.specs.Results.{dispatchedOf}
+use Rattle.machine.proofs.Basics.Tests.{test-passed, tests-left}
+use Rattle.answers.specs.Refusals.{numberOf}
+use Rattle.table_shape.proofs.Laws.PassedTable.{refused}
+
+-- ---- The number, test by test.
+pub is-3-or-4 : (ws : List ℕ) {n : ℕ} → n ≡ numberOf (tableRefusal ws nothing) → n ≢ 0 → (h : ℕ)
+    → n ≡ numberOf (dispatchRefusal ws h)
+is-3-or-4 ws is-number r h = sym (ap numberOf (refused ws is-number r (unless (ltb h (nodeCount ws)) 9 nothing)))
+
+module _ (ws : List ℕ) (P : WellFormed ws) (h : ℕ) where
+  pub is-9 : nodeCount ws ≤ h → 9 ≡ numberOf (dispatchRefusal ws h)
+  is-9 b = rw (P .length-passes, P .shape-passes, le-ltb h (nodeCount ws) b)
+
+  pub is-none : h < nodeCount ws → 0 ≡ numberOf (dispatchRefusal ws h)
+  is-none b = rw (P .length-passes, P .shape-passes, lt-ltb h (nodeCount ws) b)
+
+  pub passes : h < nodeCount ws → dispatchRefusal ws h ≡ nothing
+  passes b = rw (P .length-passes, P .shape-passes, lt-ltb h (nodeCount ws) b)
+
+-- ---- What the number says.
+due : (o : Option ℕ) {n : ℕ} → n ≡ numberOf o → n ≢ 0 → o ≡ some n
+due nothing e r = absurd (r e)
+due (some m) e r = ap some (sym e)
+
+-- None of the three is 0.
+none-due : (a b c : Bool) → numberOf (unless a 3 (unless b 4 (unless c 9 nothing))) ≡ 0
+    → (a ≡ true) × (b ≡ true) × (c ≡ true)
+none-due true true true e = (refl, refl, refl)
+none-due true true false e = absurd (omega (arith, e))
+none-due true false c e = absurd (omega (arith, e))
+none-due false b c e = absurd (omega (arith, e))
+
+module _ (ws : List ℕ) (h : ℕ) where
+  pub dispatch-refused : {n : ℕ} → n ≡ numberOf (dispatchRefusal ws h) → n ≢ 0
+      → dispatchedOf (Answered (Refused n)) ws ≡ dispatch ws h
+  unfolding dispatch
+  dispatch-refused is-number r = rw (due (dispatchRefusal ws h) is-number r, dispatch)
+
+  pub none-refused : {n : ℕ} → n ≡ numberOf (dispatchRefusal ws h) → n ≡ 0 → dispatchRefusal ws h ≡ nothing
+  none-refused is-number e =
+      let P = none-due (lengthOk ws) (shapeOk ws) (ltb h (nodeCount ws)) (sym is-number ∙ e) in
+      rw (P .0, P .1, P .2)
+
+  module _ (passed : dispatchRefusal ws h ≡ nothing) where
+    pub dispatch-on : dispatchOn ws h ≡ dispatch ws h
+    unfolding dispatch
+    dispatch-on = rw (passed, dispatch)
+
+    pub table-passed : WellFormed ws
+    table-passed = record { length-passes = search test-passed; shape-passes = search (test-passed, tests-left) }
+
+    pub hint-passed : h < nodeCount ws
+    hint-passed = ltb-true h (nodeCount ws) (search (test-passed, tests-left))

@@ -1,0 +1,43 @@
+-- `call_dispatch::dispatch_refusal` meets its contract: refusals 3 and 4, then 9, or none.
+use native.Mathlib.Omega.{arith}
+use Rattle.machine.specs.Shape.{WellFormed}
+use Rattle.table_shape.proofs.Laws.PassedTable.{passed}
+use Rattle.table_shape.proofs.Laws.TableWords.{header-long}
+use Rattle.call_dispatch.proofs.DispatchRefusals.{is-3-or-4, is-9, is-none}
+use borrow.Author.Needs.{needs}
+use Rattle.call_dispatch.proofs.dispatch_refusal.Statement.{statement}
+use Rattle.call_dispatch.proofs.dispatch_refusal.Tie as tie
+
+table-refusal-requires : tie.Need-table-refusal-requires
+table-refusal-requires c κs = search needs
+
+returns : tie.Need-returns
+returns c =
+    let a = c .before .before .before .args in
+    is-3-or-4 (a .table .now) (c .before .table-refusal .ensures) (c .if1 .taken) (a .hint)
+
+-- The table has passed 3 and 4.
+table-passed : (c : tie.Else1) → WellFormed (c .before .before .before .args .table .now)
+table-passed c =
+    passed (c .before .before .before .args .table .now) (c .before .table-refusal .ensures) (c .if1 .left)
+
+shared-slice-read-if2 : tie.Need-shared-slice-read-if2
+shared-slice-read-if2 c =
+    let e = c .before in
+    omega (arith, header-long (e .before .before .before .args .table .now) (table-passed e .length-passes))
+
+returns-2 : tie.Need-returns-2
+returns-2 c =
+    let e = c .before .before in
+    let a = e .before .before .before .args in
+    is-9 (a .table .now) (table-passed e) (a .hint) (c .if2 .taken)
+
+returns-3 : tie.Need-returns-3
+returns-3 c =
+    let e = c .before .before in
+    let a = e .before .before .before .args in
+    is-none (a .table .now) (table-passed e) (a .hint) (c .if2 .left)
+
+pub dispatch-refusal-spec : {M : Type 1} → statement M
+dispatch-refusal-spec =
+    tie.close (tie.spec table-refusal-requires returns shared-slice-read-if2 returns-2 returns-3)

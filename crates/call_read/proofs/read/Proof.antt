@@ -1,0 +1,65 @@
+-- `call_read::read` meets its contract: refusals 3 and 4, then `read_lane`.
+use mathlib.Core.Path.{_∙_}
+use native.Mathlib.Omega.{arith}
+use Rattle.machine.specs.Shape.{WellFormed}
+use Rattle.table_shape.proofs.Laws.TableWords.{header-long}
+use Rattle.table_shape.proofs.Laws.PassedTable.{passed}
+use Rattle.call_read.proofs.WalkLaws.{read-refused, read-no-lane, read-goes-on}
+use borrow.Author.Needs.{needs}
+use Rattle.call_read.proofs.read.Statement.{statement}
+use Rattle.call_read.proofs.read.Tie as tie
+
+table-refusal-requires : tie.Need-table-refusal-requires
+table-refusal-requires c κs = search needs
+
+returns : tie.Need-returns
+returns c =
+    let p = c .before .before .before .before in
+    let a = p .args in
+    read-refused (a .table .now) (c .before .table-refusal .ensures) (a .l) (a .out .now) (c .if1 .taken)
+
+-- What passed.
+passes : (c : tie.Else1) → WellFormed (c .before .before .before .before .args .table .now)
+passes c =
+    passed (c .before .before .before .before .args .table .now) (c .before .table-refusal .ensures) (c .if1 .left)
+
+shared-slice-read-if2 : tie.Need-shared-slice-read-if2
+shared-slice-read-if2 c =
+    let e = c .before in
+    let P = passes e in
+    omega (arith, header-long (e .before .before .before .before .args .table .now) (P .length-passes))
+
+returns-2 : tie.Need-returns-2
+returns-2 c =
+    let e = c .before .before in
+    let a = e .before .before .before .before .args in
+    read-no-lane (a .table .now) (e .before .table-refusal .ensures) (a .l) (a .out .now) (e .if1 .left) (c .if2 .taken)
+
+read-lane-requires : tie.Need-read-lane-requires
+read-lane-requires c κs =
+    let l = c .before in
+    (passes (l .before .before), l .if2 .left)
+
+same-length : tie.Need-same-length
+same-length c = search needs
+
+returns-3 : tie.Need-returns-3
+returns-3 c =
+    let l = c .before .before .before .before in
+    let e = l .before .before in
+    let a = e .before .before .before .before .args in
+    c .before .before .read-lane .ensures
+    ∙ read-goes-on (a .table .now) (e .before .table-refusal .ensures) (a .l) (a .out .now)
+    (e .if1 .left) (l .if2 .left)
+
+pub read-spec : {M : Type 1} → statement M
+read-spec =
+    tie.close
+    (tie.spec
+    table-refusal-requires
+    returns
+    shared-slice-read-if2
+    returns-2
+    read-lane-requires
+    same-length
+    returns-3)

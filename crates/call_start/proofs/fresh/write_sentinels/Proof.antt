@@ -1,0 +1,126 @@
+-- `call_start::fresh::write_sentinels` meets its contract: what is written and what is to come are those of all lanes.
+use mathlib.Core.Path.{_≡_, refl, sym, ap, _∙_}
+use mathlib.Core.List.{List}
+use Prim.Native.Nat.{ℕ, _+_, _*_, _-_, _≤_}
+use native.Mathlib.Omega.{arith}
+use native.Mathlib.Decide.{ℕ-discrete}
+use native.Mathlib.Nat.{sub-zero}
+use lib.ListN.{length}
+use Rattle.machine.specs.Sides.{right}
+use Rattle.machine.specs.Values.{X, encode}
+use Rattle.machine.specs.Tasks.{none}
+use Rattle.machine.specs.Table.{nodeLength}
+use Rattle.table_layout.specs.Words.{setNodeIn}
+use Rattle.machine.specs.Calls.{startNodes}
+use Rattle.call_start.proofs.Filling.{sentinels, sentinels-more, sentinels-done}
+use borrow.Author.Needs.{needs}
+use Rattle.call_start.proofs.fresh.write_sentinels.Statement.{statement}
+use Rattle.call_start.proofs.fresh.write_sentinels.Tie as tie
+use Rattle.call_start.proofs.fresh.write_sentinels.Reads as reads
+use Rattle.call_start.proofs.fresh.write_sentinels.Lts as lts
+use Rattle.table_layout.proofs.nodes.write.Reads as write-reads
+use Rattle.table_values.proofs.x_of.Reads as x-of-reads
+
+abbrev Inv-loop : tie.InvT-loop
+Inv-loop ns₀ lanes l₀ ns l =
+    (l ≤ lanes)
+    × (length ns ≡ length ns₀)
+    × (sentinels ns (nodeLength * (2 * l)) (lanes - l) l ≡ startNodes lanes 0)
+
+abbrev μ-loop : tie.MeasureT-loop
+μ-loop ns₀ lanes l₀ ns l = lanes - l
+
+loop-holds : tie.Need-loop-holds Inv-loop μ-loop
+loop-holds c =
+    let s = c .before in
+    (omega arith, refl, ap (λ (n : ℕ). startNodes n 0) (sub-zero (s .args .lanes)))
+
+mul-write : tie.Need-mul-write Inv-loop μ-loop
+mul-write c = omega arith
+
+mul-write-2 : tie.Need-mul-write-2 Inv-loop μ-loop
+mul-write-2 c = omega arith
+
+add-write : tie.Need-add-write Inv-loop μ-loop
+add-write c = omega arith
+
+x-of-requires : tie.Need-x-of-requires Inv-loop μ-loop
+x-of-requires c κs = search needs
+
+write-requires : tie.Need-write-requires Inv-loop μ-loop
+write-requires c κs = omega (arith, c .before .before .before .loop .inv .1)
+
+mul-write-3 : tie.Need-mul-write-3 Inv-loop μ-loop
+mul-write-3 c = omega arith
+
+add-write-2 : tie.Need-add-write-2 Inv-loop μ-loop
+add-write-2 c = omega arith
+
+mul-write-4 : tie.Need-mul-write-4 Inv-loop μ-loop
+mul-write-4 c = omega arith
+
+x-of-requires-2 : tie.Need-x-of-requires-2 Inv-loop μ-loop
+x-of-requires-2 c κs = search needs
+
+write-requires-2 : tie.Need-write-requires-2 Inv-loop μ-loop
+write-requires-2 c κs = omega (arith, c .before .before .before .before .before .before .before .before .loop .inv .1)
+
+add-l : tie.Need-add-l Inv-loop μ-loop
+add-l c = omega arith
+
+loop-less : tie.Need-loop-less Inv-loop μ-loop
+loop-less c = omega arith
+
+loop-again : tie.Need-loop-again Inv-loop μ-loop
+unfolding ℕ-discrete
+loop-again c =
+    let second = c .before .before in
+    let first = second .before .before .before .before .before in
+    let l = first .before .before .before .before .loop in
+    let s = first .before .before .before .before .before .before in
+    let n = s .args .lanes in
+    let one =
+    first .write .ensures ∙ ap (setNodeIn (l .ns) (2 * l .l) none (2 * l .l + 1)) (first .before .x-of .ensures) in
+    let two =
+    second .write2 .ensures
+    ∙ ap (setNodeIn (first .write .last .0) (2 * l .l + 1) (2 * l .l) none) (second .before .x-of2 .ensures)
+    ∙ ap (λ (t : List ℕ). setNodeIn t (2 * l .l + 1) (2 * l .l) none (encode (X right))) one in (
+      omega arith,
+      second .write2 .kept .0 ∙ first .write .kept .0 ∙ l .inv .1,
+      rw two
+          (sentinels-more (l .ns) (l .l) (n - l .l) (n - (l .l + 1)) (omega (arith, l .inv .1, s .pre)) (omega arith)
+          ∙ l .inv .2),
+    )
+
+same-length : tie.Need-same-length Inv-loop μ-loop
+same-length c = c .before .loop .inv .1
+
+returns : tie.Need-returns Inv-loop μ-loop
+returns c =
+    let l = c .before .loop in
+    let n = c .before .before .before .args .lanes in
+    let e : nodeLength * (2 * n) ≡ nodeLength * (2 * l .l) = omega arith in
+    rw e (sym (sentinels-done (l .ns) (nodeLength * (2 * l .l)) (n - l .l) (l .l) (omega arith)) ∙ l .inv .2)
+
+pub write-sentinels-spec : {M : Type 1} → statement M
+write-sentinels-spec =
+    tie.close
+    (tie.spec
+    Inv-loop
+    μ-loop
+    loop-holds
+    mul-write
+    mul-write-2
+    add-write
+    x-of-requires
+    write-requires
+    mul-write-3
+    add-write-2
+    mul-write-4
+    x-of-requires-2
+    write-requires-2
+    add-l
+    loop-less
+    loop-again
+    same-length
+    returns)

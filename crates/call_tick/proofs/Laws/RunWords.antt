@@ -1,0 +1,169 @@
+-- A list pair by pair: the ticks made so far, and the run of the pairs ahead.
+use mathlib.Core.Path.{_≡_, sym, ap, _∙_, subst}
+use mathlib.Core.Logic.{_≢_}
+use mathlib.Core.List.{List, _∷_, _++_, append-assoc}
+use mathlib.Core.Option.{Option, some, none as nothing}
+use Prim.Native.Nat.{ℕ, suc, _+_, _*_, _≤_, _<_}
+use native.Mathlib.Nat.{add-zero, zero-add}
+use native.Mathlib.Numerals.{add-one}
+use native.Mathlib.Omega.{arith}
+use lib.ListN.{length, getD, take, drop, take-append-drop, drop-of-length-le}
+use lib.Seq.{sets, drop-cons, drop-drop}
+use Rattle.tag.specs.Tags.{largestTag}
+use Rattle.machine.specs.declared.Answer.{Answer}
+use Rattle.machine.specs.Answers.{kindOf, payloadOf, answerLength, answerWords, refusalOf}
+use Rattle.machine.specs.Calls.{
+  Ticked,
+  tickOn,
+  RunDone,
+  stopped,
+  afterTick,
+  runOn,
+}
+use Rattle.machine.proofs.Shape.ShapeLaws.{well-shaped}
+use Rattle.machine.proofs.Words.RunLaws.{by-first, first-tick}
+use Rattle.machine.proofs.Words.TickLaws.{refused-unchanged, refused-kind, made-kind, tick-on-number}
+use Rattle.machine.specs.Results.{tickedOf, runDoneOf}
+use Rattle.machine.specs.Shape.{WellFormed}
+use Rattle.answers.specs.Refusals.{numberOf}
+use Rattle.table_layout.proofs.Laws.Fronts.{front-grows, rest-stays}
+
+-- ---- One tick.
+
+-- The number that it answers with is at most the largest tag.
+pub tick-tag :
+    (ws : List ℕ) (k h : ℕ) (a : Answer) (vs : List ℕ)
+    → tickedOf a vs ≡ tickOn ws k h
+    → WellFormed ws
+    → payloadOf a ≤ largestTag
+tick-tag ws k h a vs ticked P =
+    subst (λ (t : Ticked). payloadOf (t .answer) ≤ largestTag) (sym ticked)
+    (tick-on-number ws k h (well-shaped ws (P .length-passes) (P .shape-passes)))
+
+-- The number of a refusal is what it answers with.
+refused-number : (a : Answer) → kindOf a ≡ 7 → refusalOf a ≡ some (numberOf (refusalOf a))
+refused-number a e = let q = refused-kind a e in q ∙ ap (λ (r : Option ℕ). some (numberOf r)) (sym q)
+
+-- ---- A run by its first tick.
+module _ (k h : ℕ) (list ws answers : List ℕ) where
+  module _ (a : Answer) (vs : List ℕ) (ticked : tickedOf a vs ≡ tickOn ws k h) where
+    answer-is : tickOn ws k h .answer ≡ a
+    answer-is = sym (ap (λ (t : Ticked). t .answer) ticked)
+
+    words-are : tickOn ws k h .words ≡ vs
+    words-are = sym (ap (λ (t : Ticked). t .words) ticked)
+
+    first-refused : kindOf a ≡ 7 → runOn (k ∷ h ∷ list) ws answers ≡ stopped (numberOf (refusalOf a)) vs answers
+    unfolding by-first
+    first-refused e =
+        let n = numberOf (refusalOf a) in
+        let r : refusalOf (tickOn ws k h .answer) ≡ some n = ap refusalOf answer-is ∙ refused-number a e in
+        first-tick k h list ws answers (some n) r
+        ∙ ap (λ (l : List ℕ). stopped n l answers) (sym (refused-unchanged ws k h r) ∙ words-are)
+
+    first-made : kindOf a ≢ 7
+        → runOn (k ∷ h ∷ list) ws answers ≡ afterTick a (runOn list vs (drop answerLength answers))
+    unfolding by-first
+    first-made e =
+        first-tick k h list ws answers nothing (ap refusalOf answer-is ∙ made-kind a e)
+        ∙ ap (λ (t : Ticked). afterTick (t .answer) (runOn list (t .words) (drop answerLength answers))) (sym ticked)
+
+-- ---- The run of the pairs ahead, behind the ticks made.
+abbrev behind : (made : ℕ) (front : List ℕ) → RunDone → RunDone
+behind made front r =
+    record {
+      ran = record { made = made + r .ran .made; refusal = r .ran .refusal };
+      words = r .words;
+      answers = front ++ r .answers;
+    }
+
+-- The words of the ticks made stand in front of the answers.
+abbrev pub ahead : (at made : ℕ) (list ws answers : List ℕ) → RunDone
+ahead at made list ws answers =
+    let to = answerLength * made in behind made (take to answers) (runOn (drop at list) ws (drop to answers))
+
+pub run-begins : (list ws answers : List ℕ) → ahead 0 0 list ws answers ≡ runOn list ws answers
+run-begins list ws answers =
+    let r = runOn list ws answers in
+    ap (λ (m : ℕ). runDoneOf (record { made = m; refusal = r .ran .refusal }) (r .words) (r .answers))
+    (zero-add (r .ran .made))
+
+-- A run that stops here.
+stops-here :
+    (to made n : ℕ) (ws answers : List ℕ)
+    → behind made (take to answers) (stopped n ws (drop to answers))
+    ≡ runDoneOf (record { made = made; refusal = n }) ws answers
+stops-here to made n ws answers =
+    ap (λ (m : ℕ). runDoneOf (record { made = m; refusal = n }) ws (take to answers ++ drop to answers)) (add-zero made)
+    ∙ ap (runDoneOf (record { made = made; refusal = n }) ws) (take-append-drop to answers)
+
+pub run-ends :
+    (at made : ℕ) (list ws answers : List ℕ)
+    → length list ≤ at
+    → runDoneOf (record { made = made; refusal = 0 }) ws answers ≡ ahead at made list ws answers
+unfolding runOn
+run-ends at made list ws answers e =
+    let to = answerLength * made in
+    sym
+    (ap (λ (l : List ℕ). behind made (take to answers) (runOn l ws (drop to answers)))
+    (drop-of-length-le list {i = at} e)
+    ∙ stops-here to made 0 ws answers)
+
+-- One tick more made is one less ahead.
+one-more :
+    (made : ℕ) (front : List ℕ) (a : Answer) (r : RunDone)
+    → behind (made + 1) (front ++ answerWords a) r ≡ behind made front (afterTick a r)
+one-more made front a r =
+    let l = front ++ (answerWords a ++ r .answers) in
+    let more : made + 1 + r .ran .made ≡ made + suc (r .ran .made) = omega arith in
+    ap (runDoneOf (record { made = made + 1 + r .ran .made; refusal = r .ran .refusal }) (r .words))
+    (append-assoc front (answerWords a) (r .answers))
+    ∙ ap (λ (m : ℕ). runDoneOf (record { made = m; refusal = r .ran .refusal }) (r .words) l) more
+
+-- The tick of the pair at a place.
+module _ (at made : ℕ) (list ws answers : List ℕ) (more : at + 1 < length list) (a : Answer) (vs : List ℕ)
+    (ticked : tickedOf a vs ≡ tickOn ws (getD list at 0) (getD list (at + 1) 0)) where
+  pair-ahead : drop at list ≡ getD list at 0 ∷ getD list (at + 1) 0 ∷ drop (at + 2) list
+  pair-ahead =
+      drop-cons list at 0 (omega arith)
+      ∙ ap (λ (j : ℕ). getD list at 0 ∷ drop j list) (sym (add-one at))
+      ∙ ap (_∷_ (getD list at 0)) (drop-cons list (at + 1) 0 more)
+      ∙ ap (λ (j : ℕ). getD list at 0 ∷ getD list (at + 1) 0 ∷ drop j list) two
+    where
+      two : suc (at + 1) ≡ at + 2
+      two = omega arith
+
+  to : ℕ
+  to = answerLength * made
+
+  pub run-refused :
+      kindOf a ≡ 7
+      → runDoneOf (record { made = made; refusal = numberOf (refusalOf a) }) vs answers ≡ ahead at made list ws answers
+  unfolding to
+  run-refused e =
+      sym
+      (ap (λ (l : List ℕ). behind made (take to answers) (runOn l ws (drop to answers))) pair-ahead
+      ∙ ap (behind made (take to answers))
+      (first-refused (getD list at 0) (getD list (at + 1) 0) (drop (at + 2) list) ws (drop to answers) a vs ticked e)
+      ∙ stops-here to made (numberOf (refusalOf a)) vs answers)
+
+  pub run-made :
+      kindOf a ≢ 7
+      → answerLength * made + answerLength ≤ length answers
+      → ahead (at + 2) (made + 1) list vs (sets answers (answerLength * made) (answerWords a))
+      ≡ ahead at made list ws answers
+  unfolding to
+  run-made e room =
+      let w = sets answers to (answerWords a) in
+      let left = drop (at + 2) list in
+      let next : answerLength * (made + 1) ≡ to + answerLength = omega arith in
+      ap (λ (j : ℕ). behind (made + 1) (take j w) (runOn left vs (drop j w))) next
+      ∙ ap (λ (f : List ℕ). behind (made + 1) f (runOn left vs (drop (to + answerLength) w)))
+      (front-grows answers (answerWords a) to room)
+      ∙ ap (λ (b : List ℕ). behind (made + 1) (take to answers ++ answerWords a) (runOn left vs b))
+      (rest-stays answers (answerWords a) to room ∙ sym (drop-drop answerLength to answers))
+      ∙ one-more made (take to answers) a (runOn left vs (drop answerLength (drop to answers)))
+      ∙ sym
+      (ap (λ (l : List ℕ). behind made (take to answers) (runOn l ws (drop to answers))) pair-ahead
+      ∙ ap (behind made (take to answers))
+      (first-made (getD list at 0) (getD list (at + 1) 0) left ws (drop to answers) a vs ticked e))

@@ -1,0 +1,22 @@
+-- `line_parts::marks::is_y` meets its contract: a mark has a word, so that comparing with its word compares with it.
+use Rattle.machine.specs.Sides.{sideOf}
+use Rattle.machine.proofs.Words.ValueLaws.{Y-mark, mark-has-word, mark-value-ok}
+use borrow.Author.Needs.{needs}
+use Rattle.line_parts.proofs.marks.is_y.Statement.{statement}
+use Rattle.line_parts.proofs.marks.is_y.Tie as tie
+
+y-of-requires : tie.Need-y-of-requires
+y-of-requires c κs = search needs
+
+same-requires : tie.Need-same-requires
+same-requires c κs =
+    let s = sideOf (c .before .args .side) in
+    (c .before .pre, rw (c .y-of .ensures) (mark-value-ok {s = s} Y-mark))
+
+returns : tie.Need-returns
+returns c =
+    let s = sideOf (c .before .before .args .side) in
+    rw (c .same .ensures, c .before .y-of .ensures, mark-has-word {s = s} Y-mark)
+
+pub is-y-spec : {M : Type 1} → statement M
+is-y-spec = tie.close (tie.spec y-of-requires same-requires returns)

@@ -1,0 +1,54 @@
+-- `line_pop::after_read` meets its contract: the tests are the cases of `afterRead`.
+use mathlib.Core.Path.{sym, _∙_}
+use Rattle.machine.specs.Sides.{sideOf}
+use Rattle.machine.specs.Values.{X, decode}
+use Rattle.machine.specs.Steps.{line39, line48}
+use Rattle.line_parts.proofs.Laws.Chosen.{chosenᵛ}
+use Rattle.line_parts.proofs.Laws.Choosing.{read-bag, read-N, read-other}
+use borrow.Author.Needs.{needs}
+use Rattle.line_pop.proofs.after_read.Statement.{statement}
+use Rattle.line_pop.proofs.after_read.Tie as tie
+
+is-bag-requires : tie.Need-is-bag-requires
+is-bag-requires c κs = search needs
+
+returns : tie.Need-returns
+returns c =
+    let a = c .before .before .args in
+    rw (read-bag (sideOf (a .o)) (decode (a .v)) (sym (c .before .is-bag .ensures) ∙ c .if1 .taken))
+
+is-n-requires : tie.Need-is-n-requires
+is-n-requires c κs = search needs
+
+returns-2 : tie.Need-returns-2
+returns-2 c =
+    let a = c .before .before .before .before .args in
+    rw (read-N (sideOf (a .o)) (decode (a .v)) (sym (c .before .is-n .ensures) ∙ c .if2 .taken))
+
+is-x-requires : tie.Need-is-x-requires
+is-x-requires c κs = search needs
+
+either-requires : tie.Need-either-requires
+either-requires c κs = search needs
+
+returns-3 : tie.Need-returns-3
+returns-3 c =
+    let asked = c .before .before .before in
+    let a = asked .before .before .before .args in
+    let o = sideOf (a .o) in
+    let v = decode (a .v) in
+    let no-bag = sym (asked .before .before .is-bag .ensures) ∙ asked .before .if1 .left in
+    let no-N = sym (asked .is-n .ensures) ∙ c .before .before .if2 .left in
+    rw (c .either .ensures, c .before .is-x .ensures, read-other o v no-bag no-N) (chosenᵛ v (X o) line48 line39)
+
+pub after-read-spec : {M : Type 1} → statement M
+after-read-spec =
+    tie.close
+    (tie.spec
+    is-bag-requires
+    returns
+    is-n-requires
+    returns-2
+    is-x-requires
+    either-requires
+    returns-3)

@@ -1,0 +1,81 @@
+-- `line_pop::line42` meets its contract: the word read is the word of its value, and `after_read` gives the step.
+use native.Mathlib.Omega.{arith}
+use lib.ListN.{getD}
+use Rattle.machine.specs.Sides.{opposite, sideOf}
+use Rattle.machine.specs.Values.{decode}
+use Rattle.machine.specs.Steps.{stepNumber}
+use Rattle.machine.specs.Lines.{act, afterRead}
+use Rattle.machine.proofs.Basics.Choices.{equal, unequal}
+use Rattle.machine.proofs.Words.ValueLaws.{encode-decode}
+use Rattle.table_record.specs.Coded.{withValueRead}
+use Rattle.table_layout.specs.Words.{storedIn}
+use Rattle.line_parts.specs.Lent.{lineOf, nextDone, refusedDone}
+use Rattle.line_parts.proofs.Laws.Ready.{side-meant, by-code, side-below-two, node-value-ok}
+use borrow.Author.Needs.{needs}
+use Rattle.line_pop.proofs.line42.Statement.{statement}
+use Rattle.line_pop.proofs.line42.Tie as tie
+
+element-copy-out-b : tie.Need-element-copy-out-b
+element-copy-out-b c = search needs
+
+refused-requires : tie.Need-refused-requires
+refused-requires c κs = search needs
+
+returns : tie.Need-returns
+unfolding lineOf act
+returns c g f =
+    let p = c .before .before .before .before in
+    rw (c .refused .ensures, equal (c .before .if1 .taken)) (by-code (p .pre) (refusedDone (p .args .hat)))
+
+value-requires : tie.Need-value-requires
+value-requires c κs = c .before .before .before .pre .held 1 (omega arith) (c .if1 .left)
+
+reading-requires : tie.Need-reading-requires
+reading-requires c κs = search needs
+
+opposite-requires : tie.Need-opposite-requires
+opposite-requires c κs = side-below-two (c .before .before .before .before .before .pre)
+
+after-read-requires : tie.Need-after-read-requires
+after-read-requires c κs =
+    let some = c .before .before .before in
+    let p = some .before .before .before in
+    node-value-ok (p .pre) 1 (omega arith) (some .if1 .left) (c .before .before .value .ensures)
+
+next-requires : tie.Need-next-requires
+next-requires c κs = search needs
+
+returns-2 : tie.Need-returns-2
+unfolding lineOf act
+returns-2 c g f =
+    let p = c .before .before .before .before .before .before .before .before in
+    let t = p .args .t3 in
+    let o = opposite (sideOf (t .side)) in
+    let b = getD (t .registers) 1 0 in
+    let b-some = c .before .before .before .before .before .if1 .left in
+    let w = storedIn (p .args .ns .now) b in
+    rw (
+      c .next .ensures,
+      c .before .after-read .ensures,
+      c .before .before .before .reading .ensures,
+      c .before .before .before .before .value .ensures,
+      side-meant o (c .before .before .opposite .ensures),
+      unequal b-some,
+      encode-decode w (p .pre .values b (p .pre .held 1 (omega arith) b-some)),
+    )
+    (by-code (p .pre) (λ u.
+    nextDone (p .args .hat) (withValueRead u w) (stepNumber (afterRead o (decode w)))))
+
+pub line42-spec : {M : Type 1} → statement M
+line42-spec =
+    tie.close
+    (tie.spec
+    element-copy-out-b
+    refused-requires
+    returns
+    value-requires
+    reading-requires
+    opposite-requires
+    after-read-requires
+    next-requires
+    returns-2)

@@ -1,0 +1,35 @@
+-- `line_unspur::line68` meets its contract: it tests A's node for Y.
+use Rattle.machine.specs.Sides.{sideOf}
+use Rattle.machine.specs.Values.{Y}
+use Rattle.machine.specs.Steps.{line69}
+use Rattle.machine.specs.Lines.{act, back}
+use Rattle.machine.proofs.Words.ValueLaws.{Y-mark, mark-has-word, mark-value-ok}
+use Rattle.table_record.specs.Coded.{taskMeant}
+use Rattle.line_parts.specs.Lent.{lineOf}
+use Rattle.line_parts.proofs.Laws.Shapes.{by-mark}
+use borrow.Author.Needs.{needs}
+use Rattle.line_unspur.proofs.line68.Statement.{statement}
+use Rattle.line_unspur.proofs.line68.Tie as tie
+
+y-of-requires : tie.Need-y-of-requires
+y-of-requires c κs = search needs
+
+back-requires : tie.Need-back-requires
+back-requires c κs = search needs
+
+by-mark-requires : tie.Need-by-mark-requires
+by-mark-requires c κs =
+    let p = c .before .before .before in
+    (p .pre, rw (c .before .y-of .ensures) (mark-value-ok {s = sideOf (p .args .t .side)} Y-mark))
+
+returns : tie.Need-returns
+unfolding lineOf act
+returns c g f =
+    let p = c .before .before .before .before in
+    let t = p .args .t in
+    let s = sideOf (t .side) in
+    rw (c .by-mark .ensures, c .before .back .ensures, c .before .before .y-of .ensures, mark-has-word {s = s} Y-mark)
+    (by-mark (p .pre) (p .args .hat) (Y s) line69 (back (taskMeant t)))
+
+pub line68-spec : {M : Type 1} → statement M
+line68-spec = tie.close (tie.spec y-of-requires back-requires by-mark-requires returns)

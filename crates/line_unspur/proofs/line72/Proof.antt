@@ -1,0 +1,71 @@
+-- `line_unspur::line72` meets its contract: the swap writes the hat and no node.
+use lib.ListN.{getD}
+use Rattle.machine.specs.Choice.{_≟_}
+use Rattle.machine.specs.Sides.{sideOf}
+use Rattle.machine.specs.Steps.{stepNumber}
+use Rattle.machine.specs.Lines.{act, back}
+use Rattle.machine.proofs.Basics.Choices.{equal, unequal}
+use Rattle.table_record.specs.Coded.{taskMeant}
+use Rattle.line_parts.specs.Lent.{lineOf, nextDone, refusedDone, hatAfter}
+use Rattle.line_parts.proofs.Laws.Ready.{by-record}
+use Rattle.line_parts.proofs.Laws.Chosen.{swapped, hat-swapped, no-node-written}
+use borrow.Author.Needs.{needs}
+use Rattle.line_unspur.proofs.line72.Statement.{statement}
+use Rattle.line_unspur.proofs.line72.Tie as tie
+
+element-copy-out-a : tie.Need-element-copy-out-a
+element-copy-out-a c = search needs
+
+element-copy-out-c : tie.Need-element-copy-out-c
+element-copy-out-c c = search needs
+
+refused-requires : tie.Need-refused-requires
+refused-requires c κs = search needs
+
+returns : tie.Need-returns
+unfolding lineOf act
+returns c ns g f =
+    let p = c .before .before .before .before in
+    rw (c .refused .ensures, equal (c .before .if1 .taken)) (by-record (p .pre) ns (refusedDone (p .args .hat)))
+
+either-requires : tie.Need-either-requires
+either-requires c κs = search needs
+
+back-requires : tie.Need-back-requires
+back-requires c κs = search needs
+
+next-requires : tie.Need-next-requires
+next-requires c κs = search needs
+
+returns-2 : tie.Need-returns-2
+unfolding lineOf act
+returns-2 c ns g f =
+    let p = c .before .before .before .before .before .before in
+    let t = p .args .t2 in
+    let h = p .args .hat in
+    let a = getD (t .registers) 0 0 in
+    let x = getD (t .registers) 2 0 in
+    let hat-after = hatAfter (swapped h a x (h ≟ a)) h in
+    let step = stepNumber (back (taskMeant t)) in
+    rw (
+      c .next .ensures,
+      c .before .back .ensures,
+      c .before .before .either .ensures,
+      unequal (c .before .before .before .if1 .left),
+      hat-swapped h a x,
+      no-node-written h a x (sideOf (t .side)) ns,
+    )
+    (by-record (p .pre) ns (λ u. nextDone hat-after u step))
+
+pub line72-spec : {M : Type 1} → statement M
+line72-spec =
+    tie.close
+    (tie.spec
+    element-copy-out-a
+    element-copy-out-c
+    refused-requires
+    returns
+    either-requires
+    back-requires
+    next-requires
+    returns-2)

@@ -1,0 +1,189 @@
+-- The calls over the right machine are those of the definitions.
+use mathlib.Core.Path.{_≡_, refl, ap, _∙_, fun-ext}
+use mathlib.Core.Bool.{Bool, true, false}
+use mathlib.Core.List.{List, [], _∷_}
+use mathlib.Core.Option.{Option, some, none as nothing}
+use Prim.Native.Nat.{ℕ, zero, suc}
+use lib.ListN.{drop}
+use Rattle.machine.specs.declared.Answer.the-variants.{Refused}
+use Rattle.machine.specs.declared.Stored.{Stored}
+use Rattle.machine.specs.Allocate.{allocate}
+use Rattle.machine.specs.Lines.{act}
+use Rattle.machine.specs.Answers.{answerLength, refusalOf, isGoing, dispatchGoesOn}
+use Rattle.machine.specs.Calls.{
+  tableRefusal,
+  runRefusal,
+  panelRefusal,
+  begin,
+  Ticked,
+  effectOf,
+  tickOn,
+  tick,
+  ticks,
+  dispatchTo,
+  dispatchOn,
+  Dispatched,
+  dispatch,
+  dispatches,
+  wentOn,
+  RunDone,
+  afterTick,
+  stopped,
+  runOn,
+  tested,
+  run,
+  panel,
+}
+use Rattle.machine.specs.Demand3.{
+  Call,
+  start-call,
+  begin-call,
+  tick-call,
+  ticks-call,
+  dispatch-call,
+  dispatches-call,
+  run-call,
+  panel-call,
+  read-call,
+  given,
+  after,
+}
+use Rattle.machine_refuted.specs.Machines.{
+  Ticks,
+  beginBy,
+  tickOnBy,
+  dispatchToBy,
+  dispatchChoosing,
+  inRow,
+  tickBy,
+  ticksBy,
+  Turns,
+  RowDone,
+  turnsInRow,
+  dispatchBy,
+  dispatchesBy,
+  runOnBy,
+  testedBy,
+  runBy,
+  panelBy,
+  rightMachine,
+  givenBy,
+  afterBy,
+}
+
+pub same-tick-on : (ws : List ℕ) (k h : ℕ) → tickOnBy act allocate ws k h ≡ tickOn ws k h
+unfolding tickOnBy tickOn effectOf
+same-tick-on ws k h = refl
+
+pub same-tick : (ws : List ℕ) (k h : ℕ) → tickBy rightMachine ws k h ≡ tick ws k h
+unfolding tickBy tick
+same-tick ws k h =
+    ap
+    (λ one. elim (tableRefusal ws nothing) as (λ _. Ticked) [
+      | some n ↦ record { answer = Refused n; words = ws }
+      | nothing ↦ one
+    ])
+    (same-tick-on ws k h)
+
+in-row-of-ticks : (n : ℕ) (ws : List ℕ) (k h : ℕ) → inRow tick n ws k h ≡ ticks n ws k h
+unfolding inRow ticks
+in-row-of-ticks zero ws k h = refl
+in-row-of-ticks (suc n) ws k h =
+    ap
+    (λ others. elim (isGoing (tick ws k h .answer)) as (λ _. Ticked) [ true ↦ others | false ↦ tick ws k h ])
+    (in-row-of-ticks n (tick ws k h .words) k h)
+
+pub same-ticks : (n : ℕ) (ws : List ℕ) (k h : ℕ) → ticksBy rightMachine n ws k h ≡ ticks n ws k h
+unfolding ticksBy
+same-ticks n ws k h =
+    ap (λ (one : Ticks). inRow one n ws k h) (fun-ext (λ vs. fun-ext (λ j. fun-ext (λ i. same-tick vs j i))))
+    ∙ in-row-of-ticks n ws k h
+
+pub same-dispatch : (ws : List ℕ) (h : ℕ) → dispatchBy rightMachine ws h ≡ dispatch ws h
+unfolding dispatchBy dispatchChoosing dispatchToBy dispatch dispatchOn dispatchTo tickOnBy tickOn effectOf
+same-dispatch ws h = refl
+
+-- Dispatches in a row, with how many went on.
+abbrev pub rowOf : (n : ℕ) (ws : List ℕ) (h : ℕ) → RowDone
+rowOf n ws h = record { last = dispatches n ws h; wentOn = wentOn n ws h }
+
+row-of-dispatches : (n : ℕ) (ws : List ℕ) (h : ℕ) → turnsInRow dispatch n ws h ≡ rowOf n ws h
+unfolding turnsInRow dispatches wentOn
+row-of-dispatches zero ws h = refl
+row-of-dispatches (suc n) ws h =
+    go (dispatchGoesOn (dispatch ws h .answer)) refl (row-of-dispatches n (dispatch ws h .words) h)
+  where
+    vs : List ℕ
+    vs = dispatch ws h .words
+
+    go : (b : Bool) → dispatchGoesOn (dispatch ws h .answer) ≡ b → turnsInRow dispatch n vs h ≡ rowOf n vs h
+        → turnsInRow dispatch (suc n) ws h ≡ rowOf (suc n) ws h
+    go true e others =
+        rw (e, turnsInRow, dispatches, wentOn)
+        (ap (λ (r : RowDone). record { last = r .last; wentOn = suc (r .wentOn) }) others)
+    go false e others = rw (e, turnsInRow, dispatches, wentOn)
+
+pub same-dispatches : (n : ℕ) (ws : List ℕ) (h : ℕ) → dispatchesBy rightMachine n ws h ≡ rowOf n ws h
+unfolding dispatchesBy
+same-dispatches n ws h =
+    ap (λ (one : Turns). turnsInRow one n ws h) (fun-ext (λ vs. fun-ext (λ i. same-dispatch vs i)))
+    ∙ row-of-dispatches n ws h
+
+pub same-begin : (ws : List ℕ) (k l op side : ℕ) (argument : Stored)
+    → beginBy rightMachine ws k l op side argument ≡ begin ws k l op side argument
+unfolding beginBy begin
+same-begin ws k l op side argument = refl
+
+-- What a run does after its first tick.
+runs-on : Ticked → (ws answers : List ℕ) → (Ticked → RunDone) → RunDone
+runs-on one ws answers others =
+    elim (refusalOf (one .answer)) as (λ _. RunDone) [
+      | some n ↦ stopped n ws answers
+      | nothing ↦ afterTick (one .answer) (others one)
+    ]
+
+pub same-run-on : (list ws answers : List ℕ) → runOnBy rightMachine list ws answers ≡ runOn list ws answers
+unfolding runOnBy runOn runs-on
+same-run-on [] ws answers = refl
+same-run-on (k ∷ []) ws answers = refl
+same-run-on (k ∷ h ∷ list) ws answers =
+    ap (λ one. runs-on one ws answers (λ t. runOnBy rightMachine list (t .words) (drop answerLength answers)))
+    (same-tick-on ws k h)
+    ∙ ap (λ others. runs-on (tickOn ws k h) ws answers (λ t. others))
+    (same-run-on list (tickOn ws k h .words) (drop answerLength answers))
+
+module _ (ws list answers : List ℕ) where
+  same-tested : (r : Option ℕ) → testedBy rightMachine r ws list answers ≡ tested r ws list answers
+  same-tested (some n) = refl
+  same-tested nothing = same-run-on list ws answers
+
+  pub same-run : runBy rightMachine ws list answers ≡ run ws list answers
+  unfolding runBy run
+  same-run = same-tested (runRefusal ws list answers)
+
+  pub same-panel : panelBy rightMachine ws list answers ≡ panel ws list answers
+  unfolding panelBy panel
+  same-panel = same-tested (panelRefusal ws list answers)
+
+-- Every call gives back the same and leaves the same table.
+pub right-gives : (c : Call) (ws : List ℕ) → givenBy rightMachine c ws ≡ given c ws
+right-gives (start-call S T g lanes) ws = refl
+right-gives (begin-call k l op side argument) ws = ap (λ c. c .reply) (same-begin ws k l op side argument)
+right-gives (tick-call k h) ws = ap (λ one. one .answer) (same-tick ws k h)
+right-gives (ticks-call k h times) ws = ap (λ one. one .answer) (same-ticks times ws k h)
+right-gives (dispatch-call h) ws = ap (λ d. d .answer) (same-dispatch ws h)
+right-gives (dispatches-call h times) ws = ap (λ r. (r .last .answer, r .wentOn)) (same-dispatches times ws h)
+right-gives (run-call list answers) ws = ap (λ r. (r .ran, r .answers)) (same-run ws list answers)
+right-gives (panel-call list answers) ws = ap (λ r. (r .ran, r .answers)) (same-panel ws list answers)
+right-gives (read-call l out) ws = refl
+
+pub right-leaves : (c : Call) (ws : List ℕ) → afterBy rightMachine c ws ≡ after c ws
+right-leaves (start-call S T g lanes) ws = refl
+right-leaves (begin-call k l op side argument) ws = ap (λ c. c .words) (same-begin ws k l op side argument)
+right-leaves (tick-call k h) ws = ap (λ one. one .words) (same-tick ws k h)
+right-leaves (ticks-call k h times) ws = ap (λ one. one .words) (same-ticks times ws k h)
+right-leaves (dispatch-call h) ws = ap (λ d. d .words) (same-dispatch ws h)
+right-leaves (dispatches-call h times) ws = ap (λ r. r .last .words) (same-dispatches times ws h)
+right-leaves (run-call list answers) ws = ap (λ r. r .words) (same-run ws list answers)
+right-leaves (panel-call list answers) ws = ap (λ r. r .words) (same-panel ws list answers)
+right-leaves (read-call l out) ws = refl

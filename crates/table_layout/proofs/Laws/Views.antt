@@ -1,0 +1,113 @@
+-- The parts of the table that the code lends and reads: the nodes' words, with each link and value, and a task's record.
+use mathlib.Core.Path.{_≡_, sym, ap, _∙_}
+use mathlib.Core.List.{List, []}
+use Prim.Native.Nat.{ℕ, _+_, _*_, _-_, _≤_, _<_}
+use native.Mathlib.Nat.{add-assoc}
+use native.Mathlib.Omega.{arith}
+use lib.ListN.{length, getD, drop, length-drop, List·getD-eq-default}
+use lib.Seq.{getD-take, getD-drop, length-take-le}
+use borrow.Rule.Slice.PartMut.{midOf}
+use Rattle.machine.specs.Choice.{_<?_, if_then_else_}
+use Rattle.machine.specs.Sides.{Side, left, right, sideNumber}
+use Rattle.machine.specs.Values.{never, encode, decode}
+use Rattle.machine.specs.Tasks.{none, fresh, taskOf}
+use Rattle.machine.specs.Table.{
+  headerLength,
+  nodeLength,
+  nodeAt,
+  nodeCount,
+  taskCount,
+  valueAt,
+  linkWord,
+  valueWords,
+  link,
+  value,
+  recordWords,
+  task,
+  linksLength,
+}
+use Rattle.machine.proofs.Basics.Choices.{if-yes}
+use Rattle.machine.proofs.Words.ValueLaws.{stored-alike}
+use Rattle.machine.proofs.Words.Columns.{sizesOf, Sized}
+use Rattle.table_record.specs.Coded.{structOf, taskMeant}
+use Rattle.table_layout.specs.Words.{HoldsNode, linkIn, storedIn}
+use Rattle.table_layout.proofs.Laws.NodeWords.{any-default}
+
+-- The words of the nodes.
+abbrev pub nodesOf : List ℕ → List ℕ
+nodesOf ws = midOf headerLength (nodeLength * nodeCount ws) ws
+
+-- As the code lends it: from the header's end to the place after the nodes.
+pub nodes-part :
+    (ws : List ℕ) {e : ℕ} → e ≡ nodeAt (nodeCount ws) → midOf headerLength (e - headerLength) ws ≡ nodesOf ws
+nodes-part ws {e} h = let n : e - headerLength ≡ nodeLength * nodeCount ws = omega arith in ap (λ (n : ℕ). midOf headerLength n ws) n
+
+side-word : (s : Side) → sideNumber s < 2
+side-word left = omega arith
+side-word right = omega arith
+
+-- A node's words, in the table and in a part of it from the header on.
+module _
+    (ws : List ℕ)
+    (n x : ℕ)
+    (in-part : nodeLength * x + nodeLength ≤ n)
+    (in-table : nodeAt x + nodeLength ≤ length ws) where
+  part-word :
+      (c d : ℕ) → c < nodeLength → getD ws (nodeAt x + c) 0 ≡ getD (midOf headerLength n ws) (nodeLength * x + c) d
+  part-word c d l =
+      let i = nodeLength * x + c in
+      ap (λ (j : ℕ). getD ws j 0) (add-assoc headerLength (nodeLength * x) c)
+      ∙ any-default ws (headerLength + i) 0 d (omega arith)
+      ∙ sym (getD-drop headerLength ws i d)
+      ∙ sym (getD-take n (drop headerLength ws) i d (omega arith))
+
+  pub link-there : (s : Side) → linkWord ws s x ≡ linkIn (midOf headerLength n ws) s x
+  link-there s = part-word (sideNumber s) none (let q = side-word s in omega arith)
+
+  pub value-there : valueWords ws x ≡ storedIn (midOf headerLength n ws) x
+  value-there =
+      stored-alike (midOf headerLength n ws) ws (valueAt x) (nodeLength * x + linksLength) (λ c h.
+      ap (λ (j : ℕ). getD ws j 0) (add-assoc (nodeAt x) linksLength c)
+      ∙ part-word (linksLength + c) 0 (omega arith)
+      ∙ ap (λ (j : ℕ). getD (midOf headerLength n ws) j 0) (sym (add-assoc (nodeLength * x) linksLength c)))
+
+module _ (ws : List ℕ) (sized : Sized (sizesOf ws)) where
+  pub nodes-long : length (nodesOf ws) ≡ nodeLength * nodeCount ws
+  nodes-long =
+      length-take-le (nodeLength * nodeCount ws) (drop headerLength ws) (let e = length-drop headerLength ws in omega arith)
+
+  past-end : (x c d : ℕ) → nodeCount ws ≤ x → getD (nodesOf ws) (nodeLength * x + c) d ≡ d
+  past-end x c d h = List·getD-eq-default (nodesOf ws) d {n = nodeLength * x + c} (let e = nodes-long in omega arith)
+
+  pub node-held : (x : ℕ) → x < nodeCount ws → HoldsNode (nodesOf ws) x
+  node-held x h = let e = nodes-long in omega arith
+
+  pub held-node : (x : ℕ) → HoldsNode (nodesOf ws) x → x < nodeCount ws
+  held-node x h = let e = nodes-long in omega arith
+
+  pub words-in : (x : ℕ) → x < nodeCount ws → valueWords ws x ≡ storedIn (nodesOf ws) x
+  words-in x h = value-there ws (nodeLength * nodeCount ws) x (omega arith) (omega arith)
+
+  pub link-in : (s : Side) (x : ℕ) → link ws s x ≡ linkIn (nodesOf ws) s x
+  unfolding link
+  link-in s x = go (x <? nodeCount ws)
+    where
+      go : (d : Dec (x < nodeCount ws)) → (if d then linkWord ws s x else none) ≡ linkIn (nodesOf ws) s x
+      go (yes h) = link-there ws (nodeLength * nodeCount ws) x (omega arith) (omega arith) s
+      go (no h) = sym (past-end x (sideNumber s) none (omega arith))
+
+  pub value-in : (x : ℕ) → value ws x ≡ decode (storedIn (nodesOf ws) x)
+  unfolding value
+  value-in x = ap decode (go (x <? nodeCount ws))
+    where
+      go : (d : Dec (x < nodeCount ws)) → (if d then valueWords ws x else encode never) ≡ storedIn (nodesOf ws) x
+      go (yes h) = words-in x h
+      go (no h) =
+          stored-alike (nodesOf ws) [] 0 (nodeLength * x + linksLength) (λ c l.
+          sym (List·getD-eq-default (nodesOf ws) 0 {n = nodeLength * x + linksLength + c} (let e = nodes-long in omega arith)))
+
+-- ---- A task's record.
+pub task-read : (ws : List ℕ) (k : ℕ) → k < taskCount ws
+    → taskMeant (structOf (recordWords ws k)) ≡ task ws k
+unfolding task
+task-read ws k h = sym (if-yes (k <? taskCount ws) (taskOf (recordWords ws k)) fresh h)

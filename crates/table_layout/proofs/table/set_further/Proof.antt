@@ -1,0 +1,69 @@
+-- `table_layout::table::set_further` meets its contract: the part written is the record.
+use mathlib.Core.Path.{refl, sym, ap, _∙_, subst}
+use mathlib.Core.List.{List}
+use Prim.Native.Nat.{ℕ, _+_, _-_}
+use borrow.Rule.Slice.PartMut.{putMid}
+use Rattle.machine.specs.Tasks.{recordLength}
+use Rattle.table_record.specs.Coded.{structOf, recordOf, SameCall}
+use Rattle.table_layout.proofs.Laws.RecordParts.{record-part, record-part-long, record-put}
+use borrow.Author.Needs.{needs}
+use Rattle.table_layout.proofs.table.set_further.Statement.{statement}
+use Rattle.table_layout.proofs.table.set_further.Tie as tie
+
+slice-read-record-at : tie.Need-slice-read-record-at
+slice-read-record-at c = search needs
+
+record-at-requires : tie.Need-record-at-requires
+record-at-requires c κs = search needs
+
+add-write-further : tie.Need-add-write-further
+add-write-further c = search needs
+
+mul-write-further : tie.Need-mul-write-further
+mul-write-further c = search needs
+
+sub-write-further : tie.Need-sub-write-further
+sub-write-further c = search needs
+
+part-write-further-start : tie.Need-part-write-further-start
+part-write-further-start c = search needs
+
+part-write-further-end : tie.Need-part-write-further-end
+part-write-further-end c = search needs
+
+write-further-requires : tie.Need-write-further-requires
+write-further-requires c κs =
+    let r = c .before in
+    let s = r .before .before .before in
+    let a = s .args in (
+      record-part-long (a .table .now) (r .record-at .ensures) (s .pre .0),
+      subst (λ (l : List ℕ). SameCall (structOf l) (a .new)) (sym (record-part (a .table .now) (r .record-at .ensures)))
+          (s .pre .1),
+    )
+
+same-length : tie.Need-same-length
+same-length c = search needs
+
+returns : tie.Need-returns
+returns c =
+    let w = c .before .before in
+    let r = w .before .before in
+    let s = r .before .before .before in
+    let at = r .record-at .result in
+    ap (putMid at (at + recordLength - at) (s .args .table .now)) (w .write-further .ensures)
+    ∙ record-put (s .args .table .now) (recordOf (s .args .new)) (r .record-at .ensures) refl (s .pre .0)
+
+pub set-further-spec : {M : Type 1} → statement M
+set-further-spec =
+    tie.close
+    (tie.spec
+    slice-read-record-at
+    record-at-requires
+    add-write-further
+    mul-write-further
+    sub-write-further
+    part-write-further-start
+    part-write-further-end
+    write-further-requires
+    same-length
+    returns)

@@ -1,0 +1,55 @@
+// The nodes' words: the part of the table between the header and the tasks.
+use crate::places::NODE_WORDS;
+use crate::places::VALUE;
+use machine::Stored;
+ghost use mathlib.Core.Path.{_≡_};
+ghost use Prim.Native.Nat.{_<_};
+ghost use Rattle.machine.specs.Sides.{sideOf};
+ghost use Rattle.table_layout.specs.Words.{HoldsNode, linkIn, setLinkIn, storedIn, setStoredIn, setNodeIn};
+
+// The link of node x on a side: 0 for L, 1 for R.
+pub fn link(nodes: &[u32], side: u32, x: u32) -> u32
+    requires { ⌜ HoldsNode (now nodes) x × (side < 2) ⌝ }
+    ensures { λ r. ⌜ r ≡ linkIn (now (nodes .entry)) (sideOf side) x ⌝ }
+{
+    nodes[NODE_WORDS * (x as usize) + (side as usize)]
+}
+
+pub fn set_link(nodes: &mut [u32], side: u32, x: u32, y: u32)
+    requires { ⌜ HoldsNode (now nodes) x × (side < 2) ⌝ }
+    ensures { λ r. ⌜ now (nodes .exit) ≡ setLinkIn (now (nodes .entry)) (sideOf side) x y ⌝ }
+{
+    nodes[NODE_WORDS * (x as usize) + (side as usize)] = y;
+}
+
+pub fn value(nodes: &[u32], x: u32) -> Stored
+    requires { ⌜ HoldsNode (now nodes) x ⌝ }
+    ensures { λ r. ⌜ r ≡ storedIn (now (nodes .entry)) x ⌝ }
+{
+    let at = NODE_WORDS * (x as usize) + VALUE;
+    Stored {
+        word: nodes[at],
+        digit: nodes[at + 1],
+    }
+}
+
+pub fn set_value(nodes: &mut [u32], x: u32, v: Stored)
+    requires { ⌜ HoldsNode (now nodes) x ⌝ }
+    ensures { λ r. ⌜ now (nodes .exit) ≡ setStoredIn (now (nodes .entry)) x v ⌝ }
+{
+    let at = NODE_WORDS * (x as usize) + VALUE;
+    nodes[at] = v.word;
+    nodes[at + 1] = v.digit;
+}
+
+// All the words of a node.
+pub fn write(nodes: &mut [u32], x: u32, l: u32, r: u32, v: Stored)
+    requires { ⌜ HoldsNode (now nodes) x ⌝ }
+    ensures { λ _. ⌜ now (nodes .exit) ≡ setNodeIn (now (nodes .entry)) x l r v ⌝ }
+{
+    let at = NODE_WORDS * (x as usize);
+    nodes[at] = l;
+    nodes[at + 1] = r;
+    nodes[at + VALUE] = v.word;
+    nodes[at + VALUE + 1] = v.digit;
+}

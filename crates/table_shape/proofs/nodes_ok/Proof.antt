@@ -1,0 +1,108 @@
+-- The invariant: the flag is the test of all nodes below the loop's number, and what is left are the words from there on.
+use mathlib.Core.Path.{_≡_, ap, sym, _∙_}
+use Prim.Native.Nat.{_+_, _-_, _≤_}
+use native.Mathlib.Omega.{arith}
+use lib.ListN.{length, drop}
+use Rattle.machine.specs.Table.{headerLength, nodeLength, nodeAt, nodeCount}
+use Rattle.machine.specs.Shape.{allBelow, nodeOk}
+use Rattle.machine.proofs.Shape.ShapeLaws.{well-sized}
+use Rattle.table_shape.specs.Contracts.{firstOk}
+use Rattle.table_shape.proofs.Laws.TableWords.{header-long}
+use Rattle.table_shape.proofs.Laws.Below.{none-below, one-tested}
+use Rattle.table_shape.proofs.Laws.FirstNode.{node-first, moved-on, left-long, next-left}
+use borrow.Author.Needs.{needs}
+use Rattle.table_shape.proofs.nodes_ok.Statement.{statement}
+use Rattle.table_shape.proofs.nodes_ok.Tie as tie
+
+abbrev Inv-loop : tie.InvT-loop
+Inv-loop t n rest₀ ok₀ x₀ rest ok x =
+    (x ≤ nodeCount t) × (ok ≡ allBelow x (nodeOk t)) × (rest ≡ drop (nodeAt x) t)
+
+abbrev μ-loop : tie.MeasureT-loop
+μ-loop t n rest₀ ok₀ x₀ rest ok x = nodeCount t - x
+
+shared-slice-read-n : tie.Need-shared-slice-read-n Inv-loop μ-loop
+shared-slice-read-n c = omega (arith, header-long (c .before .before .args .table .now) (c .before .before .pre))
+
+sub-rest : tie.Need-sub-rest Inv-loop μ-loop
+sub-rest c = header-long (c .before .before .args .table .now) (c .before .before .pre)
+
+part-rest-start : tie.Need-part-rest-start Inv-loop μ-loop
+part-rest-start c = header-long (c .before .before .args .table .now) (c .before .before .pre)
+
+part-rest-end : tie.Need-part-rest-end Inv-loop μ-loop
+part-rest-end c = search needs
+
+loop-holds : tie.Need-loop-holds Inv-loop μ-loop
+loop-holds c =
+    let t = c .before .before .before .args .table .now in
+    (omega arith, sym (none-below (nodeOk t)), moved-on t headerLength)
+
+-- The node that the words left begin with stands in the table.
+node-within :
+    (c : tie.In-loop Inv-loop μ-loop)
+    → nodeAt (c .before .loop .x) + nodeLength ≤ length (c .before .before .before .before .before .args .table .now)
+node-within c =
+    let s = c .before .before .before .before .before in
+    omega (arith, well-sized (s .args .table .now) (s .pre))
+
+words-left : (c : tie.In-loop Inv-loop μ-loop) → nodeLength ≤ length (c .before .loop .rest .now)
+words-left c =
+    let t = c .before .before .before .before .before .args .table .now in
+    let l = c .before .loop in
+    left-long t (l .x) (l .inv .2) (node-within c)
+
+node-ok-requires : tie.Need-node-ok-requires Inv-loop μ-loop
+node-ok-requires c κs = words-left c
+
+sub-rest-2 : tie.Need-sub-rest-2 Inv-loop μ-loop
+sub-rest-2 c = words-left (c .before)
+
+part-rest-start-2 : tie.Need-part-rest-start-2 Inv-loop μ-loop
+part-rest-start-2 c = words-left (c .before)
+
+part-rest-end-2 : tie.Need-part-rest-end-2 Inv-loop μ-loop
+part-rest-end-2 c = search needs
+
+add-x : tie.Need-add-x Inv-loop μ-loop
+add-x c =
+    let s = c .before .before .before .before .before .before .before in
+    omega (arith, well-sized (s .args .table .now) (s .pre))
+
+loop-less : tie.Need-loop-less Inv-loop μ-loop
+loop-less c = omega arith
+
+loop-again : tie.Need-loop-again Inv-loop μ-loop
+loop-again c =
+    let turn = c .before .before in
+    let t = turn .before .before .before .before .before .args .table .now in
+    let l = turn .before .loop in
+    let tested = c .before .node-ok .ensures ∙ ap (firstOk (nodeCount t)) (l .inv .2) ∙ sym (node-first t (l .x) (node-within turn)) in
+    (omega arith, one-tested (nodeOk t) (l .x) (l .inv .1) tested, next-left t (l .x) (l .inv .2))
+
+returns : tie.Need-returns Inv-loop μ-loop
+returns c =
+    let t = c .before .before .before .before .before .args .table .now in
+    let l = c .before .loop in
+    let e : l .x ≡ nodeCount t = omega arith in
+    l .inv .1 ∙ ap (λ n. allBelow n (nodeOk t)) e
+
+pub nodes-ok-spec : {M : Type 1} → statement M
+nodes-ok-spec =
+    tie.close
+    (tie.spec
+    Inv-loop
+    μ-loop
+    shared-slice-read-n
+    sub-rest
+    part-rest-start
+    part-rest-end
+    loop-holds
+    node-ok-requires
+    sub-rest-2
+    part-rest-start-2
+    part-rest-end-2
+    add-x
+    loop-less
+    loop-again
+    returns)

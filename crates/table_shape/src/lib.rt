@@ -1,0 +1,195 @@
+// Which tables are accepted: the tests of refusals 3 and 4, for a slice of any words.
+pub mod records;
+
+use table_layout::nodes;
+use table_layout::places::DISPATCHED;
+use table_layout::places::GROWTH;
+use table_layout::places::HATS;
+use table_layout::places::HEADER;
+use table_layout::places::LANE_COUNT;
+use table_layout::places::LEAST_LENGTH;
+use table_layout::places::NODE_COUNT;
+use table_layout::places::NODE_WORDS;
+use table_layout::places::TASK_COUNT;
+use table_layout::places::WORD_14;
+use table_layout::places::WORD_15;
+use table_layout::places::table_length;
+use table_layout::table::task;
+use table_record::Task;
+use table_steps::owners::Owners;
+use table_values::value_ok;
+ghost use mathlib.Core.Path.{_≡_};
+ghost use mathlib.Core.Bool.{true};
+ghost use mathlib.Core.Option.{none as nothing};
+ghost use Prim.Native.Nat.{_≤_, _<_};
+ghost use lib.ListN.{length};
+ghost use Rattle.machine.specs.Table.{headerLength, nodeLength, nodeCount, taskCount, mostLanes};
+ghost use Rattle.machine.specs.Shape.{
+  lanesOk,
+  sizesOk,
+  lengthOk,
+  headerOk,
+  nodeOk,
+  allBelow,
+  shapeOk,
+};
+ghost use Rattle.machine.specs.Calls.{tableRefusal};
+ghost use Rattle.table_layout.specs.Words.{HoldsRecord};
+ghost use Rattle.answers.specs.Refusals.{numberOf};
+ghost use Rattle.table_shape.specs.Contracts.{firstOk, hatsOk, taskOk};
+ghost use Rattle.table_steps.specs.Owners.{OwnersOk};
+
+// 02: one to four lanes.
+pub fn lanes_ok(lanes: u32) -> bool
+    ensures { λ r. ⌜ r ≡ lanesOk lanes ⌝ }
+{
+    (1 <= lanes) & (lanes <= 4)
+}
+
+// 01: S slots (2 to 1,024), T tasks (1 to 16), growth (0 to 64). 02: S is at least twice the lanes.
+pub fn sizes_ok(slots: u32, tasks: u32, growth: u32, lanes: u32) -> bool
+    ensures { λ r. ⌜ r ≡ sizesOk slots tasks growth lanes ⌝ }
+{
+    lanes <= slots / 2 && slots <= 1_024 && 1 <= tasks && tasks <= 16 && growth <= 64
+}
+
+// Refusal 3: under 37 words, header S, T, growth or (02) lanes out of range, or length not matching.
+pub fn length_ok(table: &[u32]) -> bool
+    ensures { λ r. ⌜ r ≡ lengthOk (now (table .entry)) ⌝ }
+{
+    if table.len() < LEAST_LENGTH {
+        return false;
+    }
+    if !lanes_ok(table[LANE_COUNT]) {
+        return false;
+    }
+    if !sizes_ok(
+        table[NODE_COUNT],
+        table[TASK_COUNT],
+        table[GROWTH],
+        table[LANE_COUNT],
+    ) {
+        return false;
+    }
+    table.len() == table_length(table[NODE_COUNT], table[TASK_COUNT])
+}
+
+// 01: hats are below S. 02: unused ones none. Those of lane l.
+fn hats_ok(table: &[u32], l: u32) -> bool
+    requires { ⌜ (headerLength ≤ length (now table)) × (l < mostLanes) ⌝ }
+    ensures { λ r. ⌜ r ≡ hatsOk (now (table .entry)) l ⌝ }
+{
+    let at = HATS + 2 * (l as usize);
+    if l < table[LANE_COUNT] {
+        let slots = table[NODE_COUNT];
+        return (table[at] < slots) & (table[at + 1] < slots);
+    }
+    (table[at] == Task::NONE) & (table[at + 1] == Task::NONE)
+}
+
+// The hats of every lane.
+fn all_hats_ok(table: &[u32]) -> bool
+    requires { ⌜ headerLength ≤ length (now table) ⌝ }
+    ensures { λ r. ⌜ r ≡ allBelow mostLanes (hatsOk (now (table .entry))) ⌝ }
+{
+    let mut l = 0;
+    while l < 4 {
+        if !hats_ok(table, l) {
+            return false;
+        }
+        l += 1;
+    }
+    true
+}
+
+// 02: the task last dispatched is below T, and the last two words are 0.
+pub fn header_ok(table: &[u32]) -> bool
+    requires { ⌜ headerLength ≤ length (now table) ⌝ }
+    ensures { λ r. ⌜ r ≡ headerOk (now (table .entry)) ⌝ }
+{
+    table[DISPATCHED] < table[TASK_COUNT]
+        && table[WORD_14] == 0
+        && table[WORD_15] == 0
+        && all_hats_ok(table)
+}
+
+// 01: links and V are as above. Of the node that words begin with.
+fn node_ok(words: &[u32], slots: u32) -> bool
+    requires { ⌜ nodeLength ≤ length (now words) ⌝ }
+    ensures { λ r. ⌜ r ≡ firstOk slots (now (words .entry)) ⌝ }
+{
+    records::node_or_none(slots, nodes::link(words, 0, 0))
+        & records::node_or_none(slots, nodes::link(words, 1, 0))
+        & value_ok(nodes::value(words, 0))
+}
+
+// Every node, in one pass that does not stop at the first that fails: nearly all tables pass, and a loop that always
+// goes on tests several nodes at once. What is left of the words is a slice that moves on: with a node's number
+// instead, the compiler would read each word by itself, and not four in one.
+fn nodes_ok(table: &[u32]) -> bool
+    requires { ⌜ lengthOk (now table) ≡ true ⌝ }
+    ensures { λ r. ⌜ r ≡ allBelow (nodeCount (now (table .entry))) (nodeOk (now (table .entry))) ⌝ }
+{
+    let n = table[NODE_COUNT];
+    let mut rest = &table[HEADER..];
+    let mut ok = true;
+    let mut x = 0;
+    while x < n {
+        ok = ok & node_ok(rest, n);
+        rest = &rest[NODE_WORDS..];
+        x += 1;
+    }
+    ok
+}
+
+// The record of task k.
+fn task_ok(table: &[u32], owners: &Owners, k: u32) -> bool
+    requires { ⌜ HoldsRecord (now table) k × OwnersOk (now owners) ⌝ }
+    ensures { λ r. ⌜ r ≡ taskOk (now (table .entry)) k ⌝ }
+{
+    records::record_ok(
+        owners,
+        task(table, k),
+        table[NODE_COUNT],
+        table[GROWTH],
+        table[LANE_COUNT],
+    )
+}
+
+// The record of every task, in one pass.
+pub fn tasks_ok(table: &[u32]) -> bool
+    requires { ⌜ lengthOk (now table) ≡ true ⌝ }
+    ensures { λ r. ⌜ r ≡ allBelow (taskCount (now (table .entry))) (taskOk (now (table .entry))) ⌝ }
+{
+    let owners = table_steps::owners::owners();
+    let n = table[TASK_COUNT];
+    let mut k = 0;
+    while k < n {
+        if !task_ok(table, &owners, k) {
+            return false;
+        }
+        k += 1;
+    }
+    true
+}
+
+// 01's refusal 4: shape broken.
+pub fn shape_ok(table: &[u32]) -> bool
+    requires { ⌜ lengthOk (now table) ≡ true ⌝ }
+    ensures { λ r. ⌜ r ≡ shapeOk (now (table .entry)) ⌝ }
+{
+    header_ok(table) && nodes_ok(table) && tasks_ok(table)
+}
+
+// The refusal of a table, in the order of 01's list, or 0 for a table that is accepted.
+pub fn table_refusal(table: &[u32]) -> u32
+    ensures { λ r. ⌜ r ≡ numberOf (tableRefusal (now (table .entry)) nothing) ⌝ }
+{
+    if !length_ok(table) {
+        return 3;
+    }
+    if !shape_ok(table) {
+        return 4;
+    }
+    0
+}

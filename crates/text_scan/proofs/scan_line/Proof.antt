@@ -1,0 +1,69 @@
+-- What is left of the line gives what the whole of it gives.
+use Prim.Native.Nat.{_-_}
+use native.Mathlib.Omega.{arith}
+use lib.ListN.{length}
+use Rattle.text_scan.specs.Kept.{keptOf}
+use Rattle.text_scan.proofs.Laws.LineLaws.{
+  line-fed,
+  chunk-ends,
+  Scanning,
+  scanning-starts,
+  scanning-goes-on,
+  scanning-ends,
+}
+use Rattle.text_scan.proofs.scan_line.Statement.{statement}
+use Rattle.text_scan.proofs.scan_line.Tie as tie
+
+abbrev Inv-loop : tie.InvT-loop
+Inv-loop chunk from text₀ numbers₀ scan₀ i₀ text numbers scan i =
+    Scanning chunk from (keptOf text₀ numbers₀ scan₀) (keptOf text numbers scan) i
+
+abbrev μ-loop : tie.MeasureT-loop
+μ-loop chunk from text₀ numbers₀ scan₀ i₀ text numbers scan i = length chunk - i
+
+loop-holds : tie.Need-loop-holds Inv-loop μ-loop
+loop-holds c = scanning-starts _ _ _ (c .before .pre .0) (c .before .pre .1)
+
+shared-slice-read-b : tie.Need-shared-slice-read-b Inv-loop μ-loop
+shared-slice-read-b c = omega arith
+
+returns : tie.Need-returns Inv-loop μ-loop
+returns c =
+    let l = c .before .before .before .loop in
+    let a = c .before .before .before .before .before .args in
+    scanning-ends (l .inv) (line-fed (a .chunk .now) (l .i) (omega arith) (c .if1 .taken))
+
+scan-byte-requires : tie.Need-scan-byte-requires Inv-loop μ-loop
+scan-byte-requires c κs = c .before .before .before .before .before .loop .inv .counts
+
+add-i : tie.Need-add-i Inv-loop μ-loop
+add-i c = omega arith
+
+loop-less : tie.Need-loop-less Inv-loop μ-loop
+loop-less c = omega arith
+
+loop-again : tie.Need-loop-again Inv-loop μ-loop
+loop-again c =
+    let l = c .before .before .before .before .before .before .loop in
+    scanning-goes-on (l .inv) (omega arith) (c .before .before .before .if1 .left) (c .scan-byte .ensures)
+
+returns-2 : tie.Need-returns-2 Inv-loop μ-loop
+returns-2 c =
+    let l = c .before .loop in
+    let a = c .before .before .before .args in
+    scanning-ends (l .inv) (chunk-ends (a .chunk .now) (l .i) (omega arith))
+
+pub scan-line-spec : {M : Type 1} → statement M
+scan-line-spec =
+    tie.close
+    (tie.spec
+    Inv-loop
+    μ-loop
+    loop-holds
+    shared-slice-read-b
+    returns
+    scan-byte-requires
+    add-i
+    loop-less
+    loop-again
+    returns-2)

@@ -1,0 +1,60 @@
+-- The tests of a tick, in 01's order: each refusal, and the tick that passes them all.
+use mathlib.Core.Path.{_≡_, refl, sym, ap, _∙_}
+use mathlib.Core.Bool.{false}
+use mathlib.Core.Logic.{_≢_}
+use mathlib.Core.List.{List}
+use mathlib.Core.Option.{none as nothing}
+use Prim.Native.Nat.{ℕ, zero, suc, _≤_, _<_}
+use native.Mathlib.Decide.{ℕ-discrete}
+use borrow.Author.Tests.{lt-ltb, le-ltb}
+use Rattle.machine.specs.declared.Answer.the-variants.{Refused}
+use Rattle.machine.specs.Operations.{operationOf}
+use Rattle.machine.specs.Tasks.{operationWord}
+use Rattle.machine.specs.Table.{nodeCount, taskCount, recordWords, task}
+use Rattle.machine.specs.Shape.{WellFormed}
+use Rattle.machine.specs.Calls.{isBusy, tableRefusal, Ticked, tickOn, tick, ticks}
+use Rattle.machine.specs.Answers.{isGoing}
+use Rattle.machine.specs.Results.{tickedOf}
+use Rattle.machine.proofs.Words.RunLaws.{first-is-last}
+use Rattle.answers.specs.Refusals.{numberOf}
+use Rattle.tick_once.specs.Steps.{made}
+use Rattle.table_shape.proofs.Laws.PassedTable.{refused, passed, operation-is, busy-task}
+
+-- ---- Refusals 3 and 4 by their number.
+module _ (ws : List ℕ) {n : ℕ} (is-number : n ≡ numberOf (tableRefusal ws nothing)) (k h : ℕ) where
+  pub tick-refused : n ≢ 0 → tickedOf (Refused n) ws ≡ tick ws k h
+  unfolding tick
+  tick-refused r = rw (refused ws is-number r nothing, tick)
+
+  pub tick-goes-on : n ≡ 0 → tickOn ws k h ≡ tick ws k h
+  unfolding tick
+  tick-goes-on e = let P = passed ws is-number e in rw (P .length-passes, P .shape-passes, tick)
+
+  pub ticks-refused : n ≢ 0 → (times : ℕ) → times ≢ 0 → tickedOf (Refused n) ws ≡ ticks times ws k h
+  ticks-refused r zero asked = absurd (asked refl)
+  ticks-refused r (suc m) asked =
+      let e = tick-refused r in
+      e ∙ sym (first-is-last m ws k h (ap (λ (t : Ticked). isGoing (t .answer)) (sym e)))
+
+-- ---- The others, of a table that passes.
+module _ (ws : List ℕ) (P : WellFormed ws) (k h : ℕ) where
+  pub tick-5 : taskCount ws ≤ k → tickedOf (Refused 5) ws ≡ tickOn ws k h
+  unfolding tickOn
+  tick-5 a = rw (le-ltb k (taskCount ws) a, tickOn)
+
+  module _ (is-task : k < taskCount ws) where
+    pub tick-9 : nodeCount ws ≤ h → tickedOf (Refused 9) ws ≡ tickOn ws k h
+    unfolding tickOn
+    tick-9 b = rw (lt-ltb k (taskCount ws) is-task, le-ltb h (nodeCount ws) b, tickOn)
+
+    module _ (is-hint : h < nodeCount ws) where
+      pub tick-10 : operationWord (recordWords ws k) ≡ 0 → tickedOf (Refused 10) ws ≡ tickOn ws k h
+      unfolding tickOn ℕ-discrete
+      tick-10 e =
+          let i : isBusy (task ws k .operation) ≡ false
+          = ap isBusy (operation-is ws P k is-task ∙ ap operationOf e) in
+          rw (lt-ltb k (taskCount ws) is-task, lt-ltb h (nodeCount ws) is-hint, i, tickOn)
+
+      pub tick-passes : operationWord (recordWords ws k) ≢ 0 → made ws k h ≡ tickOn ws k h
+      unfolding tickOn
+      tick-passes n = rw (lt-ltb k (taskCount ws) is-task, lt-ltb h (nodeCount ws) is-hint, busy-task ws P k is-task n, tickOn)

@@ -1,0 +1,87 @@
+// One tick on a table that has passed the tests of refusals 3 and 4.
+use line_choice::line;
+use line_take::line28;
+use line_take::line31;
+use machine::Answer;
+use table_layout::operations::goal_of;
+use table_layout::places::GROWTH;
+use table_layout::places::HEADER;
+use table_layout::places::NODE_COUNT;
+use table_layout::places::TASK_COUNT;
+use table_layout::places::hat_at;
+use table_layout::places::node_at;
+use table_layout::table;
+use table_record::Task;
+use table_search::first_free;
+use tick_store::finish;
+ghost use mathlib.Core.Path.{_≡_};
+ghost use Prim.Native.Nat.{_<_};
+ghost use Rattle.machine.specs.Table.{nodeCount, recordWords};
+ghost use Rattle.machine.specs.Allocate.{allocate};
+ghost use Rattle.machine.specs.Shape.{WellFormed};
+ghost use Rattle.machine.specs.Calls.{tickOn};
+ghost use Rattle.table_record.specs.Coded.{structOf};
+ghost use Rattle.machine.specs.Results.{tickedOf};
+ghost use Rattle.tick_once.specs.Steps.{MayTick, foundAt31, made};
+
+// The node that line 31 takes, or none. The line is refused where D is none, and does not search then.
+fn found_at_31(table: &[u32], old: Task, hint: u32) -> u32
+    requires { ⌜ WellFormed (now table) × (hint < nodeCount (now table)) ⌝ }
+    ensures { λ r. ⌜ r ≡ foundAt31 old (allocate (now (table .entry)) hint) ⌝ }
+{
+    let d = old.registers[Task::D];
+    if d == Task::NONE {
+        return Task::NONE;
+    }
+    first_free(table, hint as usize)
+}
+
+// The tick of the busy task k, whose record is given. Only lines 28 and 31 search for a node, and the search stands
+// beside each: before all lines it would take the processor's registers from the others.
+fn make(table: &mut [u32], k: u32, old: Task, hint: u32) -> Answer
+    requires { ⌜ MayTick (now table) k hint ⌝ }
+    requires { ⌜ old ≡ structOf (recordWords (now table) k) ⌝ }
+    ensures { λ r. ⌜ tickedOf r (now (table .exit)) ≡ made (now (table .entry)) k hint ⌝ }
+{
+    let side = old.side;
+    let argument = old.argument;
+    let goal = goal_of(old.operation, table[GROWTH], argument);
+    let at = hat_at(old.lane, side);
+    let hat = table[at];
+    let end = node_at(table[NODE_COUNT]);
+    let step = old.step;
+    match step {
+        28 => {
+            let found = first_free(table, hint as usize);
+            let done = line28(&mut table[HEADER..end], hat, old, goal, found);
+            finish(table, at, k, done)
+        }
+        31 => {
+            let found = found_at_31(table, old, hint);
+            let done = line31(&mut table[HEADER..end], hat, old, goal, found);
+            finish(table, at, k, done)
+        }
+        _ => {
+            let done = line(&mut table[HEADER..end], hat, old, goal);
+            finish(table, at, k, done)
+        }
+    }
+}
+
+// 01: checks 5, 9, 10, 11.
+pub fn tick_once(table: &mut [u32], task: u32, hint: u32) -> Answer
+    requires { ⌜ WellFormed (now table) ⌝ }
+    ensures { λ r. ⌜ tickedOf r (now (table .exit)) ≡ tickOn (now (table .entry)) task hint ⌝ }
+{
+    if table[TASK_COUNT] <= task {
+        return Answer::Refused(5);
+    }
+    if table[NODE_COUNT] <= hint {
+        return Answer::Refused(9);
+    }
+    let old = table::task(table, task);
+    if old.operation == Task::IDLE {
+        return Answer::Refused(10);
+    }
+    make(table, task, old, hint)
+}
