@@ -81,7 +81,7 @@
  * is refused when it is begun (16). So no table that lane_start began holds a tag twice.
  *
  * TURNS. The caller says whose tick is next, or lets lane_dispatch tick the busy tasks in turn. Both go together: other
- * ticks leave the turn as it is. lane_ticks and lane_dispatches make many of them in a row.
+ * ticks leave the turn as it is. lane_ticks and lane_dispatches make many of them.
  *
  * TAG LISTS. The baggage office sends and wants lists of up to 1,024 tags in packed decimal: ten digits in five bytes,
  * two to a byte, the higher first. lane_tags_read and lane_tags_write take them to two words a tag, as lane_read writes

@@ -246,7 +246,7 @@ fn singly(
     interleaved(rounds, work(&PROVED), work(&RUST))
 }
 
-/// A push and a pop, each a begin and its ticks in a row.
+/// A push and a pop, each a begin and its consecutive ticks.
 fn whole_calls(rounds: usize, load: &Load) -> Figures {
     pushed_and_popped(rounds, load, |program, table| {
         (program.ticks)(table, 0, 0, lane::max_ticks_alone(table[header::NODES]))

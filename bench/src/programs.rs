@@ -9,7 +9,7 @@ pub struct Program {
     pub begin: fn(&mut [u32], u32, u32, u32, u32, u32, u32) -> u32,
     /// One tick with its test of the table's shape.
     pub tick: fn(&mut [u32], u32, u32) -> u64,
-    /// Ticks of one task in a row: task, hint, and how many at most.
+    /// Consecutive ticks of one task: task, hint, and how many at most.
     pub ticks: fn(&mut [u32], u32, u32, u32) -> u64,
     /// One tick of the next busy task.
     pub dispatch: fn(&mut [u32], u32) -> u64,

@@ -63,7 +63,7 @@ fn after(count: u32) -> u32 {
     }
 }
 
-/// Feeds in a row, from a window that is copied afresh outside the time.
+/// Consecutive feeds, from a window that is copied afresh outside the time.
 fn feeding(rounds: usize, words: &[u32]) -> Figures {
     let first = words[3] + 1;
     let feed = move |program: &Program, window: &mut [u32]| {

@@ -419,8 +419,8 @@ static void turns(void) {
     dispatch(ANSWER(LANE_GOING, 0), 1);
 }
 
-/* So many ticks of a task in a row, dispatches if there is no such task; single ones on a copy come to the same. */
-static void in_row(uint32_t task, uint32_t times, uint64_t answer) {
+/* So many consecutive ticks of a task, dispatches if there is no such task; single ones on a copy come to the same. */
+static void consecutive(uint32_t task, uint32_t times, uint64_t answer) {
     static uint32_t copy[WORDS];
     uint32_t hint = 5;
     uint64_t single = ANSWER(LANE_GOING, 0), last;
@@ -433,46 +433,46 @@ static void in_row(uint32_t task, uint32_t times, uint64_t answer) {
     EXPECT(memcmp(copy, table, sizeof copy) == 0);
 }
 
-/* Ticks and dispatches in a row stop at an answer, at a refusal, or after so many; a drain gives every answer. */
+/* Consecutive ticks and dispatches stop at an answer, at a refusal, or after so many; a drain gives every answer. */
 static void rows(void) {
     enum { IN_TURN = TASKS, LONG = 70000 };
     begin_again();
     EXPECT(begin(0, LANE_PUSH, LANE_RIGHT, LANE_MAX_TAG) == 0); /* eleven ticks */
-    in_row(0, 0, ANSWER(LANE_GOING, 0));
-    in_row(0, 1, ANSWER(LANE_GOING, 0));
-    in_row(0, 9, ANSWER(LANE_GOING, 0));
+    consecutive(0, 0, ANSWER(LANE_GOING, 0));
+    consecutive(0, 1, ANSWER(LANE_GOING, 0));
+    consecutive(0, 9, ANSWER(LANE_GOING, 0));
     EXPECT(table[LANE_TICK_COUNT] == 10);
-    in_row(0, UINT32_MAX, ANSWER(LANE_PUSHED, 0));
+    consecutive(0, UINT32_MAX, ANSWER(LANE_PUSHED, 0));
     EXPECT(table[LANE_TICK_COUNT] == 11);
-    in_row(0, 2, ANSWER(LANE_REFUSED, LANE_REFUSED_IDLE));
+    consecutive(0, 2, ANSWER(LANE_REFUSED, LANE_REFUSED_IDLE));
     EXPECT(lane_ticks(table, WORDS, 0, SLOTS, 2) == ANSWER(LANE_REFUSED, LANE_REFUSED_HINT));
     EXPECT(lane_ticks(table, WORDS, TASKS, SLOTS, 2) == ANSWER(LANE_REFUSED, LANE_REFUSED_TASK));
     EXPECT(lane_dispatches(table, WORDS, SLOTS, 2) == ANSWER(LANE_REFUSED, LANE_REFUSED_HINT));
-    in_row(IN_TURN, 2, ANSWER(LANE_IDLE, 0));
+    consecutive(IN_TURN, 2, ANSWER(LANE_IDLE, 0));
 
     EXPECT(begin(0, LANE_POP, LANE_RIGHT, 0) == 0);
     EXPECT(begin(1, LANE_POP, LANE_LEFT, 0) == 0);
-    in_row(IN_TURN, 6, ANSWER(LANE_GOING, 0));
-    in_row(IN_TURN, 9, ANSWER(LANE_BAG, LANE_MAX_TAG));
+    consecutive(IN_TURN, 6, ANSWER(LANE_GOING, 0));
+    consecutive(IN_TURN, 9, ANSWER(LANE_BAG, LANE_MAX_TAG));
     EXPECT(table[LANE_DISPATCHED] == 0 && table[LANE_TICK_COUNT] == 18);
-    in_row(IN_TURN, 9, ANSWER(LANE_EMPTY, 0)); /* of the other, whose swap failed */
+    consecutive(IN_TURN, 9, ANSWER(LANE_EMPTY, 0)); /* of the other, whose swap failed */
     EXPECT(table[LANE_DISPATCHED] == 1);
-    in_row(IN_TURN, 9, ANSWER(LANE_IDLE, 0));
+    consecutive(IN_TURN, 9, ANSWER(LANE_IDLE, 0));
 
     for (uint32_t task = 0; task <= IN_TURN; task += IN_TURN) { /* on tables that no start made */
         begin_again();
         EXPECT(begin(0, LANE_ADD, LANE_RIGHT, 0) == 0);
         table[16 + 4 * SLOTS + 1] = 15; /* past the line that takes a slot */
-        in_row(task, 9, ANSWER(LANE_REFUSED, LANE_REFUSED_NO_SLOT));
+        consecutive(task, 9, ANSWER(LANE_REFUSED, LANE_REFUSED_NO_SLOT));
         EXPECT(table[LANE_TICK_COUNT] == 2); /* those before it are made */
         table[15] = 1;
-        in_row(task, 9, ANSWER(LANE_REFUSED, LANE_REFUSED_SHAPE));
-        in_row(task, 0, ANSWER(LANE_GOING, 0));
+        consecutive(task, 9, ANSWER(LANE_REFUSED, LANE_REFUSED_SHAPE));
+        consecutive(task, 0, ANSWER(LANE_GOING, 0));
 
         begin_again();
         table[16 + 4 * 1] = 1; /* a pop at the right goes round for ever */
         EXPECT(begin(0, LANE_POP, LANE_RIGHT, 0) == 0);
-        in_row(task, LONG, ANSWER(LANE_GOING, 0));
+        consecutive(task, LONG, ANSWER(LANE_GOING, 0));
         EXPECT(table[LANE_TICK_COUNT] == LONG);
     }
 }

@@ -43,7 +43,7 @@
 //! that a busy push has, is refused when it is begun ([`Refusal::Twice`]).
 //!
 //! The caller says whose tick is next, or lets [`Lanes::dispatch`] tick the busy tasks in turn. [`Lanes::ticks`] and
-//! [`Lanes::dispatches`] make many of them in a row, with one test of the table.
+//! [`Lanes::dispatches`] make many of them, with one test of the table.
 //!
 //! The baggage office sends and wants lists of tags in packed decimal. [`tags_read`] and [`tags_write`] take them to
 //! two words a tag, as [`Lane::read`] writes them, and back; they need no table.

@@ -1,4 +1,4 @@
-//! Ticks and dispatches in a row by the wrapper: the single ones up to the first that does not say "going", a whole call
+//! Consecutive ticks and dispatches by the wrapper: the single ones up to the first that does not say "going", a whole call
 //! by them, and every task brought to its answer.
 
 use lane::{max_ticks_alone, words, Answer, Dispatched, Lanes, Operation, Refusal, Side, Tag};

@@ -26,7 +26,7 @@ use Rattle.machine.specs.Results.{changedOf}
 use Rattle.table_record.specs.declared.Task as Tasks
 use Rattle.table_record.specs.Coded.{codedTask}
 use Rattle.answers.specs.Refusals.{numberOf}
-use Rattle.table_shape.proofs.Laws.PassedTable.{refused, passed, operation-is, busy-task}
+use Rattle.table_shape.proofs.Laws.PassedTable.{refused, table-passed, operation-is, busy-task}
 use Rattle.call_begin.proofs.SeenTests.{twice-refused, twice-passed}
 
 busy-not-idle : (op : Operation) → isBusy op ≡ true → isIdle op ≡ false
@@ -84,7 +84,7 @@ module _ (ws : List ℕ) {n : ℕ} (is-number : n ≡ numberOf (tableRefusal ws 
   pub begin-no-lane : n ≡ 0 → laneCount ws ≤ l → changedOf (Refused 26) ws ≡ begin ws k l op side argument
   unfolding begin
   begin-no-lane e h =
-      let P = passed ws is-number e in rw (P .length-passes, P .shape-passes, le-ltb l (laneCount ws) h, begin)
+      let P = table-passed ws is-number e in rw (P .length-passes, P .shape-passes, le-ltb l (laneCount ws) h, begin)
 
 -- ---- The others, of a table that passes, and of one of its lanes.
 module _ (ws : List ℕ) (P : WellFormed ws) (k l op side : ℕ) (argument : Stored) (is-lane : l < laneCount ws) where

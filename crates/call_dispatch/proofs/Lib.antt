@@ -1,3 +1,3 @@
 pub mod DispatchTests
 pub mod DispatchRefusals
-pub mod DispatchesInRow
+pub mod ConsecutiveDispatches

@@ -1,8 +1,8 @@
-// The call dispatch, and dispatches in a row: any slice, any numbers. A refusal and "idle" change no lent word.
-mod in_row;
+// The call dispatch, and consecutive dispatches: any slice, any numbers. A refusal and "idle" change no lent word.
+mod consecutive;
 mod turn;
 
-use in_row::dispatches_on;
+use consecutive::dispatches_on;
 use machine::Answer;
 use machine::Dispatch;
 use table_layout::places::NODE_COUNT;

@@ -34,7 +34,7 @@ use Rattle.call_read.specs.declared.Walk.{Walk}
 use Rattle.call_read.specs.declared.Walk.the-variants.{Bags, NoEnd}
 use Rattle.call_read.specs.Lane.{laneIn, walkOf, countOf, laid, NodeOrNone, Walkable}
 use Rattle.answers.specs.Refusals.{numberOf}
-use Rattle.table_shape.proofs.Laws.PassedTable.{refused, passed}
+use Rattle.table_shape.proofs.Laws.PassedTable.{refused, table-passed}
 use Rattle.table_layout.proofs.Laws.Fronts.{front-grows, rest-stays}
 use Rattle.table_values.proofs.Laws.ValueWords.{bag-words}
 use Rattle.table_layout.proofs.Laws.Views.{nodesOf, nodes-part, node-held, held-node, words-in, link-in, value-in}
@@ -322,12 +322,12 @@ module _ (ws : List ℕ) {n : ℕ} (is-number : n ≡ numberOf (tableRefusal ws 
   pub read-no-lane : n ≡ 0 → laneCount ws ≤ l → readOf (Refused 26) out ≡ read ws l out
   unfolding read
   read-no-lane e h =
-      let P = passed ws is-number e in rw (P .length-passes, P .shape-passes, le-ltb l (laneCount ws) h, read)
+      let P = table-passed ws is-number e in rw (P .length-passes, P .shape-passes, le-ltb l (laneCount ws) h, read)
 
   pub read-goes-on : n ≡ 0 → l < laneCount ws → readInto (lane ws l) out ≡ read ws l out
   unfolding read
   read-goes-on e h =
-      let P = passed ws is-number e in rw (P .length-passes, P .shape-passes, lt-ltb l (laneCount ws) h, read)
+      let P = table-passed ws is-number e in rw (P .length-passes, P .shape-passes, lt-ltb l (laneCount ws) h, read)
 
 -- ---- What the walk says of its count.
 pub bags-counted :

@@ -1,5 +1,5 @@
--- What the proofs of lists of ticks and of ticks in a row share.
+-- What the proofs of lists of ticks and of consecutive ticks share.
 
-pub mod TicksInRow
+pub mod ConsecutiveTicks
 pub mod RunWords
 pub mod OnePair

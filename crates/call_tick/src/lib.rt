@@ -1,8 +1,8 @@
-// The call tick, and ticks in a row: any slice, any numbers. A refusal changes no lent word.
-mod in_row;
+// The call tick, and consecutive ticks: any slice, any numbers. A refusal changes no lent word.
+mod consecutive;
 pub mod pairs;
 
-use in_row::ticks_on;
+use consecutive::ticks_on;
 use machine::Answer;
 use pairs::tick_on;
 use table_shape::table_refusal;

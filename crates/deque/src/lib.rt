@@ -136,21 +136,14 @@ pub extern "C" fn lane_begin(
     operation: u32,
     side: u32,
     digit: u32,
-    argument: u32,
+    low: u32,
 ) -> u32
     ensures { λ r. ⌜ r
-        ≡ replyNumber (calls.begin (now (table .entry)) task lane operation side (storedOf digit argument) .reply) ⌝ }
+        ≡ replyNumber (calls.begin (now (table .entry)) task lane operation side (storedOf digit low) .reply) ⌝ }
     ensures { λ r. ⌜ now (table .exit)
-        ≡ calls.begin (now (table .entry)) task lane operation side (storedOf digit argument) .words ⌝ }
+        ≡ calls.begin (now (table .entry)) task lane operation side (storedOf digit low) .words ⌝ }
 {
-    reply_number(begin(
-        table,
-        task,
-        lane,
-        operation,
-        side,
-        of_words(digit, argument),
-    ))
+    reply_number(begin(table, task, lane, operation, side, of_words(digit, low)))
 }
 
 // The kind times 2^40 plus the tag or 0; kind 7 for a refusal, with its number.

@@ -70,27 +70,27 @@ hatAfter (val≔ x v ∷ l) h = hatAfter l h
 hatAfter (hat≔ x ∷ l) h = hatAfter l x
 
 -- The nodes' words after a line, and what it gives back.
-pub record Outcome : Type 0 where
+pub record LineOutcome : Type 0 where
   pub nodes : List ℕ
   pub done : Done
 
-abbrev pub outcomeOf : List ℕ → Done → Outcome
+abbrev pub outcomeOf : List ℕ → Done → LineOutcome
 outcomeOf ns d = record { nodes = ns; done = d }
 
-abbrev pub effectIn : Side → List ℕ → ℕ → Effect → Outcome
+abbrev pub effectIn : Side → List ℕ → ℕ → Effect → LineOutcome
 effectIn s ns h e =
     record {
       nodes = writesIn s (e .writes) ns;
       done = record { hat = hatAfter (e .writes) h; task = codedTask (e .task); answer = e .answer };
     }
 
-unfoldable pub lineOf : Step → List ℕ → ℕ → Tasks.Task → (g f : ℕ) → Outcome
+unfoldable pub lineOf : Step → List ℕ → ℕ → Tasks.Task → (g f : ℕ) → LineOutcome
 lineOf st ns h t g f =
     effectIn (sideOf (t .side)) ns h
     (act st (sideOf (t .side)) (opposite (sideOf (t .side))) (memoryIn (sideOf (t .side)) ns h) (taskMeant t) g f)
 
 -- A line's outcome, of a line that looks neither at the goal nor at a node found.
-abbrev pub Does : Step → List ℕ → ℕ → Tasks.Task → Outcome → Type 0
+abbrev pub Does : Step → List ℕ → ℕ → Tasks.Task → LineOutcome → Type 0
 Does st ns h t r = (g f : ℕ) → r ≡ lineOf st ns h t g f
 
 -- The same of a line that looks at no node and writes none: whatever the nodes' words are.

@@ -75,7 +75,7 @@ use Rattle.machine.specs.Begun.{afterAll}
 use Rattle.machine.specs.Fair.{
   LeaveDispatched,
   OthersLeaveDispatched,
-  InRow,
+  Repeat,
   dispatchesOf,
   dispatchCount,
   NoneRefused,
@@ -86,7 +86,7 @@ use Rattle.machine.specs.Fair.{
   after-it,
   BusyThroughout,
   Fair,
-  Outcome,
+  TickedOrEnded,
   gets-tick,
   ends-first,
   still-busy,
@@ -272,7 +272,7 @@ module _ (ws : List ℕ) (A : WellFormed ws) where
 pub others-leave-dispatched : OthersLeaveDispatched
 others-leave-dispatched ws passes = leave-dispatched ws (is-accepted ws passes)
 
--- ---- Dispatches in a row.
+-- ---- Consecutive dispatches.
 
 -- What they do for a busy task k: one of them ticks it, or they leave it busy, and nearer by as many as are made.
 data RowServed (ws : List ℕ) (k h n : ℕ) : Type 0 where
@@ -335,15 +335,15 @@ row-serves (suc n) ws A k busy h none =
 -- ---- Lists of calls.
 
 -- The table that dispatches leave.
-after-row : (c : Call) (d : InRow) → dispatchesOf c ≡ some d → (ws : List ℕ)
+after-row : (c : Call) (d : Repeat) → dispatchesOf c ≡ some d → (ws : List ℕ)
     → after c ws ≡ dispatches (d .times) ws (d .hint) .words
 after-row (dispatch-call h) d e ws =
     let same : record { hint = h; times = 1 } ≡ d = cc in
-    subst (λ (x : InRow). dispatch ws h .words ≡ dispatches (x .times) ws (x .hint) .words) same
+    subst (λ (x : Repeat). dispatch ws h .words ≡ dispatches (x .times) ws (x .hint) .words) same
     (ap (λ (r : Dispatched). r .words) (sym (one-dispatch ws h)))
 after-row (dispatches-call h times) d e ws =
     let same : record { hint = h; times = times } ≡ d = cc in
-    ap (λ (x : InRow). dispatches (x .times) ws (x .hint) .words) same
+    ap (λ (x : Repeat). dispatches (x .times) ws (x .hint) .words) same
 after-row (start-call S T g L) d e ws = clash (cc)
 after-row (begin-call k l op side argument) d e ws = clash (cc)
 after-row (tick-call k h) d e ws = clash (cc)
@@ -355,7 +355,7 @@ after-row (read-call l out) d e ws = clash (cc)
 -- With more dispatches to come than the task waits.
 fair-from : (calls : List Call) (ws : List ℕ) → WellFormed ws → (k : ℕ) → isBusyTask ws k ≡ true → NoneRefused calls ws
     → waits ws k < dispatchCount calls ws
-    → Outcome k calls ws
+    → TickedOrEnded k calls ws
 fair-from [] ws A k busy none near = absurd (omega arith)
 fair-from (c ∷ cs) ws A k busy none near =
     go (dispatchesOf c) refl near (λ b w. fair-from cs (after c ws) (call-accepted ws A c) k b (none .1) w)
@@ -364,13 +364,13 @@ fair-from (c ∷ cs) ws A k busy none near =
     Others =
         isBusyTask (after c ws) k ≡ true
         → waits (after c ws) k < dispatchCount cs (after c ws)
-        → Outcome k cs (after c ws)
+        → TickedOrEnded k cs (after c ws)
 
-    by-row : (d : InRow) → dispatchesOf c ≡ some d
+    by-row : (d : Repeat) → dispatchesOf c ≡ some d
         → waits ws k < dispatchesMade (d .times) ws (d .hint) + dispatchCount cs (after c ws)
         → Others
         → RowServed ws k (d .hint) (d .times)
-        → Outcome k (c ∷ cs) ws
+        → TickedOrEnded k (c ∷ cs) ws
     by-row d e near others (ticked-at i m it) =
         gets-tick c (record { row = d; asked = e; place = i; is-made = m; is-tick = it })
     by-row d e near others (nearer-by b w) =
@@ -382,16 +382,16 @@ fair-from (c ∷ cs) ws A k busy none near =
 
     no-row : dispatchesOf c ≡ nothing → waits ws k < dispatchCount cs (after c ws) → Others → (b : Bool)
         → isBusyTask (after c ws) k ≡ b
-        → Outcome k (c ∷ cs) ws
+        → TickedOrEnded k (c ∷ cs) ws
     no-row e near others false b = ends-first {cs = cs} c e b (omega (arith, near))
     no-row e near others true b = still-busy c b (others b (rw (other-waits ws A k c e b) near))
 
-    go : (o : Option InRow) → dispatchesOf c ≡ o
+    go : (o : Option Repeat) → dispatchesOf c ≡ o
         → waits ws k
         < elim o as (λ _. ℕ) [ some d ↦ dispatchesMade (d .times) ws (d .hint) | nothing ↦ 0 ]
         + dispatchCount cs (after c ws)
         → Others
-        → Outcome k (c ∷ cs) ws
+        → TickedOrEnded k (c ∷ cs) ws
     go (some d) e near others =
         by-row d e near others (row-serves (d .times) ws A k busy (d .hint) (none .0 d e))
     go nothing e near others = no-row e (omega arith) others (isBusyTask (after c ws) k) refl
@@ -404,7 +404,7 @@ fair-unless-ended ws passes k busy calls none enough =
     fair-from calls ws A k busy none (omega arith)
 
 -- ---- A task that stays busy.
-not-ended : (k : ℕ) (calls : List Call) (ws : List ℕ) → Outcome k calls ws → BusyThroughout k calls ws
+not-ended : (k : ℕ) (calls : List Call) (ws : List ℕ) → TickedOrEnded k calls ws → BusyThroughout k calls ws
     → GetsTick k calls ws
 not-ended k calls ws (gets-tick c it) B = ticks-it c it
 not-ended k (c ∷ []) ws (ends-first d e q more) B = absurd (omega arith)

@@ -12,8 +12,8 @@ pub mod Panel
 pub mod Snapshots
 -- Request 2026-07: a busy task gets its tick within T dispatches.
 pub mod Fair
--- Dispatches in a row: how many went on, by the tick count.
-pub mod InRow
+-- Consecutive dispatches: how many went on, by the tick count.
+pub mod WentOn
 -- The slot rule: what is reachable, what is taken.
 pub mod SlotRule
 -- Demand 3.

@@ -118,7 +118,7 @@ recordDispatch η (Answered a) =
       | nothing ↦ recordDispatched η (nextNoted (η .notes) (η .tasks) (η .dispatched)) a
     ]
 
--- Dispatches in a row: those that went on, and the last where one did not.
+-- Consecutive dispatches: those that went on, and the last where one did not.
 unfoldable pub recordDispatches : History → (times wentOn : ℕ) → Dispatch → History
 recordDispatches η zero m d = η
 recordDispatches η (suc n) zero d = recordDispatch η d
@@ -139,7 +139,7 @@ recordBegin η k n Accepted =
     }
 recordBegin η k n (Reply-Refused r) = η
 
--- A call, with what it gave back. Of ticks in a row only the last can have ended the task's call.
+-- A call, with what it gave back. Of consecutive ticks only the last can have ended the task's call.
 abbrev pub recordCall : History → (c : Call) → Given c → History
 recordCall η (start-call S T g lanes) r = recordStart η T r
 recordCall η (begin-call k l op side argument) r = recordBegin η k (newNote l op side argument) r

@@ -277,7 +277,7 @@ tick ws k h =
       | nothing ↦ tickOn ws k h
     ]
 
--- ---- Ticks in a row: of one task, until one does not go on, or so many. The last outcome is given; "going" where no
+-- ---- Consecutive ticks: of one task, until one does not go on, or so many. The last outcome is given; "going" where no
 -- tick was asked for.
 unfoldable pub ticks : (times : ℕ) → List ℕ → (k hint : ℕ) → Ticked
 ticks zero ws k h = record { answer = Going; words = ws }
@@ -321,7 +321,7 @@ dispatch ws h =
       | nothing ↦ dispatchOn ws h
     ]
 
--- ---- Dispatches in a row: until one does not go on, or so many. The last outcome is given; "going" where no dispatch
+-- ---- Consecutive dispatches: until one does not go on, or so many. The last outcome is given; "going" where no dispatch
 -- was asked for.
 unfoldable pub dispatches : (times : ℕ) → List ℕ → (hint : ℕ) → Dispatched
 dispatches zero ws h = record { answer = Answered Going; words = ws }

@@ -38,7 +38,7 @@ use Rattle.machine.specs.Calls.{
 use Rattle.machine.specs.Row.{Row, emptyRow, newNote, noted, feedMade, feedDispatch, feedRun}
 
 -- 01: the list holds start, begin, tick, run and reading the lane, with any arguments, and every call on the same table
--- that a request adds: 2026-01's panel, 2026-07's dispatch; and ticks and dispatches in a row. A run's list and answer
+-- that a request adds: 2026-01's panel, 2026-07's dispatch; and ticks and consecutive dispatches. A run's list and answer
 -- slice and a read's out slice are that call's own: here by their contents when the call is made.
 pub data Call : Type 0 where
   start-call : (S T growth lanes : ℕ) → Call
@@ -51,7 +51,7 @@ pub data Call : Type 0 where
   panel-call : (list answers : List ℕ) → Call
   read-call : (lane : ℕ) (out : List ℕ) → Call
 
--- What a call gives back: its answer, with a slice of its own as it leaves it. Of dispatches in a row also how many went
+-- What a call gives back: its answer, with a slice of its own as it leaves it. Of consecutive dispatches also how many went
 -- on, which the tick count tells.
 abbrev pub Given : Call → Type 0
 Given (start-call S T g lanes) = Reply
@@ -113,12 +113,12 @@ unfoldable pub feedTick : Row → ℕ → Answer → Option Row
 feedTick ρ k a =
     elim (refusalOf a) as (λ _. Option Row) [ some n ↦ some ρ | nothing ↦ feedMade ρ k a ]
 
--- Ticks in a row are fed as the ticks that they are: those before the last went on, and leave the row as it is.
+-- Consecutive ticks are fed as the ticks that they are: those before the last went on, and leave the row as it is.
 abbrev pub feedTicks : Row → ℕ → (times : ℕ) → Answer → Option Row
 feedTicks ρ k zero a = cond (isGoing a) (some ρ) nothing
 feedTicks ρ k (suc n) a = feedTick ρ k a
 
--- Dispatches in a row too: those that went on, and then the last, where fewer went on than were asked for.
+-- Consecutive dispatches too: those that went on, and then the last, where fewer went on than were asked for.
 unfoldable pub feedDispatches : Row → (times wentOn : ℕ) → Dispatch → Option Row
 feedDispatches ρ zero zero d = cond (dispatchGoesOn d) (some ρ) nothing
 feedDispatches ρ zero (suc m) d = nothing
@@ -169,14 +169,14 @@ WithinList list ws ρ r =
     → i ≤ r .ran .made
     → (ρᵢ : Row) × (feedRun ρ i list (r .answers) ≡ some ρᵢ) × LanesAre (afterTicks i list ws) ρᵢ
 
--- The same of ticks in a row, of which the first i are ticks in a row.
+-- The same of consecutive ticks, of which the first i are consecutive ticks.
 abbrev pub WithinTicks : (k hint times : ℕ) → List ℕ → Row → Type 0
 WithinTicks k h times ws ρ =
     (i : ℕ)
     → i ≤ times
     → (ρᵢ : Row) × (feedTicks ρ k i (ticks i ws k h .answer) ≡ some ρᵢ) × LanesAre (ticks i ws k h .words) ρᵢ
 
--- And of dispatches in a row.
+-- And of consecutive dispatches.
 abbrev pub WithinDispatches : (hint times : ℕ) → List ℕ → Row → Type 0
 WithinDispatches h times ws ρ =
     (i : ℕ)

@@ -42,7 +42,7 @@ use Rattle.machine.specs.Begun.{afterAll}
 
 -- ---- The task last dispatched.
 
--- 02: "A plain tick does not touch it": nor do ticks in a row, a begin, a run or the panel's list.
+-- 02: "A plain tick does not touch it": nor do consecutive ticks, a begin, a run or the panel's list.
 pub record LeaveDispatched (ws : List ℕ) : Type 0 where
   pub by-tick : (k hint : ℕ) → dispatched (tick ws k hint .words) ≡ dispatched ws
   pub by-ticks : (k hint times : ℕ) → dispatched (ticks times ws k hint .words) ≡ dispatched ws
@@ -57,13 +57,13 @@ OthersLeaveDispatched = (ws : List ℕ) → tableRefusal ws nothing ≡ nothing 
 
 -- ---- Lists of calls with dispatches in them.
 
--- Dispatches in a row: their hint, and how many are asked for.
-pub record InRow : Type 0 where
+-- Consecutive dispatches: their hint, and how many are asked for.
+pub record Repeat : Type 0 where
   pub hint : ℕ
   pub times : ℕ
 
--- Those that a call asks for, where it asks for dispatches; a dispatch is one in a row.
-abbrev pub dispatchesOf : Call → Option InRow
+-- Those that a call asks for, where it asks for dispatches; a dispatch asks for one.
+abbrev pub dispatchesOf : Call → Option Repeat
 dispatchesOf (dispatch-call h) = some (record { hint = h; times = 1 })
 dispatchesOf (dispatches-call h times) = some (record { hint = h; times = times })
 dispatchesOf (start-call S T g lanes) = nothing
@@ -83,11 +83,11 @@ abbrev pub dispatchCount : List Call → List ℕ → ℕ
 dispatchCount [] ws = 0
 dispatchCount (c ∷ cs) ws = madeBy c ws + dispatchCount cs (after c ws)
 
--- 02: "provided none is refused". Of dispatches in a row only the last can be.
+-- 02: "provided none is refused". Of consecutive dispatches only the last can be.
 abbrev pub NoneRefused : List Call → List ℕ → Type 0
 NoneRefused [] ws = Unit {0}
 NoneRefused (c ∷ cs) ws =
-    ((d : InRow)
+    ((d : Repeat)
     → dispatchesOf c ≡ some d
     → dispatchRefusalOf (dispatches (d .times) ws (d .hint) .answer) ≡ nothing)
     × NoneRefused cs (after c ws)
@@ -100,7 +100,7 @@ pub record IsTickOf (k hint : ℕ) (ws : List ℕ) (done : Dispatched) : Type 0 
 
 -- A dispatch of a call ticks task k: one of those made, on the table that the dispatches before it left.
 pub record TicksTask (k : ℕ) (c : Call) (ws : List ℕ) : Type 0 where
-  pub row : InRow
+  pub row : Repeat
   pub asked : dispatchesOf c ≡ some row
   pub place : ℕ
   pub is-made : place < dispatchesMade (row .times) ws (row .hint)
@@ -135,19 +135,19 @@ Fair =
 
 -- What becomes of a busy task k: a dispatch ticks it; or, while dispatches are still to come, a call that is no
 -- dispatch ends the task's call.
-pub data Outcome (k : ℕ) : List Call → List ℕ → Type 0 where
-  gets-tick : {cs : List Call} {ws : List ℕ} (c : Call) → TicksTask k c ws → Outcome k (c ∷ cs) ws
+pub data TickedOrEnded (k : ℕ) : List Call → List ℕ → Type 0 where
+  gets-tick : {cs : List Call} {ws : List ℕ} (c : Call) → TicksTask k c ws → TickedOrEnded k (c ∷ cs) ws
   ends-first :
       {cs : List Call} {ws : List ℕ} (c : Call)
       → dispatchesOf c ≡ nothing
       → isBusyTask (after c ws) k ≡ false
       → 0 < dispatchCount cs (after c ws)
-      → Outcome k (c ∷ cs) ws
+      → TickedOrEnded k (c ∷ cs) ws
   still-busy :
       {cs : List Call} {ws : List ℕ} (c : Call)
       → isBusyTask (after c ws) k ≡ true
-      → Outcome k cs (after c ws)
-      → Outcome k (c ∷ cs) ws
+      → TickedOrEnded k cs (after c ws)
+      → TickedOrEnded k (c ∷ cs) ws
 
 -- 02: "provided none is refused and no plain tick or start ends it first".
 abbrev pub FairUnlessEnded : Type 0
@@ -159,7 +159,7 @@ FairUnlessEnded =
     → (calls : List Call)
     → NoneRefused calls ws
     → taskCount ws ≤ dispatchCount calls ws
-    → Outcome k calls ws
+    → TickedOrEnded k calls ws
 
 -- ---- T - 1 dispatches are not enough.
 

@@ -22,6 +22,6 @@ pub mod Row
 pub mod Demand3
 pub mod Begun
 pub mod Fair
-pub mod InRow
+pub mod WentOn
 pub mod Twice
 pub mod Events

@@ -18,7 +18,7 @@ use Rattle.machine.specs.Begun.{Begun}
 use Rattle.machine.specs.Twice.{allBags, SeenIn}
 use Rattle.machine_capacity.specs.NoLeak.{Idle, IdleTable, AllCounted}
 use Rattle.machine_capacity.specs.Capacity.{PushAlone, NeverFull, FilledFrom, is-full, one-more, FillsUp}
-use Rattle.machine_capacity.specs.Alone.{Outcome, spareOf, spurOf, LeavesIdle, aloneAt}
+use Rattle.machine_capacity.specs.Alone.{CallOutcome, spareOf, spurOf, LeavesIdle, aloneAt}
 use Rattle.machine.proofs.Basics.Contradiction.{clash, refute}
 use Rattle.machine.proofs.Words.ValueLaws.{number-stored, bag-ok}
 use Rattle.machine.proofs.Shape.ShapeLaws.{well-sized}
@@ -50,7 +50,7 @@ module _ {ws : List ℕ} (B : Begun ws) (idle-now : Idle ws) where
 
   -- What it leaves, and whether there was room.
   pub record PushDone (ℓ : ℕ) (s : Side) (a : Answer) (vs : List ℕ) : Type 0 where
-    pub outcome : Outcome
+    pub outcome : CallOutcome
     pub answers : a ≡ outcome .answer
     pub left-idle : LeavesIdle ws vs tableOf ℓ s outcome
     pub is-lane : ℓ < laneCount ws

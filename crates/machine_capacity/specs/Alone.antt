@@ -24,13 +24,13 @@ use Rattle.machine_capacity.specs.Capacity.{AloneTo}
 
 -- ---- What a call finds at its end of the lane: the bags, r spare nodes, and y nodes beside the list under the hat (a
 -- spur: 1, else 0); and what it answers and leaves there.
-pub record Outcome : Type 0 where
+pub record CallOutcome : Type 0 where
   pub answer : Answer
   pub bags : List ℕ
   pub spare : ℕ
   pub spur : ℕ
 
-abbrev pub leaves : Answer → (bags : List ℕ) → (spare spur : ℕ) → Outcome
+abbrev pub leaves : Answer → (bags : List ℕ) → (spare spur : ℕ) → CallOutcome
 leaves a bags r y = record { answer = a; bags = bags; spare = r; spur = y }
 
 -- The bags from a side's end on; and back.
@@ -43,29 +43,29 @@ least a b = if a <? b then a else b
 
 -- A push of v, with growth g and f free nodes. Where no spare node but the last is left, it leaves its spur and then
 -- takes nodes, that one among them.
-abbrev pub pushAlone : Side → (v g f : ℕ) → (bags : List ℕ) → (r y : ℕ) → Outcome
+abbrev pub pushAlone : Side → (v g f : ℕ) → (bags : List ℕ) → (r y : ℕ) → CallOutcome
 pushAlone s v g f bags r y =
     if 1 <? r then leaves Pushed (put s v bags) (r - 1) 0 else
     if f + y ≟ 0 then leaves Full bags r y else
     leaves Pushed (put s v bags) (least (f + y) (suc g)) 0
 
 -- A pop, which finds these bags from its end on.
-abbrev pub popFrom : Side → (bags : List ℕ) → (r y : ℕ) → Outcome
+abbrev pub popFrom : Side → (bags : List ℕ) → (r y : ℕ) → CallOutcome
 popFrom s [] r y = leaves Empty [] r y
 popFrom s (b ∷ rest) r y = leaves (Bag b) (fromEnd s rest) (suc r) 0
 
-abbrev pub popAlone : Side → (bags : List ℕ) → (r y : ℕ) → Outcome
+abbrev pub popAlone : Side → (bags : List ℕ) → (r y : ℕ) → CallOutcome
 popAlone s bags r y = popFrom s (fromEnd s bags) r y
 
 -- An add of n, which leaves its spur when it has taken its nodes.
-abbrev pub addAlone : (n f : ℕ) → (bags : List ℕ) → (r y : ℕ) → Outcome
+abbrev pub addAlone : (n f : ℕ) → (bags : List ℕ) → (r y : ℕ) → CallOutcome
 addAlone n f bags r y =
     if f ≟ 0 then leaves No bags r y else
     leaves Yes bags (r + least f (suc n)) 0
 
 -- A remove of n: it keeps n spare nodes and the last, and what it cuts off is free. A single node more is the last one,
 -- which it cannot mark.
-abbrev pub removeAlone : (n : ℕ) → (bags : List ℕ) → (r y : ℕ) → Outcome
+abbrev pub removeAlone : (n : ℕ) → (bags : List ℕ) → (r y : ℕ) → CallOutcome
 removeAlone n bags r y =
     if y ≟ 1 then leaves Yes bags r y else
     if r <? n + 2 then leaves Yes bags r y else
@@ -73,7 +73,7 @@ removeAlone n bags r y =
     leaves Yes bags (suc n) 0
 
 -- An operation on side s, with its argument, the table's growth and f free nodes. ("Idle" is never begun.)
-abbrev pub alone : Operation → Side → (argument g f : ℕ) → (bags : List ℕ) → (r y : ℕ) → Outcome
+abbrev pub alone : Operation → Side → (argument g f : ℕ) → (bags : List ℕ) → (r y : ℕ) → CallOutcome
 alone idle s n g f bags r y = leaves Going bags r y
 alone push s n g f bags r y = pushAlone s n g f bags r y
 alone pop s n g f bags r y = popAlone s bags r y
@@ -96,7 +96,7 @@ pub record SameNumbers (I J : LaneShape) : Type 0 where
   pub same-spur : (z : Side) → spurOf z J ≡ spurOf z I
 
 -- The table vs is again idle, with these numbers.
-pub record LeavesIdle (ws vs : List ℕ) (T : IdleTable ws) (ℓ : ℕ) (s : Side) (o : Outcome) : Type 0 where
+pub record LeavesIdle (ws vs : List ℕ) (T : IdleTable ws) (ℓ : ℕ) (s : Side) (o : CallOutcome) : Type 0 where
   pub begun : Begun vs
   pub idle-now : Idle vs
   pub same-nodes : nodeCount vs ≡ nodeCount ws
@@ -111,7 +111,7 @@ pub record LeavesIdle (ws vs : List ℕ) (T : IdleTable ws) (ℓ : ℕ) (s : Sid
 
 -- What is said of a call on side s of lane ℓ of a table with no task in a call.
 abbrev pub aloneAt : (ws : List ℕ) (T : IdleTable ws) → AllCounted ws T → (ℓ : ℕ) → Operation → Side → (argument : ℕ)
-    → Outcome
+    → CallOutcome
 aloneAt ws T C ℓ op s n =
     alone op s n (growth ws) (C .free) (T .shape ℓ .bags) (spareOf s (T .shape ℓ)) (spurOf s (T .shape ℓ))
 
@@ -160,7 +160,7 @@ abbrev pub FreeAfter : Type 0
 FreeAfter =
     (ws vs : List ℕ) (T : IdleTable ws) (C : AllCounted ws T) (ℓ : ℕ)
     → ℓ < laneCount ws
-    → (s : Side) (o : Outcome)
+    → (s : Side) (o : CallOutcome)
     → LeavesIdle ws vs T ℓ s o
     → (T' : IdleTable vs) (C' : AllCounted vs T')
     → C' .free + (o .spare + o .spur + length (o .bags))

@@ -17,7 +17,7 @@ use Rattle.machine.specs.Operations.{Operation, operationNumber, operationOf, a
 use Rattle.machine.specs.Calls.{unless, isPush, isAmong}
 use Rattle.machine.specs.Twice.{rowsBelow}
 use Rattle.machine_capacity.specs.NoLeak.{total}
-use Rattle.machine_capacity.specs.Alone.{Outcome, alone}
+use Rattle.machine_capacity.specs.Alone.{CallOutcome, alone}
 
 -- ---- What is kept: of each lane its bags, left end first, and at each of its ends how much is spare and whether there
 -- is a spur (1, else 0); and how much is free for all lanes.
@@ -71,7 +71,7 @@ refusal σ c =
     (unless (not (isTwice σ (operationOf (c .operation)) (number (c .argument)))) 16 nothing))))
 
 -- ---- What it comes to at its end of its lane.
-abbrev pub outcome : State → (l : ℕ) → Operation → Side → (argument : ℕ) → Outcome
+abbrev pub outcome : State → (l : ℕ) → Operation → Side → (argument : ℕ) → CallOutcome
 outcome σ l op s n =
     alone op s n (σ .growth) (σ .free) (σ .lane l .bags) (σ .lane l .spare s) (σ .lane l .spur s)
 
@@ -83,16 +83,16 @@ withSide right n f left = f left
 withSide right n f right = n
 
 -- The bags, what is spare, the spur and what is free keep their sum.
-abbrev pub freeThen : State → (l : ℕ) → Side → Outcome → ℕ
+abbrev pub freeThen : State → (l : ℕ) → Side → CallOutcome → ℕ
 freeThen σ l s o =
     σ .free + (σ .lane l .spare s + σ .lane l .spur s + length (σ .lane l .bags))
     - (o .spare + o .spur + length (o .bags))
 
-abbrev pub laneThen : LaneState → Side → Outcome → LaneState
+abbrev pub laneThen : LaneState → Side → CallOutcome → LaneState
 laneThen i s o =
     record { bags = o .bags; spare = withSide s (o .spare) (i .spare); spur = withSide s (o .spur) (i .spur) }
 
-abbrev pub stateThen : State → (l : ℕ) → Side → Outcome → State
+abbrev pub stateThen : State → (l : ℕ) → Side → CallOutcome → State
 stateThen σ l s o =
     record {
       tasks = σ .tasks;
@@ -103,18 +103,18 @@ stateThen σ l s o =
     }
 
 -- ---- One call, and one after another.
-pub record Done : Type 0 where
+pub record AfterCall : Type 0 where
   pub answer : Answer
   pub state : State
 
-abbrev pub callDone : Option ℕ → State → WholeCall → Done
-callDone (some n) σ c = record { answer = Refused n; state = σ }
-callDone nothing σ c =
+abbrev pub afterCall : Option ℕ → State → WholeCall → AfterCall
+afterCall (some n) σ c = record { answer = Refused n; state = σ }
+afterCall nothing σ c =
     let o = outcome σ (c .lane) (operationOf (c .operation)) (sideOf (c .side)) (number (c .argument)) in
     record { answer = o .answer; state = stateThen σ (c .lane) (sideOf (c .side)) o }
 
-abbrev pub oneCall : State → WholeCall → Done
-oneCall σ c = callDone (refusal σ c) σ c
+abbrev pub oneCall : State → WholeCall → AfterCall
+oneCall σ c = afterCall (refusal σ c) σ c
 
 pub record AllDone : Type 0 where
   pub answers : List Answer

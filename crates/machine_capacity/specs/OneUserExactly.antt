@@ -109,7 +109,7 @@ FromAnyIdle =
     → (wholeCalls ws calls .answers ≡ allCalls σ (callsOf calls) .answers)
     × StandsAs (wholeCalls ws calls .words) (allCalls σ (callsOf calls) .state))
 
--- ---- One hint for all ticks of a call: the begin and then ticks in a row.
+-- ---- One hint for all ticks of a call: the begin and then consecutive ticks.
 abbrev pub rowThen : Reply → (times : ℕ) → List ℕ → (k hint : ℕ) → Ticked
 rowThen Accepted n ws k h = ticks n ws k h
 rowThen (Reply-Refused r) n ws k h = record { answer = Refused r; words = ws }
@@ -142,7 +142,7 @@ rowCalls n ws (c ∷ cs) =
     let rest = rowCalls n (one .words) cs in
     record { answers = one .answer ∷ rest .answers; words = rest .words }
 
--- Each call is a begin and at most 4S + 154 ticks in a row.
+-- Each call is a begin and at most 4S + 154 consecutive ticks.
 abbrev pub OneUserInARow : Type 0
 OneUserInARow =
     (S T growth lanes : ℕ) (old : List ℕ)

@@ -7,7 +7,7 @@ pub mod Calmness
 pub mod LeftStays
 -- How often a task may disturb the others, and what each line comes to.
 pub mod Disturbances
-pub mod Outcome
+pub mod TickProgress
 pub mod QuietOutcomes
 pub mod CalmOutcomes
 pub mod DisturbingOutcomes

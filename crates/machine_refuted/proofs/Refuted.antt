@@ -67,14 +67,14 @@ use Rattle.machine.specs.Calls.{
   read,
 }
 use Rattle.machine_refuted.specs.Machines.{
-  inRow,
+  consecutive,
   dispatchToBy,
   dispatchChoosing,
   beginBy,
   tickOnBy,
   tickBy,
   ticksBy,
-  turnsInRow,
+  consecutiveTurns,
   dispatchBy,
   dispatchesBy,
   runOnBy,
@@ -84,7 +84,7 @@ use Rattle.machine_refuted.specs.Machines.{
 }
 use Rattle.machine_refuted.specs.Wrong.{wholeOn, touchesNothing, heldFromBy, leftwards, toRefusal, isArgument, turned}
 use Rattle.machine_refuted.specs.WrongLanes.{onLanes, isBegunOn}
-use Rattle.machine_refuted.specs.WrongInRow.{toIdle, pastIdle}
+use Rattle.machine_refuted.specs.WrongConsecutive.{toIdle, pastIdle}
 use Rattle.machine_refuted.specs.Judged.{
   passes,
   madeBy,
@@ -153,8 +153,8 @@ all-failing (e ∷ es) sized =
 
 pub all-refuted : AllRefuted
 unfolding failing allSized madeBy byRow byDefinitions onLanes isBegunOn wholeOn touchesNothing heldFromBy leftwards
-    toRefusal toIdle pastIdle isArgument turned beginBy tickOnBy inRow ticksBy ticks dispatchToBy dispatchChoosing dispatchBy
-    turnsInRow dispatchesBy dispatches wentOn feedDispatches
+    toRefusal toIdle pastIdle isArgument turned beginBy tickOnBy consecutive ticksBy ticks dispatchToBy dispatchChoosing dispatchBy
+    consecutiveTurns dispatchesBy dispatches wentOn feedDispatches
     firstFrom feedDispatched feedIdle feedDispatch dispatchTo dispatchOn dispatch tickBy runOnBy runBy panelBy
     tablesBy feedTick pushAnswered popAnswered sizeAnswered feedMade feedRun bind plainAnswerOf answerOf ℕ-discrete
     decLt decLe Value-discrete decode stepIn stepOf isStepIn hat link value task allBelow sameWords nodeOk busyOk

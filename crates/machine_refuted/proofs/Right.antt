@@ -54,12 +54,12 @@ use Rattle.machine_refuted.specs.Machines.{
   tickOnBy,
   dispatchToBy,
   dispatchChoosing,
-  inRow,
+  consecutive,
   tickBy,
   ticksBy,
   Turns,
-  RowDone,
-  turnsInRow,
+  DispatchedMany,
+  consecutiveTurns,
   dispatchBy,
   dispatchesBy,
   runOnBy,
@@ -85,30 +85,30 @@ same-tick ws k h =
     ])
     (same-tick-on ws k h)
 
-in-row-of-ticks : (n : ℕ) (ws : List ℕ) (k h : ℕ) → inRow tick n ws k h ≡ ticks n ws k h
-unfolding inRow ticks
-in-row-of-ticks zero ws k h = refl
-in-row-of-ticks (suc n) ws k h =
+consecutive-of-ticks : (n : ℕ) (ws : List ℕ) (k h : ℕ) → consecutive tick n ws k h ≡ ticks n ws k h
+unfolding consecutive ticks
+consecutive-of-ticks zero ws k h = refl
+consecutive-of-ticks (suc n) ws k h =
     ap
     (λ others. elim (isGoing (tick ws k h .answer)) as (λ _. Ticked) [ true ↦ others | false ↦ tick ws k h ])
-    (in-row-of-ticks n (tick ws k h .words) k h)
+    (consecutive-of-ticks n (tick ws k h .words) k h)
 
 pub same-ticks : (n : ℕ) (ws : List ℕ) (k h : ℕ) → ticksBy rightMachine n ws k h ≡ ticks n ws k h
 unfolding ticksBy
 same-ticks n ws k h =
-    ap (λ (one : Ticks). inRow one n ws k h) (fun-ext (λ vs. fun-ext (λ j. fun-ext (λ i. same-tick vs j i))))
-    ∙ in-row-of-ticks n ws k h
+    ap (λ (one : Ticks). consecutive one n ws k h) (fun-ext (λ vs. fun-ext (λ j. fun-ext (λ i. same-tick vs j i))))
+    ∙ consecutive-of-ticks n ws k h
 
 pub same-dispatch : (ws : List ℕ) (h : ℕ) → dispatchBy rightMachine ws h ≡ dispatch ws h
 unfolding dispatchBy dispatchChoosing dispatchToBy dispatch dispatchOn dispatchTo tickOnBy tickOn effectOf
 same-dispatch ws h = refl
 
--- Dispatches in a row, with how many went on.
-abbrev pub rowOf : (n : ℕ) (ws : List ℕ) (h : ℕ) → RowDone
+-- Consecutive dispatches, with how many went on.
+abbrev pub rowOf : (n : ℕ) (ws : List ℕ) (h : ℕ) → DispatchedMany
 rowOf n ws h = record { last = dispatches n ws h; wentOn = wentOn n ws h }
 
-row-of-dispatches : (n : ℕ) (ws : List ℕ) (h : ℕ) → turnsInRow dispatch n ws h ≡ rowOf n ws h
-unfolding turnsInRow dispatches wentOn
+row-of-dispatches : (n : ℕ) (ws : List ℕ) (h : ℕ) → consecutiveTurns dispatch n ws h ≡ rowOf n ws h
+unfolding consecutiveTurns dispatches wentOn
 row-of-dispatches zero ws h = refl
 row-of-dispatches (suc n) ws h =
     go (dispatchGoesOn (dispatch ws h .answer)) refl (row-of-dispatches n (dispatch ws h .words) h)
@@ -116,17 +116,17 @@ row-of-dispatches (suc n) ws h =
     vs : List ℕ
     vs = dispatch ws h .words
 
-    go : (b : Bool) → dispatchGoesOn (dispatch ws h .answer) ≡ b → turnsInRow dispatch n vs h ≡ rowOf n vs h
-        → turnsInRow dispatch (suc n) ws h ≡ rowOf (suc n) ws h
+    go : (b : Bool) → dispatchGoesOn (dispatch ws h .answer) ≡ b → consecutiveTurns dispatch n vs h ≡ rowOf n vs h
+        → consecutiveTurns dispatch (suc n) ws h ≡ rowOf (suc n) ws h
     go true e others =
-        rw (e, turnsInRow, dispatches, wentOn)
-        (ap (λ (r : RowDone). record { last = r .last; wentOn = suc (r .wentOn) }) others)
-    go false e others = rw (e, turnsInRow, dispatches, wentOn)
+        rw (e, consecutiveTurns, dispatches, wentOn)
+        (ap (λ (r : DispatchedMany). record { last = r .last; wentOn = suc (r .wentOn) }) others)
+    go false e others = rw (e, consecutiveTurns, dispatches, wentOn)
 
 pub same-dispatches : (n : ℕ) (ws : List ℕ) (h : ℕ) → dispatchesBy rightMachine n ws h ≡ rowOf n ws h
 unfolding dispatchesBy
 same-dispatches n ws h =
-    ap (λ (one : Turns). turnsInRow one n ws h) (fun-ext (λ vs. fun-ext (λ i. same-dispatch vs i)))
+    ap (λ (one : Turns). consecutiveTurns one n ws h) (fun-ext (λ vs. fun-ext (λ i. same-dispatch vs i)))
     ∙ row-of-dispatches n ws h
 
 pub same-begin : (ws : List ℕ) (k l op side : ℕ) (argument : Stored)

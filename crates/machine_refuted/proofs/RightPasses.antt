@@ -53,7 +53,7 @@ use Rattle.machine.proofs.Shape.ShapeLaws.{all-below}
 use Rattle.machine.proofs.Words.RecordLaws.{same-words-refl}
 use Rattle.machine.proofs.Linearizability.Theorem.{demand3}
 use Rattle.machine.proofs.Linearizability.Histories.{bound}
-use Rattle.machine_refuted.specs.Machines.{rightMachine, RowDone, tablesBy, givenBy, afterBy}
+use Rattle.machine_refuted.specs.Machines.{rightMachine, DispatchedMany, tablesBy, givenBy, afterBy}
 use Rattle.machine_refuted.specs.Judged.{
   Verdict,
   passes,
@@ -137,8 +137,8 @@ within-dispatches h times ws ρ W =
     all-below (suc times) _ (λ i l.
     let w = W i (omega arith) in
     let same = same-dispatches i ws h in
-    same-lanes _ (w .0) (subst (λ (r : RowDone). LanesAre (r .last .words) (w .0)) (sym same) (w .2))
-    (ap (λ (r : RowDone). feedDispatches ρ i (r .wentOn) (r .last .answer)) same ∙ w .1))
+    same-lanes _ (w .0) (subst (λ (r : DispatchedMany). LanesAre (r .last .words) (w .0)) (sym same) (w .2))
+    (ap (λ (r : DispatchedMany). feedDispatches ρ i (r .wentOn) (r .last .answer)) same ∙ w .1))
 
 within-same : (c : Call) (ws : List ℕ) (ρ : Row) → Within c ws ρ → sameWithin rightMachine c ws ρ ≡ true
 within-same (run-call list answers) ws ρ W =

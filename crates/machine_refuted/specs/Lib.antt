@@ -1,7 +1,7 @@
 pub mod Machines
 pub mod Wrong
 pub mod WrongLanes
-pub mod WrongInRow
+pub mod WrongConsecutive
 pub mod Judged
 pub mod Lists
 pub mod WrongSnapshots

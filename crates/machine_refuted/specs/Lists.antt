@@ -99,7 +99,7 @@ use Rattle.machine_refuted.specs.WrongLanes.{
   startMakesFirstLane,
   startSharesNodes,
 }
-use Rattle.machine_refuted.specs.WrongInRow.{
+use Rattle.machine_refuted.specs.WrongConsecutive.{
   makesDispatchMore,
   staysWithTask,
   dispatchesAfterAnswer,

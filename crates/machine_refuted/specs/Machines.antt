@@ -1,5 +1,5 @@
--- What a machine is: what its starts and reads do, what its ticks do, alone and in a row, what its runs report, which
--- lists its panel takes, what its begin refuses, what its dispatches do, alone and in a row. The calls over any machine,
+-- What a machine is: what its starts and reads do, what its ticks do, alone and consecutive, what its runs report, which
+-- lists its panel takes, what its begin refuses, what its dispatches do, alone and consecutive. The calls over any machine,
 -- and the right one.
 use mathlib.Core.Bool.{true, false}
 use mathlib.Core.List.{List, [], _∷_}
@@ -60,30 +60,30 @@ Ticks = List ℕ → (k hint : ℕ) → Ticked
 abbrev pub Turns : Type 0
 Turns = List ℕ → (hint : ℕ) → Dispatched
 
--- What dispatches in a row come to: the last of them, and how many went on.
-pub record RowDone : Type 0 where
+-- What consecutive dispatches come to: the last of them, and how many went on.
+pub record DispatchedMany : Type 0 where
   pub last : Dispatched
   pub wentOn : ℕ
 
--- Ticks in a row and dispatches are made of the machine's own ticks, dispatches in a row of its own dispatches.
+-- Consecutive ticks and dispatches are made of the machine's own ticks, consecutive dispatches of its own dispatches.
 pub record Machine : Type 0 where
   pub starts : List ℕ → (S T growth lanes : ℕ) → Changed
   pub reads : List ℕ → (lane : ℕ) → (out : List ℕ) → ReadDone
   pub tickOn : Ticks
-  pub ticksInRow : Ticks → (times : ℕ) → Ticks
+  pub consecutiveTicks : Ticks → (times : ℕ) → Ticks
   pub reports : RunDone → RunDone
   pub panelRefuses : (ws list answers : List ℕ) → Option ℕ
   pub panelTakes : (list : List ℕ) → List ℕ
   pub beginRefuses : List ℕ → (k lane operation side : ℕ) → (argument : Stored) → Option ℕ
   pub dispatches : Ticks → Turns
-  pub dispatchesInRow : Turns → (times : ℕ) → List ℕ → (hint : ℕ) → RowDone
+  pub consecutiveDispatches : Turns → (times : ℕ) → List ℕ → (hint : ℕ) → DispatchedMany
 
--- ---- Ticks in a row, as in Calls.
-unfoldable pub inRow : Ticks → (times : ℕ) → Ticks
-inRow tick zero ws k h = record { answer = Going; words = ws }
-inRow tick (suc n) ws k h =
+-- ---- Consecutive ticks, as in Calls.
+unfoldable pub consecutive : Ticks → (times : ℕ) → Ticks
+consecutive tick zero ws k h = record { answer = Going; words = ws }
+consecutive tick (suc n) ws k h =
     let one = tick ws k h in
-    elim (isGoing (one .answer)) as (λ _. Ticked) [ true ↦ inRow tick n (one .words) k h | false ↦ one ]
+    elim (isGoing (one .answer)) as (λ _. Ticked) [ true ↦ consecutive tick n (one .words) k h | false ↦ one ]
 
 -- ---- Dispatches by the task that they choose.
 unfoldable pub dispatchToBy : Ticks → List ℕ → (k hint : ℕ) → Dispatched
@@ -105,13 +105,13 @@ dispatchChoosing choice tickOn ws h =
           ]
     ]
 
--- ---- Dispatches in a row, as in Calls.
-unfoldable pub turnsInRow : Turns → (times : ℕ) → List ℕ → (hint : ℕ) → RowDone
-turnsInRow turn zero ws h = record { last = record { answer = Answered Going; words = ws }; wentOn = 0 }
-turnsInRow turn (suc n) ws h =
+-- ---- Consecutive dispatches, as in Calls.
+unfoldable pub consecutiveTurns : Turns → (times : ℕ) → List ℕ → (hint : ℕ) → DispatchedMany
+consecutiveTurns turn zero ws h = record { last = record { answer = Answered Going; words = ws }; wentOn = 0 }
+consecutiveTurns turn (suc n) ws h =
     let one = turn ws h in
-    let others = turnsInRow turn n (one .words) h in
-    elim (dispatchGoesOn (one .answer)) as (λ _. RowDone) [
+    let others = consecutiveTurns turn n (one .words) h in
+    elim (dispatchGoesOn (one .answer)) as (λ _. DispatchedMany) [
       | true ↦ record { last = others .last; wentOn = suc (others .wentOn) }
       | false ↦ record { last = one; wentOn = 0 }
     ]
@@ -123,13 +123,13 @@ byTicks tickOn =
       starts = start;
       reads = read;
       tickOn = tickOn;
-      ticksInRow = inRow;
+      consecutiveTicks = consecutive;
       reports = λ r. r;
       panelRefuses = panelRefusal;
       panelTakes = λ list. list;
       beginRefuses = beginRefusal;
       dispatches = dispatchChoosing nextBusy;
-      dispatchesInRow = turnsInRow;
+      consecutiveDispatches = consecutiveTurns;
     }
 
 -- ---- A machine by what a line does and which node a take gives.
@@ -171,13 +171,13 @@ tickBy M ws k h =
     ]
 
 unfoldable pub ticksBy : Machine → (times : ℕ) → List ℕ → (k hint : ℕ) → Ticked
-ticksBy M times ws k h = M .ticksInRow (tickBy M) times ws k h
+ticksBy M times ws k h = M .consecutiveTicks (tickBy M) times ws k h
 
 unfoldable pub dispatchBy : Machine → List ℕ → (hint : ℕ) → Dispatched
 dispatchBy M ws h = M .dispatches (M .tickOn) ws h
 
-unfoldable pub dispatchesBy : Machine → (times : ℕ) → List ℕ → (hint : ℕ) → RowDone
-dispatchesBy M times ws h = M .dispatchesInRow (dispatchBy M) times ws h
+unfoldable pub dispatchesBy : Machine → (times : ℕ) → List ℕ → (hint : ℕ) → DispatchedMany
+dispatchesBy M times ws h = M .consecutiveDispatches (dispatchBy M) times ws h
 
 unfoldable pub runOnBy : Machine → (list : List ℕ) (ws answers : List ℕ) → RunDone
 runOnBy M [] ws answers = stopped 0 ws answers

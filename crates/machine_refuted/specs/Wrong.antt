@@ -126,7 +126,7 @@ use Rattle.machine.specs.Calls.{
 use Rattle.machine_refuted.specs.Machines.{
   Ticks,
   Machine,
-  inRow,
+  consecutive,
   Turns,
   dispatchChoosing,
   Line,
@@ -186,7 +186,7 @@ wholeOn op ws k h =
       | nothing ↦
           if stepNumber (t .step) ≟ stepNumber (firstStep op) then
           if operationNumber (t .operation) ≟ operationNumber op then
-          (let all = inRow tickOn 101 ws k h in
+          (let all = consecutive tickOn 101 ws k h in
           record {
             answer = Going;
             words = setTickCount (tickCount ws + 1) (setTask k (goto t (stepAfter (all .answer))) (all .words));
@@ -440,39 +440,39 @@ withReports reports =
       starts = rightMachine .starts;
       reads = rightMachine .reads;
       tickOn = rightMachine .tickOn;
-      ticksInRow = rightMachine .ticksInRow;
+      consecutiveTicks = rightMachine .consecutiveTicks;
       reports = reports;
       panelRefuses = rightMachine .panelRefuses;
       panelTakes = rightMachine .panelTakes;
       beginRefuses = rightMachine .beginRefuses;
       dispatches = rightMachine .dispatches;
-      dispatchesInRow = rightMachine .dispatchesInRow;
+      consecutiveDispatches = rightMachine .consecutiveDispatches;
     }
 
 abbrev pub reportsUnmadeTick : Machine
 reportsUnmadeTick = withReports oneMore
 
--- ---- Ticks in a row are as many as asked for, and end at an answer.
+-- ---- Consecutive ticks are as many as asked for, and end at an answer.
 
--- The right machine but for its ticks in a row.
-abbrev pub withInRow : (Ticks → (times : ℕ) → Ticks) → Machine
-withInRow ticksInRow =
+-- The right machine but for its consecutive ticks.
+abbrev pub withConsecutive : (Ticks → (times : ℕ) → Ticks) → Machine
+withConsecutive consecutiveTicks =
     record {
       starts = rightMachine .starts;
       reads = rightMachine .reads;
       tickOn = rightMachine .tickOn;
-      ticksInRow = ticksInRow;
+      consecutiveTicks = consecutiveTicks;
       reports = rightMachine .reports;
       panelRefuses = rightMachine .panelRefuses;
       panelTakes = rightMachine .panelTakes;
       beginRefuses = rightMachine .beginRefuses;
       dispatches = rightMachine .dispatches;
-      dispatchesInRow = rightMachine .dispatchesInRow;
+      consecutiveDispatches = rightMachine .consecutiveDispatches;
     }
 
 -- One tick more is made.
 abbrev pub makesTickMore : Machine
-makesTickMore = withInRow (λ tick times. inRow tick (suc times))
+makesTickMore = withConsecutive (λ tick times. consecutive tick (suc times))
 
 -- They end at a refusal alone: after an answer the task is idle, and that is refused.
 unfoldable pub toRefusal : Ticks → (times : ℕ) → Ticks
@@ -485,7 +485,7 @@ toRefusal tick (suc n) ws k h =
     ]
 
 abbrev pub ticksAfterAnswer : Machine
-ticksAfterAnswer = withInRow toRefusal
+ticksAfterAnswer = withConsecutive toRefusal
 
 -- ---- 2026-01: "15, panel list over 64 words, tested where 13 is tested and straight after it".
 
@@ -496,13 +496,13 @@ withPanel refuses takes =
       starts = rightMachine .starts;
       reads = rightMachine .reads;
       tickOn = rightMachine .tickOn;
-      ticksInRow = rightMachine .ticksInRow;
+      consecutiveTicks = rightMachine .consecutiveTicks;
       reports = rightMachine .reports;
       panelRefuses = refuses;
       panelTakes = takes;
       beginRefuses = rightMachine .beginRefuses;
       dispatches = rightMachine .dispatches;
-      dispatchesInRow = rightMachine .dispatchesInRow;
+      consecutiveDispatches = rightMachine .consecutiveDispatches;
     }
 
 abbrev pub overLong : (list : List ℕ) → Option ℕ → Option ℕ
@@ -540,13 +540,13 @@ withRefusal ticks refuses =
       starts = rightMachine .starts;
       reads = rightMachine .reads;
       tickOn = ticks;
-      ticksInRow = rightMachine .ticksInRow;
+      consecutiveTicks = rightMachine .consecutiveTicks;
       reports = rightMachine .reports;
       panelRefuses = rightMachine .panelRefuses;
       panelTakes = rightMachine .panelTakes;
       beginRefuses = refuses;
       dispatches = rightMachine .dispatches;
-      dispatchesInRow = rightMachine .dispatchesInRow;
+      consecutiveDispatches = rightMachine .consecutiveDispatches;
     }
 
 -- What a begin of task k on a lane tests after 7, of an operation and its argument.
@@ -728,13 +728,13 @@ withDispatch dispatches =
       starts = rightMachine .starts;
       reads = rightMachine .reads;
       tickOn = rightMachine .tickOn;
-      ticksInRow = rightMachine .ticksInRow;
+      consecutiveTicks = rightMachine .consecutiveTicks;
       reports = rightMachine .reports;
       panelRefuses = rightMachine .panelRefuses;
       panelTakes = rightMachine .panelTakes;
       beginRefuses = rightMachine .beginRefuses;
       dispatches = dispatches;
-      dispatchesInRow = rightMachine .dispatchesInRow;
+      consecutiveDispatches = rightMachine .consecutiveDispatches;
     }
 
 abbrev pub choosing : (List ℕ → Option ℕ) → Machine

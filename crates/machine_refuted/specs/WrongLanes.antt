@@ -70,13 +70,13 @@ withRead reads =
       starts = rightMachine .starts;
       reads = reads;
       tickOn = rightMachine .tickOn;
-      ticksInRow = rightMachine .ticksInRow;
+      consecutiveTicks = rightMachine .consecutiveTicks;
       reports = rightMachine .reports;
       panelRefuses = rightMachine .panelRefuses;
       panelTakes = rightMachine .panelTakes;
       beginRefuses = rightMachine .beginRefuses;
       dispatches = rightMachine .dispatches;
-      dispatchesInRow = rightMachine .dispatchesInRow;
+      consecutiveDispatches = rightMachine .consecutiveDispatches;
     }
 
 -- Every read is of lane 0.
@@ -125,13 +125,13 @@ withStart test words =
           changed (test S T g lanes (unless (eqb (length ws) (tableLength S T)) 2 nothing)) ws (words S T g lanes);
       reads = rightMachine .reads;
       tickOn = rightMachine .tickOn;
-      ticksInRow = rightMachine .ticksInRow;
+      consecutiveTicks = rightMachine .consecutiveTicks;
       reports = rightMachine .reports;
       panelRefuses = rightMachine .panelRefuses;
       panelTakes = rightMachine .panelTakes;
       beginRefuses = rightMachine .beginRefuses;
       dispatches = rightMachine .dispatches;
-      dispatchesInRow = rightMachine .dispatchesInRow;
+      consecutiveDispatches = rightMachine .consecutiveDispatches;
     }
 
 -- 1 is tested before 25.

@@ -393,7 +393,7 @@ module _ {ws vs : List ℕ} (A : AlikeColumns ws vs) where
         tested false q =
             rw (table-passes ws (A .accepted), table-passes vs (A .accepted′), same-nodes A, q, dispatch) (refl, A)
 
--- ---- Ticks in a row.
+-- ---- Consecutive ticks.
 ticks-alike : (n k h : ℕ) {ws vs : List ℕ} → AlikeColumns ws vs → TicksAlike (ticks n ws k h) (ticks n vs k h)
 unfolding ticks
 ticks-alike zero k h A = (refl, A)
@@ -409,7 +409,7 @@ ticks-alike (suc n) k h {ws} {vs} A =
     go true e others = rw (first-goes-on n ws k h e, first-goes-on n vs k h (same ∙ e)) others
     go false e others = rw (first-is-last n ws k h e, first-is-last n vs k h (same ∙ e)) (tick-call-alike A k h)
 
--- ---- Dispatches in a row.
+-- ---- Consecutive dispatches.
 dispatches-alike : (n h : ℕ) {ws vs : List ℕ} → AlikeColumns ws vs
     → (dispatches n vs h .answer ≡ dispatches n ws h .answer)
     × (wentOn n vs h ≡ wentOn n ws h)

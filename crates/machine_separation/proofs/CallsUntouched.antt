@@ -48,7 +48,7 @@ use Rattle.machine.specs.Demand3.{
 }
 use Rattle.machine.specs.Begun.{Begun, by-call}
 use Rattle.machine.proofs.Basics.Contradiction.{refute}
-use Rattle.machine.proofs.Words.RunLaws.{kept-in-row}
+use Rattle.machine.proofs.Words.RunLaws.{kept-consecutively}
 use Rattle.machine.proofs.Words.DispatchLaws.{others-follow, one-more-made, none-follows, one-made}
 use Rattle.machine.proofs.Words.TickLaws.{tick-stopped}
 use Rattle.machine.proofs.Shape.DispatchCases.{by-dispatch}
@@ -186,7 +186,7 @@ calls-untouched ws B m (start-call S T g lanes) a = start-keeps m S T g lanes a
 calls-untouched ws B m (begin-call k l op side argument) a = begin-keeps B m k l op side argument
 calls-untouched ws B m (tick-call k h) a = tick-call-keeps B m k h a
 calls-untouched ws B m (ticks-call k h times) a =
-    kept-in-row (λ vs. Begun vs × NotOn m vs k × SameLane m ws vs) k h
+    kept-consecutively (λ vs. Begun vs × NotOn m vs k × SameLane m ws vs) k h
     (λ vs x.
     let on = tick-passes (begun-agrees (x .0) .1) k h in
     rw on

@@ -9,9 +9,9 @@ use Rattle.program_answer.specs.Space.{answeredOf}
 
 -- 01: before an accepted start the others give 3.
 pub begin-first :
-    (k op side digit argument : ℕ) → beginCommand [] k op side digit argument ≡ answeredOf (refusedText 3) []
+    (k op side digit low : ℕ) → beginCommand [] k op side digit low ≡ answeredOf (refusedText 3) []
 unfolding beginCommand begin
-begin-first k op side digit argument = refl
+begin-first k op side digit low = refl
 
 pub tick-first : (n k h : ℕ) → tickCommand (suc n) [] k h ≡ answeredOf (refusedText 3) []
 unfolding tickCommand ticks tick

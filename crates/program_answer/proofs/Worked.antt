@@ -30,7 +30,7 @@ use Rattle.machine.specs.Calls.{
   applied,
   tickOn,
   tick,
-  ticks as ticksInRow,
+  ticks as consecutiveTicks,
   isBegun,
   laneFrom,
   lane,
@@ -48,5 +48,5 @@ unfolding beltRun linesOf printed answer startCommand beginCommand tickCommand l
     scanByte scanBytes ticks beginOr beginOf formOf pushOf commandWith commandOf commandRead ℕ-discrete decLt decLe
     Value-discrete decode stepIn stepOf isStepIn link value task allBelow sameWords nodeOk busyOk recordOk shapeOk
     heldFrom roots mark markAll visit visitFrom marked firstUnmarked allocate writeAll dcas act times startNodes
-    startWords start begin effectOf applied tickOn tick ticksInRow isBegun laneFrom lane lanesBelow hat hatsFrom bind
+    startWords start begin effectOf applied tickOn tick consecutiveTicks isBegun laneFrom lane lanesBelow hat hatsFrom bind
 worked = refl

@@ -34,9 +34,9 @@ startCommand ws S T g =
     record { text = replyText (d .reply); words = startedFrom ws (d .reply) (d .words) }
 
 -- `(begin task (operation side argument))`, the argument by its two words.
-unfoldable pub beginCommand : List ℕ → (k operation side digit argument : ℕ) → Answered
-beginCommand ws k op side digit argument =
-    let d = begin ws k theLane op side (storedOf digit argument) in
+unfoldable pub beginCommand : List ℕ → (k operation side digit low : ℕ) → Answered
+beginCommand ws k op side digit low =
+    let d = begin ws k theLane op side (storedOf digit low) in
     record { text = replyText (d .reply); words = d .words }
 
 -- `(tick task hint times)`. 01: makes ticks until an answer, a refusal, or times; it prints the last outcome.

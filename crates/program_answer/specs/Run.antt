@@ -13,7 +13,7 @@ use Rattle.program_answer.specs.Forms.{Answered, startCommand, beginComm
 -- What a command prints, and the table afterwards.
 unfoldable pub answer : Command → (ws : List ℕ) → Answered
 answer (Commands.Start S T g) ws = startCommand ws S T g
-answer (Commands.Begin k op side digit argument) ws = beginCommand ws k op side digit argument
+answer (Commands.Begin k op side digit low) ws = beginCommand ws k op side digit low
 answer (Commands.Tick k h times) ws = tickCommand times ws k h
 answer Commands.Lane ws = laneCommand ws
 answer Commands.Unread ws = record { text = unreadText; words = ws }

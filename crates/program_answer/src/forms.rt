@@ -57,11 +57,11 @@ pub fn begin_command(
     operation: u32,
     side: u32,
     digit: u32,
-    argument: u32,
+    low: u32,
 ) -> Reply
     requires { ⌜ len ≤ length (now space) ⌝ }
     ensures { λ r. ⌜ Leaves (now (space .entry)) (now (space .exit)) len (replyText r)
-        (beginCommand (take len (now (space .entry))) task operation side digit argument) ⌝ }
+        (beginCommand (take len (now (space .entry))) task operation side digit low) ⌝ }
 {
     begin(
         &mut space[..len],
@@ -69,7 +69,7 @@ pub fn begin_command(
         LANE,
         operation,
         side,
-        of_words(digit, argument),
+        of_words(digit, low),
     )
 }
 

@@ -6,7 +6,7 @@ use forms::lane_command;
 use forms::start_command;
 use forms::tick_command;
 use program_command::Command;
-use program_print::Outcome;
+use program_print::CommandOutcome;
 ghost use Prim.Native.Nat.{_*_, _≤_};
 ghost use lib.ListN.{length, take};
 ghost use Rattle.program_print.specs.Outcomes.{textOf, countOf};
@@ -19,13 +19,13 @@ pub const BAG_WORDS: usize = 2_048;
 pub type Bags = [u32; BAG_WORDS];
 
 // What a command comes to, and how many words of the space the table takes afterwards.
-pub struct Done {
-    pub outcome: Outcome,
+pub struct Served {
+    pub outcome: CommandOutcome,
     pub len: usize,
 }
 
 // Does what a command says. The bags of a lane are the first of their places, whatever stood there before.
-pub fn answer(command: Command, space: &mut [u32], len: usize, bags: &mut Bags) -> Done
+pub fn answer(command: Command, space: &mut [u32], len: usize, bags: &mut Bags) -> Served
     requires { ⌜ (len ≤ length (now space)) × (largestTable ≤ length (now space)) ⌝ }
     ensures { λ r. ⌜ Leaves (now (space .entry)) (now (space .exit)) (r .len)
         (textOf (r .outcome) (now (bags .exit))) (answer command (take len (now (space .entry)))) ⌝ }
@@ -39,34 +39,34 @@ pub fn answer(command: Command, space: &mut [u32], len: usize, bags: &mut Bags) 
         } => {
             let started = start_command(space, len, slots, tasks, growth);
             let reply = started.reply;
-            let outcome = Outcome::Replied(reply);
+            let outcome = CommandOutcome::Replied(reply);
             let len = started.len;
-            return Done { outcome, len };
+            return Served { outcome, len };
         }
         Command::Begin {
             task,
             operation,
             side,
             digit,
-            argument,
+            low,
         } => {
-            let reply = begin_command(space, len, task, operation, side, digit, argument);
-            let outcome = Outcome::Replied(reply);
-            return Done { outcome, len };
+            let reply = begin_command(space, len, task, operation, side, digit, low);
+            let outcome = CommandOutcome::Replied(reply);
+            return Served { outcome, len };
         }
         Command::Tick { task, hint, times } => {
             let answer = tick_command(space, len, task, hint, times);
-            let outcome = Outcome::Ticked(answer);
-            return Done { outcome, len };
+            let outcome = CommandOutcome::Ticked(answer);
+            return Served { outcome, len };
         }
         Command::Lane => {
             let reading = lane_command(space, len, bags);
-            let outcome = Outcome::Lane(reading);
-            return Done { outcome, len };
+            let outcome = CommandOutcome::Lane(reading);
+            return Served { outcome, len };
         }
         Command::Unread => {
-            return Done {
-                outcome: Outcome::Unread,
+            return Served {
+                outcome: CommandOutcome::Unread,
                 len,
             };
         }

@@ -36,16 +36,16 @@ beginText operation side = bytes ("(begin 0 (" ++ (operation ++ (" " ++ (side ++
 -- 01: operation 1 push, 2 pop, 3 add, 4 remove; side 0 left, 1 right
 -- 02: "the arguments of pop, add and remove have digit 0"
 unfoldable pub beginOr : List ℕ → List ℕ → List ℕ → ℕ → ℕ → ℕ → Command → Command
-beginOr text left right operation task argument other =
-    cond (same text left) (Begin task operation 0 0 argument)
-    (cond (same text right) (Begin task operation 1 0 argument) other)
+beginOr text left right operation task low other =
+    cond (same text left) (Begin task operation 0 0 low)
+    (cond (same text right) (Begin task operation 1 0 low) other)
 
 -- a begin of pop, add or remove
 unfoldable pub beginOf : List ℕ → ℕ → ℕ → Command
-beginOf text task argument =
-    beginOr text (beginText "pop" "left") (beginText "pop" "right") 2 task argument
-    (beginOr text (beginText "add" "left") (beginText "add" "right") 3 task argument
-    (beginOr text (beginText "remove" "left") (beginText "remove" "right") 4 task argument Unread))
+beginOf text task low =
+    beginOr text (beginText "pop" "left") (beginText "pop" "right") 2 task low
+    (beginOr text (beginText "add" "left") (beginText "add" "right") 3 task low
+    (beginOr text (beginText "remove" "left") (beginText "remove" "right") 4 task low Unread))
 
 -- the form other than a push that has this text, with its numbers in order
 unfoldable pub formOf : List ℕ → (a b c : ℕ) → Command

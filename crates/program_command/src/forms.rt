@@ -52,10 +52,10 @@ fn begin_or(
     right: &[u8],
     operation: u32,
     task: u32,
-    argument: u32,
+    low: u32,
     other: Command,
 ) -> Command
-    ensures { λ r. ⌜ r ≡ beginOr (now (text .entry)) (now (left .entry)) (now (right .entry)) operation task argument
+    ensures { λ r. ⌜ r ≡ beginOr (now (text .entry)) (now (left .entry)) (now (right .entry)) operation task low
         other ⌝ }
 {
     if is_text(text, left) {
@@ -64,7 +64,7 @@ fn begin_or(
             operation,
             side: 0,
             digit: 0,
-            argument,
+            low,
         };
     }
     if is_text(text, right) {
@@ -73,15 +73,15 @@ fn begin_or(
             operation,
             side: 1,
             digit: 0,
-            argument,
+            low,
         };
     }
     other
 }
 
 // The begin of pop, add or remove with this text, or no form.
-fn begin_of(text: &[u8], task: u32, argument: u32) -> Command
-    ensures { λ r. ⌜ r ≡ beginOf (now (text .entry)) task argument ⌝ }
+fn begin_of(text: &[u8], task: u32, low: u32) -> Command
+    ensures { λ r. ⌜ r ≡ beginOf (now (text .entry)) task low ⌝ }
 {
     let remove = begin_or(
         text,
@@ -89,7 +89,7 @@ fn begin_of(text: &[u8], task: u32, argument: u32) -> Command
         b"(begin 0 (remove right 0))",
         4,
         task,
-        argument,
+        low,
         Command::Unread,
     );
     let add = begin_or(
@@ -98,7 +98,7 @@ fn begin_of(text: &[u8], task: u32, argument: u32) -> Command
         b"(begin 0 (add right 0))",
         3,
         task,
-        argument,
+        low,
         remove,
     );
     begin_or(
@@ -107,7 +107,7 @@ fn begin_of(text: &[u8], task: u32, argument: u32) -> Command
         b"(begin 0 (pop right 0))",
         2,
         task,
-        argument,
+        low,
         add,
     )
 }
@@ -144,13 +144,13 @@ fn push_of(side: u32, task: u64, tag: u64, width: usize) -> Command
         return Command::Unread;
     }
     let digit = tag::digit(tag);
-    let argument = tag::low(tag);
+    let low = tag::low(tag);
     Command::Begin {
         task: task as u32,
         operation: 1,
         side,
         digit,
-        argument,
+        low,
     }
 }
 

@@ -21,7 +21,7 @@ pub enum Command {
         operation: u32,
         side: u32,
         digit: u32,
-        argument: u32,
+        low: u32,
     },
     Tick {
         task: u32,

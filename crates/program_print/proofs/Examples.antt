@@ -8,12 +8,12 @@ use Rattle.machine.specs.declared.Answer.the-variants as Answers
 use Rattle.machine.specs.declared.Reading.the-variants as Readings
 use Rattle.program_command.specs.Text.{bytes}
 use Rattle.text.specs.Numerals.{digitsIn, spaced}
-use Rattle.program_print.specs.declared.Outcome.{Outcome}
-use Rattle.program_print.specs.declared.Outcome.the-variants.{Replied, Ticked, Lane, Unread}
+use Rattle.program_print.specs.declared.CommandOutcome.{CommandOutcome}
+use Rattle.program_print.specs.declared.CommandOutcome.the-variants.{Replied, Ticked, Lane, Unread}
 use Rattle.program_print.specs.Outcomes.{textOf}
 
 -- The lines of some outcomes, over the same words.
-abbrev printed : List Outcome → (words : List ℕ) → List ℕ
+abbrev printed : List CommandOutcome → (words : List ℕ) → List ℕ
 printed [] words = []
 printed (o ∷ os) words = textOf o words ++ printed os words
 

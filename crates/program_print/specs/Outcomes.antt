@@ -5,15 +5,15 @@ use Prim.Native.Nat.{ℕ}
 use Rattle.tag.specs.Tags.{tagsIn}
 use Rattle.machine.specs.declared.Reading.{Reading}
 use Rattle.machine.specs.declared.Reading.the-variants as Readings
-use Rattle.program_print.specs.declared.Outcome.{Outcome}
-use Rattle.program_print.specs.declared.Outcome.the-variants.{Replied, Ticked, Lane, Unread}
+use Rattle.program_print.specs.declared.CommandOutcome.{CommandOutcome}
+use Rattle.program_print.specs.declared.CommandOutcome.the-variants.{Replied, Ticked, Lane, Unread}
 use Rattle.program_print.specs.Lines.{refusedText, replyText, answerText, laneText, unreadText}
 
 abbrev pub readingText : Reading → (words : List ℕ) → List ℕ
 readingText (Readings.Count n) words = laneText (tagsIn n words)
 readingText (Readings.Refused n) words = refusedText n
 
-abbrev pub textOf : Outcome → (words : List ℕ) → List ℕ
+abbrev pub textOf : CommandOutcome → (words : List ℕ) → List ℕ
 textOf (Replied r) words = replyText r
 textOf (Ticked a) words = answerText a
 textOf (Lane r) words = readingText r words
@@ -24,7 +24,7 @@ abbrev pub readingCount : Reading → ℕ
 readingCount (Readings.Count n) = n
 readingCount (Readings.Refused n) = 0
 
-abbrev pub countOf : Outcome → ℕ
+abbrev pub countOf : CommandOutcome → ℕ
 countOf (Replied r) = 0
 countOf (Ticked a) = 0
 countOf (Lane r) = readingCount r

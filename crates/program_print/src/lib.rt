@@ -16,7 +16,7 @@ ghost use Rattle.program_print.specs.Outcomes.{countOf, textOf};
 ghost use Rattle.program_print.specs.Room.{roomFor};
 
 // What a line of the belt run comes to: the answer of a call, or that the line is not read.
-pub enum Outcome {
+pub enum CommandOutcome {
     Replied(Reply),
     Ticked(Answer),
     Lane(Reading),
@@ -25,16 +25,16 @@ pub enum Outcome {
 
 // Puts the line of an outcome at a place of the buffer, and answers the place after it. The tags that a lane counted are
 // the first of those in the words, two words for a tag.
-pub fn print(outcome: Outcome, words: &[u32], out: &mut [u8], at: usize) -> usize
+pub fn print(outcome: CommandOutcome, words: &[u32], out: &mut [u8], at: usize) -> usize
     requires { ⌜ 2 * countOf outcome ≤ length (now words) ⌝ }
     requires { ⌜ at + roomFor (countOf outcome) ≤ length (now out) ⌝ }
     ensures { λ r. ⌜ Written (now (out .entry)) at (textOf outcome (now (words .entry))) (now (out .exit)) r ⌝ }
     ensures { λ r. ⌜ r ≤ at + roomFor (countOf outcome) ⌝ }
 {
     match outcome {
-        Outcome::Replied(reply) => print_reply(reply, out, at),
-        Outcome::Ticked(answer) => print_answer(answer, out, at),
-        Outcome::Lane(reading) => print_reading(reading, words, out, at),
-        Outcome::Unread => put(out, at, b"(unread)\n"),
+        CommandOutcome::Replied(reply) => print_reply(reply, out, at),
+        CommandOutcome::Ticked(answer) => print_answer(answer, out, at),
+        CommandOutcome::Lane(reading) => print_reading(reading, words, out, at),
+        CommandOutcome::Unread => put(out, at, b"(unread)\n"),
     }
 }

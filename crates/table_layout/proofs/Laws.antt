@@ -5,4 +5,4 @@ pub mod Numbers
 pub mod RecordParts
 pub mod Views
 pub mod Fronts
-pub mod Chains
+pub mod Conjunctions

@@ -2,15 +2,15 @@
 use mathlib.Core.List.{List, [], _∷_, _++_}
 use Prim.Native.Nat.{ℕ}
 use lib.ListN.{replicate}
-use Rattle.tag_lists.specs.TagLists.{count, refused, refusedAt, Outcome, outcome, readTags, writeTags}
+use Rattle.tag_lists.specs.TagLists.{count, refused, refusedAt, ListOutcome, outcome, readTags, writeTags}
 
 -- An outcome as the definitions give it, and as it is.
 pub record Example : Type 0 where
-  pub given : Outcome
-  pub is : Outcome
+  pub given : ListOutcome
+  pub is : ListOutcome
 
 infix 80 _gives_
-abbrev pub _gives_ : Outcome → Outcome → Example
+abbrev pub _gives_ : ListOutcome → ListOutcome → Example
 given gives is = record { given = given; is = is }
 
 -- The tags 51, 9,999,999,999 and 1,250,000,000; a byte of 16 x + y holds the digits x and y.

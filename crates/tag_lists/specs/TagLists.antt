@@ -24,11 +24,11 @@ answerOf BadLength = refused 17
 answerOf (BadTag place) = refusedAt 18 place
 answerOf TooShort = refused 19
 
-pub record Outcome : Type 0 where
+pub record ListOutcome : Type 0 where
   pub answer : Answer
   pub out : List ℕ
 
-abbrev pub outcome : Answer → (out : List ℕ) → Outcome
+abbrev pub outcome : Answer → (out : List ℕ) → ListOutcome
 outcome a out = record { answer = a; out = out }
 
 -- ---- The two ways. Each takes a tag's elements in the list to its elements in the out slice.
@@ -68,25 +68,25 @@ abbrev pub lengthOk : (width longest length : ℕ) → Bool
 lengthOk width longest l = eqb (l % width) 0 && leb l longest
 
 -- 02: "18, with the place ..; 19, out slice too short, tested last".
-abbrev pub tagsTaken : Way → (n : ℕ) → (list out : List ℕ) → Outcome
+abbrev pub tagsTaken : Way → (n : ℕ) → (list out : List ℕ) → ListOutcome
 tagsTaken w n list out =
     cond (ltb (firstBad w n list) n) (outcome (refusedAt 18 (firstBad w n list)) out)
     (cond (ltb (length out) (w .room * n)) (outcome (refused 19) out)
     (outcome (count n) (putAll w n list out)))
 
 -- 02: "the list's length is tested before its tags".
-abbrev pub listTaken : Way → (list out : List ℕ) → Outcome
+abbrev pub listTaken : Way → (list out : List ℕ) → ListOutcome
 listTaken w list out =
     cond (lengthOk (w .width) (w .longest) (length list)) (tagsTaken w (length list / w .width) list out)
     (outcome (refused 17) out)
 
 -- ---- Reading and writing.
-abbrev pub readTags : (bytes words : List ℕ) → Outcome
+abbrev pub readTags : (bytes words : List ℕ) → ListOutcome
 readTags bytes words = listTaken reading bytes words
 
-abbrev pub writeTags : (words bytes : List ℕ) → Outcome
+abbrev pub writeTags : (words bytes : List ℕ) → ListOutcome
 writeTags words bytes = listTaken writing words bytes
 
 -- What a call in code gives back, with the out slice that it leaves.
-abbrev pub outcomeOf : Listed → (out : List ℕ) → Outcome
+abbrev pub outcomeOf : Listed → (out : List ℕ) → ListOutcome
 outcomeOf l out = outcome (answerOf l) out

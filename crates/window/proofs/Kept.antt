@@ -18,7 +18,7 @@ use Rattle.window.specs.Window.{
   total,
   lost,
   refused,
-  Outcome,
+  FeedOutcome,
   outcome,
   feed,
 }
@@ -142,7 +142,7 @@ module _
           let then = fed-then (P .fits) f (turn-is h P f ∙ e) in
           record {
             answer-is =
-                ap (λ (o : Outcome). o .answer) then
+                ap (λ (o : FeedOutcome). o .answer) then
                 ∙ rw e (ap lost (parts-after .holds .sum ∙ total-lost W (f ∷ h)));
             kept =
                 rw (then, e)
@@ -157,7 +157,7 @@ module _
           }
       go false e =
           record {
-            answer-is = ap (λ (o : Outcome). o .answer) (refused-then e) ∙ rw e;
+            answer-is = ap (λ (o : FeedOutcome). o .answer) (refused-then e) ∙ rw e;
             kept =
                 rw (refused-then e, e)
                 (record { fed = fed; next = next; last = last; ps = ps; is = refl; parts = P });

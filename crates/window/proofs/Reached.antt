@@ -22,7 +22,7 @@ use Rattle.window.specs.Window.{
   countFollows,
   oneMore,
   goRound,
-  Outcome,
+  FeedOutcome,
 }
 use Rattle.window.specs.History.{Feed, fedTo, answersOf, windowAfter, NoneRefused, EachIsFed}
 use Rattle.window.proofs.Laws.Tests.{clash}
@@ -78,9 +78,9 @@ module _ {W fed next last : ℕ} {ps : List ℕ} (F : Fits W fed next last ps) w
       let then = fed-then F f follows in
       let word = bit-fed count (getD ps′ next 0) bit in
       let left : fedTo (windowOf W fed next last ps) f .words ≡ windowOf W fed′ next′ count ps′
-      = ap (λ (o : Outcome). o .words) then
+      = ap (λ (o : FeedOutcome). o .words) then
       ∙ rw (more, round, same-count count (getD ps′ next 0), word, same) in
-      let taken = ap (λ (o : Outcome). o .answer) then in (
+      let taken = ap (λ (o : FeedOutcome). o .answer) then in (
         L .0 ++ (f ∷ []),
         none-refused-in-both (L .0) (f ∷ []) (freshWords W) (L .1) (rw (L .2) ((_, taken), tt)),
         after-both (L .0) (f ∷ []) (freshWords W) ∙ rw (L .2) left,

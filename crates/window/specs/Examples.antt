@@ -3,15 +3,15 @@ use mathlib.Core.Bool.{cond}
 use mathlib.Core.List.{List, [], _∷_, _++_}
 use Prim.Native.Nat.{ℕ, zero, suc}
 use Rattle.window.specs.Lost.{isLost}
-use Rattle.window.specs.Window.{lost, refused, Outcome, outcome, feed, freshWords}
+use Rattle.window.specs.Window.{lost, refused, FeedOutcome, outcome, feed, freshWords}
 
 -- An outcome as the definitions give it, and as it is.
 pub record Example : Type 0 where
-  pub given : Outcome
-  pub is : Outcome
+  pub given : FeedOutcome
+  pub is : FeedOutcome
 
 infix 80 _gives_
-abbrev pub _gives_ : Outcome → Outcome → Example
+abbrev pub _gives_ : FeedOutcome → FeedOutcome → Example
 given gives is = record { given = given; is = is }
 
 -- A refusal leaves the window.

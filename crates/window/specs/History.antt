@@ -6,7 +6,7 @@ use Prim.Native.Nat.{ℕ, _+_, _%_, _^_, _≤_, _<_}
 use lib.Dec.{eqb}
 use lib.ListN.{take}
 use Rattle.window.specs.Lost.{lostWord}
-use Rattle.window.specs.Window.{Answer, lost, refused, Outcome, width, lastCount, isWindow, freshWords, feed}
+use Rattle.window.specs.Window.{Answer, lost, refused, FeedOutcome, width, lastCount, isWindow, freshWords, feed}
 
 -- ---- One feed: a tick's count, and the task's step before and after.
 pub record Feed : Type 0 where
@@ -14,7 +14,7 @@ pub record Feed : Type 0 where
   pub before : ℕ
   pub after : ℕ
 
-abbrev pub fedTo : List ℕ → Feed → Outcome
+abbrev pub fedTo : List ℕ → Feed → FeedOutcome
 fedTo ws f = feed ws (f .count) (f .before) (f .after)
 
 -- How many ticks of a list are lost swaps.

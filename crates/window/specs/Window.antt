@@ -119,19 +119,19 @@ pub data Answer : Type 0 where
   refused : (number : ℕ) → Answer
 
 -- An answer, and every word of the window afterwards.
-pub record Outcome : Type 0 where
+pub record FeedOutcome : Type 0 where
   pub answer : Answer
   pub words : List ℕ
 
-abbrev pub outcome : Answer → (words : List ℕ) → Outcome
+abbrev pub outcome : Answer → (words : List ℕ) → FeedOutcome
 outcome a ws = record { answer = a; words = ws }
 
 -- The tick just fed is one of the last W.
-abbrev pub answered : (words : List ℕ) → Outcome
+abbrev pub answered : (words : List ℕ) → FeedOutcome
 answered ws = outcome (lost (total (places ws))) ws
 
 -- The refusals in their order; a refusal leaves the window as it was.
-unfoldable pub feed : List ℕ → (count before after : ℕ) → Outcome
+unfoldable pub feed : List ℕ → (count before after : ℕ) → FeedOutcome
 feed ws count before after =
     cond (isWindow ws)
     (cond (inTurn ws count) (answered (fedWords ws count (lostWord before after)))
@@ -144,5 +144,5 @@ answerOf (Lost n) = lost n
 answerOf BadWindow = refused 23
 answerOf OutOfTurn = refused 24
 
-abbrev pub outcomeOf : Fed → (words : List ℕ) → Outcome
+abbrev pub outcomeOf : Fed → (words : List ℕ) → FeedOutcome
 outcomeOf f ws = outcome (answerOf f) ws

@@ -30,7 +30,7 @@ use Rattle.window.specs.Window.{
   Answer,
   lost,
   refused,
-  Outcome,
+  FeedOutcome,
   outcome,
   feed,
 }
@@ -38,7 +38,7 @@ use Rattle.window.specs.History.{Feed, answersBy}
 
 -- ---- Feeding, with each of its parts as a parameter.
 abbrev pub Feeder : Type 0
-Feeder = List ℕ → (count before after : ℕ) → Outcome
+Feeder = List ℕ → (count before after : ℕ) → FeedOutcome
 
 -- What 23 and 24 test, which pairs are lost, the words with one tick more, the number answered by the words before and
 -- after and the tick's own, and what 24 leaves.

@@ -19,7 +19,7 @@ use Rattle.window_contention.specs.Watched.{
   by-dispatch,
   in-run,
   in-panel,
-  InRow,
+  Consecutive,
   no-tick,
   first,
   later,
@@ -40,12 +40,12 @@ told (by-dispatch ws h a is-a made) = lost-by-dispatch ws h a is-a made
 told (in-run ws list answers i l) = lost-in-run ws list answers i l
 told (in-panel ws list answers i l) = lost-in-panel ws list answers i l
 
--- ---- Ticks in a row: all are made, and each count follows the one before.
+-- ---- Consecutive ticks: all are made, and each count follows the one before.
 abbrev AllMade : List Tick → Type 0
 AllMade [] = Unit {0}
 AllMade (x ∷ l) = IsMade x × AllMade l
 
-row-made : {l : List Tick} → InRow l → AllMade l
+row-made : {l : List Tick} → Consecutive l → AllMade l
 row-made no-tick = tt
 row-made (first made) = (made, tt)
 row-made (later made same r) = (made, row-made r)
@@ -53,17 +53,17 @@ row-made (later made same r) = (made, row-made r)
 abbrev feeds : List Tick → List Feed
 feeds l = map feedOf l
 
-row-follows : {x : Tick} {l : List Tick} → InRow (x ∷ l) → follows (feeds l) (feedOf x) ≡ true
+row-follows : {x : Tick} {l : List Tick} → Consecutive (x ∷ l) → follows (feeds l) (feedOf x) ≡ true
 row-follows (first made) = refl
 row-follows {x} (later {y = y} made same r) =
     eq-eqb (tickCount (x .after)) ((tickCount (y .after) + 1) % 2 ^ 32)
     (told made .count-next ∙ ap (λ (n : ℕ). (n + 1) % 2 ^ 32) same)
 
-row-rest : {x : Tick} {l : List Tick} → InRow (x ∷ l) → InRow l
+row-rest : {x : Tick} {l : List Tick} → Consecutive (x ∷ l) → Consecutive l
 row-rest (first made) = no-tick
 row-rest (later made same r) = r
 
-watched-kept : (W : ℕ) → 1 ≤ W → W ≤ 4_096 → (l : List Tick) → InRow l → Kept W (feeds l) (watched W l)
+watched-kept : (W : ℕ) → 1 ≤ W → W ≤ 4_096 → (l : List Tick) → Consecutive l → Kept W (feeds l) (watched W l)
 unfolding watched
 watched-kept W least most [] r = kept-fresh W least most
 watched-kept W least most (x ∷ l) r =

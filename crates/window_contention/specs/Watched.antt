@@ -45,15 +45,15 @@ pub data IsMade : Tick → Type 0 where
 
 -- Ticks one after another, the newest first, with none left out: each finds the tick count that the one before it left.
 -- Between two of them calls may be made that make no tick.
-pub data InRow : List Tick → Type 0 where
-  no-tick : InRow []
-  first : {x : Tick} → IsMade x → InRow (x ∷ [])
+pub data Consecutive : List Tick → Type 0 where
+  no-tick : Consecutive []
+  first : {x : Tick} → IsMade x → Consecutive (x ∷ [])
   later :
       {x y : Tick} {l : List Tick}
       → IsMade x
       → tickCount (x .before) ≡ tickCount (y .after)
-      → InRow (y ∷ l)
-      → InRow (x ∷ y ∷ l)
+      → Consecutive (y ∷ l)
+      → Consecutive (x ∷ y ∷ l)
 
 -- How many of them are lost swaps.
 pub data LostCount : List Tick → ℕ → Type 0 where
@@ -87,5 +87,5 @@ watched W (x ∷ l) = fedTo (watched W l) (feedOf x) .words
 abbrev pub CountsLostSwaps : Type 0
 CountsLostSwaps =
     (W : ℕ) → 1 ≤ W → W ≤ 4_096
-    → (x : Tick) (l : List Tick) → InRow (x ∷ l)
+    → (x : Tick) (l : List Tick) → Consecutive (x ∷ l)
     → (n : ℕ) × (fedTo (watched W l) (feedOf x) .answer ≡ lost n) × LostCount (take W (x ∷ l)) n

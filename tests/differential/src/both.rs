@@ -133,7 +133,7 @@ impl Both {
         second
     }
 
-    /// Ticks of one task in a row: what the last gave.
+    /// Consecutive ticks of one task: what the last gave.
     pub fn ticks(&mut self, task: u32, hint: u32, times: u32) -> Result<Answer, u32> {
         self.note(Call::Ticks(task, hint, times));
         let proved = ffi::ticks(self.proved.words_mut(), task, hint, times);
@@ -155,7 +155,7 @@ impl Both {
         second
     }
 
-    /// Dispatches in a row: what the last gave. After one that was made none is "idle".
+    /// Consecutive dispatches: what the last gave. After one that was made none is "idle".
     pub fn dispatches(&mut self, hint: u32, times: u32) -> Result<Option<Answer>, u32> {
         self.note(Call::Dispatches(hint, times));
         let proved = ffi::dispatches(self.proved.words_mut(), hint, times);

@@ -8,7 +8,7 @@ use crate::common::row::Note;
 use crate::common::tables::{shaped_of, sizes};
 use crate::counts::{Counts, Origin};
 use crate::dispatches;
-use crate::in_row;
+use crate::consecutive;
 use crate::snapshots;
 
 /// Calls on a well-shaped table.
@@ -65,8 +65,8 @@ pub fn calls(random: &mut Random, counts: &mut Counts, both: &mut Both) {
             12..=14 => {
                 let _ = dispatches::dispatch(counts, Origin::Anywhere, both, hint);
             }
-            15 => in_row::ticks(random, counts, both, task, hint),
-            16 => in_row::dispatches(random, counts, both, hint),
+            15 => consecutive::ticks(random, counts, both, task, hint),
+            16 => consecutive::dispatches(random, counts, both, hint),
             17 => match &taken {
                 None => taken = Some(snapshots::take(random, both)),
                 Some(snapshot) => assert_eq!(both.put(snapshot), Ok(())),
@@ -123,8 +123,8 @@ pub fn damaged(random: &mut Random, counts: &mut Counts) {
             12 | 13 => {
                 let _ = both.dispatch(two);
             }
-            14 => in_row::ticks(random, counts, &mut both, one % 20, two),
-            15 => in_row::dispatches(random, counts, &mut both, two),
+            14 => consecutive::ticks(random, counts, &mut both, one % 20, two),
+            15 => consecutive::dispatches(random, counts, &mut both, two),
             16 | 17 => {
                 let length = words.len() + random.pick(&[0, 0, 0, 1]);
                 let _ = both.take(length, four);

@@ -12,7 +12,7 @@ use crate::digits::Digits;
 use crate::dispatches::Dispatches;
 use crate::drain::Drains;
 use crate::idle::Idle;
-use crate::in_row::InRow;
+use crate::consecutive::Consecutive;
 use crate::lists::Lists;
 use crate::one_user::played::Users;
 use crate::outcomes::{Leads, Outcome, OUTCOMES};
@@ -82,8 +82,8 @@ pub struct Counts {
     pub begins: Begins,
     /// Dispatches.
     pub dispatches: Dispatches,
-    /// Ticks and dispatches in a row.
-    pub in_row: InRow,
+    /// Consecutive ticks and dispatches.
+    pub consecutive: Consecutive,
     /// Dispatches until every task is idle.
     pub drains: Drains,
     /// Calls that get all the ticks.
@@ -115,7 +115,7 @@ impl Counts {
             words: Words::default(),
             begins: Begins::default(),
             dispatches: Dispatches::default(),
-            in_row: InRow::default(),
+            consecutive: Consecutive::default(),
             drains: Drains::default(),
             alone: Alone::default(),
             stretches: Stretches::default(),
@@ -213,7 +213,7 @@ impl Counts {
         faults.extend(self.digits.report());
         faults.extend(self.begins.report());
         faults.extend(self.dispatches.report());
-        faults.extend(self.in_row.report());
+        faults.extend(self.consecutive.report());
         faults.extend(self.alone.report());
         faults.extend(self.stretches.report());
         faults.extend(self.drains.report());

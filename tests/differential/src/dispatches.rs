@@ -63,7 +63,7 @@ pub struct Dispatches {
     /// Stretches of them alone that a run repeated, and those of them that ended with every task idle.
     pub stretches: u64,
     pub to_idle: u64,
-    /// By tasks, the most dispatches in a row that a busy task waited.
+    /// By tasks, the most consecutive dispatches that a busy task waited.
     waits: BTreeMap<u32, u32>,
 }
 

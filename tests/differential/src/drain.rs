@@ -33,7 +33,7 @@ pub struct Drains {
 }
 
 impl Drains {
-    /// Drains a table that start and the calls reach, by dispatches in a row, with any hints.
+    /// Drains a table that start and the calls reach, by consecutive dispatches, with any hints.
     pub fn drain(&mut self, random: &mut Random, both: &mut Both, sizes: Sizes) {
         let busy = busy(both.table(), sizes);
         let (mut ended, mut ticks) = (Vec::new(), 0);

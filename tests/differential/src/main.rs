@@ -17,7 +17,7 @@ mod digits;
 mod dispatches;
 mod drain;
 mod idle;
-mod in_row;
+mod consecutive;
 mod lent;
 mod lists;
 mod nearest;

@@ -3,7 +3,7 @@
 
 mod adversary;
 mod delay;
-mod in_row;
+mod consecutive;
 mod in_turn;
 mod snapshots;
 

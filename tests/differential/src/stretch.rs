@@ -14,7 +14,7 @@ fn bound(nodes: u32, tasks: u32, lanes: u32) -> u32 {
 pub struct Stretches(Nearest);
 
 impl Stretches {
-    /// So many ticks in a row were made, and none ended a call.
+    /// So many consecutive ticks were made, and none ended a call.
     pub fn saw(&mut self, sizes: Sizes, ticks: u32) {
         let Sizes {
             nodes,

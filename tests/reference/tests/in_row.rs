@@ -1,4 +1,4 @@
-//! Ticks and dispatches in a row: the single ones up to the first that does not answer "going", or so many of them.
+//! Consecutive ticks and dispatches: the single ones up to the first that does not answer "going", or so many of them.
 
 mod common;
 
@@ -8,7 +8,7 @@ use common::tables::{shaped, sizes, started, LANE};
 use reference::table::{header, record, ADD, POP, PUSH, RIGHT};
 use reference::{dispatch, dispatches, tick, ticks, Answer};
 
-/// What came of calls in a row, by name.
+/// What came of consecutive calls, by name.
 const ENDS: [&str; 5] = [
     "all going",
     "the first is the last",
@@ -17,7 +17,7 @@ const ENDS: [&str; 5] = [
     "a later one is refused",
 ];
 
-/// The single calls that calls in a row stand for: what the last gives, and its place in `ENDS`.
+/// The single calls that consecutive calls stand for: what the last gives, and its place in `ENDS`.
 fn singly<T: PartialEq + Copy>(
     times: u32,
     going: T,
@@ -35,7 +35,7 @@ fn singly<T: PartialEq + Copy>(
     (Ok(going), 0)
 }
 
-/// Ticks in a row give what the last single one does, and leave the table of all of them.
+/// Consecutive ticks give what the last single one does, and leave the table of all of them.
 fn check_ticks(
     table: &mut [u32],
     task: u32,

@@ -2,7 +2,7 @@
 use native.Mathlib.Omega.{arith}
 use Rattle.machine.specs.Shape.{WellFormed}
 use Rattle.table_shape.proofs.Laws.TableWords.{header-long}
-use Rattle.table_shape.proofs.Laws.PassedTable.{passed}
+use Rattle.table_shape.proofs.Laws.PassedTable.{table-passed}
 use Rattle.call_begin.proofs.BeginTests.{begin-refused, begin-no-lane}
 use borrow.Author.Needs.{needs}
 use Rattle.call_begin.proofs.begin.Statement.{statement}
@@ -23,7 +23,7 @@ returns c =
 -- What passed.
 passes : (c : tie.Else1) → WellFormed (c .before .before .before .before .args .table .now)
 passes c =
-    passed (c .before .before .before .before .args .table .now) (c .before .table-refusal .ensures) (c .if1 .left)
+    table-passed (c .before .before .before .before .args .table .now) (c .before .table-refusal .ensures) (c .if1 .left)
 
 slice-read-if2 : tie.Need-slice-read-if2
 slice-read-if2 c =

@@ -1,7 +1,7 @@
 -- `call_dispatch::dispatch_refusal` meets its contract: refusals 3 and 4, then 9, or none.
 use native.Mathlib.Omega.{arith}
 use Rattle.machine.specs.Shape.{WellFormed}
-use Rattle.table_shape.proofs.Laws.PassedTable.{passed}
+use Rattle.table_shape.proofs.Laws.PassedTable.{table-passed}
 use Rattle.table_shape.proofs.Laws.TableWords.{header-long}
 use Rattle.call_dispatch.proofs.DispatchRefusals.{is-3-or-4, is-9, is-none}
 use borrow.Author.Needs.{needs}
@@ -19,7 +19,7 @@ returns c =
 -- The table has passed 3 and 4.
 table-passed : (c : tie.Else1) → WellFormed (c .before .before .before .args .table .now)
 table-passed c =
-    passed (c .before .before .before .args .table .now) (c .before .table-refusal .ensures) (c .if1 .left)
+    table-passed (c .before .before .before .args .table .now) (c .before .table-refusal .ensures) (c .if1 .left)
 
 shared-slice-read-if2 : tie.Need-shared-slice-read-if2
 shared-slice-read-if2 c =

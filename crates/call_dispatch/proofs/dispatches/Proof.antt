@@ -1,6 +1,6 @@
 -- `call_dispatch::dispatches` meets its contract: none asked for, refusals 3, 4 and 9, then `dispatches_on`.
 use Rattle.call_dispatch.proofs.DispatchRefusals.{none-refused}
-use Rattle.call_dispatch.proofs.DispatchesInRow.{none-left, all-refused}
+use Rattle.call_dispatch.proofs.ConsecutiveDispatches.{none-left, all-refused}
 use borrow.Author.Needs.{needs}
 use Rattle.call_dispatch.proofs.dispatches.Statement.{statement}
 use Rattle.call_dispatch.proofs.dispatches.Tie as tie

@@ -3,7 +3,7 @@ use mathlib.Core.Path.{_∙_}
 use native.Mathlib.Omega.{arith}
 use Rattle.machine.specs.Shape.{WellFormed}
 use Rattle.table_shape.proofs.Laws.TableWords.{header-long}
-use Rattle.table_shape.proofs.Laws.PassedTable.{passed}
+use Rattle.table_shape.proofs.Laws.PassedTable.{table-passed}
 use Rattle.call_read.proofs.WalkLaws.{read-refused, read-no-lane, read-goes-on}
 use borrow.Author.Needs.{needs}
 use Rattle.call_read.proofs.read.Statement.{statement}
@@ -21,7 +21,7 @@ returns c =
 -- What passed.
 passes : (c : tie.Else1) → WellFormed (c .before .before .before .before .args .table .now)
 passes c =
-    passed (c .before .before .before .before .args .table .now) (c .before .table-refusal .ensures) (c .if1 .left)
+    table-passed (c .before .before .before .before .args .table .now) (c .before .table-refusal .ensures) (c .if1 .left)
 
 shared-slice-read-if2 : tie.Need-shared-slice-read-if2
 shared-slice-read-if2 c =

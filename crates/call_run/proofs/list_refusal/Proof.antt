@@ -1,14 +1,14 @@
 -- `call_run::list_refusal` meets its contract: each test is the definition's.
 use borrow.Author.Needs.{needs}
 use Rattle.machine.specs.Shape.{WellFormed}
-use Rattle.table_shape.proofs.Laws.PassedTable.{passed}
+use Rattle.table_shape.proofs.Laws.PassedTable.{table-passed}
 use Rattle.call_run.proofs.RunTests.{list-3-4, list-13-odd, list-13-long, list-passes}
 use Rattle.call_run.proofs.list_refusal.Statement.{statement}
 use Rattle.call_run.proofs.list_refusal.Tie as tie
 
 -- The table has passed 3 and 4.
 table-passed : (c : tie.Else1) → WellFormed (c .before .before .before .before .args .table .now)
-table-passed c = passed (c .before .before .before .before .args .table .now) (c .before .table-refusal .ensures) (c .if1 .left)
+table-passed c = table-passed (c .before .before .before .before .args .table .now) (c .before .table-refusal .ensures) (c .if1 .left)
 
 table-refusal-requires : tie.Need-table-refusal-requires
 table-refusal-requires c κs = search needs

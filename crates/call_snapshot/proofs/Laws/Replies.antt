@@ -12,7 +12,7 @@ use Rattle.machine.specs.Results.{changedOf}
 use Rattle.machine.specs.Snapshots.{snapshotRefusal}
 use Rattle.machine.proofs.Shape.ShapeKept.{table-passes}
 use Rattle.answers.specs.Refusals.{numberOf}
-use Rattle.table_shape.proofs.Laws.PassedTable.{refused, passed}
+use Rattle.table_shape.proofs.Laws.PassedTable.{refused, table-passed}
 
 module _ (ss ws tested before after : List ℕ) where
   abbrev outcome : Changed
@@ -28,4 +28,4 @@ module _ (ss ws tested before after : List ℕ) where
     pub accepted : n ≡ 0 → {words : List ℕ} → words ≡ after → changedOf Accepted words ≡ outcome
     accepted h e =
         ap (changedOf Accepted) e
-        ∙ rw (eq-eqb (length ss) (length ws) same, table-passes tested (passed tested is-number h) nothing)
+        ∙ rw (eq-eqb (length ss) (length ws) same, table-passes tested (table-passed tested is-number h) nothing)

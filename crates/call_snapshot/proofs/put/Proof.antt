@@ -1,7 +1,7 @@
 -- `call_snapshot::put` meets its contract: 22, then 3 and 4 of the result, then its words.
 use mathlib.Core.Path.{sym, _∙_}
 use Rattle.machine.specs.Snapshots.{byNodes, putBack}
-use Rattle.table_shape.proofs.Laws.PassedTable.{passed}
+use Rattle.table_shape.proofs.Laws.PassedTable.{table-passed}
 use Rattle.call_snapshot.proofs.Laws.ResultTests.{result-length}
 use Rattle.call_snapshot.proofs.Laws.Replies.{differ-in-length, refused-with, accepted}
 use borrow.Author.Needs.{needs}
@@ -35,7 +35,7 @@ write-table-requires c κs =
     let t = e .before .result-refusal in
     let p = e .before .before in
     let ss = p .before .before .before .args .snapshot .now in (
-      sym (result-length ss) ∙ passed (byNodes ss) (t .ensures) (e .if2 .left) .length-passes,
+      sym (result-length ss) ∙ table-passed (byNodes ss) (t .ensures) (e .if2 .left) .length-passes,
       sym (p .if1 .left),
     )
 

@@ -2,7 +2,7 @@
 use mathlib.Core.Path.{_≡_, refl, _∙_}
 use mathlib.Core.Bool.{_&&_}
 use Rattle.machine.specs.Shape.{headerOk}
-use Rattle.table_layout.proofs.Laws.Chains.{passed, failed, met}
+use Rattle.table_layout.proofs.Laws.Conjunctions.{and-passed, and-failed, and-met}
 use Rattle.table_shape.proofs.Laws.TableWords.{header-long}
 use Rattle.call_snapshot.specs.Contracts.{columnsOk}
 use Rattle.call_snapshot.proofs.Laws.ResultTests.{result-shape}
@@ -28,7 +28,7 @@ flag :
     → let t = c .before .before .before .args .snapshot .now in
     c .if1 .if2 ≡ headerOk t && columnsOk t
 flag c =
-    met _ (c .if1 .came) (λ p. (p .0 .taken, p .2 ∙ p .1 .ensures)) (λ p. (p .0 .left, p .1))
+    and-met _ (c .if1 .came) (λ p. (p .0 .taken, p .2 ∙ p .1 .ensures)) (λ p. (p .0 .left, p .1))
     (c .before .header-ok .ensures)
 
 header-ok-requires : tie.Need-header-ok-requires
@@ -44,13 +44,13 @@ returns : tie.Need-returns
 returns c =
     let j = c .before .before in
     let s = j .before .before .before in
-    passed (flag j) (c .before .if2 .taken) (c .tasks-ok .ensures) ∙ result-shape (s .args .snapshot .now) (s .pre)
+    and-passed (flag j) (c .before .if2 .taken) (c .tasks-ok .ensures) ∙ result-shape (s .args .snapshot .now) (s .pre)
 
 returns-2 : tie.Need-returns-2
 returns-2 c =
     let j = c .before in
     let s = j .before .before .before in
-    failed _ (flag j) (c .if2 .left) refl ∙ result-shape (s .args .snapshot .now) (s .pre)
+    and-failed _ (flag j) (c .if2 .left) refl ∙ result-shape (s .args .snapshot .now) (s .pre)
 
 pub result-shape-ok-spec : {M : Type 1} → statement M
 result-shape-ok-spec =

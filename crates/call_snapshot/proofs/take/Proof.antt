@@ -1,6 +1,6 @@
 -- `call_snapshot::take` meets its contract: 22, then 3 and 4 of the table, then its words.
 use Rattle.machine.specs.Snapshots.{byColumns, takeSnapshot}
-use Rattle.table_shape.proofs.Laws.PassedTable.{passed}
+use Rattle.table_shape.proofs.Laws.PassedTable.{table-passed}
 use Rattle.call_snapshot.proofs.Laws.Replies.{differ-in-length, refused-with, accepted}
 use borrow.Author.Needs.{needs}
 use Rattle.call_snapshot.proofs.take.Statement.{statement}
@@ -33,7 +33,7 @@ write-snapshot-requires c κs =
     let t = e .before .table-refusal in
     let p = e .before .before in
     let a = p .before .before .before .args in
-    (passed (a .table .now) (t .ensures) (e .if2 .left) .length-passes, p .if1 .left)
+    (table-passed (a .table .now) (t .ensures) (e .if2 .left) .length-passes, p .if1 .left)
 
 same-length : tie.Need-same-length
 same-length c = search needs

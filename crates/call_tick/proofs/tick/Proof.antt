@@ -1,6 +1,6 @@
 -- `call_tick::tick` meets its contract: refusals 3 and 4, then `tick_on`.
 use mathlib.Core.Path.{_∙_}
-use Rattle.table_shape.proofs.Laws.PassedTable.{passed}
+use Rattle.table_shape.proofs.Laws.PassedTable.{table-passed}
 use Rattle.tick_once.proofs.Laws.TickTests.{tick-refused, tick-goes-on}
 use borrow.Author.Needs.{needs}
 use Rattle.call_tick.proofs.tick.Statement.{statement}
@@ -21,7 +21,7 @@ returns c =
 tick-on-requires : tie.Need-tick-on-requires
 tick-on-requires c κs =
     let p = c .before .before .before .before .before in
-    passed (p .args .table .now) (c .before .before .table-refusal .ensures) (c .before .if1 .left)
+    table-passed (p .args .table .now) (c .before .before .table-refusal .ensures) (c .before .if1 .left)
 
 same-length-2 : tie.Need-same-length-2
 same-length-2 c = search needs

@@ -1,7 +1,7 @@
 -- `call_tick::ticks` meets its contract: none asked for, refusals 3 and 4, then `ticks_on`.
-use Rattle.table_shape.proofs.Laws.PassedTable.{passed}
+use Rattle.table_shape.proofs.Laws.PassedTable.{table-passed}
 use Rattle.tick_once.proofs.Laws.TickTests.{ticks-refused}
-use Rattle.call_tick.proofs.Laws.TicksInRow.{none-left}
+use Rattle.call_tick.proofs.Laws.ConsecutiveTicks.{none-left}
 use borrow.Author.Needs.{needs}
 use Rattle.call_tick.proofs.ticks.Statement.{statement}
 use Rattle.call_tick.proofs.ticks.Tie as tie
@@ -25,7 +25,7 @@ returns-2 c =
 ticks-on-requires : tie.Need-ticks-on-requires
 ticks-on-requires c κs =
     let p = c .before .before .before .before .before .before in
-    passed (p .args .table .now) (c .before .before .table-refusal .ensures) (c .before .if2 .left)
+    table-passed (p .args .table .now) (c .before .before .table-refusal .ensures) (c .before .if2 .left)
 
 same-length-2 : tie.Need-same-length-2
 same-length-2 c = search needs

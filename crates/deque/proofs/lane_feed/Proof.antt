@@ -1,6 +1,6 @@
 -- `deque::lane_feed` meets its contract: the number and the window of `feed`.
 use mathlib.Core.Path.{ap, _∙_}
-use Rattle.window.specs.Window.{Outcome}
+use Rattle.window.specs.Window.{FeedOutcome}
 use Rattle.deque.specs.Exports.{fedNumber}
 use borrow.Author.Needs.{needs}
 use Rattle.deque.proofs.lane_feed.Statement.{statement}
@@ -18,8 +18,8 @@ same-length c = search needs
 returns : tie.Need-returns
 returns c =
     let e = c .before .before .before .feed .ensures in (
-      c .fed-number .ensures ∙ ap (λ (o : Outcome). fedNumber (o .answer)) e,
-      ap (λ (o : Outcome). o .words) e,
+      c .fed-number .ensures ∙ ap (λ (o : FeedOutcome). fedNumber (o .answer)) e,
+      ap (λ (o : FeedOutcome). o .words) e,
     )
 
 pub lane-feed-spec : {M : Type 1} → statement M

@@ -53,13 +53,13 @@ module _ {ns : List ℕ} {t : Tasks.Task} (R : Ready ns t) (h : ℕ) where
   s = sideOf (t .side)
 
   -- Through a register that is none or not.
-  passed :
+  past-none :
       {P : Type 0} (none? : Dec P) (d : Done) (e : Effect)
       → outcomeOf ns d ≡ effectIn s ns h e
       → outcomeOf ns (if none? then refusedDone h t else d)
       ≡ effectIn s ns h (if none? then refused (taskMeant t) else e)
-  passed (yes p) d e same = by-code R (refusedDone h)
-  passed (no p) d e same = same
+  past-none (yes p) d e same = by-code R (refusedDone h)
+  past-none (no p) d e same = same
 
   -- The link on side z of the node in register i, into the register r.
   module _ (z : Side) (i : ℕ) (r : Register) where
@@ -83,7 +83,7 @@ module _ {ns : List ℕ} {t : Tasks.Task} (R : Ready ns t) (h : ℕ) where
     followed n m =
         let step = if y ≟ none then n else m in
         rw (chosen y none n m)
-        (passed (x ≟ none) (nextDone h (withRegister t (place r) y) (stepNumber step))
+        (past-none (x ≟ none) (nextDone h (withRegister t (place r) y) (stepNumber step))
         (next (setting (taskMeant t) r y) step) (set-and-at step))
 
     -- The same where both ways lead to one step.
@@ -108,5 +108,5 @@ module _ {ns : List ℕ} {t : Tasks.Task} (R : Ready ns t) (h : ℕ) where
     by-mark =
         let step = if decode (storedIn ns a) ≟ᵛ mark then n else m in
         rw (chosenᵛ (decode (storedIn ns a)) mark n m)
-        (passed (a ≟ none) (nextDone h t (stepNumber step)) (next (taskMeant t) step)
+        (past-none (a ≟ none) (nextDone h t (stepNumber step)) (next (taskMeant t) step)
         (by-code R (λ u. nextDone h u (stepNumber step))))

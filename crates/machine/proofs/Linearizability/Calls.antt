@@ -8,6 +8,6 @@ pub mod RowSteps
 pub mod Agreement
 pub mod MadeTicks
 pub mod CallsAgree
-pub mod TicksInRow
-pub mod DispatchesInRow
+pub mod ConsecutiveTicks
+pub mod ConsecutiveDispatches
 pub mod Runs

@@ -154,7 +154,7 @@ no-tick-refused-with-11 B k h e =
     let A = begun-agrees B .1 in
     tick-not-11 A k h (ap (λ (r : Ticked). refusalOf (r .answer)) (sym (tick-passes A k h)) ∙ ap refusalOf e)
 
--- Nor ticks in a row, of which the last is a tick on such a table.
+-- Nor consecutive ticks, of which the last is a tick on such a table.
 pub no-ticks-refused-with-11 : {ws : List ℕ} → Begun ws → (n k h : ℕ) → ticks n ws k h .answer ≢ Refused 11
 no-ticks-refused-with-11 {ws} B n k h =
     by-last-tick Begun k h (λ vs X. by-call X (tick-call k h)) (λ (r : Ticked). r .answer ≢ Refused 11)
@@ -170,7 +170,7 @@ no-dispatch-refused-with-11 {ws} B h =
     of-tick : {ρ : Row} → Agrees ws ρ → (k : ℕ) → Answered (tickOn ws k h .answer) ≢ Answered (Refused 11)
     of-tick A k e = tick-not-11 A k h (ap dispatchRefusalOf e)
 
--- Nor dispatches in a row, of which the last is one on such a table.
+-- Nor consecutive dispatches, of which the last is one on such a table.
 pub no-dispatches-refused-with-11 : {ws : List ℕ} → Begun ws → (n h : ℕ)
     → dispatches n ws h .answer ≢ Answered (Refused 11)
 no-dispatches-refused-with-11 {ws} B n h =

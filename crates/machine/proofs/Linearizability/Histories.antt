@@ -355,7 +355,7 @@ pub unless-going : {r : Option Row} {ρ′ : Row} (b : Bool) → cond b nothing 
 unless-going true q = clash (cc)
 unless-going false q = q
 
--- Dispatches in a row.
+-- Consecutive dispatches.
 dispatches-recorded : (n m : ℕ) (d : Dispatch) {ρ ρ′ : Row} {η : History} → Recorded ρ η
     → feedDispatches ρ n m d ≡ some ρ′
     → Recorded ρ′ (recordDispatches η n m d)

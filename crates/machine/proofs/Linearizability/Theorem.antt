@@ -48,8 +48,8 @@ use Rattle.machine.proofs.Linearizability.Calls.CallsAgree.{
   dispatch-explained,
   read-explained,
 }
-use Rattle.machine.proofs.Linearizability.Calls.TicksInRow.{ticks-explained, ticks-within}
-use Rattle.machine.proofs.Linearizability.Calls.DispatchesInRow.{dispatches-explained, dispatches-within}
+use Rattle.machine.proofs.Linearizability.Calls.ConsecutiveTicks.{ticks-explained, ticks-within}
+use Rattle.machine.proofs.Linearizability.Calls.ConsecutiveDispatches.{dispatches-explained, dispatches-within}
 use Rattle.machine.proofs.Linearizability.Calls.Runs.{run-explained, run-within, panel-explained, panel-within}
 use Rattle.machine.proofs.Linearizability.Carried.{Carried, always, always-so}
 

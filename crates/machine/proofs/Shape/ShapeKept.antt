@@ -86,7 +86,7 @@ use Rattle.machine.proofs.Words.StartLaws.{
   startColumns,
   columns-start,
 }
-use Rattle.machine.proofs.Words.RunLaws.{kept-in-row}
+use Rattle.machine.proofs.Words.RunLaws.{kept-consecutively}
 use Rattle.machine.proofs.Words.DispatchLaws.{kept-in-dispatches}
 use Rattle.machine.proofs.Words.Stretches.{side-small}
 use Rattle.machine.proofs.Shape.BusyLaws.{NodeOrNone, BusyFacts, record-of-fresh, record-of-busy}
@@ -395,7 +395,7 @@ module _ (ws : List ℕ) (A : WellFormed ws) where
 module _ (ws : List ℕ) (A : WellFormed ws) where
   pub ticks-kept : (n k h : ℕ) → Kept ws (ticks n ws k h .words)
   ticks-kept n k h =
-      kept-in-row (Kept ws) k h (λ vs K. kept-then K (tick-call-kept vs (kept-accepted K) k h)) n ws
+      kept-consecutively (Kept ws) k h (λ vs K. kept-then K (tick-call-kept vs (kept-accepted K) k h)) n ws
       (unchanged ws (Z ws A) (W ws A))
 
   pub call-accepted : (c : Call) → WellFormed (after c ws)

@@ -246,23 +246,23 @@ module _ (ws : List ℕ) where
       at j b (no q) = rw (g .same j (omega arith)) (λ s h. g .stays _ (v .closed j (omega arith) s h))
 
   -- ---- The visiting ends with every queued node visited, as there are at least as many turns as the queue has places.
-  record Done (m v : Marking) : Type 0 where
+  record AllVisited (m v : Marking) : Type 0 where
     pub grows : Grows m v
     pub visited : Visited v (v .tail)
 
-  at-end : {m : Marking} (n i : ℕ) → Visited m i → m .tail ≤ i → Done m (visitFrom ws n i m)
+  at-end : {m : Marking} (n i : ℕ) → Visited m i → m .tail ≤ i → AllVisited m (visitFrom ws n i m)
   at-end {m} n i v l =
       let b = v .inside in
       let q : i ≡ m .tail = omega arith in
       rw (visitFrom-end ws n i m l) (record { grows = grows-refl m; visited = subst (Visited m) q v })
 
-  visitFrom-done : {m : Marking} (n i : ℕ) → Visited m i → largestCount ≤ n + i → Done m (visitFrom ws n i m)
+  visitFrom-done : {m : Marking} (n i : ℕ) → Visited m i → largestCount ≤ n + i → AllVisited m (visitFrom ws n i m)
   visitFrom-done zero i v e = at-end 0 i v (let t = tail-le (v .room) in omega arith)
   visitFrom-done {m} (suc n) i v e =
       by (i <? m .tail) (λ l. visitFrom-done n (suc i) (visit-visited i v l) (omega arith))
     where
-      by : Dec (i < m .tail) → (i < m .tail → Done (visit ws m i) (visitFrom ws n (suc i) (visit ws m i)))
-          → Done m (visitFrom ws (suc n) i m)
+      by : Dec (i < m .tail) → (i < m .tail → AllVisited (visit ws m i) (visitFrom ws n (suc i) (visit ws m i)))
+          → AllVisited m (visitFrom ws (suc n) i m)
       by (yes l) rest =
           let d = rest l in
           rw (visitFrom-next ws n i m l)
@@ -292,7 +292,7 @@ module _ {ws : List ℕ} (W : WellLinked ws) where
   roots-have-marks : Each (λ x. x < nodeCount ws → HasMark (rootsMarked ws) x) (roots ws)
   roots-have-marks = markAll-marks room-start (roots ws)
 
-  marked-done : Done ws (rootsMarked ws) (marked ws)
+  marked-done : AllVisited ws (rootsMarked ws) (marked ws)
   unfolding marked
   marked-done =
       visitFrom-done ws largestCount 0

@@ -87,12 +87,12 @@ nodes-long ss enough = same-length (λ S. transposed nodeLength S) nodes-keep ss
 -- ---- What is accepted.
 
 -- What was tested is well formed and as long as the other words, and these were written over.
-pub record Done (tested other words : List ℕ) (c : Changed) : Type 0 where
+pub record WrittenOver (tested other words : List ℕ) (c : Changed) : Type 0 where
   pub same-length : length other ≡ length tested
   pub well-formed : WellFormed tested
   pub is : c ≡ record { reply = Accepted; words = words }
 
-pub taken : (ws out : List ℕ) → takeSnapshot ws out .reply ≡ Accepted → Done ws out (byColumns ws) (takeSnapshot ws out)
+pub taken : (ws out : List ℕ) → takeSnapshot ws out .reply ≡ Accepted → WrittenOver ws out (byColumns ws) (takeSnapshot ws out)
 unfolding takeSnapshot
 taken ws out accepted =
     let e = no-refusal (snapshotRefusal out ws (tableRefusal ws nothing)) out (byColumns ws) accepted in
@@ -102,7 +102,7 @@ taken ws out accepted =
       is = ap (λ (r : Option ℕ). changed r out (byColumns ws)) e;
     }
 
-pub put : (ss old : List ℕ) → putBack ss old .reply ≡ Accepted → Done (byNodes ss) old (byNodes ss) (putBack ss old)
+pub put : (ss old : List ℕ) → putBack ss old .reply ≡ Accepted → WrittenOver (byNodes ss) old (byNodes ss) (putBack ss old)
 unfolding putBack
 put ss old accepted =
     let e = no-refusal (snapshotRefusal ss old (tableRefusal (byNodes ss) nothing)) old (byNodes ss) accepted in

@@ -1,4 +1,4 @@
--- Dispatches in a row, by the first and by the last; and what they keep.
+-- Consecutive dispatches, by the first and by the last; and what they keep.
 use mathlib.Core.Path.{_≡_, refl, ap, sym, _∙_}
 use mathlib.Core.Bool.{Bool, true, false, cond}
 use mathlib.Core.List.{List}
@@ -55,7 +55,7 @@ module _ (n : ℕ) (ws : List ℕ) (h : ℕ) where
     pub one-made : dispatchesMade (suc n) ws h ≡ 1
     one-made = rw (none-went-on, lt-ltb 0 (suc n) (omega arith))
 
--- One in a row is a dispatch.
+-- One consecutive dispatch is a dispatch.
 pub one-dispatch : (ws : List ℕ) (h : ℕ) → dispatches 1 ws h ≡ dispatch ws h
 unfolding dispatches
 one-dispatch ws h = go (dispatchGoesOn (dispatch ws h .answer)) refl

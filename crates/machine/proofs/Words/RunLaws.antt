@@ -1,4 +1,4 @@
--- A run, and ticks in a row, by the first tick; and what ticks in a row keep.
+-- A run, and consecutive ticks, by the first tick; and what consecutive ticks keep.
 use mathlib.Core.Path.{_≡_, refl, ap, sym, _∙_}
 use mathlib.Core.Bool.{Bool, true, false}
 use mathlib.Core.List.{List, _∷_}
@@ -34,7 +34,7 @@ module _ (k h : ℕ) (list ws answers : List ℕ) where
       by-outcome (some n) = refl
       by-outcome nothing = refl
 
--- ---- Ticks in a row.
+-- ---- Consecutive ticks.
 pub going-answer : (a : Answer) → isGoing a ≡ true → a ≡ Going
 going-answer Going h = refl
 going-answer Pushed h = clash (cc)
@@ -54,10 +54,10 @@ module _ (n : ℕ) (ws : List ℕ) (k h : ℕ) where
   unfolding ticks
   first-is-last e = rw (e, ticks)
 
--- One in a row is a tick.
-pub one-in-row : (ws : List ℕ) (k h : ℕ) → ticks 1 ws k h ≡ tick ws k h
+-- One consecutive tick is a tick.
+pub one-consecutive : (ws : List ℕ) (k h : ℕ) → ticks 1 ws k h ≡ tick ws k h
 unfolding ticks
-one-in-row ws k h = go (isGoing (tick ws k h .answer)) refl
+one-consecutive ws k h = go (isGoing (tick ws k h .answer)) refl
   where
     go : (b : Bool) → isGoing (tick ws k h .answer) ≡ b → ticks 1 ws k h ≡ tick ws k h
     go false e = first-is-last 0 ws k h e
@@ -82,8 +82,8 @@ module _ (P : List ℕ → Type 0) (k h : ℕ) (keeps : (ws : List ℕ) → P ws
       go true others = others
       go false others = last ws p
 
-  pub kept-in-row : (n : ℕ) (ws : List ℕ) → P ws → P (ticks n ws k h .words)
-  kept-in-row = by-last-tick (λ r. P (r .words)) (λ ws p. p) keeps
+  pub kept-consecutively : (n : ℕ) (ws : List ℕ) → P ws → P (ticks n ws k h .words)
+  kept-consecutively = by-last-tick (λ r. P (r .words)) (λ ws p. p) keeps
 
 -- The number that comes with the last answer is a tag's, or a refusal's.
 pub ticks-number : (n : ℕ) (ws : List ℕ) (k h : ℕ) → payloadOf (ticks n ws k h .answer) ≤ largestTag

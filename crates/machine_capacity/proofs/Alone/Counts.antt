@@ -19,7 +19,7 @@ use Rattle.machine_capacity.specs.NoLeak.{
   total,
   AllCounted,
 }
-use Rattle.machine_capacity.specs.Alone.{Outcome, spareOf, spurOf, SameNumbers, LeavesIdle}
+use Rattle.machine_capacity.specs.Alone.{CallOutcome, spareOf, spurOf, SameNumbers, LeavesIdle}
 use Rattle.machine.proofs.Basics.Contradiction.{equal?}
 use Rattle.machine_capacity.proofs.Counting.{total-same}
 use Rattle.machine_capacity.proofs.Theorem.{no-leak}
@@ -50,7 +50,7 @@ size-from left I = omega arith
 size-from right I = omega arith
 
 module _ {ws vs : List ℕ} (T : IdleTable ws) (C : AllCounted ws T) (ℓ : ℕ) (is-lane : ℓ < laneCount ws) (s : Side)
-    (o : Outcome) (K : LeavesIdle ws vs T ℓ s o) where
+    (o : CallOutcome) (K : LeavesIdle ws vs T ℓ s o) where
   same-size : (I J : LaneShape) → SameNumbers I J → laneSize J ≡ laneSize I
   same-size I J N =
       let a = N .same-spare left in

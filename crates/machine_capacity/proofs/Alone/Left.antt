@@ -12,7 +12,7 @@ use Rattle.machine.specs.Calls.{lane}
 use Rattle.machine.specs.Begun.{Begun}
 use Rattle.machine.specs.Reach.{Reachable}
 use Rattle.machine_capacity.specs.NoLeak.{Idle, IdleTable}
-use Rattle.machine_capacity.specs.Alone.{Outcome, spareOf, spurOf, LeavesIdle}
+use Rattle.machine_capacity.specs.Alone.{CallOutcome, spareOf, spurOf, LeavesIdle}
 use Rattle.machine.proofs.Words.Memories.{View, viewed}
 use Rattle.machine.proofs.SlotRule.Reached.{WellLinked, reachable-node, node-not-none}
 use Rattle.machine.proofs.Linearizability.Model.Sides.{sides}
@@ -50,7 +50,7 @@ pub record Left (ws : List ℕ) (T : IdleTable ws) (ℓ : ℕ) (s : Side) (r y :
   pub own-end : EndIs vs ℓ s at inner r y
   pub others-kept : (j : ℕ) (z : Side) → j < laneCount ws → OtherEnd ℓ (opposite s) j z → OtherKept ws vs T j z
 
-module _ {ws vs : List ℕ} (T : IdleTable ws) (ℓ : ℕ) (is-lane : ℓ < laneCount ws) (s : Side) (o : Outcome)
+module _ {ws vs : List ℕ} (T : IdleTable ws) (ℓ : ℕ) (is-lane : ℓ < laneCount ws) (s : Side) (o : CallOutcome)
     (K : Left ws T ℓ s (o .spare) (o .spur) vs) (own-row : lane vs ℓ ≡ some (o .bags))
     (other-rows : (j : ℕ) → j < laneCount ws → j ≢ ℓ → lane vs j ≡ some (T .shape j .bags)) where
   there : (j : ℕ) → j < laneCount ws → j < laneCount vs

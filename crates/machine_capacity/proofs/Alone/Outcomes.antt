@@ -10,7 +10,7 @@ use Rattle.machine.specs.declared.Answer.the-variants.{Pushed, Bag, Empty, Full
 use Rattle.machine.specs.Sides.{Side, left, right}
 use Rattle.machine.specs.Row.{put}
 use Rattle.machine_capacity.specs.Alone.{
-  Outcome,
+  CallOutcome,
   leaves,
   fromEnd,
   least,
@@ -82,7 +82,7 @@ module _ (n : ℕ) (bags : List ℕ) (r y : ℕ) where
 
 -- ---- A push and the room at its end: it is "pushed" where there is room, which is then one less, and "full" where
 -- there is none.
-pub data Pushing (m m' : ℕ) (o : Outcome) : Type 0 where
+pub data Pushing (m m' : ℕ) (o : CallOutcome) : Type 0 where
   one-more : (n : ℕ) → m ≡ suc n → m' ≡ n → o .answer ≡ Pushed → 1 ≤ o .spare → Pushing m m' o
   no-room : m ≡ 0 → m' ≡ 0 → o .answer ≡ Full → 1 ≤ o .spare → Pushing m m' o
 
@@ -93,7 +93,7 @@ least-below : (a b : ℕ) → least a b ≤ a
 least-below a b = by-if (λ (n : ℕ). n ≤ a) (a <? b) (λ _. omega arith) (λ ne. omega arith)
 
 -- The own numbers and what is free keep their sum.
-abbrev pub roomThen : (f : ℕ) → (bags : List ℕ) → (r y : ℕ) → Outcome → ℕ
+abbrev pub roomThen : (f : ℕ) → (bags : List ℕ) → (r y : ℕ) → CallOutcome → ℕ
 roomThen f bags r y o =
     o .spare + o .spur + (f + (r + y + length bags) - (o .spare + o .spur + length (o .bags))) - 1
 
@@ -102,10 +102,10 @@ module _ (s : Side) (v g f : ℕ) (bags : List ℕ) (r y : ℕ) (some-spare : 1 
       Pushing (r + y + f - 1) (roomThen f bags r y (pushAlone s v g f bags r y)) (pushAlone s v g f bags r y)
   pushing =
       let longer = length-put s v bags in
-      by-if (λ (o : Outcome). Pushing (r + y + f - 1) (roomThen f bags r y o) o) (1 <? r)
+      by-if (λ (o : CallOutcome). Pushing (r + y + f - 1) (roomThen f bags r y o) o) (1 <? r)
       (λ more. one-more (r + y + f - 2) (omega arith) (omega arith) refl (omega arith))
       (λ single.
-      by-if (λ (o : Outcome). Pushing (r + y + f - 1) (roomThen f bags r y o) o) (f + y ≟ 0)
+      by-if (λ (o : CallOutcome). Pushing (r + y + f - 1) (roomThen f bags r y o) o) (f + y ≟ 0)
       (λ none-left. no-room (omega arith) (omega arith) refl some-spare)
       (λ some-left.
       let a = least-some (f + y) (suc g) (omega arith) (omega arith) in

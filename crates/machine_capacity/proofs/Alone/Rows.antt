@@ -26,7 +26,7 @@ use Rattle.machine.specs.Begun.{Begun, by-call}
 use Rattle.machine.specs.Twice.{rowsBelow}
 use Rattle.machine_capacity.specs.NoLeak.{Idle, IdleTable}
 use Rattle.machine_capacity.specs.Capacity.{AloneTo, ends-now, ends-later}
-use Rattle.machine_capacity.specs.Alone.{Outcome, fromEnd, LeavesIdle}
+use Rattle.machine_capacity.specs.Alone.{CallOutcome, fromEnd, LeavesIdle}
 use Rattle.machine.proofs.Basics.Contradiction.{clash}
 use Rattle.machine.proofs.Basics.Choices.{if-yes, if-no}
 use Rattle.machine.proofs.Linearizability.Calls.Agreement.{Agrees, noteUnder, noteIn, lanes-are-rows}
@@ -228,10 +228,10 @@ module _ {ws vs : List ℕ} (B : Begun ws) (idle-now : Idle ws) (T : IdleTable w
       alone-to)
 
   -- It comes to an outcome: its answer, the numbers that it leaves at its end, and the bags that the row then has.
-  abbrev pub ComesTo : Outcome → Type 0
+  abbrev pub ComesTo : CallOutcome → Type 0
   ComesTo o = (a ≡ o .answer) × LeavesIdle ws vs T ℓ s o
 
-  pub comes-to : (o : Outcome) → noteUnder op note ≡ some note → a ≡ o .answer
+  pub comes-to : (o : CallOutcome) → noteUnder op note ≡ some note → a ≡ o .answer
       → Left ws T ℓ s (o .spare) (o .spur) vs
       → answered note (o .answer) (T .shape ℓ .bags) ≡ some (o .bags)
       → ComesTo o

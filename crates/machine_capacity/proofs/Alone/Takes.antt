@@ -13,7 +13,7 @@ use Rattle.machine.specs.Begun.{Begun}
 use Rattle.machine.specs.Reach.{Reachable, Free}
 use Rattle.machine.specs.Row.{put, pushAnswered, sizeAnswered}
 use Rattle.machine_capacity.specs.NoLeak.{HatPlace, in-list, beside, Held, listed, under-hat, IdleTable}
-use Rattle.machine_capacity.specs.Alone.{Outcome, leaves, least, pushAlone, addAlone, spareOf, spurOf, CallAlone}
+use Rattle.machine_capacity.specs.Alone.{CallOutcome, leaves, least, pushAlone, addAlone, spareOf, spurOf, CallAlone}
 use Rattle.machine.proofs.Basics.Contradiction.{refute, equal?}
 use Rattle.machine.proofs.SlotRule.Reached.{WellLinked}
 use Rattle.machine.proofs.Linearizability.Model.Sides.{sides}
@@ -48,7 +48,7 @@ push-alone ws vs B idle-now T C k ℓ s v a accepted alone-to =
     here : ℓ < laneCount ws
     here = is-lane B idle-now T k ℓ push s v a accepted alone-to
 
-    Says : Outcome → Type 0
+    Says : CallOutcome → Type 0
     Says = ComesTo B idle-now T k ℓ push s v a accepted alone-to
 
     pushed : (c : ℕ) → a ≡ Pushed → Left ws T ℓ s c 0 vs → Says (leaves Pushed (put s v (T .shape ℓ .bags)) c 0)
@@ -151,7 +151,7 @@ add-alone ws vs B idle-now T C k ℓ s v a accepted alone-to =
     here : ℓ < laneCount ws
     here = is-lane B idle-now T k ℓ add s v a accepted alone-to
 
-    Says : Outcome → Type 0
+    Says : CallOutcome → Type 0
     Says = ComesTo B idle-now T k ℓ add s v a accepted alone-to
 
     -- How many were taken.

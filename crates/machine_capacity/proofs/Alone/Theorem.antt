@@ -24,7 +24,7 @@ use Rattle.machine_progress.specs.Solo.{AnswersAlone, answers-now, answers-late
 use Rattle.machine_capacity.specs.NoLeak.{Idle}
 use Rattle.machine_capacity.specs.Capacity.{AloneTo, ends-now, ends-later}
 use Rattle.machine_capacity.specs.Alone.{
-  Outcome,
+  CallOutcome,
   leaves,
   popAlone,
   removeAlone,
@@ -90,7 +90,7 @@ pop-alone ws vs B idle-now T C k ℓ s v a accepted alone-to =
     given-for : {x : Answer} → a ≡ x → popAnswered n x (T .shape ℓ .bags) ≡ some (R .bags)
     given-for e = subst (λ (x : Answer). popAnswered n x (T .shape ℓ .bags) ≡ some (R .bags)) e (R .given)
 
-    Says : Outcome → Type 0
+    Says : CallOutcome → Type 0
     Says = ComesTo B idle-now T k ℓ pop s v a accepted alone-to
 
     r : ℕ
@@ -119,10 +119,10 @@ remove-alone ws vs B idle-now T C k ℓ s v a accepted alone-to =
     here : ℓ < laneCount ws
     here = is-lane B idle-now T k ℓ remove s v a accepted alone-to
 
-    Says : Outcome → Type 0
+    Says : CallOutcome → Type 0
     Says = ComesTo B idle-now T k ℓ remove s v a accepted alone-to
 
-    comes : (o : Outcome) → a ≡ o .answer → Left ws T ℓ s (o .spare) (o .spur) vs
+    comes : (o : CallOutcome) → a ≡ o .answer → Left ws T ℓ s (o .spare) (o .spur) vs
         → sizeAnswered (o .answer) (T .shape ℓ .bags) ≡ some (o .bags)
         → Says o
     comes o = comes-to B idle-now T k ℓ remove s v a accepted alone-to o refl

@@ -16,7 +16,7 @@ use Rattle.machine.specs.Operations.{Operation, push}
 use Rattle.machine.specs.Answers.{kindOf}
 use Rattle.machine.specs.Calls.{isAmong}
 use Rattle.machine_capacity.specs.NoLeak.{total}
-use Rattle.machine_capacity.specs.Alone.{Outcome, leaves, pushAlone}
+use Rattle.machine_capacity.specs.Alone.{CallOutcome, leaves, pushAlone}
 use Rattle.machine_capacity.specs.OneUser.{
   LaneState,
   State,
@@ -24,8 +24,8 @@ use Rattle.machine_capacity.specs.OneUser.{
   callOf,
   outcome,
   stateThen,
-  Done,
-  callDone,
+  AfterCall,
+  afterCall,
   oneCall,
   sizeOf,
 }
@@ -251,8 +251,8 @@ full-advice S σ H c p full P = given (ends-hold H) c full p P
 full-leaves : (s : Side) (v g f : ℕ) (bags : List ℕ) (r y : ℕ) → pushAlone s v g f bags r y .answer ≡ Full
     → pushAlone s v g f bags r y ≡ leaves Full bags r y
 full-leaves s v g f bags r y =
-    by-if (λ (o : Outcome). o .answer ≡ Full → o ≡ leaves Full bags r y) (1 <? r) (λ _ e. clash (cc)) (λ _.
-    by-if (λ (o : Outcome). o .answer ≡ Full → o ≡ leaves Full bags r y) (f + y ≟ 0) (λ _ _. refl) (λ _ e. clash (cc)))
+    by-if (λ (o : CallOutcome). o .answer ≡ Full → o ≡ leaves Full bags r y) (1 <? r) (λ _ e. clash (cc)) (λ _.
+    by-if (λ (o : CallOutcome). o .answer ≡ Full → o ≡ leaves Full bags r y) (f + y ≟ 0) (λ _ _. refl) (λ _ e. clash (cc)))
 
 module _ {σ : State} (H : EndsHold σ) (c : WholeCall) (full : oneCall σ c .answer ≡ Full) where
   abbrev ownSide : Side
@@ -261,7 +261,7 @@ module _ {σ : State} (H : EndsHold σ) (c : WholeCall) (full : oneCall σ c .an
   abbrev own : LaneState
   own = σ .lane (c .lane)
 
-  abbrev unchanged : Outcome
+  abbrev unchanged : CallOutcome
   unchanged = leaves Full (own .bags) (own .spare ownSide) (own .spur ownSide)
 
   P : IsPush σ c
@@ -270,14 +270,14 @@ module _ {σ : State} (H : EndsHold σ) (c : WholeCall) (full : oneCall σ c .an
   comes-to : oneCall σ c ≡ record { answer = Full; state = stateThen σ (c .lane) ownSide unchanged }
   comes-to =
       let v = number (c .argument) in
-      let F : Outcome → Done = λ o. record { answer = o .answer; state = stateThen σ (c .lane) ownSide o } in
+      let F : CallOutcome → AfterCall = λ o. record { answer = o .answer; state = stateThen σ (c .lane) ownSide o } in
       let push-is : oneCall σ c ≡ F (outcome σ (c .lane) push ownSide v) =
-      ap (λ (r : Option ℕ). callDone r σ c) (P .passes)
+      ap (λ (r : Option ℕ). afterCall r σ c) (P .passes)
       ∙ ap (λ (op : Operation). F (outcome σ (c .lane) op ownSide v)) (P .is-push) in
       push-is
       ∙ ap F
       (full-leaves ownSide v (σ .growth) (σ .free) (own .bags) (own .spare ownSide) (own .spur ownSide)
-      (ap (λ (d : Done). d .answer) (sym push-is) ∙ full))
+      (ap (λ (d : AfterCall). d .answer) (sym push-is) ∙ full))
 
   full-like : Like σ (oneCall σ c .state)
   full-like =
@@ -287,7 +287,7 @@ module _ {σ : State} (H : EndsHold σ) (c : WholeCall) (full : oneCall σ c .an
       let spur = spur-then σ (c .lane) ownSide unchanged in
       let some-spare = H .some-spare (c .lane) (P .is-lane) ownSide in
       let one-spur = H .one-spur (c .lane) (P .is-lane) ownSide in
-      subst (Like σ) (sym (ap (λ (d : Done). d .state) comes-to))
+      subst (Like σ) (sym (ap (λ (d : AfterCall). d .state) comes-to))
       (like-by E H bags (omega arith) (omega arith) (omega arith) (omega arith))
 
 -- In a state that is like it, it is "full" again.

@@ -16,7 +16,7 @@ use Rattle.machine.specs.Operations.{push, pop, remove}
 use Rattle.machine.specs.Answers.{kindOf}
 use Rattle.machine.specs.Row.{put}
 use Rattle.machine_capacity.specs.Alone.{leaves, fromEnd, popAlone, alone}
-use Rattle.machine_capacity.specs.OneUser.{State, callOf, refusal, Done, oneCall}
+use Rattle.machine_capacity.specs.OneUser.{State, callOf, refusal, AfterCall, oneCall}
 use Rattle.machine_capacity.specs.Room.{Loader, CanPush, popAndRemove, giveBack, givenBack}
 use Rattle.machine.proofs.Basics.Contradiction.{equal?, less?}
 use Rattle.machine.proofs.Basics.Choices.{if-yes, if-no}
@@ -58,7 +58,7 @@ pops-back s v bags r y =
 
 -- Whether they are made is a matter of the first answer.
 module _ (σ : State) (p : Loader) where
-  abbrev pushedNow : Done
+  abbrev pushedNow : AfterCall
   pushedNow = oneCall σ (callOf (p .task) (p .lane) push (p .side) (p .tag))
 
   none-made : pushedNow .answer ≡ Full → giveBack σ p ≡ pushedNow .state

@@ -20,7 +20,7 @@ use Rattle.machine.specs.Calls.{isAmong}
 use Rattle.machine.specs.Row.{put}
 use Rattle.machine.specs.Counts.{count}
 use Rattle.machine.specs.Twice.{rowsBelow}
-use Rattle.machine_capacity.specs.Alone.{Outcome, fromEnd, pushAlone, popFrom, alone}
+use Rattle.machine_capacity.specs.Alone.{CallOutcome, fromEnd, pushAlone, popFrom, alone}
 use Rattle.machine_capacity.specs.OneUser.{
   LaneState,
   State,
@@ -31,8 +31,8 @@ use Rattle.machine_capacity.specs.OneUser.{
   outcome,
   freeThen,
   stateThen,
-  Done,
-  callDone,
+  AfterCall,
+  afterCall,
   oneCall,
   allCalls,
   Holds,
@@ -49,12 +49,12 @@ use Rattle.machine_capacity.proofs.Alone.Outcomes.{one-more, no-room, p
 use Rattle.machine_capacity.proofs.OneUser.States.{spare-then, spur-then, call-done}
 
 -- ---- The room in the next state.
-module _ (σ : State) (l : ℕ) (s : Side) (o : Outcome) where
+module _ (σ : State) (l : ℕ) (s : Side) (o : CallOutcome) where
   room-then : room (stateThen σ l s o) l s ≡ o .spare + o .spur + freeThen σ l s o - 1
   room-then = let a = spare-then σ l s o in let b = spur-then σ l s o in omega arith
 
 -- ---- A push that is not refused.
-pub data Pushed-to (m : ℕ) (l : ℕ) (s : Side) (d : Done) : Type 0 where
+pub data Pushed-to (m : ℕ) (l : ℕ) (s : Side) (d : AfterCall) : Type 0 where
   is-pushed : (n : ℕ) → m ≡ suc n → room (d .state) l s ≡ n → d .answer ≡ Pushed → 1 ≤ d .state .lane l .spare s
       → Pushed-to m l s d
   is-full : m ≡ 0 → room (d .state) l s ≡ 0 → d .answer ≡ Full → 1 ≤ d .state .lane l .spare s → Pushed-to m l s d
@@ -78,10 +78,10 @@ pub one-push : (σ : State) (l : ℕ) (s : Side) (c : WholeCall) → 1 ≤ σ .l
     → Pushed-to (room σ l s) l s (oneCall σ c)
 one-push σ l s c h passes at is-push on =
     let v = number (c .argument) in
-    let F : ℕ → Operation → Side → Done = λ j op z.
+    let F : ℕ → Operation → Side → AfterCall = λ j op z.
     record { answer = outcome σ j op z v .answer; state = stateThen σ j z (outcome σ j op z v) } in
     subst (Pushed-to (room σ l s) l s)
-    (sym (ap (λ (r : Option ℕ). callDone r σ c) passes
+    (sym (ap (λ (r : Option ℕ). afterCall r σ c) passes
     ∙ ap (λ (j : ℕ). F j (operationOf (c .operation)) (sideOf (c .side))) at
     ∙ ap (λ (op : Operation). F l op (sideOf (c .side))) is-push
     ∙ ap (F l push) on))
@@ -116,8 +116,8 @@ put-count right w v bags ne =
 push-count : (s : Side) (w v g f : ℕ) (bags : List ℕ) (r y : ℕ) → w ≢ v
     → count w (pushAlone s v g f bags r y .bags) ≡ count w bags
 push-count s w v g f bags r y ne =
-    by-if (λ (o : Outcome). count w (o .bags) ≡ count w bags) (1 <? r) (λ _. put-count s w v bags ne) (λ _.
-    by-if (λ (o : Outcome). count w (o .bags) ≡ count w bags) (f + y ≟ 0) (λ _. refl) (λ _. put-count s w v bags ne))
+    by-if (λ (o : CallOutcome). count w (o .bags) ≡ count w bags) (1 <? r) (λ _. put-count s w v bags ne) (λ _.
+    by-if (λ (o : CallOutcome). count w (o .bags) ≡ count w bags) (f + y ≟ 0) (λ _. refl) (λ _. put-count s w v bags ne))
 
 -- A bag that was in no lane is in none, if it is another than the one pushed.
 still-new : (σ : State) (l : ℕ) (s : Side) (v w : ℕ) → l < σ .lanes → w ≢ v → isAmong w (bagsOf σ) ≡ false
@@ -180,7 +180,7 @@ module _ (k l : ℕ) (s : Side) where
         (operation-of-number push),
         side-of-number s,
         subst (λ (τ : State). Pushes l s τ (pushCalls k l s tags))
-            (sym (ap (λ (d : Done). d .state) (call-done σ k l push s v passes)))
+            (sym (ap (λ (d : AfterCall). d .state) (call-done σ k l push s v passes)))
             (pushes-new next tags is-task is-lane
             (all-new (bagsOf σ) (bagsOf next) v (λ w ne q. still-new σ l s v w is-lane ne q) tags (new .2) (new .3))),
       )
@@ -217,11 +217,11 @@ full-pushes pop s n g f bags r y = go (fromEnd s bags)
     go [] e = clash (cc)
     go (b ∷ l) e = clash (cc)
 full-pushes add s n g f bags r y =
-    by-if (λ (o : Outcome). o .answer ≡ Full → add ≡ push) (f ≟ 0) (λ _ e. clash (cc)) (λ _ e. clash (cc))
+    by-if (λ (o : CallOutcome). o .answer ≡ Full → add ≡ push) (f ≟ 0) (λ _ e. clash (cc)) (λ _ e. clash (cc))
 full-pushes remove s n g f bags r y =
-    by-if (λ (o : Outcome). o .answer ≡ Full → remove ≡ push) (y ≟ 1) (λ _ e. clash (cc)) (λ _.
-    by-if (λ (o : Outcome). o .answer ≡ Full → remove ≡ push) (r <? n + 2) (λ _ e. clash (cc)) (λ _.
-    by-if (λ (o : Outcome). o .answer ≡ Full → remove ≡ push) (r ≟ n + 2) (λ _ e. clash (cc)) (λ _ e. clash (cc))))
+    by-if (λ (o : CallOutcome). o .answer ≡ Full → remove ≡ push) (y ≟ 1) (λ _ e. clash (cc)) (λ _.
+    by-if (λ (o : CallOutcome). o .answer ≡ Full → remove ≡ push) (r <? n + 2) (λ _ e. clash (cc)) (λ _.
+    by-if (λ (o : CallOutcome). o .answer ≡ Full → remove ≡ push) (r ≟ n + 2) (λ _ e. clash (cc)) (λ _ e. clash (cc))))
 
 -- A push that is not refused, at the end of a lane that there is.
 pub record IsPush (σ : State) (c : WholeCall) : Type 0 where
@@ -235,7 +235,7 @@ lane-passes σ c e = ltb-true (c .lane) (σ .lanes) (test-passed (ltb (c .lane) 
 pub full-push : (σ : State) (c : WholeCall) → oneCall σ c .answer ≡ Full → IsPush σ c
 full-push σ c = go (refusal σ c) refl
   where
-    go : (o : Option ℕ) → refusal σ c ≡ o → callDone o σ c .answer ≡ Full → IsPush σ c
+    go : (o : Option ℕ) → refusal σ c ≡ o → afterCall o σ c .answer ≡ Full → IsPush σ c
     go (some n) q e = clash (cc)
     go nothing q e =
         let i = σ .lane (c .lane) in

@@ -11,7 +11,7 @@ use Rattle.machine.specs.Sides.{Side, left, right, opposite, sideNumber, sideOf
 use Rattle.machine.specs.Values.{number, stored}
 use Rattle.machine.specs.Operations.{Operation}
 use Rattle.machine.specs.Twice.{rowsBelow}
-use Rattle.machine_capacity.specs.Alone.{Outcome, alone}
+use Rattle.machine_capacity.specs.Alone.{CallOutcome, alone}
 use Rattle.machine_capacity.specs.OneUser.{
   LaneState,
   State,
@@ -23,8 +23,8 @@ use Rattle.machine_capacity.specs.OneUser.{
   withSide,
   laneThen,
   stateThen,
-  Done,
-  callDone,
+  AfterCall,
+  afterCall,
   oneCall,
 }
 use Rattle.machine.proofs.Basics.Choices.{by-if, if-yes, if-no}
@@ -68,7 +68,7 @@ elsewhere-then E F =
       same-spur = λ j z o. F .same-spur j z o ∙ E .same-spur j z o;
     }
 
-module _ (σ : State) (l : ℕ) (s : Side) (o : Outcome) where
+module _ (σ : State) (l : ℕ) (s : Side) (o : CallOutcome) where
   pub own-lane : stateThen σ l s o .lane l ≡ laneThen (σ .lane l) s o
   own-lane = if-yes (l ≟ l) _ _ refl
 
@@ -113,15 +113,15 @@ pub call-done : (σ : State) (k l : ℕ) (op : Operation) (s : Side) (n : ℕ) �
     → oneCall σ (callOf k l op s n)
     ≡ record { answer = outcome σ l op s n .answer; state = stateThen σ l s (outcome σ l op s n) }
 call-done σ k l op s n passes =
-    let F : Operation → Side → ℕ → Done =
+    let F : Operation → Side → ℕ → AfterCall =
     λ x z v. record { answer = outcome σ l x z v .answer; state = stateThen σ l z (outcome σ l x z v) } in
-    ap (λ (r : Option ℕ). callDone r σ (callOf k l op s n)) passes
+    ap (λ (r : Option ℕ). afterCall r σ (callOf k l op s n)) passes
     ∙ ap (λ (x : Operation). F x (sideOf (sideNumber s)) (number (stored n))) (operation-of-number op)
     ∙ ap (λ (z : Side). F op z (number (stored n))) (side-of-number s)
     ∙ ap (F op s) (number-stored n)
 
 module _ {σ : State} {l : ℕ} {s : Side} {bags : List ℕ} {r y f : ℕ} (N : Numbers σ l s bags r y f) (k : ℕ)
-    (op : Operation) (n : ℕ) (passes : refusal σ (callOf k l op s n) ≡ nothing) {o : Outcome}
+    (op : Operation) (n : ℕ) (passes : refusal σ (callOf k l op s n) ≡ nothing) {o : CallOutcome}
     (comes-to : alone op s n (σ .growth) f bags r y ≡ o) where
   outcome-is : outcome σ l op s n ≡ o
   outcome-is =
@@ -134,16 +134,16 @@ module _ {σ : State} {l : ℕ} {s : Side} {bags : List ℕ} {r y f : ℕ} (N : 
   done-is : oneCall σ (callOf k l op s n) ≡ record { answer = o .answer; state = stateThen σ l s o }
   done-is =
       call-done σ k l op s n passes
-      ∙ ap (λ (x : Outcome). record { answer = x .answer; state = stateThen σ l s x }) outcome-is
+      ∙ ap (λ (x : CallOutcome). record { answer = x .answer; state = stateThen σ l s x }) outcome-is
 
   pub call-answers : oneCall σ (callOf k l op s n) .answer ≡ o .answer
-  call-answers = ap (λ (d : Done). d .answer) done-is
+  call-answers = ap (λ (d : AfterCall). d .answer) done-is
 
   -- The own numbers and what is free keep their sum.
   pub call-numbers : (f' : ℕ) → f' + (o .spare + o .spur + length (o .bags)) ≡ f + (r + y + length bags)
       → Numbers (oneCall σ (callOf k l op s n) .state) l s (o .bags) (o .spare) (o .spur) f'
   call-numbers f' sum =
-      let then = ap (λ (d : Done). d .state) done-is in
+      let then = ap (λ (d : AfterCall). d .state) done-is in
       let a = N .spare-is in
       let b = N .spur-is in
       let c = N .free-is in

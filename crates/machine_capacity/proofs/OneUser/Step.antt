@@ -19,7 +19,7 @@ use Rattle.machine.specs.Demand3.{begin-call, tick-call}
 use Rattle.machine.specs.Begun.{Begun, by-call}
 use Rattle.machine_progress.specs.Solo.{HintsBelow}
 use Rattle.machine_capacity.specs.NoLeak.{IdleTable, AllCounted}
-use Rattle.machine_capacity.specs.Alone.{Outcome, alone, spareOf, spurOf, LeavesIdle, aloneAt, ticksWith}
+use Rattle.machine_capacity.specs.Alone.{CallOutcome, alone, spareOf, spurOf, LeavesIdle, aloneAt, ticksWith}
 use Rattle.machine_capacity.specs.OneUser.{
   LaneState,
   State,
@@ -28,8 +28,8 @@ use Rattle.machine_capacity.specs.OneUser.{
   outcome,
   withSide,
   stateThen,
-  Done,
-  callDone,
+  AfterCall,
+  afterCall,
   oneCall,
 }
 use Rattle.machine_capacity.specs.OneUserExactly.{ticksThen, wholeCall}
@@ -80,7 +80,7 @@ module _ {S : ℕ} {ws : List ℕ} {σ : State} (P : Standing S ws σ) where
       ∙ ap (λ (n : ℕ). alone op s v (σ .growth) (σ .free) (σ .lane l .bags) (σ .lane l .spare s) n) (P .spur-is l h s)
 
   -- ---- The table that it leaves.
-  module _ {vs : List ℕ} (l : ℕ) (h : l < laneCount ws) (s : Side) (o : Outcome) (K : LeavesIdle ws vs (P .table) l s o)
+  module _ {vs : List ℕ} (l : ℕ) (h : l < laneCount ws) (s : Side) (o : CallOutcome) (K : LeavesIdle ws vs (P .table) l s o)
       (same-tasks : taskCount vs ≡ taskCount ws) where
     abbrev T' : IdleTable vs
     T' = no-leak vs (K .begun) (K .idle-now) .0
@@ -133,7 +133,7 @@ module _ {S : ℕ} {ws : List ℕ} {σ : State} (P : Standing S ws σ) where
         }
 
   -- ---- One call.
-  pub record Step (c : WholeCall) (r : Ticked) (d : Done) : Type 0 where
+  pub record Step (c : WholeCall) (r : Ticked) (d : AfterCall) : Type 0 where
     pub answers : r .answer ≡ d .answer
     pub stands : Standing S (r .words) (d .state)
 
@@ -179,7 +179,7 @@ module _ {S : ℕ} {ws : List ℕ} {σ : State} (P : Standing S ws σ) where
       unfolding done
       says =
           subst
-          (λ (o : Outcome).
+          (λ (o : CallOutcome).
           (ticksWith hints (begun-now .words) k .answer ≡ o .answer)
           × LeavesIdle ws (ticksWith hints (begun-now .words) k .words) (P .table) (c .lane) s o)
           (outcome-is (c .lane) (allowed .is-lane) op s v)
@@ -202,17 +202,17 @@ module _ {S : ℕ} {ws : List ℕ} {σ : State} (P : Standing S ws σ) where
           (by-call (P .begun) (begin-call (c .task) (c .lane) (c .operation) (c .side) (c .argument)))
           ∙ accepted-begin A (c .task) (c .lane) (c .operation) (c .side) (c .argument) accepted .same-count
 
-      by-accepted : Step c (wholeCall ws c hints) (callDone nothing σ c)
+      by-accepted : Step c (wholeCall ws c hints) (afterCall nothing σ c)
       unfolding done
       by-accepted =
-          subst (λ r. Step c (ticksThen r hints (begun-now .words) k) (callDone nothing σ c)) (sym accepted)
+          subst (λ r. Step c (ticksThen r hints (begun-now .words) k) (afterCall nothing σ c)) (sym accepted)
           (record {
             answers = says .0;
             stands = left-standing (c .lane) (allowed .is-lane) s (outcome σ (c .lane) op s v) (says .1) tasks-then;
           })
 
     by-refused : (n : ℕ) → beginRefusal ws (c .task) (c .lane) (c .operation) (c .side) (c .argument) ≡ some n
-        → Step c (wholeCall ws c hints) (callDone (some n) σ c)
+        → Step c (wholeCall ws c hints) (afterCall (some n) σ c)
     unfolding begin
     by-refused n e = rw e (record { answers = refl; stands = P })
 
@@ -220,6 +220,6 @@ module _ {S : ℕ} {ws : List ℕ} {σ : State} (P : Standing S ws σ) where
     one-call = go (refusal σ c) (refusal-is P c)
       where
         go : (r : Option ℕ) → beginRefusal ws (c .task) (c .lane) (c .operation) (c .side) (c .argument) ≡ r
-            → Step c (wholeCall ws c hints) (callDone r σ c)
+            → Step c (wholeCall ws c hints) (afterCall r σ c)
         go (some n) e = by-refused n e
         go nothing e = by-accepted e

@@ -22,7 +22,7 @@ use Rattle.machine.specs.Answers.{isGoing}
 use Rattle.machine.specs.Calls.{unless, start, begin, Ticked, tick, ticks}
 use Rattle.machine.specs.Begun.{Begun}
 use Rattle.machine_capacity.specs.NoLeak.{Idle, IdleTable, AllCounted}
-use Rattle.machine_capacity.specs.Alone.{Outcome, fromEnd, popFrom, alone, spareOf, spurOf, ticksWith}
+use Rattle.machine_capacity.specs.Alone.{CallOutcome, fromEnd, popFrom, alone, spareOf, spurOf, ticksWith}
 use Rattle.machine_capacity.specs.OneUser.{
   State,
   startState,
@@ -30,7 +30,7 @@ use Rattle.machine_capacity.specs.OneUser.{
   isTwice,
   refusal,
   outcome,
-  callDone,
+  afterCall,
   oneCall,
   allCalls,
 }
@@ -128,7 +128,7 @@ from-any-idle ws B idle-now =
     (state ws B idle-now, stands-as P, (λ calls enough. plays (nodeCount ws) calls P enough))
 
 -- ---- Answers.
-abbrev Ends : Outcome → Type 0
+abbrev Ends : CallOutcome → Type 0
 Ends o = (o .answer ≢ Going) × ((m : ℕ) → o .answer ≢ Refused m)
 
 answers-all : (op : Operation) (s : Side) (n g f : ℕ) (bags : List ℕ) (r y : ℕ) → op ≢ idle
@@ -175,11 +175,11 @@ module _ (σ : State) (c : WholeCall) where
       answers-all (operationOf (c .operation)) s (number (c .argument)) (σ .growth) (σ .free) (i .bags) (i .spare s)
       (i .spur s) (not-idle e)
 
-  going-not : (r : Option ℕ) → refusal σ c ≡ r → callDone r σ c .answer ≢ Going
+  going-not : (r : Option ℕ) → refusal σ c ≡ r → afterCall r σ c .answer ≢ Going
   going-not (some n) e q = refute (cc)
   going-not nothing e q = call-ends e .0 q
 
-  refused-by : (r : Option ℕ) → refusal σ c ≡ r → (n : ℕ) → callDone r σ c .answer ≡ Refused n → refusal σ c ≡ some n
+  refused-by : (r : Option ℕ) → refusal σ c ≡ r → (n : ℕ) → afterCall r σ c .answer ≡ Refused n → refusal σ c ≡ some n
   refused-by (some m) e n q = cc
   refused-by nothing e n q = absurd (call-ends e .1 n q)
 

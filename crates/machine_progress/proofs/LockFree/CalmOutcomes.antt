@@ -30,12 +30,12 @@ use Rattle.machine_progress.proofs.SoloBound.Spending.{no-node-answers}
 use Rattle.machine_progress.proofs.LockFree.Change.{kept, marked, Calm, past}
 use Rattle.machine_progress.proofs.LockFree.Calmness.{calm-untouched}
 use Rattle.machine_progress.proofs.LockFree.Disturbances.{Room, Disturbs}
-use Rattle.machine_progress.proofs.LockFree.Outcome.{Outcome, is-calm, goes, ended, passing}
+use Rattle.machine_progress.proofs.LockFree.TickProgress.{TickProgress, is-calm, goes, ended, passing}
 
 module _ (T : ℕ) {held : ℕ → Bool} (k : ℕ) {L : ℕ} {s o : Side} {m : View} {class : ℕ → Class} {r : ℕ → List ℕ}
     (D : Lanes L s o m class r) (H : ClosedSet L held m) (t : Task) (own : t .lane < L) (g f n : ℕ) where
   abbrev Ok : Effect → Type 0
-  Ok e = Outcome T L held class (t .lane) s o m n e
+  Ok e = TickProgress T L held class (t .lane) s o m n e
 
   abbrev LineOk : Step → Type 0
   LineOk st = TaskOk k s o m class st t → Disturbs st T s m t n → Ok (act st s o (seenIn (t .lane) s m) t g f)

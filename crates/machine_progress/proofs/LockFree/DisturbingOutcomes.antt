@@ -52,13 +52,13 @@ use Rattle.machine_progress.proofs.SoloBound.AtHat.{
 use Rattle.machine_progress.proofs.SoloBound.Budget.{SoonOrLate, soon, late, in-any-case}
 use Rattle.machine_progress.proofs.LockFree.Change.{past, Steady, BothSteady, BothNoCut}
 use Rattle.machine_progress.proofs.LockFree.Disturbances.{Room, Moving, Disturbs}
-use Rattle.machine_progress.proofs.LockFree.Outcome.{Outcome, cuts, disturbs, moves, goes, ended, passing}
+use Rattle.machine_progress.proofs.LockFree.TickProgress.{TickProgress, cuts, disturbs, moves, goes, ended, passing}
 use Rattle.machine_progress.proofs.LockFree.QuietOutcomes.{back-disturbs, chain-op}
 
 module _ (T : ℕ) (held : ℕ → Bool) (k : ℕ) {L : ℕ} {s o : Side} {m : View} {class : ℕ → Class} {r : ℕ → List ℕ}
     (D : Lanes L s o m class r) (t : Task) (own : t .lane < L) (g f n : ℕ) where
   abbrev Ok : Effect → Type 0
-  Ok e = Outcome T L held class (t .lane) s o m n e
+  Ok e = TickProgress T L held class (t .lane) s o m n e
 
   abbrev LineOk : Step → Type 0
   LineOk st = TaskOk k s o m class st t → Disturbs st T s m t n → Ok (act st s o (seenIn (t .lane) s m) t g f)

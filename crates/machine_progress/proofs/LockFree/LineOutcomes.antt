@@ -16,7 +16,7 @@ use Rattle.machine.proofs.Linearizability.Model.Phases.{TaskOk}
 use Rattle.machine.proofs.Linearizability.Writes.Take.{TakeOk}
 use Rattle.machine.proofs.Linearizability.Model.Invariant.{Lanes}
 use Rattle.machine_progress.proofs.LockFree.Disturbances.{Disturbs}
-use Rattle.machine_progress.proofs.LockFree.Outcome.{Outcome}
+use Rattle.machine_progress.proofs.LockFree.TickProgress.{TickProgress}
 use Rattle.machine_progress.proofs.LockFree.QuietOutcomes.{
   line2-outcome,
   line3-outcome,
@@ -61,7 +61,7 @@ module _ (T : ℕ) {held : ℕ → Bool} (k : ℕ) {L : ℕ} {s o : Side} {m : V
     (D : Lanes L s o m class r) (H : ClosedSet L held m) (t : Task) (own : t .lane < L) (g f n : ℕ)
     (free-f : f ≢ none → TakeOk L held m class f) (busy : t .operation ≢ idle) where
   pub line-outcome : (st : Step) → TaskOk k s o m class st t → Disturbs st T s m t n
-      → Outcome T L held class (t .lane) s o m n (act st s o (seenIn (t .lane) s m) t g f)
+      → TickProgress T L held class (t .lane) s o m n (act st s o (seenIn (t .lane) s m) t g f)
   line-outcome rest h b = absurd (busy (h .belongs))
   line-outcome Steps.line2 h b = line2-outcome T held k D t own g f n h b
   line-outcome Steps.line3 h b = line3-outcome T held k D t own g f n h b

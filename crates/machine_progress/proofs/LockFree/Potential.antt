@@ -53,7 +53,7 @@ use Rattle.machine_progress.proofs.LockFree.Change.{
   no-cut-view,
 }
 use Rattle.machine_progress.proofs.LockFree.Disturbances.{Disturbs, HatDisturbs, disturbs-at-first, hat-stays}
-use Rattle.machine_progress.proofs.LockFree.Outcome.{Outcome, ends, is-calm, cuts, disturbs, moves}
+use Rattle.machine_progress.proofs.LockFree.TickProgress.{TickProgress, ends, is-calm, cuts, disturbs, moves}
 use Rattle.machine_progress.proofs.LockFree.Sums.{sum, sum-le, sum-suc, sum-const, sum-update}
 use Rattle.machine_progress.proofs.LockFree.TableTick.{
   DisturbsIn,
@@ -432,7 +432,7 @@ module _ {ws : List ℕ} (begun : Begun ws) (k h : ℕ) (passes : tickRefusal ws
         few-ticks = over-after (λ (n : ℕ). sum n p' ≤ P - 1) (omega arith);
       })
 
-  by-outcome : Outcome T (laneCount ws) (keeps ws) (begun-agrees begun .1 .class) (task ws k .lane) (task ws k .side)
+  by-outcome : TickProgress T (laneCount ws) (keeps ws) (begun-agrees begun .1 .class) (task ws k .lane) (task ws k .side)
       (opposite (task ws k .side)) m (Φ .d k) (effectOf ws k h)
       → Falls after D P
   by-outcome (ends ne) = absurd (ne going)

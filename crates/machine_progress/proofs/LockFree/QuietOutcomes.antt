@@ -24,7 +24,7 @@ use Rattle.machine_progress.proofs.SoloBound.AtHat.{hat-N, hat-X, hat-Y
 use Rattle.machine_progress.proofs.SoloBound.Budget.{SoonOrLate, soon, late, in-any-case}
 use Rattle.machine_progress.proofs.LockFree.Change.{past}
 use Rattle.machine_progress.proofs.LockFree.Disturbances.{Room, Disturbs}
-use Rattle.machine_progress.proofs.LockFree.Outcome.{Outcome, goes, ended, passing}
+use Rattle.machine_progress.proofs.LockFree.TickProgress.{TickProgress, goes, ended, passing}
 
 -- Back, to 2 without a chain and to 15 with one.
 pub back-disturbs : (T : ℕ) (s : Side) (m : View) (t : Task) {n : ℕ} (op : Operation) {x : ℕ} (d : Dec (x ≡ none))
@@ -47,7 +47,7 @@ back-disturbs T s m t remove d f (late h) = h
 module _ (T : ℕ) (held : ℕ → Bool) (k : ℕ) {L : ℕ} {s o : Side} {m : View} {class : ℕ → Class} {r : ℕ → List ℕ}
     (D : Lanes L s o m class r) (t : Task) (own : t .lane < L) (g f n : ℕ) where
   abbrev Ok : Effect → Type 0
-  Ok e = Outcome T L held class (t .lane) s o m n e
+  Ok e = TickProgress T L held class (t .lane) s o m n e
 
   abbrev LineOk : Step → Type 0
   LineOk st = TaskOk k s o m class st t → Disturbs st T s m t n → Ok (act st s o (seenIn (t .lane) s m) t g f)

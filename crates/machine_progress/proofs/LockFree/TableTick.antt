@@ -41,7 +41,7 @@ use Rattle.machine_progress.proofs.LockFree.Change.{
 use Rattle.machine_progress.proofs.LockFree.Calmness.{calm-steady, calm-no-cut}
 use Rattle.machine_progress.proofs.LockFree.LeftStays.{left-stays}
 use Rattle.machine_progress.proofs.LockFree.Disturbances.{Disturbs, HatDisturbs, disturbs-stay, hat-stays}
-use Rattle.machine_progress.proofs.LockFree.Outcome.{Outcome}
+use Rattle.machine_progress.proofs.LockFree.TickProgress.{TickProgress}
 use Rattle.machine_progress.proofs.LockFree.LineOutcomes.{line-outcome}
 
 -- How often a task may disturb, by the view from the right.
@@ -114,13 +114,13 @@ module _ {ws : List ℕ} (begun : Begun ws) (k h : ℕ) (passes : tickRefusal ws
   class' = tick-is-ok .class'
 
   pub outcome : (T n : ℕ) → DisturbsIn T M (task ws k) n
-      → Outcome T L (keeps ws) (A .class) ℓ s (opposite s) (view s M) n e
+      → TickProgress T L (keeps ws) (A .class) ℓ s (opposite s) (view s M) n e
   unfolding effectOf
   outcome T n b =
       let t = task ws k in
       subst
       (λ (y : Memory).
-      Outcome T L (keeps ws) (A .class) ℓ s (opposite s) (view s M) n
+      TickProgress T L (keeps ws) (A .class) ℓ s (opposite s) (view s M) n
       (act (t .step) s (opposite s) y t (goal (growth ws) t) (allocate ws h)))
       (seen-viewed ℓ s ws)
       (line-outcome T k (lanes-from s) (closed-from s) t (A .invariant .own-lane k) (goal (growth ws) t) (allocate ws h)

@@ -79,11 +79,11 @@ module _ (ws : List ℕ) (S T g : ℕ) where
         go nothing e = clash (cc (ap (λ (d : Changed). d .reply) e))
 
 -- ---- begin.
-pub begin-done : (ws : List ℕ) (k op side digit argument : ℕ) {ys : List ℕ} {r : Reply}
-    → changedOf r ys ≡ begin ws k theLane op side (storedOf digit argument)
-    → answeredOf (replyText r) ys ≡ beginCommand ws k op side digit argument
+pub begin-done : (ws : List ℕ) (k op side digit low : ℕ) {ys : List ℕ} {r : Reply}
+    → changedOf r ys ≡ begin ws k theLane op side (storedOf digit low)
+    → answeredOf (replyText r) ys ≡ beginCommand ws k op side digit low
 unfolding beginCommand
-begin-done ws k op side digit argument e = ap (λ (d : Changed). answeredOf (replyText (d .reply)) (d .words)) e
+begin-done ws k op side digit low e = ap (λ (d : Changed). answeredOf (replyText (d .reply)) (d .words)) e
 
 -- ---- tick.
 pub ticks-done : (times : ℕ) (ws : List ℕ) (k h : ℕ) {ys : List ℕ} {a : Answer}

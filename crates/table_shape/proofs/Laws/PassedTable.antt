@@ -36,8 +36,8 @@ module _ (ws : List ℕ) {n : ℕ} (is-number : n ≡ numberOf (tableRefusal ws 
   refused h others =
       decided (lengthOk ws) (shapeOk ws) others (λ e. h (is-number ∙ e)) ∙ ap some (sym is-number)
 
-  pub passed : n ≡ 0 → WellFormed ws
-  passed e =
+  pub table-passed : n ≡ 0 → WellFormed ws
+  table-passed e =
       let both = both-pass (lengthOk ws) (shapeOk ws) (sym is-number ∙ e) in
       record { length-passes = both .0; shape-passes = both .1 }
 

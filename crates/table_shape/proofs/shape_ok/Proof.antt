@@ -3,7 +3,7 @@ use mathlib.Core.Path.{_≡_, refl, _∙_}
 use mathlib.Core.Bool.{_&&_}
 use Rattle.machine.specs.Table.{nodeCount}
 use Rattle.machine.specs.Shape.{headerOk, allBelow, nodeOk, shapeOk}
-use Rattle.table_layout.proofs.Laws.Chains.{passed, failed, met}
+use Rattle.table_layout.proofs.Laws.Conjunctions.{and-passed, and-failed, and-met}
 use Rattle.table_shape.proofs.Laws.TableWords.{header-long}
 use borrow.Author.Needs.{needs}
 use Rattle.table_shape.proofs.header_ok.Reads as header-ok-reads
@@ -27,7 +27,7 @@ flag :
     → let t = c .before .before .before .args .table .now in
     c .if1 .if2 ≡ headerOk t && allBelow (nodeCount t) (nodeOk t)
 flag c =
-    met _ (c .if1 .came) (λ p. (p .0 .taken, p .2 ∙ p .1 .ensures)) (λ p. (p .0 .left, p .1))
+    and-met _ (c .if1 .came) (λ p. (p .0 .taken, p .2 ∙ p .1 .ensures)) (λ p. (p .0 .left, p .1))
     (c .before .header-ok .ensures)
 
 header-ok-requires : tie.Need-header-ok-requires
@@ -41,11 +41,11 @@ tasks-ok-requires c κs = search needs
 
 returns : tie.Need-returns
 unfolding shapeOk
-returns c = passed (flag (c .before .before)) (c .before .if2 .taken) (c .tasks-ok .ensures)
+returns c = and-passed (flag (c .before .before)) (c .before .if2 .taken) (c .tasks-ok .ensures)
 
 returns-2 : tie.Need-returns-2
 unfolding shapeOk
-returns-2 c = failed _ (flag (c .before)) (c .if2 .left) refl
+returns-2 c = and-failed _ (flag (c .before)) (c .if2 .left) refl
 
 pub shape-ok-spec : {M : Type 1} → statement M
 shape-ok-spec =

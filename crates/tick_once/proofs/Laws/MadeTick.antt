@@ -51,7 +51,7 @@ use Rattle.table_record.specs.Coded.{structOf, recordOf, codedTask, taskMeant, 
 use Rattle.table_layout.specs.Words.{HoldsNode, HoldsRecord}
 use Rattle.table_layout.proofs.Laws.Views.{nodesOf, nodes-part, nodes-long}
 use Rattle.line_parts.specs.declared.ends.Done.{Done}
-use Rattle.line_parts.specs.Lent.{writesIn, hatAfter, Outcome, outcomeOf, effectIn, lineOf}
+use Rattle.line_parts.specs.Lent.{writesIn, hatAfter, LineOutcome, outcomeOf, effectIn, lineOf}
 use Rattle.line_choice.specs.Groups.{otherLines, allSteps, ReadyIn}
 use Rattle.line_choice.proofs.StepChoice.{each, regrouped, line-at}
 use Rattle.answers.specs.Refusals.{isRefused}
@@ -147,16 +147,16 @@ module _ (ws : List ℕ) (k hint : ℕ) (M : MayTick ws k hint) where
       (out : outcomeOf ns d ≡ effectIn s (nodesOf ws) (hatWord ws ℓ s) (effectOf ws k hint))
       (all-nodes : m ≡ nodeLength * nodeCount ws) where
     nodes-are : ns ≡ writesIn s (E .writes) (nodesOf ws)
-    nodes-are = ap (λ (o : Outcome). o .nodes) out
+    nodes-are = ap (λ (o : LineOutcome). o .nodes) out
 
     hat-is : d .hat ≡ hatAfter (E .writes) (hatWord ws ℓ s)
-    hat-is = ap (λ (o : Outcome). o .done .hat) out
+    hat-is = ap (λ (o : LineOutcome). o .done .hat) out
 
     answer-is : d .answer ≡ E .answer
-    answer-is = ap (λ (o : Outcome). o .done .answer) out
+    answer-is = ap (λ (o : LineOutcome). o .done .answer) out
 
     record-is : recordOf (d .task) ≡ wordsOf (E .task)
-    record-is = ap (λ (o : Outcome). recordOf (o .done .task)) out
+    record-is = ap (λ (o : LineOutcome). recordOf (o .done .task)) out
 
     fits : Fits (nodeCount ws) (growth ws) (laneCount ws) (effectOf ws k hint)
     fits = effect-fits ws W k hint (M .is-hint) (M .busy)
@@ -171,7 +171,7 @@ module _ (ws : List ℕ) (k hint : ℕ) (M : MayTick ws k hint) where
         let going : E .answer ≡ Going = sym answer-is ∙ going-answer (d .answer) g in
         let note = ap noteOf (meant-task ws Z W k (M .is-task)) ∙ sym (effect-keeps ws k hint .kept going) in
         subst (λ (u : Tasks.Task). SameCall u (d .task)) (line-ready .ready .canonical)
-        (subst (SameCall (codedTask (taskMeant K))) (sym (ap (λ (o : Outcome). o .done .task) out))
+        (subst (SameCall (codedTask (taskMeant K))) (sym (ap (λ (o : LineOutcome). o .done .task) out))
         (coded-call (taskMeant K) (E .task) note))
 
     pub keeps-call : length ns ≡ m → GoesOn (putMid headerLength m ws ns) k (isGoing (d .answer)) (d .task)
@@ -258,10 +258,10 @@ module _ (ws : List ℕ) (k hint : ℕ) (M : MayTick ws k hint) where
         (found-node r (allocate ws hint) (nodeCount ws) found-low))
 
     -- The line that the code makes, by what it knows of the step and of the node, with the word at a hat's place.
-    abbrev the-line : (at g : ℕ) → Outcome
+    abbrev the-line : (at g : ℕ) → LineOutcome
     the-line at g = lineOf (stepOf (r .step)) part (getD ws at 0) r g (allocate ws hint)
 
-    pub at-28 : (at g : ℕ) {f : ℕ} {o : Outcome}
+    pub at-28 : (at g : ℕ) {f : ℕ} {o : LineOutcome}
         → r .step ≡ 28
         → f ≡ allocate ws hint
         → o ≡ lineOf line28 part (getD ws at 0) r g f
@@ -271,7 +271,7 @@ module _ (ws : List ℕ) (k hint : ℕ) (M : MayTick ws k hint) where
         ∙ ap (lineOf line28 part (getD ws at 0) r g) found
         ∙ line-at line28 step part _ r g (allocate ws hint)
 
-    pub at-31 : (at g : ℕ) {f : ℕ} {o : Outcome}
+    pub at-31 : (at g : ℕ) {f : ℕ} {o : LineOutcome}
         → r .step ≡ 31
         → f ≡ foundAt31 r (allocate ws hint)
         → o ≡ lineOf line31 part (getD ws at 0) r g f

@@ -18,7 +18,7 @@ use Rattle.machine.specs.Results.{tickedOf}
 use Rattle.machine.proofs.Words.RunLaws.{first-is-last}
 use Rattle.answers.specs.Refusals.{numberOf}
 use Rattle.tick_once.specs.Steps.{made}
-use Rattle.table_shape.proofs.Laws.PassedTable.{refused, passed, operation-is, busy-task}
+use Rattle.table_shape.proofs.Laws.PassedTable.{refused, table-passed, operation-is, busy-task}
 
 -- ---- Refusals 3 and 4 by their number.
 module _ (ws : List ℕ) {n : ℕ} (is-number : n ≡ numberOf (tableRefusal ws nothing)) (k h : ℕ) where
@@ -28,7 +28,7 @@ module _ (ws : List ℕ) {n : ℕ} (is-number : n ≡ numberOf (tableRefusal ws 
 
   pub tick-goes-on : n ≡ 0 → tickOn ws k h ≡ tick ws k h
   unfolding tick
-  tick-goes-on e = let P = passed ws is-number e in rw (P .length-passes, P .shape-passes, tick)
+  tick-goes-on e = let P = table-passed ws is-number e in rw (P .length-passes, P .shape-passes, tick)
 
   pub ticks-refused : n ≢ 0 → (times : ℕ) → times ≢ 0 → tickedOf (Refused n) ws ≡ ticks times ws k h
   ticks-refused r zero asked = absurd (asked refl)

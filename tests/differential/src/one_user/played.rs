@@ -92,7 +92,7 @@ impl Played<'_> {
         self.counts.add(&self.both.given);
     }
 
-    /// A begin, and where it is accepted ticks in a row, as many as are proved to be enough: what they give was
+    /// A begin, and where it is accepted consecutive ticks, as many as are proved to be enough: what they give was
     /// foretold.
     fn call(&mut self, task: u32, call: Note) -> Result<Answer, u32> {
         let nodes = self.user.sizes.nodes;

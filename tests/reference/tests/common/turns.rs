@@ -24,7 +24,7 @@ pub fn next_in(table: &[u32]) -> Option<u32> {
 pub struct Turns {
     /// The task last dispatched.
     last: u32,
-    /// Of each task, the dispatches in a row at which it had a note and another was ticked.
+    /// Of each task, the consecutive dispatches at which it had a note and another was ticked.
     waits: Vec<u32>,
     /// The most of these.
     pub longest: u32,

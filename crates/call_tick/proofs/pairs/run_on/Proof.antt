@@ -7,7 +7,7 @@ use borrow.Author.Needs.{needs}
 use Rattle.machine.specs.Answers.{answerLength}
 use Rattle.machine.specs.Calls.{runOn}
 use Rattle.machine.specs.Shape.{WellFormed}
-use Rattle.call_tick.proofs.Laws.TicksInRow.{tick-passed}
+use Rattle.call_tick.proofs.Laws.ConsecutiveTicks.{tick-passed}
 use Rattle.call_tick.proofs.Laws.RunWords.{
   ahead,
   tick-tag,

@@ -54,7 +54,7 @@ use Rattle.machine.proofs.Basics.Updates.{update}
 use Rattle.machine.proofs.Words.Memories.{View, viewed, viewAfter, seen-viewed}
 use Rattle.machine.proofs.Words.StartLaws.{startView, viewed-start, task-start}
 use Rattle.machine.proofs.Words.EffectLaws.{viewed-set-dispatched, task-set-dispatched, lanes-set-dispatched}
-use Rattle.machine.proofs.Words.RunLaws.{kept-in-row}
+use Rattle.machine.proofs.Words.RunLaws.{kept-consecutively}
 use Rattle.machine.proofs.Words.DispatchLaws.{kept-in-dispatches}
 use Rattle.machine.proofs.Shape.TickKeeps.{tick-allowed}
 use Rattle.machine.proofs.Shape.DispatchCases.{by-dispatch}
@@ -182,7 +182,7 @@ module _ {Fact : (lanes : ℕ) → View → (ℕ → Task) → Type 0} (L : Last
   call-keeps A F (begin-call k l op side argument) = begin-keeps A F k l op side argument
   call-keeps A F (tick-call k h) = tick-call-keeps A F k h
   call-keeps {ws} {ρ} A F (ticks-call k h times) =
-      kept-in-row (λ vs. (σ : Row) × Agrees vs σ × Of vs) k h
+      kept-consecutively (λ vs. (σ : Row) × Agrees vs σ × Of vs) k h
       (λ vs x. let E = tick-explained (x .1) k h in (E .row, E .agrees, tick-call-keeps (x .1) (x .2) k h))
       times ws (ρ, A, F)
       .2

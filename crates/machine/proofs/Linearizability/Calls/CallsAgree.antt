@@ -1,4 +1,4 @@
--- Each call but ticks in a row and lists of ticks keeps the agreement of table and row, and gives back what the row
+-- Each call but consecutive ticks and lists of ticks keeps the agreement of table and row, and gives back what the row
 -- gives.
 use mathlib.Core.Path.{_≡_, refl, sym, ap, _∙_, subst, fun-ext}
 use mathlib.Core.Bool.{Bool, true, false}

@@ -36,7 +36,7 @@ returns c =
     let t = take (a .len) (a .space .now) in
     let begun = done .ensures ∙ ap (begin t (a .task) theLane (a .operation) (a .side)) (n .of-words .ensures) in
     front-leaves (a .space .now) (done .last .0) (a .len) (p .pre) (done .kept .0)
-    (begin-done t (a .task) (a .operation) (a .side) (a .digit) (a .argument) begun)
+    (begin-done t (a .task) (a .operation) (a .side) (a .digit) (a .low) begun)
 
 pub begin-command-spec : {M : Type 1} → statement M
 begin-command-spec =

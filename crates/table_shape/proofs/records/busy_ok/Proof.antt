@@ -4,7 +4,7 @@ use mathlib.Core.Bool.{true}
 use borrow.Author.Tests.{not-true, not-false}
 use Rattle.machine.specs.Operations.{operationOf, argumentOk}
 use Rattle.machine.specs.Shape.{countedOk}
-use Rattle.table_layout.proofs.Laws.Chains.{passed, failed, met}
+use Rattle.table_layout.proofs.Laws.Conjunctions.{and-passed, and-failed, and-met}
 use Rattle.table_shape.proofs.Laws.RecordWords.{callOk, operation-fails, side-fails, argument-fails, busy-tests}
 use borrow.Author.Needs.{needs}
 use Rattle.table_layout.proofs.operations.argument_ok.Reads as argument-ok-reads
@@ -62,8 +62,8 @@ flag :
 flag c =
     let g = c .before .before .before .before .before in
     let t = g .before .before .before .before .before .before .before .before .args .t in
-    met _ (c .if5 .came) (λ p. (p .0 .taken, p .2 ∙ p .1 .ensures)) (λ p. (p .0 .left, p .1))
-    (met _ (c .before .if4 .came)
+    and-met _ (c .if5 .came) (λ p. (p .0 .taken, p .2 ∙ p .1 .ensures)) (λ p. (p .0 .left, p .1))
+    (and-met _ (c .before .if4 .came)
     (λ p. (p .0 .taken, p .2 ∙ p .1 .ensures ∙ ap (λ n. countedOk (t .step) n (t .counted)) (g .goal-of .ensures)))
     (λ p. (p .0 .left, p .1))
     (c .before .before .is-step-of .ensures))
@@ -111,7 +111,7 @@ returns-4 c =
     let f = d .before .before .before in
     let e = f .before .before in
     let a = e .before .before .args in
-    passed (flag (c .before .before)) (c .before .if6 .taken) (c .registers-ok .ensures)
+    and-passed (flag (c .before .before)) (c .before .if6 .taken) (c .registers-ok .ensures)
     ∙ busy-tests (a .slots) (a .growth) (a .lanes) (a .t) (e .if1 .left) (f .if2 .left) (argument-passes d)
 
 returns-5 : tie.Need-returns-5
@@ -120,7 +120,7 @@ returns-5 c =
     let f = d .before .before .before in
     let e = f .before .before in
     let a = e .before .before .args in
-    failed _ (flag (c .before)) (c .if6 .left) refl
+    and-failed _ (flag (c .before)) (c .if6 .left) refl
     ∙ busy-tests (a .slots) (a .growth) (a .lanes) (a .t) (e .if1 .left) (f .if2 .left) (argument-passes d)
 
 pub busy-ok-spec : {M : Type 1} → statement M

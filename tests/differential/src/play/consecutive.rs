@@ -1,4 +1,4 @@
-//! Ticks and dispatches in a row among the other calls: those before the last said "going", and the table's count tells
+//! Consecutive ticks and dispatches among the other calls: those before the last said "going", and the table's count tells
 //! how many there were.
 
 use reference::table::header;
@@ -6,7 +6,7 @@ use reference::Answer;
 
 use super::{Play, Replayed};
 use crate::counts::Origin;
-use crate::in_row::{last_of, Last, Of};
+use crate::consecutive::{last_of, Last, Of};
 
 impl Play<'_> {
     /// Ticks of one task, often to its answer.
@@ -24,7 +24,7 @@ impl Play<'_> {
         let mut ticks = Replayed::from(self.both.before());
         for answer in answers(made, given.ok()) {
             let single = ticks.next(|table| reference::tick(table, task, hint));
-            assert_eq!(single, Ok(answer), "a tick in a row");
+            assert_eq!(single, Ok(answer), "a consecutive tick");
             self.made(task, answer);
             self.replayed(&ticks, task, answer);
         }
@@ -44,7 +44,7 @@ impl Play<'_> {
         let mut ticks = Replayed::from(self.both.before());
         for answer in answers(made, given.ok().flatten()) {
             let single = ticks.next(|table| reference::dispatch(table, hint));
-            assert_eq!(single, Ok(Some(answer)), "a dispatch in a row");
+            assert_eq!(single, Ok(Some(answer)), "a consecutive dispatch");
             let task = self.turn(Some(answer)).expect("a tick was made");
             assert_eq!(ticks.after[header::DISPATCHED], task);
             self.replayed(&ticks, task, answer);
@@ -66,13 +66,13 @@ impl Play<'_> {
     fn saw(&mut self, of: Of, times: u32, given: Result<Option<Answer>, u32>) -> u32 {
         let (made, last) = (self.both.ticks_made(), last_of(given));
         let no_tick = u32::from(matches!(last, Last::Idle | Last::Refused));
-        let in_row = &mut self.counts.in_row;
-        in_row.saw(of, Origin::Calls, times, made + no_tick, last);
+        let consecutive = &mut self.counts.consecutive;
+        consecutive.saw(of, Origin::Calls, times, made + no_tick, last);
         made
     }
 }
 
-/// The answers of so many ticks in a row, by what the last call gave.
+/// The answers of so many consecutive ticks, by what the last call gave.
 fn answers(made: u32, last: Option<Answer>) -> impl Iterator<Item = Answer> {
     (1..=made).map(move |tick| match last {
         Some(answer) if tick == made => answer,

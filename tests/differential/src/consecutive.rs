@@ -1,4 +1,4 @@
-//! Ticks and dispatches in a row: what they come to, and that they are the single calls up to the first that does not
+//! Consecutive ticks and dispatches: what they come to, and that they are the single calls up to the first that does not
 //! say "going".
 
 use reference::Answer;
@@ -7,7 +7,7 @@ use crate::both::Both;
 use crate::common::random::Random;
 use crate::counts::{Counts, Origin};
 
-/// Which calls are made in a row.
+/// Which calls are made one after the other.
 #[derive(Clone, Copy)]
 pub enum Of {
     Ticks,
@@ -66,14 +66,14 @@ fn place(times: u32, calls: u32, last: Last) -> usize {
 
 /// What was seen of them.
 #[derive(Default)]
-pub struct InRow {
+pub struct Consecutive {
     /// By calls and origin, then as in `FOUND`.
     found: [[[u64; FOUND.len()]; 2]; 2],
     /// By calls and origin: as many were asked for as can be.
     largest: [[u64; 2]; 2],
 }
 
-impl InRow {
+impl Consecutive {
     /// So many calls were asked for, and so many made up to the last.
     pub fn saw(&mut self, of: Of, origin: Origin, times: u32, calls: u32, last: Last) {
         let (of, origin) = (of as usize, origin as usize);
@@ -84,7 +84,7 @@ impl InRow {
     /// Prints the counts; gives what was to be seen and was not, or seen and was not to be.
     pub fn report(&self) -> Vec<String> {
         let mut faults = Vec::new();
-        println!("\n{:32} {:>23} {:>23}", "in a row", "ticks", "dispatches");
+        println!("\n{:32} {:>23} {:>23}", "consecutive", "ticks", "dispatches");
         println!(
             "{:32} {:>11} {:>11} {:>11} {:>11}",
             "", "from start", "any table", "from start", "any table"
@@ -95,13 +95,13 @@ impl InRow {
             for (comes, [calls, anywhere]) in comes.into_iter().zip(counts) {
                 let wanted = [comes == Everywhere, comes != Nowhere];
                 if [calls > 0, anywhere > 0] != wanted {
-                    faults.push(format!("in a row, {name}: {calls}, {anywhere}"));
+                    faults.push(format!("consecutive calls, {name}: {calls}, {anywhere}"));
                 }
             }
         }
         show("4,294,967,295 asked for", self.largest);
         if self.largest.as_flattened().contains(&0) {
-            faults.push(format!("in a row, the largest number: {:?}", self.largest));
+            faults.push(format!("consecutive calls, the largest number: {:?}", self.largest));
         }
         faults
     }
@@ -111,24 +111,24 @@ fn show(name: &str, [[one, two], [three, four]]: [[u64; 2]; 2]) {
     println!("{name:32} {one:>11} {two:>11} {three:>11} {four:>11}");
 }
 
-/// Ticks in a row on any words, and the single ones on a copy.
+/// Consecutive ticks on any words, and the single ones on a copy.
 pub fn ticks(random: &mut Random, counts: &mut Counts, both: &mut Both, task: u32, hint: u32) {
     let mut copy = Both::over(both.table());
     let single = || copy.tick(task, hint);
     let (times, calls, wanted) = singly(random, Answer::Going, single);
     let given = both.ticks(task, hint, times);
-    assert_eq!(given, wanted, "{times} ticks in a row and singly");
+    assert_eq!(given, wanted, "{times} ticks, consecutive and single");
     let last = last_of(given.map(Some));
     done(counts, Of::Ticks, both, &copy, [times, calls], last);
 }
 
-/// Dispatches in a row on any words, and the single ones on a copy.
+/// Consecutive dispatches on any words, and the single ones on a copy.
 pub fn dispatches(random: &mut Random, counts: &mut Counts, both: &mut Both, hint: u32) {
     let mut copy = Both::over(both.table());
     let single = || copy.dispatch(hint);
     let (times, calls, wanted) = singly(random, Some(Answer::Going), single);
     let given = both.dispatches(hint, times);
-    assert_eq!(given, wanted, "{times} dispatches in a row and singly");
+    assert_eq!(given, wanted, "{times} dispatches, consecutive and single");
     let last = last_of(given);
     done(counts, Of::Dispatches, both, &copy, [times, calls], last);
 }
@@ -172,8 +172,8 @@ fn done(
 ) {
     assert!(
         both.table() == copy.table(),
-        "the table of calls in a row is not that of single ones"
+        "the table of consecutive calls is not that of single ones"
     );
-    counts.in_row.saw(of, Origin::Anywhere, times, calls, last);
+    counts.consecutive.saw(of, Origin::Anywhere, times, calls, last);
     counts.add(&copy.given);
 }

@@ -1,4 +1,4 @@
--- Ticks in a row, one after another: the one made, and those left of the table that it leaves.
+-- Consecutive ticks, one after another: the one made, and those left of the table that it leaves.
 use mathlib.Core.Path.{_≡_, sym, ap, _∙_, subst}
 use mathlib.Core.Bool.{true, false}
 use mathlib.Core.List.{List}

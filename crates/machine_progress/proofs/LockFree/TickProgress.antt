@@ -19,38 +19,38 @@ use Rattle.machine_progress.proofs.LockFree.Calmness.{calm-refl}
 use Rattle.machine_progress.proofs.LockFree.Disturbances.{Disturbs}
 
 -- A tick with effect e, of a task on side s of lane ℓ, of L lanes, that may disturb n times.
-pub data Outcome (T L : ℕ) (held : ℕ → Bool) (class : ℕ → Class) (ℓ : ℕ) (s o : Side) (m : View) (n : ℕ)
+pub data TickProgress (T L : ℕ) (held : ℕ → Bool) (class : ℕ → Class) (ℓ : ℕ) (s o : Side) (m : View) (n : ℕ)
     (e : Effect) : Type 0 where
-  ends : e .answer ≢ Going → Outcome T L held class ℓ s o m n e
+  ends : e .answer ≢ Going → TickProgress T L held class ℓ s o m n e
   is-calm : Calm held class m (written ℓ s (e .writes) m)
       → Disturbs (e .task .step) T s (written ℓ s (e .writes) m) (e .task) n
-      → Outcome T L held class ℓ s o m n e
+      → TickProgress T L held class ℓ s o m n e
   -- A cut: one disturbance and one for each task.
   cuts : BothSteady L s o m (written ℓ s (e .writes) m) → suc T ≤ n
       → Disturbs (e .task .step) T s (written ℓ s (e .writes) m) (e .task) 1
-      → Outcome T L held class ℓ s o m n e
+      → TickProgress T L held class ℓ s o m n e
   disturbs : {i : ℕ} → BothSteady L s o m (written ℓ s (e .writes) m)
       → BothNoCut L held class s o m (written ℓ s (e .writes) m)
       → suc i ≡ n
       → Disturbs (e .task .step) T s (written ℓ s (e .writes) m) (e .task) i
-      → Outcome T L held class ℓ s o m n e
+      → TickProgress T L held class ℓ s o m n e
   -- The hat moves off Y.
   moves : BothSteady L s o m (written ℓ s (e .writes) m) → BothNoCut L held class s o m (written ℓ s (e .writes) m)
       → m .val (m .hats ℓ s) ≡ Y s
       → written ℓ s (e .writes) m .val (written ℓ s (e .writes) m .hats ℓ s) ≢ Y s
       → Disturbs (e .task .step) T s (written ℓ s (e .writes) m) (e .task) n
-      → Outcome T L held class ℓ s o m n e
+      → TickProgress T L held class ℓ s o m n e
 
 module _ {T L : ℕ} {held : ℕ → Bool} {class : ℕ → Class} {ℓ : ℕ} {s o : Side} {m : View} {n : ℕ} where
   -- Nothing is written.
   pub goes : (t : Task) → Disturbs (t .step) T s m t n
-      → Outcome T L held class ℓ s o m n (record { writes = []; task = t; answer = Going })
+      → TickProgress T L held class ℓ s o m n (record { writes = []; task = t; answer = Going })
   goes t b = is-calm calm-refl b
 
   pub ended : {l : List Write} {t : Task} {a : Answer} → a ≢ Going
-      → Outcome T L held class ℓ s o m n (record { writes = l; task = t; answer = a })
+      → TickProgress T L held class ℓ s o m n (record { writes = l; task = t; answer = a })
   ended ne = ends ne
 
-  pub passing : (t : Task) {x : ℕ} {e : Effect} → (x ≢ none → Outcome T L held class ℓ s o m n e)
-      → Outcome T L held class ℓ s o m n (through x t e)
-  passing t h = ok-through (Outcome T L held class ℓ s o m n) (λ _. ended (λ e. refute (cc))) h
+  pub passing : (t : Task) {x : ℕ} {e : Effect} → (x ≢ none → TickProgress T L held class ℓ s o m n e)
+      → TickProgress T L held class ℓ s o m n (through x t e)
+  passing t h = ok-through (TickProgress T L held class ℓ s o m n) (λ _. ended (λ e. refute (cc))) h

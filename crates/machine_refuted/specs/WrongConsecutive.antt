@@ -1,4 +1,4 @@
--- Wrong dispatches in a row: they are to be as many as asked for, in turn, and to end at an answer.
+-- Wrong consecutive dispatches: they are to be as many as asked for, in turn, and to end at an answer.
 use mathlib.Core.Bool.{Bool, true, false, _||_}
 use mathlib.Core.List.{List}
 use mathlib.Core.Option.{some, none as nothing}
@@ -9,35 +9,35 @@ use Rattle.machine.specs.declared.Dispatch.{Dispatch}
 use Rattle.machine.specs.declared.Dispatch.the-variants.{Idle, Answered}
 use Rattle.machine.specs.Answers.{kindOf, dispatchKindOf, dispatchGoesOn}
 use Rattle.machine.specs.Calls.{nextBusy}
-use Rattle.machine_refuted.specs.Machines.{Machine, Turns, RowDone, dispatchChoosing, turnsInRow, rightMachine}
+use Rattle.machine_refuted.specs.Machines.{Machine, Turns, DispatchedMany, dispatchChoosing, consecutiveTurns, rightMachine}
 
--- The right machine but for its dispatches in a row.
-abbrev pub withDispatches : (Turns → (times : ℕ) → List ℕ → (hint : ℕ) → RowDone) → Machine
-withDispatches dispatchesInRow =
+-- The right machine but for its consecutive dispatches.
+abbrev pub withDispatches : (Turns → (times : ℕ) → List ℕ → (hint : ℕ) → DispatchedMany) → Machine
+withDispatches consecutiveDispatches =
     record {
       starts = rightMachine .starts;
       reads = rightMachine .reads;
       tickOn = rightMachine .tickOn;
-      ticksInRow = rightMachine .ticksInRow;
+      consecutiveTicks = rightMachine .consecutiveTicks;
       reports = rightMachine .reports;
       panelRefuses = rightMachine .panelRefuses;
       panelTakes = rightMachine .panelTakes;
       beginRefuses = rightMachine .beginRefuses;
       dispatches = rightMachine .dispatches;
-      dispatchesInRow = dispatchesInRow;
+      consecutiveDispatches = consecutiveDispatches;
     }
 
 -- One dispatch more is made.
 abbrev pub makesDispatchMore : Machine
-makesDispatchMore = withDispatches (λ turn times. turnsInRow turn (suc times))
+makesDispatchMore = withDispatches (λ turn times. consecutiveTurns turn (suc times))
 
 -- The task whose turn it is gets all the ticks, until it answers.
 abbrev pub staysWithTask : Machine
 staysWithTask =
     withDispatches (λ turn times ws h.
-    elim (nextBusy ws) as (λ _. RowDone) [
-      | some k ↦ turnsInRow (dispatchChoosing (λ vs. some k) (rightMachine .tickOn)) times ws h
-      | nothing ↦ turnsInRow turn times ws h
+    elim (nextBusy ws) as (λ _. DispatchedMany) [
+      | some k ↦ consecutiveTurns (dispatchChoosing (λ vs. some k) (rightMachine .tickOn)) times ws h
+      | nothing ↦ consecutiveTurns turn times ws h
     ])
 
 -- They end at "idle" and at a refusal alone, and count what they passed.
@@ -45,12 +45,12 @@ abbrev pub isEnd : Dispatch → Bool
 isEnd Idle = true
 isEnd (Answered a) = eqb (kindOf a) (kindOf (Refused 0))
 
-unfoldable pub toIdle : Turns → (times : ℕ) → List ℕ → (hint : ℕ) → RowDone
+unfoldable pub toIdle : Turns → (times : ℕ) → List ℕ → (hint : ℕ) → DispatchedMany
 toIdle turn zero ws h = record { last = record { answer = Answered Going; words = ws }; wentOn = 0 }
 toIdle turn (suc n) ws h =
     let one = turn ws h in
     let others = toIdle turn n (one .words) h in
-    elim (isEnd (one .answer)) as (λ _. RowDone) [
+    elim (isEnd (one .answer)) as (λ _. DispatchedMany) [
       | true ↦ record { last = one; wentOn = 0 }
       | false ↦ record { last = others .last; wentOn = suc (others .wentOn) }
     ]
@@ -59,12 +59,12 @@ abbrev pub dispatchesAfterAnswer : Machine
 dispatchesAfterAnswer = withDispatches toIdle
 
 -- They go on at "idle", and say "going" in the end.
-unfoldable pub pastIdle : Turns → (times : ℕ) → List ℕ → (hint : ℕ) → RowDone
+unfoldable pub pastIdle : Turns → (times : ℕ) → List ℕ → (hint : ℕ) → DispatchedMany
 pastIdle turn zero ws h = record { last = record { answer = Answered Going; words = ws }; wentOn = 0 }
 pastIdle turn (suc n) ws h =
     let one = turn ws h in
     let others = pastIdle turn n (one .words) h in
-    elim (dispatchGoesOn (one .answer) || eqb (dispatchKindOf (one .answer)) (dispatchKindOf Idle)) as (λ _. RowDone) [
+    elim (dispatchGoesOn (one .answer) || eqb (dispatchKindOf (one .answer)) (dispatchKindOf Idle)) as (λ _. DispatchedMany) [
       | true ↦ record { last = others .last; wentOn = suc (others .wentOn) }
       | false ↦ record { last = one; wentOn = 0 }
     ]

@@ -1,4 +1,4 @@
--- Dispatches in a row: each is explained by the row as those before it left it.
+-- Consecutive dispatches: each is explained by the row as those before it left it.
 use mathlib.Core.Path.{_≡_, refl, sym, ap, _∙_, subst}
 use mathlib.Core.Bool.{Bool, true, false}
 use mathlib.Core.List.{List}

@@ -1,4 +1,4 @@
--- Ticks in a row: those before the last leave the row as it is, and the last is explained by it.
+-- Consecutive ticks: those before the last leave the row as it is, and the last is explained by it.
 use mathlib.Core.Path.{_≡_, refl, sym, subst}
 use mathlib.Core.Bool.{Bool, true, false}
 use mathlib.Core.List.{List}
@@ -11,7 +11,7 @@ use Rattle.machine.specs.Calls.{Ticked, tick, ticks}
 use Rattle.machine.specs.Row.{Note, Row, feedMade}
 use Rattle.machine.specs.Demand3.{ticks-call, feedTick, Within}
 use Rattle.machine.proofs.Basics.Contradiction.{clash}
-use Rattle.machine.proofs.Words.RunLaws.{going-answer, first-goes-on, first-is-last, one-in-row}
+use Rattle.machine.proofs.Words.RunLaws.{going-answer, first-goes-on, first-is-last, one-consecutive}
 use Rattle.machine.proofs.Linearizability.Calls.Agreement.{Agrees, lanes-are-rows}
 use Rattle.machine.proofs.Linearizability.Calls.CallsAgree.{Explains, tick-explained}
 
@@ -32,7 +32,7 @@ module _ (k h : ℕ) where
   tick-comes A = let E = tick-explained A k h in (E .row, E .given-by-row, E .agrees)
 
   ticks-come : (n : ℕ) {ws : List ℕ} {ρ : Row} → Agrees ws ρ → Comes ρ (ticks (suc n) ws k h)
-  ticks-come zero {ws} {ρ} A = subst (Comes ρ) (sym (one-in-row ws k h)) (tick-comes A)
+  ticks-come zero {ws} {ρ} A = subst (Comes ρ) (sym (one-consecutive ws k h)) (tick-comes A)
   ticks-come (suc n) {ws} {ρ} A = go (isGoing (tick ws k h .answer)) refl (λ B. ticks-come n B)
     where
       go : (b : Bool) → isGoing (tick ws k h .answer) ≡ b

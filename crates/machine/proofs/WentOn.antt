@@ -1,4 +1,4 @@
--- Dispatches in a row: how many went on is told by the tick count, which each tick made raises by one.
+-- Consecutive dispatches: how many went on is told by the tick count, which each tick made raises by one.
 use mathlib.Core.Path.{_≡_, refl, sym, ap, _∙_, subst}
 use mathlib.Core.Bool.{Bool, true, false, cond}
 use mathlib.Core.List.{List}
@@ -14,7 +14,7 @@ use Rattle.machine.specs.Shape.{WellFormed}
 use Rattle.machine.specs.Answers.{refusalOf, dispatchGoesOn, endsCall}
 use Rattle.machine.specs.Calls.{tickRefusal, tickOn, Dispatched, dispatch, dispatches, wentOn}
 use Rattle.machine.specs.Demand3.{dispatch-call}
-use Rattle.machine.specs.InRow.{endedOne, CountTells}
+use Rattle.machine.specs.WentOn.{endedOne, CountTells}
 use Rattle.machine.proofs.Basics.Contradiction.{clash}
 use Rattle.machine.proofs.Words.Columns.{sizesOf, columns}
 use Rattle.machine.proofs.Words.TableLaws.{columns-setDispatched}

@@ -1,4 +1,4 @@
--- Dispatches in a row: how many went on is told by the tick count.
+-- Consecutive dispatches: how many went on is told by the tick count.
 use mathlib.Core.Path.{_≡_}
 use mathlib.Core.Bool.{cond}
 use mathlib.Core.List.{List}

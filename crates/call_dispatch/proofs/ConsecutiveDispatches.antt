@@ -1,4 +1,4 @@
--- Dispatches in a row, one after another: the one made, and those left on the table that it leaves.
+-- Consecutive dispatches, one after another: the one made, and those left on the table that it leaves.
 use mathlib.Core.Path.{_≡_, refl, sym, ap, _∙_, subst}
 use mathlib.Core.Bool.{true, false}
 use mathlib.Core.Logic.{_≢_}

@@ -1,4 +1,4 @@
-// Ticks of one task in a row, on a table that has passed the tests of refusals 3 and 4.
+// Consecutive ticks of one task, on a table that has passed the tests of refusals 3 and 4.
 use crate::pairs::tick_on;
 use answers::is_going;
 use machine::Answer;

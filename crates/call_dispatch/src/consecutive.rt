@@ -1,4 +1,4 @@
-// Dispatches in a row, on a table and with a hint that have passed the tests of refusals 3, 4 and 9.
+// Consecutive dispatches, on a table and with a hint that have passed the tests of refusals 3, 4 and 9.
 use crate::turn::dispatch_on;
 use answers::is_going;
 use machine::Answer;
