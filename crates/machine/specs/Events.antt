@@ -11,24 +11,8 @@ use Rattle.machine.specs.declared.Reply.the-variants.{Accepted, Refused 
 use Rattle.machine.specs.Shape.{sameWords}
 use Rattle.machine.specs.Snapshots.{takeSnapshot, putBack}
 use Rattle.machine.specs.Row.{Row, emptyRow}
-use Rattle.machine.specs.Demand3.{
-  Call,
-  start-call,
-  begin-call,
-  tick-call,
-  ticks-call,
-  dispatch-call,
-  dispatches-call,
-  run-call,
-  panel-call,
-  read-call,
-  Given,
-  given,
-  after,
-  feed,
-  LanesAre,
-  Within,
-}
+use Rattle.machine.specs.Demand3.{Call, Given, given, after, feed, LanesAre, Within}
+use Rattle.machine.specs.Kinds.{Did, started, begun, ticked, did}
 use Rattle.machine.specs.Begun.{Begun}
 use Rattle.machine.specs.Twice.{OnceInTable, RowSince}
 
@@ -88,20 +72,13 @@ fedRow nothing ks = nothing
 fedRow (some ρ) ks = some (record { row = some ρ; kept = ks })
 
 -- A call while nothing is known: an accepted start makes the empty row known, and any other answer passes.
-abbrev pub startedRow : (c : Call) → Given c → Option Row
-startedRow (start-call S T g lanes) Accepted = some (emptyRow T lanes)
-startedRow (start-call S T g lanes) (Reply-Refused n) = nothing
-startedRow (begin-call k l op side argument) r = nothing
-startedRow (tick-call k h) r = nothing
-startedRow (ticks-call k h times) r = nothing
-startedRow (dispatch-call h) r = nothing
-startedRow (dispatches-call h times) r = nothing
-startedRow (run-call list answers) r = nothing
-startedRow (panel-call list answers) r = nothing
-startedRow (read-call l out) r = nothing
+abbrev pub startedRow : Did → Option Row
+startedRow (started T lanes) = some (emptyRow T lanes)
+startedRow (begun k n) = nothing
+startedRow (ticked ts) = nothing
 
 abbrev pub feedCall : Option Row → List Kept → (c : Call) → Given c → Option Known
-feedCall nothing ks c r = some (record { row = startedRow c r; kept = ks })
+feedCall nothing ks c r = some (record { row = startedRow (did c r); kept = ks })
 feedCall (some ρ) ks c r = fedRow (feed ρ c r) ks
 
 -- A take is a look; a snapshot taken while a row is known is kept with it.

@@ -11,21 +11,8 @@ use Rattle.machine.specs.Shape.{sameWords}
 use Rattle.machine.specs.Calls.{Changed, start}
 use Rattle.machine.specs.Snapshots.{byNodes, takeSnapshot, putBack}
 use Rattle.machine.specs.Row.{Row, emptyRow}
-use Rattle.machine.specs.Demand3.{
-  Call,
-  start-call,
-  begin-call,
-  tick-call,
-  ticks-call,
-  dispatch-call,
-  dispatches-call,
-  run-call,
-  panel-call,
-  read-call,
-  given,
-  after,
-  feed,
-}
+use Rattle.machine.specs.Demand3.{Call, given, after, feed}
+use Rattle.machine.specs.Kinds.{Asked, Did, did}
 use Rattle.machine.specs.Events.{
   Event,
   call-event,
@@ -50,6 +37,7 @@ use Rattle.machine.specs.Events.{
   afterEvents,
   knownAfter,
 }
+use Rattle.machine.proofs.Words.Kinds.{Comes, left-alone, is-started, is-begun, are-ticked, are-dispatched, comes}
 use Rattle.machine.proofs.Words.RecordLaws.{same-words}
 use Rattle.machine.proofs.Snapshots.RoundTrips.{put, put-refused, taken-back}
 
@@ -76,26 +64,20 @@ module _ (P : List ℕ → Row → Type 0) (C : Carried P) where
   Next e ws κ = (κ′ : Known) × (feedEvent κ e (eventGiven e ws) ≡ some κ′) × Holds (afterEvent e ws) κ′
 
   -- ---- A call.
-  started : (c : Call) (ws : List ℕ) → Where P (after c ws) (startedRow c (given c ws))
-  started (start-call S T g L) ws = go (start ws S T g L .reply) refl
+  started-there : (c : Call) (ws : List ℕ) → Where P (after c ws) (startedRow (did c (given c ws)))
+  started-there c ws = go (comes c ws)
     where
-      go : (r : Reply) → start ws S T g L .reply ≡ r
-          → Where P (start ws S T g L .words) (startedRow (start-call S T g L) r)
-      go Accepted e = C .at-start S T g L ws e
-      go (Reply-Refused n) e = tt
-  started (begin-call k l op side argument) ws = tt
-  started (tick-call k h) ws = tt
-  started (ticks-call k h times) ws = tt
-  started (dispatch-call h) ws = tt
-  started (dispatches-call h times) ws = tt
-  started (run-call list answers) ws = tt
-  started (panel-call list answers) ws = tt
-  started (read-call l out) ws = tt
+      go : {a : Asked} {vs : List ℕ} {d : Did} → Comes ws a vs d → Where P vs (startedRow d)
+      go (left-alone a e) = tt
+      go (is-started S T g L e) = C .at-start S T g L ws e
+      go (is-begun k l op side argument e) = tt
+      go (are-ticked i list ts) = tt
+      go (are-dispatched h n ts) = tt
 
   after-call : (c : Call) (ws : List ℕ) (known : Option Row) (ks : List Kept) → Where P ws known → AllKept ks
       → (κ′ : Known) × (feedCall known ks c (given c ws) ≡ some κ′) × Holds (after c ws) κ′
   after-call c ws nothing ks p K =
-      (record { row = startedRow c (given c ws); kept = ks }, refl, record { present = started c ws; kept = K })
+      (record { row = startedRow (did c (given c ws)); kept = ks }, refl, record { present = started-there c ws; kept = K })
   after-call c ws (some ρ) ks p K =
       let x = C .at-call p c in
       (record { row = some (x .0); kept = ks }, ap (λ r. fedRow r ks) (x .1), record { present = x .2; kept = K })

@@ -37,7 +37,7 @@ use Rattle.machine.proofs.Basics.Contradiction.{clash}
 use Rattle.machine.proofs.Words.RecordLaws.{same-words-refl}
 use Rattle.machine.proofs.Snapshots.RoundTrips.{taken-back}
 use Rattle.machine.proofs.Linearizability.Calls.Agreement.{Agrees, lanes-are-rows}
-use Rattle.machine.proofs.Linearizability.Histories.{bound}
+use Rattle.machine.proofs.Linearizability.Calls.RowDid.{bound}
 use Rattle.machine.proofs.Linearizability.Carried.{holds-of-nothing, holds-after, found}
 use Rattle.machine.proofs.Linearizability.Theorem.{agreement-carried}
 

@@ -15,7 +15,8 @@ use Rattle.machine.specs.Events.{HistoriesKnown, BegunWhereKnown, OnceWh
 use Rattle.machine.proofs.Snapshots.RoundTrips.{take-accepted}
 use Rattle.machine.proofs.Linearizability.Calls.Agreement.{Agrees}
 use Rattle.machine.proofs.Linearizability.Carried.{Carried, always, always-so}
-use Rattle.machine.proofs.Linearizability.Theorem.{call-explained, agreement-carried}
+use Rattle.machine.proofs.Linearizability.Calls.EveryCall.{call-explained}
+use Rattle.machine.proofs.Linearizability.Theorem.{agreement-carried}
 use Rattle.machine.proofs.Linearizability.Twice.Theorem.{row-agrees, one-more, tables-have-once}
 
 history-carried : Carried RowSince
