@@ -1,25 +1,40 @@
 -- Each call is of its kind: what it leaves, and what it did, are what comes of a call that asks for the same. So what
--- starts, begins, ticks and dispatches keep, every call keeps.
+-- starts, begins, ticks and dispatches keep, every call keeps; and what begins and looks give back is told by what they
+-- look at.
 use mathlib.Core.Path.{_≡_, refl, sym, ap, _∙_, subst}
 use mathlib.Core.Bool.{Bool, true, false}
 use mathlib.Core.List.{List, [], _∷_}
 use mathlib.Core.Option.{Option, some, none as nothing}
 use Prim.Native.Nat.{ℕ, zero, suc}
+use lib.Dec.{ltb}
 use lib.ListN.{drop}
 use Rattle.machine.specs.declared.Answer.the-variants.{Refused}
 use Rattle.machine.specs.declared.Reply.{Reply}
 use Rattle.machine.specs.declared.Reply.the-variants.{Accepted, Refused as Reply-Refused}
 use Rattle.machine.specs.declared.Stored.{Stored}
 use Rattle.machine.specs.Answers.{answerLength, refusalOf, isGoing}
+use Rattle.machine.specs.Sides.{sideOf}
+use Rattle.machine.specs.Values.{number}
+use Rattle.machine.specs.Operations.{Operation, idle, push, pop, add, remove, operationOf}
+use Rattle.machine.specs.Table.{taskCount, laneCount, task, setTask}
 use Rattle.machine.specs.Calls.{
-  tableRefusal,
-  beginRefusal,
+  lane,
+  lanesBelow,
+  allLanes,
+  unless,
   startRefusal,
+  tableRefusal,
+  laneRefusal,
+  isBegun,
+  seenRefusal,
+  twiceRefusal,
+  beginRefusal,
   runRefusal,
   panelRefusal,
   changed,
   times,
   start,
+  begunTask,
   begin,
   Ticked,
   tickOn,
@@ -35,6 +50,10 @@ use Rattle.machine.specs.Calls.{
   tested,
   run,
   panel,
+  ReadDone,
+  unread,
+  readInto,
+  read,
 }
 use Rattle.machine.specs.Row.{newNote}
 use Rattle.machine.specs.Demand3.{
@@ -254,3 +273,127 @@ module _ (P : List ℕ → Type 0) where
       go (is-begun k l op side argument e) = K .by-begin ws p k l op side argument
       go (are-ticked i list ts) = kept-in-list (K .by-tick) i list ws p
       go (are-dispatched h n ts) = kept-in-dispatches P h (λ vs q. K .by-dispatch vs q h) n ws p
+
+-- ---- What begins and looks give back is told by what they look at.
+pub record SameLooks (ws vs : List ℕ) : Type 0 where
+  pub passes : (others : Option ℕ) → tableRefusal ws others ≡ others
+  pub passes′ : (others : Option ℕ) → tableRefusal vs others ≡ others
+  pub same-count : taskCount vs ≡ taskCount ws
+  pub same-lanes : laneCount vs ≡ laneCount ws
+  pub same-lane : (l : ℕ) → lane vs l ≡ lane ws l
+  pub same-operation : (k : ℕ) → task vs k .operation ≡ task ws k .operation
+  pub same-argument : (k : ℕ) → task vs k .argument ≡ task ws k .argument
+
+module _ {ws vs : List ℕ} (L : SameLooks ws vs) where
+  below-same : (n : ℕ) → lanesBelow vs n ≡ lanesBelow ws n
+  unfolding lanesBelow
+  below-same zero = refl
+  below-same (suc n) = rw (below-same n, L .same-lane n)
+
+  lanes-same : allLanes vs ≡ allLanes ws
+  lanes-same = ap (lanesBelow vs) (L .same-lanes) ∙ below-same (laneCount ws)
+
+  begun-same : (m n : ℕ) → isBegun vs m n ≡ isBegun ws m n
+  unfolding isBegun
+  begun-same zero n = refl
+  begun-same (suc m) n = rw (L .same-operation m, L .same-argument m, begun-same m n)
+
+  twice-same : (op : Operation) (n : ℕ) (others : Option ℕ) → twiceRefusal vs op n others ≡ twiceRefusal ws op n others
+  twice-same push n others = rw lanes-same (go (allLanes ws))
+    where
+      go : (bags : Option (List ℕ)) → seenRefusal vs n bags others ≡ seenRefusal ws n bags others
+      go nothing = refl
+      go (some bags) = rw (L .same-count, begun-same (taskCount ws) n)
+  twice-same idle n others = refl
+  twice-same pop n others = refl
+  twice-same add n others = refl
+  twice-same remove n others = refl
+
+  pub begin-same : (k l op side : ℕ) (argument : Stored)
+      → beginRefusal vs k l op side argument ≡ beginRefusal ws k l op side argument
+  begin-same k l op side argument =
+      rw (
+        L .passes,
+        L .passes′,
+        L .same-lanes,
+        L .same-count,
+        L .same-operation k,
+        twice-same (operationOf op),
+      )
+
+  begin-given : (k l op side : ℕ) (argument : Stored)
+      → begin vs k l op side argument .reply ≡ begin ws k l op side argument .reply
+  unfolding begin
+  begin-given k l op side argument =
+      ap (λ (r : Option ℕ). changed r vs begun-there .reply) (begin-same k l op side argument)
+      ∙ same-reply (beginRefusal ws k l op side argument)
+    where
+      begun-there : List ℕ
+      begun-there = setTask k (begunTask l (operationOf op) (sideOf side) (number argument)) vs
+
+      begun-here : List ℕ
+      begun-here = setTask k (begunTask l (operationOf op) (sideOf side) (number argument)) ws
+
+      same-reply : (r : Option ℕ) → changed r vs begun-there .reply ≡ changed r ws begun-here .reply
+      same-reply (some n) = refl
+      same-reply nothing = refl
+
+  read-same : (l : ℕ) (out : List ℕ) → read vs l out ≡ read ws l out
+  unfolding read
+  read-same l out = ap (done vs) same ∙ go (laneRefusal ws l nothing)
+    where
+      same : laneRefusal vs l nothing ≡ laneRefusal ws l nothing
+      same =
+          L .passes′ (unless (ltb l (laneCount vs)) 26 nothing)
+          ∙ ap (λ (n : ℕ). unless (ltb l n) 26 nothing) (L .same-lanes)
+          ∙ sym (L .passes (unless (ltb l (laneCount ws)) 26 nothing))
+
+      done : List ℕ → Option ℕ → ReadDone
+      done xs r = elim r as (λ _. ReadDone) [ some n ↦ unread n out | nothing ↦ readInto (lane xs l) out ]
+
+      go : (r : Option ℕ) → done vs r ≡ done ws r
+      go (some n) = refl
+      go nothing = ap (λ (b : Option (List ℕ)). readInto b out) (L .same-lane l)
+
+-- What such a call leaves of two tables: both as they are, or both begun alike.
+pub data LeftAlike (ws vs : List ℕ) : (ws′ vs′ : List ℕ) → Type 0 where
+  both-left-alone : LeftAlike ws vs ws vs
+  both-begun : (k l op side : ℕ) (argument : Stored)
+      → LeftAlike ws vs (begin ws k l op side argument .words) (begin vs k l op side argument .words)
+
+-- A begin, or a look.
+pub record TicksNone (c : Call) : Type 0 where
+  pub same-given : {ws vs : List ℕ} → SameLooks ws vs → given c vs ≡ given c ws
+  pub left-alike : (ws vs : List ℕ) → LeftAlike ws vs (after c ws) (after c vs)
+
+-- The calls, begins and looks as one: for what is said of two tables.
+pub data View : Call → Type 0 where
+  of-start : (S T g L : ℕ) → View (start-call S T g L)
+  of-tick : (k h : ℕ) → View (tick-call k h)
+  of-ticks : (k h n : ℕ) → View (ticks-call k h n)
+  of-dispatch : (h : ℕ) → View (dispatch-call h)
+  of-dispatches : (h n : ℕ) → View (dispatches-call h n)
+  of-run : (list answers : List ℕ) → View (run-call list answers)
+  of-panel : (list answers : List ℕ) → View (panel-call list answers)
+  of-other : (c : Call) → TicksNone c → View c
+
+pub view : (c : Call) → View c
+view (start-call S T g L) = of-start S T g L
+view (begin-call k l op side argument) =
+    of-other (begin-call k l op side argument)
+    (record {
+      same-given = λ L. begin-given L k l op side argument;
+      left-alike = λ ws vs. both-begun k l op side argument;
+    })
+view (tick-call k h) = of-tick k h
+view (ticks-call k h n) = of-ticks k h n
+view (dispatch-call h) = of-dispatch h
+view (dispatches-call h n) = of-dispatches h n
+view (run-call list answers) = of-run list answers
+view (panel-call list answers) = of-panel list answers
+view (read-call l out) =
+    of-other (read-call l out)
+    (record {
+      same-given = λ L i. (read-same L l out i .reading, read-same L l out i .out);
+      left-alike = λ ws vs. both-left-alone;
+    })
