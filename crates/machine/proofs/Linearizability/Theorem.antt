@@ -49,6 +49,7 @@ agreement-carried =
     record {
       at-start = started-agrees;
       at-call = λ A c. let E = call-explained A c in (E .row, E .given-by-row, E .agrees);
+      well-formed = λ A. A .accepted;
     }
 
 pub demand3-with-snapshots : Demand3WithSnapshots
