@@ -149,8 +149,8 @@ hints-alone (h ∷ hints) ws A k low =
     let same = tick-call-kept ws A k h .same-sizes in (
       low .0,
       λ _.
-      hints-alone hints (tick ws k h .words) (call-accepted ws A (tick-call k h)) k
-      (subst (λ z. HintsBelow (z .nodeCount) hints) (sym same) (low .1)),
+          hints-alone hints (tick ws k h .words) (call-accepted ws A (tick-call k h)) k
+          (subst (λ z. HintsBelow (z .nodeCount) hints) (sym same) (low .1)),
     )
 
 pub own-hints : (hints : List ℕ) → ownTicks (map own-tick hints) ≡ length hints
