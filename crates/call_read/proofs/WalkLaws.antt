@@ -20,13 +20,13 @@ use Rattle.machine.specs.Values.{Value, never, bag, N, X, Y, number, encode, de
 use Rattle.machine.specs.Tasks.{none}
 use Rattle.machine.specs.Table.{headerLength, nodeAt, nodeCount, laneCount, mostLanes, hatWord, hat, valueWords, link}
 use borrow.Rule.Slice.PartMut.{midOf}
-use Rattle.machine.specs.Shape.{WellFormed}
+use Rattle.machine.specs.Shape.{WellFormed, sizesOf, Sized}
 use Rattle.machine.specs.Calls.{unless, isAmong, tableRefusal, laneFrom, lane, readInto, read}
 use Rattle.machine.specs.Results.{readOf}
 use Rattle.machine.proofs.Basics.Choices.{equal, unequal, if-yes}
 use Rattle.machine.proofs.Basics.Contradiction.{refute, clash}
 use Rattle.machine.proofs.Words.ValueLaws.{decoded-bag}
-use Rattle.machine.proofs.Words.Columns.{sizesOf, columns, Sized}
+use Rattle.machine.proofs.Words.Columns.{columns}
 use Rattle.machine.proofs.Shape.ShapeLaws.{WellShaped, well-sized, well-shaped}
 use Rattle.table_values.specs.Tests.{isBag}
 use Rattle.table_layout.specs.Words.{HoldsNode, linkIn, storedIn}

@@ -13,7 +13,17 @@ use Rattle.machine.specs.Values.{Value-discrete, decode}
 use Rattle.machine.specs.Steps.{stepIn, stepOf, isStepIn}
 use Rattle.machine.specs.Tasks.{Task}
 use Rattle.machine.specs.Table.{taskCount, dispatched, hat, link, value, task, setDispatched}
-use Rattle.machine.specs.Shape.{allBelow, sameWords, nodeOk, busyOk, recordOk, shapeOk, WellFormed}
+use Rattle.machine.specs.Shape.{
+  allBelow,
+  sameWords,
+  nodeOk,
+  busyOk,
+  recordOk,
+  shapeOk,
+  WellFormed,
+  sizesOf,
+  WellSized,
+}
 use Rattle.machine.specs.Allocate.{
   heldFrom,
   hatsFrom,
@@ -82,7 +92,7 @@ use Rattle.machine.proofs.Basics.Contradiction.{clash, refute, equal?}
 use Rattle.machine.proofs.Basics.Tests.{test-passed, tests-left}
 use Rattle.machine.proofs.Basics.Updates.{update-other}
 use Rattle.machine.proofs.Basics.Rounds.{following-below, away, away-below, none-passes, found-or-nearer}
-use Rattle.machine.proofs.Words.Columns.{sizesOf, columns, putDispatched}
+use Rattle.machine.proofs.Words.Columns.{columns, putDispatched}
 use Rattle.machine.proofs.Words.TableLaws.{columns-setDispatched}
 use Rattle.machine.proofs.Words.EffectLaws.{task-set-dispatched}
 use Rattle.machine.proofs.Words.StartLaws.{task-start}
@@ -103,7 +113,7 @@ use Rattle.machine.proofs.Words.Kinds.{
   are-dispatched,
   comes,
 }
-use Rattle.machine.proofs.Shape.ShapeLaws.{WellSized, WellShaped, well-sized, well-shaped}
+use Rattle.machine.proofs.Shape.ShapeLaws.{WellShaped, well-sized, well-shaped}
 use Rattle.machine.proofs.Shape.TickKeeps.{Kept, unchanged, busy-is-task, tick-kept}
 use Rattle.machine.proofs.Shape.DispatchCases.{by-dispatch}
 use Rattle.machine.proofs.Shape.ShapeKept.{

@@ -6,7 +6,7 @@ use mathlib.Core.Option.{Option, some, none as nothing, Option·map}
 use Prim.Native.Nat.{ℕ, zero, suc, _<_}
 use lib.Dec.{ltb}
 use borrow.Author.Tests.{ltb-true}
-use Rattle.machine.specs.Shape.{WellFormed}
+use Rattle.machine.specs.Shape.{WellFormed, sizesOf, Sized, WellSized}
 use Rattle.machine.specs.Round.{nextAfter}
 use Rattle.machine.specs.Answers.{refusalOf, isGoing, dispatchGoesOn}
 use Rattle.machine.specs.declared.Dispatch.the-variants.{Answered}
@@ -71,12 +71,12 @@ use Rattle.machine.proofs.Words.Kinds.{
   of-other,
   view,
 }
-use Rattle.machine.proofs.Words.Columns.{sizesOf, Columns, Sized, putDispatched}
+use Rattle.machine.proofs.Words.Columns.{Columns, putDispatched}
 use Rattle.machine.proofs.Words.TableLaws.{columns-setDispatched, columns-setTask}
 use Rattle.machine.proofs.Words.EffectLaws.{task-set-dispatched, task-set-task}
 use Rattle.machine.proofs.Words.RunLaws.{first-goes-on, first-is-last}
 use Rattle.machine.proofs.Words.DispatchLaws.{others-follow, one-went-on, none-follows, none-went-on}
-use Rattle.machine.proofs.Shape.ShapeLaws.{WellSized, well-sized}
+use Rattle.machine.proofs.Shape.ShapeLaws.{well-sized}
 use Rattle.machine.proofs.Shape.TickKeeps.{busy-passes}
 use Rattle.machine.proofs.Shape.DispatchCases.{chosen-busy}
 use Rattle.machine.proofs.Shape.ShapeKept.{

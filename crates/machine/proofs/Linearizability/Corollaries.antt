@@ -22,7 +22,7 @@ use Rattle.machine.specs.Operations.{Operation, idle, push, pop, add, re
 use Rattle.machine.specs.Tasks.{none, Register, register}
 use Rattle.machine.specs.Registers.{holds}
 use Rattle.machine.specs.Table.{nodeCount, taskCount, laneCount, task, setTask}
-use Rattle.machine.specs.Shape.{lengthOk, shapeOk}
+use Rattle.machine.specs.Shape.{lengthOk, shapeOk, sizesOf, Sized}
 use Rattle.machine.specs.Reach.{Reachable, from-register}
 use Rattle.machine.specs.Allocate.{allocate}
 use Rattle.machine.specs.Answers.{answerLength, refusalOf, dispatchRefusalOf}
@@ -80,7 +80,6 @@ use Rattle.machine.specs.Begun.{
   bagsPopped,
 }
 use Rattle.machine.proofs.Basics.Contradiction.{clash, refute}
-use Rattle.machine.proofs.Words.Columns.{sizesOf, Sized}
 use Rattle.machine.proofs.Shape.ShapeLaws.{well-sized}
 use Rattle.machine.proofs.Shape.DispatchCases.{by-dispatch}
 use Rattle.machine.proofs.Shape.ShapeKept.{is-accepted, table-passes, tick-passes as accepted-tick-passes}

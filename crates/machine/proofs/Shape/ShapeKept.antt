@@ -15,7 +15,7 @@ use Rattle.machine.specs.Operations.{Operation, idle, push, pop, add, re
 use Rattle.machine.specs.Steps.{stepNumber, stepsOf, isStepIn, firstStep}
 use Rattle.machine.specs.Tasks.{Task, wordsOf}
 use Rattle.machine.specs.Table.{nodeCount, taskCount, growth, laneCount, mostLanes, task, setDispatched, setTask}
-use Rattle.machine.specs.Shape.{lanesOk, sizesOk, valueReadOk, countedOk, WellFormed}
+use Rattle.machine.specs.Shape.{lanesOk, sizesOk, valueReadOk, countedOk, WellFormed, sizesOf, WellSized}
 use Rattle.machine.specs.Calls.{
   isIdle,
   isBusy,
@@ -43,14 +43,13 @@ use Rattle.machine.specs.Demand3.{Call, after, afterTicks}
 use Rattle.machine.proofs.Basics.Contradiction.{clash}
 use Rattle.machine.proofs.Basics.Tests.{and-left, and-right, test-passed, tests-left}
 use Rattle.machine.proofs.Words.ValueLaws.{argument-stored, never-has-word}
-use Rattle.machine.proofs.Words.Columns.{sizesOf, columns}
+use Rattle.machine.proofs.Words.Columns.{columns}
 use Rattle.machine.proofs.Words.TableLaws.{columns-setDispatched, columns-setTask}
 use Rattle.machine.proofs.Words.StartLaws.{startLink, startValue, startColumns, columns-start}
 use Rattle.machine.proofs.Words.Kinds.{kept-in-list, kept-by-calls}
 use Rattle.machine.proofs.Words.Stretches.{side-small}
 use Rattle.machine.proofs.Shape.BusyLaws.{NodeOrNone, BusyFacts, record-of-fresh, record-of-busy}
 use Rattle.machine.proofs.Shape.ShapeLaws.{
-  WellSized,
   well-sized,
   length-ok,
   HatFits,

@@ -26,9 +26,9 @@ use Rattle.machine.specs.Table.{
   task,
   linksLength,
 }
+use Rattle.machine.specs.Shape.{sizesOf, Sized}
 use Rattle.machine.proofs.Basics.Choices.{if-yes}
 use Rattle.machine.proofs.Words.ValueLaws.{stored-alike}
-use Rattle.machine.proofs.Words.Columns.{sizesOf, Sized}
 use Rattle.table_record.specs.Coded.{structOf, taskMeant}
 use Rattle.table_layout.specs.Words.{HoldsNode, linkIn, storedIn}
 use Rattle.table_layout.proofs.Laws.NodeWords.{any-default}

@@ -4,11 +4,11 @@ use mathlib.Core.List.{List}
 use Prim.Native.Nat.{ℕ, _<_}
 use Rattle.machine.specs.Choice.{_<?_}
 use Rattle.machine.specs.Tasks.{none}
+use Rattle.machine.specs.Shape.{sizesOf, Sized}
 use Rattle.machine.proofs.Basics.Choices.{if-yes}
 use Rattle.machine.specs.Sides.{Side, opposite}
 use Rattle.machine.specs.Table.{mostLanes, hatWord, hat}
 use Rattle.machine.specs.Lines.{seen}
-use Rattle.machine.proofs.Words.Columns.{sizesOf, Sized}
 use Rattle.line_parts.specs.Lent.{memoryIn}
 use Rattle.table_layout.proofs.Laws.Views.{nodesOf, link-in, value-in}
 
