@@ -22,7 +22,7 @@ returns c =
     let done =
         lane-done (a .bags .now) (c .before .read-arg2 .given .0 .1) (take (a .len) (a .space .now)) (c .read .ensures)
     in
-    (done .0, done .1, ap (λ (d : ReadDone). d .out) (c .read .ensures))
+    (done .0, (done .1, ap (λ (d : ReadDone). d .out) (c .read .ensures)))
 
 pub lane-command-spec : {M : Type 1} → statement M
 lane-command-spec = tie.close (tie.spec slice-aggregate-read read-requires returns)
