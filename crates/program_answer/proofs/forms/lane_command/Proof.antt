@@ -20,7 +20,7 @@ returns : tie.Need-returns
 returns c =
     let a = c .before .before .before .before .args in
     let done =
-        lane-done (a .bags .now) (c .before .read-arg2 .given .0 .1) (take (a .len) (a .space .now)) (c .read .ensures)
+    lane-done (a .bags .now) (c .before .read-arg2 .given .0 .1) (take (a .len) (a .space .now)) (c .read .ensures)
     in
     (done .0, (done .1, ap (λ (d : ReadDone). d .out) (c .read .ensures)))
 
