@@ -192,7 +192,12 @@ fn is_pushed(table: &[u32], sizes: Sizes, tag: Content) -> bool {
 }
 
 /// Shows the tags of a lane, leftmost first, up to its end; there may be none to find.
-fn walk(table: &[u32], sizes: Sizes, lane: u32, mut show: impl FnMut(Content)) -> Result<(), u32> {
+pub fn walk(
+    table: &[u32],
+    sizes: Sizes,
+    lane: u32,
+    mut show: impl FnMut(Content),
+) -> Result<(), u32> {
     let mut number = table[header::hat(lane, LEFT)];
     for _ in 0..sizes.nodes {
         number = next(table, sizes, number)?;

@@ -18,6 +18,7 @@ pub mod lists;
 mod machine;
 pub mod refusal;
 mod shape;
+pub mod sheet;
 mod side;
 mod snapshot;
 mod step;

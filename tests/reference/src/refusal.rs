@@ -30,6 +30,10 @@ pub const IDLE: u32 = 10;
 pub const NO_NODE: u32 = 11;
 /// The out slice is shorter than the deque.
 pub const OUT_LENGTH: u32 = 12;
+/// There is no such page of the shift sheet.
+pub const PAGE: u32 = 20;
+/// The out slice does not have the length of a page.
+pub const PAGE_LENGTH: u32 = 21;
 /// The schedule has an odd length or is too long.
 pub const SCHEDULE: u32 = 13;
 /// The panel's schedule is too long.

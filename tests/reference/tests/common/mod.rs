@@ -1,5 +1,6 @@
 //! What several tests share: a generator of numbers, mirrors, random tables, the plain rows and the snapshots kept with
-//! them, the order of a snapshot, calls made to their answers, which nodes are free, and whose turn it is.
+//! them, the order of a snapshot, calls made to their answers, which nodes are free, whose turn it is, and
+//! pages of the shift sheet.
 
 #![allow(dead_code)]
 
@@ -10,5 +11,6 @@ pub mod kept;
 pub mod paths;
 pub mod random;
 pub mod row;
+pub mod sheets;
 pub mod tables;
 pub mod turns;
