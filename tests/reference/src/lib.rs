@@ -8,6 +8,7 @@
 #![forbid(unsafe_code)]
 #![warn(missing_docs)]
 
+pub mod airlines;
 mod alloc;
 mod answer;
 mod calls;

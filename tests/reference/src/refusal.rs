@@ -52,3 +52,9 @@ pub const SNAPSHOT_LENGTH: u32 = 22;
 pub const WINDOW: u32 = 23;
 /// The count fed to a window does not follow the last one.
 pub const COUNT: u32 = 24;
+/// A line of an airline list is neither form, is one too many, or is missing.
+pub const LIST_LINE: u32 = 27;
+/// An earlier line of an airline list has the code.
+pub const LIST_CODE: u32 = 28;
+/// A line of an airline list closes it before its end, or does not close it at its end.
+pub const LIST_CLOSING: u32 = 29;
