@@ -1,0 +1,5 @@
+pub mod Laws
+pub mod Orders
+pub mod Written
+pub mod OwnText
+pub mod Worked
