@@ -3,3 +3,4 @@ pub mod Orders
 pub mod Written
 pub mod OwnText
 pub mod Worked
+pub mod Refuted

@@ -4,3 +4,4 @@ pub mod Accepted
 pub mod FirstForm
 pub mod Marks
 pub mod Examples
+pub mod Wrong

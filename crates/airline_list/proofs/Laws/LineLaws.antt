@@ -1,15 +1,16 @@
 -- The lines of a list from a place on, and their forms.
-use mathlib.Core.Path.{_≡_, refl, ap, _∙_}
+use mathlib.Core.Path.{_≡_, refl, sym, ap, _∙_}
 use mathlib.Core.Bool.{Bool, true, false}
 use mathlib.Core.Logic.{_⊎_, inl, inr}
 use mathlib.Core.List.{List, [], _∷_, map}
 use Prim.Native.Nat.{ℕ, suc, _+_, _-_, _≤_, _<_}
-use native.Mathlib.Decide.{decLe}
+use native.Mathlib.Decide.{decLe, decLt}
 use native.Mathlib.Omega.{arith}
 use borrow.Author.Tests.{le-leb, lt-leb}
 use lib.Dec.{eqb, leb}
 use lib.ListN.{length, drop, drop-of-length-le, length-drop}
 use lib.Seq.{drop-drop}
+use Rattle.tag.proofs.TagLaws.{clash}
 use Rattle.text.specs.Lines.{lineFeed, firstLine, linesOf}
 use Rattle.text.proofs.Laws.FirstLine.{line-within}
 use Rattle.airline_list.specs.declared.forms.Form.{Form}
@@ -53,6 +54,15 @@ pub some-forms : (list : List ℕ) (from : ℕ) → from < length list → none 
 some-forms list from h =
     let some : 0 < length (drop from list) = simp length-drop (omega arith) in
     rw (first-of-lines (drop from list) some)
+
+pub forms-left : (list : List ℕ) (from : ℕ) → none (formsAt list from) ≡ false → from < length list
+forms-left list from h = go (decLt from (length list))
+  where
+    go : Dec (from < length list) → from < length list
+    go (yes before) = before
+    go (no past) =
+        let z : true ≡ false = sym (ap none (forms-end list from (omega arith))) ∙ h in
+        clash (cc)
 
 -- Whether a line follows is told by the place where one ends.
 pub is-last : (list : List ℕ) (to : ℕ) → leb (length list - to) 1 ≡ none (formsAt list (to + 1))

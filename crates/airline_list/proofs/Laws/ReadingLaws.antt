@@ -3,11 +3,11 @@ use mathlib.Core.Path.{_≡_, refl, sym, ap, _∙_, subst}
 use mathlib.Core.Bool.{Bool, true, false, cond, not}
 use mathlib.Core.Logic.{_⊎_, inl, inr}
 use mathlib.Core.List.{List, [], _∷_, _++_}
-use Prim.Native.Nat.{ℕ, suc, _+_, _-_, _≤_, _<_}
+use Prim.Native.Nat.{ℕ, suc, _+_, _≤_, _<_}
 use native.Mathlib.Numerals.{add-one}
 use native.Mathlib.Omega.{arith}
-use borrow.Author.Tests.{lt-ltb, le-ltb, leb-false}
-use lib.Dec.{eqb, leb}
+use borrow.Author.Tests.{lt-ltb, le-ltb}
+use lib.Dec.{eqb}
 use lib.ListN.{length, getD, set, drop}
 use Rattle.tag.proofs.TagLaws.{clash}
 use Rattle.text.specs.Lines.{firstLine}
@@ -40,7 +40,7 @@ use Rattle.airline_list.proofs.Laws.LineLaws.{
   formAt,
   formsAt,
   forms-end,
-  is-last,
+  forms-left,
   formsBehind,
   forms-first,
   forms-behind,
@@ -129,81 +129,85 @@ module _ {list : List ℕ} {from line : ℕ} {marks : List ℕ} (R : Reading lis
   unfolding judged
   no-line h = sym (ap (judged line (R .earlier)) (forms-end list from h)) ∙ R .rest
 
-  module _ (before : from < length list) where
-    first-judged : judged line (R .earlier) (formAt list from ∷ formsBehind list from) ≡ verdict list
-    first-judged = sym (ap (judged line (R .earlier)) (forms-first list from before)) ∙ R .rest
+  first-judged : from < length list
+      → judged line (R .earlier) (formAt list from ∷ formsBehind list from) ≡ verdict list
+  first-judged before = sym (ap (judged line (R .earlier)) (forms-first list from before)) ∙ R .rest
 
-    pub line-65 : 64 < line → faulty 27 line ≡ verdict list
-    unfolding judged
-    line-65 many = sym (too-many (formAt list from)) ∙ first-judged
-      where
-        too-many : (form : Form) → judged line (R .earlier) (form ∷ formsBehind list from) ≡ faulty 27 line
-        too-many (Airline code end) = rw (lt-ltb 64 line many)
-        too-many (Others end) = rw (lt-ltb 64 line many)
-        too-many Neither = refl
+  pub line-65 : from < length list → 64 < line → faulty 27 line ≡ verdict list
+  unfolding judged
+  line-65 before many = sym (too-many (formAt list from)) ∙ first-judged before
+    where
+      too-many : (form : Form) → judged line (R .earlier) (form ∷ formsBehind list from) ≡ faulty 27 line
+      too-many (Airline code end) = rw (lt-ltb 64 line many)
+      too-many (Others end) = rw (lt-ltb 64 line many)
+      too-many Neither = refl
 
-    module _ (few : line ≤ 64) (to : ℕ) (ends : to ≡ from + length (formText (formAt list from))) where
-      -- The turn of the line tells what the list comes to.
-      turn-comes : ComesTo (turned marks (formAt list from) (leb (length list - to) 1)) line (R .earlier)
-          (formsAt list (to + 1)) (verdict list)
-      unfolding turned judged
-      turn-comes = go (form-text (firstLine (drop from list)))
-        where
-          go : (formAt list from ≡ Neither) ⊎ (firstLine (drop from list) ≡ formText (formAt list from))
-              → ComesTo (turned marks (formAt list from) (leb (length list - to) 1)) line (R .earlier)
-              (formsAt list (to + 1)) (verdict list)
-          go (inl neither) =
-              let fault : faulty 27 line ≡ verdict list =
-              sym (ap (λ (form : Form). judged line (R .earlier) (form ∷ formsBehind list from)) neither) ∙ first-judged in
-              subst (λ (form : Form). ComesTo (turned marks form (leb (length list - to) 1)) line (R .earlier)
-              (formsAt list (to + 1)) (verdict list)) (sym neither) fault
-          go (inr text) =
-              let comes = line-comes (R .marked) line few (formsAt list (to + 1)) (formAt list from)
-              (form-in-range (firstLine (drop from list))) in
-              let whole : judged line (R .earlier) (formAt list from ∷ formsAt list (to + 1)) ≡ verdict list =
-              sym (ap (λ (forms : List Form). judged line (R .earlier) (formAt list from ∷ forms))
-              (forms-behind list from to ends text)) ∙ first-judged in
-              subst (λ (last : Bool). ComesTo (turned marks (formAt list from) last) line (R .earlier)
-              (formsAt list (to + 1)) (verdict list)) (sym (is-last list to))
-              (subst (ComesTo (turned marks (formAt list from) (none (formsAt list (to + 1)))) line (R .earlier)
-              (formsAt list (to + 1))) whole comes)
+-- ---- A line taken: the place where it ends, whether it is the last, its turn and the marks after it, as the code has them.
+pub record Taken (list : List ℕ) (from line : ℕ) (marks : List ℕ) (to : ℕ) (turn : Turn) (after : List ℕ) : Type 0 where
+  pub reading : Reading list from line marks
+  pub before : from < length list
+  pub few : line ≤ 64
+  pub ends : to ≡ from + length (formText (formAt list from))
+  pub last : Bool
+  pub is-last : last ≡ none (formsAt list (to + 1))
+  pub turns : turnedOf turn after ≡ turned marks (formAt list from) last
 
-      module _ {turn : Turn} {after : List ℕ}
-          (taken : turnedOf turn after ≡ turned marks (formAt list from) (leb (length list - to) 1)) where
-        comes-by : (other : Turn) → turn ≡ other
-            → Comes other after line (R .earlier) (formsAt list (to + 1)) (verdict list)
-        comes-by other e =
-            subst (λ (t : Turn). Comes t after line (R .earlier) (formsAt list (to + 1)) (verdict list)) e
-            (subst (λ (t : Turned). ComesTo t line (R .earlier) (formsAt list (to + 1)) (verdict list)) (sym taken)
-            turn-comes)
+module _ {list : List ℕ} {from line : ℕ} {marks : List ℕ} {to : ℕ} {turn : Turn} {after : List ℕ}
+    (T : Taken list from line marks to turn after) where
+  abbrev Leads : Turned → Type 0
+  Leads t = ComesTo t line (T .reading .earlier) (formsAt list (to + 1)) (verdict list)
 
-        pub turn-fault : (number : ℕ) → turn ≡ Fault number → faulty number line ≡ verdict list
-        turn-fault number e = comes-by (Fault number) e
+  -- A line that has no form is faulty wherever it ends.
+  turn-leads : Leads (turned marks (formAt list from) (T .last))
+  unfolding turned judged
+  turn-leads = go (form-text (firstLine (drop from list)))
+    where
+      go : (formAt list from ≡ Neither) ⊎ (firstLine (drop from list) ≡ formText (formAt list from))
+          → Leads (turned marks (formAt list from) (T .last))
+      go (inl neither) =
+          let fault : faulty 27 line ≡ verdict list =
+          sym (ap (λ (form : Form). judged line (T .reading .earlier) (form ∷ formsBehind list from)) neither)
+          ∙ first-judged (T .reading) (T .before) in
+          rw neither fault
+      go (inr text) =
+          let forms = formsAt list (to + 1) in
+          let comes = line-comes (T .reading .marked) line (T .few) forms (formAt list from)
+          (form-in-range (firstLine (drop from list))) in
+          let whole : judged line (T .reading .earlier) (formAt list from ∷ forms) ≡ verdict list =
+          sym (ap (λ (others : List Form). judged line (T .reading .earlier) (formAt list from ∷ others))
+          (forms-behind list from to (T .ends) text)) ∙ first-judged (T .reading) (T .before) in
+          subst (λ (last : Bool). Leads (turned marks (formAt list from) last)) (sym (T .is-last))
+          (subst (ComesTo (turned marks (formAt list from) (none forms)) line (T .reading .earlier) forms) whole comes)
 
-        pub turn-closed : (end : End) → turn ≡ Closed end
-            → (To end ≡ closing (verdict list)) × MarkedAs (verdict list) after
-        turn-closed end e =
-            let c = comes-by (Closed end) e in
-            (ap closing (c .0), subst (λ v. MarkedAs v after) (c .0) (c .1))
+  leads-by : (other : Turn) → turn ≡ other → Leads (turnedOf other after)
+  leads-by other e = subst (λ (t : Turn). Leads (turnedOf t after)) e (subst Leads (sym (T .turns)) turn-leads)
 
-        pub turn-goes-on : turn ≡ More → to + 1 < length list
-        turn-goes-on e =
-            let last = more-not-last marks (formAt list from) (leb (length list - to) 1)
-            (sym (ap (λ (t : Turned). t .turn) taken) ∙ e) in
-            let more = leb-false (length list - to) 1 last in
-            omega arith
+  pub turn-fault : (number : ℕ) → turn ≡ Fault number
+      → (NotSent number line ≡ closing (verdict list)) × MarkedAs (verdict list) after
+  turn-fault number e = read-faulty list after number line (leads-by (Fault number) e)
 
-        pub turn-more : turn ≡ More → Reading list (to + 1) (line + 1) after
-        turn-more e =
-            let next = comes-by More e in
-            let on = turn-goes-on e in
-            record {
-              within = omega arith;
-              few = omega arith;
-              earlier = R .earlier ++ (next .airline ∷ []);
-              marked = next .marked;
-              rest = rw (add-one line) (next .goes-on);
-            }
+  pub turn-closed : (end : End) → turn ≡ Closed end
+      → (To end ≡ closing (verdict list)) × MarkedAs (verdict list) after
+  turn-closed end e =
+      let c = leads-by (Closed end) e in
+      (ap closing (c .0), subst (λ v. MarkedAs v after) (c .0) (c .1))
+
+  pub turn-goes-on : turn ≡ More → to + 1 < length list
+  turn-goes-on e =
+      let more = more-not-last marks (formAt list from) (T .last) (sym (ap (λ (t : Turned). t .turn) (T .turns)) ∙ e) in
+      forms-left list (to + 1) (sym (T .is-last) ∙ more)
+
+  pub turn-more : turn ≡ More → Reading list (to + 1) (line + 1) after
+  turn-more e =
+      let next = leads-by More e in
+      let on = turn-goes-on e in
+      record {
+        within = omega arith;
+        few = omega (arith, T .few);
+        earlier = T .reading .earlier ++ (next .airline ∷ []);
+        marked = next .marked;
+        rest = rw (add-one line) (next .goes-on);
+      }
 
 -- ---- What the two calls answer.
 pub accepted : (v : Verdict) (others : Sent) (end : End) → others ≡ closing v → others ≡ To end → Accepted ≡ checked v

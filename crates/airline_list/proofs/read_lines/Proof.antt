@@ -8,15 +8,16 @@ use lib.ListN.{length, drop, length-drop}
 use lib.Seq.{take-all}
 use Rattle.text.specs.Lines.{firstLine}
 use Rattle.airline_list.specs.Forms.{formText, formOf}
-use Rattle.airline_list.specs.Marks.{turned, turnedOf}
+use Rattle.airline_list.specs.Marks.{turned}
 use Rattle.airline_list.proofs.Laws.FormLaws.{form-in-range}
-use Rattle.airline_list.proofs.Laws.LineLaws.{formAt, form-within}
+use Rattle.airline_list.proofs.Laws.LineLaws.{formAt, is-last, form-within}
 use Rattle.airline_list.proofs.Laws.ReadingLaws.{
   Reading,
   nothing-read,
   read-faulty,
   no-line,
   line-65,
+  Taken,
   turn-fault,
   turn-closed,
   turn-goes-on,
@@ -60,27 +61,26 @@ within c =
     rw (length-found c) (form-within (c .before .before .before .before .before .before .before .args .list .now) (l .from)
     (l .inv .within))
 
-ends :
+here :
     (c : tie.After-take-line Inv-loop μ-loop)
     → let l = c .before .before .before .before .before .before .before .loop in
     let list = c .before .before .before .before .before .before .before .before .before .args .list .now in
-    l .from + c .before .before .form-length .result ≡ l .from + length (formText (formAt list (l .from)))
-ends c =
-    let l = c .before .before .before .before .before .before .before .loop in
-    ap (λ n. l .from + n) (length-found (c .before .before))
-
-taken :
-    (c : tie.After-take-line Inv-loop μ-loop)
-    → let l = c .before .before .before .before .before .before .before .loop in
-    let list = c .before .before .before .before .before .before .before .before .before .args .list .now in
-    turnedOf (c .take-line .result) (c .take-line .last .0)
-    ≡ turned (l .marks) (formAt list (l .from)) (leb (length list - (l .from + c .before .before .form-length .result)) 1)
-taken c =
+    Taken list (l .from) (l .line) (l .marks) (l .from + c .before .before .form-length .result)
+    (c .take-line .result) (c .take-line .last .0)
+here c =
     let l = c .before .before .before .before .before .before .before .loop in
     let list = c .before .before .before .before .before .before .before .before .before .args .list .now in
-    c .take-line .ensures
-    ∙ ap (λ form. turned (l .marks) form (leb (length list - (l .from + c .before .before .form-length .result)) 1))
-    (form-found (c .before .before .before))
+    let to = l .from + c .before .before .form-length .result in
+    record {
+      reading = l .inv;
+      before = omega arith;
+      few = omega arith;
+      ends = ap (λ n. l .from + n) (length-found (c .before .before));
+      last = leb (length list - to) 1;
+      is-last = is-last list to;
+      turns = c .take-line .ensures ∙ ap (λ form. turned (l .marks) form (leb (length list - to) 1))
+          (form-found (c .before .before .before));
+    }
 
 -- A line is read after it.
 goes-on :
@@ -88,11 +88,7 @@ goes-on :
     → c .before .before .before .before .before .before .before .before .before .loop .from
     + c .before .before .before .before .form-length .result + 1
     < length (c .before .before .before .before .before .before .before .before .before .before .before .args .list .now)
-goes-on c =
-    let t = c .before .before in
-    let l = t .before .before .before .before .before .before .before .loop in
-    turn-goes-on (l .inv) (omega arith) (omega arith) (l .from + t .before .before .form-length .result) (ends t) (taken t)
-    (c .enum-told .given .1)
+goes-on c = turn-goes-on (here (c .before .before)) (c .enum-told .given .1)
 
 loop-holds : tie.Need-loop-holds Inv-loop μ-loop
 loop-holds c = nothing-read (c .before .args .list .now) (c .before .args .marks .now) (c .before .pre)
@@ -144,35 +140,19 @@ loop-less : tie.Need-loop-less Inv-loop μ-loop
 loop-less c = omega (arith, goes-on c)
 
 loop-again : tie.Need-loop-again Inv-loop μ-loop
-loop-again c =
-    let t = c .before .before in
-    let l = t .before .before .before .before .before .before .before .loop in
-    turn-more (l .inv) (omega arith) (omega arith) (l .from + t .before .before .form-length .result) (ends t) (taken t)
-    (c .enum-told .given .1)
+loop-again c = turn-more (here (c .before .before)) (c .enum-told .given .1)
 
 enum-known-turn : tie.Need-enum-known-turn Inv-loop μ-loop
 enum-known-turn c = search needs
 
 returns-2 : tie.Need-returns-2 Inv-loop μ-loop
-returns-2 c =
-    let t = c .before .before .before in
-    let l = t .before .before .before .before .before .before .before .loop in
-    let turn = c .before .turn .given in
-    turn-closed (l .inv) (omega arith) (omega arith) (l .from + t .before .before .form-length .result) (ends t) (taken t)
-    (turn .0 .0) (turn .1)
+returns-2 c = let turn = c .before .turn .given in turn-closed (here (c .before .before .before)) (turn .0 .0) (turn .1)
 
 enum-known-turn-2 : tie.Need-enum-known-turn-2 Inv-loop μ-loop
 enum-known-turn-2 c = search needs
 
 returns-3 : tie.Need-returns-3 Inv-loop μ-loop
-returns-3 c =
-    let t = c .before .before .before in
-    let l = t .before .before .before .before .before .before .before .loop in
-    let list = t .before .before .before .before .before .before .before .before .before .args .list .now in
-    let turn = c .before .turn2 .given in
-    read-faulty list (t .take-line .last .0) (turn .0 .0) (l .line)
-    (turn-fault (l .inv) (omega arith) (omega arith) (l .from + t .before .before .form-length .result) (ends t) (taken t)
-    (turn .0 .0) (turn .1))
+returns-3 c = let turn = c .before .turn2 .given in turn-fault (here (c .before .before .before)) (turn .0 .0) (turn .1)
 
 returns-4 : tie.Need-returns-4 Inv-loop μ-loop
 returns-4 c =
