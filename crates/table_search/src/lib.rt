@@ -24,7 +24,18 @@ ghost use Rattle.machine.specs.Tasks.{none};
 ghost use Rattle.machine.specs.Table.{nodeCount, taskCount};
 ghost use Rattle.machine.specs.Shape.{lengthOk};
 ghost use Rattle.machine.specs.Round.{following};
-ghost use Rattle.machine.specs.Allocate.{heldBy, heldFrom, largestCount, mark, markAll, visit, visitFrom, firstUnmarked, allocate, Room};
+ghost use Rattle.machine.specs.Allocate.{
+  heldBy,
+  heldFrom,
+  largestCount,
+  mark,
+  markAll,
+  visit,
+  visitFrom,
+  firstUnmarked,
+  allocate,
+  Room,
+};
 ghost use Rattle.table_record.specs.Coded.{taskMeant};
 ghost use Rattle.table_steps.specs.Bits.{Exact};
 ghost use Rattle.table_search.specs.Tables.{markingOf, Searchable, hats};
