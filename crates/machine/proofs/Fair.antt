@@ -86,7 +86,9 @@ use Rattle.machine.specs.Fair.{
   still-busy,
   FairUnlessEnded,
   turns,
-  LastOfThree,
+  beginPops,
+  numbersFrom,
+  LastOfAll,
 }
 use Rattle.machine.proofs.Basics.Contradiction.{clash, refute, equal?}
 use Rattle.machine.proofs.Basics.Tests.{test-passed, tests-left}
@@ -413,9 +415,9 @@ fair ws passes k calls B none enough =
     first (c ∷ cs) B enough one = B .0
 
 -- ---- T - 1 dispatches are not enough.
-pub last-of-three : LastOfThree
-unfolding turns afterAll hat hatsFrom startNodes firstFrom dispatchTo dispatchOn dispatch ℕ-discrete decLt decLe
+pub last-of-all : LastOfAll
+unfolding turns beginPops numbersFrom afterAll hat hatsFrom startNodes firstFrom dispatchTo dispatchOn dispatch ℕ-discrete decLt decLe
     Value-discrete decode stepIn stepOf isStepIn link value task allBelow sameWords nodeOk busyOk recordOk shapeOk
     heldFrom roots mark markAll visit visitFrom marked firstUnmarked allocate writeAll dcas act times startWords start
     begin effectOf applied tickOn tick
-last-of-three = refl
+last-of-all = refl

@@ -1,7 +1,7 @@
 -- Request 2026-07: a busy task gets its tick within T dispatches, in every accepted table, whatever calls are between.
 use mathlib.Core.Path.{_≡_}
 use mathlib.Core.Bool.{true, false}
-use mathlib.Core.List.{List, [], _∷_}
+use mathlib.Core.List.{List, [], _∷_, map}
 use mathlib.Core.Option.{Option, some, none as nothing}
 use Prim.Native.Nat.{ℕ, zero, suc, _+_, _≤_, _<_}
 use Rattle.machine.specs.declared.Dispatch.the-variants.{Answered}
@@ -150,10 +150,20 @@ unfoldable pub turns : (n : ℕ) → List ℕ → List ℕ
 turns zero ws = []
 turns (suc n) ws = let vs = dispatch ws 0 .words in dispatched vs ∷ turns n vs
 
-abbrev pub beginsPop : ℕ → Call
-beginsPop k = begin-call k 0 (operationNumber pop) (sideNumber left) (stored 0)
+-- Pops begun for tasks k, k + 1, .., n of them.
+unfoldable pub beginPops : (n k : ℕ) → List Call
+beginPops zero k = []
+beginPops (suc n) k =
+    begin-call k 0 (operationNumber pop) (sideNumber left) (stored 0) ∷ beginPops n (suc k)
 
--- Of three tasks, all busy since the start, the last one gets its tick at the third dispatch.
-abbrev pub LastOfThree : Type 0
-LastOfThree =
-    turns 3 (afterAll (beginsPop 0 ∷ beginsPop 1 ∷ beginsPop 2 ∷ []) (startWords 4 3 0 1)) ≡ 0 ∷ 1 ∷ 2 ∷ []
+-- The numbers from k on, n of them.
+unfoldable pub numbersFrom : (n k : ℕ) → List ℕ
+numbersFrom zero k = []
+numbersFrom (suc n) k = k ∷ numbersFrom n (suc k)
+
+-- Of T tasks, all busy since the start, each gets its tick in turn, and the last one at the T-th dispatch: for every T
+-- that a table may have.
+abbrev pub LastOfAll : Type 0
+LastOfAll =
+    map (λ T. turns T (afterAll (beginPops T 0) (startWords 2 T 0 1))) (numbersFrom 16 1)
+    ≡ map (λ T. numbersFrom T 0) (numbersFrom 16 1)
