@@ -36,11 +36,12 @@ use Rattle.machine.specs.Calls.{
   lane,
   lanesBelow,
 }
+use Rattle.text.specs.Lines.{linesOf}
+use Rattle.text.specs.Numerals.{digitsIn, spaced}
 use Rattle.text_scan.specs.Scanned.{scanByte, scanBytes}
 use Rattle.program_command.specs.Commands.{ticks, beginOr, beginOf, formOf, pushOf, commandWith, commandOf, commandRead}
-use Rattle.text.specs.Numerals.{digitsIn, spaced}
 use Rattle.program_answer.specs.Forms.{startCommand, beginCommand, tickCommand, laneCommand}
-use Rattle.program_answer.specs.Run.{answer, printed, linesOf, beltRun}
+use Rattle.program_answer.specs.Run.{answer, printed, beltRun}
 use Rattle.program_answer.specs.Paper.{paperInput, paperOutput}
 
 pub worked : beltRun paperInput ≡ paperOutput

@@ -1,7 +1,7 @@
 -- The belt run of 01, with tags of ten digits (2026-04): what is read, and what it prints.
 use mathlib.Core.List.{List, _++_}
 use Prim.Native.Nat.{ℕ}
-use Rattle.program_command.specs.Text.{bytes}
+use Rattle.text.specs.Text.{bytes}
 
 abbrev pub paperInput : List ℕ
 paperInput =

@@ -1,5 +1,4 @@
 -- What the proofs of the reader share.
 
-pub mod SameTexts
 pub mod FormLaws
 pub mod CommandLaws

@@ -6,8 +6,8 @@ use Prim.Native.String.{String, _++_}
 use lib.Dec.{eqb, leb}
 use lib.ListN.{getD}
 use Rattle.tag.specs.Tags.{digitOf, lowOf}
+use Rattle.text.specs.Text.{bytes, same}
 use Rattle.text_scan.specs.Scanned.{Scanned, nothing, scanBytes}
-use Rattle.program_command.specs.Text.{bytes, same}
 use Rattle.program_command.specs.declared.Command.{Command}
 use Rattle.program_command.specs.declared.Command.the-variants.{Start, Begin, Tick, Lane, Unread}
 

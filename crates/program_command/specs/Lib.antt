@@ -1,4 +1,3 @@
-pub mod Text
 pub mod Commands
 pub mod KeptCommand
 pub mod Examples

@@ -1,8 +1,8 @@
 // The form of a line, by its text.
 use crate::Command;
+use text::is_text;
 use text_scan::Numbers;
 ghost use mathlib.Core.Path.{_≡_};
-ghost use Rattle.program_command.specs.Text.{same};
 ghost use Prim.Native.Nat.{_≤_};
 ghost use Rattle.tag.specs.Tags.{largestTag};
 ghost use Rattle.text_scan.specs.Kept.{UpToTag};
@@ -14,23 +14,6 @@ const LARGEST: u64 = 4_294_967_295;
 
 // 02: "ten digits with their zeros".
 const TAG_WIDTH: usize = 10;
-
-// Whether two byte strings are the same.
-fn is_text(text: &[u8], want: &[u8]) -> bool
-    ensures { λ r. ⌜ r ≡ same (now (text .entry)) (now (want .entry)) ⌝ }
-{
-    if text.len() != want.len() {
-        return false;
-    }
-    let mut i = 0;
-    while i < want.len() {
-        if text[i] != want[i] {
-            return false;
-        }
-        i += 1;
-    }
-    true
-}
 
 // 01: "times (1 to 1,000)".
 fn ticks_of(task: u32, hint: u32, times: u32) -> Command

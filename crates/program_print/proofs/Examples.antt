@@ -6,7 +6,7 @@ use Rattle.tag.specs.Tags.{lastDigits, tagsIn}
 use Rattle.machine.specs.declared.Reply.the-variants as Replies
 use Rattle.machine.specs.declared.Answer.the-variants as Answers
 use Rattle.machine.specs.declared.Reading.the-variants as Readings
-use Rattle.program_command.specs.Text.{bytes}
+use Rattle.text.specs.Text.{bytes}
 use Rattle.text.specs.Numerals.{digitsIn, spaced}
 use Rattle.program_print.specs.declared.CommandOutcome.{CommandOutcome}
 use Rattle.program_print.specs.declared.CommandOutcome.the-variants.{Replied, Ticked, Lane, Unread}

@@ -5,7 +5,7 @@ use Rattle.machine.specs.declared.Reply.{Reply}
 use Rattle.machine.specs.declared.Reply.the-variants as Replies
 use Rattle.machine.specs.declared.Answer.{Answer}
 use Rattle.machine.specs.declared.Answer.the-variants as Answers
-use Rattle.program_command.specs.Text.{bytes}
+use Rattle.text.specs.Text.{bytes}
 use Rattle.text.specs.Numerals.{decimal, tagText, spaced}
 
 -- The line of each answer. 01: a refusal prints `(refused n)`, an empty lane `(lane)`, other answers their name.

@@ -4,10 +4,11 @@ use mathlib.Core.Bool.{Bool, true, false, cond}
 use mathlib.Core.List.{List, [], _∷_, _++_, map, flatten, append-assoc, append-nil}
 use Prim.Native.Nat.{ℕ}
 use lib.Dec.{eqb}
-use Rattle.text_scan.specs.Scanned.{lineFeed, scanBytes}
+use Rattle.text.specs.Lines.{lineFeed, inFront, linesOf}
+use Rattle.text_scan.specs.Scanned.{scanBytes}
 use Rattle.program_command.specs.declared.Command.{Command}
 use Rattle.program_command.specs.Commands.{commandOf, commandRead}
-use Rattle.program_answer.specs.Run.{printed, inFront, linesOf, beltRun}
+use Rattle.program_answer.specs.Run.{printed, beltRun}
 use Rattle.program_stream.specs.Session.{
   State,
   atFirst,

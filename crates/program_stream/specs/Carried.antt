@@ -4,9 +4,9 @@ use mathlib.Core.Bool.{Bool, true, false}
 use mathlib.Core.List.{List, _++_}
 use Prim.Native.Nat.{ℕ, _≤_, _<_}
 use lib.ListN.{length, take, drop}
+use Rattle.text.specs.Writing.{Written}
 use Rattle.text_scan.specs.Kept.{Kept, keptOf, keptAtFirst, keepByte, ScanKept, Represents}
 use Rattle.program_command.specs.KeptCommand.{keptCommand}
-use Rattle.text.specs.Writing.{Written}
 use Rattle.program_print.specs.Room.{roomFor}
 use Rattle.program_answer.specs.Run.{answer}
 use Rattle.program_answer.specs.Space.{largestTable, mostBags}

@@ -4,7 +4,8 @@ use mathlib.Core.Bool.{Bool, true, false, cond}
 use mathlib.Core.List.{List, [], _∷_, _++_}
 use Prim.Native.Nat.{ℕ}
 use lib.Dec.{eqb}
-use Rattle.text_scan.specs.Scanned.{Scanned, nothing, scanByte, lineFeed}
+use Rattle.text.specs.Lines.{lineFeed}
+use Rattle.text_scan.specs.Scanned.{Scanned, nothing, scanByte}
 use Rattle.program_command.specs.Commands.{commandOf}
 use Rattle.program_answer.specs.Run.{answer}
 

@@ -1,7 +1,7 @@
 -- The largest tag and the largest number, and numbers with zeros, computed.
 use mathlib.Core.Path.{_≡_, refl}
 use Rattle.tag.specs.Tags.{lastDigits}
-use Rattle.program_command.specs.Text.{bytes}
+use Rattle.text.specs.Text.{bytes}
 use Rattle.text.specs.Numerals.{digitsIn, decimal, tagText}
 
 pub largest-tag : tagText 9_999_999_999 ≡ bytes "9999999999"

@@ -1,5 +1,7 @@
--- What the proofs of writing share.
+-- What the proofs about texts share.
 
+pub mod SameTexts
+pub mod FirstLine
 pub mod WritingLaws
 pub mod Decimals
 pub mod Rows

@@ -5,7 +5,7 @@ use Prim.Native.Nat.{ℕ, zero, suc, _+_, _/_, _%_}
 use Prim.Native.Char.{code}
 use lib.Dec.{ltb}
 use Rattle.tag.specs.Tags.{tenDigits}
-use Rattle.program_command.specs.Text.{bytes}
+use Rattle.text.specs.Text.{bytes}
 
 -- The digits of a number below 10^k, where k is not 0: the number if it is below 10, else the digits of n / 10 and then
 -- the last digit.

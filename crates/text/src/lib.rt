@@ -1,11 +1,29 @@
-// Texts, numbers and rows of tags, put at a place of a buffer.
+// Texts compared; and texts, numbers and rows of tags, put at a place of a buffer.
+ghost use mathlib.Core.Path.{_≡_};
 ghost use mathlib.Core.List.{_++_};
 ghost use Prim.Native.Nat.{_+_, _*_, _≤_};
 ghost use lib.ListN.{length};
 ghost use Rattle.tag.specs.Tags.{tagsIn};
-ghost use Rattle.program_command.specs.Text.{bytes};
+ghost use Rattle.text.specs.Text.{bytes, same};
 ghost use Rattle.text.specs.Numerals.{decimal, tagText, spaced};
 ghost use Rattle.text.specs.Writing.{Written};
+
+// Whether two byte strings are the same.
+pub fn is_text(text: &[u8], want: &[u8]) -> bool
+    ensures { λ r. ⌜ r ≡ same (now (text .entry)) (now (want .entry)) ⌝ }
+{
+    if text.len() != want.len() {
+        return false;
+    }
+    let mut i = 0;
+    while i < want.len() {
+        if text[i] != want[i] {
+            return false;
+        }
+        i += 1;
+    }
+    true
+}
 
 // Puts a text at a place, and answers the place after it.
 pub fn put(out: &mut [u8], at: usize, text: &[u8]) -> usize

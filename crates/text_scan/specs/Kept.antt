@@ -6,7 +6,8 @@ use Prim.Native.Nat.{ℕ, _+_, _-_, _≤_, _<_, min}
 use lib.Dec.{ltb}
 use lib.ListN.{length, getD, take, drop, set, replicate}
 use Rattle.tag.specs.Tags.{largestTag}
-use Rattle.text_scan.specs.Scanned.{Scanned, zeroDigit, isDigit, withDigit, WellScanned, firstLine}
+use Rattle.text.specs.Lines.{firstLine}
+use Rattle.text_scan.specs.Scanned.{Scanned, zeroDigit, isDigit, withDigit, WellScanned}
 use Rattle.text_scan.specs.declared.Scan.{Scan}
 use Rattle.text_scan.specs.declared.Stop.{Stop}
 

@@ -5,7 +5,7 @@ use mathlib.Core.Bool.{Bool, true, false, cond, _&&_}
 use mathlib.Core.List.{List, [], _∷_, _++_}
 use mathlib.Core.Path.{_≡_}
 use Prim.Native.Nat.{ℕ, suc, _+_, _*_, _-_, _^_, _<_}
-use lib.Dec.{eqb, leb}
+use lib.Dec.{leb}
 use lib.ListN.{length, getD, set}
 
 -- what has been scanned: its text, its numbers in order, how many digits the last of them is wide, and whether its last
@@ -22,9 +22,6 @@ nothing = record { text = []; numbers = []; width = 0; inNumber = false }
 -- the byte of the digit 0
 abbrev pub zeroDigit : ℕ
 zeroDigit = 48
-
-abbrev pub lineFeed : ℕ
-lineFeed = 10
 
 -- 0 to 9
 abbrev pub isDigit : ℕ → Bool
@@ -73,8 +70,3 @@ pub record WellScanned (s : Scanned) : Type 0 where
   pub placed : placesIn (s .text) ≡ length (s .numbers)
   pub narrow : getD (s .numbers) (length (s .numbers) - 1) 0 < 10 ^ s .width
   pub some : s .inNumber ≡ true → 0 < length (s .numbers)
-
--- 01: "a line ends at a line feed or at the end of input": the bytes of the line that stands first
-unfoldable pub firstLine : List ℕ → List ℕ
-firstLine [] = []
-firstLine (b ∷ bs) = cond (eqb b lineFeed) [] (b ∷ firstLine bs)

@@ -10,9 +10,10 @@ use borrow.Author.Tests.{lt-leb, ne-eqb}
 use lib.Dec.{T, leb, ltb, lit<}
 use lib.ListN.{length, getD, take}
 use Rattle.tag.specs.Tags.{largestTag}
+use Rattle.text.specs.Text.{bytes, same}
+use Rattle.text.proofs.Laws.SameTexts.{same-equal, same-take}
 use Rattle.text_scan.specs.Scanned.{Scanned, placesIn, WellScanned}
 use Rattle.text_scan.specs.Kept.{textPlaces, keptNumber, countedDigits}
-use Rattle.program_command.specs.Text.{bytes, same}
 use Rattle.program_command.specs.Commands.{
   largestNumber,
   allFit,
@@ -26,7 +27,6 @@ use Rattle.program_command.specs.Commands.{
 }
 use Rattle.program_command.specs.declared.Command.the-variants.{Unread}
 use Rattle.program_command.specs.KeptCommand.{firstThree}
-use Rattle.program_command.proofs.Laws.SameTexts.{same-equal, same-take}
 
 -- ---- No form has as many bytes as are kept.
 module _ (l : List ℕ) where

@@ -7,16 +7,16 @@ use native.Mathlib.Omega.{arith}
 use lib.Dec.{ltb}
 use lib.ListN.{length, take, drop, take-append-drop}
 use lib.Seq.{slice, length-take-le}
-use Rattle.text_scan.specs.declared.Scan.{Scan}
-use Rattle.text_scan.specs.declared.Stop.{Stop}
-use Rattle.text_scan.specs.Scanned.{firstLine}
-use Rattle.text_scan.specs.Kept.{Kept, keptOf, noNumbers, noScan, keptAtFirst, ScansLine}
-use Rattle.text_scan.proofs.Laws.ScanLaws.{bytes-scan-kept}
-use Rattle.text_scan.proofs.Laws.LineLaws.{line-within}
-use Rattle.program_command.specs.declared.Command.{Command}
-use Rattle.program_command.specs.KeptCommand.{keptCommand}
+use Rattle.text.specs.Lines.{firstLine}
+use Rattle.text.proofs.Laws.FirstLine.{line-within}
 use Rattle.text.specs.Writing.{Written}
 use Rattle.text.proofs.Laws.WritingLaws.{written-append}
+use Rattle.text_scan.specs.declared.Scan.{Scan}
+use Rattle.text_scan.specs.declared.Stop.{Stop}
+use Rattle.text_scan.specs.Kept.{Kept, keptOf, noNumbers, noScan, keptAtFirst, ScansLine}
+use Rattle.text_scan.proofs.Laws.ScanLaws.{bytes-scan-kept}
+use Rattle.program_command.specs.declared.Command.{Command}
+use Rattle.program_command.specs.KeptCommand.{keptCommand}
 use Rattle.program_answer.specs.Run.{answer}
 use Rattle.program_answer.specs.Space.{Leaves}
 use Rattle.program_stream.specs.Session.{silent, takeBytes, endInput}

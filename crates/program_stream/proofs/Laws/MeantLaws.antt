@@ -7,7 +7,7 @@ use native.Mathlib.Omega.{arith}
 use lib.Dec.{eqb}
 use lib.ListN.{length, take, drop, length-append, length-drop}
 use lib.Seq.{take-append-seam}
-use Rattle.text_scan.specs.Scanned.{lineFeed}
+use Rattle.text.specs.Lines.{lineFeed}
 use Rattle.text_scan.specs.Kept.{textPlaces}
 use Rattle.text_scan.proofs.Laws.ScanLaws.{first-kept, first-represents, byte-scan-kept, byte-represents}
 use Rattle.program_command.specs.Commands.{commandOf}

@@ -4,11 +4,12 @@ use mathlib.Core.Bool.{Bool, true, false, _||_, or-true, or-false}
 use mathlib.Core.List.{List, [], _∷_, _++_, append-nil}
 use Prim.Native.Nat.{ℕ, zero, suc, _+_, _≤_, _<_}
 use native.Mathlib.Omega.{arith}
-use borrow.Author.Tests.{eqb-true, lt-ltb, le-ltb}
+use borrow.Author.Tests.{lt-ltb, le-ltb}
 use lib.Dec.{eqb, ltb}
 use lib.ListN.{length, take, drop, length-drop, take-append-drop}
 use lib.Seq.{slice, slice-empty, take-nil, take-take, length-take-le, drop-append-le}
-use Rattle.text_scan.specs.Scanned.{lineFeed, firstLine}
+use Rattle.text.specs.Lines.{lineFeed, firstLine}
+use Rattle.text.proofs.Laws.FirstLine.{line-bytes, fed-bytes}
 use Rattle.text_scan.specs.Kept.{keepBytes}
 use Rattle.program_stream.specs.Session.{Step, silent, after, Service, takeByte, takeBytes}
 use Rattle.program_stream.specs.Carried.{Loan, lineOf, loanWith, endLineIn, goOnIn, lent}
@@ -48,30 +49,6 @@ line-taken (b ∷ bs) l = go (eqb b lineFeed) refl (line-taken bs)
     go false e left =
         let begun = begun-as (keptOn (b ∷ firstLine bs) l) (sym (or-true (l .carried .begun))) in
         rw (e, takeByte) (rw e (left (goOnIn b l) ∙ begun))
-
--- ---- The bytes that stand there.
-line-bytes : (bytes : List ℕ) → take (length (firstLine bytes)) bytes ≡ firstLine bytes
-unfolding firstLine
-line-bytes [] = refl
-line-bytes (b ∷ bs) = go (eqb b lineFeed) refl (line-bytes bs)
-  where
-    go : (fed : Bool) → eqb b lineFeed ≡ fed → take (length (firstLine bs)) bs ≡ firstLine bs
-        → take (length (firstLine (b ∷ bs))) (b ∷ bs) ≡ firstLine (b ∷ bs)
-    go true e left = rw e
-    go false e left = rw e (ap (λ (l : List ℕ). b ∷ l) left)
-
-fed-bytes : (bytes : List ℕ) → length (firstLine bytes) < length bytes
-    → take (suc (length (firstLine bytes))) bytes ≡ firstLine bytes ++ (lineFeed ∷ [])
-unfolding firstLine
-fed-bytes [] h = absurd (omega arith)
-fed-bytes (b ∷ bs) h = go (eqb b lineFeed) refl (fed-bytes bs) h
-  where
-    go : (fed : Bool) → eqb b lineFeed ≡ fed
-        → (length (firstLine bs) < length bs → take (suc (length (firstLine bs))) bs ≡ firstLine bs ++ (lineFeed ∷ []))
-        → length (firstLine (b ∷ bs)) < length (b ∷ bs)
-        → take (suc (length (firstLine (b ∷ bs)))) (b ∷ bs) ≡ firstLine (b ∷ bs) ++ (lineFeed ∷ [])
-    go true e left = rw e (λ h. ap (λ (x : ℕ). x ∷ []) (eqb-true _ _ e))
-    go false e left = rw e (λ h. ap (λ (l : List ℕ). b ∷ l) (left (omega arith)))
 
 -- A part of a list, by the places before it.
 slice-drop : (n k : ℕ) (l : List ℕ) → slice n (n + k) l ≡ take k (drop n l)

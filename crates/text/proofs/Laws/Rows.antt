@@ -7,7 +7,7 @@ use lib.ListN.{length, getD, drop, length-map}
 use lib.Seq.{getD-drop}
 use Rattle.tag.specs.Tags.{tagOf, tenDigits, tagsIn}
 use Rattle.tag.proofs.DigitLaws.{length-last, last-are-digits, digit-at}
-use Rattle.program_command.specs.Text.{bytes}
+use Rattle.text.specs.Text.{bytes}
 use Rattle.text.specs.Numerals.{tagText, spaced}
 use Rattle.text.specs.Writing.{Written}
 use Rattle.text.proofs.Laws.WritingLaws.{written-append}

@@ -1,50 +1,13 @@
 -- A line scanned on from a place of a chunk, byte by byte, to its end.
-use mathlib.Core.Bool.{Bool, true, false}
-use mathlib.Core.List.{List, [], _∷_}
+use mathlib.Core.List.{List, []}
 use mathlib.Core.Path.{_≡_, refl, sym, ap, _∙_}
 use Prim.Native.Nat.{ℕ, _+_, _<_, _≤_}
-use native.Mathlib.Numerals.{add-one}
 use native.Mathlib.Omega.{arith}
-use borrow.Author.Tests.{eq-eqb, ne-eqb}
-use lib.Dec.{eqb}
-use lib.ListN.{length, getD, drop, drop-of-length-le, length-drop}
-use lib.Seq.{drop-cons}
-use Rattle.text_scan.specs.Scanned.{firstLine, lineFeed}
+use lib.ListN.{length, getD, drop}
+use Rattle.text.specs.Lines.{lineFeed, firstLine}
+use Rattle.text.proofs.Laws.FirstLine.{line-goes-on}
 use Rattle.text_scan.specs.Kept.{Kept, keepByte, keepBytes, ScansLine, Counts}
 use Rattle.text_scan.proofs.Laws.ScanLaws.{byte-counts}
-
--- ---- Where the line ends.
-module _ (chunk : List ℕ) (i : ℕ) where
-  pub line-goes-on : i < length chunk → (getD chunk i 0 ≡ lineFeed → ⊥)
-      → firstLine (drop i chunk) ≡ getD chunk i 0 ∷ firstLine (drop (i + 1) chunk)
-  unfolding firstLine
-  line-goes-on h e = rw (add-one, drop-cons chunk i 0 h, ne-eqb _ _ e)
-
-  pub line-fed : i < length chunk → getD chunk i 0 ≡ lineFeed → firstLine (drop i chunk) ≡ []
-  unfolding firstLine
-  line-fed h e = rw (drop-cons chunk i 0 h, eq-eqb _ _ e)
-
-  pub chunk-ends : length chunk ≤ i → firstLine (drop i chunk) ≡ []
-  unfolding firstLine
-  chunk-ends h = rw (drop-of-length-le chunk {i = i} h)
-
--- A line ends within its chunk.
-first-line-short : (bytes : List ℕ) → length (firstLine bytes) ≤ length bytes
-unfolding firstLine
-first-line-short [] = omega arith
-first-line-short (b ∷ bs) = go (eqb b lineFeed) refl (first-line-short bs)
-  where
-    go : (fed : Bool) → eqb b lineFeed ≡ fed → length (firstLine bs) ≤ length bs
-        → length (firstLine (b ∷ bs)) ≤ length (b ∷ bs)
-    go true e h = rw e (omega arith)
-    go false e h = rw e (omega arith)
-
-pub line-within : (chunk : List ℕ) (from : ℕ) → from ≤ length chunk
-    → from + length (firstLine (drop from chunk)) ≤ length chunk
-line-within chunk from h =
-    let short = first-line-short (drop from chunk) in
-    let rest = length-drop from chunk in
-    omega arith
 
 -- ---- At a place i of the chunk, what is left of the line gives what the whole of it gives.
 pub record Scanning (chunk : List ℕ) (from : ℕ) (before now : Kept) (i : ℕ) : Type 0 where

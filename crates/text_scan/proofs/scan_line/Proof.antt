@@ -2,15 +2,9 @@
 use Prim.Native.Nat.{_-_}
 use native.Mathlib.Omega.{arith}
 use lib.ListN.{length}
+use Rattle.text.proofs.Laws.FirstLine.{line-fed, chunk-ends}
 use Rattle.text_scan.specs.Kept.{keptOf}
-use Rattle.text_scan.proofs.Laws.LineLaws.{
-  line-fed,
-  chunk-ends,
-  Scanning,
-  scanning-starts,
-  scanning-goes-on,
-  scanning-ends,
-}
+use Rattle.text_scan.proofs.Laws.LineLaws.{Scanning, scanning-starts, scanning-goes-on, scanning-ends}
 use Rattle.text_scan.proofs.scan_line.Statement.{statement}
 use Rattle.text_scan.proofs.scan_line.Tie as tie
 

@@ -3,7 +3,7 @@ use mathlib.Core.Bool.{false}
 use mathlib.Core.Path.{_≡_, sym, _∙_}
 use borrow.Author.Tests.{le-leb, lt-leb}
 use borrow.Author.Needs.{needs}
-use Rattle.program_command.specs.Text.{same}
+use Rattle.text.specs.Text.{same}
 use Rattle.program_command.specs.Commands.{beginText, commandWith}
 use Rattle.program_command.proofs.forms.command_with.Statement.{statement}
 use Rattle.program_command.proofs.forms.command_with.Tie as tie

@@ -3,10 +3,10 @@ use mathlib.Core.Path.{_≡_, refl, sym, _∙_}
 use Prim.Native.Nat.{_≤_, _-_}
 use native.Mathlib.Omega.{arith}
 use lib.ListN.{length, drop}
-use Rattle.program_command.specs.Text.{same}
-use Rattle.program_command.proofs.Laws.SameTexts.{same-lengths-differ, same-rest, same-byte-differs, same-ends}
-use Rattle.program_command.proofs.forms.is_text.Statement.{statement}
-use Rattle.program_command.proofs.forms.is_text.Tie as tie
+use Rattle.text.specs.Text.{same}
+use Rattle.text.proofs.Laws.SameTexts.{same-lengths-differ, same-rest, same-byte-differs, same-ends}
+use Rattle.text.proofs.is_text.Statement.{statement}
+use Rattle.text.proofs.is_text.Tie as tie
 
 abbrev Inv-loop : tie.InvT-loop
 Inv-loop text want i₀ i =

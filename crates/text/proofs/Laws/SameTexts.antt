@@ -10,7 +10,7 @@ use lib.Dec.{eqb}
 use lib.ListN.{length, getD, take, drop, drop-of-length-le}
 use lib.Seq.{drop-cons}
 use Rattle.tag.proofs.TagLaws.{both-true}
-use Rattle.program_command.specs.Text.{same}
+use Rattle.text.specs.Text.{same}
 
 pub same-equal : (xs ys : List ℕ) → same xs ys ≡ true → xs ≡ ys
 same-equal [] [] h = refl
