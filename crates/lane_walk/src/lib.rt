@@ -24,12 +24,16 @@ pub enum Walk {
     NoEnd,
 }
 
-// The words of a node's value.
+// The words of a node's value, written out one by one: the compiler then reads each by itself where it is tested.
 pub fn value(table: &[u32], x: u32) -> Stored
     requires { ⌜ WellFormed (now table) × (x < nodeCount (now table)) ⌝ }
     ensures { λ r. ⌜ r ≡ valueWords (now (table .entry)) x ⌝ }
 {
-    nodes::value(&table[HEADER..], x)
+    let v = nodes::value(&table[HEADER..], x);
+    Stored {
+        word: v.word,
+        digit: v.digit,
+    }
 }
 
 // The node after a node, or none.
