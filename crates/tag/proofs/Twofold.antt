@@ -4,8 +4,8 @@ use mathlib.Core.List.{List, [], _∷_}
 use Prim.Native.Nat.{ℕ, zero, suc, _+_, _*_, _<_}
 use native.Mathlib.Omega.{arith}
 use lib.ListN.{length, length-set, getD, set, take}
 use Rattle.tag.proofs.TagLaws.{clash}
-use Rattle.tag_packed.proofs.Laws.Filling.{filled-next}
+use Rattle.tag.proofs.Stores.{filled-next}
 
 module _ (f g : ℕ → ℕ) where
   unfoldable pub twofold : (list : List ℕ) → List ℕ

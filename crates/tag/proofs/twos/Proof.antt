@@ -1,11 +1,11 @@
--- `tag_packed::digits::twos` meets its contract: two digits of a word are two of the tag.
+-- `tag::twos` meets its contract: two digits of a word are two of the tag.
 use mathlib.Core.Path.{_≡_}
 use Prim.Native.Nat.{_+_, _*_, _/_, _%_}
 use native.Mathlib.Omega.{arith}
 use Rattle.tag.specs.Tags.{tagOf}
 use borrow.Author.Needs.{needs}
-use Rattle.tag_packed.proofs.digits.twos.Statement.{statement}
-use Rattle.tag_packed.proofs.digits.twos.Tie as tie
+use Rattle.tag.proofs.twos.Statement.{statement}
+use Rattle.tag.proofs.twos.Tie as tie
 
 cast-upper : tie.Need-cast-upper
 cast-upper c = search needs
@@ -38,7 +38,7 @@ returns : tie.Need-returns
 returns c =
     let digit = c .args .digit in
     let low = c .args .low in
-    let first : digit * 10 + low / 100_000_000 ≡ tagOf digit low / 100_000_000 = omega arith in
+    let first : digit * 10 + low / 100_000_000 ≡ tagOf digit low / 100_000_000 % 100 = omega arith in
     let second : low / 10_000 % 10_000 / 100 ≡ tagOf digit low / 1_000_000 % 100 = omega arith in
     let third : low / 10_000 % 10_000 % 100 ≡ tagOf digit low / 10_000 % 100 = omega arith in
     let fourth : low % 10_000 / 100 ≡ tagOf digit low / 100 % 100 = omega arith in

@@ -1,15 +1,15 @@
--- `tag_packed::digits::of_words` meets its contract: after i turns the first 2i digits are those of the numbers of two.
+-- `tag::digits_of_words` meets its contract: after i turns the first 2i digits are those of the numbers of two.
 use mathlib.Core.Path.{_≡_, refl, ap, _∙_}
 use Prim.Native.Nat.{_*_, _-_, _/_, _%_, _≤_}
 use native.Mathlib.Numerals.{add-one}
 use native.Mathlib.Omega.{arith}
 use lib.ListN.{length, length-set, getD, take}
 use Rattle.tag.specs.Tags.{tagOf}
-use Rattle.tag_packed.proofs.Laws.Filling.{filled-end}
-use Rattle.tag_packed.proofs.Laws.Twofold.{length-twofold, twofold-next}
-use Rattle.tag_packed.proofs.Laws.Words.{parted, twos-small, twos-parted}
-use Rattle.tag_packed.proofs.digits.of_words.Statement.{statement}
-use Rattle.tag_packed.proofs.digits.of_words.Tie as tie
+use Rattle.tag.proofs.Stores.{filled-end}
+use Rattle.tag.proofs.Twofold.{length-twofold, twofold-next}
+use Rattle.tag.proofs.TwoDigits.{parted, twos-small, twos-parted}
+use Rattle.tag.proofs.digits_of_words.Statement.{statement}
+use Rattle.tag.proofs.digits_of_words.Tie as tie
 
 abbrev Inv-loop : tie.InvT-loop
 Inv-loop digit low twos digits₀ i₀ digits i =
@@ -33,7 +33,7 @@ small turn =
     let start = turn .before .before .before in
     let a = start .args in
     rw (turn .before .before .twos .ensures)
-    (twos-small (tagOf (a .digit) (a .low)) (omega arith) (turn .before .loop .i))
+    (twos-small (tagOf (a .digit) (a .low)) (turn .before .loop .i))
 
 tens-requires : tie.Need-tens-requires Inv-loop μ-loop
 tens-requires c κs = small c
@@ -93,10 +93,10 @@ returns c =
     filled-end (l .digits) (parted (twos .result)) (2 * l .i) (omega arith)
     (omega (arith, length-twofold (λ t. t / 10) (λ t. t % 10) (twos .result))) (l .inv .2)
     ∙ ap parted (twos .ensures)
-    ∙ twos-parted (tagOf (a .digit) (a .low)) (omega arith)
+    ∙ twos-parted (tagOf (a .digit) (a .low))
 
-pub of-words-spec : {M : Type 1} → statement M
-of-words-spec =
+pub digits-of-words-spec : {M : Type 1} → statement M
+digits-of-words-spec =
     tie.close
     (tie.spec
     Inv-loop
