@@ -20,6 +20,7 @@ pub mod Snapshots
 pub mod FirstFree
 pub mod Row
 pub mod Demand3
+pub mod Kinds
 pub mod Begun
 pub mod Fair
 pub mod WentOn
