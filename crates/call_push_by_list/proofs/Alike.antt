@@ -1,5 +1,5 @@
 -- A push by list is the begin that it makes, or nothing; in another order the same list pushes alike.
-use mathlib.Core.Path.{_≡_, ap}
+use mathlib.Core.Path.{ap}
 use Rattle.machine.specs.Values.{number}
 use Rattle.airline_list.specs.Lists.{Verdict, sent}
 use Rattle.airline_list.specs.declared.Sent.{Sent}
