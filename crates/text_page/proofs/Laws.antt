@@ -1,0 +1,6 @@
+-- What the proofs about pages share.
+
+pub mod Lengths
+pub mod Bytes
+pub mod Places
+pub mod ReadBack
