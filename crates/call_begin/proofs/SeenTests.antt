@@ -27,8 +27,8 @@ use Rattle.machine.specs.Calls.{
 }
 use Rattle.machine.proofs.Basics.Choices.{if-yes, by-if}
 use Rattle.machine.proofs.Basics.Contradiction.{clash}
-use Rattle.call_read.specs.declared.Walk.the-variants.{Bags, NoEnd}
-use Rattle.call_read.specs.Lane.{walkOf}
+use Rattle.lane_walk.specs.declared.Walk.the-variants.{Bags, NoEnd}
+use Rattle.lane_walk.specs.Walks.{walkOf}
 use Rattle.answers.specs.Refusals.{numberOf}
 use Rattle.table_shape.proofs.Laws.PassedTable.{operation-is}
 use Rattle.call_begin.specs.Seen.{twiceSeen, standing, firstOf}

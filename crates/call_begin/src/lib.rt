@@ -1,6 +1,6 @@
 // The call begin: any slice, any numbers. A refusal changes no lent word.
-use call_read::Walk;
-use call_read::seek;
+use lane_walk::Walk;
+use lane_walk::seek;
 use machine::Reply;
 use machine::Stored;
 use table_layout::operations::argument_ok;

@@ -1,1 +1,1 @@
-pub mod Lane
+pub mod Laid

@@ -119,8 +119,8 @@ rowCall ws c n h =
     let begun = begin ws (c .task) (c .lane) (c .operation) (c .side) (c .argument) in
     rowThen (begun .reply) n (begun .words) (c .task) h
 
-abbrev pub InARow : Type 0
-InARow = (ws : List ℕ) (c : WholeCall) (n h : ℕ) → wholeCall ws c (replicate n h) ≡ rowCall ws c n h
+abbrev pub ByConsecutiveTicks : Type 0
+ByConsecutiveTicks = (ws : List ℕ) (c : WholeCall) (n h : ℕ) → wholeCall ws c (replicate n h) ≡ rowCall ws c n h
 
 -- A call with its one hint, and one such call after another.
 pub record OneHint : Type 0 where
@@ -143,8 +143,8 @@ rowCalls n ws (c ∷ cs) =
     record { answers = one .answer ∷ rest .answers; words = rest .words }
 
 -- Each call is a begin and at most 4S + 154 consecutive ticks.
-abbrev pub OneUserInARow : Type 0
-OneUserInARow =
+abbrev pub OneUserByConsecutiveTicks : Type 0
+OneUserByConsecutiveTicks =
     (S T growth lanes : ℕ) (old : List ℕ)
     → start old S T growth lanes .reply ≡ Accepted
     → (calls : List OneHint)

@@ -6,7 +6,8 @@ use Rattle.program_command.specs.declared.Command.{Command}
 use Rattle.program_command.specs.declared.Command.the-variants as Commands
 use Rattle.program_command.specs.Commands.{commandRead}
 use Rattle.program_print.specs.Lines.{unreadText}
-use Rattle.program_answer.specs.Forms.{Answered, startCommand, beginCommand, tickCommand, laneCommand}
+use Rattle.machine.specs.Calls.{read}
+use Rattle.program_answer.specs.Forms.{Answered, theLane, startCommand, beginCommand, tickCommand, laneCommand}
 
 -- What a command prints, and the table afterwards.
 unfoldable pub answer : Command → (ws : List ℕ) → Answered
@@ -15,6 +16,15 @@ answer (Commands.Begin k op side digit low) ws = beginCommand ws k op side digit
 answer (Commands.Tick k h times) ws = tickCommand times ws k h
 answer Commands.Lane ws = laneCommand ws
 answer Commands.Unread ws = record { text = unreadText; words = ws }
+
+-- What a command leaves in the places that it is lent for the bags of a lane: `(lane)` what a read writes there, and every
+-- other command what there was.
+abbrev pub bagsAfter : Command → (ws bags : List ℕ) → List ℕ
+bagsAfter (Commands.Start S T g) ws bags = bags
+bagsAfter (Commands.Begin k op side digit low) ws bags = bags
+bagsAfter (Commands.Tick k h times) ws bags = bags
+bagsAfter Commands.Lane ws bags = read ws theLane bags .out
+bagsAfter Commands.Unread ws bags = bags
 
 -- What commands print, one after another.
 unfoldable pub printed : List Command → (ws : List ℕ) → List ℕ

@@ -14,7 +14,8 @@ ghost use Prim.Native.Nat.{_*_, _≤_};
 ghost use lib.ListN.{length, take};
 ghost use Rattle.program_print.specs.Lines.{replyText, answerText};
 ghost use Rattle.program_print.specs.Outcomes.{readingText, readingCount};
-ghost use Rattle.program_answer.specs.Forms.{startCommand, beginCommand, tickCommand, laneCommand};
+ghost use Rattle.machine.specs.Calls as calls;
+ghost use Rattle.program_answer.specs.Forms.{theLane, startCommand, beginCommand, tickCommand, laneCommand};
 ghost use Rattle.program_answer.specs.Space.{largestTable, answeredOf, Leaves};
 
 // 02: the program starts one lane, and all its forms are about that one.
@@ -88,6 +89,7 @@ pub fn lane_command(space: &[u32], len: usize, bags: &mut Bags) -> Reading
     ensures { λ r. ⌜ answeredOf (readingText r (now (bags .exit))) (take len (now (space .entry)))
         ≡ laneCommand (take len (now (space .entry))) ⌝ }
     ensures { λ r. ⌜ 2 * readingCount r ≤ length (now (bags .exit)) ⌝ }
+    ensures { λ _. ⌜ now (bags .exit) ≡ calls.read (take len (now (space .entry))) theLane (now (bags .entry)) .out ⌝ }
 {
     read(&space[..len], LANE, bags)
 }

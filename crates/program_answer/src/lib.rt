@@ -7,10 +7,11 @@ use forms::start_command;
 use forms::tick_command;
 use program_command::Command;
 use program_print::CommandOutcome;
+ghost use mathlib.Core.Path.{_≡_};
 ghost use Prim.Native.Nat.{_*_, _≤_};
 ghost use lib.ListN.{length, take};
 ghost use Rattle.program_print.specs.Outcomes.{textOf, countOf};
-ghost use Rattle.program_answer.specs.Run.{answer};
+ghost use Rattle.program_answer.specs.Run.{answer, bagsAfter};
 ghost use Rattle.program_answer.specs.Space.{largestTable, Leaves};
 
 pub const BAG_WORDS: usize = 2_048;
@@ -30,6 +31,7 @@ pub fn answer(command: Command, space: &mut [u32], len: usize, bags: &mut Bags) 
     ensures { λ r. ⌜ Leaves (now (space .entry)) (now (space .exit)) (r .len)
         (textOf (r .outcome) (now (bags .exit))) (answer command (take len (now (space .entry)))) ⌝ }
     ensures { λ r. ⌜ 2 * countOf (r .outcome) ≤ length (now (bags .exit)) ⌝ }
+    ensures { λ _. ⌜ now (bags .exit) ≡ bagsAfter command (take len (now (space .entry))) (now (bags .entry)) ⌝ }
 {
     match command {
         Command::Start {

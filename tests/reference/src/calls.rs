@@ -63,22 +63,19 @@ pub fn begin(
     argument: u32,
 ) -> Result<(), u32> {
     let sizes = shape::check(table)?;
-    if lane >= sizes.lanes {
-        return Err(refusal::LANE);
-    }
-    if task >= sizes.tasks {
-        return Err(refusal::TASK);
-    }
-    if !(table::PUSH..=table::REMOVE).contains(&operation) || side > 1 {
-        return Err(refusal::OPERATION);
-    }
-    let given = [argument, digit];
-    if !table::argument_fits(operation, given) {
-        return Err(refusal::ARGUMENT);
-    }
+    let call = Call {
+        lane,
+        operation,
+        side,
+        digit,
+        argument,
+    };
+    call.check(sizes, task)?;
     if operation == table::PUSH {
+        let tag = call.content();
+        let (_, _, records) = sizes.parts(table);
         // The whole walk comes first: no tag is known to be there where some lane cannot be read.
-        if stands(table, sizes, given)? || is_pushed(table, sizes, given) {
+        if stands(table, sizes, tag)? || is_pushed(records, tag) {
             return Err(refusal::TWICE);
         }
     }
@@ -86,15 +83,59 @@ pub fn begin(
     if table[at + record::OPERATION] != table::IDLE {
         return Err(refusal::BUSY);
     }
-    let mut words = record::FRESH;
-    words[record::OPERATION] = operation;
-    words[record::STEP] = table::first_step(operation);
-    words[record::SIDE] = side;
-    words[record::ARGUMENT] = argument;
-    words[record::ARGUMENT_DIGIT] = digit;
-    words[record::LANE] = lane;
-    table[at..at + record::WORDS].copy_from_slice(&words);
+    table[at..at + record::WORDS].copy_from_slice(&call.record());
     Ok(())
+}
+
+/// What a begin is given beside its task.
+#[derive(Clone, Copy)]
+pub struct Call {
+    /// The lane.
+    pub lane: u32,
+    /// The operation.
+    pub operation: u32,
+    /// Its side.
+    pub side: u32,
+    /// The leading digit of its argument.
+    pub digit: u32,
+    /// Its argument, of a tag the low part.
+    pub argument: u32,
+}
+
+impl Call {
+    /// The refusals that the sizes and these numbers alone decide.
+    pub fn check(self, sizes: Sizes, task: u32) -> Result<(), u32> {
+        if self.lane >= sizes.lanes {
+            return Err(refusal::LANE);
+        }
+        if task >= sizes.tasks {
+            return Err(refusal::TASK);
+        }
+        if !(table::PUSH..=table::REMOVE).contains(&self.operation) || self.side > 1 {
+            return Err(refusal::OPERATION);
+        }
+        if !table::argument_fits(self.operation, self.content()) {
+            return Err(refusal::ARGUMENT);
+        }
+        Ok(())
+    }
+
+    /// The argument as a content.
+    pub fn content(self) -> Content {
+        [self.argument, self.digit]
+    }
+
+    /// The record that a begin writes.
+    pub fn record(self) -> [u32; record::WORDS] {
+        let mut words = record::FRESH;
+        words[record::OPERATION] = self.operation;
+        words[record::STEP] = table::first_step(self.operation);
+        words[record::SIDE] = self.side;
+        words[record::ARGUMENT] = self.argument;
+        words[record::ARGUMENT_DIGIT] = self.digit;
+        words[record::LANE] = self.lane;
+        words
+    }
 }
 
 /// Makes one tick of a busy task.
@@ -175,7 +216,7 @@ pub fn read(table: &[u32], lane: u32, out: &mut [u32]) -> Result<u32, u32> {
 }
 
 /// Whether a tag stands in any lane.
-fn stands(table: &[u32], sizes: Sizes, wanted: Content) -> Result<bool, u32> {
+pub fn stands(table: &[u32], sizes: Sizes, wanted: Content) -> Result<bool, u32> {
     let mut found = false;
     for lane in 0..sizes.lanes {
         walk(table, sizes, lane, |tag| found |= tag == wanted)?;
@@ -183,16 +224,20 @@ fn stands(table: &[u32], sizes: Sizes, wanted: Content) -> Result<bool, u32> {
     Ok(found)
 }
 
-/// Whether a tag is the argument of a busy push, whichever task's.
-fn is_pushed(table: &[u32], sizes: Sizes, tag: Content) -> bool {
-    (0..sizes.tasks).any(|task| {
-        let at = sizes.record(task);
-        table[at + record::OPERATION] == table::PUSH && content(table, at + record::ARGUMENT) == tag
+/// Whether a tag is the argument of a busy push, whichever of these records'.
+pub fn is_pushed(records: &[u32], tag: Content) -> bool {
+    records.chunks_exact(record::WORDS).any(|task| {
+        task[record::OPERATION] == table::PUSH && content(task, record::ARGUMENT) == tag
     })
 }
 
 /// Shows the tags of a lane, leftmost first, up to its end; there may be none to find.
-fn walk(table: &[u32], sizes: Sizes, lane: u32, mut show: impl FnMut(Content)) -> Result<(), u32> {
+pub fn walk(
+    table: &[u32],
+    sizes: Sizes,
+    lane: u32,
+    mut show: impl FnMut(Content),
+) -> Result<(), u32> {
     let mut number = table[header::hat(lane, LEFT)];
     for _ in 0..sizes.nodes {
         number = next(table, sizes, number)?;

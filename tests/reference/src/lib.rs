@@ -8,16 +8,19 @@
 #![forbid(unsafe_code)]
 #![warn(missing_docs)]
 
+pub mod airlines;
 mod alloc;
 mod answer;
 mod calls;
 mod dispatch;
 mod form;
+mod lent;
 pub mod lines;
 pub mod lists;
 mod machine;
 pub mod refusal;
 mod shape;
+pub mod sheet;
 mod side;
 mod snapshot;
 mod step;
@@ -28,5 +31,6 @@ pub use alloc::count_free;
 pub use answer::Answer;
 pub use calls::{begin, panel, read, run, start, tick, ticks};
 pub use dispatch::{dispatch, dispatches};
+pub use lent::begin_record;
 pub use lists::{read_tags, write_tags};
 pub use snapshot::{put, take};

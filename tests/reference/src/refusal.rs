@@ -30,6 +30,10 @@ pub const IDLE: u32 = 10;
 pub const NO_NODE: u32 = 11;
 /// The out slice is shorter than the deque.
 pub const OUT_LENGTH: u32 = 12;
+/// There is no such page of the shift sheet.
+pub const PAGE: u32 = 20;
+/// The out slice does not have the length of a page.
+pub const PAGE_LENGTH: u32 = 21;
 /// The schedule has an odd length or is too long.
 pub const SCHEDULE: u32 = 13;
 /// The panel's schedule is too long.
@@ -48,3 +52,9 @@ pub const SNAPSHOT_LENGTH: u32 = 22;
 pub const WINDOW: u32 = 23;
 /// The count fed to a window does not follow the last one.
 pub const COUNT: u32 = 24;
+/// A line of an airline list is neither form, is one too many, or is missing.
+pub const LIST_LINE: u32 = 27;
+/// An earlier line of an airline list has the code.
+pub const LIST_CODE: u32 = 28;
+/// A line of an airline list closes it before its end, or does not close it at its end.
+pub const LIST_CLOSING: u32 = 29;

@@ -16,6 +16,19 @@ pub fn check(table: &[u32]) -> Result<Sizes, u32> {
     }
 }
 
+/// The same with a lent record in its task's place.
+pub fn check_lent(table: &[u32], task: u32, record: &[u32; record::WORDS]) -> Result<Sizes, u32> {
+    let sizes = sizes(table).ok_or(refusal::SIZES)?;
+    let (head, nodes, _) = sizes.parts(table);
+    let parts = sizes.records_with(table, task, record);
+    let records_hold = |records: &&[u32]| records_hold(records, sizes);
+    if header_holds(head, sizes) && nodes_hold(nodes, sizes) && parts.iter().all(records_hold) {
+        Ok(sizes)
+    } else {
+        Err(refusal::SHAPE)
+    }
+}
+
 /// The same of the table that a snapshot stands for: its header and its records stand where the table's do.
 pub fn check_columns(snapshot: &[u32]) -> Result<Sizes, u32> {
     let sizes = sizes(snapshot).ok_or(refusal::SIZES)?;

@@ -178,6 +178,22 @@ impl Sizes {
         (head, nodes, records)
     }
 
+    /// The records of a table in three parts, a lent one in its task's place; where there is no such task, they are the
+    /// table's.
+    pub fn records_with<'a>(
+        self,
+        table: &'a [u32],
+        task: u32,
+        record: &'a [u32; record::WORDS],
+    ) -> [&'a [u32]; 3] {
+        let (_, _, records) = self.parts(table);
+        if task >= self.tasks {
+            return [records, &[], &[]];
+        }
+        let (before, rest) = records.split_at(record::WORDS * task as usize);
+        [before, record, &rest[record::WORDS..]]
+    }
+
     /// The columns of a snapshot, which stand in the nodes' place: every L, every R, every V, every leading digit.
     pub fn columns(self, words: &[u32]) -> [&[u32]; node::WORDS] {
         let length = self.nodes as usize;

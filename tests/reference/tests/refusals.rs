@@ -4,12 +4,15 @@ mod common;
 
 use common::calls::{begin, tags};
 use common::columns::by_columns;
+use common::records::{place, words};
 use common::tables::{sizes, started, started_lanes, steps_of, LANE};
+use reference::airlines::push_by_list;
+use reference::sheet::{sheet, BYTES};
 use reference::table::{
     header, node, record, ADD, LEFT, LN, LX, LY, MAX_TAG, NONE, POP, PUSH, REMOVE, RIGHT, RN, RX,
     RY,
 };
-use reference::{dispatch, panel, put, read, run, start, take, tick, Answer};
+use reference::{begin_record, dispatch, panel, put, read, run, start, take, tick, Answer};
 
 /// What every call but start refuses the table with.
 fn refused_by_all(table: &[u32], number: u32, what: &str) {
@@ -25,6 +28,18 @@ fn refused_by_all(table: &[u32], number: u32, what: &str) {
     assert_eq!(read(&lent, LANE, &mut out), Err(number), "{what}");
     assert_eq!(lent, table, "{what}");
     assert_eq!((answers, out), ([8; 4], [8; 4]), "{what}");
+    let list = b"(others right)";
+    let found = push_by_list(list, &mut lent, 0, LANE, 0, 5);
+    assert_eq!(found, (number, 0), "{what}");
+    assert_eq!(lent, table, "{what}");
+    let mut page = [8; BYTES];
+    assert_eq!(sheet(table, LANE, 0, &mut page), number, "{what}");
+    assert_eq!(page, [8; BYTES], "{what}");
+    // Lent as it stands in the table, the record has its faults.
+    let record = place(table, 0).map_or(record::FRESH, |_| words(table, 0));
+    let mut lent = record;
+    let found = begin_record(&mut lent, table, 0, LANE, PUSH, 1, 0, 5);
+    assert_eq!((found, lent), (number, record), "{what}");
     let mut snapshot = vec![8; table.len()];
     assert_eq!(take(table, &mut snapshot), Err(number), "{what}");
     assert_eq!(snapshot, vec![8; table.len()], "{what}");

@@ -1,16 +1,21 @@
 //! Random call lists against plain rows, one for each lane, that see only arguments and answers; a snapshot put back
-//! brings back the rows of its moment.
+//! brings back the rows of its moment. Calls are begun in the table, by a list of airlines, or over a lent record.
 
 mod common;
 
 use std::collections::BTreeMap;
 
 use common::kept::Kept;
+use common::list_texts;
 use common::random::Random;
+use common::records;
 use common::row::{Note, Row};
+use common::sheets::page;
 use common::tables::started_lanes;
+use reference::airlines::push_by_list;
+use reference::sheet::{sheet, BYTES, MAX_PAGE};
 use reference::table::{header, record, tag, Sizes, ADD, LEFT, POP, PUSH, REMOVE};
-use reference::{begin, dispatch, panel, put, run, start, take, tick, Answer};
+use reference::{begin, begin_record, dispatch, panel, put, run, start, take, tick, Answer};
 
 /// What a list of calls came across, so that a test cannot pass on nothing.
 #[derive(Default)]
@@ -38,6 +43,37 @@ struct Seen {
     /// Snapshots put back, and those of them with other lanes, so of another start.
     put_back: u32,
     put_over_start: u32,
+    /// Accepted begins by way, and those over a call that was left off.
+    ways: [u32; 4],
+    left_off: u32,
+}
+
+/// How a call is begun.
+#[derive(Clone, Copy)]
+enum Way {
+    Plain,
+    /// By a list of airlines.
+    List,
+    /// Over the task's record, lent, with its words copied to the table.
+    Lent,
+    /// The same over a fresh record, whatever the task is in the middle of.
+    Over,
+}
+
+/// A list that names a push's side for its tag: in the line of its code, or in the closing one.
+fn list_for(random: &mut Random, note: Note) -> Vec<u8> {
+    let count = 1 + random.below(63) as usize;
+    let code = format!("{:03}", note.argument / 1_000_000);
+    let mut lines = list_texts::lines(random, count);
+    lines.retain(|line| !line.contains(&code));
+    let last = lines.len() - 1;
+    if code.len() == 3 && random.once_in(2) {
+        let place = random.below(lines.len() as u32) as usize;
+        lines.insert(place, list_texts::airline(&code, note.side));
+    } else {
+        lines[last] = list_texts::others(note.side);
+    }
+    list_texts::text(&lines)
 }
 
 struct Player {
@@ -100,6 +136,9 @@ impl Player {
                 let length = self.random.below(2 * self.sizes.nodes + 2) as usize;
                 let lane = self.random.below(self.sizes.lanes + 1);
                 self.row.check_short(&self.table, lane, length);
+                if self.random.once_in(8) {
+                    self.check_sheet(lane);
+                }
             }
             91 => self.refused_start(),
             92 if self.random.once_in(2) => self.spur(),
@@ -182,6 +221,11 @@ impl Player {
         let is_push = operation == PUSH;
         let other_digit = is_push && (0..10).any(|other| self.row.has(tag(other, argument)));
         let again = is_push && self.past.contains(&note.tag());
+        let way = self.way(task, note);
+        let left_off = match way {
+            Way::Over => self.row.notes[task as usize].take(),
+            _ => None,
+        };
         let wanted = self.row.begin(task, note);
         self.seen.no_lane += u32::from(wanted == Err(26));
         self.seen.twice += u32::from(wanted == Err(16));
@@ -191,10 +235,75 @@ impl Player {
         self.seen.other_digit += u32::from(wanted == Ok(()) && other_digit);
         let before = self.table.clone();
         let table = &mut self.table;
-        let found = begin(table, task, lane, operation, side, digit, argument);
+        let found = match way {
+            Way::Plain => begin(table, task, lane, operation, side, digit, argument),
+            Way::List => {
+                let list = list_for(&mut self.random, note);
+                match push_by_list(&list, table, task, lane, digit, argument) {
+                    (0, _) => Ok(()),
+                    (number, line) => {
+                        assert_eq!(line, 0, "no fault of the list");
+                        Err(number)
+                    }
+                }
+            }
+            Way::Lent | Way::Over => {
+                let lent = match way {
+                    Way::Lent => records::words(table, task),
+                    _ => record::FRESH,
+                };
+                let mut words = lent;
+                let given = begin_record(
+                    &mut words, table, task, lane, operation, side, digit, argument,
+                );
+                assert_eq!(*table, before, "the table is read alone");
+                if given == 0 {
+                    *table = records::copied(table, task, &words);
+                    Ok(())
+                } else {
+                    assert_eq!(words, lent);
+                    Err(given)
+                }
+            }
+        };
         assert_eq!(found, wanted);
-        if found.is_err() {
-            assert_eq!(self.table, before);
+        match found {
+            Ok(()) => {
+                self.seen.ways[way as usize] += 1;
+                self.seen.left_off += u32::from(left_off.is_some());
+            }
+            Err(_) => {
+                assert_eq!(self.table, before);
+                if left_off.is_some() {
+                    self.row.notes[task as usize] = left_off;
+                }
+            }
+        }
+    }
+
+    /// How a call is begun: a push by list only at an end, and over a record only of a task.
+    fn way(&mut self, task: u32, note: Note) -> Way {
+        match self.random.below(50) {
+            0..=9 if note.operation == PUSH && note.side <= 1 => Way::List,
+            10..=19 if task < self.sizes.tasks => Way::Lent,
+            20 if task < self.sizes.tasks => Way::Over,
+            _ => Way::Plain,
+        }
+    }
+
+    /// Every page of a lane is its row in print; 26 exactly where there is no such lane.
+    fn check_sheet(&self, lane: u32) {
+        for number in 0..=MAX_PAGE {
+            let mut out = [3; BYTES];
+            let found = sheet(&self.table, lane, number, &mut out);
+            match self.row.tags.get(lane as usize) {
+                None => assert_eq!((found, out), (26, [3; BYTES])),
+                Some(row) => {
+                    let tags: Vec<u64> = row.iter().copied().collect();
+                    assert_eq!(found, 0);
+                    assert_eq!(out[..], *page(&tags, number).as_bytes());
+                }
+            }
         }
     }
 
@@ -567,6 +676,7 @@ fn every_step_is_met_on_both_sides_of_every_lane_and_every_answer() {
     let mut steps = BTreeMap::new();
     let mut answers = [0; 7];
     let (mut no_node, mut put_back, mut put_over_start) = (0, 0, 0);
+    let (mut ways, mut left_off) = ([0; 4], 0);
     for (seed, sizes) in (9000..).zip([
         (8, 3, 1, 1),
         (10, 4, 2, 1),
@@ -588,10 +698,16 @@ fn every_step_is_met_on_both_sides_of_every_lane_and_every_answer() {
         no_node += seen.no_node;
         put_back += seen.put_back;
         put_over_start += seen.put_over_start;
+        left_off += seen.left_off;
+        for (sum, count) in ways.iter_mut().zip(seen.ways) {
+            *sum += count;
+        }
     }
     println!("steps {steps:?}\nanswers {answers:?}\nrefused 11: {no_node}");
     println!("put back {put_back}, over another start {put_over_start}");
     assert!(put_back > 500 && put_over_start > 50);
+    println!("begun by way {ways:?}, over a call left off {left_off}");
+    assert!(ways.iter().all(|&count| count > 100) && left_off > 50);
     for operation in [PUSH, POP, ADD, REMOVE] {
         for step in common::tables::steps_of(operation) {
             for key in (0..4).flat_map(|lane| [(lane, 0, step), (lane, 1, step)]) {

@@ -2,7 +2,7 @@
 use mathlib.Core.Path.{_≡_, sym, ap, _∙_}
 use mathlib.Core.Bool.{Bool}
 use Rattle.machine.specs.Calls.{lane}
-use Rattle.call_read.specs.declared.Walk.the-variants.{Bags}
+use Rattle.lane_walk.specs.declared.Walk.the-variants.{Bags}
 use Rattle.call_begin.specs.Seen.{twiceSeen, standing}
 use Rattle.call_begin.proofs.SeenTests.{stands-no-end, stands-walked}
 use borrow.Author.Needs.{needs}

@@ -17,26 +17,26 @@ returns c =
     is-3-or-4 (a .table .now) (c .before .table-refusal .ensures) (c .if1 .taken) (a .hint)
 
 -- The table has passed 3 and 4.
-table-passed : (c : tie.Else1) → WellFormed (c .before .before .before .args .table .now)
-table-passed c =
+is-well-formed : (c : tie.Else1) → WellFormed (c .before .before .before .args .table .now)
+is-well-formed c =
     table-passed (c .before .before .before .args .table .now) (c .before .table-refusal .ensures) (c .if1 .left)
 
 shared-slice-read-if2 : tie.Need-shared-slice-read-if2
 shared-slice-read-if2 c =
     let e = c .before in
-    omega (arith, header-long (e .before .before .before .args .table .now) (table-passed e .length-passes))
+    omega (arith, header-long (e .before .before .before .args .table .now) (is-well-formed e .length-passes))
 
 returns-2 : tie.Need-returns-2
 returns-2 c =
     let e = c .before .before in
     let a = e .before .before .before .args in
-    is-9 (a .table .now) (table-passed e) (a .hint) (c .if2 .taken)
+    is-9 (a .table .now) (is-well-formed e) (a .hint) (c .if2 .taken)
 
 returns-3 : tie.Need-returns-3
 returns-3 c =
     let e = c .before .before in
     let a = e .before .before .before .args in
-    is-none (a .table .now) (table-passed e) (a .hint) (c .if2 .left)
+    is-none (a .table .now) (is-well-formed e) (a .hint) (c .if2 .left)
 
 pub dispatch-refusal-spec : {M : Type 1} → statement M
 dispatch-refusal-spec =

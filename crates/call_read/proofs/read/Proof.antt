@@ -4,7 +4,7 @@ use native.Mathlib.Omega.{arith}
 use Rattle.machine.specs.Shape.{WellFormed}
 use Rattle.table_shape.proofs.Laws.TableWords.{header-long}
 use Rattle.table_shape.proofs.Laws.PassedTable.{table-passed}
-use Rattle.call_read.proofs.WalkLaws.{read-refused, read-no-lane, read-goes-on}
+use Rattle.call_read.proofs.ReadLaws.{read-refused, read-no-lane, read-goes-on}
 use borrow.Author.Needs.{needs}
 use Rattle.call_read.proofs.read.Statement.{statement}
 use Rattle.call_read.proofs.read.Tie as tie

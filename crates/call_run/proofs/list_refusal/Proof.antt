@@ -7,8 +7,8 @@ use Rattle.call_run.proofs.list_refusal.Statement.{statement}
 use Rattle.call_run.proofs.list_refusal.Tie as tie
 
 -- The table has passed 3 and 4.
-table-passed : (c : tie.Else1) → WellFormed (c .before .before .before .before .args .table .now)
-table-passed c = table-passed (c .before .before .before .before .args .table .now) (c .before .table-refusal .ensures) (c .if1 .left)
+is-well-formed : (c : tie.Else1) → WellFormed (c .before .before .before .before .args .table .now)
+is-well-formed c = table-passed (c .before .before .before .before .args .table .now) (c .before .table-refusal .ensures) (c .if1 .left)
 
 table-refusal-requires : tie.Need-table-refusal-requires
 table-refusal-requires c κs = search needs
@@ -21,17 +21,17 @@ returns c =
 returns-2 : tie.Need-returns-2
 returns-2 c =
     let a = c .before .before .before .before .before .args in
-    list-13-odd (a .table .now) (a .list .now) (table-passed (c .before)) (c .if2 .taken)
+    list-13-odd (a .table .now) (a .list .now) (is-well-formed (c .before)) (c .if2 .taken)
 
 returns-3 : tie.Need-returns-3
 returns-3 c =
     let a = c .before .before .before .before .before .before .args in
-    list-13-long (a .table .now) (a .list .now) (table-passed (c .before .before)) (c .before .if2 .left) (c .if3 .taken)
+    list-13-long (a .table .now) (a .list .now) (is-well-formed (c .before .before)) (c .before .if2 .left) (c .if3 .taken)
 
 returns-4 : tie.Need-returns-4
 returns-4 c =
     let a = c .before .before .before .before .before .before .args in
-    list-passes (a .table .now) (a .list .now) (table-passed (c .before .before)) (c .before .if2 .left) (c .if3 .left)
+    list-passes (a .table .now) (a .list .now) (is-well-formed (c .before .before)) (c .before .if2 .left) (c .if3 .left)
 
 pub list-refusal-spec : {M : Type 1} → statement M
 list-refusal-spec = tie.close (tie.spec table-refusal-requires returns returns-2 returns-3 returns-4)

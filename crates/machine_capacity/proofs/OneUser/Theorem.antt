@@ -47,13 +47,13 @@ use Rattle.machine_capacity.specs.OneUserExactly.{
   FromAnyIdle,
   ticksThen,
   rowThen,
-  InARow,
+  ByConsecutiveTicks,
   OneHint,
   callsOfOne,
   HintedBelow,
   Played,
   rowCalls,
-  OneUserInARow,
+  OneUserByConsecutiveTicks,
 }
 use Rattle.machine.proofs.Basics.Contradiction.{clash, refute}
 use Rattle.machine.proofs.Basics.Choices.{by-if}
@@ -179,7 +179,8 @@ module _ (σ : State) (c : WholeCall) where
   going-not (some n) e q = refute (cc)
   going-not nothing e q = call-ends e .0 q
 
-  refused-by : (r : Option ℕ) → refusal σ c ≡ r → (n : ℕ) → afterCall r σ c .answer ≡ Refused n → refusal σ c ≡ some n
+  refused-by : (r : Option ℕ) → refusal σ c ≡ r → (n : ℕ) → afterCall r σ c .answer ≡ Refused n
+      → refusal σ c ≡ some n
   refused-by (some m) e n q = cc
   refused-by nothing e n q = absurd (call-ends e .1 n q)
 
@@ -214,8 +215,8 @@ row-ticks (suc n) ws k h =
     elim (isGoing (tick ws k h .answer)) as (λ _. Ticked) [ true ↦ r | false ↦ tick ws k h ])
     (row-ticks n (tick ws k h .words) k h)
 
-pub in-a-row : InARow
-in-a-row ws c n h =
+pub by-consecutive-ticks : ByConsecutiveTicks
+by-consecutive-ticks ws c n h =
     let b = begin ws (c .task) (c .lane) (c .operation) (c .side) (c .argument) in
     go (b .reply) (b .words)
   where
@@ -249,10 +250,10 @@ rows-are n (c ∷ calls) ws =
       answers = q .answer ∷ rowCalls n (q .words) calls .answers;
       words = rowCalls n (q .words) calls .words;
     })
-    (in-a-row ws (c .call) n (c .hint))
+    (by-consecutive-ticks ws (c .call) n (c .hint))
 
-pub one-user-in-a-row : OneUserInARow
-one-user-in-a-row S T g L old accepted calls b =
+pub one-user-by-consecutive-ticks : OneUserByConsecutiveTicks
+one-user-by-consecutive-ticks S T g L old accepted calls b =
     let n = 4 * S + 154 in
     let ws = start old S T g L .words in
     let σ = startState S T g L in

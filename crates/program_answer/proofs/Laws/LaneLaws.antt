@@ -21,7 +21,7 @@ use Rattle.machine.specs.Shape.{lengthOk, shapeOk}
 use Rattle.machine.proofs.Basics.Choices.{by-if}
 use Rattle.machine.proofs.Basics.Contradiction.{clash}
 use Rattle.answers.specs.Refusals.{numberOf}
-use Rattle.table_shape.proofs.Laws.PassedTable.{passed, few-nodes}
+use Rattle.table_shape.proofs.Laws.PassedTable.{table-passed, few-nodes}
 use Rattle.program_print.specs.Lines.{laneText}
 use Rattle.program_print.specs.Outcomes.{readingText, readingCount}
 use Rattle.program_answer.specs.Forms.{theLane, rowText, laneCommand}
@@ -71,7 +71,7 @@ lane-short : (ws : List ℕ) (l : ℕ) → laneRefusal ws l nothing ≡ nothing 
 unfolding lane
 lane-short ws l e =
     let zero-is = table-passes (lengthOk ws) (shapeOk ws) (ltb l (laneCount ws)) e in
-    let few : nodeCount ws ≤ mostBags = few-nodes ws (passed ws {n = 0} zero-is refl) in
+    let few : nodeCount ws ≤ mostBags = few-nodes ws (table-passed ws {n = 0} zero-is refl) in
     omega (arith, lane-from-short ws (nodeCount ws) (link ws right (hat ws l left)), few)
 
 -- ---- The read.

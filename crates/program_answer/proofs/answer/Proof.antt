@@ -20,7 +20,7 @@ returns : tie.Need-returns
 unfolding answer
 returns c =
     let said = c .before .before .before .before .before .command .given .1 in
-    (rw said (c .before .before .start-command .ensures), omega arith)
+    (rw said (c .before .before .start-command .ensures), (omega arith, rw said))
 
 enum-known-command-2 : tie.Need-enum-known-command-2
 enum-known-command-2 c = search needs
@@ -35,7 +35,7 @@ returns-2 : tie.Need-returns-2
 unfolding answer
 returns-2 c =
     let said = c .before .before .before .before .before .command2 .given .1 in
-    (rw said (c .before .before .begin-command .ensures), omega arith)
+    (rw said (c .before .before .begin-command .ensures), (omega arith, rw said))
 
 enum-known-command-3 : tie.Need-enum-known-command-3
 enum-known-command-3 c = search needs
@@ -50,7 +50,7 @@ returns-3 : tie.Need-returns-3
 unfolding answer
 returns-3 c =
     let said = c .before .before .before .before .before .command3 .given .1 in
-    (rw said (c .before .before .tick-command .ensures), omega arith)
+    (rw said (c .before .before .tick-command .ensures), (omega arith, rw said))
 
 enum-told : tie.Need-enum-told
 enum-told c = search needs
@@ -67,7 +67,10 @@ returns-4 c =
     let told = c .before .before .before in
     let p = told .before .before .before in
     let done = c .lane-command .ensures in
-    (rw (told .enum-told .given .1) (same-leaves (p .args .space .now) (p .args .len) (p .pre .0) (done .0)), done .1)
+    let said = told .enum-told .given .1 in (
+      rw said (same-leaves (p .args .space .now) (p .args .len) (p .pre .0) (done .0)),
+      (done .1 .0, rw said (done .1 .1)),
+    )
 
 enum-told-2 : tie.Need-enum-told-2
 enum-told-2 c = search needs
@@ -76,7 +79,8 @@ returns-5 : tie.Need-returns-5
 unfolding answer
 returns-5 c =
     let p = c .before .before .before in
-    (rw (c .enum-told2 .given .1) (same-leaves (p .args .space .now) (p .args .len) (p .pre .0) refl), omega arith)
+    let said = c .enum-told2 .given .1 in
+    (rw said (same-leaves (p .args .space .now) (p .args .len) (p .pre .0) refl), (omega arith, rw said))
 
 pub answer-spec : {M : Type 1} → statement M
 answer-spec =

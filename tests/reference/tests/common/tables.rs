@@ -111,7 +111,8 @@ pub fn steps_of(operation: u32) -> Vec<u32> {
         .collect()
 }
 
-fn shaped_record(random: &mut Random, sizes: Sizes) -> [u32; record::WORDS] {
+/// The record of a task, idle or at any step, in a table of these sizes.
+pub fn shaped_record(random: &mut Random, sizes: Sizes) -> [u32; record::WORDS] {
     let mut words = record::FRESH;
     let operation = random.below(5);
     if operation == IDLE {

@@ -1,7 +1,7 @@
--- `call_read::found_now` meets its contract: what was found before stays found.
+-- `lane_walk::found_now` meets its contract: what was found before stays found.
 use borrow.Author.Needs.{needs}
-use Rattle.call_read.proofs.found_now.Statement.{statement}
-use Rattle.call_read.proofs.found_now.Tie as tie
+use Rattle.lane_walk.proofs.found_now.Statement.{statement}
+use Rattle.lane_walk.proofs.found_now.Tie as tie
 
 returns : tie.Need-returns
 returns c = search needs

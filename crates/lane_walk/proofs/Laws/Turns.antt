@@ -1,0 +1,80 @@
+-- One turn of the walk along R.
+use mathlib.Core.Path.{_≡_, refl, sym, ap, _∙_}
+use mathlib.Core.Logic.{_≢_}
+use mathlib.Core.Bool.{true, false}
+use mathlib.Core.List.{List, [], _∷_}
+use mathlib.Core.Option.{Option, some, none as nothing, Option·map}
+use Prim.Native.Nat.{ℕ, zero, suc, _<_}
+use Rattle.machine.specs.Choice.{_≟_, _<?_, if_then_else_}
+use Rattle.machine.specs.Sides.{right}
+use Rattle.machine.specs.Values.{Value, never, bag, N, X, Y, number, encode, decode, bagOk}
+use Rattle.machine.specs.Tasks.{none}
+use Rattle.machine.specs.Table.{nodeCount, link, value, valueWords}
+use Rattle.machine.specs.Calls.{laneFrom}
+use Rattle.machine.proofs.Basics.Choices.{equal, unequal, if-yes}
+use Rattle.machine.proofs.Basics.Contradiction.{clash}
+use Rattle.machine.proofs.Words.ValueLaws.{decoded-bag}
+use Rattle.table_values.specs.Tests.{isBag}
+use Rattle.table_values.proofs.Laws.ValueWords.{bag-words}
+
+-- The walk at a node that holds v, by the walk after it.
+abbrev pub atValue : Value → Option (List ℕ) → Option (List ℕ)
+atValue v rest =
+    elim v as (λ _. Option (List ℕ)) [
+      | never ↦ some []
+      | bag b ↦ Option·map (_∷_ b) rest
+      | N s ↦ some []
+      | X s ↦ some []
+      | Y s ↦ some []
+    ]
+
+module _ (ws : List ℕ) where
+  -- The walk after node x, in n nodes at most.
+  abbrev pub after : (n x : ℕ) → Option (List ℕ)
+  after n x = laneFrom ws n (link ws right x)
+
+  -- 01: S bags with no end.
+  pub no-turn : (m x : ℕ) → m ≡ 0 → laneFrom ws m x ≡ nothing
+  unfolding laneFrom
+  no-turn m x e = rw e refl
+
+  -- 01: link none before a slot without a bag.
+  pub no-node : (m x : ℕ) → x ≡ none → laneFrom ws m x ≡ nothing
+  unfolding laneFrom
+  no-node zero x e = refl
+  no-node (suc m) x e = rw (equal e)
+
+  pub at-node : (m x : ℕ) → x ≢ none → laneFrom ws (suc m) x ≡ atValue (value ws x) (after m x)
+  unfolding laneFrom
+  at-node m x node = rw (unequal node)
+
+  -- By the words of its value.
+  module _ (m m′ x : ℕ) (turn : m ≡ suc m′) (node : x ≢ none) (is-node : x < nodeCount ws) where
+    held : value ws x ≡ decode (valueWords ws x)
+    unfolding value
+    held = ap decode (if-yes (x <? nodeCount ws) (valueWords ws x) (encode never) is-node)
+
+    at-words : laneFrom ws m x ≡ atValue (decode (valueWords ws x)) (after m′ x)
+    at-words = rw turn (at-node m′ x node ∙ ap (λ (v : Value). atValue v (after m′ x)) held)
+
+    pub no-bag : bagOk (valueWords ws x) ≡ false → laneFrom ws m x ≡ some []
+    no-bag h = at-words ∙ go (decode (valueWords ws x)) (sym (bag-words (valueWords ws x)) ∙ h)
+      where
+        go : (v : Value) → isBag v ≡ false → atValue v (after m′ x) ≡ some []
+        go never h = refl
+        go (bag b) h = clash (cc)
+        go (N s) h = refl
+        go (X s) h = refl
+        go (Y s) h = refl
+
+    pub one-bag : bagOk (valueWords ws x) ≡ true
+        → laneFrom ws m x ≡ Option·map (_∷_ (number (valueWords ws x))) (after m′ x)
+    one-bag h = at-words ∙ go (decode (valueWords ws x)) refl (sym (bag-words (valueWords ws x)) ∙ h)
+      where
+        go : (v : Value) → decode (valueWords ws x) ≡ v → isBag v ≡ true
+            → atValue v (after m′ x) ≡ Option·map (_∷_ (number (valueWords ws x))) (after m′ x)
+        go never e h = clash (cc)
+        go (bag b) e h = ap (λ (n : ℕ). Option·map (_∷_ n) (after m′ x)) (sym (decoded-bag (valueWords ws x) b e .1))
+        go (N s) e h = clash (cc)
+        go (X s) e h = clash (cc)
+        go (Y s) e h = clash (cc)

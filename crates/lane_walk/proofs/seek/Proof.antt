@@ -1,0 +1,149 @@
+-- `lane_walk::seek` meets its contract: the bags tallied and those of the walk ahead are those of the whole walk.
+use mathlib.Core.Path.{_≡_, sym, ap, _∙_}
+use mathlib.Core.Logic.{_≢_}
+use mathlib.Core.Bool.{Bool}
+use mathlib.Core.List.{List}
+use Prim.Native.Nat.{ℕ, _-_, _≤_, _<_}
+use native.Mathlib.Omega.{arith}
+use borrow.Author.Needs.{needs}
+use borrow.Author.Tests.{not-true, not-false}
+use Rattle.machine.specs.declared.Stored.{Stored}
+use Rattle.machine.specs.Values.{bagOk}
+use Rattle.machine.specs.Sides.{left}
+use Rattle.machine.specs.Tasks.{none}
+use Rattle.machine.specs.Table.{nodeCountAt, nodeCount, hat, valueWords}
+use Rattle.machine.specs.Calls.{laneFrom, lane}
+use Rattle.machine.proofs.Shape.BusyLaws.{NodeOrNone}
+use Rattle.lane_walk.specs.Walks.{walkOf}
+use Rattle.lane_walk.proofs.Laws.Nodes.{header-room, next-in}
+use Rattle.lane_walk.proofs.Laws.Tally.{
+  tallied,
+  count-begins,
+  count-ends,
+  count-at-none,
+  count-at-no-bag,
+  count-at-bag,
+}
+use Rattle.lane_walk.proofs.seek.Statement.{statement}
+use Rattle.lane_walk.proofs.seek.Tie as tie
+
+abbrev Inv-loop : tie.InvT-loop
+Inv-loop table l sought slots x₀ n₀ found₀ x n found =
+    (n ≤ slots)
+    × NodeOrNone (nodeCount table) x
+    × (tallied sought n found (laneFrom table (slots - n) x) ≡ walkOf sought (lane table l))
+
+abbrev μ-loop : tie.MeasureT-loop
+μ-loop table l sought slots x₀ n₀ found₀ x n found = slots - n
+
+abbrev start : tie.At-loop Inv-loop μ-loop → tie.Start Inv-loop μ-loop
+start c = c .before .before .before .before
+
+abbrev table : tie.At-loop Inv-loop μ-loop → List ℕ
+table c = start c .args .table .now
+
+-- The walk is at a node.
+node-there : (c : tie.Else1 Inv-loop μ-loop)
+    → let at = c .before .before in at .loop .x < nodeCount (table at)
+node-there c = c .before .before .loop .inv .1 (c .if1 .left)
+
+-- What the test of its value tells.
+told : (c : tie.After-bag-ok Inv-loop μ-loop) {b : Bool} → c .bag-ok .result ≡ b
+    → let at = c .before .before .before .before in bagOk (valueWords (table at) (at .loop .x)) ≡ b
+told c h = ap bagOk (sym (c .before .value .ensures)) ∙ sym (c .bag-ok .ensures) ∙ h
+
+shared-slice-read-slots : tie.Need-shared-slice-read-slots Inv-loop μ-loop
+shared-slice-read-slots c = omega (arith, header-room (c .before .before .args .table .now) (c .before .before .pre .0))
+
+first-requires : tie.Need-first-requires Inv-loop μ-loop
+first-requires c κs = c .before .before .pre
+
+loop-holds : tie.Need-loop-holds Inv-loop μ-loop
+loop-holds c =
+    let s = c .before .before .before in
+    let ws = s .args .table .now in (
+      omega arith,
+      rw (c .first .ensures) (next-in ws (s .pre .0) (hat ws (s .args .l) left)),
+      count-begins ws (s .args .sought) (s .args .l) (c .first .result) (c .first .ensures),
+    )
+
+returns : tie.Need-returns Inv-loop μ-loop
+returns c =
+    let at = c .before .before in
+    let l = at .loop in
+    sym (count-at-none (table at) (start at .args .sought) (l .n) (l .x) (l .found) (c .if1 .taken)) ∙ l .inv .2
+
+value-requires : tie.Need-value-requires Inv-loop μ-loop
+value-requires c κs = (start (c .before .before) .pre .0, node-there c)
+
+bag-ok-requires : tie.Need-bag-ok-requires Inv-loop μ-loop
+bag-ok-requires c κs = search needs
+
+returns-2 : tie.Need-returns-2 Inv-loop μ-loop
+returns-2 c =
+    let tested = c .before in
+    let node = tested .before .before in
+    let at = node .before .before in
+    let l = at .loop in
+    let no-bag = told tested (not-true (tested .bag-ok .result) (c .if2 .taken)) in
+    sym
+    (count-at-no-bag (table at) (start at .args .sought) (l .n) (l .x) (l .found) (omega arith) (node .if1 .left)
+    (node-there node) no-bag)
+    ∙ l .inv .2
+
+found-now-requires : tie.Need-found-now-requires Inv-loop μ-loop
+found-now-requires c κs = search needs
+
+next-requires : tie.Need-next-requires Inv-loop μ-loop
+next-requires c κs =
+    let node = c .before .before .before .before in
+    (start (node .before .before) .pre .0, node-there node)
+
+add-n : tie.Need-add-n Inv-loop μ-loop
+add-n c =
+    let slots = c .before .before .before .before .before .before .before .before .before in
+    omega (arith, slots .shared-slice-known2 .given nodeCountAt)
+
+loop-less : tie.Need-loop-less Inv-loop μ-loop
+loop-less c = omega arith
+
+loop-again : tie.Need-loop-again Inv-loop μ-loop
+loop-again c =
+    let tested = c .before .before .before in
+    let node = tested .before .before in
+    let at = node .before .before in
+    let l = at .loop in
+    let bag = told tested (not-false (tested .bag-ok .result) (c .before .before .if2 .left)) in (
+      omega arith,
+      rw (c .next .ensures) (next-in (table at) (start at .pre .0) (l .x)),
+      rw (c .next .ensures, c .before .found-now .ensures, tested .before .value .ensures)
+          (count-at-bag (table at) (start at .args .sought) (l .n) (l .x) (l .found) (omega arith) (node .if1 .left)
+          (node-there node) bag
+          ∙ l .inv .2),
+    )
+
+returns-3 : tie.Need-returns-3 Inv-loop μ-loop
+returns-3 c =
+    let at = c .before in
+    let l = at .loop in
+    sym (count-ends (table at) (start at .args .sought) (l .n) (l .x) (l .found) (omega arith)) ∙ l .inv .2
+
+pub seek-spec : {M : Type 1} → statement M
+seek-spec =
+    tie.close
+    (tie.spec
+    Inv-loop
+    μ-loop
+    shared-slice-read-slots
+    first-requires
+    loop-holds
+    returns
+    value-requires
+    bag-ok-requires
+    returns-2
+    found-now-requires
+    next-requires
+    add-n
+    loop-less
+    loop-again
+    returns-3)

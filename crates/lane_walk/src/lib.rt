@@ -1,0 +1,83 @@
+// The walk along a lane, for every call that reads one: from its first node to the next, what a node holds, and all its
+// bags counted, a tag sought among them. 01: "the lane is read from the left hat's R along R while V is a bag".
+use machine::Stored;
+use table_layout::nodes;
+use table_layout::places::HEADER;
+use table_layout::places::NODE_COUNT;
+use table_layout::places::hat_at;
+use table_record::Task;
+ghost use mathlib.Core.Path.{_≡_};
+ghost use Prim.Native.Nat.{_<_};
+ghost use mathlib.Core.Bool.{_||_};
+ghost use lib.Dec.{eqb};
+ghost use Rattle.machine.specs.Sides.{left, right};
+ghost use Rattle.machine.specs.Values.{number};
+ghost use Rattle.machine.specs.Table.{nodeCount, laneCount, hat, link, valueWords};
+ghost use Rattle.machine.specs.Shape.{WellFormed};
+ghost use Rattle.machine.specs.Calls.{lane};
+ghost use Rattle.lane_walk.specs.Walks.{walkOf};
+
+// How a walk along R ends: at a node without a bag, after that many bags and with the bag sought among them or not; or
+// without one.
+pub enum Walk {
+    Bags(u32, bool),
+    NoEnd,
+}
+
+// The words of a node's value.
+pub fn value(table: &[u32], x: u32) -> Stored
+    requires { ⌜ WellFormed (now table) × (x < nodeCount (now table)) ⌝ }
+    ensures { λ r. ⌜ r ≡ valueWords (now (table .entry)) x ⌝ }
+{
+    nodes::value(&table[HEADER..], x)
+}
+
+// The node after a node, or none.
+pub fn next(table: &[u32], x: u32) -> u32
+    requires { ⌜ WellFormed (now table) × (x < nodeCount (now table)) ⌝ }
+    ensures { λ r. ⌜ r ≡ link (now (table .entry)) right x ⌝ }
+{
+    nodes::link(&table[HEADER..], 1, x)
+}
+
+// The first node of a lane, or none.
+pub fn first(table: &[u32], l: u32) -> u32
+    requires { ⌜ WellFormed (now table) × (l < laneCount (now table)) ⌝ }
+    ensures { λ r. ⌜ r ≡ link (now (table .entry)) right (hat (now (table .entry)) l left) ⌝ }
+{
+    next(table, table[hat_at(l, 0)])
+}
+
+// Whether a bag is the one sought, or that was found before.
+fn found_now(found: bool, sought: u64, bag: Stored) -> bool
+    ensures { λ r. ⌜ r ≡ (found || eqb sought (number bag)) ⌝ }
+{
+    if found {
+        return true;
+    }
+    sought == table_values::number(bag)
+}
+
+// A lane walked for a tag that is sought. 01: link none before a slot without a bag, or S bags with no end.
+pub fn seek(table: &[u32], l: u32, sought: u64) -> Walk
+    requires { ⌜ WellFormed (now table) × (l < laneCount (now table)) ⌝ }
+    ensures { λ r. ⌜ r ≡ walkOf sought (lane (now (table .entry)) l) ⌝ }
+{
+    let slots = table[NODE_COUNT];
+    let mut x = first(table, l);
+    let mut n = 0;
+    let mut found = false;
+    while n < slots {
+        if x == Task::NONE {
+            return Walk::NoEnd;
+        }
+        let v = value(table, x);
+        if !table_values::bag_ok(v) {
+            return Walk::Bags(n, found);
+        }
+        found = found_now(found, sought, v);
+        x = next(table, x);
+        n += 1;
+    }
+    Walk::NoEnd
+}
