@@ -78,7 +78,7 @@ blanks-inside zero (suc k) (suc b) more h = ap (λ (l : List ℕ). blank ∷ l) 
 blanks-inside (suc n) k zero more h = absurd (omega arith)
 blanks-inside (suc n) k (suc b) more h = blanks-inside n k b more (omega arith)
 
-blanks-left : (n b : ℕ) (more : List ℕ) → n ≤ b → drop n (replicate b blank ++ more) ≡ replicate (b - n) blank ++ more
+pub blanks-left : (n b : ℕ) (more : List ℕ) → n ≤ b → drop n (replicate b blank ++ more) ≡ replicate (b - n) blank ++ more
 blanks-left zero b more h = rw (sub-zero b)
 blanks-left (suc n) zero more h = absurd (omega arith)
 blanks-left (suc n) (suc b) more h =
