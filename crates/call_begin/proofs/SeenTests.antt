@@ -1,19 +1,17 @@
 -- The tests of refusals 11 and 16: busy pushes, what the walk finds, and the number that a push is refused with.
 use mathlib.Core.Path.{_≡_, refl, sym, ap, _∙_}
 use mathlib.Core.Bool.{Bool, true, false, not, _&&_, _||_}
-use mathlib.Core.Logic.{_≢_}
+use mathlib.Core.Logic.{_≢_, _⊎_, inl, inr}
 use mathlib.Core.List.{List, [], _∷_, _++_}
 use mathlib.Core.Option.{Option, some, none as nothing, Option·map, bind}
 use Prim.Native.Nat.{ℕ, suc, _+_, _-_, _<_}
 use native.Mathlib.Omega.{arith}
 use native.Mathlib.Decide.{ℕ-discrete}
 use lib.Dec.{eqb}
-use Rattle.machine.specs.Choice.{_≟_, _<?_}
+use Rattle.machine.specs.Choice.{_≟_}
 use Rattle.machine.specs.Values.{number}
 use Rattle.machine.specs.Operations.{Operation, idle, push, pop, add, remove, operationOf}
-use Rattle.machine.specs.Tasks.{Task, operationWord, argumentWords, taskOf}
-use Rattle.machine.specs.Table.{taskCount, recordWords, task}
-use Rattle.machine.specs.Shape.{WellFormed}
+use Rattle.machine.specs.Table.{taskCount, task}
 use Rattle.machine.specs.Calls.{
   unless,
   lane,
@@ -25,12 +23,14 @@ use Rattle.machine.specs.Calls.{
   seenRefusal,
   twiceRefusal,
 }
-use Rattle.machine.proofs.Basics.Choices.{if-yes, by-if}
+use Rattle.machine.proofs.Basics.Choices.{by-if}
 use Rattle.machine.proofs.Basics.Contradiction.{clash}
 use Rattle.lane_walk.specs.declared.Walk.the-variants.{Bags, NoEnd}
 use Rattle.lane_walk.specs.Walks.{walkOf}
 use Rattle.answers.specs.Refusals.{numberOf}
-use Rattle.table_shape.proofs.Laws.PassedTable.{operation-is}
+use Rattle.table_record.specs.declared.Task as Tasks
+use Rattle.table_record.specs.Coded.{taskMeant}
+use Rattle.call_begin.specs.OwnRecord.{isPushOf}
 use Rattle.call_begin.specs.Seen.{twiceSeen, standing, firstOf}
 
 -- ---- The number of push.
@@ -45,23 +45,13 @@ other-number n h =
     by-if (λ op. isPush op ≡ false) (n ≟ 2) (λ _. refl) (λ _.
     by-if (λ op. isPush op ≡ false) (n ≟ 3) (λ _. refl) (λ _. refl))))
 
--- ---- One task.
-abbrev pub pushing : List ℕ → (k n : ℕ) → Bool
-pushing ws k n = isPush (task ws k .operation) && eqb n (task ws k .argument)
+-- ---- A record by value.
+module _ (t : Tasks.Task) (n : ℕ) where
+  pub other-record : t .operation ≢ 1 → false ≡ isPushOf n (taskMeant t)
+  other-record h = rw (other-number (t .operation) h)
 
-module _ (ws : List ℕ) (P : WellFormed ws) (k : ℕ) (is-task : k < taskCount ws) (n : ℕ) where
-  argument-is : task ws k .argument ≡ number (argumentWords (recordWords ws k))
-  unfolding task
-  argument-is = ap (λ (t : Task). t .argument) (if-yes (k <? taskCount ws) (taskOf (recordWords ws k)) _ is-task)
-
-  pub other-task : operationWord (recordWords ws k) ≢ 1 → pushing ws k n ≡ false
-  other-task h =
-      let o = ap isPush (operation-is ws P k is-task) ∙ other-number (operationWord (recordWords ws k)) h in rw o
-
-  pub push-task :
-      operationWord (recordWords ws k) ≡ 1 → pushing ws k n ≡ eqb n (number (argumentWords (recordWords ws k)))
-  push-task e =
-      let o = operation-is ws P k is-task ∙ push-number (operationWord (recordWords ws k)) e in rw (o, argument-is)
+  pub push-record : t .operation ≡ 1 → eqb n (number (t .argument)) ≡ isPushOf n (taskMeant t)
+  push-record e = rw (push-number (t .operation) e)
 
 -- ---- The loop over the tasks: k are still to test.
 module _ (ws : List ℕ) (n k : ℕ) where
@@ -70,14 +60,14 @@ module _ (ws : List ℕ) (n k : ℕ) where
   begun-ends e = rw e refl
 
   module _ (more : 0 < k) where
-    turn : isBegun ws k n ≡ pushing ws (k - 1) n || isBegun ws (k - 1) n
+    turn : isBegun ws k n ≡ isPushOf n (task ws (k - 1)) || isBegun ws (k - 1) n
     unfolding isBegun
     turn = let e : k ≡ suc (k - 1) = omega arith in ap (λ (m : ℕ). isBegun ws m n) e
 
-    pub begun-here : pushing ws (k - 1) n ≡ true → isBegun ws k n ≡ true
+    pub begun-here : isPushOf n (task ws (k - 1)) ≡ true → isBegun ws k n ≡ true
     begun-here h = turn ∙ rw h
 
-    pub begun-below : pushing ws (k - 1) n ≡ false → isBegun ws (k - 1) n ≡ isBegun ws k n
+    pub begun-below : isPushOf n (task ws (k - 1)) ≡ false → isBegun ws (k - 1) n ≡ isBegun ws k n
     begun-below h = sym (turn ∙ rw h)
 
 -- ---- One lane: what its walk says.
@@ -191,31 +181,38 @@ module _ (ws : List ℕ) (n : ℕ) where
         ≡ numberOf (twiceRefusal ws (operationOf operation) n nothing)
     twice-push e = rw (push-number operation e)
 
-  -- ---- By its number the refusal is known, and that there is none.
-  abbrev ByNumber : (Option ℕ → Option ℕ) → Type 0
-  ByNumber f =
-      (others : Option ℕ)
-      → (numberOf (f nothing) ≢ 0 → f others ≡ some (numberOf (f nothing)))
-      × (numberOf (f nothing) ≡ 0 → f others ≡ others)
+  -- ---- By its number the refusal is known, and that there is none. Each of these tests leaves all to the tests after it,
+  -- or refuses by a number that is not 0.
+  abbrev Test : (Option ℕ → Option ℕ) → Type 0
+  Test f = ((others : Option ℕ) → f others ≡ others) ⊎ ((m : ℕ) × (m ≢ 0) × ((others : Option ℕ) → f others ≡ some m))
 
-  one-test : (b : Bool) → ByNumber (unless b 16)
-  one-test true others = (λ h. absurd (h refl), λ _. refl)
-  one-test false others = (λ _. refl, λ e. absurd (omega (arith, e)))
+  seen-test : (l : Option (List ℕ)) → Test (seenRefusal ws n l)
+  seen-test nothing = inr (11, λ e. absurd (omega (arith, e)), λ _. refl)
+  seen-test (some bags) = go (not (isAmong n bags || isBegun ws (taskCount ws) n))
+    where
+      go : (b : Bool) → Test (unless b 16)
+      go true = inl (λ _. refl)
+      go false = inr (16, λ e. absurd (omega (arith, e)), λ _. refl)
 
-  by-seen : (l : Option (List ℕ)) → ByNumber (seenRefusal ws n l)
-  by-seen nothing others = (λ _. refl, λ e. absurd (omega (arith, e)))
-  by-seen (some bags) others = one-test (not (isAmong n bags || isBegun ws (taskCount ws) n)) others
+  twice-test : (op : Operation) → Test (twiceRefusal ws op n)
+  twice-test idle = inl (λ _. refl)
+  twice-test push = seen-test (allLanes ws)
+  twice-test pop = inl (λ _. refl)
+  twice-test add = inl (λ _. refl)
+  twice-test remove = inl (λ _. refl)
 
-  by-twice : (op : Operation) → ByNumber (twiceRefusal ws op n)
-  by-twice idle others = (λ h. absurd (h refl), λ _. refl)
-  by-twice push others = by-seen (allLanes ws) others
-  by-twice pop others = (λ h. absurd (h refl), λ _. refl)
-  by-twice add others = (λ h. absurd (h refl), λ _. refl)
-  by-twice remove others = (λ h. absurd (h refl), λ _. refl)
+  module _ (op : Operation) (others : Option ℕ) where
+    pub twice-refused :
+        {r : ℕ} → r ≡ numberOf (twiceRefusal ws op n nothing) → r ≢ 0 → twiceRefusal ws op n others ≡ some r
+    twice-refused {r} is-number h = go (twice-test op)
+      where
+        go : Test (twiceRefusal ws op n) → twiceRefusal ws op n others ≡ some r
+        go (inl passes) = absurd (h (is-number ∙ ap numberOf (passes nothing)))
+        go (inr (m, _, refuses)) = refuses others ∙ ap some (sym (is-number ∙ ap numberOf (refuses nothing)))
 
-  module _ (op : Operation) {r : ℕ} (is-number : r ≡ numberOf (twiceRefusal ws op n nothing)) (others : Option ℕ) where
-    pub twice-refused : r ≢ 0 → twiceRefusal ws op n others ≡ some r
-    twice-refused h = by-twice op others .0 (λ e. h (is-number ∙ e)) ∙ ap some (sym is-number)
-
-    pub twice-passed : r ≡ 0 → twiceRefusal ws op n others ≡ others
-    twice-passed e = by-twice op others .1 (sym is-number ∙ e)
+    pub twice-passed : (later : Option ℕ) → numberOf (twiceRefusal ws op n later) ≡ 0 → twiceRefusal ws op n others ≡ others
+    twice-passed later e = go (twice-test op)
+      where
+        go : Test (twiceRefusal ws op n) → twiceRefusal ws op n others ≡ others
+        go (inl passes) = passes others
+        go (inr (m, not-0, refuses)) = absurd (not-0 (sym (ap numberOf (refuses later)) ∙ e))

@@ -1,1 +1,2 @@
+pub mod OwnRecord
 pub mod Seen

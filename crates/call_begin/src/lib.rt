@@ -12,18 +12,29 @@ use table_shape::table_refusal;
 ghost use mathlib.Core.Path.{_≡_};
 ghost use mathlib.Core.Bool.{true, _&&_};
 ghost use mathlib.Core.Option.{none as nothing};
-ghost use Prim.Native.Nat.{_≤_, _<_};
-ghost use lib.Dec.{leb, eqb};
+ghost use mathlib.Core.List.{List};
+ghost use Prim.Native.Nat.{ℕ, _≤_, _<_};
+ghost use lib.Dec.{leb};
 ghost use Rattle.machine.specs.Sides.{sideOf};
 ghost use Rattle.machine.specs.Values.{number};
 ghost use Rattle.machine.specs.Operations.{operationOf, argumentOk};
 ghost use Rattle.machine.specs.Steps.{firstStep, stepNumber};
 ghost use Rattle.machine.specs.Table.{taskCount, laneCount, task};
-ghost use Rattle.machine.specs.Shape.{WellFormed};
-ghost use Rattle.machine.specs.Calls.{lane, allLanes, isPush, isBegun, seenRefusal, twiceRefusal, begunTask, begin};
+ghost use Rattle.machine.specs.Shape.{lengthOk, WellFormed};
+ghost use Rattle.machine.specs.Calls.{
+  lane,
+  allLanes,
+  isBegun,
+  seenRefusal,
+  twiceRefusal,
+  callRefusal,
+  begunTask,
+  begin,
+};
 ghost use Rattle.answers.specs.Refusals.{numberOf};
-ghost use Rattle.table_record.specs.Coded.{codedTask};
+ghost use Rattle.table_record.specs.Coded.{codedTask, taskMeant};
 ghost use Rattle.machine.specs.Results.{changedOf};
+ghost use Rattle.call_begin.specs.OwnRecord.{WithOwn, isPushOf};
 ghost use Rattle.call_begin.specs.Seen.{standing, firstOf};
 
 // The operation is push, pop, add or remove, and the side is left or right.
@@ -59,28 +70,36 @@ fn begun(l: u32, operation: u32, side: u32, argument: Stored) -> Task
     k
 }
 
-// Whether task k is a busy push of that tag.
-fn pushes(table: &[u32], k: u32, tag: u64) -> bool
-    requires { ⌜ WellFormed (now table) × (k < taskCount (now table)) ⌝ }
-    ensures { λ r. ⌜ r ≡ (isPush (task (now (table .entry)) k .operation)
-        && eqb tag (task (now (table .entry)) k .argument)) ⌝ }
+// Whether a record is that of a busy push of that tag.
+fn is_push_of(t: Task, tag: u64) -> bool
+    ensures { λ r. ⌜ r ≡ isPushOf tag (taskMeant t) ⌝ }
 {
-    let t = table::task(table, k);
     if t.operation != Task::PUSH {
         return false;
     }
     tag == table_values::number(t.argument)
 }
 
-// Whether any task is a busy push of that tag.
-fn is_begun(table: &[u32], tag: u64) -> bool
-    requires { ⌜ WellFormed (now table) ⌝ }
-    ensures { λ r. ⌜ r ≡ isBegun (now (table .entry)) (taskCount (now (table .entry))) tag ⌝ }
+// Whether task j is a busy push of that tag. Here and below own stands for the record of task k.
+fn pushes(table: &[u32], k: u32, own: Task, j: u32, tag: u64) -> bool
+    requires { ⌜ (lengthOk (now table) ≡ true) × (j < taskCount (now table)) ⌝ }
+    ensures { λ r. ⌜ ((ws : List ℕ) → WithOwn (now (table .entry)) k own ws → r ≡ isPushOf tag (task ws j)) ⌝ }
 {
-    let mut k = table[TASK_COUNT];
-    while 0 < k {
-        k -= 1;
-        if pushes(table, k, tag) {
+    if j == k {
+        return is_push_of(own, tag);
+    }
+    is_push_of(table::task(table, j), tag)
+}
+
+// Whether any task is a busy push of that tag.
+fn is_begun(table: &[u32], k: u32, own: Task, tag: u64) -> bool
+    requires { ⌜ lengthOk (now table) ≡ true ⌝ }
+    ensures { λ r. ⌜ ((ws : List ℕ) → WithOwn (now (table .entry)) k own ws → r ≡ isBegun ws (taskCount ws) tag) ⌝ }
+{
+    let mut j = table[TASK_COUNT];
+    while 0 < j {
+        j -= 1;
+        if pushes(table, k, own, j, tag) {
             return true;
         }
     }
@@ -136,34 +155,63 @@ fn stands_in_any(table: &[u32], tag: u64) -> u32
 
 // 02: "a bag number that stands in the lane or is the argument of a busy push", of any lane. The number of the refusal,
 // 11 or 16; 0 where the tag is new.
-fn seen(table: &[u32], tag: u64) -> u32
+fn seen_refusal(table: &[u32], k: u32, own: Task, tag: u64) -> u32
     requires { ⌜ WellFormed (now table) ⌝ }
-    ensures { λ r. ⌜ r
-        ≡ numberOf (seenRefusal (now (table .entry)) tag (allLanes (now (table .entry))) nothing) ⌝ }
+    ensures { λ r. ⌜ ((ws : List ℕ) → WithOwn (now (table .entry)) k own ws
+        → r ≡ numberOf (seenRefusal ws tag (allLanes ws) nothing)) ⌝ }
 {
     let says = stands_in_any(table, tag);
     if says != 0 {
         return says;
     }
-    if is_begun(table, tag) {
+    if is_begun(table, k, own, tag) {
         return 16;
     }
     0
 }
 
 // The same for any operation; only a push walks.
-fn twice(table: &[u32], operation: u32, argument: Stored) -> u32
+fn twice_refusal(table: &[u32], k: u32, own: Task, operation: u32, argument: Stored) -> u32
     requires { ⌜ WellFormed (now table) ⌝ }
-    ensures { λ r. ⌜ r
-        ≡ numberOf (twiceRefusal (now (table .entry)) (operationOf operation) (number argument) nothing) ⌝ }
+    ensures { λ r. ⌜ ((ws : List ℕ) → WithOwn (now (table .entry)) k own ws
+        → r ≡ numberOf (twiceRefusal ws (operationOf operation) (number argument) nothing)) ⌝ }
 {
     if operation != Task::PUSH {
         return 0;
     }
-    seen(table, table_values::number(argument))
+    seen_refusal(table, k, own, table_values::number(argument))
 }
 
-// 01: checks 5, 6 and 7; 02: 11 and 16 of a push; 01: 8, then the record.
+// 01: checks 6 and 7; 02: 11 and 16 of a push; 01: 8. The number of the refusal; 0 where there is none.
+fn call_refusal(
+    table: &[u32],
+    k: u32,
+    own: Task,
+    operation: u32,
+    side: u32,
+    argument: Stored,
+) -> u32
+    requires { ⌜ WellFormed (now table) ⌝ }
+    ensures { λ r. ⌜ ((ws : List ℕ) → WithOwn (now (table .entry)) k own ws
+        → r ≡ numberOf (callRefusal ws k operation side argument)) ⌝ }
+{
+    if !call_ok(operation, side) {
+        return 6;
+    }
+    if !argument_ok(operation, argument) {
+        return 7;
+    }
+    let n = twice_refusal(table, k, own, operation, argument);
+    if n != 0 {
+        return n;
+    }
+    if own.operation != Task::IDLE {
+        return 8;
+    }
+    0
+}
+
+// 01: check 5, those of the call, and then the record.
 fn begin_on(
     table: &mut [u32],
     task: u32,
@@ -178,19 +226,10 @@ fn begin_on(
     if table[TASK_COUNT] <= task {
         return Reply::Refused(5);
     }
-    if !call_ok(operation, side) {
-        return Reply::Refused(6);
-    }
-    if !argument_ok(operation, argument) {
-        return Reply::Refused(7);
-    }
-    let n = twice(table, operation, argument);
+    let own = table::task(table, task);
+    let n = call_refusal(table, task, own, operation, side, argument);
     if n != 0 {
         return Reply::Refused(n);
-    }
-    let old = table::task(table, task);
-    if old.operation != Task::IDLE {
-        return Reply::Refused(8);
     }
     table::set_task(table, task, begun(l, operation, side, argument));
     Reply::Accepted

@@ -1,9 +1,8 @@
 -- Refusals 3, 4 and 9 of a dispatch by their number, and what follows them.
 use mathlib.Core.Path.{_≡_, refl, sym, ap, _∙_}
-use mathlib.Core.Bool.{Bool, true, false}
 use mathlib.Core.Logic.{_≢_}
 use mathlib.Core.List.{List}
-use mathlib.Core.Option.{Option, some, none as nothing}
+use mathlib.Core.Option.{none as nothing}
 use Prim.Native.Nat.{ℕ, _≤_, _<_}
 use native.Mathlib.Omega.{arith}
 use lib.Dec.{ltb}
@@ -16,6 +15,7 @@ use Rattle.machine.specs.Calls.{unless, tableRefusal, dispatchRefusal, dispatch
 use Rattle.machine.specs.Results.{dispatchedOf}
 use Rattle.machine.proofs.Basics.Tests.{test-passed, tests-left}
 use Rattle.answers.specs.Refusals.{numberOf}
+use Rattle.answers.proofs.Laws.Refusals.{due, none-due}
 use Rattle.table_shape.proofs.Laws.PassedTable.{refused}
 
 -- ---- The number, test by test.
@@ -34,18 +34,6 @@ module _ (ws : List ℕ) (P : WellFormed ws) (h : ℕ) where
   passes b = rw (P .length-passes, P .shape-passes, lt-ltb h (nodeCount ws) b)
 
 -- ---- What the number says.
-due : (o : Option ℕ) {n : ℕ} → n ≡ numberOf o → n ≢ 0 → o ≡ some n
-due nothing e r = absurd (r e)
-due (some m) e r = ap some (sym e)
-
--- None of the three is 0.
-none-due : (a b c : Bool) → numberOf (unless a 3 (unless b 4 (unless c 9 nothing))) ≡ 0
-    → (a ≡ true) × (b ≡ true) × (c ≡ true)
-none-due true true true e = (refl, refl, refl)
-none-due true true false e = absurd (omega (arith, e))
-none-due true false c e = absurd (omega (arith, e))
-none-due false b c e = absurd (omega (arith, e))
-
 module _ (ws : List ℕ) (h : ℕ) where
   pub dispatch-refused : {n : ℕ} → n ≡ numberOf (dispatchRefusal ws h) → n ≢ 0
       → dispatchedOf (Answered (Refused n)) ws ≡ dispatch ws h
@@ -54,8 +42,10 @@ module _ (ws : List ℕ) (h : ℕ) where
 
   pub none-refused : {n : ℕ} → n ≡ numberOf (dispatchRefusal ws h) → n ≡ 0 → dispatchRefusal ws h ≡ nothing
   none-refused is-number e =
-      let P = none-due (lengthOk ws) (shapeOk ws) (ltb h (nodeCount ws)) (sym is-number ∙ e) in
-      rw (P .0, P .1, P .2)
+      none-due (lengthOk ws) (λ e. absurd (omega (arith, e)))
+      (none-due (shapeOk ws) (λ e. absurd (omega (arith, e)))
+      (none-due (ltb h (nodeCount ws)) (λ e. absurd (omega (arith, e))) (λ _. refl)))
+      (sym is-number ∙ e)
 
   module _ (passed : dispatchRefusal ws h ≡ nothing) where
     pub dispatch-on : dispatchOn ws h ≡ dispatch ws h

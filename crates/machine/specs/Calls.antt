@@ -143,14 +143,17 @@ twiceRefusal ws pop n others = others
 twiceRefusal ws add n others = others
 twiceRefusal ws remove n others = others
 
-abbrev pub beginRefusal : List ℕ → (k lane operation side : ℕ) → (argument : Stored) → Option ℕ
-beginRefusal ws k l op side argument =
-    laneRefusal ws l
-    (unless (ltb k (taskCount ws)) 5
-    (unless (leb 1 op && leb op 4 && leb side 1) 6
+-- The tests of the call that task k is to begin.
+abbrev pub callRefusal : List ℕ → (k operation side : ℕ) → (argument : Stored) → Option ℕ
+callRefusal ws k op side argument =
+    unless (leb 1 op && leb op 4 && leb side 1) 6
     (unless (argumentOk (operationOf op) argument) 7
     (twiceRefusal ws (operationOf op) (number argument)
-    (unless (isIdle (task ws k .operation)) 8 nothing)))))
+    (unless (isIdle (task ws k .operation)) 8 nothing)))
+
+abbrev pub beginRefusal : List ℕ → (k lane operation side : ℕ) → (argument : Stored) → Option ℕ
+beginRefusal ws k l op side argument =
+    laneRefusal ws l (unless (ltb k (taskCount ws)) 5 (callRefusal ws k op side argument))
 
 -- The tests of a tick on a table that has passed 3 and 4. (11 is the lines' own: `through` in Lines.)
 abbrev pub tickRefusal : List ℕ → (k hint : ℕ) → Option ℕ

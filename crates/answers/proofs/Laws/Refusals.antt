@@ -1,13 +1,27 @@
--- An answer with a refusal's number is that refusal, and one that is no refusal has no number.
-use mathlib.Core.Path.{_≡_, refl}
-use mathlib.Core.Bool.{true, false}
+-- A refusal is known by its number, also by that of an answer.
+use mathlib.Core.Path.{_≡_, refl, sym, ap}
+use mathlib.Core.Bool.{Bool, true, false}
+use mathlib.Core.Logic.{_≢_}
 use mathlib.Core.Option.{Option, some, none as nothing}
 use Prim.Native.Nat.{ℕ}
 use Rattle.machine.specs.declared.Answer.{Answer}
 use Rattle.machine.specs.declared.Answer.the-variants.{Going, Pushed, Bag, Empty, Full, Yes, No, Refused}
 use Rattle.machine.specs.Answers.{refusalOf}
+use Rattle.machine.specs.Calls.{unless}
 use Rattle.machine.proofs.Basics.Contradiction.{clash}
-use Rattle.answers.specs.Refusals.{isNumber, isRefused}
+use Rattle.answers.specs.Refusals.{numberOf, isNumber, isRefused}
+
+pub due : (o : Option ℕ) {n : ℕ} → n ≡ numberOf o → n ≢ 0 → o ≡ some n
+due nothing e h = absurd (h e)
+due (some m) e h = ap some (sym e)
+
+-- With the number 0 there is no refusal: of a test, by those after it.
+abbrev pub NoneAt0 : Option ℕ → Type 0
+NoneAt0 o = numberOf o ≡ 0 → o ≡ nothing
+
+pub none-due : (b : Bool) {n : ℕ} {others : Option ℕ} → n ≢ 0 → NoneAt0 others → NoneAt0 (unless b n others)
+none-due true h others e = others e
+none-due false h others e = absurd (h e)
 
 pub refused-answer : (a : Answer) {n : ℕ} → refusalOf a ≡ some n → a ≡ Refused n
 refused-answer Going e = clash (cc)

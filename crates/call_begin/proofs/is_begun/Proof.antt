@@ -1,42 +1,46 @@
 -- `call_begin::is_begun` meets its contract: what the tasks still to test say is what all say.
-use mathlib.Core.Path.{_≡_, refl, sym, _∙_}
-use Prim.Native.Nat.{_≤_}
+use mathlib.Core.Path.{_≡_, refl, sym, ap, _∙_}
+use mathlib.Core.List.{List}
+use Prim.Native.Nat.{ℕ, _≤_}
 use native.Mathlib.Omega.{arith}
 use Rattle.machine.specs.Table.{taskCount}
 use Rattle.machine.specs.Calls.{isBegun}
 use Rattle.table_shape.proofs.Laws.TableWords.{header-long}
+use Rattle.call_begin.specs.OwnRecord.{WithOwn}
 use Rattle.call_begin.proofs.SeenTests.{begun-ends, begun-here, begun-below}
 use Rattle.call_begin.proofs.is_begun.Statement.{statement}
 use Rattle.call_begin.proofs.is_begun.Tie as tie
 
 abbrev Inv-loop : tie.InvT-loop
-Inv-loop table tag k₀ k =
-    (k ≤ taskCount table) × (isBegun table k tag ≡ isBegun table (taskCount table) tag)
+Inv-loop table k own tag j₀ j =
+    (j ≤ taskCount table)
+    × ((ws : List ℕ) → WithOwn table k own ws → isBegun ws j tag ≡ isBegun ws (taskCount ws) tag)
 
 abbrev μ-loop : tie.MeasureT-loop
-μ-loop table tag k₀ k = k
+μ-loop table k own tag j₀ j = j
 
-shared-slice-read-k : tie.Need-shared-slice-read-k Inv-loop μ-loop
-shared-slice-read-k c =
-    let p = c .before .before in omega (arith, header-long (p .args .table .now) (p .pre .length-passes))
+shared-slice-read-j : tie.Need-shared-slice-read-j Inv-loop μ-loop
+shared-slice-read-j c = let p = c .before .before in omega (arith, header-long (p .args .table .now) (p .pre))
 
 loop-holds : tie.Need-loop-holds Inv-loop μ-loop
-loop-holds c = (omega arith, refl)
+loop-holds c =
+    let a = c .before .before .args in
+    (omega arith, λ ws W. ap (λ (m : ℕ). isBegun ws m (a .tag)) (sym (W .count)))
 
-sub-k : tie.Need-sub-k Inv-loop μ-loop
-sub-k c = omega arith
+sub-j : tie.Need-sub-j Inv-loop μ-loop
+sub-j c = omega arith
 
 pushes-requires : tie.Need-pushes-requires Inv-loop μ-loop
 pushes-requires c κs =
     let l = c .before in (l .before .before .before .pre, omega (arith, l .loop .inv .0))
 
 returns : tie.Need-returns Inv-loop μ-loop
-returns c =
+returns c = λ ws W.
     let f = c .before in
     let l = f .before .before in
     let a = l .before .before .before .args in
-    let is = sym (f .pushes .ensures) ∙ c .if1 .taken in
-    sym (begun-here (a .table .now) (a .tag) (l .loop .k) (omega arith) is) ∙ l .loop .inv .1
+    let is = sym (f .pushes .ensures ws W) ∙ c .if1 .taken in
+    sym (begun-here ws (a .tag) (l .loop .j) (omega arith) is) ∙ l .loop .inv .1 ws W
 
 loop-less : tie.Need-loop-less Inv-loop μ-loop
 loop-less c = omega arith
@@ -47,15 +51,16 @@ loop-again c =
     let l = f .before .before in
     let a = l .before .before .before .args in (
       omega (arith, l .loop .inv .0),
-      begun-below (a .table .now) (a .tag) (l .loop .k) (omega arith) (sym (f .pushes .ensures) ∙ c .if1 .left)
-          ∙ l .loop .inv .1,
+      λ ws W.
+          begun-below ws (a .tag) (l .loop .j) (omega arith) (sym (f .pushes .ensures ws W) ∙ c .if1 .left)
+          ∙ l .loop .inv .1 ws W,
     )
 
 returns-2 : tie.Need-returns-2 Inv-loop μ-loop
-returns-2 c =
+returns-2 c = λ ws W.
     let l = c .before in
     let a = l .before .before .before .args in
-    sym (begun-ends (a .table .now) (a .tag) (l .loop .k) (omega arith)) ∙ l .loop .inv .1
+    sym (begun-ends ws (a .tag) (l .loop .j) (omega arith)) ∙ l .loop .inv .1 ws W
 
 pub is-begun-spec : {M : Type 1} → statement M
 is-begun-spec =
@@ -63,9 +68,9 @@ is-begun-spec =
     (tie.spec
     Inv-loop
     μ-loop
-    shared-slice-read-k
+    shared-slice-read-j
     loop-holds
-    sub-k
+    sub-j
     pushes-requires
     returns
     loop-less

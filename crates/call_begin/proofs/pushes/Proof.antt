@@ -1,41 +1,38 @@
--- `call_begin::pushes` meets its contract: the record's operation, then its argument.
+-- `call_begin::pushes` meets its contract: the own record of its task, and of the others those in the table.
 use mathlib.Core.Path.{sym, ap, _∙_}
-use lib.Dec.{eqb}
-use borrow.Author.Needs.{needs}
-use Rattle.machine.specs.Values.{number}
-use Rattle.table_record.specs.declared.Task as Tasks
+use Rattle.table_record.specs.Coded.{taskMeant}
+use Rattle.machine.specs.Table.{task}
+use Rattle.table_layout.proofs.Laws.Views.{task-read}
 use Rattle.table_shape.proofs.Laws.TableWords.{record-within}
-use Rattle.call_begin.proofs.SeenTests.{other-task, push-task}
+use Rattle.call_begin.specs.OwnRecord.{isPushOf}
+use borrow.Author.Needs.{needs}
 use Rattle.call_begin.proofs.pushes.Statement.{statement}
 use Rattle.call_begin.proofs.pushes.Tie as tie
 
-task-requires : tie.Need-task-requires
-task-requires c κs =
-    let p = c .before in
-    let a = p .args in record-within (a .table .now) (p .pre .0 .length-passes) (a .k) (p .pre .1)
+is-push-of-requires : tie.Need-is-push-of-requires
+is-push-of-requires c κs = search needs
 
 returns : tie.Need-returns
-returns c =
-    let r = c .before .before in
-    let p = r .before .before in
-    let a = p .args in
-    let is = ap (λ (t : Tasks.Task). t .operation) (r .task .ensures) in
-    sym (other-task (a .table .now) (p .pre .0) (a .k) (p .pre .1) (a .tag) (λ e. c .if1 .taken (is ∙ e)))
+returns c = λ ws W.
+    let a = c .before .before .before .args in
+    c .is-push-of .ensures ∙ ap (isPushOf (a .tag)) (sym (W .its-task) ∙ ap (task ws) (sym (c .before .if1 .taken)))
 
-number-requires : tie.Need-number-requires
-number-requires c κs = search needs
+task-requires : tie.Need-task-requires
+task-requires c κs =
+    let p = c .before .before in
+    let a = p .args in record-within (a .table .now) (p .pre .0) (a .j) (p .pre .1)
+
+is-push-of-requires-2 : tie.Need-is-push-of-requires-2
+is-push-of-requires-2 c κs = search needs
 
 returns-2 : tie.Need-returns-2
-returns-2 c =
-    let e = c .before in
-    let r = e .before .before in
-    let p = r .before .before in
+returns-2 c = λ ws W.
+    let r = c .before in
+    let p = r .before .before .before in
     let a = p .args in
-    let is = ap (λ (t : Tasks.Task). t .operation) (r .task .ensures) in
-    let holds = ap (λ (t : Tasks.Task). eqb (a .tag) (number (t .argument))) (r .task .ensures) in
-    ap (eqb (a .tag)) (c .number .ensures)
-    ∙ holds
-    ∙ sym (push-task (a .table .now) (p .pre .0) (a .k) (p .pre .1) (a .tag) (sym is ∙ e .if1 .left))
+    let there = ap taskMeant (r .task .ensures) ∙ task-read (a .table .now) (a .j) (p .pre .1) in
+    c .is-push-of2 .ensures ∙ ap (isPushOf (a .tag)) (there ∙ sym (W .others (a .j) (r .before .if1 .left)))
 
 pub pushes-spec : {M : Type 1} → statement M
-pushes-spec = tie.close (tie.spec task-requires returns number-requires returns-2)
+pushes-spec =
+    tie.close (tie.spec is-push-of-requires returns task-requires is-push-of-requires-2 returns-2)

@@ -1,0 +1,30 @@
+-- `call_begin::twice_refusal` meets its contract: the other operations are not refused, a push as `seen_refusal` says.
+use mathlib.Core.Path.{ap, _∙_}
+use mathlib.Core.Option.{none as nothing}
+use borrow.Author.Needs.{needs}
+use Rattle.machine.specs.Values.{number}
+use Rattle.machine.specs.Calls.{allLanes, seenRefusal}
+use Rattle.answers.specs.Refusals.{numberOf}
+use Rattle.call_begin.proofs.SeenTests.{twice-other, twice-push}
+use Rattle.call_begin.proofs.twice_refusal.Statement.{statement}
+use Rattle.call_begin.proofs.twice_refusal.Tie as tie
+
+returns : tie.Need-returns
+returns c = λ ws W.
+    let a = c .before .before .args in twice-other ws (number (a .argument)) (a .operation) (c .if1 .taken)
+
+number-requires : tie.Need-number-requires
+number-requires c κs = search needs
+
+seen-refusal-requires : tie.Need-seen-refusal-requires
+seen-refusal-requires c κs = search needs
+
+returns-2 : tie.Need-returns-2
+returns-2 c = λ ws W.
+    let e = c .before .before in
+    let a = e .before .before .args in
+    let said = ap (λ n. numberOf (seenRefusal ws n (allLanes ws) nothing)) (c .before .number .ensures) in
+    c .seen-refusal .ensures ws W ∙ said ∙ twice-push ws (number (a .argument)) (a .operation) (e .if1 .left)
+
+pub twice-refusal-spec : {M : Type 1} → statement M
+twice-refusal-spec = tie.close (tie.spec returns number-requires seen-refusal-requires returns-2)
