@@ -8,19 +8,26 @@ use table_layout::places::hat_at;
 use table_record::Task;
 ghost use mathlib.Core.Path.{_≡_};
 ghost use Prim.Native.Nat.{_<_};
-ghost use mathlib.Core.Bool.{_||_};
-ghost use lib.Dec.{eqb};
+ghost use mathlib.Core.Bool.{cond, _||_};
+ghost use lib.Dec.{leb, eqb};
 ghost use Rattle.machine.specs.Sides.{left, right};
 ghost use Rattle.machine.specs.Values.{number};
 ghost use Rattle.machine.specs.Table.{nodeCount, laneCount, hat, link, valueWords};
 ghost use Rattle.machine.specs.Shape.{WellFormed};
 ghost use Rattle.machine.specs.Calls.{lane};
-ghost use Rattle.lane_walk.specs.Walks.{walkOf};
+ghost use Rattle.lane_walk.specs.Walks.{walkOf, locatedOf};
 
 // How a walk along R ends: at a node without a bag, after that many bags and with the bag sought among them or not; or
 // without one.
 pub enum Walk {
     Bags(u32, bool),
+    NoEnd,
+}
+
+// How a walk to a place of a lane ends: the bags of the lane, and the node of that place, or past the last bag the node
+// after it; or without an end.
+pub enum Located {
+    Node(u32, u32),
     NoEnd,
 }
 
@@ -84,4 +91,39 @@ pub fn seek(table: &[u32], l: u32, sought: u64) -> Walk
         n += 1;
     }
     Walk::NoEnd
+}
+
+// The node that n links lead to, unless the place is passed.
+fn up_to(place: usize, n: u32, node: u32, before: u32) -> u32
+    ensures { λ r. ⌜ r ≡ cond (leb n place) node before ⌝ }
+{
+    if n as usize <= place {
+        return node;
+    }
+    before
+}
+
+// A lane walked to a place, from 0, and on to its end.
+pub fn locate(table: &[u32], l: u32, place: usize) -> Located
+    requires { ⌜ WellFormed (now table) × (l < laneCount (now table)) ⌝ }
+    ensures { λ r.
+        let ws = now (table .entry) in
+        ⌜ r ≡ locatedOf ws place (link ws right (hat ws l left)) (lane ws l) ⌝ }
+{
+    let slots = table[NODE_COUNT];
+    let mut x = first(table, l);
+    let mut there = x;
+    let mut n = 0;
+    while n < slots {
+        if x == Task::NONE {
+            return Located::NoEnd;
+        }
+        if !table_values::bag_ok(value(table, x)) {
+            return Located::Node(n, there);
+        }
+        x = next(table, x);
+        n += 1;
+        there = up_to(place, n, x, there);
+    }
+    Located::NoEnd
 }

@@ -5,7 +5,7 @@ ghost use mathlib.Core.Bool.{true};
 ghost use Prim.Native.Nat.{_+_, _≤_};
 ghost use lib.ListN.{length};
 ghost use lib.Seq.{sets};
-ghost use Rattle.tag.specs.Tags.{tagWords};
+ghost use Rattle.tag.specs.Tags.{digitOf, lowOf, tagWords};
 ghost use Rattle.machine.specs.Sides.{sideOf};
 ghost use Rattle.machine.specs.Values.{
   N,
@@ -45,6 +45,22 @@ pub fn number(v: Stored) -> u64
     ensures { λ r. ⌜ r ≡ number v ⌝ }
 {
     tag::number(v.digit, v.word)
+}
+
+// The leading digit of a bag's tag.
+pub fn tag_digit(v: Stored) -> u32
+    requires { ⌜ bagOk v ≡ true ⌝ }
+    ensures { λ r. ⌜ r ≡ digitOf (number v) ⌝ }
+{
+    v.digit
+}
+
+// The number of the nine digits below.
+pub fn tag_low(v: Stored) -> u32
+    requires { ⌜ bagOk v ≡ true ⌝ }
+    ensures { λ r. ⌜ r ≡ lowOf (number v) ⌝ }
+{
+    v.word
 }
 
 // 02: two words for a tag, digit first.

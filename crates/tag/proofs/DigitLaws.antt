@@ -45,7 +45,7 @@ unfolding numberFrom
 number-more [] n d = refl
 number-more (x ∷ xs) n d = number-more xs (n * 10 + x) d
 
-number-of-last : (k n : ℕ) → n < 10 ^ k → numberOf (lastDigits k n) ≡ n
+pub number-of-last : (k n : ℕ) → n < 10 ^ k → numberOf (lastDigits k n) ≡ n
 unfolding lastDigits numberFrom
 number-of-last zero n h = omega arith
 number-of-last (suc k) n h =
