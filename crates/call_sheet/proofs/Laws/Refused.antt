@@ -5,13 +5,12 @@ use mathlib.Core.List.{List, _++_}
 use mathlib.Core.Option.{Option, some, none as nothing}
 use Prim.Native.Nat.{ℕ, _+_, _*_, _-_, _≤_, _<_, min}
 use native.Mathlib.Omega.{arith}
-use lib.Dec.{leb, ltb, eqb}
+use lib.Dec.{ltb}
 use lib.ListN.{length, drop, length-drop}
 use borrow.Author.Tests.{le-leb, lt-leb, lt-ltb, le-ltb, eq-eqb, ne-eqb}
 use Rattle.text_page.specs.Page.{pageLength, heading, tagLineCount, perPage, tagLines, pageText}
 use Rattle.machine.specs.declared.Reply.the-variants.{Accepted, Refused}
 use Rattle.machine.specs.Table.{nodeCount, laneCount}
-use Rattle.machine.specs.Shape.{WellFormed}
 use Rattle.machine.specs.Calls.{unless, tableRefusal, lane}
 use Rattle.machine.specs.Results.{changedOf}
 use Rattle.machine.specs.Sheets.{lastPage, sheetInto, sheet}

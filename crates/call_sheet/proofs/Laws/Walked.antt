@@ -6,7 +6,7 @@ use mathlib.Core.Option.{Option, some, none as nothing}
 use Prim.Native.Nat.{ℕ, suc, _+_, _-_, _≤_, _<_, min}
 use native.Mathlib.Omega.{arith}
 use native.Mathlib.Decide.{decLt}
-use lib.ListN.{length, getD, take, drop, length-drop, drop-of-length-le}
+use lib.ListN.{length, take, drop, length-drop, drop-of-length-le}
 use lib.Seq.{take-all, take-suc, length-take-le}
 use Rattle.tag.specs.Tags.{billion, largestTag, tagOf, digitOf, lowOf}
 use Rattle.tag.proofs.TagLaws.{tag-of-words, low-small}

@@ -1,8 +1,8 @@
 -- The lines of a page stored one after another, and the page that they make.
-use mathlib.Core.Path.{_≡_, refl, sym, ap, _∙_, subst}
+use mathlib.Core.Path.{_≡_, sym, ap, _∙_}
 use mathlib.Core.List.{List, [], _∷_, _++_}
 use mathlib.Core.Option.{some}
-use Prim.Native.Nat.{ℕ, zero, suc, _+_, _*_, _-_, _≤_, _<_, min}
+use Prim.Native.Nat.{ℕ, suc, _+_, _*_, _-_, _≤_, _<_, min}
 use native.Mathlib.Numerals.{add-one}
 use native.Mathlib.Omega.{arith}
 use lib.ListN.{length, take, drop, length-append}
@@ -20,9 +20,7 @@ use Rattle.text_page.specs.Page.{
   cells,
   perLine,
   tagLineCount,
-  perPage,
   tagLines,
-  pageText,
 }
 use Rattle.text_page.proofs.Laws.Lengths.{line-length, heading-length, cells-fit, tag-line-length, tag-lines-length}
 use Rattle.text_page.proofs.Laws.Storing.{stored-whole, stored-over}
@@ -72,16 +70,16 @@ tag-put ws x left counted n more few out at {before} {after} {tag} so-far is-tag
 -- ---- The lines from line i on.
 pub lines-next : (out tags : List ℕ) (i : ℕ) → i < lineCount → {stored rest : List ℕ}
     → stored ≡ sets out (lineLength * i) (line (cells (take perLine tags))) → rest ≡ drop perLine tags
-    → sets stored (lineLength * suc i) (tagLines (lineCount - suc i) rest)
+    → sets stored (lineLength * (i + 1)) (tagLines (lineCount - (i + 1)) rest)
     ≡ sets out (lineLength * i) (tagLines (lineCount - i) tags)
 unfolding tagLines
 lines-next out tags i h {stored} {rest} e f =
     let first = line (cells (take perLine tags)) in
-    let more = tagLines (lineCount - suc i) (drop perLine tags) in
-    let n : lineCount - i ≡ suc (lineCount - suc i) = omega arith in
-    let at : lineLength * suc i ≡ lineLength * i + length first = omega (arith, tag-line-length tags) in
-    ap (λ (l : List ℕ). sets stored (lineLength * suc i) (tagLines (lineCount - suc i) l)) f
-    ∙ ap (λ (l : List ℕ). sets l (lineLength * suc i) more) e
+    let more = tagLines (lineCount - (i + 1)) (drop perLine tags) in
+    let n : lineCount - i ≡ suc (lineCount - (i + 1)) = omega arith in
+    let at : lineLength * (i + 1) ≡ lineLength * i + length first = omega (arith, tag-line-length tags) in
+    ap (λ (l : List ℕ). sets stored (lineLength * (i + 1)) (tagLines (lineCount - (i + 1)) l)) f
+    ∙ ap (λ (l : List ℕ). sets l (lineLength * (i + 1)) more) e
     ∙ ap (λ (k : ℕ). sets (sets out (lineLength * i) first) k more) at
     ∙ sets-append first more out (lineLength * i)
     ∙ ap (λ (k : ℕ). sets out (lineLength * i) (tagLines k tags)) (sym n)

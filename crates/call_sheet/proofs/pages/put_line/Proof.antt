@@ -3,16 +3,13 @@ use mathlib.Core.Path.{_≡_, refl, sym, ap, _∙_, subst}
 use mathlib.Core.Bool.{true}
 use mathlib.Core.List.{List}
 use Prim.Native.Nat.{ℕ, _+_, _*_, _-_, _≤_, _<_, min}
-use native.Mathlib.Numerals.{add-one}
 use native.Mathlib.Omega.{arith}
 use borrow.Author.Needs.{needs}
 use lib.ListN.{length, take}
 use lib.Seq.{sets}
-use Rattle.text.specs.Numerals.{tagText}
 use Rattle.text_page.specs.Page.{line, cellLength, cells, perLine}
-use Rattle.text_page.proofs.Laws.LineStores.{tag-more}
 use Rattle.machine.specs.declared.Stored.{Stored}
-use Rattle.machine.specs.Values.{number, bagOk}
+use Rattle.machine.specs.Values.{bagOk}
 use Rattle.machine.specs.Table.{nodeCount, valueWords}
 use Rattle.lane_walk.specs.Walks.{ahead, nodeAfter}
 use Rattle.lane_walk.proofs.Laws.Places.{TagAt, begins-at, gone-on}
