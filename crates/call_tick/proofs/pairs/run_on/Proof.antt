@@ -72,8 +72,8 @@ shared-slice-read-tick-once-2 c = search needs
 tick-once-requires : tie.Need-tick-once-requires Inv-loop μ-loop
 tick-once-requires c κs = c .before .before .before .before .loop .inv .3
 
-kind-requires : tie.Need-kind-requires Inv-loop μ-loop
-kind-requires c κs = search needs
+is-refusal-requires : tie.Need-is-refusal-requires Inv-loop μ-loop
+is-refusal-requires c κs = search needs
 
 refusal-number-requires : tie.Need-refusal-number-requires Inv-loop μ-loop
 refusal-number-requires c κs = search needs
@@ -94,7 +94,7 @@ returns c =
     let list = turn .before .before .before .before .before .args .list .now in
     rw (c .refusal-number .ensures)
     (run-refused (l .at) (l .made) list (l .table) (l .answers) (pair-here turn) (tick .result) (tick .last .0)
-    (tick .ensures) (sym (c .before .before .kind .ensures) ∙ c .before .if1 .taken)
+    (tick .ensures) (sym (c .before .before .is-refusal .ensures) ∙ c .before .if1 .taken)
     ∙ l .inv .4)
 
 cast-put-answer : tie.Need-cast-put-answer Inv-loop μ-loop
@@ -135,7 +135,7 @@ loop-again c =
       tick-passed (l .table) (l .inv .3) _ _ (tick .ensures),
       rw (put .ensures)
           (run-made (l .at) (l .made) list (l .table) (l .answers) (pair-here turn) (tick .result) (tick .last .0)
-          (tick .ensures) (λ q. e .if1 .left (e .before .kind .ensures ∙ q)) (room-here turn)
+          (tick .ensures) (sym (e .before .is-refusal .ensures) ∙ e .if1 .left) (room-here turn)
           ∙ l .inv .4),
     )
 
@@ -164,7 +164,7 @@ run-on-spec =
     mul-tick-once-2
     shared-slice-read-tick-once-2
     tick-once-requires
-    kind-requires
+    is-refusal-requires
     refusal-number-requires
     same-length
     same-length-2
