@@ -150,12 +150,19 @@ pub enum Refusal {
     Count = 24,
     /// Start: not one to four lanes. A [`Lane`](crate::Lane) has one.
     Lanes = 25,
-    /// Begin, read: no such lane. A [`Lane`](crate::Lane) asks for none.
+    /// Begin, push by list, read: no such lane. A [`Lane`](crate::Lane) asks for none.
     Lane = 26,
+    /// Airline list: a line that is neither form, a 65th line, or no line. [`ListFault`](crate::ListFault) has the
+    /// line, also of the next two.
+    Line = 27,
+    /// Airline list: a code that an earlier line has.
+    Code = 28,
+    /// Airline list: a closing line with a line after it, or a last line that is none.
+    Closing = 29,
 }
 
 impl Refusal {
-    const ALL: [Refusal; 24] = [
+    const ALL: [Refusal; 27] = [
         Refusal::Sizes,
         Refusal::Length,
         Refusal::Table,
@@ -180,6 +187,9 @@ impl Refusal {
         Refusal::Count,
         Refusal::Lanes,
         Refusal::Lane,
+        Refusal::Line,
+        Refusal::Code,
+        Refusal::Closing,
     ];
 
     /// The refusal of a number; none for a number that no call gives.
@@ -235,6 +245,11 @@ impl fmt::Display for Refusal {
             Refusal::Count => "the count does not follow the last one fed",
             Refusal::Lanes => "not one to four lanes",
             Refusal::Lane => "no such lane",
+            Refusal::Line => {
+                "a line of the airline list is neither form, is one too many, or is missing"
+            }
+            Refusal::Code => "an earlier line of the airline list has the code",
+            Refusal::Closing => "the airline list closes before its end, or not at its end",
         };
         write!(formatter, "refused {}: {reason}", self.number())
     }
@@ -360,7 +375,7 @@ mod tests {
     fn every_refusal_is_decoded_once_and_back() {
         for number in (0..=99).chain([u32::MAX]) {
             let refusal = Refusal::from_number(number);
-            let given = matches!(number, 1..=19 | 22..=26);
+            let given = matches!(number, 1..=19 | 22..=29);
             assert_eq!(refusal.map(Refusal::number), given.then_some(number));
         }
     }

@@ -4,8 +4,8 @@ use core::fmt;
 
 use crate::view::{self, View};
 use crate::{
-    ffi, max_ticks_alone, outcome, pair, reply, Answer, Bags, Dispatched, NotStarted, Operation,
-    Ran, Refusal, Side, Snapshot, Tags,
+    ffi, max_ticks_alone, outcome, pair, reply, AirlineList, Answer, Bags, Dispatched, NotStarted,
+    Operation, Ran, Refusal, Side, Snapshot, Tag, Tags,
 };
 
 /// A table with one to four lanes, numbered from 0, and the calls on it. The words are owned (`Vec<u32>`, `[u32; N]`)
@@ -114,6 +114,35 @@ impl<W: AsRef<[u32]> + AsMut<[u32]>> Lanes<W> {
         let (number, side) = (operation.number(), side.number());
         let words = self.words.as_mut();
         reply(ffi::begin(words, task, lane, number, side, digit, argument))
+    }
+
+    /// Gives an idle task a push on a lane, at the end that an airline list names for its tag; else it is such a
+    /// [`Lanes::begin`].
+    ///
+    /// ```
+    /// use lane::{AirlineList, Answer, Lanes, Refusal, Tag};
+    ///
+    /// let list = AirlineList::parse("(airline (code 999) left)\n(others right)\n")?;
+    /// let mut lanes = Lanes::start([0; lane::words(8, 2)], 8, 2, 0, 2)?;
+    /// for tag in [Tag::MIN, Tag::MAX] {
+    ///     lanes.push_by_list(0, 1, tag, &list)?;
+    ///     assert_eq!(lanes.ticks(0, 0, u32::MAX)?, Answer::Pushed);
+    /// }
+    /// assert!(lanes.bags(1)?.eq([Tag::MAX, Tag::MIN]));
+    /// assert_eq!(lanes.push_by_list(1, 0, Tag::MIN, &list), Err(Refusal::Twice));
+    /// # Ok::<(), Refusal>(())
+    /// ```
+    pub fn push_by_list<T: AsRef<[u8]>>(
+        &mut self,
+        task: u32,
+        lane: u32,
+        tag: Tag,
+        list: &AirlineList<T>,
+    ) -> Result<(), Refusal> {
+        let ([digit, low], words) = (tag.words(), self.words.as_mut());
+        let begun = ffi::push_by_list(list.text(), words, task, lane, digit, low);
+        let (refusal, _) = pair(begun);
+        refusal.map_or(Ok(()), Err)
     }
 
     /// Makes one tick of a busy task. If the tick takes a free slot, it is the first one from `hint` (below the number

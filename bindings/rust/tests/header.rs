@@ -34,6 +34,8 @@ fn the_header_has_the_same_numbers() {
         ("LANE_MAX_PANEL_TICKS", lane::MAX_PANEL_TICKS as u32),
         ("LANE_TAG_BYTES", lane::TAG_BYTES as u32),
         ("LANE_LIST_TAGS", lane::LIST_TAGS as u32),
+        ("LANE_LIST_LINES", lane::LIST_LINES as u32),
+        ("LANE_LIST_BYTES", lane::LIST_BYTES as u32),
         ("LANE_MAX_WIDTH", lane::MAX_WIDTH),
         ("LANE_LEFT", Side::Left.number()),
         ("LANE_RIGHT", Side::Right.number()),
