@@ -5,7 +5,7 @@ use std::fmt;
 
 use lane::ffi;
 use reference::table::header;
-use reference::Answer;
+use reference::{airlines, Answer};
 
 use crate::common::calls::whole;
 use crate::common::row::Note;
@@ -16,7 +16,7 @@ use crate::starts;
 /// Calls that are shown when a comparison fails.
 const SHOWN: usize = 40;
 
-/// A call with its numbers, to be shown; of slices the lengths.
+/// A call with its numbers, to be shown; of slices the lengths, of an airline list its text.
 #[derive(Debug)]
 #[allow(dead_code)]
 enum Call {
@@ -24,6 +24,8 @@ enum Call {
     Start([u32; 4]),
     /// Task, call.
     Begin(u32, Note),
+    /// List, task, lane, digit, low part.
+    PushByList(String, [u32; 4]),
     /// Task, hint.
     Tick(u32, u32),
     /// Task, hint, how many.
@@ -122,6 +124,30 @@ impl Both {
         self.compare(proved, number);
         self.done(1, number, second.is_ok());
         second
+    }
+
+    /// A push of these words at the end that a list names; a refusal comes with the list's line, or 0.
+    pub fn push_by_list(
+        &mut self,
+        list: &[u8],
+        task: u32,
+        lane: u32,
+        [digit, low]: [u32; 2],
+    ) -> Result<(), (u32, u32)> {
+        let shown = String::from_utf8_lossy(list).into_owned();
+        self.note(Call::PushByList(shown, [task, lane, digit, low]));
+        let lent = Lent::new(list);
+        let (proved, second) = (self.proved.words_mut(), self.second.words_mut());
+        let proved = ffi::push_by_list(lent.words(), proved, task, lane, digit, low);
+        let second = airlines::push_by_list(lent.words(), second, task, lane, digit, low);
+        self.compare(halves(proved), second.into());
+        assert!(lent == Lent::new(list), "a list was written");
+        let (number, _) = second;
+        self.done(11, number, number == 0);
+        match second {
+            (0, _) => Ok(()),
+            refused => Err(refused),
+        }
     }
 
     pub fn tick(&mut self, task: u32, hint: u32) -> Result<Answer, u32> {

@@ -2,6 +2,7 @@
 
 use reference::table::{content, header, is_tag, node, record, Content, Sizes, MAX_LOW, PUSH};
 
+use crate::airlines;
 use crate::both::Both;
 use crate::common::random::Random;
 use crate::common::row::Note;
@@ -71,6 +72,13 @@ pub fn calls(random: &mut Random, counts: &mut Counts, both: &mut Both) {
                 None => taken = Some(snapshots::take(random, both)),
                 Some(snapshot) => assert_eq!(both.put(snapshot), Ok(())),
             },
+            18 | 19 => {
+                let [low, digit] = some_tag(random, both.table(), sizes);
+                let words = [[digit, low], [random.digit(), random.word()]];
+                let (list, words) = (airlines::any_list(random), random.pick(&words));
+                let given = both.push_by_list(&list, task, lane, words);
+                assert!(!matches!(given, Err((3 | 4, _))), "the shape is broken");
+            }
             _ => {
                 let given = both.tick(task, hint);
                 if matches!(given, Ok(_) | Err(11)) {
@@ -105,7 +113,7 @@ pub fn damaged(random: &mut Random, counts: &mut Counts) {
             digit: random.digit(),
             argument: four,
         };
-        match random.below(24) {
+        match random.below(26) {
             0 | 1 => {
                 let _ = both.start([one, two, three, lane]);
             }
@@ -131,6 +139,10 @@ pub fn damaged(random: &mut Random, counts: &mut Counts) {
             }
             18 | 19 => {
                 let _ = both.put(&words[random.pick(&[0, 0, 0, 1]).min(words.len())..]);
+            }
+            20 | 21 => {
+                let (list, words) = (airlines::any_list(random), [call.digit, four]);
+                let _ = both.push_by_list(&list, one % 20, lane, words);
             }
             _ => {
                 let _ = both.tick(one % 20, two);

@@ -6,6 +6,7 @@
 
 #![forbid(unsafe_code)]
 
+mod airlines;
 mod alone;
 mod apart;
 mod begins;
@@ -104,7 +105,7 @@ fn options() -> Option<Options> {
 }
 
 /// Small tables of every size with every number of lanes that it allows, few and many tasks; a few slots for each of
-/// several lanes; a large one, and tables from anywhere; and tag lists and windows.
+/// several lanes; a large one, and tables from anywhere; and tag lists, airline lists and windows.
 fn round(random: &mut Random, counts: &mut Counts) {
     for nodes in SMALL {
         let first = random.below(LANES.len() as u32) as usize;
@@ -136,6 +137,7 @@ fn round(random: &mut Random, counts: &mut Counts) {
         words::check(random, counts, table);
     }
     lists::check(random, &mut counts.lists);
+    airlines::check(random, counts);
     windows::check(random, &mut counts.windows);
 }
 

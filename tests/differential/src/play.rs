@@ -2,6 +2,7 @@
 //! snapshots taken and put back.
 
 mod adversary;
+mod airlines;
 mod delay;
 mod consecutive;
 mod in_turn;
@@ -277,13 +278,18 @@ impl Play<'_> {
         let wanted = self.row.begin(task, call);
         let given = self.both.begin(task, call);
         assert_eq!(given, wanted, "begin");
+        self.begun(task, call, given);
+        self.check();
+    }
+
+    /// Counts what the begin of a push gave, by a list or not.
+    fn begun(&mut self, task: u32, call: Note, given: Result<(), u32>) {
         if call.operation == PUSH && !matches!(given, Err(5..=7 | 26)) {
             let before = self.both.before();
             let begins = &mut self.counts.begins;
             begins.saw(Origin::Calls, before, task, call, given);
             begins.again += u64::from(given.is_ok() && self.past.contains(&call.tag()));
         }
-        self.check();
     }
 
     /// The tag of a busy push comes again, on its own task or on any, for any end of any lane.
@@ -308,7 +314,11 @@ impl Play<'_> {
         match operation {
             PUSH => {
                 let tag = self.any_tag();
-                self.begin(task, PUSH, end, tag);
+                if self.random.once_in(4) {
+                    self.push_by_list(task, Note::new(end.lane, PUSH, end.side, tag));
+                } else {
+                    self.begin(task, PUSH, end, tag);
+                }
             }
             _ => self.begin_with(task, operation, end),
         }
@@ -559,10 +569,11 @@ impl Play<'_> {
             digit: self.random.digit(),
             argument: four,
         };
-        match self.random.below(4) {
+        match self.random.below(5) {
             0 => self.start([one, two, three, lane]),
             1 => self.begin_call(one, call),
             2 => self.begin_call(one % 20, call),
+            3 => self.push_by_list(one % 20, call),
             _ => self.tick(one, two),
         }
     }
