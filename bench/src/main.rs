@@ -2,6 +2,7 @@
 
 #![forbid(unsafe_code)]
 
+mod airlines;
 mod lines;
 mod lists;
 mod loads;
@@ -124,6 +125,8 @@ fn main() {
     growth(rounds / 2);
     println!();
     lists::rows(rounds);
+    println!();
+    airlines::rows(rounds);
     println!();
     snapshots::rows(rounds);
     println!();
