@@ -99,8 +99,8 @@
  * one line at most. A line ends at a line feed or at the end of the text, and a line feed at the very end opens no
  * further line; a carriage return belongs to its line, which is then no such line. In which order the airlines stand
  * has no say. lane_list_check tests a list, and lane_push_by_list begins a push at the end that the list names for the
- * tag. Both name the first faulty line: check a list when it was edited, show that line to who edited it, and go on
- * with the list that was accepted before. With a faulty one no push begins, whatever the tag.
+ * tag. Both name the first faulty line: check a list when it was edited, show that line, and go on with the list that
+ * was accepted before. With a faulty one no push begins, whatever the tag.
  *
  * LOST SWAPS. A task that finds another one in its way loses the swap of its line, at step 5, 25, 48 or 51, and goes
  * round again; or, a remove at 62, it says "no", which it does also where no other task is about. A window counts such
@@ -546,8 +546,8 @@ uint64_t lane_list_check(const uint8_t *list, size_t list_bytes);
 
 /*
  * Gives an idle task a push on `lane`, at the end that an airline list names for the tag, `digit` and `argument`: that
- * of the line with its code, or else of the closing line. The list is tested first, to its end; all else is as in
- * lane_begin.
+ * of the line with its code, or else of the closing line. The whole list is tested first, wherever that line stands;
+ * all else is as in lane_begin.
  * Returns LANE_REFUSAL: 0, or the refusal: 27, 28, 29 of the list, then 3, 4, 26, 5, 7, 11, 16, 8; LANE_COUNT: for 27,
  * 28 and 29 the line, as in lane_list_check, else 0. Writes the task's thirteen words.
  *
