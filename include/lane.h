@@ -25,15 +25,15 @@
  * Every call takes any words, any lengths and any numbers, and answers them; no call trusts its caller. A refusal
  * leaves all that is lent as it was; only a call of several ticks keeps those before the one refused.
  *
- * POINTERS. Lengths are in words of 32 bits, of a list in packed decimal and of an airline list in bytes. A pointer is
- * aligned for what it points to and valid for its length, and the slices of one call do not overlap: these are the only
- * things that the library cannot test. NULL with length 0 is accepted everywhere, as an empty slice. The library keeps
- * no pointer, allocates nothing and has no state of its own.
+ * POINTERS. Lengths are in words of 32 bits, of a list in packed decimal, of an airline list and of a page in bytes. A
+ * pointer is aligned for what it points to and valid for its length, and the slices of one call do not overlap: these
+ * are the only things that the library cannot test. NULL with length 0 is accepted everywhere, as an empty slice. The
+ * library keeps no pointer, allocates nothing and has no state of its own.
  *
- * THREADS. Different tables may be used by different threads at the same time, and so may reads and takes of one table.
- * All else on one table comes one call after another: the library has no lock and no atomic access. Tag lists, windows
- * and the test of an airline list need no table, and their calls may be made at any time, each with an out slice or a
- * window of its own.
+ * THREADS. Different tables may be used by different threads at the same time, and so may reads, takes and sheets of
+ * one table. All else on one table comes one call after another: the library has no lock and no atomic access. Tag
+ * lists, windows and the test of an airline list need no table, and their calls may be made at any time, each with an
+ * out slice or a window of its own.
  *
  * FOOTPRINT. For x86-64 only. Under 19 kB of code and constants, no data, no heap; of stack under 5.7 kB in the calls
  * that tick, under 0.6 kB in the others; nothing from outside but memset (`make footprint` measures it).
@@ -102,6 +102,13 @@
  * tag. Both name the first faulty line: check a list when it was edited, show that line, and go on with the list that
  * was accepted before. With a faulty one no push begins, whatever the tag.
  *
+ * SHEETS. The shift office prints 80 columns by 60 lines. A page is 60 lines of exactly 80 bytes, each with a line feed
+ * after it: LANE_PAGE_BYTES bytes in all, and no 0 at the end. Its first line is the heading, `LANE`, a space and the
+ * bags of the whole lane in four digits. Each further line has the next seven tags, or those left, left end first: ten
+ * digits and one blank for each. Blanks fill the lines. A page takes LANE_PAGE_TAGS tags, and the pages are numbered
+ * from 0; LANE_PAGES of them hold every lane. lane_sheet writes the page that the caller names. A page past the last
+ * tag has its heading and blank lines, so it does no harm to print all three. The heading does not name the lane.
+ *
  * LOST SWAPS. A task that finds another one in its way loses the swap of its line, at step 5, 25, 48 or 51, and goes
  * round again; or, a remove at 62, it says "no", which it does also where no other task is about. A window counts such
  * ticks among the last W: a number that rises while tasks fight over an end. lane_window makes one, lane_feed feeds it
@@ -136,7 +143,7 @@ extern "C" {
  * an older format is refused with 3, since its length does not fit its sizes, and so is one of this format by an older
  * library.
  */
-#define LANE_VERSION "6.4.0"
+#define LANE_VERSION "6.5.0"
 #define LANE_TABLE_FORMAT 4
 
 /*
@@ -178,6 +185,11 @@ extern "C" {
 #define LANE_LIST_TAGS 1024     /* the most of one tag list */
 #define LANE_LIST_LINES 64      /* the most of one airline list, with the closing one */
 #define LANE_LIST_BYTES 1716    /* the most of one airline list that is accepted */
+#define LANE_PAGES 3            /* of the shift sheet, for any lane */
+#define LANE_PAGE_TAGS 413      /* the most of one page */
+#define LANE_PAGE_LINES 60      /* of a page, the heading with them */
+#define LANE_PAGE_COLUMNS 80    /* bytes of a line, without its line feed */
+#define LANE_PAGE_BYTES 4860    /* of a page */
 #define LANE_MAX_WIDTH 4096     /* ticks that a window looks back on */
 #define LANE_MIN_WORDS 37       /* of a table */
 #define LANE_MAX_WORDS 4320
@@ -228,11 +240,13 @@ extern "C" {
 #define LANE_REFUSED_TAGS 17     /* tag list: not a whole number of tags, or more than 1,024 */
 #define LANE_REFUSED_NO_TAG 18   /* tag list: a place holds no tag */
 #define LANE_REFUSED_TAGS_OUT 19 /* tag list: out slice too short for it */
+#define LANE_REFUSED_PAGE 20     /* sheet: page above 2 */
+#define LANE_REFUSED_PAGE_OUT 21 /* sheet: out slice not 4,860 bytes */
 #define LANE_REFUSED_SNAPSHOT 22 /* take, put: the snapshot and the table differ in length */
 #define LANE_REFUSED_WINDOW 23   /* window: width out of range, not so long, or a word that no feed leaves there */
 #define LANE_REFUSED_COUNT 24    /* window: a count that is not the one after the last */
 #define LANE_REFUSED_LANES 25    /* start: not one to four lanes */
-#define LANE_REFUSED_LANE 26     /* begin, push by list, read: no such lane */
+#define LANE_REFUSED_LANE 26     /* begin, push by list, read, sheet: no such lane */
 #define LANE_REFUSED_LINE 27     /* airline list: a line that is neither form, a 65th line, or no line */
 #define LANE_REFUSED_CODE 28     /* airline list: a code that an earlier line has */
 #define LANE_REFUSED_CLOSING 29  /* airline list: a closing line with a line after it, or a last line that is none */
@@ -442,6 +456,36 @@ uint64_t lane_panel(uint32_t *table, size_t words, const uint32_t *list, size_t 
  * ```
  */
 uint64_t lane_read(const uint32_t *table, size_t words, uint32_t lane, uint32_t *out, size_t out_words);
+
+/*
+ * Writes a page, from 0, of the shift sheet of `lane`.
+ * Returns 0, or a refusal: 3, 4, 26, 11, 20, 21. 20 is for a page above 2, 21 for an `out` that is not LANE_PAGE_BYTES
+ * long, be it shorter or longer; both come after the lane is walked as by lane_read (11). Writes every byte of `out`.
+ *
+ * ```c
+ * #include <string.h>
+ * #include "lane.h"
+ *
+ * int main(void) {
+ *     static uint32_t table[LANE_WORDS(12, 1)];
+ *     static uint8_t page[LANE_PAGE_BYTES];
+ *     size_t words = LANE_WORDS(12, 1), line = LANE_PAGE_COLUMNS + 1;
+ *     if (lane_start(table, words, 12, 1, 0, 1) != 0) {
+ *         return 1;
+ *     }
+ *     for (uint64_t tag = 51; tag < 59; tag++) {
+ *         if (LANE_KIND(lane_call(table, words, 0, 0, LANE_PUSH, LANE_RIGHT, tag)) != LANE_PUSHED) {
+ *             return 1;
+ *         }
+ *     }
+ *     if (lane_sheet(table, words, 0, 0, page, LANE_PAGE_BYTES) != 0 || memcmp(page, "LANE 0008 ", 10) != 0) {
+ *         return 1;
+ *     }
+ *     return memcmp(page + line, "0000000051 ", 11) == 0 && memcmp(page + 2 * line, "0000000058  ", 12) == 0 ? 0 : 1;
+ * }
+ * ```
+ */
+uint32_t lane_sheet(const uint32_t *table, size_t words, uint32_t lane, uint32_t page, uint8_t *out, size_t out_bytes);
 
 /*
  * Takes a snapshot of a table: its words by columns, as many as the table has.
@@ -765,6 +809,10 @@ static inline const char *lane_refusal_text(uint32_t refusal) {
         return "a place of the tag list holds no tag";
     case LANE_REFUSED_TAGS_OUT:
         return "the out slice is too short for the tag list";
+    case LANE_REFUSED_PAGE:
+        return "no such page of the sheet";
+    case LANE_REFUSED_PAGE_OUT:
+        return "the out slice is not as long as a page";
     case LANE_REFUSED_SNAPSHOT:
         return "the snapshot and the table differ in length";
     case LANE_REFUSED_WINDOW:

@@ -52,6 +52,14 @@ mod library {
             out: *mut u32,
             out_words: usize,
         ) -> u64;
+        pub fn lane_sheet(
+            table: *const u32,
+            words: usize,
+            lane: u32,
+            page: u32,
+            out: *mut u8,
+            out_bytes: usize,
+        ) -> u32;
         pub fn lane_take(
             table: *const u32,
             words: usize,
@@ -266,6 +274,25 @@ pub fn panel(table: &mut [u32], list: &[u32], answers: &mut [u32]) -> u64 {
 pub fn read(table: &[u32], lane: u32, out: &mut [u32]) -> u64 {
     let (pointer, words) = (table.as_ptr(), table.len());
     unsafe { library::lane_read(pointer, words, lane, out.as_mut_ptr(), out.len()) }
+}
+
+/// Writes a page, 0 to 2, of the shift sheet of a lane, 4,860 bytes: 0, or the refusal.
+///
+/// ```
+/// use lane::ffi;
+///
+/// let mut table = [0; 45];
+/// let mut page = [0; 4860];
+/// assert_eq!(ffi::start(&mut table, 4, 1, 0, 2), 0);
+/// assert_eq!(ffi::sheet(&table, 1, 0, &mut page), 0);
+/// assert!(page.starts_with(b"LANE 0000 "));
+/// assert_eq!(ffi::sheet(&table, 1, 0, &mut page[1..]), 21);
+/// assert_eq!(ffi::sheet(&table, 1, 3, &mut page[1..]), 20);
+/// assert_eq!(ffi::sheet(&table, 2, 3, &mut page[1..]), 26);
+/// ```
+pub fn sheet(table: &[u32], lane: u32, page: u32, out: &mut [u8]) -> u32 {
+    let (pointer, words) = (table.as_ptr(), table.len());
+    unsafe { library::lane_sheet(pointer, words, lane, page, out.as_mut_ptr(), out.len()) }
 }
 
 /// Takes a snapshot of a table, its words by columns: 0, or the refusal.

@@ -4,7 +4,7 @@ use core::fmt;
 use core::ops::{Deref, DerefMut};
 
 use crate::{
-    view, AirlineList, Answer, Bags, Lanes, NotStarted, Operation, Refusal, Side, Tag, Tags,
+    view, AirlineList, Answer, Bags, Lanes, NotStarted, Operation, Page, Refusal, Side, Tag, Tags,
 };
 
 /// A table with one lane and the calls on it. The words are owned (`Vec<u32>`, `[u32; N]`) or lent (`&mut [u32]`;
@@ -183,6 +183,22 @@ impl<W: AsRef<[u32]>> Lane<W> {
     /// ```
     pub fn bags(&self) -> Result<Bags<'_>, Refusal> {
         self.table.bags(0)
+    }
+
+    /// A page of the shift sheet of the lane, as [`Lanes::sheet`] gives it.
+    ///
+    /// ```
+    /// use lane::{Lane, Operation, Side, Tag};
+    ///
+    /// let mut lane = Lane::start([0; lane::words(4, 1)], 4, 1, 0)?;
+    /// let _ = lane.call(0, Operation::Push(Tag::MAX), Side::Right)?;
+    /// let page = lane.sheet(0)?;
+    /// let lines: Vec<&str> = page.lines().map(str::trim_end).take(3).collect();
+    /// assert_eq!(lines, ["LANE 0001", "9999999999", ""]);
+    /// # Ok::<(), lane::Refusal>(())
+    /// ```
+    pub fn sheet(&self, page: u32) -> Result<Page, Refusal> {
+        self.table.sheet(0, page)
     }
 
     /// The table, given back.

@@ -5,7 +5,7 @@ use core::fmt;
 use crate::view::{self, View};
 use crate::{
     ffi, max_ticks_alone, outcome, pair, reply, AirlineList, Answer, Bags, Dispatched, NotStarted,
-    Operation, Ran, Refusal, Side, Snapshot, Tag, Tags,
+    Operation, Page, Ran, Refusal, Side, Snapshot, Tag, Tags,
 };
 
 /// A table with one to four lanes, numbered from 0, and the calls on it. The words are owned (`Vec<u32>`, `[u32; N]`)
@@ -392,6 +392,27 @@ impl<W: AsRef<[u32]>> Lanes<W> {
     /// ```
     pub fn bags(&self, lane: u32) -> Result<Bags<'_>, Refusal> {
         view::bags(self.words(), lane)
+    }
+
+    /// A page of the shift sheet of a lane. The pages are numbered from 0, and [`PAGES`](crate::PAGES) of them hold
+    /// every lane; one past the last tag has its heading and blank lines.
+    ///
+    /// ```
+    /// use lane::{Lanes, Operation, Refusal, Side, Tag};
+    ///
+    /// let mut lanes = Lanes::start([0; lane::words(8, 1)], 8, 1, 0, 2)?;
+    /// for tag in [Tag::MAX, Tag::MIN] {
+    ///     let _ = lanes.call(0, 1, Operation::Push(tag), Side::Right)?;
+    /// }
+    /// let page = lanes.sheet(1, 0)?;
+    /// let lines: Vec<&str> = page.lines().map(str::trim_end).take(3).collect();
+    /// assert_eq!(lines, ["LANE 0002", "9999999999 0000000001", ""]);
+    /// assert_eq!(lanes.sheet(1, 3), Err(Refusal::Page));
+    /// assert_eq!(lanes.sheet(2, 0), Err(Refusal::Lane));
+    /// # Ok::<(), Refusal>(())
+    /// ```
+    pub fn sheet(&self, lane: u32, page: u32) -> Result<Page, Refusal> {
+        Page::of(self.words(), lane, page)
     }
 
     /// Takes a snapshot: every word of it is written. It is as long as the table, else [`Refusal::Snapshot`].
