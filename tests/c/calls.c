@@ -254,6 +254,70 @@ static void pushes_by_list(void) {
     EXPECT(memcmp(copy, table, sizeof copy) == 0);
 }
 
+/* The page of a lane with the tags 1 to `bags`, each times a number that brings in all digits, as it is to be. */
+static void page_of(uint32_t bags, uint32_t page, char *text) {
+    uint32_t next = LANE_PAGE_TAGS * page;
+    for (int line = 0; line < LANE_PAGE_LINES; line++) {
+        int column = line == 0 ? sprintf(text, "LANE %04u", (unsigned)bags) : 0;
+        for (int i = 0; line > 0 && i < 7 && next < bags; i++, next++) {
+            column += sprintf(text + column, "%010lu ", (unsigned long)(next + 1) * 9765432);
+        }
+        memset(text + column, ' ', (size_t)(LANE_PAGE_COLUMNS - column));
+        text[LANE_PAGE_COLUMNS] = '\n';
+        text += LANE_PAGE_COLUMNS + 1;
+    }
+}
+
+/* Every page of lanes with none to the most bags, about the ends of lines and of pages; what is around it stays. */
+static void sheets(void) {
+    static const uint32_t counts[] = {0, 1, 6, 7, 8, 412, 413, 414, 826, 827, LANE_MAX_BAGS(LANE_MAX_SLOTS, 1)};
+    static char wanted[LANE_PAGE_BYTES + 1];
+    static uint8_t out[LANE_PAGE_BYTES + 2];
+    static const size_t words = LANE_WORDS(LANE_MAX_SLOTS, 1);
+    uint32_t bags = 0;
+    EXPECT(LANE_PAGE_BYTES == LANE_PAGE_LINES * (LANE_PAGE_COLUMNS + 1));
+    EXPECT(LANE_PAGE_TAGS == 7 * (LANE_PAGE_LINES - 1) && LANE_PAGES * LANE_PAGE_TAGS > LANE_MAX_SLOTS);
+    EXPECT(lane_start(table, words, LANE_MAX_SLOTS, 1, LANE_MAX_GROWTH, 1) == 0);
+    for (size_t i = 0; i < sizeof counts / sizeof counts[0]; i++) {
+        for (; bags < counts[i]; bags++) {
+            uint64_t tag = (uint64_t)(bags + 1) * 9765432;
+            EXPECT(lane_call(table, words, 0, 0, LANE_PUSH, LANE_RIGHT, tag) == ANSWER(LANE_PUSHED, 0));
+        }
+        for (uint32_t page = 0; page < LANE_PAGES; page++) {
+            memset(out, 0xa5, sizeof out);
+            EXPECT(lane_sheet(table, words, 0, page, out + 1, LANE_PAGE_BYTES) == 0);
+            page_of(bags, page, wanted);
+            EXPECT(memcmp(out + 1, wanted, LANE_PAGE_BYTES) == 0);
+            EXPECT(out[0] == 0xa5 && out[LANE_PAGE_BYTES + 1] == 0xa5);
+        }
+    }
+}
+
+/* A sheet's refusals, each before the next, on a table of two lanes of which one cannot be read; no byte is written. */
+static void sheet_refusals(void) {
+    static uint8_t out[LANE_PAGE_BYTES + 1];
+    static const size_t lengths[] = {0, LANE_PAGE_COLUMNS, LANE_PAGE_BYTES - 1, LANE_PAGE_BYTES + 1};
+    memset(out, 0xa5, sizeof out);
+    EXPECT(lane_start(table, WORDS, SLOTS, TASKS, 0, 2) == 0);
+    table[16 + 4 * 2 + 1] = 65535; /* the link to the right of lane 1's left end made none, which no call does */
+    table[15] = 1;
+    EXPECT(lane_sheet(table, WORDS - 1, 2, LANE_PAGES, out, 0) == LANE_REFUSED_TABLE);
+    EXPECT(lane_sheet(table, WORDS, 2, LANE_PAGES, out, 0) == LANE_REFUSED_SHAPE);
+    table[15] = 0;
+    EXPECT(lane_sheet(table, WORDS, 2, LANE_PAGES, out, 0) == LANE_REFUSED_LANE);
+    EXPECT(lane_sheet(table, WORDS, 1, LANE_PAGES, out, 0) == LANE_REFUSED_NO_SLOT);
+    for (size_t i = 0; i < sizeof lengths / sizeof lengths[0]; i++) {
+        EXPECT(lane_sheet(table, WORDS, 0, LANE_PAGES, out, lengths[i]) == LANE_REFUSED_PAGE);
+        EXPECT(lane_sheet(table, WORDS, 0, UINT32_MAX, out, lengths[i]) == LANE_REFUSED_PAGE);
+        EXPECT(lane_sheet(table, WORDS, 0, LANE_PAGES - 1, out, lengths[i]) == LANE_REFUSED_PAGE_OUT);
+    }
+    EXPECT(lane_sheet(table, WORDS, 0, LANE_PAGES, out, LANE_PAGE_BYTES) == LANE_REFUSED_PAGE);
+    for (size_t i = 0; i < sizeof out; i++) {
+        EXPECT(out[i] == 0xa5);
+    }
+    EXPECT(lane_sheet(table, WORDS, 0, LANE_PAGES - 1, out, LANE_PAGE_BYTES) == 0);
+}
+
 /* Every refusal that a caller can ask for comes with its number, and every number has a text of its own. */
 static void refusals(void) {
     begin_again();
@@ -285,7 +349,7 @@ static void refusals(void) {
     EXPECT(begin(1, LANE_POP, LANE_LEFT, 0) == 0);
 
     for (uint32_t one = 0; one <= LANE_REFUSED_CLOSING + 1; one++) {
-        int given = one <= LANE_REFUSED_TAGS_OUT || (one >= LANE_REFUSED_SNAPSHOT && one <= LANE_REFUSED_CLOSING);
+        int given = one <= LANE_REFUSED_CLOSING;
         EXPECT(strlen(lane_refusal_text(one)) > 0);
         EXPECT(given == (strcmp(lane_refusal_text(one), lane_refusal_text(4294967295u)) != 0));
         for (uint32_t other = 0; given && other < one; other++) {
@@ -344,6 +408,8 @@ static void empty_slices(void) {
     begin_again();
     EXPECT(lane_take(table, WORDS, NULL, 0) == LANE_REFUSED_SNAPSHOT);
     EXPECT(lane_put(table, WORDS, NULL, 0) == LANE_REFUSED_SNAPSHOT);
+    EXPECT(lane_sheet(NULL, 0, 0, 0, NULL, 0) == LANE_REFUSED_TABLE);
+    EXPECT(lane_sheet(table, WORDS, 0, 0, NULL, 0) == LANE_REFUSED_PAGE_OUT);
     EXPECT(lane_run(table, WORDS, NULL, 0, NULL, 0) == 0);
     EXPECT(lane_run(table, WORDS, NULL, 0, answers, 3) == 0);
     EXPECT(lane_panel(table, WORDS, NULL, 0, NULL, 0) == 0);
@@ -719,6 +785,8 @@ int main(void) {
     tag_lists();
     airline_lists();
     pushes_by_list();
+    sheets();
+    sheet_refusals();
     refusals();
     pairs();
     empty_slices();

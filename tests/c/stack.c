@@ -13,7 +13,7 @@ static uint32_t table[WORDS], snapshot[WORDS], out[LANE_TAG_WORDS * SLOTS];
 static uint32_t tags[LANE_TAG_WORDS * LANE_LIST_TAGS];
 static uint8_t tag_list[LANE_TAG_BYTES * LANE_LIST_TAGS];
 static uint32_t list[2 * LANE_MAX_TICKS], answers[LANE_ANSWER_WORDS * LANE_MAX_TICKS];
-static uint8_t airlines[LANE_LIST_BYTES + 1];
+static uint8_t airlines[LANE_LIST_BYTES + 1], page[LANE_PAGE_BYTES];
 static uint32_t window[LANE_WINDOW_WORDS(LANE_MAX_WIDTH)];
 static unsigned char stack[SPACE];
 static ucontext_t here, there;
@@ -54,6 +54,10 @@ static void dispatches(void) {
 
 static void read_lane(void) {
     lane_read(table, WORDS, LAST, out, LANE_TAG_WORDS * SLOTS);
+}
+
+static void sheet(void) {
+    lane_sheet(table, WORDS, LAST, 0, page, LANE_PAGE_BYTES);
 }
 
 static void take(void) {
@@ -125,6 +129,7 @@ int main(void) {
     print("dispatch", touched(dispatch), 5700);     /* the panel's add goes on, and takes a slot */
     print("dispatches", touched(dispatches), 5700); /* more of them */
     print("read", touched(read_lane), 600);
+    print("sheet", touched(sheet), 600);
     print("take", touched(take), 600);
     print("put", touched(put), 600);
     memset(tag_list, 0x99, sizeof tag_list);

@@ -5,7 +5,7 @@ use std::fmt;
 
 use lane::ffi;
 use reference::table::header;
-use reference::{airlines, Answer};
+use reference::{airlines, sheet, Answer};
 
 use crate::common::calls::whole;
 use crate::common::row::Note;
@@ -40,6 +40,8 @@ enum Call {
     Panel(usize, usize),
     /// Lane, words of the out slice.
     Read(u32, usize),
+    /// Lane, page, bytes of the out slice.
+    Sheet(u32, u32, usize),
     /// Words of the snapshot.
     Take(usize),
     /// The same.
@@ -256,6 +258,35 @@ impl Both {
         );
         self.done(5, reading.err().unwrap_or(0), false);
         reading.map(|_| whole(tags))
+    }
+
+    /// Gives a page of a lane, or the refusal; the out slice had `content` in every byte.
+    pub fn sheet(
+        &mut self,
+        lane: u32,
+        page: u32,
+        length: usize,
+        content: u8,
+    ) -> Result<Vec<u8>, u32> {
+        self.note(Call::Sheet(lane, page, length));
+        let mut proved = Lent::new(&vec![content; length]);
+        let mut second = proved.clone();
+        let given = ffi::sheet(self.proved.words(), lane, page, proved.words_mut());
+        let number = sheet::sheet(self.second.words(), lane, page, second.words_mut());
+        self.compare(given, number);
+        if let Some(place) = proved.first_other(&second) {
+            panic!("the programs differ in a page, first at byte {place}");
+        }
+        let bytes = second.words();
+        assert!(
+            number == 0 || bytes.iter().all(|&byte| byte == content),
+            "a sheet that was refused wrote"
+        );
+        self.done(12, number, false);
+        match number {
+            0 => Ok(bytes.to_vec()),
+            _ => Err(number),
+        }
     }
 
     /// Gives the snapshot, or the refusal; its slice had `content` in every word.

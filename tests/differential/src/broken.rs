@@ -10,6 +10,7 @@ use crate::common::tables::{shaped_of, sizes};
 use crate::counts::{Counts, Origin};
 use crate::dispatches;
 use crate::consecutive;
+use crate::sheets;
 use crate::snapshots;
 
 /// Calls on a well-shaped table.
@@ -79,6 +80,7 @@ pub fn calls(random: &mut Random, counts: &mut Counts, both: &mut Both) {
                 let given = both.push_by_list(&list, task, lane, words);
                 assert!(!matches!(given, Err((3 | 4, _))), "the shape is broken");
             }
+            20 => sheets::any(random, counts, both, lane),
             _ => {
                 let given = both.tick(task, hint);
                 if matches!(given, Ok(_) | Err(11)) {
@@ -113,7 +115,7 @@ pub fn damaged(random: &mut Random, counts: &mut Counts) {
             digit: random.digit(),
             argument: four,
         };
-        match random.below(26) {
+        match random.below(27) {
             0 | 1 => {
                 let _ = both.start([one, two, three, lane]);
             }
@@ -144,6 +146,7 @@ pub fn damaged(random: &mut Random, counts: &mut Counts) {
                 let (list, words) = (airlines::any_list(random), [call.digit, four]);
                 let _ = both.push_by_list(&list, one % 20, lane, words);
             }
+            22 => sheets::any(random, counts, &mut both, lane),
             _ => {
                 let _ = both.tick(one % 20, two);
             }

@@ -17,6 +17,7 @@ use crate::consecutive::Consecutive;
 use crate::lists::Lists;
 use crate::one_user::played::Users;
 use crate::outcomes::{Leads, Outcome, OUTCOMES};
+use crate::sheets::Sheets;
 use crate::snapshots::Snapshots;
 use crate::starts;
 use crate::stretch::Stretches;
@@ -24,7 +25,7 @@ use crate::windows::Windows;
 use crate::words::Words;
 
 /// The calls, and what each can give by the paper; 0 stands for no refusal.
-const GIVEN: [(&str, &[usize]); 12] = [
+const GIVEN: [(&str, &[usize]); 13] = [
     ("start", &[0, 1, 2, 25]),
     ("begin", &[0, 3, 4, 5, 6, 7, 8, 11, 16, 26]),
     ("tick", &[0, 3, 4, 5, 9, 10, 11]),
@@ -37,6 +38,7 @@ const GIVEN: [(&str, &[usize]); 12] = [
     ("take", &[0, 3, 4, 22]),
     ("put", &[0, 3, 4, 22]),
     ("push by list", &[0, 3, 4, 5, 7, 8, 11, 16, 26, 27, 28, 29]),
+    ("sheet", &[0, 3, 4, 11, 20, 21, 26]),
 ];
 /// All steps that change the digit of a node, and whether a table that start and the calls reach shows it.
 const CHANGE: [(u32, bool); 5] = [(5, true), (28, false), (31, false), (51, true), (78, false)];
@@ -100,6 +102,8 @@ pub struct Counts {
     pub lists: Lists,
     /// Airline lists.
     pub airlines: Airlines,
+    /// Pages of the shift sheet.
+    pub sheets: Sheets,
     /// Snapshots put back.
     pub snapshots: Snapshots,
     /// Windows of lost swaps.
@@ -127,6 +131,7 @@ impl Counts {
             users: Users::default(),
             lists: Lists::default(),
             airlines: Airlines::default(),
+            sheets: Sheets::default(),
             snapshots: Snapshots::default(),
             windows: Windows::default(),
         }
@@ -226,6 +231,7 @@ impl Counts {
         faults.extend(self.users.report());
         faults.extend(self.lists.report());
         faults.extend(self.airlines.report());
+        faults.extend(self.sheets.report());
         faults.extend(self.snapshots.report());
         faults.extend(self.windows.report());
         faults

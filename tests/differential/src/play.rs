@@ -22,6 +22,7 @@ use crate::common::row::{Note, Row};
 use crate::counts::{Counts, Origin};
 use crate::idle;
 use crate::one_user::played;
+use crate::sheets;
 use crate::words;
 
 /// Which operations prevail for a while.
@@ -104,7 +105,7 @@ pub fn play(random: &mut Random, counts: &mut Counts, sizes: Sizes, calls: u32) 
 
 impl Play<'_> {
     fn call(&mut self) {
-        match self.random.below(116) {
+        match self.random.below(118) {
             0..=54 => {
                 let (task, hint) = self.pair();
                 if matches!(self.row.notes.get(task as usize), Some(None)) {
@@ -146,6 +147,7 @@ impl Play<'_> {
             110 if self.random.once_in(3) => self.put_other(),
             111 if self.random.once_in(4) => self.again(),
             111 if self.random.once_in(8) => self.other_sizes(),
+            112 | 113 => self.sheet(),
             _ => self.favourite = self.random.below(self.sizes.tasks),
         }
     }
@@ -228,12 +230,28 @@ impl Play<'_> {
         }
     }
 
-    /// Of any lane, sometimes one that there is not, to an out slice of any length.
-    fn read(&mut self) {
-        let lane = match self.random.below(8) {
+    /// Any lane, sometimes one that there is not.
+    fn any_lane(&mut self) -> u32 {
+        match self.random.below(8) {
             0 => self.random.word(),
             _ => self.random.below(self.sizes.lanes + 1),
-        };
+        }
+    }
+
+    /// A page of a lane, to an out slice of any length.
+    fn sheet(&mut self) {
+        let lane = self.any_lane();
+        let (number, length) = sheets::some_page(self.random);
+        let content = self.random.word() as u8;
+        let given = self.both.sheet(lane, number, length, content);
+        let row = self.row.tags.get_mut(lane as usize);
+        let tags = row.map_or(Err(26), |row| Ok(&*row.make_contiguous()));
+        sheets::hold(self.counts, &given, tags, number, length);
+    }
+
+    /// A lane, to an out slice of any length.
+    fn read(&mut self) {
+        let lane = self.any_lane();
         let length = self.random.below(2 * self.sizes.nodes + 2) as usize;
         let content = self.random.word();
         let wanted = match self.row.tags.get(lane as usize) {

@@ -174,6 +174,7 @@ pub fn check(random: &mut Random, counts: &mut Counts, mut table: Vec<u32>) {
         assert_eq!(both.dispatch(0), Err(gives), "{name}");
         assert_eq!(both.panel(&[], 0, 0).0, gives, "{name}");
         assert_eq!(both.read(0, 0, 0), Err(gives), "{name}");
+        assert_eq!(both.sheet(0, 0, 0, 0), Err(gives), "{name}");
         snapshots::turned_back(&mut both, gives);
     }
     counts.add(&both.given);
