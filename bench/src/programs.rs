@@ -17,6 +17,8 @@ pub struct Program {
     pub run: fn(&mut [u32], &[u32], &mut [u32]) -> u64,
     /// The tags of a lane.
     pub read: fn(&[u32], u32, &mut [u32]) -> u64,
+    /// A page of the shift sheet: lane and page.
+    pub sheet: fn(&[u32], u32, u32, &mut [u8]) -> u32,
     /// A snapshot of a table.
     pub take: fn(&[u32], &mut [u32]) -> u32,
     /// A snapshot put back to a table.
@@ -43,6 +45,7 @@ pub const PROVED: Program = Program {
     dispatch: ffi::dispatch,
     run: ffi::run,
     read: ffi::read,
+    sheet: ffi::sheet,
     take: ffi::take,
     put: ffi::put,
     read_tags: ffi::tags_read,
@@ -70,6 +73,7 @@ pub const RUST: Program = Program {
         Ok(count) => u64::from(count),
         Err(number) => pair((number, 0)),
     },
+    sheet: reference::sheet::sheet,
     take: |table, snapshot| refusal(reference::take(table, snapshot)),
     put: |snapshot, table| refusal(reference::put(snapshot, table)),
     read_tags: |bytes, words| pair(reference::read_tags(bytes, words)),
