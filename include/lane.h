@@ -107,7 +107,7 @@
  * bags of the whole lane in four digits. Each further line has the next seven tags, or those left, left end first: ten
  * digits and one blank for each. Blanks fill the lines. A page takes LANE_PAGE_TAGS tags, and the pages are numbered
  * from 0; LANE_PAGES of them hold every lane. lane_sheet writes the page that the caller names. A page past the last
- * tag has its heading and blank lines, so it does no harm to print all three. The heading does not name the lane.
+ * tag has its heading and blank lines. The heading does not name the lane.
  *
  * LOST SWAPS. A task that finds another one in its way loses the swap of its line, at step 5, 25, 48 or 51, and goes
  * round again; or, a remove at 62, it says "no", which it does also where no other task is about. A window counts such

@@ -1,4 +1,7 @@
-/* An airline list: edits of it are checked, and the accepted one says at which end each bag is loaded. */
+/*
+ * An airline list: edits of it are checked, and the accepted one says at which end each bag is loaded; then the lane on
+ * the shift sheet.
+ */
 #include <inttypes.h>
 #include <stdio.h>
 #include <stdlib.h>
@@ -68,6 +71,18 @@ static void print_lane(void) {
     puts("");
 }
 
+/* The lines of a page that are not blank. */
+static void print_page(uint32_t number) {
+    static uint8_t page[LANE_PAGE_BYTES];
+    check(lane_sheet(table, WORDS, 0, number, page, LANE_PAGE_BYTES));
+    for (size_t line = 0; line < LANE_PAGE_LINES; line++) {
+        const char *text = (const char *)page + line * (LANE_PAGE_COLUMNS + 1);
+        if (text[0] != ' ') {
+            printf("  |%.*s|\n", LANE_PAGE_COLUMNS, text);
+        }
+    }
+}
+
 int main(void) {
     static const uint64_t tags[] = {1250000051, UINT64_C(9125000052), 20000053, 54};
     const char *list = NULL;
@@ -88,5 +103,11 @@ int main(void) {
         load(list, tags[i]);
         print_lane();
     }
+
+    puts("five more of airline 125, and the first page of the shift sheet");
+    for (uint64_t tag = 125000055; tag < 125000060; tag++) {
+        load(list, tag);
+    }
+    print_page(0);
     return 0;
 }

@@ -1,5 +1,5 @@
-//! An airline list: edits of it are checked, and the accepted one says at which end each bag is loaded:
-//! `cargo run --example airlines`.
+//! An airline list: edits of it are checked, and the accepted one says at which end each bag is loaded; then the lane on
+//! the shift sheet: `cargo run --example airlines`.
 
 use lane::{AirlineList, Answer, Lane, Refusal, Tag};
 
@@ -30,6 +30,15 @@ fn main() -> Result<(), Refusal> {
     for tag in [1_250_000_051, 9_125_000_052, 20_000_053, 54] {
         load(&mut lane, &list, tag)?;
         print_lane(&lane)?;
+    }
+
+    println!("five more of airline 125, and the first page of the shift sheet");
+    for tag in 125_000_055..125_000_060 {
+        load(&mut lane, &list, tag)?;
+    }
+    let page = lane.sheet(0)?;
+    for line in page.lines().filter(|line| !line.starts_with(' ')) {
+        println!("  |{line}|");
     }
     Ok(())
 }
