@@ -6,12 +6,17 @@ use Rattle.machine.specs.declared.Dispatch.{Dispatch}
 use Rattle.machine.specs.declared.Reading.{Reading}
 use Rattle.machine.specs.declared.Reading.the-variants.{Count, Refused}
 use Rattle.machine.specs.declared.Ran.{Ran}
-use Rattle.machine.specs.Answers.{kindOf, payloadOf, dispatchKindOf, dispatchPayloadOf}
+use Rattle.machine.specs.Answers.{kindOf, payloadOf, dispatchKindOf, dispatchPayloadOf, replyNumber}
+use Rattle.airline_list.specs.declared.Checked.{Checked}
+use Rattle.airline_list.specs.declared.Checked.the-variants.{Accepted, Faulty as Checked-Faulty}
+use Rattle.machine.specs.declared.ByList.{ByList}
+use Rattle.machine.specs.declared.ByList.the-variants.{Replied, Faulty}
 use Rattle.tag_lists.specs.TagLists as TagLists
 use Rattle.window.specs.Window as Window
 
 -- Two words in one number of 64 bits. In what a run, a panel's list, a read, a tag list and a feed give, the high one
--- is the refusal or 0 and the low one the count, or the place of 18.
+-- is the refusal or 0 and the low one the count, or the place of 18; in what a push by list and the check of a list
+-- give, the faulty line.
 abbrev pub pairOf : (high low : ℕ) → ℕ
 pairOf high low = high * 2 ^ 32 + low
 
@@ -46,3 +51,13 @@ freshNumber made = cond made 0 23
 abbrev pub fedNumber : Window.Answer → ℕ
 fedNumber (Window.lost swaps) = pairOf 0 swaps
 fedNumber (Window.refused number) = pairOf number 0
+
+-- 2026-13: 0 for an accepted list, or the number of its fault with the faulty line.
+abbrev pub checkedNumber : Checked → ℕ
+checkedNumber Accepted = pairOf 0 0
+checkedNumber (Checked-Faulty number line) = pairOf number line
+
+-- The same for a push by list, or the refusal of its begin with 0.
+abbrev pub byListNumber : ByList → ℕ
+byListNumber (Replied r) = pairOf (replyNumber r) 0
+byListNumber (Faulty number line) = pairOf number line

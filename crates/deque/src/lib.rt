@@ -1,19 +1,24 @@
 // The calls for C and Rust: tables, lists and out slices as a pointer and a length, answers as numbers.
+use airline_list::Checked;
+use airline_list::check;
 use answers::IDLE;
 use answers::kind;
 use answers::payload;
 use call_begin::begin;
 use call_dispatch::dispatch;
 use call_dispatch::dispatches;
+use call_push_by_list::push_by_list;
 use call_read::read;
 use call_run::panel;
 use call_run::run;
+use call_sheet::sheet;
 use call_snapshot::put;
 use call_snapshot::take;
 use call_start::start;
 use call_tick::tick;
 use call_tick::ticks;
 use machine::Answer;
+use machine::ByList;
 use machine::Dispatch;
 use machine::Ran;
 use machine::Reading;
@@ -34,7 +39,10 @@ ghost use Rattle.machine.specs.Answers.{replyNumber, payloadOf, dispatchPayload
 ghost use Rattle.machine.specs.Calls as calls;
 ghost use Rattle.machine.specs.Snapshots.{takeSnapshot, putBack};
 ghost use Rattle.deque.specs.Exports.{pairOf, answerNumber, dispatchNumber, ranNumber, readingNumber, listNumber};
-ghost use Rattle.deque.specs.Exports.{freshNumber, fedNumber};
+ghost use Rattle.deque.specs.Exports.{freshNumber, fedNumber, checkedNumber, byListNumber};
+ghost use Rattle.airline_list.specs.Lists.{verdict, checked};
+ghost use Rattle.machine.specs.PushByList.{pushByList};
+ghost use Rattle.machine.specs.Sheets as sheets;
 ghost use Rattle.tag_lists.specs.TagLists.{answerOf, readTags, writeTags};
 ghost use Rattle.window.specs.Window as windows;
 
@@ -109,6 +117,24 @@ fn fed_number(f: Fed) -> u64
         Fed::Lost(n) => pair(0, n),
         Fed::BadWindow => pair(23, 0),
         Fed::OutOfTurn => pair(24, 0),
+    }
+}
+
+fn checked_number(c: Checked) -> u64
+    ensures { λ n. ⌜ n ≡ checkedNumber c ⌝ }
+{
+    match c {
+        Checked::Accepted => pair(0, 0),
+        Checked::Faulty { number, line } => pair(number, line),
+    }
+}
+
+fn by_list_number(b: ByList) -> u64
+    ensures { λ n. ⌜ n ≡ byListNumber b ⌝ }
+{
+    match b {
+        ByList::Replied(r) => pair(reply_number(r), 0),
+        ByList::Faulty { number, line } => pair(number, line),
     }
 }
 
@@ -252,6 +278,15 @@ pub extern "C" fn lane_tags_write(words: &[u32], bytes: &mut [u8]) -> u64
     list_number(write_tags(words, bytes))
 }
 
+// 2026-09: a page of a lane on the shift sheet; 0, or the refusal.
+#[no_mangle]
+pub extern "C" fn lane_sheet(table: &[u32], lane: u32, page: u32, out: &mut [u8]) -> u32
+    ensures { λ r. ⌜ r ≡ replyNumber (sheets.sheet (now (table .entry)) lane page (now (out .entry)) .reply) ⌝ }
+    ensures { λ r. ⌜ now (out .exit) ≡ sheets.sheet (now (table .entry)) lane page (now (out .entry)) .words ⌝ }
+{
+    reply_number(sheet(table, lane, page, out))
+}
+
 // 2026-11: a fresh window; 0, or 23.
 #[no_mangle]
 pub extern "C" fn lane_window(window: &mut [u32], width: u32) -> u32
@@ -268,4 +303,30 @@ pub extern "C" fn lane_feed(window: &mut [u32], count: u32, before: u32, after: 
     ensures { λ r. ⌜ now (window .exit) ≡ windows.feed (now (window .entry)) count before after .words ⌝ }
 {
     fed_number(feed(window, count, before, after))
+}
+
+// 2026-13: the refusal, or 0, times 2^32, plus the faulty line.
+#[no_mangle]
+pub extern "C" fn lane_list_check(list: &[u8]) -> u64
+    ensures { λ r. ⌜ r ≡ checkedNumber (checked (verdict (now (list .entry)))) ⌝ }
+{
+    checked_number(check(list))
+}
+
+// The same for the list, and then the refusal of the begin that it makes, times 2^32.
+#[no_mangle]
+pub extern "C" fn lane_push_by_list(
+    list: &[u8],
+    table: &mut [u32],
+    task: u32,
+    lane: u32,
+    digit: u32,
+    low: u32,
+) -> u64
+    ensures { λ r. ⌜ r ≡ byListNumber
+        (pushByList (now (list .entry)) (now (table .entry)) task lane (storedOf digit low) .answer) ⌝ }
+    ensures { λ r. ⌜ now (table .exit)
+        ≡ pushByList (now (list .entry)) (now (table .entry)) task lane (storedOf digit low) .words ⌝ }
+{
+    by_list_number(push_by_list(list, table, task, lane, of_words(digit, low)))
 }

@@ -1,0 +1,26 @@
+-- `deque::lane_sheet` meets its contract: the number and the out slice of `sheet`.
+use mathlib.Core.Path.{ap, _∙_}
+use Rattle.machine.specs.Answers.{replyNumber}
+use Rattle.machine.specs.Calls.{Changed}
+use borrow.Author.Needs.{needs}
+use Rattle.deque.proofs.lane_sheet.Statement.{statement}
+use Rattle.deque.proofs.lane_sheet.Tie as tie
+
+sheet-requires : tie.Need-sheet-requires
+sheet-requires c κs = search needs
+
+reply-number-requires : tie.Need-reply-number-requires
+reply-number-requires c κs = search needs
+
+same-length : tie.Need-same-length
+same-length c = search needs
+
+returns : tie.Need-returns
+returns c =
+    let e = c .before .before .before .sheet .ensures in (
+      c .reply-number .ensures ∙ ap (λ (d : Changed). replyNumber (d .reply)) e,
+      ap (λ (d : Changed). d .words) e,
+    )
+
+pub lane-sheet-spec : {M : Type 1} → statement M
+lane-sheet-spec = tie.close (tie.spec sheet-requires reply-number-requires same-length returns)
