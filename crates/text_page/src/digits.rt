@@ -6,17 +6,14 @@ ghost use lib.Seq.{sets};
 ghost use Rattle.tag.specs.Tags.{billion, tagOf};
 ghost use Rattle.text.specs.Numerals.{withZeros, tagText};
 
-// The byte of the digit 0.
-const ZERO: u32 = 48;
-
-// Two digits. The tens are had by a product, and both bytes by one number, the lower byte first: that is quicker than
-// two quotients and two stores.
+// Two digits. The tens are had by a product, and both bytes by one number, 256 times the second and the first:
+// 256 * (48 + n - 10 * tens) + 48 + tens, as few products as may be. That is quicker than quotients and single bytes.
 fn put_two(out: &mut [u8], at: usize, n: u32)
     requires { ⌜ (n ≤ 99) × (at + 2 ≤ length (now out)) ⌝ }
     ensures { λ _. ⌜ now (out .exit) ≡ sets (now (out .entry)) at (withZeros 2 n) ⌝ }
 {
     let tens = n * 103 / 1_024;
-    let both = ZERO + tens + 256 * (ZERO + n - 10 * tens);
+    let both = 256 * n + 12_336 - 2_559 * tens;
     out[at] = (both % 256) as u8;
     out[at + 1] = (both / 256) as u8;
 }

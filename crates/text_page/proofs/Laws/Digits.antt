@@ -60,18 +60,17 @@ tag-parts d l h k =
     ∙ rw (high, middle, low, first-two d (l / 100_000_000) h (omega arith))
 
 -- ---- How they are stored.
-bytes-of-both : (t o both : ℕ) → t ≤ 9 → o ≤ 9 → both ≡ 48 + t + 256 * (48 + o)
+-- Both digits as one number, of two bytes.
+both-bytes : (n t o both : ℕ) → t ≤ 9 → o ≤ 9 → n ≡ 10 * t + o → both ≡ 256 * n + 12_336 - 2_559 * t
     → (both % 256 ≡ 48 + t) × (both / 256 ≡ 48 + o)
-bytes-of-both t o both h k e = (omega arith, omega arith)
+both-bytes n t o both h k e f = (omega arith, omega arith)
 
-pub two-stored : (out : List ℕ) (at n both : ℕ) → n ≤ 99
-    → both ≡ 48 + n * 103 / 1_024 + 256 * (48 + n - 10 * (n * 103 / 1_024))
+pub two-stored : (out : List ℕ) (at n both : ℕ) → n ≤ 99 → both ≡ 256 * n + 12_336 - 2_559 * (n * 103 / 1_024)
     → set (set out at (both % 256)) (at + 1) (both / 256) ≡ sets out at (withZeros 2 n)
 unfolding lastDigits
 two-stored out at n both h e =
     let tens : n * 103 / 1_024 ≡ n / 10 % 10 = omega arith in
-    let ones : 48 + n - 10 * (n * 103 / 1_024) ≡ 48 + n % 10 = omega arith in
-    let two = bytes-of-both (n / 10 % 10) (n % 10) both (omega arith) (omega arith) (e ∙ rw (ones, tens)) in
+    let two = both-bytes n (n / 10 % 10) (n % 10) both (omega arith) (omega arith) (omega arith) (e ∙ rw tens) in
     rw (two .0, two .1, add-one)
 
 stored-after : (xs ys l : List ℕ) (at n : ℕ) → length xs ≡ n → sets (sets l at xs) (at + n) ys ≡ sets l at (xs ++ ys)

@@ -10,23 +10,17 @@ use Rattle.text_page.proofs.digits.put_two.Tie as tie
 mul-tens : tie.Need-mul-tens
 mul-tens c = search needs
 
-add-both : tie.Need-add-both
-add-both c = search needs
-
-add-both-2 : tie.Need-add-both-2
-add-both-2 c = search needs
-
 mul-both : tie.Need-mul-both
 mul-both c = search needs
 
-sub-both : tie.Need-sub-both
-sub-both c = search needs
+add-both : tie.Need-add-both
+add-both c = search needs
 
 mul-both-2 : tie.Need-mul-both-2
 mul-both-2 c = search needs
 
-add-both-3 : tie.Need-add-both-3
-add-both-3 c = search needs
+sub-both : tie.Need-sub-both
+sub-both c = search needs
 
 cast-out : tie.Need-cast-out
 cast-out c = search needs
@@ -54,12 +48,10 @@ put-two-spec =
     tie.close
     (tie.spec
     mul-tens
-    add-both
-    add-both-2
     mul-both
-    sub-both
+    add-both
     mul-both-2
-    add-both-3
+    sub-both
     cast-out
     slice-write-out
     cast-out-2
