@@ -25,14 +25,15 @@
  * Every call takes any words, any lengths and any numbers, and answers them; no call trusts its caller. A refusal
  * leaves all that is lent as it was; only a call of several ticks keeps those before the one refused.
  *
- * POINTERS. Lengths are in words of 32 bits, of a list in packed decimal in bytes. A pointer is aligned for what it
- * points to and valid for its length, and the slices of one call do not overlap: these are the only things that the
- * library cannot test. NULL with length 0 is accepted everywhere, as an empty slice. The library keeps no pointer,
- * allocates nothing and has no state of its own.
+ * POINTERS. Lengths are in words of 32 bits, of a list in packed decimal, of an airline list and of a page in bytes. A
+ * pointer is aligned for what it points to and valid for its length, and the slices of one call do not overlap: these
+ * are the only things that the library cannot test. NULL with length 0 is accepted everywhere, as an empty slice. The
+ * library keeps no pointer, allocates nothing and has no state of its own.
  *
- * THREADS. Different tables may be used by different threads at the same time, and so may reads and takes of one table.
- * All else on one table comes one call after another: the library has no lock and no atomic access. Tag lists and
- * windows need no table, and their calls may be made at any time, each with an out slice or a window of its own.
+ * THREADS. Different tables may be used by different threads at the same time, and so may reads, takes and sheets of
+ * one table. All else on one table comes one call after another: the library has no lock and no atomic access. Tag
+ * lists, windows and the test of an airline list need no table, and their calls may be made at any time, each with an
+ * out slice or a window of its own.
  *
  * FOOTPRINT. For x86-64 only. Under 19 kB of code and constants, no data, no heap; of stack under 5.7 kB in the calls
  * that tick, under 0.6 kB in the others; nothing from outside but memset (`make footprint` measures it).
@@ -87,6 +88,27 @@
  * two to a byte, the higher first. lane_tags_read and lane_tags_write take them to two words a tag, as lane_read writes
  * them, and back. They need no table, and a list may hold a tag twice.
  *
+ * AIRLINE LISTS. The second to fourth digits of a tag are the airline's code. An airline list, a text that is edited on
+ * site, says which airline is loaded at which end, `left` or `right`, and closes with the end for all others:
+ *
+ *     (airline (code 125) left)
+ *     (airline (code 020) right)
+ *     (others right)
+ *
+ * It has 1 to 64 lines with the closing one. Spelling and single spaces are as shown; a code has three digits and is in
+ * one line at most. A line ends at a line feed or at the end of the text, and a line feed at the very end opens no
+ * further line; a carriage return belongs to its line, which is then no such line. In which order the airlines stand
+ * has no say. lane_list_check tests a list, and lane_push_by_list begins a push at the end that the list names for the
+ * tag. Both name the first faulty line: check a list when it was edited, show that line, and go on with the list that
+ * was accepted before. With a faulty one no push begins, whatever the tag.
+ *
+ * SHEETS. The shift office prints 80 columns by 60 lines. A page is 60 lines of exactly 80 bytes, each with a line feed
+ * after it: LANE_PAGE_BYTES bytes in all, and no 0 at the end. Its first line is the heading, `LANE`, a space and the
+ * bags of the whole lane in four digits. Each further line has the next seven tags, or those left, left end first: ten
+ * digits and one blank for each. Blanks fill the lines. A page takes LANE_PAGE_TAGS tags, and the pages are numbered
+ * from 0; LANE_PAGES of them hold every lane. lane_sheet writes the page that the caller names. A page past the last
+ * tag has its heading and blank lines. The heading does not name the lane.
+ *
  * LOST SWAPS. A task that finds another one in its way loses the swap of its line, at step 5, 25, 48 or 51, and goes
  * round again; or, a remove at 62, it says "no", which it does also where no other task is about. A window counts such
  * ticks among the last W: a number that rises while tasks fight over an end. lane_window makes one, lane_feed feeds it
@@ -121,7 +143,7 @@ extern "C" {
  * an older format is refused with 3, since its length does not fit its sizes, and so is one of this format by an older
  * library.
  */
-#define LANE_VERSION "6.3.0"
+#define LANE_VERSION "6.5.0"
 #define LANE_TABLE_FORMAT 4
 
 /*
@@ -161,6 +183,13 @@ extern "C" {
 #define LANE_MAX_TICKS 4096     /* of one run */
 #define LANE_MAX_PANEL_TICKS 32 /* of one list of the panel */
 #define LANE_LIST_TAGS 1024     /* the most of one tag list */
+#define LANE_LIST_LINES 64      /* the most of one airline list, with the closing one */
+#define LANE_LIST_BYTES 1716    /* the most of one airline list that is accepted */
+#define LANE_PAGES 3            /* of the shift sheet, for any lane */
+#define LANE_PAGE_TAGS 413      /* the most of one page */
+#define LANE_PAGE_LINES 60      /* of a page, the heading with them */
+#define LANE_PAGE_COLUMNS 80    /* bytes of a line, without its line feed */
+#define LANE_PAGE_BYTES 4860    /* of a page */
 #define LANE_MAX_WIDTH 4096     /* ticks that a window looks back on */
 #define LANE_MIN_WORDS 37       /* of a table */
 #define LANE_MAX_WORDS 4320
@@ -211,11 +240,16 @@ extern "C" {
 #define LANE_REFUSED_TAGS 17     /* tag list: not a whole number of tags, or more than 1,024 */
 #define LANE_REFUSED_NO_TAG 18   /* tag list: a place holds no tag */
 #define LANE_REFUSED_TAGS_OUT 19 /* tag list: out slice too short for it */
+#define LANE_REFUSED_PAGE 20     /* sheet: page above 2 */
+#define LANE_REFUSED_PAGE_OUT 21 /* sheet: out slice not 4,860 bytes */
 #define LANE_REFUSED_SNAPSHOT 22 /* take, put: the snapshot and the table differ in length */
 #define LANE_REFUSED_WINDOW 23   /* window: width out of range, not so long, or a word that no feed leaves there */
 #define LANE_REFUSED_COUNT 24    /* window: a count that is not the one after the last */
 #define LANE_REFUSED_LANES 25    /* start: not one to four lanes */
-#define LANE_REFUSED_LANE 26     /* begin, read: no such lane */
+#define LANE_REFUSED_LANE 26     /* begin, push by list, read, sheet: no such lane */
+#define LANE_REFUSED_LINE 27     /* airline list: a line that is neither form, a 65th line, or no line */
+#define LANE_REFUSED_CODE 28     /* airline list: a code that an earlier line has */
+#define LANE_REFUSED_CLOSING 29  /* airline list: a closing line with a line after it, or a last line that is none */
 
 /*
  * Words of the table, counted from 0: the ticks made since lane_start, by whatever call, which go from 4,294,967,295 to
@@ -229,9 +263,10 @@ extern "C" {
 #define LANE_VALUE(answer) ((answer) & UINT64_C(0xffffffffff))
 
 /*
- * The two halves of what lane_run, lane_panel, lane_read, lane_tags_read, lane_tags_write and lane_feed return: the
- * refusal, or 0; and the count, of the ticks made, of the tags or of the lost swaps. With a refusal the count is 0, but
- * for a run and the panel's list, which have made so many ticks before it, and for 18, where it is the place.
+ * The two halves of what lane_run, lane_panel, lane_read, lane_tags_read, lane_tags_write, lane_feed, lane_list_check
+ * and lane_push_by_list return: the refusal, or 0; and the count, of the ticks made, of the tags or of the lost swaps,
+ * for the last two 0. With a refusal the count is 0, but for a run and the panel's list, which have made so many ticks
+ * before it, for 18, where it is the place, from 0, and for 27, 28 and 29, where it is the line, from 1.
  */
 #define LANE_REFUSAL(pair) ((uint32_t)((pair) >> 32))
 #define LANE_COUNT(pair) ((uint32_t)((pair) & 0xffffffffu))
@@ -423,6 +458,36 @@ uint64_t lane_panel(uint32_t *table, size_t words, const uint32_t *list, size_t 
 uint64_t lane_read(const uint32_t *table, size_t words, uint32_t lane, uint32_t *out, size_t out_words);
 
 /*
+ * Writes a page, from 0, of the shift sheet of `lane`.
+ * Returns 0, or a refusal: 3, 4, 26, 11, 20, 21. 20 is for a page above 2, 21 for an `out` that is not LANE_PAGE_BYTES
+ * long, be it shorter or longer; both come after the lane is walked as by lane_read (11). Writes every byte of `out`.
+ *
+ * ```c
+ * #include <string.h>
+ * #include "lane.h"
+ *
+ * int main(void) {
+ *     static uint32_t table[LANE_WORDS(12, 1)];
+ *     static uint8_t page[LANE_PAGE_BYTES];
+ *     size_t words = LANE_WORDS(12, 1), line = LANE_PAGE_COLUMNS + 1;
+ *     if (lane_start(table, words, 12, 1, 0, 1) != 0) {
+ *         return 1;
+ *     }
+ *     for (uint64_t tag = 51; tag < 59; tag++) {
+ *         if (LANE_KIND(lane_call(table, words, 0, 0, LANE_PUSH, LANE_RIGHT, tag)) != LANE_PUSHED) {
+ *             return 1;
+ *         }
+ *     }
+ *     if (lane_sheet(table, words, 0, 0, page, LANE_PAGE_BYTES) != 0 || memcmp(page, "LANE 0008 ", 10) != 0) {
+ *         return 1;
+ *     }
+ *     return memcmp(page + line, "0000000051 ", 11) == 0 && memcmp(page + 2 * line, "0000000058  ", 12) == 0 ? 0 : 1;
+ * }
+ * ```
+ */
+uint32_t lane_sheet(const uint32_t *table, size_t words, uint32_t lane, uint32_t page, uint8_t *out, size_t out_bytes);
+
+/*
  * Takes a snapshot of a table: its words by columns, as many as the table has.
  * Returns 0, or a refusal: 22, 3, 4. Writes every word of `snapshot`.
  */
@@ -496,6 +561,66 @@ uint64_t lane_tags_read(const uint8_t *list, size_t bytes, uint32_t *out, size_t
  * Writes five bytes of `out` for each tag; later bytes stay.
  */
 uint64_t lane_tags_write(const uint32_t *tags, size_t words, uint8_t *out, size_t out_bytes);
+
+/*
+ * Tests an airline list of so many bytes.
+ * Returns LANE_REFUSAL: 0, or the refusal: 27, 28, 29; LANE_COUNT: with a refusal the first faulty line, from 1, else
+ * 0. 27 is for a line that is neither form, for a 65th line, and for a list with no line, which is named as line 1; 28
+ * for a code that an earlier line has; 29 for a closing line with a line after it, which is itself the faulty one, and
+ * for a last line that is not a closing one. Of the numbers of that line the lowest is given. Writes nothing.
+ *
+ * ```c
+ * #include "lane.h"
+ *
+ * int main(void) {
+ *     static const uint8_t list[] = "(airline (code 125) left)\n"
+ *                                   "(airline (code 020) right)\n"
+ *                                   "(airline (code 125) right)\n"
+ *                                   "(others right)\n";
+ *     uint64_t checked = lane_list_check(list, sizeof list - 1);
+ *     if (LANE_REFUSAL(checked) != LANE_REFUSED_CODE || LANE_COUNT(checked) != 3) {
+ *         return 1;
+ *     }
+ *     checked = lane_list_check(list, 26 + 27); // cut after line 2, which closes no list
+ *     return LANE_REFUSAL(checked) == LANE_REFUSED_CLOSING && LANE_COUNT(checked) == 2 ? 0 : 1;
+ * }
+ * ```
+ */
+uint64_t lane_list_check(const uint8_t *list, size_t list_bytes);
+
+/*
+ * Gives an idle task a push on `lane`, at the end that an airline list names for the tag, `digit` and `argument`: that
+ * of the line with its code, or else of the closing line. The whole list is tested first, wherever that line stands;
+ * all else is as in lane_begin.
+ * Returns LANE_REFUSAL: 0, or the refusal: 27, 28, 29 of the list, then 3, 4, 26, 5, 7, 11, 16, 8; LANE_COUNT: for 27,
+ * 28 and 29 the line, as in lane_list_check, else 0. Writes the task's thirteen words.
+ *
+ * ```c
+ * #include "lane.h"
+ *
+ * int main(void) {
+ *     static const uint8_t list[] = "(airline (code 125) left)\n(others right)\n";
+ *     static const uint64_t pushed[] = {1250000051, 9125000052}; // codes 250 and 125
+ *     static uint32_t table[LANE_WORDS(8, 1)];
+ *     size_t words = LANE_WORDS(8, 1);
+ *     uint32_t tags[LANE_TAG_WORDS * 2];
+ *     if (lane_start(table, words, 8, 1, 0, 1) != 0) {
+ *         return 1;
+ *     }
+ *     for (int i = 0; i < 2; i++) {
+ *         uint32_t digit = lane_tag_digit(pushed[i]), low = lane_tag_low(pushed[i]);
+ *         uint64_t begun = lane_push_by_list(list, sizeof list - 1, table, words, 0, 0, digit, low);
+ *         if (LANE_REFUSAL(begun) != 0 || LANE_KIND(lane_ticks(table, words, 0, 0, UINT32_MAX)) != LANE_PUSHED) {
+ *             return 1;
+ *         }
+ *     }
+ *     uint64_t reading = lane_read(table, words, 0, tags, LANE_TAG_WORDS * 2);
+ *     return reading == 2 && lane_tag(tags[0], tags[1]) == pushed[1] ? 0 : 1;
+ * }
+ * ```
+ */
+uint64_t lane_push_by_list(const uint8_t *list, size_t list_bytes, uint32_t *table, size_t words, uint32_t task,
+                           uint32_t lane, uint32_t digit, uint32_t argument);
 
 /*
  * Makes the window a fresh one, in which no tick is fed, that looks back on `width` ticks (1 to 4,096); its words may
@@ -684,6 +809,10 @@ static inline const char *lane_refusal_text(uint32_t refusal) {
         return "a place of the tag list holds no tag";
     case LANE_REFUSED_TAGS_OUT:
         return "the out slice is too short for the tag list";
+    case LANE_REFUSED_PAGE:
+        return "no such page of the sheet";
+    case LANE_REFUSED_PAGE_OUT:
+        return "the out slice is not as long as a page";
     case LANE_REFUSED_SNAPSHOT:
         return "the snapshot and the table differ in length";
     case LANE_REFUSED_WINDOW:
@@ -694,6 +823,12 @@ static inline const char *lane_refusal_text(uint32_t refusal) {
         return "not one to four lanes";
     case LANE_REFUSED_LANE:
         return "no such lane";
+    case LANE_REFUSED_LINE:
+        return "a line of the airline list is neither form, is one too many, or is missing";
+    case LANE_REFUSED_CODE:
+        return "an earlier line of the airline list has the code";
+    case LANE_REFUSED_CLOSING:
+        return "the airline list closes before its end, or not at its end";
     default:
         return "no refusal";
     }

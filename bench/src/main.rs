@@ -2,6 +2,7 @@
 
 #![forbid(unsafe_code)]
 
+mod airlines;
 mod lines;
 mod lists;
 mod loads;
@@ -15,6 +16,7 @@ use std::hint::black_box;
 use loads::Load;
 use measure::{interleaved, nanoseconds, plain_sum, Figures};
 use programs::{Program, PROVED, RUST};
+use reference::sheet::{BYTES, MAX_PAGE};
 use reference::table::{header, POP, PUSH, RIGHT};
 
 /// Words of all copies of a table in one round: they stay in the nearest cache.
@@ -125,6 +127,8 @@ fn main() {
     println!();
     lists::rows(rounds);
     println!();
+    airlines::rows(rounds);
+    println!();
     snapshots::rows(rounds);
     println!();
     windows::rows(rounds);
@@ -149,6 +153,10 @@ fn ratios(rounds: usize) {
     show("reading 1,000 bags, the whole call", 1024, 1, 0, &read);
     let read = reading(rounds, &four, 250);
     show("reading 250 bags, one lane of four", 1024, 4, 0, &read);
+    for page in [0, MAX_PAGE] {
+        let name = format!("sheet of 1,000 bags, page {page}");
+        show(&name, 1024, 1, 0, &printing(rounds, &one, page));
+    }
     for (lanes, table) in [(1, one), (4, four)] {
         let begin = beginning(rounds, &table);
         show("begin of a push, 1,000 bags", 1024, lanes, 0, &begin);
@@ -323,6 +331,23 @@ fn reading(rounds: usize, table: &[u32], bags: u64) -> Figures {
         move || {
             nanoseconds(|| {
                 black_box((program.read)(black_box(table), lane, &mut out));
+            })
+        }
+    };
+    interleaved(rounds, work(&PROVED), work(&RUST))
+}
+
+/// A page of the first lane.
+fn printing(rounds: usize, table: &[u32], page: u32) -> Figures {
+    let mut pages = [[0; BYTES], [0; BYTES]];
+    assert_eq!((PROVED.sheet)(table, 0, page, &mut pages[0]), 0);
+    assert_eq!((RUST.sheet)(table, 0, page, &mut pages[1]), 0);
+    assert_eq!(pages[0], pages[1], "the programs differ in a page");
+    let work = |program: &'static Program| {
+        let mut out = [0; BYTES];
+        move || {
+            nanoseconds(|| {
+                black_box((program.sheet)(black_box(table), 0, page, &mut out));
             })
         }
     };

@@ -1,7 +1,7 @@
 //! The two programs under the same function types, so that both are called alike.
 
 use lane::ffi;
-use reference::Answer;
+use reference::{airlines, Answer};
 
 /// The calls that are measured, answers as numbers of 64 bits.
 pub struct Program {
@@ -17,6 +17,8 @@ pub struct Program {
     pub run: fn(&mut [u32], &[u32], &mut [u32]) -> u64,
     /// The tags of a lane.
     pub read: fn(&[u32], u32, &mut [u32]) -> u64,
+    /// A page of the shift sheet: lane and page.
+    pub sheet: fn(&[u32], u32, u32, &mut [u8]) -> u32,
     /// A snapshot of a table.
     pub take: fn(&[u32], &mut [u32]) -> u32,
     /// A snapshot put back to a table.
@@ -25,6 +27,10 @@ pub struct Program {
     pub read_tags: fn(&[u8], &mut [u32]) -> u64,
     /// The same from words.
     pub write_tags: fn(&[u32], &mut [u8]) -> u64,
+    /// An airline list tested.
+    pub check_list: fn(&[u8]) -> u64,
+    /// A push begun by such a list: task, lane, digit and low part.
+    pub push_by_list: fn(&[u8], &mut [u32], u32, u32, u32, u32) -> u64,
     /// A fresh window of some width.
     pub window: fn(&mut [u32], u32) -> u32,
     /// A window fed: count, step before and step after.
@@ -39,10 +45,13 @@ pub const PROVED: Program = Program {
     dispatch: ffi::dispatch,
     run: ffi::run,
     read: ffi::read,
+    sheet: ffi::sheet,
     take: ffi::take,
     put: ffi::put,
     read_tags: ffi::tags_read,
     write_tags: ffi::tags_write,
+    check_list: ffi::list_check,
+    push_by_list: ffi::push_by_list,
     window: ffi::window,
     feed: ffi::feed,
 };
@@ -64,10 +73,18 @@ pub const RUST: Program = Program {
         Ok(count) => u64::from(count),
         Err(number) => pair((number, 0)),
     },
+    sheet: reference::sheet::sheet,
     take: |table, snapshot| refusal(reference::take(table, snapshot)),
     put: |snapshot, table| refusal(reference::put(snapshot, table)),
     read_tags: |bytes, words| pair(reference::read_tags(bytes, words)),
     write_tags: |words, bytes| pair(reference::write_tags(words, bytes)),
+    check_list: |list| {
+        let checked = airlines::check(list);
+        checked.map_or_else(|fault| pair((fault.number, fault.line)), |()| 0)
+    },
+    push_by_list: |list, table, task, lane, digit, low| {
+        pair(airlines::push_by_list(list, table, task, lane, digit, low))
+    },
     window: reference::window::window,
     feed: |words, count, before, after| pair(reference::window::feed(words, count, before, after)),
 };

@@ -159,6 +159,165 @@ static void tag_lists(void) {
     EXPECT(lane_tags_write(words, LANE_TAG_WORDS * MORE, bytes, LANE_TAG_BYTES * MORE) == PAIR(LANE_REFUSED_TAGS, 0));
 }
 
+/* An airline list of so many lines with the closing one, as long as they can be; returns its bytes. */
+static size_t lines_of(uint32_t lines, uint8_t *list) {
+    size_t bytes = 0;
+    for (uint32_t code = 1; code < lines; code++) {
+        bytes += (size_t)sprintf((char *)list + bytes, "(airline (code %03u) right)\n", (unsigned)code);
+    }
+    return bytes + (size_t)sprintf((char *)list + bytes, "(others right)\n");
+}
+
+/* Lists up to the limit, with and without the last line feed, and one line cut off; each fault, named by its line. */
+static void airline_lists(void) {
+    static uint8_t list[2 * LANE_LIST_BYTES];
+    static const size_t closing = sizeof "(others right)\n" - 1;
+    for (uint32_t lines = 1; lines <= LANE_LIST_LINES + 2; lines++) {
+        size_t bytes = lines_of(lines, list);
+        uint64_t over = lines > LANE_LIST_LINES ? PAIR(LANE_REFUSED_LINE, LANE_LIST_LINES + 1) : 0;
+        EXPECT(lane_list_check(list, bytes) == over);
+        EXPECT(lane_list_check(list, bytes - 1) == over);
+        EXPECT(lines != LANE_LIST_LINES || bytes == LANE_LIST_BYTES);
+        if (lines > 1 && lines <= LANE_LIST_LINES + 1) {
+            EXPECT(lane_list_check(list, bytes - closing) == PAIR(LANE_REFUSED_CLOSING, lines - 1));
+            EXPECT(lane_list_check(list, bytes - closing - 1) == PAIR(LANE_REFUSED_CLOSING, lines - 1));
+        }
+    }
+
+    static const struct {
+        const char *list;
+        uint32_t refusal, line;
+    } faults[] = {
+        {"", LANE_REFUSED_LINE, 1},
+        {"\n", LANE_REFUSED_LINE, 1},
+        {" (others left)", LANE_REFUSED_LINE, 1},
+        {"(others left)\r\n", LANE_REFUSED_LINE, 1},
+        {"(airline (code 12) left)\n(others left)\n", LANE_REFUSED_LINE, 1},
+        {"(airline (code 1250) left)\n(others left)\n", LANE_REFUSED_LINE, 1},
+        {"(airline (code 125) left)\n\n(others left)\n", LANE_REFUSED_LINE, 2},
+        {"(airline (code 125) left)\n(airline (code 125) right)\n(others left)\n", LANE_REFUSED_CODE, 2},
+        {"(airline (code 125) left)\n(airline (code 125) left)\n", LANE_REFUSED_CODE, 2}, /* and closes none */
+        {"(airline (code 125) left)\n", LANE_REFUSED_CLOSING, 1},
+        {"(others left)\n(others left)\n", LANE_REFUSED_CLOSING, 1},
+        {"(others left)\n\n", LANE_REFUSED_CLOSING, 1}, /* before the empty line */
+    };
+    begin_again();
+    for (size_t i = 0; i < sizeof faults / sizeof faults[0]; i++) {
+        const uint8_t *text = (const uint8_t *)faults[i].list;
+        size_t bytes = strlen(faults[i].list);
+        uint64_t given = PAIR(faults[i].refusal, faults[i].line);
+        EXPECT(lane_list_check(text, bytes) == given);
+        EXPECT(lane_push_by_list(text, bytes, table, WORDS, 0, 0, 0, 51) == given);
+        EXPECT(lane_push_by_list(text, bytes, NULL, 0, TASKS, 1, 10, 0) == given); /* before all tests of the table */
+    }
+    EXPECT(lane_tick(table, WORDS, 0, 0) == ANSWER(LANE_REFUSED, LANE_REFUSED_IDLE));
+}
+
+/* A push by list is the begin of a push at the end that its line names; its refusals, each before the next. */
+static void pushes_by_list(void) {
+    static const uint8_t list[] = "(airline (code 125) left)\n(airline (code 020) left)\n(others right)";
+    enum { BYTES = sizeof list - 1 };
+    static const struct {
+        uint64_t tag;
+        uint32_t side;
+    } pushes[] = {{125000000, LANE_LEFT},  {UINT64_C(9125999999), LANE_LEFT}, {20000051, LANE_LEFT}, {1, LANE_RIGHT},
+                  {124999999, LANE_RIGHT}, {126000000, LANE_RIGHT},           {1250000000, LANE_RIGHT}};
+    static uint32_t copy[WORDS];
+    for (size_t i = 0; i < sizeof pushes / sizeof pushes[0]; i++) {
+        uint32_t digit = lane_tag_digit(pushes[i].tag), low = lane_tag_low(pushes[i].tag);
+        EXPECT(lane_start(table, WORDS, SLOTS, TASKS, 0, 2) == 0);
+        memcpy(copy, table, sizeof copy);
+        EXPECT(lane_begin(copy, WORDS, 1, 1, LANE_PUSH, pushes[i].side, digit, low) == 0);
+        EXPECT(lane_push_by_list(list, BYTES, table, WORDS, 1, 1, digit, low) == 0);
+        EXPECT(memcmp(copy, table, sizeof copy) == 0);
+    }
+
+    EXPECT(lane_start(table, WORDS, SLOTS, TASKS, 0, 2) == 0);
+    EXPECT(lane_push_by_list(list, BYTES, table, WORDS, 1, 1, 0, 51) == 0);
+    table[16 + 4 * 2 + 1] = 65535; /* the link to the right of lane 1's left end made none, which no call does */
+    table[15] = 1;
+    memcpy(copy, table, sizeof copy);
+    EXPECT(lane_push_by_list(list, BYTES, table, WORDS - 1, TASKS, 2, 10, 51) == PAIR(LANE_REFUSED_TABLE, 0));
+    EXPECT(lane_push_by_list(list, BYTES, table, WORDS, TASKS, 2, 10, 51) == PAIR(LANE_REFUSED_SHAPE, 0));
+    EXPECT(memcmp(copy, table, sizeof copy) == 0);
+    table[15] = 0;
+    EXPECT(lane_push_by_list(list, BYTES, table, WORDS, TASKS, 2, 10, 51) == PAIR(LANE_REFUSED_LANE, 0));
+    EXPECT(lane_push_by_list(list, BYTES, table, WORDS, TASKS, 0, 10, 51) == PAIR(LANE_REFUSED_TASK, 0));
+    EXPECT(lane_push_by_list(list, BYTES, table, WORDS, 1, 0, 10, 51) == PAIR(LANE_REFUSED_ARGUMENT, 0));
+    EXPECT(lane_push_by_list(list, BYTES, table, WORDS, 1, 0, 0, 0) == PAIR(LANE_REFUSED_ARGUMENT, 0));
+    EXPECT(lane_push_by_list(list, BYTES, table, WORDS, 1, 0, 0, 51) == PAIR(LANE_REFUSED_NO_SLOT, 0));
+    table[16 + 4 * 2 + 1] = 3;
+    EXPECT(lane_push_by_list(list, BYTES, table, WORDS, 1, 0, 0, 51) == PAIR(LANE_REFUSED_TWICE, 0));
+    EXPECT(lane_push_by_list(list, BYTES, table, WORDS, 1, 0, 0, 52) == PAIR(LANE_REFUSED_BUSY, 0));
+    copy[15] = 0;
+    copy[16 + 4 * 2 + 1] = 3;
+    EXPECT(memcmp(copy, table, sizeof copy) == 0);
+}
+
+/* The page of a lane with the tags 1 to `bags`, each times a number that brings in all digits, as it is to be. */
+static void page_of(uint32_t bags, uint32_t page, char *text) {
+    uint32_t next = LANE_PAGE_TAGS * page;
+    for (int line = 0; line < LANE_PAGE_LINES; line++) {
+        int column = line == 0 ? sprintf(text, "LANE %04u", (unsigned)bags) : 0;
+        for (int i = 0; line > 0 && i < 7 && next < bags; i++, next++) {
+            column += sprintf(text + column, "%010lu ", (unsigned long)(next + 1) * 9765432);
+        }
+        memset(text + column, ' ', (size_t)(LANE_PAGE_COLUMNS - column));
+        text[LANE_PAGE_COLUMNS] = '\n';
+        text += LANE_PAGE_COLUMNS + 1;
+    }
+}
+
+/* Every page of lanes with none to the most bags, about the ends of lines and of pages; what is around it stays. */
+static void sheets(void) {
+    static const uint32_t counts[] = {0, 1, 6, 7, 8, 412, 413, 414, 826, 827, LANE_MAX_BAGS(LANE_MAX_SLOTS, 1)};
+    static char wanted[LANE_PAGE_BYTES + 1];
+    static uint8_t out[LANE_PAGE_BYTES + 2];
+    static const size_t words = LANE_WORDS(LANE_MAX_SLOTS, 1);
+    uint32_t bags = 0;
+    EXPECT(LANE_PAGE_BYTES == LANE_PAGE_LINES * (LANE_PAGE_COLUMNS + 1));
+    EXPECT(LANE_PAGE_TAGS == 7 * (LANE_PAGE_LINES - 1) && LANE_PAGES * LANE_PAGE_TAGS > LANE_MAX_SLOTS);
+    EXPECT(lane_start(table, words, LANE_MAX_SLOTS, 1, LANE_MAX_GROWTH, 1) == 0);
+    for (size_t i = 0; i < sizeof counts / sizeof counts[0]; i++) {
+        for (; bags < counts[i]; bags++) {
+            uint64_t tag = (uint64_t)(bags + 1) * 9765432;
+            EXPECT(lane_call(table, words, 0, 0, LANE_PUSH, LANE_RIGHT, tag) == ANSWER(LANE_PUSHED, 0));
+        }
+        for (uint32_t page = 0; page < LANE_PAGES; page++) {
+            memset(out, 0xa5, sizeof out);
+            EXPECT(lane_sheet(table, words, 0, page, out + 1, LANE_PAGE_BYTES) == 0);
+            page_of(bags, page, wanted);
+            EXPECT(memcmp(out + 1, wanted, LANE_PAGE_BYTES) == 0);
+            EXPECT(out[0] == 0xa5 && out[LANE_PAGE_BYTES + 1] == 0xa5);
+        }
+    }
+}
+
+/* A sheet's refusals, each before the next, on a table of two lanes of which one cannot be read; no byte is written. */
+static void sheet_refusals(void) {
+    static uint8_t out[LANE_PAGE_BYTES + 1];
+    static const size_t lengths[] = {0, LANE_PAGE_COLUMNS, LANE_PAGE_BYTES - 1, LANE_PAGE_BYTES + 1};
+    memset(out, 0xa5, sizeof out);
+    EXPECT(lane_start(table, WORDS, SLOTS, TASKS, 0, 2) == 0);
+    table[16 + 4 * 2 + 1] = 65535; /* the link to the right of lane 1's left end made none, which no call does */
+    table[15] = 1;
+    EXPECT(lane_sheet(table, WORDS - 1, 2, LANE_PAGES, out, 0) == LANE_REFUSED_TABLE);
+    EXPECT(lane_sheet(table, WORDS, 2, LANE_PAGES, out, 0) == LANE_REFUSED_SHAPE);
+    table[15] = 0;
+    EXPECT(lane_sheet(table, WORDS, 2, LANE_PAGES, out, 0) == LANE_REFUSED_LANE);
+    EXPECT(lane_sheet(table, WORDS, 1, LANE_PAGES, out, 0) == LANE_REFUSED_NO_SLOT);
+    for (size_t i = 0; i < sizeof lengths / sizeof lengths[0]; i++) {
+        EXPECT(lane_sheet(table, WORDS, 0, LANE_PAGES, out, lengths[i]) == LANE_REFUSED_PAGE);
+        EXPECT(lane_sheet(table, WORDS, 0, UINT32_MAX, out, lengths[i]) == LANE_REFUSED_PAGE);
+        EXPECT(lane_sheet(table, WORDS, 0, LANE_PAGES - 1, out, lengths[i]) == LANE_REFUSED_PAGE_OUT);
+    }
+    EXPECT(lane_sheet(table, WORDS, 0, LANE_PAGES, out, LANE_PAGE_BYTES) == LANE_REFUSED_PAGE);
+    for (size_t i = 0; i < sizeof out; i++) {
+        EXPECT(out[i] == 0xa5);
+    }
+    EXPECT(lane_sheet(table, WORDS, 0, LANE_PAGES - 1, out, LANE_PAGE_BYTES) == 0);
+}
+
 /* Every refusal that a caller can ask for comes with its number, and every number has a text of its own. */
 static void refusals(void) {
     begin_again();
@@ -189,8 +348,8 @@ static void refusals(void) {
     EXPECT(begin(1, LANE_PUSH, LANE_LEFT, 51) == LANE_REFUSED_NO_SLOT); /* 51 is in a busy push */
     EXPECT(begin(1, LANE_POP, LANE_LEFT, 0) == 0);
 
-    for (uint32_t one = 0; one <= LANE_REFUSED_LANE + 1; one++) {
-        int given = one <= LANE_REFUSED_TAGS_OUT || (one >= LANE_REFUSED_SNAPSHOT && one <= LANE_REFUSED_LANE);
+    for (uint32_t one = 0; one <= LANE_REFUSED_CLOSING + 1; one++) {
+        int given = one <= LANE_REFUSED_CLOSING;
         EXPECT(strlen(lane_refusal_text(one)) > 0);
         EXPECT(given == (strcmp(lane_refusal_text(one), lane_refusal_text(4294967295u)) != 0));
         for (uint32_t other = 0; given && other < one; other++) {
@@ -249,6 +408,8 @@ static void empty_slices(void) {
     begin_again();
     EXPECT(lane_take(table, WORDS, NULL, 0) == LANE_REFUSED_SNAPSHOT);
     EXPECT(lane_put(table, WORDS, NULL, 0) == LANE_REFUSED_SNAPSHOT);
+    EXPECT(lane_sheet(NULL, 0, 0, 0, NULL, 0) == LANE_REFUSED_TABLE);
+    EXPECT(lane_sheet(table, WORDS, 0, 0, NULL, 0) == LANE_REFUSED_PAGE_OUT);
     EXPECT(lane_run(table, WORDS, NULL, 0, NULL, 0) == 0);
     EXPECT(lane_run(table, WORDS, NULL, 0, answers, 3) == 0);
     EXPECT(lane_panel(table, WORDS, NULL, 0, NULL, 0) == 0);
@@ -267,6 +428,11 @@ static void empty_slices(void) {
     EXPECT(lane_tags_write(NULL, 0, NULL, 0) == 0);
     EXPECT(lane_tags_write(NULL, 0, bytes, LANE_TAG_BYTES) == 0);
     EXPECT(lane_tags_write(tag, LANE_TAG_WORDS, NULL, 0) == PAIR(LANE_REFUSED_TAGS_OUT, 0));
+
+    static const uint8_t airlines[] = "(others left)";
+    EXPECT(lane_list_check(NULL, 0) == PAIR(LANE_REFUSED_LINE, 1));
+    EXPECT(lane_push_by_list(NULL, 0, NULL, 0, 0, 0, 0, 51) == PAIR(LANE_REFUSED_LINE, 1));
+    EXPECT(lane_push_by_list(airlines, sizeof airlines - 1, NULL, 0, 0, 0, 0, 51) == PAIR(LANE_REFUSED_TABLE, 0));
 
     uint64_t fed = 7;
     EXPECT(lane_window(NULL, 0, 1) == LANE_REFUSED_WINDOW);
@@ -617,6 +783,10 @@ int main(void) {
     limits();
     tags();
     tag_lists();
+    airline_lists();
+    pushes_by_list();
+    sheets();
+    sheet_refusals();
     refusals();
     pairs();
     empty_slices();

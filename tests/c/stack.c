@@ -13,6 +13,7 @@ static uint32_t table[WORDS], snapshot[WORDS], out[LANE_TAG_WORDS * SLOTS];
 static uint32_t tags[LANE_TAG_WORDS * LANE_LIST_TAGS];
 static uint8_t tag_list[LANE_TAG_BYTES * LANE_LIST_TAGS];
 static uint32_t list[2 * LANE_MAX_TICKS], answers[LANE_ANSWER_WORDS * LANE_MAX_TICKS];
+static uint8_t airlines[LANE_LIST_BYTES + 1], page[LANE_PAGE_BYTES];
 static uint32_t window[LANE_WINDOW_WORDS(LANE_MAX_WIDTH)];
 static unsigned char stack[SPACE];
 static ucontext_t here, there;
@@ -55,6 +56,10 @@ static void read_lane(void) {
     lane_read(table, WORDS, LAST, out, LANE_TAG_WORDS * SLOTS);
 }
 
+static void sheet(void) {
+    lane_sheet(table, WORDS, LAST, 0, page, LANE_PAGE_BYTES);
+}
+
 static void take(void) {
     lane_take(table, WORDS, snapshot, WORDS);
 }
@@ -69,6 +74,14 @@ static void read_tags(void) {
 
 static void write_tags(void) {
     lane_tags_write(tags, LANE_TAG_WORDS * LANE_LIST_TAGS, tag_list, sizeof tag_list);
+}
+
+static void check_list(void) {
+    lane_list_check(airlines, LANE_LIST_BYTES);
+}
+
+static void push_by_list(void) {
+    lane_push_by_list(airlines, LANE_LIST_BYTES, table, WORDS, 2, LAST, 0, 53);
 }
 
 static void make_window(void) {
@@ -97,7 +110,7 @@ static size_t touched(void (*call)(void)) {
 static int failures;
 
 static void print(const char *name, size_t bytes, size_t most) {
-    printf("stack of lane_%-10s %5lu bytes\n", name, (unsigned long)bytes);
+    printf("stack of lane_%-12s %5lu bytes\n", name, (unsigned long)bytes);
     failures += bytes > most;
 }
 
@@ -116,11 +129,18 @@ int main(void) {
     print("dispatch", touched(dispatch), 5700);     /* the panel's add goes on, and takes a slot */
     print("dispatches", touched(dispatches), 5700); /* more of them */
     print("read", touched(read_lane), 600);
+    print("sheet", touched(sheet), 600);
     print("take", touched(take), 600);
     print("put", touched(put), 600);
     memset(tag_list, 0x99, sizeof tag_list);
     print("tags_read", touched(read_tags), 600);
     print("tags_write", touched(write_tags), 600);
+    for (unsigned code = 1; code < LANE_LIST_LINES; code++) {
+        sprintf((char *)airlines + 27 * (code - 1), "(airline (code %03u) right)\n", code);
+    }
+    strcat((char *)airlines, "(others right)\n");
+    print("list_check", touched(check_list), 600);
+    print("push_by_list", touched(push_by_list), 600);
     print("window", touched(make_window), 600);
     print("feed", touched(feed), 600);
     if (failures > 0) {

@@ -142,6 +142,10 @@ pub enum Refusal {
     NoTag = 18,
     /// Tag list: the out slice is too short for it.
     TagsOut = 19,
+    /// Sheet: page above 2.
+    Page = 20,
+    /// Sheet: the out slice is not as long as a page. A [`Page`](crate::Page) is always so long.
+    PageOut = 21,
     /// Take, put: the snapshot and the table differ in length.
     Snapshot = 22,
     /// Window: its width is out of range, it is not so long, or a word is not as feeds leave it.
@@ -150,12 +154,19 @@ pub enum Refusal {
     Count = 24,
     /// Start: not one to four lanes. A [`Lane`](crate::Lane) has one.
     Lanes = 25,
-    /// Begin, read: no such lane. A [`Lane`](crate::Lane) asks for none.
+    /// Begin, push by list, read, sheet: no such lane. A [`Lane`](crate::Lane) asks for none.
     Lane = 26,
+    /// Airline list: a line that is neither form, a 65th line, or no line. [`ListFault`](crate::ListFault) has the
+    /// line, also of the next two.
+    Line = 27,
+    /// Airline list: a code that an earlier line has.
+    Code = 28,
+    /// Airline list: a closing line with a line after it, or a last line that is none.
+    Closing = 29,
 }
 
 impl Refusal {
-    const ALL: [Refusal; 24] = [
+    const ALL: [Refusal; 29] = [
         Refusal::Sizes,
         Refusal::Length,
         Refusal::Table,
@@ -175,11 +186,16 @@ impl Refusal {
         Refusal::Tags,
         Refusal::NoTag,
         Refusal::TagsOut,
+        Refusal::Page,
+        Refusal::PageOut,
         Refusal::Snapshot,
         Refusal::Window,
         Refusal::Count,
         Refusal::Lanes,
         Refusal::Lane,
+        Refusal::Line,
+        Refusal::Code,
+        Refusal::Closing,
     ];
 
     /// The refusal of a number; none for a number that no call gives.
@@ -230,11 +246,18 @@ impl fmt::Display for Refusal {
             Refusal::Tags => "not a whole number of tags, or more than 1,024",
             Refusal::NoTag => "a place of the tag list holds no tag",
             Refusal::TagsOut => "the out slice is too short for the tag list",
+            Refusal::Page => "no such page of the sheet",
+            Refusal::PageOut => "the out slice is not as long as a page",
             Refusal::Snapshot => "the snapshot and the table differ in length",
             Refusal::Window => "the words are no window",
             Refusal::Count => "the count does not follow the last one fed",
             Refusal::Lanes => "not one to four lanes",
             Refusal::Lane => "no such lane",
+            Refusal::Line => {
+                "a line of the airline list is neither form, is one too many, or is missing"
+            }
+            Refusal::Code => "an earlier line of the airline list has the code",
+            Refusal::Closing => "the airline list closes before its end, or not at its end",
         };
         write!(formatter, "refused {}: {reason}", self.number())
     }
@@ -360,7 +383,7 @@ mod tests {
     fn every_refusal_is_decoded_once_and_back() {
         for number in (0..=99).chain([u32::MAX]) {
             let refusal = Refusal::from_number(number);
-            let given = matches!(number, 1..=19 | 22..=26);
+            let given = matches!(number, 1..=29);
             assert_eq!(refusal.map(Refusal::number), given.then_some(number));
         }
     }

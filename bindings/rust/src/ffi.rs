@@ -52,6 +52,14 @@ mod library {
             out: *mut u32,
             out_words: usize,
         ) -> u64;
+        pub fn lane_sheet(
+            table: *const u32,
+            words: usize,
+            lane: u32,
+            page: u32,
+            out: *mut u8,
+            out_bytes: usize,
+        ) -> u32;
         pub fn lane_take(
             table: *const u32,
             words: usize,
@@ -75,6 +83,17 @@ mod library {
             words: usize,
             out: *mut u8,
             out_bytes: usize,
+        ) -> u64;
+        pub fn lane_list_check(list: *const u8, list_bytes: usize) -> u64;
+        pub fn lane_push_by_list(
+            list: *const u8,
+            list_bytes: usize,
+            table: *mut u32,
+            words: usize,
+            task: u32,
+            lane: u32,
+            digit: u32,
+            argument: u32,
         ) -> u64;
         pub fn lane_window(window: *mut u32, words: usize, width: u32) -> u32;
         pub fn lane_feed(
@@ -257,6 +276,25 @@ pub fn read(table: &[u32], lane: u32, out: &mut [u32]) -> u64 {
     unsafe { library::lane_read(pointer, words, lane, out.as_mut_ptr(), out.len()) }
 }
 
+/// Writes a page, 0 to 2, of the shift sheet of a lane, 4,860 bytes: 0, or the refusal.
+///
+/// ```
+/// use lane::ffi;
+///
+/// let mut table = [0; 45];
+/// let mut page = [0; 4860];
+/// assert_eq!(ffi::start(&mut table, 4, 1, 0, 2), 0);
+/// assert_eq!(ffi::sheet(&table, 1, 0, &mut page), 0);
+/// assert!(page.starts_with(b"LANE 0000 "));
+/// assert_eq!(ffi::sheet(&table, 1, 0, &mut page[1..]), 21);
+/// assert_eq!(ffi::sheet(&table, 1, 3, &mut page[1..]), 20);
+/// assert_eq!(ffi::sheet(&table, 2, 3, &mut page[1..]), 26);
+/// ```
+pub fn sheet(table: &[u32], lane: u32, page: u32, out: &mut [u8]) -> u32 {
+    let (pointer, words) = (table.as_ptr(), table.len());
+    unsafe { library::lane_sheet(pointer, words, lane, page, out.as_mut_ptr(), out.len()) }
+}
+
 /// Takes a snapshot of a table, its words by columns: 0, or the refusal.
 ///
 /// ```
@@ -326,6 +364,46 @@ pub fn tags_read(bytes: &[u8], words: &mut [u32]) -> u64 {
 pub fn tags_write(words: &[u32], bytes: &mut [u8]) -> u64 {
     let (out, out_bytes) = (bytes.as_mut_ptr(), bytes.len());
     unsafe { library::lane_tags_write(words.as_ptr(), words.len(), out, out_bytes) }
+}
+
+/// Tests an airline list: 0, or the refusal times 2^32 plus the first faulty line, from 1.
+///
+/// ```
+/// use lane::ffi;
+///
+/// assert_eq!(ffi::list_check(b"(airline (code 125) left)\n(others right)\n"), 0);
+/// assert_eq!(ffi::list_check(b"(airline (code 125) left)\n"), 29 << 32 | 1);
+/// assert_eq!(ffi::list_check(b""), 27 << 32 | 1);
+/// ```
+pub fn list_check(list: &[u8]) -> u64 {
+    unsafe { library::lane_list_check(list.as_ptr(), list.len()) }
+}
+
+/// Gives an idle task a push on a lane, of a tag's leading digit and low part, at the end that an airline list names
+/// for it: 0, or the refusal times 2^32, for a faulty list plus the first faulty line.
+///
+/// ```
+/// use lane::ffi;
+///
+/// let mut table = [0; 45];
+/// assert_eq!(ffi::start(&mut table, 4, 1, 0, 2), 0);
+/// let list = b"(airline (code 125) left)\n(others right)\n";
+/// assert_eq!(ffi::push_by_list(&list[..25], &mut table, 1, 2, 10, 0), 29 << 32 | 1);
+/// assert_eq!(ffi::push_by_list(list, &mut table, 1, 2, 10, 0), 26 << 32);
+/// assert_eq!(ffi::push_by_list(list, &mut table, 0, 1, 9, 125_000_051), 0);
+/// assert_eq!(table[32..37], [1, 2, 0, 125_000_051, 9]); // a push, its first step, left, its tag
+/// ```
+pub fn push_by_list(
+    list: &[u8],
+    table: &mut [u32],
+    task: u32,
+    lane: u32,
+    digit: u32,
+    argument: u32,
+) -> u64 {
+    let (text, bytes) = (list.as_ptr(), list.len());
+    let (pointer, words) = (table.as_mut_ptr(), table.len());
+    unsafe { library::lane_push_by_list(text, bytes, pointer, words, task, lane, digit, argument) }
 }
 
 /// Writes a fresh window that looks back on so many ticks, 1 to 4,096: 0, or the refusal.

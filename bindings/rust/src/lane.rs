@@ -3,7 +3,9 @@
 use core::fmt;
 use core::ops::{Deref, DerefMut};
 
-use crate::{view, Answer, Bags, Lanes, NotStarted, Operation, Refusal, Side, Tags};
+use crate::{
+    view, AirlineList, Answer, Bags, Lanes, NotStarted, Operation, Page, Refusal, Side, Tag, Tags,
+};
 
 /// A table with one lane and the calls on it. The words are owned (`Vec<u32>`, `[u32; N]`) or lent (`&mut [u32]`;
 /// `&[u32]` to read).
@@ -86,6 +88,29 @@ impl<W: AsRef<[u32]> + AsMut<[u32]>> Lane<W> {
         self.table.begin(task, 0, operation, side)
     }
 
+    /// Gives an idle task a push at the end that an airline list names for its tag, as [`Lanes::push_by_list`] does.
+    ///
+    /// ```
+    /// use lane::{AirlineList, Answer, Lane, Tag};
+    ///
+    /// let list = AirlineList::parse("(airline (code 999) left)\n(others right)\n")?;
+    /// let mut lane = Lane::start([0; lane::words(4, 1)], 4, 1, 0)?;
+    /// for tag in [Tag::MIN, Tag::MAX] {
+    ///     lane.push_by_list(0, tag, &list)?;
+    ///     assert_eq!(lane.ticks(0, 0, u32::MAX)?, Answer::Pushed);
+    /// }
+    /// assert!(lane.bags()?.eq([Tag::MAX, Tag::MIN]));
+    /// # Ok::<(), lane::Refusal>(())
+    /// ```
+    pub fn push_by_list<T: AsRef<[u8]>>(
+        &mut self,
+        task: u32,
+        tag: Tag,
+        list: &AirlineList<T>,
+    ) -> Result<(), Refusal> {
+        self.table.push_by_list(task, 0, tag, list)
+    }
+
     /// Begins a call and ticks its task to the answer, as [`Lanes::call`] does.
     ///
     /// ```
@@ -158,6 +183,22 @@ impl<W: AsRef<[u32]>> Lane<W> {
     /// ```
     pub fn bags(&self) -> Result<Bags<'_>, Refusal> {
         self.table.bags(0)
+    }
+
+    /// A page of the shift sheet of the lane, as [`Lanes::sheet`] gives it.
+    ///
+    /// ```
+    /// use lane::{Lane, Operation, Side, Tag};
+    ///
+    /// let mut lane = Lane::start([0; lane::words(4, 1)], 4, 1, 0)?;
+    /// let _ = lane.call(0, Operation::Push(Tag::MAX), Side::Right)?;
+    /// let page = lane.sheet(0)?;
+    /// let lines: Vec<&str> = page.lines().map(str::trim_end).take(3).collect();
+    /// assert_eq!(lines, ["LANE 0001", "9999999999", ""]);
+    /// # Ok::<(), lane::Refusal>(())
+    /// ```
+    pub fn sheet(&self, page: u32) -> Result<Page, Refusal> {
+        self.table.sheet(0, page)
     }
 
     /// The table, given back.

@@ -4,8 +4,8 @@ use core::fmt;
 
 use crate::view::{self, View};
 use crate::{
-    ffi, max_ticks_alone, outcome, pair, reply, Answer, Bags, Dispatched, NotStarted, Operation,
-    Ran, Refusal, Side, Snapshot, Tags,
+    ffi, max_ticks_alone, outcome, pair, reply, AirlineList, Answer, Bags, Dispatched, NotStarted,
+    Operation, Page, Ran, Refusal, Side, Snapshot, Tag, Tags,
 };
 
 /// A table with one to four lanes, numbered from 0, and the calls on it. The words are owned (`Vec<u32>`, `[u32; N]`)
@@ -114,6 +114,35 @@ impl<W: AsRef<[u32]> + AsMut<[u32]>> Lanes<W> {
         let (number, side) = (operation.number(), side.number());
         let words = self.words.as_mut();
         reply(ffi::begin(words, task, lane, number, side, digit, argument))
+    }
+
+    /// Gives an idle task a push on a lane, at the end that an airline list names for its tag; else it is such a
+    /// [`Lanes::begin`].
+    ///
+    /// ```
+    /// use lane::{AirlineList, Answer, Lanes, Refusal, Tag};
+    ///
+    /// let list = AirlineList::parse("(airline (code 999) left)\n(others right)\n")?;
+    /// let mut lanes = Lanes::start([0; lane::words(8, 2)], 8, 2, 0, 2)?;
+    /// for tag in [Tag::MIN, Tag::MAX] {
+    ///     lanes.push_by_list(0, 1, tag, &list)?;
+    ///     assert_eq!(lanes.ticks(0, 0, u32::MAX)?, Answer::Pushed);
+    /// }
+    /// assert!(lanes.bags(1)?.eq([Tag::MAX, Tag::MIN]));
+    /// assert_eq!(lanes.push_by_list(1, 0, Tag::MIN, &list), Err(Refusal::Twice));
+    /// # Ok::<(), Refusal>(())
+    /// ```
+    pub fn push_by_list<T: AsRef<[u8]>>(
+        &mut self,
+        task: u32,
+        lane: u32,
+        tag: Tag,
+        list: &AirlineList<T>,
+    ) -> Result<(), Refusal> {
+        let ([digit, low], words) = (tag.words(), self.words.as_mut());
+        let begun = ffi::push_by_list(list.text(), words, task, lane, digit, low);
+        let (refusal, _) = pair(begun);
+        refusal.map_or(Ok(()), Err)
     }
 
     /// Makes one tick of a busy task. If the tick takes a free slot, it is the first one from `hint` (below the number
@@ -363,6 +392,27 @@ impl<W: AsRef<[u32]>> Lanes<W> {
     /// ```
     pub fn bags(&self, lane: u32) -> Result<Bags<'_>, Refusal> {
         view::bags(self.words(), lane)
+    }
+
+    /// A page of the shift sheet of a lane. The pages are numbered from 0, and [`PAGES`](crate::PAGES) of them hold
+    /// every lane; one past the last tag has its heading and blank lines.
+    ///
+    /// ```
+    /// use lane::{Lanes, Operation, Refusal, Side, Tag};
+    ///
+    /// let mut lanes = Lanes::start([0; lane::words(8, 1)], 8, 1, 0, 2)?;
+    /// for tag in [Tag::MAX, Tag::MIN] {
+    ///     let _ = lanes.call(0, 1, Operation::Push(tag), Side::Right)?;
+    /// }
+    /// let page = lanes.sheet(1, 0)?;
+    /// let lines: Vec<&str> = page.lines().map(str::trim_end).take(3).collect();
+    /// assert_eq!(lines, ["LANE 0002", "9999999999 0000000001", ""]);
+    /// assert_eq!(lanes.sheet(1, 3), Err(Refusal::Page));
+    /// assert_eq!(lanes.sheet(2, 0), Err(Refusal::Lane));
+    /// # Ok::<(), Refusal>(())
+    /// ```
+    pub fn sheet(&self, lane: u32, page: u32) -> Result<Page, Refusal> {
+        Page::of(self.words(), lane, page)
     }
 
     /// Takes a snapshot: every word of it is written. It is as long as the table, else [`Refusal::Snapshot`].

@@ -48,6 +48,13 @@
 //! The baggage office sends and wants lists of tags in packed decimal. [`tags_read`] and [`tags_write`] take them to
 //! two words a tag, as [`Lane::read`] writes them, and back; they need no table.
 //!
+//! An [`AirlineList`] says which airline is loaded at which end. It is a text that is edited on site; a faulty one is
+//! refused, and its first faulty line named. [`Lanes::push_by_list`] begins a push at the end that the list names for
+//! its tag.
+//!
+//! The shift office prints a lane on pages of 80 columns by 60 lines, the tags in lines of seven under a heading with
+//! their number. [`Lanes::sheet`] gives a [`Page`].
+//!
 //! A [`Snapshot`] holds the words of a table by columns, to keep and to compare. [`Lanes::take`] takes one, and
 //! [`Lanes::put`] puts it back: the table is then what it was, and the calls after it are answered as those after the
 //! moment at which it was taken. Put back only what you took, whole.
@@ -60,7 +67,7 @@
 //! again changes nothing.
 //!
 //! Different tables may be used by different threads, and a shared `&Lane` may be read by several. Calls that tick take
-//! about 5.6 kB of stack, the others under 0.6 kB. The library is for x86-64.
+//! about 5.6 kB of stack, the others under 0.6 kB; a [`Page`] is 4,860 bytes. The library is for x86-64.
 //!
 //! # What a caller can count on
 //!
@@ -95,6 +102,7 @@
 
 #![no_std]
 
+mod airlines;
 mod answer;
 mod call;
 mod dispatched;
@@ -103,22 +111,26 @@ mod lane;
 mod lanes;
 mod limits;
 mod list;
+mod page;
 mod snapshot;
 mod tag;
 mod view;
 mod window;
 
+pub use airlines::{AirlineList, ListFault};
 pub use answer::{Answer, NotStarted, Ran, Refusal};
 pub use call::{Operation, Side};
 pub use dispatched::Dispatched;
 pub use lane::Lane;
 pub use lanes::Lanes;
 pub use limits::{
-    max_ticks_alone, window_words, words, LIST_TAGS, MAX_ADD, MAX_DIGIT, MAX_GROWTH, MAX_LANES,
-    MAX_LOW, MAX_PANEL_TICKS, MAX_REMOVE, MAX_SLOTS, MAX_TASKS, MAX_TICKS, MAX_WIDTH, MIN_LANES,
-    MIN_SLOTS, MIN_TASKS, TAG_BYTES,
+    max_ticks_alone, window_words, words, LIST_BYTES, LIST_LINES, LIST_TAGS, MAX_ADD, MAX_DIGIT,
+    MAX_GROWTH, MAX_LANES, MAX_LOW, MAX_PANEL_TICKS, MAX_REMOVE, MAX_SLOTS, MAX_TASKS, MAX_TICKS,
+    MAX_WIDTH, MIN_LANES, MIN_SLOTS, MIN_TASKS, PAGES, PAGE_BYTES, PAGE_COLUMNS, PAGE_LINES,
+    PAGE_TAGS, TAG_BYTES,
 };
 pub use list::{tags_read, tags_write, RefusedTags};
+pub use page::Page;
 pub use snapshot::Snapshot;
 pub use tag::{ParseTagError, Tag, Tags};
 pub use view::Bags;

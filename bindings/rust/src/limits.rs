@@ -30,6 +30,20 @@ pub const MAX_PANEL_TICKS: usize = 32;
 pub const TAG_BYTES: usize = 5;
 /// The most tags of a tag list.
 pub const LIST_TAGS: usize = 1024;
+/// The most lines of an airline list, with the closing one.
+pub const LIST_LINES: usize = 64;
+/// The most bytes of an airline list that is accepted.
+pub const LIST_BYTES: usize = 1716;
+/// The pages of the shift sheet, for any lane.
+pub const PAGES: u32 = 3;
+/// The most tags of a [`Page`](crate::Page).
+pub const PAGE_TAGS: usize = 413;
+/// The lines of a [`Page`](crate::Page), the heading with them.
+pub const PAGE_LINES: usize = 60;
+/// The bytes of a line of a [`Page`](crate::Page), without its line feed.
+pub const PAGE_COLUMNS: usize = 80;
+/// The bytes of a [`Page`](crate::Page).
+pub const PAGE_BYTES: usize = 4860;
 
 /// The most ticks that a [`Window`](crate::Window) looks back on; the fewest are 1.
 pub const MAX_WIDTH: u32 = 4096;

@@ -75,6 +75,15 @@ impl Tag {
     pub const fn words(self) -> [u32; 2] {
         split(self.0)
     }
+
+    /// The airline's code, 0 to 999: the second to fourth of the ten digits.
+    ///
+    /// ```
+    /// assert_eq!(lane::Tag::new(9_125_000_051).map(lane::Tag::code), Some(125));
+    /// ```
+    pub const fn code(self) -> u32 {
+        self.words()[1] / 1_000_000
+    }
 }
 
 /// The leading digit and the low part of a number below 2^40. Of one that is no tag the first is no digit.

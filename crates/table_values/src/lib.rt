@@ -21,7 +21,7 @@ ghost use Rattle.machine.specs.Values.{
   bagOk,
   valueOk,
 };
-ghost use Rattle.table_values.specs.Tests.{isSame, isBag, markOf};
+ghost use Rattle.table_values.specs.Tests.{isSame, markOf};
 
 // 02: the mirror of a mark is 3 higher or lower.
 const MIRROR_STEP: u32 = 3;
@@ -105,14 +105,6 @@ pub fn same(u: Stored, v: Stored) -> bool
     equal(u, v)
 }
 
-// Whether a value is a bag.
-pub fn is_bag(v: Stored) -> bool
-    requires { ⌜ valueOk v ≡ true ⌝ }
-    ensures { λ r. ⌜ r ≡ isBag (decode v) ⌝ }
-{
-    bag_ok(v)
-}
-
 // The mirror of a mark: up to LY that mark plus 3, of the others minus 3. Any other value is its own.
 pub fn mirror(v: Stored) -> Stored
     requires { ⌜ valueOk v ≡ true ⌝ }
@@ -179,4 +171,14 @@ pub fn y_of(side: u32) -> Stored
         },
         side,
     )
+}
+
+// The same value, its words written out: the compiler then reads each by itself where it is tested.
+pub fn word_by_word(v: Stored) -> Stored
+    ensures { λ r. ⌜ r ≡ v ⌝ }
+{
+    Stored {
+        word: v.word,
+        digit: v.digit,
+    }
 }

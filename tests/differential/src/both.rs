@@ -5,7 +5,7 @@ use std::fmt;
 
 use lane::ffi;
 use reference::table::header;
-use reference::Answer;
+use reference::{airlines, sheet, Answer};
 
 use crate::common::calls::whole;
 use crate::common::row::Note;
@@ -16,7 +16,7 @@ use crate::starts;
 /// Calls that are shown when a comparison fails.
 const SHOWN: usize = 40;
 
-/// A call with its numbers, to be shown; of slices the lengths.
+/// A call with its numbers, to be shown; of slices the lengths, of an airline list its text.
 #[derive(Debug)]
 #[allow(dead_code)]
 enum Call {
@@ -24,6 +24,8 @@ enum Call {
     Start([u32; 4]),
     /// Task, call.
     Begin(u32, Note),
+    /// List, task, lane, digit, low part.
+    PushByList(String, [u32; 4]),
     /// Task, hint.
     Tick(u32, u32),
     /// Task, hint, how many.
@@ -38,6 +40,8 @@ enum Call {
     Panel(usize, usize),
     /// Lane, words of the out slice.
     Read(u32, usize),
+    /// Lane, page, bytes of the out slice.
+    Sheet(u32, u32, usize),
     /// Words of the snapshot.
     Take(usize),
     /// The same.
@@ -122,6 +126,30 @@ impl Both {
         self.compare(proved, number);
         self.done(1, number, second.is_ok());
         second
+    }
+
+    /// A push of these words at the end that a list names; a refusal comes with the list's line, or 0.
+    pub fn push_by_list(
+        &mut self,
+        list: &[u8],
+        task: u32,
+        lane: u32,
+        [digit, low]: [u32; 2],
+    ) -> Result<(), (u32, u32)> {
+        let shown = String::from_utf8_lossy(list).into_owned();
+        self.note(Call::PushByList(shown, [task, lane, digit, low]));
+        let lent = Lent::new(list);
+        let (proved, second) = (self.proved.words_mut(), self.second.words_mut());
+        let proved = ffi::push_by_list(lent.words(), proved, task, lane, digit, low);
+        let second = airlines::push_by_list(lent.words(), second, task, lane, digit, low);
+        self.compare(halves(proved), second.into());
+        assert!(lent == Lent::new(list), "a list was written");
+        let (number, _) = second;
+        self.done(11, number, number == 0);
+        match second {
+            (0, _) => Ok(()),
+            refused => Err(refused),
+        }
     }
 
     pub fn tick(&mut self, task: u32, hint: u32) -> Result<Answer, u32> {
@@ -230,6 +258,35 @@ impl Both {
         );
         self.done(5, reading.err().unwrap_or(0), false);
         reading.map(|_| whole(tags))
+    }
+
+    /// Gives a page of a lane, or the refusal; the out slice had `content` in every byte.
+    pub fn sheet(
+        &mut self,
+        lane: u32,
+        page: u32,
+        length: usize,
+        content: u8,
+    ) -> Result<Vec<u8>, u32> {
+        self.note(Call::Sheet(lane, page, length));
+        let mut proved = Lent::new(&vec![content; length]);
+        let mut second = proved.clone();
+        let given = ffi::sheet(self.proved.words(), lane, page, proved.words_mut());
+        let number = sheet::sheet(self.second.words(), lane, page, second.words_mut());
+        self.compare(given, number);
+        if let Some(place) = proved.first_other(&second) {
+            panic!("the programs differ in a page, first at byte {place}");
+        }
+        let bytes = second.words();
+        assert!(
+            number == 0 || bytes.iter().all(|&byte| byte == content),
+            "a sheet that was refused wrote"
+        );
+        self.done(12, number, false);
+        match number {
+            0 => Ok(bytes.to_vec()),
+            _ => Err(number),
+        }
     }
 
     /// Gives the snapshot, or the refusal; its slice had `content` in every word.

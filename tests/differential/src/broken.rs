@@ -2,6 +2,7 @@
 
 use reference::table::{content, header, is_tag, node, record, Content, Sizes, MAX_LOW, PUSH};
 
+use crate::airlines;
 use crate::both::Both;
 use crate::common::random::Random;
 use crate::common::row::Note;
@@ -9,6 +10,7 @@ use crate::common::tables::{shaped_of, sizes};
 use crate::counts::{Counts, Origin};
 use crate::dispatches;
 use crate::consecutive;
+use crate::sheets;
 use crate::snapshots;
 
 /// Calls on a well-shaped table.
@@ -71,6 +73,14 @@ pub fn calls(random: &mut Random, counts: &mut Counts, both: &mut Both) {
                 None => taken = Some(snapshots::take(random, both)),
                 Some(snapshot) => assert_eq!(both.put(snapshot), Ok(())),
             },
+            18 | 19 => {
+                let [low, digit] = some_tag(random, both.table(), sizes);
+                let words = [[digit, low], [random.digit(), random.word()]];
+                let (list, words) = (airlines::any_list(random), random.pick(&words));
+                let given = both.push_by_list(&list, task, lane, words);
+                assert!(!matches!(given, Err((3 | 4, _))), "the shape is broken");
+            }
+            20 => sheets::any(random, counts, both, lane),
             _ => {
                 let given = both.tick(task, hint);
                 if matches!(given, Ok(_) | Err(11)) {
@@ -105,7 +115,7 @@ pub fn damaged(random: &mut Random, counts: &mut Counts) {
             digit: random.digit(),
             argument: four,
         };
-        match random.below(24) {
+        match random.below(27) {
             0 | 1 => {
                 let _ = both.start([one, two, three, lane]);
             }
@@ -132,6 +142,11 @@ pub fn damaged(random: &mut Random, counts: &mut Counts) {
             18 | 19 => {
                 let _ = both.put(&words[random.pick(&[0, 0, 0, 1]).min(words.len())..]);
             }
+            20 | 21 => {
+                let (list, words) = (airlines::any_list(random), [call.digit, four]);
+                let _ = both.push_by_list(&list, one % 20, lane, words);
+            }
+            22 => sheets::any(random, counts, &mut both, lane),
             _ => {
                 let _ = both.tick(one % 20, two);
             }

@@ -3,6 +3,7 @@
 use reference::table::{header, node, record, Sizes};
 use reference::Answer;
 
+use crate::airlines::Airlines;
 use crate::alone::Alone;
 use crate::apart::Apart;
 use crate::begins::Begins;
@@ -16,6 +17,7 @@ use crate::consecutive::Consecutive;
 use crate::lists::Lists;
 use crate::one_user::played::Users;
 use crate::outcomes::{Leads, Outcome, OUTCOMES};
+use crate::sheets::Sheets;
 use crate::snapshots::Snapshots;
 use crate::starts;
 use crate::stretch::Stretches;
@@ -23,7 +25,7 @@ use crate::windows::Windows;
 use crate::words::Words;
 
 /// The calls, and what each can give by the paper; 0 stands for no refusal.
-const GIVEN: [(&str, &[usize]); 11] = [
+const GIVEN: [(&str, &[usize]); 13] = [
     ("start", &[0, 1, 2, 25]),
     ("begin", &[0, 3, 4, 5, 6, 7, 8, 11, 16, 26]),
     ("tick", &[0, 3, 4, 5, 9, 10, 11]),
@@ -35,6 +37,8 @@ const GIVEN: [(&str, &[usize]); 11] = [
     ("dispatches", &[0, 3, 4, 9, 11]),
     ("take", &[0, 3, 4, 22]),
     ("put", &[0, 3, 4, 22]),
+    ("push by list", &[0, 3, 4, 5, 7, 8, 11, 16, 26, 27, 28, 29]),
+    ("sheet", &[0, 3, 4, 11, 20, 21, 26]),
 ];
 /// All steps that change the digit of a node, and whether a table that start and the calls reach shows it.
 const CHANGE: [(u32, bool); 5] = [(5, true), (28, false), (31, false), (51, true), (78, false)];
@@ -45,7 +49,7 @@ pub const NAMES: [&str; 4] = ["push", "pop", "add", "remove"];
 #[derive(Default)]
 pub struct Given {
     /// By call and refusal.
-    pub refusals: [[u64; 27]; GIVEN.len()],
+    pub refusals: [[u64; 30]; GIVEN.len()],
     /// Starts, as they are listed.
     pub starts: [u64; starts::FOUND.len()],
     /// Ticks that the panel's lists made.
@@ -96,6 +100,10 @@ pub struct Counts {
     pub users: Users,
     /// Tag lists.
     pub lists: Lists,
+    /// Airline lists.
+    pub airlines: Airlines,
+    /// Pages of the shift sheet.
+    pub sheets: Sheets,
     /// Snapshots put back.
     pub snapshots: Snapshots,
     /// Windows of lost swaps.
@@ -122,6 +130,8 @@ impl Counts {
             idle: Idle::default(),
             users: Users::default(),
             lists: Lists::default(),
+            airlines: Airlines::default(),
+            sheets: Sheets::default(),
             snapshots: Snapshots::default(),
             windows: Windows::default(),
         }
@@ -220,6 +230,8 @@ impl Counts {
         faults.extend(self.idle.report());
         faults.extend(self.users.report());
         faults.extend(self.lists.report());
+        faults.extend(self.airlines.report());
+        faults.extend(self.sheets.report());
         faults.extend(self.snapshots.report());
         faults.extend(self.windows.report());
         faults
@@ -258,7 +270,7 @@ impl Counts {
                 .filter(|&number| counts[number] > 0)
                 .map(|number| format!("{number}: {}", counts[number]))
                 .collect();
-            println!("{name:10} gave {}", seen.join(", "));
+            println!("{name:12} gave {}", seen.join(", "));
             for (number, count) in counts.iter().enumerate() {
                 if (*count > 0) != wanted.contains(&number) {
                     faults.push(format!("{name} gave {number} {count} times"));

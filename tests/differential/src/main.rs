@@ -6,6 +6,7 @@
 
 #![forbid(unsafe_code)]
 
+mod airlines;
 mod alone;
 mod apart;
 mod begins;
@@ -24,6 +25,7 @@ mod nearest;
 mod one_user;
 mod outcomes;
 mod play;
+mod sheets;
 mod snapshots;
 mod starts;
 mod stretch;
@@ -104,7 +106,8 @@ fn options() -> Option<Options> {
 }
 
 /// Small tables of every size with every number of lanes that it allows, few and many tasks; a few slots for each of
-/// several lanes; a large one, and tables from anywhere; and tag lists and windows.
+/// several lanes; a large one, and tables from anywhere; lanes of any length on the shift sheet; and tag lists, airline
+/// lists and windows.
 fn round(random: &mut Random, counts: &mut Counts) {
     for nodes in SMALL {
         let first = random.below(LANES.len() as u32) as usize;
@@ -135,7 +138,9 @@ fn round(random: &mut Random, counts: &mut Counts) {
         let table = shaped(random);
         words::check(random, counts, table);
     }
+    sheets::check(random, counts);
     lists::check(random, &mut counts.lists);
+    airlines::check(random, counts);
     windows::check(random, &mut counts.windows);
 }
 

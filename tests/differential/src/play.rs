@@ -2,6 +2,7 @@
 //! snapshots taken and put back.
 
 mod adversary;
+mod airlines;
 mod delay;
 mod consecutive;
 mod in_turn;
@@ -21,6 +22,7 @@ use crate::common::row::{Note, Row};
 use crate::counts::{Counts, Origin};
 use crate::idle;
 use crate::one_user::played;
+use crate::sheets;
 use crate::words;
 
 /// Which operations prevail for a while.
@@ -103,7 +105,7 @@ pub fn play(random: &mut Random, counts: &mut Counts, sizes: Sizes, calls: u32) 
 
 impl Play<'_> {
     fn call(&mut self) {
-        match self.random.below(116) {
+        match self.random.below(118) {
             0..=54 => {
                 let (task, hint) = self.pair();
                 if matches!(self.row.notes.get(task as usize), Some(None)) {
@@ -145,6 +147,7 @@ impl Play<'_> {
             110 if self.random.once_in(3) => self.put_other(),
             111 if self.random.once_in(4) => self.again(),
             111 if self.random.once_in(8) => self.other_sizes(),
+            112 | 113 => self.sheet(),
             _ => self.favourite = self.random.below(self.sizes.tasks),
         }
     }
@@ -227,12 +230,28 @@ impl Play<'_> {
         }
     }
 
-    /// Of any lane, sometimes one that there is not, to an out slice of any length.
-    fn read(&mut self) {
-        let lane = match self.random.below(8) {
+    /// Any lane, sometimes one that there is not.
+    fn any_lane(&mut self) -> u32 {
+        match self.random.below(8) {
             0 => self.random.word(),
             _ => self.random.below(self.sizes.lanes + 1),
-        };
+        }
+    }
+
+    /// A page of a lane, to an out slice of any length.
+    fn sheet(&mut self) {
+        let lane = self.any_lane();
+        let (number, length) = sheets::some_page(self.random);
+        let content = self.random.word() as u8;
+        let given = self.both.sheet(lane, number, length, content);
+        let row = self.row.tags.get_mut(lane as usize);
+        let tags = row.map_or(Err(26), |row| Ok(&*row.make_contiguous()));
+        sheets::hold(self.counts, &given, tags, number, length);
+    }
+
+    /// A lane, to an out slice of any length.
+    fn read(&mut self) {
+        let lane = self.any_lane();
         let length = self.random.below(2 * self.sizes.nodes + 2) as usize;
         let content = self.random.word();
         let wanted = match self.row.tags.get(lane as usize) {
@@ -277,13 +296,18 @@ impl Play<'_> {
         let wanted = self.row.begin(task, call);
         let given = self.both.begin(task, call);
         assert_eq!(given, wanted, "begin");
+        self.begun(task, call, given);
+        self.check();
+    }
+
+    /// Counts what the begin of a push gave, by a list or not.
+    fn begun(&mut self, task: u32, call: Note, given: Result<(), u32>) {
         if call.operation == PUSH && !matches!(given, Err(5..=7 | 26)) {
             let before = self.both.before();
             let begins = &mut self.counts.begins;
             begins.saw(Origin::Calls, before, task, call, given);
             begins.again += u64::from(given.is_ok() && self.past.contains(&call.tag()));
         }
-        self.check();
     }
 
     /// The tag of a busy push comes again, on its own task or on any, for any end of any lane.
@@ -308,7 +332,11 @@ impl Play<'_> {
         match operation {
             PUSH => {
                 let tag = self.any_tag();
-                self.begin(task, PUSH, end, tag);
+                if self.random.once_in(4) {
+                    self.push_by_list(task, Note::new(end.lane, PUSH, end.side, tag));
+                } else {
+                    self.begin(task, PUSH, end, tag);
+                }
             }
             _ => self.begin_with(task, operation, end),
         }
@@ -559,10 +587,11 @@ impl Play<'_> {
             digit: self.random.digit(),
             argument: four,
         };
-        match self.random.below(4) {
+        match self.random.below(5) {
             0 => self.start([one, two, three, lane]),
             1 => self.begin_call(one, call),
             2 => self.begin_call(one % 20, call),
+            3 => self.push_by_list(one % 20, call),
             _ => self.tick(one, two),
         }
     }

@@ -3,6 +3,7 @@
 
 use reference::table::{header, node, record, Sizes, IDLE, LEFT, NONE, POP, RIGHT};
 
+use crate::airlines;
 use crate::both::Both;
 use crate::broken;
 use crate::common::random::Random;
@@ -168,10 +169,12 @@ pub fn check(random: &mut Random, counts: &mut Counts, mut table: Vec<u32>) {
         broken::calls(random, counts, &mut both);
     } else {
         assert_eq!(both.begin(0, Note::new(0, POP, 0, 0)), Err(gives), "{name}");
+        airlines::turned_back(&mut both, gives);
         assert_eq!(both.tick(0, 0), Err(gives), "{name}");
         assert_eq!(both.dispatch(0), Err(gives), "{name}");
         assert_eq!(both.panel(&[], 0, 0).0, gives, "{name}");
         assert_eq!(both.read(0, 0, 0), Err(gives), "{name}");
+        assert_eq!(both.sheet(0, 0, 0, 0), Err(gives), "{name}");
         snapshots::turned_back(&mut both, gives);
     }
     counts.add(&both.given);

@@ -1,33 +1,20 @@
 -- A table that has passed the tests of refusals 3 and 4: its nodes as the code reads them, and where the walk may be.
-use mathlib.Core.Path.{_≡_, sym, ap, _∙_, subst}
+use mathlib.Core.Path.{_≡_, _∙_, subst}
 use mathlib.Core.List.{List}
-use Prim.Native.Nat.{ℕ, _+_, _*_, _-_, _≤_, _<_}
+use Prim.Native.Nat.{ℕ, _-_, _≤_, _<_}
 use native.Mathlib.Omega.{arith}
 use lib.ListN.{length, drop, length-drop}
 use lib.Seq.{length-take-le}
 use borrow.Rule.Slice.PartMut.{midOf}
-use Rattle.machine.specs.declared.Stored.{Stored}
 use Rattle.machine.specs.Choice.{_<?_}
 use Rattle.machine.specs.Sides.{left, right}
 use Rattle.machine.specs.Tasks.{none}
-use Rattle.machine.specs.Table.{
-  headerLength,
-  nodeLength,
-  nodeAt,
-  nodeCount,
-  laneCount,
-  mostLanes,
-  hatWord,
-  hat,
-  linkWord,
-  link,
-  valueWords,
-}
-use Rattle.machine.specs.Shape.{WellFormed}
+use Rattle.machine.specs.Table.{headerLength, nodeCount, laneCount, mostLanes, hatWord, hat, linkWord, link, valueWords}
+use Rattle.machine.specs.Shape.{WellFormed, sizesOf, WellSized}
 use Rattle.machine.proofs.Basics.Choices.{if-yes}
-use Rattle.machine.proofs.Words.Columns.{sizesOf, columns}
+use Rattle.machine.proofs.Words.Columns.{columns}
 use Rattle.machine.proofs.Shape.BusyLaws.{NodeOrNone}
-use Rattle.machine.proofs.Shape.ShapeLaws.{WellSized, WellShaped, well-sized, well-shaped}
+use Rattle.machine.proofs.Shape.ShapeLaws.{WellShaped, well-sized, well-shaped}
 use Rattle.table_layout.specs.Words.{HoldsNode, linkIn, storedIn}
 use Rattle.table_layout.proofs.Laws.Views.{link-there, value-there}
 

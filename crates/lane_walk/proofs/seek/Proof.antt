@@ -1,16 +1,13 @@
 -- `lane_walk::seek` meets its contract: the bags tallied and those of the walk ahead are those of the whole walk.
 use mathlib.Core.Path.{_≡_, sym, ap, _∙_}
-use mathlib.Core.Logic.{_≢_}
 use mathlib.Core.Bool.{Bool}
 use mathlib.Core.List.{List}
 use Prim.Native.Nat.{ℕ, _-_, _≤_, _<_}
 use native.Mathlib.Omega.{arith}
 use borrow.Author.Needs.{needs}
 use borrow.Author.Tests.{not-true, not-false}
-use Rattle.machine.specs.declared.Stored.{Stored}
 use Rattle.machine.specs.Values.{bagOk}
 use Rattle.machine.specs.Sides.{left}
-use Rattle.machine.specs.Tasks.{none}
 use Rattle.machine.specs.Table.{nodeCountAt, nodeCount, hat, valueWords}
 use Rattle.machine.specs.Calls.{laneFrom, lane}
 use Rattle.machine.proofs.Shape.BusyLaws.{NodeOrNone}

@@ -13,7 +13,7 @@ use Rattle.machine.specs.declared.Answer.the-variants.{Going, Pushed, Ba
 use Rattle.machine.specs.Sides.{Side, right}
 use Rattle.machine.specs.Tasks.{wordsOf}
 use Rattle.machine.specs.Table.{nodeCount, taskCount, growth, laneCount, mostLanes, tickCount, task}
-use Rattle.machine.specs.Shape.{lengthOk, shapeOk}
+use Rattle.machine.specs.Shape.{lengthOk, shapeOk, sizesOf, WellSized}
 use Rattle.machine.specs.Lines.{Effect}
 use Rattle.machine.specs.Answers.{kindOf, payloadOf, dispatchPayloadOf, refusalOf}
 use Rattle.machine.specs.Calls.{
@@ -37,9 +37,9 @@ use Rattle.machine.proofs.Basics.Tests.{test-passed, tests-left}
 use Rattle.machine.proofs.Basics.Updates.{update}
 use Rattle.machine.proofs.Words.Memories.{viewed, viewAfter}
 use Rattle.machine.proofs.Words.ValueLaws.{HasWord, never-has-word}
-use Rattle.machine.proofs.Words.Columns.{sizesOf, columns, putTickCount, putRecord, putAll}
+use Rattle.machine.proofs.Words.Columns.{columns, putTickCount, putRecord, putAll}
 use Rattle.machine.proofs.Words.EffectLaws.{AllInRange, effectWords, columns-effect, viewed-effect, task-effect}
-use Rattle.machine.proofs.Shape.ShapeLaws.{WellSized, WellShaped, well-shaped}
+use Rattle.machine.proofs.Shape.ShapeLaws.{WellShaped, well-shaped}
 use Rattle.machine.proofs.Shape.Fits.{AnswerFits, answer-tag, Fits, turns-back, goes-on, ends}
 use Rattle.machine.proofs.Shape.WritesKeep.{all-in-range}
 use Rattle.machine.proofs.Shape.TickKeeps.{tick-allowed, busy-facts, effect-fits}

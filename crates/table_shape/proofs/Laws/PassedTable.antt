@@ -10,11 +10,10 @@ use Rattle.machine.specs.Choice.{_≟_, _<?_}
 use Rattle.machine.specs.Operations.{operationOf}
 use Rattle.machine.specs.Tasks.{Task, operationWord, taskOf}
 use Rattle.machine.specs.Table.{nodeCount, taskCount, recordWords, task}
-use Rattle.machine.specs.Shape.{lengthOk, shapeOk, WellFormed}
+use Rattle.machine.specs.Shape.{lengthOk, shapeOk, WellFormed, sizesOf, WellSized}
 use Rattle.machine.specs.Calls.{unless, tableRefusal, isBusy}
 use Rattle.machine.proofs.Basics.Choices.{if-yes, by-if}
-use Rattle.machine.proofs.Words.Columns.{sizesOf}
-use Rattle.machine.proofs.Shape.ShapeLaws.{WellSized, well-sized}
+use Rattle.machine.proofs.Shape.ShapeLaws.{well-sized}
 use Rattle.answers.specs.Refusals.{numberOf}
 
 -- The first two tests decide alone where one of them fails, and leave the rest to the others where both pass.

@@ -9,10 +9,9 @@ use lib.ListN.{length, getD}
 use borrow.Author.Tests.{le-leb, lt-leb, lt-ltb, le-ltb}
 use Rattle.machine.specs.Tasks.{none, recordLength}
 use Rattle.machine.specs.Table.{headerLength, recordAt, tableLength, nodeCount, taskCount, growth, laneCount}
-use Rattle.machine.specs.Shape.{lanesOk, sizesOk, lengthOk}
+use Rattle.machine.specs.Shape.{lanesOk, sizesOk, lengthOk, sizesOf, WellSized}
 use Rattle.table_shape.specs.Contracts.{hatsOk}
-use Rattle.machine.proofs.Words.Columns.{sizesOf}
-use Rattle.machine.proofs.Shape.ShapeLaws.{WellSized, well-sized}
+use Rattle.machine.proofs.Shape.ShapeLaws.{well-sized}
 
 abbrev leastLength : ℕ
 leastLength = tableLength 2 1

@@ -43,14 +43,15 @@ impl Ends {
     }
 }
 
-/// A line of one of the two forms.
-enum Form {
+/// A line of one of the two forms: the code and the side, or the side.
+#[derive(Clone, Copy)]
+pub enum Form {
     Airline(u32, u32),
     Others(u32),
 }
 
 /// The form whose text a line is.
-fn form(line: &[u8]) -> Option<Form> {
+pub fn form(line: &[u8]) -> Option<Form> {
     let line = std::str::from_utf8(line).ok()?;
     let digits: String = line.chars().filter(char::is_ascii_digit).collect();
     [LEFT, RIGHT]
@@ -62,12 +63,18 @@ fn form(line: &[u8]) -> Option<Form> {
         })
 }
 
-/// What a list says, or the number and the line of its first fault. Every fault of every line is looked for.
-pub fn read(list: &[u8]) -> Result<Ends, (u32, u32)> {
+/// The lines of a list; a line feed at the very end opens none.
+pub fn cut(list: &[u8]) -> Vec<&[u8]> {
     let mut lines: Vec<&[u8]> = list.split(|&byte| byte == b'\n').collect();
     if lines.last().is_some_and(|last| last.is_empty()) {
         lines.pop();
     }
+    lines
+}
+
+/// What a list says, or the number and the line of its first fault. Every fault of every line is looked for.
+pub fn read(list: &[u8]) -> Result<Ends, (u32, u32)> {
+    let lines = cut(list);
     if lines.is_empty() {
         return Err((27, 1));
     }
@@ -141,9 +148,19 @@ pub fn of_every_length(random: &mut Random, mut show: impl FnMut(&[u8])) {
     }
 }
 
-/// Every byte of a short list with every other in its place, left out, doubled, and with another before it.
+/// Two short lists that have each form at each end: every byte with every other in its place, left out, doubled, and with
+/// another before it.
 pub fn with_other_bytes(random: &mut Random, mut show: impl FnMut(&[u8])) {
-    let list = text(&lines(random, 3));
+    for closing in [LEFT, RIGHT] {
+        let one = random.below(1000);
+        let other = (one + 1 + random.below(999)) % 1000;
+        let [one, other] = [one, other].map(|code| format!("{code:03}"));
+        let lines = [airline(&one, LEFT), airline(&other, RIGHT), others(closing)];
+        with_other_bytes_of(&text(&lines), &mut show);
+    }
+}
+
+fn with_other_bytes_of(list: &[u8], show: &mut impl FnMut(&[u8])) {
     for at in 0..list.len() {
         let (before, from) = list.split_at(at);
         for byte in 0..=u8::MAX {
@@ -157,7 +174,7 @@ pub fn with_other_bytes(random: &mut Random, mut show: impl FnMut(&[u8])) {
         show(from);
     }
     for byte in [b' ', b'\r', b'\n', b')', 0] {
-        show(&[&list[..], &[byte]].concat());
+        show(&[list, &[byte]].concat());
     }
 }
 
