@@ -1,13 +1,11 @@
 -- An accepted list is written as it says, but for a line feed at its end.
-use mathlib.Core.Path.{_≡_, refl, sym, ap, _∙_, subst}
-use mathlib.Core.Bool.{Bool, true, false, cond}
+use mathlib.Core.Path.{_≡_, sym, ap, _∙_, subst}
 use mathlib.Core.Logic.{_⊎_, inl, inr}
 use mathlib.Core.List.{List, [], _∷_, _++_, map}
 use Prim.Native.Nat.{ℕ}
-use borrow.Author.Tests.{eqb-true}
-use lib.Dec.{eqb}
 use Rattle.tag.proofs.TagLaws.{clash}
-use Rattle.text.specs.Lines.{lineFeed, inFront, linesOf}
+use Rattle.text.specs.Lines.{lineFeed, linesOf}
+use Rattle.text.proofs.Laws.AllLines.{joined, Joins, lines-joined}
 use Rattle.airline_list.specs.declared.End.{End}
 use Rattle.airline_list.specs.declared.forms.Form.{Form}
 use Rattle.airline_list.specs.declared.forms.Form.the-variants.{Airline, Others, Neither}
@@ -24,37 +22,7 @@ is-text line form some e = go (form-text line)
     go (inl n) = absurd (some (sym e ∙ n))
     go (inr t) = t ∙ ap formText e
 
--- ---- Lines put together again.
-joined : List (List ℕ) → List ℕ
-joined [] = []
-joined (line ∷ lines) = line ++ (lineFeed ∷ joined lines)
-
-Joins : (list text : List ℕ) → Type 0
-Joins list text = (list ≡ text) ⊎ (list ++ (lineFeed ∷ []) ≡ text)
-
-lines-joined : (list : List ℕ) → Joins list (joined (linesOf list))
-unfolding linesOf joined Joins
-lines-joined [] = inl refl
-lines-joined (b ∷ bs) = go (eqb b lineFeed) refl (linesOf bs) refl (lines-joined bs)
-  where
-    behind : (byte : ℕ) {xs ys : List ℕ} → Joins xs ys → Joins (byte ∷ xs) (byte ∷ ys)
-    behind byte (inl e) = inl (ap (λ (t : List ℕ). byte ∷ t) e)
-    behind byte (inr e) = inr (ap (λ (t : List ℕ). byte ∷ t) e)
-
-    alone : (xs : List ℕ) → Joins xs [] → Joins (b ∷ xs) (b ∷ lineFeed ∷ [])
-    alone [] j = inr refl
-    alone (x ∷ xs) (inl e) = clash (cc)
-    alone (x ∷ xs) (inr e) = clash (cc)
-
-    go : (fed : Bool) → eqb b lineFeed ≡ fed → (ls : List (List ℕ)) → linesOf bs ≡ ls
-        → Joins bs (joined (linesOf bs))
-        → Joins (b ∷ bs) (joined (cond fed ([] ∷ linesOf bs) (inFront b (linesOf bs))))
-    go true e ls f j =
-        let feed : b ≡ lineFeed = eqb-true b lineFeed e in
-        subst (λ (x : ℕ). Joins (x ∷ bs) (lineFeed ∷ joined (linesOf bs))) (sym feed) (behind lineFeed j)
-    go false e [] f j = rw f (alone bs (rw f at j))
-    go false e (l ∷ ls) f j = rw f (behind b (rw f at j))
-
+-- ---- The lines of a list put together again.
 lines-text : (es : List Entry) (closing : End) (lines : List (List ℕ)) → map formOf lines ≡ formsFor es closing
     → joined lines ≡ listText es closing
 unfolding joined listText
@@ -73,7 +41,6 @@ lines-text (e ∷ es) closing (line ∷ lines) h =
     λ i. t i ++ (lineFeed ∷ r i)
 
 pub is-its-text : IsItsText
-unfolding Joins
 is-its-text list es closing h =
     let a = accepted list es closing h in
     let t = lines-text es closing (linesOf list) (a .forms-are) in

@@ -1,15 +1,15 @@
 -- A list written from what an accepted list says is read as the same; and every tag is sent to one of the two ends.
 use mathlib.Core.Path.{_≡_, refl, sym, ap, _∙_}
-use mathlib.Core.Bool.{true, false, not}
+use mathlib.Core.Bool.{true, false}
 use mathlib.Core.Logic.{_⊎_, inl, inr}
 use mathlib.Core.List.{List, [], _∷_, _++_, map}
 use Prim.Native.Nat.{ℕ, _+_, _/_, _%_}
 use native.Mathlib.Omega.{arith}
 use borrow.Author.Tests.{ne-eqb}
 use lib.Dec.{eqb}
-use Rattle.tag.proofs.TagLaws.{both-true}
 use Rattle.text.specs.Text.{bytes}
-use Rattle.text.specs.Lines.{lineFeed, linesOf}
+use Rattle.text.specs.Lines.{lineFeed, linesOf, oneLine}
+use Rattle.text.proofs.Laws.AllLines.{line-cut}
 use Rattle.text_scan.specs.Scanned.{zeroDigit}
 use Rattle.airline_list.specs.declared.End.{End}
 use Rattle.airline_list.specs.declared.End.the-variants.{Left, Right}
@@ -18,20 +18,11 @@ use Rattle.airline_list.specs.declared.forms.Form.the-variants.{Airline,
 use Rattle.airline_list.specs.Forms.{endText, formText, formOf}
 use Rattle.airline_list.specs.Lists.{codeOf, Entry, judged, verdict, endFor, sent, listText}
 use Rattle.airline_list.specs.Accepted.{WrittenIsRead, EveryTagIsSent}
-use Rattle.airline_list.specs.FirstForm.{oneLine}
 use Rattle.airline_list.proofs.Laws.CodeLaws.{three-digits}
 use Rattle.airline_list.proofs.Laws.FormLaws.{form-written}
-use Rattle.airline_list.proofs.Laws.HeadLaws.{no-feed}
 use Rattle.airline_list.proofs.Laws.AcceptedLaws.{formsFor, CodesOk, accepted}
 
--- ---- A text without a line feed is one line.
-line-cut : (text rest : List ℕ) → oneLine text ≡ true → linesOf (text ++ (lineFeed ∷ rest)) ≡ text ∷ linesOf rest
-unfolding linesOf
-line-cut [] rest o = refl
-line-cut (b ∷ bs) rest o =
-    let p = both-true (not (eqb b lineFeed)) (oneLine bs) o in
-    rw (no-feed (eqb b lineFeed) (p .0), line-cut bs rest (p .1))
-
+-- ---- A form's text is one line.
 digit-no-feed : (d : ℕ) → eqb (zeroDigit + d) lineFeed ≡ false
 digit-no-feed d = ne-eqb (zeroDigit + d) lineFeed (λ e. absurd (omega arith))
 

@@ -1,20 +1,13 @@
 -- The form of a text's first line as the code finds it: the code where there is one, and then what stands behind it.
-use mathlib.Core.Bool.{Bool, true, cond, not, _&&_}
-use mathlib.Core.List.{List, [], _∷_}
+use mathlib.Core.Bool.{Bool, cond, _&&_}
+use mathlib.Core.List.{List}
 use Prim.Native.Nat.{ℕ}
-use lib.Dec.{eqb}
 use lib.ListN.{getD, take}
 use Rattle.text.specs.Text.{bytes, same}
-use Rattle.text.specs.Lines.{lineFeed}
 use Rattle.text_scan.specs.Scanned.{isDigit}
 use Rattle.airline_list.specs.declared.End.the-variants.{Left, Right}
 use Rattle.airline_list.specs.declared.forms.Form.{Form}
 use Rattle.airline_list.specs.declared.forms.Form.the-variants.{Airline, Others, Neither}
-
--- Whether a text has no line feed.
-abbrev pub oneLine : List ℕ → Bool
-oneLine [] = true
-oneLine (b ∷ bs) = not (eqb b lineFeed) && oneLine bs
 
 -- Whether three digits stand where the first form has its code; a byte that is missing is none.
 abbrev pub threeDigits : (text : List ℕ) → Bool

@@ -49,7 +49,7 @@ mostLines = 64
 
 -- 02: "27, a line that is neither form, a 65th line, or no line (named as line 1); 28, a code that an earlier line has;
 -- 29, a closing line with a line after it, or a last line that is not one. The first faulty line is named, from 1, with
--- its lowest number". The forms from line n on, after lines that say this. (No line is left at line 1 alone.)
+-- its lowest number". The forms from line n on, after lines that say this. (The first clause is for a list of no line.)
 unfoldable pub judged : (n : ℕ) (earlier : List Entry) → List Form → Verdict
 judged n earlier [] = faulty 27 n
 judged n earlier (Neither ∷ forms) = faulty 27 n

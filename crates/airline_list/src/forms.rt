@@ -7,10 +7,10 @@ ghost use mathlib.Core.Path.{_≡_};
 ghost use Prim.Native.Nat.{_-_, _≤_};
 ghost use lib.ListN.{length};
 ghost use Rattle.text.specs.Text.{same};
-ghost use Rattle.text.specs.Lines.{firstLine};
+ghost use Rattle.text.specs.Lines.{firstLine, oneLine};
 ghost use Rattle.text_scan.specs.Scanned.{zeroDigit, isDigit};
 ghost use Rattle.airline_list.specs.Forms.{endText, formText, codeIn, formOf};
-ghost use Rattle.airline_list.specs.FirstForm.{oneLine, threeDigits, hasCode, airlineBehind, othersIn};
+ghost use Rattle.airline_list.specs.FirstForm.{threeDigits, hasCode, airlineBehind, othersIn};
 
 // What a line says: the end of the airline with a code; that of all others; or neither form.
 pub enum Form {

@@ -12,7 +12,7 @@ ghost use Rattle.machine.specs.Answers.{kindOf, payloadOf, refusalOf, isGoing, 
 ghost use Rattle.answers.specs.Refusals.{numberOf, isRefused};
 
 // The kind of a refusal, which a run does not write, and that of a dispatch which finds no task busy.
-pub const REFUSED: u32 = 7;
+const REFUSED: u32 = 7;
 
 pub const IDLE: u32 = 8;
 
@@ -116,9 +116,10 @@ pub fn put_answer(answers: &mut [u32], at: usize, a: Answer)
     answers[at + 2] = tag::low(tag);
 }
 
-// The answer that the words of a tick stand for, where they stand for one.
+// The answer that the words of a tick stand for.
 pub fn answer_of(kind: u32, digit: u32, low: u32) -> Answer
-    ensures { λ r. ⌜ ((a : Meaning) → answerOf kind digit low ≡ some a → r ≡ a) ⌝ }
+    requires { ⌜ ((a : Meaning) × (answerOf kind digit low ≡ some a)) ⌝ }
+    ensures { λ r. ⌜ some r ≡ answerOf kind digit low ⌝ }
 {
     match kind {
         0 => Answer::Going,

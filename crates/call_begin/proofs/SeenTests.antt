@@ -4,7 +4,7 @@ use mathlib.Core.Bool.{Bool, true, false, not, _&&_, _||_}
 use mathlib.Core.Logic.{_≢_, _⊎_, inl, inr}
 use mathlib.Core.List.{List, [], _∷_, _++_}
 use mathlib.Core.Option.{Option, some, none as nothing, Option·map, bind}
-use Prim.Native.Nat.{ℕ, suc, _+_, _-_, _<_}
+use Prim.Native.Nat.{ℕ, zero, suc, _+_, _-_, _<_}
 use native.Mathlib.Omega.{arith}
 use native.Mathlib.Decide.{ℕ-discrete}
 use lib.Dec.{eqb}
@@ -122,6 +122,15 @@ module _ (ws : List ℕ) (n l : ℕ) where
   unfolding lanesBelow
   one-more e h =
       let next : l + 1 ≡ suc l = omega arith in rw (e, h, next) (stands-both n (lanesBelow ws l) (lane ws l))
+
+-- Once a lane has no end, all have none, whatever lanes follow.
+pub no-end-stays :
+    (ws : List ℕ) (n l more : ℕ) → 11 ≡ standing n (lanesBelow ws l) → 11 ≡ standing n (lanesBelow ws (l + more))
+no-end-stays ws n l zero e = let here : l + 0 ≡ l = omega arith in rw here e
+no-end-stays ws n l (suc more) e =
+    let here : l + more + 1 ≡ l + suc more = omega arith in
+    one-more ws n (l + more) {a = 11} (no-end-stays ws n l more e) refl
+    ∙ ap (λ (m : ℕ). standing n (lanesBelow ws m)) here
 
 -- ---- The number of the refusal, by what the lanes and the tasks say.
 module _ (ws : List ℕ) (n : ℕ) where

@@ -148,6 +148,10 @@ fn stands_in_any(table: &[u32], tag: u64) -> u32
     let mut l = 0;
     while l < lanes {
         says = first_of(says, stands(table, l, tag));
+        // No lane changes 11 any more.
+        if says == 11 {
+            return says;
+        }
         l += 1;
     }
     says

@@ -1,27 +1,23 @@
 -- The choice of the task whose turn it is, and what its tick leaves.
 use mathlib.Core.Path.{_≡_, refl, sym, ap, _∙_}
-use mathlib.Core.Bool.{true, false, not}
+use mathlib.Core.Bool.{Bool, true, false, not}
 use mathlib.Core.Logic.{_≢_}
 use mathlib.Core.List.{List}
 use mathlib.Core.Option.{Option, some, none as nothing}
 use Prim.Native.Nat.{ℕ, suc, _-_, _≤_, _<_}
 use native.Mathlib.Omega.{arith}
-use native.Mathlib.Decide.{ℕ-discrete}
-use lib.Dec.{eqb}
-use borrow.Author.Tests.{lt-ltb, le-ltb, eq-eqb, ne-eqb}
 use Rattle.machine.specs.declared.Answer.{Answer}
 use Rattle.machine.specs.declared.Answer.the-variants.{Refused}
 use Rattle.machine.specs.declared.Dispatch.the-variants.{Idle, Answered}
-use Rattle.machine.specs.Choice.{_≟_}
 use Rattle.machine.specs.Round.{following, firstFrom}
 use Rattle.machine.specs.Operations.{operationOf}
 use Rattle.machine.specs.Tasks.{operationWord}
 use Rattle.machine.specs.Table.{nodeCount, taskCount, dispatched, recordWords, setDispatched}
 use Rattle.machine.specs.Shape.{WellFormed}
-use Rattle.machine.specs.Answers.{kindOf, refusalOf}
+use Rattle.machine.specs.Answers.{refusalOf}
 use Rattle.machine.specs.Calls.{
+  isIdle,
   isBusy,
-  tableRefusal,
   Ticked,
   tickOn,
   isBusyTask,
@@ -32,23 +28,25 @@ use Rattle.machine.specs.Calls.{
 }
 use Rattle.machine.specs.Results.{tickedOf, dispatchedOf}
 use Rattle.machine.proofs.Basics.Rounds.{following-below, first-below}
-use Rattle.machine.proofs.Words.TickLaws.{refused-unchanged, refused-kind, made-kind}
+use Rattle.machine.proofs.Words.TickLaws.{refused-unchanged}
 use Rattle.machine.proofs.Shape.ShapeLaws.{well-shaped}
-use Rattle.answers.specs.Refusals.{numberOf}
-use Rattle.table_shape.proofs.Laws.PassedTable.{refused, operation-is, busy-task}
+use Rattle.answers.specs.Refusals.{isRefused}
+use Rattle.answers.proofs.Laws.Refusals.{refusal-number, made-answer}
+use Rattle.table_layout.proofs.Laws.Numbers.{not-busy}
+use Rattle.table_shape.proofs.Laws.PassedTable.{operation-is}
 use Rattle.call_dispatch.specs.Chosen.{taskOr}
 
--- ---- A task is busy where its operation's word is not 0.
-module _ (ws : List ℕ) (P : WellFormed ws) (k : ℕ) (is-task : k < taskCount ws) where
-  pub busy-by-word : {w : ℕ} → w ≡ operationWord (recordWords ws k) → not (eqb w 0) ≡ isBusyTask ws k
-  unfolding ℕ-discrete
-  busy-by-word {w} is-word =
-      elim (w ≟ 0) [
-        | yes e ↦
-            rw (eq-eqb w 0 e)
-            (sym (ap isBusy (operation-is ws P k is-task ∙ ap operationOf (sym is-word ∙ e))))
-        | no n ↦ rw (ne-eqb w 0 n) (sym (busy-task ws P k is-task (λ q. n (is-word ∙ q))))
-      ]
+-- ---- A task is busy where it is not idle by its operation's word.
+pub busy-by-word :
+    (ws : List ℕ) → WellFormed ws → (k : ℕ) → k < taskCount ws → {w : ℕ} {b : Bool}
+    → w ≡ operationWord (recordWords ws k)
+    → b ≡ isIdle (operationOf w)
+    → not b ≡ isBusyTask ws k
+busy-by-word ws P k is-task is-word is-idle =
+    let op = operationOf (operationWord (recordWords ws k)) in
+    ap not (is-idle ∙ ap (λ (n : ℕ). isIdle (operationOf n)) is-word)
+    ∙ sym (not-busy op)
+    ∙ sym (ap isBusy (operation-is ws P k is-task))
 
 -- ---- The choice, task by task: m tasks are left to be asked, after task k, and j is the next.
 module _ (ws : List ℕ) (m k : ℕ) {j : ℕ}
@@ -112,15 +110,15 @@ module _ (ws : List ℕ) (k h : ℕ) (a : Answer) (vs : List ℕ) (ticked : tick
   words-are : tickOn ws k h .words ≡ vs
   words-are = sym (ap (λ (t : Ticked). t .words) ticked)
 
-  pub to-refused : kindOf a ≡ 7 → dispatchedOf (Answered a) vs ≡ dispatchTo ws k h
+  pub to-refused : isRefused a ≡ true → dispatchedOf (Answered a) vs ≡ dispatchTo ws k h
   unfolding dispatchTo
   to-refused e =
-      let q = ap refusalOf answer-is ∙ refused-kind a e in
+      let q = ap refusalOf answer-is ∙ refusal-number a e .1 in
       rw (q, dispatchTo, answer-is, sym words-are ∙ refused-unchanged ws k h q)
 
-  pub to-made : kindOf a ≢ 7 → dispatchedOf (Answered a) (setDispatched k vs) ≡ dispatchTo ws k h
+  pub to-made : isRefused a ≡ false → dispatchedOf (Answered a) (setDispatched k vs) ≡ dispatchTo ws k h
   unfolding dispatchTo
-  to-made e = rw (ap refusalOf answer-is ∙ made-kind a e, dispatchTo, answer-is, words-are)
+  to-made e = rw (ap refusalOf answer-is ∙ made-answer a e, dispatchTo, answer-is, words-are)
 
 -- ---- What follows the choice.
 module _ (ws : List ℕ) (h : ℕ) where

@@ -5,7 +5,7 @@ mod turn;
 use consecutive::dispatches_on;
 use machine::Answer;
 use machine::Dispatch;
-use table_layout::places::NODE_COUNT;
+use table_layout::header;
 use table_shape::table_refusal;
 use turn::dispatch_on;
 ghost use mathlib.Core.Path.{_≡_};
@@ -21,7 +21,7 @@ fn dispatch_refusal(table: &[u32], hint: u32) -> u32
     if n != 0 {
         return n;
     }
-    if table[NODE_COUNT] <= hint {
+    if header::slots(table) <= hint {
         return 9;
     }
     0

@@ -4,7 +4,7 @@ use Rattle.machine.specs.Values.{number}
 use Rattle.airline_list.specs.Lists.{Verdict, sent}
 use Rattle.airline_list.specs.declared.Sent.{Sent}
 use Rattle.airline_list.proofs.Orders.{order-does-not-matter}
-use Rattle.call_push_by_list.specs.PushByList.{pushTo, pushByList}
+use Rattle.machine.specs.PushByList.{pushTo, pushByList}
 use Rattle.call_push_by_list.specs.Alike.{IsThatBegin, IsNoCall, PushAlike}
 
 pub is-that-begin : IsThatBegin

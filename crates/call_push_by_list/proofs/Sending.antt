@@ -13,8 +13,8 @@ use Rattle.airline_list.specs.declared.End.{End}
 use Rattle.airline_list.specs.declared.Sent.{Sent}
 use Rattle.airline_list.specs.declared.Sent.the-variants.{To, NotSent}
 use Rattle.airline_list.specs.Lists.{verdict, sent}
-use Rattle.call_push_by_list.specs.declared.ByList.the-variants.{Replied, Faulty}
-use Rattle.call_push_by_list.specs.PushByList.{sideAt, repliedOf, pushTo, pushByList}
+use Rattle.machine.specs.declared.ByList.the-variants.{Replied, Faulty}
+use Rattle.machine.specs.PushByList.{sideAt, repliedOf, pushTo, pushByList}
 
 module _ (list ws : List ℕ) (k l : ℕ) (argument : Stored) (s : Sent) (tag : ℕ) (its-tag : tag ≡ number argument)
     (sends : s ≡ sent (verdict list) tag) where

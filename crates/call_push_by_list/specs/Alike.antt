@@ -7,8 +7,8 @@ use Rattle.machine.specs.Values.{number}
 use Rattle.airline_list.specs.declared.End.{End}
 use Rattle.airline_list.specs.Lists.{codeOf, Entry, says, faulty, verdict, endFor}
 use Rattle.airline_list.specs.Accepted.{Reordered}
-use Rattle.call_push_by_list.specs.declared.ByList.the-variants.{Replied, Faulty}
-use Rattle.call_push_by_list.specs.PushByList.{repliedOf, pushAt, pushByList}
+use Rattle.machine.specs.declared.ByList.the-variants.{Replied, Faulty}
+use Rattle.machine.specs.PushByList.{repliedOf, pushAt, pushByList}
 
 -- 02: "is otherwise the same push": with an accepted list it is the begin of a push at the end that is named for the tag's
 -- code, or at the closing line's end.

@@ -9,9 +9,9 @@ use Rattle.machine.specs.Values.{stored, storedOf}
 use Rattle.machine.specs.Table.{task}
 use Rattle.machine.specs.Calls.{startWords}
 use Rattle.text.specs.Text.{bytes}
-use Rattle.call_push_by_list.specs.declared.ByList.{ByList}
-use Rattle.call_push_by_list.specs.declared.ByList.the-variants.{Replied, Faulty}
-use Rattle.call_push_by_list.specs.PushByList.{PushedByList, pushByList}
+use Rattle.machine.specs.declared.ByList.{ByList}
+use Rattle.machine.specs.declared.ByList.the-variants.{Replied, Faulty}
+use Rattle.machine.specs.PushByList.{PushedByList, pushByList}
 
 -- A push by list.
 pub record Push : Type 0 where

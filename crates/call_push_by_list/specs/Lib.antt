@@ -1,4 +1,3 @@
-pub mod PushByList
 pub mod Alike
 pub mod Examples
 pub mod Wrong

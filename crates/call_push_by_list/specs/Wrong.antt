@@ -14,9 +14,9 @@ use Rattle.machine.specs.Calls.{tableRefusal, begin}
 use Rattle.airline_list.specs.declared.Sent.{Sent}
 use Rattle.airline_list.specs.declared.Sent.the-variants.{To, NotSent}
 use Rattle.airline_list.specs.Lists.{verdict, sent}
-use Rattle.call_push_by_list.specs.declared.ByList.{ByList}
-use Rattle.call_push_by_list.specs.declared.ByList.the-variants.{Replied, Faulty}
-use Rattle.call_push_by_list.specs.PushByList.{sideAt, PushedByList, repliedOf, pushByList}
+use Rattle.machine.specs.declared.ByList.{ByList}
+use Rattle.machine.specs.declared.ByList.the-variants.{Replied, Faulty}
+use Rattle.machine.specs.PushByList.{sideAt, PushedByList, repliedOf, pushByList}
 use Rattle.call_push_by_list.specs.Examples.{good, bad, fresh}
 
 abbrev pub Pusher : Type 0

@@ -3,20 +3,13 @@ use airline_list::End;
 use airline_list::Sent;
 use airline_list::end_for;
 use call_begin::begin;
-use machine::Reply;
+use machine::ByList;
 use machine::Stored;
 use table_record::Task;
 use table_values::number;
 ghost use mathlib.Core.Path.{_≡_};
 ghost use Rattle.machine.specs.Sides.{sideNumber};
-ghost use Rattle.call_push_by_list.specs.PushByList.{sideAt, repliedOf, pushByList};
-
-// What a push by list answers: the reply of its begin; or the number of the list's fault, 27 to 29, and the faulty line,
-// from 1.
-pub enum ByList {
-    Replied(Reply),
-    Faulty { number: u32, line: u32 },
-}
+ghost use Rattle.machine.specs.PushByList.{sideAt, repliedOf, pushByList};
 
 // 01: 0 left, 1 right.
 fn side(end: End) -> u32

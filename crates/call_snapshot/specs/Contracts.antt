@@ -4,9 +4,9 @@ use mathlib.Core.List.{List, _++_}
 use Prim.Native.Nat.{ℕ, _+_, _*_}
 use lib.ListN.{length, getD, take, drop}
 use Rattle.machine.specs.Values.{storedOf, valueOk}
-use Rattle.machine.specs.Table.{headerLength, nodeLength, nodeAt, nodeCount}
+use Rattle.machine.specs.Table.{headerLength, nodeLength, nodeAt, nodeCount, nodePart}
 use Rattle.machine.specs.Shape.{allBelow, nodeOrNone}
-use Rattle.machine.specs.Snapshots.{listed, nodePart}
+use Rattle.machine.specs.Snapshots.{listed}
 
 -- ---- What is written.
 

@@ -2,9 +2,8 @@
 // this one loop, a single tick as a list of one pair: the compiler then sets the whole tick into the loop, and no call stands
 // between two ticks of a run.
 use answers::ANSWER_WORDS;
-use answers::REFUSED;
 use answers::answer_of;
-use answers::kind;
+use answers::is_refusal;
 use answers::put_answer;
 use answers::refusal_number;
 use machine::Answer;
@@ -27,7 +26,7 @@ pub fn run_on(table: &mut [u32], list: &[u32], answers: &mut [u32]) -> Ran
     let mut made = 0;
     while 0 < rest.len() {
         let answer = tick_once(table, rest[0], rest[1]);
-        if kind(answer) == REFUSED {
+        if is_refusal(answer) {
             let refusal = refusal_number(answer);
             return Ran { made, refusal };
         }

@@ -6,6 +6,7 @@ use table_layout::places::HEADER;
 use table_layout::places::NODE_COUNT;
 use table_layout::places::hat_at;
 use table_record::Task;
+use table_values::word_by_word;
 ghost use mathlib.Core.Path.{_≡_};
 ghost use Prim.Native.Nat.{_<_};
 ghost use mathlib.Core.Bool.{cond, _||_};
@@ -31,16 +32,12 @@ pub enum Located {
     NoEnd,
 }
 
-// The words of a node's value, written out one by one: the compiler then reads each by itself where it is tested.
+// The words of a node's value.
 pub fn value(table: &[u32], x: u32) -> Stored
     requires { ⌜ WellFormed (now table) × (x < nodeCount (now table)) ⌝ }
     ensures { λ r. ⌜ r ≡ valueWords (now (table .entry)) x ⌝ }
 {
-    let v = nodes::value(&table[HEADER..], x);
-    Stored {
-        word: v.word,
-        digit: v.digit,
-    }
+    word_by_word(nodes::value(&table[HEADER..], x))
 }
 
 // The node after a node, or none.

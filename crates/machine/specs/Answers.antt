@@ -4,6 +4,7 @@ use mathlib.Core.Bool.{Bool, true, false, cond}
 use mathlib.Core.List.{List, _∷_}
 use mathlib.Core.Option.{Option, some, none as nothing}
 use Prim.Native.Nat.{ℕ}
+use lib.Dec.{eqb}
 use Rattle.tag.specs.Tags.{tagOf, isTag, tagWords}
 use Rattle.machine.specs.declared.Answer.{Answer}
 use Rattle.machine.specs.declared.Answer.the-variants.{Going, Pushed, Bag, Empty, Full, Yes, No, Refused}
@@ -17,6 +18,13 @@ use Rattle.machine.specs.Choice.{_≟_, if_then_else_}
 abbrev pub replyNumber : Reply → ℕ
 replyNumber Accepted = 0
 replyNumber (Reply-Refused n) = n
+
+-- Whether two replies are the same.
+abbrev pub sameReply : Reply → Reply → Bool
+sameReply Accepted Accepted = true
+sameReply Accepted (Reply-Refused n) = false
+sameReply (Reply-Refused m) Accepted = false
+sameReply (Reply-Refused m) (Reply-Refused n) = eqb m n
 
 -- 01: 0 going, 1 pushed, 2 bag, 3 empty, 4 full, 5 yes, 6 no. A refusal, which a run does not write,
 -- is kind 7.

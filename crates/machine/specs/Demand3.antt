@@ -17,9 +17,17 @@ use Rattle.machine.specs.declared.Reading.{Reading}
 use Rattle.machine.specs.declared.Reading.the-variants.{Count, Refused as Reading-Refused}
 use Rattle.machine.specs.declared.Ran.{Ran}
 use Rattle.machine.specs.declared.Stored.{Stored}
-use Rattle.machine.specs.Operations.{operationOf, argumentOk}
+use Rattle.machine.specs.declared.ByList.{ByList}
+use Rattle.machine.specs.declared.ByList.the-variants.{Replied, Faulty}
+use Rattle.text_page.specs.Page.{pageText}
+use Rattle.airline_list.specs.declared.Sent.{Sent}
+use Rattle.airline_list.specs.declared.Sent.the-variants.{To, NotSent}
+use Rattle.airline_list.specs.Lists.{verdict, sent}
+use Rattle.machine.specs.Sides.{sideNumber}
+use Rattle.machine.specs.Values.{number}
+use Rattle.machine.specs.Operations.{push, operationNumber, operationOf, argumentOk}
 use Rattle.machine.specs.Shape.{sameWords}
-use Rattle.machine.specs.Answers.{refusalOf, isGoing, dispatchGoesOn}
+use Rattle.machine.specs.Answers.{sameReply, refusalOf, isGoing, dispatchGoesOn}
 use Rattle.machine.specs.Calls.{
   start,
   begin,
@@ -34,12 +42,16 @@ use Rattle.machine.specs.Calls.{
   panel,
   lane,
   read,
+  unless,
+  changed,
 }
+use Rattle.machine.specs.Sheets.{pageRefusal, sheet}
+use Rattle.machine.specs.PushByList.{sideAt, pushByList}
 use Rattle.machine.specs.Row.{Row, emptyRow, newNote, noted, feedMade, feedDispatch, feedRun}
 
 -- 01: the list holds start, begin, tick, run and reading the lane, with any arguments, and every call on the same table
--- that a request adds: 2026-01's panel, 2026-07's dispatch; and ticks and consecutive dispatches. A run's list and answer
--- slice and a read's out slice are that call's own: here by their contents when the call is made.
+-- that a request adds: 2026-01's panel, 2026-07's dispatch, 2026-09's sheet, 2026-13's push by list; and consecutive ticks and
+-- dispatches. Lists, answer slices and out slices are that call's own: here by their contents when the call is made.
 pub data Call : Type 0 where
   start-call : (S T growth lanes : ℕ) → Call
   begin-call : (k lane operation side : ℕ) (argument : Stored) → Call
@@ -50,6 +62,8 @@ pub data Call : Type 0 where
   run-call : (list answers : List ℕ) → Call
   panel-call : (list answers : List ℕ) → Call
   read-call : (lane : ℕ) (out : List ℕ) → Call
+  sheet-call : (lane page : ℕ) (out : List ℕ) → Call
+  push-by-list-call : (list : List ℕ) (k lane : ℕ) (argument : Stored) → Call
 
 -- What a call gives back: its answer, with a slice of its own as it leaves it. Of consecutive dispatches also how many went
 -- on, which the tick count tells.
@@ -63,6 +77,8 @@ Given (dispatches-call h times) = Dispatch × ℕ
 Given (run-call list answers) = Ran × List ℕ
 Given (panel-call list answers) = Ran × List ℕ
 Given (read-call l out) = Reading × List ℕ
+Given (sheet-call l page out) = Reply × List ℕ
+Given (push-by-list-call list k l argument) = ByList
 
 abbrev pub given : (c : Call) → List ℕ → Given c
 given (start-call S T g lanes) ws = start ws S T g lanes .reply
@@ -74,6 +90,8 @@ given (dispatches-call h times) ws = (dispatches times ws h .answer, wentOn time
 given (run-call list answers) ws = (run ws list answers .ran, run ws list answers .answers)
 given (panel-call list answers) ws = (panel ws list answers .ran, panel ws list answers .answers)
 given (read-call l out) ws = (read ws l out .reading, read ws l out .out)
+given (sheet-call l page out) ws = (sheet ws l page out .reply, sheet ws l page out .words)
+given (push-by-list-call list k l argument) ws = pushByList list ws k l argument .answer
 
 -- The table as a call leaves it.
 abbrev pub after : Call → List ℕ → List ℕ
@@ -86,6 +104,8 @@ after (dispatches-call h times) ws = dispatches times ws h .words
 after (run-call list answers) ws = run ws list answers .words
 after (panel-call list answers) ws = panel ws list answers .words
 after (read-call l out) ws = ws
+after (sheet-call l page out) ws = ws
+after (push-by-list-call list k l argument) ws = pushByList list ws k l argument .words
 
 -- ---- The row, fed a call and what it gave back: the row afterwards, or nothing where the row does not give that.
 abbrev pub feedStart : Row → (T lanes : ℕ) → Reply → Option Row
@@ -138,6 +158,22 @@ feedRead ρ l out (Count n) written =
 feedRead ρ l out (Reading-Refused n) written =
     cond (cond (ltb l (ρ .lanes)) (eqb n 12 && ltb (length out) (2 * length (ρ .bags l))) (eqb n 26)) (some ρ) nothing
 
+-- 2026-09: a page of the row, or 26 exactly when there is no such lane, 20 and 21 by the page and the out slice alone; never
+-- 3, 4 or 11. A refusal leaves the out slice.
+abbrev pub feedSheet : Row → (l page : ℕ) → List ℕ → Reply → List ℕ → Option Row
+feedSheet ρ l page out r written =
+    let wanted = changed (unless (ltb l (ρ .lanes)) 26 (pageRefusal page out)) out (pageText (ρ .bags l) page) in
+    cond (sameReply r (wanted .reply) && sameWords written (wanted .words)) (some ρ) nothing
+
+-- 2026-13: a list's fault, exactly where it has one; or the begin of a push, at the end to which the list sends the tag.
+abbrev pub feedByList : Row → Sent → (k lane : ℕ) → (argument : Stored) → ByList → Option Row
+feedByList ρ (To end) k l argument (Replied r) =
+    feedBegin ρ k l (operationNumber push) (sideNumber (sideAt end)) argument r
+feedByList ρ (To end) k l argument (Faulty number line) = nothing
+feedByList ρ (NotSent number line) k l argument (Replied r) = nothing
+feedByList ρ (NotSent number line) k l argument (Faulty n at) =
+    cond (eqb n number && eqb at line) (some ρ) nothing
+
 abbrev pub feed : Row → (c : Call) → Given c → Option Row
 feed ρ (start-call S T g lanes) r = feedStart ρ T lanes r
 feed ρ (begin-call k l op side argument) r = feedBegin ρ k l op side argument r
@@ -148,6 +184,8 @@ feed ρ (dispatches-call h times) r = feedDispatches ρ times (r .1) (r .0)
 feed ρ (run-call list answers) r = feedRun ρ (r .0 .made) list (r .1)
 feed ρ (panel-call list answers) r = feedRun ρ (r .0 .made) list (r .1)
 feed ρ (read-call l out) r = feedRead ρ l out (r .0) (r .1)
+feed ρ (sheet-call l page out) r = feedSheet ρ l page out (r .0) (r .1)
+feed ρ (push-by-list-call list k l argument) r = feedByList ρ (sent (verdict list) (number argument)) k l argument r
 
 -- ---- The claim.
 
@@ -196,6 +234,8 @@ Within (begin-call k l op side argument) ws ρ = Unit {0}
 Within (tick-call k h) ws ρ = Unit {0}
 Within (dispatch-call h) ws ρ = Unit {0}
 Within (read-call l out) ws ρ = Unit {0}
+Within (sheet-call l page out) ws ρ = Unit {0}
+Within (push-by-list-call list k l argument) ws ρ = Unit {0}
 
 -- The row explains a list of calls, each on the table as the one before left it.
 abbrev pub Explained : List Call → List ℕ → Row → Type 0

@@ -10,8 +10,17 @@ use Rattle.machine.specs.declared.Dispatch.the-variants.{Idle, Answered}
 use Rattle.machine.specs.declared.Reply.{Reply}
 use Rattle.machine.specs.declared.Reply.the-variants.{Accepted, Refused as Reply-Refused}
 use Rattle.machine.specs.declared.Stored.{Stored}
+use Rattle.machine.specs.declared.ByList.{ByList}
+use Rattle.machine.specs.declared.ByList.the-variants.{Replied, Faulty}
+use Rattle.airline_list.specs.declared.Sent.{Sent}
+use Rattle.airline_list.specs.declared.Sent.the-variants.{To, NotSent}
+use Rattle.airline_list.specs.Lists.{verdict, sent}
+use Rattle.machine.specs.Sides.{sideNumber}
+use Rattle.machine.specs.Values.{number}
+use Rattle.machine.specs.Operations.{push, operationNumber}
 use Rattle.machine.specs.Answers.{refusalOf, answerOf}
 use Rattle.machine.specs.Calls.{times}
+use Rattle.machine.specs.PushByList.{sideAt}
 use Rattle.machine.specs.Row.{Note, newNote}
 use Rattle.machine.specs.Demand3.{
   Call,
@@ -24,6 +33,8 @@ use Rattle.machine.specs.Demand3.{
   run-call,
   panel-call,
   read-call,
+  sheet-call,
+  push-by-list-call,
   Given,
 }
 
@@ -37,6 +48,11 @@ pub data Asked : Type 0 where
   dispatches-with : (hint times : ℕ) → Asked
   a-look : Asked
 
+-- A push by list asks for its begin, or for nothing where the list is faulty.
+abbrev pub sentAsks : Sent → (k lane : ℕ) (argument : Stored) → Asked
+sentAsks (To end) k l argument = a-begin k l (operationNumber push) (sideNumber (sideAt end)) argument
+sentAsks (NotSent n line) k l argument = a-look
+
 abbrev pub asked : Call → Asked
 asked (start-call S T g lanes) = a-start S T g lanes
 asked (begin-call k l op side argument) = a-begin k l op side argument
@@ -47,6 +63,8 @@ asked (dispatches-call h n) = dispatches-with h n
 asked (run-call list answers) = ticks-of list
 asked (panel-call list answers) = ticks-of list
 asked (read-call l out) = a-look
+asked (sheet-call l page out) = a-look
+asked (push-by-list-call list k l argument) = sentAsks (sent (verdict list) (number argument)) k l argument
 
 -- ---- What a call did.
 
@@ -102,6 +120,12 @@ runDid (suc n) (k ∷ h ∷ list) (kind ∷ digit ∷ low ∷ answers) =
       | nothing ↦ []
     ]
 
+abbrev pub byListDid : Sent → (k lane : ℕ) (argument : Stored) → ByList → Did
+byListDid (To end) k l argument (Replied r) =
+    beginDid k (newNote l (operationNumber push) (sideNumber (sideAt end)) argument) r
+byListDid (To end) k l argument (Faulty n line) = ticked []
+byListDid (NotSent n line) k l argument r = ticked []
+
 abbrev pub did : (c : Call) → Given c → Did
 did (start-call S T g lanes) r = startDid T lanes r
 did (begin-call k l op side argument) r = beginDid k (newNote l op side argument) r
@@ -112,3 +136,5 @@ did (dispatches-call h n) r = ticked (dispatchesDid n (r .1) (r .0))
 did (run-call list answers) r = ticked (runDid (r .0 .made) list (r .1))
 did (panel-call list answers) r = ticked (runDid (r .0 .made) list (r .1))
 did (read-call l out) r = ticked []
+did (sheet-call l page out) r = ticked []
+did (push-by-list-call list k l argument) r = byListDid (sent (verdict list) (number argument)) k l argument r

@@ -16,6 +16,7 @@ pub mod Answers
 pub mod Calls
 pub mod Results
 pub mod Panel
+pub mod PushByList
 pub mod Sheets
 pub mod Snapshots
 pub mod FirstFree

@@ -7,7 +7,7 @@ use lib.Dec.{eqb}
 use lib.ListN.{length, getD, take, drop}
 use Rattle.machine.specs.declared.Reply.the-variants.{Accepted}
 use Rattle.machine.specs.Counts.{count}
-use Rattle.machine.specs.Table.{headerLength, nodeLength, nodeAt, nodeCount}
+use Rattle.machine.specs.Table.{headerLength, nodeLength, nodeAt, nodeCount, nodePart}
 use Rattle.machine.specs.Calls.{unless, tableRefusal, Changed, changed}
 
 -- ---- Words in rows and in columns.
@@ -27,10 +27,6 @@ unfoldable pub transposed : (m n : ℕ) → List ℕ → List ℕ
 transposed m n ws = rows n m (λ c r. getD ws (n * r + c) 0)
 
 -- ---- The two orders of the same words.
-
--- The words of the nodes, in either order.
-abbrev pub nodePart : List ℕ → List ℕ
-nodePart ws = take (nodeLength * nodeCount ws) (drop headerLength ws)
 
 -- Header and records stay where they are, and the words of the nodes, of which there are S, are put in another order.
 unfoldable pub reordered : (order : (S : ℕ) → List ℕ → List ℕ) → List ℕ → List ℕ

@@ -102,7 +102,11 @@ headerWords S T g lanes n d h =
     ∷ h 0 left ∷ h 0 right ∷ h 1 left ∷ h 1 right ∷ h 2 left ∷ h 2 right ∷ h 3 left ∷ h 3 right
     ∷ 0 ∷ 0 ∷ []
 
--- ---- A node (01: slot): L, R, V and its leading digit.
+-- ---- The words of the nodes, in a table by nodes and in a snapshot by columns.
+abbrev pub nodePart : List ℕ → List ℕ
+nodePart ws = take (nodeLength * nodeCount ws) (drop headerLength ws)
+
+-- A node (01: slot): L, R, V and its leading digit.
 abbrev pub linkAt : Side → ℕ → ℕ
 linkAt s x = nodeAt x + sideNumber s
 

@@ -46,6 +46,13 @@ pub enum Reply {
     Refused(u32),
 }
 
+// What a push by list answers (2026-13): the reply of its begin; or the number of the list's fault, 27 to 29, and the faulty
+// line, from 1.
+pub enum ByList {
+    Replied(Reply),
+    Faulty { number: u32, line: u32 },
+}
+
 // What reading a lane answers: how many bags it wrote, or the refusal.
 pub enum Reading {
     Count(u32),

@@ -1,4 +1,4 @@
--- The records and the nodes as words of a table.
+-- The header, the records and the nodes as words of a table.
 use Prim.Native.Nat.{ℕ, _+_, _*_, _≤_}
 use mathlib.Core.List.{List, _∷_}
 use lib.ListN.{length, getD, set}
@@ -7,7 +7,18 @@ use Rattle.machine.specs.declared.Stored.{Stored}
 use Rattle.machine.specs.Sides.{Side, sideNumber}
 use Rattle.machine.specs.Values.{storedWords, storedAt}
 use Rattle.machine.specs.Tasks.{none, recordLength}
-use Rattle.machine.specs.Table.{linksLength, nodeLength, nodeCount, recordAt}
+use Rattle.machine.specs.Table.{headerLength, linksLength, nodeLength, nodeAt, nodeCount, recordAt}
+
+-- The header is within the table, and so are the nodes after it.
+abbrev pub HoldsHeader : List ℕ → Type 0
+HoldsHeader ws = headerLength ≤ length ws
+
+abbrev pub HoldsNodes : List ℕ → Type 0
+HoldsNodes ws = nodeAt (nodeCount ws) ≤ length ws
+
+-- Hats in one list, lane after lane, left first.
+abbrev pub hatIn : List ℕ → (lane : ℕ) → Side → ℕ
+hatIn hats l s = getD hats (2 * l + sideNumber s) 0
 
 -- The record of task k is within the table.
 abbrev pub HoldsRecord : List ℕ → ℕ → Type 0

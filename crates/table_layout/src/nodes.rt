@@ -1,11 +1,24 @@
 // The nodes' words: the part of the table between the header and the tasks.
+use crate::header::slots;
 use crate::places::NODE_WORDS;
 use crate::places::VALUE;
+use crate::places::node_at;
 use machine::Stored;
 ghost use mathlib.Core.Path.{_≡_};
 ghost use Prim.Native.Nat.{_<_};
 ghost use Rattle.machine.specs.Sides.{sideOf};
-ghost use Rattle.table_layout.specs.Words.{HoldsNode, linkIn, setLinkIn, storedIn, setStoredIn, setNodeIn};
+ghost use Rattle.machine.specs.Table.{nodePart};
+ghost use Rattle.table_layout.specs.Words.{HoldsNodes, HoldsNode, linkIn, setLinkIn, storedIn, setStoredIn, setNodeIn};
+
+// They of a table.
+pub fn part(table: &[u32]) -> &[u32]
+    requires { ⌜ HoldsNodes (now table) ⌝ }
+    ensures { λ r. ⌜ now r ≡ nodePart (now (table .entry)) ⌝ }
+{
+    let from = node_at(0);
+    let end = node_at(slots(table));
+    &table[from..end]
+}
 
 // The link of node x on a side: 0 for L, 1 for R.
 pub fn link(nodes: &[u32], side: u32, x: u32) -> u32

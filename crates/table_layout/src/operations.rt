@@ -1,10 +1,18 @@
-// The operations by their numbers: what each takes as its argument, and its goal.
+// The operations by their numbers: whether there is one, what each takes as its argument, and its goal.
 use machine::Stored;
 use table_record::Task;
 ghost use mathlib.Core.Path.{_≡_};
 ghost use mathlib.Core.Bool.{true};
 ghost use Rattle.machine.specs.Values.{number};
 ghost use Rattle.machine.specs.Operations.{operationOf, argumentOk, goalOf};
+ghost use Rattle.machine.specs.Calls.{isIdle};
+
+// Whether a task with that number is in no call.
+pub fn is_idle(operation: u32) -> bool
+    ensures { λ r. ⌜ r ≡ isIdle (operationOf operation) ⌝ }
+{
+    operation == Task::IDLE
+}
 
 // 01: argument: push a bag number, pop 0, add 0 to 64, remove 0 to 1,023.
 pub fn argument_ok(operation: u32, argument: Stored) -> bool

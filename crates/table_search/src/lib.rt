@@ -1,12 +1,9 @@
 // The search for a free node: what the hats and the tasks reach is marked, and the first node without a mark is it.
 // In each function n is the number of the table's nodes. The marks, one a node, and the queue of marked nodes,
 // which ends at tail, have a place for each of the 1,024 nodes that a table may have.
-use table_layout::nodes::link;
-use table_layout::places::HATS;
-use table_layout::places::HEADER;
-use table_layout::places::LANE_COUNT;
-use table_layout::places::NODE_COUNT;
-use table_layout::places::TASK_COUNT;
+use table_layout::header;
+use table_layout::nodes;
+use table_layout::round::following;
 use table_layout::table::task;
 use table_record::Task;
 use table_steps::held::A;
@@ -23,7 +20,6 @@ ghost use lib.Dec.{eqb};
 ghost use Rattle.machine.specs.Tasks.{none};
 ghost use Rattle.machine.specs.Table.{nodeCount, taskCount};
 ghost use Rattle.machine.specs.Shape.{lengthOk};
-ghost use Rattle.machine.specs.Round.{following};
 ghost use Rattle.machine.specs.Allocate.{
   heldBy,
   heldFrom,
@@ -87,13 +83,12 @@ fn mark_hats(
         ≡ markAll (nodeCount (now (table .entry))) (markingOf (now (marks .entry)) (now (queue .entry)) tail)
         (hats (now (table .entry))) ⌝ }
 {
-    let n = table[NODE_COUNT] as usize;
-    let count = table[LANE_COUNT] as usize;
+    let n = header::slots(table) as usize;
+    let count = header::lanes(table);
     let mut l = 0;
     while l < count {
-        let at = HATS + 2 * l;
-        let left = table[at];
-        let right = table[at + 1];
+        let left = header::hat(table, l, 0);
+        let right = header::hat(table, l, 1);
         tail = mark_both(marks, queue, tail, n, left, right);
         l += 1;
     }
@@ -151,8 +146,8 @@ fn mark_tasks(
         ≡ markAll (nodeCount (now (table .entry))) (markingOf (now (marks .entry)) (now (queue .entry)) tail)
         (heldFrom (now (table .entry)) (taskCount (now (table .entry))) 0) ⌝ }
 {
-    let n = table[NODE_COUNT] as usize;
-    let count = table[TASK_COUNT];
+    let n = header::slots(table) as usize;
+    let count = header::tasks(table);
     // Once here, and not at each task.
     let held = table_steps::held::held();
     let mut k = 0;
@@ -175,11 +170,11 @@ fn visit(
     ensures { λ r. ⌜ markingOf (now (marks .exit)) (now (queue .exit)) r
         ≡ visit (now (table .entry)) (markingOf (now (marks .entry)) (now (queue .entry)) tail) place ⌝ }
 {
-    let n = table[NODE_COUNT] as usize;
+    let n = header::slots(table) as usize;
     let x = queue[place];
-    let nodes = &table[HEADER..];
-    let l = link(nodes, 0, x);
-    let r = link(nodes, 1, x);
+    let ns = nodes::part(table);
+    let l = nodes::link(ns, 0, x);
+    let r = nodes::link(ns, 1, x);
     mark_both(marks, queue, tail, n, l, r)
 }
 
@@ -197,27 +192,16 @@ fn spread(table: &[u32], marks: &mut [u8; 1024], queue: &mut [u32; 1024], mut ta
     tail
 }
 
-// The node after node i, going round past n - 1 to 0.
-fn following(n: usize, i: usize) -> usize
-    requires { ⌜ (n ≤ largestCount) × (i < n) ⌝ }
-    ensures { λ r. ⌜ (r ≡ following n i) × (r < n) ⌝ }
-{
-    if i + 1 < n {
-        return i + 1;
-    }
-    0
-}
-
 // The first of n nodes from the hint on, going round, that has no mark, or none.
-fn search(marks: &[u8; 1024], n: usize, hint: usize) -> u32
+fn search(marks: &[u8; 1024], n: u32, hint: u32) -> u32
     requires { ⌜ (n ≤ largestCount) × (hint < n) ⌝ }
     ensures { λ r. ⌜ r ≡ firstUnmarked n (now (marks .entry)) n hint ⌝ }
 {
     let mut k = 0;
     let mut i = hint;
     while k < n {
-        if marks[i] == 0 {
-            return i as u32;
+        if marks[i as usize] == 0 {
+            return i;
         }
         i = following(n, i);
         k += 1;
@@ -226,11 +210,11 @@ fn search(marks: &[u8; 1024], n: usize, hint: usize) -> u32
 }
 
 // The first free node from the hint on, going round, or none.
-pub fn first_free(table: &[u32], hint: usize) -> u32
+pub fn first_free(table: &[u32], hint: u32) -> u32
     requires { ⌜ (lengthOk (now table) ≡ true) × (hint < nodeCount (now table)) ⌝ }
     ensures { λ r. ⌜ r ≡ allocate (now (table .entry)) hint ⌝ }
 {
-    let n = table[NODE_COUNT] as usize;
+    let n = header::slots(table);
     let mut marks = [0u8; 1024];
     let mut queue = [0u32; 1024];
     let hats_end = mark_hats(table, &mut marks, &mut queue, 0);

@@ -2,6 +2,7 @@
 
 pub mod SameTexts
 pub mod FirstLine
+pub mod AllLines
 pub mod WritingLaws
 pub mod Decimals
 pub mod Rows

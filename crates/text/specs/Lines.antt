@@ -1,5 +1,5 @@
 -- Bytes cut into lines. 01: "a line ends at a line feed or at the end of input".
-use mathlib.Core.Bool.{cond}
+use mathlib.Core.Bool.{Bool, true, cond, not, _&&_}
 use mathlib.Core.List.{List, [], _∷_}
 use Prim.Native.Nat.{ℕ}
 use lib.Dec.{eqb}
@@ -21,3 +21,8 @@ inFront b (line ∷ lines) = (b ∷ line) ∷ lines
 unfoldable pub linesOf : List ℕ → List (List ℕ)
 linesOf [] = []
 linesOf (b ∷ bs) = cond (eqb b lineFeed) ([] ∷ linesOf bs) (inFront b (linesOf bs))
+
+-- Whether a text has no line feed.
+abbrev pub oneLine : List ℕ → Bool
+oneLine [] = true
+oneLine (b ∷ bs) = not (eqb b lineFeed) && oneLine bs

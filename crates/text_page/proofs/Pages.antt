@@ -1,9 +1,9 @@
 -- What is promised of the pages holds.
 use mathlib.Core.Path.{_≡_, refl, sym, ap, _∙_}
-use mathlib.Core.List.{List, [], _∷_, _++_, flatten, append-assoc}
+use mathlib.Core.List.{List, [], _++_, flatten, append-assoc}
 use Prim.Native.Nat.{ℕ, zero, suc, _+_, _*_, _-_, _/_, _%_, _≤_, _<_}
 use native.Mathlib.Omega.{arith}
-use lib.ListN.{length, getD, take, drop, replicate, drop-of-length-le, length-drop, take-append-drop}
+use lib.ListN.{length, take, drop, replicate, drop-of-length-le, length-drop, take-append-drop}
 use lib.Seq.{take-at, drop-at, drop-drop, take-all}
 use Rattle.text.specs.Numerals.{withZeros}
 use Rattle.text_page.specs.Page.{
@@ -13,7 +13,6 @@ use Rattle.text_page.specs.Page.{
   title,
   heading,
   cellLength,
-  cell,
   cells,
   perLine,
   tagLineCount,
@@ -27,10 +26,8 @@ use Rattle.text_page.specs.Claims.{
   isPrinted,
   PagePrinted,
   lineAt,
-  cellAt,
   tagNumber,
   cellOrBlanks,
-  PagePlaced,
   AllPlaced,
   OnePlace,
   EachTagPlaced,

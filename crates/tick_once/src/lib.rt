@@ -3,12 +3,9 @@ use line_choice::line;
 use line_take::line28;
 use line_take::line31;
 use machine::Answer;
+use table_layout::header;
 use table_layout::operations::goal_of;
-use table_layout::places::GROWTH;
-use table_layout::places::HEADER;
-use table_layout::places::NODE_COUNT;
-use table_layout::places::TASK_COUNT;
-use table_layout::places::hat_at;
+use table_layout::operations::is_idle;
 use table_layout::places::node_at;
 use table_layout::table;
 use table_record::Task;
@@ -33,7 +30,7 @@ fn found_at_31(table: &[u32], old: Task, hint: u32) -> u32
     if d == Task::NONE {
         return Task::NONE;
     }
-    first_free(table, hint as usize)
+    first_free(table, hint)
 }
 
 // The tick of the busy task k, whose record is given. Only lines 28 and 31 search for a node, and the search stands
@@ -43,27 +40,28 @@ fn make(table: &mut [u32], k: u32, old: Task, hint: u32) -> Answer
     requires { ⌜ old ≡ structOf (recordWords (now table) k) ⌝ }
     ensures { λ r. ⌜ tickedOf r (now (table .exit)) ≡ made (now (table .entry)) k hint ⌝ }
 {
+    let lane = old.lane;
     let side = old.side;
     let argument = old.argument;
-    let goal = goal_of(old.operation, table[GROWTH], argument);
-    let at = hat_at(old.lane, side);
-    let hat = table[at];
-    let end = node_at(table[NODE_COUNT]);
+    let goal = goal_of(old.operation, header::growth(table), argument);
+    let hat = header::hat(table, lane, side);
+    let from = node_at(0);
+    let end = node_at(header::slots(table));
     let step = old.step;
     match step {
         28 => {
-            let found = first_free(table, hint as usize);
-            let done = line28(&mut table[HEADER..end], hat, old, goal, found);
-            finish(table, at, k, done)
+            let found = first_free(table, hint);
+            let done = line28(&mut table[from..end], hat, old, goal, found);
+            finish(table, lane, side, k, done)
         }
         31 => {
             let found = found_at_31(table, old, hint);
-            let done = line31(&mut table[HEADER..end], hat, old, goal, found);
-            finish(table, at, k, done)
+            let done = line31(&mut table[from..end], hat, old, goal, found);
+            finish(table, lane, side, k, done)
         }
         _ => {
-            let done = line(&mut table[HEADER..end], hat, old, goal);
-            finish(table, at, k, done)
+            let done = line(&mut table[from..end], hat, old, goal);
+            finish(table, lane, side, k, done)
         }
     }
 }
@@ -73,14 +71,14 @@ pub fn tick_once(table: &mut [u32], task: u32, hint: u32) -> Answer
     requires { ⌜ WellFormed (now table) ⌝ }
     ensures { λ r. ⌜ tickedOf r (now (table .exit)) ≡ tickOn (now (table .entry)) task hint ⌝ }
 {
-    if table[TASK_COUNT] <= task {
+    if header::tasks(table) <= task {
         return Answer::Refused(5);
     }
-    if table[NODE_COUNT] <= hint {
+    if header::slots(table) <= hint {
         return Answer::Refused(9);
     }
     let old = table::task(table, task);
-    if old.operation == Task::IDLE {
+    if is_idle(old.operation) {
         return Answer::Refused(10);
     }
     make(table, task, old, hint)

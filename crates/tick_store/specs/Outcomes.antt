@@ -2,10 +2,10 @@
 use mathlib.Core.Path.{_≡_}
 use mathlib.Core.Bool.{Bool, true, cond}
 use mathlib.Core.List.{List}
-use Prim.Native.Nat.{ℕ, _<_}
-use lib.ListN.{set}
+use Prim.Native.Nat.{ℕ}
 use lib.Seq.{sets}
-use Rattle.machine.specs.Table.{headerLength, nodeCountAt, nodeCount, recordAt, recordWords}
+use Rattle.machine.specs.Sides.{Side}
+use Rattle.machine.specs.Table.{nodeCount, recordAt, recordWords, setHat}
 use Rattle.machine.specs.Calls.{Ticked, tickCounted}
 use Rattle.machine.specs.Results.{tickedOf}
 use Rattle.answers.specs.Refusals.{isRefused}
@@ -21,15 +21,11 @@ GoesOn ws k going t = going ≡ true → SameCall (structOf (recordWords ws k)) 
 abbrev pub recorded : List ℕ → (k : ℕ) → Tasks.Task → List ℕ
 recorded ws k t = sets ws (recordAt (nodeCount ws) k) (recordOf t)
 
--- A hat's place is in the header, and not the first, where the nodes are counted.
-abbrev pub IsHat : ℕ → Type 0
-IsHat at = (nodeCountAt < at) × (at < headerLength)
-
--- The words with a hat at its place, a record and one tick more in them.
-abbrev pub stored : List ℕ → (at hat k : ℕ) → Tasks.Task → List ℕ
-stored ws at h k t = tickCounted (recorded (set ws at h) k t)
+-- The words with a lane's hat, a record and one tick more in them.
+abbrev pub stored : List ℕ → (lane : ℕ) → Side → (hat k : ℕ) → Tasks.Task → List ℕ
+stored ws l s h k t = tickCounted (recorded (setHat l s h ws) k t)
 
 -- What a line's outcome comes to: refused, the words stay.
-abbrev pub finished : List ℕ → (at k : ℕ) → Done → Ticked
-finished ws at k d =
-    cond (isRefused (d .answer)) (tickedOf (d .answer) ws) (tickedOf (d .answer) (stored ws at (d .hat) k (d .task)))
+abbrev pub finished : List ℕ → (lane : ℕ) → Side → (k : ℕ) → Done → Ticked
+finished ws l s k d =
+    cond (isRefused (d .answer)) (tickedOf (d .answer) ws) (tickedOf (d .answer) (stored ws l s (d .hat) k (d .task)))

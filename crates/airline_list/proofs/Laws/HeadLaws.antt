@@ -5,31 +5,28 @@ use mathlib.Core.List.{List, [], _∷_, _++_, append-assoc}
 use Prim.Native.Nat.{ℕ, zero, suc, _+_, _*_, _-_, _/_, _%_, _≤_, _<_}
 use native.Mathlib.Decide.{decLt}
 use native.Mathlib.Omega.{arith}
-use borrow.Author.Tests.{ne-eqb, eqb-true, eqb-false, le-leb, leb-true}
-use lib.Dec.{eqb, leb}
+use borrow.Author.Tests.{ne-eqb, eqb-true, eqb-false, le-leb}
+use lib.Dec.{eqb}
 use lib.ListN.{length, getD, take, drop, take-append-drop, length-take, List·getD-eq-default}
 use lib.Seq.{drop-cons}
 use Rattle.tag.specs.Tags.{numberFrom}
 use Rattle.tag.proofs.TagLaws.{clash, both-true}
 use Rattle.text.specs.Text.{bytes, same}
-use Rattle.text.specs.Lines.{lineFeed, firstLine}
+use Rattle.text.specs.Lines.{lineFeed, firstLine, oneLine}
 use Rattle.text.proofs.Laws.SameTexts.{same-equal, same-lengths-differ}
-use Rattle.text.proofs.Laws.FirstLine.{line-goes-on, line-bytes}
+use Rattle.text.proofs.Laws.FirstLine.{line-goes-on, line-bytes, no-feed, front-line}
+use Rattle.text_scan.proofs.Laws.PlaceLaws.{digit-range}
 use Rattle.text_scan.specs.Scanned.{zeroDigit, isDigit}
 use Rattle.airline_list.specs.declared.End.{End}
 use Rattle.airline_list.specs.declared.End.the-variants.{Left, Right}
 use Rattle.airline_list.specs.declared.forms.Form.the-variants.{Airline}
 use Rattle.airline_list.specs.Forms.{codeText, endText, formText, codeIn, formOf}
-use Rattle.airline_list.specs.FirstForm.{oneLine, threeDigits, hasCode, airlineBehind, othersIn}
+use Rattle.airline_list.specs.FirstForm.{threeDigits, hasCode, airlineBehind, othersIn}
 use Rattle.airline_list.specs.Marks.{codes}
 use Rattle.airline_list.proofs.Laws.CodeLaws.{three-digits}
 use Rattle.airline_list.proofs.Laws.FormLaws.{airlineLine, airline-form}
 
 -- ---- A line without a line feed is the first one where the text begins with it, and a line feed follows or nothing.
-pub no-feed : (fed : Bool) → not fed ≡ true → fed ≡ false
-no-feed false h = refl
-no-feed true h = clash (cc)
-
 -- The default of a place within a list does not matter.
 getD-any : (xs : List ℕ) (i d e : ℕ) → i < length xs → getD xs i d ≡ getD xs i e
 getD-any [] i d e h = absurd (omega arith)
@@ -90,11 +87,6 @@ module _ (text line : List ℕ) (one : oneLine line ≡ true) where
     first-fed h = sym (first-is text line one ∙ rw (begins, getD-any text (length line) lineFeed 0 h))
 
 -- ---- The three digits of a code.
-pub digit-range : (b : ℕ) → isDigit b ≡ true → (48 ≤ b) × (b ≤ 57)
-digit-range b h =
-    let p = both-true (leb 48 b) (leb b 57) h in
-    (leb-true 48 b (p .0), leb-true b 57 (p .1))
-
 digit-written : (d : ℕ) → d ≤ 9 → isDigit (zeroDigit + d) ≡ true
 digit-written d h = rw (le-leb 48 (zeroDigit + d) (omega arith), le-leb (zeroDigit + d) 57 (omega arith))
 
@@ -156,13 +148,6 @@ module _ (text : List ℕ) (three : threeDigits text ≡ true) where
       rw (three-digits (codeIn text)) (λ i. p i ∷ q i ∷ r i ∷ [])
 
 -- ---- A text that begins as an airline's line does.
-front-line : (front text : List ℕ) → oneLine front ≡ true → firstLine (front ++ text) ≡ front ++ firstLine text
-unfolding firstLine
-front-line [] text o = refl
-front-line (b ∷ bs) text o =
-    let p = both-true (not (eqb b lineFeed)) (oneLine bs) o in
-    rw (no-feed (eqb b lineFeed) (p .0), front-line bs text (p .1))
-
 digit-goes-on : (text : List ℕ) (i : ℕ) → i < length text → isDigit (getD text i 0) ≡ true
     → firstLine (drop i text) ≡ getD text i 0 ∷ firstLine (drop (i + 1) text)
 digit-goes-on text i h d =

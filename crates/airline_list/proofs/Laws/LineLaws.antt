@@ -1,43 +1,24 @@
 -- The lines of a list from a place on, and their forms.
-use mathlib.Core.Path.{_≡_, refl, sym, ap, _∙_}
-use mathlib.Core.Bool.{Bool, true, false}
+use mathlib.Core.Path.{_≡_, sym, ap, _∙_}
+use mathlib.Core.Bool.{true, false}
 use mathlib.Core.Logic.{_⊎_, inl, inr}
 use mathlib.Core.List.{List, [], _∷_, map}
 use Prim.Native.Nat.{ℕ, suc, _+_, _-_, _≤_, _<_}
 use native.Mathlib.Decide.{decLe, decLt}
 use native.Mathlib.Omega.{arith}
 use borrow.Author.Tests.{le-leb, lt-leb}
-use lib.Dec.{eqb, leb}
+use lib.Dec.{leb}
 use lib.ListN.{length, drop, drop-of-length-le, length-drop}
 use lib.Seq.{drop-drop}
 use Rattle.tag.proofs.TagLaws.{clash}
-use Rattle.text.specs.Lines.{lineFeed, firstLine, linesOf}
+use Rattle.text.specs.Lines.{firstLine, linesOf}
+use Rattle.text.proofs.Laws.AllLines.{first-of-lines}
 use Rattle.text.proofs.Laws.FirstLine.{line-within}
 use Rattle.airline_list.specs.declared.forms.Form.{Form}
 use Rattle.airline_list.specs.declared.forms.Form.the-variants.{Neither}
 use Rattle.airline_list.specs.Forms.{formText, formOf}
 use Rattle.airline_list.specs.Lists.{none}
 use Rattle.airline_list.proofs.Laws.FormLaws.{form-text}
-
--- The first line, and the lines behind its line feed.
-first-of-lines : (xs : List ℕ) → 0 < length xs
-    → linesOf xs ≡ firstLine xs ∷ linesOf (drop (suc (length (firstLine xs))) xs)
-unfolding linesOf firstLine
-first-of-lines [] h = absurd (omega arith)
-first-of-lines (b ∷ []) h = go (eqb b lineFeed) refl
-  where
-    go : (fed : Bool) → eqb b lineFeed ≡ fed
-        → linesOf (b ∷ []) ≡ firstLine (b ∷ []) ∷ linesOf (drop (suc (length (firstLine (b ∷ [])))) (b ∷ []))
-    go true e = rw e
-    go false e = rw e
-first-of-lines (b ∷ c ∷ cs) h = go (eqb b lineFeed) refl (first-of-lines (c ∷ cs) (omega arith))
-  where
-    go : (fed : Bool) → eqb b lineFeed ≡ fed
-        → linesOf (c ∷ cs) ≡ firstLine (c ∷ cs) ∷ linesOf (drop (suc (length (firstLine (c ∷ cs)))) (c ∷ cs))
-        → linesOf (b ∷ c ∷ cs)
-        ≡ firstLine (b ∷ c ∷ cs) ∷ linesOf (drop (suc (length (firstLine (b ∷ c ∷ cs)))) (b ∷ c ∷ cs))
-    go true e r = rw e
-    go false e r = rw (e, r)
 
 -- ---- The forms from a place of the list on.
 abbrev pub formAt : (list : List ℕ) (from : ℕ) → Form

@@ -142,18 +142,27 @@ module _ {list : List ℕ} {from line : ℕ} {marks : List ℕ} (R : Reading lis
       too-many (Others end) = rw (lt-ltb 64 line many)
       too-many Neither = refl
 
--- ---- A line taken: the place where it ends, whether it is the last, its turn and the marks after it, as the code has them.
+-- ---- A line taken, as the code has it: its form and the place where it ends; its turn and the marks after it; and whether
+-- it is the last.
 pub record Taken (list : List ℕ) (from line : ℕ) (marks : List ℕ) (to : ℕ) (turn : Turn) (after : List ℕ) : Type 0 where
   pub reading : Reading list from line marks
   pub before : from < length list
   pub few : line ≤ 64
-  pub ends : to ≡ from + length (formText (formAt list from))
+  pub form : Form
+  pub its-form : form ≡ formAt list from
+  pub ends : to ≡ from + length (formText form)
   pub last : Bool
+  pub turns : turnedOf turn after ≡ turned marks form last
   pub is-last : last ≡ none (formsAt list (to + 1))
-  pub turns : turnedOf turn after ≡ turned marks (formAt list from) last
 
 module _ {list : List ℕ} {from line : ℕ} {marks : List ℕ} {to : ℕ} {turn : Turn} {after : List ℕ}
     (T : Taken list from line marks to turn after) where
+  ends-there : to ≡ from + length (formText (formAt list from))
+  ends-there = T .ends ∙ ap (λ (form : Form). from + length (formText form)) (T .its-form)
+
+  turns-so : turnedOf turn after ≡ turned marks (formAt list from) (T .last)
+  turns-so = T .turns ∙ ap (λ (form : Form). turned marks form (T .last)) (T .its-form)
+
   abbrev Leads : Turned → Type 0
   Leads t = ComesTo t line (T .reading .earlier) (formsAt list (to + 1)) (verdict list)
 
@@ -175,12 +184,12 @@ module _ {list : List ℕ} {from line : ℕ} {marks : List ℕ} {to : ℕ} {turn
           (form-in-range (firstLine (drop from list))) in
           let whole : judged line (T .reading .earlier) (formAt list from ∷ forms) ≡ verdict list =
           sym (ap (λ (others : List Form). judged line (T .reading .earlier) (formAt list from ∷ others))
-          (forms-behind list from to (T .ends) text)) ∙ first-judged (T .reading) (T .before) in
+          (forms-behind list from to ends-there text)) ∙ first-judged (T .reading) (T .before) in
           subst (λ (last : Bool). Leads (turned marks (formAt list from) last)) (sym (T .is-last))
           (subst (ComesTo (turned marks (formAt list from) (none forms)) line (T .reading .earlier) forms) whole comes)
 
   leads-by : (other : Turn) → turn ≡ other → Leads (turnedOf other after)
-  leads-by other e = subst (λ (t : Turn). Leads (turnedOf t after)) e (subst Leads (sym (T .turns)) turn-leads)
+  leads-by other e = subst (λ (t : Turn). Leads (turnedOf t after)) e (subst Leads (sym turns-so) turn-leads)
 
   pub turn-fault : (number : ℕ) → turn ≡ Fault number
       → (NotSent number line ≡ closing (verdict list)) × MarkedAs (verdict list) after
@@ -194,7 +203,7 @@ module _ {list : List ℕ} {from line : ℕ} {marks : List ℕ} {to : ℕ} {turn
 
   pub turn-goes-on : turn ≡ More → to + 1 < length list
   turn-goes-on e =
-      let more = more-not-last marks (formAt list from) (T .last) (sym (ap (λ (t : Turned). t .turn) (T .turns)) ∙ e) in
+      let more = more-not-last marks (formAt list from) (T .last) (sym (ap (λ (t : Turned). t .turn) turns-so) ∙ e) in
       forms-left list (to + 1) (sym (T .is-last) ∙ more)
 
   pub turn-more : turn ≡ More → Reading list (to + 1) (line + 1) after

@@ -3,12 +3,10 @@ use mathlib.Core.Path.{_≡_, ap, _∙_}
 use mathlib.Core.List.{List}
 use Prim.Native.Nat.{ℕ, _+_, _-_, _≤_, _<_}
 use native.Mathlib.Omega.{arith}
-use lib.Dec.{leb}
 use lib.ListN.{length, drop, length-drop}
 use lib.Seq.{take-all}
 use Rattle.text.specs.Lines.{firstLine}
 use Rattle.airline_list.specs.Forms.{formText, formOf}
-use Rattle.airline_list.specs.Marks.{turned}
 use Rattle.airline_list.proofs.Laws.FormLaws.{form-in-range}
 use Rattle.airline_list.proofs.Laws.LineLaws.{formAt, is-last, form-within}
 use Rattle.airline_list.proofs.Laws.ReadingLaws.{
@@ -70,16 +68,16 @@ here :
 here c =
     let l = c .before .before .before .before .before .before .before .loop in
     let list = c .before .before .before .before .before .before .before .before .before .args .list .now in
-    let to = l .from + c .before .before .form-length .result in
     record {
       reading = l .inv;
       before = omega arith;
       few = omega arith;
-      ends = ap (λ n. l .from + n) (length-found (c .before .before));
-      last = leb (length list - to) 1;
-      is-last = is-last list to;
-      turns = c .take-line .ensures ∙ ap (λ form. turned (l .marks) form (leb (length list - to) 1))
-          (form-found (c .before .before .before));
+      form = c .before .before .before .first-form .result;
+      its-form = form-found (c .before .before .before);
+      ends = ap (λ n. l .from + n) (c .before .before .form-length .ensures);
+      last = _;
+      turns = c .take-line .ensures;
+      is-last = is-last list (l .from + c .before .before .form-length .result);
     }
 
 -- A line is read after it.

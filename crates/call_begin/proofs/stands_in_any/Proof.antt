@@ -1,13 +1,13 @@
 -- `call_begin::stands_in_any` meets its contract: what the lanes walked so far say.
-use mathlib.Core.Path.{_≡_, refl, ap, _∙_}
-use Prim.Native.Nat.{ℕ, _-_, _≤_}
+use mathlib.Core.Path.{_≡_, refl, sym, ap, _∙_}
+use Prim.Native.Nat.{ℕ, _+_, _-_, _≤_}
 use native.Mathlib.Omega.{arith}
 use Rattle.machine.specs.Table.{laneCount}
 use Rattle.machine.specs.Calls.{lanesBelow}
 use Rattle.machine.proofs.Shape.ShapeLaws.{well-sized}
 use Rattle.table_shape.proofs.Laws.TableWords.{header-long}
 use Rattle.call_begin.specs.Seen.{standing}
-use Rattle.call_begin.proofs.SeenTests.{none-walked, one-more}
+use Rattle.call_begin.proofs.SeenTests.{none-walked, one-more, no-end-stays}
 use Rattle.call_begin.proofs.stands_in_any.Statement.{statement}
 use Rattle.call_begin.proofs.stands_in_any.Tie as tie
 
@@ -35,9 +35,33 @@ stands-requires c κs =
 first-of-requires : tie.Need-first-of-requires Inv-loop μ-loop
 first-of-requires c κs = tt
 
+-- What the lanes say with the one just walked.
+says-now :
+    (c : tie.After-first-of Inv-loop μ-loop)
+    → let l = c .before .before .before .loop in
+    let a = c .before .before .before .before .before .before .args in
+    c .first-of .result ≡ standing (a .tag) (lanesBelow (a .table .now) (l .l + 1))
+says-now c =
+    let one = c .before in
+    let l = one .before .before in
+    let a = l .before .before .before .args in
+    c .first-of .ensures ∙ one-more (a .table .now) (a .tag) (l .loop .l) (l .loop .inv .2) (one .stands .ensures)
+
+returns : tie.Need-returns Inv-loop μ-loop
+returns c =
+    let l = c .before .before .before .before in
+    let a = l .before .before .before .args in
+    let t = a .table .now in
+    let left : l .loop .l + 1 + (laneCount t - (l .loop .l + 1)) ≡ laneCount t =
+    omega (arith, l .loop .inv .1, c .before .before .before .loop-test) in
+    let all =
+    no-end-stays t (a .tag) (l .loop .l + 1) (laneCount t - (l .loop .l + 1))
+    (sym (c .if1 .taken) ∙ says-now (c .before)) in
+    c .if1 .taken ∙ all ∙ ap (λ (n : ℕ). standing (a .tag) (lanesBelow t n)) left
+
 add-l : tie.Need-add-l Inv-loop μ-loop
 add-l c =
-    let l = c .before .before .before in
+    let l = c .before .before .before .before in
     let p = l .before .before .before in
     omega (arith, l .loop .inv .1, well-sized (p .args .table .now) (p .pre .length-passes) .most-lanes)
 
@@ -46,17 +70,14 @@ loop-less c = omega arith
 
 loop-again : tie.Need-loop-again Inv-loop μ-loop
 loop-again c =
-    let one = c .before in
-    let l = one .before .before in
-    let a = l .before .before .before .args in (
+    let l = c .before .before .before .before in (
       omega arith,
       l .loop .inv .1,
-      c .first-of .ensures
-          ∙ one-more (a .table .now) (a .tag) (l .loop .l) (l .loop .inv .2) (one .stands .ensures),
+      says-now (c .before),
     )
 
-returns : tie.Need-returns Inv-loop μ-loop
-returns c =
+returns-2 : tie.Need-returns-2 Inv-loop μ-loop
+returns-2 c =
     let l = c .before in
     let a = l .before .before .before .args in
     let all : l .loop .l ≡ laneCount (a .table .now) = omega (arith, l .loop .inv) in
@@ -72,7 +93,8 @@ stands-in-any-spec =
     loop-holds
     stands-requires
     first-of-requires
+    returns
     add-l
     loop-less
     loop-again
-    returns)
+    returns-2)

@@ -21,23 +21,23 @@ is-well-formed : (c : tie.Else1) → WellFormed (c .before .before .before .args
 is-well-formed c =
     table-passed (c .before .before .before .args .table .now) (c .before .table-refusal .ensures) (c .if1 .left)
 
-shared-slice-read-if2 : tie.Need-shared-slice-read-if2
-shared-slice-read-if2 c =
-    let e = c .before in
-    omega (arith, header-long (e .before .before .before .args .table .now) (is-well-formed e .length-passes))
+slots-requires : tie.Need-slots-requires
+slots-requires c κs = header-long (c .before .before .before .args .table .now) (is-well-formed c .length-passes)
 
 returns-2 : tie.Need-returns-2
 returns-2 c =
-    let e = c .before .before in
+    let n = c .before in
+    let e = n .before in
     let a = e .before .before .before .args in
-    is-9 (a .table .now) (is-well-formed e) (a .hint) (c .if2 .taken)
+    is-9 (a .table .now) (is-well-formed e) (a .hint) (omega (arith, n .slots .ensures, c .if2 .taken))
 
 returns-3 : tie.Need-returns-3
 returns-3 c =
-    let e = c .before .before in
+    let n = c .before in
+    let e = n .before in
     let a = e .before .before .before .args in
-    is-none (a .table .now) (is-well-formed e) (a .hint) (c .if2 .left)
+    is-none (a .table .now) (is-well-formed e) (a .hint) (omega (arith, n .slots .ensures, c .if2 .left))
 
 pub dispatch-refusal-spec : {M : Type 1} → statement M
 dispatch-refusal-spec =
-    tie.close (tie.spec table-refusal-requires returns shared-slice-read-if2 returns-2 returns-3)
+    tie.close (tie.spec table-refusal-requires returns slots-requires returns-2 returns-3)

@@ -7,8 +7,8 @@ use native.Mathlib.Omega.{arith}
 use lib.ListN.{length, take, drop, length-drop, drop-of-length-le}
 use lib.Seq.{length-take-le, take-append-add, take-at, drop-at}
 use borrow.Rule.Slice.PartMut.{putMid, postOf}
-use Rattle.machine.specs.Table.{headerLength, nodeLength, nodeAt, nodeCount}
-use Rattle.machine.specs.Snapshots.{nodePart, reordered}
+use Rattle.machine.specs.Table.{headerLength, nodeLength, nodeAt, nodeCount, nodePart}
+use Rattle.machine.specs.Snapshots.{reordered}
 use Rattle.machine.proofs.Snapshots.Reordered.{Order}
 use Rattle.table_shape.proofs.Laws.FirstNode.{moved-on}
 use Rattle.call_snapshot.specs.Contracts.{withEnds, linksOk, valuesOk, columnsOk}

@@ -22,11 +22,12 @@ use Rattle.machine.specs.Table.{
   taskCount,
   growth,
   laneCount,
+  nodePart,
   linkWord,
   recordWords,
 }
 use Rattle.machine.specs.Shape.{lengthOk, allBelow, nodeOrNone, headerOk, nodeOk, recordOk, shapeOk}
-use Rattle.machine.specs.Snapshots.{transposed, nodePart, byNodes}
+use Rattle.machine.specs.Snapshots.{transposed, byNodes}
 use Rattle.machine.proofs.Snapshots.Reordered.{
   nodes-keep,
   same-length,

@@ -38,14 +38,16 @@ module _ (ws : List ℕ) (k h : ℕ) (answers : List ℕ) {r : Ran} {vs words : 
           ∙ ap (tickedOf (tickOn ws k h .answer)) (sym (refused-unchanged ws k h e))
       go nothing e = absurd (omega (arith, none, ap (λ (x : RunDone). x .ran .made) (by-tick e)))
 
-  pub pair-made :
+  -- What the three words say.
+  abbrev said : Option Answer
+  said = answerOf (getD words 0 0) (getD words 1 0) (getD words 2 0)
+
+  pub pair-said :
       WellFormed ws
       → r .made ≢ 0
-      → {a : Answer}
-      → ((b : Answer) → answerOf (getD words 0 0) (getD words 1 0) (getD words 2 0) ≡ some b → a ≡ b)
-      → tickedOf a vs ≡ tickOn ws k h
+      → (said ≡ some (tickOn ws k h .answer)) × (tickedOf (tickOn ws k h .answer) vs ≡ tickOn ws k h)
   unfolding by-first runOn
-  pair-made W some-made {a} says = go (refusalOf (tickOn ws k h .answer)) refl
+  pair-said W some-made = go (refusalOf (tickOn ws k h .answer)) refl
     where
       allowed : refusalOf (tickOn ws k h .answer) ≡ nothing → tickRefusal ws k h ≡ nothing
       allowed e = by (tickRefusal ws k h) refl
@@ -54,13 +56,23 @@ module _ (ws : List ℕ) (k h : ℕ) (answers : List ℕ) {r : Ran} {vs words : 
           by nothing q = refl
           by (some n) q = clash (cc (sym e ∙ refused-tick ws k h n q))
 
-      go : (o : Option ℕ) → refusalOf (tickOn ws k h .answer) ≡ o → tickedOf a vs ≡ tickOn ws k h
+      go :
+          (o : Option ℕ)
+          → refusalOf (tickOn ws k h .answer) ≡ o
+          → (said ≡ some (tickOn ws k h .answer)) × (tickedOf (tickOn ws k h .answer) vs ≡ tickOn ws k h)
       go (some n) e = absurd (some-made (ap (λ (x : RunDone). x .ran .made) (by-tick e)))
       go nothing e =
           let d = by-tick e in
           let fits = made-answer-fits ws k h (well-shaped ws (W .length-passes) (W .shape-passes)) (allowed e) e in
           let read =
-          ap (λ (x : RunDone). answerOf (getD (x .answers) 0 0) (getD (x .answers) 1 0) (getD (x .answers) 2 0)) d in
-          ap (λ (b : Answer). tickedOf b vs)
-          (says (tickOn ws k h .answer) (read ∙ answer-back (tickOn ws k h .answer) fits))
-          ∙ ap (λ (x : RunDone). tickedOf (tickOn ws k h .answer) (x .words)) d
+          ap (λ (x : RunDone). answerOf (getD (x .answers) 0 0) (getD (x .answers) 1 0) (getD (x .answers) 2 0)) d in (
+            read ∙ answer-back (tickOn ws k h .answer) fits,
+            ap (λ (x : RunDone). tickedOf (tickOn ws k h .answer) (x .words)) d,
+          )
+
+  pub pair-made : WellFormed ws → r .made ≢ 0 → {a : Answer} → some a ≡ said → tickedOf a vs ≡ tickOn ws k h
+  pair-made W some-made {a} says =
+      let one = pair-said W some-made in
+      let is : some a ≡ some (tickOn ws k h .answer) = says ∙ one .0 in
+      let same : a ≡ tickOn ws k h .answer = cc in
+      ap (λ (b : Answer). tickedOf b vs) same ∙ one .1

@@ -1,6 +1,6 @@
 -- A list pair by pair: the ticks made so far, and the run of the pairs ahead.
 use mathlib.Core.Path.{_≡_, sym, ap, _∙_, subst}
-use mathlib.Core.Logic.{_≢_}
+use mathlib.Core.Bool.{true, false}
 use mathlib.Core.List.{List, [], _∷_, _++_, append-assoc}
 use mathlib.Core.Option.{Option, some, none as nothing}
 use Prim.Native.Nat.{ℕ, suc, _+_, _*_, _≤_, _<_}
@@ -10,7 +10,7 @@ use lib.ListN.{length, getD, take, drop, take-append-drop}
 use lib.Seq.{sets, drop-cons, drop-drop}
 use Rattle.tag.specs.Tags.{largestTag}
 use Rattle.machine.specs.declared.Answer.{Answer}
-use Rattle.machine.specs.Answers.{kindOf, payloadOf, answerLength, answerWords, refusalOf}
+use Rattle.machine.specs.Answers.{payloadOf, answerLength, answerWords, refusalOf}
 use Rattle.machine.specs.Calls.{
   Ticked,
   tickOn,
@@ -21,10 +21,11 @@ use Rattle.machine.specs.Calls.{
 }
 use Rattle.machine.proofs.Shape.ShapeLaws.{well-shaped}
 use Rattle.machine.proofs.Words.RunLaws.{by-first, first-tick}
-use Rattle.machine.proofs.Words.TickLaws.{refused-unchanged, refused-kind, made-kind, tick-on-number}
+use Rattle.machine.proofs.Words.TickLaws.{refused-unchanged, tick-on-number}
 use Rattle.machine.specs.Results.{tickedOf, runDoneOf}
 use Rattle.machine.specs.Shape.{WellFormed}
-use Rattle.answers.specs.Refusals.{numberOf}
+use Rattle.answers.specs.Refusals.{numberOf, isRefused}
+use Rattle.answers.proofs.Laws.Refusals.{refusal-number, made-answer}
 use Rattle.table_layout.proofs.Laws.Fronts.{front-grows, rest-stays}
 
 -- ---- One tick.
@@ -40,8 +41,8 @@ tick-tag ws k h a vs ticked P =
     (tick-on-number ws k h (well-shaped ws (P .length-passes) (P .shape-passes)))
 
 -- The number of a refusal is what it answers with.
-refused-number : (a : Answer) → kindOf a ≡ 7 → refusalOf a ≡ some (numberOf (refusalOf a))
-refused-number a e = let q = refused-kind a e in q ∙ ap (λ (r : Option ℕ). some (numberOf r)) (sym q)
+refused-number : (a : Answer) → isRefused a ≡ true → refusalOf a ≡ some (numberOf (refusalOf a))
+refused-number a e = let q = refusal-number a e .1 in q ∙ ap (λ (r : Option ℕ). some (numberOf r)) (sym q)
 
 -- ---- A run by its first tick.
 module _ (k h : ℕ) (list ws answers : List ℕ) where
@@ -52,7 +53,7 @@ module _ (k h : ℕ) (list ws answers : List ℕ) where
     words-are : tickOn ws k h .words ≡ vs
     words-are = sym (ap (λ (t : Ticked). t .words) ticked)
 
-    first-refused : kindOf a ≡ 7 → runOn (k ∷ h ∷ list) ws answers ≡ stopped (numberOf (refusalOf a)) vs answers
+    first-refused : isRefused a ≡ true → runOn (k ∷ h ∷ list) ws answers ≡ stopped (numberOf (refusalOf a)) vs answers
     unfolding by-first
     first-refused e =
         let n = numberOf (refusalOf a) in
@@ -60,11 +61,11 @@ module _ (k h : ℕ) (list ws answers : List ℕ) where
         first-tick k h list ws answers (some n) r
         ∙ ap (λ (l : List ℕ). stopped n l answers) (sym (refused-unchanged ws k h r) ∙ words-are)
 
-    first-made : kindOf a ≢ 7
+    first-made : isRefused a ≡ false
         → runOn (k ∷ h ∷ list) ws answers ≡ afterTick a (runOn list vs (drop answerLength answers))
     unfolding by-first
     first-made e =
-        first-tick k h list ws answers nothing (ap refusalOf answer-is ∙ made-kind a e)
+        first-tick k h list ws answers nothing (ap refusalOf answer-is ∙ made-answer a e)
         ∙ ap (λ (t : Ticked). afterTick (t .answer) (runOn list (t .words) (drop answerLength answers))) (sym ticked)
 
 -- ---- The run of the pairs ahead, behind the ticks made.
@@ -126,7 +127,7 @@ module _ (made : ℕ) (left ws answers : List ℕ) (more : 1 < length left) (a :
   to = answerLength * made
 
   pub run-refused :
-      kindOf a ≡ 7
+      isRefused a ≡ true
       → runDoneOf (record { made = made; refusal = numberOf (refusalOf a) }) vs answers ≡ ahead made left ws answers
   unfolding to
   run-refused e =
@@ -137,7 +138,7 @@ module _ (made : ℕ) (left ws answers : List ℕ) (more : 1 < length left) (a :
       ∙ stops-here to made (numberOf (refusalOf a)) vs answers)
 
   pub run-made :
-      kindOf a ≢ 7
+      isRefused a ≡ false
       → answerLength * made + answerLength ≤ length answers
       → ahead (made + 1) (drop 2 left) vs (sets answers (answerLength * made) (answerWords a))
       ≡ ahead made left ws answers

@@ -14,15 +14,15 @@ use lib.ListN.{length, getD, drop}
 use lib.Seq.{drop-cons}
 use borrow.Author.Tests.{le-leb, lt-leb}
 use Rattle.machine.specs.Sides.{left, right}
-use Rattle.machine.specs.Values.{number, bagOk}
+use Rattle.machine.specs.Choice.{_≟_}
+use Rattle.machine.specs.Values.{Value, never, bag, N, X, Y, number, bagOk}
 use Rattle.machine.specs.Tasks.{none}
-use Rattle.machine.specs.Table.{nodeCount, hat, link, valueWords}
+use Rattle.machine.specs.Table.{nodeCount, hat, link, value, valueWords}
 use Rattle.machine.specs.Calls.{laneFrom, lane}
 use Rattle.machine.proofs.Basics.Contradiction.{clash}
-use Rattle.lane_walk.specs.declared.Located.{Located}
 use Rattle.lane_walk.specs.declared.Located.the-variants.{Node, NoEnd}
 use Rattle.lane_walk.specs.Walks.{ahead, countOf, nodeAfter, locatedOf}
-use Rattle.lane_walk.proofs.Laws.Turns.{after, no-turn, no-node, no-bag, one-bag}
+use Rattle.lane_walk.proofs.Laws.Turns.{atValue, after, no-turn, no-node, at-node, no-bag, one-bag}
 use Rattle.lane_walk.proofs.Laws.Ahead.{BagAhead, bag-ahead}
 
 -- ---- The loop that counts.
@@ -142,3 +142,30 @@ module _ (ws : List ℕ) (x : ℕ) (bags : List ℕ) where
 
     pub tag-at : (n : ℕ) → n < length bags → TagAt n
     tag-at n h = tag-here n h (ahead-after n (omega arith))
+
+-- ---- A walk that ends has no more bags than it goes through nodes.
+pub few-bags : (ws : List ℕ) (n x : ℕ) (bags : List ℕ) → laneFrom ws n x ≡ some bags → length bags ≤ n
+few-bags ws zero x bags h = let e = no-turn ws 0 x refl in clash (cc)
+few-bags ws (suc n) x bags h = go (x ≟ none) (few-bags ws n (link ws right x))
+  where
+    ended : some [] ≡ some bags → length bags ≤ suc n
+    ended e = let z = ap countOf e in let y : 0 ≡ length bags = cc in omega arith
+
+    by : (v : Value) → ((r : List ℕ) → after ws n x ≡ some r → length r ≤ n)
+        → atValue v (after ws n x) ≡ some bags → length bags ≤ suc n
+    by never few e = ended e
+    by (bag b) few e = on (after ws n x) refl
+      where
+        on : (r : Option (List ℕ)) → after ws n x ≡ r → length bags ≤ suc n
+        on nothing f = let z = ap (Option·map (_∷_ b)) (sym f) ∙ e in clash (cc)
+        on (some r) f =
+            let z = ap countOf (ap (Option·map (_∷_ b)) (sym f) ∙ e) in
+            let y : suc (length r) ≡ length bags = cc in
+            omega (arith, few r f)
+    by (N s) few e = ended e
+    by (X s) few e = ended e
+    by (Y s) few e = ended e
+
+    go : Dec (x ≡ none) → ((r : List ℕ) → after ws n x ≡ some r → length r ≤ n) → length bags ≤ suc n
+    go (yes e) few = let z = no-node ws (suc n) x e in clash (cc)
+    go (no node) few = by (value ws x) few (sym (at-node ws n x node) ∙ h)

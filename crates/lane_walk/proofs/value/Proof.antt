@@ -20,10 +20,13 @@ value-requires c κs =
     let s = c .before .before in
     node-in-part (s .args .table .now) (s .pre .0) (s .args .x) (s .pre .1)
 
+word-by-word-requires : tie.Need-word-by-word-requires
+word-by-word-requires c κs = search needs
+
 returns : tie.Need-returns
 returns c =
-    let s = c .before .before .before in
-    c .value .ensures ∙ sym (value-read (s .args .table .now) (s .pre .0) (s .args .x) (s .pre .1))
+    let s = c .before .before .before .before in
+    c .word-by-word .ensures ∙ c .before .value .ensures ∙ sym (value-read (s .args .table .now) (s .pre .0) (s .args .x) (s .pre .1))
 
 pub value-spec : {M : Type 1} → statement M
-value-spec = tie.close (tie.spec sub-value part-value-start part-value-end value-requires returns)
+value-spec = tie.close (tie.spec sub-value part-value-start part-value-end value-requires word-by-word-requires returns)

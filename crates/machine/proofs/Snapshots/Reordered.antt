@@ -6,8 +6,8 @@ use native.Mathlib.Omega.{arith}
 use lib.ListN.{length, getD, take, drop, length-append, length-drop, take-append-drop}
 use lib.Seq.{length-take-le, getD-take, getD-drop, take-at, drop-at, drop-drop}
 use Rattle.machine.specs.Counts.{count}
-use Rattle.machine.specs.Table.{headerLength, nodeLength, nodeAt, nodeCount}
-use Rattle.machine.specs.Snapshots.{transposed, nodePart, reordered, byColumns, byNodes}
+use Rattle.machine.specs.Table.{headerLength, nodeLength, nodeAt, nodeCount, nodePart}
+use Rattle.machine.specs.Snapshots.{transposed, reordered, byColumns, byNodes}
 use Rattle.machine.proofs.Basics.Counts.{count-append}
 use Rattle.machine.proofs.Snapshots.Transposed.{
   at-first,

@@ -12,10 +12,14 @@ use Rattle.machine.specs.declared.Answer.the-variants.{Refused}
 use Rattle.machine.specs.declared.Reply.{Reply}
 use Rattle.machine.specs.declared.Reply.the-variants.{Accepted, Refused as Reply-Refused}
 use Rattle.machine.specs.declared.Stored.{Stored}
+use Rattle.machine.specs.declared.ByList.the-variants.{Replied}
+use Rattle.airline_list.specs.declared.Sent.{Sent}
+use Rattle.airline_list.specs.declared.Sent.the-variants.{To, NotSent}
+use Rattle.airline_list.specs.Lists.{verdict, sent}
 use Rattle.machine.specs.Answers.{answerLength, refusalOf, isGoing}
-use Rattle.machine.specs.Sides.{sideOf}
+use Rattle.machine.specs.Sides.{sideOf, sideNumber}
 use Rattle.machine.specs.Values.{number}
-use Rattle.machine.specs.Operations.{Operation, idle, push, pop, add, remove, operationOf}
+use Rattle.machine.specs.Operations.{Operation, idle, push, pop, add, remove, operationOf, operationNumber}
 use Rattle.machine.specs.Table.{taskCount, laneCount, task, setTask}
 use Rattle.machine.specs.Calls.{
   lane,
@@ -55,6 +59,8 @@ use Rattle.machine.specs.Calls.{
   readInto,
   read,
 }
+use Rattle.machine.specs.Sheets.{sheetInto, sheet}
+use Rattle.machine.specs.PushByList.{sideAt, pushTo, pushByList}
 use Rattle.machine.specs.Row.{newNote}
 use Rattle.machine.specs.Demand3.{
   Call,
@@ -67,6 +73,8 @@ use Rattle.machine.specs.Demand3.{
   run-call,
   panel-call,
   read-call,
+  sheet-call,
+  push-by-list-call,
   given,
   after,
   afterTicks,
@@ -78,6 +86,7 @@ use Rattle.machine.specs.Kinds.{
   ticks-of,
   dispatches-with,
   a-look,
+  sentAsks,
   asked,
   Tick,
   Did,
@@ -86,6 +95,7 @@ use Rattle.machine.specs.Kinds.{
   ticked,
   startDid,
   beginDid,
+  byListDid,
   did,
 }
 use Rattle.machine.specs.Fair.{dispatchesIn}
@@ -232,8 +242,14 @@ dispatch-comes ws h ts =
     subst (λ (d : Dispatched). Comes ws (dispatches-with h 1) (d .words) (ticked ts)) (one-dispatch ws h)
     (are-dispatched h 1 ts)
 
+by-list-comes : (s : Sent) (ws : List ℕ) (k l : ℕ) (argument : Stored)
+    → Comes ws (sentAsks s k l argument) (pushTo s ws k l argument .words)
+    (byListDid s k l argument (pushTo s ws k l argument .answer))
+by-list-comes (To end) ws k l argument = begin-comes ws k l (operationNumber push) (sideNumber (sideAt end)) argument
+by-list-comes (NotSent n line) ws k l argument = left-alone a-look refl
+
 pub comes : (c : Call) (ws : List ℕ) → Comes ws (asked c) (after c ws) (did c (given c ws))
-unfolding run panel
+unfolding run panel pushByList
 comes (start-call S T g L) ws = start-comes ws S T g L
 comes (begin-call k l op side argument) ws = begin-comes ws k l op side argument
 comes (tick-call k h) ws = ticks-come (k ∷ h ∷ []) ws _ (tick-ends ws k h [])
@@ -243,6 +259,8 @@ comes (dispatches-call h n) ws = are-dispatched h n _
 comes (run-call list answers) ws = ticks-come list ws _ (tested-ends (runRefusal ws list answers) ws list answers)
 comes (panel-call list answers) ws = ticks-come list ws _ (tested-ends (panelRefusal ws list answers) ws list answers)
 comes (read-call l out) ws = left-alone a-look refl
+comes (sheet-call l page out) ws = left-alone a-look refl
+comes (push-by-list-call list k l argument) ws = by-list-comes (sent (verdict list) (number argument)) ws k l argument
 
 -- ---- What calls keep.
 
@@ -283,6 +301,11 @@ pub record SameLooks (ws vs : List ℕ) : Type 0 where
   pub same-lane : (l : ℕ) → lane vs l ≡ lane ws l
   pub same-operation : (k : ℕ) → task vs k .operation ≡ task ws k .operation
   pub same-argument : (k : ℕ) → task vs k .argument ≡ task ws k .argument
+
+-- A look at a lane: it is refused by 3, 4 or 26, or told by the lane.
+abbrev lookAt : {R : Type 0} (l : ℕ) (refused : ℕ → R) (told : Option (List ℕ) → R) → List ℕ → R
+lookAt {R} l refused told ws =
+    elim (laneRefusal ws l nothing) as (λ _. R) [ some n ↦ refused n | nothing ↦ told (lane ws l) ]
 
 module _ {ws vs : List ℕ} (L : SameLooks ws vs) where
   below-same : (n : ℕ) → lanesBelow vs n ≡ lanesBelow ws n
@@ -338,9 +361,9 @@ module _ {ws vs : List ℕ} (L : SameLooks ws vs) where
       same-reply (some n) = refl
       same-reply nothing = refl
 
-  read-same : (l : ℕ) (out : List ℕ) → read vs l out ≡ read ws l out
-  unfolding read
-  read-same l out = ap (done vs) same ∙ go (laneRefusal ws l nothing)
+  look-same : {R : Type 0} (l : ℕ) (refused : ℕ → R) (told : Option (List ℕ) → R)
+      → lookAt l refused told vs ≡ lookAt l refused told ws
+  look-same {R} l refused told = ap (given-by vs) same ∙ go (laneRefusal ws l nothing)
     where
       same : laneRefusal vs l nothing ≡ laneRefusal ws l nothing
       same =
@@ -348,12 +371,26 @@ module _ {ws vs : List ℕ} (L : SameLooks ws vs) where
           ∙ ap (λ (n : ℕ). unless (ltb l n) 26 nothing) (L .same-lanes)
           ∙ sym (L .passes (unless (ltb l (laneCount ws)) 26 nothing))
 
-      done : List ℕ → Option ℕ → ReadDone
-      done xs r = elim r as (λ _. ReadDone) [ some n ↦ unread n out | nothing ↦ readInto (lane xs l) out ]
+      given-by : List ℕ → Option ℕ → R
+      given-by xs r = elim r as (λ _. R) [ some n ↦ refused n | nothing ↦ told (lane xs l) ]
 
-      go : (r : Option ℕ) → done vs r ≡ done ws r
+      go : (r : Option ℕ) → given-by vs r ≡ given-by ws r
       go (some n) = refl
-      go nothing = ap (λ (b : Option (List ℕ)). readInto b out) (L .same-lane l)
+      go nothing = ap told (L .same-lane l)
+
+  read-same : (l : ℕ) (out : List ℕ) → read vs l out ≡ read ws l out
+  unfolding read
+  read-same l out = look-same l (λ n. unread n out) (λ bags. readInto bags out)
+
+  sheet-same : (l page : ℕ) (out : List ℕ) → sheet vs l page out ≡ sheet ws l page out
+  unfolding sheet
+  sheet-same l page out = look-same l (λ n. changed (some n) out out) (λ bags. sheetInto bags page out)
+
+  by-list-given : (s : Sent) (k l : ℕ) (argument : Stored)
+      → pushTo s vs k l argument .answer ≡ pushTo s ws k l argument .answer
+  by-list-given (To end) k l argument =
+      ap Replied (begin-given k l (operationNumber push) (sideNumber (sideAt end)) argument)
+  by-list-given (NotSent n line) k l argument = refl
 
 -- What such a call leaves of two tables: both as they are, or both begun alike.
 pub data LeftAlike (ws vs : List ℕ) : (ws′ vs′ : List ℕ) → Type 0 where
@@ -377,7 +414,14 @@ pub data View : Call → Type 0 where
   of-panel : (list answers : List ℕ) → View (panel-call list answers)
   of-other : (c : Call) → TicksNone c → View c
 
+by-list-left-alike : (s : Sent) (k l : ℕ) (argument : Stored) (ws vs : List ℕ)
+    → LeftAlike ws vs (pushTo s ws k l argument .words) (pushTo s vs k l argument .words)
+by-list-left-alike (To end) k l argument ws vs =
+    both-begun k l (operationNumber push) (sideNumber (sideAt end)) argument
+by-list-left-alike (NotSent n line) k l argument ws vs = both-left-alone
+
 pub view : (c : Call) → View c
+unfolding pushByList
 view (start-call S T g L) = of-start S T g L
 view (begin-call k l op side argument) =
     of-other (begin-call k l op side argument)
@@ -396,4 +440,16 @@ view (read-call l out) =
     (record {
       same-given = λ L i. (read-same L l out i .reading, read-same L l out i .out);
       left-alike = λ ws vs. both-left-alone;
+    })
+view (sheet-call l page out) =
+    of-other (sheet-call l page out)
+    (record {
+      same-given = λ L i. (sheet-same L l page out i .reply, sheet-same L l page out i .words);
+      left-alike = λ ws vs. both-left-alone;
+    })
+view (push-by-list-call list k l argument) =
+    of-other (push-by-list-call list k l argument)
+    (record {
+      same-given = λ L. by-list-given L (sent (verdict list) (number argument)) k l argument;
+      left-alike = by-list-left-alike (sent (verdict list) (number argument)) k l argument;
     })

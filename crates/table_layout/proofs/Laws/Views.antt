@@ -18,6 +18,7 @@ use Rattle.machine.specs.Table.{
   nodeCount,
   taskCount,
   valueAt,
+  nodePart,
   linkWord,
   valueWords,
   link,
@@ -30,17 +31,19 @@ use Rattle.machine.specs.Shape.{sizesOf, Sized}
 use Rattle.machine.proofs.Basics.Choices.{if-yes}
 use Rattle.machine.proofs.Words.ValueLaws.{stored-alike}
 use Rattle.table_record.specs.Coded.{structOf, taskMeant}
-use Rattle.table_layout.specs.Words.{HoldsNode, linkIn, storedIn}
+use Rattle.table_layout.specs.Words.{HoldsNodes, HoldsNode, linkIn, storedIn}
 use Rattle.table_layout.proofs.Laws.NodeWords.{any-default}
 
--- The words of the nodes.
 abbrev pub nodesOf : List ℕ → List ℕ
-nodesOf ws = midOf headerLength (nodeLength * nodeCount ws) ws
+nodesOf ws = nodePart ws
 
--- As the code lends it: from the header's end to the place after the nodes.
+-- As the code lends it: from node 0 to the place after the nodes.
 pub nodes-part :
-    (ws : List ℕ) {e : ℕ} → e ≡ nodeAt (nodeCount ws) → midOf headerLength (e - headerLength) ws ≡ nodesOf ws
-nodes-part ws {e} h = let n : e - headerLength ≡ nodeLength * nodeCount ws = omega arith in ap (λ (n : ℕ). midOf headerLength n ws) n
+    (ws : List ℕ) {f e : ℕ} → f ≡ nodeAt 0 → e ≡ nodeAt (nodeCount ws) → midOf f (e - f) ws ≡ nodesOf ws
+nodes-part ws {f} {e} at end =
+    let from : f ≡ headerLength = omega arith in
+    let n : e - f ≡ nodeLength * nodeCount ws = omega arith in
+    ap (λ (n : ℕ). midOf f n ws) n ∙ ap (λ (i : ℕ). midOf i (nodeLength * nodeCount ws) ws) from
 
 side-word : (s : Side) → sideNumber s < 2
 side-word left = omega arith
@@ -71,10 +74,14 @@ module _
       ∙ part-word (linksLength + c) 0 (omega arith)
       ∙ ap (λ (j : ℕ). getD (midOf headerLength n ws) j 0) (sym (add-assoc (nodeLength * x) linksLength c)))
 
+-- All the nodes' words are there.
+pub part-long : (ws : List ℕ) → HoldsNodes ws → length (nodesOf ws) ≡ nodeLength * nodeCount ws
+part-long ws room =
+    length-take-le (nodeLength * nodeCount ws) (drop headerLength ws) (let e = length-drop headerLength ws in omega arith)
+
 module _ (ws : List ℕ) (sized : Sized (sizesOf ws)) where
   pub nodes-long : length (nodesOf ws) ≡ nodeLength * nodeCount ws
-  nodes-long =
-      length-take-le (nodeLength * nodeCount ws) (drop headerLength ws) (let e = length-drop headerLength ws in omega arith)
+  nodes-long = part-long ws (omega arith)
 
   past-end : (x c d : ℕ) → nodeCount ws ≤ x → getD (nodesOf ws) (nodeLength * x + c) d ≡ d
   past-end x c d h = List·getD-eq-default (nodesOf ws) d {n = nodeLength * x + c} (let e = nodes-long in omega arith)

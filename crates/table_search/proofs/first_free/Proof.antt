@@ -1,10 +1,10 @@
 -- The hats, the tasks, the queue and the search, one after another, are the allocation.
-use mathlib.Core.Path.{_≡_}
+use mathlib.Core.Path.{_≡_, ap, _∙_}
 use mathlib.Core.List.{List}
 use Prim.Native.Nat.{ℕ}
 use native.Mathlib.Omega.{arith}
 use Rattle.machine.specs.Table.{nodeCount}
-use Rattle.machine.specs.Allocate.{roots, Marking, unmarked, markAll}
+use Rattle.machine.specs.Allocate.{roots, Marking, unmarked, markAll, firstUnmarked}
 use Rattle.machine.specs.Shape.{sizesOf, WellSized}
 use Rattle.machine.proofs.Shape.ShapeLaws.{well-sized}
 use Rattle.machine.proofs.SlotRule.Marking.{room-unmarked, room-of-markAll, allocate-joined}
@@ -19,11 +19,8 @@ sizes c = well-sized (c .args .table .now) (c .pre .0)
 at-start : (c : tie.Start) → Searchable (c .args .table .now) unmarked
 at-start c = record { well-sized = sizes c; room = room-unmarked _ (sizes c .most-nodes) }
 
-shared-slice-read-n : tie.Need-shared-slice-read-n
-shared-slice-read-n c = omega (arith, sizes (c .before .before))
-
-cast-n : tie.Need-cast-n
-cast-n c = omega (arith, sizes (c .before .before))
+slots-requires : tie.Need-slots-requires
+slots-requires c κs = omega (arith, sizes (c .before) .sized)
 
 mark-hats-requires : tie.Need-mark-hats-requires
 mark-hats-requires c κs = at-start (c .before .before .before .before)
@@ -35,8 +32,11 @@ mark-tasks-requires c κs =
 
 -- After the hats and the tasks, the roots are marked.
 module _ (c : tie.After-mark-tasks) where
+  abbrev slots-read : tie.After-slots
+  slots-read = c .before .before .before .before .before .before
+
   abbrev start : tie.Start
-  start = c .before .before .before .before .before .before .before .before
+  start = slots-read .before .before
 
   abbrev table : List ℕ
   table = start .args .table .now
@@ -54,21 +54,28 @@ spread-requires c κs =
     let z = sizes (start k) in
     record { well-sized = z; room = room-of-markAll _ _ _ (z .most-nodes) (marking-of-roots k) }
 
+-- The nodes, counted.
+counted : (c : tie.After-mark-tasks) → slots-read c .slots .result ≡ nodeCount (table c)
+counted c = slots-read c .slots .ensures
+
 search-requires : tie.Need-search-requires
-search-requires c κs = omega (arith, sizes (start (c .before .before .before .before)))
+search-requires c κs =
+    let k = c .before .before .before .before in
+    let z = sizes (start k) in
+    (omega (arith, counted k, z .most-nodes), omega (arith, counted k, start k .pre .1))
 
 returns : tie.Need-returns
 returns c =
     let k = c .before .before .before .before .before in
     let p = c .before .before .spread in
-    allocate-joined (table k) (start k .args .hint) _ _ _ (marking-of-roots k) (p .ensures) (c .search .ensures)
+    allocate-joined (table k) (start k .args .hint) _ _ _ (marking-of-roots k) (p .ensures)
+    (c .search .ensures ∙ ap (λ (n : ℕ). firstUnmarked n (p .last .1 .0) n (start k .args .hint)) (counted k))
 
 pub first-free-spec : {M : Type 1} → statement M
 first-free-spec =
     tie.close
     (tie.spec
-    shared-slice-read-n
-    cast-n
+    slots-requires
     mark-hats-requires
     mark-tasks-requires
     spread-requires

@@ -1,88 +1,91 @@
 -- Marking the hats of the lanes from l on gives what marking the hats of all lanes gives at the start.
-use mathlib.Core.Path.{_≡_}
-use Prim.Native.Nat.{_-_, _≤_}
+use mathlib.Core.Path.{_≡_, _∙_}
+use Prim.Native.Nat.{_-_, _≤_, _<_}
 use native.Mathlib.Omega.{arith}
 use native.Mathlib.Nat.{sub-zero}
-use Rattle.machine.specs.Table.{nodeCount}
+use native.Mathlib.Decide.{ℕ-discrete}
+use Rattle.machine.specs.Table.{mostLanes}
 use Rattle.machine.specs.Allocate.{hatsFrom, markAll, Room}
 use Rattle.table_search.specs.Tables.{markingOf}
-use Rattle.table_search.proofs.Laws.Marked.{hats-kept, hats-end, room-of-list}
+use Rattle.table_search.proofs.Laws.Marked.{hats-kept, hats-end, room-for, room-of-list}
 use borrow.Author.Needs.{needs}
 use Rattle.table_search.proofs.mark_hats.Statement.{statement}
 use Rattle.table_search.proofs.mark_hats.Tie as tie
 
 abbrev Inv-loop : tie.InvT-loop
-Inv-loop t marks₀ queue₀ tail₀ n count l₀ marks queue tail l =
+Inv-loop table marks₀ queue₀ tail₀ n count l₀ marks queue tail l =
     (l ≤ count)
     × Room n (markingOf marks queue tail)
-    × (markAll n (markingOf marks queue tail) (hatsFrom t (count - l) l)
-    ≡ markAll n (markingOf marks₀ queue₀ tail₀) (hatsFrom t count 0))
+    × (markAll n (markingOf marks queue tail) (hatsFrom table (count - l) l)
+    ≡ markAll n (markingOf marks₀ queue₀ tail₀) (hatsFrom table count 0))
 
 abbrev μ-loop : tie.MeasureT-loop
-μ-loop t marks₀ queue₀ tail₀ n count l₀ marks queue tail l = count - l
+μ-loop table marks₀ queue₀ tail₀ n count l₀ marks queue tail l = count - l
 
-shared-slice-read-n : tie.Need-shared-slice-read-n Inv-loop μ-loop
-shared-slice-read-n c = search needs
+slots-requires : tie.Need-slots-requires Inv-loop μ-loop
+slots-requires c κs = search needs
 
 cast-n : tie.Need-cast-n Inv-loop μ-loop
 cast-n c = search needs
 
-shared-slice-read-count : tie.Need-shared-slice-read-count Inv-loop μ-loop
-shared-slice-read-count c = search needs
-
-cast-count : tie.Need-cast-count Inv-loop μ-loop
-cast-count c = search needs
+lanes-requires : tie.Need-lanes-requires Inv-loop μ-loop
+lanes-requires c κs = search needs
 
 loop-holds : tie.Need-loop-holds Inv-loop μ-loop
-loop-holds c = (omega arith, c .before .before .before .pre .room, rw sub-zero)
+loop-holds c =
+    let n = c .before in
+    let p = n .before .before in
+    (omega arith, room-for (n .slots .ensures) (p .pre .room), rw sub-zero)
 
-mul-at : tie.Need-mul-at Inv-loop μ-loop
-mul-at c = search needs
+-- A lane's number is one of four.
+lane-low : (c : tie.In-loop Inv-loop μ-loop) → c .before .loop .l < mostLanes
+lane-low c =
+    let k = c .before .before in
+    let z = k .before .before .before .pre .well-sized in
+    omega (arith, c .loop-test .taken, k .lanes .ensures, z .most-lanes)
 
-add-at : tie.Need-add-at Inv-loop μ-loop
-add-at c = search needs
+hat-requires : tie.Need-hat-requires Inv-loop μ-loop
+hat-requires c κs =
+    let s = c .before .before .before .before .before in
+    let z = s .pre .well-sized in (omega (arith, z .sized), lane-low c, omega arith)
 
-mul-left : tie.Need-mul-left Inv-loop μ-loop
-mul-left c = search needs
-
-shared-slice-read-left : tie.Need-shared-slice-read-left Inv-loop μ-loop
-shared-slice-read-left c = search needs
-
-add-right : tie.Need-add-right Inv-loop μ-loop
-add-right c = search needs
-
-mul-right : tie.Need-mul-right Inv-loop μ-loop
-mul-right c = search needs
-
-shared-slice-read-right : tie.Need-shared-slice-read-right Inv-loop μ-loop
-shared-slice-read-right c = search needs
+hat-requires-2 : tie.Need-hat-requires-2 Inv-loop μ-loop
+hat-requires-2 c κs =
+    let s = c .before .before .before .before .before .before in
+    let z = s .pre .well-sized in (omega (arith, z .sized), lane-low (c .before), omega arith)
 
 mark-both-requires : tie.Need-mark-both-requires Inv-loop μ-loop
 mark-both-requires c κs = search needs
 
 add-l : tie.Need-add-l Inv-loop μ-loop
-add-l c = search needs
+add-l c = omega (arith, lane-low (c .before .before .before .before .before))
 
 loop-less : tie.Need-loop-less Inv-loop μ-loop
-loop-less c = search needs
+loop-less c = omega (arith, c .before .before .before .before .before .loop-test .taken)
 
 loop-again : tie.Need-loop-again Inv-loop μ-loop
+unfolding ℕ-discrete
 loop-again c =
-    let p = c .before .before .before .before .before in
-    let s = p .before .before .before .before .before in
-    let w = s .args .table .now in
-    let l = p .before .loop in
+    let h = c .before .before .before in
+    let i = h .before .before in
+    let l = i .before .loop in
+    let n = i .before .before .before in
+    let s = n .before .before in
     let e = c .mark-both .ensures in (
-      omega (arith, p .loop-test .taken),
-      room-of-list (nodeCount w) _ _ _ e (l .inv .1),
-      hats-kept w (l .l) _ _ _ (p .loop-test .taken) (s .pre .well-sized .most-lanes) e (l .inv .2),
+      omega (arith, i .loop-test .taken),
+      room-of-list (n .slots .result) _ _ _ e (l .inv .1),
+      hats-kept (s .args .table .now) (n .slots .result) _ (l .l) _ _ _ (i .loop-test .taken) (h .before .hat .ensures)
+          (h .hat2 .ensures) e (l .inv .2),
     )
 
 returns : tie.Need-returns Inv-loop μ-loop
 returns c =
-    let w = c .before .before .before .before .before .args .table .now in
     let l = c .before .loop in
-    hats-end w (l .l) _ _ (c .loop-test .left) (l .inv .2)
+    let k = c .before .before in
+    let n = k .before in
+    let s = n .before .before in
+    hats-end (s .args .table .now) (n .slots .result) _ (l .l) _ _ (c .loop-test .left)
+    (l .inv .2 ∙ rw (n .slots .ensures, k .lanes .ensures))
 
 pub mark-hats-spec : {M : Type 1} → statement M
 mark-hats-spec =
@@ -90,18 +93,12 @@ mark-hats-spec =
     (tie.spec
     Inv-loop
     μ-loop
-    shared-slice-read-n
+    slots-requires
     cast-n
-    shared-slice-read-count
-    cast-count
+    lanes-requires
     loop-holds
-    mul-at
-    add-at
-    mul-left
-    shared-slice-read-left
-    add-right
-    mul-right
-    shared-slice-read-right
+    hat-requires
+    hat-requires-2
     mark-both-requires
     add-l
     loop-less

@@ -1,10 +1,10 @@
 -- Searching the n - k nodes left from node i on gives what searching all n from the hint gives.
 use mathlib.Core.Path.{_≡_}
-use Prim.Native.Nat.{_<_, _≤_, _-_}
+use Prim.Native.Nat.{_-_, _≤_, _<_}
 use native.Mathlib.Omega.{arith}
 use native.Mathlib.Nat.{sub-zero}
 use Rattle.machine.specs.Allocate.{firstUnmarked}
-use Rattle.machine.proofs.SlotRule.Marking.{firstUnmarked-kept, firstUnmarked-found, firstUnmarked-none}
+use Rattle.machine.proofs.SlotRule.Marking.{firstUnmarked-found, firstUnmarked-kept, firstUnmarked-none}
 use Rattle.table_search.proofs.search.Statement.{statement}
 use Rattle.table_search.proofs.search.Tie as tie
 
@@ -18,11 +18,11 @@ abbrev μ-loop : tie.MeasureT-loop
 loop-holds : tie.Need-loop-holds Inv-loop μ-loop
 loop-holds c = (c .pre .1, omega arith, rw sub-zero)
 
+cast-if1 : tie.Need-cast-if1 Inv-loop μ-loop
+cast-if1 c = omega arith
+
 element-copy-out-if1 : tie.Need-element-copy-out-if1 Inv-loop μ-loop
 element-copy-out-if1 c = omega arith
-
-cast-result : tie.Need-cast-result Inv-loop μ-loop
-cast-result c = omega arith
 
 returns : tie.Need-returns Inv-loop μ-loop
 returns c =
@@ -31,7 +31,7 @@ returns c =
     firstUnmarked-found (a .n) (a .marks .now) (l .k) (l .i) _ (l .inv .2) (omega arith) (c .if1 .taken)
 
 following-requires : tie.Need-following-requires Inv-loop μ-loop
-following-requires c κs = (c .before .before .before .before .pre .0, c .before .before .before .loop .inv .0)
+following-requires c κs = c .before .before .before .loop .inv .0
 
 add-k : tie.Need-add-k Inv-loop μ-loop
 add-k c = omega arith
@@ -60,8 +60,8 @@ search-spec =
     Inv-loop
     μ-loop
     loop-holds
+    cast-if1
     element-copy-out-if1
-    cast-result
     returns
     following-requires
     add-k

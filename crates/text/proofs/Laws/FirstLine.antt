@@ -1,5 +1,5 @@
 -- The line that stands first: where it ends, and its bytes, with and without the line feed.
-use mathlib.Core.Bool.{Bool, true, false}
+use mathlib.Core.Bool.{Bool, true, false, not}
 use mathlib.Core.List.{List, [], _∷_, _++_}
 use mathlib.Core.Path.{_≡_, refl, ap}
 use Prim.Native.Nat.{ℕ, suc, _+_, _<_, _≤_}
@@ -9,7 +9,8 @@ use borrow.Author.Tests.{eq-eqb, ne-eqb, eqb-true}
 use lib.Dec.{eqb}
 use lib.ListN.{length, getD, take, drop, drop-of-length-le, length-drop}
 use lib.Seq.{drop-cons}
-use Rattle.text.specs.Lines.{lineFeed, firstLine}
+use Rattle.tag.proofs.TagLaws.{clash, both-true}
+use Rattle.text.specs.Lines.{lineFeed, firstLine, oneLine}
 
 -- ---- Where the line ends.
 module _ (chunk : List ℕ) (i : ℕ) where
@@ -67,3 +68,15 @@ fed-bytes (b ∷ bs) h = go (eqb b lineFeed) refl (fed-bytes bs) h
         → take (suc (length (firstLine (b ∷ bs)))) (b ∷ bs) ≡ firstLine (b ∷ bs) ++ (lineFeed ∷ [])
     go true e left = rw e (λ h. ap (λ (x : ℕ). x ∷ []) (eqb-true _ _ e))
     go false e left = rw e (λ h. ap (λ (l : List ℕ). b ∷ l) (left (omega arith)))
+
+-- ---- A text without a line feed in front.
+pub no-feed : (fed : Bool) → not fed ≡ true → fed ≡ false
+no-feed false h = refl
+no-feed true h = clash (cc)
+
+pub front-line : (front text : List ℕ) → oneLine front ≡ true → firstLine (front ++ text) ≡ front ++ firstLine text
+unfolding firstLine
+front-line [] text o = refl
+front-line (b ∷ bs) text o =
+    let p = both-true (not (eqb b lineFeed)) (oneLine bs) o in
+    rw (no-feed (eqb b lineFeed) (p .0), front-line bs text (p .1))

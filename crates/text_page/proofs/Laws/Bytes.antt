@@ -1,14 +1,14 @@
 -- The bytes of a page: which there are, and where its lines end.
 use mathlib.Core.Path.{_≡_, refl, sym, ap, _∙_}
-use mathlib.Core.Bool.{Bool, true, false, _||_, false≢true}
+use mathlib.Core.Bool.{Bool, true, false, false≢true}
 use mathlib.Core.List.{List, [], _∷_, _++_, map, append-assoc}
 use Prim.Native.Nat.{ℕ, zero, suc, _+_, _*_, _-_, _≤_, _<_}
 use native.Mathlib.Omega.{arith}
 use borrow.Author.Tests.{le-leb, leb-true, ne-eqb}
-use lib.Dec.{eqb, leb}
+use lib.Dec.{leb}
 use lib.ListN.{length, getD, take, drop, replicate, length-append, length-replicate}
 use Rattle.tag.specs.Tags.{lastDigits, areDigits}
-use Rattle.tag.proofs.TagLaws.{clash, both-true}
+use Rattle.tag.proofs.TagLaws.{both-true}
 use Rattle.tag.proofs.DigitLaws.{last-are-digits}
 use Rattle.text.specs.Numerals.{withZeros, tagText}
 use Rattle.text.specs.Lines.{lineFeed, inFront, linesOf}

@@ -1,15 +1,13 @@
 -- Where each tag of a page stands.
 use mathlib.Core.Path.{_≡_, refl, sym, ap, _∙_}
-use mathlib.Core.Bool.{true, false, cond}
 use mathlib.Core.List.{List, [], _∷_, _++_, append-assoc}
-use Prim.Native.Nat.{ℕ, zero, suc, _+_, _*_, _-_, _/_, _%_, _≤_, _<_}
+use Prim.Native.Nat.{ℕ, zero, suc, _+_, _*_, _-_, _≤_, _<_}
 use native.Mathlib.Omega.{arith}
 use native.Mathlib.Nat.{sub-zero}
 use native.Mathlib.Decide.{decLt}
 use borrow.Author.Tests.{lt-ltb, le-ltb}
-use lib.Dec.{ltb}
-use lib.ListN.{length, getD, take, drop, replicate, length-append, length-replicate, length-take, length-drop}
-use lib.Seq.{take-at, drop-at, drop-append-add, take-append-add, take-append-le, drop-drop, getD-take, getD-drop, take-all}
+use lib.ListN.{length, getD, take, drop, replicate, length-take, length-drop}
+use lib.Seq.{take-at, drop-at, drop-append-add, drop-drop, getD-take, getD-drop}
 use Rattle.text.specs.Lines.{lineFeed}
 use Rattle.text_page.specs.Page.{
   columnCount,
@@ -27,17 +25,9 @@ use Rattle.text_page.specs.Page.{
   tagLines,
   pageText,
 }
-use Rattle.text_page.specs.Claims.{lineAt, cellAt, tagNumber, cellOrBlanks}
+use Rattle.text_page.specs.Claims.{lineAt, cellOrBlanks}
 use Rattle.text_page.proofs.Laws.Bytes.{line-opened}
-use Rattle.text_page.proofs.Laws.Lengths.{
-  line-length,
-  heading-length,
-  cell-length,
-  cells-length,
-  few-taken,
-  cells-fit,
-  tag-line-length,
-}
+use Rattle.text_page.proofs.Laws.Lengths.{heading-length, cell-length, cells-length, cells-fit, tag-line-length}
 
 -- ---- The cell of tag i, where there is one, and blanks where there is none.
 module _ (tags : List ℕ) (i : ℕ) where

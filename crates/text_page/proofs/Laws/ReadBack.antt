@@ -1,40 +1,20 @@
 -- What the reader finds in the cells, lines and heading of a page.
 use mathlib.Core.Path.{_≡_, refl, sym, ap, _∙_}
-use mathlib.Core.Bool.{false, cond}
 use mathlib.Core.List.{List, [], _∷_, _++_, map, append-assoc}
 use Prim.Native.Nat.{ℕ, zero, suc, _+_, _*_, _-_, _^_, _≤_, _<_}
 use native.Mathlib.Omega.{arith}
 use borrow.Author.Tests.{ne-eqb}
-use lib.Dec.{eqb}
 use lib.ListN.{length, getD, take, drop, replicate, length-take, length-drop}
 use lib.Seq.{take-at, drop-at, take-add, getD-take, getD-drop}
 use Rattle.tag.specs.Tags.{largestTag, lastDigits, numberOf}
 use Rattle.tag.proofs.DigitLaws.{number-of-last}
 use Rattle.text.specs.Lines.{lineFeed}
 use Rattle.text.specs.Numerals.{withZeros, tagText}
-use Rattle.text_page.specs.Page.{
-  columnCount,
-  lineLength,
-  blank,
-  line,
-  heading,
-  cellLength,
-  cell,
-  cells,
-  perLine,
-  tagLines,
-}
+use Rattle.text_page.specs.Page.{columnCount, lineLength, blank, line, cellLength, cell, cells, perLine, tagLines}
 use Rattle.text_page.specs.Reader.{said, tagsInCells, tagsInLines}
 use Rattle.text_page.specs.Claims.{AreTags}
 use Rattle.text_page.proofs.Laws.Bytes.{line-opened}
-use Rattle.text_page.proofs.Laws.Lengths.{
-  zeros-length,
-  heading-length,
-  cell-length,
-  few-taken,
-  cells-fit,
-  tag-line-length,
-}
+use Rattle.text_page.proofs.Laws.Lengths.{zeros-length, cell-length, few-taken, cells-fit, tag-line-length}
 
 -- ---- Digits read back.
 digits-back : (ds : List ℕ) → map (λ (b : ℕ). b - 48) (map (λ (d : ℕ). 48 + d) ds) ≡ ds

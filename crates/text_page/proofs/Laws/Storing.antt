@@ -1,10 +1,10 @@
 -- Bytes stored over bytes that were stored before.
-use mathlib.Core.Path.{_≡_, refl, sym, ap, _∙_}
-use mathlib.Core.List.{List, [], _∷_}
+use mathlib.Core.Path.{_≡_, refl, ap, _∙_}
+use mathlib.Core.List.{List, [], _∷_, _++_, append-nil}
 use Prim.Native.Nat.{ℕ, zero, suc, _+_, _≤_, _<_}
 use native.Mathlib.Omega.{arith}
-use lib.ListN.{length, set, length-set}
-use lib.Seq.{sets, set-set, set-comm}
+use lib.ListN.{length, set, length-set, drop-of-length-le}
+use lib.Seq.{sets, sets-eq, set-set, set-comm}
 
 -- A store before the others may as well be made first.
 store-first : (xs l : List ℕ) (j i b : ℕ) → i < j → set (sets l j xs) i b ≡ sets (set l i b) j xs
@@ -32,3 +32,15 @@ stored-inside (y ∷ ys) xs l at i h =
     let e : suc (at + i) ≡ at + suc i = omega arith in
     rw (store-inside xs l at i y (omega arith), e)
     (stored-inside ys (set xs i y) l at (suc i) (rw (length-set xs i y) (omega arith)))
+
+-- Bytes stored over all of them.
+pub stored-whole : (xs l : List ℕ) → length xs ≡ length l → sets l 0 xs ≡ xs
+stored-whole xs l same =
+    sets-eq xs l 0 (omega arith) ∙ ap (_++_ xs) (drop-of-length-le l {i = 0 + length xs} (omega arith)) ∙ append-nil xs
+
+pub stored-over : (ys xs l : List ℕ) (at : ℕ) → length ys ≡ length xs → sets (sets l at xs) at ys ≡ sets l at ys
+stored-over ys xs l at same =
+    let e : at ≡ at + 0 = omega arith in
+    ap (λ (i : ℕ). sets (sets l at xs) i ys) e
+    ∙ stored-inside ys xs l at 0 (omega arith)
+    ∙ ap (sets l at) (stored-whole ys xs same)

@@ -24,7 +24,7 @@ use Rattle.machine.specs.Operations.{
 }
 use Rattle.machine.specs.Steps.{stepNumber, stepOf, stepsOf, isStepIn}
 use Rattle.machine.specs.Tasks.{Task, none}
-use Rattle.machine.specs.Table.{nodeCount, taskCount, growth, laneCount, mostLanes, valueWords, recordWords, task}
+use Rattle.machine.specs.Table.{nodeCount, taskCount, growth, laneCount, mostLanes, nodePart, valueWords, recordWords, task}
 use Rattle.machine.specs.Shape.{recordOk, sizesOf, WellSized}
 use Rattle.machine.specs.Calls.{isBusy}
 use Rattle.machine.proofs.Basics.Contradiction.{clash}
@@ -39,7 +39,7 @@ use Rattle.table_record.specs.Coded.{structOf, codedTask, taskMeant}
 use Rattle.table_layout.specs.Words.{HoldsNode, storedIn}
 use Rattle.line_choice.specs.Groups.{allSteps, ReadyIn}
 use Rattle.line_choice.proofs.StepChoice.{each}
-use Rattle.table_layout.proofs.Laws.Views.{nodesOf, node-held, held-node, words-in, task-read}
+use Rattle.table_layout.proofs.Laws.Views.{node-held, held-node, words-in, task-read}
 
 pub number-low : (s : Side) → sideNumber s < 2
 number-low left = omega arith
@@ -84,10 +84,10 @@ module _ (ws : List ℕ) (Z : WellSized (sizesOf ws)) (W : WellShaped (columns w
   pub side-low : record-at .side < 2
   side-low = let h = number-low (sideOf (record-at .side)) in rw side-back at h
 
-  pub held-or-none : (r : ℕ) → NodeOrNone (nodeCount ws) r → r ≢ none → HoldsNode (nodesOf ws) r
+  pub held-or-none : (r : ℕ) → NodeOrNone (nodeCount ws) r → r ≢ none → HoldsNode (nodePart ws) r
   held-or-none r h n = node-held ws (Z .sized) r (h n)
 
-  values-held : (x : ℕ) → HoldsNode (nodesOf ws) x → valueOk (storedIn (nodesOf ws) x) ≡ true
+  values-held : (x : ℕ) → HoldsNode (nodePart ws) x → valueOk (storedIn (nodePart ws) x) ≡ true
   values-held x h =
       let l = held-node ws (Z .sized) x h in
       subst (λ (u : Stored). valueOk u ≡ true)
@@ -101,14 +101,14 @@ module _ (ws : List ℕ) (Z : WellSized (sizesOf ws)) (W : WellShaped (columns w
         (i : ℕ)
         → i < 4
         → getD (record-at .registers) i 0 ≢ none
-        → HoldsNode (nodesOf ws) (getD (record-at .registers) i 0)
+        → HoldsNode (nodePart ws) (getD (record-at .registers) i 0)
     registers-held i h = by-place i h
       where
         by-place :
             (i : ℕ)
             → i < 4
             → getD (record-at .registers) i 0 ≢ none
-            → HoldsNode (nodesOf ws) (getD (record-at .registers) i 0)
+            → HoldsNode (nodePart ws) (getD (record-at .registers) i 0)
         by-place zero h = held-or-none _ (facts .A-ok)
         by-place (suc zero) h = held-or-none _ (facts .B-ok)
         by-place (suc (suc zero)) h = held-or-none _ (facts .C-ok)
@@ -145,7 +145,7 @@ module _ (ws : List ℕ) (Z : WellSized (sizesOf ws)) (W : WellShaped (columns w
         = ap (λ (t : Tasks.Task). t .value) canonical in
         subst (λ (u : Stored). bagOk u ≡ true) w (rw n at (facts .value-ok))
 
-    pub ready-task : ReadyIn allSteps (nodesOf ws) record-at
+    pub ready-task : ReadyIn allSteps (nodePart ws) record-at
     ready-task =
         record {
           ready =

@@ -1,24 +1,24 @@
 -- The tests of a tick, in 01's order: each refusal, and the tick that passes them all.
 use mathlib.Core.Path.{_≡_, refl, sym, ap, _∙_}
-use mathlib.Core.Bool.{false}
+use mathlib.Core.Bool.{Bool, true, false, not}
 use mathlib.Core.Logic.{_≢_}
 use mathlib.Core.List.{List}
 use mathlib.Core.Option.{none as nothing}
 use Prim.Native.Nat.{ℕ, zero, suc, _≤_, _<_}
-use native.Mathlib.Decide.{ℕ-discrete}
 use borrow.Author.Tests.{lt-ltb, le-ltb}
 use Rattle.machine.specs.declared.Answer.the-variants.{Refused}
 use Rattle.machine.specs.Operations.{operationOf}
 use Rattle.machine.specs.Tasks.{operationWord}
 use Rattle.machine.specs.Table.{nodeCount, taskCount, recordWords, task}
 use Rattle.machine.specs.Shape.{WellFormed}
-use Rattle.machine.specs.Calls.{isBusy, tableRefusal, Ticked, tickOn, tick, ticks}
+use Rattle.machine.specs.Calls.{isIdle, isBusy, tableRefusal, Ticked, tickOn, tick, ticks}
 use Rattle.machine.specs.Answers.{isGoing}
 use Rattle.machine.specs.Results.{tickedOf}
 use Rattle.machine.proofs.Words.RunLaws.{first-is-last}
 use Rattle.answers.specs.Refusals.{numberOf}
+use Rattle.table_layout.proofs.Laws.Numbers.{not-busy}
 use Rattle.tick_once.specs.Steps.{made}
-use Rattle.table_shape.proofs.Laws.PassedTable.{refused, table-passed, operation-is, busy-task}
+use Rattle.table_shape.proofs.Laws.PassedTable.{refused, table-passed, operation-is}
 
 -- ---- Refusals 3 and 4 by their number.
 module _ (ws : List ℕ) {n : ℕ} (is-number : n ≡ numberOf (tableRefusal ws nothing)) (k h : ℕ) where
@@ -37,6 +37,17 @@ module _ (ws : List ℕ) {n : ℕ} (is-number : n ≡ numberOf (tableRefusal ws 
       e ∙ sym (first-is-last m ws k h (ap (λ (t : Ticked). isGoing (t .answer)) (sym e)))
 
 -- ---- The others, of a table that passes.
+module _ (ws : List ℕ) (P : WellFormed ws) (k : ℕ) (is-task : k < taskCount ws) where
+  abbrev is-idle : Bool
+  is-idle = isIdle (operationOf (operationWord (recordWords ws k)))
+
+  busy-by-word : {b : Bool} → is-idle ≡ b → isBusy (task ws k .operation) ≡ not b
+  busy-by-word e =
+      ap isBusy (operation-is ws P k is-task) ∙ not-busy (operationOf (operationWord (recordWords ws k))) ∙ ap not e
+
+  pub busy-task : is-idle ≡ false → isBusy (task ws k .operation) ≡ true
+  busy-task e = busy-by-word e
+
 module _ (ws : List ℕ) (P : WellFormed ws) (k h : ℕ) where
   pub tick-5 : taskCount ws ≤ k → tickedOf (Refused 5) ws ≡ tickOn ws k h
   unfolding tickOn
@@ -48,13 +59,22 @@ module _ (ws : List ℕ) (P : WellFormed ws) (k h : ℕ) where
     tick-9 b = rw (lt-ltb k (taskCount ws) is-task, le-ltb h (nodeCount ws) b, tickOn)
 
     module _ (is-hint : h < nodeCount ws) where
-      pub tick-10 : operationWord (recordWords ws k) ≡ 0 → tickedOf (Refused 10) ws ≡ tickOn ws k h
-      unfolding tickOn ℕ-discrete
-      tick-10 e =
-          let i : isBusy (task ws k .operation) ≡ false
-          = ap isBusy (operation-is ws P k is-task ∙ ap operationOf e) in
-          rw (lt-ltb k (taskCount ws) is-task, lt-ltb h (nodeCount ws) is-hint, i, tickOn)
-
-      pub tick-passes : operationWord (recordWords ws k) ≢ 0 → made ws k h ≡ tickOn ws k h
+      pub tick-10 : is-idle ws P k is-task ≡ true → tickedOf (Refused 10) ws ≡ tickOn ws k h
       unfolding tickOn
-      tick-passes n = rw (lt-ltb k (taskCount ws) is-task, lt-ltb h (nodeCount ws) is-hint, busy-task ws P k is-task n, tickOn)
+      tick-10 e =
+          rw (
+            lt-ltb k (taskCount ws) is-task,
+            lt-ltb h (nodeCount ws) is-hint,
+            busy-by-word ws P k is-task e,
+            tickOn,
+          )
+
+      pub tick-passes : is-idle ws P k is-task ≡ false → made ws k h ≡ tickOn ws k h
+      unfolding tickOn
+      tick-passes e =
+          rw (
+            lt-ltb k (taskCount ws) is-task,
+            lt-ltb h (nodeCount ws) is-hint,
+            busy-by-word ws P k is-task e,
+            tickOn,
+          )

@@ -1,25 +1,21 @@
 -- The words that a tick in code leaves are the definition's.
 use mathlib.Core.Path.{_≡_, refl, sym, ap, _∙_}
 use mathlib.Core.List.{List, []}
-use Prim.Native.Nat.{ℕ, _*_, _≤_, _<_}
-use native.Mathlib.Omega.{arith}
-use lib.ListN.{length, set}
-use borrow.Rule.Slice.PartMut.{putMid, put-same}
+use Prim.Native.Nat.{ℕ, _<_}
 use Rattle.machine.specs.declared.Answer.the-variants.{Refused}
-use Rattle.machine.specs.Sides.{Side, left, right, opposite, sideOf}
+use Rattle.machine.specs.Sides.{Side, opposite, sideOf}
 use Rattle.machine.specs.Steps.{stepOf}
 use Rattle.machine.specs.Tasks.{Task, goal}
 use Rattle.machine.specs.Table.{
-  headerLength,
-  nodeLength,
   nodeCount,
   taskCount,
   growth,
   mostLanes,
-  hatAt,
-  hatWord,
+  hat,
+  nodePart,
   recordWords,
   task,
+  setHat,
 }
 use Rattle.machine.specs.Allocate.{allocate}
 use Rattle.machine.specs.Lines.{Memory, Effect, seen, writeAll, act}
@@ -35,13 +31,13 @@ use Rattle.machine.proofs.Shape.Fits.{answer-made, Fits, turns-back, goes-on, e
 use Rattle.table_record.specs.declared.Task as Tasks
 use Rattle.table_record.specs.Coded.{structOf, taskMeant}
 use Rattle.line_parts.specs.Lent.{writesIn, hatAfter, effectIn, lineOf}
-use Rattle.table_layout.proofs.Laws.Views.{nodesOf, nodes-long}
+use Rattle.table_layout.specs.Words.{HoldsNodes}
+use Rattle.table_layout.proofs.Laws.LaidNodes.{withNodes, own-nodes, hat-laid}
 use Rattle.tick_once.proofs.Laws.Seen.{seen-in}
-use Rattle.tick_store.proofs.Laws.Laid.{lay, writes-laid, laid-itself, set-before-part}
+use Rattle.tick_store.proofs.Laws.Laid.{writes-stored}
 use Rattle.tick_once.proofs.Laws.TickReady.{meant-task}
 
-module _ (ws : List ℕ) (Z : WellSized (sizesOf ws)) (W : WellShaped (columns ws)) (k : ℕ)
-    (is-task : k < taskCount ws) (is-lane : structOf (recordWords ws k) .lane < mostLanes) where
+module _ (ws : List ℕ) (Z : WellSized (sizesOf ws)) (W : WellShaped (columns ws)) (k : ℕ) (is-task : k < taskCount ws) where
   abbrev t : Tasks.Task
   t = structOf (recordWords ws k)
 
@@ -55,16 +51,16 @@ module _ (ws : List ℕ) (Z : WellSized (sizesOf ws)) (W : WellShaped (columns w
   pub line-is-effect :
       (h g : ℕ)
       → g ≡ goal (growth ws) (task ws k)
-      → lineOf (stepOf (t .step)) (nodesOf ws) (hatWord ws ℓ s) t g (allocate ws h)
-      ≡ effectIn s (nodesOf ws) (hatWord ws ℓ s) (effectOf ws k h)
+      → lineOf (stepOf (t .step)) (nodePart ws) (hat ws ℓ s) t g (allocate ws h)
+      ≡ effectIn s (nodePart ws) (hat ws ℓ s) (effectOf ws k h)
   unfolding lineOf effectOf
   line-is-effect h g e =
       let τ = taskMeant t in
       let f = allocate ws h in
       let st = stepOf (t .step) in
       let meant = meant-task ws Z W k is-task in
-      ap (effectIn s (nodesOf ws) (hatWord ws ℓ s))
-      (ap (λ (m : Memory). act st s (opposite s) m τ g f) (sym (seen-in ws (Z .sized) ℓ s is-lane))
+      ap (effectIn s (nodePart ws) (hat ws ℓ s))
+      (ap (λ (m : Memory). act st s (opposite s) m τ g f) (sym (seen-in ws (Z .sized) ℓ s))
       ∙ ap (λ (n : ℕ). act st s (opposite s) (seen ℓ s ws) τ n f) (e ∙ ap (goal (growth ws)) (sym meant))
       ∙ ap
       (λ (u : Task).
@@ -77,40 +73,29 @@ none-written turns-back r = refl
 none-written (goes-on fit F) r = clash (cc)
 none-written (ends {l} {a} fit answers) r = clash (let q = ap refusalOf r in cc (q, answer-made a answers))
 
-module _ (ℓ : ℕ) (is-lane : ℓ < mostLanes) (s : Side) (ws : List ℕ)
-    (Z : WellSized (sizesOf ws)) (k : ℕ) (e : Effect) where
-  header-room : headerLength ≤ length ws
-  header-room = let z = Z .sized in omega arith
-
+module _ (ℓ : ℕ) (s : Side) (ws : List ℕ) (k : ℕ) (e : Effect) where
   -- The part as a refused line leaves it, laid back.
   pub refused-words :
       {g L n : ℕ} {ns : List ℕ}
       → Fits (nodeCount ws) g L e
       → e .answer ≡ Refused n
-      → ns ≡ writesIn s (e .writes) (nodesOf ws)
-      → tickedOf (Refused n) (putMid headerLength (nodeLength * nodeCount ws) ws ns) ≡ applied ℓ s ws k e
+      → ns ≡ writesIn s (e .writes) (nodePart ws)
+      → tickedOf (Refused n) (withNodes ns ws) ≡ applied ℓ s ws k e
   unfolding applied
   refused-words {n = n} fit r q =
-      let w = none-written fit r in
-      rw (r, applied, r, q, w)
-      (ap (tickedOf (Refused n)) (put-same headerLength (nodeLength * nodeCount ws) ws))
+      let w = none-written fit r in rw (r, applied, r, q, w) (ap (tickedOf (Refused n)) (own-nodes ws))
 
-  -- The part, the hat, the record and the tick count as a line that is made leaves them.
+  -- The part and the hat as a line that is made leaves them.
   pub made-words :
-      {ns : List ℕ} {h : ℕ}
+      ℓ < mostLanes
+      → HoldsNodes ws
+      → {ns : List ℕ} {h : ℕ}
       → AllInRange (nodeCount ws) (e .writes)
-      → ns ≡ writesIn s (e .writes) (nodesOf ws)
-      → h ≡ hatAfter (e .writes) (hatWord ws ℓ s)
-      → set (putMid headerLength (nodeLength * nodeCount ws) ws ns) (hatAt ℓ s) h ≡ writeAll ℓ s (e .writes) ws
-  made-words {ns} {h} fit q p =
-      let n = nodeLength * nodeCount ws in
-      set-before-part headerLength n ws ns header-room (hatAt ℓ s) h (hat-low s)
-      ∙ ap (λ (l : List ℕ). putMid headerLength n (set ws (hatAt ℓ s) h) l) q
-      ∙ ap (λ (x : ℕ). lay (nodeCount ws) ℓ s ws (writesIn s (e .writes) (nodesOf ws)) x) p
-      ∙ sym (writes-laid (nodeCount ws) ℓ is-lane s ws header-room (e .writes)
-      (nodesOf ws) (hatWord ws ℓ s) (nodes-long ws (Z .sized)) fit)
-      ∙ ap (writeAll ℓ s (e .writes)) (laid-itself (nodeCount ws) ℓ is-lane s ws header-room)
-    where
-      hat-low : (s : Side) → hatAt ℓ s < headerLength
-      hat-low left = omega arith
-      hat-low right = omega arith
+      → ns ≡ writesIn s (e .writes) (nodePart ws)
+      → h ≡ hatAfter (e .writes) (hat ws ℓ s)
+      → setHat ℓ s h (withNodes ns ws) ≡ writeAll ℓ s (e .writes) ws
+  made-words is-lane room {ns} {h} fit q p =
+      hat-laid ns ws room ℓ is-lane s h
+      ∙ ap (λ (l : List ℕ). withNodes l (setHat ℓ s h ws)) q
+      ∙ ap (λ (x : ℕ). withNodes (writesIn s (e .writes) (nodePart ws)) (setHat ℓ s x ws)) p
+      ∙ writes-stored ℓ is-lane s ws room (e .writes) fit

@@ -17,7 +17,7 @@ is-going-requires c κs = search needs
 store-requires : tie.Need-store-requires
 store-requires c κs =
     let p = c .before .before .before .before .before .before .pre in
-    (p .0 .0, p .0 .1, λ g. p .1 (sym (c .is-going .ensures) ∙ g))
+    (p .0, λ g. p .1 (sym (c .is-going .ensures) ∙ g))
 
 same-length : tie.Need-same-length
 same-length c = search needs

@@ -1,6 +1,6 @@
 -- `airline_list::forms::value` meets its contract: a digit is not below the digit 0.
 use native.Mathlib.Omega.{arith}
-use Rattle.airline_list.proofs.Laws.HeadLaws.{digit-range}
+use Rattle.text_scan.proofs.Laws.PlaceLaws.{digit-range}
 use borrow.Author.Needs.{needs}
 use Rattle.airline_list.proofs.forms.value.Statement.{statement}
 use Rattle.airline_list.proofs.forms.value.Tie as tie

@@ -1,8 +1,9 @@
--- `call_dispatch::turn::is_busy` meets its contract: a task is busy where its operation's word is not 0.
+-- `call_dispatch::turn::is_busy` meets its contract: a task is busy where it is not idle.
 use mathlib.Core.Path.{ap}
 use Rattle.table_record.specs.declared.Task as Tasks
 use Rattle.table_shape.proofs.Laws.TableWords.{record-within}
 use Rattle.call_dispatch.proofs.DispatchTests.{busy-by-word}
+use borrow.Author.Needs.{needs}
 use Rattle.call_dispatch.proofs.turn.is_busy.Statement.{statement}
 use Rattle.call_dispatch.proofs.turn.is_busy.Tie as tie
 
@@ -11,12 +12,15 @@ task-requires c κs =
     let p = c .before in
     record-within (p .args .table .now) (p .pre .0 .length-passes) (p .args .k) (p .pre .1)
 
+is-idle-requires : tie.Need-is-idle-requires
+is-idle-requires c κs = search needs
+
 returns : tie.Need-returns
 returns c =
     let r = c .before in
     let p = r .before .before in
     busy-by-word (p .args .table .now) (p .pre .0) (p .args .k) (p .pre .1)
-    (ap (λ (t : Tasks.Task). t .operation) (r .task .ensures))
+    (ap (λ (t : Tasks.Task). t .operation) (r .task .ensures)) (c .is-idle .ensures)
 
 pub is-busy-spec : {M : Type 1} → statement M
-is-busy-spec = tie.close (tie.spec task-requires returns)
+is-busy-spec = tie.close (tie.spec task-requires is-idle-requires returns)

@@ -1,8 +1,9 @@
 -- `call_dispatch::turn::next_busy` meets its contract: asking the tasks left gives what asking all gives.
-use mathlib.Core.Path.{_≡_, refl, sym, _∙_}
-use Prim.Native.Nat.{_<_}
+use mathlib.Core.Path.{_≡_, sym, ap, _∙_}
+use Prim.Native.Nat.{ℕ, _<_}
 use native.Mathlib.Omega.{arith}
 use Rattle.machine.specs.Round.{following, firstFrom}
+use Rattle.machine.specs.Table.{taskCount}
 use Rattle.machine.specs.Calls.{isBusyTask, nextBusy}
 use Rattle.table_shape.proofs.Laws.TableWords.{header-long}
 use Rattle.call_dispatch.proofs.DispatchTests.{last-is-task, choice-ends, choice-goes-on, none-left}
@@ -10,42 +11,60 @@ use Rattle.call_dispatch.proofs.turn.next_busy.Statement.{statement}
 use Rattle.call_dispatch.proofs.turn.next_busy.Tie as tie
 
 abbrev Inv-loop : tie.InvT-loop
-Inv-loop table n k₀ left₀ k left = (k < n) × (firstFrom n (isBusyTask table) left (following n k) ≡ nextBusy table)
+Inv-loop table n k₀ left₀ k left =
+    (k < taskCount table)
+    × (firstFrom (taskCount table) (isBusyTask table) left (following (taskCount table) k) ≡ nextBusy table)
 
 abbrev μ-loop : tie.MeasureT-loop
 μ-loop table n k₀ left₀ k left = left
 
-shared-slice-read-n : tie.Need-shared-slice-read-n Inv-loop μ-loop
-shared-slice-read-n c =
-    let p = c .before .before in
-    omega (arith, header-long (p .args .table .now) (p .pre .length-passes))
+tasks-requires : tie.Need-tasks-requires Inv-loop μ-loop
+tasks-requires c κs = let p = c .before in header-long (p .args .table .now) (p .pre .length-passes)
 
-shared-slice-read-k : tie.Need-shared-slice-read-k Inv-loop μ-loop
-shared-slice-read-k c =
-    let p = c .before .before .before in
-    omega (arith, header-long (p .args .table .now) (p .pre .length-passes))
+dispatched-requires : tie.Need-dispatched-requires Inv-loop μ-loop
+dispatched-requires c κs = let p = c .before .before in header-long (p .args .table .now) (p .pre .length-passes)
 
 loop-holds : tie.Need-loop-holds Inv-loop μ-loop
 loop-holds c =
-    let p = c .before .before .before in
-    (last-is-task (p .args .table .now) (p .pre), refl)
+    let t = c .before in
+    let p = t .before .before in
+    let ws = p .args .table .now in
+    let T = taskCount ws in (
+      omega (arith, last-is-task ws (p .pre), c .dispatched .ensures),
+      ap (λ (m : ℕ). firstFrom T (isBusyTask ws) m (following T (c .dispatched .result))) (t .tasks .ensures)
+          ∙ ap (λ (k : ℕ). firstFrom T (isBusyTask ws) T (following T k)) (c .dispatched .ensures),
+    )
 
-task-after-requires : tie.Need-task-after-requires Inv-loop μ-loop
-task-after-requires c κs = c .before .loop .inv .0
+-- The task after, of so many.
+module _ (c : tie.After-following Inv-loop μ-loop) where
+  abbrev turn : tie.In-loop Inv-loop μ-loop
+  turn = c .before
+
+  abbrev counted : tie.After-tasks Inv-loop μ-loop
+  counted = turn .before .before .before
+
+  abbrev begun : tie.Start Inv-loop μ-loop
+  begun = counted .before .before
+
+  next-is : c .following .result ≡ following (taskCount (begun .args .table .now)) (turn .before .loop .k)
+  next-is =
+      c .following .ensures .0 ∙ ap (λ (n : ℕ). following n (turn .before .loop .k)) (counted .tasks .ensures)
+
+  next-low : c .following .result < taskCount (begun .args .table .now)
+  next-low = omega (arith, c .following .ensures .1, counted .tasks .ensures)
+
+following-requires : tie.Need-following-requires Inv-loop μ-loop
+following-requires c κs = omega (arith, c .before .loop .inv .0, c .before .before .before .tasks .ensures)
 
 is-busy-requires : tie.Need-is-busy-requires Inv-loop μ-loop
-is-busy-requires c κs =
-    let p = c .before .before .before .before .before .before in
-    (p .pre, c .task-after .ensures .1)
+is-busy-requires c κs = (begun c .pre, next-low c)
 
 returns : tie.Need-returns Inv-loop μ-loop
 returns c =
     let asked = c .before in
-    let turn = asked .before .before in
-    let ws = turn .before .before .before .before .before .args .table .now in
-    let l = turn .before .loop in
-    choice-ends ws (l .left) (l .k) (l .inv .1) (asked .before .task-after .ensures .0) (omega arith)
-    (sym (asked .is-busy .ensures) ∙ c .if1 .taken)
+    let l = turn (asked .before) .before .loop in
+    choice-ends (begun (asked .before) .args .table .now) (l .left) (l .k) (l .inv .1) (next-is (asked .before))
+    (omega arith) (sym (asked .is-busy .ensures) ∙ c .if1 .taken)
 
 sub-left : tie.Need-sub-left Inv-loop μ-loop
 sub-left c = omega arith
@@ -56,20 +75,18 @@ loop-less c = omega arith
 loop-again : tie.Need-loop-again Inv-loop μ-loop
 loop-again c =
     let asked = c .before in
-    let turn = asked .before .before in
-    let ws = turn .before .before .before .before .before .args .table .now in
-    let l = turn .before .loop in
-    let after = asked .before .task-after in (
-      after .ensures .1,
-      choice-goes-on ws (l .left) (l .k) (l .inv .1) (after .ensures .0) (omega arith)
-          (sym (asked .is-busy .ensures) ∙ c .if1 .left),
+    let l = turn (asked .before) .before .loop in (
+      next-low (asked .before),
+      choice-goes-on (begun (asked .before) .args .table .now) (l .left) (l .k) (l .inv .1) (next-is (asked .before))
+          (omega arith) (sym (asked .is-busy .ensures) ∙ c .if1 .left),
     )
 
 returns-2 : tie.Need-returns-2 Inv-loop μ-loop
 returns-2 c =
-    let ws = c .before .before .before .before .before .args .table .now in
+    let t = c .before .before .before in
     let l = c .before .loop in
-    none-left ws (l .left) (l .k) (l .inv .1) (omega arith)
+    t .tasks .ensures
+    ∙ none-left (t .before .before .args .table .now) (l .left) (l .k) (l .inv .1) (omega arith)
 
 pub next-busy-spec : {M : Type 1} → statement M
 next-busy-spec =
@@ -77,10 +94,10 @@ next-busy-spec =
     (tie.spec
     Inv-loop
     μ-loop
-    shared-slice-read-n
-    shared-slice-read-k
+    tasks-requires
+    dispatched-requires
     loop-holds
-    task-after-requires
+    following-requires
     is-busy-requires
     returns
     sub-left

@@ -62,8 +62,8 @@ shared-slice-read-tick-once-2 c = pair-here (c .before .before .before)
 tick-once-requires : tie.Need-tick-once-requires Inv-loop μ-loop
 tick-once-requires c κs = c .before .before .before .before .loop .inv .3
 
-kind-requires : tie.Need-kind-requires Inv-loop μ-loop
-kind-requires c κs = search needs
+is-refusal-requires : tie.Need-is-refusal-requires Inv-loop μ-loop
+is-refusal-requires c κs = search needs
 
 refusal-number-requires : tie.Need-refusal-number-requires Inv-loop μ-loop
 refusal-number-requires c κs = search needs
@@ -83,7 +83,7 @@ returns c =
     let l = turn .before .loop in
     rw (c .refusal-number .ensures)
     (run-refused (l .made) (l .rest .now) (l .table) (l .answers) (pair-here turn) (tick .result) (tick .last .0)
-    (tick .ensures) (sym (c .before .before .kind .ensures) ∙ c .before .if1 .taken)
+    (tick .ensures) (sym (c .before .before .is-refusal .ensures) ∙ c .before .if1 .taken)
     ∙ l .inv .4)
 
 cast-put-answer : tie.Need-cast-put-answer Inv-loop μ-loop
@@ -136,7 +136,7 @@ loop-again c =
       tick-passed (l .table) (l .inv .3) _ _ (tick .ensures),
       rw (put .ensures, on)
           (run-made (l .made) left (l .table) (l .answers) (pair-here turn) (tick .result) (tick .last .0)
-          (tick .ensures) (λ q. e .if1 .left (e .before .kind .ensures ∙ q)) (room-here turn)
+          (tick .ensures) (sym (e .before .is-refusal .ensures) ∙ e .if1 .left) (room-here turn)
           ∙ l .inv .4),
     )
 
@@ -161,7 +161,7 @@ run-on-spec =
     shared-slice-read-tick-once
     shared-slice-read-tick-once-2
     tick-once-requires
-    kind-requires
+    is-refusal-requires
     refusal-number-requires
     same-length
     same-length-2

@@ -3,7 +3,8 @@ use mathlib.Core.Path.{refl}
 use mathlib.Core.List.{[], _∷_}
 use native.Mathlib.Omega.{arith}
 use borrow.Author.Needs.{needs}
-use Rattle.call_tick.proofs.Laws.OnePair.{pair-refused, pair-made}
+use Rattle.machine.specs.Calls.{tickOn}
+use Rattle.call_tick.proofs.Laws.OnePair.{pair-refused, pair-said, pair-made}
 use Rattle.call_tick.proofs.pairs.tick_on.Statement.{statement}
 use Rattle.call_tick.proofs.pairs.tick_on.Tie as tie
 
@@ -37,7 +38,13 @@ array-read-answer-of-3 : tie.Need-array-read-answer-of-3
 array-read-answer-of-3 c = search needs
 
 answer-of-requires : tie.Need-answer-of-requires
-answer-of-requires c κs = search needs
+answer-of-requires c κs =
+    let run = c .before .before .before .before .before in
+    let p = run .before .before .before .before .before in
+    let a = p .args in (
+      tickOn (a .table .now) (a .task) (a .hint) .answer,
+      pair-said (a .table .now) (a .task) (a .hint) (0 ∷ 0 ∷ 0 ∷ []) (run .run-on .ensures) (p .pre) (c .if1 .left) .0,
+    )
 
 same-length-2 : tie.Need-same-length-2
 same-length-2 c = search needs

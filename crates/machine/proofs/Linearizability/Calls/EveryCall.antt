@@ -1,6 +1,6 @@
 -- Every call: the row gives what it gives back, is fed what it did, and agrees with the tables inside it.
 use mathlib.Core.Path.{_≡_, refl, sym, subst}
-use mathlib.Core.Bool.{Bool, true, false}
+use mathlib.Core.Bool.{Bool, true, false, cond, _&&_}
 use mathlib.Core.List.{List}
 use mathlib.Core.Option.{some, none as nothing}
 use Prim.Native.Nat.{ℕ, _*_, _≤_, _<_}
@@ -14,9 +14,20 @@ use Rattle.tag.proofs.TagLaws.{length-tag-words}
 use Rattle.machine.specs.declared.Reply.{Reply}
 use Rattle.machine.specs.declared.Reply.the-variants.{Accepted, Refused as Reply-Refused}
 use Rattle.machine.specs.declared.Stored.{Stored}
+use Rattle.text_page.specs.Page.{pageText}
+use Rattle.airline_list.specs.declared.Sent.{Sent}
+use Rattle.airline_list.specs.declared.Sent.the-variants.{To, NotSent}
+use Rattle.airline_list.specs.Lists.{verdict, sent}
 use Rattle.machine.specs.Choice.{_<?_}
+use Rattle.machine.specs.Sides.{sideNumber}
+use Rattle.machine.specs.Values.{number}
+use Rattle.machine.specs.Operations.{push, operationNumber}
 use Rattle.machine.specs.Table.{laneCount}
-use Rattle.machine.specs.Calls.{unless, start, begin, ReadDone, readInto, read}
+use Rattle.machine.specs.Shape.{sameWords}
+use Rattle.machine.specs.Answers.{sameReply}
+use Rattle.machine.specs.Calls.{unless, Changed, changed, start, begin, ReadDone, readInto, read}
+use Rattle.machine.specs.Sheets.{pageRefusal, sheetInto, sheet}
+use Rattle.machine.specs.PushByList.{sideAt, pushTo, pushByList}
 use Rattle.machine.specs.Row.{Row, noted, newNote}
 use Rattle.machine.specs.Demand3.{
   Call,
@@ -29,15 +40,19 @@ use Rattle.machine.specs.Demand3.{
   run-call,
   panel-call,
   read-call,
+  sheet-call,
+  push-by-list-call,
   given,
   isCall,
   feedStart,
   feedBegin,
   feedRead,
+  feedSheet,
+  feedByList,
   feed,
   Within,
 }
-use Rattle.machine.specs.Kinds.{startDid, beginDid, did}
+use Rattle.machine.specs.Kinds.{startDid, beginDid, byListDid, did}
 use Rattle.machine.proofs.Words.RecordLaws.{same-words-refl}
 use Rattle.machine.proofs.Shape.ShapeKept.{table-passes}
 use Rattle.machine.proofs.Linearizability.Calls.Agreement.{Agrees, lanes-are-rows}
@@ -132,6 +147,73 @@ module _ {ws : List ℕ} {ρ : Row} (A : Agrees ws ρ) where
             le-ltb l (ρ .lanes) no-lane,
           )
 
+  -- What is wanted is given.
+  same-given : (c : Changed)
+      → cond (sameReply (c .reply) (c .reply) && sameWords (c .words) (c .words)) (some ρ) nothing ≡ some ρ
+  same-given c = rw (same-reply (c .reply), same-words-refl (c .words))
+    where
+      same-reply : (r : Reply) → sameReply r r ≡ true
+      same-reply Accepted = refl
+      same-reply (Reply-Refused n) = eq-eqb n n refl
+
+  sheet-looks : (l page : ℕ) (out : List ℕ)
+      → feedSheet ρ l page out (sheet ws l page out .reply) (sheet ws l page out .words) ≡ some ρ
+  unfolding sheet sheetInto
+  sheet-looks l page out = by-lane (l <? laneCount ws)
+    where
+      Result : Changed → Type 0
+      Result c = feedSheet ρ l page out (c .reply) (c .words) ≡ some ρ
+
+      by-lane : Dec (l < laneCount ws) → Result (sheet ws l page out)
+      by-lane (yes h) =
+          let is-lane : l < ρ .lanes = subst (λ (m : ℕ). l < m) (sym (A .same-lanes)) h in
+          rw (
+            table-passes ws (A .accepted) (unless (ltb l (laneCount ws)) 26 nothing),
+            lt-ltb l (laneCount ws) h,
+            sheet,
+            lanes-are-rows A l is-lane,
+            lt-ltb l (ρ .lanes) is-lane,
+          )
+          (same-given (changed (pageRefusal page out) out (pageText (ρ .bags l) page)))
+      by-lane (no h) =
+          let past : laneCount ws ≤ l = omega arith in
+          let no-lane : ρ .lanes ≤ l = subst (λ (m : ℕ). m ≤ l) (sym (A .same-lanes)) past in
+          rw (
+            table-passes ws (A .accepted) (unless (ltb l (laneCount ws)) 26 nothing),
+            le-ltb l (laneCount ws) past,
+            sheet,
+            le-ltb l (ρ .lanes) no-lane,
+          )
+          (same-given (changed (some 26) out out))
+
+  -- ---- A push by list: its begin, or only a look.
+  pub record ByListTold (s : Sent) (k l : ℕ) (argument : Stored) : Type 0 where
+    pub row : Row
+    pub given-by-row : feedByList ρ s k l argument (pushTo s ws k l argument .answer) ≡ some row
+    pub agrees : Agrees (pushTo s ws k l argument .words) row
+    pub fed-what-it-did : feedDid ρ (byListDid s k l argument (pushTo s ws k l argument .answer)) ≡ some row
+
+  by-list-told : (s : Sent) (k l : ℕ) (argument : Stored) → ByListTold s k l argument
+  unfolding feedMadeTicks
+  by-list-told (To end) k l argument =
+      let side = sideNumber (sideAt end) in
+      let E = begin-explained A k l (operationNumber push) side argument in
+      record {
+        row = E .row;
+        given-by-row = E .given-by-row;
+        agrees = E .agrees;
+        fed-what-it-did =
+            begin-fed ρ k l (operationNumber push) side argument
+            (begin ws k l (operationNumber push) side argument .reply) (E .given-by-row);
+      }
+  by-list-told (NotSent n line) k l argument =
+      record {
+        row = ρ;
+        given-by-row = rw (eq-eqb n n refl, eq-eqb line line refl);
+        agrees = A;
+        fed-what-it-did = refl;
+      }
+
   -- ---- Every call.
   told-by : {c : Call} (E : Explains ws ρ c)
       → (feed ρ c (given c ws) ≡ some (E .row) → feedDid ρ (did c (given c ws)) ≡ some (E .row))
@@ -140,7 +222,7 @@ module _ {ws : List ℕ} {ρ : Row} (A : Agrees ws ρ) where
   told-by E fed inside = record { explains = E; fed-what-it-did = fed (E .given-by-row); within = inside }
 
   pub told : (c : Call) → Told ws ρ c
-  unfolding feedMadeTicks
+  unfolding feedMadeTicks pushByList
   told (start-call S T g L) = told-by (start-explained A S T g L) (start-fed ρ T L (start ws S T g L .reply)) tt
   told (begin-call k l op side argument) =
       told-by (begin-explained A k l op side argument)
@@ -156,6 +238,12 @@ module _ {ws : List ℕ} {ρ : Row} (A : Agrees ws ρ) where
       told-by (panel-explained A list answers) (run-fed ρ _ list _) (panel-within A list answers)
   told (read-call l out) =
       told-by (record { row = ρ; given-by-row = read-looks l out; agrees = A }) (λ _. refl) tt
+  told (sheet-call l page out) =
+      told-by (record { row = ρ; given-by-row = sheet-looks l page out; agrees = A }) (λ _. refl) tt
+  told (push-by-list-call list k l argument) =
+      let x = by-list-told (sent (verdict list) (number argument)) k l argument in
+      told-by (record { row = x .row; given-by-row = x .given-by-row; agrees = x .agrees })
+      (λ _. x .fed-what-it-did) tt
 
   abbrev pub call-explained : (c : Call) → Explains ws ρ c
   call-explained c = told c .explains

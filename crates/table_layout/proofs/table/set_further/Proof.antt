@@ -10,11 +10,8 @@ use borrow.Author.Needs.{needs}
 use Rattle.table_layout.proofs.table.set_further.Statement.{statement}
 use Rattle.table_layout.proofs.table.set_further.Tie as tie
 
-slice-read-record-at : tie.Need-slice-read-record-at
-slice-read-record-at c = search needs
-
-record-at-requires : tie.Need-record-at-requires
-record-at-requires c κs = search needs
+place-requires : tie.Need-place-requires
+place-requires c κs = search needs
 
 add-write-further : tie.Need-add-write-further
 add-write-further c = search needs
@@ -36,8 +33,8 @@ write-further-requires c κs =
     let r = c .before in
     let s = r .before .before .before in
     let a = s .args in (
-      record-part-long (a .table .now) (r .record-at .ensures) (s .pre .0),
-      subst (λ (l : List ℕ). SameCall (structOf l) (a .new)) (sym (record-part (a .table .now) (r .record-at .ensures)))
+      record-part-long (a .table .now) (r .place .ensures) (s .pre .0),
+      subst (λ (l : List ℕ). SameCall (structOf l) (a .new)) (sym (record-part (a .table .now) (r .place .ensures)))
           (s .pre .1),
     )
 
@@ -49,16 +46,15 @@ returns c =
     let w = c .before .before in
     let r = w .before .before in
     let s = r .before .before .before in
-    let at = r .record-at .result in
+    let at = r .place .result in
     ap (putMid at (at + recordLength - at) (s .args .table .now)) (w .write-further .ensures)
-    ∙ record-put (s .args .table .now) (recordOf (s .args .new)) (r .record-at .ensures) refl (s .pre .0)
+    ∙ record-put (s .args .table .now) (recordOf (s .args .new)) (r .place .ensures) refl (s .pre .0)
 
 pub set-further-spec : {M : Type 1} → statement M
 set-further-spec =
     tie.close
     (tie.spec
-    slice-read-record-at
-    record-at-requires
+    place-requires
     add-write-further
     mul-write-further
     sub-write-further

@@ -9,11 +9,8 @@ use borrow.Author.Needs.{needs}
 use Rattle.table_layout.proofs.table.set_task.Statement.{statement}
 use Rattle.table_layout.proofs.table.set_task.Tie as tie
 
-slice-read-record-at : tie.Need-slice-read-record-at
-slice-read-record-at c = search needs
-
-record-at-requires : tie.Need-record-at-requires
-record-at-requires c κs = search needs
+place-requires : tie.Need-place-requires
+place-requires c κs = search needs
 
 add-write : tie.Need-add-write
 add-write c = search needs
@@ -41,16 +38,15 @@ returns c =
     let w = c .before .before in
     let r = w .before .before in
     let s = r .before .before .before in
-    let at = r .record-at .result in
+    let at = r .place .result in
     ap (putMid at (at + recordLength - at) (s .args .table .now)) (w .write .ensures)
-    ∙ record-put (s .args .table .now) (recordOf (s .args .new)) (r .record-at .ensures) refl (s .pre)
+    ∙ record-put (s .args .table .now) (recordOf (s .args .new)) (r .place .ensures) refl (s .pre)
 
 pub set-task-spec : {M : Type 1} → statement M
 set-task-spec =
     tie.close
     (tie.spec
-    slice-read-record-at
-    record-at-requires
+    place-requires
     add-write
     mul-write
     sub-write

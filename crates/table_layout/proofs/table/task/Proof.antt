@@ -6,11 +6,8 @@ use borrow.Author.Needs.{needs}
 use Rattle.table_layout.proofs.table.task.Statement.{statement}
 use Rattle.table_layout.proofs.table.task.Tie as tie
 
-shared-slice-read-record-at : tie.Need-shared-slice-read-record-at
-shared-slice-read-record-at c = search needs
-
-record-at-requires : tie.Need-record-at-requires
-record-at-requires c κs = search needs
+place-requires : tie.Need-place-requires
+place-requires c κs = search needs
 
 add-read : tie.Need-add-read
 add-read c = search needs
@@ -33,14 +30,13 @@ read-requires c κs = search needs
 returns : tie.Need-returns
 returns c =
     let r = c .before .before in
-    c .read .ensures ∙ ap structOf (record-part (r .before .before .before .args .table .now) (r .record-at .ensures))
+    c .read .ensures ∙ ap structOf (record-part (r .before .before .args .table .now) (r .place .ensures))
 
 pub task-spec : {M : Type 1} → statement M
 task-spec =
     tie.close
     (tie.spec
-    shared-slice-read-record-at
-    record-at-requires
+    place-requires
     add-read
     mul-read
     sub-read

@@ -1,10 +1,10 @@
--- Each branch is one case of the definition.
+-- `table_layout::round::following` meets its contract: each branch is one case of the definition.
 use Prim.Native.Nat.{_+_}
 use native.Mathlib.Omega.{arith}
 use borrow.Author.Tests.{lt-ltb, le-ltb}
 use borrow.Author.Needs.{needs}
-use Rattle.table_search.proofs.following.Statement.{statement}
-use Rattle.table_search.proofs.following.Tie as tie
+use Rattle.table_layout.proofs.round.following.Statement.{statement}
+use Rattle.table_layout.proofs.round.following.Tie as tie
 
 add-if1 : tie.Need-add-if1
 add-if1 c = search needs

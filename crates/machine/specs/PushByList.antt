@@ -1,18 +1,18 @@
 -- A push by list (2026-13): for every text, every table and all numbers, the answer and every word of the table afterwards.
 use mathlib.Core.List.{List}
 use Prim.Native.Nat.{ℕ}
 use Rattle.machine.specs.declared.Stored.{Stored}
 use Rattle.machine.specs.Sides.{Side, left, right, sideNumber}
 use Rattle.machine.specs.Values.{number}
 use Rattle.machine.specs.Operations.{push, operationNumber}
 use Rattle.machine.specs.Calls.{Changed, begin}
 use Rattle.airline_list.specs.declared.End.{End}
 use Rattle.airline_list.specs.declared.End.the-variants.{Left, Right}
 use Rattle.airline_list.specs.declared.Sent.{Sent}
 use Rattle.airline_list.specs.declared.Sent.the-variants.{To, NotSent}
 use Rattle.airline_list.specs.Lists.{verdict, sent}
-use Rattle.call_push_by_list.specs.declared.ByList.{ByList}
-use Rattle.call_push_by_list.specs.declared.ByList.the-variants.{Replied, Faulty}
+use Rattle.machine.specs.declared.ByList.{ByList}
+use Rattle.machine.specs.declared.ByList.the-variants.{Replied, Faulty}
 
 -- The deque's side at an end of the lane.
 abbrev pub sideAt : End → Side
