@@ -28,7 +28,7 @@ ghost use Rattle.text_page.specs.Page.{
 };
 ghost use Rattle.machine.specs.Shape.{WellFormed};
 ghost use Rattle.lane_walk.specs.Walks.{ahead, countOf, nodeAfter};
-ghost use Rattle.call_sheet.specs.Tags.{tagsIn};
+ghost use Rattle.call_sheet.specs.Found.{tagsFound};
 
 // How many of so many are left from a place on.
 pub fn left_from(count: u32, place: u32) -> u32
@@ -56,7 +56,7 @@ fn put_line(table: &[u32], from: u32, left: u32, out: &mut [u8], at: usize) -> u
     requires { ⌜ at + lineLength ≤ length (now out) ⌝ }
     ensures { λ r. ⌜ r ≡ nodeAfter (now (table .entry)) (min left perLine) from ⌝ }
     ensures { λ _. ⌜ now (out .exit)
-        ≡ sets (now (out .entry)) at (line (cells (take perLine (tagsIn (ahead (now (table .entry)) from))))) ⌝ }
+        ≡ sets (now (out .entry)) at (line (cells (take perLine (tagsFound (ahead (now (table .entry)) from))))) ⌝ }
 {
     put_blank_line(out, at);
     let n = on_line(left);
@@ -64,8 +64,8 @@ fn put_line(table: &[u32], from: u32, left: u32, out: &mut [u8], at: usize) -> u
     let mut c = 0;
     while c < n {
         let bag = value(table, x);
-        put_tag(out, at + CELL * (c as usize), tag_digit(bag), tag_low(bag));
         x = next(table, x);
+        put_tag(out, at + CELL * (c as usize), tag_digit(bag), tag_low(bag));
         c += 1;
     }
     x
@@ -76,7 +76,7 @@ fn put_lines(table: &[u32], from: u32, left: u32, out: &mut [u8])
     requires { ⌜ WellFormed (now table) × (countOf (ahead (now table) from) ≡ some left) ⌝ }
     requires { ⌜ length (now out) ≡ pageLength ⌝ }
     ensures { λ _. ⌜ now (out .exit)
-        ≡ sets (now (out .entry)) lineLength (tagLines tagLineCount (tagsIn (ahead (now (table .entry)) from))) ⌝ }
+        ≡ sets (now (out .entry)) lineLength (tagLines tagLineCount (tagsFound (ahead (now (table .entry)) from))) ⌝ }
 {
     let mut x = from;
     let mut rest = left;
@@ -93,7 +93,7 @@ pub fn put_page(table: &[u32], from: u32, count: u32, left: u32, out: &mut [u8])
     requires { ⌜ WellFormed (now table) × (countOf (ahead (now table) from) ≡ some left) ⌝ }
     requires { ⌜ (count ≤ 9_999) × (length (now out) ≡ pageLength) ⌝ }
     ensures { λ _. ⌜ now (out .exit)
-        ≡ heading count ++ tagLines tagLineCount (tagsIn (ahead (now (table .entry)) from)) ⌝ }
+        ≡ heading count ++ tagLines tagLineCount (tagsFound (ahead (now (table .entry)) from)) ⌝ }
 {
     put_heading(out, count);
     put_lines(table, from, left, out);

@@ -1,10 +1,11 @@
 -- Which tables are accepted: the sizes and the length (refusal 3), the shape (refusal 4).
 use mathlib.Core.Path.{_≡_}
-use mathlib.Core.Bool.{Bool, true, false, cond, _&&_, _||_}
+use mathlib.Core.Bool.{Bool, true, cond, _&&_, _||_}
 use mathlib.Core.List.{List, [], _∷_}
 use Prim.Native.Nat.{ℕ, zero, suc, _*_, _≤_}
 use lib.Dec.{leb, ltb, eqb}
 use lib.ListN.{length}
+use Rattle.text.specs.Text.{same}
 use Rattle.machine.specs.declared.Stored.{Stored}
 use Rattle.machine.specs.Sides.{Side, left, right, opposite, sideOf}
 use Rattle.machine.specs.Values.{N, X, encode, sameStored, number, bagOk, valueOk}
@@ -111,10 +112,7 @@ allBelow (suc n) test = allBelow n test && test n
 
 -- Two lists of words are the same.
 unfoldable pub sameWords : List ℕ → List ℕ → Bool
-sameWords [] [] = true
-sameWords [] (y ∷ ys) = false
-sameWords (x ∷ xs) [] = false
-sameWords (x ∷ xs) (y ∷ ys) = eqb x y && sameWords xs ys
+sameWords xs ys = same xs ys
 
 -- 01: a slot number below S, or none.
 abbrev pub nodeOrNone : (S x : ℕ) → Bool

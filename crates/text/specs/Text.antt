@@ -11,7 +11,7 @@ abbrev pub bytes : String → List ℕ
 bytes end = []
 bytes (c then s) = code c ∷ bytes s
 
--- whether two lists are the same
+-- whether two lists are the same, bytes or words
 abbrev pub same : List ℕ → List ℕ → Bool
 same [] [] = true
 same [] (y ∷ ys) = false

@@ -1,13 +1,12 @@
 -- Request 2026-09: what is promised of the pages of every list of tags.
 use mathlib.Core.Path.{_≡_}
-use mathlib.Core.Bool.{Bool, true, false, cond, _&&_, _||_}
-use mathlib.Core.List.{List, [], _∷_, _++_, map, flatten}
+use mathlib.Core.Bool.{Bool, true, cond, _&&_, _||_}
+use mathlib.Core.List.{List, [], _++_, map, flatten}
 use Prim.Native.Nat.{ℕ, suc, _+_, _*_, _-_, _/_, _%_, _≤_, _<_}
 use Prim.Native.Char.{code}
 use lib.Dec.{eqb, leb, ltb}
 use lib.ListN.{length, getD, take, drop, replicate}
 use Rattle.tag.specs.Tags.{largestTag}
-use Rattle.text.specs.Text.{bytes}
 use Rattle.text.specs.Lines.{lineFeed, linesOf}
 use Rattle.text_page.specs.Page.{
   columnCount,
@@ -37,13 +36,16 @@ PageSized =
     × (map length (linesOf (pageText tags page)) ≡ replicate lineCount columnCount)
 
 -- ---- Its bytes.
-abbrev pub isAmong : ℕ → List ℕ → Bool
-isAmong n [] = false
-isAmong n (b ∷ bs) = eqb n b || isAmong n bs
 
 -- A digit, a capital of `LANE` or a blank.
 abbrev pub isGlyph : ℕ → Bool
-isGlyph byte = leb (code "0") byte && leb byte (code "9") || isAmong byte (bytes "LANE ")
+isGlyph byte =
+    leb (code "0") byte && leb byte (code "9")
+    || eqb byte (code "L")
+    || eqb byte (code "A")
+    || eqb byte (code "N")
+    || eqb byte (code "E")
+    || eqb byte blank
 
 abbrev pub isPrinted : ℕ → Bool
 isPrinted byte = isGlyph byte || eqb byte lineFeed

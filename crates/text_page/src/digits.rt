@@ -6,14 +6,16 @@ ghost use lib.Seq.{sets};
 ghost use Rattle.tag.specs.Tags.{billion, tagOf};
 ghost use Rattle.text.specs.Numerals.{withZeros, tagText};
 
-// Two digits. The tens are had by a product, which is quicker here than a quotient.
+// Two digits. The tens are had by a product, and both bytes by one number, 256 times the second and the first:
+// 256 * (48 + n - 10 * tens) + 48 + tens, as few products as may be. That is quicker than quotients and single bytes.
 fn put_two(out: &mut [u8], at: usize, n: u32)
     requires { ⌜ (n ≤ 99) × (at + 2 ≤ length (now out)) ⌝ }
     ensures { λ _. ⌜ now (out .exit) ≡ sets (now (out .entry)) at (withZeros 2 n) ⌝ }
 {
     let tens = n * 103 / 1_024;
-    out[at] = b'0' + (tens as u8);
-    out[at + 1] = b'0' + ((n - 10 * tens) as u8);
+    let both = 256 * n + 12_336 - 2_559 * tens;
+    out[at] = (both % 256) as u8;
+    out[at + 1] = (both / 256) as u8;
 }
 
 pub fn put_four(out: &mut [u8], at: usize, n: u32)

@@ -20,7 +20,7 @@ use Rattle.table_shape.proofs.Laws.PassedTable.{refused, table-passed}
 use Rattle.lane_walk.specs.declared.Located.the-variants.{Node, NoEnd}
 use Rattle.lane_walk.specs.Walks.{ahead, countOf, nodeAfter, locatedOf}
 use Rattle.lane_walk.proofs.Laws.Places.{ahead-after, few-bags}
-use Rattle.call_sheet.specs.Tags.{tagsIn}
+use Rattle.call_sheet.specs.Found.{tagsFound}
 use Rattle.call_sheet.proofs.Laws.Walked.{fewer-dropped}
 
 -- ---- Refusals 3, 4 and 26.
@@ -93,7 +93,7 @@ module _ (ws : List ℕ) (first page : ℕ) (out : List ℕ) where
 
   pub page-written : (l : Option (List ℕ)) {count from : ℕ} {written : List ℕ} → ahead ws first ≡ l
       → locatedOf ws place first l ≡ Node count from → page ≤ lastPage → length out ≡ pageLength
-      → written ≡ heading count ++ tagLines tagLineCount (tagsIn (ahead ws from))
+      → written ≡ heading count ++ tagLines tagLineCount (tagsFound (ahead ws from))
       → changedOf Accepted written ≡ sheetInto l page out
   unfolding pageText
   page-written nothing is-ahead told h k w = clash (cc)

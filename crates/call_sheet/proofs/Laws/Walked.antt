@@ -17,14 +17,14 @@ use Rattle.machine.proofs.Basics.Contradiction.{clash}
 use Rattle.machine.proofs.Words.ValueLaws.{bag-range}
 use Rattle.lane_walk.specs.Walks.{ahead, countOf, nodeAfter}
 use Rattle.lane_walk.proofs.Laws.Places.{TagAt, ahead-after, tag-at}
-use Rattle.call_sheet.specs.Tags.{tagsIn}
+use Rattle.call_sheet.specs.Found.{tagsFound}
 
 -- ---- A walk that is counted ends, and its tags are as many.
-pub tags-ahead : (l : Option (List ℕ)) (n : ℕ) → countOf l ≡ some n → l ≡ some (tagsIn l)
+pub tags-ahead : (l : Option (List ℕ)) (n : ℕ) → countOf l ≡ some n → l ≡ some (tagsFound l)
 tags-ahead nothing n h = clash (cc)
 tags-ahead (some bags) n h = refl
 
-pub tags-left : (l : Option (List ℕ)) (n : ℕ) → countOf l ≡ some n → length (tagsIn l) ≡ n
+pub tags-left : (l : Option (List ℕ)) (n : ℕ) → countOf l ≡ some n → length (tagsFound l) ≡ n
 tags-left nothing n h = clash (cc)
 tags-left (some bags) n h = cc
 
@@ -50,7 +50,7 @@ fewer-dropped n l = go (decLt n (length l))
 -- ---- Ahead of node x are tags, and so many are left.
 module _ (ws : List ℕ) (x left : ℕ) (counted : countOf (ahead ws x) ≡ some left) where
   abbrev tags : List ℕ
-  tags = tagsIn (ahead ws x)
+  tags = tagsFound (ahead ws x)
 
   long : length tags ≡ left
   long = tags-left (ahead ws x) left counted
@@ -81,8 +81,8 @@ module _ (ws : List ℕ) (x left : ℕ) (counted : countOf (ahead ws x) ≡ some
         ∙ ap countOf (others-ahead n)
         ∙ ap some (length-drop n tags ∙ ap (λ (m : ℕ). m - n) long)
 
-    pub others : tagsIn (ahead ws y) ≡ drop n tags
-    others = ap (λ (z : ℕ). tagsIn (ahead ws z)) gone ∙ ap tagsIn (others-ahead n)
+    pub others : tagsFound (ahead ws y) ≡ drop n tags
+    others = ap (λ (z : ℕ). tagsFound (ahead ws z)) gone ∙ ap tagsFound (others-ahead n)
 
 -- ---- The words of a tag.
 module _ {v u : Stored} {digit low : ℕ}

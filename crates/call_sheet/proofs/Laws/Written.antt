@@ -28,7 +28,7 @@ use Rattle.text_page.proofs.Laws.LineStores.{tag-more}
 use Rattle.machine.specs.Values.{number}
 use Rattle.machine.specs.Table.{valueWords}
 use Rattle.lane_walk.specs.Walks.{ahead, countOf, nodeAfter}
-use Rattle.call_sheet.specs.Tags.{tagsIn}
+use Rattle.call_sheet.specs.Found.{tagsFound}
 use Rattle.call_sheet.proofs.Laws.Walked.{fewer-taken, one-more-taken, taken-long}
 
 -- ---- A line, over a blank one: tags are put on it one by one.
@@ -54,11 +54,11 @@ module _ (out : List ℕ) (at : ℕ) {blanked : List ℕ} (e : blanked ≡ sets 
 pub tag-put :
     (ws : List ℕ) (x left : ℕ) (counted : countOf (ahead ws x) ≡ some left) (n : ℕ) → n < left → n < perLine
     → (out : List ℕ) (at : ℕ) {before after : List ℕ} {tag : ℕ}
-    → before ≡ sets out at (line (cells (take n (tagsIn (ahead ws x)))))
+    → before ≡ sets out at (line (cells (take n (tagsFound (ahead ws x)))))
     → tag ≡ number (valueWords ws (nodeAfter ws n x)) → after ≡ sets before (at + cellLength * n) (tagText tag)
-    → after ≡ sets out at (line (cells (take (n + 1) (tagsIn (ahead ws x)))))
+    → after ≡ sets out at (line (cells (take (n + 1) (tagsFound (ahead ws x)))))
 tag-put ws x left counted n more few out at {before} {after} {tag} so-far is-tag put =
-    let tags = tagsIn (ahead ws x) in
+    let tags = tagsFound (ahead ws x) in
     let long = taken-long ws x left counted n (omega arith) in
     put
     ∙ ap (λ (l : List ℕ). sets l (at + cellLength * n) (tagText tag)) so-far

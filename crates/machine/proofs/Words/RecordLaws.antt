@@ -7,7 +7,8 @@ use Prim.Native.Nat.{ℕ, _≤_}
 use lib.Dec.{leb, eqb}
 use native.Mathlib.Omega.{arith}
 use native.Mathlib.Decide.{ℕ-discrete}
-use borrow.Author.Tests.{leb-true, eqb-true, eq-eqb}
+use borrow.Author.Tests.{leb-true}
+use Rattle.text.proofs.Laws.SameTexts.{same-equal, same-itself}
 use Rattle.machine.specs.declared.Stored.{Stored}
 use Rattle.machine.specs.Choice.{_≟_, if_then_else_}
 use Rattle.machine.specs.Sides.{Side, left, right, opposite, sideNumber, sideOf}
@@ -57,7 +58,6 @@ use Rattle.machine.proofs.Words.ValueLaws.{
   mark-value-ok,
 }
 use Rattle.machine.proofs.Words.StepLaws.{step-of-number, number-of-step}
-use Rattle.machine.proofs.Basics.Contradiction.{clash}
 
 -- ---- Operations and sides.
 pub operation-of-number : (op : Operation) → operationOf (operationNumber op) ≡ op
@@ -133,18 +133,11 @@ fresh-of-words = task-of-words fresh never-has-word
 -- ---- From words that pass the test to a record and back.
 pub same-words : (xs ys : List ℕ) → sameWords xs ys ≡ true → xs ≡ ys
 unfolding sameWords
-same-words [] [] h = refl
-same-words [] (y ∷ ys) h = clash (cc)
-same-words (x ∷ xs) [] h = clash (cc)
-same-words (x ∷ xs) (y ∷ ys) h =
-    let a = eqb-true x y (and-left (eqb x y) (sameWords xs ys) h) in
-    let b = same-words xs ys (and-right (eqb x y) (sameWords xs ys) h) in
-    rw (a, b)
+same-words = same-equal
 
 pub same-words-refl : (l : List ℕ) → sameWords l l ≡ true
 unfolding sameWords
-same-words-refl [] = refl
-same-words-refl (x ∷ l) = rw (eq-eqb x x refl) (same-words-refl l)
+same-words-refl = same-itself
 
 -- What is read at any step is as V may be.
 pub read-value-ok : (s : Side) (step : ℕ) (u : Stored) → valueReadOk s step u ≡ true → valueOk u ≡ true

@@ -21,6 +21,10 @@ same-equal (x ∷ xs) (y ∷ ys) h =
     let f : xs ≡ ys = same-equal xs ys (both-true (eqb x y) (same xs ys) h .1) in
     λ i. e i ∷ f i
 
+pub same-itself : (l : List ℕ) → same l l ≡ true
+same-itself [] = refl
+same-itself (x ∷ l) = rw (eq-eqb x x refl) (same-itself l)
+
 -- ---- Two texts compared byte by byte.
 pub same-lengths-differ : (xs ys : List ℕ) → (length xs ≡ length ys → ⊥) → same xs ys ≡ false
 same-lengths-differ [] [] h = absurd (h refl)

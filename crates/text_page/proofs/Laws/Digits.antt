@@ -60,16 +60,22 @@ tag-parts d l h k =
     ∙ rw (high, middle, low, first-two d (l / 100_000_000) h (omega arith))
 
 -- ---- How they are stored.
-pub two-stored : (out : List ℕ) (at n : ℕ) → n ≤ 99
-    → set (set out at (48 + n * 103 / 1_024)) (at + 1) (48 + (n - 10 * (n * 103 / 1_024))) ≡ sets out at (withZeros 2 n)
+-- Both digits as one number, of two bytes.
+both-bytes : (n t o both : ℕ) → t ≤ 9 → o ≤ 9 → n ≡ 10 * t + o → both ≡ 256 * n + 12_336 - 2_559 * t
+    → (both % 256 ≡ 48 + t) × (both / 256 ≡ 48 + o)
+both-bytes n t o both h k e f = (omega arith, omega arith)
+
+pub two-stored : (out : List ℕ) (at n both : ℕ) → n ≤ 99 → both ≡ 256 * n + 12_336 - 2_559 * (n * 103 / 1_024)
+    → set (set out at (both % 256)) (at + 1) (both / 256) ≡ sets out at (withZeros 2 n)
 unfolding lastDigits
-two-stored out at n h =
+two-stored out at n both h e =
     let tens : n * 103 / 1_024 ≡ n / 10 % 10 = omega arith in
-    let ones : n - 10 * (n * 103 / 1_024) ≡ n % 10 = omega arith in
-    rw (ones, tens, add-one)
+    let two = both-bytes n (n / 10 % 10) (n % 10) both (omega arith) (omega arith) (omega arith) (e ∙ rw tens) in
+    rw (two .0, two .1, add-one)
 
 stored-after : (xs ys l : List ℕ) (at n : ℕ) → length xs ≡ n → sets (sets l at xs) (at + n) ys ≡ sets l at (xs ++ ys)
-stored-after xs ys l at n long = subst (λ (k : ℕ). sets (sets l at xs) (at + k) ys ≡ sets l at (xs ++ ys)) long (sets-append xs ys l at)
+stored-after xs ys l at n long =
+    subst (λ (k : ℕ). sets (sets l at xs) (at + k) ys ≡ sets l at (xs ++ ys)) long (sets-append xs ys l at)
 
 pub four-stored : (out : List ℕ) (at n : ℕ) {one two : List ℕ}
     → one ≡ sets out at (withZeros 2 (n / 100)) → two ≡ sets one (at + 2) (withZeros 2 (n % 100))

@@ -13,7 +13,7 @@ use Rattle.machine.specs.Values.{bagOk}
 use Rattle.machine.specs.Table.{nodeCount, valueWords}
 use Rattle.lane_walk.specs.Walks.{ahead, nodeAfter}
 use Rattle.lane_walk.proofs.Laws.Places.{TagAt, begins-at, gone-on}
-use Rattle.call_sheet.specs.Tags.{tagsIn}
+use Rattle.call_sheet.specs.Found.{tagsFound}
 use Rattle.call_sheet.proofs.Laws.Walked.{
   tags-left,
   next-tag,
@@ -30,7 +30,7 @@ Inv-loop table from left out₀ at n x₀ c₀ out x c =
     (c ≤ n)
     × (length out ≡ length out₀)
     × (x ≡ nodeAfter table c from)
-    × (out ≡ sets out₀ at (line (cells (take c (tagsIn (ahead table from))))))
+    × (out ≡ sets out₀ at (line (cells (take c (tagsFound (ahead table from))))))
 
 abbrev μ-loop : tie.MeasureT-loop
 μ-loop table from left out₀ at n x₀ c₀ out x c = n - c
@@ -51,7 +51,7 @@ enough c = omega (arith, c .before .before .on-line .ensures)
 bag : (c : tie.In-loop Inv-loop μ-loop)
     → let at = c .before in
     let from = start at .args .from in
-    TagAt (table at) from (tagsIn (ahead (table at) from)) (at .loop .c)
+    TagAt (table at) from (tagsFound (ahead (table at) from)) (at .loop .c)
 bag c =
     let at = c .before in
     let s = start at in
@@ -95,7 +95,7 @@ loop-holds c =
       omega arith,
       refl,
       begins-at (a .table .now) (a .from),
-      line-begun (a .out .now) (a .at) (b .put-blank-line .ensures) (tagsIn (ahead (a .table .now) (a .from))),
+      line-begun (a .out .now) (a .at) (b .put-blank-line .ensures) (tagsFound (ahead (a .table .now) (a .from))),
     )
 
 value-requires : tie.Need-value-requires Inv-loop μ-loop
@@ -166,7 +166,7 @@ returns c =
     let s = start at in
     let a = s .args in
     let all : l .c ≡ min (a .left) perLine = omega (arith, at .before .on-line .ensures) in
-    let tags = tagsIn (ahead (table at) (a .from)) in
+    let tags = tagsFound (ahead (table at) (a .from)) in
     let long : length tags ≡ a .left = tags-left (ahead (table at) (a .from)) (a .left) (s .pre .0 .1) in (
       l .inv .2 ∙ ap (λ (n : ℕ). nodeAfter (table at) n (a .from)) all,
       line-done (a .out .now) (a .at) (blanked at .put-blank-line .ensures) tags (l .c)

@@ -9,7 +9,7 @@ use lib.ListN.{length}
 use lib.Seq.{sets}
 use Rattle.text_page.specs.Page.{lineCount, lineLength, perLine, tagLineCount, tagLines}
 use Rattle.lane_walk.specs.Walks.{ahead, countOf}
-use Rattle.call_sheet.specs.Tags.{tagsIn}
+use Rattle.call_sheet.specs.Found.{tagsFound}
 use Rattle.call_sheet.proofs.Laws.Walked.{others-left, others}
 use Rattle.call_sheet.proofs.Laws.Written.{lines-next, lines-end}
 use Rattle.call_sheet.proofs.pages.put_lines.Statement.{statement}
@@ -20,8 +20,8 @@ Inv-loop table from left out₀ x₀ rest₀ i₀ out x rest i =
     (i ≤ lineCount)
     × (length out ≡ length out₀)
     × (countOf (ahead table x) ≡ some rest)
-    × (sets out (lineLength * i) (tagLines (lineCount - i) (tagsIn (ahead table x)))
-    ≡ sets out₀ lineLength (tagLines tagLineCount (tagsIn (ahead table from))))
+    × (sets out (lineLength * i) (tagLines (lineCount - i) (tagsFound (ahead table x)))
+    ≡ sets out₀ lineLength (tagLines tagLineCount (tagsFound (ahead table from))))
 
 abbrev μ-loop : tie.MeasureT-loop
 μ-loop table from left out₀ x₀ rest₀ i₀ out x rest i = lineCount - i
@@ -56,7 +56,7 @@ loop-again c =
     let at = line .before .before .before in
     let l = at .loop in
     let ws = start at .args .table .now in
-    let tags = tagsIn (ahead ws (l .x)) in
+    let tags = tagsFound (ahead ws (l .x)) in
     let gone = line .put-line .ensures .0 in (
       omega arith,
       line .put-line .kept .1 .1 .1 .0 ∙ l .inv .1,
@@ -73,7 +73,7 @@ returns : tie.Need-returns Inv-loop μ-loop
 returns c =
     let at = c .before in
     let l = at .loop in
-    sym (lines-end (l .out) (tagsIn (ahead (start at .args .table .now) (l .x))) (l .i) (omega arith)) ∙ l .inv .3
+    sym (lines-end (l .out) (tagsFound (ahead (start at .args .table .now) (l .x))) (l .i) (omega arith)) ∙ l .inv .3
 
 pub put-lines-spec : {M : Type 1} → statement M
 put-lines-spec =

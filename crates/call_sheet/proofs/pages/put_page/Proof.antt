@@ -1,7 +1,7 @@
 -- `call_sheet::pages::put_page` meets its contract: the heading and the lines after it are the whole slice.
 use borrow.Author.Needs.{needs}
 use Rattle.lane_walk.specs.Walks.{ahead}
-use Rattle.call_sheet.specs.Tags.{tagsIn}
+use Rattle.call_sheet.specs.Found.{tagsFound}
 use Rattle.call_sheet.proofs.Laws.Written.{page-stored}
 use Rattle.call_sheet.proofs.pages.put_page.Statement.{statement}
 use Rattle.call_sheet.proofs.pages.put_page.Tie as tie
@@ -21,7 +21,7 @@ returns c =
     let headed = lines .before .before .before .before in
     let s = headed .before .before .before .before in
     let a = s .args in
-    page-stored (a .out .now) (tagsIn (ahead (a .table .now) (a .from))) (a .count) (s .pre .1 .1)
+    page-stored (a .out .now) (tagsFound (ahead (a .table .now) (a .from))) (a .count) (s .pre .1 .1)
     (headed .put-heading .ensures) (lines .put-lines .ensures)
 
 pub put-page-spec : {M : Type 1} → statement M

@@ -46,7 +46,8 @@ add-put-four-2 c = search needs
 
 put-four-requires-2 : tie.Need-put-four-requires-2
 put-four-requires-2 c κs =
-    (omega arith, omega (arith, c .before .before .before .put-four .kept .0, long (c .before .before .before .before .before .before)))
+    let first = c .before .before .before in
+    (omega arith, omega (arith, first .put-four .kept .0, long (first .before .before .before)))
 
 same-length : tie.Need-same-length
 same-length c =
@@ -58,7 +59,8 @@ returns c =
     let first = c .before .before .before .before .before .before .put-four in
     let start = c .before .before .before .before .before .before .before .before .before in
     let a = start .args in
-    tag-stored (a .out .now) (a .at) (a .digit) (a .low) (start .pre .0) (start .pre .1) (first .ensures) (c .before .before .put-four2 .ensures)
+    tag-stored (a .out .now) (a .at) (a .digit) (a .low) (start .pre .0) (start .pre .1) (first .ensures)
+    (c .before .before .put-four2 .ensures)
 
 pub put-tag-spec : {M : Type 1} → statement M
 put-tag-spec =

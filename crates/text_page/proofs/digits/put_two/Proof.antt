@@ -1,4 +1,5 @@
 -- `text_page::digits::put_two` meets its contract.
+use mathlib.Core.Path.{refl}
 use native.Mathlib.Omega.{arith}
 use lib.ListN.{length-set}
 use borrow.Author.Needs.{needs}
@@ -9,29 +10,29 @@ use Rattle.text_page.proofs.digits.put_two.Tie as tie
 mul-tens : tie.Need-mul-tens
 mul-tens c = search needs
 
+mul-both : tie.Need-mul-both
+mul-both c = search needs
+
+add-both : tie.Need-add-both
+add-both c = search needs
+
+mul-both-2 : tie.Need-mul-both-2
+mul-both-2 c = search needs
+
+sub-both : tie.Need-sub-both
+sub-both c = search needs
+
 cast-out : tie.Need-cast-out
 cast-out c = search needs
-
-add-out : tie.Need-add-out
-add-out c = search needs
 
 slice-write-out : tie.Need-slice-write-out
 slice-write-out c = search needs
 
-mul-out : tie.Need-mul-out
-mul-out c = search needs
-
-sub-out : tie.Need-sub-out
-sub-out c = search needs
-
 cast-out-2 : tie.Need-cast-out-2
 cast-out-2 c = search needs
 
-add-out-2 : tie.Need-add-out-2
-add-out-2 c = search needs
-
-add-out-3 : tie.Need-add-out-3
-add-out-3 c = search needs
+add-out : tie.Need-add-out
+add-out c = search needs
 
 slice-write-out-2 : tie.Need-slice-write-out-2
 slice-write-out-2 c = simp length-set (omega arith)
@@ -40,21 +41,21 @@ same-length : tie.Need-same-length
 same-length c = search needs
 
 returns : tie.Need-returns
-returns c = two-stored (c .args .out .now) (c .args .at) (c .args .n) (omega arith)
+returns c = two-stored (c .args .out .now) (c .args .at) (c .args .n) _ (omega arith) refl
 
 pub put-two-spec : {M : Type 1} → statement M
 put-two-spec =
     tie.close
     (tie.spec
     mul-tens
+    mul-both
+    add-both
+    mul-both-2
+    sub-both
     cast-out
-    add-out
     slice-write-out
-    mul-out
-    sub-out
     cast-out-2
-    add-out-2
-    add-out-3
+    add-out
     slice-write-out-2
     same-length
     returns)

@@ -4,6 +4,6 @@ use mathlib.Core.Option.{Option, some, none as nothing}
 use Prim.Native.Nat.{ℕ}
 
 -- None where it has no end.
-abbrev pub tagsIn : Option (List ℕ) → List ℕ
-tagsIn nothing = []
-tagsIn (some bags) = bags
+abbrev pub tagsFound : Option (List ℕ) → List ℕ
+tagsFound nothing = []
+tagsFound (some bags) = bags
