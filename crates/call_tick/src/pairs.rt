@@ -22,16 +22,16 @@ pub fn run_on(table: &mut [u32], list: &[u32], answers: &mut [u32]) -> Ran
     ensures { λ r. ⌜ runDoneOf r (now (table .exit)) (now (answers .exit))
         ≡ runOn (now (list .entry)) (now (table .entry)) (now (answers .entry)) ⌝ }
 {
-    let mut at = 0;
+    let mut rest = list;
     let mut made = 0;
-    while at < list.len() {
-        let answer = tick_once(table, list[at], list[at + 1]);
+    while 0 < rest.len() {
+        let answer = tick_once(table, rest[0], rest[1]);
         if is_refusal(answer) {
             let refusal = refusal_number(answer);
             return Ran { made, refusal };
         }
         put_answer(answers, ANSWER_WORDS * (made as usize), answer);
-        at += 2;
+        rest = &rest[2..];
         made += 1;
     }
     Ran { made, refusal: 0 }

@@ -4,3 +4,4 @@ pub mod Nodes
 pub mod Turns
 pub mod Tally
 pub mod Ahead
+pub mod Places

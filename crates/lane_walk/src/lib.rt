@@ -1,21 +1,19 @@
 // The walk along a lane, for every call that reads one: from its first node to the next, what a node holds, and all its
 // bags counted, a tag sought among them. 01: "the lane is read from the left hat's R along R while V is a bag".
 use machine::Stored;
+use table_layout::header;
 use table_layout::nodes;
-use table_layout::places::HEADER;
-use table_layout::places::NODE_COUNT;
-use table_layout::places::hat_at;
 use table_record::Task;
 ghost use mathlib.Core.Path.{_≡_};
 ghost use Prim.Native.Nat.{_<_};
-ghost use mathlib.Core.Bool.{_||_};
-ghost use lib.Dec.{eqb};
+ghost use mathlib.Core.Bool.{cond, _||_};
+ghost use lib.Dec.{leb, eqb};
 ghost use Rattle.machine.specs.Sides.{left, right};
 ghost use Rattle.machine.specs.Values.{number};
 ghost use Rattle.machine.specs.Table.{nodeCount, laneCount, hat, link, valueWords};
 ghost use Rattle.machine.specs.Shape.{WellFormed};
 ghost use Rattle.machine.specs.Calls.{lane};
-ghost use Rattle.lane_walk.specs.Walks.{walkOf};
+ghost use Rattle.lane_walk.specs.Walks.{walkOf, locatedOf};
 
 // How a walk along R ends: at a node without a bag, after that many bags and with the bag sought among them or not; or
 // without one.
@@ -24,12 +22,23 @@ pub enum Walk {
     NoEnd,
 }
 
-// The words of a node's value.
+// How a walk to a place of a lane ends: the bags of the lane, and the node of that place, or past the last bag the node
+// after it; or without an end.
+pub enum Located {
+    Node(u32, u32),
+    NoEnd,
+}
+
+// The words of a node's value, written out one by one: the compiler then reads each by itself where it is tested.
 pub fn value(table: &[u32], x: u32) -> Stored
     requires { ⌜ WellFormed (now table) × (x < nodeCount (now table)) ⌝ }
     ensures { λ r. ⌜ r ≡ valueWords (now (table .entry)) x ⌝ }
 {
-    nodes::value(&table[HEADER..], x)
+    let v = nodes::value(nodes::part(table), x);
+    Stored {
+        word: v.word,
+        digit: v.digit,
+    }
 }
 
 // The node after a node, or none.
@@ -37,7 +46,7 @@ pub fn next(table: &[u32], x: u32) -> u32
     requires { ⌜ WellFormed (now table) × (x < nodeCount (now table)) ⌝ }
     ensures { λ r. ⌜ r ≡ link (now (table .entry)) right x ⌝ }
 {
-    nodes::link(&table[HEADER..], 1, x)
+    nodes::link(nodes::part(table), 1, x)
 }
 
 // The first node of a lane, or none.
@@ -45,7 +54,7 @@ pub fn first(table: &[u32], l: u32) -> u32
     requires { ⌜ WellFormed (now table) × (l < laneCount (now table)) ⌝ }
     ensures { λ r. ⌜ r ≡ link (now (table .entry)) right (hat (now (table .entry)) l left) ⌝ }
 {
-    next(table, table[hat_at(l, 0)])
+    next(table, header::hat(table, l, 0))
 }
 
 // Whether a bag is the one sought, or that was found before.
@@ -63,7 +72,7 @@ pub fn seek(table: &[u32], l: u32, sought: u64) -> Walk
     requires { ⌜ WellFormed (now table) × (l < laneCount (now table)) ⌝ }
     ensures { λ r. ⌜ r ≡ walkOf sought (lane (now (table .entry)) l) ⌝ }
 {
-    let slots = table[NODE_COUNT];
+    let slots = header::slots(table);
     let mut x = first(table, l);
     let mut n = 0;
     let mut found = false;
@@ -80,4 +89,39 @@ pub fn seek(table: &[u32], l: u32, sought: u64) -> Walk
         n += 1;
     }
     Walk::NoEnd
+}
+
+// The node that n links lead to, unless the place is passed.
+fn up_to(place: usize, n: u32, node: u32, before: u32) -> u32
+    ensures { λ r. ⌜ r ≡ cond (leb n place) node before ⌝ }
+{
+    if n as usize <= place {
+        return node;
+    }
+    before
+}
+
+// A lane walked to a place, from 0, and on to its end.
+pub fn locate(table: &[u32], l: u32, place: usize) -> Located
+    requires { ⌜ WellFormed (now table) × (l < laneCount (now table)) ⌝ }
+    ensures { λ r.
+        let ws = now (table .entry) in
+        ⌜ r ≡ locatedOf ws place (link ws right (hat ws l left)) (lane ws l) ⌝ }
+{
+    let slots = header::slots(table);
+    let mut x = first(table, l);
+    let mut there = x;
+    let mut n = 0;
+    while n < slots {
+        if x == Task::NONE {
+            return Located::NoEnd;
+        }
+        if !table_values::bag_ok(value(table, x)) {
+            return Located::Node(n, there);
+        }
+        x = next(table, x);
+        n += 1;
+        there = up_to(place, n, x, there);
+    }
+    Located::NoEnd
 }

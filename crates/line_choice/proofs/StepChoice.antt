@@ -5,13 +5,14 @@ use mathlib.Core.Bool.{Bool, true, false, not, _||_, _&&_}
 use mathlib.Core.List.{List, [], _∷_, _++_}
 use Prim.Native.Nat.{ℕ, _≤_}
 use lib.Dec.{eqb, leb}
-use borrow.Author.Tests.{eqb-true, le-leb, leb-true}
+use borrow.Author.Tests.{eqb-true, eq-eqb, ne-eqb, le-leb, leb-true}
+use types.Run.{OneOf}
 use Rattle.machine.specs.Steps.{Step, stepNumber, stepOf, isStepIn}
 use Rattle.table_record.specs.declared.Task as Tasks
 use Rattle.line_parts.specs.Lent.{lineOf}
 use Rattle.line_choice.specs.Groups.{otherLines, ReadyIn}
 use Rattle.machine.proofs.Basics.Contradiction.{clash}
-use Rattle.machine.proofs.Basics.Tests.{or-either, and-left, and-right}
+use Rattle.machine.proofs.Basics.Tests.{or-either, or-right, and-left, and-right}
 use Rattle.machine.proofs.Words.StepLaws.{step-of-number}
 
 module _ (n : ℕ) (st : Step) (sts : List Step) (h : isStepIn (st ∷ sts) n ≡ true) where
@@ -81,23 +82,60 @@ pub regrouped : {group other : List Step} {ns : List ℕ} {t : Tasks.Task}
     → ReadyIn other ns t
 regrouped R i = record { ready = R .ready; in-group = i; bag-at-51 = R .bag-at-51 }
 
--- Between lo and hi only steps of the group stand.
-abbrev between : (lo hi : ℕ) → List Step → ℕ → Bool
-between lo hi group n = not (leb lo n && leb n hi) || isStepIn group n
+-- Between lo and hi only steps of the group stand, and steps that are left out.
+abbrev between : (lo hi : ℕ) → (out group : List Step) → ℕ → Bool
+between lo hi out group n = not (leb lo n && leb n hi) || (isStepIn out n || isStepIn group n)
 
--- A ready task whose step is between lo and hi is ready in the group there.
+-- A ready task whose step is between lo and hi, and not left out, is ready in the group there.
 pub within :
-    (group : List Step) (lo hi : ℕ) {ns : List ℕ} {t : Tasks.Task}
-    → every (between lo hi group) otherLines ≡ true
+    (out group : List Step) (lo hi : ℕ) {ns : List ℕ} {t : Tasks.Task}
+    → every (between lo hi out group) otherLines ≡ true
     → ReadyIn otherLines ns t
     → lo ≤ t .step
     → t .step ≤ hi
+    → isStepIn out (t .step) ≡ false
     → ReadyIn group ns t
-within group lo hi {ns} {t} all R l h =
-    regrouped R (narrowed (each (between lo hi group) otherLines (t .step) all (R .in-group)))
+within out group lo hi {ns} {t} all R l h f =
+    regrouped R (narrowed (each (between lo hi out group) otherLines (t .step) all (R .in-group)))
   where
-    narrowed : between lo hi group (t .step) ≡ true → isStepIn group (t .step) ≡ true
-    narrowed e = rw (le-leb lo (t .step) l, le-leb (t .step) hi h) at e
+    narrowed : between lo hi out group (t .step) ≡ true → isStepIn group (t .step) ≡ true
+    narrowed e = rw (le-leb lo (t .step) l, le-leb (t .step) hi h, f) at e
+
+-- ---- The single numbers of an arm.
+abbrev numbers : List Step → List ℕ
+numbers [] = []
+numbers (st ∷ sts) = stepNumber st ∷ numbers sts
+
+is-key : (keys : List Step) (n : ℕ) → OneOf (numbers keys) n → isStepIn keys n ≡ true
+unfolding isStepIn
+is-key [] n o = absurd o
+is-key (st ∷ []) n o = rw (eq-eqb n (stepNumber st) o)
+is-key (st ∷ s ∷ sts) n (inl e) = rw (eq-eqb n (stepNumber st) e)
+is-key (st ∷ s ∷ sts) n (inr o) = or-right (eqb n (stepNumber st)) (isStepIn (s ∷ sts) n) (is-key (s ∷ sts) n o)
+
+-- A ready task whose step is one of them is ready in the arm's group.
+pub keyed :
+    (keys group : List Step) {from : List Step} {ns : List ℕ} {t : Tasks.Task}
+    → every (isStepIn group) keys ≡ true
+    → ReadyIn from ns t
+    → OneOf (numbers keys) (t .step)
+    → ReadyIn group ns t
+keyed keys group {from} {ns} {t} all R o =
+    regrouped R (each (isStepIn group) keys (t .step) all (is-key keys (t .step) o))
+
+pub no-key : (keys : List Step) (n : ℕ) → (OneOf (numbers keys) n → ⊥) → isStepIn keys n ≡ false
+unfolding isStepIn
+no-key [] n f = refl
+no-key (st ∷ []) n f = rw (ne-eqb n (stepNumber st) f)
+no-key (st ∷ s ∷ sts) n f =
+    rw (ne-eqb n (stepNumber st) (λ e. f (inl e))) (no-key (s ∷ sts) n (λ o. f (inr o)))
+
+-- There is no task that is ready in a group without its step.
+pub nowhere : {group : List Step} {ns : List ℕ} {t : Tasks.Task} {A : Type 0}
+    → ReadyIn group ns t
+    → isStepIn group (t .step) ≡ false
+    → A
+nowhere R f = let i = R .in-group in clash (cc)
 
 -- The last line is 82.
 pub step-bound : (n : ℕ) → isStepIn otherLines n ≡ true → n ≤ 82

@@ -1,4 +1,4 @@
--- The steps in groups, in the figure's order, and what a tick at a step relies on.
+-- The steps in groups, as the figure's procedures have them, and what a tick at a step relies on.
 use mathlib.Core.Path.{_≡_}
 use mathlib.Core.Bool.{true}
 use mathlib.Core.List.{List, [], _∷_, _++_}
@@ -9,25 +9,28 @@ use Rattle.machine.specs.Steps as Steps
 use Rattle.table_record.specs.declared.Task as Tasks
 use Rattle.line_parts.specs.Lent.{Ready}
 
--- Lines 2 to 51 but 28 and 31: push, add and pop of the figure.
-abbrev pub upperLines : List Step
-upperLines =
-    Steps.line2 ∷ Steps.line3 ∷ Steps.line5 ∷ Steps.line8
-    ∷ Steps.line15 ∷ Steps.line17 ∷ Steps.line18 ∷ Steps.line24 ∷ Steps.line25
-    ∷ Steps.line39 ∷ Steps.line40 ∷ Steps.line42 ∷ Steps.line48 ∷ Steps.line51
-    ∷ []
+-- push, add (but 28 and 31), pop, remove, unspur and break of the figure.
+abbrev pub pushLines : List Step
+pushLines = Steps.line2 ∷ Steps.line3 ∷ Steps.line5 ∷ Steps.line8 ∷ []
 
--- Lines 54 to 82: remove, unspur and the breaking of a chain.
-abbrev pub lowerLines : List Step
-lowerLines =
-    Steps.line54 ∷ Steps.line56 ∷ Steps.line58 ∷ Steps.line60 ∷ Steps.line62 ∷ Steps.line64
-    ∷ Steps.line67 ∷ Steps.line68 ∷ Steps.line69 ∷ Steps.line70 ∷ Steps.line72
-    ∷ Steps.line74 ∷ Steps.line77 ∷ Steps.line78 ∷ Steps.line79 ∷ Steps.line81 ∷ Steps.line82
-    ∷ []
+abbrev pub addLines : List Step
+addLines = Steps.line15 ∷ Steps.line17 ∷ Steps.line18 ∷ Steps.line24 ∷ Steps.line25 ∷ []
+
+abbrev pub popLines : List Step
+popLines = Steps.line39 ∷ Steps.line40 ∷ Steps.line42 ∷ Steps.line48 ∷ Steps.line51 ∷ []
+
+abbrev pub removeLines : List Step
+removeLines = Steps.line54 ∷ Steps.line56 ∷ Steps.line58 ∷ Steps.line60 ∷ Steps.line62 ∷ Steps.line64 ∷ []
+
+abbrev pub unspurLines : List Step
+unspurLines = Steps.line67 ∷ Steps.line68 ∷ Steps.line69 ∷ Steps.line70 ∷ Steps.line72 ∷ []
+
+abbrev pub breakLines : List Step
+breakLines = Steps.line74 ∷ Steps.line77 ∷ Steps.line78 ∷ Steps.line79 ∷ Steps.line81 ∷ Steps.line82 ∷ []
 
 -- All lines but those that take a node.
 abbrev pub otherLines : List Step
-otherLines = upperLines ++ lowerLines
+otherLines = pushLines ++ (addLines ++ (popLines ++ (removeLines ++ (unspurLines ++ breakLines))))
 
 -- Every step of a busy task.
 abbrev pub allSteps : List Step

@@ -1,4 +1,4 @@
--- A line over what it is lent: the nodes' words and its side's hat, with the task record by value.
+-- A line over what it is lent: the nodes' words and the hat of its lane and side, with the task record by value.
 use mathlib.Core.Path.{_≡_}
 use mathlib.Core.Logic.{_≢_}
 use mathlib.Core.Bool.{true, cond}

@@ -61,7 +61,7 @@ fn after_read(o: u32, v: Stored) -> u32
     requires { ⌜ valueOk v ≡ true ⌝ }
     ensures { λ r. ⌜ r ≡ stepNumber (afterRead (sideOf o) (decode v)) ⌝ }
 {
-    if table_values::is_bag(v) {
+    if table_values::bag_ok(v) {
         return 51;
     }
     if marks::is_n(v, o) {

@@ -13,7 +13,17 @@ use Rattle.machine.specs.Values.{Value-discrete, decode}
 use Rattle.machine.specs.Steps.{stepIn, stepOf, isStepIn}
 use Rattle.machine.specs.Tasks.{Task}
 use Rattle.machine.specs.Table.{taskCount, dispatched, hat, link, value, task, setDispatched}
-use Rattle.machine.specs.Shape.{allBelow, sameWords, nodeOk, busyOk, recordOk, shapeOk, WellFormed}
+use Rattle.machine.specs.Shape.{
+  allBelow,
+  sameWords,
+  nodeOk,
+  busyOk,
+  recordOk,
+  shapeOk,
+  WellFormed,
+  sizesOf,
+  WellSized,
+}
 use Rattle.machine.specs.Allocate.{
   heldFrom,
   hatsFrom,
@@ -30,8 +40,6 @@ use Rattle.machine.specs.Lines.{writeAll, dcas, act}
 use Rattle.machine.specs.Answers.{refusalOf, dispatchRefusalOf, dispatchGoesOn}
 use Rattle.machine.specs.Calls.{
   startRefusal,
-  runRefusal,
-  panelRefusal,
   tickRefusal,
   changed,
   times,
@@ -54,33 +62,19 @@ use Rattle.machine.specs.Calls.{
   dispatches,
   dispatchesMade,
   wentOn,
-  tested,
-  run,
-  panel,
 }
-use Rattle.machine.specs.Demand3.{
-  Call,
-  start-call,
-  begin-call,
-  tick-call,
-  ticks-call,
-  dispatch-call,
-  dispatches-call,
-  run-call,
-  panel-call,
-  read-call,
-  after,
-}
+use Rattle.machine.specs.Demand3.{Call, dispatch-call, after}
+use Rattle.machine.specs.Kinds.{Asked, a-start, a-begin, ticks-of, dispatches-with, a-look, asked, Did}
 use Rattle.machine.specs.Begun.{afterAll}
 use Rattle.machine.specs.Fair.{
-  LeaveDispatched,
+  LeavesDispatched,
   OthersLeaveDispatched,
   Repeat,
+  dispatchesIn,
   dispatchesOf,
   dispatchCount,
   NoneRefused,
   IsTickOf,
-  TicksTask,
   GetsTick,
   ticks-it,
   after-it,
@@ -92,19 +86,15 @@ use Rattle.machine.specs.Fair.{
   still-busy,
   FairUnlessEnded,
   turns,
-  LastOfThree,
+  beginPops,
+  numbersFrom,
+  LastOfAll,
 }
 use Rattle.machine.proofs.Basics.Contradiction.{clash, refute, equal?}
 use Rattle.machine.proofs.Basics.Tests.{test-passed, tests-left}
 use Rattle.machine.proofs.Basics.Updates.{update-other}
-use Rattle.machine.proofs.Basics.Rounds.{
-  following-below,
-  away,
-  away-below,
-  none-passes,
-  found-or-nearer,
-}
-use Rattle.machine.proofs.Words.Columns.{sizesOf, columns, putDispatched}
+use Rattle.machine.proofs.Basics.Rounds.{following-below, away, away-below, none-passes, found-or-nearer}
+use Rattle.machine.proofs.Words.Columns.{columns, putDispatched}
 use Rattle.machine.proofs.Words.TableLaws.{columns-setDispatched}
 use Rattle.machine.proofs.Words.EffectLaws.{task-set-dispatched}
 use Rattle.machine.proofs.Words.StartLaws.{task-start}
@@ -115,18 +105,24 @@ use Rattle.machine.proofs.Words.DispatchLaws.{
   one-more-made,
   none-follows,
   one-made,
-  one-dispatch,
 }
-use Rattle.machine.proofs.Shape.ShapeLaws.{WellSized, WellShaped, well-sized, well-shaped}
+use Rattle.machine.proofs.Words.Kinds.{
+  Comes,
+  left-alone,
+  is-started,
+  is-begun,
+  are-ticked,
+  are-dispatched,
+  comes,
+}
+use Rattle.machine.proofs.Shape.ShapeLaws.{WellShaped, well-sized, well-shaped}
 use Rattle.machine.proofs.Shape.TickKeeps.{Kept, unchanged, busy-is-task, tick-kept}
 use Rattle.machine.proofs.Shape.DispatchCases.{by-dispatch}
 use Rattle.machine.proofs.Shape.ShapeKept.{
   is-accepted,
   begin-kept,
-  run-kept,
+  list-kept,
   tick-passes,
-  tick-call-kept,
-  ticks-kept,
   start-sized,
   call-accepted,
 }
@@ -154,20 +150,22 @@ module _ (ws : List ℕ) (A : WellFormed ws) where
   -- ---- Calls that are no dispatches.
 
   -- They touch neither T nor the task last dispatched; an accepted start does, and leaves no task busy.
-  tested-kept : (r : Option ℕ) (list answers : List ℕ) → Kept ws (tested r ws list answers .words)
-  tested-kept (some n) list answers = unchanged ws Z W
-  tested-kept nothing list answers = run-kept list ws answers Z W
+  leaves-dispatched : (c : Call) → LeavesDispatched (asked c) ws (after c ws)
+  leaves-dispatched c = go (comes c ws)
+    where
+      alone : (a : Asked) → LeavesDispatched a ws ws
+      alone (a-start S T g L) = tt
+      alone (a-begin k l op side argument) = refl
+      alone (ticks-of list) = refl
+      alone (dispatches-with h n) = tt
+      alone a-look = refl
 
-  leave-dispatched : LeaveDispatched ws
-  unfolding run panel
-  leave-dispatched =
-      record {
-        by-tick = λ k h. tick-call-kept ws A k h .same-dispatched;
-        by-ticks = λ k h times. ticks-kept ws A times k h .same-dispatched;
-        by-run = λ list answers. tested-kept (runRefusal ws list answers) list answers .same-dispatched;
-        by-panel = λ list answers. tested-kept (panelRefusal ws list answers) list answers .same-dispatched;
-        by-begin = λ k l op side argument. begin-kept ws k l op side argument Z W .same-dispatched;
-      }
+      go : {a : Asked} {vs : List ℕ} {d : Did} → Comes ws a vs d → LeavesDispatched a ws vs
+      go (left-alone a e) = alone a
+      go (is-started S T g L e) = tt
+      go (is-begun k l op side argument e) = begin-kept ws k l op side argument Z W .same-dispatched
+      go (are-ticked i list ts) = list-kept i list ws Z W .same-dispatched
+      go (are-dispatched h n ts) = tt
 
   module _ (k : ℕ) where
     abbrev SameWait : List ℕ → Type 0
@@ -188,16 +186,14 @@ module _ (ws : List ℕ) (A : WellFormed ws) where
             clash (cc (ap (λ (t : Task). isBusy (t .operation)) at-rest))
 
     other-waits : (c : Call) → dispatchesOf c ≡ nothing → SameWait (after c ws)
-    unfolding run panel
-    other-waits (start-call S T g L) e = start-waits S T g L
-    other-waits (begin-call j l op side argument) e = by-kept (begin-kept ws j l op side argument Z W)
-    other-waits (tick-call j h) e = by-kept (tick-call-kept ws A j h)
-    other-waits (ticks-call j h times) e = by-kept (ticks-kept ws A times j h)
-    other-waits (dispatch-call h) e = clash (cc)
-    other-waits (dispatches-call h times) e = clash (cc)
-    other-waits (run-call list answers) e = by-kept (tested-kept (runRefusal ws list answers) list answers)
-    other-waits (panel-call list answers) e = by-kept (tested-kept (panelRefusal ws list answers) list answers)
-    other-waits (read-call l out) e = by-kept (unchanged ws Z W)
+    other-waits c = go (comes c ws)
+      where
+        go : {a : Asked} {vs : List ℕ} {d : Did} → Comes ws a vs d → dispatchesIn a ≡ nothing → SameWait vs
+        go (left-alone a e) none = by-kept (unchanged ws Z W)
+        go (is-started S T g L e) none = start-waits S T g L
+        go (is-begun j l op side argument e) none = by-kept (begin-kept ws j l op side argument Z W)
+        go (are-ticked i list ts) none = by-kept (list-kept i list ws Z W)
+        go (are-dispatched h n ts) none = clash (cc)
 
   -- ---- Dispatches.
   module _ (k : ℕ) (busy : isBusyTask ws k ≡ true) (h : ℕ) where
@@ -270,7 +266,7 @@ module _ (ws : List ℕ) (A : WellFormed ws) where
         ])
 
 pub others-leave-dispatched : OthersLeaveDispatched
-others-leave-dispatched ws passes = leave-dispatched ws (is-accepted ws passes)
+others-leave-dispatched ws passes = leaves-dispatched ws (is-accepted ws passes)
 
 -- ---- Consecutive dispatches.
 
@@ -337,20 +333,17 @@ row-serves (suc n) ws A k busy h none =
 -- The table that dispatches leave.
 after-row : (c : Call) (d : Repeat) → dispatchesOf c ≡ some d → (ws : List ℕ)
     → after c ws ≡ dispatches (d .times) ws (d .hint) .words
-after-row (dispatch-call h) d e ws =
-    let same : record { hint = h; times = 1 } ≡ d = cc in
-    subst (λ (x : Repeat). dispatch ws h .words ≡ dispatches (x .times) ws (x .hint) .words) same
-    (ap (λ (r : Dispatched). r .words) (sym (one-dispatch ws h)))
-after-row (dispatches-call h times) d e ws =
-    let same : record { hint = h; times = times } ≡ d = cc in
-    ap (λ (x : Repeat). dispatches (x .times) ws (x .hint) .words) same
-after-row (start-call S T g L) d e ws = clash (cc)
-after-row (begin-call k l op side argument) d e ws = clash (cc)
-after-row (tick-call k h) d e ws = clash (cc)
-after-row (ticks-call k h times) d e ws = clash (cc)
-after-row (run-call list answers) d e ws = clash (cc)
-after-row (panel-call list answers) d e ws = clash (cc)
-after-row (read-call l out) d e ws = clash (cc)
+after-row c d e ws = go (comes c ws) e
+  where
+    go : {a : Asked} {vs : List ℕ} {done : Did} → Comes ws a vs done → dispatchesIn a ≡ some d
+        → vs ≡ dispatches (d .times) ws (d .hint) .words
+    go (left-alone a none) q = clash (cc)
+    go (is-started S T g L _) q = clash (cc)
+    go (is-begun k l op side argument _) q = clash (cc)
+    go (are-ticked i list ts) q = clash (cc)
+    go (are-dispatched h n ts) q =
+        let same : record { hint = h; times = n } ≡ d = cc in
+        ap (λ (x : Repeat). dispatches (x .times) ws (x .hint) .words) same
 
 -- With more dispatches to come than the task waits.
 fair-from : (calls : List Call) (ws : List ℕ) → WellFormed ws → (k : ℕ) → isBusyTask ws k ≡ true → NoneRefused calls ws
@@ -422,9 +415,9 @@ fair ws passes k calls B none enough =
     first (c ∷ cs) B enough one = B .0
 
 -- ---- T - 1 dispatches are not enough.
-pub last-of-three : LastOfThree
-unfolding turns afterAll hat hatsFrom startNodes firstFrom dispatchTo dispatchOn dispatch ℕ-discrete decLt decLe
+pub last-of-all : LastOfAll
+unfolding turns beginPops numbersFrom afterAll hat hatsFrom startNodes firstFrom dispatchTo dispatchOn dispatch ℕ-discrete decLt decLe
     Value-discrete decode stepIn stepOf isStepIn link value task allBelow sameWords nodeOk busyOk recordOk shapeOk
     heldFrom roots mark markAll visit visitFrom marked firstUnmarked allocate writeAll dcas act times startWords start
     begin effectOf applied tickOn tick
-last-of-three = refl
+last-of-all = refl

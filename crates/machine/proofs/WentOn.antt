@@ -10,17 +10,17 @@ use Rattle.machine.specs.declared.Answer.the-variants.{Going, Pushed, Ba
 use Rattle.machine.specs.declared.Dispatch.{Dispatch}
 use Rattle.machine.specs.declared.Dispatch.the-variants.{Idle, Answered}
 use Rattle.machine.specs.Table.{tickCount, setDispatched}
-use Rattle.machine.specs.Shape.{WellFormed}
+use Rattle.machine.specs.Shape.{WellFormed, sizesOf, WellSized}
 use Rattle.machine.specs.Answers.{refusalOf, dispatchGoesOn, endsCall}
 use Rattle.machine.specs.Calls.{tickRefusal, tickOn, Dispatched, dispatch, dispatches, wentOn}
 use Rattle.machine.specs.Demand3.{dispatch-call}
 use Rattle.machine.specs.WentOn.{endedOne, CountTells}
 use Rattle.machine.proofs.Basics.Contradiction.{clash}
-use Rattle.machine.proofs.Words.Columns.{sizesOf, columns}
+use Rattle.machine.proofs.Words.Columns.{columns}
 use Rattle.machine.proofs.Words.TableLaws.{columns-setDispatched}
 use Rattle.machine.proofs.Words.TickLaws.{tick-answer, tick-columns}
 use Rattle.machine.proofs.Words.DispatchLaws.{others-follow, one-went-on, none-follows, none-went-on}
-use Rattle.machine.proofs.Shape.ShapeLaws.{WellSized, WellShaped, well-sized, well-shaped}
+use Rattle.machine.proofs.Shape.ShapeLaws.{WellShaped, well-sized, well-shaped}
 use Rattle.machine.proofs.Shape.TickKeeps.{tick-kept}
 use Rattle.machine.proofs.Shape.DispatchCases.{by-dispatch}
 use Rattle.machine.proofs.Shape.ShapeKept.{is-accepted, call-accepted}

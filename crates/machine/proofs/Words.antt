@@ -12,3 +12,4 @@ pub mod StartLaws
 pub mod TickLaws
 pub mod RunLaws
 pub mod DispatchLaws
+pub mod Kinds

@@ -1,10 +1,11 @@
 -- The slot rule, computed: marking what is reachable, and the first node without a mark from a hint on.
 -- proofs/SlotRule/Reached.antt shows that the marks are exactly the reachable nodes.
+use mathlib.Core.Path.{_≡_}
 use mathlib.Core.Bool.{true, false, cond}
 use mathlib.Core.List.{List, [], _∷_, _++_}
-use Prim.Native.Nat.{ℕ, zero, suc, _+_}
+use Prim.Native.Nat.{ℕ, zero, suc, _+_, _≤_, _<_}
 use lib.Dec.{ltb, eqb}
-use lib.ListN.{getD, set, replicate}
+use lib.ListN.{length, getD, set, replicate}
 use Rattle.machine.specs.Round.{following}
 use Rattle.machine.specs.Sides.{left, right}
 use Rattle.machine.specs.Tasks.{Task, none, inA, inB, inC, inD}
@@ -41,6 +42,20 @@ pub record Marking : Type 0 where
 
 abbrev pub unmarked : Marking
 unmarked = record { marks = replicate largestCount 0; queue = replicate largestCount 0; tail = 0 }
+
+-- How many marks there are.
+abbrev pub markCount : List ℕ → ℕ
+markCount [] = 0
+markCount (zero ∷ xs) = markCount xs
+markCount (suc x ∷ xs) = suc (markCount xs)
+
+-- What every marking of S nodes has, from the start on. It keeps the queue from running over.
+pub record Room (S : ℕ) (m : Marking) : Type 0 where
+  pub few : S ≤ largestCount
+  pub marksLong : length (m .marks) ≡ largestCount
+  pub queueLong : length (m .queue) ≡ largestCount
+  pub counted : markCount (m .marks) ≡ m .tail
+  pub below : (i : ℕ) → i < m .tail → getD (m .queue) i 0 < S
 
 abbrev pub enqueue : Marking → ℕ → Marking
 enqueue m x =

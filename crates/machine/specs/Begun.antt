@@ -3,34 +3,18 @@ use mathlib.Core.Path.{_≡_}
 use mathlib.Core.Bool.{Bool, cond, _&&_}
 use mathlib.Core.List.{List, [], _∷_}
 use mathlib.Core.Option.{Option, some, none as nothing}
-use Prim.Native.Nat.{ℕ, zero, suc, _-_}
+use Prim.Native.Nat.{ℕ, _-_}
 use lib.Dec.{eqb}
 use Rattle.machine.specs.declared.Answer.{Answer}
-use Rattle.machine.specs.declared.Answer.the-variants.{Going, Pushed, Bag}
-use Rattle.machine.specs.declared.Dispatch.{Dispatch}
-use Rattle.machine.specs.declared.Dispatch.the-variants.{Idle, Answered}
-use Rattle.machine.specs.declared.Reply.{Reply}
-use Rattle.machine.specs.declared.Reply.the-variants.{Accepted, Refused as Reply-Refused}
+use Rattle.machine.specs.declared.Answer.the-variants.{Pushed, Bag}
+use Rattle.machine.specs.declared.Reply.the-variants.{Accepted}
 use Rattle.machine.specs.Choice.{_≟_, if_then_else_}
 use Rattle.machine.specs.Operations.{Operation, push, pop, operationNumber}
-use Rattle.machine.specs.Answers.{kindOf, payloadOf, refusalOf, isGoing, answerOf}
+use Rattle.machine.specs.Answers.{kindOf, payloadOf, isGoing}
 use Rattle.machine.specs.Calls.{start}
-use Rattle.machine.specs.Row.{Note, newNote, nextNoted}
-use Rattle.machine.specs.Demand3.{
-  Call,
-  start-call,
-  begin-call,
-  tick-call,
-  ticks-call,
-  dispatch-call,
-  dispatches-call,
-  run-call,
-  panel-call,
-  read-call,
-  Given,
-  given,
-  after,
-}
+use Rattle.machine.specs.Row.{Note, nextNoted}
+use Rattle.machine.specs.Demand3.{Call, given, after}
+use Rattle.machine.specs.Kinds.{Tick, of-task, of-next, Did, started, begun, ticked, did}
 
 -- ---- The tables.
 
@@ -85,76 +69,37 @@ finish η k (some n) a =
 abbrev pub recordMade : History → ℕ → Answer → History
 recordMade η k a = cond (isGoing a) η (finish η k (η .notes k) a)
 
--- A tick of task k with its outcome.
-abbrev pub recordTick : History → ℕ → Answer → History
-recordTick η k a = elim (refusalOf a) as (λ _. History) [ some n ↦ η | nothing ↦ recordMade η k a ]
-
--- The ticks that a run made, by its pairs and the words that it wrote.
-unfoldable pub recordRun : History → (made : ℕ) → (list answers : List ℕ) → History
-recordRun η zero list answers = η
-recordRun η (suc n) [] answers = η
-recordRun η (suc n) (k ∷ []) answers = η
-recordRun η (suc n) (k ∷ h ∷ list) [] = η
-recordRun η (suc n) (k ∷ h ∷ list) (kind ∷ []) = η
-recordRun η (suc n) (k ∷ h ∷ list) (kind ∷ digit ∷ []) = η
-recordRun η (suc n) (k ∷ h ∷ list) (kind ∷ digit ∷ low ∷ answers) =
-    elim (answerOf kind digit low) as (λ _. History) [
-      | some a ↦ recordRun (recordMade η k a) n list answers
-      | nothing ↦ η
-    ]
-
--- A dispatch: where it ticked, the tick of the next task with a note.
-abbrev pub recordDispatched : History → Option ℕ → Answer → History
-recordDispatched η nothing a = η
-recordDispatched η (some k) a =
+-- A tick of the task whose turn it is.
+abbrev pub recordNext : History → Option ℕ → Answer → History
+recordNext η nothing a = η
+recordNext η (some k) a =
     let η′ = recordMade η k a in
     record { notes = η′ .notes; tasks = η′ .tasks; dispatched = k; finished = η′ .finished }
 
-abbrev pub recordDispatch : History → Dispatch → History
-recordDispatch η Idle = η
-recordDispatch η (Answered a) =
-    elim (refusalOf a) as (λ _. History) [
-      | some n ↦ η
-      | nothing ↦ recordDispatched η (nextNoted (η .notes) (η .tasks) (η .dispatched)) a
-    ]
+abbrev pub recordTick : History → Tick → History
+recordTick η (of-task k a) = recordMade η k a
+recordTick η (of-next a) = recordNext η (nextNoted (η .notes) (η .tasks) (η .dispatched)) a
 
--- Consecutive dispatches: those that went on, and the last where one did not.
-unfoldable pub recordDispatches : History → (times wentOn : ℕ) → Dispatch → History
-recordDispatches η zero m d = η
-recordDispatches η (suc n) zero d = recordDispatch η d
-recordDispatches η (suc n) (suc m) d = recordDispatches (recordDispatch η (Answered Going)) n m d
+unfoldable pub recordTicks : History → List Tick → History
+recordTicks η [] = η
+recordTicks η (t ∷ ts) = recordTicks (recordTick η t) ts
 
--- A start with its reply, and a begin of task k with a note and its reply.
-abbrev pub recordStart : History → (T : ℕ) → Reply → History
-recordStart η T Accepted = noHistory T
-recordStart η T (Reply-Refused n) = η
-
-abbrev pub recordBegin : History → ℕ → Note → Reply → History
-recordBegin η k n Accepted =
+-- What a call did.
+abbrev pub recordDid : History → Did → History
+recordDid η (started T lanes) = noHistory T
+recordDid η (begun k n) =
     record {
       notes = withNote (η .notes) k (some n);
       tasks = η .tasks;
       dispatched = η .dispatched;
       finished = η .finished;
     }
-recordBegin η k n (Reply-Refused r) = η
-
--- A call, with what it gave back. Of consecutive ticks only the last can have ended the task's call.
-abbrev pub recordCall : History → (c : Call) → Given c → History
-recordCall η (start-call S T g lanes) r = recordStart η T r
-recordCall η (begin-call k l op side argument) r = recordBegin η k (newNote l op side argument) r
-recordCall η (tick-call k h) a = recordTick η k a
-recordCall η (ticks-call k h times) a = recordTick η k a
-recordCall η (dispatch-call h) r = recordDispatch η r
-recordCall η (dispatches-call h times) r = recordDispatches η times (r .1) (r .0)
-recordCall η (run-call list answers) r = recordRun η (r .0 .made) list (r .1)
-recordCall η (panel-call list answers) r = recordRun η (r .0 .made) list (r .1)
-recordCall η (read-call l out) r = η
+recordDid η (ticked ts) = recordTicks η ts
 
 -- A list of calls, each on the table as the one before left it.
 unfoldable pub history : List Call → List ℕ → History → History
 history [] ws η = η
-history (c ∷ cs) ws η = history cs (after c ws) (recordCall η c (given c ws))
+history (c ∷ cs) ws η = history cs (after c ws) (recordDid η (did c (given c ws)))
 
 -- ---- The bags.
 

@@ -1,34 +1,19 @@
 -- Demand 3 since 2026-10: what is known along a list of calls, takes and puts, and what is claimed where a row is
 -- known. Of calls alone it is `Demand3.Demand3`.
 use mathlib.Core.Path.{_≡_}
-use mathlib.Core.Bool.{cond}
+use mathlib.Core.Bool.{Bool, true, false, cond, _||_}
 use mathlib.Core.List.{List, [], _∷_}
 use mathlib.Core.Option.{Option, some, none as nothing, bind}
 use Prim.Native.Nat.{ℕ, _<_}
+use lib.Dec.{eqb}
 use lib.ListN.{length}
 use Rattle.machine.specs.declared.Reply.{Reply}
 use Rattle.machine.specs.declared.Reply.the-variants.{Accepted, Refused as Reply-Refused}
 use Rattle.machine.specs.Shape.{sameWords}
 use Rattle.machine.specs.Snapshots.{takeSnapshot, putBack}
 use Rattle.machine.specs.Row.{Row, emptyRow}
-use Rattle.machine.specs.Demand3.{
-  Call,
-  start-call,
-  begin-call,
-  tick-call,
-  ticks-call,
-  dispatch-call,
-  dispatches-call,
-  run-call,
-  panel-call,
-  read-call,
-  Given,
-  given,
-  after,
-  feed,
-  LanesAre,
-  Within,
-}
+use Rattle.machine.specs.Demand3.{Call, Given, given, after, feed, LanesAre, Within}
+use Rattle.machine.specs.Kinds.{Did, started, begun, ticked, did}
 use Rattle.machine.specs.Begun.{Begun}
 use Rattle.machine.specs.Twice.{OnceInTable, RowSince}
 
@@ -88,38 +73,38 @@ fedRow nothing ks = nothing
 fedRow (some ρ) ks = some (record { row = some ρ; kept = ks })
 
 -- A call while nothing is known: an accepted start makes the empty row known, and any other answer passes.
-abbrev pub startedRow : (c : Call) → Given c → Option Row
-startedRow (start-call S T g lanes) Accepted = some (emptyRow T lanes)
-startedRow (start-call S T g lanes) (Reply-Refused n) = nothing
-startedRow (begin-call k l op side argument) r = nothing
-startedRow (tick-call k h) r = nothing
-startedRow (ticks-call k h times) r = nothing
-startedRow (dispatch-call h) r = nothing
-startedRow (dispatches-call h times) r = nothing
-startedRow (run-call list answers) r = nothing
-startedRow (panel-call list answers) r = nothing
-startedRow (read-call l out) r = nothing
+abbrev pub startedRow : Did → Option Row
+startedRow (started T lanes) = some (emptyRow T lanes)
+startedRow (begun k n) = nothing
+startedRow (ticked ts) = nothing
 
 abbrev pub feedCall : Option Row → List Kept → (c : Call) → Given c → Option Known
-feedCall nothing ks c r = some (record { row = startedRow c r; kept = ks })
+feedCall nothing ks c r = some (record { row = startedRow (did c r); kept = ks })
 feedCall (some ρ) ks c r = fedRow (feed ρ c r) ks
 
+-- 02: "22, snapshot and table differ in length, tested first"; 3 and 4 are refusals of words of which no row is known.
+-- The lengths of lent slices are known to all.
+abbrev pub refusalFits : (same-length : Bool) → (tested : Option Row) → ℕ → Bool
+refusalFits false tested n = eqb n 22
+refusalFits true (some ρ) n = false
+refusalFits true nothing n = eqb n 3 || eqb n 4
+
 -- A take is a look; a snapshot taken while a row is known is kept with it.
-abbrev pub feedTake : Known → Reply → (snapshot : List ℕ) → Known
-feedTake κ Accepted ss = record { row = κ .row; kept = keep ss (κ .row) (κ .kept) }
-feedTake κ (Reply-Refused n) ss = κ
+abbrev pub feedTake : Known → (same-length : Bool) → Reply → (snapshot : List ℕ) → Option Known
+feedTake κ same Accepted ss = cond same (some (record { row = κ .row; kept = keep ss (κ .row) (κ .kept) })) nothing
+feedTake κ same (Reply-Refused n) ss = cond (refusalFits same (κ .row) n) (some κ) nothing
 
 -- 02: "the answers after it are those of a row whose history ends where it was taken, and demand 3 speaks of that table
 -- again. After any other snapshot put back it says nothing until the next start or a snapshot of the first kind."
-abbrev pub feedPut : Known → (snapshot : List ℕ) → Reply → Known
-feedPut κ ss Accepted = record { row = rowKept ss (κ .kept); kept = κ .kept }
-feedPut κ ss (Reply-Refused n) = κ
+abbrev pub feedPut : Known → (same-length : Bool) → (snapshot : List ℕ) → Reply → Option Known
+feedPut κ same ss Accepted = cond same (some (record { row = rowKept ss (κ .kept); kept = κ .kept })) nothing
+feedPut κ same ss (Reply-Refused n) = cond (refusalFits same (rowKept ss (κ .kept)) n) (some κ) nothing
 
--- What is known afterwards; nothing at all where a known row does not give that answer.
-abbrev pub feedEvent : Known → (e : Event) → EventGiven e → Option Known
-feedEvent κ (call-event c) r = feedCall (κ .row) (κ .kept) c r
-feedEvent κ (take-event out) r = some (feedTake κ (r .0) (r .1))
-feedEvent κ (put-event ss) r = some (feedPut κ ss r)
+-- What is known afterwards, of a table of so many words; nothing at all where what is known does not give that answer.
+abbrev pub feedEvent : (words : ℕ) → Known → (e : Event) → EventGiven e → Option Known
+feedEvent n κ (call-event c) r = feedCall (κ .row) (κ .kept) c r
+feedEvent n κ (take-event out) r = feedTake κ (eqb (length out) n) (r .0) (r .1)
+feedEvent n κ (put-event ss) r = feedPut κ (eqb (length ss) n) ss r
 
 -- ---- The claim.
 
@@ -134,7 +119,7 @@ abbrev pub Along : (Claim : List ℕ → Row → Type 0) → List Event → List
 Along Claim [] ws κ = Where Claim ws (κ .row)
 Along Claim (e ∷ es) ws κ =
     Where Claim ws (κ .row)
-    × ((κ′ : Known) × (feedEvent κ e (eventGiven e ws) ≡ some κ′) × Along Claim es (afterEvent e ws) κ′)
+    × ((κ′ : Known) × (feedEvent (length ws) κ e (eventGiven e ws) ≡ some κ′) × Along Claim es (afterEvent e ws) κ′)
 
 -- Along every list of events, on any words whatever: an accepted start among them makes a row known.
 abbrev pub Always : (Claim : List ℕ → Row → Type 0) → Type 0
@@ -160,10 +145,6 @@ BegunWhereKnown = Always (λ ws ρ. Begun ws)
 abbrev pub OnceWhereKnown : Type 0
 OnceWhereKnown = Always (λ ws ρ. OnceInTable ws)
 
--- 22 alone can refuse a take where a row is known: 3 and 4 are not met there.
-abbrev pub TakesWhereKnown : Type 0
-TakesWhereKnown = Always (λ ws ρ. (out : List ℕ) → length out ≡ length ws → takeSnapshot ws out .reply ≡ Accepted)
-
 -- ---- What a snapshot of the first kind brings back.
 
 -- The table after a list of events, and what is known then.
@@ -173,7 +154,7 @@ afterEvents (e ∷ es) ws = afterEvents es (afterEvent e ws)
 
 unfoldable pub knownAfter : List Event → List ℕ → Known → Option Known
 knownAfter [] ws κ = some κ
-knownAfter (e ∷ es) ws κ = bind (feedEvent κ e (eventGiven e ws)) (λ κ′. knownAfter es (afterEvent e ws) κ′)
+knownAfter (e ∷ es) ws κ = bind (feedEvent (length ws) κ e (eventGiven e ws)) (λ κ′. knownAfter es (afterEvent e ws) κ′)
 
 -- Two rows that nobody can tell apart: they keep the same of every lane there is.
 pub record SameRow (ρ σ : Row) : Type 0 where
@@ -195,4 +176,4 @@ RowsComeBack =
     → κ .row ≡ some ρ
     → takeSnapshot ws out .reply ≡ Accepted
     → knownAfter (take-event out ∷ since) ws κ ≡ some κ′
-    → (ρ′ : Row) × (feedPut κ′ snapshot Accepted .row ≡ some ρ′) × SameRow ρ ρ′
+    → (ρ′ : Row) × (rowKept snapshot (κ′ .kept) ≡ some ρ′) × SameRow ρ ρ′

@@ -1,11 +1,10 @@
 -- Request 2026-07: a busy task gets its tick within T dispatches, in every accepted table, whatever calls are between.
 use mathlib.Core.Path.{_≡_}
 use mathlib.Core.Bool.{true, false}
-use mathlib.Core.List.{List, [], _∷_}
+use mathlib.Core.List.{List, [], _∷_, map}
 use mathlib.Core.Option.{Option, some, none as nothing}
 use Prim.Native.Nat.{ℕ, zero, suc, _+_, _≤_, _<_}
 use Rattle.machine.specs.declared.Dispatch.the-variants.{Answered}
-use Rattle.machine.specs.declared.Stored.{Stored}
 use Rattle.machine.specs.Sides.{left, sideNumber}
 use Rattle.machine.specs.Values.{stored}
 use Rattle.machine.specs.Operations.{pop, operationNumber}
@@ -14,46 +13,30 @@ use Rattle.machine.specs.Answers.{refusalOf, dispatchRefusalOf}
 use Rattle.machine.specs.Calls.{
   tableRefusal,
   startWords,
-  begin,
   tick,
-  ticks,
   isBusyTask,
   Dispatched,
   dispatch,
   dispatches,
   dispatchesMade,
-  run,
-  panel,
 }
-use Rattle.machine.specs.Demand3.{
-  Call,
-  start-call,
-  begin-call,
-  tick-call,
-  ticks-call,
-  dispatch-call,
-  dispatches-call,
-  run-call,
-  panel-call,
-  read-call,
-  after,
-}
+use Rattle.machine.specs.Demand3.{Call, begin-call, after}
+use Rattle.machine.specs.Kinds.{Asked, a-start, a-begin, ticks-of, dispatches-with, a-look, asked}
 use Rattle.machine.specs.Begun.{afterAll}
 
 -- ---- The task last dispatched.
 
--- 02: "A plain tick does not touch it": nor do consecutive ticks, a begin, a run or the panel's list.
-pub record LeaveDispatched (ws : List ℕ) : Type 0 where
-  pub by-tick : (k hint : ℕ) → dispatched (tick ws k hint .words) ≡ dispatched ws
-  pub by-ticks : (k hint times : ℕ) → dispatched (ticks times ws k hint .words) ≡ dispatched ws
-  pub by-run : (list answers : List ℕ) → dispatched (run ws list answers .words) ≡ dispatched ws
-  pub by-panel : (list answers : List ℕ) → dispatched (panel ws list answers .words) ≡ dispatched ws
-  pub by-begin :
-      (k lane operation side : ℕ) (argument : Stored)
-      → dispatched (begin ws k lane operation side argument .words) ≡ dispatched ws
+-- 02: "A plain tick does not touch it": nor does any call that asks for no dispatch and no fresh table.
+abbrev pub LeavesDispatched : Asked → List ℕ → List ℕ → Type 0
+LeavesDispatched (a-start S T g lanes) ws vs = Unit {0}
+LeavesDispatched (a-begin k l op side argument) ws vs = dispatched vs ≡ dispatched ws
+LeavesDispatched (ticks-of list) ws vs = dispatched vs ≡ dispatched ws
+LeavesDispatched (dispatches-with h times) ws vs = Unit {0}
+LeavesDispatched a-look ws vs = dispatched vs ≡ dispatched ws
 
 abbrev pub OthersLeaveDispatched : Type 0
-OthersLeaveDispatched = (ws : List ℕ) → tableRefusal ws nothing ≡ nothing → LeaveDispatched ws
+OthersLeaveDispatched =
+    (ws : List ℕ) → tableRefusal ws nothing ≡ nothing → (c : Call) → LeavesDispatched (asked c) ws (after c ws)
 
 -- ---- Lists of calls with dispatches in them.
 
@@ -63,16 +46,15 @@ pub record Repeat : Type 0 where
   pub times : ℕ
 
 -- Those that a call asks for, where it asks for dispatches; a dispatch asks for one.
+abbrev pub dispatchesIn : Asked → Option Repeat
+dispatchesIn (dispatches-with h times) = some (record { hint = h; times = times })
+dispatchesIn (a-start S T g lanes) = nothing
+dispatchesIn (a-begin k l op side argument) = nothing
+dispatchesIn (ticks-of list) = nothing
+dispatchesIn a-look = nothing
+
 abbrev pub dispatchesOf : Call → Option Repeat
-dispatchesOf (dispatch-call h) = some (record { hint = h; times = 1 })
-dispatchesOf (dispatches-call h times) = some (record { hint = h; times = times })
-dispatchesOf (start-call S T g lanes) = nothing
-dispatchesOf (begin-call k l op side argument) = nothing
-dispatchesOf (tick-call k h) = nothing
-dispatchesOf (ticks-call k h times) = nothing
-dispatchesOf (run-call list answers) = nothing
-dispatchesOf (panel-call list answers) = nothing
-dispatchesOf (read-call l out) = nothing
+dispatchesOf c = dispatchesIn (asked c)
 
 -- How many dispatches a call makes, and a list of calls.
 abbrev pub madeBy : Call → List ℕ → ℕ
@@ -168,10 +150,20 @@ unfoldable pub turns : (n : ℕ) → List ℕ → List ℕ
 turns zero ws = []
 turns (suc n) ws = let vs = dispatch ws 0 .words in dispatched vs ∷ turns n vs
 
-abbrev pub beginsPop : ℕ → Call
-beginsPop k = begin-call k 0 (operationNumber pop) (sideNumber left) (stored 0)
+-- Pops begun for tasks k, k + 1, .., n of them.
+unfoldable pub beginPops : (n k : ℕ) → List Call
+beginPops zero k = []
+beginPops (suc n) k =
+    begin-call k 0 (operationNumber pop) (sideNumber left) (stored 0) ∷ beginPops n (suc k)
 
--- Of three tasks, all busy since the start, the last one gets its tick at the third dispatch.
-abbrev pub LastOfThree : Type 0
-LastOfThree =
-    turns 3 (afterAll (beginsPop 0 ∷ beginsPop 1 ∷ beginsPop 2 ∷ []) (startWords 4 3 0 1)) ≡ 0 ∷ 1 ∷ 2 ∷ []
+-- The numbers from k on, n of them.
+unfoldable pub numbersFrom : (n k : ℕ) → List ℕ
+numbersFrom zero k = []
+numbersFrom (suc n) k = k ∷ numbersFrom n (suc k)
+
+-- Of T tasks, all busy since the start, each gets its tick in turn, and the last one at the T-th dispatch: for every T
+-- that a table may have.
+abbrev pub LastOfAll : Type 0
+LastOfAll =
+    map (λ T. turns T (afterAll (beginPops T 0) (startWords 2 T 0 1))) (numbersFrom 16 1)
+    ≡ map (λ T. numbersFrom T 0) (numbersFrom 16 1)

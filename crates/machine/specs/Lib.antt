@@ -16,10 +16,12 @@ pub mod Answers
 pub mod Calls
 pub mod Results
 pub mod Panel
+pub mod Sheets
 pub mod Snapshots
 pub mod FirstFree
 pub mod Row
 pub mod Demand3
+pub mod Kinds
 pub mod Begun
 pub mod Fair
 pub mod WentOn

@@ -2,7 +2,7 @@
 use mathlib.Core.Path.{_≡_}
 use mathlib.Core.Bool.{Bool, true, false, cond, _&&_, _||_}
 use mathlib.Core.List.{List, [], _∷_}
-use Prim.Native.Nat.{ℕ, zero, suc, _*_}
+use Prim.Native.Nat.{ℕ, zero, suc, _*_, _≤_}
 use lib.Dec.{leb, ltb, eqb}
 use lib.ListN.{length}
 use Rattle.machine.specs.declared.Stored.{Stored}
@@ -70,6 +70,39 @@ lengthOk ws =
     && lanesOk (laneCount ws)
     && sizesOk (nodeCount ws) (taskCount ws) (growth ws) (laneCount ws)
     && eqb (length ws) (tableLength (nodeCount ws) (taskCount ws))
+
+-- ---- The same, as facts about the length and the sizes.
+pub record Sizes : Type 0 where
+  pub length : ℕ
+  pub nodeCount : ℕ
+  pub taskCount : ℕ
+  pub growth : ℕ
+  pub laneCount : ℕ
+
+abbrev pub sizesOf : List ℕ → Sizes
+sizesOf ws =
+    record {
+      length = length ws;
+      nodeCount = nodeCount ws;
+      taskCount = taskCount ws;
+      growth = growth ws;
+      laneCount = laneCount ws;
+    }
+
+-- The length is that of the sizes.
+abbrev pub Sized : Sizes → Type 0
+Sized z = z .length ≡ tableLength (z .nodeCount) (z .taskCount)
+
+-- What a table that passes 3 has.
+pub record WellSized (z : Sizes) : Type 0 where
+  pub one-lane : 1 ≤ z .laneCount
+  pub most-lanes : z .laneCount ≤ mostLanes
+  pub lanes-fit : 2 * z .laneCount ≤ z .nodeCount
+  pub most-nodes : z .nodeCount ≤ 1024
+  pub one-task : 1 ≤ z .taskCount
+  pub most-tasks : z .taskCount ≤ 16
+  pub most-growth : z .growth ≤ 64
+  pub sized : Sized z
 
 -- Every number below n passes a test.
 unfoldable pub allBelow : ℕ → (ℕ → Bool) → Bool

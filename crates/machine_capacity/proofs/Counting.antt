@@ -240,3 +240,15 @@ count-decides P p (suc n) yes-is no-is =
     true-or-false (p n)
     (λ e. rw (count-yes p n e) (one-more (yes-is n (omega arith) e) below))
     (λ e. rw (count-no p n e) (not-this (no-is n (omega arith) e) below))
+
+-- Numbers of which each is at least c, and one of them e more.
+pub total-at : (f : ℕ → ℕ) (c e ℓ n : ℕ) → ℓ < n → ((j : ℕ) → j < n → c ≤ f j) → c + e ≤ f ℓ → c * n + e ≤ total f n
+unfolding total
+total-at f c e ℓ zero h least more = absurd (omega arith)
+total-at f c e ℓ (suc n) h least more =
+    elim (equal? ℓ n) [
+      | inl q ↦
+          let own : c + e ≤ f n = subst (λ (j : ℕ). c + e ≤ f j) q more in
+          omega (arith, total-le (λ j. c) f n (λ j l. least j (omega arith)), total-const c n)
+      | inr ne ↦ omega (arith, total-at f c e ℓ n (omega arith) (λ j l. least j (omega arith)) more, least n (omega arith))
+    ]

@@ -9,15 +9,25 @@ use lib.ListN.{replicate, length-replicate}
 use Rattle.machine.specs.declared.Answer.{Answer}
 use Rattle.machine.specs.declared.Answer.the-variants.{Pushed, Full}
 use Rattle.machine.specs.declared.Reply.the-variants.{Accepted}
-use Rattle.machine.specs.Sides.{Side, sideNumber}
+use Rattle.machine.specs.Sides.{Side, left, right, sideNumber}
 use Rattle.machine.specs.Values.{stored, bagOk}
 use Rattle.machine.specs.Operations.{push, operationNumber}
 use Rattle.machine.specs.Table.{nodeCount, growth, laneCount}
 use Rattle.machine.specs.Calls.{isIdle, begin}
 use Rattle.machine.specs.Begun.{Begun}
 use Rattle.machine.specs.Twice.{allBags, SeenIn}
-use Rattle.machine_capacity.specs.NoLeak.{Idle, IdleTable, AllCounted}
-use Rattle.machine_capacity.specs.Capacity.{PushAlone, NeverFull, FilledFrom, is-full, one-more, FillsUp}
+use Rattle.machine_capacity.specs.NoLeak.{Idle, laneSize, IdleTable, AllCounted}
+use Rattle.machine_capacity.specs.Capacity.{
+  PushAlone,
+  NeverFull,
+  FilledFrom,
+  is-full,
+  one-more,
+  FillsUp,
+  PushedTo,
+  one-pushed,
+  ComeToAnEnd,
+}
 use Rattle.machine_capacity.specs.Alone.{CallOutcome, spareOf, spurOf, LeavesIdle, aloneAt}
 use Rattle.machine.proofs.Basics.Contradiction.{clash, refute}
 use Rattle.machine.proofs.Words.ValueLaws.{number-stored, bag-ok}
@@ -26,6 +36,7 @@ use Rattle.machine.proofs.Linearizability.Calls.Agreement.{all-lanes-are-rows}
 use Rattle.machine.proofs.Linearizability.Corollaries.{begun-agrees}
 use Rattle.machine.proofs.Linearizability.Begun.TableBegun.{accepted-begin}
 use Rattle.machine.proofs.Linearizability.Twice.Begins.{noted-busy, begins-new}
+use Rattle.machine_capacity.proofs.Counting.{total-at}
 use Rattle.machine_capacity.proofs.Theorem.{no-leak}
 use Rattle.machine_capacity.proofs.Alone.Ends.{spur-by-hat, idle-end}
 use Rattle.machine_capacity.proofs.Alone.Outcomes as Outcomes
@@ -205,3 +216,45 @@ fills-with (suc d) B idle-now ℓ is-lane s e =
 
 pub fills-up : FillsUp
 fills-up ws B idle-now ℓ is-lane s = fills-with (roomOf B idle-now ℓ s) B idle-now ℓ is-lane s refl
+
+-- ---- Every chain of pushes: each that is "pushed" takes one of the room that there is.
+within-room : (n : ℕ) {ws vs : List ℕ} (B : Begun ws) (idle-now : Idle ws) (ℓ : ℕ) (s : Side) → PushedTo ℓ s vs n ws
+    → n ≤ roomOf B idle-now ℓ s
+within-room zero B idle-now ℓ s P = omega arith
+within-room (suc n) B idle-now ℓ s (one-pushed P more) =
+    let D = push-done B idle-now P in
+    let rest = within-room n (D .left-idle .begun) (D .left-idle .idle-now) ℓ s more in
+    elim (D .by-room) [
+      | no-room m m' full k ↦ clash (cc (D .answers))
+      | Outcomes.one-more r m m' pushed k ↦
+          let then = room-then B idle-now D in
+          omega arith
+    ]
+
+-- The other end of the lane and both ends of every other have a spare node.
+most-room : {ws : List ℕ} (B : Begun ws) (idle-now : Idle ws) (ℓ : ℕ) → ℓ < laneCount ws → (s : Side)
+    → roomOf B idle-now ℓ s + 2 * laneCount ws ≤ nodeCount ws
+most-room {ws} B idle-now ℓ h s =
+    let I = tableOf B idle-now .shape ℓ in
+    let two = total-at (λ j. laneSize (tableOf B idle-now .shape j)) 2 (spareOf s I + spurOf s I - 1) ℓ (laneCount ws) h
+    (λ j l. two-spare j l) (by-side s) in
+    let one = some-spare B idle-now ℓ h s in
+    omega (arith, countOf B idle-now .all-counted)
+  where
+    two-spare : (j : ℕ) → j < laneCount ws → 2 ≤ laneSize (tableOf B idle-now .shape j)
+    two-spare j l = omega (arith, some-spare B idle-now j l left, some-spare B idle-now j l right)
+
+    by-side : (z : Side)
+        → 2 + (spareOf z (tableOf B idle-now .shape ℓ) + spurOf z (tableOf B idle-now .shape ℓ) - 1)
+        ≤ laneSize (tableOf B idle-now .shape ℓ)
+    by-side left = omega (arith, some-spare B idle-now ℓ h left, some-spare B idle-now ℓ h right)
+    by-side right = omega (arith, some-spare B idle-now ℓ h left, some-spare B idle-now ℓ h right)
+
+pub come-to-an-end : ComeToAnEnd
+come-to-an-end ws vs B idle-now ℓ s zero P =
+    let fit = well-sized ws (begun-agrees B .1 .accepted .length-passes) .lanes-fit in omega arith
+come-to-an-end ws vs B idle-now ℓ s (suc n) P =
+    omega (arith, within-room (suc n) B idle-now ℓ s P, most-room B idle-now ℓ (is-lane P) s)
+  where
+    is-lane : PushedTo ℓ s vs (suc n) ws → ℓ < laneCount ws
+    is-lane (one-pushed Q more) = push-done B idle-now Q .is-lane

@@ -75,6 +75,25 @@ FillsUp =
     → (s : Side)
     → (vs : List ℕ) × FilledFrom ℓ s vs ws
 
+-- And so does every chain of them: where n pushes, one after another and each of them "pushed", lead from ws to vs, n is
+-- at most S less two for each lane. (How many are "pushed", exactly, is `Room.RoomRule`.)
+pub data PushedTo (ℓ : ℕ) (s : Side) (vs : List ℕ) : (n : ℕ) (ws : List ℕ) → Type 0 where
+  none-pushed : PushedTo ℓ s vs 0 vs
+  one-pushed :
+      {n : ℕ} {ws us : List ℕ}
+      → PushAlone ℓ s Pushed ws us
+      → PushedTo ℓ s vs n us
+      → PushedTo ℓ s vs (suc n) ws
+
+abbrev pub ComeToAnEnd : Type 0
+ComeToAnEnd =
+    (ws vs : List ℕ)
+    → Begun ws
+    → Idle ws
+    → (ℓ : ℕ) (s : Side) (n : ℕ)
+    → PushedTo ℓ s vs n ws
+    → n + 2 * laneCount ws ≤ nodeCount ws
+
 -- ---- Ends of lanes so filled, one after another.
 abbrev pub End : Type 0
 End = ℕ × Side

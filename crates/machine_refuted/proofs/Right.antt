@@ -22,7 +22,6 @@ use Rattle.machine.specs.Calls.{
   ticks,
   dispatchTo,
   dispatchOn,
-  Dispatched,
   dispatch,
   dispatches,
   wentOn,
@@ -34,21 +33,19 @@ use Rattle.machine.specs.Calls.{
   run,
   panel,
 }
-use Rattle.machine.specs.Demand3.{
-  Call,
-  start-call,
-  begin-call,
-  tick-call,
-  ticks-call,
-  dispatch-call,
-  dispatches-call,
-  run-call,
-  panel-call,
-  read-call,
-  given,
-  after,
-}
+use Rattle.machine.specs.Demand3.{given, after}
 use Rattle.machine_refuted.specs.Machines.{
+  Act,
+  start-act,
+  begin-act,
+  tick-act,
+  ticks-act,
+  dispatch-act,
+  dispatches-act,
+  run-act,
+  panel-act,
+  read-act,
+  callOf,
   Ticks,
   beginBy,
   tickOnBy,
@@ -166,24 +163,24 @@ module _ (ws list answers : List ℕ) where
   same-panel = same-tested (panelRefusal ws list answers)
 
 -- Every call gives back the same and leaves the same table.
-pub right-gives : (c : Call) (ws : List ℕ) → givenBy rightMachine c ws ≡ given c ws
-right-gives (start-call S T g lanes) ws = refl
-right-gives (begin-call k l op side argument) ws = ap (λ c. c .reply) (same-begin ws k l op side argument)
-right-gives (tick-call k h) ws = ap (λ one. one .answer) (same-tick ws k h)
-right-gives (ticks-call k h times) ws = ap (λ one. one .answer) (same-ticks times ws k h)
-right-gives (dispatch-call h) ws = ap (λ d. d .answer) (same-dispatch ws h)
-right-gives (dispatches-call h times) ws = ap (λ r. (r .last .answer, r .wentOn)) (same-dispatches times ws h)
-right-gives (run-call list answers) ws = ap (λ r. (r .ran, r .answers)) (same-run ws list answers)
-right-gives (panel-call list answers) ws = ap (λ r. (r .ran, r .answers)) (same-panel ws list answers)
-right-gives (read-call l out) ws = refl
+pub right-gives : (a : Act) (ws : List ℕ) → givenBy rightMachine a ws ≡ given (callOf a) ws
+right-gives (start-act S T g lanes) ws = refl
+right-gives (begin-act k l op side argument) ws = ap (λ c. c .reply) (same-begin ws k l op side argument)
+right-gives (tick-act k h) ws = ap (λ one. one .answer) (same-tick ws k h)
+right-gives (ticks-act k h times) ws = ap (λ one. one .answer) (same-ticks times ws k h)
+right-gives (dispatch-act h) ws = ap (λ d. d .answer) (same-dispatch ws h)
+right-gives (dispatches-act h times) ws = ap (λ r. (r .last .answer, r .wentOn)) (same-dispatches times ws h)
+right-gives (run-act list answers) ws = ap (λ r. (r .ran, r .answers)) (same-run ws list answers)
+right-gives (panel-act list answers) ws = ap (λ r. (r .ran, r .answers)) (same-panel ws list answers)
+right-gives (read-act l out) ws = refl
 
-pub right-leaves : (c : Call) (ws : List ℕ) → afterBy rightMachine c ws ≡ after c ws
-right-leaves (start-call S T g lanes) ws = refl
-right-leaves (begin-call k l op side argument) ws = ap (λ c. c .words) (same-begin ws k l op side argument)
-right-leaves (tick-call k h) ws = ap (λ one. one .words) (same-tick ws k h)
-right-leaves (ticks-call k h times) ws = ap (λ one. one .words) (same-ticks times ws k h)
-right-leaves (dispatch-call h) ws = ap (λ d. d .words) (same-dispatch ws h)
-right-leaves (dispatches-call h times) ws = ap (λ r. r .last .words) (same-dispatches times ws h)
-right-leaves (run-call list answers) ws = ap (λ r. r .words) (same-run ws list answers)
-right-leaves (panel-call list answers) ws = ap (λ r. r .words) (same-panel ws list answers)
-right-leaves (read-call l out) ws = refl
+pub right-leaves : (a : Act) (ws : List ℕ) → afterBy rightMachine a ws ≡ after (callOf a) ws
+right-leaves (start-act S T g lanes) ws = refl
+right-leaves (begin-act k l op side argument) ws = ap (λ c. c .words) (same-begin ws k l op side argument)
+right-leaves (tick-act k h) ws = ap (λ one. one .words) (same-tick ws k h)
+right-leaves (ticks-act k h times) ws = ap (λ one. one .words) (same-ticks times ws k h)
+right-leaves (dispatch-act h) ws = ap (λ d. d .words) (same-dispatch ws h)
+right-leaves (dispatches-act h times) ws = ap (λ r. r .last .words) (same-dispatches times ws h)
+right-leaves (run-act list answers) ws = ap (λ r. r .words) (same-run ws list answers)
+right-leaves (panel-act list answers) ws = ap (λ r. r .words) (same-panel ws list answers)
+right-leaves (read-act l out) ws = refl

@@ -1,7 +1,7 @@
 -- On every list of calls, from a table that start left, the right machine passes: by the row as by the definitions.
 use mathlib.Core.Path.{_≡_, refl, ap, sym, _∙_, subst}
 use mathlib.Core.Bool.{Bool, true, false, _&&_}
-use mathlib.Core.List.{List, [], _∷_}
+use mathlib.Core.List.{List, [], _∷_, map}
 use mathlib.Core.Option.{Option, some, none as nothing}
 use Prim.Native.Nat.{ℕ, zero, suc}
 use lib.ListN.{getD}
@@ -25,15 +25,6 @@ use Rattle.machine.specs.Calls.{Ticked, start, RunDone, run, panel}
 use Rattle.machine.specs.Row.{Row, emptyRow, feedMade, feedRun}
 use Rattle.machine.specs.Demand3.{
   Call,
-  start-call,
-  begin-call,
-  tick-call,
-  ticks-call,
-  dispatch-call,
-  dispatches-call,
-  run-call,
-  panel-call,
-  read-call,
   Given,
   given,
   after,
@@ -52,8 +43,25 @@ use Rattle.machine.proofs.Basics.Contradiction.{clash}
 use Rattle.machine.proofs.Shape.ShapeLaws.{all-below}
 use Rattle.machine.proofs.Words.RecordLaws.{same-words-refl}
 use Rattle.machine.proofs.Linearizability.Theorem.{demand3}
-use Rattle.machine.proofs.Linearizability.Histories.{bound}
-use Rattle.machine_refuted.specs.Machines.{rightMachine, DispatchedMany, tablesBy, givenBy, afterBy}
+use Rattle.machine.proofs.Linearizability.Calls.RowDid.{bound}
+use Rattle.machine_refuted.specs.Machines.{
+  Act,
+  start-act,
+  begin-act,
+  tick-act,
+  ticks-act,
+  dispatch-act,
+  dispatches-act,
+  run-act,
+  panel-act,
+  read-act,
+  callOf,
+  rightMachine,
+  DispatchedMany,
+  tablesBy,
+  givenBy,
+  afterBy,
+}
 use Rattle.machine_refuted.specs.Judged.{
   Verdict,
   passes,
@@ -140,20 +148,20 @@ within-dispatches h times ws ρ W =
     same-lanes _ (w .0) (subst (λ (r : DispatchedMany). LanesAre (r .last .words) (w .0)) (sym same) (w .2))
     (ap (λ (r : DispatchedMany). feedDispatches ρ i (r .wentOn) (r .last .answer)) same ∙ w .1))
 
-within-same : (c : Call) (ws : List ℕ) (ρ : Row) → Within c ws ρ → sameWithin rightMachine c ws ρ ≡ true
-within-same (run-call list answers) ws ρ W =
+within-same : (a : Act) (ws : List ℕ) (ρ : Row) → Within (callOf a) ws ρ → sameWithin rightMachine a ws ρ ≡ true
+within-same (run-act list answers) ws ρ W =
     ap (λ (r : RunDone). sameWithinList rightMachine list ws ρ r) (same-run ws list answers)
     ∙ within-list list ws ρ (run ws list answers) W
-within-same (panel-call list answers) ws ρ W =
+within-same (panel-act list answers) ws ρ W =
     ap (λ (r : RunDone). sameWithinList rightMachine list ws ρ r) (same-panel ws list answers)
     ∙ within-list list ws ρ (panel ws list answers) W
-within-same (ticks-call k h times) ws ρ W = within-ticks k h times ws ρ W
-within-same (dispatches-call h times) ws ρ W = within-dispatches h times ws ρ W
-within-same (start-call S T g lanes) ws ρ W = refl
-within-same (begin-call k l op side argument) ws ρ W = refl
-within-same (tick-call k h) ws ρ W = refl
-within-same (dispatch-call h) ws ρ W = refl
-within-same (read-call l out) ws ρ W = refl
+within-same (ticks-act k h times) ws ρ W = within-ticks k h times ws ρ W
+within-same (dispatches-act h times) ws ρ W = within-dispatches h times ws ρ W
+within-same (start-act S T g lanes) ws ρ W = refl
+within-same (begin-act k l op side argument) ws ρ W = refl
+within-same (tick-act k h) ws ρ W = refl
+within-same (dispatch-act h) ws ρ W = refl
+within-same (read-act l out) ws ρ W = refl
 
 explained-lane : (cs : List Call) (ws : List ℕ) (ρ : Row) → Explained cs ws ρ → LanesAre ws ρ
 explained-lane [] ws ρ E = E
@@ -175,28 +183,28 @@ row-passes : (n : ℕ) (fed : Option Row) (same : Row → Bool) (others : Row �
 unfolding row-judges
 row-passes n fed same others ρ′ f s on = rw f (rw (s, row-judges) on)
 
-explained-passes : (cs : List Call) (n : ℕ) (ws : List ℕ) (ρ : Row)
-    → Explained cs ws ρ → byRow rightMachine (madeBy rightMachine cs ws) n ρ ≡ passes
+explained-passes : (bs : List Act) (n : ℕ) (ws : List ℕ) (ρ : Row)
+    → Explained (map callOf bs) ws ρ → byRow rightMachine (madeBy rightMachine bs ws) n ρ ≡ passes
 unfolding byRow madeBy row-judges
 explained-passes [] n ws ρ E = refl
-explained-passes (c ∷ cs) n ws ρ E =
+explained-passes (a ∷ bs) n ws ρ E =
     let F = E .2 in
-    let fed : feed ρ c (givenBy rightMachine c ws) ≡ some (F .0) =
-    ap (λ (r : Given c). feed ρ c r) (right-gives c ws) ∙ F .1 in
-    let vs = afterBy rightMachine c ws in
-    let others : Explained cs vs (F .0) =
-    subst (λ (us : List ℕ). Explained cs us (F .0)) (sym (right-leaves c ws)) (F .2) in
-    row-passes n (feed ρ c (givenBy rightMachine c ws))
-    (λ ρ′. sameWithin rightMachine c ws ρ && sameLanes vs (some ρ′))
-    (λ ρ′. byRow rightMachine (madeBy rightMachine cs vs) (suc n) ρ′)
+    let fed : feed ρ (callOf a) (givenBy rightMachine a ws) ≡ some (F .0) =
+    ap (λ (r : Given (callOf a)). feed ρ (callOf a) r) (right-gives a ws) ∙ F .1 in
+    let vs = afterBy rightMachine a ws in
+    let others : Explained (map callOf bs) vs (F .0) =
+    subst (λ (us : List ℕ). Explained (map callOf bs) us (F .0)) (sym (right-leaves a ws)) (F .2) in
+    row-passes n (feed ρ (callOf a) (givenBy rightMachine a ws))
+    (λ ρ′. sameWithin rightMachine a ws ρ && sameLanes vs (some ρ′))
+    (λ ρ′. byRow rightMachine (madeBy rightMachine bs vs) (suc n) ρ′)
     (F .0) fed
-    (rw (within-same c ws ρ (E .1)) (same-lanes vs (F .0) (explained-lane cs vs (F .0) others) refl))
-    (explained-passes cs (suc n) vs (F .0) others)
+    (rw (within-same a ws ρ (E .1)) (same-lanes vs (F .0) (explained-lane (map callOf bs) vs (F .0) others) refl))
+    (explained-passes bs (suc n) vs (F .0) others)
 
-pub right-passes-row : (S T g lanes : ℕ) (old : List ℕ) → start old S T g lanes .reply ≡ Accepted → (cs : List Call)
-    → byRow rightMachine (madeBy rightMachine cs (start old S T g lanes .words)) 1 (emptyRow T lanes) ≡ passes
-right-passes-row S T g lanes old accepted cs =
-    explained-passes cs 1 _ (emptyRow T lanes) (demand3 S T g lanes old accepted cs)
+pub right-passes-row : (S T g lanes : ℕ) (old : List ℕ) → start old S T g lanes .reply ≡ Accepted → (bs : List Act)
+    → byRow rightMachine (madeBy rightMachine bs (start old S T g lanes .words)) 1 (emptyRow T lanes) ≡ passes
+right-passes-row S T g lanes old accepted bs =
+    explained-passes bs 1 _ (emptyRow T lanes) (demand3 S T g lanes old accepted (map callOf bs))
 
 -- ---- By the definitions, on any table.
 same-reading : (r : Reading) → sameReading r r ≡ true
@@ -211,16 +219,16 @@ same-turn d =
     rw (eq-eqb (dispatchKindOf d) (dispatchKindOf d) refl)
     (eq-eqb (dispatchPayloadOf d) (dispatchPayloadOf d) refl)
 
-same-given : (c : Call) (r : Given c) → sameGiven c r r ≡ true
-same-given (start-call S T g lanes) r = eq-eqb (replyNumber r) (replyNumber r) refl
-same-given (begin-call k l op side argument) r = eq-eqb (replyNumber r) (replyNumber r) refl
-same-given (tick-call k h) r = rw (eq-eqb (kindOf r) (kindOf r) refl) (eq-eqb (payloadOf r) (payloadOf r) refl)
-same-given (ticks-call k h times) r = rw (eq-eqb (kindOf r) (kindOf r) refl) (eq-eqb (payloadOf r) (payloadOf r) refl)
-same-given (dispatch-call h) r = same-turn r
-same-given (dispatches-call h times) r = rw (same-turn (r .0)) (eq-eqb (r .1) (r .1) refl)
-same-given (run-call list answers) r = same-ran (r .0) (r .1)
-same-given (panel-call list answers) r = same-ran (r .0) (r .1)
-same-given (read-call l out) r = rw (same-reading (r .0)) (same-words-refl (r .1))
+same-given : (a : Act) (r : Given (callOf a)) → sameGiven a r r ≡ true
+same-given (start-act S T g lanes) r = eq-eqb (replyNumber r) (replyNumber r) refl
+same-given (begin-act k l op side argument) r = eq-eqb (replyNumber r) (replyNumber r) refl
+same-given (tick-act k h) r = rw (eq-eqb (kindOf r) (kindOf r) refl) (eq-eqb (payloadOf r) (payloadOf r) refl)
+same-given (ticks-act k h times) r = rw (eq-eqb (kindOf r) (kindOf r) refl) (eq-eqb (payloadOf r) (payloadOf r) refl)
+same-given (dispatch-act h) r = same-turn r
+same-given (dispatches-act h times) r = rw (same-turn (r .0)) (eq-eqb (r .1) (r .1) refl)
+same-given (run-act list answers) r = same-ran (r .0) (r .1)
+same-given (panel-act list answers) r = same-ran (r .0) (r .1)
+same-given (read-act l out) r = rw (same-reading (r .0)) (same-words-refl (r .1))
 
 -- What the definitions make of one call.
 definitions-judge : (number : ℕ) → (gives leaves : Bool) → (others : Verdict) → Verdict
@@ -238,13 +246,13 @@ definitions-pass : (n : ℕ) (gives leaves : Bool) (others : Verdict)
 unfolding definitions-judge
 definitions-pass n gives leaves others g l on = rw (g, l) on
 
-pub right-passes-definitions : (cs : List Call) (n : ℕ) (ws : List ℕ)
-    → byDefinitions (madeBy rightMachine cs ws) n ≡ passes
+pub right-passes-definitions : (bs : List Act) (n : ℕ) (ws : List ℕ)
+    → byDefinitions (madeBy rightMachine bs ws) n ≡ passes
 unfolding byDefinitions madeBy definitions-judge
 right-passes-definitions [] n ws = refl
-right-passes-definitions (c ∷ cs) n ws =
-    let gives : sameGiven c (givenBy rightMachine c ws) (given c ws) ≡ true =
-    rw (right-gives c ws) (same-given c (given c ws)) in
-    let leaves : sameWords (afterBy rightMachine c ws) (after c ws) ≡ true =
-    rw (right-leaves c ws) (same-words-refl (after c ws)) in
-    definitions-pass n _ _ _ gives leaves (right-passes-definitions cs (suc n) (afterBy rightMachine c ws))
+right-passes-definitions (a ∷ bs) n ws =
+    let gives : sameGiven a (givenBy rightMachine a ws) (given (callOf a) ws) ≡ true =
+    rw (right-gives a ws) (same-given a (given (callOf a) ws)) in
+    let leaves : sameWords (afterBy rightMachine a ws) (after (callOf a) ws) ≡ true =
+    rw (right-leaves a ws) (same-words-refl (after (callOf a) ws)) in
+    definitions-pass n _ _ _ gives leaves (right-passes-definitions bs (suc n) (afterBy rightMachine a ws))

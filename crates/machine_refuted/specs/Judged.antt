@@ -16,25 +16,19 @@ use Rattle.machine.specs.Answers.{replyNumber, kindOf, payloadOf, dispatchKindO
 use Rattle.machine.specs.Allocate.{Marking}
 use Rattle.machine.specs.Calls.{RunDone, lane}
 use Rattle.machine.specs.Row.{Row, feedRun}
-use Rattle.machine.specs.Demand3.{
-  Call,
-  start-call,
-  begin-call,
-  tick-call,
-  ticks-call,
-  dispatch-call,
-  dispatches-call,
-  run-call,
-  panel-call,
-  read-call,
-  Given,
-  given,
-  after,
-  feedTicks,
-  feedDispatches,
-  feed,
-}
+use Rattle.machine.specs.Demand3.{Given, given, after, feedTicks, feedDispatches, feed}
 use Rattle.machine_refuted.specs.Machines.{
+  Act,
+  start-act,
+  begin-act,
+  tick-act,
+  ticks-act,
+  dispatch-act,
+  dispatches-act,
+  run-act,
+  panel-act,
+  read-act,
+  callOf,
   Machine,
   ticksBy,
   dispatchBy,
@@ -56,16 +50,16 @@ pub data Verdict : Type 0 where
 
 -- A call as a machine made it: the table before, what it gave back, and the table as it left it.
 pub record Made : Type 0 where
-  pub call : Call
+  pub act : Act
   pub before : List ℕ
-  pub gave : Given call
+  pub gave : Given (callOf act)
   pub left : List ℕ
 
 -- Calls that a machine makes one after another. Both judges read one such list, so that its ticks are computed once.
-unfoldable pub madeBy : Machine → List Call → List ℕ → List Made
+unfoldable pub madeBy : Machine → List Act → List ℕ → List Made
 madeBy M [] ws = []
 madeBy M (c ∷ cs) ws =
-    record { call = c; before = ws; gave = givenBy M c ws; left = afterBy M c ws } ∷ madeBy M cs (afterBy M c ws)
+    record { act = c; before = ws; gave = givenBy M c ws; left = afterBy M c ws } ∷ madeBy M cs (afterBy M c ws)
 
 -- ---- Demand 3, as Demand3.Explained says it.
 abbrev pub sameBags : Option (List ℕ) → List ℕ → Bool
@@ -93,24 +87,24 @@ sameWithinDispatches M h times ws ρ =
     let r = dispatchesBy M i ws h in
     sameLanes (r .last .words) (feedDispatches ρ i (r .wentOn) (r .last .answer)))
 
-abbrev pub sameWithin : Machine → (c : Call) → List ℕ → Row → Bool
-sameWithin M (run-call list answers) ws ρ = sameWithinList M list ws ρ (runBy M ws list answers)
-sameWithin M (panel-call list answers) ws ρ = sameWithinList M list ws ρ (panelBy M ws list answers)
-sameWithin M (ticks-call k h times) ws ρ = sameWithinTicks M k h times ws ρ
-sameWithin M (dispatches-call h times) ws ρ = sameWithinDispatches M h times ws ρ
-sameWithin M (start-call S T g lanes) ws ρ = true
-sameWithin M (begin-call k l op side argument) ws ρ = true
-sameWithin M (tick-call k h) ws ρ = true
-sameWithin M (dispatch-call h) ws ρ = true
-sameWithin M (read-call l out) ws ρ = true
+abbrev pub sameWithin : Machine → (a : Act) → List ℕ → Row → Bool
+sameWithin M (run-act list answers) ws ρ = sameWithinList M list ws ρ (runBy M ws list answers)
+sameWithin M (panel-act list answers) ws ρ = sameWithinList M list ws ρ (panelBy M ws list answers)
+sameWithin M (ticks-act k h times) ws ρ = sameWithinTicks M k h times ws ρ
+sameWithin M (dispatches-act h times) ws ρ = sameWithinDispatches M h times ws ρ
+sameWithin M (start-act S T g lanes) ws ρ = true
+sameWithin M (begin-act k l op side argument) ws ρ = true
+sameWithin M (tick-act k h) ws ρ = true
+sameWithin M (dispatch-act h) ws ρ = true
+sameWithin M (read-act l out) ws ρ = true
 
 unfoldable pub byRow : Machine → List Made → (number : ℕ) → Row → Verdict
 byRow M [] n ρ = passes
 byRow M (m ∷ ms) n ρ =
-    elim (feed ρ (m .call) (m .gave)) as (λ _. Verdict) [
+    elim (feed ρ (callOf (m .act)) (m .gave)) as (λ _. Verdict) [
       | nothing ↦ not-the-row's-answer n
       | some ρ′ ↦
-          elim (sameWithin M (m .call) (m .before) ρ && sameLanes (m .left) (some ρ′)) as (λ _. Verdict) [
+          elim (sameWithin M (m .act) (m .before) ρ && sameLanes (m .left) (some ρ′)) as (λ _. Verdict) [
             | true ↦ byRow M ms (suc n) ρ′
             | false ↦ lane-is-not-the-row n
           ]
@@ -133,24 +127,24 @@ sameReading (Count n) (Reading-Refused m) = false
 sameReading (Reading-Refused n) (Count m) = false
 sameReading (Reading-Refused n) (Reading-Refused m) = eqb n m
 
-abbrev pub sameGiven : (c : Call) → Given c → Given c → Bool
-sameGiven (start-call S T g lanes) r q = eqb (replyNumber r) (replyNumber q)
-sameGiven (begin-call k l op side argument) r q = eqb (replyNumber r) (replyNumber q)
-sameGiven (tick-call k h) r q = sameAnswer r q
-sameGiven (ticks-call k h times) r q = sameAnswer r q
-sameGiven (dispatch-call h) r q = sameDispatch r q
-sameGiven (dispatches-call h times) r q = sameDispatch (r .0) (q .0) && eqb (r .1) (q .1)
-sameGiven (run-call list answers) r q = sameRan (r .0) (q .0) && sameWords (r .1) (q .1)
-sameGiven (panel-call list answers) r q = sameRan (r .0) (q .0) && sameWords (r .1) (q .1)
-sameGiven (read-call l out) r q = sameReading (r .0) (q .0) && sameWords (r .1) (q .1)
+abbrev pub sameGiven : (a : Act) → Given (callOf a) → Given (callOf a) → Bool
+sameGiven (start-act S T g lanes) r q = eqb (replyNumber r) (replyNumber q)
+sameGiven (begin-act k l op side argument) r q = eqb (replyNumber r) (replyNumber q)
+sameGiven (tick-act k h) r q = sameAnswer r q
+sameGiven (ticks-act k h times) r q = sameAnswer r q
+sameGiven (dispatch-act h) r q = sameDispatch r q
+sameGiven (dispatches-act h times) r q = sameDispatch (r .0) (q .0) && eqb (r .1) (q .1)
+sameGiven (run-act list answers) r q = sameRan (r .0) (q .0) && sameWords (r .1) (q .1)
+sameGiven (panel-act list answers) r q = sameRan (r .0) (q .0) && sameWords (r .1) (q .1)
+sameGiven (read-act l out) r q = sameReading (r .0) (q .0) && sameWords (r .1) (q .1)
 
 unfoldable pub byDefinitions : List Made → (number : ℕ) → Verdict
 byDefinitions [] n = passes
 byDefinitions (m ∷ ms) n =
-    elim (sameGiven (m .call) (m .gave) (given (m .call) (m .before))) as (λ _. Verdict) [
+    elim (sameGiven (m .act) (m .gave) (given (callOf (m .act)) (m .before))) as (λ _. Verdict) [
       | false ↦ other-answer n
       | true ↦
-          elim (sameWords (m .left) (after (m .call) (m .before))) as (λ _. Verdict) [
+          elim (sameWords (m .left) (after (callOf (m .act)) (m .before))) as (λ _. Verdict) [
             | true ↦ byDefinitions ms (suc n)
             | false ↦ other-table n
           ]
@@ -159,7 +153,7 @@ byDefinitions (m ∷ ms) n =
 -- ---- Beyond the two demands.
 
 -- The table after calls, whatever they give back.
-unfoldable pub afterAllBy : Machine → List Call → List ℕ → List ℕ
+unfoldable pub afterAllBy : Machine → List Act → List ℕ → List ℕ
 afterAllBy M [] ws = ws
 afterAllBy M (c ∷ cs) ws = afterAllBy M cs (afterBy M c ws)
 

@@ -12,19 +12,20 @@ use Rattle.machine.specs.Table.{tableLength}
 use Rattle.machine.specs.Allocate.{marked}
 use Rattle.machine.specs.Calls.{isBegun, lane, allLanes, times, start}
 use Rattle.machine.specs.Row.{emptyRow}
-use Rattle.machine.specs.Demand3.{
-  Call,
-  start-call,
-  begin-call,
-  tick-call,
-  ticks-call,
-  dispatch-call,
-  dispatches-call,
-  run-call,
-  panel-call,
-  read-call,
+use Rattle.machine_refuted.specs.Machines.{
+  Act,
+  start-act,
+  begin-act,
+  tick-act,
+  ticks-act,
+  dispatch-act,
+  dispatches-act,
+  run-act,
+  panel-act,
+  read-act,
+  Machine,
+  rightMachine,
 }
-use Rattle.machine_refuted.specs.Machines.{Machine, rightMachine}
 use Rattle.machine_refuted.specs.Wrong.{
   wholeInFirstTick,
   goingForever,
@@ -127,75 +128,75 @@ pub record Entry : Type 0 where
   pub S : ℕ
   pub T : ℕ
   pub lanes : ℕ
-  pub calls : List Call
+  pub calls : List Act
   pub row-says : Verdict
   pub definitions-say : Verdict
 
 -- A begin on a side of a lane.
-abbrev pub beginsOn : (lane k : ℕ) → Operation → Side → ℕ → List Call
-beginsOn l k op s argument = begin-call k l (operationNumber op) (sideNumber s) (stored argument) ∷ []
+abbrev pub beginsOn : (lane k : ℕ) → Operation → Side → ℕ → List Act
+beginsOn l k op s argument = begin-act k l (operationNumber op) (sideNumber s) (stored argument) ∷ []
 
 -- A begin on a side of lane 0, and n ticks of a task with a hint.
-abbrev pub begins : ℕ → Operation → Side → ℕ → List Call
+abbrev pub begins : ℕ → Operation → Side → ℕ → List Act
 begins k op s argument = beginsOn 0 k op s argument
 
-abbrev pub ticks : (n k hint : ℕ) → List Call
-ticks n k h = replicate n (tick-call k h)
+abbrev pub ticks : (n k hint : ℕ) → List Act
+ticks n k h = replicate n (tick-act k h)
 
 -- A right add or remove of task 0, or of another, with hints 0, that ends in n ticks.
-abbrev pub wholly : (n k : ℕ) → Operation → ℕ → List Call
+abbrev pub wholly : (n k : ℕ) → Operation → ℕ → List Act
 wholly n k op argument = begins k op right argument ++ ticks n k 0
 
 -- Two nodes are added and given back.
-abbrev pub addedAndRemoved : List Call
+abbrev pub addedAndRemoved : List Act
 addedAndRemoved = wholly 6 0 add 1 ++ wholly 10 0 remove 0
 
 -- The same, while a push of task 1 stalls at 5 with one of the two, node 3, in B.
-abbrev pub removedFromPush : List Call
+abbrev pub removedFromPush : List Act
 removedFromPush = wholly 6 0 add 1 ++ wholly 2 1 push 51 ++ wholly 10 0 remove 0
 
 -- Case 5: an add makes the lane end at node 2, and the push moves the hat to the spur, node 3.
-abbrev pub hatToSpur : List Call
+abbrev pub hatToSpur : List Act
 hatToSpur = removedFromPush ++ wholly 5 0 add 0 ++ ticks 1 1 0
 
 -- A remove stalls at 64 beside that push; after an add of task 2 the push moves the hat to the node cut off.
-abbrev pub hatToNodeCutOff : List Call
+abbrev pub hatToNodeCutOff : List Act
 hatToNodeCutOff =
     wholly 6 0 add 1 ++ wholly 2 1 push 51 ++ wholly 3 0 remove 0 ++ wholly 5 2 add 0 ++ ticks 1 1 0
 
 -- Of three spare nodes one remove is to leave two, and the other none: it stands at 78 when the first one cuts.
-abbrev pub twoRemoves : List Call
+abbrev pub twoRemoves : List Act
 twoRemoves = wholly 8 0 add 3 ++ wholly 6 1 remove 2 ++ wholly 6 0 remove 0 ++ ticks 1 1 0 ++ ticks 1 0 0
 
 -- Two nodes are added; two tasks are to push bag 51, both at once; and one task, twice.
-abbrev pub pushedAtOnce : List Call
+abbrev pub pushedAtOnce : List Act
 pushedAtOnce =
     wholly 6 0 add 1 ++ begins 0 push right 51 ++ begins 1 push right 51 ++ ticks 3 0 0 ++ ticks 3 1 0
 
-abbrev pub pushedAgain : List Call
+abbrev pub pushedAgain : List Act
 pushedAgain = wholly 6 0 add 1 ++ wholly 3 0 push 51 ++ wholly 3 0 push 51
 
 -- The same with three nodes, and bag 52 at the left end.
-abbrev pub pushedAgainBehind : List Call
+abbrev pub pushedAgainBehind : List Act
 pushedAgainBehind = wholly 7 0 add 2 ++ wholly 3 0 push 52 ++ wholly 3 0 push 51 ++ wholly 3 0 push 51
 
 -- A push of bag 51 at the right end of a lane, by task 0 or another; alone it takes eleven ticks.
-abbrev pub pushed51On : (lane k : ℕ) → List Call
+abbrev pub pushed51On : (lane k : ℕ) → List Act
 pushed51On l k = beginsOn l k push right 51 ++ ticks 11 k 0
 
 -- Bag 51 is pushed on lane 0, and then on lane 1; by two tasks, both at once.
-abbrev pub pushedInLanes : List Call
+abbrev pub pushedInLanes : List Act
 pushedInLanes = pushed51On 0 0 ++ pushed51On 1 0
 
-abbrev pub pushedInLanesAtOnce : List Call
+abbrev pub pushedInLanesAtOnce : List Act
 pushedInLanesAtOnce = begins 0 push right 51 ++ beginsOn 1 1 push right 51 ++ ticks 11 0 0 ++ ticks 11 1 0
 
 -- n dispatches with a hint.
-abbrev pub dispatchesOf : (n hint : ℕ) → List Call
-dispatchesOf n h = replicate n (dispatch-call h)
+abbrev pub dispatchesOf : (n hint : ℕ) → List Act
+dispatchesOf n h = replicate n (dispatch-act h)
 
 -- Task 0 is to push bag 51, and task 1's pop answers at its next tick.
-abbrev pub popAboutToAnswer : List Call
+abbrev pub popAboutToAnswer : List Act
 popAboutToAnswer = begins 0 push right 51 ++ begins 1 pop right 0 ++ ticks 3 1 0
 
 abbrev pub entries : List Entry
@@ -499,7 +500,7 @@ entries =
       S = 4;
       T = 1;
       lanes = 1;
-      calls = begins 0 push right 51 ++ (run-call (0 ∷ 0 ∷ 0 ∷ 4 ∷ []) (replicate 6 7) ∷ []);
+      calls = begins 0 push right 51 ++ (run-act (0 ∷ 0 ∷ 0 ∷ 4 ∷ []) (replicate 6 7) ∷ []);
       row-says = passes;
       definitions-say = other-answer 2;
     }
@@ -509,7 +510,7 @@ entries =
       S = 4;
       T = 1;
       lanes = 1;
-      calls = begins 0 pop right 0 ++ (ticks-call 0 0 2 ∷ ticks-call 0 0 0 ∷ []);
+      calls = begins 0 pop right 0 ++ (ticks-act 0 0 2 ∷ ticks-act 0 0 0 ∷ []);
       row-says = not-the-row's-answer 3;
       definitions-say = other-table 2;
     }
@@ -519,7 +520,7 @@ entries =
       S = 4;
       T = 1;
       lanes = 1;
-      calls = wholly 5 0 add 0 ++ begins 0 push right 51 ++ (ticks-call 0 0 4 ∷ []);
+      calls = wholly 5 0 add 0 ++ begins 0 push right 51 ++ (ticks-act 0 0 4 ∷ []);
       row-says = lane-is-not-the-row 8;
       definitions-say = other-answer 8;
     }
@@ -529,7 +530,7 @@ entries =
       S = 4;
       T = 1;
       lanes = 1;
-      calls = panel-call (replicate 66 0) [] ∷ [];
+      calls = panel-act (replicate 66 0) [] ∷ [];
       row-says = passes;
       definitions-say = other-answer 1;
     }
@@ -539,7 +540,7 @@ entries =
       S = 4;
       T = 1;
       lanes = 1;
-      calls = panel-call (replicate 65 0) (replicate 99 7) ∷ [];
+      calls = panel-act (replicate 65 0) (replicate 99 7) ∷ [];
       row-says = passes;
       definitions-say = other-answer 1;
     }
@@ -553,7 +554,7 @@ entries =
           begins 0 push right 51
           ++ begins 1 push right 52
           ++ begins 2 push right 53
-          ++ (panel-call (times 11 (0 ∷ 0 ∷ []) ++ times 11 (1 ∷ 0 ∷ []) ++ times 11 (2 ∷ 0 ∷ [])) (replicate 99 7)
+          ++ (panel-act (times 11 (0 ∷ 0 ∷ []) ++ times 11 (1 ∷ 0 ∷ []) ++ times 11 (2 ∷ 0 ∷ [])) (replicate 99 7)
           ∷ []);
       row-says = passes;
       definitions-say = other-answer 4;
@@ -667,7 +668,7 @@ entries =
       S = 4;
       T = 1;
       lanes = 1;
-      calls = wholly 11 0 push 1_000_000_051 ++ wholly 4 0 pop 0 ++ (read-call 0 [] ∷ []);
+      calls = wholly 11 0 push 1_000_000_051 ++ wholly 4 0 pop 0 ++ (read-act 0 [] ∷ []);
       row-says = not-the-row's-answer 18;
       definitions-say = other-table 17;
     }
@@ -696,7 +697,7 @@ entries =
       S = 4;
       T = 1;
       lanes = 1;
-      calls = begin-call 0 0 (operationNumber push) (sideNumber right) (storedOf 10 0) ∷ [];
+      calls = begin-act 0 0 (operationNumber push) (sideNumber right) (storedOf 10 0) ∷ [];
       row-says = not-the-row's-answer 1;
       definitions-say = other-answer 1;
     }
@@ -706,7 +707,7 @@ entries =
       S = 4;
       T = 1;
       lanes = 1;
-      calls = begin-call 7 0 5 9 (stored 0) ∷ [];
+      calls = begin-act 7 0 5 9 (stored 0) ∷ [];
       row-says = not-the-row's-answer 1;
       definitions-say = other-answer 1;
     }
@@ -719,7 +720,7 @@ entries =
       calls =
           wholly 11 0 push 1_000_000_051
           ++ begins 0 pop right 0
-          ++ (run-call (times 4 (0 ∷ 0 ∷ [])) (replicate 12 7) ∷ []);
+          ++ (run-act (times 4 (0 ∷ 0 ∷ [])) (replicate 12 7) ∷ []);
       row-says = not-the-row's-answer 14;
       definitions-say = other-answer 14;
     }
@@ -808,7 +809,7 @@ entries =
       S = 4;
       T = 1;
       lanes = 1;
-      calls = begins 0 pop right 0 ++ (dispatches-call 0 2 ∷ []);
+      calls = begins 0 pop right 0 ++ (dispatches-act 0 2 ∷ []);
       row-says = not-the-row's-answer 2;
       definitions-say = other-answer 2;
     }
@@ -818,7 +819,7 @@ entries =
       S = 4;
       T = 2;
       lanes = 1;
-      calls = begins 0 pop right 0 ++ begins 1 push right 51 ++ (dispatches-call 0 9 ∷ []);
+      calls = begins 0 pop right 0 ++ begins 1 push right 51 ++ (dispatches-act 0 9 ∷ []);
       row-says = not-the-row's-answer 3;
       definitions-say = other-answer 3;
     }
@@ -828,7 +829,7 @@ entries =
       S = 4;
       T = 1;
       lanes = 1;
-      calls = begins 0 pop right 0 ++ (dispatches-call 0 9 ∷ []);
+      calls = begins 0 pop right 0 ++ (dispatches-act 0 9 ∷ []);
       row-says = not-the-row's-answer 2;
       definitions-say = other-answer 2;
     }
@@ -838,7 +839,7 @@ entries =
       S = 4;
       T = 1;
       lanes = 1;
-      calls = dispatches-call 0 2 ∷ [];
+      calls = dispatches-act 0 2 ∷ [];
       row-says = not-the-row's-answer 1;
       definitions-say = other-answer 1;
     }
@@ -878,7 +879,7 @@ entries =
       S = 6;
       T = 1;
       lanes = 2;
-      calls = pushed51On 1 0 ++ (read-call 1 (replicate 2 7) ∷ []);
+      calls = pushed51On 1 0 ++ (read-act 1 (replicate 2 7) ∷ []);
       row-says = not-the-row's-answer 13;
       definitions-say = other-answer 13;
     }
@@ -887,7 +888,7 @@ entries =
       S = 6;
       T = 1;
       lanes = 2;
-      calls = read-call 2 [] ∷ [];
+      calls = read-act 2 [] ∷ [];
       row-says = not-the-row's-answer 1;
       definitions-say = other-answer 1;
     }
@@ -935,7 +936,7 @@ entries =
       S = 10;
       T = 1;
       lanes = 1;
-      calls = start-call 10 1 65 5 ∷ [];
+      calls = start-act 10 1 65 5 ∷ [];
       row-says = passes;
       definitions-say = other-answer 1;
     }
@@ -944,7 +945,7 @@ entries =
       S = 10;
       T = 1;
       lanes = 1;
-      calls = start-call 10 1 0 5 ∷ [];
+      calls = start-act 10 1 0 5 ∷ [];
       row-says = lane-is-not-the-row 1;
       definitions-say = other-answer 1;
     }
@@ -953,7 +954,7 @@ entries =
       S = 7;
       T = 1;
       lanes = 1;
-      calls = start-call 7 1 0 4 ∷ [];
+      calls = start-act 7 1 0 4 ∷ [];
       row-says = passes;
       definitions-say = other-answer 1;
     }
@@ -963,7 +964,7 @@ entries =
       S = 6;
       T = 1;
       lanes = 1;
-      calls = start-call 6 1 0 2 ∷ [];
+      calls = start-act 6 1 0 2 ∷ [];
       row-says = lane-is-not-the-row 1;
       definitions-say = other-table 1;
     }
@@ -972,7 +973,7 @@ entries =
       S = 6;
       T = 1;
       lanes = 1;
-      calls = start-call 6 1 0 2 ∷ pushed51On 0 0;
+      calls = start-act 6 1 0 2 ∷ pushed51On 0 0;
       row-says = lane-is-not-the-row 13;
       definitions-say = other-table 1;
     }

@@ -53,6 +53,29 @@ use Rattle.machine.specs.Demand3.{
   Given,
 }
 
+-- The calls that a machine may make its own way.
+pub data Act : Type 0 where
+  start-act : (S T growth lanes : ℕ) → Act
+  begin-act : (k lane operation side : ℕ) (argument : Stored) → Act
+  tick-act : (k hint : ℕ) → Act
+  ticks-act : (k hint times : ℕ) → Act
+  dispatch-act : (hint : ℕ) → Act
+  dispatches-act : (hint times : ℕ) → Act
+  run-act : (list answers : List ℕ) → Act
+  panel-act : (list answers : List ℕ) → Act
+  read-act : (lane : ℕ) (out : List ℕ) → Act
+
+abbrev pub callOf : Act → Call
+callOf (start-act S T g lanes) = start-call S T g lanes
+callOf (begin-act k l op side argument) = begin-call k l op side argument
+callOf (tick-act k h) = tick-call k h
+callOf (ticks-act k h times) = ticks-call k h times
+callOf (dispatch-act h) = dispatch-call h
+callOf (dispatches-act h times) = dispatches-call h times
+callOf (run-act list answers) = run-call list answers
+callOf (panel-act list answers) = panel-call list answers
+callOf (read-act l out) = read-call l out
+
 abbrev pub Ticks : Type 0
 Ticks = List ℕ → (k hint : ℕ) → Ticked
 
@@ -200,28 +223,28 @@ unfoldable pub panelBy : Machine → List ℕ → (list answers : List ℕ) → 
 panelBy M ws list answers = testedBy M (M .panelRefuses ws list answers) ws (M .panelTakes list) answers
 
 -- What a call gives back, and the table as it leaves it.
-abbrev pub givenBy : Machine → (c : Call) → List ℕ → Given c
-givenBy M (start-call S T g lanes) ws = M .starts ws S T g lanes .reply
-givenBy M (begin-call k l op side argument) ws = beginBy M ws k l op side argument .reply
-givenBy M (tick-call k h) ws = tickBy M ws k h .answer
-givenBy M (ticks-call k h times) ws = ticksBy M times ws k h .answer
-givenBy M (dispatch-call h) ws = dispatchBy M ws h .answer
-givenBy M (dispatches-call h times) ws =
+abbrev pub givenBy : Machine → (a : Act) → List ℕ → Given (callOf a)
+givenBy M (start-act S T g lanes) ws = M .starts ws S T g lanes .reply
+givenBy M (begin-act k l op side argument) ws = beginBy M ws k l op side argument .reply
+givenBy M (tick-act k h) ws = tickBy M ws k h .answer
+givenBy M (ticks-act k h times) ws = ticksBy M times ws k h .answer
+givenBy M (dispatch-act h) ws = dispatchBy M ws h .answer
+givenBy M (dispatches-act h times) ws =
     let done = dispatchesBy M times ws h in (done .last .answer, done .wentOn)
-givenBy M (run-call list answers) ws = (runBy M ws list answers .ran, runBy M ws list answers .answers)
-givenBy M (panel-call list answers) ws = (panelBy M ws list answers .ran, panelBy M ws list answers .answers)
-givenBy M (read-call l out) ws = (M .reads ws l out .reading, M .reads ws l out .out)
+givenBy M (run-act list answers) ws = (runBy M ws list answers .ran, runBy M ws list answers .answers)
+givenBy M (panel-act list answers) ws = (panelBy M ws list answers .ran, panelBy M ws list answers .answers)
+givenBy M (read-act l out) ws = (M .reads ws l out .reading, M .reads ws l out .out)
 
-abbrev pub afterBy : Machine → Call → List ℕ → List ℕ
-afterBy M (start-call S T g lanes) ws = M .starts ws S T g lanes .words
-afterBy M (begin-call k l op side argument) ws = beginBy M ws k l op side argument .words
-afterBy M (tick-call k h) ws = tickBy M ws k h .words
-afterBy M (ticks-call k h times) ws = ticksBy M times ws k h .words
-afterBy M (dispatch-call h) ws = dispatchBy M ws h .words
-afterBy M (dispatches-call h times) ws = dispatchesBy M times ws h .last .words
-afterBy M (run-call list answers) ws = runBy M ws list answers .words
-afterBy M (panel-call list answers) ws = panelBy M ws list answers .words
-afterBy M (read-call l out) ws = ws
+abbrev pub afterBy : Machine → Act → List ℕ → List ℕ
+afterBy M (start-act S T g lanes) ws = M .starts ws S T g lanes .words
+afterBy M (begin-act k l op side argument) ws = beginBy M ws k l op side argument .words
+afterBy M (tick-act k h) ws = tickBy M ws k h .words
+afterBy M (ticks-act k h times) ws = ticksBy M times ws k h .words
+afterBy M (dispatch-act h) ws = dispatchBy M ws h .words
+afterBy M (dispatches-act h times) ws = dispatchesBy M times ws h .last .words
+afterBy M (run-act list answers) ws = runBy M ws list answers .words
+afterBy M (panel-act list answers) ws = panelBy M ws list answers .words
+afterBy M (read-act l out) ws = ws
 
 -- The tables that a list of pairs leads through: before each of its ticks, and after the last.
 unfoldable pub tablesBy : Machine → (list ws : List ℕ) → List (List ℕ)

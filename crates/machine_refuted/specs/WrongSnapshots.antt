@@ -66,7 +66,7 @@ pub record Made : Type 0 where
 
 -- What a put makes known.
 abbrev pub Feeding : Type 0
-Feeding = Known → (snapshot : List ℕ) → Reply → Known
+Feeding = Known → (same-length : Bool) → (snapshot : List ℕ) → Reply → Option Known
 
 abbrev pub sameReply : Changed → Changed → Bool
 sameReply c d = eqb (replyNumber (c .reply)) (replyNumber (d .reply))
@@ -80,7 +80,7 @@ madeTake M ws out κ =
     let one = M .takes ws out in
     let is = takeSnapshot ws out in
     record {
-      known = some (feedTake κ (one .reply) (one .words));
+      known = feedTake κ (eqb (length out) (length ws)) (one .reply) (one .words);
       table = ws;
       snapshot = one .words;
       gave-other = other (sameReply one is && sameWords (one .words) (is .words));
@@ -92,7 +92,7 @@ madePut feeds M ws kept ss κ =
     let one = M .puts ss ws in
     let is = putBack ss ws in
     record {
-      known = some (feeds κ ss (one .reply));
+      known = feeds κ (eqb (length ss) (length ws)) ss (one .reply);
       table = one .words;
       snapshot = kept;
       gave-other = other (sameReply one is);
@@ -213,9 +213,17 @@ testsLengthLast =
       puts = λ ss ws. changed (lengthLast ss ws (byNodes ss)) ws (byNodes ss);
     }
 
+-- "Taking tests 3 and 4 on the table": it tests the words of the slice.
+abbrev pub testsSlice : Copying
+testsSlice =
+    record {
+      takes = λ ws out. changed (snapshotRefusal out ws (tableRefusal out nothing)) out (byColumns ws);
+      puts = putBack;
+    }
+
 -- "a row whose history ends where it was taken": the latest row goes on.
 abbrev pub feedsLatest : Feeding
-feedsLatest κ ss r = κ
+feedsLatest κ same ss r = some κ
 
 -- ---- The lists.
 pub record Entry : Type 0 where
@@ -321,8 +329,17 @@ entries =
       wrong = testsLengthLast;
       words = 45;
       actions = takes-into 44 ∷ [];
-      row-says = passes;
+      row-says = not-the-row's-answer 1;
       definitions-say = other-answer 1;
+    }
+    -- A slice of words that are no table.
+    ∷ record {
+      feeds = feedPut;
+      wrong = testsSlice;
+      words = 45;
+      actions = starts 4 1 ∷ takes-into 45 ∷ [];
+      row-says = not-the-row's-answer 2;
+      definitions-say = other-answer 2;
     }
     -- The right machine: after the put the push answers "full" again, and the latest row has no note of it.
     ∷ record {

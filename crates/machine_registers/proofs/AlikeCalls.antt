@@ -6,7 +6,7 @@ use mathlib.Core.Option.{Option, some, none as nothing, Option·map}
 use Prim.Native.Nat.{ℕ, zero, suc, _<_}
 use lib.Dec.{ltb}
 use borrow.Author.Tests.{ltb-true}
-use Rattle.machine.specs.Shape.{WellFormed}
+use Rattle.machine.specs.Shape.{WellFormed, sizesOf, Sized, WellSized}
 use Rattle.machine.specs.Round.{nextAfter}
 use Rattle.machine.specs.Answers.{refusalOf, isGoing, dispatchGoesOn}
 use Rattle.machine.specs.declared.Dispatch.the-variants.{Answered}
@@ -14,29 +14,13 @@ use Rattle.machine.specs.declared.Stored.{Stored}
 use Rattle.machine.specs.Choice.{_≟_, if_then_else_}
 use Rattle.machine.specs.Sides.{Side, right, left, sideOf}
 use Rattle.machine.specs.Values.{Value, never, bag, N, X, Y, number}
-use Rattle.machine.specs.Operations.{Operation, idle, push, pop, add, remove, operationOf}
+use Rattle.machine.specs.Operations.{operationOf}
 use Rattle.machine.specs.Tasks.{Task, none}
 use Rattle.machine.specs.Registers.{holds}
-use Rattle.machine.specs.Table.{
-  nodeCount,
-  taskCount,
-  laneCount,
-  dispatched,
-  hat,
-  link,
-  value,
-  task,
-  setDispatched,
-  setTask,
-}
+use Rattle.machine.specs.Table.{nodeCount, taskCount, dispatched, hat, link, value, task, setDispatched, setTask}
 use Rattle.machine.specs.Calls.{
-  unless,
-  laneRefusal,
   startRefusal,
   tableRefusal,
-  isBegun,
-  seenRefusal,
-  twiceRefusal,
   beginRefusal,
   Changed,
   changed,
@@ -63,38 +47,36 @@ use Rattle.machine.specs.Calls.{
   panel,
   laneFrom,
   lane,
-  lanesBelow,
-  allLanes,
-  ReadDone,
-  unread,
-  readInto,
-  read,
 }
 use Rattle.machine.specs.Lines.{Memory}
 use Rattle.machine_registers.specs.Unseen.{Alike, SameFor}
-use Rattle.machine.specs.Demand3.{
-  Call,
-  start-call,
-  begin-call,
-  tick-call,
-  ticks-call,
-  dispatch-call,
-  dispatches-call,
-  run-call,
-  panel-call,
-  read-call,
-  given,
-  after,
-}
+use Rattle.machine.specs.Demand3.{Call, begin-call, given, after}
 use Rattle.machine.proofs.Basics.Tests.{test-passed, tests-left}
 use Rattle.machine.proofs.Words.ValueLaws.{HasWord, never-has-word}
 use Rattle.machine.proofs.Basics.Updates.{update}
-use Rattle.machine.proofs.Words.Columns.{sizesOf, Columns, Sized, putDispatched}
+use Rattle.machine.proofs.Words.Kinds.{
+  SameLooks,
+  begin-same,
+  LeftAlike,
+  both-left-alone,
+  both-begun,
+  View,
+  of-start,
+  of-tick,
+  of-ticks,
+  of-dispatch,
+  of-dispatches,
+  of-run,
+  of-panel,
+  of-other,
+  view,
+}
+use Rattle.machine.proofs.Words.Columns.{Columns, putDispatched}
 use Rattle.machine.proofs.Words.TableLaws.{columns-setDispatched, columns-setTask}
 use Rattle.machine.proofs.Words.EffectLaws.{task-set-dispatched, task-set-task}
 use Rattle.machine.proofs.Words.RunLaws.{first-goes-on, first-is-last}
 use Rattle.machine.proofs.Words.DispatchLaws.{others-follow, one-went-on, none-follows, none-went-on}
-use Rattle.machine.proofs.Shape.ShapeLaws.{WellSized, well-sized}
+use Rattle.machine.proofs.Shape.ShapeLaws.{well-sized}
 use Rattle.machine.proofs.Shape.TickKeeps.{busy-passes}
 use Rattle.machine.proofs.Shape.DispatchCases.{chosen-busy}
 use Rattle.machine.proofs.Shape.ShapeKept.{
@@ -223,29 +205,18 @@ module _ {ws vs : List ℕ} (A : AlikeColumns ws vs) where
   lane-same l =
       rw (same-nodes A, same-links A, same-hat A l left) (lane-from-same (nodeCount ws) (link ws right (hat ws l left)))
 
-  below-same : (n : ℕ) → lanesBelow vs n ≡ lanesBelow ws n
-  unfolding lanesBelow
-  below-same zero = refl
-  below-same (suc n) = rw (below-same n, lane-same n)
-
-  lanes-same : allLanes vs ≡ allLanes ws
-  lanes-same = ap (lanesBelow vs) (same-lanes A) ∙ below-same (laneCount ws)
-
-  begun-same : (m n : ℕ) → isBegun vs m n ≡ isBegun ws m n
-  unfolding isBegun
-  begun-same zero n = refl
-  begun-same (suc m) n = rw (same-operation A m, same-argument A m, begun-same m n)
-
-  twice-same : (op : Operation) (n : ℕ) (others : Option ℕ) → twiceRefusal vs op n others ≡ twiceRefusal ws op n others
-  twice-same push n others = rw lanes-same (go (allLanes ws))
-    where
-      go : (bags : Option (List ℕ)) → seenRefusal vs n bags others ≡ seenRefusal ws n bags others
-      go nothing = refl
-      go (some bags) = rw (same-count A, begun-same (taskCount ws) n)
-  twice-same idle n others = refl
-  twice-same pop n others = refl
-  twice-same add n others = refl
-  twice-same remove n others = refl
+  -- What begins and looks look at.
+  looks : SameLooks ws vs
+  looks =
+      record {
+        passes = table-passes ws (A .accepted);
+        passes′ = table-passes vs (A .accepted′);
+        same-count = same-count A;
+        same-lanes = same-lanes A;
+        same-lane = lane-same;
+        same-operation = same-operation A;
+        same-argument = same-argument A;
+      }
 
   begin-alike : (k l op side : ℕ) (argument : Stored)
       → ChangedAlike (begin ws k l op side argument) (begin vs k l op side argument)
@@ -261,15 +232,7 @@ module _ {ws vs : List ℕ} (A : AlikeColumns ws vs) where
       t = begunTask l (operationOf op) (sideOf side) (number argument)
 
       same : beginRefusal vs k l op side argument ≡ beginRefusal ws k l op side argument
-      same =
-          rw (
-            table-passes ws (A .accepted),
-            table-passes vs (A .accepted′),
-            same-lanes A,
-            same-count A,
-            same-operation A k,
-            twice-same (operationOf op),
-          )
+      same = begin-same looks k l op side argument
 
       go : (r : Option ℕ) → beginRefusal ws k l op side argument ≡ r
           → WellFormed (changed r ws (setTask k t ws) .words)
@@ -299,24 +262,6 @@ module _ {ws vs : List ℕ} (A : AlikeColumns ws vs) where
     panel-alike : RunsAlike (panel ws list answers) (panel vs list answers)
     unfolding panel
     panel-alike = list-alike _
-
-  -- ---- Reading a lane.
-  read-same : (l : ℕ) (out : List ℕ) → read vs l out ≡ read ws l out
-  unfolding read
-  read-same l out = ap (done vs) same ∙ go (laneRefusal ws l nothing)
-    where
-      same : laneRefusal vs l nothing ≡ laneRefusal ws l nothing
-      same =
-          table-passes vs (A .accepted′) (unless (ltb l (laneCount vs)) 26 nothing)
-          ∙ ap (λ (n : ℕ). unless (ltb l n) 26 nothing) (same-lanes A)
-          ∙ sym (table-passes ws (A .accepted) (unless (ltb l (laneCount ws)) 26 nothing))
-
-      done : List ℕ → Option ℕ → ReadDone
-      done xs r = elim r as (λ _. ReadDone) [ some n ↦ unread n out | nothing ↦ readInto (lane xs l) out ]
-
-      go : (r : Option ℕ) → done vs r ≡ done ws r
-      go (some n) = refl
-      go nothing = ap (λ (b : Option (List ℕ)). readInto b out) (lane-same l)
 
   -- ---- tick.
   tick-call-alike : (k h : ℕ) → TicksAlike (tick ws k h) (tick vs k h)
@@ -447,23 +392,25 @@ dispatches-alike (suc n) h {ws} {vs} A =
         (dispatch-alike A h .0, refl, dispatch-alike A h .1)
 
 -- ---- Every call has the same answer on both tables, and they differ only in registers that do not hold afterwards.
+left-alike : {ws vs ws′ vs′ : List ℕ} → AlikeColumns ws vs → LeftAlike ws vs ws′ vs′ → AlikeColumns ws′ vs′
+left-alike A both-left-alone = A
+left-alike A (both-begun k l op side argument) = begin-alike A k l op side argument .1
+
 pub call-alike : {ws vs : List ℕ} → AlikeColumns ws vs → (c : Call)
     → (given c vs ≡ given c ws) × AlikeColumns (after c ws) (after c vs)
-call-alike A (start-call S T g L) = start-alike A S T g L
-call-alike A (begin-call k l op side argument) = begin-alike A k l op side argument
-call-alike A (tick-call k h) = tick-call-alike A k h
-call-alike A (ticks-call k h times) = ticks-alike times k h A
-call-alike A (dispatch-call h) = dispatch-alike A h
-call-alike A (dispatches-call h times) =
-    let R = dispatches-alike times h A in
-    (λ i. (R .0 i, R .1 i), R .2)
-call-alike A (run-call list answers) =
-    let R = run-alike A list answers in
-    (λ i. (R .same-ran i, R .same-answers i), R .words-alike)
-call-alike A (panel-call list answers) =
-    let R = panel-alike A list answers in
-    (λ i. (R .same-ran i, R .same-answers i), R .words-alike)
-call-alike A (read-call l out) = (λ i. (read-same A l out i .reading, read-same A l out i .out), A)
+call-alike {ws} {vs} A c = go (view c)
+  where
+    go : {c : Call} → View c → (given c vs ≡ given c ws) × AlikeColumns (after c ws) (after c vs)
+    go (of-start S T g L) = start-alike A S T g L
+    go (of-tick k h) = tick-call-alike A k h
+    go (of-ticks k h n) = ticks-alike n k h A
+    go (of-dispatch h) = dispatch-alike A h
+    go (of-dispatches h n) = let R = dispatches-alike n h A in (λ i. (R .0 i, R .1 i), R .2)
+    go (of-run list answers) =
+        let R = run-alike A list answers in (λ i. (R .same-ran i, R .same-answers i), R .words-alike)
+    go (of-panel list answers) =
+        let R = panel-alike A list answers in (λ i. (R .same-ran i, R .same-answers i), R .words-alike)
+    go (of-other c T) = (T .same-given (looks A), left-alike A (T .left-alike ws vs))
 
 -- ---- Any list of calls.
 

@@ -5,7 +5,7 @@ use mathlib.Core.List.{List, [], _∷_, _++_}
 use mathlib.Core.Option.{Option, some, none as nothing}
 use Prim.Native.Nat.{ℕ, suc, _+_, _%_, _^_}
 use lib.ListN.{drop}
-use Rattle.machine.specs.Shape.{WellFormed}
+use Rattle.machine.specs.Shape.{WellFormed, sizesOf, WellSized}
 use Rattle.machine.specs.declared.Answer.{Answer}
 use Rattle.machine.specs.declared.Ran.{Ran}
 use Rattle.machine.specs.Choice.{_≟_, if_then_else_}
@@ -28,15 +28,8 @@ use Rattle.machine.specs.Calls.{
 use Rattle.machine_registers.specs.LinesUse.{AgreeOn, SameEffect}
 use Rattle.machine_registers.proofs.LinesUse.{uses-enough}
 use Rattle.machine.proofs.Basics.Updates.{update}
-use Rattle.machine.proofs.Words.Columns.{sizesOf, Columns, columns, putTickCount, putAll}
-use Rattle.machine.proofs.Shape.ShapeLaws.{
-  WellSized,
-  WellShaped,
-  well-sized,
-  well-shaped,
-  length-ok,
-  shape-ok,
-}
+use Rattle.machine.proofs.Words.Columns.{Columns, columns, putTickCount, putAll}
+use Rattle.machine.proofs.Shape.ShapeLaws.{WellShaped, well-sized, well-shaped, length-ok, shape-ok}
 use Rattle.machine.proofs.Shape.TickKeeps.{tick-kept}
 use Rattle.machine.proofs.Words.TickLaws.{tick-stopped, tick-answer, tick-refused, tick-columns, tick-task}
 use Rattle.machine_registers.proofs.Agreeing.{plain, agree-plain, agree-uses, agree-after}

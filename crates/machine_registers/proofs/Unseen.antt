@@ -4,7 +4,7 @@ use mathlib.Core.Bool.{Bool, true, false, cond}
 use mathlib.Core.List.{List}
 use Prim.Native.Nat.{ℕ, _<_}
 use lib.ListN.{length}
-use Rattle.machine.specs.Shape.{WellFormed}
+use Rattle.machine.specs.Shape.{WellFormed, sizesOf, WellSized}
 use Rattle.machine.specs.Choice.{_≟_, if_then_else_}
 use Rattle.machine.specs.Values.{encode}
 use Rattle.machine.specs.Tasks.{Task, fresh, none, wordsOf, inA, inB, inC, inD}
@@ -14,19 +14,11 @@ use Rattle.machine.specs.Calls.{isBusy}
 use Rattle.machine_registers.specs.Unseen.{SameButUnneeded, Alike, UnneededUnseen, cleared, ClearingUnseen}
 use Rattle.machine.proofs.Words.ValueLaws.{encode-decode}
 use Rattle.machine.proofs.Basics.Updates.{update}
-use Rattle.machine.proofs.Words.Columns.{sizesOf, countsOf, columns, sizes-equal, columns-equal}
+use Rattle.machine.proofs.Words.Columns.{countsOf, columns, sizes-equal, columns-equal}
 use Rattle.machine.proofs.Words.TableLaws.{columns-setTask}
 use Rattle.machine.proofs.Words.EffectLaws.{task-set-task}
 use Rattle.machine.proofs.Shape.BusyLaws.{NodeOrNone, BusyFacts, record-of-busy}
-use Rattle.machine.proofs.Shape.ShapeLaws.{
-  WellSized,
-  WellShaped,
-  well-sized,
-  well-shaped,
-  length-ok,
-  shape-ok,
-  same-last-words,
-}
+use Rattle.machine.proofs.Shape.ShapeLaws.{WellShaped, well-sized, well-shaped, length-ok, shape-ok, same-last-words}
 use Rattle.machine.proofs.Shape.WritesKeep.{put-record-shaped}
 use Rattle.machine.proofs.Shape.TickKeeps.{busy-facts, busy-is-task, task-has-word}
 use Rattle.machine.proofs.Shape.ShapeKept.{is-accepted}

@@ -1,12 +1,10 @@
 -- Every call leaves a lane as it is, unless it ticks a task that is in a call on it.
 use mathlib.Core.Path.{_≡_, refl, sym, ap, _∙_, subst}
-use mathlib.Core.Logic.{_≢_}
 use mathlib.Core.Bool.{Bool, true, false}
 use mathlib.Core.List.{List, [], _∷_}
 use mathlib.Core.Option.{Option, some, none as nothing}
 use Prim.Native.Nat.{ℕ, zero, suc, _<_}
 use native.Mathlib.Omega.{arith}
-use Rattle.machine.specs.declared.Reply.the-variants.{Accepted}
 use Rattle.machine.specs.declared.Stored.{Stored}
 use Rattle.machine.specs.Choice.{_≟_}
 use Rattle.machine.specs.Sides.{right, sideOf}
@@ -17,38 +15,21 @@ use Rattle.machine.specs.Table.{task}
 use Rattle.machine.specs.Answers.{dispatchGoesOn}
 use Rattle.machine.specs.Calls.{
   isBusy,
-  startRefusal,
   tickRefusal,
-  changed,
-  startWords,
-  start,
   begin,
   effectOf,
   tickOn,
-  tick,
   Dispatched,
   dispatch,
   dispatches,
   dispatchesMade,
-  run,
-  panel,
 }
 use Rattle.machine.specs.Row.{Note}
-use Rattle.machine.specs.Demand3.{
-  start-call,
-  begin-call,
-  tick-call,
-  ticks-call,
-  dispatch-call,
-  dispatches-call,
-  run-call,
-  panel-call,
-  read-call,
-  afterTicks,
-}
+use Rattle.machine.specs.Demand3.{dispatch-call, afterTicks}
+use Rattle.machine.specs.Kinds.{Asked, Did}
 use Rattle.machine.specs.Begun.{Begun, by-call}
 use Rattle.machine.proofs.Basics.Contradiction.{refute}
-use Rattle.machine.proofs.Words.RunLaws.{kept-consecutively}
+use Rattle.machine.proofs.Words.Kinds.{Comes, left-alone, is-started, is-begun, are-ticked, are-dispatched, comes}
 use Rattle.machine.proofs.Words.DispatchLaws.{others-follow, one-more-made, none-follows, one-made}
 use Rattle.machine.proofs.Words.TickLaws.{tick-stopped}
 use Rattle.machine.proofs.Shape.DispatchCases.{by-dispatch}
@@ -56,15 +37,8 @@ use Rattle.machine.proofs.Linearizability.Model.Invariant.{Kept, goes-on, has-a
 use Rattle.machine.proofs.Linearizability.Calls.MadeTicks.{keeps-invariant}
 use Rattle.machine.proofs.Linearizability.Begun.TableAfter.{own-after, other-after}
 use Rattle.machine.proofs.Linearizability.Begun.TableBegun.{by-begin}
-use Rattle.machine.proofs.Linearizability.Corollaries.{
-  begun-agrees,
-  tick-passes,
-  ticked-sized,
-  begun-ticked,
-  run-is-its-ticks,
-  panel-is-its-ticks,
-}
-use Rattle.machine_separation.specs.Apart.{SameLane, NotOn, NoneOn, ChoosesOther, CallsUntouched}
+use Rattle.machine.proofs.Linearizability.Corollaries.{begun-agrees, ticked-sized, begun-ticked}
+use Rattle.machine_separation.specs.Apart.{SameLane, NotOn, NoneOn, ChoosesOther, Avoids, CallsUntouched}
 use Rattle.machine_separation.proofs.BegunApart.{begin-stays}
 use Rattle.machine_separation.proofs.Tables.{same-lane, lane-unchanged, others-same, dispatched-too, tick-stays}
 
@@ -116,9 +90,6 @@ module _ {ws : List ℕ} (B : Begun ws) (m : ℕ) where
   tick-keeps : (k h : ℕ) → NotOn m ws k → SameLane m ws (tickOn ws k h .words)
   tick-keeps k h not-on = others-same (tick-stays B k h) .other-lanes m not-on
 
-  tick-call-keeps : (k h : ℕ) → NotOn m ws k → SameLane m ws (tick ws k h .words)
-  tick-call-keeps k h not-on = rw (tick-passes (begun-agrees B .1) k h) (tick-keeps k h not-on)
-
 -- ---- The calls.
 ticks-keep : (i : ℕ) (list : List ℕ) {ws : List ℕ} → Begun ws → (m : ℕ) → NoneOn m ws list
     → SameLane m ws (afterTicks i list ws)
@@ -128,16 +99,6 @@ ticks-keep (suc i) [] {ws} B m n = same-lane-refl m ws
 ticks-keep (suc i) (k ∷ []) {ws} B m n = same-lane-refl m ws
 ticks-keep (suc i) (k ∷ h ∷ list) B m n =
     then (tick-keeps B m k h (n .0)) (ticks-keep i list (begun-ticked B k h) m (still-none-on B m k h list (n .1)))
-
-start-keeps : {ws : List ℕ} (m S T g lanes : ℕ) → start ws S T g lanes .reply ≢ Accepted
-    → SameLane m ws (start ws S T g lanes .words)
-unfolding start
-start-keeps {ws} m S T g lanes = go (startRefusal ws S T g lanes)
-  where
-    go : (r : Option ℕ) → changed r ws (startWords S T g lanes) .reply ≢ Accepted
-        → SameLane m ws (changed r ws (startWords S T g lanes) .words)
-    go (some n) refused = same-lane-refl m ws
-    go nothing refused = absurd (refused refl)
 
 begin-keeps : {ws : List ℕ} → Begun ws → (m k l op side : ℕ) (argument : Stored)
     → SameLane m ws (begin ws k l op side argument .words)
@@ -182,22 +143,11 @@ dispatches-keep (suc n) {ws} B m h other =
         (other (suc i) (rw (one-more-made n ws h e) (omega arith))))))
 
 pub calls-untouched : CallsUntouched
-calls-untouched ws B m (start-call S T g lanes) a = start-keeps m S T g lanes a
-calls-untouched ws B m (begin-call k l op side argument) a = begin-keeps B m k l op side argument
-calls-untouched ws B m (tick-call k h) a = tick-call-keeps B m k h a
-calls-untouched ws B m (ticks-call k h times) a =
-    kept-consecutively (λ vs. Begun vs × NotOn m vs k × SameLane m ws vs) k h
-    (λ vs x.
-    let on = tick-passes (begun-agrees (x .0) .1) k h in
-    rw on
-    (begun-ticked (x .0) k h, still-not-on (x .0) m k h k (x .1), then (x .2) (tick-keeps (x .0) m k h (x .1))))
-    times ws (B, a, same-lane-refl m ws)
-    .2
-calls-untouched ws B m (dispatch-call h) a = dispatch-keeps B m h a
-calls-untouched ws B m (dispatches-call h times) a = dispatches-keep times B m h a
-calls-untouched ws B m (run-call list answers) a =
-    subst (SameLane m ws) (run-is-its-ticks ws list answers) (ticks-keep (run ws list answers .ran .made) list B m a)
-calls-untouched ws B m (panel-call list answers) a =
-    subst (SameLane m ws) (panel-is-its-ticks ws list answers)
-    (ticks-keep (panel ws list answers .ran .made) list B m a)
-calls-untouched ws B m (read-call l out) a = same-lane-refl m ws
+calls-untouched ws B m c = go (comes c ws)
+  where
+    go : {a : Asked} {vs : List ℕ} {d : Did} → Comes ws a vs d → Avoids m ws a → SameLane m ws vs
+    go (left-alone a e) x = same-lane-refl m ws
+    go (is-started S T g L e) x = absurd (x e)
+    go (is-begun k l op side argument e) x = begin-keeps B m k l op side argument
+    go (are-ticked i list ts) x = ticks-keep i list B m x
+    go (are-dispatched h n ts) x = dispatches-keep n B m h x

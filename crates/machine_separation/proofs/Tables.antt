@@ -11,9 +11,9 @@ use Rattle.machine.specs.Allocate.{allocate}
 use Rattle.machine.specs.Lines.{Memory, act}
 use Rattle.machine.specs.Calls.{tickRefusal, effectOf, tickOn}
 use Rattle.machine.specs.Begun.{Begun}
+use Rattle.machine.specs.Shape.{sizesOf, Sized}
 use Rattle.machine.proofs.Basics.Updates.{update}
 use Rattle.machine.proofs.Words.Memories.{viewed, viewAfter, seen-viewed}
-use Rattle.machine.proofs.Words.Columns.{sizesOf, Sized}
 use Rattle.machine.proofs.Words.EffectLaws.{viewed-set-dispatched, task-set-dispatched, lanes-set-dispatched}
 use Rattle.machine.proofs.Words.TickLaws.{tick-stopped}
 use Rattle.machine.proofs.Shape.TickKeeps.{tick-allowed}

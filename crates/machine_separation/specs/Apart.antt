@@ -16,19 +16,8 @@ use Rattle.machine.specs.Registers.{holds}
 use Rattle.machine.specs.Reach.{Reachable}
 use Rattle.machine.specs.Lines.{Effect, seen, act}
 use Rattle.machine.specs.Calls.{isBusy, start, effectOf, tickOn, nextBusy, dispatches, dispatchesMade}
-use Rattle.machine.specs.Demand3.{
-  Call,
-  start-call,
-  begin-call,
-  tick-call,
-  ticks-call,
-  dispatch-call,
-  dispatches-call,
-  run-call,
-  panel-call,
-  read-call,
-  after,
-}
+use Rattle.machine.specs.Demand3.{Call, after}
+use Rattle.machine.specs.Kinds.{Asked, a-start, a-begin, ticks-of, dispatches-with, a-look, asked}
 use Rattle.machine.specs.Begun.{Begun}
 
 -- ---- What a lane leads to.
@@ -91,22 +80,19 @@ NoneOn m ws (k ∷ h ∷ list) = NotOn m ws k × NoneOn m ws list
 abbrev pub ChoosesOther : (m : ℕ) → List ℕ → Type 0
 ChoosesOther m ws = (k : ℕ) → nextBusy ws ≡ some k → NotOn m ws k
 
--- A call ticks no task that is in a call on lane m, and begins no new table.
-abbrev pub Avoids : (m : ℕ) → List ℕ → Call → Type 0
-Avoids m ws (start-call S T g lanes) = start ws S T g lanes .reply ≢ Accepted
-Avoids m ws (begin-call k l op side argument) = Unit {0}
-Avoids m ws (tick-call k h) = NotOn m ws k
-Avoids m ws (ticks-call k h times) = NotOn m ws k
-Avoids m ws (dispatch-call h) = ChoosesOther m ws
-Avoids m ws (dispatches-call h times) =
+-- A call asks for ticks of no task that is in a call on lane m, and for no new table that it gets.
+abbrev pub Avoids : (m : ℕ) → List ℕ → Asked → Type 0
+Avoids m ws (a-start S T g lanes) = start ws S T g lanes .reply ≢ Accepted
+Avoids m ws (a-begin k l op side argument) = Unit {0}
+Avoids m ws (ticks-of list) = NoneOn m ws list
+Avoids m ws (dispatches-with h times) =
     (i : ℕ) → i < dispatchesMade times ws h → ChoosesOther m (dispatches i ws h .words)
-Avoids m ws (run-call list answers) = NoneOn m ws list
-Avoids m ws (panel-call list answers) = NoneOn m ws list
-Avoids m ws (read-call l out) = Unit {0}
+Avoids m ws a-look = Unit {0}
 
 -- Such a call leaves lane m as it is. A begin changes no lane, not even its own.
 abbrev pub CallsUntouched : Type 0
-CallsUntouched = (ws : List ℕ) → Begun ws → (m : ℕ) (c : Call) → Avoids m ws c → SameLane m ws (after c ws)
+CallsUntouched =
+    (ws : List ℕ) → Begun ws → (m : ℕ) (c : Call) → Avoids m ws (asked c) → SameLane m ws (after c ws)
 
 -- ---- So a task of another lane does at its next tick what it would have done before.
 

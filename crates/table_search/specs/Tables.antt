@@ -2,10 +2,8 @@
 use mathlib.Core.List.{List}
 use Prim.Native.Nat.{ℕ}
 use Rattle.machine.specs.Table.{nodeCount, laneCount}
-use Rattle.machine.specs.Allocate.{hatsFrom, Marking}
-use Rattle.machine.proofs.Words.Columns.{sizesOf}
-use Rattle.machine.proofs.Shape.ShapeLaws.{WellSized}
-use Rattle.machine.proofs.SlotRule.Marking.{Room}
+use Rattle.machine.specs.Allocate.{hatsFrom, Marking, Room}
+use Rattle.machine.specs.Shape.{sizesOf, WellSized}
 
 -- The marking of two arrays and the end of the queue.
 abbrev pub markingOf : (marks queue : List ℕ) (tail : ℕ) → Marking

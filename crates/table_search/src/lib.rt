@@ -30,8 +30,8 @@ ghost use Rattle.machine.specs.Allocate.{
   visitFrom,
   firstUnmarked,
   allocate,
+  Room,
 };
-ghost use Rattle.machine.proofs.SlotRule.Marking.{Room};
 ghost use Rattle.table_record.specs.Coded.{taskMeant};
 ghost use Rattle.table_steps.specs.Bits.{Exact};
 ghost use Rattle.table_search.specs.Tables.{markingOf, Searchable, hats};

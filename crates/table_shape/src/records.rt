@@ -2,6 +2,7 @@
 use machine::Stored;
 use table_layout::operations::argument_ok;
 use table_layout::operations::goal_of;
+use table_layout::operations::is_idle;
 use table_layout::sides::opposite;
 use table_record::Task;
 use table_steps::owners::Owners;
@@ -29,31 +30,28 @@ pub fn node_or_none(slots: u32, x: u32) -> bool
     (x < slots) | (x == Task::NONE)
 }
 
-// 01: counted is 0 at step 54, below the goal at steps 31, 56, 58 and at most the goal elsewhere.
-fn counted_ok(step: u32, goal: u32, counted: u32) -> bool
-    ensures { λ r. ⌜ r ≡ countedOk step goal counted ⌝ }
+// 01: LN or LX at 48, mirrored on the left: N and X of the side opposite to the right.
+fn end_mark_ok(side: u32, v: Stored) -> bool
+    requires { ⌜ side < 2 ⌝ }
+    ensures { λ r. ⌜ r ≡ valueReadOk (sideOf side) 48 v ⌝ }
 {
-    match step {
-        54 => counted == 0,
-        31 | 56 | 58 => counted < goal,
-        _ => counted <= goal,
-    }
+    let far = opposite(side);
+    table_values::equal(v, table_values::n_of(far))
+        || table_values::equal(v, table_values::x_of(far))
 }
 
-// 01: value read is as V may be (a bag at 51; LN or LX at 48, mirrored on the left).
-fn value_read_ok(side: u32, step: u32, v: Stored) -> bool
+// 01: counted is 0 at step 54, below the goal at steps 31, 56, 58 and at most the goal elsewhere; value read is as V may be
+// (a bag at 51; LN or LX at 48). One choice by the step for both.
+fn progress_ok(side: u32, step: u32, goal: u32, counted: u32, v: Stored) -> bool
     requires { ⌜ side < 2 ⌝ }
-    ensures { λ r. ⌜ r ≡ valueReadOk (sideOf side) step v ⌝ }
+    ensures { λ r. ⌜ r ≡ countedOk step goal counted && valueReadOk (sideOf side) step v ⌝ }
 {
     match step {
-        51 => table_values::bag_ok(v),
-        48 => {
-            // LN and LX are N and X of the side opposite to the right.
-            let far = opposite(side);
-            table_values::equal(v, table_values::n_of(far))
-                || table_values::equal(v, table_values::x_of(far))
-        }
-        _ => table_values::value_ok(v),
+        54 => counted == 0 && table_values::value_ok(v),
+        31 | 56 | 58 => counted < goal && table_values::value_ok(v),
+        51 => counted <= goal && table_values::bag_ok(v),
+        48 => counted <= goal && end_mark_ok(side, v),
+        _ => counted <= goal && table_values::value_ok(v),
     }
 }
 
@@ -96,8 +94,7 @@ fn busy_ok(owners: &Owners, t: Task, slots: u32, growth: u32, lanes: u32) -> boo
     let v = t.value;
     let registers = t.registers;
     is_step_of(owners, t.operation, t.step)
-        && counted_ok(t.step, goal, t.counted)
-        && value_read_ok(t.side, t.step, v)
+        && progress_ok(t.side, t.step, goal, t.counted, v)
         && registers_ok(slots, lanes, registers, t.lane)
 }
 
@@ -106,7 +103,7 @@ pub(crate) fn record_ok(owners: &Owners, t: Task, slots: u32, growth: u32, lanes
     requires { ⌜ OwnersOk (now owners) ⌝ }
     ensures { λ r. ⌜ r ≡ recordOk slots growth lanes (recordOf t) ⌝ }
 {
-    if t.operation == Task::IDLE {
+    if is_idle(t.operation) {
         return t.is_fresh();
     }
     busy_ok(owners, t, slots, growth, lanes)

@@ -5,7 +5,7 @@ ghost use mathlib.Core.Bool.{true};
 ghost use Prim.Native.Nat.{_+_, _≤_};
 ghost use lib.ListN.{length};
 ghost use lib.Seq.{sets};
-ghost use Rattle.tag.specs.Tags.{tagWords};
+ghost use Rattle.tag.specs.Tags.{digitOf, lowOf, tagWords};
 ghost use Rattle.machine.specs.Sides.{sideOf};
 ghost use Rattle.machine.specs.Values.{
   N,
@@ -21,7 +21,7 @@ ghost use Rattle.machine.specs.Values.{
   bagOk,
   valueOk,
 };
-ghost use Rattle.table_values.specs.Tests.{isSame, isBag, markOf};
+ghost use Rattle.table_values.specs.Tests.{isSame, markOf};
 
 // 02: the mirror of a mark is 3 higher or lower.
 const MIRROR_STEP: u32 = 3;
@@ -45,6 +45,22 @@ pub fn number(v: Stored) -> u64
     ensures { λ r. ⌜ r ≡ number v ⌝ }
 {
     tag::number(v.digit, v.word)
+}
+
+// The leading digit of a bag's tag.
+pub fn tag_digit(v: Stored) -> u32
+    requires { ⌜ bagOk v ≡ true ⌝ }
+    ensures { λ r. ⌜ r ≡ digitOf (number v) ⌝ }
+{
+    v.digit
+}
+
+// The number of the nine digits below.
+pub fn tag_low(v: Stored) -> u32
+    requires { ⌜ bagOk v ≡ true ⌝ }
+    ensures { λ r. ⌜ r ≡ lowOf (number v) ⌝ }
+{
+    v.word
 }
 
 // 02: two words for a tag, digit first.
@@ -87,14 +103,6 @@ pub fn same(u: Stored, v: Stored) -> bool
     ensures { λ r. ⌜ r ≡ isSame (decode u) (decode v) ⌝ }
 {
     equal(u, v)
-}
-
-// Whether a value is a bag.
-pub fn is_bag(v: Stored) -> bool
-    requires { ⌜ valueOk v ≡ true ⌝ }
-    ensures { λ r. ⌜ r ≡ isBag (decode v) ⌝ }
-{
-    bag_ok(v)
 }
 
 // The mirror of a mark: up to LY that mark plus 3, of the others minus 3. Any other value is its own.

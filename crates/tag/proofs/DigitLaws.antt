@@ -2,15 +2,15 @@
 use mathlib.Core.Path.{_≡_, refl, sym, _∙_}
 use mathlib.Core.Bool.{true}
 use mathlib.Core.List.{List, [], _∷_, _++_, append-nil}
-use Prim.Native.Nat.{ℕ, zero, suc, _+_, _*_, _-_, _/_, _%_, _^_, _≤_, _<_}
+use Prim.Native.Nat.{ℕ, zero, suc, _+_, _*_, _/_, _%_, _^_, _≤_, _<_}
 use native.Mathlib.Nat.{div-lt-iff-lt-mul, pow-suc, zero-add}
 use native.Mathlib.Omega.{arith}
 use lib.Dec.{leb}
-use lib.ListN.{length, length-append, getD, drop, set, length-set}
-use lib.Seq.{drop-cons, drop-set-lt, getD-set-same, append-snoc}
+use lib.ListN.{length, length-append, getD}
+use lib.Seq.{append-snoc}
 use borrow.Author.Tests.{leb-true, le-leb}
 use Rattle.tag.specs.Tags.{largestTag, lastDigits, tenDigits, numberFrom, numberOf, areDigits}
-use Rattle.tag.proofs.TagLaws.{clash, both-true}
+use Rattle.tag.proofs.TagLaws.{both-true}
 
 -- Past the end a list reads as 0, a digit too.
 pub digit-at : (digits : List ℕ) (i : ℕ) → areDigits digits ≡ true → getD digits i 0 ≤ 9
@@ -18,27 +18,6 @@ unfolding areDigits
 digit-at [] i h = omega arith
 digit-at (d ∷ ds) zero h = leb-true d 9 (both-true (leb d 9) (areDigits ds) h .0)
 digit-at (d ∷ ds) (suc i) h = digit-at ds i (both-true (leb d 9) (areDigits ds) h .1)
-
--- ---- Digits stored from the last to the first.
-
-pub digits-next : (i n : ℕ) (stored : List ℕ) → 0 < i → i ≤ length stored
-    → lastDigits (i - 1) (n / 10) ++ drop (i - 1) (set stored (i - 1) (n % 10)) ≡ lastDigits i n ++ drop i stored
-unfolding lastDigits
-digits-next zero n stored h k = clash (omega arith)
-digits-next (suc i) n stored h k =
-    let e : suc i - 1 ≡ i = omega arith in
-    rw (
-      e,
-      drop-cons (set stored i (n % 10)) i 0 (simp length-set k),
-      getD-set-same stored i (n % 10) 0 k,
-      drop-set-lt (suc i) stored i (n % 10) (omega arith),
-    )
-    (sym (append-snoc (lastDigits i (n / 10)) (n % 10) (drop (suc i) stored)))
-
-pub digits-end : (i n : ℕ) (stored : List ℕ) → i ≤ 0 → lastDigits i n ++ drop i stored ≡ stored
-unfolding lastDigits
-digits-end zero n stored h = refl
-digits-end (suc i) n stored h = clash (omega arith)
 
 -- ---- Digits are below 10.
 
@@ -66,7 +45,7 @@ unfolding numberFrom
 number-more [] n d = refl
 number-more (x ∷ xs) n d = number-more xs (n * 10 + x) d
 
-number-of-last : (k n : ℕ) → n < 10 ^ k → numberOf (lastDigits k n) ≡ n
+pub number-of-last : (k n : ℕ) → n < 10 ^ k → numberOf (lastDigits k n) ≡ n
 unfolding lastDigits numberFrom
 number-of-last zero n h = omega arith
 number-of-last (suc k) n h =

@@ -1,3 +1,5 @@
 pub mod TagLaws
 pub mod DigitLaws
 pub mod Stores
+pub mod Twofold
+pub mod TwoDigits

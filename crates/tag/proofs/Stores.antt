@@ -1,10 +1,10 @@
 -- Words or bytes stored one after another; the crates above share it.
-use mathlib.Core.Path.{_≡_}
+use mathlib.Core.Path.{_≡_, sym, _∙_}
 use mathlib.Core.List.{List, [], _∷_, _++_}
 use Prim.Native.Nat.{ℕ, suc, _+_, _≤_, _<_}
 use native.Mathlib.Omega.{arith}
-use lib.ListN.{length, getD, set, drop, drop-of-length-le}
-use lib.Seq.{sets, drop-cons}
+use lib.ListN.{length, getD, set, take, drop, drop-of-length-le}
+use lib.Seq.{sets, drop-cons, take-all, take-suc, take-suc-set}
 
 -- Two runs of stores, one after the other.
 pub sets-append : (xs ys l : List ℕ) (i : ℕ) → sets (sets l i xs) (i + length xs) ys ≡ sets l i (xs ++ ys)
@@ -25,3 +25,12 @@ sets-next l xs at i h =
 -- None is left.
 pub sets-end : (l xs : List ℕ) (at i : ℕ) → length xs ≤ i → sets l at (drop i xs) ≡ l
 sets-end l xs at i h = rw (drop-of-length-le xs {i = i} h)
+
+-- ---- An array, made from its first element on.
+pub filled-next : (made wanted : List ℕ) (i v : ℕ) → i < length made → i < length wanted → v ≡ getD wanted i 0
+    → take i made ≡ take i wanted → take (suc i) (set made i v) ≡ take (suc i) wanted
+filled-next made wanted i v h k e so-far = rw (take-suc-set made i v h, take-suc wanted i 0 k, e, so-far)
+
+pub filled-end : (made wanted : List ℕ) (i : ℕ) → length made ≤ i → length wanted ≤ i
+    → take i made ≡ take i wanted → made ≡ wanted
+filled-end made wanted i h k e = sym (take-all i made h) ∙ e ∙ take-all i wanted k

@@ -1,5 +1,4 @@
 // The two passes of writing: the first bad tag of the words, and the bytes of them all.
-use tag_packed::digits;
 use tag_packed::pack;
 use tag_packed::put_five;
 ghost use mathlib.Core.Path.{_≡_};
@@ -32,8 +31,8 @@ pub fn put_bytes(words: &[u32], tags: usize, bytes: &mut [u8])
     let mut put: usize = 0;
     while put < tags {
         let at = 2 * put;
-        let tag = digits::of_words(words[at], words[at + 1]);
-        put_five(bytes, 5 * put, pack(tag));
+        let digits = tag::digits_of_words(words[at], words[at + 1]);
+        put_five(bytes, 5 * put, pack(digits));
         put += 1;
     }
 }

@@ -4,7 +4,7 @@ use mathlib.Core.List.{List, [], _∷_, _++_, map}
 use Prim.Native.Nat.{ℕ, zero, suc, _+_, _/_, _%_}
 use Prim.Native.Char.{code}
 use lib.Dec.{ltb}
-use Rattle.tag.specs.Tags.{tenDigits}
+use Rattle.tag.specs.Tags.{lastDigits}
 use Rattle.text.specs.Text.{bytes}
 
 -- The digits of a number below 10^k, where k is not 0: the number if it is below 10, else the digits of n / 10 and then
@@ -21,9 +21,13 @@ digitsIn (suc k) n =
 abbrev pub decimal : ℕ → List ℕ
 decimal n = digitsIn (suc n) n
 
+-- The last k digits of a number, with their zeros.
+abbrev pub withZeros : (k n : ℕ) → List ℕ
+withZeros k n = map (λ (d : ℕ). code "0" + d) (lastDigits k n)
+
 -- 02: "prints tags as ten digits with their zeros".
 abbrev pub tagText : ℕ → List ℕ
-tagText tag = map (λ (d : ℕ). code "0" + d) (tenDigits tag)
+tagText tag = withZeros 10 tag
 
 -- Tags, a space before each.
 unfoldable pub spaced : List ℕ → List ℕ

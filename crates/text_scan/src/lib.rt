@@ -145,7 +145,7 @@ fn append_byte(text: &mut Text, s: Scan, b: u8) -> Scan
     }
 }
 
-fn is_digit(b: u8) -> bool
+pub fn is_digit(b: u8) -> bool
     ensures { λ r. ⌜ r ≡ isDigit b ⌝ }
 {
     if b < b'0' {

@@ -25,7 +25,7 @@ use Rattle.machine.specs.Table.{
   task,
   setDispatched,
 }
-use Rattle.machine.specs.Shape.{lengthOk, shapeOk, WellFormed, recordOk}
+use Rattle.machine.specs.Shape.{lengthOk, shapeOk, WellFormed, recordOk, Sizes, sizesOf, WellSized}
 use Rattle.machine.specs.Allocate.{allocate}
 use Rattle.machine.specs.Lines.{seen}
 use Rattle.machine.specs.Answers.{answerLength, refusalOf}
@@ -55,11 +55,11 @@ use Rattle.machine.proofs.Basics.Contradiction.{clash}
 use Rattle.machine.proofs.Basics.Choices.{if-yes}
 use Rattle.machine.proofs.Basics.Tests.{test-passed, tests-left}
 use Rattle.machine.proofs.Basics.Updates.{update-same}
-use Rattle.machine.proofs.Words.Columns.{Columns, Sizes, sizesOf, columns, putDispatched}
+use Rattle.machine.proofs.Words.Columns.{Columns, columns, putDispatched}
 use Rattle.machine.proofs.Words.TableLaws.{columns-setDispatched}
 use Rattle.machine.proofs.Words.RecordLaws.{words-of-task}
 use Rattle.machine.proofs.Words.TickLaws.{tick-stopped, tick-answer, tick-columns, tick-task}
-use Rattle.machine.proofs.Shape.ShapeLaws.{WellSized, WellShaped, well-sized, well-shaped}
+use Rattle.machine.proofs.Shape.ShapeLaws.{WellShaped, well-sized, well-shaped}
 use Rattle.machine.proofs.Shape.TickKeeps.{tick-allowed, tick-kept}
 use Rattle.machine.proofs.Shape.DispatchCases.{by-dispatch}
 use Rattle.machine.proofs.Shape.ShapeKept.{tick-passes, call-accepted}

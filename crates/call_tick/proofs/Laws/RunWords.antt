@@ -1,13 +1,12 @@
 -- A list pair by pair: the ticks made so far, and the run of the pairs ahead.
 use mathlib.Core.Path.{_≡_, sym, ap, _∙_, subst}
 use mathlib.Core.Bool.{true, false}
-use mathlib.Core.List.{List, _∷_, _++_, append-assoc}
+use mathlib.Core.List.{List, [], _∷_, _++_, append-assoc}
 use mathlib.Core.Option.{Option, some, none as nothing}
 use Prim.Native.Nat.{ℕ, suc, _+_, _*_, _≤_, _<_}
 use native.Mathlib.Nat.{add-zero, zero-add}
-use native.Mathlib.Numerals.{add-one}
 use native.Mathlib.Omega.{arith}
-use lib.ListN.{length, getD, take, drop, take-append-drop, drop-of-length-le}
+use lib.ListN.{length, getD, take, drop, take-append-drop}
 use lib.Seq.{sets, drop-cons, drop-drop}
 use Rattle.tag.specs.Tags.{largestTag}
 use Rattle.machine.specs.declared.Answer.{Answer}
@@ -79,11 +78,11 @@ behind made front r =
     }
 
 -- The words of the ticks made stand in front of the answers.
-abbrev pub ahead : (at made : ℕ) (list ws answers : List ℕ) → RunDone
-ahead at made list ws answers =
-    let to = answerLength * made in behind made (take to answers) (runOn (drop at list) ws (drop to answers))
+abbrev pub ahead : (made : ℕ) (left ws answers : List ℕ) → RunDone
+ahead made left ws answers =
+    let to = answerLength * made in behind made (take to answers) (runOn left ws (drop to answers))
 
-pub run-begins : (list ws answers : List ℕ) → ahead 0 0 list ws answers ≡ runOn list ws answers
+pub run-begins : (list ws answers : List ℕ) → ahead 0 list ws answers ≡ runOn list ws answers
 run-begins list ws answers =
     let r = runOn list ws answers in
     ap (λ (m : ℕ). runDoneOf (record { made = m; refusal = r .ran .refusal }) (r .words) (r .answers))
@@ -99,16 +98,12 @@ stops-here to made n ws answers =
     ∙ ap (runDoneOf (record { made = made; refusal = n }) ws) (take-append-drop to answers)
 
 pub run-ends :
-    (at made : ℕ) (list ws answers : List ℕ)
-    → length list ≤ at
-    → runDoneOf (record { made = made; refusal = 0 }) ws answers ≡ ahead at made list ws answers
+    (made : ℕ) (left ws answers : List ℕ)
+    → length left ≤ 0
+    → runDoneOf (record { made = made; refusal = 0 }) ws answers ≡ ahead made left ws answers
 unfolding runOn
-run-ends at made list ws answers e =
-    let to = answerLength * made in
-    sym
-    (ap (λ (l : List ℕ). behind made (take to answers) (runOn l ws (drop to answers)))
-    (drop-of-length-le list {i = at} e)
-    ∙ stops-here to made 0 ws answers)
+run-ends made [] ws answers e = sym (stops-here (answerLength * made) made 0 ws answers)
+run-ends made (n ∷ left) ws answers e = absurd (omega arith)
 
 -- One tick more made is one less ahead.
 one-more :
@@ -121,50 +116,43 @@ one-more made front a r =
     (append-assoc front (answerWords a) (r .answers))
     ∙ ap (λ (m : ℕ). runDoneOf (record { made = m; refusal = r .ran .refusal }) (r .words) l) more
 
--- The tick of the pair at a place.
-module _ (at made : ℕ) (list ws answers : List ℕ) (more : at + 1 < length list) (a : Answer) (vs : List ℕ)
-    (ticked : tickedOf a vs ≡ tickOn ws (getD list at 0) (getD list (at + 1) 0)) where
-  pair-ahead : drop at list ≡ getD list at 0 ∷ getD list (at + 1) 0 ∷ drop (at + 2) list
+-- The tick of the first pair that is left.
+module _ (made : ℕ) (left ws answers : List ℕ) (more : 1 < length left) (a : Answer) (vs : List ℕ)
+    (ticked : tickedOf a vs ≡ tickOn ws (getD left 0 0) (getD left 1 0)) where
+  pair-ahead : left ≡ getD left 0 0 ∷ getD left 1 0 ∷ drop 2 left
   pair-ahead =
-      drop-cons list at 0 (omega arith)
-      ∙ ap (λ (j : ℕ). getD list at 0 ∷ drop j list) (sym (add-one at))
-      ∙ ap (_∷_ (getD list at 0)) (drop-cons list (at + 1) 0 more)
-      ∙ ap (λ (j : ℕ). getD list at 0 ∷ getD list (at + 1) 0 ∷ drop j list) two
-    where
-      two : suc (at + 1) ≡ at + 2
-      two = omega arith
+      drop-cons left 0 0 (omega arith) ∙ ap (_∷_ (getD left 0 0)) (drop-cons left 1 0 more)
 
   to : ℕ
   to = answerLength * made
 
   pub run-refused :
       isRefused a ≡ true
-      → runDoneOf (record { made = made; refusal = numberOf (refusalOf a) }) vs answers ≡ ahead at made list ws answers
+      → runDoneOf (record { made = made; refusal = numberOf (refusalOf a) }) vs answers ≡ ahead made left ws answers
   unfolding to
   run-refused e =
       sym
       (ap (λ (l : List ℕ). behind made (take to answers) (runOn l ws (drop to answers))) pair-ahead
       ∙ ap (behind made (take to answers))
-      (first-refused (getD list at 0) (getD list (at + 1) 0) (drop (at + 2) list) ws (drop to answers) a vs ticked e)
+      (first-refused (getD left 0 0) (getD left 1 0) (drop 2 left) ws (drop to answers) a vs ticked e)
       ∙ stops-here to made (numberOf (refusalOf a)) vs answers)
 
   pub run-made :
       isRefused a ≡ false
       → answerLength * made + answerLength ≤ length answers
-      → ahead (at + 2) (made + 1) list vs (sets answers (answerLength * made) (answerWords a))
-      ≡ ahead at made list ws answers
+      → ahead (made + 1) (drop 2 left) vs (sets answers (answerLength * made) (answerWords a))
+      ≡ ahead made left ws answers
   unfolding to
   run-made e room =
       let w = sets answers to (answerWords a) in
-      let left = drop (at + 2) list in
       let next : answerLength * (made + 1) ≡ to + answerLength = omega arith in
-      ap (λ (j : ℕ). behind (made + 1) (take j w) (runOn left vs (drop j w))) next
-      ∙ ap (λ (f : List ℕ). behind (made + 1) f (runOn left vs (drop (to + answerLength) w)))
+      ap (λ (j : ℕ). behind (made + 1) (take j w) (runOn (drop 2 left) vs (drop j w))) next
+      ∙ ap (λ (f : List ℕ). behind (made + 1) f (runOn (drop 2 left) vs (drop (to + answerLength) w)))
       (front-grows answers (answerWords a) to room)
-      ∙ ap (λ (b : List ℕ). behind (made + 1) (take to answers ++ answerWords a) (runOn left vs b))
+      ∙ ap (λ (b : List ℕ). behind (made + 1) (take to answers ++ answerWords a) (runOn (drop 2 left) vs b))
       (rest-stays answers (answerWords a) to room ∙ sym (drop-drop answerLength to answers))
-      ∙ one-more made (take to answers) a (runOn left vs (drop answerLength (drop to answers)))
+      ∙ one-more made (take to answers) a (runOn (drop 2 left) vs (drop answerLength (drop to answers)))
       ∙ sym
       (ap (λ (l : List ℕ). behind made (take to answers) (runOn l ws (drop to answers))) pair-ahead
       ∙ ap (behind made (take to answers))
-      (first-made (getD list at 0) (getD list (at + 1) 0) left ws (drop to answers) a vs ticked e))
+      (first-made (getD left 0 0) (getD left 1 0) (drop 2 left) ws (drop to answers) a vs ticked e))

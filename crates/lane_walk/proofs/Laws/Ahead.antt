@@ -1,12 +1,11 @@
 -- While a bag is ahead of a node, the node holds one, and ahead of the next there is one fewer.
 use mathlib.Core.Path.{_≡_, refl, sym, ap, _∙_}
 use mathlib.Core.Logic.{_≢_}
-use mathlib.Core.Bool.{Bool, true}
-use mathlib.Core.List.{List, [], _∷_}
+use mathlib.Core.Bool.{true}
+use mathlib.Core.List.{List, _∷_}
 use mathlib.Core.Option.{Option, some, none as nothing, Option·map}
 use Prim.Native.Nat.{ℕ, zero, suc, _<_}
-use lib.ListN.{length}
-use Rattle.machine.specs.Choice.{_≟_, _<?_, if_then_else_}
+use Rattle.machine.specs.Choice.{_≟_, _<?_}
 use Rattle.machine.specs.Sides.{left, right}
 use Rattle.machine.specs.Values.{Value, never, bag, N, X, Y, number, encode, decode, bagOk}
 use Rattle.machine.specs.Tasks.{none}

@@ -1,11 +1,11 @@
 -- One turn of the walk along R.
-use mathlib.Core.Path.{_≡_, refl, sym, ap, _∙_}
+use mathlib.Core.Path.{_≡_, refl, ap, _∙_}
 use mathlib.Core.Logic.{_≢_}
 use mathlib.Core.Bool.{true, false}
 use mathlib.Core.List.{List, [], _∷_}
 use mathlib.Core.Option.{Option, some, none as nothing, Option·map}
 use Prim.Native.Nat.{ℕ, zero, suc, _<_}
-use Rattle.machine.specs.Choice.{_≟_, _<?_, if_then_else_}
+use Rattle.machine.specs.Choice.{_<?_}
 use Rattle.machine.specs.Sides.{right}
 use Rattle.machine.specs.Values.{Value, never, bag, N, X, Y, number, encode, decode, bagOk}
 use Rattle.machine.specs.Tasks.{none}
@@ -13,9 +13,7 @@ use Rattle.machine.specs.Table.{nodeCount, link, value, valueWords}
 use Rattle.machine.specs.Calls.{laneFrom}
 use Rattle.machine.proofs.Basics.Choices.{equal, unequal, if-yes}
 use Rattle.machine.proofs.Basics.Contradiction.{clash}
-use Rattle.machine.proofs.Words.ValueLaws.{decoded-bag}
-use Rattle.table_values.specs.Tests.{isBag}
-use Rattle.table_values.proofs.Laws.ValueWords.{bag-words}
+use Rattle.machine.proofs.Words.ValueLaws.{bag-decoded, decoded-bag}
 
 -- The walk at a node that holds v, by the walk after it.
 abbrev pub atValue : Value → Option (List ℕ) → Option (List ℕ)
@@ -58,23 +56,15 @@ module _ (ws : List ℕ) where
     at-words = rw turn (at-node m′ x node ∙ ap (λ (v : Value). atValue v (after m′ x)) held)
 
     pub no-bag : bagOk (valueWords ws x) ≡ false → laneFrom ws m x ≡ some []
-    no-bag h = at-words ∙ go (decode (valueWords ws x)) (sym (bag-words (valueWords ws x)) ∙ h)
+    no-bag h = at-words ∙ go (decode (valueWords ws x)) refl
       where
-        go : (v : Value) → isBag v ≡ false → atValue v (after m′ x) ≡ some []
-        go never h = refl
-        go (bag b) h = clash (cc)
-        go (N s) h = refl
-        go (X s) h = refl
-        go (Y s) h = refl
+        go : (v : Value) → decode (valueWords ws x) ≡ v → atValue v (after m′ x) ≡ some []
+        go never e = refl
+        go (bag b) e = clash (cc (h, decoded-bag (valueWords ws x) b e .0))
+        go (N s) e = refl
+        go (X s) e = refl
+        go (Y s) e = refl
 
     pub one-bag : bagOk (valueWords ws x) ≡ true
         → laneFrom ws m x ≡ Option·map (_∷_ (number (valueWords ws x))) (after m′ x)
-    one-bag h = at-words ∙ go (decode (valueWords ws x)) refl (sym (bag-words (valueWords ws x)) ∙ h)
-      where
-        go : (v : Value) → decode (valueWords ws x) ≡ v → isBag v ≡ true
-            → atValue v (after m′ x) ≡ Option·map (_∷_ (number (valueWords ws x))) (after m′ x)
-        go never e h = clash (cc)
-        go (bag b) e h = ap (λ (n : ℕ). Option·map (_∷_ n) (after m′ x)) (sym (decoded-bag (valueWords ws x) b e .1))
-        go (N s) e h = clash (cc)
-        go (X s) e h = clash (cc)
-        go (Y s) e h = clash (cc)
+    one-bag h = at-words ∙ ap (λ (v : Value). atValue v (after m′ x)) (bag-decoded (valueWords ws x) h)

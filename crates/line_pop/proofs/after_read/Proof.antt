@@ -9,13 +9,13 @@ use borrow.Author.Needs.{needs}
 use Rattle.line_pop.proofs.after_read.Statement.{statement}
 use Rattle.line_pop.proofs.after_read.Tie as tie
 
-is-bag-requires : tie.Need-is-bag-requires
-is-bag-requires c κs = search needs
+bag-ok-requires : tie.Need-bag-ok-requires
+bag-ok-requires c κs = search needs
 
 returns : tie.Need-returns
 returns c =
     let a = c .before .before .args in
-    rw (read-bag (sideOf (a .o)) (decode (a .v)) (sym (c .before .is-bag .ensures) ∙ c .if1 .taken))
+    rw (read-bag (sideOf (a .o)) (a .v) (sym (c .before .bag-ok .ensures) ∙ c .if1 .taken))
 
 is-n-requires : tie.Need-is-n-requires
 is-n-requires c κs = search needs
@@ -37,15 +37,15 @@ returns-3 c =
     let a = asked .before .before .before .args in
     let o = sideOf (a .o) in
     let v = decode (a .v) in
-    let no-bag = sym (asked .before .before .is-bag .ensures) ∙ asked .before .if1 .left in
+    let no-bag = sym (asked .before .before .bag-ok .ensures) ∙ asked .before .if1 .left in
     let no-N = sym (asked .is-n .ensures) ∙ c .before .before .if2 .left in
-    rw (c .either .ensures, c .before .is-x .ensures, read-other o v no-bag no-N) (chosenᵛ v (X o) line48 line39)
+    rw (c .either .ensures, c .before .is-x .ensures, read-other o (a .v) no-bag no-N) (chosenᵛ v (X o) line48 line39)
 
 pub after-read-spec : {M : Type 1} → statement M
 after-read-spec =
     tie.close
     (tie.spec
-    is-bag-requires
+    bag-ok-requires
     returns
     is-n-requires
     returns-2

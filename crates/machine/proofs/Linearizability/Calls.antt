@@ -7,7 +7,9 @@ pub mod Reading
 pub mod RowSteps
 pub mod Agreement
 pub mod MadeTicks
+pub mod RowDid
 pub mod CallsAgree
 pub mod ConsecutiveTicks
 pub mod ConsecutiveDispatches
 pub mod Runs
+pub mod EveryCall

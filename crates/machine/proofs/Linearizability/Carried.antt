@@ -1,31 +1,20 @@
 -- A relation between words and row that starts bring about and calls keep is true at every place of a list of events at
 -- which a row is known: it is about the words, so putting them back puts it back.
 use mathlib.Core.Path.{_≡_, refl, sym, ap, subst}
-use mathlib.Core.Bool.{Bool, true, false, cond}
+use mathlib.Core.Bool.{Bool, true, false, cond, _||_}
 use mathlib.Core.List.{List, [], _∷_}
 use mathlib.Core.Option.{Option, some, none as nothing, bind}
 use Prim.Native.Nat.{ℕ}
+use lib.Dec.{eqb}
+use lib.ListN.{length}
 use Rattle.machine.specs.declared.Reply.{Reply}
 use Rattle.machine.specs.declared.Reply.the-variants.{Accepted, Refused as Reply-Refused}
-use Rattle.machine.specs.Shape.{sameWords}
-use Rattle.machine.specs.Calls.{Changed, start}
+use Rattle.machine.specs.Shape.{sameWords, lengthOk, shapeOk, WellFormed}
+use Rattle.machine.specs.Calls.{unless, tableRefusal, Changed, start}
 use Rattle.machine.specs.Snapshots.{byNodes, takeSnapshot, putBack}
 use Rattle.machine.specs.Row.{Row, emptyRow}
-use Rattle.machine.specs.Demand3.{
-  Call,
-  start-call,
-  begin-call,
-  tick-call,
-  ticks-call,
-  dispatch-call,
-  dispatches-call,
-  run-call,
-  panel-call,
-  read-call,
-  given,
-  after,
-  feed,
-}
+use Rattle.machine.specs.Demand3.{Call, given, after, feed}
+use Rattle.machine.specs.Kinds.{Asked, Did, did}
 use Rattle.machine.specs.Events.{
   Event,
   call-event,
@@ -41,6 +30,7 @@ use Rattle.machine.specs.Events.{
   fedRow,
   startedRow,
   feedCall,
+  refusalFits,
   feedTake,
   feedPut,
   feedEvent,
@@ -50,14 +40,23 @@ use Rattle.machine.specs.Events.{
   afterEvents,
   knownAfter,
 }
+use Rattle.machine.proofs.Basics.Contradiction.{clash}
+use Rattle.machine.proofs.Words.Kinds.{Comes, left-alone, is-started, is-begun, are-ticked, are-dispatched, comes}
 use Rattle.machine.proofs.Words.RecordLaws.{same-words}
-use Rattle.machine.proofs.Snapshots.RoundTrips.{put, put-refused, taken-back}
+use Rattle.machine.proofs.Shape.ShapeKept.{table-passes}
+use Rattle.machine.proofs.Snapshots.RoundTrips.{no-refusal, refused-with, put, put-refused, taken-back}
 
 pub record Carried (P : List ℕ → Row → Type 0) : Type 0 where
   pub at-start : (S T g L : ℕ) (old : List ℕ) → start old S T g L .reply ≡ Accepted
       → P (start old S T g L .words) (emptyRow T L)
   pub at-call : {ws : List ℕ} {ρ : Row} → P ws ρ → (c : Call)
       → (ρ′ : Row) × (feed ρ c (given c ws) ≡ some ρ′) × P (after c ws) ρ′
+  pub well-formed : {ws : List ℕ} {ρ : Row} → P ws ρ → WellFormed ws
+
+-- What the tests of a take or a put come to.
+accepted-same : (same : Bool) (others : Option ℕ) → unless same 22 others ≡ nothing → same ≡ true
+accepted-same true others e = refl
+accepted-same false others e = clash (cc)
 
 module _ (P : List ℕ → Row → Type 0) (C : Carried P) where
   -- The words that each kept snapshot puts back have it with the row kept.
@@ -73,32 +72,46 @@ module _ (P : List ℕ → Row → Type 0) (C : Carried P) where
   holds-of-nothing ws = record { present = tt; kept = tt }
 
   abbrev Next : Event → List ℕ → Known → Type 0
-  Next e ws κ = (κ′ : Known) × (feedEvent κ e (eventGiven e ws) ≡ some κ′) × Holds (afterEvent e ws) κ′
+  Next e ws κ =
+      (κ′ : Known) × (feedEvent (length ws) κ e (eventGiven e ws) ≡ some κ′) × Holds (afterEvent e ws) κ′
 
   -- ---- A call.
-  started : (c : Call) (ws : List ℕ) → Where P (after c ws) (startedRow c (given c ws))
-  started (start-call S T g L) ws = go (start ws S T g L .reply) refl
+  started-there : (c : Call) (ws : List ℕ) → Where P (after c ws) (startedRow (did c (given c ws)))
+  started-there c ws = go (comes c ws)
     where
-      go : (r : Reply) → start ws S T g L .reply ≡ r
-          → Where P (start ws S T g L .words) (startedRow (start-call S T g L) r)
-      go Accepted e = C .at-start S T g L ws e
-      go (Reply-Refused n) e = tt
-  started (begin-call k l op side argument) ws = tt
-  started (tick-call k h) ws = tt
-  started (ticks-call k h times) ws = tt
-  started (dispatch-call h) ws = tt
-  started (dispatches-call h times) ws = tt
-  started (run-call list answers) ws = tt
-  started (panel-call list answers) ws = tt
-  started (read-call l out) ws = tt
+      go : {a : Asked} {vs : List ℕ} {d : Did} → Comes ws a vs d → Where P vs (startedRow d)
+      go (left-alone a e) = tt
+      go (is-started S T g L e) = C .at-start S T g L ws e
+      go (is-begun k l op side argument e) = tt
+      go (are-ticked i list ts) = tt
+      go (are-dispatched h n ts) = tt
 
   after-call : (c : Call) (ws : List ℕ) (known : Option Row) (ks : List Kept) → Where P ws known → AllKept ks
       → (κ′ : Known) × (feedCall known ks c (given c ws) ≡ some κ′) × Holds (after c ws) κ′
   after-call c ws nothing ks p K =
-      (record { row = startedRow c (given c ws); kept = ks }, refl, record { present = started c ws; kept = K })
+      (record { row = startedRow (did c (given c ws)); kept = ks }, refl, record { present = started-there c ws; kept = K })
   after-call c ws (some ρ) ks p K =
       let x = C .at-call p c in
       (record { row = some (x .0); kept = ks }, ap (λ r. fedRow r ks) (x .1), record { present = x .2; kept = K })
+
+  -- ---- Refusals of takes and puts.
+  refused-table : (tested : List ℕ) {n : ℕ} → tableRefusal tested nothing ≡ some n → refusalFits true nothing n ≡ true
+  refused-table tested {n} e = by-length (lengthOk tested) e
+    where
+      by-shape : (b : Bool) → unless b 4 nothing ≡ some n → eqb n 3 || eqb n 4 ≡ true
+      by-shape true q = clash (cc)
+      by-shape false q = let is : 4 ≡ n = cc in rw (← is)
+
+      by-length : (b : Bool) → unless b 3 (unless (shapeOk tested) 4 nothing) ≡ some n → eqb n 3 || eqb n 4 ≡ true
+      by-length true q = by-shape (shapeOk tested) q
+      by-length false q = let is : 3 ≡ n = cc in rw (← is)
+
+  refused-so : (same : Bool) (tested : List ℕ) (known : Option Row) → Where P tested known → {n : ℕ}
+      → unless same 22 (tableRefusal tested nothing) ≡ some n
+      → refusalFits same known n ≡ true
+  refused-so false tested known p {n} e = let is : 22 ≡ n = cc in rw (← is)
+  refused-so true tested nothing p e = refused-table tested e
+  refused-so true tested (some ρ) p e = clash (cc (table-passes tested (C .well-formed p) nothing))
 
   -- ---- A take.
   kept-too : (ws ss : List ℕ) (known : Option Row) (ks : List Kept) → Where P ws known → AllKept ks → byNodes ss ≡ ws
@@ -107,18 +120,26 @@ module _ (P : List ℕ → Row → Type 0) (C : Carried P) where
   kept-too ws ss (some ρ) ks p K back = (subst (λ (vs : List ℕ). P vs ρ) (sym back) p, K)
 
   after-take : (out ws : List ℕ) (κ : Known) → Holds ws κ → Next (take-event out) ws κ
-  after-take out ws κ H =
-      (feedTake κ (takeSnapshot ws out .reply) (takeSnapshot ws out .words), refl, go (takeSnapshot ws out .reply) refl)
+  unfolding takeSnapshot
+  after-take out ws κ H = go (takeSnapshot ws out .reply) refl
     where
-      go : (q : Reply) → takeSnapshot ws out .reply ≡ q → Holds ws (feedTake κ q (takeSnapshot ws out .words))
-      go Accepted e =
-          record {
-            present = H .present;
-            kept =
-                kept-too ws (takeSnapshot ws out .words) (κ .row) (κ .kept) (H .present) (H .kept)
-                (taken-back ws out e);
-          }
-      go (Reply-Refused n) e = H
+      same : Bool
+      same = eqb (length out) (length ws)
+
+      go : (q : Reply) → takeSnapshot ws out .reply ≡ q
+          → (κ′ : Known) × (feedTake κ same q (takeSnapshot ws out .words) ≡ some κ′) × Holds ws κ′
+      go Accepted e = (
+        record { row = κ .row; kept = keep (takeSnapshot ws out .words) (κ .row) (κ .kept) },
+        rw (accepted-same same (tableRefusal ws nothing) (no-refusal _ _ _ e)),
+        record {
+          present = H .present;
+          kept =
+              kept-too ws (takeSnapshot ws out .words) (κ .row) (κ .kept) (H .present) (H .kept)
+              (taken-back ws out e);
+        },
+      )
+      go (Reply-Refused n) e =
+          (κ, rw (refused-so same ws (κ .row) (H .present) (refused-with _ _ _ e)), H)
 
   -- ---- A put.
   pub found : (ss : List ℕ) (ks : List Kept) → AllKept ks → Where P (byNodes ss) (rowKept ss ks)
@@ -133,18 +154,32 @@ module _ (P : List ℕ → Row → Type 0) (C : Carried P) where
       go false e others = others
 
   after-put : (ss ws : List ℕ) (κ : Known) → Holds ws κ → Next (put-event ss) ws κ
-  after-put ss ws κ H = (feedPut κ ss (putBack ss ws .reply), refl, go (putBack ss ws .reply) refl)
+  unfolding putBack
+  after-put ss ws κ H = go (putBack ss ws .reply) refl
     where
-      go : (q : Reply) → putBack ss ws .reply ≡ q → Holds (putBack ss ws .words) (feedPut κ ss q)
-      go Accepted e =
-          record {
-            present =
-                subst (λ (vs : List ℕ). Where P vs (rowKept ss (κ .kept)))
-                (sym (ap (λ (c : Changed). c .words) (put ss ws e .is)))
-                (found ss (κ .kept) (H .kept));
-            kept = H .kept;
-          }
-      go (Reply-Refused n) e = subst (λ (vs : List ℕ). Holds vs κ) (sym (put-refused ss ws n e)) H
+      same : Bool
+      same = eqb (length ss) (length ws)
+
+      there : Where P (byNodes ss) (rowKept ss (κ .kept))
+      there = found ss (κ .kept) (H .kept)
+
+      go : (q : Reply) → putBack ss ws .reply ≡ q
+          → (κ′ : Known) × (feedPut κ same ss q ≡ some κ′) × Holds (putBack ss ws .words) κ′
+      go Accepted e = (
+        record { row = rowKept ss (κ .kept); kept = κ .kept },
+        rw (accepted-same same (tableRefusal (byNodes ss) nothing) (no-refusal _ _ _ e)),
+        record {
+          present =
+              subst (λ (vs : List ℕ). Where P vs (rowKept ss (κ .kept)))
+              (sym (ap (λ (c : Changed). c .words) (put ss ws e .is))) there;
+          kept = H .kept;
+        },
+      )
+      go (Reply-Refused n) e = (
+        κ,
+        rw (refused-so same (byNodes ss) (rowKept ss (κ .kept)) there (refused-with _ _ _ e)),
+        subst (λ (vs : List ℕ). Holds vs κ) (sym (put-refused ss ws n e)) H,
+      )
 
   -- ---- Every event, and every list of them.
   after-event : (e : Event) (ws : List ℕ) (κ : Known) → Holds ws κ → Next e ws κ

@@ -1,10 +1,10 @@
--- Corollaries of demand 3: refusals that are never met, nodes that are never taken, runs by their ticks, bags counted.
+-- Corollaries of demand 3: refusals that are never met, nodes that are never taken, bags counted.
 use mathlib.Core.Path.{_≡_, refl, sym, ap, _∙_, subst}
 use mathlib.Core.Logic.{_≢_}
 use mathlib.Core.Bool.{Bool, true, false, not, _&&_, _||_}
 use mathlib.Core.List.{List, [], _∷_, _++_}
 use mathlib.Core.Option.{Option, some, none as nothing}
-use Prim.Native.Nat.{ℕ, zero, suc, _+_, _*_, _/_, _%_, _≤_, _<_}
+use Prim.Native.Nat.{ℕ, _+_, _*_, _/_, _%_, _≤_, _<_}
 use native.Mathlib.Omega.{arith}
 use lib.Dec.{leb, ltb, eqb}
 use lib.ListN.{length, drop}
@@ -22,7 +22,7 @@ use Rattle.machine.specs.Operations.{Operation, idle, push, pop, add, re
 use Rattle.machine.specs.Tasks.{none, Register, register}
 use Rattle.machine.specs.Registers.{holds}
 use Rattle.machine.specs.Table.{nodeCount, taskCount, laneCount, task, setTask}
-use Rattle.machine.specs.Shape.{lengthOk, shapeOk}
+use Rattle.machine.specs.Shape.{lengthOk, shapeOk, sizesOf, Sized}
 use Rattle.machine.specs.Reach.{Reachable, from-register}
 use Rattle.machine.specs.Allocate.{allocate}
 use Rattle.machine.specs.Answers.{answerLength, refusalOf, dispatchRefusalOf}
@@ -64,7 +64,8 @@ use Rattle.machine.specs.Calls.{
   read,
 }
 use Rattle.machine.specs.Row.{Row, emptyRow}
-use Rattle.machine.specs.Demand3.{Call, tick-call, dispatch-call, given, after, LanesAre, afterTicks}
+use Rattle.machine.specs.Demand3.{Call, tick-call, dispatch-call, given, LanesAre, afterTicks}
+use Rattle.machine.specs.Kinds.{did}
 use Rattle.machine.specs.FirstFree.{TakesFirstFree}
 use Rattle.machine.specs.Twice.{allBags}
 use Rattle.machine.specs.Begun.{
@@ -74,13 +75,11 @@ use Rattle.machine.specs.Begun.{
   afterAll,
   History,
   noHistory,
-  recordCall,
   history,
   bagsPushed,
   bagsPopped,
 }
 use Rattle.machine.proofs.Basics.Contradiction.{clash, refute}
-use Rattle.machine.proofs.Words.Columns.{sizesOf, Sized}
 use Rattle.machine.proofs.Shape.ShapeLaws.{well-sized}
 use Rattle.machine.proofs.Shape.DispatchCases.{by-dispatch}
 use Rattle.machine.proofs.Shape.ShapeKept.{is-accepted, table-passes, tick-passes as accepted-tick-passes}
@@ -89,16 +88,13 @@ use Rattle.machine.proofs.SlotRule.FirstFree.{allocate-first-free, allo
 use Rattle.machine.proofs.Words.TickLaws.{tick-stopped}
 use Rattle.machine.proofs.Words.RunLaws.{by-last-tick}
 use Rattle.machine.proofs.Words.DispatchLaws.{by-last-dispatch}
+use Rattle.machine.proofs.Words.Kinds.{kept-in-list}
 use Rattle.machine.proofs.Linearizability.Calls.Agreement.{Agrees, lanes-are-rows, all-lanes-are-rows}
 use Rattle.machine.proofs.Linearizability.Calls.MadeTicks.{well-linked, made-tick}
 use Rattle.machine.proofs.Linearizability.Calls.CallsAgree.{tick-explained}
-use Rattle.machine.proofs.Linearizability.Theorem.{call-explained, started-agrees}
-use Rattle.machine.proofs.Linearizability.Histories.{
-  Balanced,
-  Recorded,
-  nothing-recorded,
-  call-recorded,
-}
+use Rattle.machine.proofs.Linearizability.Calls.EveryCall.{told, call-explained}
+use Rattle.machine.proofs.Linearizability.Theorem.{started-agrees}
+use Rattle.machine.proofs.Linearizability.Histories.{Balanced, Recorded, nothing-recorded, did-recorded}
 
 -- A table that our calls lead to agrees with a row.
 pub begun-agrees : {ws : List ℕ} → Begun ws → (ρ : Row) × Agrees ws ρ
@@ -282,11 +278,7 @@ begun-ticked B k h =
     subst (λ (r : Ticked). Begun (r .words)) (tick-passes (begun-agrees B .1) k h) (by-call B (tick-call k h))
 
 pub begun-inside-runs : (i : ℕ) (list : List ℕ) {ws : List ℕ} → Begun ws → Begun (afterTicks i list ws)
-unfolding afterTicks
-begun-inside-runs zero list B = B
-begun-inside-runs (suc i) [] B = B
-begun-inside-runs (suc i) (k ∷ []) B = B
-begun-inside-runs (suc i) (k ∷ h ∷ list) B = begun-inside-runs i list (begun-ticked B k h)
+begun-inside-runs i list {ws} B = kept-in-list Begun (λ vs X k h. begun-ticked X k h) i list ws B
 
 -- ---- Nodes that are never taken.
 
@@ -309,48 +301,6 @@ pub register-never-taken : {ws : List ℕ} {hint : ℕ} → Begun ws → hint < 
     → register (task ws k) r ≢ none
     → allocate ws hint ≢ register (task ws k) r
 register-never-taken B low k r h n = held-node-never-taken B low (from-register k r h n)
-
--- ---- Runs by their ticks.
-ticks-of-run : (list ws answers : List ℕ)
-    → afterTicks (runOn list ws answers .ran .made) list ws ≡ runOn list ws answers .words
-unfolding runOn afterTicks
-ticks-of-run [] ws answers = refl
-ticks-of-run (k ∷ []) ws answers = refl
-ticks-of-run (k ∷ h ∷ list) ws answers =
-    go (refusalOf (tickOn ws k h .answer)) (ticks-of-run list (tickOn ws k h .words) (drop answerLength answers))
-  where
-    others : RunDone
-    others = runOn list (tickOn ws k h .words) (drop answerLength answers)
-
-    first : Option ℕ → RunDone
-    first r =
-        elim r as (λ _. RunDone) [
-          | some n ↦ stopped n ws answers
-          | nothing ↦ afterTick (tickOn ws k h .answer) others
-        ]
-
-    go :
-        (r : Option ℕ)
-        → afterTicks (others .ran .made) list (tickOn ws k h .words) ≡ others .words
-        → afterTicks (first r .ran .made) (k ∷ h ∷ list) ws ≡ first r .words
-    go (some n) e = refl
-    go nothing e = e
-
-module _ (ws list answers : List ℕ) where
-  tested-is-its-ticks : (r : Option ℕ)
-      → afterTicks (tested r ws list answers .ran .made) list ws ≡ tested r ws list answers .words
-  unfolding afterTicks
-  tested-is-its-ticks (some n) = refl
-  tested-is-its-ticks nothing = ticks-of-run list ws answers
-
-  -- The tables inside a run, and inside the panel's list, end where it ends.
-  pub run-is-its-ticks : afterTicks (run ws list answers .ran .made) list ws ≡ run ws list answers .words
-  unfolding run
-  run-is-its-ticks = tested-is-its-ticks (runRefusal ws list answers)
-
-  pub panel-is-its-ticks : afterTicks (panel ws list answers .ran .made) list ws ≡ panel ws list answers .words
-  unfolding panel
-  panel-is-its-ticks = tested-is-its-ticks (panelRefusal ws list answers)
 
 -- ---- Reading a lane.
 
@@ -383,8 +333,8 @@ agreed-recorded : (cs : List Call) {ws : List ℕ} {ρ : Row} {η : History} →
 unfolding afterAll history
 agreed-recorded [] {ρ = ρ} A R = (ρ, A, R .balanced)
 agreed-recorded (c ∷ cs) {ws} A R =
-    let E = call-explained A c in
-    agreed-recorded cs (E .agrees) (call-recorded c (given c ws) R (E .given-by-row))
+    let E = told A c in
+    agreed-recorded cs (E .explains .agrees) (did-recorded (did c (given c ws)) R (E .fed-what-it-did))
 
 -- No bag is lost or doubled: after every list of calls each bag is in a lane as often as it was pushed there and not
 -- popped since the latest start.

@@ -4,34 +4,16 @@ use mathlib.Core.Bool.{Bool, true, false, cond, _&&_}
 use mathlib.Core.List.{List, [], _∷_, _++_, reverse, reverse-cons, reverse-reverse}
 use mathlib.Core.Logic.{_≢_}
 use borrow.Author.Tests.{eq-eqb, ne-eqb}
-use mathlib.Core.Option.{Option, some, none as nothing, Option·map, bind}
-use Prim.Native.Nat.{ℕ, zero, suc, _+_, _*_}
+use mathlib.Core.Option.{Option, some, none as nothing, Option·map}
+use Prim.Native.Nat.{ℕ, _+_}
 use native.Mathlib.Omega.{arith}
-use lib.Dec.{leb, ltb, eqb}
-use lib.ListN.{length, take}
-use Rattle.tag.specs.Tags.{allTagWords}
 use Rattle.machine.specs.declared.Answer.{Answer}
-use Rattle.machine.specs.declared.Answer.the-variants.{
-  Going,
-  Pushed,
-  Bag,
-  Empty,
-  Full,
-  Yes,
-  No,
-  Refused,
-}
-use Rattle.machine.specs.declared.Dispatch.{Dispatch}
-use Rattle.machine.specs.declared.Dispatch.the-variants.{Idle, Answered}
-use Rattle.machine.specs.declared.Reply.the-variants.{Accepted, Refused as Reply-Refused}
-use Rattle.machine.specs.declared.Reading.{Reading}
-use Rattle.machine.specs.declared.Reading.the-variants.{Count, Refused as Reading-Refused}
+use Rattle.machine.specs.declared.Answer.the-variants.{Going, Pushed, Bag, Empty, Full, Yes, No, Refused}
 use Rattle.machine.specs.Choice.{_≟_, if_then_else_}
 use Rattle.machine.specs.Counts.{count}
 use Rattle.machine.specs.Sides.{Side, left, right}
 use Rattle.machine.specs.Operations.{Operation, idle, push, pop, add, remove}
-use Rattle.machine.specs.Shape.{sameWords}
-use Rattle.machine.specs.Answers.{refusalOf, isGoing, dispatchGoesOn, answerOf}
+use Rattle.machine.specs.Answers.{isGoing}
 use Rattle.machine.specs.Row.{
   Note,
   Row,
@@ -46,30 +28,10 @@ use Rattle.machine.specs.Row.{
   sizeAnswered,
   answered,
   feedMade,
-  feedRun,
   nextNoted,
   feedDispatched,
-  feedIdle,
-  feedDispatch,
 }
-use Rattle.machine.specs.Demand3.{
-  Call,
-  start-call,
-  begin-call,
-  tick-call,
-  ticks-call,
-  dispatch-call,
-  dispatches-call,
-  run-call,
-  panel-call,
-  read-call,
-  Given,
-  isCall,
-  feedTick,
-  feedDispatches,
-  feedRead,
-  feed,
-}
+use Rattle.machine.specs.Kinds.{Tick, of-task, of-next, Did, started, begun, ticked}
 use Rattle.machine.specs.Begun.{
   Finished,
   History,
@@ -77,18 +39,16 @@ use Rattle.machine.specs.Begun.{
   withNote,
   finish,
   recordMade,
+  recordNext,
   recordTick,
-  recordRun,
-  recordDispatched,
-  recordDispatch,
-  recordDispatches,
-  recordCall,
+  recordTicks,
+  recordDid,
   bagsPushed,
   bagsPopped,
 }
 use Rattle.machine.proofs.Basics.Contradiction.{clash}
 use Rattle.machine.proofs.Basics.Choices.{by-if}
-use Rattle.machine.proofs.Words.RunLaws.{going-answer}
+use Rattle.machine.proofs.Linearizability.Calls.RowDid.{bound, mapped, feedMadeTick, feedMadeTicks, feedDid}
 
 -- ---- Bags counted.
 
@@ -207,17 +167,7 @@ module _ (l : ℕ) (f : Finished) (fs : List Finished) (ne : f .note .lane ≢ l
   other-balanced : (b : ℕ) (bags : List ℕ) → Balanced l b bags fs → Balanced l b bags (f ∷ fs)
   other-balanced b bags h = rw (other-pushed, other-popped) h
 
--- ---- What the row keeps and what the history keeps, call by call.
-pub bound : {T U : Type 0} (o : Option T) (f : T → Option U) {y : U} → bind o f ≡ some y
-    → (x : T) × (o ≡ some x) × (f x ≡ some y)
-unfolding bind
-bound nothing f e = clash (cc)
-bound (some x) f e = (x, refl, e)
-
-pub mapped : {T U : Type 0} (o : Option T) (f : T → U) {y : U} → Option·map f o ≡ some y
-    → (x : T) × (o ≡ some x) × (f x ≡ y)
-mapped nothing f e = clash (cc)
-mapped (some x) f e = (x, refl, cc)
+-- ---- What the row keeps and what the history keeps, by what calls did.
 
 -- The history has the row's notes, tasks and task last dispatched, and every bag is balanced on every lane.
 pub record Recorded (ρ : Row) (η : History) : Type 0 where
@@ -276,133 +226,49 @@ module _ {ρ : Row} {η : History} (R : Recorded ρ η) (k : ℕ) (a : Answer) w
           let x = mapped (answered n a (ρ .bags (n .lane))) _ q in
           same-row (ap some (x .2)) (finish-recorded n (x .0) (x .1))
 
--- A tick, made or refused.
-tick-recorded : (k : ℕ) (a : Answer) {ρ ρ′ : Row} {η : History} → Recorded ρ η → feedTick ρ k a ≡ some ρ′
-    → Recorded ρ′ (recordTick η k a)
-unfolding feedTick
-tick-recorded k a {ρ} {ρ′} {η} R e = go (refusalOf a) e
-  where
-    go : (o : Option ℕ)
-        → elim o as (λ _. Option Row) [ some n ↦ some ρ | nothing ↦ feedMade ρ k a ] ≡ some ρ′
-        → Recorded ρ′ (elim o as (λ _. History) [ some n ↦ η | nothing ↦ recordMade η k a ])
-    go (some n) q = same-row q R
-    go nothing q = made-recorded R k a q
-
--- The ticks that a run made.
-run-recorded : (n : ℕ) (list answers : List ℕ) {ρ ρ′ : Row} {η : History} → Recorded ρ η
-    → feedRun ρ n list answers ≡ some ρ′
-    → Recorded ρ′ (recordRun η n list answers)
-unfolding feedRun recordRun
-run-recorded zero list answers R e = same-row e R
-run-recorded (suc n) [] answers R e = clash (cc)
-run-recorded (suc n) (k ∷ []) answers R e = clash (cc)
-run-recorded (suc n) (k ∷ h ∷ list) [] R e = clash (cc)
-run-recorded (suc n) (k ∷ h ∷ list) (kind ∷ []) R e = clash (cc)
-run-recorded (suc n) (k ∷ h ∷ list) (kind ∷ digit ∷ []) R e = clash (cc)
-run-recorded (suc n) (k ∷ h ∷ list) (kind ∷ digit ∷ low ∷ answers) {ρ} R e =
-    let a = bound (answerOf kind digit low) _ e in
-    let m = bound (feedMade ρ k (a .0)) _ (a .2) in
-    rw (a .1, recordRun) (run-recorded n list answers (made-recorded R k (a .0) (m .1)) (m .2))
-
--- A dispatch: the history finds the task that the row finds.
-dispatch-recorded : (r : Dispatch) {ρ ρ′ : Row} {η : History} → Recorded ρ η → feedDispatch ρ r ≡ some ρ′
-    → Recorded ρ′ (recordDispatch η r)
-unfolding feedDispatch feedIdle feedDispatched
-dispatch-recorded Idle {ρ} {ρ′} {η} R e = go (nextNoted (ρ .notes) (ρ .tasks) (ρ .dispatched)) e
-  where
-    go : (o : Option ℕ)
-        → elim o as (λ _. Option Row) [ some k ↦ nothing | nothing ↦ some ρ ] ≡ some ρ′
-        → Recorded ρ′ η
-    go (some k) q = clash (cc)
-    go nothing q = same-row q R
-dispatch-recorded (Answered a) {ρ} {ρ′} {η} R e = go (refusalOf a) e
+-- A tick of the task whose turn it is: the history finds the task that the row finds.
+next-recorded : (a : Answer) {ρ ρ′ : Row} {η : History} → Recorded ρ η → feedDispatched ρ a ≡ some ρ′
+    → Recorded ρ′ (recordNext η (nextNoted (η .notes) (η .tasks) (η .dispatched)) a)
+unfolding feedDispatched
+next-recorded a {ρ} {ρ′} {η} R e =
+    let x = bound (nextNoted (ρ .notes) (ρ .tasks) (ρ .dispatched)) _ e in
+    let y = mapped (feedMade ρ (x .0) a) _ (x .2) in
+    let M = made-recorded R (x .0) a (y .1) in
+    rw (same-next ∙ x .1)
+    (same-row (ap some (y .2))
+    (record {
+      same-notes = M .same-notes;
+      same-tasks = M .same-tasks;
+      same-dispatched = refl;
+      balanced = M .balanced;
+    }))
   where
     same-next : nextNoted (η .notes) (η .tasks) (η .dispatched) ≡ nextNoted (ρ .notes) (ρ .tasks) (ρ .dispatched)
     same-next = rw (R .same-notes, R .same-tasks, R .same-dispatched)
 
-    made : feedDispatched ρ a ≡ some ρ′
-        → Recorded ρ′ (recordDispatched η (nextNoted (η .notes) (η .tasks) (η .dispatched)) a)
-    made q =
-        let x = bound (nextNoted (ρ .notes) (ρ .tasks) (ρ .dispatched)) _ q in
-        let y = mapped (feedMade ρ (x .0) a) _ (x .2) in
-        let M = made-recorded R (x .0) a (y .1) in
-        rw (same-next ∙ x .1)
-        (same-row (ap some (y .2))
-        (record {
-          same-notes = M .same-notes;
-          same-tasks = M .same-tasks;
-          same-dispatched = refl;
-          balanced = M .balanced;
-        }))
+tick-recorded : (t : Tick) {ρ ρ′ : Row} {η : History} → Recorded ρ η → feedMadeTick ρ t ≡ some ρ′
+    → Recorded ρ′ (recordTick η t)
+tick-recorded (of-task k a) R e = made-recorded R k a e
+tick-recorded (of-next a) R e = next-recorded a R e
 
-    go : (o : Option ℕ)
-        → elim o as (λ _. Option Row) [ some n ↦ some ρ | nothing ↦ feedDispatched ρ a ] ≡ some ρ′
-        → Recorded ρ′
-        (elim o as (λ _. History) [
-          | some n ↦ η
-          | nothing ↦ recordDispatched η (nextNoted (η .notes) (η .tasks) (η .dispatched)) a
-        ])
-    go (some n) q = same-row q R
-    go nothing q = made q
+ticks-recorded : (ts : List Tick) {ρ ρ′ : Row} {η : History} → Recorded ρ η → feedMadeTicks ρ ts ≡ some ρ′
+    → Recorded ρ′ (recordTicks η ts)
+unfolding feedMadeTicks recordTicks
+ticks-recorded [] R e = same-row e R
+ticks-recorded (t ∷ ts) {ρ} R e =
+    let x = bound (feedMadeTick ρ t) _ e in
+    ticks-recorded ts (tick-recorded t R (x .1)) (x .2)
 
--- A row that passes a test is left as it is.
-pub same-if : {ρ ρ′ : Row} (b : Bool) → cond b (some ρ) nothing ≡ some ρ′ → (b ≡ true) × (ρ ≡ ρ′)
-same-if true q = (refl, cc)
-same-if false q = clash (cc)
-
--- A row that is fed where a test fails.
-pub unless-going : {r : Option Row} {ρ′ : Row} (b : Bool) → cond b nothing r ≡ some ρ′ → r ≡ some ρ′
-unless-going true q = clash (cc)
-unless-going false q = q
-
--- Consecutive dispatches.
-dispatches-recorded : (n m : ℕ) (d : Dispatch) {ρ ρ′ : Row} {η : History} → Recorded ρ η
-    → feedDispatches ρ n m d ≡ some ρ′
-    → Recorded ρ′ (recordDispatches η n m d)
-unfolding feedDispatches recordDispatches
-dispatches-recorded zero zero d R e = same-row (ap some (same-if (dispatchGoesOn d) e .1)) R
-dispatches-recorded zero (suc m) d R e = clash (cc)
-dispatches-recorded (suc n) zero d R e = dispatch-recorded d R (unless-going (dispatchGoesOn d) e)
-dispatches-recorded (suc n) (suc m) d {ρ} R e =
-    let x = bound (feedDispatch ρ (Answered Going)) _ e in
-    dispatches-recorded n m d (dispatch-recorded (Answered Going) R (x .1)) (x .2)
-
--- A read leaves the row.
-pub same-when-read : (ρ : Row) (l : ℕ) (out : List ℕ) (x : Reading) (written : List ℕ) {ρ′ : Row}
-    → feedRead ρ l out x written ≡ some ρ′
-    → ρ ≡ ρ′
-same-when-read ρ l out (Count n) written q =
-    same-if
-    (ltb l (ρ .lanes)
-    && eqb n (length (ρ .bags l))
-    && leb (2 * n) (length out)
-    && sameWords (take (2 * n) written) (allTagWords (ρ .bags l)))
-    q
-    .1
-same-when-read ρ l out (Reading-Refused n) written q =
-    same-if (cond (ltb l (ρ .lanes)) (eqb n 12 && ltb (length out) (2 * length (ρ .bags l))) (eqb n 26)) q .1
-
-pub call-recorded : (c : Call) (r : Given c) {ρ ρ′ : Row} {η : History} → Recorded ρ η → feed ρ c r ≡ some ρ′
-    → Recorded ρ′ (recordCall η c r)
-call-recorded (start-call S T g L) Accepted R e = same-row e (nothing-recorded T L)
-call-recorded (start-call S T g L) (Reply-Refused n) R e = same-row e R
-call-recorded (begin-call k l op side argument) Accepted {ρ} R e =
-    same-row (ap some (same-if (isCall ρ k l op side argument) e .1))
+-- What a call did.
+pub did-recorded : (d : Did) {ρ ρ′ : Row} {η : History} → Recorded ρ η → feedDid ρ d ≡ some ρ′
+    → Recorded ρ′ (recordDid η d)
+did-recorded (started T L) R e = same-row e (nothing-recorded T L)
+did-recorded (begun k n) R e =
+    same-row e
     (record {
-      same-notes = same-with k _ (R .same-notes);
+      same-notes = same-with k (some n) (R .same-notes);
       same-tasks = R .same-tasks;
       same-dispatched = R .same-dispatched;
       balanced = R .balanced;
     })
-call-recorded (begin-call k l op side argument) (Reply-Refused n) R e = same-row e R
-call-recorded (tick-call k h) a R e = tick-recorded k a R e
-call-recorded (ticks-call k h zero) a {ρ} {ρ′} {η} R e =
-    let x = same-if (isGoing a) e in
-    subst (λ (b : Answer). Recorded ρ′ (recordTick η k b)) (sym (going-answer a (x .0))) (same-row (ap some (x .1)) R)
-call-recorded (ticks-call k h (suc n)) a R e = tick-recorded k a R e
-call-recorded (dispatch-call h) r R e = dispatch-recorded r R e
-call-recorded (dispatches-call h times) r R e = dispatches-recorded times (r .1) (r .0) R e
-call-recorded (run-call list answers) r R e = run-recorded (r .0 .made) list (r .1) R e
-call-recorded (panel-call list answers) r R e = run-recorded (r .0 .made) list (r .1) R e
-call-recorded (read-call l out) r {ρ} {ρ′} {η} R e =
-    subst (λ (x : Row). Recorded x η) (same-when-read ρ l out (r .0) (r .1) e) R
+did-recorded (ticked ts) R e = ticks-recorded ts R e

@@ -4,6 +4,9 @@ use mathlib.Core.Bool.{Bool, true, false, cond}
 use mathlib.Core.List.{List, [], _∷_}
 use mathlib.Core.Option.{Option, some, none as nothing, bind}
 use Prim.Native.Nat.{ℕ, _<_}
+use lib.Dec.{eqb}
+use lib.ListN.{length}
+use borrow.Author.Tests.{eq-eqb}
 use Rattle.machine.specs.declared.Reply.{Reply}
 use Rattle.machine.specs.declared.Reply.the-variants.{Accepted, Refused as Reply-Refused}
 use Rattle.machine.specs.Shape.{sameWords}
@@ -24,6 +27,7 @@ use Rattle.machine.specs.Events.{
   keep,
   fedRow,
   feedCall,
+  refusalFits,
   feedTake,
   feedPut,
   feedEvent,
@@ -35,9 +39,9 @@ use Rattle.machine.specs.Events.{
 }
 use Rattle.machine.proofs.Basics.Contradiction.{clash}
 use Rattle.machine.proofs.Words.RecordLaws.{same-words-refl}
-use Rattle.machine.proofs.Snapshots.RoundTrips.{taken-back}
+use Rattle.machine.proofs.Snapshots.RoundTrips.{taken, taken-back}
 use Rattle.machine.proofs.Linearizability.Calls.Agreement.{Agrees, lanes-are-rows}
-use Rattle.machine.proofs.Linearizability.Histories.{bound}
+use Rattle.machine.proofs.Linearizability.Calls.RowDid.{bound}
 use Rattle.machine.proofs.Linearizability.Carried.{holds-of-nothing, holds-after, found}
 use Rattle.machine.proofs.Linearizability.Theorem.{agreement-carried}
 
@@ -78,7 +82,11 @@ module _ (ss : List ℕ) where
   stays : {κ κ′ : Known} → some κ ≡ some κ′ → IsKept (κ .kept) → IsKept (κ′ .kept)
   stays {κ} {κ′} e K = let same : κ ≡ κ′ = cc in subst (λ (k : Known). IsKept (k .kept)) same K
 
-  stays-kept : (e : Event) (ws : List ℕ) (κ κ′ : Known) → feedEvent κ e (eventGiven e ws) ≡ some κ′
+  stays-if : (b : Bool) (κ : Known) {κ′ : Known} → cond b (some κ) nothing ≡ some κ′ → IsKept (κ .kept) → IsKept (κ′ .kept)
+  stays-if true κ q K = stays q K
+  stays-if false κ q K = clash (cc)
+
+  stays-kept : (e : Event) (ws : List ℕ) (κ κ′ : Known) → feedEvent (length ws) κ e (eventGiven e ws) ≡ some κ′
       → IsKept (κ .kept)
       → IsKept (κ′ .kept)
   stays-kept (call-event c) ws κ κ′ f K = go (κ .row) f
@@ -92,21 +100,27 @@ module _ (ss : List ℕ) where
       go (some ρ) q = fed (feed ρ c (given c ws)) q
   stays-kept (take-event out) ws κ κ′ f K = go (takeSnapshot ws out .reply) f
     where
-      go : (r : Reply) → some (feedTake κ r (takeSnapshot ws out .words)) ≡ some κ′ → IsKept (κ′ .kept)
-      go Accepted q = stays q (one-more-kept (takeSnapshot ws out .words) (κ .row) (κ .kept) K)
-      go (Reply-Refused n) q = stays q K
+      same : Bool
+      same = eqb (length out) (length ws)
+
+      go : (r : Reply) → feedTake κ same r (takeSnapshot ws out .words) ≡ some κ′ → IsKept (κ′ .kept)
+      go Accepted q = stays-if same _ q (one-more-kept (takeSnapshot ws out .words) (κ .row) (κ .kept) K)
+      go (Reply-Refused n) q = stays-if (refusalFits same (κ .row) n) κ q K
   stays-kept (put-event ts) ws κ κ′ f K = go (putBack ts ws .reply) f
     where
-      go : (r : Reply) → some (feedPut κ ts r) ≡ some κ′ → IsKept (κ′ .kept)
-      go Accepted q = stays q K
-      go (Reply-Refused n) q = stays q K
+      same : Bool
+      same = eqb (length ts) (length ws)
+
+      go : (r : Reply) → feedPut κ same ts r ≡ some κ′ → IsKept (κ′ .kept)
+      go Accepted q = stays-if same _ q K
+      go (Reply-Refused n) q = stays-if (refusalFits same (rowKept ts (κ .kept)) n) κ q K
 
   always-kept : (es : List Event) (ws : List ℕ) (κ κ′ : Known) → knownAfter es ws κ ≡ some κ′ → IsKept (κ .kept)
       → IsKept (κ′ .kept)
   unfolding knownAfter bind
   always-kept [] ws κ κ′ e K = stays e K
   always-kept (v ∷ es) ws κ κ′ e K =
-      let x = bound (feedEvent κ v (eventGiven v ws)) _ e in
+      let x = bound (feedEvent (length ws) κ v (eventGiven v ws)) _ e in
       always-kept es (afterEvent v ws) (x .0) κ′ (x .2) (stays-kept v ws κ (x .0) (x .1) K)
 
 pub rows-come-back : RowsComeBack
@@ -117,8 +131,8 @@ rows-come-back began before since out κ κ′ ρ e is-row accepted f =
     let none-yet = holds-of-nothing Agrees agreement-carried began in
     let H = holds-after Agrees agreement-carried before began nothingKnown κ none-yet e in
     let A : Agrees ws ρ = subst (Where Agrees ws) is-row (H .present) in
-    let κ₁ = feedTake κ Accepted ss in
-    let g : knownAfter since ws κ₁ ≡ some κ′ = rw accepted at f in
+    let κ₁ : Known = record { row = κ .row; kept = keep ss (κ .row) (κ .kept) } in
+    let g : knownAfter since ws κ₁ ≡ some κ′ = rw (accepted, eq-eqb (length out) (length ws) (taken ws out accepted .same-length)) at f in
     let H′ = holds-after Agrees agreement-carried (take-event out ∷ since) ws κ κ′ H f in
     let K : IsKept ss (κ₁ .kept) = rw is-row (ρ, newly-kept ss ρ (κ .kept)) in
     let F = always-kept ss since ws κ₁ κ′ g K in

@@ -8,24 +8,8 @@ use Rattle.machine.specs.declared.Reply.{Reply}
 use Rattle.machine.specs.declared.Reply.the-variants.{Accepted}
 use Rattle.machine.specs.Calls.{startRefusal, changed, startWords, start}
 use Rattle.machine.specs.Row.{Row, emptyRow}
-use Rattle.machine.specs.Demand3.{
-  Call,
-  start-call,
-  begin-call,
-  tick-call,
-  ticks-call,
-  dispatch-call,
-  dispatches-call,
-  run-call,
-  panel-call,
-  read-call,
-  given,
-  after,
-  feed,
-  Within,
-  Explained,
-  Demand3,
-}
+use Rattle.machine.specs.Demand3.{Call, start-call, given, after, feed, Explained, Demand3}
+use Rattle.machine.specs.Kinds.{did}
 use Rattle.machine.specs.Events.{
   call-event,
   Kept,
@@ -39,42 +23,9 @@ use Rattle.machine.specs.Events.{
 use Rattle.machine.proofs.Basics.Contradiction.{clash}
 use Rattle.machine.proofs.Basics.Tests.{test-passed, tests-left}
 use Rattle.machine.proofs.Linearizability.Calls.Agreement.{Agrees, lanes-are-rows}
-use Rattle.machine.proofs.Linearizability.Calls.CallsAgree.{
-  Explains,
-  start-agrees,
-  start-explained,
-  begin-explained,
-  tick-explained,
-  dispatch-explained,
-  read-explained,
-}
-use Rattle.machine.proofs.Linearizability.Calls.ConsecutiveTicks.{ticks-explained, ticks-within}
-use Rattle.machine.proofs.Linearizability.Calls.ConsecutiveDispatches.{dispatches-explained, dispatches-within}
-use Rattle.machine.proofs.Linearizability.Calls.Runs.{run-explained, run-within, panel-explained, panel-within}
+use Rattle.machine.proofs.Linearizability.Calls.CallsAgree.{start-agrees}
+use Rattle.machine.proofs.Linearizability.Calls.EveryCall.{told, call-explained}
 use Rattle.machine.proofs.Linearizability.Carried.{Carried, always, always-so}
-
--- One call, and the ticks inside it.
-pub call-explained : {ws : List ℕ} {ρ : Row} → Agrees ws ρ → (c : Call) → Explains ws ρ c
-call-explained A (start-call S T g L) = start-explained A S T g L
-call-explained A (begin-call k l op side argument) = begin-explained A k l op side argument
-call-explained A (tick-call k h) = tick-explained A k h
-call-explained A (ticks-call k h times) = ticks-explained k h A times
-call-explained A (dispatch-call h) = dispatch-explained A h
-call-explained A (dispatches-call h times) = dispatches-explained h times A
-call-explained A (run-call list answers) = run-explained A list answers
-call-explained A (panel-call list answers) = panel-explained A list answers
-call-explained A (read-call l out) = read-explained A l out
-
-call-within : {ws : List ℕ} {ρ : Row} → Agrees ws ρ → (c : Call) → Within c ws ρ
-call-within A (start-call S T g L) = tt
-call-within A (begin-call k l op side argument) = tt
-call-within A (tick-call k h) = tt
-call-within A (ticks-call k h times) = ticks-within k h A times
-call-within A (dispatch-call h) = tt
-call-within A (dispatches-call h times) = dispatches-within h times A
-call-within A (run-call list answers) = run-within A list answers
-call-within A (panel-call list answers) = panel-within A list answers
-call-within A (read-call l out) = tt
 
 -- An accepted start makes a table that agrees with the empty row of its tasks.
 pub started-agrees :
@@ -98,11 +49,12 @@ agreement-carried =
     record {
       at-start = started-agrees;
       at-call = λ A c. let E = call-explained A c in (E .row, E .given-by-row, E .agrees);
+      well-formed = λ A. A .accepted;
     }
 
 pub demand3-with-snapshots : Demand3WithSnapshots
 demand3-with-snapshots =
-    always-so Agrees LanesAreInside (λ ws ρ A. (lanes-are-rows A, call-within A)) (always Agrees agreement-carried)
+    always-so Agrees LanesAreInside (λ ws ρ A. (lanes-are-rows A, λ c. told A c .within)) (always Agrees agreement-carried)
 
 -- ---- Of calls alone: where a row is known, calls leave one known.
 explained : (cs : List Call) (ws : List ℕ) (ρ : Row) (ks : List Kept)
@@ -134,6 +86,6 @@ pub demand3 : Demand3
 demand3 S T g L old accepted calls =
     let p = demand3-with-snapshots old (call-event (start-call S T g L) ∷ map call-event calls) .1 in
     let began = start old S T g L .words in
-    let row = ap (λ (r : Reply). startedRow (start-call S T g L) r) accepted in
+    let row = ap (λ (r : Reply). startedRow (did (start-call S T g L) r)) accepted in
     let same : p .0 ≡ record { row = some (emptyRow T L); kept = [] } = cc (p .1, row) in
     explained calls began (emptyRow T L) [] (subst (Along LanesAreInside (map call-event calls) began) same (p .2))

@@ -11,11 +11,12 @@ use Rattle.machine.specs.Row.{Row}
 use Rattle.machine.specs.Demand3.{Call}
 use Rattle.machine.specs.Begun.{Begun, by-start, by-call, afterAll}
 use Rattle.machine.specs.Twice.{OnceInTable, rowAfter, RowSince}
-use Rattle.machine.specs.Events.{HistoriesKnown, BegunWhereKnown, OnceWhereKnown, TakesWhereKnown}
+use Rattle.machine.specs.Events.{HistoriesKnown, BegunWhereKnown, OnceWhereKnown}
 use Rattle.machine.proofs.Snapshots.RoundTrips.{take-accepted}
 use Rattle.machine.proofs.Linearizability.Calls.Agreement.{Agrees}
 use Rattle.machine.proofs.Linearizability.Carried.{Carried, always, always-so}
-use Rattle.machine.proofs.Linearizability.Theorem.{call-explained, agreement-carried}
+use Rattle.machine.proofs.Linearizability.Calls.EveryCall.{call-explained}
+use Rattle.machine.proofs.Linearizability.Theorem.{agreement-carried}
 use Rattle.machine.proofs.Linearizability.Twice.Theorem.{row-agrees, one-more, tables-have-once}
 
 history-carried : Carried RowSince
@@ -36,6 +37,7 @@ history-carried =
           };
       at-call = λ R c.
           let E = call-explained (row-agrees R .0) c in (E .row, E .given-by-row, one-more c R (E .given-by-row));
+      well-formed = λ R. row-agrees R .0 .accepted;
     }
 
 pub histories-known : HistoriesKnown
@@ -57,9 +59,3 @@ begun-where-known = always-so RowSince (λ ws ρ. Begun ws) (λ ws ρ R. history
 pub once-where-known : OnceWhereKnown
 once-where-known =
     always-so (λ ws ρ. Begun ws) (λ ws ρ. OnceInTable ws) (λ ws ρ B. tables-have-once ws B) begun-where-known
-
-pub takes-where-known : TakesWhereKnown
-takes-where-known =
-    always-so Agrees (λ ws ρ. (out : List ℕ) → length out ≡ length ws → takeSnapshot ws out .reply ≡ Accepted)
-    (λ ws ρ A out long. ap (λ (c : Changed). c .reply) (take-accepted ws out (A .accepted) long))
-    (always Agrees agreement-carried)

@@ -1,33 +1,21 @@
 -- Every call on a table of the right shape leaves a table of the right shape.
 use mathlib.Core.Path.{_≡_, refl, ap, sym, _∙_, subst}
 use mathlib.Core.Bool.{true, not, _&&_, _||_}
-use mathlib.Core.List.{List, [], _∷_}
+use mathlib.Core.List.{List}
 use mathlib.Core.Option.{Option, some, none as nothing}
 use Prim.Native.Nat.{ℕ, _*_, _%_, _≤_, _<_}
 use lib.Dec.{leb, ltb}
-use lib.ListN.{drop}
 use native.Mathlib.Omega.{arith}
 use borrow.Author.Tests.{leb-true, le-leb, ltb-true}
 use Rattle.machine.specs.declared.Stored.{Stored}
 use Rattle.machine.specs.Choice.{_≟_, _<?_}
 use Rattle.machine.specs.Sides.{Side, left, right, sideOf}
 use Rattle.machine.specs.Values.{never, stored, number, encode, valueOk}
-use Rattle.machine.specs.Operations.{
-  Operation,
-  idle,
-  push,
-  pop,
-  add,
-  remove,
-  operationOf,
-  argumentOk,
-  goalOf,
-}
+use Rattle.machine.specs.Operations.{Operation, idle, push, pop, add, remove, operationOf, argumentOk, goalOf}
 use Rattle.machine.specs.Steps.{stepNumber, stepsOf, isStepIn, firstStep}
 use Rattle.machine.specs.Tasks.{Task, wordsOf}
 use Rattle.machine.specs.Table.{nodeCount, taskCount, growth, laneCount, mostLanes, task, setDispatched, setTask}
-use Rattle.machine.specs.Shape.{lanesOk, sizesOk, valueReadOk, countedOk, WellFormed}
-use Rattle.machine.specs.Answers.{answerLength, refusalOf}
+use Rattle.machine.specs.Shape.{lanesOk, sizesOk, valueReadOk, countedOk, WellFormed, sizesOf, WellSized}
 use Rattle.machine.specs.Calls.{
   isIdle,
   isBusy,
@@ -39,8 +27,6 @@ use Rattle.machine.specs.Calls.{
   twiceRefusal,
   beginRefusal,
   tickRefusal,
-  runRefusal,
-  panelRefusal,
   changed,
   startHat,
   startWords,
@@ -48,50 +34,22 @@ use Rattle.machine.specs.Calls.{
   begunTask,
   begin,
   allLanes,
-  Ticked,
   tickOn,
   tick,
-  ticks,
   Dispatched,
   dispatch,
-  RunDone,
-  stopped,
-  afterTick,
-  runOn,
-  tested,
-  run,
-  panel,
 }
-use Rattle.machine.specs.Demand3.{
-  Call,
-  start-call,
-  begin-call,
-  tick-call,
-  ticks-call,
-  dispatch-call,
-  dispatches-call,
-  run-call,
-  panel-call,
-  read-call,
-  after,
-}
+use Rattle.machine.specs.Demand3.{Call, after, afterTicks}
 use Rattle.machine.proofs.Basics.Contradiction.{clash}
 use Rattle.machine.proofs.Basics.Tests.{and-left, and-right, test-passed, tests-left}
 use Rattle.machine.proofs.Words.ValueLaws.{argument-stored, never-has-word}
-use Rattle.machine.proofs.Words.Columns.{sizesOf, columns}
+use Rattle.machine.proofs.Words.Columns.{columns}
 use Rattle.machine.proofs.Words.TableLaws.{columns-setDispatched, columns-setTask}
-use Rattle.machine.proofs.Words.StartLaws.{
-  startLink,
-  startValue,
-  startColumns,
-  columns-start,
-}
-use Rattle.machine.proofs.Words.RunLaws.{kept-consecutively}
-use Rattle.machine.proofs.Words.DispatchLaws.{kept-in-dispatches}
+use Rattle.machine.proofs.Words.StartLaws.{startLink, startValue, startColumns, columns-start}
+use Rattle.machine.proofs.Words.Kinds.{kept-in-list, kept-by-calls}
 use Rattle.machine.proofs.Words.Stretches.{side-small}
 use Rattle.machine.proofs.Shape.BusyLaws.{NodeOrNone, BusyFacts, record-of-fresh, record-of-busy}
 use Rattle.machine.proofs.Shape.ShapeLaws.{
-  WellSized,
   well-sized,
   length-ok,
   HatFits,
@@ -302,32 +260,12 @@ kept-then K L =
       well-shaped = L .well-shaped;
     }
 
-pub run-kept :
-    (list ws answers : List ℕ)
-    → WellSized (sizesOf ws)
-    → WellShaped (columns ws)
-    → Kept ws (runOn list ws answers .words)
-unfolding runOn
-run-kept [] ws answers Z W = unchanged ws Z W
-run-kept (k ∷ []) ws answers Z W = unchanged ws Z W
-run-kept (k ∷ h ∷ list) ws answers Z W =
-    let K = tick-kept ws Z W k h in
-    let L = run-kept list (one .words) (drop answerLength answers) (K .well-sized) (K .well-shaped) in
-    go (refusalOf (one .answer)) (kept-then K L)
-  where
-    one : Ticked
-    one = tickOn ws k h
-
-    rest : RunDone
-    rest = runOn list (one .words) (drop answerLength answers)
-
-    go :
-        (r : Option ℕ)
-        → Kept ws (rest .words)
-        → Kept ws
-        (elim r as (λ _. RunDone) [ some n ↦ stopped n ws answers | nothing ↦ afterTick (one .answer) rest ] .words)
-    go (some n) K = unchanged ws Z W
-    go nothing K = K
+pub list-kept : (i : ℕ) (list ws : List ℕ) → WellSized (sizesOf ws) → WellShaped (columns ws)
+    → Kept ws (afterTicks i list ws)
+list-kept i list ws Z W =
+    kept-in-list (Kept ws)
+    (λ vs K k h. kept-then K (tick-kept vs (K .well-sized) (K .well-shaped) k h))
+    i list ws (unchanged ws Z W)
 
 -- ---- Every call.
 kept-accepted : {ws vs : List ℕ} → Kept ws vs → WellFormed vs
@@ -388,25 +326,13 @@ module _ (ws : List ℕ) (A : WellFormed ws) where
       let K = tick-kept ws Z W k h in
       ap (λ c. c .sizes) (columns-setDispatched (tickOn ws k h .words) (K .well-sized .sized) k) ∙ K .same-sizes)
 
-  tested-accepted : (r : Option ℕ) (list answers : List ℕ) → WellFormed (tested r ws list answers .words)
-  tested-accepted (some n) list answers = A
-  tested-accepted nothing list answers = kept-accepted (run-kept list ws answers Z W)
-
-module _ (ws : List ℕ) (A : WellFormed ws) where
-  pub ticks-kept : (n k h : ℕ) → Kept ws (ticks n ws k h .words)
-  ticks-kept n k h =
-      kept-consecutively (Kept ws) k h (λ vs K. kept-then K (tick-call-kept vs (kept-accepted K) k h)) n ws
-      (unchanged ws (Z ws A) (W ws A))
-
-  pub call-accepted : (c : Call) → WellFormed (after c ws)
-  unfolding run panel
-  call-accepted (start-call S T g L) = start-call-accepted ws A S T g L
-  call-accepted (begin-call k l op side argument) = kept-accepted (begin-kept ws k l op side argument (Z ws A) (W ws A))
-  call-accepted (tick-call k h) = kept-accepted (tick-call-kept ws A k h)
-  call-accepted (ticks-call k h times) = kept-accepted (ticks-kept times k h)
-  call-accepted (dispatch-call h) = dispatch-call-accepted ws A h
-  call-accepted (dispatches-call h times) =
-      kept-in-dispatches WellFormed h (λ vs B. dispatch-call-accepted vs B h) times ws A
-  call-accepted (run-call list answers) = tested-accepted ws A (runRefusal ws list answers) list answers
-  call-accepted (panel-call list answers) = tested-accepted ws A (panelRefusal ws list answers) list answers
-  call-accepted (read-call l out) = A
+pub call-accepted : (ws : List ℕ) → WellFormed ws → (c : Call) → WellFormed (after c ws)
+call-accepted ws A c =
+    kept-by-calls WellFormed
+    (record {
+      by-start = λ ws A S T g L. start-call-accepted ws A S T g L;
+      by-begin = λ ws A k l op side argument. kept-accepted (begin-kept ws k l op side argument (Z ws A) (W ws A));
+      by-tick = λ ws A k h. kept-accepted (tick-kept ws (Z ws A) (W ws A) k h);
+      by-dispatch = λ ws A h. dispatch-call-accepted ws A h;
+    })
+    c ws A

@@ -28,16 +28,25 @@ use Rattle.machine.specs.Table.{
   link,
   recordWords,
 }
-use Rattle.machine.specs.Shape.{lengthOk, allBelow, nodeOrNone, hatOk, nodeOk, recordOk, shapeOk}
+use Rattle.machine.specs.Shape.{
+  lengthOk,
+  allBelow,
+  nodeOrNone,
+  hatOk,
+  nodeOk,
+  recordOk,
+  shapeOk,
+  Sizes,
+  sizesOf,
+  Sized,
+  WellSized,
+}
 use Rattle.machine.proofs.Basics.Tests.{and-left, and-right}
 use Rattle.machine.proofs.Words.Columns.{
-  Sizes,
   Counts,
   Columns,
-  sizesOf,
   columns,
   column,
-  Sized,
   startCounts,
   countedAs,
   dispatchedTo,
@@ -52,16 +61,6 @@ use Rattle.machine.proofs.Shape.BusyLaws.{
 use Rattle.machine.proofs.Basics.Choices.{if-yes}
 
 -- ---- The sizes and the length.
-pub record WellSized (z : Sizes) : Type 0 where
-  pub one-lane : 1 ≤ z .laneCount
-  pub most-lanes : z .laneCount ≤ mostLanes
-  pub lanes-fit : 2 * z .laneCount ≤ z .nodeCount
-  pub most-nodes : z .nodeCount ≤ 1024
-  pub one-task : 1 ≤ z .taskCount
-  pub most-tasks : z .taskCount ≤ 16
-  pub most-growth : z .growth ≤ 64
-  pub sized : Sized z
-
 module _ (ws : List ℕ) where
   pub well-sized : lengthOk ws ≡ true → WellSized (sizesOf ws)
   well-sized h =

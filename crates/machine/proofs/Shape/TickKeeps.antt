@@ -24,7 +24,7 @@ use Rattle.machine.specs.Table.{
   recordWords,
   task,
 }
-use Rattle.machine.specs.Shape.{recordOk}
+use Rattle.machine.specs.Shape.{recordOk, sizesOf, WellSized}
 use Rattle.machine.specs.Round.{following}
 use Rattle.machine.specs.Allocate.{firstUnmarked, marked, allocate}
 use Rattle.machine.specs.Lines.{seen, Write, Effect}
@@ -34,7 +34,7 @@ use Rattle.machine.proofs.Basics.Rounds.{following-below}
 use Rattle.machine.proofs.Basics.Tests.{test-passed, tests-left}
 use Rattle.machine.proofs.Words.ValueLaws.{HasWord, never-has-word, decoded-has-word, decoded-value-ok}
 use Rattle.machine.proofs.Words.RecordLaws.{task-of-words, fresh-of-words, words-of-task, read-passes}
-use Rattle.machine.proofs.Words.Columns.{sizesOf, columns, putAll}
+use Rattle.machine.proofs.Words.Columns.{columns, putAll}
 use Rattle.machine.proofs.Words.EffectLaws.{
   put-all-rest,
   effectWords,
@@ -50,7 +50,7 @@ use Rattle.machine.proofs.Shape.BusyLaws.{
   busy-of-record,
   idle-of-record,
 }
-use Rattle.machine.proofs.Shape.ShapeLaws.{WellSized, WellShaped}
+use Rattle.machine.proofs.Shape.ShapeLaws.{WellShaped}
 use Rattle.machine.proofs.Shape.Fits.{
   WritesFit,
   answer-made,

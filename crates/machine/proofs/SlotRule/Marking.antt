@@ -20,6 +20,8 @@ use Rattle.machine.specs.Allocate.{
   roots,
   largestCount,
   Marking,
+  markCount,
+  Room,
   unmarked,
   enqueue,
   mark,
@@ -32,11 +34,6 @@ use Rattle.machine.specs.Allocate.{
 }
 
 -- ---- How many marks there are.
-abbrev pub markCount : List ℕ → ℕ
-markCount [] = 0
-markCount (zero ∷ xs) = markCount xs
-markCount (suc x ∷ xs) = suc (markCount xs)
-
 pub markCount-le-length : (l : List ℕ) → markCount l ≤ length l
 markCount-le-length [] = omega arith
 markCount-le-length (zero ∷ xs) = let h : markCount xs ≤ length xs = markCount-le-length xs in omega arith
@@ -50,13 +47,7 @@ markCount-set (suc x ∷ xs) zero h e = absurd (let z : suc x ≡ 0 = e in omega
 markCount-set (zero ∷ xs) (suc i) h e = markCount-set xs i (le-of-suc-le-suc h) e
 markCount-set (suc x ∷ xs) (suc i) h e = ap suc (markCount-set xs i (le-of-suc-le-suc h) e)
 
--- ---- Room: what every marking of S nodes has, from the start on. It keeps the queue from running over.
-pub record Room (S : ℕ) (m : Marking) : Type 0 where
-  pub few : S ≤ largestCount
-  pub marksLong : length (m .marks) ≡ largestCount
-  pub queueLong : length (m .queue) ≡ largestCount
-  pub counted : markCount (m .marks) ≡ m .tail
-  pub below : (i : ℕ) → i < m .tail → getD (m .queue) i 0 < S
+-- ---- Room.
 
 -- There are as many marks as queued nodes, and no more marks than places.
 pub tail-le : {S : ℕ} {m : Marking} → Room S m → m .tail ≤ largestCount

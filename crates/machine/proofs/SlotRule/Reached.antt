@@ -30,9 +30,9 @@ use Rattle.machine.specs.Allocate.{
   visit,
   visitFrom,
   marked,
+  Room,
 }
 use Rattle.machine.proofs.SlotRule.Marking.{
-  Room,
   tail-le,
   room-unmarked,
   HasMark,

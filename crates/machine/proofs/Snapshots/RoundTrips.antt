@@ -48,9 +48,14 @@ use Rattle.machine.proofs.Snapshots.Reordered.{
 }
 
 -- ---- A change that is accepted or refused.
-no-refusal : (r : Option ℕ) (before after : List ℕ) → changed r before after .reply ≡ Accepted → r ≡ nothing
+pub no-refusal : (r : Option ℕ) (before after : List ℕ) → changed r before after .reply ≡ Accepted → r ≡ nothing
 no-refusal (some n) before after e = clash (cc)
 no-refusal nothing before after e = refl
+
+pub refused-with : (r : Option ℕ) (before after : List ℕ) {n : ℕ} → changed r before after .reply ≡ Reply-Refused n
+    → r ≡ some n
+refused-with (some m) before after e = cc
+refused-with nothing before after e = clash (cc)
 
 refused-leaves : (r : Option ℕ) (before after : List ℕ) (n : ℕ) → changed r before after .reply ≡ Reply-Refused n
     → changed r before after .words ≡ before

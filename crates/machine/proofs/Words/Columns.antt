@@ -24,6 +24,7 @@ use Rattle.machine.specs.Table.{
   valueWords,
   recordWords,
 }
+use Rattle.machine.specs.Shape.{Sizes, sizesOf}
 use Rattle.machine.specs.Lines.{Write, out≔, inn≔, val≔, hat≔}
 use Rattle.machine.proofs.Basics.Updates.{is-update, update, updateSide, updateHat}
 use Rattle.machine.proofs.Words.Memories.{View}
@@ -31,14 +32,6 @@ use Rattle.machine.proofs.Words.Memories.{View}
 -- A function below a bound, with one value from the bound on.
 abbrev pub column : {T : Type 0} → ℕ → T → (ℕ → T) → ℕ → T
 column n other f x = if x <? n then f x else other
-
--- The length and the sizes, which no write touches.
-pub record Sizes : Type 0 where
-  pub length : ℕ
-  pub nodeCount : ℕ
-  pub taskCount : ℕ
-  pub growth : ℕ
-  pub laneCount : ℕ
 
 -- The header's other words but the hats: the counts that change, and the last two words.
 pub record Counts : Type 0 where
@@ -66,16 +59,6 @@ pub record Columns : Type 0 where
   pub values : ℕ → Stored
   pub records : ℕ → List ℕ
 
-abbrev pub sizesOf : List ℕ → Sizes
-sizesOf ws =
-    record {
-      length = length ws;
-      nodeCount = nodeCount ws;
-      taskCount = taskCount ws;
-      growth = growth ws;
-      laneCount = laneCount ws;
-    }
-
 abbrev pub countsOf : List ℕ → Counts
 countsOf ws =
     record { tickCount = tickCount ws; dispatched = dispatched ws; word14 = word14 ws; word15 = word15 ws }
@@ -90,10 +73,6 @@ columns ws =
       values = column (nodeCount ws) (encode never) (valueWords ws);
       records = column (taskCount ws) (wordsOf fresh) (recordWords ws);
     }
-
--- The length is that of the sizes.
-abbrev pub Sized : Sizes → Type 0
-Sized z = z .length ≡ tableLength (z .nodeCount) (z .taskCount)
 
 -- ---- What the columns mean.
 abbrev pub viewOf : Side → Columns → View

@@ -21,15 +21,14 @@ use Rattle.machine.specs.Table.{
 }
 use Rattle.machine.specs.Lines.{Write, out≔, inn≔, val≔, hat≔, writeOne, writeAll}
 use Rattle.machine.specs.Calls.{tickCounted}
+use Rattle.machine.specs.Shape.{sizesOf, Sized}
 use Rattle.machine.proofs.Words.ValueLaws.{HasWord}
 use Rattle.machine.proofs.Words.RecordLaws.{task-of-words, fresh-of-words}
 use Rattle.machine.proofs.Basics.Updates.{map-update, update}
 use Rattle.machine.proofs.Words.Memories.{viewed, write, written, view, viewAfter, view-viewed, view-equal}
 use Rattle.machine.proofs.Words.Columns.{
   Columns,
-  sizesOf,
   columns,
-  Sized,
   viewOf,
   tasks,
   putTickCount,

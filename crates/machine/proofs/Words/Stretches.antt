@@ -47,16 +47,9 @@ use Rattle.machine.specs.Table.{
   growthAt,
   laneCountAt,
 }
+use Rattle.machine.specs.Shape.{sizesOf}
 use Rattle.machine.proofs.Words.ValueLaws.{stored-alike}
-use Rattle.machine.proofs.Words.Columns.{
-  sizesOf,
-  columns,
-  putBody,
-  sizes-equal,
-  counts-equal,
-  columns-equal,
-  column-kept,
-}
+use Rattle.machine.proofs.Words.Columns.{columns, putBody, sizes-equal, counts-equal, columns-equal, column-kept}
 
 -- The words vs are ws but for n words from p on.
 pub record Wrote (ws vs : List ℕ) (p n : ℕ) : Type 0 where

@@ -33,13 +33,12 @@ use Rattle.machine.specs.Table.{
   setValue,
   setTask,
 }
+use Rattle.machine.specs.Shape.{sizesOf, Sized}
 use Rattle.machine.proofs.Basics.Updates.{is-update, is-updateSide, update, updateSide, updateHat}
 use Rattle.machine.proofs.Basics.Choices.{if-yes, if-no}
 use Rattle.machine.proofs.Words.ValueLaws.{stored-alike, stored-written}
 use Rattle.machine.proofs.Words.Columns.{
-  sizesOf,
   columns,
-  Sized,
   putHat,
   putTickCount,
   putDispatched,

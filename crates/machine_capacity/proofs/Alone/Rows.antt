@@ -33,7 +33,8 @@ use Rattle.machine.proofs.Linearizability.Calls.Agreement.{Agrees, noteUnder, n
 use Rattle.machine.proofs.Linearizability.Calls.MadeTicks.{MadeTick, made-tick}
 use Rattle.machine.proofs.Linearizability.Calls.CallsAgree.{begin-explained}
 use Rattle.machine.proofs.Linearizability.Corollaries.{begun-agrees, tick-passes, made-passes}
-use Rattle.machine.proofs.Linearizability.Histories.{same-if, bag-taken}
+use Rattle.machine.proofs.Linearizability.Calls.RowDid.{same-if}
+use Rattle.machine.proofs.Linearizability.Histories.{bag-taken}
 use Rattle.machine.proofs.Linearizability.Begun.TableAfter.{lanes-after}
 use Rattle.machine.proofs.Linearizability.Begun.TableBegun.{accepted-begin}
 use Rattle.machine_capacity.proofs.Alone.Runs.{ends-made, begun-table, begun-at}

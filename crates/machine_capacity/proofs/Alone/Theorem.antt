@@ -2,13 +2,13 @@
 use mathlib.Core.Path.{_≡_, refl, sym, ap, _∙_, subst}
 use mathlib.Core.Logic.{_≢_}
 use mathlib.Core.Bool.{true}
-use mathlib.Core.List.{List, [], _∷_}
+use mathlib.Core.List.{List, [], _∷_, map}
 use mathlib.Core.Option.{Option, some, none as nothing}
 use Prim.Native.Nat.{ℕ, zero, suc, _+_, _*_, _≤_, _<_}
 use native.Mathlib.Omega.{arith}
 use lib.ListN.{length, replicate}
 use Rattle.machine.specs.declared.Answer.{Answer}
-use Rattle.machine.specs.declared.Answer.the-variants.{Bag, Empty, Yes, No}
+use Rattle.machine.specs.declared.Answer.the-variants.{Going, Bag, Empty, Yes, No}
 use Rattle.machine.specs.declared.Reply.the-variants.{Accepted}
 use Rattle.machine.specs.declared.Stored.{Stored}
 use Rattle.machine.specs.Sides.{Side, sideNumber, sideOf}
@@ -16,11 +16,21 @@ use Rattle.machine.specs.Values.{Y, stored, number}
 use Rattle.machine.specs.Operations.{Operation, idle, push, pop, add, remove, operationNumber, operationOf}
 use Rattle.machine.specs.Tasks.{Task}
 use Rattle.machine.specs.Table.{nodeCount, laneCount, hat, value, setTask}
-use Rattle.machine.specs.Answers.{isGoing}
+use Rattle.machine.specs.Answers.{isGoing, endsCall}
 use Rattle.machine.specs.Calls.{isBusy, beginRefusal, changed, begunTask, begin, tick}
 use Rattle.machine.specs.Begun.{Begun}
 use Rattle.machine.specs.Row.{Note, takeBag, popAnswered, sizeAnswered}
-use Rattle.machine_progress.specs.Solo.{AnswersAlone, answers-now, answers-later, HintsBelow}
+use Rattle.machine_progress.specs.Solo.{
+  AloneMove,
+  own-tick,
+  AnswersAlone,
+  answers-now,
+  answers-later,
+  dispatch-answers,
+  dispatch-goes-on,
+  words-left,
+  HintsBelow,
+}
 use Rattle.machine_capacity.specs.NoLeak.{Idle}
 use Rattle.machine_capacity.specs.Capacity.{AloneTo, ends-now, ends-later}
 use Rattle.machine_capacity.specs.Alone.{
@@ -38,7 +48,8 @@ use Rattle.machine_capacity.specs.Alone.{
 }
 use Rattle.machine.proofs.Basics.Contradiction.{clash, refute}
 use Rattle.machine.proofs.Shape.ShapeKept.{begin-allowed}
-use Rattle.machine_progress.proofs.SoloBound.Theorem.{answers-alone}
+use Rattle.machine.proofs.Linearizability.Corollaries.{begun-agrees}
+use Rattle.machine_progress.proofs.SoloBound.Theorem.{answers-alone, hints-alone, own-hints}
 use Rattle.machine_capacity.proofs.Alone.Ends.{spur-by-hat, idle-end}
 use Rattle.machine_capacity.proofs.Alone.Runs.{begun-table, begun-at, call-leads}
 use Rattle.machine_capacity.proofs.Alone.CallEnds.{callEnd}
@@ -179,14 +190,29 @@ calls-alone add = add-alone
 calls-alone remove = remove-alone
 
 -- ---- By the ticks that it gets.
-to-answer : (k : ℕ) {hints ws : List ℕ} → AnswersAlone k hints ws
+to-answer : (k : ℕ) {moves : List AloneMove} {ws : List ℕ} → AnswersAlone k moves ws → (hints : List ℕ)
+    → moves ≡ map own-tick hints
     → AloneTo k (ticksWith hints ws k .answer) (ticksWith hints ws k .words) ws
 unfolding ticksWith
-to-answer k {ws = ws} (answers-now {h} e) =
-    let q = ends-not-going (tick ws k h .answer) e in rw (q, ticksWith) (ends-now h e refl refl)
-to-answer k {ws = ws} (answers-later {h} {hints} is-going more) =
-    let q : isGoing (tick ws k h .answer) ≡ true = ap isGoing is-going in
-    rw (q, ticksWith) (ends-later h is-going (to-answer k more))
+to-answer k (answers-now e) [] q = clash (cc)
+to-answer k {ws = ws} (answers-now {h} e) (h′ ∷ hints) q =
+    let same : h ≡ h′ = cc in
+    let ends = subst (λ (i : ℕ). endsCall (tick ws k i .answer) ≡ true) same e in
+    rw (ends-not-going (tick ws k h′ .answer) ends, ticksWith) (ends-now h′ ends refl refl)
+to-answer k (answers-later is-going more) [] q = clash (cc)
+to-answer k {ws = ws} (answers-later {h} {moves} is-going more) (h′ ∷ hints) q =
+    let same : h ≡ h′ = cc in
+    let others : moves ≡ map own-tick hints = cc in
+    let goes = subst (λ (i : ℕ). tick ws k i .answer ≡ Going) same is-going in
+    rw (ap isGoing goes, ticksWith)
+    (ends-later h′ goes
+    (to-answer k (subst (λ (i : ℕ). AnswersAlone k moves (tick ws k i .words)) same more) hints others))
+to-answer k (dispatch-answers a says e) [] q = clash (cc)
+to-answer k (dispatch-answers a says e) (h′ ∷ hints) q = clash (cc)
+to-answer k (dispatch-goes-on says more) [] q = clash (cc)
+to-answer k (dispatch-goes-on says more) (h′ ∷ hints) q = clash (cc)
+to-answer k (words-left c more) [] q = clash (cc)
+to-answer k (words-left c more) (h′ ∷ hints) q = clash (cc)
 
 busy-operation : (op : Operation) → op ≢ idle → isBusy op ≡ true
 busy-operation idle ne = absurd (ne refl)
@@ -221,8 +247,11 @@ module _ (op : Operation) {ws : List ℕ} (B : Begun ws) (idle-now : Idle ws) (k
       let same = begun-table B idle-now k ℓ op s v accepted .same-nodes in
       to-answer k
       (answers-alone us (P .begun) k
-      (ap (λ (t : Task). isBusy (t .operation)) (P .own) ∙ busy-operation op not-idle) hints (omega arith)
-      (subst (λ (n : ℕ). HintsBelow n hints) (sym same) lows))
+      (ap (λ (t : Task). isBusy (t .operation)) (P .own) ∙ busy-operation op not-idle) (map own-tick hints)
+      (omega (arith, own-hints hints))
+      (hints-alone hints us (begun-agrees (P .begun) .1 .accepted) k
+      (subst (λ (n : ℕ). HintsBelow n hints) (sym same) lows)))
+      hints refl
 
 pub answers-exactly : AnswersExactly
 answers-exactly op ws B idle-now T C k ℓ s v accepted hints lows long =

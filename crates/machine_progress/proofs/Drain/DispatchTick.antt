@@ -92,6 +92,7 @@ module _ {ws : List ℕ} (X : Begun ws) (h : ℕ) (low : h < nodeCount ws) where
     is-idle : r .answer ≡ Idle → ((k : ℕ) → isBusyTask ws k ≡ false) → Does r
     is-tick :
         (k : ℕ)
+        → nextBusy ws ≡ some k
         → tickRefusal ws k h ≡ nothing
         → r .answer ≡ Answered (tickOn ws k h .answer)
         → r .words ≡ setDispatched k (tickOn ws k h .words)
@@ -112,17 +113,17 @@ module _ {ws : List ℕ} (X : Begun ws) (h : ℕ) (low : h < nodeCount ws) where
   unfolding dispatch dispatchOn dispatchTo
   dispatch-does = rw (hint-passes, dispatch) (chosen (nextBusy ws) refl)
     where
-      ticked : (k : ℕ) → tickRefusal ws k h ≡ nothing → (r : Option ℕ)
+      ticked : (k : ℕ) → nextBusy ws ≡ some k → tickRefusal ws k h ≡ nothing → (r : Option ℕ)
           → refusalOf (tickOn ws k h .answer) ≡ r
           → Does (dispatchTo ws k h)
-      ticked k p nothing q = rw (q, dispatchTo) (is-tick k p refl refl)
-      ticked k p (some n) q = clash (cc (effect-made A k h p, ap refusalOf (tick-answer ws k h p)))
+      ticked k e p nothing q = rw (q, dispatchTo) (is-tick k e p refl refl)
+      ticked k e p (some n) q = clash (cc (effect-made A k h p, ap refusalOf (tick-answer ws k h p)))
 
       chosen : (o : Option ℕ) → nextBusy ws ≡ o → Does (dispatchOn ws h)
       chosen nothing e = rw (e, dispatchOn) (is-idle refl (none-busy e))
       chosen (some k) e =
           rw (e, dispatchOn)
-          (ticked k (busy-passes ws k h (chosen-busy ws (A .accepted) h e) low) (refusalOf (tickOn ws k h .answer)) refl)
+          (ticked k e (busy-passes ws k h (chosen-busy ws (A .accepted) h e) low) (refusalOf (tickOn ws k h .answer)) refl)
 
 -- ---- The table after the tick of a dispatch.
 module _ {ws : List ℕ} (X : Begun ws) (k h : ℕ) (p : tickRefusal ws k h ≡ nothing) where

@@ -184,7 +184,7 @@ module _ {ws : List ℕ} (X : Begun ws) (h : ℕ) (hints : List ℕ) (low : h < 
       go : Does X h low (dispatch ws h) → Drained n (h ∷ hints) ws
       go (is-idle says idle) =
           subst (λ (i : ℕ). Drained i (h ∷ hints) ws) (sym (none-below ws (taskCount ws) idle) ∙ many) (idle-now says idle)
-      go (is-tick k p says leaves) =
+      go (is-tick k e p says leaves) =
           by-answer (effectOf ws k h .answer) (effect-made (begun-agrees X .1) k h p) (Drained n (h ∷ hints) ws)
           (λ ends. by-end k p says leaves ends (λ e. refute (cc)) n many ready)
           (λ goes. by-going k p says leaves goes n many ready)

@@ -9,8 +9,9 @@ use Rattle.machine.specs.Table.{nodeCount, taskCount, growth, laneCount, setDis
 use Rattle.machine.specs.Answers.{dispatchRefusalOf}
 use Rattle.machine.specs.Calls.{Dispatched, dispatch}
 use Rattle.machine.specs.Begun.{Begun}
+use Rattle.machine.specs.Shape.{sizesOf, Sized}
 use Rattle.machine.proofs.Basics.Contradiction.{clash}
-use Rattle.machine.proofs.Words.Columns.{Columns, sizesOf, Sized}
+use Rattle.machine.proofs.Words.Columns.{Columns}
 use Rattle.machine.proofs.Words.TableLaws.{columns-setDispatched}
 use Rattle.machine.proofs.Words.EffectLaws.{viewed-set-dispatched, task-set-dispatched}
 use Rattle.machine.proofs.Shape.DispatchCases.{by-dispatch}

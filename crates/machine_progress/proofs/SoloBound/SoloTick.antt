@@ -19,13 +19,14 @@ use Rattle.machine.specs.Lines.{Memory, Effect, act}
 use Rattle.machine.specs.Calls.{isBusy, tickRefusal, effectOf, tickOn}
 use Rattle.machine.specs.Row.{Note}
 use Rattle.machine.specs.Begun.{Begun}
+use Rattle.machine.specs.Shape.{sizesOf, WellSized}
 use Rattle.machine.proofs.Words.ValueLaws.{number-stored}
 use Rattle.machine.proofs.Basics.Contradiction.{refute}
 use Rattle.machine.proofs.Basics.Choices.{if-no}
 use Rattle.machine.proofs.Words.Memories.{View, viewed, written, view, seen-viewed}
-use Rattle.machine.proofs.Words.Columns.{sizesOf, columns}
+use Rattle.machine.proofs.Words.Columns.{columns}
 use Rattle.machine.proofs.Shape.BusyLaws.{BusyAt}
-use Rattle.machine.proofs.Shape.ShapeLaws.{WellSized, WellShaped, well-sized, well-shaped}
+use Rattle.machine.proofs.Shape.ShapeLaws.{WellShaped, well-sized, well-shaped}
 use Rattle.machine.proofs.Shape.TickKeeps.{busy-facts, tick-allowed}
 use Rattle.machine.proofs.Linearizability.Model.Invariant.{Lane, noteOf, Kept, goes-on, has-answered}
 use Rattle.machine.proofs.Linearizability.Model.LaneViews.{lane-view}

@@ -1,77 +1,161 @@
 -- Request 2026-08: in every table that our calls lead to, a busy task that alone is ticked answers within 4S + 154
 -- ticks, and so within 8S + 400.
-use mathlib.Core.Path.{_≡_, refl, sym, subst}
+use mathlib.Core.Path.{_≡_, refl, sym, ap, _∙_, subst}
 use mathlib.Core.Bool.{true}
-use mathlib.Core.List.{List, [], _∷_}
+use mathlib.Core.List.{List, [], _∷_, map}
 use mathlib.Core.Option.{none as nothing}
 use Prim.Native.Nat.{ℕ, zero, suc, _+_, _*_, _-_, _≤_, _<_}
 use native.Mathlib.Omega.{arith}
 use lib.ListN.{length}
-use Rattle.machine.specs.Table.{nodeCount, task}
-use Rattle.machine.specs.Calls.{isBusy, tickRefusal, Ticked, tickOn}
-use Rattle.machine.specs.Begun.{Begun}
+use Rattle.machine.specs.declared.Dispatch.the-variants.{Answered}
+use Rattle.machine.specs.Table.{nodeCount, task, setDispatched}
+use Rattle.machine.specs.Shape.{WellFormed}
+use Rattle.machine.specs.Calls.{isBusy, tickRefusal, effectOf, Ticked, tickOn, tick, dispatch}
+use Rattle.machine.specs.Demand3.{tick-call, dispatch-call}
+use Rattle.machine.specs.Begun.{Begun, by-call}
 use Rattle.machine_progress.specs.Solo.{
+  AloneMove,
+  own-tick,
+  dispatch-to,
+  other-call,
+  ownTicks,
+  Alone,
   AnswersAlone,
   answers-now,
   answers-later,
-  HintsBelow,
+  dispatch-answers,
+  dispatch-goes-on,
+  words-left,
   AnswersWithinAt,
   SoloBound,
   SoloBoundWhereKnown,
   CloserSoloBound,
+  HintsBelow,
 }
+use Rattle.machine.proofs.Basics.Contradiction.{clash}
+use Rattle.machine.proofs.Words.TickLaws.{tick-answer}
 use Rattle.machine.proofs.Shape.TickKeeps.{busy-passes}
-use Rattle.machine.proofs.Linearizability.Corollaries.{begun-agrees, tick-passes, begun-ticked}
-use Rattle.machine.proofs.Linearizability.Begun.TableAfter.{nodes-after}
+use Rattle.machine.proofs.Shape.ShapeKept.{tick-call-kept, call-accepted}
+use Rattle.machine.proofs.Linearizability.Calls.Agreement.{Agrees}
+use Rattle.machine.proofs.Linearizability.Calls.MadeTicks.{effect-made}
+use Rattle.machine.proofs.Linearizability.Corollaries.{begun-agrees, tick-passes}
 use Rattle.machine.proofs.Linearizability.Carried.{always-so}
 use Rattle.machine.proofs.Linearizability.WhereKnown.{begun-where-known}
 use Rattle.machine_progress.proofs.SoloBound.Budget.{walkTicks}
 use Rattle.machine_progress.proofs.SoloBound.AtFirst.{most}
-use Rattle.machine_progress.proofs.SoloBound.EndsOrGoes.{ends-or-goes}
-use Rattle.machine_progress.proofs.SoloBound.SoloTick.{LeftIn, left-in-first, Continues, continues}
+use Rattle.machine_progress.proofs.SoloBound.EndsOrGoes.{by-answer, ends-or-goes}
+use Rattle.machine_progress.proofs.SoloBound.SoloTick.{LeftIn, left-in-first, continues}
+use Rattle.machine_progress.proofs.Drain.DispatchTick.{
+  Does,
+  is-idle,
+  is-tick,
+  dispatch-does,
+  own-then,
+  left-then,
+}
 
--- One tick, and the others after it.
-one-tick : {ws : List ℕ} (X : Begun ws) (k n h : ℕ) (hints : List ℕ) (p : tickRefusal ws k h ≡ nothing)
-    (B : LeftIn 0 ws k n)
-    → (Continues 0 X k h n p B → AnswersAlone k hints (tickOn ws k h .words))
-    → AnswersAlone k (h ∷ hints) ws
-one-tick {ws} X k n h hints p B others =
-    ends-or-goes X k h p (AnswersAlone k (h ∷ hints) ws) (λ e. answers-now e) (λ says going.
-    answers-later says
-    (subst (λ (r : Ticked). AnswersAlone k hints (r .words)) (sym (tick-passes (begun-agrees X .1) k h))
-    (others (continues 0 X k h n p B going))))
+-- What the moves after the first come to, with more of the task's ticks to come than it has left.
+abbrev Others : (k n : ℕ) → List AloneMove → List ℕ → Type 0
+Others k n moves ws =
+    Begun ws
+    → isBusy (task ws k .operation) ≡ true
+    → LeftIn 0 ws k n
+    → n < ownTicks moves
+    → Alone k moves ws
+    → AnswersAlone k moves ws
 
--- With more hints than ticks left, the task answers.
-alone : (hints : List ℕ) (ws : List ℕ) (k n : ℕ) → Begun ws → isBusy (task ws k .operation) ≡ true → LeftIn 0 ws k n
-    → n < length hints
-    → HintsBelow (nodeCount ws) hints
-    → AnswersAlone k hints ws
-alone [] ws k n X b B more low = absurd (omega arith)
-alone (h ∷ hints) ws k n X b B more low =
-    let p = busy-passes ws k h b (low .0) in
-    one-tick X k n h hints p B (λ C.
-    alone hints (tickOn ws k h .words) k (n - 1) (begun-ticked X k h) (C .busy-after) (C .left-after)
-    (omega (arith, C .some))
-    (subst (λ (S : ℕ). HintsBelow S hints) (sym (nodes-after (begun-agrees X .1) k h p)) (low .1)))
+module _ {ws : List ℕ} (X : Begun ws) (k n h : ℕ) (busy : isBusy (task ws k .operation) ≡ true) (B : LeftIn 0 ws k n)
+    (moves : List AloneMove) (more : n < suc (ownTicks moves)) where
+  A : Agrees ws (begun-agrees X .0)
+  A = begun-agrees X .1
+
+  -- A tick, and the others after it.
+  by-tick : Alone k (own-tick h ∷ moves) ws → Others k (n - 1) moves (tick ws k h .words)
+      → AnswersAlone k (own-tick h ∷ moves) ws
+  by-tick alone others =
+      let p = busy-passes ws k h busy (alone .0) in
+      ends-or-goes X k h p (AnswersAlone k (own-tick h ∷ moves) ws) (λ e. answers-now e) (λ says going.
+      let C = continues 0 X k h n p B going in
+      let on = ap (λ (r : Ticked). r .words) (sym (tick-passes A k h)) in
+      answers-later says
+      (others (by-call X (tick-call k h))
+      (subst (λ (vs : List ℕ). isBusy (task vs k .operation) ≡ true) on (C .busy-after))
+      (subst (λ (vs : List ℕ). LeftIn 0 vs k (n - 1)) on (C .left-after)) (omega (arith, C .some)) (alone .1 says)))
+
+  -- A dispatch that reaches the task is its tick.
+  by-dispatch : Alone k (dispatch-to h ∷ moves) ws → Others k (n - 1) moves (dispatch ws h .words)
+      → AnswersAlone k (dispatch-to h ∷ moves) ws
+  by-dispatch alone others = go (dispatch-does X h (alone .0))
+    where
+      made : tickRefusal ws k h ≡ nothing
+          → dispatch ws h .answer ≡ Answered (tickOn ws k h .answer)
+          → dispatch ws h .words ≡ setDispatched k (tickOn ws k h .words)
+          → AnswersAlone k (dispatch-to h ∷ moves) ws
+      made p says leaves =
+          let is = says ∙ ap Answered (tick-answer ws k h p) in
+          by-answer (effectOf ws k h .answer) (effect-made A k h p) (AnswersAlone k (dispatch-to h ∷ moves) ws)
+          (λ e. dispatch-answers (effectOf ws k h .answer) is e)
+          (λ going.
+          let went-on = is ∙ ap Answered going in
+          let on = sym leaves in
+          let left = left-then X k h p going B in
+          dispatch-goes-on went-on
+          (others (by-call X (dispatch-call h))
+          (subst (λ (vs : List ℕ). isBusy (task vs k .operation) ≡ true) on (own-then X k h p going))
+          (subst (λ (vs : List ℕ). LeftIn 0 vs k (n - 1)) on (left .1)) (omega (arith, left .0)) (alone .2 went-on)))
+
+      go : Does X h (alone .0) (dispatch ws h) → AnswersAlone k (dispatch-to h ∷ moves) ws
+      go (is-idle e none) = clash (cc (none k))
+      go (is-tick j chosen p says leaves) =
+          let same : j ≡ k = cc (alone .1) in
+          made (subst (λ (i : ℕ). tickRefusal ws i h ≡ nothing) same p)
+          (subst (λ (i : ℕ). dispatch ws h .answer ≡ Answered (tickOn ws i h .answer)) same says)
+          (subst (λ (i : ℕ). dispatch ws h .words ≡ setDispatched i (tickOn ws i h .words)) same leaves)
+
+alone : (moves : List AloneMove) (ws : List ℕ) (k n : ℕ) → Others k n moves ws
+alone [] ws k n X busy B more low = absurd (omega arith)
+alone (own-tick h ∷ moves) ws k n X busy B more low =
+    by-tick X k n h busy B moves more low (alone moves (tick ws k h .words) k (n - 1))
+alone (dispatch-to h ∷ moves) ws k n X busy B more low =
+    by-dispatch X k n h busy B moves more low (alone moves (dispatch ws h .words) k (n - 1))
+alone (other-call c ∷ moves) ws k n X busy B more low =
+    words-left c (subst (AnswersAlone k moves) (sym (low .0)) (alone moves ws k n X busy B more (low .1)))
 
 -- A busy task has 4S + 153 ticks left at most.
 pub walk-alone : (S : ℕ) → walkTicks 0 S ≡ 4 * S
 walk-alone zero = refl
 walk-alone (suc S) = omega (arith, walk-alone S)
 
-pub answers-alone : (ws : List ℕ) → Begun ws → (k : ℕ) → isBusy (task ws k .operation) ≡ true → (hints : List ℕ)
-    → 4 * nodeCount ws + 154 ≤ length hints
-    → HintsBelow (nodeCount ws) hints
-    → AnswersAlone k hints ws
-answers-alone ws B k busy hints enough low =
-    alone hints ws k (most 0 (nodeCount ws)) B busy (left-in-first 0 B k busy (omega arith))
+pub answers-alone : (ws : List ℕ) → Begun ws → (k : ℕ) → isBusy (task ws k .operation) ≡ true
+    → (moves : List AloneMove)
+    → 4 * nodeCount ws + 154 ≤ ownTicks moves
+    → Alone k moves ws
+    → AnswersAlone k moves ws
+answers-alone ws B k busy moves enough low =
+    alone moves ws k (most 0 (nodeCount ws)) B busy (left-in-first 0 B k busy (omega arith))
     (omega (arith, walk-alone (nodeCount ws))) low
 
 pub closer-solo-bound : CloserSoloBound
-closer-solo-bound ws B k busy hints enough low = answers-alone ws B k busy hints (omega arith) low
+closer-solo-bound ws B k busy moves enough low = answers-alone ws B k busy moves (omega arith) low
 
 pub solo-bound : SoloBound
-solo-bound ws B k busy hints enough low = answers-alone ws B k busy hints (omega arith) low
+solo-bound ws B k busy moves enough low = answers-alone ws B k busy moves (omega arith) low
+
+-- ---- Ticks alone, with hints below S.
+pub hints-alone : (hints ws : List ℕ) → WellFormed ws → (k : ℕ) → HintsBelow (nodeCount ws) hints
+    → Alone k (map own-tick hints) ws
+hints-alone [] ws A k low = tt
+hints-alone (h ∷ hints) ws A k low =
+    let same = tick-call-kept ws A k h .same-sizes in (
+      low .0,
+      λ _.
+          hints-alone hints (tick ws k h .words) (call-accepted ws A (tick-call k h)) k
+          (subst (λ z. HintsBelow (z .nodeCount) hints) (sym same) (low .1)),
+    )
+
+pub own-hints : (hints : List ℕ) → ownTicks (map own-tick hints) ≡ length hints
+own-hints [] = refl
+own-hints (h ∷ hints) = ap suc (own-hints hints)
 
 -- 2026-10: where a row is known.
 pub solo-bound-where-known : SoloBoundWhereKnown

@@ -20,8 +20,8 @@ use Rattle.machine.specs.Table.{
   recordWords,
   task,
 }
-use Rattle.machine.specs.Allocate.{hatsFrom, heldBy, heldFrom, roots, Marking, mark, markAll, visit}
-use Rattle.machine.proofs.SlotRule.Marking.{Room, room-markAll}
+use Rattle.machine.specs.Allocate.{hatsFrom, heldBy, heldFrom, roots, Marking, mark, markAll, visit, Room}
+use Rattle.machine.proofs.SlotRule.Marking.{room-markAll}
 use Rattle.table_record.specs.declared.Task as Coded
 use Rattle.table_record.specs.Coded.{structOf, taskMeant}
 use Rattle.table_layout.specs.Words.{linkIn}

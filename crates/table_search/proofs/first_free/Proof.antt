@@ -5,8 +5,8 @@ use Prim.Native.Nat.{ℕ}
 use native.Mathlib.Omega.{arith}
 use Rattle.machine.specs.Table.{nodeCount}
 use Rattle.machine.specs.Allocate.{roots, Marking, unmarked, markAll, firstUnmarked}
-use Rattle.machine.proofs.Words.Columns.{sizesOf}
-use Rattle.machine.proofs.Shape.ShapeLaws.{WellSized, well-sized}
+use Rattle.machine.specs.Shape.{sizesOf, WellSized}
+use Rattle.machine.proofs.Shape.ShapeLaws.{well-sized}
 use Rattle.machine.proofs.SlotRule.Marking.{room-unmarked, room-of-markAll, allocate-joined}
 use Rattle.table_search.specs.Tables.{Searchable, markingOf}
 use Rattle.table_search.proofs.Laws.Marked.{roots-marked, room-of-list}

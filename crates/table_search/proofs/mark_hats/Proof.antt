@@ -5,8 +5,7 @@ use native.Mathlib.Omega.{arith}
 use native.Mathlib.Nat.{sub-zero}
 use native.Mathlib.Decide.{ℕ-discrete}
 use Rattle.machine.specs.Table.{mostLanes}
-use Rattle.machine.specs.Allocate.{hatsFrom, markAll}
-use Rattle.machine.proofs.SlotRule.Marking.{Room}
+use Rattle.machine.specs.Allocate.{hatsFrom, markAll, Room}
 use Rattle.table_search.specs.Tables.{markingOf}
 use Rattle.table_search.proofs.Laws.Marked.{hats-kept, hats-end, room-for, room-of-list}
 use borrow.Author.Needs.{needs}

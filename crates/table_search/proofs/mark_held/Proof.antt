@@ -1,6 +1,7 @@
 -- What the registers hold, marked one after another, is the list of all four marked.
 use Rattle.machine.specs.Tasks.{inA, inB, inC, inD}
-use Rattle.machine.proofs.SlotRule.Marking.{Room, room-of-mark}
+use Rattle.machine.specs.Allocate.{Room}
+use Rattle.machine.proofs.SlotRule.Marking.{room-of-mark}
 use Rattle.table_record.specs.Coded.{taskMeant}
 use Rattle.table_search.specs.Tables.{markingOf}
 use Rattle.table_search.proofs.Laws.Marked.{registers-marked, found-marked}

@@ -4,8 +4,7 @@ use Prim.Native.Nat.{_-_, _≤_, _<_}
 use native.Mathlib.Omega.{arith}
 use native.Mathlib.Nat.{sub-zero}
 use Rattle.machine.specs.Table.{taskCount}
-use Rattle.machine.specs.Allocate.{heldFrom, markAll}
-use Rattle.machine.proofs.SlotRule.Marking.{Room}
+use Rattle.machine.specs.Allocate.{heldFrom, markAll, Room}
 use Rattle.table_search.specs.Tables.{markingOf}
 use Rattle.table_search.proofs.Laws.Marked.{held-marked, held-kept, held-end, room-for, room-of-list}
 use borrow.Author.Needs.{needs}

@@ -3,8 +3,8 @@ use mathlib.Core.Path.{_≡_, refl, sym, _∙_}
 use Prim.Native.Nat.{_-_, _≤_}
 use native.Mathlib.Omega.{arith}
 use Rattle.machine.specs.Table.{nodeCount}
-use Rattle.machine.specs.Allocate.{largestCount, visitFrom}
-use Rattle.machine.proofs.SlotRule.Marking.{Room, tail-le, room-of-visit, visitFrom-kept, visitFrom-end}
+use Rattle.machine.specs.Allocate.{largestCount, visitFrom, Room}
+use Rattle.machine.proofs.SlotRule.Marking.{tail-le, room-of-visit, visitFrom-kept, visitFrom-end}
 use Rattle.table_search.specs.Tables.{markingOf}
 use Rattle.table_search.proofs.spread.Statement.{statement}
 use Rattle.table_search.proofs.spread.Tie as tie

@@ -38,8 +38,8 @@ module _ (side far : ℕ) (is-far : far ≡ sideNumber (opposite (sideOf side)))
 abbrev pub callOk : (growth : ℕ) → Tasks.Task → Bool
 callOk g t =
     isStepIn (stepsOf (operationOf (t .operation))) (t .step)
-    && countedOk (t .step) (goalOf (operationOf (t .operation)) g (number (t .argument))) (t .counted)
-    && valueReadOk (sideOf (t .side)) (t .step) (t .value)
+    && (countedOk (t .step) (goalOf (operationOf (t .operation)) g (number (t .argument))) (t .counted)
+    && valueReadOk (sideOf (t .side)) (t .step) (t .value))
 
 abbrev pub registersOk : (S lanes : ℕ) → List ℕ → (lane : ℕ) → Bool
 registersOk S L rs l =

@@ -1,10 +1,10 @@
 -- The table of steps answers as 01's lists do: at all of its entries, by one test, and past its end.
-use mathlib.Core.Path.{_≡_, refl}
+use mathlib.Core.Path.{_≡_, refl, sym, _∙_}
 use mathlib.Core.Bool.{Bool, true, false, _&&_, Bool·beq}
 use mathlib.Core.List.{List, [], _∷_}
 use Prim.Native.Nat.{ℕ, _≤_, _<_}
 use native.Mathlib.Omega.{arith}
-use lib.Dec.{T, leb, eqb}
+use lib.Dec.{T, leb}
 use lib.ListN.{length, getD, List·getD-eq-default}
 use borrow.Author.Tests.{leb-true, ne-eqb}
 use Rattle.machine.specs.Choice.{_≟_, _<?_}
@@ -67,12 +67,9 @@ past-end remove s h = absent (stepsOf remove) s h refl
 pub none-past-end : (s : ℕ) → 83 ≤ s → OwnerOk s 0
 none-past-end s h =
     record {
-      answers = λ op l m. rw (past-end (operationOf op) s h, ne-eqb 0 op (omega arith)) (go (eqb op 1));
+      answers =
+          λ op l m. between (λ n. owned n 0 ≡ false) refl refl refl refl op l m ∙ sym (past-end (operationOf op) s h);
     }
-  where
-    go : (b : Bool) → b && false ≡ false
-    go true = refl
-    go false = refl
 
 -- ---- A table that has as many entries as steps have numbers is right if each of them passes the test.
 pub owners-if : (table : List ℕ) → length table ≡ 83 → T (every entryOk 0 table) → OwnersOk table

@@ -1,4 +1,4 @@
--- Comparing, telling a bag and mirroring the words of a value do so to the value that they mean.
+-- Comparing and mirroring the words of a value do so to the value that they mean.
 use mathlib.Core.Path.{_≡_, refl, sym, ap, _∙_, subst}
 use mathlib.Core.Logic.{_≢_, inl, inr}
 use mathlib.Core.Bool.{Bool, true, false}
@@ -30,19 +30,17 @@ use Rattle.machine.specs.Values.{
   valueOk,
 }
 use Rattle.machine.specs.Shape.{sameWords}
-use Rattle.machine.proofs.Basics.Contradiction.{clash, refute}
+use Rattle.machine.proofs.Basics.Contradiction.{refute}
 use Rattle.machine.proofs.Basics.Choices.{equalᵛ, unequalᵛ, if-yes, if-no}
 use Rattle.machine.proofs.Words.ValueLaws.{
   same-stored,
   stored-same,
   stored-number,
   value-range,
-  bag-decoded,
-  decoded-bag,
   encode-decode,
   decode-one-to-one,
 }
-use Rattle.table_values.specs.Tests.{isSame, isBag, markOf}
+use Rattle.table_values.specs.Tests.{isSame, markOf}
 use Rattle.table_values.specs.Mirrors.{mirrorSum, SumIsTable, OtherSumsAreNot}
 
 -- Words that V may be are equal exactly where their values are.
@@ -56,21 +54,6 @@ same-words u v hu hv = go (sameStored u v) refl
       where
         apart : decode u ≢ decode v
         apart q = refute (cc (e, stored-same {u = u} {w = v} (decode-one-to-one u v hu hv q)))
-
--- Words are a bag's exactly where they are a tag.
-pub bag-words : (u : Stored) → bagOk u ≡ isBag (decode u)
-bag-words u = go (bagOk u) refl
-  where
-    no-bag : bagOk u ≡ false → (v : Value) → decode u ≡ v → isBag v ≡ false
-    no-bag n never e = refl
-    no-bag n (bag b) e = clash (cc (n, decoded-bag u b e .0))
-    no-bag n (N s) e = refl
-    no-bag n (X s) e = refl
-    no-bag n (Y s) e = refl
-
-    go : (b : Bool) → bagOk u ≡ b → b ≡ isBag (decode u)
-    go true e = ap isBag (sym (bag-decoded u e))
-    go false e = sym (no-bag e (decode u) refl)
 
 -- A bag's words, the digit first, are its tag's.
 pub tag-put :

@@ -1,20 +1,10 @@
--- Lists filled element by element: an array that is made, and a slice that is stored into.
-use mathlib.Core.Path.{_≡_, sym, _∙_}
+-- A part of a list, and a slice that is stored into from its front on.
+use mathlib.Core.Path.{_≡_}
 use mathlib.Core.List.{List, _++_}
-use Prim.Native.Nat.{ℕ, suc, _+_, _≤_, _<_}
+use Prim.Native.Nat.{ℕ, _+_, _≤_, _<_}
 use native.Mathlib.Omega.{arith}
-use lib.ListN.{length, getD, set, take, drop, length-drop}
-use lib.Seq.{sets, sets-eq, length-take-le, getD-take, getD-drop, take-all, take-suc, take-suc-set}
-
--- ---- An array, made from its first element on.
-
-pub filled-next : (made wanted : List ℕ) (i v : ℕ) → i < length made → i < length wanted → v ≡ getD wanted i 0
-    → take i made ≡ take i wanted → take (suc i) (set made i v) ≡ take (suc i) wanted
-filled-next made wanted i v h k e so-far = rw (take-suc-set made i v h, take-suc wanted i 0 k, e, so-far)
-
-pub filled-end : (made wanted : List ℕ) (i : ℕ) → length made ≤ i → length wanted ≤ i
-    → take i made ≡ take i wanted → made ≡ wanted
-filled-end made wanted i h k e = sym (take-all i made h) ∙ e ∙ take-all i wanted k
+use lib.ListN.{length, getD, take, drop, length-drop}
+use lib.Seq.{sets, sets-eq, length-take-le, getD-take, getD-drop}
 
 -- Of a part of a list: its length, and the element at a place.
 pub length-part : (l : List ℕ) (at n : ℕ) → at + n ≤ length l → length (take n (drop at l)) ≡ n

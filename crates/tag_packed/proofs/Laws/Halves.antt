@@ -11,7 +11,7 @@ use borrow.Author.Tests.{leb-true}
 use Rattle.tag.specs.Tags.{areDigits}
 use Rattle.tag.proofs.TagLaws.{clash, both-true}
 use Rattle.tag_packed.specs.Packed.{halves, pairs}
-use Rattle.tag_packed.proofs.Laws.Twofold.{twofold, length-twofold, twofold-next}
+use Rattle.tag.proofs.Twofold.{twofold, length-twofold, twofold-next}
 
 -- ---- Lengths.
 

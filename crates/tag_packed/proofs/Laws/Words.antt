@@ -1,17 +1,14 @@
--- A tag's two words and its ten digits.
-use mathlib.Core.Path.{_≡_, refl, sym, ap, _∙_}
+-- The two words of a tag's ten digits.
+use mathlib.Core.Path.{_≡_, sym, ap, _∙_}
 use mathlib.Core.Bool.{true}
-use mathlib.Core.List.{List, [], _∷_, _++_}
-use Prim.Native.Nat.{ℕ, zero, suc, _+_, _*_, _/_, _%_, _≤_, _<_}
+use mathlib.Core.List.{List, [], _∷_}
+use Prim.Native.Nat.{ℕ, zero, suc, _+_, _*_, _<_}
 use native.Mathlib.Omega.{arith}
 use lib.ListN.{length, getD, drop, drop-of-length-le}
-use lib.Seq.{drop-cons, append-snoc}
-use Rattle.tag.specs.Tags.{billion, largestTag, digitOf, lowOf, lastDigits, tenDigits, numberFrom, numberOf, areDigits}
+use lib.Seq.{drop-cons}
+use Rattle.tag.specs.Tags.{billion, digitOf, lowOf, numberFrom, numberOf, areDigits}
 use Rattle.tag.proofs.TagLaws.{digit-of-tag, low-of-tag}
 use Rattle.tag.proofs.DigitLaws.{digit-at}
-use Rattle.tag_packed.proofs.Laws.Twofold.{twofold}
-
--- ---- The words of ten digits.
 
 -- The n elements of a list from a place on.
 unfoldable elements : (list : List ℕ) (i n : ℕ) → List ℕ
@@ -60,49 +57,3 @@ module _ (digits : List ℕ) where
 
       pub low-digits : lowDigits ≡ lowOf (numberOf digits)
       low-digits = rw number-of-ten (sym (low-of-tag (getD digits 0 0) lowDigits low-below))
-
--- ---- The ten digits of words.
-
--- The digits of numbers of two.
-abbrev pub parted : (twos : List ℕ) → List ℕ
-parted twos = twofold (λ two. two / 10) (λ two. two % 10) twos
-
--- A number has the digits of its hundreds and then two.
-two-more : (k n hundreds two : ℕ) → n ≡ hundreds * 100 + two → two < 100
-    → lastDigits (suc (suc k)) n ≡ lastDigits k hundreds ++ (two / 10 ∷ two % 10 ∷ [])
-unfolding lastDigits
-two-more k n hundreds two e small =
-    let upper : n / 10 / 10 ≡ hundreds = omega arith in
-    let ten : n / 10 % 10 ≡ two / 10 = omega arith in
-    let one : n % 10 ≡ two % 10 = omega arith in
-    rw (upper, ten, one) (append-snoc (lastDigits k hundreds) (two / 10) (two % 10 ∷ []))
-
-no-digits : lastDigits 0 0 ≡ []
-unfolding lastDigits
-no-digits = refl
-
-module _ (tag : ℕ) (at-most : tag ≤ largestTag) where
-  -- Each two digits of a tag as a number.
-  abbrev twosOf : List ℕ
-  twosOf = tag / 100_000_000 ∷ tag / 1_000_000 % 100 ∷ tag / 10_000 % 100 ∷ tag / 100 % 100 ∷ tag % 100 ∷ []
-
-  pub twos-small : (i : ℕ) → getD twosOf i 0 ≤ 99
-  twos-small zero = omega arith
-  twos-small (suc zero) = omega arith
-  twos-small (suc (suc zero)) = omega arith
-  twos-small (suc (suc (suc zero))) = omega arith
-  twos-small (suc (suc (suc (suc zero)))) = omega arith
-  twos-small (suc (suc (suc (suc (suc i))))) = omega arith
-
-  pub twos-parted : parted twosOf ≡ tenDigits tag
-  unfolding twofold
-  twos-parted =
-      sym
-      (rw (
-        two-more 8 tag (tag / 100) (tag % 100) (omega arith) (omega arith),
-        two-more 6 (tag / 100) (tag / 10_000) (tag / 100 % 100) (omega arith) (omega arith),
-        two-more 4 (tag / 10_000) (tag / 1_000_000) (tag / 10_000 % 100) (omega arith) (omega arith),
-        two-more 2 (tag / 1_000_000) (tag / 100_000_000) (tag / 1_000_000 % 100) (omega arith) (omega arith),
-        two-more 0 (tag / 100_000_000) 0 (tag / 100_000_000) (omega arith) (omega arith),
-        no-digits,
-      ))

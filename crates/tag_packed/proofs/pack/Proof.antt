@@ -5,7 +5,7 @@ use native.Mathlib.Numerals.{add-one}
 use native.Mathlib.Omega.{arith}
 use lib.ListN.{length, length-set, getD, take}
 use Rattle.tag_packed.specs.Packed.{pairs}
-use Rattle.tag_packed.proofs.Laws.Filling.{filled-next, filled-end}
+use Rattle.tag.proofs.Stores.{filled-next, filled-end}
 use Rattle.tag.proofs.DigitLaws.{digit-at}
 use Rattle.tag_packed.proofs.Laws.Halves.{length-pairs, pair-at}
 use Rattle.tag_packed.proofs.pack.Statement.{statement}

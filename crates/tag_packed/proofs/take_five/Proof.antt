@@ -4,7 +4,8 @@ use Prim.Native.Nat.{_-_, _≤_}
 use native.Mathlib.Numerals.{add-one}
 use native.Mathlib.Omega.{arith}
 use lib.ListN.{length, length-set, take, drop}
-use Rattle.tag_packed.proofs.Laws.Filling.{filled-next, filled-end, length-part, part-at}
+use Rattle.tag.proofs.Stores.{filled-next, filled-end}
+use Rattle.tag_packed.proofs.Laws.Filling.{length-part, part-at}
 use Rattle.tag_packed.proofs.take_five.Statement.{statement}
 use Rattle.tag_packed.proofs.take_five.Tie as tie
 

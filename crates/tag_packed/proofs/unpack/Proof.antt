@@ -7,7 +7,7 @@ use lib.ListN.{length, length-set, take}
 use borrow.Kind.Array.{eInt, good-length}
 use mir.Syntax.{w8}
 use Rattle.tag_packed.specs.Packed.{halves}
-use Rattle.tag_packed.proofs.Laws.Filling.{filled-end}
+use Rattle.tag.proofs.Stores.{filled-end}
 use Rattle.tag_packed.proofs.Laws.Halves.{length-halves, halves-next}
 use Rattle.tag_packed.proofs.unpack.Statement.{statement}
 use Rattle.tag_packed.proofs.unpack.Tie as tie

@@ -34,11 +34,12 @@ use Rattle.machine.specs.Lines.{Effect, writeAll}
 use Rattle.machine.specs.Answers.{refusalOf, isGoing}
 use Rattle.machine.specs.Calls.{effectOf, applied, tickCounted}
 use Rattle.machine.specs.Results.{tickedOf}
-use Rattle.machine.proofs.Words.Columns.{sizesOf, columns}
+use Rattle.machine.specs.Shape.{sizesOf, WellSized}
+use Rattle.machine.proofs.Words.Columns.{columns}
 use Rattle.machine.proofs.Words.EffectLaws.{effectWords}
 use Rattle.machine.proofs.Words.TickLaws.{fit-effect}
 use Rattle.machine.proofs.Words.RunLaws.{going-answer}
-use Rattle.machine.proofs.Shape.ShapeLaws.{WellSized, WellShaped, well-sized, well-shaped}
+use Rattle.machine.proofs.Shape.ShapeLaws.{WellShaped, well-sized, well-shaped}
 use Rattle.machine.proofs.Shape.Fits.{Fits}
 use Rattle.machine.proofs.Shape.TickKeeps.{effect-fits, allocated-node}
 use Rattle.machine.proofs.Linearizability.Model.Invariant.{noteOf}

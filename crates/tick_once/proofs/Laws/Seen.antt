@@ -2,10 +2,10 @@
 use mathlib.Core.Path.{_≡_, fun-ext}
 use mathlib.Core.List.{List}
 use Prim.Native.Nat.{ℕ}
+use Rattle.machine.specs.Shape.{sizesOf, Sized}
 use Rattle.machine.specs.Sides.{Side, opposite}
 use Rattle.machine.specs.Table.{hat, nodePart}
 use Rattle.machine.specs.Lines.{seen}
-use Rattle.machine.proofs.Words.Columns.{sizesOf, Sized}
 use Rattle.line_parts.specs.Lent.{memoryIn}
 use Rattle.table_layout.proofs.Laws.Views.{link-in, value-in}
 

@@ -25,13 +25,13 @@ use Rattle.machine.specs.Operations.{
 use Rattle.machine.specs.Steps.{stepNumber, stepOf, stepsOf, isStepIn}
 use Rattle.machine.specs.Tasks.{Task, none}
 use Rattle.machine.specs.Table.{nodeCount, taskCount, growth, laneCount, mostLanes, nodePart, valueWords, recordWords, task}
-use Rattle.machine.specs.Shape.{recordOk}
+use Rattle.machine.specs.Shape.{recordOk, sizesOf, WellSized}
 use Rattle.machine.specs.Calls.{isBusy}
 use Rattle.machine.proofs.Basics.Contradiction.{clash}
 use Rattle.machine.proofs.Basics.Choices.{if-yes}
 use Rattle.machine.proofs.Words.RecordLaws.{words-of-task}
-use Rattle.machine.proofs.Words.Columns.{sizesOf, columns}
-use Rattle.machine.proofs.Shape.ShapeLaws.{WellSized, WellShaped}
+use Rattle.machine.proofs.Words.Columns.{columns}
+use Rattle.machine.proofs.Shape.ShapeLaws.{WellShaped}
 use Rattle.machine.proofs.Shape.BusyLaws.{NodeOrNone, BusyFacts, counted-at-most}
 use Rattle.machine.proofs.Shape.TickKeeps.{busy-facts}
 use Rattle.table_record.specs.declared.Task as Tasks

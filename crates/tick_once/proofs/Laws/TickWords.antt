@@ -22,10 +22,11 @@ use Rattle.machine.specs.Lines.{Memory, Effect, seen, writeAll, act}
 use Rattle.machine.specs.Answers.{refusalOf}
 use Rattle.machine.specs.Calls.{effectOf, applied}
 use Rattle.machine.specs.Results.{tickedOf}
+use Rattle.machine.specs.Shape.{sizesOf, WellSized}
 use Rattle.machine.proofs.Basics.Contradiction.{clash}
-use Rattle.machine.proofs.Words.Columns.{sizesOf, columns}
+use Rattle.machine.proofs.Words.Columns.{columns}
 use Rattle.machine.proofs.Words.EffectLaws.{AllInRange}
-use Rattle.machine.proofs.Shape.ShapeLaws.{WellSized, WellShaped}
+use Rattle.machine.proofs.Shape.ShapeLaws.{WellShaped}
 use Rattle.machine.proofs.Shape.Fits.{answer-made, Fits, turns-back, goes-on, ends}
 use Rattle.table_record.specs.declared.Task as Tasks
 use Rattle.table_record.specs.Coded.{structOf, taskMeant}

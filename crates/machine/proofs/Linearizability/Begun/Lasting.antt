@@ -1,11 +1,11 @@
 -- Facts that last: what a start brings about, and what begins and ticks keep, is true of every table that our calls
--- lead to. A call that a request adds gets its clause here, once for all such facts.
+-- lead to.
 use mathlib.Core.Path.{_≡_, refl, sym, subst}
 use mathlib.Core.Logic.{_≢_}
 use mathlib.Core.Bool.{Bool, true, false}
-use mathlib.Core.List.{List, [], _∷_}
+use mathlib.Core.List.{List}
 use mathlib.Core.Option.{Option, some, none as nothing}
-use Prim.Native.Nat.{ℕ, zero, suc, _≤_}
+use Prim.Native.Nat.{ℕ, _≤_}
 use Rattle.machine.specs.Values.{number}
 use Rattle.machine.specs.declared.Reply.the-variants.{Accepted}
 use Rattle.machine.specs.declared.Stored.{Stored}
@@ -26,27 +26,11 @@ use Rattle.machine.specs.Calls.{
   begin,
   effectOf,
   tickOn,
-  tick,
   Dispatched,
   dispatch,
-  run,
-  panel,
 }
 use Rattle.machine.specs.Row.{Row}
-use Rattle.machine.specs.Demand3.{
-  Call,
-  start-call,
-  begin-call,
-  tick-call,
-  ticks-call,
-  dispatch-call,
-  dispatches-call,
-  run-call,
-  panel-call,
-  read-call,
-  after,
-  afterTicks,
-}
+use Rattle.machine.specs.Demand3.{Call, after}
 use Rattle.machine.specs.Begun.{Begun, by-start, by-call}
 use Rattle.machine.proofs.Basics.Contradiction.{clash}
 use Rattle.machine.proofs.Basics.Tests.{test-passed, tests-left}
@@ -54,8 +38,7 @@ use Rattle.machine.proofs.Basics.Updates.{update}
 use Rattle.machine.proofs.Words.Memories.{View, viewed, viewAfter, seen-viewed}
 use Rattle.machine.proofs.Words.StartLaws.{startView, viewed-start, task-start}
 use Rattle.machine.proofs.Words.EffectLaws.{viewed-set-dispatched, task-set-dispatched, lanes-set-dispatched}
-use Rattle.machine.proofs.Words.RunLaws.{kept-consecutively}
-use Rattle.machine.proofs.Words.DispatchLaws.{kept-in-dispatches}
+use Rattle.machine.proofs.Words.Kinds.{kept-by-calls}
 use Rattle.machine.proofs.Shape.TickKeeps.{tick-allowed}
 use Rattle.machine.proofs.Shape.DispatchCases.{by-dispatch}
 use Rattle.machine.proofs.Shape.ShapeKept.{start-sized}
@@ -64,22 +47,11 @@ use Rattle.machine.proofs.Linearizability.Model.Classes.{Class}
 use Rattle.machine.proofs.Linearizability.Model.Invariant.{Invariant, Roots}
 use Rattle.machine.proofs.Linearizability.Lines.InvariantTick.{effectIn}
 use Rattle.machine.proofs.Linearizability.Calls.Agreement.{Agrees}
-use Rattle.machine.proofs.Linearizability.Calls.MadeTicks.{
-  well-linked,
-  kept-roots,
-  not-idle,
-}
-use Rattle.machine.proofs.Linearizability.Calls.CallsAgree.{tick-explained, dispatch-explained}
+use Rattle.machine.proofs.Linearizability.Calls.MadeTicks.{well-linked, kept-roots, not-idle}
+use Rattle.machine.proofs.Linearizability.Calls.CallsAgree.{start-explained, begin-explained, dispatch-explained}
 use Rattle.machine.proofs.Linearizability.Begun.TableAfter.{viewed-after, tasks-after, lanes-after}
 use Rattle.machine.proofs.Linearizability.Begun.TableBegun.{by-begin}
-use Rattle.machine.proofs.Linearizability.Corollaries.{
-  begun-agrees,
-  tick-passes,
-  tick-agrees,
-  ticked-sized,
-  run-is-its-ticks,
-  panel-is-its-ticks,
-}
+use Rattle.machine.proofs.Linearizability.Corollaries.{begun-agrees, tick-agrees, ticked-sized}
 
 -- A fact about the number of lanes, the view and the tasks' records lasts.
 pub record LastsFor (Fact : (lanes : ℕ) → View → (ℕ → Task) → Type 0) : Type 0 where
@@ -155,9 +127,6 @@ module _ {Fact : (lanes : ℕ) → View → (ℕ → Task) → Type 0} (L : Last
         go (some n) e = rw (e, tickOn) F
         go nothing e = made-keeps k h e
 
-    tick-call-keeps : (k h : ℕ) → Of (tick ws k h .words)
-    tick-call-keeps k h = rw (tick-passes A k h) (tick-keeps k h)
-
     -- A dispatch, which is a tick or changes nothing.
     dispatch-keeps : (h : ℕ) → Of (dispatch ws h .words)
     dispatch-keeps h =
@@ -167,36 +136,23 @@ module _ {Fact : (lanes : ℕ) → View → (ℕ → Task) → Type 0} (L : Last
         rw (lanes-set-dispatched vs sized k, viewed-set-dispatched vs sized k right, task-set-dispatched vs sized k)
         (tick-keeps k h))
 
-  -- The ticks of a list.
-  ticks-keep : (i : ℕ) (list ws : List ℕ) (ρ : Row) → Agrees ws ρ → Of ws → Of (afterTicks i list ws)
-  unfolding afterTicks
-  ticks-keep zero list ws ρ A F = F
-  ticks-keep (suc i) [] ws ρ A F = F
-  ticks-keep (suc i) (k ∷ []) ws ρ A F = F
-  ticks-keep (suc i) (k ∷ h ∷ list) ws ρ A F =
-      let a = tick-agrees A k h in
-      ticks-keep i list (tickOn ws k h .words) (a .0) (a .1) (tick-keeps A F k h)
+  -- The fact, and the agreement of table and row that ticks need.
+  abbrev Both : List ℕ → Type 0
+  Both ws = (ρ : Row) × Agrees ws ρ × Of ws
 
-  call-keeps : {ws : List ℕ} {ρ : Row} → Agrees ws ρ → Of ws → (c : Call) → Of (after c ws)
-  call-keeps A F (start-call S T g lanes) = start-keeps A F S T g lanes
-  call-keeps A F (begin-call k l op side argument) = begin-keeps A F k l op side argument
-  call-keeps A F (tick-call k h) = tick-call-keeps A F k h
-  call-keeps {ws} {ρ} A F (ticks-call k h times) =
-      kept-consecutively (λ vs. (σ : Row) × Agrees vs σ × Of vs) k h
-      (λ vs x. let E = tick-explained (x .1) k h in (E .row, E .agrees, tick-call-keeps (x .1) (x .2) k h))
-      times ws (ρ, A, F)
-      .2
-  call-keeps A F (dispatch-call h) = dispatch-keeps A F h
-  call-keeps {ws} {ρ} A F (dispatches-call h times) =
-      kept-in-dispatches (λ vs. (σ : Row) × Agrees vs σ × Of vs) h
-      (λ vs x. let E = dispatch-explained (x .1) h in (E .row, E .agrees, dispatch-keeps (x .1) (x .2) h))
-      times ws (ρ, A, F)
-      .2
-  call-keeps {ws} {ρ} A F (run-call list answers) =
-      subst Of (run-is-its-ticks ws list answers) (ticks-keep (run ws list answers .ran .made) list ws ρ A F)
-  call-keeps {ws} {ρ} A F (panel-call list answers) =
-      subst Of (panel-is-its-ticks ws list answers) (ticks-keep (panel ws list answers .ran .made) list ws ρ A F)
-  call-keeps A F (read-call l out) = F
+  call-keeps : (c : Call) (ws : List ℕ) → Both ws → Both (after c ws)
+  call-keeps =
+      kept-by-calls Both
+      (record {
+        by-start = λ ws x S T g lanes.
+            let E = start-explained (x .1) S T g lanes in (E .row, E .agrees, start-keeps (x .1) (x .2) S T g lanes);
+        by-begin = λ ws x k l op side argument.
+            let E = begin-explained (x .1) k l op side argument in
+            (E .row, E .agrees, begin-keeps (x .1) (x .2) k l op side argument);
+        by-tick = λ ws x k h. let a = tick-agrees (x .1) k h in (a .0, a .1, tick-keeps (x .1) (x .2) k h);
+        by-dispatch = λ ws x h.
+            let E = dispatch-explained (x .1) h in (E .row, E .agrees, dispatch-keeps (x .1) (x .2) h);
+      })
 
   pub begun-has : {ws : List ℕ} → Begun ws → Fact (laneCount ws) (viewed right ws) (task ws)
   unfolding start
@@ -206,4 +162,5 @@ module _ {Fact : (lanes : ℕ) → View → (ℕ → Task) → Type 0} (L : Last
           → Of (changed r old (startWords S T g lanes) .words)
       go (some n) e q = clash (cc)
       go nothing e q = start-has S T g lanes (search test-passed) (search (test-passed, tests-left))
-  begun-has (by-call B c) = call-keeps (begun-agrees B .1) (begun-has B) c
+  begun-has (by-call {ws = ws} B c) =
+      let A = begun-agrees B in call-keeps c ws (A .0, A .1, begun-has B) .2

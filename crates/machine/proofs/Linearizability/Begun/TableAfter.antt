@@ -10,10 +10,11 @@ use Rattle.machine.specs.Tasks.{Task}
 use Rattle.machine.specs.Table.{nodeCount, taskCount, growth, laneCount, task}
 use Rattle.machine.specs.Calls.{isBusy, tickRefusal, effectOf, tickOn}
 use Rattle.machine.specs.Row.{Row, Note}
+use Rattle.machine.specs.Shape.{sizesOf, WellSized}
 use Rattle.machine.proofs.Basics.Updates.{update, update-same, update-other}
 use Rattle.machine.proofs.Words.Memories.{View, viewed, written, view, view-view, view-viewed}
-use Rattle.machine.proofs.Words.Columns.{sizesOf, columns}
-use Rattle.machine.proofs.Shape.ShapeLaws.{WellSized, WellShaped, well-sized, well-shaped}
+use Rattle.machine.proofs.Words.Columns.{columns}
+use Rattle.machine.proofs.Shape.ShapeLaws.{WellShaped, well-sized, well-shaped}
 use Rattle.machine.proofs.Shape.TickKeeps.{tick-allowed, tick-kept}
 use Rattle.machine.proofs.Words.TickLaws.{tick-viewed, tick-task}
 use Rattle.machine.proofs.Linearizability.Model.Invariant.{noteOf}

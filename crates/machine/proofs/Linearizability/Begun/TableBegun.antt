@@ -12,13 +12,14 @@ use Rattle.machine.specs.Tasks.{Task, fresh}
 use Rattle.machine.specs.Table.{nodeCount, taskCount, growth, laneCount, task, setTask}
 use Rattle.machine.specs.Calls.{beginRefusal, Changed, changed, begunTask, begin}
 use Rattle.machine.specs.Row.{Row}
+use Rattle.machine.specs.Shape.{sizesOf, WellSized}
 use Rattle.machine.proofs.Basics.Contradiction.{clash}
 use Rattle.machine.proofs.Words.ValueLaws.{never-has-word}
 use Rattle.machine.proofs.Basics.Updates.{update}
 use Rattle.machine.proofs.Words.Memories.{viewed}
-use Rattle.machine.proofs.Words.Columns.{sizesOf, columns}
+use Rattle.machine.proofs.Words.Columns.{columns}
 use Rattle.machine.proofs.Words.EffectLaws.{viewed-set-task, task-set-task}
-use Rattle.machine.proofs.Shape.ShapeLaws.{WellSized, WellShaped, well-sized, well-shaped}
+use Rattle.machine.proofs.Shape.ShapeLaws.{WellShaped, well-sized, well-shaped}
 use Rattle.machine.proofs.Shape.ShapeKept.{begin-allowed, begin-kept}
 use Rattle.machine.proofs.Shape.TickKeeps.{Kept, idle-fresh}
 use Rattle.machine.proofs.Linearizability.Calls.Agreement.{Agrees}

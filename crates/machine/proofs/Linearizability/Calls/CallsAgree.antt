@@ -1,22 +1,16 @@
--- Each call but consecutive ticks and lists of ticks keeps the agreement of table and row, and gives back what the row
--- gives.
+-- Start, begin, tick and dispatch: each keeps the agreement of table and row, and gives back what the row gives.
 use mathlib.Core.Path.{_≡_, refl, sym, ap, _∙_, subst, fun-ext}
-use mathlib.Core.Bool.{Bool, true, false}
+use mathlib.Core.Bool.{Bool, true}
 use mathlib.Core.List.{List}
 use mathlib.Core.Option.{Option, some, none as nothing, bind}
-use Prim.Native.Nat.{ℕ, _*_, _≤_, _<_}
+use Prim.Native.Nat.{ℕ, _≤_, _<_}
 use native.Mathlib.Omega.{arith}
-use lib.Dec.{leb, ltb}
-use lib.ListN.{length, drop}
-use lib.Seq.{take-at}
-use borrow.Author.Tests.{eq-eqb, leb-false, lt-ltb, le-ltb, le-leb}
-use Rattle.tag.specs.Tags.{allTagWords}
-use Rattle.tag.proofs.TagLaws.{length-tag-words}
+use borrow.Author.Tests.{lt-ltb, le-leb}
 use Rattle.machine.specs.declared.Dispatch.the-variants.{Idle, Answered}
 use Rattle.machine.specs.Round.{nextAfter}
 use Rattle.machine.specs.Values.{number}
 use Rattle.machine.specs.declared.Stored.{Stored}
-use Rattle.machine.specs.Choice.{_≟_, _<?_}
+use Rattle.machine.specs.Choice.{_≟_}
 use Rattle.machine.specs.Sides.{right, sideOf}
 use Rattle.machine.specs.Operations.{Operation, idle, push, pop, add, remove, operationOf}
 use Rattle.machine.specs.Tasks.{Task}
@@ -24,7 +18,6 @@ use Rattle.machine.specs.Table.{taskCount, laneCount, dispatched, task, 
 use Rattle.machine.specs.Shape.{lanesOk, sizesOk, WellFormed}
 use Rattle.machine.specs.Answers.{refusalOf}
 use Rattle.machine.specs.Calls.{
-  unless,
   isIdle,
   isBusy,
   startRefusal,
@@ -41,9 +34,6 @@ use Rattle.machine.specs.Calls.{
   tick,
   Dispatched,
   nextBusy,
-  ReadDone,
-  readInto,
-  read,
 }
 use Rattle.machine.specs.Row.{
   Note,
@@ -63,21 +53,18 @@ use Rattle.machine.specs.Demand3.{
   begin-call,
   tick-call,
   dispatch-call,
-  read-call,
   Call,
   given,
   after,
   feedStart,
   feedBegin,
   feedTick,
-  feedRead,
   feed,
 }
 use Rattle.machine.proofs.Basics.Contradiction.{clash}
 use Rattle.machine.proofs.Basics.Choices.{by-if}
 use Rattle.machine.proofs.Basics.Tests.{test-passed, tests-left}
 use Rattle.machine.proofs.Basics.Updates.{update, update-same, update-other}
-use Rattle.machine.proofs.Words.RecordLaws.{same-words-refl}
 use Rattle.machine.proofs.Words.ValueLaws.{never-has-word}
 use Rattle.machine.proofs.Words.StartLaws.{viewed-start, task-start}
 use Rattle.machine.proofs.Words.TableLaws.{columns-setDispatched, columns-setTask}
@@ -100,7 +87,7 @@ use Rattle.machine.proofs.Shape.ShapeKept.{
 use Rattle.machine.proofs.Linearizability.Model.Invariant.{noteOf}
 use Rattle.machine.proofs.Linearizability.Calls.Start.{startClass, invariant-start}
 use Rattle.machine.proofs.Linearizability.Calls.Begin.{invariant-begin}
-use Rattle.machine.proofs.Linearizability.Calls.Agreement.{noteIn, noteUnder, Agrees, lanes-are-rows}
+use Rattle.machine.proofs.Linearizability.Calls.Agreement.{noteIn, noteUnder, Agrees}
 use Rattle.machine.proofs.Linearizability.Calls.MadeTicks.{made-tick}
 
 -- What a call comes to: the row afterwards, which the row's lines give, and the agreement of table and row again.
@@ -300,55 +287,3 @@ module _ {ws : List ℕ} {ρ : Row} (A : Agrees ws ρ) where
             rw (q, feedDispatch, next-same ∙ chosen, M .given),
             dispatched-agrees (M .agrees) k (dispatched-accepted ws (A .accepted) k h passes),
           )
-
-  -- ---- Reading a lane.
-  pub read-explained : (l : ℕ) (out : List ℕ) → Explains ws ρ (read-call l out)
-  unfolding read readInto
-  read-explained l out = explains (by-lane (l <? laneCount ws))
-    where
-      Result : ReadDone → Type 0
-      Result r = (ρ′ : Row) × (feedRead ρ l out (r .reading) (r .out) ≡ some ρ′) × Agrees ws ρ′
-
-      n : ℕ
-      n = length (ρ .bags l)
-
-      written : List ℕ
-      written = allTagWords (ρ .bags l)
-
-      go : l < ρ .lanes → (b : Bool) → leb (2 * n) (length out) ≡ b → Result (readInto (some (ρ .bags l)) out)
-      go h true e =
-          rw (e, readInto) (
-            ρ,
-            rw (
-              lt-ltb l (ρ .lanes) h,
-              eq-eqb n n refl,
-              e,
-              take-at written (drop (2 * n) out) (2 * n) (length-tag-words (ρ .bags l)),
-              same-words-refl written,
-            ),
-            A,
-          )
-      go h false e =
-          rw (e, readInto)
-          (ρ, rw (lt-ltb l (ρ .lanes) h, lt-ltb (length out) (2 * n) (leb-false (2 * n) (length out) e)), A)
-
-      -- 26 exactly when there is no such lane.
-      by-lane : Dec (l < laneCount ws) → Result (read ws l out)
-      by-lane (yes h) =
-          let is-lane : l < ρ .lanes = subst (λ (m : ℕ). l < m) (sym (A .same-lanes)) h in
-          rw (
-            table-passes ws (A .accepted) (unless (ltb l (laneCount ws)) 26 nothing),
-            lt-ltb l (laneCount ws) h,
-            read,
-            lanes-are-rows A l is-lane,
-          )
-          (go is-lane (leb (2 * n) (length out)) refl)
-      by-lane (no h) =
-          let past : laneCount ws ≤ l = omega arith in
-          let no-lane : ρ .lanes ≤ l = subst (λ (m : ℕ). m ≤ l) (sym (A .same-lanes)) past in
-          rw (
-            table-passes ws (A .accepted) (unless (ltb l (laneCount ws)) 26 nothing),
-            le-ltb l (laneCount ws) past,
-            read,
-          )
-          (ρ, rw (le-ltb l (ρ .lanes) no-lane), A)

@@ -5,7 +5,7 @@ use mathlib.Core.List.{List}
 use mathlib.Core.Logic.{_≢_}
 use mathlib.Core.Option.{Option, some, none as nothing, bind}
 use Prim.Native.Nat.{ℕ, _<_}
-use Rattle.machine.specs.Shape.{WellFormed}
+use Rattle.machine.specs.Shape.{WellFormed, sizesOf, WellSized}
 use Rattle.machine.specs.declared.Answer.{Answer}
 use Rattle.machine.specs.declared.Answer.the-variants.{Going, Pushed, Bag, Empty, Full, Yes, No, Refused}
 use Rattle.machine.specs.Choice.{_≟_, if_then_else_}
@@ -22,9 +22,9 @@ use Rattle.machine.proofs.Basics.Contradiction.{clash, refute}
 use Rattle.machine.proofs.Basics.Choices.{by-if}
 use Rattle.machine.proofs.Basics.Updates.{update, update-same, update-other}
 use Rattle.machine.proofs.Words.Memories.{viewed, seen-viewed}
-use Rattle.machine.proofs.Words.Columns.{sizesOf, columns}
+use Rattle.machine.proofs.Words.Columns.{columns}
 use Rattle.machine.proofs.Shape.BusyLaws.{NodeOrNone}
-use Rattle.machine.proofs.Shape.ShapeLaws.{WellSized, WellShaped, well-sized, well-shaped, length-ok, shape-ok}
+use Rattle.machine.proofs.Shape.ShapeLaws.{WellShaped, well-sized, well-shaped, length-ok, shape-ok}
 use Rattle.machine.proofs.Shape.TickKeeps.{busy-facts, idle-fresh, tick-allowed, tick-kept}
 use Rattle.machine.proofs.Words.TickLaws.{tick-answer, tick-viewed, tick-task}
 use Rattle.machine.proofs.SlotRule.Reached.{

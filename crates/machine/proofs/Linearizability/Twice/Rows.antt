@@ -6,21 +6,15 @@ use mathlib.Core.List.{List, [], _∷_}
 use mathlib.Core.Option.{Option, some, none as nothing, Option·map}
 use Prim.Native.Nat.{ℕ, zero, suc, _+_, _≤_, _<_}
 use native.Mathlib.Omega.{arith}
-use lib.Dec.{ltb}
 use Rattle.machine.specs.declared.Answer.{Answer}
 use Rattle.machine.specs.declared.Answer.the-variants.{Going, Pushed, Bag, Empty, Full, Yes, No, Refused}
-use Rattle.machine.specs.declared.Dispatch.{Dispatch}
-use Rattle.machine.specs.declared.Dispatch.the-variants.{Idle, Answered}
-use Rattle.machine.specs.declared.Reply.the-variants.{Accepted, Refused as Reply-Refused}
 use Rattle.machine.specs.Choice.{_≟_, if_then_else_}
-use Rattle.machine.specs.Sides.{Side, sideOf}
-use Rattle.machine.specs.Values.{number}
-use Rattle.machine.specs.Operations.{Operation, idle, push, pop, add, remove, operationOf}
-use Rattle.machine.specs.Answers.{refusalOf, isGoing, dispatchGoesOn, answerOf}
+use Rattle.machine.specs.Sides.{Side}
+use Rattle.machine.specs.Operations.{Operation, idle, push, pop, add, remove}
+use Rattle.machine.specs.Answers.{isGoing}
 use Rattle.machine.specs.Calls.{isAmong}
 use Rattle.machine.specs.Row.{
   Note,
-  newNote,
   Row,
   emptyRow,
   noted,
@@ -33,43 +27,17 @@ use Rattle.machine.specs.Row.{
   answeredBy,
   answered,
   feedMade,
-  feedRun,
   nextNoted,
   feedDispatched,
-  feedIdle,
-  feedDispatch,
 }
-use Rattle.machine.specs.Demand3.{
-  Call,
-  start-call,
-  begin-call,
-  tick-call,
-  ticks-call,
-  dispatch-call,
-  dispatches-call,
-  run-call,
-  panel-call,
-  read-call,
-  Given,
-  isCall,
-  feedTick,
-  feedDispatches,
-  feed,
-}
+use Rattle.machine.specs.Kinds.{Tick, of-task, of-next, Did, started, begun, ticked}
 use Rattle.machine.specs.Counts.{count}
 use Rattle.machine.specs.Twice.{PushNoted, rowsBelow, allBags, OnceInRow, SeenIn}
 use Rattle.machine.proofs.Basics.Contradiction.{clash, equal?, less?}
 use Rattle.machine.proofs.Basics.Choices.{if-yes, if-no}
 use Rattle.machine.proofs.Basics.Counts.{count-append}
-use Rattle.machine.proofs.Linearizability.Histories.{
-  count-put,
-  bag-taken,
-  bound,
-  mapped,
-  same-if,
-  unless-going,
-  same-when-read,
-}
+use Rattle.machine.proofs.Linearizability.Calls.RowDid.{bound, mapped, feedMadeTick, feedMadeTicks, feedDid}
+use Rattle.machine.proofs.Linearizability.Histories.{count-put, bag-taken}
 use Rattle.machine.proofs.Linearizability.Twice.Lists.{
   not-counted,
   not-among,
@@ -132,17 +100,10 @@ noted-there ρ k m j b N = go (j ≟ k) (N .note-is)
 -- ---- Begin.
 
 -- An accepted begin of a push is of a bag that the row has not seen.
-abbrev pub NewWhereBegun : Row → (c : Call) → Given c → Type 0
-NewWhereBegun ρ (begin-call k l op side argument) Accepted = operationOf op ≡ push → SeenIn ρ (number argument) → ⊥
-NewWhereBegun ρ (begin-call k l op side argument) (Reply-Refused n) = Unit {0}
-NewWhereBegun ρ (start-call S T g L) r = Unit {0}
-NewWhereBegun ρ (tick-call k h) r = Unit {0}
-NewWhereBegun ρ (ticks-call k h times) r = Unit {0}
-NewWhereBegun ρ (dispatch-call h) r = Unit {0}
-NewWhereBegun ρ (dispatches-call h times) r = Unit {0}
-NewWhereBegun ρ (run-call list answers) r = Unit {0}
-NewWhereBegun ρ (panel-call list answers) r = Unit {0}
-NewWhereBegun ρ (read-call l out) r = Unit {0}
+abbrev pub NewWhereBegun : Row → Did → Type 0
+NewWhereBegun ρ (begun k n) = n .operation ≡ push → SeenIn ρ (n .argument) → ⊥
+NewWhereBegun ρ (started T L) = Unit {0}
+NewWhereBegun ρ (ticked ts) = Unit {0}
 
 module _ {ρ : Row} (O : Once ρ) (k : ℕ) (n : Note) (new : n .operation ≡ push → SeenIn ρ (n .argument) → ⊥) where
   -- A note of the new push is of a bag not seen.
@@ -349,41 +310,16 @@ once-made {ρ} {ρ′} O k a e = let n = bound (ρ .notes k) _ e in by-answer (n
         (once-ended O k n is (x .0)
         (all-leave O k n is (x .0) (answer-leaves n (ρ .bags (n .lane)) (x .0) a (x .1))))
 
-once-tick : {ρ ρ′ : Row} → Once ρ → (k : ℕ) (a : Answer) → feedTick ρ k a ≡ some ρ′ → Once ρ′
-unfolding feedTick
-once-tick {ρ} {ρ′} O k a e = go (refusalOf a) e
+-- A tick of the task whose turn it is. The task last dispatched is no bag and no note.
+once-next : {ρ ρ′ : Row} → Once ρ → (a : Answer) → feedDispatched ρ a ≡ some ρ′ → Once ρ′
+unfolding feedDispatched
+once-next {ρ} {ρ′} O a e =
+    let x = bound (nextNoted (ρ .notes) (ρ .tasks) (ρ .dispatched)) _ e in
+    let y = mapped (feedMade ρ (x .0) a) _ (x .2) in
+    same-row (ap some (y .2)) (turned (x .0) (once-made O (x .0) a (y .1)))
   where
-    go : (o : Option ℕ)
-        → elim o as (λ _. Option Row) [ some n ↦ some ρ | nothing ↦ feedMade ρ k a ] ≡ some ρ′
-        → Once ρ′
-    go (some n) q = same-row q O
-    go nothing q = once-made O k a q
-
-once-run : (n : ℕ) (list answers : List ℕ) {ρ ρ′ : Row} → Once ρ → feedRun ρ n list answers ≡ some ρ′ → Once ρ′
-unfolding feedRun
-once-run zero list answers O e = same-row e O
-once-run (suc n) [] answers O e = clash (cc)
-once-run (suc n) (k ∷ []) answers O e = clash (cc)
-once-run (suc n) (k ∷ h ∷ list) [] O e = clash (cc)
-once-run (suc n) (k ∷ h ∷ list) (kind ∷ []) O e = clash (cc)
-once-run (suc n) (k ∷ h ∷ list) (kind ∷ digit ∷ []) O e = clash (cc)
-once-run (suc n) (k ∷ h ∷ list) (kind ∷ digit ∷ low ∷ answers) {ρ} O e =
-    let a = bound (answerOf kind digit low) _ e in
-    let m = bound (feedMade ρ k (a .0)) _ (a .2) in
-    once-run n list answers (once-made O k (a .0) (m .1)) (m .2)
-
-once-dispatch : (r : Dispatch) {ρ ρ′ : Row} → Once ρ → feedDispatch ρ r ≡ some ρ′ → Once ρ′
-unfolding feedDispatch feedIdle feedDispatched
-once-dispatch Idle {ρ} {ρ′} O e = go (nextNoted (ρ .notes) (ρ .tasks) (ρ .dispatched)) e
-  where
-    go : (o : Option ℕ) → elim o as (λ _. Option Row) [ some k ↦ nothing | nothing ↦ some ρ ] ≡ some ρ′ → Once ρ′
-    go (some k) q = clash (cc)
-    go nothing q = same-row q O
-once-dispatch (Answered a) {ρ} {ρ′} O e = go (refusalOf a) e
-  where
-    -- The task last dispatched is no bag and no note.
-    ticked : (k : ℕ) {σ : Row} → Once σ → Once (withDispatched k σ)
-    ticked k P =
+    turned : (k : ℕ) {σ : Row} → Once σ → Once (withDispatched k σ)
+    turned k P =
         record {
           at-most-once = P .at-most-once;
           not-yet = λ j b N. P .not-yet j b (record { lane = N .lane; side = N .side; note-is = N .note-is });
@@ -392,37 +328,19 @@ once-dispatch (Answered a) {ρ} {ρ′} O e = go (refusalOf a) e
               (record { lane = M .lane; side = M .side; note-is = M .note-is });
         }
 
-    go : (o : Option ℕ)
-        → elim o as (λ _. Option Row) [ some n ↦ some ρ | nothing ↦ feedDispatched ρ a ] ≡ some ρ′
-        → Once ρ′
-    go (some n) q = same-row q O
-    go nothing q =
-        let x = bound (nextNoted (ρ .notes) (ρ .tasks) (ρ .dispatched)) _ q in
-        let y = mapped (feedMade ρ (x .0) a) _ (x .2) in
-        same-row (ap some (y .2)) (ticked (x .0) (once-made O (x .0) a (y .1)))
+once-tick : {ρ ρ′ : Row} → Once ρ → (t : Tick) → feedMadeTick ρ t ≡ some ρ′ → Once ρ′
+once-tick O (of-task k a) e = once-made O k a e
+once-tick O (of-next a) e = once-next O a e
 
-once-dispatches : (n m : ℕ) (d : Dispatch) {ρ ρ′ : Row} → Once ρ → feedDispatches ρ n m d ≡ some ρ′ → Once ρ′
-unfolding feedDispatches
-once-dispatches zero zero d O e = subst Once (same-if (dispatchGoesOn d) e .1) O
-once-dispatches zero (suc m) d O e = clash (cc)
-once-dispatches (suc n) zero d O e = once-dispatch d O (unless-going (dispatchGoesOn d) e)
-once-dispatches (suc n) (suc m) d {ρ} O e =
-    let x = bound (feedDispatch ρ (Answered Going)) _ e in
-    once-dispatches n m d (once-dispatch (Answered Going) O (x .1)) (x .2)
+once-ticks : {ρ ρ′ : Row} → Once ρ → (ts : List Tick) → feedMadeTicks ρ ts ≡ some ρ′ → Once ρ′
+unfolding feedMadeTicks
+once-ticks O [] e = same-row e O
+once-ticks {ρ} O (t ∷ ts) e =
+    let x = bound (feedMadeTick ρ t) _ e in
+    once-ticks (once-tick O t (x .1)) ts (x .2)
 
--- ---- Every call.
-pub once-fed : (c : Call) (r : Given c) {ρ ρ′ : Row} → Once ρ → NewWhereBegun ρ c r → feed ρ c r ≡ some ρ′ → Once ρ′
-once-fed (start-call S T g L) Accepted O new e = same-row e (once-empty T L)
-once-fed (start-call S T g L) (Reply-Refused n) O new e = same-row e O
-once-fed (begin-call k l op side argument) Accepted {ρ} O new e =
-    same-row (ap some (same-if (isCall ρ k l op side argument) e .1))
-    (once-begun O k (newNote l op side argument) new)
-once-fed (begin-call k l op side argument) (Reply-Refused n) O new e = same-row e O
-once-fed (tick-call k h) a O new e = once-tick O k a e
-once-fed (ticks-call k h zero) a O new e = subst Once (same-if (isGoing a) e .1) O
-once-fed (ticks-call k h (suc n)) a O new e = once-tick O k a e
-once-fed (dispatch-call h) r O new e = once-dispatch r O e
-once-fed (dispatches-call h times) r O new e = once-dispatches times (r .1) (r .0) O e
-once-fed (run-call list answers) r O new e = once-run (r .0 .made) list (r .1) O e
-once-fed (panel-call list answers) r O new e = once-run (r .0 .made) list (r .1) O e
-once-fed (read-call l out) r {ρ} O new e = subst Once (same-when-read ρ l out (r .0) (r .1) e) O
+-- ---- What a call did.
+pub once-did : (d : Did) {ρ ρ′ : Row} → Once ρ → NewWhereBegun ρ d → feedDid ρ d ≡ some ρ′ → Once ρ′
+once-did (started T L) O new e = same-row e (once-empty T L)
+once-did (begun k n) O new e = same-row e (once-begun O k n new)
+once-did (ticked ts) O new e = once-ticks O ts e

@@ -3,26 +3,11 @@ use mathlib.Core.Path.{_≡_, refl, sym, ap, _∙_, subst}
 use mathlib.Core.List.{List, [], _∷_, _++_}
 use mathlib.Core.Option.{some, bind}
 use Prim.Native.Nat.{ℕ}
-use Rattle.machine.specs.declared.Reply.{Reply}
-use Rattle.machine.specs.declared.Reply.the-variants.{Accepted, Refused as Reply-Refused}
 use Rattle.machine.specs.Table.{task}
-use Rattle.machine.specs.Calls.{start, begin}
+use Rattle.machine.specs.Calls.{start}
 use Rattle.machine.specs.Row.{Row, emptyRow}
-use Rattle.machine.specs.Demand3.{
-  Call,
-  start-call,
-  begin-call,
-  tick-call,
-  ticks-call,
-  dispatch-call,
-  dispatches-call,
-  run-call,
-  panel-call,
-  read-call,
-  given,
-  after,
-  feed,
-}
+use Rattle.machine.specs.Demand3.{Call, given, after, feed}
+use Rattle.machine.specs.Kinds.{Asked, Did, did}
 use Rattle.machine.specs.Begun.{Begun, by-start, by-call, afterAll}
 use Rattle.machine.specs.Twice.{
   AllDifferent,
@@ -37,32 +22,37 @@ use Rattle.machine.specs.Twice.{
   RowsHaveOnce,
   PushesBeginNew,
 }
+use Rattle.machine.proofs.Words.Kinds.{
+  Comes,
+  left-alone,
+  is-started,
+  is-begun,
+  are-ticked,
+  are-dispatched,
+  comes,
+}
 use Rattle.machine.proofs.Linearizability.Calls.Agreement.{Agrees, lanes-are-rows, all-lanes-are-rows}
-use Rattle.machine.proofs.Linearizability.Theorem.{call-explained, started-agrees}
-use Rattle.machine.proofs.Linearizability.Histories.{bound}
+use Rattle.machine.proofs.Linearizability.Calls.RowDid.{bound}
+use Rattle.machine.proofs.Linearizability.Calls.EveryCall.{told, call-explained}
+use Rattle.machine.proofs.Linearizability.Theorem.{started-agrees}
 use Rattle.machine.proofs.Linearizability.Corollaries.{begun-inside-runs}
-use Rattle.machine.proofs.Linearizability.Twice.Rows.{Once, once-in-row, once-empty, NewWhereBegun, once-fed}
+use Rattle.machine.proofs.Linearizability.Twice.Rows.{Once, once-in-row, once-empty, NewWhereBegun, once-did}
 use Rattle.machine.proofs.Linearizability.Twice.Begins.{busy-noted, accepted-new, begins-new}
 
 -- ---- Every call, on a table that agrees with the row.
 module _ {ws : List ℕ} {ρ : Row} (A : Agrees ws ρ) where
-  new-where-begun : (c : Call) → NewWhereBegun ρ c (given c ws)
-  new-where-begun (begin-call k l op side argument) = go (begin ws k l op side argument .reply) refl
+  new-where-begun : (c : Call) → NewWhereBegun ρ (did c (given c ws))
+  new-where-begun c = go (comes c ws)
     where
-      go : (r : Reply) → begin ws k l op side argument .reply ≡ r → NewWhereBegun ρ (begin-call k l op side argument) r
-      go Accepted e = accepted-new A k l op side argument e
-      go (Reply-Refused n) e = tt
-  new-where-begun (start-call S T g L) = tt
-  new-where-begun (tick-call k h) = tt
-  new-where-begun (ticks-call k h times) = tt
-  new-where-begun (dispatch-call h) = tt
-  new-where-begun (dispatches-call h times) = tt
-  new-where-begun (run-call list answers) = tt
-  new-where-begun (panel-call list answers) = tt
-  new-where-begun (read-call l out) = tt
+      go : {a : Asked} {vs : List ℕ} {d : Did} → Comes ws a vs d → NewWhereBegun ρ d
+      go (left-alone a e) = tt
+      go (is-started S T g L e) = tt
+      go (is-begun k l op side argument e) = accepted-new A k l op side argument e
+      go (are-ticked i list ts) = tt
+      go (are-dispatched h n ts) = tt
 
   once-called : Once ρ → (c : Call) → Once (call-explained A c .row)
-  once-called O c = once-fed c (given c ws) O (new-where-begun c) (call-explained A c .given-by-row)
+  once-called O c = once-did (did c (given c ws)) O (new-where-begun c) (told A c .fed-what-it-did)
 
 -- ---- Rows.
 rows-agree : (cs : List Call) {ws : List ℕ} {ρ ρ′ : Row} → Agrees ws ρ → Once ρ → rowAfter cs ws ρ ≡ some ρ′

@@ -1,17 +1,17 @@
 -- The flag of the chain is followed from test to test, once operation, side and argument have passed.
 use mathlib.Core.Path.{_≡_, refl, sym, ap, _∙_}
-use mathlib.Core.Bool.{true}
+use mathlib.Core.Bool.{true, _&&_}
 use borrow.Author.Tests.{not-true, not-false}
 use Rattle.machine.specs.Operations.{operationOf, argumentOk}
-use Rattle.machine.specs.Shape.{countedOk}
+use Rattle.machine.specs.Sides.{sideOf}
+use Rattle.machine.specs.Shape.{countedOk, valueReadOk}
 use Rattle.table_layout.proofs.Laws.Conjunctions.{and-passed, and-failed, and-met}
 use Rattle.table_shape.proofs.Laws.RecordWords.{callOk, operation-fails, side-fails, argument-fails, busy-tests}
 use borrow.Author.Needs.{needs}
 use Rattle.table_layout.proofs.operations.argument_ok.Reads as argument-ok-reads
-use Rattle.table_shape.proofs.records.counted_ok.Reads as counted-ok-reads
 use Rattle.table_layout.proofs.operations.goal_of.Reads as goal-of-reads
 use Rattle.table_shape.proofs.records.registers_ok.Reads as registers-ok-reads
-use Rattle.table_shape.proofs.records.value_read_ok.Reads as value-read-ok-reads
+use Rattle.table_shape.proofs.records.progress_ok.Reads as progress-ok-reads
 use Rattle.table_steps.proofs.owners.is_step_of.Reads as is-step-of-reads
 use Rattle.table_shape.proofs.records.busy_ok.Statement.{statement}
 use Rattle.table_shape.proofs.records.busy_ok.Tie as tie
@@ -27,10 +27,8 @@ argument-passes :
       goal-of-reads.Learnt,
       is-step-of-reads.Asked,
       is-step-of-reads.Learnt,
-      counted-ok-reads.Asked,
-      counted-ok-reads.Learnt,
-      value-read-ok-reads.Asked,
-      value-read-ok-reads.Learnt,
+      progress-ok-reads.Asked,
+      progress-ok-reads.Learnt,
       registers-ok-reads.Asked,
       registers-ok-reads.Learnt,
     ) reads.Pre reads.Post)
@@ -41,32 +39,31 @@ argument-passes c =
 
 flag :
     (c :
-    lts.Joined5 (
+    lts.Joined4 (
       argument-ok-reads.Asked,
       argument-ok-reads.Learnt,
       goal-of-reads.Asked,
       goal-of-reads.Learnt,
       is-step-of-reads.Asked,
       is-step-of-reads.Learnt,
-      counted-ok-reads.Asked,
-      counted-ok-reads.Learnt,
-      value-read-ok-reads.Asked,
-      value-read-ok-reads.Learnt,
+      progress-ok-reads.Asked,
+      progress-ok-reads.Learnt,
       registers-ok-reads.Asked,
       registers-ok-reads.Learnt,
     ) reads.Pre reads.Post)
-    → let a =
-    c .before .before .before .before .before .before .before .before .before .before .before .before .before .args
-    in
-    c .if5 .if6 ≡ callOk (a .growth) (a .t)
+    → let a = c .before .before .before .before .before .before .before .before .before .before .before .before .args in
+    c .if4 .if5 ≡ callOk (a .growth) (a .t)
 flag c =
-    let g = c .before .before .before .before .before in
+    let g = c .before .before .before .before in
     let t = g .before .before .before .before .before .before .before .before .args .t in
-    and-met _ (c .if5 .came) (λ p. (p .0 .taken, p .2 ∙ p .1 .ensures)) (λ p. (p .0 .left, p .1))
-    (and-met _ (c .before .if4 .came)
-    (λ p. (p .0 .taken, p .2 ∙ p .1 .ensures ∙ ap (λ n. countedOk (t .step) n (t .counted)) (g .goal-of .ensures)))
+    and-met _ (c .if4 .came)
+    (λ p. (
+      p .0 .taken,
+      p .2 ∙ p .1 .ensures
+          ∙ ap (λ n. countedOk (t .step) n (t .counted) && valueReadOk (sideOf (t .side)) (t .step) (t .value)) (g .goal-of .ensures),
+    ))
     (λ p. (p .0 .left, p .1))
-    (c .before .before .is-step-of .ensures))
+    (c .before .is-step-of .ensures)
 
 returns : tie.Need-returns
 returns c =
@@ -96,31 +93,28 @@ goal-of-requires c κs = argument-passes c
 is-step-of-requires : tie.Need-is-step-of-requires
 is-step-of-requires c κs = search needs
 
-counted-ok-requires : tie.Need-counted-ok-requires
-counted-ok-requires c κs = search needs
-
-value-read-ok-requires : tie.Need-value-read-ok-requires
-value-read-ok-requires c κs = search needs
+progress-ok-requires : tie.Need-progress-ok-requires
+progress-ok-requires c κs = search needs
 
 registers-ok-requires : tie.Need-registers-ok-requires
 registers-ok-requires c κs = search needs
 
 returns-4 : tie.Need-returns-4
 returns-4 c =
-    let d = c .before .before .before .before .before .before .before .before in
-    let f = d .before .before .before in
-    let e = f .before .before in
-    let a = e .before .before .args in
-    and-passed (flag (c .before .before)) (c .before .if6 .taken) (c .registers-ok .ensures)
-    ∙ busy-tests (a .slots) (a .growth) (a .lanes) (a .t) (e .if1 .left) (f .if2 .left) (argument-passes d)
-
-returns-5 : tie.Need-returns-5
-returns-5 c =
     let d = c .before .before .before .before .before .before .before in
     let f = d .before .before .before in
     let e = f .before .before in
     let a = e .before .before .args in
-    and-failed _ (flag (c .before)) (c .if6 .left) refl
+    and-passed (flag (c .before .before)) (c .before .if5 .taken) (c .registers-ok .ensures)
+    ∙ busy-tests (a .slots) (a .growth) (a .lanes) (a .t) (e .if1 .left) (f .if2 .left) (argument-passes d)
+
+returns-5 : tie.Need-returns-5
+returns-5 c =
+    let d = c .before .before .before .before .before .before in
+    let f = d .before .before .before in
+    let e = f .before .before in
+    let a = e .before .before .args in
+    and-failed _ (flag (c .before)) (c .if5 .left) refl
     ∙ busy-tests (a .slots) (a .growth) (a .lanes) (a .t) (e .if1 .left) (f .if2 .left) (argument-passes d)
 
 pub busy-ok-spec : {M : Type 1} → statement M
@@ -133,8 +127,7 @@ busy-ok-spec =
     returns-3
     goal-of-requires
     is-step-of-requires
-    counted-ok-requires
-    value-read-ok-requires
+    progress-ok-requires
     registers-ok-requires
     returns-4
     returns-5)

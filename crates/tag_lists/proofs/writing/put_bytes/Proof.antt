@@ -41,23 +41,23 @@ loop-holds c =
 mul-at : tie.Need-mul-at Inv-loop μ-loop
 mul-at c = omega arith
 
-mul-of-words : tie.Need-mul-of-words Inv-loop μ-loop
-mul-of-words c = omega arith
+mul-digits-of-words : tie.Need-mul-digits-of-words Inv-loop μ-loop
+mul-digits-of-words c = omega arith
 
-shared-slice-read-of-words : tie.Need-shared-slice-read-of-words Inv-loop μ-loop
-shared-slice-read-of-words c = omega arith
+shared-slice-read-digits-of-words : tie.Need-shared-slice-read-digits-of-words Inv-loop μ-loop
+shared-slice-read-digits-of-words c = omega arith
 
-add-of-words : tie.Need-add-of-words Inv-loop μ-loop
-add-of-words c = omega arith
+add-digits-of-words : tie.Need-add-digits-of-words Inv-loop μ-loop
+add-digits-of-words c = omega arith
 
-mul-of-words-2 : tie.Need-mul-of-words-2 Inv-loop μ-loop
-mul-of-words-2 c = omega arith
+mul-digits-of-words-2 : tie.Need-mul-digits-of-words-2 Inv-loop μ-loop
+mul-digits-of-words-2 c = omega arith
 
-shared-slice-read-of-words-2 : tie.Need-shared-slice-read-of-words-2 Inv-loop μ-loop
-shared-slice-read-of-words-2 c = omega arith
+shared-slice-read-digits-of-words-2 : tie.Need-shared-slice-read-digits-of-words-2 Inv-loop μ-loop
+shared-slice-read-digits-of-words-2 c = omega arith
 
-of-words-requires : tie.Need-of-words-requires Inv-loop μ-loop
-of-words-requires c κs =
+digits-of-words-requires : tie.Need-digits-of-words-requires Inv-loop μ-loop
+digits-of-words-requires c κs =
     let turn = c .before .before in
     let l = turn .before .loop in
     let a = turn .before .before .before .before .args in
@@ -71,7 +71,7 @@ mul-put-five : tie.Need-mul-put-five Inv-loop μ-loop
 mul-put-five c = omega arith
 
 pack-requires : tie.Need-pack-requires Inv-loop μ-loop
-pack-requires c κs = rw (c .before .of-words .ensures) (last-are-digits 10 _)
+pack-requires c κs = rw (c .before .digits-of-words .ensures) (last-are-digits 10 _)
 
 put-five-requires : tie.Need-put-five-requires Inv-loop μ-loop
 put-five-requires c κs = omega arith
@@ -85,7 +85,7 @@ loop-less c = omega arith
 loop-again : tie.Need-loop-again Inv-loop μ-loop
 loop-again c =
     let five = c .before .before .before .pack in
-    let digits = c .before .before .before .before .before .of-words in
+    let digits = c .before .before .before .before .before .digits-of-words in
     let turn = c .before .before .before .before .before .before .before .before in
     let l = turn .before .loop in
     let a = turn .before .before .before .before .args in
@@ -122,12 +122,12 @@ put-bytes-spec =
     μ-loop
     loop-holds
     mul-at
-    mul-of-words
-    shared-slice-read-of-words
-    add-of-words
-    mul-of-words-2
-    shared-slice-read-of-words-2
-    of-words-requires
+    mul-digits-of-words
+    shared-slice-read-digits-of-words
+    add-digits-of-words
+    mul-digits-of-words-2
+    shared-slice-read-digits-of-words-2
+    digits-of-words-requires
     mul-put-five
     pack-requires
     put-five-requires

@@ -1,0 +1,9 @@
+-- What the proofs of airline lists share.
+
+pub mod CodeLaws
+pub mod FormLaws
+pub mod HeadLaws
+pub mod LineLaws
+pub mod MarkLaws
+pub mod ReadingLaws
+pub mod AcceptedLaws

@@ -1,0 +1,100 @@
+-- The lines of a list from a place on, and their forms.
+use mathlib.Core.Path.{_≡_, refl, sym, ap, _∙_}
+use mathlib.Core.Bool.{Bool, true, false}
+use mathlib.Core.Logic.{_⊎_, inl, inr}
+use mathlib.Core.List.{List, [], _∷_, map}
+use Prim.Native.Nat.{ℕ, suc, _+_, _-_, _≤_, _<_}
+use native.Mathlib.Decide.{decLe, decLt}
+use native.Mathlib.Omega.{arith}
+use borrow.Author.Tests.{le-leb, lt-leb}
+use lib.Dec.{eqb, leb}
+use lib.ListN.{length, drop, drop-of-length-le, length-drop}
+use lib.Seq.{drop-drop}
+use Rattle.tag.proofs.TagLaws.{clash}
+use Rattle.text.specs.Lines.{lineFeed, firstLine, linesOf}
+use Rattle.text.proofs.Laws.FirstLine.{line-within}
+use Rattle.airline_list.specs.declared.forms.Form.{Form}
+use Rattle.airline_list.specs.declared.forms.Form.the-variants.{Neither}
+use Rattle.airline_list.specs.Forms.{formText, formOf}
+use Rattle.airline_list.specs.Lists.{none}
+use Rattle.airline_list.proofs.Laws.FormLaws.{form-text}
+
+-- The first line, and the lines behind its line feed.
+first-of-lines : (xs : List ℕ) → 0 < length xs
+    → linesOf xs ≡ firstLine xs ∷ linesOf (drop (suc (length (firstLine xs))) xs)
+unfolding linesOf firstLine
+first-of-lines [] h = absurd (omega arith)
+first-of-lines (b ∷ []) h = go (eqb b lineFeed) refl
+  where
+    go : (fed : Bool) → eqb b lineFeed ≡ fed
+        → linesOf (b ∷ []) ≡ firstLine (b ∷ []) ∷ linesOf (drop (suc (length (firstLine (b ∷ [])))) (b ∷ []))
+    go true e = rw e
+    go false e = rw e
+first-of-lines (b ∷ c ∷ cs) h = go (eqb b lineFeed) refl (first-of-lines (c ∷ cs) (omega arith))
+  where
+    go : (fed : Bool) → eqb b lineFeed ≡ fed
+        → linesOf (c ∷ cs) ≡ firstLine (c ∷ cs) ∷ linesOf (drop (suc (length (firstLine (c ∷ cs)))) (c ∷ cs))
+        → linesOf (b ∷ c ∷ cs)
+        ≡ firstLine (b ∷ c ∷ cs) ∷ linesOf (drop (suc (length (firstLine (b ∷ c ∷ cs)))) (b ∷ c ∷ cs))
+    go true e r = rw e
+    go false e r = rw (e, r)
+
+-- ---- The forms from a place of the list on.
+abbrev pub formAt : (list : List ℕ) (from : ℕ) → Form
+formAt list from = formOf (firstLine (drop from list))
+
+abbrev pub formsAt : (list : List ℕ) (from : ℕ) → List Form
+formsAt list from = map formOf (linesOf (drop from list))
+
+pub forms-end : (list : List ℕ) (from : ℕ) → length list ≤ from → formsAt list from ≡ []
+unfolding linesOf
+forms-end list from h = rw (drop-of-length-le list {i = from} h)
+
+pub some-forms : (list : List ℕ) (from : ℕ) → from < length list → none (formsAt list from) ≡ false
+some-forms list from h =
+    let some : 0 < length (drop from list) = simp length-drop (omega arith) in
+    rw (first-of-lines (drop from list) some)
+
+pub forms-left : (list : List ℕ) (from : ℕ) → none (formsAt list from) ≡ false → from < length list
+forms-left list from h = go (decLt from (length list))
+  where
+    go : Dec (from < length list) → from < length list
+    go (yes before) = before
+    go (no past) =
+        let z : true ≡ false = sym (ap none (forms-end list from (omega arith))) ∙ h in
+        clash (cc)
+
+-- Whether a line follows is told by the place where one ends.
+pub is-last : (list : List ℕ) (to : ℕ) → leb (length list - to) 1 ≡ none (formsAt list (to + 1))
+is-last list to = go (decLe (length list - to) 1)
+  where
+    go : Dec (length list - to ≤ 1) → leb (length list - to) 1 ≡ none (formsAt list (to + 1))
+    go (yes h) = rw (le-leb (length list - to) 1 h, forms-end list (to + 1) (omega arith))
+    go (no h) = rw (lt-leb (length list - to) 1 (omega arith), some-forms list (to + 1) (omega arith))
+
+module _ (list : List ℕ) (from : ℕ) where
+  -- The forms behind the first line feed.
+  abbrev pub formsBehind : List Form
+  formsBehind = map formOf (linesOf (drop (suc (length (firstLine (drop from list)))) (drop from list)))
+
+  pub forms-first : from < length list → formsAt list from ≡ formAt list from ∷ formsBehind
+  forms-first h =
+      let some : 0 < length (drop from list) = simp length-drop (omega arith) in
+      ap (map formOf) (first-of-lines (drop from list) some)
+
+  -- A line that has a form ends where the form's text does.
+  pub forms-behind : (to : ℕ) → to ≡ from + length (formText (formAt list from))
+      → firstLine (drop from list) ≡ formText (formAt list from) → formsBehind ≡ formsAt list (to + 1)
+  forms-behind to ends text =
+      let n = ap length text in
+      let place : from + suc (length (firstLine (drop from list))) ≡ to + 1 = omega arith in
+      ap (λ (t : List ℕ). map formOf (linesOf t))
+      (drop-drop (suc (length (firstLine (drop from list)))) from list ∙ ap (λ i. drop i list) place)
+
+  pub form-within : from ≤ length list → from + length (formText (formAt list from)) ≤ length list
+  form-within h = go (form-text (firstLine (drop from list)))
+    where
+      go : (formAt list from ≡ Neither) ⊎ (firstLine (drop from list) ≡ formText (formAt list from))
+          → from + length (formText (formAt list from)) ≤ length list
+      go (inl e) = rw e (omega arith)
+      go (inr e) = rw (← e) (line-within list from h)

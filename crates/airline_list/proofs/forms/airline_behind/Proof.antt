@@ -1,0 +1,51 @@
+-- `airline_list::forms::airline_behind` meets its contract: each branch is one case of the definition.
+use mathlib.Core.Bool.{false}
+use mathlib.Core.Path.{_≡_, sym, _∙_}
+use Rattle.text.specs.Text.{bytes, same}
+use Rattle.text.specs.Lines.{firstLine}
+use Rattle.airline_list.specs.FirstForm.{airlineBehind}
+use borrow.Author.Needs.{needs}
+use Rattle.airline_list.proofs.forms.airline_behind.Statement.{statement}
+use Rattle.airline_list.proofs.forms.airline_behind.Tie as tie
+
+-- Past the first test it is not the line with the left end.
+not-left :
+    (c : tie.Else1)
+    → same (firstLine (c .before .before .before .before .args .rest .now)) (bytes ") left)") ≡ false
+not-left c = sym (c .before .is-line .ensures) ∙ c .if1 .left
+
+slice-aggregate-is-line : tie.Need-slice-aggregate-is-line
+slice-aggregate-is-line c = search needs
+
+is-line-requires : tie.Need-is-line-requires
+is-line-requires c κs = search needs
+
+returns : tie.Need-returns
+unfolding airlineBehind
+returns c = rw (sym (c .before .is-line .ensures) ∙ c .if1 .taken)
+
+slice-aggregate-is-line-2 : tie.Need-slice-aggregate-is-line-2
+slice-aggregate-is-line-2 c = search needs
+
+is-line-requires-2 : tie.Need-is-line-requires-2
+is-line-requires-2 c κs = search needs
+
+returns-2 : tie.Need-returns-2
+unfolding airlineBehind
+returns-2 c = rw (not-left (c .before .before .before), sym (c .before .is-line2 .ensures) ∙ c .if2 .taken)
+
+returns-3 : tie.Need-returns-3
+unfolding airlineBehind
+returns-3 c = rw (not-left (c .before .before .before), sym (c .before .is-line2 .ensures) ∙ c .if2 .left)
+
+pub airline-behind-spec : {M : Type 1} → statement M
+airline-behind-spec =
+    tie.close
+    (tie.spec
+    slice-aggregate-is-line
+    is-line-requires
+    returns
+    slice-aggregate-is-line-2
+    is-line-requires-2
+    returns-2
+    returns-3)

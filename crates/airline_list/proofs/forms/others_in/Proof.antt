@@ -1,0 +1,51 @@
+-- `airline_list::forms::others_in` meets its contract: each branch is one case of the definition.
+use mathlib.Core.Bool.{false}
+use mathlib.Core.Path.{_≡_, sym, _∙_}
+use Rattle.text.specs.Text.{bytes, same}
+use Rattle.text.specs.Lines.{firstLine}
+use Rattle.airline_list.specs.FirstForm.{othersIn}
+use borrow.Author.Needs.{needs}
+use Rattle.airline_list.proofs.forms.others_in.Statement.{statement}
+use Rattle.airline_list.proofs.forms.others_in.Tie as tie
+
+-- Past the first test it is not the line with the left end.
+not-left :
+    (c : tie.Else1)
+    → same (firstLine (c .before .before .before .before .args .text .now)) (bytes "(others left)") ≡ false
+not-left c = sym (c .before .is-line .ensures) ∙ c .if1 .left
+
+slice-aggregate-is-line : tie.Need-slice-aggregate-is-line
+slice-aggregate-is-line c = search needs
+
+is-line-requires : tie.Need-is-line-requires
+is-line-requires c κs = search needs
+
+returns : tie.Need-returns
+unfolding othersIn
+returns c = rw (sym (c .before .is-line .ensures) ∙ c .if1 .taken)
+
+slice-aggregate-is-line-2 : tie.Need-slice-aggregate-is-line-2
+slice-aggregate-is-line-2 c = search needs
+
+is-line-requires-2 : tie.Need-is-line-requires-2
+is-line-requires-2 c κs = search needs
+
+returns-2 : tie.Need-returns-2
+unfolding othersIn
+returns-2 c = rw (not-left (c .before .before .before), sym (c .before .is-line2 .ensures) ∙ c .if2 .taken)
+
+returns-3 : tie.Need-returns-3
+unfolding othersIn
+returns-3 c = rw (not-left (c .before .before .before), sym (c .before .is-line2 .ensures) ∙ c .if2 .left)
+
+pub others-in-spec : {M : Type 1} → statement M
+others-in-spec =
+    tie.close
+    (tie.spec
+    slice-aggregate-is-line
+    is-line-requires
+    returns
+    slice-aggregate-is-line-2
+    is-line-requires-2
+    returns-2
+    returns-3)

@@ -1,0 +1,7 @@
+pub mod Forms
+pub mod Lists
+pub mod Accepted
+pub mod FirstForm
+pub mod Marks
+pub mod Examples
+pub mod Wrong

@@ -1,0 +1,4 @@
+pub mod Sending
+pub mod Worked
+pub mod Alike
+pub mod Refuted

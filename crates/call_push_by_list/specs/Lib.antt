@@ -1,0 +1,4 @@
+pub mod PushByList
+pub mod Alike
+pub mod Examples
+pub mod Wrong

@@ -1,0 +1,161 @@
+-- Every call: the row gives what it gives back, is fed what it did, and agrees with the tables inside it.
+use mathlib.Core.Path.{_≡_, refl, sym, subst}
+use mathlib.Core.Bool.{Bool, true, false}
+use mathlib.Core.List.{List}
+use mathlib.Core.Option.{some, none as nothing}
+use Prim.Native.Nat.{ℕ, _*_, _≤_, _<_}
+use native.Mathlib.Omega.{arith}
+use lib.Dec.{leb, ltb}
+use lib.ListN.{length, drop}
+use lib.Seq.{take-at}
+use borrow.Author.Tests.{eq-eqb, leb-false, lt-ltb, le-ltb}
+use Rattle.tag.specs.Tags.{allTagWords}
+use Rattle.tag.proofs.TagLaws.{length-tag-words}
+use Rattle.machine.specs.declared.Reply.{Reply}
+use Rattle.machine.specs.declared.Reply.the-variants.{Accepted, Refused as Reply-Refused}
+use Rattle.machine.specs.declared.Stored.{Stored}
+use Rattle.machine.specs.Choice.{_<?_}
+use Rattle.machine.specs.Table.{laneCount}
+use Rattle.machine.specs.Calls.{unless, start, begin, ReadDone, readInto, read}
+use Rattle.machine.specs.Row.{Row, noted, newNote}
+use Rattle.machine.specs.Demand3.{
+  Call,
+  start-call,
+  begin-call,
+  tick-call,
+  ticks-call,
+  dispatch-call,
+  dispatches-call,
+  run-call,
+  panel-call,
+  read-call,
+  given,
+  isCall,
+  feedStart,
+  feedBegin,
+  feedRead,
+  feed,
+  Within,
+}
+use Rattle.machine.specs.Kinds.{startDid, beginDid, did}
+use Rattle.machine.proofs.Words.RecordLaws.{same-words-refl}
+use Rattle.machine.proofs.Shape.ShapeKept.{table-passes}
+use Rattle.machine.proofs.Linearizability.Calls.Agreement.{Agrees, lanes-are-rows}
+use Rattle.machine.proofs.Linearizability.Calls.RowDid.{
+  same-if,
+  feedMadeTicks,
+  feedDid,
+  tick-fed,
+  ticks-fed,
+  run-fed,
+  dispatch-fed,
+  dispatches-fed,
+}
+use Rattle.machine.proofs.Linearizability.Calls.CallsAgree.{
+  Explains,
+  start-explained,
+  begin-explained,
+  tick-explained,
+  dispatch-explained,
+}
+use Rattle.machine.proofs.Linearizability.Calls.ConsecutiveTicks.{ticks-explained, ticks-within}
+use Rattle.machine.proofs.Linearizability.Calls.ConsecutiveDispatches.{dispatches-explained, dispatches-within}
+use Rattle.machine.proofs.Linearizability.Calls.Runs.{run-explained, run-within, panel-explained, panel-within}
+
+-- One call and what it did, and the ticks inside it.
+pub record Told (ws : List ℕ) (ρ : Row) (c : Call) : Type 0 where
+  pub explains : Explains ws ρ c
+  pub fed-what-it-did : feedDid ρ (did c (given c ws)) ≡ some (explains .row)
+  pub within : Within c ws ρ
+
+-- ---- Accepted or refused.
+start-fed : (ρ : Row) {ρ′ : Row} (T L : ℕ) (r : Reply) → feedStart ρ T L r ≡ some ρ′
+    → feedDid ρ (startDid T L r) ≡ some ρ′
+unfolding feedMadeTicks
+start-fed ρ T L Accepted e = e
+start-fed ρ T L (Reply-Refused n) e = e
+
+begin-fed : (ρ : Row) {ρ′ : Row} (k l op side : ℕ) (argument : Stored) (r : Reply)
+    → feedBegin ρ k l op side argument r ≡ some ρ′
+    → feedDid ρ (beginDid k (newNote l op side argument) r) ≡ some ρ′
+unfolding feedMadeTicks
+begin-fed ρ {ρ′} k l op side argument Accepted e =
+    let same : noted ρ k (some (newNote l op side argument)) ≡ ρ′ = same-if (isCall ρ k l op side argument) e .1 in cc
+begin-fed ρ k l op side argument (Reply-Refused n) e = e
+
+module _ {ws : List ℕ} {ρ : Row} (A : Agrees ws ρ) where
+  -- ---- Looks: the row gives what they give back, and stays.
+  read-looks : (l : ℕ) (out : List ℕ) → feedRead ρ l out (read ws l out .reading) (read ws l out .out) ≡ some ρ
+  unfolding read readInto
+  read-looks l out = by-lane (l <? laneCount ws)
+    where
+      Result : ReadDone → Type 0
+      Result r = feedRead ρ l out (r .reading) (r .out) ≡ some ρ
+
+      n : ℕ
+      n = length (ρ .bags l)
+
+      written : List ℕ
+      written = allTagWords (ρ .bags l)
+
+      go : l < ρ .lanes → (b : Bool) → leb (2 * n) (length out) ≡ b → Result (readInto (some (ρ .bags l)) out)
+      go h true e =
+          rw (e, readInto)
+          (rw (
+            lt-ltb l (ρ .lanes) h,
+            eq-eqb n n refl,
+            e,
+            take-at written (drop (2 * n) out) (2 * n) (length-tag-words (ρ .bags l)),
+            same-words-refl written,
+          ))
+      go h false e =
+          rw (e, readInto, lt-ltb l (ρ .lanes) h, lt-ltb (length out) (2 * n) (leb-false (2 * n) (length out) e))
+
+      -- 26 exactly when there is no such lane.
+      by-lane : Dec (l < laneCount ws) → Result (read ws l out)
+      by-lane (yes h) =
+          let is-lane : l < ρ .lanes = subst (λ (m : ℕ). l < m) (sym (A .same-lanes)) h in
+          rw (
+            table-passes ws (A .accepted) (unless (ltb l (laneCount ws)) 26 nothing),
+            lt-ltb l (laneCount ws) h,
+            read,
+            lanes-are-rows A l is-lane,
+          )
+          (go is-lane (leb (2 * n) (length out)) refl)
+      by-lane (no h) =
+          let past : laneCount ws ≤ l = omega arith in
+          let no-lane : ρ .lanes ≤ l = subst (λ (m : ℕ). m ≤ l) (sym (A .same-lanes)) past in
+          rw (
+            table-passes ws (A .accepted) (unless (ltb l (laneCount ws)) 26 nothing),
+            le-ltb l (laneCount ws) past,
+            read,
+            le-ltb l (ρ .lanes) no-lane,
+          )
+
+  -- ---- Every call.
+  told-by : {c : Call} (E : Explains ws ρ c)
+      → (feed ρ c (given c ws) ≡ some (E .row) → feedDid ρ (did c (given c ws)) ≡ some (E .row))
+      → Within c ws ρ
+      → Told ws ρ c
+  told-by E fed inside = record { explains = E; fed-what-it-did = fed (E .given-by-row); within = inside }
+
+  pub told : (c : Call) → Told ws ρ c
+  unfolding feedMadeTicks
+  told (start-call S T g L) = told-by (start-explained A S T g L) (start-fed ρ T L (start ws S T g L .reply)) tt
+  told (begin-call k l op side argument) =
+      told-by (begin-explained A k l op side argument)
+      (begin-fed ρ k l op side argument (begin ws k l op side argument .reply)) tt
+  told (tick-call k h) = told-by (tick-explained A k h) (tick-fed ρ k _) tt
+  told (ticks-call k h n) = told-by (ticks-explained k h A n) (ticks-fed ρ k n _) (ticks-within k h A n)
+  told (dispatch-call h) = told-by (dispatch-explained A h) (dispatch-fed ρ _) tt
+  told (dispatches-call h n) =
+      told-by (dispatches-explained h n A) (dispatches-fed ρ n _ _) (dispatches-within h n A)
+  told (run-call list answers) =
+      told-by (run-explained A list answers) (run-fed ρ _ list _) (run-within A list answers)
+  told (panel-call list answers) =
+      told-by (panel-explained A list answers) (run-fed ρ _ list _) (panel-within A list answers)
+  told (read-call l out) =
+      told-by (record { row = ρ; given-by-row = read-looks l out; agrees = A }) (λ _. refl) tt
+
+  abbrev pub call-explained : (c : Call) → Explains ws ρ c
+  call-explained c = told c .explains

@@ -1,0 +1,5 @@
+pub mod Page
+pub mod Reader
+pub mod Claims
+pub mod Examples
+pub mod Wrong
