@@ -5,7 +5,6 @@ use mathlib.Core.Logic.{_≢_}
 use mathlib.Core.List.{List, [], _∷_}
 use mathlib.Core.Option.{Option, some, none as nothing}
 use Prim.Native.Nat.{ℕ, _≤_, _<_}
-use native.Mathlib.Decide.{ℕ-discrete}
 use native.Mathlib.Omega.{arith}
 use lib.Dec.{leb, ltb}
 use borrow.Author.Tests.{lt-ltb, le-ltb, leb-true}
@@ -13,14 +12,12 @@ use Rattle.machine.specs.declared.Reply.the-variants.{Accepted, Refused}
 use Rattle.machine.specs.declared.Stored.{Stored}
 use Rattle.machine.specs.Sides.{sideOf}
 use Rattle.machine.specs.Values.{never, number, encode}
-use Rattle.machine.specs.Choice.{_≟_}
 use Rattle.machine.specs.Operations.{operationOf, argumentOk}
 use Rattle.machine.specs.Steps.{stepNumber, firstStep}
 use Rattle.machine.specs.Tasks.{none}
 use Rattle.machine.specs.Table.{taskCount, laneCount, recordWords, task, setTask}
 use Rattle.machine.specs.Shape.{WellFormed}
 use Rattle.machine.specs.Calls.{unless, isIdle, tableRefusal, twiceRefusal, callRefusal, beginRefusal, begunTask, begin}
-use Rattle.machine.proofs.Basics.Choices.{by-if}
 use Rattle.machine.proofs.Basics.Tests.{and-left, and-right, test-passed, tests-left}
 use Rattle.machine.proofs.Words.ValueLaws.{argument-stored}
 use Rattle.machine.proofs.Words.RecordLaws.{number-of-operation, number-of-side}
@@ -33,18 +30,6 @@ use Rattle.table_layout.proofs.Laws.Views.{task-read}
 use Rattle.table_shape.proofs.Laws.PassedTable.{refused, table-passed}
 use Rattle.call_begin.specs.OwnRecord.{WithOwn}
 use Rattle.call_begin.proofs.SeenTests.{twice-refused, twice-passed}
-
--- Every number but 0 is of an operation.
-pub not-idle : (n : ℕ) → n ≢ 0 → isIdle (operationOf n) ≡ false
-not-idle n h =
-    by-if (λ op. isIdle op ≡ false) (n ≟ 0) (λ e. absurd (h e)) (λ _.
-    by-if (λ op. isIdle op ≡ false) (n ≟ 1) (λ _. refl) (λ _.
-    by-if (λ op. isIdle op ≡ false) (n ≟ 2) (λ _. refl) (λ _.
-    by-if (λ op. isIdle op ≡ false) (n ≟ 3) (λ _. refl) (λ _. refl))))
-
-pub idle-number : (n : ℕ) → n ≡ 0 → isIdle (operationOf n) ≡ true
-unfolding ℕ-discrete
-idle-number n e = rw e refl
 
 -- The numbers of a call: push, pop, add or remove, of a side.
 abbrev callOk : (operation side : ℕ) → Bool

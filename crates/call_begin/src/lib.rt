@@ -3,9 +3,9 @@ use lane_walk::Walk;
 use lane_walk::seek;
 use machine::Reply;
 use machine::Stored;
+use table_layout::header;
 use table_layout::operations::argument_ok;
-use table_layout::places::LANE_COUNT;
-use table_layout::places::TASK_COUNT;
+use table_layout::operations::is_idle;
 use table_layout::table;
 use table_record::Task;
 use table_shape::table_refusal;
@@ -96,7 +96,7 @@ fn is_begun(table: &[u32], k: u32, own: Task, tag: u64) -> bool
     requires { ⌜ lengthOk (now table) ≡ true ⌝ }
     ensures { λ r. ⌜ ((ws : List ℕ) → WithOwn (now (table .entry)) k own ws → r ≡ isBegun ws (taskCount ws) tag) ⌝ }
 {
-    let mut j = table[TASK_COUNT];
+    let mut j = header::tasks(table);
     while 0 < j {
         j -= 1;
         if pushes(table, k, own, j, tag) {
@@ -143,7 +143,7 @@ fn stands_in_any(table: &[u32], tag: u64) -> u32
     requires { ⌜ WellFormed (now table) ⌝ }
     ensures { λ r. ⌜ r ≡ standing tag (allLanes (now (table .entry))) ⌝ }
 {
-    let lanes = table[LANE_COUNT];
+    let lanes = header::lanes(table);
     let mut says = 0;
     let mut l = 0;
     while l < lanes {
@@ -209,7 +209,7 @@ fn call_refusal(
     if n != 0 {
         return n;
     }
-    if own.operation != Task::IDLE {
+    if !is_idle(own.operation) {
         return 8;
     }
     0
@@ -227,7 +227,7 @@ fn begin_on(
     requires { ⌜ WellFormed (now table) × (l < laneCount (now table)) ⌝ }
     ensures { λ r. ⌜ changedOf r (now (table .exit)) ≡ begin (now (table .entry)) task l operation side argument ⌝ }
 {
-    if table[TASK_COUNT] <= task {
+    if header::tasks(table) <= task {
         return Reply::Refused(5);
     }
     let own = table::task(table, task);
@@ -254,7 +254,7 @@ pub fn begin(
     if n != 0 {
         return Reply::Refused(n);
     }
-    if table[LANE_COUNT] <= l {
+    if header::lanes(table) <= l {
         return Reply::Refused(26);
     }
     begin_on(table, task, l, operation, side, argument)

@@ -5,7 +5,7 @@ use lane_walk::next;
 use lane_walk::seek;
 use lane_walk::value;
 use machine::Reading;
-use table_layout::places::LANE_COUNT;
+use table_layout::header::lanes;
 use table_shape::table_refusal;
 ghost use mathlib.Core.Path.{_≡_};
 ghost use Prim.Native.Nat.{_*_, _≤_, _<_};
@@ -64,7 +64,7 @@ pub fn read(table: &[u32], l: u32, out: &mut [u32]) -> Reading
     if n != 0 {
         return Reading::Refused(n);
     }
-    if table[LANE_COUNT] <= l {
+    if lanes(table) <= l {
         return Reading::Refused(26);
     }
     read_lane(table, l, out)

@@ -7,7 +7,7 @@ use lane_walk::locate;
 use machine::Reply;
 use pages::left_from;
 use pages::put_page;
-use table_layout::places::LANE_COUNT;
+use table_layout::header;
 use table_shape::table_refusal;
 use text_page::PAGE;
 use text_page::PER_PAGE;
@@ -54,7 +54,7 @@ pub fn sheet(table: &[u32], l: u32, page: u32, out: &mut [u8]) -> Reply
     if n != 0 {
         return Reply::Refused(n);
     }
-    if table[LANE_COUNT] <= l {
+    if header::lanes(table) <= l {
         return Reply::Refused(26);
     }
     sheet_lane(table, l, page, out)

@@ -4,7 +4,7 @@ use mathlib.Core.List.{List, _++_}
 use Prim.Native.Nat.{ℕ, _+_, _*_}
 use lib.ListN.{length, getD, take, drop}
 use Rattle.machine.specs.Values.{storedOf, valueOk}
-use Rattle.machine.specs.Table.{headerLength, nodeLength, nodeAt, nodeCount, nodePart}
+use Rattle.machine.specs.Table.{nodeLength, nodeAt, nodeCount, nodePart}
 use Rattle.machine.specs.Shape.{allBelow, nodeOrNone}
 use Rattle.machine.specs.Snapshots.{listed}
 
@@ -14,10 +14,10 @@ use Rattle.machine.specs.Snapshots.{listed}
 abbrev pub columnOf : (c n : ℕ) → List ℕ → List ℕ
 columnOf c n ns = listed n (λ x. getD ns (nodeLength * x + c) 0)
 
--- Words with the header and the records of others, of S nodes.
+-- Words with the header, which stands before node 0, and the records of others, of S nodes.
 abbrev pub withEnds : (S : ℕ) → (from to : List ℕ) → List ℕ
 withEnds S from to =
-    take headerLength from ++ (take (nodeLength * S) (drop headerLength to) ++ drop (nodeAt S) from)
+    take (nodeAt 0) from ++ (take (nodeLength * S) (drop (nodeAt 0) to) ++ drop (nodeAt S) from)
 
 -- ---- What is tested: the columns of a snapshot, with the tests of a table's nodes.
 

@@ -1,7 +1,6 @@
 // The columns of a snapshot, tested by themselves: links, and values with their leading digits.
-use table_layout::places::HEADER;
-use table_layout::places::NODE_COUNT;
-use table_layout::places::node_at;
+use table_layout::header;
+use table_layout::nodes;
 use table_shape::records::node_or_none;
 use table_values::of_words;
 use table_values::value_ok;
@@ -44,8 +43,8 @@ pub fn columns_ok(snapshot: &[u32]) -> bool
     requires { ⌜ lengthOk (now snapshot) ≡ true ⌝ }
     ensures { λ r. ⌜ r ≡ columnsOk (now (snapshot .entry)) ⌝ }
 {
-    let slots = snapshot[NODE_COUNT];
+    let slots = header::slots(snapshot);
     let n = slots as usize;
-    let columns = &snapshot[HEADER..node_at(slots)];
+    let columns = nodes::part(snapshot);
     links_ok(&columns[..2 * n], slots) & values_ok(&columns[2 * n..3 * n], &columns[3 * n..])
 }

@@ -1,7 +1,6 @@
 // The words of a table by columns, and back: each order written from the other.
+use table_layout::header;
 use table_layout::nodes;
-use table_layout::places::HEADER;
-use table_layout::places::NODE_COUNT;
 use table_layout::places::NODE_WORDS;
 use table_layout::places::node_at;
 use table_values::of_words;
@@ -79,8 +78,9 @@ fn copy_ends(from: &[u32], to: &mut [u32], slots: u32)
     requires { ⌜ (nodeAt slots ≤ length (now from)) × (length (now to) ≡ length (now from)) ⌝ }
     ensures { λ _. ⌜ now (to .exit) ≡ withEnds slots (now (from .entry)) (now (to .entry)) ⌝ }
 {
+    let first = node_at(0);
     let end = node_at(slots);
-    copy(&from[..HEADER], &mut to[..HEADER]);
+    copy(&from[..first], &mut to[..first]);
     copy(&from[end..], &mut to[end..]);
 }
 
@@ -89,10 +89,11 @@ pub fn write_snapshot(table: &[u32], snapshot: &mut [u32])
     requires { ⌜ (lengthOk (now table) ≡ true) × (length (now snapshot) ≡ length (now table)) ⌝ }
     ensures { λ _. ⌜ now (snapshot .exit) ≡ byColumns (now (table .entry)) ⌝ }
 {
-    let slots = table[NODE_COUNT];
+    let slots = header::slots(table);
+    let first = node_at(0);
     let end = node_at(slots);
     copy_ends(table, snapshot, slots);
-    write_columns(&table[HEADER..end], &mut snapshot[HEADER..end], slots);
+    write_columns(nodes::part(table), &mut snapshot[first..end], slots);
 }
 
 // The same words in the table's order.
@@ -100,8 +101,9 @@ pub fn write_table(snapshot: &[u32], table: &mut [u32])
     requires { ⌜ (lengthOk (now snapshot) ≡ true) × (length (now table) ≡ length (now snapshot)) ⌝ }
     ensures { λ _. ⌜ now (table .exit) ≡ byNodes (now (snapshot .entry)) ⌝ }
 {
-    let slots = snapshot[NODE_COUNT];
+    let slots = header::slots(snapshot);
+    let first = node_at(0);
     let end = node_at(slots);
     copy_ends(snapshot, table, slots);
-    write_nodes(&snapshot[HEADER..end], &mut table[HEADER..end], slots);
+    write_nodes(nodes::part(snapshot), &mut table[first..end], slots);
 }

@@ -3,15 +3,15 @@ use mathlib.Core.Path.{_≡_, sym, ap, _∙_}
 use mathlib.Core.List.{List, [], _∷_, _++_, append-assoc, append-nil}
 use Prim.Native.Nat.{ℕ, suc, _+_, _-_, _*_, _≤_}
 use native.Mathlib.Omega.{arith}
-use lib.ListN.{length, set, take}
+use lib.ListN.{length, take}
 use lib.Seq.{sets, length-sets, length-take-le, take-append-le, take-append-add}
 use borrow.Rule.Slice.PartMut.{putMid, postOf}
 use Rattle.machine.specs.Sides.{left, right}
 use Rattle.machine.specs.Values.{never, X}
 use Rattle.machine.specs.Tasks.{none, fresh, wordsOf}
-use Rattle.machine.specs.Table.{headerLength, word14At, nodeLength, hatAt, headerWords, nodeWords, nodeAt}
+use Rattle.machine.specs.Table.{nodeLength, headerWords, nodeWords, nodeAt}
 use Rattle.machine.specs.Calls.{times, startHat, startNodes, startWords}
-use Rattle.call_start.specs.Fresh.{startHats}
+use Rattle.table_layout.specs.Words.{HoldsHeader, hatIn}
 use Rattle.table_layout.proofs.Laws.Fronts.{front-grows}
 
 -- The front up to n, and m times the list e after it.
@@ -70,37 +70,23 @@ pub sentinels-done : (ns : List ℕ) (n m l : ℕ) → m ≡ 0 → sentinels ns 
 unfolding startNodes
 sentinels-done ns n m l q = rw q (append-nil (take n ns))
 
--- ---- The header: the hats of a lane, and the words before and after the four pairs.
-pub hats-written :
-    (t : List ℕ) {at n left′ right′ x y : ℕ}
-    → at ≡ n
-    → x ≡ left′
-    → y ≡ right′
-    → set (set t at x) (at + 1) y ≡ sets t n (left′ ∷ right′ ∷ [])
-hats-written t {at} {n} {left′} {right′} e h k =
-    let next : n + 1 ≡ suc n = omega arith in
-    rw (e, h, k) (ap (λ (m : ℕ). set (set t n left′) m right′) next)
-
-abbrev pair : (lanes l : ℕ) → List ℕ
-pair lanes l = startHat lanes l left ∷ startHat lanes l right ∷ []
-
-pub pairs-written :
-    (lanes : ℕ) (t₀ : List ℕ) {t₁ t₂ t₃ t₄ : List ℕ}
-    → t₁ ≡ sets t₀ (hatAt 0 left) (pair lanes 0)
-    → t₂ ≡ sets t₁ (hatAt 1 left) (pair lanes 1)
-    → t₃ ≡ sets t₂ (hatAt 2 left) (pair lanes 2)
-    → t₄ ≡ sets t₃ (hatAt 3 left) (pair lanes 3)
-    → t₄ ≡ sets t₀ (hatAt 0 left) (startHats lanes)
-pairs-written lanes t₀ e₁ e₂ e₃ e₄ = rw (e₄, e₃, e₂, e₁)
-
+-- ---- The header, with the hats that were made one by one.
 pub header-written :
-    (S T g lanes : ℕ) (t₀ : List ℕ) {t₁ : List ℕ}
-    → t₁ ≡ sets (sets t₀ 0 (S ∷ T ∷ g ∷ lanes ∷ 0 ∷ (T - 1) ∷ [])) (hatAt 0 left) (startHats lanes)
-    → sets t₁ word14At (0 ∷ 0 ∷ []) ≡ sets t₀ 0 (headerWords S T g lanes 0 (T - 1) (startHat lanes))
-header-written S T g lanes t₀ e = rw e
+    (S T g lanes : ℕ) (t : List ℕ) {l₀ r₀ l₁ r₁ l₂ r₂ l₃ r₃ : ℕ}
+    → l₀ ≡ startHat lanes 0 left
+    → r₀ ≡ startHat lanes 0 right
+    → l₁ ≡ startHat lanes 1 left
+    → r₁ ≡ startHat lanes 1 right
+    → l₂ ≡ startHat lanes 2 left
+    → r₂ ≡ startHat lanes 2 right
+    → l₃ ≡ startHat lanes 3 left
+    → r₃ ≡ startHat lanes 3 right
+    → sets t 0 (headerWords S T g lanes 0 (T - 1) (hatIn (l₀ ∷ r₀ ∷ l₁ ∷ r₁ ∷ l₂ ∷ r₂ ∷ l₃ ∷ r₃ ∷ [])))
+    ≡ sets t 0 (headerWords S T g lanes 0 (T - 1) (startHat lanes))
+header-written S T g lanes t a b c d e f g′ h = rw (a, b, c, d, e, f, g′, h)
 
--- ---- The table, piece by piece: the header, the nodes' part, the tasks.
-module _ (S T g lanes : ℕ) (t₀ t₁ ns t₂ : List ℕ) (m : ℕ) (long : headerLength ≤ length t₀) where
+-- ---- The table, piece by piece: the header, which stands before node 0, the nodes' part, the tasks.
+module _ (S T g lanes : ℕ) (t₀ t₁ ns t₂ : List ℕ) (m : ℕ) (long : HoldsHeader t₀) where
   abbrev head : List ℕ
   head = headerWords S T g lanes 0 (T - 1) (startHat lanes)
 
@@ -108,21 +94,24 @@ module _ (S T g lanes : ℕ) (t₀ t₁ ns t₂ : List ℕ) (m : ℕ) (long : he
   unused = times (S - 2 * lanes) (nodeWords none none never)
 
   pub started :
-      t₁ ≡ sets t₀ 0 head
+      {from : ℕ}
+      → from ≡ nodeAt 0
+      → t₁ ≡ sets t₀ 0 head
       → nodeLength * S ≤ length ns
       → take (nodeLength * S) ns ≡ startNodes lanes 0 ++ unused
-      → t₂ ≡ take (nodeAt S) (putMid headerLength m t₁ ns) ++ times T (wordsOf fresh)
+      → t₂ ≡ take (nodeAt S) (putMid from m t₁ ns) ++ times T (wordsOf fresh)
       → t₂ ≡ startWords S T g lanes
   unfolding startWords
-  started e₁ enough e e₂ =
+  started {from} at e₁ enough e e₂ =
       let l₁ : length t₁ ≡ length t₀ = rw e₁ (length-sets t₀ 0 head) in
-      let header : take headerLength t₁ ≡ head = rw e₁ (front-grows t₀ head 0 (omega arith)) in
-      let header-long : length (take headerLength t₁) ≡ headerLength = length-take-le headerLength t₁ (omega arith) in
-      let after = ns ++ postOf headerLength m t₁ in
-      let front : take (nodeAt S) (putMid headerLength m t₁ ns) ≡ take headerLength t₁ ++ take (nodeLength * S) ns
-      = ap (λ (n : ℕ). take (n + nodeLength * S) (take headerLength t₁ ++ after)) (sym header-long)
-      ∙ take-append-add (take headerLength t₁) after (nodeLength * S)
-      ∙ ap (λ (l : List ℕ). take headerLength t₁ ++ l)
-      (take-append-le (nodeLength * S) ns (postOf headerLength m t₁) enough) in
+      let header : take (nodeAt 0) t₁ ≡ head = rw e₁ (front-grows t₀ head 0 (omega arith)) in
+      let header-long : length (take (nodeAt 0) t₁) ≡ nodeAt 0 = length-take-le (nodeAt 0) t₁ (omega arith) in
+      let after = ns ++ postOf (nodeAt 0) m t₁ in
+      let front : take (nodeAt S) (putMid (nodeAt 0) m t₁ ns) ≡ take (nodeAt 0) t₁ ++ take (nodeLength * S) ns
+      = ap (λ (n : ℕ). take (n + nodeLength * S) (take (nodeAt 0) t₁ ++ after)) (sym header-long)
+      ∙ take-append-add (take (nodeAt 0) t₁) after (nodeLength * S)
+      ∙ ap (λ (l : List ℕ). take (nodeAt 0) t₁ ++ l)
+      (take-append-le (nodeLength * S) ns (postOf (nodeAt 0) m t₁) enough) in
       let nodes = append-assoc (startNodes lanes 0) unused (times T (wordsOf fresh)) in
-      rw (e₂, front, header, e) (ap (λ (l : List ℕ). head ++ l) nodes)
+      let laid = ap (λ (f : ℕ). take (nodeAt S) (putMid f m t₁ ns)) at in
+      rw (e₂, laid, front, header, e) (ap (λ (l : List ℕ). head ++ l) nodes)

@@ -1,28 +1,26 @@
 // The words of a table that start writes.
+use table_layout::header;
 use table_layout::nodes;
 use table_layout::places;
 use table_record::Task;
 ghost use mathlib.Core.Path.{_≡_};
 ghost use mathlib.Core.List.{_++_};
-ghost use mathlib.Core.List.{[], _∷_};
 ghost use Prim.Native.Nat.{_-_, _*_, _≤_, _<_};
 ghost use lib.ListN.{length, take};
 ghost use lib.Seq.{sets};
-ghost use Rattle.machine.specs.Sides.{left, right, sideOf};
+ghost use Rattle.machine.specs.Sides.{sideOf};
 ghost use Rattle.machine.specs.Values.{never};
 ghost use Rattle.machine.specs.Tasks.{none, fresh, wordsOf};
 ghost use Rattle.machine.specs.Table.{
-  headerLength,
   nodeLength,
   mostLanes,
-  hatAt,
   headerWords,
   nodeWords,
   nodeAt,
   recordAt,
 };
 ghost use Rattle.machine.specs.Calls.{times, startHat, startNodes, startWords};
-ghost use Rattle.call_start.specs.Fresh.{startHats};
+ghost use Rattle.table_layout.specs.Words.{HoldsHeader};
 
 // 02: lane k starts with slots 2k and 2k + 1; the hats of unused lanes are none.
 fn start_hat(lanes: u32, l: u32, side: u32) -> u32
@@ -35,43 +33,24 @@ fn start_hat(lanes: u32, l: u32, side: u32) -> u32
     Task::NONE
 }
 
-// The two hats of lane l.
-fn write_pair(table: &mut [u32], lanes: u32, l: u32)
-    requires { ⌜ (l < mostLanes) × (headerLength ≤ length (now table)) ⌝ }
-    ensures { λ _. ⌜ now (table .exit)
-        ≡ sets (now (table .entry)) (hatAt l left) (startHat lanes l left ∷ startHat lanes l right ∷ []) ⌝ }
-{
-    let at = places::hat_at(l, 0);
-    table[at] = start_hat(lanes, l, 0);
-    table[at + 1] = start_hat(lanes, l, 1);
-}
-
-// The four pairs.
-fn write_hats(table: &mut [u32], lanes: u32)
-    requires { ⌜ headerLength ≤ length (now table) ⌝ }
-    ensures { λ _. ⌜ now (table .exit) ≡ sets (now (table .entry)) (hatAt 0 left) (startHats lanes) ⌝ }
-{
-    write_pair(table, lanes, 0);
-    write_pair(table, lanes, 1);
-    write_pair(table, lanes, 2);
-    write_pair(table, lanes, 3);
-}
-
+// The header: no tick is counted, and the hats are those of each lane.
 fn write_header(table: &mut [u32], slots: u32, tasks: u32, growth: u32, lanes: u32)
-    requires { ⌜ (1 ≤ tasks) × (headerLength ≤ length (now table)) ⌝ }
+    requires { ⌜ (1 ≤ tasks) × HoldsHeader (now table) ⌝ }
     ensures { λ _. ⌜ now (table .exit)
         ≡ sets (now (table .entry)) 0 (headerWords slots tasks growth lanes 0 (tasks - 1) (startHat lanes)) ⌝ }
 {
-    table[places::NODE_COUNT] = slots;
-    table[places::TASK_COUNT] = tasks;
-    table[places::GROWTH] = growth;
-    table[places::LANE_COUNT] = lanes;
-    table[places::TICK_COUNT] = 0;
-    // 02: a start writes T - 1 there.
-    table[places::DISPATCHED] = tasks - 1;
-    write_hats(table, lanes);
-    table[places::WORD_14] = 0;
-    table[places::WORD_15] = 0;
+    let hats = [
+        start_hat(lanes, 0, 0),
+        start_hat(lanes, 0, 1),
+        start_hat(lanes, 1, 0),
+        start_hat(lanes, 1, 1),
+        start_hat(lanes, 2, 0),
+        start_hat(lanes, 2, 1),
+        start_hat(lanes, 3, 0),
+        start_hat(lanes, 3, 1),
+    ];
+    // 02: "A start writes T - 1 there", as the task last dispatched.
+    header::write(table, slots, tasks, growth, lanes, tasks - 1, &hats);
 }
 
 // The two sentinels of each lane, linked.
@@ -132,6 +111,7 @@ pub fn write_all(table: &mut [u32], slots: u32, tasks: u32, growth: u32, lanes: 
     ensures { λ _. ⌜ now (table .exit) ≡ startWords slots tasks growth lanes ⌝ }
 {
     write_header(table, slots, tasks, growth, lanes);
-    write_nodes(&mut table[places::HEADER..], slots, lanes);
+    let from = places::node_at(0);
+    write_nodes(&mut table[from..], slots, lanes);
     write_tasks(table, slots, tasks);
 }

@@ -1,10 +1,8 @@
 // The walk along a lane, for every call that reads one: from its first node to the next, what a node holds, and all its
 // bags counted, a tag sought among them. 01: "the lane is read from the left hat's R along R while V is a bag".
 use machine::Stored;
+use table_layout::header;
 use table_layout::nodes;
-use table_layout::places::HEADER;
-use table_layout::places::NODE_COUNT;
-use table_layout::places::hat_at;
 use table_record::Task;
 use table_values::word_by_word;
 ghost use mathlib.Core.Path.{_≡_};
@@ -37,7 +35,7 @@ pub fn value(table: &[u32], x: u32) -> Stored
     requires { ⌜ WellFormed (now table) × (x < nodeCount (now table)) ⌝ }
     ensures { λ r. ⌜ r ≡ valueWords (now (table .entry)) x ⌝ }
 {
-    word_by_word(nodes::value(&table[HEADER..], x))
+    word_by_word(nodes::value(nodes::part(table), x))
 }
 
 // The node after a node, or none.
@@ -45,7 +43,7 @@ pub fn next(table: &[u32], x: u32) -> u32
     requires { ⌜ WellFormed (now table) × (x < nodeCount (now table)) ⌝ }
     ensures { λ r. ⌜ r ≡ link (now (table .entry)) right x ⌝ }
 {
-    nodes::link(&table[HEADER..], 1, x)
+    nodes::link(nodes::part(table), 1, x)
 }
 
 // The first node of a lane, or none.
@@ -53,7 +51,7 @@ pub fn first(table: &[u32], l: u32) -> u32
     requires { ⌜ WellFormed (now table) × (l < laneCount (now table)) ⌝ }
     ensures { λ r. ⌜ r ≡ link (now (table .entry)) right (hat (now (table .entry)) l left) ⌝ }
 {
-    next(table, table[hat_at(l, 0)])
+    next(table, header::hat(table, l, 0))
 }
 
 // Whether a bag is the one sought, or that was found before.
@@ -71,7 +69,7 @@ pub fn seek(table: &[u32], l: u32, sought: u64) -> Walk
     requires { ⌜ WellFormed (now table) × (l < laneCount (now table)) ⌝ }
     ensures { λ r. ⌜ r ≡ walkOf sought (lane (now (table .entry)) l) ⌝ }
 {
-    let slots = table[NODE_COUNT];
+    let slots = header::slots(table);
     let mut x = first(table, l);
     let mut n = 0;
     let mut found = false;
@@ -107,7 +105,7 @@ pub fn locate(table: &[u32], l: u32, place: usize) -> Located
         let ws = now (table .entry) in
         ⌜ r ≡ locatedOf ws place (link ws right (hat ws l left)) (lane ws l) ⌝ }
 {
-    let slots = table[NODE_COUNT];
+    let slots = header::slots(table);
     let mut x = first(table, l);
     let mut there = x;
     let mut n = 0;

@@ -1,31 +1,9 @@
-// Where the words of a table stand: the places in the header, and how many words a header, a node and a record have.
+// Where the parts of a table stand, and how many words a header, a node and a record have.
 ghost use mathlib.Core.Path.{_≡_};
-ghost use Prim.Native.Nat.{_<_};
-ghost use Rattle.machine.specs.Sides.{sideOf};
-ghost use Rattle.machine.specs.Table.{mostLanes, hatAt, nodeAt, recordAt, tableLength};
-
-// 02: S, T, growth, lanes, tick count, the task last dispatched, four pairs of hats, 0, 0.
-pub const NODE_COUNT: usize = 0;
-
-pub const TASK_COUNT: usize = 1;
-
-pub const GROWTH: usize = 2;
-
-pub const LANE_COUNT: usize = 3;
-
-pub const TICK_COUNT: usize = 4;
-
-pub const DISPATCHED: usize = 5;
-
-// The left hat of lane 0: a hat is at this place plus twice its lane plus its side.
-pub const HATS: usize = 6;
-
-pub const WORD_14: usize = 14;
-
-pub const WORD_15: usize = 15;
+ghost use Rattle.machine.specs.Table.{nodeAt, recordAt, tableLength};
 
 // The nodes stand after the header, the records after the nodes.
-pub const HEADER: usize = 16;
+const HEADER: usize = 16;
 
 pub const NODE_WORDS: usize = 4;
 
@@ -39,14 +17,6 @@ pub const LEAST_LENGTH: usize = 37;
 
 // The length of the largest table.
 pub const LARGEST_LENGTH: usize = 4_320;
-
-// The place of a lane's hat on a side.
-pub fn hat_at(lane: u32, side: u32) -> usize
-    requires { ⌜ (lane < mostLanes) × (side < 2) ⌝ }
-    ensures { λ r. ⌜ r ≡ hatAt lane (sideOf side) ⌝ }
-{
-    HATS + 2 * (lane as usize) + side as usize
-}
 
 // The place of node x; of S, the place after the nodes.
 pub fn node_at(x: u32) -> usize

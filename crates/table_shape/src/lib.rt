@@ -1,18 +1,11 @@
 // Which tables are accepted: the tests of refusals 3 and 4, for a slice of any words.
 pub mod records;
 
+use table_layout::header;
 use table_layout::nodes;
-use table_layout::places::DISPATCHED;
-use table_layout::places::GROWTH;
-use table_layout::places::HATS;
-use table_layout::places::HEADER;
-use table_layout::places::LANE_COUNT;
 use table_layout::places::LEAST_LENGTH;
-use table_layout::places::NODE_COUNT;
 use table_layout::places::NODE_WORDS;
-use table_layout::places::TASK_COUNT;
-use table_layout::places::WORD_14;
-use table_layout::places::WORD_15;
+use table_layout::places::node_at;
 use table_layout::places::table_length;
 use table_layout::table::task;
 use table_record::Task;
@@ -23,7 +16,7 @@ ghost use mathlib.Core.Bool.{true};
 ghost use mathlib.Core.Option.{none as nothing};
 ghost use Prim.Native.Nat.{_≤_, _<_};
 ghost use lib.ListN.{length};
-ghost use Rattle.machine.specs.Table.{headerLength, nodeLength, nodeCount, taskCount, mostLanes};
+ghost use Rattle.machine.specs.Table.{nodeLength, nodeCount, taskCount, mostLanes};
 ghost use Rattle.machine.specs.Shape.{
   lanesOk,
   sizesOk,
@@ -34,7 +27,7 @@ ghost use Rattle.machine.specs.Shape.{
   shapeOk,
 };
 ghost use Rattle.machine.specs.Calls.{tableRefusal};
-ghost use Rattle.table_layout.specs.Words.{HoldsRecord};
+ghost use Rattle.table_layout.specs.Words.{HoldsHeader, HoldsRecord};
 ghost use Rattle.answers.specs.Refusals.{numberOf};
 ghost use Rattle.table_shape.specs.Contracts.{firstOk, hatsOk, taskOk};
 ghost use Rattle.table_steps.specs.Owners.{OwnersOk};
@@ -60,36 +53,35 @@ pub fn length_ok(table: &[u32]) -> bool
     if table.len() < LEAST_LENGTH {
         return false;
     }
-    if !lanes_ok(table[LANE_COUNT]) {
+    let lanes = header::lanes(table);
+    if !lanes_ok(lanes) {
         return false;
     }
-    if !sizes_ok(
-        table[NODE_COUNT],
-        table[TASK_COUNT],
-        table[GROWTH],
-        table[LANE_COUNT],
-    ) {
+    let slots = header::slots(table);
+    let tasks = header::tasks(table);
+    if !sizes_ok(slots, tasks, header::growth(table), lanes) {
         return false;
     }
-    table.len() == table_length(table[NODE_COUNT], table[TASK_COUNT])
+    table.len() == table_length(slots, tasks)
 }
 
 // 01: hats are below S. 02: unused ones none. Those of lane l.
 fn hats_ok(table: &[u32], l: u32) -> bool
-    requires { ⌜ (headerLength ≤ length (now table)) × (l < mostLanes) ⌝ }
+    requires { ⌜ HoldsHeader (now table) × (l < mostLanes) ⌝ }
     ensures { λ r. ⌜ r ≡ hatsOk (now (table .entry)) l ⌝ }
 {
-    let at = HATS + 2 * (l as usize);
-    if l < table[LANE_COUNT] {
-        let slots = table[NODE_COUNT];
-        return (table[at] < slots) & (table[at + 1] < slots);
+    let left = header::hat(table, l, 0);
+    let right = header::hat(table, l, 1);
+    if l < header::lanes(table) {
+        let slots = header::slots(table);
+        return (left < slots) & (right < slots);
     }
-    (table[at] == Task::NONE) & (table[at + 1] == Task::NONE)
+    (left == Task::NONE) & (right == Task::NONE)
 }
 
 // The hats of every lane.
 fn all_hats_ok(table: &[u32]) -> bool
-    requires { ⌜ headerLength ≤ length (now table) ⌝ }
+    requires { ⌜ HoldsHeader (now table) ⌝ }
     ensures { λ r. ⌜ r ≡ allBelow mostLanes (hatsOk (now (table .entry))) ⌝ }
 {
     let mut l = 0;
@@ -104,12 +96,12 @@ fn all_hats_ok(table: &[u32]) -> bool
 
 // 02: the task last dispatched is below T, and the last two words are 0.
 pub fn header_ok(table: &[u32]) -> bool
-    requires { ⌜ headerLength ≤ length (now table) ⌝ }
+    requires { ⌜ HoldsHeader (now table) ⌝ }
     ensures { λ r. ⌜ r ≡ headerOk (now (table .entry)) ⌝ }
 {
-    table[DISPATCHED] < table[TASK_COUNT]
-        && table[WORD_14] == 0
-        && table[WORD_15] == 0
+    header::dispatched(table) < header::tasks(table)
+        && header::word_14(table) == 0
+        && header::word_15(table) == 0
         && all_hats_ok(table)
 }
 
@@ -130,8 +122,9 @@ fn nodes_ok(table: &[u32]) -> bool
     requires { ⌜ lengthOk (now table) ≡ true ⌝ }
     ensures { λ r. ⌜ r ≡ allBelow (nodeCount (now (table .entry))) (nodeOk (now (table .entry))) ⌝ }
 {
-    let n = table[NODE_COUNT];
-    let mut rest = &table[HEADER..];
+    let n = header::slots(table);
+    let first = node_at(0);
+    let mut rest = &table[first..];
     let mut ok = true;
     let mut x = 0;
     while x < n {
@@ -150,9 +143,9 @@ fn task_ok(table: &[u32], owners: &Owners, k: u32) -> bool
     records::record_ok(
         owners,
         task(table, k),
-        table[NODE_COUNT],
-        table[GROWTH],
-        table[LANE_COUNT],
+        header::slots(table),
+        header::growth(table),
+        header::lanes(table),
     )
 }
 
@@ -162,7 +155,7 @@ pub fn tasks_ok(table: &[u32]) -> bool
     ensures { λ r. ⌜ r ≡ allBelow (taskCount (now (table .entry))) (taskOk (now (table .entry))) ⌝ }
 {
     let owners = table_steps::owners::owners();
-    let n = table[TASK_COUNT];
+    let n = header::tasks(table);
     let mut k = 0;
     while k < n {
         if !task_ok(table, &owners, k) {

@@ -2,6 +2,7 @@
 use machine::Stored;
 use table_layout::operations::argument_ok;
 use table_layout::operations::goal_of;
+use table_layout::operations::is_idle;
 use table_layout::sides::opposite;
 use table_record::Task;
 use table_steps::owners::Owners;
@@ -102,7 +103,7 @@ pub(crate) fn record_ok(owners: &Owners, t: Task, slots: u32, growth: u32, lanes
     requires { ⌜ OwnersOk (now owners) ⌝ }
     ensures { λ r. ⌜ r ≡ recordOk slots growth lanes (recordOf t) ⌝ }
 {
-    if t.operation == Task::IDLE {
+    if is_idle(t.operation) {
         return t.is_fresh();
     }
     busy_ok(owners, t, slots, growth, lanes)

@@ -25,24 +25,26 @@ passes : (c : tie.Else1) → WellFormed (c .before .before .before .before .args
 passes c =
     table-passed (c .before .before .before .before .args .table .now) (c .before .table-refusal .ensures) (c .if1 .left)
 
-slice-read-if2 : tie.Need-slice-read-if2
-slice-read-if2 c =
-    let e = c .before in
-    let P = passes e in
-    omega (arith, header-long (e .before .before .before .before .args .table .now) (P .length-passes))
+lanes-requires : tie.Need-lanes-requires
+lanes-requires c κs =
+    let e = c .before in header-long (e .before .before .before .before .args .table .now) (passes e .length-passes)
 
 same-length-2 : tie.Need-same-length-2
 same-length-2 c = search needs
 
 returns-2 : tie.Need-returns-2
 returns-2 c =
-    let e = c .before .before in
+    let n = c .before in
+    let e = n .before .before in
     let a = e .before .before .before .before .args in
     begin-no-lane (a .table .now) (e .before .table-refusal .ensures)
-    (a .task) (a .l) (a .operation) (a .side) (a .argument) (e .if1 .left) (c .if2 .taken)
+    (a .task) (a .l) (a .operation) (a .side) (a .argument) (e .if1 .left)
+    (omega (arith, n .lanes .ensures, c .if2 .taken))
 
 begin-on-requires : tie.Need-begin-on-requires
-begin-on-requires c κs = let l = c .before in (passes (l .before .before), l .if2 .left)
+begin-on-requires c κs =
+    let l = c .before in
+    let n = l .before in (passes (n .before .before), omega (arith, n .lanes .ensures, l .if2 .left))
 
 same-length-3 : tie.Need-same-length-3
 same-length-3 c = search needs
@@ -57,7 +59,7 @@ begin-spec =
     table-refusal-requires
     same-length
     returns
-    slice-read-if2
+    lanes-requires
     same-length-2
     returns-2
     begin-on-requires

@@ -7,8 +7,6 @@ use Rattle.machine.specs.Operations.{operationOf, argumentOk}
 use Rattle.machine.specs.Tasks.{Task}
 use Rattle.machine.specs.Calls.{isIdle}
 use Rattle.call_begin.proofs.BeginTests.{
-  not-idle,
-  idle-number,
   call-6,
   call-7,
   call-twice,
@@ -65,6 +63,9 @@ returns-3 c = λ ws W.
     call-twice ws (a .k) (a .operation) (a .side) (a .argument) (call-passed e1) (argument-passed e2)
     (r .twice-refusal .ensures ws W) (c .if3 .taken)
 
+is-idle-requires : tie.Need-is-idle-requires
+is-idle-requires c κs = search needs
+
 returns-4 : tie.Need-returns-4
 returns-4 c = λ ws W.
     let e3 = c .before .before in
@@ -72,7 +73,8 @@ returns-4 c = λ ws W.
     let e2 = r .before in
     let e1 = e2 .before .before in
     let a = e1 .before .before .before .args in
-    let busy = ap (λ (t : Task). isIdle (t .operation)) (W .its-task) ∙ not-idle (a .own .operation) (c .if4 .taken) in
+    let i = c .before .is-idle in
+    let busy = ap (λ (t : Task). isIdle (t .operation)) (W .its-task) ∙ sym (i .ensures) ∙ not-true (i .result) (c .if4 .taken) in
     call-8 ws (a .k) (a .operation) (a .side) (a .argument) (call-passed e1) (argument-passed e2)
     (r .twice-refusal .ensures ws W) (e3 .if3 .left) busy
 
@@ -83,7 +85,8 @@ returns-5 c = λ ws W.
     let e2 = r .before in
     let e1 = e2 .before .before in
     let a = e1 .before .before .before .args in
-    let idle = ap (λ (t : Task). isIdle (t .operation)) (W .its-task) ∙ idle-number (a .own .operation) (c .if4 .left) in
+    let i = c .before .is-idle in
+    let idle = ap (λ (t : Task). isIdle (t .operation)) (W .its-task) ∙ sym (i .ensures) ∙ not-false (i .result) (c .if4 .left) in
     call-passes ws (a .k) (a .operation) (a .side) (a .argument) (call-passed e1) (argument-passed e2)
     (r .twice-refusal .ensures ws W) (e3 .if3 .left) idle
 
@@ -97,5 +100,6 @@ call-refusal-spec =
     returns-2
     twice-refusal-requires
     returns-3
+    is-idle-requires
     returns-4
     returns-5)

@@ -19,13 +19,13 @@ Inv-loop table k own tag j₀ j =
 abbrev μ-loop : tie.MeasureT-loop
 μ-loop table k own tag j₀ j = j
 
-shared-slice-read-j : tie.Need-shared-slice-read-j Inv-loop μ-loop
-shared-slice-read-j c = let p = c .before .before in omega (arith, header-long (p .args .table .now) (p .pre))
+tasks-requires : tie.Need-tasks-requires Inv-loop μ-loop
+tasks-requires c κs = let p = c .before in header-long (p .args .table .now) (p .pre)
 
 loop-holds : tie.Need-loop-holds Inv-loop μ-loop
 loop-holds c =
     let a = c .before .before .args in
-    (omega arith, λ ws W. ap (λ (m : ℕ). isBegun ws m (a .tag)) (sym (W .count)))
+    (omega (arith, c .tasks .ensures), λ ws W. ap (λ (m : ℕ). isBegun ws m (a .tag)) (c .tasks .ensures ∙ sym (W .count)))
 
 sub-j : tie.Need-sub-j Inv-loop μ-loop
 sub-j c = omega arith
@@ -68,7 +68,7 @@ is-begun-spec =
     (tie.spec
     Inv-loop
     μ-loop
-    shared-slice-read-j
+    tasks-requires
     loop-holds
     sub-j
     pushes-requires

@@ -18,14 +18,13 @@ Inv-loop table tag lanes says₀ l₀ says l =
 abbrev μ-loop : tie.MeasureT-loop
 μ-loop table tag lanes says₀ l₀ says l = lanes - l
 
-shared-slice-read-lanes : tie.Need-shared-slice-read-lanes Inv-loop μ-loop
-shared-slice-read-lanes c =
-    let p = c .before .before in omega (arith, header-long (p .args .table .now) (p .pre .length-passes))
+lanes-requires : tie.Need-lanes-requires Inv-loop μ-loop
+lanes-requires c κs = let p = c .before in header-long (p .args .table .now) (p .pre .length-passes)
 
 loop-holds : tie.Need-loop-holds Inv-loop μ-loop
 loop-holds c =
     let a = c .before .before .args in
-    (omega arith, refl, none-walked (a .table .now) (a .tag) 0 refl)
+    (omega arith, c .lanes .ensures, none-walked (a .table .now) (a .tag) 0 refl)
 
 stands-requires : tie.Need-stands-requires Inv-loop μ-loop
 stands-requires c κs =
@@ -89,7 +88,7 @@ stands-in-any-spec =
     (tie.spec
     Inv-loop
     μ-loop
-    shared-slice-read-lanes
+    lanes-requires
     loop-holds
     stands-requires
     first-of-requires

@@ -23,22 +23,21 @@ passes : (c : tie.Else1) → WellFormed (c .before .before .before .before .args
 passes c =
     table-passed (c .before .before .before .before .args .table .now) (c .before .table-refusal .ensures) (c .if1 .left)
 
-shared-slice-read-if2 : tie.Need-shared-slice-read-if2
-shared-slice-read-if2 c =
-    let e = c .before in
-    let P = passes e in
-    omega (arith, header-long (e .before .before .before .before .args .table .now) (P .length-passes))
+lanes-requires : tie.Need-lanes-requires
+lanes-requires c κs = header-long (c .before .before .before .before .args .table .now) (passes c .length-passes)
 
 returns-2 : tie.Need-returns-2
 returns-2 c =
-    let e = c .before .before in
+    let n = c .before in
+    let e = n .before in
     let a = e .before .before .before .before .args in
-    read-no-lane (a .table .now) (e .before .table-refusal .ensures) (a .l) (a .out .now) (e .if1 .left) (c .if2 .taken)
+    read-no-lane (a .table .now) (e .before .table-refusal .ensures) (a .l) (a .out .now) (e .if1 .left)
+    (omega (arith, n .lanes .ensures, c .if2 .taken))
 
 read-lane-requires : tie.Need-read-lane-requires
 read-lane-requires c κs =
     let l = c .before in
-    (passes (l .before .before), l .if2 .left)
+    let n = l .before in (passes (n .before), omega (arith, n .lanes .ensures, l .if2 .left))
 
 same-length : tie.Need-same-length
 same-length c = search needs
@@ -46,11 +45,12 @@ same-length c = search needs
 returns-3 : tie.Need-returns-3
 returns-3 c =
     let l = c .before .before .before .before in
-    let e = l .before .before in
+    let n = l .before in
+    let e = n .before in
     let a = e .before .before .before .before .args in
     c .before .before .read-lane .ensures
     ∙ read-goes-on (a .table .now) (e .before .table-refusal .ensures) (a .l) (a .out .now)
-    (e .if1 .left) (l .if2 .left)
+    (e .if1 .left) (omega (arith, n .lanes .ensures, l .if2 .left))
 
 pub read-spec : {M : Type 1} → statement M
 read-spec =
@@ -58,7 +58,7 @@ read-spec =
     (tie.spec
     table-refusal-requires
     returns
-    shared-slice-read-if2
+    lanes-requires
     returns-2
     read-lane-requires
     same-length

@@ -24,22 +24,21 @@ returns c =
 passes : (c : tie.Else1) → WellFormed (start (c .before) .args .table .now)
 passes c = table-passed (start (c .before) .args .table .now) (c .before .table-refusal .ensures) (c .if1 .left)
 
-shared-slice-read-if2 : tie.Need-shared-slice-read-if2
-shared-slice-read-if2 c =
-    let e = c .before in
-    omega (arith, header-long (start (e .before) .args .table .now) (passes e .length-passes))
+lanes-requires : tie.Need-lanes-requires
+lanes-requires c κs = header-long (start (c .before) .args .table .now) (passes c .length-passes)
 
 returns-2 : tie.Need-returns-2
 returns-2 c =
-    let e = c .before .before in
+    let n = c .before in
+    let e = n .before in
     let a = start (e .before) .args in
     sheet-no-lane (a .table .now) (e .before .table-refusal .ensures) (a .l) (a .page) (a .out .now) (e .if1 .left)
-    (c .if2 .taken)
+    (omega (arith, n .lanes .ensures, c .if2 .taken))
 
 sheet-lane-requires : tie.Need-sheet-lane-requires
 sheet-lane-requires c κs =
     let l = c .before in
-    (passes (l .before .before), l .if2 .left)
+    let n = l .before in (passes (n .before), omega (arith, n .lanes .ensures, l .if2 .left))
 
 same-length : tie.Need-same-length
 same-length c = search needs
@@ -47,11 +46,12 @@ same-length c = search needs
 returns-3 : tie.Need-returns-3
 returns-3 c =
     let l = c .before .before .before .before in
-    let e = l .before .before in
+    let n = l .before in
+    let e = n .before in
     let a = start (e .before) .args in
     c .before .before .sheet-lane .ensures
     ∙ sheet-goes-on (a .table .now) (e .before .table-refusal .ensures) (a .l) (a .page) (a .out .now) (e .if1 .left)
-    (l .if2 .left)
+    (omega (arith, n .lanes .ensures, l .if2 .left))
 
 pub sheet-spec : {M : Type 1} → statement M
 sheet-spec =
@@ -59,7 +59,7 @@ sheet-spec =
     (tie.spec
     table-refusal-requires
     returns
-    shared-slice-read-if2
+    lanes-requires
     returns-2
     sheet-lane-requires
     same-length

@@ -13,7 +13,6 @@ use Rattle.machine.specs.Sides.{left, right}
 use Rattle.machine.specs.Values.{storedOf, valueOk}
 use Rattle.machine.specs.Tasks.{recordLength}
 use Rattle.machine.specs.Table.{
-  headerLength,
   nodeLength,
   nodeAt,
   recordAt,
@@ -47,7 +46,7 @@ module _ (ss : List ℕ) (enough : nodeAt (nodeCount ss) ≤ length ss) where
   abbrev S : ℕ
   S = nodeCount ss
 
-  word : (i : ℕ) → i < headerLength → getD (byNodes ss) i 0 ≡ getD ss i 0
+  word : (i : ℕ) → i < nodeAt 0 → getD (byNodes ss) i 0 ≡ getD ss i 0
   word = same-header (λ S. transposed nodeLength S) nodes-keep ss enough
 
   length-alike : lengthOk (byNodes ss) ≡ lengthOk ss
@@ -105,7 +104,7 @@ module _ (ss : List ℕ) (enough : nodeAt (nodeCount ss) ≤ length ss) where
 
   -- ---- The nodes. Word x of column c.
   abbrev at : (c x : ℕ) → ℕ
-  at c x = getD ss (headerLength + (S * c + x)) 0
+  at c x = getD ss (nodeAt 0 + (S * c + x)) 0
 
   abbrev valueIn : ℕ → Stored
   valueIn x = storedOf (at 3 x) (at 2 x)
@@ -142,7 +141,7 @@ module _ (ss : List ℕ) (enough : nodeAt (nodeCount ss) ≤ length ss) where
       length-take-le S (drop (2 * S) (nodePart ss))
       (let e = part-long ss enough in let d = length-drop (2 * S) (nodePart ss) in omega arith)
 
-  from-part : (i j : ℕ) → i ≡ j → j < nodeLength * S → getD (nodePart ss) i 0 ≡ getD ss (headerLength + j) 0
+  from-part : (i j : ℕ) → i ≡ j → j < nodeLength * S → getD (nodePart ss) i 0 ≡ getD ss (nodeAt 0 + j) 0
   from-part i j e h = ap (λ (k : ℕ). getD (nodePart ss) k 0) e ∙ in-part ss enough j h
 
   link-there : (i c x : ℕ) → i ≡ S * c + x → i < 2 * S → S * c + x < nodeLength * S

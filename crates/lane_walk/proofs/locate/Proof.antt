@@ -9,7 +9,7 @@ use borrow.Author.Needs.{needs}
 use borrow.Author.Tests.{not-true, not-false}
 use Rattle.machine.specs.Sides.{left, right}
 use Rattle.machine.specs.Values.{bagOk}
-use Rattle.machine.specs.Table.{nodeCountAt, nodeCount, hat, link, valueWords}
+use Rattle.machine.specs.Table.{nodeCount, hat, link, valueWords}
 use Rattle.machine.specs.Calls.{laneFrom, lane}
 use Rattle.machine.proofs.Shape.BusyLaws.{NodeOrNone}
 use Rattle.lane_walk.specs.Walks.{countOf, nodeAfter}
@@ -34,11 +34,11 @@ use Rattle.lane_walk.proofs.locate.Tie as tie
 abbrev Inv-loop : tie.InvT-loop
 Inv-loop table l place slots x₀ there₀ n₀ x there n =
     let first = link table right (hat table l left) in
-    (n ≤ slots)
+    (n ≤ nodeCount table)
     × NodeOrNone (nodeCount table) x
     × (x ≡ nodeAfter table n first)
     × (there ≡ nodeAfter table (min place n) first)
-    × (counted n (laneFrom table (slots - n) x) ≡ countOf (lane table l))
+    × (counted n (laneFrom table (nodeCount table - n) x) ≡ countOf (lane table l))
 
 abbrev μ-loop : tie.MeasureT-loop
 μ-loop table l place slots x₀ there₀ n₀ x there n = slots - n
@@ -52,6 +52,10 @@ table c = start c .args .table .now
 abbrev first-node : tie.At-loop Inv-loop μ-loop → ℕ
 first-node c = link (table c) right (hat (table c) (start c .args .l) left)
 
+-- The nodes, counted.
+all-nodes : (c : tie.At-loop Inv-loop μ-loop) → c .before .before .slots .result ≡ nodeCount (table c)
+all-nodes c = c .before .before .slots .ensures
+
 -- The walk is at a node.
 node-there : (c : tie.Else1 Inv-loop μ-loop)
     → let at = c .before .before in at .loop .x < nodeCount (table at)
@@ -62,8 +66,8 @@ told : (c : tie.After-bag-ok Inv-loop μ-loop) {b : Bool} → c .bag-ok .result 
     → let at = c .before .before .before .before in bagOk (valueWords (table at) (at .loop .x)) ≡ b
 told c h = ap bagOk (sym (c .before .value .ensures)) ∙ sym (c .bag-ok .ensures) ∙ h
 
-shared-slice-read-slots : tie.Need-shared-slice-read-slots Inv-loop μ-loop
-shared-slice-read-slots c = omega (arith, header-room (c .before .before .args .table .now) (c .before .before .pre .0))
+slots-requires : tie.Need-slots-requires Inv-loop μ-loop
+slots-requires c κs = header-room (c .before .args .table .now) (c .before .pre .0)
 
 first-requires : tie.Need-first-requires Inv-loop μ-loop
 first-requires c κs = c .before .before .pre
@@ -102,7 +106,7 @@ returns-2 c =
     let no-bag = told tested (not-true (tested .bag-ok .result) (c .if2 .taken)) in
     located-there (table at) (start at .args .place) (first-node at) (lane (table at) (start at .args .l)) (l .n)
     (sym (l .inv .4)
-    ∙ counting-at-no-bag (table at) (l .n) (l .x) (omega arith) (node .if1 .left) (node-there node) no-bag)
+    ∙ counting-at-no-bag (table at) (l .n) (l .x) (omega (arith, all-nodes at)) (node .if1 .left) (node-there node) no-bag)
     (l .inv .3)
 
 next-requires : tie.Need-next-requires Inv-loop μ-loop
@@ -111,9 +115,7 @@ next-requires c κs =
     (start (node .before .before) .pre .0, node-there node)
 
 add-n : tie.Need-add-n Inv-loop μ-loop
-add-n c =
-    let slots = c .before .before .before .before .before .before .before .before in
-    omega (arith, slots .shared-slice-known2 .given nodeCountAt)
+add-n c = search needs
 
 up-to-requires : tie.Need-up-to-requires Inv-loop μ-loop
 up-to-requires c κs = search needs
@@ -131,12 +133,12 @@ loop-again c =
     let ws = table at in
     let bag = told tested (not-false (tested .bag-ok .result) (gone .before .if2 .left)) in
     let on = gone .next .ensures ∙ gone-on ws (l .n) (first-node at) (l .inv .2) in (
-      omega arith,
+      omega (arith, all-nodes at),
       rw (gone .next .ensures) (next-in ws (start at .pre .0) (l .x)),
       on,
       c .up-to .ensures ∙ had-next ws (start at .args .place) (l .n) (first-node at) on (l .inv .3),
       rw (gone .next .ensures)
-          (counting-at-bag ws (l .n) (l .x) (omega arith) (node .if1 .left) (node-there node) bag ∙ l .inv .4),
+          (counting-at-bag ws (l .n) (l .x) (omega (arith, all-nodes at)) (node .if1 .left) (node-there node) bag ∙ l .inv .4),
     )
 
 returns-3 : tie.Need-returns-3 Inv-loop μ-loop
@@ -144,7 +146,7 @@ returns-3 c =
     let at = c .before in
     let l = at .loop in
     located-nowhere (table at) (start at .args .place) (first-node at) (lane (table at) (start at .args .l))
-    (sym (l .inv .4) ∙ counting-ends (table at) (l .n) (l .x) (omega arith))
+    (sym (l .inv .4) ∙ counting-ends (table at) (l .n) (l .x) (omega (arith, all-nodes at)))
 
 pub locate-spec : {M : Type 1} → statement M
 locate-spec =
@@ -152,7 +154,7 @@ locate-spec =
     (tie.spec
     Inv-loop
     μ-loop
-    shared-slice-read-slots
+    slots-requires
     first-requires
     loop-holds
     returns

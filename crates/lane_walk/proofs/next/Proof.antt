@@ -1,31 +1,25 @@
--- `lane_walk::next` meets its contract: the part from the header on has the node's words.
-use mathlib.Core.Path.{sym, _∙_}
+-- `lane_walk::next` meets its contract: the nodes' part has the node's words.
+use mathlib.Core.Path.{_∙_}
 use native.Mathlib.Omega.{arith}
 use native.Mathlib.Decide.{ℕ-discrete}
-use borrow.Author.Needs.{needs}
-use Rattle.lane_walk.proofs.Laws.Nodes.{header-room, node-in-part, link-read}
+use Rattle.lane_walk.proofs.Laws.Nodes.{nodes-room, node-in-part, link-read}
 use Rattle.lane_walk.proofs.next.Statement.{statement}
 use Rattle.lane_walk.proofs.next.Tie as tie
 
-sub-link : tie.Need-sub-link
-sub-link c = header-room (c .before .args .table .now) (c .before .pre .0)
-
-part-link-start : tie.Need-part-link-start
-part-link-start c = omega (arith, header-room (c .before .args .table .now) (c .before .pre .0))
-
-part-link-end : tie.Need-part-link-end
-part-link-end c = search needs
+part-requires : tie.Need-part-requires
+part-requires c κs = nodes-room (c .before .args .table .now) (c .before .pre .0)
 
 link-requires : tie.Need-link-requires
 link-requires c κs =
     let s = c .before .before in
-    (node-in-part (s .args .table .now) (s .pre .0) (s .args .x) (s .pre .1), omega arith)
+    (node-in-part (s .args .table .now) (s .pre .0) (c .part .ensures) (s .args .x) (s .pre .1), omega arith)
 
 returns : tie.Need-returns
 unfolding ℕ-discrete
 returns c =
-    let s = c .before .before .before in
-    c .link .ensures ∙ sym (link-read (s .args .table .now) (s .pre .0) (s .args .x) (s .pre .1))
+    let p = c .before in
+    let s = p .before .before in
+    c .link .ensures ∙ link-read (s .args .table .now) (s .pre .0) (p .part .ensures) (s .args .x) (s .pre .1)
 
 pub next-spec : {M : Type 1} → statement M
-next-spec = tie.close (tie.spec sub-link part-link-start part-link-end link-requires returns)
+next-spec = tie.close (tie.spec part-requires link-requires returns)

@@ -8,7 +8,7 @@ use borrow.Author.Needs.{needs}
 use borrow.Author.Tests.{not-true, not-false}
 use Rattle.machine.specs.Values.{bagOk}
 use Rattle.machine.specs.Sides.{left}
-use Rattle.machine.specs.Table.{nodeCountAt, nodeCount, hat, valueWords}
+use Rattle.machine.specs.Table.{nodeCount, hat, valueWords}
 use Rattle.machine.specs.Calls.{laneFrom, lane}
 use Rattle.machine.proofs.Shape.BusyLaws.{NodeOrNone}
 use Rattle.lane_walk.specs.Walks.{walkOf}
@@ -26,9 +26,9 @@ use Rattle.lane_walk.proofs.seek.Tie as tie
 
 abbrev Inv-loop : tie.InvT-loop
 Inv-loop table l sought slots x₀ n₀ found₀ x n found =
-    (n ≤ slots)
+    (n ≤ nodeCount table)
     × NodeOrNone (nodeCount table) x
-    × (tallied sought n found (laneFrom table (slots - n) x) ≡ walkOf sought (lane table l))
+    × (tallied sought n found (laneFrom table (nodeCount table - n) x) ≡ walkOf sought (lane table l))
 
 abbrev μ-loop : tie.MeasureT-loop
 μ-loop table l sought slots x₀ n₀ found₀ x n found = slots - n
@@ -38,6 +38,10 @@ start c = c .before .before .before .before
 
 abbrev table : tie.At-loop Inv-loop μ-loop → List ℕ
 table c = start c .args .table .now
+
+-- The nodes, counted.
+all-nodes : (c : tie.At-loop Inv-loop μ-loop) → c .before .before .slots .result ≡ nodeCount (table c)
+all-nodes c = c .before .before .slots .ensures
 
 -- The walk is at a node.
 node-there : (c : tie.Else1 Inv-loop μ-loop)
@@ -49,8 +53,8 @@ told : (c : tie.After-bag-ok Inv-loop μ-loop) {b : Bool} → c .bag-ok .result 
     → let at = c .before .before .before .before in bagOk (valueWords (table at) (at .loop .x)) ≡ b
 told c h = ap bagOk (sym (c .before .value .ensures)) ∙ sym (c .bag-ok .ensures) ∙ h
 
-shared-slice-read-slots : tie.Need-shared-slice-read-slots Inv-loop μ-loop
-shared-slice-read-slots c = omega (arith, header-room (c .before .before .args .table .now) (c .before .before .pre .0))
+slots-requires : tie.Need-slots-requires Inv-loop μ-loop
+slots-requires c κs = header-room (c .before .args .table .now) (c .before .pre .0)
 
 first-requires : tie.Need-first-requires Inv-loop μ-loop
 first-requires c κs = c .before .before .pre
@@ -84,7 +88,7 @@ returns-2 c =
     let l = at .loop in
     let no-bag = told tested (not-true (tested .bag-ok .result) (c .if2 .taken)) in
     sym
-    (count-at-no-bag (table at) (start at .args .sought) (l .n) (l .x) (l .found) (omega arith) (node .if1 .left)
+    (count-at-no-bag (table at) (start at .args .sought) (l .n) (l .x) (l .found) (omega (arith, all-nodes at)) (node .if1 .left)
     (node-there node) no-bag)
     ∙ l .inv .2
 
@@ -97,9 +101,7 @@ next-requires c κs =
     (start (node .before .before) .pre .0, node-there node)
 
 add-n : tie.Need-add-n Inv-loop μ-loop
-add-n c =
-    let slots = c .before .before .before .before .before .before .before .before .before in
-    omega (arith, slots .shared-slice-known2 .given nodeCountAt)
+add-n c = search needs
 
 loop-less : tie.Need-loop-less Inv-loop μ-loop
 loop-less c = omega arith
@@ -111,10 +113,10 @@ loop-again c =
     let at = node .before .before in
     let l = at .loop in
     let bag = told tested (not-false (tested .bag-ok .result) (c .before .before .if2 .left)) in (
-      omega arith,
+      omega (arith, all-nodes at),
       rw (c .next .ensures) (next-in (table at) (start at .pre .0) (l .x)),
       rw (c .next .ensures, c .before .found-now .ensures, tested .before .value .ensures)
-          (count-at-bag (table at) (start at .args .sought) (l .n) (l .x) (l .found) (omega arith) (node .if1 .left)
+          (count-at-bag (table at) (start at .args .sought) (l .n) (l .x) (l .found) (omega (arith, all-nodes at)) (node .if1 .left)
           (node-there node) bag
           ∙ l .inv .2),
     )
@@ -123,7 +125,7 @@ returns-3 : tie.Need-returns-3 Inv-loop μ-loop
 returns-3 c =
     let at = c .before in
     let l = at .loop in
-    sym (count-ends (table at) (start at .args .sought) (l .n) (l .x) (l .found) (omega arith)) ∙ l .inv .2
+    sym (count-ends (table at) (start at .args .sought) (l .n) (l .x) (l .found) (omega (arith, all-nodes at))) ∙ l .inv .2
 
 pub seek-spec : {M : Type 1} → statement M
 seek-spec =
@@ -131,7 +133,7 @@ seek-spec =
     (tie.spec
     Inv-loop
     μ-loop
-    shared-slice-read-slots
+    slots-requires
     first-requires
     loop-holds
     returns

@@ -1,6 +1,5 @@
 -- What a tick that is made does to the view and to the tasks.
 use mathlib.Core.Path.{_≡_, refl, sym, ap, _∙_, subst}
-use mathlib.Core.Logic.{_≢_}
 use mathlib.Core.Bool.{Bool, true, false}
 use mathlib.Core.List.{List}
 use mathlib.Core.Option.{Option, some, none as nothing}
@@ -9,13 +8,13 @@ use native.Mathlib.Omega.{arith}
 use lib.Dec.{ltb}
 use Rattle.tag.specs.Tags.{largestTag}
 use Rattle.machine.specs.declared.Answer.{Answer}
-use Rattle.machine.specs.declared.Answer.the-variants.{Going, Pushed, Bag, Empty, Full, Yes, No, Refused}
+use Rattle.machine.specs.declared.Answer.the-variants.{Refused}
 use Rattle.machine.specs.Sides.{Side, right}
 use Rattle.machine.specs.Tasks.{wordsOf}
 use Rattle.machine.specs.Table.{nodeCount, taskCount, growth, laneCount, mostLanes, tickCount, task}
 use Rattle.machine.specs.Shape.{lengthOk, shapeOk, sizesOf, WellSized}
 use Rattle.machine.specs.Lines.{Effect}
-use Rattle.machine.specs.Answers.{kindOf, payloadOf, dispatchPayloadOf, refusalOf}
+use Rattle.machine.specs.Answers.{payloadOf, dispatchPayloadOf, refusalOf}
 use Rattle.machine.specs.Calls.{
   unless,
   isBusy,
@@ -154,27 +153,6 @@ refused-unchanged ws k h e = go (tickRefusal ws k h) refl
     go : (r : Option ℕ) → tickRefusal ws k h ≡ r → tickOn ws k h .words ≡ ws
     go (some m) q = ap (λ (t : Ticked). t .words) (tick-stopped ws k h q)
     go nothing q = tick-refused ws k h q (ap refusalOf (sym (tick-answer ws k h q)) ∙ e)
-
--- Kind 7 is a refusal's.
-pub refused-kind : (a : Answer) → kindOf a ≡ 7 → refusalOf a ≡ some (payloadOf a)
-refused-kind Going e = clash (cc)
-refused-kind Pushed e = clash (cc)
-refused-kind (Bag b) e = clash (cc)
-refused-kind Empty e = clash (cc)
-refused-kind Full e = clash (cc)
-refused-kind Yes e = clash (cc)
-refused-kind No e = clash (cc)
-refused-kind (Refused n) e = refl
-
-pub made-kind : (a : Answer) → kindOf a ≢ 7 → refusalOf a ≡ nothing
-made-kind Going e = refl
-made-kind Pushed e = refl
-made-kind (Bag b) e = refl
-made-kind Empty e = refl
-made-kind Full e = refl
-made-kind Yes e = refl
-made-kind No e = refl
-made-kind (Refused n) e = absurd (e refl)
 
 -- ---- The number that a tick answers with, of a bag or of a refusal, is at most the largest tag.
 fit-number : (S g L : ℕ) {e : Effect} → Fits S g L e → payloadOf (e .answer) ≤ largestTag

@@ -34,12 +34,9 @@ use Rattle.table_record.specs.Coded.{structOf, taskMeant}
 use Rattle.table_layout.specs.Words.{HoldsNodes, HoldsNode, linkIn, storedIn}
 use Rattle.table_layout.proofs.Laws.NodeWords.{any-default}
 
-abbrev pub nodesOf : List ℕ → List ℕ
-nodesOf ws = nodePart ws
-
 -- As the code lends it: from node 0 to the place after the nodes.
 pub nodes-part :
-    (ws : List ℕ) {f e : ℕ} → f ≡ nodeAt 0 → e ≡ nodeAt (nodeCount ws) → midOf f (e - f) ws ≡ nodesOf ws
+    (ws : List ℕ) {f e : ℕ} → f ≡ nodeAt 0 → e ≡ nodeAt (nodeCount ws) → midOf f (e - f) ws ≡ nodePart ws
 nodes-part ws {f} {e} at end =
     let from : f ≡ headerLength = omega arith in
     let n : e - f ≡ nodeLength * nodeCount ws = omega arith in
@@ -75,43 +72,43 @@ module _
       ∙ ap (λ (j : ℕ). getD (midOf headerLength n ws) j 0) (sym (add-assoc (nodeLength * x) linksLength c)))
 
 -- All the nodes' words are there.
-pub part-long : (ws : List ℕ) → HoldsNodes ws → length (nodesOf ws) ≡ nodeLength * nodeCount ws
+pub part-long : (ws : List ℕ) → HoldsNodes ws → length (nodePart ws) ≡ nodeLength * nodeCount ws
 part-long ws room =
     length-take-le (nodeLength * nodeCount ws) (drop headerLength ws) (let e = length-drop headerLength ws in omega arith)
 
 module _ (ws : List ℕ) (sized : Sized (sizesOf ws)) where
-  pub nodes-long : length (nodesOf ws) ≡ nodeLength * nodeCount ws
+  pub nodes-long : length (nodePart ws) ≡ nodeLength * nodeCount ws
   nodes-long = part-long ws (omega arith)
 
-  past-end : (x c d : ℕ) → nodeCount ws ≤ x → getD (nodesOf ws) (nodeLength * x + c) d ≡ d
-  past-end x c d h = List·getD-eq-default (nodesOf ws) d {n = nodeLength * x + c} (let e = nodes-long in omega arith)
+  past-end : (x c d : ℕ) → nodeCount ws ≤ x → getD (nodePart ws) (nodeLength * x + c) d ≡ d
+  past-end x c d h = List·getD-eq-default (nodePart ws) d {n = nodeLength * x + c} (let e = nodes-long in omega arith)
 
-  pub node-held : (x : ℕ) → x < nodeCount ws → HoldsNode (nodesOf ws) x
+  pub node-held : (x : ℕ) → x < nodeCount ws → HoldsNode (nodePart ws) x
   node-held x h = let e = nodes-long in omega arith
 
-  pub held-node : (x : ℕ) → HoldsNode (nodesOf ws) x → x < nodeCount ws
+  pub held-node : (x : ℕ) → HoldsNode (nodePart ws) x → x < nodeCount ws
   held-node x h = let e = nodes-long in omega arith
 
-  pub words-in : (x : ℕ) → x < nodeCount ws → valueWords ws x ≡ storedIn (nodesOf ws) x
+  pub words-in : (x : ℕ) → x < nodeCount ws → valueWords ws x ≡ storedIn (nodePart ws) x
   words-in x h = value-there ws (nodeLength * nodeCount ws) x (omega arith) (omega arith)
 
-  pub link-in : (s : Side) (x : ℕ) → link ws s x ≡ linkIn (nodesOf ws) s x
+  pub link-in : (s : Side) (x : ℕ) → link ws s x ≡ linkIn (nodePart ws) s x
   unfolding link
   link-in s x = go (x <? nodeCount ws)
     where
-      go : (d : Dec (x < nodeCount ws)) → (if d then linkWord ws s x else none) ≡ linkIn (nodesOf ws) s x
+      go : (d : Dec (x < nodeCount ws)) → (if d then linkWord ws s x else none) ≡ linkIn (nodePart ws) s x
       go (yes h) = link-there ws (nodeLength * nodeCount ws) x (omega arith) (omega arith) s
       go (no h) = sym (past-end x (sideNumber s) none (omega arith))
 
-  pub value-in : (x : ℕ) → value ws x ≡ decode (storedIn (nodesOf ws) x)
+  pub value-in : (x : ℕ) → value ws x ≡ decode (storedIn (nodePart ws) x)
   unfolding value
   value-in x = ap decode (go (x <? nodeCount ws))
     where
-      go : (d : Dec (x < nodeCount ws)) → (if d then valueWords ws x else encode never) ≡ storedIn (nodesOf ws) x
+      go : (d : Dec (x < nodeCount ws)) → (if d then valueWords ws x else encode never) ≡ storedIn (nodePart ws) x
       go (yes h) = words-in x h
       go (no h) =
-          stored-alike (nodesOf ws) [] 0 (nodeLength * x + linksLength) (λ c l.
-          sym (List·getD-eq-default (nodesOf ws) 0 {n = nodeLength * x + linksLength + c} (let e = nodes-long in omega arith)))
+          stored-alike (nodePart ws) [] 0 (nodeLength * x + linksLength) (λ c l.
+          sym (List·getD-eq-default (nodePart ws) 0 {n = nodeLength * x + linksLength + c} (let e = nodes-long in omega arith)))
 
 -- ---- A task's record.
 pub task-read : (ws : List ℕ) (k : ℕ) → k < taskCount ws

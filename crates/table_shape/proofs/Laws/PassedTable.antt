@@ -6,13 +6,13 @@ use mathlib.Core.List.{List}
 use mathlib.Core.Option.{Option, some, none as nothing}
 use Prim.Native.Nat.{ℕ, _≤_, _<_}
 use native.Mathlib.Omega.{arith}
-use Rattle.machine.specs.Choice.{_≟_, _<?_}
+use Rattle.machine.specs.Choice.{_<?_}
 use Rattle.machine.specs.Operations.{operationOf}
 use Rattle.machine.specs.Tasks.{Task, operationWord, taskOf}
 use Rattle.machine.specs.Table.{nodeCount, taskCount, recordWords, task}
 use Rattle.machine.specs.Shape.{lengthOk, shapeOk, WellFormed, sizesOf, WellSized}
-use Rattle.machine.specs.Calls.{unless, tableRefusal, isBusy}
-use Rattle.machine.proofs.Basics.Choices.{if-yes, by-if}
+use Rattle.machine.specs.Calls.{unless, tableRefusal}
+use Rattle.machine.proofs.Basics.Choices.{if-yes}
 use Rattle.machine.proofs.Shape.ShapeLaws.{well-sized}
 use Rattle.answers.specs.Refusals.{numberOf}
 
@@ -40,13 +40,6 @@ module _ (ws : List ℕ) {n : ℕ} (is-number : n ≡ numberOf (tableRefusal ws 
       let both = both-pass (lengthOk ws) (shapeOk ws) (sym is-number ∙ e) in
       record { length-passes = both .0; shape-passes = both .1 }
 
-busy-number : (n : ℕ) → n ≢ 0 → isBusy (operationOf n) ≡ true
-busy-number n h =
-    by-if (λ op. isBusy op ≡ true) (n ≟ 0) (λ e. absurd (h e)) (λ _.
-    by-if (λ op. isBusy op ≡ true) (n ≟ 1) (λ _. refl) (λ _.
-    by-if (λ op. isBusy op ≡ true) (n ≟ 2) (λ _. refl) (λ _.
-    by-if (λ op. isBusy op ≡ true) (n ≟ 3) (λ _. refl) (λ _. refl))))
-
 -- ---- Its sizes, and a task's record.
 module _ (ws : List ℕ) (P : WellFormed ws) where
   Z : WellSized (sizesOf ws)
@@ -60,6 +53,3 @@ module _ (ws : List ℕ) (P : WellFormed ws) where
     unfolding task
     operation-is =
         ap (λ (t : Task). t .operation) (if-yes (k <? taskCount ws) (taskOf (recordWords ws k)) _ is-task)
-
-    pub busy-task : operationWord (recordWords ws k) ≢ 0 → isBusy (task ws k .operation) ≡ true
-    busy-task n = ap isBusy operation-is ∙ busy-number (operationWord (recordWords ws k)) n

@@ -1,9 +1,10 @@
 -- The invariant: the flag is the test of all nodes below the loop's number, and what is left are the words from there on.
 use mathlib.Core.Path.{_≡_, ap, sym, _∙_}
-use Prim.Native.Nat.{_+_, _-_, _≤_}
+use Prim.Native.Nat.{ℕ, _+_, _-_, _≤_, _<_}
 use native.Mathlib.Omega.{arith}
+use mathlib.Core.List.{List}
 use lib.ListN.{length, drop}
-use Rattle.machine.specs.Table.{headerLength, nodeLength, nodeAt, nodeCount}
+use Rattle.machine.specs.Table.{nodeLength, nodeAt, nodeCount}
 use Rattle.machine.specs.Shape.{allBelow, nodeOk}
 use Rattle.machine.proofs.Shape.ShapeLaws.{well-sized}
 use Rattle.table_shape.specs.Contracts.{firstOk}
@@ -15,42 +16,60 @@ use Rattle.table_shape.proofs.nodes_ok.Statement.{statement}
 use Rattle.table_shape.proofs.nodes_ok.Tie as tie
 
 abbrev Inv-loop : tie.InvT-loop
-Inv-loop t n rest₀ ok₀ x₀ rest ok x =
+Inv-loop t n first rest₀ ok₀ x₀ rest ok x =
     (x ≤ nodeCount t) × (ok ≡ allBelow x (nodeOk t)) × (rest ≡ drop (nodeAt x) t)
 
 abbrev μ-loop : tie.MeasureT-loop
-μ-loop t n rest₀ ok₀ x₀ rest ok x = nodeCount t - x
+μ-loop t n first rest₀ ok₀ x₀ rest ok x = n - x
 
-shared-slice-read-n : tie.Need-shared-slice-read-n Inv-loop μ-loop
-shared-slice-read-n c = omega (arith, header-long (c .before .before .args .table .now) (c .before .before .pre))
+slots-requires : tie.Need-slots-requires Inv-loop μ-loop
+slots-requires c κs = header-long (c .before .args .table .now) (c .before .pre)
+
+node-at-requires : tie.Need-node-at-requires Inv-loop μ-loop
+node-at-requires c κs = search needs
+
+-- Node 0 stands within the table.
+first-within : (c : tie.After-node-at Inv-loop μ-loop) → c .node-at .result ≤ length (c .before .before .before .args .table .now)
+first-within c =
+    let s = c .before .before .before in omega (arith, c .node-at .ensures, header-long (s .args .table .now) (s .pre))
+
+mul-rest : tie.Need-mul-rest Inv-loop μ-loop
+mul-rest c = search needs
 
 sub-rest : tie.Need-sub-rest Inv-loop μ-loop
-sub-rest c = header-long (c .before .before .args .table .now) (c .before .before .pre)
+sub-rest c = first-within c
 
 part-rest-start : tie.Need-part-rest-start Inv-loop μ-loop
-part-rest-start c = header-long (c .before .before .args .table .now) (c .before .before .pre)
+part-rest-start c = first-within c
 
 part-rest-end : tie.Need-part-rest-end Inv-loop μ-loop
 part-rest-end c = search needs
 
 loop-holds : tie.Need-loop-holds Inv-loop μ-loop
 loop-holds c =
-    let t = c .before .before .before .args .table .now in
-    (omega arith, sym (none-below (nodeOk t)), moved-on t headerLength)
+    let f = c .before in
+    let t = f .before .before .before .args .table .now in (
+      omega arith,
+      sym (none-below (nodeOk t)),
+      moved-on t (f .node-at .result) ∙ ap (λ (n : ℕ). drop n t) (f .node-at .ensures),
+    )
+
+-- The loop's number is a node's.
+abbrev counted : tie.In-loop Inv-loop μ-loop → tie.After-slots Inv-loop μ-loop
+counted c = c .before .before .before .before
+
+abbrev table : tie.In-loop Inv-loop μ-loop → List ℕ
+table c = counted c .before .before .args .table .now
+
+is-node : (c : tie.In-loop Inv-loop μ-loop) → c .before .loop .x < nodeCount (table c)
+is-node c = omega (arith, c .loop-test .taken, counted c .slots .ensures)
 
 -- The node that the words left begin with stands in the table.
-node-within :
-    (c : tie.In-loop Inv-loop μ-loop)
-    → nodeAt (c .before .loop .x) + nodeLength ≤ length (c .before .before .before .before .before .args .table .now)
-node-within c =
-    let s = c .before .before .before .before .before in
-    omega (arith, well-sized (s .args .table .now) (s .pre))
+node-within : (c : tie.In-loop Inv-loop μ-loop) → nodeAt (c .before .loop .x) + nodeLength ≤ length (table c)
+node-within c = omega (arith, well-sized (table c) (counted c .before .before .pre) .sized, is-node c)
 
 words-left : (c : tie.In-loop Inv-loop μ-loop) → nodeLength ≤ length (c .before .loop .rest .now)
-words-left c =
-    let t = c .before .before .before .before .before .args .table .now in
-    let l = c .before .loop in
-    left-long t (l .x) (l .inv .2) (node-within c)
+words-left c = let l = c .before .loop in left-long (table c) (l .x) (l .inv .2) (node-within c)
 
 node-ok-requires : tie.Need-node-ok-requires Inv-loop μ-loop
 node-ok-requires c κs = words-left c
@@ -65,9 +84,7 @@ part-rest-end-2 : tie.Need-part-rest-end-2 Inv-loop μ-loop
 part-rest-end-2 c = search needs
 
 add-x : tie.Need-add-x Inv-loop μ-loop
-add-x c =
-    let s = c .before .before .before .before .before .before .before in
-    omega (arith, well-sized (s .args .table .now) (s .pre))
+add-x c = search needs
 
 loop-less : tie.Need-loop-less Inv-loop μ-loop
 loop-less c = omega arith
@@ -75,16 +92,21 @@ loop-less c = omega arith
 loop-again : tie.Need-loop-again Inv-loop μ-loop
 loop-again c =
     let turn = c .before .before in
-    let t = turn .before .before .before .before .before .args .table .now in
+    let t = table turn in
     let l = turn .before .loop in
-    let tested = c .before .node-ok .ensures ∙ ap (firstOk (nodeCount t)) (l .inv .2) ∙ sym (node-first t (l .x) (node-within turn)) in
-    (omega arith, one-tested (nodeOk t) (l .x) (l .inv .1) tested, next-left t (l .x) (l .inv .2))
+    let tested =
+    c .before .node-ok .ensures
+    ∙ ap (λ (S : ℕ). firstOk S (l .rest .now)) (counted turn .slots .ensures)
+    ∙ ap (firstOk (nodeCount t)) (l .inv .2)
+    ∙ sym (node-first t (l .x) (node-within turn)) in
+    (omega (arith, is-node turn), one-tested (nodeOk t) (l .x) (l .inv .1) tested, next-left t (l .x) (l .inv .2))
 
 returns : tie.Need-returns Inv-loop μ-loop
 returns c =
-    let t = c .before .before .before .before .before .args .table .now in
+    let k = c .before .before .before .before in
+    let t = k .before .before .args .table .now in
     let l = c .before .loop in
-    let e : l .x ≡ nodeCount t = omega arith in
+    let e : l .x ≡ nodeCount t = omega (arith, c .loop-test .left, k .slots .ensures, l .inv .0) in
     l .inv .1 ∙ ap (λ n. allBelow n (nodeOk t)) e
 
 pub nodes-ok-spec : {M : Type 1} → statement M
@@ -93,7 +115,9 @@ nodes-ok-spec =
     (tie.spec
     Inv-loop
     μ-loop
-    shared-slice-read-n
+    slots-requires
+    node-at-requires
+    mul-rest
     sub-rest
     part-rest-start
     part-rest-end

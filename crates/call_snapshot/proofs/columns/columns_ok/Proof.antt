@@ -1,52 +1,42 @@
 -- The parts lent are the columns of the definition.
-use mathlib.Core.Path.{sym, ap, _∙_}
+use mathlib.Core.Path.{_≡_, sym, ap, _∙_}
 use mathlib.Core.Bool.{_&&_}
-use Prim.Native.Nat.{_*_, _-_}
+use Prim.Native.Nat.{_*_}
 use native.Mathlib.Omega.{arith}
-use lib.ListN.{take, drop}
+use lib.ListN.{length, take}
 use lib.Seq.{length-take-le}
-use Rattle.machine.specs.Table.{headerLength, nodeCount}
-use Rattle.machine.proofs.Shape.ShapeLaws.{well-sized}
+use borrow.Rule.Slice.PartMut.{mid-len}
 use Rattle.machine.proofs.Snapshots.RoundTrips.{has-nodes}
+use Rattle.table_layout.proofs.Laws.Views.{part-long}
 use Rattle.call_snapshot.specs.Contracts.{linksOk}
-use Rattle.call_snapshot.proofs.Laws.Parts.{part-long, columns-lent}
+use Rattle.call_snapshot.proofs.Laws.Parts.{columns-lent}
 use borrow.Author.Needs.{needs}
 use Rattle.call_snapshot.proofs.columns.columns_ok.Statement.{statement}
 use Rattle.call_snapshot.proofs.columns.columns_ok.Tie as tie
 
-shared-slice-read-slots : tie.Need-shared-slice-read-slots
-shared-slice-read-slots c =
-    let s = c .before .before in
-    omega (arith, has-nodes (s .args .snapshot .now) (s .pre))
+slots-requires : tie.Need-slots-requires
+slots-requires c κs = let s = c .before in omega (arith, has-nodes (s .args .snapshot .now) (s .pre))
 
 cast-n : tie.Need-cast-n
-cast-n c = let s = c .before .before in omega (arith, well-sized (s .args .snapshot .now) (s .pre))
+cast-n c = search needs
 
-node-at-requires : tie.Need-node-at-requires
-node-at-requires c κs = search needs
+part-requires : tie.Need-part-requires
+part-requires c κs = let s = c .before .before in has-nodes (s .args .snapshot .now) (s .pre)
 
-sub-columns : tie.Need-sub-columns
-sub-columns c = search needs
-
-part-columns-start : tie.Need-part-columns-start
-part-columns-start c = search needs
-
-part-columns-end : tie.Need-part-columns-end
-part-columns-end c =
-    let s = c .before .before .before in
-    omega (arith, c .node-at .ensures, has-nodes (s .args .snapshot .now) (s .pre))
+-- Four columns of so many words.
+four : (c : tie.After-part) → length (c .part .result .now) ≡ 4 * c .before .slots .result
+four c =
+    let k = c .before in
+    let s = k .before .before in
+    let ss = s .args .snapshot .now in
+    let all = ap length (c .part .ensures) ∙ part-long ss (has-nodes ss (s .pre)) in omega (arith, all, k .slots .ensures)
 
 mul-links-ok : tie.Need-mul-links-ok
 mul-links-ok c = search needs
 
 slice-aggregate-links-ok : tie.Need-slice-aggregate-links-ok
 slice-aggregate-links-ok c =
-    let n = c .before .before in
-    let s = n .before .before .before in
-    let ss = s .args .snapshot .now in
-    let cs = take (n .node-at .result - headerLength) (drop headerLength ss) in
-    let long = part-long (nodeCount ss) ss (n .node-at .ensures) (has-nodes ss (s .pre)) in
-    sym (length-take-le (2 * nodeCount ss) cs (omega arith))
+    let q = c .before in sym (length-take-le (2 * q .before .slots .result) (q .part .result .now) (omega (arith, four q)))
 
 links-ok-requires : tie.Need-links-ok-requires
 links-ok-requires c κs = search needs
@@ -58,9 +48,7 @@ mul-values-ok-2 : tie.Need-mul-values-ok-2
 mul-values-ok-2 c = search needs
 
 mul-values-ok-3 : tie.Need-mul-values-ok-3
-mul-values-ok-3 c =
-    let s = c .before .before .before .before .before .before in
-    omega (arith, well-sized (s .args .snapshot .now) (s .pre))
+mul-values-ok-3 c = search needs
 
 sub-values-ok : tie.Need-sub-values-ok
 sub-values-ok c = search needs
@@ -69,48 +57,49 @@ part-values-ok-start : tie.Need-part-values-ok-start
 part-values-ok-start c = search needs
 
 part-values-ok-end : tie.Need-part-values-ok-end
-part-values-ok-end c = search needs
+part-values-ok-end c = omega (arith, four (c .before .before))
 
 mul-values-ok-4 : tie.Need-mul-values-ok-4
 mul-values-ok-4 c = search needs
 
 mul-values-ok-5 : tie.Need-mul-values-ok-5
-mul-values-ok-5 c =
-    let s = c .before .before .before .before .before .before .before in
-    omega (arith, well-sized (s .args .snapshot .now) (s .pre))
+mul-values-ok-5 c = search needs
 
 sub-values-ok-2 : tie.Need-sub-values-ok-2
-sub-values-ok-2 c = search needs
+sub-values-ok-2 c = omega (arith, four (c .before .before .before))
 
 part-values-ok-start-2 : tie.Need-part-values-ok-start-2
-part-values-ok-start-2 c = search needs
+part-values-ok-start-2 c = omega (arith, four (c .before .before .before))
 
 part-values-ok-end-2 : tie.Need-part-values-ok-end-2
 part-values-ok-end-2 c = search needs
 
 values-ok-requires : tie.Need-values-ok-requires
-values-ok-requires c κs = search needs
+values-ok-requires c κs =
+    let q = c .before .before .before .before in
+    let S = q .before .slots .result in
+    let cs = q .part .result .now in
+    let digits = mid-len (3 * S) (length cs) cs (omega (arith, four q)) in
+    let words = mid-len (2 * S) (3 * S) cs (omega (arith, four q)) in
+    digits ∙ omega (arith, four q) ∙ sym words
 
 returns : tie.Need-returns
 returns c =
     let l = c .before .before .before in
-    let n = l .before .before .before in
-    let ss = n .before .before .before .args .snapshot .now in
-    let cs = take (n .node-at .result - headerLength) (drop headerLength ss) in
+    let q = l .before .before in
+    let k = q .before in
+    let S = k .slots .result in
     ap (λ b. b && c .values-ok .result) (l .links-ok .ensures)
-    ∙ ap (λ b. linksOk (nodeCount ss) (take (2 * nodeCount ss) cs) && b) (c .values-ok .ensures)
-    ∙ columns-lent ss (n .node-at .ensures)
+    ∙ ap (λ b. linksOk S (take (2 * S) (q .part .result .now)) && b) (c .values-ok .ensures)
+    ∙ columns-lent (k .before .before .args .snapshot .now) (k .slots .ensures) (q .part .ensures)
 
 pub columns-ok-spec : {M : Type 1} → statement M
 columns-ok-spec =
     tie.close
     (tie.spec
-    shared-slice-read-slots
+    slots-requires
     cast-n
-    node-at-requires
-    sub-columns
-    part-columns-start
-    part-columns-end
+    part-requires
     mul-links-ok
     slice-aggregate-links-ok
     links-ok-requires

@@ -1,25 +1,39 @@
 -- Header and records, and between them the nodes' words in the other order.
+use mathlib.Core.Path.{ap, _∙_}
 use native.Mathlib.Omega.{arith}
+use lib.ListN.{length}
 use Rattle.machine.specs.Table.{nodeLength}
 use Rattle.machine.specs.Snapshots.{transposed}
 use Rattle.machine.proofs.Snapshots.RoundTrips.{has-nodes}
+use Rattle.table_layout.proofs.Laws.Views.{part-long}
 use Rattle.call_snapshot.proofs.Laws.Parts.{order-laid}
 use borrow.Author.Needs.{needs}
 use Rattle.call_snapshot.proofs.orders.write_table.Statement.{statement}
 use Rattle.call_snapshot.proofs.orders.write_table.Tie as tie
 
-shared-slice-read-slots : tie.Need-shared-slice-read-slots
-shared-slice-read-slots c =
-    let s = c .before .before .before in
-    omega (arith, has-nodes (s .args .snapshot .now) (s .pre .0))
+slots-requires : tie.Need-slots-requires
+slots-requires c κs =
+    let s = c .before .before in omega (arith, has-nodes (s .args .snapshot .now) (s .pre .0))
 
 node-at-requires : tie.Need-node-at-requires
 node-at-requires c κs = search needs
 
+node-at-requires-2 : tie.Need-node-at-requires-2
+node-at-requires-2 c κs = search needs
+
 copy-ends-requires : tie.Need-copy-ends-requires
 copy-ends-requires c κs =
-    let s = c .before .before .before .before .before in
-    (has-nodes (s .args .snapshot .now) (s .pre .0), s .pre .1)
+    let n = c .before .before .before in
+    let s = n .before .before .before in
+    (omega (arith, has-nodes (s .args .snapshot .now) (s .pre .0), n .slots .ensures), s .pre .1)
+
+part-requires : tie.Need-part-requires
+part-requires c κs =
+    let s = c .before .before .before .before .before .before .before .before .before in
+    has-nodes (s .args .snapshot .now) (s .pre .0)
+
+mul-write-nodes : tie.Need-mul-write-nodes
+mul-write-nodes c = search needs
 
 sub-write-nodes : tie.Need-sub-write-nodes
 sub-write-nodes c = search needs
@@ -29,26 +43,23 @@ part-write-nodes-start c = search needs
 
 part-write-nodes-end : tie.Need-part-write-nodes-end
 part-write-nodes-end c =
-    let n = c .before .before .before .before in
-    let s = n .before .before .before .before in
-    omega (arith, n .node-at .ensures, has-nodes (s .args .snapshot .now) (s .pre .0))
-
-sub-write-nodes-2 : tie.Need-sub-write-nodes-2
-sub-write-nodes-2 c = search needs
-
-part-write-nodes-start-2 : tie.Need-part-write-nodes-start-2
-part-write-nodes-start-2 c = search needs
-
-part-write-nodes-end-2 : tie.Need-part-write-nodes-end-2
-part-write-nodes-end-2 c =
     let e = c .before .before .before in
     let n = e .before .before in
-    let s = n .before .before .before .before in
+    let k = n .before .before in
+    let s = k .before .before .before in
     let enough = has-nodes (s .args .snapshot .now) (s .pre .0) in
-    omega (arith, n .node-at .ensures, e .copy-ends .kept .1 .0, s .pre .1)
+    omega (arith, n .node-at2 .ensures, k .slots .ensures, e .copy-ends .kept .1 .0, s .pre .1)
 
 write-nodes-requires : tie.Need-write-nodes-requires
-write-nodes-requires c κs = search needs
+write-nodes-requires c κs =
+    let q = c .before in
+    let e = q .before .before .before in
+    let n = e .before .before in
+    let k = n .before .before in
+    let s = k .before .before .before in
+    let enough = has-nodes (s .args .snapshot .now) (s .pre .0) in
+    let all = ap length (q .part .ensures) ∙ part-long (s .args .snapshot .now) enough in
+    (omega (arith, all, k .slots .ensures), search needs)
 
 same-length : tie.Need-same-length
 same-length c = search needs
@@ -56,27 +67,30 @@ same-length c = search needs
 returns : tie.Need-returns
 returns c =
     let w = c .before .before in
-    let e = w .before .before .before .before .before in
+    let q = w .before .before in
+    let e = q .before .before .before in
     let n = e .before .before in
-    let s = n .before .before .before .before in
+    let f = n .before in
+    let k = f .before in
+    let s = k .before .before .before in
     let a = s .args in
     order-laid (λ S. transposed nodeLength S) (a .snapshot .now) (a .table .now) (w .write-nodes .last .1 .0)
-    (has-nodes (a .snapshot .now) (s .pre .0)) (s .pre .1)
-    (n .node-at .ensures) (e .copy-ends .ensures) (w .write-nodes .ensures)
+    (has-nodes (a .snapshot .now) (s .pre .0)) (s .pre .1) (k .slots .ensures) (f .node-at .ensures) (n .node-at2 .ensures)
+    (e .copy-ends .ensures) (q .part .ensures) (w .write-nodes .ensures)
 
 pub write-table-spec : {M : Type 1} → statement M
 write-table-spec =
     tie.close
     (tie.spec
-    shared-slice-read-slots
+    slots-requires
     node-at-requires
+    node-at-requires-2
     copy-ends-requires
+    part-requires
+    mul-write-nodes
     sub-write-nodes
     part-write-nodes-start
     part-write-nodes-end
-    sub-write-nodes-2
-    part-write-nodes-start-2
-    part-write-nodes-end-2
     write-nodes-requires
     same-length
     returns)

@@ -4,7 +4,6 @@ use Prim.Native.Nat.{_-_}
 use native.Mathlib.Omega.{arith}
 use lib.ListN.{length}
 use borrow.Rule.Slice.PartMut.{mid-len}
-use Rattle.machine.specs.Table.{headerLength}
 use Rattle.call_start.proofs.Filling.{started}
 use borrow.Author.Needs.{needs}
 use Rattle.call_start.proofs.fresh.write_all.Statement.{statement}
@@ -12,6 +11,12 @@ use Rattle.call_start.proofs.fresh.write_all.Tie as tie
 
 write-header-requires : tie.Need-write-header-requires
 write-header-requires c κs = search needs
+
+node-at-requires : tie.Need-node-at-requires
+node-at-requires c κs = search needs
+
+mul-write-nodes : tie.Need-mul-write-nodes
+mul-write-nodes c = search needs
 
 sub-write-nodes : tie.Need-sub-write-nodes
 sub-write-nodes c = search needs
@@ -35,21 +40,25 @@ returns : tie.Need-returns
 returns c =
     let tasks = c .before .before in
     let nodes = tasks .before .before .before .before in
-    let header = nodes .before .before .before .before in
+    let from = nodes .before .before in
+    let header = from .before .before .before in
     let s = header .before .before .before in
     let a = s .args in
     let t = header .write-header .last .0 in
     let w = nodes .write-nodes in
-    let long = w .kept .0 ∙ mid-len headerLength (length t) t (omega arith) in
+    let long = w .kept .0 ∙ mid-len (from .node-at .result) (length t) t (omega (arith, from .node-at .ensures, s .pre, header .write-header .kept .0)) in
     started (a .slots) (a .tasks) (a .growth) (a .lanes) (a .table .now) t (w .last .0) (tasks .write-tasks .last .0)
-    (length t - headerLength) (omega (arith, s .pre)) (header .write-header .ensures)
-    (omega (arith, s .pre, long, header .write-header .kept .0)) (w .ensures) (tasks .write-tasks .ensures)
+    (length t - from .node-at .result) (omega (arith, s .pre)) (from .node-at .ensures) (header .write-header .ensures)
+    (omega (arith, s .pre, long, from .node-at .ensures, header .write-header .kept .0)) (w .ensures)
+    (tasks .write-tasks .ensures)
 
 pub write-all-spec : {M : Type 1} → statement M
 write-all-spec =
     tie.close
     (tie.spec
     write-header-requires
+    node-at-requires
+    mul-write-nodes
     sub-write-nodes
     part-write-nodes-start
     part-write-nodes-end

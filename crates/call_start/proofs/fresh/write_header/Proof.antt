@@ -1,81 +1,75 @@
--- `call_start::fresh::write_header` meets its contract: six words, four pairs of hats and two words.
-use mathlib.Core.Path.{_≡_, _∙_}
-use mathlib.Core.List.{[], _∷_}
-use Prim.Native.Nat.{_-_, _≤_}
-use native.Mathlib.Omega.{arith}
-use lib.ListN.{length, length-set}
-use lib.Seq.{length-sets}
-use Rattle.machine.specs.Table.{headerLength}
+-- `call_start::fresh::write_header` meets its contract: the hats are those of a started table.
+use mathlib.Core.Path.{_∙_}
+use native.Mathlib.Decide.{ℕ-discrete}
 use Rattle.call_start.proofs.Filling.{header-written}
 use borrow.Author.Needs.{needs}
 use Rattle.call_start.proofs.fresh.write_header.Statement.{statement}
 use Rattle.call_start.proofs.fresh.write_header.Tie as tie
 
-slice-write-table : tie.Need-slice-write-table
-slice-write-table c = search needs
+start-hat-requires : tie.Need-start-hat-requires
+start-hat-requires c κs = search needs
 
-slice-write-table-2 : tie.Need-slice-write-table-2
-slice-write-table-2 c = simp length-set (omega arith)
+start-hat-requires-2 : tie.Need-start-hat-requires-2
+start-hat-requires-2 c κs = search needs
 
-slice-write-table-3 : tie.Need-slice-write-table-3
-slice-write-table-3 c = simp length-set (omega arith)
+start-hat-requires-3 : tie.Need-start-hat-requires-3
+start-hat-requires-3 c κs = search needs
 
-slice-write-table-4 : tie.Need-slice-write-table-4
-slice-write-table-4 c = simp length-set (omega arith)
+start-hat-requires-4 : tie.Need-start-hat-requires-4
+start-hat-requires-4 c κs = search needs
 
-slice-write-table-5 : tie.Need-slice-write-table-5
-slice-write-table-5 c = simp length-set (omega arith)
+start-hat-requires-5 : tie.Need-start-hat-requires-5
+start-hat-requires-5 c κs = search needs
 
-sub-table : tie.Need-sub-table
-sub-table c = search needs
+start-hat-requires-6 : tie.Need-start-hat-requires-6
+start-hat-requires-6 c κs = search needs
 
-slice-write-table-6 : tie.Need-slice-write-table-6
-slice-write-table-6 c = simp length-set (omega arith)
+start-hat-requires-7 : tie.Need-start-hat-requires-7
+start-hat-requires-7 c κs = search needs
 
-write-hats-requires : tie.Need-write-hats-requires
-write-hats-requires c κs = search needs
+start-hat-requires-8 : tie.Need-start-hat-requires-8
+start-hat-requires-8 c κs = search needs
 
--- After the hats the table is as long as before.
-long :
-    (c : tie.After-slice-known2)
-    → let w = c .before .before in
-    let t = w .before .before .before .args .table .now in
-    (length (w .write-hats .last .0) ≡ length t) × (headerLength ≤ length (w .write-hats .last .0))
-long c =
-    let w = c .before .before in
-    let a = w .before .before .before .args in
-    let kept = w .write-hats .kept .0
-    ∙ length-sets (a .table .now) 0 (a .slots ∷ a .tasks ∷ a .growth ∷ a .lanes ∷ 0 ∷ (a .tasks - 1) ∷ []) in
-    (kept, omega (arith, w .before .before .before .pre))
+sub-write : tie.Need-sub-write
+sub-write c = search needs
 
-slice-write-table-7 : tie.Need-slice-write-table-7
-slice-write-table-7 c = omega (arith, long c)
-
-slice-write-table-8 : tie.Need-slice-write-table-8
-slice-write-table-8 c = simp length-set (omega (arith, long c))
+write-requires : tie.Need-write-requires
+write-requires c κs = search needs
 
 same-length : tie.Need-same-length
-same-length c = simp length-set (long c .0)
+same-length c = search needs
 
 returns : tie.Need-returns
+unfolding ℕ-discrete
 returns c =
     let w = c .before .before in
-    let a = w .before .before .before .args in
-    header-written (a .slots) (a .tasks) (a .growth) (a .lanes) (a .table .now) (w .write-hats .ensures)
+    let h₈ = w .before .before .before in
+    let h₇ = h₈ .before in
+    let h₆ = h₇ .before in
+    let h₅ = h₆ .before in
+    let h₄ = h₅ .before in
+    let h₃ = h₄ .before in
+    let h₂ = h₃ .before in
+    let h₁ = h₂ .before in
+    let a = h₁ .before .before .args in
+    w .write .ensures
+    ∙ header-written (a .slots) (a .tasks) (a .growth) (a .lanes) (a .table .now)
+    (h₁ .start-hat .ensures) (h₂ .start-hat2 .ensures) (h₃ .start-hat3 .ensures) (h₄ .start-hat4 .ensures)
+    (h₅ .start-hat5 .ensures) (h₆ .start-hat6 .ensures) (h₇ .start-hat7 .ensures) (h₈ .start-hat8 .ensures)
 
 pub write-header-spec : {M : Type 1} → statement M
 write-header-spec =
     tie.close
     (tie.spec
-    slice-write-table
-    slice-write-table-2
-    slice-write-table-3
-    slice-write-table-4
-    slice-write-table-5
-    sub-table
-    slice-write-table-6
-    write-hats-requires
-    slice-write-table-7
-    slice-write-table-8
+    start-hat-requires
+    start-hat-requires-2
+    start-hat-requires-3
+    start-hat-requires-4
+    start-hat-requires-5
+    start-hat-requires-6
+    start-hat-requires-7
+    start-hat-requires-8
+    sub-write
+    write-requires
     same-length
     returns)
