@@ -6,6 +6,7 @@ use native.Mathlib.Omega.{arith}
 use lib.ListN.{length, take}
 use lib.Seq.{length-take-le}
 use borrow.Rule.Slice.PartMut.{mid-len}
+use Rattle.machine.specs.Table.{nodeLength}
 use Rattle.machine.proofs.Snapshots.RoundTrips.{has-nodes}
 use Rattle.table_layout.proofs.Laws.Views.{part-long}
 use Rattle.call_snapshot.specs.Contracts.{linksOk}
@@ -24,7 +25,7 @@ part-requires : tie.Need-part-requires
 part-requires c κs = let s = c .before .before in has-nodes (s .args .snapshot .now) (s .pre)
 
 -- Four columns of so many words.
-four : (c : tie.After-part) → length (c .part .result .now) ≡ 4 * c .before .slots .result
+four : (c : tie.After-part) → length (c .part .result .now) ≡ nodeLength * c .before .slots .result
 four c =
     let k = c .before in
     let s = k .before .before in
