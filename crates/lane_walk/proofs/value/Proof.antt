@@ -1,5 +1,6 @@
 -- `lane_walk::value` meets its contract: the nodes' part has the node's words.
 use mathlib.Core.Path.{_∙_}
+use borrow.Author.Needs.{needs}
 use Rattle.lane_walk.proofs.Laws.Nodes.{nodes-room, node-in-part, value-read}
 use Rattle.lane_walk.proofs.value.Statement.{statement}
 use Rattle.lane_walk.proofs.value.Tie as tie
