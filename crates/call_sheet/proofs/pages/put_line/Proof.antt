@@ -101,35 +101,35 @@ loop-holds c =
 value-requires : tie.Need-value-requires Inv-loop μ-loop
 value-requires c κs = (start (c .before) .pre .0 .0, is-node c)
 
+next-requires : tie.Need-next-requires Inv-loop μ-loop
+next-requires c κs =
+    let turn = c .before in
+    (start (turn .before) .pre .0 .0, is-node turn)
+
 cast-put-tag : tie.Need-cast-put-tag Inv-loop μ-loop
 cast-put-tag c = omega arith
 
 mul-put-tag : tie.Need-mul-put-tag Inv-loop μ-loop
-mul-put-tag c = omega (arith, room (c .before .before))
+mul-put-tag c = omega (arith, room (c .before .before .before))
 
 add-put-tag : tie.Need-add-put-tag Inv-loop μ-loop
-add-put-tag c = omega (arith, room (c .before .before))
+add-put-tag c = omega (arith, room (c .before .before .before))
 
 tag-digit-requires : tie.Need-tag-digit-requires Inv-loop μ-loop
-tag-digit-requires c κs = is-tag (c .before)
+tag-digit-requires c κs = is-tag (c .before .before)
 
 tag-low-requires : tie.Need-tag-low-requires Inv-loop μ-loop
-tag-low-requires c κs = is-tag (c .before .before)
+tag-low-requires c κs = is-tag (c .before .before .before)
 
 put-tag-requires : tie.Need-put-tag-requires Inv-loop μ-loop
 put-tag-requires c κs =
-    let v = c .before .before .before in
+    let v = c .before .before .before .before in
     let digit = c .before .tag-digit .ensures in
     let low = c .tag-low .ensures in (
       digit-fits refl (is-tag v) digit low,
       low-fits refl (is-tag v) digit low,
       room (v .before),
     )
-
-next-requires : tie.Need-next-requires Inv-loop μ-loop
-next-requires c κs =
-    let turn = c .before .before .before .before .before .before .before in
-    (start (turn .before) .pre .0 .0, is-node turn)
 
 add-c : tie.Need-add-c Inv-loop μ-loop
 add-c c = omega arith
@@ -139,10 +139,11 @@ loop-less c = omega arith
 
 loop-again : tie.Need-loop-again Inv-loop μ-loop
 loop-again c =
-    let put = c .before .before .before in
+    let put = c .before .before in
     let low = put .before in
     let digit = low .before in
-    let v = digit .before .before in
+    let gone = digit .before .before in
+    let v = gone .before in
     let turn = v .before in
     let at = turn .before in
     let l = at .loop in
@@ -151,7 +152,7 @@ loop-again c =
     let tag = words-tag (value-read v) (bag turn .is-tag) (digit .tag-digit .ensures) (low .tag-low .ensures) in (
       omega arith,
       put .put-tag .kept .0 ∙ l .inv .1,
-      c .next .ensures ∙ gone-on (table at) (l .c) (s .args .from) (l .inv .2),
+      gone .next .ensures ∙ gone-on (table at) (l .c) (s .args .from) (l .inv .2),
       tag-put (table at) (s .args .from) (s .args .left) (s .pre .0 .1) (l .c) (enough turn) few
           (blanked at .put-blank-line .last .0) (s .args .at) (l .inv .3) tag (put .put-tag .ensures),
     )
@@ -183,13 +184,13 @@ put-line-spec =
     on-line-requires
     loop-holds
     value-requires
+    next-requires
     cast-put-tag
     mul-put-tag
     add-put-tag
     tag-digit-requires
     tag-low-requires
     put-tag-requires
-    next-requires
     add-c
     loop-less
     loop-again
