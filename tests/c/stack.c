@@ -139,8 +139,8 @@ int main(void) {
         sprintf((char *)airlines + 27 * (code - 1), "(airline (code %03u) right)\n", code);
     }
     strcat((char *)airlines, "(others right)\n");
-    print("list_check", touched(check_list), 600);
-    print("push_by_list", touched(push_by_list), 600);
+    print("list_check", touched(check_list), 1600);
+    print("push_by_list", touched(push_by_list), 1600);
     print("window", touched(make_window), 600);
     print("feed", touched(feed), 600);
     if (failures > 0) {
