@@ -2,3 +2,4 @@ pub mod Right
 pub mod RightPasses
 pub mod Refuted
 pub mod SnapshotsRefuted
+pub mod SheetsRefuted

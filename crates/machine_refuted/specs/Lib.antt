@@ -5,3 +5,4 @@ pub mod WrongConsecutive
 pub mod Judged
 pub mod Lists
 pub mod WrongSnapshots
+pub mod WrongSheets

@@ -2,7 +2,7 @@
 use mathlib.Core.Path.{_≡_}
 use mathlib.Core.Bool.{Bool, true, false, _&&_}
 use mathlib.Core.List.{List, [], _∷_, _++_, map, reverse}
-use mathlib.Core.Option.{Option, some, none as nothing}
+use mathlib.Core.Option.{Option, some, none}
 use Prim.Native.Nat.{ℕ, zero, suc, _+_, _*_, _-_}
 use lib.Dec.{eqb}
 use lib.ListN.{length, take, drop, replicate}
@@ -139,7 +139,7 @@ judgedText text tags page =
 
 -- The first byte that is not the definition's.
 unfoldable pub firstOther : (text due : List ℕ) → (place : ℕ) → Option ℕ
-firstOther [] [] i = nothing
+firstOther [] [] i = none
 firstOther [] (d ∷ due) i = some i
 firstOther (b ∷ text) [] i = some i
 firstOther (b ∷ text) (d ∷ due) i =
@@ -176,7 +176,7 @@ expected e =
     record {
       right-by-promises = passes;
       wrong-by-promises = e .by-promises;
-      right-by-definition = nothing;
+      right-by-definition = none;
       wrong-by-definition = some (e .first-other);
     }
 

@@ -1,19 +1,26 @@
 // Two, four and ten digits of a number, with their zeros, put into a buffer.
 ghost use mathlib.Core.Path.{_≡_};
-ghost use Prim.Native.Nat.{_+_, _≤_, _<_};
+ghost use Prim.Native.Nat.{_+_, _/_, _≤_, _<_};
 ghost use lib.ListN.{length};
 ghost use lib.Seq.{sets};
 ghost use Rattle.tag.specs.Tags.{billion, tagOf};
 ghost use Rattle.text.specs.Numerals.{withZeros, tagText};
 
-// Two digits. The tens are had by a product, and both bytes by one number, 256 times the second and the first:
-// 256 * (48 + n - 10 * tens) + 48 + tens, as few products as may be. That is quicker than quotients and single bytes.
+// The tens of two digits, by a product: quicker than by a quotient.
+fn tens(n: u32) -> u32
+    requires { ⌜ n ≤ 99 ⌝ }
+    ensures { λ r. ⌜ r ≡ n / 10 ⌝ }
+{
+    n * 103 / 1_024
+}
+
+// Two digits. Both bytes are had by one number, 256 times the second and the first:
+// 256 * (48 + n - 10 * tens) + 48 + tens, as few products as may be.
 fn put_two(out: &mut [u8], at: usize, n: u32)
     requires { ⌜ (n ≤ 99) × (at + 2 ≤ length (now out)) ⌝ }
     ensures { λ _. ⌜ now (out .exit) ≡ sets (now (out .entry)) at (withZeros 2 n) ⌝ }
 {
-    let tens = n * 103 / 1_024;
-    let both = 256 * n + 12_336 - 2_559 * tens;
+    let both = 256 * n + 12_336 - 2_559 * tens(n);
     out[at] = (both % 256) as u8;
     out[at + 1] = (both / 256) as u8;
 }

@@ -65,12 +65,12 @@ both-bytes : (n t o both : ℕ) → t ≤ 9 → o ≤ 9 → n ≡ 10 * t + o →
     → (both % 256 ≡ 48 + t) × (both / 256 ≡ 48 + o)
 both-bytes n t o both h k e f = (omega arith, omega arith)
 
-pub two-stored : (out : List ℕ) (at n both : ℕ) → n ≤ 99 → both ≡ 256 * n + 12_336 - 2_559 * (n * 103 / 1_024)
+pub two-stored : (out : List ℕ) (at n tens both : ℕ) → n ≤ 99 → tens ≡ n / 10 → both ≡ 256 * n + 12_336 - 2_559 * tens
     → set (set out at (both % 256)) (at + 1) (both / 256) ≡ sets out at (withZeros 2 n)
 unfolding lastDigits
-two-stored out at n both h e =
-    let tens : n * 103 / 1_024 ≡ n / 10 % 10 = omega arith in
-    let two = both-bytes n (n / 10 % 10) (n % 10) both (omega arith) (omega arith) (omega arith) (e ∙ rw tens) in
+two-stored out at n tens both h t e =
+    let digit : tens ≡ n / 10 % 10 = omega arith in
+    let two = both-bytes n (n / 10 % 10) (n % 10) both (omega arith) (omega arith) (omega arith) (e ∙ rw digit) in
     rw (two .0, two .1, add-one)
 
 stored-after : (xs ys l : List ℕ) (at n : ℕ) → length xs ≡ n → sets (sets l at xs) (at + n) ys ≡ sets l at (xs ++ ys)

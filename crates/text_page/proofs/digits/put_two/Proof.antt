@@ -7,14 +7,14 @@ use Rattle.text_page.proofs.Laws.Digits.{two-stored}
 use Rattle.text_page.proofs.digits.put_two.Statement.{statement}
 use Rattle.text_page.proofs.digits.put_two.Tie as tie
 
-mul-tens : tie.Need-mul-tens
-mul-tens c = search needs
-
 mul-both : tie.Need-mul-both
 mul-both c = search needs
 
 add-both : tie.Need-add-both
 add-both c = search needs
+
+tens-requires : tie.Need-tens-requires
+tens-requires c κs = search needs
 
 mul-both-2 : tie.Need-mul-both-2
 mul-both-2 c = search needs
@@ -41,15 +41,17 @@ same-length : tie.Need-same-length
 same-length c = search needs
 
 returns : tie.Need-returns
-returns c = two-stored (c .args .out .now) (c .args .at) (c .args .n) _ (omega arith) refl
+returns c =
+    let a = c .before .before .args in
+    two-stored (a .out .now) (a .at) (a .n) (c .tens .result) _ (omega arith) (c .tens .ensures) refl
 
 pub put-two-spec : {M : Type 1} → statement M
 put-two-spec =
     tie.close
     (tie.spec
-    mul-tens
     mul-both
     add-both
+    tens-requires
     mul-both-2
     sub-both
     cast-out
