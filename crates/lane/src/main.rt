@@ -38,6 +38,13 @@ fn put(answers: &[u8]) -> bool {
     false
 }
 
+// Says on standard error where a read failed: its end is then not the input's.
+fn tell_failed_read(got: isize) {
+    if got < 0 {
+        io::write_all(STDERR_FILENO, b"lane: standard input cannot be read\n");
+    }
+}
+
 // Answers the lines of a chunk, and writes the answers.
 fn answer_chunk(
     chunk: &[u8],
@@ -77,7 +84,7 @@ fn answer_chunk(
     }
 }
 
-// Reads once, and answers what came before anything more is read. A read that fails ends the input.
+// Reads once, and answers what came before anything more is read. A read that fails ends the input too, and is told.
 fn turn(
     input: &mut [u8],
     space: &mut [u32],
@@ -97,6 +104,7 @@ fn turn(
     let got = libc::read(STDIN_FILENO, input);
     let n = io::count(got, input);
     if n == 0 {
+        tell_failed_read(got);
         let ended = finish(space, bags, text, numbers, carried, out);
         let carried = ended.carried;
         let end = ended.at;

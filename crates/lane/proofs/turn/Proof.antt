@@ -14,6 +14,9 @@ read-requires c κs = search needs
 count-requires : tie.Need-count-requires
 count-requires c κs = search needs
 
+tell-failed-read-requires : tie.Need-tell-failed-read-requires
+tell-failed-read-requires c κs = search needs
+
 finish-requires : tie.Need-finish-requires
 finish-requires c κs = search needs
 
@@ -75,6 +78,7 @@ turn-spec =
     (tie.spec
     read-requires
     count-requires
+    tell-failed-read-requires
     finish-requires
     slice-reshare-prefix-put
     slice-aggregate-put
