@@ -1,7 +1,7 @@
 -- What a walk along R finds: the bags ahead of a node, how many they are, and what a walk for a tag and one to a place
 -- answer.
 use mathlib.Core.List.{List}
-use mathlib.Core.Option.{Option, some, none as nothing, Option·map}
+use mathlib.Core.Option.{Option, some, none, Option·map}
 use Prim.Native.Nat.{ℕ, zero, suc, min}
 use lib.ListN.{length}
 use Rattle.machine.specs.Sides.{right}
@@ -22,7 +22,7 @@ countOf = Option·map length
 
 -- What the walk for bag n answers.
 abbrev pub walkOf : ℕ → Option (List ℕ) → Walk
-walkOf n nothing = NoEnd
+walkOf n none = NoEnd
 walkOf n (some bags) = Bags (length bags) (isAmong n bags)
 
 -- The node n links along R after node x.
@@ -32,5 +32,5 @@ nodeAfter ws (suc n) x = link ws right (nodeAfter ws n x)
 
 -- What the walk to a place answers, from a lane's first node.
 abbrev pub locatedOf : List ℕ → (place first : ℕ) → Option (List ℕ) → Located
-locatedOf ws place first nothing = Located-NoEnd
+locatedOf ws place first none = Located-NoEnd
 locatedOf ws place first (some bags) = Node (length bags) (nodeAfter ws (min place (length bags)) first)

@@ -4,13 +4,12 @@ use machine::Stored;
 use table_layout::header;
 use table_layout::nodes;
 use table_record::Task;
-use table_values::word_by_word;
 ghost use mathlib.Core.Path.{_≡_};
 ghost use Prim.Native.Nat.{_<_};
 ghost use mathlib.Core.Bool.{cond, _||_};
 ghost use lib.Dec.{leb, eqb};
 ghost use Rattle.machine.specs.Sides.{left, right};
-ghost use Rattle.machine.specs.Values.{number};
+ghost use Rattle.machine.specs.Values.{number, bagOk};
 ghost use Rattle.machine.specs.Table.{nodeCount, laneCount, hat, link, valueWords};
 ghost use Rattle.machine.specs.Shape.{WellFormed};
 ghost use Rattle.machine.specs.Calls.{lane};
@@ -35,7 +34,23 @@ pub fn value(table: &[u32], x: u32) -> Stored
     requires { ⌜ WellFormed (now table) × (x < nodeCount (now table)) ⌝ }
     ensures { λ r. ⌜ r ≡ valueWords (now (table .entry)) x ⌝ }
 {
-    word_by_word(nodes::value(nodes::part(table), x))
+    nodes::value(nodes::part(table), x)
+}
+
+// Whether a node holds a bag.
+fn holds_bag(table: &[u32], x: u32) -> bool
+    requires { ⌜ WellFormed (now table) × (x < nodeCount (now table)) ⌝ }
+    ensures { λ r. ⌜ r ≡ bagOk (valueWords (now (table .entry)) x) ⌝ }
+{
+    nodes::holds_bag(nodes::part(table), x)
+}
+
+// The number of a node's bag.
+fn bag(table: &[u32], x: u32) -> u64
+    requires { ⌜ WellFormed (now table) × (x < nodeCount (now table)) ⌝ }
+    ensures { λ r. ⌜ r ≡ number (valueWords (now (table .entry)) x) ⌝ }
+{
+    nodes::bag(nodes::part(table), x)
 }
 
 // The node after a node, or none.
@@ -55,13 +70,13 @@ pub fn first(table: &[u32], l: u32) -> u32
 }
 
 // Whether a bag is the one sought, or that was found before.
-fn found_now(found: bool, sought: u64, bag: Stored) -> bool
-    ensures { λ r. ⌜ r ≡ (found || eqb sought (number bag)) ⌝ }
+fn found_now(found: bool, sought: u64, bag: u64) -> bool
+    ensures { λ r. ⌜ r ≡ (found || eqb sought bag) ⌝ }
 {
     if found {
         return true;
     }
-    sought == table_values::number(bag)
+    sought == bag
 }
 
 // A lane walked for a tag that is sought. 01: link none before a slot without a bag, or S bags with no end.
@@ -77,11 +92,10 @@ pub fn seek(table: &[u32], l: u32, sought: u64) -> Walk
         if x == Task::NONE {
             return Walk::NoEnd;
         }
-        let v = value(table, x);
-        if !table_values::bag_ok(v) {
+        if !holds_bag(table, x) {
             return Walk::Bags(n, found);
         }
-        found = found_now(found, sought, v);
+        found = found_now(found, sought, bag(table, x));
         x = next(table, x);
         n += 1;
     }
@@ -113,7 +127,7 @@ pub fn locate(table: &[u32], l: u32, place: usize) -> Located
         if x == Task::NONE {
             return Located::NoEnd;
         }
-        if !table_values::bag_ok(value(table, x)) {
+        if !holds_bag(table, x) {
             return Located::Node(n, there);
         }
         x = next(table, x);

@@ -7,6 +7,7 @@ use machine::Stored;
 ghost use mathlib.Core.Path.{_≡_};
 ghost use Prim.Native.Nat.{_<_};
 ghost use Rattle.machine.specs.Sides.{sideOf};
+ghost use Rattle.machine.specs.Values.{number, bagOk};
 ghost use Rattle.machine.specs.Table.{nodePart};
 ghost use Rattle.table_layout.specs.Words.{HoldsNodes, HoldsNode, linkIn, setLinkIn, storedIn, setStoredIn, setNodeIn};
 
@@ -44,6 +45,24 @@ pub fn value(nodes: &[u32], x: u32) -> Stored
         word: nodes[at],
         digit: nodes[at + 1],
     }
+}
+
+// Whether node x holds a bag, and the tag's number; without a value between, the compiler reads the two words one by one and
+// does not take a word of 64 bits apart.
+pub fn holds_bag(nodes: &[u32], x: u32) -> bool
+    requires { ⌜ HoldsNode (now nodes) x ⌝ }
+    ensures { λ r. ⌜ r ≡ bagOk (storedIn (now (nodes .entry)) x) ⌝ }
+{
+    let at = NODE_WORDS * (x as usize) + VALUE;
+    tag::is_tag(nodes[at + 1], nodes[at])
+}
+
+pub fn bag(nodes: &[u32], x: u32) -> u64
+    requires { ⌜ HoldsNode (now nodes) x ⌝ }
+    ensures { λ r. ⌜ r ≡ number (storedIn (now (nodes .entry)) x) ⌝ }
+{
+    let at = NODE_WORDS * (x as usize) + VALUE;
+    tag::number(nodes[at + 1], nodes[at])
 }
 
 pub fn set_value(nodes: &mut [u32], x: u32, v: Stored)

@@ -172,13 +172,3 @@ pub fn y_of(side: u32) -> Stored
         side,
     )
 }
-
-// The same value, its words written out: the compiler then reads each by itself where it is tested.
-pub fn word_by_word(v: Stored) -> Stored
-    ensures { λ r. ⌜ r ≡ v ⌝ }
-{
-    Stored {
-        word: v.word,
-        digit: v.digit,
-    }
-}

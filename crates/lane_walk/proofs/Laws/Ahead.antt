@@ -3,12 +3,12 @@ use mathlib.Core.Path.{_≡_, refl, sym, ap, _∙_}
 use mathlib.Core.Logic.{_≢_}
 use mathlib.Core.Bool.{true}
 use mathlib.Core.List.{List, _∷_}
-use mathlib.Core.Option.{Option, some, none as nothing, Option·map}
+use mathlib.Core.Option.{Option, some, none, Option·map}
 use Prim.Native.Nat.{ℕ, zero, suc, _<_}
 use Rattle.machine.specs.Choice.{_≟_, _<?_}
 use Rattle.machine.specs.Sides.{left, right}
 use Rattle.machine.specs.Values.{Value, never, bag, N, X, Y, number, encode, decode, bagOk}
-use Rattle.machine.specs.Tasks.{none}
+use Rattle.machine.specs.Tasks.{noNode}
 use Rattle.machine.specs.Table.{nodeCount, hat, link, value, valueWords}
 use Rattle.machine.specs.Calls.{laneFrom, lane}
 use Rattle.machine.proofs.Basics.Choices.{if-yes, if-no}
@@ -29,7 +29,7 @@ value-more never more h = h
 value-more (bag b) {k} {l} {bags} more h = go k refl h
   where
     go : (r : Option (List ℕ)) → k ≡ r → Option·map (_∷_ b) r ≡ some bags → Option·map (_∷_ b) l ≡ some bags
-    go nothing e h = clash (cc)
+    go none e h = clash (cc)
     go (some r) e h = ap (Option·map (_∷_ b)) (more r e) ∙ h
 value-more (N s) more h = h
 value-more (X s) more h = h
@@ -37,9 +37,9 @@ value-more (Y s) more h = h
 
 node-more : (ws : List ℕ) (m x : ℕ) (bags : List ℕ) → laneFrom ws m x ≡ some bags → laneFrom ws (suc m) x ≡ some bags
 node-more ws zero x bags h = let e = no-turn ws 0 x refl in clash (cc)
-node-more ws (suc m) x bags h = go (x ≟ none) (node-more ws m (link ws right x))
+node-more ws (suc m) x bags h = go (x ≟ noNode) (node-more ws m (link ws right x))
   where
-    go : Dec (x ≡ none) → ((r : List ℕ) → after ws m x ≡ some r → after ws (suc m) x ≡ some r)
+    go : Dec (x ≡ noNode) → ((r : List ℕ) → after ws m x ≡ some r → after ws (suc m) x ≡ some r)
         → laneFrom ws (suc (suc m)) x ≡ some bags
     go (yes e) more = let z = no-node ws (suc m) x e in clash (cc)
     go (no node) more = at-node ws (suc m) x node ∙ value-more (value ws x) more (sym (at-node ws m x node) ∙ h)
@@ -69,7 +69,7 @@ module _ (ws : List ℕ) (x k : ℕ) where
           let z : never ≡ bag b = sym never-has-word ∙ ap decode (sym words) ∙ e in
           clash (cc)
 
-  bag-held : (m : ℕ) {b : ℕ} → x ≢ none → value ws x ≡ bag b → countOf (laneFrom ws (suc m) x) ≡ some (suc k)
+  bag-held : (m : ℕ) {b : ℕ} → x ≢ noNode → value ws x ≡ bag b → countOf (laneFrom ws (suc m) x) ≡ some (suc k)
       → BagAhead ws (suc m) x k
   bag-held m {b} node e counted = go (after ws m x) refl
     where
@@ -77,7 +77,7 @@ module _ (ws : List ℕ) (x k : ℕ) where
       here = at-node ws m x node ∙ ap (λ (v : Value). atValue v (after ws m x)) e
 
       go : (rest : Option (List ℕ)) → after ws m x ≡ rest → BagAhead ws (suc m) x k
-      go nothing f =
+      go none f =
           let z = ap countOf here ∙ ap (λ (l : Option (List ℕ)). countOf (Option·map (_∷_ b) l)) f in clash (cc)
       go (some bags) f =
           let z = ap countOf here ∙ ap (λ (l : Option (List ℕ)). countOf (Option·map (_∷_ b) l)) f in
@@ -92,9 +92,9 @@ module _ (ws : List ℕ) (x k : ℕ) where
 
   pub bag-ahead : (n : ℕ) → countOf (laneFrom ws n x) ≡ some (suc k) → BagAhead ws n x k
   bag-ahead zero h = let e = no-turn ws 0 x refl in clash (cc)
-  bag-ahead (suc m) h = go (x ≟ none)
+  bag-ahead (suc m) h = go (x ≟ noNode)
     where
-      at : x ≢ none → (v : Value) → value ws x ≡ v → BagAhead ws (suc m) x k
+      at : x ≢ noNode → (v : Value) → value ws x ≡ v → BagAhead ws (suc m) x k
       at node v e = by v e (at-node ws m x node ∙ ap (λ (v : Value). atValue v (after ws m x)) e)
         where
           by : (v : Value) → value ws x ≡ v → laneFrom ws (suc m) x ≡ atValue v (after ws m x) → BagAhead ws (suc m) x k
@@ -104,6 +104,6 @@ module _ (ws : List ℕ) (x k : ℕ) where
           by (X s) e f = let z = ap countOf f in clash (cc)
           by (Y s) e f = let z = ap countOf f in clash (cc)
 
-      go : Dec (x ≡ none) → BagAhead ws (suc m) x k
+      go : Dec (x ≡ noNode) → BagAhead ws (suc m) x k
       go (yes e) = let z = no-node ws (suc m) x e in clash (cc)
       go (no node) = at node (value ws x) refl

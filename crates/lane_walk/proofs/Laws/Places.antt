@@ -3,7 +3,7 @@ use mathlib.Core.Path.{_≡_, refl, sym, ap, _∙_}
 use mathlib.Core.Logic.{_≢_}
 use mathlib.Core.Bool.{true, false, cond}
 use mathlib.Core.List.{List, [], _∷_}
-use mathlib.Core.Option.{Option, some, none as nothing, Option·map}
+use mathlib.Core.Option.{Option, some, none, Option·map}
 use Prim.Native.Nat.{ℕ, zero, suc, _+_, _-_, _≤_, _<_, min}
 use native.Mathlib.Omega.{arith}
 use native.Mathlib.Numerals.{add-one}
@@ -16,7 +16,7 @@ use borrow.Author.Tests.{le-leb, lt-leb}
 use Rattle.machine.specs.Sides.{left, right}
 use Rattle.machine.specs.Choice.{_≟_}
 use Rattle.machine.specs.Values.{Value, never, bag, N, X, Y, number, bagOk}
-use Rattle.machine.specs.Tasks.{none}
+use Rattle.machine.specs.Tasks.{noNode}
 use Rattle.machine.specs.Table.{nodeCount, hat, link, value, valueWords}
 use Rattle.machine.specs.Calls.{laneFrom, lane}
 use Rattle.machine.proofs.Basics.Contradiction.{clash}
@@ -30,7 +30,7 @@ abbrev pub counted : ℕ → Option (List ℕ) → Option ℕ
 counted n l = Option·map (λ (bags : List ℕ). n + length bags) l
 
 one-counted : (n b : ℕ) (l : Option (List ℕ)) → counted (n + 1) l ≡ counted n (Option·map (_∷_ b) l)
-one-counted n b nothing = refl
+one-counted n b none = refl
 one-counted n b (some bags) =
     let e : n + 1 + length bags ≡ n + suc (length bags) = omega arith in
     ap some e
@@ -42,7 +42,7 @@ module _ (ws : List ℕ) where
   counting-begins l x first = rw (sub-zero (nodeCount ws), first) (go (lane ws l))
     where
       go : (l : Option (List ℕ)) → counted 0 l ≡ countOf l
-      go nothing = refl
+      go none = refl
       go (some bags) = ap some (zero-add (length bags))
 
   module _ (n x : ℕ) where
@@ -50,13 +50,13 @@ module _ (ws : List ℕ) where
     abbrev onward : Option ℕ
     onward = counted n (laneFrom ws (nodeCount ws - n) x)
 
-    pub counting-ends : nodeCount ws ≤ n → onward ≡ nothing
+    pub counting-ends : nodeCount ws ≤ n → onward ≡ none
     counting-ends h = ap (counted n) (no-turn ws (nodeCount ws - n) x (omega arith))
 
-    pub counting-at-none : x ≡ none → onward ≡ nothing
+    pub counting-at-none : x ≡ noNode → onward ≡ none
     counting-at-none e = ap (counted n) (no-node ws (nodeCount ws - n) x e)
 
-    module _ (turn : n < nodeCount ws) (node : x ≢ none) (is-node : x < nodeCount ws) where
+    module _ (turn : n < nodeCount ws) (node : x ≢ noNode) (is-node : x < nodeCount ws) where
       pub counting-at-no-bag : bagOk (valueWords ws x) ≡ false → onward ≡ some n
       counting-at-no-bag h =
           ap (counted n) (no-bag ws (nodeCount ws - n) (nodeCount ws - (n + 1)) x (omega arith) node is-node h)
@@ -97,13 +97,13 @@ module _ (ws : List ℕ) where
 
   -- ---- What the walk answers, by its count.
   module _ (place first : ℕ) where
-    pub located-nowhere : (l : Option (List ℕ)) → countOf l ≡ nothing → NoEnd ≡ locatedOf ws place first l
-    located-nowhere nothing h = refl
+    pub located-nowhere : (l : Option (List ℕ)) → countOf l ≡ none → NoEnd ≡ locatedOf ws place first l
+    located-nowhere none h = refl
     located-nowhere (some bags) h = clash (cc)
 
     pub located-there : (l : Option (List ℕ)) (n : ℕ) {there : ℕ} → countOf l ≡ some n
         → there ≡ nodeAfter ws (min place n) first → Node n there ≡ locatedOf ws place first l
-    located-there nothing n h had = clash (cc)
+    located-there none n h had = clash (cc)
     located-there (some bags) n h had = let e : length bags ≡ n = cc in rw (e, had)
 
 -- ---- The tags from a place on.
@@ -128,7 +128,7 @@ module _ (ws : List ℕ) (x : ℕ) (bags : List ℕ) where
       bag = bag-ahead ws y (length (drop (suc n) bags)) (nodeCount ws) (ap countOf here-first)
 
       go : (r : Option (List ℕ)) → after ws (nodeCount ws) y ≡ r → TagAt n
-      go nothing e =
+      go none e =
           let z = sym here-first ∙ bag .first-bag ∙ ap (Option·map (_∷_ (number (valueWords ws y)))) e in clash (cc)
       go (some r) e =
           let z = sym here-first ∙ bag .first-bag ∙ ap (Option·map (_∷_ (number (valueWords ws y)))) e in
@@ -146,7 +146,7 @@ module _ (ws : List ℕ) (x : ℕ) (bags : List ℕ) where
 -- ---- A walk that ends has no more bags than it goes through nodes.
 pub few-bags : (ws : List ℕ) (n x : ℕ) (bags : List ℕ) → laneFrom ws n x ≡ some bags → length bags ≤ n
 few-bags ws zero x bags h = let e = no-turn ws 0 x refl in clash (cc)
-few-bags ws (suc n) x bags h = go (x ≟ none) (few-bags ws n (link ws right x))
+few-bags ws (suc n) x bags h = go (x ≟ noNode) (few-bags ws n (link ws right x))
   where
     ended : some [] ≡ some bags → length bags ≤ suc n
     ended e = let z = ap countOf e in let y : 0 ≡ length bags = cc in omega arith
@@ -157,7 +157,7 @@ few-bags ws (suc n) x bags h = go (x ≟ none) (few-bags ws n (link ws right x))
     by (bag b) few e = on (after ws n x) refl
       where
         on : (r : Option (List ℕ)) → after ws n x ≡ r → length bags ≤ suc n
-        on nothing f = let z = ap (Option·map (_∷_ b)) (sym f) ∙ e in clash (cc)
+        on none f = let z = ap (Option·map (_∷_ b)) (sym f) ∙ e in clash (cc)
         on (some r) f =
             let z = ap countOf (ap (Option·map (_∷_ b)) (sym f) ∙ e) in
             let y : suc (length r) ≡ length bags = cc in
@@ -166,6 +166,6 @@ few-bags ws (suc n) x bags h = go (x ≟ none) (few-bags ws n (link ws right x))
     by (X s) few e = ended e
     by (Y s) few e = ended e
 
-    go : Dec (x ≡ none) → ((r : List ℕ) → after ws n x ≡ some r → length r ≤ n) → length bags ≤ suc n
+    go : Dec (x ≡ noNode) → ((r : List ℕ) → after ws n x ≡ some r → length r ≤ n) → length bags ≤ suc n
     go (yes e) few = let z = no-node ws (suc n) x e in clash (cc)
     go (no node) few = by (value ws x) few (sym (at-node ws n x node) ∙ h)

@@ -3,12 +3,12 @@ use mathlib.Core.Path.{_≡_, refl, ap, _∙_}
 use mathlib.Core.Logic.{_≢_}
 use mathlib.Core.Bool.{true, false}
 use mathlib.Core.List.{List, [], _∷_}
-use mathlib.Core.Option.{Option, some, none as nothing, Option·map}
+use mathlib.Core.Option.{Option, some, none, Option·map}
 use Prim.Native.Nat.{ℕ, zero, suc, _<_}
 use Rattle.machine.specs.Choice.{_<?_}
 use Rattle.machine.specs.Sides.{right}
 use Rattle.machine.specs.Values.{Value, never, bag, N, X, Y, number, encode, decode, bagOk}
-use Rattle.machine.specs.Tasks.{none}
+use Rattle.machine.specs.Tasks.{noNode}
 use Rattle.machine.specs.Table.{nodeCount, link, value, valueWords}
 use Rattle.machine.specs.Calls.{laneFrom}
 use Rattle.machine.proofs.Basics.Choices.{equal, unequal, if-yes}
@@ -32,22 +32,22 @@ module _ (ws : List ℕ) where
   after n x = laneFrom ws n (link ws right x)
 
   -- 01: S bags with no end.
-  pub no-turn : (m x : ℕ) → m ≡ 0 → laneFrom ws m x ≡ nothing
+  pub no-turn : (m x : ℕ) → m ≡ 0 → laneFrom ws m x ≡ none
   unfolding laneFrom
   no-turn m x e = rw e refl
 
   -- 01: link none before a slot without a bag.
-  pub no-node : (m x : ℕ) → x ≡ none → laneFrom ws m x ≡ nothing
+  pub no-node : (m x : ℕ) → x ≡ noNode → laneFrom ws m x ≡ none
   unfolding laneFrom
   no-node zero x e = refl
   no-node (suc m) x e = rw (equal e)
 
-  pub at-node : (m x : ℕ) → x ≢ none → laneFrom ws (suc m) x ≡ atValue (value ws x) (after m x)
+  pub at-node : (m x : ℕ) → x ≢ noNode → laneFrom ws (suc m) x ≡ atValue (value ws x) (after m x)
   unfolding laneFrom
   at-node m x node = rw (unequal node)
 
   -- By the words of its value.
-  module _ (m m′ x : ℕ) (turn : m ≡ suc m′) (node : x ≢ none) (is-node : x < nodeCount ws) where
+  module _ (m m′ x : ℕ) (turn : m ≡ suc m′) (node : x ≢ noNode) (is-node : x < nodeCount ws) where
     held : value ws x ≡ decode (valueWords ws x)
     unfolding value
     held = ap decode (if-yes (x <? nodeCount ws) (valueWords ws x) (encode never) is-node)

@@ -6,11 +6,8 @@ use Rattle.lane_walk.proofs.found_now.Tie as tie
 returns : tie.Need-returns
 returns c = search needs
 
-number-requires : tie.Need-number-requires
-number-requires c κs = search needs
-
 returns-2 : tie.Need-returns-2
-returns-2 c = rw (c .number .ensures, c .before .if1 .left)
+returns-2 c = rw (c .if1 .left)
 
 pub found-now-spec : {M : Type 1} → statement M
-found-now-spec = tie.close (tie.spec returns number-requires returns-2)
+found-now-spec = tie.close (tie.spec returns returns-2)

@@ -1,6 +1,6 @@
 -- `lane_walk::locate` meets its contract: the bags counted and those of the walk ahead are all, and the node of the place
 -- is had, or the last that was gone to.
-use mathlib.Core.Path.{_≡_, sym, ap, _∙_}
+use mathlib.Core.Path.{_≡_, sym, _∙_}
 use mathlib.Core.Bool.{Bool}
 use mathlib.Core.List.{List}
 use Prim.Native.Nat.{ℕ, _-_, _≤_, _<_, min}
@@ -62,9 +62,9 @@ node-there : (c : tie.Else1 Inv-loop μ-loop)
 node-there c = c .before .before .loop .inv .1 (c .if1 .left)
 
 -- What the test of its value tells.
-told : (c : tie.After-bag-ok Inv-loop μ-loop) {b : Bool} → c .bag-ok .result ≡ b
-    → let at = c .before .before .before .before in bagOk (valueWords (table at) (at .loop .x)) ≡ b
-told c h = ap bagOk (sym (c .before .value .ensures)) ∙ sym (c .bag-ok .ensures) ∙ h
+told : (c : tie.After-holds-bag Inv-loop μ-loop) {b : Bool} → c .holds-bag .result ≡ b
+    → let at = c .before .before .before in bagOk (valueWords (table at) (at .loop .x)) ≡ b
+told c h = sym (c .holds-bag .ensures) ∙ h
 
 slots-requires : tie.Need-slots-requires Inv-loop μ-loop
 slots-requires c κs = header-room (c .before .args .table .now) (c .before .pre .0)
@@ -91,19 +91,16 @@ returns c =
     located-nowhere (table at) (start at .args .place) (first-node at) (lane (table at) (start at .args .l))
     (sym (l .inv .4) ∙ counting-at-none (table at) (l .n) (l .x) (c .if1 .taken))
 
-value-requires : tie.Need-value-requires Inv-loop μ-loop
-value-requires c κs = (start (c .before .before) .pre .0, node-there c)
-
-bag-ok-requires : tie.Need-bag-ok-requires Inv-loop μ-loop
-bag-ok-requires c κs = search needs
+holds-bag-requires : tie.Need-holds-bag-requires Inv-loop μ-loop
+holds-bag-requires c κs = (start (c .before .before) .pre .0, node-there c)
 
 returns-2 : tie.Need-returns-2 Inv-loop μ-loop
 returns-2 c =
     let tested = c .before in
-    let node = tested .before .before in
+    let node = tested .before in
     let at = node .before .before in
     let l = at .loop in
-    let no-bag = told tested (not-true (tested .bag-ok .result) (c .if2 .taken)) in
+    let no-bag = told tested (not-true (tested .holds-bag .result) (c .if2 .taken)) in
     located-there (table at) (start at .args .place) (first-node at) (lane (table at) (start at .args .l)) (l .n)
     (sym (l .inv .4)
     ∙ counting-at-no-bag (table at) (l .n) (l .x) (omega (arith, all-nodes at)) (node .if1 .left) (node-there node) no-bag)
@@ -111,7 +108,7 @@ returns-2 c =
 
 next-requires : tie.Need-next-requires Inv-loop μ-loop
 next-requires c κs =
-    let node = c .before .before .before in
+    let node = c .before .before in
     (start (node .before .before) .pre .0, node-there node)
 
 add-n : tie.Need-add-n Inv-loop μ-loop
@@ -127,11 +124,11 @@ loop-again : tie.Need-loop-again Inv-loop μ-loop
 loop-again c =
     let gone = c .before in
     let tested = gone .before .before in
-    let node = tested .before .before in
+    let node = tested .before in
     let at = node .before .before in
     let l = at .loop in
     let ws = table at in
-    let bag = told tested (not-false (tested .bag-ok .result) (gone .before .if2 .left)) in
+    let bag = told tested (not-false (tested .holds-bag .result) (gone .before .if2 .left)) in
     let on = gone .next .ensures ∙ gone-on ws (l .n) (first-node at) (l .inv .2) in (
       omega (arith, all-nodes at),
       rw (gone .next .ensures) (next-in ws (start at .pre .0) (l .x)),
@@ -158,8 +155,7 @@ locate-spec =
     first-requires
     loop-holds
     returns
-    value-requires
-    bag-ok-requires
+    holds-bag-requires
     returns-2
     next-requires
     add-n

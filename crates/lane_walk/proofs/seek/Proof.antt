@@ -1,5 +1,5 @@
 -- `lane_walk::seek` meets its contract: the bags tallied and those of the walk ahead are those of the whole walk.
-use mathlib.Core.Path.{_≡_, sym, ap, _∙_}
+use mathlib.Core.Path.{_≡_, sym, _∙_}
 use mathlib.Core.Bool.{Bool}
 use mathlib.Core.List.{List}
 use Prim.Native.Nat.{ℕ, _-_, _≤_, _<_}
@@ -49,9 +49,9 @@ node-there : (c : tie.Else1 Inv-loop μ-loop)
 node-there c = c .before .before .loop .inv .1 (c .if1 .left)
 
 -- What the test of its value tells.
-told : (c : tie.After-bag-ok Inv-loop μ-loop) {b : Bool} → c .bag-ok .result ≡ b
-    → let at = c .before .before .before .before in bagOk (valueWords (table at) (at .loop .x)) ≡ b
-told c h = ap bagOk (sym (c .before .value .ensures)) ∙ sym (c .bag-ok .ensures) ∙ h
+told : (c : tie.After-holds-bag Inv-loop μ-loop) {b : Bool} → c .holds-bag .result ≡ b
+    → let at = c .before .before .before in bagOk (valueWords (table at) (at .loop .x)) ≡ b
+told c h = sym (c .holds-bag .ensures) ∙ h
 
 slots-requires : tie.Need-slots-requires Inv-loop μ-loop
 slots-requires c κs = header-room (c .before .args .table .now) (c .before .pre .0)
@@ -74,23 +74,25 @@ returns c =
     let l = at .loop in
     sym (count-at-none (table at) (start at .args .sought) (l .n) (l .x) (l .found) (c .if1 .taken)) ∙ l .inv .2
 
-value-requires : tie.Need-value-requires Inv-loop μ-loop
-value-requires c κs = (start (c .before .before) .pre .0, node-there c)
-
-bag-ok-requires : tie.Need-bag-ok-requires Inv-loop μ-loop
-bag-ok-requires c κs = search needs
+holds-bag-requires : tie.Need-holds-bag-requires Inv-loop μ-loop
+holds-bag-requires c κs = (start (c .before .before) .pre .0, node-there c)
 
 returns-2 : tie.Need-returns-2 Inv-loop μ-loop
 returns-2 c =
     let tested = c .before in
-    let node = tested .before .before in
+    let node = tested .before in
     let at = node .before .before in
     let l = at .loop in
-    let no-bag = told tested (not-true (tested .bag-ok .result) (c .if2 .taken)) in
+    let no-bag = told tested (not-true (tested .holds-bag .result) (c .if2 .taken)) in
     sym
     (count-at-no-bag (table at) (start at .args .sought) (l .n) (l .x) (l .found) (omega (arith, all-nodes at)) (node .if1 .left)
     (node-there node) no-bag)
     ∙ l .inv .2
+
+bag-requires : tie.Need-bag-requires Inv-loop μ-loop
+bag-requires c κs =
+    let node = c .before .before in
+    (start (node .before .before) .pre .0, node-there node)
 
 found-now-requires : tie.Need-found-now-requires Inv-loop μ-loop
 found-now-requires c κs = search needs
@@ -108,14 +110,15 @@ loop-less c = omega arith
 
 loop-again : tie.Need-loop-again Inv-loop μ-loop
 loop-again c =
-    let tested = c .before .before .before in
-    let node = tested .before .before in
+    let passed = c .before .before .before in
+    let tested = passed .before in
+    let node = tested .before in
     let at = node .before .before in
     let l = at .loop in
-    let bag = told tested (not-false (tested .bag-ok .result) (c .before .before .if2 .left)) in (
+    let bag = told tested (not-false (tested .holds-bag .result) (passed .if2 .left)) in (
       omega (arith, all-nodes at),
       rw (c .next .ensures) (next-in (table at) (start at .pre .0) (l .x)),
-      rw (c .next .ensures, c .before .found-now .ensures, tested .before .value .ensures)
+      rw (c .next .ensures, c .before .found-now .ensures, c .before .before .bag .ensures)
           (count-at-bag (table at) (start at .args .sought) (l .n) (l .x) (l .found) (omega (arith, all-nodes at)) (node .if1 .left)
           (node-there node) bag
           ∙ l .inv .2),
@@ -137,9 +140,9 @@ seek-spec =
     first-requires
     loop-holds
     returns
-    value-requires
-    bag-ok-requires
+    holds-bag-requires
     returns-2
+    bag-requires
     found-now-requires
     next-requires
     add-n

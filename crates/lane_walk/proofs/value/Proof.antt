@@ -13,17 +13,12 @@ value-requires c κs =
     let s = c .before .before in
     node-in-part (s .args .table .now) (s .pre .0) (c .part .ensures) (s .args .x) (s .pre .1)
 
-word-by-word-requires : tie.Need-word-by-word-requires
-word-by-word-requires c κs = search needs
-
 returns : tie.Need-returns
 returns c =
-    let v = c .before in
-    let p = v .before in
+    let p = c .before in
     let s = p .before .before in
-    c .word-by-word .ensures
-    ∙ v .value .ensures
+    c .value .ensures
     ∙ value-read (s .args .table .now) (s .pre .0) (p .part .ensures) (s .args .x) (s .pre .1)
 
 pub value-spec : {M : Type 1} → statement M
-value-spec = tie.close (tie.spec part-requires value-requires word-by-word-requires returns)
+value-spec = tie.close (tie.spec part-requires value-requires returns)
