@@ -39,9 +39,9 @@ unfoldable pub named : (code : ℕ) → List Entry → Bool
 named code [] = false
 named code (e ∷ es) = eqb code (e .code) || named code es
 
-abbrev pub none : List Form → Bool
-none [] = true
-none (form ∷ forms) = false
+abbrev pub noneLeft : List Form → Bool
+noneLeft [] = true
+noneLeft (form ∷ forms) = false
 
 -- 02: "1 to 64 lines with the closing one".
 abbrev pub mostLines : ℕ
@@ -56,9 +56,9 @@ judged n earlier (Neither ∷ forms) = faulty 27 n
 judged n earlier (Airline code end ∷ forms) =
     cond (ltb mostLines n) (faulty 27 n)
     (cond (named code earlier) (faulty 28 n)
-    (cond (none forms) (faulty 29 n) (judged (suc n) (earlier ++ (entry code end ∷ [])) forms)))
+    (cond (noneLeft forms) (faulty 29 n) (judged (suc n) (earlier ++ (entry code end ∷ [])) forms)))
 judged n earlier (Others end ∷ forms) =
-    cond (ltb mostLines n) (faulty 27 n) (cond (none forms) (says earlier end) (faulty 29 n))
+    cond (ltb mostLines n) (faulty 27 n) (cond (noneLeft forms) (says earlier end) (faulty 29 n))
 
 -- 02: "a line feed at the very end opens no further line": so does `linesOf` cut.
 unfoldable pub verdict : (list : List ℕ) → Verdict

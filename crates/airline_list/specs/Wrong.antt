@@ -24,7 +24,7 @@ use Rattle.airline_list.specs.Lists.{
   says,
   faulty,
   named,
-  none,
+  noneLeft,
   mostLines,
   verdict,
   endFor,
@@ -43,9 +43,9 @@ judgedBy again early n earlier (Neither ∷ forms) = faulty 27 n
 judgedBy again early n earlier (Airline code end ∷ forms) =
     cond (ltb mostLines n) (faulty 27 n)
     (cond (again code end earlier) (faulty 28 n)
-    (cond (none forms) (faulty 29 n) (judgedBy again early (suc n) (earlier ++ (entry code end ∷ [])) forms)))
+    (cond (noneLeft forms) (faulty 29 n) (judgedBy again early (suc n) (earlier ++ (entry code end ∷ [])) forms)))
 judgedBy again early n earlier (Others end ∷ forms) =
-    cond (ltb mostLines n) (faulty 27 n) (cond (none forms) (says earlier end) (early n earlier end))
+    cond (ltb mostLines n) (faulty 27 n) (cond (noneLeft forms) (says earlier end) (early n earlier end))
 
 abbrev pub namedBefore : (code : ℕ) (end : End) → List Entry → Bool
 namedBefore code end earlier = named code earlier

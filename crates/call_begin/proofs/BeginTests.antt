@@ -3,7 +3,7 @@ use mathlib.Core.Path.{_≡_, refl, sym, ap, _∙_}
 use mathlib.Core.Bool.{Bool, true, false, _&&_}
 use mathlib.Core.Logic.{_≢_}
 use mathlib.Core.List.{List, [], _∷_}
-use mathlib.Core.Option.{Option, some, none as nothing}
+use mathlib.Core.Option.{Option, some, none}
 use Prim.Native.Nat.{ℕ, _≤_, _<_}
 use native.Mathlib.Omega.{arith}
 use lib.Dec.{leb, ltb}
@@ -14,7 +14,7 @@ use Rattle.machine.specs.Sides.{sideOf}
 use Rattle.machine.specs.Values.{never, number, encode}
 use Rattle.machine.specs.Operations.{operationOf, argumentOk}
 use Rattle.machine.specs.Steps.{stepNumber, firstStep}
-use Rattle.machine.specs.Tasks.{none}
+use Rattle.machine.specs.Tasks.{noNode}
 use Rattle.machine.specs.Table.{taskCount, laneCount, recordWords, task, setTask}
 use Rattle.machine.specs.Shape.{WellFormed}
 use Rattle.machine.specs.Calls.{unless, isIdle, tableRefusal, twiceRefusal, callRefusal, beginRefusal, begunTask, begin}
@@ -45,7 +45,7 @@ begunOf l op st side u =
       argument = u;
       counted = 0;
       value = encode never;
-      registers = none ∷ none ∷ none ∷ none ∷ [];
+      registers = noNode ∷ noNode ∷ noNode ∷ noNode ∷ [];
       lane = l;
     }
 
@@ -70,22 +70,22 @@ module _ (ws : List ℕ) (k op side : ℕ) (argument : Stored) where
     call-7 h = rw (call, h)
 
     module _ (is-argument : argumentOk (operationOf op) argument ≡ true) {n : ℕ}
-        (is-number : n ≡ numberOf (twiceRefusal ws (operationOf op) (number argument) nothing)) where
+        (is-number : n ≡ numberOf (twiceRefusal ws (operationOf op) (number argument) none)) where
       pub call-twice : n ≢ 0 → n ≡ numberOf (callRefusal ws k op side argument)
       call-twice h =
-          let twice = twice-refused ws (number argument) (operationOf op) (unless (isIdle (task ws k .operation)) 8 nothing)
+          let twice = twice-refused ws (number argument) (operationOf op) (unless (isIdle (task ws k .operation)) 8 none)
           is-number h in
           rw (call, is-argument, twice)
 
       module _ (is-new : n ≡ 0) where
         new : (others : Option ℕ) → twiceRefusal ws (operationOf op) (number argument) others ≡ others
-        new others = twice-passed ws (number argument) (operationOf op) others nothing (sym is-number ∙ is-new)
+        new others = twice-passed ws (number argument) (operationOf op) others none (sym is-number ∙ is-new)
 
         pub call-8 : isIdle (task ws k .operation) ≡ false → 8 ≡ numberOf (callRefusal ws k op side argument)
-        call-8 h = rw (call, is-argument, new (unless (isIdle (task ws k .operation)) 8 nothing), h)
+        call-8 h = rw (call, is-argument, new (unless (isIdle (task ws k .operation)) 8 none), h)
 
         pub call-passes : isIdle (task ws k .operation) ≡ true → 0 ≡ numberOf (callRefusal ws k op side argument)
-        call-passes h = rw (call, is-argument, new (unless (isIdle (task ws k .operation)) 8 nothing), h)
+        call-passes h = rw (call, is-argument, new (unless (isIdle (task ws k .operation)) 8 none), h)
 
   -- With the number 0 all of them passed.
   none-at-0 : NoneAt0 (callRefusal ws k op side argument)
@@ -93,12 +93,12 @@ module _ (ws : List ℕ) (k op side : ℕ) (argument : Stored) where
       none-due (callOk op side) (λ e. absurd (omega (arith, e)))
       (none-due (argumentOk (operationOf op) argument) (λ e. absurd (omega (arith, e)))
       (λ e.
-      let passed = twice-passed ws (number argument) (operationOf op) (unless (isIdle (task ws k .operation)) 8 nothing)
-      (unless (isIdle (task ws k .operation)) 8 nothing) e in
+      let passed = twice-passed ws (number argument) (operationOf op) (unless (isIdle (task ws k .operation)) 8 none)
+      (unless (isIdle (task ws k .operation)) 8 none) e in
       passed ∙ none-due (isIdle (task ws k .operation)) (λ e. absurd (omega (arith, e))) (λ _. refl) (ap numberOf (sym passed) ∙ e)))
 
   module _ {n : ℕ} (is-number : n ≡ numberOf (callRefusal ws k op side argument)) where
-    none-refused : n ≡ 0 → callRefusal ws k op side argument ≡ nothing
+    none-refused : n ≡ 0 → callRefusal ws k op side argument ≡ none
     none-refused e = none-at-0 (sym is-number ∙ e)
 
     call-passed : n ≡ 0 → callOk op side ≡ true
@@ -114,7 +114,7 @@ module _ (ws : List ℕ) (k op side : ℕ) (argument : Stored) where
     argument-passed e = let all = none-refused e in search (test-passed, tests-left)
 
 -- ---- Refusals 3 and 4 by their number.
-module _ (ws : List ℕ) {n : ℕ} (is-number : n ≡ numberOf (tableRefusal ws nothing))
+module _ (ws : List ℕ) {n : ℕ} (is-number : n ≡ numberOf (tableRefusal ws none))
     (k l op side : ℕ) (argument : Stored) where
   stopped : beginRefusal ws k l op side argument ≡ some n → changedOf (Refused n) ws ≡ begin ws k l op side argument
   unfolding begin

@@ -3,7 +3,7 @@ use mathlib.Core.Path.{_≡_, refl, sym, ap, _∙_}
 use mathlib.Core.Bool.{Bool, true, false, not, _&&_, _||_}
 use mathlib.Core.Logic.{_≢_, _⊎_, inl, inr}
 use mathlib.Core.List.{List, [], _∷_, _++_}
-use mathlib.Core.Option.{Option, some, none as nothing, Option·map, bind}
+use mathlib.Core.Option.{Option, some, none, Option·map, bind}
 use Prim.Native.Nat.{ℕ, zero, suc, _+_, _-_, _<_}
 use native.Mathlib.Omega.{arith}
 use native.Mathlib.Decide.{ℕ-discrete}
@@ -73,12 +73,12 @@ module _ (ws : List ℕ) (n k : ℕ) where
 -- ---- One lane: what its walk says.
 module _ (n : ℕ) where
   pub stands-no-end : (bags : Option (List ℕ)) → walkOf n bags ≡ NoEnd → 11 ≡ standing n bags
-  stands-no-end nothing h = refl
+  stands-no-end none h = refl
   stands-no-end (some bags) h = clash (cc)
 
   pub stands-walked :
       (bags : Option (List ℕ)) (m : ℕ) {b : Bool} → walkOf n bags ≡ Bags m b → twiceSeen b ≡ standing n bags
-  stands-walked nothing m {b} h = clash (cc)
+  stands-walked none m {b} h = clash (cc)
   stands-walked (some bags) m {b} h = let e : isAmong n bags ≡ b = cc in rw e
 
   -- ---- Two lots of lanes, one after the other.
@@ -104,8 +104,8 @@ module _ (n : ℕ) where
       (xs ys : Option (List ℕ))
       → firstOf (standing n xs) (standing n ys) ≡ standing n (bind xs (λ before. Option·map (_++_ before) ys))
   unfolding bind
-  stands-both nothing ys = refl
-  stands-both (some xs) nothing = first-no-end (isAmong n xs)
+  stands-both none ys = refl
+  stands-both (some xs) none = first-no-end (isAmong n xs)
   stands-both (some xs) (some ys) = first-of-both (isAmong n xs) (isAmong n ys) ∙ rw (among-both xs ys)
 
 -- ---- The loop over the lanes: l are walked.
@@ -135,14 +135,14 @@ no-end-stays ws n l (suc more) e =
 -- ---- The number of the refusal, by what the lanes and the tasks say.
 module _ (ws : List ℕ) (n : ℕ) where
   in-lanes :
-      (bags : Option (List ℕ)) → standing n bags ≢ 0 → standing n bags ≡ numberOf (seenRefusal ws n bags nothing)
-  in-lanes nothing h = refl
+      (bags : Option (List ℕ)) → standing n bags ≢ 0 → standing n bags ≡ numberOf (seenRefusal ws n bags none)
+  in-lanes none h = refl
   in-lanes (some bags) h = go (isAmong n bags) h
     where
       go :
           (b : Bool)
           → twiceSeen b ≢ 0
-          → twiceSeen b ≡ numberOf (unless (not (b || isBegun ws (taskCount ws) n)) 16 nothing)
+          → twiceSeen b ≡ numberOf (unless (not (b || isBegun ws (taskCount ws) n)) 16 none)
       go true h = refl
       go false h = absurd (h refl)
 
@@ -150,26 +150,26 @@ module _ (ws : List ℕ) (n : ℕ) where
       (bags : Option (List ℕ)) (b : Bool)
       → standing n bags ≡ 0
       → isBegun ws (taskCount ws) n ≡ b
-      → numberOf (unless (not b) 16 nothing) ≡ numberOf (seenRefusal ws n bags nothing)
-  by-tasks nothing b h e = absurd (omega (arith, h))
+      → numberOf (unless (not b) 16 none) ≡ numberOf (seenRefusal ws n bags none)
+  by-tasks none b h e = absurd (omega (arith, h))
   by-tasks (some bags) b h e = go (isAmong n bags) h
     where
       go :
           (a : Bool)
           → twiceSeen a ≡ 0
-          → numberOf (unless (not b) 16 nothing) ≡ numberOf (unless (not (a || isBegun ws (taskCount ws) n)) 16 nothing)
+          → numberOf (unless (not b) 16 none) ≡ numberOf (unless (not (a || isBegun ws (taskCount ws) n)) 16 none)
       go true h = absurd (omega (arith, h))
       go false h = rw e
 
   module _ (bags : Option (List ℕ)) {r : ℕ} (is-number : r ≡ standing n bags) where
-    pub seen-standing : r ≢ 0 → r ≡ numberOf (seenRefusal ws n bags nothing)
+    pub seen-standing : r ≢ 0 → r ≡ numberOf (seenRefusal ws n bags none)
     seen-standing h = is-number ∙ in-lanes bags (λ e. h (is-number ∙ e))
 
     module _ (not-standing : r ≡ 0) where
-      pub seen-begun : isBegun ws (taskCount ws) n ≡ true → 16 ≡ numberOf (seenRefusal ws n bags nothing)
+      pub seen-begun : isBegun ws (taskCount ws) n ≡ true → 16 ≡ numberOf (seenRefusal ws n bags none)
       seen-begun h = by-tasks bags true (sym is-number ∙ not-standing) h
 
-      pub seen-new : isBegun ws (taskCount ws) n ≡ false → 0 ≡ numberOf (seenRefusal ws n bags nothing)
+      pub seen-new : isBegun ws (taskCount ws) n ≡ false → 0 ≡ numberOf (seenRefusal ws n bags none)
       seen-new h = by-tasks bags false (sym is-number ∙ not-standing) h
 
   -- ---- Only a push is refused.
@@ -181,13 +181,13 @@ module _ (ws : List ℕ) (n : ℕ) where
   no-push remove h others = refl
 
   module _ (operation : ℕ) where
-    pub twice-other : operation ≢ 1 → 0 ≡ numberOf (twiceRefusal ws (operationOf operation) n nothing)
-    twice-other h = sym (ap numberOf (no-push (operationOf operation) (other-number operation h) nothing))
+    pub twice-other : operation ≢ 1 → 0 ≡ numberOf (twiceRefusal ws (operationOf operation) n none)
+    twice-other h = sym (ap numberOf (no-push (operationOf operation) (other-number operation h) none))
 
     pub twice-push :
         operation ≡ 1
-        → numberOf (seenRefusal ws n (allLanes ws) nothing)
-        ≡ numberOf (twiceRefusal ws (operationOf operation) n nothing)
+        → numberOf (seenRefusal ws n (allLanes ws) none)
+        ≡ numberOf (twiceRefusal ws (operationOf operation) n none)
     twice-push e = rw (push-number operation e)
 
   -- ---- By its number the refusal is known, and that there is none. Each of these tests leaves all to the tests after it,
@@ -196,7 +196,7 @@ module _ (ws : List ℕ) (n : ℕ) where
   Test f = ((others : Option ℕ) → f others ≡ others) ⊎ ((m : ℕ) × (m ≢ 0) × ((others : Option ℕ) → f others ≡ some m))
 
   seen-test : (l : Option (List ℕ)) → Test (seenRefusal ws n l)
-  seen-test nothing = inr (11, λ e. absurd (omega (arith, e)), λ _. refl)
+  seen-test none = inr (11, λ e. absurd (omega (arith, e)), λ _. refl)
   seen-test (some bags) = go (not (isAmong n bags || isBegun ws (taskCount ws) n))
     where
       go : (b : Bool) → Test (unless b 16)
@@ -212,12 +212,12 @@ module _ (ws : List ℕ) (n : ℕ) where
 
   module _ (op : Operation) (others : Option ℕ) where
     pub twice-refused :
-        {r : ℕ} → r ≡ numberOf (twiceRefusal ws op n nothing) → r ≢ 0 → twiceRefusal ws op n others ≡ some r
+        {r : ℕ} → r ≡ numberOf (twiceRefusal ws op n none) → r ≢ 0 → twiceRefusal ws op n others ≡ some r
     twice-refused {r} is-number h = go (twice-test op)
       where
         go : Test (twiceRefusal ws op n) → twiceRefusal ws op n others ≡ some r
-        go (inl passes) = absurd (h (is-number ∙ ap numberOf (passes nothing)))
-        go (inr (m, _, refuses)) = refuses others ∙ ap some (sym (is-number ∙ ap numberOf (refuses nothing)))
+        go (inl passes) = absurd (h (is-number ∙ ap numberOf (passes none)))
+        go (inr (m, _, refuses)) = refuses others ∙ ap some (sym (is-number ∙ ap numberOf (refuses none)))
 
     pub twice-passed : (later : Option ℕ) → numberOf (twiceRefusal ws op n later) ≡ 0 → twiceRefusal ws op n others ≡ others
     twice-passed later e = go (twice-test op)

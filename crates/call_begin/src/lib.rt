@@ -11,7 +11,7 @@ use table_record::Task;
 use table_shape::table_refusal;
 ghost use mathlib.Core.Path.{_≡_};
 ghost use mathlib.Core.Bool.{true, _&&_};
-ghost use mathlib.Core.Option.{none as nothing};
+ghost use mathlib.Core.Option.{none};
 ghost use mathlib.Core.List.{List};
 ghost use Prim.Native.Nat.{ℕ, _≤_, _<_};
 ghost use lib.Dec.{leb};
@@ -162,7 +162,7 @@ fn stands_in_any(table: &[u32], tag: u64) -> u32
 fn seen_refusal(table: &[u32], k: u32, own: Task, tag: u64) -> u32
     requires { ⌜ WellFormed (now table) ⌝ }
     ensures { λ r. ⌜ ((ws : List ℕ) → WithOwn (now (table .entry)) k own ws
-        → r ≡ numberOf (seenRefusal ws tag (allLanes ws) nothing)) ⌝ }
+        → r ≡ numberOf (seenRefusal ws tag (allLanes ws) none)) ⌝ }
 {
     let says = stands_in_any(table, tag);
     if says != 0 {
@@ -178,7 +178,7 @@ fn seen_refusal(table: &[u32], k: u32, own: Task, tag: u64) -> u32
 fn twice_refusal(table: &[u32], k: u32, own: Task, operation: u32, argument: Stored) -> u32
     requires { ⌜ WellFormed (now table) ⌝ }
     ensures { λ r. ⌜ ((ws : List ℕ) → WithOwn (now (table .entry)) k own ws
-        → r ≡ numberOf (twiceRefusal ws (operationOf operation) (number argument) nothing)) ⌝ }
+        → r ≡ numberOf (twiceRefusal ws (operationOf operation) (number argument) none)) ⌝ }
 {
     if operation != Task::PUSH {
         return 0;

@@ -3,7 +3,7 @@ use mathlib.Core.Path.{_≡_, refl, sym, ap, _∙_, subst}
 use mathlib.Core.Bool.{true, false}
 use mathlib.Core.Logic.{_≢_}
 use mathlib.Core.List.{List}
-use mathlib.Core.Option.{none as nothing}
+use mathlib.Core.Option.{none}
 use Prim.Native.Nat.{ℕ, zero, suc, _<_}
 use Rattle.machine.specs.declared.Answer.the-variants.{Going, Refused}
 use Rattle.machine.specs.declared.Dispatch.{Dispatch}
@@ -24,17 +24,17 @@ use Rattle.call_dispatch.proofs.DispatchRefusals.{
   hint-passed,
 }
 
-module _ (ws : List ℕ) (h : ℕ) (passed : dispatchRefusal ws h ≡ nothing) {d : Dispatch} {vs : List ℕ}
+module _ (ws : List ℕ) (h : ℕ) (passed : dispatchRefusal ws h ≡ none) {d : Dispatch} {vs : List ℕ}
     (done : dispatchedOf d vs ≡ dispatchOn ws h) where
   is-dispatch : dispatchedOf d vs ≡ dispatch ws h
   is-dispatch = done ∙ dispatch-on ws h passed
 
   -- A dispatch leaves a table and sizes that pass the tests again.
-  pub still-passed : dispatchRefusal vs h ≡ nothing
+  pub still-passed : dispatchRefusal vs h ≡ none
   still-passed =
       let A = table-passed ws h passed in
       let same-nodes = ap (λ z. z .nodeCount) (dispatch-same-sizes ws A h) in
-      subst (λ (r : Dispatched). dispatchRefusal (r .words) h ≡ nothing) (sym is-dispatch)
+      subst (λ (r : Dispatched). dispatchRefusal (r .words) h ≡ none) (sym is-dispatch)
       (passes (dispatch ws h .words) (call-accepted ws A (dispatch-call h)) h
       (subst (λ (n : ℕ). h < n) (sym same-nodes) (hint-passed ws h passed)))
 

@@ -2,7 +2,7 @@
 use mathlib.Core.Path.{_≡_, refl, sym, ap, _∙_}
 use mathlib.Core.Logic.{_≢_}
 use mathlib.Core.List.{List}
-use mathlib.Core.Option.{none as nothing}
+use mathlib.Core.Option.{none}
 use Prim.Native.Nat.{ℕ, _≤_, _<_}
 use native.Mathlib.Omega.{arith}
 use lib.Dec.{ltb}
@@ -19,9 +19,9 @@ use Rattle.answers.proofs.Laws.Refusals.{due, none-due}
 use Rattle.table_shape.proofs.Laws.PassedTable.{refused}
 
 -- ---- The number, test by test.
-pub is-3-or-4 : (ws : List ℕ) {n : ℕ} → n ≡ numberOf (tableRefusal ws nothing) → n ≢ 0 → (h : ℕ)
+pub is-3-or-4 : (ws : List ℕ) {n : ℕ} → n ≡ numberOf (tableRefusal ws none) → n ≢ 0 → (h : ℕ)
     → n ≡ numberOf (dispatchRefusal ws h)
-is-3-or-4 ws is-number r h = sym (ap numberOf (refused ws is-number r (unless (ltb h (nodeCount ws)) 9 nothing)))
+is-3-or-4 ws is-number r h = sym (ap numberOf (refused ws is-number r (unless (ltb h (nodeCount ws)) 9 none)))
 
 module _ (ws : List ℕ) (P : WellFormed ws) (h : ℕ) where
   pub is-9 : nodeCount ws ≤ h → 9 ≡ numberOf (dispatchRefusal ws h)
@@ -30,7 +30,7 @@ module _ (ws : List ℕ) (P : WellFormed ws) (h : ℕ) where
   pub is-none : h < nodeCount ws → 0 ≡ numberOf (dispatchRefusal ws h)
   is-none b = rw (P .length-passes, P .shape-passes, lt-ltb h (nodeCount ws) b)
 
-  pub passes : h < nodeCount ws → dispatchRefusal ws h ≡ nothing
+  pub passes : h < nodeCount ws → dispatchRefusal ws h ≡ none
   passes b = rw (P .length-passes, P .shape-passes, lt-ltb h (nodeCount ws) b)
 
 -- ---- What the number says.
@@ -40,14 +40,14 @@ module _ (ws : List ℕ) (h : ℕ) where
   unfolding dispatch
   dispatch-refused is-number r = rw (due (dispatchRefusal ws h) is-number r, dispatch)
 
-  pub none-refused : {n : ℕ} → n ≡ numberOf (dispatchRefusal ws h) → n ≡ 0 → dispatchRefusal ws h ≡ nothing
+  pub none-refused : {n : ℕ} → n ≡ numberOf (dispatchRefusal ws h) → n ≡ 0 → dispatchRefusal ws h ≡ none
   none-refused is-number e =
       none-due (lengthOk ws) (λ e. absurd (omega (arith, e)))
       (none-due (shapeOk ws) (λ e. absurd (omega (arith, e)))
       (none-due (ltb h (nodeCount ws)) (λ e. absurd (omega (arith, e))) (λ _. refl)))
       (sym is-number ∙ e)
 
-  module _ (passed : dispatchRefusal ws h ≡ nothing) where
+  module _ (passed : dispatchRefusal ws h ≡ none) where
     pub dispatch-on : dispatchOn ws h ≡ dispatch ws h
     unfolding dispatch
     dispatch-on = rw (passed, dispatch)

@@ -3,7 +3,7 @@ use mathlib.Core.Path.{_≡_, refl, sym, ap, _∙_}
 use mathlib.Core.Bool.{Bool, true, false, not}
 use mathlib.Core.Logic.{_≢_}
 use mathlib.Core.List.{List}
-use mathlib.Core.Option.{Option, some, none as nothing}
+use mathlib.Core.Option.{Option, some, none}
 use Prim.Native.Nat.{ℕ, suc, _-_, _≤_, _<_}
 use native.Mathlib.Omega.{arith}
 use Rattle.machine.specs.declared.Answer.{Answer}
@@ -87,11 +87,11 @@ module _ (ws : List ℕ) (P : WellFormed ws) where
       first-below T (isBusyTask ws) T (following T (dispatched ws)) (following-below T (dispatched ws) last-is-task) e
 
   module _ {k : ℕ} (chosen : k ≡ taskOr (taskCount ws) (nextBusy ws)) where
-    pub none-busy : k ≡ taskCount ws → nextBusy ws ≡ nothing
+    pub none-busy : k ≡ taskCount ws → nextBusy ws ≡ none
     none-busy e = go (nextBusy ws) refl
       where
-        go : (o : Option ℕ) → nextBusy ws ≡ o → nextBusy ws ≡ nothing
-        go nothing q = q
+        go : (o : Option ℕ) → nextBusy ws ≡ o → nextBusy ws ≡ none
+        go none q = q
         go (some j) q =
             let same : k ≡ j = chosen ∙ ap (taskOr (taskCount ws)) q in absurd (omega (arith, chosen-is-task q))
 
@@ -99,7 +99,7 @@ module _ (ws : List ℕ) (P : WellFormed ws) where
     one-busy ne = go (nextBusy ws) refl
       where
         go : (o : Option ℕ) → nextBusy ws ≡ o → nextBusy ws ≡ some k
-        go nothing q = absurd (ne (chosen ∙ ap (taskOr (taskCount ws)) q))
+        go none q = absurd (ne (chosen ∙ ap (taskOr (taskCount ws)) q))
         go (some j) q = q ∙ ap some (sym (chosen ∙ ap (taskOr (taskCount ws)) q))
 
 -- ---- The tick of the task chosen.
@@ -122,7 +122,7 @@ module _ (ws : List ℕ) (k h : ℕ) (a : Answer) (vs : List ℕ) (ticked : tick
 
 -- ---- What follows the choice.
 module _ (ws : List ℕ) (h : ℕ) where
-  pub on-idle : nextBusy ws ≡ nothing → dispatchedOf Idle ws ≡ dispatchOn ws h
+  pub on-idle : nextBusy ws ≡ none → dispatchedOf Idle ws ≡ dispatchOn ws h
   unfolding dispatchOn
   on-idle e = rw (e, dispatchOn)
 

@@ -2,7 +2,7 @@
 use mathlib.Core.Path.{_≡_}
 use mathlib.Core.Bool.{cond}
 use mathlib.Core.List.{List, [], _∷_, map}
-use mathlib.Core.Option.{Option, some, none as nothing}
+use mathlib.Core.Option.{Option, some, none}
 use Prim.Native.Nat.{ℕ}
 use Rattle.machine.specs.declared.Reply.the-variants.{Accepted, Refused}
 use Rattle.machine.specs.declared.Stored.{Stored}
@@ -25,10 +25,10 @@ Pusher = (list ws : List ℕ) (k lane : ℕ) (argument : Stored) → PushedByLis
 -- 3 and 4 are tested before the list.
 abbrev refusedFirst : Option ℕ → Pusher
 refusedFirst (some n) list ws k l argument = repliedOf (Replied (Refused n)) ws
-refusedFirst nothing list ws k l argument = pushByList list ws k l argument
+refusedFirst none list ws k l argument = pushByList list ws k l argument
 
 abbrev tableFirst : Pusher
-tableFirst list ws k l argument = refusedFirst (tableRefusal ws nothing) list ws k l argument
+tableFirst list ws k l argument = refusedFirst (tableRefusal ws none) list ws k l argument
 
 -- 7 is tested before the list.
 abbrev tagFirst : Pusher

@@ -3,7 +3,7 @@ use mathlib.Core.Path.{_≡_, refl, sym, ap, _∙_}
 use mathlib.Core.Logic.{_≢_}
 use mathlib.Core.Bool.{Bool}
 use mathlib.Core.List.{List, [], _∷_, _++_, append-assoc}
-use mathlib.Core.Option.{Option, some, none as nothing, Option·map}
+use mathlib.Core.Option.{Option, some, none, Option·map}
 use Prim.Native.Nat.{ℕ, suc, _+_, _*_, _≤_, _<_}
 use native.Mathlib.Omega.{arith}
 use lib.Dec.{ltb}
@@ -35,7 +35,7 @@ drop-next n i out =
 pub one-written : (i w k : ℕ) (l : Option (List ℕ)) (out : List ℕ) → countOf l ≡ some k → 2 * i + 2 ≤ length out
     → written (i + 1) l (sets out (2 * i) (tagWords w)) ≡ written i (Option·map (_∷_ w) l) out
 unfolding allTagWords
-one-written i w k nothing out h b = clash (cc)
+one-written i w k none out h b = clash (cc)
 one-written i w k (some bags) out h b =
     let n = length bags in
     let s : 2 * (i + 1) ≡ 2 * i + 2 = omega arith in
@@ -44,15 +44,15 @@ one-written i w k (some bags) out h b =
 
 pub write-ends : (i : ℕ) (l : Option (List ℕ)) (out : List ℕ) → countOf l ≡ some 0 → written i l out ≡ out
 unfolding allTagWords
-write-ends i nothing out h = clash (cc)
+write-ends i none out h = clash (cc)
 write-ends i (some []) out h = take-append-drop (2 * i) out
 write-ends i (some (b ∷ bags)) out h = clash (cc)
 
 -- ---- Refusals 3 and 4 by their number.
-module _ (ws : List ℕ) {n : ℕ} (is-number : n ≡ numberOf (tableRefusal ws nothing)) (l : ℕ) (out : List ℕ) where
+module _ (ws : List ℕ) {n : ℕ} (is-number : n ≡ numberOf (tableRefusal ws none)) (l : ℕ) (out : List ℕ) where
   pub read-refused : n ≢ 0 → readOf (Refused n) out ≡ read ws l out
   unfolding read
-  read-refused h = rw (refused ws is-number h (unless (ltb l (laneCount ws)) 26 nothing), read)
+  read-refused h = rw (refused ws is-number h (unless (ltb l (laneCount ws)) 26 none), read)
 
   pub read-no-lane : n ≡ 0 → laneCount ws ≤ l → readOf (Refused 26) out ≡ read ws l out
   unfolding read
@@ -67,14 +67,14 @@ module _ (ws : List ℕ) {n : ℕ} (is-number : n ≡ numberOf (tableRefusal ws 
 -- ---- What the walk says of its count.
 pub bags-counted :
     (w : ℕ) (l : Option (List ℕ)) (n : ℕ) (found : Bool) → walkOf w l ≡ Bags n found → countOf l ≡ some n
-bags-counted w nothing n found h = clash (cc)
+bags-counted w none n found h = clash (cc)
 bags-counted w (some bags) n found h = cc
 
 -- ---- What the read answers, by what the walk does.
 module _ (w : ℕ) (out : List ℕ) where
   pub read-no-end : (l : Option (List ℕ)) → walkOf w l ≡ NoEnd → readOf (Refused 11) out ≡ readInto l out
   unfolding readInto
-  read-no-end nothing h = refl
+  read-no-end none h = refl
   read-no-end (some bags) h = clash (cc)
 
   pub read-short :
@@ -83,7 +83,7 @@ module _ (w : ℕ) (out : List ℕ) where
       → length out < 2 * n
       → readOf (Refused 12) out ≡ readInto l out
   unfolding readInto
-  read-short nothing n found h s = clash (cc)
+  read-short none n found h s = clash (cc)
   read-short (some bags) n found h s =
       let e : length bags ≡ n = cc in rw (lt-leb (2 * length bags) (length out) (omega arith), readInto)
 
@@ -93,6 +93,6 @@ module _ (w : ℕ) (out : List ℕ) where
       → 2 * n ≤ length out
       → readOf (Count n) (laid l out) ≡ readInto l out
   unfolding readInto
-  read-all nothing n found h s = clash (cc)
+  read-all none n found h s = clash (cc)
   read-all (some bags) n found h s =
       let e : n ≡ length bags = cc in rw (e, le-leb (2 * length bags) (length out) (omega arith), readInto)

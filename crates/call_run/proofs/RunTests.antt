@@ -3,7 +3,7 @@ use mathlib.Core.Path.{_≡_, refl, sym, ap, _∙_}
 use mathlib.Core.Bool.{Bool, true, false, _&&_}
 use mathlib.Core.Logic.{_≢_}
 use mathlib.Core.List.{List}
-use mathlib.Core.Option.{Option, some, none as nothing}
+use mathlib.Core.Option.{Option, some, none}
 use Prim.Native.Nat.{ℕ, _%_, _≤_, _<_, _*_, _/_}
 use native.Mathlib.Omega.{arith}
 use lib.Dec.{leb, eqb}
@@ -34,8 +34,8 @@ listOk list = eqb (length list % 2) 0 && leb (length list) 8192
 -- They decide alone where one of them fails, and leave the rest to the others where all pass.
 decided :
     (a b c : Bool) (others : Option ℕ)
-    → numberOf (unless a 3 (unless b 4 (unless c 13 nothing))) ≢ 0
-    → unless a 3 (unless b 4 (unless c 13 others)) ≡ some (numberOf (unless a 3 (unless b 4 (unless c 13 nothing))))
+    → numberOf (unless a 3 (unless b 4 (unless c 13 none))) ≢ 0
+    → unless a 3 (unless b 4 (unless c 13 others)) ≡ some (numberOf (unless a 3 (unless b 4 (unless c 13 none))))
 decided true true true others n = absurd (n refl)
 decided true true false others n = refl
 decided true false c others n = refl
@@ -43,7 +43,7 @@ decided false b c others n = refl
 
 all-pass :
     (a b c : Bool)
-    → numberOf (unless a 3 (unless b 4 (unless c 13 nothing))) ≡ 0
+    → numberOf (unless a 3 (unless b 4 (unless c 13 none))) ≡ 0
     → (a ≡ true) × (b ≡ true) × (c ≡ true)
 all-pass true true true e = (refl, refl, refl)
 all-pass true true false e = absurd (omega (arith, e))
@@ -52,23 +52,23 @@ all-pass false b c e = absurd (omega (arith, e))
 
 module _ (ws list : List ℕ) where
   pub list-3-4 :
-      {n : ℕ} → n ≡ numberOf (tableRefusal ws nothing) → n ≢ 0 → n ≡ numberOf (listRefusal ws list nothing)
+      {n : ℕ} → n ≡ numberOf (tableRefusal ws none) → n ≢ 0 → n ≡ numberOf (listRefusal ws list none)
   list-3-4 is-number h = sym (ap numberOf (refused ws is-number h _))
 
   module _ (P : WellFormed ws) where
-    pub list-13-odd : length list % 2 ≢ 0 → 13 ≡ numberOf (listRefusal ws list nothing)
+    pub list-13-odd : length list % 2 ≢ 0 → 13 ≡ numberOf (listRefusal ws list none)
     list-13-odd odd = rw (P .length-passes, P .shape-passes, ne-eqb (length list % 2) 0 odd)
 
     module _ (even : length list % 2 ≡ 0) where
-      pub list-13-long : 8192 < length list → 13 ≡ numberOf (listRefusal ws list nothing)
+      pub list-13-long : 8192 < length list → 13 ≡ numberOf (listRefusal ws list none)
       list-13-long long =
           rw (P .length-passes, P .shape-passes, eq-eqb (length list % 2) 0 even, lt-leb (length list) 8192 long)
 
-      pub list-passes : length list ≤ 8192 → 0 ≡ numberOf (listRefusal ws list nothing)
+      pub list-passes : length list ≤ 8192 → 0 ≡ numberOf (listRefusal ws list none)
       list-passes fits =
           rw (P .length-passes, P .shape-passes, eq-eqb (length list % 2) 0 even, le-leb (length list) 8192 fits)
 
-  module _ {n : ℕ} (is-number : n ≡ numberOf (listRefusal ws list nothing)) where
+  module _ {n : ℕ} (is-number : n ≡ numberOf (listRefusal ws list none)) where
     refused-first : n ≢ 0 → (others : Option ℕ) → listRefusal ws list others ≡ some n
     refused-first h others =
         decided (lengthOk ws) (shapeOk ws) (listOk list) others (λ e. h (is-number ∙ e)) ∙ ap some (sym is-number)
@@ -105,7 +105,7 @@ module _ (ws list answers : List ℕ) where
       → runOn list ws answers ≡ tested (roomRefusal list answers) ws list answers
   room-passes room = rw (le-leb (answerLength * (length list / 2)) (length answers) room)
 
-  module _ {n : ℕ} (is-number : n ≡ numberOf (listRefusal ws list nothing)) where
+  module _ {n : ℕ} (is-number : n ≡ numberOf (listRefusal ws list none)) where
     pub run-refused-first : n ≢ 0 → stopped n ws answers ≡ run ws list answers
     unfolding run
     run-refused-first h = sym (comes-to (refused-first ws list is-number h (roomRefusal list answers)))

@@ -4,7 +4,7 @@ use call_tick::pairs::run_on;
 use machine::Ran;
 use table_shape::table_refusal;
 ghost use mathlib.Core.Path.{_≡_};
-ghost use mathlib.Core.Option.{none as nothing};
+ghost use mathlib.Core.Option.{none};
 ghost use Rattle.machine.specs.Calls.{listRefusal, roomRefusal, tested, run, panel};
 ghost use Rattle.machine.specs.Results.{runDoneOf};
 ghost use Rattle.answers.specs.Refusals.{numberOf};
@@ -12,7 +12,7 @@ ghost use Rattle.call_tick.specs.Runs.{MayTake};
 
 // The tests that a run and the panel's list begin with: 3 and 4, and 13; 0 where all are passed.
 fn list_refusal(table: &[u32], list: &[u32]) -> u32
-    ensures { λ r. ⌜ r ≡ numberOf (listRefusal (now (table .entry)) (now (list .entry)) nothing) ⌝ }
+    ensures { λ r. ⌜ r ≡ numberOf (listRefusal (now (table .entry)) (now (list .entry)) none) ⌝ }
 {
     let refusal = table_refusal(table);
     if refusal != 0 {

@@ -13,7 +13,7 @@ use table_shape::table_refusal;
 use table_shape::tasks_ok;
 ghost use mathlib.Core.Path.{_≡_};
 ghost use mathlib.Core.Bool.{true};
-ghost use mathlib.Core.Option.{none as nothing};
+ghost use mathlib.Core.Option.{none};
 ghost use Rattle.machine.specs.Shape.{lengthOk, shapeOk};
 ghost use Rattle.machine.specs.Calls.{tableRefusal};
 ghost use Rattle.machine.specs.Results.{changedOf};
@@ -46,7 +46,7 @@ fn result_shape_ok(snapshot: &[u32]) -> bool
 
 // The refusal of that table, or 0 where it is accepted.
 fn result_refusal(snapshot: &[u32]) -> u32
-    ensures { λ r. ⌜ r ≡ numberOf (tableRefusal (byNodes (now (snapshot .entry))) nothing) ⌝ }
+    ensures { λ r. ⌜ r ≡ numberOf (tableRefusal (byNodes (now (snapshot .entry))) none) ⌝ }
 {
     if !length_ok(snapshot) {
         return 3;

@@ -8,7 +8,7 @@ use lib.Seq.{sets, length-sets, length-take-le, take-append-le, take-append-add}
 use borrow.Rule.Slice.PartMut.{putMid, postOf}
 use Rattle.machine.specs.Sides.{left, right}
 use Rattle.machine.specs.Values.{never, X}
-use Rattle.machine.specs.Tasks.{none, fresh, wordsOf}
+use Rattle.machine.specs.Tasks.{noNode, fresh, wordsOf}
 use Rattle.machine.specs.Table.{nodeLength, headerWords, nodeWords, nodeAt}
 use Rattle.machine.specs.Calls.{times, startHat, startNodes, startWords}
 use Rattle.table_layout.specs.Words.{HoldsHeader, hatIn}
@@ -42,8 +42,8 @@ sentinels ns n m l = take n ns ++ startNodes m l
 -- The words of lane l's two sentinels, written one after the other.
 abbrev pub written : (ns : List ℕ) (l : ℕ) → List ℕ
 written ns l =
-    sets (sets ns (nodeLength * (2 * l)) (nodeWords none (2 * l + 1) (X left))) (nodeLength * (2 * l + 1))
-    (nodeWords (2 * l) none (X right))
+    sets (sets ns (nodeLength * (2 * l)) (nodeWords noNode (2 * l + 1) (X left))) (nodeLength * (2 * l + 1))
+    (nodeWords (2 * l) noNode (X right))
 
 pub sentinels-more :
     (ns : List ℕ) (l m m′ : ℕ)
@@ -52,8 +52,8 @@ pub sentinels-more :
     → sentinels (written ns l) (nodeLength * (2 * (l + 1))) m′ (l + 1) ≡ sentinels ns (nodeLength * (2 * l)) m l
 unfolding startNodes
 sentinels-more ns l m m′ h q =
-    let first = nodeWords none (2 * l + 1) (X left) in
-    let second = nodeWords (2 * l) none (X right) in
+    let first = nodeWords noNode (2 * l + 1) (X left) in
+    let second = nodeWords (2 * l) noNode (X right) in
     let at = nodeLength * (2 * l) in
     let long = length-sets ns at first in
     let e₁ : nodeLength * (2 * l + 1) ≡ at + nodeLength = omega arith in
@@ -91,7 +91,7 @@ module _ (S T g lanes : ℕ) (t₀ t₁ ns t₂ : List ℕ) (m : ℕ) (long : Ho
   head = headerWords S T g lanes 0 (T - 1) (startHat lanes)
 
   abbrev unused : List ℕ
-  unused = times (S - 2 * lanes) (nodeWords none none never)
+  unused = times (S - 2 * lanes) (nodeWords noNode noNode never)
 
   pub started :
       {from : ℕ}

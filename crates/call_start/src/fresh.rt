@@ -10,7 +10,7 @@ ghost use lib.ListN.{length, take};
 ghost use lib.Seq.{sets};
 ghost use Rattle.machine.specs.Sides.{sideOf};
 ghost use Rattle.machine.specs.Values.{never};
-ghost use Rattle.machine.specs.Tasks.{none, fresh, wordsOf};
+ghost use Rattle.machine.specs.Tasks.{noNode, fresh, wordsOf};
 ghost use Rattle.machine.specs.Table.{
   nodeLength,
   mostLanes,
@@ -70,7 +70,7 @@ fn write_sentinels(ns: &mut [u32], lanes: u32)
 fn write_unused(ns: &mut [u32], first: u32, slots: u32)
     requires { ⌜ (first ≤ slots) × (nodeLength * slots ≤ length (now ns)) ⌝ }
     ensures { λ _. ⌜ take (nodeLength * slots) (now (ns .exit))
-        ≡ take (nodeLength * first) (now (ns .entry)) ++ times (slots - first) (nodeWords none none never) ⌝ }
+        ≡ take (nodeLength * first) (now (ns .entry)) ++ times (slots - first) (nodeWords noNode noNode never) ⌝ }
 {
     let mut x = first;
     while x < slots {
@@ -83,7 +83,7 @@ fn write_unused(ns: &mut [u32], first: u32, slots: u32)
 fn write_nodes(ns: &mut [u32], slots: u32, lanes: u32)
     requires { ⌜ (lanes ≤ mostLanes) × (2 * lanes ≤ slots) × (nodeLength * slots ≤ length (now ns)) ⌝ }
     ensures { λ _. ⌜ take (nodeLength * slots) (now (ns .exit))
-        ≡ startNodes lanes 0 ++ times (slots - 2 * lanes) (nodeWords none none never) ⌝ }
+        ≡ startNodes lanes 0 ++ times (slots - 2 * lanes) (nodeWords noNode noNode never) ⌝ }
 {
     write_sentinels(ns, lanes);
     write_unused(ns, 2 * lanes, slots);

@@ -12,7 +12,7 @@ use Rattle.machine.specs.Choice.{_≟_, if_then_else_}
 use Rattle.machine.specs.Sides.{Side, opposite, sideOf}
 use Rattle.machine.specs.Values.{Value, decode, encode, valueOk}
 use Rattle.machine.specs.Steps.{Step}
-use Rattle.machine.specs.Tasks.{none}
+use Rattle.machine.specs.Tasks.{noNode}
 use Rattle.machine.specs.Lines.{Memory, Write, out≔, inn≔, val≔, hat≔, Effect, act}
 use Rattle.table_record.specs.declared.Task as Tasks
 use Rattle.table_values.specs.Tests.{isSame}
@@ -37,13 +37,13 @@ abbrev pub followDone : List ℕ → (hat : ℕ) → Tasks.Task → (z : Side) �
 followDone ns h t z i j n m =
     let x = getD (t .registers) i 0 in
     let y = linkIn ns z x in
-    if x ≟ none then refusedDone h t else nextDone h (withRegister t j y) (cond (eqb y none) n m)
+    if x ≟ noNode then refusedDone h t else nextDone h (withRegister t j y) (cond (eqb y noNode) n m)
 
 -- The value of A's node is the mark, which goes to step n, or not: to m.
 abbrev pub markDone : List ℕ → (hat : ℕ) → Tasks.Task → (mark : Value) → (n m : ℕ) → Done
 markDone ns h t v n m =
     let a = getD (t .registers) 0 0 in
-    if a ≟ none then refusedDone h t else nextDone h t (cond (isSame (decode (storedIn ns a)) v) n m)
+    if a ≟ noNode then refusedDone h t else nextDone h t (cond (isSame (decode (storedIn ns a)) v) n m)
 
 -- ---- The line that the definitions give.
 
@@ -101,7 +101,7 @@ DoesAnywhere st h t r = (ns : List ℕ) → Does st ns h t (outcomeOf ns r)
 pub record Ready (ns : List ℕ) (t : Tasks.Task) : Type 0 where
   pub canonical : codedTask (taskMeant t) ≡ t
   pub few : t .counted < 1024
-  pub held : (i : ℕ) → i < 4 → getD (t .registers) i 0 ≢ none → HoldsNode ns (getD (t .registers) i 0)
+  pub held : (i : ℕ) → i < 4 → getD (t .registers) i 0 ≢ noNode → HoldsNode ns (getD (t .registers) i 0)
   pub values : (x : ℕ) → HoldsNode ns x → valueOk (storedIn ns x) ≡ true
 
 -- What following a link from a register to another relies on.

@@ -3,7 +3,7 @@ use mathlib.Core.Path.{_≡_, refl, sym, ap, _∙_, subst}
 use mathlib.Core.Logic.{_≢_, inl, inr}
 use mathlib.Core.Bool.{Bool, true, false}
 use mathlib.Core.List.{List, [], _∷_}
-use mathlib.Core.Option.{Option, some, none as nothing}
+use mathlib.Core.Option.{Option, some, none}
 use Prim.Native.Nat.{ℕ, zero, suc, _+_, _<_, _≤_}
 use native.Mathlib.Omega.{arith}
 use native.Mathlib.Decide.{ℕ-discrete, decLt, decLe}
@@ -180,20 +180,20 @@ module _ (ws : List ℕ) (A : WellFormed ws) where
       where
         go : (r : Option ℕ) → startRefusal ws S T g L ≡ r → SameWait (changed r ws (startWords S T g L) .words)
         go (some n) e = by-kept (unchanged ws Z W)
-        go nothing e = λ busy.
+        go none e = λ busy.
             let Y = start-sized S T g L (search test-passed) (search (test-passed, tests-left)) in
             let at-rest = task-start S T g L (Y .lanes-fit) (Y .most-lanes) k in
             clash (cc (ap (λ (t : Task). isBusy (t .operation)) at-rest))
 
-    other-waits : (c : Call) → dispatchesOf c ≡ nothing → SameWait (after c ws)
+    other-waits : (c : Call) → dispatchesOf c ≡ none → SameWait (after c ws)
     other-waits c = go (comes c ws)
       where
-        go : {a : Asked} {vs : List ℕ} {d : Did} → Comes ws a vs d → dispatchesIn a ≡ nothing → SameWait vs
-        go (left-alone a e) none = by-kept (unchanged ws Z W)
-        go (is-started S T g L e) none = start-waits S T g L
-        go (is-begun j l op side argument e) none = by-kept (begin-kept ws j l op side argument Z W)
-        go (are-ticked i list ts) none = by-kept (list-kept i list ws Z W)
-        go (are-dispatched h n ts) none = clash (cc)
+        go : {a : Asked} {vs : List ℕ} {d : Did} → Comes ws a vs d → dispatchesIn a ≡ none → SameWait vs
+        go (left-alone a e) unrefused = by-kept (unchanged ws Z W)
+        go (is-started S T g L e) unrefused = start-waits S T g L
+        go (is-begun j l op side argument e) unrefused = by-kept (begin-kept ws j l op side argument Z W)
+        go (are-ticked i list ts) unrefused = by-kept (list-kept i list ws Z W)
+        go (are-dispatched h n ts) unrefused = clash (cc)
 
   -- ---- Dispatches.
   module _ (k : ℕ) (busy : isBusyTask ws k ≡ true) (h : ℕ) where
@@ -201,7 +201,7 @@ module _ (ws : List ℕ) (A : WellFormed ws) where
     is-task = busy-is-task ws k busy
 
     -- Some task is busy, so it is not idle.
-    some-busy : nextBusy ws ≡ nothing → ⊥
+    some-busy : nextBusy ws ≡ none → ⊥
     some-busy e =
         let T = taskCount ws in
         let idle =
@@ -210,8 +210,8 @@ module _ (ws : List ℕ) (A : WellFormed ws) where
         refute (cc)
 
     -- The tick of task j that it makes.
-    module _ (j : ℕ) (chosen : nextBusy ws ≡ some j) (passes : tickRefusal ws j h ≡ nothing)
-        (made : refusalOf (tickOn ws j h .answer) ≡ nothing) where
+    module _ (j : ℕ) (chosen : nextBusy ws ≡ some j) (passes : tickRefusal ws j h ≡ none)
+        (made : refusalOf (tickOn ws j h .answer) ≡ none) where
       abbrev vs : List ℕ
       vs = tickOn ws j h .words
 
@@ -255,9 +255,9 @@ module _ (ws : List ℕ) (A : WellFormed ws) where
           (found-or-nearer (taskCount ws) (isBusyTask ws) (taskCount ws) (following (taskCount ws) (dispatched ws))
           next-is-task chosen k is-task busy ne))
 
-    dispatch-serves : dispatchRefusalOf (dispatch ws h .answer) ≡ nothing → Served ws k h (dispatch ws h)
+    dispatch-serves : dispatchRefusalOf (dispatch ws h .answer) ≡ none → Served ws k h (dispatch ws h)
     dispatch-serves =
-        by-dispatch ws A h (λ (r : Dispatched). dispatchRefusalOf (r .answer) ≡ nothing → Served ws k h r)
+        by-dispatch ws A h (λ (r : Dispatched). dispatchRefusalOf (r .answer) ≡ none → Served ws k h r)
         (λ e. clash (cc)) (λ none-busy e. absurd (some-busy none-busy)) (λ j n chosen q e. clash (cc))
         (λ j chosen passes made e.
         elim (equal? j k) [
@@ -283,15 +283,15 @@ data RowServed (ws : List ℕ) (k h n : ℕ) : Type 0 where
       → RowServed ws k h n
 
 row-serves : (n : ℕ) (ws : List ℕ) → WellFormed ws → (k : ℕ) → isBusyTask ws k ≡ true → (h : ℕ)
-    → dispatchRefusalOf (dispatches n ws h .answer) ≡ nothing
+    → dispatchRefusalOf (dispatches n ws h .answer) ≡ none
     → RowServed ws k h n
 unfolding dispatches wentOn
-row-serves zero ws A k busy h none = nearer-by busy (omega arith)
-row-serves (suc n) ws A k busy h none =
+row-serves zero ws A k busy h unrefused = nearer-by busy (omega arith)
+row-serves (suc n) ws A k busy h unrefused =
     go (dispatchGoesOn (dispatch ws h .answer)) refl
     (λ b. row-serves n (dispatch ws h .words) (call-accepted ws A (dispatch-call h)) k b h)
   where
-    first : dispatchRefusalOf (dispatch ws h .answer) ≡ nothing → Served ws k h (dispatch ws h)
+    first : dispatchRefusalOf (dispatch ws h .answer) ≡ none → Served ws k h (dispatch ws h)
     first = dispatch-serves ws A k busy h
 
     is-last : dispatchGoesOn (dispatch ws h .answer) ≡ false → Served ws k h (dispatch ws h) → RowServed ws k h (suc n)
@@ -318,14 +318,14 @@ row-serves (suc n) ws A k busy h none =
 
     go : (b : Bool) → dispatchGoesOn (dispatch ws h .answer) ≡ b
         → (isBusyTask (dispatch ws h .words) k ≡ true
-        → dispatchRefusalOf (dispatches n (dispatch ws h .words) h .answer) ≡ nothing
+        → dispatchRefusalOf (dispatches n (dispatch ws h .words) h .answer) ≡ none
         → RowServed (dispatch ws h .words) k h n)
         → RowServed ws k h (suc n)
     go false e others =
-        is-last e (first (ap (λ (d : Dispatched). dispatchRefusalOf (d .answer)) (sym (none-follows n ws h e)) ∙ none))
+        is-last e (first (ap (λ (d : Dispatched). dispatchRefusalOf (d .answer)) (sym (none-follows n ws h e)) ∙ unrefused))
     go true e others =
         goes-on e
-        (λ b. others b (ap (λ (d : Dispatched). dispatchRefusalOf (d .answer)) (sym (others-follow n ws h e)) ∙ none))
+        (λ b. others b (ap (λ (d : Dispatched). dispatchRefusalOf (d .answer)) (sym (others-follow n ws h e)) ∙ unrefused))
         (first (ap dispatchRefusalOf (going-dispatch (dispatch ws h .answer) e)))
 
 -- ---- Lists of calls.
@@ -337,7 +337,7 @@ after-row c d e ws = go (comes c ws) e
   where
     go : {a : Asked} {vs : List ℕ} {done : Did} → Comes ws a vs done → dispatchesIn a ≡ some d
         → vs ≡ dispatches (d .times) ws (d .hint) .words
-    go (left-alone a none) q = clash (cc)
+    go (left-alone a unrefused) q = clash (cc)
     go (is-started S T g L _) q = clash (cc)
     go (is-begun k l op side argument _) q = clash (cc)
     go (are-ticked i list ts) q = clash (cc)
@@ -349,9 +349,9 @@ after-row c d e ws = go (comes c ws) e
 fair-from : (calls : List Call) (ws : List ℕ) → WellFormed ws → (k : ℕ) → isBusyTask ws k ≡ true → NoneRefused calls ws
     → waits ws k < dispatchCount calls ws
     → TickedOrEnded k calls ws
-fair-from [] ws A k busy none near = absurd (omega arith)
-fair-from (c ∷ cs) ws A k busy none near =
-    go (dispatchesOf c) refl near (λ b w. fair-from cs (after c ws) (call-accepted ws A c) k b (none .1) w)
+fair-from [] ws A k busy unrefused near = absurd (omega arith)
+fair-from (c ∷ cs) ws A k busy unrefused near =
+    go (dispatchesOf c) refl near (λ b w. fair-from cs (after c ws) (call-accepted ws A c) k b (unrefused .1) w)
   where
     Others : Type 0
     Others =
@@ -373,7 +373,7 @@ fair-from (c ∷ cs) ws A k busy none near =
         subst (λ vs. waits vs k < dispatchCount cs (after c ws)) (sym same) (omega arith) in
         still-busy c still (others still near-then)
 
-    no-row : dispatchesOf c ≡ nothing → waits ws k < dispatchCount cs (after c ws) → Others → (b : Bool)
+    no-row : dispatchesOf c ≡ none → waits ws k < dispatchCount cs (after c ws) → Others → (b : Bool)
         → isBusyTask (after c ws) k ≡ b
         → TickedOrEnded k (c ∷ cs) ws
     no-row e near others false b = ends-first {cs = cs} c e b (omega (arith, near))
@@ -381,20 +381,20 @@ fair-from (c ∷ cs) ws A k busy none near =
 
     go : (o : Option Repeat) → dispatchesOf c ≡ o
         → waits ws k
-        < elim o as (λ _. ℕ) [ some d ↦ dispatchesMade (d .times) ws (d .hint) | nothing ↦ 0 ]
+        < elim o as (λ _. ℕ) [ some d ↦ dispatchesMade (d .times) ws (d .hint) | none ↦ 0 ]
         + dispatchCount cs (after c ws)
         → Others
         → TickedOrEnded k (c ∷ cs) ws
     go (some d) e near others =
-        by-row d e near others (row-serves (d .times) ws A k busy (d .hint) (none .0 d e))
-    go nothing e near others = no-row e (omega arith) others (isBusyTask (after c ws) k) refl
+        by-row d e near others (row-serves (d .times) ws A k busy (d .hint) (unrefused .0 d e))
+    go none e near others = no-row e (omega arith) others (isBusyTask (after c ws) k) refl
 
 pub fair-unless-ended : FairUnlessEnded
-fair-unless-ended ws passes k busy calls none enough =
+fair-unless-ended ws passes k busy calls unrefused enough =
     let A = is-accepted ws passes in
     let next = following (taskCount ws) (dispatched ws) in
     let at-most = away-below (taskCount ws) k (busy-is-task ws k busy) next (next-is-task ws A) in
-    fair-from calls ws A k busy none (omega arith)
+    fair-from calls ws A k busy unrefused (omega arith)
 
 -- ---- A task that stays busy.
 not-ended : (k : ℕ) (calls : List Call) (ws : List ℕ) → TickedOrEnded k calls ws → BusyThroughout k calls ws
@@ -405,9 +405,9 @@ not-ended k (c ∷ b ∷ cs) ws (ends-first d e q more) B = clash (cc (B .1 .0))
 not-ended k (c ∷ cs) ws (still-busy d q later) B = after-it c (not-ended k cs (after c ws) later (B .1))
 
 pub fair : Fair
-fair ws passes k calls B none enough =
+fair ws passes k calls B unrefused enough =
     let T = well-sized ws (is-accepted ws passes .length-passes) .one-task in
-    not-ended k calls ws (fair-unless-ended ws passes k (first calls B enough T) calls none enough) B
+    not-ended k calls ws (fair-unless-ended ws passes k (first calls B enough T) calls unrefused enough) B
   where
     first : (calls : List Call) → BusyThroughout k calls ws → taskCount ws ≤ dispatchCount calls ws → 1 ≤ taskCount ws
         → isBusyTask ws k ≡ true

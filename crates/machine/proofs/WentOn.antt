@@ -2,7 +2,7 @@
 use mathlib.Core.Path.{_≡_, refl, sym, ap, _∙_, subst}
 use mathlib.Core.Bool.{Bool, true, false, cond}
 use mathlib.Core.List.{List}
-use mathlib.Core.Option.{Option, some, none as nothing}
+use mathlib.Core.Option.{Option, some, none}
 use Prim.Native.Nat.{ℕ, zero, suc, _+_, _-_, _%_, _^_, _<_, _≤_}
 use native.Mathlib.Omega.{arith}
 use Rattle.machine.specs.declared.Answer.{Answer}
@@ -28,7 +28,7 @@ use Rattle.machine.proofs.Shape.ShapeKept.{is-accepted, call-accepted}
 -- The ticks that a dispatch makes: one, unless it is refused or finds no task busy.
 ticksOf : Dispatch → ℕ
 ticksOf Idle = 0
-ticksOf (Answered a) = elim (refusalOf a) as (λ _. ℕ) [ some n ↦ 0 | nothing ↦ 1 ]
+ticksOf (Answered a) = elim (refusalOf a) as (λ _. ℕ) [ some n ↦ 0 | none ↦ 1 ]
 
 -- One that goes on is one tick; another one is if it ends a call.
 goes-on-ticks : (d : Dispatch) → dispatchGoesOn d ≡ true → ticksOf d ≡ 1
@@ -62,7 +62,7 @@ module _ (ws : List ℕ) (A : WellFormed ws) (h : ℕ) where
   W : WellShaped (columns ws)
   W = well-shaped ws (A .length-passes) (A .shape-passes)
 
-  made-counted : (k : ℕ) → tickRefusal ws k h ≡ nothing → refusalOf (tickOn ws k h .answer) ≡ nothing
+  made-counted : (k : ℕ) → tickRefusal ws k h ≡ none → refusalOf (tickOn ws k h .answer) ≡ none
       → tickCount (setDispatched k (tickOn ws k h .words)) ≡ (tickCount ws + 1) % 2 ^ 32
   made-counted k passes made =
       ap (λ c. c .counts .tickCount)

@@ -8,7 +8,7 @@ use lib.Dec.{ltb, eqb}
 use lib.ListN.{length, getD, set, replicate}
 use Rattle.machine.specs.Round.{following}
 use Rattle.machine.specs.Sides.{left, right}
-use Rattle.machine.specs.Tasks.{Task, none, inA, inB, inC, inD}
+use Rattle.machine.specs.Tasks.{Task, noNode, inA, inB, inC, inD}
 use Rattle.machine.specs.Registers.{heldIn}
 use Rattle.machine.specs.Table.{nodeCount, taskCount, laneCount, hat, link, task}
 
@@ -87,7 +87,7 @@ marked ws = visitFrom ws largestCount 0 (markAll (nodeCount ws) unmarked (roots 
 
 -- The first of n nodes from i on that has no mark, or none.
 unfoldable pub firstUnmarked : (S : ℕ) → List ℕ → (n i : ℕ) → ℕ
-firstUnmarked S marks zero i = none
+firstUnmarked S marks zero i = noNode
 firstUnmarked S marks (suc n) i =
     elim (eqb (getD marks i 0) 0) as (λ _. ℕ) [ true ↦ i | false ↦ firstUnmarked S marks n (following S i) ]
 

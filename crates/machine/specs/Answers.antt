@@ -2,7 +2,7 @@
 -- for.
 use mathlib.Core.Bool.{Bool, true, false, cond}
 use mathlib.Core.List.{List, _∷_}
-use mathlib.Core.Option.{Option, some, none as nothing}
+use mathlib.Core.Option.{Option, some, none}
 use Prim.Native.Nat.{ℕ}
 use lib.Dec.{eqb}
 use Rattle.tag.specs.Tags.{tagOf, isTag, tagWords}
@@ -67,18 +67,18 @@ answerWords a = kindOf a ∷ tagWords (payloadOf a)
 
 -- The number of a refusal; nothing for a tick that was made.
 abbrev pub refusalOf : Answer → Option ℕ
-refusalOf Going = nothing
-refusalOf Pushed = nothing
-refusalOf (Bag b) = nothing
-refusalOf Empty = nothing
-refusalOf Full = nothing
-refusalOf Yes = nothing
-refusalOf No = nothing
+refusalOf Going = none
+refusalOf Pushed = none
+refusalOf (Bag b) = none
+refusalOf Empty = none
+refusalOf Full = none
+refusalOf Yes = none
+refusalOf No = none
 refusalOf (Refused n) = some n
 
 -- Of a dispatch: "idle" is none.
 abbrev pub dispatchRefusalOf : Dispatch → Option ℕ
-dispatchRefusalOf Idle = nothing
+dispatchRefusalOf Idle = none
 dispatchRefusalOf (Answered a) = refusalOf a
 
 abbrev pub isGoing : Answer → Bool
@@ -116,12 +116,12 @@ plainAnswerOf kind =
     if kind ≟ 4 then some Full else
     if kind ≟ 5 then some Yes else
     if kind ≟ 6 then some No else
-    nothing
+    none
 
 -- The answer that three words of a run stand for, or nothing: a bag's are those of a tag, and where there is no tag both are
 -- 0.
 unfoldable pub answerOf : (kind digit low : ℕ) → Option Answer
 answerOf kind digit low =
-    if kind ≟ 2 then cond (isTag digit low) (some (Bag (tagOf digit low))) nothing else
+    if kind ≟ 2 then cond (isTag digit low) (some (Bag (tagOf digit low))) none else
     if tagOf digit low ≟ 0 then plainAnswerOf kind else
-    nothing
+    none

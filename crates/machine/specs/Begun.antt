@@ -2,7 +2,7 @@
 use mathlib.Core.Path.{_≡_}
 use mathlib.Core.Bool.{Bool, cond, _&&_}
 use mathlib.Core.List.{List, [], _∷_}
-use mathlib.Core.Option.{Option, some, none as nothing}
+use mathlib.Core.Option.{Option, some, none}
 use Prim.Native.Nat.{ℕ, _-_}
 use lib.Dec.{eqb}
 use Rattle.machine.specs.declared.Answer.{Answer}
@@ -48,7 +48,7 @@ pub record History : Type 0 where
 
 -- An accepted start: no notes, and nothing is finished.
 abbrev pub noHistory : (T : ℕ) → History
-noHistory T = record { notes = λ k. nothing; tasks = T; dispatched = T - 1; finished = [] }
+noHistory T = record { notes = λ k. none; tasks = T; dispatched = T - 1; finished = [] }
 
 -- The notes, with that of task k replaced.
 abbrev pub withNote : (ℕ → Option Note) → ℕ → Option Note → ℕ → Option Note
@@ -56,10 +56,10 @@ withNote notes k n = λ j. if j ≟ k then n else notes j
 
 -- What a note asks of task k is finished with an answer, and the task has no note.
 abbrev pub finish : History → ℕ → Option Note → Answer → History
-finish η k nothing a = η
+finish η k none a = η
 finish η k (some n) a =
     record {
-      notes = withNote (η .notes) k nothing;
+      notes = withNote (η .notes) k none;
       tasks = η .tasks;
       dispatched = η .dispatched;
       finished = record { note = n; answer = a } ∷ η .finished;
@@ -71,7 +71,7 @@ recordMade η k a = cond (isGoing a) η (finish η k (η .notes k) a)
 
 -- A tick of the task whose turn it is.
 abbrev pub recordNext : History → Option ℕ → Answer → History
-recordNext η nothing a = η
+recordNext η none a = η
 recordNext η (some k) a =
     let η′ = recordMade η k a in
     record { notes = η′ .notes; tasks = η′ .tasks; dispatched = k; finished = η′ .finished }

@@ -1,7 +1,7 @@
 -- The calls: for every table and all numbers, the answer and every lent word afterwards.
 use mathlib.Core.Bool.{Bool, true, false, cond, not, _&&_, _||_}
 use mathlib.Core.List.{List, [], _∷_, _++_}
-use mathlib.Core.Option.{Option, some, none as nothing, Option·map, bind}
+use mathlib.Core.Option.{Option, some, none, Option·map, bind}
 use Prim.Native.Nat.{ℕ, zero, suc, _+_, _*_, _-_, _/_, _%_, _^_}
 use lib.Dec.{leb, ltb, eqb}
 use lib.ListN.{length, drop}
@@ -22,7 +22,7 @@ use Rattle.machine.specs.Sides.{Side, left, right, opposite, sideNumber,
 use Rattle.machine.specs.Values.{never, bag, N, X, Y, number}
 use Rattle.machine.specs.Operations.{Operation, idle, push, pop, add, remove, operationOf, argumentOk}
 use Rattle.machine.specs.Steps.{firstStep}
-use Rattle.machine.specs.Tasks.{Task, fresh, none, wordsOf, goal}
+use Rattle.machine.specs.Tasks.{Task, fresh, noNode, wordsOf, goal}
 use Rattle.machine.specs.Table.{
   tableLength,
   nodeCount,
@@ -50,9 +50,9 @@ use Rattle.machine.specs.Answers.{answerLength, answerWords, refusalOf, 
 
 -- The bag numbers from node x on along R, in n nodes at most; nothing where a link is none, or n bags have no end.
 unfoldable pub laneFrom : List ℕ → (n x : ℕ) → Option (List ℕ)
-laneFrom ws zero x = nothing
+laneFrom ws zero x = none
 laneFrom ws (suc n) x =
-    if x ≟ none then nothing else
+    if x ≟ noNode then none else
     elim (value ws x) as (λ _. Option (List ℕ)) [
       | never ↦ some []
       | bag b ↦ Option·map (_∷_ b) (laneFrom ws n (link ws right x))
@@ -100,7 +100,7 @@ abbrev pub startRefusal : List ℕ → (S T growth lanes : ℕ) → Option ℕ
 startRefusal ws S T g lanes =
     unless (lanesOk lanes) 25
     (unless (sizesOk S T g lanes) 1
-    (unless (eqb (length ws) (tableLength S T)) 2 nothing))
+    (unless (eqb (length ws) (tableLength S T)) 2 none))
 
 -- The tests that all the other calls begin with.
 abbrev pub tableRefusal : List ℕ → Option ℕ → Option ℕ
@@ -132,7 +132,7 @@ isBegun ws (suc m) n =
 -- read as by the read call"; "a refusal 11 of the lane walk stands between 7 and 16". 2026-12: "the twice-seen tag of
 -- 16 is looked for in all lanes".
 abbrev pub seenRefusal : List ℕ → ℕ → (bags : Option (List ℕ)) → Option ℕ → Option ℕ
-seenRefusal ws n nothing others = some 11
+seenRefusal ws n none others = some 11
 seenRefusal ws n (some bags) others = unless (not (isAmong n bags || isBegun ws (taskCount ws) n)) 16 others
 
 -- Begins of the other operations walk nothing.
@@ -149,7 +149,7 @@ callRefusal ws k op side argument =
     unless (leb 1 op && leb op 4 && leb side 1) 6
     (unless (argumentOk (operationOf op) argument) 7
     (twiceRefusal ws (operationOf op) (number argument)
-    (unless (isIdle (task ws k .operation)) 8 nothing)))
+    (unless (isIdle (task ws k .operation)) 8 none)))
 
 abbrev pub beginRefusal : List ℕ → (k lane operation side : ℕ) → (argument : Stored) → Option ℕ
 beginRefusal ws k l op side argument =
@@ -160,12 +160,12 @@ abbrev pub tickRefusal : List ℕ → (k hint : ℕ) → Option ℕ
 tickRefusal ws k h =
     unless (ltb k (taskCount ws)) 5
     (unless (ltb h (nodeCount ws)) 9
-    (unless (isBusy (task ws k .operation)) 10 nothing))
+    (unless (isBusy (task ws k .operation)) 10 none))
 
 -- 02: "The caller still gives the hint, tested as in tick, before the choice." The task chosen is busy, so 5 and 10 do
 -- not arise; 11 comes after "idle", with the tick.
 abbrev pub dispatchRefusal : List ℕ → (hint : ℕ) → Option ℕ
-dispatchRefusal ws h = tableRefusal ws (unless (ltb h (nodeCount ws)) 9 nothing)
+dispatchRefusal ws h = tableRefusal ws (unless (ltb h (nodeCount ws)) 9 none)
 
 -- The tests that a run and the panel's list begin with, and the one that both end with: room for the words of each
 -- tick.
@@ -174,7 +174,7 @@ listRefusal ws list others =
     tableRefusal ws (unless (eqb (length list % 2) 0 && leb (length list) 8192) 13 others)
 
 abbrev pub roomRefusal : (list answers : List ℕ) → Option ℕ
-roomRefusal list answers = unless (leb (answerLength * (length list / 2)) (length answers)) 14 nothing
+roomRefusal list answers = unless (leb (answerLength * (length list / 2)) (length answers)) 14 none
 
 abbrev pub runRefusal : List ℕ → (list answers : List ℕ) → Option ℕ
 runRefusal ws list answers = listRefusal ws list (roomRefusal list answers)
@@ -191,7 +191,7 @@ pub record Changed : Type 0 where
 -- A refusal leaves the words as they were.
 abbrev pub changed : Option ℕ → (before after : List ℕ) → Changed
 changed (some n) before after = record { reply = Reply-Refused n; words = before }
-changed nothing before after = record { reply = Accepted; words = after }
+changed none before after = record { reply = Accepted; words = after }
 
 -- A list n times over.
 unfoldable pub times : ℕ → List ℕ → List ℕ
@@ -200,13 +200,13 @@ times (suc n) l = l ++ times n l
 
 -- 02: "Lane k, from 0, starts with slots 2k and 2k + 1"; "unused ones none". 01: the hats are 0 and 1.
 abbrev pub startHat : (lanes l : ℕ) → Side → ℕ
-startHat lanes l s = if l <? lanes then 2 * l + sideNumber s else none
+startHat lanes l s = if l <? lanes then 2 * l + sideNumber s else noNode
 
 -- The nodes of n lanes, from lane l on. 01: slot 0 as L none, R 1, V LX and slot 1 as L 0, R none, V RX.
 unfoldable pub startNodes : (n l : ℕ) → List ℕ
 startNodes zero l = []
 startNodes (suc n) l =
-    nodeWords none (2 * l + 1) (X left) ++ (nodeWords (2 * l) none (X right) ++ startNodes n (suc l))
+    nodeWords noNode (2 * l + 1) (X left) ++ (nodeWords (2 * l) noNode (X right) ++ startNodes n (suc l))
 
 -- 01: other slots have no links and V 0, the tick count is 0 and all tasks are idle. 02: "A start writes T - 1 there",
 -- as the task last dispatched.
@@ -214,7 +214,7 @@ unfoldable pub startWords : (S T growth lanes : ℕ) → List ℕ
 startWords S T g lanes =
     headerWords S T g lanes 0 (T - 1) (startHat lanes)
     ++ (startNodes lanes 0
-    ++ (times (S - 2 * lanes) (nodeWords none none never)
+    ++ (times (S - 2 * lanes) (nodeWords noNode noNode never)
     ++ times T (wordsOf fresh)))
 
 unfoldable pub start : List ℕ → (S T growth lanes : ℕ) → Changed
@@ -230,10 +230,10 @@ begunTask l op s argument =
       argument = argument;
       counted = 0;
       value = never;
-      A = none;
-      B = none;
-      C = none;
-      D = none;
+      A = noNode;
+      B = noNode;
+      C = noNode;
+      D = noNode;
       lane = l;
     }
 
@@ -262,7 +262,7 @@ unfoldable pub applied : (lane : ℕ) → Side → List ℕ → ℕ → Effect �
 applied l s ws k e =
     elim (refusalOf (e .answer)) as (λ _. Ticked) [
       | some n ↦ record { answer = e .answer; words = ws }
-      | nothing ↦ record { answer = e .answer; words = tickCounted (setTask k (e .task) (writeAll l s (e .writes) ws)) }
+      | none ↦ record { answer = e .answer; words = tickCounted (setTask k (e .task) (writeAll l s (e .writes) ws)) }
     ]
 
 -- A tick on a table that has passed 3 and 4.
@@ -270,14 +270,14 @@ unfoldable pub tickOn : List ℕ → (k hint : ℕ) → Ticked
 tickOn ws k h =
     elim (tickRefusal ws k h) as (λ _. Ticked) [
       | some n ↦ record { answer = Refused n; words = ws }
-      | nothing ↦ applied (task ws k .lane) (task ws k .side) ws k (effectOf ws k h)
+      | none ↦ applied (task ws k .lane) (task ws k .side) ws k (effectOf ws k h)
     ]
 
 unfoldable pub tick : List ℕ → (k hint : ℕ) → Ticked
 tick ws k h =
-    elim (tableRefusal ws nothing) as (λ _. Ticked) [
+    elim (tableRefusal ws none) as (λ _. Ticked) [
       | some n ↦ record { answer = Refused n; words = ws }
-      | nothing ↦ tickOn ws k h
+      | none ↦ tickOn ws k h
     ]
 
 -- ---- Consecutive ticks: of one task, until one does not go on, or so many. The last outcome is given; "going" where no
@@ -306,7 +306,7 @@ dispatchTo ws k h =
     let one = tickOn ws k h in
     elim (refusalOf (one .answer)) as (λ _. Dispatched) [
       | some n ↦ record { answer = Answered (one .answer); words = ws }
-      | nothing ↦ record { answer = Answered (one .answer); words = setDispatched k (one .words) }
+      | none ↦ record { answer = Answered (one .answer); words = setDispatched k (one .words) }
     ]
 
 -- 02: "With every task idle it answers "idle" and changes nothing."
@@ -314,14 +314,14 @@ unfoldable pub dispatchOn : List ℕ → (hint : ℕ) → Dispatched
 dispatchOn ws h =
     elim (nextBusy ws) as (λ _. Dispatched) [
       | some k ↦ dispatchTo ws k h
-      | nothing ↦ record { answer = Idle; words = ws }
+      | none ↦ record { answer = Idle; words = ws }
     ]
 
 unfoldable pub dispatch : List ℕ → (hint : ℕ) → Dispatched
 dispatch ws h =
     elim (dispatchRefusal ws h) as (λ _. Dispatched) [
       | some n ↦ record { answer = Answered (Refused n); words = ws }
-      | nothing ↦ dispatchOn ws h
+      | none ↦ dispatchOn ws h
     ]
 
 -- ---- Consecutive dispatches: until one does not go on, or so many. The last outcome is given; "going" where no dispatch
@@ -369,13 +369,13 @@ runOn (k ∷ h ∷ list) ws answers =
     let one = tickOn ws k h in
     elim (refusalOf (one .answer)) as (λ _. RunDone) [
       | some n ↦ stopped n ws answers
-      | nothing ↦ afterTick (one .answer) (runOn list (one .words) (drop answerLength answers))
+      | none ↦ afterTick (one .answer) (runOn list (one .words) (drop answerLength answers))
     ]
 
 -- What follows the tests: the refusal that they gave, or the ticks of the list.
 abbrev pub tested : Option ℕ → (ws list answers : List ℕ) → RunDone
 tested (some n) ws list answers = stopped n ws answers
-tested nothing ws list answers = runOn list ws answers
+tested none ws list answers = runOn list ws answers
 
 unfoldable pub run : List ℕ → (list answers : List ℕ) → RunDone
 run ws list answers = tested (runRefusal ws list answers) ws list answers
@@ -394,7 +394,7 @@ unread n out = record { reading = Reading-Refused n; out = out }
 
 -- 01: the read writes bags in order, answers their count, and touches no later word. 02: two words for a tag.
 unfoldable pub readInto : Option (List ℕ) → List ℕ → ReadDone
-readInto nothing out = unread 11 out
+readInto none out = unread 11 out
 readInto (some bags) out =
     elim (leb (2 * length bags) (length out)) as (λ _. ReadDone) [
       | true ↦ record { reading = Count (length bags); out = allTagWords bags ++ drop (2 * length bags) out }
@@ -403,7 +403,7 @@ readInto (some bags) out =
 
 unfoldable pub read : List ℕ → (lane : ℕ) → (out : List ℕ) → ReadDone
 read ws l out =
-    elim (laneRefusal ws l nothing) as (λ _. ReadDone) [
+    elim (laneRefusal ws l none) as (λ _. ReadDone) [
       | some n ↦ unread n out
-      | nothing ↦ readInto (lane ws l) out
+      | none ↦ readInto (lane ws l) out
     ]

@@ -2,7 +2,7 @@
 use mathlib.Core.Path.{_≡_}
 use mathlib.Core.Bool.{Bool, cond, _&&_}
 use mathlib.Core.List.{List, [], _∷_}
-use mathlib.Core.Option.{Option, some, none as nothing, bind}
+use mathlib.Core.Option.{Option, some, none, bind}
 use Prim.Native.Nat.{ℕ, zero, suc, _*_, _≤_, _<_}
 use lib.Dec.{leb, ltb, eqb}
 use lib.ListN.{length, take}
@@ -125,24 +125,24 @@ isCall ρ k l op side argument =
 -- 01: the task's note is the operation, side and argument. No other numbers are accepted.
 abbrev pub feedBegin : Row → (k lane operation side : ℕ) → (argument : Stored) → Reply → Option Row
 feedBegin ρ k l op side argument Accepted =
-    cond (isCall ρ k l op side argument) (some (noted ρ k (some (newNote l op side argument)))) nothing
+    cond (isCall ρ k l op side argument) (some (noted ρ k (some (newNote l op side argument)))) none
 feedBegin ρ k l op side argument (Reply-Refused r) = some ρ
 
 -- 01: a refused tick leaves the note.
 unfoldable pub feedTick : Row → ℕ → Answer → Option Row
 feedTick ρ k a =
-    elim (refusalOf a) as (λ _. Option Row) [ some n ↦ some ρ | nothing ↦ feedMade ρ k a ]
+    elim (refusalOf a) as (λ _. Option Row) [ some n ↦ some ρ | none ↦ feedMade ρ k a ]
 
 -- Consecutive ticks are fed as the ticks that they are: those before the last went on, and leave the row as it is.
 abbrev pub feedTicks : Row → ℕ → (times : ℕ) → Answer → Option Row
-feedTicks ρ k zero a = cond (isGoing a) (some ρ) nothing
+feedTicks ρ k zero a = cond (isGoing a) (some ρ) none
 feedTicks ρ k (suc n) a = feedTick ρ k a
 
 -- Consecutive dispatches too: those that went on, and then the last, where fewer went on than were asked for.
 unfoldable pub feedDispatches : Row → (times wentOn : ℕ) → Dispatch → Option Row
-feedDispatches ρ zero zero d = cond (dispatchGoesOn d) (some ρ) nothing
-feedDispatches ρ zero (suc m) d = nothing
-feedDispatches ρ (suc n) zero d = cond (dispatchGoesOn d) nothing (feedDispatch ρ d)
+feedDispatches ρ zero zero d = cond (dispatchGoesOn d) (some ρ) none
+feedDispatches ρ zero (suc m) d = none
+feedDispatches ρ (suc n) zero d = cond (dispatchGoesOn d) none (feedDispatch ρ d)
 feedDispatches ρ (suc n) (suc m) d = bind (feedDispatch ρ (Answered Going)) (λ ρ′. feedDispatches ρ′ n m d)
 
 -- 01: reading: the row's count and the row in order, or 12 exactly when the out slice is too short for it; never 3, 4
@@ -154,25 +154,25 @@ feedRead ρ l out (Count n) written =
     && eqb n (length (ρ .bags l))
     && leb (2 * n) (length out)
     && sameWords (take (2 * n) written) (allTagWords (ρ .bags l)))
-    (some ρ) nothing
+    (some ρ) none
 feedRead ρ l out (Reading-Refused n) written =
-    cond (cond (ltb l (ρ .lanes)) (eqb n 12 && ltb (length out) (2 * length (ρ .bags l))) (eqb n 26)) (some ρ) nothing
+    cond (cond (ltb l (ρ .lanes)) (eqb n 12 && ltb (length out) (2 * length (ρ .bags l))) (eqb n 26)) (some ρ) none
 
 -- 2026-09: a page of the row, or 26 exactly when there is no such lane, 20 and 21 by the page and the out slice alone; never
 -- 3, 4 or 11. A refusal leaves the out slice.
 abbrev pub feedSheet : Row → (l page : ℕ) → List ℕ → Reply → List ℕ → Option Row
 feedSheet ρ l page out r written =
     let wanted = changed (unless (ltb l (ρ .lanes)) 26 (pageRefusal page out)) out (pageText (ρ .bags l) page) in
-    cond (sameReply r (wanted .reply) && sameWords written (wanted .words)) (some ρ) nothing
+    cond (sameReply r (wanted .reply) && sameWords written (wanted .words)) (some ρ) none
 
 -- 2026-13: a list's fault, exactly where it has one; or the begin of a push, at the end to which the list sends the tag.
 abbrev pub feedByList : Row → Sent → (k lane : ℕ) → (argument : Stored) → ByList → Option Row
 feedByList ρ (To end) k l argument (Replied r) =
     feedBegin ρ k l (operationNumber push) (sideNumber (sideAt end)) argument r
-feedByList ρ (To end) k l argument (Faulty number line) = nothing
-feedByList ρ (NotSent number line) k l argument (Replied r) = nothing
+feedByList ρ (To end) k l argument (Faulty number line) = none
+feedByList ρ (NotSent number line) k l argument (Replied r) = none
 feedByList ρ (NotSent number line) k l argument (Faulty n at) =
-    cond (eqb n number && eqb at line) (some ρ) nothing
+    cond (eqb n number && eqb at line) (some ρ) none
 
 abbrev pub feed : Row → (c : Call) → Given c → Option Row
 feed ρ (start-call S T g lanes) r = feedStart ρ T lanes r

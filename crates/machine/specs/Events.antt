@@ -3,7 +3,7 @@
 use mathlib.Core.Path.{_≡_}
 use mathlib.Core.Bool.{Bool, true, false, cond, _||_}
 use mathlib.Core.List.{List, [], _∷_}
-use mathlib.Core.Option.{Option, some, none as nothing, bind}
+use mathlib.Core.Option.{Option, some, none, bind}
 use Prim.Native.Nat.{ℕ, _<_}
 use lib.Dec.{eqb}
 use lib.ListN.{length}
@@ -54,32 +54,32 @@ pub record Known : Type 0 where
 
 -- Before any start, of whatever words.
 abbrev pub nothingKnown : Known
-nothingKnown = record { row = nothing; kept = [] }
+nothingKnown = record { row = none; kept = [] }
 
 -- 02: "taken of a table that demand 3 speaks of, and not altered since": the row of a kept snapshot with these very
 -- words.
 unfoldable pub rowKept : (snapshot : List ℕ) → List Kept → Option Row
-rowKept ss [] = nothing
+rowKept ss [] = none
 rowKept ss (k ∷ ks) = cond (sameWords ss (k .snapshot)) (some (k .row)) (rowKept ss ks)
 
 -- A snapshot taken while nothing is known is not kept.
 abbrev pub keep : (snapshot : List ℕ) → Option Row → List Kept → List Kept
-keep ss nothing ks = ks
+keep ss none ks = ks
 keep ss (some ρ) ks = record { snapshot = ss; row = ρ } ∷ ks
 
 -- A call while a row is known is fed to it as before: nothing at all where the row does not give that answer.
 abbrev pub fedRow : Option Row → List Kept → Option Known
-fedRow nothing ks = nothing
+fedRow none ks = none
 fedRow (some ρ) ks = some (record { row = some ρ; kept = ks })
 
 -- A call while nothing is known: an accepted start makes the empty row known, and any other answer passes.
 abbrev pub startedRow : Did → Option Row
 startedRow (started T lanes) = some (emptyRow T lanes)
-startedRow (begun k n) = nothing
-startedRow (ticked ts) = nothing
+startedRow (begun k n) = none
+startedRow (ticked ts) = none
 
 abbrev pub feedCall : Option Row → List Kept → (c : Call) → Given c → Option Known
-feedCall nothing ks c r = some (record { row = startedRow (did c r); kept = ks })
+feedCall none ks c r = some (record { row = startedRow (did c r); kept = ks })
 feedCall (some ρ) ks c r = fedRow (feed ρ c r) ks
 
 -- 02: "22, snapshot and table differ in length, tested first"; 3 and 4 are refusals of words of which no row is known.
@@ -87,18 +87,18 @@ feedCall (some ρ) ks c r = fedRow (feed ρ c r) ks
 abbrev pub refusalFits : (same-length : Bool) → (tested : Option Row) → ℕ → Bool
 refusalFits false tested n = eqb n 22
 refusalFits true (some ρ) n = false
-refusalFits true nothing n = eqb n 3 || eqb n 4
+refusalFits true none n = eqb n 3 || eqb n 4
 
 -- A take is a look; a snapshot taken while a row is known is kept with it.
 abbrev pub feedTake : Known → (same-length : Bool) → Reply → (snapshot : List ℕ) → Option Known
-feedTake κ same Accepted ss = cond same (some (record { row = κ .row; kept = keep ss (κ .row) (κ .kept) })) nothing
-feedTake κ same (Reply-Refused n) ss = cond (refusalFits same (κ .row) n) (some κ) nothing
+feedTake κ same Accepted ss = cond same (some (record { row = κ .row; kept = keep ss (κ .row) (κ .kept) })) none
+feedTake κ same (Reply-Refused n) ss = cond (refusalFits same (κ .row) n) (some κ) none
 
 -- 02: "the answers after it are those of a row whose history ends where it was taken, and demand 3 speaks of that table
 -- again. After any other snapshot put back it says nothing until the next start or a snapshot of the first kind."
 abbrev pub feedPut : Known → (same-length : Bool) → (snapshot : List ℕ) → Reply → Option Known
-feedPut κ same ss Accepted = cond same (some (record { row = rowKept ss (κ .kept); kept = κ .kept })) nothing
-feedPut κ same ss (Reply-Refused n) = cond (refusalFits same (rowKept ss (κ .kept)) n) (some κ) nothing
+feedPut κ same ss Accepted = cond same (some (record { row = rowKept ss (κ .kept); kept = κ .kept })) none
+feedPut κ same ss (Reply-Refused n) = cond (refusalFits same (rowKept ss (κ .kept)) n) (some κ) none
 
 -- What is known afterwards, of a table of so many words; nothing at all where what is known does not give that answer.
 abbrev pub feedEvent : (words : ℕ) → Known → (e : Event) → EventGiven e → Option Known
@@ -110,7 +110,7 @@ feedEvent n κ (put-event ss) r = feedPut κ (eqb (length ss) n) ss r
 
 -- A claim about a table and its row, where a row is known.
 abbrev pub Where : (Claim : List ℕ → Row → Type 0) → List ℕ → Option Row → Type 0
-Where Claim ws nothing = Unit {0}
+Where Claim ws none = Unit {0}
 Where Claim ws (some ρ) = Claim ws ρ
 
 -- Along a list of events, each on the table as the one before left it: the row, where one is known, gives every answer,

@@ -2,7 +2,7 @@
 use mathlib.Core.Path.{_≡_}
 use mathlib.Core.Bool.{true, false}
 use mathlib.Core.List.{List, [], _∷_, map}
-use mathlib.Core.Option.{Option, some, none as nothing}
+use mathlib.Core.Option.{Option, some, none}
 use Prim.Native.Nat.{ℕ, zero, suc, _+_, _≤_, _<_}
 use Rattle.machine.specs.declared.Dispatch.the-variants.{Answered}
 use Rattle.machine.specs.Sides.{left, sideNumber}
@@ -36,7 +36,7 @@ LeavesDispatched a-look ws vs = dispatched vs ≡ dispatched ws
 
 abbrev pub OthersLeaveDispatched : Type 0
 OthersLeaveDispatched =
-    (ws : List ℕ) → tableRefusal ws nothing ≡ nothing → (c : Call) → LeavesDispatched (asked c) ws (after c ws)
+    (ws : List ℕ) → tableRefusal ws none ≡ none → (c : Call) → LeavesDispatched (asked c) ws (after c ws)
 
 -- ---- Lists of calls with dispatches in them.
 
@@ -48,10 +48,10 @@ pub record Repeat : Type 0 where
 -- Those that a call asks for, where it asks for dispatches; a dispatch asks for one.
 abbrev pub dispatchesIn : Asked → Option Repeat
 dispatchesIn (dispatches-with h times) = some (record { hint = h; times = times })
-dispatchesIn (a-start S T g lanes) = nothing
-dispatchesIn (a-begin k l op side argument) = nothing
-dispatchesIn (ticks-of list) = nothing
-dispatchesIn a-look = nothing
+dispatchesIn (a-start S T g lanes) = none
+dispatchesIn (a-begin k l op side argument) = none
+dispatchesIn (ticks-of list) = none
+dispatchesIn a-look = none
 
 abbrev pub dispatchesOf : Call → Option Repeat
 dispatchesOf c = dispatchesIn (asked c)
@@ -59,7 +59,7 @@ dispatchesOf c = dispatchesIn (asked c)
 -- How many dispatches a call makes, and a list of calls.
 abbrev pub madeBy : Call → List ℕ → ℕ
 madeBy c ws =
-    elim (dispatchesOf c) as (λ _. ℕ) [ some d ↦ dispatchesMade (d .times) ws (d .hint) | nothing ↦ 0 ]
+    elim (dispatchesOf c) as (λ _. ℕ) [ some d ↦ dispatchesMade (d .times) ws (d .hint) | none ↦ 0 ]
 
 abbrev pub dispatchCount : List Call → List ℕ → ℕ
 dispatchCount [] ws = 0
@@ -71,12 +71,12 @@ NoneRefused [] ws = Unit {0}
 NoneRefused (c ∷ cs) ws =
     ((d : Repeat)
     → dispatchesOf c ≡ some d
-    → dispatchRefusalOf (dispatches (d .times) ws (d .hint) .answer) ≡ nothing)
+    → dispatchRefusalOf (dispatches (d .times) ws (d .hint) .answer) ≡ none)
     × NoneRefused cs (after c ws)
 
 -- What a dispatch did is the tick of task k, made; and k is the task last dispatched.
 pub record IsTickOf (k hint : ℕ) (ws : List ℕ) (done : Dispatched) : Type 0 where
-  pub made : refusalOf (tick ws k hint .answer) ≡ nothing
+  pub made : refusalOf (tick ws k hint .answer) ≡ none
   pub same-answer : done .answer ≡ Answered (tick ws k hint .answer)
   pub same-words : done .words ≡ setDispatched k (tick ws k hint .words)
 
@@ -106,7 +106,7 @@ BusyThroughout k (c ∷ cs) ws = (isBusyTask ws k ≡ true) × BusyThroughout k 
 abbrev pub Fair : Type 0
 Fair =
     (ws : List ℕ)
-    → tableRefusal ws nothing ≡ nothing
+    → tableRefusal ws none ≡ none
     → (k : ℕ) (calls : List Call)
     → BusyThroughout k calls ws
     → NoneRefused calls ws
@@ -121,7 +121,7 @@ pub data TickedOrEnded (k : ℕ) : List Call → List ℕ → Type 0 where
   gets-tick : {cs : List Call} {ws : List ℕ} (c : Call) → TicksTask k c ws → TickedOrEnded k (c ∷ cs) ws
   ends-first :
       {cs : List Call} {ws : List ℕ} (c : Call)
-      → dispatchesOf c ≡ nothing
+      → dispatchesOf c ≡ none
       → isBusyTask (after c ws) k ≡ false
       → 0 < dispatchCount cs (after c ws)
       → TickedOrEnded k (c ∷ cs) ws
@@ -135,7 +135,7 @@ pub data TickedOrEnded (k : ℕ) : List Call → List ℕ → Type 0 where
 abbrev pub FairUnlessEnded : Type 0
 FairUnlessEnded =
     (ws : List ℕ)
-    → tableRefusal ws nothing ≡ nothing
+    → tableRefusal ws none ≡ none
     → (k : ℕ)
     → isBusyTask ws k ≡ true
     → (calls : List Call)

@@ -2,9 +2,9 @@
 use mathlib.Core.Path.{_≡_}
 use mathlib.Core.Logic.{_≢_}
 use mathlib.Core.List.{List}
-use mathlib.Core.Option.{none as nothing}
+use mathlib.Core.Option.{none}
 use Prim.Native.Nat.{ℕ, zero, suc, _<_}
-use Rattle.machine.specs.Tasks.{none}
+use Rattle.machine.specs.Tasks.{noNode}
 use Rattle.machine.specs.Table.{nodeCount}
 use Rattle.machine.specs.Reach.{Reachable, Free}
 use Rattle.machine.specs.Round.{following}
@@ -28,8 +28,8 @@ pub record FirstFreeFrom (ws : List ℕ) (hint x : ℕ) : Type 0 where
 abbrev pub TakesFirstFree : Type 0
 TakesFirstFree =
     (ws : List ℕ)
-    → tableRefusal ws nothing ≡ nothing
+    → tableRefusal ws none ≡ none
     → (hint : ℕ)
     → hint < nodeCount ws
-    → (allocate ws hint ≢ none → FirstFreeFrom ws hint (allocate ws hint))
-    × (allocate ws hint ≡ none → (x : ℕ) → x < nodeCount ws → Reachable ws x)
+    → (allocate ws hint ≢ noNode → FirstFreeFrom ws hint (allocate ws hint))
+    × (allocate ws hint ≡ noNode → (x : ℕ) → x < nodeCount ws → Reachable ws x)

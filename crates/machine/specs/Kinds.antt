@@ -1,7 +1,7 @@
 -- The calls by kind: what each asks for, by its arguments, and what it did, by its arguments and answers. What is said of
 -- every call is said by these.
 use mathlib.Core.List.{List, [], _∷_}
-use mathlib.Core.Option.{Option, some, none as nothing}
+use mathlib.Core.Option.{Option, some, none}
 use Prim.Native.Nat.{ℕ, zero, suc}
 use Rattle.machine.specs.declared.Answer.{Answer}
 use Rattle.machine.specs.declared.Answer.the-variants.{Going}
@@ -88,7 +88,7 @@ beginDid k n Accepted = begun k n
 beginDid k n (Reply-Refused r) = ticked []
 
 abbrev pub tickDid : (k : ℕ) → Answer → List Tick
-tickDid k a = elim (refusalOf a) as (λ _. List Tick) [ some n ↦ [] | nothing ↦ of-task k a ∷ [] ]
+tickDid k a = elim (refusalOf a) as (λ _. List Tick) [ some n ↦ [] | none ↦ of-task k a ∷ [] ]
 
 -- Of consecutive ticks the last: those before it went on, which ends no call.
 abbrev pub ticksDid : (k times : ℕ) → Answer → List Tick
@@ -98,7 +98,7 @@ ticksDid k (suc n) a = tickDid k a
 abbrev pub dispatchDid : Dispatch → List Tick
 dispatchDid Idle = []
 dispatchDid (Answered a) =
-    elim (refusalOf a) as (λ _. List Tick) [ some n ↦ [] | nothing ↦ of-next a ∷ [] ]
+    elim (refusalOf a) as (λ _. List Tick) [ some n ↦ [] | none ↦ of-next a ∷ [] ]
 
 -- Those that went on, and the last where one did not.
 unfoldable pub dispatchesDid : (times wentOn : ℕ) → Dispatch → List Tick
@@ -117,7 +117,7 @@ runDid (suc n) (k ∷ h ∷ list) (kind ∷ digit ∷ []) = []
 runDid (suc n) (k ∷ h ∷ list) (kind ∷ digit ∷ low ∷ answers) =
     elim (answerOf kind digit low) as (λ _. List Tick) [
       | some a ↦ of-task k a ∷ runDid n list answers
-      | nothing ↦ []
+      | none ↦ []
     ]
 
 abbrev pub byListDid : Sent → (k lane : ℕ) (argument : Stored) → ByList → Did

@@ -49,7 +49,7 @@ use Rattle.machine.specs.Steps.{
 use Rattle.machine.specs.Tasks.{
   Task,
   fresh,
-  none,
+  noNode,
   goto,
   withA,
   withB,
@@ -116,7 +116,7 @@ abbrev pub refused : Task → Effect
 refused t = record { writes = []; task = t; answer = Refused 11 }
 
 abbrev pub through : ℕ → Task → Effect → Effect
-through x t e = if x ≟ none then refused t else e
+through x t e = if x ≟ noNode then refused t else e
 
 -- 01's swap (the figure's DCAS): both places are compared, then both are written. 02: "A swap compares and writes the
 -- digit with V as one thing": a value is compared and written whole.
@@ -128,7 +128,7 @@ dcas (no p) e done failed = failed
 -- ---- Choices of 01 that go by the operation or the value.
 
 -- 01: back is 2 for a push whose D is none, else 15.
-abbrev pub backOf : Operation → {x : ℕ} → Dec (x ≡ none) → Step
+abbrev pub backOf : Operation → {x : ℕ} → Dec (x ≡ noNode) → Step
 backOf push (yes h) = line2
 backOf push (no h) = line15
 backOf idle d = line15
@@ -137,20 +137,20 @@ backOf add d = line15
 backOf remove d = line15
 
 abbrev pub back : Task → Step
-back t = backOf (t .operation) (t .D ≟ none)
+back t = backOf (t .operation) (t .D ≟ noNode)
 
 -- 01: none free: push answers "full", add "no".
-abbrev pub noNode : Operation → Answer
-noNode push = Full
-noNode add = No
-noNode idle = No
-noNode pop = No
-noNode remove = No
+abbrev pub noneFree : Operation → Answer
+noneFree push = Full
+noneFree add = No
+noneFree idle = No
+noneFree pop = No
+noneFree remove = No
 
 -- 01: done: add answers "yes", push sets D none, counted 0, goes to 2.
 abbrev pub spliced : Operation → List Write → Task → Effect
 spliced add l t = writing l (answers Yes)
-spliced push l t = writing l (next (withCounted (withD t none) 0) line2)
+spliced push l t = writing l (next (withCounted (withD t noNode) 0) line2)
 spliced idle l t = writing l (answers Yes)
 spliced pop l t = writing l (answers Yes)
 spliced remove l t = writing l (answers Yes)
@@ -180,7 +180,7 @@ act line2 s o m t g f = next (withA t (m .hat)) line3
 -- 3: B = A.R; none 8, else 5.
 act line3 s o m t g f =
     through (t .A) t
-    (let b = m .out (t .A) in next (withB t b) (if b ≟ none then line8 else line5))
+    (let b = m .out (t .A) in next (withB t b) (if b ≟ noNode then line8 else line5))
 -- 5: swap hat A to B and A.V RN to the argument; done "pushed", failed 8.
 act line5 s o m t g f =
     through (t .A) t (through (t .B) t
@@ -200,7 +200,7 @@ act line69 s o m t g f = through (t .A) t (next (withB t (m .inn (t .A))) line70
 -- 70: C = B.R; none back, else 72.
 act line70 s o m t g f =
     through (t .B) t
-    (let c = m .out (t .B) in next (withC t c) (if c ≟ none then back t else line72))
+    (let c = m .out (t .B) in next (withC t c) (if c ≟ noNode then back t else line72))
 -- 72: swap hat A to C; back either way.
 act line72 s o m t g f =
     through (t .C) t
@@ -208,15 +208,15 @@ act line72 s o m t g f =
 -- 28: take a free slot, links none, V RX; D = it; counted 0; goal 0 then 15, else 31.
 -- None free: push answers "full", add "no".
 act line28 s o m t g f =
-    if f ≟ none then answers (noNode (t .operation)) else
-    writing (out≔ f none ∷ inn≔ f none ∷ val≔ f (X s) ∷ [])
+    if f ≟ noNode then answers (noneFree (t .operation)) else
+    writing (out≔ f noNode ∷ inn≔ f noNode ∷ val≔ f (X s) ∷ [])
     (next (withCounted (withD t f) 0) (if g ≟ 0 then line15 else line31))
 -- 31: take a free slot N, V RN, N.L none, N.R = D, D.L = N, D = N, counted + 1; goal reached 15, else 31.
 -- None free: 15 with the chain so far.
 act line31 s o m t g f =
     through (t .D) t
-    (if f ≟ none then next t line15 else
-    writing (val≔ f (N s) ∷ inn≔ f none ∷ out≔ f (t .D) ∷ inn≔ (t .D) f ∷ [])
+    (if f ≟ noNode then next t line15 else
+    writing (val≔ f (N s) ∷ inn≔ f noNode ∷ out≔ f (t .D) ∷ inn≔ (t .D) f ∷ [])
     (next (withCounted (withD t f) (suc (t .counted))) (if suc (t .counted) ≟ g then line15 else line31)))
 -- 15: A = hat; 17.
 act line15 s o m t g f = next (withA t (m .hat)) line17
@@ -229,7 +229,7 @@ act line17 s o m t g f =
 -- 18: A = A.R; none 15, else 17.
 act line18 s o m t g f =
     through (t .A) t
-    (let a = m .out (t .A) in next (withA t a) (if a ≟ none then line15 else line17))
+    (let a = m .out (t .A) in next (withA t a) (if a ≟ noNode then line15 else line17))
 -- 24: D.L = A, B = A.R; 25.
 act line24 s o m t g f =
     through (t .A) t (through (t .D) t
@@ -245,7 +245,7 @@ act line39 s o m t g f = next (withA t (m .hat)) line40
 -- 40: B = A.L; none 39, else 42.
 act line40 s o m t g f =
     through (t .A) t
-    (let b = m .inn (t .A) in next (withB t b) (if b ≟ none then line39 else line42))
+    (let b = m .inn (t .A) in next (withB t b) (if b ≟ noNode then line39 else line42))
 -- 42: value = B.V; a bag 51, LN or LX 48, else 39.
 act line42 s o m t g f =
     through (t .B) t
@@ -269,12 +269,12 @@ act line56 s o m t g f =
 act line58 s o m t g f =
     through (t .A) t
     (let a = m .out (t .A) in
-    if a ≟ none then answers Yes else
+    if a ≟ noNode then answers Yes else
     next (withCounted (withA t a) (suc (t .counted))) (if suc (t .counted) ≟ g then line60 else line56))
 -- 60: B = A.R; none "yes", else 62.
 act line60 s o m t g f =
     through (t .A) t
-    (let b = m .out (t .A) in if b ≟ none then answers Yes else next (withB t b) line62)
+    (let b = m .out (t .A) in if b ≟ noNode then answers Yes else next (withB t b) line62)
 -- 62: swap A.V RN to RX and B.V RN to RY; failed "no", else 64.
 act line62 s o m t g f =
     through (t .A) t (through (t .B) t
@@ -284,11 +284,11 @@ act line62 s o m t g f =
 -- 64: swap A.R B to none; 74 either way.
 act line64 s o m t g f =
     through (t .A) t
-    (writing (if m .out (t .A) ≟ t .B then out≔ (t .A) none ∷ [] else []) (next t line74))
+    (writing (if m .out (t .A) ≟ t .B then out≔ (t .A) noNode ∷ [] else []) (next t line74))
 -- 74: A = B, then B = A.R; none 82, else 77.
 act line74 s o m t g f =
     through (t .B) t
-    (let b = m .out (t .B) in next (withB (withA t (t .B)) b) (if b ≟ none then line82 else line77))
+    (let b = m .out (t .B) in next (withB (withA t (t .B)) b) (if b ≟ noNode then line82 else line77))
 -- 77: value = B.V; 78.
 act line77 s o m t g f = through (t .B) t (next (withValue t (m .val (t .B))) line78)
 -- 78: swap B.V from value to RY; failed 77, done 79.
@@ -297,11 +297,11 @@ act line78 s o m t g f =
     (if m .val (t .B) ≟ᵛ t .value then writing (val≔ (t .B) (Y s) ∷ []) (next t line79) else next t line77)
 -- 79: A.R = none, A = B; 81.
 act line79 s o m t g f =
-    through (t .A) t (writing (out≔ (t .A) none ∷ []) (next (withA t (t .B)) line81))
+    through (t .A) t (writing (out≔ (t .A) noNode ∷ []) (next (withA t (t .B)) line81))
 -- 81: B = A.R; none or value RX 82, else 77.
 act line81 s o m t g f =
     through (t .A) t
     (let b = m .out (t .A) in
-    next (withB t b) (if b ≟ none then line82 else if t .value ≟ᵛ X s then line82 else line77))
+    next (withB t b) (if b ≟ noNode then line82 else if t .value ≟ᵛ X s then line82 else line77))
 -- 82: A.R = none; "yes".
-act line82 s o m t g f = through (t .A) t (writing (out≔ (t .A) none ∷ []) (answers Yes))
+act line82 s o m t g f = through (t .A) t (writing (out≔ (t .A) noNode ∷ []) (answers Yes))

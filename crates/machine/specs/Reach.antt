@@ -5,7 +5,7 @@ use mathlib.Core.Bool.{true}
 use mathlib.Core.List.{List}
 use Prim.Native.Nat.{ℕ, _<_}
 use Rattle.machine.specs.Sides.{Side}
-use Rattle.machine.specs.Tasks.{none, Register, register}
+use Rattle.machine.specs.Tasks.{noNode, Register, register}
 use Rattle.machine.specs.Registers.{holds}
 use Rattle.machine.specs.Table.{nodeCount, laneCount, hat, link, task}
 
@@ -15,9 +15,9 @@ pub data Reachable (ws : List ℕ) : ℕ → Type 0 where
   from-hat : (l : ℕ) (s : Side) → l < laneCount ws → Reachable ws (hat ws l s)
   from-register : (k : ℕ) (r : Register)
       → holds (task ws k .step) r ≡ true
-      → register (task ws k) r ≢ none
+      → register (task ws k) r ≢ noNode
       → Reachable ws (register (task ws k) r)
-  along : {x : ℕ} (s : Side) → Reachable ws x → link ws s x ≢ none → Reachable ws (link ws s x)
+  along : {x : ℕ} (s : Side) → Reachable ws x → link ws s x ≢ noNode → Reachable ws (link ws s x)
 
 -- 01: a slot is free when nothing reaches it.
 pub record Free (ws : List ℕ) (x : ℕ) : Type 0 where

@@ -41,7 +41,7 @@ use Rattle.machine.specs.Steps.{
   line81,
   line82,
 }
-use Rattle.machine.specs.Tasks.{Task, none, Register, inA, inB, inC, inD, register}
+use Rattle.machine.specs.Tasks.{Task, noNode, Register, inA, inB, inC, inD, register}
 
 -- The registers in 01's order.
 abbrev pub registerNumber : Register → ℕ
@@ -98,4 +98,4 @@ holds st r = among (holding st) r
 
 -- The node that a task's register holds, or none.
 abbrev pub heldIn : Task → Register → ℕ
-heldIn t r = cond (holds (t .step) r) (register t r) none
+heldIn t r = cond (holds (t .step) r) (register t r) noNode

@@ -1,7 +1,7 @@
 -- Going round by number: past the last one comes 0. In this order free nodes are looked for and tasks dispatched.
 use mathlib.Core.Path.{_≡_}
 use mathlib.Core.Bool.{Bool, true, false, cond}
-use mathlib.Core.Option.{Option, some, none as nothing}
+use mathlib.Core.Option.{Option, some, none}
 use Prim.Native.Nat.{ℕ, zero, suc, _+_, _-_, _≤_, _<_}
 use lib.Dec.{ltb}
 use Rattle.machine.specs.Choice.{_<?_, if_then_else_}
@@ -12,7 +12,7 @@ following n i = cond (ltb (i + 1) n) (i + 1) 0
 
 -- The first of m numbers from i on, going round below n, that passes the test.
 unfoldable pub firstFrom : (n : ℕ) → (ℕ → Bool) → (m i : ℕ) → Option ℕ
-firstFrom n test zero i = nothing
+firstFrom n test zero i = none
 firstFrom n test (suc m) i =
     elim (test i) as (λ _. Option ℕ) [ true ↦ some i | false ↦ firstFrom n test m (following n i) ]
 
@@ -38,4 +38,4 @@ FindsNext =
     (n : ℕ) (test : ℕ → Bool) (i : ℕ)
     → i < n
     → ((j : ℕ) → nextAfter n test i ≡ some j → IsNext n test i j)
-    × (nextAfter n test i ≡ nothing → (k : ℕ) → k < n → test k ≡ false)
+    × (nextAfter n test i ≡ none → (k : ℕ) → k < n → test k ≡ false)

@@ -1,7 +1,7 @@
 -- The plain row of bags: what it keeps, and which answers it gives. It is fed arguments and answers, never the table.
 use mathlib.Core.Bool.{Bool, true, false, cond}
 use mathlib.Core.List.{List, [], _∷_, _++_, reverse}
-use mathlib.Core.Option.{Option, some, none as nothing, Option·map, bind}
+use mathlib.Core.Option.{Option, some, none, Option·map, bind}
 use Prim.Native.Nat.{ℕ, zero, suc, _-_}
 use Rattle.machine.specs.declared.Answer.{Answer}
 use Rattle.machine.specs.declared.Answer.the-variants.{Going, Pushed, Bag, Empty, Full, Yes, No, Refused}
@@ -41,7 +41,7 @@ pub record Row : Type 0 where
 -- 01: at first the row is empty and there are no notes. 02: "T - 1 after a start".
 abbrev pub emptyRow : (T lanes : ℕ) → Row
 emptyRow T lanes =
-    record { lanes = lanes; bags = λ l. []; notes = λ k. nothing; tasks = T; dispatched = T - 1 }
+    record { lanes = lanes; bags = λ l. []; notes = λ k. none; tasks = T; dispatched = T - 1 }
 
 -- With one thing set.
 abbrev pub noted : Row → ℕ → Option Note → Row
@@ -75,8 +75,8 @@ put right b bags = bags ++ (b ∷ [])
 
 -- The bags without the one at a side's end, where that one is b.
 abbrev pub takeFirst : ℕ → List ℕ → Option (List ℕ)
-takeFirst b [] = nothing
-takeFirst b (x ∷ xs) = if x ≟ b then some xs else nothing
+takeFirst b [] = none
+takeFirst b (x ∷ xs) = if x ≟ b then some xs else none
 
 abbrev pub takeBag : Side → ℕ → List ℕ → Option (List ℕ)
 takeBag left b bags = takeFirst b bags
@@ -86,37 +86,37 @@ takeBag right b bags = Option·map reverse (takeFirst b (reverse bags))
 unfoldable pub pushAnswered : Note → Answer → List ℕ → Option (List ℕ)
 pushAnswered n Pushed bags = some (put (n .side) (n .argument) bags)
 pushAnswered n Full bags = some bags
-pushAnswered n Going bags = nothing
-pushAnswered n (Bag b) bags = nothing
-pushAnswered n Empty bags = nothing
-pushAnswered n Yes bags = nothing
-pushAnswered n No bags = nothing
-pushAnswered n (Refused r) bags = nothing
+pushAnswered n Going bags = none
+pushAnswered n (Bag b) bags = none
+pushAnswered n Empty bags = none
+pushAnswered n Yes bags = none
+pushAnswered n No bags = none
+pushAnswered n (Refused r) bags = none
 
 unfoldable pub popAnswered : Note → Answer → List ℕ → Option (List ℕ)
 popAnswered n (Bag b) bags = takeBag (n .side) b bags
 popAnswered n Empty [] = some []
-popAnswered n Empty (b ∷ bags) = nothing
-popAnswered n Going bags = nothing
-popAnswered n Pushed bags = nothing
-popAnswered n Full bags = nothing
-popAnswered n Yes bags = nothing
-popAnswered n No bags = nothing
-popAnswered n (Refused r) bags = nothing
+popAnswered n Empty (b ∷ bags) = none
+popAnswered n Going bags = none
+popAnswered n Pushed bags = none
+popAnswered n Full bags = none
+popAnswered n Yes bags = none
+popAnswered n No bags = none
+popAnswered n (Refused r) bags = none
 
 -- 01: "yes" and "no": only to an add or remove. The row stays.
 unfoldable pub sizeAnswered : Answer → List ℕ → Option (List ℕ)
 sizeAnswered Yes bags = some bags
 sizeAnswered No bags = some bags
-sizeAnswered Going bags = nothing
-sizeAnswered Pushed bags = nothing
-sizeAnswered (Bag b) bags = nothing
-sizeAnswered Empty bags = nothing
-sizeAnswered Full bags = nothing
-sizeAnswered (Refused r) bags = nothing
+sizeAnswered Going bags = none
+sizeAnswered Pushed bags = none
+sizeAnswered (Bag b) bags = none
+sizeAnswered Empty bags = none
+sizeAnswered Full bags = none
+sizeAnswered (Refused r) bags = none
 
 abbrev pub answeredBy : Operation → Note → Answer → List ℕ → Option (List ℕ)
-answeredBy idle n a bags = nothing
+answeredBy idle n a bags = none
 answeredBy push n a bags = pushAnswered n a bags
 answeredBy pop n a bags = popAnswered n a bags
 answeredBy add n a bags = sizeAnswered a bags
@@ -132,22 +132,22 @@ unfoldable pub feedMade : Row → ℕ → Answer → Option Row
 feedMade ρ k a =
     bind (ρ .notes k)
     (λ n. cond (isGoing a) (some ρ)
-    (Option·map (λ bags. noted (withBags ρ (n .lane) bags) k nothing) (answered n a (ρ .bags (n .lane)))))
+    (Option·map (λ bags. noted (withBags ρ (n .lane) bags) k none) (answered n a (ρ .bags (n .lane)))))
 
 -- 01: run: the ticks it reports made, by its pairs and the words it wrote, one after another.
 unfoldable pub feedRun : Row → (made : ℕ) → (list answers : List ℕ) → Option Row
 feedRun ρ zero list answers = some ρ
-feedRun ρ (suc n) [] answers = nothing
-feedRun ρ (suc n) (k ∷ []) answers = nothing
-feedRun ρ (suc n) (k ∷ h ∷ list) [] = nothing
-feedRun ρ (suc n) (k ∷ h ∷ list) (kind ∷ []) = nothing
-feedRun ρ (suc n) (k ∷ h ∷ list) (kind ∷ digit ∷ []) = nothing
+feedRun ρ (suc n) [] answers = none
+feedRun ρ (suc n) (k ∷ []) answers = none
+feedRun ρ (suc n) (k ∷ h ∷ list) [] = none
+feedRun ρ (suc n) (k ∷ h ∷ list) (kind ∷ []) = none
+feedRun ρ (suc n) (k ∷ h ∷ list) (kind ∷ digit ∷ []) = none
 feedRun ρ (suc n) (k ∷ h ∷ list) (kind ∷ digit ∷ low ∷ answers) =
     bind (answerOf kind digit low) (λ a. bind (feedMade ρ k a) (λ ρ′. feedRun ρ′ n list answers))
 
 -- ---- 2026-07: a dispatch.
 abbrev pub hasNote : Option Note → Bool
-hasNote nothing = false
+hasNote none = false
 hasNote (some n) = true
 
 -- 02: "the next task with a note, going round, after the task last dispatched".
@@ -164,12 +164,12 @@ feedDispatched ρ a =
 unfoldable pub feedIdle : Row → Option Row
 feedIdle ρ =
     elim (nextNoted (ρ .notes) (ρ .tasks) (ρ .dispatched)) as (λ _. Option Row) [
-      | some k ↦ nothing
-      | nothing ↦ some ρ
+      | some k ↦ none
+      | none ↦ some ρ
     ]
 
 -- 01: any other refused call: nothing changes.
 unfoldable pub feedDispatch : Row → Dispatch → Option Row
 feedDispatch ρ Idle = feedIdle ρ
 feedDispatch ρ (Answered a) =
-    elim (refusalOf a) as (λ _. Option Row) [ some n ↦ some ρ | nothing ↦ feedDispatched ρ a ]
+    elim (refusalOf a) as (λ _. Option Row) [ some n ↦ some ρ | none ↦ feedDispatched ρ a ]

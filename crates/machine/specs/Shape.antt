@@ -22,7 +22,7 @@ use Rattle.machine.specs.Steps.{
   isStepIn,
 }
 use Rattle.machine.specs.Tasks.{
-  none,
+  noNode,
   fresh,
   wordsOf,
   inA,
@@ -116,11 +116,11 @@ sameWords xs ys = same xs ys
 
 -- 01: a slot number below S, or none.
 abbrev pub nodeOrNone : (S x : ℕ) → Bool
-nodeOrNone S x = ltb x S || eqb x none
+nodeOrNone S x = ltb x S || eqb x noNode
 
 -- 01: hats are below S. 02: "unused ones none".
 abbrev pub hatOk : List ℕ → (lane : ℕ) → Side → Bool
-hatOk ws l s = cond (ltb l (laneCount ws)) (ltb (hatWord ws l s) (nodeCount ws)) (eqb (hatWord ws l s) none)
+hatOk ws l s = cond (ltb l (laneCount ws)) (ltb (hatWord ws l s) (nodeCount ws)) (eqb (hatWord ws l s) noNode)
 
 -- 02: the dispatcher's task "must be below T in the shape"; the last two words are 0.
 abbrev pub headerOk : List ℕ → Bool

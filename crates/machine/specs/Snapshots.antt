@@ -1,7 +1,7 @@
 -- Request 2026-10: a snapshot of a table, by columns; taking it and putting it back.
 use mathlib.Core.Path.{_≡_}
 use mathlib.Core.List.{List, [], _∷_, _++_}
-use mathlib.Core.Option.{Option, none as nothing}
+use mathlib.Core.Option.{Option, none}
 use Prim.Native.Nat.{ℕ, zero, suc, _+_, _*_, _≤_, _<_}
 use lib.Dec.{eqb}
 use lib.ListN.{length, getD, take, drop}
@@ -50,11 +50,11 @@ snapshotRefusal ss ws others = unless (eqb (length ss) (length ws)) 22 others
 
 -- 02: "Taking tests 3 and 4 on the table". It leaves the table as it is, and writes every word of the snapshot.
 unfoldable pub takeSnapshot : (ws out : List ℕ) → Changed
-takeSnapshot ws out = changed (snapshotRefusal out ws (tableRefusal ws nothing)) out (byColumns ws)
+takeSnapshot ws out = changed (snapshotRefusal out ws (tableRefusal ws none)) out (byColumns ws)
 
 -- 02: "putting back tests them on the result before it writes". The words that the table had are not tested.
 unfoldable pub putBack : (snapshot ws : List ℕ) → Changed
-putBack ss ws = changed (snapshotRefusal ss ws (tableRefusal (byNodes ss) nothing)) ws (byNodes ss)
+putBack ss ws = changed (snapshotRefusal ss ws (tableRefusal (byNodes ss) none)) ws (byNodes ss)
 
 -- ---- What is promised of the words.
 

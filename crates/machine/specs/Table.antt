@@ -8,7 +8,7 @@ use Rattle.machine.specs.declared.Stored.{Stored}
 use Rattle.machine.specs.Choice.{_<?_, if_then_else_}
 use Rattle.machine.specs.Sides.{Side, left, right, sideNumber}
 use Rattle.machine.specs.Values.{Value, never, encode, decode, storedWords, storedAt, storedLength}
-use Rattle.machine.specs.Tasks.{Task, fresh, none, recordLength, wordsOf, taskOf}
+use Rattle.machine.specs.Tasks.{Task, fresh, noNode, recordLength, wordsOf, taskOf}
 
 -- 02: "the length is 16 + 4S + 13T". 01: in the order header, slots, tasks.
 abbrev pub headerLength : ℕ
@@ -81,7 +81,7 @@ hatWord ws l s = getD ws (hatAt l s) 0
 
 -- A lane's hat on a side. A number past the four pairs has none.
 unfoldable pub hat : List ℕ → (lane : ℕ) → Side → ℕ
-hat ws l s = if l <? mostLanes then hatWord ws l s else none
+hat ws l s = if l <? mostLanes then hatWord ws l s else noNode
 
 -- The two words that are always 0.
 abbrev pub word14At : ℕ
@@ -124,7 +124,7 @@ nodeWords l r v = l ∷ r ∷ storedWords (encode v)
 
 -- A node's link on a side: L on the left, R on the right. A number that is no node has none.
 unfoldable pub link : List ℕ → Side → ℕ → ℕ
-link ws s x = if x <? nodeCount ws then linkWord ws s x else none
+link ws s x = if x <? nodeCount ws then linkWord ws s x else noNode
 
 -- A node's value.
 unfoldable pub value : List ℕ → ℕ → Value

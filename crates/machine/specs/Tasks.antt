@@ -9,8 +9,8 @@ use Rattle.machine.specs.Operations.{Operation, idle, operationNumber, o
 use Rattle.machine.specs.Steps.{Step, rest, stepNumber, stepOf}
 
 -- 01: 65,535 for none: no node.
-abbrev pub none : ℕ
-none = 65535
+abbrev pub noNode : ℕ
+noNode = 65535
 
 -- 01: operation, step, side, argument, counted, value read, and four registers, node numbers or none. Argument and
 -- value read include the digit that 02 gives them. 02: "A task's last word is its lane".
@@ -37,10 +37,10 @@ fresh =
       argument = 0;
       counted = 0;
       value = never;
-      A = none;
-      B = none;
-      C = none;
-      D = none;
+      A = noNode;
+      B = noNode;
+      C = noNode;
+      D = noNode;
       lane = 0;
     }
 

@@ -2,7 +2,7 @@
 use mathlib.Core.Path.{_≡_}
 use mathlib.Core.Bool.{cond}
 use mathlib.Core.List.{List}
-use mathlib.Core.Option.{none as nothing}
+use mathlib.Core.Option.{none}
 use Prim.Native.Nat.{ℕ, _+_, _-_, _%_, _^_, _<_}
 use Rattle.machine.specs.declared.Dispatch.{Dispatch}
 use Rattle.machine.specs.declared.Dispatch.the-variants.{Idle, Answered}
@@ -20,7 +20,7 @@ endedOne (Answered a) = cond (endsCall a) 1 0
 abbrev pub CountTells : Type 0
 CountTells =
     (ws : List ℕ)
-    → tableRefusal ws nothing ≡ nothing
+    → tableRefusal ws none ≡ none
     → tickCount ws < 2 ^ 32
     → (hint times : ℕ)
     → times < 2 ^ 32

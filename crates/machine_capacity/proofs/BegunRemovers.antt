@@ -7,7 +7,7 @@ use Rattle.machine.specs.Sides.{Side, left, right}
 use Rattle.machine.specs.Values.{never, X}
 use Rattle.machine.specs.Operations.{Operation, idle, push, pop, add, remove}
 use Rattle.machine.specs.Steps.{firstStep}
-use Rattle.machine.specs.Tasks.{Task, none, fresh}
+use Rattle.machine.specs.Tasks.{Task, noNode, fresh}
 use Rattle.machine.specs.Table.{task}
 use Rattle.machine.specs.Calls.{begunTask}
 use Rattle.machine.specs.Begun.{Begun}
@@ -34,7 +34,7 @@ use Rattle.machine_capacity.proofs.RemoversTick.{removers-after-tick}
 -- ---- Start: no X and no Y has an outward link, and every task is fresh.
 no-links-no-removers : {M : View} {ts : ℕ → Task}
     → ((j : ℕ) → ts j ≡ fresh)
-    → ((s : Side) (μ : Mark) (n : ℕ) → view s M .val n ≡ marked μ s → view s M .out n ≡ none)
+    → ((s : Side) (μ : Mark) (n : ℕ) → view s M .val n ≡ marked μ s → view s M .out n ≡ noNode)
     → LinksHaveRemovers M ts
 no-links-no-removers {M} fresh-tasks no-link =
     record {
@@ -46,12 +46,12 @@ no-links-no-removers {M} fresh-tasks no-link =
 
 start-no-link : (L : ℕ) (s : Side) (μ : Mark) (n : ℕ)
     → view s (startView L) .val n ≡ marked μ s
-    → view s (startView L) .out n ≡ none
+    → view s (startView L) .out n ≡ noNode
 start-no-link L left μ n v = go μ (n <? 2 * L) (n % 2 ≟ 0) v
   where
     go : (μ : Mark) (d : Dec (n < 2 * L)) (p : Dec (n % 2 ≡ 0))
         → (if d then (if p then X left else X right) else never) ≡ marked μ left
-        → (if d then (if p then none else n - 1) else none) ≡ none
+        → (if d then (if p then noNode else n - 1) else noNode) ≡ noNode
     go μ (no h) p v = refl
     go μ (yes h) (yes e) v = refl
     go end (yes h) (no e) v = clash (cc)
@@ -60,7 +60,7 @@ start-no-link L right μ n v = go μ (n <? 2 * L) (n % 2 ≟ 0) v
   where
     go : (μ : Mark) (d : Dec (n < 2 * L)) (p : Dec (n % 2 ≡ 0))
         → (if d then (if p then X left else X right) else never) ≡ marked μ right
-        → (if d then (if p then n + 1 else none) else none) ≡ none
+        → (if d then (if p then n + 1 else noNode) else noNode) ≡ noNode
     go μ (no h) p v = refl
     go end (yes h) (yes e) v = clash (cc)
     go cut (yes h) (yes e) v = clash (cc)

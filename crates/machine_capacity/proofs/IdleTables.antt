@@ -9,7 +9,7 @@ use lib.ListN.{length, getD}
 use Rattle.machine.specs.Choice.{_≟_, _<?_}
 use Rattle.machine.specs.Sides.{Side, left, right, opposite}
 use Rattle.machine.specs.Values.{bag, N, X, Y}
-use Rattle.machine.specs.Tasks.{Task, fresh, none, Register, register, inA, inB, inC, inD}
+use Rattle.machine.specs.Tasks.{Task, fresh, noNode, Register, register, inA, inB, inC, inD}
 use Rattle.machine.specs.Table.{laneCount, hat, link, value, task}
 use Rattle.machine.specs.Reach.{Reachable, from-hat, from-register, along}
 use Rattle.machine.specs.Begun.{Begun}
@@ -69,7 +69,7 @@ data Spot (ws : List ℕ) (shape : ℕ → LaneShape) (x : ℕ) : Type 0 where
       → i < listOf (shape ℓ)
       → hat ws ℓ z ≡ x
       → value ws x ≡ Y z
-      → link ws z x ≡ none
+      → link ws z x ≡ noNode
       → link ws (opposite z) x ≡ shape ℓ .at i
       → Spot ws shape x
 
@@ -96,7 +96,7 @@ module _ (ws : List ℕ) (shape : ℕ → LaneShape) (lanes : (ℓ : ℕ) → �
       (omega (arith, M .some-left, M .some-right)) (lanes ℓ h .right-hat)
 
   from-main : (z : Side) (ℓ : ℕ) → ℓ < laneCount ws → (i x : ℕ) → i < listOf (shape ℓ) → shape ℓ .at i ≡ x
-      → link ws z x ≢ none
+      → link ws z x ≢ noNode
       → Spot ws shape (link ws z x)
   from-main left ℓ h zero x l e ne =
       absurd (ne (ap (link ws left) (sym e) ∙ lanes ℓ h .main-list .left-end))
@@ -111,16 +111,16 @@ module _ (ws : List ℕ) (shape : ℕ → LaneShape) (lanes : (ℓ : ℕ) → �
 
   from-hung : (s z : Side) (ℓ : ℕ) → ℓ < laneCount ws → (i x : ℕ)
       → i < listOf (shape ℓ)
-      → link ws z x ≡ none
+      → link ws z x ≡ noNode
       → link ws (opposite z) x ≡ shape ℓ .at i
-      → link ws s x ≢ none
+      → link ws s x ≢ noNode
       → Spot ws shape (link ws s x)
   from-hung left left ℓ h i x l o e ne = absurd (ne o)
   from-hung left right ℓ h i x l o e ne = in-main ℓ h i l (sym e)
   from-hung right left ℓ h i x l o e ne = in-main ℓ h i l (sym e)
   from-hung right right ℓ h i x l o e ne = absurd (ne o)
 
-  link-spot : (z : Side) (x : ℕ) → Spot ws shape x → link ws z x ≢ none → Spot ws shape (link ws z x)
+  link-spot : (z : Side) (x : ℕ) → Spot ws shape x → link ws z x ≢ noNode → Spot ws shape (link ws z x)
   link-spot z x (in-main ℓ h i l e) ne = from-main z ℓ h i x l e ne
   link-spot z x (hung ℓ h y i l q v o e) ne = from-hung z y ℓ h i x l o e ne
 
@@ -135,10 +135,10 @@ module _ {ws : List ℕ} (B : Begun ws) (idle-now : Idle ws) where
   no-cutter : {s : Side} (μ : Mark) (n l : ℕ) → CutBy (task ws) s μ n l → ⊥
   no-cutter μ n l c = subst (λ (t : Task). Cuts (duty (t .step)) μ t n l) (tasks-fresh (c .cutter)) (c .cuts)
 
-  leads-nowhere : (s : Side) (μ : Mark) (n : ℕ) → value ws n ≡ marked μ s → link ws s n ≡ none
-  leads-nowhere s μ n v = elim (link ws s n ≟ none) [ yes e ↦ e | no ne ↦ absurd (no-cutter μ n _ (cutter s v ne)) ]
+  leads-nowhere : (s : Side) (μ : Mark) (n : ℕ) → value ws n ≡ marked μ s → link ws s n ≡ noNode
+  leads-nowhere s μ n v = elim (link ws s n ≟ noNode) [ yes e ↦ e | no ne ↦ absurd (no-cutter μ n _ (cutter s v ne)) ]
     where
-      cutter : (s : Side) → value ws n ≡ marked μ s → link ws s n ≢ none → CutBy (task ws) s μ n (link ws s n)
+      cutter : (s : Side) → value ws n ≡ marked μ s → link ws s n ≢ noNode → CutBy (task ws) s μ n (link ws s n)
       cutter left v ne = begun-removers B .has-removers left .remover μ n v ne
       cutter right v ne = begun-removers B .has-removers right .remover μ n v ne
 
@@ -196,10 +196,10 @@ module _ {ws : List ℕ} (B : Begun ws) (idle-now : Idle ws) where
         let e : leftSpare + length row + i ≡ n = omega (arith, bags-end, b≤n) in
         ap (λ (j : ℕ). value ws (place j)) e ∙ S .values .X-last
 
-    first-nowhere : link ws left (place 0) ≡ none
+    first-nowhere : link ws left (place 0) ≡ noNode
     first-nowhere = leads-nowhere left end (place 0) (S .values .X-first)
 
-    last-nowhere : link ws right (place n) ≡ none
+    last-nowhere : link ws right (place n) ≡ noNode
     last-nowhere = leads-nowhere right end (place n) (S .values .X-last)
 
     apart : (i j : ℕ) → i ≤ n → j ≤ n → place i ≡ place j → i ≡ j
@@ -294,10 +294,10 @@ module _ {ws : List ℕ} (B : Begun ws) (idle-now : Idle ws) where
       go (yes h) = lane-there ℓ h
       go (no h) = absurd (h is-lane)
 
-  fresh-register : (k : ℕ) (r : Register) → register (task ws k) r ≡ none
+  fresh-register : (k : ℕ) (r : Register) → register (task ws k) r ≡ noNode
   fresh-register k r = ap (λ (t : Task). register t r) (tasks-fresh k) ∙ of-fresh r
     where
-      of-fresh : (r : Register) → register fresh r ≡ none
+      of-fresh : (r : Register) → register fresh r ≡ noNode
       of-fresh inA = refl
       of-fresh inB = refl
       of-fresh inC = refl

@@ -5,7 +5,7 @@ use mathlib.Core.Bool.{Bool, true}
 use Prim.Native.Nat.{ℕ}
 use Rattle.machine.specs.Sides.{Side}
 use Rattle.machine.specs.Values.{Value, bag, N, Y}
-use Rattle.machine.specs.Tasks.{Task, none}
+use Rattle.machine.specs.Tasks.{Task, noNode}
 use Rattle.machine.specs.Lines.{Effect}
 use Rattle.machine.proofs.Basics.Contradiction.{refute}
 use Rattle.machine.proofs.Basics.Updates.{Wrote, it-is, it-is-not, wrote?}
@@ -32,8 +32,8 @@ pub data LinkStays (z : Side) (m m' : View) (x : ℕ) : Type 0 where
 
 pub record KeepsRemovers (held : ℕ → Bool) (class : ℕ → Class) (z : Side) (m m' : View)
     (d d' : Duty) (t t' : Task) : Type 0 where
-  pub still-cut : (μ : Mark) (n : ℕ) → m' .val n ≡ marked μ z → m' .out n ≢ none → StillCut z m m' d d' t t' μ n
-  pub link-stays : (x : ℕ) → held x ≡ true → Old class x → m .out x ≢ none → LinkStays z m m' x
+  pub still-cut : (μ : Mark) (n : ℕ) → m' .val n ≡ marked μ z → m' .out n ≢ noNode → StillCut z m m' d d' t t' μ n
+  pub link-stays : (x : ℕ) → held x ≡ true → Old class x → m .out x ≢ noNode → LinkStays z m m' x
 
 -- A tick of a task of lane ℓ on side s with effect e: on its own side, where its duty counts, on the other side, and
 -- what its new step says of A and B.

@@ -12,7 +12,7 @@ use Rattle.machine.specs.Values.{Value, never, bag, N, X, Y, _≟ᵛ_}
 use Rattle.machine.specs.Operations.{Operation, idle, push, pop, add, remove}
 use Rattle.machine.specs.Steps.{Step}
 use Rattle.machine.specs.Steps as Steps
-use Rattle.machine.specs.Tasks.{Task, none}
+use Rattle.machine.specs.Tasks.{Task, noNode}
 use Rattle.machine.specs.Lines.{Effect, refused, through, backOf, afterRead}
 use Rattle.machine.proofs.Basics.Contradiction.{less?}
 use Rattle.machine.proofs.Basics.Choices.{by-if}
@@ -35,7 +35,7 @@ chain-owner m H =
     ]
 
 -- Where the steps chosen by operation or value lead, there is no duty.
-pub back-off : (op : Operation) {x : ℕ} (d : Dec (x ≡ none)) → duty (backOf op d) ≡ no-duty
+pub back-off : (op : Operation) {x : ℕ} (d : Dec (x ≡ noNode)) → duty (backOf op d) ≡ no-duty
 back-off idle d = refl
 back-off push (yes h) = refl
 back-off push (no h) = refl
@@ -68,7 +68,7 @@ module _ {held : ℕ → Bool} {class : ℕ → Class} {ℓ : ℕ} {s o : Side} 
       }
 
   pub past : {st : Step} → t .step ≡ st → Sure (duty st) s m t → {x : ℕ} {e : Effect}
-      → (x ≢ none → RemoversAfter held class ℓ s o m (duty st) t e)
+      → (x ≢ noNode → RemoversAfter held class ℓ s o m (duty st) t e)
       → RemoversAfter held class ℓ s o m (duty st) t (through x t e)
   past {st} e u h = ok-through (RemoversAfter held class ℓ s o m (duty st) t) (λ _. stays e u) h
 

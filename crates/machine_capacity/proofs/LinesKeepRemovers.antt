@@ -7,7 +7,7 @@ use Rattle.machine.specs.Sides.{Side}
 use Rattle.machine.specs.Values.{X, Y}
 use Rattle.machine.specs.Steps.{Step, rest}
 use Rattle.machine.specs.Steps as Steps
-use Rattle.machine.specs.Tasks.{Task, none}
+use Rattle.machine.specs.Tasks.{Task, noNode}
 use Rattle.machine.specs.Lines.{Effect, act}
 use Rattle.machine.proofs.Words.Memories.{View, seenIn}
 use Rattle.machine.proofs.Linearizability.Model.Sides.{Opposite}
@@ -60,7 +60,7 @@ use Rattle.machine_capacity.proofs.RemoveLines.{
 
 -- x-cut: where an X leads, there is a Y.
 module _ (L : ℕ) (held : ℕ → Bool) (k : ℕ) (s o : Side) (w : Opposite s o) (m : View) (class : ℕ → Class)
-    (x-cut : (n : ℕ) → m .val n ≡ X s → m .out n ≢ none → m .val (m .out n) ≡ Y s)
+    (x-cut : (n : ℕ) → m .val n ≡ X s → m .out n ≢ noNode → m .val (m .out n) ≡ Y s)
     (t : Task) (g f : ℕ) where
   abbrev Ok : Duty → Effect → Type 0
   Ok d e = RemoversAfter held class (t .lane) s o m d t e
@@ -70,7 +70,7 @@ module _ (L : ℕ) (held : ℕ → Bool) (k : ℕ) (s o : Side) (w : Opposite s 
       t .step ≡ st → TaskOk k s o m class st t → Sure (duty st) s m t
       → Ok (duty st) (act st s o (seenIn (t .lane) s m) t g f)
 
-  pub removers-after : (f ≢ none → TakeOk L held m class f) → (st : Step) → LineOk st
+  pub removers-after : (f ≢ noNode → TakeOk L held m class f) → (st : Step) → LineOk st
   unfolding act
   removers-after free-f rest e h u = off refl
   removers-after free-f Steps.line2 e h u = line2-cut held k s o w m class t g f e h u

@@ -7,7 +7,7 @@ use Rattle.machine.specs.Sides.{Side}
 use Rattle.machine.specs.Values.{Value, N, X, Y, _≟ᵛ_}
 use Rattle.machine.specs.Steps.{Step}
 use Rattle.machine.specs.Steps as Steps
-use Rattle.machine.specs.Tasks.{Task, none, withA, withB, withC, withCounted, withValue}
+use Rattle.machine.specs.Tasks.{Task, noNode, withA, withB, withC, withCounted, withValue}
 use Rattle.machine.specs.Lines.{Effect, next, act}
 use Rattle.machine.proofs.Words.Memories.{View, seenIn}
 use Rattle.machine.proofs.Basics.Choices.{by-if}
@@ -64,7 +64,7 @@ module _ (held : ℕ → Bool) (k : ℕ) (s o : Side) (w : Opposite s o) (m : Vi
   line68-cut e h u =
       past e u (λ _.
       ok-if (Ok no-duty) (λ st. next t st) (_ ≟ᵛ _)
-      (λ _. off refl) (λ _. off (back-off (t .operation) (t .D ≟ none))))
+      (λ _. off refl) (λ _. off (back-off (t .operation) (t .D ≟ noNode))))
 
   pub line69-cut : LineOk Steps.line69
   unfolding act
@@ -76,7 +76,7 @@ module _ (held : ℕ → Bool) (k : ℕ) (s o : Side) (w : Opposite s o) (m : Vi
   line70-cut e h u =
       past e u (λ _.
       ok-if (Ok no-duty) (λ st. next (withC t (m .out (t .B))) st) (_ ≟ _)
-      (λ _. off (back-off (t .operation) (t .D ≟ none))) (λ _. off refl))
+      (λ _. off (back-off (t .operation) (t .D ≟ noNode))) (λ _. off refl))
 
   pub line17-cut : LineOk Steps.line17
   unfolding act

@@ -10,7 +10,7 @@ use Rattle.machine.specs.Sides.{Side}
 use Rattle.machine.specs.Values.{N, X, Y, _≟ᵛ_}
 use Rattle.machine.specs.Steps.{Step}
 use Rattle.machine.specs.Steps as Steps
-use Rattle.machine.specs.Tasks.{Task, none, goto, withA, withB}
+use Rattle.machine.specs.Tasks.{Task, noNode, goto, withA, withB}
 use Rattle.machine.specs.Lines.{out≔, val≔, Effect, next, writing, act}
 use Rattle.machine.proofs.Basics.Contradiction.{clash}
 use Rattle.machine.proofs.Basics.Updates.{Wrote, it-is, it-is-not, wrote?, update, update-wrote}
@@ -138,15 +138,15 @@ module _ (held : ℕ → Bool) (k : ℕ) (s o : Side) (w : Opposite s o) (m : Vi
       ok-if (Ok cut-pair) (λ l. writing l (next t Steps.line74)) (_ ≟ _)
       (λ q. done (cc)) (λ ne. not-done (λ q. ne (cc))))
     where
-      wo : Wrote (m .out) (t .A) none (update (m .out) (t .A) none)
-      wo = update-wrote (m .out) (t .A) none
+      wo : Wrote (m .out) (t .A) noNode (update (m .out) (t .A) noNode)
+      wo = update-wrote (m .out) (t .A) noNode
 
       still : (μ : Mark) (n : ℕ) → n ≢ t .A → Cuts cut-pair μ t n (m .out n)
           → Cuts at-B μ (goto t Steps.line74) n (m .out n)
       still end n z c = absurd (z (sym (c .0)))
       still cut n z c = c
 
-      done : m .out (t .A) ≡ t .B → Ok cut-pair (writing (out≔ (t .A) none ∷ []) (next t Steps.line74))
+      done : m .out (t .A) ≡ t .B → Ok cut-pair (writing (out≔ (t .A) noNode ∷ []) (next t Steps.line74))
       done q =
           record {
             near =
@@ -266,8 +266,8 @@ module _ (held : ℕ → Bool) (k : ℕ) (s o : Side) (w : Opposite s o) (m : Vi
         sure = u .1;
       })
     where
-      wo : Wrote (m .out) (t .A) none (update (m .out) (t .A) none)
-      wo = update-wrote (m .out) (t .A) none
+      wo : Wrote (m .out) (t .A) noNode (update (m .out) (t .A) noNode)
+      wo = update-wrote (m .out) (t .A) noNode
 
       still : (μ : Mark) (n : ℕ) → n ≢ t .A → Cuts at-both μ t n (m .out n)
           → Cuts at-A μ (goto (withA t (t .B)) Steps.line81) n (m .out n)
@@ -305,8 +305,8 @@ module _ (held : ℕ → Bool) (k : ℕ) (s o : Side) (w : Opposite s o) (m : Vi
         sure = tt;
       })
     where
-      wo : Wrote (m .out) (t .A) none (update (m .out) (t .A) none)
-      wo = update-wrote (m .out) (t .A) none
+      wo : Wrote (m .out) (t .A) noNode (update (m .out) (t .A) noNode)
+      wo = update-wrote (m .out) (t .A) noNode
 
       still : (μ : Mark) (n : ℕ) → n ≢ t .A → Cuts at-A μ t n (m .out n) → ⊥
       still end n z c = c

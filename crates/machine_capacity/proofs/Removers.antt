@@ -6,7 +6,7 @@ use Rattle.machine.specs.Sides.{Side}
 use Rattle.machine.specs.Values.{Value, X, Y}
 use Rattle.machine.specs.Steps.{Step, rest}
 use Rattle.machine.specs.Steps as Steps
-use Rattle.machine.specs.Tasks.{Task, none}
+use Rattle.machine.specs.Tasks.{Task, noNode}
 use Rattle.machine.proofs.Words.Memories.{View, view}
 
 -- What a step has to do with outward links. before-cut: A and B are to be marked. cut-pair: A is X and leads to B,
@@ -89,7 +89,7 @@ pub record CutBy (ts : ℕ → Task) (s : Side) (μ : Mark) (n l : ℕ) : Type 0
 -- Seen from side s: of every node, whatever its class, the outward link of an X or a Y is none, or a remove is about to
 -- cut it.
 pub record HasRemovers (ts : ℕ → Task) (s : Side) (m : View) : Type 0 where
-  pub remover : (μ : Mark) (n : ℕ) → m .val n ≡ marked μ s → m .out n ≢ none → CutBy ts s μ n (m .out n)
+  pub remover : (μ : Mark) (n : ℕ) → m .val n ≡ marked μ s → m .out n ≢ noNode → CutBy ts s μ n (m .out n)
 
 -- Links have removers, on both sides. M is the view from the right.
 pub record LinksHaveRemovers (M : View) (ts : ℕ → Task) : Type 0 where

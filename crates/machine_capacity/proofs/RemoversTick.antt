@@ -10,7 +10,7 @@ use Rattle.machine.specs.Values.{X, Y}
 use Rattle.machine.specs.Operations.{idle}
 use Rattle.machine.specs.Steps.{Step, rest}
 use Rattle.machine.specs.Steps as Steps
-use Rattle.machine.specs.Tasks.{Task, none, inA, inB}
+use Rattle.machine.specs.Tasks.{Task, noNode, inA, inB}
 use Rattle.machine.specs.Registers.{holds}
 use Rattle.machine.specs.Lines.{Effect}
 use Rattle.machine.specs.Row.{Note}
@@ -95,7 +95,7 @@ removers-beyond right M far = far
 
 -- Links between nodes that are old and held stay, or one of the nodes is Y.
 pub record LinksStay (held : ℕ → Bool) (class : ℕ → Class) (z : Side) (m m' : View) : Type 0 where
-  pub stays : (x : ℕ) → held x ≡ true → Old class x → m .out x ≢ none → LinkStays z m m' x
+  pub stays : (x : ℕ) → held x ≡ true → Old class x → m .out x ≢ noNode → LinkStays z m m' x
 
 links-view : (s z : Side) (M m' : View) {held : ℕ → Bool} {class : ℕ → Class}
     → LinksStay held class s (view s M) m'
@@ -108,13 +108,13 @@ links-view right right M m' near far = near
 
 -- ---- What a step says of A and B survives the ticks of the others.
 module _ {held : ℕ → Bool} {class : ℕ → Class} {z : Side} (m m' : View)
-    (none-free : class none ≡ free)
+    (none-free : class noNode ≡ free)
     (Y-stays : (x : ℕ) → held x ≡ true → class x ≡ spur z → m .val x ≡ Y z → m' .val x ≡ Y z)
     (Y-spur : (x : ℕ) → Old class x → m .val x ≡ Y z → class x ≡ spur z)
     (links : LinksStay held class z m m') (t : Task) where
   -- A node that is held unless it is none.
   abbrev Held : ℕ → Type 0
-  Held x = x ≢ none → held x ≡ true
+  Held x = x ≢ noNode → held x ≡ true
 
   Y-then : (x : ℕ) → Held x → Old class x → m .val x ≡ Y z → m' .val x ≡ Y z
   Y-then x u h y = Y-stays x (u (old-not-none class none-free x h)) (Y-spur x h y) y
@@ -124,7 +124,7 @@ module _ {held : ℕ → Bool} {class : ℕ → Class} {z : Side} (m m' : View)
       → Sure before-cut z m' t
   pair-stays u w a b (inl q) =
       let A-held = u (old-not-none class none-free (t .A) a) in
-      let some : m .out (t .A) ≢ none = λ p. old-not-none class none-free (t .B) b (sym q ∙ p) in
+      let some : m .out (t .A) ≢ noNode = λ p. old-not-none class none-free (t .B) b (sym q ∙ p) in
       elim (links .stays (t .A) A-held a some) [
         | same-link p ↦ inl (p ∙ q)
         | from-Y y ↦ inr (inl y)
@@ -177,7 +177,7 @@ module _ {held : ℕ → Bool} {class : ℕ → Class} {z : Side} (m m' : View)
 -- ---- The tick.
 module _ {L : ℕ} {held : ℕ → Bool} {M : View} {ts : ℕ → Task} {class : ℕ → Class} {r : ℕ → List ℕ}
     (I : Invariant L M ts class r) (R : Roots L held M ts) (H : LinksHaveRemovers M ts)
-    (k g f : ℕ) (busy : ts k .operation ≢ idle) (free-f : f ≢ none → held f ≡ false) where
+    (k g f : ℕ) (busy : ts k .operation ≢ idle) (free-f : f ≢ noNode → held f ≡ false) where
   abbrev s : Side
   s = ts k .side
 
@@ -199,7 +199,7 @@ module _ {L : ℕ} {held : ℕ → Bool} {M : View} {ts : ℕ → Task} {class :
   abbrev ts' : ℕ → Task
   ts' = update ts k (e .task)
 
-  x-cut : (n : ℕ) → m .val n ≡ X s → m .out n ≢ none → m .val (m .out n) ≡ Y s
+  x-cut : (n : ℕ) → m .val n ≡ X s → m .out n ≢ noNode → m .val (m .out n) ≡ Y s
   x-cut n v ne =
       let c = H .has-removers s .remover end n v ne in
       let j = c .cutter in
@@ -247,7 +247,7 @@ module _ {L : ℕ} {held : ℕ → Bool} {M : View} {ts : ℕ → Task} {class :
   near-removers : HasRemovers ts' s m'
   near-removers = record { remover = λ μ n v ne. go μ n ne (cutters .near .still-cut μ n v ne) }
     where
-      go : (μ : Mark) (n : ℕ) → m' .out n ≢ none
+      go : (μ : Mark) (n : ℕ) → m' .out n ≢ noNode
           → StillCut s m m' (duty (ts k .step)) (duty (e .task .step)) (ts k) (e .task) μ n
           → CutBy ts' s μ n (m' .out n)
       go μ n ne (newly c) = own-cut μ n (m' .out n) c
@@ -268,7 +268,7 @@ module _ {L : ℕ} {held : ℕ → Bool} {M : View} {ts : ℕ → Task} {class :
   far-removers : HasRemovers ts' o (swapped m')
   far-removers = record { remover = λ μ n v ne. go μ n ne (cutters .far .still-cut μ n v ne) }
     where
-      go : (μ : Mark) (n : ℕ) → m' .inn n ≢ none
+      go : (μ : Mark) (n : ℕ) → m' .inn n ≢ noNode
           → StillCut o (swapped m) (swapped m') no-duty no-duty (ts k) (e .task) μ n
           → CutBy ts' o μ n (m' .inn n)
       go μ n ne (newly c) = absurd c

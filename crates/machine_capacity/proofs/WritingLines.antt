@@ -11,7 +11,7 @@ use Rattle.machine.specs.Values.{bag, N, X, Y}
 use Rattle.machine.specs.Operations.{Operation, idle, push, pop, add, remove}
 use Rattle.machine.specs.Steps.{Step}
 use Rattle.machine.specs.Steps as Steps
-use Rattle.machine.specs.Tasks.{Task, fresh, none, goto, withD, withCounted}
+use Rattle.machine.specs.Tasks.{Task, fresh, noNode, goto, withD, withCounted}
 use Rattle.machine.specs.Lines.{Write, out≔, inn≔, val≔, hat≔, Effect, next, writing, spliced, back, act}
 use Rattle.machine.proofs.Basics.Contradiction.{refute}
 use Rattle.machine.proofs.Basics.Updates.{Wrote, it-is, it-is-not, wrote?, update, update-wrote}
@@ -41,7 +41,7 @@ use Rattle.machine_capacity.proofs.LineEnds.{chain-owner, back-off, pas
 
 -- x-cut: where an X leads, there is a Y.
 module _ (L : ℕ) (held : ℕ → Bool) (k : ℕ) (s o : Side) (w : Opposite s o) (m : View) (class : ℕ → Class)
-    (x-cut : (n : ℕ) → m .val n ≡ X s → m .out n ≢ none → m .val (m .out n) ≡ Y s)
+    (x-cut : (n : ℕ) → m .val n ≡ X s → m .out n ≢ noNode → m .val (m .out n) ≡ Y s)
     (t : Task) (g f : ℕ) where
   abbrev Ok : Duty → Effect → Type 0
   Ok d e = RemoversAfter held class (t .lane) s o m d t e
@@ -96,7 +96,7 @@ module _ (L : ℕ) (held : ℕ → Bool) (k : ℕ) (s o : Side) (w : Opposite s 
       ok-if (Ok no-duty) (λ l. writing l (next t (back t))) (_ ≟ _) (λ _. done) (λ _. off no-duty-back))
     where
       no-duty-back : duty (back t) ≡ no-duty
-      no-duty-back = back-off (t .operation) (t .D ≟ none)
+      no-duty-back = back-off (t .operation) (t .D ≟ noNode)
 
       done : {a : Answer}
           → Ok no-duty (record { writes = hat≔ (t .C) ∷ []; task = goto t (back t); answer = a })
@@ -183,7 +183,7 @@ module _ (L : ℕ) (held : ℕ → Bool) (k : ℕ) (s o : Side) (w : Opposite s 
   apart : TakeOk L held m class f → (x : ℕ) → held x ≡ true → x ≢ f
   apart K x r z = refute (cc (K .not-held))
 
-  pub line28-cut : (f ≢ none → TakeOk L held m class f) → LineOk Steps.line28
+  pub line28-cut : (f ≢ noNode → TakeOk L held m class f) → LineOk Steps.line28
   unfolding act
   line28-cut free-f e h u =
       ok-if (Ok no-duty) (λ x. x) (_ ≟ _) (λ _. off refl) (λ some.
@@ -191,18 +191,18 @@ module _ (L : ℕ) (held : ℕ → Bool) (k : ℕ) (s o : Side) (w : Opposite s 
       (λ _. done some refl) (λ _. done some refl))
     where
       l : List Write
-      l = out≔ f none ∷ inn≔ f none ∷ val≔ f (X s) ∷ []
+      l = out≔ f noNode ∷ inn≔ f noNode ∷ val≔ f (X s) ∷ []
 
-      wo : Wrote (m .out) f none (update (m .out) f none)
-      wo = update-wrote (m .out) f none
+      wo : Wrote (m .out) f noNode (update (m .out) f noNode)
+      wo = update-wrote (m .out) f noNode
 
-      wi : Wrote (m .inn) f none (update (m .inn) f none)
-      wi = update-wrote (m .inn) f none
+      wi : Wrote (m .inn) f noNode (update (m .inn) f noNode)
+      wi = update-wrote (m .inn) f noNode
 
       wv : Wrote (m .val) f (X s) (update (m .val) f (X s))
       wv = update-wrote (m .val) f (X s)
 
-      done : f ≢ none → {t' : Task} {a : Answer} → duty (t' .step) ≡ no-duty
+      done : f ≢ noNode → {t' : Task} {a : Answer} → duty (t' .step) ≡ no-duty
           → Ok no-duty (record { writes = l; task = t'; answer = a })
       done some {t'} q =
           record {
@@ -227,7 +227,7 @@ module _ (L : ℕ) (held : ℕ → Bool) (k : ℕ) (s o : Side) (w : Opposite s 
             sure = subst (λ (d : Duty). Sure d s (written (t .lane) s l m) t') (sym q) tt;
           }
 
-  pub line31-cut : (f ≢ none → TakeOk L held m class f) → LineOk Steps.line31
+  pub line31-cut : (f ≢ noNode → TakeOk L held m class f) → LineOk Steps.line31
   unfolding act
   line31-cut free-f e h u =
       past e u (λ _.
@@ -236,16 +236,16 @@ module _ (L : ℕ) (held : ℕ → Bool) (k : ℕ) (s o : Side) (w : Opposite s 
       (_ ≟ _) (λ _. done some refl) (λ _. done some refl)))
     where
       l : List Write
-      l = val≔ f (N s) ∷ inn≔ f none ∷ out≔ f (t .D) ∷ inn≔ (t .D) f ∷ []
+      l = val≔ f (N s) ∷ inn≔ f noNode ∷ out≔ f (t .D) ∷ inn≔ (t .D) f ∷ []
 
       wo : Wrote (m .out) f (t .D) (update (m .out) f (t .D))
       wo = update-wrote (m .out) f (t .D)
 
-      wi : Wrote (m .inn) f none (update (m .inn) f none)
-      wi = update-wrote (m .inn) f none
+      wi : Wrote (m .inn) f noNode (update (m .inn) f noNode)
+      wi = update-wrote (m .inn) f noNode
 
-      wd : Wrote (update (m .inn) f none) (t .D) f (update (update (m .inn) f none) (t .D) f)
-      wd = update-wrote (update (m .inn) f none) (t .D) f
+      wd : Wrote (update (m .inn) f noNode) (t .D) f (update (update (m .inn) f noNode) (t .D) f)
+      wd = update-wrote (update (m .inn) f noNode) (t .D) f
 
       wv : Wrote (m .val) f (N s) (update (m .val) f (N s))
       wv = update-wrote (m .val) f (N s)
@@ -253,7 +253,7 @@ module _ (L : ℕ) (held : ℕ → Bool) (k : ℕ) (s o : Side) (w : Opposite s 
       D-plain : Plain o (m .val (t .D))
       D-plain = far-plain w (chain-owner m (h .chain))
 
-      done : f ≢ none → {t' : Task} {a : Answer} → duty (t' .step) ≡ no-duty
+      done : f ≢ noNode → {t' : Task} {a : Answer} → duty (t' .step) ≡ no-duty
           → Ok no-duty (record { writes = l; task = t'; answer = a })
       done some {t'} q =
           record {

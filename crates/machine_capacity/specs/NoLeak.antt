@@ -8,7 +8,7 @@ use lib.ListN.{length, getD}
 use Rattle.machine.specs.Sides.{Side, left, right, opposite}
 use Rattle.machine.specs.Values.{bag, N, X, Y}
 use Rattle.machine.specs.Operations.{idle}
-use Rattle.machine.specs.Tasks.{none}
+use Rattle.machine.specs.Tasks.{noNode}
 use Rattle.machine.specs.Table.{nodeCount, laneCount, hat, link, value, task}
 use Rattle.machine.specs.Reach.{Reachable, Free}
 use Rattle.machine.specs.Calls.{lane}
@@ -36,8 +36,8 @@ pub record MainList (ws : List ℕ) (at : ℕ → ℕ) (l : ℕ) (bags : List �
   -- The links: each node and the next lead to each other, and the two ends lead to none.
   pub leads-right : (i : ℕ) → suc i < listSize l bags r → link ws right (at i) ≡ at (suc i)
   pub leads-left : (i : ℕ) → suc i < listSize l bags r → link ws left (at (suc i)) ≡ at i
-  pub left-end : link ws left (at 0) ≡ none
-  pub right-end : (i : ℕ) → suc i ≡ listSize l bags r → link ws right (at i) ≡ none
+  pub left-end : link ws left (at 0) ≡ noNode
+  pub right-end : (i : ℕ) → suc i ≡ listSize l bags r → link ws right (at i) ≡ noNode
   pub different : (i j : ℕ) → i < listSize l bags r → j < listSize l bags r → at i ≡ at j → i ≡ j
 
 -- ---- The hats.
@@ -49,7 +49,7 @@ pub data HatPlace (ws : List ℕ) (ℓ : ℕ) (s : Side) (spare next : ℕ) : (b
   in-list : hat ws ℓ s ≡ spare → HatPlace ws ℓ s spare next 0
   beside :
       value ws (hat ws ℓ s) ≡ Y s
-      → link ws s (hat ws ℓ s) ≡ none
+      → link ws s (hat ws ℓ s) ≡ noNode
       → link ws (opposite s) (hat ws ℓ s) ≡ next
       → HatPlace ws ℓ s spare next 1
 

@@ -3,7 +3,7 @@
 use mathlib.Core.Path.{_≡_}
 use mathlib.Core.Bool.{Bool, not, _&&_}
 use mathlib.Core.List.{List, [], _∷_}
-use mathlib.Core.Option.{Option, some, none as nothing}
+use mathlib.Core.Option.{Option, some, none}
 use Prim.Native.Nat.{ℕ, _+_, _*_, _-_, _≤_, _<_}
 use lib.Dec.{leb, ltb}
 use lib.ListN.{length}
@@ -68,7 +68,7 @@ refusal σ c =
     (unless (ltb (c .task) (σ .tasks)) 5
     (unless (leb 1 (c .operation) && leb (c .operation) 4 && leb (c .side) 1) 6
     (unless (argumentOk (operationOf (c .operation)) (c .argument)) 7
-    (unless (not (isTwice σ (operationOf (c .operation)) (number (c .argument)))) 16 nothing))))
+    (unless (not (isTwice σ (operationOf (c .operation)) (number (c .argument)))) 16 none))))
 
 -- ---- What it comes to at its end of its lane.
 abbrev pub outcome : State → (l : ℕ) → Operation → Side → (argument : ℕ) → CallOutcome
@@ -109,7 +109,7 @@ pub record AfterCall : Type 0 where
 
 abbrev pub afterCall : Option ℕ → State → WholeCall → AfterCall
 afterCall (some n) σ c = record { answer = Refused n; state = σ }
-afterCall nothing σ c =
+afterCall none σ c =
     let o = outcome σ (c .lane) (operationOf (c .operation)) (sideOf (c .side)) (number (c .argument)) in
     record { answer = o .answer; state = stateThen σ (c .lane) (sideOf (c .side)) o }
 

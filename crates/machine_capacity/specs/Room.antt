@@ -3,7 +3,7 @@ use mathlib.Core.Path.{_≡_}
 use mathlib.Core.Logic.{_⊎_}
 use mathlib.Core.Bool.{true, false}
 use mathlib.Core.List.{List, [], _∷_}
-use mathlib.Core.Option.{none as nothing}
+use mathlib.Core.Option.{none}
 use Prim.Native.Nat.{ℕ, zero, suc, _+_, _*_, _-_, _≤_, _<_}
 use lib.ListN.{length}
 use Rattle.machine.specs.Choice.{_≟_, _<?_, if_then_else_}
@@ -34,7 +34,7 @@ room σ l s = σ .lane l .spare s + σ .lane l .spur s + σ .free - 1
 abbrev pub Pushes : (l : ℕ) → Side → State → List WholeCall → Type 0
 Pushes l s σ [] = Unit {0}
 Pushes l s σ (c ∷ cs) =
-    (refusal σ c ≡ nothing)
+    (refusal σ c ≡ none)
     × (c .lane ≡ l)
     × (operationOf (c .operation) ≡ push)
     × (sideOf (c .side) ≡ s)

@@ -10,7 +10,7 @@ use Rattle.machine.specs.declared.Reply.{Reply}
 use Rattle.machine.specs.declared.Reply.the-variants.{Accepted, Refused as Reply-Refused}
 use Rattle.machine.specs.Sides.{Side, left, right}
 use Rattle.machine.specs.Values.{Value, N, X, Y, storedOf}
-use Rattle.machine.specs.Tasks.{none}
+use Rattle.machine.specs.Tasks.{noNode}
 use Rattle.machine.specs.Table.{hat, link, value}
 use Rattle.machine.specs.Answers.{isGoing}
 use Rattle.machine.specs.Calls.{start, begin, tick, lane}
@@ -116,7 +116,7 @@ cases =
           ∷ begins 0 0 3 1 0 2 ⟶ ok
           ∷ ticks 0 0 100 ⟶ answers 6 Yes
           ∷ looks-at-node 1 ⟶ node-is 0 2 (N right)
-          ∷ looks-at-node 2 ⟶ node-is 1 none (X right)
+          ∷ looks-at-node 2 ⟶ node-is 1 noNode (X right)
           ∷ [];
     }
     -- 4. S 8, growth 0, add right 0, then remove right 0: "no" at tick 3, since RN is followed by RX.
@@ -127,7 +127,7 @@ cases =
           ∷ begins 0 0 3 1 0 0 ⟶ ok
           ∷ ticks 0 0 100 ⟶ answers 5 Yes
           ∷ looks-at-node 1 ⟶ node-is 0 2 (N right)
-          ∷ looks-at-node 2 ⟶ node-is 1 none (X right)
+          ∷ looks-at-node 2 ⟶ node-is 1 noNode (X right)
           ∷ begins 0 0 4 1 0 0 ⟶ ok
           ∷ ticks 0 0 100 ⟶ answers 3 No
           ∷ [];
@@ -146,10 +146,10 @@ cases =
           ∷ begins 0 0 3 1 0 0 ⟶ ok
           ∷ ticks 0 0 100 ⟶ answers 5 Yes
           ∷ looks-at-node 1 ⟶ node-is 0 2 (N right)
-          ∷ looks-at-node 2 ⟶ node-is 1 none (X right)
+          ∷ looks-at-node 2 ⟶ node-is 1 noNode (X right)
           ∷ ticks 1 0 1 ⟶ answers 1 Pushed
           ∷ looks-at-hat 0 right ⟶ hat-is 4
-          ∷ looks-at-node 4 ⟶ node-is 1 none (Y right)
+          ∷ looks-at-node 4 ⟶ node-is 1 noNode (Y right)
           ∷ begins 0 0 1 1 0 52 ⟶ ok
           ∷ ticks 0 0 100 ⟶ answers 19 Pushed
           ∷ looks-at-lane 0 ⟶ lane-is (some (51 ∷ 52 ∷ []))
@@ -204,9 +204,9 @@ cases =
           starts 5 2 0 2 ⟶ ok
           ∷ looks-at-hat 1 left ⟶ hat-is 2
           ∷ looks-at-hat 1 right ⟶ hat-is 3
-          ∷ looks-at-hat 2 left ⟶ hat-is none
-          ∷ looks-at-node 2 ⟶ node-is none 3 (X left)
-          ∷ looks-at-node 3 ⟶ node-is 2 none (X right)
+          ∷ looks-at-hat 2 left ⟶ hat-is noNode
+          ∷ looks-at-node 2 ⟶ node-is noNode 3 (X left)
+          ∷ looks-at-node 3 ⟶ node-is 2 noNode (X right)
           ∷ begins 0 0 1 1 0 51 ⟶ ok
           ∷ begins 1 1 1 0 0 51 ⟶ refused 16
           ∷ ticks 0 0 100 ⟶ answers 11 Pushed

@@ -1,11 +1,11 @@
 -- 2026-10: cases of taking a snapshot and putting it back, and of what is known then.
 use mathlib.Core.List.{List, [], _∷_, _++_}
-use mathlib.Core.Option.{Option, some, none as nothing}
+use mathlib.Core.Option.{Option, some, none}
 use Prim.Native.Nat.{ℕ}
 use lib.ListN.{replicate, set}
 use Rattle.machine.specs.declared.Reply.the-variants.{Accepted, Refused}
 use Rattle.machine.specs.Values.{storedOf}
-use Rattle.machine.specs.Tasks.{none, fresh, wordsOf}
+use Rattle.machine.specs.Tasks.{noNode, fresh, wordsOf}
 use Rattle.machine.specs.Sides.{right}
 use Rattle.machine.specs.Operations.{push}
 use Rattle.machine.specs.Calls.{Changed, begunTask, startWords}
@@ -17,21 +17,21 @@ use Rattle.machine.specs.Events.{Event, call-event, take-event, put-event, Know
 -- ---- Words. S 3, T 1, one lane with the tag 7,000,000,051 in it.
 abbrev header : List ℕ
 header =
-    3 ∷ 1 ∷ 0 ∷ 1 ∷ 9 ∷ 0 ∷ 0 ∷ 2 ∷ none ∷ none ∷ none ∷ none ∷ none ∷ none ∷ 0 ∷ 0 ∷ []
+    3 ∷ 1 ∷ 0 ∷ 1 ∷ 9 ∷ 0 ∷ 0 ∷ 2 ∷ noNode ∷ noNode ∷ noNode ∷ noNode ∷ noNode ∷ noNode ∷ 0 ∷ 0 ∷ []
 
 abbrev table : List ℕ
 table =
     header
-    ++ ((none ∷ 1 ∷ 1000000002 ∷ 0 ∷ [])
+    ++ ((noNode ∷ 1 ∷ 1000000002 ∷ 0 ∷ [])
     ++ ((0 ∷ 2 ∷ 51 ∷ 7 ∷ [])
-    ++ ((1 ∷ none ∷ 1000000005 ∷ 0 ∷ [])
+    ++ ((1 ∷ noNode ∷ 1000000005 ∷ 0 ∷ [])
     ++ wordsOf fresh)))
 
 abbrev snapshot : List ℕ
 snapshot =
     header
-    ++ ((none ∷ 0 ∷ 1 ∷ [])
-    ++ ((1 ∷ 2 ∷ none ∷ [])
+    ++ ((noNode ∷ 0 ∷ 1 ∷ [])
+    ++ ((1 ∷ 2 ∷ noNode ∷ [])
     ++ ((1000000002 ∷ 51 ∷ 1000000005 ∷ [])
     ++ ((0 ∷ 7 ∷ 0 ∷ [])
     ++ wordsOf fresh))))
@@ -87,8 +87,8 @@ answered = call-event (ticks-call 0 0 9) ∷ []
 -- The snapshot that is taken then.
 abbrev taken : List ℕ
 taken =
-    (2 ∷ 1 ∷ 0 ∷ 1 ∷ 0 ∷ 0 ∷ 0 ∷ 1 ∷ none ∷ none ∷ none ∷ none ∷ none ∷ none ∷ 0 ∷ 0 ∷ [])
-    ++ ((none ∷ 0 ∷ []) ++ ((1 ∷ none ∷ []) ++ ((1000000002 ∷ 1000000005 ∷ []) ++ ((0 ∷ 0 ∷ [])
+    (2 ∷ 1 ∷ 0 ∷ 1 ∷ 0 ∷ 0 ∷ 0 ∷ 1 ∷ noNode ∷ noNode ∷ noNode ∷ noNode ∷ noNode ∷ noNode ∷ 0 ∷ 0 ∷ [])
+    ++ ((noNode ∷ 0 ∷ []) ++ ((1 ∷ noNode ∷ []) ++ ((1000000002 ∷ 1000000005 ∷ []) ++ ((0 ∷ 0 ∷ [])
     ++ wordsOf (begunTask 0 push right 51)))))
 
 -- What is known after a list of events: that the row does not give an answer, nothing, or a row in which task 0 has a
@@ -100,15 +100,15 @@ pub data Told : Type 0 where
   not-noted : Told
 
 abbrev pub toldByNote : Option Note → Told
-toldByNote nothing = not-noted
+toldByNote none = not-noted
 toldByNote (some n) = noted
 
 abbrev pub toldByRow : Option Row → Told
-toldByRow nothing = nothing-known
+toldByRow none = nothing-known
 toldByRow (some ρ) = toldByNote (ρ .notes 0)
 
 abbrev pub told : Option Known → Told
-told nothing = not-explained
+told none = not-explained
 told (some κ) = toldByRow (κ .row)
 
 pub record Course : Type 0 where

@@ -2,7 +2,7 @@
 use mathlib.Core.Path.{_≡_, refl, ap, _∙_, fun-ext}
 use mathlib.Core.Bool.{Bool, true, false}
 use mathlib.Core.List.{List, [], _∷_}
-use mathlib.Core.Option.{Option, some, none as nothing}
+use mathlib.Core.Option.{Option, some, none}
 use Prim.Native.Nat.{ℕ, zero, suc}
 use lib.ListN.{drop}
 use Rattle.machine.specs.declared.Answer.the-variants.{Refused}
@@ -76,9 +76,9 @@ pub same-tick : (ws : List ℕ) (k h : ℕ) → tickBy rightMachine ws k h ≡ t
 unfolding tickBy tick
 same-tick ws k h =
     ap
-    (λ one. elim (tableRefusal ws nothing) as (λ _. Ticked) [
+    (λ one. elim (tableRefusal ws none) as (λ _. Ticked) [
       | some n ↦ record { answer = Refused n; words = ws }
-      | nothing ↦ one
+      | none ↦ one
     ])
     (same-tick-on ws k h)
 
@@ -136,7 +136,7 @@ runs-on : Ticked → (ws answers : List ℕ) → (Ticked → RunDone) → RunDon
 runs-on one ws answers others =
     elim (refusalOf (one .answer)) as (λ _. RunDone) [
       | some n ↦ stopped n ws answers
-      | nothing ↦ afterTick (one .answer) (others one)
+      | none ↦ afterTick (one .answer) (others one)
     ]
 
 pub same-run-on : (list ws answers : List ℕ) → runOnBy rightMachine list ws answers ≡ runOn list ws answers
@@ -152,7 +152,7 @@ same-run-on (k ∷ h ∷ list) ws answers =
 module _ (ws list answers : List ℕ) where
   same-tested : (r : Option ℕ) → testedBy rightMachine r ws list answers ≡ tested r ws list answers
   same-tested (some n) = refl
-  same-tested nothing = same-run-on list ws answers
+  same-tested none = same-run-on list ws answers
 
   pub same-run : runBy rightMachine ws list answers ≡ run ws list answers
   unfolding runBy run

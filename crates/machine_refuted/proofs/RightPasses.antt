@@ -2,7 +2,7 @@
 use mathlib.Core.Path.{_≡_, refl, ap, sym, _∙_, subst}
 use mathlib.Core.Bool.{Bool, true, false, _&&_}
 use mathlib.Core.List.{List, [], _∷_, map}
-use mathlib.Core.Option.{Option, some, none as nothing}
+use mathlib.Core.Option.{Option, some, none}
 use Prim.Native.Nat.{ℕ, zero, suc}
 use lib.ListN.{getD}
 use native.Mathlib.Omega.{arith}
@@ -171,7 +171,7 @@ explained-lane (c ∷ cs) ws ρ E = E .0
 row-judges : (number : ℕ) → (fed : Option Row) → (same : Row → Bool) → (others : Row → Verdict) → Verdict
 row-judges n fed same others =
     elim fed as (λ _. Verdict) [
-      | nothing ↦ not-the-row's-answer n
+      | none ↦ not-the-row's-answer n
       | some ρ′ ↦ elim (same ρ′) as (λ _. Verdict) [ true ↦ others ρ′ | false ↦ lane-is-not-the-row n ]
     ]
 

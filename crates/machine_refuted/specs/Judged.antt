@@ -1,7 +1,7 @@
 -- How a list of calls judges a machine: by the row (demand 3), and by the definitions (demand 2).
 use mathlib.Core.Bool.{Bool, true, false, cond, _&&_}
 use mathlib.Core.List.{List, [], _∷_}
-use mathlib.Core.Option.{Option, some, none as nothing}
+use mathlib.Core.Option.{Option, some, none}
 use Prim.Native.Nat.{ℕ, zero, suc}
 use lib.Dec.{eqb}
 use lib.ListN.{getD}
@@ -63,12 +63,12 @@ madeBy M (c ∷ cs) ws =
 
 -- ---- Demand 3, as Demand3.Explained says it.
 abbrev pub sameBags : Option (List ℕ) → List ℕ → Bool
-sameBags nothing row = false
+sameBags none row = false
 sameBags (some bags) row = sameWords bags row
 
 -- Each lane is its row.
 abbrev pub sameLanes : List ℕ → Option Row → Bool
-sameLanes ws nothing = false
+sameLanes ws none = false
 sameLanes ws (some ρ) = allBelow (ρ .lanes) (λ l. sameBags (lane ws l) (ρ .bags l))
 
 abbrev pub sameWithinList : Machine → (list ws : List ℕ) → Row → RunDone → Bool
@@ -102,7 +102,7 @@ unfoldable pub byRow : Machine → List Made → (number : ℕ) → Row → Verd
 byRow M [] n ρ = passes
 byRow M (m ∷ ms) n ρ =
     elim (feed ρ (callOf (m .act)) (m .gave)) as (λ _. Verdict) [
-      | nothing ↦ not-the-row's-answer n
+      | none ↦ not-the-row's-answer n
       | some ρ′ ↦
           elim (sameWithin M (m .act) (m .before) ρ && sameLanes (m .left) (some ρ′)) as (λ _. Verdict) [
             | true ↦ byRow M ms (suc n) ρ′

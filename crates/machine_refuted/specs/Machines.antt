@@ -3,7 +3,7 @@
 -- and the right one.
 use mathlib.Core.Bool.{true, false}
 use mathlib.Core.List.{List, [], _∷_}
-use mathlib.Core.Option.{Option, some, none as nothing}
+use mathlib.Core.Option.{Option, some, none}
 use Prim.Native.Nat.{ℕ, zero, suc}
 use lib.ListN.{drop}
 use Rattle.machine.specs.declared.Answer.the-variants.{Going, Refused}
@@ -114,17 +114,17 @@ dispatchToBy tickOn ws k h =
     let one = tickOn ws k h in
     elim (refusalOf (one .answer)) as (λ _. Dispatched) [
       | some n ↦ record { answer = Answered (one .answer); words = ws }
-      | nothing ↦ record { answer = Answered (one .answer); words = setDispatched k (one .words) }
+      | none ↦ record { answer = Answered (one .answer); words = setDispatched k (one .words) }
     ]
 
 unfoldable pub dispatchChoosing : (List ℕ → Option ℕ) → Ticks → List ℕ → (hint : ℕ) → Dispatched
 dispatchChoosing choice tickOn ws h =
     elim (dispatchRefusal ws h) as (λ _. Dispatched) [
       | some n ↦ record { answer = Answered (Refused n); words = ws }
-      | nothing ↦
+      | none ↦
           elim (choice ws) as (λ _. Dispatched) [
             | some k ↦ dispatchToBy tickOn ws k h
-            | nothing ↦ record { answer = Idle; words = ws }
+            | none ↦ record { answer = Idle; words = ws }
           ]
     ]
 
@@ -166,7 +166,7 @@ unfoldable pub tickOnBy : Line → Take → List ℕ → (k hint : ℕ) → Tick
 tickOnBy line take ws k h =
     elim (tickRefusal ws k h) as (λ _. Ticked) [
       | some n ↦ record { answer = Refused n; words = ws }
-      | nothing ↦
+      | none ↦
           let t = task ws k in
           applied (t .lane) (t .side) ws k
           (line (t .step) (t .side) (opposite (t .side)) (seen (t .lane) (t .side) ws) t
@@ -188,9 +188,9 @@ beginBy M ws k l op side argument =
 
 unfoldable pub tickBy : Machine → List ℕ → (k hint : ℕ) → Ticked
 tickBy M ws k h =
-    elim (tableRefusal ws nothing) as (λ _. Ticked) [
+    elim (tableRefusal ws none) as (λ _. Ticked) [
       | some n ↦ record { answer = Refused n; words = ws }
-      | nothing ↦ M .tickOn ws k h
+      | none ↦ M .tickOn ws k h
     ]
 
 unfoldable pub ticksBy : Machine → (times : ℕ) → List ℕ → (k hint : ℕ) → Ticked
@@ -209,12 +209,12 @@ runOnBy M (k ∷ h ∷ list) ws answers =
     let one = M .tickOn ws k h in
     elim (refusalOf (one .answer)) as (λ _. RunDone) [
       | some n ↦ stopped n ws answers
-      | nothing ↦ afterTick (one .answer) (runOnBy M list (one .words) (drop answerLength answers))
+      | none ↦ afterTick (one .answer) (runOnBy M list (one .words) (drop answerLength answers))
     ]
 
 abbrev pub testedBy : Machine → Option ℕ → (ws list answers : List ℕ) → RunDone
 testedBy M (some n) ws list answers = stopped n ws answers
-testedBy M nothing ws list answers = M .reports (runOnBy M list ws answers)
+testedBy M none ws list answers = M .reports (runOnBy M list ws answers)
 
 unfoldable pub runBy : Machine → List ℕ → (list answers : List ℕ) → RunDone
 runBy M ws list answers = testedBy M (runRefusal ws list answers) ws list answers

@@ -1,7 +1,7 @@
 -- The wrong machines, each under the words of the papers that name it. Those of 2026-12 stand in WrongLanes.
 use mathlib.Core.Bool.{Bool, false, not, cond, _&&_, _||_}
 use mathlib.Core.List.{List, [], _∷_, _++_, map}
-use mathlib.Core.Option.{Option, some, none as nothing}
+use mathlib.Core.Option.{Option, some, none}
 use Prim.Native.Nat.{ℕ, zero, suc, _+_, _-_, _*_, _/_, _%_}
 use lib.Dec.{leb, ltb, eqb}
 use lib.ListN.{length, take, drop}
@@ -52,7 +52,7 @@ use Rattle.machine.specs.Steps.{
   stepNumber,
   firstStep,
 }
-use Rattle.machine.specs.Tasks.{Task, fresh, none, inC, inD, goto, withC, withCounted, withValue}
+use Rattle.machine.specs.Tasks.{Task, fresh, noNode, inC, inD, goto, withC, withCounted, withValue}
 use Rattle.machine.specs.Registers.{heldIn}
 use Rattle.machine.specs.Table.{
   nodeCount,
@@ -93,7 +93,7 @@ use Rattle.machine.specs.Lines.{
   writing,
   through,
   dcas,
-  noNode,
+  noneFree,
   afterRead,
   bagOf,
   act,
@@ -171,7 +171,7 @@ saysLater st s o m t g f =
     if stepNumber st ≟ stepNumber line24 then next t line25 else
     if stepNumber st ≟ stepNumber line25 then answers (doneAnswer (t .operation)) else
     if stepNumber st ≟ stepNumber line17 then next t line18 else
-    answers (noNode (t .operation))
+    answers (noneFree (t .operation))
 
 abbrev pub laterFor : Operation → Line
 laterFor op st s o m t g f =
@@ -183,7 +183,7 @@ wholeOn op ws k h =
     let t = task ws k in
     elim (tickRefusal ws k h) as (λ _. Ticked) [
       | some n ↦ record { answer = Refused n; words = ws }
-      | nothing ↦
+      | none ↦
           if stepNumber (t .step) ≟ stepNumber (firstStep op) then
           if operationNumber (t .operation) ≟ operationNumber op then
           (let all = consecutive tickOn 101 ws k h in
@@ -211,7 +211,7 @@ unfoldable pub touchesNothing : List ℕ → (k hint : ℕ) → Ticked
 touchesNothing ws k h =
     elim (tickRefusal ws k h) as (λ _. Ticked) [
       | some n ↦ record { answer = Refused n; words = ws }
-      | nothing ↦ record { answer = Going; words = ws }
+      | none ↦ record { answer = Going; words = ws }
     ]
 
 abbrev pub ticksTouchNothing : Machine
@@ -223,7 +223,7 @@ refusesAll = byTicks (λ ws k h. record { answer = Refused 5; words = ws })
 
 -- ---- "One saying "full" at 28 before searching."
 abbrev pub fullUnsearched : Machine
-fullUnsearched = withLine line28 (λ st s o m t g f. answers (noNode (t .operation)))
+fullUnsearched = withLine line28 (λ st s o m t g f. answers (noneFree (t .operation)))
 
 -- ---- "... or "empty" before comparing": at 42, by the value read.
 abbrev pub emptyUncompared : Machine
@@ -238,9 +238,9 @@ abbrev pub emptyInTwoTicks : Machine
 emptyInTwoTicks =
     withLine line48 (λ st s o m t g f.
     through (t .B) t
-    (if t .C ≟ none
+    (if t .C ≟ noNode
     then if m .hat ≟ t .A then next (withC t (t .B)) line48 else next t line39
-    else if m .val (t .B) ≟ᵛ t .value then answers Empty else next (withC t none) line39))
+    else if m .val (t .B) ≟ᵛ t .value then answers Empty else next (withC t noNode) line39))
 
 -- 48 with one of its two compares.
 abbrev pub emptyWithoutHat : Machine
@@ -349,7 +349,7 @@ rereadsLink =
     withLine line5 (λ st s o m t g f.
     through (t .A) t
     (let b = m .out (t .A) in
-    if b ≟ none then next t line8 else
+    if b ≟ noNode then next t line8 else
     dcas (m .hat ≟ t .A) (m .val (t .A) ≟ᵛ N s)
     (writing (hat≔ b ∷ val≔ (t .A) (bag (t .argument)) ∷ []) (answers Pushed))
     (next t line8)))
@@ -391,16 +391,16 @@ trustsHat =
 abbrev pub figureLine37 : Machine
 figureLine37 =
     withLine line28 (λ st s o m t g f.
-    if f ≟ none then answers (noNode (t .operation)) else
+    if f ≟ noNode then answers (noneFree (t .operation)) else
     if g ≟ 0
-    then writing (out≔ f none ∷ inn≔ f none ∷ val≔ f (X s) ∷ []) (answers (noNode (t .operation)))
+    then writing (out≔ f noNode ∷ inn≔ f noNode ∷ val≔ f (X s) ∷ []) (answers (noneFree (t .operation)))
     else act line28 s o m t g f)
 
 -- 32 leaves the loop with no node made, and 37 returns that.
 abbrev pub figureLine32 : Machine
 figureLine32 =
     withLine line31 (λ st s o m t g f.
-    through (t .D) t (if f ≟ none then answers (noNode (t .operation)) else act line31 s o m t g f))
+    through (t .D) t (if f ≟ noNode then answers (noneFree (t .operation)) else act line31 s o m t g f))
 
 -- ---- Removes that the row has no objection to, but the theorems of progress and of capacity.
 
@@ -415,7 +415,7 @@ failedSwapSpins =
 abbrev pub removeCutsAgain : Machine
 removeCutsAgain =
     withLine line82 (λ st s o m t g f.
-    through (t .A) t (writing (out≔ (t .A) none ∷ []) (next (withCounted t 0) line54)))
+    through (t .A) t (writing (out≔ (t .A) noNode ∷ []) (next (withCounted t 0) line54)))
 
 -- 64 leaves the link to the first node cut off: nodes are held that no call can use.
 abbrev pub removeLeavesLink : Machine
@@ -481,7 +481,7 @@ toRefusal tick (suc n) ws k h =
     let one = tick ws k h in
     elim (refusalOf (one .answer)) as (λ _. Ticked) [
       | some r ↦ one
-      | nothing ↦ toRefusal tick n (one .words) k h
+      | none ↦ toRefusal tick n (one .words) k h
     ]
 
 abbrev pub ticksAfterAnswer : Machine
@@ -513,7 +513,7 @@ abbrev pub panelTestsRoomFirst : Machine
 panelTestsRoomFirst =
     withPanel
     (λ ws list answers.
-    listRefusal ws list (unless (leb (answerLength * (length list / 2)) (length answers)) 14 (overLong list nothing)))
+    listRefusal ws list (unless (leb (answerLength * (length list / 2)) (length answers)) 14 (overLong list none)))
     (λ list. list)
 
 -- 15 is tested before 13.
@@ -568,19 +568,19 @@ testsBusy ws k others = unless (isIdle (task ws k .operation)) 8 others
 
 -- 11 where a lane has no end, 16 where the bags meet a test, and then what the tests after it give.
 abbrev pub testsBags : (List ℕ → Bool) → (bags : Option (List ℕ)) → Option ℕ → Option ℕ
-testsBags test nothing others = some 11
+testsBags test none others = some 11
 testsBags test (some bags) others = unless (not (test bags)) 16 others
 
 -- The right machine but for the test of 16 that a push's begin on a lane makes of the bags of all lanes.
 abbrev pub refusesWhere : (List ℕ → (k lane n : ℕ) → (bags : List ℕ) → Bool) → Machine
 refusesWhere seenIn =
     withBegin (rightMachine .tickOn) (λ ws k l op n.
-    cond (isPush op) (testsBags (seenIn ws k l n) (allLanes ws) (testsBusy ws k nothing)) (testsBusy ws k nothing))
+    cond (isPush op) (testsBags (seenIn ws k l n) (allLanes ws) (testsBusy ws k none)) (testsBusy ws k none))
 
 -- 8 is tested before 16.
 abbrev pub beginTestsBusyFirst : Machine
 beginTestsBusyFirst =
-    withBegin (rightMachine .tickOn) (λ ws k l op n. testsBusy ws k (twiceRefusal ws op n nothing))
+    withBegin (rightMachine .tickOn) (λ ws k l op n. testsBusy ws k (twiceRefusal ws op n none))
 
 -- The lane is searched, and the busy pushes are not.
 abbrev pub searchesLaneAlone : Machine
@@ -616,11 +616,11 @@ abbrev pub refusesAddsToo : Machine
 refusesAddsToo =
     withBegin (rightMachine .tickOn) (λ ws k l op n.
     cond (isPush op || eqb (operationNumber op) (operationNumber add))
-    (seenRefusal ws n (allLanes ws) (testsBusy ws k nothing))
-    (testsBusy ws k nothing))
+    (seenRefusal ws n (allLanes ws) (testsBusy ws k none))
+    (testsBusy ws k none))
 
 abbrev pub standsIn : ℕ → Option (List ℕ) → Bool
-standsIn n nothing = false
+standsIn n none = false
 standsIn n (some bags) = isAmong n bags
 
 -- Begin does not test at all; the tick that would answer "pushed" is refused where the lane has the bag.
@@ -631,7 +631,7 @@ testsWhenAnswering =
     let one = tickOn ws k h in
     cond (eqb (kindOf (one .answer)) (kindOf Pushed) && standsIn (task ws k .argument) (allLanes ws))
     (record { answer = Refused 16; words = ws }) one)
-    (λ ws k l op n. testsBusy ws k nothing)
+    (λ ws k l op n. testsBusy ws k none)
 
 -- ---- 2026-04: "A swap compares and writes the digit with V as one thing, and 16 compares whole tags."
 
@@ -700,12 +700,12 @@ popPassesZero =
 abbrev pub takesDigitTen : Machine
 takesDigitTen =
     withRefusal (rightMachine .tickOn) (λ ws k l op side argument.
-    cond (isPush (operationOf op) && eqb (number argument) 10_000_000_000) nothing
+    cond (isPush (operationOf op) && eqb (number argument) 10_000_000_000) none
     (rightMachine .beginRefuses ws k l op side argument))
 
 -- ---- 01: 5, 6 and 7 at begin: no number is tested.
 abbrev pub takesAnyNumbers : Machine
-takesAnyNumbers = withRefusal (rightMachine .tickOn) (λ ws k l op side argument. tableRefusal ws nothing)
+takesAnyNumbers = withRefusal (rightMachine .tickOn) (λ ws k l op side argument. tableRefusal ws none)
 
 -- ---- "... the run write two words for a tag, digit first": of n ticks it writes the digit last.
 unfoldable pub turned : (n : ℕ) → List ℕ → List ℕ

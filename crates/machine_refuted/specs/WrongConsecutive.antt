@@ -1,7 +1,7 @@
 -- Wrong consecutive dispatches: they are to be as many as asked for, in turn, and to end at an answer.
 use mathlib.Core.Bool.{Bool, true, false, _||_}
 use mathlib.Core.List.{List}
-use mathlib.Core.Option.{some, none as nothing}
+use mathlib.Core.Option.{some, none}
 use Prim.Native.Nat.{ℕ, zero, suc}
 use lib.Dec.{eqb}
 use Rattle.machine.specs.declared.Answer.the-variants.{Going, Refused}
@@ -37,7 +37,7 @@ staysWithTask =
     withDispatches (λ turn times ws h.
     elim (nextBusy ws) as (λ _. DispatchedMany) [
       | some k ↦ consecutiveTurns (dispatchChoosing (λ vs. some k) (rightMachine .tickOn)) times ws h
-      | nothing ↦ consecutiveTurns turn times ws h
+      | none ↦ consecutiveTurns turn times ws h
     ])
 
 -- They end at "idle" and at a refusal alone, and count what they passed.

@@ -1,7 +1,7 @@
 -- 2026-12: the wrong machines with lanes, each under the words of 02 that name it.
 use mathlib.Core.Bool.{Bool, false, _&&_, _||_}
 use mathlib.Core.List.{List, _++_}
-use mathlib.Core.Option.{Option, some, none as nothing}
+use mathlib.Core.Option.{Option, some, none}
 use Prim.Native.Nat.{ℕ, zero, suc, _-_, _*_}
 use lib.Dec.{leb, ltb, eqb}
 use lib.ListN.{length, take}
@@ -10,7 +10,7 @@ use Rattle.machine.specs.Choice.{_<?_, if_then_else_}
 use Rattle.machine.specs.Sides.{Side, opposite, sideNumber}
 use Rattle.machine.specs.Values.{never, number}
 use Rattle.machine.specs.Operations.{operationOf, argumentOk}
-use Rattle.machine.specs.Tasks.{Task, goal, fresh, none, wordsOf}
+use Rattle.machine.specs.Tasks.{Task, goal, fresh, noNode, wordsOf}
 use Rattle.machine.specs.Table.{tableLength, taskCount, laneCount, growth, headerWords, nodeWords, task}
 use Rattle.machine.specs.Shape.{lanesOk, sizesOk}
 use Rattle.machine.specs.Allocate.{hatsFrom, heldFrom, allocate}
@@ -44,7 +44,7 @@ unfoldable pub onLanes : (sees stores : Task → ℕ) → Ticks
 onLanes sees stores ws k h =
     elim (tickRefusal ws k h) as (λ _. Ticked) [
       | some n ↦ record { answer = Refused n; words = ws }
-      | nothing ↦
+      | none ↦
           let t = task ws k in
           applied (stores t) (t .side) ws k
           (act (t .step) (t .side) (opposite (t .side)) (seen (sees t) (t .side) ws) t
@@ -105,7 +105,7 @@ withLaneTest test =
     (test ws k l
     (unless (leb 1 op && leb op 4 && leb side 1) 6
     (unless (argumentOk (operationOf op) argument) 7
-    (twiceRefusal ws (operationOf op) (number argument) (testsBusy ws k nothing))))))
+    (twiceRefusal ws (operationOf op) (number argument) (testsBusy ws k none))))))
 
 abbrev pub testsTaskFirst : Machine
 testsTaskFirst =
@@ -122,7 +122,7 @@ abbrev pub withStart : ((S T growth lanes : ℕ) → Option ℕ → Option ℕ) 
 withStart test words =
     record {
       starts = λ ws S T g lanes.
-          changed (test S T g lanes (unless (eqb (length ws) (tableLength S T)) 2 nothing)) ws (words S T g lanes);
+          changed (test S T g lanes (unless (eqb (length ws) (tableLength S T)) 2 none)) ws (words S T g lanes);
       reads = rightMachine .reads;
       tickOn = rightMachine .tickOn;
       consecutiveTicks = rightMachine .consecutiveTicks;
@@ -159,7 +159,7 @@ testsStart S T g lanes others = unless (lanesOk lanes) 25 (unless (sizesOk S T g
 abbrev pub startWith : (hats : (lanes lane : ℕ) → Side → ℕ) → (made S T growth lanes : ℕ) → List ℕ
 startWith hats made S T g lanes =
     headerWords S T g lanes 0 (T - 1) (hats lanes)
-    ++ (startNodes made 0 ++ (times (S - 2 * made) (nodeWords none none never) ++ times T (wordsOf fresh)))
+    ++ (startNodes made 0 ++ (times (S - 2 * made) (nodeWords noNode noNode never) ++ times T (wordsOf fresh)))
 
 -- Lane 0 alone gets its nodes and its hats.
 abbrev pub startMakesFirstLane : Machine
@@ -167,4 +167,4 @@ startMakesFirstLane = withStart testsStart (startWith (λ lanes. startHat 1) 1)
 
 -- Every lane gets the nodes and the hats of lane 0.
 abbrev pub startSharesNodes : Machine
-startSharesNodes = withStart testsStart (startWith (λ lanes l s. if l <? lanes then sideNumber s else none) 1)
+startSharesNodes = withStart testsStart (startWith (λ lanes l s. if l <? lanes then sideNumber s else noNode) 1)

@@ -3,7 +3,7 @@
 use mathlib.Core.Path.{_≡_}
 use mathlib.Core.Bool.{Bool, true, false, _&&_}
 use mathlib.Core.List.{List, [], _∷_, _++_, map}
-use mathlib.Core.Option.{Option, some, none as nothing}
+use mathlib.Core.Option.{Option, some, none}
 use Prim.Native.Nat.{ℕ, zero, suc, _*_, _+_, _-_}
 use lib.Dec.{eqb}
 use lib.ListN.{length, getD, set, take, drop, replicate}
@@ -114,7 +114,7 @@ made feeds M (puts-altered i w) ws ss κ = madePut feeds M ws ss (set ss i w) κ
 
 -- ---- Demand 3, as Events.Along says it: the answer is the row's, and where a row is known each lane is its row.
 abbrev pub sameWhere : List ℕ → Option Row → Bool
-sameWhere ws nothing = true
+sameWhere ws none = true
 sameWhere ws (some ρ) = sameLanes ws (some ρ)
 
 unfoldable pub byKnown : Feeding → Copying → List Action → (ws snapshot : List ℕ) → Known → (number : ℕ) → Verdict
@@ -122,7 +122,7 @@ byKnown feeds M [] ws ss κ n = passes
 byKnown feeds M (a ∷ others) ws ss κ n =
     let one = made feeds M a ws ss κ in
     elim (one .known) as (λ _. Verdict) [
-      | nothing ↦ not-the-row's-answer n
+      | none ↦ not-the-row's-answer n
       | some κ′ ↦
           elim (sameWhere (one .table) (κ′ .row)) as (λ _. Verdict) [
             | true ↦ byKnown feeds M others (one .table) (one .snapshot) κ′ (suc n)
@@ -150,8 +150,8 @@ byDefinition M (a ∷ others) ws ss n =
 abbrev byOrders : (order back : List ℕ → List ℕ) → Copying
 byOrders order back =
     record {
-      takes = λ ws out. changed (snapshotRefusal out ws (tableRefusal ws nothing)) out (order ws);
-      puts = λ ss ws. changed (snapshotRefusal ss ws (tableRefusal (back ss) nothing)) ws (back ss);
+      takes = λ ws out. changed (snapshotRefusal out ws (tableRefusal ws none)) out (order ws);
+      puts = λ ss ws. changed (snapshotRefusal ss ws (tableRefusal (back ss) none)) ws (back ss);
     }
 
 -- "every V, every leading digit": the digits first.
@@ -180,19 +180,19 @@ abbrev withPut : ((snapshot ws : List ℕ) → Changed) → Copying
 withPut puts = record { takes = takeSnapshot; puts = puts }
 
 abbrev pub testsOldTable : Copying
-testsOldTable = withPut (λ ss ws. changed (snapshotRefusal ss ws (tableRefusal ws nothing)) ws (byNodes ss))
+testsOldTable = withPut (λ ss ws. changed (snapshotRefusal ss ws (tableRefusal ws none)) ws (byNodes ss))
 
 -- It writes, and tests then.
 abbrev pub writesFirst : Copying
 writesFirst =
-    withPut (λ ss ws. changed (snapshotRefusal ss ws (tableRefusal (byNodes ss) nothing)) (byNodes ss) (byNodes ss))
+    withPut (λ ss ws. changed (snapshotRefusal ss ws (tableRefusal (byNodes ss) none)) (byNodes ss) (byNodes ss))
 
 -- "Putting it back gives the table taken, each word": the words from one place to another stay as they were.
 abbrev leaves : (from to : ℕ) → Copying
 leaves from to =
     withPut (λ ss ws.
     let back = byNodes ss in
-    changed (snapshotRefusal ss ws (tableRefusal back nothing)) ws
+    changed (snapshotRefusal ss ws (tableRefusal back none)) ws
     (take from back ++ (take (to - from) (drop from ws) ++ drop to back)))
 
 -- The hats; the task last dispatched.
@@ -204,7 +204,7 @@ leavesDispatched = leaves dispatchedAt (suc dispatchedAt)
 
 -- "22, snapshot and table differ in length, tested first": it is tested last.
 abbrev lengthLast : (snapshot ws tested : List ℕ) → Option ℕ
-lengthLast ss ws tested = tableRefusal tested (unless (eqb (length ss) (length ws)) 22 nothing)
+lengthLast ss ws tested = tableRefusal tested (unless (eqb (length ss) (length ws)) 22 none)
 
 abbrev pub testsLengthLast : Copying
 testsLengthLast =
@@ -217,7 +217,7 @@ testsLengthLast =
 abbrev pub testsSlice : Copying
 testsSlice =
     record {
-      takes = λ ws out. changed (snapshotRefusal out ws (tableRefusal out nothing)) out (byColumns ws);
+      takes = λ ws out. changed (snapshotRefusal out ws (tableRefusal out none)) out (byColumns ws);
       puts = putBack;
     }
 

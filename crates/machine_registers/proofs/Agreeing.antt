@@ -2,7 +2,7 @@
 use mathlib.Core.Path.{_≡_, refl, sym, ap, _∙_, subst}
 use mathlib.Core.Bool.{Bool, true, false, cond}
 use Rattle.machine.specs.Steps.{Step}
-use Rattle.machine.specs.Tasks.{Task, none, Register, inA, inB, inC, inD, register, withRegisters}
+use Rattle.machine.specs.Tasks.{Task, noNode, Register, inA, inB, inC, inD, register, withRegisters}
 use Rattle.machine.specs.Registers.{among, holds}
 use Rattle.machine_registers.specs.Paths.{uses, Way, ways, OneOf, here, later}
 use Rattle.machine.specs.Table.{value, task}
@@ -12,7 +12,7 @@ use Rattle.machine_registers.specs.LinesUse.{mixed, AgreeOn, After, goes
 
 -- The record without its registers.
 abbrev pub plain : Task → Task
-plain t = withRegisters t none none none none
+plain t = withRegisters t noNode noNode noNode noNode
 
 module _ {p : Register → Bool} {t u : Task} where
   pub agree-from : plain u ≡ plain t → ((r : Register) → p r ≡ true → register u r ≡ register t r) → AgreeOn p t u

@@ -2,7 +2,7 @@
 use mathlib.Core.Path.{_≡_, refl, sym, ap, _∙_, subst, fun-ext}
 use mathlib.Core.Bool.{Bool, true, false}
 use mathlib.Core.List.{List, [], _∷_}
-use mathlib.Core.Option.{Option, some, none as nothing, Option·map}
+use mathlib.Core.Option.{Option, some, none, Option·map}
 use Prim.Native.Nat.{ℕ, zero, suc, _<_}
 use lib.Dec.{ltb}
 use borrow.Author.Tests.{ltb-true}
@@ -15,7 +15,7 @@ use Rattle.machine.specs.Choice.{_≟_, if_then_else_}
 use Rattle.machine.specs.Sides.{Side, right, left, sideOf}
 use Rattle.machine.specs.Values.{Value, never, bag, N, X, Y, number}
 use Rattle.machine.specs.Operations.{operationOf}
-use Rattle.machine.specs.Tasks.{Task, none}
+use Rattle.machine.specs.Tasks.{Task, noNode}
 use Rattle.machine.specs.Registers.{holds}
 use Rattle.machine.specs.Table.{nodeCount, taskCount, dispatched, hat, link, value, task, setDispatched, setTask}
 use Rattle.machine.specs.Calls.{
@@ -127,7 +127,7 @@ module _ {ws vs : List ℕ} (A : AlikeColumns ws vs) where
       go : (r : Option ℕ) → startRefusal ws S T g L ≡ r
           → ChangedAlike (changed r ws (startWords S T g L)) (changed r vs (startWords S T g L))
       go (some n) e = (refl, A)
-      go nothing e = (refl, alike-self (start-accepted S T g L (search test-passed) (search (test-passed, tests-left))))
+      go none e = (refl, alike-self (start-accepted S T g L (search test-passed) (search (test-passed, tests-left))))
 
   -- ---- begin.
 
@@ -174,7 +174,7 @@ module _ {ws vs : List ℕ} (A : AlikeColumns ws vs) where
   lane-from-same : (n x : ℕ) → laneFrom vs n x ≡ laneFrom ws n x
   unfolding laneFrom
   lane-from-same zero x = refl
-  lane-from-same (suc n) x = by (x ≟ none) (lane-from-same n (link ws right x))
+  lane-from-same (suc n) x = by (x ≟ noNode) (lane-from-same n (link ws right x))
     where
       one : List ℕ → Value → Option (List ℕ)
       one xs v =
@@ -193,8 +193,8 @@ module _ {ws vs : List ℕ} (A : AlikeColumns ws vs) where
       each (X z) e = refl
       each (Y z) e = refl
 
-      by : (d : Dec (x ≡ none)) → laneFrom vs n (link ws right x) ≡ laneFrom ws n (link ws right x)
-          → (if d then nothing else one vs (value vs x)) ≡ (if d then nothing else one ws (value ws x))
+      by : (d : Dec (x ≡ noNode)) → laneFrom vs n (link ws right x) ≡ laneFrom ws n (link ws right x)
+          → (if d then none else one vs (value vs x)) ≡ (if d then none else one ws (value ws x))
       by (yes h) e = refl
       by (no h) e =
           ap (one vs) (same-value x)
@@ -239,7 +239,7 @@ module _ {ws vs : List ℕ} (A : AlikeColumns ws vs) where
           → WellFormed (changed r vs (setTask k t vs) .words)
           → ChangedAlike (changed r ws (setTask k t ws)) (changed r vs (setTask k t vs))
       go (some n) e a b = (refl, A)
-      go nothing e a b =
+      go none e a b =
           (refl, begun-alike k t (begin-allowed ws k l op side argument e .is-task) never-has-word a b)
 
   -- ---- run and panel.
@@ -248,7 +248,7 @@ module _ {ws vs : List ℕ} (A : AlikeColumns ws vs) where
   module _ (list answers : List ℕ) where
     tested-alike : (r : Option ℕ) → RunsAlike (tested r ws list answers) (tested r vs list answers)
     tested-alike (some n) = record { same-ran = refl; same-answers = refl; words-alike = A }
-    tested-alike nothing = schedule-alike list A answers
+    tested-alike none = schedule-alike list A answers
 
     list-alike : (others : Option ℕ)
         → RunsAlike (tested (tableRefusal ws others) ws list answers) (tested (tableRefusal vs others) vs list answers)
@@ -277,7 +277,7 @@ module _ {ws vs : List ℕ} (A : AlikeColumns ws vs) where
       ∙ ap (nextAfter (taskCount ws) (isBusyTask ws)) (same-dispatched A)
 
   -- Both tables after a tick, with that task as the one last dispatched.
-  dispatched-alike : (k h : ℕ) → tickRefusal ws k h ≡ nothing
+  dispatched-alike : (k h : ℕ) → tickRefusal ws k h ≡ none
       → AlikeColumns (setDispatched k (tickOn ws k h .words)) (setDispatched k (tickOn vs k h .words))
   dispatched-alike k h passes =
       record {
@@ -308,7 +308,7 @@ module _ {ws vs : List ℕ} (A : AlikeColumns ws vs) where
     abbrev DispatchAlike : (d e : Dispatched) → Type 0
     DispatchAlike d e = (e .answer ≡ d .answer) × AlikeColumns (d .words) (e .words)
 
-    to-alike : (k : ℕ) → tickRefusal ws k h ≡ nothing → DispatchAlike (dispatchTo ws k h) (dispatchTo vs k h)
+    to-alike : (k : ℕ) → tickRefusal ws k h ≡ none → DispatchAlike (dispatchTo ws k h) (dispatchTo vs k h)
     unfolding dispatchTo
     to-alike k passes = go (refusalOf (tickOn ws k h .answer)) refl
       where
@@ -318,7 +318,7 @@ module _ {ws vs : List ℕ} (A : AlikeColumns ws vs) where
         go : (r : Option ℕ) → refusalOf (tickOn ws k h .answer) ≡ r
             → DispatchAlike (dispatchTo ws k h) (dispatchTo vs k h)
         go (some n) q = rw (ap refusalOf same ∙ q, q, dispatchTo) (ap Answered same, A)
-        go nothing q = rw (ap refusalOf same ∙ q, q, dispatchTo) (ap Answered same, dispatched-alike k h passes)
+        go none q = rw (ap refusalOf same ∙ q, q, dispatchTo) (ap Answered same, dispatched-alike k h passes)
 
     dispatch-alike : DispatchAlike (dispatch ws h) (dispatch vs h)
     unfolding dispatch dispatchOn
@@ -326,7 +326,7 @@ module _ {ws vs : List ℕ} (A : AlikeColumns ws vs) where
       where
         chosen : h < nodeCount ws → (o : Option ℕ) → nextBusy ws ≡ o
             → DispatchAlike (dispatchOn ws h) (dispatchOn vs h)
-        chosen low nothing e = rw (next-same, e, dispatchOn) (refl, A)
+        chosen low none e = rw (next-same, e, dispatchOn) (refl, A)
         chosen low (some k) e =
             rw (next-same, e, dispatchOn)
             (to-alike k (busy-passes ws k h (chosen-busy ws (A .accepted) h e) low))
@@ -418,8 +418,8 @@ call-alike {ws} {vs} A c = go (view c)
 views-alike : {ws vs : List ℕ} → AlikeColumns ws vs → Alike ws vs
 views-alike {ws} {vs} A =
     record {
-      accepted = table-passes ws (A .accepted) nothing;
-      accepted′ = table-passes vs (A .accepted′) nothing;
+      accepted = table-passes ws (A .accepted) none;
+      accepted′ = table-passes vs (A .accepted′) none;
       same-nodes = same-nodes A;
       same-count = same-count A;
       same-growth = same-growth A;

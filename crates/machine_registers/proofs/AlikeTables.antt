@@ -6,7 +6,7 @@ use Prim.Native.Nat.{ℕ, zero, suc}
 use lib.Dec.{ltb}
 use Rattle.machine.specs.Shape.{WellFormed}
 use Rattle.machine.specs.Sides.{Side, left, right}
-use Rattle.machine.specs.Tasks.{Task, none, Register, inA, inB, inC, inD}
+use Rattle.machine.specs.Tasks.{Task, noNode, Register, inA, inB, inC, inD}
 use Rattle.machine.specs.Registers.{holds, heldIn}
 use Rattle.machine.specs.Table.{nodeCount, taskCount, growth, laneCount, tickCount, dispatched, hat, link, value, task}
 use Rattle.machine.specs.Allocate.{
@@ -66,7 +66,7 @@ unrecorded-put-all j s (w ∷ l) c =
 held-same : (t u : Task) → AgreeOn (holds (t .step)) t u → heldBy u ≡ heldBy t
 held-same t u e = cc (one inA, one inB, one inC, one inD)
   where
-    once : (b : Bool) (x y : ℕ) → cond b (cond b x y) none ≡ cond b x none
+    once : (b : Bool) (x y : ℕ) → cond b (cond b x y) noNode ≡ cond b x noNode
     once true x y = refl
     once false x y = refl
 

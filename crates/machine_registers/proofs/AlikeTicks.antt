@@ -2,7 +2,7 @@
 -- only there afterwards.
 use mathlib.Core.Path.{_≡_, refl, sym, ap, _∙_, subst}
 use mathlib.Core.List.{List, [], _∷_, _++_}
-use mathlib.Core.Option.{Option, some, none as nothing}
+use mathlib.Core.Option.{Option, some, none}
 use Prim.Native.Nat.{ℕ, suc, _+_, _%_, _^_}
 use lib.ListN.{drop}
 use Rattle.machine.specs.Shape.{WellFormed, sizesOf, WellSized}
@@ -88,8 +88,8 @@ module _ {ws vs : List ℕ} (A : AlikeColumns ws vs) (k h : ℕ) where
   answers-same = effects-same .same-answer
 
   -- The tick is made on both tables, or its line refuses it on both.
-  module _ (allowed : tickRefusal ws k h ≡ nothing) where
-    allowed′ : tickRefusal vs k h ≡ nothing
+  module _ (allowed : tickRefusal ws k h ≡ none) where
+    allowed′ : tickRefusal vs k h ≡ none
     allowed′ = refusal-same ∙ allowed
 
     sizes : (xs : List ℕ) → WellFormed xs → WellSized (sizesOf xs)
@@ -110,12 +110,12 @@ module _ {ws vs : List ℕ} (A : AlikeColumns ws vs) (k h : ℕ) where
     abbrev leaves : (ticks lane : ℕ) → Side → List Write → Columns → Columns
     leaves n j s l c = putTickCount ((n + 1) % 2 ^ 32) (putAll j s l c)
 
-    module _ (made : refusalOf (effectOf ws k h .answer) ≡ nothing) where
-      made′ : refusalOf (effectOf vs k h .answer) ≡ nothing
+    module _ (made : refusalOf (effectOf ws k h .answer) ≡ none) where
+      made′ : refusalOf (effectOf vs k h .answer) ≡ none
       made′ = ap refusalOf answers-same ∙ made
 
-      words-after : (xs : List ℕ) (a : WellFormed xs) (p : tickRefusal xs k h ≡ nothing)
-          → refusalOf (effectOf xs k h .answer) ≡ nothing
+      words-after : (xs : List ℕ) (a : WellFormed xs) (p : tickRefusal xs k h ≡ none)
+          → refusalOf (effectOf xs k h .answer) ≡ none
           → unrecorded (columns (tickOn xs k h .words))
           ≡ leaves (tickCount xs) (task xs k .lane) (task xs k .side) (effectOf xs k h .writes)
           (unrecorded (columns xs))
@@ -165,7 +165,7 @@ module _ {ws vs : List ℕ} (A : AlikeColumns ws vs) (k h : ℕ) where
         → AlikeColumns (tickOn ws k h .words) (tickOn vs k h .words)
     passed-alike (some n) e =
         rw (tick-refused ws k h allowed e, tick-refused vs k h allowed′ (ap refusalOf answers-same ∙ e)) A
-    passed-alike nothing e = made-alike e
+    passed-alike none e = made-alike e
 
   -- On both tables a tick has the same answer, and they differ only in registers that do not hold afterwards.
   pub tick-alike :
@@ -175,7 +175,7 @@ module _ {ws vs : List ℕ} (A : AlikeColumns ws vs) (k h : ℕ) where
       go : (r : Option ℕ) → tickRefusal ws k h ≡ r
           → (tickOn vs k h .answer ≡ tickOn ws k h .answer) × AlikeColumns (tickOn ws k h .words) (tickOn vs k h .words)
       go (some n) e = rw (tick-stopped ws k h e, tick-stopped vs k h (refusal-same ∙ e)) (refl, A)
-      go nothing e = (
+      go none e = (
         tick-answer vs k h (refusal-same ∙ e) ∙ answers-same ∙ sym (tick-answer ws k h e),
         passed-alike e (refusalOf (effectOf ws k h .answer)) refl,
       )
@@ -203,19 +203,19 @@ schedule-alike (k ∷ h ∷ list) {ws} {vs} A answers =
     turn xs a =
         elim (refusalOf a) as (λ _. RunDone) [
           | some n ↦ stopped n xs answers
-          | nothing ↦ afterTick a (others xs)
+          | none ↦ afterTick a (others xs)
         ]
 
     first : List ℕ → Option ℕ → RunDone
     first xs r =
         elim r as (λ _. RunDone) [
           | some n ↦ stopped n xs answers
-          | nothing ↦ afterTick (tickOn ws k h .answer) (others xs)
+          | none ↦ afterTick (tickOn ws k h .answer) (others xs)
         ]
 
     go : (r : Option ℕ) → RunsAlike (others ws) (others vs) → RunsAlike (first ws r) (first vs r)
     go (some n) R = record { same-ran = refl; same-answers = refl; words-alike = A }
-    go nothing R =
+    go none R =
         record {
           same-ran = ap (λ (x : Ran). record { made = suc (x .made); refusal = x .refusal }) (R .same-ran);
           same-answers =

@@ -49,7 +49,7 @@ use Rattle.machine.specs.Steps.{
 }
 use Rattle.machine.specs.Tasks.{
   Task,
-  none,
+  noNode,
   inA,
   inB,
   inC,
@@ -120,7 +120,7 @@ module _ {st : Step} {t u : Task} where
   by-dcas (yes p) (no q) a b = b
   by-dcas (no p) c a b = b
 
-by-back : (P : Step → Type 0) (op : Operation) {x : ℕ} (d : Dec (x ≡ none)) → P line2 → P line15 → P (backOf op d)
+by-back : (P : Step → Type 0) (op : Operation) {x : ℕ} (d : Dec (x ≡ noNode)) → P line2 → P line15 → P (backOf op d)
 by-back P push (yes h) a b = a
 by-back P push (no h) a b = b
 by-back P idle d a b = b
@@ -171,20 +171,20 @@ module _ (s o : Side) (m : Memory) (t u : Task) (g x : ℕ) where
   line-same line67 = goes (line68 setting (inA ∷ [])) (inl refl) refl refl refl
   line-same line68 =
       by-through _ (by-if (Next line68 (λ y. y) []) (_ ≟ᵛ _) (λ _. goes (to line69) (inl refl) refl refl refl)
-      (λ _. by-back (Next line68 (λ y. y) []) (t .operation) (t .D ≟ none)
+      (λ _. by-back (Next line68 (λ y. y) []) (t .operation) (t .D ≟ noNode)
       (goes (to line2) (inr (inl refl)) refl refl refl)
       (goes (to line15) (inr (inr (inl refl))) refl refl refl)))
   line-same line69 = by-through _ (goes (line70 setting (inB ∷ [])) (inl refl) refl refl refl)
   line-same line70 =
       by-through _ (let c = m .out (t .B) in
       by-if (Next line70 (λ y. withC y c) []) (_ ≟ _)
-      (λ _. by-back (Next line70 (λ y. withC y c) []) (t .operation) (t .D ≟ none)
+      (λ _. by-back (Next line70 (λ y. withC y c) []) (t .operation) (t .D ≟ noNode)
       (goes (line2 setting (inC ∷ [])) (inl refl) refl refl refl)
       (goes (line15 setting (inC ∷ [])) (inr (inl refl)) refl refl refl))
       (λ _. goes (line72 setting (inC ∷ [])) (inr (inr (inl refl))) refl refl refl))
   line-same line72 =
       by-through _ (by-back (Next line72 (λ y. y) _)
-      (t .operation) (t .D ≟ none)
+      (t .operation) (t .D ≟ noNode)
       (goes (to line2) (inl refl) refl refl refl)
       (goes (to line15) (inr (inl refl)) refl refl refl))
   line-same line28 =

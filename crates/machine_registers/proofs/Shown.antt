@@ -13,7 +13,7 @@ use Rattle.machine.specs.Sides.{left, right}
 use Rattle.machine.specs.Values.{Value, bag, N, X, Y, encode, storedWords, Value-discrete}
 use Rattle.machine.specs.Operations.{push}
 use Rattle.machine.specs.Steps.{Step, stepNumber, stepOf}
-use Rattle.machine.specs.Tasks.{Task, none, Register, inA, inB, inC, inD, register}
+use Rattle.machine.specs.Tasks.{Task, noNode, Register, inA, inB, inC, inD, register}
 use Rattle.machine.specs.Registers.{among}
 use Rattle.machine_registers.specs.Paths.{uses, Way, ways}
 use Rattle.machine.specs.Shape.{sameWords}
@@ -67,10 +67,10 @@ abbrev samples : List Sample
 samples =
     sample 3 3 (N right) (N right) 5 0 6
     ∷ sample 3 3 (X right) (N right) 5 1 6
-    ∷ sample 3 none (N right) (N right) none 0 none
-    ∷ sample 3 none (Y right) (N right) 5 1 none
-    ∷ sample 3 3 (bag 1) (N right) none 1 6
-    ∷ sample 3 3 (N left) (N right) none 1 6
+    ∷ sample 3 noNode (N right) (N right) noNode 0 noNode
+    ∷ sample 3 noNode (Y right) (N right) 5 1 noNode
+    ∷ sample 3 3 (bag 1) (N right) noNode 1 6
+    ∷ sample 3 3 (N left) (N right) noNode 1 6
     ∷ sample 0 1 (X right) (X right) 5 1 6
     ∷ []
 
@@ -131,7 +131,7 @@ differsAt st r x a =
     not (sameWords (shows r (effectIn st a (taskIn a st))) (shows r (effectIn st a (with r x (taskIn a st)))))
 
 abbrev useTried : Step → Register → Bool
-useTried st r = someSample samples (differsAt st r 4) || someSample samples (differsAt st r none)
+useTried st r = someSample samples (differsAt st r 4) || someSample samples (differsAt st r noNode)
 
 uses-tried : (st : Step) (r : Register) → implies (among (uses st) r) (useTried st r) ≡ true
 unfolding act dcas sameWords ℕ-discrete Value-discrete
@@ -173,9 +173,9 @@ differs-from st r x a d =
 pub uses-show : UsesShow
 uses-show st r u =
     let h = implied (among (uses st) r) (useTried st r) (uses-tried st r) u in
-    elim (or-either (someSample samples (differsAt st r 4)) (someSample samples (differsAt st r none)) h) [
+    elim (or-either (someSample samples (differsAt st r 4)) (someSample samples (differsAt st r noNode)) h) [
       | inl k ↦ let a = some-sample (differsAt st r 4) samples k in differs-from st r 4 (a .0) (a .1)
-      | inr k ↦ let a = some-sample (differsAt st r none) samples k in differs-from st r none (a .0) (a .1)
+      | inr k ↦ let a = some-sample (differsAt st r noNode) samples k in differs-from st r noNode (a .0) (a .1)
     ]
 
 number-injective : (a b : Step) → stepNumber a ≡ stepNumber b → a ≡ b

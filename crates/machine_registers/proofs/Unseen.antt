@@ -7,7 +7,7 @@ use lib.ListN.{length}
 use Rattle.machine.specs.Shape.{WellFormed, sizesOf, WellSized}
 use Rattle.machine.specs.Choice.{_≟_, if_then_else_}
 use Rattle.machine.specs.Values.{encode}
-use Rattle.machine.specs.Tasks.{Task, fresh, none, wordsOf, inA, inB, inC, inD}
+use Rattle.machine.specs.Tasks.{Task, fresh, noNode, wordsOf, inA, inB, inC, inD}
 use Rattle.machine.specs.Registers.{holds}
 use Rattle.machine.specs.Table.{tableLength, nodeCount, taskCount, growth, laneCount, value, task, setTask}
 use Rattle.machine.specs.Calls.{isBusy}
@@ -40,10 +40,10 @@ records-agree {t} {u} same = agree-from {p = holds (t .step)} same-plain (same .
           argument = same .same-argument i;
           counted = same .same-counted i;
           value = same .same-value i;
-          A = none;
-          B = none;
-          C = none;
-          D = none;
+          A = noNode;
+          B = noNode;
+          C = noNode;
+          D = noNode;
           lane = same .same-lane i;
         }
 
@@ -128,7 +128,7 @@ module _ {ws : List ℕ} (accepted : WellFormed ws) (k : ℕ) (is-task : k < tas
         lane-ok = F .lane-ok;
       }
     where
-      kept-or-none : (b : Bool) {x : ℕ} → NodeOrNone (nodeCount ws) x → NodeOrNone (nodeCount ws) (cond b x none)
+      kept-or-none : (b : Bool) {x : ℕ} → NodeOrNone (nodeCount ws) x → NodeOrNone (nodeCount ws) (cond b x noNode)
       kept-or-none true h = h
       kept-or-none false h = λ n. absurd (n refl)
 

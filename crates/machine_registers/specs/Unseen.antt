@@ -2,7 +2,7 @@
 use mathlib.Core.Path.{_≡_}
 use mathlib.Core.Bool.{true}
 use mathlib.Core.List.{List, [], _∷_}
-use mathlib.Core.Option.{none as nothing}
+use mathlib.Core.Option.{none}
 use Prim.Native.Nat.{ℕ}
 use Rattle.machine.specs.Sides.{Side}
 use Rattle.machine.specs.Tasks.{Task, Register, inA, inB, inC, inD, register, withRegisters}
@@ -36,8 +36,8 @@ pub record SameButUnneeded (t u : Task) : Type 0 where
 
 -- Two accepted tables are the same but for such registers.
 pub record Alike (ws vs : List ℕ) : Type 0 where
-  pub accepted : tableRefusal ws nothing ≡ nothing
-  pub accepted′ : tableRefusal vs nothing ≡ nothing
+  pub accepted : tableRefusal ws none ≡ none
+  pub accepted′ : tableRefusal vs none ≡ none
   pub same-nodes : nodeCount vs ≡ nodeCount ws
   pub same-count : taskCount vs ≡ taskCount ws
   pub same-growth : growth vs ≡ growth ws
@@ -70,7 +70,7 @@ cleared t = withRegisters t (heldIn t inA) (heldIn t inB) (heldIn t inC) (heldIn
 abbrev pub ClearingUnseen : Type 0
 ClearingUnseen =
     (ws : List ℕ)
-    → tableRefusal ws nothing ≡ nothing
+    → tableRefusal ws none ≡ none
     → (k : ℕ)
     → isBusy (task ws k .operation) ≡ true
     → (calls : List Call)

@@ -9,7 +9,7 @@ use Rattle.machine.specs.Choice.{_≟_}
 use Rattle.machine.specs.Sides.{Side, left, right, opposite}
 use Rattle.machine.specs.Values.{Value}
 use Rattle.machine.specs.Operations.{idle}
-use Rattle.machine.specs.Tasks.{Task, none, Register, register}
+use Rattle.machine.specs.Tasks.{Task, noNode, Register, register}
 use Rattle.machine.specs.Registers.{holding, holds}
 use Rattle.machine.specs.Lines.{Effect}
 use Rattle.machine.specs.Row.{Note}
@@ -61,7 +61,7 @@ same-values-seen right m = refl
 
 module _ {L : ℕ} {held : ℕ → Bool} {M : View} {ts : ℕ → Task} {class : ℕ → Class} {bags : ℕ → List ℕ}
     (I : Invariant L M ts class bags) (R : Roots L held M ts) (A : Apart L M ts)
-    (k g f : ℕ) (busy : ts k .operation ≢ idle) (free-f : f ≢ none → held f ≡ false) where
+    (k g f : ℕ) (busy : ts k .operation ≢ idle) (free-f : f ≢ noNode → held f ≡ false) where
   abbrev ℓ : ℕ
   ℓ = ts k .lane
 
@@ -98,7 +98,7 @@ module _ {L : ℕ} {held : ℕ → Bool} {M : View} {ts : ℕ → Task} {class :
         closed = closed;
       }) c
     where
-      closed : (z : Side) (y : ℕ) → held y ≡ true → linkOf M z y ≢ none → held (linkOf M z y) ≡ true
+      closed : (z : Side) (y : ℕ) → held y ≡ true → linkOf M z y ≢ noNode → held (linkOf M z y) ≡ true
       closed left y h n = R .closed .inn-closed y h n
       closed right y h n = R .closed .out-closed y h n
 
@@ -117,7 +117,7 @@ module _ {L : ℕ} {held : ℕ → Bool} {M : View} {ts : ℕ → Task} {class :
 
   -- A node is the one taken.
   abbrev Found : ℕ → Type 0
-  Found x = (x ≡ f) × (f ≢ none)
+  Found x = (x ≡ f) × (f ≢ noNode)
 
   -- Nothing leads to it.
   not-found : (n x : ℕ) → Leads L M ts n x → Found x → ⊥
@@ -178,7 +178,7 @@ module _ {L : ℕ} {held : ℕ → Bool} {M : View} {ts : ℕ → Task} {class :
           has-registers =
               λ j r.
               wrote-all
-              (λ i t. t .lane ≡ ℓ → holds (t .step) r ≡ true → register t r ≢ none → Q (register t r))
+              (λ i t. t .lane ≡ ℓ → holds (t .step) r ≡ true → register t r ≢ noNode → Q (register t r))
               (update-wrote ts k (e .task))
               (λ _ h n. one-register Q (e .task) (holding (e .task .step)) (W .registers-in) r h n)
               (λ i _ q h n. old _ (from-register i r q h n)) j;

@@ -8,7 +8,7 @@ use native.Mathlib.Omega.{arith}
 use Rattle.machine.specs.Choice.{_≟_, _<?_}
 use Rattle.machine.specs.Sides.{Side, left, right, sideNumber}
 use Rattle.machine.specs.Operations.{Operation}
-use Rattle.machine.specs.Tasks.{Task, fresh, none, Register, inA, inB, inC, inD, register}
+use Rattle.machine.specs.Tasks.{Task, fresh, noNode, Register, inA, inB, inC, inD, register}
 use Rattle.machine.specs.Registers.{holds}
 use Rattle.machine.specs.Table.{laneCount, task}
 use Rattle.machine.specs.Calls.{begunTask}
@@ -29,15 +29,15 @@ fresh-holds t is-fresh r h =
     refute (cc)
 
 -- ---- Start: node x is of lane x / 2, and all tasks are fresh.
-start-links : (L l : ℕ) (z : Side) (x : ℕ) → x / 2 ≡ l → linkOf (startView L) z x ≢ none
+start-links : (L l : ℕ) (z : Side) (x : ℕ) → x / 2 ≡ l → linkOf (startView L) z x ≢ noNode
     → linkOf (startView L) z x / 2 ≡ l
 start-links L l left x e =
-    by-if (λ y. y ≢ none → y / 2 ≡ l) (x <? 2 * L)
-    (λ h. by-if (λ y. y ≢ none → y / 2 ≡ l) (x % 2 ≟ 0) (λ _ n. absurd (n refl)) (λ odd _. omega arith))
+    by-if (λ y. y ≢ noNode → y / 2 ≡ l) (x <? 2 * L)
+    (λ h. by-if (λ y. y ≢ noNode → y / 2 ≡ l) (x % 2 ≟ 0) (λ _ n. absurd (n refl)) (λ odd _. omega arith))
     (λ _ n. absurd (n refl))
 start-links L l right x e =
-    by-if (λ y. y ≢ none → y / 2 ≡ l) (x <? 2 * L)
-    (λ h. by-if (λ y. y ≢ none → y / 2 ≡ l) (x % 2 ≟ 0) (λ even _. omega arith) (λ _ n. absurd (n refl)))
+    by-if (λ y. y ≢ noNode → y / 2 ≡ l) (x <? 2 * L)
+    (λ h. by-if (λ y. y ≢ noNode → y / 2 ≡ l) (x % 2 ≟ 0) (λ even _. omega arith) (λ _ n. absurd (n refl)))
     (λ _ n. absurd (n refl))
 
 start-lane : (L l : ℕ) {ts : ℕ → Task} → ((k : ℕ) → ts k ≡ fresh) → HasLane L (startView L) ts l (λ x. x / 2 ≡ l)
@@ -77,7 +77,7 @@ begin-stays {ts = ts} k was-fresh l op s argument n =
     W : Wrote ts k t (update ts k t)
     W = update-wrote ts k t
 
-    no-node : (r : Register) → register t r ≡ none
+    no-node : (r : Register) → register t r ≡ noNode
     no-node inA = refl
     no-node inB = refl
     no-node inC = refl

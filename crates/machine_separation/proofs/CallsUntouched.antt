@@ -2,7 +2,7 @@
 use mathlib.Core.Path.{_≡_, refl, sym, ap, _∙_, subst}
 use mathlib.Core.Bool.{Bool, true, false}
 use mathlib.Core.List.{List, [], _∷_}
-use mathlib.Core.Option.{Option, some, none as nothing}
+use mathlib.Core.Option.{Option, some, none}
 use Prim.Native.Nat.{ℕ, zero, suc, _<_}
 use native.Mathlib.Omega.{arith}
 use Rattle.machine.specs.declared.Stored.{Stored}
@@ -61,7 +61,7 @@ module _ {ws : List ℕ} (B : Begun ws) (m : ℕ) where
   still-not-on : (k h j : ℕ) → NotOn m ws j → NotOn m (tickOn ws k h .words) j
   still-not-on k h j not-on = go (tickRefusal ws k h) refl
     where
-      ended-or-same : (passes : tickRefusal ws k h ≡ nothing) → NotOn m ws k → Kept (task ws k) (effectOf ws k h)
+      ended-or-same : (passes : tickRefusal ws k h ≡ none) → NotOn m ws k → Kept (task ws k) (effectOf ws k h)
           → NotOn m (tickOn ws k h .words) k
       ended-or-same passes n (goes-on _ same) =
           let now = own-after (begun-agrees B .1) k h passes in
@@ -73,7 +73,7 @@ module _ {ws : List ℕ} (B : Begun ws) (m : ℕ) where
 
       go : (r : Option ℕ) → tickRefusal ws k h ≡ r → NotOn m (tickOn ws k h .words) j
       go (some n) e = rw (tick-stopped ws k h e) not-on
-      go nothing e =
+      go none e =
           elim (j ≟ k) [
             | yes q ↦
                 subst (λ (i : ℕ). NotOn m (tickOn ws k h .words) i) (sym q)

@@ -4,7 +4,7 @@ use mathlib.Core.Logic.{_≢_}
 use mathlib.Core.Bool.{true}
 use Prim.Native.Nat.{ℕ, _<_}
 use Rattle.machine.specs.Sides.{Side, left, right}
-use Rattle.machine.specs.Tasks.{Task, none, Register, register}
+use Rattle.machine.specs.Tasks.{Task, noNode, Register, register}
 use Rattle.machine.specs.Registers.{holds}
 use Rattle.machine.proofs.Words.Memories.{View, view}
 
@@ -39,9 +39,9 @@ pub data Leads (L : ℕ) (M : View) (ts : ℕ → Task) (l : ℕ) : ℕ → Type
   from-register : (k : ℕ) (r : Register)
       → ts k .lane ≡ l
       → holds (ts k .step) r ≡ true
-      → register (ts k) r ≢ none
+      → register (ts k) r ≢ noNode
       → Leads L M ts l (register (ts k) r)
-  along : {x : ℕ} (z : Side) → Leads L M ts l x → linkOf M z x ≢ none → Leads L M ts l (linkOf M z x)
+  along : {x : ℕ} (z : Side) → Leads L M ts l x → linkOf M z x ≢ noNode → Leads L M ts l (linkOf M z x)
 
 -- No node is led to from two lanes.
 abbrev pub Apart : (L : ℕ) → View → (ℕ → Task) → Type 0
@@ -53,9 +53,9 @@ pub record HasLane (L : ℕ) (M : View) (ts : ℕ → Task) (l : ℕ) (P : ℕ �
   pub has-registers : (k : ℕ) (r : Register)
       → ts k .lane ≡ l
       → holds (ts k .step) r ≡ true
-      → register (ts k) r ≢ none
+      → register (ts k) r ≢ noNode
       → P (register (ts k) r)
-  pub closed : (z : Side) (x : ℕ) → P x → linkOf M z x ≢ none → P (linkOf M z x)
+  pub closed : (z : Side) (x : ℕ) → P x → linkOf M z x ≢ noNode → P (linkOf M z x)
 
 pub has-led-to : {L : ℕ} {M : View} {ts : ℕ → Task} {l : ℕ} {P : ℕ → Type 0} → HasLane L M ts l P → {x : ℕ}
     → Leads L M ts l x
@@ -68,7 +68,7 @@ has-led-to H (along {x} z c n) = H .closed z x (has-led-to H c) n
 
 -- Where the record t holds a node for lane l, the record u is the same.
 abbrev pub HoldsSame : (l : ℕ) (t u : Task) → Type 0
-HoldsSame l t u = (r : Register) → t .lane ≡ l → holds (t .step) r ≡ true → register t r ≢ none → u ≡ t
+HoldsSame l t u = (r : Register) → t .lane ≡ l → holds (t .step) r ≡ true → register t r ≢ noNode → u ≡ t
 
 -- What must stay: the hats, the words of the nodes led to, and the records that hold some, before or after.
 pub record Stays (L : ℕ) (M : View) (ts : ℕ → Task) (M' : View) (ts' : ℕ → Task) (l : ℕ) : Type 0 where

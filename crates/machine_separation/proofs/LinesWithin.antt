@@ -10,7 +10,7 @@ use Rattle.machine.specs.Values.{Value, never, bag, N, X, Y, _≟ᵛ_}
 use Rattle.machine.specs.Operations.{Operation, idle, push, pop, add, remove}
 use Rattle.machine.specs.Steps.{Step, rest}
 use Rattle.machine.specs.Steps as Steps
-use Rattle.machine.specs.Tasks.{Task, none, goto, withA, withB, withC, withD, withCounted, withValue}
+use Rattle.machine.specs.Tasks.{Task, noNode, goto, withA, withB, withC, withD, withCounted, withValue}
 use Rattle.machine.specs.Registers.{holding}
 use Rattle.machine.specs.Lines.{
   Write,
@@ -41,13 +41,13 @@ With f P x = P x ⊎ (x ≡ f)
 -- lead there.
 pub data Confined (P : ℕ → Type 0) (f l : ℕ) (s : Side) (m : View) (e : Effect) : Type 0 where
   stays : Within P e → Confined P f l s m e
-  takes : f ≢ none
+  takes : f ≢ noNode
       → Within (With f P) e
       → OrNone (With f P) (written l s (e .writes) m .out f)
       → OrNone (With f P) (written l s (e .writes) m .inn f)
       → Confined P f l s m e
 
-by-back : (C : Step → Type 0) (op : Operation) {x : ℕ} (d : Dec (x ≡ none)) → C Steps.line2 → C Steps.line15
+by-back : (C : Step → Type 0) (op : Operation) {x : ℕ} (d : Dec (x ≡ noNode)) → C Steps.line2 → C Steps.line15
     → C (backOf op d)
 by-back C push (yes h) a b = a
 by-back C push (no h) a b = b
@@ -78,7 +78,7 @@ module _ (P : ℕ → Type 0) (l : ℕ) (s o : Side) (m : View) (t : Task) (g f 
   goes w r = stays (record { writes-in = w; registers-in = r })
 
   -- ---- How a line branches.
-  past : {x : ℕ} {e : Effect} → (x ≢ none → Ok e) → Ok (through x t e)
+  past : {x : ℕ} {e : Effect} → (x ≢ noNode → Ok e) → Ok (through x t e)
   past c = ok-through Ok (λ _. goes tt own) c
 
   -- The task, changed, goes on to a step.
@@ -93,21 +93,21 @@ module _ (P : ℕ → Type 0) (l : ℕ) (s o : Side) (m : View) (t : Task) (g f 
   by-splice remove ws w = goes w tt
 
   -- ---- The node taken: the first of a chain, and one more.
-  module _ {st : Step} {n : ℕ} (found : f ≢ none)
+  module _ {st : Step} {n : ℕ} (found : f ≢ noNode)
       (D-in : RegistersIn (With f P) (holding st) (goto (withCounted (withD t f) n) st)) where
-    first-taken : Goes (λ y. withCounted (withD y f) n) (out≔ f none ∷ inn≔ f none ∷ val≔ f (X s) ∷ []) st
+    first-taken : Goes (λ y. withCounted (withD y f) n) (out≔ f noNode ∷ inn≔ f noNode ∷ val≔ f (X s) ∷ []) st
     first-taken =
         takes found
         (record {
           writes-in = ((inr refl, to-none (With f P)), ((inr refl, to-none (With f P)), (inr refl, tt)));
           registers-in = D-in;
         })
-        (λ k. absurd (k (update-same (m .out) f none)))
-        (λ k. absurd (k (update-same (m .inn) f none)))
+        (λ k. absurd (k (update-same (m .out) f noNode)))
+        (λ k. absurd (k (update-same (m .inn) f noNode)))
 
     next-taken : P (t .D)
         → Goes (λ y. withCounted (withD y f) n)
-        (val≔ f (N s) ∷ inn≔ f none ∷ out≔ f (t .D) ∷ inn≔ (t .D) f ∷ []) st
+        (val≔ f (N s) ∷ inn≔ f noNode ∷ out≔ f (t .D) ∷ inn≔ (t .D) f ∷ []) st
     next-taken chain-in =
         takes found
         (record {
@@ -118,15 +118,15 @@ module _ (P : ℕ → Type 0) (l : ℕ) (s o : Side) (m : View) (t : Task) (g f 
           registers-in = D-in;
         })
         (λ _. rw (update-same (m .out) f (t .D)) (inl chain-in))
-        (λ k. go k (wrote? (update-wrote (update (m .inn) f none) (t .D) f) f))
+        (λ k. go k (wrote? (update-wrote (update (m .inn) f noNode) (t .D) f) f))
       where
         inn-of-f : ℕ
-        inn-of-f = update (update (m .inn) f none) (t .D) f f
+        inn-of-f = update (update (m .inn) f noNode) (t .D) f f
 
-        go : inn-of-f ≢ none → WroteAt (update (m .inn) f none) (t .D) f (update (update (m .inn) f none) (t .D) f) f
+        go : inn-of-f ≢ noNode → WroteAt (update (m .inn) f noNode) (t .D) f (update (update (m .inn) f noNode) (t .D) f) f
             → With f P inn-of-f
         go k (it-is e q) = inr q
-        go k (it-is-not ne q) = absurd (k (q ∙ update-same (m .inn) f none))
+        go k (it-is-not ne q) = absurd (k (q ∙ update-same (m .inn) f noNode))
 
   -- ---- The lines.
   line-within : (st : Step) → LineOk st
@@ -144,18 +144,18 @@ module _ (P : ℕ → Type 0) (l : ℕ) (s o : Side) (m : View) (t : Task) (g f 
   line-within Steps.line67 h = goes tt ((λ _. hat-in), h)
   line-within Steps.line68 h =
       past (λ _. by-if (Goes (λ y. y) []) (_ ≟ᵛ _) (λ _. goes tt h)
-      (λ _. by-back (Goes (λ y. y) []) (t .operation) (t .D ≟ none) (goes tt (h .1)) (goes tt (h .1))))
+      (λ _. by-back (Goes (λ y. y) []) (t .operation) (t .D ≟ noNode) (goes tt (h .1)) (goes tt (h .1))))
   line-within Steps.line69 h = past (λ a. goes tt (h .0, (inn-in _ (h .0 a), h .1)))
   line-within Steps.line70 h =
       past (λ b. let F : Task → Task = λ y. withC y (m .out (t .B)) in
       by-if (Goes F []) (_ ≟ _)
-      (λ _. by-back (Goes F []) (t .operation) (t .D ≟ none) (goes tt (h .1 .1)) (goes tt (h .1 .1)))
+      (λ _. by-back (Goes F []) (t .operation) (t .D ≟ noNode) (goes tt (h .1 .1)) (goes tt (h .1 .1)))
       (λ _. goes tt (h .0, (out-in _ (h .1 .0 b), h .1 .1))))
   line-within Steps.line72 h =
-      past (λ c. by-back (Goes (λ y. y) _) (t .operation) (t .D ≟ none)
+      past (λ c. by-back (Goes (λ y. y) _) (t .operation) (t .D ≟ noNode)
       (goes (moved c) (h .1 .1)) (goes (moved c) (h .1 .1)))
     where
-      moved : t .C ≢ none → WritesIn P (if m .hats l s ≟ t .A then hat≔ (t .C) ∷ [] else [])
+      moved : t .C ≢ noNode → WritesIn P (if m .hats l s ≟ t .A then hat≔ (t .C) ∷ [] else [])
       moved c = by-if (WritesIn P) (_ ≟ _) (λ _. (h .1 .0 c, tt)) (λ _. tt)
   line-within Steps.line28 h =
       ok-if Ok (λ e. e) (_ ≟ _) (λ _. goes tt tt)

@@ -8,7 +8,7 @@ use Rattle.machine.specs.Choice.{_≟_, _<?_}
 use Rattle.machine.specs.Sides.{Side, opposite}
 use Rattle.machine.specs.Values.{decode, encode, never}
 use Rattle.machine.specs.Steps.{line28, line31}
-use Rattle.machine.specs.Tasks.{Task, none, Register, register, goal}
+use Rattle.machine.specs.Tasks.{Task, noNode, Register, register, goal}
 use Rattle.machine.specs.Registers.{holds}
 use Rattle.machine.specs.Table.{nodeCount, growth, linkWord, valueWords, link, value, task}
 use Rattle.machine.specs.Shape.{WellFormed}
@@ -23,16 +23,16 @@ use Rattle.machine_separation.proofs.SameLines.{LooksSame, same-line}
 
 -- ---- None has no words.
 module _ {ws : List ℕ} (W : WellFormed ws) where
-  none-above : none < nodeCount ws → ⊥
+  none-above : noNode < nodeCount ws → ⊥
   none-above h = node-not-none (well-linked W .few) h refl
 
-  link-of-none : (s : Side) → link ws s none ≡ none
+  link-of-none : (s : Side) → link ws s noNode ≡ noNode
   unfolding link
-  link-of-none s = if-no (none <? nodeCount ws) (linkWord ws s none) none none-above
+  link-of-none s = if-no (noNode <? nodeCount ws) (linkWord ws s noNode) noNode none-above
 
-  value-of-none : value ws none ≡ decode (encode never)
+  value-of-none : value ws noNode ≡ decode (encode never)
   unfolding value
-  value-of-none = ap decode (if-no (none <? nodeCount ws) (valueWords ws none) (encode never) none-above)
+  value-of-none = ap decode (if-no (noNode <? nodeCount ws) (valueWords ws noNode) (encode never) none-above)
 
 -- ---- Two tables with the same record of task j and the same lane of its call.
 module _ {ws vs : List ℕ} (W : WellFormed ws) (W′ : WellFormed vs) (j : ℕ)
@@ -44,7 +44,7 @@ module _ {ws vs : List ℕ} (W : WellFormed ws) (W′ : WellFormed vs) (j : ℕ)
   looks-same : (r : Register) → holds (t .step) r ≡ true
       → LooksSame (seen (t .lane) (t .side) ws) (seen (t .lane) (t .side) vs) (register t r)
   looks-same r h =
-      elim (register t r ≟ none) [
+      elim (register t r ≟ noNode) [
         | yes q ↦
             rw q
             (record {

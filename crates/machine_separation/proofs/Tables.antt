@@ -2,7 +2,7 @@
 use mathlib.Core.Path.{_≡_, refl, sym, _∙_, subst}
 use mathlib.Core.Logic.{_≢_}
 use mathlib.Core.List.{List}
-use mathlib.Core.Option.{Option, some, none as nothing}
+use mathlib.Core.Option.{Option, some, none}
 use Prim.Native.Nat.{ℕ}
 use Rattle.machine.specs.Sides.{Side, left, right, opposite}
 use Rattle.machine.specs.Tasks.{goal}
@@ -125,7 +125,7 @@ dispatched-too {vs = vs} sized j O =
 
 -- ---- A tick.
 module _ {ws : List ℕ} (B : Begun ws) (k h : ℕ) where
-  made-stays : tickRefusal ws k h ≡ nothing → (m : ℕ) → NotOn m ws k → LaneStays m ws (tickOn ws k h .words)
+  made-stays : tickRefusal ws k h ≡ none → (m : ℕ) → NotOn m ws k → LaneStays m ws (tickOn ws k h .words)
   unfolding effectOf
   made-stays passes m not-on =
       let A = begun-agrees B .1 in
@@ -151,7 +151,7 @@ module _ {ws : List ℕ} (B : Begun ws) (k h : ℕ) where
     where
       go : (r : Option ℕ) → tickRefusal ws k h ≡ r → OthersStay k ws (tickOn ws k h .words)
       go (some n) e = rw (tick-stopped ws k h e) (unchanged k ws)
-      go nothing e =
+      go none e =
           let A = begun-agrees B .1 in
           record {
             same-count = lanes-after A k h e;

@@ -2,7 +2,7 @@
 use mathlib.Core.Path.{_≡_, refl, sym, ap}
 use mathlib.Core.Bool.{true}
 use mathlib.Core.List.{List}
-use mathlib.Core.Option.{Option, some, none as nothing}
+use mathlib.Core.Option.{Option, some, none}
 use Prim.Native.Nat.{ℕ, _<_}
 use native.Mathlib.Omega.{arith}
 use Rattle.machine.specs.Operations.{Operation, idle, push, pop, add, remove}
@@ -86,7 +86,7 @@ sees-the-same ws B k h j not-on =
     go : (r : Option ℕ) → tickRefusal ws k h ≡ r
         → (task (tickOn ws k h .words) j ≡ task ws j) × (growth (tickOn ws k h .words) ≡ growth ws)
     go (some n) e = rw (tick-stopped ws k h e) (refl, refl)
-    go nothing e = (
+    go none e = (
       other-after A k h e j (λ q. not-on (tick-allowed ws k h e .2) (ap (λ (i : ℕ). task ws i .lane) (sym q))),
       growth-after A k h e,
     )

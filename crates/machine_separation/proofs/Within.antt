@@ -6,7 +6,7 @@ use mathlib.Core.List.{List, [], _∷_}
 use Prim.Native.Nat.{ℕ}
 use lib.Dec.{eqb}
 use Rattle.machine.specs.Sides.{Side}
-use Rattle.machine.specs.Tasks.{Task, none, Register, inA, inB, inC, inD, register}
+use Rattle.machine.specs.Tasks.{Task, noNode, Register, inA, inB, inC, inD, register}
 use Rattle.machine.specs.Registers.{registerNumber, among, holding}
 use Rattle.machine.specs.Lines.{Write, out≔, inn≔, val≔, hat≔, Effect}
 use Rattle.machine.proofs.Basics.Contradiction.{clash}
@@ -29,9 +29,9 @@ either false c e = e
 module _ (P : ℕ → Type 0) where
   -- A number is none or in the set.
   abbrev pub OrNone : ℕ → Type 0
-  OrNone y = y ≢ none → P y
+  OrNone y = y ≢ noNode → P y
 
-  pub to-none : OrNone none
+  pub to-none : OrNone noNode
   to-none n = absurd (n refl)
 
   -- The links of the nodes of a set lead into P, or to none.

@@ -9,7 +9,7 @@ use Prim.Native.Nat.{ℕ, _<_}
 use Rattle.machine.specs.declared.Reply.the-variants.{Accepted}
 use Rattle.machine.specs.Sides.{Side, opposite}
 use Rattle.machine.specs.Steps.{line28, line31}
-use Rattle.machine.specs.Tasks.{none, Register, register, goal}
+use Rattle.machine.specs.Tasks.{noNode, Register, register, goal}
 use Rattle.machine.specs.Table.{growth, laneCount, hat, link, value, task}
 use Rattle.machine.specs.Shape.{WellFormed}
 use Rattle.machine.specs.Registers.{holds}
@@ -29,9 +29,9 @@ pub data LedTo (ws : List ℕ) (l : ℕ) : ℕ → Type 0 where
   from-register : (k : ℕ) (r : Register)
       → task ws k .lane ≡ l
       → holds (task ws k .step) r ≡ true
-      → register (task ws k) r ≢ none
+      → register (task ws k) r ≢ noNode
       → LedTo ws l (register (task ws k) r)
-  along : {x : ℕ} (s : Side) → LedTo ws l x → link ws s x ≢ none → LedTo ws l (link ws s x)
+  along : {x : ℕ} (s : Side) → LedTo ws l x → link ws s x ≢ noNode → LedTo ws l (link ws s x)
 
 -- Nothing is left out and nothing added: in every accepted table the reachable nodes are those that some lane leads to.
 pub record FromALane (ws : List ℕ) (x : ℕ) : Type 0 where

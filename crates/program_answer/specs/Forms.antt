@@ -1,7 +1,7 @@
 -- What each form of the belt run does: what is printed, and the words of the table afterwards.
 -- Before an accepted start the table has no words, which is why the other calls give 3.
 use mathlib.Core.List.{List}
-use mathlib.Core.Option.{Option, some, none as nothing}
+use mathlib.Core.Option.{Option, some, none}
 use Prim.Native.Nat.{ℕ}
 use lib.ListN.{replicate}
 use Rattle.machine.specs.Values.{storedOf}
@@ -47,7 +47,7 @@ tickCommand times ws k h =
 
 -- 01: 11 where a link is none before a slot without a bag, or the bags have no end.
 abbrev pub rowText : Option (List ℕ) → List ℕ
-rowText nothing = refusedText 11
+rowText none = refusedText 11
 rowText (some bags) = laneText bags
 
 -- `(lane)`: the bags that a read gives, or its refusal. That is never 12: there is room for the bags of any table.
@@ -55,9 +55,9 @@ unfoldable pub laneCommand : List ℕ → Answered
 laneCommand ws =
     record {
       text =
-          elim (laneRefusal ws theLane nothing) as (λ _. List ℕ) [
+          elim (laneRefusal ws theLane none) as (λ _. List ℕ) [
             | some n ↦ refusedText n
-            | nothing ↦ rowText (lane ws theLane)
+            | none ↦ rowText (lane ws theLane)
           ];
       words = ws;
     }

@@ -6,7 +6,7 @@ use lib.Seq.{sets}
 use Rattle.machine.specs.declared.Stored.{Stored}
 use Rattle.machine.specs.Sides.{Side, sideNumber}
 use Rattle.machine.specs.Values.{storedWords, storedAt}
-use Rattle.machine.specs.Tasks.{none, recordLength}
+use Rattle.machine.specs.Tasks.{noNode, recordLength}
 use Rattle.machine.specs.Table.{headerLength, linksLength, nodeLength, nodeAt, nodeCount, recordAt}
 
 -- The header is within the table, and so are the nodes after it.
@@ -29,7 +29,7 @@ abbrev pub HoldsNode : List ℕ → ℕ → Type 0
 HoldsNode ns x = nodeLength * x + nodeLength ≤ length ns
 
 abbrev pub linkIn : List ℕ → Side → ℕ → ℕ
-linkIn ns s x = getD ns (nodeLength * x + sideNumber s) none
+linkIn ns s x = getD ns (nodeLength * x + sideNumber s) noNode
 
 abbrev pub setLinkIn : List ℕ → Side → ℕ → ℕ → List ℕ
 setLinkIn ns s x y = set ns (nodeLength * x + sideNumber s) y

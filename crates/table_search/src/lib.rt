@@ -17,7 +17,7 @@ ghost use mathlib.Core.Bool.{true, cond, not};
 ghost use mathlib.Core.List.{[], _∷_};
 ghost use Prim.Native.Nat.{_<_, _≤_};
 ghost use lib.Dec.{eqb};
-ghost use Rattle.machine.specs.Tasks.{none};
+ghost use Rattle.machine.specs.Tasks.{noNode};
 ghost use Rattle.machine.specs.Table.{nodeCount, taskCount};
 ghost use Rattle.machine.specs.Shape.{lengthOk};
 ghost use Rattle.machine.specs.Allocate.{
@@ -106,7 +106,7 @@ fn mark_found(
 ) -> usize
     requires { ⌜ Room n (markingOf (now marks) (now queue) tail) ⌝ }
     ensures { λ r. ⌜ markingOf (now (marks .exit)) (now (queue .exit)) r
-        ≡ mark n (markingOf (now (marks .entry)) (now (queue .entry)) tail) (cond (not (eqb found 0)) x none) ⌝ }
+        ≡ mark n (markingOf (now (marks .entry)) (now (queue .entry)) tail) (cond (not (eqb found 0)) x noNode) ⌝ }
 {
     if found == 0 {
         return tail;

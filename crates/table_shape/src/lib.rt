@@ -13,7 +13,7 @@ use table_steps::owners::Owners;
 use table_values::value_ok;
 ghost use mathlib.Core.Path.{_≡_};
 ghost use mathlib.Core.Bool.{true};
-ghost use mathlib.Core.Option.{none as nothing};
+ghost use mathlib.Core.Option.{none};
 ghost use Prim.Native.Nat.{_≤_, _<_};
 ghost use lib.ListN.{length};
 ghost use Rattle.machine.specs.Table.{nodeLength, nodeCount, taskCount, mostLanes};
@@ -176,7 +176,7 @@ pub fn shape_ok(table: &[u32]) -> bool
 
 // The refusal of a table, in the order of 01's list, or 0 for a table that is accepted.
 pub fn table_refusal(table: &[u32]) -> u32
-    ensures { λ r. ⌜ r ≡ numberOf (tableRefusal (now (table .entry)) nothing) ⌝ }
+    ensures { λ r. ⌜ r ≡ numberOf (tableRefusal (now (table .entry)) none) ⌝ }
 {
     if !length_ok(table) {
         return 3;

@@ -5,7 +5,7 @@ use mathlib.Core.List.{List}
 use Prim.Native.Nat.{ℕ, _<_}
 use lib.ListN.{getD}
 use Rattle.machine.specs.Choice.{_≟_, if_then_else_}
-use Rattle.machine.specs.Tasks.{none}
+use Rattle.machine.specs.Tasks.{noNode}
 use Rattle.machine.specs.Table.{nodeCount, taskCount, task}
 use Rattle.machine.specs.Shape.{WellFormed}
 use Rattle.machine.specs.Calls.{isBusy, Ticked, effectOf, applied}
@@ -20,7 +20,7 @@ pub record MayTick (ws : List ℕ) (k hint : ℕ) : Type 0 where
 
 -- The node that line 31 is given. (01: at step 31 the test of D precedes the search.)
 abbrev pub foundAt31 : Tasks.Task → (f : ℕ) → ℕ
-foundAt31 t f = if getD (t .registers) 3 0 ≟ none then none else f
+foundAt31 t f = if getD (t .registers) 3 0 ≟ noNode then noNode else f
 
 -- What a tick of a busy task comes to.
 abbrev pub made : List ℕ → (k hint : ℕ) → Ticked

@@ -3,7 +3,7 @@ use mathlib.Core.Path.{_≡_, refl, ap, sym, _∙_, subst}
 use mathlib.Core.Logic.{_↔_}
 use mathlib.Core.Bool.{Bool, true, false, _&&_, _||_}
 use mathlib.Core.List.{List}
-use mathlib.Core.Option.{none as nothing}
+use mathlib.Core.Option.{none}
 use Prim.Native.Nat.{ℕ}
 use lib.Dec.{eqb}
 use borrow.Author.Tests.{eqb-true}
@@ -25,7 +25,7 @@ use Rattle.window_contention.specs.LostSwaps.{LostSwap, at-5, at-25, at-
 
 -- What is claimed of an effect, of a line st whose lost swap is L.
 abbrev Says : (st : Step) (L : Type 0) → Effect → Type 0
-Says st L e = refusalOf (e .answer) ≡ nothing → (isLost (stepNumber st) (stepNumber (e .task .step)) ≡ true) ↔ L
+Says st L e = refusalOf (e .answer) ≡ none → (isLost (stepNumber st) (stepNumber (e .task .step)) ≡ true) ↔ L
 
 -- ---- The five lines. A swap whose compare is of A and B.
 swapped :

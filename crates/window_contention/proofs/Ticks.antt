@@ -2,7 +2,7 @@
 use mathlib.Core.Path.{_≡_, refl, sym, ap, _∙_, subst}
 use mathlib.Core.Bool.{true}
 use mathlib.Core.List.{List, [], _∷_}
-use mathlib.Core.Option.{Option, some, none as nothing}
+use mathlib.Core.Option.{Option, some, none}
 use Prim.Native.Nat.{ℕ, zero, suc, _*_, _<_}
 use lib.ListN.{drop}
 use lib.Dec.{ltb}
@@ -89,16 +89,16 @@ step-word ws k W l =
     ∙ ap (λ (t : Task). stepNumber (t .step)) (sym (if-yes (k <? taskCount ws) (taskOf r) fresh l))
 
 -- A tick that is made has passed its tests.
-allowed : (ws : List ℕ) (k h : ℕ) → refusalOf (tickOn ws k h .answer) ≡ nothing → tickRefusal ws k h ≡ nothing
+allowed : (ws : List ℕ) (k h : ℕ) → refusalOf (tickOn ws k h .answer) ≡ none → tickRefusal ws k h ≡ none
 allowed ws k h made = go (tickRefusal ws k h) refl
   where
-    go : (r : Option ℕ) → tickRefusal ws k h ≡ r → tickRefusal ws k h ≡ nothing
-    go nothing e = e
+    go : (r : Option ℕ) → tickRefusal ws k h ≡ r → tickRefusal ws k h ≡ none
+    go none e = e
     go (some n) e =
         let stopped = ap (λ (t : Ticked). refusalOf (t .answer)) (tick-stopped ws k h e) in
         clash (cc)
 
-module _ (ws : List ℕ) (A : WellFormed ws) (k h : ℕ) (made : refusalOf (tickOn ws k h .answer) ≡ nothing) where
+module _ (ws : List ℕ) (A : WellFormed ws) (k h : ℕ) (made : refusalOf (tickOn ws k h .answer) ≡ none) where
   abbrev vs : List ℕ
   vs = tickOn ws k h .words
 
@@ -108,10 +108,10 @@ module _ (ws : List ℕ) (A : WellFormed ws) (k h : ℕ) (made : refusalOf (tick
   W : WellShaped (columns ws)
   W = well-shaped ws (A .length-passes) (A .shape-passes)
 
-  passes : tickRefusal ws k h ≡ nothing
+  passes : tickRefusal ws k h ≡ none
   passes = allowed ws k h made
 
-  line-made : refusalOf (effectOf ws k h .answer) ≡ nothing
+  line-made : refusalOf (effectOf ws k h .answer) ≡ none
   line-made = ap refusalOf (sym (tick-answer ws k h passes)) ∙ made
 
   is-task : k < taskCount ws
@@ -165,7 +165,7 @@ module _ (ws : List ℕ) (A : WellFormed ws) (k h : ℕ) (made : refusalOf (tick
       }
 
 -- ---- A tick on any table.
-passed-tests : (ws : List ℕ) (others : Option ℕ) → tableRefusal ws others ≡ nothing → WellFormed ws
+passed-tests : (ws : List ℕ) (others : Option ℕ) → tableRefusal ws others ≡ none → WellFormed ws
 passed-tests ws others e =
     record {
       length-passes = test-passed (lengthOk ws) 3 (unless (shapeOk ws) 4 others) e;
@@ -174,14 +174,14 @@ passed-tests ws others e =
 
 pub lost-by-tick : LostByTick
 unfolding tick
-lost-by-tick ws k h made = go (tableRefusal ws nothing) refl
+lost-by-tick ws k h made = go (tableRefusal ws none) refl
   where
-    go : (r : Option ℕ) → tableRefusal ws nothing ≡ r → Told ws (tick ws k h .words) k
+    go : (r : Option ℕ) → tableRefusal ws none ≡ r → Told ws (tick ws k h .words) k
     go (some n) e =
         let refused : tick ws k h ≡ record { answer = Refused n; words = ws } = rw (e, tick) in
         clash (cc (ap (λ (t : Ticked). refusalOf (t .answer)) refused, made))
-    go nothing e =
-        let A = passed-tests ws nothing e in
+    go none e =
+        let A = passed-tests ws none e in
         let on = tick-passes ws A k h in
         subst (λ (t : Ticked). Told ws (t .words) k) (sym on)
         (told-on ws A k h (ap (λ (t : Ticked). refusalOf (t .answer)) (sym on) ∙ made))
@@ -192,13 +192,13 @@ unfolding dispatch
 lost-by-dispatch ws h = go (dispatchRefusal ws h) refl
   where
     Claim : Dispatched → Type 0
-    Claim d = (a : Answer) → d .answer ≡ Answered a → refusalOf a ≡ nothing → Told ws (d .words) (dispatched (d .words))
+    Claim d = (a : Answer) → d .answer ≡ Answered a → refusalOf a ≡ none → Told ws (d .words) (dispatched (d .words))
 
     go : (r : Option ℕ) → dispatchRefusal ws h ≡ r → Claim (dispatch ws h)
     go (some n) e = rw (e, dispatch) (λ a is-a made. clash (cc))
-    go nothing e =
-        let A = passed-tests ws (unless (ltb h (nodeCount ws)) 9 nothing) e in
-        by-dispatch ws A h Claim (λ a is-a made. clash (cc)) (λ none a is-a made. clash (cc))
+    go none e =
+        let A = passed-tests ws (unless (ltb h (nodeCount ws)) 9 none) e in
+        by-dispatch ws A h Claim (λ a is-a made. clash (cc)) (λ all-idle a is-a made. clash (cc))
         (λ k n e stopped a is-a made. clash (cc))
         (λ k e passes made a is-a made-a. told-dispatched ws A k h made)
 
@@ -224,22 +224,22 @@ told-inside (k ∷ h ∷ list) ws answers A i l =
         → (i : ℕ)
         → i < elim r as (λ _. RunDone) [
           | some n ↦ stopped n ws answers
-          | nothing ↦ afterTick (tickOn ws k h .answer) others
+          | none ↦ afterTick (tickOn ws k h .answer) others
         ] .ran .made
         → ToldInside (k ∷ h ∷ list) ws i
     go (some n) e later i l = clash (omega arith)
-    go nothing made later zero l = told-on ws A k h made
-    go nothing made later (suc i) l =
+    go none made later zero l = told-on ws A k h made
+    go none made later (suc i) l =
         let place : 2 * suc i ≡ suc (suc (2 * i)) = omega arith in
         rw place (later i (omega arith))
 
 told-tested : (ws list answers : List ℕ) (others r : Option ℕ)
-    → (r ≡ nothing → tableRefusal ws others ≡ nothing)
+    → (r ≡ none → tableRefusal ws others ≡ none)
     → (i : ℕ)
     → i < tested r ws list answers .ran .made
     → ToldInside list ws i
 told-tested ws list answers others (some n) passes i l = clash (omega arith)
-told-tested ws list answers others nothing passes i l =
+told-tested ws list answers others none passes i l =
     told-inside list ws answers (passed-tests ws others (passes refl)) i l
 
 pub lost-in-run : LostInRun

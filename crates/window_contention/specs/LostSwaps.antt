@@ -3,7 +3,7 @@ use mathlib.Core.Path.{_≡_}
 use mathlib.Core.Logic.{_↔_}
 use mathlib.Core.Bool.{true}
 use mathlib.Core.List.{List}
-use mathlib.Core.Option.{none as nothing}
+use mathlib.Core.Option.{none}
 use Prim.Native.Nat.{ℕ, suc, _+_, _*_, _%_, _^_, _<_}
 use lib.ListN.{getD}
 use Rattle.machine.specs.declared.Answer.{Answer}
@@ -37,7 +37,7 @@ pub data LostSwap (s : Side) (m : Memory) (t : Task) : Step → Type 0 where
 abbrev pub LostByLine : Type 0
 LostByLine =
     (st : Step) (s o : Side) (m : Memory) (t : Task) (g f : ℕ)
-    → refusalOf (act st s o m t g f .answer) ≡ nothing
+    → refusalOf (act st s o m t g f .answer) ≡ none
     → (isLost (stepNumber st) (stepNumber (act st s o m t g f .task .step)) ≡ true) ↔ LostSwap s m t st
 
 -- ---- Of a table: a tick of task k was made between two tables. What the window is fed of it are words of these.
@@ -57,7 +57,7 @@ pub record Told (before after : List ℕ) (k : ℕ) : Type 0 where
 abbrev pub LostByTick : Type 0
 LostByTick =
     (ws : List ℕ) (k h : ℕ)
-    → refusalOf (tick ws k h .answer) ≡ nothing
+    → refusalOf (tick ws k h .answer) ≡ none
     → Told ws (tick ws k h .words) k
 
 -- by a dispatch, of the task that the header then names;
@@ -65,7 +65,7 @@ abbrev pub LostByDispatch : Type 0
 LostByDispatch =
     (ws : List ℕ) (h : ℕ) (a : Answer)
     → dispatch ws h .answer ≡ Answered a
-    → refusalOf a ≡ nothing
+    → refusalOf a ≡ none
     → Told ws (dispatch ws h .words) (dispatched (dispatch ws h .words))
 
 -- and inside a run and the panel's list, of the task that the list names.

@@ -1,7 +1,7 @@
 -- Request 2026-11: a window that is fed after each tick counts the lost swaps.
 use mathlib.Core.Path.{_≡_}
 use mathlib.Core.List.{List, [], _∷_}
-use mathlib.Core.Option.{none as nothing}
+use mathlib.Core.Option.{none}
 use Prim.Native.Nat.{ℕ, suc, _*_, _≤_, _<_}
 use lib.ListN.{getD, take}
 use Rattle.machine.specs.declared.Answer.{Answer}
@@ -27,12 +27,12 @@ tickOf before after k = record { before = before; after = after; task = k }
 pub data IsMade : Tick → Type 0 where
   by-tick :
       (ws : List ℕ) (k h : ℕ)
-      → refusalOf (tick ws k h .answer) ≡ nothing
+      → refusalOf (tick ws k h .answer) ≡ none
       → IsMade (tickOf ws (tick ws k h .words) k)
   by-dispatch :
       (ws : List ℕ) (h : ℕ) (a : Answer)
       → dispatch ws h .answer ≡ Answered a
-      → refusalOf a ≡ nothing
+      → refusalOf a ≡ none
       → IsMade (tickOf ws (dispatch ws h .words) (dispatched (dispatch ws h .words)))
   in-run :
       (ws list answers : List ℕ) (i : ℕ)

@@ -11,7 +11,7 @@ use Rattle.airline_list.specs.declared.End.{End}
 use Rattle.airline_list.specs.declared.forms.Form.{Form}
 use Rattle.airline_list.specs.declared.forms.Form.the-variants.{Airline, Others, Neither}
 use Rattle.airline_list.specs.Forms.{formOf}
-use Rattle.airline_list.specs.Lists.{Entry, entry, says, faulty, named, none, judged, verdict}
+use Rattle.airline_list.specs.Lists.{Entry, entry, says, faulty, named, noneLeft, judged, verdict}
 use Rattle.airline_list.specs.Marks.{codes, InRange}
 use Rattle.airline_list.proofs.Laws.FormLaws.{form-in-range}
 
@@ -59,7 +59,7 @@ record Rest (es : List Entry) (forms : List Form) (all : List Entry) (closing : 
   pub forms-are : forms ≡ formsFor new closing
   pub distinct : Distinct all
 
-none-are : (forms : List Form) → none forms ≡ true → forms ≡ []
+none-are : (forms : List Form) → noneLeft forms ≡ true → forms ≡ []
 none-are [] h = refl
 none-are (form ∷ forms) h = clash (cc)
 
@@ -68,9 +68,9 @@ rest : (n : ℕ) (es : List Entry) (forms : List Form) (all : List Entry) (closi
 unfolding judged
 rest n es [] all closing D h = clash (cc)
 rest n es (Neither ∷ forms) all closing D h = clash (cc)
-rest n es (Others end ∷ forms) all closing D h = go (ltb 64 n) refl (none forms) refl
+rest n es (Others end ∷ forms) all closing D h = go (ltb 64 n) refl (noneLeft forms) refl
   where
-    go : (many : Bool) → ltb 64 n ≡ many → (last : Bool) → none forms ≡ last → Rest es (Others end ∷ forms) all closing
+    go : (many : Bool) → ltb 64 n ≡ many → (last : Bool) → noneLeft forms ≡ last → Rest es (Others end ∷ forms) all closing
     go true e last f = let z : faulty 27 n ≡ says all closing = rw e at h in clash (cc)
     go false e false f = let z : faulty 29 n ≡ says all closing = rw (e, f) at h in clash (cc)
     go false e true f =
@@ -84,10 +84,10 @@ rest n es (Others end ∷ forms) all closing D h = go (ltb 64 n) refl (none form
           distinct = subst Distinct p D;
         }
 rest n es (Airline code end ∷ forms) all closing D h =
-    go (ltb 64 n) refl (named code es) refl (none forms) refl
+    go (ltb 64 n) refl (named code es) refl (noneLeft forms) refl
     (λ d r. rest (suc n) (es ++ (entry code end ∷ [])) forms all closing d r)
   where
-    go : (many : Bool) → ltb 64 n ≡ many → (again : Bool) → named code es ≡ again → (last : Bool) → none forms ≡ last
+    go : (many : Bool) → ltb 64 n ≡ many → (again : Bool) → named code es ≡ again → (last : Bool) → noneLeft forms ≡ last
         → (Distinct (es ++ (entry code end ∷ []))
         → judged (suc n) (es ++ (entry code end ∷ [])) forms ≡ says all closing
         → Rest (es ++ (entry code end ∷ [])) forms all closing)

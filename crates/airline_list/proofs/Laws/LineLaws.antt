@@ -17,7 +17,7 @@ use Rattle.text.proofs.Laws.FirstLine.{line-within}
 use Rattle.airline_list.specs.declared.forms.Form.{Form}
 use Rattle.airline_list.specs.declared.forms.Form.the-variants.{Neither}
 use Rattle.airline_list.specs.Forms.{formText, formOf}
-use Rattle.airline_list.specs.Lists.{none}
+use Rattle.airline_list.specs.Lists.{noneLeft}
 use Rattle.airline_list.proofs.Laws.FormLaws.{form-text}
 
 -- ---- The forms from a place of the list on.
@@ -31,25 +31,25 @@ pub forms-end : (list : List ℕ) (from : ℕ) → length list ≤ from → form
 unfolding linesOf
 forms-end list from h = rw (drop-of-length-le list {i = from} h)
 
-pub some-forms : (list : List ℕ) (from : ℕ) → from < length list → none (formsAt list from) ≡ false
+pub some-forms : (list : List ℕ) (from : ℕ) → from < length list → noneLeft (formsAt list from) ≡ false
 some-forms list from h =
     let some : 0 < length (drop from list) = simp length-drop (omega arith) in
     rw (first-of-lines (drop from list) some)
 
-pub forms-left : (list : List ℕ) (from : ℕ) → none (formsAt list from) ≡ false → from < length list
+pub forms-left : (list : List ℕ) (from : ℕ) → noneLeft (formsAt list from) ≡ false → from < length list
 forms-left list from h = go (decLt from (length list))
   where
     go : Dec (from < length list) → from < length list
     go (yes before) = before
     go (no past) =
-        let z : true ≡ false = sym (ap none (forms-end list from (omega arith))) ∙ h in
+        let z : true ≡ false = sym (ap noneLeft (forms-end list from (omega arith))) ∙ h in
         clash (cc)
 
 -- Whether a line follows is told by the place where one ends.
-pub is-last : (list : List ℕ) (to : ℕ) → leb (length list - to) 1 ≡ none (formsAt list (to + 1))
+pub is-last : (list : List ℕ) (to : ℕ) → leb (length list - to) 1 ≡ noneLeft (formsAt list (to + 1))
 is-last list to = go (decLe (length list - to) 1)
   where
-    go : Dec (length list - to ≤ 1) → leb (length list - to) 1 ≡ none (formsAt list (to + 1))
+    go : Dec (length list - to ≤ 1) → leb (length list - to) 1 ≡ noneLeft (formsAt list (to + 1))
     go (yes h) = rw (le-leb (length list - to) 1 h, forms-end list (to + 1) (omega arith))
     go (no h) = rw (lt-leb (length list - to) 1 (omega arith), some-forms list (to + 1) (omega arith))
 

@@ -28,7 +28,7 @@ use Rattle.airline_list.specs.Lists.{
   says,
   faulty,
   named,
-  none,
+  noneLeft,
   judged,
   verdict,
   checked,
@@ -65,19 +65,19 @@ abbrev ComesTo : Turned → (n : ℕ) (es : List Entry) (forms : List Form) → 
 ComesTo t n es forms v = Comes (t .turn) (t .marks) n es forms v
 
 module _ {marks : List ℕ} {es : List Entry} (M : Marked marks es) (n : ℕ) (few : n ≤ 64) (forms : List Form) where
-  line-comes : (form : Form) → InRange form → ComesTo (turned marks form (none forms)) n es forms (judged n es (form ∷ forms))
+  line-comes : (form : Form) → InRange form → ComesTo (turned marks form (noneLeft forms)) n es forms (judged n es (form ∷ forms))
   unfolding turned judged
   line-comes Neither r = refl
-  line-comes (Others end) r = go (none forms) refl
+  line-comes (Others end) r = go (noneLeft forms) refl
     where
-      go : (last : Bool) → none forms ≡ last
+      go : (last : Bool) → noneLeft forms ≡ last
           → ComesTo (cond last (turnedOf (Closed end) marks) (turnedOf (Fault 29) marks)) n es forms
           (judged n es (Others end ∷ forms))
       go true e = (sym (rw (le-ltb 64 n few, e)), M)
       go false e = sym (rw (le-ltb 64 n few, e))
-  line-comes (Airline code end) small = go (eqb (getD marks code 0) 0) refl (none forms) refl
+  line-comes (Airline code end) small = go (eqb (getD marks code 0) 0) refl (noneLeft forms) refl
     where
-      go : (fresh : Bool) → eqb (getD marks code 0) 0 ≡ fresh → (last : Bool) → none forms ≡ last
+      go : (fresh : Bool) → eqb (getD marks code 0) 0 ≡ fresh → (last : Bool) → noneLeft forms ≡ last
           → ComesTo (cond fresh (cond last (turnedOf (Fault 29) marks) (turnedOf More (set marks code (endMark end))))
           (turnedOf (Fault 28) marks)) n es forms (judged n es (Airline code end ∷ forms))
       go false h last e =
@@ -153,7 +153,7 @@ pub record Taken (list : List ℕ) (from line : ℕ) (marks : List ℕ) (to : �
   pub ends : to ≡ from + length (formText form)
   pub last : Bool
   pub turns : turnedOf turn after ≡ turned marks form last
-  pub is-last : last ≡ none (formsAt list (to + 1))
+  pub is-last : last ≡ noneLeft (formsAt list (to + 1))
 
 module _ {list : List ℕ} {from line : ℕ} {marks : List ℕ} {to : ℕ} {turn : Turn} {after : List ℕ}
     (T : Taken list from line marks to turn after) where
@@ -186,7 +186,7 @@ module _ {list : List ℕ} {from line : ℕ} {marks : List ℕ} {to : ℕ} {turn
           sym (ap (λ (others : List Form). judged line (T .reading .earlier) (formAt list from ∷ others))
           (forms-behind list from to ends-there text)) ∙ first-judged (T .reading) (T .before) in
           subst (λ (last : Bool). Leads (turned marks (formAt list from) last)) (sym (T .is-last))
-          (subst (ComesTo (turned marks (formAt list from) (none forms)) line (T .reading .earlier) forms) whole comes)
+          (subst (ComesTo (turned marks (formAt list from) (noneLeft forms)) line (T .reading .earlier) forms) whole comes)
 
   leads-by : (other : Turn) → turn ≡ other → Leads (turnedOf other after)
   leads-by other e = subst (λ (t : Turn). Leads (turnedOf t after)) e (subst Leads (sym turns-so) turn-leads)

@@ -3,7 +3,7 @@ use mathlib.Core.Path.{_≡_}
 use mathlib.Core.Logic.{_≢_}
 use mathlib.Core.Bool.{Bool, true, false, cond}
 use mathlib.Core.List.{List}
-use mathlib.Core.Option.{some, none as nothing}
+use mathlib.Core.Option.{some, none}
 use Prim.Native.Nat.{ℕ, _+_}
 use native.Mathlib.Numerals.{towards-suc}
 use lib.ListN.{set}
@@ -22,7 +22,7 @@ pub bag-words : {kind : ℕ} (digit low : ℕ) → kind ≡ 2 → (a : Answer) �
 unfolding answerOf ℕ-discrete
 bag-words digit low k a e = go (isTag digit low) (rw k at e)
   where
-    go : (b : Bool) → cond b (some (Bag (tagOf digit low))) nothing ≡ some a → Bag (tagOf digit low) ≡ a
+    go : (b : Bool) → cond b (some (Bag (tagOf digit low))) none ≡ some a → Bag (tagOf digit low) ≡ a
     go true e = cc
     go false e = clash (cc)
 
@@ -32,7 +32,7 @@ module _ {kind : ℕ} (digit low : ℕ) (a : Answer) (e : answerOf kind digit lo
   unfolding answerOf
   plain-says ne = go (tagOf digit low ≟ 0) (rw (unequal ne) at e)
     where
-      go : (d : Dec (tagOf digit low ≡ 0)) → (if d then plainAnswerOf kind else nothing) ≡ some a
+      go : (d : Dec (tagOf digit low ≡ 0)) → (if d then plainAnswerOf kind else none) ≡ some a
           → plainAnswerOf kind ≡ some a
       go (yes z) e = e
       go (no z) e = clash (cc)
@@ -45,7 +45,7 @@ module _ {kind : ℕ} (digit low : ℕ) (a : Answer) (e : answerOf kind digit lo
   last-words n₀ n₁ n₂ n₃ n₄ n₅ =
       go (kind ≟ 6) (rw (unequal n₀, unequal n₁, unequal n₃, unequal n₄, unequal n₅) at plain-says n₂)
     where
-      go : (d : Dec (kind ≡ 6)) → (if d then some No else nothing) ≡ some a → No ≡ a
+      go : (d : Dec (kind ≡ 6)) → (if d then some No else none) ≡ some a → No ≡ a
       go (yes s) e = cc
       go (no s) e = clash (cc)
 

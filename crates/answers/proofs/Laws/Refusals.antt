@@ -2,7 +2,7 @@
 use mathlib.Core.Path.{_≡_, refl, sym, ap}
 use mathlib.Core.Bool.{Bool, true, false}
 use mathlib.Core.Logic.{_≢_}
-use mathlib.Core.Option.{Option, some, none as nothing}
+use mathlib.Core.Option.{Option, some, none}
 use Prim.Native.Nat.{ℕ}
 use Rattle.machine.specs.declared.Answer.{Answer}
 use Rattle.machine.specs.declared.Answer.the-variants.{Going, Pushed, Bag, Empty, Full, Yes, No, Refused}
@@ -12,12 +12,12 @@ use Rattle.machine.proofs.Basics.Contradiction.{clash}
 use Rattle.answers.specs.Refusals.{numberOf, isNumber, isRefused}
 
 pub due : (o : Option ℕ) {n : ℕ} → n ≡ numberOf o → n ≢ 0 → o ≡ some n
-due nothing e h = absurd (h e)
+due none e h = absurd (h e)
 due (some m) e h = ap some (sym e)
 
 -- With the number 0 there is no refusal: of a test, by those after it.
 abbrev pub NoneAt0 : Option ℕ → Type 0
-NoneAt0 o = numberOf o ≡ 0 → o ≡ nothing
+NoneAt0 o = numberOf o ≡ 0 → o ≡ none
 
 pub none-due : (b : Bool) {n : ℕ} {others : Option ℕ} → n ≢ 0 → NoneAt0 others → NoneAt0 (unless b n others)
 none-due true h others e = others e
@@ -37,12 +37,12 @@ pub refusal-number : (a : Answer) → isRefused a ≡ true → (n : ℕ) × (ref
 refusal-number a h = go (refusalOf a) h
   where
     go : (o : Option ℕ) → isNumber o ≡ true → (n : ℕ) × (o ≡ some n)
-    go nothing q = clash (cc)
+    go none q = clash (cc)
     go (some n) q = (n, refl)
 
-pub made-answer : (a : Answer) → isRefused a ≡ false → refusalOf a ≡ nothing
+pub made-answer : (a : Answer) → isRefused a ≡ false → refusalOf a ≡ none
 made-answer a h = go (refusalOf a) h
   where
-    go : (o : Option ℕ) → isNumber o ≡ false → o ≡ nothing
-    go nothing q = refl
+    go : (o : Option ℕ) → isNumber o ≡ false → o ≡ none
+    go none q = refl
     go (some n) q = clash (cc)

@@ -1,6 +1,6 @@
 -- `call_begin::twice_refusal` meets its contract: the other operations are not refused, a push as `seen_refusal` says.
 use mathlib.Core.Path.{ap, _∙_}
-use mathlib.Core.Option.{none as nothing}
+use mathlib.Core.Option.{none}
 use borrow.Author.Needs.{needs}
 use Rattle.machine.specs.Values.{number}
 use Rattle.machine.specs.Calls.{allLanes, seenRefusal}
@@ -23,7 +23,7 @@ returns-2 : tie.Need-returns-2
 returns-2 c = λ ws W.
     let e = c .before .before in
     let a = e .before .before .args in
-    let said = ap (λ n. numberOf (seenRefusal ws n (allLanes ws) nothing)) (c .before .number .ensures) in
+    let said = ap (λ n. numberOf (seenRefusal ws n (allLanes ws) none)) (c .before .number .ensures) in
     c .seen-refusal .ensures ws W ∙ said ∙ twice-push ws (number (a .argument)) (a .operation) (e .if1 .left)
 
 pub twice-refusal-spec : {M : Type 1} → statement M

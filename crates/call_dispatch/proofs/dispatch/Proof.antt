@@ -1,6 +1,6 @@
 -- `call_dispatch::dispatch` meets its contract: refusals 3, 4 and 9, then `dispatch_on`.
 use mathlib.Core.Path.{_≡_, _∙_}
-use mathlib.Core.Option.{none as nothing}
+use mathlib.Core.Option.{none}
 use Rattle.machine.specs.Calls.{dispatchRefusal}
 use Rattle.call_dispatch.proofs.DispatchRefusals.{dispatch-refused, none-refused, dispatch-on, table-passed}
 use borrow.Author.Needs.{needs}
@@ -21,7 +21,7 @@ returns c =
 -- Table and hint have passed.
 passed : (c : tie.Else1)
     → dispatchRefusal (c .before .before .before .before .args .table .now) (c .before .before .before .before .args .hint)
-    ≡ nothing
+    ≡ none
 passed c =
     let a = c .before .before .before .before .args in
     none-refused (a .table .now) (a .hint) (c .before .dispatch-refusal .ensures) (c .if1 .left)

@@ -2,7 +2,7 @@
 use mathlib.Core.Path.{_≡_, refl, sym, ap, _∙_}
 use mathlib.Core.Logic.{_≢_}
 use mathlib.Core.List.{List, _++_}
-use mathlib.Core.Option.{Option, some, none as nothing}
+use mathlib.Core.Option.{Option, some, none}
 use Prim.Native.Nat.{ℕ, _+_, _*_, _-_, _≤_, _<_, min}
 use native.Mathlib.Omega.{arith}
 use lib.Dec.{ltb}
@@ -24,10 +24,10 @@ use Rattle.call_sheet.specs.Found.{tagsFound}
 use Rattle.call_sheet.proofs.Laws.Walked.{fewer-dropped}
 
 -- ---- Refusals 3, 4 and 26.
-module _ (ws : List ℕ) {n : ℕ} (is-number : n ≡ numberOf (tableRefusal ws nothing)) (l page : ℕ) (out : List ℕ) where
+module _ (ws : List ℕ) {n : ℕ} (is-number : n ≡ numberOf (tableRefusal ws none)) (l page : ℕ) (out : List ℕ) where
   pub sheet-refused : n ≢ 0 → changedOf (Refused n) out ≡ sheet ws l page out
   unfolding sheet
-  sheet-refused h = rw (refused ws is-number h (unless (ltb l (laneCount ws)) 26 nothing), sheet)
+  sheet-refused h = rw (refused ws is-number h (unless (ltb l (laneCount ws)) 26 none), sheet)
 
   pub sheet-no-lane : n ≡ 0 → laneCount ws ≤ l → changedOf (Refused 26) out ≡ sheet ws l page out
   unfolding sheet
@@ -47,19 +47,19 @@ module _ (ws : List ℕ) (first page : ℕ) (out : List ℕ) where
   pub sheet-no-end : (l : Option (List ℕ)) → locatedOf ws place first l ≡ NoEnd
       → changedOf (Refused 11) out ≡ sheetInto l page out
   unfolding sheetInto
-  sheet-no-end nothing h = refl
+  sheet-no-end none h = refl
   sheet-no-end (some bags) h = clash (cc)
 
   pub no-such-page : (l : Option (List ℕ)) {count from : ℕ} → locatedOf ws place first l ≡ Node count from
       → lastPage < page → changedOf (Refused 20) out ≡ sheetInto l page out
   unfolding sheetInto
-  no-such-page nothing told h = clash (cc)
+  no-such-page none told h = clash (cc)
   no-such-page (some bags) told h = rw (lt-leb page lastPage h)
 
   pub no-page-long : (l : Option (List ℕ)) {count from : ℕ} → locatedOf ws place first l ≡ Node count from
       → page ≤ lastPage → length out ≢ pageLength → changedOf (Refused 21) out ≡ sheetInto l page out
   unfolding sheetInto
-  no-page-long nothing told h k = clash (cc)
+  no-page-long none told h k = clash (cc)
   no-page-long (some bags) told h k = rw (le-leb page lastPage h, ne-eqb (length out) pageLength k)
 
   page-there : (bags : List ℕ) → page ≤ lastPage → length out ≡ pageLength
@@ -78,7 +78,7 @@ module _ (ws : List ℕ) (first page : ℕ) (out : List ℕ) where
 
   pub left-there : (l : Option (List ℕ)) {count from : ℕ} → ahead ws first ≡ l
       → locatedOf ws place first l ≡ Node count from → countOf (ahead ws from) ≡ some (count - place)
-  left-there nothing is-ahead told = clash (cc)
+  left-there none is-ahead told = clash (cc)
   left-there (some bags) {count} {from} is-ahead told =
       let e : length bags ≡ count = cc in
       ap countOf (from-place bags is-ahead told)
@@ -86,7 +86,7 @@ module _ (ws : List ℕ) (first page : ℕ) (out : List ℕ) where
 
   pub count-small : (l : Option (List ℕ)) {count from : ℕ} → ahead ws first ≡ l
       → locatedOf ws place first l ≡ Node count from → count ≤ nodeCount ws
-  count-small nothing is-ahead told = clash (cc)
+  count-small none is-ahead told = clash (cc)
   count-small (some bags) {count} {from} is-ahead told =
       let e : length bags ≡ count = cc in
       omega (arith, few-bags ws (nodeCount ws) first bags is-ahead)
@@ -96,7 +96,7 @@ module _ (ws : List ℕ) (first page : ℕ) (out : List ℕ) where
       → written ≡ heading count ++ tagLines tagLineCount (tagsFound (ahead ws from))
       → changedOf Accepted written ≡ sheetInto l page out
   unfolding pageText
-  page-written nothing is-ahead told h k w = clash (cc)
+  page-written none is-ahead told h k w = clash (cc)
   page-written (some bags) {count} {from} {written} is-ahead told h k w =
       let e : count ≡ length bags = cc in
       let there = from-place bags is-ahead told in

@@ -2,7 +2,7 @@
 use mathlib.Core.Path.{_≡_, refl, sym, ap, _∙_}
 use mathlib.Core.Bool.{true}
 use mathlib.Core.List.{List, [], _∷_, _++_}
-use mathlib.Core.Option.{Option, some, none as nothing}
+use mathlib.Core.Option.{Option, some, none}
 use Prim.Native.Nat.{ℕ, suc, _+_, _-_, _≤_, _<_, min}
 use native.Mathlib.Omega.{arith}
 use native.Mathlib.Decide.{decLt}
@@ -21,11 +21,11 @@ use Rattle.call_sheet.specs.Found.{tagsFound}
 
 -- ---- A walk that is counted ends, and its tags are as many.
 pub tags-ahead : (l : Option (List ℕ)) (n : ℕ) → countOf l ≡ some n → l ≡ some (tagsFound l)
-tags-ahead nothing n h = clash (cc)
+tags-ahead none n h = clash (cc)
 tags-ahead (some bags) n h = refl
 
 pub tags-left : (l : Option (List ℕ)) (n : ℕ) → countOf l ≡ some n → length (tagsFound l) ≡ n
-tags-left nothing n h = clash (cc)
+tags-left none n h = clash (cc)
 tags-left (some bags) n h = cc
 
 -- Those before a place, or all where there are fewer.

@@ -2,7 +2,7 @@
 use mathlib.Core.Path.{_≡_, ap, _∙_}
 use mathlib.Core.Logic.{_≢_}
 use mathlib.Core.List.{List}
-use mathlib.Core.Option.{none as nothing}
+use mathlib.Core.Option.{none}
 use Prim.Native.Nat.{ℕ}
 use lib.ListN.{length}
 use borrow.Author.Tests.{eq-eqb, ne-eqb}
@@ -16,16 +16,16 @@ use Rattle.table_shape.proofs.Laws.PassedTable.{refused, table-passed}
 
 module _ (ss ws tested before after : List ℕ) where
   abbrev outcome : Changed
-  outcome = changed (snapshotRefusal ss ws (tableRefusal tested nothing)) before after
+  outcome = changed (snapshotRefusal ss ws (tableRefusal tested none)) before after
 
   pub differ-in-length : length ss ≢ length ws → changedOf (Refused 22) before ≡ outcome
   differ-in-length h = rw (ne-eqb (length ss) (length ws) h)
 
-  module _ (same : length ss ≡ length ws) {n : ℕ} (is-number : n ≡ numberOf (tableRefusal tested nothing)) where
+  module _ (same : length ss ≡ length ws) {n : ℕ} (is-number : n ≡ numberOf (tableRefusal tested none)) where
     pub refused-with : n ≢ 0 → changedOf (Refused n) before ≡ outcome
-    refused-with h = rw (eq-eqb (length ss) (length ws) same, refused tested is-number h nothing)
+    refused-with h = rw (eq-eqb (length ss) (length ws) same, refused tested is-number h none)
 
     pub accepted : n ≡ 0 → {words : List ℕ} → words ≡ after → changedOf Accepted words ≡ outcome
     accepted h e =
         ap (changedOf Accepted) e
-        ∙ rw (eq-eqb (length ss) (length ws) same, table-passes tested (table-passed tested is-number h) nothing)
+        ∙ rw (eq-eqb (length ss) (length ws) same, table-passes tested (table-passed tested is-number h) none)

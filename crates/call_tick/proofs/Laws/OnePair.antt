@@ -2,7 +2,7 @@
 use mathlib.Core.Path.{_≡_, refl, sym, ap, _∙_}
 use mathlib.Core.Logic.{_≢_}
 use mathlib.Core.List.{List, [], _∷_}
-use mathlib.Core.Option.{Option, some, none as nothing}
+use mathlib.Core.Option.{Option, some, none}
 use Prim.Native.Nat.{ℕ}
 use native.Mathlib.Omega.{arith}
 use lib.ListN.{getD}
@@ -28,7 +28,7 @@ module _ (ws : List ℕ) (k h : ℕ) (answers : List ℕ) {r : Ran} {vs words : 
 
   pub pair-refused : r .made ≡ 0 → tickedOf (Refused (r .refusal)) vs ≡ tickOn ws k h
   unfolding by-first runOn
-  pair-refused none = go (refusalOf (tickOn ws k h .answer)) refl
+  pair-refused none-made = go (refusalOf (tickOn ws k h .answer)) refl
     where
       go : (o : Option ℕ) → refusalOf (tickOn ws k h .answer) ≡ o → tickedOf (Refused (r .refusal)) vs ≡ tickOn ws k h
       go (some n) e =
@@ -36,7 +36,7 @@ module _ (ws : List ℕ) (k h : ℕ) (answers : List ℕ) {r : Ran} {vs words : 
           ap (λ (x : RunDone). tickedOf (Refused (x .ran .refusal)) (x .words)) d
           ∙ ap (λ (a : Answer). tickedOf a ws) (sym (refused-answer (tickOn ws k h .answer) e))
           ∙ ap (tickedOf (tickOn ws k h .answer)) (sym (refused-unchanged ws k h e))
-      go nothing e = absurd (omega (arith, none, ap (λ (x : RunDone). x .ran .made) (by-tick e)))
+      go none e = absurd (omega (arith, none-made, ap (λ (x : RunDone). x .ran .made) (by-tick e)))
 
   -- What the three words say.
   abbrev said : Option Answer
@@ -49,11 +49,11 @@ module _ (ws : List ℕ) (k h : ℕ) (answers : List ℕ) {r : Ran} {vs words : 
   unfolding by-first runOn
   pair-said W some-made = go (refusalOf (tickOn ws k h .answer)) refl
     where
-      allowed : refusalOf (tickOn ws k h .answer) ≡ nothing → tickRefusal ws k h ≡ nothing
+      allowed : refusalOf (tickOn ws k h .answer) ≡ none → tickRefusal ws k h ≡ none
       allowed e = by (tickRefusal ws k h) refl
         where
-          by : (o : Option ℕ) → tickRefusal ws k h ≡ o → o ≡ nothing
-          by nothing q = refl
+          by : (o : Option ℕ) → tickRefusal ws k h ≡ o → o ≡ none
+          by none q = refl
           by (some n) q = clash (cc (sym e ∙ refused-tick ws k h n q))
 
       go :
@@ -61,7 +61,7 @@ module _ (ws : List ℕ) (k h : ℕ) (answers : List ℕ) {r : Ran} {vs words : 
           → refusalOf (tickOn ws k h .answer) ≡ o
           → (said ≡ some (tickOn ws k h .answer)) × (tickedOf (tickOn ws k h .answer) vs ≡ tickOn ws k h)
       go (some n) e = absurd (some-made (ap (λ (x : RunDone). x .ran .made) (by-tick e)))
-      go nothing e =
+      go none e =
           let d = by-tick e in
           let fits = made-answer-fits ws k h (well-shaped ws (W .length-passes) (W .shape-passes)) (allowed e) e in
           let read =

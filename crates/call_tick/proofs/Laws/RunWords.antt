@@ -2,7 +2,7 @@
 use mathlib.Core.Path.{_≡_, sym, ap, _∙_, subst}
 use mathlib.Core.Bool.{true, false}
 use mathlib.Core.List.{List, [], _∷_, _++_, append-assoc}
-use mathlib.Core.Option.{Option, some, none as nothing}
+use mathlib.Core.Option.{Option, some, none}
 use Prim.Native.Nat.{ℕ, suc, _+_, _*_, _≤_, _<_}
 use native.Mathlib.Nat.{add-zero, zero-add}
 use native.Mathlib.Omega.{arith}
@@ -65,7 +65,7 @@ module _ (k h : ℕ) (list ws answers : List ℕ) where
         → runOn (k ∷ h ∷ list) ws answers ≡ afterTick a (runOn list vs (drop answerLength answers))
     unfolding by-first
     first-made e =
-        first-tick k h list ws answers nothing (ap refusalOf answer-is ∙ made-answer a e)
+        first-tick k h list ws answers none (ap refusalOf answer-is ∙ made-answer a e)
         ∙ ap (λ (t : Ticked). afterTick (t .answer) (runOn list (t .words) (drop answerLength answers))) (sym ticked)
 
 -- ---- The run of the pairs ahead, behind the ticks made.

@@ -4,7 +4,7 @@ use lib.ListN.{getD}
 use Rattle.machine.specs.Choice.{_≟_, if_then_else_}
 use Rattle.machine.specs.Sides.{sideOf}
 use Rattle.machine.specs.Steps.{stepNumber, line77, line82}
-use Rattle.machine.specs.Tasks.{none}
+use Rattle.machine.specs.Tasks.{noNode}
 use Rattle.machine.specs.Lines.{act}
 use Rattle.machine.proofs.Basics.Choices.{equal, unequal}
 use Rattle.table_record.specs.Coded.{withRegister}
@@ -59,11 +59,11 @@ returns-2 c g f =
       c .before .before .before .with .ensures,
       c .before .before .before .before .link .ensures,
       unequal (c .before .before .before .before .before .if1 .left),
-      chosen b none line82 line77,
+      chosen b noNode line82 line77,
     )
     (by-code (p .pre) (λ u.
     nextDone (p .args .hat) (withRegister (withRegister u 0 a) 1 b)
-    (stepNumber (if b ≟ none then line82 else line77))))
+    (stepNumber (if b ≟ noNode then line82 else line77))))
 
 pub line74-spec : {M : Type 1} → statement M
 line74-spec =

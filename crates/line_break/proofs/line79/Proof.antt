@@ -2,7 +2,7 @@
 use native.Mathlib.Omega.{arith}
 use lib.ListN.{getD}
 use Rattle.machine.specs.Sides.{sideOf}
-use Rattle.machine.specs.Tasks.{none}
+use Rattle.machine.specs.Tasks.{noNode}
 use Rattle.machine.specs.Lines.{act}
 use Rattle.machine.proofs.Basics.Choices.{equal, unequal}
 use Rattle.table_record.specs.Coded.{withRegister}
@@ -54,7 +54,7 @@ returns-2 c g f =
       c .before .before .before .before .set-link .ensures,
       unequal (c .before .before .before .before .before .before .if1 .left),
     )
-    (by-record (p .pre .canonical) (setLinkIn (p .args .ns .now) (sideOf (t .side)) a none)
+    (by-record (p .pre .canonical) (setLinkIn (p .args .ns .now) (sideOf (t .side)) a noNode)
     (λ u. nextDone (p .args .hat) (withRegister u 0 (getD (t .registers) 1 0)) 81))
 
 pub line79-spec : {M : Type 1} → statement M

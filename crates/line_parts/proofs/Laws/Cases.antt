@@ -28,7 +28,7 @@ use Rattle.machine.specs.Steps.{
   line67,
   stepNumber,
 }
-use Rattle.machine.specs.Tasks.{none}
+use Rattle.machine.specs.Tasks.{noNode}
 use Rattle.machine.specs.Lines.{act, out≔, val≔}
 use Rattle.machine.proofs.Basics.Choices.{equal, unequal}
 use Rattle.machine.proofs.Words.ValueLaws.{encode-decode}
@@ -72,7 +72,7 @@ module _ {ns : List ℕ} {t : Tasks.Task} (R : Ready ns t) (h g f : ℕ) where
   d = getD (t .registers) 3 0
 
   -- ---- 5: the swap is done or not.
-  module _ (through-a : a ≢ none) (through-b : b ≢ none) where
+  module _ (through-a : a ≢ noNode) (through-b : b ≢ noNode) where
     pub pushed :
         pushable ns h t ≡ true
         → outcomeOf (setStoredIn ns a (t .argument)) (answerDone b Pushed) ≡ lineOf line5 ns h t g f
@@ -88,7 +88,7 @@ module _ {ns : List ℕ} {t : Tasks.Task} (R : Ready ns t) (h g f : ℕ) where
         (by-code R (λ u. nextDone h u 8))
 
   -- ---- 17: the value read chooses the step.
-  module _ (through-a : a ≢ none) where
+  module _ (through-a : a ≢ noNode) where
     abbrev read : Stored
     read = storedIn ns a
 
@@ -116,7 +116,7 @@ module _ {ns : List ℕ} {t : Tasks.Task} (R : Ready ns t) (h g f : ℕ) where
         (by-code R (λ u. nextDone h (withValueRead u read) step))
 
   -- ---- 58: a node further, and whether the goal is reached.
-  module _ (through-a : a ≢ none) (linked : linkIn ns s a ≢ none) where
+  module _ (through-a : a ≢ noNode) (linked : linkIn ns s a ≢ noNode) where
     pub node-further :
         outcomeOf ns
         (nextDone h (withCount (withRegister t 0 (linkIn ns s a)) (t .counted + 1))
@@ -130,14 +130,14 @@ module _ {ns : List ℕ} {t : Tasks.Task} (R : Ready ns t) (h g f : ℕ) where
         (by-code R (λ u. nextDone h (withCount (withRegister u 0 (linkIn ns s a)) n) step))
 
   -- ---- 25: the swap is done or not.
-  module _ (through-a : a ≢ none) where
+  module _ (through-a : a ≢ noNode) where
     abbrev joined : List ℕ
     joined = setStoredIn (setLinkIn ns s a d) a (encode (N s))
 
     pub push-joined :
         joinable ns t ≡ true
         → t .operation ≡ 1
-        → outcomeOf joined (nextDone h (withCount (withRegister t 3 none) 0) 2) ≡ lineOf line25 ns h t g f
+        → outcomeOf joined (nextDone h (withCount (withRegister t 3 noNode) 0) 2) ≡ lineOf line25 ns h t g f
     unfolding lineOf act
     push-joined e o =
         rw (
@@ -145,7 +145,7 @@ module _ {ns : List ℕ} {t : Tasks.Task} (R : Ready ns t) (h g f : ℕ) where
           swap-done (linkIn ns s a) b (decode (storedIn ns a)) (X s) e,
           push-spliced (out≔ a d ∷ val≔ a (N s) ∷ []) (taskMeant t) (t .operation) o,
         )
-        (by-record (R .canonical) joined (λ u. nextDone h (withCount (withRegister u 3 none) 0) 2))
+        (by-record (R .canonical) joined (λ u. nextDone h (withCount (withRegister u 3 noNode) 0) 2))
 
     pub other-joined :
         joinable ns t ≡ true → t .operation ≢ 1 → outcomeOf joined (answerDone h Yes) ≡ lineOf line25 ns h t g f
@@ -164,17 +164,17 @@ module _ {ns : List ℕ} {t : Tasks.Task} (R : Ready ns t) (h g f : ℕ) where
         (by-code R (λ u. nextDone h u 15))
 
   -- ---- 28: no node is free, or one is found.
-  pub push-has-none : f ≡ none → t .operation ≡ 1 → outcomeOf ns (answerDone h Full) ≡ lineOf line28 ns h t g f
+  pub push-has-none : f ≡ noNode → t .operation ≡ 1 → outcomeOf ns (answerDone h Full) ≡ lineOf line28 ns h t g f
   unfolding lineOf act
   push-has-none e o = rw (equal e, push-full (t .operation) o)
 
-  pub other-has-none : f ≡ none → t .operation ≢ 1 → outcomeOf ns (answerDone h No) ≡ lineOf line28 ns h t g f
+  pub other-has-none : f ≡ noNode → t .operation ≢ 1 → outcomeOf ns (answerDone h No) ≡ lineOf line28 ns h t g f
   unfolding lineOf act
   other-has-none e o = rw (equal e, other-no (t .operation) o)
 
-  module _ (found : f ≢ none) where
+  module _ (found : f ≢ noNode) where
     abbrev outermost : List ℕ
-    outermost = setStoredIn (setLinkIn (setLinkIn ns s f none) inward f none) f (encode (X s))
+    outermost = setStoredIn (setLinkIn (setLinkIn ns s f noNode) inward f noNode) f (encode (X s))
 
     pub outermost-made :
         outcomeOf outermost (nextDone h (withCount (withRegister t 3 f) 0) (cond (eqb g 0) 15 31))
@@ -186,15 +186,15 @@ module _ {ns : List ℕ} {t : Tasks.Task} (R : Ready ns t) (h g f : ℕ) where
         (by-record (R .canonical) outermost (λ u. nextDone h (withCount (withRegister u 3 f) 0) step))
 
   -- ---- 31: no node is free, or one is found.
-  module _ (through-d : d ≢ none) where
-    pub chain-ends : f ≡ none → outcomeOf ns (nextDone h t 15) ≡ lineOf line31 ns h t g f
+  module _ (through-d : d ≢ noNode) where
+    pub chain-ends : f ≡ noNode → outcomeOf ns (nextDone h t 15) ≡ lineOf line31 ns h t g f
     unfolding lineOf act
     chain-ends e = rw (unequal through-d, equal e) (by-code R (λ u. nextDone h u 15))
 
-    module _ (found : f ≢ none) where
+    module _ (found : f ≢ noNode) where
       abbrev longer : List ℕ
       longer =
-          setLinkIn (setLinkIn (setLinkIn (setStoredIn ns f (encode (N s))) inward f none) s f d) inward d f
+          setLinkIn (setLinkIn (setLinkIn (setStoredIn ns f (encode (N s))) inward f noNode) s f d) inward d f
 
       pub chain-grows :
           outcomeOf longer

@@ -12,8 +12,8 @@ use Rattle.machine.specs.Sides.{Side}
 use Rattle.machine.specs.Values.{Value, _≟ᵛ_}
 use Rattle.machine.specs.Operations.{Operation, idle, push, pop, add, remove, operationOf}
 use Rattle.machine.specs.Steps.{Step, line2, stepNumber}
-use Rattle.machine.specs.Tasks.{Task, none, withCounted, withD}
-use Rattle.machine.specs.Lines.{Write, hat≔, backOf, noNode, spliced, next, answers, writing}
+use Rattle.machine.specs.Tasks.{Task, noNode, withCounted, withD}
+use Rattle.machine.specs.Lines.{Write, hat≔, backOf, noneFree, spliced, next, answers, writing}
 use Rattle.machine.proofs.Words.RecordLaws.{operation-of-number}
 use Rattle.table_values.specs.Tests.{isSame}
 use Rattle.line_parts.specs.Lent.{writesIn, hatAfter}
@@ -54,28 +54,28 @@ not-push P i p a r n h = go (n ≟ 0) (n ≟ 1) (n ≟ 2) (n ≟ 3)
     go (no e) (no e1) (no e2) (no e3) = r
 
 -- The step back.
-pub push-back : (d n : ℕ) → n ≡ 1 → cond (eqb d none) 2 15 ≡ stepNumber (backOf (operationOf n) (d ≟ none))
-push-back d n e = rw (e, operation-of-number push) (go (d ≟ none))
+pub push-back : (d n : ℕ) → n ≡ 1 → cond (eqb d noNode) 2 15 ≡ stepNumber (backOf (operationOf n) (d ≟ noNode))
+push-back d n e = rw (e, operation-of-number push) (go (d ≟ noNode))
   where
-    go : (c : Dec (d ≡ none)) → cond (eqb d none) 2 15 ≡ stepNumber (backOf push c)
-    go (yes h) = rw (eq-eqb d none h)
-    go (no h) = rw (ne-eqb d none h)
+    go : (c : Dec (d ≡ noNode)) → cond (eqb d noNode) 2 15 ≡ stepNumber (backOf push c)
+    go (yes h) = rw (eq-eqb d noNode h)
+    go (no h) = rw (ne-eqb d noNode h)
 
-pub other-back : (d n : ℕ) → n ≢ 1 → 15 ≡ stepNumber (backOf (operationOf n) (d ≟ none))
-other-back d = not-push (λ (op : Operation). 15 ≡ stepNumber (backOf op (d ≟ none))) refl refl refl refl
+pub other-back : (d n : ℕ) → n ≢ 1 → 15 ≡ stepNumber (backOf (operationOf n) (d ≟ noNode))
+other-back d = not-push (λ (op : Operation). 15 ≡ stepNumber (backOf op (d ≟ noNode))) refl refl refl refl
 
 -- What 28 answers where no node is free.
-pub push-full : (n : ℕ) → n ≡ 1 → noNode (operationOf n) ≡ Full
+pub push-full : (n : ℕ) → n ≡ 1 → noneFree (operationOf n) ≡ Full
 push-full n e = rw (e, operation-of-number push)
 
-pub other-no : (n : ℕ) → n ≢ 1 → noNode (operationOf n) ≡ No
-other-no = not-push (λ (op : Operation). noNode op ≡ No) refl refl refl refl
+pub other-no : (n : ℕ) → n ≢ 1 → noneFree (operationOf n) ≡ No
+other-no = not-push (λ (op : Operation). noneFree op ≡ No) refl refl refl refl
 
 -- How 25 ends where its swap is done.
 pub push-spliced :
     (l : List Write) (t : Task) (n : ℕ)
     → n ≡ 1
-    → spliced (operationOf n) l t ≡ writing l (next (withCounted (withD t none) 0) line2)
+    → spliced (operationOf n) l t ≡ writing l (next (withCounted (withD t noNode) 0) line2)
 push-spliced l t n e = rw (e, operation-of-number push)
 
 pub other-spliced :

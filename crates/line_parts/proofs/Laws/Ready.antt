@@ -8,7 +8,7 @@ use native.Mathlib.Omega.{arith}
 use lib.ListN.{getD}
 use Rattle.machine.specs.Sides.{Side, left, right, sideNumber, sideOf}
 use Rattle.machine.specs.Values.{encode, decode, stored, number, valueOk}
-use Rattle.machine.specs.Tasks.{none}
+use Rattle.machine.specs.Tasks.{noNode}
 use Rattle.machine.proofs.Words.ValueLaws.{decoded-value-ok}
 use Rattle.machine.proofs.Words.RecordLaws.{side-of-number}
 use Rattle.machine.specs.declared.Stored.{Stored}
@@ -52,7 +52,7 @@ module _ {ns : List ℕ} {t : Tasks.Task} (R : Ready ns t) where
   pub node-value-ok :
       {v : Stored} (i : ℕ)
       → i < 4
-      → getD (t .registers) i 0 ≢ none
+      → getD (t .registers) i 0 ≢ noNode
       → v ≡ storedIn ns (getD (t .registers) i 0)
       → valueOk v ≡ true
   node-value-ok i l n read = rw read (R .values (getD (t .registers) i 0) (R .held i l n))

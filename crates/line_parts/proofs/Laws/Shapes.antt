@@ -7,7 +7,7 @@ use Rattle.machine.specs.Choice.{_≟_, if_then_else_}
 use Rattle.machine.specs.Sides.{Side, sideOf}
 use Rattle.machine.specs.Values.{Value, decode, _≟ᵛ_}
 use Rattle.machine.specs.Steps.{Step, stepNumber}
-use Rattle.machine.specs.Tasks.{Task, Register, inA, inB, inC, inD, none, withA, withB, withC, withD}
+use Rattle.machine.specs.Tasks.{Task, Register, inA, inB, inC, inD, noNode, withA, withB, withC, withD}
 use Rattle.machine.specs.Lines.{Effect, next, refused, through}
 use Rattle.table_record.specs.declared.Task as Tasks
 use Rattle.table_record.specs.Coded.{codedTask, taskMeant, withRegister}
@@ -54,10 +54,10 @@ module _ {ns : List ℕ} {t : Tasks.Task} (R : Ready ns t) (h : ℕ) where
 
   -- Through a register that is none or not.
   past-none :
-      {P : Type 0} (none? : Dec P) (d : Done) (e : Effect)
+      {P : Type 0} (noNode? : Dec P) (d : Done) (e : Effect)
       → outcomeOf ns d ≡ effectIn s ns h e
-      → outcomeOf ns (if none? then refusedDone h t else d)
-      ≡ effectIn s ns h (if none? then refused (taskMeant t) else e)
+      → outcomeOf ns (if noNode? then refusedDone h t else d)
+      ≡ effectIn s ns h (if noNode? then refused (taskMeant t) else e)
   past-none (yes p) d e same = by-code R (refusedDone h)
   past-none (no p) d e same = same
 
@@ -79,11 +79,11 @@ module _ {ns : List ℕ} {t : Tasks.Task} (R : Ready ns t) (h : ℕ) where
         (n m : Step)
         → outcomeOf ns (followDone ns h t z i (place r) (stepNumber n) (stepNumber m))
         ≡ effectIn s ns h
-        (through x (taskMeant t) (next (setting (taskMeant t) r y) (if y ≟ none then n else m)))
+        (through x (taskMeant t) (next (setting (taskMeant t) r y) (if y ≟ noNode then n else m)))
     followed n m =
-        let step = if y ≟ none then n else m in
-        rw (chosen y none n m)
-        (past-none (x ≟ none) (nextDone h (withRegister t (place r) y) (stepNumber step))
+        let step = if y ≟ noNode then n else m in
+        rw (chosen y noNode n m)
+        (past-none (x ≟ noNode) (nextDone h (withRegister t (place r) y) (stepNumber step))
         (next (setting (taskMeant t) r y) step) (set-and-at step))
 
     -- The same where both ways lead to one step.
@@ -94,7 +94,7 @@ module _ {ns : List ℕ} {t : Tasks.Task} (R : Ready ns t) (h : ℕ) where
     followed-on n =
         followed n n
         ∙ ap (λ (m : Step). effectIn s ns h (through x (taskMeant t) (next (setting (taskMeant t) r y) m)))
-        (either-way (y ≟ none) n)
+        (either-way (y ≟ noNode) n)
 
   -- The value of A's node is a mark, or not.
   module _ (mark : Value) (n m : Step) where
@@ -108,5 +108,5 @@ module _ {ns : List ℕ} {t : Tasks.Task} (R : Ready ns t) (h : ℕ) where
     by-mark =
         let step = if decode (storedIn ns a) ≟ᵛ mark then n else m in
         rw (chosenᵛ (decode (storedIn ns a)) mark n m)
-        (past-none (a ≟ none) (nextDone h t (stepNumber step)) (next (taskMeant t) step)
+        (past-none (a ≟ noNode) (nextDone h t (stepNumber step)) (next (taskMeant t) step)
         (by-code R (λ u. nextDone h u (stepNumber step))))

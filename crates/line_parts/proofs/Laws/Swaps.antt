@@ -11,7 +11,7 @@ use Rattle.machine.specs.Choice.{if_then_else_}
 use Rattle.machine.specs.Sides.{Side, sideOf}
 use Rattle.machine.specs.Values.{Value, bag, N, X, Y, encode, decode, number, bagOk, _≟ᵛ_}
 use Rattle.machine.specs.Steps.{line48, line51, line62, line78}
-use Rattle.machine.specs.Tasks.{none}
+use Rattle.machine.specs.Tasks.{noNode}
 use Rattle.machine.specs.Lines.{Effect, dcas, act}
 use Rattle.machine.proofs.Basics.Contradiction.{clash}
 use Rattle.machine.proofs.Basics.Choices.{unequal}
@@ -85,7 +85,7 @@ module _ {ns : List ℕ} {t : Tasks.Task} (R : Ready ns t) (h g f : ℕ) where
   b = getD (t .registers) 1 0
 
   -- ---- 48 and 51.
-  module _ (through-b : b ≢ none) where
+  module _ (through-b : b ≢ noNode) where
     pub empty : unchanged ns h t ≡ true → outcomeOf ns (answerDone h Empty) ≡ lineOf line48 ns h t g f
     unfolding lineOf act
     empty e = rw (unequal through-b, swap-done h a (decode (storedIn ns b)) (taskMeant t .value) e)
@@ -117,7 +117,7 @@ module _ {ns : List ℕ} {t : Tasks.Task} (R : Ready ns t) (h g f : ℕ) where
         (by-code R (λ u. nextDone h u 39))
 
   -- ---- 62.
-  module _ (through-a : a ≢ none) (through-b : b ≢ none) where
+  module _ (through-a : a ≢ noNode) (through-b : b ≢ noNode) where
     -- x and y are written, and leave ms and then ls.
     pub cut :
         {x y : Stored} {ms ls : List ℕ}
@@ -151,7 +151,7 @@ module _ {ns : List ℕ} {t : Tasks.Task} (R : Ready ns t) (h g f : ℕ) where
         )
 
   -- ---- 78.
-  module _ (through-b : b ≢ none) where
+  module _ (through-b : b ≢ noNode) where
     pub marked-Y :
         as-read ns t ≡ true → outcomeOf (setStoredIn ns b (encode (Y s))) (nextDone h t 79) ≡ lineOf line78 ns h t g f
     unfolding lineOf act

@@ -3,7 +3,7 @@ use mathlib.Core.Path.{sym, _∙_}
 use native.Mathlib.Omega.{arith}
 use lib.ListN.{getD}
 use Rattle.machine.specs.Sides.{sideOf}
-use Rattle.machine.specs.Tasks.{none}
+use Rattle.machine.specs.Tasks.{noNode}
 use Rattle.machine.specs.Lines.{act}
 use Rattle.machine.proofs.Basics.Choices.{equal, unequal}
 use Rattle.table_layout.specs.Words.{setLinkIn}
@@ -75,7 +75,7 @@ returns-3 c g f =
       unequal (some .if1 .left),
       equal (sym (compared .link .ensures) ∙ c .before .before .before .before .before .if2 .left),
     )
-    (by-record (p .pre .canonical) (setLinkIn (p .args .ns .now) (sideOf (t .side)) a none)
+    (by-record (p .pre .canonical) (setLinkIn (p .args .ns .now) (sideOf (t .side)) a noNode)
     (λ u. nextDone (p .args .hat) u 74))
 
 pub line64-spec : {M : Type 1} → statement M

@@ -2,7 +2,7 @@
 use mathlib.Core.Path.{_≡_, refl, sym, ap, _∙_}
 use mathlib.Core.Logic.{_≢_, _⊎_, inl, inr}
 use mathlib.Core.Bool.{Bool, true, false}
-use mathlib.Core.Option.{Option, some, none as nothing}
+use mathlib.Core.Option.{Option, some, none}
 use Prim.Native.Nat.{ℕ, zero, suc, _+_, _-_, _<_, _≤_}
 use native.Mathlib.Omega.{arith}
 use borrow.Author.Tests.{lt-ltb, le-ltb}
@@ -90,7 +90,7 @@ module _ (n : ℕ) (test : ℕ → Bool) where
       go false q later f = later f
 
   -- Where none is found of m numbers, none passes that is fewer than m steps away.
-  pub none-passes : (m i : ℕ) → i < n → firstFrom n test m i ≡ nothing → (k : ℕ) → k < n → away n i k < m
+  pub none-passes : (m i : ℕ) → i < n → firstFrom n test m i ≡ none → (k : ℕ) → k < n → away n i k < m
       → test k ≡ false
   unfolding firstFrom
   none-passes zero i h e k l a = absurd (omega arith)
@@ -98,9 +98,9 @@ module _ (n : ℕ) (test : ℕ → Bool) where
       go (test i) refl (none-passes m (following n i) (following-below n i h)) e (equal? i k)
     where
       go : (b : Bool) → test i ≡ b
-          → (firstFrom n test m (following n i) ≡ nothing
+          → (firstFrom n test m (following n i) ≡ none
           → (k : ℕ) → k < n → away n (following n i) k < m → test k ≡ false)
-          → orLater m i b ≡ nothing
+          → orLater m i b ≡ none
           → (i ≡ k) ⊎ (i ≢ k)
           → test k ≡ false
       go true q later f d = clash (cc)

@@ -4,7 +4,7 @@
 use mathlib.Core.Path.{_≡_, refl, sym}
 use mathlib.Core.Logic.{_⊎_, inl, inr}
 use mathlib.Core.Bool.{Bool, true, false, _&&_, _||_, Bool·beq}
-use mathlib.Core.Option.{Option, none as nothing}
+use mathlib.Core.Option.{Option, none}
 use Prim.Native.Nat.{ℕ}
 use Rattle.machine.proofs.Basics.Contradiction.{clash}
 use Rattle.machine.specs.Calls.{unless}
@@ -35,10 +35,10 @@ agreed false true h = h
 agreed false false h = refl
 
 -- A list of refusals: where none is met, the first test passes and none is met of the others.
-pub test-passed : (b : Bool) (n : ℕ) (others : Option ℕ) → unless b n others ≡ nothing → b ≡ true
+pub test-passed : (b : Bool) (n : ℕ) (others : Option ℕ) → unless b n others ≡ none → b ≡ true
 test-passed true n others e = refl
 test-passed false n others e = clash (cc)
 
-pub tests-left : (b : Bool) (n : ℕ) (others : Option ℕ) → unless b n others ≡ nothing → others ≡ nothing
+pub tests-left : (b : Bool) (n : ℕ) (others : Option ℕ) → unless b n others ≡ none → others ≡ none
 tests-left true n others e = e
 tests-left false n others e = clash (cc)

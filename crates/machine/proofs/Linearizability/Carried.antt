@@ -3,7 +3,7 @@
 use mathlib.Core.Path.{_≡_, refl, sym, ap, subst}
 use mathlib.Core.Bool.{Bool, true, false, cond, _||_}
 use mathlib.Core.List.{List, [], _∷_}
-use mathlib.Core.Option.{Option, some, none as nothing, bind}
+use mathlib.Core.Option.{Option, some, none, bind}
 use Prim.Native.Nat.{ℕ}
 use lib.Dec.{eqb}
 use lib.ListN.{length}
@@ -54,7 +54,7 @@ pub record Carried (P : List ℕ → Row → Type 0) : Type 0 where
   pub well-formed : {ws : List ℕ} {ρ : Row} → P ws ρ → WellFormed ws
 
 -- What the tests of a take or a put come to.
-accepted-same : (same : Bool) (others : Option ℕ) → unless same 22 others ≡ nothing → same ≡ true
+accepted-same : (same : Bool) (others : Option ℕ) → unless same 22 others ≡ none → same ≡ true
 accepted-same true others e = refl
 accepted-same false others e = clash (cc)
 
@@ -88,35 +88,35 @@ module _ (P : List ℕ → Row → Type 0) (C : Carried P) where
 
   after-call : (c : Call) (ws : List ℕ) (known : Option Row) (ks : List Kept) → Where P ws known → AllKept ks
       → (κ′ : Known) × (feedCall known ks c (given c ws) ≡ some κ′) × Holds (after c ws) κ′
-  after-call c ws nothing ks p K =
+  after-call c ws none ks p K =
       (record { row = startedRow (did c (given c ws)); kept = ks }, refl, record { present = started-there c ws; kept = K })
   after-call c ws (some ρ) ks p K =
       let x = C .at-call p c in
       (record { row = some (x .0); kept = ks }, ap (λ r. fedRow r ks) (x .1), record { present = x .2; kept = K })
 
   -- ---- Refusals of takes and puts.
-  refused-table : (tested : List ℕ) {n : ℕ} → tableRefusal tested nothing ≡ some n → refusalFits true nothing n ≡ true
+  refused-table : (tested : List ℕ) {n : ℕ} → tableRefusal tested none ≡ some n → refusalFits true none n ≡ true
   refused-table tested {n} e = by-length (lengthOk tested) e
     where
-      by-shape : (b : Bool) → unless b 4 nothing ≡ some n → eqb n 3 || eqb n 4 ≡ true
+      by-shape : (b : Bool) → unless b 4 none ≡ some n → eqb n 3 || eqb n 4 ≡ true
       by-shape true q = clash (cc)
       by-shape false q = let is : 4 ≡ n = cc in rw (← is)
 
-      by-length : (b : Bool) → unless b 3 (unless (shapeOk tested) 4 nothing) ≡ some n → eqb n 3 || eqb n 4 ≡ true
+      by-length : (b : Bool) → unless b 3 (unless (shapeOk tested) 4 none) ≡ some n → eqb n 3 || eqb n 4 ≡ true
       by-length true q = by-shape (shapeOk tested) q
       by-length false q = let is : 3 ≡ n = cc in rw (← is)
 
   refused-so : (same : Bool) (tested : List ℕ) (known : Option Row) → Where P tested known → {n : ℕ}
-      → unless same 22 (tableRefusal tested nothing) ≡ some n
+      → unless same 22 (tableRefusal tested none) ≡ some n
       → refusalFits same known n ≡ true
   refused-so false tested known p {n} e = let is : 22 ≡ n = cc in rw (← is)
-  refused-so true tested nothing p e = refused-table tested e
-  refused-so true tested (some ρ) p e = clash (cc (table-passes tested (C .well-formed p) nothing))
+  refused-so true tested none p e = refused-table tested e
+  refused-so true tested (some ρ) p e = clash (cc (table-passes tested (C .well-formed p) none))
 
   -- ---- A take.
   kept-too : (ws ss : List ℕ) (known : Option Row) (ks : List Kept) → Where P ws known → AllKept ks → byNodes ss ≡ ws
       → AllKept (keep ss known ks)
-  kept-too ws ss nothing ks p K back = K
+  kept-too ws ss none ks p K back = K
   kept-too ws ss (some ρ) ks p K back = (subst (λ (vs : List ℕ). P vs ρ) (sym back) p, K)
 
   after-take : (out ws : List ℕ) (κ : Known) → Holds ws κ → Next (take-event out) ws κ
@@ -130,7 +130,7 @@ module _ (P : List ℕ → Row → Type 0) (C : Carried P) where
           → (κ′ : Known) × (feedTake κ same q (takeSnapshot ws out .words) ≡ some κ′) × Holds ws κ′
       go Accepted e = (
         record { row = κ .row; kept = keep (takeSnapshot ws out .words) (κ .row) (κ .kept) },
-        rw (accepted-same same (tableRefusal ws nothing) (no-refusal _ _ _ e)),
+        rw (accepted-same same (tableRefusal ws none) (no-refusal _ _ _ e)),
         record {
           present = H .present;
           kept =
@@ -167,7 +167,7 @@ module _ (P : List ℕ → Row → Type 0) (C : Carried P) where
           → (κ′ : Known) × (feedPut κ same ss q ≡ some κ′) × Holds (putBack ss ws .words) κ′
       go Accepted e = (
         record { row = rowKept ss (κ .kept); kept = κ .kept },
-        rw (accepted-same same (tableRefusal (byNodes ss) nothing) (no-refusal _ _ _ e)),
+        rw (accepted-same same (tableRefusal (byNodes ss) none) (no-refusal _ _ _ e)),
         record {
           present =
               subst (λ (vs : List ℕ). Where P vs (rowKept ss (κ .kept)))
@@ -206,7 +206,7 @@ module _ (P : List ℕ → Row → Type 0) (C : Carried P) where
 -- ---- What follows from a claim is claimed as well.
 module _ (P Q : List ℕ → Row → Type 0) (so : (ws : List ℕ) (ρ : Row) → P ws ρ → Q ws ρ) where
   where-so : (ws : List ℕ) (known : Option Row) → Where P ws known → Where Q ws known
-  where-so ws nothing p = tt
+  where-so ws none p = tt
   where-so ws (some ρ) p = so ws ρ p
 
   along-so : (es : List Event) (ws : List ℕ) (κ : Known) → Along P es ws κ → Along Q es ws κ

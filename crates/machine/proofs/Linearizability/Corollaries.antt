@@ -3,7 +3,7 @@ use mathlib.Core.Path.{_≡_, refl, sym, ap, _∙_, subst}
 use mathlib.Core.Logic.{_≢_}
 use mathlib.Core.Bool.{Bool, true, false, not, _&&_, _||_}
 use mathlib.Core.List.{List, [], _∷_, _++_}
-use mathlib.Core.Option.{Option, some, none as nothing}
+use mathlib.Core.Option.{Option, some, none}
 use Prim.Native.Nat.{ℕ, _+_, _*_, _/_, _%_, _≤_, _<_}
 use native.Mathlib.Omega.{arith}
 use lib.Dec.{leb, ltb, eqb}
@@ -19,7 +19,7 @@ use Rattle.machine.specs.Counts.{count}
 use Rattle.machine.specs.Sides.{sideOf}
 use Rattle.machine.specs.Values.{number}
 use Rattle.machine.specs.Operations.{Operation, idle, push, pop, add, remove, operationOf, argumentOk}
-use Rattle.machine.specs.Tasks.{none, Register, register}
+use Rattle.machine.specs.Tasks.{noNode, Register, register}
 use Rattle.machine.specs.Registers.{holds}
 use Rattle.machine.specs.Table.{nodeCount, taskCount, laneCount, task, setTask}
 use Rattle.machine.specs.Shape.{lengthOk, shapeOk, sizesOf, Sized}
@@ -115,7 +115,7 @@ other-number : (passed : Bool) {n : ℕ} {others : Option ℕ} → n ≢ 11 → 
 other-number true other later = later
 other-number false {n} other later = λ e. let same : n ≡ 11 = cc in other same
 
-not-refused : _≢_ {A = Option ℕ} nothing (some 11)
+not-refused : _≢_ {A = Option ℕ} none (some 11)
 not-refused e = refute (cc)
 
 module _ {ws : List ℕ} {ρ : Row} (A : Agrees ws ρ) (k h : ℕ) where
@@ -143,7 +143,7 @@ module _ {ws : List ℕ} {ρ : Row} (A : Agrees ws ρ) (k h : ℕ) where
 
       go : (r : Option ℕ) → tickRefusal ws k h ≡ r → refusalOf (tickOn ws k h .answer) ≢ some 11
       go (some n) e = rw (e, tickOn) (λ q. tests (e ∙ q))
-      go nothing e = λ q. refute (cc (made-tick A k h e .no-number))
+      go none e = λ q. refute (cc (made-tick A k h e .no-number))
 
 pub no-tick-refused-with-11 : {ws : List ℕ} → Begun ws → (k h : ℕ) → tick ws k h .answer ≢ Refused 11
 no-tick-refused-with-11 B k h e =
@@ -207,7 +207,7 @@ module _ {ws : List ℕ} (B : Begun ws) (k l op side : ℕ) (argument : Stored) 
           → changed r ws (setTask k (begunTask l (operationOf op) (sideOf side) (number argument)) ws) .reply
           ≢ Reply-Refused 11
       go (some n) f = λ e. let same : n ≡ 11 = cc in f (ap some same)
-      go nothing f = λ e. refute (cc)
+      go none f = λ e. refute (cc)
 
 -- A list is refused by its own tests, or by the tick at which it stops.
 ticks-not-11 : (list : List ℕ) {ws : List ℕ} {ρ : Row} (answers : List ℕ) → Agrees ws ρ
@@ -228,16 +228,16 @@ ticks-not-11 (k ∷ h ∷ list) {ws} answers A =
         → others .ran .refusal ≢ 11
         → elim r as (λ _. RunDone) [
           | some n ↦ stopped n ws answers
-          | nothing ↦ afterTick (tickOn ws k h .answer) others
+          | none ↦ afterTick (tickOn ws k h .answer) others
         ] .ran .refusal
         ≢ 11
     go (some n) f later = λ e. f (ap some e)
-    go nothing f later = later
+    go none f later = later
 
 module _ {ws : List ℕ} (B : Begun ws) (list answers : List ℕ) where
   tested-not-11 : (r : Option ℕ) → r ≢ some 11 → tested r ws list answers .ran .refusal ≢ 11
   tested-not-11 (some n) f = λ e. f (ap some e)
-  tested-not-11 nothing f = ticks-not-11 list answers (begun-agrees B .1)
+  tested-not-11 none f = ticks-not-11 list answers (begun-agrees B .1)
 
   -- The tests before and after 15.
   list-not-11 : (others : Option ℕ) → others ≢ some 11 → listRefusal ws list others ≢ some 11
@@ -261,12 +261,12 @@ module _ {ws : List ℕ} (B : Begun ws) (list answers : List ℕ) where
       (list-not-11 _ (other-number (leb (length list) 64) (λ e. omega arith) room-not-11))
 
 -- A tick that is not refused has passed its tests.
-pub made-passes : {ws : List ℕ} → Begun ws → (k h : ℕ) → refusalOf (tick ws k h .answer) ≡ nothing
-    → tickRefusal ws k h ≡ nothing
+pub made-passes : {ws : List ℕ} → Begun ws → (k h : ℕ) → refusalOf (tick ws k h .answer) ≡ none
+    → tickRefusal ws k h ≡ none
 made-passes {ws} B k h made = go (tickRefusal ws k h) refl
   where
-    go : (r : Option ℕ) → tickRefusal ws k h ≡ r → tickRefusal ws k h ≡ nothing
-    go nothing e = e
+    go : (r : Option ℕ) → tickRefusal ws k h ≡ r → tickRefusal ws k h ≡ none
+    go none e = e
     go (some n) e =
         let is-stopped = tick-passes (begun-agrees B .1) k h ∙ tick-stopped ws k h e in
         let has-number = ap (λ (r : Ticked). refusalOf (r .answer)) is-stopped in
@@ -293,12 +293,12 @@ pub held-node-never-taken : {ws : List ℕ} {hint x : ℕ} → Begun ws → hint
     → allocate ws hint ≢ x
 held-node-never-taken {ws} {hint} B low held e =
     let W = well-linked (begun-agrees B .1 .accepted) in
-    let found : allocate ws hint ≢ none = λ q. node-not-none (W .few) (reachable-node W held) (sym e ∙ q) in
+    let found : allocate ws hint ≢ noNode = λ q. node-not-none (W .few) (reachable-node W held) (sym e ∙ q) in
     allocate-first-free W low found .free .unreached (subst (Reachable ws) (sym e) held)
 
 pub register-never-taken : {ws : List ℕ} {hint : ℕ} → Begun ws → hint < nodeCount ws → (k : ℕ) (r : Register)
     → holds (task ws k .step) r ≡ true
-    → register (task ws k) r ≢ none
+    → register (task ws k) r ≢ noNode
     → allocate ws hint ≢ register (task ws k) r
 register-never-taken B low k r h n = held-node-never-taken B low (from-register k r h n)
 
@@ -318,7 +318,7 @@ pub reading-gives-the-row : {ws : List ℕ} → Begun ws → (ρ : Row) → Lane
     × (length out < 2 * length (ρ .bags l) → read ws l out ≡ unread 12 out)
 unfolding read readInto
 reading-gives-the-row {ws} B ρ are l h is-lane out =
-    let passes = no-call-refused-with-3-or-4 B (unless (ltb l (laneCount ws)) 26 nothing) in
+    let passes = no-call-refused-with-3-or-4 B (unless (ltb l (laneCount ws)) 26 none) in
     let lane-passes = lt-ltb l (laneCount ws) is-lane in
     let is = are l h in (
       λ fits. rw (passes, lane-passes, read, is, le-leb _ _ fits, readInto),

@@ -4,7 +4,7 @@ use mathlib.Core.Bool.{Bool, true, false, cond, _&&_}
 use mathlib.Core.List.{List, [], _∷_, _++_, reverse, reverse-cons, reverse-reverse}
 use mathlib.Core.Logic.{_≢_}
 use borrow.Author.Tests.{eq-eqb, ne-eqb}
-use mathlib.Core.Option.{Option, some, none as nothing, Option·map}
+use mathlib.Core.Option.{Option, some, none, Option·map}
 use Prim.Native.Nat.{ℕ, _+_}
 use native.Mathlib.Omega.{arith}
 use Rattle.machine.specs.declared.Answer.{Answer}
@@ -64,7 +64,7 @@ first-taken : (x : ℕ) (bags bags′ : List ℕ) → takeFirst x bags ≡ some 
 first-taken x [] bags′ e = clash (cc)
 first-taken x (y ∷ bags) bags′ e = go (y ≟ x) e
   where
-    go : (d : Dec (y ≡ x)) → (if d then some bags else nothing) ≡ some bags′ → y ∷ bags ≡ x ∷ bags′
+    go : (d : Dec (y ≡ x)) → (if d then some bags else none) ≡ some bags′ → y ∷ bags ≡ x ∷ bags′
     go (yes h) e = cc
     go (no h) e = clash (cc)
 
@@ -77,7 +77,7 @@ bag-taken right x bags bags′ e = go (takeFirst x (reverse bags)) refl e
         → takeFirst x (reverse bags) ≡ o
         → Option·map reverse o ≡ some bags′
         → bags ≡ bags′ ++ (x ∷ [])
-    go nothing q e = clash (cc)
+    go none q e = clash (cc)
     go (some l) q e =
         let same : reverse l ≡ bags′ = cc in
         sym (reverse-reverse bags)
@@ -190,10 +190,10 @@ same-with k n e = ap (λ (f : ℕ → Option Note). withNote f k n) e
 -- A tick that was made.
 module _ {ρ : Row} {η : History} (R : Recorded ρ η) (k : ℕ) (a : Answer) where
   finish-recorded : (n : Note) (bags : List ℕ) → answered n a (ρ .bags (n .lane)) ≡ some bags
-      → Recorded (noted (withBags ρ (n .lane) bags) k nothing) (finish η k (some n) a)
+      → Recorded (noted (withBags ρ (n .lane) bags) k none) (finish η k (some n) a)
   finish-recorded n bags e =
       record {
-        same-notes = same-with k nothing (R .same-notes);
+        same-notes = same-with k none (R .same-notes);
         same-tasks = R .same-tasks;
         same-dispatched = R .same-dispatched;
         balanced =
@@ -218,7 +218,7 @@ module _ {ρ : Row} {η : History} (R : Recorded ρ η) (k : ℕ) (a : Answer) w
     where
       by-answer : (n : Note) (g : Bool)
           → cond g (some ρ)
-          (Option·map (λ bags. noted (withBags ρ (n .lane) bags) k nothing) (answered n a (ρ .bags (n .lane))))
+          (Option·map (λ bags. noted (withBags ρ (n .lane) bags) k none) (answered n a (ρ .bags (n .lane))))
           ≡ some ρ′
           → Recorded ρ′ (cond g η (finish η k (some n) a))
       by-answer n true q = same-row q R

@@ -2,7 +2,7 @@
 use mathlib.Core.Path.{_≡_, refl, sym, _∙_, subst}
 use mathlib.Core.Bool.{Bool, true, false, cond}
 use mathlib.Core.List.{List, [], _∷_}
-use mathlib.Core.Option.{Option, some, none as nothing, bind}
+use mathlib.Core.Option.{Option, some, none, bind}
 use Prim.Native.Nat.{ℕ, _<_}
 use lib.Dec.{eqb}
 use lib.ListN.{length}
@@ -72,7 +72,7 @@ module _ (ss : List ℕ) where
 
   one-more-kept : (ts : List ℕ) (known : Option Row) (ks : List Kept) → IsKept ks → IsKept (keep ts known ks)
   unfolding rowKept
-  one-more-kept ts nothing ks K = K
+  one-more-kept ts none ks K = K
   one-more-kept ts (some σ) ks K = go (sameWords ss ts)
     where
       go : (b : Bool) → (ρ : Row) × (cond b (some σ) (rowKept ss ks) ≡ some ρ)
@@ -82,7 +82,7 @@ module _ (ss : List ℕ) where
   stays : {κ κ′ : Known} → some κ ≡ some κ′ → IsKept (κ .kept) → IsKept (κ′ .kept)
   stays {κ} {κ′} e K = let same : κ ≡ κ′ = cc in subst (λ (k : Known). IsKept (k .kept)) same K
 
-  stays-if : (b : Bool) (κ : Known) {κ′ : Known} → cond b (some κ) nothing ≡ some κ′ → IsKept (κ .kept) → IsKept (κ′ .kept)
+  stays-if : (b : Bool) (κ : Known) {κ′ : Known} → cond b (some κ) none ≡ some κ′ → IsKept (κ .kept) → IsKept (κ′ .kept)
   stays-if true κ q K = stays q K
   stays-if false κ q K = clash (cc)
 
@@ -92,11 +92,11 @@ module _ (ss : List ℕ) where
   stays-kept (call-event c) ws κ κ′ f K = go (κ .row) f
     where
       fed : (r : Option Row) → fedRow r (κ .kept) ≡ some κ′ → IsKept (κ′ .kept)
-      fed nothing q = clash (cc)
+      fed none q = clash (cc)
       fed (some σ) q = stays q K
 
       go : (known : Option Row) → feedCall known (κ .kept) c (given c ws) ≡ some κ′ → IsKept (κ′ .kept)
-      go nothing q = stays q K
+      go none q = stays q K
       go (some ρ) q = fed (feed ρ c (given c ws)) q
   stays-kept (take-event out) ws κ κ′ f K = go (takeSnapshot ws out .reply) f
     where

@@ -2,7 +2,7 @@
 -- so every list of calls alone, on a table that our start began, is explained.
 use mathlib.Core.Path.{_≡_, refl, ap, subst}
 use mathlib.Core.List.{List, [], _∷_, map}
-use mathlib.Core.Option.{Option, some, none as nothing}
+use mathlib.Core.Option.{Option, some, none}
 use Prim.Native.Nat.{ℕ}
 use Rattle.machine.specs.declared.Reply.{Reply}
 use Rattle.machine.specs.declared.Reply.the-variants.{Accepted}
@@ -41,7 +41,7 @@ started-agrees S T g L old = go (startRefusal old S T g L) refl
         → changed r old (startWords S T g L) .reply ≡ Accepted
         → Agrees (changed r old (startWords S T g L) .words) (emptyRow T L)
     go (some n) e q = clash (cc)
-    go nothing e q = start-agrees S T g L (search test-passed) (search (test-passed, tests-left))
+    go none e q = start-agrees S T g L (search test-passed) (search (test-passed, tests-left))
 
 -- ---- With snapshots.
 pub agreement-carried : Carried Agrees
@@ -78,7 +78,7 @@ explained (c ∷ cs) ws ρ ks p =
         → fedRow r ks ≡ some κ
         → Rest κ
         → (σ : Row) × (feed ρ c (given c ws) ≡ some σ) × Explained cs (after c ws) σ
-    go others nothing e κ q rest = clash (cc)
+    go others none e κ q rest = clash (cc)
     go others (some σ) e κ q rest =
         let same : κ ≡ record { row = some σ; kept = ks } = cc in (σ, e, others σ (subst Rest same rest))
 

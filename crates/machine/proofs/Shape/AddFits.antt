@@ -24,7 +24,7 @@ use Rattle.machine.specs.Steps.{
   isStepIn,
 }
 use Rattle.machine.specs.Tasks.{Task, goal, goto, withD, withCounted}
-use Rattle.machine.specs.Lines.{Memory, Write, spliced, act, noNode}
+use Rattle.machine.specs.Lines.{Memory, Write, spliced, act, noneFree}
 use Rattle.machine.proofs.Basics.Choices.{by-if}
 use Rattle.machine.proofs.Shape.BusyLaws.{NodeOrNone, BusyAt, BusyFacts}
 use Rattle.machine.proofs.Shape.Fits.{
@@ -86,7 +86,7 @@ module _ (S g L : ℕ) (m : Memory) (M : MemoryFits S m) (t : Task) (f : ℕ) wh
       (moves F (back-lands t (part F))))
 
 -- ---- 28 and 31: nodes are taken for a chain.
-no-node-answers : (op : Operation) → AnswerFits (noNode op)
+no-node-answers : (op : Operation) → AnswerFits (noneFree op)
 no-node-answers idle = tt
 no-node-answers push = tt
 no-node-answers pop = tt

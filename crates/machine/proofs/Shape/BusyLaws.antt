@@ -22,7 +22,7 @@ use Rattle.machine.specs.Operations.{
   argumentOk,
 }
 use Rattle.machine.specs.Steps.{Step, line31, line51, line56, line58, stepNumber, stepsOf, isStepIn}
-use Rattle.machine.specs.Tasks.{Task, none, fresh, wordsOf, goal}
+use Rattle.machine.specs.Tasks.{Task, noNode, fresh, wordsOf, goal}
 use Rattle.machine.specs.Shape.{
   sameWords,
   nodeOrNone,
@@ -44,17 +44,17 @@ use Rattle.machine.proofs.Basics.Contradiction.{refute}
 
 -- ---- A node or none.
 abbrev pub NodeOrNone : (S x : ℕ) → Type 0
-NodeOrNone S x = x ≢ none → x < S
+NodeOrNone S x = x ≢ noNode → x < S
 
 pub node-or-none : (S x : ℕ) → nodeOrNone S x ≡ true → NodeOrNone S x
 node-or-none S x h n =
-    elim (or-either (ltb x S) (eqb x none) h) [ inl e ↦ ltb-true x S e | inr e ↦ absurd (n (eqb-true x none e)) ]
+    elim (or-either (ltb x S) (eqb x noNode) h) [ inl e ↦ ltb-true x S e | inr e ↦ absurd (n (eqb-true x noNode e)) ]
 
 pub node-or-none-ok : (S x : ℕ) → NodeOrNone S x → nodeOrNone S x ≡ true
 node-or-none-ok S x h =
-    elim (x ≟ none) [
-      | yes e ↦ or-right (ltb x S) (eqb x none) (eq-eqb x none e)
-      | no n ↦ or-left (ltb x S) (eqb x none) (lt-ltb x S (h n))
+    elim (x ≟ noNode) [
+      | yes e ↦ or-right (ltb x S) (eqb x noNode) (eq-eqb x noNode e)
+      | no n ↦ or-left (ltb x S) (eqb x noNode) (lt-ltb x S (h n))
     ]
 
 -- ---- A task in a call, at a step.

@@ -2,7 +2,7 @@
 use mathlib.Core.Path.{_≡_, refl}
 use mathlib.Core.Bool.{Bool, true, false}
 use mathlib.Core.List.{List}
-use mathlib.Core.Option.{Option, some, none as nothing}
+use mathlib.Core.Option.{Option, some, none}
 use Prim.Native.Nat.{ℕ, _<_}
 use lib.Dec.{ltb}
 use borrow.Author.Tests.{ltb-true}
@@ -29,7 +29,7 @@ use Rattle.machine.proofs.Shape.TickKeeps.{busy-passes}
 
 module _ (ws : List ℕ) (A : WellFormed ws) (h : ℕ) where
   -- 3 and 4 are passed: the hint decides.
-  refusal-is : dispatchRefusal ws h ≡ unless (ltb h (nodeCount ws)) 9 nothing
+  refusal-is : dispatchRefusal ws h ≡ unless (ltb h (nodeCount ws)) 9 none
   refusal-is = rw (A .length-passes, A .shape-passes)
 
   -- The task chosen is busy.
@@ -39,28 +39,28 @@ module _ (ws : List ℕ) (A : WellFormed ws) (h : ℕ) where
 
   pub by-dispatch : (P : Dispatched → Type 0)
       → P (record { answer = Answered (Refused 9); words = ws })
-      → (nextBusy ws ≡ nothing → P (record { answer = Idle; words = ws }))
+      → (nextBusy ws ≡ none → P (record { answer = Idle; words = ws }))
       → ((k n : ℕ)
       → nextBusy ws ≡ some k
       → refusalOf (tickOn ws k h .answer) ≡ some n
       → P (record { answer = Answered (tickOn ws k h .answer); words = ws }))
       → ((k : ℕ)
       → nextBusy ws ≡ some k
-      → tickRefusal ws k h ≡ nothing
-      → refusalOf (tickOn ws k h .answer) ≡ nothing
+      → tickRefusal ws k h ≡ none
+      → refusalOf (tickOn ws k h .answer) ≡ none
       → P (record { answer = Answered (tickOn ws k h .answer); words = setDispatched k (tickOn ws k h .words) }))
       → P (dispatch ws h)
   unfolding dispatch dispatchOn dispatchTo
   by-dispatch P hint-refused idle line-refused made = tested (ltb h (nodeCount ws)) refl
     where
-      ticked : (k : ℕ) → nextBusy ws ≡ some k → tickRefusal ws k h ≡ nothing → (r : Option ℕ)
+      ticked : (k : ℕ) → nextBusy ws ≡ some k → tickRefusal ws k h ≡ none → (r : Option ℕ)
           → refusalOf (tickOn ws k h .answer) ≡ r
           → P (dispatchTo ws k h)
       ticked k e passes (some n) q = rw (q, dispatchTo) (line-refused k n e q)
-      ticked k e passes nothing q = rw (q, dispatchTo) (made k e passes q)
+      ticked k e passes none q = rw (q, dispatchTo) (made k e passes q)
 
       chosen : h < nodeCount ws → (o : Option ℕ) → nextBusy ws ≡ o → P (dispatchOn ws h)
-      chosen low nothing e = rw (e, dispatchOn) (idle e)
+      chosen low none e = rw (e, dispatchOn) (idle e)
       chosen low (some k) e =
           rw (e, dispatchOn)
           (ticked k e (busy-passes ws k h (chosen-busy e) low) (refusalOf (tickOn ws k h .answer)) refl)

@@ -1,5 +1,5 @@
 -- Effects that fit a table of the right shape, and how a line's tests are taken apart to show that.
-use mathlib.Core.Option.{none as nothing}
+use mathlib.Core.Option.{none}
 use mathlib.Core.Path.{_≡_, refl}
 use mathlib.Core.Logic.{_≢_}
 use mathlib.Core.Bool.{true}
@@ -14,7 +14,7 @@ use Rattle.machine.specs.Choice.{_≟_, if_then_else_}
 use Rattle.machine.specs.Sides.{Side, opposite}
 use Rattle.machine.specs.Values.{Value, N, X, Y, stored, encode, bagOk, valueOk}
 use Rattle.machine.specs.Steps.{Step}
-use Rattle.machine.specs.Tasks.{Task, fresh, none, goal}
+use Rattle.machine.specs.Tasks.{Task, fresh, noNode, goal}
 use Rattle.machine.specs.Lines.{
   Memory,
   Write,
@@ -65,7 +65,7 @@ AnswerFits Yes = Unit {0}
 AnswerFits No = Unit {0}
 AnswerFits (Refused n) = ⊥
 
-pub answer-made : (a : Answer) → AnswerFits a → refusalOf a ≡ nothing
+pub answer-made : (a : Answer) → AnswerFits a → refusalOf a ≡ none
 answer-made Going h = refl
 answer-made Pushed h = refl
 answer-made (Bag b) h = refl
@@ -114,7 +114,7 @@ X-fits s = (mark-has-word {s = s} X-mark, mark-value-ok {s = s} X-mark)
 pub Y-fits : (s : Side) → ValueFits (Y s)
 Y-fits s = (mark-has-word {s = s} Y-mark, mark-value-ok {s = s} Y-mark)
 
-pub none-fits : {S : ℕ} → NodeOrNone S none
+pub none-fits : {S : ℕ} → NodeOrNone S noNode
 none-fits n = absurd (n refl)
 
 -- What a task t may write, of which its line makes a choice: its registers, the value that it read, a mark, none.
@@ -142,10 +142,10 @@ LineFits S g L m t f st = BusyAt S g L st t → Fits S g L (act st (t .side) (op
 
 -- ---- Tests taken apart.
 module _ (S g L : ℕ) where
-  pub by-through : (t : Task) {x : ℕ} {e : Effect} → (x ≢ none → Fits S g L e) → Fits S g L (through x t e)
-  by-through t {x} {e} f = go (x ≟ none)
+  pub by-through : (t : Task) {x : ℕ} {e : Effect} → (x ≢ noNode → Fits S g L e) → Fits S g L (through x t e)
+  by-through t {x} {e} f = go (x ≟ noNode)
     where
-      go : (d : Dec (x ≡ none)) → Fits S g L (if d then refused t else e)
+      go : (d : Dec (x ≡ noNode)) → Fits S g L (if d then refused t else e)
       go (yes h) = turns-back
       go (no h) = f h
 

@@ -23,7 +23,7 @@ use Rattle.machine.specs.Steps.{
 }
 use Rattle.machine.specs.Tasks.{
   Task,
-  none,
+  noNode,
   goal,
   further,
   goto,
@@ -87,9 +87,9 @@ lands-if {op = op} d la lb = by-if (Lands op) d (λ _. la) (λ _. lb)
 
 pub back-lands : (t : Task) → hasPart (t .operation) growing ≡ true → Lands (t .operation) (back t)
 unfolding isStepIn
-back-lands t h = go (t .operation) h (t .D ≟ none)
+back-lands t h = go (t .operation) h (t .D ≟ noNode)
   where
-    go : (op : Operation) → hasPart op growing ≡ true → {x : ℕ} (d : Dec (x ≡ none)) → Lands op (backOf op d)
+    go : (op : Operation) → hasPart op growing ≡ true → {x : ℕ} (d : Dec (x ≡ noNode)) → Lands op (backOf op d)
     go push h (yes e) = lands refl refl
     go push h (no n) = lands refl refl
     go idle h d = lands h refl

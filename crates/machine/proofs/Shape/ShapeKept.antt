@@ -2,7 +2,7 @@
 use mathlib.Core.Path.{_≡_, refl, ap, sym, _∙_, subst}
 use mathlib.Core.Bool.{true, not, _&&_, _||_}
 use mathlib.Core.List.{List}
-use mathlib.Core.Option.{Option, some, none as nothing}
+use mathlib.Core.Option.{Option, some, none}
 use Prim.Native.Nat.{ℕ, _*_, _%_, _≤_, _<_}
 use lib.Dec.{leb, ltb}
 use native.Mathlib.Omega.{arith}
@@ -64,7 +64,7 @@ use Rattle.machine.proofs.Shape.DispatchCases.{by-dispatch}
 use Rattle.machine.proofs.Shape.TickKeeps.{Kept, unchanged, tick-allowed, tick-kept}
 use Rattle.machine.proofs.Basics.Choices.{by-if}
 
-pub is-accepted : (ws : List ℕ) → tableRefusal ws nothing ≡ nothing → WellFormed ws
+pub is-accepted : (ws : List ℕ) → tableRefusal ws none ≡ none → WellFormed ws
 is-accepted ws e =
     record {
       length-passes = search test-passed;
@@ -184,12 +184,12 @@ pub record BeginAllowed (ws : List ℕ) (k l op side : ℕ) (argument : Stored) 
 -- Where 11 and 16 are not met, none is met of the tests after them.
 pub not-seen-twice :
     (ws : List ℕ) (op : Operation) (n : ℕ) (others : Option ℕ)
-    → twiceRefusal ws op n others ≡ nothing
-    → others ≡ nothing
+    → twiceRefusal ws op n others ≡ none
+    → others ≡ none
 not-seen-twice ws push n others e = go (allLanes ws) e
   where
-    go : (bags : Option (List ℕ)) → seenRefusal ws n bags others ≡ nothing → others ≡ nothing
-    go nothing e = clash (cc)
+    go : (bags : Option (List ℕ)) → seenRefusal ws n bags others ≡ none → others ≡ none
+    go none e = clash (cc)
     go (some bags) e = tests-left (not (isAmong n bags || isBegun ws (taskCount ws) n)) 16 others e
 not-seen-twice ws idle n others e = e
 not-seen-twice ws pop n others e = e
@@ -197,7 +197,7 @@ not-seen-twice ws add n others e = e
 not-seen-twice ws remove n others e = e
 
 module _ (ws : List ℕ) (k l op side : ℕ) (argument : Stored) where
-  pub begin-allowed : beginRefusal ws k l op side argument ≡ nothing → BeginAllowed ws k l op side argument
+  pub begin-allowed : beginRefusal ws k l op side argument ≡ none → BeginAllowed ws k l op side argument
   begin-allowed e =
       let lane-test : ltb l (laneCount ws) ≡ true = search (test-passed, tests-left) in
       let a : ltb k (taskCount ws) ≡ true = search (test-passed, tests-left) in
@@ -248,7 +248,7 @@ module _ (ws : List ℕ) (k l op side : ℕ) (argument : Stored) where
             → beginRefusal ws k l op side argument ≡ r
             → Kept ws (changed r ws (setTask k begun ws) .words)
         go (some n) e = unchanged ws Z W
-        go nothing e = accepted-kept (begin-allowed e)
+        go none e = accepted-kept (begin-allowed e)
 
 -- ---- tick and run.
 kept-then : {ws vs us : List ℕ} → Kept ws vs → Kept vs us → Kept ws us
@@ -279,7 +279,7 @@ module _ (ws : List ℕ) (A : WellFormed ws) where
 
   pub tick-passes : (k h : ℕ) → tick ws k h ≡ tickOn ws k h
   unfolding tick
-  tick-passes k h = rw (table-passes nothing, tick)
+  tick-passes k h = rw (table-passes none, tick)
 
   Z : WellSized (sizesOf ws)
   Z = well-sized ws (A .length-passes)
@@ -291,7 +291,7 @@ module _ (ws : List ℕ) (A : WellFormed ws) where
   tick-call-kept k h = rw (tick-passes k h) (tick-kept ws Z W k h)
 
   -- The table of a tick that passes its tests, with that task as the one last dispatched.
-  pub dispatched-accepted : (k h : ℕ) → tickRefusal ws k h ≡ nothing
+  pub dispatched-accepted : (k h : ℕ) → tickRefusal ws k h ≡ none
       → WellFormed (setDispatched k (tickOn ws k h .words))
   dispatched-accepted k h passes =
       let vs = tickOn ws k h .words in
@@ -311,7 +311,7 @@ module _ (ws : List ℕ) (A : WellFormed ws) where
     where
       go : (r : Option ℕ) → startRefusal ws S T g L ≡ r → WellFormed (changed r ws (startWords S T g L) .words)
       go (some n) e = A
-      go nothing e = start-accepted S T g L (search test-passed) (search (test-passed, tests-left))
+      go none e = start-accepted S T g L (search test-passed) (search (test-passed, tests-left))
 
   -- A dispatch leaves the table as it was, or as a tick leaves it, with that task as the one last dispatched.
   dispatch-call-accepted : (h : ℕ) → WellFormed (dispatch ws h .words)

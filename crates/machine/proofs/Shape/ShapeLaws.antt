@@ -10,7 +10,7 @@ use borrow.Author.Tests.{leb-true, le-leb, ltb-true, lt-ltb, le-ltb, eqb-true, e
 use Rattle.machine.specs.Choice.{_<?_, _≟_, if_then_else_}
 use Rattle.machine.specs.Sides.{Side, left, right}
 use Rattle.machine.specs.Values.{never, encode, valueOk}
-use Rattle.machine.specs.Tasks.{none, fresh, wordsOf}
+use Rattle.machine.specs.Tasks.{noNode, fresh, wordsOf}
 use Rattle.machine.specs.Table.{
   tableLength,
   nodeCount,
@@ -146,7 +146,7 @@ same-last-words Y Z e d =
 -- A hat of lane l, of L lanes: a node, and of a lane that is not there none.
 pub record HatFits (S L l x : ℕ) : Type 0 where
   pub used : l < L → x < S
-  pub unused : L ≤ l → x ≡ none
+  pub unused : L ≤ l → x ≡ noNode
 
 pub record WellShaped (c : Columns) : Type 0 where
   pub counts-ok : LastWordsOk (c .sizes .taskCount) (c .counts)
@@ -189,7 +189,7 @@ module _ (ws : List ℕ) where
   hat-fits l s h =
       record {
         used = λ q. ltb-true (hatWord ws l s) (nodeCount ws) (rw (lt-ltb l (laneCount ws) q) at h);
-        unused = λ q. eqb-true (hatWord ws l s) none (rw (le-ltb l (laneCount ws) q) at h);
+        unused = λ q. eqb-true (hatWord ws l s) noNode (rw (le-ltb l (laneCount ws) q) at h);
       }
 
   fits-hat : (l : ℕ) (s : Side) → HatFits (nodeCount ws) (laneCount ws) l (hatWord ws l s) → hatOk ws l s ≡ true
@@ -198,7 +198,7 @@ module _ (ws : List ℕ) where
         | yes q ↦ rw (lt-ltb l (laneCount ws) q) (lt-ltb (hatWord ws l s) (nodeCount ws) (H .used q))
         | no q ↦
             let p : laneCount ws ≤ l = omega arith in
-            rw (le-ltb l (laneCount ws) p) (eq-eqb (hatWord ws l s) none (H .unused p))
+            rw (le-ltb l (laneCount ws) p) (eq-eqb (hatWord ws l s) noNode (H .unused p))
       ]
 
   hats-fit : laneCount ws ≤ mostLanes → allBelow mostLanes hats-test ≡ true → (l : ℕ) (s : Side)
@@ -210,7 +210,7 @@ module _ (ws : List ℕ) where
       both left q = and-left (hatOk ws l left) (hatOk ws l right) q
       both right q = and-right (hatOk ws l left) (hatOk ws l right) q
 
-      go : (d : Dec (l < mostLanes)) → HatFits (nodeCount ws) (laneCount ws) l (if d then hatWord ws l s else none)
+      go : (d : Dec (l < mostLanes)) → HatFits (nodeCount ws) (laneCount ws) l (if d then hatWord ws l s else noNode)
       go (yes q) = hat-fits l s (both s (below-all mostLanes hats-test h l q))
       go (no q) = record { used = λ p. absurd (omega arith); unused = λ p. refl }
 
@@ -237,7 +237,7 @@ module _ (ws : List ℕ) where
         hats-ok = hats-fit (well-sized ws length-passes .most-lanes) hats;
         links-ok =
             λ s.
-            column-all (NodeOrNone S) S none (linkWord ws s) (λ n. absurd (n refl)) (λ x l. node-links x (node x l) s);
+            column-all (NodeOrNone S) S noNode (linkWord ws s) (λ n. absurd (n refl)) (λ x l. node-links x (node x l) s);
         values-ok =
             column-all (λ u. valueOk u ≡ true) S (encode never) (valueWords ws) refl (λ x l. node-value x (node x l));
         records-ok =
@@ -260,7 +260,7 @@ module _ (ws : List ℕ) where
 
         link-ok : (s : Side) → nodeOrNone S (linkWord ws s x) ≡ true
         link-ok s =
-            rw (if-yes (x <? S) (linkWord ws s x) none l) at (node-or-none-ok S (link ws s x) (W .links-ok s x))
+            rw (if-yes (x <? S) (linkWord ws s x) noNode l) at (node-or-none-ok S (link ws s x) (W .links-ok s x))
 
     shaped-record : (k : ℕ) → k < taskCount ws → record-test k ≡ true
     unfolding record-test
@@ -271,7 +271,7 @@ module _ (ws : List ℕ) where
     shaped-hats l h = rw (fits-hat l left (fits left), fits-hat l right (fits right))
       where
         fits : (s : Side) → HatFits (nodeCount ws) (laneCount ws) l (hatWord ws l s)
-        fits s = rw (if-yes (l <? mostLanes) (hatWord ws l s) none h) at (W .hats-ok l s)
+        fits s = rw (if-yes (l <? mostLanes) (hatWord ws l s) noNode h) at (W .hats-ok l s)
 
     pub shape-ok : shapeOk ws ≡ true
     unfolding shapeOk record-test hats-test

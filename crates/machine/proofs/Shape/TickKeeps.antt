@@ -2,7 +2,7 @@
 use mathlib.Core.Path.{_≡_, refl, ap, sym, _∙_, subst}
 use mathlib.Core.Bool.{Bool, true, false}
 use mathlib.Core.List.{List}
-use mathlib.Core.Option.{Option, some, none as nothing}
+use mathlib.Core.Option.{Option, some, none}
 use Prim.Native.Nat.{ℕ, zero, suc, _<_}
 use native.Mathlib.Omega.{arith}
 use lib.Dec.{ltb, eqb}
@@ -155,7 +155,7 @@ module _ (ws : List ℕ) (W : WellShaped (columns ws)) where
 -- A tick that passes its tests is one of a busy task, with a node as its hint.
 pub tick-allowed :
     (ws : List ℕ) (k h : ℕ)
-    → tickRefusal ws k h ≡ nothing
+    → tickRefusal ws k h ≡ none
     → (k < taskCount ws) × (h < nodeCount ws) × (isBusy (task ws k .operation) ≡ true)
 tick-allowed ws k h e =
     let task-test : ltb k (taskCount ws) ≡ true = search test-passed in
@@ -176,7 +176,7 @@ busy-is-task ws k = go (k <? taskCount ws)
     go (no l) b = clash (cc)
 
 pub busy-passes : (ws : List ℕ) (k h : ℕ) → isBusy (task ws k .operation) ≡ true → h < nodeCount ws
-    → tickRefusal ws k h ≡ nothing
+    → tickRefusal ws k h ≡ none
 busy-passes ws k h b l = rw (lt-ltb k (taskCount ws) (busy-is-task ws k b), lt-ltb h (nodeCount ws) l, b)
 
 -- The words vs have the sizes of ws and the right shape; and 02: "A plain tick does not touch" the task last
@@ -235,10 +235,10 @@ module _ (ws : List ℕ) (Z : WellSized (sizesOf ws)) (W : WellShaped (columns w
           → Kept ws
           (elim r as (λ _. Ticked) [
             | some n ↦ record { answer = Refused n; words = ws }
-            | nothing ↦ applied (task ws k .lane) (task ws k .side) ws k (effectOf ws k h)
+            | none ↦ applied (task ws k .lane) (task ws k .side) ws k (effectOf ws k h)
           ] .words)
       go (some n) e = unchanged
-      go nothing e =
+      go none e =
           let allowed = tick-allowed ws k h e in
           let F = busy-facts ws W k (allowed .2) in
           applied-kept k (allowed .0) (task ws k .lane) (F .lane-ok) (task ws k .side)

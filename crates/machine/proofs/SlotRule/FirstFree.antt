@@ -8,7 +8,7 @@ use native.Mathlib.Omega.{arith}
 use native.Mathlib.Nat.{not-suc-le-zero}
 use lib.ListN.{getD}
 use Rattle.machine.specs.Choice.{_≟_, _<?_, _≤?_}
-use Rattle.machine.specs.Tasks.{none}
+use Rattle.machine.specs.Tasks.{noNode}
 use Rattle.machine.specs.Table.{nodeCount}
 use Rattle.machine.specs.Reach.{Reachable}
 use Rattle.machine.specs.Round.{following}
@@ -74,12 +74,12 @@ module _ (S : ℕ) (marks : List ℕ) where
     pub noMark : getD marks y 0 ≡ 0
     pub passed : MetMarked steps x
 
-  search-found : (n x : ℕ) → firstUnmarked S marks n x ≢ none → FirstUnmarked n x (firstUnmarked S marks n x)
+  search-found : (n x : ℕ) → firstUnmarked S marks n x ≢ noNode → FirstUnmarked n x (firstUnmarked S marks n x)
   search-found zero x f = absurd (f (firstUnmarked-end S marks x))
   search-found (suc n) x f = by (getD marks x 0 ≟ 0) (search-found n (following S x))
     where
       by : Dec (getD marks x 0 ≡ 0)
-          → (firstUnmarked S marks n (following S x) ≢ none
+          → (firstUnmarked S marks n (following S x) ≢ noNode
           → FirstUnmarked n (following S x) (firstUnmarked S marks n (following S x)))
           → FirstUnmarked (suc n) x (firstUnmarked S marks (suc n) x)
       by (yes e) later =
@@ -99,19 +99,19 @@ module _ (S : ℕ) (marks : List ℕ) where
           })
 
   -- The search from a node meets nodes only, and none is no node: so it gives none only if all that it met have a mark.
-  search-none : S ≤ largestCount → (n x : ℕ) → x < S → firstUnmarked S marks n x ≡ none → MetMarked n x
+  search-none : S ≤ largestCount → (n x : ℕ) → x < S → firstUnmarked S marks n x ≡ noNode → MetMarked n x
   search-none few zero x h q = met-none x
   search-none few (suc n) x h q = by (getD marks x 0 ≟ 0) (search-none few n (following S x) (following-below S x h))
     where
       by : Dec (getD marks x 0 ≡ 0)
-          → (firstUnmarked S marks n (following S x) ≡ none → MetMarked n (following S x))
+          → (firstUnmarked S marks n (following S x) ≡ noNode → MetMarked n (following S x))
           → MetMarked (suc n) x
       by (yes e) later = absurd (node-not-none few h (sym (firstUnmarked-here S marks n x e) ∙ q))
       by (no e) later = met-one-more n x e (later (sym (firstUnmarked-next S marks n x e) ∙ q))
 
 -- ---- What allocate gives.
 module _ {ws : List ℕ} (W : WellLinked ws) {hint : ℕ} (low : hint < nodeCount ws) where
-  pub allocate-first-free : allocate ws hint ≢ none → FirstFreeFrom ws hint (allocate ws hint)
+  pub allocate-first-free : allocate ws hint ≢ noNode → FirstFreeFrom ws hint (allocate ws hint)
   unfolding allocate
   allocate-first-free f =
       record {
@@ -128,7 +128,7 @@ module _ {ws : List ℕ} (W : WellLinked ws) {hint : ℕ} (low : hint < nodeCoun
       is-node : allocate ws hint < nodeCount ws
       is-node = rw (k .there) (nth-node (nodeCount ws) (k .steps) hint low)
 
-  pub allocate-none : allocate ws hint ≡ none → (x : ℕ) → x < nodeCount ws → Reachable ws x
+  pub allocate-none : allocate ws hint ≡ noNode → (x : ℕ) → x < nodeCount ws → Reachable ws x
   unfolding allocate
   allocate-none q x h =
       let m = nth-meets (nodeCount ws) hint x low h in
@@ -136,5 +136,5 @@ module _ {ws : List ℕ} (W : WellLinked ws) {hint : ℕ} (low : hint < nodeCoun
       (marked-reachable W
       (search-none (nodeCount ws) (marked ws .marks) (W .few) (nodeCount ws) hint low q (m .0) (m .1)))
 
-  pub allocate-not-kept : allocate ws hint ≢ none → keeps ws (allocate ws hint) ≡ false
+  pub allocate-not-kept : allocate ws hint ≢ noNode → keeps ws (allocate ws hint) ≡ false
   allocate-not-kept f = unreached-not-kept W (allocate-first-free f .free .unreached)

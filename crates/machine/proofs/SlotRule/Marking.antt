@@ -13,7 +13,7 @@ use lib.Seq.{getD-set-same, getD-set-other}
 use borrow.Author.Tests.{lt-ltb, le-ltb, eq-eqb, ne-eqb}
 use Rattle.machine.specs.Choice.{_≟_, _<?_}
 use Rattle.machine.specs.Sides.{Side, left, right}
-use Rattle.machine.specs.Tasks.{none}
+use Rattle.machine.specs.Tasks.{noNode}
 use Rattle.machine.specs.Table.{nodeCount, link}
 use Rattle.machine.specs.Round.{following}
 use Rattle.machine.specs.Allocate.{
@@ -239,7 +239,7 @@ pub firstUnmarked-next : (S : ℕ) (marks : List ℕ) (n i : ℕ) → getD marks
 unfolding firstUnmarked
 firstUnmarked-next S marks n i e = rw (ne-eqb (getD marks i 0) 0 e, firstUnmarked)
 
-pub firstUnmarked-end : (S : ℕ) (marks : List ℕ) (i : ℕ) → firstUnmarked S marks 0 i ≡ none
+pub firstUnmarked-end : (S : ℕ) (marks : List ℕ) (i : ℕ) → firstUnmarked S marks 0 i ≡ noNode
 unfolding firstUnmarked
 firstUnmarked-end S marks i = refl
 
@@ -254,7 +254,7 @@ module _ (S : ℕ) (marks : List ℕ) (k i u : ℕ) (q : firstUnmarked S marks (
   pub firstUnmarked-found : k < S → getD marks i 0 ≡ 0 → i ≡ u
   firstUnmarked-found l e = sym (firstUnmarked-here S marks (S - (k + 1)) i e) ∙ (rw (one-more l) at q)
 
-  pub firstUnmarked-none : S ≤ k → none ≡ u
+  pub firstUnmarked-none : S ≤ k → noNode ≡ u
   firstUnmarked-none l =
       let z : S - k ≡ 0 = omega arith in
       sym (firstUnmarked-end S marks i) ∙ (rw z at q)

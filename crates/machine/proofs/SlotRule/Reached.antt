@@ -12,7 +12,7 @@ use lib.Seq.{getD-set-other}
 use borrow.Author.Tests.{lt-ltb, ne-eqb, ltb-true, eqb-false, not-true}
 use Rattle.machine.specs.Choice.{_≟_, _<?_, if_then_else_}
 use Rattle.machine.specs.Sides.{Side, left, right}
-use Rattle.machine.specs.Tasks.{Task, none, fresh, taskOf, Register, inA, inB, inC, inD, register}
+use Rattle.machine.specs.Tasks.{Task, noNode, fresh, taskOf, Register, inA, inB, inC, inD, register}
 use Rattle.machine.specs.Registers.{holds, heldIn}
 use Rattle.machine.specs.Table.{nodeCount, taskCount, laneCount, hat, link, recordWords, task}
 use Rattle.machine.specs.Reach.{Reachable, from-hat, from-register, along}
@@ -58,11 +58,11 @@ use Rattle.machine.proofs.SlotRule.Marking.{
 pub record WellLinked (ws : List ℕ) : Type 0 where
   pub few : nodeCount ws ≤ largestCount
   pub hats : (l : ℕ) (s : Side) → l < laneCount ws → hat ws l s < nodeCount ws
-  pub links : (s : Side) (x : ℕ) → link ws s x ≢ none → link ws s x < nodeCount ws
-  pub registers : (k : ℕ) (r : Register) → register (task ws k) r ≢ none → register (task ws k) r < nodeCount ws
+  pub links : (s : Side) (x : ℕ) → link ws s x ≢ noNode → link ws s x < nodeCount ws
+  pub registers : (k : ℕ) (r : Register) → register (task ws k) r ≢ noNode → register (task ws k) r < nodeCount ws
 
 -- As there are few nodes, none is no node.
-pub node-not-none : {S x : ℕ} → S ≤ largestCount → x < S → x ≢ none
+pub node-not-none : {S x : ℕ} → S ≤ largestCount → x < S → x ≢ noNode
 node-not-none few h e = omega arith
 
 pub reachable-node : {ws : List ℕ} {x : ℕ} → WellLinked ws → Reachable ws x → x < nodeCount ws
@@ -72,17 +72,17 @@ reachable-node W (along s c n) = W .links s _ n
 
 -- ---- The roots are the hats and what the registers of the tasks hold.
 -- A number that is no task holds nothing.
-pub register-task : (ws : List ℕ) (k : ℕ) (r : Register) → register (task ws k) r ≢ none → k < taskCount ws
+pub register-task : (ws : List ℕ) (k : ℕ) (r : Register) → register (task ws k) r ≢ noNode → k < taskCount ws
 unfolding task
 register-task ws k r n = by (k <? taskCount ws) n
   where
-    fresh-none : (r′ : Register) → register fresh r′ ≡ none
+    fresh-none : (r′ : Register) → register fresh r′ ≡ noNode
     fresh-none inA = refl
     fresh-none inB = refl
     fresh-none inC = refl
     fresh-none inD = refl
 
-    by : (d : Dec (k < taskCount ws)) → register (if d then taskOf (recordWords ws k) else fresh) r ≢ none
+    by : (d : Dec (k < taskCount ws)) → register (if d then taskOf (recordWords ws k) else fresh) r ≢ noNode
         → k < taskCount ws
     by (yes l) f = l
     by (no l) f = absurd (f (fresh-none r))
@@ -284,8 +284,8 @@ module _ {ws : List ℕ} (W : WellLinked ws) where
       (λ k r. held-reachable k r (holds (task ws k .step) r) refl)
     where
       held-reachable : (k : ℕ) (r : Register) (b : Bool) → holds (task ws k .step) r ≡ b
-          → cond b (register (task ws k) r) none < nodeCount ws
-          → Reachable ws (cond b (register (task ws k) r) none)
+          → cond b (register (task ws k) r) noNode < nodeCount ws
+          → Reachable ws (cond b (register (task ws k) r) noNode)
       held-reachable k r true h l = from-register k r h (node-not-none (W .few) l)
       held-reachable k r false h l = absurd (node-not-none (W .few) l refl)
 
@@ -348,11 +348,11 @@ module _ {ws : List ℕ} (W : WellLinked ws) where
   pub keeps-hat : (l : ℕ) (s : Side) → l < laneCount ws → keeps ws (hat ws l s) ≡ true
   keeps-hat l s h = reachable-keeps (from-hat l s h)
 
-  pub keeps-register : (k : ℕ) (r : Register) → holds (task ws k .step) r ≡ true → register (task ws k) r ≢ none
+  pub keeps-register : (k : ℕ) (r : Register) → holds (task ws k .step) r ≡ true → register (task ws k) r ≢ noNode
       → keeps ws (register (task ws k) r) ≡ true
   keeps-register k r h n = reachable-keeps (from-register k r h n)
 
-  pub keeps-link : (s : Side) (x : ℕ) → keeps ws x ≡ true → link ws s x ≢ none → keeps ws (link ws s x) ≡ true
+  pub keeps-link : (s : Side) (x : ℕ) → keeps ws x ≡ true → link ws s x ≢ noNode → keeps ws (link ws s x) ≡ true
   keeps-link s x h n = reachable-keeps (along s (keeps-reachable h) n)
 
   pub unreached-not-kept : {x : ℕ} → (Reachable ws x → ⊥) → keeps ws x ≡ false

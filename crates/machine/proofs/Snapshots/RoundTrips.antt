@@ -3,7 +3,7 @@
 use mathlib.Core.Path.{_≡_, refl, sym, ap, _∙_, subst}
 use mathlib.Core.Bool.{true}
 use mathlib.Core.List.{List}
-use mathlib.Core.Option.{Option, some, none as nothing}
+use mathlib.Core.Option.{Option, some, none}
 use Prim.Native.Nat.{ℕ, _+_, _-_, _≤_, _<_}
 use native.Mathlib.Omega.{arith}
 use lib.Dec.{eqb}
@@ -48,19 +48,19 @@ use Rattle.machine.proofs.Snapshots.Reordered.{
 }
 
 -- ---- A change that is accepted or refused.
-pub no-refusal : (r : Option ℕ) (before after : List ℕ) → changed r before after .reply ≡ Accepted → r ≡ nothing
+pub no-refusal : (r : Option ℕ) (before after : List ℕ) → changed r before after .reply ≡ Accepted → r ≡ none
 no-refusal (some n) before after e = clash (cc)
-no-refusal nothing before after e = refl
+no-refusal none before after e = refl
 
 pub refused-with : (r : Option ℕ) (before after : List ℕ) {n : ℕ} → changed r before after .reply ≡ Reply-Refused n
     → r ≡ some n
 refused-with (some m) before after e = cc
-refused-with nothing before after e = clash (cc)
+refused-with none before after e = clash (cc)
 
 refused-leaves : (r : Option ℕ) (before after : List ℕ) (n : ℕ) → changed r before after .reply ≡ Reply-Refused n
     → changed r before after .words ≡ before
 refused-leaves (some m) before after n e = refl
-refused-leaves nothing before after n e = clash (cc)
+refused-leaves none before after n e = clash (cc)
 
 -- ---- Room for the nodes.
 
@@ -100,7 +100,7 @@ pub record WrittenOver (tested other words : List ℕ) (c : Changed) : Type 0 wh
 pub taken : (ws out : List ℕ) → takeSnapshot ws out .reply ≡ Accepted → WrittenOver ws out (byColumns ws) (takeSnapshot ws out)
 unfolding takeSnapshot
 taken ws out accepted =
-    let e = no-refusal (snapshotRefusal out ws (tableRefusal ws nothing)) out (byColumns ws) accepted in
+    let e = no-refusal (snapshotRefusal out ws (tableRefusal ws none)) out (byColumns ws) accepted in
     record {
       same-length = eqb-true (length out) (length ws) (test-passed (eqb (length out) (length ws)) 22 _ e);
       well-formed = is-accepted ws (tests-left (eqb (length out) (length ws)) 22 _ e);
@@ -110,7 +110,7 @@ taken ws out accepted =
 pub put : (ss old : List ℕ) → putBack ss old .reply ≡ Accepted → WrittenOver (byNodes ss) old (byNodes ss) (putBack ss old)
 unfolding putBack
 put ss old accepted =
-    let e = no-refusal (snapshotRefusal ss old (tableRefusal (byNodes ss) nothing)) old (byNodes ss) accepted in
+    let e = no-refusal (snapshotRefusal ss old (tableRefusal (byNodes ss) none)) old (byNodes ss) accepted in
     let W = is-accepted (byNodes ss) (tests-left (eqb (length ss) (length old)) 22 _ e) in
     record {
       same-length =
@@ -124,17 +124,17 @@ put ss old accepted =
 pub take-accepted : (ws out : List ℕ) → WellFormed ws → length out ≡ length ws
     → takeSnapshot ws out ≡ record { reply = Accepted; words = byColumns ws }
 unfolding takeSnapshot
-take-accepted ws out W long = rw (eq-eqb (length out) (length ws) long, table-passes ws W nothing)
+take-accepted ws out W long = rw (eq-eqb (length out) (length ws) long, table-passes ws W none)
 
 put-accepted : (ss old : List ℕ) → WellFormed (byNodes ss) → length ss ≡ length old
     → putBack ss old ≡ record { reply = Accepted; words = byNodes ss }
 unfolding putBack
-put-accepted ss old W long = rw (eq-eqb (length ss) (length old) long, table-passes (byNodes ss) W nothing)
+put-accepted ss old W long = rw (eq-eqb (length ss) (length old) long, table-passes (byNodes ss) W none)
 
 pub put-refused : (ss ws : List ℕ) (n : ℕ) → putBack ss ws .reply ≡ Reply-Refused n → putBack ss ws .words ≡ ws
 unfolding putBack
 put-refused ss ws n e =
-    refused-leaves (snapshotRefusal ss ws (tableRefusal (byNodes ss) nothing)) ws (byNodes ss) n e
+    refused-leaves (snapshotRefusal ss ws (tableRefusal (byNodes ss) none)) ws (byNodes ss) n e
 
 -- ---- What is promised.
 module _ (ws out : List ℕ) (accepted : takeSnapshot ws out .reply ≡ Accepted) where

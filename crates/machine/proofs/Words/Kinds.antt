@@ -4,7 +4,7 @@
 use mathlib.Core.Path.{_≡_, refl, sym, ap, _∙_, subst}
 use mathlib.Core.Bool.{Bool, true, false}
 use mathlib.Core.List.{List, [], _∷_}
-use mathlib.Core.Option.{Option, some, none as nothing}
+use mathlib.Core.Option.{Option, some, none}
 use Prim.Native.Nat.{ℕ, zero, suc}
 use lib.Dec.{ltb}
 use lib.ListN.{drop}
@@ -106,7 +106,7 @@ use Rattle.machine.proofs.Words.DispatchLaws.{one-dispatch, kept-in-dis
 -- What comes of a call on the table ws, by what it asks for: the table that it leaves, and what it did. A look, a refused
 -- start and a refused begin leave it alone.
 pub data Comes (ws : List ℕ) : Asked → (vs : List ℕ) → Did → Type 0 where
-  left-alone : (a : Asked) → dispatchesIn a ≡ nothing → Comes ws a ws (ticked [])
+  left-alone : (a : Asked) → dispatchesIn a ≡ none → Comes ws a ws (ticked [])
   is-started :
       (S T g L : ℕ)
       → start ws S T g L .reply ≡ Accepted
@@ -134,24 +134,24 @@ ticks-come list ws ts x =
 -- A tick: refused by its table, or the first tick of the list.
 tick-ends : (ws : List ℕ) (k h : ℕ) (list : List ℕ) → EndsAt (k ∷ h ∷ list) ws (tick ws k h .words)
 unfolding tick afterTicks
-tick-ends ws k h list = go (tableRefusal ws nothing) refl
+tick-ends ws k h list = go (tableRefusal ws none) refl
   where
-    go : (r : Option ℕ) → tableRefusal ws nothing ≡ r → EndsAt (k ∷ h ∷ list) ws (tick ws k h .words)
+    go : (r : Option ℕ) → tableRefusal ws none ≡ r → EndsAt (k ∷ h ∷ list) ws (tick ws k h .words)
     go (some n) e = (0, rw (e, tick))
-    go nothing e = (1, rw (e, tick))
+    go none e = (1, rw (e, tick))
 
 -- A tick that goes on has passed the tests of its table.
 going-passes : (ws : List ℕ) (k h : ℕ) → isGoing (tick ws k h .answer) ≡ true → tick ws k h ≡ tickOn ws k h
 unfolding tick
-going-passes ws k h going = go (tableRefusal ws nothing) refl going
+going-passes ws k h going = go (tableRefusal ws none) refl going
   where
     outcome : Option ℕ → Ticked
     outcome r =
-        elim r as (λ _. Ticked) [ some n ↦ record { answer = Refused n; words = ws } | nothing ↦ tickOn ws k h ]
+        elim r as (λ _. Ticked) [ some n ↦ record { answer = Refused n; words = ws } | none ↦ tickOn ws k h ]
 
-    go : (r : Option ℕ) → tableRefusal ws nothing ≡ r → isGoing (outcome r .answer) ≡ true → outcome r ≡ tickOn ws k h
+    go : (r : Option ℕ) → tableRefusal ws none ≡ r → isGoing (outcome r .answer) ≡ true → outcome r ≡ tickOn ws k h
     go (some n) e q = clash (cc)
-    go nothing e q = refl
+    go none e q = refl
 
 ticks-end : (n : ℕ) (ws : List ℕ) (k h : ℕ) → EndsAt (times n (k ∷ h ∷ [])) ws (ticks n ws k h .words)
 unfolding ticks afterTicks times
@@ -189,7 +189,7 @@ run-ends (k ∷ h ∷ list) ws answers =
     first r =
         elim r as (λ _. RunDone) [
           | some n ↦ stopped n ws answers
-          | nothing ↦ afterTick (tickOn ws k h .answer) others
+          | none ↦ afterTick (tickOn ws k h .answer) others
         ]
 
     go :
@@ -197,18 +197,18 @@ run-ends (k ∷ h ∷ list) ws answers =
         → afterTicks (others .ran .made) list (tickOn ws k h .words) ≡ others .words
         → afterTicks (first r .ran .made) (k ∷ h ∷ list) ws ≡ first r .words
     go (some n) e = refl
-    go nothing e = e
+    go none e = e
 
 tested-ends : (r : Option ℕ) (ws list answers : List ℕ) → EndsAt list ws (tested r ws list answers .words)
 unfolding afterTicks
 tested-ends (some n) ws list answers = (0, refl)
-tested-ends nothing ws list answers = (runOn list ws answers .ran .made, run-ends list ws answers)
+tested-ends none ws list answers = (runOn list ws answers .ran .made, run-ends list ws answers)
 
 -- ---- Every call.
 refused-words : (r : Option ℕ) (before after : List ℕ) {n : ℕ} → changed r before after .reply ≡ Reply-Refused n
     → before ≡ changed r before after .words
 refused-words (some m) before after e = refl
-refused-words nothing before after e = clash (cc)
+refused-words none before after e = clash (cc)
 
 start-comes : (ws : List ℕ) (S T g L : ℕ)
     → Comes ws (a-start S T g L) (start ws S T g L .words) (startDid T L (start ws S T g L .reply))
@@ -305,7 +305,7 @@ pub record SameLooks (ws vs : List ℕ) : Type 0 where
 -- A look at a lane: it is refused by 3, 4 or 26, or told by the lane.
 abbrev lookAt : {R : Type 0} (l : ℕ) (refused : ℕ → R) (told : Option (List ℕ) → R) → List ℕ → R
 lookAt {R} l refused told ws =
-    elim (laneRefusal ws l nothing) as (λ _. R) [ some n ↦ refused n | nothing ↦ told (lane ws l) ]
+    elim (laneRefusal ws l none) as (λ _. R) [ some n ↦ refused n | none ↦ told (lane ws l) ]
 
 module _ {ws vs : List ℕ} (L : SameLooks ws vs) where
   below-same : (n : ℕ) → lanesBelow vs n ≡ lanesBelow ws n
@@ -325,7 +325,7 @@ module _ {ws vs : List ℕ} (L : SameLooks ws vs) where
   twice-same push n others = rw lanes-same (go (allLanes ws))
     where
       go : (bags : Option (List ℕ)) → seenRefusal vs n bags others ≡ seenRefusal ws n bags others
-      go nothing = refl
+      go none = refl
       go (some bags) = rw (L .same-count, begun-same (taskCount ws) n)
   twice-same idle n others = refl
   twice-same pop n others = refl
@@ -359,24 +359,24 @@ module _ {ws vs : List ℕ} (L : SameLooks ws vs) where
 
       same-reply : (r : Option ℕ) → changed r vs begun-there .reply ≡ changed r ws begun-here .reply
       same-reply (some n) = refl
-      same-reply nothing = refl
+      same-reply none = refl
 
   look-same : {R : Type 0} (l : ℕ) (refused : ℕ → R) (told : Option (List ℕ) → R)
       → lookAt l refused told vs ≡ lookAt l refused told ws
-  look-same {R} l refused told = ap (given-by vs) same ∙ go (laneRefusal ws l nothing)
+  look-same {R} l refused told = ap (given-by vs) same ∙ go (laneRefusal ws l none)
     where
-      same : laneRefusal vs l nothing ≡ laneRefusal ws l nothing
+      same : laneRefusal vs l none ≡ laneRefusal ws l none
       same =
-          L .passes′ (unless (ltb l (laneCount vs)) 26 nothing)
-          ∙ ap (λ (n : ℕ). unless (ltb l n) 26 nothing) (L .same-lanes)
-          ∙ sym (L .passes (unless (ltb l (laneCount ws)) 26 nothing))
+          L .passes′ (unless (ltb l (laneCount vs)) 26 none)
+          ∙ ap (λ (n : ℕ). unless (ltb l n) 26 none) (L .same-lanes)
+          ∙ sym (L .passes (unless (ltb l (laneCount ws)) 26 none))
 
       given-by : List ℕ → Option ℕ → R
-      given-by xs r = elim r as (λ _. R) [ some n ↦ refused n | nothing ↦ told (lane xs l) ]
+      given-by xs r = elim r as (λ _. R) [ some n ↦ refused n | none ↦ told (lane xs l) ]
 
       go : (r : Option ℕ) → given-by vs r ≡ given-by ws r
       go (some n) = refl
-      go nothing = ap told (L .same-lane l)
+      go none = ap told (L .same-lane l)
 
   read-same : (l : ℕ) (out : List ℕ) → read vs l out ≡ read ws l out
   unfolding read

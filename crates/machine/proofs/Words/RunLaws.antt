@@ -2,7 +2,7 @@
 use mathlib.Core.Path.{_≡_, refl, ap, sym, _∙_}
 use mathlib.Core.Bool.{Bool, true, false}
 use mathlib.Core.List.{List, _∷_}
-use mathlib.Core.Option.{Option, some, none as nothing}
+use mathlib.Core.Option.{Option, some, none}
 use Prim.Native.Nat.{ℕ, zero, suc, _≤_}
 use native.Mathlib.Omega.{arith}
 use lib.ListN.{drop}
@@ -17,7 +17,7 @@ use Rattle.machine.proofs.Words.TickLaws.{tick-number}
 module _ (k h : ℕ) (list ws answers : List ℕ) where
   unfoldable pub by-first : Option ℕ → RunDone
   by-first (some n) = stopped n ws answers
-  by-first nothing = afterTick (tickOn ws k h .answer) (runOn list (tickOn ws k h .words) (drop answerLength answers))
+  by-first none = afterTick (tickOn ws k h .answer) (runOn list (tickOn ws k h .words) (drop answerLength answers))
 
   pub first-tick : (r : Option ℕ) → refusalOf (tickOn ws k h .answer) ≡ r → runOn (k ∷ h ∷ list) ws answers ≡ by-first r
   unfolding runOn by-first
@@ -28,11 +28,11 @@ module _ (k h : ℕ) (list ws answers : List ℕ) where
           (r : Option ℕ)
           → elim r as (λ _. RunDone) [
             | some n ↦ stopped n ws answers
-            | nothing ↦ afterTick (tickOn ws k h .answer) (runOn list (tickOn ws k h .words) (drop answerLength answers))
+            | none ↦ afterTick (tickOn ws k h .answer) (runOn list (tickOn ws k h .words) (drop answerLength answers))
           ]
           ≡ by-first r
       by-outcome (some n) = refl
-      by-outcome nothing = refl
+      by-outcome none = refl
 
 -- ---- Consecutive ticks.
 pub going-answer : (a : Answer) → isGoing a ≡ true → a ≡ Going
@@ -73,9 +73,9 @@ module _ (P : List ℕ → Type 0) (k h : ℕ) (keeps : (ws : List ℕ) → P ws
       → P ws
       → Q (ticks n ws k h)
   unfolding ticks
-  by-last-tick Q none last zero ws p = none ws p
-  by-last-tick Q none last (suc n) ws p =
-      go (isGoing (tick ws k h .answer)) (by-last-tick Q none last n (tick ws k h .words) (keeps ws p))
+  by-last-tick Q none-asked last zero ws p = none-asked ws p
+  by-last-tick Q none-asked last (suc n) ws p =
+      go (isGoing (tick ws k h .answer)) (by-last-tick Q none-asked last n (tick ws k h .words) (keeps ws p))
     where
       go : (b : Bool) → Q (ticks n (tick ws k h .words) k h)
           → Q (elim b as (λ _. Ticked) [ true ↦ ticks n (tick ws k h .words) k h | false ↦ tick ws k h ])

@@ -10,7 +10,7 @@ use native.Mathlib.Decide.{ℕ-discrete}
 use Rattle.machine.specs.Choice.{_≟_, _<?_, if_then_else_}
 use Rattle.machine.specs.Sides.{Side, left, right, sideNumber}
 use Rattle.machine.specs.Values.{Value, never, X, encode, storedAt}
-use Rattle.machine.specs.Tasks.{Task, none, fresh, recordLength, wordsOf}
+use Rattle.machine.specs.Tasks.{Task, noNode, fresh, recordLength, wordsOf}
 use Rattle.machine.specs.Table.{
   nodeLength,
   nodeAt,
@@ -68,8 +68,8 @@ times-at (suc n) l (suc i) c h k =
 
 -- ---- 02's started table, as functions: node x is of lane x / 2, and of its left side where x is even.
 abbrev pub startLink : (lanes : ℕ) → Side → ℕ → ℕ
-startLink L left x = if x <? 2 * L then (if x % 2 ≟ 0 then none else x - 1) else none
-startLink L right x = if x <? 2 * L then (if x % 2 ≟ 0 then x + 1 else none) else none
+startLink L left x = if x <? 2 * L then (if x % 2 ≟ 0 then noNode else x - 1) else noNode
+startLink L right x = if x <? 2 * L then (if x % 2 ≟ 0 then x + 1 else noNode) else noNode
 
 abbrev pub startValue : (lanes : ℕ) → ℕ → Value
 startValue L x = if x <? 2 * L then (if x % 2 ≟ 0 then X left else X right) else never
@@ -98,7 +98,7 @@ startColumns S T g L =
 
 -- A lane's two nodes.
 abbrev pair : ℕ → List ℕ
-pair l = nodeWords none (2 * l + 1) (X left) ++ nodeWords (2 * l) none (X right)
+pair l = nodeWords noNode (2 * l + 1) (X left) ++ nodeWords (2 * l) noNode (X right)
 
 pairLength : ℕ
 pairLength = 2 * nodeLength
@@ -129,7 +129,7 @@ pair-at (suc n) l (suc i) c h k =
 -- ---- The words of start, read.
 module _ (S T g L : ℕ) (room : 2 * L ≤ S) where
   spare : List ℕ
-  spare = nodeWords none none never
+  spare = nodeWords noNode noNode never
 
   front : List ℕ
   front = headerWords S T g L 0 (T - 1) (startHat L)
@@ -201,42 +201,42 @@ module _ (S T g L : ℕ) (room : 2 * L ≤ S) where
 
   -- ---- A node's words, by its place in its pair.
   pair-left : (x : ℕ) (d : Dec (x % 2 ≡ 0))
-      → getD (pair (x / 2)) (nodeLength * (x % 2) + sideNumber left) 0 ≡ (if d then none else x - 1)
+      → getD (pair (x / 2)) (nodeLength * (x % 2) + sideNumber left) 0 ≡ (if d then noNode else x - 1)
   pair-left x (yes e) = rw e
   pair-left x (no e) = let q : x % 2 ≡ 1 = omega arith in rw q (omega arith)
 
   pair-right : (x : ℕ) (d : Dec (x % 2 ≡ 0))
-      → getD (pair (x / 2)) (nodeLength * (x % 2) + sideNumber right) 0 ≡ (if d then x + 1 else none)
+      → getD (pair (x / 2)) (nodeLength * (x % 2) + sideNumber right) 0 ≡ (if d then x + 1 else noNode)
   pair-right x (yes e) = rw e (omega arith)
   pair-right x (no e) = let q : x % 2 ≡ 1 = omega arith in rw q
 
   pair-link : (s : Side) (x : ℕ) → x < 2 * L
       → getD (pair (x / 2)) (nodeLength * (x % 2) + sideNumber s) 0 ≡ startLink L s x
   pair-link left x h =
-      pair-left x (x % 2 ≟ 0) ∙ sym (if-yes (x <? 2 * L) (if x % 2 ≟ 0 then none else x - 1) none h)
+      pair-left x (x % 2 ≟ 0) ∙ sym (if-yes (x <? 2 * L) (if x % 2 ≟ 0 then noNode else x - 1) noNode h)
   pair-link right x h =
-      pair-right x (x % 2 ≟ 0) ∙ sym (if-yes (x <? 2 * L) (if x % 2 ≟ 0 then x + 1 else none) none h)
+      pair-right x (x % 2 ≟ 0) ∙ sym (if-yes (x <? 2 * L) (if x % 2 ≟ 0 then x + 1 else noNode) noNode h)
 
   pair-value : (x : ℕ) (d : Dec (x % 2 ≡ 0))
       → storedAt (pair (x / 2)) (nodeLength * (x % 2) + linksLength) ≡ encode (if d then X left else X right)
   pair-value x (yes e) = rw e
   pair-value x (no e) = let q : x % 2 ≡ 1 = omega arith in rw q
 
-  spare-link : (s : Side) → getD spare (sideNumber s) 0 ≡ none
+  spare-link : (s : Side) → getD spare (sideNumber s) 0 ≡ noNode
   unfolding spare
   spare-link left = refl
   spare-link right = refl
 
-  link-else : (s : Side) (x : ℕ) → 2 * L ≤ x → startLink L s x ≡ none
-  link-else left x h = if-no (x <? 2 * L) (if x % 2 ≟ 0 then none else x - 1) none (λ l. omega arith)
-  link-else right x h = if-no (x <? 2 * L) (if x % 2 ≟ 0 then x + 1 else none) none (λ l. omega arith)
+  link-else : (s : Side) (x : ℕ) → 2 * L ≤ x → startLink L s x ≡ noNode
+  link-else left x h = if-no (x <? 2 * L) (if x % 2 ≟ 0 then noNode else x - 1) noNode (λ l. omega arith)
+  link-else right x h = if-no (x <? 2 * L) (if x % 2 ≟ 0 then x + 1 else noNode) noNode (λ l. omega arith)
 
   link-start : (s : Side) (x : ℕ) → link (startWords S T g L) s x ≡ startLink L s x
   unfolding link startWords
   link-start s x = go (x <? S) (x <? 2 * L)
     where
       go : (d : Dec (x < S)) → Dec (x < 2 * L)
-          → (if d then linkWord (startWords S T g L) s x else none) ≡ startLink L s x
+          → (if d then linkWord (startWords S T g L) s x else noNode) ≡ startLink L s x
       go (yes l) (yes h) = node-at x (sideNumber s) h (omega (arith, side-small s)) ∙ pair-link s x h
       go (yes l) (no h) =
           spare-at x (sideNumber s) (omega arith) l (omega (arith, side-small s))
@@ -294,9 +294,9 @@ module _ (S T g L : ℕ) (room : 2 * L ≤ S) where
     unfolding hat
     hat-start l s = go (l <? mostLanes)
       where
-        go : (d : Dec (l < mostLanes)) → (if d then hatWord (startWords S T g L) l s else none) ≡ startHat L l s
+        go : (d : Dec (l < mostLanes)) → (if d then hatWord (startWords S T g L) l s else noNode) ≡ startHat L l s
         go (yes h) = hat-word l s h
-        go (no h) = sym (if-no (l <? L) (2 * l + sideNumber s) none (λ q. omega arith))
+        go (no h) = sym (if-no (l <? L) (2 * l + sideNumber s) noNode (λ q. omega arith))
 
     pub columns-start : columns (startWords S T g L) ≡ startColumns S T g L
     unfolding startWords

@@ -20,7 +20,7 @@ use native.Mathlib.Omega.{arith}
 use Rattle.machine.specs.Choice.{_<?_, if_then_else_}
 use Rattle.machine.specs.Sides.{Side, left, right, sideNumber}
 use Rattle.machine.specs.Values.{never, encode}
-use Rattle.machine.specs.Tasks.{none, fresh, recordLength, wordsOf}
+use Rattle.machine.specs.Tasks.{noNode, fresh, recordLength, wordsOf}
 use Rattle.machine.specs.Table.{
   headerLength,
   nodeLength,
@@ -139,7 +139,7 @@ unfolding hat
 hats-kept ws vs same = fun-ext (λ l. fun-ext (λ s. go l s (l <? mostLanes)))
   where
     go : (l : ℕ) (s : Side) (d : Dec (l < mostLanes))
-        → (if d then hatWord vs l s else none) ≡ (if d then hatWord ws l s else none)
+        → (if d then hatWord vs l s else noNode) ≡ (if d then hatWord ws l s else noNode)
     go l s (yes h) = same l s h
     go l s (no h) = refl
 
@@ -171,7 +171,7 @@ module _ {ws vs : List ℕ} {p n : ℕ} (W : Wrote ws vs p n) (past-sizes : tick
     unfolding link
     links-off =
         fun-ext (λ s.
-        column-kept none (linkWord ws s) (linkWord vs s) same-nodes
+        column-kept noNode (linkWord ws s) (linkWord vs s) same-nodes
         (λ x h. let b = side-small s in off x (nodeAt x + sideNumber s) h (omega arith) (omega arith)))
 
     pub values-off : columns vs .values ≡ columns ws .values

@@ -8,7 +8,7 @@ use native.Mathlib.Omega.{arith}
 use Rattle.machine.specs.Choice.{_<?_, _≟_, if_then_else_}
 use Rattle.machine.specs.Sides.{Side, left, right, opposite}
 use Rattle.machine.specs.Values.{Value, never, encode, storedLength, storedWords}
-use Rattle.machine.specs.Tasks.{Task, none, fresh, recordLength, wordsOf}
+use Rattle.machine.specs.Tasks.{Task, noNode, fresh, recordLength, wordsOf}
 use Rattle.machine.specs.Table.{
   nodeCount,
   taskCount,
@@ -75,7 +75,7 @@ module _ (ws : List ℕ) (sized : Sized (sizesOf ws)) (l : ℕ) (is-lane : l < m
 
   hat-is : (vs : List ℕ) (z : Side) → hat vs l z ≡ hatWord vs l z
   unfolding hat
-  hat-is vs z = if-yes (l <? mostLanes) (hatWord vs l z) none is-lane
+  hat-is vs z = if-yes (l <? mostLanes) (hatWord vs l z) noNode is-lane
 
   own-hats : hat (setHat l s x ws) l ≡ updateSide (hat ws l) s x
   own-hats =
@@ -90,7 +90,7 @@ module _ (ws : List ℕ) (sized : Sized (sizesOf ws)) (l : ℕ) (is-lane : l < m
   other-hats j ne = fun-ext (λ z. go z (j <? mostLanes))
     where
       go : (z : Side) (d : Dec (j < mostLanes))
-          → (if d then hatWord (setHat l s x ws) j z else none) ≡ (if d then hatWord ws j z else none)
+          → (if d then hatWord (setHat l s x ws) j z else noNode) ≡ (if d then hatWord ws j z else noNode)
       go z (yes h) =
           getD-set-other ws (hatAt l s) (hatAt j z) x 0
           (λ e. let a = side-small s in let b = side-small z in absurd (ne (omega arith)))
@@ -147,7 +147,7 @@ module _ (ws : List ℕ) (sized : Sized (sizesOf ws)) (s : Side) (x y : ℕ) (is
       let p = linkAt s x in
       let b = side-small s in
       let nodes = same-nodes link-wrote (omega arith) in
-      column-written none (linkWord ws s) (linkWord (setLink s x y ws) s) nodes x y is-node
+      column-written noNode (linkWord ws s) (linkWord (setLink s x y ws) s) nodes x y is-node
       (getD-set-same ws p y 0 (omega arith))
       (λ z l n. getD-set-other ws p (linkAt s z) y 0 (λ e. n (omega arith)))
 
@@ -155,7 +155,7 @@ module _ (ws : List ℕ) (sized : Sized (sizesOf ws)) (s : Side) (x y : ℕ) (is
   unfolding link
   far-link-after =
       let o = opposite s in
-      column-kept none (linkWord ws o) (linkWord (setLink s x y ws) o) (same-nodes link-wrote (omega arith))
+      column-kept noNode (linkWord ws o) (linkWord (setLink s x y ws) o) (same-nodes link-wrote (omega arith))
       (λ z l. getD-set-other ws (linkAt s x) (linkAt o z) y 0 (links-apart s z x))
 
   values-after-link : columns (setLink s x y ws) .values ≡ columns ws .values
@@ -183,7 +183,7 @@ module _ (ws : List ℕ) (sized : Sized (sizesOf ws)) (x : ℕ) (v : Value) (is-
   unfolding link
   links-after-value =
       fun-ext (λ s.
-      column-kept none (linkWord ws s) (linkWord (setValue x v ws) s) (same-nodes value-wrote (omega arith))
+      column-kept noNode (linkWord ws s) (linkWord (setValue x v ws) s) (same-nodes value-wrote (omega arith))
       (λ z l. value-wrote .other (linkAt s z) (apart s z (z <? x))))
     where
       apart : (s : Side) (z : ℕ) → Dec (z < x) → (linkAt s z < valueAt x) ⊎ (valueAt x + storedLength ≤ linkAt s z)

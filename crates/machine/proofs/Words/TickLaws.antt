@@ -2,7 +2,7 @@
 use mathlib.Core.Path.{_≡_, refl, sym, ap, _∙_, subst}
 use mathlib.Core.Bool.{Bool, true, false}
 use mathlib.Core.List.{List}
-use mathlib.Core.Option.{Option, some, none as nothing}
+use mathlib.Core.Option.{Option, some, none}
 use Prim.Native.Nat.{ℕ, _+_, _%_, _^_, _≤_, zero-le, _<_}
 use native.Mathlib.Omega.{arith}
 use lib.Dec.{ltb}
@@ -47,7 +47,7 @@ use Rattle.machine.proofs.Shape.TickKeeps.{tick-allowed, busy-facts, ef
 pub fit-effect :
     (S g L : ℕ) {e : Effect}
     → Fits S g L e
-    → refusalOf (e .answer) ≡ nothing
+    → refusalOf (e .answer) ≡ none
     → AllInRange S (e .writes) × HasWord (e .task .value)
 fit-effect S g L turns-back made = clash (cc)
 fit-effect S g L (goes-on {l} fit F) made = (all-in-range S l fit, F .has-word)
@@ -61,11 +61,11 @@ applied-answer j s ws k e = go (refusalOf (e .answer))
         (r : Option ℕ)
         → elim r as (λ _. Ticked) [
           | some n ↦ record { answer = e .answer; words = ws }
-          | nothing ↦ record { answer = e .answer; words = effectWords j s (e .writes) k (e .task) ws }
+          | none ↦ record { answer = e .answer; words = effectWords j s (e .writes) k (e .task) ws }
         ] .answer
         ≡ e .answer
     go (some n) = refl
-    go nothing = refl
+    go none = refl
 
 applied-refused : (j : ℕ) (s : Side) (ws : List ℕ) (k : ℕ) (e : Effect) {n : ℕ} → refusalOf (e .answer) ≡ some n
     → applied j s ws k e .words ≡ ws
@@ -79,7 +79,7 @@ unfolding tickOn
 tick-stopped ws k h e = rw (e, tickOn)
 
 -- A tick that passes its tests: k is a busy task, h a node.
-module _ (ws : List ℕ) (k h : ℕ) (allowed : tickRefusal ws k h ≡ nothing) where
+module _ (ws : List ℕ) (k h : ℕ) (allowed : tickRefusal ws k h ≡ none) where
   pub tick-answer : tickOn ws k h .answer ≡ effectOf ws k h .answer
   unfolding tickOn
   tick-answer = rw (allowed, tickOn) (applied-answer (task ws k .lane) (task ws k .side) ws k (effectOf ws k h))
@@ -93,7 +93,7 @@ module _ (ws : List ℕ) (k h : ℕ) (allowed : tickRefusal ws k h ≡ nothing) 
   module _
       (Z : WellSized (sizesOf ws))
       (W : WellShaped (columns ws))
-      (made : refusalOf (effectOf ws k h .answer) ≡ nothing) where
+      (made : refusalOf (effectOf ws k h .answer) ≡ none) where
     own-lane : task ws k .lane < mostLanes
     own-lane =
         let F = busy-facts ws W k (tick-allowed ws k h allowed .2) in
@@ -152,7 +152,7 @@ refused-unchanged ws k h e = go (tickRefusal ws k h) refl
   where
     go : (r : Option ℕ) → tickRefusal ws k h ≡ r → tickOn ws k h .words ≡ ws
     go (some m) q = ap (λ (t : Ticked). t .words) (tick-stopped ws k h q)
-    go nothing q = tick-refused ws k h q (ap refusalOf (sym (tick-answer ws k h q)) ∙ e)
+    go none q = tick-refused ws k h q (ap refusalOf (sym (tick-answer ws k h q)) ∙ e)
 
 -- ---- The number that a tick answers with, of a bag or of a refusal, is at most the largest tag.
 fit-number : (S g L : ℕ) {e : Effect} → Fits S g L e → payloadOf (e .answer) ≤ largestTag
@@ -171,11 +171,11 @@ small-number :
 small-number true n others h rest m e = rest m e
 small-number false n others h rest m e = let q : n ≡ m = cc in omega arith
 
-no-number : (m : ℕ) → nothing ≡ some m → m ≤ largestTag
+no-number : (m : ℕ) → none ≡ some m → m ≤ largestTag
 no-number m e = clash (cc)
 
 -- A tick that is made ends with an answer that fits.
-fit-answer : (S g L : ℕ) {e : Effect} → Fits S g L e → refusalOf (e .answer) ≡ nothing → AnswerFits (e .answer)
+fit-answer : (S g L : ℕ) {e : Effect} → Fits S g L e → refusalOf (e .answer) ≡ none → AnswerFits (e .answer)
 fit-answer S g L turns-back made = clash (cc)
 fit-answer S g L (goes-on fit F) made = tt
 fit-answer S g L (ends fit answers) made = answers
@@ -183,8 +183,8 @@ fit-answer S g L (ends fit answers) made = answers
 pub made-answer-fits :
     (ws : List ℕ) (k h : ℕ)
     → WellShaped (columns ws)
-    → tickRefusal ws k h ≡ nothing
-    → refusalOf (tickOn ws k h .answer) ≡ nothing
+    → tickRefusal ws k h ≡ none
+    → refusalOf (tickOn ws k h .answer) ≡ none
     → AnswerFits (tickOn ws k h .answer)
 made-answer-fits ws k h W e made =
     let a = tick-allowed ws k h e in
@@ -204,28 +204,28 @@ tick-on-number ws k h W = go (tickRefusal ws k h) refl
 
     go : (r : Option ℕ) → tickRefusal ws k h ≡ r → payloadOf (tickOn ws k h .answer) ≤ largestTag
     go (some n) e = rw (tick-stopped ws k h e) (small n e)
-    go nothing e =
+    go none e =
         let a = tick-allowed ws k h e in
         rw (tick-answer ws k h e)
         (fit-number (nodeCount ws) (growth ws) (laneCount ws) (effect-fits ws W k h (a .1) (a .2)))
 
 pub tick-number : (ws : List ℕ) (k h : ℕ) → payloadOf (tick ws k h .answer) ≤ largestTag
 unfolding tick
-tick-number ws k h = go (tableRefusal ws nothing) refl
+tick-number ws k h = go (tableRefusal ws none) refl
   where
-    small : (m : ℕ) → tableRefusal ws nothing ≡ some m → m ≤ largestTag
+    small : (m : ℕ) → tableRefusal ws none ≡ some m → m ≤ largestTag
     small = small-number (lengthOk ws) 3 _ (omega arith) (small-number (shapeOk ws) 4 _ (omega arith) no-number)
 
     go :
         (r : Option ℕ)
-        → tableRefusal ws nothing ≡ r
+        → tableRefusal ws none ≡ r
         → payloadOf (elim r as (λ _. Ticked) [
           | some n ↦ record { answer = Refused n; words = ws }
-          | nothing ↦ tickOn ws k h
+          | none ↦ tickOn ws k h
         ] .answer)
         ≤ largestTag
     go (some n) e = small n e
-    go nothing e =
+    go none e =
         let length-test : lengthOk ws ≡ true = search test-passed in
         let shape-test : shapeOk ws ≡ true = search (test-passed, tests-left) in
         tick-on-number ws k h (well-shaped ws length-test shape-test)
@@ -245,17 +245,17 @@ dispatch-number ws h = tested (dispatchRefusal ws h) refl
         → refusalOf (tickOn ws k h .answer) ≡ r
         → dispatchPayloadOf (dispatchTo ws k h .answer) ≤ largestTag
     ticked k low (some n) e = rw (e, dispatchTo) low
-    ticked k low nothing e = rw (e, dispatchTo) low
+    ticked k low none e = rw (e, dispatchTo) low
 
     chosen : WellShaped (columns ws) → (o : Option ℕ) → nextBusy ws ≡ o
         → dispatchPayloadOf (dispatchOn ws h .answer) ≤ largestTag
-    chosen W nothing e = rw (e, dispatchOn) (omega arith)
+    chosen W none e = rw (e, dispatchOn) (omega arith)
     chosen W (some k) e =
         rw (e, dispatchOn) (ticked k (tick-on-number ws k h W) (refusalOf (tickOn ws k h .answer)) refl)
 
     tested : (r : Option ℕ) → dispatchRefusal ws h ≡ r → dispatchPayloadOf (dispatch ws h .answer) ≤ largestTag
     tested (some n) e = rw (e, dispatch) (small n e)
-    tested nothing e =
+    tested none e =
         let length-test : lengthOk ws ≡ true = search test-passed in
         let shape-test : shapeOk ws ≡ true = search (test-passed, tests-left) in
         rw (e, dispatch) (chosen (well-shaped ws length-test shape-test) (nextBusy ws) refl)

@@ -10,7 +10,7 @@ use Rattle.machine.specs.Sides.{Side}
 use Rattle.machine.specs.Values.{Value, never, N, Y, _≟ᵛ_}
 use Rattle.machine.specs.Operations.{add}
 use Rattle.machine.specs.Steps.{line15, line17}
-use Rattle.machine.specs.Tasks.{Task, none, further}
+use Rattle.machine.specs.Tasks.{Task, noNode, further}
 use Rattle.machine.specs.Table.{nodeCount, growth, laneCount, hat, value}
 use Rattle.machine.specs.Lines.{Effect, next, act}
 use Rattle.machine.specs.Calls.{begunTask}
@@ -104,7 +104,7 @@ module _ (end : CallEnd) (k v : ℕ) where
       (hat-at : m .hats ℓ s ≡ spare end 0) (C : Chain end m d (suc i) new)
       (few : i ≤ v) (all : (i ≡ v) ⊎ AllBut m d)
       (spur-same : value ws (hat ws ℓ s) ≡ Y s → m .val (hat ws ℓ s) ≡ Y s) where
-    d-some : d ≢ none
+    d-some : d ≢ noNode
     d-some e = C .not-none 0 (omega arith) (sym (C .head) ∙ e)
 
     module _ (x : ℕ) (x-last : x ≡ spare end (spares end - 1)) where
@@ -150,7 +150,7 @@ module _ (end : CallEnd) (k v : ℕ) where
       (all : (i ≡ v) ⊎ AllUsed end m d)
       (y : value ws (hat ws ℓ s) ≡ Y s) (on-H : m .hats ℓ s ≡ hat ws ℓ s)
       (same-H : SameIn (viewed s ws) m (hat ws ℓ s)) where
-    H-some : m .hats ℓ s ≢ none
+    H-some : m .hats ℓ s ≢ noNode
     H-some e = reached-some (end .begun) (from-hat ℓ s (end .is-lane)) (sym on-H ∙ e)
 
     H-Y : m .val (m .hats ℓ s) ≡ Y s
@@ -217,9 +217,9 @@ module _ (end : CallEnd) (k v : ℕ) where
 
   pub add-leads : Leads k ℓ s (nodeCount ws) (laneCount ws) (growth ws) AddLeaves (begunTask ℓ add s v) (viewed s ws)
   add-leads =
-      build-leads end k (growth ws) AddLeaves t0 never none none none (hat ws)
+      build-leads end k (growth ws) AddLeaves t0 never noNode noNode noNode (hat ws)
       (λ m d i new St same-hats C few all.
-      by-hat m d i new St same-hats C few all (St .hat-now) never none none none)
+      by-hat m d i new St same-hats C few all (St .hat-now) never noNode noNode noNode)
       (viewed s ws) 0 (first-stage first-hat) refl
       (λ used.
       ending (λ e. clash (cc)) (λ vs A.

@@ -9,10 +9,10 @@ use Rattle.machine.specs.Choice.{_≟_}
 use Rattle.machine.specs.Sides.{Side}
 use Rattle.machine.specs.Values.{Value, N, X}
 use Rattle.machine.specs.Steps.{line15, line28, line31}
-use Rattle.machine.specs.Tasks.{Task, none, goal, further}
+use Rattle.machine.specs.Tasks.{Task, noNode, goal, further}
 use Rattle.machine.specs.Table.{nodeCount, laneCount, hat}
 use Rattle.machine.specs.Allocate.{allocate}
-use Rattle.machine.specs.Lines.{Effect, out≔, inn≔, val≔, next, answers, writing, noNode, act}
+use Rattle.machine.specs.Lines.{Effect, out≔, inn≔, val≔, next, answers, writing, noneFree, act}
 use Rattle.machine_capacity.specs.NoLeak.{IdleTable}
 use Rattle.machine.proofs.Basics.Updates.{update, update-same, update-other}
 use Rattle.machine.proofs.Words.Memories.{View, viewed}
@@ -46,9 +46,9 @@ module _ (end : CallEnd) where
     pub N-before : (i : ℕ) → suc i < c → m .val (new i) ≡ N s
     pub X-last : (i : ℕ) → suc i ≡ c → m .val (new i) ≡ X s
     pub leads : (i : ℕ) → suc i < c → m .out (new i) ≡ new (suc i)
-    pub first-in : m .inn (new 0) ≡ none
+    pub first-in : m .inn (new 0) ≡ noNode
     pub not-alive : (i : ℕ) → i < c → Alive end (new i) → ⊥
-    pub not-none : (i : ℕ) → i < c → new i ≢ none
+    pub not-none : (i : ℕ) → i < c → new i ≢ noNode
     pub not-hat : (i : ℕ) → i < c → new i ≢ m .hats ℓ s
 
   chain-reached : {m : View} {d c : ℕ} {new : ℕ → ℕ} → Chain m d c new → (i : ℕ) → i < c
@@ -119,12 +119,12 @@ module _ (end : CallEnd) where
     module _ (built : Built) where
       -- One node more.
       module _ (m : View) (d n f : ℕ) (new : ℕ → ℕ) (St : Stage end m) (C : Chain m d (suc n) new)
-          (f-some : f ≢ none) (unused : Reach (laneCount ws) m d f → ⊥) where
+          (f-some : f ≢ noNode) (unused : Reach (laneCount ws) m d f → ⊥) where
         abbrev m' : View
         m' =
             record {
               out = update (m .out) f d;
-              inn = update (update (m .inn) f none) d f;
+              inn = update (update (m .inn) f noNode) d f;
               val = update (m .val) f (N s);
               hats = m .hats;
             }
@@ -151,7 +151,7 @@ module _ (end : CallEnd) where
         stage-more =
             kept-stage St d f d-dead f-dead d-off f-off refl
             (λ x nf nd. update-other (m .out) f d x nf)
-            (λ x nf nd. update-other (update (m .inn) f none) d f x nd ∙ update-other (m .inn) f none x nf)
+            (λ x nf nd. update-other (update (m .inn) f noNode) d f x nd ∙ update-other (m .inn) f noNode x nf)
             (λ x nf nd. update-other (m .val) f (N s) x nf)
 
         more : ℕ → ℕ
@@ -168,7 +168,7 @@ module _ (end : CallEnd) where
               X-last = X-now;
               leads = leads-now;
               first-in =
-                  update-other (update (m .inn) f none) d f f (λ e. d-f (sym e)) ∙ update-same (m .inn) f none;
+                  update-other (update (m .inn) f noNode) d f f (λ e. d-f (sym e)) ∙ update-same (m .inn) f noNode;
               not-alive = dead-now;
               not-none = some-now;
               not-hat = off-now;
@@ -193,7 +193,7 @@ module _ (end : CallEnd) where
             dead-now zero l = f-dead
             dead-now (suc i) l = C .not-alive i (omega arith)
 
-            some-now : (i : ℕ) → i < suc (suc n) → more i ≢ none
+            some-now : (i : ℕ) → i < suc (suc n) → more i ≢ noNode
             some-now zero l = f-some
             some-now (suc i) l = C .not-none i (omega arith)
 
@@ -230,7 +230,7 @@ module _ (end : CallEnd) where
           (λ st.
           writing
           (val≔ (allocate us h) (N s)
-          ∷ inn≔ (allocate us h) none
+          ∷ inn≔ (allocate us h) noNode
           ∷ out≔ (allocate us h) d
           ∷ inn≔ d (allocate us h)
           ∷ [])
@@ -259,13 +259,13 @@ module _ (end : CallEnd) where
           (λ m' d' new' St' q C' ne. more-leads fuel m' d' (suc n) new' St' q C' (omega arith))
 
       -- The first node.
-      module _ (m : View) (f : ℕ) (St : Stage end m) (f-some : f ≢ none)
-          (unused : Reach (laneCount ws) m none f → ⊥) where
+      module _ (m : View) (f : ℕ) (St : Stage end m) (f-some : f ≢ noNode)
+          (unused : Reach (laneCount ws) m noNode f → ⊥) where
         abbrev m1 : View
         m1 =
             record {
-              out = update (m .out) f none;
-              inn = update (m .inn) f none;
+              out = update (m .out) f noNode;
+              inn = update (m .inn) f noNode;
               val = update (m .val) f (X s);
               hats = m .hats;
             }
@@ -274,13 +274,13 @@ module _ (end : CallEnd) where
         dead x = unused (alive-reached end St x)
 
         off : f ≢ m .hats ℓ s
-        off e = unused (subst (Reach (laneCount ws) m none) (sym e) (at-hat ℓ s (end .is-lane)))
+        off e = unused (subst (Reach (laneCount ws) m noNode) (sym e) (at-hat ℓ s (end .is-lane)))
 
         stage-one : Stage end m1
         stage-one =
             kept-stage St f f dead dead off off refl
-            (λ x nf nd. update-other (m .out) f none x nf)
-            (λ x nf nd. update-other (m .inn) f none x nf)
+            (λ x nf nd. update-other (m .out) f noNode x nf)
+            (λ x nf nd. update-other (m .inn) f noNode x nf)
             (λ x nf nd. update-other (m .val) f (X s) x nf)
 
         chain-one : Chain m1 f 1 (λ _. f)
@@ -291,7 +291,7 @@ module _ (end : CallEnd) where
               N-before = λ i l. absurd (omega arith);
               X-last = λ i l. update-same (m .val) f (X s);
               leads = λ i l. absurd (omega arith);
-              first-in = update-same (m .inn) f none;
+              first-in = update-same (m .inn) f noNode;
               not-alive = λ i l. dead;
               not-none = λ i l. f-some;
               not-hat = λ i l. off;
@@ -300,8 +300,8 @@ module _ (end : CallEnd) where
       -- Line 28.
       pub build-leads : (m : View) (n : ℕ) → Stage end m
           → m .hats ≡ hats0
-          → (AllUsed m none → Next k ℓ s (nodeCount ws) (laneCount ws) g Q m (answers (noNode (t0 .operation))))
-          → Leads k ℓ s (nodeCount ws) (laneCount ws) g Q (further t0 line28 n u a b c none) m
+          → (AllUsed m noNode → Next k ℓ s (nodeCount ws) (laneCount ws) g Q m (answers (noneFree (t0 .operation))))
+          → Leads k ℓ s (nodeCount ws) (laneCount ws) g Q (further t0 line28 n u a b c noNode) m
       unfolding act
       build-leads m n St same none-free =
           search-leads k ℓ s _ _ _ _ (λ us P nodes lanes h low.
@@ -309,14 +309,14 @@ module _ (end : CallEnd) where
           ok-if (Next′ m) (λ e. e) (_ ≟ _)
           (λ none-left.
           none-free (λ x l.
-          subst (λ (i : ℕ). Reach i m none x) lanes
+          subst (λ (i : ℕ). Reach i m noNode x) lanes
           (found-none k ℓ s P R h low none-left x (subst (λ (i : ℕ). x < i) (sym nodes) l))))
           (λ some-left.
           let f = allocate us h in
-          let unused : Reach (laneCount ws) m none (allocate us h) → ⊥ =
-          λ x. found-new k ℓ s P R h low some-left (subst (λ (i : ℕ). Reach i m none (allocate us h)) (sym lanes) x) in
+          let unused : Reach (laneCount ws) m noNode (allocate us h) → ⊥ =
+          λ x. found-new k ℓ s P R h low some-left (subst (λ (i : ℕ). Reach i m noNode (allocate us h)) (sym lanes) x) in
           ok-if (Next′ m)
-          (λ st. writing (out≔ (allocate us h) none ∷ inn≔ (allocate us h) none ∷ val≔ (allocate us h) (X s) ∷ [])
+          (λ st. writing (out≔ (allocate us h) noNode ∷ inn≔ (allocate us h) noNode ∷ val≔ (allocate us h) (X s) ∷ [])
           (next (further t0 line28 0 u a b c (allocate us h)) st)) (_ ≟ _)
           (λ done.
           going refl

@@ -11,7 +11,7 @@ use Rattle.machine.specs.Sides.{Side}
 use Rattle.machine.specs.Values.{Value, N, X, Y, _≟ᵛ_}
 use Rattle.machine.specs.Operations.{remove}
 use Rattle.machine.specs.Steps.{line64, line74, line77, line81, line82}
-use Rattle.machine.specs.Tasks.{Task, none, further}
+use Rattle.machine.specs.Tasks.{Task, noNode, further}
 use Rattle.machine.specs.Table.{nodeCount, growth, laneCount, hat, link, value}
 use Rattle.machine.specs.Lines.{Effect, next, writing, act}
 use Rattle.machine.specs.Calls.{begunTask}
@@ -93,7 +93,7 @@ module _ (end : CallEnd) (k v : ℕ) where
     pub off-Y : value ws (hat ws ℓ s) ≢ Y s
     off-Y y = not-Y own-spares (ap (value ws) (sym hat-at) ∙ y)
 
-    pub some-at : (i x : ℕ) → i < spares end → x ≡ spare end i → x ≢ none
+    pub some-at : (i x : ℕ) → i < spares end → x ≡ spare end i → x ≢ noNode
     some-at i x l e q = at-some end i l (sym e ∙ q)
 
     differ : (i j : ℕ) → i < spares end → j < spares end → i ≢ j
@@ -137,7 +137,7 @@ module _ (end : CallEnd) (k v : ℕ) where
     -- An outward link of the own end, behind v, set to none.
     module _ {m : View} {j : ℕ} (C : Cut m j) (x : ℕ) (e : x ≡ spare end j) (l : j < spares end) where
       abbrev unlinked : View
-      unlinked = record { out = update (m .out) x none; inn = m .inn; val = m .val; hats = m .hats }
+      unlinked = record { out = update (m .out) x noNode; inn = m .inn; val = m .val; hats = m .hats }
 
       at-not-x : (i : ℕ) → i < spares end → i ≢ j → spare end i ≢ x
       at-not-x i li ne q = differ i j li l ne (q ∙ e)
@@ -148,7 +148,7 @@ module _ (end : CallEnd) (k v : ℕ) where
             safe = λ y a n.
                 let w = C .others .safe y a n in
                 record {
-                  same-out = update-other (m .out) x none y (own-other j x l e y n) ∙ w .same-out;
+                  same-out = update-other (m .out) x noNode y (own-other j x l e y n) ∙ w .same-out;
                   same-inn = w .same-inn;
                   same-val = w .same-val;
                 };
@@ -160,7 +160,7 @@ module _ (end : CallEnd) (k v : ℕ) where
     at-82 : (m : View) (j : ℕ) → Cut m j → (x n : ℕ) (u : Value) (b c : ℕ) → x ≡ spare end j
         → j < spares end
         → v + 2 < spares end
-        → Leads′ (further t0 line82 n u x b c none) m
+        → Leads′ (further t0 line82 n u x b c noNode) m
     unfolding act
     at-82 m j C x n u b c e l more =
         line-leads k ℓ s _ _ _ _ (λ f.
@@ -175,9 +175,9 @@ module _ (end : CallEnd) (k v : ℕ) where
           keep-val = C .keep-val;
           last-val = C .last-val;
           keep-out = λ i h.
-              update-other (m .out) x none _ (at-not-x C x e l i (omega arith) (λ q. omega arith)) ∙ C .keep-out i h;
+              update-other (m .out) x noNode _ (at-not-x C x e l i (omega arith) (λ q. omega arith)) ∙ C .keep-out i h;
           rest-out = λ i h li.
-              update-other (m .out) x none _ (at-not-x C x e l i li (λ q. omega arith))
+              update-other (m .out) x noNode _ (at-not-x C x e l i li (λ q. omega arith))
               ∙ C .rest-out i (omega arith) li;
           rest-val = λ i h li. C .rest-val i (omega arith) li;
         }) more A)))
@@ -189,7 +189,7 @@ module _ (end : CallEnd) (k v : ℕ) where
       marked = record { out = m .out; inn = m .inn; val = update (m .val) b (Y s); hats = m .hats }
 
       abbrev onward : View
-      onward = record { out = update (m .out) x none; inn = m .inn; val = update (m .val) b (Y s); hats = m .hats }
+      onward = record { out = update (m .out) x noNode; inn = m .inn; val = update (m .val) b (Y s); hats = m .hats }
 
       not-b : (i : ℕ) → i < spares end → i ≢ suc j → spare end i ≢ b
       not-b i li ne q = differ i (suc j) li l ne (q ∙ eb)
@@ -207,7 +207,7 @@ module _ (end : CallEnd) (k v : ℕ) where
                   safe = λ y a n.
                       let w = C .others .safe y a n in
                       record {
-                        same-out = update-other (m .out) x none y (own-other j x (omega arith) e y n) ∙ w .same-out;
+                        same-out = update-other (m .out) x noNode y (own-other j x (omega arith) e y n) ∙ w .same-out;
                         same-inn = w .same-inn;
                         same-val = update-other (m .val) b (Y s) y (own-other (suc j) b l eb y n) ∙ w .same-val;
                       };
@@ -220,9 +220,9 @@ module _ (end : CallEnd) (k v : ℕ) where
             last-val =
                 update-other (m .val) b (Y s) _ (not-b v (omega arith) (λ q. omega arith)) ∙ C .last-val;
             keep-out = λ i h.
-                update-other (m .out) x none _ (not-x i (omega arith) (λ q. omega arith)) ∙ C .keep-out i h;
+                update-other (m .out) x noNode _ (not-x i (omega arith) (λ q. omega arith)) ∙ C .keep-out i h;
             rest-out = λ i h li.
-                update-other (m .out) x none _ (not-x i li (λ q. omega arith)) ∙ C .rest-out i (omega arith) li;
+                update-other (m .out) x noNode _ (not-x i li (λ q. omega arith)) ∙ C .rest-out i (omega arith) li;
             rest-val = λ i h li.
                 update-other (m .val) b (Y s) _ (not-b i li (λ q. omega arith)) ∙ C .rest-val i (omega arith) li;
           }
@@ -234,16 +234,16 @@ module _ (end : CallEnd) (k v : ℕ) where
       read-b : m .val b ≡ value ws (spare end (suc j))
       read-b = ap (m .val) eb ∙ C .rest-val (suc j) (omega arith) l
 
-      x-some : x ≢ none
+      x-some : x ≢ noNode
       x-some = some-at j x (omega arith) e
 
-      b-some : b ≢ none
+      b-some : b ≢ noNode
       b-some = some-at (suc j) b l eb
 
       -- Line 81 is told what comes next.
-      next-node : (n : ℕ) (c : ℕ) → Leads′ (further t0 line81 n (m .val b) b b c none) onward
+      next-node : (n : ℕ) (c : ℕ) → Leads′ (further t0 line81 n (m .val b) b b c noNode) onward
           → (u : Value)
-          → Leads′ (further t0 line77 n u x b c none) m
+          → Leads′ (further t0 line77 n u x b c noNode) m
       unfolding act
       next-node n c on-81 u =
           line-leads k ℓ s _ _ _ _ (λ f.
@@ -262,13 +262,13 @@ module _ (end : CallEnd) (k v : ℕ) where
         → b ≡ spare end (suc j)
         → suc (suc (j + fuel)) ≡ spares end
         → v + 2 < spares end
-        → Leads′ (further t0 line77 n u x b c none) m
+        → Leads′ (further t0 line77 n u x b c noNode) m
     unfolding act
     loop zero j m C x b n u c e eb l more =
         let h : suc j < spares end = omega arith in
         let m′ = onward C x b e eb h in
-        let t81 : ℕ → Task = λ b′. further t0 line81 n (m .val b) b b′ c none in
-        let ends-here : m′ .out b ≡ none =
+        let t81 : ℕ → Task = λ b′. further t0 line81 n (m .val b) b b′ c noNode in
+        let ends-here : m′ .out b ≡ noNode =
         on-b C x b e eb h ∙ last-none (own-lane end) s (suc j) (omega arith) in
         next-node C x b e eb h n c
         (line-leads k ℓ s _ _ _ _ (λ f.
@@ -282,7 +282,7 @@ module _ (end : CallEnd) (k v : ℕ) where
     loop (suc fuel) j m C x b n u c e eb l more =
         let h : suc j < spares end = omega arith in
         let m′ = onward C x b e eb h in
-        let t81 : ℕ → Task = λ b′. further t0 line81 n (m .val b) b b′ c none in
+        let t81 : ℕ → Task = λ b′. further t0 line81 n (m .val b) b b′ c noNode in
         let on : m′ .out b ≡ spare end (suc (suc j)) =
         on-b C x b e eb h ∙ own-spares .leads (suc j) (omega arith) in
         let is-N : m .val b ≡ N s = read-b C x b e eb h ∙ own-spares .N-before (suc j) (omega arith) in
@@ -306,7 +306,7 @@ module _ (end : CallEnd) (k v : ℕ) where
       abbrev m64 : View
       m64 =
           record {
-            out = update (m0 .out) x none;
+            out = update (m0 .out) x noNode;
             inn = m0 .inn;
             val = update (update (m0 .val) x (X s)) b (Y s);
             hats = m0 .hats;
@@ -332,7 +332,7 @@ module _ (end : CallEnd) (k v : ℕ) where
                 record {
                   safe = λ y a n.
                       record {
-                        same-out = update-other (m0 .out) x none y (own-other v x (omega arith) e y n);
+                        same-out = update-other (m0 .out) x noNode y (own-other v x (omega arith) e y n);
                         same-inn = refl;
                         same-val =
                             update-other (update (m0 .val) x (X s)) b (Y s) y (own-other (suc v) b (omega arith) eb y n)
@@ -349,9 +349,9 @@ module _ (end : CallEnd) (k v : ℕ) where
                 ∙ ap (update (m0 .val) x (X s)) (sym e)
                 ∙ update-same (m0 .val) x (X s);
             keep-out = λ i h.
-                update-other (m0 .out) x none _ (no-x i (omega arith) (λ q. omega arith))
+                update-other (m0 .out) x noNode _ (no-x i (omega arith) (λ q. omega arith))
                 ∙ own-spares .leads i (omega arith);
-            rest-out = λ i h li. update-other (m0 .out) x none _ (no-x i li (λ q. omega arith));
+            rest-out = λ i h li. update-other (m0 .out) x noNode _ (no-x i li (λ q. omega arith));
             rest-val = λ i h li. val-then i li (λ q. omega arith) (λ q. omega arith);
           }
 
@@ -364,22 +364,22 @@ module _ (end : CallEnd) (k v : ℕ) where
       to-b : link ws s x ≡ b
       to-b = ap (link ws s) e ∙ own-spares .leads v (omega arith) ∙ sym eb
 
-      at-74 : (n : ℕ) (u : Value) (c : ℕ) → Leads′ (further t0 line74 n u x b c none) m64
+      at-74 : (n : ℕ) (u : Value) (c : ℕ) → Leads′ (further t0 line74 n u x b c noNode) m64
       unfolding act
       at-74 n u c =
           line-leads k ℓ s _ _ _ _ (λ f.
           ok-through (Next′ m64) (λ z. absurd (some-at (suc v) b (omega arith) eb z)) (λ _.
-          ok-if (Next′ m64) (λ st. next (further t0 line74 n u b (m64 .out b) c none) st) (_ ≟ _)
+          ok-if (Next′ m64) (λ st. next (further t0 line74 n u b (m64 .out b) c noNode) st) (_ ≟ _)
           (λ z. absurd (some-at (suc (suc v)) _ (omega arith) on-first z))
           (λ _.
           going refl
           (loop (spares end - suc (suc (suc v))) (suc v) m64 cut-first b (m64 .out b) n u c eb on-first
           (omega arith) more))))
 
-      pub at-64 : (n : ℕ) (u : Value) (c : ℕ) → Leads′ (further t0 line64 n u x b c none) m62
+      pub at-64 : (n : ℕ) (u : Value) (c : ℕ) → Leads′ (further t0 line64 n u x b c noNode) m62
       unfolding act
       at-64 n u c =
           line-leads k ℓ s _ _ _ _ (λ f.
           ok-through (Next′ m62) (λ z. absurd (some-at v x (omega arith) e z)) (λ _.
-          ok-if (Next′ m62) (λ l. writing l (next (further t0 line64 n u x b c none) line74)) (_ ≟ _)
+          ok-if (Next′ m62) (λ l. writing l (next (further t0 line64 n u x b c noNode) line74)) (_ ≟ _)
           (λ _. going refl (at-74 n u c)) (λ ne. absurd (ne to-b))))

@@ -8,7 +8,7 @@ use native.Mathlib.Omega.{arith}
 use lib.ListN.{length}
 use Rattle.machine.specs.Sides.{Side, left, right, opposite}
 use Rattle.machine.specs.Values.{N, X, Y}
-use Rattle.machine.specs.Tasks.{none}
+use Rattle.machine.specs.Tasks.{noNode}
 use Rattle.machine.specs.Table.{hat, link, value}
 use Rattle.machine_capacity.specs.NoLeak.{MainList, HatPlace, in-list, beside, LaneShape, listOf, IdleLane}
 use Rattle.machine_capacity.specs.Alone.{spareOf, spurOf}
@@ -186,7 +186,7 @@ module _ {ws : List ℕ} {ℓ : ℕ} {I : LaneShape} (K : IdleLane ws ℓ I) whe
       }
 
   -- The last spare node leads to none, and the first one inward to the node before.
-  pub last-none : (z : Side) (i : ℕ) → suc i ≡ spareOf z I → link ws z (spareAt z I i) ≡ none
+  pub last-none : (z : Side) (i : ℕ) → suc i ≡ spareOf z I → link ws z (spareAt z I i) ≡ noNode
   last-none left i h = let e : I .l - suc i ≡ 0 = omega arith in ap (λ (j : ℕ). link ws left (I .at j)) e ∙ M .left-end
   last-none right i h = M .right-end (I .l + length (I .bags) + i) (omega arith)
 

@@ -7,7 +7,7 @@ use native.Mathlib.Omega.{arith}
 use Rattle.machine.specs.Choice.{_<?_, if_then_else_}
 use Rattle.machine.specs.Sides.{Side, left, right}
 use Rattle.machine.specs.Values.{bag, N, X}
-use Rattle.machine.specs.Tasks.{none}
+use Rattle.machine.specs.Tasks.{noNode}
 use Rattle.machine.specs.Table.{nodeCount, growth, laneCount, hat, value}
 use Rattle.machine.specs.Reach.{Reachable}
 use Rattle.machine_capacity.specs.NoLeak.{in-list, LaneShape, IdleTable}
@@ -107,11 +107,11 @@ module _ (end : CallEnd) where
       at-0 = hat-is s vs (A .sees) ℓ s ∙ E .hat-at
 
   -- What is reached in the last view is reached in the table.
-  pub reached-by : {m : View} {vs : List ℕ} → AnsweredAt m vs → {x : ℕ} → Reach (laneCount ws) m none x → Reachable vs x
+  pub reached-by : {m : View} {vs : List ℕ} → AnsweredAt m vs → {x : ℕ} → Reach (laneCount ws) m noNode x → Reachable vs x
   reached-by {m} {vs} A {x} c =
       from-view s vs (idle-root (A .begun) (A .idle-now))
-      (subst (λ (i : ℕ). Reach i (viewed s vs) none x) (sym (A .same-lanes))
-      (subst (λ (y : View). Reach (laneCount ws) y none x) (sym (A .sees)) c))
+      (subst (λ (i : ℕ). Reach i (viewed s vs) noNode x) (sym (A .same-lanes))
+      (subst (λ (y : View). Reach (laneCount ws) y noNode x) (sym (A .sees)) c))
 
   -- ---- Before anything is written.
   pub own-first : {m : View} → Stage end m → m .hats ℓ s ≡ spare end 0
@@ -179,33 +179,33 @@ module _ (end : CallEnd) where
           }
 
       -- All that was reached is reached.
-      module _ (h-some : m .hats ℓ s ≢ none) (back : m .inn (at' 1) ≡ at' 0) where
+      module _ (h-some : m .hats ℓ s ≢ noNode) (back : m .inn (at' 1) ≡ at' 0) where
         abbrev h : ℕ
         h = m .hats ℓ s
 
         hat-put : bagPut .hats ℓ s ≡ at' 1
         hat-put = own-put .hat-at
 
-        reach-h : Reach (laneCount ws) bagPut none h
+        reach-h : Reach (laneCount ws) bagPut noNode h
         reach-h =
-            let here : Reach (laneCount ws) bagPut none (at' 1) =
-            subst (Reach (laneCount ws) bagPut none) hat-put (at-hat ℓ s (end .is-lane)) in
+            let here : Reach (laneCount ws) bagPut noNode (at' 1) =
+            subst (Reach (laneCount ws) bagPut noNode) hat-put (at-hat ℓ s (end .is-lane)) in
             let q : m .inn (at' 1) ≡ h = back ∙ sym (E .hat-at) in
-            subst (Reach (laneCount ws) bagPut none) q (inward here (λ e. h-some (sym q ∙ e)))
+            subst (Reach (laneCount ws) bagPut noNode) q (inward here (λ e. h-some (sym q ∙ e)))
 
-        pub reach-put : {x : ℕ} → Reach (laneCount ws) m none x → Reach (laneCount ws) bagPut none x
+        pub reach-put : {x : ℕ} → Reach (laneCount ws) m noNode x → Reach (laneCount ws) bagPut noNode x
         reach-put (at-hat j z l) =
             elim (equal? j ℓ) [
               | inr nj ↦
-                  subst (Reach (laneCount ws) bagPut none)
+                  subst (Reach (laneCount ws) bagPut noNode)
                   (other-hat (m .hats) (m .out (m .hats ℓ s)) (sides s) {j = j} {z = z} (inl nj)) (at-hat j z l)
               | inl e ↦
                   elim (sides s .either z) [
                     | inr q ↦
-                        subst (Reach (laneCount ws) bagPut none)
+                        subst (Reach (laneCount ws) bagPut noNode)
                         (other-hat (m .hats) (m .out (m .hats ℓ s)) (sides s) {j = j} {z = z} (inr q)) (at-hat j z l)
                     | inl q ↦
-                        subst (Reach (laneCount ws) bagPut none)
+                        subst (Reach (laneCount ws) bagPut noNode)
                         (sym (ap (λ (i : ℕ). m .hats i z) e ∙ ap (m .hats ℓ) q)) reach-h
                   ]
             ]
@@ -352,42 +352,42 @@ module _ (end : CallEnd) where
         ]
 
     -- All that was reached is reached.
-    reach-own : (i : ℕ) → i < spares end → Reach (laneCount ws) mA none (spare end i)
-    reach-own zero l = subst (Reach (laneCount ws) mA none) hat-at (at-hat ℓ s (end .is-lane))
+    reach-own : (i : ℕ) → i < spares end → Reach (laneCount ws) mA noNode (spare end i)
+    reach-own zero l = subst (Reach (laneCount ws) mA noNode) hat-at (at-hat ℓ s (end .is-lane))
     reach-own (suc i) l =
         let q : mA .out (spare end i) ≡ spare end (suc i) =
         update-other (m .out) x d _ (old-not-x i l) ∙ first-own .leads i l in
-        subst (Reach (laneCount ws) mA none) q
+        subst (Reach (laneCount ws) mA noNode) q
         (outward (reach-own i (omega arith)) (λ e. at-some end (suc i) l (sym q ∙ e)))
 
-    x-out : m .out x ≡ none
+    x-out : m .out x ≡ noNode
     x-out =
         ap (m .out) x-last
         ∙ St .same _ (spare-alive end _ (omega (arith, some-at))) .same-out
         ∙ last-none (own-lane end) s (spares end - 1) (omega (arith, some-at))
 
-    d-inn : m .inn d ≡ none
+    d-inn : m .inn d ≡ noNode
     d-inn = ap (m .inn) (C .head) ∙ C .first-in
 
     pub reach-spliced : {y : ℕ} → Reach (laneCount ws) m d y
-        → Reach (laneCount ws) mA none y
+        → Reach (laneCount ws) mA noNode y
     reach-spliced (at-hat j z l) = at-hat j z l
     reach-spliced (at-root ne) =
-        let here : Reach (laneCount ws) mA none x =
-        subst (Reach (laneCount ws) mA none) (sym x-last) (reach-own (spares end - 1) (omega (arith, some-at))) in
+        let here : Reach (laneCount ws) mA noNode x =
+        subst (Reach (laneCount ws) mA noNode) (sym x-last) (reach-own (spares end - 1) (omega (arith, some-at))) in
         let q : mA .out x ≡ d = update-same (m .out) x d in
-        subst (Reach (laneCount ws) mA none) q (outward here (λ e. ne (sym q ∙ e)))
+        subst (Reach (laneCount ws) mA noNode) q (outward here (λ e. ne (sym q ∙ e)))
     reach-spliced (outward {x = y} k ne) =
         elim (equal? y x) [
           | inl e ↦ absurd (ne (ap (m .out) e ∙ x-out))
           | inr nx ↦
               let q : mA .out y ≡ m .out y = update-other (m .out) x d y nx in
-              subst (Reach (laneCount ws) mA none) q (outward (reach-spliced k) (λ e. ne (sym q ∙ e)))
+              subst (Reach (laneCount ws) mA noNode) q (outward (reach-spliced k) (λ e. ne (sym q ∙ e)))
         ]
     reach-spliced (inward {x = y} k ne) =
         elim (equal? y d) [
           | inl e ↦ absurd (ne (ap (m .inn) e ∙ d-inn))
           | inr nd ↦
               let q : mA .inn y ≡ m .inn y = update-other (m .inn) d x y nd in
-              subst (Reach (laneCount ws) mA none) q (inward (reach-spliced k) (λ e. ne (sym q ∙ e)))
+              subst (Reach (laneCount ws) mA noNode) q (inward (reach-spliced k) (λ e. ne (sym q ∙ e)))
         ]

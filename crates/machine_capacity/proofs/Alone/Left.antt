@@ -6,7 +6,7 @@ use mathlib.Core.List.{List}
 use mathlib.Core.Option.{some}
 use Prim.Native.Nat.{ℕ, _<_}
 use Rattle.machine.specs.Sides.{Side, opposite}
-use Rattle.machine.specs.Tasks.{none}
+use Rattle.machine.specs.Tasks.{noNode}
 use Rattle.machine.specs.Table.{nodeCount, growth, laneCount, hat, link, value}
 use Rattle.machine.specs.Calls.{lane}
 use Rattle.machine.specs.Begun.{Begun}
@@ -129,7 +129,7 @@ module _ {ws : List ℕ} (B : Begun ws) where
   W : WellLinked ws
   W = well-linked (begun-agrees B .1 .accepted)
 
-  pub reached-some : {x : ℕ} → Reachable ws x → x ≢ none
+  pub reached-some : {x : ℕ} → Reachable ws x → x ≢ noNode
   reached-some c = node-not-none (W .few) (reachable-node W c)
 
 -- ---- A table whose view is as it was.

@@ -7,7 +7,7 @@ use Prim.Native.Nat.{ℕ, _<_}
 use native.Mathlib.Omega.{arith}
 use Rattle.machine.specs.Sides.{Side, left, right, opposite}
 use Rattle.machine.specs.Values.{N, X, Y}
-use Rattle.machine.specs.Tasks.{none}
+use Rattle.machine.specs.Tasks.{noNode}
 use Rattle.machine.specs.Table.{laneCount, hat, link, value}
 use Rattle.machine.specs.Reach.{Reachable}
 use Rattle.machine_capacity.specs.NoLeak.{HatPlace, in-list, beside, LaneShape, listOf, IdleLane, IdleTable}
@@ -86,10 +86,10 @@ module _ (end : CallEnd) where
 
   -- In use, and not a spur that the hat may leave.
   pub record Alive (x : ℕ) : Type 0 where
-    pub reached : Reach (laneCount ws) (viewed s ws) none x
+    pub reached : Reach (laneCount ws) (viewed s ws) noNode x
     pub stays : x ≡ hat ws ℓ s → value ws (hat ws ℓ s) ≢ Y s
 
-  to-reach : {x : ℕ} → Reachable ws x → Reach (laneCount ws) (viewed s ws) none x
+  to-reach : {x : ℕ} → Reachable ws x → Reach (laneCount ws) (viewed s ws) noNode x
   to-reach c = to-view s ws (idle-root (end .begun) (end .idle-now)) c
 
   pub list-alive : (j i : ℕ) (h : j < laneCount ws) → i < listOf (T .shape j) → Alive (T .shape j .at i)
@@ -145,10 +145,10 @@ module _ (end : CallEnd) where
   pub some-spare : 0 < spares end
   some-spare = idle-end own-lane s .spares .some
 
-  pub at-some : (i : ℕ) → i < spares end → spare end i ≢ none
+  pub at-some : (i : ℕ) → i < spares end → spare end i ≢ noNode
   at-some i l = reached-some (end .begun) (own-lane .reached _ (spare-listed own-lane s i l))
 
-  pub p-some : inner end ≢ none
+  pub p-some : inner end ≢ noNode
   p-some = reached-some (end .begun) (own-lane .reached _ (inner-listed own-lane s))
 
   module _ {m : View} (G : Stage m) {d : ℕ} where
@@ -173,7 +173,7 @@ module _ (end : CallEnd) where
             (subst (Reach (laneCount ws) m d) fore (outward at-p (λ q. at-some 0 some-spare (sym fore ∙ q))), at-p)
 
     -- What is alive is reached.
-    alive-reached-by : {x : ℕ} → Reach (laneCount ws) (viewed s ws) none x
+    alive-reached-by : {x : ℕ} → Reach (laneCount ws) (viewed s ws) noNode x
         → (x ≡ hat ws ℓ s → value ws (hat ws ℓ s) ≢ Y s)
         → Reach (laneCount ws) m d x
     alive-reached-by (at-hat j z h) stays =

@@ -13,7 +13,7 @@ use Rattle.machine.specs.Sides.{Side, left, right, opposite}
 use Rattle.machine.specs.Values.{Value, never, bag, N, X, Y, _≟ᵛ_}
 use Rattle.machine.specs.Operations.{pop}
 use Rattle.machine.specs.Steps.{line40, line42, line48, line51}
-use Rattle.machine.specs.Tasks.{Task, none, goto, withA, withB, withValue}
+use Rattle.machine.specs.Tasks.{Task, noNode, goto, withA, withB, withValue}
 use Rattle.machine.specs.Table.{nodeCount, growth, laneCount, hat, link, value}
 use Rattle.machine.specs.Lines.{Effect, next, afterRead, act}
 use Rattle.machine.specs.Calls.{begunTask}
@@ -128,7 +128,7 @@ module _ {ws : List ℕ} (B : Begun ws) (T : IdleTable ws) (k ℓ : ℕ) (is-lan
   abbrev Answered′ : View → List ℕ → Type 0
   Answered′ = Answered s (nodeCount ws) (laneCount ws) (growth ws)
 
-  p-some : p ≢ none
+  p-some : p ≢ noNode
   p-some = reached-some B (K .reached _ (inner-listed K s))
 
   p-behind : link ws (opposite s) H ≡ p
@@ -231,13 +231,13 @@ module _ {ws : List ℕ} (B : Begun ws) (T : IdleTable ws) (k ℓ : ℕ) (is-lan
             leads-now (suc i) l = same-link _ s ∙ idle-end K s .spares .leads i (omega arith)
 
   -- ---- The ticks.
-  H-some : hat ws ℓ s ≢ none
+  H-some : hat ws ℓ s ≢ noNode
   H-some = reached-some B (from-hat ℓ s is-lane)
 
   abbrev q : ℕ
   q = link ws (opposite s) (hat ws ℓ s)
 
-  q-some : q ≢ none
+  q-some : q ≢ noNode
   q-some e = p-some (sym p-behind ∙ e)
 
   module _ (v : ℕ) where

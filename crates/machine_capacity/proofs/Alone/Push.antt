@@ -12,7 +12,7 @@ use Rattle.machine.specs.Sides.{Side, opposite}
 use Rattle.machine.specs.Values.{Value, never, N, X, Y, _≟ᵛ_}
 use Rattle.machine.specs.Operations.{push}
 use Rattle.machine.specs.Steps.{line15, line2, line3, line5, line8, line28, line67}
-use Rattle.machine.specs.Tasks.{Task, none, further}
+use Rattle.machine.specs.Tasks.{Task, noNode, further}
 use Rattle.machine.specs.Table.{nodeCount, growth, laneCount, hat, link}
 use Rattle.machine.specs.Lines.{Effect, next, act}
 use Rattle.machine.specs.Calls.{begunTask}
@@ -105,12 +105,12 @@ module _ (end : CallEnd) (k v : ℕ) where
   Answered′ = Answered s (nodeCount ws) (laneCount ws) (growth ws)
 
   -- ---- Lines 2, 3 and 5, with N at the hat.
-  module _ (m : View) (n : ℕ) (u : Value) (h-some : m .hats ℓ s ≢ none) (b-some : m .out (m .hats ℓ s) ≢ none)
+  module _ (m : View) (n : ℕ) (u : Value) (h-some : m .hats ℓ s ≢ noNode) (b-some : m .out (m .hats ℓ s) ≢ noNode)
       (h-N : m .val (m .hats ℓ s) ≡ N s)
       (done : (vs : List ℕ)
       → Answered s (nodeCount ws) (laneCount ws) (growth ws) (bagPut end m v) vs
       → PushLeaves Pushed vs) where
-    on-5 : (c : ℕ) → Leads′ (further t0 line5 n u (m .hats ℓ s) (m .out (m .hats ℓ s)) c none) m
+    on-5 : (c : ℕ) → Leads′ (further t0 line5 n u (m .hats ℓ s) (m .out (m .hats ℓ s)) c noNode) m
     unfolding act
     on-5 c =
         line-leads k ℓ s _ _ _ _ (λ f.
@@ -119,53 +119,53 @@ module _ (end : CallEnd) (k v : ℕ) where
         ok-swap (Next′ m) _ _ (λ _ _. ending (λ e. clash (cc)) (λ vs A. done vs A))
         (λ ne. absurd (ne refl h-N)))))
 
-    on-3 : (b c : ℕ) → Leads′ (further t0 line3 n u (m .hats ℓ s) b c none) m
+    on-3 : (b c : ℕ) → Leads′ (further t0 line3 n u (m .hats ℓ s) b c noNode) m
     unfolding act
     on-3 b c =
         line-leads k ℓ s _ _ _ _ (λ f.
         ok-through (Next′ m) (λ e. absurd (h-some e)) (λ _.
-        ok-if (Next′ m) (λ st. next (further t0 line3 n u (m .hats ℓ s) (m .out (m .hats ℓ s)) c none) st) (_ ≟ _)
+        ok-if (Next′ m) (λ st. next (further t0 line3 n u (m .hats ℓ s) (m .out (m .hats ℓ s)) c noNode) st) (_ ≟ _)
         (λ e. absurd (b-some e)) (λ _. going refl (on-5 c))))
 
-    push-now : (a b c : ℕ) → Leads′ (further t0 line2 n u a b c none) m
+    push-now : (a b c : ℕ) → Leads′ (further t0 line2 n u a b c noNode) m
     unfolding act
     push-now a b c = line-leads k ℓ s _ _ _ _ (λ f. going refl (on-3 b c))
 
   -- ---- Lines 2, 3 and 8, with no outward link at the hat.
-  module _ (m : View) (n : ℕ) (u : Value) (h-some : m .hats ℓ s ≢ none) (b-none : m .out (m .hats ℓ s) ≡ none) where
-    to-8 : ((b c : ℕ) → Leads′ (further t0 line8 n u (m .hats ℓ s) b c none) m) → (a b c : ℕ)
-        → Leads′ (further t0 line2 n u a b c none) m
+  module _ (m : View) (n : ℕ) (u : Value) (h-some : m .hats ℓ s ≢ noNode) (b-none : m .out (m .hats ℓ s) ≡ noNode) where
+    to-8 : ((b c : ℕ) → Leads′ (further t0 line8 n u (m .hats ℓ s) b c noNode) m) → (a b c : ℕ)
+        → Leads′ (further t0 line2 n u a b c noNode) m
     unfolding act
     to-8 on-8 a b c =
         line-leads k ℓ s _ _ _ _ (λ f.
         going refl
         (line-leads k ℓ s _ _ _ _ (λ f'.
         ok-through (Next′ m) (λ e. absurd (h-some e)) (λ _.
-        ok-if (Next′ m) (λ st. next (further t0 line3 n u (m .hats ℓ s) (m .out (m .hats ℓ s)) c none) st) (_ ≟ _)
+        ok-if (Next′ m) (λ st. next (further t0 line3 n u (m .hats ℓ s) (m .out (m .hats ℓ s)) c noNode) st) (_ ≟ _)
         (λ _. going refl (on-8 (m .out (m .hats ℓ s)) c)) (λ ne. absurd (ne b-none))))))
 
     to-28 : m .val (m .hats ℓ s) ≡ X s
-        → ((a b c : ℕ) → Leads′ (further t0 line28 n u a b c none) m)
+        → ((a b c : ℕ) → Leads′ (further t0 line28 n u a b c noNode) m)
         → (a b c : ℕ)
-        → Leads′ (further t0 line2 n u a b c none) m
+        → Leads′ (further t0 line2 n u a b c noNode) m
     unfolding act
     to-28 h-X on-28 =
         to-8 (λ b c.
         line-leads k ℓ s _ _ _ _ (λ f.
         ok-through (Next′ m) (λ e. absurd (h-some e)) (λ _.
-        ok-if (Next′ m) (λ st. next (further t0 line8 n u (m .hats ℓ s) b c none) st) (_ ≟ᵛ _)
+        ok-if (Next′ m) (λ st. next (further t0 line8 n u (m .hats ℓ s) b c noNode) st) (_ ≟ᵛ _)
         (λ _. going refl (on-28 (m .hats ℓ s) b c)) (λ ne. absurd (ne h-X)))))
 
     to-67 : m .val (m .hats ℓ s) ≡ Y s
-        → ((a b c : ℕ) → Leads′ (further t0 line67 n u a b c none) m)
+        → ((a b c : ℕ) → Leads′ (further t0 line67 n u a b c noNode) m)
         → (a b c : ℕ)
-        → Leads′ (further t0 line2 n u a b c none) m
+        → Leads′ (further t0 line2 n u a b c noNode) m
     unfolding act
     to-67 h-Y on-67 =
         to-8 (λ b c.
         line-leads k ℓ s _ _ _ _ (λ f.
         ok-through (Next′ m) (λ e. absurd (h-some e)) (λ _.
-        ok-if (Next′ m) (λ st. next (further t0 line8 n u (m .hats ℓ s) b c none) st) (_ ≟ᵛ _)
+        ok-if (Next′ m) (λ st. next (further t0 line8 n u (m .hats ℓ s) b c noNode) st) (_ ≟ᵛ _)
         (λ e. clash (cc)) (λ _. going refl (on-67 (m .hats ℓ s) b c)))))
 
   -- ---- With the hat in the list.
@@ -174,14 +174,14 @@ module _ (end : CallEnd) (k v : ℕ) where
     one : 0 < spares end
     one = some-spare end
 
-    h-some : m .hats ℓ s ≢ none
+    h-some : m .hats ℓ s ≢ noNode
     h-some e = at-some end 0 one (sym hat-at ∙ e)
 
     E : OwnList end m (spare end) (spares end)
     E = own-first end St hat-at
 
     -- More than one spare node.
-    spare-leads : 1 < spares end → (a b c : ℕ) → Leads′ (further t0 line2 n u a b c none) m
+    spare-leads : 1 < spares end → (a b c : ℕ) → Leads′ (further t0 line2 n u a b c noNode) m
     spare-leads more =
         push-now m n u h-some (λ e. at-some end 1 more (sym on ∙ e)) (ap (m .val) hat-at ∙ E .N-before 0 more)
         (λ vs A.
@@ -201,7 +201,7 @@ module _ (end : CallEnd) (k v : ℕ) where
 
     -- Just one.
     module _ (single : spares end ≡ 1) where
-      h-last : m .out (m .hats ℓ s) ≡ none
+      h-last : m .out (m .hats ℓ s) ≡ noNode
       h-last =
           ap (m .out) hat-at
           ∙ St .same _ (spare-alive end 0 one) .same-out
@@ -211,7 +211,7 @@ module _ (end : CallEnd) (k v : ℕ) where
       h-X = ap (m .val) hat-at ∙ E .X-last 0 (sym single)
 
       -- "Full".
-      full : AllUsed end m none → (vs : List ℕ) → Answered′ m vs → PushLeaves Full vs
+      full : AllUsed end m noNode → (vs : List ℕ) → Answered′ m vs → PushLeaves Full vs
       full used vs A =
           is-full single refl
           (left-by end (stage-others end St)
@@ -228,7 +228,7 @@ module _ (end : CallEnd) (k v : ℕ) where
         hat₁ : m₁ .hats ℓ s ≡ spare end 0
         hat₁ = ap (λ (h : ℕ → Side → ℕ). h ℓ s) same-hats ∙ hat-at
 
-        d-some : d ≢ none
+        d-some : d ≢ noNode
         d-some e = C .not-none 0 (omega arith) (sym (C .head) ∙ e)
 
         module _ (x : ℕ) (x-last : x ≡ spare end (spares end - 1)) where
@@ -274,7 +274,7 @@ module _ (end : CallEnd) (k v : ℕ) where
               ≢ joined end St₁ hat₁ C x x-last 0
           apart' j l = joined-apart end St₁ hat₁ C x x-last j (omega arith)
 
-          hA-some : mA .hats ℓ s ≢ none
+          hA-some : mA .hats ℓ s ≢ noNode
           hA-some e = at-some end 0 one (sym hat₁ ∙ e)
 
           on-A : mA .out (mA .hats ℓ s) ≡ d
@@ -300,7 +300,7 @@ module _ (end : CallEnd) (k v : ℕ) where
                     (reach-spliced end St₁ hat₁ C x x-last (used y l))))
               ])
 
-          after-splice : (u' : Value) (b c : ℕ) → Leads′ (further t0 line2 0 u' x b c none) mA
+          after-splice : (u' : Value) (b c : ℕ) → Leads′ (further t0 line2 0 u' x b c noNode) mA
           after-splice u' b c =
               push-now mA 0 u' hA-some (λ e. d-some (sym on-A ∙ e))
               (ap (mA .val) (EA' .hat-at) ∙ EA' .N-before 0 (omega arith))
@@ -312,7 +312,7 @@ module _ (end : CallEnd) (k v : ℕ) where
             splice-leads end k (growth ws) PushLeaves t0 m₁ i d St₁ hat₁ d-some
             (λ x u' b c x-last. going refl (after-splice x x-last u' b c))
 
-      single-leads : (a b c : ℕ) → Leads′ (further t0 line2 n u a b c none) m
+      single-leads : (a b c : ℕ) → Leads′ (further t0 line2 n u a b c noNode) m
       single-leads =
           to-28 m n u h-some h-last h-X (λ a b c.
           build-leads end k (growth ws) PushLeaves t0 u a b c (m .hats)
@@ -320,7 +320,7 @@ module _ (end : CallEnd) (k v : ℕ) where
           m n St refl
           (λ used. ending (λ e. clash (cc)) (full used)))
 
-    list-leads : (a b c : ℕ) → Leads′ (further t0 line2 n u a b c none) m
+    list-leads : (a b c : ℕ) → Leads′ (further t0 line2 n u a b c noNode) m
     list-leads a b c =
         elim (less? 1 (spares end)) [
           | inl more ↦ spare-leads more a b c
@@ -340,23 +340,23 @@ module _ (end : CallEnd) (k v : ℕ) where
   unfolding ℕ-discrete
   push-leads = go (idle-end (own-lane end) s .hat-place)
     where
-      H-some : hat ws ℓ s ≢ none
+      H-some : hat ws ℓ s ≢ noNode
       H-some = reached-some (end .begun) (from-hat ℓ s (end .is-lane))
 
       go : {y : ℕ} → HatPlace ws ℓ s (spare end 0) (inner end) y
           → Leads′ (begunTask ℓ push s v) (viewed s ws)
-      go (in-list e) = list-leads (viewed s ws) 0 never (first-stage (on-list e)) e none none none
+      go (in-list e) = list-leads (viewed s ws) 0 never (first-stage (on-list e)) e noNode noNode noNode
       go (beside y o i) =
           let St = first-stage (on-spur y refl (record { same-out = refl; same-inn = refl; same-val = refl })) in
           let q : link ws s (link ws (opposite s) (hat ws ℓ s)) ≡ spare end 0 =
           ap (link ws s) i ∙ inner-leads (own-lane end) s in
           to-67 (viewed s ws) 0 never H-some o y
-          (unspur-leads k ℓ s _ _ _ _ t0 (viewed s ws) 0 never none H-some y
+          (unspur-leads k ℓ s _ _ _ _ t0 (viewed s ws) 0 never noNode H-some y
           (λ e. p-some end (sym i ∙ e))
           (λ e. at-some end 0 (some-spare end) (sym q ∙ e))
           (λ a b c.
-          subst (λ (x : ℕ). Leads′ (further t0 line2 0 never a b c none) (moved ℓ s (viewed s ws) x)) (sym q)
+          subst (λ (x : ℕ). Leads′ (further t0 line2 0 never a b c noNode) (moved ℓ s (viewed s ws) x)) (sym q)
           (list-leads (moved ℓ s (viewed s ws) (spare end 0)) 0 never
           (stage-moved end St)
           (updateHat-same (hat ws) ℓ s (spare end 0)) a b c)))
-          none none none
+          noNode noNode noNode

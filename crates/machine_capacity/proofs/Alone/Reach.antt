@@ -7,7 +7,7 @@ use Prim.Native.Nat.{ℕ, _<_}
 use Rattle.machine.specs.Choice.{_≟_}
 use Rattle.machine.specs.Sides.{Side, opposite}
 use Rattle.machine.specs.Steps.{Step, rest, line28, line31}
-use Rattle.machine.specs.Tasks.{Task, none, fresh, Register, inA, inB, inC, inD, register}
+use Rattle.machine.specs.Tasks.{Task, noNode, fresh, Register, inA, inB, inC, inD, register}
 use Rattle.machine.specs.Registers.{holds}
 use Rattle.machine.specs.Table.{nodeCount, laneCount, link, task}
 use Rattle.machine.specs.Allocate.{allocate}
@@ -28,15 +28,15 @@ use Rattle.machine_capacity.proofs.Alone.Runs.{At}
 -- x is reached from a hat of the L lanes or from d, where d is not none.
 pub data Reach (L : ℕ) (m : View) (d : ℕ) : ℕ → Type 0 where
   at-hat : (j : ℕ) (z : Side) → j < L → Reach L m d (m .hats j z)
-  at-root : d ≢ none → Reach L m d d
-  outward : {x : ℕ} → Reach L m d x → m .out x ≢ none → Reach L m d (m .out x)
-  inward : {x : ℕ} → Reach L m d x → m .inn x ≢ none → Reach L m d (m .inn x)
+  at-root : d ≢ noNode → Reach L m d d
+  outward : {x : ℕ} → Reach L m d x → m .out x ≢ noNode → Reach L m d (m .out x)
+  inward : {x : ℕ} → Reach L m d x → m .inn x ≢ noNode → Reach L m d (m .inn x)
 
 -- The registers that hold in a table are none, or d.
 pub record OneRoot (ws : List ℕ) (d : ℕ) : Type 0 where
-  pub only : (j : ℕ) (r : Register) → holds (task ws j .step) r ≡ true → register (task ws j) r ≢ none
+  pub only : (j : ℕ) (r : Register) → holds (task ws j .step) r ≡ true → register (task ws j) r ≢ noNode
       → register (task ws j) r ≡ d
-  pub held : d ≢ none → Reachable ws d
+  pub held : d ≢ noNode → Reachable ws d
 
 module _ (s : Side) (ws : List ℕ) {d : ℕ} (R : OneRoot ws d) where
   link-by : (z : Side) (x : ℕ) → (link ws z x ≡ link ws s x) ⊎ (link ws z x ≡ link ws (opposite s) x)
@@ -66,7 +66,7 @@ module _ (s : Side) (ws : List ℕ) {d : ℕ} (R : OneRoot ws d) where
   from-view (inward c ne) = along (opposite s) (from-view c) ne
 
 -- ---- Tables with no task in a call.
-pub idle-root : {ws : List ℕ} → Begun ws → Idle ws → OneRoot ws none
+pub idle-root : {ws : List ℕ} → Begun ws → Idle ws → OneRoot ws noNode
 idle-root {ws} B idle-now =
     record {
       only = λ j r h ne.
@@ -91,7 +91,7 @@ module _ (k ℓ : ℕ) (s : Side) {t : Task} {m : View} {ws : List ℕ} (P : At 
   idle-others : (j : ℕ) (r : Register) → j ≢ k → holds (task ws j .step) r ≡ false
   idle-others j r ne = ap (λ (x : Task). holds (x .step) r) (P .others j ne)
 
-  pub root-28 : t .step ≡ line28 → t .D ≡ none → OneRoot ws (t .D)
+  pub root-28 : t .step ≡ line28 → t .D ≡ noNode → OneRoot ws (t .D)
   root-28 st no-chain =
       record {
         only = λ j r h _. elim (j ≟ k) [
@@ -130,12 +130,12 @@ module _ (k ℓ : ℕ) (s : Side) {t : Task} {m : View} {ws : List ℕ} (P : At 
     W : WellLinked ws
     W = well-linked (begun-agrees (P .begun) .1 .accepted)
 
-    pub found-new : allocate ws h ≢ none → Reach (laneCount ws) m (t .D) (allocate ws h) → ⊥
+    pub found-new : allocate ws h ≢ noNode → Reach (laneCount ws) m (t .D) (allocate ws h) → ⊥
     found-new ne c =
         allocate-first-free W low ne .free .unreached
         (from-view s ws R (subst (λ (y : View). Reach (laneCount ws) y (t .D) (allocate ws h)) (sym (P .sees)) c))
 
-    pub found-none : allocate ws h ≡ none → (x : ℕ) → x < nodeCount ws → Reach (laneCount ws) m (t .D) x
+    pub found-none : allocate ws h ≡ noNode → (x : ℕ) → x < nodeCount ws → Reach (laneCount ws) m (t .D) x
     found-none e x l =
         subst (λ (y : View). Reach (laneCount ws) y (t .D) x) (P .sees)
         (to-view s ws R (allocate-none W low e x l))

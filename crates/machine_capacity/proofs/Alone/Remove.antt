@@ -10,7 +10,7 @@ use Rattle.machine.specs.Sides.{Side}
 use Rattle.machine.specs.Values.{Value, never, N, X, Y, _≟ᵛ_}
 use Rattle.machine.specs.Operations.{remove}
 use Rattle.machine.specs.Steps.{line54, line56, line58, line60, line62}
-use Rattle.machine.specs.Tasks.{Task, none, further}
+use Rattle.machine.specs.Tasks.{Task, noNode, further}
 use Rattle.machine.specs.Table.{nodeCount, growth, laneCount, hat, link, value}
 use Rattle.machine.specs.Lines.{Effect, next, act}
 use Rattle.machine.specs.Calls.{begunTask}
@@ -67,7 +67,7 @@ module _ (end : CallEnd) (k v : ℕ) where
   abbrev H : ℕ
   H = hat ws ℓ s
 
-  H-some : hat ws ℓ s ≢ none
+  H-some : hat ws ℓ s ≢ noNode
   H-some = reached-some (end .begun) (from-hat ℓ s (end .is-lane))
 
   unchanged : {vs : List ℕ} → Answered′ m0 vs → Left ws T ℓ s (spares end) (spurOf s (T .shape ℓ)) vs
@@ -75,7 +75,7 @@ module _ (end : CallEnd) (k v : ℕ) where
       left-unchanged T ℓ (end .is-lane) s A
 
   -- ---- With the hat on a spur.
-  module _ (y : value ws (hat ws ℓ s) ≡ Y s) (o : link ws s (hat ws ℓ s) ≡ none) where
+  module _ (y : value ws (hat ws ℓ s) ≡ Y s) (o : link ws s (hat ws ℓ s) ≡ noNode) where
     spur-ends : {vs : List ℕ} → Answered′ m0 vs → RemoveLeaves end k v Yes vs
     spur-ends A = on-spur-yes refl y (unchanged A)
 
@@ -83,7 +83,7 @@ module _ (end : CallEnd) (k v : ℕ) where
     unfolding act
     spur-leads =
         line-leads k ℓ s _ _ _ _ (λ f.
-        ok-if (Next′ m0) (λ st. next (further t0 line54 0 never H none none none) st) (_ ≟ _)
+        ok-if (Next′ m0) (λ st. next (further t0 line54 0 never H noNode noNode noNode) st) (_ ≟ _)
         (λ _.
         going refl
         (line-leads k ℓ s _ _ _ _ (λ f'.
@@ -106,7 +106,7 @@ module _ (end : CallEnd) (k v : ℕ) where
     -- ---- Lines 60 and 62.
     at-62 : (x b n : ℕ) (u : Value) (c : ℕ) → x ≡ spare end v → b ≡ spare end (suc v)
         → suc v < spares end
-        → Leads′ (further t0 line62 n u x b c none) m0
+        → Leads′ (further t0 line62 n u x b c noNode) m0
     unfolding act
     at-62 x b n u c e eb l =
         line-leads k ℓ s _ _ _ _ (λ f.
@@ -129,7 +129,7 @@ module _ (end : CallEnd) (k v : ℕ) where
         ]))))
 
     at-60 : (x n : ℕ) (u : Value) (b c : ℕ) → x ≡ spare end v → v < spares end
-        → Leads′ (further t0 line60 n u x b c none) m0
+        → Leads′ (further t0 line60 n u x b c noNode) m0
     unfolding act
     at-60 x n u b c e l =
         line-leads k ℓ s _ _ _ _ (λ f.
@@ -152,8 +152,8 @@ module _ (end : CallEnd) (k v : ℕ) where
     -- ---- Lines 56 and 58: the walk to the node at v.
     walk-step : (i x : ℕ) (u : Value) (b c : ℕ) → x ≡ spare end i → i < v → i < spares end
         → ((x' : ℕ) → x' ≡ spare end (suc i) → suc i ≢ v → suc i < spares end
-        → Leads′ (further t0 line56 (suc i) u x' b c none) m0)
-        → Leads′ (further t0 line56 i u x b c none) m0
+        → Leads′ (further t0 line56 (suc i) u x' b c noNode) m0)
+        → Leads′ (further t0 line56 i u x b c noNode) m0
     unfolding act
     walk-step i x u b c e below l again =
         elim (less? (suc i) (spares end)) [
@@ -176,7 +176,7 @@ module _ (end : CallEnd) (k v : ℕ) where
               ok-if (Next′ m0) (λ q. q) (_ ≟ _)
               (λ z. absurd (some-at end k v hat-at (suc i) _ more on z))
               (λ _.
-              ok-if (Next′ m0) (λ st. next (further t0 line58 (suc i) u (link ws s x) b c none) st) (_ ≟ _)
+              ok-if (Next′ m0) (λ st. next (further t0 line58 (suc i) u (link ws s x) b c noNode) st) (_ ≟ _)
               (λ there.
               going refl
               (at-60 (link ws s x) (suc i) u b c (on ∙ ap (spare end) there)
@@ -186,7 +186,7 @@ module _ (end : CallEnd) (k v : ℕ) where
 
     walk : (fuel i x : ℕ) (u : Value) (b c : ℕ) → x ≡ spare end i → suc (i + fuel) ≡ v
         → i < spares end
-        → Leads′ (further t0 line56 i u x b c none) m0
+        → Leads′ (further t0 line56 i u x b c noNode) m0
     walk zero i x u b c e l h = walk-step i x u b c e (omega arith) h (λ x' e' ne h'. absurd (ne (omega arith)))
     walk (suc fuel) i x u b c e l h =
         walk-step i x u b c e (omega arith) h (λ x' e' ne h'. walk fuel (suc i) x' u b c e' (omega arith) h')
@@ -196,12 +196,12 @@ module _ (end : CallEnd) (k v : ℕ) where
     list-leads =
         let one = some-spare end in
         line-leads k ℓ s _ _ _ _ (λ f.
-        ok-if (Next′ m0) (λ st. next (further t0 line54 0 never H none none none) st) (_ ≟ _)
+        ok-if (Next′ m0) (λ st. next (further t0 line54 0 never H noNode noNode noNode) st) (_ ≟ _)
         (λ z.
         going refl
-        (at-60 H 0 never none none (hat-at ∙ ap (spare end) (sym z))
+        (at-60 H 0 never noNode noNode (hat-at ∙ ap (spare end) (sym z))
         (subst (λ (q : ℕ). q < spares end) (sym z) one)))
-        (λ ne. going refl (walk (v - 1) 0 H never none none hat-at (omega arith) one)))
+        (λ ne. going refl (walk (v - 1) 0 H never noNode noNode hat-at (omega arith) one)))
 
   pub remove-leads : Leads′ (begunTask ℓ remove s v) (viewed s ws)
   remove-leads = go (idle-end (own-lane end) s .hat-place)

@@ -3,7 +3,7 @@ use mathlib.Core.Path.{_≡_, refl, sym, ap, _∙_, subst}
 use mathlib.Core.Logic.{_≢_}
 use mathlib.Core.Bool.{true, false}
 use mathlib.Core.List.{List, [], _∷_, reverse-append, reverse-reverse}
-use mathlib.Core.Option.{Option, some, none as nothing, bind, Option·map}
+use mathlib.Core.Option.{Option, some, none, bind, Option·map}
 use Prim.Native.Nat.{ℕ, zero, suc, _<_}
 use native.Mathlib.Omega.{arith}
 use lib.Dec.{ltb}
@@ -76,9 +76,9 @@ fed-going ρ k {ρ′} = go (ρ .notes k)
   where
     go : (n : Option Note) → bind n (λ _. some ρ) ≡ some ρ′ → ρ ≡ ρ′
     go (some n) e = same-some e
-    go nothing e = clash (cc)
+    go none e = clash (cc)
 
-module _ {ws : List ℕ} (B : Begun ws) (k h : ℕ) (made : refusalOf (tick ws k h .answer) ≡ nothing) where
+module _ {ws : List ℕ} (B : Begun ws) (k h : ℕ) (made : refusalOf (tick ws k h .answer) ≡ none) where
   is-tick : tick ws k h ≡ tickOn ws k h
   is-tick = tick-passes (begun-agrees B .1) k h
 
@@ -126,17 +126,17 @@ fed-answer : (ρ : Row) (k : ℕ) {ρ′ : Row} (n : Note) → ρ .notes k ≡ s
     → feedMade ρ k a ≡ some ρ′
     → (bags : List ℕ)
     × (answered n a (ρ .bags (n .lane)) ≡ some bags)
-    × (noted (withBags ρ (n .lane) bags) k nothing ≡ ρ′)
+    × (noted (withBags ρ (n .lane) bags) k none ≡ ρ′)
 unfolding feedMade bind
 fed-answer ρ k {ρ′} n is-noted a ends f = go (answered n a (ρ .bags (n .lane))) refl (rw (is-noted, ends) at f)
   where
     go : (o : Option (List ℕ)) → answered n a (ρ .bags (n .lane)) ≡ o
-        → Option·map (λ bags. noted (withBags ρ (n .lane) bags) k nothing) o ≡ some ρ′
+        → Option·map (λ bags. noted (withBags ρ (n .lane) bags) k none) o ≡ some ρ′
         → (bags : List ℕ)
         × (answered n a (ρ .bags (n .lane)) ≡ some bags)
-        × (noted (withBags ρ (n .lane) bags) k nothing ≡ ρ′)
+        × (noted (withBags ρ (n .lane) bags) k none ≡ ρ′)
     go (some bags) q e = (bags, q, same-some e)
-    go nothing q e = clash (cc)
+    go none q e = clash (cc)
 
 module _ (k : ℕ) (n : Note) where
   pub rows-alone : {a : Answer} {vs ws : List ℕ} (r : ℕ → List ℕ) → Begun ws → noteIn (task ws k) ≡ some n

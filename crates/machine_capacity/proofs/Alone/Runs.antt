@@ -3,7 +3,7 @@ use mathlib.Core.Path.{_≡_, refl, sym, ap, _∙_, subst}
 use mathlib.Core.Logic.{_≢_}
 use mathlib.Core.Bool.{true}
 use mathlib.Core.List.{List}
-use mathlib.Core.Option.{none as nothing}
+use mathlib.Core.Option.{none}
 use Prim.Native.Nat.{ℕ, _<_}
 use Rattle.machine.specs.declared.Answer.{Answer}
 use Rattle.machine.specs.declared.Answer.the-variants.{Going, Pushed, Bag, Empty, Full, Yes, No, Refused}
@@ -46,7 +46,7 @@ use Rattle.machine.proofs.Linearizability.Begun.TableAfter.{
 use Rattle.machine.proofs.Linearizability.Begun.TableBegun.{BegunTable, accepted-begin}
 
 -- An answer that ends a call is no refusal, and not "going".
-pub ends-made : (a : Answer) → endsCall a ≡ true → refusalOf a ≡ nothing
+pub ends-made : (a : Answer) → endsCall a ≡ true → refusalOf a ≡ none
 ends-made Going e = clash (cc)
 ends-made Pushed e = refl
 ends-made (Bag b) e = refl
@@ -91,7 +91,7 @@ module _ (k ℓ : ℕ) (s : Side) where
     pub growths : growth vs ≡ growth ws
 
   -- ---- A tick.
-  module _ {t : Task} {m : View} {ws : List ℕ} (P : At t m ws) (h : ℕ) (passes : tickRefusal ws k h ≡ nothing) where
+  module _ {t : Task} {m : View} {ws : List ℕ} (P : At t m ws) (h : ℕ) (passes : tickRefusal ws k h ≡ none) where
     abbrev after : List ℕ
     after = tickOn ws k h .words
 
@@ -202,10 +202,10 @@ module _ (k ℓ : ℕ) (s : Side) where
       is-tick : tick ws k h ≡ tickOn ws k h
       is-tick = tick-passes (begun-agrees (P .begun) .1) k h
 
-      says : (passes : tickRefusal ws k h ≡ nothing) → tick ws k h .answer ≡ effectOf ws k h .answer
+      says : (passes : tickRefusal ws k h ≡ none) → tick ws k h .answer ≡ effectOf ws k h .answer
       says passes = ap (λ (r : Ticked). r .answer) is-tick ∙ tick-answer ws k h passes
 
-      line-is : tickRefusal ws k h ≡ nothing → effectOf ws k h ≡ lineAt t m (allocate ws h)
+      line-is : tickRefusal ws k h ≡ none → effectOf ws k h ≡ lineAt t m (allocate ws h)
       line-is passes =
           effect-is P h passes
           ∙ ap (λ (i : ℕ). act (t .step) s (opposite s) (seenIn ℓ s m) t (goal i t) (allocate ws h)) growths
@@ -213,7 +213,7 @@ module _ (k ℓ : ℕ) (s : Side) where
       abbrev e : Effect
       e = lineAt t m (allocate ws h)
 
-      last-tick : {a : Answer} {vs : List ℕ} → tickRefusal ws k h ≡ nothing → endsCall a ≡ true
+      last-tick : {a : Answer} {vs : List ℕ} → tickRefusal ws k h ≡ none → endsCall a ≡ true
           → tick ws k h .answer ≡ a
           → tick ws k h .words ≡ vs
           → Next m (lineAt t m (allocate ws h))
@@ -240,7 +240,7 @@ module _ (k ℓ : ℕ) (s : Side) where
             sees = A .sees;
           })))
 
-      one-more : {a : Answer} {vs : List ℕ} → tickRefusal ws k h ≡ nothing → tick ws k h .answer ≡ Going
+      one-more : {a : Answer} {vs : List ℕ} → tickRefusal ws k h ≡ none → tick ws k h .answer ≡ Going
           → AloneTo k a vs (tick ws k h .words)
           → Next m (lineAt t m (allocate ws h))
           → Q a vs

@@ -10,7 +10,7 @@ use Rattle.machine.specs.Sides.{Side, opposite}
 use Rattle.machine.specs.Values.{Value, N, X, Y, _≟ᵛ_}
 use Rattle.machine.specs.Operations.{Operation, idle, push, pop, add, remove}
 use Rattle.machine.specs.Steps.{line15, line17, line18, line24, line25, line67, line68, line69, line70, line72}
-use Rattle.machine.specs.Tasks.{Task, none, further}
+use Rattle.machine.specs.Tasks.{Task, noNode, further}
 use Rattle.machine.specs.Table.{nodeCount, laneCount, hat, link, value}
 use Rattle.machine.specs.Lines.{Effect, out≔, val≔, next, writing, backOf, spliced, act}
 use Rattle.machine_capacity.specs.NoLeak.{HatPlace, in-list, beside, IdleTable}
@@ -38,7 +38,7 @@ use Rattle.machine_capacity.proofs.Alone.Build.{Chain}
 use Rattle.machine_capacity.proofs.Alone.CallEnds.{CallEnd, spares, spare, inner}
 
 -- With a chain, back is 15.
-back-15 : (op : Operation) {x : ℕ} (d : Dec (x ≡ none)) → x ≢ none → backOf op d ≡ line15
+back-15 : (op : Operation) {x : ℕ} (d : Dec (x ≡ noNode)) → x ≢ noNode → backOf op d ≡ line15
 back-15 push (yes e) ne = absurd (ne e)
 back-15 push (no e) ne = refl
 back-15 idle d ne = refl
@@ -57,10 +57,10 @@ module _ (k ℓ : ℕ) (s : Side) (S L g : ℕ) (Q : Answer → List ℕ → Typ
   abbrev Next′ : Effect → Type 0
   Next′ e = Next k ℓ s S L g Q m e
 
-  module _ (n : ℕ) (u : Value) (d : ℕ) (h-some : m .hats ℓ s ≢ none) (h-Y : m .val (m .hats ℓ s) ≡ Y s)
-      (q-some : m .inn (m .hats ℓ s) ≢ none) (w-some : m .out (m .inn (m .hats ℓ s)) ≢ none)
+  module _ (n : ℕ) (u : Value) (d : ℕ) (h-some : m .hats ℓ s ≢ noNode) (h-Y : m .val (m .hats ℓ s) ≡ Y s)
+      (q-some : m .inn (m .hats ℓ s) ≢ noNode) (w-some : m .out (m .inn (m .hats ℓ s)) ≢ noNode)
       (after : (a b c : ℕ)
-      → Leads k ℓ s S L g Q (further t0 (backOf (t0 .operation) (d ≟ none)) n u a b c d)
+      → Leads k ℓ s S L g Q (further t0 (backOf (t0 .operation) (d ≟ noNode)) n u a b c d)
       (moved ℓ s m (m .out (m .inn (m .hats ℓ s))))) where
     abbrev h : ℕ
     h = m .hats ℓ s
@@ -76,7 +76,7 @@ module _ (k ℓ : ℕ) (s : Side) (S L g : ℕ) (Q : Answer → List ℕ → Typ
     at-72 =
         line-leads k ℓ s _ _ _ _ (λ f.
         ok-through Next′ (λ e. absurd (w-some e)) (λ _.
-        ok-if Next′ (λ l. writing l (next (further t0 line72 n u h q w d) (backOf (t0 .operation) (d ≟ none)))) (_ ≟ _)
+        ok-if Next′ (λ l. writing l (next (further t0 line72 n u h q w d) (backOf (t0 .operation) (d ≟ noNode)))) (_ ≟ _)
         (λ _. going refl (after h q w)) (λ ne. absurd (ne refl))))
 
     at-70 : (c : ℕ) → Leads′ (further t0 line70 n u h q c d) m
@@ -158,11 +158,11 @@ module _ (end : CallEnd) where
     -- All that was reached, but the spur, is reached.
     module _ (v : value ws (hat ws ℓ s) ≡ Y s) (at-H : m .hats ℓ s ≡ hat ws ℓ s)
         (same-H : SameIn (viewed s ws) m (hat ws ℓ s)) where
-      out-H : m .out (hat ws ℓ s) ≡ none
+      out-H : m .out (hat ws ℓ s) ≡ noNode
       out-H = same-H .same-out ∙ go (idle-end (own-lane end) s .hat-place)
         where
           go : {y inner : ℕ} → HatPlace ws ℓ s (spare end 0) inner y
-              → link ws s (hat ws ℓ s) ≡ none
+              → link ws s (hat ws ℓ s) ≡ noNode
           go (in-list e) =
               absurd (not-Y (idle-end (own-lane end) s .spares)
               (ap (value ws) (sym e) ∙ v))
@@ -206,7 +206,7 @@ module _ (end : CallEnd) where
 
   -- ---- Lines 15 to 25, with the hat in the list.
   module _ (k g : ℕ) (Q : Answer → List ℕ → Type 0) (t0 : Task) (m : View) (n d : ℕ)
-      (St : Stage end m) (hat-at : m .hats ℓ s ≡ spare end 0) (d-some : d ≢ none) where
+      (St : Stage end m) (hat-at : m .hats ℓ s ≡ spare end 0) (d-some : d ≢ noNode) where
     abbrev Leads″ : Task → View → Type 0
     Leads″ = Leads k ℓ s (nodeCount ws) (laneCount ws) g Q
 
@@ -229,7 +229,7 @@ module _ (end : CallEnd) where
       some : 0 < spares end
       some = some-spare end
 
-      place-some : (i x : ℕ) → i < spares end → x ≡ spare end i → x ≢ none
+      place-some : (i x : ℕ) → i < spares end → x ≡ spare end i → x ≢ noNode
       place-some i x l e q = at-some end i l (sym e ∙ q)
 
       val-at : (i x : ℕ) → i < spares end → x ≡ spare end i → m .val x ≡ value ws (spare end i)

@@ -3,7 +3,7 @@ use mathlib.Core.Path.{_≡_, refl, sym, ap, _∙_, subst}
 use mathlib.Core.Logic.{_≢_}
 use mathlib.Core.Bool.{true}
 use mathlib.Core.List.{List, [], _∷_, map}
-use mathlib.Core.Option.{Option, some, none as nothing}
+use mathlib.Core.Option.{Option, some, none}
 use Prim.Native.Nat.{ℕ, zero, suc, _+_, _*_, _≤_, _<_}
 use native.Mathlib.Omega.{arith}
 use lib.ListN.{length, replicate}
@@ -176,7 +176,7 @@ idle-refused ws k ℓ side argument =
     go : (after : List ℕ) (r : Option ℕ) → beginRefusal ws k ℓ (operationNumber idle) side argument ≡ r
         → changed r ws after .reply ≢ Accepted
     go after (some n) e q = refute (cc)
-    go after nothing e q =
+    go after none e q =
         let B = begin-allowed ws k ℓ (operationNumber idle) side argument e in
         let l = B .some-operation in
         omega arith

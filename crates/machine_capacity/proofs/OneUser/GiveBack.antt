@@ -2,7 +2,7 @@
 use mathlib.Core.Path.{_≡_, refl, sym, ap, _∙_, subst}
 use mathlib.Core.Logic.{inl, inr}
 use mathlib.Core.List.{List}
-use mathlib.Core.Option.{none as nothing}
+use mathlib.Core.Option.{none}
 use Prim.Native.Nat.{ℕ, suc, _+_, _-_, _≤_, _<_}
 use native.Mathlib.Omega.{arith}
 use native.Mathlib.Decide.{ℕ-discrete}
@@ -42,7 +42,7 @@ use Rattle.machine_capacity.proofs.OneUser.Room.{not-refused, side-pass
 
 -- A pop and a remove of 0 are not refused.
 sized-calls : (σ : State) (k l : ℕ) (s : Side) → k < σ .tasks → l < σ .lanes
-    → (refusal σ (callOf k l pop s 0) ≡ nothing) × (refusal σ (callOf k l remove s 0) ≡ nothing)
+    → (refusal σ (callOf k l pop s 0) ≡ none) × (refusal σ (callOf k l remove s 0) ≡ none)
 unfolding ℕ-discrete
 sized-calls σ k l s is-task is-lane = (
   rw (lt-ltb l (σ .lanes) is-lane, lt-ltb k (σ .tasks) is-task, side-passes s) refl,
@@ -105,7 +105,7 @@ module _ {σ : State} (p : Loader) (P : CanPush σ p) (none-free : σ .free ≡ 
   first : Numbers σ l s bags r y 0
   first = record { bags-are = refl; spare-is = refl; spur-is = refl; free-is = none-free }
 
-  passes : refusal σ (callOf k l push s (p .tag)) ≡ nothing
+  passes : refusal σ (callOf k l push s (p .tag)) ≡ none
   passes = not-refused k l s σ (p .tag) (P .is-task) (P .is-lane) (P .is-tag) (P .is-new)
 
   longer : length (put s (p .tag) bags) ≡ suc (length bags)
@@ -149,7 +149,7 @@ module _ {σ : State} (p : Loader) (P : CanPush σ p) (none-free : σ .free ≡ 
     E₁ : Elsewhere σ σ₁ l s
     E₁ = call-elsewhere first k push (p .tag) passes comes-to
 
-    passes₁ : refusal σ₁ (callOf k l pop s 0) ≡ nothing
+    passes₁ : refusal σ₁ (callOf k l pop s 0) ≡ none
     passes₁ =
         sized-calls σ₁ k l s (subst (λ (i : ℕ). k < i) (sym (E₁ .same-tasks)) (P .is-task))
         (subst (λ (i : ℕ). l < i) (sym (E₁ .same-lanes)) (P .is-lane)) .0
@@ -160,7 +160,7 @@ module _ {σ : State} (p : Loader) (P : CanPush σ p) (none-free : σ .free ≡ 
     E₂ : Elsewhere σ σ₂ l s
     E₂ = elsewhere-then E₁ (call-elsewhere N₁ k pop 0 passes₁ (pops-back s (p .tag) bags c 0))
 
-    passes₂ : refusal σ₂ (callOf k l remove s 0) ≡ nothing
+    passes₂ : refusal σ₂ (callOf k l remove s 0) ≡ none
     passes₂ =
         sized-calls σ₂ k l s (subst (λ (i : ℕ). k < i) (sym (E₂ .same-tasks)) (P .is-task))
         (subst (λ (i : ℕ). l < i) (sym (E₂ .same-lanes)) (P .is-lane)) .1

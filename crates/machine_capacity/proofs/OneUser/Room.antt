@@ -3,7 +3,7 @@ use mathlib.Core.Path.{_≡_, refl, sym, ap, _∙_, subst}
 use mathlib.Core.Logic.{_≢_}
 use mathlib.Core.Bool.{Bool, true, false, _||_}
 use mathlib.Core.List.{List, [], _∷_}
-use mathlib.Core.Option.{Option, some, none as nothing}
+use mathlib.Core.Option.{Option, some, none}
 use Prim.Native.Nat.{ℕ, suc, _+_, _-_, _≤_, _<_}
 use native.Mathlib.Omega.{arith}
 use native.Mathlib.Decide.{ℕ-discrete}
@@ -71,7 +71,7 @@ by-outcome σ l s v h =
           is-full e (room-then σ l s o ∙ e') a (subst (λ (i : ℕ). 1 ≤ i) (sym (spare-then σ l s o)) kept)
     ]
 
-pub one-push : (σ : State) (l : ℕ) (s : Side) (c : WholeCall) → 1 ≤ σ .lane l .spare s → refusal σ c ≡ nothing
+pub one-push : (σ : State) (l : ℕ) (s : Side) (c : WholeCall) → 1 ≤ σ .lane l .spare s → refusal σ c ≡ none
     → c .lane ≡ l
     → operationOf (c .operation) ≡ push
     → sideOf (c .side) ≡ s
@@ -162,7 +162,7 @@ side-passes right = refl
 module _ (k l : ℕ) (s : Side) where
   pub not-refused : (σ : State) (v : ℕ) → k < σ .tasks → l < σ .lanes → bagOk (stored v) ≡ true
       → isAmong v (bagsOf σ) ≡ false
-      → refusal σ (callOf k l push s v) ≡ nothing
+      → refusal σ (callOf k l push s v) ≡ none
   unfolding ℕ-discrete
   not-refused σ v is-task is-lane is-bag new =
       let new′ : isAmong (number (stored v)) (bagsOf σ) ≡ false =
@@ -225,11 +225,11 @@ full-pushes remove s n g f bags r y =
 
 -- A push that is not refused, at the end of a lane that there is.
 pub record IsPush (σ : State) (c : WholeCall) : Type 0 where
-  pub passes : refusal σ c ≡ nothing
+  pub passes : refusal σ c ≡ none
   pub is-push : operationOf (c .operation) ≡ push
   pub is-lane : c .lane < σ .lanes
 
-lane-passes : (σ : State) (c : WholeCall) → refusal σ c ≡ nothing → c .lane < σ .lanes
+lane-passes : (σ : State) (c : WholeCall) → refusal σ c ≡ none → c .lane < σ .lanes
 lane-passes σ c e = ltb-true (c .lane) (σ .lanes) (test-passed (ltb (c .lane) (σ .lanes)) 26 _ e)
 
 pub full-push : (σ : State) (c : WholeCall) → oneCall σ c .answer ≡ Full → IsPush σ c
@@ -237,7 +237,7 @@ full-push σ c = go (refusal σ c) refl
   where
     go : (o : Option ℕ) → refusal σ c ≡ o → afterCall o σ c .answer ≡ Full → IsPush σ c
     go (some n) q e = clash (cc)
-    go nothing q e =
+    go none q e =
         let i = σ .lane (c .lane) in
         let s = sideOf (c .side) in
         record {

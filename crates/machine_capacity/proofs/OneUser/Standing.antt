@@ -2,7 +2,7 @@
 use mathlib.Core.Path.{_≡_, refl, sym, ap, _∙_, subst}
 use mathlib.Core.Bool.{Bool, true, false, not, _||_}
 use mathlib.Core.List.{List}
-use mathlib.Core.Option.{some, none as nothing}
+use mathlib.Core.Option.{some, none}
 use Prim.Native.Nat.{ℕ, zero, suc, _+_, _≤_, _<_}
 use native.Mathlib.Omega.{arith}
 use lib.Dec.{ltb}
@@ -72,8 +72,8 @@ module _ {S : ℕ} {ws : List ℕ} {σ : State} (P : Standing S ws σ) where
 
   -- ---- Refusals.
   twice-is : (k : ℕ) (op : Operation) (n : ℕ)
-      → twiceRefusal ws op n (unless (isIdle (task ws k .operation)) 8 nothing)
-      ≡ unless (not (isTwice σ op n)) 16 nothing
+      → twiceRefusal ws op n (unless (isIdle (task ws k .operation)) 8 none)
+      ≡ unless (not (isTwice σ op n)) 16 none
   twice-is k push n = rw (lanes-then, none-begun (taskCount ws) n, P .no-call k, or-false (isAmong n (bagsOf σ)))
   twice-is k idle n = rw (P .no-call k)
   twice-is k pop n = rw (P .no-call k)
@@ -91,8 +91,8 @@ module _ {S : ℕ} {ws : List ℕ} {σ : State} (P : Standing S ws σ) where
   unfolding read
   reads l out = go (ltb l (laneCount ws)) refl ∙ ap (λ (n : ℕ). readFrom (ltb l n) (σ .lane l .bags) out) (P .lanes-are)
     where
-      passes : tableRefusal ws (unless (ltb l (laneCount ws)) 26 nothing) ≡ unless (ltb l (laneCount ws)) 26 nothing
-      passes = no-call-refused-with-3-or-4 (P .begun) (unless (ltb l (laneCount ws)) 26 nothing)
+      passes : tableRefusal ws (unless (ltb l (laneCount ws)) 26 none) ≡ unless (ltb l (laneCount ws)) 26 none
+      passes = no-call-refused-with-3-or-4 (P .begun) (unless (ltb l (laneCount ws)) 26 none)
 
       go : (b : Bool) → ltb l (laneCount ws) ≡ b → read ws l out ≡ readFrom (ltb l (laneCount ws)) (σ .lane l .bags) out
       go true e = rw (passes, e, read, lane-is l (ltb-true l (laneCount ws) e))

@@ -3,7 +3,7 @@ use mathlib.Core.Path.{_≡_, refl, sym, ap, _∙_, subst}
 use mathlib.Core.Logic.{inl, inr}
 use mathlib.Core.Bool.{true}
 use mathlib.Core.List.{List, []}
-use mathlib.Core.Option.{Option, some, none as nothing}
+use mathlib.Core.Option.{Option, some, none}
 use Prim.Native.Nat.{ℕ, _+_, _*_, _-_, _%_, _≤_, _<_}
 use native.Mathlib.Omega.{arith}
 use lib.ListN.{length}
@@ -11,7 +11,7 @@ use Rattle.machine.specs.declared.Reply.the-variants.{Accepted}
 use Rattle.machine.specs.Choice.{_≟_, _<?_}
 use Rattle.machine.specs.Sides.{Side, left, right, sideNumber}
 use Rattle.machine.specs.Values.{X}
-use Rattle.machine.specs.Tasks.{Task, none}
+use Rattle.machine.specs.Tasks.{Task, noNode}
 use Rattle.machine.specs.Table.{laneCount, hat, value}
 use Rattle.machine.specs.Shape.{lanesOk, sizesOk}
 use Rattle.machine.specs.Calls.{startRefusal, changed, startWords, start}
@@ -67,7 +67,7 @@ module _ (S T g L : ℕ) (lanes : lanesOk L ≡ true) (ok : sizesOk S T g L ≡ 
       let view-is = viewed-start S T g L fits (start-sized S T g L lanes ok .most-lanes) in
       ap (λ (v : View). v .val (hat ws l s)) view-is
       ∙ ap (λ (v : View). startValue L (v .hats l s)) view-is
-      ∙ ap (startValue L) (if-yes (l <? L) (2 * l + sideNumber s) none h)
+      ∙ ap (startValue L) (if-yes (l <? L) (2 * l + sideNumber s) noNode h)
       ∙ value-at L l h s
 
   idle-then : Idle (startWords S T g L)
@@ -132,4 +132,4 @@ start-stands S T g L old accepted = go (startRefusal old S T g L) refl accepted 
         → Begun (changed r old (startWords S T g L) .words)
         → Standing S (changed r old (startWords S T g L) .words) (startState S T g L)
     go (some n) e q B = clash (cc)
-    go nothing e q B = started S T g L (search test-passed) (search (test-passed, tests-left)) B
+    go none e q B = started S T g L (search test-passed) (search (test-passed, tests-left)) B

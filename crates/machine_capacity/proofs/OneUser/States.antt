@@ -2,7 +2,7 @@
 use mathlib.Core.Path.{_≡_, refl, sym, ap, _∙_}
 use mathlib.Core.Logic.{_≢_, inl, inr}
 use mathlib.Core.List.{List}
-use mathlib.Core.Option.{Option, none as nothing}
+use mathlib.Core.Option.{Option, none}
 use Prim.Native.Nat.{ℕ, zero, suc, _+_}
 use native.Mathlib.Omega.{arith}
 use lib.ListN.{length}
@@ -109,7 +109,7 @@ module _ (σ : State) (l : ℕ) (s : Side) (o : CallOutcome) where
       }
 
 -- ---- A call that is not refused.
-pub call-done : (σ : State) (k l : ℕ) (op : Operation) (s : Side) (n : ℕ) → refusal σ (callOf k l op s n) ≡ nothing
+pub call-done : (σ : State) (k l : ℕ) (op : Operation) (s : Side) (n : ℕ) → refusal σ (callOf k l op s n) ≡ none
     → oneCall σ (callOf k l op s n)
     ≡ record { answer = outcome σ l op s n .answer; state = stateThen σ l s (outcome σ l op s n) }
 call-done σ k l op s n passes =
@@ -121,7 +121,7 @@ call-done σ k l op s n passes =
     ∙ ap (F op s) (number-stored n)
 
 module _ {σ : State} {l : ℕ} {s : Side} {bags : List ℕ} {r y f : ℕ} (N : Numbers σ l s bags r y f) (k : ℕ)
-    (op : Operation) (n : ℕ) (passes : refusal σ (callOf k l op s n) ≡ nothing) {o : CallOutcome}
+    (op : Operation) (n : ℕ) (passes : refusal σ (callOf k l op s n) ≡ none) {o : CallOutcome}
     (comes-to : alone op s n (σ .growth) f bags r y ≡ o) where
   outcome-is : outcome σ l op s n ≡ o
   outcome-is =

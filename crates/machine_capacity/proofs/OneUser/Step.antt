@@ -2,7 +2,7 @@
 use mathlib.Core.Path.{_≡_, refl, sym, ap, _∙_, subst}
 use mathlib.Core.Bool.{Bool, true, false}
 use mathlib.Core.List.{List, [], _∷_}
-use mathlib.Core.Option.{Option, some, none as nothing}
+use mathlib.Core.Option.{Option, some, none}
 use Prim.Native.Nat.{ℕ, _+_, _*_, _-_, _≤_, _<_}
 use native.Mathlib.Omega.{arith}
 use lib.ListN.{length}
@@ -153,7 +153,7 @@ module _ {S : ℕ} {ws : List ℕ} {σ : State} (P : Standing S ws σ) where
     abbrev begun-now : Changed
     begun-now = begin ws (c .task) (c .lane) (c .operation) (c .side) (c .argument)
 
-    module _ (passes : beginRefusal ws (c .task) (c .lane) (c .operation) (c .side) (c .argument) ≡ nothing) where
+    module _ (passes : beginRefusal ws (c .task) (c .lane) (c .operation) (c .side) (c .argument) ≡ none) where
       allowed : BeginAllowed ws (c .task) (c .lane) (c .operation) (c .side) (c .argument)
       allowed = begin-allowed ws (c .task) (c .lane) (c .operation) (c .side) (c .argument) passes
 
@@ -202,10 +202,10 @@ module _ {S : ℕ} {ws : List ℕ} {σ : State} (P : Standing S ws σ) where
           (by-call (P .begun) (begin-call (c .task) (c .lane) (c .operation) (c .side) (c .argument)))
           ∙ accepted-begin A (c .task) (c .lane) (c .operation) (c .side) (c .argument) accepted .same-count
 
-      by-accepted : Step c (wholeCall ws c hints) (afterCall nothing σ c)
+      by-accepted : Step c (wholeCall ws c hints) (afterCall none σ c)
       unfolding done
       by-accepted =
-          subst (λ r. Step c (ticksThen r hints (begun-now .words) k) (afterCall nothing σ c)) (sym accepted)
+          subst (λ r. Step c (ticksThen r hints (begun-now .words) k) (afterCall none σ c)) (sym accepted)
           (record {
             answers = says .0;
             stands = left-standing (c .lane) (allowed .is-lane) s (outcome σ (c .lane) op s v) (says .1) tasks-then;
@@ -222,4 +222,4 @@ module _ {S : ℕ} {ws : List ℕ} {σ : State} (P : Standing S ws σ) where
         go : (r : Option ℕ) → beginRefusal ws (c .task) (c .lane) (c .operation) (c .side) (c .argument) ≡ r
             → Step c (wholeCall ws c hints) (afterCall r σ c)
         go (some n) e = by-refused n e
-        go nothing e = by-accepted e
+        go none e = by-accepted e

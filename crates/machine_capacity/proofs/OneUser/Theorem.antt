@@ -3,7 +3,7 @@ use mathlib.Core.Path.{_≡_, refl, ap, _∙_, subst}
 use mathlib.Core.Logic.{_≢_, _⊎_, inl, inr}
 use mathlib.Core.Bool.{Bool, true, false, not, _&&_}
 use mathlib.Core.List.{List, [], _∷_}
-use mathlib.Core.Option.{Option, some, none as nothing}
+use mathlib.Core.Option.{Option, some, none}
 use Prim.Native.Nat.{ℕ, zero, suc, _+_, _*_, _≤_, _<_}
 use native.Mathlib.Omega.{arith}
 use lib.Dec.{leb, ltb}
@@ -160,14 +160,14 @@ some-operation n h =
     by-if (λ op. op ≢ idle) (n ≟ 3) (λ _ e. refute (cc)) (λ _ e. refute (cc)))))
 
 module _ (σ : State) (c : WholeCall) where
-  not-idle : refusal σ c ≡ nothing → operationOf (c .operation) ≢ idle
+  not-idle : refusal σ c ≡ none → operationOf (c .operation) ≢ idle
   not-idle e =
       let numbers : leb 1 (c .operation) && leb (c .operation) 4 && leb (c .side) 1 ≡ true =
       search (test-passed, tests-left) in
       let b : leb 1 (c .operation) ≡ true = search (and-left, and-right) in
       some-operation (c .operation) (leb-true 1 (c .operation) b)
 
-  call-ends : refusal σ c ≡ nothing
+  call-ends : refusal σ c ≡ none
       → Ends (outcome σ (c .lane) (operationOf (c .operation)) (sideOf (c .side)) (number (c .argument)))
   call-ends e =
       let i = σ .lane (c .lane) in
@@ -177,18 +177,18 @@ module _ (σ : State) (c : WholeCall) where
 
   going-not : (r : Option ℕ) → refusal σ c ≡ r → afterCall r σ c .answer ≢ Going
   going-not (some n) e q = refute (cc)
-  going-not nothing e q = call-ends e .0 q
+  going-not none e q = call-ends e .0 q
 
   refused-by : (r : Option ℕ) → refusal σ c ≡ r → (n : ℕ) → afterCall r σ c .answer ≡ Refused n
       → refusal σ c ≡ some n
   refused-by (some m) e n q = cc
-  refused-by nothing e n q = absurd (call-ends e .1 n q)
+  refused-by none e n q = absurd (call-ends e .1 n q)
 
 pub never-going : NeverGoing
 never-going σ c = going-not σ c (refusal σ c) refl
 
 these : (a b c d e : Bool) (n : ℕ)
-    → unless a 26 (unless b 5 (unless c 6 (unless d 7 (unless e 16 nothing)))) ≡ some n
+    → unless a 26 (unless b 5 (unless c 6 (unless d 7 (unless e 16 none)))) ≡ some n
     → (n ≡ 26) ⊎ (n ≡ 5) ⊎ (n ≡ 6) ⊎ (n ≡ 7) ⊎ (n ≡ 16)
 these false b c d e n q = inl (cc)
 these true false c d e n q = inr (inl (cc))

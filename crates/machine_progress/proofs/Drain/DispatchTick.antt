@@ -3,7 +3,7 @@ use mathlib.Core.Path.{_≡_, refl, sym, ap, _∙_, subst}
 use mathlib.Core.Logic.{_≢_, inl, inr}
 use mathlib.Core.Bool.{Bool, true, false}
 use mathlib.Core.List.{List}
-use mathlib.Core.Option.{Option, some, none as nothing}
+use mathlib.Core.Option.{Option, some, none}
 use Prim.Native.Nat.{ℕ, zero, suc, _+_, _*_, _-_, _≤_, _<_}
 use native.Mathlib.Omega.{arith}
 use borrow.Author.Tests.{lt-ltb}
@@ -84,7 +84,7 @@ module _ {ws : List ℕ} (X : Begun ws) (h : ℕ) (low : h < nodeCount ws) where
   A : Agrees ws (begun-agrees X .0)
   A = begun-agrees X .1
 
-  hint-passes : dispatchRefusal ws h ≡ nothing
+  hint-passes : dispatchRefusal ws h ≡ none
   hint-passes = rw (A .accepted .length-passes, A .accepted .shape-passes, lt-ltb h (nodeCount ws) low) refl
 
   -- It is idle with no task in a call, or the tick of a busy task.
@@ -93,13 +93,13 @@ module _ {ws : List ℕ} (X : Begun ws) (h : ℕ) (low : h < nodeCount ws) where
     is-tick :
         (k : ℕ)
         → nextBusy ws ≡ some k
-        → tickRefusal ws k h ≡ nothing
+        → tickRefusal ws k h ≡ none
         → r .answer ≡ Answered (tickOn ws k h .answer)
         → r .words ≡ setDispatched k (tickOn ws k h .words)
         → Does r
 
   -- No task is busy where none is found.
-  none-busy : nextBusy ws ≡ nothing → (k : ℕ) → isBusyTask ws k ≡ false
+  none-busy : nextBusy ws ≡ none → (k : ℕ) → isBusyTask ws k ≡ false
   none-busy e k = go (isBusyTask ws k) refl
     where
       go : (b : Bool) → isBusyTask ws k ≡ b → isBusyTask ws k ≡ false
@@ -113,20 +113,20 @@ module _ {ws : List ℕ} (X : Begun ws) (h : ℕ) (low : h < nodeCount ws) where
   unfolding dispatch dispatchOn dispatchTo
   dispatch-does = rw (hint-passes, dispatch) (chosen (nextBusy ws) refl)
     where
-      ticked : (k : ℕ) → nextBusy ws ≡ some k → tickRefusal ws k h ≡ nothing → (r : Option ℕ)
+      ticked : (k : ℕ) → nextBusy ws ≡ some k → tickRefusal ws k h ≡ none → (r : Option ℕ)
           → refusalOf (tickOn ws k h .answer) ≡ r
           → Does (dispatchTo ws k h)
-      ticked k e p nothing q = rw (q, dispatchTo) (is-tick k e p refl refl)
+      ticked k e p none q = rw (q, dispatchTo) (is-tick k e p refl refl)
       ticked k e p (some n) q = clash (cc (effect-made A k h p, ap refusalOf (tick-answer ws k h p)))
 
       chosen : (o : Option ℕ) → nextBusy ws ≡ o → Does (dispatchOn ws h)
-      chosen nothing e = rw (e, dispatchOn) (is-idle refl (none-busy e))
+      chosen none e = rw (e, dispatchOn) (is-idle refl (none-busy e))
       chosen (some k) e =
           rw (e, dispatchOn)
           (ticked k e (busy-passes ws k h (chosen-busy ws (A .accepted) h e) low) (refusalOf (tickOn ws k h .answer)) refl)
 
 -- ---- The table after the tick of a dispatch.
-module _ {ws : List ℕ} (X : Begun ws) (k h : ℕ) (p : tickRefusal ws k h ≡ nothing) where
+module _ {ws : List ℕ} (X : Begun ws) (k h : ℕ) (p : tickRefusal ws k h ≡ none) where
   abbrev us : List ℕ
   us = tickOn ws k h .words
 

@@ -3,7 +3,7 @@ use mathlib.Core.Path.{_≡_, refl, sym, ap, _∙_, subst}
 use mathlib.Core.Logic.{_≢_}
 use mathlib.Core.Bool.{true}
 use mathlib.Core.List.{List, [], _∷_}
-use mathlib.Core.Option.{none as nothing}
+use mathlib.Core.Option.{none}
 use Prim.Native.Nat.{ℕ, zero, suc, _+_, _*_, _-_, _≤_, _<_}
 use native.Mathlib.Omega.{arith}
 use lib.ListN.{length}
@@ -100,7 +100,7 @@ Others hints ws =
 module _ {ws : List ℕ} (X : Begun ws) (h : ℕ) (hints : List ℕ) (low : h < nodeCount ws)
     (lows : HintsBelow (nodeCount ws) hints) (others : Others hints (dispatch ws h .words)) where
   -- The tick of a busy task.
-  module _ (k : ℕ) (p : tickRefusal ws k h ≡ nothing)
+  module _ (k : ℕ) (p : tickRefusal ws k h ≡ none)
       (says : dispatch ws h .answer ≡ Answered (tickOn ws k h .answer))
       (leaves : dispatch ws h .words ≡ setDispatched k (tickOn ws k h .words)) where
     abbrev then : List ℕ

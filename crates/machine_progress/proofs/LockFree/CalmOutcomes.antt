@@ -10,7 +10,7 @@ use Rattle.machine.specs.Sides.{Side}
 use Rattle.machine.specs.Values.{N, X, Y, _≟ᵛ_}
 use Rattle.machine.specs.Steps.{Step}
 use Rattle.machine.specs.Steps as Steps
-use Rattle.machine.specs.Tasks.{Task, none, goto, withB, withD, withCounted}
+use Rattle.machine.specs.Tasks.{Task, noNode, goto, withB, withD, withCounted}
 use Rattle.machine.specs.Lines.{Write, out≔, inn≔, val≔, Effect, next, writing, act}
 use Rattle.machine.proofs.Basics.Contradiction.{refute}
 use Rattle.machine.proofs.Basics.Updates.{it-is, it-is-not, update, update-wrote, wrote?, update-other}
@@ -72,7 +72,7 @@ module _ (T : ℕ) {held : ℕ → Bool} (k : ℕ) {L : ℕ} {s o : Side} {m : V
       at-end (late l) = late l
 
   -- ---- Lines 28 and 31.
-  pub line28-outcome : (f ≢ none → TakeOk L held m class f) → LineOk Steps.line28
+  pub line28-outcome : (f ≢ noNode → TakeOk L held m class f) → LineOk Steps.line28
   unfolding act
   line28-outcome free-f h b =
       ok-if Ok (λ e. e) (_ ≟ _) (λ _. ended (no-node-answers (t .operation))) (λ some.
@@ -81,19 +81,19 @@ module _ (T : ℕ) {held : ℕ → Bool} (k : ℕ) {L : ℕ} {s o : Side} {m : V
       (λ _. untouched taken (goto (withCounted (withD t f) 0) Steps.line31) refl (same some) b))
     where
       taken : List Write
-      taken = out≔ f none ∷ inn≔ f none ∷ val≔ f (X s) ∷ []
+      taken = out≔ f noNode ∷ inn≔ f noNode ∷ val≔ f (X s) ∷ []
 
-      same : f ≢ none → (x : ℕ) → held x ≡ true → Old class x
-          → SameIn m (written (t .lane) s (out≔ f none ∷ inn≔ f none ∷ val≔ f (X s) ∷ []) m) x
+      same : f ≢ noNode → (x : ℕ) → held x ≡ true → Old class x
+          → SameIn m (written (t .lane) s (out≔ f noNode ∷ inn≔ f noNode ∷ val≔ f (X s) ∷ []) m) x
       same some x x-held _ =
           let apart : x ≢ f = λ e. refute (cc (free-f some .not-held)) in
           record {
-            same-out = update-other (m .out) f none x apart;
-            same-inn = update-other (m .inn) f none x apart;
+            same-out = update-other (m .out) f noNode x apart;
+            same-inn = update-other (m .inn) f noNode x apart;
             same-val = update-other (m .val) f (X s) x apart;
           }
 
-  pub line31-outcome : (f ≢ none → TakeOk L held m class f) → LineOk Steps.line31
+  pub line31-outcome : (f ≢ noNode → TakeOk L held m class f) → LineOk Steps.line31
   unfolding act
   line31-outcome free-f h b =
       passing t (λ _.
@@ -103,20 +103,20 @@ module _ (T : ℕ) {held : ℕ → Bool} (k : ℕ) {L : ℕ} {s o : Side} {m : V
       (λ _. untouched taken (goto one-more Steps.line31) refl (same some) b)))
     where
       taken : List Write
-      taken = val≔ f (N s) ∷ inn≔ f none ∷ out≔ f (t .D) ∷ inn≔ (t .D) f ∷ []
+      taken = val≔ f (N s) ∷ inn≔ f noNode ∷ out≔ f (t .D) ∷ inn≔ (t .D) f ∷ []
 
       one-more : Task
       one-more = withCounted (withD t f) (suc (t .counted))
 
-      same : f ≢ none → (x : ℕ) → held x ≡ true → Old class x
-          → SameIn m (written (t .lane) s (val≔ f (N s) ∷ inn≔ f none ∷ out≔ f (t .D) ∷ inn≔ (t .D) f ∷ []) m) x
+      same : f ≢ noNode → (x : ℕ) → held x ≡ true → Old class x
+          → SameIn m (written (t .lane) s (val≔ f (N s) ∷ inn≔ f noNode ∷ out≔ f (t .D) ∷ inn≔ (t .D) f ∷ []) m) x
       same some x x-held x-old =
           let apart : x ≢ f = λ e. refute (cc (free-f some .not-held)) in
           let not-D : x ≢ t .D = λ e. refute (cc (head-new (h .chain))) in
           record {
             same-out = update-other (m .out) f (t .D) x apart;
             same-inn =
-                cc (update-other (update (m .inn) f none) (t .D) f x not-D, update-other (m .inn) f none x apart);
+                cc (update-other (update (m .inn) f noNode) (t .D) f x not-D, update-other (m .inn) f noNode x apart);
             same-val = update-other (m .val) f (N s) x apart;
           }
 
@@ -153,17 +153,17 @@ module _ (T : ℕ) {held : ℕ → Bool} (k : ℕ) {L : ℕ} {s o : Side} {m : V
   line79-outcome h b =
       passing t (λ _. is-calm calm tt)
     where
-      calm : Calm held class m (written (t .lane) s (out≔ (t .A) none ∷ []) m)
+      calm : Calm held class m (written (t .lane) s (out≔ (t .A) noNode ∷ []) m)
       calm =
           record {
             same-hats = refl;
             main-same =
                 λ x l c. record {
-                  same-out = update-other (m .out) (t .A) none x (λ e. refute (cc (h .relies .A-spur)));
+                  same-out = update-other (m .out) (t .A) noNode x (λ e. refute (cc (h .relies .A-spur)));
                   same-inn = refl;
                   same-val = refl;
                 };
-            out-ends = λ i x _ _ w. ends-cut (update-wrote (m .out) (t .A) none) w;
+            out-ends = λ i x _ _ w. ends-cut (update-wrote (m .out) (t .A) noNode) w;
             inn-ends = λ i x _ _ w. w;
             values = λ x _ _. kept refl;
           }

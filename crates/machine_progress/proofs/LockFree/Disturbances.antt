@@ -10,7 +10,7 @@ use Rattle.machine.specs.Sides.{Side}
 use Rattle.machine.specs.Values.{N, X, Y}
 use Rattle.machine.specs.Steps.{Step, rest}
 use Rattle.machine.specs.Steps as Steps
-use Rattle.machine.specs.Tasks.{Task, none, inA}
+use Rattle.machine.specs.Tasks.{Task, noNode, inA}
 use Rattle.machine.specs.Registers.{holds}
 use Rattle.machine.proofs.Words.Memories.{View}
 use Rattle.machine.proofs.Linearizability.Model.Classes.{Class, spur, Old}
@@ -29,7 +29,7 @@ Room ℓ s m = m .val (past ℓ s m) ≡ N s
 -- Line 72: a push without a chain may splice if there is no room, any other once; and the hat may go to a wrong node.
 pub record Moving (s : Side) (m : View) (t : Task) (n : ℕ) : Type 0 where
   pub splices : ℕ
-  pub may-splice : SoonOrLate ((t .D ≡ none) × Room (t .lane) s m) 0 1 splices
+  pub may-splice : SoonOrLate ((t .D ≡ noNode) × Room (t .lane) s m) 0 1 splices
   pub may-move :
       SoonOrLate (m .inn (t .A) ≡ m .inn (m .hats (t .lane) s) → t .C ≡ past (t .lane) s m) splices (suc splices) n
 
@@ -41,10 +41,10 @@ Disturbs Steps.line3 T s m t n = SoonOrLate (Room (t .lane) s m × (m .val (t .A
 Disturbs Steps.line5 T s m t n = SoonOrLate (Room (t .lane) s m × (m .val (t .A) ≢ X s)) 0 1 n
 Disturbs Steps.line8 T s m t n = SoonOrLate (Room (t .lane) s m × (m .val (t .A) ≢ X s)) 0 1 n
 -- Moving the hat off a Y.
-Disturbs Steps.line67 T s m t n = SoonOrLate ((t .D ≡ none) × Room (t .lane) s m) 0 1 n
-Disturbs Steps.line68 T s m t n = SoonOrLate ((t .D ≡ none) × Room (t .lane) s m) 0 1 n
-Disturbs Steps.line69 T s m t n = SoonOrLate ((t .D ≡ none) × Room (t .lane) s m) 0 1 n
-Disturbs Steps.line70 T s m t n = SoonOrLate ((t .D ≡ none) × Room (t .lane) s m) 0 1 n
+Disturbs Steps.line67 T s m t n = SoonOrLate ((t .D ≡ noNode) × Room (t .lane) s m) 0 1 n
+Disturbs Steps.line68 T s m t n = SoonOrLate ((t .D ≡ noNode) × Room (t .lane) s m) 0 1 n
+Disturbs Steps.line69 T s m t n = SoonOrLate ((t .D ≡ noNode) × Room (t .lane) s m) 0 1 n
+Disturbs Steps.line70 T s m t n = SoonOrLate ((t .D ≡ noNode) × Room (t .lane) s m) 0 1 n
 Disturbs Steps.line72 T s m t n = Moving s m t n
 -- Add.
 Disturbs Steps.line28 T s m t n = 1 ≤ n
@@ -136,7 +136,7 @@ module _ {held : ℕ → Bool} {s o : Side} {m m' : View} {class class' : ℕ �
   room-stays : NoCut held class (t .lane) s m m' → Room (t .lane) s m → Room (t .lane) s m'
   room-stays U v = let q = W .past-same in cc (U .N-stays v)
 
-  A-held : (t .A ≢ none → held (t .A) ≡ true) → Old class (t .A) → held (t .A) ≡ true
+  A-held : (t .A ≢ noNode → held (t .A) ≡ true) → Old class (t .A) → held (t .A) ≡ true
   A-held u h = u (old-some Z (t .A) h)
 
   Y-stays : held (t .A) ≡ true → Old class (t .A) → m .val (t .A) ≡ Y s → m' .val (t .A) ≡ Y s
@@ -163,8 +163,8 @@ module _ {held : ℕ → Bool} {s o : Side} {m m' : View} {class class' : ℕ �
           | inr d ↦ if-so le (inr (omega arith, d)) b
         ]
 
-    with-chain : SoonOrLate ((t .D ≡ none) × Room (t .lane) s m) 0 1 i
-        → SoonOrLate ((t .D ≡ none) × Room (t .lane) s m') 0 1 i'
+    with-chain : SoonOrLate ((t .D ≡ noNode) × Room (t .lane) s m) 0 1 i
+        → SoonOrLate ((t .D ≡ noNode) × Room (t .lane) s m') 0 1 i'
     with-chain b =
         elim U [
           | inl n ↦ if-so le (inl (λ p. (p .0, room-stays n (p .1)))) b

@@ -11,7 +11,7 @@ use Rattle.machine.specs.Values.{N, X, Y}
 use Rattle.machine.specs.Operations.{Operation, idle, push, pop, add, remove}
 use Rattle.machine.specs.Steps.{Step}
 use Rattle.machine.specs.Steps as Steps
-use Rattle.machine.specs.Tasks.{Task, none, goto}
+use Rattle.machine.specs.Tasks.{Task, noNode, goto}
 use Rattle.machine.specs.Lines.{out≔, val≔, hat≔, Effect, next, writing, spliced, back, act}
 use Rattle.machine.proofs.Basics.Contradiction.{clash, refute, equal?}
 use Rattle.machine.proofs.Basics.Updates.{
@@ -292,7 +292,7 @@ module _ (T : ℕ) (held : ℕ → Bool) (k : ℕ) {L : ℕ} {s o : Side} {m : V
   -- ---- Line 64.
   module _ (h : TaskOk k s o m class Steps.line64 t) (leads : m .out (t .A) ≡ t .B) where
     abbrev unlinked : View
-    unlinked = written (t .lane) s (out≔ (t .A) none ∷ []) m
+    unlinked = written (t .lane) s (out≔ (t .A) noNode ∷ []) m
 
     behind-not-A : (l : ℕ) → l < L → m .inn (m .hats l s) ≢ t .A
     behind-not-A l q e = refute (cc (past-hat (S l q), b-main l q, h .relies .B-spur))
@@ -314,13 +314,13 @@ module _ (T : ℕ) (held : ℕ → Bool) (k : ℕ) {L : ℕ} {s o : Side} {m : V
           near =
               λ l q. record {
                 behind-same = refl;
-                past-same = update-other (m .out) (t .A) none (m .inn (m .hats l s)) (behind-not-A l q);
+                past-same = update-other (m .out) (t .A) noNode (m .inn (m .hats l s)) (behind-not-A l q);
                 stays-off-Y = λ ne. ne;
               };
           far =
               λ l q. record {
-                behind-same = update-other (m .out) (t .A) none (m .hats l o) (far-not-A l q);
-                past-same = cc (update-other (m .out) (t .A) none (m .hats l o) (far-not-A l q));
+                behind-same = update-other (m .out) (t .A) noNode (m .hats l o) (far-not-A l q);
+                past-same = cc (update-other (m .out) (t .A) noNode (m .hats l o) (far-not-A l q));
                 stays-off-Y = λ ne. ne;
               };
         }
@@ -407,7 +407,7 @@ module _ (T : ℕ) (held : ℕ → Bool) (k : ℕ) {L : ℕ} {s o : Side} {m : V
 
     -- The splices left, with the hat moved.
     room-then : {i : ℕ} (w : Moving s m t n) → w .splices ≤ i
-        → SoonOrLate ((t .D ≡ none) × Room (t .lane) s moved) 0 1 i
+        → SoonOrLate ((t .D ≡ noNode) × Room (t .lane) s moved) 0 1 i
     room-then w l =
         elim (w .may-splice) [
           | soon p h ↦ soon (p .0, cc (hat-moved, C-inward, p .1)) (omega arith)
@@ -421,11 +421,11 @@ module _ (T : ℕ) (held : ℕ → Bool) (k : ℕ) {L : ℕ} {s o : Side} {m : V
     by-move w (soon e l) =
         let d : t .C ≡ past (t .lane) s m = e (cc) in
         moves move-steady move-no-cut (cc (h .relies .A-Y)) (λ y. past-off-Y Z (cc (hat-moved)))
-        (back-disturbs T s moved (goto t (back t)) (t .operation) (t .D ≟ none)
+        (back-disturbs T s moved (goto t (back t)) (t .operation) (t .D ≟ noNode)
         (chain-op T held k D t own g f n (h .chain)) (room-then w l))
     by-move w (late l) =
         disturbs {i = n - 1} move-steady move-no-cut (omega arith)
-        (back-disturbs T s moved (goto t (back t)) (t .operation) (t .D ≟ none)
+        (back-disturbs T s moved (goto t (back t)) (t .operation) (t .D ≟ noNode)
         (chain-op T held k D t own g f n (h .chain)) (room-then w (omega arith)))
 
   more : {P : Type 0} {i : ℕ} → i ≤ n → SoonOrLate P 0 1 i → SoonOrLate P 0 1 n
@@ -439,5 +439,5 @@ module _ (T : ℕ) (held : ℕ → Bool) (k : ℕ) {L : ℕ} {s o : Side} {m : V
       ok-if Ok (λ l. writing l (next t (back t))) (_ ≟ _)
       (λ e. by-move h (cc) w (w .may-move))
       (λ _. goes (goto t (back t))
-      (back-disturbs T s m (goto t (back t)) (t .operation) (t .D ≟ none) (chain-op T held k D t own g f n (h .chain))
+      (back-disturbs T s m (goto t (back t)) (t .operation) (t .D ≟ noNode) (chain-op T held k D t own g f n (h .chain))
       (more (in-any-case (omega arith) (w .may-move)) (w .may-splice)))))

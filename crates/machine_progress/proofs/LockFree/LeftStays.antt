@@ -8,7 +8,7 @@ use Rattle.machine.specs.Sides.{Side}
 use Rattle.machine.specs.Values.{Value, Y}
 use Rattle.machine.specs.Steps.{Step, rest}
 use Rattle.machine.specs.Steps as Steps
-use Rattle.machine.specs.Tasks.{Task, none, inA, inB}
+use Rattle.machine.specs.Tasks.{Task, noNode, inA, inB}
 use Rattle.machine.specs.Registers.{holds}
 use Rattle.machine.proofs.Basics.Contradiction.{refute}
 use Rattle.machine.proofs.Words.Memories.{View}
@@ -151,18 +151,18 @@ module _ {L : ℕ} {held : ℕ → Bool} {s o : Side} {m m' : View} {class class
     marking-stays two (fails-once y w) = fails-once (G .Y-stays B r c y) (walk-stays r B-old (omega arith) w)
     marking-stays two (fails w) = fails (walk-stays r B-old (omega arith) w)
 
-  A-held : (t .A ≢ none → held (t .A) ≡ true) → Old class (t .A) → held (t .A) ≡ true
+  A-held : (t .A ≢ noNode → held (t .A) ≡ true) → Old class (t .A) → held (t .A) ≡ true
   A-held u h = u (old-some Z (t .A) h)
 
-  B-held : (t .B ≢ none → held (t .B) ≡ true) → Old class (t .B) → held (t .B) ≡ true
+  B-held : (t .B ≢ noNode → held (t .B) ≡ true) → Old class (t .B) → held (t .B) ≡ true
   B-held u h = u (old-some Z (t .B) h)
 
-  B-walk : {extra i c : ℕ} → (t .B ≢ none → held (t .B) ≡ true) → class (t .B) ≡ spur s
+  B-walk : {extra i c : ℕ} → (t .B ≢ noNode → held (t .B) ≡ true) → class (t .B) ≡ spur s
       → Walking extra (m .out) (t .B) c i
       → Walking extra (m' .out) (t .B) c i
   B-walk u q w = walk-stays (B-held u (cc)) (cc) (omega arith) w
 
-  A-walk : {extra i c : ℕ} → (t .A ≢ none → held (t .A) ≡ true) → Old class (t .A)
+  A-walk : {extra i c : ℕ} → (t .A ≢ noNode → held (t .A) ≡ true) → Old class (t .A)
       → Walking extra (m .out) (t .A) c i
       → Walking extra (m' .out) (t .A) c i
   A-walk u h w = walk-stays (A-held u h) h (omega arith) w

@@ -7,7 +7,7 @@ use Rattle.machine.specs.Sides.{Side}
 use Rattle.machine.specs.Operations.{idle}
 use Rattle.machine.specs.Steps.{Step, rest}
 use Rattle.machine.specs.Steps as Steps
-use Rattle.machine.specs.Tasks.{Task, none}
+use Rattle.machine.specs.Tasks.{Task, noNode}
 use Rattle.machine.specs.Lines.{act}
 use Rattle.machine.proofs.Words.Memories.{View, seenIn}
 use Rattle.machine.proofs.Linearizability.Model.Held.{ClosedSet}
@@ -59,7 +59,7 @@ use Rattle.machine_progress.proofs.LockFree.DisturbingOutcomes.{
 
 module _ (T : ℕ) {held : ℕ → Bool} (k : ℕ) {L : ℕ} {s o : Side} {m : View} {class : ℕ → Class} {r : ℕ → List ℕ}
     (D : Lanes L s o m class r) (H : ClosedSet L held m) (t : Task) (own : t .lane < L) (g f n : ℕ)
-    (free-f : f ≢ none → TakeOk L held m class f) (busy : t .operation ≢ idle) where
+    (free-f : f ≢ noNode → TakeOk L held m class f) (busy : t .operation ≢ idle) where
   pub line-outcome : (st : Step) → TaskOk k s o m class st t → Disturbs st T s m t n
       → TickProgress T L held class (t .lane) s o m n (act st s o (seenIn (t .lane) s m) t g f)
   line-outcome rest h b = absurd (busy (h .belongs))

@@ -4,7 +4,7 @@ use mathlib.Core.Path.{_≡_, refl, sym, ap, _∙_, subst}
 use mathlib.Core.Logic.{_≢_, inl, inr}
 use mathlib.Core.Bool.{true, false}
 use mathlib.Core.List.{List}
-use mathlib.Core.Option.{none as nothing}
+use mathlib.Core.Option.{none}
 use Prim.Native.Nat.{ℕ, suc, _+_, _*_, _-_, _≤_, _<_}
 use native.Mathlib.Omega.{arith}
 use Rattle.machine.specs.declared.Answer.the-variants.{Going}
@@ -193,7 +193,7 @@ pub data Falls (after : List ℕ) (D P : ℕ) : Type 0 where
       → Potential after D' (taskCount after * most 2 (nodeCount after))
       → Falls after D P
 
-module _ {ws : List ℕ} (begun : Begun ws) (k h : ℕ) (passes : tickRefusal ws k h ≡ nothing) {D P : ℕ}
+module _ {ws : List ℕ} (begun : Begun ws) (k h : ℕ) (passes : tickRefusal ws k h ≡ none) {D P : ℕ}
     (Φ : Potential ws D P) (going : effectOf ws k h .answer ≡ Going)
     (same : noteOf (effectOf ws k h .task) ≡ noteOf (task ws k)) where
   abbrev T : ℕ
@@ -445,7 +445,7 @@ module _ {ws : List ℕ} (begun : Begun ws) (k h : ℕ) (passes : tickRefusal ws
   falls = by-outcome (outcome begun k h passes T (Φ .d k) (Φ .may-disturb k busy-now))
 
 -- Every tick that goes on lowers the potential.
-pub potential-falls : {ws : List ℕ} (begun : Begun ws) (k h : ℕ) (passes : tickRefusal ws k h ≡ nothing) {D P : ℕ}
+pub potential-falls : {ws : List ℕ} (begun : Begun ws) (k h : ℕ) (passes : tickRefusal ws k h ≡ none) {D P : ℕ}
     → Potential ws D P
     → effectOf ws k h .answer ≡ Going
     → Falls (tickOn ws k h .words) D P

@@ -11,7 +11,7 @@ use Rattle.machine.specs.Values.{Value, never, bag, N, X, Y, _≟ᵛ_}
 use Rattle.machine.specs.Operations.{Operation, idle, push, pop, add, remove}
 use Rattle.machine.specs.Steps.{Step}
 use Rattle.machine.specs.Steps as Steps
-use Rattle.machine.specs.Tasks.{Task, none, goto, withA, withB, withC, withCounted, withValue}
+use Rattle.machine.specs.Tasks.{Task, noNode, goto, withA, withB, withC, withCounted, withValue}
 use Rattle.machine.specs.Lines.{Effect, next, backOf, back, afterRead, act}
 use Rattle.machine.proofs.Basics.Contradiction.{clash, refute}
 use Rattle.machine.proofs.Words.Memories.{View, seenIn}
@@ -27,9 +27,9 @@ use Rattle.machine_progress.proofs.LockFree.Disturbances.{Room, Disturb
 use Rattle.machine_progress.proofs.LockFree.TickProgress.{TickProgress, goes, ended, passing}
 
 -- Back, to 2 without a chain and to 15 with one.
-pub back-disturbs : (T : ℕ) (s : Side) (m : View) (t : Task) {n : ℕ} (op : Operation) {x : ℕ} (d : Dec (x ≡ none))
-    → (x ≡ none → op ≡ push)
-    → SoonOrLate ((x ≡ none) × Room (t .lane) s m) 0 1 n
+pub back-disturbs : (T : ℕ) (s : Side) (m : View) (t : Task) {n : ℕ} (op : Operation) {x : ℕ} (d : Dec (x ≡ noNode))
+    → (x ≡ noNode → op ≡ push)
+    → SoonOrLate ((x ≡ noNode) × Room (t .lane) s m) 0 1 n
     → Disturbs (backOf op d) T s m t n
 back-disturbs T s m t push (yes e) f (soon p h) = soon (p .1) h
 back-disturbs T s m t push (yes e) f (late h) = late h
@@ -53,7 +53,7 @@ module _ (T : ℕ) (held : ℕ → Bool) (k : ℕ) {L : ℕ} {s o : Side} {m : V
   LineOk st = TaskOk k s o m class st t → Disturbs st T s m t n → Ok (act st s o (seenIn (t .lane) s m) t g f)
 
   -- A task without a chain is a push.
-  pub chain-op : MaybeChain k s m class (t .D) (t .operation) → t .D ≡ none → t .operation ≡ push
+  pub chain-op : MaybeChain k s m class (t .D) (t .operation) → t .D ≡ noNode → t .operation ≡ push
   chain-op (with-chain H) e = absurd (head-some H (D .lane (t .lane) own .structure .none-free) e)
   chain-op (without-chain H p) e = p
 
@@ -110,7 +110,7 @@ module _ (T : ℕ) (held : ℕ → Bool) (k : ℕ) {L : ℕ} {s o : Side} {m : V
       ok-if Ok (λ st. next t st) (_ ≟ᵛ _)
       (λ _. goes (goto t Steps.line69) b)
       (λ _. goes (goto t (back t))
-      (back-disturbs T s m (goto t (back t)) (t .operation) (t .D ≟ none) (chain-op (h .chain)) b)))
+      (back-disturbs T s m (goto t (back t)) (t .operation) (t .D ≟ noNode) (chain-op (h .chain)) b)))
 
   pub line69-outcome : LineOk Steps.line69
   unfolding act
@@ -123,7 +123,7 @@ module _ (T : ℕ) (held : ℕ → Bool) (k : ℕ) {L : ℕ} {s o : Side} {m : V
       passing t (λ _.
       ok-if Ok (λ st. next (withC t c) st) (_ ≟ _)
       (λ _. goes (goto (withC t c) (back t))
-      (back-disturbs T s m (goto (withC t c) (back t)) (t .operation) (t .D ≟ none) (chain-op (h .chain)) b))
+      (back-disturbs T s m (goto (withC t c) (back t)) (t .operation) (t .D ≟ noNode) (chain-op (h .chain)) b))
       (λ _. goes (goto (withC t c) Steps.line72)
       (record { splices = n; may-splice = b; may-move = soon (λ e. cc (h .relies .B-inward)) (omega arith) })))
 

@@ -3,7 +3,7 @@ use mathlib.Core.Path.{_≡_, sym, ap, _∙_, subst}
 use mathlib.Core.Bool.{true}
 use mathlib.Core.Logic.{_⊎_, inl, inr}
 use mathlib.Core.List.{List, [], _∷_}
-use mathlib.Core.Option.{none as nothing}
+use mathlib.Core.Option.{none}
 use Prim.Native.Nat.{ℕ, _<_}
 use native.Mathlib.Omega.{arith}
 use lib.ListN.{length}
@@ -36,7 +36,7 @@ use Rattle.machine_progress.proofs.SoloBound.EndsOrGoes.{ends-or-goes}
 use Rattle.machine_progress.proofs.LockFree.Theorem.{lock-free}
 
 -- The tasks that were busy are busy after a tick that goes on.
-module _ {ws : List ℕ} (X : Begun ws) (k h : ℕ) (p : tickRefusal ws k h ≡ nothing)
+module _ {ws : List ℕ} (X : Begun ws) (k h : ℕ) (p : tickRefusal ws k h ≡ none)
     (goes : effectOf ws k h .answer ≡ Going) where
   abbrev after : List ℕ
   after = tickOn ws k h .words
@@ -77,7 +77,7 @@ module _ (u : Turn) (turns : List Turn) (ws : List ℕ) (X : Begun ws) (b : OfBu
   abbrev h : ℕ
   h = u .hint
 
-  p : tickRefusal ws k h ≡ nothing
+  p : tickRefusal ws k h ≡ none
   p = busy-passes ws k h (b .0) (b .1)
 
   abbrev Comes : List Turn → List ℕ → Type 0

@@ -3,11 +3,11 @@ use mathlib.Core.Path.{_≡_, subst}
 use mathlib.Core.Logic.{_≢_, _⊎_, inl}
 use mathlib.Core.Bool.{true}
 use mathlib.Core.List.{List}
-use mathlib.Core.Option.{none as nothing}
+use mathlib.Core.Option.{none}
 use Prim.Native.Nat.{ℕ, suc, _≤_, _<_}
 use native.Mathlib.Omega.{arith}
 use Rattle.machine.specs.Sides.{Side, right, opposite}
-use Rattle.machine.specs.Tasks.{Task, none, goal}
+use Rattle.machine.specs.Tasks.{Task, noNode, goal}
 use Rattle.machine.specs.Table.{nodeCount, growth, laneCount, task}
 use Rattle.machine.specs.Allocate.{allocate}
 use Rattle.machine.specs.Lines.{Memory, Effect, act}
@@ -52,7 +52,7 @@ DisturbsIn T M t d = Disturbs (t .step) T (t .side) (view (t .side) M) t d
 abbrev pub CalmlyLeft : (S gr : ℕ) → View → Task → (n : ℕ) → Type 0
 CalmlyLeft S gr M t n = LeftWith 2 S gr M t n
 
-module _ {ws : List ℕ} (begun : Begun ws) (k h : ℕ) (passes : tickRefusal ws k h ≡ nothing) where
+module _ {ws : List ℕ} (begun : Begun ws) (k h : ℕ) (passes : tickRefusal ws k h ≡ none) where
   abbrev A : Agrees ws (begun-agrees begun .0)
   A = begun-agrees begun .1
 
@@ -91,7 +91,7 @@ module _ {ws : List ℕ} (begun : Begun ws) (k h : ℕ) (passes : tickRefusal ws
   busy-now : isBusy (task ws k .operation) ≡ true
   busy-now = tick-allowed ws k h passes .2
 
-  free-f : allocate ws h ≢ none → TakeOk L (keeps ws) (view s M) (A .class) (allocate ws h)
+  free-f : allocate ws h ≢ noNode → TakeOk L (keeps ws) (view s M) (A .class) (allocate ws h)
   free-f ne =
       take-ok (A .invariant) R s (allocate ws h)
       (allocate-not-kept (well-linked (A .accepted)) (tick-allowed ws k h passes .1) ne)

@@ -1,7 +1,7 @@
 -- Some call answers: as long as no tick answers, each tick that is made lowers the potential of the table.
 use mathlib.Core.Path.{_≡_, refl, sym, ap, _∙_, subst}
 use mathlib.Core.List.{List}
-use mathlib.Core.Option.{Option, some, none as nothing}
+use mathlib.Core.Option.{Option, some, none}
 use Prim.Native.Nat.{ℕ, zero, suc, _+_, _*_, _≤_}
 use native.Mathlib.Omega.{arith}
 use Rattle.machine.specs.declared.Answer.the-variants.{Going, Refused}
@@ -78,7 +78,7 @@ module _ {ws : List ℕ} (X : Begun ws) (k h : ℕ) where
   after = tickOn ws k h .words
 
   -- The potential afterwards allows fewer ticks.
-  fewer : tickRefusal ws k h ≡ nothing → {D P n : ℕ} → Falls after D P
+  fewer : tickRefusal ws k h ≡ none → {D P n : ℕ} → Falls after D P
       → ((D' P' : ℕ) → Potential after D' P' → n ≤ allows (nodeCount after) (taskCount after) D' P')
       → suc n ≤ allows (nodeCount ws) (taskCount ws) D P
   fewer p {D} {P} {n} (ticks-fall {P'} less Φ) others =
@@ -108,7 +108,7 @@ module _ {ws : List ℕ} (X : Begun ws) (k h : ℕ) where
     where
       go : (r : Option ℕ) → tickRefusal ws k h ≡ r → suc n ≤ allows (nodeCount ws) (taskCount ws) D P
       go (some r) e = clash (cc (ap (λ (x : Ticked). x .answer) (tick-stopped ws k h e)))
-      go nothing p = fewer p (potential-falls X k h p Φ (sym (tick-answer ws k h p) ∙ goes)) others
+      go none p = fewer p (potential-falls X k h p Φ (sym (tick-answer ws k h p) ∙ goes)) others
 
   -- A tick that is refused was refused before its line, so the table is as it was.
   none-made : {r : ℕ} → tickOn ws k h .answer ≡ Refused r → tickOn ws k h .words ≡ ws
@@ -116,7 +116,7 @@ module _ {ws : List ℕ} (X : Begun ws) (k h : ℕ) where
     where
       go : (x : Option ℕ) → tickRefusal ws k h ≡ x → tickOn ws k h .words ≡ ws
       go (some x) e = ap (λ (y : Ticked). y .words) (tick-stopped ws k h e)
-      go nothing p =
+      go none p =
           let made = effect-made (begun-agrees X .1) k h p in
           let q : effectOf ws k h .answer ≡ Refused r = sym (tick-answer ws k h p) ∙ is-no in
           let u : refusalOf (effectOf ws k h .answer) ≡ some r = ap refusalOf q in
@@ -139,8 +139,8 @@ module _ {ws : List ℕ} (X : Begun ws) (h : ℕ) where
           → ((D' P' : ℕ) → Potential (r .words) D' P' → n ≤ allows (nodeCount (r .words)) (taskCount (r .words)) D' P')
           → suc n ≤ allows (nodeCount ws) (taskCount ws) D P
 
-      made : (k : ℕ) → nextBusy ws ≡ some k → tickRefusal ws k h ≡ nothing
-          → refusalOf (tickOn ws k h .answer) ≡ nothing
+      made : (k : ℕ) → nextBusy ws ≡ some k → tickRefusal ws k h ≡ none
+          → refusalOf (tickOn ws k h .answer) ≡ none
           → Goes (record { answer = Answered (tickOn ws k h .answer); words = setDispatched k (tickOn ws k h .words) })
       made k _ _ _ e others =
           let vs = tickOn ws k h .words in

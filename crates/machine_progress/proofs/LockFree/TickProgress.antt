@@ -8,7 +8,7 @@ use Rattle.machine.specs.declared.Answer.the-variants.{Going}
 use mathlib.Core.List.{List, []}
 use Rattle.machine.specs.Sides.{Side}
 use Rattle.machine.specs.Values.{Y}
-use Rattle.machine.specs.Tasks.{Task, none}
+use Rattle.machine.specs.Tasks.{Task, noNode}
 use Rattle.machine.specs.Lines.{Write, Effect, through}
 use Rattle.machine.proofs.Basics.Contradiction.{refute}
 use Rattle.machine.proofs.Words.Memories.{View, written}
@@ -51,6 +51,6 @@ module _ {T L : ℕ} {held : ℕ → Bool} {class : ℕ → Class} {ℓ : ℕ} {
       → TickProgress T L held class ℓ s o m n (record { writes = l; task = t; answer = a })
   ended ne = ends ne
 
-  pub passing : (t : Task) {x : ℕ} {e : Effect} → (x ≢ none → TickProgress T L held class ℓ s o m n e)
+  pub passing : (t : Task) {x : ℕ} {e : Effect} → (x ≢ noNode → TickProgress T L held class ℓ s o m n e)
       → TickProgress T L held class ℓ s o m n (through x t e)
   passing t h = ok-through (TickProgress T L held class ℓ s o m n) (λ _. ended (λ e. refute (cc))) h

@@ -20,7 +20,7 @@ use Rattle.machine.specs.Steps.{
   line31,
   line67,
 }
-use Rattle.machine.specs.Tasks.{Task, none, goto, withA, withB, withD, withCounted, withValue}
+use Rattle.machine.specs.Tasks.{Task, noNode, goto, withA, withB, withD, withCounted, withValue}
 use Rattle.machine.specs.Lines.{Write, out≔, inn≔, val≔, Effect, next, writing, spliced, act}
 use Rattle.machine.proofs.Basics.Contradiction.{clash, refute}
 use Rattle.machine.proofs.Basics.Updates.{it-is, it-is-not, update, update-wrote, wrote?}
@@ -83,20 +83,20 @@ module _ (extra S g : ℕ) (few : g ≤ 64) {s o : Side} {m : View} {class : ℕ
       let off = still-off-Y f (X s) (λ q. refute (cc)) (λ y. refute (cc)) in
       ok-if Ok (λ e. e) (_ ≟ _) (λ _. answered (no-node-answers (t .operation))) (λ _.
       ok-if Ok
-      (λ st. writing (out≔ f none ∷ inn≔ f none ∷ val≔ f (X s) ∷ []) (next (withCounted (withD t f) 0) st)) (_ ≟ _)
+      (λ st. writing (out≔ f noNode ∷ inn≔ f noNode ∷ val≔ f (X s) ∷ []) (next (withCounted (withD t f) 0) st)) (_ ≟ _)
       (λ _. goes (goto (withCounted (withD t f) 0) line15) (omega arith) (soon off (omega arith)))
       (λ some. goes (goto (withCounted (withD t f) 0) line31) (omega arith)
       (record { below = omega arith; when = soon off (omega arith) })))
   line28-spends (late h) =
       ok-if Ok (λ e. e) (_ ≟ _) (λ _. answered (no-node-answers (t .operation))) (λ _.
       ok-if Ok
-      (λ st. writing (out≔ f none ∷ inn≔ f none ∷ val≔ f (X s) ∷ []) (next (withCounted (withD t f) 0) st)) (_ ≟ _)
+      (λ st. writing (out≔ f noNode ∷ inn≔ f noNode ∷ val≔ f (X s) ∷ []) (next (withCounted (withD t f) 0) st)) (_ ≟ _)
       (λ _. goes (goto (withCounted (withD t f) 0) line15) (omega arith) (late (omega arith)))
       (λ some. goes (goto (withCounted (withD t f) 0) line31) (omega arith)
       (record { below = omega arith; when = late (omega arith) })))
 
   abbrev more : List Write
-  more = val≔ f (N s) ∷ inn≔ f none ∷ out≔ f (t .D) ∷ inn≔ (t .D) f ∷ []
+  more = val≔ f (N s) ∷ inn≔ f noNode ∷ out≔ f (t .D) ∷ inn≔ (t .D) f ∷ []
 
   abbrev one-more : Task
   one-more = withCounted (withD t f) (suc (t .counted))
@@ -206,7 +206,7 @@ module _ (extra S g : ℕ) (few : g ≤ 64) {s o : Side} {m : View} {class : ℕ
 
   splices : 1 ≤ n → Left extra line2 S g s (written (t .lane) s splice m) t (n - 1) → (op : Operation)
       → Ok (spliced op splice t)
-  splices some h push = goes (goto (withCounted (withD t none) 0) line2) some h
+  splices some h push = goes (goto (withCounted (withD t noNode) 0) line2) some h
   splices some h idle = answered (λ q. refute (cc))
   splices some h pop = answered (λ q. refute (cc))
   splices some h add = answered (λ q. refute (cc))

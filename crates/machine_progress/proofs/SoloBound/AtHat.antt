@@ -6,7 +6,7 @@ use Prim.Native.Nat.{ℕ, suc, _+_, _-_, _≤_, _<_}
 use native.Mathlib.Omega.{arith}
 use Rattle.machine.specs.Sides.{Side}
 use Rattle.machine.specs.Values.{Value, bag, N, X, Y}
-use Rattle.machine.specs.Tasks.{none}
+use Rattle.machine.specs.Tasks.{noNode}
 use Rattle.machine.proofs.Basics.Contradiction.{clash, less?, refute}
 use Rattle.machine.proofs.Words.Memories.{View}
 use Rattle.machine.proofs.Linearizability.Model.Classes.{Class}
@@ -74,7 +74,7 @@ module _ {ℓ : ℕ} {s o : Side} {m : View} {class : ℕ → Class} {F : Frame}
   pub hat-at : val (hats ℓ s) ≢ Y s → hats ℓ s ≡ at b
   hat-at ne = elim (S .near-hat j j-next) [ inl e ↦ e | inr y ↦ absurd (ne (y .is-Y)) ]
 
-  pub hat-leads : val (hats ℓ s) ≡ N s → out (hats ℓ s) ≢ none
+  pub hat-leads : val (hats ℓ s) ≡ N s → out (hats ℓ s) ≢ noNode
   hat-leads v =
       let e = hat-at (λ y. refute (cc)) in
       elim (less? b n) [
@@ -96,7 +96,7 @@ module _ {ℓ : ℕ} {s o : Side} {m : View} {class : ℕ → Class} {F : Frame}
       (cc (S .links .links-out (b + i) l), omega arith)
 
   -- A node on the path with N leads on; the hat's node holds N unless the path ends at the hat.
-  pub path-leads : {i x : ℕ} → Path s out val (hats ℓ s) i x → val x ≡ N s → out x ≢ none
+  pub path-leads : {i x : ℕ} → Path s out val (hats ℓ s) i x → val x ≡ N s → out x ≢ noNode
   path-leads {i} {x} P v e =
       let w = path-at P in
       let q = w .0 in
@@ -119,14 +119,14 @@ module _ {ℓ : ℕ} {s o : Side} {m : View} {class : ℕ → Class} {F : Frame}
         | inr y ↦ y .leads-back
       ]
 
-  pub behind-some : inn (hats ℓ s) ≢ none
+  pub behind-some : inn (hats ℓ s) ≢ noNode
   behind-some e = at-some S j (omega (arith, j-next, S .b≤n)) (cc (inn-hat))
 
   -- The node that follows the one behind the hat: main's at the hat's index.
   pub past-hat : out (inn (hats ℓ s)) ≡ at b
   past-hat = let q = j-next in cc (inn-hat, S .links .links-out j (omega (arith, j-next, S .b≤n)))
 
-  pub past-some : out (inn (hats ℓ s)) ≢ none
+  pub past-some : out (inn (hats ℓ s)) ≢ noNode
   past-some e = at-some S b (S .b≤n) (cc (past-hat))
 
   pub past-off-Y : val (out (inn (hats ℓ s))) ≢ Y s

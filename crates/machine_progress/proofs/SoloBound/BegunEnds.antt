@@ -6,7 +6,7 @@ use Prim.Native.Nat.{ℕ, _+_, _*_, _-_, _%_, _≤_, _<_}
 use native.Mathlib.Omega.{arith}
 use Rattle.machine.specs.Choice.{_≟_, _<?_, if_then_else_}
 use Rattle.machine.specs.Sides.{Side, left, right, opposite}
-use Rattle.machine.specs.Tasks.{Task, none}
+use Rattle.machine.specs.Tasks.{Task, noNode}
 use Rattle.machine.specs.Table.{mostLanes}
 use Rattle.machine.specs.Begun.{Begun}
 use Rattle.machine.proofs.Basics.Choices.{if-yes, if-no}
@@ -28,27 +28,27 @@ ends-view right m E = E
 
 -- The links of a pair.
 module _ (L x : ℕ) (h : x < 2 * L) where
-  left-even : x % 2 ≡ 0 → startLink L left x ≡ none
+  left-even : x % 2 ≡ 0 → startLink L left x ≡ noNode
   left-even e =
-      if-yes (x <? 2 * L) (if x % 2 ≟ 0 then none else x - 1) none h ∙ if-yes (x % 2 ≟ 0) none (x - 1) e
+      if-yes (x <? 2 * L) (if x % 2 ≟ 0 then noNode else x - 1) noNode h ∙ if-yes (x % 2 ≟ 0) noNode (x - 1) e
 
   left-odd : x % 2 ≢ 0 → startLink L left x ≡ x - 1
   left-odd ne =
-      if-yes (x <? 2 * L) (if x % 2 ≟ 0 then none else x - 1) none h ∙ if-no (x % 2 ≟ 0) none (x - 1) ne
+      if-yes (x <? 2 * L) (if x % 2 ≟ 0 then noNode else x - 1) noNode h ∙ if-no (x % 2 ≟ 0) noNode (x - 1) ne
 
   right-even : x % 2 ≡ 0 → startLink L right x ≡ x + 1
   right-even e =
-      if-yes (x <? 2 * L) (if x % 2 ≟ 0 then x + 1 else none) none h ∙ if-yes (x % 2 ≟ 0) (x + 1) none e
+      if-yes (x <? 2 * L) (if x % 2 ≟ 0 then x + 1 else noNode) noNode h ∙ if-yes (x % 2 ≟ 0) (x + 1) noNode e
 
-  right-odd : x % 2 ≢ 0 → startLink L right x ≡ none
+  right-odd : x % 2 ≢ 0 → startLink L right x ≡ noNode
   right-odd ne =
-      if-yes (x <? 2 * L) (if x % 2 ≟ 0 then x + 1 else none) none h ∙ if-no (x % 2 ≟ 0) (x + 1) none ne
+      if-yes (x <? 2 * L) (if x % 2 ≟ 0 then x + 1 else noNode) noNode h ∙ if-no (x % 2 ≟ 0) (x + 1) noNode ne
 
 -- Start: one link each way in each pair, between nodes of the same pair.
 start-walks : (L : ℕ) (s : Side) → L ≤ mostLanes → WalksEnd (startLink L s)
 start-walks L left few x =
     elim (x <? 2 * L) [
-      | no h ↦ (0, stops (if-no (x <? 2 * L) (if x % 2 ≟ 0 then none else x - 1) none h))
+      | no h ↦ (0, stops (if-no (x <? 2 * L) (if x % 2 ≟ 0 then noNode else x - 1) noNode h))
       | yes h ↦
           elim (x % 2 ≟ 0) [
             | yes e ↦ (0, stops (left-even L x h e))
@@ -57,7 +57,7 @@ start-walks L left few x =
     ]
 start-walks L right few x =
     elim (x <? 2 * L) [
-      | no h ↦ (0, stops (if-no (x <? 2 * L) (if x % 2 ≟ 0 then x + 1 else none) none h))
+      | no h ↦ (0, stops (if-no (x <? 2 * L) (if x % 2 ≟ 0 then x + 1 else noNode) noNode h))
       | yes h ↦
           elim (x % 2 ≟ 0) [
             | no ne ↦ (0, stops (right-odd L x h ne))

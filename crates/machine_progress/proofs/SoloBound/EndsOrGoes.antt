@@ -2,7 +2,7 @@
 use mathlib.Core.Path.{_≡_, refl, sym, ap, _∙_}
 use mathlib.Core.Bool.{true}
 use mathlib.Core.List.{List}
-use mathlib.Core.Option.{none as nothing}
+use mathlib.Core.Option.{none}
 use Prim.Native.Nat.{ℕ}
 use Rattle.machine.specs.declared.Answer.{Answer}
 use Rattle.machine.specs.declared.Answer.the-variants.{Going, Pushed, Bag, Empty, Full, Yes, No, Refused}
@@ -16,7 +16,7 @@ use Rattle.machine.proofs.Linearizability.Calls.MadeTicks.{effect-made}
 use Rattle.machine.proofs.Linearizability.Corollaries.{begun-agrees, tick-passes}
 
 -- An answer that is no refusal.
-pub by-answer : (a : Answer) → refusalOf a ≡ nothing → (P : Type 0) → (endsCall a ≡ true → P) → (a ≡ Going → P) → P
+pub by-answer : (a : Answer) → refusalOf a ≡ none → (P : Type 0) → (endsCall a ≡ true → P) → (a ≡ Going → P) → P
 by-answer Going e P ends goes = goes refl
 by-answer Pushed e P ends goes = ends refl
 by-answer (Bag b) e P ends goes = ends refl
@@ -26,7 +26,7 @@ by-answer Yes e P ends goes = ends refl
 by-answer No e P ends goes = ends refl
 by-answer (Refused n) e P ends goes = clash (cc)
 
-module _ {ws : List ℕ} (X : Begun ws) (k h : ℕ) (passes : tickRefusal ws k h ≡ nothing) where
+module _ {ws : List ℕ} (X : Begun ws) (k h : ℕ) (passes : tickRefusal ws k h ≡ none) where
   says : tick ws k h .answer ≡ effectOf ws k h .answer
   says = ap (λ (r : Ticked). r .answer) (tick-passes (begun-agrees X .1) k h) ∙ tick-answer ws k h passes
 

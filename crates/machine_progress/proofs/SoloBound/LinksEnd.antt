@@ -13,7 +13,7 @@ use Rattle.machine.specs.Values.{Value, N, _≟ᵛ_}
 use Rattle.machine.specs.Operations.{Operation, idle, push, pop, add, remove}
 use Rattle.machine.specs.Steps.{Step, rest}
 use Rattle.machine.specs.Steps as Steps
-use Rattle.machine.specs.Tasks.{Task, none}
+use Rattle.machine.specs.Tasks.{Task, noNode}
 use Rattle.machine.specs.Lines.{out≔, val≔, Effect, next, writing, spliced, back, act}
 use Rattle.machine.proofs.Basics.Contradiction.{less?, refute}
 use Rattle.machine.proofs.Basics.Updates.{Wrote, update, update-wrote}
@@ -46,7 +46,7 @@ chain-out : {k : ℕ} {s : Side} {out inn : ℕ → ℕ} {val : ℕ → Value} {
     → HasChain k s out inn val class d
     → (x : ℕ)
     → class x ≡ new k
-    → out x ≢ none
+    → out x ≢ noNode
     → class (out x) ≡ new k
 chain-out H x c ne =
     let C = H .chain in
@@ -60,7 +60,7 @@ chain-out H x c ne =
 
 -- Of the structure it is only used that inward links of old nodes lead to old nodes.
 module _ (L : ℕ) (held : ℕ → Bool) (k : ℕ) (s o : Side) (m : View) (class : ℕ → Class)
-    (inn-closed : (x : ℕ) → Old class x → m .inn x ≢ none → Old class (m .inn x))
+    (inn-closed : (x : ℕ) → Old class x → m .inn x ≢ noNode → Old class (m .inn x))
     (E : LinksEnd m) (t : Task) (g f : ℕ) where
   abbrev Ok : Effect → Type 0
   Ok e = EndsAfter (t .lane) s m e
@@ -73,8 +73,8 @@ module _ (L : ℕ) (held : ℕ → Bool) (k : ℕ) (s o : Side) (m : View) (clas
   quiet = record { links-end = E }
 
   -- An outward link is cut.
-  cut : (x : ℕ) {t' : Task} {a : Answer} → Ok (record { writes = out≔ x none ∷ []; task = t'; answer = a })
-  cut x = record { links-end = (walks-cut (update-wrote (m .out) x none) (E .0), E .1) }
+  cut : (x : ℕ) {t' : Task} {a : Answer} → Ok (record { writes = out≔ x noNode ∷ []; task = t'; answer = a })
+  cut x = record { links-end = (walks-cut (update-wrote (m .out) x noNode) (E .0), E .1) }
 
   -- A new node's walk outward is in the chain, so a write elsewhere leaves it.
   head-ends : HasChainIn k s m class (t .D) → {out' : ℕ → ℕ} {x y : ℕ} → Wrote (m .out) x y out' → class x ≢ new k
@@ -127,10 +127,10 @@ module _ (L : ℕ) (held : ℕ → Bool) (k : ℕ) (s o : Side) (m : View) (clas
       ok-if Ok (λ e. e) (_ ≟ _) (λ _. quiet) (λ _.
       record {
         links-end =
-            (walks-cut (update-wrote (m .out) f none) (E .0), walks-cut (update-wrote (m .inn) f none) (E .1));
+            (walks-cut (update-wrote (m .out) f noNode) (E .0), walks-cut (update-wrote (m .inn) f noNode) (E .1));
       })
 
-  line31-ends : (f ≢ none → TakeOk L held m class f) → LineOk Steps.line31
+  line31-ends : (f ≢ noNode → TakeOk L held m class f) → LineOk Steps.line31
   unfolding act
   line31-ends free-f h =
       ok-through Ok (λ _. quiet) (λ _.
@@ -145,13 +145,13 @@ module _ (L : ℕ) (held : ℕ → Bool) (k : ℕ) (s o : Side) (m : View) (clas
       w-out : Wrote (m .out) f (t .D) (update (m .out) f (t .D))
       w-out = update-wrote (m .out) f (t .D)
 
-      cut-inn : Wrote (m .inn) f none (update (m .inn) f none)
-      cut-inn = update-wrote (m .inn) f none
+      cut-inn : Wrote (m .inn) f noNode (update (m .inn) f noNode)
+      cut-inn = update-wrote (m .inn) f noNode
 
-      w-inn : Wrote (update (m .inn) f none) (t .D) f (update (update (m .inn) f none) (t .D) f)
-      w-inn = update-wrote (update (m .inn) f none) (t .D) f
+      w-inn : Wrote (update (m .inn) f noNode) (t .D) f (update (update (m .inn) f noNode) (t .D) f)
+      w-inn = update-wrote (update (m .inn) f noNode) (t .D) f
 
-      f-ends : f ≢ none → EndsWithin (update (update (m .inn) f none) (t .D) f) 0 f
+      f-ends : f ≢ noNode → EndsWithin (update (update (m .inn) f noNode) (t .D) f) 0 f
       f-ends some =
           let apart : f ≢ t .D = λ e. free-f some .not-new k (cc (head-new (h .chain))) in
           stops (w-inn .elsewhere f apart ∙ cut-inn .here)
@@ -226,7 +226,7 @@ module _ (L : ℕ) (held : ℕ → Bool) (k : ℕ) (s o : Side) (m : View) (clas
       ok-through Ok (λ _. quiet) (λ _.
       ok-if Ok (λ e. e) (_ ≟ _) (λ _. quiet) (λ _. quiet))
 
-  pub links-end-after : (f ≢ none → TakeOk L held m class f) → (st : Step) → LineOk st
+  pub links-end-after : (f ≢ noNode → TakeOk L held m class f) → (st : Step) → LineOk st
   unfolding act
   links-end-after free-f rest h = quiet
   links-end-after free-f Steps.line2 h = quiet

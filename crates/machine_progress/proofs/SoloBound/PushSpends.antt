@@ -23,7 +23,7 @@ use Rattle.machine.specs.Steps.{
   line70,
   line72,
 }
-use Rattle.machine.specs.Tasks.{Task, none, goto, withA, withB, withC}
+use Rattle.machine.specs.Tasks.{Task, noNode, goto, withA, withB, withC}
 use Rattle.machine.specs.Lines.{Write, Effect, next, writing, backOf, back, act}
 use Rattle.machine.proofs.Basics.Contradiction.{clash, refute}
 use Rattle.machine.proofs.Basics.Updates.{updateHat-same}
@@ -61,7 +61,7 @@ use Rattle.machine_progress.proofs.SoloBound.Spending.{goes, answered, 
 -- Back, to 2 or to 15, with a hat off Y, and with any.
 module _ {extra S g : ℕ} {s : Side} {m : View} {n : ℕ} {l : List Write} (t : Task) where
   back-off-Y : 2 * S + 78 ≤ n → written (t .lane) s l m .val (written (t .lane) s l m .hats (t .lane) s) ≢ Y s
-      → (op : Operation) {x : ℕ} (d : Dec (x ≡ none))
+      → (op : Operation) {x : ℕ} (d : Dec (x ≡ noNode))
       → Spends extra S g (t .lane) s m n (record { writes = l; task = goto t (backOf op d); answer = Going })
   back-off-Y h ne push (yes e) = goes (goto t line2) (omega arith) (start-off-Y ne (omega arith))
   back-off-Y h ne push (no e) = goes (goto t line15) (omega arith) (soon ne (omega arith))
@@ -70,7 +70,7 @@ module _ {extra S g : ℕ} {s : Side} {m : View} {n : ℕ} {l : List Write} (t :
   back-off-Y h ne add d = goes (goto t line15) (omega arith) (soon ne (omega arith))
   back-off-Y h ne remove d = goes (goto t line15) (omega arith) (soon ne (omega arith))
 
-  back-anywhere : 2 * S + 87 ≤ n → (op : Operation) {x : ℕ} (d : Dec (x ≡ none))
+  back-anywhere : 2 * S + 87 ≤ n → (op : Operation) {x : ℕ} (d : Dec (x ≡ noNode))
       → Spends extra S g (t .lane) s m n (record { writes = l; task = goto t (backOf op d); answer = Going })
   back-anywhere h push (yes e) = goes (goto t line2) (omega arith) (start-anywhere (omega arith))
   back-anywhere h push (no e) = goes (goto t line15) (omega arith) (late (omega arith))
@@ -177,12 +177,12 @@ module _ (extra S g : ℕ) {s o : Side} {m : View} {class : ℕ → Class} {r : 
       passing t (λ _.
       ok-if Ok (λ st. next t st) (_ ≟ᵛ _)
       (λ _. goes (goto t line69) (omega arith) (soon e (omega arith)))
-      (λ ne. back-off-Y t (omega arith) (λ y. ne (cc)) (t .operation) (t .D ≟ none)))
+      (λ ne. back-off-Y t (omega arith) (λ y. ne (cc)) (t .operation) (t .D ≟ noNode)))
   line68-spends (late h) =
       passing t (λ _.
       ok-if Ok (λ st. next t st) (_ ≟ᵛ _)
       (λ _. goes (goto t line69) (omega arith) (late (omega arith)))
-      (λ _. back-anywhere t (omega arith) (t .operation) (t .D ≟ none)))
+      (λ _. back-anywhere t (omega arith) (t .operation) (t .D ≟ noNode)))
 
   pub line69-spends : LineOk line69
   unfolding act
@@ -204,7 +204,7 @@ module _ (extra S g : ℕ) {s o : Side} {m : View} {class : ℕ → Class} {r : 
   line70-spends (late h) =
       passing t (λ _.
       ok-if Ok (λ st. next (withC t (m .out (t .B))) st) (_ ≟ _)
-      (λ _. back-anywhere (withC t (m .out (t .B))) (omega arith) (t .operation) (t .D ≟ none))
+      (λ _. back-anywhere (withC t (m .out (t .B))) (omega arith) (t .operation) (t .D ≟ noNode))
       (λ _. goes (goto (withC t (m .out (t .B))) line72) (omega arith) (late (omega arith))))
 
   pub line72-spends : LineOk line72
@@ -213,10 +213,10 @@ module _ (extra S g : ℕ) {s o : Side} {m : View} {class : ℕ → Class} {r : 
       passing t (λ _.
       ok-if Ok (λ l. writing l (next t (back t))) (_ ≟ _)
       (λ _. back-off-Y t (omega arith) (rw (updateHat-same (m .hats) (t .lane) s (t .C)) (e .1))
-      (t .operation) (t .D ≟ none))
+      (t .operation) (t .D ≟ noNode))
       (λ ne. absurd (ne (cc))))
   line72-spends (late h) =
       passing t (λ _.
       ok-if Ok (λ l. writing l (next t (back t))) (_ ≟ _)
-      (λ _. back-anywhere t (omega arith) (t .operation) (t .D ≟ none))
-      (λ _. back-anywhere t (omega arith) (t .operation) (t .D ≟ none)))
+      (λ _. back-anywhere t (omega arith) (t .operation) (t .D ≟ noNode))
+      (λ _. back-anywhere t (omega arith) (t .operation) (t .D ≟ noNode)))

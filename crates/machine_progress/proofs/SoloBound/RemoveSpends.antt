@@ -21,7 +21,7 @@ use Rattle.machine.specs.Steps.{
   line81,
   line82,
 }
-use Rattle.machine.specs.Tasks.{Task, none, goto, withA, withB, withValue, withCounted}
+use Rattle.machine.specs.Tasks.{Task, noNode, goto, withA, withB, withValue, withCounted}
 use Rattle.machine.specs.Lines.{Effect, next, writing, act}
 use Rattle.machine.proofs.Basics.Contradiction.{refute}
 use Rattle.machine.proofs.Basics.Updates.{Wrote, update-wrote}
@@ -48,14 +48,14 @@ module _ {extra : ℕ} {out : ℕ → ℕ} {x c n : ℕ} (w : Walking extra out 
       → Walking extra out x d k
   same-walk h = record { links = w .links; ends = w .ends; within = h (w .within) }
 
-  next-walk : {d k : ℕ} → out x ≢ none → ((j : ℕ) → walkTicks extra (suc j) + c ≤ n → walkTicks extra j + d ≤ k)
+  next-walk : {d k : ℕ} → out x ≢ noNode → ((j : ℕ) → walkTicks extra (suc j) + c ≤ n → walkTicks extra j + d ≤ k)
       → Walking extra out (out x) d k
   next-walk ne h =
       let r = ends-on ne (w .ends) in
       let here = subst (λ (i : ℕ). walkTicks extra i + c ≤ n) (sym (r .1)) (w .within) in
       record { links = r .0; ends = r .2; within = h (r .0) here }
 
-  cut-walk : {d k a : ℕ} {out' : ℕ → ℕ} → Wrote out a none out'
+  cut-walk : {d k a : ℕ} {out' : ℕ → ℕ} → Wrote out a noNode out'
       → (walkTicks extra (w .links) + c ≤ n → walkTicks extra (w .links) + d ≤ k)
       → Walking extra out' x d k
   cut-walk wrote h = record { links = w .links; ends = ends-cut wrote (w .ends); within = h (w .within) }
@@ -116,7 +116,7 @@ module _ (extra S g : ℕ) (s o : Side) (m : View) (t : Task) (f n : ℕ)
       passing t (λ _.
       ok-if Ok (λ l. writing l (next t line74)) (_ ≟ _)
       (λ _. goes (goto t line74) (omega (arith, w .within))
-      (cut-walk w (update-wrote (m .out) (t .A) none) (λ l. omega arith)))
+      (cut-walk w (update-wrote (m .out) (t .A) noNode) (λ l. omega arith)))
       (λ _. goes (goto t line74) (omega (arith, w .within)) (same-walk w (λ l. omega arith))))
 
   pub line74-spends : LineOk line74
@@ -164,7 +164,7 @@ module _ (extra S g : ℕ) (s o : Side) (m : View) (t : Task) (f n : ℕ)
   line79-spends w =
       passing t (λ _.
       goes (goto (withA t (t .B)) line81) (omega (arith, w .within))
-      (cut-walk w (update-wrote (m .out) (t .A) none) (λ l. omega arith)))
+      (cut-walk w (update-wrote (m .out) (t .A) noNode) (λ l. omega arith)))
 
   pub line81-spends : LineOk line81
   unfolding act

@@ -3,7 +3,7 @@ use mathlib.Core.Path.{_≡_, sym, ap, subst}
 use mathlib.Core.Logic.{_≢_, _⊎_, inl, inr}
 use mathlib.Core.Bool.{true}
 use mathlib.Core.List.{List}
-use mathlib.Core.Option.{none as nothing}
+use mathlib.Core.Option.{none}
 use Prim.Native.Nat.{ℕ, _-_, _≤_, _<_}
 use native.Mathlib.Omega.{arith}
 use borrow.Author.Tests.{ltb-true, leb-true}
@@ -12,7 +12,7 @@ use Rattle.machine.specs.Choice.{_<?_}
 use Rattle.machine.specs.Sides.{Side, left, right, opposite}
 use Rattle.machine.specs.Operations.{idle, push, add, goalOf}
 use Rattle.machine.specs.Steps.{line31, isStepIn}
-use Rattle.machine.specs.Tasks.{Task, none, goal}
+use Rattle.machine.specs.Tasks.{Task, noNode, goal}
 use Rattle.machine.specs.Table.{nodeCount, growth, laneCount, link, task}
 use Rattle.machine.specs.Allocate.{allocate}
 use Rattle.machine.specs.Lines.{Memory, Effect, act}
@@ -85,7 +85,7 @@ module _ (extra : ℕ) {ws : List ℕ} (begun : Begun ws) (k : ℕ) where
   links-below z =
       record {
         leads-below = well-linked (A .accepted) .links z;
-        outside = λ x h. if-no (x <? nodeCount ws) _ none (λ l. omega arith);
+        outside = λ x h. if-no (x <? nodeCount ws) _ noNode (λ l. omega arith);
       }
 
   out-below : (z : Side) → LinksBelow (nodeCount ws) (view z (viewed right ws) .out)
@@ -123,7 +123,7 @@ module _ (extra : ℕ) {ws : List ℕ} (begun : Begun ws) (k : ℕ) where
         }
 
   -- ---- A tick.
-  module _ (h n : ℕ) (passes : tickRefusal ws k h ≡ nothing) (B : LeftIn extra ws k n) where
+  module _ (h n : ℕ) (passes : tickRefusal ws k h ≡ none) (B : LeftIn extra ws k n) where
     abbrev e : Effect
     e = effectOf ws k h
 

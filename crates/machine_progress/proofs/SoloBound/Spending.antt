@@ -6,15 +6,15 @@ use Rattle.machine.specs.declared.Answer.{Answer}
 use Rattle.machine.specs.declared.Answer.the-variants.{Going}
 use Rattle.machine.specs.Sides.{Side}
 use Rattle.machine.specs.Operations.{Operation, idle, push, pop, add, remove}
-use Rattle.machine.specs.Tasks.{Task, none}
-use Rattle.machine.specs.Lines.{Write, Effect, through, dcas, noNode}
+use Rattle.machine.specs.Tasks.{Task, noNode}
+use Rattle.machine.specs.Lines.{Write, Effect, through, dcas, noneFree}
 use Rattle.machine.proofs.Basics.Contradiction.{refute}
 use Rattle.machine.proofs.Words.Memories.{View, written}
 use Rattle.machine.proofs.Linearizability.Lines.Connectives.{ok-through}
 use Rattle.machine_progress.proofs.SoloBound.Budget.{Left, Spends}
 
 -- A task that finds no free node answers.
-pub no-node-answers : (op : Operation) → noNode op ≢ Going
+pub no-node-answers : (op : Operation) → noneFree op ≢ Going
 no-node-answers idle e = refute (cc)
 no-node-answers push e = refute (cc)
 no-node-answers pop e = refute (cc)
@@ -31,7 +31,7 @@ module _ {extra S g ℓ : ℕ} {s : Side} {m : View} {n : ℕ} where
   answered ne = record { spends = λ e. absurd (ne e) }
 
   -- A refusal is no "going".
-  pub passing : (t : Task) {x : ℕ} {e : Effect} → (x ≢ none → Spends extra S g ℓ s m n e)
+  pub passing : (t : Task) {x : ℕ} {e : Effect} → (x ≢ noNode → Spends extra S g ℓ s m n e)
       → Spends extra S g ℓ s m n (through x t e)
   passing t h = ok-through (Spends extra S g ℓ s m n) (λ _. answered (λ e. refute (cc))) h
 

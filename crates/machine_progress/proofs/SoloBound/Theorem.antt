@@ -3,7 +3,7 @@
 use mathlib.Core.Path.{_≡_, refl, sym, ap, _∙_, subst}
 use mathlib.Core.Bool.{true}
 use mathlib.Core.List.{List, [], _∷_, map}
-use mathlib.Core.Option.{none as nothing}
+use mathlib.Core.Option.{none}
 use Prim.Native.Nat.{ℕ, zero, suc, _+_, _*_, _-_, _≤_, _<_}
 use native.Mathlib.Omega.{arith}
 use lib.ListN.{length}
@@ -87,7 +87,7 @@ module _ {ws : List ℕ} (X : Begun ws) (k n h : ℕ) (busy : isBusy (task ws k 
       → AnswersAlone k (dispatch-to h ∷ moves) ws
   by-dispatch alone others = go (dispatch-does X h (alone .0))
     where
-      made : tickRefusal ws k h ≡ nothing
+      made : tickRefusal ws k h ≡ none
           → dispatch ws h .answer ≡ Answered (tickOn ws k h .answer)
           → dispatch ws h .words ≡ setDispatched k (tickOn ws k h .words)
           → AnswersAlone k (dispatch-to h ∷ moves) ws
@@ -105,10 +105,10 @@ module _ {ws : List ℕ} (X : Begun ws) (k n h : ℕ) (busy : isBusy (task ws k 
           (subst (λ (vs : List ℕ). LeftIn 0 vs k (n - 1)) on (left .1)) (omega (arith, left .0)) (alone .2 went-on)))
 
       go : Does X h (alone .0) (dispatch ws h) → AnswersAlone k (dispatch-to h ∷ moves) ws
-      go (is-idle e none) = clash (cc (none k))
+      go (is-idle e all-idle) = clash (cc (all-idle k))
       go (is-tick j chosen p says leaves) =
           let same : j ≡ k = cc (alone .1) in
-          made (subst (λ (i : ℕ). tickRefusal ws i h ≡ nothing) same p)
+          made (subst (λ (i : ℕ). tickRefusal ws i h ≡ none) same p)
           (subst (λ (i : ℕ). dispatch ws h .answer ≡ Answered (tickOn ws i h .answer)) same says)
           (subst (λ (i : ℕ). dispatch ws h .words ≡ setDispatched i (tickOn ws i h .words)) same leaves)
 

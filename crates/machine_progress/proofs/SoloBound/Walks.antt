@@ -3,14 +3,14 @@ use mathlib.Core.Path.{_≡_, refl, sym, _∙_, subst}
 use mathlib.Core.Logic.{_≢_, inl, inr}
 use Prim.Native.Nat.{ℕ, zero, suc, _+_, _-_, _≤_, _<_}
 use native.Mathlib.Omega.{arith}
-use Rattle.machine.specs.Tasks.{none}
+use Rattle.machine.specs.Tasks.{noNode}
 use Rattle.machine.proofs.Basics.Contradiction.{equal?, less?}
 use Rattle.machine.proofs.Basics.Updates.{Wrote, it-is, it-is-not, wrote?}
 use Rattle.machine.proofs.Linearizability.Calls.Pigeonhole.{pigeonhole}
 
 -- The walk from x along the link meets none within n links.
 pub data EndsWithin (link : ℕ → ℕ) : (n x : ℕ) → Type 0 where
-  stops : {n x : ℕ} → link x ≡ none → EndsWithin link n x
+  stops : {n x : ℕ} → link x ≡ noNode → EndsWithin link n x
   goes-on : {n x y : ℕ} → link x ≡ y → EndsWithin link n y → EndsWithin link (suc n) x
 
 -- Every walk ends.
@@ -23,7 +23,7 @@ ends-later zero h (goes-on e w) = absurd (omega arith)
 ends-later (suc m) h (goes-on e w) = goes-on e (ends-later m (omega arith) w)
 
 -- One link further on.
-pub ends-on : {link : ℕ → ℕ} {n x : ℕ} → link x ≢ none → EndsWithin link n x
+pub ends-on : {link : ℕ → ℕ} {n x : ℕ} → link x ≢ noNode → EndsWithin link n x
     → (j : ℕ) × (suc j ≡ n) × EndsWithin link j (link x)
 ends-on ne (stops e) = absurd (ne e)
 ends-on {link} ne (goes-on {n} e w) = (n, refl, subst (EndsWithin link n) (sym e) w)
@@ -32,7 +32,7 @@ ends-on {link} ne (goes-on {n} e w) = (n, refl, subst (EndsWithin link n) (sym e
 
 -- A walk through nodes whose links are as before.
 pub ends-same : {link link' : ℕ → ℕ} (P : ℕ → Type 0)
-    → ((x : ℕ) → P x → link x ≢ none → P (link x))
+    → ((x : ℕ) → P x → link x ≢ noNode → P (link x))
     → ((x : ℕ) → P x → link' x ≡ link x)
     → {n x : ℕ}
     → P x
@@ -40,13 +40,13 @@ pub ends-same : {link link' : ℕ → ℕ} (P : ℕ → Type 0)
     → EndsWithin link' n x
 ends-same P closed same {x = x} p (stops e) = stops (same x p ∙ e)
 ends-same {link} P closed same {x = x} p (goes-on {y = y} e w) =
-    elim (equal? (link x) none) [
+    elim (equal? (link x) noNode) [
       | inl q ↦ stops (same x p ∙ q)
       | inr ne ↦ goes-on (same x p ∙ e) (ends-same P closed same (subst P e (closed x p ne)) w)
     ]
 
 -- A link is cut: no walk is longer.
-pub ends-cut : {link link' : ℕ → ℕ} {a : ℕ} → Wrote link a none link' → {n x : ℕ}
+pub ends-cut : {link link' : ℕ → ℕ} {a : ℕ} → Wrote link a noNode link' → {n x : ℕ}
     → EndsWithin link n x
     → EndsWithin link' n x
 ends-cut w {x = x} (stops e) = elim (wrote? w x) [ it-is d q ↦ stops q | it-is-not d q ↦ stops (q ∙ e) ]
@@ -66,7 +66,7 @@ ends-joined w {m} D {x = x} (goes-on e u) =
       | it-is-not p q ↦ (suc (r .0), goes-on (q ∙ e) (r .1))
     ]
 
-pub walks-cut : {link link' : ℕ → ℕ} {a : ℕ} → Wrote link a none link' → WalksEnd link → WalksEnd link'
+pub walks-cut : {link link' : ℕ → ℕ} {a : ℕ} → Wrote link a noNode link' → WalksEnd link → WalksEnd link'
 walks-cut w E x = (E x .0, ends-cut w (E x .1))
 
 pub walks-joined : {link link' : ℕ → ℕ} {a d : ℕ} → Wrote link a d link' → {m : ℕ} → EndsWithin link' m d
@@ -78,14 +78,14 @@ walks-joined w D E x = ends-joined w D (E x .1)
 
 -- The walk meets none after exactly n links.
 data Exactly (link : ℕ → ℕ) : (n x : ℕ) → Type 0 where
-  at-end : {x : ℕ} → link x ≡ none → Exactly link 0 x
-  before : {n x : ℕ} → link x ≢ none → Exactly link n (link x) → Exactly link (suc n) x
+  at-end : {x : ℕ} → link x ≡ noNode → Exactly link 0 x
+  before : {n x : ℕ} → link x ≢ noNode → Exactly link n (link x) → Exactly link (suc n) x
 
 exact : {link : ℕ → ℕ} {n x : ℕ} → EndsWithin link n x → (j : ℕ) × Exactly link j x
 exact (stops e) = (0, at-end e)
 exact {link} {x = x} (goes-on e w) =
     let r = exact w in
-    elim (equal? (link x) none) [
+    elim (equal? (link x) noNode) [
       | inl q ↦ (0, at-end q)
       | inr ne ↦ (suc (r .0), before ne (subst (Exactly link (r .0)) (sym e) (r .1)))
     ]
@@ -112,8 +112,8 @@ along (suc i) r h (before ne e) = along i r (omega arith) e
 
 -- Links lead to nodes below S or to none, and what is no node leads to none.
 pub record LinksBelow (S : ℕ) (link : ℕ → ℕ) : Type 0 where
-  pub leads-below : (x : ℕ) → link x ≢ none → link x < S
-  pub outside : (x : ℕ) → S ≤ x → link x ≡ none
+  pub leads-below : (x : ℕ) → link x ≢ noNode → link x < S
+  pub outside : (x : ℕ) → S ≤ x → link x ≡ noNode
 
 module _ {S : ℕ} {link : ℕ → ℕ} (B : LinksBelow S link) where
   below-along : (i : ℕ) {n x : ℕ} → i ≤ n → x < S → Exactly link n x → walk link i x < S

@@ -2,7 +2,7 @@
 use mathlib.Core.Path.{_≡_, refl, sym, ap, _∙_}
 use mathlib.Core.Bool.{Bool, true, false}
 use mathlib.Core.List.{List}
-use mathlib.Core.Option.{Option, some, none as nothing}
+use mathlib.Core.Option.{Option, some, none}
 use Prim.Native.Nat.{ℕ, _<_}
 use native.Mathlib.Omega.{arith}
 use lib.ListN.{length, replicate, length-replicate}
@@ -76,7 +76,7 @@ module _ (ws : List ℕ) (S T g : ℕ) where
       where
         go : (o : Option ℕ) → changedOf (Refused n) ys ≡ changed o part (startWords S T g lanesStarted) → ys ≡ part
         go (some m) e = ap (λ (d : Changed). d .words) e
-        go nothing e = clash (cc (ap (λ (d : Changed). d .reply) e))
+        go none e = clash (cc (ap (λ (d : Changed). d .reply) e))
 
 -- ---- begin.
 pub begin-done : (ws : List ℕ) (k op side digit low : ℕ) {ys : List ℕ} {r : Reply}

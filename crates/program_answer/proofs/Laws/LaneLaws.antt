@@ -2,7 +2,7 @@
 use mathlib.Core.Path.{_≡_, refl, sym, ap, subst}
 use mathlib.Core.Bool.{Bool, true, false}
 use mathlib.Core.List.{List, [], _∷_}
-use mathlib.Core.Option.{Option, some, none as nothing, Option·map}
+use mathlib.Core.Option.{Option, some, none, Option·map}
 use Prim.Native.Nat.{ℕ, zero, suc, _*_, _≤_}
 use native.Mathlib.Omega.{arith}
 use lib.Dec.{ltb}
@@ -13,7 +13,7 @@ use Rattle.machine.specs.declared.Reading.{Reading}
 use Rattle.machine.specs.Choice.{_≟_}
 use Rattle.machine.specs.Sides.{left, right}
 use Rattle.machine.specs.Values.{Value, never, bag, N, X, Y}
-use Rattle.machine.specs.Tasks.{none}
+use Rattle.machine.specs.Tasks.{noNode}
 use Rattle.machine.specs.Table.{nodeCount, laneCount, hat, link, value}
 use Rattle.machine.specs.Calls.{unless, laneRefusal, laneFrom, lane, ReadDone, readInto, read}
 use Rattle.machine.specs.Results.{readOf}
@@ -29,7 +29,7 @@ use Rattle.program_answer.specs.Space.{mostBags, answeredOf}
 
 -- ---- A lane has no more bags than the table has nodes.
 abbrev countedIn : Option (List ℕ) → ℕ
-countedIn nothing = 0
+countedIn none = 0
 countedIn (some bags) = length bags
 
 -- The bags from a node on that holds v, by those after it.
@@ -47,12 +47,12 @@ lane-from-short : (ws : List ℕ) (n x : ℕ) → countedIn (laneFrom ws n x) �
 unfolding laneFrom
 lane-from-short ws zero x = omega arith
 lane-from-short ws (suc n) x =
-    by-if (λ (l : Option (List ℕ)). countedIn l ≤ suc n) (x ≟ none) (λ _. omega arith)
+    by-if (λ (l : Option (List ℕ)). countedIn l ≤ suc n) (x ≟ noNode) (λ _. omega arith)
     (λ _. at-node (value ws x) (laneFrom ws n (link ws right x)) (lane-from-short ws n (link ws right x)))
   where
     at-node : (v : Value) (rest : Option (List ℕ)) → countedIn rest ≤ n → countedIn (from-node v rest) ≤ suc n
     at-node never rest h = omega arith
-    at-node (bag b) nothing h = omega arith
+    at-node (bag b) none h = omega arith
     at-node (bag b) (some bags) h = omega arith
     at-node (N z) rest h = omega arith
     at-node (X z) rest h = omega arith
@@ -61,13 +61,13 @@ lane-from-short ws (suc n) x =
 -- A table whose lane is not refused is not refused itself.
 table-passes :
     (a b c : Bool)
-    → unless a 3 (unless b 4 (unless c 26 nothing)) ≡ nothing
-    → 0 ≡ numberOf (unless a 3 (unless b 4 nothing))
+    → unless a 3 (unless b 4 (unless c 26 none)) ≡ none
+    → 0 ≡ numberOf (unless a 3 (unless b 4 none))
 table-passes true true c h = refl
 table-passes true false c h = clash (cc)
 table-passes false b c h = clash (cc)
 
-lane-short : (ws : List ℕ) (l : ℕ) → laneRefusal ws l nothing ≡ nothing → countedIn (lane ws l) ≤ mostBags
+lane-short : (ws : List ℕ) (l : ℕ) → laneRefusal ws l none ≡ none → countedIn (lane ws l) ≤ mostBags
 unfolding lane
 lane-short ws l e =
     let zero-is = table-passes (lengthOk ws) (shapeOk ws) (ltb l (laneCount ws)) e in
@@ -81,7 +81,7 @@ Prints text d = (readingText (d .reading) (d .out) ≡ text) × (2 * readingCoun
 module _ (out : List ℕ) (places : length out ≡ 2 * mostBags) where
   row-prints : (row : Option (List ℕ)) → countedIn row ≤ mostBags → Prints (rowText row) (readInto row out)
   unfolding readInto
-  row-prints nothing h = (refl, omega arith)
+  row-prints none h = (refl, omega arith)
   row-prints (some bags) h =
       rw (le-leb (2 * length bags) (length out) (omega arith), readInto) (
         ap laneText (tags-in-words bags (drop (2 * length bags) out)),
@@ -90,11 +90,11 @@ module _ (out : List ℕ) (places : length out ≡ 2 * mostBags) where
 
   read-prints : (ws : List ℕ) → Prints (laneCommand ws .text) (read ws theLane out)
   unfolding read laneCommand
-  read-prints ws = go (laneRefusal ws theLane nothing) refl
+  read-prints ws = go (laneRefusal ws theLane none) refl
     where
-      go : (o : Option ℕ) → laneRefusal ws theLane nothing ≡ o → Prints (laneCommand ws .text) (read ws theLane out)
+      go : (o : Option ℕ) → laneRefusal ws theLane none ≡ o → Prints (laneCommand ws .text) (read ws theLane out)
       go (some n) e = rw (e, read, laneCommand) (refl, omega arith)
-      go nothing e = rw (e, read, laneCommand) (row-prints (lane ws theLane) (lane-short ws theLane e))
+      go none e = rw (e, read, laneCommand) (row-prints (lane ws theLane) (lane-short ws theLane e))
 
   pub lane-done : (ws : List ℕ) {r : Reading} {ys : List ℕ} → readOf r ys ≡ read ws theLane out
       → (answeredOf (readingText r ys) ws ≡ laneCommand ws) × (2 * readingCount r ≤ length ys)

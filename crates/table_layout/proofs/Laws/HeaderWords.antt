@@ -7,7 +7,7 @@ use lib.ListN.{length, set, take, length-set}
 use lib.Seq.{getD-set-other, set-set, set-getD, drop-set-lt}
 use Rattle.machine.specs.Choice.{_<?_}
 use Rattle.machine.specs.Sides.{Side, left, right, sideNumber}
-use Rattle.machine.specs.Tasks.{none, recordLength}
+use Rattle.machine.specs.Tasks.{noNode, recordLength}
 use Rattle.machine.specs.Table.{
   headerLength,
   nodeCountAt,
@@ -34,7 +34,7 @@ module _ (l : ℕ) (is-lane : l < mostLanes) (s : Side) where
 
   pub hat-read : (ws : List ℕ) → hat ws l s ≡ hatWord ws l s
   unfolding hat
-  hat-read ws = if-yes (l <? mostLanes) (hatWord ws l s) none is-lane
+  hat-read ws = if-yes (l <? mostLanes) (hatWord ws l s) noNode is-lane
 
   pub hat-itself : (ws : List ℕ) → setHat l s (hat ws l s) ws ≡ ws
   hat-itself ws = ap (λ (x : ℕ). setHat l s x ws) (hat-read ws) ∙ set-getD ws (hatAt l s) 0

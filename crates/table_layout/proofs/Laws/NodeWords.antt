@@ -5,7 +5,7 @@ use Prim.Native.Nat.{ℕ, zero, suc, _+_, _*_, _<_}
 use native.Mathlib.Omega.{arith}
 use lib.ListN.{length, getD, set}
 use Rattle.machine.specs.Sides.{sideOf}
-use Rattle.machine.specs.Tasks.{none}
+use Rattle.machine.specs.Tasks.{noNode}
 use Rattle.machine.specs.Table.{nodeLength}
 use Rattle.machine.proofs.Words.RecordLaws.{number-of-side}
 use Rattle.table_layout.specs.Words.{HoldsNode, linkIn, setLinkIn}
@@ -22,8 +22,8 @@ pub link-word :
     → side < 2
     → getD ns (nodeLength * x + side) 0 ≡ linkIn ns (sideOf side) x
 link-word ns side x h l =
-    any-default ns (nodeLength * x + side) 0 none (omega arith)
-    ∙ ap (λ (n : ℕ). getD ns (nodeLength * x + n) none) (sym (number-of-side side (omega arith)))
+    any-default ns (nodeLength * x + side) 0 noNode (omega arith)
+    ∙ ap (λ (n : ℕ). getD ns (nodeLength * x + n) noNode) (sym (number-of-side side (omega arith)))
 
 pub link-set : (ns : List ℕ) (side x y : ℕ) → side < 2 → set ns (nodeLength * x + side) y ≡ setLinkIn ns (sideOf side) x y
 link-set ns side x y l = ap (λ (n : ℕ). set ns (nodeLength * x + n) y) (sym (number-of-side side (omega arith)))

@@ -10,7 +10,7 @@ use borrow.Rule.Slice.PartMut.{midOf}
 use Rattle.machine.specs.Choice.{_<?_, if_then_else_}
 use Rattle.machine.specs.Sides.{Side, left, right, sideNumber}
 use Rattle.machine.specs.Values.{never, encode, decode}
-use Rattle.machine.specs.Tasks.{none, fresh, taskOf}
+use Rattle.machine.specs.Tasks.{noNode, fresh, taskOf}
 use Rattle.machine.specs.Table.{
   headerLength,
   nodeLength,
@@ -62,7 +62,7 @@ module _
       ∙ sym (getD-take n (drop headerLength ws) i d (omega arith))
 
   pub link-there : (s : Side) → linkWord ws s x ≡ linkIn (midOf headerLength n ws) s x
-  link-there s = part-word (sideNumber s) none (let q = side-word s in omega arith)
+  link-there s = part-word (sideNumber s) noNode (let q = side-word s in omega arith)
 
   pub value-there : valueWords ws x ≡ storedIn (midOf headerLength n ws) x
   value-there =
@@ -96,9 +96,9 @@ module _ (ws : List ℕ) (sized : Sized (sizesOf ws)) where
   unfolding link
   link-in s x = go (x <? nodeCount ws)
     where
-      go : (d : Dec (x < nodeCount ws)) → (if d then linkWord ws s x else none) ≡ linkIn (nodePart ws) s x
+      go : (d : Dec (x < nodeCount ws)) → (if d then linkWord ws s x else noNode) ≡ linkIn (nodePart ws) s x
       go (yes h) = link-there ws (nodeLength * nodeCount ws) x (omega arith) (omega arith) s
-      go (no h) = sym (past-end x (sideNumber s) none (omega arith))
+      go (no h) = sym (past-end x (sideNumber s) noNode (omega arith))
 
   pub value-in : (x : ℕ) → value ws x ≡ decode (storedIn (nodePart ws) x)
   unfolding value

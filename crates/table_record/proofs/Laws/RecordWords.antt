@@ -7,7 +7,7 @@ use native.Mathlib.Omega.{arith}
 use lib.Dec.{eqb}
 use lib.ListN.{length, getD, set, drop, drop-of-length-le}
 use lib.Seq.{drop-cons}
-use Rattle.machine.specs.Tasks.{fresh, none, recordLength, wordsOf}
+use Rattle.machine.specs.Tasks.{fresh, noNode, recordLength, wordsOf}
 use Rattle.machine.specs.Shape.{sameWords}
 use Rattle.table_record.specs.Coded.{structOf, recordOf, SameCall}
 use Rattle.table_record.specs.declared.Task as Tasks
@@ -76,10 +76,10 @@ isFresh t =
     && eqb (t .counted) 0
     && eqb (t .value .word) 0
     && eqb (t .value .digit) 0
-    && eqb (getD (t .registers) 0 0) none
-    && eqb (getD (t .registers) 1 0) none
-    && eqb (getD (t .registers) 2 0) none
-    && eqb (getD (t .registers) 3 0) none
+    && eqb (getD (t .registers) 0 0) noNode
+    && eqb (getD (t .registers) 1 0) noNode
+    && eqb (getD (t .registers) 2 0) noNode
+    && eqb (getD (t .registers) 3 0) noNode
     && eqb (t .lane) 0
 
 pub fresh-words : (t : Tasks.Task) → isFresh t ≡ sameWords (recordOf t) (wordsOf fresh)

@@ -8,7 +8,7 @@ use native.Mathlib.Numerals.{add-one}
 use lib.ListN.{getD}
 use borrow.Author.Tests.{le-ltb}
 use Rattle.machine.specs.Sides.{Side, left, right}
-use Rattle.machine.specs.Tasks.{Task, none, inA, inB, inC, inD}
+use Rattle.machine.specs.Tasks.{Task, noNode, inA, inB, inC, inD}
 use Rattle.machine.specs.Registers.{heldIn}
 use Rattle.machine.specs.Table.{
   nodeCount,
@@ -75,14 +75,14 @@ pub registers-marked : (S : ℕ) (m₀ m₁ m₂ m₃ m₄ : Marking) (t : Task)
 unfolding markAll
 registers-marked S m₀ m₁ m₂ m₃ m₄ t a b c d = rw (d, c, b, a)
 
-pub found-marked : (S : ℕ) (m v : Marking) (x : ℕ) {b b′ : Bool} → b ≡ b′ → v ≡ mark S m (cond b x none)
-    → v ≡ mark S m (cond b′ x none)
-found-marked S m v x h e = e ∙ ap (λ (b : Bool). mark S m (cond b x none)) h
+pub found-marked : (S : ℕ) (m v : Marking) (x : ℕ) {b b′ : Bool} → b ≡ b′ → v ≡ mark S m (cond b x noNode)
+    → v ≡ mark S m (cond b′ x noNode)
+found-marked S m v x h e = e ∙ ap (λ (b : Bool). mark S m (cond b x noNode)) h
 
 -- None is no node.
-pub none-unmarked : (S : ℕ) (m : Marking) → Room S m → m ≡ mark S m none
+pub none-unmarked : (S : ℕ) (m : Marking) → Room S m → m ≡ mark S m noNode
 unfolding mark
-none-unmarked S m r = let f = r .few in rw (le-ltb none S (omega arith))
+none-unmarked S m r = let f = r .few in rw (le-ltb noNode S (omega arith))
 
 -- ---- One turn of the loop over the tasks, with k of them passed: what the record read holds is marked.
 pub held-marked : (ws : List ℕ) (S k : ℕ) (m : Marking) (t : Coded.Task) (v : Marking) → k < taskCount ws

@@ -8,7 +8,7 @@ use native.Mathlib.Omega.{arith}
 use lib.ListN.{length, getD, take, drop, length-drop}
 use lib.Seq.{getD-drop, drop-drop, take-all}
 use Rattle.machine.specs.Sides.{Side, left, right}
-use Rattle.machine.specs.Tasks.{none}
+use Rattle.machine.specs.Tasks.{noNode}
 use Rattle.machine.specs.Table.{nodeLength, nodeAt, nodeCount, valueAt, linkWord, valueWords, linksLength}
 use Rattle.machine.specs.Values.{valueOk}
 use Rattle.machine.specs.Shape.{nodeOrNone, nodeOk}
@@ -25,8 +25,8 @@ module _ (ws : List ℕ) (x : ℕ) (within : nodeAt x + nodeLength ≤ length ws
   word-first c d l = any-default ws (nodeAt x + c) 0 d (omega arith) ∙ sym (getD-drop (nodeAt x) ws c d)
 
   link-first : (s : Side) → linkWord ws s x ≡ linkIn from s 0
-  link-first left = word-first 0 none (omega arith)
-  link-first right = word-first 1 none (omega arith)
+  link-first left = word-first 0 noNode (omega arith)
+  link-first right = word-first 1 noNode (omega arith)
 
   value-first : valueWords ws x ≡ storedIn from 0
   value-first =

@@ -3,7 +3,7 @@ use mathlib.Core.Path.{_≡_, refl, sym, ap, _∙_}
 use mathlib.Core.Bool.{Bool, true, false}
 use mathlib.Core.Logic.{_≢_}
 use mathlib.Core.List.{List}
-use mathlib.Core.Option.{Option, some, none as nothing}
+use mathlib.Core.Option.{Option, some, none}
 use Prim.Native.Nat.{ℕ, _≤_, _<_}
 use native.Mathlib.Omega.{arith}
 use Rattle.machine.specs.Choice.{_<?_}
@@ -19,18 +19,18 @@ use Rattle.answers.specs.Refusals.{numberOf}
 -- The first two tests decide alone where one of them fails, and leave the rest to the others where both pass.
 decided :
     (a b : Bool) (others : Option ℕ)
-    → numberOf (unless a 3 (unless b 4 nothing)) ≢ 0
-    → unless a 3 (unless b 4 others) ≡ some (numberOf (unless a 3 (unless b 4 nothing)))
+    → numberOf (unless a 3 (unless b 4 none)) ≢ 0
+    → unless a 3 (unless b 4 others) ≡ some (numberOf (unless a 3 (unless b 4 none)))
 decided true true others n = absurd (n refl)
 decided true false others n = refl
 decided false b others n = refl
 
-both-pass : (a b : Bool) → numberOf (unless a 3 (unless b 4 nothing)) ≡ 0 → (a ≡ true) × (b ≡ true)
+both-pass : (a b : Bool) → numberOf (unless a 3 (unless b 4 none)) ≡ 0 → (a ≡ true) × (b ≡ true)
 both-pass true true e = (refl, refl)
 both-pass true false e = absurd (omega (arith, e))
 both-pass false b e = absurd (omega (arith, e))
 
-module _ (ws : List ℕ) {n : ℕ} (is-number : n ≡ numberOf (tableRefusal ws nothing)) where
+module _ (ws : List ℕ) {n : ℕ} (is-number : n ≡ numberOf (tableRefusal ws none)) where
   pub refused : n ≢ 0 → (others : Option ℕ) → tableRefusal ws others ≡ some n
   refused h others =
       decided (lengthOk ws) (shapeOk ws) others (λ e. h (is-number ∙ e)) ∙ ap some (sym is-number)

@@ -7,7 +7,7 @@ use native.Mathlib.Omega.{arith}
 use lib.Dec.{eqb, ltb}
 use lib.ListN.{length}
 use borrow.Author.Tests.{le-leb, lt-leb, lt-ltb, le-ltb}
-use Rattle.machine.specs.Tasks.{none, recordLength}
+use Rattle.machine.specs.Tasks.{noNode, recordLength}
 use Rattle.machine.specs.Table.{recordAt, tableLength, nodeCount, taskCount, growth, laneCount, mostLanes, hatWord, hat}
 use Rattle.machine.specs.Shape.{lanesOk, sizesOk, lengthOk, sizesOf, WellSized}
 use Rattle.machine.specs.Sides.{left, right}
@@ -51,7 +51,7 @@ module _ (ws : List ℕ) where
     pub hats-used : {S : ℕ} → S ≡ nodeCount ws → l < laneCount ws → ltb x S && ltb y S ≡ hatsOk ws l
     hats-used count h = rw (left-word, right-word, count, lt-ltb l (laneCount ws) h)
 
-    pub hats-unused : laneCount ws ≤ l → eqb x none && eqb y none ≡ hatsOk ws l
+    pub hats-unused : laneCount ws ≤ l → eqb x noNode && eqb y noNode ≡ hatsOk ws l
     hats-unused h = rw (left-word, right-word, le-ltb l (laneCount ws) h)
 
   module _ (passes : lengthOk ws ≡ true) where

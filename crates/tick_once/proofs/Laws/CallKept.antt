@@ -11,9 +11,9 @@ use Rattle.machine.specs.Values.{_≟ᵛ_, stored}
 use Rattle.machine.specs.Operations.{Operation, idle, push, pop, add, remove, operationNumber}
 use Rattle.machine.specs.Steps.{Step, rest}
 use Rattle.machine.specs.Steps as Steps
-use Rattle.machine.specs.Tasks.{Task, none, goal}
+use Rattle.machine.specs.Tasks.{Task, noNode, goal}
 use Rattle.machine.specs.Table.{growth, task}
-use Rattle.machine.specs.Lines.{Memory, seen, Write, Effect, through, noNode, spliced, act}
+use Rattle.machine.specs.Lines.{Memory, seen, Write, Effect, through, noneFree, spliced, act}
 use Rattle.machine.specs.Allocate.{allocate}
 use Rattle.machine.specs.Calls.{effectOf}
 use Rattle.machine.specs.Row.{Note}
@@ -25,7 +25,7 @@ use Rattle.table_record.specs.Coded.{codedTask, SameCall}
 pub record KeepsCall (t : Task) (e : Effect) : Type 0 where
   pub kept : e .answer ≡ Going → noteOf (e .task) ≡ noteOf t
 
-no-node-answers : (op : Operation) → noNode op ≢ Going
+no-node-answers : (op : Operation) → noneFree op ≢ Going
 no-node-answers idle h = clash (cc)
 no-node-answers push h = clash (cc)
 no-node-answers pop h = clash (cc)
@@ -39,7 +39,7 @@ module _ (s o : Side) (m : Memory) (t : Task) (g f : ℕ) where
   keeps : {e : Effect} → (e .answer ≡ Going → noteOf (e .task) ≡ noteOf t) → P e
   keeps h = record { kept = h }
 
-  past : {x : ℕ} {e : Effect} → (x ≢ none → P e) → P (through x t e)
+  past : {x : ℕ} {e : Effect} → (x ≢ noNode → P e) → P (through x t e)
   past = ok-through P (λ _. keeps (λ q. clash (cc)))
 
   spliced-keeps : (op : Operation) (l : List Write) → P (spliced op l t)

@@ -6,7 +6,7 @@ use Prim.Native.Nat.{ℕ, _<_}
 use lib.ListN.{getD}
 use Rattle.machine.specs.Choice.{_≟_}
 use Rattle.machine.specs.Steps.{line31}
-use Rattle.machine.specs.Tasks.{none}
+use Rattle.machine.specs.Tasks.{noNode}
 use Rattle.machine.specs.Lines.{act}
 use Rattle.machine.proofs.Basics.Choices.{equal, by-if}
 use Rattle.table_record.specs.declared.Task as Tasks
@@ -18,9 +18,9 @@ pub found-enough :
     → lineOf line31 ns h t g (foundAt31 t f) ≡ lineOf line31 ns h t g f
 unfolding lineOf act
 found-enough ns h t g f =
-    by-if (λ x. lineOf line31 ns h t g x ≡ lineOf line31 ns h t g f) (getD (t .registers) 3 0 ≟ none)
+    by-if (λ x. lineOf line31 ns h t g x ≡ lineOf line31 ns h t g f) (getD (t .registers) 3 0 ≟ noNode)
     (λ e. rw (equal e)) (λ _. refl)
 
-pub found-node : (t : Tasks.Task) (f S : ℕ) → (f ≢ none → f < S) → foundAt31 t f ≢ none → foundAt31 t f < S
+pub found-node : (t : Tasks.Task) (f S : ℕ) → (f ≢ noNode → f < S) → foundAt31 t f ≢ noNode → foundAt31 t f < S
 found-node t f S h =
-    by-if (λ x. x ≢ none → x < S) (getD (t .registers) 3 0 ≟ none) (λ _ n. absurd (n refl)) (λ _. h)
+    by-if (λ x. x ≢ noNode → x < S) (getD (t .registers) 3 0 ≟ noNode) (λ _ n. absurd (n refl)) (λ _. h)

@@ -3,7 +3,7 @@ use mathlib.Core.Path.{_≡_, refl, sym, ap, _∙_, subst}
 use mathlib.Core.Bool.{Bool, true, false, cond, _||_}
 use mathlib.Core.Logic.{_≢_}
 use mathlib.Core.List.{List}
-use mathlib.Core.Option.{none as nothing}
+use mathlib.Core.Option.{none}
 use Prim.Native.Nat.{ℕ, _*_, _<_}
 use native.Mathlib.Omega.{arith}
 use lib.ListN.{length}
@@ -16,7 +16,7 @@ use Rattle.machine.specs.Sides.{Side, sideOf}
 use Rattle.machine.specs.Values.{number}
 use Rattle.machine.specs.Operations.{operationOf, argumentOk, goalOf}
 use Rattle.machine.specs.Steps.{line28, line31, stepOf, isStepIn}
-use Rattle.machine.specs.Tasks.{Task, none, wordsOf, goal}
+use Rattle.machine.specs.Tasks.{Task, noNode, wordsOf, goal}
 use Rattle.machine.specs.Table.{
   nodeLength,
   recordAt,
@@ -70,7 +70,7 @@ use Rattle.tick_once.proofs.Laws.TickWords.{line-is-effect, refused-wor
 
 applied-made :
     (ℓ : ℕ) (s : Side) (ws : List ℕ) (k : ℕ) (e : Effect)
-    → refusalOf (e .answer) ≡ nothing
+    → refusalOf (e .answer) ≡ none
     → applied ℓ s ws k e ≡ tickedOf (e .answer) (effectWords ℓ s (e .writes) k (e .task) ws)
 unfolding applied
 applied-made ℓ s ws k e h = rw (h, applied)
@@ -114,10 +114,10 @@ module _ (ws : List ℕ) (k hint : ℕ) (M : MayTick ws k hint) where
   line-ready : ReadyIn allSteps (nodePart ws) K
   line-ready = ready-task ws Z W k (M .is-task) (M .busy)
 
-  found-low : allocate ws hint ≢ none → allocate ws hint < nodeCount ws
+  found-low : allocate ws hint ≢ noNode → allocate ws hint < nodeCount ws
   found-low = allocated-node ws hint (M .is-hint)
 
-  found-held : {f : ℕ} → (f ≢ none → f < nodeCount ws) → f ≢ none → HoldsNode (nodePart ws) f
+  found-held : {f : ℕ} → (f ≢ noNode → f < nodeCount ws) → f ≢ noNode → HoldsNode (nodePart ws) f
   found-held {f} = held-or-none ws Z W k (M .is-task) f
 
   record-lane : K .lane < mostLanes
@@ -183,7 +183,7 @@ module _ (ws : List ℕ) (k hint : ℕ) (M : MayTick ws k hint) where
         isRefused (d .answer) ≡ false
         → tickedOf (d .answer) (stored (withNodes ns ws) ℓ s (d .hat) k (d .task)) ≡ made ws k hint
     made-tick r =
-        let none-refused : refusalOf (effectOf ws k hint .answer) ≡ nothing
+        let none-refused : refusalOf (effectOf ws k hint .answer) ≡ none
         = ap refusalOf (sym answer-is) ∙ made-answer (d .answer) r in
         let in-range = fit-effect (nodeCount ws) (growth ws) (laneCount ws) fits none-refused .0 in
         let written = made-words ℓ s ws k E record-lane nodes-room in-range nodes-are hat-is in
@@ -225,16 +225,16 @@ module _ (ws : List ℕ) (k hint : ℕ) (M : MayTick ws k hint) where
           narrowed e = rw (ne-eqb (r .step) 28 n₂₈, ne-eqb (r .step) 31 n₃₁) at e
 
       -- The node found, at 28 and at 31.
-      its-node : {f : ℕ} → (f ≢ none → f < nodeCount ws) → f ≢ none → HoldsNode part f
-      its-node {f} h = subst (λ (l : List ℕ). f ≢ none → HoldsNode l f) (sym is-part) (found-held h)
+      its-node : {f : ℕ} → (f ≢ noNode → f < nodeCount ws) → f ≢ noNode → HoldsNode part f
+      its-node {f} h = subst (λ (l : List ℕ). f ≢ noNode → HoldsNode l f) (sym is-part) (found-held h)
 
-      pub found-28 : {f : ℕ} → f ≡ allocate ws hint → f ≢ none → HoldsNode part f
-      found-28 e = its-node (subst (λ (x : ℕ). x ≢ none → x < nodeCount ws) (sym e) found-low)
+      pub found-28 : {f : ℕ} → f ≡ allocate ws hint → f ≢ noNode → HoldsNode part f
+      found-28 e = its-node (subst (λ (x : ℕ). x ≢ noNode → x < nodeCount ws) (sym e) found-low)
 
-      pub found-31 : {f : ℕ} → f ≡ foundAt31 r (allocate ws hint) → f ≢ none → HoldsNode part f
+      pub found-31 : {f : ℕ} → f ≡ foundAt31 r (allocate ws hint) → f ≢ noNode → HoldsNode part f
       found-31 e =
           its-node
-          (subst (λ (x : ℕ). x ≢ none → x < nodeCount ws) (sym e)
+          (subst (λ (x : ℕ). x ≢ noNode → x < nodeCount ws) (sym e)
           (found-node r (allocate ws hint) (nodeCount ws) found-low))
 
       -- The line that the code makes, by what it knows of the step and of the node, with its hat.

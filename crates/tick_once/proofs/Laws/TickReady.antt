@@ -23,7 +23,7 @@ use Rattle.machine.specs.Operations.{
   goalOf,
 }
 use Rattle.machine.specs.Steps.{stepNumber, stepOf, stepsOf, isStepIn}
-use Rattle.machine.specs.Tasks.{Task, none}
+use Rattle.machine.specs.Tasks.{Task, noNode}
 use Rattle.machine.specs.Table.{nodeCount, taskCount, growth, laneCount, mostLanes, nodePart, valueWords, recordWords, task}
 use Rattle.machine.specs.Shape.{recordOk, sizesOf, WellSized}
 use Rattle.machine.specs.Calls.{isBusy}
@@ -84,7 +84,7 @@ module _ (ws : List ℕ) (Z : WellSized (sizesOf ws)) (W : WellShaped (columns w
   pub side-low : record-at .side < 2
   side-low = let h = number-low (sideOf (record-at .side)) in rw side-back at h
 
-  pub held-or-none : (r : ℕ) → NodeOrNone (nodeCount ws) r → r ≢ none → HoldsNode (nodePart ws) r
+  pub held-or-none : (r : ℕ) → NodeOrNone (nodeCount ws) r → r ≢ noNode → HoldsNode (nodePart ws) r
   held-or-none r h n = node-held ws (Z .sized) r (h n)
 
   values-held : (x : ℕ) → HoldsNode (nodePart ws) x → valueOk (storedIn (nodePart ws) x) ≡ true
@@ -100,14 +100,14 @@ module _ (ws : List ℕ) (Z : WellSized (sizesOf ws)) (W : WellShaped (columns w
     registers-held :
         (i : ℕ)
         → i < 4
-        → getD (record-at .registers) i 0 ≢ none
+        → getD (record-at .registers) i 0 ≢ noNode
         → HoldsNode (nodePart ws) (getD (record-at .registers) i 0)
     registers-held i h = by-place i h
       where
         by-place :
             (i : ℕ)
             → i < 4
-            → getD (record-at .registers) i 0 ≢ none
+            → getD (record-at .registers) i 0 ≢ noNode
             → HoldsNode (nodePart ws) (getD (record-at .registers) i 0)
         by-place zero h = held-or-none _ (facts .A-ok)
         by-place (suc zero) h = held-or-none _ (facts .B-ok)

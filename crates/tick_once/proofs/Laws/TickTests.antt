@@ -3,7 +3,7 @@ use mathlib.Core.Path.{_≡_, refl, sym, ap, _∙_}
 use mathlib.Core.Bool.{Bool, true, false, not}
 use mathlib.Core.Logic.{_≢_}
 use mathlib.Core.List.{List}
-use mathlib.Core.Option.{none as nothing}
+use mathlib.Core.Option.{none}
 use Prim.Native.Nat.{ℕ, zero, suc, _≤_, _<_}
 use borrow.Author.Tests.{lt-ltb, le-ltb}
 use Rattle.machine.specs.declared.Answer.the-variants.{Refused}
@@ -21,10 +21,10 @@ use Rattle.tick_once.specs.Steps.{made}
 use Rattle.table_shape.proofs.Laws.PassedTable.{refused, table-passed, operation-is}
 
 -- ---- Refusals 3 and 4 by their number.
-module _ (ws : List ℕ) {n : ℕ} (is-number : n ≡ numberOf (tableRefusal ws nothing)) (k h : ℕ) where
+module _ (ws : List ℕ) {n : ℕ} (is-number : n ≡ numberOf (tableRefusal ws none)) (k h : ℕ) where
   pub tick-refused : n ≢ 0 → tickedOf (Refused n) ws ≡ tick ws k h
   unfolding tick
-  tick-refused r = rw (refused ws is-number r nothing, tick)
+  tick-refused r = rw (refused ws is-number r none, tick)
 
   pub tick-goes-on : n ≡ 0 → tickOn ws k h ≡ tick ws k h
   unfolding tick

@@ -1,7 +1,7 @@
 -- `call_dispatch::consecutive::dispatches_on` meets its contract. The loop's invariant: the dispatches that are left give what
 -- all give.
 use mathlib.Core.Path.{_≡_, refl, sym, ap, _∙_}
-use mathlib.Core.Option.{none as nothing}
+use mathlib.Core.Option.{none}
 use Prim.Native.Nat.{ℕ, suc, _+_, _-_, _≤_}
 use native.Mathlib.Omega.{arith}
 use lib.ListN.{length}
@@ -17,7 +17,7 @@ abbrev Inv-loop : tie.InvT-loop
 Inv-loop t₀ hint times made₀ t made =
     (made ≤ times)
     × (length t ≡ length t₀)
-    × (dispatchRefusal t hint ≡ nothing)
+    × (dispatchRefusal t hint ≡ none)
     × (dispatches (times - made) t hint ≡ dispatches times t₀ hint)
 
 abbrev μ-loop : tie.MeasureT-loop

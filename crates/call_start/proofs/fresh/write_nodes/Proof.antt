@@ -3,7 +3,7 @@ use mathlib.Core.Path.{ap, _∙_}
 use mathlib.Core.List.{List, _++_}
 use Prim.Native.Nat.{ℕ, _*_, _-_}
 use Rattle.machine.specs.Values.{never}
-use Rattle.machine.specs.Tasks.{none}
+use Rattle.machine.specs.Tasks.{noNode}
 use Rattle.machine.specs.Table.{nodeWords}
 use Rattle.machine.specs.Calls.{times}
 use borrow.Author.Needs.{needs}
@@ -28,7 +28,7 @@ returns c =
     let first = unused .before .before .before .before in
     let a = first .before .before .before .args in
     unused .write-unused .ensures
-    ∙ ap (λ (l : List ℕ). l ++ times (a .slots - 2 * a .lanes) (nodeWords none none never))
+    ∙ ap (λ (l : List ℕ). l ++ times (a .slots - 2 * a .lanes) (nodeWords noNode noNode never))
     (first .write-sentinels .ensures)
 
 pub write-nodes-spec : {M : Type 1} → statement M

@@ -8,7 +8,7 @@ use native.Mathlib.Nat.{sub-zero}
 use lib.ListN.{length}
 use Rattle.machine.specs.Sides.{right}
 use Rattle.machine.specs.Values.{X, encode}
-use Rattle.machine.specs.Tasks.{none}
+use Rattle.machine.specs.Tasks.{noNode}
 use Rattle.machine.specs.Table.{nodeLength}
 use Rattle.table_layout.specs.Words.{setNodeIn}
 use Rattle.machine.specs.Calls.{startNodes}
@@ -80,11 +80,11 @@ loop-again c =
     let s = first .before .before .before .before .before .before in
     let n = s .args .lanes in
     let one =
-    first .write .ensures ∙ ap (setNodeIn (l .ns) (2 * l .l) none (2 * l .l + 1)) (first .before .x-of .ensures) in
+    first .write .ensures ∙ ap (setNodeIn (l .ns) (2 * l .l) noNode (2 * l .l + 1)) (first .before .x-of .ensures) in
     let two =
     second .write2 .ensures
-    ∙ ap (setNodeIn (first .write .last .0) (2 * l .l + 1) (2 * l .l) none) (second .before .x-of2 .ensures)
-    ∙ ap (λ (t : List ℕ). setNodeIn t (2 * l .l + 1) (2 * l .l) none (encode (X right))) one in (
+    ∙ ap (setNodeIn (first .write .last .0) (2 * l .l + 1) (2 * l .l) noNode) (second .before .x-of2 .ensures)
+    ∙ ap (λ (t : List ℕ). setNodeIn t (2 * l .l + 1) (2 * l .l) noNode (encode (X right))) one in (
       omega arith,
       second .write2 .kept .0 ∙ first .write .kept .0 ∙ l .inv .1,
       rw two

@@ -5,7 +5,7 @@ use Prim.Native.Nat.{ℕ, _+_, _*_, _-_, _≤_}
 use native.Mathlib.Omega.{arith}
 use lib.ListN.{length}
 use Rattle.machine.specs.Values.{never}
-use Rattle.machine.specs.Tasks.{none}
+use Rattle.machine.specs.Tasks.{noNode}
 use Rattle.machine.specs.Table.{nodeLength, nodeWords}
 use Rattle.table_layout.specs.Words.{setNodeIn}
 use Rattle.call_start.proofs.Filling.{filling, filling-more, filling-done}
@@ -14,7 +14,7 @@ use Rattle.call_start.proofs.fresh.write_unused.Statement.{statement}
 use Rattle.call_start.proofs.fresh.write_unused.Tie as tie
 
 abbrev unused : List ℕ
-unused = nodeWords none none never
+unused = nodeWords noNode noNode never
 
 abbrev Inv-loop : tie.InvT-loop
 Inv-loop ns₀ first slots x₀ ns x =
@@ -46,7 +46,7 @@ loop-again c =
     let n = c .before .before .before .before .before .before .before .before .args .slots in
     let w = c .before .before .write in
     let v = c .before .before .before .never in
-    let written = w .ensures ∙ ap (setNodeIn (l .ns) (l .x) none none) (v .ensures) in (
+    let written = w .ensures ∙ ap (setNodeIn (l .ns) (l .x) noNode noNode) (v .ensures) in (
       omega arith,
       w .kept .0 ∙ l .inv .1,
       rw written

@@ -4,14 +4,14 @@ use mathlib.Core.Path.{_≡_, refl, sym, subst}
 use mathlib.Core.Logic.{_≢_}
 use mathlib.Core.Bool.{Bool, true, false}
 use mathlib.Core.List.{List}
-use mathlib.Core.Option.{Option, some, none as nothing}
+use mathlib.Core.Option.{Option, some, none}
 use Prim.Native.Nat.{ℕ, _≤_}
 use Rattle.machine.specs.Values.{number}
 use Rattle.machine.specs.declared.Reply.the-variants.{Accepted}
 use Rattle.machine.specs.declared.Stored.{Stored}
 use Rattle.machine.specs.Sides.{Side, right, opposite, sideOf}
 use Rattle.machine.specs.Operations.{Operation, idle, operationOf}
-use Rattle.machine.specs.Tasks.{Task, fresh, none, goal}
+use Rattle.machine.specs.Tasks.{Task, fresh, noNode, goal}
 use Rattle.machine.specs.Table.{growth, laneCount, mostLanes, task}
 use Rattle.machine.specs.Shape.{lanesOk, sizesOk}
 use Rattle.machine.specs.Allocate.{allocate}
@@ -65,7 +65,7 @@ pub record LastsFor (Fact : (lanes : ℕ) → View → (ℕ → Task) → Type 0
       → Roots L held M ts
       → (k g f : ℕ)
       → ts k .operation ≢ idle
-      → (f ≢ none → held f ≡ false)
+      → (f ≢ noNode → held f ≡ false)
       → Fact L
       (viewAfter (ts k .lane) (ts k .side) (effectIn M ts k g f .writes) M) (update ts k (effectIn M ts k g f .task))
 
@@ -93,7 +93,7 @@ module _ {Fact : (lanes : ℕ) → View → (ℕ → Task) → Type 0} (L : Last
       where
         go : (r : Option ℕ) → startRefusal ws S T g lanes ≡ r → Of (changed r ws (startWords S T g lanes) .words)
         go (some n) e = F
-        go nothing e = start-has S T g lanes (search test-passed) (search (test-passed, tests-left))
+        go none e = start-has S T g lanes (search test-passed) (search (test-passed, tests-left))
 
     begin-keeps : (k l op side : ℕ) (argument : Stored) → Of (begin ws k l op side argument .words)
     begin-keeps k l op side argument =
@@ -101,7 +101,7 @@ module _ {Fact : (lanes : ℕ) → View → (ℕ → Task) → Type 0} (L : Last
         rw (T .same-lanes, T .viewed-same right, T .tasks-then)
         (L .at-begin F k (T .was-fresh) l (operationOf op) (sideOf side) (number argument)))
 
-    made-keeps : (k h : ℕ) → tickRefusal ws k h ≡ nothing → Of (tickOn ws k h .words)
+    made-keeps : (k h : ℕ) → tickRefusal ws k h ≡ none → Of (tickOn ws k h .words)
     unfolding effectOf
     made-keeps k h passes =
         let t = task ws k in
@@ -125,7 +125,7 @@ module _ {Fact : (lanes : ℕ) → View → (ℕ → Task) → Type 0} (L : Last
       where
         go : (r : Option ℕ) → tickRefusal ws k h ≡ r → Of (tickOn ws k h .words)
         go (some n) e = rw (e, tickOn) F
-        go nothing e = made-keeps k h e
+        go none e = made-keeps k h e
 
     -- A dispatch, which is a tick or changes nothing.
     dispatch-keeps : (h : ℕ) → Of (dispatch ws h .words)
@@ -161,6 +161,6 @@ module _ {Fact : (lanes : ℕ) → View → (ℕ → Task) → Type 0} (L : Last
       go : (r : Option ℕ) → startRefusal old S T g lanes ≡ r → changed r old (startWords S T g lanes) .reply ≡ Accepted
           → Of (changed r old (startWords S T g lanes) .words)
       go (some n) e q = clash (cc)
-      go nothing e q = start-has S T g lanes (search test-passed) (search (test-passed, tests-left))
+      go none e q = start-has S T g lanes (search test-passed) (search (test-passed, tests-left))
   begun-has (by-call {ws = ws} B c) =
       let A = begun-agrees B in call-keeps c ws (A .0, A .1, begun-has B) .2

@@ -3,7 +3,7 @@ use mathlib.Core.Path.{_≡_, sym, ap, _∙_, subst}
 use mathlib.Core.Logic.{_≢_}
 use mathlib.Core.Bool.{true}
 use mathlib.Core.List.{List}
-use mathlib.Core.Option.{none as nothing}
+use mathlib.Core.Option.{none}
 use Prim.Native.Nat.{ℕ}
 use Rattle.machine.specs.Sides.{Side, right}
 use Rattle.machine.specs.Tasks.{Task}
@@ -21,7 +21,7 @@ use Rattle.machine.proofs.Linearizability.Model.Invariant.{noteOf}
 use Rattle.machine.proofs.Linearizability.Calls.Agreement.{Agrees}
 use Rattle.machine.proofs.Linearizability.Calls.MadeTicks.{effect-made}
 
-module _ {ws : List ℕ} {ρ : Row} (A : Agrees ws ρ) (k h : ℕ) (passes : tickRefusal ws k h ≡ nothing) where
+module _ {ws : List ℕ} {ρ : Row} (A : Agrees ws ρ) (k h : ℕ) (passes : tickRefusal ws k h ≡ none) where
   abbrev after : List ℕ
   after = tickOn ws k h .words
 

@@ -1,7 +1,7 @@
 -- The table after a begin: as it was where the begin is refused, and with one record written where it is accepted.
 use mathlib.Core.Path.{_≡_, refl, ap}
 use mathlib.Core.List.{List}
-use mathlib.Core.Option.{Option, some, none as nothing}
+use mathlib.Core.Option.{Option, some, none}
 use Prim.Native.Nat.{ℕ, _<_}
 use Rattle.machine.specs.Values.{number}
 use Rattle.machine.specs.declared.Reply.the-variants.{Accepted, Refused as Reply-Refused}
@@ -59,7 +59,7 @@ module _ {ws : List ℕ} {ρ : Row} (A : Agrees ws ρ) (k l op side : ℕ) (argu
       go : (r : Option ℕ) → beginRefusal ws k l op side argument ≡ r → Kept ws (changed r ws (setTask k t ws) .words)
           → P (changed r ws (setTask k t ws))
       go (some n) e K = refused n
-      go nothing e K =
+      go none e K =
           let B = begin-allowed ws k l op side argument e in
           accepted (setTask k t ws)
           (record {

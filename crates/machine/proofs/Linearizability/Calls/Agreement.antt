@@ -1,7 +1,7 @@
 -- The table and the row agree; so each lane in the table is its row.
 use mathlib.Core.Path.{_≡_, refl, sym, ap, _∙_, subst}
 use mathlib.Core.List.{List}
-use mathlib.Core.Option.{Option, some, none as nothing, bind}
+use mathlib.Core.Option.{Option, some, none, bind}
 use Prim.Native.Nat.{ℕ, zero, suc, _≤_, _<_}
 use native.Mathlib.Omega.{arith}
 use Rattle.machine.specs.Shape.{WellFormed}
@@ -20,7 +20,7 @@ use Rattle.machine.proofs.Linearizability.Calls.Reading.{lane-row}
 
 -- The note of a task: its call, or none where it is idle.
 abbrev pub noteUnder : Operation → Note → Option Note
-noteUnder idle n = nothing
+noteUnder idle n = none
 noteUnder push n = some n
 noteUnder pop n = some n
 noteUnder add n = some n

@@ -2,7 +2,7 @@
 use mathlib.Core.Path.{_≡_, refl, sym, ap, _∙_, subst, fun-ext}
 use mathlib.Core.Bool.{Bool, true}
 use mathlib.Core.List.{List}
-use mathlib.Core.Option.{Option, some, none as nothing, bind}
+use mathlib.Core.Option.{Option, some, none, bind}
 use Prim.Native.Nat.{ℕ, _≤_, _<_}
 use native.Mathlib.Omega.{arith}
 use borrow.Author.Tests.{lt-ltb, le-leb}
@@ -156,7 +156,7 @@ module _ {ws : List ℕ} {ρ : Row} (A : Agrees ws ρ) where
 
       go : (r : Option ℕ) → startRefusal ws S T g L ≡ r → Result (changed r ws (startWords S T g L))
       go (some n) e = (ρ, refl, A)
-      go nothing e =
+      go none e =
           (emptyRow T L, refl, start-agrees S T g L (search test-passed) (search (test-passed, tests-left)))
 
   -- ---- begin.
@@ -197,7 +197,7 @@ module _ {ws : List ℕ} {ρ : Row} (A : Agrees ws ρ) where
           → WellFormed (changed r ws (setTask k t ws) .words)
           → Result (changed r ws (setTask k t ws))
       go (some m) e ok = (ρ, refl, A)
-      go nothing e ok =
+      go none e ok =
           let B = begin-allowed ws k l op side argument e in
           let Z = well-sized ws (A .accepted .length-passes) in
           let viewed-after = viewed-set-task ws (Z .sized) k (B .is-task) t right in
@@ -239,12 +239,12 @@ module _ {ws : List ℕ} {ρ : Row} (A : Agrees ws ρ) where
 
       go : (r : Option ℕ) → tickRefusal ws k h ≡ r → Result (tickOn ws k h)
       go (some n) e = rw (e, tickOn) (ρ, refl, A)
-      go nothing e =
+      go none e =
           let m = made-tick A k h e in
           (m .row, rw (m .no-number, feedTick) (m .given), m .agrees)
 
       passed : (r : Option ℕ) → tickRefusal ws k h ≡ r → Result (tick ws k h)
-      passed r e = rw (table-passes ws (A .accepted) nothing, tick) (go r e)
+      passed r e = rw (table-passes ws (A .accepted) none, tick) (go r e)
 
   -- ---- dispatch.
 
@@ -274,11 +274,11 @@ module _ {ws : List ℕ} {ρ : Row} (A : Agrees ws ρ) where
           → Result (record { answer = Answered (tickOn ws k h .answer); words = ws })
       line-refused k n chosen q = (ρ, rw (q, feedDispatch), A)
 
-      idle-now : nextBusy ws ≡ nothing → Result (record { answer = Idle; words = ws })
+      idle-now : nextBusy ws ≡ none → Result (record { answer = Idle; words = ws })
       idle-now e = (ρ, rw (next-same ∙ e, feedIdle), A)
 
-      made : (k : ℕ) → nextBusy ws ≡ some k → tickRefusal ws k h ≡ nothing
-          → refusalOf (tickOn ws k h .answer) ≡ nothing
+      made : (k : ℕ) → nextBusy ws ≡ some k → tickRefusal ws k h ≡ none
+          → refusalOf (tickOn ws k h .answer) ≡ none
           → Result
           (record { answer = Answered (tickOn ws k h .answer); words = setDispatched k (tickOn ws k h .words) })
       made k chosen passes q =

@@ -2,7 +2,7 @@
 use mathlib.Core.Path.{_≡_, refl, sym, subst}
 use mathlib.Core.Bool.{Bool, true, false}
 use mathlib.Core.List.{List}
-use mathlib.Core.Option.{Option, some, none as nothing, bind}
+use mathlib.Core.Option.{Option, some, none, bind}
 use Prim.Native.Nat.{ℕ, zero, suc}
 use Rattle.machine.specs.declared.Answer.{Answer}
 use Rattle.machine.specs.declared.Answer.the-variants.{Going}
@@ -21,7 +21,7 @@ going-stays ρ k {ρ′} e = go (ρ .notes k) e
   where
     go : (o : Option Note) → bind o (λ n. some ρ) ≡ some ρ′ → ρ′ ≡ ρ
     go (some n) q = cc
-    go nothing q = clash (cc)
+    go none q = clash (cc)
 
 module _ (k h : ℕ) where
   -- What ticks come to, by the outcome of the last.

@@ -2,7 +2,7 @@
 use mathlib.Core.Path.{_≡_, refl, sym, subst}
 use mathlib.Core.Bool.{Bool, true, false, cond, _&&_}
 use mathlib.Core.List.{List}
-use mathlib.Core.Option.{some, none as nothing}
+use mathlib.Core.Option.{some, none}
 use Prim.Native.Nat.{ℕ, _*_, _≤_, _<_}
 use native.Mathlib.Omega.{arith}
 use lib.Dec.{leb, ltb}
@@ -131,7 +131,7 @@ module _ {ws : List ℕ} {ρ : Row} (A : Agrees ws ρ) where
       by-lane (yes h) =
           let is-lane : l < ρ .lanes = subst (λ (m : ℕ). l < m) (sym (A .same-lanes)) h in
           rw (
-            table-passes ws (A .accepted) (unless (ltb l (laneCount ws)) 26 nothing),
+            table-passes ws (A .accepted) (unless (ltb l (laneCount ws)) 26 none),
             lt-ltb l (laneCount ws) h,
             read,
             lanes-are-rows A l is-lane,
@@ -141,7 +141,7 @@ module _ {ws : List ℕ} {ρ : Row} (A : Agrees ws ρ) where
           let past : laneCount ws ≤ l = omega arith in
           let no-lane : ρ .lanes ≤ l = subst (λ (m : ℕ). m ≤ l) (sym (A .same-lanes)) past in
           rw (
-            table-passes ws (A .accepted) (unless (ltb l (laneCount ws)) 26 nothing),
+            table-passes ws (A .accepted) (unless (ltb l (laneCount ws)) 26 none),
             le-ltb l (laneCount ws) past,
             read,
             le-ltb l (ρ .lanes) no-lane,
@@ -149,7 +149,7 @@ module _ {ws : List ℕ} {ρ : Row} (A : Agrees ws ρ) where
 
   -- What is wanted is given.
   same-given : (c : Changed)
-      → cond (sameReply (c .reply) (c .reply) && sameWords (c .words) (c .words)) (some ρ) nothing ≡ some ρ
+      → cond (sameReply (c .reply) (c .reply) && sameWords (c .words) (c .words)) (some ρ) none ≡ some ρ
   same-given c = rw (same-reply (c .reply), same-words-refl (c .words))
     where
       same-reply : (r : Reply) → sameReply r r ≡ true
@@ -168,7 +168,7 @@ module _ {ws : List ℕ} {ρ : Row} (A : Agrees ws ρ) where
       by-lane (yes h) =
           let is-lane : l < ρ .lanes = subst (λ (m : ℕ). l < m) (sym (A .same-lanes)) h in
           rw (
-            table-passes ws (A .accepted) (unless (ltb l (laneCount ws)) 26 nothing),
+            table-passes ws (A .accepted) (unless (ltb l (laneCount ws)) 26 none),
             lt-ltb l (laneCount ws) h,
             sheet,
             lanes-are-rows A l is-lane,
@@ -179,7 +179,7 @@ module _ {ws : List ℕ} {ρ : Row} (A : Agrees ws ρ) where
           let past : laneCount ws ≤ l = omega arith in
           let no-lane : ρ .lanes ≤ l = subst (λ (m : ℕ). m ≤ l) (sym (A .same-lanes)) past in
           rw (
-            table-passes ws (A .accepted) (unless (ltb l (laneCount ws)) 26 nothing),
+            table-passes ws (A .accepted) (unless (ltb l (laneCount ws)) 26 none),
             le-ltb l (laneCount ws) past,
             sheet,
             le-ltb l (ρ .lanes) no-lane,

@@ -3,7 +3,7 @@ use mathlib.Core.Path.{_≡_, refl, sym, ap, _∙_, subst, fun-ext}
 use mathlib.Core.Bool.{true, false}
 use mathlib.Core.List.{List}
 use mathlib.Core.Logic.{_≢_}
-use mathlib.Core.Option.{Option, some, none as nothing, bind}
+use mathlib.Core.Option.{Option, some, none, bind}
 use Prim.Native.Nat.{ℕ, _<_}
 use Rattle.machine.specs.Shape.{WellFormed, sizesOf, WellSized}
 use Rattle.machine.specs.declared.Answer.{Answer}
@@ -11,7 +11,7 @@ use Rattle.machine.specs.declared.Answer.the-variants.{Going, Pushed, Ba
 use Rattle.machine.specs.Choice.{_≟_, if_then_else_}
 use Rattle.machine.specs.Sides.{Side, left, right, opposite}
 use Rattle.machine.specs.Operations.{Operation, idle, push, pop, add, remove}
-use Rattle.machine.specs.Tasks.{Task, fresh, none, goal, Register, register, inA, inB, inC, inD}
+use Rattle.machine.specs.Tasks.{Task, fresh, noNode, goal, Register, register, inA, inB, inC, inD}
 use Rattle.machine.specs.Table.{nodeCount, taskCount, growth, laneCount, task}
 use Rattle.machine.specs.Allocate.{allocate}
 use Rattle.machine.specs.Lines.{Memory, act}
@@ -59,7 +59,7 @@ module _ {ws : List ℕ} (A : WellFormed ws) where
       of-busy inC b = busy-facts ws shape k b .C-ok
       of-busy inD b = busy-facts ws shape k b .D-ok
 
-      of-fresh : (r : Register) → register fresh r ≡ none
+      of-fresh : (r : Register) → register fresh r ≡ noNode
       of-fresh inA = refl
       of-fresh inB = refl
       of-fresh inC = refl
@@ -92,7 +92,7 @@ module _ {ws : List ℕ} (A : WellFormed ws) where
       }
 
 -- ---- Small facts about answers, notes and effects.
-no-refusal : (a : Answer) → ((n : ℕ) → a ≢ Refused n) → refusalOf a ≡ nothing
+no-refusal : (a : Answer) → ((n : ℕ) → a ≢ Refused n) → refusalOf a ≡ none
 no-refusal Going h = refl
 no-refusal Pushed h = refl
 no-refusal (Bag b) h = refl
@@ -128,11 +128,11 @@ not-idle op b e = refute (cc)
 -- ---- The tick.
 pub record MadeTick (ws : List ℕ) (ρ : Row) (k h : ℕ) : Type 0 where
   pub row : Row
-  pub no-number : refusalOf (tickOn ws k h .answer) ≡ nothing
+  pub no-number : refusalOf (tickOn ws k h .answer) ≡ none
   pub given : feedMade ρ k (tickOn ws k h .answer) ≡ some row
   pub agrees : Agrees (tickOn ws k h .words) row
 
-module _ {ws : List ℕ} {ρ : Row} (A : Agrees ws ρ) (k h : ℕ) (passes : tickRefusal ws k h ≡ nothing) where
+module _ {ws : List ℕ} {ρ : Row} (A : Agrees ws ρ) (k h : ℕ) (passes : tickRefusal ws k h ≡ none) where
   is-task : k < taskCount ws
   is-task = tick-allowed ws k h passes .0
 
@@ -156,7 +156,7 @@ module _ {ws : List ℕ} {ρ : Row} (A : Agrees ws ρ) (k h : ℕ) (passes : tic
       (allocate-not-kept (well-linked (A .accepted)) is-hint))
 
   -- The line of a busy task does not refuse it.
-  pub effect-made : refusalOf (effectOf ws k h .answer) ≡ nothing
+  pub effect-made : refusalOf (effectOf ws k h .answer) ≡ none
   effect-made = no-refusal (effectOf ws k h .answer) (never-refused keeps-invariant)
 
   abbrev tasks-after : ℕ → Task
@@ -210,7 +210,7 @@ module _ {ws : List ℕ} {ρ : Row} (A : Agrees ws ρ) (k h : ℕ) (passes : tic
       same-note = ap (λ (n : Note). noteUnder (n .operation) n) (sym same)
 
   notes-ended : effectOf ws k h .task ≡ fresh → (j : ℕ)
-      → (if j ≟ k then nothing else ρ .notes j) ≡ noteIn (tasks-after j)
+      → (if j ≟ k then none else ρ .notes j) ≡ noteIn (tasks-after j)
   notes-ended fresh-now j =
       by-if (λ (n : Option Note). n ≡ noteIn (tasks-after j)) (j ≟ k)
       (λ e. sym (ap noteIn (ap tasks-after e ∙ update-same (task ws) k _ ∙ fresh-now)))
@@ -222,7 +222,7 @@ module _ {ws : List ℕ} {ρ : Row} (A : Agrees ws ρ) (k h : ℕ) (passes : tic
 
   feed-answer : {r : List ℕ} → effectOf ws k h .answer ≢ Going
       → answered (noteOf (task ws k)) (effectOf ws k h .answer) (ρ .bags (task ws k .lane)) ≡ some r
-      → feedMade ρ k (tickOn ws k h .answer) ≡ some (noted (withBags ρ (task ws k .lane) r) k nothing)
+      → feedMade ρ k (tickOn ws k h .answer) ≡ some (noted (withBags ρ (task ws k .lane) r) k none)
   unfolding feedMade bind
   feed-answer n e = rw (answer-is, note, not-going (effectOf ws k h .answer) n, e)
 
@@ -238,7 +238,7 @@ module _ {ws : List ℕ} {ρ : Row} (A : Agrees ws ρ) (k h : ℕ) (passes : tic
       ℓ : ℕ
       ℓ = task ws k .lane
 
-      no-answer-number : refusalOf (tickOn ws k h .answer) ≡ nothing
+      no-answer-number : refusalOf (tickOn ws k h .answer) ≡ none
       no-answer-number = ap refusalOf answer-is ∙ effect-made
 
       -- The other lanes' rows are as they were.
@@ -274,10 +274,10 @@ module _ {ws : List ℕ} {ρ : Row} (A : Agrees ws ρ) (k h : ℕ) (passes : tic
           let bags =
           given-by-row (noteOf (task ws k)) (ρ .bags ℓ) (T .r' ℓ) (effectOf ws k h .answer) n (T .row-step) in
           record {
-            row = noted (withBags ρ ℓ (T .r' ℓ)) k nothing;
+            row = noted (withBags ρ ℓ (T .r' ℓ)) k none;
             no-number = no-answer-number;
             given = feed-answer n bags;
             agrees =
-                agrees-after (noted (withBags ρ ℓ (T .r' ℓ)) k nothing) moved-row (notes-ended fresh-now)
+                agrees-after (noted (withBags ρ ℓ (T .r' ℓ)) k none) moved-row (notes-ended fresh-now)
                 refl refl refl;
           }

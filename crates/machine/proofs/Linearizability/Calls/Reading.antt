@@ -2,14 +2,14 @@
 use mathlib.Core.Path.{_≡_, refl, ap, sym, _∙_}
 use mathlib.Core.Logic.{_≢_, inl, inr}
 use mathlib.Core.List.{List, [], _∷_}
-use mathlib.Core.Option.{some, none as nothing, Option·map}
+use mathlib.Core.Option.{some, none, Option·map}
 use lib.ListN.{length}
 use Prim.Native.Nat.{ℕ, suc, zero, _+_, _-_, _≤_, _<_}
 use native.Mathlib.Omega.{arith}
 use Rattle.machine.specs.Choice.{_≟_, _<?_}
 use Rattle.machine.specs.Sides.{Side, left, right}
 use Rattle.machine.specs.Values.{Value, never, bag, N, X, Y, encode, decode}
-use Rattle.machine.specs.Tasks.{none}
+use Rattle.machine.specs.Tasks.{noNode}
 use Rattle.machine.specs.Table.{nodeCount, hat, link, valueWords, value}
 use Rattle.machine.specs.Calls.{laneFrom, lane}
 use Rattle.machine.proofs.Words.ValueLaws.{never-has-word}
@@ -25,8 +25,8 @@ use Rattle.machine.proofs.Linearizability.Calls.Pigeonhole.{pigeonhole}
 
 -- Walking from x along the links `out` reads the bags l, through nodes that are not none, up to a mark.
 pub data Reads (out : ℕ → ℕ) (val : ℕ → Value) : (x : ℕ) → List ℕ → Type 0 where
-  at-mark : {x : ℕ} (z : Side) → x ≢ none → owner (val x) ≡ of z → Reads out val x []
-  at-bag : {x : ℕ} {l : List ℕ} (b : ℕ) → x ≢ none → val x ≡ bag b → Reads out val (out x) l → Reads out val x (b ∷ l)
+  at-mark : {x : ℕ} (z : Side) → x ≢ noNode → owner (val x) ≡ of z → Reads out val x []
+  at-bag : {x : ℕ} {l : List ℕ} (b : ℕ) → x ≢ noNode → val x ≡ bag b → Reads out val (out x) l → Reads out val x (b ∷ l)
 
 module _ {ℓ : ℕ} {s o : Side} {m : View} {class : ℕ → Class} {r : List ℕ} (L : Lane ℓ s o m class r) where
   open Frame (L .frame) using (at, n, a, b, bags)
@@ -79,22 +79,22 @@ module _ {ℓ : ℕ} {s o : Side} {m : View} {class : ℕ → Class} {r : List �
 -- ---- The definition that reads the lane of a table.
 module _ (ws : List ℕ) where
   laneFrom-bag : (n x b : ℕ)
-      → x ≢ none
+      → x ≢ noNode
       → value ws x ≡ bag b
       → laneFrom ws (suc n) x ≡ Option·map (_∷_ b) (laneFrom ws n (link ws right x))
   unfolding laneFrom
-  laneFrom-bag n x b ne v = rw (v, laneFrom) (if-no (x ≟ none) nothing _ ne)
+  laneFrom-bag n x b ne v = rw (v, laneFrom) (if-no (x ≟ noNode) none _ ne)
 
-  laneFrom-mark : (n x : ℕ) (z : Side) → x ≢ none → owner (value ws x) ≡ of z → laneFrom ws (suc n) x ≡ some []
+  laneFrom-mark : (n x : ℕ) (z : Side) → x ≢ noNode → owner (value ws x) ≡ of z → laneFrom ws (suc n) x ≡ some []
   unfolding laneFrom
   laneFrom-mark n x z ne e = go (value ws x) refl
     where
       go : (v : Value) → value ws x ≡ v → laneFrom ws (suc n) x ≡ some []
       go never q = clash (cc)
       go (bag b) q = clash (cc)
-      go (N y) q = rw (q, laneFrom) (if-no (x ≟ none) nothing (some []) ne)
-      go (X y) q = rw (q, laneFrom) (if-no (x ≟ none) nothing (some []) ne)
-      go (Y y) q = rw (q, laneFrom) (if-no (x ≟ none) nothing (some []) ne)
+      go (N y) q = rw (q, laneFrom) (if-no (x ≟ noNode) none (some []) ne)
+      go (X y) q = rw (q, laneFrom) (if-no (x ≟ noNode) none (some []) ne)
+      go (Y y) q = rw (q, laneFrom) (if-no (x ≟ noNode) none (some []) ne)
 
   pub laneFrom-reads : (n x : ℕ) {l : List ℕ}
       → Reads (link ws right) (value ws) x l

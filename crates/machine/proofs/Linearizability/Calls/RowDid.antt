@@ -3,7 +3,7 @@
 use mathlib.Core.Path.{_≡_, refl}
 use mathlib.Core.Bool.{Bool, true, false, cond}
 use mathlib.Core.List.{List, [], _∷_}
-use mathlib.Core.Option.{Option, some, none as nothing, Option·map, bind}
+use mathlib.Core.Option.{Option, some, none, Option·map, bind}
 use Prim.Native.Nat.{ℕ, zero, suc}
 use Rattle.machine.specs.declared.Answer.{Answer}
 use Rattle.machine.specs.declared.Answer.the-variants.{Going}
@@ -42,21 +42,21 @@ use Rattle.machine.proofs.Basics.Contradiction.{clash}
 pub bound : {T U : Type 0} (o : Option T) (f : T → Option U) {y : U} → bind o f ≡ some y
     → (x : T) × (o ≡ some x) × (f x ≡ some y)
 unfolding bind
-bound nothing f e = clash (cc)
+bound none f e = clash (cc)
 bound (some x) f e = (x, refl, e)
 
 pub mapped : {T U : Type 0} (o : Option T) (f : T → U) {y : U} → Option·map f o ≡ some y
     → (x : T) × (o ≡ some x) × (f x ≡ y)
-mapped nothing f e = clash (cc)
+mapped none f e = clash (cc)
 mapped (some x) f e = (x, refl, cc)
 
 -- A row that passes a test is left as it is.
-pub same-if : {ρ ρ′ : Row} (b : Bool) → cond b (some ρ) nothing ≡ some ρ′ → (b ≡ true) × (ρ ≡ ρ′)
+pub same-if : {ρ ρ′ : Row} (b : Bool) → cond b (some ρ) none ≡ some ρ′ → (b ≡ true) × (ρ ≡ ρ′)
 same-if true q = (refl, cc)
 same-if false q = clash (cc)
 
 -- A row that is fed where a test fails.
-unless-going : {r : Option Row} {ρ′ : Row} (b : Bool) → cond b nothing r ≡ some ρ′ → r ≡ some ρ′
+unless-going : {r : Option Row} {ρ′ : Row} (b : Bool) → cond b none r ≡ some ρ′ → r ≡ some ρ′
 unless-going true q = clash (cc)
 unless-going false q = q
 
@@ -84,10 +84,10 @@ unfolding feedTick feedMadeTicks
 tick-fed ρ {ρ′} k a e = go (refusalOf a) e
   where
     go : (o : Option ℕ)
-        → elim o as (λ _. Option Row) [ some n ↦ some ρ | nothing ↦ feedMade ρ k a ] ≡ some ρ′
-        → feedMadeTicks ρ (elim o as (λ _. List Tick) [ some n ↦ [] | nothing ↦ of-task k a ∷ [] ]) ≡ some ρ′
+        → elim o as (λ _. Option Row) [ some n ↦ some ρ | none ↦ feedMade ρ k a ] ≡ some ρ′
+        → feedMadeTicks ρ (elim o as (λ _. List Tick) [ some n ↦ [] | none ↦ of-task k a ∷ [] ]) ≡ some ρ′
     go (some n) q = q
-    go nothing q = made-fed ρ (of-task k a) q
+    go none q = made-fed ρ (of-task k a) q
 
 pub ticks-fed : (ρ : Row) {ρ′ : Row} (k n : ℕ) (a : Answer) → feedTicks ρ k n a ≡ some ρ′
     → feedMadeTicks ρ (ticksDid k n a) ≡ some ρ′
@@ -116,17 +116,17 @@ unfolding feedDispatch feedIdle feedMadeTicks
 dispatch-fed ρ {ρ′} Idle e = go (nextNoted (ρ .notes) (ρ .tasks) (ρ .dispatched)) e
   where
     go : (o : Option ℕ)
-        → elim o as (λ _. Option Row) [ some k ↦ nothing | nothing ↦ some ρ ] ≡ some ρ′
+        → elim o as (λ _. Option Row) [ some k ↦ none | none ↦ some ρ ] ≡ some ρ′
         → some ρ ≡ some ρ′
     go (some k) q = clash (cc)
-    go nothing q = q
+    go none q = q
 dispatch-fed ρ {ρ′} (Answered a) e = go (refusalOf a) e
   where
     go : (o : Option ℕ)
-        → elim o as (λ _. Option Row) [ some n ↦ some ρ | nothing ↦ feedDispatched ρ a ] ≡ some ρ′
-        → feedMadeTicks ρ (elim o as (λ _. List Tick) [ some n ↦ [] | nothing ↦ of-next a ∷ [] ]) ≡ some ρ′
+        → elim o as (λ _. Option Row) [ some n ↦ some ρ | none ↦ feedDispatched ρ a ] ≡ some ρ′
+        → feedMadeTicks ρ (elim o as (λ _. List Tick) [ some n ↦ [] | none ↦ of-next a ∷ [] ]) ≡ some ρ′
     go (some n) q = q
-    go nothing q = made-fed ρ (of-next a) q
+    go none q = made-fed ρ (of-next a) q
 
 pub dispatches-fed : (ρ : Row) {ρ′ : Row} (n m : ℕ) (d : Dispatch) → feedDispatches ρ n m d ≡ some ρ′
     → feedMadeTicks ρ (dispatchesDid n m d) ≡ some ρ′

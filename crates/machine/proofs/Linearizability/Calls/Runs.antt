@@ -1,7 +1,7 @@
 -- A run and the panel's list: the ticks made, one after another, each explained by the row.
 use mathlib.Core.Path.{_≡_, refl, ap, sym, subst}
 use mathlib.Core.List.{List, [], _∷_}
-use mathlib.Core.Option.{Option, some, none as nothing, bind}
+use mathlib.Core.Option.{Option, some, none, bind}
 use Prim.Native.Nat.{ℕ, zero, suc}
 use native.Mathlib.Omega.{arith}
 use native.Mathlib.Decide.{ℕ-discrete}
@@ -74,7 +74,7 @@ none-made {ws} {ρ} A n list answers =
 
 -- One tick is made, and then the others.
 one-made : {ws : List ℕ} {ρ : Row} (A : Agrees ws ρ) (k h : ℕ) (list : List ℕ) (M : MadeTick ws ρ k h)
-    → tickRefusal ws k h ≡ nothing
+    → tickRefusal ws k h ≡ none
     → (r : RunDone)
     → RunExplained list (tickOn ws k h .words) (M .row) r
     → RunExplained (k ∷ h ∷ list) ws ρ (afterTick (tickOn ws k h .answer) r)
@@ -123,17 +123,17 @@ ticks-explained (k ∷ h ∷ list) {ws} {ρ} answers A =
         subst (RunExplained (k ∷ h ∷ list) ws ρ)
         (sym (first-tick k h list ws answers (some n) (refused-tick ws k h n e)))
         (none-made A n (k ∷ h ∷ list) answers)
-    go nothing e others =
+    go none e others =
         let M = made-tick A k h e in
         subst (RunExplained (k ∷ h ∷ list) ws ρ)
-        (sym (first-tick k h list ws answers nothing (M .no-number)))
+        (sym (first-tick k h list ws answers none (M .no-number)))
         (one-made A k h list M e (runOn list (tickOn ws k h .words) (drop answerLength answers)) (others M))
 
 module _ {ws : List ℕ} {ρ : Row} (A : Agrees ws ρ) (list answers : List ℕ) where
   -- Whatever the tests were.
   tested-explained : (r : Option ℕ) → RunExplained list ws ρ (tested r ws list answers)
   tested-explained (some n) = none-made A n list answers
-  tested-explained nothing = ticks-explained list answers A
+  tested-explained none = ticks-explained list answers A
 
   of-run : RunExplained list ws ρ (run ws list answers)
   unfolding run

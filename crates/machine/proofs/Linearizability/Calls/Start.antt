@@ -7,7 +7,7 @@ use native.Mathlib.Omega.{arith}
 use Rattle.machine.specs.Choice.{_≟_, _<?_, if_then_else_}
 use Rattle.machine.specs.Sides.{Side, left, right, sideNumber}
 use Rattle.machine.specs.Values.{Value, never, X}
-use Rattle.machine.specs.Tasks.{Task, fresh, none}
+use Rattle.machine.specs.Tasks.{Task, fresh, noNode}
 use Rattle.machine.specs.Table.{mostLanes}
 use Rattle.machine.proofs.Basics.Contradiction.{Clash, clash, refute}
 use Rattle.machine.proofs.Basics.Choices.{if-yes, if-no}
@@ -70,24 +70,24 @@ module _ (L l : ℕ) (is-lane : l < L) (few : L ≤ mostLanes) where
 
   out-first : startView L .out (2 * l + 0) ≡ 2 * l + 1
   out-first =
-      if-yes (2 * l + 0 <? 2 * L) _ none (omega arith)
-      ∙ if-yes ((2 * l + 0) % 2 ≟ 0) (2 * l + 0 + 1) none left-even
+      if-yes (2 * l + 0 <? 2 * L) _ noNode (omega arith)
+      ∙ if-yes ((2 * l + 0) % 2 ≟ 0) (2 * l + 0 + 1) noNode left-even
       ∙ omega arith
 
-  out-second : startView L .out (2 * l + 1) ≡ none
+  out-second : startView L .out (2 * l + 1) ≡ noNode
   out-second =
-      if-yes (2 * l + 1 <? 2 * L) _ none (omega arith)
-      ∙ if-no ((2 * l + 1) % 2 ≟ 0) (2 * l + 1 + 1) none right-odd
+      if-yes (2 * l + 1 <? 2 * L) _ noNode (omega arith)
+      ∙ if-no ((2 * l + 1) % 2 ≟ 0) (2 * l + 1 + 1) noNode right-odd
 
-  inn-first : startView L .inn (2 * l + 0) ≡ none
+  inn-first : startView L .inn (2 * l + 0) ≡ noNode
   inn-first =
-      if-yes (2 * l + 0 <? 2 * L) _ none (omega arith)
-      ∙ if-yes ((2 * l + 0) % 2 ≟ 0) none (2 * l + 0 - 1) left-even
+      if-yes (2 * l + 0 <? 2 * L) _ noNode (omega arith)
+      ∙ if-yes ((2 * l + 0) % 2 ≟ 0) noNode (2 * l + 0 - 1) left-even
 
   inn-second : startView L .inn (2 * l + 1) ≡ 2 * l + 0
   inn-second =
-      if-yes (2 * l + 1 <? 2 * L) _ none (omega arith)
-      ∙ if-no ((2 * l + 1) % 2 ≟ 0) none (2 * l + 1 - 1) right-odd
+      if-yes (2 * l + 1 <? 2 * L) _ noNode (omega arith)
+      ∙ if-no ((2 * l + 1) % 2 ≟ 0) noNode (2 * l + 1 - 1) right-odd
       ∙ omega arith
 
   val-first : startView L .val (2 * l + 0) ≡ X left
@@ -101,7 +101,7 @@ module _ (L l : ℕ) (is-lane : l < L) (few : L ≤ mostLanes) where
       ∙ if-no ((2 * l + 1) % 2 ≟ 0) (X left) (X right) right-odd
 
   hat-at : (s : Side) → startView L .hats l s ≡ 2 * l + sideNumber s
-  hat-at s = if-yes (l <? L) (2 * l + sideNumber s) none is-lane
+  hat-at s = if-yes (l <? L) (2 * l + sideNumber s) noNode is-lane
 
   start-links : Linked (startView L .out) (startView L .inn) (startFrame l .at) 1
   start-links =
@@ -124,7 +124,7 @@ module _ (L l : ℕ) (is-lane : l < L) (few : L ≤ mostLanes) where
   start-structure =
       record {
         sides = sides right;
-        none-free = past-pairs L none (λ h. omega arith);
+        none-free = past-pairs L noNode (λ h. omega arith);
         a<b = omega arith;
         b≤n = omega arith;
         main-list =

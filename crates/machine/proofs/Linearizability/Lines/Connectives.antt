@@ -5,7 +5,7 @@ use mathlib.Core.Path.{_≡_}
 use mathlib.Core.Logic.{_≢_}
 use Prim.Native.Nat.{ℕ}
 use Rattle.machine.specs.Choice.{_≟_, if_then_else_}
-use Rattle.machine.specs.Tasks.{Task, none}
+use Rattle.machine.specs.Tasks.{Task, noNode}
 use Rattle.machine.specs.Lines.{Effect, refused, through, dcas}
 
 module _ (P : Effect → Type 0) where
@@ -17,8 +17,8 @@ module _ (P : Effect → Type 0) where
   ok-if F (no h) f g = g h
 
   pub ok-through : {t : Task} {x : ℕ} {e : Effect}
-      → (x ≡ none → P (refused t))
-      → (x ≢ none → P e)
+      → (x ≡ noNode → P (refused t))
+      → (x ≢ noNode → P e)
       → P (through x t e)
   ok-through f g = ok-if (λ e. e) (_ ≟ _) f g
 

@@ -9,7 +9,7 @@ use Rattle.machine.specs.declared.Answer.{Answer}
 use Rattle.machine.specs.declared.Answer.the-variants.{Refused}
 use Rattle.machine.specs.Sides.{Side, left, right, opposite}
 use Rattle.machine.specs.Operations.{idle}
-use Rattle.machine.specs.Tasks.{Task, none}
+use Rattle.machine.specs.Tasks.{Task, noNode}
 use Rattle.machine.specs.Lines.{Effect, act}
 use Rattle.machine.specs.Row.{Note}
 use Rattle.machine.proofs.Basics.Updates.{update, update-all, update-wrote, wrote-all}
@@ -100,7 +100,7 @@ kept-lane {L} (has-answered a n) h =
 
 module _ {L : ℕ} {held : ℕ → Bool} {M : View} {ts : ℕ → Task} {class : ℕ → Class} {r : ℕ → List ℕ}
     (I : Invariant L M ts class r) (R : Roots L held M ts)
-    (k g f : ℕ) (busy : ts k .operation ≢ idle) (free-f : f ≢ none → held f ≡ false) where
+    (k g f : ℕ) (busy : ts k .operation ≢ idle) (free-f : f ≢ noNode → held f ≡ false) where
   abbrev s : Side
   s = ts k .side
 

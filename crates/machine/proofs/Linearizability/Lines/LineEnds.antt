@@ -10,7 +10,7 @@ use Rattle.machine.specs.declared.Answer.the-variants.{Going}
 use Rattle.machine.specs.Sides.{Side}
 use Rattle.machine.specs.Operations.{Operation, idle, push, pop, add, remove}
 use Rattle.machine.specs.Steps.{rest}
-use Rattle.machine.specs.Tasks.{Task, fresh, none}
+use Rattle.machine.specs.Tasks.{Task, fresh, noNode}
 use Rattle.machine.specs.Lines.{Effect, through, answers, backOf}
 use Rattle.machine.proofs.Basics.Contradiction.{clash}
 use Rattle.machine.proofs.Words.Memories.{View}
@@ -36,7 +36,7 @@ fresh-ok h = record { relies = tt; chain = record { none-new = h; no-head = refl
 module _ {held : ℕ → Bool} {L k : ℕ} {s o : Side} {m : View} {class : ℕ → Class} {r : ℕ → List ℕ} {t : Task} where
   -- Through a register that is not none.
   pub past : {x : ℕ} {e : Effect}
-      → x ≢ none
+      → x ≢ noNode
       → TickOk held L k s o m class r t e
       → TickOk held L k s o m class r t (through x t e)
   past some h = ok-through (TickOk held L k s o m class r t) (λ e. absurd (some e)) (λ _. h)
@@ -78,10 +78,10 @@ module _ {held : ℕ → Bool} {L k : ℕ} {s o : Side} {m : View} {class : ℕ 
 
 -- Back: 2 for a push without a chain, 15 with one.
 pub back-ok : {k : ℕ} {s o : Side} {m : View} {class : ℕ → Class}
-    → class none ≡ free
+    → class noNode ≡ free
     → (t : Task) (op : Operation)
     → t .operation ≡ op
-    → (d : Dec (t .D ≡ none))
+    → (d : Dec (t .D ≡ noNode))
     → Chains unspurring k s m class t
     → Belongs unspurring (t .operation)
     → TaskOk k s o m class (backOf op d) t

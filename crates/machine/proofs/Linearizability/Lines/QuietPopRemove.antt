@@ -25,7 +25,7 @@ use Rattle.machine.specs.Steps.{
   line77,
   line81,
 }
-use Rattle.machine.specs.Tasks.{Task, none, withA, withB, withCounted, withValue}
+use Rattle.machine.specs.Tasks.{Task, noNode, withA, withB, withCounted, withValue}
 use Rattle.machine.specs.Lines.{Effect, next, answers, afterRead, act}
 use Rattle.machine.proofs.Basics.Contradiction.{refute}
 use Rattle.machine.proofs.Words.Memories.{View, seenIn}
@@ -64,7 +64,7 @@ module _ (held : ℕ → Bool) (k : ℕ) {L : ℕ} {s o : Side} {m : View} {clas
   abbrev S : Structure (t .lane) s o m class (mine .frame)
   S = mine .structure
 
-  some : (x : ℕ) → Old class x → x ≢ none
+  some : (x : ℕ) → Old class x → x ≢ noNode
   some = old-some S
 
   -- ---- Pop.
@@ -80,7 +80,7 @@ module _ (held : ℕ → Bool) (k : ℕ) {L : ℕ} {s o : Side} {m : View} {clas
       (λ e. goes D refl (record { relies = tt; chain = h .chain; belongs = h .belongs }))
       (λ e. goes D refl (record { relies = pair e; chain = h .chain; belongs = h .belongs })))
     where
-      pair : m .inn (t .A) ≢ none → PopPair o m class (t .A) (m .inn (t .A))
+      pair : m .inn (t .A) ≢ noNode → PopPair o m class (t .A) (m .inn (t .A))
       pair e =
           record {
             A-old = h .relies;
@@ -174,7 +174,7 @@ module _ (held : ℕ → Bool) (k : ℕ) {L : ℕ} {s o : Side} {m : View} {clas
       (λ _. goes D refl (record { relies = A-old e; chain = h .chain; belongs = h .belongs }))
       (λ _. goes D refl (record { relies = A-old e; chain = h .chain; belongs = h .belongs }))))
     where
-      A-old : m .out (t .A) ≢ none → Old class (m .out (t .A))
+      A-old : m .out (t .A) ≢ noNode → Old class (m .out (t .A))
       A-old e = out-old S (every-lane D) _ (h .relies) e
 
       F : Step → Effect
@@ -188,7 +188,7 @@ module _ (held : ℕ → Bool) (k : ℕ) {L : ℕ} {s o : Side} {m : View} {clas
       (λ _. answers-yes (h .belongs) (h .chain))
       (λ e. goes D refl (record { relies = pair e; chain = h .chain; belongs = h .belongs })))
     where
-      pair : m .out (t .A) ≢ none → CutPair s m class (t .A) (m .out (t .A))
+      pair : m .out (t .A) ≢ noNode → CutPair s m class (t .A) (m .out (t .A))
       pair e =
           record {
             A-old = h .relies;
@@ -198,7 +198,7 @@ module _ (held : ℕ → Bool) (k : ℕ) {L : ℕ} {s o : Side} {m : View} {clas
           }
 
   -- A node of the spur and what its outward link leads to.
-  spur-pair : (x : ℕ) → class x ≡ spur s → m .out x ≢ none → SpurPair s class x (m .out x)
+  spur-pair : (x : ℕ) → class x ≡ spur s → m .out x ≢ noNode → SpurPair s class x (m .out x)
   spur-pair x c e = record { A-spur = c; B-spur = spur-out S x c e }
 
   pub line74-ok : LineOk line74
@@ -209,7 +209,7 @@ module _ (held : ℕ → Bool) (k : ℕ) {L : ℕ} {s o : Side} {m : View} {clas
       (λ e. goes D refl (record { relies = h .relies; chain = h .chain; belongs = h .belongs }))
       (λ e. goes D refl (record { relies = pair e; chain = h .chain; belongs = h .belongs })))
     where
-      pair : m .out (t .B) ≢ none → SpurPair s class (t .B) (m .out (t .B))
+      pair : m .out (t .B) ≢ noNode → SpurPair s class (t .B) (m .out (t .B))
       pair e = spur-pair (t .B) (h .relies) e
 
       F : Step → Effect
@@ -231,7 +231,7 @@ module _ (held : ℕ → Bool) (k : ℕ) {L : ℕ} {s o : Side} {m : View} {clas
       (λ _. goes D refl (record { relies = h .relies; chain = h .chain; belongs = h .belongs }))
       (λ _. goes D refl (record { relies = pair e; chain = h .chain; belongs = h .belongs }))))
     where
-      pair : m .out (t .A) ≢ none → SpurPair s class (t .A) (m .out (t .A))
+      pair : m .out (t .A) ≢ noNode → SpurPair s class (t .A) (m .out (t .A))
       pair e = spur-pair (t .A) (h .relies) e
 
       F : Step → Effect

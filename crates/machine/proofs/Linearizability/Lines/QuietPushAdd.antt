@@ -20,7 +20,7 @@ use Rattle.machine.specs.Steps.{
   line69,
   line70,
 }
-use Rattle.machine.specs.Tasks.{Task, none, goto, withA, withB, withC, withValue}
+use Rattle.machine.specs.Tasks.{Task, noNode, goto, withA, withB, withC, withValue}
 use Rattle.machine.specs.Lines.{Effect, next, back, act}
 use Rattle.machine.proofs.Words.Memories.{View, seenIn}
 use Rattle.machine.proofs.Linearizability.Model.Classes.{Class, Old}
@@ -52,7 +52,7 @@ module _ (held : ℕ → Bool) (k : ℕ) {L : ℕ} {s o : Side} {m : View} {clas
   abbrev S : Structure (t .lane) s o m class (mine .frame)
   S = mine .structure
 
-  some : (x : ℕ) → Old class x → x ≢ none
+  some : (x : ℕ) → Old class x → x ≢ noNode
   some = old-some S
 
   pub line2-ok : LineOk line2
@@ -67,7 +67,7 @@ module _ (held : ℕ → Bool) (k : ℕ) {L : ℕ} {s o : Side} {m : View} {clas
       (λ e. goes D refl (record { relies = h .relies; chain = h .chain; belongs = h .belongs }))
       (λ e. goes D refl (record { relies = pair e; chain = h .chain; belongs = h .belongs })))
     where
-      pair : m .out (t .A) ≢ none → PushPair s m class (t .A) (m .out (t .A))
+      pair : m .out (t .A) ≢ noNode → PushPair s m class (t .A) (m .out (t .A))
       pair e =
           record {
             A-old = h .relies;
@@ -101,7 +101,7 @@ module _ (held : ℕ → Bool) (k : ℕ) {L : ℕ} {s o : Side} {m : View} {clas
 
       goes-back : TaskOk k s o m class (back t) (goto t (back t))
       goes-back =
-          back-ok (S .none-free) (goto t (back t)) (t .operation) refl (t .D ≟ none)
+          back-ok (S .none-free) (goto t (back t)) (t .operation) refl (t .D ≟ noNode)
           (h .chain) (h .belongs)
 
   pub line69-ok : LineOk line69
@@ -124,7 +124,7 @@ module _ (held : ℕ → Bool) (k : ℕ) {L : ℕ} {s o : Side} {m : View} {clas
       B-old : Old class (t .B)
       B-old = cc (h .relies .B-inward, S .near-spur .inward-old (t .A) (h .relies .A-spur))
 
-      past-Y : m .out (t .B) ≢ none → PastY s m class (t .A) (m .out (t .B))
+      past-Y : m .out (t .B) ≢ noNode → PastY s m class (t .A) (m .out (t .B))
       past-Y e =
           record {
             A-spur = h .relies .A-spur;
@@ -138,7 +138,7 @@ module _ (held : ℕ → Bool) (k : ℕ) {L : ℕ} {s o : Side} {m : View} {clas
 
       goes-back : TaskOk k s o m class (back t) u
       goes-back =
-          back-ok (S .none-free) u (t .operation) refl (t .D ≟ none) (h .chain) (h .belongs)
+          back-ok (S .none-free) u (t .operation) refl (t .D ≟ noNode) (h .chain) (h .belongs)
 
   pub line15-ok : LineOk line15
   unfolding act
@@ -167,5 +167,5 @@ module _ (held : ℕ → Bool) (k : ℕ) {L : ℕ} {s o : Side} {m : View} {clas
       (λ e. goes D refl (record { relies = tt; chain = h .chain; belongs = h .belongs }))
       (λ e. goes D refl (record { relies = A-old e; chain = h .chain; belongs = h .belongs })))
     where
-      A-old : m .out (t .A) ≢ none → Old class (m .out (t .A))
+      A-old : m .out (t .A) ≢ noNode → Old class (m .out (t .A))
       A-old e = out-old S (every-lane D) _ (h .relies) e

@@ -8,7 +8,7 @@ use Rattle.machine.specs.Sides.{Side}
 use Rattle.machine.specs.Values.{N, X}
 use Rattle.machine.specs.Operations.{Operation, idle, push, pop, add, remove}
 use Rattle.machine.specs.Steps.{Step, line24, line25}
-use Rattle.machine.specs.Tasks.{Task, none, withB}
+use Rattle.machine.specs.Tasks.{Task, noNode, withB}
 use Rattle.machine.specs.Lines.{Write, out≔, inn≔, val≔, Effect, next, writing, spliced, act}
 use Rattle.machine.proofs.Basics.Contradiction.{clash, refute}
 use Rattle.machine.proofs.Basics.Updates.{Wrote, update-wrote}
@@ -84,7 +84,7 @@ module _ (held : ℕ → Bool) (k : ℕ) {L : ℕ} {s o : Side} {m : View} {clas
   abbrev S : Structure (t .lane) s o m class (mine .frame)
   S = mine .structure
 
-  some : (x : ℕ) → Old class x → x ≢ none
+  some : (x : ℕ) → Old class x → x ≢ noNode
   some = old-some S
 
   -- ---- Line 24 writes the head's inward link, and no old node.

@@ -10,8 +10,8 @@ use Rattle.machine.specs.Sides.{Side}
 use Rattle.machine.specs.Values.{N, X}
 use Rattle.machine.specs.Operations.{Operation, idle, push, pop, add, remove}
 use Rattle.machine.specs.Steps.{Step, line15, line28, line31}
-use Rattle.machine.specs.Tasks.{Task, none, withD, withCounted}
-use Rattle.machine.specs.Lines.{Write, out≔, inn≔, val≔, Effect, next, answers, writing, noNode, act}
+use Rattle.machine.specs.Tasks.{Task, noNode, withD, withCounted}
+use Rattle.machine.specs.Lines.{Write, out≔, inn≔, val≔, Effect, next, answers, writing, noneFree, act}
 use Rattle.machine.proofs.Basics.Contradiction.{clash, equal?, refute}
 use Rattle.machine.proofs.Basics.Updates.{Wrote, update, update-wrote}
 use Rattle.machine.proofs.Words.Memories.{View, seenIn, written}
@@ -49,7 +49,7 @@ module _ (held : ℕ → Bool) (k : ℕ) {L : ℕ} {s o : Side} {m : View} {clas
   abbrev S : Structure (t .lane) s o m class (mine .frame)
   S = mine .structure
 
-  some : (x : ℕ) → Old class x → x ≢ none
+  some : (x : ℕ) → Old class x → x ≢ noNode
   some = old-some S
 
   -- None free: push answers "full", add "no".
@@ -57,7 +57,7 @@ module _ (held : ℕ → Bool) (k : ℕ) {L : ℕ} {s o : Side} {m : View} {clas
       → t .operation ≡ op
       → Belongs growing (t .operation)
       → NoChain k class (t .D)
-      → Ok (answers (noNode op))
+      → Ok (answers (noneFree op))
   no-node idle e b h = elim b [ inl q ↦ clash (cc) | inr q ↦ clash (cc) ]
   no-node push e b h = answers-ok D Full (λ e. refute (cc)) (e, refl) h
   no-node pop e b h = elim b [ inl q ↦ clash (cc) | inr q ↦ clash (cc) ]
@@ -66,12 +66,12 @@ module _ (held : ℕ → Bool) (k : ℕ) {L : ℕ} {s o : Side} {m : View} {clas
 
   -- ---- Line 28: the first node.
   abbrev first-writes : List Write
-  first-writes = out≔ f none ∷ inn≔ f none ∷ val≔ f (X s) ∷ []
+  first-writes = out≔ f noNode ∷ inn≔ f noNode ∷ val≔ f (X s) ∷ []
 
   abbrev first-taken : Step → Effect
   first-taken st = writing first-writes (next (withCounted (withD t f) 0) st)
 
-  module _ (h : TaskOk k s o m class line28 t) (T : TakeOk L held m class f) (f-some : f ≢ none) where
+  module _ (h : TaskOk k s o m class line28 t) (T : TakeOk L held m class f) (f-some : f ≢ noNode) where
     f-new : takenClass k held f class f ≡ new k
     f-new = taken-new k D (S .none-free) T f-some
 
@@ -81,8 +81,8 @@ module _ (held : ℕ → Bool) (k : ℕ) {L : ℕ} {s o : Side} {m : View} {clas
     first-same x not-new =
         let x≢f : x ≢ f = λ e. not-new (cc (f-new)) in
         record {
-          same-out = update-wrote (m .out) f none .elsewhere x x≢f;
-          same-inn = update-wrote (m .inn) f none .elsewhere x x≢f;
+          same-out = update-wrote (m .out) f noNode .elsewhere x x≢f;
+          same-inn = update-wrote (m .inn) f noNode .elsewhere x x≢f;
           same-val = update-wrote (m .val) f (X s) .elsewhere x x≢f;
         }
 
@@ -95,7 +95,7 @@ module _ (held : ℕ → Bool) (k : ℕ) {L : ℕ} {s o : Side} {m : View} {clas
 
     first-chain : HasChainIn k s (written (t .lane) s first-writes m) (takenClass k held f class) f
     first-chain =
-        first-node f-new only-f (update-wrote (m .out) f none .here) (update-wrote (m .inn) f none .here)
+        first-node f-new only-f (update-wrote (m .out) f noNode .here) (update-wrote (m .inn) f noNode .here)
         (update-wrote (m .val) f (X s) .here)
 
     line28-taken : Ok (first-taken (if_then_else_ (g ≟ 0) line15 line31))
@@ -106,7 +106,7 @@ module _ (held : ℕ → Bool) (k : ℕ) {L : ℕ} {s o : Side} {m : View} {clas
         (λ _. takes k D (S .none-free) T f-some t first-writes refl first-same refl
         (record { relies = tt; chain = first-chain; belongs = h .belongs }))
 
-  pub line28-ok : (f ≢ none → TakeOk L held m class f) → LineOk line28
+  pub line28-ok : (f ≢ noNode → TakeOk L held m class f) → LineOk line28
   unfolding act
   line28-ok free-f h =
       ok-if Ok (λ e. e) (_ ≟ _)
@@ -115,17 +115,17 @@ module _ (held : ℕ → Bool) (k : ℕ) {L : ℕ} {s o : Side} {m : View} {clas
 
   -- ---- Line 31: one more.
   abbrev more-writes : List Write
-  more-writes = val≔ f (N s) ∷ inn≔ f none ∷ out≔ f (t .D) ∷ inn≔ (t .D) f ∷ []
+  more-writes = val≔ f (N s) ∷ inn≔ f noNode ∷ out≔ f (t .D) ∷ inn≔ (t .D) f ∷ []
 
   abbrev more-taken : Step → Effect
   more-taken st = writing more-writes (next (withCounted (withD t f) (suc (t .counted))) st)
 
-  module _ (h : TaskOk k s o m class line31 t) (T : TakeOk L held m class f) (f-some : f ≢ none) where
+  module _ (h : TaskOk k s o m class line31 t) (T : TakeOk L held m class f) (f-some : f ≢ noNode) where
     D-new : takenClass k held f class (t .D) ≡ new k
     D-new = new-stays k D (S .none-free) T f-some (t .D) k (head-new (h .chain))
 
-    w-D : Wrote (update (m .inn) f none) (t .D) f (written (t .lane) s more-writes m .inn)
-    w-D = update-wrote (update (m .inn) f none) (t .D) f
+    w-D : Wrote (update (m .inn) f noNode) (t .D) f (written (t .lane) s more-writes m .inn)
+    w-D = update-wrote (update (m .inn) f noNode) (t .D) f
 
     more-same : (x : ℕ)
         → takenClass k held f class x ≢ new k
@@ -135,14 +135,14 @@ module _ (held : ℕ → Bool) (k : ℕ) {L : ℕ} {s o : Side} {m : View} {clas
         let x≢D : x ≢ t .D = λ e. not-new (cc (D-new)) in
         record {
           same-out = update-wrote (m .out) f (t .D) .elsewhere x x≢f;
-          same-inn = w-D .elsewhere x x≢D ∙ update-wrote (m .inn) f none .elsewhere x x≢f;
+          same-inn = w-D .elsewhere x x≢D ∙ update-wrote (m .inn) f noNode .elsewhere x x≢f;
           same-val = update-wrote (m .val) f (N s) .elsewhere x x≢f;
         }
 
     more-chain : HasChainIn k s (written (t .lane) s more-writes m) (takenClass k held f class) f
     more-chain =
         one-more (h .chain)
-        (update-wrote (m .out) f (t .D)) (update-wrote (m .val) f (N s)) (update-wrote (m .inn) f none) w-D
+        (update-wrote (m .out) f (t .D)) (update-wrote (m .val) f (N s)) (update-wrote (m .inn) f noNode) w-D
         (taken-new k D (S .none-free) T f-some) (λ x. new-stays k D (S .none-free) T f-some x k)
         (λ x. was-new k D (S .none-free) T f-some x k) (λ x. new-not-taken k D (S .none-free) T f-some x k)
 
@@ -154,7 +154,7 @@ module _ (held : ℕ → Bool) (k : ℕ) {L : ℕ} {s o : Side} {m : View} {clas
         (λ _. takes k D (S .none-free) T f-some t more-writes refl more-same refl
         (record { relies = tt; chain = more-chain; belongs = h .belongs }))
 
-  pub line31-ok : (f ≢ none → TakeOk L held m class f) → LineOk line31
+  pub line31-ok : (f ≢ noNode → TakeOk L held m class f) → LineOk line31
   unfolding act
   line31-ok free-f h =
       past (head-some (h .chain) (S .none-free))

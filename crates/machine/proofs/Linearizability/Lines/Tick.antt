@@ -7,7 +7,7 @@ use Rattle.machine.specs.Sides.{Side}
 use Rattle.machine.specs.Operations.{idle}
 use Rattle.machine.specs.Steps.{Step, rest}
 use Rattle.machine.specs.Steps as Steps
-use Rattle.machine.specs.Tasks.{Task, none}
+use Rattle.machine.specs.Tasks.{Task, noNode}
 use Rattle.machine.specs.Lines.{act}
 use Rattle.machine.proofs.Words.Memories.{View, seenIn}
 use Rattle.machine.proofs.Linearizability.Model.Classes.{Class}
@@ -54,7 +54,7 @@ use Rattle.machine.proofs.Linearizability.Lines.TakingLines.{line28-ok,
 
 module _ (held : ℕ → Bool) (k : ℕ) {L : ℕ} {s o : Side} {m : View} {class : ℕ → Class} {r : ℕ → List ℕ}
     (D : Lanes L s o m class r) (t : Task) (own : t .lane < L) (g f : ℕ)
-    (free-f : f ≢ none → TakeOk L held m class f) (busy : t .operation ≢ idle) where
+    (free-f : f ≢ noNode → TakeOk L held m class f) (busy : t .operation ≢ idle) where
   pub tick-ok : (st : Step) → TaskOk k s o m class st t
       → TickOk held L k s o m class r t (act st s o (seenIn (t .lane) s m) t g f)
   tick-ok rest h = absurd (busy (h .belongs))

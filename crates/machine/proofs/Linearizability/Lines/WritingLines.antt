@@ -11,7 +11,7 @@ use Rattle.machine.specs.Choice.{_≟_}
 use Rattle.machine.specs.Sides.{Side}
 use Rattle.machine.specs.Values.{Value, bag, N, X, Y, _≟ᵛ_}
 use Rattle.machine.specs.Steps.{Step, line5, line51, line62, line64, line72, line74, line78, line79, line82}
-use Rattle.machine.specs.Tasks.{Task, none, goto}
+use Rattle.machine.specs.Tasks.{Task, noNode, goto}
 use Rattle.machine.specs.Lines.{Write, out≔, val≔, hat≔, Effect, next, answers, writing, back, bagOf, act}
 use Rattle.machine.proofs.Basics.Contradiction.{clash, refute}
 use Rattle.machine.proofs.Basics.Updates.{
@@ -98,7 +98,7 @@ module _ (held : ℕ → Bool) (k : ℕ) {L : ℕ} {s o : Side} {m : View} {clas
   abbrev S : Structure (t .lane) s o m class (mine .frame)
   S = mine .structure
 
-  some : (x : ℕ) → Old class x → x ≢ none
+  some : (x : ℕ) → Old class x → x ≢ noNode
   some = old-some S
 
   -- A value written to a node of main.
@@ -223,7 +223,7 @@ module _ (held : ℕ → Bool) (k : ℕ) {L : ℕ} {s o : Side} {m : View} {clas
           → TaskOk k s o (record { out = m .out; inn = m .inn; val = m .val; hats = hats }) class (back t)
           (goto t (back t))
       goes-back hats =
-          back-ok (S .none-free) (goto t (back t)) (t .operation) refl (t .D ≟ none)
+          back-ok (S .none-free) (goto t (back t)) (t .operation) refl (t .D ≟ noNode)
           (elim (h .chain) [ with-chain c ↦ with-chain c | without-chain c e ↦ without-chain c e ]) (h .belongs)
 
       hats-alone : (l : ℕ) → l ≢ t .lane → LeftAlone l m (written (t .lane) s (hat≔ (t .C) ∷ []) m) class class
@@ -283,12 +283,12 @@ module _ (held : ℕ → Bool) (k : ℕ) {L : ℕ} {s o : Side} {m : View} {clas
       (ok-if Ok (λ l. writing l (next t line74)) (_ ≟ _) (λ e. done (cc))
       (λ e. goes D refl (record { relies = h .relies .B-spur; chain = h .chain; belongs = h .belongs })))
     where
-      done : m .out (t .A) ≡ t .B → Ok (writing (out≔ (t .A) none ∷ []) (next t line74))
+      done : m .out (t .A) ≡ t .B → Ok (writing (out≔ (t .A) noNode ∷ []) (next t line74))
       done e =
           let p = h .relies in
-          let w = update-wrote (m .out) (t .A) none in
+          let w = update-wrote (m .out) (t .A) noNode in
           let T = unlink S k w (p .B-spur) e (p .A-old) (λ c. p .not-far c e) in
-          spur-written (out≔ (t .A) none ∷ []) refl refl T refl (goes-on refl refl)
+          spur-written (out≔ (t .A) noNode ∷ []) refl refl T refl (goes-on refl refl)
           (record { relies = p .B-spur; chain = h .chain; belongs = h .belongs })
 
   pub line78-ok : LineOk line78
@@ -308,19 +308,19 @@ module _ (held : ℕ → Bool) (k : ℕ) {L : ℕ} {s o : Side} {m : View} {clas
   pub line79-ok : LineOk line79
   unfolding act
   line79-ok h =
-      let w = update-wrote (m .out) (t .A) none in
+      let w = update-wrote (m .out) (t .A) noNode in
       let T = spur-unlink S k w (h .relies .A-spur) in
       past (spur-some S _ (h .relies .A-spur))
-      (spur-written (out≔ (t .A) none ∷ []) refl refl T refl (goes-on refl refl)
+      (spur-written (out≔ (t .A) noNode ∷ []) refl refl T refl (goes-on refl refl)
       (record { relies = h .relies .B-spur; chain = h .chain; belongs = h .belongs }))
 
   pub line82-ok : LineOk line82
   unfolding act
   line82-ok h =
-      let w = update-wrote (m .out) (t .A) none in
+      let w = update-wrote (m .out) (t .A) noNode in
       let T = spur-unlink S k w (h .relies) in
       past (spur-some S _ (h .relies))
-      (spur-written (out≔ (t .A) none ∷ []) refl refl T
+      (spur-written (out≔ (t .A) noNode ∷ []) refl refl T
       (inr (h .belongs), refl) (has-answered (λ e. refute (cc)) refl) (fresh-ok (h .chain .none-new)))
 
   -- ---- Line 62: a cut of main, or in the spur.

@@ -4,7 +4,7 @@ use mathlib.Core.Logic.{_≢_, _⊎_}
 use Prim.Native.Nat.{ℕ, _≤_, _<_}
 use Rattle.machine.specs.Sides.{Side}
 use Rattle.machine.specs.Values.{Value, N, X}
-use Rattle.machine.specs.Tasks.{none}
+use Rattle.machine.specs.Tasks.{noNode}
 use Rattle.machine.proofs.Words.Memories.{View}
 use Rattle.machine.proofs.Linearizability.Model.Classes.{Class, new, Old}
 use Rattle.machine.proofs.Linearizability.Model.Structure.{Linked}
@@ -19,8 +19,8 @@ pub record Chain (s : Side) (k : ℕ) (out inn : ℕ → ℕ) (val : ℕ → Val
   pub N-before : (j : ℕ) → j < m → val (node j) ≡ N s
   pub X-last : val (node m) ≡ X s
   pub links : Linked out inn node m
-  pub last-out : out (node m) ≡ none
-  pub first-in : (inn (node 0) ≡ none) ⊎ Old class (inn (node 0))
+  pub last-out : out (node m) ≡ noNode
+  pub first-in : (inn (node 0) ≡ noNode) ⊎ Old class (inn (node 0))
 
 -- Task k, on side s, has a chain that begins at d.
 pub record HasChain (k : ℕ) (s : Side) (out inn : ℕ → ℕ) (val : ℕ → Value) (class : ℕ → Class) (d : ℕ) : Type 0 where
@@ -36,4 +36,4 @@ HasChainIn k s m class d = HasChain k s (m .out) (m .inn) (m .val) class d
 -- Task k has no chain.
 pub record NoChain (k : ℕ) (class : ℕ → Class) (d : ℕ) : Type 0 where
   pub none-new : (x : ℕ) → class x ≢ new k
-  pub no-head : d ≡ none
+  pub no-head : d ≡ noNode

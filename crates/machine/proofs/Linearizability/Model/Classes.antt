@@ -5,7 +5,7 @@ use mathlib.Core.Bool.{Bool, true, false}
 use Prim.Native.Nat.{ℕ}
 use Rattle.machine.specs.Sides.{Side}
 use Rattle.machine.specs.Values.{Value, never, bag, N, X, Y}
-use Rattle.machine.specs.Tasks.{none}
+use Rattle.machine.specs.Tasks.{noNode}
 use Rattle.machine.proofs.Basics.Contradiction.{clash, refute}
 use Rattle.machine.proofs.Linearizability.Model.Sides.{Opposite}
 
@@ -40,7 +40,7 @@ old-class w (spur z) h = elim (w .either z) [ inl e ↦ in-near (cc) | inr e ↦
 old-class w (new k) h = clash (cc)
 
 -- None is in no class, so an old node is not none.
-pub old-not-none : (class : ℕ → Class) → class none ≡ free → (x : ℕ) → Old class x → x ≢ none
+pub old-not-none : (class : ℕ → Class) → class noNode ≡ free → (x : ℕ) → Old class x → x ≢ noNode
 old-not-none class none-free x h = λ e. refute (cc)
 
 -- Whose mark a value is.

@@ -5,7 +5,7 @@ use mathlib.Core.Bool.{Bool, true}
 use Prim.Native.Nat.{ℕ}
 use Rattle.machine.specs.Sides.{Side}
 use Rattle.machine.specs.Values.{Value, Y}
-use Rattle.machine.specs.Tasks.{none}
+use Rattle.machine.specs.Tasks.{noNode}
 use Rattle.machine.proofs.Basics.Contradiction.{clash, refute}
 use Rattle.machine.proofs.Words.Memories.{View}
 use Rattle.machine.proofs.Linearizability.Model.Classes.{Class, main, spur, new, Old}
@@ -23,7 +23,7 @@ pub record Guarantee (held : ℕ → Bool) (s : Side)
   -- A node of main, of any lane, stays in main or is cut off; what it led to outward is still there, or was cut off
   -- behind it.
   pub main-old : (x l : ℕ) → class x ≡ main l → Old class' x
-  pub main-outward : (x l : ℕ) → class x ≡ main l → out x ≢ none
+  pub main-outward : (x l : ℕ) → class x ≡ main l → out x ≢ noNode
       → (out' x ≡ out x) ⊎ CutFrom s inn' val' class' (out x) x
   -- A node that is cut off keeps its inward link, which led to main.
   pub cut-inward : (x l : ℕ) → class x ≡ main l → class' x ≡ spur s → inn' x ≡ inn x

@@ -5,14 +5,14 @@ use mathlib.Core.Bool.{Bool, true}
 use Prim.Native.Nat.{ℕ, suc, zero, _+_, _-_, _≤_, _<_}
 use native.Mathlib.Omega.{arith}
 use Rattle.machine.specs.Sides.{Side, left, right}
-use Rattle.machine.specs.Tasks.{none}
+use Rattle.machine.specs.Tasks.{noNode}
 use Rattle.machine.proofs.Words.Memories.{View, swapped, view}
 use Rattle.machine.proofs.Linearizability.Model.Classes.{Class, main}
 use Rattle.machine.proofs.Linearizability.Model.Structure.{Frame, Linked, Structure}
 use Rattle.machine.proofs.Linearizability.Model.Nodes.{at-some}
 
 abbrev pub Closed : (ℕ → Bool) → (ℕ → ℕ) → Type 0
-Closed held link = (x : ℕ) → held x ≡ true → link x ≢ none → held (link x) ≡ true
+Closed held link = (x : ℕ) → held x ≡ true → link x ≢ noNode → held (link x) ≡ true
 
 -- The set is closed under links and has the hats of the L lanes.
 pub record ClosedSet (L : ℕ) (held : ℕ → Bool) (m : View) : Type 0 where
@@ -32,7 +32,7 @@ closed-view right H = H
 
 -- One node of a linked line brings all of them.
 module _ {L : ℕ} {held : ℕ → Bool} {m : View} (H : ClosedSet L held m)
-    {at : ℕ → ℕ} {n : ℕ} (K : Linked (m .out) (m .inn) at n) (some : (i : ℕ) → i ≤ n → at i ≢ none) where
+    {at : ℕ → ℕ} {n : ℕ} (K : Linked (m .out) (m .inn) at n) (some : (i : ℕ) → i ≤ n → at i ≢ noNode) where
   held-outward : (i d : ℕ) → i + d ≤ n → held (at i) ≡ true → held (at (i + d)) ≡ true
   held-outward i zero h r = let e : i + 0 ≡ i = omega arith in cc
   held-outward i (suc d) h r =

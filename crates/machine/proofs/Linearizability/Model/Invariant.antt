@@ -8,7 +8,7 @@ use Rattle.machine.specs.declared.Answer.{Answer}
 use Rattle.machine.specs.declared.Answer.the-variants.{Going, Pushed, Bag, Empty, Full, Yes, No, Refused}
 use Rattle.machine.specs.Sides.{Side, left, right, opposite}
 use Rattle.machine.specs.Operations.{Operation, push, pop, add, remove}
-use Rattle.machine.specs.Tasks.{Task, fresh, none, Register, register}
+use Rattle.machine.specs.Tasks.{Task, fresh, noNode, Register, register}
 use Rattle.machine.specs.Registers.{holds}
 use Rattle.machine.specs.Lines.{Effect}
 use Rattle.machine.specs.Row.{Note}
@@ -91,14 +91,14 @@ pub record Invariant (L : ℕ) (M : View) (ts : ℕ → Task) (class : ℕ → C
 -- None is in no class.
 pub none-is-free : {L : ℕ} {M : View} {ts : ℕ → Task} {class : ℕ → Class} {r : ℕ → List ℕ}
     → Invariant L M ts class r
-    → class none ≡ free
+    → class noNode ≡ free
 none-is-free {ts = ts} I = I .lanes .lane (ts 0 .lane) (I .own-lane 0) .structure .none-free
 
 -- ---- What holds nodes against reuse.
 
 -- Those of some registers that are not none are in the set.
 abbrev pub RegistersHeld : (ℕ → Bool) → (Register → Bool) → Task → Type 0
-RegistersHeld held some t = (r : Register) → some r ≡ true → register t r ≢ none → held (register t r) ≡ true
+RegistersHeld held some t = (r : Register) → some r ≡ true → register t r ≢ noNode → held (register t r) ≡ true
 
 -- A set of nodes closed under links that holds the hats and the registers that hold: a take may give any node outside
 -- it.

@@ -5,7 +5,7 @@ use Prim.Native.Nat.{ℕ, suc, _-_, _≤_, _<_}
 use native.Mathlib.Omega.{arith}
 use Rattle.machine.specs.Sides.{Side}
 use Rattle.machine.specs.Values.{Value, never, bag, N, X, Y}
-use Rattle.machine.specs.Tasks.{none}
+use Rattle.machine.specs.Tasks.{noNode}
 use Rattle.machine.proofs.Basics.Contradiction.{clash, less?, refute}
 use Rattle.machine.proofs.Words.Memories.{View, swapped}
 use Rattle.machine.proofs.Linearizability.Model.Classes.{
@@ -107,13 +107,13 @@ module _ {ℓ : ℕ} {s o : Side} {m : View} {class : ℕ → Class} {F : Frame}
         | inr l ↦ let z : index x ≡ n = omega (arith, S .main-list .index-le x c) in cc
       ]
 
-  pub old-some : (x : ℕ) → Old class x → x ≢ none
+  pub old-some : (x : ℕ) → Old class x → x ≢ noNode
   old-some x h = old-not-none class (S .none-free) x h
 
-  pub at-some : (i : ℕ) → i ≤ n → at i ≢ none
+  pub at-some : (i : ℕ) → i ≤ n → at i ≢ noNode
   at-some i h = old-some (at i) (cc (S .main-list .is-main i h))
 
-  pub spur-some : (x : ℕ) {z : Side} → class x ≡ spur z → x ≢ none
+  pub spur-some : (x : ℕ) {z : Side} → class x ≡ spur z → x ≢ noNode
   spur-some x h = old-some x (cc)
 
   pub hat-old : Old class (hats ℓ s)
@@ -123,7 +123,7 @@ module _ {ℓ : ℕ} {s o : Side} {m : View} {class : ℕ → Class} {F : Frame}
         | inr y ↦ cc (y .in-spur)
       ]
 
-  pub spur-out : (x : ℕ) → class x ≡ spur s → out x ≢ none → class (out x) ≡ spur s
+  pub spur-out : (x : ℕ) → class x ≡ spur s → out x ≢ noNode → class (out x) ≡ spur s
   spur-out x c ne = elim (S .near-spur .outward-spur x c) [ inl f ↦ absurd (ne f) | inr f ↦ f ]
 
   -- An old node whose mark is of side s is not in spur o.
@@ -135,7 +135,7 @@ module _ {ℓ : ℕ} {s o : Side} {m : View} {class : ℕ → Class} {F : Frame}
     (every : InLanes s o m class) where
   open View m using (out, val)
 
-  main-out-old : {j : ℕ} {G : Frame} → Structure j s o m class G → (x : ℕ) → class x ≡ main j → out x ≢ none
+  main-out-old : {j : ℕ} {G : Frame} → Structure j s o m class G → (x : ℕ) → class x ≡ main j → out x ≢ noNode
       → Old class (out x)
   main-out-old {j} {G} R x c ne =
       let e = R .main-list .at-index x c in
@@ -146,7 +146,7 @@ module _ {ℓ : ℕ} {s o : Side} {m : View} {class : ℕ → Class} {F : Frame}
             elim (R .last-out) [ inl f ↦ absurd (ne (cc)) | inr y ↦ cc (y .in-spur) ]
       ]
 
-  pub out-old : (x : ℕ) → Old class x → out x ≢ none → Old class (out x)
+  pub out-old : (x : ℕ) → Old class x → out x ≢ noNode → Old class (out x)
   out-old x h ne =
       elim (old-class (S .sides) (class x) h) [
         | in-main j c ↦ main-out-old (every x j c .1) x c ne
@@ -177,5 +177,5 @@ in-lanes-reversed every x j c = (reversedFrame (every x j c .0), reversed (every
 
 module _ {ℓ : ℕ} {s o : Side} {m : View} {class : ℕ → Class} {F : Frame} (S : Structure ℓ s o m class F)
     (every : InLanes s o m class) where
-  pub inn-old : (x : ℕ) → Old class x → m .inn x ≢ none → Old class (m .inn x)
+  pub inn-old : (x : ℕ) → Old class x → m .inn x ≢ noNode → Old class (m .inn x)
   inn-old = out-old (reversed S) (in-lanes-reversed every)

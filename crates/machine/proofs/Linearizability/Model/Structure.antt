@@ -5,7 +5,7 @@ use mathlib.Core.Logic.{_⊎_}
 use Prim.Native.Nat.{ℕ, suc, _≤_, _<_}
 use Rattle.machine.specs.Sides.{Side}
 use Rattle.machine.specs.Values.{Value, bag, N, X, Y}
-use Rattle.machine.specs.Tasks.{none}
+use Rattle.machine.specs.Tasks.{noNode}
 use Rattle.machine.proofs.Words.Memories.{View}
 use Rattle.machine.proofs.Linearizability.Model.Sides.{Opposite}
 use Rattle.machine.proofs.Linearizability.Model.Classes.{Class, free, main, spur, Old, of, owner}
@@ -68,7 +68,7 @@ pub record Linked (out inn : ℕ → ℕ) (at : ℕ → ℕ) (n : ℕ) : Type 0 
 pub record Spur (s : Side) (out inn : ℕ → ℕ) (val : ℕ → Value) (class : ℕ → Class) : Type 0 where
   pub own-mark : (x : ℕ) → class x ≡ spur s → owner (val x) ≡ of s
   pub inward-old : (x : ℕ) → class x ≡ spur s → Old class (inn x)
-  pub outward-spur : (x : ℕ) → class x ≡ spur s → (out x ≡ none) ⊎ (class (out x) ≡ spur s)
+  pub outward-spur : (x : ℕ) → class x ≡ spur s → (out x ≡ noNode) ⊎ (class (out x) ≡ spur s)
 
 -- Lane ℓ seen from side s. A hat is at its index, or at a node that was cut off there.
 module _ (ℓ : ℕ) (s o : Side) (m : View) (class : ℕ → Class) (F : Frame) where
@@ -77,15 +77,15 @@ module _ (ℓ : ℕ) (s o : Side) (m : View) (class : ℕ → Class) (F : Frame)
 
   pub record Structure : Type 0 where
     pub sides : Opposite s o
-    pub none-free : class none ≡ free
+    pub none-free : class noNode ≡ free
     pub a<b : a < b
     pub b≤n : b ≤ n
     pub main-list : Main ℓ class at index n
     pub values : MainValues s o val F
     pub links : Linked out inn at n
     -- Main's ends lead to none, or to a node that was cut off there.
-    pub last-out : (out (at n) ≡ none) ⊎ CutFrom s inn val class (out (at n)) (at n)
-    pub first-in : (inn (at 0) ≡ none) ⊎ CutFrom o out val class (inn (at 0)) (at 0)
+    pub last-out : (out (at n) ≡ noNode) ⊎ CutFrom s inn val class (out (at n)) (at n)
+    pub first-in : (inn (at 0) ≡ noNode) ⊎ CutFrom o out val class (inn (at 0)) (at 0)
     pub near-hat : (j : ℕ) → suc j ≡ b → (hats ℓ s ≡ at b) ⊎ CutFrom s inn val class (hats ℓ s) (at j)
     pub far-hat : (hats ℓ o ≡ at a) ⊎ CutFrom o out val class (hats ℓ o) (at (suc a))
     pub near-spur : Spur s out inn val class

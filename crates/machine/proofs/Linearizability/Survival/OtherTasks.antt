@@ -7,7 +7,7 @@ use Prim.Native.Nat.{ℕ, suc, _≤_}
 use native.Mathlib.Omega.{arith}
 use Rattle.machine.specs.Sides.{Side}
 use Rattle.machine.specs.Steps.{Step}
-use Rattle.machine.specs.Tasks.{Task, none, inA, inB, inC, inD}
+use Rattle.machine.specs.Tasks.{Task, noNode, inA, inB, inC, inD}
 use Rattle.machine.specs.Registers.{among, holds}
 use Rattle.machine.proofs.Basics.Contradiction.{refute}
 use Rattle.machine.proofs.Words.Memories.{View}
@@ -73,13 +73,13 @@ use Rattle.machine.proofs.Linearizability.Survival.Stability.{
 -- Task t is not the one that ticks, and sees its view change from m to m'.
 module _ {held : ℕ → Bool} {k : ℕ} {s o : Side} (w : Opposite s o) (m m' : View) {class class' : ℕ → Class}
     (G : GuaranteesIn held k s o m class m' class')
-    (none-free : class none ≡ free) (none-free' : class' none ≡ free)
+    (none-free : class noNode ≡ free) (none-free' : class' noNode ≡ free)
     (near-spur : Spur s (m .out) (m .inn) (m .val) class) (near-spur' : Spur s (m' .out) (m' .inn) (m' .val) class')
     (inn-closed : Closed held (m .inn)) (t : Task) {j : ℕ} (j≢k : j ≢ k) where
-  old-some : (x : ℕ) → Old class x → x ≢ none
+  old-some : (x : ℕ) → Old class x → x ≢ noNode
   old-some x h = old-not-none class none-free x h
 
-  spur-some : (x : ℕ) {z : Side} → class x ≡ spur z → x ≢ none
+  spur-some : (x : ℕ) {z : Side} → class x ≡ spur z → x ≢ noNode
   spur-some x h = old-some x (cc)
 
   old-stays : (x : ℕ) → held x ≡ true → Old class x → Old class' x
@@ -197,7 +197,7 @@ module _ {held : ℕ → Bool} {k : ℕ} {s o : Side} (w : Opposite s o) (m m' :
     same-at : (i : ℕ) → i ≤ l → SameIn m m' (node i)
     same-at i h = G .chains .same-words (node i) j j≢k (C .is-new i h)
 
-    first-in-survives : (m' .inn (node 0) ≡ none) ⊎ Old class' (m' .inn (node 0))
+    first-in-survives : (m' .inn (node 0) ≡ noNode) ⊎ Old class' (m' .inn (node 0))
     first-in-survives =
         let e = same-at 0 (omega arith) .same-inn in
         elim (C .first-in) [
@@ -227,7 +227,7 @@ module _ {held : ℕ → Bool} {k : ℕ} {s o : Side} (w : Opposite s o) (m m' :
       → HasChainIn j s m class (t .D)
       → HasChainIn j s m' class' (t .D)
   has-chain-survives R H =
-      let D-some : t .D ≢ none = λ e. refute (cc (H .head, H .chain .is-new 0 (omega arith))) in
+      let D-some : t .D ≢ noNode = λ e. refute (cc (H .head, H .chain .is-new 0 (omega arith))) in
       record {
         node = H .node;
         place = H .place;

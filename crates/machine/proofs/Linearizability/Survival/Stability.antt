@@ -5,7 +5,7 @@ use mathlib.Core.Bool.{Bool, true}
 use Prim.Native.Nat.{ℕ}
 use Rattle.machine.specs.Sides.{Side}
 use Rattle.machine.specs.Values.{Value}
-use Rattle.machine.specs.Tasks.{none}
+use Rattle.machine.specs.Tasks.{noNode}
 use Rattle.machine.proofs.Basics.Contradiction.{clash, refute}
 use Rattle.machine.proofs.Linearizability.Model.Sides.{Opposite}
 use Rattle.machine.proofs.Linearizability.Model.Classes.{
@@ -42,7 +42,7 @@ module _ {held : ℕ → Bool} {s : Side}
         leads-back = G .spur-inward y r (h .in-spur) ∙ h .leads-back;
       }
 
-  linked-or-cut-stable : class none ≡ free
+  linked-or-cut-stable : class noNode ≡ free
       → (x y l : ℕ)
       → class x ≡ main l
       → held y ≡ true
@@ -61,7 +61,7 @@ module _ {held : ℕ → Bool} {s : Side}
 module _ {held : ℕ → Bool} {s o : Side} (w : Opposite s o)
     {out inn : ℕ → ℕ} {val : ℕ → Value} {class : ℕ → Class} {out' inn' : ℕ → ℕ} {val' : ℕ → Value} {class' : ℕ → Class}
     (near : Guarantee held s out inn val class out' inn' val' class')
-    (far : Guarantee held o inn out val class inn' out' val' class') (none-free : class none ≡ free) where
+    (far : Guarantee held o inn out val class inn' out' val' class') (none-free : class noNode ≡ free) where
   pub old-stable : (x : ℕ) → held x ≡ true → Old class x → Old class' x
   old-stable x r h =
       elim (old-class w (class x) h) [
@@ -144,7 +144,7 @@ module _ {held : ℕ → Bool} {s o : Side} (w : Opposite s o)
 
   -- If x went from main to the spur, y went with it: this looks at the spur after the tick.
   pub spur-next-stable : Spur s out' inn' val' class'
-      → class' none ≡ free
+      → class' noNode ≡ free
       → (x y : ℕ)
       → held x ≡ true
       → held y ≡ true

@@ -3,7 +3,7 @@ use mathlib.Core.Path.{_≡_, refl, sym, ap, _∙_, subst}
 use mathlib.Core.Logic.{_≢_, inl, inr}
 use mathlib.Core.Bool.{Bool, true, false, not, _&&_, _||_}
 use mathlib.Core.List.{List}
-use mathlib.Core.Option.{Option, some, none as nothing}
+use mathlib.Core.Option.{Option, some, none}
 use Prim.Native.Nat.{ℕ, zero, suc, _<_}
 use native.Mathlib.Omega.{arith}
 use native.Mathlib.Decide.{ℕ-discrete}
@@ -52,14 +52,14 @@ is-push add e = clash (cc)
 is-push remove e = clash (cc)
 
 -- What the reply says of the tests.
-accepted-so : (r : Option ℕ) (before after : List ℕ) → changed r before after .reply ≡ Accepted → r ≡ nothing
+accepted-so : (r : Option ℕ) (before after : List ℕ) → changed r before after .reply ≡ Accepted → r ≡ none
 accepted-so (some n) before after e = clash (cc)
-accepted-so nothing before after e = refl
+accepted-so none before after e = refl
 
 refused-so : (r : Option ℕ) (n : ℕ) (before after : List ℕ) → changed r before after .reply ≡ Reply-Refused n
     → r ≡ some n
 refused-so (some m) n before after e = cc
-refused-so nothing n before after e = clash (cc)
+refused-so none n before after e = clash (cc)
 
 not-both : (t : Bool) → not t ≡ true → t ≡ true → ⊥
 not-both true e q = refute (cc)
@@ -146,10 +146,10 @@ module _ {ws : List ℕ} {ρ : Row} (A : Agrees ws ρ) where
   unfolding begin
   accepted-new k l op side argument e is-push seen =
       let n = number argument in
-      let others = unless (isIdle (task ws k .operation)) 8 nothing in
-      let none-met : beginRefusal ws k l op side argument ≡ nothing = accepted-so _ _ _ e in
-      let not-met : twiceRefusal ws (operationOf op) n others ≡ nothing = search tests-left depth 9 in
-      let not-16 : unless (not (isSeen n)) 16 others ≡ nothing =
+      let others = unless (isIdle (task ws k .operation)) 8 none in
+      let none-met : beginRefusal ws k l op side argument ≡ none = accepted-so _ _ _ e in
+      let not-met : twiceRefusal ws (operationOf op) n others ≡ none = search tests-left depth 9 in
+      let not-16 : unless (not (isSeen n)) 16 others ≡ none =
       sym (twice-is n others) ∙ ap (λ (o : Operation). twiceRefusal ws o n others) (sym is-push) ∙ not-met in
       not-both (isSeen n) (test-passed (not (isSeen n)) 16 others not-16) (tests-so n seen)
 
@@ -161,7 +161,7 @@ module _ {ws : List ℕ} {ρ : Row} (A : Agrees ws ρ) where
     side-passes right = refl
 
     abbrev after-16 : Option ℕ
-    after-16 = unless (isIdle (task ws k .operation)) 8 nothing
+    after-16 = unless (isIdle (task ws k .operation)) 8 none
 
     refusal-is : beginRefusal ws k l (operationNumber push) (sideNumber s) argument
         ≡ unless (not (isSeen (number argument))) 16 after-16
@@ -176,7 +176,7 @@ module _ {ws : List ℕ} {ρ : Row} (A : Agrees ws ρ) where
           twice-is (number argument),
         )
 
-    not-16 : (idle-now : Bool) → unless idle-now 8 nothing ≢ some 16
+    not-16 : (idle-now : Bool) → unless idle-now 8 none ≢ some 16
     not-16 true e = refute (cc)
     not-16 false e = refute (cc)
 

@@ -3,7 +3,7 @@ use mathlib.Core.Path.{_≡_, refl, sym, ap, _∙_, subst}
 use mathlib.Core.Logic.{_≢_, inl, inr}
 use mathlib.Core.Bool.{Bool, true, false, cond}
 use mathlib.Core.List.{List, [], _∷_}
-use mathlib.Core.Option.{Option, some, none as nothing, Option·map}
+use mathlib.Core.Option.{Option, some, none, Option·map}
 use Prim.Native.Nat.{ℕ, zero, suc, _+_, _≤_, _<_}
 use native.Mathlib.Omega.{arith}
 use Rattle.machine.specs.declared.Answer.{Answer}
@@ -213,12 +213,12 @@ module _ (n : Note) (bags bags′ : List ℕ) where
 
 module _ {ρ : Row} (O : Once ρ) (k : ℕ) (n : Note) (is-noted : ρ .notes k ≡ some n) (bags : List ℕ) where
   abbrev ended : Row
-  ended = noted (withBags ρ (n .lane) bags) k nothing
+  ended = noted (withBags ρ (n .lane) bags) k none
 
   -- The other tasks' notes are as they were.
   others : (j b : ℕ) → PushNoted ended j b → (j ≢ k) × PushNoted ρ j b
   others j b N =
-      elim (noted-there (withBags ρ (n .lane) bags) k nothing j b N) [
+      elim (noted-there (withBags ρ (n .lane) bags) k none j b N) [
         | the-new-one e l s q ↦ clash (cc)
         | one-before ne M ↦ (ne, record { lane = M .lane; side = M .side; note-is = M .note-is })
       ]
@@ -300,7 +300,7 @@ once-made {ρ} {ρ′} O k a e = let n = bound (ρ .notes k) _ e in by-answer (n
   where
     by-answer : (n : Note) → ρ .notes k ≡ some n → (g : Bool)
         → cond g (some ρ)
-        (Option·map (λ bags. noted (withBags ρ (n .lane) bags) k nothing) (answered n a (ρ .bags (n .lane))))
+        (Option·map (λ bags. noted (withBags ρ (n .lane) bags) k none) (answered n a (ρ .bags (n .lane))))
         ≡ some ρ′
         → Once ρ′
     by-answer n is true q = same-row q O

@@ -5,7 +5,7 @@ use Prim.Native.Nat.{ℕ, suc, zero, _≤_}
 use native.Mathlib.Omega.{arith}
 use Rattle.machine.specs.Sides.{Side}
 use Rattle.machine.specs.Values.{Value, N, X}
-use Rattle.machine.specs.Tasks.{none}
+use Rattle.machine.specs.Tasks.{noNode}
 use Rattle.machine.proofs.Basics.Contradiction.{refute}
 use Rattle.machine.proofs.Basics.Updates.{Wrote, it-is, it-is-not, update, update-wrote, wrote?}
 use Rattle.machine.proofs.Linearizability.Model.Classes.{Class, free, new, Old}
@@ -16,8 +16,8 @@ use Rattle.machine.proofs.Linearizability.Model.Chain.{HasChain}
 pub first-node : {k : ℕ} {s : Side} {out inn : ℕ → ℕ} {val : ℕ → Value} {class : ℕ → Class} {f : ℕ}
     → class f ≡ new k
     → ((x : ℕ) → class x ≡ new k → x ≡ f)
-    → out f ≡ none
-    → inn f ≡ none
+    → out f ≡ noNode
+    → inn f ≡ noNode
     → val f ≡ X s
     → HasChain k s out inn val class f
 first-node {f = f} f-new only-f f-out f-inn f-X =
@@ -46,7 +46,7 @@ module _ {k : ℕ} {s : Side} {out inn : ℕ → ℕ} {val : ℕ → Value} {cla
   pub head-new : class d ≡ new k
   head-new = cc (H .head, H .chain .is-new 0 (omega arith))
 
-  pub head-some : class none ≡ free → d ≢ none
+  pub head-some : class noNode ≡ free → d ≢ noNode
   head-some none-free = λ e. refute (cc (head-new))
 
   -- The nodes after the head are not the head.
@@ -97,7 +97,7 @@ module _ {k : ℕ} {s : Side} {out inn : ℕ → ℕ} {val : ℕ → Value} {cla
     (H : HasChain k s out inn val class d)
     {out' inn₁ inn' : ℕ → ℕ} {val' : ℕ → Value}
     (w-out : Wrote out f d out') (w-val : Wrote val f (N s) val')
-    (w-f : Wrote inn f none inn₁) (w-d : Wrote inn₁ d f inn')
+    (w-f : Wrote inn f noNode inn₁) (w-d : Wrote inn₁ d f inn')
     (f-new : class' f ≡ new k) (stays : (x : ℕ) → class x ≡ new k → class' x ≡ new k)
     (was : (x : ℕ) → x ≢ f → class' x ≡ new k → class x ≡ new k)
     (apart : (x : ℕ) → class x ≡ new k → x ≢ f) where

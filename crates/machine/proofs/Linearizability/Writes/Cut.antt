@@ -6,7 +6,7 @@ use Prim.Native.Nat.{ℕ, suc, _-_, _≤_, _<_}
 use native.Mathlib.Omega.{arith}
 use Rattle.machine.specs.Sides.{Side}
 use Rattle.machine.specs.Values.{Value, N, X, Y}
-use Rattle.machine.specs.Tasks.{none}
+use Rattle.machine.specs.Tasks.{noNode}
 use Rattle.machine.proofs.Basics.Contradiction.{clash, equal?, less?, refute}
 use Rattle.machine.proofs.Basics.Updates.{Wrote}
 use Rattle.machine.proofs.Words.Memories.{View}
@@ -147,7 +147,7 @@ module _ {ℓ : ℕ} {s o : Side} {m : View} {class : ℕ → Class} {F : Frame}
       let l = S .main-list .index-le x c in
       cc (S .links .links-in j (omega arith), S .main-list .at-index x c, S .main-list .is-main j (omega arith))
 
-  outward-beyond : (x : ℕ) → class x ≡ main ℓ → index A < index x → (out x ≡ none) ⊎ (class' (out x) ≡ spur s)
+  outward-beyond : (x : ℕ) → class x ≡ main ℓ → index A < index x → (out x ≡ noNode) ⊎ (class' (out x) ≡ spur s)
   outward-beyond x c h =
       let e = S .main-list .at-index x c in
       let l = S .main-list .index-le x c in
@@ -216,7 +216,7 @@ module _ {ℓ : ℕ} {s o : Side} {m : View} {class : ℕ → Class} {F : Frame}
         X-last = ap val' (sym A-at) ∙ wrote-Y .elsewhere A A≢B ∙ wrote-X .here;
       }
 
-  cut-last-out : (out (at (index A)) ≡ none) ⊎ CutFrom s inn val' class' (out (at (index A))) (at (index A))
+  cut-last-out : (out (at (index A)) ≡ noNode) ⊎ CutFrom s inn val' class' (out (at (index A))) (at (index A))
   cut-last-out =
       let e : out (at (index A)) ≡ B = cc (S .links .links-out (index A) A<n, B-at) in
       inr (record {
@@ -230,7 +230,7 @@ module _ {ℓ : ℕ} {s o : Side} {m : View} {class : ℕ → Class} {F : Frame}
       record {
         sides = S .sides;
         none-free =
-            elim (cut none) [ goes-to-spur c l e ↦ clash (cc (S .none-free)) | not-cut l e ↦ cc (S .none-free) ];
+            elim (cut noNode) [ goes-to-spur c l e ↦ clash (cc (S .none-free)) | not-cut l e ↦ cc (S .none-free) ];
         a<b = S .a<b;
         b≤n = b≤A;
         main-list = cut-main-list;

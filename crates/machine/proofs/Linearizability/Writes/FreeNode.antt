@@ -6,7 +6,7 @@ use mathlib.Core.List.{List}
 use Prim.Native.Nat.{ℕ, _≤_}
 use native.Mathlib.Omega.{arith}
 use Rattle.machine.specs.Sides.{Side}
-use Rattle.machine.specs.Tasks.{Task, none, Register, inD}
+use Rattle.machine.specs.Tasks.{Task, noNode, Register, inD}
 use Rattle.machine.specs.Registers.{among, holds}
 use Rattle.machine.proofs.Basics.Contradiction.{refute}
 use Rattle.machine.proofs.Words.Memories.{View, view}
@@ -48,7 +48,7 @@ module _ {L : ℕ} {held : ℕ → Bool} {M : View} {ts : ℕ → Task} {class :
       let e = C .node-place x h in
       cc (line-held (closed-view s (R .closed)) (C .links) some 0 (H .place x) (omega arith) l (cc (H .head)))
     where
-      some : (i : ℕ) → i ≤ H .m → H .node i ≢ none
+      some : (i : ℕ) → i ≤ H .m → H .node i ≢ noNode
       some i q e = refute (cc (H .chain .is-new i q, none-is-free I))
 
   new-held : (j x : ℕ) → class x ≡ new j → held x ≡ true

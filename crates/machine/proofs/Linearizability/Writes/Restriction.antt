@@ -6,7 +6,7 @@ use Prim.Native.Nat.{ℕ, suc, _-_, _≤_, _<_}
 use native.Mathlib.Omega.{arith}
 use Rattle.machine.specs.Sides.{Side}
 use Rattle.machine.specs.Values.{Value}
-use Rattle.machine.specs.Tasks.{none}
+use Rattle.machine.specs.Tasks.{noNode}
 use Rattle.machine.proofs.Basics.Contradiction.{clash, refute}
 use Rattle.machine.proofs.Words.Memories.{View}
 use Rattle.machine.proofs.Linearizability.Model.Classes.{
@@ -43,7 +43,7 @@ pub record Restricted (held : ℕ → Bool)
   pub spur-stays : (x : ℕ) (z : Side) → held x ≡ true → class x ≡ spur z → class' x ≡ spur z
   pub was-spur : (x : ℕ) (z : Side) → class' x ≡ spur z → class x ≡ spur z
   pub spur-held : (x : ℕ) (z : Side) → class' x ≡ spur z → held x ≡ true
-  pub none-free : class' none ≡ free
+  pub none-free : class' noNode ≡ free
   pub same-words : (x : ℕ) → Old class' x → SameWords out inn val out' inn' val' x
 
 module _ {held : ℕ → Bool} {out inn : ℕ → ℕ} {val : ℕ → Value} {class : ℕ → Class}
@@ -132,7 +132,7 @@ module _ {ℓ : ℕ} {s o : Side} {m : View} {class : ℕ → Class} {F : Frame}
       }
 
   -- The outward end of main and the near spur; the far ones are these of the structure reversed.
-  restricted-last-out : (out' (at n) ≡ none) ⊎ CutFrom s inn' val' class' (out' (at n)) (at n)
+  restricted-last-out : (out' (at n) ≡ noNode) ⊎ CutFrom s inn' val' class' (out' (at n)) (at n)
   restricted-last-out =
       let last-held = main-held S H is-lane (at n) (S .main-list .is-main n (omega arith)) in
       rw (words-at n (omega arith) .same-out)
@@ -172,7 +172,7 @@ module _ {ℓ : ℕ} {s o : Side} {m : View} {class : ℕ → Class} {F : Frame}
   n-n : n - n ≡ 0
   n-n = omega arith
 
-  restricted-first-in : (inn' (at 0) ≡ none) ⊎ CutFrom o out' val' class' (inn' (at 0)) (at 0)
+  restricted-first-in : (inn' (at 0) ≡ noNode) ⊎ CutFrom o out' val' class' (inn' (at 0)) (at 0)
   restricted-first-in =
       rw (← n-n) (restricted-last-out (reversed S) (closed-swapped H) is-lane (restricted-swap T))
 

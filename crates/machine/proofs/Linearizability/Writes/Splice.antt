@@ -6,7 +6,7 @@ use Prim.Native.Nat.{ℕ, suc, _+_, _-_, _≤_, _<_}
 use native.Mathlib.Omega.{arith}
 use Rattle.machine.specs.Sides.{Side}
 use Rattle.machine.specs.Values.{Value, N, X}
-use Rattle.machine.specs.Tasks.{none}
+use Rattle.machine.specs.Tasks.{noNode}
 use Rattle.machine.proofs.Basics.Contradiction.{clash, equal?, less?, refute}
 use Rattle.machine.proofs.Basics.Updates.{Wrote}
 use Rattle.machine.proofs.Words.Memories.{View}
@@ -240,7 +240,7 @@ module _ {ℓ : ℕ} {s o : Side} {m : View} {class : ℕ → Class} {F : Frame}
       record {
         sides = S .sides;
         none-free =
-            elim (join none) [ joins p e ↦ clash (cc (S .none-free)) | not-joined p e ↦ cc (S .none-free) ];
+            elim (join noNode) [ joins p e ↦ clash (cc (S .none-free)) | not-joined p e ↦ cc (S .none-free) ];
         a<b = S .a<b;
         b≤n = omega arith;
         main-list = spliced-main-list;
@@ -261,7 +261,7 @@ module _ {ℓ : ℕ} {s o : Side} {m : View} {class : ℕ → Class} {F : Frame}
       }
 
   -- ---- The guarantee: what A led to before was cut off behind it.
-  splice-outward : (x j : ℕ) → class x ≡ main j → out x ≢ none
+  splice-outward : (x j : ℕ) → class x ≡ main j → out x ≢ noNode
       → (out' x ≡ out x) ⊎ CutFrom s inn val' class' (out x) x
   splice-outward x j h ne =
       elim (equal? x A) [

@@ -7,7 +7,7 @@ use Prim.Native.Nat.{ℕ, _≤_, _<_}
 use native.Mathlib.Omega.{arith}
 use Rattle.machine.specs.Sides.{Side}
 use Rattle.machine.specs.Values.{Value, Y}
-use Rattle.machine.specs.Tasks.{none}
+use Rattle.machine.specs.Tasks.{noNode}
 use Rattle.machine.proofs.Basics.Contradiction.{clash, refute}
 use Rattle.machine.proofs.Words.Memories.{View}
 use Rattle.machine.proofs.Linearizability.Model.Classes.{
@@ -39,7 +39,7 @@ pub record SpurClasses (o : Side) (class class' : ℕ → Class) : Type 0 where
   pub was-main : (x l : ℕ) → class' x ≡ main l → class x ≡ main l
   pub spur-stays : (x : ℕ) (z : Side) → class x ≡ spur z → class' x ≡ spur z
   pub was-far-spur : (x : ℕ) → class' x ≡ spur o → class x ≡ spur o
-  pub none-free : class' none ≡ free
+  pub none-free : class' noNode ≡ free
 
 -- Such a tick of task k on side s.
 pub record SpurStep (k : ℕ) (s o : Side)
@@ -49,7 +49,7 @@ pub record SpurStep (k : ℕ) (s o : Side)
   pub main-value : (x l : ℕ) → class x ≡ main l → val' x ≡ val x
   pub far-value : (x : ℕ) → class x ≡ spur o → val' x ≡ val x
   pub Y-stays : (x : ℕ) → class x ≡ spur s → val x ≡ Y s → val' x ≡ Y s
-  pub main-outward : (x l : ℕ) → class x ≡ main l → (out' x ≡ out x) ⊎ ((class (out x) ≡ spur s) × (out' x ≡ none))
+  pub main-outward : (x l : ℕ) → class x ≡ main l → (out' x ≡ out x) ⊎ ((class (out x) ≡ spur s) × (out' x ≡ noNode))
   pub far-outward : (x : ℕ) → class x ≡ spur o → out' x ≡ out x
   pub near-spur : Spur s out' inn val' class'
   pub chains : ChainsKept k out inn val class out' inn val' class'

@@ -5,7 +5,7 @@ use Prim.Native.Nat.{ℕ, suc, _-_, _≤_}
 use native.Mathlib.Omega.{arith}
 use Rattle.machine.specs.Sides.{Side}
 use Rattle.machine.specs.Values.{Value, N, X, Y}
-use Rattle.machine.specs.Tasks.{none}
+use Rattle.machine.specs.Tasks.{noNode}
 use Rattle.machine.proofs.Basics.Contradiction.{clash, less?, refute}
 use Rattle.machine.proofs.Basics.Updates.{Wrote, it-is, it-is-not, wrote?}
 use Rattle.machine.proofs.Words.Memories.{View}
@@ -114,7 +114,7 @@ module _ {ℓ : ℕ} {s o : Side} {m : View} {class : ℕ → Class} {F : Frame}
       }
 
   -- An outward link of the spur made none keeps the spur's clauses.
-  unlinked-spur : {A : ℕ} {out' : ℕ → ℕ} → Wrote out A none out' → Spur s out' inn val class
+  unlinked-spur : {A : ℕ} {out' : ℕ → ℕ} → Wrote out A noNode out' → Spur s out' inn val class
   unlinked-spur wrote =
       record {
         own-mark = S .near-spur .own-mark;
@@ -128,7 +128,7 @@ module _ {ℓ : ℕ} {s o : Side} {m : View} {class : ℕ → Class} {F : Frame}
 
   -- Lines 79 and 82, and 64 with A in the spur.
   pub spur-unlink : {A : ℕ} {out' : ℕ → ℕ}
-      → Wrote out A none out'
+      → Wrote out A noNode out'
       → class A ≡ spur s
       → SpurStep k s o out inn val class out' val class
   spur-unlink {A} wrote A-spur =
@@ -145,7 +145,7 @@ module _ {ℓ : ℕ} {s o : Side} {m : View} {class : ℕ → Class} {F : Frame}
 
   -- Line 64 with A in main, of any lane.
   main-unlink : {A B j : ℕ} {out' : ℕ → ℕ}
-      → Wrote out A none out'
+      → Wrote out A noNode out'
       → class B ≡ spur s
       → out A ≡ B
       → class A ≡ main j
@@ -164,7 +164,7 @@ module _ {ℓ : ℕ} {s o : Side} {m : View} {class : ℕ → Class} {F : Frame}
 
   -- Line 64: A is not in the far spur.
   pub unlink : {A B : ℕ} {out' : ℕ → ℕ}
-      → Wrote out A none out'
+      → Wrote out A noNode out'
       → class B ≡ spur s
       → out A ≡ B
       → Old class A
@@ -191,7 +191,7 @@ module _ {ℓ : ℕ} {s o : Side} {m : View} {class : ℕ → Class} {F : Frame}
           spur-stays = λ x z h. cc (old-same join x (cc));
           was-far-spur = λ x h. elim (join x) [ joins p e ↦ clash (cc) | not-joined p e ↦ cc ];
           none-free =
-              elim (join none) [ joins p e ↦ clash (cc (S .none-free)) | not-joined p e ↦ cc (S .none-free) ];
+              elim (join noNode) [ joins p e ↦ clash (cc (S .none-free)) | not-joined p e ↦ cc (S .none-free) ];
         }
 
     joined-at : (j : ℕ) → j ≤ last → class' (node j) ≡ spur s
@@ -220,7 +220,7 @@ module _ {ℓ : ℕ} {s o : Side} {m : View} {class : ℕ → Class} {F : Frame}
           | inr p ↦ let z : place x ≡ 0 = omega arith in cc (join-classes .spur-stays A s A-spur)
         ]
 
-    chain-outward : (x : ℕ) → class x ≡ new k → (out' x ≡ none) ⊎ (class' (out' x) ≡ spur s)
+    chain-outward : (x : ℕ) → class x ≡ new k → (out' x ≡ noNode) ⊎ (class' (out' x) ≡ spur s)
     chain-outward x h =
         let f = wrote-out .elsewhere x (λ f. refute (cc)) in
         let e = C .node-place x h in

@@ -6,7 +6,7 @@ use mathlib.Core.List.{List}
 use Prim.Native.Nat.{ℕ}
 use Rattle.machine.specs.declared.Answer.the-variants.{Going}
 use Rattle.machine.specs.Sides.{Side}
-use Rattle.machine.specs.Tasks.{Task, none}
+use Rattle.machine.specs.Tasks.{Task, noNode}
 use Rattle.machine.specs.Lines.{Write}
 use Rattle.machine.proofs.Basics.Contradiction.{clash, refute}
 use Rattle.machine.proofs.Words.Memories.{View, written, view-equal}
@@ -37,8 +37,8 @@ pub record TakeOk (L : ℕ) (held : ℕ → Bool) (m : View) (class : ℕ → Cl
   pub not-new : (j : ℕ) → class f ≢ new j
 
 module _ {L : ℕ} {held : ℕ → Bool} (k : ℕ) {s o : Side} {m : View} {class : ℕ → Class} {r : ℕ → List ℕ}
-    (D : Lanes L s o m class r) (none-free : class none ≡ free) {f : ℕ} (K : TakeOk L held m class f)
-    (f-some : f ≢ none) where
+    (D : Lanes L s o m class r) (none-free : class noNode ≡ free) {f : ℕ} (K : TakeOk L held m class f)
+    (f-some : f ≢ noNode) where
   abbrev class₁ : ℕ → Class
   class₁ = takenClass k held f class
 
@@ -87,9 +87,9 @@ module _ {L : ℕ} {held : ℕ → Bool} (k : ℕ) {s o : Side} {m : View} {clas
         | not-dropped e n q ↦ n y (cc)
       ]
 
-  none-stays : class₁ none ≡ free
+  none-stays : class₁ noNode ≡ free
   none-stays =
-      elim (change none) [
+      elim (change noNode) [
         | is-taken e q ↦ absurd (f-some (sym e))
         | dropped e z c n q ↦ q
         | not-dropped e n q ↦ cc
