@@ -208,17 +208,29 @@ twiceLeft = bytes "(airline (code 125) left)\n(airline (code 125) left)\n(others
 
 unfoldable pub cases : List Case
 cases =
+    -- Wrong: The code is the first to third digit of a tag.
     case (codeBehind 0) one 125_000_051 (To Left) (To Right)
+    -- Wrong: The code is the third to fifth digit.
     ∷ case (codeBehind 2) one 125_000_051 (To Left) (To Right)
+    -- Wrong: 28 is not tested, and the last line that has the code counts.
     ∷ case lastCounts leftFirst 125_000_051 (NotSent 28 2) (To Right)
+    -- Wrong: The same, with the two lines in the other order: the tag is sent elsewhere.
     ∷ case lastCounts rightFirst 125_000_051 (NotSent 28 2) (To Left)
+    -- Wrong: 28 is not tested, and the first line that has the code counts.
     ∷ case firstCounts leftFirst 125_000_051 (NotSent 28 2) (To Left)
+    -- Wrong: The same, with the two lines in the other order: the tag is sent elsewhere.
     ∷ case firstCounts rightFirst 125_000_051 (NotSent 28 2) (To Right)
+    -- Wrong: A code seen twice is accepted where the ends agree.
     ∷ case agreesTwice twiceLeft 125_000_051 (NotSent 28 2) (To Left)
+    -- Wrong: 29 of a closing line is named at the line after it.
     ∷ case namesNext (bytes "(others left)\n(others left)\n") 51 (NotSent 29 1) (NotSent 29 2)
+    -- Wrong: `others` in the middle is accepted: what comes after it is not read.
     ∷ case stopsAtClosing (bytes "(others left)\n(airline (code 125) right)\n") 51 (NotSent 29 1) (To Left)
+    -- Wrong: 27 of a later line comes before 28 of an earlier one.
     ∷ case neithersFirst (twiceLeft ++ bytes "(up)\n") 51 (NotSent 28 2) (NotSent 27 4)
+    -- Wrong: A line feed at the very end opens a line.
     ∷ case feedOpensLine (bytes "(others left)\n") 51 (To Left) (NotSent 29 1)
+    -- Wrong: A carriage return at the end of a line is left off.
     ∷ case dropsReturn (bytes "(others left)\r\n") 51 (NotSent 27 1) (To Left)
     ∷ []
 

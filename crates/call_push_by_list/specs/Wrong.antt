@@ -79,8 +79,11 @@ comesTo P c =
 
 unfoldable pub cases : List Case
 cases =
+    -- Wrong: 3 is tested before the list.
     case tableFirst bad [] (stored 51) (outcome (Faulty 27 2) left) (outcome (Replied (Refused 3)) left)
+    -- Wrong: 7 is tested before the list.
     ∷ case tagFirst bad fresh (stored 0) (outcome (Faulty 27 2) left) (outcome (Replied (Refused 7)) left)
+    -- Wrong: The push begins at the other end.
     ∷ case otherEnd good fresh (stored 51) (outcome (Replied Accepted) right) (outcome (Replied Accepted) left)
     ∷ []
 

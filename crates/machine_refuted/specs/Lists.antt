@@ -202,6 +202,7 @@ popAboutToAnswer = begins 0 push right 51 ++ begins 1 pop right 0 ++ ticks 3 1 0
 abbrev pub entries : List Entry
 entries =
     -- A push: after its first tick its bag is in the lane, and nobody was told.
+    -- Wrong: A whole push in its first tick, and "going" after.
     record {
       wrong = wholeInFirstTick push;
       S = 4;
@@ -212,6 +213,7 @@ entries =
       definitions-say = other-table 2;
     }
     -- An add: the row has no objection, but after its first tick the table has the whole chain.
+    -- Wrong: A whole add in its first tick, and "going" after.
     ∷ record {
       wrong = wholeInFirstTick add;
       S = 4;
@@ -222,6 +224,7 @@ entries =
       definitions-say = other-table 2;
     }
     -- A push that begins again where it should answer.
+    -- Wrong: "Going" for ever: what should answer begins again.
     ∷ record {
       wrong = goingForever;
       S = 4;
@@ -232,6 +235,7 @@ entries =
       definitions-say = other-answer 12;
     }
     -- The first tick leaves even the tick count.
+    -- Wrong: Ticks that touch nothing.
     ∷ record {
       wrong = ticksTouchNothing;
       S = 4;
@@ -242,6 +246,7 @@ entries =
       definitions-say = other-table 2;
     }
     -- The first tick of a busy task is refused.
+    -- Wrong: Every tick is refused.
     ∷ record {
       wrong = refusesAll;
       S = 4;
@@ -252,6 +257,7 @@ entries =
       definitions-say = other-answer 2;
     }
     -- Two nodes are free, and the push is "full".
+    -- Wrong: "Full" at 28, unsearched.
     ∷ record {
       wrong = fullUnsearched;
       S = 4;
@@ -262,6 +268,7 @@ entries =
       definitions-say = other-answer 5;
     }
     -- A pop has read the hat and its neighbour, a push is made at that hat, and the pop says "empty".
+    -- Wrong: "Empty" at 42, before comparing.
     ∷ record {
       wrong = emptyUncompared;
       S = 4;
@@ -272,6 +279,7 @@ entries =
       definitions-say = other-answer 14;
     }
     -- The same, with the push between the two ticks of 48.
+    -- Wrong: 48 as two ticks: the hat in one, the value in the next.
     ∷ record {
       wrong = emptyInTwoTicks;
       S = 4;
@@ -282,6 +290,7 @@ entries =
       definitions-say = other-answer 11;
     }
     -- A pop has read the neighbour of its hat, and a push is made at that hat.
+    -- Wrong: 48 compares the value alone: "empty" after a push at its own end.
     ∷ record {
       wrong = emptyWithoutHat;
       S = 4;
@@ -292,6 +301,7 @@ entries =
       definitions-say = other-answer 15;
     }
     -- The same, with the push made at the other hat.
+    -- Wrong: 48 compares the hat alone: "empty" after a push at the other end.
     ∷ record {
       wrong = emptyWithoutValue;
       S = 4;
@@ -308,6 +318,7 @@ entries =
       definitions-say = other-answer 15;
     }
     -- A pop answers 51 and leaves it in the lane.
+    -- Wrong: The same bag popped always: nothing is written, and it stays in the lane.
     ∷ record {
       wrong = popLeavesBag;
       S = 4;
@@ -317,6 +328,7 @@ entries =
       row-says = lane-is-not-the-row 17;
       definitions-say = other-table 17;
     }
+    -- Wrong: The same bag popped always: the hat moves, and the bag is written back.
     ∷ record {
       wrong = popWritesBagBack;
       S = 4;
@@ -327,6 +339,7 @@ entries =
       definitions-say = other-table 17;
     }
     -- A pop takes 52 and answers 51, or 0.
+    -- Wrong: The same bag popped always: whichever leaves, the answer is 51.
     ∷ record {
       wrong = popAnswers51;
       S = 4;
@@ -336,6 +349,7 @@ entries =
       row-says = not-the-row's-answer 17;
       definitions-say = other-answer 17;
     }
+    -- Wrong: The same bag popped always: whichever leaves, the answer is the pop's argument.
     ∷ record {
       wrong = popAnswersArgument;
       S = 4;
@@ -347,6 +361,7 @@ entries =
     }
     -- An add takes node 3, which the stalled push has in B, again as the second node of its chain; the push moves the
     -- hat past the first one, and the next bag is behind an empty node.
+    -- Wrong: A node is free when it leaves the lane, though a stalled push or pop has it in A or B.
     ∷ record {
       wrong = freesHeldNode;
       S = 5;
@@ -364,6 +379,7 @@ entries =
       definitions-say = other-table 24;
     }
     -- An add stalls at 15 with node 2 in D, another add takes it; spliced in twice, it leads to itself.
+    -- Wrong: A node is free though an add at 15 has it in the chain that it has built.
     ∷ record {
       wrong = freesChain;
       S = 4;
@@ -374,6 +390,7 @@ entries =
       definitions-say = other-table 4;
     }
     -- Node 2 is the spare one behind the hat; it is taken again and spliced in behind itself.
+    -- Wrong: A node is free though a chain of links R leads to it.
     ∷ record {
       wrong = followsLeftAlone;
       S = 4;
@@ -384,6 +401,7 @@ entries =
       definitions-say = other-table 8;
     }
     -- Case 5 with the hat on the spur: an add takes the hat's node, and the next bag is there, beside the lane.
+    -- Wrong: A node is free though the right hat is at it.
     ∷ record {
       wrong = freesHatsNode;
       S = 5;
@@ -394,6 +412,7 @@ entries =
       definitions-say = other-table 30;
     }
     -- Case 5: the hat moves to the lane's next node, not to the spur.
+    -- Wrong: A.R read again in the swap of 5: the spur is hidden.
     ∷ record {
       wrong = rereadsLinkUnguarded;
       S = 4;
@@ -403,6 +422,7 @@ entries =
       row-says = passes;
       definitions-say = other-table 28;
     }
+    -- Wrong: A.R read again in the swap of 5, guarded against none: the spur is hidden.
     ∷ record {
       wrong = rereadsLink;
       S = 4;
@@ -413,6 +433,7 @@ entries =
       definitions-say = other-table 28;
     }
     -- The hat is on the node cut off, which still has RN, and the next bag is pushed there, beside the lane.
+    -- Wrong: 62 without RY: the second node keeps RN.
     ∷ record {
       wrong = removeWithoutY;
       S = 5;
@@ -424,6 +445,7 @@ entries =
     }
     -- The same calls: the hat is on a node that looks like the lane's end, a chain is spliced in there, and the next
     -- bag is beside the lane.
+    -- Wrong: 62 marks the second node RX, as the first: others take it for the lane's end.
     ∷ record {
       wrong = removeMarksX;
       S = 6;
@@ -434,6 +456,7 @@ entries =
       definitions-say = other-table 14;
     }
     -- Case 5 to its end: the push at the spur does not come back to the lane.
+    -- Wrong: The hat's node trusted to be in the lane: 8 and 17 never go to 67.
     ∷ record {
       wrong = trustsHat;
       S = 5;
@@ -444,6 +467,7 @@ entries =
       definitions-say = other-table 32;
     }
     -- An add of 0 takes its one node and says "no".
+    -- Wrong: The figure's line 37: an add of 0 fails.
     ∷ record {
       wrong = figureLine37;
       S = 4;
@@ -454,6 +478,7 @@ entries =
       definitions-say = other-answer 2;
     }
     -- Case 3: an add of 2 with one node free says "no".
+    -- Wrong: The figure's line 32: the chain so far is lost.
     ∷ record {
       wrong = figureLine32;
       S = 3;
@@ -464,6 +489,7 @@ entries =
       definitions-say = other-answer 3;
     }
     -- A remove is at 78 with node 3 read; another remove marks that node, and the swap fails.
+    -- Wrong: 78 compares again where its swap failed, with a value that is gone.
     ∷ record {
       wrong = failedSwapSpins;
       S = 6;
@@ -474,6 +500,7 @@ entries =
       definitions-say = other-table 25;
     }
     -- A remove that is done begins again.
+    -- Wrong: 82 begins again until there is nothing to cut.
     ∷ record {
       wrong = removeCutsAgain;
       S = 4;
@@ -484,6 +511,7 @@ entries =
       definitions-say = other-answer 18;
     }
     -- The link from node 1 to node 3, which was cut off, is still there.
+    -- Wrong: 64 leaves the link to the first node cut off.
     ∷ record {
       wrong = removeLeavesLink;
       S = 4;
@@ -495,6 +523,7 @@ entries =
     }
     -- The second tick of a run has a hint out of range: the run says that it was made, and the tick count that it was
     -- not.
+    -- Wrong: A run reports a tick that it did not make.
     ∷ record {
       wrong = reportsUnmadeTick;
       S = 4;
@@ -505,6 +534,7 @@ entries =
       definitions-say = other-answer 2;
     }
     -- Three ticks of a pop for two, and then one for none: it answers.
+    -- Wrong: Consecutive ticks: one more is made than asked for.
     ∷ record {
       wrong = makesTickMore;
       S = 4;
@@ -515,6 +545,7 @@ entries =
       definitions-say = other-table 2;
     }
     -- The push answers at its third tick, and a fourth is refused: nobody is told of the bag.
+    -- Wrong: Consecutive ticks: they go on after an answer, so the last is of an idle task and refused.
     ∷ record {
       wrong = ticksAfterAnswer;
       S = 4;
@@ -525,6 +556,7 @@ entries =
       definitions-say = other-answer 8;
     }
     -- 66 words, and no room for an answer.
+    -- Wrong: 2026-01: 14 is tested before 15, so 66 words without room for answers give 14.
     ∷ record {
       wrong = panelTestsRoomFirst;
       S = 4;
@@ -535,6 +567,7 @@ entries =
       definitions-say = other-answer 1;
     }
     -- 65 words.
+    -- Wrong: 2026-01: 15 is tested before 13, so 65 words give 15.
     ∷ record {
       wrong = panelTestsLengthFirst;
       S = 4;
@@ -545,6 +578,7 @@ entries =
       definitions-say = other-answer 1;
     }
     -- Three pushes of 11 ticks each in one list: 32 ticks are made, and the third push stands before its last.
+    -- Wrong: 2026-01: a list of 33 ticks is not refused, and its first 32 are made.
     ∷ record {
       wrong = panelCutsList;
       S = 5;
@@ -560,6 +594,7 @@ entries =
       definitions-say = other-answer 4;
     }
     -- A task that is to push 51 is to begin the same push again: 16, and not 8.
+    -- Wrong: 2026-03: 8 is tested before 16, so the same push begun again by its task gives 8.
     ∷ record {
       wrong = beginTestsBusyFirst;
       S = 4;
@@ -569,6 +604,7 @@ entries =
       row-says = passes;
       definitions-say = other-answer 2;
     }
+    -- Wrong: 2026-03: the task's own push is not searched, so the same push begun again by its task gives 8.
     ∷ record {
       wrong = searchesOthersAlone;
       S = 4;
@@ -579,6 +615,7 @@ entries =
       definitions-say = other-answer 2;
     }
     -- The second push is begun while the first one is busy, and after it.
+    -- Wrong: 2026-03: busy pushes are not searched, and two pushes of one bag at once are both accepted.
     ∷ record {
       wrong = searchesLaneAlone;
       S = 4;
@@ -588,6 +625,7 @@ entries =
       row-says = passes;
       definitions-say = other-answer 9;
     }
+    -- Wrong: 2026-03: the lane is not searched, and a bag that is in it is pushed again.
     ∷ record {
       wrong = searchesPushesAlone;
       S = 4;
@@ -597,6 +635,7 @@ entries =
       row-says = passes;
       definitions-say = other-answer 12;
     }
+    -- Wrong: 2026-03: of the lane only the left end is searched, and a bag further on is pushed again.
     ∷ record {
       wrong = searchesLeftEndAlone;
       S = 5;
@@ -607,6 +646,7 @@ entries =
       definitions-say = other-answer 17;
     }
     -- A task is to add 5 nodes, another to push bag 5.
+    -- Wrong: 2026-03: the arguments of other calls are searched too, and a push of bag 5 is refused beside an add of 5.
     ∷ record {
       wrong = searchesAllArguments;
       S = 4;
@@ -617,6 +657,7 @@ entries =
       definitions-say = other-answer 2;
     }
     -- Bag 5 is in the lane, and a task is to add 5 nodes.
+    -- Wrong: 2026-03: an add of 5 is refused where bag 5 is in the lane.
     ∷ record {
       wrong = refusesAddsToo;
       S = 4;
@@ -627,6 +668,7 @@ entries =
       definitions-say = other-answer 13;
     }
     -- The second push is accepted, and its last tick is refused.
+    -- Wrong: 2026-03: begin does not test, and the last tick of a push is refused where the lane has its bag.
     ∷ record {
       wrong = testsWhenAnswering;
       S = 4;
@@ -638,6 +680,7 @@ entries =
     }
     -- A pop has read 0000000051; that bag leaves, and 1000000051 comes to its node. The pop answers the bag that is
     -- gone.
+    -- Wrong: 2026-04: 51 compares the low parts, and answers a tag that is gone.
     ∷ record {
       wrong = popComparesLow;
       S = 4;
@@ -653,6 +696,7 @@ entries =
       definitions-say = other-answer 26;
     }
     -- The lane gets 0000000051.
+    -- Wrong: 2026-04: 5 writes the low part, and the lane gets another tag.
     ∷ record {
       wrong = pushWritesLow;
       S = 4;
@@ -663,6 +707,7 @@ entries =
       definitions-say = other-table 12;
     }
     -- The node has RN with the digit of the bag that left, so the next call finds a broken shape.
+    -- Wrong: 2026-04: 51 writes V alone, and the digit of the tag stays beside the mark.
     ∷ record {
       wrong = popLeavesDigit;
       S = 4;
@@ -673,6 +718,7 @@ entries =
       definitions-say = other-table 17;
     }
     -- 0000000051 is in the lane, and a task is to push 1000000051.
+    -- Wrong: 2026-04: 16 compares the low parts, and a tag that differs in the digit is refused.
     ∷ record {
       wrong = searchesLow;
       S = 4;
@@ -683,6 +729,7 @@ entries =
       definitions-say = other-answer 13;
     }
     -- 1000000000 is in the lane, and the pop does not see it.
+    -- Wrong: 2026-04: V 0 with a digit is taken for never used, and the pop does not see the tag.
     ∷ record {
       wrong = popPassesZero;
       S = 4;
@@ -692,6 +739,7 @@ entries =
       row-says = passes;
       definitions-say = other-table 16;
     }
+    -- Wrong: 2026-04: a push of 10,000,000,000 is begun.
     ∷ record {
       wrong = takesDigitTen;
       S = 4;
@@ -702,6 +750,7 @@ entries =
       definitions-say = other-answer 1;
     }
     -- Operation 5 on side 9, by task 7 of one.
+    -- Wrong: A begin tests no number: operation 5 on side 9 is begun, by task 7 of one.
     ∷ record {
       wrong = takesAnyNumbers;
       S = 4;
@@ -712,6 +761,7 @@ entries =
       definitions-say = other-answer 1;
     }
     -- A run pops 1000000051.
+    -- Wrong: 2026-04: a run writes the low part before the digit.
     ∷ record {
       wrong = runTurnsWords;
       S = 4;
@@ -725,6 +775,7 @@ entries =
       definitions-say = other-answer 14;
     }
     -- Task 0's pop gets all the ticks, and answers when task 1's push is due.
+    -- Wrong: 2026-07: the round begins again at task 0 each time, and task 1 waits while task 0 is busy.
     ∷ record {
       wrong = dispatchesFromZero;
       S = 4;
@@ -735,6 +786,7 @@ entries =
       definitions-say = other-table 4;
     }
     -- Task 0 is the next by number, and idle.
+    -- Wrong: 2026-07: the next task by number is ticked, busy or not, so 10 where it is idle.
     ∷ record {
       wrong = skipsNone;
       S = 4;
@@ -745,6 +797,7 @@ entries =
       definitions-say = other-answer 2;
     }
     -- Task 1's pop was dispatched, and a push of task 0 is due.
+    -- Wrong: 2026-07: the task last dispatched is asked first, and keeps all the ticks.
     ∷ record {
       wrong = asksLastFirst;
       S = 4;
@@ -755,6 +808,7 @@ entries =
       definitions-say = other-table 4;
     }
     -- Only task 1 is busy, which is the one last dispatched since the start.
+    -- Wrong: 2026-07: the task last dispatched is not asked, so "idle" where it alone is busy.
     ∷ record {
       wrong = asksOthersAlone;
       S = 4;
@@ -765,6 +819,7 @@ entries =
       definitions-say = other-answer 2;
     }
     -- After a plain tick of task 0, task 0 is due, and the pop answers.
+    -- Wrong: 2026-07: a plain tick writes its task as the one last dispatched.
     ∷ record {
       wrong = tickIsDispatched;
       S = 4;
@@ -775,6 +830,7 @@ entries =
       definitions-say = other-table 6;
     }
     -- After an "idle", and after a refusal, task 0 is due, and the pop answers.
+    -- Wrong: 2026-07: "idle" writes the next task as the one last dispatched.
     ∷ record {
       wrong = idleMovesOn;
       S = 4;
@@ -784,6 +840,7 @@ entries =
       row-says = not-the-row's-answer 7;
       definitions-say = other-table 1;
     }
+    -- Wrong: 2026-07: a refusal writes the task that it would have ticked as the one last dispatched.
     ∷ record {
       wrong = refusalMovesOn;
       S = 4;
@@ -794,6 +851,7 @@ entries =
       definitions-say = other-table 6;
     }
     -- All tasks are idle, and the hint is no node.
+    -- Wrong: 2026-07: the hint is tested after the choice, so any hint gives "idle" where all are idle.
     ∷ record {
       wrong = hintAfterChoice;
       S = 4;
@@ -804,6 +862,7 @@ entries =
       definitions-say = other-answer 1;
     }
     -- Three dispatches of a pop for two.
+    -- Wrong: Consecutive dispatches: one more is made than asked for.
     ∷ record {
       wrong = makesDispatchMore;
       S = 4;
@@ -814,6 +873,7 @@ entries =
       definitions-say = other-answer 2;
     }
     -- Task 0 pops and task 1 pushes. The pop answers at the fourth dispatch, which is the push's turn.
+    -- Wrong: Consecutive dispatches: the task whose turn it is gets them all, and its answer comes in another's turn.
     ∷ record {
       wrong = staysWithTask;
       S = 4;
@@ -824,6 +884,7 @@ entries =
       definitions-say = other-answer 3;
     }
     -- The pop answers at the fourth dispatch, and a fifth finds no task busy: nobody is told of the answer.
+    -- Wrong: Consecutive dispatches: they go on after an answer to "idle", and nobody is told of the answer.
     ∷ record {
       wrong = dispatchesAfterAnswer;
       S = 4;
@@ -834,6 +895,7 @@ entries =
       definitions-say = other-answer 2;
     }
     -- No task is busy, and two dispatches say "going".
+    -- Wrong: Consecutive dispatches: they go on at "idle", and say "going" in the end.
     ∷ record {
       wrong = dispatchesPastIdle;
       S = 4;
@@ -844,6 +906,7 @@ entries =
       definitions-say = other-answer 1;
     }
     -- A push on lane 1 of two puts its bag into lane 0.
+    -- Wrong: 2026-12: every tick sees and moves the hats of lane 0, and a push on lane 1 puts its bag into lane 0.
     ∷ record {
       wrong = ticksFirstLane;
       S = 6;
@@ -854,6 +917,8 @@ entries =
       definitions-say = other-table 2;
     }
     -- A push on lane 1 moves the right hat of lane 0, so that a pop on lane 1 finds it empty.
+    -- Wrong: 2026-12: every tick sees its own hat and moves that of lane 0, and a pop on lane 1 does not find the bag
+    -- pushed there.
     ∷ record {
       wrong = storesInFirstLane;
       S = 6;
@@ -864,6 +929,7 @@ entries =
       definitions-say = other-table 12;
     }
     -- A push on lane 0 takes lane 1's left end, node 2, and then lane 1 cannot be read.
+    -- Wrong: 2026-12: the hats of lane 0 alone hold their nodes, and a push on lane 0 takes an end of lane 1.
     ∷ record {
       wrong = freesOtherLanes;
       S = 6;
@@ -874,6 +940,7 @@ entries =
       definitions-say = other-table 5;
     }
     -- Lane 1 has bag 51, and is read; lane 2 is not there.
+    -- Wrong: 2026-12: every read is of lane 0: of a bag in lane 1 it says nothing.
     ∷ record {
       wrong = readsFirstLane;
       S = 6;
@@ -883,6 +950,7 @@ entries =
       row-says = not-the-row's-answer 13;
       definitions-say = other-answer 13;
     }
+    -- Wrong: The same: a read of a lane that is not there is not refused with 26.
     ∷ record {
       wrong = readsFirstLane;
       S = 6;
@@ -893,6 +961,8 @@ entries =
       definitions-say = other-answer 1;
     }
     -- Bag 51 is in lane 0, and a task is to push it on lane 1; two tasks are to push it, each on its lane.
+    -- Wrong: 2026-12: 16 is looked for in the begin's own lane, and in all busy pushes: a bag of lane 0 is pushed on
+    -- lane 1.
     ∷ record {
       wrong = searchesOwnLane;
       S = 6;
@@ -902,6 +972,8 @@ entries =
       row-says = passes;
       definitions-say = other-answer 13;
     }
+    -- Wrong: 2026-12: 16 is looked for in all lanes, and in the busy pushes of the begin's own: two pushes of one bag
+    -- on two lanes are both accepted.
     ∷ record {
       wrong = searchesOwnPushes;
       S = 6;
@@ -912,6 +984,7 @@ entries =
       definitions-say = other-answer 2;
     }
     -- There is no task 1 and no lane 1.
+    -- Wrong: 2026-12: 26 is tested after 5.
     ∷ record {
       wrong = testsTaskFirst;
       S = 4;
@@ -921,6 +994,7 @@ entries =
       row-says = passes;
       definitions-say = other-answer 1;
     }
+    -- Wrong: 2026-12: 26 is not tested, and a push is begun on a lane that is not there.
     ∷ record {
       wrong = takesAnyLane;
       S = 4;
@@ -931,6 +1005,7 @@ entries =
       definitions-say = other-answer 1;
     }
     -- A start with five lanes and growth 65; with five lanes; with seven nodes for four lanes.
+    -- Wrong: 2026-12: 1 is tested before 25.
     ∷ record {
       wrong = startTestsSizesFirst;
       S = 10;
@@ -940,6 +1015,7 @@ entries =
       row-says = passes;
       definitions-say = other-answer 1;
     }
+    -- Wrong: 2026-12: a start with five lanes is taken.
     ∷ record {
       wrong = startTakesFiveLanes;
       S = 10;
@@ -949,6 +1025,7 @@ entries =
       row-says = lane-is-not-the-row 1;
       definitions-say = other-answer 1;
     }
+    -- Wrong: 2026-12: a start with seven nodes for four lanes is taken.
     ∷ record {
       wrong = startTakesNodeLess;
       S = 7;
@@ -959,6 +1036,7 @@ entries =
       definitions-say = other-answer 1;
     }
     -- A start with two lanes: lane 1 cannot be read; a bag that is pushed on lane 0 is in lane 1 too.
+    -- Wrong: 2026-12: a start with two lanes makes lane 0 alone.
     ∷ record {
       wrong = startMakesFirstLane;
       S = 6;
@@ -968,6 +1046,7 @@ entries =
       row-says = lane-is-not-the-row 1;
       definitions-say = other-table 1;
     }
+    -- Wrong: 2026-12: a start with two lanes gives both the same nodes, and a bag that is pushed on one is in both.
     ∷ record {
       wrong = startSharesNodes;
       S = 6;

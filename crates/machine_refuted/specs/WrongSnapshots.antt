@@ -259,6 +259,7 @@ dispatches = calls (dispatch-call 0)
 abbrev pub entries : List Entry
 entries =
     -- The words of the third column are the digits: the snapshot is another, and comes back as it was.
+    -- Wrong: The columns of V and of the leading digits are exchanged, in taking and in putting back.
     record {
       feeds = feedPut;
       wrong = exchangesValues;
@@ -267,6 +268,7 @@ entries =
       row-says = passes;
       definitions-say = other-answer 2;
     }
+    -- Wrong: The records are by columns too, in taking and in putting back.
     ∷ record {
       feeds = feedPut;
       wrong = recordsByColumns;
@@ -276,6 +278,7 @@ entries =
       definitions-say = other-answer 2;
     }
     -- The task last dispatched is no task, and the snapshot is put back.
+    -- Wrong: A put tests the words that the table had, and puts back a snapshot that is none.
     ∷ record {
       feeds = feedPut;
       wrong = testsOldTable;
@@ -285,6 +288,7 @@ entries =
       definitions-say = other-answer 3;
     }
     -- The left hat is no node: the put is refused, and the lane cannot be read any more.
+    -- Wrong: A put writes before it tests, and is refused with the words in place.
     ∷ record {
       feeds = feedPut;
       wrong = writesFirst;
@@ -294,6 +298,7 @@ entries =
       definitions-say = other-table 3;
     }
     -- A push moves the left hat to a node that the table taken does not use.
+    -- Wrong: A put leaves the hats as they were.
     ∷ record {
       feeds = feedPut;
       wrong = leavesHats;
@@ -303,6 +308,7 @@ entries =
       definitions-say = other-table 5;
     }
     -- Task 0 is about to answer "empty", and task 1 is to add. After the put the dispatches begin with task 1.
+    -- Wrong: A put leaves the task last dispatched as it was, and the dispatches go on with another task.
     ∷ record {
       feeds = feedPut;
       wrong = leavesDispatched;
@@ -324,6 +330,7 @@ entries =
       definitions-say = other-table 9;
     }
     -- No table, and a slice of another length.
+    -- Wrong: 22 is tested after 3 and 4.
     ∷ record {
       feeds = feedPut;
       wrong = testsLengthLast;
@@ -333,6 +340,7 @@ entries =
       definitions-say = other-answer 1;
     }
     -- A slice of words that are no table.
+    -- Wrong: Taking tests the words of the slice that it is lent.
     ∷ record {
       feeds = feedPut;
       wrong = testsSlice;
@@ -342,6 +350,8 @@ entries =
       definitions-say = other-answer 2;
     }
     -- The right machine: after the put the push answers "full" again, and the latest row has no note of it.
+    -- Wrong: The row, `feedsLatest`, and not the machine: after a put it is the latest row, and not the one that the
+    -- snapshot was taken with.
     ∷ record {
       feeds = feedsLatest;
       wrong = rightCopying;

@@ -186,19 +186,33 @@ entry W tags page v i = record { wrong = W; tags = tags; page = page; by-promise
 -- Six on a line can be read back, while the page has room.
 unfoldable pub entries : List Entry
 entries =
+    -- Wrong: Eight tags a line.
     entry eightPerLine eight 0 other-lines 158
+    -- Wrong: Six tags a line, of eight tags: they can still be read.
     ∷ entry sixPerLine eight 0 passes 147
+    -- Wrong: The same of 355 tags, for which it has no room.
     ∷ entry sixPerLine (upFrom 1 355) 0 other-tags 147
+    -- Wrong: The count of the page's tags, not of the lane's.
     ∷ entry countsPage eight 1 other-count 8
+    -- Wrong: The count without its zeros.
     ∷ entry countsBare eight 0 other-count 5
+    -- Wrong: The right end first.
     ∷ entry fromRight eight 0 other-tags 81
+    -- Wrong: Pages are named from 1.
     ∷ entry pagesFromOne eight 1 other-tags 81
+    -- Wrong: A page begins at 412 times its number: one tag is on two pages.
     ∷ entry (pagesOf 412) (upFrom 1 413) 1 other-tags 81
+    -- Wrong: A page begins at 414 times its number: one tag is on none.
     ∷ entry (pagesOf 414) (upFrom 1 414) 1 other-tags 81
+    -- Wrong: A carriage return after the 80 columns, before the line feed.
     ∷ entry (endsBy 80 (carriageReturn ∷ lineFeed ∷ [])) eight 0 other-lines 80
+    -- Wrong: A carriage return in the last column.
     ∷ entry (endsBy 79 (carriageReturn ∷ lineFeed ∷ [])) eight 0 other-bytes 79
+    -- Wrong: No blanks after a line's text.
     ∷ entry (endsBy 0 (lineFeed ∷ [])) eight 0 other-lines 9
+    -- Wrong: Tags without their zeros.
     ∷ entry bareTags eight 0 other-tags 81
+    -- Wrong: The blank before its tag.
     ∷ entry blankFirst eight 0 other-tags 81
     ∷ []
 

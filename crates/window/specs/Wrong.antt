@@ -290,19 +290,33 @@ goes count before after = record { count = count; before = before; after = after
 
 unfoldable pub entries : List Entry
 entries =
+    -- Wrong: The ring goes on to place W.
     entry ringTooLong 2 (fights 1 ∷ wins 2 ∷ wins 3 ∷ []) (other-answer 3) (other-words 2)
+    -- Wrong: The ring turns back one place early.
     ∷ entry ringTooShort 2 (fights 1 ∷ wins 2 ∷ []) (other-answer 2) (other-words 1)
+    -- Wrong: A place that once held a lost swap holds one for ever: the number never falls.
     ∷ entry neverForgets 1 (fights 1 ∷ wins 2 ∷ []) (other-answer 2) (other-answer 2)
+    -- Wrong: The tick that leaves the window is counted too.
     ∷ entry countsOldest 2 (fights 1 ∷ wins 2 ∷ wins 3 ∷ []) (other-answer 3) (other-answer 3)
+    -- Wrong: The tick just fed is not counted.
     ∷ entry skipsNewest 2 (fights 1 ∷ []) (other-answer 1) (other-answer 1)
+    -- Wrong: 24 at the first feed.
     ∷ entry refusesFirst 2 (wins 7 ∷ []) (other-answer 1) (other-answer 1)
+    -- Wrong: 24 at the wrap: 0 after 4,294,967,295.
     ∷ entry refusesWrap 2 (wins 4_294_967_295 ∷ wins 0 ∷ []) (other-answer 2) (other-answer 2)
+    -- Wrong: No 24 at all.
     ∷ entry takesAnyCount 2 (wins 7 ∷ wins 9 ∷ []) (other-answer 2) (other-answer 2)
+    -- Wrong: A refusal with 24 moves the next place.
     ∷ entry refusalMovesNext 2 (wins 7 ∷ wins 9 ∷ wins 8 ∷ []) (other-answer 3) (other-words 2)
+    -- Wrong: A refusal with 24 keeps the count.
     ∷ entry refusalKeepsCount 2 (wins 7 ∷ wins 9 ∷ wins 8 ∷ []) (other-answer 3) (other-words 2)
+    -- Wrong: 62 to 64 is counted: a swap done.
     ∷ entry (losesToo 62 64) 2 (goes 1 62 64 ∷ []) (other-answer 1) (other-answer 1)
+    -- Wrong: 48 to 0 is counted: "empty".
     ∷ entry (losesToo 48 0) 2 (goes 1 48 0 ∷ []) (other-answer 1) (other-answer 1)
+    -- Wrong: 78 to 77 is counted: a compare that 02 does not name.
     ∷ entry (losesToo 78 77) 2 (goes 1 78 77 ∷ []) (other-answer 1) (other-answer 1)
+    -- Wrong: 62 to 0 is not counted.
     ∷ entry losesNo62 2 (goes 1 62 0 ∷ []) (other-answer 1) (other-answer 1)
     ∷ []
 
@@ -318,14 +332,23 @@ damaged F ws r a = record { wrong = F; words = ws; right = r; answers = a }
 
 unfoldable pub damages : List Damaged
 damages =
+    -- Wrong: Places not fed are not tested: W places are counted while fewer are fed.
     damaged testsFedAlone (3 ∷ 1 ∷ 1 ∷ 7 ∷ 0 ∷ 0 ∷ 1 ∷ []) (refused 23) (lost 2)
+    -- Wrong: A place of 2 is taken.
     ∷ damaged takesTwo (2 ∷ 2 ∷ 1 ∷ 7 ∷ 2 ∷ 0 ∷ []) (refused 23) (lost 3)
+    -- Wrong: While places are filled the next place is any.
     ∷ damaged takesAnyNext (2 ∷ 1 ∷ 0 ∷ 7 ∷ 1 ∷ 0 ∷ []) (refused 23) (lost 1)
+    -- Wrong: When all are filled the next place may be W.
     ∷ damaged takesNextPastEnd (2 ∷ 2 ∷ 2 ∷ 7 ∷ 1 ∷ 0 ∷ []) (refused 23) (lost 1)
+    -- Wrong: The last count is not tested while none is fed.
     ∷ damaged takesAnyLast (2 ∷ 0 ∷ 0 ∷ 7 ∷ 0 ∷ 0 ∷ []) (refused 23) (lost 1)
+    -- Wrong: More places are fed than there are.
     ∷ damaged takesMoreFed (2 ∷ 3 ∷ 1 ∷ 7 ∷ 1 ∷ 0 ∷ []) (refused 23) (lost 2)
+    -- Wrong: W is 4,097.
     ∷ damaged takes4097 (freshWords 4_097) (refused 23) (lost 1)
+    -- Wrong: There are more than W + 4 words.
     ∷ damaged takesLonger (2 ∷ 1 ∷ 1 ∷ 7 ∷ 1 ∷ 0 ∷ 0 ∷ []) (refused 23) (lost 2)
+    -- Wrong: 24 is tested before 23.
     ∷ damaged testsCountFirst (2 ∷ 3 ∷ 1 ∷ 6 ∷ 1 ∷ 0 ∷ []) (refused 23) (refused 24)
     ∷ []
 
