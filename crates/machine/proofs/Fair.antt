@@ -111,6 +111,7 @@ use Rattle.machine.proofs.Words.Kinds.{
   left-alone,
   is-started,
   is-begun,
+  is-lent-begun,
   are-ticked,
   are-dispatched,
   comes,
@@ -164,6 +165,7 @@ module _ (ws : List ℕ) (A : WellFormed ws) where
       go (left-alone a e) = alone a
       go (is-started S T g L e) = tt
       go (is-begun k l op side argument e) = begin-kept ws k l op side argument Z W .same-dispatched
+      go (is-lent-begun lent whole k l op side argument e) = refl
       go (are-ticked i list ts) = list-kept i list ws Z W .same-dispatched
       go (are-dispatched h n ts) = tt
 
@@ -192,6 +194,7 @@ module _ (ws : List ℕ) (A : WellFormed ws) where
         go (left-alone a e) unrefused = by-kept (unchanged ws Z W)
         go (is-started S T g L e) unrefused = start-waits S T g L
         go (is-begun j l op side argument e) unrefused = by-kept (begin-kept ws j l op side argument Z W)
+        go (is-lent-begun lent whole j l op side argument e) unrefused = by-kept (unchanged ws Z W)
         go (are-ticked i list ts) unrefused = by-kept (list-kept i list ws Z W)
         go (are-dispatched h n ts) unrefused = clash (cc)
 
@@ -340,6 +343,7 @@ after-row c d e ws = go (comes c ws) e
     go (left-alone a unrefused) q = clash (cc)
     go (is-started S T g L _) q = clash (cc)
     go (is-begun k l op side argument _) q = clash (cc)
+    go (is-lent-begun lent whole k l op side argument _) q = clash (cc)
     go (are-ticked i list ts) q = clash (cc)
     go (are-dispatched h n ts) q =
         let same : record { hint = h; times = n } ≡ d = cc in

@@ -8,7 +8,8 @@ pub mod Survival
 -- Every line, every tick, every call.
 pub mod Lines
 pub mod Calls
--- Every list of calls, takes and puts: demand 3.
+-- Every list of calls, takes, puts and copies: demand 3.
+pub mod Pending
 pub mod Carried
 pub mod Theorem
 -- What follows from it.
@@ -17,6 +18,6 @@ pub mod Corollaries
 pub mod Begun
 -- No bag number twice.
 pub mod Twice
--- Request 2026-10: what else is true where a row is known, and that a snapshot brings its row back.
+-- Requests 2026-10 and 2026-14: what else is true where a row is known, and that a snapshot brings its row back.
 pub mod WhereKnown
 pub mod RowsComeBack

@@ -7,6 +7,8 @@ pub mod Memories
 pub mod Columns
 pub mod Stretches
 pub mod TableLaws
+pub mod LaneLaws
+pub mod LentLaws
 pub mod EffectLaws
 pub mod StartLaws
 pub mod TickLaws

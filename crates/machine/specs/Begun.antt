@@ -14,7 +14,7 @@ use Rattle.machine.specs.Answers.{kindOf, payloadOf, isGoing}
 use Rattle.machine.specs.Calls.{start}
 use Rattle.machine.specs.Row.{Note, nextNoted}
 use Rattle.machine.specs.Demand3.{Call, given, after}
-use Rattle.machine.specs.Kinds.{Tick, of-task, of-next, Did, started, begun, ticked, did}
+use Rattle.machine.specs.Kinds.{Tick, of-task, of-next, Did, started, begun, lent-begun, ticked, did}
 
 -- ---- The tables.
 
@@ -94,6 +94,7 @@ recordDid η (begun k n) =
       dispatched = η .dispatched;
       finished = η .finished;
     }
+recordDid η (lent-begun k n words) = η
 recordDid η (ticked ts) = recordTicks η ts
 
 -- A list of calls, each on the table as the one before left it.

@@ -23,9 +23,10 @@ use Rattle.text_page.specs.Page.{pageText}
 use Rattle.airline_list.specs.declared.Sent.{Sent}
 use Rattle.airline_list.specs.declared.Sent.the-variants.{To, NotSent}
 use Rattle.airline_list.specs.Lists.{verdict, sent}
-use Rattle.machine.specs.Sides.{sideNumber}
+use Rattle.machine.specs.Sides.{sideNumber, sideOf}
 use Rattle.machine.specs.Values.{number}
 use Rattle.machine.specs.Operations.{push, operationNumber, operationOf, argumentOk}
+use Rattle.machine.specs.Tasks.{recordLength, wordsOf}
 use Rattle.machine.specs.Shape.{sameWords}
 use Rattle.machine.specs.Answers.{sameReply, refusalOf, isGoing, dispatchGoesOn}
 use Rattle.machine.specs.Calls.{
@@ -44,14 +45,17 @@ use Rattle.machine.specs.Calls.{
   read,
   unless,
   changed,
+  begunTask,
 }
 use Rattle.machine.specs.Sheets.{pageRefusal, sheet}
 use Rattle.machine.specs.PushByList.{sideAt, pushByList}
+use Rattle.machine.specs.Lent.{beginLent}
 use Rattle.machine.specs.Row.{Row, emptyRow, newNote, noted, feedMade, feedDispatch, feedRun}
 
 -- 01: the list holds start, begin, tick, run and reading the lane, with any arguments, and every call on the same table
--- that a request adds: 2026-01's panel, 2026-07's dispatch, 2026-09's sheet, 2026-13's push by list; and consecutive ticks and
--- dispatches. Lists, answer slices and out slices are that call's own: here by their contents when the call is made.
+-- that a request adds: 2026-01's panel, 2026-07's dispatch, 2026-09's sheet, 2026-13's push by list, 2026-14's begin
+-- over a lent record; and consecutive ticks and dispatches. Lists, answer slices, out slices and lent records are that
+-- call's own: here by their contents when the call is made. A lent record has as many words as a record has.
 pub data Call : Type 0 where
   start-call : (S T growth lanes : ℕ) → Call
   begin-call : (k lane operation side : ℕ) (argument : Stored) → Call
@@ -64,6 +68,8 @@ pub data Call : Type 0 where
   read-call : (lane : ℕ) (out : List ℕ) → Call
   sheet-call : (lane page : ℕ) (out : List ℕ) → Call
   push-by-list-call : (list : List ℕ) (k lane : ℕ) (argument : Stored) → Call
+  lent-begin-call :
+      (lent : List ℕ) (whole : length lent ≡ recordLength) (k lane operation side : ℕ) (argument : Stored) → Call
 
 -- What a call gives back: its answer, with a slice of its own as it leaves it. Of consecutive dispatches also how many went
 -- on, which the tick count tells.
@@ -79,6 +85,7 @@ Given (panel-call list answers) = Ran × List ℕ
 Given (read-call l out) = Reading × List ℕ
 Given (sheet-call l page out) = Reply × List ℕ
 Given (push-by-list-call list k l argument) = ByList
+Given (lent-begin-call lent whole k l op side argument) = Reply × List ℕ
 
 abbrev pub given : (c : Call) → List ℕ → Given c
 given (start-call S T g lanes) ws = start ws S T g lanes .reply
@@ -92,6 +99,8 @@ given (panel-call list answers) ws = (panel ws list answers .ran, panel ws list 
 given (read-call l out) ws = (read ws l out .reading, read ws l out .out)
 given (sheet-call l page out) ws = (sheet ws l page out .reply, sheet ws l page out .words)
 given (push-by-list-call list k l argument) ws = pushByList list ws k l argument .answer
+given (lent-begin-call lent whole k l op side argument) ws =
+    (beginLent ws lent k l op side argument .reply, beginLent ws lent k l op side argument .words)
 
 -- The table as a call leaves it.
 abbrev pub after : Call → List ℕ → List ℕ
@@ -106,6 +115,7 @@ after (panel-call list answers) ws = panel ws list answers .words
 after (read-call l out) ws = ws
 after (sheet-call l page out) ws = ws
 after (push-by-list-call list k l argument) ws = pushByList list ws k l argument .words
+after (lent-begin-call lent whole k l op side argument) ws = ws
 
 -- ---- The row, fed a call and what it gave back: the row afterwards, or nothing where the row does not give that.
 abbrev pub feedStart : Row → (T lanes : ℕ) → Reply → Option Row
@@ -174,6 +184,16 @@ feedByList ρ (NotSent number line) k l argument (Replied r) = none
 feedByList ρ (NotSent number line) k l argument (Faulty n at) =
     cond (eqb n number && eqb at line) (some ρ) none
 
+-- 2026-14: 02: "a begin not copied leaves the row and its notes as they were". Accepted, the record is the begun one, of
+-- numbers that are a call's; refused, it is as it was.
+abbrev pub feedLent : Row → (lent : List ℕ) → (k lane operation side : ℕ) → (argument : Stored) → Reply → List ℕ → Option Row
+feedLent ρ lent k l op side argument Accepted written =
+    cond
+    (isCall ρ k l op side argument
+    && sameWords written (wordsOf (begunTask l (operationOf op) (sideOf side) (number argument))))
+    (some ρ) none
+feedLent ρ lent k l op side argument (Reply-Refused n) written = cond (sameWords written lent) (some ρ) none
+
 abbrev pub feed : Row → (c : Call) → Given c → Option Row
 feed ρ (start-call S T g lanes) r = feedStart ρ T lanes r
 feed ρ (begin-call k l op side argument) r = feedBegin ρ k l op side argument r
@@ -186,6 +206,7 @@ feed ρ (panel-call list answers) r = feedRun ρ (r .0 .made) list (r .1)
 feed ρ (read-call l out) r = feedRead ρ l out (r .0) (r .1)
 feed ρ (sheet-call l page out) r = feedSheet ρ l page out (r .0) (r .1)
 feed ρ (push-by-list-call list k l argument) r = feedByList ρ (sent (verdict list) (number argument)) k l argument r
+feed ρ (lent-begin-call lent whole k l op side argument) r = feedLent ρ lent k l op side argument (r .0) (r .1)
 
 -- ---- The claim.
 
@@ -236,6 +257,7 @@ Within (dispatch-call h) ws ρ = Unit {0}
 Within (read-call l out) ws ρ = Unit {0}
 Within (sheet-call l page out) ws ρ = Unit {0}
 Within (push-by-list-call list k l argument) ws ρ = Unit {0}
+Within (lent-begin-call lent whole k l op side argument) ws ρ = Unit {0}
 
 -- The row explains a list of calls, each on the table as the one before left it.
 abbrev pub Explained : List Call → List ℕ → Row → Type 0

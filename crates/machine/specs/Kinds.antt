@@ -35,6 +35,7 @@ use Rattle.machine.specs.Demand3.{
   read-call,
   sheet-call,
   push-by-list-call,
+  lent-begin-call,
   Given,
 }
 
@@ -65,6 +66,7 @@ asked (panel-call list answers) = ticks-of list
 asked (read-call l out) = a-look
 asked (sheet-call l page out) = a-look
 asked (push-by-list-call list k l argument) = sentAsks (sent (verdict list) (number argument)) k l argument
+asked (lent-begin-call lent whole k l op side argument) = a-look
 
 -- ---- What a call did.
 
@@ -73,10 +75,12 @@ pub data Tick : Type 0 where
   of-task : (k : ℕ) → Answer → Tick
   of-next : Answer → Tick
 
--- It made a fresh table, it gave task k a call, or it made ticks: none where it was refused or only looked.
+-- It made a fresh table; it gave task k a call; it left a lent record begun, for task k, with these words; or it made ticks:
+-- none where it was refused or only looked.
 pub data Did : Type 0 where
   started : (T lanes : ℕ) → Did
   begun : (k : ℕ) → Note → Did
+  lent-begun : (k : ℕ) → Note → (words : List ℕ) → Did
   ticked : List Tick → Did
 
 abbrev pub startDid : (T lanes : ℕ) → Reply → Did
@@ -86,6 +90,10 @@ startDid T lanes (Reply-Refused n) = ticked []
 abbrev pub beginDid : (k : ℕ) → Note → Reply → Did
 beginDid k n Accepted = begun k n
 beginDid k n (Reply-Refused r) = ticked []
+
+abbrev pub lentDid : (k : ℕ) → Note → Reply → (words : List ℕ) → Did
+lentDid k n Accepted words = lent-begun k n words
+lentDid k n (Reply-Refused r) words = ticked []
 
 abbrev pub tickDid : (k : ℕ) → Answer → List Tick
 tickDid k a = elim (refusalOf a) as (λ _. List Tick) [ some n ↦ [] | none ↦ of-task k a ∷ [] ]
@@ -138,3 +146,4 @@ did (panel-call list answers) r = ticked (runDid (r .0 .made) list (r .1))
 did (read-call l out) r = ticked []
 did (sheet-call l page out) r = ticked []
 did (push-by-list-call list k l argument) r = byListDid (sent (verdict list) (number argument)) k l argument r
+did (lent-begin-call lent whole k l op side argument) r = lentDid k (newNote l op side argument) (r .0) (r .1)

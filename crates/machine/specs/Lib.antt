@@ -17,6 +17,7 @@ pub mod Calls
 pub mod Results
 pub mod Panel
 pub mod PushByList
+pub mod Lent
 pub mod Sheets
 pub mod Snapshots
 pub mod FirstFree

@@ -157,5 +157,8 @@ setLink s x y ws = set ws (linkAt s x) y
 abbrev pub setValue : ℕ → Value → List ℕ → List ℕ
 setValue x v ws = sets ws (valueAt x) (storedWords (encode v))
 
+abbrev pub setRecord : ℕ → (words : List ℕ) → List ℕ → List ℕ
+setRecord k r ws = sets ws (recordAt (nodeCount ws) k) r
+
 abbrev pub setTask : ℕ → Task → List ℕ → List ℕ
-setTask k t ws = sets ws (recordAt (nodeCount ws) k) (wordsOf t)
+setTask k t ws = setRecord k (wordsOf t) ws

@@ -10,15 +10,18 @@ use Rattle.machine.specs.declared.Reply.{Reply}
 use Rattle.machine.specs.declared.Reply.the-variants.{Accepted, Refused as Reply-Refused}
 use Rattle.machine.specs.Sides.{Side, left, right}
 use Rattle.machine.specs.Values.{Value, N, X, Y, storedOf}
-use Rattle.machine.specs.Tasks.{noNode}
+use Rattle.machine.specs.Tasks.{noNode, fresh, wordsOf}
 use Rattle.machine.specs.Table.{hat, link, value}
 use Rattle.machine.specs.Answers.{isGoing}
 use Rattle.machine.specs.Calls.{start, begin, tick, lane}
+use Rattle.machine.specs.Lent.{lentTo, beginLent}
 
--- What is done: a call, ticks of one task until it answers (at most so many), or a look at the table.
+-- What is done: a call, a begin over a fresh lent record that is then copied to its task's place, ticks of one task
+-- until it answers (at most so many), or a look at the table.
 pub data Action : Type 0 where
   starts : (S T growth lanes : ℕ) → Action
   begins : (k lane operation side digit argument : ℕ) → Action
+  copies-begun : (k lane operation side digit argument : ℕ) → Action
   ticks : (k hint most : ℕ) → Action
   looks-at-lane : (lane : ℕ) → Action
   looks-at-hat : (lane : ℕ) → Side → Action
@@ -63,6 +66,9 @@ unfoldable pub acts : Action → List ℕ → Acted
 acts (starts S T g lanes) ws = let r = start ws S T g lanes in record { outcome = replies (r .reply); table = r .words }
 acts (begins k l op side digit argument) ws =
     let r = begin ws k l op side (storedOf digit argument) in record { outcome = replies (r .reply); table = r .words }
+acts (copies-begun k l op side digit argument) ws =
+    let r = beginLent ws (wordsOf fresh) k l op side (storedOf digit argument) in
+    record { outcome = replies (r .reply); table = lentTo ws k (r .words) }
 acts (ticks k h most) ws = tickUntil most 0 ws k h
 acts (looks-at-lane l) ws = record { outcome = lane-is (lane ws l); table = ws }
 acts (looks-at-hat l s) ws = record { outcome = hat-is (hat ws l s); table = ws }

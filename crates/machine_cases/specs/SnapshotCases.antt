@@ -12,7 +12,7 @@ use Rattle.machine.specs.Calls.{Changed, begunTask, startWords}
 use Rattle.machine.specs.Snapshots.{byColumns, takeSnapshot, putBack}
 use Rattle.machine.specs.Row.{Note, Row}
 use Rattle.machine.specs.Demand3.{start-call, begin-call, ticks-call}
-use Rattle.machine.specs.Events.{Event, call-event, take-event, put-event, Known, nothingKnown, knownAfter}
+use Rattle.machine.specs.Events.{Event, call-event, take-event, put-event, Known, nothingKnown, everyCopy, knownAfter}
 
 -- ---- Words. S 3, T 1, one lane with the tag 7,000,000,051 in it.
 abbrev header : List ℕ
@@ -44,10 +44,10 @@ pub record Compared : Type 0 where
   pub found : Changed
   pub expected : Changed
 
-abbrev accepts : Changed → List ℕ → Compared
+abbrev pub accepts : Changed → List ℕ → Compared
 accepts c ws = record { found = c; expected = record { reply = Accepted; words = ws } }
 
-abbrev refuses : Changed → ℕ → List ℕ → Compared
+abbrev pub refuses : Changed → ℕ → List ℕ → Compared
 refuses c n ws = record { found = c; expected = record { reply = Refused n; words = ws } }
 
 abbrev pub comparisons : List Compared
@@ -121,7 +121,7 @@ _⟶_ es t = record { events = es; tells = t }
 
 -- On words that are all 7.
 abbrev pub tellsThen : Course → Told
-tellsThen c = told (knownAfter (c .events) (sevens 37) nothingKnown)
+tellsThen c = told (knownAfter everyCopy (c .events) (sevens 37) nothingKnown)
 
 abbrev pub courses : List Course
 courses =

@@ -102,7 +102,7 @@ madePut feeds M ws kept ss κ =
 unfoldable pub made : Feeding → Copying → Action → (ws snapshot : List ℕ) → Known → Made
 made feeds M (calls c) ws ss κ =
     record {
-      known = feedCall (κ .row) (κ .kept) c (given c ws);
+      known = feedCall (κ .row) (κ .kept) (κ .pending) c (given c ws);
       table = after c ws;
       snapshot = ss;
       gave-other = false;

@@ -2,7 +2,7 @@
 use mathlib.Core.Path.{_≡_, refl, sym, ap, _∙_, subst, fun-ext}
 use mathlib.Core.Bool.{Bool, true, false}
 use mathlib.Core.List.{List, [], _∷_}
-use mathlib.Core.Option.{Option, some, none, Option·map}
+use mathlib.Core.Option.{Option, some, none}
 use Prim.Native.Nat.{ℕ, zero, suc, _<_}
 use lib.Dec.{ltb}
 use borrow.Author.Tests.{ltb-true}
@@ -13,11 +13,11 @@ use Rattle.machine.specs.declared.Dispatch.the-variants.{Answered}
 use Rattle.machine.specs.declared.Stored.{Stored}
 use Rattle.machine.specs.Choice.{_≟_, if_then_else_}
 use Rattle.machine.specs.Sides.{Side, right, left, sideOf}
-use Rattle.machine.specs.Values.{Value, never, bag, N, X, Y, number}
+use Rattle.machine.specs.Values.{number}
 use Rattle.machine.specs.Operations.{operationOf}
-use Rattle.machine.specs.Tasks.{Task, noNode}
+use Rattle.machine.specs.Tasks.{Task}
 use Rattle.machine.specs.Registers.{holds}
-use Rattle.machine.specs.Table.{nodeCount, taskCount, dispatched, hat, link, value, task, setDispatched, setTask}
+use Rattle.machine.specs.Table.{nodeCount, taskCount, dispatched, value, task, setDispatched, setTask}
 use Rattle.machine.specs.Calls.{
   startRefusal,
   tableRefusal,
@@ -45,8 +45,6 @@ use Rattle.machine.specs.Calls.{
   tested,
   run,
   panel,
-  laneFrom,
-  lane,
 }
 use Rattle.machine.specs.Lines.{Memory}
 use Rattle.machine_registers.specs.Unseen.{Alike, SameFor}
@@ -54,7 +52,7 @@ use Rattle.machine.specs.Demand3.{Call, begin-call, given, after}
 use Rattle.machine.proofs.Basics.Tests.{test-passed, tests-left}
 use Rattle.machine.proofs.Words.ValueLaws.{HasWord, never-has-word}
 use Rattle.machine.proofs.Basics.Updates.{update}
-use Rattle.machine.proofs.Words.Kinds.{
+use Rattle.machine.proofs.Shape.Looks.{
   SameLooks,
   begin-same,
   LeftAlike,
@@ -74,6 +72,7 @@ use Rattle.machine.proofs.Words.Kinds.{
 use Rattle.machine.proofs.Words.Columns.{Columns, putDispatched}
 use Rattle.machine.proofs.Words.TableLaws.{columns-setDispatched, columns-setTask}
 use Rattle.machine.proofs.Words.EffectLaws.{task-set-dispatched, task-set-task}
+use Rattle.machine.proofs.Words.LaneLaws.{lane-same}
 use Rattle.machine.proofs.Words.RunLaws.{first-goes-on, first-is-last}
 use Rattle.machine.proofs.Words.DispatchLaws.{others-follow, one-went-on, none-follows, none-went-on}
 use Rattle.machine.proofs.Shape.ShapeLaws.{well-sized}
@@ -171,49 +170,17 @@ module _ {ws vs : List ℕ} (A : AlikeColumns ws vs) where
   same-value : (x : ℕ) → value vs x ≡ value ws x
   same-value x = ap (λ (m : Memory). m .val x) (same-seen A 0 right)
 
-  lane-from-same : (n x : ℕ) → laneFrom vs n x ≡ laneFrom ws n x
-  unfolding laneFrom
-  lane-from-same zero x = refl
-  lane-from-same (suc n) x = by (x ≟ noNode) (lane-from-same n (link ws right x))
-    where
-      one : List ℕ → Value → Option (List ℕ)
-      one xs v =
-          elim v as (λ _. Option (List ℕ)) [
-            | never ↦ some []
-            | bag b ↦ Option·map (_∷_ b) (laneFrom xs n (link xs right x))
-            | N z ↦ some []
-            | X z ↦ some []
-            | Y z ↦ some []
-          ]
-
-      each : (v : Value) → laneFrom vs n (link vs right x) ≡ laneFrom ws n (link ws right x) → one vs v ≡ one ws v
-      each never e = refl
-      each (bag b) e = ap (Option·map (_∷_ b)) e
-      each (N z) e = refl
-      each (X z) e = refl
-      each (Y z) e = refl
-
-      by : (d : Dec (x ≡ noNode)) → laneFrom vs n (link ws right x) ≡ laneFrom ws n (link ws right x)
-          → (if d then none else one vs (value vs x)) ≡ (if d then none else one ws (value ws x))
-      by (yes h) e = refl
-      by (no h) e =
-          ap (one vs) (same-value x)
-          ∙ each (value ws x) (ap (λ (l : Side → ℕ → ℕ). laneFrom vs n (l right x)) (same-links A) ∙ e)
-
-  lane-same : (l : ℕ) → lane vs l ≡ lane ws l
-  unfolding lane
-  lane-same l =
-      rw (same-nodes A, same-links A, same-hat A l left) (lane-from-same (nodeCount ws) (link ws right (hat ws l left)))
-
   -- What begins and looks look at.
   looks : SameLooks ws vs
   looks =
       record {
-        passes = table-passes ws (A .accepted);
-        passes′ = table-passes vs (A .accepted′);
+        accepted = A .accepted;
+        accepted′ = A .accepted′;
+        same-nodes = same-nodes A;
         same-count = same-count A;
+        same-growth = same-growth A;
         same-lanes = same-lanes A;
-        same-lane = lane-same;
+        same-lane = λ l. lane-same ws vs (same-nodes A) (same-links A) (fun-ext same-value) l (same-hat A l left);
         same-operation = same-operation A;
         same-argument = same-argument A;
       }
@@ -240,7 +207,7 @@ module _ {ws vs : List ℕ} (A : AlikeColumns ws vs) where
           → ChangedAlike (changed r ws (setTask k t ws)) (changed r vs (setTask k t vs))
       go (some n) e a b = (refl, A)
       go none e a b =
-          (refl, begun-alike k t (begin-allowed ws k l op side argument e .is-task) never-has-word a b)
+          (refl, begun-alike k t (begin-allowed ws k l op side argument e .fits .is-task) never-has-word a b)
 
   -- ---- run and panel.
 

@@ -29,7 +29,16 @@ use Rattle.machine.specs.Demand3.{dispatch-call, afterTicks}
 use Rattle.machine.specs.Kinds.{Asked, Did}
 use Rattle.machine.specs.Begun.{Begun, by-call}
 use Rattle.machine.proofs.Basics.Contradiction.{refute}
-use Rattle.machine.proofs.Words.Kinds.{Comes, left-alone, is-started, is-begun, are-ticked, are-dispatched, comes}
+use Rattle.machine.proofs.Words.Kinds.{
+  Comes,
+  left-alone,
+  is-started,
+  is-begun,
+  is-lent-begun,
+  are-ticked,
+  are-dispatched,
+  comes,
+}
 use Rattle.machine.proofs.Words.DispatchLaws.{others-follow, one-more-made, none-follows, one-made}
 use Rattle.machine.proofs.Words.TickLaws.{tick-stopped}
 use Rattle.machine.proofs.Shape.DispatchCases.{by-dispatch}
@@ -149,5 +158,6 @@ calls-untouched ws B m c = go (comes c ws)
     go (left-alone a e) x = same-lane-refl m ws
     go (is-started S T g L e) x = absurd (x e)
     go (is-begun k l op side argument e) x = begin-keeps B m k l op side argument
+    go (is-lent-begun lent whole k l op side argument e) x = same-lane-refl m ws
     go (are-ticked i list ts) x = ticks-keep i list B m x
     go (are-dispatched h n ts) x = dispatches-keep n B m h x

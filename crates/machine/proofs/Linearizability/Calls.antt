@@ -13,3 +13,4 @@ pub mod ConsecutiveTicks
 pub mod ConsecutiveDispatches
 pub mod Runs
 pub mod EveryCall
+pub mod Unwritten

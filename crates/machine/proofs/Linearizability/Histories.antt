@@ -31,7 +31,7 @@ use Rattle.machine.specs.Row.{
   nextNoted,
   feedDispatched,
 }
-use Rattle.machine.specs.Kinds.{Tick, of-task, of-next, Did, started, begun, ticked}
+use Rattle.machine.specs.Kinds.{Tick, of-task, of-next, Did, started, begun, lent-begun, ticked}
 use Rattle.machine.specs.Begun.{
   Finished,
   History,
@@ -271,4 +271,5 @@ did-recorded (begun k n) R e =
       same-dispatched = R .same-dispatched;
       balanced = R .balanced;
     })
+did-recorded (lent-begun k n words) R e = same-row e R
 did-recorded (ticked ts) R e = ticks-recorded ts R e

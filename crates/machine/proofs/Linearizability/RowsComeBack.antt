@@ -13,23 +13,31 @@ use Rattle.machine.specs.Shape.{sameWords}
 use Rattle.machine.specs.Snapshots.{byNodes, takeSnapshot, putBack}
 use Rattle.machine.specs.Row.{Row}
 use Rattle.machine.specs.Demand3.{given, feed}
+use Rattle.machine.specs.Kinds.{did}
 use Rattle.machine.specs.Events.{
   Event,
   call-event,
   take-event,
   put-event,
+  copy-event,
+  write-event,
   eventGiven,
   afterEvent,
   Kept,
+  Pending,
   Known,
   nothingKnown,
   rowKept,
   keep,
+  pendingAfter,
   fedRow,
   feedCall,
   refusalFits,
   feedTake,
   feedPut,
+  Copies,
+  pendingOf,
+  feedCopy,
   feedEvent,
   Where,
   afterEvents,
@@ -86,19 +94,23 @@ module _ (ss : List ℕ) where
   stays-if true κ q K = stays q K
   stays-if false κ q K = clash (cc)
 
-  stays-kept : (e : Event) (ws : List ℕ) (κ κ′ : Known) → feedEvent (length ws) κ e (eventGiven e ws) ≡ some κ′
+  stays-kept : (outlasts : Copies) (e : Event) (ws : List ℕ) (κ κ′ : Known)
+      → feedEvent outlasts (length ws) κ e (eventGiven e ws) ≡ some κ′
       → IsKept (κ .kept)
       → IsKept (κ′ .kept)
-  stays-kept (call-event c) ws κ κ′ f K = go (κ .row) f
+  stays-kept outlasts (call-event c) ws κ κ′ f K = go (κ .row) f
     where
-      fed : (r : Option Row) → fedRow r (κ .kept) ≡ some κ′ → IsKept (κ′ .kept)
+      left : List Pending
+      left = pendingAfter (did c (given c ws)) (κ .pending)
+
+      fed : (r : Option Row) → fedRow r (κ .kept) left ≡ some κ′ → IsKept (κ′ .kept)
       fed none q = clash (cc)
       fed (some σ) q = stays q K
 
-      go : (known : Option Row) → feedCall known (κ .kept) c (given c ws) ≡ some κ′ → IsKept (κ′ .kept)
+      go : (known : Option Row) → feedCall known (κ .kept) (κ .pending) c (given c ws) ≡ some κ′ → IsKept (κ′ .kept)
       go none q = stays q K
       go (some ρ) q = fed (feed ρ c (given c ws)) q
-  stays-kept (take-event out) ws κ κ′ f K = go (takeSnapshot ws out .reply) f
+  stays-kept outlasts (take-event out) ws κ κ′ f K = go (takeSnapshot ws out .reply) f
     where
       same : Bool
       same = eqb (length out) (length ws)
@@ -106,7 +118,7 @@ module _ (ss : List ℕ) where
       go : (r : Reply) → feedTake κ same r (takeSnapshot ws out .words) ≡ some κ′ → IsKept (κ′ .kept)
       go Accepted q = stays-if same _ q (one-more-kept (takeSnapshot ws out .words) (κ .row) (κ .kept) K)
       go (Reply-Refused n) q = stays-if (refusalFits same (κ .row) n) κ q K
-  stays-kept (put-event ts) ws κ κ′ f K = go (putBack ts ws .reply) f
+  stays-kept outlasts (put-event ts) ws κ κ′ f K = go (putBack ts ws .reply) f
     where
       same : Bool
       same = eqb (length ts) (length ws)
@@ -114,28 +126,38 @@ module _ (ss : List ℕ) where
       go : (r : Reply) → feedPut κ same ts r ≡ some κ′ → IsKept (κ′ .kept)
       go Accepted q = stays-if same _ q K
       go (Reply-Refused n) q = stays-if (refusalFits same (rowKept ts (κ .kept)) n) κ q K
+  stays-kept outlasts (copy-event k words) ws κ κ′ f K = go (pendingOf k words (κ .pending)) f
+    where
+      go : (o : Option Pending) → some (feedCopy outlasts κ k words o) ≡ some κ′ → IsKept (κ′ .kept)
+      go none q = stays q K
+      go (some p) q = stays q K
+  stays-kept outlasts (write-event words) ws κ κ′ f K = stays f K
 
-  always-kept : (es : List Event) (ws : List ℕ) (κ κ′ : Known) → knownAfter es ws κ ≡ some κ′ → IsKept (κ .kept)
+  always-kept : (outlasts : Copies) (es : List Event) (ws : List ℕ) (κ κ′ : Known)
+      → knownAfter outlasts es ws κ ≡ some κ′
+      → IsKept (κ .kept)
       → IsKept (κ′ .kept)
   unfolding knownAfter bind
-  always-kept [] ws κ κ′ e K = stays e K
-  always-kept (v ∷ es) ws κ κ′ e K =
-      let x = bound (feedEvent (length ws) κ v (eventGiven v ws)) _ e in
-      always-kept es (afterEvent v ws) (x .0) κ′ (x .2) (stays-kept v ws κ (x .0) (x .1) K)
+  always-kept outlasts [] ws κ κ′ e K = stays e K
+  always-kept outlasts (v ∷ es) ws κ κ′ e K =
+      let x = bound (feedEvent outlasts (length ws) κ v (eventGiven v ws)) _ e in
+      always-kept outlasts es (afterEvent v ws) (x .0) κ′ (x .2) (stays-kept outlasts v ws κ (x .0) (x .1) K)
 
 pub rows-come-back : RowsComeBack
 unfolding knownAfter bind afterEvents
-rows-come-back began before since out κ κ′ ρ e is-row accepted f =
+rows-come-back outlasts began before since out κ κ′ ρ e is-row accepted f =
+    let C = agreement-carried outlasts in
     let ws = afterEvents before began in
     let ss = takeSnapshot ws out .words in
-    let none-yet = holds-of-nothing Agrees agreement-carried began in
-    let H = holds-after Agrees agreement-carried before began nothingKnown κ none-yet e in
+    let none-yet = holds-of-nothing outlasts Agrees C began in
+    let H = holds-after outlasts Agrees C before began nothingKnown κ none-yet e in
     let A : Agrees ws ρ = subst (Where Agrees ws) is-row (H .present) in
-    let κ₁ : Known = record { row = κ .row; kept = keep ss (κ .row) (κ .kept) } in
-    let g : knownAfter since ws κ₁ ≡ some κ′ = rw (accepted, eq-eqb (length out) (length ws) (taken ws out accepted .same-length)) at f in
-    let H′ = holds-after Agrees agreement-carried (take-event out ∷ since) ws κ κ′ H f in
+    let κ₁ : Known = record { row = κ .row; kept = keep ss (κ .row) (κ .kept); pending = κ .pending } in
+    let same = eq-eqb (length out) (length ws) (taken ws out accepted .same-length) in
+    let g : knownAfter outlasts since ws κ₁ ≡ some κ′ = rw (accepted, same) at f in
+    let H′ = holds-after outlasts Agrees C (take-event out ∷ since) ws κ κ′ H f in
     let K : IsKept ss (κ₁ .kept) = rw is-row (ρ, newly-kept ss ρ (κ .kept)) in
-    let F = always-kept ss since ws κ₁ κ′ g K in
+    let F = always-kept ss outlasts since ws κ₁ κ′ g K in
     let B : Agrees (byNodes ss) (F .0) =
-    subst (Where Agrees (byNodes ss)) (F .1) (found Agrees agreement-carried ss (κ′ .kept) (H′ .kept)) in
+    subst (Where Agrees (byNodes ss)) (F .1) (found outlasts Agrees C ss (κ′ .kept) (H′ .kept)) in
     (F .0, F .1, one-row A (subst (λ (vs : List ℕ). Agrees vs (F .0)) (taken-back ws out accepted) B))

@@ -171,14 +171,18 @@ module _ (S g L : ℕ) (l : ℕ) (is-lane : l < L) (s : Side) (n : ℕ) where
       first-value add = refl
       first-value remove = refl
 
--- A begin that passes its tests.
-pub record BeginAllowed (ws : List ℕ) (k l op side : ℕ) (argument : Stored) : Type 0 where
+-- The numbers of a call that a task of the table can be given.
+pub record CallFits (ws : List ℕ) (k l op side : ℕ) (argument : Stored) : Type 0 where
   pub is-lane : l < laneCount ws
   pub is-task : k < taskCount ws
   pub some-operation : 1 ≤ op
   pub last-operation : op ≤ 4
   pub last-side : side ≤ 1
   pub argument-fits : argumentOk (operationOf op) argument ≡ true
+
+-- A begin that passes its tests.
+pub record BeginAllowed (ws : List ℕ) (k l op side : ℕ) (argument : Stored) : Type 0 where
+  pub fits : CallFits ws k l op side argument
   pub was-idle : isIdle (task ws k .operation) ≡ true
 
 -- Where 11 and 16 are not met, none is met of the tests after them.
@@ -206,22 +210,24 @@ module _ (ws : List ℕ) (k l op side : ℕ) (argument : Stored) where
       let c : leb op 4 ≡ true = search (and-left, and-right) in
       let d : leb side 1 ≡ true = search (and-left, and-right) in
       record {
-        is-lane = ltb-true l (laneCount ws) lane-test;
-        is-task = ltb-true k (taskCount ws) a;
-        some-operation = leb-true 1 op b;
-        last-operation = leb-true op 4 c;
-        last-side = leb-true side 1 d;
-        argument-fits = search (test-passed, tests-left) depth 8;
+        fits =
+            record {
+              is-lane = ltb-true l (laneCount ws) lane-test;
+              is-task = ltb-true k (taskCount ws) a;
+              some-operation = leb-true 1 op b;
+              last-operation = leb-true op 4 c;
+              last-side = leb-true side 1 d;
+              argument-fits = search (test-passed, tests-left) depth 8;
+            };
         was-idle = search (test-passed, tests-left, not-seen-twice) depth 9;
       }
 
   module _ (Z : WellSized (sizesOf ws)) (W : WellShaped (columns ws)) where
-    begun : Task
+    abbrev begun : Task
     begun = begunTask l (operationOf op) (sideOf side) (number argument)
 
-    accepted-kept : BeginAllowed ws k l op side argument → Kept ws (setTask k begun ws)
-    unfolding begun
-    accepted-kept A =
+    pub begun-kept : CallFits ws k l op side argument → Kept ws (setTask k begun ws)
+    begun-kept A =
         let S = nodeCount ws in
         let g = growth ws in
         let busy = begun-busy op (A .some-operation) in
@@ -240,7 +246,7 @@ module _ (ws : List ℕ) (k l op side : ℕ) (argument : Stored) where
         }
 
     pub begin-kept : Kept ws (begin ws k l op side argument .words)
-    unfolding begin begun
+    unfolding begin
     begin-kept = go (beginRefusal ws k l op side argument) refl
       where
         go :
@@ -248,7 +254,7 @@ module _ (ws : List ℕ) (k l op side : ℕ) (argument : Stored) where
             → beginRefusal ws k l op side argument ≡ r
             → Kept ws (changed r ws (setTask k begun ws) .words)
         go (some n) e = unchanged ws Z W
-        go none e = accepted-kept (begin-allowed e)
+        go none e = begun-kept (begin-allowed e .fits)
 
 -- ---- tick and run.
 kept-then : {ws vs us : List ℕ} → Kept ws vs → Kept vs us → Kept ws us
@@ -268,7 +274,7 @@ list-kept i list ws Z W =
     i list ws (unchanged ws Z W)
 
 -- ---- Every call.
-kept-accepted : {ws vs : List ℕ} → Kept ws vs → WellFormed vs
+pub kept-accepted : {ws vs : List ℕ} → Kept ws vs → WellFormed vs
 kept-accepted {ws} {vs} K =
     record { length-passes = length-ok vs (K .well-sized); shape-passes = shape-ok vs (K .well-shaped) }
 

@@ -1,8 +1,9 @@
 -- What every column of the table is after each kind of write to the words.
-use mathlib.Core.Path.{_≡_, refl, ap, sym, _∙_, fun-ext}
+use mathlib.Core.Path.{_≡_, refl, ap, sym, _∙_, subst, fun-ext}
 use mathlib.Core.Logic.{_≢_, _⊎_, inl, inr}
 use mathlib.Core.List.{List}
 use Prim.Native.Nat.{ℕ, _+_, _-_, _≤_, _<_}
+use lib.ListN.{length}
 use lib.Seq.{getD-set-same, getD-set-other}
 use native.Mathlib.Omega.{arith}
 use Rattle.machine.specs.Choice.{_<?_, _≟_, if_then_else_}
@@ -31,6 +32,7 @@ use Rattle.machine.specs.Table.{
   setDispatched,
   setLink,
   setValue,
+  setRecord,
   setTask,
 }
 use Rattle.machine.specs.Shape.{sizesOf, Sized}
@@ -213,43 +215,50 @@ module _ (ws : List ℕ) (sized : Sized (sizesOf ws)) (x : ℕ) (v : Value) (is-
       past-header value-wrote (omega arith) (omega arith) links-after-value values-after records
 
 -- ---- A record.
-module _ (ws : List ℕ) (sized : Sized (sizesOf ws)) (k : ℕ) (t : Task) (is-task : k < taskCount ws) where
-  at : ℕ → ℕ
+module _
+    (ws : List ℕ)
+    (sized : Sized (sizesOf ws))
+    (k : ℕ)
+    (r : List ℕ)
+    (long : length r ≡ recordLength)
+    (is-task : k < taskCount ws) where
+  abbrev at : ℕ → ℕ
   at j = recordAt (nodeCount ws) j
 
-  record-wrote : Wrote ws (setTask k t ws) (at k) recordLength
-  unfolding at
-  record-wrote = sets-wrote ws (at k) (wordsOf t)
+  record-wrote : Wrote ws (setRecord k r ws) (at k) recordLength
+  record-wrote = subst (Wrote ws (setRecord k r ws) (at k)) long (sets-wrote ws (at k) r)
 
   -- The words of a record after the write, where the nodes were counted before it.
-  words-at : (j : ℕ) → recordWords (setTask k t ws) j ≡ recordFrom (setTask k t ws) (at j)
-  unfolding at
-  words-at j = ap (λ n. recordFrom (setTask k t ws) (recordAt n j)) (same-nodes record-wrote (omega arith))
+  words-at : (j : ℕ) → recordWords (setRecord k r ws) j ≡ recordFrom (setRecord k r ws) (at j)
+  words-at j = ap (λ n. recordFrom (setRecord k r ws) (recordAt n j)) (same-nodes record-wrote (omega arith))
 
-  own-record-after : recordWords (setTask k t ws) k ≡ wordsOf t
-  unfolding at
-  own-record-after =
-      words-at k ∙ record-written ws (wordsOf t) (at k) refl (omega arith)
+  pub own-record-after : recordWords (setRecord k r ws) k ≡ r
+  own-record-after = words-at k ∙ record-written ws r (at k) long (omega arith)
 
-  far-record-after : (j : ℕ) → j ≢ k → recordWords (setTask k t ws) j ≡ recordWords ws j
-  unfolding at
+  pub far-record-after : (j : ℕ) → j ≢ k → recordWords (setRecord k r ws) j ≡ recordWords ws j
   far-record-after j n =
       words-at j
-      ∙ record-same ws (setTask k t ws) (at j) (record-wrote .long) (λ c q.
+      ∙ record-same ws (setRecord k r ws) (at j) (record-wrote .long) (λ c q.
       record-wrote .other (at j + c) (apart c q))
     where
       apart : (c : ℕ) → c < recordLength → (at j + c < at k) ⊎ (at k + recordLength ≤ at j + c)
       apart c q = elim (j <? k) [ yes l ↦ inl (omega arith) | no l ↦ inr (omega arith) ]
 
-  records-after : columns (setTask k t ws) .records ≡ update (columns ws .records) k (wordsOf t)
-  unfolding at
+  records-after : columns (setRecord k r ws) .records ≡ update (columns ws .records) k r
   records-after =
-      column-written (wordsOf fresh) (recordWords ws) (recordWords (setTask k t ws))
-      (same-tasks record-wrote (omega arith)) k (wordsOf t) is-task own-record-after (λ j l n. far-record-after j n)
+      column-written (wordsOf fresh) (recordWords ws) (recordWords (setRecord k r ws))
+      (same-tasks record-wrote (omega arith)) k r is-task own-record-after (λ j l n. far-record-after j n)
 
-  pub columns-setTask : columns (setTask k t ws) ≡ putRecord k (wordsOf t) (columns ws)
-  unfolding at
-  columns-setTask =
+  pub columns-setRecord : columns (setRecord k r ws) ≡ putRecord k r (columns ws)
+  columns-setRecord =
       let links = links-off record-wrote (omega arith) (inr (omega arith)) in
       let values = values-off record-wrote (omega arith) (inr (omega arith)) in
       past-header record-wrote (omega arith) (omega arith) links values records-after
+
+pub columns-setTask :
+    (ws : List ℕ)
+    → Sized (sizesOf ws)
+    → (k : ℕ) (t : Task)
+    → k < taskCount ws
+    → columns (setTask k t ws) ≡ putRecord k (wordsOf t) (columns ws)
+columns-setTask ws sized k t is-task = columns-setRecord ws sized k (wordsOf t) refl is-task

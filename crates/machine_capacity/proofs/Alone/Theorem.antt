@@ -178,7 +178,7 @@ idle-refused ws k ℓ side argument =
     go after (some n) e q = refute (cc)
     go after none e q =
         let B = begin-allowed ws k ℓ (operationNumber idle) side argument e in
-        let l = B .some-operation in
+        let l = B .fits .some-operation in
         omega arith
 
 pub calls-alone : CallsAlone

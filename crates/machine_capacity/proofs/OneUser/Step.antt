@@ -36,7 +36,7 @@ use Rattle.machine_capacity.specs.OneUserExactly.{ticksThen, wholeCall}
 use Rattle.machine.proofs.Basics.Choices.{by-if}
 use Rattle.machine.proofs.Words.RecordLaws.{number-of-operation, number-of-side}
 use Rattle.machine.proofs.Words.ValueLaws.{argument-stored}
-use Rattle.machine.proofs.Shape.ShapeKept.{BeginAllowed, begin-allowed, tick-call-kept}
+use Rattle.machine.proofs.Shape.ShapeKept.{CallFits, begin-allowed, tick-call-kept}
 use Rattle.machine.proofs.Linearizability.Corollaries.{begun-agrees}
 use Rattle.machine.proofs.Linearizability.Begun.TableBegun.{accepted-begin}
 use Rattle.machine_capacity.proofs.Theorem.{no-leak}
@@ -154,8 +154,8 @@ module _ {S : ℕ} {ws : List ℕ} {σ : State} (P : Standing S ws σ) where
     begun-now = begin ws (c .task) (c .lane) (c .operation) (c .side) (c .argument)
 
     module _ (passes : beginRefusal ws (c .task) (c .lane) (c .operation) (c .side) (c .argument) ≡ none) where
-      allowed : BeginAllowed ws (c .task) (c .lane) (c .operation) (c .side) (c .argument)
-      allowed = begin-allowed ws (c .task) (c .lane) (c .operation) (c .side) (c .argument) passes
+      allowed : CallFits ws (c .task) (c .lane) (c .operation) (c .side) (c .argument)
+      allowed = begin-allowed ws (c .task) (c .lane) (c .operation) (c .side) (c .argument) passes .fits
 
       accepted : begun-now .reply ≡ Accepted
       unfolding begin

@@ -13,6 +13,7 @@ use Rattle.machine.specs.Shape.{WellFormed}
 use Rattle.machine.specs.Calls.{isBusy, tickRefusal, effectOf, Ticked, tickOn, tick, dispatch}
 use Rattle.machine.specs.Demand3.{tick-call, dispatch-call}
 use Rattle.machine.specs.Begun.{Begun, by-call}
+use Rattle.machine.specs.Events.{copiedOverIdle}
 use Rattle.machine_progress.specs.Solo.{
   AloneMove,
   own-tick,
@@ -160,5 +161,5 @@ own-hints (h ∷ hints) = ap suc (own-hints hints)
 -- 2026-10: where a row is known.
 pub solo-bound-where-known : SoloBoundWhereKnown
 solo-bound-where-known =
-    always-so (λ ws ρ. Begun ws) (λ ws ρ. AnswersWithinAt (λ S. 8 * S + 400) ws) (λ ws ρ B. solo-bound ws B)
+    always-so copiedOverIdle (λ ws ρ. Begun ws) (λ ws ρ. AnswersWithinAt (λ S. 8 * S + 400) ws) (λ ws ρ B. solo-bound ws B)
     begun-where-known

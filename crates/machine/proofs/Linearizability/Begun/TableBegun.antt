@@ -63,15 +63,15 @@ module _ {ws : List ℕ} {ρ : Row} (A : Agrees ws ρ) (k l op side : ℕ) (argu
           let B = begin-allowed ws k l op side argument e in
           accepted (setTask k t ws)
           (record {
-            is-task = B .is-task;
+            is-task = B .fits .is-task;
             was-fresh = idle-fresh ws shape k (idle-operation (task ws k .operation) (B .was-idle));
-            viewed-same = λ s. viewed-set-task ws (sizes .sized) k (B .is-task) t s;
-            tasks-then = task-set-task ws (sizes .sized) k (B .is-task) t never-has-word;
+            viewed-same = λ s. viewed-set-task ws (sizes .sized) k (B .fits .is-task) t s;
+            tasks-then = task-set-task ws (sizes .sized) k (B .fits .is-task) t never-has-word;
             same-nodes = ap (λ z. z .nodeCount) (K .same-sizes);
             same-count = ap (λ z. z .taskCount) (K .same-sizes);
             same-growth = ap (λ z. z .growth) (K .same-sizes);
             same-lanes = ap (λ z. z .laneCount) (K .same-sizes);
-            is-lane = B .is-lane;
+            is-lane = B .fits .is-lane;
           })
 
   pub accepted-begin : begin ws k l op side argument .reply ≡ Accepted

@@ -3,23 +3,21 @@ use mathlib.Core.Path.{_≡_, refl, sym, ap, _∙_, subst, fun-ext}
 use mathlib.Core.Bool.{Bool, true}
 use mathlib.Core.List.{List}
 use mathlib.Core.Option.{Option, some, none, bind}
-use Prim.Native.Nat.{ℕ, _≤_, _<_}
-use native.Mathlib.Omega.{arith}
+use Prim.Native.Nat.{ℕ, _<_}
 use borrow.Author.Tests.{lt-ltb, le-leb}
 use Rattle.machine.specs.declared.Dispatch.the-variants.{Idle, Answered}
 use Rattle.machine.specs.Round.{nextAfter}
 use Rattle.machine.specs.Values.{number}
 use Rattle.machine.specs.declared.Stored.{Stored}
 use Rattle.machine.specs.Choice.{_≟_}
-use Rattle.machine.specs.Sides.{right, sideOf}
+use Rattle.machine.specs.Sides.{Side, left, right, sideOf}
 use Rattle.machine.specs.Operations.{Operation, idle, push, pop, add, remove, operationOf}
-use Rattle.machine.specs.Tasks.{Task}
+use Rattle.machine.specs.Tasks.{Task, fresh}
 use Rattle.machine.specs.Table.{taskCount, laneCount, dispatched, task, setDispatched, setTask}
 use Rattle.machine.specs.Shape.{lanesOk, sizesOk, WellFormed}
 use Rattle.machine.specs.Answers.{refusalOf}
 use Rattle.machine.specs.Calls.{
   isIdle,
-  isBusy,
   startRefusal,
   beginRefusal,
   tickRefusal,
@@ -42,7 +40,6 @@ use Rattle.machine.specs.Row.{
   newNote,
   noted,
   withDispatched,
-  hasNote,
   nextNoted,
   feedDispatched,
   feedIdle,
@@ -57,6 +54,7 @@ use Rattle.machine.specs.Demand3.{
   given,
   after,
   feedStart,
+  isCall,
   feedBegin,
   feedTick,
   feed,
@@ -74,20 +72,21 @@ use Rattle.machine.proofs.Words.EffectLaws.{
   viewed-set-task,
   task-set-task,
 }
-use Rattle.machine.proofs.Shape.ShapeLaws.{well-sized}
+use Rattle.machine.proofs.Shape.ShapeLaws.{well-sized, well-shaped}
 use Rattle.machine.proofs.Shape.DispatchCases.{by-dispatch}
 use Rattle.machine.proofs.Shape.ShapeKept.{
   start-sized,
   start-accepted,
+  CallFits,
   begin-allowed,
+  begun-kept,
+  kept-accepted,
   table-passes,
   dispatched-accepted,
-  call-accepted,
 }
-use Rattle.machine.proofs.Linearizability.Model.Invariant.{noteOf}
 use Rattle.machine.proofs.Linearizability.Calls.Start.{startClass, invariant-start}
-use Rattle.machine.proofs.Linearizability.Calls.Begin.{invariant-begin}
-use Rattle.machine.proofs.Linearizability.Calls.Agreement.{noteIn, noteUnder, Agrees}
+use Rattle.machine.proofs.Linearizability.Calls.Begin.{classThen, invariant-begun}
+use Rattle.machine.proofs.Linearizability.Calls.Agreement.{noteIn, Agrees, begun-note, noted-if-busy}
 use Rattle.machine.proofs.Linearizability.Calls.MadeTicks.{made-tick}
 
 -- What a call comes to: the row afterwards, which the row's lines give, and the agreement of table and row again.
@@ -160,74 +159,91 @@ module _ {ws : List ℕ} {ρ : Row} (A : Agrees ws ρ) where
           (emptyRow T L, refl, start-agrees S T g L (search test-passed) (search (test-passed, tests-left)))
 
   -- ---- begin.
-  begun-note : (n : ℕ) → 1 ≤ n → (m : Note) → noteUnder (operationOf n) m ≡ some m
-  begun-note n h m =
-      by-if (λ op. noteUnder op m ≡ some m) (n ≟ 0) (λ e. absurd (omega arith)) (λ _.
-      by-if (λ op. noteUnder op m ≡ some m) (n ≟ 1) (λ _. refl) (λ _.
-      by-if (λ op. noteUnder op m ≡ some m) (n ≟ 2) (λ _. refl) (λ _.
-      by-if (λ op. noteUnder op m ≡ some m) (n ≟ 3) (λ _. refl) (λ _. refl))))
+  -- A record as begin writes it in a task's place, whatever record stood there: the task has the note of that call.
+  module _
+      (k : ℕ)
+      (is-task : k < taskCount ws)
+      (l : ℕ)
+      (is-lane : l < laneCount ws)
+      (op : Operation)
+      (s : Side)
+      (v : ℕ) where
+    abbrev t : Task
+    t = begunTask l op s v
+
+    notes-after : (j : ℕ) → noted ρ k (noteIn t) .notes j ≡ noteIn (update (task ws) k t j)
+    notes-after j =
+        by-if (λ (m : Option Note). m ≡ noteIn (update (task ws) k t j)) (j ≟ k)
+        (λ e. sym (ap noteIn (ap (update (task ws) k t) e ∙ update-same (task ws) k t)))
+        (λ m. A .notes j ∙ sym (ap noteIn (update-other (task ws) k t j m)))
+
+    record-agrees : WellFormed (setTask k t ws) → Agrees (setTask k t ws) (noted ρ k (noteIn t))
+    record-agrees passes =
+        let Z = well-sized ws (A .accepted .length-passes) in
+        let viewed-after = viewed-set-task ws (Z .sized) k is-task t right in
+        let task-after = task-set-task ws (Z .sized) k is-task t never-has-word in
+        let columns-after = columns-setTask ws (Z .sized) k t is-task in
+        let lanes-after : laneCount (setTask k t ws) ≡ laneCount ws = ap (λ c. c .sizes .laneCount) columns-after in
+        record {
+          accepted = passes;
+          class = classThen (A .invariant) k l is-lane op s v;
+          invariant =
+              rw (lanes-after, viewed-after, task-after) (invariant-begun (A .invariant) k l is-lane op s v);
+          notes = λ j. rw task-after (notes-after j);
+          same-lanes = A .same-lanes ∙ sym lanes-after;
+          same-count = A .same-count ∙ sym (ap (λ c. c .sizes .taskCount) columns-after);
+          same-dispatched = A .same-dispatched ∙ sym (ap (λ c. c .counts .dispatched) columns-after);
+        }
+
+  -- A call left off: the task's record is fresh, and it has no note.
+  pub left-off-agrees : (k : ℕ) → k < taskCount ws → WellFormed (setTask k fresh ws)
+      → Agrees (setTask k fresh ws) (noted ρ k none)
+  left-off-agrees k is-task passes =
+      record-agrees k is-task 0 (well-sized ws (A .accepted .length-passes) .one-lane) idle left 0 passes
+
+  module _ (k l op side : ℕ) (argument : Stored) (F : CallFits ws k l op side argument) where
+    pub begun-agrees :
+        Agrees (setTask k (begunTask l (operationOf op) (sideOf side) (number argument)) ws)
+        (noted ρ k (some (newNote l op side argument)))
+    begun-agrees =
+        let Z = well-sized ws (A .accepted .length-passes) in
+        let W = well-shaped ws (A .accepted .length-passes) (A .accepted .shape-passes) in
+        let then = setTask k (begunTask l (operationOf op) (sideOf side) (number argument)) ws in
+        subst (λ (m : Option Note). Agrees then (noted ρ k m))
+        (begun-note op (F .some-operation) (newNote l op side argument))
+        (record-agrees k (F .is-task) l (F .is-lane) (operationOf op) (sideOf side) (number argument)
+        (kept-accepted (begun-kept ws k l op side argument Z W F)))
+
+    -- The row takes such numbers for a call.
+    pub call-fits : isCall ρ k l op side argument ≡ true
+    call-fits =
+        let is-lane : l < ρ .lanes = subst (λ (m : ℕ). l < m) (sym (A .same-lanes)) (F .is-lane) in
+        let is-task : k < ρ .tasks = subst (λ (m : ℕ). k < m) (sym (A .same-count)) (F .is-task) in
+        rw (
+          lt-ltb k (ρ .tasks) is-task,
+          lt-ltb l (ρ .lanes) is-lane,
+          le-leb 1 op (F .some-operation),
+          le-leb op 4 (F .last-operation),
+          le-leb side 1 (F .last-side),
+          F .argument-fits,
+        )
 
   pub begin-explained : (k l op side : ℕ) (argument : Stored) → Explains ws ρ (begin-call k l op side argument)
   unfolding begin
-  begin-explained k l op side argument =
-      explains
-      (go (beginRefusal ws k l op side argument) refl
-      (call-accepted ws (A .accepted) (begin-call k l op side argument)))
+  begin-explained k l op side argument = explains (go (beginRefusal ws k l op side argument) refl)
     where
-      t : Task
-      t = begunTask l (operationOf op) (sideOf side) (number argument)
-
-      n : Note
-      n = newNote l op side argument
-
       Result : Changed → Type 0
       Result c = (ρ′ : Row) × (feedBegin ρ k l op side argument (c .reply) ≡ some ρ′) × Agrees (c .words) ρ′
-
-      notes-after : 1 ≤ op → (j : ℕ) → noted ρ k (some n) .notes j ≡ noteIn (update (task ws) k t j)
-      notes-after some-operation j =
-          by-if (λ (m : Option Note). m ≡ noteIn (update (task ws) k t j)) (j ≟ k)
-          (λ e.
-          sym (begun-note op some-operation n)
-          ∙ sym (ap noteIn (ap (update (task ws) k t) e ∙ update-same (task ws) k t)))
-          (λ m. A .notes j ∙ sym (ap noteIn (update-other (task ws) k t j m)))
 
       go :
           (r : Option ℕ)
           → beginRefusal ws k l op side argument ≡ r
-          → WellFormed (changed r ws (setTask k t ws) .words)
-          → Result (changed r ws (setTask k t ws))
-      go (some m) e ok = (ρ, refl, A)
-      go none e ok =
-          let B = begin-allowed ws k l op side argument e in
-          let Z = well-sized ws (A .accepted .length-passes) in
-          let viewed-after = viewed-set-task ws (Z .sized) k (B .is-task) t right in
-          let task-after = task-set-task ws (Z .sized) k (B .is-task) t never-has-word in
-          let columns-after = columns-setTask ws (Z .sized) k t (B .is-task) in
-          let lanes-after : laneCount (setTask k t ws) ≡ laneCount ws = ap (λ c. c .sizes .laneCount) columns-after in
-          let is-lane : l < ρ .lanes = subst (λ (m : ℕ). l < m) (sym (A .same-lanes)) (B .is-lane) in
-          let is-task : k < ρ .tasks = subst (λ (m : ℕ). k < m) (sym (A .same-count)) (B .is-task) in (
-            noted ρ k (some n),
-            rw (
-              lt-ltb k (ρ .tasks) is-task,
-              lt-ltb l (ρ .lanes) is-lane,
-              le-leb 1 op (B .some-operation),
-              le-leb op 4 (B .last-operation),
-              le-leb side 1 (B .last-side),
-              B .argument-fits,
-            ),
-            record {
-              accepted = ok;
-              class = A .class;
-              invariant =
-                  rw (lanes-after, viewed-after, task-after)
-                  (invariant-begin (A .invariant) k (idle-operation (task ws k .operation) (B .was-idle))
-                  l (B .is-lane) (operationOf op) (sideOf side) (number argument));
-              notes = λ j. rw task-after (notes-after (B .some-operation) j);
-              same-lanes = A .same-lanes ∙ sym lanes-after;
-              same-count = A .same-count ∙ sym (ap (λ c. c .sizes .taskCount) columns-after);
-              same-dispatched = A .same-dispatched ∙ sym (ap (λ c. c .counts .dispatched) columns-after);
-            },
-          )
+          → Result (changed r ws (setTask k (begunTask l (operationOf op) (sideOf side) (number argument)) ws))
+      go (some m) e = (ρ, refl, A)
+      go none e =
+          let F = begin-allowed ws k l op side argument e .fits in
+          let n = newNote l op side argument in
+          (noted ρ k (some n), rw (call-fits k l op side argument F), begun-agrees k l op side argument F)
 
   -- ---- tick.
   pub tick-explained : (k h : ℕ) → Explains ws ρ (tick-call k h)
@@ -253,15 +269,7 @@ module _ {ws : List ℕ} {ρ : Row} (A : Agrees ws ρ) where
   next-same =
       ap (λ (n : ℕ). nextNoted (ρ .notes) n (ρ .dispatched)) (A .same-count)
       ∙ ap (λ (d : ℕ). nextNoted (ρ .notes) (taskCount ws) d) (A .same-dispatched)
-      ∙ ap (λ (test : ℕ → Bool). nextAfter (taskCount ws) test (dispatched ws))
-      (fun-ext (λ k. ap hasNote (A .notes k) ∙ noted-if-busy (task ws k .operation) (noteOf (task ws k))))
-    where
-      noted-if-busy : (op : Operation) (n : Note) → hasNote (noteUnder op n) ≡ isBusy op
-      noted-if-busy idle n = refl
-      noted-if-busy push n = refl
-      noted-if-busy pop n = refl
-      noted-if-busy add n = refl
-      noted-if-busy remove n = refl
+      ∙ ap (λ (test : ℕ → Bool). nextAfter (taskCount ws) test (dispatched ws)) (fun-ext (noted-if-busy A))
 
   pub dispatch-explained : (h : ℕ) → Explains ws ρ (dispatch-call h)
   unfolding feedDispatch feedIdle feedDispatched bind

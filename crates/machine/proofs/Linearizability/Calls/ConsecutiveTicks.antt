@@ -31,6 +31,14 @@ module _ (k h : ℕ) where
   tick-comes : {ws : List ℕ} {ρ : Row} → Agrees ws ρ → Comes ρ (tick ws k h)
   tick-comes A = let E = tick-explained A k h in (E .row, E .given-by-row, E .agrees)
 
+  -- A tick that goes on leaves the row as it is.
+  pub going-keeps : {ws : List ℕ} {ρ : Row} → Agrees ws ρ → isGoing (tick ws k h .answer) ≡ true
+      → Agrees (tick ws k h .words) ρ
+  going-keeps {ws} {ρ} A e =
+      let x = tick-comes A in
+      let going = subst (λ (a : Answer). feedTick ρ k a ≡ some (x .0)) (going-answer _ e) (x .1) in
+      subst (Agrees (tick ws k h .words)) (going-stays ρ k going) (x .2)
+
   ticks-come : (n : ℕ) {ws : List ℕ} {ρ : Row} → Agrees ws ρ → Comes ρ (ticks (suc n) ws k h)
   ticks-come zero {ws} {ρ} A = subst (Comes ρ) (sym (one-consecutive ws k h)) (tick-comes A)
   ticks-come (suc n) {ws} {ρ} A = go (isGoing (tick ws k h .answer)) refl (λ B. ticks-come n B)
@@ -39,11 +47,7 @@ module _ (k h : ℕ) where
           → (Agrees (tick ws k h .words) ρ → Comes ρ (ticks (suc n) (tick ws k h .words) k h))
           → Comes ρ (ticks (suc (suc n)) ws k h)
       go false e others = subst (Comes ρ) (sym (first-is-last (suc n) ws k h e)) (tick-comes A)
-      go true e others =
-          let x = tick-comes A in
-          let going = subst (λ (a : Answer). feedTick ρ k a ≡ some (x .0)) (going-answer _ e) (x .1) in
-          subst (Comes ρ) (sym (first-goes-on (suc n) ws k h e))
-          (others (subst (Agrees (tick ws k h .words)) (going-stays ρ k going) (x .2)))
+      go true e others = subst (Comes ρ) (sym (first-goes-on (suc n) ws k h e)) (others (going-keeps A e))
 
   pub ticks-explained : {ws : List ℕ} {ρ : Row} → Agrees ws ρ → (n : ℕ) → Explains ws ρ (ticks-call k h n)
   unfolding ticks

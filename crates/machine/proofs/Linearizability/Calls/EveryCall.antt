@@ -19,16 +19,18 @@ use Rattle.airline_list.specs.declared.Sent.{Sent}
 use Rattle.airline_list.specs.declared.Sent.the-variants.{To, NotSent}
 use Rattle.airline_list.specs.Lists.{verdict, sent}
 use Rattle.machine.specs.Choice.{_<?_}
-use Rattle.machine.specs.Sides.{sideNumber}
+use Rattle.machine.specs.Sides.{sideNumber, sideOf}
 use Rattle.machine.specs.Values.{number}
-use Rattle.machine.specs.Operations.{push, operationNumber}
+use Rattle.machine.specs.Operations.{push, operationNumber, operationOf}
+use Rattle.machine.specs.Tasks.{wordsOf}
 use Rattle.machine.specs.Table.{laneCount}
 use Rattle.machine.specs.Shape.{sameWords}
 use Rattle.machine.specs.Answers.{sameReply}
-use Rattle.machine.specs.Calls.{unless, Changed, changed, start, begin, ReadDone, readInto, read}
+use Rattle.machine.specs.Calls.{unless, Changed, changed, start, begunTask, begin, ReadDone, readInto, read}
 use Rattle.machine.specs.Sheets.{pageRefusal, sheetInto, sheet}
 use Rattle.machine.specs.PushByList.{sideAt, pushTo, pushByList}
-use Rattle.machine.specs.Row.{Row, noted, newNote}
+use Rattle.machine.specs.Lent.{beginLent}
+use Rattle.machine.specs.Row.{Note, Row, noted, newNote}
 use Rattle.machine.specs.Demand3.{
   Call,
   start-call,
@@ -42,6 +44,7 @@ use Rattle.machine.specs.Demand3.{
   read-call,
   sheet-call,
   push-by-list-call,
+  lent-begin-call,
   given,
   isCall,
   feedStart,
@@ -49,12 +52,15 @@ use Rattle.machine.specs.Demand3.{
   feedRead,
   feedSheet,
   feedByList,
+  feedLent,
   feed,
   Within,
 }
-use Rattle.machine.specs.Kinds.{startDid, beginDid, byListDid, did}
+use Rattle.machine.specs.Kinds.{startDid, beginDid, lentDid, byListDid, did}
 use Rattle.machine.proofs.Words.RecordLaws.{same-words-refl}
+use Rattle.machine.proofs.Shape.ShapeLaws.{well-sized}
 use Rattle.machine.proofs.Shape.ShapeKept.{table-passes}
+use Rattle.machine.proofs.Shape.LentBegins.{lent-kept, lent-fits, lent-words}
 use Rattle.machine.proofs.Linearizability.Calls.Agreement.{Agrees, lanes-are-rows}
 use Rattle.machine.proofs.Linearizability.Calls.RowDid.{
   same-if,
@@ -69,6 +75,7 @@ use Rattle.machine.proofs.Linearizability.Calls.RowDid.{
 use Rattle.machine.proofs.Linearizability.Calls.CallsAgree.{
   Explains,
   start-explained,
+  call-fits,
   begin-explained,
   tick-explained,
   dispatch-explained,
@@ -97,6 +104,11 @@ unfolding feedMadeTicks
 begin-fed ρ {ρ′} k l op side argument Accepted e =
     let same : noted ρ k (some (newNote l op side argument)) ≡ ρ′ = same-if (isCall ρ k l op side argument) e .1 in cc
 begin-fed ρ k l op side argument (Reply-Refused n) e = e
+
+lent-fed : (ρ : Row) (k : ℕ) (n : Note) (r : Reply) (words : List ℕ) → feedDid ρ (lentDid k n r words) ≡ some ρ
+unfolding feedMadeTicks
+lent-fed ρ k n Accepted words = refl
+lent-fed ρ k n (Reply-Refused m) words = refl
 
 module _ {ws : List ℕ} {ρ : Row} (A : Agrees ws ρ) where
   -- ---- Looks: the row gives what they give back, and stays.
@@ -186,6 +198,23 @@ module _ {ws : List ℕ} {ρ : Row} (A : Agrees ws ρ) where
           )
           (same-given (changed (some 26) out out))
 
+  lent-looks : (lent : List ℕ) (k l op side : ℕ) (argument : Stored)
+      → feedLent ρ lent k l op side argument (beginLent ws lent k l op side argument .reply)
+      (beginLent ws lent k l op side argument .words)
+      ≡ some ρ
+  lent-looks lent k l op side argument = go (beginLent ws lent k l op side argument .reply) refl
+    where
+      go : (r : Reply) → beginLent ws lent k l op side argument .reply ≡ r
+          → feedLent ρ lent k l op side argument r (beginLent ws lent k l op side argument .words) ≡ some ρ
+      go Accepted e =
+          let sized = well-sized ws (A .accepted .length-passes) .sized in
+          rw (
+            lent-words ws lent k l op side argument e sized,
+            call-fits A k l op side argument (lent-fits ws lent k l op side argument e),
+            same-words-refl (wordsOf (begunTask l (operationOf op) (sideOf side) (number argument))),
+          )
+      go (Reply-Refused n) e = rw (lent-kept ws lent k l op side argument e, same-words-refl lent)
+
   -- ---- A push by list: its begin, or only a look.
   pub record ByListTold (s : Sent) (k l : ℕ) (argument : Stored) : Type 0 where
     pub row : Row
@@ -244,6 +273,9 @@ module _ {ws : List ℕ} {ρ : Row} (A : Agrees ws ρ) where
       let x = by-list-told (sent (verdict list) (number argument)) k l argument in
       told-by (record { row = x .row; given-by-row = x .given-by-row; agrees = x .agrees })
       (λ _. x .fed-what-it-did) tt
+  told (lent-begin-call lent whole k l op side argument) =
+      told-by (record { row = ρ; given-by-row = lent-looks lent k l op side argument; agrees = A })
+      (λ _. lent-fed ρ k (newNote l op side argument) (beginLent ws lent k l op side argument .reply) _) tt
 
   abbrev pub call-explained : (c : Call) → Explains ws ρ c
   call-explained c = told c .explains

@@ -1,5 +1,5 @@
 -- What a call feeds the row is what it did: an accepted start, an accepted begin, or ticks that were made, one after
--- another.
+-- another. A lent record left begun feeds it nothing.
 use mathlib.Core.Path.{_≡_, refl}
 use mathlib.Core.Bool.{Bool, true, false, cond}
 use mathlib.Core.List.{List, [], _∷_}
@@ -29,6 +29,7 @@ use Rattle.machine.specs.Kinds.{
   Did,
   started,
   begun,
+  lent-begun,
   ticked,
   tickDid,
   ticksDid,
@@ -72,6 +73,7 @@ feedMadeTicks ρ (t ∷ ts) = bind (feedMadeTick ρ t) (λ ρ′. feedMadeTicks 
 abbrev pub feedDid : Row → Did → Option Row
 feedDid ρ (started T lanes) = some (emptyRow T lanes)
 feedDid ρ (begun k n) = some (noted ρ k (some n))
+feedDid ρ (lent-begun k n words) = some ρ
 feedDid ρ (ticked ts) = feedMadeTicks ρ ts
 
 -- ---- Ticks.

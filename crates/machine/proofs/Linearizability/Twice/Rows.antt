@@ -30,7 +30,7 @@ use Rattle.machine.specs.Row.{
   nextNoted,
   feedDispatched,
 }
-use Rattle.machine.specs.Kinds.{Tick, of-task, of-next, Did, started, begun, ticked}
+use Rattle.machine.specs.Kinds.{Tick, of-task, of-next, Did, started, begun, lent-begun, ticked}
 use Rattle.machine.specs.Counts.{count}
 use Rattle.machine.specs.Twice.{PushNoted, rowsBelow, allBags, OnceInRow, SeenIn}
 use Rattle.machine.proofs.Basics.Contradiction.{clash, equal?, less?}
@@ -97,12 +97,26 @@ noted-there ρ k m j b N = go (j ≟ k) (N .note-is)
     go (yes e) q = the-new-one e (N .lane) (N .side) q
     go (no n) q = one-before n (record { lane = N .lane; side = N .side; note-is = q })
 
+-- Without one of the notes.
+pub once-left-off : {ρ : Row} → Once ρ → (k : ℕ) → Once (noted ρ k none)
+once-left-off {ρ} O k =
+    record {
+      at-most-once = O .at-most-once;
+      not-yet = λ j b N. O .not-yet j b (before j b N);
+      one-task = λ i j b N M. O .one-task i j b (before i b N) (before j b M);
+    }
+  where
+    before : (j b : ℕ) → PushNoted (noted ρ k none) j b → PushNoted ρ j b
+    before j b N =
+        elim (noted-there ρ k none j b N) [ the-new-one e l s q ↦ clash (cc) | one-before ne M ↦ M ]
+
 -- ---- Begin.
 
 -- An accepted begin of a push is of a bag that the row has not seen.
 abbrev pub NewWhereBegun : Row → Did → Type 0
 NewWhereBegun ρ (begun k n) = n .operation ≡ push → SeenIn ρ (n .argument) → ⊥
 NewWhereBegun ρ (started T L) = Unit {0}
+NewWhereBegun ρ (lent-begun k n words) = Unit {0}
 NewWhereBegun ρ (ticked ts) = Unit {0}
 
 module _ {ρ : Row} (O : Once ρ) (k : ℕ) (n : Note) (new : n .operation ≡ push → SeenIn ρ (n .argument) → ⊥) where
@@ -121,7 +135,7 @@ module _ {ρ : Row} (O : Once ρ) (k : ℕ) (n : Note) (new : n .operation ≡ p
       go true e = absurd (unseen (inl e))
       go false e = e
 
-  once-begun : Once (noted ρ k (some n))
+  pub once-begun : Once (noted ρ k (some n))
   once-begun =
       record {
         at-most-once = O .at-most-once;
@@ -343,4 +357,5 @@ once-ticks {ρ} O (t ∷ ts) e =
 pub once-did : (d : Did) {ρ ρ′ : Row} → Once ρ → NewWhereBegun ρ d → feedDid ρ d ≡ some ρ′ → Once ρ′
 once-did (started T L) O new e = same-row e (once-empty T L)
 once-did (begun k n) O new e = same-row e (once-begun O k n new)
+once-did (lent-begun k n words) O new e = same-row e O
 once-did (ticked ts) O new e = once-ticks O ts e

@@ -13,6 +13,7 @@ use Rattle.machine.specs.Twice.{
   AllDifferent,
   NoTwice,
   NoTwiceInside,
+  OnceInTable,
   PushNoted,
   allBags,
   TablesHaveOnce,
@@ -27,6 +28,7 @@ use Rattle.machine.proofs.Words.Kinds.{
   left-alone,
   is-started,
   is-begun,
+  is-lent-begun,
   are-ticked,
   are-dispatched,
   comes,
@@ -48,10 +50,11 @@ module _ {ws : List ℕ} {ρ : Row} (A : Agrees ws ρ) where
       go (left-alone a e) = tt
       go (is-started S T g L e) = tt
       go (is-begun k l op side argument e) = accepted-new A k l op side argument e
+      go (is-lent-begun lent whole k l op side argument e) = tt
       go (are-ticked i list ts) = tt
       go (are-dispatched h n ts) = tt
 
-  once-called : Once ρ → (c : Call) → Once (call-explained A c .row)
+  pub once-called : Once ρ → (c : Call) → Once (call-explained A c .row)
   once-called O c = once-did (did c (given c ws)) O (new-where-begun c) (told A c .fed-what-it-did)
 
 -- ---- Rows.
@@ -131,19 +134,20 @@ pub each-has-row : EachHasRow
 each-has-row ws B = let x = begun-row B in (x .0, x .1, lanes-are-rows (row-agrees (x .1) .0))
 
 -- ---- Tables.
-pub tables-have-once : TablesHaveOnce
-tables-have-once ws B =
-    let ρ = begun-row B .0 in
-    let A = row-agrees (begun-row B .1) .0 in
-    let O = rows-have-once ws ρ (begun-row B .1) in
+pub once-in-table : {ws : List ℕ} {ρ : Row} → Agrees ws ρ → Once ρ → OnceInTable ws
+once-in-table {ws} {ρ} A O =
+    let R = once-in-row O in
     record {
       bags = allBags ρ;
       lanes-are = all-lanes-are-rows A;
-      different = O .different;
-      not-in-lanes = λ k e. O .not-in-row k (task ws k .argument) (busy-noted A k e);
+      different = R .different;
+      not-in-lanes = λ k e. R .not-in-row k (task ws k .argument) (busy-noted A k e);
       one-task = λ j k d e same.
-          O .one-task j k (task ws k .argument) (subst (PushNoted ρ j) same (busy-noted A j d)) (busy-noted A k e);
+          R .one-task j k (task ws k .argument) (subst (PushNoted ρ j) same (busy-noted A j d)) (busy-noted A k e);
     }
+
+pub tables-have-once : TablesHaveOnce
+tables-have-once ws B = let x = row-agrees (begun-row B .1) in once-in-table (x .0) (x .1)
 
 same-some : {T : Type 0} {x y : T} → some x ≡ some y → x ≡ y
 same-some e = cc
