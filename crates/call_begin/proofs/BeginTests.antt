@@ -1,5 +1,5 @@
 -- The tests of a begin, in 01's order: each refusal, and the record that passes them all.
-use mathlib.Core.Path.{_≡_, refl, sym, ap, _∙_}
+use mathlib.Core.Path.{_≡_, refl, sym, ap, _∙_, subst}
 use mathlib.Core.Bool.{Bool, true, false, _&&_}
 use mathlib.Core.Logic.{_≢_}
 use mathlib.Core.List.{List, [], _∷_}
@@ -7,7 +7,7 @@ use mathlib.Core.Option.{Option, some, none}
 use Prim.Native.Nat.{ℕ, _≤_, _<_}
 use native.Mathlib.Omega.{arith}
 use lib.Dec.{leb, ltb}
-use borrow.Author.Tests.{lt-ltb, le-ltb, leb-true}
+use borrow.Author.Tests.{lt-ltb, ltb-true, leb-true}
 use Rattle.machine.specs.declared.Reply.the-variants.{Accepted, Refused}
 use Rattle.machine.specs.declared.Stored.{Stored}
 use Rattle.machine.specs.Sides.{sideOf}
@@ -16,19 +16,29 @@ use Rattle.machine.specs.Operations.{operationOf, argumentOk}
 use Rattle.machine.specs.Steps.{stepNumber, firstStep}
 use Rattle.machine.specs.Tasks.{noNode}
 use Rattle.machine.specs.Table.{taskCount, laneCount, recordWords, task, setTask}
-use Rattle.machine.specs.Shape.{WellFormed}
+use Rattle.machine.specs.Shape.{Sizes, sizesOf, Sized, WellFormed}
 use Rattle.machine.specs.Calls.{unless, isIdle, tableRefusal, twiceRefusal, callRefusal, beginRefusal, begunTask, begin}
 use Rattle.machine.proofs.Basics.Tests.{and-left, and-right, test-passed, tests-left}
 use Rattle.machine.proofs.Words.ValueLaws.{argument-stored}
 use Rattle.machine.proofs.Words.RecordLaws.{number-of-operation, number-of-side}
+use Rattle.machine.proofs.Words.LentLaws.{
+  lent-sizes,
+  same-task-count,
+  same-lane-count,
+  lent-lanes,
+  own-task,
+  far-task,
+}
+use Rattle.machine.specs.Lent.{lentTo}
 use Rattle.machine.specs.Results.{changedOf}
 use Rattle.table_record.specs.declared.Task as Tasks
-use Rattle.table_record.specs.Coded.{structOf, codedTask, taskMeant}
+use Rattle.table_record.specs.Coded.{structOf, recordOf, codedTask, taskMeant}
 use Rattle.answers.specs.Refusals.{numberOf}
-use Rattle.answers.proofs.Laws.Refusals.{due, NoneAt0, none-due}
+use Rattle.answers.proofs.Laws.Refusals.{due, NoneAt0, none-due, decided, both-pass}
 use Rattle.table_layout.proofs.Laws.Views.{task-read}
-use Rattle.table_shape.proofs.Laws.PassedTable.{refused, table-passed}
+use Rattle.table_shape.proofs.Laws.PassedTable.{refused}
 use Rattle.call_begin.specs.OwnRecord.{WithOwn}
+use Rattle.call_begin.specs.Places.{placeRefusal, Placed}
 use Rattle.call_begin.proofs.SeenTests.{twice-refused, twice-passed}
 
 -- The numbers of a call: push, pop, add or remove, of a side.
@@ -113,60 +123,58 @@ module _ (ws : List ℕ) (k op side : ℕ) (argument : Stored) where
     pub argument-passed : n ≡ 0 → argumentOk (operationOf op) argument ≡ true
     argument-passed e = let all = none-refused e in search (test-passed, tests-left)
 
--- ---- Refusals 3 and 4 by their number.
-module _ (ws : List ℕ) {n : ℕ} (is-number : n ≡ numberOf (tableRefusal ws none))
-    (k l op side : ℕ) (argument : Stored) where
-  stopped : beginRefusal ws k l op side argument ≡ some n → changedOf (Refused n) ws ≡ begin ws k l op side argument
+-- ---- What refuses a begin, of any table: 3 and 4 by their number.
+module _ (ws : List ℕ) (k l op side : ℕ) (argument : Stored) where
+  pub refused-by-table :
+      {n : ℕ} → n ≡ numberOf (tableRefusal ws none) → n ≢ 0 → beginRefusal ws k l op side argument ≡ some n
+  refused-by-table is-number h = refused ws is-number h _
+
+  -- ---- The others, of a table that passes.
+  module _ (P : WellFormed ws) where
+    pub refused-by-place :
+        {n : ℕ} → n ≡ numberOf (placeRefusal ws k l) → n ≢ 0 → beginRefusal ws k l op side argument ≡ some n
+    refused-by-place is-number h =
+        rw (P .length-passes, P .shape-passes)
+        (decided (ltb l (laneCount ws)) (ltb k (taskCount ws)) 26 5 (callRefusal ws k op side argument)
+        (λ e. h (is-number ∙ e))
+        ∙ ap some (sym is-number))
+
+    module _ (at : Placed ws k l) {n : ℕ} (is-number : n ≡ numberOf (callRefusal ws k op side argument)) where
+      of-lane : ltb l (laneCount ws) ≡ true
+      of-lane = lt-ltb l (laneCount ws) (at .is-lane)
+
+      of-task : ltb k (taskCount ws) ≡ true
+      of-task = lt-ltb k (taskCount ws) (at .is-task)
+
+      pub refused-by-call : n ≢ 0 → beginRefusal ws k l op side argument ≡ some n
+      refused-by-call h =
+          rw (P .length-passes, P .shape-passes, of-lane, of-task) (due (callRefusal ws k op side argument) is-number h)
+
+      pub not-refused : n ≡ 0 → beginRefusal ws k l op side argument ≡ none
+      not-refused e =
+          rw (P .length-passes, P .shape-passes, of-lane, of-task) (none-refused ws k op side argument is-number e)
+
+  -- ---- What a begin leaves.
+  pub begin-refused :
+      {n : ℕ} → beginRefusal ws k l op side argument ≡ some n → changedOf (Refused n) ws ≡ begin ws k l op side argument
   unfolding begin
-  stopped e = rw (e, begin)
+  begin-refused e = rw (e, begin)
 
-  pub begin-refused : n ≢ 0 → changedOf (Refused n) ws ≡ begin ws k l op side argument
-  begin-refused h = stopped (refused ws is-number h _)
-
-  pub begin-no-lane : n ≡ 0 → laneCount ws ≤ l → changedOf (Refused 26) ws ≡ begin ws k l op side argument
+  pub begin-accepted :
+      beginRefusal ws k l op side argument ≡ none
+      → changedOf Accepted (setTask k (begunTask l (operationOf op) (sideOf side) (number argument)) ws)
+      ≡ begin ws k l op side argument
   unfolding begin
-  begin-no-lane e h =
-      let P = table-passed ws is-number e in rw (P .length-passes, P .shape-passes, le-ltb l (laneCount ws) h, begin)
+  begin-accepted e = rw (e, begin)
 
--- ---- The others, of a table that passes, and of one of its lanes.
-module _ (ws : List ℕ) (P : WellFormed ws) (k l op side : ℕ) (argument : Stored) (is-lane : l < laneCount ws) where
-  of-lane : ltb l (laneCount ws) ≡ true
-  of-lane = lt-ltb l (laneCount ws) is-lane
-
-  pub begin-5 : taskCount ws ≤ k → changedOf (Refused 5) ws ≡ begin ws k l op side argument
-  unfolding begin
-  begin-5 h = rw (P .length-passes, P .shape-passes, of-lane, le-ltb k (taskCount ws) h, begin)
-
-  module _ (is-task : k < taskCount ws) {n : ℕ} (is-number : n ≡ numberOf (callRefusal ws k op side argument)) where
-    of-task : ltb k (taskCount ws) ≡ true
-    of-task = lt-ltb k (taskCount ws) is-task
-
-    pub begin-stopped : n ≢ 0 → changedOf (Refused n) ws ≡ begin ws k l op side argument
-    unfolding begin
-    begin-stopped h =
-        rw (
-          P .length-passes,
-          P .shape-passes,
-          of-lane,
-          of-task,
-          due (callRefusal ws k op side argument) is-number h,
-          begin,
-        )
-
-    pub begin-accepted :
-        n ≡ 0
-        → changedOf Accepted (setTask k (begunTask l (operationOf op) (sideOf side) (number argument)) ws)
-        ≡ begin ws k l op side argument
-    unfolding begin
-    begin-accepted e =
-        rw (
-          P .length-passes,
-          P .shape-passes,
-          of-lane,
-          of-task,
-          none-refused ws k op side argument is-number e,
-          begin,
-        )
+-- There is such a lane and such a task.
+pub place-passed : (ws : List ℕ) (k l : ℕ) {n : ℕ} → n ≡ numberOf (placeRefusal ws k l) → n ≡ 0 → Placed ws k l
+place-passed ws k l is-number e =
+    let L = laneCount ws in
+    let T = taskCount ws in
+    let both =
+    both-pass (ltb l L) (ltb k T) (λ z. absurd (omega (arith, z))) (λ z. absurd (omega (arith, z))) (sym is-number ∙ e) in
+    record { is-lane = ltb-true l L (both .0); is-task = ltb-true k T (both .1) }
 
 -- ---- The record that stands in the table stands for itself.
 pub own-in-place :
@@ -178,3 +186,30 @@ own-in-place ws k own is-task e =
       its-task = sym (ap taskMeant e ∙ task-read ws k is-task);
       others = λ j h. refl;
     }
+
+-- ---- A record that is lent.
+module _ (ws : List ℕ) (k : ℕ) (own : Tasks.Task) where
+  abbrev lent : List ℕ
+  lent = lentTo ws k (recordOf own)
+
+  pub lent-stands : k < taskCount ws → Sized (sizesOf ws) → WithOwn ws k own lent
+  lent-stands is-task sized =
+      record {
+        lanes = lent-lanes ws k (recordOf own);
+        count = same-task-count ws k (recordOf own);
+        its-task = own-task ws k (recordOf own) is-task sized refl;
+        others = far-task ws k (recordOf own) is-task sized refl;
+      }
+
+  -- The lanes and the tasks are counted as in the table.
+  pub same-place : (l : ℕ) → placeRefusal ws k l ≡ placeRefusal lent k l
+  same-place l =
+      ap (λ (z : Sizes). unless (ltb l (z .laneCount)) 26 (unless (ltb k (z .taskCount)) 5 none))
+      (sym (lent-sizes ws k (recordOf own)))
+
+  pub placed-there : {l : ℕ} → Placed ws k l → Placed lent k l
+  placed-there {l} at =
+      record {
+        is-lane = subst (λ (n : ℕ). l < n) (sym (same-lane-count ws k (recordOf own))) (at .is-lane);
+        is-task = subst (λ (n : ℕ). k < n) (sym (same-task-count ws k (recordOf own))) (at .is-task);
+      }

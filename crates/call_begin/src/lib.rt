@@ -1,4 +1,4 @@
-// The call begin: any slice, any numbers. A refusal changes no lent word.
+// The call begin, on the table and over a record by value: any slice, any record, any numbers. A refusal changes no word.
 use lane_walk::Walk;
 use lane_walk::seek;
 use machine::Reply;
@@ -8,6 +8,7 @@ use table_layout::operations::argument_ok;
 use table_layout::operations::is_idle;
 use table_layout::table;
 use table_record::Task;
+use table_shape::lent_refusal;
 use table_shape::table_refusal;
 ghost use mathlib.Core.Path.{_≡_};
 ghost use mathlib.Core.Bool.{true, _&&_};
@@ -15,12 +16,13 @@ ghost use mathlib.Core.Option.{none};
 ghost use mathlib.Core.List.{List};
 ghost use Prim.Native.Nat.{ℕ, _≤_, _<_};
 ghost use lib.Dec.{leb};
+ghost use Rattle.machine.specs.declared.Reply.the-variants.{Refused};
 ghost use Rattle.machine.specs.Sides.{sideOf};
 ghost use Rattle.machine.specs.Values.{number};
 ghost use Rattle.machine.specs.Operations.{operationOf, argumentOk};
 ghost use Rattle.machine.specs.Steps.{firstStep, stepNumber};
 ghost use Rattle.machine.specs.Table.{taskCount, laneCount, task};
-ghost use Rattle.machine.specs.Shape.{lengthOk, WellFormed};
+ghost use Rattle.machine.specs.Shape.{lengthOk, WellFormed, WellLinked};
 ghost use Rattle.machine.specs.Calls.{
   lane,
   allLanes,
@@ -31,11 +33,14 @@ ghost use Rattle.machine.specs.Calls.{
   begunTask,
   begin,
 };
+ghost use Rattle.machine.specs.Lent.{beginLent};
 ghost use Rattle.answers.specs.Refusals.{numberOf};
-ghost use Rattle.table_record.specs.Coded.{codedTask, taskMeant};
+ghost use Rattle.table_record.specs.Coded.{recordOf, codedTask, taskMeant};
+ghost use Rattle.table_layout.specs.Words.{HoldsHeader};
 ghost use Rattle.machine.specs.Results.{changedOf};
 ghost use Rattle.call_begin.specs.OwnRecord.{WithOwn, isPushOf};
 ghost use Rattle.call_begin.specs.Seen.{standing, firstOf};
+ghost use Rattle.call_begin.specs.Places.{placeRefusal, Placed};
 
 // The operation is push, pop, add or remove, and the side is left or right.
 fn call_ok(operation: u32, side: u32) -> bool
@@ -108,7 +113,7 @@ fn is_begun(table: &[u32], k: u32, own: Task, tag: u64) -> bool
 
 // Whether the tag stands in lane l: 16 where it does, 0 where it does not, and 11 where the lane cannot be walked.
 fn stands(table: &[u32], l: u32, tag: u64) -> u32
-    requires { ⌜ WellFormed (now table) × (l < laneCount (now table)) ⌝ }
+    requires { ⌜ WellLinked (now table) × (l < laneCount (now table)) ⌝ }
     ensures { λ r. ⌜ r ≡ standing tag (lane (now (table .entry)) l) ⌝ }
 {
     let walk = seek(table, l, tag);
@@ -140,7 +145,7 @@ fn first_of(a: u32, b: u32) -> u32
 
 // The same of all lanes: each of them is walked before 16 is said.
 fn stands_in_any(table: &[u32], tag: u64) -> u32
-    requires { ⌜ WellFormed (now table) ⌝ }
+    requires { ⌜ WellLinked (now table) ⌝ }
     ensures { λ r. ⌜ r ≡ standing tag (allLanes (now (table .entry))) ⌝ }
 {
     let lanes = header::lanes(table);
@@ -160,7 +165,7 @@ fn stands_in_any(table: &[u32], tag: u64) -> u32
 // 02: "a bag number that stands in the lane or is the argument of a busy push", of any lane. The number of the refusal,
 // 11 or 16; 0 where the tag is new.
 fn seen_refusal(table: &[u32], k: u32, own: Task, tag: u64) -> u32
-    requires { ⌜ WellFormed (now table) ⌝ }
+    requires { ⌜ WellLinked (now table) ⌝ }
     ensures { λ r. ⌜ ((ws : List ℕ) → WithOwn (now (table .entry)) k own ws
         → r ≡ numberOf (seenRefusal ws tag (allLanes ws) none)) ⌝ }
 {
@@ -176,7 +181,7 @@ fn seen_refusal(table: &[u32], k: u32, own: Task, tag: u64) -> u32
 
 // The same for any operation; only a push walks.
 fn twice_refusal(table: &[u32], k: u32, own: Task, operation: u32, argument: Stored) -> u32
-    requires { ⌜ WellFormed (now table) ⌝ }
+    requires { ⌜ WellLinked (now table) ⌝ }
     ensures { λ r. ⌜ ((ws : List ℕ) → WithOwn (now (table .entry)) k own ws
         → r ≡ numberOf (twiceRefusal ws (operationOf operation) (number argument) none)) ⌝ }
 {
@@ -195,7 +200,7 @@ fn call_refusal(
     side: u32,
     argument: Stored,
 ) -> u32
-    requires { ⌜ WellFormed (now table) ⌝ }
+    requires { ⌜ WellLinked (now table) ⌝ }
     ensures { λ r. ⌜ ((ws : List ℕ) → WithOwn (now (table .entry)) k own ws
         → r ≡ numberOf (callRefusal ws k operation side argument)) ⌝ }
 {
@@ -215,7 +220,21 @@ fn call_refusal(
     0
 }
 
-// 01: check 5, those of the call, and then the record.
+// 02: check 26; 01: check 5. The number of the refusal; 0 where there is such a lane and such a task.
+fn place_refusal(table: &[u32], task: u32, l: u32) -> u32
+    requires { ⌜ HoldsHeader (now table) ⌝ }
+    ensures { λ r. ⌜ r ≡ numberOf (placeRefusal (now (table .entry)) task l) ⌝ }
+{
+    if header::lanes(table) <= l {
+        return 26;
+    }
+    if header::tasks(table) <= task {
+        return 5;
+    }
+    0
+}
+
+// The checks of the call, and then the record.
 fn begin_on(
     table: &mut [u32],
     task: u32,
@@ -224,12 +243,9 @@ fn begin_on(
     side: u32,
     argument: Stored,
 ) -> Reply
-    requires { ⌜ WellFormed (now table) × (l < laneCount (now table)) ⌝ }
+    requires { ⌜ WellFormed (now table) × Placed (now table) task l ⌝ }
     ensures { λ r. ⌜ changedOf r (now (table .exit)) ≡ begin (now (table .entry)) task l operation side argument ⌝ }
 {
-    if header::tasks(table) <= task {
-        return Reply::Refused(5);
-    }
     let own = table::task(table, task);
     let n = call_refusal(table, task, own, operation, side, argument);
     if n != 0 {
@@ -254,8 +270,58 @@ pub fn begin(
     if n != 0 {
         return Reply::Refused(n);
     }
-    if header::lanes(table) <= l {
-        return Reply::Refused(26);
+    let m = place_refusal(table, task, l);
+    if m != 0 {
+        return Reply::Refused(m);
     }
     begin_on(table, task, l, operation, side, argument)
+}
+
+// What a begin by value gives: the task's record afterwards, and the reply.
+pub struct BegunRecord {
+    pub task: Task,
+    pub reply: Reply,
+}
+
+// 02: "a refusal changes no word of the record".
+fn refused(own: Task, n: u32) -> BegunRecord
+    ensures { λ r. ⌜ changedOf (r .reply) (recordOf (r .task)) ≡ changedOf (Refused n) (recordOf own) ⌝ }
+{
+    BegunRecord {
+        task: own,
+        reply: Reply::Refused(n),
+    }
+}
+
+// 2026-14, by value: the same of a task whose record is its caller's. 02: "It reads the table too and leaves it
+// unchanged; in every test the lent record stands for that task's words there."
+pub fn begin_record(
+    own: Task,
+    table: &[u32],
+    task: u32,
+    l: u32,
+    operation: u32,
+    side: u32,
+    argument: Stored,
+) -> BegunRecord
+    ensures { λ r. ⌜ changedOf (r .reply) (recordOf (r .task))
+        ≡ beginLent (now (table .entry)) (recordOf own) task l operation side argument ⌝ }
+{
+    let n = lent_refusal(table, task, own);
+    if n != 0 {
+        return refused(own, n);
+    }
+    let m = place_refusal(table, task, l);
+    if m != 0 {
+        return refused(own, m);
+    }
+    let p = call_refusal(table, task, own, operation, side, argument);
+    if p != 0 {
+        return refused(own, p);
+    }
+    let t = begun(l, operation, side, argument);
+    BegunRecord {
+        task: t,
+        reply: Reply::Accepted,
+    }
 }

@@ -14,14 +14,14 @@ ghost use lib.ListN.{length};
 ghost use Rattle.machine.specs.Calls.{lane, readInto, read};
 ghost use Rattle.machine.specs.Results.{readOf};
 ghost use Rattle.machine.specs.Table.{laneCount};
-ghost use Rattle.machine.specs.Shape.{WellFormed};
+ghost use Rattle.machine.specs.Shape.{WellLinked};
 ghost use Rattle.lane_walk.specs.Walks.{ahead, countOf};
 ghost use Rattle.call_read.specs.Laid.{laid};
 
 // Writes the n bags that are ahead of a node, two words each.
 // 01: the read writes bags in order, answers their count, and touches no later word.
 fn copy(table: &[u32], from: u32, n: u32, out: &mut [u32])
-    requires { ⌜ WellFormed (now table) × (2 * n ≤ length (now out)) ⌝ }
+    requires { ⌜ WellLinked (now table) × (2 * n ≤ length (now out)) ⌝ }
     requires { ⌜ countOf (ahead (now table) from) ≡ some n ⌝ }
     ensures { λ _. ⌜ now (out .exit) ≡ laid (ahead (now (table .entry)) from) (now (out .entry)) ⌝ }
 {
@@ -36,7 +36,7 @@ fn copy(table: &[u32], from: u32, n: u32, out: &mut [u32])
 
 // The read of a table that has passed the tests of refusals 3, 4 and 26.
 fn read_lane(table: &[u32], l: u32, out: &mut [u32]) -> Reading
-    requires { ⌜ WellFormed (now table) × (l < laneCount (now table)) ⌝ }
+    requires { ⌜ WellLinked (now table) × (l < laneCount (now table)) ⌝ }
     ensures { λ r. ⌜ readOf r (now (out .exit)) ≡ readInto (lane (now (table .entry)) l) (now (out .entry)) ⌝ }
 {
     // A read seeks no tag.

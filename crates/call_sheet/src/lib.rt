@@ -14,7 +14,7 @@ use text_page::PER_PAGE;
 ghost use mathlib.Core.Path.{_≡_};
 ghost use Prim.Native.Nat.{_<_};
 ghost use Rattle.machine.specs.Table.{laneCount};
-ghost use Rattle.machine.specs.Shape.{WellFormed};
+ghost use Rattle.machine.specs.Shape.{WellLinked};
 ghost use Rattle.machine.specs.Calls.{lane};
 ghost use Rattle.machine.specs.Results.{changedOf};
 ghost use Rattle.machine.specs.Sheets.{sheetInto, sheet};
@@ -24,7 +24,7 @@ const LAST_PAGE: u32 = 2;
 
 // A page of a table that has passed the tests of refusals 3, 4 and 26.
 fn sheet_lane(table: &[u32], l: u32, page: u32, out: &mut [u8]) -> Reply
-    requires { ⌜ WellFormed (now table) × (l < laneCount (now table)) ⌝ }
+    requires { ⌜ WellLinked (now table) × (l < laneCount (now table)) ⌝ }
     ensures { λ r. ⌜ changedOf r (now (out .exit))
         ≡ sheetInto (lane (now (table .entry)) l) page (now (out .entry)) ⌝ }
 {

@@ -26,7 +26,7 @@ ghost use Rattle.text_page.specs.Page.{
   tagLineCount,
   tagLines,
 };
-ghost use Rattle.machine.specs.Shape.{WellFormed};
+ghost use Rattle.machine.specs.Shape.{WellLinked};
 ghost use Rattle.lane_walk.specs.Walks.{ahead, countOf, nodeAfter};
 ghost use Rattle.call_sheet.specs.Found.{tagsFound};
 
@@ -52,7 +52,7 @@ fn on_line(left: u32) -> u32
 
 // The line of the tags ahead of a node, of which so many are left; answers the node after them.
 fn put_line(table: &[u32], from: u32, left: u32, out: &mut [u8], at: usize) -> u32
-    requires { ⌜ WellFormed (now table) × (countOf (ahead (now table) from) ≡ some left) ⌝ }
+    requires { ⌜ WellLinked (now table) × (countOf (ahead (now table) from) ≡ some left) ⌝ }
     requires { ⌜ at + lineLength ≤ length (now out) ⌝ }
     ensures { λ r. ⌜ r ≡ nodeAfter (now (table .entry)) (min left perLine) from ⌝ }
     ensures { λ _. ⌜ now (out .exit)
@@ -73,7 +73,7 @@ fn put_line(table: &[u32], from: u32, left: u32, out: &mut [u8], at: usize) -> u
 
 // All lines but the first.
 fn put_lines(table: &[u32], from: u32, left: u32, out: &mut [u8])
-    requires { ⌜ WellFormed (now table) × (countOf (ahead (now table) from) ≡ some left) ⌝ }
+    requires { ⌜ WellLinked (now table) × (countOf (ahead (now table) from) ≡ some left) ⌝ }
     requires { ⌜ length (now out) ≡ pageLength ⌝ }
     ensures { λ _. ⌜ now (out .exit)
         ≡ sets (now (out .entry)) lineLength (tagLines tagLineCount (tagsFound (ahead (now (table .entry)) from))) ⌝ }
@@ -90,7 +90,7 @@ fn put_lines(table: &[u32], from: u32, left: u32, out: &mut [u8])
 
 // A page: the count of the whole lane, and the tags ahead of a node, of which so many are left.
 pub fn put_page(table: &[u32], from: u32, count: u32, left: u32, out: &mut [u8])
-    requires { ⌜ WellFormed (now table) × (countOf (ahead (now table) from) ≡ some left) ⌝ }
+    requires { ⌜ WellLinked (now table) × (countOf (ahead (now table) from) ≡ some left) ⌝ }
     requires { ⌜ (count ≤ 9_999) × (length (now out) ≡ pageLength) ⌝ }
     ensures { λ _. ⌜ now (out .exit)
         ≡ heading count ++ tagLines tagLineCount (tagsFound (ahead (now (table .entry)) from)) ⌝ }

@@ -5,6 +5,7 @@ use answers::IDLE;
 use answers::kind;
 use answers::payload;
 use call_begin::begin;
+use call_begin::begin_record;
 use call_dispatch::dispatch;
 use call_dispatch::dispatches;
 use call_push_by_list::push_by_list;
@@ -23,6 +24,7 @@ use machine::Dispatch;
 use machine::Ran;
 use machine::Reading;
 use machine::Reply;
+use table_record::Task;
 use table_values::of_words;
 use tag_lists::Listed;
 use tag_lists::read_tags;
@@ -37,10 +39,12 @@ ghost use Rattle.tag.specs.Tags.{largestTag};
 ghost use Rattle.machine.specs.Values.{storedOf};
 ghost use Rattle.machine.specs.Answers.{replyNumber, payloadOf, dispatchPayloadOf};
 ghost use Rattle.machine.specs.Calls as calls;
+ghost use Rattle.machine.specs.Lent.{beginLent};
 ghost use Rattle.machine.specs.Snapshots.{takeSnapshot, putBack};
 ghost use Rattle.deque.specs.Exports.{pairOf, answerNumber, dispatchNumber, ranNumber, readingNumber, listNumber};
 ghost use Rattle.deque.specs.Exports.{freshNumber, fedNumber, checkedNumber, byListNumber};
 ghost use Rattle.airline_list.specs.Lists.{verdict, checked};
+ghost use Rattle.table_record.specs.Coded.{recordOf};
 ghost use Rattle.machine.specs.PushByList.{pushByList};
 ghost use Rattle.machine.specs.Sheets as sheets;
 ghost use Rattle.tag_lists.specs.TagLists.{answerOf, readTags, writeTags};
@@ -170,6 +174,66 @@ pub extern "C" fn lane_begin(
         ≡ calls.begin (now (table .entry)) task lane operation side (storedOf digit low) .words ⌝ }
 {
     reply_number(begin(table, task, lane, operation, side, of_words(digit, low)))
+}
+
+// A record, and 0 or the refusal.
+struct Numbered {
+    task: Task,
+    refusal: u32,
+}
+
+// The begin by value, with numbers for what it takes and gives.
+fn begin_numbered(
+    own: Task,
+    table: &[u32],
+    task: u32,
+    lane: u32,
+    operation: u32,
+    side: u32,
+    digit: u32,
+    low: u32,
+) -> Numbered
+    ensures { λ r.
+        let one = beginLent (now (table .entry)) (recordOf own) task lane operation side (storedOf digit low) in
+        ⌜ (r .refusal ≡ replyNumber (one .reply)) × (recordOf (r .task) ≡ one .words) ⌝ }
+{
+    let b = begin_record(
+        own,
+        table,
+        task,
+        lane,
+        operation,
+        side,
+        of_words(digit, low),
+    );
+    let t = b.task;
+    let n = reply_number(b.reply);
+    Numbered {
+        task: t,
+        refusal: n,
+    }
+}
+
+// 2026-14: a begin over the record that a panel lends, to be changed where it is; 0, or the refusal. The table is only read.
+#[no_mangle]
+pub extern "C" fn lane_begin_record(
+    own: &mut Task,
+    table: &[u32],
+    task: u32,
+    lane: u32,
+    operation: u32,
+    side: u32,
+    digit: u32,
+    low: u32,
+) -> u32
+    ensures { λ r.
+        let before = recordOf (now (own .entry)) in
+        let one = beginLent (now (table .entry)) before task lane operation side (storedOf digit low) in
+        ⌜ (r ≡ replyNumber (one .reply)) × (recordOf (now (own .exit)) ≡ one .words) ⌝ }
+{
+    let b = begin_numbered(*own, table, task, lane, operation, side, digit, low);
+    *own = b.task;
+    b.refusal
 }
 
 // The kind times 2^40 plus the tag or 0; kind 7 for a refusal, with its number.

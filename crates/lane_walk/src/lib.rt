@@ -11,7 +11,7 @@ ghost use lib.Dec.{leb, eqb};
 ghost use Rattle.machine.specs.Sides.{left, right};
 ghost use Rattle.machine.specs.Values.{number, bagOk};
 ghost use Rattle.machine.specs.Table.{nodeCount, laneCount, hat, link, valueWords};
-ghost use Rattle.machine.specs.Shape.{WellFormed};
+ghost use Rattle.machine.specs.Shape.{WellLinked};
 ghost use Rattle.machine.specs.Calls.{lane};
 ghost use Rattle.lane_walk.specs.Walks.{walkOf, locatedOf};
 
@@ -31,7 +31,7 @@ pub enum Located {
 
 // The words of a node's value.
 pub fn value(table: &[u32], x: u32) -> Stored
-    requires { ⌜ WellFormed (now table) × (x < nodeCount (now table)) ⌝ }
+    requires { ⌜ WellLinked (now table) × (x < nodeCount (now table)) ⌝ }
     ensures { λ r. ⌜ r ≡ valueWords (now (table .entry)) x ⌝ }
 {
     nodes::value(nodes::part(table), x)
@@ -39,7 +39,7 @@ pub fn value(table: &[u32], x: u32) -> Stored
 
 // Whether a node holds a bag.
 fn holds_bag(table: &[u32], x: u32) -> bool
-    requires { ⌜ WellFormed (now table) × (x < nodeCount (now table)) ⌝ }
+    requires { ⌜ WellLinked (now table) × (x < nodeCount (now table)) ⌝ }
     ensures { λ r. ⌜ r ≡ bagOk (valueWords (now (table .entry)) x) ⌝ }
 {
     nodes::holds_bag(nodes::part(table), x)
@@ -47,7 +47,7 @@ fn holds_bag(table: &[u32], x: u32) -> bool
 
 // The number of a node's bag.
 fn bag(table: &[u32], x: u32) -> u64
-    requires { ⌜ WellFormed (now table) × (x < nodeCount (now table)) ⌝ }
+    requires { ⌜ WellLinked (now table) × (x < nodeCount (now table)) ⌝ }
     ensures { λ r. ⌜ r ≡ number (valueWords (now (table .entry)) x) ⌝ }
 {
     nodes::bag(nodes::part(table), x)
@@ -55,7 +55,7 @@ fn bag(table: &[u32], x: u32) -> u64
 
 // The node after a node, or none.
 pub fn next(table: &[u32], x: u32) -> u32
-    requires { ⌜ WellFormed (now table) × (x < nodeCount (now table)) ⌝ }
+    requires { ⌜ WellLinked (now table) × (x < nodeCount (now table)) ⌝ }
     ensures { λ r. ⌜ r ≡ link (now (table .entry)) right x ⌝ }
 {
     nodes::link(nodes::part(table), 1, x)
@@ -63,7 +63,7 @@ pub fn next(table: &[u32], x: u32) -> u32
 
 // The first node of a lane, or none.
 pub fn first(table: &[u32], l: u32) -> u32
-    requires { ⌜ WellFormed (now table) × (l < laneCount (now table)) ⌝ }
+    requires { ⌜ WellLinked (now table) × (l < laneCount (now table)) ⌝ }
     ensures { λ r. ⌜ r ≡ link (now (table .entry)) right (hat (now (table .entry)) l left) ⌝ }
 {
     next(table, header::hat(table, l, 0))
@@ -81,7 +81,7 @@ fn found_now(found: bool, sought: u64, bag: u64) -> bool
 
 // A lane walked for a tag that is sought. 01: link none before a slot without a bag, or S bags with no end.
 pub fn seek(table: &[u32], l: u32, sought: u64) -> Walk
-    requires { ⌜ WellFormed (now table) × (l < laneCount (now table)) ⌝ }
+    requires { ⌜ WellLinked (now table) × (l < laneCount (now table)) ⌝ }
     ensures { λ r. ⌜ r ≡ walkOf sought (lane (now (table .entry)) l) ⌝ }
 {
     let slots = header::slots(table);
@@ -114,7 +114,7 @@ fn up_to(place: usize, n: u32, node: u32, before: u32) -> u32
 
 // A lane walked to a place, from 0, and on to its end.
 pub fn locate(table: &[u32], l: u32, place: usize) -> Located
-    requires { ⌜ WellFormed (now table) × (l < laneCount (now table)) ⌝ }
+    requires { ⌜ WellLinked (now table) × (l < laneCount (now table)) ⌝ }
     ensures { λ r.
         let ws = now (table .entry) in
         ⌜ r ≡ locatedOf ws place (link ws right (hat ws l left)) (lane ws l) ⌝ }

@@ -183,3 +183,9 @@ shapeOk ws =
 pub record WellFormed (ws : List ℕ) : Type 0 where
   pub length-passes : lengthOk ws ≡ true
   pub shape-passes : shapeOk ws ≡ true
+
+-- Its length, its header and its nodes pass; its records may be anything. So much a walk along a lane relies on.
+pub record WellLinked (ws : List ℕ) : Type 0 where
+  pub length-passes : lengthOk ws ≡ true
+  pub header-passes : headerOk ws ≡ true
+  pub nodes-pass : allBelow (nodeCount ws) (nodeOk ws) ≡ true

@@ -2,6 +2,7 @@
 
 // A value as the table holds it, in a node or in a record: V and, since 2026-04, the leading digit that belongs to it. The
 // argument of a call is held the same way. Only the definitions of values and the crates of the table's words name its words.
+#[repr(C)]
 pub struct Stored {
     pub word: u32,
     pub digit: u32,

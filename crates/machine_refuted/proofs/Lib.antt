@@ -3,3 +3,4 @@ pub mod RightPasses
 pub mod Refuted
 pub mod SnapshotsRefuted
 pub mod SheetsRefuted
+pub mod LentRefuted

@@ -6,3 +6,4 @@ pub mod Judged
 pub mod Lists
 pub mod WrongSnapshots
 pub mod WrongSheets
+pub mod WrongLent

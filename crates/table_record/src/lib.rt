@@ -17,6 +17,7 @@ ghost use Rattle.table_record.specs.Coded.{
   SameCall,
 };
 
+#[repr(C)]
 pub struct Task {
     pub operation: u32,
     pub step: u32,

@@ -5,3 +5,4 @@ pub mod TableWords
 pub mod Below
 pub mod PassedTable
 pub mod FirstNode
+pub mod LentShape

@@ -27,9 +27,11 @@ ghost use Rattle.machine.specs.Shape.{
   shapeOk,
 };
 ghost use Rattle.machine.specs.Calls.{tableRefusal};
+ghost use Rattle.machine.specs.Lent.{lentTo};
 ghost use Rattle.table_layout.specs.Words.{HoldsHeader, HoldsRecord};
+ghost use Rattle.table_record.specs.Coded.{recordOf};
 ghost use Rattle.answers.specs.Refusals.{numberOf};
-ghost use Rattle.table_shape.specs.Contracts.{firstOk, hatsOk, taskOk};
+ghost use Rattle.table_shape.specs.Contracts.{firstOk, hatsOk, fitsIn, taskOk, allFrom};
 ghost use Rattle.table_steps.specs.Owners.{OwnersOk};
 
 // 02: one to four lanes.
@@ -135,35 +137,51 @@ fn nodes_ok(table: &[u32]) -> bool
     ok
 }
 
-// The record of task k.
-fn task_ok(table: &[u32], owners: &Owners, k: u32) -> bool
-    requires { ⌜ HoldsRecord (now table) k × OwnersOk (now owners) ⌝ }
-    ensures { λ r. ⌜ r ≡ taskOk (now (table .entry)) k ⌝ }
+// A record, in a table of these sizes.
+fn fits_in(table: &[u32], owners: &Owners, t: Task) -> bool
+    requires { ⌜ HoldsHeader (now table) × OwnersOk (now owners) ⌝ }
+    ensures { λ r. ⌜ r ≡ fitsIn (now (table .entry)) (recordOf t) ⌝ }
 {
     records::record_ok(
         owners,
-        task(table, k),
+        t,
         header::slots(table),
         header::growth(table),
         header::lanes(table),
     )
 }
 
-// The record of every task, in one pass.
-pub fn tasks_ok(table: &[u32]) -> bool
-    requires { ⌜ lengthOk (now table) ≡ true ⌝ }
-    ensures { λ r. ⌜ r ≡ allBelow (taskCount (now (table .entry))) (taskOk (now (table .entry))) ⌝ }
+// The record of task k.
+fn task_ok(table: &[u32], owners: &Owners, k: u32) -> bool
+    requires { ⌜ HoldsRecord (now table) k × OwnersOk (now owners) ⌝ }
+    ensures { λ r. ⌜ r ≡ taskOk (now (table .entry)) k ⌝ }
 {
-    let owners = table_steps::owners::owners();
-    let n = header::tasks(table);
-    let mut k = 0;
-    while k < n {
-        if !task_ok(table, &owners, k) {
+    fits_in(table, owners, task(table, k))
+}
+
+// The records from one task up to another, which is not among them, in one pass.
+fn range_ok(table: &[u32], owners: &Owners, from: u32, to: u32) -> bool
+    requires { ⌜ (lengthOk (now table) ≡ true) × OwnersOk (now owners) ⌝ }
+    requires { ⌜ (from ≤ to) × (to ≤ taskCount (now table)) ⌝ }
+    ensures { λ r. ⌜ r ≡ allFrom from to (taskOk (now (table .entry))) ⌝ }
+{
+    let mut k = from;
+    while k < to {
+        if !task_ok(table, owners, k) {
             return false;
         }
         k += 1;
     }
     true
+}
+
+// The record of every task.
+pub fn tasks_ok(table: &[u32]) -> bool
+    requires { ⌜ lengthOk (now table) ≡ true ⌝ }
+    ensures { λ r. ⌜ r ≡ allBelow (taskCount (now (table .entry))) (taskOk (now (table .entry))) ⌝ }
+{
+    let owners = table_steps::owners::owners();
+    range_ok(table, &owners, 0, header::tasks(table))
 }
 
 // 01's refusal 4: shape broken.
@@ -182,6 +200,48 @@ pub fn table_refusal(table: &[u32]) -> u32
         return 3;
     }
     if !shape_ok(table) {
+        return 4;
+    }
+    0
+}
+
+// 02 (2026-14): the record of every task where own stands for that of task k. A number that is no task has no place there.
+fn lent_tasks_ok(table: &[u32], k: u32, own: Task) -> bool
+    requires { ⌜ lengthOk (now table) ≡ true ⌝ }
+    ensures { λ r.
+        let ws = lentTo (now (table .entry)) k (recordOf own) in
+        ⌜ r ≡ allBelow (taskCount ws) (taskOk ws) ⌝ }
+{
+    let n = header::tasks(table);
+    if n <= k {
+        return tasks_ok(table);
+    }
+    let owners = table_steps::owners::owners();
+    if !range_ok(table, &owners, 0, k) {
+        return false;
+    }
+    if !fits_in(table, &owners, own) {
+        return false;
+    }
+    range_ok(table, &owners, k + 1, n)
+}
+
+// The shape of that table.
+fn lent_shape_ok(table: &[u32], k: u32, own: Task) -> bool
+    requires { ⌜ lengthOk (now table) ≡ true ⌝ }
+    ensures { λ r. ⌜ r ≡ shapeOk (lentTo (now (table .entry)) k (recordOf own)) ⌝ }
+{
+    header_ok(table) && nodes_ok(table) && lent_tasks_ok(table, k, own)
+}
+
+// Its refusal, or 0.
+pub fn lent_refusal(table: &[u32], k: u32, own: Task) -> u32
+    ensures { λ r. ⌜ r ≡ numberOf (tableRefusal (lentTo (now (table .entry)) k (recordOf own)) none) ⌝ }
+{
+    if !length_ok(table) {
+        return 3;
+    }
+    if !lent_shape_ok(table, k, own) {
         return 4;
     }
     0

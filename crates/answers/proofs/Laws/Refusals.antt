@@ -23,6 +23,25 @@ pub none-due : (b : Bool) {n : ℕ} {others : Option ℕ} → n ≢ 0 → NoneAt
 none-due true h others e = others e
 none-due false h others e = absurd (h e)
 
+-- Two tests decide alone where one of them fails, and leave the rest to the others where both pass.
+pub decided :
+    (a b : Bool) (m n : ℕ) (others : Option ℕ)
+    → numberOf (unless a m (unless b n none)) ≢ 0
+    → unless a m (unless b n others) ≡ some (numberOf (unless a m (unless b n none)))
+decided true true m n others h = absurd (h refl)
+decided true false m n others h = refl
+decided false b m n others h = refl
+
+pub both-pass :
+    (a b : Bool) {m n : ℕ}
+    → m ≢ 0
+    → n ≢ 0
+    → numberOf (unless a m (unless b n none)) ≡ 0
+    → (a ≡ true) × (b ≡ true)
+both-pass true true some-m some-n e = (refl, refl)
+both-pass true false some-m some-n e = absurd (some-n e)
+both-pass false b some-m some-n e = absurd (some-m e)
+
 pub refused-answer : (a : Answer) {n : ℕ} → refusalOf a ≡ some n → a ≡ Refused n
 refused-answer Going e = clash (cc)
 refused-answer Pushed e = clash (cc)

@@ -1,7 +1,8 @@
 -- `call_read::read` meets its contract: refusals 3 and 4, then `read_lane`.
 use mathlib.Core.Path.{_∙_}
 use native.Mathlib.Omega.{arith}
-use Rattle.machine.specs.Shape.{WellFormed}
+use Rattle.machine.specs.Shape.{WellLinked}
+use Rattle.machine.proofs.Shape.ShapeLaws.{well-linked}
 use Rattle.table_shape.proofs.Laws.TableWords.{header-long}
 use Rattle.table_shape.proofs.Laws.PassedTable.{table-passed}
 use Rattle.call_read.proofs.ReadLaws.{read-refused, read-no-lane, read-goes-on}
@@ -19,9 +20,10 @@ returns c =
     read-refused (a .table .now) (c .before .table-refusal .ensures) (a .l) (a .out .now) (c .if1 .taken)
 
 -- What passed.
-passes : (c : tie.Else1) → WellFormed (c .before .before .before .before .args .table .now)
+passes : (c : tie.Else1) → WellLinked (c .before .before .before .before .args .table .now)
 passes c =
-    table-passed (c .before .before .before .before .args .table .now) (c .before .table-refusal .ensures) (c .if1 .left)
+    let ws = c .before .before .before .before .args .table .now in
+    well-linked ws (table-passed ws (c .before .table-refusal .ensures) (c .if1 .left))
 
 lanes-requires : tie.Need-lanes-requires
 lanes-requires c κs = header-long (c .before .before .before .before .args .table .now) (passes c .length-passes)

@@ -2,7 +2,8 @@
 use mathlib.Core.Path.{_∙_}
 use native.Mathlib.Omega.{arith}
 use borrow.Author.Needs.{needs}
-use Rattle.machine.specs.Shape.{WellFormed}
+use Rattle.machine.specs.Shape.{WellLinked}
+use Rattle.machine.proofs.Shape.ShapeLaws.{well-linked}
 use Rattle.table_shape.proofs.Laws.TableWords.{header-long}
 use Rattle.table_shape.proofs.Laws.PassedTable.{table-passed}
 use Rattle.call_sheet.proofs.Laws.Refused.{sheet-refused, sheet-no-lane, sheet-goes-on}
@@ -21,8 +22,10 @@ returns c =
     sheet-refused (a .table .now) (c .before .table-refusal .ensures) (a .l) (a .page) (a .out .now) (c .if1 .taken)
 
 -- What passed.
-passes : (c : tie.Else1) → WellFormed (start (c .before) .args .table .now)
-passes c = table-passed (start (c .before) .args .table .now) (c .before .table-refusal .ensures) (c .if1 .left)
+passes : (c : tie.Else1) → WellLinked (start (c .before) .args .table .now)
+passes c =
+    let ws = start (c .before) .args .table .now in
+    well-linked ws (table-passed ws (c .before .table-refusal .ensures) (c .if1 .left))
 
 lanes-requires : tie.Need-lanes-requires
 lanes-requires c κs = header-long (start (c .before) .args .table .now) (passes c .length-passes)

@@ -14,8 +14,9 @@ use Rattle.machine.specs.Calls.{laneFrom, lane}
 use Rattle.machine.proofs.Basics.Choices.{if-yes, if-no}
 use Rattle.machine.proofs.Basics.Contradiction.{clash}
 use Rattle.machine.proofs.Words.ValueLaws.{decoded-bag, never-has-word}
+use Rattle.machine.proofs.Words.LaneLaws.{atValue}
 use Rattle.lane_walk.specs.Walks.{ahead, countOf}
-use Rattle.lane_walk.proofs.Laws.Turns.{atValue, after, no-turn, no-node, at-node}
+use Rattle.lane_walk.proofs.Laws.Turns.{after, no-turn, no-node, at-node}
 
 -- A lane is what is ahead of its first node.
 pub lane-ahead : (ws : List ℕ) (l : ℕ) {x : ℕ} → x ≡ link ws right (hat ws l left) → ahead ws x ≡ lane ws l

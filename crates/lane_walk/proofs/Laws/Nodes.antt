@@ -1,23 +1,23 @@
--- A table that has passed the tests of refusals 3 and 4: its nodes as the code reads them, and where the walk may be.
+-- A table whose length, header and nodes pass: its nodes as the code reads them, and where the walk may be.
 use mathlib.Core.Path.{_≡_, sym, ap, _∙_, subst}
 use mathlib.Core.List.{List}
 use Prim.Native.Nat.{ℕ, _<_}
 use native.Mathlib.Omega.{arith}
 use Rattle.machine.specs.Sides.{left, right}
 use Rattle.machine.specs.Table.{nodeCount, laneCount, mostLanes, hat, nodePart, link, valueWords}
-use Rattle.machine.specs.Shape.{WellFormed, sizesOf, WellSized}
+use Rattle.machine.specs.Shape.{WellLinked, sizesOf, WellSized}
 use Rattle.machine.proofs.Words.Columns.{columns}
 use Rattle.machine.proofs.Shape.BusyLaws.{NodeOrNone}
-use Rattle.machine.proofs.Shape.ShapeLaws.{WellShaped, well-sized, well-shaped}
+use Rattle.machine.proofs.Shape.ShapeLaws.{LinkShaped, well-sized, link-shaped}
 use Rattle.table_layout.specs.Words.{HoldsHeader, HoldsNodes, HoldsNode, linkIn, storedIn}
 use Rattle.table_layout.proofs.Laws.Views.{node-held, words-in, link-in}
 
-module _ (ws : List ℕ) (P : WellFormed ws) where
+module _ (ws : List ℕ) (P : WellLinked ws) where
   sizes : WellSized (sizesOf ws)
   sizes = well-sized ws (P .length-passes)
 
-  shape : WellShaped (columns ws)
-  shape = well-shaped ws (P .length-passes) (P .shape-passes)
+  shape : LinkShaped (columns ws)
+  shape = link-shaped ws P
 
   pub nodes-room : HoldsNodes ws
   nodes-room = omega (arith, sizes .sized)

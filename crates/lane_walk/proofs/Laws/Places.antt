@@ -20,9 +20,10 @@ use Rattle.machine.specs.Tasks.{noNode}
 use Rattle.machine.specs.Table.{nodeCount, hat, link, value, valueWords}
 use Rattle.machine.specs.Calls.{laneFrom, lane}
 use Rattle.machine.proofs.Basics.Contradiction.{clash}
+use Rattle.machine.proofs.Words.LaneLaws.{atValue}
 use Rattle.lane_walk.specs.declared.Located.the-variants.{Node, NoEnd}
 use Rattle.lane_walk.specs.Walks.{ahead, countOf, nodeAfter, locatedOf}
-use Rattle.lane_walk.proofs.Laws.Turns.{atValue, after, no-turn, no-node, at-node, no-bag, one-bag}
+use Rattle.lane_walk.proofs.Laws.Turns.{after, no-turn, no-node, at-node, no-bag, one-bag}
 use Rattle.lane_walk.proofs.Laws.Ahead.{BagAhead, bag-ahead}
 
 -- ---- The loop that counts.

@@ -13,18 +13,8 @@ use Rattle.machine.specs.Table.{nodeCount, link, value, valueWords}
 use Rattle.machine.specs.Calls.{laneFrom}
 use Rattle.machine.proofs.Basics.Choices.{equal, unequal, if-yes}
 use Rattle.machine.proofs.Basics.Contradiction.{clash}
+use Rattle.machine.proofs.Words.LaneLaws.{atValue}
 use Rattle.machine.proofs.Words.ValueLaws.{bag-decoded, decoded-bag}
-
--- The walk at a node that holds v, by the walk after it.
-abbrev pub atValue : Value → Option (List ℕ) → Option (List ℕ)
-atValue v rest =
-    elim v as (λ _. Option (List ℕ)) [
-      | never ↦ some []
-      | bag b ↦ Option·map (_∷_ b) rest
-      | N s ↦ some []
-      | X s ↦ some []
-      | Y s ↦ some []
-    ]
 
 module _ (ws : List ℕ) where
   -- The walk after node x, in n nodes at most.

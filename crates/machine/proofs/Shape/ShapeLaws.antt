@@ -33,9 +33,12 @@ use Rattle.machine.specs.Shape.{
   allBelow,
   nodeOrNone,
   hatOk,
+  headerOk,
   nodeOk,
   recordOk,
   shapeOk,
+  WellFormed,
+  WellLinked,
   Sizes,
   sizesOf,
   Sized,
@@ -156,6 +159,12 @@ pub record WellShaped (c : Columns) : Type 0 where
   pub records-ok : (k : ℕ)
       → recordOk (c .sizes .nodeCount) (c .sizes .growth) (c .sizes .laneCount) (c .records k) ≡ true
 
+-- The hats and the nodes alone.
+pub record LinkShaped (c : Columns) : Type 0 where
+  pub hats-ok : (l : ℕ) (s : Side) → HatFits (c .sizes .nodeCount) (c .sizes .laneCount) l (c .hats l s)
+  pub links-ok : (s : Side) (x : ℕ) → NodeOrNone (c .sizes .nodeCount) (c .links s x)
+  pub values-ok : (x : ℕ) → valueOk (c .values x) ≡ true
+
 -- A column holds to a property where its function does below the bound, and the other value does.
 column-all :
     {T : Type 0} (P : T → Type 0) (n : ℕ) (other : T) (f : ℕ → T)
@@ -214,19 +223,41 @@ module _ (ws : List ℕ) where
       go (yes q) = hat-fits l s (both s (below-all mostLanes hats-test h l q))
       go (no q) = record { used = λ p. absurd (omega arith); unused = λ p. refl }
 
+  pub well-linked : WellFormed ws → WellLinked ws
+  unfolding shapeOk
+  well-linked P =
+      let h = P .shape-passes in
+      let header : headerOk ws ≡ true = search (and-left, and-right) in
+      let nodes : allBelow (nodeCount ws) (nodeOk ws) ≡ true = search (and-left, and-right) in
+      record { length-passes = P .length-passes; header-passes = header; nodes-pass = nodes }
+
+  pub link-shaped : WellLinked ws → LinkShaped (columns ws)
+  unfolding link hats-test
+  link-shaped P =
+      let S = nodeCount ws in
+      let h = P .header-passes in
+      let hats : allBelow mostLanes hats-test ≡ true = search (and-left, and-right) depth 6 in
+      let node = below-all S (nodeOk ws) (P .nodes-pass) in
+      record {
+        hats-ok = hats-fit (well-sized ws (P .length-passes) .most-lanes) hats;
+        links-ok =
+            λ s.
+            column-all (NodeOrNone S) S noNode (linkWord ws s) (λ n. absurd (n refl)) (λ x l. node-links x (node x l) s);
+        values-ok =
+            column-all (λ u. valueOk u ≡ true) S (encode never) (valueWords ws) refl (λ x l. node-value x (node x l));
+      }
+
   pub well-shaped : lengthOk ws ≡ true → shapeOk ws ≡ true → WellShaped (columns ws)
-  unfolding shapeOk record-test link hats-test
+  unfolding shapeOk record-test
   well-shaped length-passes h =
       let S = nodeCount ws in
       let T = taskCount ws in
       let L = laneCount ws in
-      let hats : allBelow mostLanes hats-test ≡ true = search (and-left, and-right) depth 6 in
-      let nodes : allBelow S (nodeOk ws) ≡ true = search (and-left, and-right) in
+      let linked = link-shaped (well-linked (record { length-passes = length-passes; shape-passes = h })) in
       let records : allBelow T record-test ≡ true = search (and-left, and-right) in
       let a : ltb (dispatched ws) T ≡ true = search (and-left, and-right) depth 6 in
       let b : eqb (word14 ws) 0 ≡ true = search (and-left, and-right) depth 6 in
       let c : eqb (word15 ws) 0 ≡ true = search (and-left, and-right) depth 6 in
-      let node = below-all S (nodeOk ws) nodes in
       record {
         counts-ok =
             record {
@@ -234,12 +265,9 @@ module _ (ws : List ℕ) where
               word14-zero = eqb-true (word14 ws) 0 b;
               word15-zero = eqb-true (word15 ws) 0 c;
             };
-        hats-ok = hats-fit (well-sized ws length-passes .most-lanes) hats;
-        links-ok =
-            λ s.
-            column-all (NodeOrNone S) S noNode (linkWord ws s) (λ n. absurd (n refl)) (λ x l. node-links x (node x l) s);
-        values-ok =
-            column-all (λ u. valueOk u ≡ true) S (encode never) (valueWords ws) refl (λ x l. node-value x (node x l));
+        hats-ok = linked .hats-ok;
+        links-ok = linked .links-ok;
+        values-ok = linked .values-ok;
         records-ok =
             column-all (λ r. recordOk S (growth ws) L r ≡ true) T (wordsOf fresh) (recordWords ws)
             (record-of-fresh S (growth ws) L) (below-all T record-test records);

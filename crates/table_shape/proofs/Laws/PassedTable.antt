@@ -1,6 +1,5 @@
 -- Refusals 3 and 4 by their number, which every call but start begins with; and what a table that passes gives the code.
-use mathlib.Core.Path.{_≡_, refl, sym, ap, _∙_}
-use mathlib.Core.Bool.{Bool, true, false}
+use mathlib.Core.Path.{_≡_, sym, ap, _∙_}
 use mathlib.Core.Logic.{_≢_}
 use mathlib.Core.List.{List}
 use mathlib.Core.Option.{Option, some, none}
@@ -11,33 +10,21 @@ use Rattle.machine.specs.Operations.{operationOf}
 use Rattle.machine.specs.Tasks.{Task, operationWord, taskOf}
 use Rattle.machine.specs.Table.{nodeCount, taskCount, recordWords, task}
 use Rattle.machine.specs.Shape.{lengthOk, shapeOk, WellFormed, sizesOf, WellSized}
-use Rattle.machine.specs.Calls.{unless, tableRefusal}
+use Rattle.machine.specs.Calls.{tableRefusal}
 use Rattle.machine.proofs.Basics.Choices.{if-yes}
 use Rattle.machine.proofs.Shape.ShapeLaws.{well-sized}
 use Rattle.answers.specs.Refusals.{numberOf}
-
--- The first two tests decide alone where one of them fails, and leave the rest to the others where both pass.
-decided :
-    (a b : Bool) (others : Option ℕ)
-    → numberOf (unless a 3 (unless b 4 none)) ≢ 0
-    → unless a 3 (unless b 4 others) ≡ some (numberOf (unless a 3 (unless b 4 none)))
-decided true true others n = absurd (n refl)
-decided true false others n = refl
-decided false b others n = refl
-
-both-pass : (a b : Bool) → numberOf (unless a 3 (unless b 4 none)) ≡ 0 → (a ≡ true) × (b ≡ true)
-both-pass true true e = (refl, refl)
-both-pass true false e = absurd (omega (arith, e))
-both-pass false b e = absurd (omega (arith, e))
+use Rattle.answers.proofs.Laws.Refusals.{decided, both-pass}
 
 module _ (ws : List ℕ) {n : ℕ} (is-number : n ≡ numberOf (tableRefusal ws none)) where
   pub refused : n ≢ 0 → (others : Option ℕ) → tableRefusal ws others ≡ some n
   refused h others =
-      decided (lengthOk ws) (shapeOk ws) others (λ e. h (is-number ∙ e)) ∙ ap some (sym is-number)
+      decided (lengthOk ws) (shapeOk ws) 3 4 others (λ e. h (is-number ∙ e)) ∙ ap some (sym is-number)
 
   pub table-passed : n ≡ 0 → WellFormed ws
   table-passed e =
-      let both = both-pass (lengthOk ws) (shapeOk ws) (sym is-number ∙ e) in
+      let both =
+      both-pass (lengthOk ws) (shapeOk ws) (λ z. absurd (omega (arith, z))) (λ z. absurd (omega (arith, z))) (sym is-number ∙ e) in
       record { length-passes = both .0; shape-passes = both .1 }
 
 -- ---- Its sizes, and a task's record.

@@ -1,0 +1,36 @@
+-- `deque::begin_numbered` meets its contract: the number and the record of `begin_record`.
+use mathlib.Core.Path.{ap, _∙_}
+use Rattle.machine.specs.declared.Stored.{Stored}
+use Rattle.machine.specs.Answers.{replyNumber}
+use Rattle.machine.specs.Calls.{Changed}
+use Rattle.machine.specs.Lent.{beginLent}
+use Rattle.table_record.specs.Coded.{recordOf}
+use borrow.Author.Needs.{needs}
+use Rattle.deque.proofs.begin_numbered.Statement.{statement}
+use Rattle.deque.proofs.begin_numbered.Tie as tie
+
+of-words-requires : tie.Need-of-words-requires
+of-words-requires c κs = search needs
+
+begin-record-requires : tie.Need-begin-record-requires
+begin-record-requires c κs = search needs
+
+reply-number-requires : tie.Need-reply-number-requires
+reply-number-requires c κs = search needs
+
+returns : tie.Need-returns
+returns c =
+    let b = c .before in
+    let w = b .before in
+    let a = w .before .before .args in
+    let e =
+    b .begin-record .ensures
+    ∙ ap (λ (u : Stored). beginLent (a .table .now) (recordOf (a .own)) (a .task) (a .lane) (a .operation) (a .side) u)
+    (w .of-words .ensures) in (
+      c .reply-number .ensures ∙ ap (λ (d : Changed). replyNumber (d .reply)) e,
+      ap (λ (d : Changed). d .words) e,
+    )
+
+pub begin-numbered-spec : {M : Type 1} → statement M
+begin-numbered-spec =
+    tie.close (tie.spec of-words-requires begin-record-requires reply-number-requires returns)
