@@ -11,6 +11,7 @@ use Rattle.machine.specs.declared.Reply.{Reply}
 use Rattle.machine.specs.declared.Reply.the-variants.{Accepted, Refused}
 use Rattle.machine.specs.declared.Stored.{Stored}
 use Rattle.machine.specs.Sides.{right, sideNumber, sideOf}
+use Rattle.machine.specs.Choice.{_≟_, if_then_else_}
 use Rattle.machine.specs.Values.{stored, number}
 use Rattle.machine.specs.Operations.{Operation, push, pop, operationNumber, operationOf}
 use Rattle.machine.specs.Tasks.{fresh, recordLength, wordsOf}
@@ -204,6 +205,28 @@ notesAtBegin =
 abbrev pub copyUnnoted : Feeding
 copyUnnoted = record { at-begin = feedsBegin; at-copy = λ κ k words. κ }
 
+-- It clears the notes of the other tasks.
+abbrev aloneNoted : (k : ℕ) → Option Row → Option Row
+aloneNoted k none = none
+aloneNoted k (some ρ) =
+    some
+    (record {
+      lanes = ρ .lanes;
+      bags = ρ .bags;
+      notes = λ j. if j ≟ k then ρ .notes j else none;
+      tasks = ρ .tasks;
+      dispatched = ρ .dispatched;
+    })
+
+abbrev pub copyClearsOthers : Feeding
+copyClearsOthers =
+    record {
+      at-begin = feedsBegin;
+      at-copy = λ κ k words.
+          let copied = feedsCopy κ k words in
+          record { row = aloneNoted k (copied .row); kept = copied .kept; pending = copied .pending };
+    }
+
 -- ---- The lists.
 pub record Entry : Type 0 where
   pub feeds : Feeding
@@ -243,12 +266,15 @@ lendsFresh op argument = lends (wordsOf fresh) refl (numbers op argument)
 abbrev ticks : Action
 ticks = calls (tick-call 0 0)
 
+abbrev ticksOther : Action
+ticksOther = calls (tick-call 1 0)
+
 abbrev dispatches : Action
 dispatches = calls (dispatch-call 0)
 
 abbrev pub entries : List Entry
 entries =
-    -- The push is in the table before it is copied, and a dispatch finds it there.
+    -- Wrong: 2026-14: a begin over a lent record writes it into the table too, and a dispatch finds it there.
     record {
       feeds = rightFeeding;
       wrong = writesTable;
@@ -257,7 +283,7 @@ entries =
       row-says = not-the-row's-answer 3;
       definitions-say = other-table 2;
     }
-    -- The task pops in the table, and the lent record is fresh.
+    -- Wrong: 2026-14: the table's own words are tested, and not the record: the task pops in the table, and the lent record is fresh.
     ∷ record {
       feeds = rightFeeding;
       wrong = testsTable;
@@ -266,7 +292,7 @@ entries =
       row-says = passes;
       definitions-say = other-answer 3;
     }
-    -- The lent record is busy: 8.
+    -- Wrong: 2026-14: a refusal, 8 of a busy record, leaves a fresh one.
     ∷ record {
       feeds = rightFeeding;
       wrong = refusalClears;
@@ -275,7 +301,7 @@ entries =
       row-says = not-the-row's-answer 2;
       definitions-say = other-answer 2;
     }
-    -- The right machine: nothing was copied, and a dispatch answers "idle".
+    -- Wrong: 2026-14: the begin sets the note, though nothing was copied and a dispatch answers "idle".
     ∷ record {
       feeds = notesAtBegin;
       wrong = rightLending;
@@ -284,13 +310,22 @@ entries =
       row-says = not-the-row's-answer 3;
       definitions-say = passes;
     }
-    -- The right machine: the push was copied, and a tick goes on with it.
+    -- Wrong: 2026-14: a copy leaves the notes, though a tick goes on with the push that was copied.
     ∷ record {
       feeds = copyUnnoted;
       wrong = rightLending;
       words = 37;
       actions = starts 2 1 ∷ lendsFresh push 51 ∷ copies 0 ∷ ticks ∷ [];
       row-says = not-the-row's-answer 4;
+      definitions-say = passes;
+    }
+    -- Wrong: 2026-14: a copy to task 0 clears the note of task 1, whose pop goes on.
+    ∷ record {
+      feeds = copyClearsOthers;
+      wrong = rightLending;
+      words = 50;
+      actions = starts 2 2 ∷ begins 1 pop 0 ∷ lendsFresh push 51 ∷ copies 0 ∷ ticksOther ∷ [];
+      row-says = not-the-row's-answer 5;
       definitions-say = passes;
     }
     ∷ []
