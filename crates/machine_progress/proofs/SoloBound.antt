@@ -16,6 +16,7 @@ pub mod LinesSpend
 pub mod AtFirst
 -- Tables of words: every call keeps the walks ending; a tick; the theorem.
 pub mod BegunEnds
+pub mod Led
 pub mod EndsOrGoes
 pub mod SoloTick
 pub mod Theorem

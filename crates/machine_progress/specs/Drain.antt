@@ -11,6 +11,7 @@ use Rattle.machine.specs.Answers.{endsCall}
 use Rattle.machine.specs.Table.{nodeCount, taskCount, laneCount}
 use Rattle.machine.specs.Calls.{isBusyTask, dispatch}
 use Rattle.machine.specs.Begun.{Begun}
+use Rattle.machine.specs.Events.{Always, everyCopy}
 use Rattle.machine_progress.specs.Solo.{HintsBelow}
 use Rattle.machine_progress.specs.LockFree.{tooManyTicks}
 
@@ -44,14 +45,15 @@ pub data Drained : (n : ℕ) (hints ws : List ℕ) → Type 0 where
 
 -- From any table that start and our calls can reach, with any hints below S: so many dispatches come to "idle", and by
 -- then each task that was in a call has answered.
-abbrev pub DrainsBy : (enough : (ws : List ℕ) → ℕ → Type 0) → Type 0
-DrainsBy enough =
-    (ws : List ℕ)
-    → Begun ws
-    → (hints : List ℕ)
+abbrev pub DrainsByAt : (enough : (ws : List ℕ) → ℕ → Type 0) → List ℕ → Type 0
+DrainsByAt enough ws =
+    (hints : List ℕ)
     → HintsBelow (nodeCount ws) hints
     → enough ws (length hints)
     → Drained (busyTasks ws) hints ws
+
+abbrev pub DrainsBy : (enough : (ws : List ℕ) → ℕ → Type 0) → Type 0
+DrainsBy enough = (ws : List ℕ) → Begun ws → DrainsByAt enough ws
 
 -- T times the ticks of lock-freedom are enough.
 abbrev pub Drains : Type 0
@@ -73,3 +75,10 @@ drainTicks S T lanes (suc (suc b)) = busyTicks S T lanes (suc (suc b)) + drainTi
 abbrev pub DrainsCloser : Type 0
 DrainsCloser =
     DrainsBy (λ ws n. drainTicks (nodeCount ws) (taskCount ws) (laneCount ws) (busyTasks ws) < n)
+
+-- 2026-14: and so at every place of a list of events at which a row is known, whatever pending records were copied, also over
+-- busy tasks.
+abbrev pub DrainsWhereKnown : Type 0
+DrainsWhereKnown =
+    Always everyCopy (λ ws ρ.
+    DrainsByAt (λ vs n. drainTicks (nodeCount vs) (taskCount vs) (laneCount vs) (busyTasks vs) < n) ws)

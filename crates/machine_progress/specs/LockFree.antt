@@ -11,6 +11,7 @@ use Rattle.machine.specs.Table.{nodeCount, taskCount, laneCount, task}
 use Rattle.machine.specs.Calls.{isBusy, begin, tick, dispatch}
 use Rattle.machine.specs.Begun.{Begun}
 use Rattle.machine.specs.Answers.{endsCall}
+use Rattle.machine.specs.Events.{Always, everyCopy}
 
 -- ---- No long stretch without an answer.
 
@@ -70,6 +71,16 @@ LockFree =
     → (n : ℕ) (moves : List Move)
     → AnswerFree n moves ws
     → n < tooManyTicks (nodeCount ws) (taskCount ws) (laneCount ws)
+
+-- 2026-14: and so at every place of a list of events at which a row is known, whatever pending records were copied, also over
+-- busy tasks. A copy begins a new stretch, as a start or a snapshot put back does: it is no `Move`. (With copies among the
+-- ticks there is no bound: `CopiesPutOff.CopiesPutOff`.)
+abbrev pub LockFreeWhereKnown : Type 0
+LockFreeWhereKnown =
+    Always everyCopy (λ ws ρ.
+    (n : ℕ) (moves : List Move)
+    → AnswerFree n moves ws
+    → n < tooManyTicks (nodeCount ws) (taskCount ws) (laneCount ws))
 
 -- ---- The same, as what a schedule of ticks comes to.
 

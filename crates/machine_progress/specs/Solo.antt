@@ -12,7 +12,7 @@ use Rattle.machine.specs.Table.{nodeCount, task}
 use Rattle.machine.specs.Calls.{isBusy, tick, nextBusy, dispatch}
 use Rattle.machine.specs.Demand3.{Call, after}
 use Rattle.machine.specs.Begun.{Begun}
-use Rattle.machine.specs.Events.{Always, copiedOverIdle}
+use Rattle.machine.specs.Events.{Always, everyCopy}
 
 -- What is done while a task alone gets ticks: a tick of it, a dispatch, or a call that leaves every word, as reads and
 -- refused calls do. (A run of ticks is the ticks, and consecutive dispatches are dispatches.)
@@ -84,10 +84,11 @@ AnswersWithin bound = (ws : List ℕ) → Begun ws → AnswersWithinAt bound ws
 abbrev pub SoloBound : Type 0
 SoloBound = AnswersWithin (λ S. 8 * S + 400)
 
--- 2026-10: and so at every place of a list of events at which a row is known and copies were to idle places. The ticks are
--- counted with no snapshot put back and no record copied between them: `AnswersAlone` has none.
+-- 2026-10, 2026-14: and so at every place of a list of events at which a row is known, whatever pending records were copied,
+-- also over busy tasks. The ticks are counted with no snapshot put back and no record copied between them: `AnswersAlone` has
+-- none.
 abbrev pub SoloBoundWhereKnown : Type 0
-SoloBoundWhereKnown = Always copiedOverIdle (λ ws ρ. AnswersWithinAt (λ S. 8 * S + 400) ws)
+SoloBoundWhereKnown = Always everyCopy (λ ws ρ. AnswersWithinAt (λ S. 8 * S + 400) ws)
 
 -- Within 4S + 154: a remove takes four ticks for each node that it cuts off, a push or an add two for each node on its
 -- way, twice; 154 covers a growth of 64 and a round with registers that were read before the others stopped.

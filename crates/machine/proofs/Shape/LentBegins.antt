@@ -154,7 +154,7 @@ module _ (ws lent : List ℕ) (k l op side : ℕ) (argument : Stored) where
           sym (lent-accepted ws lent k l op side argument e sized (is-task-here (B .fits)))
 
   module _ (accepted : given .reply ≡ Accepted) where
-    pub none-met : tested ≡ none
+    none-met : tested ≡ none
     none-met = go tested refl
       where
         go : (r : Option ℕ) → tested ≡ r → tested ≡ none
@@ -196,7 +196,7 @@ module _ (ws lent : List ℕ) (k l op side : ℕ) (argument : Stored) where
           idle-record (nodeCount ws) (growth ws) (laneCount ws) lent ok
           (ap (λ (t : Task). isIdle (t .operation)) (sym own) ∙ was-idle)
 
-      pub as-left-off : lentTo ws k lent ≡ leftOff
+      as-left-off : lentTo ws k lent ≡ leftOff
       as-left-off =
           in-place ws k lent (lent-fits .is-task) ∙ ap (λ (r : List ℕ). setRecord k r ws) lent-fresh
 

@@ -49,6 +49,7 @@ use Rattle.machine_capacity.specs.Alone.{
 use Rattle.machine.proofs.Basics.Contradiction.{clash, refute}
 use Rattle.machine.proofs.Shape.ShapeKept.{begin-allowed}
 use Rattle.machine.proofs.Linearizability.Corollaries.{begun-agrees}
+use Rattle.machine_progress.proofs.SoloBound.Led.{begun-led}
 use Rattle.machine_progress.proofs.SoloBound.Theorem.{answers-alone, hints-alone, own-hints}
 use Rattle.machine_capacity.proofs.Alone.Ends.{spur-by-hat, idle-end}
 use Rattle.machine_capacity.proofs.Alone.Runs.{begun-table, begun-at, call-leads}
@@ -246,7 +247,7 @@ module _ (op : Operation) {ws : List ℕ} (B : Begun ws) (idle-now : Idle ws) (k
       let P = begun-at B idle-now k ℓ op s v accepted in
       let same = begun-table B idle-now k ℓ op s v accepted .same-nodes in
       to-answer k
-      (answers-alone us (P .begun) k
+      (answers-alone us (begun-led (P .begun)) k
       (ap (λ (t : Task). isBusy (t .operation)) (P .own) ∙ busy-operation op not-idle) (map own-tick hints)
       (omega (arith, own-hints hints))
       (hints-alone hints us (begun-agrees (P .begun) .1 .accepted) k

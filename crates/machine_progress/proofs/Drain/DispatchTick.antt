@@ -26,7 +26,6 @@ use Rattle.machine.specs.Calls.{
   dispatchOn,
   dispatch,
 }
-use Rattle.machine.specs.Begun.{Begun}
 use Rattle.machine_progress.specs.Drain.{busyBelow, busyTasks}
 use Rattle.machine.proofs.Basics.Contradiction.{clash, equal?}
 use Rattle.machine.proofs.Basics.Rounds.{finds-next}
@@ -38,7 +37,7 @@ use Rattle.machine.proofs.Shape.DispatchCases.{chosen-busy}
 use Rattle.machine.proofs.Linearizability.Model.Invariant.{Kept, goes-on, has-answered}
 use Rattle.machine.proofs.Linearizability.Calls.Agreement.{Agrees}
 use Rattle.machine.proofs.Linearizability.Calls.MadeTicks.{effect-made, keeps-invariant}
-use Rattle.machine.proofs.Linearizability.Corollaries.{begun-agrees, ticked-sized}
+use Rattle.machine.proofs.Linearizability.Corollaries.{ticked-sized}
 use Rattle.machine.proofs.Linearizability.Begun.TableAfter.{
   own-after,
   other-after,
@@ -47,6 +46,7 @@ use Rattle.machine.proofs.Linearizability.Begun.TableAfter.{
   lanes-after,
   own-busy,
 }
+use Rattle.machine_progress.proofs.SoloBound.Led.{Led}
 use Rattle.machine_progress.proofs.SoloBound.AtFirst.{most}
 use Rattle.machine_progress.proofs.LockFree.Potential.{Potential, Falls, ticks-fall, disturbances-fall, potential-falls}
 use Rattle.machine_progress.proofs.LockFree.DispatchKeeps.{
@@ -80,9 +80,9 @@ abbrev pub allowsOf : (S T b i D P : ℕ) → ℕ
 allowsOf S T b i D P = (D - i * suc T) * suc (b * most 2 S) + (P - i * most 2 S)
 
 -- ---- A dispatch with a hint below S.
-module _ {ws : List ℕ} (X : Begun ws) (h : ℕ) (low : h < nodeCount ws) where
-  A : Agrees ws (begun-agrees X .0)
-  A = begun-agrees X .1
+module _ {ws : List ℕ} (X : Led ws) (h : ℕ) (low : h < nodeCount ws) where
+  A : Agrees ws (X .row)
+  A = X .agrees
 
   hint-passes : dispatchRefusal ws h ≡ none
   hint-passes = rw (A .accepted .length-passes, A .accepted .shape-passes, lt-ltb h (nodeCount ws) low) refl
@@ -126,15 +126,15 @@ module _ {ws : List ℕ} (X : Begun ws) (h : ℕ) (low : h < nodeCount ws) where
           (ticked k e (busy-passes ws k h (chosen-busy ws (A .accepted) h e) low) (refusalOf (tickOn ws k h .answer)) refl)
 
 -- ---- The table after the tick of a dispatch.
-module _ {ws : List ℕ} (X : Begun ws) (k h : ℕ) (p : tickRefusal ws k h ≡ none) where
+module _ {ws : List ℕ} (X : Led ws) (k h : ℕ) (p : tickRefusal ws k h ≡ none) where
   abbrev us : List ℕ
   us = tickOn ws k h .words
 
   abbrev vs : List ℕ
   vs = setDispatched k (tickOn ws k h .words)
 
-  agrees : Agrees ws (begun-agrees X .0)
-  agrees = begun-agrees X .1
+  agrees : Agrees ws (X .row)
+  agrees = X .agrees
 
   pub nodes-then : nodeCount vs ≡ nodeCount ws
   nodes-then = dispatched-nodes us (ticked-sized agrees k h) k ∙ nodes-after agrees k h p

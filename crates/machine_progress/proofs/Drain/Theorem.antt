@@ -13,7 +13,6 @@ use Rattle.machine.specs.Table.{nodeCount, taskCount, laneCount, setDispatched}
 use Rattle.machine.specs.Answers.{endsCall}
 use Rattle.machine.specs.Calls.{isBusyTask, tickRefusal, effectOf, tickOn, dispatch}
 use Rattle.machine.specs.Demand3.{dispatch-call}
-use Rattle.machine.specs.Begun.{Begun, by-call}
 use Rattle.machine_progress.specs.Solo.{HintsBelow}
 use Rattle.machine_progress.specs.LockFree.{tooManyTicks}
 use Rattle.machine_progress.specs.Drain.{
@@ -25,14 +24,16 @@ use Rattle.machine_progress.specs.Drain.{
   Drains,
   busyTicks,
   drainTicks,
+  DrainsByAt,
   DrainsCloser,
+  DrainsWhereKnown,
 }
 use Rattle.machine.proofs.Basics.Contradiction.{refute}
 use Rattle.machine.proofs.Words.TickLaws.{tick-answer}
 use Rattle.machine.proofs.Shape.ShapeLaws.{well-sized}
 use Rattle.machine.proofs.Shape.TickKeeps.{tick-allowed, busy-is-task}
 use Rattle.machine.proofs.Linearizability.Calls.MadeTicks.{effect-made}
-use Rattle.machine.proofs.Linearizability.Corollaries.{begun-agrees}
+use Rattle.machine_progress.proofs.SoloBound.Led.{Led, begun-led, led-call, where-led}
 use Rattle.machine_progress.proofs.SoloBound.AtFirst.{most}
 use Rattle.machine_progress.proofs.SoloBound.EndsOrGoes.{by-answer}
 use Rattle.machine_progress.proofs.LockFree.Potential.{Potential, potential-first}
@@ -69,7 +70,7 @@ data Ready (ws : List ℕ) (left : ℕ) : (n : ℕ) → Type 0 where
       → Ready ws left (suc (suc c))
 
 -- At first, and after each answer.
-ready-first : {ws : List ℕ} → Begun ws → (n left : ℕ) → busyTasks ws ≡ n
+ready-first : {ws : List ℕ} → Led ws → (n left : ℕ) → busyTasks ws ≡ n
     → drainTicks (nodeCount ws) (taskCount ws) (laneCount ws) n < left
     → Ready ws left n
 ready-first {ws} X zero left many enough = all-idle (omega arith)
@@ -84,7 +85,7 @@ ready-first {ws} X (suc (suc c)) left many enough =
     let few = busy-most ws T in
     let i : ℕ = T - suc (suc c) in
     let count : suc (suc c) + i ≡ T = omega arith in
-    let some-task = well-sized ws (begun-agrees X .1 .accepted .length-passes) .one-task in
+    let some-task = well-sized ws (X .agrees .accepted .length-passes) .one-task in
     let first = allowed-first S T L (suc (suc c)) i count in
     several c i (T * suc T + L * 2) (T * most 2 S) count (potential-first X some-task) (omega arith)
 
@@ -97,7 +98,7 @@ Others hints ws =
     → Ready ws (length hints) n
     → Drained n hints ws
 
-module _ {ws : List ℕ} (X : Begun ws) (h : ℕ) (hints : List ℕ) (low : h < nodeCount ws)
+module _ {ws : List ℕ} (X : Led ws) (h : ℕ) (hints : List ℕ) (low : h < nodeCount ws)
     (lows : HintsBelow (nodeCount ws) hints) (others : Others hints (dispatch ws h .words)) where
   -- The tick of a busy task.
   module _ (k : ℕ) (p : tickRefusal ws k h ≡ none)
@@ -106,8 +107,8 @@ module _ {ws : List ℕ} (X : Begun ws) (h : ℕ) (hints : List ℕ) (low : h < 
     abbrev then : List ℕ
     then = setDispatched k (tickOn ws k h .words)
 
-    begun-then : Begun then
-    begun-then = subst Begun leaves (by-call X (dispatch-call h))
+    led-then : Led then
+    led-then = subst Led leaves (led-call X (dispatch-call h))
 
     drained-then : (n : ℕ) → busyTasks then ≡ n → Ready then (length hints) n → Drained n hints (dispatch ws h .words)
     drained-then n many ready =
@@ -176,7 +177,7 @@ module _ {ws : List ℕ} (X : Begun ws) (h : ℕ) (hints : List ℕ) (low : h < 
             let same-drain = drain-same (suc c) in
             let count-then : busyTasks then ≡ suc c = omega (arith, one) in
             answers (effectOf ws k h .answer) ends answer-is
-            (drained-then (suc c) count-then (ready-first begun-then (suc c) (length hints) count-then (omega arith)))
+            (drained-then (suc c) count-then (ready-first led-then (suc c) (length hints) count-then (omega arith)))
 
   one-dispatch : (n : ℕ) → busyTasks ws ≡ n → Ready ws (suc (length hints)) n → Drained n (h ∷ hints) ws
   one-dispatch n many ready = go (dispatch-does X h low)
@@ -185,7 +186,7 @@ module _ {ws : List ℕ} (X : Begun ws) (h : ℕ) (hints : List ℕ) (low : h < 
       go (is-idle says idle) =
           subst (λ (i : ℕ). Drained i (h ∷ hints) ws) (sym (none-below ws (taskCount ws) idle) ∙ many) (idle-now says idle)
       go (is-tick k e p says leaves) =
-          by-answer (effectOf ws k h .answer) (effect-made (begun-agrees X .1) k h p) (Drained n (h ∷ hints) ws)
+          by-answer (effectOf ws k h .answer) (effect-made (X .agrees) k h p) (Drained n (h ∷ hints) ws)
           (λ ends. by-end k p says leaves ends (λ e. refute (cc)) n many ready)
           (λ goes. by-going k p says leaves goes n many ready)
 
@@ -194,16 +195,26 @@ none-left ws n (all-idle l) = omega arith
 none-left ws n (one-alone k m b left l) = omega arith
 none-left ws n (several c i D P count Φ l) = omega arith
 
-drains-from : (hints ws : List ℕ) → Begun ws → Others hints ws
+drains-from : (hints ws : List ℕ) → Led ws → Others hints ws
 drains-from [] ws X n lows many ready = absurd (none-left ws n ready)
 drains-from (h ∷ hints) ws X n lows many ready =
     one-dispatch X h hints (lows .0) (lows .1)
-    (drains-from hints (dispatch ws h .words) (by-call X (dispatch-call h))) n many ready
+    (drains-from hints (dispatch ws h .words) (led-call X (dispatch-call h))) n many ready
 
 -- The cabinet drains.
-pub drains-closer : DrainsCloser
-drains-closer ws X hints lows long =
+abbrev Closer : List ℕ → ℕ → Type 0
+Closer ws n = drainTicks (nodeCount ws) (taskCount ws) (laneCount ws) (busyTasks ws) < n
+
+drains-led : (ws : List ℕ) → Led ws → DrainsByAt Closer ws
+drains-led ws X hints lows long =
     drains-from hints ws X (busyTasks ws) lows refl (ready-first X (busyTasks ws) (length hints) refl long)
+
+pub drains-closer : DrainsCloser
+drains-closer ws B = drains-led ws (begun-led B)
+
+-- 2026-14: where a row is known.
+pub drains-where-known : DrainsWhereKnown
+drains-where-known = where-led (DrainsByAt Closer) drains-led
 
 -- ---- The simpler bound.
 times-more : (a b c d : ℕ) → a ≤ b → c ≤ d → a * c ≤ b * d
@@ -246,10 +257,10 @@ drain-few S T L b one h = by-count b h
         omega arith
 
 pub drains : Drains
-drains ws X hints lows long =
+drains ws B hints lows long =
     let S = nodeCount ws in
     let T = taskCount ws in
     let L = laneCount ws in
-    let some-task = well-sized ws (begun-agrees X .1 .accepted .length-passes) .one-task in
+    let some-task = well-sized ws (begun-led B .agrees .accepted .length-passes) .one-task in
     let few = drain-few S T L (busyTasks ws) some-task (busy-most ws T) in
-    drains-closer ws X hints lows (omega arith)
+    drains-closer ws B hints lows (omega arith)

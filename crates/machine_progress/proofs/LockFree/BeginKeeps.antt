@@ -10,13 +10,12 @@ use Rattle.machine.specs.Tasks.{Task}
 use Rattle.machine.specs.Table.{nodeCount, taskCount, growth, laneCount, task}
 use Rattle.machine.specs.Calls.{isBusy, begin}
 use Rattle.machine.specs.Demand3.{begin-call}
-use Rattle.machine.specs.Begun.{Begun, by-call}
 use Rattle.machine.proofs.Basics.Contradiction.{equal?}
 use Rattle.machine.proofs.Basics.Updates.{update-other}
 use Rattle.machine.proofs.Words.Memories.{View, viewed, view}
 use Rattle.machine.proofs.Linearizability.Calls.Agreement.{Agrees}
-use Rattle.machine.proofs.Linearizability.Corollaries.{begun-agrees}
 use Rattle.machine.proofs.Linearizability.Begun.TableBegun.{BegunTable, by-begin}
+use Rattle.machine_progress.proofs.SoloBound.Led.{Led, led-call}
 use Rattle.machine_progress.proofs.LockFree.Disturbances.{HatDisturbs, disturbs-at-first}
 use Rattle.machine_progress.proofs.LockFree.Sums.{sum}
 use Rattle.machine_progress.proofs.SoloBound.AtFirst.{most}
@@ -24,7 +23,7 @@ use Rattle.machine_progress.proofs.LockFree.TableTick.{DisturbsIn, Calm
 use Rattle.machine_progress.proofs.LockFree.Potential.{bothHats, Potential, patient-first}
 
 -- The begin is accepted: one task is another, and nothing else.
-module _ {ws after : List ℕ} (X : Begun after) {k : ℕ} {t : Task} (B : BegunTable ws after k t) {D P : ℕ}
+module _ {ws after : List ℕ} (X : Led after) {k : ℕ} {t : Task} (B : BegunTable ws after k t) {D P : ℕ}
     (Φ : Potential ws D P) where
   other : (j : ℕ) → j ≢ k → task after j ≡ task ws j
   other j ne = ap (λ (f : ℕ → Task). f j) (B .tasks-then) ∙ update-other (task ws) k t j ne
@@ -97,12 +96,12 @@ module _ {ws after : List ℕ} (X : Begun after) {k : ℕ} {t : Task} (B : Begun
       }
 
 -- A begin, accepted or refused.
-module _ {ws : List ℕ} (X : Begun ws) (k l op side : ℕ) (argument : Stored) where
+module _ {ws : List ℕ} (X : Led ws) (k l op side : ℕ) (argument : Stored) where
   abbrev then : List ℕ
   then = begin ws k l op side argument .words
 
-  A : Agrees ws (begun-agrees X .0)
-  A = begun-agrees X .1
+  A : Agrees ws (X .row)
+  A = X .agrees
 
   pub begin-nodes : nodeCount then ≡ nodeCount ws
   begin-nodes =
@@ -114,5 +113,5 @@ module _ {ws : List ℕ} (X : Begun ws) (k l op side : ℕ) (argument : Stored) 
 
   pub begin-keeps : {D P : ℕ} → Potential ws D P → Potential then D P
   begin-keeps {D} {P} Φ =
-      by-begin A k l op side argument (λ c. Begun (c .words) → Potential (c .words) D P) (λ n _. Φ)
-      (λ vs T B. begun-keeps B T Φ) (by-call X (begin-call k l op side argument))
+      by-begin A k l op side argument (λ c. Led (c .words) → Potential (c .words) D P) (λ n _. Φ)
+      (λ vs T B. begun-keeps B T Φ) (led-call X (begin-call k l op side argument))

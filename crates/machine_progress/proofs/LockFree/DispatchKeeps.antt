@@ -8,14 +8,13 @@ use Rattle.machine.specs.Sides.{right}
 use Rattle.machine.specs.Table.{nodeCount, taskCount, growth, laneCount, setDispatched}
 use Rattle.machine.specs.Answers.{dispatchRefusalOf}
 use Rattle.machine.specs.Calls.{Dispatched, dispatch}
-use Rattle.machine.specs.Begun.{Begun}
 use Rattle.machine.specs.Shape.{sizesOf, Sized}
 use Rattle.machine.proofs.Basics.Contradiction.{clash}
 use Rattle.machine.proofs.Words.Columns.{Columns}
 use Rattle.machine.proofs.Words.TableLaws.{columns-setDispatched}
 use Rattle.machine.proofs.Words.EffectLaws.{viewed-set-dispatched, task-set-dispatched}
 use Rattle.machine.proofs.Shape.DispatchCases.{by-dispatch}
-use Rattle.machine.proofs.Linearizability.Corollaries.{begun-agrees}
+use Rattle.machine_progress.proofs.SoloBound.Led.{Led}
 use Rattle.machine_progress.proofs.LockFree.Potential.{Potential}
 
 module _ (ws : List ℕ) (sized : Sized (sizesOf ws)) (k : ℕ) where
@@ -57,15 +56,15 @@ module _ (ws : List ℕ) (sized : Sized (sizesOf ws)) (k : ℕ) where
         few-ticks = rw dispatched-tasks (Φ .few-ticks);
       }
 
-module _ {ws : List ℕ} (X : Begun ws) (h : ℕ) where
+module _ {ws : List ℕ} (X : Led ws) (h : ℕ) where
   -- What is refused or idle has changed nothing.
   pub refused-stays : {r : ℕ} → dispatch ws h .answer ≡ Answered (Refused r) → dispatch ws h .words ≡ ws
   refused-stays {r} =
-      by-dispatch ws (begun-agrees X .1 .accepted) h
+      by-dispatch ws (X .agrees .accepted) h
       (λ (d : Dispatched). d .answer ≡ Answered (Refused r) → d .words ≡ ws) (λ _. refl) (λ _ _. refl)
       (λ k n _ _ _. refl) (λ k _ _ made e. clash (cc (ap dispatchRefusalOf e)))
 
   pub idle-stays : dispatch ws h .answer ≡ Idle → dispatch ws h .words ≡ ws
   idle-stays =
-      by-dispatch ws (begun-agrees X .1 .accepted) h (λ (d : Dispatched). d .answer ≡ Idle → d .words ≡ ws)
+      by-dispatch ws (X .agrees .accepted) h (λ (d : Dispatched). d .answer ≡ Idle → d .words ≡ ws)
       (λ _. refl) (λ _ _. refl) (λ k n _ _ _. refl) (λ k _ _ _ e. clash (cc))

@@ -14,7 +14,6 @@ use Rattle.machine.specs.Tasks.{Task}
 use Rattle.machine.specs.Table.{nodeCount, taskCount, growth, laneCount, task}
 use Rattle.machine.specs.Lines.{Effect}
 use Rattle.machine.specs.Calls.{isBusy, tickRefusal, effectOf, tickOn}
-use Rattle.machine.specs.Begun.{Begun}
 use Rattle.machine.proofs.Basics.Contradiction.{equal?, clash}
 use Rattle.machine.proofs.Basics.Updates.{
   update,
@@ -30,7 +29,6 @@ use Rattle.machine.proofs.SlotRule.Reached.{keeps}
 use Rattle.machine.proofs.Shape.TickKeeps.{tick-allowed}
 use Rattle.machine.proofs.Linearizability.Model.Invariant.{noteOf, Kept, goes-on, has-answered}
 use Rattle.machine.proofs.Linearizability.Calls.Agreement.{Agrees}
-use Rattle.machine.proofs.Linearizability.Corollaries.{begun-agrees, begun-ticked}
 use Rattle.machine.proofs.Linearizability.Calls.MadeTicks.{keeps-invariant}
 use Rattle.machine.proofs.Linearizability.Begun.TableAfter.{
   own-after,
@@ -42,6 +40,7 @@ use Rattle.machine.proofs.Linearizability.Begun.TableAfter.{
   own-side,
   own-busy,
 }
+use Rattle.machine_progress.proofs.SoloBound.Led.{Led, led-ticked}
 use Rattle.machine_progress.proofs.SoloBound.Budget.{soon, late}
 use Rattle.machine_progress.proofs.SoloBound.AtFirst.{most}
 use Rattle.machine_progress.proofs.SoloBound.SoloTick.{left-in-first, continues}
@@ -85,10 +84,10 @@ pub record Potential (ws : List ℕ) (D P : ℕ) : Type 0 where
   pub few-ticks : sum (taskCount ws) p ≤ P
 
 -- ---- At first.
-module _ {ws : List ℕ} (begun : Begun ws) where
+module _ {ws : List ℕ} (led : Led ws) where
   pub patient-first : (j : ℕ) → isBusy (task ws j .operation) ≡ true
       → CalmlyLeft (nodeCount ws) (growth ws) (viewed right ws) (task ws j) (most 2 (nodeCount ws))
-  patient-first j busy = left-in-first 2 begun j busy (omega arith) .left
+  patient-first j busy = left-in-first 2 led j busy (omega arith) .left
 
   few-first : sum (taskCount ws) (λ _. most 2 (nodeCount ws))
       ≤ taskCount ws * most 2 (nodeCount ws)
@@ -193,7 +192,7 @@ pub data Falls (after : List ℕ) (D P : ℕ) : Type 0 where
       → Potential after D' (taskCount after * most 2 (nodeCount after))
       → Falls after D P
 
-module _ {ws : List ℕ} (begun : Begun ws) (k h : ℕ) (passes : tickRefusal ws k h ≡ none) {D P : ℕ}
+module _ {ws : List ℕ} (led : Led ws) (k h : ℕ) (passes : tickRefusal ws k h ≡ none) {D P : ℕ}
     (Φ : Potential ws D P) (going : effectOf ws k h .answer ≡ Going)
     (same : noteOf (effectOf ws k h .task) ≡ noteOf (task ws k)) where
   abbrev T : ℕ
@@ -214,8 +213,8 @@ module _ {ws : List ℕ} (begun : Begun ws) (k h : ℕ) (passes : tickRefusal ws
   abbrev M' : View
   M' = view (task ws k .side) m'
 
-  agrees : Agrees ws (begun-agrees begun .0)
-  agrees = begun-agrees begun .1
+  agrees : Agrees ws (led .row)
+  agrees = led .agrees
 
   is-task : k < T
   is-task = tick-allowed ws k h passes .0
@@ -307,14 +306,14 @@ module _ {ws : List ℕ} (begun : Begun ws) (k h : ℕ) (passes : tickRefusal ws
         p = λ _. most 2 (nodeCount after);
         may-disturb = disturb-after f others own;
         hats-move = hats-after hats hats-then;
-        patience = patient-first (begun-ticked begun k h);
+        patience = patient-first (led-ticked led k h);
         idle-yet =
             idle-after f (λ _. most 2 (nodeCount after)) (most 2 (nodeCount after))
             (λ j ne i. (omega (arith, Φ .idle-yet j i .0, as-many j ne), refl));
         few-disturbances =
             over-after (λ (n : ℕ). sum n f + sum (laneCount after) (bothHats hats) ≤ D')
             (over-lanes (λ (n : ℕ). sum T f + sum n (bothHats hats) ≤ D') few);
-        few-ticks = few-first (begun-ticked begun k h);
+        few-ticks = few-first (led-ticked led k h);
       })
 
   module _ (W : BothSteady (laneCount ws) (task ws k .side) (opposite (task ws k .side)) m m') where
@@ -335,7 +334,7 @@ module _ {ws : List ℕ} (begun : Begun ws) (k h : ℕ) (passes : tickRefusal ws
         omega arith)
         (λ j ne busy.
         let same-d : update (λ i. suc (Φ .d i)) k 1 j ≡ suc (Φ .d j) = update-other (λ i. suc (Φ .d i)) k 1 j ne in
-        steady-others begun k h passes j T (Φ .d j) (f j) (omega arith)
+        steady-others led k h passes j T (Φ .d j) (f j) (omega arith)
         (steady-view (task ws k .side) (task ws j .side) (viewed right ws) m' W (task ws j .lane)
         (agrees .invariant .own-lane j))
         (inr (omega arith))
@@ -344,12 +343,12 @@ module _ {ws : List ℕ} (begun : Begun ws) (k h : ℕ) (passes : tickRefusal ws
         (sym (update-same (λ j. suc (Φ .d j)) k 1)) own)
         hats-steady (omega arith)
 
-    module _ (U : BothNoCut (laneCount ws) (keeps ws) (begun-agrees begun .1 .class)
+    module _ (U : BothNoCut (laneCount ws) (keeps ws) (led .agrees .class)
         (task ws k .side) (opposite (task ws k .side)) m m') where
       others-steady : (d' : ℕ) (j : ℕ) → Φ .d j ≤ d' → isBusy (task ws j .operation) ≡ true
           → DisturbsIn T M' (task ws j) d'
       others-steady d' j le busy =
-          steady-others begun k h passes j T (Φ .d j) d' le
+          steady-others led k h passes j T (Φ .d j) d' le
           (steady-view (task ws k .side) (task ws j .side) (viewed right ws) m' W (task ws j .lane)
           (agrees .invariant .own-lane j))
           (inl (no-cut-view (task ws k .side) (task ws j .side) (viewed right ws) m' U (task ws j .lane)
@@ -390,11 +389,11 @@ module _ {ws : List ℕ} (begun : Begun ws) (k h : ℕ) (passes : tickRefusal ws
           (hat-moved (laneCount ws) ℓ s m' (Φ .hats) off hats-steady) (omega arith)
 
   -- ---- Calm ticks: the task has one tick less, and the others have as many.
-  calm-falls : Calm (keeps ws) (begun-agrees begun .1 .class) m m'
+  calm-falls : Calm (keeps ws) (led .agrees .class) m m'
       → Disturbs (e .task .step) T (task ws k .side) m' (e .task) (Φ .d k)
       → Falls after D P
   calm-falls C own-d =
-      let then = continues 2 begun k h (Φ .p k) passes (record { left = Φ .patience k busy-now }) going in
+      let then = continues 2 led k h (Φ .p k) passes (record { left = Φ .patience k busy-now }) going in
       let some = then .some in
       let v : ℕ = Φ .p k - 1 in
       let p' : ℕ → ℕ = update (Φ .p) k v in
@@ -409,16 +408,16 @@ module _ {ws : List ℕ} (begun : Begun ws) (k h : ℕ) (passes : tickRefusal ws
         p = p';
         may-disturb =
             disturb-after (Φ .d)
-            (λ j ne busy. calm-others begun k h passes j C T (Φ .d j) (Φ .may-disturb j busy)) own-d;
+            (λ j ne busy. calm-others led k h passes j C T (Φ .d j) (Φ .may-disturb j busy)) own-d;
         hats-move =
             hats-after (Φ .hats)
-            (λ l q z. calm-hats begun k h passes C l q z (Φ .hats l z) (Φ .hats-move l q z));
+            (λ l q z. calm-hats led k h passes C l q z (Φ .hats l z) (Φ .hats-move l q z));
         patience =
             each-after (λ S T gr m t n. CalmlyLeft S gr m t n) p'
             (λ j ne busy.
             subst (λ (n : ℕ). CalmlyLeft (nodeCount ws) (growth ws) M' (task ws j) n)
             (sym (update-other (Φ .p) k v j ne))
-            (patient-others begun k h passes j C (Φ .p j) (Φ .patience j busy)))
+            (patient-others led k h passes j C (Φ .p j) (Φ .patience j busy)))
             (subst (Calmly k) (sym (update-same (Φ .p) k v)) (then .left-after .left));
         idle-yet =
             idle-after (Φ .d) p' (most 2 (nodeCount after))
@@ -432,7 +431,7 @@ module _ {ws : List ℕ} (begun : Begun ws) (k h : ℕ) (passes : tickRefusal ws
         few-ticks = over-after (λ (n : ℕ). sum n p' ≤ P - 1) (omega arith);
       })
 
-  by-outcome : TickProgress T (laneCount ws) (keeps ws) (begun-agrees begun .1 .class) (task ws k .lane) (task ws k .side)
+  by-outcome : TickProgress T (laneCount ws) (keeps ws) (led .agrees .class) (task ws k .lane) (task ws k .side)
       (opposite (task ws k .side)) m (Φ .d k) (effectOf ws k h)
       → Falls after D P
   by-outcome (ends ne) = absurd (ne going)
@@ -442,15 +441,15 @@ module _ {ws : List ℕ} (begun : Begun ws) (k h : ℕ) (passes : tickRefusal ws
   by-outcome (moves W U y off b) = move-falls W U y off b
 
   falls : Falls after D P
-  falls = by-outcome (outcome begun k h passes T (Φ .d k) (Φ .may-disturb k busy-now))
+  falls = by-outcome (outcome led k h passes T (Φ .d k) (Φ .may-disturb k busy-now))
 
 -- Every tick that goes on lowers the potential.
-pub potential-falls : {ws : List ℕ} (begun : Begun ws) (k h : ℕ) (passes : tickRefusal ws k h ≡ none) {D P : ℕ}
+pub potential-falls : {ws : List ℕ} (led : Led ws) (k h : ℕ) (passes : tickRefusal ws k h ≡ none) {D P : ℕ}
     → Potential ws D P
     → effectOf ws k h .answer ≡ Going
     → Falls (tickOn ws k h .words) D P
-potential-falls {ws} begun k h passes {D} {P} Φ going = go (keeps-invariant (begun-agrees begun .1) k h passes .kept)
+potential-falls {ws} led k h passes {D} {P} Φ going = go (keeps-invariant (led .agrees) k h passes .kept)
   where
     go : Kept (task ws k) (effectOf ws k h) → Falls (tickOn ws k h .words) D P
-    go (goes-on a same) = falls begun k h passes Φ going same
+    go (goes-on a same) = falls led k h passes Φ going same
     go (has-answered ne fresh-now) = absurd (ne going)

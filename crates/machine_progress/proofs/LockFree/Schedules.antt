@@ -11,7 +11,6 @@ use Rattle.machine.specs.declared.Answer.the-variants.{Going}
 use Rattle.machine.specs.Tasks.{Task}
 use Rattle.machine.specs.Table.{task}
 use Rattle.machine.specs.Calls.{isBusy, tickRefusal, effectOf, Ticked, tickOn}
-use Rattle.machine.specs.Begun.{Begun}
 use Rattle.machine_progress.specs.LockFree.{
   Move,
   ticks,
@@ -29,20 +28,21 @@ use Rattle.machine.proofs.Basics.Contradiction.{equal?}
 use Rattle.machine.proofs.Shape.TickKeeps.{busy-passes}
 use Rattle.machine.proofs.Linearizability.Model.Invariant.{Kept, goes-on, has-answered}
 use Rattle.machine.proofs.Linearizability.Calls.Agreement.{Agrees}
-use Rattle.machine.proofs.Linearizability.Corollaries.{begun-agrees, tick-passes, begun-ticked}
+use Rattle.machine.proofs.Linearizability.Corollaries.{tick-passes}
 use Rattle.machine.proofs.Linearizability.Calls.MadeTicks.{keeps-invariant}
 use Rattle.machine.proofs.Linearizability.Begun.TableAfter.{other-after, nodes-after, own-busy}
+use Rattle.machine_progress.proofs.SoloBound.Led.{Led, begun-led, led-ticked}
 use Rattle.machine_progress.proofs.SoloBound.EndsOrGoes.{ends-or-goes}
 use Rattle.machine_progress.proofs.LockFree.Theorem.{lock-free}
 
 -- The tasks that were busy are busy after a tick that goes on.
-module _ {ws : List ℕ} (X : Begun ws) (k h : ℕ) (p : tickRefusal ws k h ≡ none)
+module _ {ws : List ℕ} (X : Led ws) (k h : ℕ) (p : tickRefusal ws k h ≡ none)
     (goes : effectOf ws k h .answer ≡ Going) where
   abbrev after : List ℕ
   after = tickOn ws k h .words
 
-  A : Agrees ws (begun-agrees X .0)
-  A = begun-agrees X .1
+  A : Agrees ws (X .row)
+  A = X .agrees
 
   still-busy : (j : ℕ) → isBusy (task ws j .operation) ≡ true → isBusy (task after j .operation) ≡ true
   still-busy j busy =
@@ -70,7 +70,7 @@ moves [] = []
 moves (u ∷ turns) = ticks (u .task) (u .hint) ∷ moves turns
 
 -- One tick, and what the others come to.
-module _ (u : Turn) (turns : List Turn) (ws : List ℕ) (X : Begun ws) (b : OfBusy ws (u ∷ turns)) where
+module _ (u : Turn) (turns : List Turn) (ws : List ℕ) (X : Led ws) (b : OfBusy ws (u ∷ turns)) where
   abbrev k : ℕ
   k = u .task
 
@@ -88,23 +88,23 @@ module _ (u : Turn) (turns : List Turn) (ws : List ℕ) (X : Begun ws) (b : OfBu
   one-tick others =
       ends-or-goes X k h p (Comes (u ∷ turns) ws) (λ e. inl (answers-now e)) (λ says goes.
       elim
-      (subst (λ (r : Ticked). Comes turns (r .words)) (sym (tick-passes (begun-agrees X .1) k h))
+      (subst (λ (r : Ticked). Comes turns (r .words)) (sym (tick-passes (X .agrees) k h))
       (others (of-busy-after X k h p goes turns (b .2)))) [
         | inl a ↦ inl (answers-later says a)
         | inr a ↦ inr (going says a)
       ])
 
-comes-to : (turns : List Turn) (ws : List ℕ) → Begun ws → OfBusy ws turns
+comes-to : (turns : List Turn) (ws : List ℕ) → Led ws → OfBusy ws turns
     → SomeAnswers turns ws ⊎ AnswerFree (length turns) (moves turns) ws
 unfolding moves
 comes-to [] ws X b = inr no-more
 comes-to (u ∷ turns) ws X b =
     one-tick u turns ws X b (λ b'. comes-to turns (tickOn ws (u .task) (u .hint) .words)
-    (begun-ticked X (u .task) (u .hint)) b')
+    (led-ticked X (u .task) (u .hint)) b')
 
 pub some-call-answers : SomeCallAnswers
-some-call-answers ws X turns enough b =
-    elim (comes-to turns ws X b) [
+some-call-answers ws B turns enough b =
+    elim (comes-to turns ws (begun-led B) b) [
       | inl a ↦ a
-      | inr quiet ↦ absurd (omega (arith, lock-free ws X (length turns) (moves turns) quiet))
+      | inr quiet ↦ absurd (omega (arith, lock-free ws B (length turns) (moves turns) quiet))
     ]

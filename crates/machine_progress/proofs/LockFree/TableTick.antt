@@ -12,7 +12,6 @@ use Rattle.machine.specs.Table.{nodeCount, growth, laneCount, task}
 use Rattle.machine.specs.Allocate.{allocate}
 use Rattle.machine.specs.Lines.{Memory, Effect, act}
 use Rattle.machine.specs.Calls.{isBusy, tickRefusal, effectOf}
-use Rattle.machine.specs.Begun.{Begun}
 use Rattle.machine.proofs.Words.Memories.{View, viewed, written, view, seen-viewed}
 use Rattle.machine.proofs.Linearizability.Model.Held.{ClosedSet, closed-view}
 use Rattle.machine.proofs.Shape.TickKeeps.{tick-allowed}
@@ -29,8 +28,8 @@ use Rattle.machine.proofs.Linearizability.Writes.FreeNode.{take-ok}
 use Rattle.machine.proofs.Linearizability.Writes.Take.{TakeOk}
 use Rattle.machine.proofs.Linearizability.Lines.Tick.{tick-ok}
 use Rattle.machine.proofs.Linearizability.Calls.Agreement.{Agrees}
-use Rattle.machine.proofs.Linearizability.Corollaries.{begun-agrees}
 use Rattle.machine.proofs.Linearizability.Calls.MadeTicks.{well-linked, kept-roots, not-idle}
+use Rattle.machine_progress.proofs.SoloBound.Led.{Led}
 use Rattle.machine_progress.proofs.SoloBound.SoloTick.{LeftWith}
 use Rattle.machine_progress.proofs.LockFree.Change.{
   Calm,
@@ -52,9 +51,9 @@ DisturbsIn T M t d = Disturbs (t .step) T (t .side) (view (t .side) M) t d
 abbrev pub CalmlyLeft : (S gr : ℕ) → View → Task → (n : ℕ) → Type 0
 CalmlyLeft S gr M t n = LeftWith 2 S gr M t n
 
-module _ {ws : List ℕ} (begun : Begun ws) (k h : ℕ) (passes : tickRefusal ws k h ≡ none) where
-  abbrev A : Agrees ws (begun-agrees begun .0)
-  A = begun-agrees begun .1
+module _ {ws : List ℕ} (led : Led ws) (k h : ℕ) (passes : tickRefusal ws k h ≡ none) where
+  abbrev A : Agrees ws (led .row)
+  A = led .agrees
 
   abbrev s : Side
   s = task ws k .side
@@ -79,7 +78,7 @@ module _ {ws : List ℕ} (begun : Begun ws) (k h : ℕ) (passes : tickRefusal ws
   ℓ = task ws k .lane
 
   pub lanes-from : (z : Side)
-      → Lanes L z (opposite z) (view z M) (A .class) (λ l. rowFrom z (begun-agrees begun .0 .bags l))
+      → Lanes L z (opposite z) (view z M) (A .class) (λ l. rowFrom z (led .row .bags l))
   lanes-from z = lanes-view z (A .invariant .lanes)
 
   R : Roots L (keeps ws) M (task ws)
@@ -97,14 +96,14 @@ module _ {ws : List ℕ} (begun : Begun ws) (k h : ℕ) (passes : tickRefusal ws
       (allocate-not-kept (well-linked (A .accepted)) (tick-allowed ws k h passes .1) ne)
 
   tick-is-ok :
-      TickOk (keeps ws) L k s (opposite s) (view s M) (A .class) (λ l. rowFrom s (begun-agrees begun .0 .bags l))
+      TickOk (keeps ws) L k s (opposite s) (view s M) (A .class) (λ l. rowFrom s (led .row .bags l))
       (task ws k) e
   unfolding effectOf
   tick-is-ok =
       let t = task ws k in
       subst
       (λ (y : Memory).
-      TickOk (keeps ws) L k s (opposite s) (view s M) (A .class) (λ l. rowFrom s (begun-agrees begun .0 .bags l)) t
+      TickOk (keeps ws) L k s (opposite s) (view s M) (A .class) (λ l. rowFrom s (led .row .bags l)) t
       (act (t .step) s (opposite s) y t (goal (growth ws) t) (allocate ws h)))
       (seen-viewed ℓ s ws)
       (tick-ok (keeps ws) k (lanes-from s) t (A .invariant .own-lane k) (goal (growth ws) t) (allocate ws h) free-f

@@ -65,7 +65,7 @@ start-walks L right few x =
           ]
     ]
 
-links-last : Lasts (λ (M : View) (ts : ℕ → Task). LinksEnd M)
+pub links-last : Lasts (λ (M : View) (ts : ℕ → Task). LinksEnd M)
 links-last =
     record {
       at-start = λ L few _. (start-walks L right few, start-walks L left few);

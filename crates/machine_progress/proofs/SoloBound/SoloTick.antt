@@ -1,4 +1,4 @@
--- A tick of a busy task in a table that our calls lead to: it answers, or leaves the task one tick less.
+-- A tick of a busy task in a table that calls and copies lead to: it answers, or leaves the task one tick less.
 use mathlib.Core.Path.{_≡_, sym, ap, subst}
 use mathlib.Core.Logic.{_≢_, _⊎_, inl, inr}
 use mathlib.Core.Bool.{true}
@@ -18,7 +18,6 @@ use Rattle.machine.specs.Allocate.{allocate}
 use Rattle.machine.specs.Lines.{Memory, Effect, act}
 use Rattle.machine.specs.Calls.{isBusy, tickRefusal, effectOf, tickOn}
 use Rattle.machine.specs.Row.{Note}
-use Rattle.machine.specs.Begun.{Begun}
 use Rattle.machine.specs.Shape.{sizesOf, WellSized}
 use Rattle.machine.proofs.Words.ValueLaws.{number-stored}
 use Rattle.machine.proofs.Basics.Contradiction.{refute}
@@ -33,14 +32,14 @@ use Rattle.machine.proofs.Linearizability.Model.LaneViews.{lane-view}
 use Rattle.machine.proofs.Linearizability.Model.RowViews.{rowFrom}
 use Rattle.machine.proofs.Linearizability.Calls.Reading.{main-size, main-is-node}
 use Rattle.machine.proofs.Linearizability.Calls.Agreement.{Agrees}
-use Rattle.machine.proofs.Linearizability.Corollaries.{begun-agrees}
 use Rattle.machine.proofs.Linearizability.Calls.MadeTicks.{well-linked, keeps-invariant}
 use Rattle.machine.proofs.Linearizability.Begun.TableAfter.{own-after, in-after, own-side, own-busy}
+use Rattle.machine_progress.proofs.SoloBound.Led.{Led}
 use Rattle.machine_progress.proofs.SoloBound.Walks.{EndsWithin, LinksBelow, ends-within-nodes}
 use Rattle.machine_progress.proofs.SoloBound.Budget.{Left, Spends}
 use Rattle.machine_progress.proofs.SoloBound.LinesSpend.{line-spends}
 use Rattle.machine_progress.proofs.SoloBound.AtFirst.{most, left-at-first}
-use Rattle.machine_progress.proofs.SoloBound.BegunEnds.{ends-view, begun-ends}
+use Rattle.machine_progress.proofs.SoloBound.BegunEnds.{ends-view}
 
 -- The ticks that a task has left, by the table's size and growth and its view.
 abbrev pub LeftWith : (extra S gr : ℕ) → View → Task → (n : ℕ) → Type 0
@@ -49,9 +48,9 @@ LeftWith extra S gr M t n = Left extra (t .step) S (goal gr t) (t .side) (view (
 pub record LeftIn (extra : ℕ) (ws : List ℕ) (k n : ℕ) : Type 0 where
   pub left : LeftWith extra (nodeCount ws) (growth ws) (viewed right ws) (task ws k) n
 
-module _ (extra : ℕ) {ws : List ℕ} (begun : Begun ws) (k : ℕ) where
-  A : Agrees ws (begun-agrees begun .0)
-  A = begun-agrees begun .1
+module _ (extra : ℕ) {ws : List ℕ} (led : Led ws) (k : ℕ) where
+  A : Agrees ws (led .row)
+  A = led .agrees
 
   abbrev s : Side
   s = task ws k .side
@@ -69,10 +68,10 @@ module _ (extra : ℕ) {ws : List ℕ} (begun : Begun ws) (k : ℕ) where
   ℓ = task ws k .lane
 
   -- The task's own lane.
-  own : Lane ℓ right left (viewed right ws) (A .class) (begun-agrees begun .0 .bags ℓ)
+  own : Lane ℓ right left (viewed right ws) (A .class) (led .row .bags ℓ)
   own = A .invariant .lanes .lane ℓ (A .invariant .own-lane k)
 
-  lane : Lane ℓ s (opposite s) m (A .class) (rowFrom s (begun-agrees begun .0 .bags ℓ))
+  lane : Lane ℓ s (opposite s) m (A .class) (rowFrom s (led .row .bags ℓ))
   lane = lane-view s own
 
   -- Main has at most S nodes.
@@ -93,7 +92,7 @@ module _ (extra : ℕ) {ws : List ℕ} (begun : Begun ws) (k : ℕ) where
   out-below right = links-below right
 
   pub short : (x : ℕ) → EndsWithin (m .out) (nodeCount ws) x
-  short = ends-within-nodes (out-below s) (ends-view s (viewed right ws) (begun-ends begun) .0)
+  short = ends-within-nodes (out-below s) (ends-view s (viewed right ws) (led .links-end) .0)
 
   module _ (busy : isBusy (task ws k .operation) ≡ true) where
     not-idle : task ws k .operation ≢ idle

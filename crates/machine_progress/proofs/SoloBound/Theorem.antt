@@ -12,8 +12,6 @@ use Rattle.machine.specs.Table.{nodeCount, task, setDispatched}
 use Rattle.machine.specs.Shape.{WellFormed}
 use Rattle.machine.specs.Calls.{isBusy, tickRefusal, effectOf, Ticked, tickOn, tick, dispatch}
 use Rattle.machine.specs.Demand3.{tick-call, dispatch-call}
-use Rattle.machine.specs.Begun.{Begun, by-call}
-use Rattle.machine.specs.Events.{copiedOverIdle}
 use Rattle.machine_progress.specs.Solo.{
   AloneMove,
   own-tick,
@@ -39,9 +37,8 @@ use Rattle.machine.proofs.Shape.TickKeeps.{busy-passes}
 use Rattle.machine.proofs.Shape.ShapeKept.{tick-call-kept, call-accepted}
 use Rattle.machine.proofs.Linearizability.Calls.Agreement.{Agrees}
 use Rattle.machine.proofs.Linearizability.Calls.MadeTicks.{effect-made}
-use Rattle.machine.proofs.Linearizability.Corollaries.{begun-agrees, tick-passes}
-use Rattle.machine.proofs.Linearizability.Carried.{always-so}
-use Rattle.machine.proofs.Linearizability.WhereKnown.{begun-where-known}
+use Rattle.machine.proofs.Linearizability.Corollaries.{tick-passes}
+use Rattle.machine_progress.proofs.SoloBound.Led.{Led, begun-led, led-call, where-led}
 use Rattle.machine_progress.proofs.SoloBound.Budget.{walkTicks}
 use Rattle.machine_progress.proofs.SoloBound.AtFirst.{most}
 use Rattle.machine_progress.proofs.SoloBound.EndsOrGoes.{by-answer, ends-or-goes}
@@ -58,17 +55,17 @@ use Rattle.machine_progress.proofs.Drain.DispatchTick.{
 -- What the moves after the first come to, with more of the task's ticks to come than it has left.
 abbrev Others : (k n : ℕ) → List AloneMove → List ℕ → Type 0
 Others k n moves ws =
-    Begun ws
+    Led ws
     → isBusy (task ws k .operation) ≡ true
     → LeftIn 0 ws k n
     → n < ownTicks moves
     → Alone k moves ws
     → AnswersAlone k moves ws
 
-module _ {ws : List ℕ} (X : Begun ws) (k n h : ℕ) (busy : isBusy (task ws k .operation) ≡ true) (B : LeftIn 0 ws k n)
+module _ {ws : List ℕ} (X : Led ws) (k n h : ℕ) (busy : isBusy (task ws k .operation) ≡ true) (B : LeftIn 0 ws k n)
     (moves : List AloneMove) (more : n < suc (ownTicks moves)) where
-  A : Agrees ws (begun-agrees X .0)
-  A = begun-agrees X .1
+  A : Agrees ws (X .row)
+  A = X .agrees
 
   -- A tick, and the others after it.
   by-tick : Alone k (own-tick h ∷ moves) ws → Others k (n - 1) moves (tick ws k h .words)
@@ -79,7 +76,7 @@ module _ {ws : List ℕ} (X : Begun ws) (k n h : ℕ) (busy : isBusy (task ws k 
       let C = continues 0 X k h n p B going in
       let on = ap (λ (r : Ticked). r .words) (sym (tick-passes A k h)) in
       answers-later says
-      (others (by-call X (tick-call k h))
+      (others (led-call X (tick-call k h))
       (subst (λ (vs : List ℕ). isBusy (task vs k .operation) ≡ true) on (C .busy-after))
       (subst (λ (vs : List ℕ). LeftIn 0 vs k (n - 1)) on (C .left-after)) (omega (arith, C .some)) (alone .1 says)))
 
@@ -101,7 +98,7 @@ module _ {ws : List ℕ} (X : Begun ws) (k n h : ℕ) (busy : isBusy (task ws k 
           let on = sym leaves in
           let left = left-then X k h p going B in
           dispatch-goes-on went-on
-          (others (by-call X (dispatch-call h))
+          (others (led-call X (dispatch-call h))
           (subst (λ (vs : List ℕ). isBusy (task vs k .operation) ≡ true) on (own-then X k h p going))
           (subst (λ (vs : List ℕ). LeftIn 0 vs k (n - 1)) on (left .1)) (omega (arith, left .0)) (alone .2 went-on)))
 
@@ -127,20 +124,27 @@ pub walk-alone : (S : ℕ) → walkTicks 0 S ≡ 4 * S
 walk-alone zero = refl
 walk-alone (suc S) = omega (arith, walk-alone S)
 
-pub answers-alone : (ws : List ℕ) → Begun ws → (k : ℕ) → isBusy (task ws k .operation) ≡ true
+pub answers-alone : (ws : List ℕ) → Led ws → (k : ℕ) → isBusy (task ws k .operation) ≡ true
     → (moves : List AloneMove)
     → 4 * nodeCount ws + 154 ≤ ownTicks moves
     → Alone k moves ws
     → AnswersAlone k moves ws
-answers-alone ws B k busy moves enough low =
-    alone moves ws k (most 0 (nodeCount ws)) B busy (left-in-first 0 B k busy (omega arith))
+answers-alone ws X k busy moves enough low =
+    alone moves ws k (most 0 (nodeCount ws)) X busy (left-in-first 0 X k busy (omega arith))
     (omega (arith, walk-alone (nodeCount ws))) low
 
 pub closer-solo-bound : CloserSoloBound
-closer-solo-bound ws B k busy moves enough low = answers-alone ws B k busy moves (omega arith) low
+closer-solo-bound ws B k busy moves enough low = answers-alone ws (begun-led B) k busy moves (omega arith) low
+
+solo-led : (ws : List ℕ) → Led ws → AnswersWithinAt (λ S. 8 * S + 400) ws
+solo-led ws X k busy moves enough low = answers-alone ws X k busy moves (omega arith) low
 
 pub solo-bound : SoloBound
-solo-bound ws B k busy moves enough low = answers-alone ws B k busy moves (omega arith) low
+solo-bound ws B = solo-led ws (begun-led B)
+
+-- 2026-10, 2026-14: where a row is known.
+pub solo-bound-where-known : SoloBoundWhereKnown
+solo-bound-where-known = where-led (AnswersWithinAt (λ S. 8 * S + 400)) solo-led
 
 -- ---- Ticks alone, with hints below S.
 pub hints-alone : (hints ws : List ℕ) → WellFormed ws → (k : ℕ) → HintsBelow (nodeCount ws) hints
@@ -157,9 +161,3 @@ hints-alone (h ∷ hints) ws A k low =
 pub own-hints : (hints : List ℕ) → ownTicks (map own-tick hints) ≡ length hints
 own-hints [] = refl
 own-hints (h ∷ hints) = ap suc (own-hints hints)
-
--- 2026-10: where a row is known.
-pub solo-bound-where-known : SoloBoundWhereKnown
-solo-bound-where-known =
-    always-so copiedOverIdle (λ ws ρ. Begun ws) (λ ws ρ. AnswersWithinAt (λ S. 8 * S + 400) ws) (λ ws ρ B. solo-bound ws B)
-    begun-where-known

@@ -75,7 +75,7 @@ Lasts Fact = LastsFor (λ L M ts. Fact M ts)
 
 module _ {Fact : (lanes : ℕ) → View → (ℕ → Task) → Type 0} (L : LastsFor Fact) where
   -- The fact of a table.
-  abbrev Of : List ℕ → Type 0
+  abbrev pub Of : List ℕ → Type 0
   Of ws = Fact (laneCount ws) (viewed right ws) (task ws)
 
   start-has : (S T g lanes : ℕ) → lanesOk lanes ≡ true → sizesOk S T g lanes ≡ true → Of (startWords S T g lanes)
@@ -140,8 +140,8 @@ module _ {Fact : (lanes : ℕ) → View → (ℕ → Task) → Type 0} (L : Last
   abbrev Both : List ℕ → Type 0
   Both ws = (ρ : Row) × Agrees ws ρ × Of ws
 
-  call-keeps : (c : Call) (ws : List ℕ) → Both ws → Both (after c ws)
-  call-keeps =
+  pub call-has : {ws : List ℕ} {ρ : Row} → Agrees ws ρ → Of ws → (c : Call) → Of (after c ws)
+  call-has {ws} {ρ} A F c =
       kept-by-calls Both
       (record {
         by-start = λ ws x S T g lanes.
@@ -152,15 +152,18 @@ module _ {Fact : (lanes : ℕ) → View → (ℕ → Task) → Type 0} (L : Last
         by-tick = λ ws x k h. let a = tick-agrees (x .1) k h in (a .0, a .1, tick-keeps (x .1) (x .2) k h);
         by-dispatch = λ ws x h.
             let E = dispatch-explained (x .1) h in (E .row, E .agrees, dispatch-keeps (x .1) (x .2) h);
-      })
+      }) c ws (ρ, A, F) .2
 
-  pub begun-has : {ws : List ℕ} → Begun ws → Fact (laneCount ws) (viewed right ws) (task ws)
+  pub started-has : (S T g lanes : ℕ) (old : List ℕ) → start old S T g lanes .reply ≡ Accepted
+      → Of (start old S T g lanes .words)
   unfolding start
-  begun-has (by-start S T g lanes old accepted) = go (startRefusal old S T g lanes) refl accepted
+  started-has S T g lanes old accepted = go (startRefusal old S T g lanes) refl accepted
     where
       go : (r : Option ℕ) → startRefusal old S T g lanes ≡ r → changed r old (startWords S T g lanes) .reply ≡ Accepted
           → Of (changed r old (startWords S T g lanes) .words)
       go (some n) e q = clash (cc)
       go none e q = start-has S T g lanes (search test-passed) (search (test-passed, tests-left))
-  begun-has (by-call {ws = ws} B c) =
-      let A = begun-agrees B in call-keeps c ws (A .0, A .1, begun-has B) .2
+
+  pub begun-has : {ws : List ℕ} → Begun ws → Of ws
+  begun-has (by-start S T g lanes old accepted) = started-has S T g lanes old accepted
+  begun-has (by-call B c) = call-has (begun-agrees B .1) (begun-has B) c
