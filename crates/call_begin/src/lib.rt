@@ -16,7 +16,6 @@ ghost use mathlib.Core.Option.{none};
 ghost use mathlib.Core.List.{List};
 ghost use Prim.Native.Nat.{ℕ, _≤_, _<_};
 ghost use lib.Dec.{leb};
-ghost use Rattle.machine.specs.declared.Reply.the-variants.{Refused};
 ghost use Rattle.machine.specs.Sides.{sideOf};
 ghost use Rattle.machine.specs.Values.{number};
 ghost use Rattle.machine.specs.Operations.{operationOf, argumentOk};
@@ -33,6 +32,7 @@ ghost use Rattle.machine.specs.Calls.{
   begunTask,
   begin,
 };
+ghost use Rattle.machine.specs.Answers.{replyNumber};
 ghost use Rattle.machine.specs.Lent.{beginLent};
 ghost use Rattle.answers.specs.Refusals.{numberOf};
 ghost use Rattle.table_record.specs.Coded.{recordOf, codedTask, taskMeant};
@@ -277,19 +277,19 @@ pub fn begin(
     begin_on(table, task, l, operation, side, argument)
 }
 
-// What a begin by value gives: the task's record afterwards, and the reply.
+// What a begin by value gives: the task's record afterwards, and 0 or the refusal.
 pub struct BegunRecord {
     pub task: Task,
-    pub reply: Reply,
+    pub refusal: u32,
 }
 
 // 02: "a refusal changes no word of the record".
 fn refused(own: Task, n: u32) -> BegunRecord
-    ensures { λ r. ⌜ changedOf (r .reply) (recordOf (r .task)) ≡ changedOf (Refused n) (recordOf own) ⌝ }
+    ensures { λ r. ⌜ (r .task ≡ own) × (r .refusal ≡ n) ⌝ }
 {
     BegunRecord {
         task: own,
-        reply: Reply::Refused(n),
+        refusal: n,
     }
 }
 
@@ -304,8 +304,9 @@ pub fn begin_record(
     side: u32,
     argument: Stored,
 ) -> BegunRecord
-    ensures { λ r. ⌜ changedOf (r .reply) (recordOf (r .task))
-        ≡ beginLent (now (table .entry)) (recordOf own) task l operation side argument ⌝ }
+    ensures { λ r.
+        let one = beginLent (now (table .entry)) (recordOf own) task l operation side argument in
+        ⌜ (r .refusal ≡ replyNumber (one .reply)) × (recordOf (r .task) ≡ one .words) ⌝ }
 {
     let n = lent_refusal(table, task, own);
     if n != 0 {
@@ -322,6 +323,6 @@ pub fn begin_record(
     let t = begun(l, operation, side, argument);
     BegunRecord {
         task: t,
-        reply: Reply::Accepted,
+        refusal: 0,
     }
 }

@@ -4,6 +4,7 @@ use airline_list::check;
 use answers::IDLE;
 use answers::kind;
 use answers::payload;
+use call_begin::BegunRecord;
 use call_begin::begin;
 use call_begin::begin_record;
 use call_dispatch::dispatch;
@@ -176,13 +177,7 @@ pub extern "C" fn lane_begin(
     reply_number(begin(table, task, lane, operation, side, of_words(digit, low)))
 }
 
-// A record, and 0 or the refusal.
-struct Numbered {
-    task: Task,
-    refusal: u32,
-}
-
-// The begin by value, with numbers for what it takes and gives.
+// The begin by value, with the argument's words as two numbers.
 fn begin_numbered(
     own: Task,
     table: &[u32],
@@ -192,12 +187,12 @@ fn begin_numbered(
     side: u32,
     digit: u32,
     low: u32,
-) -> Numbered
+) -> BegunRecord
     ensures { λ r.
         let one = beginLent (now (table .entry)) (recordOf own) task lane operation side (storedOf digit low) in
         ⌜ (r .refusal ≡ replyNumber (one .reply)) × (recordOf (r .task) ≡ one .words) ⌝ }
 {
-    let b = begin_record(
+    begin_record(
         own,
         table,
         task,
@@ -205,13 +200,7 @@ fn begin_numbered(
         operation,
         side,
         of_words(digit, low),
-    );
-    let t = b.task;
-    let n = reply_number(b.reply);
-    Numbered {
-        task: t,
-        refusal: n,
-    }
+    )
 }
 
 // 2026-14: a begin over the record that a panel lends, to be changed where it is; 0, or the refusal. The table is only read.

@@ -3,9 +3,10 @@
 use mathlib.Core.Path.{_≡_, ap, _∙_}
 use mathlib.Core.List.{List}
 use Prim.Native.Nat.{ℕ}
-use Rattle.machine.specs.declared.Reply.the-variants.{Accepted}
+use Rattle.machine.specs.declared.Reply.the-variants.{Refused}
 use Rattle.machine.specs.Shape.{sizesOf, Sized, WellFormed, WellLinked}
-use Rattle.machine.specs.Calls.{callRefusal}
+use Rattle.machine.specs.Answers.{replyNumber}
+use Rattle.machine.specs.Calls.{callRefusal, Changed}
 use Rattle.machine.specs.Lent.{lentTo}
 use Rattle.machine.specs.Results.{changedOf}
 use Rattle.machine.proofs.Shape.ShapeLaws.{well-sized}
@@ -41,6 +42,20 @@ start c = c .before .before
 abbrev lent : tie.Start → List ℕ
 lent s = lentTo (s .args .table .now) (s .args .task) (recordOf (s .args .own))
 
+-- The number and the words of what it comes to.
+abbrev Gives : Changed → ℕ → Tasks.Task → Type 0
+Gives one n t = (n ≡ replyNumber (one .reply)) × (recordOf t ≡ one .words)
+
+refused-gives :
+    (own : Tasks.Task) {one : Changed} {n m : ℕ} {t : Tasks.Task}
+    → changedOf (Refused n) (recordOf own) ≡ one
+    → (t ≡ own) × (m ≡ n)
+    → Gives one m t
+refused-gives own e is = (
+  is .1 ∙ ap (λ (d : Changed). replyNumber (d .reply)) e,
+  ap recordOf (is .0) ∙ ap (λ (d : Changed). d .words) e,
+)
+
 lent-refusal-requires : tie.Need-lent-refusal-requires
 lent-refusal-requires c κs = search needs
 
@@ -52,10 +67,11 @@ returns c =
     let t = c .before in
     let s = start (t .before) in
     let a = s .args in
-    c .refused .ensures
-    ∙ lent-refused (a .table .now) (recordOf (a .own)) (a .task) (a .l) (a .operation) (a .side) (a .argument) _
+    refused-gives (a .own)
+    (lent-refused (a .table .now) (recordOf (a .own)) (a .task) (a .l) (a .operation) (a .side) (a .argument) _
     (refused-by-table (lent s) (a .task) (a .l) (a .operation) (a .side) (a .argument)
-    (t .before .lent-refusal .ensures) (t .if1 .taken))
+    (t .before .lent-refusal .ensures) (t .if1 .taken)))
+    (c .refused .ensures)
 
 -- ---- The tests of the table passed.
 passes : (c : tie.Else1) → WellFormed (lent (start (c .before)))
@@ -78,10 +94,11 @@ returns-2 c =
     let e = m .before in
     let s = start (e .before) in
     let a = s .args in
-    c .refused2 .ensures
-    ∙ lent-refused (a .table .now) (recordOf (a .own)) (a .task) (a .l) (a .operation) (a .side) (a .argument) _
+    refused-gives (a .own)
+    (lent-refused (a .table .now) (recordOf (a .own)) (a .task) (a .l) (a .operation) (a .side) (a .argument) _
     (refused-by-place (lent s) (a .task) (a .l) (a .operation) (a .side) (a .argument) (passes e)
-    (m .place-refusal .ensures ∙ ap numberOf (same-place (a .table .now) (a .task) (a .own) (a .l))) (t .if2 .taken))
+    (m .place-refusal .ensures ∙ ap numberOf (same-place (a .table .now) (a .task) (a .own) (a .l))) (t .if2 .taken)))
+    (c .refused2 .ensures)
 
 -- ---- There is such a lane and such a task.
 abbrev passed : tie.Else2 → tie.Else1
@@ -129,10 +146,11 @@ returns-3 c =
     let e = r .before in
     let s = start (passed e .before) in
     let a = s .args in
-    c .refused3 .ensures
-    ∙ lent-refused (a .table .now) (recordOf (a .own)) (a .task) (a .l) (a .operation) (a .side) (a .argument) _
+    refused-gives (a .own)
+    (lent-refused (a .table .now) (recordOf (a .own)) (a .task) (a .l) (a .operation) (a .side) (a .argument) _
     (refused-by-call (lent s) (a .task) (a .l) (a .operation) (a .side) (a .argument) (passes (passed e)) (there e)
-    (number r) (t .if3 .taken))
+    (number r) (t .if3 .taken)))
+    (c .refused3 .ensures)
 
 begun-requires : tie.Need-begun-requires
 begun-requires c κs =
@@ -151,11 +169,14 @@ returns-4 c =
     let e = r .before in
     let s = start (passed e .before) in
     let a = s .args in
-    ap (λ (t : Tasks.Task). changedOf Accepted (recordOf t)) (c .begun .ensures)
-    ∙ lent-accepted (a .table .now) (recordOf (a .own)) (a .task) (a .l) (a .operation) (a .side) (a .argument)
+    let one =
+    lent-accepted (a .table .now) (recordOf (a .own)) (a .task) (a .l) (a .operation) (a .side) (a .argument)
     (not-refused (lent s) (a .task) (a .l) (a .operation) (a .side) (a .argument) (passes (passed e)) (there e)
     (number r) (p .if3 .left))
-    (sized e) (placed e .is-task)
+    (sized e) (placed e .is-task) in (
+      ap (λ (d : Changed). replyNumber (d .reply)) one,
+      ap recordOf (c .begun .ensures) ∙ ap (λ (d : Changed). d .words) one,
+    )
 
 pub begin-record-spec : {M : Type 1} → statement M
 begin-record-spec =

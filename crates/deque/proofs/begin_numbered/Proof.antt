@@ -15,22 +15,17 @@ of-words-requires c κs = search needs
 begin-record-requires : tie.Need-begin-record-requires
 begin-record-requires c κs = search needs
 
-reply-number-requires : tie.Need-reply-number-requires
-reply-number-requires c κs = search needs
-
 returns : tie.Need-returns
 returns c =
-    let b = c .before in
-    let w = b .before in
+    let w = c .before in
     let a = w .before .before .args in
+    let b = c .begin-record .ensures in
     let e =
-    b .begin-record .ensures
-    ∙ ap (λ (u : Stored). beginLent (a .table .now) (recordOf (a .own)) (a .task) (a .lane) (a .operation) (a .side) u)
+    ap (λ (u : Stored). beginLent (a .table .now) (recordOf (a .own)) (a .task) (a .lane) (a .operation) (a .side) u)
     (w .of-words .ensures) in (
-      c .reply-number .ensures ∙ ap (λ (d : Changed). replyNumber (d .reply)) e,
-      ap (λ (d : Changed). d .words) e,
+      b .0 ∙ ap (λ (d : Changed). replyNumber (d .reply)) e,
+      b .1 ∙ ap (λ (d : Changed). d .words) e,
     )
 
 pub begin-numbered-spec : {M : Type 1} → statement M
-begin-numbered-spec =
-    tie.close (tie.spec of-words-requires begin-record-requires reply-number-requires returns)
+begin-numbered-spec = tie.close (tie.spec of-words-requires begin-record-requires returns)

@@ -122,9 +122,9 @@ use Rattle.table_record.specs.declared.Task.{Task}
 use Rattle.table_record.specs.Coded.{recordOf}
 use Rattle.table_record.proofs.Task as T
 use Rattle.table_record.proofs.Task.Laws as T′
-use Rattle.deque.specs.declared.Numbered.{Numbered}
-use Rattle.deque.proofs.Numbered as B
-use Rattle.deque.proofs.Numbered.Laws as B′
+use Rattle.call_begin.specs.declared.BegunRecord.{BegunRecord}
+use Rattle.call_begin.proofs.BegunRecord as B
+use Rattle.call_begin.proofs.BegunRecord.Laws as B′
 use Rattle.deque.proofs.begin_numbered as by-value
 use Rattle.deque.proofs.begin_numbered.Symbol as by-value-def
 use Rattle.deque.proofs.begin_numbered.Symbol.{name as #begin-numbered}
@@ -230,7 +230,7 @@ module _
       done !
 
   exits :
-      (r : Numbered)
+      (r : BegunRecord)
       → Gives Call (r .refusal) (r .task)
       → r .refusal < 2 ^ 32
       → ent 𝓤
@@ -274,7 +274,7 @@ module _
       move ! (1 ∷ 0 ∷ []) $ join ! $ frame ! $ done !
 
   said-of :
-      (r : Numbered)
+      (r : BegunRecord)
       → ent 𝓤 (ensured 𝓤 H A by-value.ended (by-value.clauses 𝓤 H A at-mem run) (κ′, tt) (h, (s, ns)) tt r)
       (fact 𝓤 (Gives Call (r .refusal) (r .task)))
   said-of r =
@@ -282,10 +282,10 @@ module _
       snd∗ 𝓤 (sem 𝓤 H A (lasts by-value.ended (κ′, tt) (h, (s, ns)) ws)) (fact 𝓤 (Gives Call (r .refusal) (r .task))))
 
   -- what is known of the fields of what the callee returns
-  task-is : (r : Numbered) (w : Val) → Is B.the-row r (w ∷ []) → Is T.the-row (r .task) (vals (r .task))
+  task-is : (r : BegunRecord) (w : Val) → Is B.the-row r (w ∷ []) → Is T.the-row (r .task) (vals (r .task))
   task-is r w is = LL.owed B.the-type B′.the-laws r _ is .0
 
-  refusal-fits : (r : Numbered) (w : Val) → Is B.the-row r (w ∷ []) → r .refusal < 2 ^ 32
+  refusal-fits : (r : BegunRecord) (w : Val) → Is B.the-row r (w ∷ []) → r .refusal < 2 ^ 32
   refusal-fits r w is = LL.owed B.the-type B′.the-laws r _ is .1 .0 .1
 
   module _
@@ -343,7 +343,7 @@ module _
         (λ w.
         use1 W
         (later
-        (some (λ (r : Numbered).
+        (some (λ (r : BegunRecord).
         ((‵ (flft κ′ q′) ⊛ ‵ ftrue) ⊛ ‵ (B.the-row .own r (w ∷ [])))
         ⊛ raw (ensured 𝓤 H A by-value.ended (by-value.clauses 𝓤 H A at-mem run) (κ′, tt) (h, (s, ns)) tt r))))
         (id⊢ 𝓤 _) $ await ! tt $ pick ! (λ r.
