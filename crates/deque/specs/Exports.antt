@@ -20,6 +20,17 @@ use Rattle.window.specs.Window as Window
 abbrev pub pairOf : (high low : ℕ) → ℕ
 pairOf high low = high * 2 ^ 32 + low
 
+-- Which library this is: the format of its tables, and its version, major times 1,000,000, minor times 1,000 and the
+-- patch.
+abbrev pub tableFormat : ℕ
+tableFormat = 4
+
+abbrev pub versionNumber : ℕ
+versionNumber = 6_006_000
+
+abbrev pub libraryVersion : ℕ
+libraryVersion = pairOf tableFormat versionNumber
+
 -- The kind with the tag, or with 0; a refusal is kind 7 with its number. A tag has 34 bits.
 abbrev pub answerNumber : Answer → ℕ
 answerNumber a = kindOf a * 2 ^ 40 + payloadOf a

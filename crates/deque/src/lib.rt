@@ -43,7 +43,7 @@ ghost use Rattle.machine.specs.Calls as calls;
 ghost use Rattle.machine.specs.Lent.{beginLent};
 ghost use Rattle.machine.specs.Snapshots.{takeSnapshot, putBack};
 ghost use Rattle.deque.specs.Exports.{pairOf, answerNumber, dispatchNumber, ranNumber, readingNumber, listNumber};
-ghost use Rattle.deque.specs.Exports.{freshNumber, fedNumber, checkedNumber, byListNumber};
+ghost use Rattle.deque.specs.Exports.{freshNumber, fedNumber, checkedNumber, byListNumber, libraryVersion};
 ghost use Rattle.airline_list.specs.Lists.{verdict, checked};
 ghost use Rattle.table_record.specs.Coded.{recordOf};
 ghost use Rattle.machine.specs.PushByList.{pushByList};
@@ -56,6 +56,19 @@ fn pair(high: u32, low: u32) -> u64
     ensures { λ r. ⌜ r ≡ pairOf high low ⌝ }
 {
     (high as u64) * 4_294_967_296 + (low as u64)
+}
+
+// Of the library that is linked: a caller's header may be of another.
+const TABLE_FORMAT: u32 = 4;
+
+const VERSION_NUMBER: u32 = 6_006_000;
+
+// The format of the library's tables, and its version.
+#[no_mangle]
+pub extern "C" fn lane_version() -> u64
+    ensures { λ r. ⌜ r ≡ libraryVersion ⌝ }
+{
+    pair(TABLE_FORMAT, VERSION_NUMBER)
 }
 
 // What a kind is multiplied with: 2^40.
