@@ -4,5 +4,7 @@
 pub mod SoloBound
 -- Beyond the order: some call answers under every schedule.
 pub mod LockFree
+-- With copies among the ticks it has no bound.
+pub mod CopiesPutOff
 -- Beyond the order: dispatches alone come to "idle".
 pub mod Drain

@@ -14,7 +14,7 @@ pub mod PushSpends
 pub mod AddSpends
 pub mod LinesSpend
 pub mod AtFirst
--- Tables of words: every call keeps the walks ending; a tick; the theorem.
+-- Tables of words: every call and every copy keeps the walks ending; a tick; the theorem.
 pub mod BegunEnds
 pub mod Led
 pub mod EndsOrGoes

@@ -43,8 +43,7 @@ pub data Drained : (n : ℕ) (hints ws : List ℕ) → Type 0 where
       → Drained n hints (dispatch ws h .words)
       → Drained (suc n) (h ∷ hints) ws
 
--- From any table that start and our calls can reach, with any hints below S: so many dispatches come to "idle", and by
--- then each task that was in a call has answered.
+-- With any hints below S, so many dispatches come to "idle", and by then each task that was in a call has answered.
 abbrev pub DrainsByAt : (enough : (ws : List ℕ) → ℕ → Type 0) → List ℕ → Type 0
 DrainsByAt enough ws =
     (hints : List ℕ)
@@ -52,6 +51,7 @@ DrainsByAt enough ws =
     → enough ws (length hints)
     → Drained (busyTasks ws) hints ws
 
+-- So it is from any table that start and our calls can reach.
 abbrev pub DrainsBy : (enough : (ws : List ℕ) → ℕ → Type 0) → Type 0
 DrainsBy enough = (ws : List ℕ) → Begun ws → DrainsByAt enough ws
 
@@ -76,8 +76,8 @@ abbrev pub DrainsCloser : Type 0
 DrainsCloser =
     DrainsBy (λ ws n. drainTicks (nodeCount ws) (taskCount ws) (laneCount ws) (busyTasks ws) < n)
 
--- 2026-14: and so at every place of a list of events at which a row is known, whatever pending records were copied, also over
--- busy tasks.
+-- 2026-10, 2026-14: and so at every place of a list of events at which a row is known, whatever pending records were
+-- copied, also over busy tasks.
 abbrev pub DrainsWhereKnown : Type 0
 DrainsWhereKnown =
     Always everyCopy (λ ws ρ.

@@ -1,3 +1,4 @@
 pub mod Solo
 pub mod LockFree
+pub mod CopiesPutOff
 pub mod Drain

@@ -72,9 +72,9 @@ LockFree =
     → AnswerFree n moves ws
     → n < tooManyTicks (nodeCount ws) (taskCount ws) (laneCount ws)
 
--- 2026-14: and so at every place of a list of events at which a row is known, whatever pending records were copied, also over
--- busy tasks. A copy begins a new stretch, as a start or a snapshot put back does: it is no `Move`. (With copies among the
--- ticks there is no bound: `CopiesPutOff.CopiesPutOff`.)
+-- 2026-10, 2026-14: and so at every place of a list of events at which a row is known, whatever pending records were
+-- copied, also over busy tasks. A copy begins a new stretch, as a start or a snapshot put back does: it is no `Move`.
+-- (With copies among the ticks there is no bound: `CopiesPutOff.CopiesPutOff`.)
 abbrev pub LockFreeWhereKnown : Type 0
 LockFreeWhereKnown =
     Always everyCopy (λ ws ρ.

@@ -84,9 +84,9 @@ AnswersWithin bound = (ws : List ℕ) → Begun ws → AnswersWithinAt bound ws
 abbrev pub SoloBound : Type 0
 SoloBound = AnswersWithin (λ S. 8 * S + 400)
 
--- 2026-10, 2026-14: and so at every place of a list of events at which a row is known, whatever pending records were copied,
--- also over busy tasks. The ticks are counted with no snapshot put back and no record copied between them: `AnswersAlone` has
--- none.
+-- 2026-10, 2026-14: and so at every place of a list of events at which a row is known, whatever pending records were
+-- copied, also over busy tasks. The ticks are counted with no snapshot put back and no record copied between them:
+-- `AnswersAlone` has none.
 abbrev pub SoloBoundWhereKnown : Type 0
 SoloBoundWhereKnown = Always everyCopy (λ ws ρ. AnswersWithinAt (λ S. 8 * S + 400) ws)
 

@@ -212,9 +212,9 @@ drains-led ws X hints lows long =
 pub drains-closer : DrainsCloser
 drains-closer ws B = drains-led ws (begun-led B)
 
--- 2026-14: where a row is known.
+-- 2026-10, 2026-14: where a row is known.
 pub drains-where-known : DrainsWhereKnown
-drains-where-known = where-led (DrainsByAt Closer) drains-led
+drains-where-known = where-led drains-led
 
 -- ---- The simpler bound.
 times-more : (a b c d : ℕ) → a ≤ b → c ≤ d → a * c ≤ b * d

@@ -1,4 +1,4 @@
--- A tick of a busy task in a table that our calls lead to: its outcome, and what the other tasks keep.
+-- A tick of a busy task in a table that calls and copies lead to: its outcome, and what the other tasks keep.
 use mathlib.Core.Path.{_≡_, subst}
 use mathlib.Core.Logic.{_≢_, _⊎_, inl}
 use mathlib.Core.Bool.{true}

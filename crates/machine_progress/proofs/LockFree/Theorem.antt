@@ -204,10 +204,6 @@ lock-free-led ws X n moves quiet =
 pub lock-free : LockFree
 lock-free ws B = lock-free-led ws (begun-led B)
 
--- 2026-14: where a row is known.
+-- 2026-10, 2026-14: where a row is known.
 pub lock-free-where-known : LockFreeWhereKnown
-lock-free-where-known =
-    where-led
-    (λ ws.
-    (n : ℕ) (moves : List Move) → AnswerFree n moves ws → n < tooManyTicks (nodeCount ws) (taskCount ws) (laneCount ws))
-    lock-free-led
+lock-free-where-known = where-led lock-free-led

@@ -1,5 +1,5 @@
--- Request 2026-08: in every table that our calls lead to, a busy task that alone is ticked answers within 4S + 154
--- ticks, and so within 8S + 400.
+-- Request 2026-08: in every table that our calls lead to, and wherever a row is known, a busy task that alone is ticked
+-- answers within 4S + 154 ticks, and so within 8S + 400.
 use mathlib.Core.Path.{_≡_, refl, sym, ap, _∙_, subst}
 use mathlib.Core.Bool.{true}
 use mathlib.Core.List.{List, [], _∷_, map}
@@ -136,15 +136,14 @@ answers-alone ws X k busy moves enough low =
 pub closer-solo-bound : CloserSoloBound
 closer-solo-bound ws B k busy moves enough low = answers-alone ws (begun-led B) k busy moves (omega arith) low
 
-solo-led : (ws : List ℕ) → Led ws → AnswersWithinAt (λ S. 8 * S + 400) ws
-solo-led ws X k busy moves enough low = answers-alone ws X k busy moves (omega arith) low
-
 pub solo-bound : SoloBound
-solo-bound ws B = solo-led ws (begun-led B)
+solo-bound ws B k busy moves enough low = answers-alone ws (begun-led B) k busy moves (omega arith) low
 
 -- 2026-10, 2026-14: where a row is known.
 pub solo-bound-where-known : SoloBoundWhereKnown
-solo-bound-where-known = where-led (AnswersWithinAt (λ S. 8 * S + 400)) solo-led
+solo-bound-where-known =
+    where-led {Claim = AnswersWithinAt (λ S. 8 * S + 400)} (λ ws X k busy moves enough low.
+    answers-alone ws X k busy moves (omega arith) low)
 
 -- ---- Ticks alone, with hints below S.
 pub hints-alone : (hints ws : List ℕ) → WellFormed ws → (k : ℕ) → HintsBelow (nodeCount ws) hints
