@@ -4,11 +4,12 @@ LIBRARY = target/staticlib/libdeque.a
 PROGRAM = target/bin/lane
 SOURCES = crates.txt $(shell find crates -name '*.rt' -o -name '*.antt')
 INSTALL = install
-PLACE = $(abspath $(PREFIX))
-ROOT = $(DESTDIR)$(PLACE)
 VERSION = $(shell sed -n 's/^.define LANE_VERSION "\(.*\)"/\1/p' include/lane.h)
+# In shell words, as a path may have spaces: where it is used, and where it is put.
+PLACE = place=$$(realpath -ms -- "$$PREFIX") && root=$$DESTDIR$$place
 INSTALLED = lib/liblane.a lib/pkgconfig/lane.pc include/lane.h bin/lane share/man/man1/lane.1
 
+export PREFIX DESTDIR
 .PHONY: all install uninstall footprint
 all: $(LIBRARY) $(PROGRAM)
 
@@ -23,15 +24,17 @@ $(PROGRAM): $(SOURCES)
 
 # The library is installed under its header's name.
 install: $(LIBRARY) $(PROGRAM)
-	$(INSTALL) -d $(ROOT)/lib/pkgconfig $(ROOT)/include $(ROOT)/bin $(ROOT)/share/man/man1
-	$(INSTALL) -m 644 $(LIBRARY) $(ROOT)/lib/liblane.a
-	$(INSTALL) -m 644 include/lane.h $(ROOT)/include/lane.h
-	$(INSTALL) -m 755 $(PROGRAM) $(ROOT)/bin/lane
-	$(INSTALL) -m 644 docs/lane.1 $(ROOT)/share/man/man1/lane.1
-	sed -e 's|@PREFIX@|$(PLACE)|' -e 's|@VERSION@|$(VERSION)|' lane.pc.in > $(ROOT)/lib/pkgconfig/lane.pc
+	$(PLACE) && \
+	$(INSTALL) -d "$$root/lib/pkgconfig" "$$root/include" "$$root/bin" "$$root/share/man/man1" && \
+	$(INSTALL) -m 644 $(LIBRARY) "$$root/lib/liblane.a" && \
+	$(INSTALL) -m 644 include/lane.h "$$root/include/lane.h" && \
+	$(INSTALL) -m 755 $(PROGRAM) "$$root/bin/lane" && \
+	$(INSTALL) -m 644 docs/lane.1 "$$root/share/man/man1/lane.1" && \
+	prefix=$$(printf '%s' "$$place" | sed 's/[&|\\]/\\&/g') && \
+	sed -e "s|@PREFIX@|$$prefix|" -e 's|@VERSION@|$(VERSION)|' lane.pc.in > "$$root/lib/pkgconfig/lane.pc"
 
 uninstall:
-	cd $(ROOT) && rm -f $(INSTALLED)
+	$(PLACE) && cd "$$root" && rm -f $(INSTALLED)
 
 footprint: $(LIBRARY)
 	@size $(LIBRARY)

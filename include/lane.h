@@ -27,21 +27,34 @@
  *
  * POINTERS. Lengths are in words of 32 bits, of a list in packed decimal, of an airline list and of a page in bytes. A
  * pointer is aligned for what it points to and valid for its length, and the slices of one call do not overlap: these
- * are the only things that the library cannot test. NULL with length 0 is accepted everywhere, as an empty slice. The
- * library keeps no pointer, allocates nothing and has no state of its own.
+ * are the only things that the library cannot test. NULL with length 0 is accepted everywhere, as an empty slice. A
+ * lent record is never NULL, and stands outside the table. The library keeps no pointer, allocates nothing and has no
+ * state of its own.
  *
- * THREADS. Different tables may be used by different threads at the same time, and so may reads, takes and sheets of
- * one table. All else on one table comes one call after another: the library has no lock and no atomic access. Tag
- * lists, windows and the test of an airline list need no table, and their calls may be made at any time, each with an
- * out slice or a window of its own.
+ * THREADS. Different tables may be used by different threads at the same time, and so may reads, takes, sheets and
+ * begins over lent records of one table. All else on one table comes one call after another: the library has no lock
+ * and no atomic access. Tag lists, windows and the test of an airline list need no table, and their calls may be made
+ * at any time, each with an out slice or a window of its own.
  *
- * FOOTPRINT. For x86-64 only. Under 22 kB of code and constants, no data, no heap; of stack under 5.7 kB in the calls
- * that tick, under 1.6 kB in the two with an airline list, under 0.6 kB in the others; nothing from outside but memset
+ * ASSUMED. What is proved is the code of the library as its compiler takes it, before the back end that makes machine
+ * code of it. It is proved for calls that come one after another on a table, with pointers as above. This header, and
+ * what is written in it over the library, is tested and not proved. docs/PROMISES.md has the whole list.
+ *
+ * PROVED WITH the Rattle kit that the README names, by what `rt version` prints of it. The files of this library grant
+ * no licence by themselves.
+ *
+ * FOOTPRINT. For x86-64 only. Under 24 kB of code and constants, no data, no heap; of stack under 5.7 kB in the calls
+ * that tick, under 1.7 kB in the two with an airline list, under 0.7 kB in the others; nothing from outside but memset
  * (`make footprint` measures it).
  *
  * LANES. The lanes of a table are numbered from 0. Each is a row of bags of its own, and all share the slots. A begin
  * says which lane its call is on, and the call changes nothing of another lane: lanes do not meet but in which slots
  * are free, and in that a tag is in one place of all of them. Who has one lane starts 1 and says lane 0.
+ *
+ * THE ROW. A lane of a table that lane_start began is a row of bags, and the row changes in just the tick that answers:
+ * in that of LANE_PUSHED the bag comes to its end, in that of LANE_BAG the bag at its end is gone. All other ticks, and
+ * all other calls but lane_start and lane_put, leave every row as it is. A read at any time, whatever calls stand in
+ * the middle, is the row.
  *
  * SLOTS. A slot, also called a node, is the place of one bag. Slots at an end of a lane with no bag are spare; each end
  * always has one at least, so a table of S slots and L lanes carries at most S - 2L bags in all, with one lane S - 2. A
@@ -71,9 +84,9 @@
  * those of other lanes too, and so does what a call left in the middle may still use, up to S - 2L slots, so that a
  * push may be full with no bag in any lane. Do not leave a call standing while bags pass. The way out: drain the table
  * (at lane_dispatches); then at one other end after another, of every lane, push, pop the bag again, remove 0, which
- * frees by the rows above what is spare there, unless r is 2, and try again each time. Full to the last, with no other
- * task in a call: no other end has place for more than one bag, so that with one lane S - 2 bags are in it, or S - 3
- * and the last place is at the other end. Full at every end, one after the other: S - 2L.
+ * frees by the rows above what is spare there, unless r is 2, and try again each time: lane_make_room does this. Full
+ * to the last, with no other task in a call: no other end has place for more than one bag, so that with one lane S - 2
+ * bags are in it, or S - 3 and the last place is at the other end. Full at every end, one after the other: S - 2L.
  *
  * TAGS. A bag goes by its tag of ten digits, 1 to 9,999,999,999: a number of 64 bits, or two words of 32, the leading
  * digit and the low part, the nine digits below it. Calls take and write the digit first. lane_tag makes the number of
@@ -128,6 +141,24 @@
  * after any other that is accepted nothing is said of the answers, nor that a tag is in one place, until the next
  * lane_start or such a snapshot. What is counted, the dispatches up to a task's tick or the ticks up to an answer, is
  * counted with no lane_put in between, and a window is to be made fresh after it.
+ *
+ * LENT RECORDS. A belt panel may keep the record of its task, thirteen words of the table, in its own memory, and lend
+ * it to be begun there. lane_begin_record is lane_begin with that record in the place of its task; it reads the table
+ * and writes the record alone. The panel copies the record to the table itself:
+ *
+ *   1. lend   lane_begin_record, with a fresh record (LANE_FRESH_RECORD) or the one that lane_record_of reads;
+ *   2. look   at the refusal: if it is not 0, the record is as it was, and there is nothing to copy;
+ *   3. copy   just these words to the place of that task, with lane_record_copy, and nothing in between: no other call
+ *             that writes the table, and no copy of another record.
+ *
+ * So done it is a begin, and all that is said here of a begin holds. Begun and not copied it is nothing at all. When
+ * the call has answered, the task is idle in the table, and the panel's own record is of the past: a fresh one is lent
+ * next.
+ *
+ * What not to do: a copy that comes late, after another call or copy, may bring a tag that stands somewhere by now, so
+ * that it is in two places; a copy of a record that was refused or altered, or to another task's place, is a table of
+ * any words; and a copy over a task that is in the middle of a call takes that call away without an answer. Where that
+ * call is a remove, slots can be lost for good: a start, or a snapshot from before it, is the way back.
  */
 #ifndef LANE_H
 #define LANE_H
@@ -140,11 +171,27 @@ extern "C" {
 #endif
 
 /*
+ * Before a call whose result may not be ignored; a compiler that knows how warns of it. Who wants no warning defines it
+ * as nothing before this header.
+ */
+#ifndef LANE_MUST_USE
+#if (defined(__cplusplus) && __cplusplus >= 201703L) || (defined(__STDC_VERSION__) && __STDC_VERSION__ >= 202311L)
+#define LANE_MUST_USE [[nodiscard]]
+#elif defined(__GNUC__)
+#define LANE_MUST_USE __attribute__((warn_unused_result))
+#else
+#define LANE_MUST_USE
+#endif
+#endif
+
+/*
  * The library's version; and the number of the table's format: only libraries of this format work on the table. One of
  * an older format is refused with 3, since its length does not fit its sizes, and so is one of this format by an older
- * library.
+ * library. To move on to a new format, drain the table with the library of the old one, read its lanes, start a table
+ * with the new library, and push the bags there in that order.
  */
-#define LANE_VERSION "6.5.0"
+#define LANE_VERSION "6.6.0"
+#define LANE_VERSION_NUMBER 6006000 /* major times 1,000,000, minor times 1,000, and the patch */
 #define LANE_TABLE_FORMAT 4
 
 /*
@@ -254,10 +301,31 @@ extern "C" {
 
 /*
  * Words of the table, counted from 0: the ticks made since lane_start, by whatever call, which go from 4,294,967,295 to
- * 0; and the task last dispatched, below the number of tasks.
+ * 0; and the task last dispatched, below the number of tasks. lane_tick_count and lane_dispatched read them.
  */
 #define LANE_TICK_COUNT 4
 #define LANE_DISPATCHED 5
+
+/*
+ * A task's record: its thirteen words, in the order of the table. Slots are numbers below S, or LANE_NO_SLOT.
+ */
+struct lane_record {
+    uint32_t operation;   /* LANE_PUSH to LANE_REMOVE; 0 for an idle task */
+    uint32_t step;        /* the line of the figure */
+    uint32_t side;        /* LANE_LEFT or LANE_RIGHT */
+    uint32_t argument;    /* of a push the low part of its tag */
+    uint32_t digit;       /* of a push the leading digit of its tag */
+    uint32_t counted;     /* slots so far */
+    uint32_t value;       /* the value read: a low part, or a mark */
+    uint32_t value_digit; /* its leading digit */
+    uint32_t a, b, c, d;  /* the registers, slots */
+    uint32_t lane;
+};
+#define LANE_RECORD_WORDS 13
+#define LANE_NO_SLOT 65535
+
+/* The record of an idle task, as an initializer. */
+#define LANE_FRESH_RECORD {0, 0, 0, 0, 0, 0, 0, 0, LANE_NO_SLOT, LANE_NO_SLOT, LANE_NO_SLOT, LANE_NO_SLOT, 0}
 
 /* The two parts of what ticks and dispatches return: the kind, and the tag or the refusal. */
 #define LANE_KIND(answer) ((uint32_t)((answer) >> 40))
@@ -278,10 +346,27 @@ extern "C" {
  */
 
 /*
+ * The version and the table's format of the library that was linked, which may not be the one that this header is of;
+ * lane_fits compares them.
+ * Returns the format times 2^32 plus the version's number.
+ *
+ * ```c
+ * #include "lane.h"
+ *
+ * int main(void) {
+ *     return lane_fits(lane_version()) ? 0 : 1;
+ * }
+ * ```
+ */
+LANE_MUST_USE
+uint64_t lane_version(void);
+
+/*
  * Begins empty lanes, `lanes` of them (1 to 4); the table's words may be anything before. `growth` (0 to 64) is how
  * many spare slots a push adds beyond the one it needs.
  * Returns 0, or a refusal: 25, 1, 2. Writes every word of the table.
  */
+LANE_MUST_USE
 uint32_t lane_start(uint32_t *table, size_t words, uint32_t slots, uint32_t tasks, uint32_t growth, uint32_t lanes);
 
 /*
@@ -291,8 +376,40 @@ uint32_t lane_start(uint32_t *table, size_t words, uint32_t slots, uint32_t task
  * included (16).
  * Returns 0, or a refusal: 3, 4, 26, 5, 6, 7, 11 (push), 16 (push), 8. Writes the task's thirteen words.
  */
+LANE_MUST_USE
 uint32_t lane_begin(uint32_t *table, size_t words, uint32_t task, uint32_t lane, uint32_t operation, uint32_t side,
                     uint32_t digit, uint32_t argument);
+
+/*
+ * Gives the task of a lent record a call, as lane_begin does with that record in the place of its task: what stands
+ * there in the table is not looked at, and the table is only read. A record of a task that is not there is not tested.
+ * Returns 0, or a refusal: 3, 4 (the table, with the record in its place), 26, 5, 6, 7, 11 (push), 16 (push), 8. Writes
+ * the thirteen words of the record, those that lane_begin would write to the table; with a refusal none.
+ *
+ * ```c
+ * #include <string.h>
+ * #include "lane.h"
+ *
+ * int main(void) {
+ *     static uint32_t table[LANE_WORDS(8, 2)], begun[LANE_WORDS(8, 2)];
+ *     size_t words = LANE_WORDS(8, 2);
+ *     struct lane_record record = LANE_FRESH_RECORD;
+ *     if (lane_start(table, words, 8, 2, 0, 1) != 0 || lane_start(begun, words, 8, 2, 0, 1) != 0 ||
+ *         lane_begin(begun, words, 1, 0, LANE_PUSH, LANE_LEFT, 0, 51) != 0) {
+ *         return 1;
+ *     }
+ *     if (lane_begin_record(&record, table, words, 1, 0, LANE_PUSH, LANE_LEFT, 0, 51) != 0 ||
+ *         lane_is_busy(table, words, 1) || // not yet
+ *         lane_record_copy(table, words, 1, &record) != 0 || memcmp(table, begun, sizeof table) != 0) {
+ *         return 1;
+ *     }
+ *     return lane_begin_record(&record, table, words, 1, 0, LANE_POP, LANE_LEFT, 0, 0) == LANE_REFUSED_BUSY ? 0 : 1;
+ * }
+ * ```
+ */
+LANE_MUST_USE
+uint32_t lane_begin_record(struct lane_record *record, const uint32_t *table, size_t words, uint32_t task,
+                           uint32_t lane, uint32_t operation, uint32_t side, uint32_t digit, uint32_t argument);
 
 /*
  * Makes one tick of a busy task. If the tick takes a free slot, it is the first one from `hint` (below the number of
@@ -302,6 +419,7 @@ uint32_t lane_begin(uint32_t *table, size_t words, uint32_t task, uint32_t lane,
  * else 0; that is the kind times 2^40 plus the value. Writes the tick count, the task's words and what this one tick of
  * its call writes. After any kind but LANE_GOING and LANE_REFUSED the task is idle.
  */
+LANE_MUST_USE
 uint64_t lane_tick(uint32_t *table, size_t words, uint32_t task, uint32_t hint);
 
 /*
@@ -327,6 +445,7 @@ uint64_t lane_tick(uint32_t *table, size_t words, uint32_t task, uint32_t hint);
  * }
  * ```
  */
+LANE_MUST_USE
 uint64_t lane_ticks(uint32_t *table, size_t words, uint32_t task, uint32_t hint, uint32_t times);
 
 /*
@@ -358,6 +477,7 @@ uint64_t lane_ticks(uint32_t *table, size_t words, uint32_t task, uint32_t hint,
  * }
  * ```
  */
+LANE_MUST_USE
 uint64_t lane_dispatch(uint32_t *table, size_t words, uint32_t hint);
 
 /*
@@ -394,6 +514,7 @@ uint64_t lane_dispatch(uint32_t *table, size_t words, uint32_t hint);
  * }
  * ```
  */
+LANE_MUST_USE
 uint64_t lane_dispatches(uint32_t *table, size_t words, uint32_t hint, uint32_t times);
 
 /*
@@ -420,6 +541,7 @@ uint64_t lane_dispatches(uint32_t *table, size_t words, uint32_t hint, uint32_t 
  * }
  * ```
  */
+LANE_MUST_USE
 uint64_t lane_run(uint32_t *table, size_t words, const uint32_t *list, size_t list_words, uint32_t *answers,
                   size_t answers_words);
 
@@ -427,6 +549,7 @@ uint64_t lane_run(uint32_t *table, size_t words, const uint32_t *list, size_t li
  * The same for the maintenance panel, whose list has 32 ticks at most: up to them it returns and writes what lane_run
  * does. Over them it gives 15, tested after 13 and before 14.
  */
+LANE_MUST_USE
 uint64_t lane_panel(uint32_t *table, size_t words, const uint32_t *list, size_t list_words, uint32_t *answers,
                     size_t answers_words);
 
@@ -456,6 +579,7 @@ uint64_t lane_panel(uint32_t *table, size_t words, const uint32_t *list, size_t 
  * }
  * ```
  */
+LANE_MUST_USE
 uint64_t lane_read(const uint32_t *table, size_t words, uint32_t lane, uint32_t *out, size_t out_words);
 
 /*
@@ -486,12 +610,14 @@ uint64_t lane_read(const uint32_t *table, size_t words, uint32_t lane, uint32_t 
  * }
  * ```
  */
+LANE_MUST_USE
 uint32_t lane_sheet(const uint32_t *table, size_t words, uint32_t lane, uint32_t page, uint8_t *out, size_t out_bytes);
 
 /*
  * Takes a snapshot of a table: its words by columns, as many as the table has.
  * Returns 0, or a refusal: 22, 3, 4. Writes every word of `snapshot`.
  */
+LANE_MUST_USE
 uint32_t lane_take(const uint32_t *table, size_t words, uint32_t *snapshot, size_t snapshot_words);
 
 /*
@@ -524,6 +650,7 @@ uint32_t lane_take(const uint32_t *table, size_t words, uint32_t *snapshot, size
  * }
  * ```
  */
+LANE_MUST_USE
 uint32_t lane_put(const uint32_t *snapshot, size_t snapshot_words, uint32_t *table, size_t words);
 
 /*
@@ -552,6 +679,7 @@ uint32_t lane_put(const uint32_t *snapshot, size_t snapshot_words, uint32_t *tab
  * }
  * ```
  */
+LANE_MUST_USE
 uint64_t lane_tags_read(const uint8_t *list, size_t bytes, uint32_t *out, size_t out_words);
 
 /*
@@ -561,6 +689,7 @@ uint64_t lane_tags_read(const uint8_t *list, size_t bytes, uint32_t *out, size_t
  * above 999,999,999 or zero, 19 for under five bytes of `out` a tag.
  * Writes five bytes of `out` for each tag; later bytes stay.
  */
+LANE_MUST_USE
 uint64_t lane_tags_write(const uint32_t *tags, size_t words, uint8_t *out, size_t out_bytes);
 
 /*
@@ -587,6 +716,7 @@ uint64_t lane_tags_write(const uint32_t *tags, size_t words, uint8_t *out, size_
  * }
  * ```
  */
+LANE_MUST_USE
 uint64_t lane_list_check(const uint8_t *list, size_t list_bytes);
 
 /*
@@ -620,6 +750,7 @@ uint64_t lane_list_check(const uint8_t *list, size_t list_bytes);
  * }
  * ```
  */
+LANE_MUST_USE
 uint64_t lane_push_by_list(const uint8_t *list, size_t list_bytes, uint32_t *table, size_t words, uint32_t task,
                            uint32_t lane, uint32_t digit, uint32_t argument);
 
@@ -628,6 +759,7 @@ uint64_t lane_push_by_list(const uint8_t *list, size_t list_bytes, uint32_t *tab
  * be anything before.
  * Returns 0, or 23, if `width` is out of range or `words` is not LANE_WINDOW_WORDS(width). Writes every word.
  */
+LANE_MUST_USE
 uint32_t lane_window(uint32_t *window, size_t words, uint32_t width);
 
 /*
@@ -660,9 +792,20 @@ uint32_t lane_window(uint32_t *window, size_t words, uint32_t width);
  * }
  * ```
  */
+LANE_MUST_USE
 uint64_t lane_feed(uint32_t *window, size_t words, uint32_t count, uint32_t before, uint32_t after);
 
 /* Those below are no part of the library and of its proofs: they are written here, over the calls above. */
+
+/*
+ * Whether a program with this header can work with a library of that lane_version: 1 where the format and the first
+ * number are the same and the second number is not lower, else 0.
+ */
+static inline int lane_fits(uint64_t version) {
+    uint32_t format = (uint32_t)(version >> 32), number = (uint32_t)(version & 0xffffffffu);
+    return format == LANE_TABLE_FORMAT && number / 1000000 == LANE_VERSION_NUMBER / 1000000 &&
+           number / 1000 >= LANE_VERSION_NUMBER / 1000;
+}
 
 /* The tag of a digit and a low part. */
 static inline uint64_t lane_tag(uint32_t digit, uint32_t low) {
@@ -679,6 +822,156 @@ static inline uint32_t lane_tag_low(uint64_t tag) {
     return (uint32_t)(tag % 1000000000);
 }
 
+/* The tag at a place, from 0, of what lane_read and lane_tags_read write. */
+static inline uint64_t lane_tag_at(const uint32_t *out, size_t place) {
+    return lane_tag(out[LANE_TAG_WORDS * place], out[LANE_TAG_WORDS * place + 1]);
+}
+
+/*
+ * READERS of a table, for those who do not keep its places. They test nothing: of words that no call has accepted they
+ * give what stands there, and 0 for what is not there, a task too.
+ *
+ * ```c
+ * #include "lane.h"
+ *
+ * int main(void) {
+ *     static uint32_t table[LANE_WORDS(8, 3)];
+ *     size_t words = LANE_WORDS(8, 3);
+ *     if (lane_start(table, words, 8, 3, 0, 2) != 0 ||
+ *         lane_begin(table, words, 1, 1, LANE_POP, LANE_RIGHT, 0, 0) != 0 ||
+ *         LANE_KIND(lane_dispatch(table, words, 0)) != LANE_GOING) {
+ *         return 1;
+ *     }
+ *     if (lane_slots(table, words) != 8 || lane_tasks(table, words) != 3 || lane_lanes(table, words) != 2 ||
+ *         lane_tick_count(table, words) != 1 || lane_dispatched(table, words) != 1) {
+ *         return 1;
+ *     }
+ *     if (lane_is_busy(table, words, 0) || !lane_is_busy(table, words, 1) || lane_is_busy(table, words, 3)) {
+ *         return 1;
+ *     }
+ *     return lane_operation(table, words, 1) == LANE_POP && lane_side(table, words, 1) == LANE_RIGHT &&
+ *            lane_lane(table, words, 1) == 1 && lane_step(table, words, 1) == 40 ? 0 : 1;
+ * }
+ * ```
+ */
+
+/* A word of the table; 0 where there is none. */
+static inline uint32_t lane_word(const uint32_t *table, size_t words, size_t place) {
+    return place < words ? table[place] : 0;
+}
+
+/* Where the record of a task begins; `words` where there is no such record. */
+static inline size_t lane_record_place(const uint32_t *table, size_t words, uint32_t task) {
+    size_t place = LANE_WORDS(lane_word(table, words, 0), task);
+    int there = task < lane_word(table, words, 1) && place <= words && words - place >= LANE_RECORD_WORDS;
+    return there ? place : words;
+}
+
+/* A word, from 0, of the record of a task. */
+static inline uint32_t lane_record_word(const uint32_t *table, size_t words, uint32_t task, size_t word) {
+    return lane_word(table, words, lane_record_place(table, words, task) + word);
+}
+
+/* The slots of a table. */
+static inline uint32_t lane_slots(const uint32_t *table, size_t words) {
+    return lane_word(table, words, 0);
+}
+
+/* The tasks of a table. */
+static inline uint32_t lane_tasks(const uint32_t *table, size_t words) {
+    return lane_word(table, words, 1);
+}
+
+/* The lanes of a table. */
+static inline uint32_t lane_lanes(const uint32_t *table, size_t words) {
+    return lane_word(table, words, 3);
+}
+
+/* The ticks made since lane_start, by whatever call; they go from 4,294,967,295 to 0. */
+static inline uint32_t lane_tick_count(const uint32_t *table, size_t words) {
+    return lane_word(table, words, LANE_TICK_COUNT);
+}
+
+/* The task last dispatched; after lane_start the one with the highest number. */
+static inline uint32_t lane_dispatched(const uint32_t *table, size_t words) {
+    return lane_word(table, words, LANE_DISPATCHED);
+}
+
+/* What a task was told to do, LANE_PUSH to LANE_REMOVE; 0 for a task that is idle. */
+static inline uint32_t lane_operation(const uint32_t *table, size_t words, uint32_t task) {
+    return lane_record_word(table, words, task, 0);
+}
+
+/* Whether a task is in the middle of a call, on whatever lane: 1 or 0. */
+static inline int lane_is_busy(const uint32_t *table, size_t words, uint32_t task) {
+    return lane_operation(table, words, task) != 0;
+}
+
+/* The end at which the call of a task is, LANE_LEFT or LANE_RIGHT; 0 for a task that is idle. */
+static inline uint32_t lane_side(const uint32_t *table, size_t words, uint32_t task) {
+    return lane_record_word(table, words, task, 2);
+}
+
+/* The lane on which the call of a task is; 0 for a task that is idle. */
+static inline uint32_t lane_lane(const uint32_t *table, size_t words, uint32_t task) {
+    return lane_record_word(table, words, task, 12);
+}
+
+/* The step at which a task stands, the number of a line of the figure; 0 for a task that is idle. */
+static inline uint32_t lane_step(const uint32_t *table, size_t words, uint32_t task) {
+    return lane_record_word(table, words, task, 1);
+}
+
+/* The record of a task, as it stands in the table; a fresh one where there is no such task. */
+static inline struct lane_record lane_record_of(const uint32_t *table, size_t words, uint32_t task) {
+    struct lane_record record = LANE_FRESH_RECORD;
+    size_t place = lane_record_place(table, words, task);
+    if (place < words) {
+        record.operation = table[place];
+        record.step = table[place + 1];
+        record.side = table[place + 2];
+        record.argument = table[place + 3];
+        record.digit = table[place + 4];
+        record.counted = table[place + 5];
+        record.value = table[place + 6];
+        record.value_digit = table[place + 7];
+        record.a = table[place + 8];
+        record.b = table[place + 9];
+        record.c = table[place + 10];
+        record.d = table[place + 11];
+        record.lane = table[place + 12];
+    }
+    return record;
+}
+
+/*
+ * Copies a record to the place of a task, whatever both are: LENT RECORDS, above, says when.
+ * Returns 0, or LANE_REFUSED_TASK where there is no such place, and writes nothing then. Else writes the task's
+ * thirteen words.
+ */
+LANE_MUST_USE
+static inline uint32_t lane_record_copy(uint32_t *table, size_t words, uint32_t task,
+                                        const struct lane_record *record) {
+    size_t place = lane_record_place(table, words, task);
+    if (place == words) {
+        return LANE_REFUSED_TASK;
+    }
+    table[place] = record->operation;
+    table[place + 1] = record->step;
+    table[place + 2] = record->side;
+    table[place + 3] = record->argument;
+    table[place + 4] = record->digit;
+    table[place + 5] = record->counted;
+    table[place + 6] = record->value;
+    table[place + 7] = record->value_digit;
+    table[place + 8] = record->a;
+    table[place + 9] = record->b;
+    table[place + 10] = record->c;
+    table[place + 11] = record->d;
+    table[place + 12] = record->lane;
+    return 0;
+}
+
 /*
  * Begins a call on a lane and ticks its task with hint 0 until it answers, while no other task gets a tick: one
  * lane_begin and one lane_ticks, each with its one test of the table. The argument is one number, of a push its tag.
@@ -686,6 +979,7 @@ static inline uint32_t lane_tag_low(uint64_t tag) {
  * that lane_start began it is never LANE_GOING; on any other, LANE_GOING after LANE_MAX_TICKS_ALONE(slots) ticks
  * without an answer, and the task is still busy.
  */
+LANE_MUST_USE
 static inline uint64_t lane_call(uint32_t *table, size_t words, uint32_t task, uint32_t lane, uint32_t operation,
                                  uint32_t side, uint64_t argument) {
     uint32_t digit = lane_tag_digit(argument), low = lane_tag_low(argument);
@@ -697,12 +991,56 @@ static inline uint64_t lane_call(uint32_t *table, size_t words, uint32_t task, u
 }
 
 /*
- * The step at which a task stands, the number of a line of the figure; 0 for a task that is idle or is not there. The
- * words may be anything.
+ * Pushes a bag that was "full" at an end: tries again, and as long as the answer is "full", has one other end of the
+ * table after another give back what it can, and tries again each time. To give back, an end takes the same bag by a
+ * push, gives it out by a pop, and removes 0: whole calls of `task`, which is idle. Drain the table before
+ * (lane_dispatches): the answers of the other tasks are the caller's.
+ * Returns what lane_call returns for its last push at this end: LANE_PUSHED; or LANE_FULL, when with no task in a call
+ * no other end has place for more than one bag; or LANE_REFUSED. On a table that lane_start did not begin it may also
+ * stop at a call that answers what it should not, and returns that.
+ *
+ * ```c
+ * #include "lane.h"
+ *
+ * int main(void) {
+ *     static uint32_t table[LANE_WORDS(8, 1)];
+ *     size_t words = LANE_WORDS(8, 1);
+ *     if (lane_start(table, words, 8, 1, 0, 2) != 0 ||
+ *         LANE_KIND(lane_call(table, words, 0, 0, LANE_ADD, LANE_LEFT, 3)) != LANE_YES || // all that were free
+ *         LANE_KIND(lane_call(table, words, 0, 1, LANE_PUSH, LANE_RIGHT, 51)) != LANE_FULL) {
+ *         return 1;
+ *     }
+ *     return LANE_KIND(lane_make_room(table, words, 0, 1, LANE_RIGHT, 51)) == LANE_PUSHED ? 0 : 1;
+ * }
+ * ```
  */
-static inline uint32_t lane_step(const uint32_t *table, size_t words, uint32_t task) {
-    size_t record = words == 0 ? 0 : LANE_WORDS(table[0], task);
-    return record + 1 < words ? table[record + 1] : 0;
+LANE_MUST_USE
+static inline uint64_t lane_make_room(uint32_t *table, size_t words, uint32_t task, uint32_t lane, uint32_t side,
+                                      uint64_t tag) {
+    uint64_t answer = lane_call(table, words, task, lane, LANE_PUSH, side, tag);
+    for (uint32_t end = 0; LANE_KIND(answer) == LANE_FULL && end / 2 < lane_lanes(table, words); end++) {
+        uint32_t other = end / 2, at = end % 2;
+        if (other == lane && at == side) {
+            continue;
+        }
+        uint64_t given = lane_call(table, words, task, other, LANE_PUSH, at, tag);
+        if (LANE_KIND(given) == LANE_FULL) {
+            continue; /* nothing is spare there */
+        }
+        if (LANE_KIND(given) != LANE_PUSHED) {
+            return given;
+        }
+        given = lane_call(table, words, task, other, LANE_POP, at, 0);
+        if (given != ((uint64_t)LANE_BAG << 40 | tag)) {
+            return given;
+        }
+        given = lane_call(table, words, task, other, LANE_REMOVE, at, 0);
+        if (LANE_KIND(given) != LANE_YES && LANE_KIND(given) != LANE_NO) {
+            return given;
+        }
+        answer = lane_call(table, words, task, lane, LANE_PUSH, side, tag);
+    }
+    return answer;
 }
 
 /*
@@ -728,12 +1066,15 @@ static inline uint32_t lane_step(const uint32_t *table, size_t words, uint32_t t
  *         }
  *     }
  *     for (uint32_t turn = 0; turn < 6; turn++) {
- *         lane_watch_tick(table, words, turn % 2, 0, window, window_words, &fed);
+ *         if (LANE_KIND(lane_watch_tick(table, words, turn % 2, 0, window, window_words, &fed)) == LANE_REFUSED) {
+ *             return 1;
+ *         }
  *     }
  *     return LANE_REFUSAL(fed) == 0 && LANE_COUNT(fed) == 1 && lane_step(table, words, 1) == 8 ? 0 : 1;
  * }
  * ```
  */
+LANE_MUST_USE
 static inline uint64_t lane_watch_tick(uint32_t *table, size_t words, uint32_t task, uint32_t hint, uint32_t *window,
                                        size_t window_words, uint64_t *fed) {
     uint32_t before = lane_step(table, words, task);
@@ -750,6 +1091,7 @@ static inline uint64_t lane_watch_tick(uint32_t *table, size_t words, uint32_t t
  * Returns what lane_dispatch returns, and in `*fed` what lane_feed returns; with LANE_IDLE or LANE_REFUSED there is no
  * tick, and `*fed` stays as it is.
  */
+LANE_MUST_USE
 static inline uint64_t lane_watch_dispatch(uint32_t *table, size_t words, uint32_t hint, uint32_t *window,
                                            size_t window_words, uint64_t *fed) {
     uint32_t before[LANE_MAX_TASKS];
@@ -765,8 +1107,8 @@ static inline uint64_t lane_watch_dispatch(uint32_t *table, size_t words, uint32
 }
 
 /*
- * A refusal in words, for a message: a constant text in English; "not refused" for 0, "no refusal" for a number that no
- * call gives.
+ * A refusal in words, for a message: a constant text in English; "not refused" for 0, "unknown refusal" for a number
+ * that no call gives.
  */
 static inline const char *lane_refusal_text(uint32_t refusal) {
     switch (refusal) {
@@ -831,7 +1173,53 @@ static inline const char *lane_refusal_text(uint32_t refusal) {
     case LANE_REFUSED_CLOSING:
         return "the airline list closes before its end, or not at its end";
     default:
-        return "no refusal";
+        return "unknown refusal";
+    }
+}
+
+/*
+ * What a tick, a dispatch, lane_call and the like return, in words: "going", "pushed", "bag" (LANE_VALUE has the tag),
+ * "empty", "full", "yes", "no" and "idle"; for LANE_REFUSED what lane_refusal_text says; "unknown answer" for a number
+ * that no call gives.
+ *
+ * ```c
+ * #include <string.h>
+ * #include "lane.h"
+ *
+ * int main(void) {
+ *     static uint32_t table[LANE_WORDS(4, 1)];
+ *     size_t words = LANE_WORDS(4, 1);
+ *     if (lane_start(table, words, 4, 1, 0, 1) != 0) {
+ *         return 1;
+ *     }
+ *     const char *said = lane_answer_text(lane_call(table, words, 0, 0, LANE_POP, LANE_LEFT, 0));
+ *     const char *refused = lane_answer_text(lane_tick(table, words, 0, 0));
+ *     return strcmp(said, "empty") == 0 && strcmp(refused, "the task is idle") == 0 ? 0 : 1;
+ * }
+ * ```
+ */
+static inline const char *lane_answer_text(uint64_t answer) {
+    switch (LANE_KIND(answer)) {
+    case LANE_GOING:
+        return "going";
+    case LANE_PUSHED:
+        return "pushed";
+    case LANE_BAG:
+        return "bag";
+    case LANE_EMPTY:
+        return "empty";
+    case LANE_FULL:
+        return "full";
+    case LANE_YES:
+        return "yes";
+    case LANE_NO:
+        return "no";
+    case LANE_REFUSED:
+        return lane_refusal_text((uint32_t)LANE_VALUE(answer));
+    case LANE_IDLE:
+        return "idle";
+    default:
+        return "unknown answer";
     }
 }
 

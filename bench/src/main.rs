@@ -17,7 +17,7 @@ use loads::Load;
 use measure::{interleaved, nanoseconds, plain_sum, Figures};
 use programs::{Program, PROVED, RUST};
 use reference::sheet::{BYTES, MAX_PAGE};
-use reference::table::{header, POP, PUSH, RIGHT};
+use reference::table::{header, record, POP, PUSH, RIGHT};
 
 /// Words of all copies of a table in one round: they stay in the nearest cache.
 const ROUND_WORDS: usize = 6000;
@@ -29,24 +29,12 @@ type Make = fn(u32, u32) -> Load;
 /// What measures a load in so many rounds.
 type Measure = fn(usize, &Load) -> Figures;
 
-/// What is measured, and on how many lanes.
-const ROWS: [(&str, u32, Make, Measure); 12] = [
-    (
-        "tick, no take: 16 removes that walk",
-        1,
-        loads::walks,
-        run_tick,
-    ),
+/// What is measured, and on how many lanes; what `growth` shows on one lane is not shown twice.
+const ROWS: [(&str, u32, Make, Measure); 9] = [
     (
         "tick, no take: 16 pops, empty lane",
         1,
         loads::pops,
-        run_tick,
-    ),
-    (
-        "tick, each takes a node: 16 adds",
-        1,
-        loads::takes,
         run_tick,
     ),
     (
@@ -73,12 +61,6 @@ const ROWS: [(&str, u32, Make, Measure); 12] = [
         1,
         loads::empty,
         single_calls,
-    ),
-    (
-        "shape test alone: a run of no ticks",
-        1,
-        loads::none,
-        shape_test,
     ),
     (
         "tick, no take: 16 removes that walk",
@@ -160,6 +142,8 @@ fn ratios(rounds: usize) {
     for (lanes, table) in [(1, one), (4, four)] {
         let begin = beginning(rounds, &table);
         show("begin of a push, 1,000 bags", 1024, lanes, 0, &begin);
+        let lent = lending(rounds, &table);
+        show("the same over a lent record", 1024, lanes, 0, &lent);
     }
 }
 
@@ -372,6 +356,29 @@ fn beginning(rounds: usize, table: &[u32]) -> Figures {
             lent.copy_from_slice(table);
             nanoseconds(|| {
                 black_box(begin(program, black_box(&mut lent)));
+            })
+        }
+    };
+    interleaved(rounds, work(&PROVED), work(&RUST))
+}
+
+/// The same over a fresh record that is lent, and not copied.
+fn lending(rounds: usize, table: &[u32]) -> Figures {
+    let begin = |program: &Program, record: &mut [u32; record::WORDS], table: &[u32]| {
+        (program.begin_record)(record, table, 0, 0, PUSH, RIGHT, 0, loads::NEW_TAG)
+    };
+    let mut records = [record::FRESH; 2];
+    assert_eq!(begin(&PROVED, &mut records[0], table), 0);
+    assert_eq!(begin(&RUST, &mut records[1], table), 0);
+    assert_eq!(
+        records[0], records[1],
+        "the programs differ in a lent record"
+    );
+    let work = |program: &'static Program| {
+        move || {
+            let mut record = record::FRESH;
+            nanoseconds(|| {
+                black_box(begin(program, black_box(&mut record), black_box(table)));
             })
         }
     };

@@ -1,12 +1,15 @@
 //! The two programs under the same function types, so that both are called alike.
 
 use lane::ffi;
+use reference::table::record;
 use reference::{airlines, Answer};
 
 /// The calls that are measured, answers as numbers of 64 bits.
 pub struct Program {
     /// Task, lane, operation, side, digit and argument of a call.
     pub begin: fn(&mut [u32], u32, u32, u32, u32, u32, u32) -> u32,
+    /// The same over a lent record, which comes first; the table is only read.
+    pub begin_record: fn(&mut [u32; record::WORDS], &[u32], u32, u32, u32, u32, u32, u32) -> u32,
     /// One tick with its test of the table's shape.
     pub tick: fn(&mut [u32], u32, u32) -> u64,
     /// Consecutive ticks of one task: task, hint, and how many at most.
@@ -40,6 +43,7 @@ pub struct Program {
 /// The proved machine, from the static library.
 pub const PROVED: Program = Program {
     begin: ffi::begin,
+    begin_record: ffi::begin_record,
     tick: ffi::tick,
     ticks: ffi::ticks,
     dispatch: ffi::dispatch,
@@ -62,6 +66,7 @@ pub const RUST: Program = Program {
         let begun = reference::begin(table, task, lane, operation, side, digit, argument);
         refusal(begun)
     },
+    begin_record: reference::begin_record,
     tick: |table, task, hint| answer(reference::tick(table, task, hint)),
     ticks: |table, task, hint, times| answer(reference::ticks(table, task, hint, times)),
     dispatch: |table, hint| {

@@ -66,7 +66,7 @@ static void print_lane(void) {
     check(LANE_REFUSAL(reading));
     printf("  lane:");
     for (uint32_t place = 0; place < LANE_COUNT(reading); place++) {
-        printf(" %010" PRIu64, lane_tag(tags[2 * place], tags[2 * place + 1]));
+        printf(" %010" PRIu64, lane_tag_at(tags, place));
     }
     puts("");
 }

@@ -43,7 +43,9 @@ int main(void) {
     static const char *const phases[] = {"each at its own end", "both at the right", "apart again"};
     check(lane_start(table, WORDS, SLOTS, TASKS, 0, 1));
     while (next_tag <= BAGS) {
-        lane_call(table, WORDS, 0, 0, LANE_PUSH, LANE_LEFT, next_tag++);
+        if (LANE_KIND(lane_call(table, WORDS, 0, 0, LANE_PUSH, LANE_LEFT, next_tag++)) != LANE_PUSHED) {
+            return 1;
+        }
     }
     check(lane_window(window, WINDOW, WIDTH));
     for (uint32_t tick = 0; tick < 3 * PHASE; tick++) {

@@ -40,7 +40,6 @@ static void finish_all(void) {
 
 /* A push that does not give up at the first "full". Returns 0 if the lane has no room at this end. */
 static int push_for_sure(uint32_t side, uint64_t tag) {
-    uint32_t other = LANE_LEFT + LANE_RIGHT - side;
     if (call(LOADER, LANE_PUSH, side, tag, NULL) == LANE_PUSHED) {
         return 1;
     }
@@ -50,11 +49,7 @@ static int push_for_sure(uint32_t side, uint64_t tag) {
         return 1;
     }
     puts("  full again: push, pop, remove 0 at the other end");
-    if (call(KEEPER, LANE_PUSH, other, LANE_MAX_TAG, NULL) == LANE_PUSHED) {
-        call(KEEPER, LANE_POP, other, 0, NULL);
-        call(KEEPER, LANE_REMOVE, other, 0, NULL);
-    }
-    return call(LOADER, LANE_PUSH, side, tag, NULL) == LANE_PUSHED;
+    return LANE_KIND(lane_make_room(table, WORDS, KEEPER, 0, side, tag)) == LANE_PUSHED;
 }
 
 static void print_lane(void) {
@@ -63,7 +58,7 @@ static void print_lane(void) {
     check(LANE_REFUSAL(reading));
     printf("  lane:");
     for (uint32_t place = 0; place < LANE_COUNT(reading); place++) {
-        printf(" %010" PRIu64, lane_tag(tags[2 * place], tags[2 * place + 1]));
+        printf(" %010" PRIu64, lane_tag_at(tags, place));
     }
     puts("");
 }

@@ -26,24 +26,13 @@ static uint32_t call(uint32_t lane, uint32_t operation, uint32_t side, uint64_t 
     return LANE_KIND(answer);
 }
 
-/* What an end can give back to the others: a push brings its hat back to the lane, a remove gives back spare slots. */
-static void give_back(uint32_t lane, uint32_t side) {
-    if (call(lane, LANE_PUSH, side, LANE_MAX_TAG) == LANE_PUSHED) {
-        call(lane, LANE_POP, side, 0);
-        call(lane, LANE_REMOVE, side, 0);
-    }
-}
-
 /* A push that is tried again after each other end has given back what it can. Returns 0 if this end has no room. */
 static int push_for_sure(uint32_t lane, uint32_t side, uint64_t tag) {
-    uint32_t answer = call(lane, LANE_PUSH, side, tag);
-    for (uint32_t end = 0; end < 2 * LANES && answer == LANE_FULL; end++) {
-        if (end != 2 * lane + side) {
-            give_back(end / 2, end % 2);
-            answer = call(lane, LANE_PUSH, side, tag);
-        }
+    uint64_t answer = lane_make_room(table, WORDS, lane, lane, side, tag);
+    if (LANE_KIND(answer) == LANE_REFUSED) {
+        check((uint32_t)LANE_VALUE(answer));
     }
-    return answer == LANE_PUSHED;
+    return LANE_KIND(answer) == LANE_PUSHED;
 }
 
 static void print_lanes(void) {
@@ -54,7 +43,7 @@ static void print_lanes(void) {
         check(LANE_REFUSAL(reading));
         printf("  %s:", names[lane]);
         for (uint32_t place = 0; place < LANE_COUNT(reading); place++) {
-            printf(" %010" PRIu64, lane_tag(tags[2 * place], tags[2 * place + 1]));
+            printf(" %010" PRIu64, lane_tag_at(tags, place));
         }
         puts("");
     }

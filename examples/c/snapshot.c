@@ -22,7 +22,7 @@ static void print_lane(void) {
     check(LANE_REFUSAL(reading));
     printf("  lane:");
     for (uint32_t place = 0; place < LANE_COUNT(reading); place++) {
-        printf(" %010" PRIu64, lane_tag(tags[2 * place], tags[2 * place + 1]));
+        printf(" %010" PRIu64, lane_tag_at(tags, place));
     }
     puts("");
 }
@@ -65,7 +65,9 @@ int main(void) {
     }
     check(lane_begin(table, WORDS, 0, 0, LANE_PUSH, LANE_RIGHT, 0, 53));
     check(lane_begin(table, WORDS, 1, 0, LANE_POP, LANE_LEFT, 0, 0));
-    lane_ticks(table, WORDS, 0, 0, 5);
+    if (LANE_KIND(lane_ticks(table, WORDS, 0, 0, 5)) != LANE_GOING) {
+        return 1;
+    }
 
     puts("two bags, and a push and a pop in the middle: a snapshot is taken");
     check(lane_take(table, WORDS, first, WORDS));

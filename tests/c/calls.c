@@ -1,5 +1,6 @@
 /* What include/lane.h says, held to the library: limits, refusals, empty slices without a pointer, helpers. */
 #include <stdio.h>
+#include <stdlib.h>
 #include <string.h>
 
 #include "lane.h"
@@ -34,6 +35,20 @@ static uint32_t begin(uint32_t task, uint32_t operation, uint32_t side, uint64_t
 
 static uint64_t call(uint32_t task, uint32_t operation, uint32_t side, uint64_t argument) {
     return lane_call(table, WORDS, task, 0, operation, side, argument);
+}
+
+/* The library is of the header's version and format; others that fit, and others that do not. */
+static void versions(void) {
+    char text[40];
+    unsigned number = LANE_VERSION_NUMBER;
+    sprintf(text, "%u.%u.%u", number / 1000000, number / 1000 % 1000, number % 1000);
+    EXPECT(strcmp(text, LANE_VERSION) == 0);
+    EXPECT(lane_version() == PAIR(LANE_TABLE_FORMAT, LANE_VERSION_NUMBER));
+    EXPECT(lane_fits(lane_version()));
+    EXPECT(lane_fits(lane_version() + 1000) && lane_fits(lane_version() + 1));
+    EXPECT(!lane_fits(lane_version() + 1000000) && !lane_fits(lane_version() - 1000000));
+    EXPECT(!lane_fits(lane_version() - 1000));
+    EXPECT(!lane_fits(lane_version() + PAIR(1, 0)) && !lane_fits(lane_version() - PAIR(1, 0)) && !lane_fits(0));
 }
 
 /* Each limit is accepted, and the number beyond it is not. */
@@ -109,6 +124,9 @@ static void tags(void) {
         EXPECT(answers[2 * i] == lane_tag_digit(some[i]) && answers[2 * i + 1] == lane_tag_low(some[i]));
     }
     EXPECT(answers[LANE_TAG_WORDS * SOME] == 7);
+    for (size_t i = 0; i < SOME; i++) {
+        EXPECT(lane_tag_at(answers, i) == some[i]);
+    }
     answers[LANE_ANSWER_WORDS * 4] = 7;
     for (int i = 0; i < SOME; i++) {
         EXPECT(begin(0, LANE_POP, LANE_LEFT, 0) == 0);
@@ -356,6 +374,94 @@ static void refusals(void) {
             EXPECT(strcmp(lane_refusal_text(one), lane_refusal_text(other)) != 0);
         }
     }
+    EXPECT(strcmp(lane_refusal_text(0), "not refused") == 0);
+    EXPECT(strcmp(lane_refusal_text(LANE_REFUSED_CLOSING + 1), "unknown refusal") == 0);
+}
+
+/* Each kind has a text of its own, that of a refusal is the refusal's, and the tag of a bag has no say. */
+static void answer_texts(void) {
+    for (uint32_t one = 0; one <= LANE_IDLE + 1; one++) {
+        const char *text = lane_answer_text(ANSWER(one, 0));
+        EXPECT(strlen(text) > 0);
+        EXPECT((one <= LANE_IDLE) == (strcmp(text, lane_answer_text(UINT64_MAX)) != 0));
+        for (uint32_t other = 0; other < one; other++) {
+            EXPECT(strcmp(text, lane_answer_text(ANSWER(other, 0))) != 0);
+        }
+    }
+    EXPECT(strcmp(lane_answer_text(ANSWER(LANE_BAG, LANE_MAX_TAG)), "bag") == 0);
+    EXPECT(strcmp(lane_answer_text(ANSWER(LANE_IDLE + 1, 0)), "unknown answer") == 0);
+    for (uint32_t refusal = 1; refusal <= LANE_REFUSED_CLOSING + 1; refusal++) {
+        EXPECT(strcmp(lane_answer_text(ANSWER(LANE_REFUSED, refusal)), lane_refusal_text(refusal)) == 0);
+    }
+}
+
+/* What the readers say of a table is what lane_start and lane_begin were given; of other words they read none outside. */
+static void readers(void) {
+    static const uint32_t operations[] = {LANE_PUSH, LANE_POP, LANE_ADD, LANE_REMOVE};
+    for (uint32_t i = 0; i < 4; i++) {
+        for (uint32_t side = LANE_LEFT; side <= LANE_RIGHT; side++) {
+            uint32_t lane = (i + side) % 2;
+            EXPECT(lane_start(table, WORDS, SLOTS, TASKS, 0, 2) == 0);
+            EXPECT(lane_slots(table, WORDS) == SLOTS && lane_tasks(table, WORDS) == TASKS);
+            EXPECT(lane_lanes(table, WORDS) == 2);
+            EXPECT(lane_tick_count(table, WORDS) == 0 && lane_dispatched(table, WORDS) == TASKS - 1);
+            EXPECT(lane_begin(table, WORDS, 1, lane, operations[i], side, 0, i == 0 ? 51 : 0) == 0);
+            EXPECT(!lane_is_busy(table, WORDS, 0) && lane_is_busy(table, WORDS, 1) && !lane_is_busy(table, WORDS, 2));
+            EXPECT(lane_operation(table, WORDS, 1) == operations[i] && lane_operation(table, WORDS, 0) == 0);
+            EXPECT(lane_side(table, WORDS, 1) == side && lane_lane(table, WORDS, 1) == lane);
+            uint32_t step = lane_step(table, WORDS, 1);
+            EXPECT(step != 0 && lane_step(table, WORDS, 0) == 0);
+            EXPECT(lane_dispatch(table, WORDS, 0) == ANSWER(LANE_GOING, 0));
+            EXPECT(lane_tick_count(table, WORDS) == 1 && lane_dispatched(table, WORDS) == 1);
+            EXPECT(lane_step(table, WORDS, 1) != step);
+            EXPECT(LANE_KIND(lane_ticks(table, WORDS, 1, 0, UINT32_MAX)) < LANE_REFUSED);
+            EXPECT(!lane_is_busy(table, WORDS, 1) && lane_side(table, WORDS, 1) == 0 && lane_lane(table, WORDS, 1) == 0);
+        }
+    }
+    uint32_t *few = (uint32_t *)malloc(6 * sizeof few[0]); /* so that the sanitizers see a read past the end */
+    memset(few, 0xff, 6 * sizeof few[0]);
+    for (size_t words = 0; words <= 6; words++) {
+        EXPECT(lane_slots(few, words) == (words > 0 ? UINT32_MAX : 0));
+        EXPECT(lane_tasks(few, words) == (words > 1 ? UINT32_MAX : 0));
+        EXPECT(lane_lanes(few, words) == (words > 3 ? UINT32_MAX : 0));
+        EXPECT(lane_tick_count(few, words) == (words > 4 ? UINT32_MAX : 0));
+        EXPECT(lane_dispatched(few, words) == (words > 5 ? UINT32_MAX : 0));
+        for (uint32_t task = 0; task < 3; task++) {
+            EXPECT(!lane_is_busy(few, words, task) && lane_operation(few, words, task) == 0);
+            EXPECT(lane_step(few, words, task) == 0 && lane_side(few, words, task) == 0);
+            EXPECT(lane_lane(few, words, task) == 0);
+        }
+    }
+    free(few);
+    EXPECT(lane_slots(NULL, 0) == 0 && lane_is_busy(NULL, 0, 0) == 0 && lane_step(NULL, 0, 0) == 0);
+}
+
+/* At every end of two lanes, with the free slots spare at any other: the bag is pushed, no other comes, none goes. */
+static void rooms(void) {
+    enum { LANES = 2, ENDS = 2 * LANES, MOST = LANE_MAX_BAGS(SLOTS, LANES) };
+    for (uint32_t end = 0; end < ENDS; end++) {
+        for (uint32_t other = 0; other < ENDS; other++) {
+            EXPECT(lane_start(table, WORDS, SLOTS, TASKS, 0, LANES) == 0);
+            EXPECT(lane_call(table, WORDS, 1, other / 2, LANE_ADD, other % 2, LANE_MAX_ADD) == ANSWER(LANE_YES, 0));
+            uint64_t tag = 51;
+            for (; lane_make_room(table, WORDS, 0, end / 2, end % 2, tag) == ANSWER(LANE_PUSHED, 0); tag++) {
+            }
+            EXPECT(lane_make_room(table, WORDS, 0, end / 2, end % 2, tag) == ANSWER(LANE_FULL, 0));
+            uint64_t pushed = tag - 51; /* all, but for one place that may stay at the other end */
+            EXPECT(pushed == MOST || (pushed == MOST - 1 && end != other));
+            EXPECT(lane_read(table, WORDS, 1 - end / 2, answers, LANE_TAG_WORDS * MOST) == 0);
+            EXPECT(lane_read(table, WORDS, end / 2, answers, LANE_TAG_WORDS * MOST) == pushed);
+            for (uint64_t i = 0; i < pushed; i++) {
+                EXPECT(lane_tag_at(answers, i) == (end % 2 == LANE_RIGHT ? 51 + i : tag - 1 - i));
+            }
+        }
+    }
+    EXPECT(lane_start(table, WORDS, SLOTS, TASKS, 0, LANES) == 0);
+    EXPECT(lane_make_room(table, WORDS, 0, 1, LANE_LEFT, LANE_MAX_TAG) == ANSWER(LANE_PUSHED, 0)); /* not full at all */
+    EXPECT(lane_make_room(table, WORDS, 0, 0, LANE_LEFT, LANE_MAX_TAG) == ANSWER(LANE_REFUSED, LANE_REFUSED_TWICE));
+    EXPECT(lane_make_room(table, WORDS, 0, LANES, LANE_LEFT, 51) == ANSWER(LANE_REFUSED, LANE_REFUSED_LANE));
+    EXPECT(lane_make_room(table, WORDS, TASKS, 0, LANE_LEFT, 51) == ANSWER(LANE_REFUSED, LANE_REFUSED_TASK));
+    EXPECT(lane_make_room(NULL, 0, 0, 0, LANE_LEFT, 51) == ANSWER(LANE_REFUSED, LANE_REFUSED_TABLE));
 }
 
 /* Every pair has the refusal, or 0, in its high half and the count in its low one. */
@@ -779,7 +885,114 @@ static void watched(void) {
     EXPECT(fed == PAIR(LANE_REFUSED_COUNT, 0));
 }
 
+static uint32_t lend(struct lane_record *record, uint32_t task, uint32_t lane, uint32_t operation, uint32_t side,
+                     uint64_t argument) {
+    uint32_t digit = lane_tag_digit(argument), low = lane_tag_low(argument);
+    return lane_begin_record(record, table, WORDS, task, lane, operation, side, digit, low);
+}
+
+/* A lent record becomes what begin writes, the table is only read, and copied it is that begin. */
+static void records(void) {
+    static const struct lane_record fresh = LANE_FRESH_RECORD;
+    static const uint32_t operations[] = {LANE_PUSH, LANE_POP, LANE_ADD, LANE_REMOVE};
+    static uint32_t begun[WORDS], before[WORDS];
+    EXPECT(sizeof fresh == LANE_RECORD_WORDS * sizeof table[0]);
+    for (uint32_t i = 0; i < 16; i++) {
+        uint32_t operation = operations[i / 4], side = i / 2 % 2, lane = i % 2;
+        uint64_t argument = i / 4 == 0 ? LANE_MAX_TAG : i / 4 == 1 ? 0 : 3;
+        EXPECT(lane_start(table, WORDS, SLOTS, TASKS, 0, 2) == 0);
+        struct lane_record record = lane_record_of(table, WORDS, 1);
+        EXPECT(memcmp(&record, &fresh, sizeof fresh) == 0);
+        memcpy(before, table, sizeof before);
+        memcpy(begun, table, sizeof begun);
+        EXPECT(lane_begin(begun, WORDS, 1, lane, operation, side, lane_tag_digit(argument), lane_tag_low(argument)) == 0);
+        EXPECT(lend(&record, 1, lane, operation, side, argument) == 0);
+        EXPECT(memcmp(table, before, sizeof before) == 0);
+        EXPECT(record.operation == operation && record.side == side && record.lane == lane);
+        EXPECT(lane_tag(record.digit, record.argument) == argument);
+        EXPECT(record.step == lane_step(begun, WORDS, 1));
+        EXPECT(lane_record_copy(table, WORDS, 1, &record) == 0);
+        EXPECT(memcmp(table, begun, sizeof begun) == 0);
+        EXPECT(LANE_KIND(lane_ticks(table, WORDS, 1, 0, 3)) < LANE_REFUSED);
+        record = lane_record_of(table, WORDS, 1);
+        EXPECT(memcmp(&record, table + WORDS - LANE_RECORD_WORDS, sizeof record) == 0);
+    }
+
+    struct lane_record record = fresh;
+    memcpy(before, table, sizeof before);
+    EXPECT(lane_record_copy(table, WORDS, TASKS, &record) == LANE_REFUSED_TASK);
+    EXPECT(lane_record_copy(table, WORDS - 1, 1, &record) == LANE_REFUSED_TASK);
+    EXPECT(lane_record_copy(table, WORDS, UINT32_MAX, &record) == LANE_REFUSED_TASK);
+    EXPECT(lane_record_copy(NULL, 0, 0, &record) == LANE_REFUSED_TASK);
+    EXPECT(memcmp(table, before, sizeof before) == 0);
+    record = lane_record_of(table, WORDS, TASKS);
+    EXPECT(memcmp(&record, &fresh, sizeof fresh) == 0);
+    record = lane_record_of(NULL, 0, 0);
+    EXPECT(memcmp(&record, &fresh, sizeof fresh) == 0);
+}
+
+/* Each refusal before the next, of a lent record that no refusal changes; the task's own words have no say. */
+static void record_refusals(void) {
+    static const struct lane_record fresh = LANE_FRESH_RECORD;
+    struct lane_record record = fresh, kept;
+    EXPECT(lane_start(table, WORDS, SLOTS, TASKS, 0, 2) == 0);
+    EXPECT(lane_begin(table, WORDS, 0, 1, LANE_PUSH, LANE_LEFT, 0, 51) == 0);
+    table[16 + 4 * 2 + 1] = 65535; /* the link to the right of lane 1's left end made none, which no call does */
+    EXPECT(lend(&record, 1, 0, LANE_POP, LANE_LEFT, 0) == 0); /* the record is busy now, and not the table's */
+    kept = record;
+    record.counted = 1025;
+    EXPECT(lane_begin_record(&record, table, WORDS - 1, 1, 2, 5, 2, 10, 51) == LANE_REFUSED_TABLE);
+    EXPECT(lane_begin_record(&record, NULL, 0, 1, 2, 5, 2, 10, 51) == LANE_REFUSED_TABLE);
+    EXPECT(lane_begin_record(&record, table, WORDS, 1, 2, 5, 2, 10, 51) == LANE_REFUSED_SHAPE);
+    EXPECT(lane_begin_record(&record, table, WORDS, TASKS, 2, 5, 2, 10, 51) == LANE_REFUSED_LANE); /* it has no place */
+    EXPECT(lane_begin_record(&record, table, WORDS, TASKS, 1, 5, 2, 10, 51) == LANE_REFUSED_TASK);
+    EXPECT(record.counted == 1025);
+    record = kept;
+    EXPECT(lane_begin_record(&record, table, WORDS, 1, 1, LANE_PUSH, 2, 10, 51) == LANE_REFUSED_OPERATION);
+    EXPECT(lane_begin_record(&record, table, WORDS, 1, 1, LANE_PUSH, 1, 10, 51) == LANE_REFUSED_ARGUMENT);
+    EXPECT(lane_begin_record(&record, table, WORDS, 1, 0, LANE_PUSH, 1, 0, 51) == LANE_REFUSED_NO_SLOT);
+    table[16 + 4 * 2 + 1] = 3;
+    EXPECT(lane_begin_record(&record, table, WORDS, 1, 0, LANE_PUSH, 1, 0, 51) == LANE_REFUSED_TWICE);
+    EXPECT(lane_begin_record(&record, table, WORDS, 1, 0, LANE_PUSH, 1, 0, 52) == LANE_REFUSED_BUSY);
+    EXPECT(memcmp(&record, &kept, sizeof kept) == 0);
+
+    record = fresh;
+    table[WORDS - LANE_RECORD_WORDS] = 7; /* broken, and not looked at */
+    EXPECT(lend(&record, 0, 0, LANE_POP, LANE_LEFT, 0) == LANE_REFUSED_SHAPE);
+    EXPECT(lend(&record, 1, 0, LANE_PUSH, LANE_LEFT, 52) == 0);
+    EXPECT(lane_record_copy(table, WORDS, 1, &record) == 0);
+    EXPECT(lane_ticks(table, WORDS, 1, 0, UINT32_MAX) == ANSWER(LANE_PUSHED, 0));
+    EXPECT(lend(&record, 1, 0, LANE_POP, LANE_LEFT, 0) == LANE_REFUSED_BUSY); /* of the past */
+    record = fresh;
+    EXPECT(lend(&record, 1, 0, LANE_PUSH, LANE_LEFT, 52) == LANE_REFUSED_TWICE);
+}
+
+/* What not to do: a copy over a remove in the middle, after which no push goes; and the ways back. */
+static void record_losses(void) {
+    enum { FEW = 4, FEW_WORDS = LANE_WORDS(FEW, 1) };
+    static uint32_t few[FEW_WORDS], snapshot[FEW_WORDS];
+    EXPECT(lane_start(few, FEW_WORDS, FEW, 1, 0, 1) == 0);
+    EXPECT(lane_call(few, FEW_WORDS, 0, 0, LANE_ADD, LANE_LEFT, 1) == ANSWER(LANE_YES, 0));
+    EXPECT(lane_begin(few, FEW_WORDS, 0, 0, LANE_REMOVE, LANE_LEFT, 0, 0) == 0);
+    EXPECT(lane_take(few, FEW_WORDS, snapshot, FEW_WORDS) == 0);
+    while (lane_step(few, FEW_WORDS, 0) != 64) {
+        EXPECT(lane_tick(few, FEW_WORDS, 0, 0) == ANSWER(LANE_GOING, 0));
+    }
+    struct lane_record record = LANE_FRESH_RECORD;
+    EXPECT(lane_begin_record(&record, few, FEW_WORDS, 0, 0, LANE_ADD, LANE_LEFT, 0, 0) == 0);
+    EXPECT(lane_record_copy(few, FEW_WORDS, 0, &record) == 0);
+    EXPECT(lane_ticks(few, FEW_WORDS, 0, 0, UINT32_MAX) == ANSWER(LANE_NO, 0));
+    EXPECT(lane_make_room(few, FEW_WORDS, 0, 0, LANE_LEFT, 51) == ANSWER(LANE_FULL, 0));
+    EXPECT(lane_make_room(few, FEW_WORDS, 0, 0, LANE_RIGHT, 51) == ANSWER(LANE_FULL, 0));
+
+    EXPECT(lane_put(snapshot, FEW_WORDS, few, FEW_WORDS) == 0);
+    EXPECT(lane_ticks(few, FEW_WORDS, 0, 0, UINT32_MAX) == ANSWER(LANE_YES, 0));
+    EXPECT(lane_make_room(few, FEW_WORDS, 0, 0, LANE_RIGHT, 51) == ANSWER(LANE_PUSHED, 0));
+    EXPECT(lane_make_room(few, FEW_WORDS, 0, 0, LANE_RIGHT, 52) == ANSWER(LANE_PUSHED, 0));
+}
+
 int main(void) {
+    versions();
     limits();
     tags();
     tag_lists();
@@ -788,6 +1001,9 @@ int main(void) {
     sheets();
     sheet_refusals();
     refusals();
+    answer_texts();
+    readers();
+    rooms();
     pairs();
     empty_slices();
     calls();
@@ -799,6 +1015,9 @@ int main(void) {
     snapshot_refusals();
     windows();
     watched();
+    records();
+    record_refusals();
+    record_losses();
     puts(failures == 0 ? "the header's words hold" : "the header's words do not hold");
     return failures == 0 ? 0 : 1;
 }

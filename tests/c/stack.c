@@ -4,6 +4,7 @@
 #include <string.h>
 #include <ucontext.h>
 
+#define LANE_MUST_USE
 #include "lane.h"
 
 enum { SLOTS = LANE_MAX_SLOTS, TASKS = LANE_MAX_TASKS, WORDS = LANE_MAX_WORDS, LAST = LANE_MAX_LANES - 1 };
@@ -22,8 +23,17 @@ static void start(void) {
     lane_start(table, WORDS, SLOTS, TASKS, LANE_MAX_GROWTH, LANE_MAX_LANES);
 }
 
+static void version(void) {
+    lane_version();
+}
+
 static void begin(void) {
     lane_begin(table, WORDS, 0, LAST, LANE_PUSH, LANE_RIGHT, 0, 51);
+}
+
+static void begin_record(void) {
+    struct lane_record record = LANE_FRESH_RECORD;
+    lane_begin_record(&record, table, WORDS, 3, LAST, LANE_PUSH, LANE_RIGHT, 0, 54);
 }
 
 static void tick(void) {
@@ -116,8 +126,10 @@ static void print(const char *name, size_t bytes, size_t most) {
 
 int main(void) {
     size_t deepest = 0;
-    print("start", touched(start), 600);
-    print("begin", touched(begin), 600);
+    print("version", touched(version), 700);
+    print("start", touched(start), 700);
+    print("begin", touched(begin), 700);
+    print("begin_record", touched(begin_record), 700);
     for (int i = 0; i < 8; i++) { /* the fourth takes a slot, and so do those after it */
         size_t bytes = touched(tick);
         deepest = bytes > deepest ? bytes : deepest;
@@ -128,21 +140,21 @@ int main(void) {
     print("panel", touched(panel), 5700);
     print("dispatch", touched(dispatch), 5700);     /* the panel's add goes on, and takes a slot */
     print("dispatches", touched(dispatches), 5700); /* more of them */
-    print("read", touched(read_lane), 600);
-    print("sheet", touched(sheet), 600);
-    print("take", touched(take), 600);
-    print("put", touched(put), 600);
+    print("read", touched(read_lane), 700);
+    print("sheet", touched(sheet), 700);
+    print("take", touched(take), 700);
+    print("put", touched(put), 700);
     memset(tag_list, 0x99, sizeof tag_list);
-    print("tags_read", touched(read_tags), 600);
-    print("tags_write", touched(write_tags), 600);
+    print("tags_read", touched(read_tags), 700);
+    print("tags_write", touched(write_tags), 700);
     for (unsigned code = 1; code < LANE_LIST_LINES; code++) {
         sprintf((char *)airlines + 27 * (code - 1), "(airline (code %03u) right)\n", code);
     }
     strcat((char *)airlines, "(others right)\n");
-    print("list_check", touched(check_list), 1600);
-    print("push_by_list", touched(push_by_list), 1600);
-    print("window", touched(make_window), 600);
-    print("feed", touched(feed), 600);
+    print("list_check", touched(check_list), 1700);
+    print("push_by_list", touched(push_by_list), 1700);
+    print("window", touched(make_window), 700);
+    print("feed", touched(feed), 700);
     if (failures > 0) {
         puts("more stack than include/lane.h says");
     }

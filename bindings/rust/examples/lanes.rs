@@ -66,27 +66,10 @@ fn push(table: &mut Table, (lane, side): (u32, Side), tag: u64) -> Result<bool, 
     Ok(answer == Answer::Pushed)
 }
 
-/// What an end can give back to the others: a push brings its hat back to the lane, a remove gives back spare slots.
-fn give_back(table: &mut Table, (lane, side): (u32, Side)) -> Result<(), Refusal> {
-    if push(table, (lane, side), Tag::MAX.number())? {
-        for operation in [Operation::Pop, Operation::Remove(0)] {
-            let _ = table.call(lane, lane, operation, side)?;
-        }
-    }
-    Ok(())
-}
-
 /// A push that is tried again after each other end has given back what it can. False if this end has no room.
-fn push_for_sure(table: &mut Table, end: (u32, Side), tag: u64) -> Result<bool, Refusal> {
-    let mut pushed = push(table, end, tag)?;
-    for other in ENDS.into_iter().filter(|&other| other != end) {
-        if pushed {
-            break;
-        }
-        give_back(table, other)?;
-        pushed = push(table, end, tag)?;
-    }
-    Ok(pushed)
+fn push_for_sure(table: &mut Table, (lane, side): (u32, Side), tag: u64) -> Result<bool, Refusal> {
+    let answer = table.make_room(lane, lane, known(tag), side)?;
+    Ok(answer == Answer::Pushed)
 }
 
 fn print_lanes(table: &Table) -> Result<(), Refusal> {

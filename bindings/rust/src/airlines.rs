@@ -3,7 +3,7 @@
 use core::fmt;
 use core::ops::Range;
 
-use crate::{ffi, pair, Refusal, Side, Tag};
+use crate::{ffi, linked, pair, shown, Refusal, Side, Tag};
 
 /// Where the code stands in an airline's line; the closing line is shorter.
 const CODE: Range<usize> = 15..18;
@@ -55,7 +55,13 @@ impl<T: AsRef<[u8]>> AirlineList<T> {
     /// assert_eq!((fault.line, fault.refusal), (1, Refusal::Closing));
     /// assert!(AirlineList::parse(b"(others left)").is_ok());
     /// ```
+    ///
+    /// # Errors
+    ///
+    /// The first faulty line, with the first of [`Refusal::Line`], [`Refusal::Code`] and [`Refusal::Closing`] that
+    /// holds of it.
     pub fn parse(text: T) -> Result<AirlineList<T>, ListFault> {
+        linked::check();
         match pair(ffi::list_check(text.as_ref())) {
             (None, _) => Ok(AirlineList { text }),
             (Some(refusal), line) => Err(ListFault { line, refusal }),
@@ -122,6 +128,7 @@ impl<T: AsRef<[u8]>> AirlineList<T> {
 ///     fault.to_string(),
 ///     "refused 28: an earlier line of the airline list has the code: line 2"
 /// );
+/// assert_eq!(format!("{fault:75}|"), format!("{:75}|", fault.to_string()));
 /// ```
 #[derive(Clone, Copy, Debug, PartialEq, Eq)]
 #[non_exhaustive]
@@ -140,7 +147,8 @@ impl From<ListFault> for Refusal {
 
 impl fmt::Display for ListFault {
     fn fmt(&self, formatter: &mut fmt::Formatter<'_>) -> fmt::Result {
-        write!(formatter, "{}: line {}", self.refusal, self.line)
+        let ListFault { line, refusal } = self;
+        shown::pad(formatter, format_args!("{refusal}: line {line}"))
     }
 }
 

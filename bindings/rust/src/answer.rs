@@ -2,7 +2,7 @@
 
 use core::fmt;
 
-use crate::Tag;
+use crate::{shown, Tag};
 
 /// The answer of a tick that was made. Later versions may add some.
 ///
@@ -11,6 +11,7 @@ use crate::Tag;
 ///
 /// assert_eq!(Answer::Bag(Tag::MIN).to_string(), "bag 0000000001");
 /// assert_eq!(Answer::Empty.to_string(), "empty");
+/// assert_eq!(format!("{:>8}|{:<8}|", Answer::No, Answer::Yes), "      no|yes     |");
 /// ```
 #[derive(Clone, Copy, Debug, PartialEq, Eq, Hash)]
 #[must_use = "a call may have failed, or not be finished"]
@@ -41,6 +42,7 @@ impl Answer {
     /// assert_eq!(Answer::from_words([2, 0, 1]), Some(Answer::Bag(Tag::MIN)));
     /// assert_eq!(Answer::from_words([2, 0, 0]), None);
     /// ```
+    #[must_use]
     pub const fn from_words(words: [u32; 3]) -> Option<Answer> {
         Some(match words {
             [0, 0, 0] => Answer::Going,
@@ -62,6 +64,7 @@ impl Answer {
     /// ```
     /// assert_eq!(lane::Answer::Bag(lane::Tag::MIN).words(), [2, 0, 1]);
     /// ```
+    #[must_use]
     pub const fn words(self) -> [u32; 3] {
         match self {
             Answer::Going => [0, 0, 0],
@@ -80,10 +83,10 @@ impl Answer {
 
 impl fmt::Display for Answer {
     fn fmt(&self, formatter: &mut fmt::Formatter<'_>) -> fmt::Result {
-        formatter.write_str(match self {
+        formatter.pad(match self {
             Answer::Going => "going",
             Answer::Pushed => "pushed",
-            Answer::Bag(tag) => return write!(formatter, "bag {tag}"),
+            Answer::Bag(tag) => return shown::pad(formatter, format_args!("bag {tag}")),
             Answer::Empty => "empty",
             Answer::Full => "full",
             Answer::Yes => "yes",
@@ -203,6 +206,7 @@ impl Refusal {
     /// ```
     /// assert_eq!(lane::Refusal::from_number(10), Some(lane::Refusal::Idle));
     /// ```
+    #[must_use]
     pub const fn from_number(number: u32) -> Option<Refusal> {
         let mut place = 0;
         while place < Refusal::ALL.len() {
@@ -219,6 +223,7 @@ impl Refusal {
     /// ```
     /// assert_eq!(lane::Refusal::Idle.number(), 10);
     /// ```
+    #[must_use]
     pub const fn number(self) -> u32 {
         self as u32
     }
@@ -259,7 +264,8 @@ impl fmt::Display for Refusal {
             Refusal::Code => "an earlier line of the airline list has the code",
             Refusal::Closing => "the airline list closes before its end, or not at its end",
         };
-        write!(formatter, "refused {}: {reason}", self.number())
+        let number = self.number();
+        shown::pad(formatter, format_args!("refused {number}: {reason}"))
     }
 }
 
@@ -337,12 +343,14 @@ impl<'a> Ran<'a> {
     }
 
     /// The ticks made.
+    #[must_use]
     pub fn made(&self) -> usize {
         self.words.len()
     }
 
     /// What stopped the run, if it did not come to its end: a refusal of the whole run, with no tick made, or of the
     /// tick after those made, which stay made.
+    #[must_use]
     pub fn refusal(&self) -> Option<Refusal> {
         self.refusal
     }
@@ -377,6 +385,26 @@ mod tests {
             }
         }
         assert_eq!(Answer::from_words([u32::MAX, 0, 0]), None);
+    }
+
+    /// A width, a fill and a precision are kept to by every text.
+    #[test]
+    fn every_text_is_shown_as_wide_as_asked() {
+        extern crate std;
+        use std::{format, string::ToString};
+
+        for refusal in Refusal::ALL {
+            let text = refusal.to_string();
+            assert_eq!(format!("{refusal:120}|"), format!("{text:120}|"));
+            assert_eq!(format!("{refusal:*>120.9}"), format!("{text:*>120.9}"));
+            let refused = NotStarted { refusal, words: 7 };
+            assert_eq!(format!("{refused:120}|"), format!("{text:120}|"));
+        }
+        for answer in [Answer::Bag(Tag::MAX), Answer::Going, Answer::No] {
+            let text = answer.to_string();
+            assert_eq!(format!("{answer:^20}|"), format!("{text:^20}|"));
+            assert_eq!(format!("{answer:-<20.6}|"), format!("{text:-<20.6}|"));
+        }
     }
 
     #[test]

@@ -17,6 +17,7 @@ impl Side {
     /// ```
     /// assert_eq!(lane::Side::Right.number(), 1);
     /// ```
+    #[must_use]
     pub const fn number(self) -> u32 {
         match self {
             Side::Left => 0,
@@ -44,6 +45,7 @@ impl Operation {
     /// ```
     /// assert_eq!(lane::Operation::Push(lane::Tag::MIN).number(), 1);
     /// ```
+    #[must_use]
     pub const fn number(self) -> u32 {
         match self {
             Operation::Push(_) => 1,
@@ -61,6 +63,7 @@ impl Operation {
     /// assert_eq!(Operation::Push(Tag::MAX).argument(), [9, 999_999_999]);
     /// assert_eq!(Operation::Add(2).argument(), [0, 2]);
     /// ```
+    #[must_use]
     pub const fn argument(self) -> [u32; 2] {
         match self {
             Operation::Push(tag) => tag.words(),

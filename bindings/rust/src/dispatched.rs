@@ -3,7 +3,7 @@
 use crate::{outcome, Answer, Refusal};
 
 /// What a dispatch did, or the last of several. [`Lanes::dispatched`](crate::Lanes::dispatched) says which task it
-/// ticked.
+/// ticked, and costs no test of the table.
 ///
 /// ```
 /// use lane::{Dispatched, Lane, Refusal};

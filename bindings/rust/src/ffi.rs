@@ -4,9 +4,17 @@
 //! answers every slice and every number, and a refusal leaves all that is lent as it was, but for the ticks before it in
 //! a call of several. This module has the crate's only unsafe code.
 
+use core::slice;
+
+use crate::place::RECORD;
+use crate::Tag;
+
 mod library {
+    use crate::place::RECORD;
+
     // Nothing checks these lines against the library; `include/lane.h` has the same ones for C.
     extern "C" {
+        pub fn lane_version() -> u64;
         pub fn lane_start(
             table: *mut u32,
             words: usize,
@@ -17,6 +25,17 @@ mod library {
         ) -> u32;
         pub fn lane_begin(
             table: *mut u32,
+            words: usize,
+            task: u32,
+            lane: u32,
+            operation: u32,
+            side: u32,
+            digit: u32,
+            argument: u32,
+        ) -> u32;
+        pub fn lane_begin_record(
+            record: *mut [u32; RECORD],
+            table: *const u32,
             words: usize,
             task: u32,
             lane: u32,
@@ -109,6 +128,19 @@ mod library {
 // Safety, for each call below: a slice is valid for its length and a mutable one is lent to nobody else; the library
 // touches nothing outside the slices and keeps no pointer. It takes every length, 0 included.
 
+/// The version and the table's format of the library: the format times 2^32, plus the first number of the version times
+/// 1,000,000, the second times 1,000, and the third.
+///
+/// ```
+/// use lane::ffi;
+///
+/// assert_eq!(ffi::version() >> 32, u64::from(lane::TABLE_FORMAT));
+/// ```
+#[must_use]
+pub fn version() -> u64 {
+    unsafe { library::lane_version() }
+}
+
 /// Writes empty lanes, 1 to 4 of them: 0, or the refusal.
 ///
 /// ```
@@ -148,6 +180,39 @@ pub fn begin(
 ) -> u32 {
     let (pointer, words) = (table.as_mut_ptr(), table.len());
     unsafe { library::lane_begin(pointer, words, task, lane, operation, side, digit, argument) }
+}
+
+/// Gives the task of a lent record a call, as [`begin`] does with that record in the place of its task, and writes the
+/// record alone: 0, or the refusal.
+///
+/// ```
+/// use lane::ffi;
+///
+/// let (mut table, mut record) = ([0; 45], lane::Record::FRESH.words());
+/// assert_eq!(ffi::start(&mut table, 4, 1, 0, 2), 0);
+/// assert_eq!(ffi::begin_record(&mut record, &table, 0, 1, 1, 0, 9, 51), 0);
+/// assert_eq!(record[..5], [1, 2, 0, 51, 9]); // a push, its first step, left, its tag
+/// assert_eq!(ffi::begin_record(&mut record, &table, 0, 1, 1, 0, 9, 51), 16);
+/// assert_eq!(ffi::begin_record(&mut record, &table, 0, 1, 1, 0, 0, 51), 8);
+/// assert_eq!(ffi::begin_record(&mut record, &table, 1, 1, 1, 0, 0, 51), 5);
+/// ```
+#[allow(clippy::too_many_arguments)]
+pub fn begin_record(
+    record: &mut [u32; RECORD],
+    table: &[u32],
+    task: u32,
+    lane: u32,
+    operation: u32,
+    side: u32,
+    digit: u32,
+    argument: u32,
+) -> u32 {
+    let (pointer, words) = (table.as_ptr(), table.len());
+    unsafe {
+        library::lane_begin_record(
+            record, pointer, words, task, lane, operation, side, digit, argument,
+        )
+    }
 }
 
 /// Makes one tick: the kind (0 to 6) times 2^40 plus the tag or 0; kind 7 for a refusal, with its number.
@@ -366,6 +431,12 @@ pub fn tags_write(words: &[u32], bytes: &mut [u8]) -> u64 {
     unsafe { library::lane_tags_write(words.as_ptr(), words.len(), out, out_bytes) }
 }
 
+/// The words of tags, two each, as the library takes them: the leading digit, then the low part.
+pub(crate) fn tag_words(tags: &[Tag]) -> &[u32] {
+    // A tag is its two words, and nothing else (`repr(transparent)`).
+    unsafe { slice::from_raw_parts(tags.as_ptr().cast(), 2 * tags.len()) }
+}
+
 /// Tests an airline list: 0, or the refusal times 2^32 plus the first faulty line, from 1.
 ///
 /// ```
@@ -375,6 +446,7 @@ pub fn tags_write(words: &[u32], bytes: &mut [u8]) -> u64 {
 /// assert_eq!(ffi::list_check(b"(airline (code 125) left)\n"), 29 << 32 | 1);
 /// assert_eq!(ffi::list_check(b""), 27 << 32 | 1);
 /// ```
+#[must_use]
 pub fn list_check(list: &[u8]) -> u64 {
     unsafe { library::lane_list_check(list.as_ptr(), list.len()) }
 }

@@ -4,7 +4,8 @@ use core::fmt;
 use core::ops::{Deref, DerefMut};
 
 use crate::{
-    view, AirlineList, Answer, Bags, Lanes, NotStarted, Operation, Page, Refusal, Side, Tag, Tags,
+    view, AirlineList, Answer, Bags, Begun, Lanes, NotStarted, Operation, Page, Record, Refusal,
+    Side, Tag, Tags,
 };
 
 /// A table with one lane and the calls on it. The words are owned (`Vec<u32>`, `[u32; N]`) or lent (`&mut [u32]`;
@@ -49,6 +50,7 @@ impl Lane<()> {
     /// assert_eq!(lane.call(0, Operation::Push(Tag::MAX), Side::Left)?, Answer::Full);
     /// # Ok::<(), lane::Refusal>(())
     /// ```
+    #[must_use]
     pub const fn max_bags(slots: u32) -> u32 {
         Lanes::max_bags(slots, 1)
     }
@@ -69,6 +71,10 @@ impl<W: AsRef<[u32]> + AsMut<[u32]>> Lane<W> {
     /// assert_eq!(refused.words, [7; 31]);
     /// # Ok::<(), Refusal>(())
     /// ```
+    ///
+    /// # Errors
+    ///
+    /// [`Refusal::Sizes`] and [`Refusal::Length`], tested in this order; with the words as they were.
     pub fn start(words: W, slots: u32, tasks: u32, growth: u32) -> Result<Lane<W>, NotStarted<W>> {
         Lanes::start(words, slots, tasks, growth, 1).map(|table| Lane { table })
     }
@@ -84,8 +90,37 @@ impl<W: AsRef<[u32]> + AsMut<[u32]>> Lane<W> {
     /// assert_eq!(lane.begin(1, Operation::Push(Tag::MAX), Side::Left), Err(Refusal::Twice));
     /// # Ok::<(), Refusal>(())
     /// ```
+    ///
+    /// # Errors
+    ///
+    /// Those of [`Lanes::begin`], but for [`Refusal::Lane`].
     pub fn begin(&mut self, task: u32, operation: Operation, side: Side) -> Result<(), Refusal> {
         self.table.begin(task, 0, operation, side)
+    }
+
+    /// Begins a call in a lent record, as [`Lanes::begin_record`] does.
+    ///
+    /// ```
+    /// use lane::{Answer, Lane, Operation, Record, Side, Tag};
+    ///
+    /// let mut lane = Lane::start([0; lane::words(4, 2)], 4, 2, 0)?;
+    /// let mut record = Record::FRESH;
+    /// lane.begin_record(&mut record, 1, Operation::Push(Tag::MAX), Side::Right)?.copy();
+    /// assert_eq!(lane.ticks(1, 0, u32::MAX)?, Answer::Pushed);
+    /// # Ok::<(), lane::Refusal>(())
+    /// ```
+    ///
+    /// # Errors
+    ///
+    /// Those of [`Lanes::begin_record`], but for [`Refusal::Lane`].
+    pub fn begin_record<'a>(
+        &'a mut self,
+        record: &'a mut Record,
+        task: u32,
+        operation: Operation,
+        side: Side,
+    ) -> Result<Begun<'a>, Refusal> {
+        self.table.begin_record(record, task, 0, operation, side)
     }
 
     /// Gives an idle task a push at the end that an airline list names for its tag, as [`Lanes::push_by_list`] does.
@@ -102,6 +137,10 @@ impl<W: AsRef<[u32]> + AsMut<[u32]>> Lane<W> {
     /// assert!(lane.bags()?.eq([Tag::MAX, Tag::MIN]));
     /// # Ok::<(), lane::Refusal>(())
     /// ```
+    ///
+    /// # Errors
+    ///
+    /// Those of [`Lanes::begin`], but for [`Refusal::Lane`].
     pub fn push_by_list<T: AsRef<[u8]>>(
         &mut self,
         task: u32,
@@ -122,8 +161,31 @@ impl<W: AsRef<[u32]> + AsMut<[u32]>> Lane<W> {
     /// assert_eq!(lane.call(0, Operation::Pop, Side::Left)?, Answer::Empty);
     /// # Ok::<(), lane::Refusal>(())
     /// ```
+    ///
+    /// # Errors
+    ///
+    /// Those of [`Lanes::call`], but for [`Refusal::Lane`].
     pub fn call(&mut self, task: u32, operation: Operation, side: Side) -> Result<Answer, Refusal> {
         self.table.call(task, 0, operation, side)
+    }
+
+    /// Pushes a bag that was [`Answer::Full`] at an end, as [`Lanes::make_room`] does.
+    ///
+    /// ```
+    /// use lane::{Answer, Lane, Operation, Side, Tag};
+    ///
+    /// let mut lane = Lane::start([0; lane::words(8, 1)], 8, 1, 0)?;
+    /// assert_eq!(lane.call(0, Operation::Add(5), Side::Left)?, Answer::Yes); // all that were free
+    /// assert_eq!(lane.call(0, Operation::Push(Tag::MAX), Side::Right)?, Answer::Full);
+    /// assert_eq!(lane.make_room(0, Tag::MAX, Side::Right)?, Answer::Pushed);
+    /// # Ok::<(), lane::Refusal>(())
+    /// ```
+    ///
+    /// # Errors
+    ///
+    /// Those of [`Lanes::call`], but for [`Refusal::Lane`].
+    pub fn make_room(&mut self, task: u32, tag: Tag, side: Side) -> Result<Answer, Refusal> {
+        self.table.make_room(task, 0, tag, side)
     }
 }
 
@@ -165,6 +227,10 @@ impl<W: AsRef<[u32]>> Lane<W> {
     /// assert_eq!(lane.read(&mut out[..1]).err(), Some(Refusal::Out));
     /// # Ok::<(), Refusal>(())
     /// ```
+    ///
+    /// # Errors
+    ///
+    /// Those of [`Lanes::read`], but for [`Refusal::Lane`].
     pub fn read<'a>(&self, out: &'a mut [[u32; 2]]) -> Result<Tags<'a>, Refusal> {
         self.table.read(0, out)
     }
@@ -181,6 +247,10 @@ impl<W: AsRef<[u32]>> Lane<W> {
     /// assert!(lane.bags()?.eq([Tag::MAX, Tag::MIN]));
     /// # Ok::<(), lane::Refusal>(())
     /// ```
+    ///
+    /// # Errors
+    ///
+    /// Those of [`Lanes::bags`], but for [`Refusal::Lane`].
     pub fn bags(&self) -> Result<Bags<'_>, Refusal> {
         self.table.bags(0)
     }
@@ -197,6 +267,10 @@ impl<W: AsRef<[u32]>> Lane<W> {
     /// assert_eq!(lines, ["LANE 0001", "9999999999", ""]);
     /// # Ok::<(), lane::Refusal>(())
     /// ```
+    ///
+    /// # Errors
+    ///
+    /// Those of [`Lanes::sheet`], but for [`Refusal::Lane`].
     pub fn sheet(&self, page: u32) -> Result<Page, Refusal> {
         self.table.sheet(0, page)
     }

@@ -4,8 +4,8 @@ use core::fmt;
 
 use crate::view::{self, View};
 use crate::{
-    ffi, max_ticks_alone, outcome, pair, reply, AirlineList, Answer, Bags, Dispatched, NotStarted,
-    Operation, Page, Ran, Refusal, Side, Snapshot, Tag, Tags,
+    ffi, linked, max_ticks_alone, outcome, pair, place, reply, AirlineList, Answer, Bags, Begun,
+    Dispatched, NotStarted, Operation, Page, Ran, Record, Refusal, Side, Snapshot, Tag, Tags,
 };
 
 /// A table with one to four lanes, numbered from 0, and the calls on it. The words are owned (`Vec<u32>`, `[u32; N]`)
@@ -32,10 +32,21 @@ use crate::{
 /// assert_eq!(format!("{:?}", Lanes::over([0; 37])), "Lanes { refused: Table, words: 37 }");
 /// # Ok::<(), lane::Refusal>(())
 /// ```
-#[derive(Clone, PartialEq, Eq)]
+#[derive(Clone)]
 pub struct Lanes<W> {
     words: W,
+    /// Whether a call has accepted the words. Then they are a table for good, and what looks at a word of them need not
+    /// test them all: only calls write them, and no call makes anything else of a table.
+    accepted: bool,
 }
+
+impl<W: PartialEq> PartialEq for Lanes<W> {
+    fn eq(&self, other: &Lanes<W>) -> bool {
+        self.words == other.words
+    }
+}
+
+impl<W: Eq> Eq for Lanes<W> {}
 
 // Over no words, so that nobody has to say of which type they are.
 impl Lanes<()> {
@@ -53,6 +64,7 @@ impl Lanes<()> {
     /// assert_eq!(lanes.call(0, 1, Operation::Push(Tag::MAX), Side::Left)?, Answer::Full);
     /// # Ok::<(), lane::Refusal>(())
     /// ```
+    #[must_use]
     pub const fn max_bags(slots: u32, lanes: u32) -> u32 {
         slots.saturating_sub(lanes.saturating_mul(2))
     }
@@ -76,6 +88,11 @@ impl<W: AsRef<[u32]> + AsMut<[u32]>> Lanes<W> {
     /// assert_eq!(refused.refusal, Refusal::Sizes);
     /// # Ok::<(), Refusal>(())
     /// ```
+    ///
+    /// # Errors
+    ///
+    /// [`Refusal::Lanes`], [`Refusal::Sizes`] and [`Refusal::Length`], tested in this order; with the words as they
+    /// were.
     pub fn start(
         mut words: W,
         slots: u32,
@@ -83,8 +100,12 @@ impl<W: AsRef<[u32]> + AsMut<[u32]>> Lanes<W> {
         growth: u32,
         lanes: u32,
     ) -> Result<Lanes<W>, NotStarted<W>> {
+        linked::check();
         match reply(ffi::start(words.as_mut(), slots, tasks, growth, lanes)) {
-            Ok(()) => Ok(Lanes { words }),
+            Ok(()) => Ok(Lanes {
+                words,
+                accepted: true,
+            }),
             Err(refusal) => Err(NotStarted { refusal, words }),
         }
     }
@@ -103,6 +124,11 @@ impl<W: AsRef<[u32]> + AsMut<[u32]>> Lanes<W> {
     /// assert_eq!(lanes.begin(1, 2, Operation::Pop, Side::Left), Err(Refusal::Lane));
     /// # Ok::<(), Refusal>(())
     /// ```
+    ///
+    /// # Errors
+    ///
+    /// [`Refusal::Table`], [`Refusal::Shape`], [`Refusal::Lane`], [`Refusal::Task`], [`Refusal::Argument`], for a push
+    /// [`Refusal::NoSlot`] and [`Refusal::Twice`], and [`Refusal::Busy`], tested in this order.
     pub fn begin(
         &mut self,
         task: u32,
@@ -113,7 +139,8 @@ impl<W: AsRef<[u32]> + AsMut<[u32]>> Lanes<W> {
         let [digit, argument] = operation.argument();
         let (number, side) = (operation.number(), side.number());
         let words = self.words.as_mut();
-        reply(ffi::begin(words, task, lane, number, side, digit, argument))
+        let begun = ffi::begin(words, task, lane, number, side, digit, argument);
+        self.accept(reply(begun))
     }
 
     /// Gives an idle task a push on a lane, at the end that an airline list names for its tag; else it is such a
@@ -132,6 +159,10 @@ impl<W: AsRef<[u32]> + AsMut<[u32]>> Lanes<W> {
     /// assert_eq!(lanes.push_by_list(1, 0, Tag::MIN, &list), Err(Refusal::Twice));
     /// # Ok::<(), Refusal>(())
     /// ```
+    ///
+    /// # Errors
+    ///
+    /// Those of [`Lanes::begin`], for a push.
     pub fn push_by_list<T: AsRef<[u8]>>(
         &mut self,
         task: u32,
@@ -142,7 +173,50 @@ impl<W: AsRef<[u32]> + AsMut<[u32]>> Lanes<W> {
         let ([digit, low], words) = (tag.words(), self.words.as_mut());
         let begun = ffi::push_by_list(list.text(), words, task, lane, digit, low);
         let (refusal, _) = pair(begun);
-        refusal.map_or(Ok(()), Err)
+        self.accept(refusal.map_or(Ok(()), Err))
+    }
+
+    /// Begins a call in a lent record, as [`Lanes::begin`] does with that record in the place of its task: what stands
+    /// there in the table is not looked at. The record is written, and [`Begun::copy`] copies it to the table; until then
+    /// the table is as it was, and no other call can come in between. A refusal leaves the record as it was.
+    ///
+    /// After its answer the task is idle in the table, and the panel's own record is of the past: lend
+    /// [`Record::FRESH`] next, or what [`Lanes::record`] gives.
+    ///
+    /// ```
+    /// use lane::{Lanes, Operation, Record, Refusal, Side, Tag};
+    ///
+    /// let mut lanes = Lanes::start([0; lane::words(8, 2)], 8, 2, 0, 2)?;
+    /// let [mut west, mut east] = [Record::FRESH; 2]; // each panel has its own
+    /// lanes.begin_record(&mut west, 0, 1, Operation::Push(Tag::MAX), Side::Left)?.copy();
+    /// let begun = lanes.begin_record(&mut east, 1, 0, Operation::Push(Tag::MAX), Side::Left);
+    /// assert_eq!(begun.err(), Some(Refusal::Twice));
+    /// assert_eq!((west.is_busy(), east.is_busy()), (true, false));
+    ///
+    /// drop(lanes.begin_record(&mut east, 1, 0, Operation::Pop, Side::Left)?); // not copied
+    /// assert_eq!((east.is_busy(), lanes.is_busy(1)), (true, Ok(false)));
+    /// # Ok::<(), Refusal>(())
+    /// ```
+    ///
+    /// # Errors
+    ///
+    /// Those of [`Lanes::begin`], with [`Refusal::Shape`] of the table with the record in its place.
+    pub fn begin_record<'a>(
+        &'a mut self,
+        record: &'a mut Record,
+        task: u32,
+        lane: u32,
+        operation: Operation,
+        side: Side,
+    ) -> Result<Begun<'a>, Refusal> {
+        let [digit, argument] = operation.argument();
+        let (number, side) = (operation.number(), side.number());
+        let (words, own) = (self.words.as_mut(), record.words_mut());
+        reply(ffi::begin_record(
+            own, words, task, lane, number, side, digit, argument,
+        ))?;
+        let at = place::record(words[place::SLOTS], task);
+        Ok(Begun::new(&mut words[at..][..place::RECORD], record))
     }
 
     /// Makes one tick of a busy task. If the tick takes a free slot, it is the first one from `hint` (below the number
@@ -162,8 +236,14 @@ impl<W: AsRef<[u32]> + AsMut<[u32]>> Lanes<W> {
     /// assert_eq!(answer, Answer::Pushed);
     /// # Ok::<(), lane::Refusal>(())
     /// ```
+    ///
+    /// # Errors
+    ///
+    /// [`Refusal::Table`], [`Refusal::Shape`], [`Refusal::Task`], [`Refusal::Hint`], [`Refusal::Idle`] and
+    /// [`Refusal::NoSlot`], tested in this order.
     pub fn tick(&mut self, task: u32, hint: u32) -> Result<Answer, Refusal> {
-        outcome(ffi::tick(self.words.as_mut(), task, hint))
+        let answer = outcome(ffi::tick(self.words.as_mut(), task, hint));
+        self.accept(answer)
     }
 
     /// Makes ticks of a busy task, each with this hint, until one does not say [`Answer::Going`], or so many, and gives
@@ -184,6 +264,10 @@ impl<W: AsRef<[u32]> + AsMut<[u32]>> Lanes<W> {
     /// assert_eq!(lanes.ticks(0, 0, u32::MAX), Err(Refusal::Idle));
     /// # Ok::<(), Refusal>(())
     /// ```
+    ///
+    /// # Errors
+    ///
+    /// Those of [`Lanes::tick`]; none where no tick is asked for.
     pub fn ticks(&mut self, task: u32, hint: u32, times: u32) -> Result<Answer, Refusal> {
         outcome(ffi::ticks(self.words.as_mut(), task, hint, times))
     }
@@ -208,8 +292,13 @@ impl<W: AsRef<[u32]> + AsMut<[u32]>> Lanes<W> {
     /// }
     /// # Ok::<(), lane::Refusal>(())
     /// ```
+    ///
+    /// # Errors
+    ///
+    /// [`Refusal::Table`], [`Refusal::Shape`], [`Refusal::Hint`] and [`Refusal::NoSlot`], tested in this order.
     pub fn dispatch(&mut self, hint: u32) -> Result<Dispatched, Refusal> {
-        Dispatched::of(ffi::dispatch(self.words.as_mut(), hint))
+        let dispatched = Dispatched::of(ffi::dispatch(self.words.as_mut(), hint));
+        self.accept(dispatched)
     }
 
     /// Makes dispatches, each with this hint, until a call ends, every task is idle, or so many are made, and gives
@@ -233,6 +322,10 @@ impl<W: AsRef<[u32]> + AsMut<[u32]>> Lanes<W> {
     /// assert_eq!(ended, [(1, Answer::Empty, 8), (0, Answer::Pushed, 15)]);
     /// # Ok::<(), lane::Refusal>(())
     /// ```
+    ///
+    /// # Errors
+    ///
+    /// Those of [`Lanes::dispatch`]; none where no dispatch is asked for.
     pub fn dispatches(&mut self, hint: u32, times: u32) -> Result<Dispatched, Refusal> {
         Dispatched::of(ffi::dispatches(self.words.as_mut(), hint, times))
     }
@@ -252,6 +345,10 @@ impl<W: AsRef<[u32]> + AsMut<[u32]>> Lanes<W> {
     /// assert_eq!(lanes.call(0, 1, Operation::Pop, Side::Left)?, Answer::Bag(Tag::MAX));
     /// # Ok::<(), lane::Refusal>(())
     /// ```
+    ///
+    /// # Errors
+    ///
+    /// Those of [`Lanes::begin`]; and [`Refusal::NoSlot`] of a tick, on a table that start did not begin.
     pub fn call(
         &mut self,
         task: u32,
@@ -262,6 +359,60 @@ impl<W: AsRef<[u32]> + AsMut<[u32]>> Lanes<W> {
         self.begin(task, lane, operation, side)?;
         let slots = View::accepted(self.words()).slots();
         self.ticks(task, 0, max_ticks_alone(slots))
+    }
+
+    /// Pushes a bag that was [`Answer::Full`] at an end: tries again, and as long as it is full, has one other end of the
+    /// table after another give back what it can, and tries again each time. To give back, an end takes the same bag by
+    /// a push, gives it out by a pop, and removes 0: whole calls of this task, which is idle. Drain the table before, by
+    /// [`Lanes::dispatches`]: the answers of the other tasks are the caller's.
+    ///
+    /// It gives what [`Lanes::call`] gives for its last push at this end: [`Answer::Full`] with no task in a call says
+    /// that no other end has place for more than one bag. On a table that start did not begin it may also stop at a call
+    /// that answers what it should not, and gives that.
+    ///
+    /// ```
+    /// use lane::{Answer, Lanes, Operation, Side, Tag};
+    ///
+    /// let mut lanes = Lanes::start([0; lane::words(8, 1)], 8, 1, 0, 2)?;
+    /// assert_eq!(lanes.call(0, 0, Operation::Add(3), Side::Left)?, Answer::Yes); // all that were free
+    /// assert_eq!(lanes.call(0, 1, Operation::Push(Tag::MAX), Side::Right)?, Answer::Full);
+    /// assert_eq!(lanes.make_room(0, 1, Tag::MAX, Side::Right)?, Answer::Pushed);
+    /// # Ok::<(), lane::Refusal>(())
+    /// ```
+    ///
+    /// # Errors
+    ///
+    /// Those of [`Lanes::call`].
+    pub fn make_room(
+        &mut self,
+        task: u32,
+        lane: u32,
+        tag: Tag,
+        side: Side,
+    ) -> Result<Answer, Refusal> {
+        let mut answer = self.call(task, lane, Operation::Push(tag), side)?;
+        let lanes = View::accepted(self.words()).lanes();
+        let ends = (0..lanes).flat_map(|lane| [(lane, Side::Left), (lane, Side::Right)]);
+        for (other, at) in ends.filter(|&end| end != (lane, side)) {
+            if answer != Answer::Full {
+                break;
+            }
+            match self.call(task, other, Operation::Push(tag), at)? {
+                Answer::Full => continue, // nothing is spare there
+                Answer::Pushed => {}
+                answer => return Ok(answer),
+            }
+            match self.call(task, other, Operation::Pop, at)? {
+                Answer::Bag(popped) if popped == tag => {}
+                answer => return Ok(answer),
+            }
+            match self.call(task, other, Operation::Remove(0), at)? {
+                Answer::Yes | Answer::No => {}
+                answer => return Ok(answer),
+            }
+            answer = self.call(task, lane, Operation::Push(tag), side)?;
+        }
+        Ok(answer)
     }
 
     /// Makes the ticks of a list of (task, hint) pairs up to the first refused, at most
@@ -332,8 +483,20 @@ impl<W: AsRef<[u32]> + AsMut<[u32]>> Lanes<W> {
     /// assert_eq!(lanes.put(&Snapshot::over(altered)), Err(Refusal::Shape));
     /// # Ok::<(), Refusal>(())
     /// ```
+    ///
+    /// # Errors
+    ///
+    /// [`Refusal::Snapshot`], [`Refusal::Table`] and [`Refusal::Shape`], tested in this order, the last two of the
+    /// table that the snapshot would give.
     pub fn put<S: AsRef<[u32]>>(&mut self, snapshot: &Snapshot<S>) -> Result<(), Refusal> {
-        reply(ffi::put(snapshot.words(), self.words.as_mut()))
+        let put = reply(ffi::put(snapshot.words(), self.words.as_mut()));
+        self.accept(put)
+    }
+
+    /// What a call gave that tests the table before all else.
+    fn accept<T>(&mut self, given: Result<T, Refusal>) -> Result<T, Refusal> {
+        self.accepted |= given.is_ok();
+        given
     }
 }
 
@@ -349,7 +512,11 @@ impl<W: AsRef<[u32]>> Lanes<W> {
     /// # Ok::<(), Refusal>(())
     /// ```
     pub fn over(words: W) -> Lanes<W> {
-        Lanes { words }
+        linked::check();
+        Lanes {
+            words,
+            accepted: false,
+        }
     }
 
     /// Writes the tags of a lane, left end first, two words each, and gives those written. [`Lanes::max_bags`] places
@@ -369,6 +536,11 @@ impl<W: AsRef<[u32]>> Lanes<W> {
     /// assert_eq!(lanes.read(2, &mut out).err(), Some(Refusal::Lane));
     /// # Ok::<(), Refusal>(())
     /// ```
+    ///
+    /// # Errors
+    ///
+    /// [`Refusal::Table`], [`Refusal::Shape`], [`Refusal::Lane`], [`Refusal::NoSlot`] and [`Refusal::Out`], tested in
+    /// this order.
     pub fn read<'a>(&self, lane: u32, out: &'a mut [[u32; 2]]) -> Result<Tags<'a>, Refusal> {
         match pair(ffi::read(self.words(), lane, out.as_flattened_mut())) {
             (None, count) => Ok(Tags::of(&out[..count])),
@@ -390,6 +562,10 @@ impl<W: AsRef<[u32]>> Lanes<W> {
     /// assert_eq!(lanes.bags(2).err(), Some(Refusal::Lane));
     /// # Ok::<(), Refusal>(())
     /// ```
+    ///
+    /// # Errors
+    ///
+    /// [`Refusal::Table`], [`Refusal::Shape`], [`Refusal::Lane`] and [`Refusal::NoSlot`], tested in this order.
     pub fn bags(&self, lane: u32) -> Result<Bags<'_>, Refusal> {
         view::bags(self.words(), lane)
     }
@@ -411,6 +587,11 @@ impl<W: AsRef<[u32]>> Lanes<W> {
     /// assert_eq!(lanes.sheet(2, 0), Err(Refusal::Lane));
     /// # Ok::<(), Refusal>(())
     /// ```
+    ///
+    /// # Errors
+    ///
+    /// [`Refusal::Table`], [`Refusal::Shape`], [`Refusal::Lane`], [`Refusal::NoSlot`] and [`Refusal::Page`], tested in
+    /// this order.
     pub fn sheet(&self, lane: u32, page: u32) -> Result<Page, Refusal> {
         Page::of(self.words(), lane, page)
     }
@@ -431,6 +612,10 @@ impl<W: AsRef<[u32]>> Lanes<W> {
     /// assert_eq!(lanes.take(&mut short), Err(Refusal::Snapshot));
     /// # Ok::<(), Refusal>(())
     /// ```
+    ///
+    /// # Errors
+    ///
+    /// [`Refusal::Snapshot`], [`Refusal::Table`] and [`Refusal::Shape`], tested in this order.
     pub fn take<S: AsMut<[u32]>>(&self, snapshot: &mut Snapshot<S>) -> Result<(), Refusal> {
         reply(ffi::take(self.words(), snapshot.words_mut()))
     }
@@ -442,6 +627,10 @@ impl<W: AsRef<[u32]>> Lanes<W> {
     /// assert_eq!(lanes.lanes(), Ok(3));
     /// # Ok::<(), lane::Refusal>(())
     /// ```
+    ///
+    /// # Errors
+    ///
+    /// [`Refusal::Table`] and [`Refusal::Shape`], tested in this order.
     pub fn lanes(&self) -> Result<u32, Refusal> {
         Ok(self.view()?.lanes())
     }
@@ -453,6 +642,10 @@ impl<W: AsRef<[u32]>> Lanes<W> {
     /// assert_eq!(lanes.slots(), Ok(8));
     /// # Ok::<(), lane::Refusal>(())
     /// ```
+    ///
+    /// # Errors
+    ///
+    /// [`Refusal::Table`] and [`Refusal::Shape`], tested in this order.
     pub fn slots(&self) -> Result<u32, Refusal> {
         Ok(self.view()?.slots())
     }
@@ -464,6 +657,10 @@ impl<W: AsRef<[u32]>> Lanes<W> {
     /// assert_eq!(lanes.tasks(), Ok(3));
     /// # Ok::<(), lane::Refusal>(())
     /// ```
+    ///
+    /// # Errors
+    ///
+    /// [`Refusal::Table`] and [`Refusal::Shape`], tested in this order.
     pub fn tasks(&self) -> Result<u32, Refusal> {
         Ok(self.view()?.tasks())
     }
@@ -479,6 +676,10 @@ impl<W: AsRef<[u32]>> Lanes<W> {
     /// assert_eq!(lanes.is_busy(2), Err(Refusal::Task));
     /// # Ok::<(), Refusal>(())
     /// ```
+    ///
+    /// # Errors
+    ///
+    /// [`Refusal::Table`], [`Refusal::Shape`] and [`Refusal::Task`], tested in this order.
     pub fn is_busy(&self, task: u32) -> Result<bool, Refusal> {
         Ok(self.view_of(task)?.is_busy(task))
     }
@@ -495,8 +696,31 @@ impl<W: AsRef<[u32]>> Lanes<W> {
     /// assert_eq!(lanes.step(2), Err(Refusal::Task));
     /// # Ok::<(), Refusal>(())
     /// ```
+    ///
+    /// # Errors
+    ///
+    /// [`Refusal::Table`], [`Refusal::Shape`] and [`Refusal::Task`], tested in this order.
     pub fn step(&self, task: u32) -> Result<u32, Refusal> {
         Ok(self.view_of(task)?.step(task))
+    }
+
+    /// The record of a task, as it stands in the table.
+    ///
+    /// ```
+    /// use lane::{Lanes, Operation, Record, Side};
+    ///
+    /// let mut lanes = Lanes::start([0; lane::words(8, 2)], 8, 2, 0, 2)?;
+    /// lanes.begin(1, 1, Operation::Pop, Side::Left)?;
+    /// assert_eq!(lanes.record(0)?, Record::FRESH);
+    /// assert!(lanes.record(1)?.is_busy());
+    /// # Ok::<(), lane::Refusal>(())
+    /// ```
+    ///
+    /// # Errors
+    ///
+    /// [`Refusal::Table`], [`Refusal::Shape`] and [`Refusal::Task`], tested in this order.
+    pub fn record(&self, task: u32) -> Result<Record, Refusal> {
+        Ok(self.view_of(task)?.copied(task))
     }
 
     /// The task last dispatched; after a start the one with the highest number.
@@ -511,6 +735,10 @@ impl<W: AsRef<[u32]>> Lanes<W> {
     /// assert_eq!(lanes.dispatched(), Ok(1));
     /// # Ok::<(), lane::Refusal>(())
     /// ```
+    ///
+    /// # Errors
+    ///
+    /// [`Refusal::Table`] and [`Refusal::Shape`], tested in this order.
     pub fn dispatched(&self) -> Result<u32, Refusal> {
         Ok(self.view()?.dispatched())
     }
@@ -525,6 +753,10 @@ impl<W: AsRef<[u32]>> Lanes<W> {
     /// assert_eq!(lanes.tick_count(), Ok(4));
     /// # Ok::<(), lane::Refusal>(())
     /// ```
+    ///
+    /// # Errors
+    ///
+    /// [`Refusal::Table`] and [`Refusal::Shape`], tested in this order.
     pub fn tick_count(&self) -> Result<u32, Refusal> {
         Ok(self.view()?.tick_count())
     }
@@ -552,8 +784,13 @@ impl<W: AsRef<[u32]>> Lanes<W> {
         self.words
     }
 
+    /// The words as a table. They are tested once, at the latest by the first call that accepts them.
     fn view(&self) -> Result<View<'_>, Refusal> {
-        View::of(self.words())
+        if self.accepted {
+            Ok(View::accepted(self.words()))
+        } else {
+            View::of(self.words())
+        }
     }
 
     /// The same, if there is such a task.

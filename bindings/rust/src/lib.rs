@@ -32,12 +32,16 @@
 //! always has one at least, so a table of S slots and L lanes carries at most S - 2L bags in all ([`Lanes::max_bags`]),
 //! with one lane S - 2 ([`Lane::max_bags`]).
 //!
+//! The row of bags of a lane changes in just the tick that answers: in that of [`Answer::Pushed`] the bag comes to its
+//! end, in that of [`Answer::Bag`] the bag at its end is gone. All other ticks and all other calls, but for a start and a
+//! put, leave every row as it is. A read at any time, whatever calls stand in the middle, is the row.
+//!
 //! [`Answer::Full`] is not about the bags alone: spare slots at other ends count, those of other lanes too, and so does
 //! what a call left in the middle may still use, up to S - 2L slots, so that a push may be full with no bag in any
 //! lane. Do not leave a call standing while bags pass. The way out: drain the table, as below; then at one other end
-//! after another, of every lane, push, pop the bag again, remove 0, and try again each time. Full to the last, with no
-//! other task in a call: no other end has place for more than one bag, so that with one lane S - 2 bags are in it, or
-//! S - 3 and the last place is at the other end.
+//! after another, of every lane, push, pop the bag again, remove 0, and try again each time: [`Lanes::make_room`] does
+//! this. Full to the last, with no other task in a call: no other end has place for more than one bag, so that with one
+//! lane S - 2 bags are in it, or S - 3 and the last place is at the other end.
 //!
 //! A bag goes by its [`Tag`] of ten digits, which is in one place at most: a push of a tag that stands in any lane, or
 //! that a busy push has, is refused when it is begun ([`Refusal::Twice`]).
@@ -59,6 +63,9 @@
 //! [`Lanes::put`] puts it back: the table is then what it was, and the calls after it are answered as those after the
 //! moment at which it was taken. Put back only what you took, whole.
 //!
+//! A belt panel may keep the [`Record`] of its task in its own memory: [`Lanes::begin_record`] begins a call there and
+//! reads the table alone, and [`Begun::copy`] copies the record to the table.
+//!
 //! A [`Window`] counts how many of the last ticks lost the swap of their line, which warns of tasks that fight over an
 //! end. It is fed each tick, or ticks and feeds at once.
 //!
@@ -66,8 +73,9 @@
 //! [`Answer::No`] of a remove, with no other task in a call, means exactly one spare slot more than asked for; trying
 //! again changes nothing.
 //!
-//! Different tables may be used by different threads, and a shared `&Lane` may be read by several. Calls that tick take
-//! about 5.6 kB of stack, those with an airline list under 1.6 kB, the others under 0.6 kB; a [`Page`] is 4,860 bytes.
+//! Different tables may be used by different threads, and a shared `&Lane` may be read by several ([`ffi::begin_record`]
+//! reads a table too). Calls that tick take
+//! under 5.7 kB of stack, those with an airline list under 1.7 kB, the others under 0.7 kB; a [`Page`] is 4,860 bytes.
 //! The library is for x86-64.
 //!
 //! # What a caller can count on
@@ -96,6 +104,15 @@
 //!
 //! With no new begin, [`Lanes::dispatches`] drains a table: every call under way gets its answer.
 //!
+//! # What is assumed
+//!
+//! What is proved is the code of the library as its compiler takes it, before the back end that makes machine code of it,
+//! and for calls on a table that come one after another, with slices as [`ffi`] hands them in. This crate is tested and
+//! not proved: what it says of a table beyond the library's answers is held to them by its tests.
+//!
+//! It was proved with the Rattle kit that the README names, by what `rt version` prints of it. The files of the repository
+//! grant no licence by themselves.
+//!
 //! # Where the library is
 //!
 //! The build looks for `libdeque.a` in `target/staticlib` of the repository, where `rt staticlib deque` puts it, or for
@@ -111,8 +128,12 @@ pub mod ffi;
 mod lane;
 mod lanes;
 mod limits;
+mod linked;
 mod list;
 mod page;
+pub mod place;
+mod record;
+mod shown;
 mod snapshot;
 mod tag;
 mod view;
@@ -130,10 +151,12 @@ pub use limits::{
     MAX_WIDTH, MIN_LANES, MIN_SLOTS, MIN_TASKS, PAGES, PAGE_BYTES, PAGE_COLUMNS, PAGE_LINES,
     PAGE_TAGS, TAG_BYTES,
 };
-pub use list::{tags_read, tags_write, RefusedTags};
+pub use linked::Library;
+pub use list::{tags_read, tags_write, RefusedTags, TagWords};
 pub use page::Page;
+pub use record::{Begun, Record};
 pub use snapshot::Snapshot;
-pub use tag::{ParseTagError, Tag, Tags};
+pub use tag::{ParseTagError, Tag, TagRangeError, Tags};
 pub use view::Bags;
 pub use window::{Watched, Window};
 
@@ -141,7 +164,8 @@ pub use window::{Watched, Window};
 pub const VERSION: &str = env!("CARGO_PKG_VERSION");
 
 /// The number of the table's format: a table is worked on by libraries of its format alone. One of an older format is
-/// refused with [`Refusal::Table`].
+/// refused with [`Refusal::Table`]. To move on to a new format, drain the table with the library of the old one, read its
+/// lanes, start a table with the new library, and push the bags there in that order.
 pub const TABLE_FORMAT: u32 = 4;
 
 /// The refusal of a number; none for 0.
@@ -170,8 +194,8 @@ fn outcome(number: u64) -> Result<Answer, Refusal> {
     Ok(known(Answer::from_words([kind, digit, low])))
 }
 
-/// The library's contract has no other number. Nothing checks that the library linked is the one this crate was written
-/// for, so a number that it cannot give stops the program and is not guessed at.
+/// The library's contract has no other number. One that says it is of this version, and is not, cannot be told before:
+/// a number that it cannot give stops the program and is not guessed at.
 #[track_caller]
 fn known<T>(decoded: Option<T>) -> T {
     decoded.expect("a number outside the contract: is libdeque.a of another version linked?")

@@ -53,6 +53,7 @@ pub const MAX_WIDTH: u32 = 4096;
 /// ```
 /// assert_eq!(lane::words(4, 1), 45);
 /// ```
+#[must_use]
 pub const fn words(slots: u32, tasks: u32) -> usize {
     16 + 4 * slots as usize + 13 * tasks as usize
 }
@@ -62,6 +63,7 @@ pub const fn words(slots: u32, tasks: u32) -> usize {
 /// ```
 /// assert_eq!(lane::window_words(64), 68);
 /// ```
+#[must_use]
 pub const fn window_words(width: u32) -> usize {
     width as usize + 4
 }
@@ -71,6 +73,7 @@ pub const fn window_words(width: u32) -> usize {
 /// ```
 /// assert_eq!(lane::max_ticks_alone(lane::MAX_SLOTS), 4250);
 /// ```
+#[must_use]
 pub const fn max_ticks_alone(slots: u32) -> u32 {
     slots.saturating_mul(4).saturating_add(154)
 }

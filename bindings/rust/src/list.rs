@@ -2,7 +2,7 @@
 
 use core::fmt;
 
-use crate::{ffi, pair, Refusal, Tags, TAG_BYTES};
+use crate::{ffi, linked, pair, shown, Refusal, Tag, Tags, TAG_BYTES};
 
 /// Reads a tag list in packed decimal, ten digits in [`TAG_BYTES`] bytes, the higher digit first, and gives the tags.
 /// It writes two words for each, as [`Lane::read`](crate::Lane::read) does; places after them stay as they were, and a
@@ -19,21 +19,27 @@ use crate::{ffi, pair, Refusal, Tags, TAG_BYTES};
 /// let refused = tags_read(&list, &mut out).unwrap_err();
 /// assert_eq!((refused.refusal, refused.place), (Refusal::NoTag, Some(1)));
 /// assert_eq!(refused.to_string(), "refused 18: a place of the tag list holds no tag: place 1");
+/// assert_eq!(format!("{refused:60}|"), format!("{:60}|", refused.to_string()));
 /// # Ok::<(), Refusal>(())
 /// ```
+///
+/// # Errors
+///
+/// [`Refusal::Tags`], [`Refusal::NoTag`] and [`Refusal::TagsOut`], tested in this order; of the second with the place.
 pub fn tags_read<'a>(list: &[u8], out: &'a mut [[u32; 2]]) -> Result<Tags<'a>, RefusedTags> {
+    linked::check();
     let count = answer(ffi::tags_read(list, out.as_flattened_mut()))?;
     Ok(Tags::of(&out[..count]))
 }
 
-/// Writes a tag list in packed decimal from two words a tag, the leading digit and the low part, and gives the bytes
-/// that it wrote: [`TAG_BYTES`] a tag. Bytes after them stay as they were, and a refusal leaves all. What is written is
-/// read as the same tags, and a list that was read is written as the same bytes.
+/// Writes a tag list in packed decimal from tags, or from two words a tag, the leading digit and the low part, and gives
+/// the bytes that it wrote: [`TAG_BYTES`] a tag. Bytes after them stay as they were, and a refusal leaves all. What is
+/// written is read as the same tags, and a list that was read is written as the same bytes.
 ///
 /// ```
 /// use lane::{tags_write, Refusal, Tag};
 ///
-/// let tags = [Tag::MAX, Tag::MIN].map(Tag::words);
+/// let tags = [Tag::MAX, Tag::MIN];
 /// let mut out = [0; 12];
 /// let list = tags_write(&tags, &mut out)?;
 /// assert_eq!(list, [0x99, 0x99, 0x99, 0x99, 0x99, 0x00, 0x00, 0x00, 0x00, 0x01]);
@@ -44,9 +50,43 @@ pub fn tags_read<'a>(list: &[u8], out: &'a mut [[u32; 2]]) -> Result<Tags<'a>, R
 /// assert_eq!((refused.refusal, refused.place), (Refusal::NoTag, Some(1)));
 /// # Ok::<(), Refusal>(())
 /// ```
-pub fn tags_write<'a>(tags: &[[u32; 2]], out: &'a mut [u8]) -> Result<&'a [u8], RefusedTags> {
-    let count = answer(ffi::tags_write(tags.as_flattened(), out))?;
+///
+/// # Errors
+///
+/// [`Refusal::Tags`], [`Refusal::NoTag`] and [`Refusal::TagsOut`], tested in this order; of the second, which a [`Tag`]
+/// never gives, with the place.
+pub fn tags_write<'a, T: TagWords>(tags: &[T], out: &'a mut [u8]) -> Result<&'a [u8], RefusedTags> {
+    linked::check();
+    let count = answer(ffi::tags_write(T::words(tags), out))?;
     Ok(&out[..TAG_BYTES * count])
+}
+
+/// What [`tags_write`] takes: a [`Tag`], or two words that may be one.
+pub trait TagWords: sealed::Words {}
+
+impl TagWords for Tag {}
+
+impl TagWords for [u32; 2] {}
+
+mod sealed {
+    use crate::{ffi, Tag};
+
+    /// Two words for each, one after another.
+    pub trait Words: Sized {
+        fn words(these: &[Self]) -> &[u32];
+    }
+
+    impl Words for Tag {
+        fn words(these: &[Tag]) -> &[u32] {
+            ffi::tag_words(these)
+        }
+    }
+
+    impl Words for [u32; 2] {
+        fn words(these: &[[u32; 2]]) -> &[u32] {
+            these.as_flattened()
+        }
+    }
 }
 
 /// What the number of either call says: how many tags, or the refusal.
@@ -88,10 +128,10 @@ impl From<RefusedTags> for Refusal {
 
 impl fmt::Display for RefusedTags {
     fn fmt(&self, formatter: &mut fmt::Formatter<'_>) -> fmt::Result {
-        self.refusal.fmt(formatter)?;
-        match self.place {
-            Some(place) => write!(formatter, ": place {place}"),
-            None => Ok(()),
+        let RefusedTags { refusal, place } = self;
+        match place {
+            Some(place) => shown::pad(formatter, format_args!("{refusal}: place {place}")),
+            None => refusal.fmt(formatter),
         }
     }
 }

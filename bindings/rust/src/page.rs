@@ -51,6 +51,7 @@ impl Page {
     /// assert!(page.as_bytes().ends_with(b" \n"));
     /// # Ok::<(), lane::Refusal>(())
     /// ```
+    #[must_use]
     pub const fn as_bytes(&self) -> &[u8; PAGE_BYTES] {
         &self.bytes
     }
@@ -62,6 +63,11 @@ impl Page {
     /// assert!(lane.sheet(0)?.as_str().starts_with("LANE 0000 "));
     /// # Ok::<(), lane::Refusal>(())
     /// ```
+    ///
+    /// # Panics
+    ///
+    /// If another library is linked than the one that this crate is for.
+    #[must_use]
     pub fn as_str(&self) -> &str {
         // Letters, digits, blanks and line feeds, by the library's contract.
         let text = str::from_utf8(&self.bytes);

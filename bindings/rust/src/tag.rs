@@ -5,7 +5,7 @@ use core::iter::FusedIterator;
 use core::slice;
 use core::str::FromStr;
 
-use crate::{MAX_DIGIT, MAX_LOW};
+use crate::{shown, MAX_DIGIT, MAX_LOW};
 
 /// What the leading digit counts.
 const LEADING: u64 = 1_000_000_000;
@@ -17,30 +17,32 @@ const LEADING: u64 = 1_000_000_000;
 ///
 /// let tag = Tag::new(51).expect("not 0, and ten digits");
 /// assert_eq!(tag.to_string(), "0000000051");
+/// assert_eq!(format!("{tag:>12}|{tag:<12}|"), "  0000000051|0000000051  |");
 /// assert_eq!("0000000051".parse(), Ok(tag));
 /// assert_eq!(Tag::new(0), None);
 /// assert_eq!(Tag::new(10_000_000_000), None);
 /// ```
 #[derive(Clone, Copy, PartialEq, Eq, PartialOrd, Ord, Hash)]
-pub struct Tag(u64);
+#[repr(transparent)]
+pub struct Tag([u32; 2]); // the leading digit and the low part, so that their order is that of the numbers
 
 impl Tag {
     /// The least tag, 0000000001.
-    pub const MIN: Tag = Tag(1);
+    pub const MIN: Tag = Tag([0, 1]);
     /// The greatest tag, 9999999999.
-    pub const MAX: Tag = Tag(9_999_999_999);
+    pub const MAX: Tag = Tag([MAX_DIGIT, MAX_LOW]);
 
     /// The tag of a number; none for a number that is no tag.
     ///
     /// ```
     /// assert_eq!(lane::Tag::new(9_999_999_999), Some(lane::Tag::MAX));
     /// ```
+    #[must_use]
     pub const fn new(number: u64) -> Option<Tag> {
-        if Tag::MIN.0 <= number && number <= Tag::MAX.0 {
-            Some(Tag(number))
-        } else {
-            None
+        if number > Tag::MAX.number() {
+            return None;
         }
+        Tag::from_words(split(number))
     }
 
     /// The tag of a leading digit and a low part, the nine digits below it; none for words that are no tag.
@@ -51,11 +53,12 @@ impl Tag {
     /// assert_eq!(Tag::from_words([1, 0]), Tag::new(1_000_000_000));
     /// assert_eq!(Tag::from_words([0, 1_000_000_000]), None);
     /// ```
+    #[must_use]
     pub const fn from_words([digit, low]: [u32; 2]) -> Option<Tag> {
-        if digit > MAX_DIGIT || low > MAX_LOW {
+        if digit > MAX_DIGIT || low > MAX_LOW || (digit == 0 && low == 0) {
             return None;
         }
-        Tag::new(digit as u64 * LEADING + low as u64)
+        Some(Tag([digit, low]))
     }
 
     /// The number.
@@ -63,8 +66,10 @@ impl Tag {
     /// ```
     /// assert_eq!(lane::Tag::MIN.number(), 1);
     /// ```
+    #[must_use]
     pub const fn number(self) -> u64 {
-        self.0
+        let [digit, low] = self.0;
+        digit as u64 * LEADING + low as u64
     }
 
     /// The leading digit and the low part, as a read and a run write them and a tag list has them in memory.
@@ -72,8 +77,9 @@ impl Tag {
     /// ```
     /// assert_eq!(lane::Tag::MAX.words(), [9, 999_999_999]);
     /// ```
+    #[must_use]
     pub const fn words(self) -> [u32; 2] {
-        split(self.0)
+        self.0
     }
 
     /// The airline's code, 0 to 999: the second to fourth of the ten digits.
@@ -81,6 +87,7 @@ impl Tag {
     /// ```
     /// assert_eq!(lane::Tag::new(9_125_000_051).map(lane::Tag::code), Some(125));
     /// ```
+    #[must_use]
     pub const fn code(self) -> u32 {
         self.words()[1] / 1_000_000
     }
@@ -93,7 +100,7 @@ pub(crate) const fn split(number: u64) -> [u32; 2] {
 
 impl fmt::Display for Tag {
     fn fmt(&self, formatter: &mut fmt::Formatter<'_>) -> fmt::Result {
-        write!(formatter, "{:010}", self.0)
+        shown::pad(formatter, format_args!("{:010}", self.number()))
     }
 }
 
@@ -103,6 +110,43 @@ impl fmt::Debug for Tag {
         fmt::Display::fmt(self, formatter)
     }
 }
+
+/// ```
+/// use lane::Tag;
+///
+/// assert_eq!(Tag::try_from(9_999_999_999), Ok(Tag::MAX));
+/// assert!(Tag::try_from(0).is_err());
+/// ```
+impl TryFrom<u64> for Tag {
+    type Error = TagRangeError;
+
+    fn try_from(number: u64) -> Result<Tag, TagRangeError> {
+        Tag::new(number).ok_or(TagRangeError(()))
+    }
+}
+
+impl From<Tag> for u64 {
+    fn from(tag: Tag) -> u64 {
+        tag.number()
+    }
+}
+
+/// A number that is no tag.
+///
+/// ```
+/// let refused = lane::Tag::try_from(10_000_000_000).unwrap_err();
+/// assert_eq!(refused.to_string(), "a tag is a number from 1 to 9,999,999,999");
+/// ```
+#[derive(Clone, Copy, Debug, PartialEq, Eq)]
+pub struct TagRangeError(());
+
+impl fmt::Display for TagRangeError {
+    fn fmt(&self, formatter: &mut fmt::Formatter<'_>) -> fmt::Result {
+        formatter.pad("a tag is a number from 1 to 9,999,999,999")
+    }
+}
+
+impl core::error::Error for TagRangeError {}
 
 /// Ten digits with their zeros, as the program reads them.
 impl FromStr for Tag {
@@ -126,7 +170,7 @@ pub struct ParseTagError(());
 
 impl fmt::Display for ParseTagError {
     fn fmt(&self, formatter: &mut fmt::Formatter<'_>) -> fmt::Result {
-        formatter.write_str("a tag is ten digits, not all of them 0")
+        formatter.pad("a tag is ten digits, not all of them 0")
     }
 }
 
@@ -192,8 +236,9 @@ mod tests {
             let tag = Tag::new(number);
             assert_eq!(tag.is_some(), (1..=9_999_999_999).contains(&number));
             assert_eq!(Tag::from_words(split(number)), tag, "{number}");
+            assert_eq!(Tag::try_from(number).ok(), tag);
             if let Some(tag) = tag {
-                assert_eq!(tag.number(), number);
+                assert_eq!((tag.number(), u64::from(tag)), (number, number));
                 assert_eq!(Tag::from_words(tag.words()), Some(tag));
             }
         }
@@ -209,6 +254,21 @@ mod tests {
         ] {
             assert_eq!(Tag::from_words(words), None, "{words:?}");
         }
+    }
+
+    #[test]
+    fn tags_are_in_the_order_of_their_numbers() {
+        let numbers = [
+            1,
+            51,
+            999_999_999,
+            1_000_000_000,
+            1_000_000_051,
+            9_999_999_999,
+        ];
+        let tags = numbers.map(|number| Tag::new(number).expect("a tag"));
+        assert!(tags.windows(2).all(|pair| pair[0] < pair[1]));
+        assert_eq!(tags.map(Tag::number), numbers);
     }
 
     #[test]

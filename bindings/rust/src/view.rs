@@ -5,30 +5,7 @@
 
 use core::fmt;
 
-use crate::{ffi, known, pair, Operation, Refusal, Side, Tag};
-
-/// The format's places: words of the header, widths, and words of a node and of a task.
-mod place {
-    pub const SLOTS: usize = 0;
-    pub const TASKS: usize = 1;
-    pub const GROWTH: usize = 2;
-    pub const LANES: usize = 3;
-    pub const TICKS: usize = 4;
-    pub const DISPATCHED: usize = 5;
-    pub const HATS: usize = 6;
-    pub const HEADER: usize = 16;
-    pub const NODE: usize = 4;
-    pub const RIGHT_LINK: usize = 1;
-    pub const VALUE: usize = 2;
-    pub const DIGIT: usize = 3;
-    pub const RECORD: usize = 13;
-    pub const OPERATION: usize = 0;
-    pub const STEP: usize = 1;
-    pub const SIDE: usize = 2;
-    pub const ARGUMENT: usize = 3;
-    pub const ARGUMENT_DIGIT: usize = 4;
-    pub const LANE: usize = 12;
-}
+use crate::{ffi, known, pair, place, Operation, Record, Refusal, Side, Tag};
 
 /// Words that the library has accepted as a table.
 #[derive(Clone, Copy)]
@@ -39,14 +16,14 @@ pub(crate) struct View<'a> {
 impl<'a> View<'a> {
     /// The words as a table, or [`Refusal::Table`] or [`Refusal::Shape`].
     pub fn of(words: &'a [u32]) -> Result<View<'a>, Refusal> {
-        // Every table has a lane 0; whether it can be walked is not asked here.
-        match bags(words, 0) {
-            Err(refusal @ (Refusal::Table | Refusal::Shape)) => Err(refusal),
+        // A read of a lane that no table has: the tests of the table, and no walk.
+        match pair(ffi::read(words, u32::MAX, &mut [])) {
+            (Some(refusal @ (Refusal::Table | Refusal::Shape)), _) => Err(refusal),
             _ => Ok(View::accepted(words)),
         }
     }
 
-    /// The same of words that a call has just accepted.
+    /// The same of words that a call has accepted.
     pub fn accepted(words: &'a [u32]) -> View<'a> {
         View { words }
     }
@@ -69,20 +46,25 @@ impl<'a> View<'a> {
     }
 
     pub fn tick_count(self) -> u32 {
-        self.words[place::TICKS]
+        self.words[place::TICK_COUNT]
     }
 
     /// The left hat and the right hat of a lane below [`View::lanes`].
     fn hats(self, lane: u32) -> [u32; 2] {
-        let at = place::HATS + 2 * lane as usize;
+        let at = place::hats(lane);
         [self.words[at], self.words[at + 1]]
     }
 
     /// The thirteen words of a task below [`View::tasks`].
     fn record(self, task: u32) -> &'a [u32] {
-        let nodes = place::NODE * self.slots() as usize;
-        let at = place::HEADER + nodes + place::RECORD * task as usize;
-        &self.words[at..at + place::RECORD]
+        &self.words[place::record(self.slots(), task)..][..place::RECORD]
+    }
+
+    /// The same, copied.
+    pub fn copied(self, task: u32) -> Record {
+        let mut words = [0; place::RECORD];
+        words.copy_from_slice(self.record(task));
+        Record::from_words(words)
     }
 
     pub fn is_busy(self, task: u32) -> bool {
@@ -95,15 +77,14 @@ impl<'a> View<'a> {
     }
 
     fn node(self, number: u32) -> &'a [u32] {
-        let at = place::HEADER + place::NODE * number as usize;
-        &self.words[at..at + place::NODE]
+        &self.words[place::node(number)..][..place::NODE]
     }
 }
 
 /// The step of a task in words that may be anything; 0 for one that is idle or is not there.
 pub(crate) fn step(words: &[u32], task: u32) -> u32 {
     let slots = words.get(place::SLOTS).copied().unwrap_or(0);
-    let at = crate::words(slots, task) + place::STEP;
+    let at = place::record(slots, task) + place::STEP;
     words.get(at).copied().unwrap_or(0)
 }
 

@@ -2,7 +2,9 @@
 
 use core::fmt;
 
-use crate::{ffi, pair, reply, view, Answer, Dispatched, Lanes, NotStarted, Refusal, MAX_TASKS};
+use crate::{
+    ffi, linked, pair, reply, view, Answer, Dispatched, Lanes, NotStarted, Refusal, MAX_TASKS,
+};
 
 /// How many of the last ticks lost the swap of their line: a number that rises while tasks fight over an end. The words
 /// are owned (`Vec<u32>`, `[u32; N]`) or lent (`&mut [u32]`), as many as [`window_words`](crate::window_words) says.
@@ -28,7 +30,7 @@ use crate::{ffi, pair, reply, view, Answer, Dispatched, Lanes, NotStarted, Refus
 /// }
 /// // Task 0 has the bag, and the swap of task 1 finds it gone.
 /// let watched = window.tick(&mut lane, 1, 0)?;
-/// assert_eq!((watched.answer, watched.lost), (Answer::Going, Ok(1)));
+/// assert_eq!((watched.task, watched.answer, watched.lost), (1, Answer::Going, Ok(1)));
 /// assert_eq!(format!("{window:?}"), "Window { width: 8, fed: 8, last_count: 19 }");
 /// # Ok::<(), lane::Refusal>(())
 /// ```
@@ -52,7 +54,12 @@ impl<W: AsRef<[u32]> + AsMut<[u32]>> Window<W> {
     /// assert_eq!(refused.words, [7; 6]);
     /// # Ok::<(), Refusal>(())
     /// ```
+    ///
+    /// # Errors
+    ///
+    /// [`Refusal::Window`], with the words as they were.
     pub fn start(mut words: W, width: u32) -> Result<Window<W>, NotStarted<W>> {
+        linked::check();
         match reply(ffi::window(words.as_mut(), width)) {
             Ok(()) => Ok(Window { words }),
             Err(refusal) => Err(NotStarted { refusal, words }),
@@ -73,6 +80,10 @@ impl<W: AsRef<[u32]> + AsMut<[u32]>> Window<W> {
     /// assert_eq!(window.feed(1, 8, 28), Err(Refusal::Count));
     /// # Ok::<(), Refusal>(())
     /// ```
+    ///
+    /// # Errors
+    ///
+    /// [`Refusal::Window`] and [`Refusal::Count`], tested in this order.
     pub fn feed(&mut self, count: u32, before: u32, after: u32) -> Result<u32, Refusal> {
         match pair(ffi::feed(self.words.as_mut(), count, before, after)) {
             (None, lost) => Ok(lost as u32),
@@ -81,6 +92,10 @@ impl<W: AsRef<[u32]> + AsMut<[u32]>> Window<W> {
     }
 
     /// Makes one tick as [`Lanes::tick`] does, and feeds it. A tick that is refused is not fed.
+    ///
+    /// # Errors
+    ///
+    /// Those of [`Lanes::tick`]; what the window refuses is in [`Watched::lost`].
     pub fn tick<T: AsRef<[u32]> + AsMut<[u32]>>(
         &mut self,
         lanes: &mut Lanes<T>,
@@ -104,6 +119,10 @@ impl<W: AsRef<[u32]> + AsMut<[u32]>> Window<W> {
     /// assert!(window.dispatch(&mut lane, 0)?.is_some_and(|watched| watched.lost == Ok(0)));
     /// # Ok::<(), lane::Refusal>(())
     /// ```
+    ///
+    /// # Errors
+    ///
+    /// Those of [`Lanes::dispatch`]; what the window refuses is in [`Watched::lost`].
     pub fn dispatch<T: AsRef<[u32]> + AsMut<[u32]>>(
         &mut self,
         lanes: &mut Lanes<T>,
@@ -123,6 +142,7 @@ impl<W: AsRef<[u32]> + AsMut<[u32]>> Window<W> {
     fn watched(&mut self, table: &[u32], task: u32, before: u32, answer: Answer) -> Watched {
         let count = view::View::accepted(table).tick_count();
         Watched {
+            task,
             answer,
             lost: self.feed(count, before, view::step(table, task)),
         }
@@ -141,6 +161,7 @@ impl<W> Window<W> {
     /// assert_eq!(Window::over(&mut words[..]).feed(8, 5, 0), Err(Refusal::Window));
     /// ```
     pub fn over(words: W) -> Window<W> {
+        linked::check();
         Window { words }
     }
 
@@ -183,6 +204,8 @@ impl<W: AsRef<[u32]>> fmt::Debug for Window<W> {
 #[must_use = "the tick has an answer, and the window may have refused it"]
 #[non_exhaustive]
 pub struct Watched {
+    /// The task that was ticked.
+    pub task: u32,
     /// What the tick answered.
     pub answer: Answer,
     /// How many of the last ticks lost a swap; or why the window refused this one, which is made all the same.

@@ -52,6 +52,14 @@ fn the_header_has_the_same_numbers() {
         assert_eq!(defined(name), number.to_string(), "{name}");
     }
     assert_eq!(defined("LANE_VERSION"), format!("\"{}\"", lane::VERSION));
+    let numbers = lane::VERSION
+        .split('.')
+        .map(|number| format!("{number:0>3}"));
+    let number = numbers.collect::<String>();
+    assert_eq!(
+        defined("LANE_VERSION_NUMBER"),
+        number.trim_start_matches('0')
+    );
     assert_eq!(defined("LANE_MIN_TAG"), Tag::MIN.number().to_string());
     let most = Tag::MAX.number();
     assert_eq!(defined("LANE_MAX_TAG"), format!("UINT64_C({most})"));

@@ -125,3 +125,22 @@ fn a_lane_is_sent_as_a_list() {
     let mut list = [0; 20];
     assert_eq!(tags_write(&places[..count], &mut list), Ok(&LIST[..15]));
 }
+
+/// Tags are written as their words are, and refused for the length of the list or of the place alone.
+#[test]
+fn tags_are_written_as_their_words() {
+    let mut out = [7; LIST.len() + 1];
+    assert_eq!(tags_write(&tags(), &mut out), Ok(&LIST[..]));
+    assert_eq!(out[LIST.len()], 7);
+    assert_eq!(tags_write::<Tag>(&[], &mut []), Ok(&[][..]));
+    let short = tags_write(&tags(), &mut out[..LIST.len() - 1]);
+    assert_eq!(short.map_err(parts), Err((Refusal::TagsOut, None)));
+    let many = vec![Tag::MAX; LIST_TAGS + 1];
+    let mut out = vec![0; TAG_BYTES * many.len()];
+    let written = tags_write(&many[1..], &mut out).map(<[u8]>::len);
+    assert_eq!(written, Ok(TAG_BYTES * LIST_TAGS));
+    assert_eq!(
+        tags_write(&many, &mut out).map_err(parts),
+        Err((Refusal::Tags, None))
+    );
+}

@@ -8,6 +8,7 @@ use reference::table::header;
 use reference::{airlines, sheet, Answer};
 
 use crate::common::calls::whole;
+use crate::common::records::{copied, Record};
 use crate::common::row::Note;
 use crate::counts::Given;
 use crate::lent::Lent;
@@ -24,6 +25,10 @@ enum Call {
     Start([u32; 4]),
     /// Task, call.
     Begin(u32, Note),
+    /// Record, task, call.
+    BeginRecord(Record, u32, Note),
+    /// Task, record.
+    Copy(u32, Record),
     /// List, task, lane, digit, low part.
     PushByList(String, [u32; 4]),
     /// Task, hint.
@@ -126,6 +131,66 @@ impl Both {
         self.compare(proved, number);
         self.done(1, number, second.is_ok());
         second
+    }
+
+    /// A begin over a lent record: what it gives, and the record then.
+    pub fn begin_record(
+        &mut self,
+        record: &Record,
+        task: u32,
+        call: Note,
+    ) -> (Result<(), u32>, Record) {
+        self.note(Call::BeginRecord(*record, task, call));
+        let Note {
+            lane,
+            operation,
+            side,
+            digit,
+            argument,
+        } = call;
+        let mut lent = [Lent::new(record), Lent::new(record)];
+        let [proved, second] = &mut lent;
+        let proved = ffi::begin_record(
+            proved.words_mut().try_into().expect("a record"),
+            self.proved.words(),
+            task,
+            lane,
+            operation,
+            side,
+            digit,
+            argument,
+        );
+        let number = reference::begin_record(
+            second.words_mut().try_into().expect("a record"),
+            self.second.words(),
+            task,
+            lane,
+            operation,
+            side,
+            digit,
+            argument,
+        );
+        self.compare(proved, number);
+        assert!(lent[0] == lent[1], "the programs differ in a lent record");
+        let after: Record = lent[1].words().try_into().expect("a record");
+        assert!(
+            number == 0 || after == *record,
+            "a lent begin that was refused wrote"
+        );
+        self.done(13, number, false);
+        match number {
+            0 => (Ok(()), after),
+            _ => (Err(number), after),
+        }
+    }
+
+    /// The panel copies a record to the table, in both.
+    pub fn copy(&mut self, task: u32, record: &Record) {
+        self.note(Call::Copy(task, *record));
+        for table in [&mut self.proved, &mut self.second] {
+            let words = copied(table.words(), task, record);
+            table.words_mut().copy_from_slice(&words);
+        }
     }
 
     /// A push of these words at the end that a list names; a refusal comes with the list's line, or 0.

@@ -5,6 +5,7 @@ use reference::table::{content, header, is_tag, node, record, Content, Sizes, MA
 use crate::airlines;
 use crate::both::Both;
 use crate::common::random::Random;
+use crate::common::records;
 use crate::common::row::Note;
 use crate::common::tables::{shaped_of, sizes};
 use crate::counts::{Counts, Origin};
@@ -81,6 +82,7 @@ pub fn calls(random: &mut Random, counts: &mut Counts, both: &mut Both) {
                 assert!(!matches!(given, Err((3 | 4, _))), "the shape is broken");
             }
             20 => sheets::any(random, counts, both, lane),
+            21 | 22 => lend(random, both, task, lane),
             _ => {
                 let given = both.tick(task, hint);
                 if matches!(given, Ok(_) | Err(11)) {
@@ -88,6 +90,32 @@ pub fn calls(random: &mut Random, counts: &mut Counts, both: &mut Both) {
                 }
             }
         }
+    }
+}
+
+/// A begin over any record, of any numbers or of a push; if it is accepted, it may be copied.
+fn lend(random: &mut Random, both: &mut Both, task: u32, lane: u32) {
+    let own = records::any(random, both.table(), task);
+    let [argument, digit] = some_tag(random, both.table(), sizes(both.table()));
+    let mut call = Note {
+        lane,
+        operation: PUSH,
+        side: random.below(2),
+        digit,
+        argument,
+    };
+    if random.once_in(3) {
+        call = Note {
+            operation: random.below(6),
+            side: random.below(3),
+            digit: random.digit(),
+            argument: random.word(),
+            ..call
+        };
+    }
+    let (given, own) = both.begin_record(&own, task, call);
+    if given.is_ok() && random.once_in(2) {
+        both.copy(task, &own);
     }
 }
 
@@ -147,6 +175,13 @@ pub fn damaged(random: &mut Random, counts: &mut Counts) {
                 let _ = both.push_by_list(&list, one % 20, lane, words);
             }
             22 => sheets::any(random, counts, &mut both, lane),
+            23 => {
+                let own = match records::place(both.table(), one % 20) {
+                    Some(_) if random.once_in(2) => records::words(both.table(), one % 20),
+                    _ => [(); record::WORDS].map(|()| random.pick(&[0, 0, 65_535, two])),
+                };
+                let _ = both.begin_record(&own, one % 20, call);
+            }
             _ => {
                 let _ = both.tick(one % 20, two);
             }

@@ -17,6 +17,7 @@ use crate::consecutive::Consecutive;
 use crate::lists::Lists;
 use crate::one_user::played::Users;
 use crate::outcomes::{Leads, Outcome, OUTCOMES};
+use crate::records::Records;
 use crate::sheets::Sheets;
 use crate::snapshots::Snapshots;
 use crate::starts;
@@ -25,7 +26,7 @@ use crate::windows::Windows;
 use crate::words::Words;
 
 /// The calls, and what each can give by the paper; 0 stands for no refusal.
-const GIVEN: [(&str, &[usize]); 13] = [
+const GIVEN: [(&str, &[usize]); 14] = [
     ("start", &[0, 1, 2, 25]),
     ("begin", &[0, 3, 4, 5, 6, 7, 8, 11, 16, 26]),
     ("tick", &[0, 3, 4, 5, 9, 10, 11]),
@@ -39,6 +40,7 @@ const GIVEN: [(&str, &[usize]); 13] = [
     ("put", &[0, 3, 4, 22]),
     ("push by list", &[0, 3, 4, 5, 7, 8, 11, 16, 26, 27, 28, 29]),
     ("sheet", &[0, 3, 4, 11, 20, 21, 26]),
+    ("begin, lent", &[0, 3, 4, 5, 6, 7, 8, 11, 16, 26]),
 ];
 /// All steps that change the digit of a node, and whether a table that start and the calls reach shows it.
 const CHANGE: [(u32, bool); 5] = [(5, true), (28, false), (31, false), (51, true), (78, false)];
@@ -106,6 +108,8 @@ pub struct Counts {
     pub sheets: Sheets,
     /// Snapshots put back.
     pub snapshots: Snapshots,
+    /// Lent records.
+    pub records: Records,
     /// Windows of lost swaps.
     pub windows: Windows,
 }
@@ -133,6 +137,7 @@ impl Counts {
             airlines: Airlines::default(),
             sheets: Sheets::default(),
             snapshots: Snapshots::default(),
+            records: Records::default(),
             windows: Windows::default(),
         }
     }
@@ -233,6 +238,7 @@ impl Counts {
         faults.extend(self.airlines.report());
         faults.extend(self.sheets.report());
         faults.extend(self.snapshots.report());
+        faults.extend(self.records.report());
         faults.extend(self.windows.report());
         faults
     }

@@ -25,6 +25,7 @@ mod nearest;
 mod one_user;
 mod outcomes;
 mod play;
+mod records;
 mod sheets;
 mod snapshots;
 mod starts;

@@ -1,11 +1,12 @@
 //! Lists of calls on tables that start begins and the calls alone write, explained by the plain rows of the lanes, with
-//! snapshots taken and put back.
+//! snapshots taken and put back, and records lent and copied.
 
 mod adversary;
 mod airlines;
 mod delay;
 mod consecutive;
 mod in_turn;
+mod records;
 mod snapshots;
 
 use reference::table::{
@@ -148,6 +149,8 @@ impl Play<'_> {
             111 if self.random.once_in(4) => self.again(),
             111 if self.random.once_in(8) => self.other_sizes(),
             112 | 113 => self.sheet(),
+            114 => self.lend(),
+            115 if self.random.once_in(6) => self.lend_apart(),
             _ => self.favourite = self.random.below(self.sizes.tasks),
         }
     }
@@ -415,6 +418,7 @@ impl Play<'_> {
         if self.random.once_in(24) {
             self.begin_again(task);
         }
+        self.lend_over(task);
     }
 
     /// A plain tick was made: the row explains it.
