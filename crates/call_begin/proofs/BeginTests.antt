@@ -173,7 +173,8 @@ place-passed ws k l is-number e =
     let L = laneCount ws in
     let T = taskCount ws in
     let both =
-    both-pass (ltb l L) (ltb k T) (λ z. absurd (omega (arith, z))) (λ z. absurd (omega (arith, z))) (sym is-number ∙ e) in
+    both-pass (ltb l L) (ltb k T) (λ z. absurd (omega (arith, z))) (λ z. absurd (omega (arith, z)))
+    (sym is-number ∙ e) in
     record { is-lane = ltb-true l L (both .0); is-task = ltb-true k T (both .1) }
 
 -- ---- The record that stands in the table stands for itself.

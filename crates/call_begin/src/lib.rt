@@ -1,4 +1,4 @@
-// The call begin, on the table and over a record by value: any slice, any record, any numbers. A refusal changes no word.
+// The call begin, on the table and over a record by value: any slice, record and numbers. A refusal changes no word.
 use lane_walk::Walk;
 use lane_walk::seek;
 use machine::Reply;

@@ -216,7 +216,8 @@ fn begin_numbered(
     )
 }
 
-// 2026-14: a begin over the record that a panel lends, to be changed where it is; 0, or the refusal. The table is only read.
+// 2026-14: a begin over the record that a panel lends, to be changed where it is; 0, or the refusal. The table is only
+// read.
 #[no_mangle]
 pub extern "C" fn lane_begin_record(
     own: &mut Task,

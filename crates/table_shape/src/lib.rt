@@ -5,18 +5,19 @@ use table_layout::header;
 use table_layout::nodes;
 use table_layout::places::LEAST_LENGTH;
 use table_layout::places::NODE_WORDS;
+use table_layout::places::RECORD_WORDS;
 use table_layout::places::node_at;
 use table_layout::places::table_length;
-use table_layout::table::task;
 use table_record::Task;
 use table_steps::owners::Owners;
 use table_values::value_ok;
 ghost use mathlib.Core.Path.{_≡_};
 ghost use mathlib.Core.Bool.{true};
 ghost use mathlib.Core.Option.{none};
-ghost use Prim.Native.Nat.{_≤_, _<_};
+ghost use Prim.Native.Nat.{_+_, _*_, _≤_, _<_};
 ghost use lib.ListN.{length};
-ghost use Rattle.machine.specs.Table.{nodeLength, nodeCount, taskCount, mostLanes};
+ghost use Rattle.machine.specs.Tasks.{recordLength};
+ghost use Rattle.machine.specs.Table.{nodeLength, nodeCount, taskCount, recordFrom, mostLanes};
 ghost use Rattle.machine.specs.Shape.{
   lanesOk,
   sizesOk,
@@ -28,10 +29,10 @@ ghost use Rattle.machine.specs.Shape.{
 };
 ghost use Rattle.machine.specs.Calls.{tableRefusal};
 ghost use Rattle.machine.specs.Lent.{lentTo};
-ghost use Rattle.table_layout.specs.Words.{HoldsHeader, HoldsRecord};
-ghost use Rattle.table_record.specs.Coded.{recordOf};
+ghost use Rattle.table_layout.specs.Words.{HoldsHeader};
+ghost use Rattle.table_record.specs.Coded.{structOf, recordOf};
 ghost use Rattle.answers.specs.Refusals.{numberOf};
-ghost use Rattle.table_shape.specs.Contracts.{firstOk, hatsOk, fitsIn, taskOk, allFrom};
+ghost use Rattle.table_shape.specs.Contracts.{firstOk, hatsOk, fitsIn, nthOk, taskOk, allFrom};
 ghost use Rattle.table_steps.specs.Owners.{OwnersOk};
 
 // 02: one to four lanes.
@@ -151,23 +152,36 @@ fn fits_in(table: &[u32], owners: &Owners, t: Task) -> bool
     )
 }
 
-// The record of task k.
-fn task_ok(table: &[u32], owners: &Owners, k: u32) -> bool
-    requires { ⌜ HoldsRecord (now table) k × OwnersOk (now owners) ⌝ }
-    ensures { λ r. ⌜ r ≡ taskOk (now (table .entry)) k ⌝ }
+// The record that stands at a place of some words.
+fn record_in(words: &[u32], at: usize) -> Task
+    requires { ⌜ at + recordLength ≤ length (now words) ⌝ }
+    ensures { λ r. ⌜ r ≡ structOf (recordFrom (now (words .entry)) at) ⌝ }
 {
-    fits_in(table, owners, task(table, k))
+    Task::read(&words[at..at + RECORD_WORDS])
 }
 
-// The records from one task up to another, which is not among them, in one pass.
-fn range_ok(table: &[u32], owners: &Owners, from: u32, to: u32) -> bool
-    requires { ⌜ (lengthOk (now table) ≡ true) × OwnersOk (now owners) ⌝ }
-    requires { ⌜ (from ≤ to) × (to ≤ taskCount (now table)) ⌝ }
-    ensures { λ r. ⌜ r ≡ allFrom from to (taskOk (now (table .entry))) ⌝ }
+// Record k of those that words have from a place on, in the table of these sizes.
+fn nth_ok(table: &[u32], words: &[u32], first: usize, owners: &Owners, k: u32) -> bool
+    requires { ⌜ HoldsHeader (now table) × OwnersOk (now owners) ⌝ }
+    requires { ⌜ first + recordLength * k + recordLength ≤ length (now words) ⌝ }
+    ensures { λ r. ⌜ r ≡ nthOk (now (table .entry)) (now (words .entry)) first k ⌝ }
+{
+    fits_in(
+        table,
+        owners,
+        record_in(words, first + RECORD_WORDS * (k as usize)),
+    )
+}
+
+// Those from one number up to another, which is not among them, in one pass.
+fn range_ok(table: &[u32], words: &[u32], first: usize, owners: &Owners, from: u32, to: u32) -> bool
+    requires { ⌜ HoldsHeader (now table) × OwnersOk (now owners) ⌝ }
+    requires { ⌜ (from ≤ to) × (first + recordLength * to ≤ length (now words)) ⌝ }
+    ensures { λ r. ⌜ r ≡ allFrom from to (nthOk (now (table .entry)) (now (words .entry)) first) ⌝ }
 {
     let mut k = from;
     while k < to {
-        if !task_ok(table, owners, k) {
+        if !nth_ok(table, words, first, owners, k) {
             return false;
         }
         k += 1;
@@ -181,7 +195,8 @@ pub fn tasks_ok(table: &[u32]) -> bool
     ensures { λ r. ⌜ r ≡ allBelow (taskCount (now (table .entry))) (taskOk (now (table .entry))) ⌝ }
 {
     let owners = table_steps::owners::owners();
-    range_ok(table, &owners, 0, header::tasks(table))
+    let first = node_at(header::slots(table));
+    range_ok(table, table, first, &owners, 0, header::tasks(table))
 }
 
 // 01's refusal 4: shape broken.
@@ -205,7 +220,9 @@ pub fn table_refusal(table: &[u32]) -> u32
     0
 }
 
-// 02 (2026-14): the record of every task where own stands for that of task k. A number that is no task has no place there.
+// 02 (2026-14): the record of every task where own stands for that of task k. A number that is no task has no place
+// there. The own record goes the way of the others, as words: the compiler then has the test of a record once, and keeps
+// it within the loop.
 fn lent_tasks_ok(table: &[u32], k: u32, own: Task) -> bool
     requires { ⌜ lengthOk (now table) ≡ true ⌝ }
     ensures { λ r.
@@ -217,13 +234,16 @@ fn lent_tasks_ok(table: &[u32], k: u32, own: Task) -> bool
         return tasks_ok(table);
     }
     let owners = table_steps::owners::owners();
-    if !range_ok(table, &owners, 0, k) {
+    let first = node_at(header::slots(table));
+    if !range_ok(table, table, first, &owners, 0, k) {
         return false;
     }
-    if !fits_in(table, &owners, own) {
+    let mut words = [0u32; RECORD_WORDS];
+    own.write(&mut words);
+    if !range_ok(table, &words, 0, &owners, 0, 1) {
         return false;
     }
-    range_ok(table, &owners, k + 1, n)
+    range_ok(table, table, first, &owners, k + 1, n)
 }
 
 // The shape of that table.

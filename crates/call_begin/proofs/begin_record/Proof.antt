@@ -1,5 +1,5 @@
--- `call_begin::begin_record` meets its contract: each test is the definition's, of the table in which the record stands for
--- its task's words, and the record is the one begun.
+-- `call_begin::begin_record` meets its contract: each test is the definition's, of the table in which the record stands
+-- for its task's words, and the record is the one begun.
 use mathlib.Core.Path.{_≡_, ap, _∙_}
 use mathlib.Core.List.{List}
 use Prim.Native.Nat.{ℕ}

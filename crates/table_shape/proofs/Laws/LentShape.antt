@@ -6,6 +6,7 @@ use mathlib.Core.List.{List}
 use Prim.Native.Nat.{ℕ, _+_, _-_, _≤_, _<_}
 use native.Mathlib.Omega.{arith}
 use lib.ListN.{length}
+use lib.Seq.{take-all}
 use Rattle.machine.specs.Tasks.{recordLength}
 use Rattle.machine.specs.Table.{nodeCount, taskCount, recordWords}
 use Rattle.machine.specs.Shape.{
@@ -33,7 +34,7 @@ use Rattle.machine.proofs.Words.LentLaws.{
   far-words,
 }
 use Rattle.machine.proofs.Shape.ShapeLaws.{well-linked}
-use Rattle.table_shape.specs.Contracts.{fitsIn, taskOk, allFrom}
+use Rattle.table_shape.specs.Contracts.{fitsIn, nthOk, taskOk, allFrom}
 use Rattle.table_shape.proofs.Laws.Below.{from-none, around}
 
 module _ (ws : List ℕ) (k : ℕ) (r : List ℕ) where
@@ -76,16 +77,21 @@ module _ (ws : List ℕ) (k : ℕ) (r : List ℕ) where
         ∙ around (taskOk lent) (taskCount ws) k is-task
         ∙ ap (λ (n : ℕ). allBelow n (taskOk lent)) (sym (same-task-count ws k r))
 
+    -- The record lent, as the only one of its words.
+    own-alone : allFrom 0 1 (nthOk ws r 0) ≡ fitsIn ws r
+    unfolding allBelow
+    own-alone = ap (fitsIn ws) (take-all recordLength r (omega arith))
+
     -- Part by part.
     pub before-fails : allFrom 0 k (taskOk ws) ≡ false → false ≡ lentTasksOk
     before-fails e = (rw e) ∙ in-parts
 
     module _ (passed : allFrom 0 k (taskOk ws) ≡ true) where
-      pub own-fails : fitsIn ws r ≡ false → false ≡ lentTasksOk
-      own-fails e = (rw (passed, e)) ∙ in-parts
+      pub own-fails : allFrom 0 1 (nthOk ws r 0) ≡ false → false ≡ lentTasksOk
+      own-fails e = let own = sym own-alone ∙ e in (rw (passed, own)) ∙ in-parts
 
-      pub after-decides : fitsIn ws r ≡ true → allFrom (k + 1) (taskCount ws) (taskOk ws) ≡ lentTasksOk
-      after-decides e = (rw (passed, e)) ∙ in-parts
+      pub after-decides : allFrom 0 1 (nthOk ws r 0) ≡ true → allFrom (k + 1) (taskCount ws) (taskOk ws) ≡ lentTasksOk
+      after-decides e = let own = sym own-alone ∙ e in (rw (passed, own)) ∙ in-parts
 
   -- ---- The whole.
   pub lent-shape : headerOk ws && allBelow (nodeCount ws) (nodeOk ws) && lentTasksOk ≡ shapeOk lent

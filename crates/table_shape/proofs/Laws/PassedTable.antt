@@ -24,7 +24,8 @@ module _ (ws : List ℕ) {n : ℕ} (is-number : n ≡ numberOf (tableRefusal ws 
   pub table-passed : n ≡ 0 → WellFormed ws
   table-passed e =
       let both =
-      both-pass (lengthOk ws) (shapeOk ws) (λ z. absurd (omega (arith, z))) (λ z. absurd (omega (arith, z))) (sym is-number ∙ e) in
+      both-pass (lengthOk ws) (shapeOk ws) (λ z. absurd (omega (arith, z))) (λ z. absurd (omega (arith, z)))
+      (sym is-number ∙ e) in
       record { length-passes = both .0; shape-passes = both .1 }
 
 -- ---- Its sizes, and a task's record.

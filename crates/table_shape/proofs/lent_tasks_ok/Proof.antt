@@ -1,14 +1,16 @@
 -- The records before the task's own, the one that is lent, and those after it.
 use mathlib.Core.Path.{_≡_, refl, ap, sym, _∙_}
-use mathlib.Core.Bool.{true}
+use mathlib.Core.Bool.{Bool, true}
+use mathlib.Core.List.{List}
 use Prim.Native.Nat.{ℕ, _+_, _<_}
 use native.Mathlib.Omega.{arith}
+use lib.ListN.{length}
 use borrow.Author.Tests.{not-true, not-false}
-use Rattle.machine.specs.Table.{taskCount}
+use Rattle.machine.specs.Table.{nodeAt, nodeCount, taskCount}
 use Rattle.machine.specs.Shape.{sizesOf, Sized}
 use Rattle.machine.proofs.Shape.ShapeLaws.{well-sized}
 use Rattle.table_record.specs.Coded.{recordOf}
-use Rattle.table_shape.specs.Contracts.{taskOk, allFrom}
+use Rattle.table_shape.specs.Contracts.{nthOk, taskOk, allFrom}
 use Rattle.table_shape.proofs.Laws.TableWords.{header-long}
 use Rattle.table_shape.proofs.Laws.LentShape.{placeless, before-fails, own-fails, after-decides}
 use borrow.Author.Needs.{needs}
@@ -29,71 +31,141 @@ returns c =
     c .tasks-ok .ensures
     ∙ placeless (a .table .now) (a .k) (recordOf (a .own)) (omega (arith, n .tasks .ensures, t .if1 .taken))
 
+-- ---- The task has a place.
 abbrev start : tie.Else1 → tie.Start
 start c = c .before .before .before
 
-is-task : (c : tie.Else1) → let a = start c .args in a .k < taskCount (a .table .now)
+abbrev table : tie.Else1 → List ℕ
+table c = start c .args .table .now
+
+is-task : (c : tie.Else1) → start c .args .k < taskCount (table c)
 is-task c = omega (arith, c .before .tasks .ensures, c .if1 .left)
 
-sized : (c : tie.Else1) → Sized (sizesOf (start c .args .table .now))
-sized c = well-sized (start c .args .table .now) (start c .pre) .sized
+sized : (c : tie.Else1) → Sized (sizesOf (table c))
+sized c = well-sized (table c) (start c .pre) .sized
 
 owners-requires : tie.Need-owners-requires
 owners-requires c κs = search needs
 
-range-ok-requires : tie.Need-range-ok-requires
-range-ok-requires c κs = search needs
+slots-requires : tie.Need-slots-requires
+slots-requires c κs = header-long (table (c .before)) (start (c .before) .pre)
 
-abbrev a-task : tie.After-range-ok → tie.Else1
-a-task c = c .before .before .before
+node-at-requires : tie.Need-node-at-requires
+node-at-requires c κs = search needs
+
+-- The first record's place.
+abbrev placed : tie.After-node-at → tie.Else1
+placed c = c .before .before .before
+
+after-nodes : (c : tie.After-node-at) → c .node-at .result ≡ nodeAt (nodeCount (table (placed c)))
+after-nodes c = c .node-at .ensures ∙ ap nodeAt (c .before .slots .ensures)
+
+range-ok-requires : tie.Need-range-ok-requires
+range-ok-requires c κs =
+    let f = c .before in
+    let e = placed f in (
+      (header-long (table e) (start e .pre), f .before .before .owners .ensures),
+      (omega arith, omega (arith, after-nodes f, is-task e, sized e)),
+    )
+
+-- What a range of the table's records tells.
+abbrev first : tie.After-range-ok → tie.After-node-at
+first c = c .before .before
+
+before-told :
+    (c : tie.After-range-ok) {b : Bool}
+    → c .range-ok .result ≡ b
+    → let e = placed (first c) in allFrom 0 (start e .args .k) (taskOk (table e)) ≡ b
+before-told c h =
+    let e = placed (first c) in
+    ap (λ (p : ℕ). allFrom 0 (start e .args .k) (nthOk (table e) (table e) p)) (sym (after-nodes (first c)))
+    ∙ sym (c .range-ok .ensures)
+    ∙ h
 
 returns-2 : tie.Need-returns-2
 returns-2 c =
     let r = c .before in
-    let e = a-task r in
+    let e = placed (first r) in
     let a = start e .args in
     before-fails (a .table .now) (a .k) (recordOf (a .own)) (is-task e) (sized e) refl
-    (sym (r .range-ok .ensures) ∙ not-true (r .range-ok .result) (c .if2 .taken))
+    (before-told r (not-true (r .range-ok .result) (c .if2 .taken)))
 
--- Those before it passed.
 before-passed :
     (c : tie.Else2)
-    → let a = start (a-task (c .before)) .args in allFrom 0 (a .k) (taskOk (a .table .now)) ≡ true
-before-passed c =
-    let r = c .before .range-ok in sym (r .ensures) ∙ not-false (r .result) (c .if2 .left)
+    → let e = placed (first (c .before)) in allFrom 0 (start e .args .k) (taskOk (table e)) ≡ true
+before-passed c = let r = c .before in before-told r (not-false (r .range-ok .result) (c .if2 .left))
 
-fits-in-requires : tie.Need-fits-in-requires
-fits-in-requires c κs =
-    let r = c .before .before in
-    let s = start (a-task r) in
-    (header-long (s .args .table .now) (s .pre), r .before .before .owners .ensures)
+slice-aggregate-write : tie.Need-slice-aggregate-write
+slice-aggregate-write c = search needs
+
+write-requires : tie.Need-write-requires
+write-requires c κs = search needs
+
+slice-aggregate-range-ok : tie.Need-slice-aggregate-range-ok
+slice-aggregate-range-ok c = search needs
+
+-- ---- The record lent, by its words.
+abbrev written : tie.After-owners3 → tie.After-write
+written c = c .before .before .before
+
+abbrev passed : tie.After-write → tie.Else2
+passed c = c .before .before
+
+range-ok-requires-2 : tie.Need-range-ok-requires-2
+range-ok-requires-2 c κs =
+    let w = written c in
+    let f = first (passed w .before) in
+    let e = placed f in (
+      (header-long (table e) (start e .pre), f .before .before .owners .ensures),
+      (omega arith, omega (arith, ap length (w .write .ensures))),
+    )
+
+own-told :
+    (c : tie.After-range-ok2) {b : Bool}
+    → c .range-ok2 .result ≡ b
+    → let e = placed (first (passed (written (c .before)) .before)) in
+    allFrom 0 1 (nthOk (table e) (recordOf (start e .args .own)) 0) ≡ b
+own-told c h =
+    let w = written (c .before) in
+    let e = placed (first (passed w .before)) in
+    ap (λ (l : List ℕ). allFrom 0 1 (nthOk (table e) l 0)) (sym (w .write .ensures)) ∙ sym (c .range-ok2 .ensures) ∙ h
 
 returns-3 : tie.Need-returns-3
 returns-3 c =
-    let f = c .before in
-    let e2 = f .before .before in
-    let e = a-task (e2 .before) in
+    let r = c .before in
+    let e2 = passed (written (r .before)) in
+    let e = placed (first (e2 .before)) in
     let a = start e .args in
     own-fails (a .table .now) (a .k) (recordOf (a .own)) (is-task e) (sized e) refl (before-passed e2)
-    (sym (f .fits-in .ensures) ∙ not-true (f .fits-in .result) (c .if3 .taken))
+    (own-told r (not-true (r .range-ok2 .result) (c .if3 .taken)))
 
 add-range-ok : tie.Need-add-range-ok
 add-range-ok c = search needs
 
-range-ok-requires-2 : tie.Need-range-ok-requires-2
-range-ok-requires-2 c κs = search needs
+range-ok-requires-3 : tie.Need-range-ok-requires-3
+range-ok-requires-3 c κs =
+    let f = first (passed (written (c .before .before .before)) .before) in
+    let e = placed f in (
+      (header-long (table e) (start e .pre), f .before .before .owners .ensures),
+      (
+        omega (arith, is-task e, e .before .tasks .ensures),
+        omega (arith, after-nodes f, sized e, e .before .tasks .ensures),
+      ),
+    )
 
 returns-4 : tie.Need-returns-4
 returns-4 c =
     let e3 = c .before .before in
-    let f = e3 .before in
-    let e2 = f .before .before in
-    let e = a-task (e2 .before) in
+    let r = e3 .before in
+    let e2 = passed (written (r .before)) in
+    let f = first (e2 .before) in
+    let e = placed f in
     let a = start e .args in
-    c .range-ok2 .ensures
-    ∙ ap (λ (n : ℕ). allFrom (a .k + 1) n (taskOk (a .table .now))) (e .before .tasks .ensures)
+    c .range-ok3 .ensures
+    ∙ ap (λ (n : ℕ). allFrom (a .k + 1) n (nthOk (table e) (table e) (f .node-at .result))) (e .before .tasks .ensures)
+    ∙ ap (λ (p : ℕ). allFrom (a .k + 1) (taskCount (table e)) (nthOk (table e) (table e) p)) (after-nodes f)
     ∙ after-decides (a .table .now) (a .k) (recordOf (a .own)) (is-task e) (sized e) refl (before-passed e2)
-    (sym (f .fits-in .ensures) ∙ not-false (f .fits-in .result) (e3 .if3 .left))
+    (own-told r (not-false (r .range-ok2 .result) (e3 .if3 .left)))
 
 pub lent-tasks-ok-spec : {M : Type 1} → statement M
 lent-tasks-ok-spec =
@@ -103,10 +175,15 @@ lent-tasks-ok-spec =
     tasks-ok-requires
     returns
     owners-requires
+    slots-requires
+    node-at-requires
     range-ok-requires
     returns-2
-    fits-in-requires
+    slice-aggregate-write
+    write-requires
+    slice-aggregate-range-ok
+    range-ok-requires-2
     returns-3
     add-range-ok
-    range-ok-requires-2
+    range-ok-requires-3
     returns-4)

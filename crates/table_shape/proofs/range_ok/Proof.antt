@@ -1,44 +1,45 @@
 -- The invariant: all tasks from the first up to the loop's number have passed.
 use mathlib.Core.Path.{_≡_, ap, sym, _∙_}
-use mathlib.Core.Bool.{true}
-use Prim.Native.Nat.{_-_, _≤_}
+use mathlib.Core.Bool.{Bool, true}
+use Prim.Native.Nat.{ℕ, _-_, _≤_}
 use native.Mathlib.Omega.{arith}
 use borrow.Author.Tests.{not-true, not-false}
-use Rattle.table_shape.specs.Contracts.{taskOk, allFrom}
-use Rattle.machine.proofs.Shape.ShapeLaws.{well-sized}
+use Rattle.table_shape.specs.Contracts.{nthOk, allFrom}
 use Rattle.table_shape.proofs.Laws.Below.{range-begins, range-goes-on, range-fails}
 use borrow.Author.Needs.{needs}
 use Rattle.table_shape.proofs.range_ok.Statement.{statement}
 use Rattle.table_shape.proofs.range_ok.Tie as tie
 
 abbrev Inv-loop : tie.InvT-loop
-Inv-loop table owners from to k₀ k = (from ≤ k) × (k ≤ to) × (allFrom from k (taskOk table) ≡ true)
+Inv-loop table words first owners from to k₀ k =
+    (from ≤ k) × (k ≤ to) × (allFrom from k (nthOk table words first) ≡ true)
 
 abbrev μ-loop : tie.MeasureT-loop
-μ-loop table owners from to k₀ k = to - k
+μ-loop table words first owners from to k₀ k = to - k
+
+-- The test of a record.
+abbrev tested : tie.Start Inv-loop μ-loop → ℕ → Bool
+tested s = nthOk (s .args .table .now) (s .args .words .now) (s .args .first)
 
 abbrev start : tie.At-loop Inv-loop μ-loop → tie.Start Inv-loop μ-loop
-start c = c .before .before
+start c = c .before .before .before
 
 loop-holds : tie.Need-loop-holds Inv-loop μ-loop
 loop-holds c =
-    let p = c .before in
-    let a = p .args in
-    (omega arith, p .pre .1 .0, range-begins (taskOk (a .table .now)) (a .from))
+    let s = c .before .before in
+    (omega arith, s .pre .1 .0, range-begins (tested s) (s .args .from))
 
-task-ok-requires : tie.Need-task-ok-requires Inv-loop μ-loop
-task-ok-requires c κs =
-    let at = c .before in
-    let p = start at .pre in
-    (omega (arith, well-sized (start at .args .table .now) (p .0 .0) .sized, p .1 .1, at .loop .inv), p .0 .1)
+nth-ok-requires : tie.Need-nth-ok-requires Inv-loop μ-loop
+nth-ok-requires c κs =
+    let p = start (c .before) .pre in (p .0, omega (arith, p .1 .1, c .loop-test .taken))
 
 returns : tie.Need-returns Inv-loop μ-loop
 returns c =
-    let r = c .before .task-ok in
+    let r = c .before .nth-ok in
     let turn = c .before .before in
     let at = turn .before in
     let a = start at .args in
-    range-fails (taskOk (a .table .now)) (a .from) (a .to) (at .loop .k) (at .loop .inv .0) (turn .loop-test .taken)
+    range-fails (tested (start at)) (a .from) (a .to) (at .loop .k) (at .loop .inv .0) (turn .loop-test .taken)
     (sym (r .ensures) ∙ not-true (r .result) (c .if1 .taken))
 
 add-k : tie.Need-add-k Inv-loop μ-loop
@@ -49,14 +50,14 @@ loop-less c = omega arith
 
 loop-again : tie.Need-loop-again Inv-loop μ-loop
 loop-again c =
-    let r = c .before .task-ok in
+    let r = c .before .nth-ok in
     let turn = c .before .before in
     let at = turn .before in
     let a = start at .args in
     let l = at .loop in (
       omega (arith, l .inv .0),
       omega (arith, turn .loop-test .taken),
-      range-goes-on (taskOk (a .table .now)) (a .from) (a .to) (l .k) (l .inv .0) (l .inv .2)
+      range-goes-on (tested (start at)) (a .from) (a .to) (l .k) (l .inv .0) (l .inv .2)
           (sym (r .ensures) ∙ not-false (r .result) (c .if1 .left)),
     )
 
@@ -66,7 +67,7 @@ returns-2 c =
     let a = start at .args in
     let l = at .loop in
     let e : l .k ≡ a .to = omega (arith, c .loop-test .left, l .inv .1) in
-    sym (l .inv .2) ∙ ap (λ n. allFrom (a .from) n (taskOk (a .table .now))) e
+    sym (l .inv .2) ∙ ap (λ n. allFrom (a .from) n (tested (start at))) e
 
 pub range-ok-spec : {M : Type 1} → statement M
 range-ok-spec =
@@ -75,7 +76,7 @@ range-ok-spec =
     Inv-loop
     μ-loop
     loop-holds
-    task-ok-requires
+    nth-ok-requires
     returns
     add-k
     loop-less
