@@ -44,7 +44,11 @@ fn has_code(text: &[u8]) -> bool
     if text.len() < 18 {
         return false;
     }
-    if !is_text(&text[..15], b"(airline (code ") {
+    // Eight bytes are compared at once.
+    if !is_text(&text[..8], b"(airline") {
+        return false;
+    }
+    if !is_text(&text[8..15], b" (code ") {
         return false;
     }
     is_digit(text[15]) & is_digit(text[16]) & is_digit(text[17])

@@ -2,65 +2,27 @@
 ghost use mathlib.Core.Path.{_≡_};
 ghost use mathlib.Core.List.{_++_};
 ghost use Prim.Native.Nat.{_+_, _*_, _≤_};
-ghost use lib.ListN.{length, take, drop};
+ghost use lib.ListN.{length};
 ghost use Rattle.tag.specs.Tags.{tagsIn};
 ghost use Rattle.text.specs.Text.{bytes, same};
 ghost use Rattle.text.specs.Numerals.{decimal, tagText, spaced};
 ghost use Rattle.text.specs.Writing.{Written};
 
-// Whether two texts have the same four bytes at a place. Without a branch the compiler compares them at once, and two times
-// four as eight.
-fn four_same(text: &[u8], want: &[u8], at: usize) -> bool
-    requires { ⌜ (at + 4 ≤ length (now text)) × (at + 4 ≤ length (now want)) ⌝ }
-    ensures { λ r. ⌜ r ≡ same (take 4 (drop at (now (text .entry)))) (take 4 (drop at (now (want .entry)))) ⌝ }
-{
-    (text[at] == want[at])
-        & (text[at + 1] == want[at + 1])
-        & (text[at + 2] == want[at + 2])
-        & (text[at + 3] == want[at + 3])
-}
-
-fn eight_same(text: &[u8], want: &[u8], at: usize) -> bool
-    requires { ⌜ (at + 8 ≤ length (now text)) × (at + 8 ≤ length (now want)) ⌝ }
-    ensures { λ r. ⌜ r ≡ same (take 8 (drop at (now (text .entry)))) (take 8 (drop at (now (want .entry)))) ⌝ }
-{
-    four_same(text, want, at) & four_same(text, want, at + 4)
-}
-
-// Whether two texts of one length are the same, byte by byte.
-fn bytes_same(text: &[u8], want: &[u8]) -> bool
-    requires { ⌜ length (now text) ≡ length (now want) ⌝ }
-    ensures { λ r. ⌜ r ≡ same (now (text .entry)) (now (want .entry)) ⌝ }
-{
-    let mut i = 0;
-    while i < want.len() {
-        if text[i] != want[i] {
-            return false;
-        }
-        i += 1;
-    }
-    true
-}
-
-// Whether two texts are the same. Most that are compared have four to sixteen bytes: the first and the last four or eight,
-// which may overlap, are all of them.
+// Whether two byte strings are the same. One flag and no branch: of a text whose length it knows the compiler then compares
+// eight bytes at once.
 pub fn is_text(text: &[u8], want: &[u8]) -> bool
     ensures { λ r. ⌜ r ≡ same (now (text .entry)) (now (want .entry)) ⌝ }
 {
-    let n = want.len();
-    if text.len() != n {
+    if text.len() != want.len() {
         return false;
     }
-    if n < 4 {
-        return bytes_same(text, want);
+    let mut ok = true;
+    let mut i = 0;
+    while i < want.len() {
+        ok = ok & (text[i] == want[i]);
+        i += 1;
     }
-    if n < 8 {
-        return four_same(text, want, 0) & four_same(text, want, n - 4);
-    }
-    if n <= 16 {
-        return eight_same(text, want, 0) & eight_same(text, want, n - 8);
-    }
-    bytes_same(text, want)
+    ok
 }
 
 // Puts a text at a place, and answers the place after it.

@@ -8,12 +8,12 @@ use native.Mathlib.Omega.{arith}
 use borrow.Author.Tests.{ne-eqb, eqb-true, eqb-false, le-leb}
 use lib.Dec.{eqb}
 use lib.ListN.{length, getD, take, drop, take-append-drop, length-take, List·getD-eq-default}
-use lib.Seq.{drop-cons}
+use lib.Seq.{drop-cons, take-take}
 use Rattle.tag.specs.Tags.{numberFrom}
 use Rattle.tag.proofs.TagLaws.{clash, both-true}
 use Rattle.text.specs.Text.{bytes, same}
 use Rattle.text.specs.Lines.{lineFeed, firstLine, oneLine}
-use Rattle.text.proofs.Laws.SameTexts.{same-equal, same-lengths-differ}
+use Rattle.text.proofs.Laws.SameTexts.{same-equal, same-lengths-differ, same-in-parts, drop-of-take}
 use Rattle.text.proofs.Laws.FirstLine.{line-goes-on, line-bytes, no-feed, front-line}
 use Rattle.text_scan.proofs.Laws.PlaceLaws.{digit-range}
 use Rattle.text_scan.specs.Scanned.{zeroDigit, isDigit}
@@ -85,6 +85,16 @@ module _ (text line : List ℕ) (one : oneLine line ≡ true) where
 
     pub first-fed : length line < length text → eqb (getD text (length line) 0) lineFeed ≡ same (firstLine text) line
     first-fed h = sym (first-is text line one ∙ rw (begins, getD-any text (length line) lineFeed 0 h))
+
+-- ---- The text in front of a code, in two parts.
+pub head-in-parts : (text : List ℕ) {first second : Bool}
+    → same (take 8 text) (bytes "(airline") ≡ first
+    → same (take 7 (drop 8 text)) (bytes " (code ") ≡ second
+    → same (take 15 text) (bytes "(airline (code ") ≡ (first && second)
+head-in-parts text e f =
+    sym (same-in-parts 8 (take 15 text) (bytes "(airline (code "))
+    ∙ (λ i. same (take-take 8 15 text (omega arith) i) (bytes "(airline") && same (drop-of-take 8 7 text i) (bytes " (code "))
+    ∙ (λ i. e i && f i)
 
 -- ---- The three digits of a code.
 digit-written : (d : ℕ) → d ≤ 9 → isDigit (zeroDigit + d) ≡ true

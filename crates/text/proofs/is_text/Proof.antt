@@ -1,63 +1,69 @@
--- `text::is_text` meets its contract: texts of two lengths differ, and the first and the last bytes tell of four to sixteen.
-use mathlib.Core.Path.{sym}
+-- The flag tells of the bytes so far, and with what is left of both texts of the whole.
+use mathlib.Core.Path.{_≡_, refl, sym, ap, _∙_}
+use mathlib.Core.Bool.{Bool, _&&_, and-true}
+use Prim.Native.Nat.{_≤_, _-_}
 use native.Mathlib.Omega.{arith}
-use Rattle.text.proofs.Laws.SameTexts.{same-lengths-differ, same-by-ends}
+use lib.ListN.{length, drop}
+use Rattle.text.specs.Text.{same}
+use Rattle.text.proofs.Laws.SameTexts.{same-lengths-differ, same-next, same-ends}
 use Rattle.text.proofs.is_text.Statement.{statement}
 use Rattle.text.proofs.is_text.Tie as tie
 
-returns : tie.Need-returns
-returns c =
+abbrev Inv-loop : tie.InvT-loop
+Inv-loop text want ok₀ i₀ ok i =
+    (length text ≡ length want)
+    × (i ≤ length want)
+    × ((ok && same (drop i text) (drop i want)) ≡ same text want)
+
+abbrev μ-loop : tie.MeasureT-loop
+μ-loop text want ok₀ i₀ ok i = length want - i
+
+returns : tie.Need-returns Inv-loop μ-loop
+returns c = sym (same-lengths-differ (c .before .args .text .now) (c .before .args .want .now) (c .if1 .taken))
+
+loop-holds : tie.Need-loop-holds Inv-loop μ-loop
+loop-holds c = (c .if1 .left, omega arith, refl)
+
+shared-slice-read-ok : tie.Need-shared-slice-read-ok Inv-loop μ-loop
+shared-slice-read-ok c = omega arith
+
+shared-slice-read-ok-2 : tie.Need-shared-slice-read-ok-2 Inv-loop μ-loop
+shared-slice-read-ok-2 c = omega arith
+
+add-i : tie.Need-add-i Inv-loop μ-loop
+add-i c = omega arith
+
+loop-less : tie.Need-loop-less Inv-loop μ-loop
+loop-less c = omega arith
+
+loop-again : tie.Need-loop-again Inv-loop μ-loop
+loop-again c =
+    let l = c .before .before .before .loop in
+    let a = c .before .before .before .before .before .args in (
+      l .inv .0,
+      omega arith,
+      same-next (a .text .now) (a .want .now) (l .i) (l .inv .0) (omega arith) (l .ok) ∙ l .inv .2,
+    )
+
+returns-2 : tie.Need-returns-2 Inv-loop μ-loop
+returns-2 c =
+    let l = c .before .loop in
     let a = c .before .before .before .args in
-    sym (same-lengths-differ (a .text .now) (a .want .now) (c .if1 .taken))
-
-bytes-same-requires : tie.Need-bytes-same-requires
-bytes-same-requires c κs = omega arith
-
-returns-2 : tie.Need-returns-2
-returns-2 c = c .bytes-same .ensures
-
-four-same-requires : tie.Need-four-same-requires
-four-same-requires c κs = (omega arith, omega arith)
-
-four-same-requires-2 : tie.Need-four-same-requires-2
-four-same-requires-2 c κs = (omega arith, omega arith)
-
-returns-3 : tie.Need-returns-3
-returns-3 c =
-    let a = c .before .before .before .before .before .before .before .args in
-    rw (c .before .four-same .ensures, c .four-same2 .ensures)
-    (same-by-ends (a .text .now) (a .want .now) 4 (omega arith) (omega arith) (omega arith))
-
-eight-same-requires : tie.Need-eight-same-requires
-eight-same-requires c κs = (omega arith, omega arith)
-
-eight-same-requires-2 : tie.Need-eight-same-requires-2
-eight-same-requires-2 c κs = (omega arith, omega arith)
-
-returns-4 : tie.Need-returns-4
-returns-4 c =
-    let a = c .before .before .before .before .before .before .before .before .args in
-    rw (c .before .eight-same .ensures, c .eight-same2 .ensures)
-    (same-by-ends (a .text .now) (a .want .now) 8 (omega arith) (omega arith) (omega arith))
-
-bytes-same-requires-2 : tie.Need-bytes-same-requires-2
-bytes-same-requires-2 c κs = omega arith
-
-returns-5 : tie.Need-returns-5
-returns-5 c = c .bytes-same2 .ensures
+    sym (and-true (l .ok))
+    ∙ ap (λ (b : Bool). l .ok && b) (sym (same-ends (a .text .now) (a .want .now) (l .i) (l .inv .0) (omega arith)))
+    ∙ l .inv .2
 
 pub is-text-spec : {M : Type 1} → statement M
 is-text-spec =
     tie.close
     (tie.spec
+    Inv-loop
+    μ-loop
     returns
-    bytes-same-requires
-    returns-2
-    four-same-requires
-    four-same-requires-2
-    returns-3
-    eight-same-requires
-    eight-same-requires-2
-    returns-4
-    bytes-same-requires-2
-    returns-5)
+    loop-holds
+    shared-slice-read-ok
+    shared-slice-read-ok-2
+    add-i
+    loop-less
+    loop-again
+    returns-2)
