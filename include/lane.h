@@ -38,7 +38,7 @@
  *
  * ASSUMED. What is proved is the code of the library as its compiler takes it, before the back end that makes machine
  * code of it. It is proved for calls that come one after another on a table, with pointers as above. This header, and
- * what is written in it over the library, is tested and not proved. docs/PROMISES.md has the whole list.
+ * what is written in it over the library, is tested and not proved. docs/AUDIT.md has the whole list.
  *
  * PROVED WITH the Rattle kit that the README names, by what `rt version` prints of it. The files of this library grant
  * no licence by themselves.

@@ -81,7 +81,7 @@
 //! # What a caller can count on
 //!
 //! This is proved of tables that a start began and these calls alone have written since, a put only of a snapshot that
-//! was taken of such a table and not altered; the README says it in full.
+//! was taken of such a table and not altered; docs/USE.md says it in full.
 //!
 //! With no task in a call, what a call that then gets all the ticks ([`Lanes::call`]) answers and leaves is told by the
 //! bags, the spare slots at its end, r, the free slots, f, and whether that end has a slot on a spur, y, 1 or 0:

@@ -77,7 +77,7 @@ NewTagsFit =
 abbrev pub StartRoom : Type 0
 StartRoom = (S T growth : ℕ) (s : Side) → 2 ≤ S → room (startState S T growth 1) 0 s ≡ S - 2
 
--- ---- What to do about "full". README: "at one other end after another, of every lane, push, pop the bag again, remove
+-- ---- What to do about "full". docs/USE.md: "At one other end after another, of every lane, push, pop the bag again, remove
 -- 0, and try again each time". What is claimed of the state here is so of the table, which gives the same answers
 -- (`FromAnyIdle`).
 
@@ -139,7 +139,7 @@ lastAnswer σ c (p ∷ ps) =
     let tried = oneCall σ c in
     if kindOf (tried .answer) ≟ kindOf Full then lastAnswer (giveBack (tried .state) p) c ps else tried .answer
 
--- It is "pushed" if one of the ends had room for two tags. README: "Full to the last ..: no other end has place for more
+-- It is "pushed" if one of the ends had room for two tags. docs/USE.md: "Full to the last ..: no other end has place for more
 -- than one bag".
 abbrev pub foundRoom : State → List Loader → Answer
 foundRoom σ [] = Full
@@ -159,7 +159,7 @@ FullToTheLast =
     → AllCanPush σ ps
     → lastAnswer σ c ps ≡ foundRoom σ ps
 
--- README: "so that with one lane S - 2 bags are in it, or S - 3 and the last place is at the other end".
+-- docs/USE.md: "So with one lane S - 2 bags are in it, or S - 3 and the last place is at the other end".
 abbrev pub OneLaneFull : Type 0
 OneLaneFull =
     (S : ℕ) (σ : State)
@@ -170,7 +170,7 @@ OneLaneFull =
     → room σ 0 (opposite s) < 2
     → (length (σ .lane 0 .bags) + 2 ≡ S) ⊎ ((length (σ .lane 0 .bags) + 3 ≡ S) × (room σ 0 (opposite s) ≡ 1))
 
--- README: "Full at every end, one straight after the other: S - 2L".
+-- docs/USE.md: "Full at every end, one straight after the other: S - 2L".
 abbrev pub AllFull : Type 0
 AllFull =
     (S : ℕ) (σ : State)
