@@ -44,7 +44,7 @@
  * no licence by themselves.
  *
  * FOOTPRINT. For x86-64 only. Under 24 kB of code and constants, no data, no heap; of stack under 5.7 kB in the calls
- * that tick, under 1.7 kB in the two with an airline list, under 0.7 kB in the others; nothing from outside but memset
+ * that tick, under 1.7 kB in the two with an airline list, under 0.8 kB in the others; nothing from outside but memset
  * (`make footprint` measures it).
  *
  * LANES. The lanes of a table are numbered from 0. Each is a row of bags of its own, and all share the slots. A begin

@@ -126,10 +126,10 @@ static void print(const char *name, size_t bytes, size_t most) {
 
 int main(void) {
     size_t deepest = 0;
-    print("version", touched(version), 700);
-    print("start", touched(start), 700);
-    print("begin", touched(begin), 700);
-    print("begin_record", touched(begin_record), 700);
+    print("version", touched(version), 800);
+    print("start", touched(start), 800);
+    print("begin", touched(begin), 800);
+    print("begin_record", touched(begin_record), 800);
     for (int i = 0; i < 8; i++) { /* the fourth takes a slot, and so do those after it */
         size_t bytes = touched(tick);
         deepest = bytes > deepest ? bytes : deepest;
@@ -140,21 +140,21 @@ int main(void) {
     print("panel", touched(panel), 5700);
     print("dispatch", touched(dispatch), 5700);     /* the panel's add goes on, and takes a slot */
     print("dispatches", touched(dispatches), 5700); /* more of them */
-    print("read", touched(read_lane), 700);
-    print("sheet", touched(sheet), 700);
-    print("take", touched(take), 700);
-    print("put", touched(put), 700);
+    print("read", touched(read_lane), 800);
+    print("sheet", touched(sheet), 800);
+    print("take", touched(take), 800);
+    print("put", touched(put), 800);
     memset(tag_list, 0x99, sizeof tag_list);
-    print("tags_read", touched(read_tags), 700);
-    print("tags_write", touched(write_tags), 700);
+    print("tags_read", touched(read_tags), 800);
+    print("tags_write", touched(write_tags), 800);
     for (unsigned code = 1; code < LANE_LIST_LINES; code++) {
         sprintf((char *)airlines + 27 * (code - 1), "(airline (code %03u) right)\n", code);
     }
     strcat((char *)airlines, "(others right)\n");
     print("list_check", touched(check_list), 1700);
     print("push_by_list", touched(push_by_list), 1700);
-    print("window", touched(make_window), 700);
-    print("feed", touched(feed), 700);
+    print("window", touched(make_window), 800);
+    print("feed", touched(feed), 800);
     if (failures > 0) {
         puts("more stack than include/lane.h says");
     }
