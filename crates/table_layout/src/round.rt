@@ -4,7 +4,7 @@ ghost use Prim.Native.Nat.{_<_};
 ghost use Rattle.machine.specs.Round.{following};
 
 // The number after i of those below n: past n - 1 comes 0.
-pub fn following(n: u32, i: u32) -> u32
+pub fn following(n: usize, i: usize) -> usize
     requires { ⌜ i < n ⌝ }
     ensures { λ r. ⌜ (r ≡ following n i) × (r < n) ⌝ }
 {

@@ -193,15 +193,15 @@ fn spread(table: &[u32], marks: &mut [u8; 1024], queue: &mut [u32; 1024], mut ta
 }
 
 // The first of n nodes from the hint on, going round, that has no mark, or none.
-fn search(marks: &[u8; 1024], n: u32, hint: u32) -> u32
+fn search(marks: &[u8; 1024], n: usize, hint: usize) -> u32
     requires { ⌜ (n ≤ largestCount) × (hint < n) ⌝ }
     ensures { λ r. ⌜ r ≡ firstUnmarked n (now (marks .entry)) n hint ⌝ }
 {
     let mut k = 0;
     let mut i = hint;
     while k < n {
-        if marks[i as usize] == 0 {
-            return i;
+        if marks[i] == 0 {
+            return i as u32;
         }
         i = following(n, i);
         k += 1;
@@ -220,5 +220,5 @@ pub fn first_free(table: &[u32], hint: u32) -> u32
     let hats_end = mark_hats(table, &mut marks, &mut queue, 0);
     let roots_end = mark_tasks(table, &mut marks, &mut queue, hats_end);
     spread(table, &mut marks, &mut queue, roots_end);
-    search(&marks, n, hint)
+    search(&marks, n as usize, hint as usize)
 }

@@ -58,6 +58,11 @@ spread-requires c κs =
 counted : (c : tie.After-mark-tasks) → slots-read c .slots .result ≡ nodeCount (table c)
 counted c = slots-read c .slots .ensures
 
+cast-search : tie.Need-cast-search
+cast-search c =
+    let after-mark-tasks : tie.After-mark-tasks = search in
+    omega (arith, counted after-mark-tasks, sizes (start after-mark-tasks) .most-nodes)
+
 search-requires : tie.Need-search-requires
 search-requires c κs =
     let k = c .before .before .before .before in
@@ -79,5 +84,6 @@ first-free-spec =
     mark-hats-requires
     mark-tasks-requires
     spread-requires
+    cast-search
     search-requires
     returns)
