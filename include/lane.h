@@ -36,16 +36,10 @@
  * and no atomic access. Tag lists, windows and the test of an airline list need no table, and their calls may be made
  * at any time, each with an out slice or a window of its own.
  *
- * ASSUMED. What is proved is the code of the library as its compiler takes it, before the back end that makes machine
- * code of it. It is proved for calls that come one after another on a table, with pointers as above. This header, and
- * what is written in it over the library, is tested and not proved. docs/AUDIT.md has the whole list.
- *
- * PROVED WITH the Rattle kit that the README names, by what `rt version` prints of it. The files of this library grant
- * no licence by themselves.
- *
- * FOOTPRINT. For x86-64 only. Under 24 kB of code and constants, no data, no heap; of stack under 5.7 kB in the calls
- * that tick, under 1.7 kB in the two with an airline list, under 0.8 kB in the others; nothing from outside but memset
- * (`make footprint` measures it).
+ * PROVED is the code of the library as its compiler takes it; this header, and what is written in it over the library,
+ * is tested and not proved. docs/AUDIT.md says what is assumed, docs/USE.md has the footprint (x86-64 only; no heap, no
+ * data, nothing from outside but memset), README.md the Rattle kit that it was proved with. The files of this library
+ * grant no licence by themselves.
  *
  * LANES. The lanes of a table are numbered from 0. Each is a row of bags of its own, and all share the slots. A begin
  * says which lane its call is on, and the call changes nothing of another lane: lanes do not meet but in which slots
@@ -62,7 +56,7 @@
  *
  * WHOLE CALLS. With no task in a call, the answer of a call that then gets all the ticks (lane_call), and what it
  * leaves, are told by the bags and three numbers: r slots are spare at its end, f slots are free, and y is 1 where the
- * end has a slot on a spur, else 0.
+ * end has a slot on a spur (cut off there, with the end's pointer moved to it by a stalled task), else 0.
  *
  *   push      r above 1                  pushed  r - 1
  *             r 1, f + y above 0         pushed  r is f + y, and at most growth + 1
@@ -80,13 +74,9 @@
  * foretell every answer from these few numbers: y stays 0, and no call is refused but with 26, 5, 6, 7 or 16, in this
  * order. An end takes r + y + f - 1 new bags, and is full then.
  *
- * FULL. A push is "full" when no slot is free, and that is not about the bags alone: spare slots at other ends count,
- * those of other lanes too, and so does what a call left in the middle may still use, up to S - 2L slots, so that a
- * push may be full with no bag in any lane. Do not leave a call standing while bags pass. The way out: drain the table
- * (at lane_dispatches); then at one other end after another, of every lane, push, pop the bag again, remove 0, which
- * frees by the rows above what is spare there, unless r is 2, and try again each time: lane_make_room does this. Full
- * to the last, with no other task in a call: no other end has place for more than one bag, so that with one lane S - 2
- * bags are in it, or S - 3 and the last place is at the other end. Full at every end, one after the other: S - 2L.
+ * FULL. A push is "full" when no slot is free, and that is not about the bags alone: spare slots at other ends are not
+ * free, nor is what a call left in the middle may still use. Do not leave a call standing while bags pass. The way out:
+ * drain the table (at lane_dispatches), then lane_make_room; docs/USE.md says what it does, and what "full" means then.
  *
  * TAGS. A bag goes by its tag of ten digits, 1 to 9,999,999,999: a number of 64 bits, or two words of 32, the leading
  * digit and the low part, the nine digits below it. Calls take and write the digit first. lane_tag makes the number of
@@ -98,12 +88,12 @@
  * TURNS. The caller says whose tick is next, or lets lane_dispatch tick the busy tasks in turn. Both go together: other
  * ticks leave the turn as it is. lane_ticks and lane_dispatches make many of them.
  *
- * TAG LISTS. The baggage office sends and wants lists of up to 1,024 tags in packed decimal: ten digits in five bytes,
- * two to a byte, the higher first. lane_tags_read and lane_tags_write take them to two words a tag, as lane_read writes
- * them, and back. They need no table, and a list may hold a tag twice.
+ * TAG LISTS. A list has up to 1,024 tags in packed decimal: ten digits in five bytes, two to a byte, the higher first.
+ * lane_tags_read and lane_tags_write take it to two words a tag, as lane_read writes them, and back, with no table. A
+ * list may be empty, and may hold a tag twice.
  *
- * AIRLINE LISTS. The second to fourth digits of a tag are the airline's code. An airline list, a text that is edited on
- * site, says which airline is loaded at which end, `left` or `right`, and closes with the end for all others:
+ * AIRLINE LISTS. The second to fourth digits of a tag are the airline's code. A list says which airline is loaded at
+ * which end, `left` or `right`, and closes with the end for all others:
  *
  *     (airline (code 125) left)
  *     (airline (code 020) right)
@@ -111,36 +101,24 @@
  *
  * It has 1 to 64 lines with the closing one. Spelling and single spaces are as shown; a code has three digits and is in
  * one line at most. A line ends at a line feed or at the end of the text, and a line feed at the very end opens no
- * further line; a carriage return belongs to its line, which is then no such line. In which order the airlines stand
- * has no say. lane_list_check tests a list, and lane_push_by_list begins a push at the end that the list names for the
- * tag. Both name the first faulty line: check a list when it was edited, show that line, and go on with the list that
- * was accepted before. With a faulty one no push begins, whatever the tag.
+ * further line; a carriage return belongs to its line, which is then no such line. lane_list_check tests a list, and
+ * lane_push_by_list begins a push at the end that the list names for the tag. Both name the first faulty line.
  *
- * SHEETS. The shift office prints 80 columns by 60 lines. A page is 60 lines of exactly 80 bytes, each with a line feed
- * after it: LANE_PAGE_BYTES bytes in all, and no 0 at the end. Its first line is the heading, `LANE`, a space and the
- * bags of the whole lane in four digits. Each further line has the next seven tags, or those left, left end first: ten
- * digits and one blank for each. Blanks fill the lines. A page takes LANE_PAGE_TAGS tags, and the pages are numbered
- * from 0; LANE_PAGES of them hold every lane. lane_sheet writes the page that the caller names. A page past the last
- * tag has its heading and blank lines. The heading does not name the lane.
+ * SHEETS. A page is 60 lines of exactly 80 bytes, each with a line feed after it: LANE_PAGE_BYTES bytes in all, and no
+ * 0 at the end. Its first line is the heading, `LANE`, a space and the bags of the whole lane in four digits. Each
+ * further line has the next seven tags, or those left, left end first: ten digits and one blank for each. Blanks fill
+ * the lines. A page takes LANE_PAGE_TAGS tags, and the pages are numbered from 0; LANE_PAGES of them hold every lane.
+ * lane_sheet writes the page that the caller names. A page past the last tag has its heading and blank lines.
  *
  * LOST SWAPS. A task that finds another one in its way loses the swap of its line, at step 5, 25, 48 or 51, and goes
- * round again; or, a remove at 62, it says "no", which it does also where no other task is about. A window counts such
- * ticks among the last W: a number that rises while tasks fight over an end. lane_window makes one, lane_feed feeds it
- * a tick; lane_watch_tick and lane_watch_dispatch tick and feed at once.
+ * round again; or, a remove at 62, it says "no". A window counts such ticks among the last W. lane_window makes one,
+ * lane_feed feeds it a tick; lane_watch_tick and lane_watch_dispatch tick and feed at once.
  *
  * SNAPSHOTS. A snapshot holds the words of a table in another order, by columns: the header, every slot's L, every R,
  * every V, every leading digit, then the tasks. It is as long as the table. lane_take takes one, and lane_put puts it
- * back: the table then has every word that it had, with its bags, the calls in the middle, the turn and the tick count,
- * and the calls after it are answered as those after the moment at which it was taken. What happened since is not in
- * the table any more, a bag that was popped stands in its lane again: whether that is so in the hall is the caller's to
- * know. Taking changes nothing, and a start does not spoil an older snapshot.
- *
- * Put back only what you took, whole. lane_put tests what any call tests of a table (3, 4), before it writes a word;
- * whether the words were altered on their way, or belong to two snapshots, no test can tell. So what is said here of a
- * table that lane_start began holds again after a snapshot that was taken of such a table and is put back as it was;
- * after any other that is accepted nothing is said of the answers, nor that a tag is in one place, until the next
- * lane_start or such a snapshot. What is counted, the dispatches up to a task's tick or the ticks up to an answer, is
- * counted with no lane_put in between, and a window is to be made fresh after it.
+ * back: the table then has every word that it had. Taking changes nothing. Put back only what you took, whole: then all
+ * that is said here of a table that lane_start began holds again if it held when it was taken. docs/USE.md says what is
+ * lost otherwise, and what a put does not bring back.
  *
  * LENT RECORDS. A belt panel may keep the record of its task, thirteen words of the table, in its own memory, and lend
  * it to be begun there. lane_begin_record is lane_begin with that record in the place of its task; it reads the table
@@ -151,14 +129,8 @@
  *   3. copy   just these words to the place of that task, with lane_record_copy, and nothing in between: no other call
  *             that writes the table, and no copy of another record.
  *
- * So done it is a begin, and all that is said here of a begin holds. Begun and not copied it is nothing at all. When
- * the call has answered, the task is idle in the table, and the panel's own record is of the past: a fresh one is lent
- * next.
- *
- * What not to do: a copy that comes late, after another call or copy, may bring a tag that stands somewhere by now, so
- * that it is in two places; a copy of a record that was refused or altered, or to another task's place, is a table of
- * any words; and a copy over a task that is in the middle of a call takes that call away without an answer. Where that
- * call is a remove, slots can be lost for good: a start, or a snapshot from before it, is the way back.
+ * So done it is a begin, and all that is said here of a begin holds. Never copy late, other words, to another place, or
+ * over a task that is in the middle of a call: docs/USE.md says what is lost by it.
  */
 #ifndef LANE_H
 #define LANE_H
@@ -187,8 +159,7 @@ extern "C" {
 /*
  * The library's version; and the number of the table's format: only libraries of this format work on the table. One of
  * an older format is refused with 3, since its length does not fit its sizes, and so is one of this format by an older
- * library. To move on to a new format, drain the table with the library of the old one, read its lanes, start a table
- * with the new library, and push the bags there in that order.
+ * library. docs/USE.md says how to move on to a new format.
  */
 #define LANE_VERSION "6.6.0"
 #define LANE_VERSION_NUMBER 6006000 /* major times 1,000,000, minor times 1,000, and the patch */
