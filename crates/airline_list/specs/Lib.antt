@@ -2,6 +2,8 @@ pub mod Forms
 pub mod Lists
 pub mod Accepted
 pub mod FirstForm
+pub mod Words
 pub mod Marks
+pub mod Airline
 pub mod Examples
 pub mod Wrong

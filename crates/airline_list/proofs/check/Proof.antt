@@ -1,13 +1,13 @@
--- `airline_list::check` meets its contract: the list is accepted just where it has a closing line's end.
+-- `airline_list::check` meets its contract: the list is accepted just where it sends a code to an end.
 use Rattle.airline_list.specs.Lists.{verdict}
-use Rattle.airline_list.proofs.Laws.MarkLaws.{none-marked}
+use Rattle.airline_list.specs.Marks.{codes}
 use Rattle.airline_list.proofs.Laws.ReadingLaws.{accepted, not-accepted}
 use borrow.Author.Needs.{needs}
 use Rattle.airline_list.proofs.check.Statement.{statement}
 use Rattle.airline_list.proofs.check.Tie as tie
 
-read-lines-requires : tie.Need-read-lines-requires
-read-lines-requires c κs = none-marked
+read-list-requires : tie.Need-read-list-requires
+read-list-requires c κs = search needs
 
 enum-told : tie.Need-enum-told
 enum-told c = search needs
@@ -17,16 +17,16 @@ enum-known-others c = search needs
 
 returns : tie.Need-returns
 returns c =
-    let r = c .before .before .read-lines in
-    let list = c .before .before .before .before .before .args .list .now in
-    accepted (verdict list) (r .result) (c .enum-told .given .0 .0) (r .ensures .0) (c .enum-told .given .1)
+    let r = c .before .before .read-list in
+    let list = c .before .before .before .before .args .list .now in
+    accepted codes (verdict list) (r .result) (c .enum-told .given .0 .0) (r .ensures) (c .enum-told .given .1)
 
 returns-2 : tie.Need-returns-2
 returns-2 c =
-    let r = c .before .before .before .read-lines in
-    let list = c .before .before .before .before .before .before .args .list .now in
+    let r = c .before .before .before .read-list in
+    let list = c .before .before .before .before .before .args .list .now in
     let fault = c .before .others .given in
-    not-accepted (verdict list) (r .result) (fault .0 .0) (fault .0 .1 .0) (r .ensures .0) (fault .1)
+    not-accepted codes (verdict list) (r .result) (fault .0 .0) (fault .0 .1 .0) (r .ensures) (fault .1)
 
 pub check-spec : {M : Type 1} → statement M
-check-spec = tie.close (tie.spec read-lines-requires enum-told enum-known-others returns returns-2)
+check-spec = tie.close (tie.spec read-list-requires enum-told enum-known-others returns returns-2)

@@ -1,6 +1,5 @@
 -- `airline_list::take_line` meets its contract: each branch is one case of the definition.
 use mathlib.Core.Path.{sym, subst}
-use borrow.Author.Tests.{eq-eqb, ne-eqb}
 use Rattle.airline_list.specs.Marks.{InRange, turned}
 use borrow.Author.Needs.{needs}
 use Rattle.airline_list.proofs.take_line.Statement.{statement}
@@ -9,27 +8,27 @@ use Rattle.airline_list.proofs.take_line.Tie as tie
 enum-known-form : tie.Need-enum-known-form
 enum-known-form c = search needs
 
-element-copy-out-if1 : tie.Need-element-copy-out-if1
-element-copy-out-if1 c = subst InRange (c .before .form .given .1) (c .before .before .before .pre)
+has-requires : tie.Need-has-requires
+has-requires c κs =
+    let f = c .before .before in
+    subst InRange (f .form .given .1) (f .before .before .pre)
 
 returns : tie.Need-returns
 unfolding turned
 returns c =
-    let line = c .before .before .before .form .given in
-    sym (rw (line .1, ne-eqb _ _ (c .if1 .taken)))
+    let line = c .before .before .before .before .form .given in
+    sym (rw (line .1, ← c .before .has .ensures, c .if1 .taken))
 
 returns-2 : tie.Need-returns-2
 unfolding turned
 returns-2 c =
-    let line = c .before .before .before .before .form .given in
-    sym (rw (line .1, eq-eqb _ _ (c .before .if1 .left), c .if2 .taken))
+    let e = c .before in
+    let line = e .before .before .before .before .form .given in
+    sym (rw (line .1, ← e .before .has .ensures, e .if1 .left, c .if2 .taken))
 
-mark-requires : tie.Need-mark-requires
-mark-requires c κs = search needs
-
-element-write-marks : tie.Need-element-write-marks
-element-write-marks c =
-    let f = c .before .before .before .before .before in
+add-requires : tie.Need-add-requires
+add-requires c κs =
+    let f = c .before .before .before .before .before .before in
     subst InRange (f .form .given .1) (f .before .before .pre)
 
 enum-known-form-2 : tie.Need-enum-known-form-2
@@ -47,8 +46,9 @@ enum-told c = search needs
 returns-4 : tie.Need-returns-4
 unfolding turned
 returns-4 c =
-    let line = c .before .before .before .before .before .form .given in
-    sym (rw (line .1, eq-eqb _ _ (c .before .before .if1 .left), c .before .if2 .left, c .mark .ensures))
+    let e = c .before .before .before in
+    let line = e .before .before .before .before .form .given in
+    sym (rw (line .1, ← e .before .has .ensures, e .if1 .left, c .before .before .if2 .left, ← c .add .ensures))
 
 returns-5 : tie.Need-returns-5
 unfolding turned
@@ -65,11 +65,10 @@ take-line-spec =
     tie.close
     (tie.spec
     enum-known-form
-    element-copy-out-if1
+    has-requires
     returns
     returns-2
-    mark-requires
-    element-write-marks
+    add-requires
     enum-known-form-2
     returns-3
     enum-told

@@ -5,11 +5,11 @@ use borrow.Author.Needs.{needs}
 use Rattle.airline_list.proofs.forms.value.Statement.{statement}
 use Rattle.airline_list.proofs.forms.value.Tie as tie
 
-sub-result : tie.Need-sub-result
-sub-result c = digit-range (c .args .digit) (c .pre) .0
-
 cast-result : tie.Need-cast-result
 cast-result c = search needs
+
+sub-result : tie.Need-sub-result
+sub-result c = digit-range (c .args .digit) (c .pre) .0
 
 returns : tie.Need-returns
 returns c =
@@ -17,4 +17,4 @@ returns c =
     (search needs, omega arith)
 
 pub value-spec : {M : Type 1} → statement M
-value-spec = tie.close (tie.spec sub-result cast-result returns)
+value-spec = tie.close (tie.spec cast-result sub-result returns)

@@ -1,0 +1,121 @@
+-- `airline_list::airline::airline_mark` meets its contract: where every test holds the words are those of a line.
+use mathlib.Core.Path.{_≡_, refl, sym, ap, _∙_}
+use mathlib.Core.Bool.{true, _&&_}
+use mathlib.Core.List.{List}
+use mathlib.Core.Logic.{inl, inr}
+use Prim.Native.Nat.{ℕ}
+use native.Mathlib.Omega.{arith}
+use borrow.Author.Tests.{not-false}
+use lib.ListN.{take, drop}
+use Rattle.text.specs.Text.{bytes}
+use Rattle.airline_list.specs.FirstForm.{threeDigits}
+use Rattle.airline_list.specs.Words.{bytesOf}
+use Rattle.airline_list.proofs.Laws.AirlineLaws.{names-left, names-right}
+use borrow.Author.Needs.{needs}
+use Rattle.airline_list.proofs.airline.airline_mark.Statement.{statement}
+use Rattle.airline_list.proofs.airline.airline_mark.Tie as tie
+
+-- What the tests of the front have told.
+abbrev start : tie.Else3 → tie.Start
+start e = e .before .before .before .before .before .before .before .before .before .before .before .before
+
+abbrev text-at : tie.Else3 → List ℕ
+text-at e = start e .args .text .now
+
+begins : (e : tie.Else3) → take 8 (text-at e) ≡ bytes "(airline"
+begins e =
+    let w = e .before .before .before .before .before .before .before .before .before in
+    w .before .word .ensures .bytes-are ∙ ap (bytesOf 8) (w .if1 .left)
+
+goes-on : (e : tie.Else3) → take 8 (drop 7 (text-at e)) ≡ bytes "e (code "
+goes-on e =
+    let w = e .before .before .before .before .before .before .before in
+    w .before .word2 .ensures .bytes-are ∙ ap (bytesOf 8) (w .if2 .left)
+
+three : (e : tie.Else3) → threeDigits (text-at e) ≡ true
+three e =
+    let third = e .before .is-digit3 in
+    let second = e .before .before .before .is-digit2 in
+    let first = e .before .before .before .before .before .is-digit in
+    (λ i. sym (first .ensures) i && sym (second .ensures) i && sym (third .ensures) i)
+    ∙ not-false (first .result && second .result && third .result) (e .if3 .left)
+
+word-requires : tie.Need-word-requires
+word-requires c κs = search needs
+
+returns : tie.Need-returns
+returns c = inl refl
+
+word-requires-2 : tie.Need-word-requires-2
+word-requires-2 c κs = search needs
+
+returns-2 : tie.Need-returns-2
+returns-2 c = inl refl
+
+shared-slice-read-is-digit : tie.Need-shared-slice-read-is-digit
+shared-slice-read-is-digit c = search needs
+
+is-digit-requires : tie.Need-is-digit-requires
+is-digit-requires c κs = search needs
+
+shared-slice-read-is-digit-2 : tie.Need-shared-slice-read-is-digit-2
+shared-slice-read-is-digit-2 c = search needs
+
+is-digit-requires-2 : tie.Need-is-digit-requires-2
+is-digit-requires-2 c κs = search needs
+
+shared-slice-read-is-digit-3 : tie.Need-shared-slice-read-is-digit-3
+shared-slice-read-is-digit-3 c = search needs
+
+is-digit-requires-3 : tie.Need-is-digit-requires-3
+is-digit-requires-3 c κs = search needs
+
+returns-3 : tie.Need-returns-3
+returns-3 c = inl refl
+
+word-requires-3 : tie.Need-word-requires-3
+word-requires-3 c κs = search needs
+
+returns-4 : tie.Need-returns-4
+returns-4 c =
+    let e = c .before .before in
+    inr (names-left (text-at e) (begins e) (goes-on e) (three e)
+    (c .before .word3 .ensures .bytes-are ∙ ap (bytesOf 8) (c .if4 .taken)))
+
+returns-5 : tie.Need-returns-5
+returns-5 c = inl refl
+
+shared-slice-read-if6 : tie.Need-shared-slice-read-if6
+shared-slice-read-if6 c = search needs
+
+returns-6 : tie.Need-returns-6
+returns-6 c = inl refl
+
+returns-7 : tie.Need-returns-7
+returns-7 c =
+    let r = c .before .before in
+    let e = r .before .before .before in
+    inr (names-right (text-at e) (begins e) (goes-on e) (three e)
+    (r .before .before .word3 .ensures .bytes-are ∙ ap (bytesOf 8) (r .if5 .left)) (omega (arith, start e .pre)) (c .if6 .left))
+
+pub airline-mark-spec : {M : Type 1} → statement M
+airline-mark-spec =
+    tie.close
+    (tie.spec
+    word-requires
+    returns
+    word-requires-2
+    returns-2
+    shared-slice-read-is-digit
+    is-digit-requires
+    shared-slice-read-is-digit-2
+    is-digit-requires-2
+    shared-slice-read-is-digit-3
+    is-digit-requires-3
+    returns-3
+    word-requires-3
+    returns-4
+    returns-5
+    shared-slice-read-if6
+    returns-6
+    returns-7)

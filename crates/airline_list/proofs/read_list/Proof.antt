@@ -1,0 +1,17 @@
+-- `airline_list::read_list` meets its contract: at first no code is seen.
+use Rattle.airline_list.proofs.Laws.MarkLaws.{none-kept}
+use borrow.Author.Needs.{needs}
+use Rattle.airline_list.proofs.read_list.Statement.{statement}
+use Rattle.airline_list.proofs.read_list.Tie as tie
+
+read-airlines-requires : tie.Need-read-airlines-requires
+read-airlines-requires c κs = none-kept (c .before .before .args .wanted)
+
+read-lines-requires : tie.Need-read-lines-requires
+read-lines-requires c κs = search needs
+
+returns : tie.Need-returns
+returns c = search needs
+
+pub read-list-spec : {M : Type 1} → statement M
+read-list-spec = tie.close (tie.spec read-airlines-requires read-lines-requires returns)
