@@ -9,4 +9,5 @@ pub mod MarkLaws
 pub mod ReadingLaws
 pub mod WordLaws
 pub mod AirlineLaws
+pub mod ClosingLaws
 pub mod AcceptedLaws

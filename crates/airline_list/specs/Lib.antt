@@ -5,5 +5,6 @@ pub mod FirstForm
 pub mod Words
 pub mod Marks
 pub mod Airline
+pub mod Closing
 pub mod Examples
 pub mod Wrong

@@ -1,11 +1,14 @@
 // Airline lists: texts that say at which end each airline is loaded. A list is read in one pass, with a bit for each
 // code.
 mod airline;
+mod closing;
 mod codes;
 mod forms;
 mod words;
 
 use airline::airline_mark;
+use closing::Closing;
+use closing::closing_line;
 use codes::Seen;
 use codes::WORDS;
 use codes::add;
@@ -205,13 +208,30 @@ fn read_lines(list: &[u8], wanted: usize, seen: &mut Seen, place: Place) -> Sent
     Sent::NotSent { number: 27, line }
 }
 
+// Reads what is left where it is a closing line, else line by line.
+fn read_rest(list: &[u8], wanted: usize, seen: &mut Seen, place: Place) -> Sent
+    requires { ⌜ Reading wanted (now list) (place .from) (place .line) (now seen) (place .mark) ⌝ }
+    ensures { λ r. ⌜ r ≡ sentTo wanted (verdict (now (list .entry))) ⌝ }
+{
+    let from = place.from;
+    let line = place.line;
+    if MOST_LINES < line {
+        return Sent::NotSent { number: 27, line };
+    }
+    let closing = closing_line(&list[from..]);
+    match closing {
+        Closing::At(end) => Sent::To(marked_end(place.mark, end)),
+        Closing::Untold => read_lines(list, wanted, seen, place),
+    }
+}
+
 // The end to which a list sends a code; the end for a number that is no code is the closing line's.
 fn read_list(list: &[u8], wanted: usize) -> Sent
     ensures { λ r. ⌜ r ≡ sentTo wanted (verdict (now (list .entry))) ⌝ }
 {
     let mut seen = [0u64; WORDS];
     let place = read_airlines(list, wanted, &mut seen);
-    read_lines(list, wanted, &mut seen, place)
+    read_rest(list, wanted, &mut seen, place)
 }
 
 // Whether a list is accepted, or else its first faulty line with its lowest number.

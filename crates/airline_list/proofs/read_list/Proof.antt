@@ -7,11 +7,11 @@ use Rattle.airline_list.proofs.read_list.Tie as tie
 read-airlines-requires : tie.Need-read-airlines-requires
 read-airlines-requires c κs = none-kept (c .before .before .args .wanted)
 
-read-lines-requires : tie.Need-read-lines-requires
-read-lines-requires c κs = search needs
+read-rest-requires : tie.Need-read-rest-requires
+read-rest-requires c κs = search needs
 
 returns : tie.Need-returns
 returns c = search needs
 
 pub read-list-spec : {M : Type 1} → statement M
-read-list-spec = tie.close (tie.spec read-airlines-requires read-lines-requires returns)
+read-list-spec = tie.close (tie.spec read-airlines-requires read-rest-requires returns)
