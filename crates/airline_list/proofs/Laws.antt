@@ -10,4 +10,5 @@ pub mod ReadingLaws
 pub mod WordLaws
 pub mod AirlineLaws
 pub mod ClosingLaws
+pub mod PackedLaws
 pub mod AcceptedLaws

@@ -6,5 +6,6 @@ pub mod Words
 pub mod Marks
 pub mod Airline
 pub mod Closing
+pub mod Packed
 pub mod Examples
 pub mod Wrong

@@ -34,6 +34,7 @@ ghost use Rattle.airline_list.specs.Marks.{
   Reading,
   sentTo,
 };
+ghost use Rattle.airline_list.specs.Packed.{packed, unpacked};
 
 // The ends of the lane.
 pub enum End {
@@ -70,6 +71,9 @@ struct Place {
 const MOST_LINES: u32 = 64;
 
 const CODES: usize = 1_000;
+
+// What a fault's number is counted in, beside the line.
+const FAULT: u64 = 4_294_967_296;
 
 // The bytes of the longest line with its line feed, and one that follows.
 const LINE_AND_MORE: usize = 28;
@@ -225,20 +229,51 @@ fn read_rest(list: &[u8], wanted: usize, seen: &mut Seen, place: Place) -> Sent
     }
 }
 
-// The end to which a list sends a code; the end for a number that is no code is the closing line's.
-fn read_list(list: &[u8], wanted: usize) -> Sent
-    ensures { λ r. ⌜ r ≡ sentTo wanted (verdict (now (list .entry))) ⌝ }
+// An answer in one number, which is returned in a register.
+fn pack(sent: Sent) -> u64
+    ensures { λ r. ⌜ r ≡ packed sent ⌝ }
+{
+    match sent {
+        Sent::To(end) => mark(end) as u64,
+        Sent::NotSent { number, line } => number as u64 * FAULT + line as u64,
+    }
+}
+
+fn unpack(answer: u64) -> Sent
+    ensures { λ r. ⌜ r ≡ unpacked answer ⌝ }
+{
+    if answer == 1 {
+        return Sent::To(End::Left);
+    }
+    if answer == 2 {
+        return Sent::To(End::Right);
+    }
+    Sent::NotSent {
+        number: (answer / FAULT) as u32,
+        line: (answer % FAULT) as u32,
+    }
+}
+
+fn read_list(list: &[u8], wanted: usize) -> u64
+    ensures { λ r. ⌜ r ≡ packed (sentTo wanted (verdict (now (list .entry)))) ⌝ }
 {
     let mut seen = [0u64; WORDS];
     let place = read_airlines(list, wanted, &mut seen);
-    read_rest(list, wanted, &mut seen, place)
+    pack(read_rest(list, wanted, &mut seen, place))
+}
+
+// The end to which a list sends a code; the end for a number that is no code is the closing line's.
+fn end_of(list: &[u8], wanted: usize) -> Sent
+    ensures { λ r. ⌜ r ≡ sentTo wanted (verdict (now (list .entry))) ⌝ }
+{
+    unpack(read_list(list, wanted))
 }
 
 // Whether a list is accepted, or else its first faulty line with its lowest number.
 pub fn check(list: &[u8]) -> Checked
     ensures { λ r. ⌜ r ≡ checked (verdict (now (list .entry))) ⌝ }
 {
-    let others = read_list(list, CODES);
+    let others = end_of(list, CODES);
     match others {
         Sent::To(_) => Checked::Accepted,
         Sent::NotSent { number, line } => Checked::Faulty { number, line },
@@ -257,5 +292,5 @@ pub fn end_for(list: &[u8], tag: u64) -> Sent
     ensures { λ r. ⌜ r ≡ sent (verdict (now (list .entry))) tag ⌝ }
 {
     let code = code_of(tag);
-    read_list(list, code)
+    end_of(list, code)
 }

@@ -83,8 +83,8 @@ module _ {wanted : ℕ} {list : List ℕ} {from line : ℕ} {seen : List ℕ} {m
       let more : leb (length list - to) 1 ≡ false = lt-leb (length list - to) 1 (omega arith) in
       let place : to + 1 ≡ from + 25 + new = omega arith in
       subst (λ p. Reading wanted list p (line + 1) after mark-after) place
-      (turn-more {wanted = wanted} {list = list} {from = from} {line = line} {seen = seen} {mark = mark} {to = to} {turn = More}
-      {after = after} {mark-after = mark-after}
+      (turn-more {wanted = wanted} {list = list} {from = from} {line = line} {seen = seen} {mark = mark} {to = to}
+      {turn = More} {after = after} {mark-after = mark-after}
       (record {
         reading = R;
         before = omega arith;

@@ -45,7 +45,8 @@ module _ (text : List ℕ) (begins : take 8 text ≡ bytes "(others ") where
       let whole = two-words text 6 (omega arith) long begins ends in
       record { some = omega arith; form = ap (λ t. formOf (firstLine t)) whole; short = omega arith }
 
-  pub closes-right-fed : length text ≡ 15 → take 8 (drop 7 text) ≡ bytes " right)" ++ (lineFeed ∷ []) → Closes text Right
+  pub closes-right-fed : length text ≡ 15 → take 8 (drop 7 text) ≡ bytes " right)" ++ (lineFeed ∷ [])
+      → Closes text Right
   unfolding firstLine formOf
   closes-right-fed long ends =
       let whole = two-words text 7 (omega arith) long begins ends in

@@ -61,13 +61,15 @@ use Rattle.airline_list.proofs.Laws.MarkLaws.{marked-end, kept-more}
 -- ---- One line.
 
 -- One airline more.
-pub record Next (wanted : ℕ) (seen : List ℕ) (mark n : ℕ) (es : List Entry) (forms : List Form) (v : Verdict) : Type 0 where
+pub record Next (wanted : ℕ) (seen : List ℕ) (mark n : ℕ) (es : List Entry) (forms : List Form) (v : Verdict)
+    : Type 0 where
   pub airline : Entry
   pub kept : Kept wanted seen mark (es ++ (airline ∷ []))
   pub goes-on : judged (suc n) (es ++ (airline ∷ [])) forms ≡ v
 
 -- What the lines from n on come to, by the turn that line n takes.
-abbrev pub Comes : Turn → (wanted : ℕ) (seen : List ℕ) (mark n : ℕ) (es : List Entry) (forms : List Form) → Verdict → Type 0
+abbrev pub Comes : Turn → (wanted : ℕ) (seen : List ℕ) (mark n : ℕ) (es : List Entry) (forms : List Form) → Verdict
+    → Type 0
 Comes More wanted seen mark n es forms v = Next wanted seen mark n es forms v
 Comes (Closed end) wanted seen mark n es forms v = (says es end ≡ v) × Kept wanted seen mark es
 Comes (Fault number) wanted seen mark n es forms v = faulty number n ≡ v
@@ -78,7 +80,8 @@ ComesTo t wanted mark n es forms v = Comes (t .turn) wanted (t .seen) mark n es 
 module _ {wanted : ℕ} {seen : List ℕ} {mark : ℕ} {es : List Entry} (K : Kept wanted seen mark es)
     (n : ℕ) (few : n ≤ 64) (forms : List Form) where
   line-comes : (form : Form) → InRange form
-      → ComesTo (turned seen form (noneLeft forms)) wanted (markWith wanted mark form) n es forms (judged n es (form ∷ forms))
+      → ComesTo (turned seen form (noneLeft forms)) wanted (markWith wanted mark form) n es forms
+      (judged n es (form ∷ forms))
   unfolding turned judged
   line-comes Neither r = refl
   line-comes (Others end) r = go (noneLeft forms) refl
@@ -91,7 +94,8 @@ module _ {wanted : ℕ} {seen : List ℕ} {mark : ℕ} {es : List Entry} (K : Ke
   line-comes (Airline code end) small = go (hasBit seen code) refl (noneLeft forms) refl
     where
       go : (again : Bool) → hasBit seen code ≡ again → (last : Bool) → noneLeft forms ≡ last
-          → ComesTo (cond again (turnedOf (Fault 28) seen) (cond last (turnedOf (Fault 29) seen) (turnedOf More (withBit seen code))))
+          → ComesTo (cond again (turnedOf (Fault 28) seen)
+          (cond last (turnedOf (Fault 29) seen) (turnedOf More (withBit seen code))))
           wanted (markWith wanted mark (Airline code end)) n es forms (judged n es (Airline code end ∷ forms))
       go true h last e =
           let again : named code es ≡ true = sym (K .bits code small) ∙ h in
@@ -149,10 +153,10 @@ module _ {wanted : ℕ} {list : List ℕ} {from line : ℕ} {seen : List ℕ} {m
       too-many (Others end) = rw (lt-ltb 64 line many)
       too-many Neither = refl
 
--- ---- A line taken, as the code has it: its form and the place where it ends; its turn with the codes and the mark after
--- it; and whether it is the last.
-pub record Taken (wanted : ℕ) (list : List ℕ) (from line : ℕ) (seen : List ℕ) (mark to : ℕ) (turn : Turn) (after : List ℕ)
-    (mark-after : ℕ) : Type 0 where
+-- ---- A line taken, as the code has it: its form and the place where it ends; its turn, with the codes and the mark
+-- after it; and whether it is the last.
+pub record Taken (wanted : ℕ) (list : List ℕ) (from line : ℕ) (seen : List ℕ) (mark to : ℕ) (turn : Turn)
+    (after : List ℕ) (mark-after : ℕ) : Type 0 where
   pub reading : Reading wanted list from line seen mark
   pub before : from < length list
   pub few : line ≤ 64
@@ -164,7 +168,8 @@ pub record Taken (wanted : ℕ) (list : List ℕ) (from line : ℕ) (seen : List
   pub marks : mark-after ≡ markWith wanted mark form
   pub is-last : last ≡ noneLeft (formsAt list (to + 1))
 
-module _ {wanted : ℕ} {list : List ℕ} {from line : ℕ} {seen : List ℕ} {mark to : ℕ} {turn : Turn} {after : List ℕ} {mark-after : ℕ}
+module _ {wanted : ℕ} {list : List ℕ} {from line : ℕ} {seen : List ℕ} {mark to : ℕ} {turn : Turn} {after : List ℕ}
+    {mark-after : ℕ}
     (T : Taken wanted list from line seen mark to turn after mark-after) where
   ends-there : to ≡ from + length (formText (formAt list from))
   ends-there = T .ends ∙ ap (λ (form : Form). from + length (formText form)) (T .its-form)
@@ -199,13 +204,14 @@ module _ {wanted : ℕ} {list : List ℕ} {from line : ℕ} {seen : List ℕ} {m
           sym (ap (λ (others : List Form). judged line (T .reading .earlier) (formAt list from ∷ others))
           (forms-behind list from to ends-there text)) ∙ first-judged (T .reading) (T .before) in
           subst (λ (last : Bool). Leads (turned seen (formAt list from) last) new) (sym (T .is-last))
-          (subst (ComesTo (turned seen (formAt list from) (noneLeft forms)) wanted new line (T .reading .earlier) forms) whole
-          comes)
+          (subst (ComesTo (turned seen (formAt list from) (noneLeft forms)) wanted new line (T .reading .earlier) forms)
+          whole comes)
 
   leads-by : (other : Turn) → turn ≡ other → Leads (turnedOf other after) mark-after
   leads-by other e =
       let led = subst (λ (m : ℕ). Leads (turned seen (formAt list from) (T .last)) m) (sym marks-so) turn-leads in
-      subst (λ (t : Turn). Leads (turnedOf t after) mark-after) e (subst (λ (t : Turned). Leads t mark-after) (sym turns-so) led)
+      subst (λ (t : Turn). Leads (turnedOf t after) mark-after) e
+      (subst (λ (t : Turned). Leads t mark-after) (sym turns-so) led)
 
   pub turn-fault : (number : ℕ) → turn ≡ Fault number → NotSent number line ≡ sentTo wanted (verdict list)
   turn-fault number e = read-faulty wanted list number line (leads-by (Fault number) e)

@@ -11,16 +11,16 @@ use Rattle.airline_list.proofs.end_for.Tie as tie
 code-of-requires : tie.Need-code-of-requires
 code-of-requires c κs = search needs
 
-read-list-requires : tie.Need-read-list-requires
-read-list-requires c κs = search needs
+end-of-requires : tie.Need-end-of-requires
+end-of-requires c κs = search needs
 
 returns : tie.Need-returns
 returns c =
     let a = c .before .before .before .args in
     let v = verdict (a .list .now) in
-    c .read-list .ensures
+    c .end-of .ensures
     ∙ ap (λ (code : ℕ). sentTo code v) (c .before .code-of .ensures .0)
     ∙ tag-sent v (a .tag)
 
 pub end-for-spec : {M : Type 1} → statement M
-end-for-spec = tie.close (tie.spec code-of-requires read-list-requires returns)
+end-for-spec = tie.close (tie.spec code-of-requires end-of-requires returns)

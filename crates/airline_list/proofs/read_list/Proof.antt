@@ -1,4 +1,6 @@
 -- `airline_list::read_list` meets its contract: at first no code is seen.
+use mathlib.Core.Path.{ap, _∙_}
+use Rattle.airline_list.specs.Packed.{packed}
 use Rattle.airline_list.proofs.Laws.MarkLaws.{none-kept}
 use borrow.Author.Needs.{needs}
 use Rattle.airline_list.proofs.read_list.Statement.{statement}
@@ -10,8 +12,12 @@ read-airlines-requires c κs = none-kept (c .before .before .args .wanted)
 read-rest-requires : tie.Need-read-rest-requires
 read-rest-requires c κs = search needs
 
+pack-requires : tie.Need-pack-requires
+pack-requires c κs = search needs
+
 returns : tie.Need-returns
-returns c = search needs
+returns c = c .pack .ensures ∙ ap packed (c .before .read-rest .ensures)
 
 pub read-list-spec : {M : Type 1} → statement M
-read-list-spec = tie.close (tie.spec read-airlines-requires read-rest-requires returns)
+read-list-spec =
+    tie.close (tie.spec read-airlines-requires read-rest-requires pack-requires returns)

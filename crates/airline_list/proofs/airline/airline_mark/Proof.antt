@@ -96,7 +96,8 @@ returns-7 c =
     let r = c .before .before in
     let e = r .before .before .before in
     inr (names-right (text-at e) (begins e) (goes-on e) (three e)
-    (r .before .before .word3 .ensures .bytes-are ∙ ap (bytesOf 8) (r .if5 .left)) (omega (arith, start e .pre)) (c .if6 .left))
+    (r .before .before .word3 .ensures .bytes-are ∙ ap (bytesOf 8) (r .if5 .left))
+    (omega (arith, start e .pre)) (c .if6 .left))
 
 pub airline-mark-spec : {M : Type 1} → statement M
 airline-mark-spec =

@@ -1,4 +1,4 @@
--- `airline_list::closing::closing_line` meets its contract: where every test holds the words are those of a closing line.
+-- `airline_list::closing::closing_line` meets its contract: where every test holds the words are those of such a line.
 use mathlib.Core.Path.{_≡_, ap, _∙_}
 use mathlib.Core.List.{List}
 use Prim.Native.Nat.{ℕ}
