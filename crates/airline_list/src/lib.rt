@@ -20,10 +20,8 @@ use forms::form_length;
 ghost use mathlib.Core.Bool.{cond};
 ghost use mathlib.Core.List.{[]};
 ghost use mathlib.Core.Path.{_≡_};
-ghost use Prim.Native.Nat.{_<_};
 ghost use Rattle.airline_list.specs.Lists.{codeOf, verdict, checked, sent};
 ghost use Rattle.airline_list.specs.Marks.{
-  codes,
   endMark,
   markedEnd,
   markWith,
@@ -147,7 +145,7 @@ fn take_line(seen: &mut Seen, form: Form, last: bool) -> Turn
     }
 }
 
-// Reads airlines' lines up to one that is told in no quick way.
+// Reads airlines' lines as long as they are told by their words and another one follows.
 fn read_airlines(list: &[u8], wanted: usize, seen: &mut Seen) -> Place
     requires { ⌜ Kept wanted (now seen) 0 [] ⌝ }
     ensures { λ r. ⌜ Reading wanted (now (list .entry)) (r .from) (r .line) (now (seen .exit)) (r .mark) ⌝ }
@@ -239,6 +237,7 @@ fn pack(sent: Sent) -> u64
     }
 }
 
+// The answer that has this number.
 fn unpack(answer: u64) -> Sent
     ensures { λ r. ⌜ r ≡ unpacked answer ⌝ }
 {
@@ -254,6 +253,7 @@ fn unpack(answer: u64) -> Sent
     }
 }
 
+// Reads a list, and gives its answer for the wanted code.
 fn read_list(list: &[u8], wanted: usize) -> u64
     ensures { λ r. ⌜ r ≡ packed (sentTo wanted (verdict (now (list .entry)))) ⌝ }
 {
@@ -282,7 +282,7 @@ pub fn check(list: &[u8]) -> Checked
 
 // The second to fourth of a tag's ten digits.
 fn code_of(tag: u64) -> usize
-    ensures { λ r. ⌜ (r ≡ codeOf tag) × (r < codes) ⌝ }
+    ensures { λ r. ⌜ r ≡ codeOf tag ⌝ }
 {
     (tag / 1_000_000 % 1_000) as usize
 }

@@ -1,5 +1,4 @@
 // Bytes of a text as one number, the first byte lowest: the compiler then loads them at once.
-ghost use mathlib.Core.Path.{_≡_};
 ghost use Prim.Native.Nat.{_+_, _<_, _≤_};
 ghost use lib.ListN.{length};
 ghost use Rattle.airline_list.specs.Words.{NumberAt};

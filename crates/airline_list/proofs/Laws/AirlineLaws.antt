@@ -17,12 +17,12 @@ use Rattle.airline_list.specs.declared.Turn.the-variants.{More}
 use Rattle.airline_list.specs.declared.forms.Form.the-variants.{Airline}
 use Rattle.airline_list.specs.Airline.{Names}
 use Rattle.airline_list.specs.FirstForm.{threeDigits, hasCode, airlineBehind}
-use Rattle.airline_list.specs.Forms.{endText, codeIn, formOf}
+use Rattle.airline_list.specs.Forms.{endText, codeIn}
 use Rattle.airline_list.specs.Marks.{hasBit, withBit, endMark, turned, Reading}
 use Rattle.airline_list.proofs.Laws.FormLaws.{airline-length}
 use Rattle.airline_list.proofs.Laws.HeadLaws.{head-in-parts, airline-ahead}
 use Rattle.airline_list.proofs.Laws.LineLaws.{is-last}
-use Rattle.airline_list.proofs.Laws.ReadingLaws.{Taken, turn-more}
+use Rattle.airline_list.proofs.Laws.ReadingLaws.{turn-more}
 
 -- ---- The words of a line.
 module _ (text : List ℕ) (begins : take 8 text ≡ bytes "(airline") (goes-on : take 8 (drop 7 text) ≡ bytes "e (code ")

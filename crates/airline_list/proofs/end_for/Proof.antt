@@ -19,7 +19,7 @@ returns c =
     let a = c .before .before .before .args in
     let v = verdict (a .list .now) in
     c .end-of .ensures
-    ∙ ap (λ (code : ℕ). sentTo code v) (c .before .code-of .ensures .0)
+    ∙ ap (λ (code : ℕ). sentTo code v) (c .before .code-of .ensures)
     ∙ tag-sent v (a .tag)
 
 pub end-for-spec : {M : Type 1} → statement M
