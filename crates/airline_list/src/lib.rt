@@ -253,7 +253,7 @@ fn unpack(answer: u64) -> Sent
     }
 }
 
-// Reads a list, and gives its answer for the wanted code.
+// Reads a list, and gives its answer for the wanted code; a number that is no code is sent as all others are.
 fn read_list(list: &[u8], wanted: usize) -> u64
     ensures { λ r. ⌜ r ≡ packed (sentTo wanted (verdict (now (list .entry)))) ⌝ }
 {
@@ -262,18 +262,11 @@ fn read_list(list: &[u8], wanted: usize) -> u64
     pack(read_rest(list, wanted, &mut seen, place))
 }
 
-// The end to which a list sends a code; the end for a number that is no code is the closing line's.
-fn end_of(list: &[u8], wanted: usize) -> Sent
-    ensures { λ r. ⌜ r ≡ sentTo wanted (verdict (now (list .entry))) ⌝ }
-{
-    unpack(read_list(list, wanted))
-}
-
 // Whether a list is accepted, or else its first faulty line with its lowest number.
 pub fn check(list: &[u8]) -> Checked
     ensures { λ r. ⌜ r ≡ checked (verdict (now (list .entry))) ⌝ }
 {
-    let others = end_of(list, CODES);
+    let others = unpack(read_list(list, CODES));
     match others {
         Sent::To(_) => Checked::Accepted,
         Sent::NotSent { number, line } => Checked::Faulty { number, line },
@@ -292,5 +285,5 @@ pub fn end_for(list: &[u8], tag: u64) -> Sent
     ensures { λ r. ⌜ r ≡ sent (verdict (now (list .entry))) tag ⌝ }
 {
     let code = code_of(tag);
-    end_of(list, code)
+    unpack(read_list(list, code))
 }

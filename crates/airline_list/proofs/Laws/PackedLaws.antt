@@ -1,5 +1,5 @@
 -- Every answer is told by its number: a fault has a number, and its line is at most the 65th.
-use mathlib.Core.Path.{_≡_, refl}
+use mathlib.Core.Path.{_≡_, refl, ap, _∙_}
 use mathlib.Core.Bool.{Bool, true, false, cond}
 use mathlib.Core.List.{List, [], _∷_, _++_, map}
 use Prim.Native.Nat.{ℕ, suc, _+_, _*_, _/_, _%_, _^_, _≤_}
@@ -17,7 +17,7 @@ use Rattle.airline_list.specs.Lists.{Entry, entry, says, faulty, named, 
 use Rattle.airline_list.specs.Marks.{sentTo}
 use Rattle.airline_list.specs.Packed.{packed, unpacked, Packs}
 
-pub unpack-packed : (sent : Sent) → Packs sent → unpacked (packed sent) ≡ sent
+unpack-packed : (sent : Sent) → Packs sent → unpacked (packed sent) ≡ sent
 unpack-packed (To Left) P = refl
 unpack-packed (To Right) P = refl
 unpack-packed (NotSent number line) P =
@@ -56,6 +56,11 @@ judged-packs wanted n es (Airline code end ∷ forms) few =
     go false e false true r = (omega arith, omega arith)
     go false e false false r = let h = ltb-false 64 n e in r (omega arith)
 
-pub list-packs : (wanted : ℕ) (list : List ℕ) → Packs (sentTo wanted (verdict list))
+list-packs : (wanted : ℕ) (list : List ℕ) → Packs (sentTo wanted (verdict list))
 unfolding verdict
 list-packs wanted list = judged-packs wanted 1 [] (map formOf (linesOf list)) (omega arith)
+
+pub answer-told : (wanted : ℕ) (list : List ℕ) (answer : ℕ) → answer ≡ packed (sentTo wanted (verdict list))
+    → unpacked answer ≡ sentTo wanted (verdict list)
+answer-told wanted list answer e =
+    ap unpacked e ∙ unpack-packed (sentTo wanted (verdict list)) (list-packs wanted list)

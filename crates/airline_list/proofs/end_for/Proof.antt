@@ -3,6 +3,7 @@ use mathlib.Core.Path.{ap, _∙_}
 use Prim.Native.Nat.{ℕ}
 use Rattle.airline_list.specs.Lists.{verdict}
 use Rattle.airline_list.specs.Marks.{sentTo}
+use Rattle.airline_list.proofs.Laws.PackedLaws.{answer-told}
 use Rattle.airline_list.proofs.Laws.ReadingLaws.{tag-sent}
 use borrow.Author.Needs.{needs}
 use Rattle.airline_list.proofs.end_for.Statement.{statement}
@@ -11,16 +12,22 @@ use Rattle.airline_list.proofs.end_for.Tie as tie
 code-of-requires : tie.Need-code-of-requires
 code-of-requires c κs = search needs
 
-end-of-requires : tie.Need-end-of-requires
-end-of-requires c κs = search needs
+read-list-requires : tie.Need-read-list-requires
+read-list-requires c κs = search needs
+
+unpack-requires : tie.Need-unpack-requires
+unpack-requires c κs = search needs
 
 returns : tie.Need-returns
 returns c =
-    let a = c .before .before .before .args in
-    let v = verdict (a .list .now) in
-    c .end-of .ensures
-    ∙ ap (λ (code : ℕ). sentTo code v) (c .before .code-of .ensures)
-    ∙ tag-sent v (a .tag)
+    let k = c .before .before in
+    let a = k .before .before .args in
+    let list = a .list .now in
+    let r = c .before .read-list in
+    c .unpack .ensures
+    ∙ answer-told (k .code-of .result) list (r .result) (r .ensures)
+    ∙ ap (λ (code : ℕ). sentTo code (verdict list)) (k .code-of .ensures)
+    ∙ tag-sent (verdict list) (a .tag)
 
 pub end-for-spec : {M : Type 1} → statement M
-end-for-spec = tie.close (tie.spec code-of-requires end-of-requires returns)
+end-for-spec = tie.close (tie.spec code-of-requires read-list-requires unpack-requires returns)
