@@ -99,6 +99,7 @@ fn marked_end(mark: usize, others: End) -> End
     others
 }
 
+// One of two marks: no branch is left of it.
 fn chosen(is_new: bool, new: usize, old: usize) -> usize
     ensures { λ r. ⌜ r ≡ cond «is_new» new old ⌝ }
 {
@@ -171,6 +172,7 @@ fn read_airlines(list: &[u8], wanted: usize, seen: &mut Seen) -> Place
         }
         add(seen, code);
         mark = chosen(wanted == code, new, mark);
+        // With its line feed a line has 26 bytes for left, and 27 for right.
         from = from + 25 + new;
         line += 1;
     }
@@ -253,7 +255,7 @@ fn unpack(answer: u64) -> Sent
     }
 }
 
-// Reads a list, and gives its answer for the wanted code; a number that is no code is sent as all others are.
+// Reads a list, and gives its answer for the wanted code. For a number that is no code it is the closing line's end.
 fn read_list(list: &[u8], wanted: usize) -> u64
     ensures { λ r. ⌜ r ≡ packed (sentTo wanted (verdict (now (list .entry)))) ⌝ }
 {
