@@ -1,5 +1,5 @@
 // An airline's line with its line feed, told by words of eight bytes: nearly every line of a list is one.
-use crate::words::word;
+use crate::words::eight;
 use text_scan::is_digit;
 ghost use Prim.Native.Nat.{_≤_};
 ghost use lib.ListN.{length};
@@ -19,16 +19,16 @@ pub fn airline_mark(text: &[u8]) -> usize
     requires { ⌜ 27 ≤ length (now text) ⌝ }
     ensures { λ r. ⌜ Told (now (text .entry)) r ⌝ }
 {
-    if word(text, 0) != AIRLINE {
+    if eight(text, 0) != AIRLINE {
         return 0;
     }
-    if word(text, 7) != CODE {
+    if eight(text, 7) != CODE {
         return 0;
     }
     if !(is_digit(text[15]) & is_digit(text[16]) & is_digit(text[17])) {
         return 0;
     }
-    let behind = word(text, 18);
+    let behind = eight(text, 18);
     if behind == LEFT {
         return 1;
     }

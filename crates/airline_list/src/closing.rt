@@ -1,6 +1,6 @@
 // A closing line that is all that is left of a list, told by words of eight bytes.
 use crate::End;
-use crate::words::word;
+use crate::words::eight;
 ghost use Rattle.airline_list.specs.Closing.{Told};
 
 // The end for all others; or nothing is told: such a line can stand there all the same.
@@ -24,10 +24,10 @@ pub fn closing_line(text: &[u8]) -> Closing
     ensures { λ r. ⌜ Told (now (text .entry)) r ⌝ }
 {
     if text.len() == 14 {
-        if word(text, 0) != OTHERS {
+        if eight(text, 0) != OTHERS {
             return Closing::Untold;
         }
-        let end = word(text, 6);
+        let end = eight(text, 6);
         if end == LEFT {
             return Closing::At(End::Left);
         }
@@ -39,10 +39,10 @@ pub fn closing_line(text: &[u8]) -> Closing
     if text.len() != 15 {
         return Closing::Untold;
     }
-    if word(text, 0) != OTHERS {
+    if eight(text, 0) != OTHERS {
         return Closing::Untold;
     }
-    if word(text, 7) != RIGHT {
+    if eight(text, 7) != RIGHT {
         return Closing::Untold;
     }
     Closing::At(End::Right)

@@ -10,24 +10,24 @@ fn byte(text: &[u8], at: usize) -> u64
     text[at] as u64
 }
 
-fn pair(text: &[u8], at: usize) -> u64
+fn two(text: &[u8], at: usize) -> u64
     requires { ⌜ at + 2 ≤ length (now text) ⌝ }
     ensures { λ r. ⌜ NumberAt (now (text .entry)) at 2 r ⌝ }
 {
     byte(text, at) + 256 * byte(text, at + 1)
 }
 
-fn half(text: &[u8], at: usize) -> u64
+fn four(text: &[u8], at: usize) -> u64
     requires { ⌜ at + 4 ≤ length (now text) ⌝ }
     ensures { λ r. ⌜ NumberAt (now (text .entry)) at 4 r ⌝ }
 {
-    pair(text, at) + 65_536 * pair(text, at + 2)
+    two(text, at) + 65_536 * two(text, at + 2)
 }
 
 // Eight bytes.
-pub fn word(text: &[u8], at: usize) -> u64
+pub fn eight(text: &[u8], at: usize) -> u64
     requires { ⌜ at + 8 ≤ length (now text) ⌝ }
     ensures { λ r. ⌜ NumberAt (now (text .entry)) at 8 r ⌝ }
 {
-    half(text, at) + 4_294_967_296 * half(text, at + 4)
+    four(text, at) + 4_294_967_296 * four(text, at + 4)
 }

@@ -25,12 +25,12 @@ text-at e = start e .args .text .now
 begins : (e : tie.Else3) → take 8 (text-at e) ≡ bytes "(airline"
 begins e =
     let w = e .before .before .before .before .before .before .before .before .before in
-    w .before .word .ensures .bytes-are ∙ ap (bytesOf 8) (w .if1 .left)
+    w .before .eight .ensures .bytes-are ∙ ap (bytesOf 8) (w .if1 .left)
 
 goes-on : (e : tie.Else3) → take 8 (drop 7 (text-at e)) ≡ bytes "e (code "
 goes-on e =
     let w = e .before .before .before .before .before .before .before in
-    w .before .word2 .ensures .bytes-are ∙ ap (bytesOf 8) (w .if2 .left)
+    w .before .eight2 .ensures .bytes-are ∙ ap (bytesOf 8) (w .if2 .left)
 
 three : (e : tie.Else3) → threeDigits (text-at e) ≡ true
 three e =
@@ -40,14 +40,14 @@ three e =
     (λ i. sym (first .ensures) i && sym (second .ensures) i && sym (third .ensures) i)
     ∙ not-false (first .result && second .result && third .result) (e .if3 .left)
 
-word-requires : tie.Need-word-requires
-word-requires c κs = search needs
+eight-requires : tie.Need-eight-requires
+eight-requires c κs = search needs
 
 returns : tie.Need-returns
 returns c = inl refl
 
-word-requires-2 : tie.Need-word-requires-2
-word-requires-2 c κs = search needs
+eight-requires-2 : tie.Need-eight-requires-2
+eight-requires-2 c κs = search needs
 
 returns-2 : tie.Need-returns-2
 returns-2 c = inl refl
@@ -73,14 +73,14 @@ is-digit-requires-3 c κs = search needs
 returns-3 : tie.Need-returns-3
 returns-3 c = inl refl
 
-word-requires-3 : tie.Need-word-requires-3
-word-requires-3 c κs = search needs
+eight-requires-3 : tie.Need-eight-requires-3
+eight-requires-3 c κs = search needs
 
 returns-4 : tie.Need-returns-4
 returns-4 c =
     let e = c .before .before in
     inr (names-left (text-at e) (begins e) (goes-on e) (three e)
-    (c .before .word3 .ensures .bytes-are ∙ ap (bytesOf 8) (c .if4 .taken)))
+    (c .before .eight3 .ensures .bytes-are ∙ ap (bytesOf 8) (c .if4 .taken)))
 
 returns-5 : tie.Need-returns-5
 returns-5 c = inl refl
@@ -96,16 +96,16 @@ returns-7 c =
     let r = c .before .before in
     let e = r .before .before .before in
     inr (names-right (text-at e) (begins e) (goes-on e) (three e)
-    (r .before .before .word3 .ensures .bytes-are ∙ ap (bytesOf 8) (r .if5 .left))
+    (r .before .before .eight3 .ensures .bytes-are ∙ ap (bytesOf 8) (r .if5 .left))
     (omega (arith, start e .pre)) (c .if6 .left))
 
 pub airline-mark-spec : {M : Type 1} → statement M
 airline-mark-spec =
     tie.close
     (tie.spec
-    word-requires
+    eight-requires
     returns
-    word-requires-2
+    eight-requires-2
     returns-2
     shared-slice-read-is-digit
     is-digit-requires
@@ -114,7 +114,7 @@ airline-mark-spec =
     shared-slice-read-is-digit-3
     is-digit-requires-3
     returns-3
-    word-requires-3
+    eight-requires-3
     returns-4
     returns-5
     shared-slice-read-if6

@@ -1,9 +1,9 @@
--- `airline_list::words::pair` meets its contract: its two parts stand one behind the other.
+-- `airline_list::words::two` meets its contract: its two parts stand one behind the other.
 use native.Mathlib.Omega.{arith}
 use Rattle.airline_list.proofs.Laws.WordLaws.{joined}
 use borrow.Author.Needs.{needs}
-use Rattle.airline_list.proofs.words.pair.Statement.{statement}
-use Rattle.airline_list.proofs.words.pair.Tie as tie
+use Rattle.airline_list.proofs.words.two.Statement.{statement}
+use Rattle.airline_list.proofs.words.two.Tie as tie
 
 byte-requires : tie.Need-byte-requires
 byte-requires c κs = search needs
@@ -28,6 +28,6 @@ returns c =
     joined (a .text .now) (a .at) 1 (low .result) (high .result) (low .ensures) (high .ensures)
     (omega (arith, low .ensures .small, high .ensures .small))
 
-pub pair-spec : {M : Type 1} → statement M
-pair-spec =
+pub two-spec : {M : Type 1} → statement M
+two-spec =
     tie.close (tie.spec byte-requires add-byte byte-requires-2 mul-result add-result returns)
