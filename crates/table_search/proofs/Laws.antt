@@ -1,3 +1,4 @@
 -- What the proofs of the search share.
 
 pub mod Marked
+pub mod Searched

@@ -3,7 +3,6 @@
 // which ends at tail, have a place for each of the 1,024 nodes that a table may have.
 use table_layout::header;
 use table_layout::nodes;
-use table_layout::round::following;
 use table_layout::table::task;
 use table_record::Task;
 use table_steps::held::A;
@@ -34,7 +33,7 @@ ghost use Rattle.machine.specs.Allocate.{
 };
 ghost use Rattle.table_record.specs.Coded.{taskMeant};
 ghost use Rattle.table_steps.specs.Bits.{Exact};
-ghost use Rattle.table_search.specs.Tables.{markingOf, Searchable, hats};
+ghost use Rattle.table_search.specs.Tables.{markingOf, Searchable, hats, FirstIn};
 
 // Marks x and puts it at the end of the queue, unless it is no node or has a mark. Answers where the queue now ends,
 // as every function does that marks.
@@ -192,19 +191,33 @@ fn spread(table: &[u32], marks: &mut [u8; 1024], queue: &mut [u32; 1024], mut ta
     tail
 }
 
+// The first place from one on and below another that has no mark, or the latter.
+fn first_unmarked(marks: &[u8; 1024], from: usize, to: usize) -> usize
+    requires { ⌜ (from ≤ to) × (to ≤ largestCount) ⌝ }
+    ensures { λ r. ⌜ FirstIn (now (marks .entry)) from to r ⌝ }
+{
+    let mut i = from;
+    while i < to {
+        if marks[i] == 0 {
+            return i;
+        }
+        i += 1;
+    }
+    to
+}
+
 // The first of n nodes from the hint on, going round, that has no mark, or none.
 fn search(marks: &[u8; 1024], n: usize, hint: usize) -> u32
     requires { ⌜ (n ≤ largestCount) × (hint < n) ⌝ }
     ensures { λ r. ⌜ r ≡ firstUnmarked n (now (marks .entry)) n hint ⌝ }
 {
-    let mut k = 0;
-    let mut i = hint;
-    while k < n {
-        if marks[i] == 0 {
-            return i as u32;
-        }
-        i = following(n, i);
-        k += 1;
+    let above = first_unmarked(marks, hint, n);
+    if above < n {
+        return above as u32;
+    }
+    let below = first_unmarked(marks, 0, hint);
+    if below < hint {
+        return below as u32;
     }
     Task::NONE
 }
