@@ -37,7 +37,7 @@ ghost use Rattle.table_search.specs.Tables.{markingOf, Searchable, hats,
 
 // Marks x and puts it at the end of the queue, unless it is no node or has a mark. Answers where the queue now ends,
 // as every function does that marks.
-fn mark(marks: &mut [u8; 1024], queue: &mut [u32; 1024], tail: usize, n: usize, x: u32) -> usize
+fn mark(marks: &mut [u8; 1024], queue: &mut [u16; 1024], tail: usize, n: usize, x: u32) -> usize
     requires { ⌜ Room n (markingOf (now marks) (now queue) tail) ⌝ }
     ensures { λ r. ⌜ markingOf (now (marks .exit)) (now (queue .exit)) r
         ≡ mark n (markingOf (now (marks .entry)) (now (queue .entry)) tail) x ⌝ }
@@ -46,7 +46,7 @@ fn mark(marks: &mut [u8; 1024], queue: &mut [u32; 1024], tail: usize, n: usize, 
     if i < n {
         if marks[i] == 0 {
             marks[i] = 1;
-            queue[tail] = x;
+            queue[tail] = x as u16;
             return tail + 1;
         }
     }
@@ -56,7 +56,7 @@ fn mark(marks: &mut [u8; 1024], queue: &mut [u32; 1024], tail: usize, n: usize, 
 // Marks two numbers.
 fn mark_both(
     marks: &mut [u8; 1024],
-    queue: &mut [u32; 1024],
+    queue: &mut [u16; 1024],
     tail: usize,
     n: usize,
     x: u32,
@@ -74,7 +74,7 @@ fn mark_both(
 fn mark_hats(
     table: &[u32],
     marks: &mut [u8; 1024],
-    queue: &mut [u32; 1024],
+    queue: &mut [u16; 1024],
     mut tail: usize,
 ) -> usize
     requires { ⌜ Searchable (now table) (markingOf (now marks) (now queue) tail) ⌝ }
@@ -97,7 +97,7 @@ fn mark_hats(
 // Marks the node x of a register if its bit was found to be 1.
 fn mark_found(
     marks: &mut [u8; 1024],
-    queue: &mut [u32; 1024],
+    queue: &mut [u16; 1024],
     tail: usize,
     n: usize,
     found: u8,
@@ -116,7 +116,7 @@ fn mark_found(
 // Marks what a task holds: the nodes of the registers that hold at its step.
 fn mark_held(
     marks: &mut [u8; 1024],
-    queue: &mut [u32; 1024],
+    queue: &mut [u16; 1024],
     tail: usize,
     n: usize,
     held: &Held,
@@ -137,7 +137,7 @@ fn mark_held(
 fn mark_tasks(
     table: &[u32],
     marks: &mut [u8; 1024],
-    queue: &mut [u32; 1024],
+    queue: &mut [u16; 1024],
     mut tail: usize,
 ) -> usize
     requires { ⌜ Searchable (now table) (markingOf (now marks) (now queue) tail) ⌝ }
@@ -161,7 +161,7 @@ fn mark_tasks(
 fn visit(
     table: &[u32],
     marks: &mut [u8; 1024],
-    queue: &mut [u32; 1024],
+    queue: &mut [u16; 1024],
     tail: usize,
     place: usize,
 ) -> usize
@@ -170,7 +170,7 @@ fn visit(
         ≡ visit (now (table .entry)) (markingOf (now (marks .entry)) (now (queue .entry)) tail) place ⌝ }
 {
     let n = header::slots(table) as usize;
-    let x = queue[place];
+    let x = queue[place] as u32;
     let ns = nodes::part(table);
     let l = nodes::link(ns, 0, x);
     let r = nodes::link(ns, 1, x);
@@ -178,7 +178,7 @@ fn visit(
 }
 
 // Visits the queue until its end, which moves on as nodes are marked.
-fn spread(table: &[u32], marks: &mut [u8; 1024], queue: &mut [u32; 1024], mut tail: usize) -> usize
+fn spread(table: &[u32], marks: &mut [u8; 1024], queue: &mut [u16; 1024], mut tail: usize) -> usize
     requires { ⌜ Searchable (now table) (markingOf (now marks) (now queue) tail) ⌝ }
     ensures { λ r. ⌜ markingOf (now (marks .exit)) (now (queue .exit)) r
         ≡ visitFrom (now (table .entry)) largestCount 0 (markingOf (now (marks .entry)) (now (queue .entry)) tail) ⌝ }
@@ -229,7 +229,7 @@ pub fn first_free(table: &[u32], hint: u32) -> u32
 {
     let n = header::slots(table);
     let mut marks = [0u8; 1024];
-    let mut queue = [0u32; 1024];
+    let mut queue = [0u16; 1024];
     let hats_end = mark_hats(table, &mut marks, &mut queue, 0);
     let roots_end = mark_tasks(table, &mut marks, &mut queue, hats_end);
     spread(table, &mut marks, &mut queue, roots_end);

@@ -19,6 +19,9 @@ not-full c =
     let s = c .before .before .before in
     tail-low (s .pre) (s .args .x) (c .before .before .if1 .taken) (c .if2 .taken)
 
+cast-queue : tie.Need-cast-queue
+cast-queue c = omega (arith, c .before .before .before .pre .few, c .before .before .if1 .taken)
+
 mul-queue : tie.Need-mul-queue
 mul-queue c = omega (arith, not-full c)
 
@@ -46,6 +49,7 @@ mark-spec =
     (tie.spec
     element-copy-out-if2
     element-write-marks
+    cast-queue
     mul-queue
     element-write-queue
     add-result

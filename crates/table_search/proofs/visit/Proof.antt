@@ -11,7 +11,6 @@ use Rattle.table_layout.specs.Words.{HoldsNode}
 use Rattle.table_layout.proofs.Laws.Views.{node-held}
 use Rattle.table_search.proofs.Laws.Marked.{room-for, links-marked}
 use borrow.Author.Needs.{needs}
-use borrow.Author.Needs.{needs}
 use Rattle.table_search.proofs.visit.Statement.{statement}
 use Rattle.table_search.proofs.visit.Tie as tie
 
@@ -39,6 +38,11 @@ mul-x c = omega (arith, in-queue (c .before .before))
 
 element-copy-out-x : tie.Need-element-copy-out-x
 element-copy-out-x c = omega (arith, in-queue (c .before .before))
+
+cast-x : tie.Need-cast-x
+cast-x c =
+    let s = c .before .before .before in
+    omega (arith, s .pre .0 .room .few, s .pre .0 .room .below (s .args .place) (s .pre .1))
 
 part-requires : tie.Need-part-requires
 part-requires c κs = search needs
@@ -72,6 +76,7 @@ visit-spec =
     cast-n
     mul-x
     element-copy-out-x
+    cast-x
     part-requires
     link-requires
     link-requires-2
