@@ -2,7 +2,6 @@
 use mathlib.Core.Path.{_≡_, sym, ap, _∙_}
 use Prim.Native.Nat.{ℕ, _<_}
 use native.Mathlib.Omega.{arith}
-use borrow.Author.Needs.{needs}
 use Rattle.machine.specs.Round.{following, firstFrom}
 use Rattle.machine.specs.Table.{taskCount}
 use Rattle.machine.specs.Calls.{isBusyTask, nextBusy}
@@ -54,17 +53,8 @@ module _ (c : tie.After-following Inv-loop μ-loop) where
   next-low : c .following .result < taskCount (begun .args .table .now)
   next-low = omega (arith, c .following .ensures .1, counted .tasks .ensures)
 
-cast-following : tie.Need-cast-following Inv-loop μ-loop
-cast-following c = search needs
-
-cast-following-2 : tie.Need-cast-following-2 Inv-loop μ-loop
-cast-following-2 c = search needs
-
 following-requires : tie.Need-following-requires Inv-loop μ-loop
 following-requires c κs = omega (arith, c .before .loop .inv .0, c .before .before .before .tasks .ensures)
-
-cast-k : tie.Need-cast-k Inv-loop μ-loop
-cast-k c = search needs
 
 is-busy-requires : tie.Need-is-busy-requires Inv-loop μ-loop
 is-busy-requires c κs = (begun c .pre, next-low c)
@@ -107,10 +97,7 @@ next-busy-spec =
     tasks-requires
     dispatched-requires
     loop-holds
-    cast-following
-    cast-following-2
     following-requires
-    cast-k
     is-busy-requires
     returns
     sub-left
