@@ -103,6 +103,7 @@ use Rattle.machine_refuted.specs.Lists.{
   judged,
   expected,
   AllRefuted,
+  RefusesEach,
   Spins,
   NeverDrains,
   Leaks,
@@ -165,6 +166,18 @@ all-refuted =
     let right-passes = all-failing entries refl in
     let fails-as-said : map failing entries ≡ map expected entries = refl in
     (right-passes ∙ fails-as-said, refl)
+
+pub refuses-each : RefusesEach
+unfolding afterAllBy madeBy byRow byDefinitions onLanes isBegunOn wholeOn touchesNothing heldFromBy leftwards
+    toRefusal toIdle pastIdle isArgument turned beginBy tickOnBy consecutive ticksBy ticks dispatchToBy dispatchChoosing dispatchBy
+    consecutiveTurns dispatchesBy dispatches wentOn feedDispatches
+    firstFrom feedDispatched feedIdle feedDispatch dispatchTo dispatchOn dispatch tickBy runOnBy runBy panelBy
+    tablesBy feedTick pushAnswered popAnswered sizeAnswered feedMade feedRun bind plainAnswerOf answerOf ℕ-discrete
+    decLt decLe Value-discrete decode stepIn stepOf isStepIn hat link value task allBelow sameWords nodeOk busyOk
+    recordOk shapeOk hatsFrom heldFrom roots mark markAll visit visitFrom marked firstUnmarked allocate writeAll dcas
+    act times startNodes startWords start begin effectOf applied tickOn tick runOn run panel isBegun laneFrom lane
+    lanesBelow readInto read allTagWords
+refuses-each = refl
 
 -- ---- What the further theorems exclude.
 

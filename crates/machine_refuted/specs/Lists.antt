@@ -30,6 +30,7 @@ use Rattle.machine_refuted.specs.Wrong.{
   wholeInFirstTick,
   goingForever,
   ticksTouchNothing,
+  refusesTicks,
   refusesAll,
   fullUnsearched,
   emptyUncompared,
@@ -199,6 +200,20 @@ dispatchesOf n h = replicate n (dispatch-act h)
 abbrev pub popAboutToAnswer : List Act
 popAboutToAnswer = begins 0 push right 51 ++ begins 1 pop right 0 ++ ticks 3 1 0
 
+-- Each call once, and none to be refused where task 0 alone is busy.
+abbrev pub eachCall : List Act
+eachCall =
+    start-act 4 2 0 1
+    ∷ begin-act 1 0 (operationNumber pop) (sideNumber left) (stored 0)
+    ∷ tick-act 0 0
+    ∷ ticks-act 0 0 2
+    ∷ dispatch-act 0
+    ∷ dispatches-act 0 2
+    ∷ run-act (0 ∷ 0 ∷ []) (replicate 3 7)
+    ∷ panel-act (0 ∷ 0 ∷ []) (replicate 3 7)
+    ∷ read-act 0 []
+    ∷ []
+
 abbrev pub entries : List Entry
 entries =
     -- A push: after its first tick its bag is in the lane, and nobody was told.
@@ -248,13 +263,24 @@ entries =
     -- The first tick of a busy task is refused.
     -- Wrong: Every tick is refused.
     ∷ record {
-      wrong = refusesAll;
+      wrong = refusesTicks;
       S = 4;
       T = 1;
       lanes = 1;
       calls = wholly 1 0 push 51;
       row-says = passes;
       definitions-say = other-answer 2;
+    }
+    -- The row has no objection before the read; the definitions accept the start.
+    -- Wrong: Every call is refused: starts, begins, ticks, dispatches, runs and reads.
+    ∷ record {
+      wrong = refusesAll;
+      S = 4;
+      T = 2;
+      lanes = 1;
+      calls = eachCall;
+      row-says = not-the-row's-answer 9;
+      definitions-say = other-answer 1;
     }
     -- Two nodes are free, and the push is "full".
     -- Wrong: "Full" at 28, unsearched.
@@ -1102,6 +1128,13 @@ abbrev pub AllRefuted : Type 0
 AllRefuted =
     (map judged entries ≡ map expected entries)
     × (map (λ (e : Entry). fault (e .definitions-say)) entries ≡ map (λ (e : Entry). true) entries)
+
+-- With task 0 busy, each of the calls alone tells the machine that refuses all from the right one.
+abbrev pub RefusesEach : Type 0
+RefusesEach =
+    let ws = afterAllBy rightMachine (begins 0 push right 51) (begunWith 4 2 1) in
+    map (λ (a : Act). byDefinitions (madeBy refusesAll (a ∷ []) ws) 1) eachCall
+    ≡ map (λ (a : Act). other-answer 1) eachCall
 
 -- ---- What the further theorems exclude, on the same lists.
 

@@ -9,7 +9,7 @@ use lib.Seq.{sets}
 use Rattle.tag.specs.Tags.{lowOf}
 use Rattle.machine.specs.declared.Answer.{Answer}
 use Rattle.machine.specs.declared.Answer.the-variants.{Going, Pushed, Bag, Empty, Full, Yes, No, Refused}
-use Rattle.machine.specs.declared.Dispatch.the-variants.{Idle}
+use Rattle.machine.specs.declared.Dispatch.the-variants.{Idle, Answered}
 use Rattle.machine.specs.declared.Stored.{Stored}
 use Rattle.machine.specs.Round.{following, firstFrom}
 use Rattle.machine.specs.Sides.{left, right}
@@ -121,6 +121,9 @@ use Rattle.machine.specs.Calls.{
   nextBusy,
   Dispatched,
   RunDone,
+  stopped,
+  changed,
+  unread,
   allLanes,
 }
 use Rattle.machine_refuted.specs.Machines.{
@@ -129,6 +132,7 @@ use Rattle.machine_refuted.specs.Machines.{
   consecutive,
   Turns,
   dispatchChoosing,
+  consecutiveTurns,
   Line,
   Take,
   tickOnBy,
@@ -217,9 +221,24 @@ touchesNothing ws k h =
 abbrev pub ticksTouchNothing : Machine
 ticksTouchNothing = byTicks touchesNothing
 
--- ---- "One that refuses all."
+-- ---- "One that refuses all": its ticks alone, or every call.
+abbrev pub refusesTicks : Machine
+refusesTicks = byTicks (λ ws k h. record { answer = Refused 5; words = ws })
+
 abbrev pub refusesAll : Machine
-refusesAll = byTicks (λ ws k h. record { answer = Refused 5; words = ws })
+refusesAll =
+    record {
+      starts = λ ws S T g lanes. changed (some 3) ws ws;
+      reads = λ ws l out. unread 3 out;
+      tickOn = λ ws k h. record { answer = Refused 3; words = ws };
+      consecutiveTicks = consecutive;
+      reports = λ r. stopped 3 (r .words) (r .answers);
+      panelRefuses = λ ws list answers. some 3;
+      panelTakes = λ list. list;
+      beginRefuses = λ ws k l op side argument. some 3;
+      dispatches = λ tick ws h. record { answer = Answered (Refused 3); words = ws };
+      consecutiveDispatches = consecutiveTurns;
+    }
 
 -- ---- "One saying "full" at 28 before searching."
 abbrev pub fullUnsearched : Machine
