@@ -1,7 +1,8 @@
 -- `line_add::line24` meets its contract: what is read comes before the one store.
+use mathlib.Core.Path.{ap, _∙_}
 use native.Mathlib.Omega.{arith}
 use lib.ListN.{getD}
-use Rattle.machine.specs.Sides.{opposite, sideOf}
+use Rattle.machine.specs.Sides.{Side, opposite, sideOf}
 use Rattle.machine.specs.Lines.{act}
 use Rattle.machine.proofs.Basics.Choices.{equal, unequal}
 use Rattle.table_record.specs.Coded.{withRegister}
@@ -77,12 +78,15 @@ returns-3 c g f =
     let d = getD (t .registers) 3 0 in
     let b = linkIn ns (sideOf (t .side)) a in
     let inward = opposite (sideOf (t .side)) in
+    let turned = c .before .before .before .before .before .before .before .before in
+    let stored = c .before .before .before .before .set-link .ensures
+    ∙ ap (λ (z : Side). setLinkIn ns z d a) (side-meant inward (turned .opposite .ensures))
+    in
     rw (
       c .next .ensures,
       c .before .with .ensures,
-      c .before .before .before .before .set-link .ensures,
+      stored,
       c .before .before .before .before .before .before .link .ensures,
-      side-meant inward (c .before .before .before .before .before .before .before .before .opposite .ensures),
       unequal (else1 .if1 .left),
       unequal (else2 .if2 .left),
     )

@@ -1,8 +1,10 @@
 -- `line_unspur::line72` meets its contract: the swap writes the hat and no node.
+use mathlib.Core.Path.{_≡_}
 use lib.ListN.{getD}
 use Rattle.machine.specs.Choice.{_≟_}
 use Rattle.machine.specs.Sides.{sideOf}
 use Rattle.machine.specs.Steps.{stepNumber}
+use Rattle.machine.specs.Tasks.{noNode}
 use Rattle.machine.specs.Lines.{act, back}
 use Rattle.machine.proofs.Basics.Choices.{equal, unequal}
 use Rattle.table_record.specs.Coded.{taskMeant}
@@ -26,7 +28,8 @@ returns : tie.Need-returns
 unfolding lineOf act
 returns c ns g f =
     let p = c .before .before .before .before in
-    rw (c .refused .ensures, equal (c .before .if1 .taken)) (by-record (p .pre) ns (refusedDone (p .args .hat)))
+    let c-is-none : getD (p .args .t2 .registers) 2 0 ≡ noNode = c .before .if1 .taken in
+    rw (c .refused .ensures, equal c-is-none) (by-record (p .pre) ns (refusedDone (p .args .hat)))
 
 either-requires : tie.Need-either-requires
 either-requires c κs = search needs

@@ -29,7 +29,7 @@ returns c =
     let start = c .before .before .before in
     let digits = start .args .t1 in
     let long = good-length (eInt w8) 10 digits _ (start .good .0) in
-    sym (digit-failed digits (l .i) (omega arith) (c .if1 .taken)) ∙ l .inv .1
+    sym (digit-failed digits (l .i) (omega arith) (omega (arith, c .if1 .taken))) ∙ l .inv .1
 
 add-i : tie.Need-add-i Inv-loop μ-loop
 add-i c = omega arith

@@ -1,5 +1,5 @@
 -- `table_record::Task::copied` meets its contract: the four registers, one by one, are the array of them.
-use mathlib.Core.Path.{_≡_, refl}
+use mathlib.Core.Path.{_≡_, refl, ap}
 use mathlib.Core.List.{List, [], _∷_}
 use Prim.Native.Nat.{ℕ}
 use native.Mathlib.Omega.{arith}
@@ -33,7 +33,16 @@ returns : tie.Need-returns
 returns c =
     let t = c .before .before .before .before .before .before .args .t1 in
     let four : length (t .registers) ≡ 4 = search needs in
-    rw (four-elements (t .registers) four)
+    ap (λ (rs : List ℕ). record {
+      operation = t .operation;
+      step = t .step;
+      side = t .side;
+      argument = t .argument;
+      counted = t .counted;
+      value = t .value;
+      registers = rs;
+      lane = t .lane;
+    }) (four-elements (t .registers) four)
 
 pub copied-spec : {M : Type 1} → statement M
 copied-spec =
