@@ -169,8 +169,8 @@ all-refuted =
 
 pub refuses-each : RefusesEach
 unfolding afterAllBy madeBy byRow byDefinitions onLanes isBegunOn wholeOn touchesNothing heldFromBy leftwards
-    toRefusal toIdle pastIdle isArgument turned beginBy tickOnBy consecutive ticksBy ticks dispatchToBy dispatchChoosing dispatchBy
-    consecutiveTurns dispatchesBy dispatches wentOn feedDispatches
+    toRefusal toIdle pastIdle isArgument turned beginBy tickOnBy consecutive ticksBy ticks dispatchToBy dispatchChoosing
+    dispatchBy consecutiveTurns dispatchesBy dispatches wentOn feedDispatches
     firstFrom feedDispatched feedIdle feedDispatch dispatchTo dispatchOn dispatch tickBy runOnBy runBy panelBy
     tablesBy feedTick pushAnswered popAnswered sizeAnswered feedMade feedRun bind plainAnswerOf answerOf ℕ-discrete
     decLt decLe Value-discrete decode stepIn stepOf isStepIn hat link value task allBelow sameWords nodeOk busyOk
