@@ -29,7 +29,7 @@ pub mod window;
 
 pub use alloc::count_free;
 pub use answer::Answer;
-pub use calls::{begin, panel, read, run, start, tick, ticks};
+pub use calls::{begin, panel, read, run, start, tick, ticks, whole, Call};
 pub use dispatch::{dispatch, dispatches};
 pub use lent::begin_record;
 pub use lists::{read_tags, write_tags};

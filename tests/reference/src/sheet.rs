@@ -55,7 +55,7 @@ fn tags_of(table: &[u32], lane: u32, page: u32) -> Result<Tags, u32> {
         on_page: 0,
         in_lane: 0,
     };
-    calls::walk(table, sizes, lane, |tag| {
+    calls::walk(table, sizes, lane, |_, tag| {
         if tags.in_lane >= first && tags.on_page < PAGE_TAGS {
             tags.page[tags.on_page] = tag;
             tags.on_page += 1;
