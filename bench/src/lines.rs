@@ -8,8 +8,8 @@ use crate::measure::{interleaved, nanoseconds, Figures};
 
 /// The proved program, made by `rt check lane`.
 const PROVED: &str = "target/bin/lane";
-/// The second program, made by `bench/run`.
-const RUST: &str = "tests/target/release/lane";
+/// The second program in its fastest form, made by `bench/run`.
+const RUST: &str = "bench/target/release/lane";
 
 /// What is measured, S, the lines that prepare its table, the lines given again and again, and how many of these.
 type Row = (

@@ -13,7 +13,7 @@ mod alloc;
 mod answer;
 mod calls;
 mod dispatch;
-mod form;
+pub mod form;
 mod lent;
 pub mod lines;
 pub mod lists;
