@@ -74,6 +74,15 @@ pub fn takes(nodes: u32, lanes: u32) -> Load {
     Load { table, list }
 }
 
+/// The same, each tick with the first free node as its hint: they are taken in order.
+pub fn hinted_takes(nodes: u32, lanes: u32) -> Load {
+    let Load { table, mut list } = takes(nodes, lanes);
+    for (pair, node) in list.chunks_exact_mut(2).zip(2 * lanes..) {
+        pair[1] = node;
+    }
+    Load { table, list }
+}
+
 /// 16 pushes at both ends of lanes half full, until each has answered or 4,096 ticks are made.
 pub fn pushes(nodes: u32, lanes: u32) -> Load {
     let mut table = filled(nodes, lanes, nodes / 2);
