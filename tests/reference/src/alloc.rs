@@ -66,33 +66,39 @@ fn marked<const N: usize>(table: &[u32], sizes: Sizes) -> [u8; N] {
     let mut marks = [0; N];
     let mut queue = [0; N];
     let mut tail = 0;
-    let mut mark =
-        |queue: &mut [u16; N], tail: usize, number: u32| match marks.get_mut(number as usize) {
-            // A node enters only once, so that the queue cannot overflow.
-            Some(mark @ 0) => {
-                *mark = 1;
-                queue[tail % N] = number as u16;
-                tail + 1
-            }
-            // None is no index.
-            _ => tail,
-        };
     for &hat in &table[sizes.hats()] {
-        tail = mark(&mut queue, tail, hat);
+        tail = mark(&mut marks, &mut queue, tail, hat);
     }
     for task in table[sizes.record(0)..].chunks_exact(record::WORDS) {
         for &register in held(task[record::STEP]) {
-            tail = mark(&mut queue, tail, task[register]);
+            tail = mark(&mut marks, &mut queue, tail, task[register]);
         }
     }
-    let nodes = &table[sizes.node(0)..sizes.record(0)];
+    let (nodes, _) = table[sizes.node(0)..sizes.record(0)].as_chunks::<{ node::WORDS }>();
     let mut head = 0;
     while head < tail {
-        let at = node::WORDS * usize::from(queue[head % N]);
-        let node = &nodes[at..at + node::WORDS];
-        tail = mark(&mut queue, tail, node[node::LEFT]);
-        tail = mark(&mut queue, tail, node[node::RIGHT]);
+        let node = &nodes[queue[head % N] as usize];
+        tail = mark(&mut marks, &mut queue, tail, node[node::LEFT]);
+        tail = mark(&mut marks, &mut queue, tail, node[node::RIGHT]);
         head += 1;
     }
     marks
+}
+
+/// Marks a node and puts it to the end of the queue, unless it has its mark; returns the end. A node enters only once,
+/// so that the queue cannot overflow, and none is no index.
+fn mark<const N: usize>(
+    marks: &mut [u8; N],
+    queue: &mut [u32; N],
+    tail: usize,
+    number: u32,
+) -> usize {
+    let number = number as usize;
+    if number < N && marks[number] == 0 {
+        marks[number] = 1;
+        queue[tail % N] = number as u32;
+        tail + 1
+    } else {
+        tail
+    }
 }
