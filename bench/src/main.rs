@@ -91,11 +91,12 @@ const ROWS: [(&str, u32, Make, Measure); 9] = [
 
 fn main() {
     let words: Vec<String> = std::env::args().skip(1).collect();
-    let (rounds, line_rounds) = match words.iter().map(String::as_str).collect::<Vec<_>>()[..] {
-        [] => (1001, 7),
-        ["--quick"] => (101, 3),
+    let (rounds, line_rounds, one_in) = match words.iter().map(String::as_str).collect::<Vec<_>>()[..]
+    {
+        [] => (1001, 7, 1),
+        ["--quick"] => (101, 3, 1),
         // Every row is made, and its answers are compared; the figures mean nothing.
-        ["--brief"] => (1, 1),
+        ["--brief"] => (1, 1, 100),
         _ => {
             eprintln!("usage: bench/run [--quick | --brief]");
             std::process::exit(2);
@@ -126,7 +127,7 @@ fn main() {
     println!();
     windows::rows(rounds);
     println!();
-    lines::rows(line_rounds);
+    lines::rows(line_rounds, one_in);
 }
 
 /// The table of ratios.
