@@ -439,22 +439,22 @@ fn growth(rounds: usize) {
     }
 }
 
-/// A tick that takes a node, with the first free one as its hint beside hint 0.
+/// A tick that takes a node, by its hint: 0, or the node after the one last taken.
 fn hints(rounds: usize) {
     println!(
         "A tick that takes a node, by its hint, nanoseconds: proved (Rust), and what the proved"
     );
-    println!("one saves. 16 adds, as above, on one lane.");
+    println!("one saves. 16 adds on one lane, as above.");
     println!(
         "{:>5} {:>22} {:>22} {:>9}",
-        "S", "hint 0", "first free node", "saved"
+        "S", "hint 0", "next to the last", "saved"
     );
     for nodes in HINT_SIZES {
-        let [zero, first] =
+        let [zero, next] =
             [loads::takes, loads::hinted_takes].map(|make: Make| run_tick(rounds, &make(nodes, 1)));
-        let saved = 100.0 * (1.0 - first.proved / zero.proved);
-        let [zero, first] =
-            [zero, first].map(|figures| format!("{:.2} ({:.2})", figures.proved, figures.rust));
-        println!("{nodes:>5} {zero:>22} {first:>22} {saved:>7.0} %");
+        let saved = 100.0 * (1.0 - next.proved / zero.proved);
+        let [zero, next] =
+            [zero, next].map(|figures| format!("{:.2} ({:.2})", figures.proved, figures.rust));
+        println!("{nodes:>5} {zero:>22} {next:>22} {saved:>7.0} %");
     }
 }
