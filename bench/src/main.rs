@@ -32,7 +32,7 @@ type Make = fn(u32, u32) -> Load;
 type Measure = fn(usize, &Load) -> Figures;
 
 /// What is measured, and on how many lanes; what `growth` shows on one lane is not shown twice.
-const ROWS: [(&str, u32, Make, Measure); 9] = [
+const ROWS: [(&str, u32, Make, Measure); 8] = [
     (
         "tick, no take: 16 pops, empty lane",
         1,
@@ -80,12 +80,6 @@ const ROWS: [(&str, u32, Make, Measure); 9] = [
         4,
         loads::takes,
         run_tick,
-    ),
-    (
-        "shape test alone: a run of no ticks",
-        4,
-        loads::none,
-        shape_test,
     ),
 ];
 

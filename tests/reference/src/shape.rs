@@ -7,6 +7,7 @@ use crate::table::{
 };
 
 /// The sizes of a table whose shape holds, or the refusal.
+#[inline(never)]
 pub fn check(table: &[u32]) -> Result<Sizes, u32> {
     let sizes = sizes(table).ok_or(refusal::SIZES)?;
     if holds(table, sizes) {
