@@ -21,8 +21,12 @@ pub fn read_tags(bytes: &[u8], words: &mut [u32]) -> (u32, u32) {
         return (refusal::TAGS_LENGTH, 0);
     }
     let tags = tags.map(Halves::of);
-    // All are tested without a way out: the place is looked for where one is none.
-    if !tags.clone().fold(true, |all, halves| all & halves.is_tag()) {
+    // All are tested at once: the place is looked for where one is none.
+    if !are_digits(bytes)
+        || !tags
+            .clone()
+            .fold(true, |all, halves| all & !halves.are_zero())
+    {
         let place = tags.clone().position(|halves| !halves.is_tag());
         return (refusal::NO_TAG, place.unwrap_or(count) as u32);
     }
@@ -59,6 +63,14 @@ pub fn write_tags(words: &[u32], bytes: &mut [u8]) -> (u32, u32) {
     (0, count as u32)
 }
 
+/// Whether all half bytes are digits, by the greatest byte and the greatest lower half.
+fn are_digits(bytes: &[u8]) -> bool {
+    let (most, lower) = bytes.iter().fold((0, 0), |(most, lower): (u8, u8), &byte| {
+        (most.max(byte), lower.max(byte & 0xf))
+    });
+    most < 0xa0 && lower < 0xa
+}
+
 /// The half bytes of a tag: the first two, and the other eight.
 #[derive(Clone, Copy)]
 struct Halves(u32, u32);
@@ -73,7 +85,11 @@ impl Halves {
     fn is_tag(self) -> bool {
         // A half byte above 9 has the bit of 8, and that of 4 or that of 2.
         let above = |halves: u32| halves & (halves << 1 | halves << 2) & 0x8888_8888;
-        (above(self.0) | above(self.1) == 0) & (self.0 | self.1 != 0)
+        above(self.0) | above(self.1) == 0 && !self.are_zero()
+    }
+
+    fn are_zero(self) -> bool {
+        self.0 | self.1 == 0
     }
 
     /// The leading digit and the low part; the eight are joined two and two, three times.
