@@ -8,8 +8,8 @@ use crate::measure::{interleaved, nanoseconds, Figures};
 
 /// The proved program, made by `rt check lane`.
 const PROVED: &str = "target/bin/lane";
-/// The second program, made by `bench/run`.
-const RUST: &str = "tests/target/release/lane";
+/// The second program in its fastest form, made by `bench/run`.
+const RUST: &str = "bench/target/release/lane";
 
 /// What is measured, S, the lines that prepare its table, the lines given again and again, and how many of these.
 type Row = (
@@ -32,8 +32,8 @@ const ROWS: [Row; 7] = [
     ("(tick 0 0 1001), unread", 16, start, unread, MILLION),
 ];
 
-/// Measures both programs; says so if there is no proved program.
-pub fn rows(rounds: usize) {
+/// Measures both programs, each with one in so many of a row's lines; says so if there is no proved program.
+pub fn rows(rounds: usize, one_in: usize) {
     println!("The lane program, T 1: whole processes, a file of lines read, answers to /dev/null.");
     if !Path::new(PROVED).is_file() {
         println!("Not measured: {PROVED} is missing; `rt check lane` makes it.");
@@ -46,6 +46,7 @@ pub fn rows(rounds: usize) {
     );
     let path = std::env::temp_dir().join(format!("lane-bench-{}", std::process::id()));
     for (name, nodes, before, lines, count) in ROWS {
+        let count = count / one_in;
         let again = lines(nodes);
         let again = again.split_inclusive('\n').cycle().take(count);
         let input = before(nodes) + &again.collect::<String>();

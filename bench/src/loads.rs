@@ -1,6 +1,6 @@
 //! The tables and tick lists that are measured, prepared by the second program.
 
-use reference::table::{Sizes, ADD, LEFT, POP, PUSH, REMOVE, RIGHT};
+use reference::table::{header, node, record, Sizes, ADD, LEFT, POP, PUSH, REMOVE, RIGHT};
 
 /// Tasks of every table.
 pub const TASKS: u32 = 16;
@@ -71,6 +71,21 @@ pub fn takes(nodes: u32, lanes: u32) -> Load {
     let mut table = started(nodes, lanes);
     begin_all(&mut table, lanes, ADD, MOST_ADDED);
     let list = in_turn(nodes - 2 * lanes);
+    Load { table, list }
+}
+
+/// The same, each tick with the hint that a caller can keep: the node after the one that the tick before it took.
+pub fn hinted_takes(nodes: u32, lanes: u32) -> Load {
+    let Load { table, mut list } = takes(nodes, lanes);
+    let mut after = table.clone();
+    let mut hint = 0;
+    for pair in list.chunks_exact_mut(2) {
+        pair[1] = hint;
+        reference::tick(&mut after, pair[0], hint).expect("a busy task");
+        let record =
+            header::WORDS + node::WORDS * nodes as usize + record::WORDS * pair[0] as usize;
+        hint = (after[record + record::D] + 1) % nodes;
+    }
     Load { table, list }
 }
 

@@ -1,6 +1,6 @@
 //! How fast the proved machine is beside the second program in Rust: one table of ratios, and the growth with S.
 
-#![forbid(unsafe_code)]
+#![deny(unsafe_code)]
 
 mod airlines;
 mod lines;
@@ -9,6 +9,7 @@ mod loads;
 mod measure;
 mod programs;
 mod snapshots;
+mod vectors;
 mod windows;
 
 use std::hint::black_box;
@@ -23,6 +24,7 @@ use reference::table::{header, record, POP, PUSH, RIGHT};
 const ROUND_WORDS: usize = 6000;
 const SIZES: [u32; 3] = [16, 128, 1024];
 const ALL_SIZES: [u32; 7] = [16, 32, 64, 128, 256, 512, 1024];
+const HINT_SIZES: [u32; 3] = [128, 512, 1024];
 
 /// What makes a load for so many nodes and lanes.
 type Make = fn(u32, u32) -> Load;
@@ -30,7 +32,7 @@ type Make = fn(u32, u32) -> Load;
 type Measure = fn(usize, &Load) -> Figures;
 
 /// What is measured, and on how many lanes; what `growth` shows on one lane is not shown twice.
-const ROWS: [(&str, u32, Make, Measure); 9] = [
+const ROWS: [(&str, u32, Make, Measure); 8] = [
     (
         "tick, no take: 16 pops, empty lane",
         1,
@@ -55,7 +57,12 @@ const ROWS: [(&str, u32, Make, Measure); 9] = [
         loads::short_walks,
         single_dispatch,
     ),
-    ("push and pop, each one call", 1, loads::empty, whole_calls),
+    (
+        "push and pop, each a lane_call",
+        1,
+        loads::empty,
+        whole_calls,
+    ),
     (
         "push and pop, by single ticks",
         1,
@@ -74,21 +81,18 @@ const ROWS: [(&str, u32, Make, Measure); 9] = [
         loads::takes,
         run_tick,
     ),
-    (
-        "shape test alone: a run of no ticks",
-        4,
-        loads::none,
-        shape_test,
-    ),
 ];
 
 fn main() {
     let words: Vec<String> = std::env::args().skip(1).collect();
-    let (rounds, line_rounds) = match words.iter().map(String::as_str).collect::<Vec<_>>()[..] {
-        [] => (1001, 7),
-        ["--quick"] => (101, 3),
+    let (rounds, line_rounds, one_in) = match words.iter().map(String::as_str).collect::<Vec<_>>()[..]
+    {
+        [] => (1001, 7, 1),
+        ["--quick"] => (101, 3, 1),
+        // Every row is made, and its answers are compared; the figures mean nothing.
+        ["--brief"] => (1, 1, 100),
         _ => {
-            eprintln!("usage: bench/run [--quick]");
+            eprintln!("usage: bench/run [--quick | --brief]");
             std::process::exit(2);
         }
     };
@@ -105,7 +109,9 @@ fn main() {
     println!();
     ratios(rounds);
     println!();
-    growth(rounds / 2);
+    growth(rounds / 2 + 1);
+    println!();
+    hints(rounds);
     println!();
     lists::rows(rounds);
     println!();
@@ -115,7 +121,7 @@ fn main() {
     println!();
     windows::rows(rounds);
     println!();
-    lines::rows(line_rounds);
+    lines::rows(line_rounds, one_in);
 }
 
 /// The table of ratios.
@@ -238,36 +244,39 @@ fn singly(
     interleaved(rounds, work(&PROVED), work(&RUST))
 }
 
-/// A push and a pop, each a begin and its consecutive ticks.
+/// A push and a pop, each a whole call.
 fn whole_calls(rounds: usize, load: &Load) -> Figures {
-    pushed_and_popped(rounds, load, |program, table| {
-        (program.ticks)(table, 0, 0, lane::max_ticks_alone(table[header::NODES]))
+    pushed_and_popped(rounds, load, |program, table, operation, argument| {
+        (program.call)(table, 0, 0, operation, RIGHT, 0, argument)
     })
 }
 
 /// The same by single ticks, each of which tests the whole table.
 fn single_calls(rounds: usize, load: &Load) -> Figures {
-    pushed_and_popped(rounds, load, |program, table| loop {
-        let answer = (program.tick)(table, 0, 0);
-        if answer != 0 {
-            break answer;
+    pushed_and_popped(rounds, load, |program, table, operation, argument| {
+        let begun = (program.begin)(table, 0, 0, operation, RIGHT, 0, argument);
+        assert_eq!(begun, 0, "an idle task, and a new tag");
+        loop {
+            let answer = (program.tick)(table, 0, 0);
+            if answer != 0 {
+                break answer;
+            }
         }
     })
 }
 
-/// A push and a pop at one end, after which the lane is as it was; `finish` ticks task 0 to its answer.
+/// A push and a pop at one end, after which the lane is as it was; `call` makes one of them by task 0.
 fn pushed_and_popped(
     rounds: usize,
     load: &Load,
-    finish: impl Fn(&Program, &mut [u32]) -> u64 + Copy,
+    call: impl Fn(&Program, &mut [u32], u32, u32) -> u64 + Copy,
 ) -> Figures {
     let tag = loads::NEW_TAG;
     let calls = [(PUSH, tag, 1 << 40), (POP, 0, 2 << 40 | u64::from(tag))];
     let make = move |program: &Program, table: &mut [u32]| {
         for (operation, argument, answer) in calls {
-            let begun = (program.begin)(table, 0, 0, operation, RIGHT, 0, argument);
-            assert_eq!(begun, 0, "an idle task, and a new tag");
-            assert_eq!(finish(program, table), answer, "a call's answer");
+            let given = call(program, table, operation, argument);
+            assert_eq!(given, answer, "a call's answer");
         }
     };
     let mut tables = [load.table.clone(), load.table.clone()];
@@ -285,9 +294,9 @@ fn pushed_and_popped(
     interleaved(rounds, work(&PROVED), work(&RUST))
 }
 
-/// A run of no ticks.
+/// A run of no ticks, made several times a round, so that a short call is not lost beside the clock.
 fn shape_test(rounds: usize, load: &Load) -> Figures {
-    let times = copies(load);
+    let times = repeats(load);
     let work = |program: &'static Program| {
         let mut table = load.table.clone();
         move || {
@@ -390,20 +399,27 @@ fn copies(load: &Load) -> usize {
     (ROUND_WORDS / load.table.len()).max(1)
 }
 
+/// How often a call that changes nothing is made in one round.
+fn repeats(load: &Load) -> usize {
+    copies(load).max(8)
+}
+
 /// The times as S doubles: a tick without a take stays as it is, a take and the shape test grow with S.
 fn growth(rounds: usize) {
     println!("Growth with S, nanoseconds: proved (Rust). Then the bytes of the table that the shape test");
-    println!("reads in a nanosecond, beside a plain sum of the same words, which is the limit.");
+    println!("reads in a nanosecond; those of the nodes alone in a test written by hand in vector");
+    println!("instructions; and those of a plain sum of the same words, which is the limit.");
     println!(
-        "{:>5} {:>22} {:>22} {:>22} {:>16} {:>8}",
-        "S", "tick, no take", "tick that takes", "shape test", "bytes a ns", "sum"
+        "{:>5} {:>22} {:>22} {:>22} {:>16} {:>8} {:>8}",
+        "S", "tick, no take", "tick that takes", "shape test", "bytes a ns", "by hand", "sum"
     );
     for nodes in ALL_SIZES {
         let idle = loads::none(nodes, 1);
         let test = shape_test(rounds, &idle);
         let bytes = 4.0 * idle.table.len() as f64;
         let rates = format!("{:.1} ({:.1})", bytes / test.proved, bytes / test.rust);
-        let sum = bytes / plain_sum(rounds, &idle.table, copies(&idle));
+        let by_hand = vectors::rate(rounds, &idle.table, repeats(&idle));
+        let sum = bytes / plain_sum(rounds, &idle.table, repeats(&idle));
         let cells = [
             run_tick(rounds, &loads::walks(nodes, 1)),
             run_tick(rounds, &loads::takes(nodes, 1)),
@@ -411,8 +427,28 @@ fn growth(rounds: usize) {
         ]
         .map(|figures| format!("{:.2} ({:.2})", figures.proved, figures.rust));
         println!(
-            "{nodes:>5} {:>22} {:>22} {:>22} {rates:>16} {sum:>8.1}",
+            "{nodes:>5} {:>22} {:>22} {:>22} {rates:>16} {by_hand:>8.1} {sum:>8.1}",
             cells[0], cells[1], cells[2]
         );
+    }
+}
+
+/// A tick that takes a node, by its hint: 0, or the node after the one last taken.
+fn hints(rounds: usize) {
+    println!(
+        "A tick that takes a node, by its hint, nanoseconds: proved (Rust), and what the proved"
+    );
+    println!("one saves. 16 adds on one lane, as above.");
+    println!(
+        "{:>5} {:>22} {:>22} {:>9}",
+        "S", "hint 0", "next to the last", "saved"
+    );
+    for nodes in HINT_SIZES {
+        let [zero, next] =
+            [loads::takes, loads::hinted_takes].map(|make: Make| run_tick(rounds, &make(nodes, 1)));
+        let saved = 100.0 * (1.0 - next.proved / zero.proved);
+        let [zero, next] =
+            [zero, next].map(|figures| format!("{:.2} ({:.2})", figures.proved, figures.rust));
+        println!("{nodes:>5} {zero:>22} {next:>22} {saved:>7.0} %");
     }
 }

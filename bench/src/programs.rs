@@ -1,19 +1,22 @@
 //! The two programs under the same function types, so that both are called alike.
 
 use lane::ffi;
-use reference::table::record;
-use reference::{airlines, Answer};
+use reference::table::{header, record};
+use reference::{airlines, Answer, Call};
+
+type BeginRecord = fn(&mut [u32; record::WORDS], &[u32], u32, u32, u32, u32, u32, u32) -> u32;
+type PushByList = fn(&[u8], &mut [u32], u32, u32, u32, u32) -> u64;
 
 /// The calls that are measured, answers as numbers of 64 bits.
 pub struct Program {
     /// Task, lane, operation, side, digit and argument of a call.
     pub begin: fn(&mut [u32], u32, u32, u32, u32, u32, u32) -> u32,
     /// The same over a lent record, which comes first; the table is only read.
-    pub begin_record: fn(&mut [u32; record::WORDS], &[u32], u32, u32, u32, u32, u32, u32) -> u32,
+    pub begin_record: BeginRecord,
     /// One tick with its test of the table's shape.
     pub tick: fn(&mut [u32], u32, u32) -> u64,
-    /// Consecutive ticks of one task: task, hint, and how many at most.
-    pub ticks: fn(&mut [u32], u32, u32, u32) -> u64,
+    /// A whole call, as `lane_call` makes it: task, lane, operation, side, digit and argument.
+    pub call: fn(&mut [u32], u32, u32, u32, u32, u32, u32) -> u64,
     /// One tick of the next busy task.
     pub dispatch: fn(&mut [u32], u32) -> u64,
     /// A list of ticks.
@@ -33,7 +36,7 @@ pub struct Program {
     /// An airline list tested.
     pub check_list: fn(&[u8]) -> u64,
     /// A push begun by such a list: task, lane, digit and low part.
-    pub push_by_list: fn(&[u8], &mut [u32], u32, u32, u32, u32) -> u64,
+    pub push_by_list: PushByList,
     /// A fresh window of some width.
     pub window: fn(&mut [u32], u32) -> u32,
     /// A window fed: count, step before and step after.
@@ -45,7 +48,12 @@ pub const PROVED: Program = Program {
     begin: ffi::begin,
     begin_record: ffi::begin_record,
     tick: ffi::tick,
-    ticks: ffi::ticks,
+    call: |table, task, lane, operation, side, digit, argument| match ffi::begin(
+        table, task, lane, operation, side, digit, argument,
+    ) {
+        0 => ffi::ticks(table, task, 0, most_ticks(table)),
+        number => answer(Err(number)),
+    },
     dispatch: ffi::dispatch,
     run: ffi::run,
     read: ffi::read,
@@ -68,7 +76,17 @@ pub const RUST: Program = Program {
     },
     begin_record: reference::begin_record,
     tick: |table, task, hint| answer(reference::tick(table, task, hint)),
-    ticks: |table, task, hint, times| answer(reference::ticks(table, task, hint, times)),
+    call: |table, task, lane, operation, side, digit, argument| {
+        let call = Call {
+            lane,
+            operation,
+            side,
+            digit,
+            argument,
+        };
+        let times = most_ticks(table);
+        answer(reference::whole(table, task, call, times))
+    },
     dispatch: |table, hint| {
         let given = reference::dispatch(table, hint);
         given.transpose().map_or(8 << 40, answer)
@@ -93,6 +111,11 @@ pub const RUST: Program = Program {
     window: reference::window::window,
     feed: |words, count, before, after| pair(reference::window::feed(words, count, before, after)),
 };
+
+/// Ticks that are enough for a call alone.
+fn most_ticks(table: &[u32]) -> u32 {
+    lane::max_ticks_alone(table[header::NODES])
+}
 
 fn refusal(given: Result<(), u32>) -> u32 {
     given.err().unwrap_or(0)

@@ -56,7 +56,7 @@ fn prepared(width: u32, fed: u32) -> Vec<u32> {
 
 /// The step after 5 of the tick with this count.
 fn after(count: u32) -> u32 {
-    if count % 3 == 0 {
+    if count.is_multiple_of(3) {
         8
     } else {
         0

@@ -134,12 +134,12 @@ int main(void) {
         size_t bytes = touched(tick);
         deepest = bytes > deepest ? bytes : deepest;
     }
-    print("tick", deepest, 5700);
-    print("ticks", touched(ticks), 5700);
-    print("run", touched(run), 5700);
-    print("panel", touched(panel), 5700);
-    print("dispatch", touched(dispatch), 5700);     /* the panel's add goes on, and takes a slot */
-    print("dispatches", touched(dispatches), 5700); /* more of them */
+    print("tick", deepest, 3700);
+    print("ticks", touched(ticks), 3700);
+    print("run", touched(run), 3700);
+    print("panel", touched(panel), 3700);
+    print("dispatch", touched(dispatch), 3700);     /* the panel's add goes on, and takes a slot */
+    print("dispatches", touched(dispatches), 3700); /* more of them */
     print("read", touched(read_lane), 800);
     print("sheet", touched(sheet), 800);
     print("take", touched(take), 800);

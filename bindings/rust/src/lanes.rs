@@ -220,7 +220,8 @@ impl<W: AsRef<[u32]> + AsMut<[u32]>> Lanes<W> {
     }
 
     /// Makes one tick of a busy task. If the tick takes a free slot, it is the first one from `hint` (below the number
-    /// of slots) upward, going round. 0 always works; a hint just past the slots in use shortens the search a little.
+    /// of slots) upward, going round. 0 always works; the slot after the one last taken shortens the search, and
+    /// docs/USE.md says how a caller keeps it.
     ///
     /// ```
     /// use lane::{Answer, Lanes, Operation, Side, Tag};

@@ -75,7 +75,7 @@
 //!
 //! Different tables may be used by different threads, and a shared `&Lane` may be read by several ([`ffi::begin_record`]
 //! reads a table too). Calls that tick take
-//! under 5.7 kB of stack, those with an airline list under 1.7 kB, the others under 0.8 kB; a [`Page`] is 4,860 bytes.
+//! under 3.7 kB of stack, the others under 0.8 kB; a [`Page`] is 4,860 bytes.
 //! The library is for x86-64.
 //!
 //! # What a caller can count on

@@ -2,6 +2,10 @@ pub mod Forms
 pub mod Lists
 pub mod Accepted
 pub mod FirstForm
+pub mod Words
 pub mod Marks
+pub mod Airline
+pub mod Closing
+pub mod Packed
 pub mod Examples
 pub mod Wrong

@@ -150,7 +150,8 @@ sameEnd Right Right = true
 abbrev agreesTwice : Reader
 agreesTwice =
     judging (λ forms.
-    judgedBy (λ code end earlier. named code earlier && not (sameEnd end (endFor code earlier end))) faultyThere 1 [] forms)
+    judgedBy (λ code end earlier. named code earlier && not (sameEnd end (endFor code earlier end))) faultyThere 1 []
+    forms)
 
 -- ---- 29: a closing line with a line after it is named at that line, or ends the list.
 abbrev namesNext : Reader

@@ -59,11 +59,11 @@ fn value(digit: u8) -> usize
     requires { ⌜ isDigit digit ≡ true ⌝ }
     ensures { λ r. ⌜ (r ≡ digit - zeroDigit) × (r ≤ 9) ⌝ }
 {
-    (digit - b'0') as usize
+    digit as usize - b'0' as usize
 }
 
 // The number of the three digits.
-fn code_in(text: &[u8]) -> usize
+pub fn code_in(text: &[u8]) -> usize
     requires { ⌜ threeDigits (now text) ≡ true ⌝ }
     ensures { λ r. ⌜ r ≡ codeIn (now (text .entry)) ⌝ }
 {

@@ -34,9 +34,9 @@ use Rattle.machine.specs.Results.{changedOf}
 use Rattle.table_record.specs.declared.Task as Tasks
 use Rattle.table_record.specs.Coded.{structOf, recordOf, codedTask, taskMeant}
 use Rattle.answers.specs.Refusals.{numberOf}
-use Rattle.answers.proofs.Laws.Refusals.{due, NoneAt0, none-due, decided, both-pass}
+use Rattle.answers.proofs.Laws.Refusals.{refusal-due, NoneAt0, none-due, unless-decided, both-pass}
 use Rattle.table_layout.proofs.Laws.Views.{task-read}
-use Rattle.table_shape.proofs.Laws.PassedTable.{refused}
+use Rattle.table_shape.proofs.Laws.PassedTable.{table-refused}
 use Rattle.call_begin.specs.OwnRecord.{WithOwn}
 use Rattle.call_begin.specs.Places.{placeRefusal, Placed}
 use Rattle.call_begin.proofs.SeenTests.{twice-refused, twice-passed}
@@ -83,7 +83,8 @@ module _ (ws : List ℕ) (k op side : ℕ) (argument : Stored) where
         (is-number : n ≡ numberOf (twiceRefusal ws (operationOf op) (number argument) none)) where
       pub call-twice : n ≢ 0 → n ≡ numberOf (callRefusal ws k op side argument)
       call-twice h =
-          let twice = twice-refused ws (number argument) (operationOf op) (unless (isIdle (task ws k .operation)) 8 none)
+          let twice = twice-refused ws (number argument) (operationOf op)
+          (unless (isIdle (task ws k .operation)) 8 none)
           is-number h in
           rw (call, is-argument, twice)
 
@@ -105,7 +106,8 @@ module _ (ws : List ℕ) (k op side : ℕ) (argument : Stored) where
       (λ e.
       let passed = twice-passed ws (number argument) (operationOf op) (unless (isIdle (task ws k .operation)) 8 none)
       (unless (isIdle (task ws k .operation)) 8 none) e in
-      passed ∙ none-due (isIdle (task ws k .operation)) (λ e. absurd (omega (arith, e))) (λ _. refl) (ap numberOf (sym passed) ∙ e)))
+      passed ∙ none-due (isIdle (task ws k .operation)) (λ e. absurd (omega (arith, e))) (λ _. refl)
+      (ap numberOf (sym passed) ∙ e)))
 
   module _ {n : ℕ} (is-number : n ≡ numberOf (callRefusal ws k op side argument)) where
     none-refused : n ≡ 0 → callRefusal ws k op side argument ≡ none
@@ -127,7 +129,7 @@ module _ (ws : List ℕ) (k op side : ℕ) (argument : Stored) where
 module _ (ws : List ℕ) (k l op side : ℕ) (argument : Stored) where
   pub refused-by-table :
       {n : ℕ} → n ≡ numberOf (tableRefusal ws none) → n ≢ 0 → beginRefusal ws k l op side argument ≡ some n
-  refused-by-table is-number h = refused ws is-number h _
+  refused-by-table is-number h = table-refused ws is-number h _
 
   -- ---- The others, of a table that passes.
   module _ (P : WellFormed ws) where
@@ -135,7 +137,7 @@ module _ (ws : List ℕ) (k l op side : ℕ) (argument : Stored) where
         {n : ℕ} → n ≡ numberOf (placeRefusal ws k l) → n ≢ 0 → beginRefusal ws k l op side argument ≡ some n
     refused-by-place is-number h =
         rw (P .length-passes, P .shape-passes)
-        (decided (ltb l (laneCount ws)) (ltb k (taskCount ws)) 26 5 (callRefusal ws k op side argument)
+        (unless-decided (ltb l (laneCount ws)) (ltb k (taskCount ws)) 26 5 (callRefusal ws k op side argument)
         (λ e. h (is-number ∙ e))
         ∙ ap some (sym is-number))
 
@@ -148,7 +150,8 @@ module _ (ws : List ℕ) (k l op side : ℕ) (argument : Stored) where
 
       pub refused-by-call : n ≢ 0 → beginRefusal ws k l op side argument ≡ some n
       refused-by-call h =
-          rw (P .length-passes, P .shape-passes, of-lane, of-task) (due (callRefusal ws k op side argument) is-number h)
+          rw (P .length-passes, P .shape-passes, of-lane, of-task)
+          (refusal-due (callRefusal ws k op side argument) is-number h)
 
       pub not-refused : n ≡ 0 → beginRefusal ws k l op side argument ≡ none
       not-refused e =
@@ -179,7 +182,8 @@ place-passed ws k l is-number e =
 
 -- ---- The record that stands in the table stands for itself.
 pub own-in-place :
-    (ws : List ℕ) (k : ℕ) (own : Tasks.Task) → k < taskCount ws → own ≡ structOf (recordWords ws k) → WithOwn ws k own ws
+    (ws : List ℕ) (k : ℕ) (own : Tasks.Task) → k < taskCount ws → own ≡ structOf (recordWords ws k)
+    → WithOwn ws k own ws
 own-in-place ws k own is-task e =
     record {
       lanes = refl;

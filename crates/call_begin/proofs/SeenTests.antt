@@ -1,6 +1,6 @@
 -- The tests of refusals 11 and 16: busy pushes, what the walk finds, and the number that a push is refused with.
 use mathlib.Core.Path.{_≡_, refl, sym, ap, _∙_}
-use mathlib.Core.Bool.{Bool, true, false, not, _&&_, _||_}
+use mathlib.Core.Bool.{Bool, true, false, not, _||_}
 use mathlib.Core.Logic.{_≢_, _⊎_, inl, inr}
 use mathlib.Core.List.{List, [], _∷_, _++_}
 use mathlib.Core.Option.{Option, some, none, Option·map, bind}
@@ -34,7 +34,7 @@ use Rattle.call_begin.specs.OwnRecord.{isPushOf}
 use Rattle.call_begin.specs.Seen.{twiceSeen, standing, firstOf}
 
 -- ---- The number of push.
-pub push-number : (n : ℕ) → n ≡ 1 → operationOf n ≡ push
+push-number : (n : ℕ) → n ≡ 1 → operationOf n ≡ push
 unfolding ℕ-discrete
 push-number n e = rw e refl
 
@@ -190,8 +190,8 @@ module _ (ws : List ℕ) (n : ℕ) where
         ≡ numberOf (twiceRefusal ws (operationOf operation) n none)
     twice-push e = rw (push-number operation e)
 
-  -- ---- By its number the refusal is known, and that there is none. Each of these tests leaves all to the tests after it,
-  -- or refuses by a number that is not 0.
+  -- ---- By its number the refusal is known, and that there is none. Each of these tests leaves all to the tests after
+  -- it, or refuses by a number that is not 0.
   abbrev Test : (Option ℕ → Option ℕ) → Type 0
   Test f = ((others : Option ℕ) → f others ≡ others) ⊎ ((m : ℕ) × (m ≢ 0) × ((others : Option ℕ) → f others ≡ some m))
 
@@ -219,7 +219,8 @@ module _ (ws : List ℕ) (n : ℕ) where
         go (inl passes) = absurd (h (is-number ∙ ap numberOf (passes none)))
         go (inr (m, _, refuses)) = refuses others ∙ ap some (sym (is-number ∙ ap numberOf (refuses none)))
 
-    pub twice-passed : (later : Option ℕ) → numberOf (twiceRefusal ws op n later) ≡ 0 → twiceRefusal ws op n others ≡ others
+    pub twice-passed : (later : Option ℕ) → numberOf (twiceRefusal ws op n later) ≡ 0 → twiceRefusal ws op n others
+        ≡ others
     twice-passed later e = go (twice-test op)
       where
         go : Test (twiceRefusal ws op n) → twiceRefusal ws op n others ≡ others

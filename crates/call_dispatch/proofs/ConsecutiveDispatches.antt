@@ -8,7 +8,6 @@ use Prim.Native.Nat.{ℕ, zero, suc, _<_}
 use Rattle.machine.specs.declared.Answer.the-variants.{Going, Refused}
 use Rattle.machine.specs.declared.Dispatch.{Dispatch}
 use Rattle.machine.specs.declared.Dispatch.the-variants.{Answered}
-use Rattle.machine.specs.Table.{nodeCount}
 use Rattle.machine.specs.Answers.{dispatchGoesOn}
 use Rattle.machine.specs.Calls.{dispatchRefusal, Dispatched, dispatchOn, dispatch, dispatches}
 use Rattle.machine.specs.Demand3.{dispatch-call}
@@ -17,7 +16,7 @@ use Rattle.machine.proofs.Words.DispatchLaws.{others-follow, none-follows}
 use Rattle.machine.proofs.Shape.ShapeKept.{dispatch-same-sizes, call-accepted}
 use Rattle.answers.specs.Refusals.{numberOf}
 use Rattle.call_dispatch.proofs.DispatchRefusals.{
-  passes,
+  dispatch-passes,
   dispatch-refused,
   dispatch-on,
   table-passed,
@@ -35,7 +34,7 @@ module _ (ws : List ℕ) (h : ℕ) (passed : dispatchRefusal ws h ≡ none) {d :
       let A = table-passed ws h passed in
       let same-nodes = ap (λ z. z .nodeCount) (dispatch-same-sizes ws A h) in
       subst (λ (r : Dispatched). dispatchRefusal (r .words) h ≡ none) (sym is-dispatch)
-      (passes (dispatch ws h .words) (call-accepted ws A (dispatch-call h)) h
+      (dispatch-passes (dispatch ws h .words) (call-accepted ws A (dispatch-call h)) h
       (subst (λ (n : ℕ). h < n) (sym same-nodes) (hint-passed ws h passed)))
 
   same-going : dispatchGoesOn (dispatch ws h .answer) ≡ dispatchGoesOn d

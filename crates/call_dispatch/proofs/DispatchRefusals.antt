@@ -15,13 +15,13 @@ use Rattle.machine.specs.Calls.{unless, tableRefusal, dispatchRefusal, dispatch
 use Rattle.machine.specs.Results.{dispatchedOf}
 use Rattle.machine.proofs.Basics.Tests.{test-passed, tests-left}
 use Rattle.answers.specs.Refusals.{numberOf}
-use Rattle.answers.proofs.Laws.Refusals.{due, none-due}
-use Rattle.table_shape.proofs.Laws.PassedTable.{refused}
+use Rattle.answers.proofs.Laws.Refusals.{refusal-due, none-due}
+use Rattle.table_shape.proofs.Laws.PassedTable.{table-refused}
 
 -- ---- The number, test by test.
 pub is-3-or-4 : (ws : List ℕ) {n : ℕ} → n ≡ numberOf (tableRefusal ws none) → n ≢ 0 → (h : ℕ)
     → n ≡ numberOf (dispatchRefusal ws h)
-is-3-or-4 ws is-number r h = sym (ap numberOf (refused ws is-number r (unless (ltb h (nodeCount ws)) 9 none)))
+is-3-or-4 ws is-number r h = sym (ap numberOf (table-refused ws is-number r (unless (ltb h (nodeCount ws)) 9 none)))
 
 module _ (ws : List ℕ) (P : WellFormed ws) (h : ℕ) where
   pub is-9 : nodeCount ws ≤ h → 9 ≡ numberOf (dispatchRefusal ws h)
@@ -30,15 +30,15 @@ module _ (ws : List ℕ) (P : WellFormed ws) (h : ℕ) where
   pub is-none : h < nodeCount ws → 0 ≡ numberOf (dispatchRefusal ws h)
   is-none b = rw (P .length-passes, P .shape-passes, lt-ltb h (nodeCount ws) b)
 
-  pub passes : h < nodeCount ws → dispatchRefusal ws h ≡ none
-  passes b = rw (P .length-passes, P .shape-passes, lt-ltb h (nodeCount ws) b)
+  pub dispatch-passes : h < nodeCount ws → dispatchRefusal ws h ≡ none
+  dispatch-passes b = rw (P .length-passes, P .shape-passes, lt-ltb h (nodeCount ws) b)
 
 -- ---- What the number says.
 module _ (ws : List ℕ) (h : ℕ) where
   pub dispatch-refused : {n : ℕ} → n ≡ numberOf (dispatchRefusal ws h) → n ≢ 0
       → dispatchedOf (Answered (Refused n)) ws ≡ dispatch ws h
   unfolding dispatch
-  dispatch-refused is-number r = rw (due (dispatchRefusal ws h) is-number r, dispatch)
+  dispatch-refused is-number r = rw (refusal-due (dispatchRefusal ws h) is-number r, dispatch)
 
   pub none-refused : {n : ℕ} → n ≡ numberOf (dispatchRefusal ws h) → n ≡ 0 → dispatchRefusal ws h ≡ none
   none-refused is-number e =

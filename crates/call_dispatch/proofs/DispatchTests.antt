@@ -4,28 +4,17 @@ use mathlib.Core.Bool.{Bool, true, false, not}
 use mathlib.Core.Logic.{_≢_}
 use mathlib.Core.List.{List}
 use mathlib.Core.Option.{Option, some, none}
-use Prim.Native.Nat.{ℕ, suc, _-_, _≤_, _<_}
+use Prim.Native.Nat.{ℕ, suc, _-_, _<_}
 use native.Mathlib.Omega.{arith}
 use Rattle.machine.specs.declared.Answer.{Answer}
-use Rattle.machine.specs.declared.Answer.the-variants.{Refused}
 use Rattle.machine.specs.declared.Dispatch.the-variants.{Idle, Answered}
 use Rattle.machine.specs.Round.{following, firstFrom}
 use Rattle.machine.specs.Operations.{operationOf}
 use Rattle.machine.specs.Tasks.{operationWord}
-use Rattle.machine.specs.Table.{nodeCount, taskCount, dispatched, recordWords, setDispatched}
+use Rattle.machine.specs.Table.{taskCount, dispatched, recordWords, setDispatched}
 use Rattle.machine.specs.Shape.{WellFormed}
 use Rattle.machine.specs.Answers.{refusalOf}
-use Rattle.machine.specs.Calls.{
-  isIdle,
-  isBusy,
-  Ticked,
-  tickOn,
-  isBusyTask,
-  nextBusy,
-  dispatchTo,
-  dispatchOn,
-  dispatch,
-}
+use Rattle.machine.specs.Calls.{isIdle, isBusy, Ticked, tickOn, isBusyTask, nextBusy, dispatchTo, dispatchOn}
 use Rattle.machine.specs.Results.{tickedOf, dispatchedOf}
 use Rattle.machine.proofs.Basics.Rounds.{following-below, first-below}
 use Rattle.machine.proofs.Words.TickLaws.{refused-unchanged}

@@ -31,7 +31,7 @@ fn next_busy(table: &[u32]) -> u32
     let mut k = header::dispatched(table);
     let mut left = n;
     while 0 < left {
-        k = following(n as usize, k as usize) as u32;
+        k = following(n, k);
         if is_busy(table, k) {
             return k;
         }

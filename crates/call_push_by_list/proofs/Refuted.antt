@@ -14,5 +14,7 @@ use Rattle.machine.specs.PushByList.{pushByList}
 use Rattle.call_push_by_list.specs.Wrong.{cases, AllRefuted}
 
 pub all-refuted : AllRefuted
-unfolding cases pushByList lastDigits numberFrom linesOf formOf named judged verdict endFor ℕ-discrete decLt decode hat link value task allBelow sameWords nodeOk recordOk shapeOk times startNodes startWords begin isBegun laneFrom lane lanesBelow bind
+unfolding cases pushByList lastDigits numberFrom linesOf formOf named judged verdict endFor ℕ-discrete decLt decode hat
+    link value task allBelow sameWords nodeOk recordOk shapeOk times startNodes startWords begin isBegun laneFrom lane
+    lanesBelow bind
 all-refuted = (refl, refl)

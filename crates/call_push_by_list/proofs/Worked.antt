@@ -15,9 +15,13 @@ use Rattle.machine.specs.PushByList.{pushByList}
 use Rattle.call_push_by_list.specs.Examples.{Example, by, examples, Sided, sideAfter, sides}
 
 pub worked : map (λ (e : Example). by (e .given) .answer) examples ≡ map (λ (e : Example). e .answers) examples
-unfolding examples pushByList lastDigits numberFrom linesOf formOf named judged verdict endFor ℕ-discrete decLt decode hat link value task allBelow sameWords nodeOk recordOk shapeOk times startNodes startWords begin isBegun laneFrom lane lanesBelow bind
+unfolding examples pushByList lastDigits numberFrom linesOf formOf named judged verdict endFor ℕ-discrete decLt decode
+    hat link value task allBelow sameWords nodeOk recordOk shapeOk times startNodes startWords begin isBegun laneFrom
+    lane lanesBelow bind
 worked = refl
 
 pub worked-sides : map sideAfter sides ≡ map (λ (s : Sided). s .side) sides
-unfolding sides pushByList lastDigits numberFrom linesOf formOf named judged verdict endFor ℕ-discrete decLt decode hat link value task allBelow sameWords nodeOk recordOk shapeOk times startNodes startWords begin isBegun laneFrom lane lanesBelow bind
+unfolding sides pushByList lastDigits numberFrom linesOf formOf named judged verdict endFor ℕ-discrete decLt decode hat
+    link value task allBelow sameWords nodeOk recordOk shapeOk times startNodes startWords begin isBegun laneFrom lane
+    lanesBelow bind
 worked-sides = refl

@@ -10,8 +10,8 @@ use Rattle.airline_list.specs.Accepted.{Reordered}
 use Rattle.machine.specs.declared.ByList.the-variants.{Replied, Faulty}
 use Rattle.machine.specs.PushByList.{repliedOf, pushAt, pushByList}
 
--- 02: "is otherwise the same push": with an accepted list it is the begin of a push at the end that is named for the tag's
--- code, or at the closing line's end.
+-- 02: "is otherwise the same push": with an accepted list it is the begin of a push at the end that is named for the
+-- tag's code, or at the closing line's end.
 abbrev pub IsThatBegin : Type 0
 IsThatBegin =
     (list : List ℕ) (es : List Entry) (closing : End)

@@ -24,7 +24,8 @@ pub record Push : Type 0 where
 abbrev pub by : Push → PushedByList
 by p = pushByList (p .list) (p .table) (p .task) (p .lane) (p .argument)
 
--- ---- What is given: a list, of which code 125 is loaded at the left, a list with a fault, and a fresh table of one task.
+-- ---- What is given: a list, of which code 125 is loaded at the left, a list with a fault, and a fresh table of one
+-- task.
 abbrev pub good : List ℕ
 good = bytes "(airline (code 125) left)\n(others right)\n"
 

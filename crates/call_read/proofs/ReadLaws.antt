@@ -18,7 +18,7 @@ use Rattle.machine.specs.Results.{readOf}
 use Rattle.machine.proofs.Basics.Contradiction.{clash}
 use Rattle.answers.specs.Refusals.{numberOf}
 use Rattle.table_layout.proofs.Laws.Fronts.{front-grows, rest-stays}
-use Rattle.table_shape.proofs.Laws.PassedTable.{refused, table-passed}
+use Rattle.table_shape.proofs.Laws.PassedTable.{table-refused, table-passed}
 use Rattle.lane_walk.specs.declared.Walk.the-variants.{Bags, NoEnd}
 use Rattle.lane_walk.specs.Walks.{countOf, walkOf}
 use Rattle.call_read.specs.Laid.{laid}
@@ -52,7 +52,7 @@ write-ends i (some (b ∷ bags)) out h = clash (cc)
 module _ (ws : List ℕ) {n : ℕ} (is-number : n ≡ numberOf (tableRefusal ws none)) (l : ℕ) (out : List ℕ) where
   pub read-refused : n ≢ 0 → readOf (Refused n) out ≡ read ws l out
   unfolding read
-  read-refused h = rw (refused ws is-number h (unless (ltb l (laneCount ws)) 26 none), read)
+  read-refused h = rw (table-refused ws is-number h (unless (ltb l (laneCount ws)) 26 none), read)
 
   pub read-no-lane : n ≡ 0 → laneCount ws ≤ l → readOf (Refused 26) out ≡ read ws l out
   unfolding read

@@ -24,7 +24,7 @@ use Rattle.machine.specs.Calls.{
 }
 use Rattle.machine.proofs.Basics.Tests.{and-left, and-right}
 use Rattle.answers.specs.Refusals.{numberOf}
-use Rattle.table_shape.proofs.Laws.PassedTable.{refused}
+use Rattle.table_shape.proofs.Laws.PassedTable.{table-refused}
 use Rattle.call_tick.specs.Runs.{MayTake}
 
 -- ---- 3 and 4, and 13.
@@ -53,7 +53,7 @@ all-pass false b c e = absurd (omega (arith, e))
 module _ (ws list : List ℕ) where
   pub list-3-4 :
       {n : ℕ} → n ≡ numberOf (tableRefusal ws none) → n ≢ 0 → n ≡ numberOf (listRefusal ws list none)
-  list-3-4 is-number h = sym (ap numberOf (refused ws is-number h _))
+  list-3-4 is-number h = sym (ap numberOf (table-refused ws is-number h _))
 
   module _ (P : WellFormed ws) where
     pub list-13-odd : length list % 2 ≢ 0 → 13 ≡ numberOf (listRefusal ws list none)

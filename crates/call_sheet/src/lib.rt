@@ -1,5 +1,5 @@
-// The call sheet (2026-09), on any slices: the lane is walked once, to its end, and then a page of its tags is written. A
-// refusal changes no lent byte.
+// The call sheet (2026-09), on any slices: the lane is walked once, to its end, and then a page of its tags is written.
+// A refusal changes no lent byte.
 mod pages;
 
 use lane_walk::Located;

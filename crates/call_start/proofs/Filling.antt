@@ -93,7 +93,7 @@ module _ (S T g lanes : ℕ) (t₀ t₁ ns t₂ : List ℕ) (m : ℕ) (long : Ho
   abbrev unused : List ℕ
   unused = times (S - 2 * lanes) (nodeWords noNode noNode never)
 
-  pub started :
+  pub table-started :
       {from : ℕ}
       → from ≡ nodeAt 0
       → t₁ ≡ sets t₀ 0 head
@@ -102,7 +102,7 @@ module _ (S T g lanes : ℕ) (t₀ t₁ ns t₂ : List ℕ) (m : ℕ) (long : Ho
       → t₂ ≡ take (nodeAt S) (putMid from m t₁ ns) ++ times T (wordsOf fresh)
       → t₂ ≡ startWords S T g lanes
   unfolding startWords
-  started {from} at e₁ enough e e₂ =
+  table-started {from} at e₁ enough e e₂ =
       let l₁ : length t₁ ≡ length t₀ = rw e₁ (length-sets t₀ 0 head) in
       let header : take (nodeAt 0) t₁ ≡ head = rw e₁ (front-grows t₀ head 0 (omega arith)) in
       let header-long : length (take (nodeAt 0) t₁) ≡ nodeAt 0 = length-take-le (nodeAt 0) t₁ (omega arith) in

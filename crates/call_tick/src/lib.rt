@@ -21,8 +21,8 @@ pub fn tick(table: &mut [u32], task: u32, hint: u32) -> Answer
     tick_on(table, task, hint)
 }
 
-// Ticks of one task until an answer, a refusal, or so many; the last outcome. A tick keeps what the tests of refusals 3 and
-// 4 found, so they are made once; and not at all where no tick is asked for.
+// Ticks of one task until an answer, a refusal, or so many; the last outcome. A tick keeps what the tests of refusals 3
+// and 4 found, so they are made once; and not at all where no tick is asked for.
 pub fn ticks(table: &mut [u32], task: u32, hint: u32, times: u32) -> Answer
     ensures { λ r. ⌜ tickedOf r (now (table .exit)) ≡ ticks times (now (table .entry)) task hint ⌝ }
 {

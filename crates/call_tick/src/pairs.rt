@@ -1,6 +1,6 @@
-// The ticks of a list of (task, hint) pairs on a table that has passed the tests of refusals 3 and 4. All ticks are made in
-// this one loop, a single tick as a list of one pair: the compiler then sets the whole tick into the loop, and no call stands
-// between two ticks of a run.
+// The ticks of a list of (task, hint) pairs on a table that has passed the tests of refusals 3 and 4. All ticks are
+// made in this one loop, a single tick as a list of one pair: the compiler then sets the whole tick into the loop, and
+// no call stands between two ticks of a run.
 use answers::ANSWER_WORDS;
 use answers::answer_of;
 use answers::is_refusal;

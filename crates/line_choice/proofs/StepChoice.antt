@@ -53,7 +53,7 @@ left-over T (s ∷ sts) st n b h =
     left-over (T × (n ≢ stepNumber s)) sts st n b (not-first n s (sts ++ (st ∷ [])) h ne)
 
 -- The step of a number that is a step's.
-pub step-at : {n : ℕ} (st : Step) → n ≡ stepNumber st → st ≡ stepOf n
+step-at : {n : ℕ} (st : Step) → n ≡ stepNumber st → st ≡ stepOf n
 step-at st e = sym (ap stepOf e ∙ step-of-number st)
 
 pub line-at :
@@ -66,28 +66,28 @@ abbrev pub every : (ℕ → Bool) → List Step → Bool
 every p [] = true
 every p (st ∷ sts) = p (stepNumber st) && every p sts
 
-pub each : (p : ℕ → Bool) (sts : List Step) (n : ℕ) → every p sts ≡ true → isStepIn sts n ≡ true → p n ≡ true
+pub every-at : (p : ℕ → Bool) (sts : List Step) (n : ℕ) → every p sts ≡ true → isStepIn sts n ≡ true → p n ≡ true
 unfolding isStepIn
-each p [] n h i = clash (cc)
-each p (st ∷ sts) n h i =
+every-at p [] n h i = clash (cc)
+every-at p (st ∷ sts) n h i =
     elim (or-either (eqb n (stepNumber st)) (isStepIn sts n) i) [
       | inl e ↦ ap p (eqb-true n (stepNumber st) e) ∙ and-left (p (stepNumber st)) (every p sts) h
-      | inr e ↦ each p sts n (and-right (p (stepNumber st)) (every p sts) h) e
+      | inr e ↦ every-at p sts n (and-right (p (stepNumber st)) (every p sts) h) e
     ]
 
 -- A task that is ready in a group is ready in another that has its step.
-pub regrouped : {group other : List Step} {ns : List ℕ} {t : Tasks.Task}
+pub ready-regrouped : {group other : List Step} {ns : List ℕ} {t : Tasks.Task}
     → ReadyIn group ns t
     → isStepIn other (t .step) ≡ true
     → ReadyIn other ns t
-regrouped R i = record { ready = R .ready; in-group = i; bag-at-51 = R .bag-at-51 }
+ready-regrouped R i = record { ready = R .ready; in-group = i; bag-at-51 = R .bag-at-51 }
 
 -- Between lo and hi only steps of the group stand, and steps that are left out.
 abbrev between : (lo hi : ℕ) → (out group : List Step) → ℕ → Bool
 between lo hi out group n = not (leb lo n && leb n hi) || (isStepIn out n || isStepIn group n)
 
 -- A ready task whose step is between lo and hi, and not left out, is ready in the group there.
-pub within :
+pub ready-within :
     (out group : List Step) (lo hi : ℕ) {ns : List ℕ} {t : Tasks.Task}
     → every (between lo hi out group) otherLines ≡ true
     → ReadyIn otherLines ns t
@@ -95,8 +95,8 @@ pub within :
     → t .step ≤ hi
     → isStepIn out (t .step) ≡ false
     → ReadyIn group ns t
-within out group lo hi {ns} {t} all R l h f =
-    regrouped R (narrowed (each (between lo hi out group) otherLines (t .step) all (R .in-group)))
+ready-within out group lo hi {ns} {t} all R l h f =
+    ready-regrouped R (narrowed (every-at (between lo hi out group) otherLines (t .step) all (R .in-group)))
   where
     narrowed : between lo hi out group (t .step) ≡ true → isStepIn group (t .step) ≡ true
     narrowed e = rw (le-leb lo (t .step) l, le-leb (t .step) hi h, f) at e
@@ -114,14 +114,14 @@ is-key (st ∷ s ∷ sts) n (inl e) = rw (eq-eqb n (stepNumber st) e)
 is-key (st ∷ s ∷ sts) n (inr o) = or-right (eqb n (stepNumber st)) (isStepIn (s ∷ sts) n) (is-key (s ∷ sts) n o)
 
 -- A ready task whose step is one of them is ready in the arm's group.
-pub keyed :
+pub ready-keyed :
     (keys group : List Step) {from : List Step} {ns : List ℕ} {t : Tasks.Task}
     → every (isStepIn group) keys ≡ true
     → ReadyIn from ns t
     → OneOf (numbers keys) (t .step)
     → ReadyIn group ns t
-keyed keys group {from} {ns} {t} all R o =
-    regrouped R (each (isStepIn group) keys (t .step) all (is-key keys (t .step) o))
+ready-keyed keys group {from} {ns} {t} all R o =
+    ready-regrouped R (every-at (isStepIn group) keys (t .step) all (is-key keys (t .step) o))
 
 pub no-key : (keys : List Step) (n : ℕ) → (OneOf (numbers keys) n → ⊥) → isStepIn keys n ≡ false
 unfolding isStepIn
@@ -131,12 +131,12 @@ no-key (st ∷ s ∷ sts) n f =
     rw (ne-eqb n (stepNumber st) (λ e. f (inl e))) (no-key (s ∷ sts) n (λ o. f (inr o)))
 
 -- There is no task that is ready in a group without its step.
-pub nowhere : {group : List Step} {ns : List ℕ} {t : Tasks.Task} {A : Type 0}
+pub ready-nowhere : {group : List Step} {ns : List ℕ} {t : Tasks.Task} {A : Type 0}
     → ReadyIn group ns t
     → isStepIn group (t .step) ≡ false
     → A
-nowhere R f = let i = R .in-group in clash (cc)
+ready-nowhere R f = let i = R .in-group in clash (cc)
 
 -- The last line is 82.
 pub step-bound : (n : ℕ) → isStepIn otherLines n ≡ true → n ≤ 82
-step-bound n i = leb-true n 82 (each (λ m. leb m 82) otherLines n refl i)
+step-bound n i = leb-true n 82 (every-at (λ m. leb m 82) otherLines n refl i)

@@ -1,5 +1,5 @@
-// The line of the figure that a tick makes, by the step number at which its task stands: all lines but 28 and 31, which take
-// a node.
+// The line of the figure that a tick makes, by the step number at which its task stands: all lines but 28 and 31, which
+// take a node.
 use line_parts::ends::Done;
 use table_record::Task;
 ghost use mathlib.Core.Path.{_≡_};
@@ -109,8 +109,8 @@ fn break_line(ns: &mut [u32], hat: u32, t: Task) -> Done
     }
 }
 
-// 01: the tick decides by a match on the step number, which is the figure's line number, with ranges such as 67 to 70. The numbers
-// of an arm are those of its lines, so that the compiler makes one table of this match and the ones above.
+// 01: the tick decides by a match on the step number, which is the figure's line number, with ranges such as 67 to 70.
+// The numbers of an arm are those of its lines, so that the compiler makes one table of this match and the ones above.
 pub fn line(ns: &mut [u32], hat: u32, t: Task, goal: u32) -> Done
     requires { ⌜ ReadyIn otherLines (now ns) t ⌝ }
     ensures { λ r. ⌜ ((f : ℕ) → outcomeOf (now (ns .exit)) r

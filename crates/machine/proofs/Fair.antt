@@ -1,4 +1,5 @@
--- Request 2026-07: a busy task gets its tick within T dispatches. Each one that ticks another task comes nearer to it.
+-- Request 2026-07: a busy task gets its tick within T dispatches. Each one that ticks another task call-comes nearer to
+-- it.
 use mathlib.Core.Path.{_≡_, refl, sym, ap, _∙_, subst}
 use mathlib.Core.Logic.{_≢_, inl, inr}
 use mathlib.Core.Bool.{Bool, true, false}
@@ -114,10 +115,10 @@ use Rattle.machine.proofs.Words.Kinds.{
   is-lent-begun,
   are-ticked,
   are-dispatched,
-  comes,
+  call-comes,
 }
 use Rattle.machine.proofs.Shape.ShapeLaws.{WellShaped, well-sized, well-shaped}
-use Rattle.machine.proofs.Shape.TickKeeps.{Kept, unchanged, busy-is-task, tick-kept}
+use Rattle.machine.proofs.Shape.TickKeeps.{Kept, words-unchanged, busy-is-task, tick-kept}
 use Rattle.machine.proofs.Shape.DispatchCases.{by-dispatch}
 use Rattle.machine.proofs.Shape.ShapeKept.{
   is-accepted,
@@ -152,7 +153,7 @@ module _ (ws : List ℕ) (A : WellFormed ws) where
 
   -- They touch neither T nor the task last dispatched; an accepted start does, and leaves no task busy.
   leaves-dispatched : (c : Call) → LeavesDispatched (asked c) ws (after c ws)
-  leaves-dispatched c = go (comes c ws)
+  leaves-dispatched c = go (call-comes c ws)
     where
       alone : (a : Asked) → LeavesDispatched a ws ws
       alone (a-start S T g L) = tt
@@ -181,20 +182,20 @@ module _ (ws : List ℕ) (A : WellFormed ws) where
     start-waits S T g L = go (startRefusal ws S T g L) refl
       where
         go : (r : Option ℕ) → startRefusal ws S T g L ≡ r → SameWait (changed r ws (startWords S T g L) .words)
-        go (some n) e = by-kept (unchanged ws Z W)
+        go (some n) e = by-kept (words-unchanged ws Z W)
         go none e = λ busy.
             let Y = start-sized S T g L (search test-passed) (search (test-passed, tests-left)) in
             let at-rest = task-start S T g L (Y .lanes-fit) (Y .most-lanes) k in
             clash (cc (ap (λ (t : Task). isBusy (t .operation)) at-rest))
 
     other-waits : (c : Call) → dispatchesOf c ≡ none → SameWait (after c ws)
-    other-waits c = go (comes c ws)
+    other-waits c = go (call-comes c ws)
       where
         go : {a : Asked} {vs : List ℕ} {d : Did} → Comes ws a vs d → dispatchesIn a ≡ none → SameWait vs
-        go (left-alone a e) unrefused = by-kept (unchanged ws Z W)
+        go (left-alone a e) unrefused = by-kept (words-unchanged ws Z W)
         go (is-started S T g L e) unrefused = start-waits S T g L
         go (is-begun j l op side argument e) unrefused = by-kept (begin-kept ws j l op side argument Z W)
-        go (is-lent-begun lent whole j l op side argument e) unrefused = by-kept (unchanged ws Z W)
+        go (is-lent-begun lent whole j l op side argument e) unrefused = by-kept (words-unchanged ws Z W)
         go (are-ticked i list ts) unrefused = by-kept (list-kept i list ws Z W)
         go (are-dispatched h n ts) unrefused = clash (cc)
 
@@ -325,10 +326,12 @@ row-serves (suc n) ws A k busy h unrefused =
         → RowServed (dispatch ws h .words) k h n)
         → RowServed ws k h (suc n)
     go false e others =
-        is-last e (first (ap (λ (d : Dispatched). dispatchRefusalOf (d .answer)) (sym (none-follows n ws h e)) ∙ unrefused))
+        is-last e (first (ap (λ (d : Dispatched). dispatchRefusalOf (d .answer)) (sym (none-follows n ws h e))
+        ∙ unrefused))
     go true e others =
         goes-on e
-        (λ b. others b (ap (λ (d : Dispatched). dispatchRefusalOf (d .answer)) (sym (others-follow n ws h e)) ∙ unrefused))
+        (λ b. others b (ap (λ (d : Dispatched). dispatchRefusalOf (d .answer)) (sym (others-follow n ws h e))
+        ∙ unrefused))
         (first (ap dispatchRefusalOf (going-dispatch (dispatch ws h .answer) e)))
 
 -- ---- Lists of calls.
@@ -336,7 +339,7 @@ row-serves (suc n) ws A k busy h unrefused =
 -- The table that dispatches leave.
 after-row : (c : Call) (d : Repeat) → dispatchesOf c ≡ some d → (ws : List ℕ)
     → after c ws ≡ dispatches (d .times) ws (d .hint) .words
-after-row c d e ws = go (comes c ws) e
+after-row c d e ws = go (call-comes c ws) e
   where
     go : {a : Asked} {vs : List ℕ} {done : Did} → Comes ws a vs done → dispatchesIn a ≡ some d
         → vs ≡ dispatches (d .times) ws (d .hint) .words
@@ -420,7 +423,8 @@ fair ws passes k calls B unrefused enough =
 
 -- ---- T - 1 dispatches are not enough.
 pub last-of-all : LastOfAll
-unfolding turns beginPops numbersFrom afterAll hat hatsFrom startNodes firstFrom dispatchTo dispatchOn dispatch ℕ-discrete decLt decLe
+unfolding turns beginPops numbersFrom afterAll hat hatsFrom startNodes firstFrom dispatchTo dispatchOn dispatch
+    ℕ-discrete decLt decLe
     Value-discrete decode stepIn stepOf isStepIn link value task allBelow sameWords nodeOk busyOk recordOk shapeOk
     heldFrom roots mark markAll visit visitFrom marked firstUnmarked allocate writeAll dcas act times startWords start
     begin effectOf applied tickOn tick

@@ -1,5 +1,5 @@
--- The answers' numbers: of start and begin, the words that a run writes for a tick, and the answer that such words stand
--- for.
+-- The answers' numbers: of start and begin, the words that a run writes for a tick, and the answer that such words
+-- stand for.
 use mathlib.Core.Bool.{Bool, true, false, cond}
 use mathlib.Core.List.{List, _∷_}
 use mathlib.Core.Option.{Option, some, none}
@@ -118,8 +118,8 @@ plainAnswerOf kind =
     if kind ≟ 6 then some No else
     none
 
--- The answer that three words of a run stand for, or nothing: a bag's are those of a tag, and where there is no tag both are
--- 0.
+-- The answer that three words of a run stand for, or nothing: a bag's are those of a tag, and where there is no tag
+-- both are 0.
 unfoldable pub answerOf : (kind digit low : ℕ) → Option Answer
 answerOf kind digit low =
     if kind ≟ 2 then cond (isTag digit low) (some (Bag (tagOf digit low))) none else

@@ -8,11 +8,10 @@ use lib.Dec.{eqb}
 use Rattle.machine.specs.declared.Answer.{Answer}
 use Rattle.machine.specs.declared.Answer.the-variants.{Pushed, Bag}
 use Rattle.machine.specs.declared.Reply.the-variants.{Accepted}
-use Rattle.machine.specs.Choice.{_≟_, if_then_else_}
 use Rattle.machine.specs.Operations.{Operation, push, pop, operationNumber}
 use Rattle.machine.specs.Answers.{kindOf, payloadOf, isGoing}
 use Rattle.machine.specs.Calls.{start}
-use Rattle.machine.specs.Row.{Note, nextNoted}
+use Rattle.machine.specs.Row.{Note, withNote, nextNoted}
 use Rattle.machine.specs.Demand3.{Call, given, after}
 use Rattle.machine.specs.Kinds.{Tick, of-task, of-next, Did, started, begun, lent-begun, ticked, did}
 
@@ -49,10 +48,6 @@ pub record History : Type 0 where
 -- An accepted start: no notes, and nothing is finished.
 abbrev pub noHistory : (T : ℕ) → History
 noHistory T = record { notes = λ k. none; tasks = T; dispatched = T - 1; finished = [] }
-
--- The notes, with that of task k replaced.
-abbrev pub withNote : (ℕ → Option Note) → ℕ → Option Note → ℕ → Option Note
-withNote notes k n = λ j. if j ≟ k then n else notes j
 
 -- What a note asks of task k is finished with an answer, and the task has no note.
 abbrev pub finish : History → ℕ → Option Note → Answer → History

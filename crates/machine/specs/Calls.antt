@@ -280,8 +280,8 @@ tick ws k h =
       | none ↦ tickOn ws k h
     ]
 
--- ---- Consecutive ticks: of one task, until one does not go on, or so many. The last outcome is given; "going" where no
--- tick was asked for.
+-- ---- Consecutive ticks: of one task, until one does not go on, or so many. The last outcome is given; "going" where
+-- no tick was asked for.
 unfoldable pub ticks : (times : ℕ) → List ℕ → (k hint : ℕ) → Ticked
 ticks zero ws k h = record { answer = Going; words = ws }
 ticks (suc n) ws k h =
@@ -324,8 +324,8 @@ dispatch ws h =
       | none ↦ dispatchOn ws h
     ]
 
--- ---- Consecutive dispatches: until one does not go on, or so many. The last outcome is given; "going" where no dispatch
--- was asked for.
+-- ---- Consecutive dispatches: until one does not go on, or so many. The last outcome is given; "going" where no
+-- dispatch was asked for.
 unfoldable pub dispatches : (times : ℕ) → List ℕ → (hint : ℕ) → Dispatched
 dispatches zero ws h = record { answer = Answered Going; words = ws }
 dispatches (suc n) ws h =

@@ -71,8 +71,8 @@ pub data Call : Type 0 where
   lent-begin-call :
       (lent : List ℕ) (whole : length lent ≡ recordLength) (k lane operation side : ℕ) (argument : Stored) → Call
 
--- What a call gives back: its answer, with a slice of its own as it leaves it. Of consecutive dispatches also how many went
--- on, which the tick count tells.
+-- What a call gives back: its answer, with a slice of its own as it leaves it. Of consecutive dispatches also how many
+-- went on, which the tick count tells.
 abbrev pub Given : Call → Type 0
 Given (start-call S T g lanes) = Reply
 Given (begin-call k l op side argument) = Reply
@@ -168,14 +168,15 @@ feedRead ρ l out (Count n) written =
 feedRead ρ l out (Reading-Refused n) written =
     cond (cond (ltb l (ρ .lanes)) (eqb n 12 && ltb (length out) (2 * length (ρ .bags l))) (eqb n 26)) (some ρ) none
 
--- 2026-09: a page of the row, or 26 exactly when there is no such lane, 20 and 21 by the page and the out slice alone; never
--- 3, 4 or 11. A refusal leaves the out slice.
+-- 2026-09: a page of the row, or 26 exactly when there is no such lane, 20 and 21 by the page and the out slice alone;
+-- never 3, 4 or 11. A refusal leaves the out slice.
 abbrev pub feedSheet : Row → (l page : ℕ) → List ℕ → Reply → List ℕ → Option Row
 feedSheet ρ l page out r written =
     let wanted = changed (unless (ltb l (ρ .lanes)) 26 (pageRefusal page out)) out (pageText (ρ .bags l) page) in
     cond (sameReply r (wanted .reply) && sameWords written (wanted .words)) (some ρ) none
 
--- 2026-13: a list's fault, exactly where it has one; or the begin of a push, at the end to which the list sends the tag.
+-- 2026-13: a list's fault, exactly where it has one; or the begin of a push, at the end to which the list sends the
+-- tag.
 abbrev pub feedByList : Row → Sent → (k lane : ℕ) → (argument : Stored) → ByList → Option Row
 feedByList ρ (To end) k l argument (Replied r) =
     feedBegin ρ k l (operationNumber push) (sideNumber (sideAt end)) argument r
@@ -184,9 +185,10 @@ feedByList ρ (NotSent number line) k l argument (Replied r) = none
 feedByList ρ (NotSent number line) k l argument (Faulty n at) =
     cond (eqb n number && eqb at line) (some ρ) none
 
--- 2026-14: 02: "a begin not copied leaves the row and its notes as they were". Accepted, the record is the begun one, of
--- numbers that are a call's; refused, it is as it was.
-abbrev pub feedLent : Row → (lent : List ℕ) → (k lane operation side : ℕ) → (argument : Stored) → Reply → List ℕ → Option Row
+-- 2026-14: 02: "a begin not copied leaves the row and its notes as they were". Accepted, the record is the begun one,
+-- of numbers that are a call's; refused, it is as it was.
+abbrev pub feedLent : Row → (lent : List ℕ) → (k lane operation side : ℕ) → (argument : Stored) → Reply → List ℕ
+    → Option Row
 feedLent ρ lent k l op side argument Accepted written =
     cond
     (isCall ρ k l op side argument

@@ -1,5 +1,5 @@
--- Demand 3 since 2026-10: what is known along a list of calls, takes and puts of snapshots and, since 2026-14, writes of a
--- panel; and what is claimed where a row is known. Of calls alone it is `Demand3.Demand3`.
+-- Demand 3 since 2026-10: what is known along a list of calls, takes and puts of snapshots and, since 2026-14, writes
+-- of a panel; and what is claimed where a row is known. Of calls alone it is `Demand3.Demand3`.
 use mathlib.Core.Path.{_≡_}
 use mathlib.Core.Bool.{Bool, true, false, cond, not, _&&_, _||_}
 use mathlib.Core.List.{List, [], _∷_}
@@ -18,8 +18,8 @@ use Rattle.machine.specs.Kinds.{Did, started, begun, lent-begun, ticked,
 use Rattle.machine.specs.Begun.{Begun}
 use Rattle.machine.specs.Twice.{OnceInTable, RowSince}
 
--- A call as before; a snapshot taken into a slice, or one put back; a panel's copy of words to a task's place in the table,
--- or anything else that it writes, which leaves these words there. Slices are by their contents, as in `Call`.
+-- A call as before; a snapshot taken into a slice, or one put back; a panel's copy of words to a task's place in the
+-- table, or anything else that it writes, which leaves these words there. Slices are by their contents, as in `Call`.
 pub data Event : Type 0 where
   call-event : Call → Event
   take-event : (out : List ℕ) → Event
@@ -56,16 +56,16 @@ pub record Kept : Type 0 where
   pub snapshot : List ℕ
   pub row : Row
 
--- 2026-14: a lent record that a begin has left begun, of a table that no call has written since: its task, its words, the
--- note of that begin; and whether no other lent record was copied in between.
+-- 2026-14: a lent record that a begin has left begun, of a table that no call has written since: its task, its words,
+-- the note of that begin; and whether no other lent record was copied in between.
 pub record Pending : Type 0 where
   pub task : ℕ
   pub words : List ℕ
   pub note : Note
   pub alone : Bool
 
--- The row, or none where demand 3 says nothing at present; the snapshots kept and the records pending, the latest first. No
--- snapshot is ever dropped.
+-- The row, or none where demand 3 says nothing at present; the snapshots kept and the records pending, the latest
+-- first. No snapshot is ever dropped.
 pub record Known : Type 0 where
   pub row : Option Row
   pub kept : List Kept
@@ -136,8 +136,8 @@ feedPut κ same ss (Reply-Refused n) = cond (refusalFits same (rowKept ss (κ .k
 
 -- ---- A panel's writes.
 
--- Which copies a claim outlasts: by whether no other lent record was copied since the begin, and by the note that the task
--- has till then.
+-- Which copies a claim outlasts: by whether no other lent record was copied since the begin, and by the note that the
+-- task has till then.
 abbrev pub Copies : Type 0
 Copies = (alone : Bool) → (before : Option Note) → Bool
 
@@ -164,15 +164,16 @@ notedBy outlasts p none = none
 notedBy outlasts p (some ρ) =
     cond (outlasts (p .alone) (ρ .notes (p .task))) (some (noted ρ (p .task) (some (p .note)))) none
 
--- 02: "The row explains the answers as before where the begin was accepted, it copies just those words to that task's place
--- and no other call touched the table in between." After any other write it says nothing until the next start or a snapshot
--- of the first kind.
+-- 02: "The row explains the answers as before where the begin was accepted, it copies just those words to that task's
+-- place and no other call touched the table in between." After any other write it says nothing until the next start or
+-- a snapshot of the first kind.
 abbrev pub feedCopy : Copies → Known → (k : ℕ) → (words : List ℕ) → Option Pending → Known
 feedCopy outlasts κ k words none = record { row = none; kept = κ .kept; pending = [] }
 feedCopy outlasts κ k words (some p) =
     record { row = notedBy outlasts p (κ .row); kept = κ .kept; pending = withCopied k words (κ .pending) }
 
--- ---- What is known afterwards, of a table of so many words; none at all where what is known does not give that answer.
+-- ---- What is known afterwards, of a table of so many words; none at all where what is known does not give that
+-- answer.
 abbrev pub feedEvent : Copies → (words : ℕ) → Known → (e : Event) → EventGiven e → Option Known
 feedEvent outlasts n κ (call-event c) r = feedCall (κ .row) (κ .kept) (κ .pending) c r
 feedEvent outlasts n κ (take-event out) r = feedTake κ (eqb (length out) n) (r .0) (r .1)
@@ -201,8 +202,8 @@ Along outlasts Claim (e ∷ es) ws κ =
 abbrev pub Always : Copies → (Claim : List ℕ → Row → Type 0) → Type 0
 Always outlasts Claim = (ws : List ℕ) (events : List Event) → Along outlasts Claim events ws nothingKnown
 
--- Demand 3: each lane in the table is its row, and so inside whatever call is made there. It outlasts every copy of a pending
--- record, also one that leaves a call off half way.
+-- Demand 3: each lane in the table is its row, and so inside whatever call is made there. It outlasts every copy of a
+-- pending record, also one that leaves a call off half way.
 abbrev pub LanesAreInside : List ℕ → Row → Type 0
 LanesAreInside ws ρ = LanesAre ws ρ × ((c : Call) → Within c ws ρ)
 
@@ -223,8 +224,8 @@ OnceWhereKnown = Always copiedAlone (λ ws ρ. OnceInTable ws)
 abbrev pub copiedOverIdle : Copies
 copiedOverIdle alone before = alone && not (hasNote before)
 
--- 02: "a row whose history ends where it was taken": where a row is known and copies were to idle places, a start and calls,
--- with no snapshot and no copy among them, lead to this very table, and the row is theirs.
+-- 02: "a row whose history ends where it was taken": where a row is known and copies were to idle places, a start and
+-- calls, with no snapshot and no copy among them, lead to this very table, and the row is theirs.
 abbrev pub HistoriesKnown : Type 0
 HistoriesKnown = Always copiedOverIdle RowSince
 

@@ -1,7 +1,7 @@
--- The calls by kind: what each asks for, by its arguments, and what it did, by its arguments and answers. What is said of
--- every call is said by these.
+-- The calls by kind: what each asks for, by its arguments, and what it did, by its arguments and answers. What is said
+-- of every call is said by these.
 use mathlib.Core.List.{List, [], _∷_}
-use mathlib.Core.Option.{Option, some, none}
+use mathlib.Core.Option.{some, none}
 use Prim.Native.Nat.{ℕ, zero, suc}
 use Rattle.machine.specs.declared.Answer.{Answer}
 use Rattle.machine.specs.declared.Answer.the-variants.{Going}
@@ -75,8 +75,8 @@ pub data Tick : Type 0 where
   of-task : (k : ℕ) → Answer → Tick
   of-next : Answer → Tick
 
--- It made a fresh table; it gave task k a call; it left a lent record begun, for task k, with these words; or it made ticks:
--- none where it was refused or only looked.
+-- It made a fresh table; it gave task k a call; it left a lent record begun, for task k, with these words; or it made
+-- ticks: none where it was refused or only looked.
 pub data Did : Type 0 where
   started : (T lanes : ℕ) → Did
   begun : (k : ℕ) → Note → Did

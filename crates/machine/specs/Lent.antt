@@ -1,5 +1,5 @@
--- Request 2026-14: a begin over a record that a panel lends. For every table, every record and all numbers, the answer and
--- every word of the record afterwards. The table is only read.
+-- Request 2026-14: a begin over a record that a panel lends. For every table, every record and all numbers, the answer
+-- and every word of the record afterwards. The table is only read.
 use mathlib.Core.List.{List}
 use Prim.Native.Nat.{ℕ}
 use Rattle.machine.specs.declared.Reply.{Reply}

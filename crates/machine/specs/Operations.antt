@@ -27,8 +27,8 @@ operationOf n =
     if n ≟ 3 then add else
     remove
 
--- 01: argument: push a bag number, pop 0, add 0 to 64, remove 0 to 1,023. Those of pop, add and remove have digit 0, since
--- their number is below the first that has another.
+-- 01: argument: push a bag number, pop 0, add 0 to 64, remove 0 to 1,023. Those of pop, add and remove have digit 0,
+-- since their number is below the first that has another.
 abbrev pub argumentOk : Operation → Stored → Bool
 argumentOk idle u = eqb (number u) 0
 argumentOk push u = bagOk u

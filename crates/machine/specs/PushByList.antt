@@ -1,4 +1,5 @@
--- A push by list (2026-13): for every text, every table and all numbers, the answer and every word of the table afterwards.
+-- A push by list (2026-13): for every text, every table and all numbers, the answer and every word of the table
+-- afterwards.
 use mathlib.Core.List.{List}
 use Prim.Native.Nat.{ℕ}
 use Rattle.machine.specs.declared.Stored.{Stored}
@@ -37,7 +38,7 @@ pushTo (To end) ws k l argument =
     let begun = pushAt end ws k l argument in repliedOf (Replied (begun .reply)) (begun .words)
 pushTo (NotSent number line) ws k l argument = repliedOf (Faulty number line) ws
 
--- 02: "A push by list begins at the end named for the tag's code, or at the closing line's end, and is otherwise the same
--- push." An argument that is no tag is sent by its digits too, and refused by the begin.
+-- 02: "A push by list begins at the end named for the tag's code, or at the closing line's end, and is otherwise the
+-- same push." An argument that is no tag is sent by its digits too, and refused by the begin.
 unfoldable pub pushByList : (list ws : List ℕ) (k lane : ℕ) (argument : Stored) → PushedByList
 pushByList list ws k l argument = pushTo (sent (verdict list) (number argument)) ws k l argument

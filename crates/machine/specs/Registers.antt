@@ -1,5 +1,6 @@
 -- Request 2026-06: which registers hold their nodes (01: slots) at which step: those that some path of steps from there
--- uses before setting them. That the table is exact, and the only one, is said and proved in the crate `machine_registers`.
+-- uses before setting them. That the table is exact, and the only one, is said and proved in the crate
+-- `machine_registers`.
 use mathlib.Core.Bool.{Bool, false, cond, _||_}
 use mathlib.Core.List.{List, [], _∷_}
 use Prim.Native.Nat.{ℕ}

@@ -43,13 +43,17 @@ abbrev pub emptyRow : (T lanes : ℕ) → Row
 emptyRow T lanes =
     record { lanes = lanes; bags = λ l. []; notes = λ k. none; tasks = T; dispatched = T - 1 }
 
+-- The notes, with that of task k replaced.
+abbrev pub withNote : (ℕ → Option Note) → ℕ → Option Note → ℕ → Option Note
+withNote notes k n = λ j. if j ≟ k then n else notes j
+
 -- With one thing set.
 abbrev pub noted : Row → ℕ → Option Note → Row
 noted ρ k n =
     record {
       lanes = ρ .lanes;
       bags = ρ .bags;
-      notes = λ j. if j ≟ k then n else ρ .notes j;
+      notes = withNote (ρ .notes) k n;
       tasks = ρ .tasks;
       dispatched = ρ .dispatched;
     }

@@ -92,8 +92,8 @@ decode u =
     if u .word ≟ encode (X right) .word then X right else
     Y right))
 
--- What 01's table of mirrors gave: LN with RN, LX with RX, LY with RY. (2026-02's sum is shown to give the same: `values`,
--- `Mirrors`.)
+-- What 01's table of mirrors gave: LN with RN, LX with RX, LY with RY. (2026-02's sum is shown to give the same:
+-- `values`, `Mirrors`.)
 abbrev pub mirror : Value → Value
 mirror never = never
 mirror (bag n) = bag n

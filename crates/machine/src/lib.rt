@@ -1,7 +1,8 @@
 // What the definitions and the code share by value: the words of a value, and the answers of the calls.
 
-// A value as the table holds it, in a node or in a record: V and, since 2026-04, the leading digit that belongs to it. The
-// argument of a call is held the same way. Only the definitions of values and the crates of the table's words name its words.
+// A value as the table holds it, in a node or in a record: V and, since 2026-04, the leading digit that belongs to it.
+// The argument of a call is held the same way. Only the definitions of values and the crates of the table's words name
+// its words.
 #[repr(C)]
 pub struct Stored {
     pub word: u32,
@@ -47,8 +48,8 @@ pub enum Reply {
     Refused(u32),
 }
 
-// What a push by list answers (2026-13): the reply of its begin; or the number of the list's fault, 27 to 29, and the faulty
-// line, from 1.
+// What a push by list answers (2026-13): the reply of its begin; or the number of the list's fault, 27 to 29, and the
+// faulty line, from 1.
 pub enum ByList {
     Replied(Reply),
     Faulty { number: u32, line: u32 },

@@ -44,7 +44,7 @@ count-same p q (suc n) h =
     (λ e. count-no p n (h n (omega arith) ∙ e) ∙ below ∙ sym (count-no q n e))
 
 -- One number more passes.
-pub count-one-more : (p : ℕ → Bool) (y n : ℕ) → y < n → p y ≡ false → count (update p y true) n ≡ suc (count p n)
+count-one-more : (p : ℕ → Bool) (y n : ℕ) → y < n → p y ≡ false → count (update p y true) n ≡ suc (count p n)
 count-one-more p y zero l h = absurd (omega arith)
 count-one-more p y (suc n) l h =
     elim (wrote? w n) [
@@ -250,5 +250,10 @@ total-at f c e ℓ (suc n) h least more =
       | inl q ↦
           let own : c + e ≤ f n = subst (λ (j : ℕ). c + e ≤ f j) q more in
           omega (arith, total-le (λ j. c) f n (λ j l. least j (omega arith)), total-const c n)
-      | inr ne ↦ omega (arith, total-at f c e ℓ n (omega arith) (λ j l. least j (omega arith)) more, least n (omega arith))
+      | inr ne ↦ omega (
+        arith,
+        total-at f c e ℓ n (omega arith) (λ j l. least j (omega arith)) more,
+        least n
+            (omega arith),
+      )
     ]

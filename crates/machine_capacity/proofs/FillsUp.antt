@@ -40,7 +40,7 @@ use Rattle.machine_capacity.proofs.Counting.{total-at}
 use Rattle.machine_capacity.proofs.Theorem.{no-leak}
 use Rattle.machine_capacity.proofs.Alone.Ends.{spur-by-hat, idle-end}
 use Rattle.machine_capacity.proofs.Alone.Outcomes as Outcomes
-use Rattle.machine_capacity.proofs.Alone.Outcomes.{Pushing, no-room, roomThen, pushing}
+use Rattle.machine_capacity.proofs.Alone.Outcomes.{Pushing, no-room, roomThen, push-outcome}
 use Rattle.machine_capacity.proofs.Alone.Theorem.{calls-alone, same-hints, comes-to-answer, free-after}
 use Rattle.machine_capacity.proofs.MostBags.{most-bags}
 use Rattle.machine_capacity.proofs.NewNumber.{new-number}
@@ -84,7 +84,8 @@ module _ {ws : List ℕ} (B : Begun ws) (idle-now : Idle ws) where
         left-idle = done .1;
         is-lane = here;
         by-room =
-            pushing s (P .bag) (growth ws) (countOf .free) (I .bags) (spareOf s I) (spurOf s I) (some-spare ℓ here s);
+            push-outcome s (P .bag) (growth ws) (countOf .free) (I .bags) (spareOf s I) (spurOf s I)
+            (some-spare ℓ here s);
       }
 
   -- "Full" says that there was no room, "pushed" that there was.

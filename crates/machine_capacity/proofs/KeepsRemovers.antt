@@ -70,13 +70,13 @@ pub far-plain : {s o : Side} → Opposite s o → {v : Value} → owner v ≡ of
 far-plain {s} {o} w h = record { not-marked = λ μ e. refute (cc (mark-owner μ o)) }
 
 -- What is marked after a plain value was written was marked before, and is another node.
-pub unmarked : {z : Side} {val val' : ℕ → Value} {x : ℕ} {v : Value}
+pub marked-elsewhere : {z : Side} {val val' : ℕ → Value} {x : ℕ} {v : Value}
     → Wrote val x v val'
     → Plain z v
     → (μ : Mark) (n : ℕ)
     → val' n ≡ marked μ z
     → (n ≢ x) × (val n ≡ marked μ z)
-unmarked w p μ n h =
+marked-elsewhere w p μ n h =
     elim (wrote? w n) [
       | it-is e q ↦ absurd (p .not-marked μ (cc))
       | it-is-not ne q ↦ (ne, cc)
@@ -96,6 +96,6 @@ module _ {held : ℕ → Bool} {class : ℕ → Class} {z : Side} {m m' : View} 
       → KeepsRemovers held class z m m' no-duty d t t'
   plain-value w p =
       record {
-        still-cut = λ μ n v ne. as-before (unmarked w p μ n v .1) (sym (same-out n)) (λ h. absurd h);
+        still-cut = λ μ n v ne. as-before (marked-elsewhere w p μ n v .1) (sym (same-out n)) (λ h. absurd h);
         link-stays = λ x _ _ _. same-link (same-out x);
       }

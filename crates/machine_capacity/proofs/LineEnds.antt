@@ -52,9 +52,9 @@ read-off o (Y z) = refl
 
 module _ {held : ℕ → Bool} {class : ℕ → Class} {ℓ : ℕ} {s o : Side} {m : View} {t : Task} where
   -- A tick that is refused leaves the task with its duty.
-  pub stays : {st : Step} → t .step ≡ st → Sure (duty st) s m t
+  pub duty-stays : {st : Step} → t .step ≡ st → Sure (duty st) s m t
       → RemoversAfter held class ℓ s o m (duty st) t (refused t)
-  stays {st} e u =
+  duty-stays {st} e u =
       record {
         near =
             record {
@@ -67,27 +67,27 @@ module _ {held : ℕ → Bool} {class : ℕ → Class} {ℓ : ℕ} {s o : Side} 
         sure = subst (λ (x : Step). Sure (duty x) s m t) (sym e) u;
       }
 
-  pub past : {st : Step} → t .step ≡ st → Sure (duty st) s m t → {x : ℕ} {e : Effect}
+  pub duty-past : {st : Step} → t .step ≡ st → Sure (duty st) s m t → {x : ℕ} {e : Effect}
       → (x ≢ noNode → RemoversAfter held class ℓ s o m (duty st) t e)
       → RemoversAfter held class ℓ s o m (duty st) t (through x t e)
-  past {st} e u h = ok-through (RemoversAfter held class ℓ s o m (duty st) t) (λ _. stays e u) h
+  duty-past {st} e u h = ok-through (RemoversAfter held class ℓ s o m (duty st) t) (λ _. duty-stays e u) h
 
-  -- A task without a duty goes to a step without a duty, and writes nothing.
-  pub off : {t' : Task} {a : Answer} → duty (t' .step) ≡ no-duty
+  -- A task without a duty duty-goes to a step without a duty, and writes nothing.
+  pub duty-off : {t' : Task} {a : Answer} → duty (t' .step) ≡ no-duty
       → RemoversAfter held class ℓ s o m no-duty t (record { writes = []; task = t'; answer = a })
-  off {t'} e =
+  duty-off {t'} e =
       record {
         near = same-words (λ n. refl) (λ n. refl);
         far = same-words (λ n. refl) (λ n. refl);
         sure = subst (λ (d : Duty). Sure d s m t') (sym e) tt;
       }
 
-  -- The task goes on to a step with a duty of its own, and writes nothing.
-  pub goes : (d : Duty) {t' : Task} {a : Answer}
+  -- The task duty-goes on to a step with a duty of its own, and writes nothing.
+  pub duty-goes : (d : Duty) {t' : Task} {a : Answer}
       → Sure (duty (t' .step)) s m t'
       → ((μ : Mark) (n : ℕ) → Cuts d μ t n (m .out n) → Cuts (duty (t' .step)) μ t' n (m .out n))
       → RemoversAfter held class ℓ s o m d t (record { writes = []; task = t'; answer = a })
-  goes d u c =
+  duty-goes d u c =
       record {
         near =
             record { still-cut = λ μ n v ne. as-before v refl (c μ n); link-stays = λ x _ _ _. same-link refl };

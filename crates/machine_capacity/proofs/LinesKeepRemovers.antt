@@ -17,7 +17,7 @@ use Rattle.machine.proofs.Linearizability.Writes.Take.{TakeOk}
 use Rattle.machine_capacity.proofs.Removers.{Duty, duty, Sure}
 use Rattle.machine_capacity.proofs.KeepsRemovers.{RemoversAfter}
 -- The first node of a chain of side s has a mark of s.
-use Rattle.machine_capacity.proofs.LineEnds.{off}
+use Rattle.machine_capacity.proofs.LineEnds.{duty-off}
 use Rattle.machine_capacity.proofs.QuietLines.{
   line2-cut,
   line3-cut,
@@ -72,7 +72,7 @@ module _ (L : ℕ) (held : ℕ → Bool) (k : ℕ) (s o : Side) (w : Opposite s 
 
   pub removers-after : (f ≢ noNode → TakeOk L held m class f) → (st : Step) → LineOk st
   unfolding act
-  removers-after free-f rest e h u = off refl
+  removers-after free-f rest e h u = duty-off refl
   removers-after free-f Steps.line2 e h u = line2-cut held k s o w m class t g f e h u
   removers-after free-f Steps.line3 e h u = line3-cut held k s o w m class t g f e h u
   removers-after free-f Steps.line5 e h u = line5-cut L held k s o w m class x-cut t g f e h u

@@ -44,12 +44,12 @@ use Rattle.machine_capacity.proofs.KeepsRemovers.{
   to-Y,
   RemoversAfter,
   far-plain,
-  unmarked,
+  marked-elsewhere,
   same-words,
   plain-value,
 }
 -- The first node of a chain of side s has a mark of s.
-use Rattle.machine_capacity.proofs.LineEnds.{past, off, goes}
+use Rattle.machine_capacity.proofs.LineEnds.{duty-past, duty-off, duty-goes}
 
 module _ (held : ℕ → Bool) (k : ℕ) (s o : Side) (w : Opposite s o) (m : View) (class : ℕ → Class)
     (t : Task) (g f : ℕ) where
@@ -64,17 +64,17 @@ module _ (held : ℕ → Bool) (k : ℕ) (s o : Side) (w : Opposite s o) (m : Vi
   pub line60-cut : LineOk Steps.line60
   unfolding act
   line60-cut e h u =
-      past e u (λ _.
-      ok-if (Ok no-duty) (λ x. x) (_ ≟ _) (λ _. off refl) (λ _.
-      goes no-duty (inl refl) (λ μ n c. absurd c)))
+      duty-past e u (λ _.
+      ok-if (Ok no-duty) (λ x. x) (_ ≟ _) (λ _. duty-off refl) (λ _.
+      duty-goes no-duty (inl refl) (λ μ n c. absurd c)))
 
   pub line62-cut : LineOk Steps.line62
   unfolding act
   line62-cut e h u =
-      past e u (λ _.
-      past e u (λ _.
+      duty-past e u (λ _.
+      duty-past e u (λ _.
       ok-dcas (Ok before-cut) _ _ (λ A-N B-N. done (cc) (cc))
-      (goes before-cut tt (λ μ n c. absurd c))))
+      (duty-goes before-cut tt (λ μ n c. absurd c))))
     where
       wA : Wrote (m .val) (t .A) (X s) (update (m .val) (t .A) (X s))
       wA = update-wrote (m .val) (t .A) (X s)
@@ -124,8 +124,8 @@ module _ (held : ℕ → Bool) (k : ℕ) (s o : Side) (w : Opposite s o) (m : Vi
                 record {
                   still-cut =
                       λ μ n v ne.
-                      let c = unmarked wB (far-plain w refl) μ n v in
-                      as-before (unmarked wA (far-plain w refl) μ n (c .1) .1) refl (λ c. absurd c);
+                      let c = marked-elsewhere wB (far-plain w refl) μ n v in
+                      as-before (marked-elsewhere wA (far-plain w refl) μ n (c .1) .1) refl (λ c. absurd c);
                   link-stays = λ x _ _ _. same-link refl;
                 };
             sure = wB .here;
@@ -134,7 +134,7 @@ module _ (held : ℕ → Bool) (k : ℕ) (s o : Side) (w : Opposite s o) (m : Vi
   pub line64-cut : LineOk Steps.line64
   unfolding act
   line64-cut e h u =
-      past e u (λ _.
+      duty-past e u (λ _.
       ok-if (Ok cut-pair) (λ l. writing l (next t Steps.line74)) (_ ≟ _)
       (λ q. done (cc)) (λ ne. not-done (λ q. ne (cc))))
     where
@@ -171,14 +171,14 @@ module _ (held : ℕ → Bool) (k : ℕ) (s o : Side) (w : Opposite s o) (m : Vi
       still-linked q cut n c = c
 
       not-done : m .out (t .A) ≢ t .B → Ok cut-pair (writing [] (next t Steps.line74))
-      not-done q = goes cut-pair u (still-linked q)
+      not-done q = duty-goes cut-pair u (still-linked q)
 
   pub line74-cut : LineOk Steps.line74
   unfolding act
   line74-cut e h u =
-      past e u (λ _.
+      duty-past e u (λ _.
       ok-if (Ok at-B) (λ st. next (withB (withA t (t .B)) (m .out (t .B))) st) (_ ≟ _)
-      (λ _. goes at-B u (still Steps.line82)) (λ _. goes at-B u (still Steps.line77)))
+      (λ _. duty-goes at-B u (still Steps.line82)) (λ _. duty-goes at-B u (still Steps.line77)))
     where
       still : (st : Step) (μ : Mark) (n : ℕ) → Cuts at-B μ t n (m .out n)
           → Cuts at-A μ (goto (withB (withA t (t .B)) (m .out (t .B))) st) n (m .out n)
@@ -189,7 +189,7 @@ module _ (held : ℕ → Bool) (k : ℕ) (s o : Side) (w : Opposite s o) (m : Vi
   same-A : {t' : Task} {a : Answer} → duty (t' .step) ≡ at-A → t' .A ≡ t .A → m .val (t .A) ≡ Y s
       → Ok at-A (record { writes = []; task = t'; answer = a })
   same-A {t'} p q u =
-      goes at-A (subst (λ (d : Duty). Sure d s m t') (sym p) (cc))
+      duty-goes at-A (subst (λ (d : Duty). Sure d s m t') (sym p) (cc))
       (λ μ n c. subst (λ (d : Duty). Cuts d μ t' n (m .out n)) (sym p) (still μ n c))
     where
       still : (μ : Mark) (n : ℕ) → Cuts at-A μ t n (m .out n) → Cuts at-A μ t' n (m .out n)
@@ -199,12 +199,12 @@ module _ (held : ℕ → Bool) (k : ℕ) (s o : Side) (w : Opposite s o) (m : Vi
   pub line77-cut : LineOk Steps.line77
   unfolding act
   line77-cut e h u =
-      past e u (λ _. same-A refl refl u)
+      duty-past e u (λ _. same-A refl refl u)
 
   pub line78-cut : LineOk Steps.line78
   unfolding act
   line78-cut e h u =
-      past e u (λ _.
+      duty-past e u (λ _.
       ok-if (Ok at-A) (λ x. x) (_ ≟ᵛ _) (λ _. done) (λ _. same-A refl refl u))
     where
       wv : Wrote (m .val) (t .B) (Y s) (update (m .val) (t .B) (Y s))
@@ -248,7 +248,7 @@ module _ (held : ℕ → Bool) (k : ℕ) (s o : Side) (w : Opposite s o) (m : Vi
   pub line79-cut : LineOk Steps.line79
   unfolding act
   line79-cut e h u =
-      past e u (λ _.
+      duty-past e u (λ _.
       record {
         near =
             record {
@@ -278,7 +278,7 @@ module _ (held : ℕ → Bool) (k : ℕ) (s o : Side) (w : Opposite s o) (m : Vi
   pub line81-cut : LineOk Steps.line81
   unfolding act
   line81-cut e h u =
-      past e u (λ _.
+      duty-past e u (λ _.
       ok-if (Ok at-A) (λ st. next (withB t (m .out (t .A))) st) (_ ≟ _)
       (λ _. same-A refl refl u) (λ _.
       ok-if (Ok at-A) (λ st. next (withB t (m .out (t .A))) st) (_ ≟ᵛ _)
@@ -287,7 +287,7 @@ module _ (held : ℕ → Bool) (k : ℕ) (s o : Side) (w : Opposite s o) (m : Vi
   pub line82-cut : LineOk Steps.line82
   unfolding act
   line82-cut e h u =
-      past e u (λ _.
+      duty-past e u (λ _.
       record {
         near =
             record {

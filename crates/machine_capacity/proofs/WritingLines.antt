@@ -32,12 +32,12 @@ use Rattle.machine_capacity.proofs.KeepsRemovers.{
   N-plain,
   bag-plain,
   far-plain,
-  unmarked,
+  marked-elsewhere,
   same-words,
   plain-value,
 }
 -- The first node of a chain of side s has a mark of s.
-use Rattle.machine_capacity.proofs.LineEnds.{chain-owner, back-off, past, off}
+use Rattle.machine_capacity.proofs.LineEnds.{chain-owner, back-off, duty-past, duty-off}
 
 -- x-cut: where an X leads, there is a Y.
 module _ (L : ℕ) (held : ℕ → Bool) (k : ℕ) (s o : Side) (w : Opposite s o) (m : View) (class : ℕ → Class)
@@ -54,9 +54,9 @@ module _ (L : ℕ) (held : ℕ → Bool) (k : ℕ) (s o : Side) (w : Opposite s 
   pub line5-cut : LineOk Steps.line5
   unfolding act
   line5-cut e h u =
-      past e u (λ _.
-      past e u (λ _.
-      ok-dcas (Ok no-duty) _ _ (λ _ _. done) (off refl)))
+      duty-past e u (λ _.
+      duty-past e u (λ _.
+      ok-dcas (Ok no-duty) _ _ (λ _ _. done) (duty-off refl)))
     where
       wv : Wrote (m .val) (t .A) (bag (t .argument)) (update (m .val) (t .A) (bag (t .argument)))
       wv = update-wrote (m .val) (t .A) (bag (t .argument))
@@ -74,8 +74,8 @@ module _ (L : ℕ) (held : ℕ → Bool) (k : ℕ) (s o : Side) (w : Opposite s 
   pub line51-cut : LineOk Steps.line51
   unfolding act
   line51-cut e h u =
-      past e u (λ _.
-      ok-dcas (Ok no-duty) _ _ (λ _ _. done) (off refl))
+      duty-past e u (λ _.
+      ok-dcas (Ok no-duty) _ _ (λ _ _. done) (duty-off refl))
     where
       wv : Wrote (m .val) (t .B) (N s) (update (m .val) (t .B) (N s))
       wv = update-wrote (m .val) (t .B) (N s)
@@ -92,8 +92,8 @@ module _ (L : ℕ) (held : ℕ → Bool) (k : ℕ) (s o : Side) (w : Opposite s 
   pub line72-cut : LineOk Steps.line72
   unfolding act
   line72-cut e h u =
-      past e u (λ _.
-      ok-if (Ok no-duty) (λ l. writing l (next t (back t))) (_ ≟ _) (λ _. done) (λ _. off no-duty-back))
+      duty-past e u (λ _.
+      ok-if (Ok no-duty) (λ l. writing l (next t (back t))) (_ ≟ _) (λ _. done) (λ _. duty-off no-duty-back))
     where
       no-duty-back : duty (back t) ≡ no-duty
       no-duty-back = back-off (t .operation) (t .D ≟ noNode)
@@ -113,8 +113,8 @@ module _ (L : ℕ) (held : ℕ → Bool) (k : ℕ) (s o : Side) (w : Opposite s 
   pub line24-cut : LineOk Steps.line24
   unfolding act
   line24-cut e h u =
-      past e u (λ _.
-      past e u (λ _.
+      duty-past e u (λ _.
+      duty-past e u (λ _.
       record {
         near = same-words (λ n. refl) (λ n. refl);
         far =
@@ -136,9 +136,9 @@ module _ (L : ℕ) (held : ℕ → Bool) (k : ℕ) (s o : Side) (w : Opposite s 
   pub line25-cut : LineOk Steps.line25
   unfolding act
   line25-cut e h u =
-      past e u (λ _.
+      duty-past e u (λ _.
       ok-dcas (Ok no-duty) _ _
-      (λ u v. by-operation (cc) (t .operation)) (off refl))
+      (λ u v. by-operation (cc) (t .operation)) (duty-off refl))
     where
       l : List Write
       l = out≔ (t .A) (t .D) ∷ val≔ (t .A) (N s) ∷ []
@@ -157,7 +157,7 @@ module _ (L : ℕ) (held : ℕ → Bool) (k : ℕ) (s o : Side) (w : Opposite s 
                 record {
                   still-cut =
                       λ μ n v ne.
-                      let b = unmarked wv N-plain μ n v in
+                      let b = marked-elsewhere wv N-plain μ n v in
                       as-before (b .1) (sym (wo .elsewhere n (b .0))) (λ c. absurd c);
                   link-stays =
                       λ x _ _ ne.
@@ -186,7 +186,7 @@ module _ (L : ℕ) (held : ℕ → Bool) (k : ℕ) (s o : Side) (w : Opposite s 
   pub line28-cut : (f ≢ noNode → TakeOk L held m class f) → LineOk Steps.line28
   unfolding act
   line28-cut free-f e h u =
-      ok-if (Ok no-duty) (λ x. x) (_ ≟ _) (λ _. off refl) (λ some.
+      ok-if (Ok no-duty) (λ x. x) (_ ≟ _) (λ _. duty-off refl) (λ some.
       ok-if (Ok no-duty) (λ st. writing l (next (withCounted (withD t f) 0) st)) (_ ≟ _)
       (λ _. done some refl) (λ _. done some refl))
     where
@@ -220,7 +220,7 @@ module _ (L : ℕ) (held : ℕ → Bool) (k : ℕ) (s o : Side) (w : Opposite s 
                 record {
                   still-cut =
                       λ μ n v ne.
-                      let b = unmarked wv (far-plain w refl) μ n v in
+                      let b = marked-elsewhere wv (far-plain w refl) μ n v in
                       as-before (b .1) (sym (wi .elsewhere n (b .0))) (λ c. absurd c);
                   link-stays = λ x r _ _. same-link (wi .elsewhere x (apart (free-f some) x r));
                 };
@@ -230,8 +230,8 @@ module _ (L : ℕ) (held : ℕ → Bool) (k : ℕ) (s o : Side) (w : Opposite s 
   pub line31-cut : (f ≢ noNode → TakeOk L held m class f) → LineOk Steps.line31
   unfolding act
   line31-cut free-f e h u =
-      past e u (λ _.
-      ok-if (Ok no-duty) (λ x. x) (_ ≟ _) (λ _. off refl) (λ some.
+      duty-past e u (λ _.
+      ok-if (Ok no-duty) (λ x. x) (_ ≟ _) (λ _. duty-off refl) (λ some.
       ok-if (Ok no-duty) (λ st. writing l (next (withCounted (withD t f) (suc (t .counted))) st))
       (_ ≟ _) (λ _. done some refl) (λ _. done some refl)))
     where
@@ -261,7 +261,7 @@ module _ (L : ℕ) (held : ℕ → Bool) (k : ℕ) (s o : Side) (w : Opposite s 
                 record {
                   still-cut =
                       λ μ n v ne.
-                      let b = unmarked wv N-plain μ n v in
+                      let b = marked-elsewhere wv N-plain μ n v in
                       as-before (b .1) (sym (wo .elsewhere n (b .0))) (λ c. absurd c);
                   link-stays = λ x r _ _. same-link (wo .elsewhere x (apart (free-f some) x r));
                 };
@@ -269,7 +269,7 @@ module _ (L : ℕ) (held : ℕ → Bool) (k : ℕ) (s o : Side) (w : Opposite s 
                 record {
                   still-cut =
                       λ μ n v ne.
-                      let b = unmarked wv N-plain μ n v in
+                      let b = marked-elsewhere wv N-plain μ n v in
                       let not-D : n ≢ t .D = λ z. D-plain .not-marked μ (cc (b .1)) in
                       as-before (b .1) (sym (wd .elsewhere n not-D ∙ wi .elsewhere n (b .0))) (λ c. absurd c);
                   link-stays =

@@ -115,8 +115,8 @@ abbrev pub aloneAt : (ws : List ℕ) (T : IdleTable ws) → AllCounted ws T → 
 aloneAt ws T C ℓ op s n =
     alone op s n (growth ws) (C .free) (T .shape ℓ .bags) (spareOf s (T .shape ℓ)) (spurOf s (T .shape ℓ))
 
--- ---- The claim: at every table that our calls lead to and in which no task is in a call, task k begins an operation and
--- then gets all the ticks, with any hints: it answers just that, and leaves just these numbers.
+-- ---- The claim: at every table that our calls lead to and in which no task is in a call, task k begins an operation
+-- and then gets all the ticks, with any hints: it answers just that, and leaves just these numbers.
 abbrev pub CallAlone : Operation → Type 0
 CallAlone op =
     (ws vs : List ℕ)
@@ -155,7 +155,8 @@ AnswersExactly =
     (done .answer ≡ aloneAt ws T C ℓ op s argument .answer)
     × LeavesIdle ws (done .words) T ℓ s (aloneAt ws T C ℓ op s argument)
 
--- ---- The free nodes afterwards: what the call's lane has more, is not free. So the numbers of the next call are known.
+-- ---- The free nodes afterwards: what the call's lane has more, is not free. So the numbers of the next call are
+-- known.
 abbrev pub FreeAfter : Type 0
 FreeAfter =
     (ws vs : List ℕ) (T : IdleTable ws) (C : AllCounted ws T) (ℓ : ℕ)

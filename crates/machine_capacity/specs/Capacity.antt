@@ -75,8 +75,8 @@ FillsUp =
     → (s : Side)
     → (vs : List ℕ) × FilledFrom ℓ s vs ws
 
--- And so does every chain of them: where n pushes, one after another and each of them "pushed", lead from ws to vs, n is
--- at most S less two for each lane. (How many are "pushed", exactly, is `Room.RoomRule`.)
+-- And so does every chain of them: where n pushes, one after another and each of them "pushed", lead from ws to vs, n
+-- is at most S less two for each lane. (How many are "pushed", exactly, is `Room.RoomRule`.)
 pub data PushedTo (ℓ : ℕ) (s : Side) (vs : List ℕ) : (n : ℕ) (ws : List ℕ) → Type 0 where
   none-pushed : PushedTo ℓ s vs 0 vs
   one-pushed :

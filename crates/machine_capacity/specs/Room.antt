@@ -77,9 +77,9 @@ NewTagsFit =
 abbrev pub StartRoom : Type 0
 StartRoom = (S T growth : ℕ) (s : Side) → 2 ≤ S → room (startState S T growth 1) 0 s ≡ S - 2
 
--- ---- What to do about "full". docs/USE.md: "At one other end after another, of every lane, push, pop the bag again, remove
--- 0, and try again each time". What is claimed of the state here is so of the table, which gives the same answers
--- (`FromAnyIdle`).
+-- ---- What to do about "full". docs/USE.md: "At one other end after another, of every lane, push, pop the bag again,
+-- remove 0, and try again each time". What is claimed of the state here is so of the table, which gives the same
+-- answers (`FromAnyIdle`).
 
 -- An end, and a tag and a task to push it with. The tag is in no lane.
 pub record Loader : Type 0 where
@@ -139,8 +139,8 @@ lastAnswer σ c (p ∷ ps) =
     let tried = oneCall σ c in
     if kindOf (tried .answer) ≟ kindOf Full then lastAnswer (giveBack (tried .state) p) c ps else tried .answer
 
--- It is "pushed" if one of the ends had room for two tags. docs/USE.md: "Full to the last ..: no other end has place for more
--- than one bag".
+-- It is "pushed" if one of the ends had room for two tags. docs/USE.md: "Full to the last ..: no other end has place
+-- for more than one bag".
 abbrev pub foundRoom : State → List Loader → Answer
 foundRoom σ [] = Full
 foundRoom σ (p ∷ ps) = if 1 <? roomAt σ p then Pushed else foundRoom σ ps

@@ -54,7 +54,8 @@ words-worked = refl
 
 pub courses-worked : map tellsThen courses ≡ map (λ (c : Course). c .tells) courses
 unfolding lentTo beginLent pendingOf withCopied rowKept knownAfter pushAnswered popAnswered feedMade feedTick listed
-    rows transposed reordered takeSnapshot putBack ℕ-discrete decLt decLe Value-discrete decode stepIn stepOf isStepIn hat
+    rows transposed reordered takeSnapshot putBack ℕ-discrete decLt decLe Value-discrete decode stepIn stepOf isStepIn
+    hat
     link value task allBelow sameWords nodeOk busyOk recordOk shapeOk heldFrom hatsFrom roots mark markAll visit
     visitFrom marked firstUnmarked allocate writeAll dcas act times startNodes startWords start begin effectOf applied
     tickOn tick ticks isBegun laneFrom lane lanesBelow readInto read bind

@@ -23,8 +23,8 @@ busyBelow ws (suc n) = cond (isBusyTask ws n) (suc (busyBelow ws n)) (busyBelow 
 abbrev pub busyTasks : List ℕ → ℕ
 busyTasks ws = busyBelow ws (taskCount ws)
 
--- A dispatch for each hint, one after another, and nothing else is done: one of them says "idle", with no task in a call;
--- those before it are ticks that were made, of which n ended a call and the others said "going".
+-- A dispatch for each hint, one after another, and nothing else is done: one of them says "idle", with no task in a
+-- call; those before it are ticks that were made, of which n ended a call and the others said "going".
 pub data Drained : (n : ℕ) (hints ws : List ℕ) → Type 0 where
   idle-now :
       {h : ℕ} {hints ws : List ℕ}

@@ -82,9 +82,6 @@ use Rattle.machine_refuted.specs.Machines.{
   panelBy,
   tablesBy,
 }
-use Rattle.machine_refuted.specs.Wrong.{wholeOn, touchesNothing, heldFromBy, leftwards, toRefusal, isArgument, turned}
-use Rattle.machine_refuted.specs.WrongLanes.{onLanes, isBegunOn}
-use Rattle.machine_refuted.specs.WrongConsecutive.{toIdle, pastIdle}
 use Rattle.machine_refuted.specs.Judged.{
   passes,
   madeBy,
@@ -95,14 +92,22 @@ use Rattle.machine_refuted.specs.Judged.{
   dispatchesToIdle,
   freeBelow,
 }
+use Rattle.machine_refuted.specs.Entries.{Entry}
+use Rattle.machine_refuted.specs.WrongTicks.{wholeOn, touchesNothing}
+use Rattle.machine_refuted.specs.WrongSearches.{heldFromBy, leftwards}
+use Rattle.machine_refuted.specs.WrongRuns.{toRefusal}
+use Rattle.machine_refuted.specs.WrongBegins.{isArgument}
+use Rattle.machine_refuted.specs.WrongTags.{turned}
+use Rattle.machine_refuted.specs.WrongLanes.{onLanes, isBegunOn}
+use Rattle.machine_refuted.specs.WrongConsecutive.{toIdle, pastIdle}
 use Rattle.machine_refuted.specs.Lists.{
-  Entry,
   entries,
   begunWith,
   Judged,
   judged,
   expected,
   AllRefuted,
+  RefusesEach,
   Spins,
   NeverDrains,
   Leaks,
@@ -153,7 +158,8 @@ all-failing (e ∷ es) sized =
 
 pub all-refuted : AllRefuted
 unfolding failing allSized madeBy byRow byDefinitions onLanes isBegunOn wholeOn touchesNothing heldFromBy leftwards
-    toRefusal toIdle pastIdle isArgument turned beginBy tickOnBy consecutive ticksBy ticks dispatchToBy dispatchChoosing dispatchBy
+    toRefusal toIdle pastIdle isArgument turned beginBy tickOnBy consecutive ticksBy ticks dispatchToBy dispatchChoosing
+    dispatchBy
     consecutiveTurns dispatchesBy dispatches wentOn feedDispatches
     firstFrom feedDispatched feedIdle feedDispatch dispatchTo dispatchOn dispatch tickBy runOnBy runBy panelBy
     tablesBy feedTick pushAnswered popAnswered sizeAnswered feedMade feedRun bind plainAnswerOf answerOf ℕ-discrete
@@ -165,6 +171,18 @@ all-refuted =
     let right-passes = all-failing entries refl in
     let fails-as-said : map failing entries ≡ map expected entries = refl in
     (right-passes ∙ fails-as-said, refl)
+
+pub refuses-each : RefusesEach
+unfolding afterAllBy madeBy byRow byDefinitions onLanes isBegunOn wholeOn touchesNothing heldFromBy leftwards
+    toRefusal toIdle pastIdle isArgument turned beginBy tickOnBy consecutive ticksBy ticks dispatchToBy dispatchChoosing
+    dispatchBy consecutiveTurns dispatchesBy dispatches wentOn feedDispatches
+    firstFrom feedDispatched feedIdle feedDispatch dispatchTo dispatchOn dispatch tickBy runOnBy runBy panelBy
+    tablesBy feedTick pushAnswered popAnswered sizeAnswered feedMade feedRun bind plainAnswerOf answerOf ℕ-discrete
+    decLt decLe Value-discrete decode stepIn stepOf isStepIn hat link value task allBelow sameWords nodeOk busyOk
+    recordOk shapeOk hatsFrom heldFrom roots mark markAll visit visitFrom marked firstUnmarked allocate writeAll dcas
+    act times startNodes startWords start begin effectOf applied tickOn tick runOn run panel isBegun laneFrom lane
+    lanesBelow readInto read allTagWords
+refuses-each = refl
 
 -- ---- What the further theorems exclude.
 

@@ -72,7 +72,7 @@ pub same-tick-on : (ws : List ℕ) (k h : ℕ) → tickOnBy act allocate ws k h 
 unfolding tickOnBy tickOn effectOf
 same-tick-on ws k h = refl
 
-pub same-tick : (ws : List ℕ) (k h : ℕ) → tickBy rightMachine ws k h ≡ tick ws k h
+same-tick : (ws : List ℕ) (k h : ℕ) → tickBy rightMachine ws k h ≡ tick ws k h
 unfolding tickBy tick
 same-tick ws k h =
     ap
@@ -96,7 +96,7 @@ same-ticks n ws k h =
     ap (λ (one : Ticks). consecutive one n ws k h) (fun-ext (λ vs. fun-ext (λ j. fun-ext (λ i. same-tick vs j i))))
     ∙ consecutive-of-ticks n ws k h
 
-pub same-dispatch : (ws : List ℕ) (h : ℕ) → dispatchBy rightMachine ws h ≡ dispatch ws h
+same-dispatch : (ws : List ℕ) (h : ℕ) → dispatchBy rightMachine ws h ≡ dispatch ws h
 unfolding dispatchBy dispatchChoosing dispatchToBy dispatch dispatchOn dispatchTo tickOnBy tickOn effectOf
 same-dispatch ws h = refl
 
@@ -139,7 +139,7 @@ runs-on one ws answers others =
       | none ↦ afterTick (one .answer) (others one)
     ]
 
-pub same-run-on : (list ws answers : List ℕ) → runOnBy rightMachine list ws answers ≡ runOn list ws answers
+same-run-on : (list ws answers : List ℕ) → runOnBy rightMachine list ws answers ≡ runOn list ws answers
 unfolding runOnBy runOn runs-on
 same-run-on [] ws answers = refl
 same-run-on (k ∷ []) ws answers = refl

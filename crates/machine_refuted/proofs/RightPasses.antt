@@ -43,7 +43,7 @@ use Rattle.machine.proofs.Basics.Contradiction.{clash}
 use Rattle.machine.proofs.Shape.ShapeLaws.{all-below}
 use Rattle.machine.proofs.Words.RecordLaws.{same-words-refl}
 use Rattle.machine.proofs.Linearizability.Theorem.{demand3}
-use Rattle.machine.proofs.Linearizability.Calls.RowDid.{bound}
+use Rattle.machine.proofs.Linearizability.Calls.RowDid.{bind-some}
 use Rattle.machine_refuted.specs.Machines.{
   Act,
   start-act,
@@ -114,8 +114,8 @@ same-tables (suc i) (k ∷ h ∷ list) [] ws ρ e = clash (cc)
 same-tables (suc i) (k ∷ h ∷ list) (kind ∷ []) ws ρ e = clash (cc)
 same-tables (suc i) (k ∷ h ∷ list) (kind ∷ digit ∷ []) ws ρ e = clash (cc)
 same-tables (suc i) (k ∷ h ∷ list) (kind ∷ digit ∷ low ∷ answers) ws ρ e =
-    let told = bound (answerOf kind digit low) _ e in
-    let fed = bound (feedMade ρ k (told .0)) _ (told .2) in
+    let told = bind-some (answerOf kind digit low) _ e in
+    let fed = bind-some (feedMade ρ k (told .0)) _ (told .2) in
     ap (λ one. getD (tablesBy rightMachine list (one .words)) i []) (same-tick-on ws k h)
     ∙ same-tables i list answers _ (fed .0) (fed .2)
 

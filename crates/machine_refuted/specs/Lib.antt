@@ -1,8 +1,15 @@
 pub mod Machines
-pub mod Wrong
+pub mod Judged
+pub mod Entries
+pub mod WrongTicks
+pub mod WrongLines
+pub mod WrongSearches
+pub mod WrongRuns
+pub mod WrongBegins
+pub mod WrongTags
+pub mod WrongDispatches
 pub mod WrongLanes
 pub mod WrongConsecutive
-pub mod Judged
 pub mod Lists
 pub mod WrongSnapshots
 pub mod WrongSheets

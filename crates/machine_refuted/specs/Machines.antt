@@ -1,6 +1,6 @@
--- What a machine is: what its starts and reads do, what its ticks do, alone and consecutive, what its runs report, which
--- lists its panel takes, what its begin refuses, what its dispatches do, alone and consecutive. The calls over any machine,
--- and the right one.
+-- What a machine is: what its starts and reads do, what its ticks do, alone and consecutive, what its runs report,
+-- which lists its panel takes, what its begin refuses, what its dispatches do, alone and consecutive. The calls over
+-- any machine, and the right one.
 use mathlib.Core.Bool.{true, false}
 use mathlib.Core.List.{List, [], _∷_}
 use mathlib.Core.Option.{Option, some, none}

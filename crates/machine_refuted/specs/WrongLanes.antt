@@ -1,15 +1,15 @@
 -- 2026-12: the wrong machines with lanes, each under the words of 02 that name it.
 use mathlib.Core.Bool.{Bool, false, _&&_, _||_}
-use mathlib.Core.List.{List, _++_}
+use mathlib.Core.List.{List, _++_, [], _∷_}
 use mathlib.Core.Option.{Option, some, none}
 use Prim.Native.Nat.{ℕ, zero, suc, _-_, _*_}
 use lib.Dec.{leb, ltb, eqb}
-use lib.ListN.{length, take}
+use lib.ListN.{length, take, replicate}
 use Rattle.machine.specs.declared.Answer.the-variants.{Refused}
 use Rattle.machine.specs.Choice.{_<?_, if_then_else_}
-use Rattle.machine.specs.Sides.{Side, opposite, sideNumber}
+use Rattle.machine.specs.Sides.{Side, opposite, sideNumber, right}
 use Rattle.machine.specs.Values.{never, number}
-use Rattle.machine.specs.Operations.{operationOf, argumentOk}
+use Rattle.machine.specs.Operations.{operationOf, argumentOk, push, pop}
 use Rattle.machine.specs.Tasks.{Task, goal, fresh, noNode, wordsOf}
 use Rattle.machine.specs.Table.{tableLength, taskCount, laneCount, growth, headerWords, nodeWords, task}
 use Rattle.machine.specs.Shape.{lanesOk, sizesOk}
@@ -34,8 +34,26 @@ use Rattle.machine.specs.Calls.{
   lane,
   read,
 }
-use Rattle.machine_refuted.specs.Machines.{Ticks, Machine, byTicks, byLines, rightMachine}
-use Rattle.machine_refuted.specs.Wrong.{takeFrom, withRefusal, testsBusy, refusesWhere, standsIn}
+use Rattle.machine_refuted.specs.Machines.{Ticks, Machine, byTicks, byLines, rightMachine, start-act, read-act}
+use Rattle.machine_refuted.specs.Judged.{
+  passes,
+  not-the-row's-answer,
+  lane-is-not-the-row,
+  other-answer,
+  other-table,
+}
+use Rattle.machine_refuted.specs.Entries.{
+  Entry,
+  entry,
+  beginsOn,
+  begins,
+  ticks,
+  pushed51On,
+  pushedInLanes,
+  pushedInLanesAtOnce,
+}
+use Rattle.machine_refuted.specs.WrongSearches.{takeFrom}
+use Rattle.machine_refuted.specs.WrongBegins.{withRefusal, testsBusy, refusesWhere, standsIn}
 
 -- ---- 2026-12: "Each lane is now its own row of bags, explained by the calls on it".
 
@@ -142,7 +160,8 @@ startTestsSizesFirst =
 -- Five lanes are taken.
 abbrev pub startTakesFiveLanes : Machine
 startTakesFiveLanes =
-    withStart (λ S T g lanes others. unless (leb 1 lanes && leb lanes 5) 25 (unless (sizesOk S T g lanes) 1 others)) startWords
+    withStart (λ S T g lanes others. unless (leb 1 lanes && leb lanes 5) 25 (unless (sizesOk S T g lanes) 1 others))
+    startWords
 
 -- One node fewer than twice the lanes is taken; what is written is cut to the slice.
 abbrev pub startTakesNodeLess : Machine
@@ -168,3 +187,49 @@ startMakesFirstLane = withStart testsStart (startWith (λ lanes. startHat 1) 1)
 -- Every lane gets the nodes and the hats of lane 0.
 abbrev pub startSharesNodes : Machine
 startSharesNodes = withStart testsStart (startWith (λ lanes l s. if l <? lanes then sideNumber s else noNode) 1)
+
+-- ---- The lists that tell them from the right machine.
+abbrev pub laneEntries : List Entry
+laneEntries =
+    -- A push on lane 1 of two puts its bag into lane 0.
+    -- Wrong: 2026-12: every tick sees and moves the hats of lane 0, and a push on lane 1 puts its bag into lane 0.
+    entry ticksFirstLane 6 1 2 (pushed51On 1 0) (lane-is-not-the-row 12) (other-table 2)
+    -- A push on lane 1 moves the right hat of lane 0, so that a pop on lane 1 finds it empty.
+    -- Wrong: 2026-12: every tick sees its own hat and moves that of lane 0, and a pop on lane 1 does not find the bag
+    -- pushed there.
+    ∷ entry storesInFirstLane 6 1 2
+    (pushed51On 1 0 ++ beginsOn 1 0 pop right 0 ++ ticks 4 0 0) (not-the-row's-answer 17) (other-table 12)
+    -- A push on lane 0 takes lane 1's left end, node 2, and then lane 1 cannot be read.
+    -- Wrong: 2026-12: the hats of lane 0 alone hold their nodes, and a push on lane 0 takes an end of lane 1.
+    ∷ entry freesOtherLanes 6 1 2 (begins 0 push right 51 ++ ticks 4 0 2) (lane-is-not-the-row 5) (other-table 5)
+    -- Lane 1 has bag 51, and is read; lane 2 is not there.
+    -- Wrong: 2026-12: every read is of lane 0: of a bag in lane 1 it says nothing.
+    ∷ entry readsFirstLane 6 1 2
+    (pushed51On 1 0 ++ (read-act 1 (replicate 2 7) ∷ [])) (not-the-row's-answer 13) (other-answer 13)
+    -- Wrong: The same: a read of a lane that is not there is not refused with 26.
+    ∷ entry readsFirstLane 6 1 2 (read-act 2 [] ∷ []) (not-the-row's-answer 1) (other-answer 1)
+    -- Bag 51 is in lane 0, and a task is to push it on lane 1; two tasks are to push it, each on its lane.
+    -- Wrong: 2026-12: 16 is looked for in the begin's own lane, and in all busy pushes: a bag of lane 0 is pushed on
+    -- lane 1.
+    ∷ entry searchesOwnLane 6 1 2 pushedInLanes passes (other-answer 13)
+    -- Wrong: 2026-12: 16 is looked for in all lanes, and in the busy pushes of the begin's own: two pushes of one bag
+    -- on two lanes are both accepted.
+    ∷ entry searchesOwnPushes 6 2 2 pushedInLanesAtOnce passes (other-answer 2)
+    -- There is no task 1 and no lane 1.
+    -- Wrong: 2026-12: 26 is tested after 5.
+    ∷ entry testsTaskFirst 4 1 1 (beginsOn 1 1 push right 51) passes (other-answer 1)
+    -- Wrong: 2026-12: 26 is not tested, and a push is begun on a lane that is not there.
+    ∷ entry takesAnyLane 4 1 1 (beginsOn 1 0 push right 51) (not-the-row's-answer 1) (other-answer 1)
+    -- A start with five lanes and growth 65; with five lanes; with seven nodes for four lanes.
+    -- Wrong: 2026-12: 1 is tested before 25.
+    ∷ entry startTestsSizesFirst 10 1 1 (start-act 10 1 65 5 ∷ []) passes (other-answer 1)
+    -- Wrong: 2026-12: a start with five lanes is taken.
+    ∷ entry startTakesFiveLanes 10 1 1 (start-act 10 1 0 5 ∷ []) (lane-is-not-the-row 1) (other-answer 1)
+    -- Wrong: 2026-12: a start with seven nodes for four lanes is taken.
+    ∷ entry startTakesNodeLess 7 1 1 (start-act 7 1 0 4 ∷ []) passes (other-answer 1)
+    -- A start with two lanes: lane 1 cannot be read; a bag that is pushed on lane 0 is in lane 1 too.
+    -- Wrong: 2026-12: a start with two lanes makes lane 0 alone.
+    ∷ entry startMakesFirstLane 6 1 1 (start-act 6 1 0 2 ∷ []) (lane-is-not-the-row 1) (other-table 1)
+    -- Wrong: 2026-12: a start with two lanes gives both the same nodes, and a bag that is pushed on one is in both.
+    ∷ entry startSharesNodes 6 1 1 (start-act 6 1 0 2 ∷ pushed51On 0 0) (lane-is-not-the-row 13) (other-table 1)
+    ∷ []

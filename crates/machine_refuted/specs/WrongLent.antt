@@ -283,7 +283,8 @@ entries =
       row-says = not-the-row's-answer 3;
       definitions-say = other-table 2;
     }
-    -- Wrong: 2026-14: the table's own words are tested, and not the record: the task pops in the table, and the lent record is fresh.
+    -- Wrong: 2026-14: the table's own words are tested, and not the record: the task pops in the table, and the lent
+    -- record is fresh.
     ∷ record {
       feeds = rightFeeding;
       wrong = testsTable;

@@ -6,7 +6,6 @@ use Prim.Native.Nat.{ℕ}
 use lib.Dec.{leb, eqb}
 use lib.ListN.{length}
 use Rattle.text_page.specs.Page.{pageLength}
-use Rattle.machine.specs.declared.Reply.{Reply}
 use Rattle.machine.specs.declared.Reply.the-variants.{Refused}
 use Rattle.machine.specs.Sides.{right}
 use Rattle.machine.specs.Tasks.{noNode}

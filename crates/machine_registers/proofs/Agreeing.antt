@@ -5,7 +5,7 @@ use Rattle.machine.specs.Steps.{Step}
 use Rattle.machine.specs.Tasks.{Task, noNode, Register, inA, inB, inC, inD, register, withRegisters}
 use Rattle.machine.specs.Registers.{among, holds}
 use Rattle.machine_registers.specs.Paths.{uses, Way, ways, OneOf, here, later}
-use Rattle.machine.specs.Table.{value, task}
+use Rattle.machine.specs.Table.{value}
 use Rattle.machine.specs.Lines.{Effect}
 use Rattle.machine_registers.proofs.Paths.{needed-holds, holds-needed}
 use Rattle.machine_registers.specs.LinesUse.{mixed, AgreeOn, After, goes-on, has-answered, turned-back}

@@ -363,7 +363,7 @@ left-alike : {ws vs ws′ vs′ : List ℕ} → AlikeColumns ws vs → LeftAlike
 left-alike A both-left-alone = A
 left-alike A (both-begun k l op side argument) = begin-alike A k l op side argument .1
 
-pub call-alike : {ws vs : List ℕ} → AlikeColumns ws vs → (c : Call)
+call-alike : {ws vs : List ℕ} → AlikeColumns ws vs → (c : Call)
     → (given c vs ≡ given c ws) × AlikeColumns (after c ws) (after c vs)
 call-alike {ws} {vs} A c = go (view c)
   where

@@ -12,7 +12,7 @@ use Rattle.machine.specs.Registers.{among, holds}
 use Rattle.machine_registers.specs.Paths.{uses, Way, ways, OneOf, Needed, here, later, HoldsExactly, NoOtherTable}
 use Rattle.machine.proofs.Basics.Contradiction.{clash}
 use Rattle.machine.proofs.Basics.Tests.{and-left, and-right, or-either}
-use Rattle.machine.proofs.Basics.Everywhere.{each, implies, implied}
+use Rattle.machine.proofs.Basics.Everywhere.{everywhere-at, implies, implies-true}
 
 -- ---- Tests of all ways on from a step, and of some.
 abbrev pub everyWay : List Way → (Way → Bool) → Bool
@@ -47,14 +47,14 @@ abbrev ruleKept : Step → Register → Bool
 ruleKept st r = usesHeld st r && everyWay (ways st) (wayHeld st r)
 
 rule-kept : (st : Step) (r : Register) → ruleKept st r ≡ true
-rule-kept = each ruleKept refl
+rule-kept = everywhere-at ruleKept refl
 
 pub needed-holds : {r : Register} {st : Step} → Needed r st → holds st r ≡ true
 needed-holds {r} (here st u) =
-    implied (among (uses st) r) (holds st r) (and-left (usesHeld st r) _ (rule-kept st r)) u
+    implies-true (among (uses st) r) (holds st r) (and-left (usesHeld st r) _ (rule-kept st r)) u
 needed-holds {r} (later st w o n more) =
     let h = each-way (wayHeld st r) (ways st) (and-right (usesHeld st r) _ (rule-kept st r)) w o in
-    let k = implied (holds (w .next) r) (among (w .sets) r || holds st r) h (needed-holds more) in
+    let k = implies-true (holds (w .next) r) (among (w .sets) r || holds st r) h (needed-holds more) in
     elim (or-either (among (w .sets) r) (holds st r) k) [ inl set ↦ clash (cc) | inr held ↦ held ]
 
 -- ---- What is in the table has a path: five steps are enough.
@@ -77,10 +77,10 @@ path-needed (suc n) st r e =
     ]
 
 has-path : (st : Step) (r : Register) → implies (holds st r) (pathWithin 5 st r) ≡ true
-has-path = each (λ st r. implies (holds st r) (pathWithin 5 st r)) refl
+has-path = everywhere-at (λ st r. implies (holds st r) (pathWithin 5 st r)) refl
 
 pub holds-needed : (st : Step) (r : Register) → holds st r ≡ true → Needed r st
-holds-needed st r h = path-needed 5 st r (implied (holds st r) (pathWithin 5 st r) (has-path st r) h)
+holds-needed st r h = path-needed 5 st r (implies-true (holds st r) (pathWithin 5 st r) (has-path st r) h)
 
 pub holds-exactly : HoldsExactly
 holds-exactly st r = (holds-needed st r, needed-holds)

@@ -1,5 +1,5 @@
--- Nothing in the columns of Registers.antt is too much: each use shows in the line's effect for some table, and each
--- way on is gone for some table.
+-- Nothing in the columns of Registers.antt is too much: everywhere-at use shows in the line's effect for some table,
+-- and everywhere-at way on is gone for some table.
 use mathlib.Core.Path.{_≡_, refl, sym, ap, _∙_}
 use mathlib.Core.Logic.{_≢_, inl, inr}
 use mathlib.Core.Bool.{Bool, true, false, not, _&&_, _||_, Bool·beq}
@@ -23,8 +23,15 @@ use Rattle.machine_registers.specs.LinesUse.{with, SameBut, UseShows, Us
 use Rattle.machine.proofs.Basics.Contradiction.{clash, refute}
 use Rattle.machine.proofs.Words.RecordLaws.{same-words-refl}
 use Rattle.machine.proofs.Words.StepLaws.{step-of-number}
-use Rattle.machine.proofs.Basics.Tests.{agreed, and-left, and-right, or-either}
-use Rattle.machine.proofs.Basics.Everywhere.{everyRegister, each-step, each-register, each, implies, implied}
+use Rattle.machine.proofs.Basics.Tests.{beq-equal, and-left, and-right, or-either}
+use Rattle.machine.proofs.Basics.Everywhere.{
+  everyRegister,
+  each-step,
+  each-register,
+  everywhere-at,
+  implies,
+  implies-true,
+}
 use Rattle.machine_registers.proofs.Paths.{everyWay, each-way}
 
 -- ---- Tables to try the lines on.
@@ -135,7 +142,7 @@ useTried st r = someSample samples (differsAt st r 4) || someSample samples (dif
 
 uses-tried : (st : Step) (r : Register) → implies (among (uses st) r) (useTried st r) ≡ true
 unfolding act dcas sameWords ℕ-discrete Value-discrete
-uses-tried = each (λ st r. implies (among (uses st) r) (useTried st r)) refl
+uses-tried = everywhere-at (λ st r. implies (among (uses st) r) (useTried st r)) refl
 
 abbrev setRight : Step → Way → Sample → Register → Bool
 setRight st w a r =
@@ -152,7 +159,7 @@ ways-tried : (st : Step) → everyWay (ways st) (wayTried st) ≡ true
 unfolding act dcas ℕ-discrete Value-discrete
 ways-tried = each-step (λ st. everyWay (ways st) (wayTried st)) refl
 
--- ---- Each use and each way.
+-- ---- Each use and everywhere-at way.
 differs-from : (st : Step) (r : Register) (x : ℕ) (a : Sample) → differsAt st r x a ≡ true → UseShows st r
 differs-from st r x a d =
     record {
@@ -172,7 +179,7 @@ differs-from st r x a d =
 
 pub uses-show : UsesShow
 uses-show st r u =
-    let h = implied (among (uses st) r) (useTried st r) (uses-tried st r) u in
+    let h = implies-true (among (uses st) r) (useTried st r) (uses-tried st r) u in
     elim (or-either (someSample samples (differsAt st r 4)) (someSample samples (differsAt st r noNode)) h) [
       | inl k ↦ let a = some-sample (differsAt st r 4) samples k in differs-from st r 4 (a .0) (a .1)
       | inr k ↦ let a = some-sample (differsAt st r noNode) samples k in differs-from st r noNode (a .0) (a .1)
@@ -194,5 +201,5 @@ ways-gone st w o =
       goal = a .goal;
       found = a .found;
       goes-there = number-injective _ (w .next) (eqb-true n (stepNumber (w .next)) there);
-      sets-these = λ r. agreed _ _ (each-register (setRight st w a) set r);
+      sets-these = λ r. beq-equal _ _ (each-register (setRight st w a) set r);
     }

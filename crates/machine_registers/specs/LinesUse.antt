@@ -56,8 +56,8 @@ pub record SameEffect (st : Step) (t u : Task) (e f : Effect) : Type 0 where
   pub same-answer : f .answer ≡ e .answer
   pub after : After st t u e f
 
--- Whatever stands in registers that a step does not use, its line does the same and goes the same way, on which just the
--- registers that are set come out the same.
+-- Whatever stands in registers that a step does not use, its line does the same and goes the same way, on which just
+-- the registers that are set come out the same.
 abbrev pub UsesEnough : Type 0
 UsesEnough =
     (st : Step) (s o : Side) (m : Memory) (t u : Task) (g f : ℕ)

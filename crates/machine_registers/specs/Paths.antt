@@ -1,5 +1,5 @@
--- Request 2026-06: the paths of steps by 01's list, what each step uses and sets, and what it is for a table of held registers
--- to be exact.
+-- Request 2026-06: the paths of steps by 01's list, what each step uses and sets, and what it is for a table of held
+-- registers to be exact.
 use mathlib.Core.Path.{_≡_}
 use mathlib.Core.Logic.{_⊎_}
 use mathlib.Core.Bool.{Bool, true, false}
@@ -155,6 +155,7 @@ Exact table = (st : Step) (r : Register) → (table st r ≡ true → Needed r s
 abbrev pub HoldsExactly : Type 0
 HoldsExactly = Exact holds
 
--- No other table is exact: neither one that lets go a register that some path needs, nor one that holds one for nothing.
+-- No other table is exact: neither one that lets go a register that some path needs, nor one that holds one for
+-- nothing.
 abbrev pub NoOtherTable : Type 0
 NoOtherTable = (table : Step → Register → Bool) → Exact table → (st : Step) (r : Register) → table st r ≡ holds st r

@@ -27,7 +27,7 @@ use Rattle.machine_separation.proofs.Within.{
   all-registers,
   SameAt,
   other-hats,
-  untouched,
+  writes-untouched,
   own-hats,
   out-into,
   inn-into,
@@ -148,7 +148,7 @@ module _ {L : ℕ} {held : ℕ → Bool} {M : View} {ts : ℕ → Task} {class :
         ]
 
     same-at : (n x : ℕ) → n ≢ ℓ → Leads L M ts n x → SameAt m m' x
-    same-at n x ne c = untouched ℓ s Q (e .writes) m (W .writes-in) x (not-other n x ne c)
+    same-at n x ne c = writes-untouched ℓ s Q (e .writes) m (W .writes-in) x (not-other n x ne c)
 
     out-closed : LeadsInto Q Q (m' .out)
     out-closed x q =

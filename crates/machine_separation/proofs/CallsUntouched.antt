@@ -37,7 +37,7 @@ use Rattle.machine.proofs.Words.Kinds.{
   is-lent-begun,
   are-ticked,
   are-dispatched,
-  comes,
+  call-comes,
 }
 use Rattle.machine.proofs.Words.DispatchLaws.{others-follow, one-more-made, none-follows, one-made}
 use Rattle.machine.proofs.Words.TickLaws.{tick-stopped}
@@ -152,7 +152,7 @@ dispatches-keep (suc n) {ws} B m h other =
         (other (suc i) (rw (one-more-made n ws h e) (omega arith))))))
 
 pub calls-untouched : CallsUntouched
-calls-untouched ws B m c = go (comes c ws)
+calls-untouched ws B m c = go (call-comes c ws)
   where
     go : {a : Asked} {vs : List ℕ} {d : Did} → Comes ws a vs d → Avoids m ws a → SameLane m ws vs
     go (left-alone a e) x = same-lane-refl m ws

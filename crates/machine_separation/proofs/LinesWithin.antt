@@ -123,7 +123,8 @@ module _ (P : ℕ → Type 0) (l : ℕ) (s o : Side) (m : View) (t : Task) (g f 
         inn-of-f : ℕ
         inn-of-f = update (update (m .inn) f noNode) (t .D) f f
 
-        go : inn-of-f ≢ noNode → WroteAt (update (m .inn) f noNode) (t .D) f (update (update (m .inn) f noNode) (t .D) f) f
+        go : inn-of-f ≢ noNode → WroteAt (update (m .inn) f noNode) (t .D) f
+            (update (update (m .inn) f noNode) (t .D) f) f
             → With f P inn-of-f
         go k (it-is e q) = inr q
         go k (it-is-not ne q) = absurd (k (q ∙ update-same (m .inn) f noNode))

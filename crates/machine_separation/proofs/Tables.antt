@@ -52,7 +52,7 @@ in-view (register-led k r e h n) = from-register k r e h n
 in-view (link-led left c n) = along left (in-view c) n
 in-view (link-led right c n) = along right (in-view c) n
 
-pub in-words : {ws : List ℕ} {l x : ℕ} → LeadsIn ws l x → LedTo ws l x
+in-words : {ws : List ℕ} {l x : ℕ} → LeadsIn ws l x → LedTo ws l x
 in-words (from-hat s h) = hat-led s h
 in-words (from-register k r e h n) = register-led k r e h n
 in-words (along left c n) = link-led left (in-words c) n

@@ -135,11 +135,12 @@ module _ (l : ℕ) (s : Side) where
         }
     one-untouched (hat≔ y) m h x n = record { same-out = refl; same-inn = refl; same-val = refl }
 
-    pub untouched : (ws : List Write) (m : View) → WritesIn P ws → (x : ℕ) → (P x → ⊥) → SameAt m (written l s ws m) x
-    untouched [] m h x n = record { same-out = refl; same-inn = refl; same-val = refl }
-    untouched (w ∷ ws) m h x n =
+    pub writes-untouched : (ws : List Write) (m : View) → WritesIn P ws → (x : ℕ) → (P x → ⊥)
+        → SameAt m (written l s ws m) x
+    writes-untouched [] m h x n = record { same-out = refl; same-inn = refl; same-val = refl }
+    writes-untouched (w ∷ ws) m h x n =
         let a = one-untouched w m (h .0) x n in
-        let b = untouched ws (write l s w m) (h .1) x n in
+        let b = writes-untouched ws (write l s w m) (h .1) x n in
         record {
           same-out = b .same-out ∙ a .same-out;
           same-inn = b .same-inn ∙ a .same-inn;

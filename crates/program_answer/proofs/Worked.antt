@@ -49,5 +49,6 @@ unfolding beltRun linesOf printed answer startCommand beginCommand tickCommand l
     scanByte scanBytes ticks beginOr beginOf formOf pushOf commandWith commandOf commandRead ℕ-discrete decLt decLe
     Value-discrete decode stepIn stepOf isStepIn link value task allBelow sameWords nodeOk busyOk recordOk shapeOk
     heldFrom roots mark markAll visit visitFrom marked firstUnmarked allocate writeAll dcas act times startNodes
-    startWords start begin effectOf applied tickOn tick consecutiveTicks isBegun laneFrom lane lanesBelow hat hatsFrom bind
+    startWords start begin effectOf applied tickOn tick consecutiveTicks isBegun laneFrom lane lanesBelow hat hatsFrom
+    bind
 worked = refl

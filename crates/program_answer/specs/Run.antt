@@ -17,8 +17,8 @@ answer (Commands.Tick k h times) ws = tickCommand times ws k h
 answer Commands.Lane ws = laneCommand ws
 answer Commands.Unread ws = record { text = unreadText; words = ws }
 
--- What a command leaves in the places that it is lent for the bags of a lane: `(lane)` what a read writes there, and every
--- other command what there was.
+-- What a command leaves in the places that it is lent for the bags of a lane: `(lane)` what a read writes there, and
+-- every other command what there was.
 abbrev pub bagsAfter : Command → (ws bags : List ℕ) → List ℕ
 bagsAfter (Commands.Start S T g) ws bags = bags
 bagsAfter (Commands.Begin k op side digit low) ws bags = bags

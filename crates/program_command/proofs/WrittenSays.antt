@@ -7,7 +7,7 @@ use Rattle.text_scan.specs.Written.{value, Written, widthAfter, lastWidth}
 use Rattle.text_scan.proofs.WrittenLaws.{written-scanned}
 use Rattle.program_command.specs.Commands.{beginText, pushOf, commandWith, commandOf, commandRead}
 
-pub written-says : {line text : List ℕ} {numerals : List (List ℕ)} → Written line text numerals
+written-says : {line text : List ℕ} {numerals : List (List ℕ)} → Written line text numerals
     → commandRead line ≡ commandWith text (map value numerals) (lastWidth numerals)
 unfolding commandRead commandOf lastWidth
 written-says w = let r = written-scanned w in rw (r .text-found, r .numbers-found, r .width-found)

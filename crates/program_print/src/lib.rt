@@ -23,8 +23,8 @@ pub enum CommandOutcome {
     Unread,
 }
 
-// Puts the line of an outcome at a place of the buffer, and answers the place after it. The tags that a lane counted are
-// the first of those in the words, two words for a tag.
+// Puts the line of an outcome at a place of the buffer, and answers the place after it. The tags that a lane counted
+// are the first of those in the words, two words for a tag.
 pub fn print(outcome: CommandOutcome, words: &[u32], out: &mut [u8], at: usize) -> usize
     requires { ⌜ 2 * countOf outcome ≤ length (now words) ⌝ }
     requires { ⌜ at + roomFor (countOf outcome) ≤ length (now out) ⌝ }

@@ -1,4 +1,5 @@
-// The header of a table, word by word. Only this file and the definitions of tables say where in a header a word stands.
+// The header of a table, word by word. Only this file and the definitions of tables say where in a header a word
+// stands.
 ghost use mathlib.Core.Path.{_≡_};
 ghost use Prim.Native.Nat.{_<_};
 ghost use lib.Seq.{sets};

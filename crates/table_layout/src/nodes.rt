@@ -47,8 +47,8 @@ pub fn value(nodes: &[u32], x: u32) -> Stored
     }
 }
 
-// Whether node x holds a bag, and the tag's number; without a value between, the compiler reads the two words one by one and
-// does not take a word of 64 bits apart.
+// Whether node x holds a bag, and the tag's number; without a value between, the compiler reads the two words one by
+// one and does not take a word of 64 bits apart.
 pub fn holds_bag(nodes: &[u32], x: u32) -> bool
     requires { ⌜ HoldsNode (now nodes) x ⌝ }
     ensures { λ r. ⌜ r ≡ bagOk (storedIn (now (nodes .entry)) x) ⌝ }

@@ -221,8 +221,8 @@ pub fn table_refusal(table: &[u32]) -> u32
 }
 
 // 02 (2026-14): the record of every task where own stands for that of task k. A number that is no task has no place
-// there. The own record goes the way of the others, as words: the compiler then has the test of a record once, and keeps
-// it within the loop.
+// there. The own record goes the way of the others, as words: the compiler then has the test of a record once, and
+// keeps it within the loop.
 fn lent_tasks_ok(table: &[u32], k: u32, own: Task) -> bool
     requires { ⌜ lengthOk (now table) ≡ true ⌝ }
     ensures { λ r.

@@ -40,8 +40,8 @@ fn end_mark_ok(side: u32, v: Stored) -> bool
         || table_values::equal(v, table_values::x_of(far))
 }
 
-// 01: counted is 0 at step 54, below the goal at steps 31, 56, 58 and at most the goal elsewhere; value read is as V may be
-// (a bag at 51; LN or LX at 48). One choice by the step for both.
+// 01: counted is 0 at step 54, below the goal at steps 31, 56, 58 and at most the goal elsewhere; value read is as V
+// may be (a bag at 51; LN or LX at 48). One choice by the step for both.
 fn progress_ok(side: u32, step: u32, goal: u32, counted: u32, v: Stored) -> bool
     requires { ⌜ side < 2 ⌝ }
     ensures { λ r. ⌜ r ≡ countedOk step goal counted && valueReadOk (sideOf side) step v ⌝ }

@@ -18,7 +18,8 @@ const REMOVE: u8 = 16;
 
 pub type Owners = [u8; 83];
 
-// 01's list, by the step's number: the bits of the operations that have the step. 01: push 2, 3, 5, 8 and every add step.
+// 01's list, by the step's number: the bits of the operations that have the step. 01: push 2, 3, 5, 8 and every add
+// step.
 const OWNER: Owners = [
     NO_CALL,
     NO_CALL,

@@ -37,7 +37,8 @@ marks = map (λ (e : Entry). e .mark) mirrorTable
 abbrev pub mirrors : List ℕ
 mirrors = map (λ (e : Entry). e .mirror) mirrorTable
 
--- 02: "For each of the six it is shown to be what the table gave." The table is that of all marks, and of their mirrors.
+-- 02: "For each of the six it is shown to be what the table gave." The table is that of all marks, and of their
+-- mirrors.
 abbrev pub SumIsTable : Type 0
 SumIsTable =
     (map mirrorSum marks ≡ mirrors)

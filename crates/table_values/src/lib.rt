@@ -79,8 +79,8 @@ pub fn bag_ok(v: Stored) -> bool
     tag::is_tag(v.digit, v.word)
 }
 
-// 01: V holds a bag number, a mark, or 0 for never used. 02: marks have digit 0. Tests joined by `&`, here and in `table_shape`, have
-// no branches, so that the compiler tests several nodes at once.
+// 01: V holds a bag number, a mark, or 0 for never used. 02: marks have digit 0. Tests joined by `&`, here and in
+// `table_shape`, have no branches, so that the compiler tests several nodes at once.
 pub fn value_ok(v: Stored) -> bool
     ensures { λ r. ⌜ r ≡ valueOk v ⌝ }
 {

@@ -21,10 +21,20 @@ use Rattle.tag_packed.proofs.Laws.OneTag.{
   length-unpacked,
   length-packed,
 }
-use Rattle.tag_lists.specs.TagLists.{count, outcome, Way, firstBad, turnedAll, lengthOk, listTaken, reading, writing}
+use Rattle.tag_lists.specs.TagLists.{
+  count,
+  outcome,
+  Way,
+  firstBad,
+  turnedAll,
+  lengthOk,
+  listTaken,
+  reading,
+  writing,
+}
 use Rattle.tag_lists.specs.RoundTrips.{WrittenIsRead, ReadIsWritten}
 use Rattle.tag_lists.proofs.Laws.Ways.{first-good, length-turned}
-use Rattle.tag_lists.proofs.Laws.Taken.{accepted, all-taken}
+use Rattle.tag_lists.proofs.Laws.Taken.{list-accepted, all-taken}
 
 -- What is put out for a good tag is good on the way back and turned into the same elements.
 pub record Undoes (back there : Way) : Type 0 where
@@ -88,7 +98,7 @@ module _ (back there : Way) (U : Undoes back there) where
       ≡ outcome (count n) (list ++ drop (back .room * n) dest))
       × (drop (back .width * n) (listTaken there list out .out) ≡ drop (back .width * n) out)
   undone-list list out dest n e enough =
-      let a = accepted there list out n e in
+      let a = list-accepted there list out n e in
       let put = turnedAll there n list in
       let long : length put ≡ back .width * n = length-turned there n list (U .sized) ∙ ap (λ k. k * n) (U .width) in
       let left : listTaken there list out .out ≡ put ++ drop (back .width * n) out =

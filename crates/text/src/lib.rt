@@ -8,8 +8,8 @@ ghost use Rattle.text.specs.Text.{bytes, same};
 ghost use Rattle.text.specs.Numerals.{decimal, tagText, spaced};
 ghost use Rattle.text.specs.Writing.{Written};
 
-// Whether two byte strings are the same. One flag and no branch: of a text whose length it knows the compiler then compares
-// eight bytes at once.
+// Whether two byte strings are the same. One flag and no branch: of a text whose length it knows the compiler then
+// compares eight bytes at once.
 pub fn is_text(text: &[u8], want: &[u8]) -> bool
     ensures { λ r. ⌜ r ≡ same (now (text .entry)) (now (want .entry)) ⌝ }
 {

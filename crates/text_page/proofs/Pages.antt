@@ -97,7 +97,8 @@ no-lines (suc n) = ap (_++_ (line [])) (no-lines n)
 pub past-last : PastLast
 unfolding pageText
 past-last tags page h =
-    ap (λ (rest : List ℕ). heading (length tags) ++ tagLines tagLineCount rest) (drop-of-length-le tags {i = perPage * page} h)
+    ap (λ (rest : List ℕ). heading (length tags) ++ tagLines tagLineCount rest)
+    (drop-of-length-le tags {i = perPage * page} h)
     ∙ ap (_++_ (heading (length tags))) (no-lines tagLineCount)
 
 -- ---- What is said.

@@ -26,9 +26,9 @@ digit-before h ended = record { text = _; numerals = _; written = number (last h
 digit-before h (byte e w) = record { text = _; numerals = _; written = number (last h) e (byte e w) }
 digit-before h (number n e w) = record { text = _; numerals = _; written = number (then h n) e w }
 
-pub parts : (line : List ℕ) → Parts line
-parts [] = record { text = []; numerals = []; written = ended }
-parts (b ∷ line) = go (isDigit b) refl (parts line)
+line-parted : (line : List ℕ) → Parts line
+line-parted [] = record { text = []; numerals = []; written = ended }
+line-parted (b ∷ line) = go (isDigit b) refl (line-parted line)
   where
     go : (d : Bool) → isDigit b ≡ d → Parts line → Parts (b ∷ line)
     go true e p = digit-before e (p .written)

@@ -19,8 +19,8 @@ textPlaces = 39
 abbrev pub numberPlaces : ℕ
 numberPlaces = 4
 
--- a number above the largest tag is kept as the largest tag: it is unread all the same, as a tag by its width and as any
--- other number by its value
+-- a number above the largest tag is kept as the largest tag: it is unread all the same, as a tag by its width and as
+-- any other number by its value
 abbrev pub keptNumber : ℕ → ℕ
 keptNumber n = min largestTag n
 
@@ -116,8 +116,9 @@ pub record ScanKept (k : Kept) : Type 0 where
   pub up-to-tag : UpToTag (k .numbers)
   pub counts : Counts (k .scan)
 
--- It stands for what was scanned: the first bytes of its text; how many numbers it has, up to 4, and how many digits the
--- last of them is wide, up to 11; the first three numbers, 0 where there are fewer, and the last at the last place used.
+-- It stands for what was scanned: the first bytes of its text; how many numbers it has, up to 4, and how many digits
+-- the last of them is wide, up to 11; the first three numbers, 0 where there are fewer, and the last at the last place
+-- used.
 pub record Represents (k : Kept) (σ : Scanned) : Type 0 where
   pub text-kept : take (k .scan .length) (k .text) ≡ take textPlaces (σ .text)
   pub number-count : k .scan .count ≡ min numberPlaces (length (σ .numbers))

@@ -28,7 +28,7 @@ use Rattle.window.specs.Window.{
   feed,
 }
 use Rattle.window.specs.History.{Feed, fedTo}
-use Rattle.window.proofs.Laws.Tests.{clash, both}
+use Rattle.window.proofs.Laws.Tests.{clash, both-hold}
 use Rattle.window.proofs.Laws.Counting.{at-most-all, at-most-at}
 use Rattle.window.proofs.Laws.Windows.{header-facts, passed-header, ones-passed, zeros-passed}
 
@@ -77,7 +77,7 @@ module _ {W fed next last : ℕ} {ps : List ℕ} (F : Fits W fed next last ps) w
 
   places-pass : placesOk fed ps ≡ true
   places-pass =
-      both
+      both-hold
       (at-most-all 1 (take fed ps) (λ i l.
       rw (getD-take fed ps i 0 (omega (arith, l, length-take-le fed ps (omega (arith, F .few, F .long))))) (F .bits i)))
       (at-most-all 0 (drop fed ps) (λ i l.
@@ -85,11 +85,11 @@ module _ {W fed next last : ℕ} {ps : List ℕ} (F : Fits W fed next last ps) w
 
   pub fits-window : isWindow (windowOf W fed next last ps) ≡ true
   fits-window =
-      both
-      (both
-      (both
-      (both
-      (both (both (le-leb 1 W (omega (arith, F .is-place))) (le-leb W 4_096 (F .most)))
+      both-hold
+      (both-hold
+      (both-hold
+      (both-hold
+      (both-hold (both-hold (le-leb 1 W (omega (arith, F .is-place))) (le-leb W 4_096 (F .most)))
       (eq-eqb (length (windowOf W fed next last ps)) (W + 4) (omega (arith, F .long))))
       (le-leb fed W (F .few)))
       next-passes)

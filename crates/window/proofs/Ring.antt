@@ -31,20 +31,20 @@ by-place P W next j f g = go (ltb j next) refl
     go false e = g (ltb-false j next e)
 
 -- The oldest tick of W stands at the next place; every other stands elsewhere.
-pub place-oldest : (W next j : ℕ) → next < W → j + 1 ≡ W → placeOf W next j ≡ next
+place-oldest : (W next j : ℕ) → next < W → j + 1 ≡ W → placeOf W next j ≡ next
 place-oldest W next j h e = by-place (λ p. p ≡ next) W next j (λ l. omega arith) (λ l. omega arith)
 
-pub place-other : (W next j : ℕ) → next < W → j + 1 < W → placeOf W next j ≢ next
+place-other : (W next j : ℕ) → next < W → j + 1 < W → placeOf W next j ≢ next
 place-other W next j h l = by-place (λ p. p ≢ next) W next j (λ m e. omega arith) (λ m e. omega arith)
 
 -- After one more tick the newest stands there, and each other is one tick older.
-pub place-newest : (W next : ℕ) → next < W → placeOf W (goRound W next) 0 ≡ next
+place-newest : (W next : ℕ) → next < W → placeOf W (goRound W next) 0 ≡ next
 place-newest W next h =
     by-round (λ n. placeOf W n 0 ≡ next) W next
     (λ l. by-place (λ p. p ≡ next) W (next + 1) 0 (λ m. omega arith) (λ m. omega arith))
     (λ l. by-place (λ p. p ≡ next) W 0 0 (λ m. omega arith) (λ m. omega arith))
 
-pub place-older : (W next j : ℕ) → next < W → j + 1 < W → placeOf W (goRound W next) (suc j) ≡ placeOf W next j
+place-older : (W next j : ℕ) → next < W → j + 1 < W → placeOf W (goRound W next) (suc j) ≡ placeOf W next j
 place-older W next j h l =
     by-place (λ p. placeOf W (goRound W next) (suc j) ≡ p) W next j
     (λ m. by-round (λ n. placeOf W n (suc j) ≡ next - 1 - j) W next

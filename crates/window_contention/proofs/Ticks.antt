@@ -14,17 +14,7 @@ use Rattle.machine.specs.Choice.{_<?_}
 use Rattle.machine.specs.Sides.{opposite}
 use Rattle.machine.specs.Steps.{stepNumber}
 use Rattle.machine.specs.Tasks.{Task, fresh, goal, wordsOf, stepWord, taskOf}
-use Rattle.machine.specs.Table.{
-  nodeCount,
-  taskCount,
-  growth,
-  laneCount,
-  tickCount,
-  dispatched,
-  recordWords,
-  task,
-  setDispatched,
-}
+use Rattle.machine.specs.Table.{nodeCount, taskCount, growth, laneCount, dispatched, recordWords, task, setDispatched}
 use Rattle.machine.specs.Shape.{lengthOk, shapeOk, WellFormed, recordOk, Sizes, sizesOf, WellSized}
 use Rattle.machine.specs.Allocate.{allocate}
 use Rattle.machine.specs.Lines.{seen}

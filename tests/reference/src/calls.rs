@@ -1,5 +1,7 @@
 //! The public calls: their refusals in order, then their work.
 
+use std::array::from_fn;
+
 use crate::answer::Answer;
 use crate::refusal;
 use crate::shape;
@@ -70,8 +72,13 @@ pub fn begin(
         digit,
         argument,
     };
+    checked_begin(table, sizes, task, call)
+}
+
+/// A begin on a table whose shape is known to hold.
+fn checked_begin(table: &mut [u32], sizes: Sizes, task: u32, call: Call) -> Result<(), u32> {
     call.check(sizes, task)?;
-    if operation == table::PUSH {
+    if call.operation == table::PUSH {
         let tag = call.content();
         let (_, _, records) = sizes.parts(table);
         // The whole walk comes first: no tag is known to be there where some lane cannot be read.
@@ -85,6 +92,14 @@ pub fn begin(
     }
     table[at..at + record::WORDS].copy_from_slice(&call.record());
     Ok(())
+}
+
+/// A whole call: a begin, and ticks of its task with hint 0 until one answers, or so many. A begin and a tick keep the
+/// shape, so it is tested once for all of them.
+pub fn whole(table: &mut [u32], task: u32, call: Call, times: u32) -> Result<Answer, u32> {
+    let sizes = shape::check(table)?;
+    checked_begin(table, sizes, task, call)?;
+    checked_ticks(table, sizes, task, 0, times)
 }
 
 /// What a begin is given beside its task.
@@ -152,6 +167,16 @@ pub fn ticks(table: &mut [u32], task: u32, hint: u32, times: u32) -> Result<Answ
     }
     // A tick keeps the shape, so it is tested once for all of them.
     let sizes = shape::check(table)?;
+    checked_ticks(table, sizes, task, hint, times)
+}
+
+fn checked_ticks(
+    table: &mut [u32],
+    sizes: Sizes,
+    task: u32,
+    hint: u32,
+    times: u32,
+) -> Result<Answer, u32> {
     for _ in 0..times {
         match checked_tick(table, sizes, task, hint)? {
             Answer::Going => {}
@@ -202,26 +227,53 @@ pub fn read(table: &[u32], lane: u32, out: &mut [u32]) -> Result<u32, u32> {
     if lane >= sizes.lanes {
         return Err(refusal::LANE);
     }
-    // The whole walk comes before the first write.
+    // The whole walk comes before the first write; its nodes are kept: a second one would wait for each link again.
+    let mut visited = [0_u16; Sizes::MAX_NODES];
     let mut count = 0;
-    walk(table, sizes, lane, |_| count += 1)?;
-    let out = out.get_mut(..2 * count).ok_or(refusal::OUT_LENGTH)?;
-    let mut places = out.chunks_exact_mut(2);
-    walk(table, sizes, lane, |[low, digit]| {
-        if let Some(place) = places.next() {
-            place.copy_from_slice(&[digit, low]);
-        }
+    walk(table, sizes, lane, |number, _| {
+        visited[count % Sizes::MAX_NODES] = number as u16;
+        count += 1;
     })?;
+    let out = out.get_mut(..2 * count).ok_or(refusal::OUT_LENGTH)?;
+    let nodes = nodes(table, sizes);
+    for (place, &number) in out.chunks_exact_mut(2).zip(&visited) {
+        let [low, digit] = content_of(&nodes[usize::from(number)]);
+        place.copy_from_slice(&[digit, low]);
+    }
     Ok(count as u32)
 }
 
 /// Whether a tag stands in any lane.
 pub fn stands(table: &[u32], sizes: Sizes, wanted: Content) -> Result<bool, u32> {
-    let mut found = false;
-    for lane in 0..sizes.lanes {
-        walk(table, sizes, lane, |tag| found |= tag == wanted)?;
+    match sizes.lanes {
+        1 => stands_in::<1>(table, sizes, wanted),
+        2 => stands_in::<2>(table, sizes, wanted),
+        3 => stands_in::<3>(table, sizes, wanted),
+        _ => stands_in::<4>(table, sizes, wanted),
     }
-    Ok(found)
+}
+
+/// The same of so many lanes, which are walked side by side: each waits for its own links alone.
+fn stands_in<const N: usize>(table: &[u32], sizes: Sizes, wanted: Content) -> Result<bool, u32> {
+    let nodes = nodes(table, sizes);
+    let mut ends: [&[u32; node::WORDS]; N] =
+        from_fn(|lane| &nodes[table[header::hat(lane as u32, LEFT)] as usize]);
+    let mut going = [true; N];
+    let mut found = false;
+    for _ in 0..sizes.nodes {
+        for (end, going) in ends.iter_mut().zip(&mut going) {
+            if *going {
+                *end = next(nodes, end)?;
+                let content = content_of(end);
+                *going = table::is_tag(content);
+                found |= content == wanted;
+            }
+        }
+        if going == [false; N] {
+            return Ok(found);
+        }
+    }
+    Err(refusal::NO_NODE)
 }
 
 /// Whether a tag is the argument of a busy push, whichever of these records'.
@@ -231,31 +283,43 @@ pub fn is_pushed(records: &[u32], tag: Content) -> bool {
     })
 }
 
-/// Shows the tags of a lane, leftmost first, up to its end; there may be none to find.
+/// Shows the nodes of a lane and their tags, leftmost first, up to its end; there may be none to find.
 pub fn walk(
     table: &[u32],
     sizes: Sizes,
     lane: u32,
-    mut show: impl FnMut(Content),
+    mut show: impl FnMut(u32, Content),
 ) -> Result<(), u32> {
-    let mut number = table[header::hat(lane, LEFT)];
+    let nodes = nodes(table, sizes);
+    let mut node = &nodes[table[header::hat(lane, LEFT)] as usize];
     for _ in 0..sizes.nodes {
-        number = next(table, sizes, number)?;
-        let content = content(table, sizes.node(number) + node::VALUE);
+        let number = node[node::RIGHT];
+        node = next(nodes, node)?;
+        let content = content_of(node);
         if !table::is_tag(content) {
             return Ok(());
         }
-        show(content);
+        show(number, content);
     }
     Err(refusal::NO_NODE)
 }
 
+/// The nodes of a table.
+fn nodes(table: &[u32], sizes: Sizes) -> &[[u32; node::WORDS]] {
+    table[sizes.node(0)..sizes.record(0)].as_chunks().0
+}
+
 /// The node to the right; none has no place in the deque.
-fn next(table: &[u32], sizes: Sizes, number: u32) -> Result<u32, u32> {
-    match table[sizes.node(number) + node::RIGHT] {
-        NONE => Err(refusal::NO_NODE),
-        next => Ok(next),
-    }
+fn next<'a>(
+    nodes: &'a [[u32; node::WORDS]],
+    node: &[u32; node::WORDS],
+) -> Result<&'a [u32; node::WORDS], u32> {
+    let next = nodes.get(node[node::RIGHT] as usize);
+    next.ok_or(refusal::NO_NODE)
+}
+
+fn content_of(node: &[u32; node::WORDS]) -> Content {
+    [node[node::VALUE], node[node::DIGIT]]
 }
 
 fn scheduled_sizes(

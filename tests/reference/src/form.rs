@@ -6,17 +6,36 @@ use crate::table;
 #[derive(Clone, Copy, Debug, PartialEq, Eq)]
 pub enum Form {
     /// Start with these sizes.
-    Start { nodes: u32, tasks: u32, growth: u32 },
+    Start {
+        /// Number of nodes.
+        nodes: u32,
+        /// Number of tasks.
+        tasks: u32,
+        /// Goal of the allocation made by a push.
+        growth: u32,
+    },
     /// Begin an operation.
     Begin {
+        /// The task.
         task: u32,
+        /// The operation.
         operation: u32,
+        /// Its side.
         side: u32,
+        /// The leading digit of its argument.
         digit: u32,
+        /// Its argument, of a tag the low part.
         argument: u32,
     },
-    /// Make ticks, at most `times`, which is in range.
-    Tick { task: u32, hint: u32, times: u32 },
+    /// Make ticks.
+    Tick {
+        /// The task.
+        task: u32,
+        /// Where the search for a node begins.
+        hint: u32,
+        /// How many at most, 1 to 1,000.
+        times: u32,
+    },
     /// Read the deque.
     Read,
 }
@@ -96,6 +115,8 @@ impl Rest<'_> {
             .then_some(Form::Tick { task, hint, times })
     }
 
+    /// Set into its callers, where the length is known, it compares words and not bytes.
+    #[inline(always)]
     fn skip(&mut self, text: &str) -> bool {
         match self.0.strip_prefix(text.as_bytes()) {
             Some(rest) => {
@@ -106,6 +127,7 @@ impl Rest<'_> {
         }
     }
 
+    #[inline(always)]
     fn expect(&mut self, text: &str) -> Option<()> {
         self.skip(text).then_some(())
     }

@@ -13,7 +13,7 @@ mod alloc;
 mod answer;
 mod calls;
 mod dispatch;
-mod form;
+pub mod form;
 mod lent;
 pub mod lines;
 pub mod lists;
@@ -29,7 +29,7 @@ pub mod window;
 
 pub use alloc::count_free;
 pub use answer::Answer;
-pub use calls::{begin, panel, read, run, start, tick, ticks};
+pub use calls::{begin, panel, read, run, start, tick, ticks, whole, Call};
 pub use dispatch::{dispatch, dispatches};
 pub use lent::begin_record;
 pub use lists::{read_tags, write_tags};

@@ -1,7 +1,7 @@
 //! Tag lists of the baggage office: packed decimal, five bytes a tag, read to two words a tag and written from them.
 
 use crate::refusal;
-use crate::table::is_tag;
+use crate::table::{MAX_DIGIT, MAX_LOW};
 
 /// Bytes of a tag in a list: ten digits, two to a byte, the higher first.
 pub const TAG_BYTES: usize = 5;
@@ -13,17 +13,6 @@ pub const MAX_TAGS: usize = 1024;
 /// What the second of the ten digits counts.
 const SECOND: u32 = 100_000_000;
 
-/// The byte of each number of two digits.
-const PACKED: [u8; 100] = {
-    let mut bytes = [0; 100];
-    let mut number = 0;
-    while number < bytes.len() {
-        bytes[number] = (number / 10 * 16 + number % 10) as u8;
-        number += 1;
-    }
-    bytes
-};
-
 /// Reads a list; returns 0 and the count of its tags, or the refusal and, for a tag refused, its place.
 pub fn read_tags(bytes: &[u8], words: &mut [u32]) -> (u32, u32) {
     let tags = bytes.chunks_exact(TAG_BYTES);
@@ -32,8 +21,14 @@ pub fn read_tags(bytes: &[u8], words: &mut [u32]) -> (u32, u32) {
         return (refusal::TAGS_LENGTH, 0);
     }
     let tags = tags.map(Halves::of);
-    if let Some(place) = tags.clone().position(|halves| !halves.is_tag()) {
-        return (refusal::NO_TAG, place as u32);
+    // All are tested at once: the place is looked for where one is none.
+    if !are_digits(bytes)
+        || !tags
+            .clone()
+            .fold(true, |all, halves| all & !halves.are_zero())
+    {
+        let place = tags.clone().position(|halves| !halves.is_tag());
+        return (refusal::NO_TAG, place.unwrap_or(count) as u32);
     }
     let Some(out) = words.get_mut(..TAG_WORDS * count) else {
         return (refusal::TAGS_OUT, 0);
@@ -51,8 +46,13 @@ pub fn write_tags(words: &[u32], bytes: &mut [u8]) -> (u32, u32) {
     if !tags.remainder().is_empty() || count > MAX_TAGS {
         return (refusal::TAGS_LENGTH, 0);
     }
-    if let Some(place) = tags.clone().position(|tag| !is_tag([tag[1], tag[0]])) {
-        return (refusal::NO_TAG, place as u32);
+    let fits = |tag: &[u32]| {
+        let [digit, low] = [tag[0], tag[1]];
+        (low <= MAX_LOW) & (digit <= MAX_DIGIT) & (low | digit != 0)
+    };
+    if !tags.clone().fold(true, |all, tag| all & fits(tag)) {
+        let place = tags.clone().position(|tag| !fits(tag));
+        return (refusal::NO_TAG, place.unwrap_or(count) as u32);
     }
     let Some(out) = bytes.get_mut(..TAG_BYTES * count) else {
         return (refusal::TAGS_OUT, 0);
@@ -61,6 +61,14 @@ pub fn write_tags(words: &[u32], bytes: &mut [u8]) -> (u32, u32) {
         five.copy_from_slice(&packed(tag[0], tag[1]));
     }
     (0, count as u32)
+}
+
+/// Whether all half bytes are digits, by the greatest byte and the greatest lower half.
+fn are_digits(bytes: &[u8]) -> bool {
+    let (most, lower) = bytes.iter().fold((0, 0), |(most, lower): (u8, u8), &byte| {
+        (most.max(byte), lower.max(byte & 0xf))
+    });
+    most < 0xa0 && lower < 0xa
 }
 
 /// The half bytes of a tag: the first two, and the other eight.
@@ -77,7 +85,11 @@ impl Halves {
     fn is_tag(self) -> bool {
         // A half byte above 9 has the bit of 8, and that of 4 or that of 2.
         let above = |halves: u32| halves & (halves << 1 | halves << 2) & 0x8888_8888;
-        above(self.0) | above(self.1) == 0 && self.0 | self.1 != 0
+        above(self.0) | above(self.1) == 0 && !self.are_zero()
+    }
+
+    fn are_zero(self) -> bool {
+        self.0 | self.1 == 0
     }
 
     /// The leading digit and the low part; the eight are joined two and two, three times.
@@ -90,15 +102,11 @@ impl Halves {
     }
 }
 
-/// The five bytes of a tag.
+/// The five bytes of a tag: its pairs of digits, each with six more for each ten.
 fn packed(digit: u32, low: u32) -> [u8; TAG_BYTES] {
-    let two = |number: u32| PACKED[number as usize % 100];
-    let (upper, four) = (low / 10_000, low % 10_000);
-    [
-        (16 * digit + low / SECOND) as u8,
-        two(upper / 100),
-        two(upper),
-        two(four / 100),
-        two(four),
-    ]
+    let (upper, four) = ((low / 10_000 % 10_000) as u16, (low % 10_000) as u16);
+    let first = (10 * digit + low / SECOND) as u16;
+    let pairs = [first, upper / 100, upper % 100, four / 100, four % 100];
+    // The quotient by 10 of a number below 100 is in the upper bits of a product.
+    pairs.map(|pair| (pair + 6 * ((pair * 103) >> 10)) as u8)
 }

@@ -7,6 +7,7 @@ use crate::table::{
 };
 
 /// The sizes of a table whose shape holds, or the refusal.
+#[inline(never)]
 pub fn check(table: &[u32]) -> Result<Sizes, u32> {
     let sizes = sizes(table).ok_or(refusal::SIZES)?;
     if holds(table, sizes) {
@@ -102,29 +103,51 @@ fn node_holds(node: &[u32], sizes: Sizes) -> bool {
 }
 
 fn records_hold(records: &[u32], sizes: Sizes) -> bool {
-    records
-        .chunks_exact(record::WORDS)
-        .all(|task| record_holds(task, sizes))
+    let (records, _) = records.as_chunks();
+    records.iter().all(|task| record_holds(task, sizes))
 }
 
-fn record_holds(task: &[u32], sizes: Sizes) -> bool {
+fn record_holds(task: &[u32; record::WORDS], sizes: Sizes) -> bool {
     let operation = task[record::OPERATION];
     if operation == table::IDLE {
-        return task == record::FRESH;
+        let words = task.iter().zip(record::FRESH);
+        return words.fold(0, |bits, (word, fresh)| bits | (word ^ fresh)) == 0;
     }
-    // An unknown operation has no argument that fits and no step.
-    task[record::SIDE] <= 1
-        && table::step_belongs(operation, task[record::STEP])
+    // An unknown operation has no step, nor an argument that fits.
+    let registers = &task[record::A..=record::D];
+    owns(operation, task[record::STEP])
         && table::argument_fits(operation, content(task, record::ARGUMENT))
         && counted_holds(task, sizes)
         && value_holds(task)
-        && task[record::A..=record::D]
-            .iter()
-            .all(|&word| is_link(word, sizes))
-        && task[record::LANE] < sizes.lanes
+        && (task[record::SIDE] <= 1)
+            & (task[record::LANE] < sizes.lanes)
+            & registers
+                .iter()
+                .fold(true, |hold, &word| hold & is_link(word, sizes))
 }
 
-fn counted_holds(task: &[u32], sizes: Sizes) -> bool {
+/// Whether the step is one of the operation's, by the table of all steps.
+fn owns(operation: u32, step: u32) -> bool {
+    let owners = OWNERS.get(step as usize).copied().unwrap_or(0);
+    (operation <= table::REMOVE) & (owners >> (operation % 8) & 1 == 1)
+}
+
+/// For each step a bit for each operation that has it.
+static OWNERS: [u8; 83] = {
+    let mut owners = [0; 83];
+    let mut step = 0;
+    while step < owners.len() {
+        let mut operation = table::PUSH;
+        while operation <= table::REMOVE {
+            owners[step] |= (table::step_belongs(operation, step as u32) as u8) << operation;
+            operation += 1;
+        }
+        step += 1;
+    }
+    owners
+};
+
+fn counted_holds(task: &[u32; record::WORDS], sizes: Sizes) -> bool {
     let counted = task[record::COUNTED];
     let goal = table::goal(
         task[record::OPERATION],
@@ -138,7 +161,7 @@ fn counted_holds(task: &[u32], sizes: Sizes) -> bool {
     }
 }
 
-fn value_holds(task: &[u32]) -> bool {
+fn value_holds(task: &[u32; record::WORDS]) -> bool {
     let value = content(task, record::VALUE);
     match task[record::STEP] {
         48 => {

@@ -55,7 +55,7 @@ fn tags_of(table: &[u32], lane: u32, page: u32) -> Result<Tags, u32> {
         on_page: 0,
         in_lane: 0,
     };
-    calls::walk(table, sizes, lane, |tag| {
+    calls::walk(table, sizes, lane, |_, tag| {
         if tags.in_lane >= first && tags.on_page < PAGE_TAGS {
             tags.page[tags.on_page] = tag;
             tags.on_page += 1;
@@ -77,13 +77,29 @@ impl Tags {
         heading[5..9].copy_from_slice(&eight_digits(self.in_lane as u32)[4..]);
         let tags = self.page[..self.on_page].chunks(LINE_TAGS);
         for (line, tags) in lines.chunks_exact_mut(COLUMNS + 1).zip(tags) {
-            for (place, &[low, digit]) in line.chunks_exact_mut(DIGITS + 1).zip(tags) {
-                place[0] = b'0' + digit as u8;
-                place[1] = b'0' + (low / SECOND) as u8;
-                place[2..DIGITS].copy_from_slice(&eight_digits(low % SECOND));
+            for (place, &tag) in line.chunks_exact_mut(DIGITS + 1).zip(tags) {
+                place[..DIGITS].copy_from_slice(&ten_digits(tag));
             }
         }
     }
+}
+
+/// The digits of a tag with its zeros.
+pub fn ten_digits([low, digit]: Content) -> [u8; DIGITS] {
+    let mut digits = [
+        b'0' + digit as u8,
+        b'0' + (low / SECOND) as u8,
+        0,
+        0,
+        0,
+        0,
+        0,
+        0,
+        0,
+        0,
+    ];
+    digits[2..].copy_from_slice(&eight_digits(low % SECOND));
+    digits
 }
 
 /// The digits of a number below 100,000,000 with its zeros. It is parted three times, in fours, in pairs and in digits;

@@ -302,7 +302,7 @@ pub fn first_step(operation: u32) -> u32 {
 }
 
 /// Whether the step is one of the operation's.
-pub fn step_belongs(operation: u32, step: u32) -> bool {
+pub const fn step_belongs(operation: u32, step: u32) -> bool {
     match step {
         2 | 3 | 5 | 8 => operation == PUSH,
         28 | 31 | 15 | 17 | 18 | 24 | 25 | 67..=70 | 72 => matches!(operation, PUSH | ADD),

@@ -1,4 +1,5 @@
--- What an accepted list is: its forms are those of what it says, no code comes twice, and every code is of three digits.
+-- What an accepted list is: its forms are those of what it says, no code comes twice, and every code is of three
+-- digits.
 use mathlib.Core.Path.{_≡_, refl, sym, ap, _∙_, subst}
 use mathlib.Core.Bool.{Bool, true, false, _||_}
 use mathlib.Core.List.{List, [], _∷_, _++_, map, append-assoc, append-nil}
@@ -70,7 +71,8 @@ rest n es [] all closing D h = clash (cc)
 rest n es (Neither ∷ forms) all closing D h = clash (cc)
 rest n es (Others end ∷ forms) all closing D h = go (ltb 64 n) refl (noneLeft forms) refl
   where
-    go : (many : Bool) → ltb 64 n ≡ many → (last : Bool) → noneLeft forms ≡ last → Rest es (Others end ∷ forms) all closing
+    go : (many : Bool) → ltb 64 n ≡ many → (last : Bool) → noneLeft forms ≡ last
+        → Rest es (Others end ∷ forms) all closing
     go true e last f = let z : faulty 27 n ≡ says all closing = rw e at h in clash (cc)
     go false e false f = let z : faulty 29 n ≡ says all closing = rw (e, f) at h in clash (cc)
     go false e true f =
@@ -87,7 +89,8 @@ rest n es (Airline code end ∷ forms) all closing D h =
     go (ltb 64 n) refl (named code es) refl (noneLeft forms) refl
     (λ d r. rest (suc n) (es ++ (entry code end ∷ [])) forms all closing d r)
   where
-    go : (many : Bool) → ltb 64 n ≡ many → (again : Bool) → named code es ≡ again → (last : Bool) → noneLeft forms ≡ last
+    go : (many : Bool) → ltb 64 n ≡ many → (again : Bool) → named code es ≡ again → (last : Bool) → noneLeft forms
+        ≡ last
         → (Distinct (es ++ (entry code end ∷ []))
         → judged (suc n) (es ++ (entry code end ∷ [])) forms ≡ says all closing
         → Rest (es ++ (entry code end ∷ [])) forms all closing)

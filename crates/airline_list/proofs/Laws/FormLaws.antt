@@ -19,14 +19,14 @@ use Rattle.airline_list.specs.FirstForm.{airlineBehind}
 use Rattle.airline_list.specs.Marks.{codes, InRange}
 
 -- ---- Lines that begin as an airline's.
-pub same-behind : (front xs ys : List ℕ) → same (front ++ xs) (front ++ ys) ≡ same xs ys
+same-behind : (front xs ys : List ℕ) → same (front ++ xs) (front ++ ys) ≡ same xs ys
 same-behind [] xs ys = refl
 same-behind (b ∷ bs) xs ys = rw (eq-eqb b b refl) (same-behind bs xs ys)
 
 abbrev pub airlineLine : (code : ℕ) (rest : List ℕ) → List ℕ
 airlineLine code rest = bytes "(airline (code " ++ (codeText code ++ rest)
 
-pub code-written : (code : ℕ) (rest : List ℕ) → codeIn (airlineLine code rest) ≡ code % codes
+code-written : (code : ℕ) (rest : List ℕ) → codeIn (airlineLine code rest) ≡ code % codes
 unfolding lastDigits numberFrom
 code-written code rest = omega arith
 
@@ -69,7 +69,8 @@ code-small line end h =
 pub form-in-range : (line : List ℕ) → InRange (formOf line)
 unfolding formOf
 form-in-range line =
-    go (same line (formText (Airline (codeIn line) Left))) refl (same line (formText (Airline (codeIn line) Right))) refl
+    go (same line (formText (Airline (codeIn line) Left))) refl (same line (formText (Airline (codeIn line) Right)))
+    refl
     (same line (formText (Others Left))) (same line (formText (Others Right)))
   where
     go : (a : Bool) → same line (formText (Airline (codeIn line) Left)) ≡ a

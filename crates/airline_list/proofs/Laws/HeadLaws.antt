@@ -93,7 +93,8 @@ pub head-in-parts : (text : List ℕ) {first second : Bool}
     → same (take 15 text) (bytes "(airline (code ") ≡ (first && second)
 head-in-parts text e f =
     sym (same-in-parts 8 (take 15 text) (bytes "(airline (code "))
-    ∙ (λ i. same (take-take 8 15 text (omega arith) i) (bytes "(airline") && same (drop-of-take 8 7 text i) (bytes " (code "))
+    ∙ (λ i. same (take-take 8 15 text (omega arith) i) (bytes "(airline") && same (drop-of-take 8 7 text i)
+    (bytes " (code "))
     ∙ (λ i. e i && f i)
 
 -- ---- The three digits of a code.
@@ -114,7 +115,8 @@ digits text h =
 -- A byte that is missing is no digit.
 pub short-no-digits : (text : List ℕ) → length text < 18 → threeDigits text ≡ false
 short-no-digits text h =
-    rw (List·getD-eq-default text 0 {n = 17} (omega arith)) (and-false (isDigit (getD text 15 0) && isDigit (getD text 16 0)))
+    rw (List·getD-eq-default text 0 {n = 17} (omega arith)) (and-false (isDigit (getD text 15 0) && isDigit
+    (getD text 16 0)))
 
 pub digits-long : (text : List ℕ) → threeDigits text ≡ true → 18 ≤ length text
 digits-long text h = go (decLt (length text) 18)

@@ -31,7 +31,7 @@ pub forms-end : (list : List ℕ) (from : ℕ) → length list ≤ from → form
 unfolding linesOf
 forms-end list from h = rw (drop-of-length-le list {i = from} h)
 
-pub some-forms : (list : List ℕ) (from : ℕ) → from < length list → noneLeft (formsAt list from) ≡ false
+some-forms : (list : List ℕ) (from : ℕ) → from < length list → noneLeft (formsAt list from) ≡ false
 some-forms list from h =
     let some : 0 < length (drop from list) = simp length-drop (omega arith) in
     rw (first-of-lines (drop from list) some)

@@ -1,14 +1,13 @@
 -- The lines read one by one: what is left to read, after what was read, comes to what the list comes to.
 use mathlib.Core.Path.{_≡_, refl, sym, ap, _∙_, subst}
-use mathlib.Core.Bool.{Bool, true, false, cond, not}
+use mathlib.Core.Bool.{Bool, true, false, cond}
 use mathlib.Core.Logic.{_⊎_, inl, inr}
 use mathlib.Core.List.{List, [], _∷_, _++_}
 use Prim.Native.Nat.{ℕ, suc, _+_, _≤_, _<_}
 use native.Mathlib.Numerals.{add-one}
 use native.Mathlib.Omega.{arith}
 use borrow.Author.Tests.{lt-ltb, le-ltb}
-use lib.Dec.{eqb}
-use lib.ListN.{length, getD, set, drop}
+use lib.ListN.{length, drop}
 use Rattle.tag.proofs.TagLaws.{clash}
 use Rattle.text.specs.Lines.{firstLine}
 use Rattle.airline_list.specs.declared.End.{End}
@@ -34,7 +33,19 @@ use Rattle.airline_list.specs.Lists.{
   checked,
   sent,
 }
-use Rattle.airline_list.specs.Marks.{endMark, markedEnd, Marked, InRange, Turned, turnedOf, turned, closing, MarkedAs}
+use Rattle.airline_list.specs.Marks.{
+  hasBit,
+  withBit,
+  markedEnd,
+  markWith,
+  Kept,
+  InRange,
+  Turned,
+  turnedOf,
+  turned,
+  Reading,
+  sentTo,
+}
 use Rattle.airline_list.proofs.Laws.FormLaws.{form-text, form-in-range}
 use Rattle.airline_list.proofs.Laws.LineLaws.{
   formAt,
@@ -45,86 +56,86 @@ use Rattle.airline_list.proofs.Laws.LineLaws.{
   forms-first,
   forms-behind,
 }
-use Rattle.airline_list.proofs.Laws.MarkLaws.{marked-named, marked-end, marked-more}
+use Rattle.airline_list.proofs.Laws.MarkLaws.{marked-end, kept-more}
 
 -- ---- One line.
 
 -- One airline more.
-pub record Next (marks : List ℕ) (n : ℕ) (es : List Entry) (forms : List Form) (v : Verdict) : Type 0 where
+pub record Next (wanted : ℕ) (seen : List ℕ) (mark n : ℕ) (es : List Entry) (forms : List Form) (v : Verdict)
+    : Type 0 where
   pub airline : Entry
-  pub marked : Marked marks (es ++ (airline ∷ []))
+  pub kept : Kept wanted seen mark (es ++ (airline ∷ []))
   pub goes-on : judged (suc n) (es ++ (airline ∷ [])) forms ≡ v
 
 -- What the lines from n on come to, by the turn that line n takes.
-abbrev pub Comes : Turn → (marks : List ℕ) (n : ℕ) (es : List Entry) (forms : List Form) → Verdict → Type 0
-Comes More marks n es forms v = Next marks n es forms v
-Comes (Closed end) marks n es forms v = (says es end ≡ v) × Marked marks es
-Comes (Fault number) marks n es forms v = faulty number n ≡ v
+abbrev pub Comes : Turn → (wanted : ℕ) (seen : List ℕ) (mark n : ℕ) (es : List Entry) (forms : List Form) → Verdict
+    → Type 0
+Comes More wanted seen mark n es forms v = Next wanted seen mark n es forms v
+Comes (Closed end) wanted seen mark n es forms v = (says es end ≡ v) × Kept wanted seen mark es
+Comes (Fault number) wanted seen mark n es forms v = faulty number n ≡ v
 
-abbrev ComesTo : Turned → (n : ℕ) (es : List Entry) (forms : List Form) → Verdict → Type 0
-ComesTo t n es forms v = Comes (t .turn) (t .marks) n es forms v
+abbrev ComesTo : Turned → (wanted mark n : ℕ) (es : List Entry) (forms : List Form) → Verdict → Type 0
+ComesTo t wanted mark n es forms v = Comes (t .turn) wanted (t .seen) mark n es forms v
 
-module _ {marks : List ℕ} {es : List Entry} (M : Marked marks es) (n : ℕ) (few : n ≤ 64) (forms : List Form) where
-  line-comes : (form : Form) → InRange form → ComesTo (turned marks form (noneLeft forms)) n es forms (judged n es (form ∷ forms))
+module _ {wanted : ℕ} {seen : List ℕ} {mark : ℕ} {es : List Entry} (K : Kept wanted seen mark es)
+    (n : ℕ) (few : n ≤ 64) (forms : List Form) where
+  line-comes : (form : Form) → InRange form
+      → ComesTo (turned seen form (noneLeft forms)) wanted (markWith wanted mark form) n es forms
+      (judged n es (form ∷ forms))
   unfolding turned judged
   line-comes Neither r = refl
   line-comes (Others end) r = go (noneLeft forms) refl
     where
       go : (last : Bool) → noneLeft forms ≡ last
-          → ComesTo (cond last (turnedOf (Closed end) marks) (turnedOf (Fault 29) marks)) n es forms
+          → ComesTo (cond last (turnedOf (Closed end) seen) (turnedOf (Fault 29) seen)) wanted mark n es forms
           (judged n es (Others end ∷ forms))
-      go true e = (sym (rw (le-ltb 64 n few, e)), M)
+      go true e = (sym (rw (le-ltb 64 n few, e)), K)
       go false e = sym (rw (le-ltb 64 n few, e))
-  line-comes (Airline code end) small = go (eqb (getD marks code 0) 0) refl (noneLeft forms) refl
+  line-comes (Airline code end) small = go (hasBit seen code) refl (noneLeft forms) refl
     where
-      go : (fresh : Bool) → eqb (getD marks code 0) 0 ≡ fresh → (last : Bool) → noneLeft forms ≡ last
-          → ComesTo (cond fresh (cond last (turnedOf (Fault 29) marks) (turnedOf More (set marks code (endMark end))))
-          (turnedOf (Fault 28) marks)) n es forms (judged n es (Airline code end ∷ forms))
-      go false h last e =
-          let again : named code es ≡ true = marked-named M code ∙ ap not h in
+      go : (again : Bool) → hasBit seen code ≡ again → (last : Bool) → noneLeft forms ≡ last
+          → ComesTo (cond again (turnedOf (Fault 28) seen)
+          (cond last (turnedOf (Fault 29) seen) (turnedOf More (withBit seen code))))
+          wanted (markWith wanted mark (Airline code end)) n es forms (judged n es (Airline code end ∷ forms))
+      go true h last e =
+          let again : named code es ≡ true = sym (K .bits code small) ∙ h in
           sym (rw (le-ltb 64 n few, again))
-      go true h true e =
-          let new : named code es ≡ false = marked-named M code ∙ ap not h in
+      go false h true e =
+          let new : named code es ≡ false = sym (K .bits code small) ∙ h in
           sym (rw (le-ltb 64 n few, new, e))
-      go true h false e =
-          let new : named code es ≡ false = marked-named M code ∙ ap not h in
+      go false h false e =
+          let new : named code es ≡ false = sym (K .bits code small) ∙ h in
           record {
             airline = entry code end;
-            marked = marked-more M code end small new;
+            kept = kept-more K code end small new;
             goes-on = sym (rw (le-ltb 64 n few, new, e));
           }
 
 -- No line is read after the last one.
-more-not-last : (marks : List ℕ) (form : Form) (last : Bool) → turned marks form last .turn ≡ More → last ≡ false
+more-not-last : (seen : List ℕ) (form : Form) (last : Bool) → turned seen form last .turn ≡ More → last ≡ false
 unfolding turned
-more-not-last marks form false e = refl
-more-not-last marks Neither true e = clash (cc)
-more-not-last marks (Others end) true e = clash (cc)
-more-not-last marks (Airline code end) true e = go (eqb (getD marks code 0) 0) e
+more-not-last seen form false e = refl
+more-not-last seen Neither true e = clash (cc)
+more-not-last seen (Others end) true e = clash (cc)
+more-not-last seen (Airline code end) true e = go (hasBit seen code) e
   where
-    go : (fresh : Bool) → cond fresh (turnedOf (Fault 29) marks) (turnedOf (Fault 28) marks) .turn ≡ More → true ≡ false
+    go : (again : Bool) → cond again (turnedOf (Fault 28) seen) (turnedOf (Fault 29) seen) .turn ≡ More → true ≡ false
     go true h = clash (cc)
     go false h = clash (cc)
 
 -- ---- The lines read so far.
-pub record Reading (list : List ℕ) (from line : ℕ) (marks : List ℕ) : Type 0 where
-  pub within : from ≤ length list
-  pub few : line ≤ 65
-  pub earlier : List Entry
-  pub marked : Marked marks earlier
-  pub rest : judged line earlier (formsAt list from) ≡ verdict list
-
-pub nothing-read : (list marks : List ℕ) → Marked marks [] → Reading list 0 1 marks
+pub nothing-read : {wanted : ℕ} (list seen : List ℕ) → Kept wanted seen 0 [] → Reading wanted list 0 1 seen 0
 unfolding verdict
-nothing-read list marks M =
-    record { within = omega arith; few = omega arith; earlier = []; marked = M; rest = refl }
+nothing-read list seen K =
+    record { within = omega arith; few = omega arith; earlier = []; kept = K; rest = refl }
 
 -- A fault is what the list comes to.
-pub read-faulty : (list marks : List ℕ) (number line : ℕ) → faulty number line ≡ verdict list
-    → (NotSent number line ≡ closing (verdict list)) × MarkedAs (verdict list) marks
-read-faulty list marks number line e = (ap closing e, subst (λ v. MarkedAs v marks) e tt)
+pub read-faulty : (wanted : ℕ) (list : List ℕ) (number line : ℕ) → faulty number line ≡ verdict list
+    → NotSent number line ≡ sentTo wanted (verdict list)
+read-faulty wanted list number line e = ap (sentTo wanted) e
 
-module _ {list : List ℕ} {from line : ℕ} {marks : List ℕ} (R : Reading list from line marks) where
+module _ {wanted : ℕ} {list : List ℕ} {from line : ℕ} {seen : List ℕ} {mark : ℕ}
+    (R : Reading wanted list from line seen mark) where
   pub no-line : length list ≤ from → faulty 27 line ≡ verdict list
   unfolding judged
   no-line h = sym (ap (judged line (R .earlier)) (forms-end list from h)) ∙ R .rest
@@ -142,37 +153,43 @@ module _ {list : List ℕ} {from line : ℕ} {marks : List ℕ} (R : Reading lis
       too-many (Others end) = rw (lt-ltb 64 line many)
       too-many Neither = refl
 
--- ---- A line taken, as the code has it: its form and the place where it ends; its turn and the marks after it; and whether
--- it is the last.
-pub record Taken (list : List ℕ) (from line : ℕ) (marks : List ℕ) (to : ℕ) (turn : Turn) (after : List ℕ) : Type 0 where
-  pub reading : Reading list from line marks
+-- ---- A line taken, as the code has it: its form and the place where it ends; its turn, with the codes and the mark
+-- after it; and whether it is the last.
+pub record Taken (wanted : ℕ) (list : List ℕ) (from line : ℕ) (seen : List ℕ) (mark to : ℕ) (turn : Turn)
+    (after : List ℕ) (mark-after : ℕ) : Type 0 where
+  pub reading : Reading wanted list from line seen mark
   pub before : from < length list
   pub few : line ≤ 64
   pub form : Form
   pub its-form : form ≡ formAt list from
   pub ends : to ≡ from + length (formText form)
   pub last : Bool
-  pub turns : turnedOf turn after ≡ turned marks form last
+  pub turns : turnedOf turn after ≡ turned seen form last
+  pub marks : mark-after ≡ markWith wanted mark form
   pub is-last : last ≡ noneLeft (formsAt list (to + 1))
 
-module _ {list : List ℕ} {from line : ℕ} {marks : List ℕ} {to : ℕ} {turn : Turn} {after : List ℕ}
-    (T : Taken list from line marks to turn after) where
+module _ {wanted : ℕ} {list : List ℕ} {from line : ℕ} {seen : List ℕ} {mark to : ℕ} {turn : Turn} {after : List ℕ}
+    {mark-after : ℕ}
+    (T : Taken wanted list from line seen mark to turn after mark-after) where
   ends-there : to ≡ from + length (formText (formAt list from))
   ends-there = T .ends ∙ ap (λ (form : Form). from + length (formText form)) (T .its-form)
 
-  turns-so : turnedOf turn after ≡ turned marks (formAt list from) (T .last)
-  turns-so = T .turns ∙ ap (λ (form : Form). turned marks form (T .last)) (T .its-form)
+  turns-so : turnedOf turn after ≡ turned seen (formAt list from) (T .last)
+  turns-so = T .turns ∙ ap (λ (form : Form). turned seen form (T .last)) (T .its-form)
 
-  abbrev Leads : Turned → Type 0
-  Leads t = ComesTo t line (T .reading .earlier) (formsAt list (to + 1)) (verdict list)
+  marks-so : mark-after ≡ markWith wanted mark (formAt list from)
+  marks-so = T .marks ∙ ap (markWith wanted mark) (T .its-form)
+
+  abbrev Leads : Turned → (mark-after : ℕ) → Type 0
+  Leads t mark-after = ComesTo t wanted mark-after line (T .reading .earlier) (formsAt list (to + 1)) (verdict list)
 
   -- A line that has no form is faulty wherever it ends.
-  turn-leads : Leads (turned marks (formAt list from) (T .last))
+  turn-leads : Leads (turned seen (formAt list from) (T .last)) (markWith wanted mark (formAt list from))
   unfolding turned judged
   turn-leads = go (form-text (firstLine (drop from list)))
     where
       go : (formAt list from ≡ Neither) ⊎ (firstLine (drop from list) ≡ formText (formAt list from))
-          → Leads (turned marks (formAt list from) (T .last))
+          → Leads (turned seen (formAt list from) (T .last)) (markWith wanted mark (formAt list from))
       go (inl neither) =
           let fault : faulty 27 line ≡ verdict list =
           sym (ap (λ (form : Form). judged line (T .reading .earlier) (form ∷ formsBehind list from)) neither)
@@ -180,33 +197,38 @@ module _ {list : List ℕ} {from line : ℕ} {marks : List ℕ} {to : ℕ} {turn
           rw neither fault
       go (inr text) =
           let forms = formsAt list (to + 1) in
-          let comes = line-comes (T .reading .marked) line (T .few) forms (formAt list from)
+          let new = markWith wanted mark (formAt list from) in
+          let comes = line-comes (T .reading .kept) line (T .few) forms (formAt list from)
           (form-in-range (firstLine (drop from list))) in
           let whole : judged line (T .reading .earlier) (formAt list from ∷ forms) ≡ verdict list =
           sym (ap (λ (others : List Form). judged line (T .reading .earlier) (formAt list from ∷ others))
           (forms-behind list from to ends-there text)) ∙ first-judged (T .reading) (T .before) in
-          subst (λ (last : Bool). Leads (turned marks (formAt list from) last)) (sym (T .is-last))
-          (subst (ComesTo (turned marks (formAt list from) (noneLeft forms)) line (T .reading .earlier) forms) whole comes)
+          subst (λ (last : Bool). Leads (turned seen (formAt list from) last) new) (sym (T .is-last))
+          (subst (ComesTo (turned seen (formAt list from) (noneLeft forms)) wanted new line (T .reading .earlier) forms)
+          whole comes)
 
-  leads-by : (other : Turn) → turn ≡ other → Leads (turnedOf other after)
-  leads-by other e = subst (λ (t : Turn). Leads (turnedOf t after)) e (subst Leads (sym turns-so) turn-leads)
+  leads-by : (other : Turn) → turn ≡ other → Leads (turnedOf other after) mark-after
+  leads-by other e =
+      let led = subst (λ (m : ℕ). Leads (turned seen (formAt list from) (T .last)) m) (sym marks-so) turn-leads in
+      subst (λ (t : Turn). Leads (turnedOf t after) mark-after) e
+      (subst (λ (t : Turned). Leads t mark-after) (sym turns-so) led)
 
-  pub turn-fault : (number : ℕ) → turn ≡ Fault number
-      → (NotSent number line ≡ closing (verdict list)) × MarkedAs (verdict list) after
-  turn-fault number e = read-faulty list after number line (leads-by (Fault number) e)
+  pub turn-fault : (number : ℕ) → turn ≡ Fault number → NotSent number line ≡ sentTo wanted (verdict list)
+  turn-fault number e = read-faulty wanted list number line (leads-by (Fault number) e)
 
-  pub turn-closed : (end : End) → turn ≡ Closed end
-      → (To end ≡ closing (verdict list)) × MarkedAs (verdict list) after
+  pub turn-closed : (end : End) → turn ≡ Closed end → To (markedEnd mark-after end) ≡ sentTo wanted (verdict list)
   turn-closed end e =
       let c = leads-by (Closed end) e in
-      (ap closing (c .0), subst (λ v. MarkedAs v after) (c .0) (c .1))
+      ap (λ m. To (markedEnd m end)) (c .1 .marked)
+      ∙ ap To (marked-end wanted (T .reading .earlier) end)
+      ∙ ap (sentTo wanted) (c .0)
 
   pub turn-goes-on : turn ≡ More → to + 1 < length list
   turn-goes-on e =
-      let more = more-not-last marks (formAt list from) (T .last) (sym (ap (λ (t : Turned). t .turn) turns-so) ∙ e) in
+      let more = more-not-last seen (formAt list from) (T .last) (sym (ap (λ (t : Turned). t .turn) turns-so) ∙ e) in
       forms-left list (to + 1) (sym (T .is-last) ∙ more)
 
-  pub turn-more : turn ≡ More → Reading list (to + 1) (line + 1) after
+  pub turn-more : turn ≡ More → Reading wanted list (to + 1) (line + 1) after mark-after
   turn-more e =
       let next = leads-by More e in
       let on = turn-goes-on e in
@@ -214,28 +236,21 @@ module _ {list : List ℕ} {from line : ℕ} {marks : List ℕ} {to : ℕ} {turn
         within = omega arith;
         few = omega (arith, T .few);
         earlier = T .reading .earlier ++ (next .airline ∷ []);
-        marked = next .marked;
+        kept = next .kept;
         rest = rw (add-one line) (next .goes-on);
       }
 
 -- ---- What the two calls answer.
-pub accepted : (v : Verdict) (others : Sent) (end : End) → others ≡ closing v → others ≡ To end → Accepted ≡ checked v
-accepted (says es closing) others end h e = refl
-accepted (faulty number line) others end h e = clash (cc)
+pub accepted : (wanted : ℕ) (v : Verdict) (others : Sent) (end : End) → others ≡ sentTo wanted v → others ≡ To end
+    → Accepted ≡ checked v
+accepted wanted (says es closing) others end h e = refl
+accepted wanted (faulty number line) others end h e = clash (cc)
 
-pub not-accepted : (v : Verdict) (others : Sent) (number line : ℕ) → others ≡ closing v → others ≡ NotSent number line
-    → Faulty number line ≡ checked v
-not-accepted (says es closing) others number line h e = clash (cc)
-not-accepted (faulty n l) others number line h e = cc
+pub not-accepted : (wanted : ℕ) (v : Verdict) (others : Sent) (number line : ℕ) → others ≡ sentTo wanted v
+    → others ≡ NotSent number line → Faulty number line ≡ checked v
+not-accepted wanted (says es closing) others number line h e = clash (cc)
+not-accepted wanted (faulty n l) others number line h e = cc
 
-pub tag-sent : (v : Verdict) (others : Sent) (marks : List ℕ) (end : End) (tag : ℕ) → others ≡ closing v
-    → MarkedAs v marks → others ≡ To end → To (markedEnd (getD marks (codeOf tag) 0) end) ≡ sent v tag
-tag-sent (says es closing) others marks end tag h M e =
-    let same : end ≡ closing = cc in
-    ap To (ap (markedEnd (getD marks (codeOf tag) 0)) same ∙ marked-end M (codeOf tag) closing)
-tag-sent (faulty number line) others marks end tag h M e = clash (cc)
-
-pub tag-not-sent : (v : Verdict) (others : Sent) (number line tag : ℕ) → others ≡ closing v
-    → others ≡ NotSent number line → NotSent number line ≡ sent v tag
-tag-not-sent (says es closing) others number line tag h e = clash (cc)
-tag-not-sent (faulty n l) others number line tag h e = cc
+pub tag-sent : (v : Verdict) (tag : ℕ) → sentTo (codeOf tag) v ≡ sent v tag
+tag-sent (says es closing) tag = refl
+tag-sent (faulty number line) tag = refl

@@ -1,59 +1,58 @@
 -- `airline_list::take_line` meets its contract: each branch is one case of the definition.
 use mathlib.Core.Path.{sym, subst}
-use borrow.Author.Tests.{eq-eqb, ne-eqb}
 use Rattle.airline_list.specs.Marks.{InRange, turned}
 use borrow.Author.Needs.{needs}
 use Rattle.airline_list.proofs.take_line.Statement.{statement}
 use Rattle.airline_list.proofs.take_line.Tie as tie
 
-enum-known-form : tie.Need-enum-known-form
-enum-known-form c = search needs
-
-element-copy-out-if1 : tie.Need-element-copy-out-if1
-element-copy-out-if1 c = subst InRange (c .before .form .given .1) (c .before .before .before .pre)
+has-requires : tie.Need-has-requires
+has-requires c κs =
+    let start : tie.Start = search in
+    let f : tie.After-form = search in
+    subst InRange (f .form .given .1) (start .pre)
 
 returns : tie.Need-returns
 unfolding turned
 returns c =
-    let line = c .before .before .before .form .given in
-    sym (rw (line .1, ne-eqb _ _ (c .if1 .taken)))
+    let after-form : tie.After-form = search in
+    let line = after-form .form .given in
+    sym (rw (line .1, ← c .before .has .ensures, c .if1 .taken))
 
 returns-2 : tie.Need-returns-2
 unfolding turned
 returns-2 c =
-    let line = c .before .before .before .before .form .given in
-    sym (rw (line .1, eq-eqb _ _ (c .before .if1 .left), c .if2 .taken))
+    let after-form : tie.After-form = search in
+    let e : tie.Else1 = search in
+    let line = after-form .form .given in
+    sym (rw (line .1, ← e .before .has .ensures, e .if1 .left, c .if2 .taken))
 
-mark-requires : tie.Need-mark-requires
-mark-requires c κs = search needs
-
-element-write-marks : tie.Need-element-write-marks
-element-write-marks c =
-    let f = c .before .before .before .before .before in
-    subst InRange (f .form .given .1) (f .before .before .pre)
-
-enum-known-form-2 : tie.Need-enum-known-form-2
-enum-known-form-2 c = search needs
+add-requires : tie.Need-add-requires
+add-requires c κs =
+    let start : tie.Start = search in
+    let f : tie.After-form = search in
+    subst InRange (f .form .given .1) (start .pre)
 
 returns-3 : tie.Need-returns-3
 unfolding turned
 returns-3 c =
-    let line = c .before .before .form2 .given in
+    let after-form2 : tie.After-form2 = search in
+    let line = after-form2 .form2 .given in
     sym (rw (line .1, c .if3 .taken))
-
-enum-told : tie.Need-enum-told
-enum-told c = search needs
 
 returns-4 : tie.Need-returns-4
 unfolding turned
 returns-4 c =
-    let line = c .before .before .before .before .before .form .given in
-    sym (rw (line .1, eq-eqb _ _ (c .before .before .if1 .left), c .before .if2 .left, c .mark .ensures))
+    let after-form : tie.After-form = search in
+    let else2 : tie.Else2 = search in
+    let e : tie.Else1 = search in
+    let line = after-form .form .given in
+    sym (rw (line .1, ← e .before .has .ensures, e .if1 .left, else2 .if2 .left, ← c .add .ensures))
 
 returns-5 : tie.Need-returns-5
 unfolding turned
 returns-5 c =
-    let line = c .before .before .form2 .given in
+    let after-form2 : tie.After-form2 = search in
+    let line = after-form2 .form2 .given in
     sym (rw (line .1, c .if3 .left))
 
 returns-6 : tie.Need-returns-6
@@ -64,15 +63,14 @@ pub take-line-spec : {M : Type 1} → statement M
 take-line-spec =
     tie.close
     (tie.spec
-    enum-known-form
-    element-copy-out-if1
+    (λ c. search needs)
+    has-requires
     returns
     returns-2
-    mark-requires
-    element-write-marks
-    enum-known-form-2
+    add-requires
+    (λ c. search needs)
     returns-3
-    enum-told
+    (λ c. search needs)
     returns-4
     returns-5
     returns-6)

@@ -14,7 +14,7 @@ use Rattle.machine.specs.declared.Answer.{Answer}
 use Rattle.machine.specs.declared.Answer.the-variants.{Bag, No}
 use Rattle.machine.specs.Choice.{_≟_, if_then_else_}
 use Rattle.machine.specs.Answers.{kindOf, payloadOf, answerWords, plainAnswerOf, answerOf}
-use Rattle.machine.proofs.Basics.Choices.{unequal}
+use Rattle.machine.proofs.Basics.Choices.{test-unequal}
 use Rattle.machine.proofs.Basics.Contradiction.{clash}
 
 pub bag-words : {kind : ℕ} (digit low : ℕ) → kind ≡ 2 → (a : Answer) → answerOf kind digit low ≡ some a
@@ -30,7 +30,7 @@ module _ {kind : ℕ} (digit low : ℕ) (a : Answer) (e : answerOf kind digit lo
   -- Of any other kind.
   plain-says : kind ≢ 2 → plainAnswerOf kind ≡ some a
   unfolding answerOf
-  plain-says ne = go (tagOf digit low ≟ 0) (rw (unequal ne) at e)
+  plain-says ne = go (tagOf digit low ≟ 0) (rw (test-unequal ne) at e)
     where
       go : (d : Dec (tagOf digit low ≡ 0)) → (if d then plainAnswerOf kind else none) ≡ some a
           → plainAnswerOf kind ≡ some a
@@ -43,7 +43,8 @@ module _ {kind : ℕ} (digit low : ℕ) (a : Answer) (e : answerOf kind digit lo
   pub last-words : kind ≢ 0 → kind ≢ 1 → kind ≢ 2 → kind ≢ 3 → kind ≢ 4 → kind ≢ 5 → No ≡ a
   unfolding plainAnswerOf
   last-words n₀ n₁ n₂ n₃ n₄ n₅ =
-      go (kind ≟ 6) (rw (unequal n₀, unequal n₁, unequal n₃, unequal n₄, unequal n₅) at plain-says n₂)
+      go (kind ≟ 6) (rw (test-unequal n₀, test-unequal n₁, test-unequal n₃, test-unequal n₄, test-unequal n₅) at
+      plain-says n₂)
     where
       go : (d : Dec (kind ≡ 6)) → (if d then some No else none) ≡ some a → No ≡ a
       go (yes s) e = cc

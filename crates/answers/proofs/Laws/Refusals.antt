@@ -11,9 +11,9 @@ use Rattle.machine.specs.Calls.{unless}
 use Rattle.machine.proofs.Basics.Contradiction.{clash}
 use Rattle.answers.specs.Refusals.{numberOf, isNumber, isRefused}
 
-pub due : (o : Option ℕ) {n : ℕ} → n ≡ numberOf o → n ≢ 0 → o ≡ some n
-due none e h = absurd (h e)
-due (some m) e h = ap some (sym e)
+pub refusal-due : (o : Option ℕ) {n : ℕ} → n ≡ numberOf o → n ≢ 0 → o ≡ some n
+refusal-due none e h = absurd (h e)
+refusal-due (some m) e h = ap some (sym e)
 
 -- With the number 0 there is no refusal: of a test, by those after it.
 abbrev pub NoneAt0 : Option ℕ → Type 0
@@ -24,13 +24,13 @@ none-due true h others e = others e
 none-due false h others e = absurd (h e)
 
 -- Two tests decide alone where one of them fails, and leave the rest to the others where both pass.
-pub decided :
+pub unless-decided :
     (a b : Bool) (m n : ℕ) (others : Option ℕ)
     → numberOf (unless a m (unless b n none)) ≢ 0
     → unless a m (unless b n others) ≡ some (numberOf (unless a m (unless b n none)))
-decided true true m n others h = absurd (h refl)
-decided true false m n others h = refl
-decided false b m n others h = refl
+unless-decided true true m n others h = absurd (h refl)
+unless-decided true false m n others h = refl
+unless-decided false b m n others h = refl
 
 pub both-pass :
     (a b : Bool) {m n : ℕ}

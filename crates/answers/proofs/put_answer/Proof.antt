@@ -8,80 +8,42 @@ use borrow.Author.Needs.{needs}
 use Rattle.answers.proofs.put_answer.Statement.{statement}
 use Rattle.answers.proofs.put_answer.Tie as tie
 
-payload-requires : tie.Need-payload-requires
-payload-requires c κs = search needs
-
-kind-requires : tie.Need-kind-requires
-kind-requires c κs = search needs
-
-mul-answers : tie.Need-mul-answers
-mul-answers c = search needs
-
-slice-write-answers : tie.Need-slice-write-answers
-slice-write-answers c = search needs
-
-add-answers : tie.Need-add-answers
-add-answers c = search needs
-
-mul-answers-2 : tie.Need-mul-answers-2
-mul-answers-2 c = search needs
-
 slice-write-answers-2 : tie.Need-slice-write-answers-2
-slice-write-answers-2 c = simp length-set (omega (arith, c .before .before .before .before .pre .1))
-
-add-answers-2 : tie.Need-add-answers-2
-add-answers-2 c = search needs
-
-mul-answers-3 : tie.Need-mul-answers-3
-mul-answers-3 c = search needs
+slice-write-answers-2 c =
+    let start : tie.Start = search in
+    simp length-set (omega (arith, start .pre .1))
 
 slice-write-answers-3 : tie.Need-slice-write-answers-3
-slice-write-answers-3 c = simp length-set (omega (arith, c .before .before .before .before .pre .1))
-
-same-length : tie.Need-same-length
-same-length c = search needs
+slice-write-answers-3 c =
+    let start : tie.Start = search in
+    simp length-set (omega (arith, start .pre .1))
 
 returns : tie.Need-returns
 returns c =
-    let k = c .before in
-    let p = k .before in
-    let a = p .before .before .args in
+    let start : tie.Start = search in
+    let k : tie.After-kind = search in
+    let p : tie.After-payload = search in
+    let a = start .args in
     let none = c .if1 .taken in
     answer-put (a .answers .now) (a .at) (a .a) (k .kind .ensures) (p .payload .ensures) (ap digitOf (sym none))
     (ap lowOf (sym none))
 
-digit-requires : tie.Need-digit-requires
-digit-requires c κs = search needs
-
-add-answers-3 : tie.Need-add-answers-3
-add-answers-3 c = search needs
-
-mul-answers-4 : tie.Need-mul-answers-4
-mul-answers-4 c = search needs
-
 slice-write-answers-4 : tie.Need-slice-write-answers-4
-slice-write-answers-4 c = simp length-set (omega (arith, c .before .before .before .before .before .pre .1))
-
-low-requires : tie.Need-low-requires
-low-requires c κs = search needs
-
-add-answers-4 : tie.Need-add-answers-4
-add-answers-4 c = search needs
-
-mul-answers-5 : tie.Need-mul-answers-5
-mul-answers-5 c = search needs
+slice-write-answers-4 c =
+    let start : tie.Start = search in
+    simp length-set (omega (arith, start .pre .1))
 
 slice-write-answers-5 : tie.Need-slice-write-answers-5
-slice-write-answers-5 c = simp length-set (omega (arith, c .before .before .before .before .before .before .pre .1))
-
-same-length-2 : tie.Need-same-length-2
-same-length-2 c = search needs
+slice-write-answers-5 c =
+    let start : tie.Start = search in
+    simp length-set (omega (arith, start .pre .1))
 
 returns-2 : tie.Need-returns-2
 returns-2 c =
-    let k = c .before .before .before in
-    let p = k .before in
-    let a = p .before .before .args in
+    let start : tie.Start = search in
+    let k : tie.After-kind = search in
+    let p : tie.After-payload = search in
+    let a = start .args in
     answer-put (a .answers .now) (a .at) (a .a) (k .kind .ensures) (p .payload .ensures) (c .before .digit .ensures)
     (c .low .ensures)
 
@@ -89,25 +51,25 @@ pub put-answer-spec : {M : Type 1} → statement M
 put-answer-spec =
     tie.close
     (tie.spec
-    payload-requires
-    kind-requires
-    mul-answers
-    slice-write-answers
-    add-answers
-    mul-answers-2
+    (λ c κs. search needs)
+    (λ c κs. search needs)
+    (λ c. search needs)
+    (λ c. search needs)
+    (λ c. search needs)
+    (λ c. search needs)
     slice-write-answers-2
-    add-answers-2
-    mul-answers-3
+    (λ c. search needs)
+    (λ c. search needs)
     slice-write-answers-3
-    same-length
+    (λ c. search needs)
     returns
-    digit-requires
-    add-answers-3
-    mul-answers-4
+    (λ c κs. search needs)
+    (λ c. search needs)
+    (λ c. search needs)
     slice-write-answers-4
-    low-requires
-    add-answers-4
-    mul-answers-5
+    (λ c κs. search needs)
+    (λ c. search needs)
+    (λ c. search needs)
     slice-write-answers-5
-    same-length-2
+    (λ c. search needs)
     returns-2)

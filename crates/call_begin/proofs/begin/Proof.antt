@@ -7,16 +7,11 @@ use borrow.Author.Needs.{needs}
 use Rattle.call_begin.proofs.begin.Statement.{statement}
 use Rattle.call_begin.proofs.begin.Tie as tie
 
-table-refusal-requires : tie.Need-table-refusal-requires
-table-refusal-requires c κs = search needs
-
-same-length : tie.Need-same-length
-same-length c = search needs
-
 returns : tie.Need-returns
 returns c =
-    let n = c .before in
-    let a = n .before .before .before .args in
+    let start : tie.Start = search in
+    let n : tie.After-table-refusal = search in
+    let a = start .args in
     begin-refused (a .table .now) (a .task) (a .l) (a .operation) (a .side) (a .argument)
     (refused-by-table (a .table .now) (a .task) (a .l) (a .operation) (a .side) (a .argument)
     (n .table-refusal .ensures) (c .if1 .taken))
@@ -24,48 +19,43 @@ returns c =
 -- What passed.
 passes : (c : tie.Else1) → WellFormed (c .before .before .before .before .args .table .now)
 passes c =
-    table-passed (c .before .before .before .before .args .table .now) (c .before .table-refusal .ensures) (c .if1 .left)
+    let start : tie.Start = search in
+    table-passed (start .args .table .now) (c .before .table-refusal .ensures) (c .if1 .left)
 
 place-refusal-requires : tie.Need-place-refusal-requires
 place-refusal-requires c κs =
-    let e = c .before in header-long (e .before .before .before .before .args .table .now) (passes e .length-passes)
-
-same-length-2 : tie.Need-same-length-2
-same-length-2 c = search needs
+    let start : tie.Start = search in
+    let e : tie.Else1 = search in header-long (start .args .table .now) (passes e .length-passes)
 
 returns-2 : tie.Need-returns-2
 returns-2 c =
-    let m = c .before in
-    let e = m .before .before in
-    let a = e .before .before .before .before .args in
+    let start : tie.Start = search in
+    let m : tie.After-place-refusal = search in
+    let e : tie.Else1 = search in
+    let a = start .args in
     begin-refused (a .table .now) (a .task) (a .l) (a .operation) (a .side) (a .argument)
     (refused-by-place (a .table .now) (a .task) (a .l) (a .operation) (a .side) (a .argument) (passes e)
     (m .place-refusal .ensures) (c .if2 .taken))
 
 begin-on-requires : tie.Need-begin-on-requires
 begin-on-requires c κs =
-    let p = c .before in
-    let m = p .before in
-    let e = m .before .before in
-    let a = e .before .before .before .before .args in
+    let start : tie.Start = search in
+    let p : tie.Else2 = search in
+    let m : tie.After-place-refusal = search in
+    let e : tie.Else1 = search in
+    let a = start .args in
     (passes e, place-passed (a .table .now) (a .task) (a .l) (m .place-refusal .ensures) (p .if2 .left))
-
-same-length-3 : tie.Need-same-length-3
-same-length-3 c = search needs
-
-returns-3 : tie.Need-returns-3
-returns-3 c = search needs
 
 pub begin-spec : {M : Type 1} → statement M
 begin-spec =
     tie.close
     (tie.spec
-    table-refusal-requires
-    same-length
+    (λ c κs. search needs)
+    (λ c. search needs)
     returns
     place-refusal-requires
-    same-length-2
+    (λ c. search needs)
     returns-2
     begin-on-requires
-    same-length-3
-    returns-3)
+    (λ c. search needs)
+    (λ c. search needs))

@@ -26,12 +26,12 @@ use Rattle.call_begin.proofs.begin_on.Tie as tie
 
 task-requires : tie.Need-task-requires
 task-requires c κs =
-    let p = c .before .before in
+    let p : tie.Start = search in
     record-within (p .args .table .now) (p .pre .0 .length-passes) (p .args .task) (p .pre .1 .is-task)
 
 call-refusal-requires : tie.Need-call-refusal-requires
 call-refusal-requires c κs =
-    let p = c .before .before .before .before in well-linked (p .args .table .now) (p .pre .0)
+    let p : tie.Start = search in well-linked (p .args .table .now) (p .pre .0)
 
 -- The number of the refusal, by the record that was read.
 number :
@@ -39,19 +39,16 @@ number :
     → let a = c .before .before .before .before .before .args in
     c .call-refusal .result ≡ numberOf (callRefusal (a .table .now) (a .task) (a .operation) (a .side) (a .argument))
 number c =
-    let t = c .before .before in
-    let p = t .before .before .before in
+    let t : tie.After-task = search in
+    let p : tie.Start = search in
     let a = p .args in
     c .call-refusal .ensures (a .table .now)
     (own-in-place (a .table .now) (a .task) (t .task .result) (p .pre .1 .is-task) (t .task .ensures))
 
-same-length : tie.Need-same-length
-same-length c = search needs
-
 returns : tie.Need-returns
 returns c =
-    let r = c .before in
-    let p = r .before .before .before .before .before in
+    let r : tie.After-call-refusal = search in
+    let p : tie.Start = search in
     let a = p .args in
     begin-refused (a .table .now) (a .task) (a .l) (a .operation) (a .side) (a .argument)
     (refused-by-call (a .table .now) (a .task) (a .l) (a .operation) (a .side) (a .argument) (p .pre .0) (p .pre .1)
@@ -59,9 +56,10 @@ returns c =
 
 begun-requires : tie.Need-begun-requires
 begun-requires c κs =
-    let e = c .before in
-    let r = e .before in
-    let a = r .before .before .before .before .before .args in (
+    let start : tie.Start = search in
+    let e : tie.Else1 = search in
+    let r : tie.After-call-refusal = search in
+    let a = start .args in (
       operation-low (a .table .now) (a .task) (a .operation) (a .side) (a .argument) (number r) (e .if1 .left),
       side-low (a .table .now) (a .task) (a .operation) (a .side) (a .argument) (number r) (e .if1 .left),
       argument-passed (a .table .now) (a .task) (a .operation) (a .side) (a .argument) (number r) (e .if1 .left),
@@ -69,18 +67,15 @@ begun-requires c κs =
 
 set-task-requires : tie.Need-set-task-requires
 set-task-requires c κs =
-    let p = c .before .before .before .before .before .before .before .before in
+    let p : tie.Start = search in
     record-within (p .args .table .now) (p .pre .0 .length-passes) (p .args .task) (p .pre .1 .is-task)
-
-same-length-2 : tie.Need-same-length-2
-same-length-2 c = search needs
 
 returns-2 : tie.Need-returns-2
 returns-2 c =
-    let w = c .before .before in
-    let e = w .before .before .before in
-    let r = e .before in
-    let p = r .before .before .before .before .before in
+    let w : tie.After-set-task = search in
+    let e : tie.Else1 = search in
+    let r : tie.After-call-refusal = search in
+    let p : tie.Start = search in
     let a = p .args in
     let ws = a .table .now in
     ap (changedOf Accepted)
@@ -96,9 +91,9 @@ begin-on-spec =
     (tie.spec
     task-requires
     call-refusal-requires
-    same-length
+    (λ c. search needs)
     returns
     begun-requires
     set-task-requires
-    same-length-2
+    (λ c. search needs)
     returns-2)

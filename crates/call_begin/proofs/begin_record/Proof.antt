@@ -36,7 +36,7 @@ use Rattle.call_begin.proofs.begin_record.Statement.{statement}
 use Rattle.call_begin.proofs.begin_record.Tie as tie
 
 abbrev start : tie.After-lent-refusal → tie.Start
-start c = c .before .before
+start c = search
 
 -- The table with the record in its place.
 abbrev lent : tie.Start → List ℕ
@@ -56,15 +56,9 @@ refused-gives own e is = (
   ap recordOf (is .0) ∙ ap (λ (d : Changed). d .words) e,
 )
 
-lent-refusal-requires : tie.Need-lent-refusal-requires
-lent-refusal-requires c κs = search needs
-
-refused-requires : tie.Need-refused-requires
-refused-requires c κs = search needs
-
 returns : tie.Need-returns
 returns c =
-    let t = c .before in
+    let t : tie.Then1 = search in
     let s = start (t .before) in
     let a = s .args in
     refused-gives (a .own)
@@ -84,14 +78,11 @@ linked c =
 place-refusal-requires : tie.Need-place-refusal-requires
 place-refusal-requires c κs = header-long (start (c .before) .args .table .now) (linked c .length-passes)
 
-refused-requires-2 : tie.Need-refused-requires-2
-refused-requires-2 c κs = search needs
-
 returns-2 : tie.Need-returns-2
 returns-2 c =
-    let t = c .before in
-    let m = t .before in
-    let e = m .before in
+    let t : tie.Then2 = search in
+    let m : tie.After-place-refusal = search in
+    let e : tie.Else1 = search in
     let s = start (e .before) in
     let a = s .args in
     refused-gives (a .own)
@@ -102,7 +93,7 @@ returns-2 c =
 
 -- ---- There is such a lane and such a task.
 abbrev passed : tie.Else2 → tie.Else1
-passed c = c .before .before
+passed c = search
 
 placed :
     (c : tie.Else2)
@@ -124,7 +115,7 @@ number :
     let a = s .args in
     c .call-refusal .result ≡ numberOf (callRefusal (lent s) (a .task) (a .operation) (a .side) (a .argument))
 number c =
-    let e = c .before in
+    let e : tie.Else2 = search in
     let s = start (passed e .before) in
     let a = s .args in
     c .call-refusal .ensures (lent s)
@@ -136,14 +127,11 @@ there :
 there c =
     let a = start (passed c .before) .args in placed-there (a .table .now) (a .task) (a .own) (placed c)
 
-refused-requires-3 : tie.Need-refused-requires-3
-refused-requires-3 c κs = search needs
-
 returns-3 : tie.Need-returns-3
 returns-3 c =
-    let t = c .before in
-    let r = t .before in
-    let e = r .before in
+    let t : tie.Then3 = search in
+    let r : tie.After-call-refusal = search in
+    let e : tie.Else2 = search in
     let s = start (passed e .before) in
     let a = s .args in
     refused-gives (a .own)
@@ -154,7 +142,7 @@ returns-3 c =
 
 begun-requires : tie.Need-begun-requires
 begun-requires c κs =
-    let r = c .before in
+    let r : tie.After-call-refusal = search in
     let s = start (passed (r .before) .before) in
     let a = s .args in (
       operation-low (lent s) (a .task) (a .operation) (a .side) (a .argument) (number r) (c .if3 .left),
@@ -164,9 +152,9 @@ begun-requires c κs =
 
 returns-4 : tie.Need-returns-4
 returns-4 c =
-    let p = c .before in
-    let r = p .before in
-    let e = r .before in
+    let p : tie.Else3 = search in
+    let r : tie.After-call-refusal = search in
+    let e : tie.Else2 = search in
     let s = start (passed e .before) in
     let a = s .args in
     let one =
@@ -182,14 +170,14 @@ pub begin-record-spec : {M : Type 1} → statement M
 begin-record-spec =
     tie.close
     (tie.spec
-    lent-refusal-requires
-    refused-requires
+    (λ c κs. search needs)
+    (λ c κs. search needs)
     returns
     place-refusal-requires
-    refused-requires-2
+    (λ c κs. search needs)
     returns-2
     call-refusal-requires
-    refused-requires-3
+    (λ c κs. search needs)
     returns-3
     begun-requires
     returns-4)

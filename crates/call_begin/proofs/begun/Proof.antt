@@ -4,23 +4,15 @@ use borrow.Author.Needs.{needs}
 use Rattle.call_begin.proofs.begun.Statement.{statement}
 use Rattle.call_begin.proofs.begun.Tie as tie
 
-fresh-requires : tie.Need-fresh-requires
-fresh-requires c κs = search needs
-
-first-step-requires : tie.Need-first-step-requires
-first-step-requires c κs = search needs
-
-at-requires : tie.Need-at-requires
-at-requires c κs = search needs
-
 returns : tie.Need-returns
 returns c =
-    let p = c .before .before .before in
+    let after-fresh : tie.After-fresh = search in
+    let p : tie.Start = search in
     let a = p .args in
     let step = c .before .first-step .ensures in
-    let fresh = c .before .before .fresh .ensures in
+    let fresh = after-fresh .fresh .ensures in
     rw (c .at .ensures, fresh, step)
     (begun-record (a .l) (a .operation) (a .side) (a .argument) (p .pre .0) (p .pre .1) (p .pre .2))
 
 pub begun-spec : {M : Type 1} → statement M
-begun-spec = tie.close (tie.spec fresh-requires first-step-requires at-requires returns)
+begun-spec = tie.close (tie.spec (λ c κs. search needs) (λ c κs. search needs) (λ c κs. search needs) returns)

@@ -17,18 +17,14 @@ use borrow.Author.Needs.{needs}
 use Rattle.call_begin.proofs.call_refusal.Statement.{statement}
 use Rattle.call_begin.proofs.call_refusal.Tie as tie
 
-call-ok-requires : tie.Need-call-ok-requires
-call-ok-requires c κs = search needs
-
 returns : tie.Need-returns
-returns c = λ ws W.
+returns c =
+    let start : tie.Start = search in
+    λ ws W.
     let f = c .before .call-ok in
-    let a = c .before .before .before .args in
+    let a = start .args in
     call-6 ws (a .k) (a .operation) (a .side) (a .argument)
     (sym (f .ensures) ∙ not-true (f .result) (c .if1 .taken))
-
-argument-ok-requires : tie.Need-argument-ok-requires
-argument-ok-requires c κs = search needs
 
 -- ---- What the tests passed so far say.
 call-passed :
@@ -44,49 +40,53 @@ argument-passed :
 argument-passed c = let g = c .before .argument-ok in sym (g .ensures) ∙ not-false (g .result) (c .if2 .left)
 
 returns-2 : tie.Need-returns-2
-returns-2 c = λ ws W.
+returns-2 c =
+    let start : tie.Start = search in
+    λ ws W.
     let g = c .before .argument-ok in
-    let e1 = c .before .before in
-    let a = e1 .before .before .before .args in
+    let e1 : tie.Else1 = search in
+    let a = start .args in
     call-7 ws (a .k) (a .operation) (a .side) (a .argument) (call-passed e1)
     (sym (g .ensures) ∙ not-true (g .result) (c .if2 .taken))
 
-twice-refusal-requires : tie.Need-twice-refusal-requires
-twice-refusal-requires c κs = search needs
-
 returns-3 : tie.Need-returns-3
-returns-3 c = λ ws W.
-    let r = c .before in
-    let e2 = r .before in
-    let e1 = e2 .before .before in
-    let a = e1 .before .before .before .args in
+returns-3 c =
+    let start : tie.Start = search in
+    λ ws W.
+    let r : tie.After-twice-refusal = search in
+    let e2 : tie.Else2 = search in
+    let e1 : tie.Else1 = search in
+    let a = start .args in
     call-twice ws (a .k) (a .operation) (a .side) (a .argument) (call-passed e1) (argument-passed e2)
     (r .twice-refusal .ensures ws W) (c .if3 .taken)
 
-is-idle-requires : tie.Need-is-idle-requires
-is-idle-requires c κs = search needs
-
 returns-4 : tie.Need-returns-4
-returns-4 c = λ ws W.
-    let e3 = c .before .before in
-    let r = e3 .before in
-    let e2 = r .before in
-    let e1 = e2 .before .before in
-    let a = e1 .before .before .before .args in
+returns-4 c =
+    let start : tie.Start = search in
+    λ ws W.
+    let e3 : tie.Else3 = search in
+    let r : tie.After-twice-refusal = search in
+    let e2 : tie.Else2 = search in
+    let e1 : tie.Else1 = search in
+    let a = start .args in
     let i = c .before .is-idle in
-    let busy = ap (λ (t : Task). isIdle (t .operation)) (W .its-task) ∙ sym (i .ensures) ∙ not-true (i .result) (c .if4 .taken) in
+    let busy = ap (λ (t : Task). isIdle (t .operation)) (W .its-task) ∙ sym (i .ensures)
+    ∙ not-true (i .result) (c .if4 .taken) in
     call-8 ws (a .k) (a .operation) (a .side) (a .argument) (call-passed e1) (argument-passed e2)
     (r .twice-refusal .ensures ws W) (e3 .if3 .left) busy
 
 returns-5 : tie.Need-returns-5
-returns-5 c = λ ws W.
-    let e3 = c .before .before in
-    let r = e3 .before in
-    let e2 = r .before in
-    let e1 = e2 .before .before in
-    let a = e1 .before .before .before .args in
+returns-5 c =
+    let start : tie.Start = search in
+    λ ws W.
+    let e3 : tie.Else3 = search in
+    let r : tie.After-twice-refusal = search in
+    let e2 : tie.Else2 = search in
+    let e1 : tie.Else1 = search in
+    let a = start .args in
     let i = c .before .is-idle in
-    let idle = ap (λ (t : Task). isIdle (t .operation)) (W .its-task) ∙ sym (i .ensures) ∙ not-false (i .result) (c .if4 .left) in
+    let idle = ap (λ (t : Task). isIdle (t .operation)) (W .its-task) ∙ sym (i .ensures)
+    ∙ not-false (i .result) (c .if4 .left) in
     call-passes ws (a .k) (a .operation) (a .side) (a .argument) (call-passed e1) (argument-passed e2)
     (r .twice-refusal .ensures ws W) (e3 .if3 .left) idle
 
@@ -94,12 +94,12 @@ pub call-refusal-spec : {M : Type 1} → statement M
 call-refusal-spec =
     tie.close
     (tie.spec
-    call-ok-requires
+    (λ c κs. search needs)
     returns
-    argument-ok-requires
+    (λ c κs. search needs)
     returns-2
-    twice-refusal-requires
+    (λ c κs. search needs)
     returns-3
-    is-idle-requires
+    (λ c κs. search needs)
     returns-4
     returns-5)

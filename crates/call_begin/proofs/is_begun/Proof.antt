@@ -1,5 +1,5 @@
 -- `call_begin::is_begun` meets its contract: what the tasks still to test say is what all say.
-use mathlib.Core.Path.{_≡_, refl, sym, ap, _∙_}
+use mathlib.Core.Path.{_≡_, sym, ap, _∙_}
 use mathlib.Core.List.{List}
 use Prim.Native.Nat.{ℕ, _≤_}
 use native.Mathlib.Omega.{arith}
@@ -20,36 +20,38 @@ abbrev μ-loop : tie.MeasureT-loop
 μ-loop table k own tag j₀ j = j
 
 tasks-requires : tie.Need-tasks-requires Inv-loop μ-loop
-tasks-requires c κs = let p = c .before in header-long (p .args .table .now) (p .pre)
+tasks-requires c κs = let p : tie.Start Inv-loop μ-loop = search in header-long (p .args .table .now) (p .pre)
 
 loop-holds : tie.Need-loop-holds Inv-loop μ-loop
 loop-holds c =
-    let a = c .before .before .args in
-    (omega (arith, c .tasks .ensures), λ ws W. ap (λ (m : ℕ). isBegun ws m (a .tag)) (c .tasks .ensures ∙ sym (W .count)))
-
-sub-j : tie.Need-sub-j Inv-loop μ-loop
-sub-j c = omega arith
+    let start : tie.Start Inv-loop μ-loop = search in
+    let a = start .args in (
+      omega (arith, c .tasks .ensures),
+      λ ws W. ap (λ (m : ℕ). isBegun ws m (a .tag))
+          (c .tasks .ensures ∙ sym (W .count)),
+    )
 
 pushes-requires : tie.Need-pushes-requires Inv-loop μ-loop
 pushes-requires c κs =
-    let l = c .before in (l .before .before .before .pre, omega (arith, l .loop .inv .0))
+    let start : tie.Start Inv-loop μ-loop = search in
+    let l : tie.At-loop Inv-loop μ-loop = search in (start .pre, omega (arith, l .loop .inv .0))
 
 returns : tie.Need-returns Inv-loop μ-loop
-returns c = λ ws W.
-    let f = c .before in
-    let l = f .before .before in
-    let a = l .before .before .before .args in
+returns c =
+    let start : tie.Start Inv-loop μ-loop = search in
+    λ ws W.
+    let f : tie.After-pushes Inv-loop μ-loop = search in
+    let l : tie.At-loop Inv-loop μ-loop = search in
+    let a = start .args in
     let is = sym (f .pushes .ensures ws W) ∙ c .if1 .taken in
     sym (begun-here ws (a .tag) (l .loop .j) (omega arith) is) ∙ l .loop .inv .1 ws W
 
-loop-less : tie.Need-loop-less Inv-loop μ-loop
-loop-less c = omega arith
-
 loop-again : tie.Need-loop-again Inv-loop μ-loop
 loop-again c =
-    let f = c .before in
-    let l = f .before .before in
-    let a = l .before .before .before .args in (
+    let start : tie.Start Inv-loop μ-loop = search in
+    let f : tie.After-pushes Inv-loop μ-loop = search in
+    let l : tie.At-loop Inv-loop μ-loop = search in
+    let a = start .args in (
       omega (arith, l .loop .inv .0),
       λ ws W.
           begun-below ws (a .tag) (l .loop .j) (omega arith) (sym (f .pushes .ensures ws W) ∙ c .if1 .left)
@@ -57,9 +59,11 @@ loop-again c =
     )
 
 returns-2 : tie.Need-returns-2 Inv-loop μ-loop
-returns-2 c = λ ws W.
-    let l = c .before in
-    let a = l .before .before .before .args in
+returns-2 c =
+    let start : tie.Start Inv-loop μ-loop = search in
+    λ ws W.
+    let l : tie.At-loop Inv-loop μ-loop = search in
+    let a = start .args in
     sym (begun-ends ws (a .tag) (l .loop .j) (omega arith)) ∙ l .loop .inv .1 ws W
 
 pub is-begun-spec : {M : Type 1} → statement M
@@ -70,9 +74,9 @@ is-begun-spec =
     μ-loop
     tasks-requires
     loop-holds
-    sub-j
+    (λ c. omega arith)
     pushes-requires
     returns
-    loop-less
+    (λ c. omega arith)
     loop-again
     returns-2)

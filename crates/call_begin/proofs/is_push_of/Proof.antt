@@ -7,16 +7,16 @@ use Rattle.call_begin.proofs.is_push_of.Statement.{statement}
 use Rattle.call_begin.proofs.is_push_of.Tie as tie
 
 returns : tie.Need-returns
-returns c = let a = c .before .before .args in other-record (a .t) (a .tag) (c .if1 .taken)
-
-number-requires : tie.Need-number-requires
-number-requires c κs = search needs
+returns c =
+    let start : tie.Start = search in
+    let a = start .args in other-record (a .t) (a .tag) (c .if1 .taken)
 
 returns-2 : tie.Need-returns-2
 returns-2 c =
-    let e = c .before in
-    let a = e .before .before .args in
+    let start : tie.Start = search in
+    let e : tie.Else1 = search in
+    let a = start .args in
     ap (eqb (a .tag)) (c .number .ensures) ∙ push-record (a .t) (a .tag) (e .if1 .left)
 
 pub is-push-of-spec : {M : Type 1} → statement M
-is-push-of-spec = tie.close (tie.spec returns number-requires returns-2)
+is-push-of-spec = tie.close (tie.spec returns (λ c κs. search needs) returns-2)

@@ -9,31 +9,28 @@ use borrow.Author.Needs.{needs}
 use Rattle.call_begin.proofs.place_refusal.Statement.{statement}
 use Rattle.call_begin.proofs.place_refusal.Tie as tie
 
-lanes-requires : tie.Need-lanes-requires
-lanes-requires c κs = search needs
-
 returns : tie.Need-returns
 returns c =
-    let n = c .before in
-    let a = n .before .before .args in
+    let start : tie.Start = search in
+    let n : tie.After-lanes = search in
+    let a = start .args in
     rw (le-ltb (a .l) (laneCount (a .table .now)) (omega (arith, n .lanes .ensures, c .if1 .taken)))
 
 -- There is such a lane.
 is-lane :
     (c : tie.Else1) → let a = c .before .before .before .args in ltb (a .l) (laneCount (a .table .now)) ≡ true
 is-lane c =
-    let n = c .before in
-    let a = n .before .before .args in
+    let start : tie.Start = search in
+    let n : tie.After-lanes = search in
+    let a = start .args in
     lt-ltb (a .l) (laneCount (a .table .now)) (omega (arith, n .lanes .ensures, c .if1 .left))
-
-tasks-requires : tie.Need-tasks-requires
-tasks-requires c κs = search needs
 
 returns-2 : tie.Need-returns-2
 returns-2 c =
-    let n = c .before in
-    let e = n .before in
-    let a = e .before .before .before .args in
+    let start : tie.Start = search in
+    let n : tie.After-tasks = search in
+    let e : tie.Else1 = search in
+    let a = start .args in
     rw (
       is-lane e,
       le-ltb (a .task) (taskCount (a .table .now)) (omega (arith, n .tasks .ensures, c .if2 .taken)),
@@ -41,13 +38,14 @@ returns-2 c =
 
 returns-3 : tie.Need-returns-3
 returns-3 c =
-    let n = c .before in
-    let e = n .before in
-    let a = e .before .before .before .args in
+    let start : tie.Start = search in
+    let n : tie.After-tasks = search in
+    let e : tie.Else1 = search in
+    let a = start .args in
     rw (
       is-lane e,
       lt-ltb (a .task) (taskCount (a .table .now)) (omega (arith, n .tasks .ensures, c .if2 .left)),
     )
 
 pub place-refusal-spec : {M : Type 1} → statement M
-place-refusal-spec = tie.close (tie.spec lanes-requires returns tasks-requires returns-2 returns-3)
+place-refusal-spec = tie.close (tie.spec (λ c κs. search needs) returns (λ c κs. search needs) returns-2 returns-3)

@@ -10,39 +10,41 @@ use borrow.Author.Needs.{needs}
 use Rattle.call_begin.proofs.seen_refusal.Statement.{statement}
 use Rattle.call_begin.proofs.seen_refusal.Tie as tie
 
-stands-in-any-requires : tie.Need-stands-in-any-requires
-stands-in-any-requires c κs = search needs
-
 -- What the lanes say, which are the same.
 said :
     (c : tie.After-stands-in-any)
     → let a = c .before .before .args in
-    (ws : List ℕ) → WithOwn (a .table .now) (a .k) (a .own) ws → c .stands-in-any .result ≡ standing (a .tag) (allLanes ws)
+    (ws : List ℕ) → WithOwn (a .table .now) (a .k) (a .own) ws → c .stands-in-any .result
+    ≡ standing (a .tag) (allLanes ws)
 said c ws W =
-    let a = c .before .before .args in c .stands-in-any .ensures ∙ ap (standing (a .tag)) (sym (W .lanes))
+    let start : tie.Start = search in
+    let a = start .args in c .stands-in-any .ensures ∙ ap (standing (a .tag)) (sym (W .lanes))
 
 returns : tie.Need-returns
-returns c = λ ws W.
-    let s = c .before in
-    seen-standing ws (s .before .before .args .tag) (allLanes ws) (said s ws W) (c .if1 .taken)
-
-is-begun-requires : tie.Need-is-begun-requires
-is-begun-requires c κs = search needs
+returns c =
+    let start : tie.Start = search in
+    λ ws W.
+    let s : tie.After-stands-in-any = search in
+    seen-standing ws (start .args .tag) (allLanes ws) (said s ws W) (c .if1 .taken)
 
 returns-2 : tie.Need-returns-2
-returns-2 c = λ ws W.
-    let f = c .before in
-    let s = f .before .before in
-    seen-begun ws (s .before .before .args .tag) (allLanes ws) (said s ws W) (f .before .if1 .left)
+returns-2 c =
+    let start : tie.Start = search in
+    λ ws W.
+    let f : tie.After-is-begun = search in
+    let s : tie.After-stands-in-any = search in
+    seen-begun ws (start .args .tag) (allLanes ws) (said s ws W) (f .before .if1 .left)
     (sym (f .is-begun .ensures ws W) ∙ c .if2 .taken)
 
 returns-3 : tie.Need-returns-3
-returns-3 c = λ ws W.
-    let f = c .before in
-    let s = f .before .before in
-    seen-new ws (s .before .before .args .tag) (allLanes ws) (said s ws W) (f .before .if1 .left)
+returns-3 c =
+    let start : tie.Start = search in
+    λ ws W.
+    let f : tie.After-is-begun = search in
+    let s : tie.After-stands-in-any = search in
+    seen-new ws (start .args .tag) (allLanes ws) (said s ws W) (f .before .if1 .left)
     (sym (f .is-begun .ensures ws W) ∙ c .if2 .left)
 
 pub seen-refusal-spec : {M : Type 1} → statement M
 seen-refusal-spec =
-    tie.close (tie.spec stands-in-any-requires returns is-begun-requires returns-2 returns-3)
+    tie.close (tie.spec (λ c κs. search needs) returns (λ c κs. search needs) returns-2 returns-3)

@@ -9,20 +9,12 @@ use borrow.Author.Needs.{needs}
 use Rattle.call_begin.proofs.stands.Statement.{statement}
 use Rattle.call_begin.proofs.stands.Tie as tie
 
-seek-requires : tie.Need-seek-requires
-seek-requires c κs = search needs
-
-enum-told : tie.Need-enum-told
-enum-told c = search needs
-
 returns : tie.Need-returns
 returns c =
-    let s = c .before .before in
-    let a = s .before .before .args in
+    let start : tie.Start = search in
+    let s : tie.After-seek = search in
+    let a = start .args in
     stands-no-end (a .tag) (lane (a .table .now) (a .l)) (sym (s .seek .ensures) ∙ c .enum-told .given .1)
-
-enum-known-walk : tie.Need-enum-known-walk
-enum-known-walk c = search needs
 
 -- The walk ended.
 walked :
@@ -31,9 +23,10 @@ walked :
     let a = w .before .before .before .before .args in
     w .walk .given .0 .1 .0 ≡ b → twiceSeen b ≡ standing (a .tag) (lane (a .table .now) (a .l))
 walked c h =
-    let w = c .before in
-    let s = w .before .before in
-    let a = s .before .before .args in
+    let start : tie.Start = search in
+    let w : tie.After-walk = search in
+    let s : tie.After-seek = search in
+    let a = start .args in
     let n = w .walk .given .0 .0 in
     stands-walked (a .tag) (lane (a .table .now) (a .l)) n
     (sym (s .seek .ensures) ∙ w .walk .given .1 ∙ ap (Bags n) h)
@@ -46,4 +39,4 @@ returns-3 c = walked (c .before) (c .if1 .left)
 
 pub stands-spec : {M : Type 1} → statement M
 stands-spec =
-    tie.close (tie.spec seek-requires enum-told returns enum-known-walk returns-2 returns-3)
+    tie.close (tie.spec (λ c κs. search needs) (λ c. search needs) returns (λ c. search needs) returns-2 returns-3)

@@ -19,17 +19,20 @@ abbrev μ-loop : tie.MeasureT-loop
 μ-loop table tag lanes says₀ l₀ says l = lanes - l
 
 lanes-requires : tie.Need-lanes-requires Inv-loop μ-loop
-lanes-requires c κs = let p = c .before in header-long (p .args .table .now) (p .pre .length-passes)
+lanes-requires c κs =
+    let p : tie.Start Inv-loop μ-loop = search in header-long (p .args .table .now) (p .pre .length-passes)
 
 loop-holds : tie.Need-loop-holds Inv-loop μ-loop
 loop-holds c =
-    let a = c .before .before .args in
+    let start : tie.Start Inv-loop μ-loop = search in
+    let a = start .args in
     (omega arith, c .lanes .ensures, none-walked (a .table .now) (a .tag) 0 refl)
 
 stands-requires : tie.Need-stands-requires Inv-loop μ-loop
 stands-requires c κs =
-    let l = c .before in
-    (l .before .before .before .pre, omega (arith, l .loop .inv .1))
+    let start : tie.Start Inv-loop μ-loop = search in
+    let l : tie.At-loop Inv-loop μ-loop = search in
+    (start .pre, omega (arith, l .loop .inv .1))
 
 first-of-requires : tie.Need-first-of-requires Inv-loop μ-loop
 first-of-requires c κs = tt
@@ -41,18 +44,21 @@ says-now :
     let a = c .before .before .before .before .before .before .args in
     c .first-of .result ≡ standing (a .tag) (lanesBelow (a .table .now) (l .l + 1))
 says-now c =
-    let one = c .before in
-    let l = one .before .before in
-    let a = l .before .before .before .args in
+    let start : tie.Start Inv-loop μ-loop = search in
+    let one : tie.After-stands Inv-loop μ-loop = search in
+    let l : tie.At-loop Inv-loop μ-loop = search in
+    let a = start .args in
     c .first-of .ensures ∙ one-more (a .table .now) (a .tag) (l .loop .l) (l .loop .inv .2) (one .stands .ensures)
 
 returns : tie.Need-returns Inv-loop μ-loop
 returns c =
-    let l = c .before .before .before .before in
-    let a = l .before .before .before .args in
+    let start : tie.Start Inv-loop μ-loop = search in
+    let in-loop : tie.In-loop Inv-loop μ-loop = search in
+    let l : tie.At-loop Inv-loop μ-loop = search in
+    let a = start .args in
     let t = a .table .now in
     let left : l .loop .l + 1 + (laneCount t - (l .loop .l + 1)) ≡ laneCount t =
-    omega (arith, l .loop .inv .1, c .before .before .before .loop-test) in
+    omega (arith, l .loop .inv .1, in-loop .loop-test) in
     let all =
     no-end-stays t (a .tag) (l .loop .l + 1) (laneCount t - (l .loop .l + 1))
     (sym (c .if1 .taken) ∙ says-now (c .before)) in
@@ -60,16 +66,13 @@ returns c =
 
 add-l : tie.Need-add-l Inv-loop μ-loop
 add-l c =
-    let l = c .before .before .before .before in
-    let p = l .before .before .before in
+    let l : tie.At-loop Inv-loop μ-loop = search in
+    let p : tie.Start Inv-loop μ-loop = search in
     omega (arith, l .loop .inv .1, well-sized (p .args .table .now) (p .pre .length-passes) .most-lanes)
-
-loop-less : tie.Need-loop-less Inv-loop μ-loop
-loop-less c = omega arith
 
 loop-again : tie.Need-loop-again Inv-loop μ-loop
 loop-again c =
-    let l = c .before .before .before .before in (
+    let l : tie.At-loop Inv-loop μ-loop = search in (
       omega arith,
       l .loop .inv .1,
       says-now (c .before),
@@ -77,8 +80,9 @@ loop-again c =
 
 returns-2 : tie.Need-returns-2 Inv-loop μ-loop
 returns-2 c =
-    let l = c .before in
-    let a = l .before .before .before .args in
+    let start : tie.Start Inv-loop μ-loop = search in
+    let l : tie.At-loop Inv-loop μ-loop = search in
+    let a = start .args in
     let all : l .loop .l ≡ laneCount (a .table .now) = omega (arith, l .loop .inv) in
     l .loop .inv .2 ∙ ap (λ (n : ℕ). standing (a .tag) (lanesBelow (a .table .now) n)) all
 
@@ -94,6 +98,6 @@ stands-in-any-spec =
     first-of-requires
     returns
     add-l
-    loop-less
+    (λ c. omega arith)
     loop-again
     returns-2)

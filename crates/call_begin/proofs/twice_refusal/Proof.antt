@@ -10,21 +10,19 @@ use Rattle.call_begin.proofs.twice_refusal.Statement.{statement}
 use Rattle.call_begin.proofs.twice_refusal.Tie as tie
 
 returns : tie.Need-returns
-returns c = λ ws W.
-    let a = c .before .before .args in twice-other ws (number (a .argument)) (a .operation) (c .if1 .taken)
-
-number-requires : tie.Need-number-requires
-number-requires c κs = search needs
-
-seen-refusal-requires : tie.Need-seen-refusal-requires
-seen-refusal-requires c κs = search needs
+returns c =
+    let start : tie.Start = search in
+    λ ws W.
+    let a = start .args in twice-other ws (number (a .argument)) (a .operation) (c .if1 .taken)
 
 returns-2 : tie.Need-returns-2
-returns-2 c = λ ws W.
-    let e = c .before .before in
-    let a = e .before .before .args in
+returns-2 c =
+    let start : tie.Start = search in
+    λ ws W.
+    let e : tie.Else1 = search in
+    let a = start .args in
     let said = ap (λ n. numberOf (seenRefusal ws n (allLanes ws) none)) (c .before .number .ensures) in
     c .seen-refusal .ensures ws W ∙ said ∙ twice-push ws (number (a .argument)) (a .operation) (e .if1 .left)
 
 pub twice-refusal-spec : {M : Type 1} → statement M
-twice-refusal-spec = tie.close (tie.spec returns number-requires seen-refusal-requires returns-2)
+twice-refusal-spec = tie.close (tie.spec returns (λ c κs. search needs) (λ c κs. search needs) returns-2)

@@ -8,36 +8,39 @@ use borrow.Author.Needs.{needs}
 use Rattle.call_dispatch.proofs.dispatch_refusal.Statement.{statement}
 use Rattle.call_dispatch.proofs.dispatch_refusal.Tie as tie
 
-table-refusal-requires : tie.Need-table-refusal-requires
-table-refusal-requires c κs = search needs
-
 returns : tie.Need-returns
 returns c =
-    let a = c .before .before .before .args in
+    let start : tie.Start = search in
+    let a = start .args in
     is-3-or-4 (a .table .now) (c .before .table-refusal .ensures) (c .if1 .taken) (a .hint)
 
 -- The table has passed 3 and 4.
 is-well-formed : (c : tie.Else1) → WellFormed (c .before .before .before .args .table .now)
 is-well-formed c =
-    table-passed (c .before .before .before .args .table .now) (c .before .table-refusal .ensures) (c .if1 .left)
+    let start : tie.Start = search in
+    table-passed (start .args .table .now) (c .before .table-refusal .ensures) (c .if1 .left)
 
 slots-requires : tie.Need-slots-requires
-slots-requires c κs = header-long (c .before .before .before .args .table .now) (is-well-formed c .length-passes)
+slots-requires c κs =
+    let start : tie.Start = search in
+    header-long (start .args .table .now) (is-well-formed c .length-passes)
 
 returns-2 : tie.Need-returns-2
 returns-2 c =
-    let n = c .before in
-    let e = n .before in
-    let a = e .before .before .before .args in
+    let start : tie.Start = search in
+    let n : tie.After-slots = search in
+    let e : tie.Else1 = search in
+    let a = start .args in
     is-9 (a .table .now) (is-well-formed e) (a .hint) (omega (arith, n .slots .ensures, c .if2 .taken))
 
 returns-3 : tie.Need-returns-3
 returns-3 c =
-    let n = c .before in
-    let e = n .before in
-    let a = e .before .before .before .args in
+    let start : tie.Start = search in
+    let n : tie.After-slots = search in
+    let e : tie.Else1 = search in
+    let a = start .args in
     is-none (a .table .now) (is-well-formed e) (a .hint) (omega (arith, n .slots .ensures, c .if2 .left))
 
 pub dispatch-refusal-spec : {M : Type 1} → statement M
 dispatch-refusal-spec =
-    tie.close (tie.spec table-refusal-requires returns slots-requires returns-2 returns-3)
+    tie.close (tie.spec (λ c κs. search needs) returns slots-requires returns-2 returns-3)

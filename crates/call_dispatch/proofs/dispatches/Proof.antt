@@ -6,40 +6,33 @@ use Rattle.call_dispatch.proofs.dispatches.Statement.{statement}
 use Rattle.call_dispatch.proofs.dispatches.Tie as tie
 
 returns : tie.Need-returns
-returns c = let a = c .before .before .args in none-left (a .table .now) (a .hint) (c .if1 .taken)
-
-dispatch-refusal-requires : tie.Need-dispatch-refusal-requires
-dispatch-refusal-requires c κs = search needs
-
-same-length : tie.Need-same-length
-same-length c = search needs
+returns c =
+    let start : tie.Start = search in
+    let a = start .args in none-left (a .table .now) (a .hint) (c .if1 .taken)
 
 returns-2 : tie.Need-returns-2
 returns-2 c =
-    let asked = c .before .before .before in
-    let a = asked .before .before .args in
+    let start : tie.Start = search in
+    let asked : tie.Else1 = search in
+    let a = start .args in
     all-refused (a .table .now) (a .hint) (c .before .dispatch-refusal .ensures) (c .if2 .taken) (a .times)
     (asked .if1 .left)
 
 dispatches-on-requires : tie.Need-dispatches-on-requires
 dispatches-on-requires c κs =
-    let a = c .before .before .before .before .before .before .args in
-    none-refused (a .table .now) (a .hint) (c .before .before .dispatch-refusal .ensures) (c .before .if2 .left)
-
-same-length-2 : tie.Need-same-length-2
-same-length-2 c = search needs
-
-returns-3 : tie.Need-returns-3
-returns-3 c = search needs
+    let start : tie.Start = search in
+    let after-dispatch-refusal : tie.After-dispatch-refusal = search in
+    let a = start .args in
+    none-refused (a .table .now) (a .hint) (after-dispatch-refusal .dispatch-refusal .ensures) (c .before .if2 .left)
 
 pub dispatches-spec : {M : Type 1} → statement M
 dispatches-spec =
     tie.close
     (tie.spec
     returns
-    dispatch-refusal-requires
-    same-length
+    (λ c κs. search needs)
+    (λ c. search needs)
     returns-2
     dispatches-on-requires
-    same-length-2
-    returns-3)
+    (λ c. search needs)
+    (λ c. search needs))

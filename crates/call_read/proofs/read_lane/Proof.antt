@@ -1,4 +1,5 @@
--- `call_read::read_lane` meets its contract: what the walk answers decides, and what is ahead of the first node is the lane.
+-- `call_read::read_lane` meets its contract: what the walk answers decides, and what is ahead of the first node is the
+-- lane.
 use mathlib.Core.Path.{_≡_, sym, ap, _∙_}
 use mathlib.Core.List.{List}
 use mathlib.Core.Option.{Option}
@@ -16,63 +17,43 @@ use Rattle.call_read.proofs.read_lane.Statement.{statement}
 use Rattle.call_read.proofs.read_lane.Tie as tie
 
 abbrev start : tie.After-seek → tie.Start
-start c = c .before .before .before
+start c = search
 
 abbrev bags : tie.After-seek → Option (List ℕ)
 bags c = lane (start c .args .table .now) (start c .args .l)
 
 abbrev sought : tie.At-match-keys2 → tie.After-seek
-sought c = c .before
+sought c = search
 
 -- What is ahead of the first node is the lane.
 first-ahead : (c : tie.After-first)
     → let walk = sought (c .before .before .before .before) in
     ahead (start walk .args .table .now) (c .first .result) ≡ bags walk
 first-ahead c =
-    let s = start (sought (c .before .before .before .before)) in
+    let at-match-keys2 : tie.At-match-keys2 = search in
+    let s = start (sought at-match-keys2) in
     lane-ahead (s .args .table .now) (s .args .l) (c .first .ensures)
-
-seek-requires : tie.Need-seek-requires
-seek-requires c κs = search needs
-
-enum-told : tie.Need-enum-told
-enum-told c = search needs
 
 returns : tie.Need-returns
 returns c =
-    let walk = c .before .before in
+    let walk : tie.After-seek = search in
     read-no-end _ (start walk .args .out .now) (bags walk) (sym (walk .seek .ensures) ∙ c .enum-told .given .1)
-
-enum-known-walk : tie.Need-enum-known-walk
-enum-known-walk c = search needs
-
-cast-if1 : tie.Need-cast-if1
-cast-if1 c = search needs
-
-mul-if1 : tie.Need-mul-if1
-mul-if1 c = search needs
-
-first-requires : tie.Need-first-requires
-first-requires c κs = search needs
 
 copy-requires : tie.Need-copy-requires
 copy-requires c κs =
-    let fits = c .before .before in
-    let known = fits .before .before in
+    let fits : tie.Then1 = search in
+    let known : tie.After-walk = search in
     let walk = sought (known .before) in
     let told = known .walk .given in
     let counted = bags-counted _ (bags walk) (told .0 .0) (told .0 .1 .0) (sym (walk .seek .ensures) ∙ told .1) in
     ((start walk .pre .0, omega (arith, fits .if1 .taken)), ap countOf (first-ahead (c .before)) ∙ counted)
 
-same-length : tie.Need-same-length
-same-length c = search needs
-
 returns-2 : tie.Need-returns-2
 returns-2 c =
-    let copied = c .before .before in
-    let found = copied .before .before in
-    let fits = found .before in
-    let known = fits .before .before in
+    let copied : tie.After-copy = search in
+    let found : tie.After-first = search in
+    let fits : tie.Then1 = search in
+    let known : tie.After-walk = search in
     let walk = sought (known .before) in
     let told = known .walk .given in
     let out = start walk .args .out .now in
@@ -83,7 +64,7 @@ returns-2 c =
 
 returns-3 : tie.Need-returns-3
 returns-3 c =
-    let known = c .before .before in
+    let known : tie.After-walk = search in
     let walk = sought (known .before) in
     let told = known .walk .given in
     read-short _ (start walk .args .out .now) (bags walk) (told .0 .0) (told .0 .1 .0)
@@ -93,14 +74,14 @@ pub read-lane-spec : {M : Type 1} → statement M
 read-lane-spec =
     tie.close
     (tie.spec
-    seek-requires
-    enum-told
+    (λ c κs. search needs)
+    (λ c. search needs)
     returns
-    enum-known-walk
-    cast-if1
-    mul-if1
-    first-requires
+    (λ c. search needs)
+    (λ c. search needs)
+    (λ c. search needs)
+    (λ c κs. search needs)
     copy-requires
-    same-length
+    (λ c. search needs)
     returns-2
     returns-3)

@@ -12,44 +12,34 @@ taken :
     → MayTake (c .before .before .before .before .before .before .args .table .now)
     (c .before .before .before .before .before .before .args .list .now)
 taken c =
-    let a = c .before .before .before .before .before .before .args in
+    let start : tie.Start = search in
+    let a = start .args in
     may-take (a .table .now) (a .list .now) (c .before .list-refusal .ensures) (c .if1 .left)
-
-list-refusal-requires : tie.Need-list-refusal-requires
-list-refusal-requires c κs = search needs
-
-same-length : tie.Need-same-length
-same-length c = search needs
 
 returns : tie.Need-returns
 returns c =
-    let a = c .before .before .before .before .before .before .args in
-    run-refused-first (a .table .now) (a .list .now) (a .answers .now) (c .before .list-refusal .ensures) (c .if1 .taken)
-
-run-in-room-requires : tie.Need-run-in-room-requires
-run-in-room-requires c κs = taken (c .before .before)
-
-same-length-2 : tie.Need-same-length-2
-same-length-2 c = search needs
-
-same-length-3 : tie.Need-same-length-3
-same-length-3 c = search needs
+    let start : tie.Start = search in
+    let a = start .args in
+    run-refused-first (a .table .now) (a .list .now) (a .answers .now) (c .before .list-refusal .ensures)
+    (c .if1 .taken)
 
 returns-2 : tie.Need-returns-2
 returns-2 c =
-    let e = c .before .before .before .before .before .before .before in
-    let a = e .before .before .before .before .before .before .args in
-    c .before .before .before .before .run-in-room .ensures
+    let start : tie.Start = search in
+    let after-run-in-room : tie.After-run-in-room = search in
+    let e : tie.Else1 = search in
+    let a = start .args in
+    after-run-in-room .run-in-room .ensures
     ∙ run-goes-on (a .table .now) (a .list .now) (a .answers .now) (taken e)
 
 pub run-spec : {M : Type 1} → statement M
 run-spec =
     tie.close
     (tie.spec
-    list-refusal-requires
-    same-length
+    (λ c κs. search needs)
+    (λ c. search needs)
     returns
-    run-in-room-requires
-    same-length-2
-    same-length-3
+    (λ c κs. taken search)
+    (λ c. search needs)
+    (λ c. search needs)
     returns-2)

@@ -16,7 +16,7 @@ use Rattle.machine.specs.Results.{changedOf}
 use Rattle.machine.specs.Sheets.{lastPage, sheetInto, sheet}
 use Rattle.machine.proofs.Basics.Contradiction.{clash}
 use Rattle.answers.specs.Refusals.{numberOf}
-use Rattle.table_shape.proofs.Laws.PassedTable.{refused, table-passed}
+use Rattle.table_shape.proofs.Laws.PassedTable.{table-refused, table-passed}
 use Rattle.lane_walk.specs.declared.Located.the-variants.{Node, NoEnd}
 use Rattle.lane_walk.specs.Walks.{ahead, countOf, nodeAfter, locatedOf}
 use Rattle.lane_walk.proofs.Laws.Places.{ahead-after, few-bags}
@@ -27,7 +27,7 @@ use Rattle.call_sheet.proofs.Laws.Walked.{fewer-dropped}
 module _ (ws : List ℕ) {n : ℕ} (is-number : n ≡ numberOf (tableRefusal ws none)) (l page : ℕ) (out : List ℕ) where
   pub sheet-refused : n ≢ 0 → changedOf (Refused n) out ≡ sheet ws l page out
   unfolding sheet
-  sheet-refused h = rw (refused ws is-number h (unless (ltb l (laneCount ws)) 26 none), sheet)
+  sheet-refused h = rw (table-refused ws is-number h (unless (ltb l (laneCount ws)) 26 none), sheet)
 
   pub sheet-no-lane : n ≡ 0 → laneCount ws ≤ l → changedOf (Refused 26) out ≡ sheet ws l page out
   unfolding sheet

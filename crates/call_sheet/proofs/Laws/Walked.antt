@@ -20,7 +20,7 @@ use Rattle.lane_walk.proofs.Laws.Places.{TagAt, ahead-after, tag-at}
 use Rattle.call_sheet.specs.Found.{tagsFound}
 
 -- ---- A walk that is counted ends, and its tags are as many.
-pub tags-ahead : (l : Option (List ℕ)) (n : ℕ) → countOf l ≡ some n → l ≡ some (tagsFound l)
+tags-ahead : (l : Option (List ℕ)) (n : ℕ) → countOf l ≡ some n → l ≡ some (tagsFound l)
 tags-ahead none n h = clash (cc)
 tags-ahead (some bags) n h = refl
 
@@ -66,7 +66,7 @@ module _ (ws : List ℕ) (x left : ℕ) (counted : countOf (ahead ws x) ≡ some
   pub taken-long : (n : ℕ) → n ≤ left → length (take n tags) ≡ n
   taken-long n h = length-take-le n tags (omega (arith, long))
 
-  -- After the tags before a place, the others are ahead.
+  -- After the tags before a place, the walked-others are ahead.
   others-ahead : (n : ℕ) → ahead ws (nodeAfter ws (min left n) x) ≡ some (drop n tags)
   others-ahead n =
       let e : min left n ≡ min n (length tags) = omega (arith, long) in
@@ -81,8 +81,8 @@ module _ (ws : List ℕ) (x left : ℕ) (counted : countOf (ahead ws x) ≡ some
         ∙ ap countOf (others-ahead n)
         ∙ ap some (length-drop n tags ∙ ap (λ (m : ℕ). m - n) long)
 
-    pub others : tagsFound (ahead ws y) ≡ drop n tags
-    others = ap (λ (z : ℕ). tagsFound (ahead ws z)) gone ∙ ap tagsFound (others-ahead n)
+    pub walked-others : tagsFound (ahead ws y) ≡ drop n tags
+    walked-others = ap (λ (z : ℕ). tagsFound (ahead ws z)) gone ∙ ap tagsFound (others-ahead n)
 
 -- ---- The words of a tag.
 module _ {v u : Stored} {digit low : ℕ}

@@ -11,10 +11,7 @@ use Rattle.call_sheet.proofs.sheet.Statement.{statement}
 use Rattle.call_sheet.proofs.sheet.Tie as tie
 
 abbrev start : tie.After-table-refusal → tie.Start
-start c = c .before .before .before
-
-table-refusal-requires : tie.Need-table-refusal-requires
-table-refusal-requires c κs = search needs
+start c = search
 
 returns : tie.Need-returns
 returns c =
@@ -32,27 +29,25 @@ lanes-requires c κs = header-long (start (c .before) .args .table .now) (passes
 
 returns-2 : tie.Need-returns-2
 returns-2 c =
-    let n = c .before in
-    let e = n .before in
+    let n : tie.After-lanes = search in
+    let e : tie.Else1 = search in
     let a = start (e .before) .args in
     sheet-no-lane (a .table .now) (e .before .table-refusal .ensures) (a .l) (a .page) (a .out .now) (e .if1 .left)
     (omega (arith, n .lanes .ensures, c .if2 .taken))
 
 sheet-lane-requires : tie.Need-sheet-lane-requires
 sheet-lane-requires c κs =
-    let l = c .before in
-    let n = l .before in (passes (n .before), omega (arith, n .lanes .ensures, l .if2 .left))
-
-same-length : tie.Need-same-length
-same-length c = search needs
+    let l : tie.Else2 = search in
+    let n : tie.After-lanes = search in (passes (n .before), omega (arith, n .lanes .ensures, l .if2 .left))
 
 returns-3 : tie.Need-returns-3
 returns-3 c =
-    let l = c .before .before .before .before in
-    let n = l .before in
-    let e = n .before in
+    let after-sheet-lane : tie.After-sheet-lane = search in
+    let l : tie.Else2 = search in
+    let n : tie.After-lanes = search in
+    let e : tie.Else1 = search in
     let a = start (e .before) .args in
-    c .before .before .sheet-lane .ensures
+    after-sheet-lane .sheet-lane .ensures
     ∙ sheet-goes-on (a .table .now) (e .before .table-refusal .ensures) (a .l) (a .page) (a .out .now) (e .if1 .left)
     (omega (arith, n .lanes .ensures, l .if2 .left))
 
@@ -60,10 +55,10 @@ pub sheet-spec : {M : Type 1} → statement M
 sheet-spec =
     tie.close
     (tie.spec
-    table-refusal-requires
+    (λ c κs. search needs)
     returns
     lanes-requires
     returns-2
     sheet-lane-requires
-    same-length
+    (λ c. search needs)
     returns-3)

@@ -1,5 +1,5 @@
--- `call_sheet::sheet_lane` meets its contract: what the walk answers decides, and from the node that it had, the tags of
--- the page are ahead.
+-- `call_sheet::sheet_lane` meets its contract: what the walk answers decides, and from the node that it had, the tags
+-- of the page are ahead.
 use mathlib.Core.Path.{_≡_, refl, sym, ap, _∙_}
 use mathlib.Core.List.{List}
 use mathlib.Core.Option.{Option, some}
@@ -26,7 +26,7 @@ use Rattle.call_sheet.proofs.sheet_lane.Statement.{statement}
 use Rattle.call_sheet.proofs.sheet_lane.Tie as tie
 
 abbrev start : tie.After-locate → tie.Start
-start c = c .before .before .before
+start c = search
 
 abbrev table : tie.After-locate → List ℕ
 table c = start c .args .table .now
@@ -41,62 +41,42 @@ is-ahead : (c : tie.After-locate) → ahead (table c) (first c) ≡ bags c
 is-ahead c = lane-ahead (table c) (start c .args .l) refl
 
 abbrev walk : tie.After-located → tie.After-locate
-walk c = c .before .before
+walk c = search
 
 told : (c : tie.After-located)
     → locatedOf (table (walk c)) (perPage * start (walk c) .args .page) (first (walk c)) (bags (walk c))
     ≡ Node (c .located .given .0 .0) (c .located .given .0 .1 .0)
 told c = sym (walk c .locate .ensures) ∙ c .located .given .1
 
-cast-locate : tie.Need-cast-locate
-cast-locate c = search needs
-
-mul-locate : tie.Need-mul-locate
-mul-locate c = search needs
-
-locate-requires : tie.Need-locate-requires
-locate-requires c κs = search needs
-
-enum-told : tie.Need-enum-told
-enum-told c = search needs
-
 returns : tie.Need-returns
 returns c =
-    let w = c .before .before in
+    let w : tie.After-locate = search in
     let a = start w .args in
-    sheet-no-end (table w) (first w) (a .page) (a .out .now) (bags w) (sym (w .locate .ensures) ∙ c .enum-told .given .1)
-
-enum-known-located : tie.Need-enum-known-located
-enum-known-located c = search needs
+    sheet-no-end (table w) (first w) (a .page) (a .out .now) (bags w)
+    (sym (w .locate .ensures) ∙ c .enum-told .given .1)
 
 returns-2 : tie.Need-returns-2
 returns-2 c =
-    let known = c .before .before in
+    let known : tie.After-located = search in
     let w = walk known in
     let a = start w .args in
     no-such-page (table w) (first w) (a .page) (a .out .now) (bags w) (told known) (omega (arith, c .if1 .taken))
 
 returns-3 : tie.Need-returns-3
 returns-3 c =
-    let passed = c .before in
-    let known = passed .before .before in
+    let passed : tie.Else1 = search in
+    let known : tie.After-located = search in
     let w = walk known in
     let a = start w .args in
     no-page-long (table w) (first w) (a .page) (a .out .now) (bags w) (told known) (omega (arith, passed .if1 .left))
     (λ e. absurd (omega (arith, c .if2 .taken, e)))
 
-mul-left-from : tie.Need-mul-left-from
-mul-left-from c = search needs
-
-left-from-requires : tie.Need-left-from-requires
-left-from-requires c κs = search needs
-
 put-page-requires : tie.Need-put-page-requires
 put-page-requires c κs =
-    let counted = c .before in
-    let fits = counted .before in
-    let passed = fits .before in
-    let known = passed .before .before in
+    let counted : tie.After-left-from = search in
+    let fits : tie.Else2 = search in
+    let passed : tie.Else1 = search in
+    let known : tie.After-located = search in
     let w = walk known in
     let s = start w in
     let a = s .args in
@@ -107,15 +87,12 @@ put-page-requires c κs =
       (omega (arith, few, sizes .most-nodes), omega (arith, fits .if2 .left)),
     )
 
-same-length : tie.Need-same-length
-same-length c = search needs
-
 returns-4 : tie.Need-returns-4
 returns-4 c =
-    let put = c .before .before in
-    let fits = put .before .before .before in
-    let passed = fits .before in
-    let known = passed .before .before in
+    let put : tie.After-put-page = search in
+    let fits : tie.Else2 = search in
+    let passed : tie.Else1 = search in
+    let known : tie.After-located = search in
     let w = walk known in
     let a = start w .args in
     page-written (table w) (first w) (a .page) (a .out .now) (bags w) (is-ahead w) (told known)
@@ -125,16 +102,16 @@ pub sheet-lane-spec : {M : Type 1} → statement M
 sheet-lane-spec =
     tie.close
     (tie.spec
-    cast-locate
-    mul-locate
-    locate-requires
-    enum-told
+    (λ c. search needs)
+    (λ c. search needs)
+    (λ c κs. search needs)
+    (λ c. search needs)
     returns
-    enum-known-located
+    (λ c. search needs)
     returns-2
     returns-3
-    mul-left-from
-    left-from-requires
+    (λ c. search needs)
+    (λ c κs. search needs)
     put-page-requires
-    same-length
+    (λ c. search needs)
     returns-4)

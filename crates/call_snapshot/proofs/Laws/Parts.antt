@@ -1,4 +1,5 @@
--- The parts that the code lends, put together: header and records copied, and the nodes' words written between them.
+-- The parts that the code lends, put together: header and records copied, and the nodes' words written parts-between
+-- them.
 use mathlib.Core.Path.{_≡_, sym, ap, _∙_}
 use mathlib.Core.Bool.{_&&_}
 use mathlib.Core.List.{List, [], _++_, append-nil, append-assoc}
@@ -51,10 +52,10 @@ module _ (S : ℕ) (from to : List ℕ) (enough : nodeAt S ≤ length from) (sam
       ∙ ap (λ (l : List ℕ). (take (nodeAt 0) from ++ nodes) ++ l) rest
       ∙ append-assoc (take (nodeAt 0) from) nodes (drop (nodeAt S) from)
 
-  -- Words written between them.
-  pub between : (ys : List ℕ) {first end : ℕ} → first ≡ nodeAt 0 → end ≡ nodeAt S
+  -- Words written parts-between them.
+  pub parts-between : (ys : List ℕ) {first end : ℕ} → first ≡ nodeAt 0 → end ≡ nodeAt S
       → putMid first (end - first) (withEnds S from to) ys ≡ take (nodeAt 0) from ++ (ys ++ drop (nodeAt S) from)
-  between ys {first} {end} at-first at =
+  parts-between ys {first} {end} at-first at =
       let whole = withEnds S from to in
       let nodes = take (nodeLength * S) (drop (nodeAt 0) to) in
       let n : end - first ≡ nodeLength * S = omega arith in
@@ -82,7 +83,7 @@ pub order-laid :
 unfolding reordered
 order-laid order from to ys {S} {first} {end} {t} enough same count at-first at is is-part is-ordered =
     ap (λ (l : List ℕ). putMid first (end - first) l ys) is
-    ∙ between S from to (omega (arith, enough, count)) same ys at-first at
+    ∙ parts-between S from to (omega (arith, enough, count)) same ys at-first at
     ∙ ap (λ (l : List ℕ). take (nodeAt 0) from ++ (l ++ drop (nodeAt S) from)) (is-ordered ∙ ap (order S) is-part)
     ∙ ap (λ (n : ℕ). take (nodeAt 0) from ++ (order n (nodePart from) ++ drop (nodeAt n) from)) count
 

@@ -12,7 +12,7 @@ use Rattle.machine.specs.Results.{changedOf}
 use Rattle.machine.specs.Snapshots.{snapshotRefusal}
 use Rattle.machine.proofs.Shape.ShapeKept.{table-passes}
 use Rattle.answers.specs.Refusals.{numberOf}
-use Rattle.table_shape.proofs.Laws.PassedTable.{refused, table-passed}
+use Rattle.table_shape.proofs.Laws.PassedTable.{table-refused, table-passed}
 
 module _ (ss ws tested before after : List ℕ) where
   abbrev outcome : Changed
@@ -23,9 +23,9 @@ module _ (ss ws tested before after : List ℕ) where
 
   module _ (same : length ss ≡ length ws) {n : ℕ} (is-number : n ≡ numberOf (tableRefusal tested none)) where
     pub refused-with : n ≢ 0 → changedOf (Refused n) before ≡ outcome
-    refused-with h = rw (eq-eqb (length ss) (length ws) same, refused tested is-number h none)
+    refused-with h = rw (eq-eqb (length ss) (length ws) same, table-refused tested is-number h none)
 
-    pub accepted : n ≡ 0 → {words : List ℕ} → words ≡ after → changedOf Accepted words ≡ outcome
-    accepted h e =
+    pub reply-accepted : n ≡ 0 → {words : List ℕ} → words ≡ after → changedOf Accepted words ≡ outcome
+    reply-accepted h e =
         ap (changedOf Accepted) e
         ∙ rw (eq-eqb (length ss) (length ws) same, table-passes tested (table-passed tested is-number h) none)

@@ -34,24 +34,18 @@ flag c =
 header-ok-requires : tie.Need-header-ok-requires
 header-ok-requires c κs = header-long (c .before .args .snapshot .now) (c .before .pre)
 
-columns-ok-requires : tie.Need-columns-ok-requires
-columns-ok-requires c κs = search needs
-
-tasks-ok-requires : tie.Need-tasks-ok-requires
-tasks-ok-requires c κs = search needs
-
 returns : tie.Need-returns
 returns c =
-    let j = c .before .before in
-    let s = j .before .before .before in
+    let j : tie.Joined1 = search in
+    let s : tie.Start = search in
     and-passed (flag j) (c .before .if2 .taken) (c .tasks-ok .ensures) ∙ result-shape (s .args .snapshot .now) (s .pre)
 
 returns-2 : tie.Need-returns-2
 returns-2 c =
-    let j = c .before in
-    let s = j .before .before .before in
+    let j : tie.Joined1 = search in
+    let s : tie.Start = search in
     and-failed _ (flag j) (c .if2 .left) refl ∙ result-shape (s .args .snapshot .now) (s .pre)
 
 pub result-shape-ok-spec : {M : Type 1} → statement M
 result-shape-ok-spec =
-    tie.close (tie.spec header-ok-requires columns-ok-requires tasks-ok-requires returns returns-2)
+    tie.close (tie.spec header-ok-requires (λ c κs. search needs) (λ c κs. search needs) returns returns-2)

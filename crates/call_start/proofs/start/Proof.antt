@@ -19,12 +19,10 @@ use borrow.Author.Needs.{needs}
 use Rattle.call_start.proofs.start.Statement.{statement}
 use Rattle.call_start.proofs.start.Tie as tie
 
-lanes-ok-requires : tie.Need-lanes-ok-requires
-lanes-ok-requires c κs = search needs
-
 returns : tie.Need-returns
 returns c =
-    let a = c .before .before .before .args in
+    let start : tie.Start = search in
+    let a = start .args in
     let s = c .before .lanes-ok in
     start-25 (a .table .now) (a .slots) (a .tasks) (a .growth) (a .lanes)
     (sym (s .ensures) ∙ not-true (s .result) (c .if1 .taken))
@@ -39,50 +37,46 @@ sizes-passed :
     sizesOk (a .slots) (a .tasks) (a .growth) (a .lanes) ≡ true
 sizes-passed c = let s = c .before .sizes-ok in sym (s .ensures) ∙ not-false (s .result) (c .if2 .left)
 
-sizes-ok-requires : tie.Need-sizes-ok-requires
-sizes-ok-requires c κs = search needs
-
 returns-2 : tie.Need-returns-2
 returns-2 c =
-    let l = c .before .before in
-    let a = l .before .before .before .args in
+    let start : tie.Start = search in
+    let l : tie.Else1 = search in
+    let a = start .args in
     let s = c .before .sizes-ok in
     start-1 (a .table .now) (a .slots) (a .tasks) (a .growth) (a .lanes) (lanes-passed l)
     (sym (s .ensures) ∙ not-true (s .result) (c .if2 .taken))
 
-table-length-requires : tie.Need-table-length-requires
-table-length-requires c κs = search needs
-
 returns-3 : tie.Need-returns-3
 returns-3 c =
-    let f = c .before .before in
-    let l = f .before .before in
-    let a = l .before .before .before .args in
+    let start : tie.Start = search in
+    let f : tie.Else2 = search in
+    let l : tie.Else1 = search in
+    let a = start .args in
     start-2 (a .table .now) (a .slots) (a .tasks) (a .growth) (a .lanes) (lanes-passed l) (sizes-passed f)
     (λ e. c .if3 .taken (e ∙ sym (c .before .table-length .ensures)))
 
 write-all-requires : tie.Need-write-all-requires
 write-all-requires c κs =
-    let e = c .before in
-    let f = e .before .before in
-    let l = f .before .before in
-    let a = l .before .before .before .args in (
+    let start : tie.Start = search in
+    let e : tie.Else3 = search in
+    let f : tie.Else2 = search in
+    let l : tie.Else1 = search in
+    let a = start .args in (
       most-lanes (a .table .now) (a .slots) (a .tasks) (a .growth) (a .lanes) (lanes-passed l),
       lanes-fit (a .table .now) (a .slots) (a .tasks) (a .growth) (a .lanes) (lanes-passed l) (sizes-passed f),
       one-task (a .table .now) (a .slots) (a .tasks) (a .growth) (a .lanes) (lanes-passed l) (sizes-passed f),
       e .if3 .left ∙ e .before .table-length .ensures,
     )
 
-same-length : tie.Need-same-length
-same-length c = search needs
-
 returns-4 : tie.Need-returns-4
 returns-4 c =
-    let e = c .before .before .before .before in
-    let f = e .before .before in
-    let l = f .before .before in
-    let a = l .before .before .before .args in
-    ap (changedOf Accepted) (c .before .before .write-all .ensures)
+    let start : tie.Start = search in
+    let after-write-all : tie.After-write-all = search in
+    let e : tie.Else3 = search in
+    let f : tie.Else2 = search in
+    let l : tie.Else1 = search in
+    let a = start .args in
+    ap (changedOf Accepted) (after-write-all .write-all .ensures)
     ∙ start-accepted (a .table .now) (a .slots) (a .tasks) (a .growth) (a .lanes) (lanes-passed l) (sizes-passed f)
     (e .if3 .left ∙ e .before .table-length .ensures)
 
@@ -90,12 +84,12 @@ pub start-spec : {M : Type 1} → statement M
 start-spec =
     tie.close
     (tie.spec
-    lanes-ok-requires
+    (λ c κs. search needs)
     returns
-    sizes-ok-requires
+    (λ c κs. search needs)
     returns-2
-    table-length-requires
+    (λ c κs. search needs)
     returns-3
     write-all-requires
-    same-length
+    (λ c. search needs)
     returns-4)

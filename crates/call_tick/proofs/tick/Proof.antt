@@ -6,35 +6,30 @@ use borrow.Author.Needs.{needs}
 use Rattle.call_tick.proofs.tick.Statement.{statement}
 use Rattle.call_tick.proofs.tick.Tie as tie
 
-table-refusal-requires : tie.Need-table-refusal-requires
-table-refusal-requires c κs = search needs
-
-same-length : tie.Need-same-length
-same-length c = search needs
-
 returns : tie.Need-returns
 returns c =
-    let p = c .before .before .before .before in
+    let p : tie.Start = search in
     let a = p .args in
     tick-refused (a .table .now) (c .before .table-refusal .ensures) (a .task) (a .hint) (c .if1 .taken)
 
 tick-on-requires : tie.Need-tick-on-requires
 tick-on-requires c κs =
-    let p = c .before .before .before .before .before in
-    table-passed (p .args .table .now) (c .before .before .table-refusal .ensures) (c .before .if1 .left)
-
-same-length-2 : tie.Need-same-length-2
-same-length-2 c = search needs
+    let after-table-refusal : tie.After-table-refusal = search in
+    let p : tie.Start = search in
+    table-passed (p .args .table .now) (after-table-refusal .table-refusal .ensures) (c .before .if1 .left)
 
 returns-2 : tie.Need-returns-2
 returns-2 c =
-    let p = c .before .before .before .before .before .before .before .before in
+    let after-table-refusal : tie.After-table-refusal = search in
+    let else1 : tie.Else1 = search in
+    let after-tick-on : tie.After-tick-on = search in
+    let p : tie.Start = search in
     let a = p .args in
-    c .before .before .tick-on .ensures
-    ∙ tick-goes-on (a .table .now) (c .before .before .before .before .before .table-refusal .ensures) (a .task)
-    (a .hint) (c .before .before .before .before .if1 .left)
+    after-tick-on .tick-on .ensures
+    ∙ tick-goes-on (a .table .now) (after-table-refusal .table-refusal .ensures) (a .task)
+    (a .hint) (else1 .if1 .left)
 
 pub tick-spec : {M : Type 1} → statement M
 tick-spec =
     tie.close
-    (tie.spec table-refusal-requires same-length returns tick-on-requires same-length-2 returns-2)
+    (tie.spec (λ c κs. search needs) (λ c. search needs) returns tick-on-requires (λ c. search needs) returns-2)

@@ -18,26 +18,15 @@ kind-small Yes = omega arith
 kind-small No = omega arith
 kind-small (Refused n) = omega arith
 
-kind-requires : tie.Need-kind-requires
-kind-requires c κs = search needs
-
-cast-result : tie.Need-cast-result
-cast-result c = search needs
-
 mul-result : tie.Need-mul-result
 mul-result c = omega (arith, c .kind .ensures, kind-small (c .before .args .a))
 
-payload-requires : tie.Need-payload-requires
-payload-requires c κs = search needs
-
 add-result : tie.Need-add-result
 add-result c =
-    let s = c .before .before in
+    let s : tie.Start = search in
     omega (arith, c .before .kind .ensures, kind-small (s .args .a), c .payload .ensures, s .pre)
-
-returns : tie.Need-returns
-returns c = search needs
 
 pub answer-number-spec : {M : Type 1} → statement M
 answer-number-spec =
-    tie.close (tie.spec kind-requires cast-result mul-result payload-requires add-result returns)
+    tie.close (tie.spec (λ c κs. search needs) (λ c. search needs) mul-result (λ c κs. search needs) add-result
+    (λ c. search needs))

@@ -9,16 +9,11 @@ use borrow.Author.Needs.{needs}
 use Rattle.deque.proofs.begin_numbered.Statement.{statement}
 use Rattle.deque.proofs.begin_numbered.Tie as tie
 
-of-words-requires : tie.Need-of-words-requires
-of-words-requires c κs = search needs
-
-begin-record-requires : tie.Need-begin-record-requires
-begin-record-requires c κs = search needs
-
 returns : tie.Need-returns
 returns c =
-    let w = c .before in
-    let a = w .before .before .args in
+    let start : tie.Start = search in
+    let w : tie.After-of-words = search in
+    let a = start .args in
     let b = c .begin-record .ensures in
     let e =
     ap (λ (u : Stored). beginLent (a .table .now) (recordOf (a .own)) (a .task) (a .lane) (a .operation) (a .side) u)
@@ -28,4 +23,4 @@ returns c =
     )
 
 pub begin-numbered-spec : {M : Type 1} → statement M
-begin-numbered-spec = tie.close (tie.spec of-words-requires begin-record-requires returns)
+begin-numbered-spec = tie.close (tie.spec (λ c κs. search needs) (λ c κs. search needs) returns)

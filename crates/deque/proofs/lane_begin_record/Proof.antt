@@ -1,6 +1,7 @@
 -- `deque::lane_begin_record` meets its contract: a walk of its MIR, by hand. The borrow is opened, the record is
--- copied and passed to `begin_numbered` with the table and the numbers, the record of what that returns is stored over the
--- record, and the borrow is closed there. All that the proof knows of `begin_numbered` is that it meets its contract.
+-- copied and passed to `begin_numbered` with the table and the numbers, the record of what that returns is stored over
+-- the record, and the borrow is closed there. All that the proof knows of `begin_numbered` is that it meets its
+-- contract.
 use mathlib.Core.Path.{_≡_, refl, ap}
 use Prim.Native.Nat.{ℕ, _<_, _^_}
 use mathlib.Core.List.{[], _∷_, List}

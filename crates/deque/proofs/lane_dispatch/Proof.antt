@@ -10,26 +10,22 @@ use borrow.Author.Needs.{needs}
 use Rattle.deque.proofs.lane_dispatch.Statement.{statement}
 use Rattle.deque.proofs.lane_dispatch.Tie as tie
 
-dispatch-requires : tie.Need-dispatch-requires
-dispatch-requires c κs = search needs
-
 dispatch-number-requires : tie.Need-dispatch-number-requires
 dispatch-number-requires c κs =
-    let d = c .before .before in
-    let a = d .before .before .before .args in
+    let start : tie.Start = search in
+    let d : tie.After-dispatch = search in
+    let a = start .args in
     subst (λ (r : Dispatched). dispatchPayloadOf (r .answer) ≤ largestTag) (sym (d .dispatch .ensures))
     (dispatch-number (a .table .now) (a .hint))
 
-same-length : tie.Need-same-length
-same-length c = search needs
-
 returns : tie.Need-returns
 returns c =
-    let e = c .before .before .before .dispatch .ensures in (
+    let after-dispatch : tie.After-dispatch = search in
+    let e = after-dispatch .dispatch .ensures in (
       c .dispatch-number .ensures ∙ ap (λ (r : Dispatched). dispatchNumber (r .answer)) e,
       ap (λ (r : Dispatched). r .words) e,
     )
 
 pub lane-dispatch-spec : {M : Type 1} → statement M
 lane-dispatch-spec =
-    tie.close (tie.spec dispatch-requires dispatch-number-requires same-length returns)
+    tie.close (tie.spec (λ c κs. search needs) dispatch-number-requires (λ c. search needs) returns)

@@ -10,26 +10,22 @@ use borrow.Author.Needs.{needs}
 use Rattle.deque.proofs.lane_dispatches.Statement.{statement}
 use Rattle.deque.proofs.lane_dispatches.Tie as tie
 
-dispatches-requires : tie.Need-dispatches-requires
-dispatches-requires c κs = search needs
-
 dispatch-number-requires : tie.Need-dispatch-number-requires
 dispatch-number-requires c κs =
-    let d = c .before .before in
-    let a = d .before .before .before .args in
+    let start : tie.Start = search in
+    let d : tie.After-dispatches = search in
+    let a = start .args in
     subst (λ (r : Dispatched). dispatchPayloadOf (r .answer) ≤ largestTag) (sym (d .dispatches .ensures))
     (dispatches-number (a .times) (a .table .now) (a .hint))
 
-same-length : tie.Need-same-length
-same-length c = search needs
-
 returns : tie.Need-returns
 returns c =
-    let e = c .before .before .before .dispatches .ensures in (
+    let after-dispatches : tie.After-dispatches = search in
+    let e = after-dispatches .dispatches .ensures in (
       c .dispatch-number .ensures ∙ ap (λ (r : Dispatched). dispatchNumber (r .answer)) e,
       ap (λ (r : Dispatched). r .words) e,
     )
 
 pub lane-dispatches-spec : {M : Type 1} → statement M
 lane-dispatches-spec =
-    tie.close (tie.spec dispatches-requires dispatch-number-requires same-length returns)
+    tie.close (tie.spec (λ c κs. search needs) dispatch-number-requires (λ c. search needs) returns)

@@ -6,14 +6,8 @@ use Rattle.deque.specs.Exports.{checkedNumber}
 use Rattle.deque.proofs.lane_list_check.Statement.{statement}
 use Rattle.deque.proofs.lane_list_check.Tie as tie
 
-check-requires : tie.Need-check-requires
-check-requires c κs = search needs
-
-checked-number-requires : tie.Need-checked-number-requires
-checked-number-requires c κs = search needs
-
 returns : tie.Need-returns
 returns c = c .checked-number .ensures ∙ ap (λ (d : Checked). checkedNumber d) (c .before .check .ensures)
 
 pub lane-list-check-spec : {M : Type 1} → statement M
-lane-list-check-spec = tie.close (tie.spec check-requires checked-number-requires returns)
+lane-list-check-spec = tie.close (tie.spec (λ c κs. search needs) (λ c κs. search needs) returns)

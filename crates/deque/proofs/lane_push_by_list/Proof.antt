@@ -6,23 +6,12 @@ use Rattle.deque.specs.Exports.{byListNumber}
 use Rattle.deque.proofs.lane_push_by_list.Statement.{statement}
 use Rattle.deque.proofs.lane_push_by_list.Tie as tie
 
-of-words-requires : tie.Need-of-words-requires
-of-words-requires c κs = search needs
-
-push-by-list-requires : tie.Need-push-by-list-requires
-push-by-list-requires c κs = search needs
-
-by-list-number-requires : tie.Need-by-list-number-requires
-by-list-number-requires c κs = search needs
-
-same-length : tie.Need-same-length
-same-length c = search needs
-
 returns : tie.Need-returns
 returns c =
-    let b = c .before .before .before in
-    let n = b .before in
-    let a = n .before .before .before .before .args in
+    let start : tie.Start = search in
+    let b : tie.After-push-by-list = search in
+    let n : tie.After-of-words = search in
+    let a = start .args in
     let e =
     b .push-by-list .ensures
     ∙ ap (pushByList (a .list .now) (a .table .now) (a .task) (a .lane)) (n .of-words .ensures) in (
@@ -33,4 +22,4 @@ returns c =
 pub lane-push-by-list-spec : {M : Type 1} → statement M
 lane-push-by-list-spec =
     tie.close
-    (tie.spec of-words-requires push-by-list-requires by-list-number-requires same-length returns)
+    (tie.spec (λ c κs. search needs) (λ c κs. search needs) (λ c κs. search needs) (λ c. search needs) returns)

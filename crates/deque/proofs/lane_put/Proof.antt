@@ -6,21 +6,13 @@ use borrow.Author.Needs.{needs}
 use Rattle.deque.proofs.lane_put.Statement.{statement}
 use Rattle.deque.proofs.lane_put.Tie as tie
 
-put-requires : tie.Need-put-requires
-put-requires c κs = search needs
-
-reply-number-requires : tie.Need-reply-number-requires
-reply-number-requires c κs = search needs
-
-same-length : tie.Need-same-length
-same-length c = search needs
-
 returns : tie.Need-returns
 returns c =
-    let e = c .before .before .before .put .ensures in (
+    let after-put : tie.After-put = search in
+    let e = after-put .put .ensures in (
       c .reply-number .ensures ∙ ap (λ (d : Changed). replyNumber (d .reply)) e,
       ap (λ (d : Changed). d .words) e,
     )
 
 pub lane-put-spec : {M : Type 1} → statement M
-lane-put-spec = tie.close (tie.spec put-requires reply-number-requires same-length returns)
+lane-put-spec = tie.close (tie.spec (λ c κs. search needs) (λ c κs. search needs) (λ c. search needs) returns)

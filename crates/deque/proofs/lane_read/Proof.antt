@@ -6,21 +6,13 @@ use borrow.Author.Needs.{needs}
 use Rattle.deque.proofs.lane_read.Statement.{statement}
 use Rattle.deque.proofs.lane_read.Tie as tie
 
-read-requires : tie.Need-read-requires
-read-requires c κs = search needs
-
-reading-number-requires : tie.Need-reading-number-requires
-reading-number-requires c κs = search needs
-
-same-length : tie.Need-same-length
-same-length c = search needs
-
 returns : tie.Need-returns
 returns c =
-    let e = c .before .before .before .read .ensures in (
+    let after-read : tie.After-read = search in
+    let e = after-read .read .ensures in (
       c .reading-number .ensures ∙ ap (λ (d : ReadDone). readingNumber (d .reading)) e,
       ap (λ (d : ReadDone). d .out) e,
     )
 
 pub lane-read-spec : {M : Type 1} → statement M
-lane-read-spec = tie.close (tie.spec read-requires reading-number-requires same-length returns)
+lane-read-spec = tie.close (tie.spec (λ c κs. search needs) (λ c κs. search needs) (λ c. search needs) returns)

@@ -6,24 +6,14 @@ use borrow.Author.Needs.{needs}
 use Rattle.deque.proofs.lane_run.Statement.{statement}
 use Rattle.deque.proofs.lane_run.Tie as tie
 
-run-requires : tie.Need-run-requires
-run-requires c κs = search needs
-
-ran-number-requires : tie.Need-ran-number-requires
-ran-number-requires c κs = search needs
-
-same-length : tie.Need-same-length
-same-length c = search needs
-
-same-length-2 : tie.Need-same-length-2
-same-length-2 c = search needs
-
 returns : tie.Need-returns
 returns c =
-    let e = c .before .before .before .before .before .run .ensures in (
+    let after-run : tie.After-run = search in
+    let e = after-run .run .ensures in (
       c .ran-number .ensures ∙ ap (λ (d : RunDone). ranNumber (d .ran)) e,
       (ap (λ (d : RunDone). d .words) e, ap (λ (d : RunDone). d .answers) e),
     )
 
 pub lane-run-spec : {M : Type 1} → statement M
-lane-run-spec = tie.close (tie.spec run-requires ran-number-requires same-length same-length-2 returns)
+lane-run-spec =
+    tie.close (tie.spec (λ c κs. search needs) (λ c κs. search needs) (λ c. search needs) (λ c. search needs) returns)

@@ -6,21 +6,13 @@ use borrow.Author.Needs.{needs}
 use Rattle.deque.proofs.lane_sheet.Statement.{statement}
 use Rattle.deque.proofs.lane_sheet.Tie as tie
 
-sheet-requires : tie.Need-sheet-requires
-sheet-requires c κs = search needs
-
-reply-number-requires : tie.Need-reply-number-requires
-reply-number-requires c κs = search needs
-
-same-length : tie.Need-same-length
-same-length c = search needs
-
 returns : tie.Need-returns
 returns c =
-    let e = c .before .before .before .sheet .ensures in (
+    let after-sheet : tie.After-sheet = search in
+    let e = after-sheet .sheet .ensures in (
       c .reply-number .ensures ∙ ap (λ (d : Changed). replyNumber (d .reply)) e,
       ap (λ (d : Changed). d .words) e,
     )
 
 pub lane-sheet-spec : {M : Type 1} → statement M
-lane-sheet-spec = tie.close (tie.spec sheet-requires reply-number-requires same-length returns)
+lane-sheet-spec = tie.close (tie.spec (λ c κs. search needs) (λ c κs. search needs) (λ c. search needs) returns)

@@ -6,22 +6,14 @@ use borrow.Author.Needs.{needs}
 use Rattle.deque.proofs.lane_tags_read.Statement.{statement}
 use Rattle.deque.proofs.lane_tags_read.Tie as tie
 
-read-tags-requires : tie.Need-read-tags-requires
-read-tags-requires c κs = search needs
-
-list-number-requires : tie.Need-list-number-requires
-list-number-requires c κs = search needs
-
-same-length : tie.Need-same-length
-same-length c = search needs
-
 returns : tie.Need-returns
 returns c =
-    let e = c .before .before .before .read-tags .ensures in (
+    let after-read-tags : tie.After-read-tags = search in
+    let e = after-read-tags .read-tags .ensures in (
       c .list-number .ensures ∙ ap (λ (d : ListOutcome). listNumber (d .answer)) e,
       ap (λ (d : ListOutcome). d .out) e,
     )
 
 pub lane-tags-read-spec : {M : Type 1} → statement M
 lane-tags-read-spec =
-    tie.close (tie.spec read-tags-requires list-number-requires same-length returns)
+    tie.close (tie.spec (λ c κs. search needs) (λ c κs. search needs) (λ c. search needs) returns)

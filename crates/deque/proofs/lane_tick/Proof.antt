@@ -10,25 +10,21 @@ use borrow.Author.Needs.{needs}
 use Rattle.deque.proofs.lane_tick.Statement.{statement}
 use Rattle.deque.proofs.lane_tick.Tie as tie
 
-tick-requires : tie.Need-tick-requires
-tick-requires c κs = search needs
-
 answer-number-requires : tie.Need-answer-number-requires
 answer-number-requires c κs =
-    let t = c .before .before in
-    let a = t .before .before .before .args in
+    let start : tie.Start = search in
+    let t : tie.After-tick = search in
+    let a = start .args in
     subst (λ (d : Ticked). payloadOf (d .answer) ≤ largestTag) (sym (t .tick .ensures))
     (tick-number (a .table .now) (a .task) (a .hint))
 
-same-length : tie.Need-same-length
-same-length c = search needs
-
 returns : tie.Need-returns
 returns c =
-    let e = c .before .before .before .tick .ensures in (
+    let after-tick : tie.After-tick = search in
+    let e = after-tick .tick .ensures in (
       c .answer-number .ensures ∙ ap (λ (d : Ticked). answerNumber (d .answer)) e,
       ap (λ (d : Ticked). d .words) e,
     )
 
 pub lane-tick-spec : {M : Type 1} → statement M
-lane-tick-spec = tie.close (tie.spec tick-requires answer-number-requires same-length returns)
+lane-tick-spec = tie.close (tie.spec (λ c κs. search needs) answer-number-requires (λ c. search needs) returns)

@@ -10,25 +10,21 @@ use borrow.Author.Needs.{needs}
 use Rattle.deque.proofs.lane_ticks.Statement.{statement}
 use Rattle.deque.proofs.lane_ticks.Tie as tie
 
-ticks-requires : tie.Need-ticks-requires
-ticks-requires c κs = search needs
-
 answer-number-requires : tie.Need-answer-number-requires
 answer-number-requires c κs =
-    let t = c .before .before in
-    let a = t .before .before .before .args in
+    let start : tie.Start = search in
+    let t : tie.After-ticks = search in
+    let a = start .args in
     subst (λ (d : Ticked). payloadOf (d .answer) ≤ largestTag) (sym (t .ticks .ensures))
     (ticks-number (a .times) (a .table .now) (a .task) (a .hint))
 
-same-length : tie.Need-same-length
-same-length c = search needs
-
 returns : tie.Need-returns
 returns c =
-    let e = c .before .before .before .ticks .ensures in (
+    let after-ticks : tie.After-ticks = search in
+    let e = after-ticks .ticks .ensures in (
       c .answer-number .ensures ∙ ap (λ (d : Ticked). answerNumber (d .answer)) e,
       ap (λ (d : Ticked). d .words) e,
     )
 
 pub lane-ticks-spec : {M : Type 1} → statement M
-lane-ticks-spec = tie.close (tie.spec ticks-requires answer-number-requires same-length returns)
+lane-ticks-spec = tie.close (tie.spec (λ c κs. search needs) answer-number-requires (λ c. search needs) returns)

@@ -3,11 +3,8 @@ use borrow.Author.Needs.{needs}
 use Rattle.deque.proofs.ran_number.Statement.{statement}
 use Rattle.deque.proofs.ran_number.Tie as tie
 
-pair-requires : tie.Need-pair-requires
-pair-requires c κs = search needs
-
 returns : tie.Need-returns
 returns c = c .pair .ensures
 
 pub ran-number-spec : {M : Type 1} → statement M
-ran-number-spec = tie.close (tie.spec pair-requires returns)
+ran-number-spec = tie.close (tie.spec (λ c κs. search needs) returns)

@@ -25,62 +25,63 @@ abbrev μ-loop : tie.MeasureT-loop
     length chunk - from
 
 loop-holds : tie.Need-loop-holds Inv-loop μ-loop
-loop-holds c = answering-starts _ (c .before .before .before .pre .0)
+loop-holds c =
+    let start : tie.Start Inv-loop μ-loop = search in
+    answering-starts _ (start .pre .0)
 
 serve-lines-requires : tie.Need-serve-lines-requires Inv-loop μ-loop
 serve-lines-requires c κs =
-    let loop = c .before .before .before .before .before .before in
+    let start : tie.Start Inv-loop μ-loop = search in
+    let loop : tie.At-loop Inv-loop μ-loop = search in
     let A = loop .loop .inv in
-    (A .within, (A .answers .in-order, omega (arith, A .same-out, loop .before .before .before .before .pre .1)))
+    (A .within, (A .answers .in-order, omega (arith, A .same-out, start .pre .1)))
 
 slice-reshare-prefix-put : tie.Need-slice-reshare-prefix-put Inv-loop μ-loop
 slice-reshare-prefix-put c =
-    let served = c .before .before .before .before .before in
+    let served : tie.After-serve-lines Inv-loop μ-loop = search in
     omega (arith, served .serve-lines .ensures .1 .1 .1)
 
 slice-aggregate-put : tie.Need-slice-aggregate-put Inv-loop μ-loop
 slice-aggregate-put c =
-    let served = c .before .before .before .before .before .before in
+    let served : tie.After-serve-lines Inv-loop μ-loop = search in
     sym (length-take-le _ _ (served .serve-lines .ensures .1 .1 .1))
-
-put-requires : tie.Need-put-requires Inv-loop μ-loop
-put-requires c κs = search needs
 
 same-length : tie.Need-same-length Inv-loop μ-loop
 same-length c =
-    let served = c .before .before .before .before .before .before .before .before in
-    let loop = served .before .before .before .before .before .before .before in
+    let served : tie.After-serve-lines Inv-loop μ-loop = search in
+    let loop : tie.At-loop Inv-loop μ-loop = search in
     served .serve-lines .kept .1 .1 .0 ∙ loop .loop .inv .same-space
 
 same-length-2 : tie.Need-same-length-2 Inv-loop μ-loop
 same-length-2 c =
-    let served = c .before .before .before .before .before .before .before .before in
-    let loop = served .before .before .before .before .before .before .before in
+    let served : tie.After-serve-lines Inv-loop μ-loop = search in
+    let loop : tie.At-loop Inv-loop μ-loop = search in
     served .serve-lines .kept .1 .1 .1 .1 .1 .1 .1 .0 ∙ loop .loop .inv .same-out
 
 returns : tie.Need-returns Inv-loop μ-loop
 returns c =
-    let served = c .before .before .before .before .before .before .before .before in
-    let loop = served .before .before .before .before .before .before .before in
+    let in-loop : tie.In-loop Inv-loop μ-loop = search in
+    let served : tie.After-serve-lines Inv-loop μ-loop = search in
+    let loop : tie.At-loop Inv-loop μ-loop = search in
     let done = served .serve-lines .ensures in
     let kept = served .serve-lines .kept in
     let A =
     answering-goes-on _ (loop .loop .inv) _ (done .0) (done .1 .0) (done .1 .1 .0 .in-order) (done .1 .1 .1)
     (kept .1 .1 .0) (kept .1 .1 .1 .1 .1 .1 .1 .0) in
-    let further = done .0 .further (served .before .before .before .before .before .before .loop-test .taken) in
+    let further = done .0 .further (in-loop .loop-test .taken) in
     answering-stops _ (omega (arith, further)) A
 
 loop-less : tie.Need-loop-less Inv-loop μ-loop
 loop-less c =
-    let served = c .before .before .before .before .before .before .before .before in
-    let test = served .before .before .before .before .before .before in
+    let served : tie.After-serve-lines Inv-loop μ-loop = search in
+    let test : tie.In-loop Inv-loop μ-loop = search in
     let onward = served .serve-lines .ensures .0 in
     omega (arith, onward .within, onward .further (test .loop-test .taken))
 
 loop-again : tie.Need-loop-again Inv-loop μ-loop
 loop-again c =
-    let served = c .before .before .before .before .before .before .before .before in
-    let loop = served .before .before .before .before .before .before .before in
+    let served : tie.After-serve-lines Inv-loop μ-loop = search in
+    let loop : tie.At-loop Inv-loop μ-loop = search in
     let kept = served .serve-lines .kept in
     let done = served .serve-lines .ensures in
     answering-goes-on _ (loop .loop .inv) _ (done .0) (done .1 .0) (done .1 .1 .0 .in-order) (done .1 .1 .1)
@@ -105,7 +106,7 @@ answer-chunk-spec =
     serve-lines-requires
     slice-reshare-prefix-put
     slice-aggregate-put
-    put-requires
+    (λ c κs. search needs)
     same-length
     same-length-2
     returns

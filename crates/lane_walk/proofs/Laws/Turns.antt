@@ -11,7 +11,7 @@ use Rattle.machine.specs.Values.{Value, never, bag, N, X, Y, number, encode, de
 use Rattle.machine.specs.Tasks.{noNode}
 use Rattle.machine.specs.Table.{nodeCount, link, value, valueWords}
 use Rattle.machine.specs.Calls.{laneFrom}
-use Rattle.machine.proofs.Basics.Choices.{equal, unequal, if-yes}
+use Rattle.machine.proofs.Basics.Choices.{test-equal, test-unequal, if-yes}
 use Rattle.machine.proofs.Basics.Contradiction.{clash}
 use Rattle.machine.proofs.Words.LaneLaws.{atValue}
 use Rattle.machine.proofs.Words.ValueLaws.{bag-decoded, decoded-bag}
@@ -30,11 +30,11 @@ module _ (ws : List ℕ) where
   pub no-node : (m x : ℕ) → x ≡ noNode → laneFrom ws m x ≡ none
   unfolding laneFrom
   no-node zero x e = refl
-  no-node (suc m) x e = rw (equal e)
+  no-node (suc m) x e = rw (test-equal e)
 
   pub at-node : (m x : ℕ) → x ≢ noNode → laneFrom ws (suc m) x ≡ atValue (value ws x) (after m x)
   unfolding laneFrom
-  at-node m x node = rw (unequal node)
+  at-node m x node = rw (test-unequal node)
 
   -- By the words of its value.
   module _ (m m′ x : ℕ) (turn : m ≡ suc m′) (node : x ≢ noNode) (is-node : x < nodeCount ws) where

@@ -11,14 +11,14 @@ part-requires c κs = nodes-room (c .before .args .table .now) (c .before .pre .
 
 link-requires : tie.Need-link-requires
 link-requires c κs =
-    let s = c .before .before in
+    let s : tie.Start = search in
     (node-in-part (s .args .table .now) (s .pre .0) (c .part .ensures) (s .args .x) (s .pre .1), omega arith)
 
 returns : tie.Need-returns
 unfolding ℕ-discrete
 returns c =
-    let p = c .before in
-    let s = p .before .before in
+    let p : tie.After-part = search in
+    let s : tie.Start = search in
     c .link .ensures ∙ link-read (s .args .table .now) (s .pre .0) (p .part .ensures) (s .args .x) (s .pre .1)
 
 pub next-spec : {M : Type 1} → statement M

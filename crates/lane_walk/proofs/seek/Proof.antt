@@ -34,19 +34,23 @@ abbrev μ-loop : tie.MeasureT-loop
 μ-loop table l sought slots x₀ n₀ found₀ x n found = slots - n
 
 abbrev start : tie.At-loop Inv-loop μ-loop → tie.Start Inv-loop μ-loop
-start c = c .before .before .before .before
+start c = search
 
 abbrev table : tie.At-loop Inv-loop μ-loop → List ℕ
 table c = start c .args .table .now
 
 -- The nodes, counted.
 all-nodes : (c : tie.At-loop Inv-loop μ-loop) → c .before .before .slots .result ≡ nodeCount (table c)
-all-nodes c = c .before .before .slots .ensures
+all-nodes c =
+    let after-slots : tie.After-slots Inv-loop μ-loop = search in
+    after-slots .slots .ensures
 
 -- The walk is at a node.
 node-there : (c : tie.Else1 Inv-loop μ-loop)
     → let at = c .before .before in at .loop .x < nodeCount (table at)
-node-there c = c .before .before .loop .inv .1 (c .if1 .left)
+node-there c =
+    let at-loop : tie.At-loop Inv-loop μ-loop = search in
+    at-loop .loop .inv .1 (c .if1 .left)
 
 -- What the test of its value tells.
 told : (c : tie.After-holds-bag Inv-loop μ-loop) {b : Bool} → c .holds-bag .result ≡ b
@@ -57,11 +61,13 @@ slots-requires : tie.Need-slots-requires Inv-loop μ-loop
 slots-requires c κs = header-room (c .before .args .table .now) (c .before .pre .0)
 
 first-requires : tie.Need-first-requires Inv-loop μ-loop
-first-requires c κs = c .before .before .pre
+first-requires c κs =
+    let start : tie.Start Inv-loop μ-loop = search in
+    start .pre
 
 loop-holds : tie.Need-loop-holds Inv-loop μ-loop
 loop-holds c =
-    let s = c .before .before .before in
+    let s : tie.Start Inv-loop μ-loop = search in
     let ws = s .args .table .now in (
       omega arith,
       rw (c .first .ensures) (next-in ws (s .pre .0) (hat ws (s .args .l) left)),
@@ -70,65 +76,64 @@ loop-holds c =
 
 returns : tie.Need-returns Inv-loop μ-loop
 returns c =
-    let at = c .before .before in
+    let at : tie.At-loop Inv-loop μ-loop = search in
     let l = at .loop in
     sym (count-at-none (table at) (start at .args .sought) (l .n) (l .x) (l .found) (c .if1 .taken)) ∙ l .inv .2
 
 holds-bag-requires : tie.Need-holds-bag-requires Inv-loop μ-loop
-holds-bag-requires c κs = (start (c .before .before) .pre .0, node-there c)
+holds-bag-requires c κs =
+    let at-loop : tie.At-loop Inv-loop μ-loop = search in
+    (start at-loop .pre .0, node-there c)
 
 returns-2 : tie.Need-returns-2 Inv-loop μ-loop
 returns-2 c =
-    let tested = c .before in
-    let node = tested .before in
-    let at = node .before .before in
+    let tested : tie.After-holds-bag Inv-loop μ-loop = search in
+    let node : tie.Else1 Inv-loop μ-loop = search in
+    let at : tie.At-loop Inv-loop μ-loop = search in
     let l = at .loop in
     let no-bag = told tested (not-true (tested .holds-bag .result) (c .if2 .taken)) in
     sym
-    (count-at-no-bag (table at) (start at .args .sought) (l .n) (l .x) (l .found) (omega (arith, all-nodes at)) (node .if1 .left)
+    (count-at-no-bag (table at) (start at .args .sought) (l .n) (l .x) (l .found) (omega (arith, all-nodes at))
+    (node .if1 .left)
     (node-there node) no-bag)
     ∙ l .inv .2
 
 bag-requires : tie.Need-bag-requires Inv-loop μ-loop
 bag-requires c κs =
-    let node = c .before .before in
-    (start (node .before .before) .pre .0, node-there node)
-
-found-now-requires : tie.Need-found-now-requires Inv-loop μ-loop
-found-now-requires c κs = search needs
+    let at-loop : tie.At-loop Inv-loop μ-loop = search in
+    let node : tie.Else1 Inv-loop μ-loop = search in
+    (start at-loop .pre .0, node-there node)
 
 next-requires : tie.Need-next-requires Inv-loop μ-loop
 next-requires c κs =
-    let node = c .before .before .before .before in
-    (start (node .before .before) .pre .0, node-there node)
-
-add-n : tie.Need-add-n Inv-loop μ-loop
-add-n c = search needs
-
-loop-less : tie.Need-loop-less Inv-loop μ-loop
-loop-less c = omega arith
+    let at-loop : tie.At-loop Inv-loop μ-loop = search in
+    let node : tie.Else1 Inv-loop μ-loop = search in
+    (start at-loop .pre .0, node-there node)
 
 loop-again : tie.Need-loop-again Inv-loop μ-loop
 loop-again c =
-    let passed = c .before .before .before in
-    let tested = passed .before in
-    let node = tested .before in
-    let at = node .before .before in
+    let after-bag : tie.After-bag Inv-loop μ-loop = search in
+    let passed : tie.Else2 Inv-loop μ-loop = search in
+    let tested : tie.After-holds-bag Inv-loop μ-loop = search in
+    let node : tie.Else1 Inv-loop μ-loop = search in
+    let at : tie.At-loop Inv-loop μ-loop = search in
     let l = at .loop in
     let bag = told tested (not-false (tested .holds-bag .result) (passed .if2 .left)) in (
       omega (arith, all-nodes at),
       rw (c .next .ensures) (next-in (table at) (start at .pre .0) (l .x)),
-      rw (c .next .ensures, c .before .found-now .ensures, c .before .before .bag .ensures)
-          (count-at-bag (table at) (start at .args .sought) (l .n) (l .x) (l .found) (omega (arith, all-nodes at)) (node .if1 .left)
+      rw (c .next .ensures, c .before .found-now .ensures, after-bag .bag .ensures)
+          (count-at-bag (table at) (start at .args .sought) (l .n) (l .x) (l .found) (omega (arith, all-nodes at))
+          (node .if1 .left)
           (node-there node) bag
           ∙ l .inv .2),
     )
 
 returns-3 : tie.Need-returns-3 Inv-loop μ-loop
 returns-3 c =
-    let at = c .before in
+    let at : tie.At-loop Inv-loop μ-loop = search in
     let l = at .loop in
-    sym (count-ends (table at) (start at .args .sought) (l .n) (l .x) (l .found) (omega (arith, all-nodes at))) ∙ l .inv .2
+    sym (count-ends (table at) (start at .args .sought) (l .n) (l .x) (l .found) (omega (arith, all-nodes at)))
+    ∙ l .inv .2
 
 pub seek-spec : {M : Type 1} → statement M
 seek-spec =
@@ -143,9 +148,9 @@ seek-spec =
     holds-bag-requires
     returns-2
     bag-requires
-    found-now-requires
+    (λ c κs. search needs)
     next-requires
-    add-n
-    loop-less
+    (λ c. search needs)
+    (λ c. omega arith)
     loop-again
     returns-3)

@@ -1,6 +1,5 @@
 -- `lane_walk::value` meets its contract: the nodes' part has the node's words.
 use mathlib.Core.Path.{_∙_}
-use borrow.Author.Needs.{needs}
 use Rattle.lane_walk.proofs.Laws.Nodes.{nodes-room, node-in-part, value-read}
 use Rattle.lane_walk.proofs.value.Statement.{statement}
 use Rattle.lane_walk.proofs.value.Tie as tie
@@ -10,13 +9,13 @@ part-requires c κs = nodes-room (c .before .args .table .now) (c .before .pre .
 
 value-requires : tie.Need-value-requires
 value-requires c κs =
-    let s = c .before .before in
+    let s : tie.Start = search in
     node-in-part (s .args .table .now) (s .pre .0) (c .part .ensures) (s .args .x) (s .pre .1)
 
 returns : tie.Need-returns
 returns c =
-    let p = c .before in
-    let s = p .before .before in
+    let p : tie.After-part = search in
+    let s : tie.Start = search in
     c .value .ensures
     ∙ value-read (s .args .table .now) (s .pre .0) (p .part .ensures) (s .args .x) (s .pre .1)
 

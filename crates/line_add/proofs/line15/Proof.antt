@@ -7,9 +7,6 @@ use borrow.Author.Needs.{needs}
 use Rattle.line_add.proofs.line15.Statement.{statement}
 use Rattle.line_add.proofs.line15.Tie as tie
 
-take-hat-requires : tie.Need-take-hat-requires
-take-hat-requires c κs = search needs
-
 returns : tie.Need-returns
 unfolding lineOf act
 returns c ns g f =
@@ -17,4 +14,4 @@ returns c ns g f =
     rw (c .take-hat .ensures) (by-record (c .before .pre) ns (λ u. nextDone h (withRegister u 0 h) 17))
 
 pub line15-spec : {M : Type 1} → statement M
-line15-spec = tie.close (tie.spec take-hat-requires returns)
+line15-spec = tie.close (tie.spec (λ c κs. search needs) returns)

@@ -4,77 +4,67 @@ use native.Mathlib.Omega.{arith}
 use Rattle.machine.specs.Sides.{sideOf}
 use Rattle.machine.specs.Values.{N, X, Y}
 use Rattle.machine.specs.Lines.{act}
-use Rattle.machine.proofs.Basics.Choices.{equal}
+use Rattle.machine.proofs.Basics.Choices.{test-equal}
 use Rattle.line_parts.specs.Lent.{lineOf, refusedDone}
-use Rattle.line_parts.proofs.Laws.Compared.{told}
+use Rattle.line_parts.proofs.Laws.Compared.{value-compared}
 use Rattle.line_parts.proofs.Laws.Cases.{read-at-A}
 use borrow.Author.Needs.{needs}
 use Rattle.line_add.proofs.line17.Statement.{statement}
 use Rattle.line_add.proofs.line17.Tie as tie
 
-element-copy-out-a : tie.Need-element-copy-out-a
-element-copy-out-a c = search needs
-
-refused-requires : tie.Need-refused-requires
-refused-requires c κs = search needs
-
 returns : tie.Need-returns
 unfolding lineOf act
 returns c g f =
-    let p = c .before .before .before .before in
-    rw (c .refused .ensures, equal (c .before .if1 .taken)) (by-code (p .pre) (refusedDone (p .args .hat)))
+    let p : tie.Start = search in
+    rw (c .refused .ensures, test-equal (c .before .if1 .taken)) (by-code (p .pre) (refusedDone (p .args .hat)))
 
 value-requires : tie.Need-value-requires
-value-requires c κs = c .before .before .before .pre .held 0 (omega arith) (c .if1 .left)
+value-requires c κs =
+    let start : tie.Start = search in
+    start .pre .held 0 (omega arith) (c .if1 .left)
 
 is-x-requires : tie.Need-is-x-requires
 is-x-requires c κs =
-    let else1 = c .before in
-    node-value-ok (else1 .before .before .before .pre) 0 (omega arith) (else1 .if1 .left) (c .value .ensures)
-
-either-requires : tie.Need-either-requires
-either-requires c κs = search needs
+    let start : tie.Start = search in
+    let else1 : tie.Else1 = search in
+    node-value-ok (start .pre) 0 (omega arith) (else1 .if1 .left) (c .value .ensures)
 
 is-y-requires : tie.Need-is-y-requires
 is-y-requires c κs =
-    let read = c .before .before in
-    let else1 = read .before in
-    node-value-ok (else1 .before .before .before .pre) 0 (omega arith) (else1 .if1 .left) (read .value .ensures)
-
-either-requires-2 : tie.Need-either-requires-2
-either-requires-2 c κs = search needs
-
-reading-requires : tie.Need-reading-requires
-reading-requires c κs = search needs
+    let start : tie.Start = search in
+    let read : tie.After-value = search in
+    let else1 : tie.Else1 = search in
+    node-value-ok (start .pre) 0 (omega arith) (else1 .if1 .left) (read .value .ensures)
 
 is-n-requires : tie.Need-is-n-requires
 is-n-requires c κs =
-    let read = c .before .before .before .before .before in
-    let else1 = read .before in
-    node-value-ok (else1 .before .before .before .pre) 0 (omega arith) (else1 .if1 .left) (read .value .ensures)
-
-either-requires-3 : tie.Need-either-requires-3
-either-requires-3 c κs = search needs
-
-next-requires : tie.Need-next-requires
-next-requires c κs = search needs
+    let start : tie.Start = search in
+    let read : tie.After-value = search in
+    let else1 : tie.Else1 = search in
+    node-value-ok (start .pre) 0 (omega arith) (else1 .if1 .left) (read .value .ensures)
 
 returns-2 : tie.Need-returns-2
 returns-2 c g f =
-    let at-value = c .before .before .before .before .before .before .before .before in
-    let else1 = at-value .before in
-    let p = else1 .before .before .before in
+    let after-is-x : tie.After-is-x = search in
+    let after-either : tie.After-either = search in
+    let after-is-y : tie.After-is-y = search in
+    let after-either2 : tie.After-either2 = search in
+    let after-reading : tie.After-reading = search in
+    let after-is-n : tie.After-is-n = search in
+    let at-value : tie.After-value = search in
+    let else1 : tie.Else1 = search in
+    let p : tie.Start = search in
     let s = sideOf (p .args .t3 .side) in
     let read = at-value .value .ensures in
     rw (
       c .next .ensures,
       c .before .either3 .ensures,
-      told (N s) (c .before .before .is-n .ensures) read,
-      c .before .before .before .reading .ensures,
-      c .before .before .before .before .either2 .ensures,
-      told (Y s) (c .before .before .before .before .before .is-y .ensures) read,
-      c .before .before .before .before .before .before .either .ensures,
-      told (X s) (c .before .before .before .before .before .before .before .is-x .ensures) read,
+      value-compared (N s) (after-is-n .is-n .ensures) read,
+      after-reading .reading .ensures,
+      after-either2 .either2 .ensures,
+      value-compared (Y s) (after-is-y .is-y .ensures) read,
+      after-either .either .ensures,
+      value-compared (X s) (after-is-x .is-x .ensures) read,
       read,
     )
     (read-at-A (p .pre) (p .args .hat) g f (else1 .if1 .left))
@@ -83,16 +73,16 @@ pub line17-spec : {M : Type 1} → statement M
 line17-spec =
     tie.close
     (tie.spec
-    element-copy-out-a
-    refused-requires
+    (λ c. search needs)
+    (λ c κs. search needs)
     returns
     value-requires
     is-x-requires
-    either-requires
+    (λ c κs. search needs)
     is-y-requires
-    either-requires-2
-    reading-requires
+    (λ c κs. search needs)
+    (λ c κs. search needs)
     is-n-requires
-    either-requires-3
-    next-requires
+    (λ c κs. search needs)
+    (λ c κs. search needs)
     returns-2)

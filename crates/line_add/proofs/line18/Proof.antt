@@ -6,7 +6,7 @@ use Rattle.machine.specs.Tasks.{inA}
 use Rattle.machine.specs.Lines.{act}
 use Rattle.line_parts.specs.Lent.{lineOf}
 use Rattle.line_parts.proofs.Laws.Ready.{side-below-two}
-use Rattle.line_parts.proofs.Laws.Shapes.{followed}
+use Rattle.line_parts.proofs.Laws.Shapes.{link-followed}
 use Rattle.line_add.proofs.line18.Statement.{statement}
 use Rattle.line_add.proofs.line18.Tie as tie
 
@@ -18,8 +18,8 @@ follow-requires c κs =
 returns : tie.Need-returns
 unfolding lineOf act
 returns c g f =
-    let p = c .before .before in
-    rw (c .follow .ensures) (followed (p .pre) (p .args .hat) (sideOf (p .args .t .side)) 0 inA line15 line17)
+    let p : tie.Start = search in
+    rw (c .follow .ensures) (link-followed (p .pre) (p .args .hat) (sideOf (p .args .t .side)) 0 inA line15 line17)
 
 pub line18-spec : {M : Type 1} → statement M
 line18-spec = tie.close (tie.spec follow-requires returns)

@@ -7,68 +7,49 @@ use borrow.Author.Needs.{needs}
 use Rattle.line_choice.proofs.add_line.Statement.{statement}
 use Rattle.line_choice.proofs.add_line.Tie as tie
 
-line15-requires : tie.Need-line15-requires
-line15-requires c κs = search needs
-
-line17-requires : tie.Need-line17-requires
-line17-requires c κs = search needs
-
-line18-requires : tie.Need-line18-requires
-line18-requires c κs = search needs
-
-line24-requires : tie.Need-line24-requires
-line24-requires c κs = search needs
-
-line25-requires : tie.Need-line25-requires
-line25-requires c κs = search needs
-
 returns : tie.Need-returns
 returns c g f = c .line15 .ensures _ _ _ ∙ line-at line15 (c .before .match .keys1) _ _ _ _ _
 
-same-length : tie.Need-same-length
-same-length c = search needs
-
 returns-2 : tie.Need-returns-2
-returns-2 c g f = c .line17 .ensures _ _ ∙ line-at line17 (c .before .before .match .keys2) _ _ _ _ _
-
-same-length-2 : tie.Need-same-length-2
-same-length-2 c = search needs
+returns-2 c g f =
+    let at-match-keys2 : tie.At-match-keys2 = search in
+    c .line17 .ensures _ _ ∙ line-at line17 (at-match-keys2 .match .keys2) _ _ _ _ _
 
 returns-3 : tie.Need-returns-3
-returns-3 c g f = c .line18 .ensures _ _ ∙ line-at line18 (c .before .before .match .keys3) _ _ _ _ _
-
-same-length-3 : tie.Need-same-length-3
-same-length-3 c = search needs
+returns-3 c g f =
+    let at-match-keys3 : tie.At-match-keys3 = search in
+    c .line18 .ensures _ _ ∙ line-at line18 (at-match-keys3 .match .keys3) _ _ _ _ _
 
 returns-4 : tie.Need-returns-4
 returns-4 c g f =
-    c .before .before .line24 .ensures _ _ ∙ line-at line24 (c .before .before .before .before .match .keys4) _ _ _ _ _
-
-same-length-4 : tie.Need-same-length-4
-same-length-4 c = search needs
+    let at-match-keys4 : tie.At-match-keys4 = search in
+    let after-line24 : tie.After-line24 = search in
+    after-line24 .line24 .ensures _ _ ∙ line-at line24 (at-match-keys4 .match .keys4) _ _ _ _ _
 
 returns-5 : tie.Need-returns-5
 returns-5 c g f =
-    let rest = c .before .before .before .before in
+    let start : tie.Start = search in
+    let after-line25 : tie.After-line25 = search in
+    let rest : tie.At-match-rest = search in
     let others = line15 ∷ line17 ∷ line18 ∷ line24 ∷ [] in
-    let at-25 = left-over _ others line25 _ (rest .match .rest) (rest .before .before .pre .in-group) in
-    c .before .before .line25 .ensures _ _ ∙ line-at line25 at-25 _ _ _ _ _
+    let at-25 = left-over _ others line25 _ (rest .match .rest) (start .pre .in-group) in
+    after-line25 .line25 .ensures _ _ ∙ line-at line25 at-25 _ _ _ _ _
 
 pub add-line-spec : {M : Type 1} → statement M
 add-line-spec =
     tie.close
     (tie.spec
-    line15-requires
-    line17-requires
-    line18-requires
-    line24-requires
-    line25-requires
+    (λ c κs. search needs)
+    (λ c κs. search needs)
+    (λ c κs. search needs)
+    (λ c κs. search needs)
+    (λ c κs. search needs)
     returns
-    same-length
+    (λ c. search needs)
     returns-2
-    same-length-2
+    (λ c. search needs)
     returns-3
-    same-length-3
+    (λ c. search needs)
     returns-4
-    same-length-4
+    (λ c. search needs)
     returns-5)

@@ -30,7 +30,7 @@ use Rattle.machine.specs.Steps.{
 }
 use Rattle.machine.specs.Tasks.{noNode}
 use Rattle.machine.specs.Lines.{act, out≔, val≔}
-use Rattle.machine.proofs.Basics.Choices.{equal, unequal}
+use Rattle.machine.proofs.Basics.Choices.{test-equal, test-unequal}
 use Rattle.machine.proofs.Words.ValueLaws.{encode-decode}
 use Rattle.table_record.specs.declared.Task as Tasks
 use Rattle.table_values.specs.Tests.{isSame}
@@ -39,7 +39,7 @@ use Rattle.table_layout.specs.Words.{linkIn, setLinkIn, storedIn, setStoredIn}
 use Rattle.line_parts.specs.Lent.{Ready, lineOf, outcomeOf, nextDone, answerDone}
 use Rattle.line_parts.proofs.Laws.Ready.{by-code, by-record, argument-meant}
 use Rattle.line_parts.proofs.Laws.Compared.{swap-done, swap-failed}
-use Rattle.line_parts.proofs.Laws.Chosen.{chosen, chosenᵛ, push-full, other-no, push-spliced, other-spliced}
+use Rattle.line_parts.proofs.Laws.Chosen.{step-chosen, chosenᵛ, push-full, other-no, push-spliced, other-spliced}
 
 -- ---- What a swap compares, on the nodes' words ns with the hat h.
 
@@ -73,18 +73,18 @@ module _ {ns : List ℕ} {t : Tasks.Task} (R : Ready ns t) (h g f : ℕ) where
 
   -- ---- 5: the swap is done or not.
   module _ (through-a : a ≢ noNode) (through-b : b ≢ noNode) where
-    pub pushed :
+    pub line-pushed :
         pushable ns h t ≡ true
         → outcomeOf (setStoredIn ns a (t .argument)) (answerDone b Pushed) ≡ lineOf line5 ns h t g f
     unfolding lineOf act
-    pushed e =
-        rw (unequal through-a, unequal through-b, swap-done h a (decode (storedIn ns a)) (N s) e)
+    line-pushed e =
+        rw (test-unequal through-a, test-unequal through-b, swap-done h a (decode (storedIn ns a)) (N s) e)
         (ap (λ (v : Stored). outcomeOf (setStoredIn ns a v) (answerDone b Pushed)) (argument-meant R))
 
     pub not-pushed : pushable ns h t ≡ false → outcomeOf ns (nextDone h t 8) ≡ lineOf line5 ns h t g f
     unfolding lineOf act
     not-pushed e =
-        rw (unequal through-a, unequal through-b, swap-failed h a (decode (storedIn ns a)) (N s) e)
+        rw (test-unequal through-a, test-unequal through-b, swap-failed h a (decode (storedIn ns a)) (N s) e)
         (by-code R (λ u. nextDone h u 8))
 
   -- ---- 17: the value read chooses the step.
@@ -107,7 +107,7 @@ module _ {ns : List ℕ} {t : Tasks.Task} (R : Ready ns t) (h g f : ℕ) where
         let at-Y = if v ≟ᵛ Y s then line67 else at-X in
         let step = stepNumber (if v ≟ᵛ N s then line18 else at-Y) in
         rw (
-          unequal through-a,
+          test-unequal through-a,
           chosenᵛ v (X s) line24 line15,
           chosenᵛ v (Y s) line67 at-X,
           chosenᵛ v (N s) line18 at-Y,
@@ -126,7 +126,7 @@ module _ {ns : List ℕ} {t : Tasks.Task} (R : Ready ns t) (h g f : ℕ) where
     node-further =
         let n = suc (t .counted) in
         let step = stepNumber (if n ≟ g then line60 else line56) in
-        rw (unequal through-a, unequal linked, add-one (t .counted), chosen n g line60 line56)
+        rw (test-unequal through-a, test-unequal linked, add-one (t .counted), step-chosen n g line60 line56)
         (by-code R (λ u. nextDone h (withCount (withRegister u 0 (linkIn ns s a)) n) step))
 
   -- ---- 25: the swap is done or not.
@@ -141,7 +141,7 @@ module _ {ns : List ℕ} {t : Tasks.Task} (R : Ready ns t) (h g f : ℕ) where
     unfolding lineOf act
     push-joined e o =
         rw (
-          unequal through-a,
+          test-unequal through-a,
           swap-done (linkIn ns s a) b (decode (storedIn ns a)) (X s) e,
           push-spliced (out≔ a d ∷ val≔ a (N s) ∷ []) (taskMeant t) (t .operation) o,
         )
@@ -152,7 +152,7 @@ module _ {ns : List ℕ} {t : Tasks.Task} (R : Ready ns t) (h g f : ℕ) where
     unfolding lineOf act
     other-joined e o =
         rw (
-          unequal through-a,
+          test-unequal through-a,
           swap-done (linkIn ns s a) b (decode (storedIn ns a)) (X s) e,
           other-spliced (out≔ a d ∷ val≔ a (N s) ∷ []) (taskMeant t) (t .operation) o,
         )
@@ -160,17 +160,17 @@ module _ {ns : List ℕ} {t : Tasks.Task} (R : Ready ns t) (h g f : ℕ) where
     pub not-joined : joinable ns t ≡ false → outcomeOf ns (nextDone h t 15) ≡ lineOf line25 ns h t g f
     unfolding lineOf act
     not-joined e =
-        rw (unequal through-a, swap-failed (linkIn ns s a) b (decode (storedIn ns a)) (X s) e)
+        rw (test-unequal through-a, swap-failed (linkIn ns s a) b (decode (storedIn ns a)) (X s) e)
         (by-code R (λ u. nextDone h u 15))
 
   -- ---- 28: no node is free, or one is found.
   pub push-has-none : f ≡ noNode → t .operation ≡ 1 → outcomeOf ns (answerDone h Full) ≡ lineOf line28 ns h t g f
   unfolding lineOf act
-  push-has-none e o = rw (equal e, push-full (t .operation) o)
+  push-has-none e o = rw (test-equal e, push-full (t .operation) o)
 
   pub other-has-none : f ≡ noNode → t .operation ≢ 1 → outcomeOf ns (answerDone h No) ≡ lineOf line28 ns h t g f
   unfolding lineOf act
-  other-has-none e o = rw (equal e, other-no (t .operation) o)
+  other-has-none e o = rw (test-equal e, other-no (t .operation) o)
 
   module _ (found : f ≢ noNode) where
     abbrev outermost : List ℕ
@@ -182,14 +182,14 @@ module _ {ns : List ℕ} {t : Tasks.Task} (R : Ready ns t) (h g f : ℕ) where
     unfolding lineOf act
     outermost-made =
         let step = stepNumber (if g ≟ 0 then line15 else line31) in
-        rw (unequal found, chosen g 0 line15 line31)
+        rw (test-unequal found, step-chosen g 0 line15 line31)
         (by-record (R .canonical) outermost (λ u. nextDone h (withCount (withRegister u 3 f) 0) step))
 
   -- ---- 31: no node is free, or one is found.
   module _ (through-d : d ≢ noNode) where
     pub chain-ends : f ≡ noNode → outcomeOf ns (nextDone h t 15) ≡ lineOf line31 ns h t g f
     unfolding lineOf act
-    chain-ends e = rw (unequal through-d, equal e) (by-code R (λ u. nextDone h u 15))
+    chain-ends e = rw (test-unequal through-d, test-equal e) (by-code R (λ u. nextDone h u 15))
 
     module _ (found : f ≢ noNode) where
       abbrev longer : List ℕ
@@ -204,5 +204,5 @@ module _ {ns : List ℕ} {t : Tasks.Task} (R : Ready ns t) (h g f : ℕ) where
       chain-grows =
           let n = suc (t .counted) in
           let step = stepNumber (if n ≟ g then line15 else line31) in
-          rw (unequal through-d, unequal found, add-one (t .counted), chosen n g line15 line31)
+          rw (test-unequal through-d, test-unequal found, add-one (t .counted), step-chosen n g line15 line31)
           (by-record (R .canonical) longer (λ u. nextDone h (withCount (withRegister u 3 f) n) step))

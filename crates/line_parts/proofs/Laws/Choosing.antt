@@ -27,7 +27,8 @@ pub read-other : (o : Side) (u : Stored) → bagOk u ≡ false → isSame (decod
     → afterRead o (decode u) ≡ (if decode u ≟ᵛ X o then line48 else line39)
 read-other o u h k = go (decode u) refl k
   where
-    no-N : (z : Side) (d : Dec (N z ≡ N o)) → (if d then true else false) ≡ false → (if d then line48 else line39) ≡ line39
+    no-N : (z : Side) (d : Dec (N z ≡ N o)) → (if d then true else false) ≡ false → (if d then line48 else line39)
+        ≡ line39
     no-N z (yes e) k = clash (cc)
     no-N z (no n) k = refl
 

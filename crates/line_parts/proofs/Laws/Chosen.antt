@@ -19,10 +19,10 @@ use Rattle.table_values.specs.Tests.{isSame}
 use Rattle.line_parts.specs.Lent.{writesIn, hatAfter}
 
 -- ---- The next step, by a comparison of numbers and of values.
-pub chosen :
+pub step-chosen :
     (x y : ℕ) (a b : Step)
     → cond (eqb x y) (stepNumber a) (stepNumber b) ≡ stepNumber (if x ≟ y then a else b)
-chosen x y a b = go (x ≟ y)
+step-chosen x y a b = go (x ≟ y)
   where
     go : (d : Dec (x ≡ y)) → cond (eqb x y) (stepNumber a) (stepNumber b) ≡ stepNumber (if d then a else b)
     go (yes e) = rw (eq-eqb x y e)
@@ -40,7 +40,7 @@ chosenᵛ u v a b = go (u ≟ᵛ v)
     go (no e) = refl
 
 -- ---- By the operation: what holds of the others holds of every number but the push's.
-pub not-push :
+not-push :
     (P : Operation → Type 0) → P idle → P pop → P add → P remove → (n : ℕ) → n ≢ 1 → P (operationOf n)
 not-push P i p a r n h = go (n ≟ 0) (n ≟ 1) (n ≟ 2) (n ≟ 3)
   where

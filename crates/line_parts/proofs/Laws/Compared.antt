@@ -18,8 +18,8 @@ module _
     {p u : Stored}
     (compared : r ≡ isSame (decode p) v)
     (read : p ≡ u) where
-  pub told : r ≡ isSame (decode u) v
-  told = compared ∙ ap (λ (q : Stored). isSame (decode q) v) read
+  pub value-compared : r ≡ isSame (decode u) v
+  value-compared = compared ∙ ap (λ (q : Stored). isSame (decode q) v) read
 
 -- Both of two tests, each of which says something.
 pub both-told : {p q r u v : Bool} → p ≡ u → q ≡ v → r ≡ p && q → r ≡ u && v

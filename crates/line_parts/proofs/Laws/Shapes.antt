@@ -1,4 +1,4 @@
--- The shapes that several lines share, over the definitions: a link followed, and a step by a mark.
+-- The shapes that several lines share, over the definitions: a link link-followed, and a step by a mark.
 use mathlib.Core.Path.{_≡_, refl, ap, _∙_}
 use mathlib.Core.List.{List}
 use Prim.Native.Nat.{ℕ}
@@ -23,7 +23,7 @@ use Rattle.line_parts.specs.Lent.{
 }
 use Rattle.line_parts.specs.declared.ends.Done.{Done}
 use Rattle.line_parts.proofs.Laws.Ready.{by-code}
-use Rattle.line_parts.proofs.Laws.Chosen.{chosen, chosenᵛ}
+use Rattle.line_parts.proofs.Laws.Chosen.{step-chosen, chosenᵛ}
 
 -- A register set by its name, and its place in the code's record.
 abbrev pub setting : Task → Register → ℕ → Task
@@ -75,14 +75,14 @@ module _ {ns : List ℕ} {t : Tasks.Task} (R : Ready ns t) (h : ℕ) where
         by-code R (λ u. nextDone h (withRegister u (place r) y) (stepNumber n))
         ∙ ap (λ (u : Tasks.Task). outcomeOf ns (nextDone h u (stepNumber n))) (coded-setting (taskMeant t) r y)
 
-    pub followed :
+    pub link-followed :
         (n m : Step)
         → outcomeOf ns (followDone ns h t z i (place r) (stepNumber n) (stepNumber m))
         ≡ effectIn s ns h
         (through x (taskMeant t) (next (setting (taskMeant t) r y) (if y ≟ noNode then n else m)))
-    followed n m =
+    link-followed n m =
         let step = if y ≟ noNode then n else m in
-        rw (chosen y noNode n m)
+        rw (step-chosen y noNode n m)
         (past-none (x ≟ noNode) (nextDone h (withRegister t (place r) y) (stepNumber step))
         (next (setting (taskMeant t) r y) step) (set-and-at step))
 
@@ -92,7 +92,7 @@ module _ {ns : List ℕ} {t : Tasks.Task} (R : Ready ns t) (h : ℕ) where
         → outcomeOf ns (followDone ns h t z i (place r) (stepNumber n) (stepNumber n))
         ≡ effectIn s ns h (through x (taskMeant t) (next (setting (taskMeant t) r y) n))
     followed-on n =
-        followed n n
+        link-followed n n
         ∙ ap (λ (m : Step). effectIn s ns h (through x (taskMeant t) (next (setting (taskMeant t) r y) m)))
         (either-way (y ≟ noNode) n)
 

@@ -14,7 +14,7 @@ use Rattle.machine.specs.Steps.{line48, line51, line62, line78}
 use Rattle.machine.specs.Tasks.{noNode}
 use Rattle.machine.specs.Lines.{Effect, dcas, act}
 use Rattle.machine.proofs.Basics.Contradiction.{clash}
-use Rattle.machine.proofs.Basics.Choices.{unequal}
+use Rattle.machine.proofs.Basics.Choices.{test-unequal}
 use Rattle.machine.proofs.Words.ValueLaws.{bag-decoded}
 use Rattle.machine.specs.declared.Stored.{Stored}
 use Rattle.table_record.specs.declared.Task as Tasks
@@ -86,26 +86,26 @@ module _ {ns : List ℕ} {t : Tasks.Task} (R : Ready ns t) (h g f : ℕ) where
 
   -- ---- 48 and 51.
   module _ (through-b : b ≢ noNode) where
-    pub empty : unchanged ns h t ≡ true → outcomeOf ns (answerDone h Empty) ≡ lineOf line48 ns h t g f
+    pub swap-empty : unchanged ns h t ≡ true → outcomeOf ns (answerDone h Empty) ≡ lineOf line48 ns h t g f
     unfolding lineOf act
-    empty e = rw (unequal through-b, swap-done h a (decode (storedIn ns b)) (taskMeant t .value) e)
+    swap-empty e = rw (test-unequal through-b, swap-done h a (decode (storedIn ns b)) (taskMeant t .value) e)
 
     pub not-empty : unchanged ns h t ≡ false → outcomeOf ns (nextDone h t 39) ≡ lineOf line48 ns h t g f
     unfolding lineOf act
     not-empty e =
-        rw (unequal through-b, swap-failed h a (decode (storedIn ns b)) (taskMeant t .value) e)
+        rw (test-unequal through-b, swap-failed h a (decode (storedIn ns b)) (taskMeant t .value) e)
         (by-code R (λ u. nextDone h u 39))
 
-    pub popped :
+    pub swap-popped :
         bagOk (t .value) ≡ true
         → unchanged ns h t ≡ true
         → outcomeOf (setStoredIn ns b (encode (N s))) (answerDone b (Bag (number (t .value))))
         ≡ lineOf line51 ns h t g f
     unfolding lineOf act
-    popped bag-read e =
+    swap-popped bag-read e =
         let is-bag : taskMeant t .value ≡ bag (number (t .value)) = bag-decoded (t .value) bag-read in
         rw (
-          unequal through-b,
+          test-unequal through-b,
           swap-done h a (decode (storedIn ns b)) (taskMeant t .value) e,
           is-bag,
         )
@@ -113,13 +113,13 @@ module _ {ns : List ℕ} {t : Tasks.Task} (R : Ready ns t) (h g f : ℕ) where
     pub not-popped : unchanged ns h t ≡ false → outcomeOf ns (nextDone h t 39) ≡ lineOf line51 ns h t g f
     unfolding lineOf act
     not-popped e =
-        rw (unequal through-b, swap-failed h a (decode (storedIn ns b)) (taskMeant t .value) e)
+        rw (test-unequal through-b, swap-failed h a (decode (storedIn ns b)) (taskMeant t .value) e)
         (by-code R (λ u. nextDone h u 39))
 
   -- ---- 62.
   module _ (through-a : a ≢ noNode) (through-b : b ≢ noNode) where
     -- x and y are written, and leave ms and then ls.
-    pub cut :
+    pub swap-cut :
         {x y : Stored} {ms ls : List ℕ}
         → cuttable ns t ≡ true
         → x ≡ encode (X s)
@@ -128,14 +128,14 @@ module _ {ns : List ℕ} {t : Tasks.Task} (R : Ready ns t) (h g f : ℕ) where
         → ls ≡ setStoredIn ms b y
         → outcomeOf ls (nextDone h t 64) ≡ lineOf line62 ns h t g f
     unfolding lineOf act
-    cut e is-X is-Y first second =
+    swap-cut e is-X is-Y first second =
         rw (
           second,
           first,
           is-X,
           is-Y,
-          unequal through-a,
-          unequal through-b,
+          test-unequal through-a,
+          test-unequal through-b,
           values-swapped (decode (storedIn ns a)) (N s) (decode (storedIn ns b)) (N s) e,
         )
         (by-record (R .canonical) (setStoredIn (setStoredIn ns a (encode (X s))) b (encode (Y s)))
@@ -145,8 +145,8 @@ module _ {ns : List ℕ} {t : Tasks.Task} (R : Ready ns t) (h g f : ℕ) where
     unfolding lineOf act
     not-cut e =
         rw (
-          unequal through-a,
-          unequal through-b,
+          test-unequal through-a,
+          test-unequal through-b,
           values-kept (decode (storedIn ns a)) (N s) (decode (storedIn ns b)) (N s) e,
         )
 
@@ -156,11 +156,11 @@ module _ {ns : List ℕ} {t : Tasks.Task} (R : Ready ns t) (h g f : ℕ) where
         as-read ns t ≡ true → outcomeOf (setStoredIn ns b (encode (Y s))) (nextDone h t 79) ≡ lineOf line78 ns h t g f
     unfolding lineOf act
     marked-Y e =
-        rw (unequal through-b, effect-same (decode (storedIn ns b)) (taskMeant t .value) e)
+        rw (test-unequal through-b, effect-same (decode (storedIn ns b)) (taskMeant t .value) e)
         (by-record (R .canonical) (setStoredIn ns b (encode (Y s))) (λ u. nextDone h u 79))
 
     pub not-marked : as-read ns t ≡ false → outcomeOf ns (nextDone h t 77) ≡ lineOf line78 ns h t g f
     unfolding lineOf act
     not-marked e =
-        rw (unequal through-b, effect-other (decode (storedIn ns b)) (taskMeant t .value) e)
+        rw (test-unequal through-b, effect-other (decode (storedIn ns b)) (taskMeant t .value) e)
         (by-code R (λ u. nextDone h u 77))

@@ -9,46 +9,39 @@ use borrow.Author.Needs.{needs}
 use Rattle.line_pop.proofs.after_read.Statement.{statement}
 use Rattle.line_pop.proofs.after_read.Tie as tie
 
-bag-ok-requires : tie.Need-bag-ok-requires
-bag-ok-requires c κs = search needs
-
 returns : tie.Need-returns
 returns c =
-    let a = c .before .before .args in
+    let start : tie.Start = search in
+    let a = start .args in
     rw (read-bag (sideOf (a .o)) (a .v) (sym (c .before .bag-ok .ensures) ∙ c .if1 .taken))
-
-is-n-requires : tie.Need-is-n-requires
-is-n-requires c κs = search needs
 
 returns-2 : tie.Need-returns-2
 returns-2 c =
-    let a = c .before .before .before .before .args in
+    let start : tie.Start = search in
+    let a = start .args in
     rw (read-N (sideOf (a .o)) (decode (a .v)) (sym (c .before .is-n .ensures) ∙ c .if2 .taken))
-
-is-x-requires : tie.Need-is-x-requires
-is-x-requires c κs = search needs
-
-either-requires : tie.Need-either-requires
-either-requires c κs = search needs
 
 returns-3 : tie.Need-returns-3
 returns-3 c =
-    let asked = c .before .before .before in
-    let a = asked .before .before .before .args in
+    let start : tie.Start = search in
+    let after-bag-ok : tie.After-bag-ok = search in
+    let else2 : tie.Else2 = search in
+    let asked : tie.After-is-n = search in
+    let a = start .args in
     let o = sideOf (a .o) in
     let v = decode (a .v) in
-    let no-bag = sym (asked .before .before .bag-ok .ensures) ∙ asked .before .if1 .left in
-    let no-N = sym (asked .is-n .ensures) ∙ c .before .before .if2 .left in
+    let no-bag = sym (after-bag-ok .bag-ok .ensures) ∙ asked .before .if1 .left in
+    let no-N = sym (asked .is-n .ensures) ∙ else2 .if2 .left in
     rw (c .either .ensures, c .before .is-x .ensures, read-other o (a .v) no-bag no-N) (chosenᵛ v (X o) line48 line39)
 
 pub after-read-spec : {M : Type 1} → statement M
 after-read-spec =
     tie.close
     (tie.spec
-    bag-ok-requires
+    (λ c κs. search needs)
     returns
-    is-n-requires
+    (λ c κs. search needs)
     returns-2
-    is-x-requires
-    either-requires
+    (λ c κs. search needs)
+    (λ c κs. search needs)
     returns-3)

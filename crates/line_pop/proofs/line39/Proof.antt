@@ -7,15 +7,12 @@ use borrow.Author.Needs.{needs}
 use Rattle.line_pop.proofs.line39.Statement.{statement}
 use Rattle.line_pop.proofs.line39.Tie as tie
 
-take-hat-requires : tie.Need-take-hat-requires
-take-hat-requires c κs = search needs
-
 returns : tie.Need-returns
 unfolding lineOf act
 returns c ns g f =
-    let p = c .before in
+    let p : tie.Start = search in
     let h = p .args .hat in
     rw (c .take-hat .ensures) (by-record (p .pre) ns (λ u. nextDone h (withRegister u 0 h) 40))
 
 pub line39-spec : {M : Type 1} → statement M
-line39-spec = tie.close (tie.spec take-hat-requires returns)
+line39-spec = tie.close (tie.spec (λ c κs. search needs) returns)

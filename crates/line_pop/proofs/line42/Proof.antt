@@ -5,7 +5,7 @@ use Rattle.machine.specs.Sides.{opposite, sideOf}
 use Rattle.machine.specs.Values.{decode}
 use Rattle.machine.specs.Steps.{stepNumber}
 use Rattle.machine.specs.Lines.{act, afterRead}
-use Rattle.machine.proofs.Basics.Choices.{equal, unequal}
+use Rattle.machine.proofs.Basics.Choices.{test-equal, test-unequal}
 use Rattle.machine.proofs.Words.ValueLaws.{encode-decode}
 use Rattle.table_record.specs.Coded.{withValueRead}
 use Rattle.table_layout.specs.Words.{storedIn}
@@ -15,52 +15,49 @@ use borrow.Author.Needs.{needs}
 use Rattle.line_pop.proofs.line42.Statement.{statement}
 use Rattle.line_pop.proofs.line42.Tie as tie
 
-element-copy-out-b : tie.Need-element-copy-out-b
-element-copy-out-b c = search needs
-
-refused-requires : tie.Need-refused-requires
-refused-requires c κs = search needs
-
 returns : tie.Need-returns
 unfolding lineOf act
 returns c g f =
-    let p = c .before .before .before .before in
-    rw (c .refused .ensures, equal (c .before .if1 .taken)) (by-code (p .pre) (refusedDone (p .args .hat)))
+    let p : tie.Start = search in
+    rw (c .refused .ensures, test-equal (c .before .if1 .taken)) (by-code (p .pre) (refusedDone (p .args .hat)))
 
 value-requires : tie.Need-value-requires
-value-requires c κs = c .before .before .before .pre .held 1 (omega arith) (c .if1 .left)
-
-reading-requires : tie.Need-reading-requires
-reading-requires c κs = search needs
+value-requires c κs =
+    let start : tie.Start = search in
+    start .pre .held 1 (omega arith) (c .if1 .left)
 
 opposite-requires : tie.Need-opposite-requires
-opposite-requires c κs = side-below-two (c .before .before .before .before .before .pre)
+opposite-requires c κs =
+    let start : tie.Start = search in
+    side-below-two (start .pre)
 
 after-read-requires : tie.Need-after-read-requires
 after-read-requires c κs =
-    let some = c .before .before .before in
-    let p = some .before .before .before in
-    node-value-ok (p .pre) 1 (omega arith) (some .if1 .left) (c .before .before .value .ensures)
-
-next-requires : tie.Need-next-requires
-next-requires c κs = search needs
+    let after-value : tie.After-value = search in
+    let some : tie.Else1 = search in
+    let p : tie.Start = search in
+    node-value-ok (p .pre) 1 (omega arith) (some .if1 .left) (after-value .value .ensures)
 
 returns-2 : tie.Need-returns-2
 unfolding lineOf act
 returns-2 c g f =
-    let p = c .before .before .before .before .before .before .before .before in
+    let else1 : tie.Else1 = search in
+    let after-value : tie.After-value = search in
+    let after-reading : tie.After-reading = search in
+    let after-opposite : tie.After-opposite = search in
+    let p : tie.Start = search in
     let t = p .args .t3 in
     let o = opposite (sideOf (t .side)) in
     let b = getD (t .registers) 1 0 in
-    let b-some = c .before .before .before .before .before .if1 .left in
+    let b-some = else1 .if1 .left in
     let w = storedIn (p .args .ns .now) b in
     rw (
       c .next .ensures,
       c .before .after-read .ensures,
-      c .before .before .before .reading .ensures,
-      c .before .before .before .before .value .ensures,
-      side-meant o (c .before .before .opposite .ensures),
-      unequal b-some,
+      after-reading .reading .ensures,
+      after-value .value .ensures,
+      side-meant o (after-opposite .opposite .ensures),
+      test-unequal b-some,
       encode-decode w (p .pre .values b (p .pre .held 1 (omega arith) b-some)),
     )
     (by-code (p .pre) (λ u.
@@ -70,12 +67,12 @@ pub line42-spec : {M : Type 1} → statement M
 line42-spec =
     tie.close
     (tie.spec
-    element-copy-out-b
-    refused-requires
+    (λ c. search needs)
+    (λ c κs. search needs)
     returns
     value-requires
-    reading-requires
+    (λ c κs. search needs)
     opposite-requires
     after-read-requires
-    next-requires
+    (λ c κs. search needs)
     returns-2)

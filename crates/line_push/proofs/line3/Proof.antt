@@ -6,7 +6,7 @@ use Rattle.machine.specs.Tasks.{inB}
 use Rattle.machine.specs.Lines.{act}
 use Rattle.line_parts.specs.Lent.{lineOf}
 use Rattle.line_parts.proofs.Laws.Ready.{side-below-two}
-use Rattle.line_parts.proofs.Laws.Shapes.{followed}
+use Rattle.line_parts.proofs.Laws.Shapes.{link-followed}
 use Rattle.line_push.proofs.line3.Statement.{statement}
 use Rattle.line_push.proofs.line3.Tie as tie
 
@@ -18,8 +18,8 @@ follow-requires c κs =
 returns : tie.Need-returns
 unfolding lineOf act
 returns c g f =
-    let p = c .before .before in
-    rw (c .follow .ensures) (followed (p .pre) (p .args .hat) (sideOf (p .args .t .side)) 0 inB line8 line5)
+    let p : tie.Start = search in
+    rw (c .follow .ensures) (link-followed (p .pre) (p .args .hat) (sideOf (p .args .t .side)) 0 inB line8 line5)
 
 pub line3-spec : {M : Type 1} → statement M
 line3-spec = tie.close (tie.spec follow-requires returns)

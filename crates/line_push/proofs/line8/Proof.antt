@@ -10,21 +10,18 @@ use borrow.Author.Needs.{needs}
 use Rattle.line_push.proofs.line8.Statement.{statement}
 use Rattle.line_push.proofs.line8.Tie as tie
 
-x-of-requires : tie.Need-x-of-requires
-x-of-requires c κs = search needs
-
 by-mark-requires : tie.Need-by-mark-requires
 by-mark-requires c κs =
-    let p = c .before .before in
+    let p : tie.Start = search in
     (p .pre, rw (c .x-of .ensures) (mark-value-ok {s = sideOf (p .args .t .side)} X-mark))
 
 returns : tie.Need-returns
 unfolding lineOf act
 returns c g f =
-    let p = c .before .before .before in
+    let p : tie.Start = search in
     let s = sideOf (p .args .t .side) in
     rw (c .by-mark .ensures, c .before .x-of .ensures, mark-has-word {s = s} X-mark)
     (by-mark (p .pre) (p .args .hat) (X s) line28 line67)
 
 pub line8-spec : {M : Type 1} → statement M
-line8-spec = tie.close (tie.spec x-of-requires by-mark-requires returns)
+line8-spec = tie.close (tie.spec (λ c κs. search needs) by-mark-requires returns)

@@ -11,25 +11,20 @@ use borrow.Author.Needs.{needs}
 use Rattle.line_unspur.proofs.line68.Statement.{statement}
 use Rattle.line_unspur.proofs.line68.Tie as tie
 
-y-of-requires : tie.Need-y-of-requires
-y-of-requires c κs = search needs
-
-back-requires : tie.Need-back-requires
-back-requires c κs = search needs
-
 by-mark-requires : tie.Need-by-mark-requires
 by-mark-requires c κs =
-    let p = c .before .before .before in
+    let p : tie.Start = search in
     (p .pre, rw (c .before .y-of .ensures) (mark-value-ok {s = sideOf (p .args .t .side)} Y-mark))
 
 returns : tie.Need-returns
 unfolding lineOf act
 returns c g f =
-    let p = c .before .before .before .before in
+    let after-y-of : tie.After-y-of = search in
+    let p : tie.Start = search in
     let t = p .args .t in
     let s = sideOf (t .side) in
-    rw (c .by-mark .ensures, c .before .back .ensures, c .before .before .y-of .ensures, mark-has-word {s = s} Y-mark)
+    rw (c .by-mark .ensures, c .before .back .ensures, after-y-of .y-of .ensures, mark-has-word {s = s} Y-mark)
     (by-mark (p .pre) (p .args .hat) (Y s) line69 (back (taskMeant t)))
 
 pub line68-spec : {M : Type 1} → statement M
-line68-spec = tie.close (tie.spec y-of-requires back-requires by-mark-requires returns)
+line68-spec = tie.close (tie.spec (λ c κs. search needs) (λ c κs. search needs) by-mark-requires returns)

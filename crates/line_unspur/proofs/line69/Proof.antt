@@ -15,7 +15,7 @@ opposite-requires c κs = side-below-two (c .before .pre)
 
 follow-requires : tie.Need-follow-requires
 follow-requires c κs =
-    let p = c .before .before in
+    let p : tie.Start = search in
     let inward = opposite (sideOf (p .args .t .side)) in
     record {
       ready = p .pre;
@@ -27,7 +27,7 @@ follow-requires c κs =
 returns : tie.Need-returns
 unfolding lineOf act
 returns c g f =
-    let p = c .before .before .before in
+    let p : tie.Start = search in
     let inward = opposite (sideOf (p .args .t .side)) in
     rw (c .follow .ensures, side-meant inward (c .before .opposite .ensures))
     (followed-on (p .pre) (p .args .hat) inward 0 inB line70)

@@ -1,10 +1,12 @@
 -- `line_unspur::line72` meets its contract: the swap writes the hat and no node.
+use mathlib.Core.Path.{_≡_}
 use lib.ListN.{getD}
 use Rattle.machine.specs.Choice.{_≟_}
 use Rattle.machine.specs.Sides.{sideOf}
 use Rattle.machine.specs.Steps.{stepNumber}
+use Rattle.machine.specs.Tasks.{noNode}
 use Rattle.machine.specs.Lines.{act, back}
-use Rattle.machine.proofs.Basics.Choices.{equal, unequal}
+use Rattle.machine.proofs.Basics.Choices.{test-equal, test-unequal}
 use Rattle.table_record.specs.Coded.{taskMeant}
 use Rattle.line_parts.specs.Lent.{lineOf, nextDone, refusedDone, hatAfter}
 use Rattle.line_parts.proofs.Laws.Ready.{by-record}
@@ -13,34 +15,19 @@ use borrow.Author.Needs.{needs}
 use Rattle.line_unspur.proofs.line72.Statement.{statement}
 use Rattle.line_unspur.proofs.line72.Tie as tie
 
-element-copy-out-a : tie.Need-element-copy-out-a
-element-copy-out-a c = search needs
-
-element-copy-out-c : tie.Need-element-copy-out-c
-element-copy-out-c c = search needs
-
-refused-requires : tie.Need-refused-requires
-refused-requires c κs = search needs
-
 returns : tie.Need-returns
 unfolding lineOf act
 returns c ns g f =
-    let p = c .before .before .before .before in
-    rw (c .refused .ensures, equal (c .before .if1 .taken)) (by-record (p .pre) ns (refusedDone (p .args .hat)))
-
-either-requires : tie.Need-either-requires
-either-requires c κs = search needs
-
-back-requires : tie.Need-back-requires
-back-requires c κs = search needs
-
-next-requires : tie.Need-next-requires
-next-requires c κs = search needs
+    let p : tie.Start = search in
+    let c-is-none : getD (p .args .t2 .registers) 2 0 ≡ noNode = c .before .if1 .taken in
+    rw (c .refused .ensures, test-equal c-is-none) (by-record (p .pre) ns (refusedDone (p .args .hat)))
 
 returns-2 : tie.Need-returns-2
 unfolding lineOf act
 returns-2 c ns g f =
-    let p = c .before .before .before .before .before .before in
+    let else1 : tie.Else1 = search in
+    let after-either : tie.After-either = search in
+    let p : tie.Start = search in
     let t = p .args .t2 in
     let h = p .args .hat in
     let a = getD (t .registers) 0 0 in
@@ -50,8 +37,8 @@ returns-2 c ns g f =
     rw (
       c .next .ensures,
       c .before .back .ensures,
-      c .before .before .either .ensures,
-      unequal (c .before .before .before .if1 .left),
+      after-either .either .ensures,
+      test-unequal (else1 .if1 .left),
       hat-swapped h a x,
       no-node-written h a x (sideOf (t .side)) ns,
     )
@@ -61,11 +48,11 @@ pub line72-spec : {M : Type 1} → statement M
 line72-spec =
     tie.close
     (tie.spec
-    element-copy-out-a
-    element-copy-out-c
-    refused-requires
+    (λ c. search needs)
+    (λ c. search needs)
+    (λ c κs. search needs)
     returns
-    either-requires
-    back-requires
-    next-requires
+    (λ c κs. search needs)
+    (λ c κs. search needs)
+    (λ c κs. search needs)
     returns-2)

@@ -56,13 +56,13 @@ each-register p e inB = and-left (p inB) _ (and-right (p inA) _ e)
 each-register p e inC = and-left (p inC) (p inD) (and-right (p inB) _ (and-right (p inA) _ e))
 each-register p e inD = and-right (p inC) (p inD) (and-right (p inB) _ (and-right (p inA) _ e))
 
-pub each : (p : Step → Register → Bool) → everywhere p ≡ true → (st : Step) (r : Register) → p st r ≡ true
-each p e st r = each-register (p st) (each-step (λ x. everyRegister (p x)) e st) r
+pub everywhere-at : (p : Step → Register → Bool) → everywhere p ≡ true → (st : Step) (r : Register) → p st r ≡ true
+everywhere-at p e st r = each-register (p st) (each-step (λ x. everyRegister (p x)) e st) r
 
 -- One test implies another.
 abbrev pub implies : Bool → Bool → Bool
 implies a b = not a || b
 
-pub implied : (a b : Bool) → implies a b ≡ true → a ≡ true → b ≡ true
-implied true b e h = e
-implied false b e h = clash (cc)
+pub implies-true : (a b : Bool) → implies a b ≡ true → a ≡ true → b ≡ true
+implies-true true b e h = e
+implies-true false b e h = clash (cc)

@@ -41,9 +41,9 @@ module _ (n k : ℕ) (is-below : k < n) where
         | inr l ↦ rw (if-no (k <? i) (n + k - i) (k - i) (λ m. omega arith)) (omega arith)
       ]
 
-  -- One step brings it nearer, where it is not there.
-  pub nearer : (i : ℕ) → i < n → i ≢ k → suc (away n (following n i) k) ≡ away n i k
-  nearer i h ne =
+  -- One step brings it following-nearer, where it is not there.
+  pub following-nearer : (i : ℕ) → i < n → i ≢ k → suc (away n (following n i) k) ≡ away n i k
+  following-nearer i h ne =
       elim (less? k i) [
         | inl l ↦
             elim (less? (i + 1) n) [
@@ -105,9 +105,9 @@ module _ (n : ℕ) (test : ℕ → Bool) where
           → test k ≡ false
       go true q later f d = clash (cc)
       go false q later f (inl same) = rw (← same) q
-      go false q later f (inr ne) = later f k l (omega (arith, nearer n k l i h ne))
+      go false q later f (inr ne) = later f k l (omega (arith, following-nearer n k l i h ne))
 
-  -- What is found is below n; and a number that passes is found, or is nearer from there on.
+  -- What is found is below n; and a number that passes is found, or is following-nearer from there on.
   pub first-below : (m i : ℕ) {j : ℕ} → i < n → firstFrom n test m i ≡ some j → j < n
   unfolding firstFrom
   first-below zero i h e = clash (cc)
@@ -136,12 +136,12 @@ module _ (n : ℕ) (test : ℕ → Bool) where
           → away n (following n j) k < away n i k
       go true q later f d =
           let same : i ≡ j = cc in
-          let step = nearer n k l i h (λ e. ne (sym same ∙ e)) in
+          let step = following-nearer n k l i h (λ e. ne (sym same ∙ e)) in
           rw (← same) (omega arith)
       go false q later f (inl same) = clash (cc)
-      go false q later f (inr d) = let step = nearer n k l i h d in omega (arith, later f)
+      go false q later f (inr d) = let step = following-nearer n k l i h d in omega (arith, later f)
 
-  -- No number that passes is nearer than the one found.
+  -- No number that passes is following-nearer than the one found.
   first-nearest : (m i : ℕ) {j : ℕ} → i < n → firstFrom n test m i ≡ some j → (k : ℕ) → k < n → test k ≡ true
       → away n i j ≤ away n i k
   unfolding firstFrom
@@ -159,13 +159,14 @@ module _ (n : ℕ) (test : ℕ → Bool) where
       go false q later f =
           let t′ = first-passes m (following n i) f in
           let l′ = first-below m (following n i) (following-below n i h) f in
-          let a = nearer n j l′ i h (λ u. clash (cc (ap test u))) in
-          let b = nearer n k l i h (λ u. clash (cc (ap test u))) in
+          let a = following-nearer n j l′ i h (λ u. clash (cc (ap test u))) in
+          let b = following-nearer n k l i h (λ u. clash (cc (ap test u))) in
           omega (arith, later f)
 
 -- Steps are counted from the number itself.
 steps-away : (n i k : ℕ) → i < n → k < n → steps n i k ≡ suc (away n (following n i) k)
-steps-away n i k h l = elim (equal? i k) [ inl e ↦ itself e | inr ne ↦ elsewhere ne ∙ sym (nearer n k l i h ne) ]
+steps-away n i k h l =
+    elim (equal? i k) [ inl e ↦ itself e | inr ne ↦ elsewhere ne ∙ sym (following-nearer n k l i h ne) ]
   where
     itself : i ≡ k → steps n i k ≡ suc (away n (following n i) k)
     itself e =

@@ -28,11 +28,11 @@ pub or-right : (a b : Bool) → b ≡ true → a || b ≡ true
 or-right true b h = refl
 or-right false b h = h
 
-pub agreed : (a b : Bool) → Bool·beq a b ≡ true → a ≡ b
-agreed true true h = refl
-agreed true false h = sym h
-agreed false true h = h
-agreed false false h = refl
+pub beq-equal : (a b : Bool) → Bool·beq a b ≡ true → a ≡ b
+beq-equal true true h = refl
+beq-equal true false h = sym h
+beq-equal false true h = h
+beq-equal false false h = refl
 
 -- A list of refusals: where none is met, the first test passes and none is met of the others.
 pub test-passed : (b : Bool) (n : ℕ) (others : Option ℕ) → unless b n others ≡ none → b ≡ true

@@ -61,7 +61,7 @@ updateSide f left v right = f right
 updateSide f right v left = f left
 updateSide f right v right = v
 
-pub updateSide-same : {T : Type 0} (f : Side → T) (s : Side) (v : T) → updateSide f s v s ≡ v
+updateSide-same : {T : Type 0} (f : Side → T) (s : Side) (v : T) → updateSide f s v s ≡ v
 updateSide-same f left v = refl
 updateSide-same f right v = refl
 

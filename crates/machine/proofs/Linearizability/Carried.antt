@@ -60,7 +60,7 @@ use Rattle.machine.proofs.Words.Kinds.{
   is-lent-begun,
   are-ticked,
   are-dispatched,
-  comes,
+  call-comes,
 }
 use Rattle.machine.proofs.Words.RecordLaws.{same-words}
 use Rattle.machine.proofs.Shape.ShapeKept.{table-passes}
@@ -117,7 +117,7 @@ module _ (outlasts : Copies) (P : List ℕ → Row → Type 0) (C : Carried outl
 
   -- ---- A call.
   started-there : (c : Call) (ws : List ℕ) → Where P (after c ws) (startedRow (did c (given c ws)))
-  started-there c ws = go (comes c ws)
+  started-there c ws = go (call-comes c ws)
     where
       go : {a : Asked} {vs : List ℕ} {d : Did} → Comes ws a vs d → Where P vs (startedRow d)
       go (left-alone a e) = tt

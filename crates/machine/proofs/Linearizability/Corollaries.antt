@@ -92,7 +92,7 @@ use Rattle.machine.proofs.Words.Kinds.{kept-in-list}
 use Rattle.machine.proofs.Linearizability.Calls.Agreement.{Agrees, lanes-are-rows, all-lanes-are-rows}
 use Rattle.machine.proofs.Linearizability.Calls.MadeTicks.{well-linked, made-tick}
 use Rattle.machine.proofs.Linearizability.Calls.CallsAgree.{tick-explained}
-use Rattle.machine.proofs.Linearizability.Calls.EveryCall.{told, call-explained}
+use Rattle.machine.proofs.Linearizability.Calls.EveryCall.{call-told, call-explained}
 use Rattle.machine.proofs.Linearizability.Theorem.{started-agrees}
 use Rattle.machine.proofs.Linearizability.Histories.{Balanced, Recorded, nothing-recorded, did-recorded}
 
@@ -157,7 +157,7 @@ no-ticks-refused-with-11 {ws} B n k h =
     (λ vs X e. refute (cc)) (λ vs X. no-tick-refused-with-11 X k h) n ws B
 
 -- 2026-07: nor a dispatch, which is a tick.
-pub no-dispatch-refused-with-11 : {ws : List ℕ} → Begun ws → (h : ℕ) → dispatch ws h .answer ≢ Answered (Refused 11)
+no-dispatch-refused-with-11 : {ws : List ℕ} → Begun ws → (h : ℕ) → dispatch ws h .answer ≢ Answered (Refused 11)
 no-dispatch-refused-with-11 {ws} B h =
     let A = begun-agrees B .1 in
     by-dispatch ws (A .accepted) h (λ (r : Dispatched). r .answer ≢ Answered (Refused 11)) (λ e. refute (cc))
@@ -333,7 +333,7 @@ agreed-recorded : (cs : List Call) {ws : List ℕ} {ρ : Row} {η : History} →
 unfolding afterAll history
 agreed-recorded [] {ρ = ρ} A R = (ρ, A, R .balanced)
 agreed-recorded (c ∷ cs) {ws} A R =
-    let E = told A c in
+    let E = call-told A c in
     agreed-recorded cs (E .explains .agrees) (did-recorded (did c (given c ws)) R (E .fed-what-it-did))
 
 -- No bag is lost or doubled: after every list of calls each bag is in a lane as often as it was pushed there and not

@@ -18,6 +18,7 @@ use Rattle.machine.specs.Row.{
   Note,
   Row,
   emptyRow,
+  withNote,
   noted,
   withBags,
   put,
@@ -36,7 +37,6 @@ use Rattle.machine.specs.Begun.{
   Finished,
   History,
   noHistory,
-  withNote,
   finish,
   recordMade,
   recordNext,
@@ -48,7 +48,13 @@ use Rattle.machine.specs.Begun.{
 }
 use Rattle.machine.proofs.Basics.Contradiction.{clash}
 use Rattle.machine.proofs.Basics.Choices.{by-if}
-use Rattle.machine.proofs.Linearizability.Calls.RowDid.{bound, mapped, feedMadeTick, feedMadeTicks, feedDid}
+use Rattle.machine.proofs.Linearizability.Calls.RowDid.{
+  bind-some,
+  map-some,
+  feedMadeTick,
+  feedMadeTicks,
+  feedDid,
+}
 
 -- ---- Bags counted.
 
@@ -212,7 +218,7 @@ module _ {ρ : Row} {η : History} (R : Recorded ρ η) (k : ℕ) (a : Answer) w
   made-recorded : {ρ′ : Row} → feedMade ρ k a ≡ some ρ′ → Recorded ρ′ (recordMade η k a)
   unfolding feedMade
   made-recorded {ρ′} e =
-      let n = bound (ρ .notes k) _ e in
+      let n = bind-some (ρ .notes k) _ e in
       let noted-so = ap (λ (f : ℕ → Option Note). f k) (R .same-notes) ∙ n .1 in
       rw noted-so (by-answer (n .0) (isGoing a) (n .2))
     where
@@ -223,7 +229,7 @@ module _ {ρ : Row} {η : History} (R : Recorded ρ η) (k : ℕ) (a : Answer) w
           → Recorded ρ′ (cond g η (finish η k (some n) a))
       by-answer n true q = same-row q R
       by-answer n false q =
-          let x = mapped (answered n a (ρ .bags (n .lane))) _ q in
+          let x = map-some (answered n a (ρ .bags (n .lane))) _ q in
           same-row (ap some (x .2)) (finish-recorded n (x .0) (x .1))
 
 -- A tick of the task whose turn it is: the history finds the task that the row finds.
@@ -231,8 +237,8 @@ next-recorded : (a : Answer) {ρ ρ′ : Row} {η : History} → Recorded ρ η 
     → Recorded ρ′ (recordNext η (nextNoted (η .notes) (η .tasks) (η .dispatched)) a)
 unfolding feedDispatched
 next-recorded a {ρ} {ρ′} {η} R e =
-    let x = bound (nextNoted (ρ .notes) (ρ .tasks) (ρ .dispatched)) _ e in
-    let y = mapped (feedMade ρ (x .0) a) _ (x .2) in
+    let x = bind-some (nextNoted (ρ .notes) (ρ .tasks) (ρ .dispatched)) _ e in
+    let y = map-some (feedMade ρ (x .0) a) _ (x .2) in
     let M = made-recorded R (x .0) a (y .1) in
     rw (same-next ∙ x .1)
     (same-row (ap some (y .2))
@@ -256,7 +262,7 @@ ticks-recorded : (ts : List Tick) {ρ ρ′ : Row} {η : History} → Recorded �
 unfolding feedMadeTicks recordTicks
 ticks-recorded [] R e = same-row e R
 ticks-recorded (t ∷ ts) {ρ} R e =
-    let x = bound (feedMadeTick ρ t) _ e in
+    let x = bind-some (feedMadeTick ρ t) _ e in
     ticks-recorded ts (tick-recorded t R (x .1)) (x .2)
 
 -- What a call did.

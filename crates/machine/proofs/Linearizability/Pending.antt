@@ -47,7 +47,7 @@ use Rattle.machine.proofs.Words.Kinds.{
   is-lent-begun,
   are-ticked,
   are-dispatched,
-  comes,
+  call-comes,
 }
 use Rattle.machine.proofs.Shape.ShapeLaws.{well-sized}
 use Rattle.machine.proofs.Shape.ShapeKept.{CallFits}
@@ -82,7 +82,7 @@ AllPending ws (p ∷ ps) = LeftBegun ws p × AllPending ws ps
 left-begun : {ws : List ℕ} → WellFormed ws → (c : Call) {k : ℕ} {n : Note} {words : List ℕ}
     → did c (given c ws) ≡ lent-begun k n words
     → LeftBegun ws (record { task = k; words = words; note = n; alone = true })
-left-begun {ws} A c {k} {n} {words} = go (comes c ws)
+left-begun {ws} A c {k} {n} {words} = go (call-comes c ws)
   where
     pending : ℕ → List ℕ → Note → Pending
     pending j u m = record { task = j; words = u; note = m; alone = true }

@@ -49,7 +49,7 @@ use Rattle.machine.proofs.Basics.Contradiction.{clash}
 use Rattle.machine.proofs.Words.RecordLaws.{same-words-refl}
 use Rattle.machine.proofs.Snapshots.RoundTrips.{taken, taken-back}
 use Rattle.machine.proofs.Linearizability.Calls.Agreement.{Agrees, lanes-are-rows}
-use Rattle.machine.proofs.Linearizability.Calls.RowDid.{bound}
+use Rattle.machine.proofs.Linearizability.Calls.RowDid.{bind-some}
 use Rattle.machine.proofs.Linearizability.Carried.{holds-of-nothing, holds-after, found}
 use Rattle.machine.proofs.Linearizability.Theorem.{agreement-carried}
 
@@ -140,7 +140,7 @@ module _ (ss : List ℕ) where
   unfolding knownAfter bind
   always-kept outlasts [] ws κ κ′ e K = stays e K
   always-kept outlasts (v ∷ es) ws κ κ′ e K =
-      let x = bound (feedEvent outlasts (length ws) κ v (eventGiven v ws)) _ e in
+      let x = bind-some (feedEvent outlasts (length ws) κ v (eventGiven v ws)) _ e in
       always-kept outlasts es (afterEvent v ws) (x .0) κ′ (x .2) (stays-kept outlasts v ws κ (x .0) (x .1) K)
 
 pub rows-come-back : RowsComeBack

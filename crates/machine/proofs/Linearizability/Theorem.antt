@@ -30,7 +30,7 @@ use Rattle.machine.proofs.Basics.Tests.{test-passed, tests-left}
 use Rattle.machine.proofs.Words.LentLaws.{in-place}
 use Rattle.machine.proofs.Linearizability.Calls.Agreement.{Agrees, lanes-are-rows}
 use Rattle.machine.proofs.Linearizability.Calls.CallsAgree.{start-agrees, begun-agrees}
-use Rattle.machine.proofs.Linearizability.Calls.EveryCall.{told, call-explained}
+use Rattle.machine.proofs.Linearizability.Calls.EveryCall.{call-told, call-explained}
 use Rattle.machine.proofs.Linearizability.Pending.{LeftBegun}
 use Rattle.machine.proofs.Linearizability.Carried.{Carried, always, always-so}
 
@@ -73,7 +73,7 @@ agreement-carried outlasts =
 
 pub demand3-over-events : Demand3OverEvents
 demand3-over-events =
-    always-so everyCopy Agrees LanesAreInside (λ ws ρ A. (lanes-are-rows A, λ c. told A c .within))
+    always-so everyCopy Agrees LanesAreInside (λ ws ρ A. (lanes-are-rows A, λ c. call-told A c .within))
     (always everyCopy Agrees (agreement-carried everyCopy))
 
 -- ---- Of calls alone: where a row is known, calls leave one known.

@@ -45,8 +45,8 @@ use Rattle.machine.proofs.Shape.Moves.{
   lands-if,
   back-lands,
   part,
-  stands,
-  moves,
+  busy-stands,
+  busy-moves,
   moves-A,
   moves-B,
   moves-C,
@@ -64,7 +64,7 @@ module _ (S g L : ℕ) (m : Memory) (M : MemoryFits S m) (t : Task) (f : ℕ) wh
   line68-fits F =
       by-through S g L t (λ _.
       goes-on tt
-      (moves F (lands-if (_ ≟ᵛ _) (lands (part F) refl) (back-lands t (part F)))))
+      (busy-moves F (lands-if (_ ≟ᵛ _) (lands (part F) refl) (back-lands t (part F)))))
 
   pub line69-fits : LineFits S g L m t f line69
   unfolding act isStepIn
@@ -83,7 +83,7 @@ module _ (S g L : ℕ) (m : Memory) (M : MemoryFits S m) (t : Task) (f : ℕ) wh
   line72-fits F =
       by-through S g L t (λ nC.
       goes-on (by-if (WritesFit S) (_ ≟ _) (λ _. search fitting) (λ _. tt))
-      (moves F (back-lands t (part F))))
+      (busy-moves F (back-lands t (part F))))
 
 -- ---- 28 and 31: nodes are taken for a chain.
 no-node-answers : (op : Operation) → AnswerFits (noneFree op)
@@ -106,19 +106,19 @@ module _ (S g L : ℕ) (m : Memory) (M : MemoryFits S m) (t : Task) (f : ℕ) (f
 
       alone : goal g t ≡ 0 → BusyFacts S g L (goto t′ line15)
       alone _ =
-          stands F line15 (part F) (le-leb 0 (goal g t) (omega arith)) (F .value-ok) (F .has-word)
+          busy-stands F line15 (part F) (le-leb 0 (goal g t) (omega arith)) (F .value-ok) (F .has-word)
           (F .A-ok) (F .B-ok) (F .C-ok) f-ok
 
       more : ¬ (goal g t ≡ 0) → BusyFacts S g L (goto t′ line31)
       more n =
-          stands F line31 (part F) (lt-ltb 0 (goal g t) (omega arith)) (F .value-ok) (F .has-word)
+          busy-stands F line31 (part F) (lt-ltb 0 (goal g t) (omega arith)) (F .value-ok) (F .has-word)
           (F .A-ok) (F .B-ok) (F .C-ok) f-ok
 
   pub line31-fits : LineFits S g L m t f line31
   unfolding act isStepIn
   line31-fits F =
       by-through S g L t (λ nD.
-      by-if (Fits S g L) (_ ≟ _) (λ _. goes-on tt (moves F (lands (part F) refl))) (λ nf.
+      by-if (Fits S g L) (_ ≟ _) (λ _. goes-on tt (busy-moves F (lands (part F) refl))) (λ nf.
       goes-on (search (fitting, f-ok))
       (by-if (λ st. BusyFacts S g L (goto t′ st)) (_ ≟ _) done more)))
     where
@@ -133,12 +133,12 @@ module _ (S g L : ℕ) (m : Memory) (M : MemoryFits S m) (t : Task) (f : ℕ) (f
 
       done : n ≡ goal g t → BusyFacts S g L (goto t′ line15)
       done e =
-          stands F line15 (part F) (le-leb n (goal g t) below) (F .value-ok) (F .has-word)
+          busy-stands F line15 (part F) (le-leb n (goal g t) below) (F .value-ok) (F .has-word)
           (F .A-ok) (F .B-ok) (F .C-ok) f-ok
 
       more : ¬ (n ≡ goal g t) → BusyFacts S g L (goto t′ line31)
       more e =
-          stands F line31 (part F) (lt-ltb n (goal g t) (omega (arith, below))) (F .value-ok) (F .has-word)
+          busy-stands F line31 (part F) (lt-ltb n (goal g t) (omega (arith, below))) (F .value-ok) (F .has-word)
           (F .A-ok) (F .B-ok) (F .C-ok) f-ok
 
 -- ---- 15 to 25: the end of the lane is sought and the chain spliced in.
@@ -180,7 +180,7 @@ module _ (S g L : ℕ) (m : Memory) (M : MemoryFits S m) (t : Task) (f : ℕ) wh
       go idle e = ends w tt
       go push e =
           goes-on w
-          (stands F line2 (rw e) (le-leb 0 (goal g t) (omega arith)) (F .value-ok) (F .has-word)
+          (busy-stands F line2 (rw e) (le-leb 0 (goal g t) (omega arith)) (F .value-ok) (F .has-word)
           (F .A-ok) (F .B-ok) (F .C-ok) none-fits)
       go pop e = ends w tt
       go add e = ends w tt
@@ -191,4 +191,4 @@ module _ (S g L : ℕ) (m : Memory) (M : MemoryFits S m) (t : Task) (f : ℕ) wh
   line25-fits F =
       by-through S g L t (λ nA.
       by-dcas S g L _ _ (spliced-fits F _ (search fitting))
-      (goes-on tt (moves F (lands (part F) refl))))
+      (goes-on tt (busy-moves F (lands (part F) refl))))

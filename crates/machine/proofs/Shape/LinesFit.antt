@@ -7,7 +7,7 @@ use Rattle.machine.specs.Tasks.{Task}
 use Rattle.machine.specs.Lines.{Memory, act}
 use Rattle.machine.proofs.Shape.BusyLaws.{NodeOrNone}
 use Rattle.machine.proofs.Shape.Fits.{goes-on, MemoryFits, LineFits}
-use Rattle.machine.proofs.Shape.Moves.{lands, part, moves}
+use Rattle.machine.proofs.Shape.Moves.{lands, part, busy-moves}
 use Rattle.machine.proofs.Shape.PushFits.{line2-fits, line3-fits, line5-fits, line8-fits}
 use Rattle.machine.proofs.Shape.AddFits.{
   line15-fits,
@@ -48,7 +48,7 @@ use Rattle.machine.proofs.Shape.RemoveFits.{
 module _ (S g L : ℕ) (m : Memory) (M : MemoryFits S m) (t : Task) (f : ℕ) (f-ok : NodeOrNone S f) where
   pub line-fits : (st : Step) → LineFits S g L m t f st
   unfolding act isStepIn
-  line-fits rest F = goes-on tt (moves F (lands (part F) refl))
+  line-fits rest F = goes-on tt (busy-moves F (lands (part F) refl))
   line-fits Steps.line2 F = line2-fits S g L m M t f F
   line-fits Steps.line3 F = line3-fits S g L m M t f F
   line-fits Steps.line5 F = line5-fits S g L m M t f F

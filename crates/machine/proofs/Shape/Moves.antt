@@ -103,7 +103,7 @@ module _ {S g L : ℕ} {st : Step} {t : Task} (F : BusyAt S g L st t) where
   part = sym (step-in-part st (t .operation)) ∙ F .step-ok
 
   -- At any step of the operation, with the tests of that step.
-  pub stands :
+  pub busy-stands :
       (st′ : Step) {n : ℕ} {v : Value} {a b c d : ℕ}
       → hasPart (t .operation) (partOf st′) ≡ true
       → countedOk (stepNumber st′) (goal g t) n ≡ true
@@ -114,7 +114,7 @@ module _ {S g L : ℕ} {st : Step} {t : Task} (F : BusyAt S g L st t) where
       → NodeOrNone S c
       → NodeOrNone S d
       → BusyFacts S g L (further t st′ n v a b c d)
-  stands st′ p n-ok v-ok word a-ok b-ok c-ok d-ok =
+  busy-stands st′ p n-ok v-ok word a-ok b-ok c-ok d-ok =
       record {
         busy = F .busy;
         step-ok = step-in-part st′ (t .operation) ∙ p;
@@ -140,11 +140,11 @@ module _ {S g L : ℕ} {st : Step} {t : Task} (F : BusyAt S g L st t) where
         → NodeOrNone S d
         → BusyFacts S g L (goto (withRegisters t a b c d) st′)
     moves-registers (lands p q) =
-        stands st′ p (ordinary-counted st′ q (goal g t) (t .counted) (counted-at-most F))
+        busy-stands st′ p (ordinary-counted st′ q (goal g t) (t .counted) (counted-at-most F))
         (ordinary-value st′ q (t .side) (encode (t .value)) (value-read-ok F)) (F .has-word)
 
-    pub moves : Lands (t .operation) st′ → BusyFacts S g L (goto t st′)
-    moves l = moves-registers l (F .A-ok) (F .B-ok) (F .C-ok) (F .D-ok)
+    pub busy-moves : Lands (t .operation) st′ → BusyFacts S g L (goto t st′)
+    busy-moves l = moves-registers l (F .A-ok) (F .B-ok) (F .C-ok) (F .D-ok)
 
     pub moves-A : Lands (t .operation) st′ → {x : ℕ} → NodeOrNone S x → BusyFacts S g L (goto (withA t x) st′)
     moves-A l h = moves-registers l h (F .B-ok) (F .C-ok) (F .D-ok)
@@ -157,5 +157,5 @@ module _ {S g L : ℕ} {st : Step} {t : Task} (F : BusyAt S g L st t) where
 
     pub moves-value : Lands (t .operation) st′ → (v : Value) → ValueFits v → BusyFacts S g L (goto (withValue t v) st′)
     moves-value (lands p q) v h =
-        stands st′ p (ordinary-counted st′ q (goal g t) (t .counted) (counted-at-most F))
+        busy-stands st′ p (ordinary-counted st′ q (goal g t) (t .counted) (counted-at-most F))
         (ordinary-value st′ q (t .side) (encode v) (h .1)) (h .0) (F .A-ok) (F .B-ok) (F .C-ok) (F .D-ok)

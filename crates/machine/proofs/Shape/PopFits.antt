@@ -26,8 +26,8 @@ use Rattle.machine.proofs.Shape.Moves.{
   lands,
   lands-if,
   part,
-  stands,
-  moves,
+  busy-stands,
+  busy-moves,
   moves-A,
   moves-B,
   moves-value,
@@ -55,7 +55,7 @@ module _ (S g L : ℕ) (m : Memory) (M : MemoryFits S m) (t : Task) (f : ℕ) wh
       → BusyFacts S g L (goto (withValue t v) line48)
   unfolding isStepIn
   reads-48 F v word ok =
-      stands F line48 (part F) (F .counted-ok) ok word (F .A-ok) (F .B-ok) (F .C-ok) (F .D-ok)
+      busy-stands F line48 (part F) (F .counted-ok) ok word (F .A-ok) (F .B-ok) (F .C-ok) (F .D-ok)
 
   -- A bag was read for 51.
   read-fits :
@@ -66,7 +66,7 @@ module _ (S g L : ℕ) (m : Memory) (M : MemoryFits S m) (t : Task) (f : ℕ) wh
   unfolding isStepIn
   read-fits F never h = moves-value F (lands (part F) refl) never h
   read-fits F (bag n) h =
-      stands F line51 (part F) (F .counted-ok) (decoded-bag (encode (bag n)) n (h .0) .0) (h .0)
+      busy-stands F line51 (part F) (F .counted-ok) (decoded-bag (encode (bag n)) n (h .0) .0) (h .0)
       (F .A-ok) (F .B-ok) (F .C-ok) (F .D-ok)
   read-fits F (N z) h =
       let w = encode (N z) in
@@ -94,7 +94,7 @@ module _ (S g L : ℕ) (m : Memory) (M : MemoryFits S m) (t : Task) (f : ℕ) wh
   line48-fits F =
       by-through S g L t (λ _.
       by-dcas S g L _ _ (ends tt tt)
-      (goes-on tt (moves F (lands (part F) refl))))
+      (goes-on tt (busy-moves F (lands (part F) refl))))
 
   -- The tag of the bag that was read.
   tag-at-51 : BusyAt S g L line51 t → bagOk (stored (bagOf (t .value))) ≡ true
@@ -105,4 +105,4 @@ module _ (S g L : ℕ) (m : Memory) (M : MemoryFits S m) (t : Task) (f : ℕ) wh
   line51-fits F =
       by-through S g L t (λ nB.
       by-dcas S g L _ _ (ends (search fitting) (tag-at-51 F))
-      (goes-on tt (moves F (lands (part F) refl))))
+      (goes-on tt (busy-moves F (lands (part F) refl))))

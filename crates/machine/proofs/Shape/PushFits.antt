@@ -22,7 +22,7 @@ use Rattle.machine.proofs.Shape.Fits.{
   by-through,
   by-dcas,
 }
-use Rattle.machine.proofs.Shape.Moves.{lands, lands-if, part, moves, moves-A, moves-B}
+use Rattle.machine.proofs.Shape.Moves.{lands, lands-if, part, busy-moves, moves-A, moves-B}
 
 -- Only a push has these lines: it may go on to those of an add, and its argument is a bag.
 push-grows : (op : Operation) → hasPart op pushing ≡ true → hasPart op growing ≡ true
@@ -60,11 +60,11 @@ module _ (S g L : ℕ) (m : Memory) (M : MemoryFits S m) (t : Task) (f : ℕ) wh
       by-through S g L t (λ nA.
       by-through S g L t (λ nB.
       by-dcas S g L _ _ (ends (search fitting) tt)
-      (goes-on tt (moves F (lands (part F) refl)))))
+      (goes-on tt (busy-moves F (lands (part F) refl)))))
 
   pub line8-fits : LineFits S g L m t f line8
   unfolding act isStepIn
   line8-fits F =
       let grows = push-grows (t .operation) (part F) in
       by-through S g L t (λ _.
-      goes-on tt (moves F (lands-if (_ ≟ᵛ _) (lands grows refl) (lands grows refl))))
+      goes-on tt (busy-moves F (lands-if (_ ≟ᵛ _) (lands grows refl) (lands grows refl))))

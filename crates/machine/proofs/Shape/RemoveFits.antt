@@ -39,8 +39,8 @@ use Rattle.machine.proofs.Shape.Moves.{
   lands,
   lands-if,
   part,
-  stands,
-  moves,
+  busy-stands,
+  busy-moves,
   moves-registers,
   moves-A,
   moves-B,
@@ -65,7 +65,7 @@ module _ (S g L : ℕ) (m : Memory) (M : MemoryFits S m) (t : Task) (f : ℕ) wh
       more : ¬ (goal g t ≡ 0) → BusyFacts S g L (goto t′ line56)
       more n =
           let l = lt-ltb (t .counted) (goal g t) (omega (arith, none-counted)) in
-          stands F line56 (part F) l (F .value-ok) (F .has-word) (λ _. M .hat-ok) (F .B-ok) (F .C-ok) (F .D-ok)
+          busy-stands F line56 (part F) l (F .value-ok) (F .has-word) (λ _. M .hat-ok) (F .B-ok) (F .C-ok) (F .D-ok)
 
   pub line56-fits : LineFits S g L m t f line56
   unfolding act isStepIn
@@ -73,7 +73,7 @@ module _ (S g L : ℕ) (m : Memory) (M : MemoryFits S m) (t : Task) (f : ℕ) wh
       by-through S g L t (λ _.
       by-if (Fits S g L) (_ ≟ᵛ _) (λ _. ends tt tt) (λ _.
       goes-on tt
-      (stands F line58 (part F) (F .counted-ok) (F .value-ok) (F .has-word)
+      (busy-stands F line58 (part F) (F .counted-ok) (F .value-ok) (F .has-word)
       (F .A-ok) (F .B-ok) (F .C-ok) (F .D-ok))))
 
   pub line58-fits : LineFits S g L m t f line58
@@ -97,12 +97,12 @@ module _ (S g L : ℕ) (m : Memory) (M : MemoryFits S m) (t : Task) (f : ℕ) wh
 
       done : n ≡ goal g t → BusyFacts S g L (goto t′ line60)
       done e =
-          stands F line60 (part F) (le-leb n (goal g t) below) (F .value-ok) (F .has-word)
+          busy-stands F line60 (part F) (le-leb n (goal g t) below) (F .value-ok) (F .has-word)
           (M .out-ok (t .A)) (F .B-ok) (F .C-ok) (F .D-ok)
 
       more : ¬ (n ≡ goal g t) → BusyFacts S g L (goto t′ line56)
       more e =
-          stands F line56 (part F) (lt-ltb n (goal g t) (omega (arith, below))) (F .value-ok) (F .has-word)
+          busy-stands F line56 (part F) (lt-ltb n (goal g t) (omega (arith, below))) (F .value-ok) (F .has-word)
           (M .out-ok (t .A)) (F .B-ok) (F .C-ok) (F .D-ok)
 
   pub line60-fits : LineFits S g L m t f line60
@@ -117,7 +117,7 @@ module _ (S g L : ℕ) (m : Memory) (M : MemoryFits S m) (t : Task) (f : ℕ) wh
   line62-fits F =
       by-through S g L t (λ nA.
       by-through S g L t (λ nB.
-      by-dcas S g L _ _ (goes-on (search fitting) (moves F (lands (part F) refl)))
+      by-dcas S g L _ _ (goes-on (search fitting) (busy-moves F (lands (part F) refl)))
       (ends tt tt)))
 
   pub line64-fits : LineFits S g L m t f line64
@@ -125,7 +125,7 @@ module _ (S g L : ℕ) (m : Memory) (M : MemoryFits S m) (t : Task) (f : ℕ) wh
   line64-fits F =
       by-through S g L t (λ nA.
       goes-on (by-if (WritesFit S) (_ ≟ _) (λ _. search fitting) (λ _. tt))
-      (moves F (lands (part F) refl)))
+      (busy-moves F (lands (part F) refl)))
 
 -- ---- 74 to 82: the nodes cut off are marked and unlinked.
 module _ (S g L : ℕ) (m : Memory) (M : MemoryFits S m) (t : Task) (f : ℕ) where
@@ -148,8 +148,8 @@ module _ (S g L : ℕ) (m : Memory) (M : MemoryFits S m) (t : Task) (f : ℕ) wh
   line78-fits F =
       by-through S g L t (λ nB.
       by-if (Fits S g L) (_ ≟ᵛ _)
-      (λ _. goes-on (search fitting) (moves F (lands (part F) refl)))
-      (λ _. goes-on tt (moves F (lands (part F) refl))))
+      (λ _. goes-on (search fitting) (busy-moves F (lands (part F) refl)))
+      (λ _. goes-on tt (busy-moves F (lands (part F) refl))))
 
   pub line79-fits : LineFits S g L m t f line79
   unfolding act isStepIn

@@ -61,7 +61,7 @@ use Rattle.machine.proofs.Shape.ShapeLaws.{
 use Rattle.machine.proofs.Shape.Fits.{none-fits}
 use Rattle.machine.proofs.Shape.WritesKeep.{put-record-shaped, put-dispatched-shaped}
 use Rattle.machine.proofs.Shape.DispatchCases.{by-dispatch}
-use Rattle.machine.proofs.Shape.TickKeeps.{Kept, unchanged, tick-allowed, tick-kept}
+use Rattle.machine.proofs.Shape.TickKeeps.{Kept, words-unchanged, tick-allowed, tick-kept}
 use Rattle.machine.proofs.Basics.Choices.{by-if}
 
 pub is-accepted : (ws : List ℕ) → tableRefusal ws none ≡ none → WellFormed ws
@@ -186,7 +186,7 @@ pub record BeginAllowed (ws : List ℕ) (k l op side : ℕ) (argument : Stored) 
   pub was-idle : isIdle (task ws k .operation) ≡ true
 
 -- Where 11 and 16 are not met, none is met of the tests after them.
-pub not-seen-twice :
+not-seen-twice :
     (ws : List ℕ) (op : Operation) (n : ℕ) (others : Option ℕ)
     → twiceRefusal ws op n others ≡ none
     → others ≡ none
@@ -253,7 +253,7 @@ module _ (ws : List ℕ) (k l op side : ℕ) (argument : Stored) where
             (r : Option ℕ)
             → beginRefusal ws k l op side argument ≡ r
             → Kept ws (changed r ws (setTask k begun ws) .words)
-        go (some n) e = unchanged ws Z W
+        go (some n) e = words-unchanged ws Z W
         go none e = begun-kept (begin-allowed e .fits)
 
 -- ---- tick and run.
@@ -271,7 +271,7 @@ pub list-kept : (i : ℕ) (list ws : List ℕ) → WellSized (sizesOf ws) → We
 list-kept i list ws Z W =
     kept-in-list (Kept ws)
     (λ vs K k h. kept-then K (tick-kept vs (K .well-sized) (K .well-shaped) k h))
-    i list ws (unchanged ws Z W)
+    i list ws (words-unchanged ws Z W)
 
 -- ---- Every call.
 pub kept-accepted : {ws vs : List ℕ} → Kept ws vs → WellFormed vs

@@ -1,6 +1,6 @@
 -- The tests of the sizes, the length and the shape as facts about the table's columns, both ways.
 use mathlib.Core.Path.{_≡_, refl, sym, _∙_}
-use mathlib.Core.Bool.{Bool, true, false, cond, _&&_}
+use mathlib.Core.Bool.{Bool, true, _&&_}
 use mathlib.Core.List.{List}
 use Prim.Native.Nat.{ℕ, zero, suc, _*_, _≤_, _<_}
 use lib.Dec.{leb, ltb, eqb}
@@ -39,9 +39,7 @@ use Rattle.machine.specs.Shape.{
   shapeOk,
   WellFormed,
   WellLinked,
-  Sizes,
   sizesOf,
-  Sized,
   WellSized,
 }
 use Rattle.machine.proofs.Basics.Tests.{and-left, and-right}
@@ -114,7 +112,7 @@ unfolding allBelow
 all-below zero test h = refl
 all-below (suc n) test h = rw (all-below n test (λ x l. h x (omega arith)), h n (omega arith))
 
-pub below-all : (n : ℕ) (test : ℕ → Bool) → allBelow n test ≡ true → (x : ℕ) → x < n → test x ≡ true
+below-all : (n : ℕ) (test : ℕ → Bool) → allBelow n test ≡ true → (x : ℕ) → x < n → test x ≡ true
 unfolding allBelow
 below-all zero test h x l = absurd (omega arith)
 below-all (suc n) test h x l =
@@ -242,7 +240,8 @@ module _ (ws : List ℕ) where
         hats-ok = hats-fit (well-sized ws (P .length-passes) .most-lanes) hats;
         links-ok =
             λ s.
-            column-all (NodeOrNone S) S noNode (linkWord ws s) (λ n. absurd (n refl)) (λ x l. node-links x (node x l) s);
+            column-all (NodeOrNone S) S noNode (linkWord ws s) (λ n. absurd (n refl))
+            (λ x l. node-links x (node x l) s);
         values-ok =
             column-all (λ u. valueOk u ≡ true) S (encode never) (valueWords ws) refl (λ x l. node-value x (node x l));
       }

@@ -188,8 +188,8 @@ pub record Kept (ws vs : List ℕ) : Type 0 where
   pub well-shaped : WellShaped (columns vs)
 
 module _ (ws : List ℕ) (Z : WellSized (sizesOf ws)) (W : WellShaped (columns ws)) where
-  pub unchanged : Kept ws ws
-  unchanged = record { same-sizes = refl; same-dispatched = refl; well-sized = Z; well-shaped = W }
+  pub words-unchanged : Kept ws ws
+  words-unchanged = record { same-sizes = refl; same-dispatched = refl; well-sized = Z; well-shaped = W }
 
   module _ (k : ℕ) (is-task : k < taskCount ws) (j : ℕ) (is-lane : j < laneCount ws) (s : Side) where
     has-hats : j < mostLanes
@@ -218,7 +218,7 @@ module _ (ws : List ℕ) (Z : WellSized (sizesOf ws)) (W : WellShaped (columns w
 
     applied-kept : {e : Effect} → Fits (nodeCount ws) (growth ws) (laneCount ws) e → Kept ws (applied j s ws k e .words)
     unfolding applied
-    applied-kept turns-back = unchanged
+    applied-kept turns-back = words-unchanged
     applied-kept (goes-on {l} {t} fit F) =
         effect-kept l t fit (record-of-busy (nodeCount ws) (growth ws) (laneCount ws) t F)
     applied-kept (ends {l} {a} fit answers) =
@@ -237,7 +237,7 @@ module _ (ws : List ℕ) (Z : WellSized (sizesOf ws)) (W : WellShaped (columns w
             | some n ↦ record { answer = Refused n; words = ws }
             | none ↦ applied (task ws k .lane) (task ws k .side) ws k (effectOf ws k h)
           ] .words)
-      go (some n) e = unchanged
+      go (some n) e = words-unchanged
       go none e =
           let allowed = tick-allowed ws k h e in
           let F = busy-facts ws W k (allowed .2) in

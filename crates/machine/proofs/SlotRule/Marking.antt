@@ -157,10 +157,10 @@ mark-elim S m x P new old = by (x <? S) (getD (m .marks) x 0 ≟ 0)
 pub room-mark : {S : ℕ} {m : Marking} → Room S m → (x : ℕ) → Room S (mark S m x)
 room-mark {S} {m} r x = mark-elim S m x (Room S) (room-enqueue r x) (λ _. r)
 
-pub mark-grows : {S : ℕ} {m : Marking} → Room S m → (x : ℕ) → Grows m (mark S m x)
+mark-grows : {S : ℕ} {m : Marking} → Room S m → (x : ℕ) → Grows m (mark S m x)
 mark-grows {S} {m} r x = mark-elim S m x (Grows m) (enqueue-grows r x) (λ _. grows-refl m)
 
-pub mark-marks : {S : ℕ} {m : Marking} → Room S m → (x : ℕ) → x < S → HasMark (mark S m x) x
+mark-marks : {S : ℕ} {m : Marking} → Room S m → (x : ℕ) → x < S → HasMark (mark S m x) x
 mark-marks {S} {m} r x l = mark-elim S m x (λ v. HasMark v x) (enqueue-marks r x) (λ f. f l)
 
 -- Of two nodes marked, each has a mark.
@@ -180,7 +180,7 @@ unfolding markAll
 room-markAll r [] = r
 room-markAll r (x ∷ xs) = room-markAll (room-mark r x) xs
 
-pub markAll-grows : {S : ℕ} {m : Marking} → Room S m → (xs : List ℕ) → Grows m (markAll S m xs)
+markAll-grows : {S : ℕ} {m : Marking} → Room S m → (xs : List ℕ) → Grows m (markAll S m xs)
 unfolding markAll
 markAll-grows {m} r [] = grows-refl m
 markAll-grows r (x ∷ xs) = grows-trans (mark-grows r x) (markAll-grows (room-mark r x) xs)

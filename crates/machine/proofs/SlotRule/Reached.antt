@@ -72,7 +72,7 @@ reachable-node W (along s c n) = W .links s _ n
 
 -- ---- The roots are the hats and what the registers of the tasks hold.
 -- A number that is no task holds nothing.
-pub register-task : (ws : List ℕ) (k : ℕ) (r : Register) → register (task ws k) r ≢ noNode → k < taskCount ws
+register-task : (ws : List ℕ) (k : ℕ) (r : Register) → register (task ws k) r ≢ noNode → k < taskCount ws
 unfolding task
 register-task ws k r n = by (k <? taskCount ws) n
   where
@@ -327,11 +327,11 @@ module _ {ws : List ℕ} (W : WellLinked ws) where
 unfoldable pub keeps : List ℕ → ℕ → Bool
 keeps ws x = ltb x (nodeCount ws) && not (eqb (getD (marked ws .marks) x 0) 0)
 
-pub marked-keeps : (ws : List ℕ) (x : ℕ) → x < nodeCount ws → getD (marked ws .marks) x 0 ≢ 0 → keeps ws x ≡ true
+marked-keeps : (ws : List ℕ) (x : ℕ) → x < nodeCount ws → getD (marked ws .marks) x 0 ≢ 0 → keeps ws x ≡ true
 unfolding keeps
 marked-keeps ws x l f = rw (lt-ltb x (nodeCount ws) l, ne-eqb _ 0 f)
 
-pub keeps-marked : (ws : List ℕ) (x : ℕ) → keeps ws x ≡ true
+keeps-marked : (ws : List ℕ) (x : ℕ) → keeps ws x ≡ true
     → (x < nodeCount ws) × (getD (marked ws .marks) x 0 ≢ 0)
 unfolding keeps
 keeps-marked ws x h =

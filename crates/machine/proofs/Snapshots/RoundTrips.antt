@@ -97,7 +97,8 @@ pub record WrittenOver (tested other words : List ℕ) (c : Changed) : Type 0 wh
   pub well-formed : WellFormed tested
   pub is : c ≡ record { reply = Accepted; words = words }
 
-pub taken : (ws out : List ℕ) → takeSnapshot ws out .reply ≡ Accepted → WrittenOver ws out (byColumns ws) (takeSnapshot ws out)
+pub taken : (ws out : List ℕ) → takeSnapshot ws out .reply ≡ Accepted
+    → WrittenOver ws out (byColumns ws) (takeSnapshot ws out)
 unfolding takeSnapshot
 taken ws out accepted =
     let e = no-refusal (snapshotRefusal out ws (tableRefusal ws none)) out (byColumns ws) accepted in
@@ -107,7 +108,8 @@ taken ws out accepted =
       is = ap (λ (r : Option ℕ). changed r out (byColumns ws)) e;
     }
 
-pub put : (ss old : List ℕ) → putBack ss old .reply ≡ Accepted → WrittenOver (byNodes ss) old (byNodes ss) (putBack ss old)
+pub put : (ss old : List ℕ) → putBack ss old .reply ≡ Accepted
+    → WrittenOver (byNodes ss) old (byNodes ss) (putBack ss old)
 unfolding putBack
 put ss old accepted =
     let e = no-refusal (snapshotRefusal ss old (tableRefusal (byNodes ss) none)) old (byNodes ss) accepted in
@@ -121,7 +123,7 @@ put ss old accepted =
     }
 
 -- The other way round: what is well formed and as long is accepted.
-pub take-accepted : (ws out : List ℕ) → WellFormed ws → length out ≡ length ws
+take-accepted : (ws out : List ℕ) → WellFormed ws → length out ≡ length ws
     → takeSnapshot ws out ≡ record { reply = Accepted; words = byColumns ws }
 unfolding takeSnapshot
 take-accepted ws out W long = rw (eq-eqb (length out) (length ws) long, table-passes ws W none)

@@ -10,7 +10,6 @@ use Rattle.machine.specs.Sides.{Side, opposite}
 use Rattle.machine.specs.Values.{never, encode, decode}
 use Rattle.machine.specs.Tasks.{Task, fresh, wordsOf, taskOf}
 use Rattle.machine.specs.Table.{
-  tableLength,
   nodeCount,
   taskCount,
   growth,

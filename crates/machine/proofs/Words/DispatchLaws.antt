@@ -77,7 +77,8 @@ module _ (P : List ℕ → Type 0) (h : ℕ) (keeps : (ws : List ℕ) → P ws �
   unfolding dispatches
   by-last-dispatch Q none-asked last zero ws p = none-asked ws p
   by-last-dispatch Q none-asked last (suc n) ws p =
-      go (dispatchGoesOn (dispatch ws h .answer)) (by-last-dispatch Q none-asked last n (dispatch ws h .words) (keeps ws p))
+      go (dispatchGoesOn (dispatch ws h .answer)) (by-last-dispatch Q none-asked last n (dispatch ws h .words)
+      (keeps ws p))
     where
       go : (b : Bool) → Q (dispatches n (dispatch ws h .words) h)
           → Q

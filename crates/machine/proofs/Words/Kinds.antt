@@ -1,5 +1,5 @@
--- Each call is of its kind: what it leaves, and what it did, are what comes of a call that asks for the same. So what
--- starts, begins, ticks and dispatches keep, every call keeps.
+-- Each call is of its kind: what it leaves, and what it did, are what call-comes of a call that asks for the same. So
+-- what starts, begins, ticks and dispatches keep, every call keeps.
 use mathlib.Core.Path.{_≡_, refl, sym, ap, _∙_, subst}
 use mathlib.Core.Bool.{Bool, true, false}
 use mathlib.Core.List.{List, [], _∷_}
@@ -90,7 +90,7 @@ use Rattle.machine.proofs.Basics.Contradiction.{clash}
 use Rattle.machine.proofs.Words.RunLaws.{first-goes-on, first-is-last}
 use Rattle.machine.proofs.Words.DispatchLaws.{one-dispatch, kept-in-dispatches}
 
--- What comes of a call on the table ws, by what it asks for: the table that it leaves, and what it did. A look, a
+-- What call-comes of a call on the table ws, by what it asks for: the table that it leaves, and what it did. A look, a
 -- refused start and a refused begin leave it alone, and so does a begin over a lent record.
 pub data Comes (ws : List ℕ) : Asked → (vs : List ℕ) → Did → Type 0 where
   left-alone : (a : Asked) → dispatchesIn a ≡ none → Comes ws a ws (ticked [])
@@ -167,7 +167,8 @@ ticks-end (suc n) ws k h = go (isGoing (tick ws k h .answer)) refl (ticks-end n 
         (one .0, one .1 ∙ ap (λ (r : Ticked). r .words) (sym (first-is-last n ws k h e)))
 
 -- The tables inside a run end where it ends.
-pub run-ends : (list ws answers : List ℕ) → afterTicks (runOn list ws answers .ran .made) list ws ≡ runOn list ws answers .words
+pub run-ends : (list ws answers : List ℕ) → afterTicks (runOn list ws answers .ran .made) list ws
+    ≡ runOn list ws answers .words
 unfolding runOn afterTicks
 run-ends [] ws answers = refl
 run-ends (k ∷ []) ws answers = refl
@@ -252,20 +253,22 @@ by-list-comes : (s : Sent) (ws : List ℕ) (k l : ℕ) (argument : Stored)
 by-list-comes (To end) ws k l argument = begin-comes ws k l (operationNumber push) (sideNumber (sideAt end)) argument
 by-list-comes (NotSent n line) ws k l argument = left-alone a-look refl
 
-pub comes : (c : Call) (ws : List ℕ) → Comes ws (asked c) (after c ws) (did c (given c ws))
+pub call-comes : (c : Call) (ws : List ℕ) → Comes ws (asked c) (after c ws) (did c (given c ws))
 unfolding run panel pushByList
-comes (start-call S T g L) ws = start-comes ws S T g L
-comes (begin-call k l op side argument) ws = begin-comes ws k l op side argument
-comes (tick-call k h) ws = ticks-come (k ∷ h ∷ []) ws _ (tick-ends ws k h [])
-comes (ticks-call k h n) ws = ticks-come (times n (k ∷ h ∷ [])) ws _ (ticks-end n ws k h)
-comes (dispatch-call h) ws = dispatch-comes ws h _
-comes (dispatches-call h n) ws = are-dispatched h n _
-comes (run-call list answers) ws = ticks-come list ws _ (tested-ends (runRefusal ws list answers) ws list answers)
-comes (panel-call list answers) ws = ticks-come list ws _ (tested-ends (panelRefusal ws list answers) ws list answers)
-comes (read-call l out) ws = left-alone a-look refl
-comes (sheet-call l page out) ws = left-alone a-look refl
-comes (push-by-list-call list k l argument) ws = by-list-comes (sent (verdict list) (number argument)) ws k l argument
-comes (lent-begin-call lent whole k l op side argument) ws = lent-comes ws lent whole k l op side argument
+call-comes (start-call S T g L) ws = start-comes ws S T g L
+call-comes (begin-call k l op side argument) ws = begin-comes ws k l op side argument
+call-comes (tick-call k h) ws = ticks-come (k ∷ h ∷ []) ws _ (tick-ends ws k h [])
+call-comes (ticks-call k h n) ws = ticks-come (times n (k ∷ h ∷ [])) ws _ (ticks-end n ws k h)
+call-comes (dispatch-call h) ws = dispatch-comes ws h _
+call-comes (dispatches-call h n) ws = are-dispatched h n _
+call-comes (run-call list answers) ws = ticks-come list ws _ (tested-ends (runRefusal ws list answers) ws list answers)
+call-comes (panel-call list answers) ws =
+    ticks-come list ws _ (tested-ends (panelRefusal ws list answers) ws list answers)
+call-comes (read-call l out) ws = left-alone a-look refl
+call-comes (sheet-call l page out) ws = left-alone a-look refl
+call-comes (push-by-list-call list k l argument) ws =
+    by-list-comes (sent (verdict list) (number argument)) ws k l argument
+call-comes (lent-begin-call lent whole k l op side argument) ws = lent-comes ws lent whole k l op side argument
 
 -- ---- What calls keep.
 
@@ -288,7 +291,7 @@ module _ (P : List ℕ → Type 0) where
       kept-in-list by-tick i list (tickOn ws k h .words) (by-tick ws p k h)
 
   pub kept-by-calls : KeptByMoves P → (c : Call) (ws : List ℕ) → P ws → P (after c ws)
-  kept-by-calls K c ws p = go (comes c ws)
+  kept-by-calls K c ws p = go (call-comes c ws)
     where
       go : {a : Asked} {vs : List ℕ} {d : Did} → Comes ws a vs d → P vs
       go (left-alone a e) = p

@@ -182,7 +182,8 @@ module _
     (sized : Sized (sizesOf ws))
     (long : length r ≡ recordLength) where
   pub own-words : recordWords (lentTo ws k r) k ≡ r
-  own-words = ap (λ (l : List ℕ). recordWords l k) (in-place ws k r is-task) ∙ own-record-after ws sized k r long is-task
+  own-words = ap (λ (l : List ℕ). recordWords l k) (in-place ws k r is-task)
+      ∙ own-record-after ws sized k r long is-task
 
   pub far-words : (j : ℕ) → j ≢ k → recordWords (lentTo ws k r) j ≡ recordWords ws j
   far-words j n =

@@ -93,7 +93,7 @@ number-of-side n h = go (n ≟ 0)
     go (no d) = omega arith
 
 -- ---- From a record to its words and back.
-pub task-equal :
+task-equal :
     {t u : Task}
     → t .operation ≡ u .operation
     → t .step ≡ u .step

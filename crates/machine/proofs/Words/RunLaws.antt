@@ -82,9 +82,6 @@ module _ (P : List ℕ → Type 0) (k h : ℕ) (keeps : (ws : List ℕ) → P ws
       go true others = others
       go false others = last ws p
 
-  pub kept-consecutively : (n : ℕ) (ws : List ℕ) → P ws → P (ticks n ws k h .words)
-  kept-consecutively = by-last-tick (λ r. P (r .words)) (λ ws p. p) keeps
-
 -- The number that comes with the last answer is a tag's, or a refusal's.
 pub ticks-number : (n : ℕ) (ws : List ℕ) (k h : ℕ) → payloadOf (ticks n ws k h .answer) ≤ largestTag
 ticks-number n ws k h =

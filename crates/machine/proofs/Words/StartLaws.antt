@@ -1,12 +1,11 @@
 -- The table that start leaves: its columns, and the view and the tasks that it stands for.
 use mathlib.Core.Path.{_≡_, refl, ap, sym, _∙_, fun-ext}
-use mathlib.Core.List.{List, [], _∷_, _++_}
+use mathlib.Core.List.{List, _++_}
 use Prim.Native.Nat.{ℕ, zero, suc, _+_, _*_, _-_, _/_, _%_, _≤_, _<_}
 use lib.ListN.{length, getD, length-append, List·getD-append}
 use lib.Seq.{getD-append-add}
 use native.Mathlib.Omega.{arith}
 use native.Mathlib.Nat.{add-assoc}
-use native.Mathlib.Decide.{ℕ-discrete}
 use Rattle.machine.specs.Choice.{_≟_, _<?_, if_then_else_}
 use Rattle.machine.specs.Sides.{Side, left, right, sideNumber}
 use Rattle.machine.specs.Values.{Value, never, X, encode, storedAt}
@@ -15,7 +14,6 @@ use Rattle.machine.specs.Table.{
   nodeLength,
   nodeAt,
   tableLength,
-  headerLength,
   nodeCount,
   taskCount,
   mostLanes,

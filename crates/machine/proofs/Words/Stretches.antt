@@ -76,7 +76,7 @@ pub sets-wrote : (ws : List ℕ) (p : ℕ) (vs : List ℕ) → Wrote ws (sets ws
 sets-wrote ws p vs = record { long = length-sets ws p vs; other = λ j o. sets-other vs ws p j o }
 
 -- ---- A record's words as a part of the table.
-pub record-word : (ws : List ℕ) (i c : ℕ) → c < recordLength → getD (recordFrom ws i) c 0 ≡ getD ws (i + c) 0
+record-word : (ws : List ℕ) (i c : ℕ) → c < recordLength → getD (recordFrom ws i) c 0 ≡ getD ws (i + c) 0
 record-word ws i c h = getD-take recordLength (drop i ws) c 0 h ∙ getD-drop i ws c 0
 
 pub record-long : (ws : List ℕ) (i : ℕ) → i + recordLength ≤ length ws → length (recordFrom ws i) ≡ recordLength

@@ -37,7 +37,7 @@ use Rattle.machine.specs.Table.{
 }
 use Rattle.machine.specs.Shape.{sizesOf, Sized}
 use Rattle.machine.proofs.Basics.Updates.{is-update, is-updateSide, update, updateSide, updateHat}
-use Rattle.machine.proofs.Basics.Choices.{if-yes, if-no}
+use Rattle.machine.proofs.Basics.Choices.{if-yes}
 use Rattle.machine.proofs.Words.ValueLaws.{stored-alike, stored-written}
 use Rattle.machine.proofs.Words.Columns.{
   columns,

@@ -7,7 +7,6 @@ use Prim.Native.Nat.{ℕ, _+_, _%_, _^_, _≤_, zero-le, _<_}
 use native.Mathlib.Omega.{arith}
 use lib.Dec.{ltb}
 use Rattle.tag.specs.Tags.{largestTag}
-use Rattle.machine.specs.declared.Answer.{Answer}
 use Rattle.machine.specs.declared.Answer.the-variants.{Refused}
 use Rattle.machine.specs.Sides.{Side, right}
 use Rattle.machine.specs.Tasks.{wordsOf}

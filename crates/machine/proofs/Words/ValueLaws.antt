@@ -50,7 +50,8 @@ use Rattle.machine.proofs.Basics.Contradiction.{clash, refute}
 
 -- ---- The words themselves.
 pub same-stored : {u w : Stored} → sameStored u w ≡ true → u ≡ w
-same-stored {u} {w} h = λ i. record { word = eqb-true (u .word) (w .word) first i; digit = eqb-true (u .digit) (w .digit) second i }
+same-stored {u} {w} h =
+    λ i. record { word = eqb-true (u .word) (w .word) first i; digit = eqb-true (u .digit) (w .digit) second i }
   where
     first : eqb (u .word) (w .word) ≡ true
     first = and-left (eqb (u .word) (w .word)) (eqb (u .digit) (w .digit)) h
@@ -60,14 +61,19 @@ same-stored {u} {w} h = λ i. record { word = eqb-true (u .word) (w .word) first
 
 pub stored-same : {u w : Stored} → u ≡ w → sameStored u w ≡ true
 stored-same {u} {w} e =
-    rw (eq-eqb (u .word) (w .word) (ap (λ (v : Stored). v .word) e), eq-eqb (u .digit) (w .digit) (ap (λ (v : Stored). v .digit) e))
+    rw (
+      eq-eqb (u .word) (w .word) (ap (λ (v : Stored). v .word) e),
+      eq-eqb (u .digit) (w .digit)
+          (ap (λ (v : Stored). v .digit) e),
+    )
 
 pub number-stored : (n : ℕ) → number (stored n) ≡ n
 number-stored n = tag-of-words n
 
 -- Words of which the nine digits below are no more are those of their number.
 of-number : (u : Stored) → u .word < billion → stored (number u) ≡ u
-of-number u h = λ i. record { word = low-of-tag (u .digit) (u .word) h i; digit = digit-of-tag (u .digit) (u .word) h i }
+of-number u h =
+    λ i. record { word = low-of-tag (u .digit) (u .word) h i; digit = digit-of-tag (u .digit) (u .word) h i }
 
 -- Read from a place whose words are those at a place of another list, and where they were written.
 pub stored-alike :
@@ -149,7 +155,12 @@ value-range u h =
       | inl x ↦ inl (leb-true w 999_999_999 (and-left a b x), leb-true d 9 (and-right a b x))
       | inr x ↦
           let y = and-left (c && e) f x in
-          inr (leb-true 1000000001 w (and-left c e y), leb-true w 1000000006 (and-right c e y), eqb-true d 0 (and-right (c && e) f x))
+          inr (
+            leb-true 1000000001 w (and-left c e y),
+            leb-true w 1000000006 (and-right c e y),
+            eqb-true d 0
+                (and-right (c && e) f x),
+          )
     ]
 
 value-ok-digits : (u : Stored) → Digits u → valueOk u ≡ true
@@ -164,7 +175,8 @@ digits-bag u h e =
     ])
   where
     zero : number u ≡ 0 → u ≡ encode never
-    zero z = let w : u .word ≡ 0 = omega arith in let d : u .digit ≡ 0 = omega arith in λ i. record { word = w i; digit = d i }
+    zero z = let w : u .word ≡ 0 = omega arith in let d : u .digit
+        ≡ 0 = omega arith in λ i. record { word = w i; digit = d i }
 
 -- ---- How words are decoded.
 data Decoded (u : Stored) : Value → Type 0 where
@@ -187,7 +199,8 @@ decoded u =
     marked m n l e h =
         elim (u .digit ≟ 0) [
           | yes d ↦ as-mark m ((λ i. record { word = h i; digit = d i }) ∙ sym e)
-          | no d ↦ as-other m (λ ok. elim (value-range u ok) [ inl r ↦ absurd (omega (arith, r .0)) | inr r ↦ d (r .2) ])
+          | no d ↦ as-other m (λ ok. elim (value-range u ok)
+              [ inl r ↦ absurd (omega (arith, r .0)) | inr r ↦ d (r .2) ])
         ]
 
     last :
@@ -248,7 +261,8 @@ bag-decoded u h = rw (not-never, h)
         go : (a : Bool) → sameStored u (encode never) ≡ a → a ≡ false
         go false e = refl
         go true e =
-            let z : number u ≡ 0 = ap number (same-stored {u = u} {w = encode never} e) in absurd (omega (arith, r .not-zero))
+            let z : number u ≡ 0 = ap number (same-stored {u = u} {w = encode never} e) in absurd
+            (omega (arith, r .not-zero))
 
 pub bag-has-word : (n : ℕ) → bagOk (stored n) ≡ true → HasWord (bag n)
 bag-has-word n h = bag-decoded (stored n) h ∙ ap bag (number-stored n)
@@ -262,11 +276,12 @@ mark-has-word {s = right} N-mark = refl
 mark-has-word {s = right} X-mark = refl
 mark-has-word {s = right} Y-mark = refl
 
-pub never-value-ok : valueOk (encode never) ≡ true
+never-value-ok : valueOk (encode never) ≡ true
 never-value-ok = refl
 
 pub bag-value-ok : (u : Stored) → bagOk u ≡ true → valueOk u ≡ true
-bag-value-ok u h = let r = tag-range (u .digit) (u .word) h in value-ok-digits u (omega (arith, r .low-small), r .digit-small)
+bag-value-ok u h =
+    let r = tag-range (u .digit) (u .word) h in value-ok-digits u (omega (arith, r .low-small), r .digit-small)
 
 pub mark-value-ok : {s : Side} {v : Value} → IsMark s v → valueOk (encode v) ≡ true
 mark-value-ok {s = left} N-mark = refl

@@ -19,7 +19,16 @@ use Rattle.machine.proofs.Words.Memories.{View, viewed}
 use Rattle.machine.proofs.Linearizability.Model.Guarantee.{SameIn}
 use Rattle.machine.proofs.Linearizability.Lines.Connectives.{ok-if, ok-through}
 use Rattle.machine_capacity.proofs.Alone.Runs.{Leads, Next, going, search-leads}
-use Rattle.machine_capacity.proofs.Alone.Reach.{Reach, at-hat, at-root, outward, root-28, root-31, found-new, found-none}
+use Rattle.machine_capacity.proofs.Alone.Reach.{
+  Reach,
+  at-hat,
+  at-root,
+  outward,
+  root-28,
+  root-31,
+  found-new,
+  found-none,
+}
 use Rattle.machine_capacity.proofs.Alone.Others.{Alive, Stage, HatNow, on-list, on-spur, alive-reached}
 use Rattle.machine_capacity.proofs.Alone.CallEnds.{CallEnd}
 
@@ -314,7 +323,8 @@ module _ (end : CallEnd) where
           (λ some-left.
           let f = allocate us h in
           let unused : Reach (laneCount ws) m noNode (allocate us h) → ⊥ =
-          λ x. found-new k ℓ s P R h low some-left (subst (λ (i : ℕ). Reach i m noNode (allocate us h)) (sym lanes) x) in
+          λ x. found-new k ℓ s P R h low some-left (subst (λ (i : ℕ). Reach i m noNode (allocate us h)) (sym lanes)
+          x) in
           ok-if (Next′ m)
           (λ st. writing (out≔ (allocate us h) noNode ∷ inn≔ (allocate us h) noNode ∷ val≔ (allocate us h) (X s) ∷ [])
           (next (further t0 line28 0 u a b c (allocate us h)) st)) (_ ≟ _)

@@ -18,7 +18,15 @@ use Rattle.machine.proofs.Basics.Updates.{update, update-same, update-other, up
 use Rattle.machine.proofs.Words.Memories.{View, viewed}
 use Rattle.machine.proofs.Linearizability.Model.Sides.{sides}
 use Rattle.machine.proofs.Linearizability.Model.Guarantee.{SameIn}
-use Rattle.machine_capacity.proofs.Alone.Ends.{other-hat, Spares, not-Y, sparePlace, spare-listed, idle-end, last-none}
+use Rattle.machine_capacity.proofs.Alone.Ends.{
+  other-hat,
+  Spares,
+  not-Y,
+  sparePlace,
+  spare-listed,
+  idle-end,
+  last-none,
+}
 use Rattle.machine_capacity.proofs.Alone.Reach.{Reach, at-hat, at-root, outward, inward, from-view, idle-root}
 use Rattle.machine_capacity.proofs.Alone.Runs.{Answered}
 use Rattle.machine_capacity.proofs.Alone.Left.{Left, out-is, val-is, hat-is}
@@ -107,7 +115,8 @@ module _ (end : CallEnd) where
       at-0 = hat-is s vs (A .sees) ℓ s ∙ E .hat-at
 
   -- What is reached in the last view is reached in the table.
-  pub reached-by : {m : View} {vs : List ℕ} → AnsweredAt m vs → {x : ℕ} → Reach (laneCount ws) m noNode x → Reachable vs x
+  pub reached-by : {m : View} {vs : List ℕ} → AnsweredAt m vs → {x : ℕ} → Reach (laneCount ws) m noNode x
+      → Reachable vs x
   reached-by {m} {vs} A {x} c =
       from-view s vs (idle-root (A .begun) (A .idle-now))
       (subst (λ (i : ℕ). Reach i (viewed s vs) noNode x) (sym (A .same-lanes))

@@ -98,9 +98,9 @@ roomThen f bags r y o =
     o .spare + o .spur + (f + (r + y + length bags) - (o .spare + o .spur + length (o .bags))) - 1
 
 module _ (s : Side) (v g f : ℕ) (bags : List ℕ) (r y : ℕ) (some-spare : 1 ≤ r) where
-  pub pushing :
+  pub push-outcome :
       Pushing (r + y + f - 1) (roomThen f bags r y (pushAlone s v g f bags r y)) (pushAlone s v g f bags r y)
-  pushing =
+  push-outcome =
       let longer = length-put s v bags in
       by-if (λ (o : CallOutcome). Pushing (r + y + f - 1) (roomThen f bags r y o) o) (1 <? r)
       (λ more. one-more (r + y + f - 2) (omega arith) (omega arith) refl (omega arith))

@@ -6,7 +6,7 @@ use mathlib.Core.List.{List}
 use Prim.Native.Nat.{ℕ, _<_}
 use Rattle.machine.specs.Choice.{_≟_}
 use Rattle.machine.specs.Sides.{Side, opposite}
-use Rattle.machine.specs.Steps.{Step, rest, line28, line31}
+use Rattle.machine.specs.Steps.{Step, line28, line31}
 use Rattle.machine.specs.Tasks.{Task, noNode, fresh, Register, inA, inB, inC, inD, register}
 use Rattle.machine.specs.Registers.{holds}
 use Rattle.machine.specs.Table.{nodeCount, laneCount, link, task}

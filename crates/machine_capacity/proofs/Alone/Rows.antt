@@ -6,7 +6,6 @@ use mathlib.Core.List.{List, [], _∷_, reverse-append, reverse-reverse}
 use mathlib.Core.Option.{Option, some, none, bind, Option·map}
 use Prim.Native.Nat.{ℕ, zero, suc, _<_}
 use native.Mathlib.Omega.{arith}
-use lib.Dec.{ltb}
 use lib.ListN.{length, length-append}
 use Rattle.machine.specs.Choice.{_≟_, if_then_else_}
 use Rattle.machine.specs.declared.Answer.{Answer}
@@ -14,9 +13,9 @@ use Rattle.machine.specs.declared.Answer.the-variants.{Going, Pushed, Bag, Empt
 use Rattle.machine.specs.declared.Reply.{Reply}
 use Rattle.machine.specs.declared.Reply.the-variants.{Accepted}
 use Rattle.machine.specs.declared.Stored.{Stored}
-use Rattle.machine.specs.Sides.{Side, left, right, sideNumber, sideOf}
-use Rattle.machine.specs.Values.{number, stored}
-use Rattle.machine.specs.Operations.{Operation, operationNumber, operationOf}
+use Rattle.machine.specs.Sides.{Side, left, right, sideNumber}
+use Rattle.machine.specs.Values.{stored}
+use Rattle.machine.specs.Operations.{Operation, operationNumber}
 use Rattle.machine.specs.Table.{laneCount, task}
 use Rattle.machine.specs.Answers.{refusalOf, isGoing, endsCall}
 use Rattle.machine.specs.Calls.{begin, Ticked, tickOn, tick, lane, lanesBelow}
@@ -115,7 +114,7 @@ ends-not-going Yes e = refl
 ends-not-going No e = refl
 ends-not-going (Refused n) e = clash (cc)
 
--- The rows after an answer.
+-- The call-rows after an answer.
 pub record RowsThen (n : Note) (L : ℕ) (r : ℕ → List ℕ) (a : Answer) (vs : List ℕ) : Type 0 where
   pub bags : List ℕ
   pub given : answered n a (r (n .lane)) ≡ some bags
@@ -216,8 +215,8 @@ module _ {ws vs : List ℕ} (B : Begun ws) (idle-now : Idle ws) (T : IdleTable w
   abbrev pub note : Note
   note = record { lane = ℓ; operation = op; side = s; argument = v }
 
-  pub rows : noteUnder op note ≡ some note → RowsThen note (laneCount ws) (λ j. T .shape j .bags) a vs
-  rows busy =
+  pub call-rows : noteUnder op note ≡ some note → RowsThen note (laneCount ws) (λ j. T .shape j .bags) a vs
+  call-rows busy =
       let P = begun-at B idle-now k ℓ op s v accepted in
       let same = begun-table B idle-now k ℓ op s v accepted .same-lanes in
       subst (λ (L : ℕ). RowsThen note L (λ j. T .shape j .bags) a vs) same
@@ -237,6 +236,6 @@ module _ {ws vs : List ℕ} (B : Begun ws) (idle-now : Idle ws) (T : IdleTable w
       → answered note (o .answer) (T .shape ℓ .bags) ≡ some (o .bags)
       → ComesTo o
   comes-to o busy is-a K row-says =
-      let R = rows busy in
+      let R = call-rows busy in
       let given = subst (λ (x : Answer). answered note x (T .shape ℓ .bags) ≡ some (R .bags)) is-a (R .given) in
       (is-a, leaves-idle T ℓ is-lane s o K (R .own ∙ sym given ∙ row-says) (R .others))

@@ -8,7 +8,6 @@ use Rattle.machine.specs.declared.Answer.{Answer}
 use Rattle.machine.specs.Choice.{_≟_}
 use Rattle.machine.specs.Sides.{Side, opposite}
 use Rattle.machine.specs.Values.{Value, N, X, Y, _≟ᵛ_}
-use Rattle.machine.specs.Operations.{Operation, idle, push, pop, add, remove}
 use Rattle.machine.specs.Steps.{line15, line17, line18, line24, line25, line67, line68, line69, line70, line72}
 use Rattle.machine.specs.Tasks.{Task, noNode, further}
 use Rattle.machine.specs.Table.{nodeCount, laneCount, hat, link, value}
@@ -36,15 +35,6 @@ use Rattle.machine_capacity.proofs.Alone.Others.{
 }
 use Rattle.machine_capacity.proofs.Alone.Build.{Chain}
 use Rattle.machine_capacity.proofs.Alone.CallEnds.{CallEnd, spares, spare, inner}
-
--- With a chain, back is 15.
-back-15 : (op : Operation) {x : ℕ} (d : Dec (x ≡ noNode)) → x ≢ noNode → backOf op d ≡ line15
-back-15 push (yes e) ne = absurd (ne e)
-back-15 push (no e) ne = refl
-back-15 idle d ne = refl
-back-15 pop d ne = refl
-back-15 add d ne = refl
-back-15 remove d ne = refl
 
 -- The view with the hat at x.
 abbrev pub moved : (ℓ : ℕ) → Side → View → (x : ℕ) → View
@@ -76,7 +66,8 @@ module _ (k ℓ : ℕ) (s : Side) (S L g : ℕ) (Q : Answer → List ℕ → Typ
     at-72 =
         line-leads k ℓ s _ _ _ _ (λ f.
         ok-through Next′ (λ e. absurd (w-some e)) (λ _.
-        ok-if Next′ (λ l. writing l (next (further t0 line72 n u h q w d) (backOf (t0 .operation) (d ≟ noNode)))) (_ ≟ _)
+        ok-if Next′ (λ l. writing l (next (further t0 line72 n u h q w d) (backOf (t0 .operation) (d ≟ noNode))))
+        (_ ≟ _)
         (λ _. going refl (after h q w)) (λ ne. absurd (ne refl))))
 
     at-70 : (c : ℕ) → Leads′ (further t0 line70 n u h q c d) m

@@ -13,7 +13,16 @@ use Rattle.machine.specs.Begun.{Begun}
 use Rattle.machine.specs.Reach.{Reachable, Free}
 use Rattle.machine.specs.Row.{put, pushAnswered, sizeAnswered}
 use Rattle.machine_capacity.specs.NoLeak.{HatPlace, in-list, beside, Held, listed, under-hat, IdleTable}
-use Rattle.machine_capacity.specs.Alone.{CallOutcome, leaves, least, pushAlone, addAlone, spareOf, spurOf, CallAlone}
+use Rattle.machine_capacity.specs.Alone.{
+  CallOutcome,
+  leaves,
+  least,
+  pushAlone,
+  addAlone,
+  spareOf,
+  spurOf,
+  CallAlone,
+}
 use Rattle.machine.proofs.Basics.Contradiction.{refute, equal?}
 use Rattle.machine.proofs.SlotRule.Reached.{WellLinked}
 use Rattle.machine.proofs.Linearizability.Model.Sides.{sides}

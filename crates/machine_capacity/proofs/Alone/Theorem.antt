@@ -61,11 +61,18 @@ use Rattle.machine_capacity.proofs.Alone.Rows.{
   pop-takes,
   from-end-back,
   is-lane,
-  rows,
+  call-rows,
   ComesTo,
   comes-to,
 }
-use Rattle.machine_capacity.proofs.Alone.Outcomes.{pop-bag, pop-empty, remove-spur, remove-few, remove-one, remove-more}
+use Rattle.machine_capacity.proofs.Alone.Outcomes.{
+  pop-bag,
+  pop-empty,
+  remove-spur,
+  remove-few,
+  remove-one,
+  remove-more,
+}
 use Rattle.machine_capacity.proofs.Alone.Counts.{balance}
 use Rattle.machine_capacity.proofs.Alone.Pop.{PopLeaves, gives-bag, says-empty, pop-leads}
 use Rattle.machine_capacity.proofs.Alone.Cut.{RemoveLeaves, on-spur-yes, few-yes, one-no, cuts-yes}
@@ -97,7 +104,7 @@ pop-alone ws vs B idle-now T C k ℓ s v a accepted alone-to =
     n = record { lane = ℓ; operation = pop; side = s; argument = v }
 
     R : RowsThen n (laneCount ws) (λ j. T .shape j .bags) a vs
-    R = rows B idle-now T k ℓ pop s v a accepted alone-to refl
+    R = call-rows B idle-now T k ℓ pop s v a accepted alone-to refl
 
     given-for : {x : Answer} → a ≡ x → popAnswered n x (T .shape ℓ .bags) ≡ some (R .bags)
     given-for e = subst (λ (x : Answer). popAnswered n x (T .shape ℓ .bags) ≡ some (R .bags)) e (R .given)

@@ -4,7 +4,7 @@ use mathlib.Core.Path.{_≡_, refl, sym, ap, _∙_, subst}
 use mathlib.Core.Logic.{_⊎_, inl, inr}
 use mathlib.Core.List.{List, [], _∷_}
 use mathlib.Core.Option.{Option}
-use Prim.Native.Nat.{ℕ, _+_, _*_, _-_, _≤_, _<_}
+use Prim.Native.Nat.{ℕ, _+_, _-_, _≤_, _<_}
 use native.Mathlib.Omega.{arith}
 use lib.ListN.{length}
 use Rattle.machine.specs.Choice.{_≟_, _<?_, if_then_else_}
@@ -252,7 +252,8 @@ full-leaves : (s : Side) (v g f : ℕ) (bags : List ℕ) (r y : ℕ) → pushAlo
     → pushAlone s v g f bags r y ≡ leaves Full bags r y
 full-leaves s v g f bags r y =
     by-if (λ (o : CallOutcome). o .answer ≡ Full → o ≡ leaves Full bags r y) (1 <? r) (λ _ e. clash (cc)) (λ _.
-    by-if (λ (o : CallOutcome). o .answer ≡ Full → o ≡ leaves Full bags r y) (f + y ≟ 0) (λ _ _. refl) (λ _ e. clash (cc)))
+    by-if (λ (o : CallOutcome). o .answer ≡ Full → o ≡ leaves Full bags r y) (f + y ≟ 0) (λ _ _. refl)
+    (λ _ e. clash (cc)))
 
 module _ {σ : State} (H : EndsHold σ) (c : WholeCall) (full : oneCall σ c .answer ≡ Full) where
   abbrev ownSide : Side

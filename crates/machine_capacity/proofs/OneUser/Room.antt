@@ -37,7 +37,16 @@ use Rattle.machine_capacity.specs.OneUser.{
   allCalls,
   Holds,
 }
-use Rattle.machine_capacity.specs.Room.{room, Pushes, pushAnswers, RoomRule, pushCalls, AllNew, NewTagsFit, StartRoom}
+use Rattle.machine_capacity.specs.Room.{
+  room,
+  Pushes,
+  pushAnswers,
+  RoomRule,
+  pushCalls,
+  AllNew,
+  NewTagsFit,
+  StartRoom,
+}
 use Rattle.machine.proofs.Basics.Contradiction.{clash}
 use Rattle.machine.proofs.Basics.Choices.{by-if}
 use Rattle.machine.proofs.Basics.Tests.{test-passed}
@@ -45,7 +54,7 @@ use Rattle.machine.proofs.Words.RecordLaws.{operation-of-number, side-of-number
 use Rattle.machine.proofs.Words.ValueLaws.{number-stored}
 use Rattle.machine.proofs.Basics.Counts.{count-append}
 use Rattle.machine.proofs.Linearizability.Twice.Lists.{count-other, not-counted, not-among, rows-changed}
-use Rattle.machine_capacity.proofs.Alone.Outcomes.{one-more, no-room, pushing}
+use Rattle.machine_capacity.proofs.Alone.Outcomes.{one-more, no-room, push-outcome}
 use Rattle.machine_capacity.proofs.OneUser.States.{spare-then, spur-then, call-done}
 
 -- ---- The room in the next state.
@@ -64,7 +73,7 @@ by-outcome : (σ : State) (l : ℕ) (s : Side) (v : ℕ) → 1 ≤ σ .lane l .s
     (record { answer = outcome σ l push s v .answer; state = stateThen σ l s (outcome σ l push s v) })
 by-outcome σ l s v h =
     let o = outcome σ l push s v in
-    elim (pushing s v (σ .growth) (σ .free) (σ .lane l .bags) (σ .lane l .spare s) (σ .lane l .spur s) h) [
+    elim (push-outcome s v (σ .growth) (σ .free) (σ .lane l .bags) (σ .lane l .spare s) (σ .lane l .spur s) h) [
       | one-more n e e' a kept ↦
           is-pushed n e (room-then σ l s o ∙ e') a (subst (λ (i : ℕ). 1 ≤ i) (sym (spare-then σ l s o)) kept)
       | no-room e e' a kept ↦
@@ -117,7 +126,8 @@ push-count : (s : Side) (w v g f : ℕ) (bags : List ℕ) (r y : ℕ) → w ≢ 
     → count w (pushAlone s v g f bags r y .bags) ≡ count w bags
 push-count s w v g f bags r y ne =
     by-if (λ (o : CallOutcome). count w (o .bags) ≡ count w bags) (1 <? r) (λ _. put-count s w v bags ne) (λ _.
-    by-if (λ (o : CallOutcome). count w (o .bags) ≡ count w bags) (f + y ≟ 0) (λ _. refl) (λ _. put-count s w v bags ne))
+    by-if (λ (o : CallOutcome). count w (o .bags) ≡ count w bags) (f + y ≟ 0) (λ _. refl)
+    (λ _. put-count s w v bags ne))
 
 -- A bag that was in no lane is in none, if it is another than the one pushed.
 still-new : (σ : State) (l : ℕ) (s : Side) (v w : ℕ) → l < σ .lanes → w ≢ v → isAmong w (bagsOf σ) ≡ false

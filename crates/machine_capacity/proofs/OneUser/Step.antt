@@ -80,7 +80,8 @@ module _ {S : ℕ} {ws : List ℕ} {σ : State} (P : Standing S ws σ) where
       ∙ ap (λ (n : ℕ). alone op s v (σ .growth) (σ .free) (σ .lane l .bags) (σ .lane l .spare s) n) (P .spur-is l h s)
 
   -- ---- The table that it leaves.
-  module _ {vs : List ℕ} (l : ℕ) (h : l < laneCount ws) (s : Side) (o : CallOutcome) (K : LeavesIdle ws vs (P .table) l s o)
+  module _ {vs : List ℕ} (l : ℕ) (h : l < laneCount ws) (s : Side) (o : CallOutcome)
+      (K : LeavesIdle ws vs (P .table) l s o)
       (same-tasks : taskCount vs ≡ taskCount ws) where
     abbrev T' : IdleTable vs
     T' = no-leak vs (K .begun) (K .idle-now) .0

@@ -215,7 +215,7 @@ row-ticks (suc n) ws k h =
     elim (isGoing (tick ws k h .answer)) as (λ _. Ticked) [ true ↦ r | false ↦ tick ws k h ])
     (row-ticks n (tick ws k h .words) k h)
 
-pub by-consecutive-ticks : ByConsecutiveTicks
+by-consecutive-ticks : ByConsecutiveTicks
 by-consecutive-ticks ws c n h =
     let b = begin ws (c .task) (c .lane) (c .operation) (c .side) (c .argument) in
     go (b .reply) (b .words)

@@ -73,7 +73,8 @@ module _ (ws : List ℕ) where
       ]
 
   -- Of one task in a call there is no other.
-  pub only-one : (n j k : ℕ) → busyBelow ws n ≡ 1 → j < n → k < n → isBusyTask ws j ≡ true → isBusyTask ws k ≡ true → j ≡ k
+  pub only-one : (n j k : ℕ) → busyBelow ws n ≡ 1 → j < n → k < n → isBusyTask ws j ≡ true → isBusyTask ws k ≡ true → j
+      ≡ k
   only-one zero j k one lj lk bj bk = absurd (omega arith)
   only-one (suc n) j k one lj lk bj bk =
       by-last n
@@ -100,7 +101,8 @@ module _ (ws : List ℕ) where
       (λ b q. let z = find-one n (omega arith) in (z .0, omega (arith, z .1), z .2))
 
   -- What each idle task has, i of them.
-  pub idle-sum : (n c : ℕ) (f : ℕ → ℕ) → ((j : ℕ) → isBusyTask ws j ≡ false → c ≤ f j) → (i : ℕ) → busyBelow ws n + i ≡ n
+  pub idle-sum : (n c : ℕ) (f : ℕ → ℕ) → ((j : ℕ) → isBusyTask ws j ≡ false → c ≤ f j) → (i : ℕ) → busyBelow ws n + i
+      ≡ n
       → i * c ≤ sum n f
   unfolding sum busyBelow
   idle-sum zero c f has zero e = omega arith

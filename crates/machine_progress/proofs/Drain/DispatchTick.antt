@@ -48,7 +48,13 @@ use Rattle.machine.proofs.Linearizability.Begun.TableAfter.{
 }
 use Rattle.machine_progress.proofs.SoloBound.Led.{Led}
 use Rattle.machine_progress.proofs.SoloBound.AtFirst.{most}
-use Rattle.machine_progress.proofs.LockFree.Potential.{Potential, Falls, ticks-fall, disturbances-fall, potential-falls}
+use Rattle.machine_progress.proofs.LockFree.Potential.{
+  Potential,
+  Falls,
+  ticks-fall,
+  disturbances-fall,
+  potential-falls,
+}
 use Rattle.machine_progress.proofs.LockFree.DispatchKeeps.{
   dispatched-nodes,
   dispatched-tasks,
@@ -123,7 +129,8 @@ module _ {ws : List ℕ} (X : Led ws) (h : ℕ) (low : h < nodeCount ws) where
       chosen none e = rw (e, dispatchOn) (is-idle refl (none-busy e))
       chosen (some k) e =
           rw (e, dispatchOn)
-          (ticked k e (busy-passes ws k h (chosen-busy ws (A .accepted) h e) low) (refusalOf (tickOn ws k h .answer)) refl)
+          (ticked k e (busy-passes ws k h (chosen-busy ws (A .accepted) h e) low) (refusalOf (tickOn ws k h .answer))
+          refl)
 
 -- ---- The table after the tick of a dispatch.
 module _ {ws : List ℕ} (X : Led ws) (k h : ℕ) (p : tickRefusal ws k h ≡ none) where
@@ -172,15 +179,15 @@ module _ {ws : List ℕ} (X : Led ws) (k h : ℕ) (p : tickRefusal ws k h ≡ no
           | inr ne ↦ others-then j ne
         ])
 
-    -- The potential afterwards allows fewer ticks, where c tasks are in a call and i are not.
+    -- The potential afterwards allows dispatch-fewer ticks, where c tasks are in a call and i are not.
     pub record Fewer (c i D P : ℕ) : Type 0 where
       pub D' : ℕ
       pub P' : ℕ
       pub potential : Potential vs D' P'
       pub less : suc (allowsOf (nodeCount ws) (taskCount ws) c i D' P') ≤ allowsOf (nodeCount ws) (taskCount ws) c i D P
 
-    pub fewer : {c i D P : ℕ} → busyTasks ws ≡ c → c + i ≡ taskCount ws → Potential ws D P → Fewer c i D P
-    fewer {c} {i} {D} {P} many count Φ = go (potential-falls X k h p Φ goes)
+    pub dispatch-fewer : {c i D P : ℕ} → busyTasks ws ≡ c → c + i ≡ taskCount ws → Potential ws D P → Fewer c i D P
+    dispatch-fewer {c} {i} {D} {P} many count Φ = go (potential-falls X k h p Φ goes)
       where
         keep : {D' P' : ℕ} → Potential us D' P' → Potential vs D' P'
         keep Ψ = dispatched-keeps us (ticked-sized agrees k h) k Ψ

@@ -41,7 +41,22 @@ use Rattle.machine_progress.proofs.LockFree.Theorem.{walk-calm}
 use Rattle.machine_progress.proofs.SoloBound.SoloTick.{LeftIn, left-in-first}
 use Rattle.machine_progress.proofs.SoloBound.Theorem.{walk-alone}
 use Rattle.machine_progress.proofs.Drain.BusyTasks.{busy-most, none-below, some-below, only-one, find-one}
-use Rattle.machine_progress.proofs.Drain.DispatchTick.{allowsOf, times-add, Does, is-idle, is-tick, dispatch-does, nodes-then, tasks-then, lanes-then, own-then, as-many, fewer, left-then, one-less}
+use Rattle.machine_progress.proofs.Drain.DispatchTick.{
+  allowsOf,
+  times-add,
+  Does,
+  is-idle,
+  is-tick,
+  dispatch-does,
+  nodes-then,
+  tasks-then,
+  lanes-then,
+  own-then,
+  as-many,
+  dispatch-fewer,
+  left-then,
+  one-less,
+}
 
 -- ---- The dispatches.
 
@@ -113,7 +128,8 @@ module _ {ws : List ℕ} (X : Led ws) (h : ℕ) (hints : List ℕ) (low : h < no
     drained-then : (n : ℕ) → busyTasks then ≡ n → Ready then (length hints) n → Drained n hints (dispatch ws h .words)
     drained-then n many ready =
         subst (Drained n hints) (sym leaves)
-        (subst (Others hints) leaves others n (subst (λ (i : ℕ). HintsBelow i hints) (sym (nodes-then X k h p)) lows) many
+        (subst (Others hints) leaves others n (subst (λ (i : ℕ). HintsBelow i hints) (sym (nodes-then X k h p)) lows)
+        many
         ready)
 
     answer-is : dispatch ws h .answer ≡ Answered (effectOf ws k h .answer)
@@ -152,7 +168,7 @@ module _ {ws : List ℕ} (X : Led ws) (h : ℕ) (hints : List ℕ) (low : h < no
             let one = l .0 in
             one-alone k (m - 1) (own-then X k h p goes) (l .1) (omega arith)
         still n many (several c i D P count Φ enough) =
-            let F = fewer X k h p goes {c = suc (suc c)} {i = i} many count Φ in
+            let F = dispatch-fewer X k h p goes {c = suc (suc c)} {i = i} many count Φ in
             let less = F .less in
             let same = allows-same (suc (suc c)) i (F .D') (F .P') in
             let same-drain = drain-same (suc c) in
@@ -184,7 +200,8 @@ module _ {ws : List ℕ} (X : Led ws) (h : ℕ) (hints : List ℕ) (low : h < no
     where
       go : Does X h low (dispatch ws h) → Drained n (h ∷ hints) ws
       go (is-idle says idle) =
-          subst (λ (i : ℕ). Drained i (h ∷ hints) ws) (sym (none-below ws (taskCount ws) idle) ∙ many) (idle-now says idle)
+          subst (λ (i : ℕ). Drained i (h ∷ hints) ws) (sym (none-below ws (taskCount ws) idle) ∙ many)
+          (idle-now says idle)
       go (is-tick k e p says leaves) =
           by-answer (effectOf ws k h .answer) (effect-made (X .agrees) k h p) (Drained n (h ∷ hints) ws)
           (λ ends. by-end k p says leaves ends (λ e. refute (cc)) n many ready)
@@ -233,7 +250,8 @@ busy-few S T L b h =
 solo-few : (S T L : ℕ) → 1 ≤ T → 4 * S + 155 ≤ tooManyTicks S T L
 solo-few S T L h =
     let y = times-more 1 T (6 * S + 153) (6 * S + 153) h (omega arith) in
-    let x = times-more 1 (T * (T + 1) + 2 * L + 1) (T * (6 * S + 153) + 1) (T * (6 * S + 153) + 1) (omega arith) (omega arith) in
+    let x = times-more 1 (T * (T + 1) + 2 * L + 1) (T * (6 * S + 153) + 1) (T * (6 * S + 153) + 1) (omega arith)
+    (omega arith) in
     omega arith
 
 drain-few : (S T L b : ℕ) → 1 ≤ T → b ≤ T → drainTicks S T L b < T * tooManyTicks S T L

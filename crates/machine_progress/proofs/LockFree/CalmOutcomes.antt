@@ -30,7 +30,13 @@ use Rattle.machine_progress.proofs.SoloBound.Spending.{no-node-answers}
 use Rattle.machine_progress.proofs.LockFree.Change.{kept, marked, Calm, past}
 use Rattle.machine_progress.proofs.LockFree.Calmness.{calm-untouched}
 use Rattle.machine_progress.proofs.LockFree.Disturbances.{Room, Disturbs}
-use Rattle.machine_progress.proofs.LockFree.TickProgress.{TickProgress, is-calm, goes, ended, passing}
+use Rattle.machine_progress.proofs.LockFree.TickProgress.{
+  TickProgress,
+  is-calm,
+  tick-continues,
+  tick-ended,
+  tick-passing,
+}
 
 module _ (T : ℕ) {held : ℕ → Bool} (k : ℕ) {L : ℕ} {s o : Side} {m : View} {class : ℕ → Class} {r : ℕ → List ℕ}
     (D : Lanes L s o m class r) (H : ClosedSet L held m) (t : Task) (own : t .lane < L) (g f n : ℕ) where
@@ -52,7 +58,7 @@ module _ (T : ℕ) {held : ℕ → Bool} (k : ℕ) {L : ℕ} {s o : Side} {m : V
   pub line24-outcome : LineOk Steps.line24
   unfolding act
   line24-outcome h b =
-      passing t (λ _. passing t (λ _.
+      tick-passing t (λ _. tick-passing t (λ _.
       untouched (inn≔ (t .D) (t .A) ∷ []) (goto (withB t (m .out (t .A))) Steps.line25) refl
       (λ x _ x-old. record { same-out = refl; same-inn = not-D x x-old; same-val = refl })
       (at-end b)))
@@ -75,7 +81,7 @@ module _ (T : ℕ) {held : ℕ → Bool} (k : ℕ) {L : ℕ} {s o : Side} {m : V
   pub line28-outcome : (f ≢ noNode → TakeOk L held m class f) → LineOk Steps.line28
   unfolding act
   line28-outcome free-f h b =
-      ok-if Ok (λ e. e) (_ ≟ _) (λ _. ended (no-node-answers (t .operation))) (λ some.
+      ok-if Ok (λ e. e) (_ ≟ _) (λ _. tick-ended (no-node-answers (t .operation))) (λ some.
       ok-if Ok (λ st. writing taken (next (withCounted (withD t f) 0) st)) (_ ≟ _)
       (λ _. untouched taken (goto (withCounted (withD t f) 0) Steps.line15) refl (same some) b)
       (λ _. untouched taken (goto (withCounted (withD t f) 0) Steps.line31) refl (same some) b))
@@ -96,8 +102,8 @@ module _ (T : ℕ) {held : ℕ → Bool} (k : ℕ) {L : ℕ} {s o : Side} {m : V
   pub line31-outcome : (f ≢ noNode → TakeOk L held m class f) → LineOk Steps.line31
   unfolding act
   line31-outcome free-f h b =
-      passing t (λ _.
-      ok-if Ok (λ e. e) (_ ≟ _) (λ _. goes (goto t Steps.line15) b) (λ some.
+      tick-passing t (λ _.
+      ok-if Ok (λ e. e) (_ ≟ _) (λ _. tick-continues (goto t Steps.line15) b) (λ some.
       ok-if Ok (λ st. writing taken (next one-more st)) (_ ≟ _)
       (λ _. untouched taken (goto one-more Steps.line15) refl (same some) b)
       (λ _. untouched taken (goto one-more Steps.line31) refl (same some) b)))
@@ -124,10 +130,10 @@ module _ (T : ℕ) {held : ℕ → Bool} (k : ℕ) {L : ℕ} {s o : Side} {m : V
   pub line78-outcome : LineOk Steps.line78
   unfolding act
   line78-outcome h b =
-      passing t (λ _.
+      tick-passing t (λ _.
       ok-if Ok (λ e. e) (_ ≟ᵛ _)
       (λ _. is-calm calm tt)
-      (λ _. goes (goto t Steps.line77) tt))
+      (λ _. tick-continues (goto t Steps.line77) tt))
     where
       calm : Calm held class m (written (t .lane) s (val≔ (t .B) (Y s) ∷ []) m)
       calm =
@@ -151,7 +157,7 @@ module _ (T : ℕ) {held : ℕ → Bool} (k : ℕ) {L : ℕ} {s o : Side} {m : V
   pub line79-outcome : LineOk Steps.line79
   unfolding act
   line79-outcome h b =
-      passing t (λ _. is-calm calm tt)
+      tick-passing t (λ _. is-calm calm tt)
     where
       calm : Calm held class m (written (t .lane) s (out≔ (t .A) noNode ∷ []) m)
       calm =

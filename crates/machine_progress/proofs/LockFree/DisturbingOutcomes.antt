@@ -27,7 +27,7 @@ use Rattle.machine.proofs.Basics.Updates.{
 use Rattle.machine.proofs.Words.Memories.{View, seenIn, written}
 use Rattle.machine.proofs.Linearizability.Model.Sides.{updateHat-far}
 use Rattle.machine.proofs.Linearizability.Model.Classes.{Class, main, in-main, in-near, in-far, old-class}
-use Rattle.machine.proofs.Linearizability.Model.Structure.{linked, cut-off, Frame, Structure}
+use Rattle.machine.proofs.Linearizability.Model.Structure.{linked, cut-off, Structure}
 use Rattle.machine.proofs.Linearizability.Model.Reversal.{reversed}
 use Rattle.machine.proofs.Linearizability.Model.Nodes.{N-from-b, N-before-n, own-mark-not-far}
 use Rattle.machine.proofs.Linearizability.Lines.Connectives.{ok-if, ok-dcas}
@@ -52,7 +52,15 @@ use Rattle.machine_progress.proofs.SoloBound.AtHat.{
 use Rattle.machine_progress.proofs.SoloBound.Budget.{SoonOrLate, soon, late, in-any-case}
 use Rattle.machine_progress.proofs.LockFree.Change.{past, Steady, BothSteady, BothNoCut}
 use Rattle.machine_progress.proofs.LockFree.Disturbances.{Room, Moving, Disturbs}
-use Rattle.machine_progress.proofs.LockFree.TickProgress.{TickProgress, cuts, disturbs, moves, goes, ended, passing}
+use Rattle.machine_progress.proofs.LockFree.TickProgress.{
+  TickProgress,
+  cuts,
+  disturbs,
+  moves,
+  tick-continues,
+  tick-ended,
+  tick-passing,
+}
 use Rattle.machine_progress.proofs.LockFree.QuietOutcomes.{back-disturbs, chain-op}
 
 module _ (T : ℕ) (held : ℕ → Bool) (k : ℕ) {L : ℕ} {s o : Side} {m : View} {class : ℕ → Class} {r : ℕ → List ℕ}
@@ -178,18 +186,18 @@ module _ (T : ℕ) (held : ℕ → Bool) (k : ℕ) {L : ℕ} {s o : Side} {m : V
     splices (soon p l) push =
         disturbs {i = n - 1} splice-steady splice-no-cut (omega arith) (soon (room-after p) (omega arith))
     splices (late l) push = disturbs {i = n - 1} splice-steady splice-no-cut (omega arith) (late (omega arith))
-    splices b idle = ended (λ q. refute (cc))
-    splices b pop = ended (λ q. refute (cc))
-    splices b add = ended (λ q. refute (cc))
-    splices b remove = ended (λ q. refute (cc))
+    splices b idle = tick-ended (λ q. refute (cc))
+    splices b pop = tick-ended (λ q. refute (cc))
+    splices b add = tick-ended (λ q. refute (cc))
+    splices b remove = tick-ended (λ q. refute (cc))
 
   pub line25-outcome : LineOk Steps.line25
   unfolding act
   line25-outcome h b =
-      passing t (λ _.
+      tick-passing t (λ _.
       ok-dcas Ok _ _
       (λ u v. splices (cc) b (t .operation))
-      (goes (goto t Steps.line15) (in-any-case (omega arith) b)))
+      (tick-continues (goto t Steps.line15) (in-any-case (omega arith) b)))
 
   -- ---- Line 62.
   module _ (h : TaskOk k s o m class Steps.line62 t) (A-N : m .val (t .A) ≡ N s) (B-N : m .val (t .B) ≡ N s) where
@@ -284,10 +292,10 @@ module _ (T : ℕ) (held : ℕ → Bool) (k : ℕ) {L : ℕ} {s o : Side} {m : V
   pub line62-outcome : LineOk Steps.line62
   unfolding act
   line62-outcome h b =
-      passing t (λ _. passing t (λ _.
+      tick-passing t (λ _. tick-passing t (λ _.
       ok-dcas Ok _ _
       (λ A-N B-N. cuts (cut-steady h (cc) (cc)) b (omega arith))
-      (ended (λ q. refute (cc)))))
+      (tick-ended (λ q. refute (cc)))))
 
   -- ---- Line 64.
   module _ (h : TaskOk k s o m class Steps.line64 t) (leads : m .out (t .A) ≡ t .B) where
@@ -335,10 +343,10 @@ module _ (T : ℕ) (held : ℕ → Bool) (k : ℕ) {L : ℕ} {s o : Side} {m : V
   pub line64-outcome : LineOk Steps.line64
   unfolding act
   line64-outcome h b =
-      passing t (λ _.
+      tick-passing t (λ _.
       ok-if Ok (λ l. writing l (next t Steps.line74)) (_ ≟ _)
       (λ e. disturbs {i = n - 1} (unlink-steady h (cc)) (unlink-no-cut h (cc)) (omega arith) tt)
-      (λ _. goes (goto t Steps.line74) tt))
+      (λ _. tick-continues (goto t Steps.line74) tt))
 
   -- ---- Line 72.
   module _ (h : TaskOk k s o m class Steps.line72 t) (at-A : m .hats (t .lane) s ≡ t .A) where
@@ -435,9 +443,9 @@ module _ (T : ℕ) (held : ℕ → Bool) (k : ℕ) {L : ℕ} {s o : Side} {m : V
   pub line72-outcome : LineOk Steps.line72
   unfolding act
   line72-outcome h w =
-      passing t (λ _.
+      tick-passing t (λ _.
       ok-if Ok (λ l. writing l (next t (back t))) (_ ≟ _)
       (λ e. by-move h (cc) w (w .may-move))
-      (λ _. goes (goto t (back t))
+      (λ _. tick-continues (goto t (back t))
       (back-disturbs T s m (goto t (back t)) (t .operation) (t .D ≟ noNode) (chain-op T held k D t own g f n (h .chain))
       (more (in-any-case (omega arith) (w .may-move)) (w .may-splice)))))

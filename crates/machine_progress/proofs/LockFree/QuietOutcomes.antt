@@ -24,7 +24,7 @@ use Rattle.machine_progress.proofs.SoloBound.AtHat.{hat-N, hat-X, hat-Y
 use Rattle.machine_progress.proofs.SoloBound.Budget.{SoonOrLate, soon, late, in-any-case}
 use Rattle.machine_progress.proofs.LockFree.Change.{past}
 use Rattle.machine_progress.proofs.LockFree.Disturbances.{Room, Disturbs}
-use Rattle.machine_progress.proofs.LockFree.TickProgress.{TickProgress, goes, ended, passing}
+use Rattle.machine_progress.proofs.LockFree.TickProgress.{TickProgress, tick-continues, tick-ended, tick-passing}
 
 -- Back, to 2 without a chain and to 15 with one.
 pub back-disturbs : (T : ℕ) (s : Side) (m : View) (t : Task) {n : ℕ} (op : Operation) {x : ℕ} (d : Dec (x ≡ noNode))
@@ -67,71 +67,72 @@ module _ (T : ℕ) (held : ℕ → Bool) (k : ℕ) {L : ℕ} {s o : Side} {m : V
   -- ---- Push.
   pub line2-outcome : LineOk Steps.line2
   unfolding act
-  line2-outcome h (soon v l) = goes (goto (withA t (m .hats (t .lane) s)) Steps.line3) (soon (v, no-X-at-hat v) l)
-  line2-outcome h (late l) = goes (goto (withA t (m .hats (t .lane) s)) Steps.line3) (late l)
+  line2-outcome h (soon v l) = tick-continues (goto (withA t (m .hats (t .lane) s)) Steps.line3)
+      (soon (v, no-X-at-hat v) l)
+  line2-outcome h (late l) = tick-continues (goto (withA t (m .hats (t .lane) s)) Steps.line3) (late l)
 
   pub line3-outcome : LineOk Steps.line3
   unfolding act
   line3-outcome h b =
-      passing t (λ _.
+      tick-passing t (λ _.
       ok-if Ok (λ st. next (withB t (m .out (t .A))) st) (_ ≟ _)
-      (λ _. goes (goto (withB t (m .out (t .A))) Steps.line8) b)
-      (λ _. goes (goto (withB t (m .out (t .A))) Steps.line5) b))
+      (λ _. tick-continues (goto (withB t (m .out (t .A))) Steps.line8) b)
+      (λ _. tick-continues (goto (withB t (m .out (t .A))) Steps.line5) b))
 
   pub line5-outcome : LineOk Steps.line5
   unfolding act
   line5-outcome h b =
-      passing t (λ _. passing t (λ _.
-      ok-dcas Ok _ _ (λ _ _. ended (λ q. refute (cc)))
-      (goes (goto t Steps.line8) b)))
+      tick-passing t (λ _. tick-passing t (λ _.
+      ok-dcas Ok _ _ (λ _ _. tick-ended (λ q. refute (cc)))
+      (tick-continues (goto t Steps.line8) b)))
 
   pub line8-outcome : LineOk Steps.line8
   unfolding act
   line8-outcome h (soon p l) =
-      passing t (λ _.
+      tick-passing t (λ _.
       ok-if Ok (λ st. next t st) (_ ≟ᵛ _)
       (λ v. absurd (p .1 v))
-      (λ _. goes (goto t Steps.line67) (soon (h .chain .no-head, p .0) l)))
+      (λ _. tick-continues (goto t Steps.line67) (soon (h .chain .no-head, p .0) l)))
   line8-outcome h (late l) =
-      passing t (λ _.
+      tick-passing t (λ _.
       ok-if Ok (λ st. next t st) (_ ≟ᵛ _)
-      (λ v. goes (goto t Steps.line28) l)
-      (λ _. goes (goto t Steps.line67) (late l)))
+      (λ v. tick-continues (goto t Steps.line28) l)
+      (λ _. tick-continues (goto t Steps.line67) (late l)))
 
   -- ---- Moving the hat.
   pub line67-outcome : LineOk Steps.line67
   unfolding act
-  line67-outcome h b = goes (goto (withA t (m .hats (t .lane) s)) Steps.line68) b
+  line67-outcome h b = tick-continues (goto (withA t (m .hats (t .lane) s)) Steps.line68) b
 
   pub line68-outcome : LineOk Steps.line68
   unfolding act
   line68-outcome h b =
-      passing t (λ _.
+      tick-passing t (λ _.
       ok-if Ok (λ st. next t st) (_ ≟ᵛ _)
-      (λ _. goes (goto t Steps.line69) b)
-      (λ _. goes (goto t (back t))
+      (λ _. tick-continues (goto t Steps.line69) b)
+      (λ _. tick-continues (goto t (back t))
       (back-disturbs T s m (goto t (back t)) (t .operation) (t .D ≟ noNode) (chain-op (h .chain)) b)))
 
   pub line69-outcome : LineOk Steps.line69
   unfolding act
-  line69-outcome h b = passing t (λ _. goes (goto (withB t (m .inn (t .A))) Steps.line70) b)
+  line69-outcome h b = tick-passing t (λ _. tick-continues (goto (withB t (m .inn (t .A))) Steps.line70) b)
 
   pub line70-outcome : LineOk Steps.line70
   unfolding act
   line70-outcome h b =
       let c = m .out (t .B) in
-      passing t (λ _.
+      tick-passing t (λ _.
       ok-if Ok (λ st. next (withC t c) st) (_ ≟ _)
-      (λ _. goes (goto (withC t c) (back t))
+      (λ _. tick-continues (goto (withC t c) (back t))
       (back-disturbs T s m (goto (withC t c) (back t)) (t .operation) (t .D ≟ noNode) (chain-op (h .chain)) b))
-      (λ _. goes (goto (withC t c) Steps.line72)
+      (λ _. tick-continues (goto (withC t c) Steps.line72)
       (record { splices = n; may-splice = b; may-move = soon (λ e. cc (h .relies .B-inward)) (omega arith) })))
 
   -- ---- Seeking the end of main.
   pub line15-outcome : LineOk Steps.line15
   unfolding act
   line15-outcome h b =
-      goes (goto (withA t (m .hats (t .lane) s)) Steps.line17)
+      tick-continues (goto (withA t (m .hats (t .lane) s)) Steps.line17)
       (elim (hat-value (D .lane (t .lane) own .structure)) [
         | hat-N v ↦ soon (inr (inl (hat-past (λ y. refute (cc))))) b
         | hat-X v ↦ soon (inr (inl (hat-past (λ y. refute (cc))))) b
@@ -158,11 +159,12 @@ module _ (T : ℕ) (held : ℕ → Bool) (k : ℕ) {L : ℕ} {s o : Side} {m : V
   line17-outcome h b =
       let v = m .val (t .A) in
       let F : Step → Effect = λ st. next (withValue t v) st in
-      passing t (λ _.
-      ok-if Ok F (_ ≟ᵛ _) (λ e. goes (goto (withValue t v) Steps.line18) (on-N e b)) (λ _.
-      ok-if Ok F (_ ≟ᵛ _) (λ e. goes (goto (withValue t v) Steps.line67) (late (in-any-case (omega arith) b))) (λ _.
-      ok-if Ok F (_ ≟ᵛ _) (λ e. goes (goto (withValue t v) Steps.line24) (on-X e b)) (λ _.
-      goes (goto (withValue t v) Steps.line15) (in-any-case (omega arith) b)))))
+      tick-passing t (λ _.
+      ok-if Ok F (_ ≟ᵛ _) (λ e. tick-continues (goto (withValue t v) Steps.line18) (on-N e b)) (λ _.
+      ok-if Ok F (_ ≟ᵛ _) (λ e. tick-continues (goto (withValue t v) Steps.line67) (late (in-any-case (omega arith) b)))
+      (λ _.
+      ok-if Ok F (_ ≟ᵛ _) (λ e. tick-continues (goto (withValue t v) Steps.line24) (on-X e b)) (λ _.
+      tick-continues (goto (withValue t v) Steps.line15) (in-any-case (omega arith) b)))))
 
   on-link : SoonOrLate (Room (t .lane) s m) 1 2 n
       → SoonOrLate (Room (t .lane) s m ⊎ (m .out (t .A) ≡ past (t .lane) s m) ⊎ (m .val (m .out (t .A)) ≡ Y s)) 1 2 n
@@ -172,109 +174,109 @@ module _ (T : ℕ) (held : ℕ → Bool) (k : ℕ) {L : ℕ} {s o : Side} {m : V
   pub line18-outcome : LineOk Steps.line18
   unfolding act
   line18-outcome h b =
-      passing t (λ _.
+      tick-passing t (λ _.
       ok-if Ok (λ st. next (withA t (m .out (t .A))) st) (_ ≟ _)
-      (λ _. goes (goto (withA t (m .out (t .A))) Steps.line15) (in-any-case (omega arith) b))
-      (λ _. goes (goto (withA t (m .out (t .A))) Steps.line17) (on-link b)))
+      (λ _. tick-continues (goto (withA t (m .out (t .A))) Steps.line15) (in-any-case (omega arith) b))
+      (λ _. tick-continues (goto (withA t (m .out (t .A))) Steps.line17) (on-link b)))
 
   -- ---- Pop.
   pub line39-outcome : LineOk Steps.line39
   unfolding act
-  line39-outcome h b = goes (goto (withA t (m .hats (t .lane) s)) Steps.line40) tt
+  line39-outcome h b = tick-continues (goto (withA t (m .hats (t .lane) s)) Steps.line40) tt
 
   pub line40-outcome : LineOk Steps.line40
   unfolding act
   line40-outcome h b =
-      passing t (λ _.
+      tick-passing t (λ _.
       ok-if Ok (λ st. next (withB t (m .inn (t .A))) st) (_ ≟ _)
-      (λ _. goes (goto (withB t (m .inn (t .A))) Steps.line39) tt)
-      (λ _. goes (goto (withB t (m .inn (t .A))) Steps.line42) tt))
+      (λ _. tick-continues (goto (withB t (m .inn (t .A))) Steps.line39) tt)
+      (λ _. tick-continues (goto (withB t (m .inn (t .A))) Steps.line42) tt))
 
   by-read : (t' : Task) (v : Value) → Ok (next t' (afterRead o v))
-  by-read t' never = goes (goto t' Steps.line39) tt
-  by-read t' (bag u) = goes (goto t' Steps.line51) tt
+  by-read t' never = tick-continues (goto t' Steps.line39) tt
+  by-read t' (bag u) = tick-continues (goto t' Steps.line51) tt
   by-read t' (N z) =
-      ok-if Ok (λ st. next t' st) (_ ≟ᵛ _) (λ _. goes (goto t' Steps.line48) tt)
-      (λ _. goes (goto t' Steps.line39) tt)
+      ok-if Ok (λ st. next t' st) (_ ≟ᵛ _) (λ _. tick-continues (goto t' Steps.line48) tt)
+      (λ _. tick-continues (goto t' Steps.line39) tt)
   by-read t' (X z) =
-      ok-if Ok (λ st. next t' st) (_ ≟ᵛ _) (λ _. goes (goto t' Steps.line48) tt)
-      (λ _. goes (goto t' Steps.line39) tt)
-  by-read t' (Y z) = goes (goto t' Steps.line39) tt
+      ok-if Ok (λ st. next t' st) (_ ≟ᵛ _) (λ _. tick-continues (goto t' Steps.line48) tt)
+      (λ _. tick-continues (goto t' Steps.line39) tt)
+  by-read t' (Y z) = tick-continues (goto t' Steps.line39) tt
 
   pub line42-outcome : LineOk Steps.line42
   unfolding act
-  line42-outcome h b = passing t (λ _. by-read (withValue t (m .val (t .B))) (m .val (t .B)))
+  line42-outcome h b = tick-passing t (λ _. by-read (withValue t (m .val (t .B))) (m .val (t .B)))
 
   pub line48-outcome : LineOk Steps.line48
   unfolding act
   line48-outcome h b =
-      passing t (λ _.
-      ok-dcas Ok _ _ (λ _ _. ended (λ q. refute (cc)))
-      (goes (goto t Steps.line39) tt))
+      tick-passing t (λ _.
+      ok-dcas Ok _ _ (λ _ _. tick-ended (λ q. refute (cc)))
+      (tick-continues (goto t Steps.line39) tt))
 
   pub line51-outcome : LineOk Steps.line51
   unfolding act
   line51-outcome h b =
-      passing t (λ _.
-      ok-dcas Ok _ _ (λ _ _. ended (λ q. refute (cc)))
-      (goes (goto t Steps.line39) tt))
+      tick-passing t (λ _.
+      ok-dcas Ok _ _ (λ _ _. tick-ended (λ q. refute (cc)))
+      (tick-continues (goto t Steps.line39) tt))
 
   -- ---- Remove.
   pub line54-outcome : LineOk Steps.line54
   unfolding act
   line54-outcome h b =
       ok-if Ok (λ st. next (withA t (m .hats (t .lane) s)) st) (_ ≟ _)
-      (λ _. goes (goto (withA t (m .hats (t .lane) s)) Steps.line60) b)
-      (λ _. goes (goto (withA t (m .hats (t .lane) s)) Steps.line56) b)
+      (λ _. tick-continues (goto (withA t (m .hats (t .lane) s)) Steps.line60) b)
+      (λ _. tick-continues (goto (withA t (m .hats (t .lane) s)) Steps.line56) b)
 
   pub line56-outcome : LineOk Steps.line56
   unfolding act
   line56-outcome h b =
-      passing t (λ _.
-      ok-if Ok (λ e. e) (_ ≟ᵛ _) (λ _. ended (λ q. refute (cc)))
-      (λ _. goes (goto t Steps.line58) b))
+      tick-passing t (λ _.
+      ok-if Ok (λ e. e) (_ ≟ᵛ _) (λ _. tick-ended (λ q. refute (cc)))
+      (λ _. tick-continues (goto t Steps.line58) b))
 
   pub line58-outcome : LineOk Steps.line58
   unfolding act
   line58-outcome h b =
-      passing t (λ _.
-      ok-if Ok (λ e. e) (_ ≟ _) (λ _. ended (λ q. refute (cc)))
+      tick-passing t (λ _.
+      ok-if Ok (λ e. e) (_ ≟ _) (λ _. tick-ended (λ q. refute (cc)))
       (λ _.
       ok-if Ok (λ st. next (withCounted (withA t (m .out (t .A))) (suc (t .counted))) st) (_ ≟ _)
-      (λ _. goes (goto (withCounted (withA t (m .out (t .A))) (suc (t .counted))) Steps.line60) b)
-      (λ _. goes (goto (withCounted (withA t (m .out (t .A))) (suc (t .counted))) Steps.line56) b)))
+      (λ _. tick-continues (goto (withCounted (withA t (m .out (t .A))) (suc (t .counted))) Steps.line60) b)
+      (λ _. tick-continues (goto (withCounted (withA t (m .out (t .A))) (suc (t .counted))) Steps.line56) b)))
 
   pub line60-outcome : LineOk Steps.line60
   unfolding act
   line60-outcome h b =
-      passing t (λ _.
-      ok-if Ok (λ e. e) (_ ≟ _) (λ _. ended (λ q. refute (cc)))
-      (λ _. goes (goto (withB t (m .out (t .A))) Steps.line62) b))
+      tick-passing t (λ _.
+      ok-if Ok (λ e. e) (_ ≟ _) (λ _. tick-ended (λ q. refute (cc)))
+      (λ _. tick-continues (goto (withB t (m .out (t .A))) Steps.line62) b))
 
   pub line74-outcome : LineOk Steps.line74
   unfolding act
   line74-outcome h b =
-      passing t (λ _.
+      tick-passing t (λ _.
       ok-if Ok (λ st. next (withB (withA t (t .B)) (m .out (t .B))) st) (_ ≟ _)
-      (λ _. goes (goto (withB (withA t (t .B)) (m .out (t .B))) Steps.line82) tt)
-      (λ _. goes (goto (withB (withA t (t .B)) (m .out (t .B))) Steps.line77) tt))
+      (λ _. tick-continues (goto (withB (withA t (t .B)) (m .out (t .B))) Steps.line82) tt)
+      (λ _. tick-continues (goto (withB (withA t (t .B)) (m .out (t .B))) Steps.line77) tt))
 
   pub line77-outcome : LineOk Steps.line77
   unfolding act
-  line77-outcome h b = passing t (λ _. goes (goto (withValue t (m .val (t .B))) Steps.line78) tt)
+  line77-outcome h b = tick-passing t (λ _. tick-continues (goto (withValue t (m .val (t .B))) Steps.line78) tt)
 
   pub line81-outcome : LineOk Steps.line81
   unfolding act
   line81-outcome h b =
       let F : Step → Effect = λ st. next (withB t (m .out (t .A))) st in
-      passing t (λ _.
+      tick-passing t (λ _.
       ok-if Ok F (_ ≟ _)
-      (λ _. goes (goto (withB t (m .out (t .A))) Steps.line82) tt)
+      (λ _. tick-continues (goto (withB t (m .out (t .A))) Steps.line82) tt)
       (λ _.
       ok-if Ok F (_ ≟ᵛ _)
-      (λ _. goes (goto (withB t (m .out (t .A))) Steps.line82) tt)
-      (λ _. goes (goto (withB t (m .out (t .A))) Steps.line77) tt)))
+      (λ _. tick-continues (goto (withB t (m .out (t .A))) Steps.line82) tt)
+      (λ _. tick-continues (goto (withB t (m .out (t .A))) Steps.line77) tt)))
 
   pub line82-outcome : LineOk Steps.line82
   unfolding act
-  line82-outcome h b = passing t (λ _. ended (λ q. refute (cc)))
+  line82-outcome h b = tick-passing t (λ _. tick-ended (λ q. refute (cc)))

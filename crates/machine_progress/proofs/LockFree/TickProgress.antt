@@ -43,14 +43,14 @@ pub data TickProgress (T L : ℕ) (held : ℕ → Bool) (class : ℕ → Class) 
 
 module _ {T L : ℕ} {held : ℕ → Bool} {class : ℕ → Class} {ℓ : ℕ} {s o : Side} {m : View} {n : ℕ} where
   -- Nothing is written.
-  pub goes : (t : Task) → Disturbs (t .step) T s m t n
+  pub tick-continues : (t : Task) → Disturbs (t .step) T s m t n
       → TickProgress T L held class ℓ s o m n (record { writes = []; task = t; answer = Going })
-  goes t b = is-calm calm-refl b
+  tick-continues t b = is-calm calm-refl b
 
-  pub ended : {l : List Write} {t : Task} {a : Answer} → a ≢ Going
+  pub tick-ended : {l : List Write} {t : Task} {a : Answer} → a ≢ Going
       → TickProgress T L held class ℓ s o m n (record { writes = l; task = t; answer = a })
-  ended ne = ends ne
+  tick-ended ne = ends ne
 
-  pub passing : (t : Task) {x : ℕ} {e : Effect} → (x ≢ noNode → TickProgress T L held class ℓ s o m n e)
+  pub tick-passing : (t : Task) {x : ℕ} {e : Effect} → (x ≢ noNode → TickProgress T L held class ℓ s o m n e)
       → TickProgress T L held class ℓ s o m n (through x t e)
-  passing t h = ok-through (TickProgress T L held class ℓ s o m n) (λ _. ended (λ e. refute (cc))) h
+  tick-passing t h = ok-through (TickProgress T L held class ℓ s o m n) (λ _. tick-ended (λ e. refute (cc))) h

@@ -56,7 +56,13 @@ use Rattle.machine_progress.proofs.SoloBound.Budget.{
   Left,
   Spends,
 }
-use Rattle.machine_progress.proofs.SoloBound.Spending.{no-node-answers, goes, answered, passing, swapping}
+use Rattle.machine_progress.proofs.SoloBound.Spending.{
+  no-node-answers,
+  spending-goes,
+  spending-answered,
+  spending-passing,
+  spending-swapping,
+}
 
 module _ (extra S g : ℕ) (few : g ≤ 64) {s o : Side} {m : View} {class : ℕ → Class} {r : List ℕ}
     (t : Task) (L : Lane (t .lane) s o m class r) (size : L .frame .n ≤ S) (f n : ℕ) where
@@ -81,18 +87,18 @@ module _ (extra S g : ℕ) (few : g ≤ 64) {s o : Side} {m : View} {class : ℕ
   unfolding act
   line28-spends (soon v h) =
       let off = still-off-Y f (X s) (λ q. refute (cc)) (λ y. refute (cc)) in
-      ok-if Ok (λ e. e) (_ ≟ _) (λ _. answered (no-node-answers (t .operation))) (λ _.
+      ok-if Ok (λ e. e) (_ ≟ _) (λ _. spending-answered (no-node-answers (t .operation))) (λ _.
       ok-if Ok
       (λ st. writing (out≔ f noNode ∷ inn≔ f noNode ∷ val≔ f (X s) ∷ []) (next (withCounted (withD t f) 0) st)) (_ ≟ _)
-      (λ _. goes (goto (withCounted (withD t f) 0) line15) (omega arith) (soon off (omega arith)))
-      (λ some. goes (goto (withCounted (withD t f) 0) line31) (omega arith)
+      (λ _. spending-goes (goto (withCounted (withD t f) 0) line15) (omega arith) (soon off (omega arith)))
+      (λ some. spending-goes (goto (withCounted (withD t f) 0) line31) (omega arith)
       (record { below = omega arith; when = soon off (omega arith) })))
   line28-spends (late h) =
-      ok-if Ok (λ e. e) (_ ≟ _) (λ _. answered (no-node-answers (t .operation))) (λ _.
+      ok-if Ok (λ e. e) (_ ≟ _) (λ _. spending-answered (no-node-answers (t .operation))) (λ _.
       ok-if Ok
       (λ st. writing (out≔ f noNode ∷ inn≔ f noNode ∷ val≔ f (X s) ∷ []) (next (withCounted (withD t f) 0) st)) (_ ≟ _)
-      (λ _. goes (goto (withCounted (withD t f) 0) line15) (omega arith) (late (omega arith)))
-      (λ some. goes (goto (withCounted (withD t f) 0) line31) (omega arith)
+      (λ _. spending-goes (goto (withCounted (withD t f) 0) line15) (omega arith) (late (omega arith)))
+      (λ some. spending-goes (goto (withCounted (withD t f) 0) line31) (omega arith)
       (record { below = omega arith; when = late (omega arith) })))
 
   abbrev more : List Write
@@ -108,18 +114,18 @@ module _ (extra S g : ℕ) (few : g ≤ 64) {s o : Side} {m : View} {class : ℕ
   unfolding act
   grows below (soon ne h) =
       let off = still-off-Y f (N s) (λ q. refute (cc)) ne in
-      passing t (λ _.
-      ok-if Ok (λ e. e) (_ ≟ _) (λ _. goes (goto t line15) (omega arith) (soon ne (omega arith))) (λ _.
+      spending-passing t (λ _.
+      ok-if Ok (λ e. e) (_ ≟ _) (λ _. spending-goes (goto t line15) (omega arith) (soon ne (omega arith))) (λ _.
       ok-if Ok (λ st. writing more (next one-more st)) (_ ≟ _)
-      (λ _. goes (goto one-more line15) (omega arith) (soon off (omega arith)))
-      (λ not-yet. goes (goto one-more line31) (omega arith)
+      (λ _. spending-goes (goto one-more line15) (omega arith) (soon off (omega arith)))
+      (λ not-yet. spending-goes (goto one-more line31) (omega arith)
       (record { below = omega arith; when = soon off (omega arith) }))))
   grows below (late h) =
-      passing t (λ _.
-      ok-if Ok (λ e. e) (_ ≟ _) (λ _. goes (goto t line15) (omega arith) (late (omega arith))) (λ _.
+      spending-passing t (λ _.
+      ok-if Ok (λ e. e) (_ ≟ _) (λ _. spending-goes (goto t line15) (omega arith) (late (omega arith))) (λ _.
       ok-if Ok (λ st. writing more (next one-more st)) (_ ≟ _)
-      (λ _. goes (goto one-more line15) (omega arith) (late (omega arith)))
-      (λ not-yet. goes (goto one-more line31) (omega arith)
+      (λ _. spending-goes (goto one-more line15) (omega arith) (late (omega arith)))
+      (λ not-yet. spending-goes (goto one-more line31) (omega arith)
       (record { below = omega arith; when = late (omega arith) }))))
 
   pub line31-spends : LineOk line31
@@ -132,9 +138,9 @@ module _ (extra S g : ℕ) (few : g ≤ 64) {s o : Side} {m : View} {class : ℕ
   pub line15-spends : LineOk line15
   unfolding act
   line15-spends (soon ne h) =
-      goes (goto (withA t (m .hats (t .lane) s)) line17) (omega arith) (seeks (n - 1) ne (omega arith))
+      spending-goes (goto (withA t (m .hats (t .lane) s)) line17) (omega arith) (seeks (n - 1) ne (omega arith))
   line15-spends (late h) =
-      goes (goto (withA t (m .hats (t .lane) s)) line17) (omega arith)
+      spending-goes (goto (withA t (m .hats (t .lane) s)) line17) (omega arith)
       (elim (hat-value (L .structure)) [
         | hat-N v ↦ seeks (n - 1) (λ y. refute (cc)) (omega arith)
         | hat-X v ↦ seeks (n - 1) (λ y. refute (cc)) (omega arith)
@@ -152,11 +158,11 @@ module _ (extra S g : ℕ) (few : g ≤ 64) {s o : Side} {m : View} {class : ℕ
   by-value on-N on-Y on-X on-other some =
       let v = m .val (t .A) in
       let F : Step → Effect = λ st. next (withValue t v) st in
-      passing t (λ _.
-      ok-if Ok F (_ ≟ᵛ _) (λ e. goes (goto (withValue t v) line18) some (on-N e)) (λ not-N.
-      ok-if Ok F (_ ≟ᵛ _) (λ e. goes (goto (withValue t v) line67) some (on-Y e)) (λ not-Y.
-      ok-if Ok F (_ ≟ᵛ _) (λ e. goes (goto (withValue t v) line24) some (on-X e)) (λ not-X.
-      goes (goto (withValue t v) line15) some (on-other not-N not-Y not-X)))))
+      spending-passing t (λ _.
+      ok-if Ok F (_ ≟ᵛ _) (λ e. spending-goes (goto (withValue t v) line18) some (on-N e)) (λ not-N.
+      ok-if Ok F (_ ≟ᵛ _) (λ e. spending-goes (goto (withValue t v) line67) some (on-Y e)) (λ not-Y.
+      ok-if Ok F (_ ≟ᵛ _) (λ e. spending-goes (goto (withValue t v) line24) some (on-X e)) (λ not-X.
+      spending-goes (goto (withValue t v) line15) some (on-other not-N not-Y not-X)))))
 
   pub line17-spends : LineOk line17
   line17-spends (seek-sure {i} P h) =
@@ -176,41 +182,41 @@ module _ (extra S g : ℕ) (few : g ≤ 64) {s o : Side} {m : View} {class : ℕ
   unfolding act
   line18-spends (step-sure {i} P v h) =
       let few-links = path-at (L .structure) P .1 in
-      passing t (λ _.
+      spending-passing t (λ _.
       ok-if Ok (λ st. next (withA t (m .out (t .A))) st) (_ ≟ _)
       (λ e. absurd (path-leads (L .structure) P v e))
-      (λ _. goes (goto (withA t (m .out (t .A))) line17) (omega (arith, size))
+      (λ _. spending-goes (goto (withA t (m .out (t .A))) line17) (omega (arith, size))
       (seek-sure (on-path P v refl) (omega (arith, size)))))
   line18-spends (step-stale W h) =
-      passing t (λ _.
+      spending-passing t (λ _.
       ok-if Ok (λ st. next (withA t (m .out (t .A))) st) (_ ≟ _)
-      (λ _. goes (goto (withA t (m .out (t .A))) line15) (omega arith) (late (omega arith)))
+      (λ _. spending-goes (goto (withA t (m .out (t .A))) line15) (omega arith) (late (omega arith)))
       (λ ne.
       let w = ends-on ne W in
       let e = w .1 in
-      goes (goto (withA t (m .out (t .A))) line17) (omega arith) (seek-stale (w .2) (omega arith))))
+      spending-goes (goto (withA t (m .out (t .A))) line17) (omega arith) (seek-stale (w .2) (omega arith))))
 
   -- ---- Splicing.
   pub line24-spends : LineOk line24
   unfolding act
   line24-spends (soon e h) =
-      passing t (λ _. passing t (λ _.
-      goes (goto (withB t (m .out (t .A))) line25) (omega arith)
+      spending-passing t (λ _. spending-passing t (λ _.
+      spending-goes (goto (withB t (m .out (t .A))) line25) (omega arith)
       (soon (record { links = e .links; path = e .path; is-X = e .is-X }, refl) (omega arith))))
   line24-spends (late h) =
-      passing t (λ _. passing t (λ _.
-      goes (goto (withB t (m .out (t .A))) line25) (omega arith) (late (omega arith))))
+      spending-passing t (λ _. spending-passing t (λ _.
+      spending-goes (goto (withB t (m .out (t .A))) line25) (omega arith) (late (omega arith))))
 
   abbrev splice : List Write
   splice = out≔ (t .A) (t .D) ∷ val≔ (t .A) (N s) ∷ []
 
   splices : 1 ≤ n → Left extra line2 S g s (written (t .lane) s splice m) t (n - 1) → (op : Operation)
       → Ok (spliced op splice t)
-  splices some h push = goes (goto (withCounted (withD t noNode) 0) line2) some h
-  splices some h idle = answered (λ q. refute (cc))
-  splices some h pop = answered (λ q. refute (cc))
-  splices some h add = answered (λ q. refute (cc))
-  splices some h remove = answered (λ q. refute (cc))
+  splices some h push = spending-goes (goto (withCounted (withD t noNode) 0) line2) some h
+  splices some h idle = spending-answered (λ q. refute (cc))
+  splices some h pop = spending-answered (λ q. refute (cc))
+  splices some h add = spending-answered (λ q. refute (cc))
+  splices some h remove = spending-answered (λ q. refute (cc))
 
   hat-N-after : (m .val (m .hats (t .lane) s) ≡ N s) ⊎ (m .hats (t .lane) s ≡ t .A)
       → update (m .val) (t .A) (N s) (m .hats (t .lane) s) ≡ N s
@@ -223,13 +229,13 @@ module _ (extra S g : ℕ) (few : g ≤ 64) {s o : Side} {m : View} {class : ℕ
   pub line25-spends : LineOk line25
   unfolding act
   line25-spends (soon e h) =
-      passing t (λ _.
-      swapping _ _
+      spending-passing t (λ _.
+      spending-swapping _ _
       (λ _ _.
       splices (omega arith) (start-N (hat-N-after (path-ready (e .0 .path))) (omega arith)) (t .operation))
       (λ ne. absurd (ne (cc) (cc))))
   line25-spends (late h) =
-      passing t (λ _.
-      swapping _ _
+      spending-passing t (λ _.
+      spending-swapping _ _
       (λ _ _. splices (omega arith) (start-anywhere (omega arith)) (t .operation))
-      (λ _. goes (goto t line15) (omega arith) (late (omega arith))))
+      (λ _. spending-goes (goto t line15) (omega arith) (late (omega arith))))

@@ -56,28 +56,33 @@ use Rattle.machine_progress.proofs.SoloBound.Budget.{
   Left,
   Spends,
 }
-use Rattle.machine_progress.proofs.SoloBound.Spending.{goes, answered, passing, swapping}
+use Rattle.machine_progress.proofs.SoloBound.Spending.{
+  spending-goes,
+  spending-answered,
+  spending-passing,
+  spending-swapping,
+}
 
 -- Back, to 2 or to 15, with a hat off Y, and with any.
 module _ {extra S g : ℕ} {s : Side} {m : View} {n : ℕ} {l : List Write} (t : Task) where
   back-off-Y : 2 * S + 78 ≤ n → written (t .lane) s l m .val (written (t .lane) s l m .hats (t .lane) s) ≢ Y s
       → (op : Operation) {x : ℕ} (d : Dec (x ≡ noNode))
       → Spends extra S g (t .lane) s m n (record { writes = l; task = goto t (backOf op d); answer = Going })
-  back-off-Y h ne push (yes e) = goes (goto t line2) (omega arith) (start-off-Y ne (omega arith))
-  back-off-Y h ne push (no e) = goes (goto t line15) (omega arith) (soon ne (omega arith))
-  back-off-Y h ne idle d = goes (goto t line15) (omega arith) (soon ne (omega arith))
-  back-off-Y h ne pop d = goes (goto t line15) (omega arith) (soon ne (omega arith))
-  back-off-Y h ne add d = goes (goto t line15) (omega arith) (soon ne (omega arith))
-  back-off-Y h ne remove d = goes (goto t line15) (omega arith) (soon ne (omega arith))
+  back-off-Y h ne push (yes e) = spending-goes (goto t line2) (omega arith) (start-off-Y ne (omega arith))
+  back-off-Y h ne push (no e) = spending-goes (goto t line15) (omega arith) (soon ne (omega arith))
+  back-off-Y h ne idle d = spending-goes (goto t line15) (omega arith) (soon ne (omega arith))
+  back-off-Y h ne pop d = spending-goes (goto t line15) (omega arith) (soon ne (omega arith))
+  back-off-Y h ne add d = spending-goes (goto t line15) (omega arith) (soon ne (omega arith))
+  back-off-Y h ne remove d = spending-goes (goto t line15) (omega arith) (soon ne (omega arith))
 
   back-anywhere : 2 * S + 87 ≤ n → (op : Operation) {x : ℕ} (d : Dec (x ≡ noNode))
       → Spends extra S g (t .lane) s m n (record { writes = l; task = goto t (backOf op d); answer = Going })
-  back-anywhere h push (yes e) = goes (goto t line2) (omega arith) (start-anywhere (omega arith))
-  back-anywhere h push (no e) = goes (goto t line15) (omega arith) (late (omega arith))
-  back-anywhere h idle d = goes (goto t line15) (omega arith) (late (omega arith))
-  back-anywhere h pop d = goes (goto t line15) (omega arith) (late (omega arith))
-  back-anywhere h add d = goes (goto t line15) (omega arith) (late (omega arith))
-  back-anywhere h remove d = goes (goto t line15) (omega arith) (late (omega arith))
+  back-anywhere h push (yes e) = spending-goes (goto t line2) (omega arith) (start-anywhere (omega arith))
+  back-anywhere h push (no e) = spending-goes (goto t line15) (omega arith) (late (omega arith))
+  back-anywhere h idle d = spending-goes (goto t line15) (omega arith) (late (omega arith))
+  back-anywhere h pop d = spending-goes (goto t line15) (omega arith) (late (omega arith))
+  back-anywhere h add d = spending-goes (goto t line15) (omega arith) (late (omega arith))
+  back-anywhere h remove d = spending-goes (goto t line15) (omega arith) (late (omega arith))
 
 module _ (extra S g : ℕ) {s o : Side} {m : View} {class : ℕ → Class} {r : List ℕ}
     (t : Task) (L : Lane (t .lane) s o m class r) (f n : ℕ) where
@@ -90,16 +95,16 @@ module _ (extra S g : ℕ) {s o : Side} {m : View} {class : ℕ → Class} {r : 
   pub line2-spends : LineOk line2
   unfolding act
   line2-spends (start-N v h) =
-      goes (goto (withA t (m .hats (t .lane) s)) line3) (omega arith) (push-N refl v (omega arith))
+      spending-goes (goto (withA t (m .hats (t .lane) s)) line3) (omega arith) (push-N refl v (omega arith))
   line2-spends (start-off-Y ne h) =
-      goes (goto (withA t (m .hats (t .lane) s)) line3) (omega arith)
+      spending-goes (goto (withA t (m .hats (t .lane) s)) line3) (omega arith)
       (elim (hat-value (L .structure)) [
         | hat-N v ↦ push-N refl v (omega arith)
         | hat-X v ↦ push-X refl v (omega arith)
         | hat-Y v ↦ absurd (ne v)
       ])
   line2-spends (start-anywhere h) =
-      goes (goto (withA t (m .hats (t .lane) s)) line3) (omega arith)
+      spending-goes (goto (withA t (m .hats (t .lane) s)) line3) (omega arith)
       (elim (hat-value (L .structure)) [
         | hat-N v ↦ push-N refl v (omega arith)
         | hat-X v ↦ push-X refl v (omega arith)
@@ -109,114 +114,115 @@ module _ (extra S g : ℕ) {s o : Side} {m : View} {class : ℕ → Class} {r : 
   pub line3-spends : LineOk line3
   unfolding act
   line3-spends (push-N e v h) =
-      passing t (λ _.
+      spending-passing t (λ _.
       ok-if Ok (λ st. next (withB t (m .out (t .A))) st) (_ ≟ _)
       (λ q. absurd (hat-leads (L .structure) (cc) (cc)))
-      (λ _. goes (goto (withB t (m .out (t .A))) line5) (omega arith) (push-N e v (omega arith))))
+      (λ _. spending-goes (goto (withB t (m .out (t .A))) line5) (omega arith) (push-N e v (omega arith))))
   line3-spends (push-X e v h) =
-      passing t (λ _.
+      spending-passing t (λ _.
       ok-if Ok (λ st. next (withB t (m .out (t .A))) st) (_ ≟ _)
-      (λ _. goes (goto (withB t (m .out (t .A))) line8) (omega arith) (choose-X e v (omega arith)))
-      (λ _. goes (goto (withB t (m .out (t .A))) line5) (omega arith) (push-X e v (omega arith))))
+      (λ _. spending-goes (goto (withB t (m .out (t .A))) line8) (omega arith) (choose-X e v (omega arith)))
+      (λ _. spending-goes (goto (withB t (m .out (t .A))) line5) (omega arith) (push-X e v (omega arith))))
   line3-spends (push-Y e v h) =
-      passing t (λ _.
+      spending-passing t (λ _.
       ok-if Ok (λ st. next (withB t (m .out (t .A))) st) (_ ≟ _)
-      (λ _. goes (goto (withB t (m .out (t .A))) line8) (omega arith) (choose-Y v (omega arith)))
-      (λ _. goes (goto (withB t (m .out (t .A))) line5) (omega arith) (push-Y e v (omega arith))))
+      (λ _. spending-goes (goto (withB t (m .out (t .A))) line8) (omega arith) (choose-Y v (omega arith)))
+      (λ _. spending-goes (goto (withB t (m .out (t .A))) line5) (omega arith) (push-Y e v (omega arith))))
   line3-spends (push-stale h) =
-      passing t (λ _.
+      spending-passing t (λ _.
       ok-if Ok (λ st. next (withB t (m .out (t .A))) st) (_ ≟ _)
-      (λ _. goes (goto (withB t (m .out (t .A))) line8) (omega arith) (choose-stale (omega arith)))
-      (λ _. goes (goto (withB t (m .out (t .A))) line5) (omega arith) (push-stale (omega arith))))
+      (λ _. spending-goes (goto (withB t (m .out (t .A))) line8) (omega arith) (choose-stale (omega arith)))
+      (λ _. spending-goes (goto (withB t (m .out (t .A))) line5) (omega arith) (push-stale (omega arith))))
 
   pub line5-spends : LineOk line5
   unfolding act
   line5-spends (push-N e v h) =
-      passing t (λ _. passing t (λ _.
-      swapping _ _ (λ _ _. answered (λ q. refute (cc)))
+      spending-passing t (λ _. spending-passing t (λ _.
+      spending-swapping _ _ (λ _ _. spending-answered (λ q. refute (cc)))
       (λ ne. absurd (ne (cc) (cc)))))
   line5-spends (push-X e v h) =
-      passing t (λ _. passing t (λ _.
-      swapping _ _ (λ _ _. answered (λ q. refute (cc)))
-      (λ _. goes (goto t line8) (omega arith) (choose-X e v (omega arith)))))
+      spending-passing t (λ _. spending-passing t (λ _.
+      spending-swapping _ _ (λ _ _. spending-answered (λ q. refute (cc)))
+      (λ _. spending-goes (goto t line8) (omega arith) (choose-X e v (omega arith)))))
   line5-spends (push-Y e v h) =
-      passing t (λ _. passing t (λ _.
-      swapping _ _ (λ _ _. answered (λ q. refute (cc)))
-      (λ _. goes (goto t line8) (omega arith) (choose-Y v (omega arith)))))
+      spending-passing t (λ _. spending-passing t (λ _.
+      spending-swapping _ _ (λ _ _. spending-answered (λ q. refute (cc)))
+      (λ _. spending-goes (goto t line8) (omega arith) (choose-Y v (omega arith)))))
   line5-spends (push-stale h) =
-      passing t (λ _. passing t (λ _.
-      swapping _ _ (λ _ _. answered (λ q. refute (cc)))
-      (λ _. goes (goto t line8) (omega arith) (choose-stale (omega arith)))))
+      spending-passing t (λ _. spending-passing t (λ _.
+      spending-swapping _ _ (λ _ _. spending-answered (λ q. refute (cc)))
+      (λ _. spending-goes (goto t line8) (omega arith) (choose-stale (omega arith)))))
 
   pub line8-spends : LineOk line8
   unfolding act
   line8-spends (choose-X e v h) =
-      passing t (λ _.
+      spending-passing t (λ _.
       ok-if Ok (λ st. next t st) (_ ≟ᵛ _)
-      (λ _. goes (goto t line28) (omega arith) (soon (cc) (omega arith)))
+      (λ _. spending-goes (goto t line28) (omega arith) (soon (cc) (omega arith)))
       (λ q. absurd (q v)))
   line8-spends (choose-Y v h) =
-      passing t (λ _.
+      spending-passing t (λ _.
       ok-if Ok (λ st. next t st) (_ ≟ᵛ _)
       (λ q. clash (cc))
-      (λ _. goes (goto t line67) (omega arith) (omega arith)))
+      (λ _. spending-goes (goto t line67) (omega arith) (omega arith)))
   line8-spends (choose-stale h) =
-      passing t (λ _.
+      spending-passing t (λ _.
       ok-if Ok (λ st. next t st) (_ ≟ᵛ _)
-      (λ _. goes (goto t line28) (omega arith) (late (omega arith)))
-      (λ _. goes (goto t line67) (omega arith) (omega arith)))
+      (λ _. spending-goes (goto t line28) (omega arith) (late (omega arith)))
+      (λ _. spending-goes (goto t line67) (omega arith) (omega arith)))
 
   -- ---- Moving the hat.
   pub line67-spends : LineOk line67
   unfolding act
-  line67-spends h = goes (goto (withA t (m .hats (t .lane) s)) line68) (omega arith) (soon refl (omega arith))
+  line67-spends h = spending-goes (goto (withA t (m .hats (t .lane) s)) line68) (omega arith) (soon refl (omega arith))
 
   pub line68-spends : LineOk line68
   unfolding act
   line68-spends (soon e h) =
-      passing t (λ _.
+      spending-passing t (λ _.
       ok-if Ok (λ st. next t st) (_ ≟ᵛ _)
-      (λ _. goes (goto t line69) (omega arith) (soon e (omega arith)))
+      (λ _. spending-goes (goto t line69) (omega arith) (soon e (omega arith)))
       (λ ne. back-off-Y t (omega arith) (λ y. ne (cc)) (t .operation) (t .D ≟ noNode)))
   line68-spends (late h) =
-      passing t (λ _.
+      spending-passing t (λ _.
       ok-if Ok (λ st. next t st) (_ ≟ᵛ _)
-      (λ _. goes (goto t line69) (omega arith) (late (omega arith)))
+      (λ _. spending-goes (goto t line69) (omega arith) (late (omega arith)))
       (λ _. back-anywhere t (omega arith) (t .operation) (t .D ≟ noNode)))
 
   pub line69-spends : LineOk line69
   unfolding act
   line69-spends (soon e h) =
-      passing t (λ _. goes (goto (withB t (m .inn (t .A))) line70) (omega arith) (soon (e, refl) (omega arith)))
+      spending-passing t (λ _. spending-goes (goto (withB t (m .inn (t .A))) line70) (omega arith)
+      (soon (e, refl) (omega arith)))
   line69-spends (late h) =
-      passing t (λ _. goes (goto (withB t (m .inn (t .A))) line70) (omega arith) (late (omega arith)))
+      spending-passing t (λ _. spending-goes (goto (withB t (m .inn (t .A))) line70) (omega arith) (late (omega arith)))
 
   pub line70-spends : LineOk line70
   unfolding act
   line70-spends (soon e h) =
       let at-hat = e .0 in
       let inward = e .1 in
-      passing t (λ _.
+      spending-passing t (λ _.
       ok-if Ok (λ st. next (withC t (m .out (t .B))) st) (_ ≟ _)
       (λ q. absurd (past-some (L .structure) (cc)))
-      (λ _. goes (goto (withC t (m .out (t .B))) line72) (omega arith)
+      (λ _. spending-goes (goto (withC t (m .out (t .B))) line72) (omega arith)
       (soon (at-hat, λ y. past-off-Y (L .structure) (cc)) (omega arith))))
   line70-spends (late h) =
-      passing t (λ _.
+      spending-passing t (λ _.
       ok-if Ok (λ st. next (withC t (m .out (t .B))) st) (_ ≟ _)
       (λ _. back-anywhere (withC t (m .out (t .B))) (omega arith) (t .operation) (t .D ≟ noNode))
-      (λ _. goes (goto (withC t (m .out (t .B))) line72) (omega arith) (late (omega arith))))
+      (λ _. spending-goes (goto (withC t (m .out (t .B))) line72) (omega arith) (late (omega arith))))
 
   pub line72-spends : LineOk line72
   unfolding act
   line72-spends (soon e h) =
-      passing t (λ _.
+      spending-passing t (λ _.
       ok-if Ok (λ l. writing l (next t (back t))) (_ ≟ _)
       (λ _. back-off-Y t (omega arith) (rw (updateHat-same (m .hats) (t .lane) s (t .C)) (e .1))
       (t .operation) (t .D ≟ noNode))
       (λ ne. absurd (ne (cc))))
   line72-spends (late h) =
-      passing t (λ _.
+      spending-passing t (λ _.
       ok-if Ok (λ l. writing l (next t (back t))) (_ ≟ _)
       (λ _. back-anywhere t (omega arith) (t .operation) (t .D ≟ noNode))
       (λ _. back-anywhere t (omega arith) (t .operation) (t .D ≟ noNode)))

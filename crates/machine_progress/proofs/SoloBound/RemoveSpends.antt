@@ -40,7 +40,12 @@ use Rattle.machine_progress.proofs.SoloBound.Budget.{
   Left,
   Spends,
 }
-use Rattle.machine_progress.proofs.SoloBound.Spending.{goes, answered, passing, swapping}
+use Rattle.machine_progress.proofs.SoloBound.Spending.{
+  spending-goes,
+  spending-answered,
+  spending-passing,
+  spending-swapping,
+}
 
 -- The same walk with other numbers, the walk one link on, and the walk after a cut.
 module _ {extra : ℕ} {out : ℕ → ℕ} {x c n : ℕ} (w : Walking extra out x c n) where
@@ -72,8 +77,8 @@ module _ (extra S g : ℕ) (s o : Side) (m : View) (t : Task) (f n : ℕ)
   unfolding act
   line54-spends h =
       ok-if Ok (λ st. next (withA t (m .hats (t .lane) s)) st) (_ ≟ _)
-      (λ _. goes (goto (withA t (m .hats (t .lane) s)) line60) (omega arith) (from-hat (omega arith)))
-      (λ _. goes (goto (withA t (m .hats (t .lane) s)) line56) (omega arith) (from-hat (omega arith)))
+      (λ _. spending-goes (goto (withA t (m .hats (t .lane) s)) line60) (omega arith) (from-hat (omega arith)))
+      (λ _. spending-goes (goto (withA t (m .hats (t .lane) s)) line56) (omega arith) (from-hat (omega arith)))
     where
       from-hat : {c k : ℕ} → walkTicks extra S + c ≤ k → Walking extra (m .out) (m .hats (t .lane) s) c k
       from-hat l = record { links = S; ends = short (m .hats (t .lane) s); within = l }
@@ -81,102 +86,102 @@ module _ (extra S g : ℕ) (s o : Side) (m : View) (t : Task) (f n : ℕ)
   pub line56-spends : LineOk line56
   unfolding act
   line56-spends w =
-      passing t (λ _.
-      ok-if Ok (λ e. e) (_ ≟ᵛ _) (λ _. answered (λ q. refute (cc)))
-      (λ _. goes (goto t line58) (omega (arith, w .within)) (same-walk w (λ l. omega arith))))
+      spending-passing t (λ _.
+      ok-if Ok (λ e. e) (_ ≟ᵛ _) (λ _. spending-answered (λ q. refute (cc)))
+      (λ _. spending-goes (goto t line58) (omega (arith, w .within)) (same-walk w (λ l. omega arith))))
 
   pub line58-spends : LineOk line58
   unfolding act
   line58-spends w =
-      passing t (λ _.
-      ok-if Ok (λ e. e) (_ ≟ _) (λ _. answered (λ q. refute (cc)))
+      spending-passing t (λ _.
+      ok-if Ok (λ e. e) (_ ≟ _) (λ _. spending-answered (λ q. refute (cc)))
       (λ ne.
       ok-if Ok (λ st. next (withCounted (withA t (m .out (t .A))) (suc (t .counted))) st) (_ ≟ _)
-      (λ _. goes _ (omega (arith, w .within)) (next-walk w ne (λ j l. omega arith)))
-      (λ _. goes _ (omega (arith, w .within)) (next-walk w ne (λ j l. omega arith)))))
+      (λ _. spending-goes _ (omega (arith, w .within)) (next-walk w ne (λ j l. omega arith)))
+      (λ _. spending-goes _ (omega (arith, w .within)) (next-walk w ne (λ j l. omega arith)))))
 
   pub line60-spends : LineOk line60
   unfolding act
   line60-spends w =
-      passing t (λ _.
-      ok-if Ok (λ e. e) (_ ≟ _) (λ _. answered (λ q. refute (cc)))
-      (λ ne. goes _ (omega (arith, w .within)) (next-walk w ne (λ j l. omega arith))))
+      spending-passing t (λ _.
+      ok-if Ok (λ e. e) (_ ≟ _) (λ _. spending-answered (λ q. refute (cc)))
+      (λ ne. spending-goes _ (omega (arith, w .within)) (next-walk w ne (λ j l. omega arith))))
 
   pub line62-spends : LineOk line62
   unfolding act
   line62-spends w =
-      passing t (λ _. passing t (λ _.
-      swapping _ _
-      (λ _ _. goes (goto t line64) (omega (arith, w .within)) (same-walk w (λ l. omega arith)))
-      (λ _. answered (λ q. refute (cc)))))
+      spending-passing t (λ _. spending-passing t (λ _.
+      spending-swapping _ _
+      (λ _ _. spending-goes (goto t line64) (omega (arith, w .within)) (same-walk w (λ l. omega arith)))
+      (λ _. spending-answered (λ q. refute (cc)))))
 
   pub line64-spends : LineOk line64
   unfolding act
   line64-spends w =
-      passing t (λ _.
+      spending-passing t (λ _.
       ok-if Ok (λ l. writing l (next t line74)) (_ ≟ _)
-      (λ _. goes (goto t line74) (omega (arith, w .within))
+      (λ _. spending-goes (goto t line74) (omega (arith, w .within))
       (cut-walk w (update-wrote (m .out) (t .A) noNode) (λ l. omega arith)))
-      (λ _. goes (goto t line74) (omega (arith, w .within)) (same-walk w (λ l. omega arith))))
+      (λ _. spending-goes (goto t line74) (omega (arith, w .within)) (same-walk w (λ l. omega arith))))
 
   pub line74-spends : LineOk line74
   unfolding act
   line74-spends w =
-      passing t (λ _.
+      spending-passing t (λ _.
       ok-if Ok (λ st. next (withB (withA t (t .B)) (m .out (t .B))) st) (_ ≟ _)
-      (λ _. goes _ (omega (arith, w .within)) (omega (arith, w .within)))
-      (λ ne. goes _ (omega (arith, w .within)) (reads (next-walk w ne (λ j l. omega arith)))))
+      (λ _. spending-goes _ (omega (arith, w .within)) (omega (arith, w .within)))
+      (λ ne. spending-goes _ (omega (arith, w .within)) (reads (next-walk w ne (λ j l. omega arith)))))
 
   pub line77-spends : LineOk line77
   unfolding act
   line77-spends (reads-Y v w) =
-      passing t (λ _.
-      goes (goto (withValue t (m .val (t .B))) line78) (omega (arith, w .within))
+      spending-passing t (λ _.
+      spending-goes (goto (withValue t (m .val (t .B))) line78) (omega (arith, w .within))
       (marks-Y refl v (same-walk w (λ l. omega arith))))
   line77-spends (reads w) =
-      passing t (λ _.
-      goes (goto (withValue t (m .val (t .B))) line78) (omega (arith, w .within))
+      spending-passing t (λ _.
+      spending-goes (goto (withValue t (m .val (t .B))) line78) (omega (arith, w .within))
       (marks refl (same-walk w (λ l. omega arith))))
 
   pub line78-spends : LineOk line78
   unfolding act
   line78-spends (marks-Y e v w) =
-      passing t (λ _.
+      spending-passing t (λ _.
       ok-if Ok (λ x. x) (_ ≟ᵛ _)
-      (λ _. goes _ (omega (arith, w .within)) (same-walk w (λ l. omega arith))) (λ ne. absurd (ne (cc))))
+      (λ _. spending-goes _ (omega (arith, w .within)) (same-walk w (λ l. omega arith))) (λ ne. absurd (ne (cc))))
   line78-spends (marks e w) =
-      passing t (λ _.
+      spending-passing t (λ _.
       ok-if Ok (λ x. x) (_ ≟ᵛ _)
-      (λ _. goes _ (omega (arith, w .within)) (same-walk w (λ l. omega arith))) (λ ne. absurd (ne (cc))))
+      (λ _. spending-goes _ (omega (arith, w .within)) (same-walk w (λ l. omega arith))) (λ ne. absurd (ne (cc))))
   line78-spends (fails-once v w) =
-      passing t (λ _.
+      spending-passing t (λ _.
       ok-if Ok (λ x. x) (_ ≟ᵛ _)
-      (λ _. goes _ (omega (arith, w .within)) (same-walk w (λ l. omega arith)))
-      (λ _. goes _ (omega (arith, w .within)) (reads-Y v (same-walk w (λ l. omega arith)))))
+      (λ _. spending-goes _ (omega (arith, w .within)) (same-walk w (λ l. omega arith)))
+      (λ _. spending-goes _ (omega (arith, w .within)) (reads-Y v (same-walk w (λ l. omega arith)))))
   line78-spends (fails w) =
-      passing t (λ _.
+      spending-passing t (λ _.
       ok-if Ok (λ x. x) (_ ≟ᵛ _)
-      (λ _. goes _ (omega (arith, w .within)) (same-walk w (λ l. omega arith)))
-      (λ _. goes _ (omega (arith, w .within)) (reads (same-walk w (λ l. omega arith)))))
+      (λ _. spending-goes _ (omega (arith, w .within)) (same-walk w (λ l. omega arith)))
+      (λ _. spending-goes _ (omega (arith, w .within)) (reads (same-walk w (λ l. omega arith)))))
 
   pub line79-spends : LineOk line79
   unfolding act
   line79-spends w =
-      passing t (λ _.
-      goes (goto (withA t (t .B)) line81) (omega (arith, w .within))
+      spending-passing t (λ _.
+      spending-goes (goto (withA t (t .B)) line81) (omega (arith, w .within))
       (cut-walk w (update-wrote (m .out) (t .A) noNode) (λ l. omega arith)))
 
   pub line81-spends : LineOk line81
   unfolding act
   line81-spends w =
-      passing t (λ _.
+      spending-passing t (λ _.
       ok-if Ok (λ st. next (withB t (m .out (t .A))) st) (_ ≟ _)
-      (λ _. goes _ (omega (arith, w .within)) (omega (arith, w .within)))
+      (λ _. spending-goes _ (omega (arith, w .within)) (omega (arith, w .within)))
       (λ ne.
       ok-if Ok (λ st. next (withB t (m .out (t .A))) st) (_ ≟ᵛ _)
-      (λ _. goes _ (omega (arith, w .within)) (omega (arith, w .within)))
-      (λ _. goes _ (omega (arith, w .within)) (reads (next-walk w ne (λ j l. omega arith))))))
+      (λ _. spending-goes _ (omega (arith, w .within)) (omega (arith, w .within)))
+      (λ _. spending-goes _ (omega (arith, w .within)) (reads (next-walk w ne (λ j l. omega arith))))))
 
   pub line82-spends : LineOk line82
   unfolding act
-  line82-spends h = passing t (λ _. answered (λ q. refute (cc)))
+  line82-spends h = spending-passing t (λ _. spending-answered (λ q. refute (cc)))

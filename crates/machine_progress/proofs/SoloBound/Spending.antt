@@ -22,25 +22,25 @@ no-node-answers add e = refute (cc)
 no-node-answers remove e = refute (cc)
 
 module _ {extra S g ℓ : ℕ} {s : Side} {m : View} {n : ℕ} where
-  pub goes : {l : List Write} (t : Task) → 1 ≤ n → Left extra (t .step) S g s (written ℓ s l m) t (n - 1)
+  pub spending-goes : {l : List Write} (t : Task) → 1 ≤ n → Left extra (t .step) S g s (written ℓ s l m) t (n - 1)
       → Spends extra S g ℓ s m n (record { writes = l; task = t; answer = Going })
-  goes t h b = record { spends = λ _. (h, b) }
+  spending-goes t h b = record { spends = λ _. (h, b) }
 
-  pub answered : {l : List Write} {t : Task} {a : Answer} → a ≢ Going
+  pub spending-answered : {l : List Write} {t : Task} {a : Answer} → a ≢ Going
       → Spends extra S g ℓ s m n (record { writes = l; task = t; answer = a })
-  answered ne = record { spends = λ e. absurd (ne e) }
+  spending-answered ne = record { spends = λ e. absurd (ne e) }
 
   -- A refusal is no "going".
-  pub passing : (t : Task) {x : ℕ} {e : Effect} → (x ≢ noNode → Spends extra S g ℓ s m n e)
+  pub spending-passing : (t : Task) {x : ℕ} {e : Effect} → (x ≢ noNode → Spends extra S g ℓ s m n e)
       → Spends extra S g ℓ s m n (through x t e)
-  passing t h = ok-through (Spends extra S g ℓ s m n) (λ _. answered (λ e. refute (cc))) h
+  spending-passing t h = ok-through (Spends extra S g ℓ s m n) (λ _. spending-answered (λ e. refute (cc))) h
 
   -- A swap that fails, with what that says.
-  pub swapping : {P Q : Type 0} {done failed : Effect} (d : Dec P) (e : Dec Q)
+  pub spending-swapping : {P Q : Type 0} {done failed : Effect} (d : Dec P) (e : Dec Q)
       → (P → Q → Spends extra S g ℓ s m n done)
       → ((P → Q → ⊥) → Spends extra S g ℓ s m n failed)
       → Spends extra S g ℓ s m n (dcas d e done failed)
   unfolding dcas
-  swapping (yes p) (yes q) f h = f p q
-  swapping (yes p) (no q) f h = h (λ _. q)
-  swapping (no p) e f h = h (λ u _. p u)
+  spending-swapping (yes p) (yes q) f h = f p q
+  spending-swapping (yes p) (no q) f h = h (λ _. q)
+  spending-swapping (no p) e f h = h (λ u _. p u)

@@ -54,7 +54,7 @@ ends-cut w {x = x} (goes-on e u) =
     elim (wrote? w x) [ it-is d q ↦ stops q | it-is-not d q ↦ goes-on (q ∙ e) (ends-cut w u) ]
 
 -- A link is led to a node whose walk ends: all walks end.
-pub ends-joined : {link link' : ℕ → ℕ} {a d : ℕ} → Wrote link a d link' → {m : ℕ} → EndsWithin link' m d → {n x : ℕ}
+ends-joined : {link link' : ℕ → ℕ} {a d : ℕ} → Wrote link a d link' → {m : ℕ} → EndsWithin link' m d → {n x : ℕ}
     → EndsWithin link n x
     → (j : ℕ) × EndsWithin link' j x
 ends-joined w {m} D {x = x} (stops e) =

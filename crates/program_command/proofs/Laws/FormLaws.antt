@@ -158,7 +158,8 @@ module _ (σ : Scanned) (W : WellScanned σ) (held : List ℕ)
       let at : length (σ .numbers) - 1 ≡ 1 = omega (arith, W .placed) in
       rw (first 0 (lit< tt), first 1 (lit< tt)) (push-kept side a b (σ .width) (rw at at (W .narrow)))
 
-  form-command : cond (allFit (firstThree held)) (formOf (σ .text) (getD held 0 0) (getD held 1 0) (getD held 2 0)) Unread
+  form-command : cond (allFit (firstThree held)) (formOf (σ .text) (getD held 0 0) (getD held 1 0) (getD held 2 0))
+      Unread
       ≡ cond (allFit (σ .numbers)) (formOf (σ .text) a b c) Unread
   form-command =
       rw (first 0 (lit< tt), first 1 (lit< tt), first 2 (lit< tt))

@@ -9,12 +9,10 @@ use Rattle.program_command.proofs.scanned_command.Tie as tie
 
 slice-aggregate-command-with : tie.Need-slice-aggregate-command-with
 slice-aggregate-command-with c =
-    let s = c .before .before in
+    let s : tie.Start = search in
     let kept = s .pre in
-    sym (length-take-le (s .args .s .length) (s .args .text .now) (omega (arith, kept .text-places, kept .counts .short)))
-
-command-with-requires : tie.Need-command-with-requires
-command-with-requires c κs = search needs
+    sym (length-take-le (s .args .s .length) (s .args .text .now)
+    (omega (arith, kept .text-places, kept .counts .short)))
 
 returns : tie.Need-returns
 unfolding keptCommand
@@ -22,4 +20,4 @@ returns c = c .command-with .ensures
 
 pub scanned-command-spec : {M : Type 1} → statement M
 scanned-command-spec =
-    tie.close (tie.spec slice-aggregate-command-with command-with-requires returns)
+    tie.close (tie.spec slice-aggregate-command-with (λ c κs. search needs) returns)

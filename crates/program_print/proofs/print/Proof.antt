@@ -6,84 +6,57 @@ use Rattle.program_print.proofs.Laws.LineLaws.{line-written}
 use Rattle.program_print.proofs.print.Statement.{statement}
 use Rattle.program_print.proofs.print.Tie as tie
 
-enum-known-outcome : tie.Need-enum-known-outcome
-enum-known-outcome c = search needs
-
-print-reply-requires : tie.Need-print-reply-requires
-print-reply-requires c κs = search needs
-
-enum-known-outcome-2 : tie.Need-enum-known-outcome-2
-enum-known-outcome-2 c = search needs
-
-print-answer-requires : tie.Need-print-answer-requires
-print-answer-requires c κs = search needs
-
-enum-known-outcome-3 : tie.Need-enum-known-outcome-3
-enum-known-outcome-3 c = search needs
-
 print-reading-requires : tie.Need-print-reading-requires
 print-reading-requires c κs =
-    let known = c .before .before in
-    rw (known .outcome3 .given .1) at (known .before .before .before .before .pre)
-
-enum-told : tie.Need-enum-told
-enum-told c = search needs
-
-slice-aggregate-put : tie.Need-slice-aggregate-put
-slice-aggregate-put c = search needs
-
-put-requires : tie.Need-put-requires
-put-requires c κs = search needs
-
-same-length : tie.Need-same-length
-same-length c = search needs
+    let start : tie.Start = search in
+    let known : tie.After-outcome3 = search in
+    rw (known .outcome3 .given .1) at (start .pre)
 
 returns : tie.Need-returns
 returns c =
-    let put = c .before .before .print-reply .ensures in
-    rw (c .before .before .before .before .before .outcome .given .1) (put .0, omega (arith, put .1))
-
-same-length-2 : tie.Need-same-length-2
-same-length-2 c = search needs
+    let after-outcome : tie.After-outcome = search in
+    let after-print-reply : tie.After-print-reply = search in
+    let put = after-print-reply .print-reply .ensures in
+    rw (after-outcome .outcome .given .1) (put .0, omega (arith, put .1))
 
 returns-2 : tie.Need-returns-2
 returns-2 c =
-    let put = c .before .before .print-answer .ensures in
-    rw (c .before .before .before .before .before .outcome2 .given .1) (put .0, omega (arith, put .1))
-
-same-length-3 : tie.Need-same-length-3
-same-length-3 c = search needs
+    let after-outcome2 : tie.After-outcome2 = search in
+    let after-print-answer : tie.After-print-answer = search in
+    let put = after-print-answer .print-answer .ensures in
+    rw (after-outcome2 .outcome2 .given .1) (put .0, omega (arith, put .1))
 
 returns-3 : tie.Need-returns-3
 returns-3 c =
-    rw (c .before .before .before .before .before .outcome3 .given .1) (c .before .before .print-reading .ensures)
-
-same-length-4 : tie.Need-same-length-4
-same-length-4 c = search needs
+    let after-outcome3 : tie.After-outcome3 = search in
+    let after-print-reading : tie.After-print-reading = search in
+    rw (after-outcome3 .outcome3 .given .1) (after-print-reading .print-reading .ensures)
 
 returns-4 : tie.Need-returns-4
 returns-4 c =
-    rw (c .before .before .before .before .before .enum-told .given .1)
-    (line-written refl (c .before .before .put .ensures) (omega arith))
+    let after-enum-told : tie.After-enum-told = search in
+    let after-put : tie.After-put = search in
+    rw (after-enum-told .enum-told .given .1)
+    (line-written refl (after-put .put .ensures) (omega arith))
 
 pub print-spec : {M : Type 1} → statement M
 print-spec =
     tie.close
     (tie.spec
-    enum-known-outcome
-    print-reply-requires
-    enum-known-outcome-2
-    print-answer-requires
-    enum-known-outcome-3
+    (λ c. search needs)
+    (λ c κs. search needs)
+    (λ c. search needs)
+    (λ c κs. search needs)
+    (λ c. search needs)
     print-reading-requires
-    enum-told
-    slice-aggregate-put
-    put-requires
-    same-length
+    (λ c. search needs)
+    (λ c. search needs)
+    (λ c κs. search needs)
+    (λ c. search needs)
     returns
-    same-length-2
+    (λ c. search needs)
     returns-2
-    same-length-3
+    (λ c. search needs)
     returns-3
-    same-length-4
+    (λ c. search needs)
     returns-4)

@@ -21,13 +21,21 @@ use Rattle.program_answer.specs.Run.{answer}
 use Rattle.program_answer.specs.Space.{Leaves}
 use Rattle.program_stream.specs.Session.{silent, takeBytes, endInput}
 use Rattle.program_stream.specs.Carried.{Loan, loanOf, lineOf, loanWith, endLineIn, lent, Serves, InOrder, Onward}
-use Rattle.program_stream.proofs.Laws.TakenLaws.{any-between, keptOn, part-taken, whole-taken, parts-taken, none-taken}
+use Rattle.program_stream.proofs.Laws.TakenLaws.{
+  any-between,
+  keptOn,
+  part-taken,
+  whole-taken,
+  parts-taken,
+  none-taken,
+}
 
 -- Nothing scanned, by its parts.
-pub cleared : (space text : List ℕ) (len : ℕ) {numbers : List ℕ} {scan : Scan} → numbers ≡ noNumbers → scan ≡ noScan
+pub loan-cleared : (space text : List ℕ) (len : ℕ) {numbers : List ℕ} {scan : Scan} → numbers ≡ noNumbers → scan
+    ≡ noScan
     → loanOf space text numbers (record { len = len; scan = scan; begun = false })
     ≡ loanWith space len (keptAtFirst text) false
-cleared space text len e f = rw (e, f)
+loan-cleared space text len e f = rw (e, f)
 
 -- ---- The end of a line.
 module _ (l : Loan) {command : Command} (read : command ≡ keptCommand (lineOf l)) {space : List ℕ} {len : ℕ}
@@ -45,7 +53,7 @@ module _ (l : Loan) {command : Command} (read : command ≡ keptCommand (lineOf 
   line-ends e f written =
       record {
         leaves =
-            cleared space (l .text) len e f
+            loan-cleared space (l .text) len e f
             ∙ rw (← read, ← answers .answers, laid, length-take-le len space (answers .room));
         writes = rw (← read, ← answers .answers) written;
       }

@@ -25,43 +25,50 @@ abbrev μ-loop : tie.MeasureT-loop
 
 loop-holds : tie.Need-loop-holds Inv-loop μ-loop
 loop-holds c =
-    let start = c .before .before .before in
+    let start : tie.Start Inv-loop μ-loop = search in
     serving-starts _ _ (start .pre .0) (start .pre .1 .0)
 
 add-if1 : tie.Need-add-if1 Inv-loop μ-loop
 add-if1 c = omega (arith, c .before .loop .inv .in-out)
 
 same-length : tie.Need-same-length Inv-loop μ-loop
-same-length c = c .before .before .loop .inv .same-space
+same-length c =
+    let at-loop : tie.At-loop Inv-loop μ-loop = search in
+    at-loop .loop .inv .same-space
 
 same-length-2 : tie.Need-same-length-2 Inv-loop μ-loop
-same-length-2 c = c .before .before .loop .inv .same-out
+same-length-2 c =
+    let at-loop : tie.At-loop Inv-loop μ-loop = search in
+    at-loop .loop .inv .same-out
 
 returns : tie.Need-returns Inv-loop μ-loop
 returns c =
-    let S = c .before .before .loop .inv in
-    let start = c .before .before .before .before .before .before in
+    let at-loop : tie.At-loop Inv-loop μ-loop = search in
+    let S = at-loop .loop .inv in
+    let start : tie.Start Inv-loop μ-loop = search in
     let made = bytes-made _ (start .pre .1 .0) (S .serves) in
     (stops-for-room _ _ S (start .pre .1 .1) (c .if1 .taken), (S .serves, (made, S .in-out)))
 
 serve-requires : tie.Need-serve-requires Inv-loop μ-loop
 serve-requires c κs =
-    let loop = c .before .before .before .before .before .before .before in
+    let else1 : tie.Else1 Inv-loop μ-loop = search in
+    let loop : tie.At-loop Inv-loop μ-loop = search in
     let S = loop .loop .inv in
-    (S .within, (S .in-order, omega (arith, c .before .before .before .before .before .if1 .left)))
+    (S .within, (S .in-order, omega (arith, else1 .if1 .left)))
 
 loop-less : tie.Need-loop-less Inv-loop μ-loop
 loop-less c =
-    let served = c .before .before .before .before .before in
-    let test = served .before .before .before .before .before .before .before in
+    let served : tie.After-serve Inv-loop μ-loop = search in
+    let test : tie.In-loop Inv-loop μ-loop = search in
     let onward = served .serve .ensures .0 in
     omega (arith, onward .within, onward .further (test .loop-test .taken))
 
 loop-again : tie.Need-loop-again Inv-loop μ-loop
 loop-again c =
-    let served = c .before .before .before .before .before in
-    let else = served .before .before .before .before .before .before in
-    let S = else .before .before .loop .inv in
+    let at-loop : tie.At-loop Inv-loop μ-loop = search in
+    let served : tie.After-serve Inv-loop μ-loop = search in
+    let else : tie.Else1 Inv-loop μ-loop = search in
+    let S = at-loop .loop .inv in
     let done = served .serve .ensures in
     let kept = served .serve .kept in
     serving-goes-on _ _ S (else .before .loop-test .taken) (omega (arith, else .if1 .left)) _ (done .0) (done .1 .0)
@@ -75,8 +82,9 @@ same-length-4 c = c .before .loop .inv .same-out
 
 returns-2 : tie.Need-returns-2 Inv-loop μ-loop
 returns-2 c =
+    let start : tie.Start Inv-loop μ-loop = search in
     let S = c .before .loop .inv in
-    let made = bytes-made _ (c .before .before .before .before .before .pre .1 .0) (S .serves) in
+    let made = bytes-made _ (start .pre .1 .0) (S .serves) in
     (stops-at-end _ _ S (omega (arith, c .loop-test .left)), (S .serves, (made, S .in-out)))
 
 pub serve-lines-spec : {M : Type 1} → statement M

@@ -1,9 +1,9 @@
 -- A hat read, written, and written again; and what else its write leaves.
-use mathlib.Core.Path.{_≡_, sym, ap, _∙_}
+use mathlib.Core.Path.{_≡_, ap, _∙_}
 use mathlib.Core.List.{List}
-use Prim.Native.Nat.{ℕ, _+_, _*_, _<_}
+use Prim.Native.Nat.{ℕ, _<_}
 use native.Mathlib.Omega.{arith}
-use lib.ListN.{length, set, take, length-set}
+use lib.ListN.{length, take, length-set}
 use lib.Seq.{getD-set-other, set-set, set-getD, drop-set-lt}
 use Rattle.machine.specs.Choice.{_<?_}
 use Rattle.machine.specs.Sides.{Side, left, right, sideNumber}
@@ -22,7 +22,6 @@ use Rattle.machine.specs.Table.{
   setHat,
 }
 use Rattle.machine.proofs.Basics.Choices.{if-yes}
-use Rattle.machine.proofs.Words.RecordLaws.{number-of-side}
 
 pub side-low : (s : Side) → sideNumber s < 2
 side-low left = omega arith

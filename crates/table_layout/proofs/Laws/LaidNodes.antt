@@ -15,7 +15,7 @@ use lib.Seq.{
   set-append-left,
   length-take-le,
 }
-use borrow.Rule.Slice.PartMut.{putMid, midOf, postOf, put-same, same-len-mid}
+use borrow.Rule.Slice.PartMut.{putMid, postOf, put-same, same-len-mid}
 use Rattle.machine.specs.Sides.{Side}
 use Rattle.machine.specs.Tasks.{recordLength}
 use Rattle.machine.specs.Table.{

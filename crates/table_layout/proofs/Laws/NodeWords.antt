@@ -25,5 +25,6 @@ link-word ns side x h l =
     any-default ns (nodeLength * x + side) 0 noNode (omega arith)
     ∙ ap (λ (n : ℕ). getD ns (nodeLength * x + n) noNode) (sym (number-of-side side (omega arith)))
 
-pub link-set : (ns : List ℕ) (side x y : ℕ) → side < 2 → set ns (nodeLength * x + side) y ≡ setLinkIn ns (sideOf side) x y
+pub link-set : (ns : List ℕ) (side x y : ℕ) → side < 2 → set ns (nodeLength * x + side) y
+    ≡ setLinkIn ns (sideOf side) x y
 link-set ns side x y l = ap (λ (n : ℕ). set ns (nodeLength * x + n) y) (sym (number-of-side side (omega arith)))

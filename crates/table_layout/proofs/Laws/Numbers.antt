@@ -13,7 +13,7 @@ use Rattle.machine.specs.Sides.{left, right, opposite, sideNumber, sideOf}
 use Rattle.machine.specs.Values.{number}
 use Rattle.machine.specs.Operations.{Operation, idle, push, pop, add, remove, operationOf, argumentOk, goalOf}
 use Rattle.machine.specs.Calls.{isIdle, isBusy}
-use Rattle.machine.proofs.Basics.Choices.{unequal, by-if}
+use Rattle.machine.proofs.Basics.Choices.{test-unequal, by-if}
 
 -- The opposite side.
 pub other-side : (n : ℕ) → n < 2 → 1 - n ≡ sideNumber (opposite (sideOf n))
@@ -48,7 +48,7 @@ not-busy remove = refl
 
 -- The last operation.
 pub remove-else : (n : ℕ) → n ≢ 0 → n ≢ 1 → n ≢ 2 → n ≢ 3 → operationOf n ≡ remove
-remove-else n a b c d = rw (unequal a, unequal b, unequal c, unequal d)
+remove-else n a b c d = rw (test-unequal a, test-unequal b, test-unequal c, test-unequal d)
 
 -- All but a push have their argument for a goal: a pop's is 0. It is a word, since its digit is 0.
 pub goal-else :
@@ -56,7 +56,7 @@ pub goal-else :
     → n ≢ 1
     → argumentOk (operationOf n) u ≡ true
     → u .word ≡ goalOf (operationOf n) growth (number u)
-goal-else n g u b ok = rw (unequal b) (go (n ≟ 0) (n ≟ 2) (n ≟ 3) (rw (unequal b) at ok))
+goal-else n g u b ok = rw (test-unequal b) (go (n ≟ 0) (n ≟ 2) (n ≟ 3) (rw (test-unequal b) at ok))
   where
     other : Dec (n ≡ 0) → Dec (n ≡ 2) → Dec (n ≡ 3) → Operation
     other d₀ d₂ d₃ = if d₀ then idle else if d₂ then pop else if d₃ then add else remove

@@ -1,4 +1,5 @@
--- The parts of the table that the code lends and reads: the nodes' words, with each link and value, and a task's record.
+-- The parts of the table that the code lends and reads: the nodes' words, with each link and value, and a task's
+-- record.
 use mathlib.Core.Path.{_≡_, sym, ap, _∙_}
 use mathlib.Core.List.{List, []}
 use Prim.Native.Nat.{ℕ, _+_, _*_, _-_, _≤_, _<_}
@@ -74,7 +75,8 @@ module _
 -- All the nodes' words are there.
 pub part-long : (ws : List ℕ) → HoldsNodes ws → length (nodePart ws) ≡ nodeLength * nodeCount ws
 part-long ws room =
-    length-take-le (nodeLength * nodeCount ws) (drop headerLength ws) (let e = length-drop headerLength ws in omega arith)
+    length-take-le (nodeLength * nodeCount ws) (drop headerLength ws)
+    (let e = length-drop headerLength ws in omega arith)
 
 module _ (ws : List ℕ) (sized : Sized (sizesOf ws)) where
   pub nodes-long : length (nodePart ws) ≡ nodeLength * nodeCount ws
@@ -108,7 +110,8 @@ module _ (ws : List ℕ) (sized : Sized (sizesOf ws)) where
       go (yes h) = words-in x h
       go (no h) =
           stored-alike (nodePart ws) [] 0 (nodeLength * x + linksLength) (λ c l.
-          sym (List·getD-eq-default (nodePart ws) 0 {n = nodeLength * x + linksLength + c} (let e = nodes-long in omega arith)))
+          sym (List·getD-eq-default (nodePart ws) 0 {n = nodeLength * x + linksLength + c}
+          (let e = nodes-long in omega arith)))
 
 -- ---- A task's record.
 pub task-read : (ws : List ℕ) (k : ℕ) → k < taskCount ws

@@ -1,41 +1,43 @@
 -- What calls mark one after another is what the definitions mark: two numbers, the roots, both links of a node.
 use mathlib.Core.Path.{_≡_, refl, sym, ap, _∙_, subst}
-use mathlib.Core.Bool.{Bool, cond}
+use mathlib.Core.Bool.{Bool, true, cond}
 use mathlib.Core.List.{List, [], _∷_, _++_}
 use Prim.Native.Nat.{ℕ, suc, _+_, _-_, _<_, _≤_}
 use native.Mathlib.Omega.{arith}
 use native.Mathlib.Numerals.{add-one}
-use lib.ListN.{getD}
+use lib.ListN.{length, getD}
 use borrow.Author.Tests.{le-ltb}
 use Rattle.machine.specs.Sides.{Side, left, right}
 use Rattle.machine.specs.Tasks.{Task, noNode, inA, inB, inC, inD}
 use Rattle.machine.specs.Registers.{heldIn}
-use Rattle.machine.specs.Table.{
-  nodeCount,
-  taskCount,
-  laneCount,
-  hat,
-  nodePart,
-  link,
-  recordWords,
-  task,
+use Rattle.machine.specs.Table.{nodeCount, taskCount, hat, nodePart, link, recordWords, task}
+use Rattle.machine.specs.Allocate.{
+  hatsFrom,
+  heldBy,
+  heldFrom,
+  roots,
+  Marking,
+  unmarked,
+  mark,
+  markAll,
+  visit,
+  Room,
 }
-use Rattle.machine.specs.Allocate.{hatsFrom, heldBy, heldFrom, roots, Marking, mark, markAll, visit, Room}
-use Rattle.machine.proofs.SlotRule.Marking.{room-markAll}
+use Rattle.machine.specs.Shape.{lengthOk}
+use Rattle.machine.proofs.Shape.ShapeLaws.{well-sized}
+use Rattle.machine.proofs.SlotRule.Marking.{room-unmarked, room-markAll}
 use Rattle.table_record.specs.declared.Task as Coded
 use Rattle.table_record.specs.Coded.{structOf, taskMeant}
 use Rattle.table_layout.specs.Words.{linkIn}
 use Rattle.table_layout.proofs.Laws.Views.{link-in, task-read}
-use Rattle.table_search.specs.Tables.{Searchable, hats}
+use Rattle.table_search.specs.Tables.{markingOf, Searchable, hats, HatsMarked}
+use Rattle.table_search.proofs.Laws.Padded.{padded-at, ready-after}
 
 -- ---- One number after another.
 pub both-marked : (S : ℕ) (m v u : Marking) (x y : ℕ) → v ≡ mark S m x → u ≡ mark S v y
     → u ≡ markAll S m (x ∷ y ∷ [])
 unfolding markAll
 both-marked S m v u x y e f = rw (f, e)
-
-pub room-for : {S n : ℕ} {m : Marking} → n ≡ S → Room S m → Room n m
-room-for {m = m} e r = subst (λ (k : ℕ). Room k m) (sym e) r
 
 pub room-of-list : (S : ℕ) (m v : Marking) (xs : List ℕ) → v ≡ markAll S m xs → Room S m → Room S v
 room-of-list S m v xs e r = rw e (room-markAll r xs)
@@ -50,6 +52,26 @@ pub roots-marked : (ws : List ℕ) (m v u : Marking) → v ≡ markAll (nodeCoun
     → u ≡ markAll (nodeCount ws) v (heldFrom ws (taskCount ws) 0) → u ≡ markAll (nodeCount ws) m (roots ws)
 unfolding roots
 roots-marked ws m v u e f = rw (f, e, markAll-append (nodeCount ws) m (hats ws) (heldFrom ws (taskCount ws) 0))
+
+-- ---- The hats marked where nothing was.
+module _ (ws ms q : List ℕ) (ok : lengthOk ws ≡ true) (places : nodeCount ws ≤ length ms)
+    (as-long : length q ≡ length ms) (nothing : markingOf ms q 0 ≡ unmarked) where
+  pub cleared : Searchable ws ms q 0
+  cleared =
+      let z = well-sized ws ok in
+      let room = subst (Room (nodeCount ws)) (sym nothing) (room-unmarked (nodeCount ws) (z .most-nodes)) in
+      record { well-sized = z; ready = record { room = room; places = places; as-long = as-long } }
+
+  pub hats-first : {ms′ q′ : List ℕ} {tail : ℕ}
+      → markingOf ms′ q′ tail ≡ markAll (nodeCount ws) (markingOf ms q 0) (hats ws) → length ms′ ≡ length ms
+      → length q′ ≡ length q → HatsMarked ws ms′ q′ tail
+  hats-first e l m =
+      let r = cleared .ready in
+      let room = room-of-list (nodeCount ws) _ _ (hats ws) e (r .room) in
+      record {
+        searchable = record { well-sized = cleared .well-sized; ready = ready-after r room l m };
+        marked = e ∙ ap (λ (v : Marking). markAll (nodeCount ws) v (hats ws)) nothing;
+      }
 
 -- ---- One turn of the loop over the lanes, with l of them passed: the two hats read are marked.
 module _ (ws : List ℕ) (S count l : ℕ) (m : Marking) where
@@ -106,15 +128,18 @@ module _ (ws : List ℕ) (S count k : ℕ) (m : Marking) where
 
 -- ---- The number at a place of the queue is a node: both of its links, read in the nodes' words and marked, are the
 -- visit.
-module _ (ws : List ℕ) (m : Marking) (ready : Searchable ws m) (i : ℕ) where
+module _ (ws ms q : List ℕ) (tail : ℕ) (searchable : Searchable ws ms q tail) (i : ℕ) where
+  abbrev m : Marking
+  m = markingOf ms q tail
+
   abbrev visited : ℕ
-  visited = getD (m .queue) i 0
+  visited = getD q i 0
 
   pub links-marked : (x y : ℕ) {ns : List ℕ} (v : Marking) → ns ≡ nodePart ws → x ≡ linkIn ns left visited
       → y ≡ linkIn ns right visited → v ≡ markAll (nodeCount ws) m (x ∷ y ∷ []) → v ≡ visit ws m i
   unfolding visit markAll
   links-marked x y {ns} v is e f g =
-      let sized = ready .well-sized .sized in
+      let sized = searchable .well-sized .sized in
       let read : (s : Side) → linkIn ns s visited ≡ link ws s visited
       = λ s. ap (λ (l : List ℕ). linkIn l s visited) is ∙ sym (link-in ws sized s visited) in
-      rw (← (e ∙ read left), ← (f ∙ read right)) g
+      rw (padded-at q i, ← (e ∙ read left), ← (f ∙ read right)) g

@@ -1,40 +1,46 @@
 -- While a node has no mark, the queue is not full; each branch is one case of the definition.
 use Prim.Native.Nat.{_<_}
 use native.Mathlib.Omega.{arith}
-use borrow.Author.Tests.{lt-ltb, le-ltb, eq-eqb, ne-eqb}
-use Rattle.machine.specs.Allocate.{mark, largestCount}
-use Rattle.machine.proofs.SlotRule.Marking.{tail-low}
+use lib.ListN.{length}
+use borrow.Author.Tests.{le-ltb}
+use Rattle.machine.specs.Allocate.{mark}
+use Rattle.table_search.proofs.Laws.Padded.{queue-open, mark-new, mark-old}
 use borrow.Author.Needs.{needs}
 use Rattle.table_search.proofs.mark.Statement.{statement}
 use Rattle.table_search.proofs.mark.Tie as tie
 
-element-copy-out-if2 : tie.Need-element-copy-out-if2
-element-copy-out-if2 c = search needs
-
-element-write-marks : tie.Need-element-write-marks
-element-write-marks c = search needs
-
-not-full : (c : tie.Then2) → c .before .before .before .args .tail < largestCount
+not-full : (c : tie.Then2) → let a = c .before .before .before .args in a .tail < length (a .queue .now)
 not-full c =
-    let s = c .before .before .before in
-    tail-low (s .pre) (s .args .x) (c .before .before .if1 .taken) (c .if2 .taken)
+    let then1 : tie.Then1 = search in
+    let s : tie.Start = search in
+    queue-open (s .pre) (s .args .x) (then1 .if1 .taken) (c .if2 .taken)
+
+cast-queue : tie.Need-cast-queue
+cast-queue c =
+    let start : tie.Start = search in
+    let then1 : tie.Then1 = search in
+    omega (arith, start .pre .room .few, then1 .if1 .taken)
 
 mul-queue : tie.Need-mul-queue
 mul-queue c = omega (arith, not-full c)
 
-element-write-queue : tie.Need-element-write-queue
-element-write-queue c = omega (arith, not-full c)
+slice-write-queue : tie.Need-slice-write-queue
+slice-write-queue c = omega (arith, not-full c)
 
 add-result : tie.Need-add-result
 add-result c = omega (arith, not-full c)
 
 returns : tie.Need-returns
-unfolding mark
-returns c = rw (lt-ltb _ _ (c .before .before .if1 .taken), eq-eqb _ _ (c .if2 .taken))
+returns c =
+    let then1 : tie.Then1 = search in
+    let s : tie.Start = search in
+    mark-new (s .pre) (s .args .x) (then1 .if1 .taken) (c .if2 .taken)
 
 returns-2 : tie.Need-returns-2
-unfolding mark
-returns-2 c = rw (lt-ltb _ _ (c .before .before .if1 .taken), ne-eqb _ _ (c .if2 .left))
+returns-2 c =
+    let then1 : tie.Then1 = search in
+    let s : tie.Start = search in
+    mark-old (s .pre) (s .args .x) (then1 .if1 .taken) (c .if2 .left)
 
 returns-3 : tie.Need-returns-3
 unfolding mark
@@ -44,11 +50,14 @@ pub mark-spec : {M : Type 1} → statement M
 mark-spec =
     tie.close
     (tie.spec
-    element-copy-out-if2
-    element-write-marks
+    (λ c. search needs)
+    (λ c. search needs)
+    cast-queue
     mul-queue
-    element-write-queue
+    slice-write-queue
     add-result
+    (λ c. search needs)
+    (λ c. search needs)
     returns
     returns-2
     returns-3)

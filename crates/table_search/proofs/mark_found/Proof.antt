@@ -7,16 +7,15 @@ use Rattle.table_search.proofs.mark_found.Tie as tie
 
 returns : tie.Need-returns
 returns c =
-    let s = c .before in
-    rw (eq-eqb (s .args .found) 0 (c .if1 .taken)) (none-unmarked (s .args .n) _ (s .pre))
-
-mark-requires : tie.Need-mark-requires
-mark-requires c κs = search needs
+    let s : tie.Start = search in
+    rw (eq-eqb (s .args .found) 0 (c .if1 .taken)) (none-unmarked (s .args .n) _ (s .pre .room))
 
 returns-2 : tie.Need-returns-2
 returns-2 c =
-    let s = c .before .before .before .before in
-    rw (ne-eqb (s .args .found) 0 (c .before .before .before .if1 .left)) (c .mark .ensures)
+    let m : tie.After-mark = search in
+    let e : tie.Else1 = search in
+    let s : tie.Start = search in
+    rw (ne-eqb (s .args .found) 0 (e .if1 .left)) (m .mark .ensures)
 
 pub mark-found-spec : {M : Type 1} → statement M
-mark-found-spec = tie.close (tie.spec returns mark-requires returns-2)
+mark-found-spec = tie.close (tie.spec returns (λ c κs. search needs) (λ c. search needs) (λ c. search needs) returns-2)

@@ -51,9 +51,9 @@ module _ (test : ℕ → Bool) where
       ∙ ap (λ k. allBelow k test) (sym (add-suc m n))
 
   -- Below k, at k, and after it.
-  pub around : (n k : ℕ) → k < n → allBelow k test && (test k && allFrom (k + 1) n test) ≡ allBelow n test
+  pub below-around : (n k : ℕ) → k < n → allBelow k test && (test k && allFrom (k + 1) n test) ≡ allBelow n test
   unfolding allBelow
-  around n k h =
+  below-around n k h =
       let all : k + 1 + (n - (k + 1)) ≡ n = omega arith in
       sym (and-assoc (allBelow k test) (test k) (allFrom (k + 1) n test))
       ∙ ap (λ b. b && allFrom (k + 1) n test) (ap (λ m. allBelow m test) (sym (add-one k)))

@@ -35,7 +35,7 @@ use Rattle.machine.proofs.Words.LentLaws.{
 }
 use Rattle.machine.proofs.Shape.ShapeLaws.{well-linked}
 use Rattle.table_shape.specs.Contracts.{fitsIn, nthOk, taskOk, allFrom}
-use Rattle.table_shape.proofs.Laws.Below.{from-none, around}
+use Rattle.table_shape.proofs.Laws.Below.{from-none, below-around}
 
 module _ (ws : List ℕ) (k : ℕ) (r : List ℕ) where
   abbrev lent : List ℕ
@@ -45,8 +45,8 @@ module _ (ws : List ℕ) (k : ℕ) (r : List ℕ) where
   lentTasksOk = allBelow (taskCount lent) (taskOk lent)
 
   -- ---- The records, where the task has no place.
-  pub placeless : taskCount ws ≤ k → allBelow (taskCount ws) (taskOk ws) ≡ lentTasksOk
-  placeless h = ap (λ (l : List ℕ). allBelow (taskCount l) (taskOk l)) (sym (no-place ws k r h))
+  pub tasks-placeless : taskCount ws ≤ k → allBelow (taskCount ws) (taskOk ws) ≡ lentTasksOk
+  tasks-placeless h = ap (λ (l : List ℕ). allBelow (taskCount l) (taskOk l)) (sym (no-place ws k r h))
 
   -- ---- And where it has one: those before it, the one lent and those after it.
   same-fit : (words : List ℕ) → fitsIn ws words ≡ fitsIn lent words
@@ -74,7 +74,7 @@ module _ (ws : List ℕ) (k : ℕ) (r : List ℕ) where
         allFrom 0 k (taskOk ws) && (fitsIn ws r && allFrom (k + 1) (taskCount ws) (taskOk ws)) ≡ lentTasksOk
     in-parts =
         (λ i. before i && (own-fits i && after i))
-        ∙ around (taskOk lent) (taskCount ws) k is-task
+        ∙ below-around (taskOk lent) (taskCount ws) k is-task
         ∙ ap (λ (n : ℕ). allBelow n (taskOk lent)) (sym (same-task-count ws k r))
 
     -- The record lent, as the only one of its words.

@@ -1,4 +1,5 @@
--- Refusals 3 and 4 by their number, which every call but start begins with; and what a table that passes gives the code.
+-- Refusals 3 and 4 by their number, which every call but start begins with; and what a table that passes gives the
+-- code.
 use mathlib.Core.Path.{_≡_, sym, ap, _∙_}
 use mathlib.Core.Logic.{_≢_}
 use mathlib.Core.List.{List}
@@ -14,12 +15,12 @@ use Rattle.machine.specs.Calls.{tableRefusal}
 use Rattle.machine.proofs.Basics.Choices.{if-yes}
 use Rattle.machine.proofs.Shape.ShapeLaws.{well-sized}
 use Rattle.answers.specs.Refusals.{numberOf}
-use Rattle.answers.proofs.Laws.Refusals.{decided, both-pass}
+use Rattle.answers.proofs.Laws.Refusals.{unless-decided, both-pass}
 
 module _ (ws : List ℕ) {n : ℕ} (is-number : n ≡ numberOf (tableRefusal ws none)) where
-  pub refused : n ≢ 0 → (others : Option ℕ) → tableRefusal ws others ≡ some n
-  refused h others =
-      decided (lengthOk ws) (shapeOk ws) 3 4 others (λ e. h (is-number ∙ e)) ∙ ap some (sym is-number)
+  pub table-refused : n ≢ 0 → (others : Option ℕ) → tableRefusal ws others ≡ some n
+  table-refused h others =
+      unless-decided (lengthOk ws) (shapeOk ws) 3 4 others (λ e. h (is-number ∙ e)) ∙ ap some (sym is-number)
 
   pub table-passed : n ≡ 0 → WellFormed ws
   table-passed e =

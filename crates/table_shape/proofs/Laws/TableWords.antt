@@ -41,18 +41,19 @@ module _ (ws : List ℕ) where
   right-sizes h f e = rw (le-leb leastLength (length ws) h, f, e)
 
   -- The hats of lane l, used or not.
-  module _ (l : ℕ) (is-lane : l < mostLanes) {x y : ℕ} (is-left : x ≡ hat ws l left) (is-right : y ≡ hat ws l right) where
-    left-word : x ≡ hatWord ws l left
-    left-word = is-left ∙ hat-read l is-lane left ws
+  module _ (l : ℕ) (is-lane : l < mostLanes) {x y : ℕ} (is-left : x ≡ hat ws l left) (is-right : y ≡ hat ws l right)
+    where
+      left-word : x ≡ hatWord ws l left
+      left-word = is-left ∙ hat-read l is-lane left ws
 
-    right-word : y ≡ hatWord ws l right
-    right-word = is-right ∙ hat-read l is-lane right ws
+      right-word : y ≡ hatWord ws l right
+      right-word = is-right ∙ hat-read l is-lane right ws
 
-    pub hats-used : {S : ℕ} → S ≡ nodeCount ws → l < laneCount ws → ltb x S && ltb y S ≡ hatsOk ws l
-    hats-used count h = rw (left-word, right-word, count, lt-ltb l (laneCount ws) h)
+      pub hats-used : {S : ℕ} → S ≡ nodeCount ws → l < laneCount ws → ltb x S && ltb y S ≡ hatsOk ws l
+      hats-used count h = rw (left-word, right-word, count, lt-ltb l (laneCount ws) h)
 
-    pub hats-unused : laneCount ws ≤ l → eqb x noNode && eqb y noNode ≡ hatsOk ws l
-    hats-unused h = rw (left-word, right-word, le-ltb l (laneCount ws) h)
+      pub hats-unused : laneCount ws ≤ l → eqb x noNode && eqb y noNode ≡ hatsOk ws l
+      hats-unused h = rw (left-word, right-word, le-ltb l (laneCount ws) h)
 
   module _ (passes : lengthOk ws ≡ true) where
     Z : WellSized (sizesOf ws)

@@ -8,24 +8,13 @@ use borrow.Author.Needs.{needs}
 use Rattle.table_shape.proofs.fits_in.Statement.{statement}
 use Rattle.table_shape.proofs.fits_in.Tie as tie
 
-slots-requires : tie.Need-slots-requires
-slots-requires c κs = search needs
-
-growth-requires : tie.Need-growth-requires
-growth-requires c κs = search needs
-
-lanes-requires : tie.Need-lanes-requires
-lanes-requires c κs = search needs
-
-record-ok-requires : tie.Need-record-ok-requires
-record-ok-requires c κs = search needs
-
 returns : tie.Need-returns
 returns c =
-    let l = c .before in
-    let g = l .before in
-    let n = g .before in
-    let a = n .before .before .args in
+    let start : tie.Start = search in
+    let l : tie.After-lanes = search in
+    let g : tie.After-growth = search in
+    let n : tie.After-slots = search in
+    let a = start .args in
     let ws = a .table .now in
     let words = recordOf (a .t) in
     c .record-ok .ensures
@@ -34,4 +23,6 @@ returns c =
     ∙ ap (λ (m : ℕ). recordOk (nodeCount ws) (growth ws) m words) (l .lanes .ensures)
 
 pub fits-in-spec : {M : Type 1} → statement M
-fits-in-spec = tie.close (tie.spec slots-requires growth-requires lanes-requires record-ok-requires returns)
+fits-in-spec =
+    tie.close (tie.spec (λ c κs. search needs) (λ c κs. search needs) (λ c κs. search needs) (λ c κs. search needs)
+    returns)

@@ -15,32 +15,21 @@ flag :
     → let t = c .before .before .before .before .before .args .table .now in
     c .if2 .if3 ≡ ltb (dispatched t) (taskCount t) && eqb (word14 t) 0 && eqb (word15 t) 0
 flag c =
-    let k = c .before .before in
-    let d = k .before in
-    let t = d .before .before .args .table .now in
-    and-met _ (c .if2 .came) (λ p. (p .0 .taken, p .2 ∙ ap (λ (n : ℕ). eqb n 0) (p .1 .ensures))) (λ p. (p .0 .left, p .1))
+    let start : tie.Start = search in
+    let k : tie.After-tasks = search in
+    let d : tie.After-dispatched = search in
+    let t = start .args .table .now in
+    and-met _ (c .if2 .came) (λ p. (p .0 .taken, p .2 ∙ ap (λ (n : ℕ). eqb n 0) (p .1 .ensures)))
+    (λ p. (p .0 .left, p .1))
     (and-met _ (c .before .if1 .came)
     (λ p. (lt-ltb _ _ (p .0 .taken), p .2 ∙ ap (λ (n : ℕ). eqb n 0) (p .1 .ensures)))
     (λ p. (le-ltb _ _ (p .0 .left), p .1))
     (ap (λ (n : ℕ). ltb n (k .tasks .result)) (d .dispatched .ensures) ∙ ap (ltb (dispatched t)) (k .tasks .ensures)))
 
-dispatched-requires : tie.Need-dispatched-requires
-dispatched-requires c κs = search needs
-
-tasks-requires : tie.Need-tasks-requires
-tasks-requires c κs = search needs
-
-word-14-requires : tie.Need-word-14-requires
-word-14-requires c κs = search needs
-
-word-15-requires : tie.Need-word-15-requires
-word-15-requires c κs = search needs
-
-all-hats-ok-requires : tie.Need-all-hats-ok-requires
-all-hats-ok-requires c κs = search needs
-
 returns : tie.Need-returns
-returns c = and-passed (flag (c .before .before)) (c .before .if3 .taken) (c .all-hats-ok .ensures)
+returns c =
+    let joined2 : tie.Joined2 = search in
+    and-passed (flag joined2) (c .before .if3 .taken) (c .all-hats-ok .ensures)
 
 returns-2 : tie.Need-returns-2
 returns-2 c = and-failed _ (flag (c .before)) (c .if3 .left) refl
@@ -49,10 +38,10 @@ pub header-ok-spec : {M : Type 1} → statement M
 header-ok-spec =
     tie.close
     (tie.spec
-    dispatched-requires
-    tasks-requires
-    word-14-requires
-    word-15-requires
-    all-hats-ok-requires
+    (λ c κs. search needs)
+    (λ c κs. search needs)
+    (λ c κs. search needs)
+    (λ c κs. search needs)
+    (λ c κs. search needs)
     returns
     returns-2)

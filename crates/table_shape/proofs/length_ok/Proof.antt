@@ -1,6 +1,6 @@
 -- Each way out decides the rest of the test.
 use mathlib.Core.Path.{_≡_, sym, ap, _∙_}
-use mathlib.Core.Bool.{Bool, true}
+use mathlib.Core.Bool.{Bool}
 use Prim.Native.Nat.{ℕ}
 use lib.Dec.{eqb}
 use lib.ListN.{length}
@@ -13,13 +13,9 @@ use Rattle.table_shape.proofs.length_ok.Statement.{statement}
 use Rattle.table_shape.proofs.length_ok.Tie as tie
 
 returns : tie.Need-returns
-returns c = too-short (c .before .before .args .table .now) (c .if1 .taken)
-
-lanes-requires : tie.Need-lanes-requires
-lanes-requires c κs = search needs
-
-lanes-ok-requires : tie.Need-lanes-ok-requires
-lanes-ok-requires c κs = search needs
+returns c =
+    let start : tie.Start = search in
+    too-short (start .args .table .now) (c .if1 .taken)
 
 -- What the tests of lanes and sizes say of the header.
 lanes-say :
@@ -29,7 +25,7 @@ lanes-say :
 lanes-say c e = ap lanesOk (sym (c .before .lanes .ensures)) ∙ sym (c .lanes-ok .ensures) ∙ e
 
 abbrev passed : tie.After-sizes-ok → tie.Else2
-passed c = c .before .before .before .before
+passed c = search
 
 sizes-say :
     (c : tie.After-sizes-ok) {b : Bool}
@@ -37,9 +33,9 @@ sizes-say :
     → let ws = passed c .before .before .before .before .before .args .table .now in
     sizesOk (nodeCount ws) (taskCount ws) (growth ws) (laneCount ws) ≡ b
 sizes-say c e =
-    let g = c .before in
-    let t = g .before in
-    let s = t .before in
+    let g : tie.After-growth = search in
+    let t : tie.After-tasks = search in
+    let s : tie.After-slots = search in
     let l = passed c .before .before in
     let ws = l .before .before .before .args .table .now in
     sym
@@ -52,40 +48,26 @@ sizes-say c e =
 
 returns-2 : tie.Need-returns-2
 returns-2 c =
-    let l = c .before in
-    let e = l .before .before in
-    wrong-lanes (e .before .before .args .table .now) (e .if1 .left)
+    let start : tie.Start = search in
+    let l : tie.After-lanes-ok = search in
+    let e : tie.Else1 = search in
+    wrong-lanes (start .args .table .now) (e .if1 .left)
     (lanes-say l (not-true (l .lanes-ok .result) (c .if2 .taken)))
-
-slots-requires : tie.Need-slots-requires
-slots-requires c κs = search needs
-
-tasks-requires : tie.Need-tasks-requires
-tasks-requires c κs = search needs
-
-growth-requires : tie.Need-growth-requires
-growth-requires c κs = search needs
-
-sizes-ok-requires : tie.Need-sizes-ok-requires
-sizes-ok-requires c κs = search needs
 
 returns-3 : tie.Need-returns-3
 returns-3 c =
-    let s = c .before in
+    let s : tie.After-sizes-ok = search in
     let e2 = passed s in
     let e = e2 .before .before .before in
     wrong-sizes (e .before .before .args .table .now) (e .if1 .left)
     (lanes-say (e2 .before) (not-false (e2 .before .lanes-ok .result) (e2 .if2 .left)))
     (sizes-say s (not-true (s .sizes-ok .result) (c .if3 .taken)))
 
-table-length-requires : tie.Need-table-length-requires
-table-length-requires c κs = search needs
-
 returns-4 : tie.Need-returns-4
 returns-4 c =
-    let f = c .before in
-    let s = f .before in
-    let t = s .before .before in
+    let f : tie.Else3 = search in
+    let s : tie.After-sizes-ok = search in
+    let t : tie.After-tasks = search in
     let e2 = passed s in
     let e = e2 .before .before .before in
     let ws = e .before .before .args .table .now in
@@ -101,13 +83,13 @@ length-ok-spec =
     tie.close
     (tie.spec
     returns
-    lanes-requires
-    lanes-ok-requires
+    (λ c κs. search needs)
+    (λ c κs. search needs)
     returns-2
-    slots-requires
-    tasks-requires
-    growth-requires
-    sizes-ok-requires
+    (λ c κs. search needs)
+    (λ c κs. search needs)
+    (λ c κs. search needs)
+    (λ c κs. search needs)
     returns-3
-    table-length-requires
+    (λ c κs. search needs)
     returns-4)

@@ -16,36 +16,37 @@ length-there :
     → c .length-ok .result ≡ b
     → let a = c .before .before .args in lengthOk (lentTo (a .table .now) (a .k) (recordOf (a .own))) ≡ b
 length-there c h =
-    let a = c .before .before .args in
+    let start : tie.Start = search in
+    let a = start .args in
     lent-length (a .table .now) (a .k) (recordOf (a .own)) ∙ sym (c .length-ok .ensures) ∙ h
 
-length-ok-requires : tie.Need-length-ok-requires
-length-ok-requires c κs = search needs
-
 returns : tie.Need-returns
-returns c = let l = c .before in rw (length-there l (not-true (l .length-ok .result) (c .if1 .taken)))
+returns c =
+    let l : tie.After-length-ok = search in rw (length-there l (not-true (l .length-ok .result) (c .if1 .taken)))
 
 lent-shape-ok-requires : tie.Need-lent-shape-ok-requires
 lent-shape-ok-requires c κs = let l = c .before .length-ok in sym (l .ensures) ∙ not-false (l .result) (c .if1 .left)
 
 returns-2 : tie.Need-returns-2
 returns-2 c =
-    let l = c .before .before .before in
+    let else1 : tie.Else1 = search in
+    let l : tie.After-length-ok = search in
     let s = c .before .lent-shape-ok in
     rw (
-      length-there l (not-false (l .length-ok .result) (c .before .before .if1 .left)),
+      length-there l (not-false (l .length-ok .result) (else1 .if1 .left)),
       sym (s .ensures) ∙ not-true (s .result) (c .if2 .taken),
     )
 
 returns-3 : tie.Need-returns-3
 returns-3 c =
-    let l = c .before .before .before in
+    let else1 : tie.Else1 = search in
+    let l : tie.After-length-ok = search in
     let s = c .before .lent-shape-ok in
     rw (
-      length-there l (not-false (l .length-ok .result) (c .before .before .if1 .left)),
+      length-there l (not-false (l .length-ok .result) (else1 .if1 .left)),
       sym (s .ensures) ∙ not-false (s .result) (c .if2 .left),
     )
 
 pub lent-refusal-spec : {M : Type 1} → statement M
 lent-refusal-spec =
-    tie.close (tie.spec length-ok-requires returns lent-shape-ok-requires returns-2 returns-3)
+    tie.close (tie.spec (λ c κs. search needs) returns lent-shape-ok-requires returns-2 returns-3)

@@ -35,25 +35,21 @@ flag c =
 header-ok-requires : tie.Need-header-ok-requires
 header-ok-requires c κs = header-long (c .before .args .table .now) (c .before .pre)
 
-nodes-ok-requires : tie.Need-nodes-ok-requires
-nodes-ok-requires c κs = search needs
-
-lent-tasks-ok-requires : tie.Need-lent-tasks-ok-requires
-lent-tasks-ok-requires c κs = search needs
-
 returns : tie.Need-returns
 returns c =
-    let j = c .before .before in
-    let a = j .before .before .before .args in
+    let start : tie.Start = search in
+    let j : tie.Joined1 = search in
+    let a = start .args in
     and-passed (flag j) (c .before .if2 .taken) (c .lent-tasks-ok .ensures)
     ∙ lent-shape (a .table .now) (a .k) (recordOf (a .own))
 
 returns-2 : tie.Need-returns-2
 returns-2 c =
-    let j = c .before in
-    let a = j .before .before .before .args in
+    let start : tie.Start = search in
+    let j : tie.Joined1 = search in
+    let a = start .args in
     and-failed _ (flag j) (c .if2 .left) refl ∙ lent-shape (a .table .now) (a .k) (recordOf (a .own))
 
 pub lent-shape-ok-spec : {M : Type 1} → statement M
 lent-shape-ok-spec =
-    tie.close (tie.spec header-ok-requires nodes-ok-requires lent-tasks-ok-requires returns returns-2)
+    tie.close (tie.spec header-ok-requires (λ c κs. search needs) (λ c κs. search needs) returns returns-2)

@@ -12,7 +12,7 @@ use Rattle.machine.proofs.Shape.ShapeLaws.{well-sized}
 use Rattle.table_record.specs.Coded.{recordOf}
 use Rattle.table_shape.specs.Contracts.{nthOk, taskOk, allFrom}
 use Rattle.table_shape.proofs.Laws.TableWords.{header-long}
-use Rattle.table_shape.proofs.Laws.LentShape.{placeless, before-fails, own-fails, after-decides}
+use Rattle.table_shape.proofs.Laws.LentShape.{tasks-placeless, before-fails, own-fails, after-decides}
 use borrow.Author.Needs.{needs}
 use Rattle.table_shape.proofs.lent_tasks_ok.Statement.{statement}
 use Rattle.table_shape.proofs.lent_tasks_ok.Tie as tie
@@ -20,20 +20,18 @@ use Rattle.table_shape.proofs.lent_tasks_ok.Tie as tie
 tasks-requires : tie.Need-tasks-requires
 tasks-requires c κs = header-long (c .before .args .table .now) (c .before .pre)
 
-tasks-ok-requires : tie.Need-tasks-ok-requires
-tasks-ok-requires c κs = search needs
-
 returns : tie.Need-returns
 returns c =
-    let t = c .before in
-    let n = t .before in
-    let a = n .before .before .args in
+    let start : tie.Start = search in
+    let t : tie.Then1 = search in
+    let n : tie.After-tasks = search in
+    let a = start .args in
     c .tasks-ok .ensures
-    ∙ placeless (a .table .now) (a .k) (recordOf (a .own)) (omega (arith, n .tasks .ensures, t .if1 .taken))
+    ∙ tasks-placeless (a .table .now) (a .k) (recordOf (a .own)) (omega (arith, n .tasks .ensures, t .if1 .taken))
 
 -- ---- The task has a place.
 abbrev start : tie.Else1 → tie.Start
-start c = c .before .before .before
+start c = search
 
 abbrev table : tie.Else1 → List ℕ
 table c = start c .args .table .now
@@ -44,33 +42,28 @@ is-task c = omega (arith, c .before .tasks .ensures, c .if1 .left)
 sized : (c : tie.Else1) → Sized (sizesOf (table c))
 sized c = well-sized (table c) (start c .pre) .sized
 
-owners-requires : tie.Need-owners-requires
-owners-requires c κs = search needs
-
 slots-requires : tie.Need-slots-requires
 slots-requires c κs = header-long (table (c .before)) (start (c .before) .pre)
 
-node-at-requires : tie.Need-node-at-requires
-node-at-requires c κs = search needs
-
 -- The first record's place.
 abbrev placed : tie.After-node-at → tie.Else1
-placed c = c .before .before .before
+placed c = search
 
 after-nodes : (c : tie.After-node-at) → c .node-at .result ≡ nodeAt (nodeCount (table (placed c)))
 after-nodes c = c .node-at .ensures ∙ ap nodeAt (c .before .slots .ensures)
 
 range-ok-requires : tie.Need-range-ok-requires
 range-ok-requires c κs =
-    let f = c .before in
+    let after-owners : tie.After-owners = search in
+    let f : tie.After-node-at = search in
     let e = placed f in (
-      (header-long (table e) (start e .pre), f .before .before .owners .ensures),
+      (header-long (table e) (start e .pre), after-owners .owners .ensures),
       (omega arith, omega (arith, after-nodes f, is-task e, sized e)),
     )
 
 -- What a range of the table's records tells.
 abbrev first : tie.After-range-ok → tie.After-node-at
-first c = c .before .before
+first c = search
 
 before-told :
     (c : tie.After-range-ok) {b : Bool}
@@ -84,7 +77,7 @@ before-told c h =
 
 returns-2 : tie.Need-returns-2
 returns-2 c =
-    let r = c .before in
+    let r : tie.After-range-ok = search in
     let e = placed (first r) in
     let a = start e .args in
     before-fails (a .table .now) (a .k) (recordOf (a .own)) (is-task e) (sized e) refl
@@ -93,23 +86,14 @@ returns-2 c =
 before-passed :
     (c : tie.Else2)
     → let e = placed (first (c .before)) in allFrom 0 (start e .args .k) (taskOk (table e)) ≡ true
-before-passed c = let r = c .before in before-told r (not-false (r .range-ok .result) (c .if2 .left))
-
-slice-aggregate-write : tie.Need-slice-aggregate-write
-slice-aggregate-write c = search needs
-
-write-requires : tie.Need-write-requires
-write-requires c κs = search needs
-
-slice-aggregate-range-ok : tie.Need-slice-aggregate-range-ok
-slice-aggregate-range-ok c = search needs
+before-passed c = let r : tie.After-range-ok = search in before-told r (not-false (r .range-ok .result) (c .if2 .left))
 
 -- ---- The record lent, by its words.
 abbrev written : tie.After-owners3 → tie.After-write
-written c = c .before .before .before
+written c = search
 
 abbrev passed : tie.After-write → tie.Else2
-passed c = c .before .before
+passed c = search
 
 range-ok-requires-2 : tie.Need-range-ok-requires-2
 range-ok-requires-2 c κs =
@@ -132,19 +116,17 @@ own-told c h =
 
 returns-3 : tie.Need-returns-3
 returns-3 c =
-    let r = c .before in
+    let r : tie.After-range-ok2 = search in
     let e2 = passed (written (r .before)) in
     let e = placed (first (e2 .before)) in
     let a = start e .args in
     own-fails (a .table .now) (a .k) (recordOf (a .own)) (is-task e) (sized e) refl (before-passed e2)
     (own-told r (not-true (r .range-ok2 .result) (c .if3 .taken)))
 
-add-range-ok : tie.Need-add-range-ok
-add-range-ok c = search needs
-
 range-ok-requires-3 : tie.Need-range-ok-requires-3
 range-ok-requires-3 c κs =
-    let f = first (passed (written (c .before .before .before)) .before) in
+    let after-owners3 : tie.After-owners3 = search in
+    let f = first (passed (written after-owners3) .before) in
     let e = placed f in (
       (header-long (table e) (start e .pre), f .before .before .owners .ensures),
       (
@@ -155,8 +137,8 @@ range-ok-requires-3 c κs =
 
 returns-4 : tie.Need-returns-4
 returns-4 c =
-    let e3 = c .before .before in
-    let r = e3 .before in
+    let e3 : tie.Else3 = search in
+    let r : tie.After-range-ok2 = search in
     let e2 = passed (written (r .before)) in
     let f = first (e2 .before) in
     let e = placed f in
@@ -172,18 +154,18 @@ lent-tasks-ok-spec =
     tie.close
     (tie.spec
     tasks-requires
-    tasks-ok-requires
+    (λ c κs. search needs)
     returns
-    owners-requires
+    (λ c κs. search needs)
     slots-requires
-    node-at-requires
+    (λ c κs. search needs)
     range-ok-requires
     returns-2
-    slice-aggregate-write
-    write-requires
-    slice-aggregate-range-ok
+    (λ c. search needs)
+    (λ c κs. search needs)
+    (λ c. search needs)
     range-ok-requires-2
     returns-3
-    add-range-ok
+    (λ c. search needs)
     range-ok-requires-3
     returns-4)

@@ -1,4 +1,5 @@
--- The invariant: the flag is the test of all nodes below the loop's number, and what is left are the words from there on.
+-- The invariant: the flag is the test of all nodes below the loop's number, and what is left are the words from there
+-- on.
 use mathlib.Core.Path.{_≡_, ap, sym, _∙_}
 use Prim.Native.Nat.{ℕ, _+_, _-_, _≤_, _<_}
 use native.Mathlib.Omega.{arith}
@@ -25,16 +26,16 @@ abbrev μ-loop : tie.MeasureT-loop
 slots-requires : tie.Need-slots-requires Inv-loop μ-loop
 slots-requires c κs = header-long (c .before .args .table .now) (c .before .pre)
 
-node-at-requires : tie.Need-node-at-requires Inv-loop μ-loop
-node-at-requires c κs = search needs
-
 -- Node 0 stands within the table.
-first-within : (c : tie.After-node-at Inv-loop μ-loop) → c .node-at .result ≤ length (c .before .before .before .args .table .now)
+first-within : (c : tie.After-node-at Inv-loop μ-loop) → c .node-at .result ≤ length
+    (c .before .before .before .args .table .now)
 first-within c =
-    let s = c .before .before .before in omega (arith, c .node-at .ensures, header-long (s .args .table .now) (s .pre))
-
-mul-rest : tie.Need-mul-rest Inv-loop μ-loop
-mul-rest c = search needs
+    let s : tie.Start Inv-loop μ-loop = search in omega (
+      arith,
+      c .node-at .ensures,
+      header-long (s .args .table .now)
+          (s .pre),
+    )
 
 sub-rest : tie.Need-sub-rest Inv-loop μ-loop
 sub-rest c = first-within c
@@ -42,13 +43,11 @@ sub-rest c = first-within c
 part-rest-start : tie.Need-part-rest-start Inv-loop μ-loop
 part-rest-start c = first-within c
 
-part-rest-end : tie.Need-part-rest-end Inv-loop μ-loop
-part-rest-end c = search needs
-
 loop-holds : tie.Need-loop-holds Inv-loop μ-loop
 loop-holds c =
-    let f = c .before in
-    let t = f .before .before .before .args .table .now in (
+    let start : tie.Start Inv-loop μ-loop = search in
+    let f : tie.After-node-at Inv-loop μ-loop = search in
+    let t = start .args .table .now in (
       omega arith,
       sym (none-below (nodeOk t)),
       moved-on t (f .node-at .result) ∙ ap (λ (n : ℕ). drop n t) (f .node-at .ensures),
@@ -56,7 +55,7 @@ loop-holds c =
 
 -- The loop's number is a node's.
 abbrev counted : tie.In-loop Inv-loop μ-loop → tie.After-slots Inv-loop μ-loop
-counted c = c .before .before .before .before
+counted c = search
 
 abbrev table : tie.In-loop Inv-loop μ-loop → List ℕ
 table c = counted c .before .before .args .table .now
@@ -80,18 +79,9 @@ sub-rest-2 c = words-left (c .before)
 part-rest-start-2 : tie.Need-part-rest-start-2 Inv-loop μ-loop
 part-rest-start-2 c = words-left (c .before)
 
-part-rest-end-2 : tie.Need-part-rest-end-2 Inv-loop μ-loop
-part-rest-end-2 c = search needs
-
-add-x : tie.Need-add-x Inv-loop μ-loop
-add-x c = search needs
-
-loop-less : tie.Need-loop-less Inv-loop μ-loop
-loop-less c = omega arith
-
 loop-again : tie.Need-loop-again Inv-loop μ-loop
 loop-again c =
-    let turn = c .before .before in
+    let turn : tie.In-loop Inv-loop μ-loop = search in
     let t = table turn in
     let l = turn .before .loop in
     let tested =
@@ -103,8 +93,9 @@ loop-again c =
 
 returns : tie.Need-returns Inv-loop μ-loop
 returns c =
-    let k = c .before .before .before .before in
-    let t = k .before .before .args .table .now in
+    let start : tie.Start Inv-loop μ-loop = search in
+    let k : tie.After-slots Inv-loop μ-loop = search in
+    let t = start .args .table .now in
     let l = c .before .loop in
     let e : l .x ≡ nodeCount t = omega (arith, c .loop-test .left, k .slots .ensures, l .inv .0) in
     l .inv .1 ∙ ap (λ n. allBelow n (nodeOk t)) e
@@ -116,17 +107,17 @@ nodes-ok-spec =
     Inv-loop
     μ-loop
     slots-requires
-    node-at-requires
-    mul-rest
+    (λ c κs. search needs)
+    (λ c. search needs)
     sub-rest
     part-rest-start
-    part-rest-end
+    (λ c. search needs)
     loop-holds
     node-ok-requires
     sub-rest-2
     part-rest-start-2
-    part-rest-end-2
-    add-x
-    loop-less
+    (λ c. search needs)
+    (λ c. search needs)
+    (λ c. omega arith)
     loop-again
     returns)

@@ -12,22 +12,10 @@ use borrow.Author.Needs.{needs}
 use Rattle.table_shape.proofs.nth_ok.Statement.{statement}
 use Rattle.table_shape.proofs.nth_ok.Tie as tie
 
-mul-record-in : tie.Need-mul-record-in
-mul-record-in c = search needs
-
-add-record-in : tie.Need-add-record-in
-add-record-in c = search needs
-
-record-in-requires : tie.Need-record-in-requires
-record-in-requires c κs = search needs
-
-fits-in-requires : tie.Need-fits-in-requires
-fits-in-requires c κs = search needs
-
 returns : tie.Need-returns
 returns c =
-    let r = c .before in
-    let s = r .before .before .before in
+    let r : tie.After-record-in = search in
+    let s : tie.Start = search in
     let a = s .args in
     let ws = a .table .now in
     let at : ℕ = a .first + recordLength * a .k in
@@ -37,4 +25,4 @@ returns c =
 
 pub nth-ok-spec : {M : Type 1} → statement M
 nth-ok-spec =
-    tie.close (tie.spec mul-record-in add-record-in record-in-requires fits-in-requires returns)
+    tie.close (tie.spec (λ c. search needs) (λ c. search needs) (λ c κs. search needs) (λ c κs. search needs) returns)

@@ -22,11 +22,11 @@ abbrev tested : tie.Start Inv-loop μ-loop → ℕ → Bool
 tested s = nthOk (s .args .table .now) (s .args .words .now) (s .args .first)
 
 abbrev start : tie.At-loop Inv-loop μ-loop → tie.Start Inv-loop μ-loop
-start c = c .before .before .before
+start c = search
 
 loop-holds : tie.Need-loop-holds Inv-loop μ-loop
 loop-holds c =
-    let s = c .before .before in
+    let s : tie.Start Inv-loop μ-loop = search in
     (omega arith, s .pre .1 .0, range-begins (tested s) (s .args .from))
 
 nth-ok-requires : tie.Need-nth-ok-requires Inv-loop μ-loop
@@ -36,23 +36,17 @@ nth-ok-requires c κs =
 returns : tie.Need-returns Inv-loop μ-loop
 returns c =
     let r = c .before .nth-ok in
-    let turn = c .before .before in
-    let at = turn .before in
+    let turn : tie.In-loop Inv-loop μ-loop = search in
+    let at : tie.At-loop Inv-loop μ-loop = search in
     let a = start at .args in
     range-fails (tested (start at)) (a .from) (a .to) (at .loop .k) (at .loop .inv .0) (turn .loop-test .taken)
     (sym (r .ensures) ∙ not-true (r .result) (c .if1 .taken))
 
-add-k : tie.Need-add-k Inv-loop μ-loop
-add-k c = search needs
-
-loop-less : tie.Need-loop-less Inv-loop μ-loop
-loop-less c = omega arith
-
 loop-again : tie.Need-loop-again Inv-loop μ-loop
 loop-again c =
     let r = c .before .nth-ok in
-    let turn = c .before .before in
-    let at = turn .before in
+    let turn : tie.In-loop Inv-loop μ-loop = search in
+    let at : tie.At-loop Inv-loop μ-loop = search in
     let a = start at .args in
     let l = at .loop in (
       omega (arith, l .inv .0),
@@ -63,7 +57,7 @@ loop-again c =
 
 returns-2 : tie.Need-returns-2 Inv-loop μ-loop
 returns-2 c =
-    let at = c .before in
+    let at : tie.At-loop Inv-loop μ-loop = search in
     let a = start at .args in
     let l = at .loop in
     let e : l .k ≡ a .to = omega (arith, c .loop-test .left, l .inv .1) in
@@ -78,7 +72,7 @@ range-ok-spec =
     loop-holds
     nth-ok-requires
     returns
-    add-k
-    loop-less
+    (λ c. search needs)
+    (λ c. omega arith)
     loop-again
     returns-2)

@@ -33,15 +33,11 @@ flag c =
 header-ok-requires : tie.Need-header-ok-requires
 header-ok-requires c κs = header-long (c .before .args .table .now) (c .before .pre)
 
-nodes-ok-requires : tie.Need-nodes-ok-requires
-nodes-ok-requires c κs = search needs
-
-tasks-ok-requires : tie.Need-tasks-ok-requires
-tasks-ok-requires c κs = search needs
-
 returns : tie.Need-returns
 unfolding shapeOk
-returns c = and-passed (flag (c .before .before)) (c .before .if2 .taken) (c .tasks-ok .ensures)
+returns c =
+    let joined1 : tie.Joined1 = search in
+    and-passed (flag joined1) (c .before .if2 .taken) (c .tasks-ok .ensures)
 
 returns-2 : tie.Need-returns-2
 unfolding shapeOk
@@ -49,4 +45,4 @@ returns-2 c = and-failed _ (flag (c .before)) (c .if2 .left) refl
 
 pub shape-ok-spec : {M : Type 1} → statement M
 shape-ok-spec =
-    tie.close (tie.spec header-ok-requires nodes-ok-requires tasks-ok-requires returns returns-2)
+    tie.close (tie.spec header-ok-requires (λ c κs. search needs) (λ c κs. search needs) returns returns-2)

@@ -12,19 +12,13 @@ use Rattle.table_shape.proofs.tasks_ok.Statement.{statement}
 use Rattle.table_shape.proofs.tasks_ok.Tie as tie
 
 abbrev start : tie.After-owners → tie.Start
-start c = c .before .before
+start c = search
 
 abbrev owned : tie.After-node-at → tie.After-owners
-owned c = c .before .before
-
-owners-requires : tie.Need-owners-requires
-owners-requires c κs = search needs
+owned c = search
 
 slots-requires : tie.Need-slots-requires
 slots-requires c κs = header-long (start c .args .table .now) (start c .pre)
-
-node-at-requires : tie.Need-node-at-requires
-node-at-requires c κs = search needs
 
 -- The first record's place.
 after-nodes :
@@ -36,7 +30,7 @@ tasks-requires c κs = let s = start (owned (c .before)) in header-long (s .args
 
 range-ok-requires : tie.Need-range-ok-requires
 range-ok-requires c κs =
-    let f = c .before .before in
+    let f : tie.After-node-at = search in
     let o = owned f in
     let ws = start o .args .table .now in
     let passes = start o .pre in (
@@ -46,8 +40,8 @@ range-ok-requires c κs =
 
 returns : tie.Need-returns
 returns c =
-    let n = c .before in
-    let f = n .before .before in
+    let n : tie.After-tasks = search in
+    let f : tie.After-node-at = search in
     let ws = start (owned f) .args .table .now in
     c .range-ok .ensures
     ∙ ap (λ (m : ℕ). allFrom 0 m (nthOk ws ws (f .node-at .result))) (n .tasks .ensures)
@@ -57,4 +51,4 @@ returns c =
 pub tasks-ok-spec : {M : Type 1} → statement M
 tasks-ok-spec =
     tie.close
-    (tie.spec owners-requires slots-requires node-at-requires tasks-requires range-ok-requires returns)
+    (tie.spec (λ c κs. search needs) slots-requires (λ c κs. search needs) tasks-requires range-ok-requires returns)

@@ -11,7 +11,7 @@ use Rattle.machine.specs.Choice.{_≟_, _<?_}
 use Rattle.machine.specs.Steps.{Step, rest, stepNumber, stepIn, stepOf, pushSteps, popSteps, removeSteps}
 use Rattle.machine.specs.Tasks.{Register, inA, inB, inC, inD}
 use Rattle.machine.specs.Registers.{holds}
-use Rattle.machine.proofs.Basics.Tests.{agreed, and-left, and-right}
+use Rattle.machine.proofs.Basics.Tests.{beq-equal, and-left, and-right}
 use Rattle.machine.proofs.Basics.Choices.{if-no}
 use Rattle.table_steps.proofs.Laws.Tables.{at, every}
 use Rattle.table_steps.proofs.Laws.OwnerTable.{inTable}
@@ -59,7 +59,7 @@ unfolding agrees
 exact-if table long all-ok = record { at-step = λ s r. go s r (s <? 83) }
   where
     go : (s : ℕ) (r : Register) → Dec (s < 83) → isIn (getD table s 0) r ≡ holds (stepOf s) r
-    go s r (yes h) = agreed _ _ (each-agrees s (getD table s 0) (at entryOk table all-ok s (omega arith)) r)
+    go s r (yes h) = beq-equal _ _ (each-agrees s (getD table s 0) (at entryOk table all-ok s (omega arith)) r)
     go s r (no h) =
         ap (λ (e : ℕ). isIn e r) (List·getD-eq-default table 0 {n = s} (omega arith))
         ∙ none-past-end s (omega arith) r

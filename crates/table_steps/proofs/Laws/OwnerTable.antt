@@ -10,7 +10,7 @@ use borrow.Author.Tests.{leb-true, ne-eqb}
 use Rattle.machine.specs.Choice.{_≟_, _<?_}
 use Rattle.machine.specs.Operations.{Operation, idle, push, pop, add, remove, operationOf}
 use Rattle.machine.specs.Steps.{Step, stepNumber, stepsOf, isStepIn}
-use Rattle.machine.proofs.Basics.Tests.{agreed, and-left, and-right}
+use Rattle.machine.proofs.Basics.Tests.{beq-equal, and-left, and-right}
 use Rattle.table_steps.proofs.Laws.Tables.{at, every}
 use Rattle.table_steps.specs.Owners.{owned, OwnerOk, OwnersOk}
 
@@ -41,7 +41,7 @@ entry-answers s o h =
     record {
       answers =
           between (λ n. owned n o ≡ isStepIn (stepsOf (operationOf n)) s)
-          (agreed _ _ one) (agreed _ _ two) (agreed _ _ three) (agreed _ _ four);
+          (beq-equal _ _ one) (beq-equal _ _ two) (beq-equal _ _ three) (beq-equal _ _ four);
     }
 
 -- ---- No step is past the table's end.

@@ -73,7 +73,7 @@ unfolding sameWords decLe
 other-sums-are-not = (refl, refl, refl)
 
 -- Words that V may be, from LN's on, are a mark's.
-pub mark-words : (u : Stored) → valueOk u ≡ true → 1000000001 ≤ u .word → (u .word ≤ 1000000006) × (u ≡ mark (u .word))
+mark-words : (u : Stored) → valueOk u ≡ true → 1000000001 ≤ u .word → (u .word ≤ 1000000006) × (u ≡ mark (u .word))
 mark-words u h l =
     elim (value-range u h) [
       | inl r ↦ absurd (omega (arith, r .0))

@@ -9,21 +9,15 @@ use Rattle.table_values.proofs.mirror.Tie as tie
 returns : tie.Need-returns
 returns c = sym (mirror-below (c .before .args .v) (c .before .pre) (omega (arith, c .if1 .taken)))
 
-add-t4 : tie.Need-add-t4
-add-t4 c = search needs
-
 returns-2 : tie.Need-returns-2
 returns-2 c =
-    let e = c .before in
+    let e : tie.Else1 = search in
     sum-up (e .before .args .v) (e .before .pre) (omega (arith, e .if1 .left)) (omega (arith, c .if2 .taken))
-
-sub-t5 : tie.Need-sub-t5
-sub-t5 c = search needs
 
 returns-3 : tie.Need-returns-3
 returns-3 c =
-    let e = c .before in
+    let e : tie.Else1 = search in
     sum-down (e .before .args .v) (e .before .pre) (omega (arith, c .if2 .left))
 
 pub mirror-spec : {M : Type 1} → statement M
-mirror-spec = tie.close (tie.spec returns add-t4 returns-2 sub-t5 returns-3)
+mirror-spec = tie.close (tie.spec returns (λ c. search needs) returns-2 (λ c. search needs) returns-3)

@@ -5,9 +5,6 @@ use borrow.Author.Needs.{needs}
 use Rattle.table_values.proofs.same.Statement.{statement}
 use Rattle.table_values.proofs.same.Tie as tie
 
-equal-requires : tie.Need-equal-requires
-equal-requires c κs = search needs
-
 returns : tie.Need-returns
 returns c =
     let a = c .before .args in
@@ -15,4 +12,4 @@ returns c =
     c .equal .ensures ∙ same-words (a .u) (a .v) (h .0) (h .1)
 
 pub same-spec : {M : Type 1} → statement M
-same-spec = tie.close (tie.spec equal-requires returns)
+same-spec = tie.close (tie.spec (λ c κs. search needs) returns)

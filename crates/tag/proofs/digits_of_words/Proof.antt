@@ -24,28 +24,17 @@ twos-requires c κs = c .pre
 loop-holds : tie.Need-loop-holds Inv-loop μ-loop
 loop-holds c = (omega arith, refl, refl)
 
-array-read-tens : tie.Need-array-read-tens Inv-loop μ-loop
-array-read-tens c = omega arith
-
 -- A number of two digits is 99 at most.
 small : (turn : tie.In-loop Inv-loop μ-loop) → getD (turn .before .before .twos .result) (turn .before .loop .i) 0 ≤ 99
 small turn =
-    let start = turn .before .before .before in
+    let after-twos : tie.After-twos Inv-loop μ-loop = search in
+    let start : tie.Start Inv-loop μ-loop = search in
     let a = start .args in
-    rw (turn .before .before .twos .ensures)
+    rw (after-twos .twos .ensures)
     (twos-small (tagOf (a .digit) (a .low)) (turn .before .loop .i))
 
 tens-requires : tie.Need-tens-requires Inv-loop μ-loop
 tens-requires c κs = small c
-
-mul-digits : tie.Need-mul-digits Inv-loop μ-loop
-mul-digits c = omega arith
-
-array-write-digits : tie.Need-array-write-digits Inv-loop μ-loop
-array-write-digits c = omega arith
-
-array-read-digits : tie.Need-array-read-digits Inv-loop μ-loop
-array-read-digits c = omega arith
 
 mul-digits-2 : tie.Need-mul-digits-2 Inv-loop μ-loop
 mul-digits-2 c = omega (arith, c .tens .ensures, small (c .before))
@@ -53,25 +42,12 @@ mul-digits-2 c = omega (arith, c .tens .ensures, small (c .before))
 sub-digits : tie.Need-sub-digits Inv-loop μ-loop
 sub-digits c = omega (arith, c .tens .ensures)
 
-mul-digits-3 : tie.Need-mul-digits-3 Inv-loop μ-loop
-mul-digits-3 c = omega arith
-
-add-digits : tie.Need-add-digits Inv-loop μ-loop
-add-digits c = omega arith
-
-array-write-digits-2 : tie.Need-array-write-digits-2 Inv-loop μ-loop
-array-write-digits-2 c = omega arith
-
-add-i : tie.Need-add-i Inv-loop μ-loop
-add-i c = omega arith
-
-loop-less : tie.Need-loop-less Inv-loop μ-loop
-loop-less c = omega arith
-
 loop-again : tie.Need-loop-again Inv-loop μ-loop
 loop-again c =
-    let l = c .before .before .loop in
-    let twos = c .before .before .before .twos in
+    let after-twos : tie.After-twos Inv-loop μ-loop = search in
+    let at-loop : tie.At-loop Inv-loop μ-loop = search in
+    let l = at-loop .loop in
+    let twos = after-twos .twos in
     let two = getD (twos .result) (l .i) 0 in
     let ten = c .tens .ensures in
     let one : two - 10 * c .tens .result ≡ two % 10 = omega arith in
@@ -85,9 +61,10 @@ loop-again c =
 
 returns : tie.Need-returns Inv-loop μ-loop
 returns c =
+    let after-twos : tie.After-twos Inv-loop μ-loop = search in
     let l = c .before .loop in
-    let twos = c .before .before .twos in
-    let start = c .before .before .before in
+    let twos = after-twos .twos in
+    let start : tie.Start Inv-loop μ-loop = search in
     let a = start .args in
     let five = ap length (twos .ensures) in
     filled-end (l .digits) (parted (twos .result)) (2 * l .i) (omega arith)
@@ -103,17 +80,17 @@ digits-of-words-spec =
     μ-loop
     twos-requires
     loop-holds
-    array-read-tens
+    (λ c. omega arith)
     tens-requires
-    mul-digits
-    array-write-digits
-    array-read-digits
+    (λ c. omega arith)
+    (λ c. omega arith)
+    (λ c. omega arith)
     mul-digits-2
     sub-digits
-    mul-digits-3
-    add-digits
-    array-write-digits-2
-    add-i
-    loop-less
+    (λ c. omega arith)
+    (λ c. omega arith)
+    (λ c. omega arith)
+    (λ c. omega arith)
+    (λ c. omega arith)
     loop-again
     returns)

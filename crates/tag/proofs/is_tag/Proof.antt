@@ -3,11 +3,8 @@ use borrow.Author.Needs.{needs}
 use Rattle.tag.proofs.is_tag.Statement.{statement}
 use Rattle.tag.proofs.is_tag.Tie as tie
 
-number-requires : tie.Need-number-requires
-number-requires c κs = search needs
-
 returns : tie.Need-returns
 returns c = rw (c .number .ensures)
 
 pub is-tag-spec : {M : Type 1} → statement M
-is-tag-spec = tie.close (tie.spec number-requires returns)
+is-tag-spec = tie.close (tie.spec (λ c κs. search needs) returns)

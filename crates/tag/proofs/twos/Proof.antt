@@ -7,33 +7,6 @@ use borrow.Author.Needs.{needs}
 use Rattle.tag.proofs.twos.Statement.{statement}
 use Rattle.tag.proofs.twos.Tie as tie
 
-cast-upper : tie.Need-cast-upper
-cast-upper c = search needs
-
-cast-lower : tie.Need-cast-lower
-cast-lower c = search needs
-
-mul-t6 : tie.Need-mul-t6
-mul-t6 c = search needs
-
-add-t7 : tie.Need-add-t7
-add-t7 c = search needs
-
-cast-t8 : tie.Need-cast-t8
-cast-t8 c = search needs
-
-cast-t10 : tie.Need-cast-t10
-cast-t10 c = search needs
-
-cast-t12 : tie.Need-cast-t12
-cast-t12 c = search needs
-
-cast-t14 : tie.Need-cast-t14
-cast-t14 c = search needs
-
-cast-t16 : tie.Need-cast-t16
-cast-t16 c = search needs
-
 returns : tie.Need-returns
 returns c =
     let digit = c .args .digit in
@@ -49,13 +22,13 @@ pub twos-spec : {M : Type 1} → statement M
 twos-spec =
     tie.close
     (tie.spec
-    cast-upper
-    cast-lower
-    mul-t6
-    add-t7
-    cast-t8
-    cast-t10
-    cast-t12
-    cast-t14
-    cast-t16
+    (λ c. search needs)
+    (λ c. search needs)
+    (λ c. search needs)
+    (λ c. search needs)
+    (λ c. search needs)
+    (λ c. search needs)
+    (λ c. search needs)
+    (λ c. search needs)
+    (λ c. search needs)
     returns)

@@ -27,7 +27,7 @@ use Rattle.tag_lists.specs.RoundTrips.{RefusalTouchesNothing}
 use Rattle.tag_lists.proofs.Laws.Ways.{first-at-most}
 
 -- A length that passes.
-pub whole-tags : (width longest l : ℕ) → lengthOk width longest l ≡ true → (width * (l / width) ≡ l) × (l ≤ longest)
+whole-tags : (width longest l : ℕ) → lengthOk width longest l ≡ true → (width * (l / width) ≡ l) × (l ≤ longest)
 whole-tags width longest l h =
     let p = both-true (eqb (l % width) 0) (leb l longest) h in
     (omega (arith, div-add-mod l width, eqb-true (l % width) 0 (p .0)), leb-true l longest (p .1))
@@ -89,8 +89,8 @@ pub data Ending (w : Way) (list out : List ℕ) : Type 0 where
   taken : (n : ℕ) → Accepted w list out n → Ending w list out
   left : {a : Answer} → outcome a out ≡ listTaken w list out → ((n : ℕ) → a ≢ count n) → Ending w list out
 
-pub ending : (w : Way) (list out : List ℕ) → Ending w list out
-ending w list out = by-length (lengthOk (w .width) (w .longest) (length list)) refl
+list-ending : (w : Way) (list out : List ℕ) → Ending w list out
+list-ending w list out = by-length (lengthOk (w .width) (w .longest) (length list)) refl
   where
     n : ℕ
     n = length list / w .width
@@ -117,18 +117,19 @@ ending w list out = by-length (lengthOk (w .width) (w .longest) (length list)) r
     by-length true ok = by-tags ok (decLt (firstBad w n list) n) (decLt (length out) (w .room * n))
     by-length false bad = left (bad-length w list out (sym bad) refl) (λ m e. clash (cc))
 
-pub accepted : (w : Way) (list out : List ℕ) (n : ℕ) → listTaken w list out .answer ≡ count n → Accepted w list out n
-accepted w list out n e =
-    elim (ending w list out) [
+pub list-accepted : (w : Way) (list out : List ℕ) (n : ℕ) → listTaken w list out .answer ≡ count n
+    → Accepted w list out n
+list-accepted w list out n e =
+    elim (list-ending w list out) [
       | taken m a ↦
           let same : n ≡ m = cc (ap (λ o. o .answer) (a .done)) in
           rw same a
       | left done other ↦ absurd (other n (ap (λ o. o .answer) done ∙ e))
     ]
 
-pub untouched : RefusalTouchesNothing
-untouched w list out refusal =
-    elim (ending w list out) [
+pub refusal-untouched : RefusalTouchesNothing
+refusal-untouched w list out refusal =
+    elim (list-ending w list out) [
       | taken n a ↦ absurd (refusal n (sym (ap (λ o. o .answer) (a .done))))
       | left done other ↦ sym (ap (λ o. o .out) done)
     ]

@@ -4,9 +4,6 @@ use borrow.Author.Needs.{needs}
 use Rattle.tag_lists.proofs.length_ok.Statement.{statement}
 use Rattle.tag_lists.proofs.length_ok.Tie as tie
 
-rem-if1 : tie.Need-rem-if1
-rem-if1 c = search needs
-
 returns : tie.Need-returns
 returns c = rw (eq-eqb _ _ (c .if1 .taken))
 
@@ -14,4 +11,4 @@ returns-2 : tie.Need-returns-2
 returns-2 c = rw (ne-eqb _ _ (c .if1 .left))
 
 pub length-ok-spec : {M : Type 1} → statement M
-length-ok-spec = tie.close (tie.spec rem-if1 returns returns-2)
+length-ok-spec = tie.close (tie.spec (λ c. search needs) returns returns-2)

@@ -20,27 +20,20 @@ abbrev μ-loop : tie.MeasureT-loop
 loop-holds : tie.Need-loop-holds Inv-loop μ-loop
 loop-holds c = (omega arith, refl)
 
-array-read-if1 : tie.Need-array-read-if1 Inv-loop μ-loop
-array-read-if1 c = omega arith
-
 returns : tie.Need-returns Inv-loop μ-loop
 returns c =
-    let l = c .before .before .loop in
-    let start = c .before .before .before in
+    let at-loop : tie.At-loop Inv-loop μ-loop = search in
+    let l = at-loop .loop in
+    let start : tie.Start Inv-loop μ-loop = search in
     let digits = start .args .t1 in
     let long = good-length (eInt w8) 10 digits _ (start .good .0) in
-    sym (digit-failed digits (l .i) (omega arith) (c .if1 .taken)) ∙ l .inv .1
-
-add-i : tie.Need-add-i Inv-loop μ-loop
-add-i c = omega arith
-
-loop-less : tie.Need-loop-less Inv-loop μ-loop
-loop-less c = omega arith
+    sym (digit-failed digits (l .i) (omega arith) (omega (arith, c .if1 .taken))) ∙ l .inv .1
 
 loop-again : tie.Need-loop-again Inv-loop μ-loop
 loop-again c =
-    let l = c .before .before .loop in
-    let start = c .before .before .before in
+    let at-loop : tie.At-loop Inv-loop μ-loop = search in
+    let l = at-loop .loop in
+    let start : tie.Start Inv-loop μ-loop = search in
     let digits = start .args .t1 in
     let long = good-length (eInt w8) 10 digits _ (start .good .0) in
     (omega arith, rw add-one (digit-passed digits (l .i) (omega arith) (c .if1 .left) ∙ l .inv .1))
@@ -48,7 +41,7 @@ loop-again c =
 returns-2 : tie.Need-returns-2 Inv-loop μ-loop
 returns-2 c =
     let l = c .before .loop in
-    let start = c .before .before in
+    let start : tie.Start Inv-loop μ-loop = search in
     let digits = start .args .t1 in
     let long = good-length (eInt w8) 10 digits _ (start .good .0) in
     sym (digits-passed digits (l .i) (omega arith)) ∙ l .inv .1
@@ -60,9 +53,9 @@ are-digits-spec =
     Inv-loop
     μ-loop
     loop-holds
-    array-read-if1
+    (λ c. omega arith)
     returns
-    add-i
-    loop-less
+    (λ c. omega arith)
+    (λ c. omega arith)
     loop-again
     returns-2)

@@ -21,19 +21,10 @@ abbrev μ-loop : tie.MeasureT-loop
 loop-holds : tie.Need-loop-holds Inv-loop μ-loop
 loop-holds c = (omega arith, some-number (c .args .t1) 0)
 
-array-read-some : tie.Need-array-read-some Inv-loop μ-loop
-array-read-some c = omega arith
-
-add-i : tie.Need-add-i Inv-loop μ-loop
-add-i c = omega arith
-
-loop-less : tie.Need-loop-less Inv-loop μ-loop
-loop-less c = omega arith
-
 loop-again : tie.Need-loop-again Inv-loop μ-loop
 loop-again c =
     let l = c .before .loop in
-    let start = c .before .before in
+    let start : tie.Start Inv-loop μ-loop = search in
     let five = start .args .t1 in
     let long = good-length (eInt w8) 5 five _ (start .good .0) in
     (omega arith, rw add-one (some-next five (l .i) (l .some) (omega arith) ∙ l .inv .1))
@@ -41,7 +32,7 @@ loop-again c =
 returns : tie.Need-returns Inv-loop μ-loop
 returns c =
     let l = c .before .loop in
-    let start = c .before .before in
+    let start : tie.Start Inv-loop μ-loop = search in
     let five = start .args .t1 in
     let long = good-length (eInt w8) 5 five _ (start .good .0) in
     sym (some-end five (l .i) (l .some) (omega arith)) ∙ l .inv .1
@@ -49,4 +40,4 @@ returns c =
 pub not-zero-spec : {M : Type 1} → statement M
 not-zero-spec =
     tie.close
-    (tie.spec Inv-loop μ-loop loop-holds array-read-some add-i loop-less loop-again returns)
+    (tie.spec Inv-loop μ-loop loop-holds (λ c. omega arith) (λ c. omega arith) (λ c. omega arith) loop-again returns)

@@ -21,46 +21,23 @@ abbrev μ-loop : tie.MeasureT-loop
 loop-holds : tie.Need-loop-holds Inv-loop μ-loop
 loop-holds c = (omega arith, refl, refl)
 
-mul-five : tie.Need-mul-five Inv-loop μ-loop
-mul-five c = omega arith
-
-array-read-five : tie.Need-array-read-five Inv-loop μ-loop
-array-read-five c = omega arith
-
 mul-five-2 : tie.Need-mul-five-2 Inv-loop μ-loop
 mul-five-2 c =
-    let start = c .before .before in
+    let start : tie.Start Inv-loop μ-loop = search in
     omega (arith, digit-at (start .args .t1) (2 * c .before .loop .i) (start .pre))
-
-mul-five-3 : tie.Need-mul-five-3 Inv-loop μ-loop
-mul-five-3 c = omega arith
-
-add-five : tie.Need-add-five Inv-loop μ-loop
-add-five c = omega arith
-
-array-read-five-2 : tie.Need-array-read-five-2 Inv-loop μ-loop
-array-read-five-2 c = omega arith
 
 add-five-2 : tie.Need-add-five-2 Inv-loop μ-loop
 add-five-2 c =
-    let start = c .before .before in
+    let start : tie.Start Inv-loop μ-loop = search in
     let digits = start .args .t1 in
     let i = c .before .loop .i in
     omega (arith, digit-at digits (2 * i) (start .pre), digit-at digits (2 * i + 1) (start .pre))
 
-array-write-five : tie.Need-array-write-five Inv-loop μ-loop
-array-write-five c = omega arith
-
-add-i : tie.Need-add-i Inv-loop μ-loop
-add-i c = omega arith
-
-loop-less : tie.Need-loop-less Inv-loop μ-loop
-loop-less c = omega arith
-
 loop-again : tie.Need-loop-again Inv-loop μ-loop
 loop-again c =
+    let start : tie.Start Inv-loop μ-loop = search in
     let l = c .before .loop in
-    let digits = c .before .before .args .t1 in
+    let digits = start .args .t1 in
     let wanted = length-pairs 5 digits in (
       omega arith,
       simp length-set (l .inv .1),
@@ -71,8 +48,9 @@ loop-again c =
 
 returns : tie.Need-returns Inv-loop μ-loop
 returns c =
+    let start : tie.Start Inv-loop μ-loop = search in
     let l = c .before .loop in
-    let digits = c .before .before .args .t1 in
+    let digits = start .args .t1 in
     filled-end (l .five) (pairs 5 digits) (l .i) (omega arith) (omega (arith, length-pairs 5 digits)) (l .inv .2)
 
 pub pack-spec : {M : Type 1} → statement M
@@ -82,15 +60,15 @@ pack-spec =
     Inv-loop
     μ-loop
     loop-holds
-    mul-five
-    array-read-five
+    (λ c. omega arith)
+    (λ c. omega arith)
     mul-five-2
-    mul-five-3
-    add-five
-    array-read-five-2
+    (λ c. omega arith)
+    (λ c. omega arith)
+    (λ c. omega arith)
     add-five-2
-    array-write-five
-    add-i
-    loop-less
+    (λ c. omega arith)
+    (λ c. omega arith)
+    (λ c. omega arith)
     loop-again
     returns)

@@ -22,25 +22,10 @@ abbrev μ-loop : tie.MeasureT-loop
 loop-holds : tie.Need-loop-holds Inv-loop μ-loop
 loop-holds c = (omega arith, refl, rw (add-zero (c .args .at)))
 
-array-read-bytes : tie.Need-array-read-bytes Inv-loop μ-loop
-array-read-bytes c = omega arith
-
-add-bytes : tie.Need-add-bytes Inv-loop μ-loop
-add-bytes c = omega arith
-
-slice-write-bytes : tie.Need-slice-write-bytes Inv-loop μ-loop
-slice-write-bytes c = omega arith
-
-add-i : tie.Need-add-i Inv-loop μ-loop
-add-i c = omega arith
-
-loop-less : tie.Need-loop-less Inv-loop μ-loop
-loop-less c = omega arith
-
 loop-again : tie.Need-loop-again Inv-loop μ-loop
 loop-again c =
     let l = c .before .loop in
-    let start = c .before .before in
+    let start : tie.Start Inv-loop μ-loop = search in
     let a = start .args in
     let long = good-length (eInt w8) 5 (a .t3) _ (start .good .1 .1 .0) in (
       omega arith,
@@ -54,7 +39,7 @@ same-length c = c .before .loop .inv .1
 returns : tie.Need-returns Inv-loop μ-loop
 returns c =
     let l = c .before .loop in
-    let start = c .before .before in
+    let start : tie.Start Inv-loop μ-loop = search in
     let a = start .args in
     let long = good-length (eInt w8) 5 (a .t3) _ (start .good .1 .1 .0) in
     sym (sets-end (l .bytes) (a .t3) (a .at + l .i) (l .i) (omega arith)) ∙ l .inv .2
@@ -66,11 +51,11 @@ put-five-spec =
     Inv-loop
     μ-loop
     loop-holds
-    array-read-bytes
-    add-bytes
-    slice-write-bytes
-    add-i
-    loop-less
+    (λ c. omega arith)
+    (λ c. omega arith)
+    (λ c. omega arith)
+    (λ c. omega arith)
+    (λ c. omega arith)
     loop-again
     same-length
     returns)

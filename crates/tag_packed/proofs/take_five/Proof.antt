@@ -19,25 +19,11 @@ abbrev μ-loop : tie.MeasureT-loop
 loop-holds : tie.Need-loop-holds Inv-loop μ-loop
 loop-holds c = (omega arith, refl, refl)
 
-add-five : tie.Need-add-five Inv-loop μ-loop
-add-five c = omega arith
-
-shared-slice-read-five : tie.Need-shared-slice-read-five Inv-loop μ-loop
-shared-slice-read-five c = omega arith
-
-array-write-five : tie.Need-array-write-five Inv-loop μ-loop
-array-write-five c = omega arith
-
-add-i : tie.Need-add-i Inv-loop μ-loop
-add-i c = omega arith
-
-loop-less : tie.Need-loop-less Inv-loop μ-loop
-loop-less c = omega arith
-
 loop-again : tie.Need-loop-again Inv-loop μ-loop
 loop-again c =
-    let l = c .before .before .loop in
-    let start = c .before .before .before in
+    let at-loop : tie.At-loop Inv-loop μ-loop = search in
+    let l = at-loop .loop in
+    let start : tie.Start Inv-loop μ-loop = search in
     let a = start .args in
     let wanted = length-part (a .bytes .now) (a .at) 5 (start .pre) in (
       omega arith,
@@ -50,7 +36,7 @@ loop-again c =
 returns : tie.Need-returns Inv-loop μ-loop
 returns c =
     let l = c .before .loop in
-    let start = c .before .before in
+    let start : tie.Start Inv-loop μ-loop = search in
     let a = start .args in
     let wanted = length-part (a .bytes .now) (a .at) 5 (start .pre) in
     filled-end (l .five) (take 5 (drop (a .at) (a .bytes .now))) (l .i) (omega arith) (omega arith) (l .inv .2)
@@ -62,10 +48,10 @@ take-five-spec =
     Inv-loop
     μ-loop
     loop-holds
-    add-five
-    shared-slice-read-five
-    array-write-five
-    add-i
-    loop-less
+    (λ c. omega arith)
+    (λ c. omega arith)
+    (λ c. omega arith)
+    (λ c. omega arith)
+    (λ c. omega arith)
     loop-again
     returns)

@@ -22,37 +22,10 @@ abbrev μ-loop : tie.MeasureT-loop
 loop-holds : tie.Need-loop-holds Inv-loop μ-loop
 loop-holds c = (omega arith, refl, refl)
 
-array-read-digits : tie.Need-array-read-digits Inv-loop μ-loop
-array-read-digits c = omega arith
-
-mul-digits : tie.Need-mul-digits Inv-loop μ-loop
-mul-digits c = omega arith
-
-array-write-digits : tie.Need-array-write-digits Inv-loop μ-loop
-array-write-digits c = omega arith
-
-array-read-digits-2 : tie.Need-array-read-digits-2 Inv-loop μ-loop
-array-read-digits-2 c = omega arith
-
-mul-digits-2 : tie.Need-mul-digits-2 Inv-loop μ-loop
-mul-digits-2 c = omega arith
-
-add-digits : tie.Need-add-digits Inv-loop μ-loop
-add-digits c = omega arith
-
-array-write-digits-2 : tie.Need-array-write-digits-2 Inv-loop μ-loop
-array-write-digits-2 c = omega arith
-
-add-i : tie.Need-add-i Inv-loop μ-loop
-add-i c = omega arith
-
-loop-less : tie.Need-loop-less Inv-loop μ-loop
-loop-less c = omega arith
-
 loop-again : tie.Need-loop-again Inv-loop μ-loop
 loop-again c =
     let l = c .before .loop in
-    let start = c .before .before in
+    let start : tie.Start Inv-loop μ-loop = search in
     let five = start .args .t1 in
     let long = good-length (eInt w8) 5 five _ (start .good .0) in (
       omega arith,
@@ -63,7 +36,7 @@ loop-again c =
 returns : tie.Need-returns Inv-loop μ-loop
 returns c =
     let l = c .before .loop in
-    let start = c .before .before in
+    let start : tie.Start Inv-loop μ-loop = search in
     let five = start .args .t1 in
     let long = good-length (eInt w8) 5 five _ (start .good .0) in
     filled-end (l .digits) (halves five) (2 * l .i) (omega arith) (omega (arith, length-halves five)) (l .inv .2)
@@ -75,14 +48,14 @@ unpack-spec =
     Inv-loop
     μ-loop
     loop-holds
-    array-read-digits
-    mul-digits
-    array-write-digits
-    array-read-digits-2
-    mul-digits-2
-    add-digits
-    array-write-digits-2
-    add-i
-    loop-less
+    (λ c. omega arith)
+    (λ c. omega arith)
+    (λ c. omega arith)
+    (λ c. omega arith)
+    (λ c. omega arith)
+    (λ c. omega arith)
+    (λ c. omega arith)
+    (λ c. omega arith)
+    (λ c. omega arith)
     loop-again
     returns)

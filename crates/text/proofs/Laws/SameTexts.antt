@@ -42,7 +42,8 @@ module _ (xs ys : List ℕ) (i : ℕ) (long : length xs ≡ length ys) (h : i < 
       rw (drop-cons xs i 0 g, drop-cons ys i 0 h)
 
   -- One byte more is compared, after others of which a flag tells.
-  pub same-next : (so-far : Bool) → (so-far && eqb (getD xs i 0) (getD ys i 0) && same (drop (i + 1) xs) (drop (i + 1) ys))
+  pub same-next : (so-far : Bool) → (so-far && eqb (getD xs i 0) (getD ys i 0) && same (drop (i + 1) xs)
+      (drop (i + 1) ys))
       ≡ (so-far && same (drop i xs) (drop i ys))
   same-next so-far =
       sym (rw (byte-first, add-one)

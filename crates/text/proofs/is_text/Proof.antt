@@ -24,22 +24,12 @@ returns c = sym (same-lengths-differ (c .before .args .text .now) (c .before .ar
 loop-holds : tie.Need-loop-holds Inv-loop μ-loop
 loop-holds c = (c .if1 .left, omega arith, refl)
 
-shared-slice-read-ok : tie.Need-shared-slice-read-ok Inv-loop μ-loop
-shared-slice-read-ok c = omega arith
-
-shared-slice-read-ok-2 : tie.Need-shared-slice-read-ok-2 Inv-loop μ-loop
-shared-slice-read-ok-2 c = omega arith
-
-add-i : tie.Need-add-i Inv-loop μ-loop
-add-i c = omega arith
-
-loop-less : tie.Need-loop-less Inv-loop μ-loop
-loop-less c = omega arith
-
 loop-again : tie.Need-loop-again Inv-loop μ-loop
 loop-again c =
-    let l = c .before .before .before .loop in
-    let a = c .before .before .before .before .before .args in (
+    let start : tie.Start Inv-loop μ-loop = search in
+    let at-loop : tie.At-loop Inv-loop μ-loop = search in
+    let l = at-loop .loop in
+    let a = start .args in (
       l .inv .0,
       omega arith,
       same-next (a .text .now) (a .want .now) (l .i) (l .inv .0) (omega arith) (l .ok) ∙ l .inv .2,
@@ -47,8 +37,9 @@ loop-again c =
 
 returns-2 : tie.Need-returns-2 Inv-loop μ-loop
 returns-2 c =
+    let start : tie.Start Inv-loop μ-loop = search in
     let l = c .before .loop in
-    let a = c .before .before .before .args in
+    let a = start .args in
     sym (and-true (l .ok))
     ∙ ap (λ (b : Bool). l .ok && b) (sym (same-ends (a .text .now) (a .want .now) (l .i) (l .inv .0) (omega arith)))
     ∙ l .inv .2
@@ -61,9 +52,9 @@ is-text-spec =
     μ-loop
     returns
     loop-holds
-    shared-slice-read-ok
-    shared-slice-read-ok-2
-    add-i
-    loop-less
+    (λ c. omega arith)
+    (λ c. omega arith)
+    (λ c. omega arith)
+    (λ c. omega arith)
     loop-again
     returns-2)

@@ -4,24 +4,14 @@ use Rattle.text.proofs.Laws.WritingLaws.{written-append}
 use Rattle.text.proofs.put_spaced_tag.Statement.{statement}
 use Rattle.text.proofs.put_spaced_tag.Tie as tie
 
-slice-aggregate-put : tie.Need-slice-aggregate-put
-slice-aggregate-put c = search needs
-
-put-requires : tie.Need-put-requires
-put-requires c κs = search needs
-
-put-tag-requires : tie.Need-put-tag-requires
-put-tag-requires c κs = search needs
-
-same-length : tie.Need-same-length
-same-length c = search needs
-
 returns : tie.Need-returns
 returns c =
+    let after-put : tie.After-put = search in
+    let after-put-tag : tie.After-put-tag = search in
     written-append
-    (c .before .before .before .before .before .before .put .ensures)
-    (c .before .before .put-tag .ensures)
+    (after-put .put .ensures)
+    (after-put-tag .put-tag .ensures)
 
 pub put-spaced-tag-spec : {M : Type 1} → statement M
 put-spaced-tag-spec =
-    tie.close (tie.spec slice-aggregate-put put-requires put-tag-requires same-length returns)
+    tie.close (tie.spec (λ c. search needs) (λ c κs. search needs) (λ c κs. search needs) (λ c. search needs) returns)

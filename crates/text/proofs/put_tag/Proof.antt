@@ -22,54 +22,39 @@ Inv-loop out₀ at tag digits i₀ out i =
 abbrev μ-loop : tie.MeasureT-loop
 μ-loop out₀ at tag digits i₀ out i = 10 - i
 
-digits-requires : tie.Need-digits-requires Inv-loop μ-loop
-digits-requires c κs = search needs
-
 loop-holds : tie.Need-loop-holds Inv-loop μ-loop
 loop-holds c =
-    let a = c .before .before .args in
+    let start : tie.Start Inv-loop μ-loop = search in
+    let a = start .args in
     (omega arith, refl, sets-from-zero (a .out .now) (tagText (a .tag)) (a .at))
-
-array-read-out : tie.Need-array-read-out Inv-loop μ-loop
-array-read-out c = omega arith
 
 add-out : tie.Need-add-out Inv-loop μ-loop
 add-out c =
-    let digits = c .before .before .digits in
-    omega (arith, tag-digit (c .before .before .before .before .args .tag) (c .before .loop .i) (digits .ensures))
-
-add-out-2 : tie.Need-add-out-2 Inv-loop μ-loop
-add-out-2 c = omega arith
-
-slice-write-out : tie.Need-slice-write-out Inv-loop μ-loop
-slice-write-out c = omega arith
-
-add-i : tie.Need-add-i Inv-loop μ-loop
-add-i c = omega arith
-
-loop-less : tie.Need-loop-less Inv-loop μ-loop
-loop-less c = omega arith
+    let start : tie.Start Inv-loop μ-loop = search in
+    let after-digits : tie.After-digits Inv-loop μ-loop = search in
+    let digits = after-digits .digits in
+    omega (arith, tag-digit (start .args .tag) (c .before .loop .i) (digits .ensures))
 
 loop-again : tie.Need-loop-again Inv-loop μ-loop
 loop-again c =
-    let a = c .before .before .before .before .args in
+    let start : tie.Start Inv-loop μ-loop = search in
+    let after-digits : tie.After-digits Inv-loop μ-loop = search in
+    let a = start .args in
     let l = c .before .loop in
-    let byte = tag-byte (a .tag) (l .i) (c .before .before .digits .ensures) (omega arith) in (
+    let byte = tag-byte (a .tag) (l .i) (after-digits .digits .ensures) (omega arith) in (
       omega arith,
       simp length-set (l .inv .1),
       rw (add-one, byte) (sets-next (l .out) (tagText (a .tag)) (a .at) (l .i) (omega (arith, tag-length (a .tag))))
           ∙ l .inv .2,
     )
 
-add-result : tie.Need-add-result Inv-loop μ-loop
-add-result c = omega arith
-
 same-length : tie.Need-same-length Inv-loop μ-loop
 same-length c = c .before .loop .inv .1
 
 returns : tie.Need-returns Inv-loop μ-loop
 returns c =
-    let a = c .before .before .before .before .args in
+    let start : tie.Start Inv-loop μ-loop = search in
+    let a = start .args in
     let l = c .before .loop in
     let ten = tag-length (a .tag) in
     record {
@@ -83,15 +68,15 @@ put-tag-spec =
     (tie.spec
     Inv-loop
     μ-loop
-    digits-requires
+    (λ c κs. search needs)
     loop-holds
-    array-read-out
+    (λ c. omega arith)
     add-out
-    add-out-2
-    slice-write-out
-    add-i
-    loop-less
+    (λ c. omega arith)
+    (λ c. omega arith)
+    (λ c. omega arith)
+    (λ c. omega arith)
     loop-again
-    add-result
+    (λ c. omega arith)
     same-length
     returns)

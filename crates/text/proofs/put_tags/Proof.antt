@@ -24,48 +24,19 @@ abbrev μ-loop : tie.MeasureT-loop
 
 loop-holds : tie.Need-loop-holds Inv-loop μ-loop
 loop-holds c =
-    let a = c .before .before .args in
+    let start : tie.Start Inv-loop μ-loop = search in
+    let a = start .args in
     (omega arith, refl, omega arith, no-tag-written (a .out .now) (a .words .now) (a .at))
-
-mul-number : tie.Need-mul-number Inv-loop μ-loop
-mul-number c = omega arith
-
-mul-number-2 : tie.Need-mul-number-2 Inv-loop μ-loop
-mul-number-2 c = omega arith
-
-shared-slice-read-number : tie.Need-shared-slice-read-number Inv-loop μ-loop
-shared-slice-read-number c = omega arith
-
-mul-number-3 : tie.Need-mul-number-3 Inv-loop μ-loop
-mul-number-3 c = omega arith
-
-add-number : tie.Need-add-number Inv-loop μ-loop
-add-number c = omega arith
-
-mul-number-4 : tie.Need-mul-number-4 Inv-loop μ-loop
-mul-number-4 c = omega arith
-
-shared-slice-read-number-2 : tie.Need-shared-slice-read-number-2 Inv-loop μ-loop
-shared-slice-read-number-2 c = omega arith
-
-number-requires : tie.Need-number-requires Inv-loop μ-loop
-number-requires c κs = search needs
-
-put-spaced-tag-requires : tie.Need-put-spaced-tag-requires Inv-loop μ-loop
-put-spaced-tag-requires c κs = omega arith
-
-add-i : tie.Need-add-i Inv-loop μ-loop
-add-i c = omega arith
-
-loop-less : tie.Need-loop-less Inv-loop μ-loop
-loop-less c = omega arith
 
 loop-again : tie.Need-loop-again Inv-loop μ-loop
 loop-again c =
-    let made = c .before .before .before .before in
-    let l = made .before .before .before .before .loop in
-    let a = made .before .before .before .before .before .before .before .args in
-    let p = c .before .before .put-spaced-tag in (
+    let start : tie.Start Inv-loop μ-loop = search in
+    let at-loop : tie.At-loop Inv-loop μ-loop = search in
+    let after-put-spaced-tag : tie.After-put-spaced-tag Inv-loop μ-loop = search in
+    let made : tie.After-number Inv-loop μ-loop = search in
+    let l = at-loop .loop in
+    let a = start .args in
+    let p = after-put-spaced-tag .put-spaced-tag in (
       omega arith,
       p .kept .0 ∙ l .inv .1,
       omega (arith, p .ensures .end, tag-length (made .number .result)),
@@ -77,7 +48,8 @@ same-length c = c .before .loop .inv .1
 
 returns : tie.Need-returns Inv-loop μ-loop
 returns c =
-    let a = c .before .before .before .before .args in
+    let start : tie.Start Inv-loop μ-loop = search in
+    let a = start .args in
     let l = c .before .loop in
     let all : l .i ≡ a .n = omega arith in
     (rw all at (l .inv .3), omega arith)
@@ -89,17 +61,17 @@ put-tags-spec =
     Inv-loop
     μ-loop
     loop-holds
-    mul-number
-    mul-number-2
-    shared-slice-read-number
-    mul-number-3
-    add-number
-    mul-number-4
-    shared-slice-read-number-2
-    number-requires
-    put-spaced-tag-requires
-    add-i
-    loop-less
+    (λ c. omega arith)
+    (λ c. omega arith)
+    (λ c. omega arith)
+    (λ c. omega arith)
+    (λ c. omega arith)
+    (λ c. omega arith)
+    (λ c. omega arith)
+    (λ c κs. search needs)
+    (λ c κs. omega arith)
+    (λ c. omega arith)
+    (λ c. omega arith)
     loop-again
     same-length
     returns)

@@ -1,6 +1,6 @@
 -- The bytes of a page: which there are, and where its lines end.
 use mathlib.Core.Path.{_≡_, refl, sym, ap, _∙_}
-use mathlib.Core.Bool.{Bool, true, false, false≢true}
+use mathlib.Core.Bool.{Bool, true, false≢true}
 use mathlib.Core.List.{List, [], _∷_, _++_, map, append-assoc}
 use Prim.Native.Nat.{ℕ, zero, suc, _+_, _*_, _-_, _≤_, _<_}
 use native.Mathlib.Omega.{arith}
@@ -65,11 +65,12 @@ digits-glyphs (d ∷ ds) h =
 zeros-glyphs : (k n : ℕ) → Each isGlyph (withZeros k n)
 zeros-glyphs k n = digits-glyphs (lastDigits k n) (last-are-digits k n)
 
-pub title-glyphs : (count : ℕ) → Each isGlyph (title count)
+title-glyphs : (count : ℕ) → Each isGlyph (title count)
 title-glyphs count =
-    each-append isGlyph (bytes "LANE ") (withZeros 4 count) (refl, (refl, (refl, (refl, (refl, tt))))) (zeros-glyphs 4 count)
+    each-append isGlyph (bytes "LANE ") (withZeros 4 count) (refl, (refl, (refl, (refl, (refl, tt)))))
+    (zeros-glyphs 4 count)
 
-pub cells-glyphs : (tags : List ℕ) → Each isGlyph (cells tags)
+cells-glyphs : (tags : List ℕ) → Each isGlyph (cells tags)
 unfolding cells
 cells-glyphs [] = tt
 cells-glyphs (tag ∷ tags) =
@@ -93,7 +94,8 @@ unfolding tagLines
 tag-lines-printed zero tags = tt
 tag-lines-printed (suc n) tags =
     let text = cells (take perLine tags) in
-    each-append isPrinted (line text) (tagLines n (drop perLine tags)) (line-printed text (cells-glyphs (take perLine tags)))
+    each-append isPrinted (line text) (tagLines n (drop perLine tags))
+    (line-printed text (cells-glyphs (take perLine tags)))
     (tag-lines-printed n (drop perLine tags))
 
 pub page-printed : (tags : List ℕ) (page : ℕ) → Each isPrinted (pageText tags page)

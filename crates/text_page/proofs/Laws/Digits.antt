@@ -87,7 +87,8 @@ four-stored out at n first second =
     ∙ ap (sets out at) (sym (two-twos n))
 
 pub tag-stored : (out : List ℕ) (at d l : ℕ) → d ≤ 9 → l < billion → {one two : List ℕ}
-    → one ≡ sets (set (set out at (48 + d)) (at + 1) (48 + l / 100_000_000)) (at + 2) (withZeros 4 (l / 10_000 % 10_000))
+    → one ≡ sets (set (set out at (48 + d)) (at + 1) (48 + l / 100_000_000)) (at + 2)
+    (withZeros 4 (l / 10_000 % 10_000))
     → two ≡ sets one (at + 6) (withZeros 4 (l % 10_000))
     → two ≡ sets out at (tagText (tagOf d l))
 tag-stored out at d l h k {one} {two} first second =
@@ -96,6 +97,7 @@ tag-stored out at d l h k {one} {two} first second =
     let low = withZeros 4 (l % 10_000) in
     let e : at + 6 ≡ at + 2 + 4 = omega arith in
     second
-    ∙ rw (first, e, add-one) (stored-after middle low (sets out at high) (at + 2) 4 (zeros-length 4 (l / 10_000 % 10_000)))
+    ∙ rw (first, e, add-one) (stored-after middle low (sets out at high) (at + 2) 4
+    (zeros-length 4 (l / 10_000 % 10_000)))
     ∙ stored-after high (middle ++ low) out at 2 refl
     ∙ ap (sets out at) (sym (tag-parts d l h k))

@@ -34,7 +34,8 @@ module _ (out : List ℕ) (at i : ℕ) where
       → sets (set out (at + i) blank) (at + suc i) (drop (suc i) blanks) ≡ sets out (at + i) (drop i blanks)
   blank-next h =
       let long = length-replicate columnCount blank in
-      subst (λ (b : ℕ). sets (set out (at + i) b) (at + suc i) (drop (suc i) blanks) ≡ sets out (at + i) (drop i blanks))
+      subst (λ (b : ℕ). sets (set out (at + i) b) (at + suc i) (drop (suc i) blanks)
+      ≡ sets out (at + i) (drop i blanks))
       (getD-replicate columnCount i blank 0 h) (sets-next out blanks at i (omega arith))
 
   pub blanks-end : columnCount ≤ i → sets out (at + i) (drop i blanks) ≡ out

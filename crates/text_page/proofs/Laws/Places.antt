@@ -68,7 +68,8 @@ blanks-inside zero (suc k) (suc b) more h = ap (λ (l : List ℕ). blank ∷ l) 
 blanks-inside (suc n) k zero more h = absurd (omega arith)
 blanks-inside (suc n) k (suc b) more h = blanks-inside n k b more (omega arith)
 
-pub blanks-left : (n b : ℕ) (more : List ℕ) → n ≤ b → drop n (replicate b blank ++ more) ≡ replicate (b - n) blank ++ more
+pub blanks-left : (n b : ℕ) (more : List ℕ) → n ≤ b → drop n (replicate b blank ++ more)
+    ≡ replicate (b - n) blank ++ more
 blanks-left zero b more h = rw (sub-zero b)
 blanks-left (suc n) zero more h = absurd (omega arith)
 blanks-left (suc n) (suc b) more h =
@@ -78,7 +79,8 @@ blanks-left (suc n) (suc b) more h =
 cell-inside : (tags : List ℕ) (c b : ℕ) (more : List ℕ) → cellLength * suc c ≤ cellLength * length tags + b
     → take cellLength (drop (cellLength * c) (cells tags ++ (replicate b blank ++ more))) ≡ cellOrBlanks tags c
 unfolding cells
-cell-inside [] c b more h = blanks-inside (cellLength * c) cellLength b more (omega arith) ∙ sym (no-cell [] c (omega arith))
+cell-inside [] c b more h =
+    blanks-inside (cellLength * c) cellLength b more (omega arith) ∙ sym (no-cell [] c (omega arith))
 cell-inside (tag ∷ tags) zero b more h =
     let rest = replicate b blank ++ more in
     ap (take cellLength) (append-assoc (cell tag) (cells tags) rest)
@@ -87,7 +89,8 @@ cell-inside (tag ∷ tags) zero b more h =
 cell-inside (tag ∷ tags) (suc c) b more h =
     let rest = replicate b blank ++ more in
     let e : cellLength * suc c ≡ cellLength + cellLength * c = omega arith in
-    let skipped : drop (cellLength * suc c) (cell tag ++ cells tags ++ rest) ≡ drop (cellLength * c) (cells tags ++ rest) =
+    let skipped : drop (cellLength * suc c) (cell tag ++ cells tags ++ rest)
+    ≡ drop (cellLength * c) (cells tags ++ rest) =
     ap (drop (cellLength * suc c)) (append-assoc (cell tag) (cells tags) rest)
     ∙ ap (λ (n : ℕ). drop n (cell tag ++ (cells tags ++ rest))) e
     ∙ sym (drop-drop (cellLength * c) cellLength (cell tag ++ (cells tags ++ rest)))

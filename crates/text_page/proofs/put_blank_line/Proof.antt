@@ -1,4 +1,5 @@
--- `text_page::put_blank_line` meets its contract. The loop's invariant: storing the blanks left gives what storing all gives.
+-- `text_page::put_blank_line` meets its contract. The loop's invariant: storing the blanks left gives what storing all
+-- gives.
 use mathlib.Core.Path.{_≡_, refl, sym, _∙_}
 use Prim.Native.Nat.{_+_, _-_, _≤_}
 use native.Mathlib.Numerals.{add-one}
@@ -21,39 +22,23 @@ abbrev μ-loop : tie.MeasureT-loop
 loop-holds : tie.Need-loop-holds Inv-loop μ-loop
 loop-holds c = (omega arith, refl, sets-from-zero (c .args .out .now) blanks (c .args .at))
 
-add-out : tie.Need-add-out Inv-loop μ-loop
-add-out c = omega arith
-
-slice-write-out : tie.Need-slice-write-out Inv-loop μ-loop
-slice-write-out c = omega arith
-
-add-i : tie.Need-add-i Inv-loop μ-loop
-add-i c = omega arith
-
-loop-less : tie.Need-loop-less Inv-loop μ-loop
-loop-less c = omega arith
-
 loop-again : tie.Need-loop-again Inv-loop μ-loop
 loop-again c =
+    let start : tie.Start Inv-loop μ-loop = search in
     let l = c .before .loop in (
       omega arith,
       simp length-set (l .inv .1),
-      rw add-one (blank-next (l .out) (c .before .before .args .at) (l .i) (omega arith)) ∙ l .inv .2,
+      rw add-one (blank-next (l .out) (start .args .at) (l .i) (omega arith)) ∙ l .inv .2,
     )
-
-add-out-2 : tie.Need-add-out-2 Inv-loop μ-loop
-add-out-2 c = omega arith
-
-slice-write-out-2 : tie.Need-slice-write-out-2 Inv-loop μ-loop
-slice-write-out-2 c = omega arith
 
 same-length : tie.Need-same-length Inv-loop μ-loop
 same-length c = simp length-set (c .before .loop .inv .1)
 
 returns : tie.Need-returns Inv-loop μ-loop
 returns c =
+    let start : tie.Start Inv-loop μ-loop = search in
     let l = c .before .loop in
-    let a = c .before .before .args in
+    let a = start .args in
     feed-stored (a .out .now) (a .at) (sym (blanks-end (l .out) (a .at) (l .i) (omega arith)) ∙ l .inv .2)
 
 pub put-blank-line-spec : {M : Type 1} → statement M
@@ -63,12 +48,12 @@ put-blank-line-spec =
     Inv-loop
     μ-loop
     loop-holds
-    add-out
-    slice-write-out
-    add-i
-    loop-less
+    (λ c. omega arith)
+    (λ c. omega arith)
+    (λ c. omega arith)
+    (λ c. omega arith)
     loop-again
-    add-out-2
-    slice-write-out-2
+    (λ c. omega arith)
+    (λ c. omega arith)
     same-length
     returns)

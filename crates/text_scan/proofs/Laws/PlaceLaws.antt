@@ -69,7 +69,12 @@ module _ {σ : Scanned} (W : WellScanned σ) where
   pub appended-well : (b : ℕ) → isDigit b ≡ false → WellScanned (appended σ b)
   unfolding placesIn
   appended-well b h =
-      record { placed = rw (places-more (σ .text) b, h) (omega (arith, W .placed)); narrow = W .narrow; some = λ e. absurd (false≢true e) }
+      record {
+        placed = rw (places-more (σ .text) b, h) (omega (arith, W .placed));
+        narrow = W .narrow;
+        some = λ e.
+            absurd (false≢true e);
+      }
 
   pub opened-well : (d : ℕ) → d < 10 → WellScanned (opened σ d)
   unfolding placesIn
@@ -95,7 +100,7 @@ module _ {σ : Scanned} (W : WellScanned σ) where
         some = λ _. rw (length-set (σ .numbers) last v) some;
       }
 
-pub byte-well : {σ : Scanned} → WellScanned σ → (b : ℕ) → WellScanned (scanByte σ b)
+byte-well : {σ : Scanned} → WellScanned σ → (b : ℕ) → WellScanned (scanByte σ b)
 byte-well {σ} W b = go (isDigit b) (σ .inNumber) refl refl
   where
     go : (digit within : Bool) → isDigit b ≡ digit → σ .inNumber ≡ within → WellScanned (scanByte σ b)

@@ -129,7 +129,8 @@ module _ {k : Kept} (K : ScanKept k) where
       record {
         text-places = text-length zeroDigit;
         number-places = length-set (k .numbers) _ d ∙ K .number-places;
-        up-to-tag = up-to-tag-set (k .numbers) (min numberPlaces (k .scan .count + 1) - 1) d (K .up-to-tag) (omega arith);
+        up-to-tag = up-to-tag-set (k .numbers) (min numberPlaces (k .scan .count + 1) - 1) d (K .up-to-tag)
+            (omega arith);
         counts = opened-counts k (K .counts) d;
       }
 
@@ -236,7 +237,7 @@ unfolding keepBytes
 bytes-scan-kept K [] = K
 bytes-scan-kept K (b ∷ bs) = bytes-scan-kept (byte-scan-kept K b) bs
 
-pub bytes-represents : {k : Kept} {σ : Scanned} → ScanKept k → Represents k σ → (bytes : List ℕ)
+bytes-represents : {k : Kept} {σ : Scanned} → ScanKept k → Represents k σ → (bytes : List ℕ)
     → Represents (keepBytes k bytes) (scanBytes σ bytes)
 unfolding keepBytes scanBytes
 bytes-represents K R [] = R

@@ -8,12 +8,6 @@ use Rattle.text_scan.specs.Kept.{textPlaces}
 use Rattle.text_scan.proofs.put.Statement.{statement}
 use Rattle.text_scan.proofs.put.Tie as tie
 
-element-write-text : tie.Need-element-write-text
-element-write-text c = search needs
-
-add-result : tie.Need-add-result
-add-result c = search needs
-
 returns : tie.Need-returns
 returns c =
     let room : c .before .args .n < textPlaces = omega arith in
@@ -25,4 +19,4 @@ returns-2 c =
     rw (le-ltb _ _ full) (refl, omega arith)
 
 pub put-spec : {M : Type 1} → statement M
-put-spec = tie.close (tie.spec element-write-text add-result returns returns-2)
+put-spec = tie.close (tie.spec (λ c. search needs) (λ c. search needs) returns returns-2)

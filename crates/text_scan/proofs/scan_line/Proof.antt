@@ -18,33 +18,31 @@ abbrev μ-loop : tie.MeasureT-loop
 loop-holds : tie.Need-loop-holds Inv-loop μ-loop
 loop-holds c = scanning-starts _ _ _ (c .before .pre .0) (c .before .pre .1)
 
-shared-slice-read-b : tie.Need-shared-slice-read-b Inv-loop μ-loop
-shared-slice-read-b c = omega arith
-
 returns : tie.Need-returns Inv-loop μ-loop
 returns c =
-    let l = c .before .before .before .loop in
-    let a = c .before .before .before .before .before .args in
+    let start : tie.Start Inv-loop μ-loop = search in
+    let at-loop : tie.At-loop Inv-loop μ-loop = search in
+    let l = at-loop .loop in
+    let a = start .args in
     scanning-ends (l .inv) (line-fed (a .chunk .now) (l .i) (omega arith) (c .if1 .taken))
 
 scan-byte-requires : tie.Need-scan-byte-requires Inv-loop μ-loop
-scan-byte-requires c κs = c .before .before .before .before .before .loop .inv .counts
-
-add-i : tie.Need-add-i Inv-loop μ-loop
-add-i c = omega arith
-
-loop-less : tie.Need-loop-less Inv-loop μ-loop
-loop-less c = omega arith
+scan-byte-requires c κs =
+    let at-loop : tie.At-loop Inv-loop μ-loop = search in
+    at-loop .loop .inv .counts
 
 loop-again : tie.Need-loop-again Inv-loop μ-loop
 loop-again c =
-    let l = c .before .before .before .before .before .before .loop in
-    scanning-goes-on (l .inv) (omega arith) (c .before .before .before .if1 .left) (c .scan-byte .ensures)
+    let at-loop : tie.At-loop Inv-loop μ-loop = search in
+    let else1 : tie.Else1 Inv-loop μ-loop = search in
+    let l = at-loop .loop in
+    scanning-goes-on (l .inv) (omega arith) (else1 .if1 .left) (c .scan-byte .ensures)
 
 returns-2 : tie.Need-returns-2 Inv-loop μ-loop
 returns-2 c =
+    let start : tie.Start Inv-loop μ-loop = search in
     let l = c .before .loop in
-    let a = c .before .before .before .args in
+    let a = start .args in
     scanning-ends (l .inv) (chunk-ends (a .chunk .now) (l .i) (omega arith))
 
 pub scan-line-spec : {M : Type 1} → statement M
@@ -54,10 +52,10 @@ scan-line-spec =
     Inv-loop
     μ-loop
     loop-holds
-    shared-slice-read-b
+    (λ c. omega arith)
     returns
     scan-byte-requires
-    add-i
-    loop-less
+    (λ c. omega arith)
+    (λ c. omega arith)
     loop-again
     returns-2)

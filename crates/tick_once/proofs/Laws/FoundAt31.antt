@@ -8,7 +8,7 @@ use Rattle.machine.specs.Choice.{_≟_}
 use Rattle.machine.specs.Steps.{line31}
 use Rattle.machine.specs.Tasks.{noNode}
 use Rattle.machine.specs.Lines.{act}
-use Rattle.machine.proofs.Basics.Choices.{equal, by-if}
+use Rattle.machine.proofs.Basics.Choices.{test-equal, by-if}
 use Rattle.table_record.specs.declared.Task as Tasks
 use Rattle.line_parts.specs.Lent.{lineOf}
 use Rattle.tick_once.specs.Steps.{foundAt31}
@@ -19,7 +19,7 @@ pub found-enough :
 unfolding lineOf act
 found-enough ns h t g f =
     by-if (λ x. lineOf line31 ns h t g x ≡ lineOf line31 ns h t g f) (getD (t .registers) 3 0 ≟ noNode)
-    (λ e. rw (equal e)) (λ _. refl)
+    (λ e. rw (test-equal e)) (λ _. refl)
 
 pub found-node : (t : Tasks.Task) (f S : ℕ) → (f ≢ noNode → f < S) → foundAt31 t f ≢ noNode → foundAt31 t f < S
 found-node t f S h =

@@ -9,7 +9,8 @@ use Rattle.machine.specs.Lines.{seen}
 use Rattle.line_parts.specs.Lent.{memoryIn}
 use Rattle.table_layout.proofs.Laws.Views.{link-in, value-in}
 
-pub seen-in : (ws : List ℕ) → Sized (sizesOf ws) → (l : ℕ) (s : Side) → seen l s ws ≡ memoryIn s (nodePart ws) (hat ws l s)
+pub seen-in : (ws : List ℕ) → Sized (sizesOf ws) → (l : ℕ) (s : Side) → seen l s ws
+    ≡ memoryIn s (nodePart ws) (hat ws l s)
 seen-in ws sized l s =
     λ i. record {
       out = fun-ext (link-in ws sized s) i;

@@ -23,8 +23,18 @@ use Rattle.machine.specs.Operations.{
   goalOf,
 }
 use Rattle.machine.specs.Steps.{stepNumber, stepOf, stepsOf, isStepIn}
-use Rattle.machine.specs.Tasks.{Task, noNode}
-use Rattle.machine.specs.Table.{nodeCount, taskCount, growth, laneCount, mostLanes, nodePart, valueWords, recordWords, task}
+use Rattle.machine.specs.Tasks.{noNode}
+use Rattle.machine.specs.Table.{
+  nodeCount,
+  taskCount,
+  growth,
+  laneCount,
+  mostLanes,
+  nodePart,
+  valueWords,
+  recordWords,
+  task,
+}
 use Rattle.machine.specs.Shape.{recordOk, sizesOf, WellSized}
 use Rattle.machine.specs.Calls.{isBusy}
 use Rattle.machine.proofs.Basics.Contradiction.{clash}
@@ -38,10 +48,10 @@ use Rattle.table_record.specs.declared.Task as Tasks
 use Rattle.table_record.specs.Coded.{structOf, codedTask, taskMeant}
 use Rattle.table_layout.specs.Words.{HoldsNode, storedIn}
 use Rattle.line_choice.specs.Groups.{allSteps, ReadyIn}
-use Rattle.line_choice.proofs.StepChoice.{each}
+use Rattle.line_choice.proofs.StepChoice.{every-at}
 use Rattle.table_layout.proofs.Laws.Views.{node-held, held-node, words-in, task-read}
 
-pub number-low : (s : Side) → sideNumber s < 2
+number-low : (s : Side) → sideNumber s < 2
 number-low left = omega arith
 number-low right = omega arith
 
@@ -58,10 +68,10 @@ steps-of-busy :
     (op : Operation) (n : ℕ) → isBusy op ≡ true → isStepIn (stepsOf op) n ≡ true → isStepIn allSteps n ≡ true
 unfolding isStepIn
 steps-of-busy idle n b h = clash (cc)
-steps-of-busy push n b h = each (isStepIn allSteps) (stepsOf push) n refl h
-steps-of-busy pop n b h = each (isStepIn allSteps) (stepsOf pop) n refl h
-steps-of-busy add n b h = each (isStepIn allSteps) (stepsOf add) n refl h
-steps-of-busy remove n b h = each (isStepIn allSteps) (stepsOf remove) n refl h
+steps-of-busy push n b h = every-at (isStepIn allSteps) (stepsOf push) n refl h
+steps-of-busy pop n b h = every-at (isStepIn allSteps) (stepsOf pop) n refl h
+steps-of-busy add n b h = every-at (isStepIn allSteps) (stepsOf add) n refl h
+steps-of-busy remove n b h = every-at (isStepIn allSteps) (stepsOf remove) n refl h
 
 module _ (ws : List ℕ) (Z : WellSized (sizesOf ws)) (W : WellShaped (columns ws)) (k : ℕ)
     (is-task : k < taskCount ws) where

@@ -18,13 +18,13 @@ use Rattle.machine.proofs.Words.RunLaws.{first-is-last}
 use Rattle.answers.specs.Refusals.{numberOf}
 use Rattle.table_layout.proofs.Laws.Numbers.{not-busy}
 use Rattle.tick_once.specs.Steps.{made}
-use Rattle.table_shape.proofs.Laws.PassedTable.{refused, table-passed, operation-is}
+use Rattle.table_shape.proofs.Laws.PassedTable.{table-refused, table-passed, operation-is}
 
 -- ---- Refusals 3 and 4 by their number.
 module _ (ws : List ℕ) {n : ℕ} (is-number : n ≡ numberOf (tableRefusal ws none)) (k h : ℕ) where
   pub tick-refused : n ≢ 0 → tickedOf (Refused n) ws ≡ tick ws k h
   unfolding tick
-  tick-refused r = rw (refused ws is-number r none, tick)
+  tick-refused r = rw (table-refused ws is-number r none, tick)
 
   pub tick-goes-on : n ≡ 0 → tickOn ws k h ≡ tick ws k h
   unfolding tick

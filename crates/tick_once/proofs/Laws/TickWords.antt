@@ -37,35 +37,36 @@ use Rattle.tick_once.proofs.Laws.Seen.{seen-in}
 use Rattle.tick_store.proofs.Laws.Laid.{writes-stored}
 use Rattle.tick_once.proofs.Laws.TickReady.{meant-task}
 
-module _ (ws : List ℕ) (Z : WellSized (sizesOf ws)) (W : WellShaped (columns ws)) (k : ℕ) (is-task : k < taskCount ws) where
-  abbrev t : Tasks.Task
-  t = structOf (recordWords ws k)
+module _ (ws : List ℕ) (Z : WellSized (sizesOf ws)) (W : WellShaped (columns ws)) (k : ℕ) (is-task : k < taskCount ws)
+  where
+    abbrev t : Tasks.Task
+    t = structOf (recordWords ws k)
 
-  abbrev s : Side
-  s = sideOf (t .side)
+    abbrev s : Side
+    s = sideOf (t .side)
 
-  abbrev ℓ : ℕ
-  ℓ = t .lane
+    abbrev ℓ : ℕ
+    ℓ = t .lane
 
-  -- The line that the code makes, over the lent part, is the effect of the definitions, over the table.
-  pub line-is-effect :
-      (h g : ℕ)
-      → g ≡ goal (growth ws) (task ws k)
-      → lineOf (stepOf (t .step)) (nodePart ws) (hat ws ℓ s) t g (allocate ws h)
-      ≡ effectIn s (nodePart ws) (hat ws ℓ s) (effectOf ws k h)
-  unfolding lineOf effectOf
-  line-is-effect h g e =
-      let τ = taskMeant t in
-      let f = allocate ws h in
-      let st = stepOf (t .step) in
-      let meant = meant-task ws Z W k is-task in
-      ap (effectIn s (nodePart ws) (hat ws ℓ s))
-      (ap (λ (m : Memory). act st s (opposite s) m τ g f) (sym (seen-in ws (Z .sized) ℓ s))
-      ∙ ap (λ (n : ℕ). act st s (opposite s) (seen ℓ s ws) τ n f) (e ∙ ap (goal (growth ws)) (sym meant))
-      ∙ ap
-      (λ (u : Task).
-      act (u .step) (u .side) (opposite (u .side)) (seen (u .lane) (u .side) ws) u (goal (growth ws) u) f)
-      meant)
+    -- The line that the code makes, over the lent part, is the effect of the definitions, over the table.
+    pub line-is-effect :
+        (h g : ℕ)
+        → g ≡ goal (growth ws) (task ws k)
+        → lineOf (stepOf (t .step)) (nodePart ws) (hat ws ℓ s) t g (allocate ws h)
+        ≡ effectIn s (nodePart ws) (hat ws ℓ s) (effectOf ws k h)
+    unfolding lineOf effectOf
+    line-is-effect h g e =
+        let τ = taskMeant t in
+        let f = allocate ws h in
+        let st = stepOf (t .step) in
+        let meant = meant-task ws Z W k is-task in
+        ap (effectIn s (nodePart ws) (hat ws ℓ s))
+        (ap (λ (m : Memory). act st s (opposite s) m τ g f) (sym (seen-in ws (Z .sized) ℓ s))
+        ∙ ap (λ (n : ℕ). act st s (opposite s) (seen ℓ s ws) τ n f) (e ∙ ap (goal (growth ws)) (sym meant))
+        ∙ ap
+        (λ (u : Task).
+        act (u .step) (u .side) (opposite (u .side)) (seen (u .lane) (u .side) ws) u (goal (growth ws) u) f)
+        meant)
 
 -- ---- Refused, the words stay; made, they are the effect's.
 none-written : {S g L n : ℕ} {e : Effect} → Fits S g L e → e .answer ≡ Refused n → e .writes ≡ []

@@ -1,7 +1,7 @@
 -- `tick_once::tick_once` meets its contract: each test is the definition's, and the tick that passes is `make`'s.
 use mathlib.Core.Path.{_≡_, sym, ap, _∙_}
 use mathlib.Core.Bool.{Bool}
-use Prim.Native.Nat.{ℕ, _<_}
+use Prim.Native.Nat.{_<_}
 use native.Mathlib.Omega.{arith}
 use Rattle.machine.specs.Operations.{operationOf}
 use Rattle.machine.specs.Tasks.{operationWord}
@@ -15,34 +15,28 @@ use Rattle.tick_once.proofs.tick_once.Statement.{statement}
 use Rattle.tick_once.proofs.tick_once.Tie as tie
 
 tasks-requires : tie.Need-tasks-requires
-tasks-requires c κs = let p = c .before .before in header-long (p .args .table .now) (p .pre .length-passes)
-
-same-length : tie.Need-same-length
-same-length c = search needs
+tasks-requires c κs = let p : tie.Start = search in header-long (p .args .table .now) (p .pre .length-passes)
 
 returns : tie.Need-returns
 returns c =
-    let t = c .before in
-    let p = t .before .before .before in
+    let t : tie.After-tasks = search in
+    let p : tie.Start = search in
     let a = p .args in
     tick-5 (a .table .now) (p .pre) (a .task) (a .hint) (omega (arith, t .tasks .ensures, c .if1 .taken))
 
 slots-requires : tie.Need-slots-requires
 slots-requires c κs =
-    let p = c .before .before .before .before .before in header-long (p .args .table .now) (p .pre .length-passes)
+    let p : tie.Start = search in header-long (p .args .table .now) (p .pre .length-passes)
 
 -- What the tests passed so far say.
 is-task : (c : tie.Else1) → let a = c .before .before .before .before .args in a .task < taskCount (a .table .now)
 is-task c = omega (arith, c .before .tasks .ensures, c .if1 .left)
 
-same-length-2 : tie.Need-same-length-2
-same-length-2 c = search needs
-
 returns-2 : tie.Need-returns-2
 returns-2 c =
-    let n = c .before in
-    let e = n .before .before in
-    let p = e .before .before .before .before in
+    let n : tie.After-slots = search in
+    let e : tie.Else1 = search in
+    let p : tie.Start = search in
     let a = p .args in
     tick-9 (a .table .now) (p .pre) (a .task) (a .hint) (is-task e) (omega (arith, n .slots .ensures, c .if2 .taken))
 
@@ -53,12 +47,9 @@ is-hint c = omega (arith, c .before .slots .ensures, c .if2 .left)
 
 task-requires : tie.Need-task-requires
 task-requires c κs =
-    let e = c .before .before .before .before in
-    let p = e .before .before .before .before in
+    let e : tie.Else1 = search in
+    let p : tie.Start = search in
     record-within (p .args .table .now) (p .pre .length-passes) (p .args .task) (is-task e)
-
-is-idle-requires : tie.Need-is-idle-requires
-is-idle-requires c κs = search needs
 
 -- What the record read says.
 module _ (c : tie.After-is-idle) where
@@ -81,20 +72,17 @@ module _ (c : tie.After-is-idle) where
       ∙ sym (c .is-idle .ensures)
       ∙ e
 
-same-length-3 : tie.Need-same-length-3
-same-length-3 c = search needs
-
 returns-3 : tie.Need-returns-3
 returns-3 c =
-    let i = c .before in
+    let i : tie.After-is-idle = search in
     let p = start i in
     let a = p .args in
     tick-10 (a .table .now) (p .pre) (a .task) (a .hint) (is-task (e1 i)) (is-hint (e2 i)) (idle-is i (c .if3 .taken))
 
 make-requires : tie.Need-make-requires
 make-requires c κs =
-    let e3 = c .before in
-    let i = e3 .before in
+    let e3 : tie.Else3 = search in
+    let i : tie.After-is-idle = search in
     let p = start i in
     let a = p .args in
     let busy = busy-task (a .table .now) (p .pre) (a .task) (is-task (e1 i)) (idle-is i (e3 .if3 .left)) in (
@@ -102,14 +90,11 @@ make-requires c κs =
       read i .task .ensures,
     )
 
-same-length-4 : tie.Need-same-length-4
-same-length-4 c = search needs
-
 returns-4 : tie.Need-returns-4
 returns-4 c =
-    let m = c .before .before in
-    let e3 = m .before .before in
-    let i = e3 .before in
+    let m : tie.After-make = search in
+    let e3 : tie.Else3 = search in
+    let i : tie.After-is-idle = search in
     let p = start i in
     let a = p .args in
     m .make .ensures
@@ -121,15 +106,15 @@ tick-once-spec =
     tie.close
     (tie.spec
     tasks-requires
-    same-length
+    (λ c. search needs)
     returns
     slots-requires
-    same-length-2
+    (λ c. search needs)
     returns-2
     task-requires
-    is-idle-requires
-    same-length-3
+    (λ c κs. search needs)
+    (λ c. search needs)
     returns-3
     make-requires
-    same-length-4
+    (λ c. search needs)
     returns-4)

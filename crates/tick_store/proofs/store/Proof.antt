@@ -1,5 +1,5 @@
 -- `tick_store::store` meets its contract: three stores, one after another.
-use mathlib.Core.Path.{_≡_, sym, subst}
+use mathlib.Core.Path.{sym, subst}
 use mathlib.Core.List.{List}
 use Prim.Native.Nat.{ℕ}
 use native.Mathlib.Omega.{arith}
@@ -17,8 +17,8 @@ set-hat-requires c κs = search needs
 
 set-next-requires : tie.Need-set-next-requires
 set-next-requires c κs =
-    let w = c .before .before .before in
-    let p = w .before .before .before in
+    let w : tie.After-set-hat = search in
+    let p : tie.Start = search in
     let a = p .args in
     let ws = a .table .now in
     let s = sideOf (a .side) in
@@ -32,29 +32,18 @@ set-next-requires c κs =
           (sym (record-after-hat (a .lane) s ws (a .hat) (p .pre .0 .0) (a .task))) (p .pre .1 g),
     )
 
-tick-count-requires : tie.Need-tick-count-requires
-tick-count-requires c κs = search needs
-
-wrapping-add-u32-requires : tie.Need-wrapping-add-u32-requires
-wrapping-add-u32-requires c κs = search needs
-
-set-tick-count-requires : tie.Need-set-tick-count-requires
-set-tick-count-requires c κs = search needs
-
-same-length : tie.Need-same-length
-same-length c = search needs
-
 returns : tie.Need-returns
 returns c =
-    let t = c .before .before in
-    let n = t .before .before in
-    let w = n .before .before .before .before .before in
+    let after-set-hat : tie.After-set-hat = search in
+    let t : tie.After-set-tick-count = search in
+    let n : tie.After-wrapping-add-u32 = search in
+    let w : tie.After-set-next = search in
     rw (
       t .set-tick-count .ensures,
       n .wrapping-add-u32 .ensures,
       n .before .tick-count .ensures,
       w .set-next .ensures,
-      w .before .before .before .before .set-hat .ensures,
+      after-set-hat .set-hat .ensures,
     )
 
 pub store-spec : {M : Type 1} → statement M
@@ -63,8 +52,8 @@ store-spec =
     (tie.spec
     set-hat-requires
     set-next-requires
-    tick-count-requires
-    wrapping-add-u32-requires
-    set-tick-count-requires
-    same-length
+    (λ c κs. search needs)
+    (λ c κs. search needs)
+    (λ c κs. search needs)
+    (λ c. search needs)
     returns)

@@ -10,7 +10,7 @@ use lib.Seq.{drop-cons}
 use lib.Bits.{bitOr, or-lt, or-add-and, and-le-l, and-le-r}
 use borrow.Author.Tests.{leb-true, le-leb, eqb-true, eq-eqb}
 use Rattle.window.specs.Window.{atMost, total}
-use Rattle.window.proofs.Laws.Tests.{clash, and-left, and-right, both, same-test}
+use Rattle.window.proofs.Laws.Tests.{clash, and-left, and-right, both-hold, same-test}
 
 -- ---- The test.
 
@@ -20,7 +20,7 @@ gathered k m a b power =
     same-test (leb (bitOr a b) m) (leb a m && leb b m)
     (λ t.
     let o = leb-true (bitOr a b) m t in
-    both (le-leb a m (omega (arith, or-add-and a b, and-le-r a b)))
+    both-hold (le-leb a m (omega (arith, or-add-and a b, and-le-r a b)))
     (le-leb b m (omega (arith, or-add-and a b, and-le-l a b))))
     (λ t.
     let p = leb-true a m (and-left (leb a m) (leb b m) t) in
@@ -50,7 +50,7 @@ is-zero n =
 pub at-most-all : (m : ℕ) (l : List ℕ) → ((i : ℕ) → i < length l → getD l i 0 ≤ m) → atMost m l ≡ true
 unfolding atMost
 at-most-all m [] f = refl
-at-most-all m (w ∷ l) f = both (le-leb w m (f 0 (omega arith))) (at-most-all m l (λ i h. f (suc i) (omega arith)))
+at-most-all m (w ∷ l) f = both-hold (le-leb w m (f 0 (omega arith))) (at-most-all m l (λ i h. f (suc i) (omega arith)))
 
 pub at-most-at : (m : ℕ) (l : List ℕ) → atMost m l ≡ true → (i : ℕ) → getD l i 0 ≤ m
 unfolding atMost

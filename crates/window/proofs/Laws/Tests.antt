@@ -15,8 +15,8 @@ pub and-right : (a b : Bool) → a && b ≡ true → b ≡ true
 and-right true b h = h
 and-right false b h = clash (cc)
 
-pub both : {a b : Bool} → a ≡ true → b ≡ true → a && b ≡ true
-both g h = rw (g, h)
+pub both-hold : {a b : Bool} → a ≡ true → b ≡ true → a && b ≡ true
+both-hold g h = rw (g, h)
 
 -- Two tests that imply each other are the same.
 pub same-test : (a b : Bool) → (a ≡ true → b ≡ true) → (b ≡ true → a ≡ true) → a ≡ b

@@ -38,8 +38,8 @@ pub record Sized (l W : ℕ) : Type 0 where
   pub most : W ≤ 4_096
   pub long : l ≡ W + 4
 
-pub sized : (l W : ℕ) → sizesOk l W ≡ true → Sized l W
-sized l W t =
+pub sizes-sized : (l W : ℕ) → sizesOk l W ≡ true → Sized l W
+sizes-sized l W t =
     let ranges = and-left (leb 1 W && leb W 4_096) (eqb l (W + 4)) t in
     record {
       least = leb-true 1 W (and-left (leb 1 W) (leb W 4_096) ranges);
@@ -51,13 +51,13 @@ sized l W t =
 pub not-made : (ws : List ℕ) (W : ℕ) → sizesOk (length ws) W ≡ false → freshLeaves ws W ≡ ws
 not-made ws W t = rw t
 
-pub made :
+pub leaves-fresh :
     (ws : List ℕ) (W : ℕ) {vs : List ℕ}
     → sizesOk (length ws) W ≡ true
     → (let first = set ws 0 W in vs ≡ getD first 0 0 ∷ replicate (length first - 1) 0)
     → vs ≡ freshLeaves ws W
-made ws W t filled =
-    let l = sized (length ws) W t .long in
+leaves-fresh ws W t filled =
+    let l = sizes-sized (length ws) W t .long in
     filled
     ∙ rw (length-set ws 0 W, getD-set-same ws 0 W 0 (omega arith), t) (fresh-filled W (length ws) l)
 
@@ -94,7 +94,7 @@ header-facts ws t =
     let last = lastOk (fedCount ws) (lastCount ws) in
     let three = and-left (sizes && fed && next) last t in
     let two = and-left (sizes && fed) next three in
-    let S = sized (length ws) (width ws) (and-left sizes fed two) in
+    let S = sizes-sized (length ws) (width ws) (and-left sizes fed two) in
     let R = in-ring (width ws) (fedCount ws) (nextPlace ws) (and-right (sizes && fed) next three) in
     record {
       least = S .least;

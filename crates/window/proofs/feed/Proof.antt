@@ -19,11 +19,12 @@ words c = c .before .before .before .before .before .args .window .now
 
 window : (c : tie.Else1) → isWindow (words c) ≡ true
 window c =
-    let found = c .before .before .scan in
+    let after-scan : tie.After-scan = search in
+    let found = after-scan .scan in
     sym (found .ensures .0) ∙ not-false (found .result .ok) (c .if1 .left)
 
 abbrev passed : tie.Else2 → tie.Else1
-passed c = c .before .before .before .before
+passed c = search
 
 in-turn : (c : tie.Else2)
     → inTurn (words (passed c)) (passed c .before .before .before .before .before .args .count) ≡ true
@@ -33,18 +34,16 @@ in-turn c =
 
 -- What was counted.
 lost : (c : tie.Else1) → c .before .before .scan .result .lost ≡ total (places (words c))
-lost c = c .before .before .scan .ensures .1 (window c)
-
-scan-requires : tie.Need-scan-requires
-scan-requires c κs = search needs
-
-same-length : tie.Need-same-length
-same-length c = search needs
+lost c =
+    let after-scan : tie.After-scan = search in
+    after-scan .scan .ensures .1 (window c)
 
 returns : tie.Need-returns
 returns c =
-    let found = c .before .before .scan in
-    let a = c .before .before .before .before .before .args in
+    let start : tie.Start = search in
+    let after-scan : tie.After-scan = search in
+    let found = after-scan .scan in
+    let a = start .args in
     bad-window (a .window .now) (a .count) (a .before) (a .after)
     (sym (found .ensures .0) ∙ not-true (found .result .ok) (c .if1 .taken))
 
@@ -52,73 +51,72 @@ slice-read-in-turn : tie.Need-slice-read-in-turn
 slice-read-in-turn c = omega (arith, next-in (words (c .before)) (window (c .before)) .1)
 
 slice-read-in-turn-2 : tie.Need-slice-read-in-turn-2
-slice-read-in-turn-2 c = omega (arith, next-in (words (c .before .before)) (window (c .before .before)) .1)
-
-in-turn-requires : tie.Need-in-turn-requires
-in-turn-requires c κs = search needs
-
-same-length-2 : tie.Need-same-length-2
-same-length-2 c = search needs
+slice-read-in-turn-2 c =
+    let else1 : tie.Else1 = search in
+    omega (arith, next-in (words else1) (window else1) .1)
 
 returns-2 : tie.Need-returns-2
 returns-2 c =
+    let start : tie.Start = search in
     let tested = c .before .in-turn in
-    let ok = c .before .before .before .before in
-    let a = ok .before .before .before .before .before .args in
+    let ok : tie.Else1 = search in
+    let a = start .args in
     out-of-turn (a .window .now) (a .count) (a .before) (a .after) (window ok)
     (sym (tested .ensures) ∙ not-true (tested .result) (c .if2 .taken))
 
-lost-word-requires : tie.Need-lost-word-requires
-lost-word-requires c κs = search needs
-
 put-requires : tie.Need-put-requires
-put-requires c κs = let ok = passed (c .before .before) in next-in (words ok) (window ok)
+put-requires c κs =
+    let else2 : tie.Else2 = search in
+    let ok = passed else2 in next-in (words ok) (window ok)
 
 sub-t12 : tie.Need-sub-t12
 sub-t12 c =
-    let ok = passed (c .before .before .before .before .before .before) in
+    let else2 : tie.Else2 = search in
+    let after-put : tie.After-put = search in
+    let ok = passed else2 in
     let ws = words ok in
-    omega (arith, lost ok, c .before .before .before .put .ensures .0, at-total (places ws) (nextPlace ws))
+    omega (arith, lost ok, after-put .put .ensures .0, at-total (places ws) (nextPlace ws))
 
 add-t14 : tie.Need-add-t14
 add-t14 c =
-    let ok = passed (c .before .before .before .before .before .before) in
+    let else2 : tie.Else2 = search in
+    let after-lost-word : tie.After-lost-word = search in
+    let ok = passed else2 in
     let a = ok .before .before .before .before .before .args in
     omega (
       arith,
       lost ok,
       few-lost (words ok) (window ok),
-      c .before .before .before .before .before .lost-word .ensures,
+      after-lost-word .lost-word .ensures,
       lost-is-bit (a .before) (a .after),
     )
 
-same-length-3 : tie.Need-same-length-3
-same-length-3 c = search needs
-
 returns-3 : tie.Need-returns-3
 returns-3 c =
-    let turn = c .before .before .before .before .before .before in
+    let after-lost-word : tie.After-lost-word = search in
+    let after-put : tie.After-put = search in
+    let turn : tie.Else2 = search in
     let ok = passed turn in
     let a = ok .before .before .before .before .before .args in
-    let put = c .before .before .before .put in
+    let put = after-put .put in
     one-fed (a .window .now) (window ok) (a .count) (a .before) (a .after) (in-turn turn) (lost ok) (put .ensures .0)
-    (c .before .before .before .before .before .lost-word .ensures) (put .ensures .1)
+    (after-lost-word .lost-word .ensures) (put .ensures .1)
 
 pub feed-spec : {M : Type 1} → statement M
 feed-spec =
     tie.close
     (tie.spec
-    scan-requires
-    same-length
+    (λ c κs. search needs)
+    (λ c. search needs)
     returns
     slice-read-in-turn
     slice-read-in-turn-2
-    in-turn-requires
-    same-length-2
+    (λ c κs. search needs)
+    (λ c. search needs)
     returns-2
-    lost-word-requires
+    (λ c κs. search needs)
     put-requires
     sub-t12
     add-t14
-    same-length-3
+    (λ c. search needs)
     returns-3)

@@ -5,9 +5,6 @@ use Rattle.window.proofs.Laws.Turns.{follows-by-difference}
 use Rattle.window.proofs.in_turn.Statement.{statement}
 use Rattle.window.proofs.in_turn.Tie as tie
 
-wrapping-sub-u32-requires : tie.Need-wrapping-sub-u32-requires
-wrapping-sub-u32-requires c κs = search needs
-
 returns : tie.Need-returns
 returns c =
     let a = c .before .args in
@@ -15,4 +12,4 @@ returns c =
     follows-by-difference (a .fed) (a .last) (a .count) (d .result) (omega arith) (omega arith) (d .ensures)
 
 pub in-turn-spec : {M : Type 1} → statement M
-in-turn-spec = tie.close (tie.spec wrapping-sub-u32-requires returns)
+in-turn-spec = tie.close (tie.spec (λ c κs. search needs) returns)

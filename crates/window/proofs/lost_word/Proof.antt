@@ -4,9 +4,6 @@ use borrow.Author.Needs.{needs}
 use Rattle.window.proofs.lost_word.Statement.{statement}
 use Rattle.window.proofs.lost_word.Tie as tie
 
-is-lost-requires : tie.Need-is-lost-requires
-is-lost-requires c κs = search needs
-
 returns : tie.Need-returns
 returns c = let e = sym (c .before .is-lost .ensures) ∙ c .if1 .taken in rw e
 
@@ -14,4 +11,4 @@ returns-2 : tie.Need-returns-2
 returns-2 c = let e = sym (c .before .is-lost .ensures) ∙ c .if1 .left in rw e
 
 pub lost-word-spec : {M : Type 1} → statement M
-lost-word-spec = tie.close (tie.spec is-lost-requires returns returns-2)
+lost-word-spec = tie.close (tie.spec (λ c κs. search needs) returns returns-2)

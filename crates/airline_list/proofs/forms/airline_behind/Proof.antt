@@ -14,38 +14,30 @@ not-left :
     → same (firstLine (c .before .before .before .before .args .rest .now)) (bytes ") left)") ≡ false
 not-left c = sym (c .before .is-line .ensures) ∙ c .if1 .left
 
-slice-aggregate-is-line : tie.Need-slice-aggregate-is-line
-slice-aggregate-is-line c = search needs
-
-is-line-requires : tie.Need-is-line-requires
-is-line-requires c κs = search needs
-
 returns : tie.Need-returns
 unfolding airlineBehind
 returns c = rw (sym (c .before .is-line .ensures) ∙ c .if1 .taken)
 
-slice-aggregate-is-line-2 : tie.Need-slice-aggregate-is-line-2
-slice-aggregate-is-line-2 c = search needs
-
-is-line-requires-2 : tie.Need-is-line-requires-2
-is-line-requires-2 c κs = search needs
-
 returns-2 : tie.Need-returns-2
 unfolding airlineBehind
-returns-2 c = rw (not-left (c .before .before .before), sym (c .before .is-line2 .ensures) ∙ c .if2 .taken)
+returns-2 c =
+    let else1 : tie.Else1 = search in
+    rw (not-left else1, sym (c .before .is-line2 .ensures) ∙ c .if2 .taken)
 
 returns-3 : tie.Need-returns-3
 unfolding airlineBehind
-returns-3 c = rw (not-left (c .before .before .before), sym (c .before .is-line2 .ensures) ∙ c .if2 .left)
+returns-3 c =
+    let else1 : tie.Else1 = search in
+    rw (not-left else1, sym (c .before .is-line2 .ensures) ∙ c .if2 .left)
 
 pub airline-behind-spec : {M : Type 1} → statement M
 airline-behind-spec =
     tie.close
     (tie.spec
-    slice-aggregate-is-line
-    is-line-requires
+    (λ c. search needs)
+    (λ c κs. search needs)
     returns
-    slice-aggregate-is-line-2
-    is-line-requires-2
+    (λ c. search needs)
+    (λ c κs. search needs)
     returns-2
     returns-3)

@@ -14,46 +14,65 @@ long : (s : tie.Start) → 18 ≤ length (s .args .text .now)
 long s = digits-long (s .args .text .now) (s .pre)
 
 shared-slice-read-value : tie.Need-shared-slice-read-value
-shared-slice-read-value c = omega (arith, long (c .before .before))
+shared-slice-read-value c =
+    let start : tie.Start = search in
+    omega (arith, long start)
 
 value-requires : tie.Need-value-requires
-value-requires c κs = three (c .before .before) .first
+value-requires c κs =
+    let start : tie.Start = search in
+    three start .first
 
 mul-result : tie.Need-mul-result
 mul-result c = omega (arith, c .value .ensures .1)
 
 shared-slice-read-value-2 : tie.Need-shared-slice-read-value-2
-shared-slice-read-value-2 c = omega (arith, long (c .before .before .before .before))
+shared-slice-read-value-2 c =
+    let start : tie.Start = search in
+    omega (arith, long start)
 
 value-requires-2 : tie.Need-value-requires-2
-value-requires-2 c κs = three (c .before .before .before .before) .second
+value-requires-2 c κs =
+    let start : tie.Start = search in
+    three start .second
 
 mul-result-2 : tie.Need-mul-result-2
 mul-result-2 c = omega (arith, c .value2 .ensures .1)
 
 add-result : tie.Need-add-result
-add-result c = omega (arith, c .before .before .value .ensures .1, c .value2 .ensures .1)
+add-result c =
+    let after-value : tie.After-value = search in
+    omega (arith, after-value .value .ensures .1, c .value2 .ensures .1)
 
 shared-slice-read-value-3 : tie.Need-shared-slice-read-value-3
-shared-slice-read-value-3 c = omega (arith, long (c .before .before .before .before .before .before))
+shared-slice-read-value-3 c =
+    let start : tie.Start = search in
+    omega (arith, long start)
 
 value-requires-3 : tie.Need-value-requires-3
-value-requires-3 c κs = three (c .before .before .before .before .before .before) .third
+value-requires-3 c κs =
+    let start : tie.Start = search in
+    three start .third
 
 add-result-2 : tie.Need-add-result-2
-add-result-2 c = omega (
-  arith,
-  c .before .before .before .before .value .ensures .1,
-  c .before .before .value2 .ensures .1,
-  c .value3 .ensures .1,
-)
+add-result-2 c =
+    let after-value : tie.After-value = search in
+    let after-value2 : tie.After-value2 = search in
+    omega (
+      arith,
+      after-value .value .ensures .1,
+      after-value2 .value2 .ensures .1,
+      c .value3 .ensures .1,
+    )
 
 returns : tie.Need-returns
 returns c =
-    let s = c .before .before .before .before .before .before .before in
+    let after-value : tie.After-value = search in
+    let after-value2 : tie.After-value2 = search in
+    let s : tie.Start = search in
     rw (
-      c .before .before .before .before .value .ensures .0,
-      c .before .before .value2 .ensures .0,
+      after-value .value .ensures .0,
+      after-value2 .value2 .ensures .0,
       c .value3 .ensures .0,
     )
     (sym (code-sum (s .args .text .now) (s .pre)))

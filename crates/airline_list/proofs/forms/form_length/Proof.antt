@@ -7,51 +7,39 @@ use borrow.Author.Needs.{needs}
 use Rattle.airline_list.proofs.forms.form_length.Statement.{statement}
 use Rattle.airline_list.proofs.forms.form_length.Tie as tie
 
-enum-known-form : tie.Need-enum-known-form
-enum-known-form c = search needs
-
-end-length-requires : tie.Need-end-length-requires
-end-length-requires c κs = search needs
-
 add-result : tie.Need-add-result
-add-result c = omega (arith, c .end-length .ensures, end-short (c .before .before .form .given .0 .1 .0))
-
-enum-known-form-2 : tie.Need-enum-known-form-2
-enum-known-form-2 c = search needs
-
-end-length-requires-2 : tie.Need-end-length-requires-2
-end-length-requires-2 c κs = search needs
+add-result c =
+    let after-form : tie.After-form = search in
+    omega (arith, c .end-length .ensures, end-short (after-form .form .given .0 .1 .0))
 
 add-result-2 : tie.Need-add-result-2
-add-result-2 c = omega (arith, c .end-length2 .ensures, end-short (c .before .before .form2 .given .0 .0))
-
-enum-told : tie.Need-enum-told
-enum-told c = search needs
+add-result-2 c =
+    let after-form2 : tie.After-form2 = search in
+    omega (arith, c .end-length2 .ensures, end-short (after-form2 .form2 .given .0 .0))
 
 returns : tie.Need-returns
 returns c =
-    let line = c .before .before .form .given in
+    let after-form : tie.After-form = search in
+    let line = after-form .form .given in
     sym (rw (line .1) (airline-length (line .0 .0) (line .0 .1 .0) ∙ ap (λ n. 21 + n) (sym (c .end-length .ensures))))
 
 returns-2 : tie.Need-returns-2
 returns-2 c =
-    let line = c .before .before .form2 .given in
+    let after-form2 : tie.After-form2 = search in
+    let line = after-form2 .form2 .given in
     sym (rw (line .1) (others-length (line .0 .0) ∙ ap (λ n. 9 + n) (sym (c .end-length2 .ensures))))
-
-returns-3 : tie.Need-returns-3
-returns-3 c = search needs
 
 pub form-length-spec : {M : Type 1} → statement M
 form-length-spec =
     tie.close
     (tie.spec
-    enum-known-form
-    end-length-requires
+    (λ c. search needs)
+    (λ c κs. search needs)
     add-result
-    enum-known-form-2
-    end-length-requires-2
+    (λ c. search needs)
+    (λ c κs. search needs)
     add-result-2
-    enum-told
+    (λ c. search needs)
     returns
     returns-2
-    returns-3)
+    (λ c. search needs))

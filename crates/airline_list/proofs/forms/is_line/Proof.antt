@@ -13,20 +13,18 @@ use Rattle.airline_list.proofs.forms.is_line.Tie as tie
 
 returns : tie.Need-returns
 returns c =
-    let s = c .before .before .before in
+    let s : tie.Start = search in
     too-short (s .args .text .now) (s .args .line .now) (s .pre) (c .if1 .taken)
 
 slice-aggregate-is-text : tie.Need-slice-aggregate-is-text
 slice-aggregate-is-text c =
-    let a = c .before .before .before .before .args in
+    let start : tie.Start = search in
+    let a = start .args in
     sym (length-take-le (length (a .line .now)) (a .text .now) (omega arith))
-
-is-text-requires : tie.Need-is-text-requires
-is-text-requires c κs = search needs
 
 returns-2 : tie.Need-returns-2
 returns-2 c =
-    let s = c .before .before .before .before .before .before in
+    let s : tie.Start = search in
     let t = c .before .is-text in
     not-first (s .args .text .now) (s .args .line .now) (s .pre)
     (sym (t .ensures) ∙ not-true (t .result) (c .if2 .taken))
@@ -39,16 +37,14 @@ begins c = let t = c .before .is-text in sym (t .ensures) ∙ not-false (t .resu
 
 returns-3 : tie.Need-returns-3
 returns-3 c =
-    let s = c .before .before .before .before .before .before .before in
+    let s : tie.Start = search in
     first-whole (s .args .text .now) (s .args .line .now) (s .pre) (begins (c .before)) (c .if3 .taken)
-
-shared-slice-read-result : tie.Need-shared-slice-read-result
-shared-slice-read-result c = search needs
 
 returns-4 : tie.Need-returns-4
 returns-4 c =
-    let s = c .before .before .before .before .before .before .before .before in
-    first-fed (s .args .text .now) (s .args .line .now) (s .pre) (begins (c .before .before)) (omega arith)
+    let else2 : tie.Else2 = search in
+    let s : tie.Start = search in
+    first-fed (s .args .text .now) (s .args .line .now) (s .pre) (begins else2) (omega arith)
 
 pub is-line-spec : {M : Type 1} → statement M
 is-line-spec =
@@ -56,8 +52,8 @@ is-line-spec =
     (tie.spec
     returns
     slice-aggregate-is-text
-    is-text-requires
+    (λ c κs. search needs)
     returns-2
     returns-3
-    shared-slice-read-result
+    (λ c. search needs)
     returns-4)

@@ -8,13 +8,10 @@ use Rattle.airline_list.proofs.forms.value.Tie as tie
 sub-result : tie.Need-sub-result
 sub-result c = digit-range (c .args .digit) (c .pre) .0
 
-cast-result : tie.Need-cast-result
-cast-result c = search needs
-
 returns : tie.Need-returns
 returns c =
     let d = digit-range (c .args .digit) (c .pre) in
     (search needs, omega arith)
 
 pub value-spec : {M : Type 1} → statement M
-value-spec = tie.close (tie.spec sub-result cast-result returns)
+value-spec = tie.close (tie.spec (λ c. search needs) sub-result returns)

@@ -6,37 +6,25 @@ use borrow.Author.Needs.{needs}
 use Rattle.call_dispatch.proofs.turn.dispatch_on.Statement.{statement}
 use Rattle.call_dispatch.proofs.turn.dispatch_on.Tie as tie
 
-next-busy-requires : tie.Need-next-busy-requires
-next-busy-requires c κs = search needs
-
 tasks-requires : tie.Need-tasks-requires
 tasks-requires c κs =
-    let s = c .before .before .before .before in header-long (s .args .table .now) (s .pre .length-passes)
-
-same-length : tie.Need-same-length
-same-length c = search needs
+    let s : tie.Start = search in header-long (s .args .table .now) (s .pre .length-passes)
 
 returns : tie.Need-returns
 returns c =
-    let t = c .before in
-    let chosen = t .before .before in
-    let s = chosen .before .before .before in
+    let t : tie.After-tasks = search in
+    let chosen : tie.After-next-busy = search in
+    let s : tie.Start = search in
     on-idle (s .args .table .now) (s .args .hint)
     (none-busy (s .args .table .now) (s .pre) (chosen .next-busy .ensures) (c .if1 .taken ∙ t .tasks .ensures))
 
-dispatch-to-requires : tie.Need-dispatch-to-requires
-dispatch-to-requires c κs = search needs
-
-same-length-2 : tie.Need-same-length-2
-same-length-2 c = search needs
-
 returns-2 : tie.Need-returns-2
 returns-2 c =
-    let to = c .before .before in
-    let some-task = to .before .before in
-    let t = some-task .before in
-    let chosen = t .before .before in
-    let s = chosen .before .before .before in
+    let to : tie.After-dispatch-to = search in
+    let some-task : tie.Else1 = search in
+    let t : tie.After-tasks = search in
+    let chosen : tie.After-next-busy = search in
+    let s : tie.Start = search in
     to .dispatch-to .ensures
     ∙ on-ticks (s .args .table .now) (s .args .hint)
     (one-busy (s .args .table .now) (s .pre) (chosen .next-busy .ensures)
@@ -46,10 +34,10 @@ pub dispatch-on-spec : {M : Type 1} → statement M
 dispatch-on-spec =
     tie.close
     (tie.spec
-    next-busy-requires
+    (λ c κs. search needs)
     tasks-requires
-    same-length
+    (λ c. search needs)
     returns
-    dispatch-to-requires
-    same-length-2
+    (λ c κs. search needs)
+    (λ c. search needs)
     returns-2)

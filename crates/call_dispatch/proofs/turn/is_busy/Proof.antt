@@ -9,18 +9,15 @@ use Rattle.call_dispatch.proofs.turn.is_busy.Tie as tie
 
 task-requires : tie.Need-task-requires
 task-requires c κs =
-    let p = c .before in
+    let p : tie.Start = search in
     record-within (p .args .table .now) (p .pre .0 .length-passes) (p .args .k) (p .pre .1)
-
-is-idle-requires : tie.Need-is-idle-requires
-is-idle-requires c κs = search needs
 
 returns : tie.Need-returns
 returns c =
-    let r = c .before in
-    let p = r .before .before in
+    let r : tie.After-task = search in
+    let p : tie.Start = search in
     busy-by-word (p .args .table .now) (p .pre .0) (p .args .k) (p .pre .1)
     (ap (λ (t : Tasks.Task). t .operation) (r .task .ensures)) (c .is-idle .ensures)
 
 pub is-busy-spec : {M : Type 1} → statement M
-is-busy-spec = tie.close (tie.spec task-requires is-idle-requires returns)
+is-busy-spec = tie.close (tie.spec task-requires (λ c κs. search needs) returns)

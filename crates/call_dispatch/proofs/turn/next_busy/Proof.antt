@@ -2,7 +2,6 @@
 use mathlib.Core.Path.{_≡_, sym, ap, _∙_}
 use Prim.Native.Nat.{ℕ, _<_}
 use native.Mathlib.Omega.{arith}
-use borrow.Author.Needs.{needs}
 use Rattle.machine.specs.Round.{following, firstFrom}
 use Rattle.machine.specs.Table.{taskCount}
 use Rattle.machine.specs.Calls.{isBusyTask, nextBusy}
@@ -20,15 +19,17 @@ abbrev μ-loop : tie.MeasureT-loop
 μ-loop table n k₀ left₀ k left = left
 
 tasks-requires : tie.Need-tasks-requires Inv-loop μ-loop
-tasks-requires c κs = let p = c .before in header-long (p .args .table .now) (p .pre .length-passes)
+tasks-requires c κs =
+    let p : tie.Start Inv-loop μ-loop = search in header-long (p .args .table .now) (p .pre .length-passes)
 
 dispatched-requires : tie.Need-dispatched-requires Inv-loop μ-loop
-dispatched-requires c κs = let p = c .before .before in header-long (p .args .table .now) (p .pre .length-passes)
+dispatched-requires c κs =
+    let p : tie.Start Inv-loop μ-loop = search in header-long (p .args .table .now) (p .pre .length-passes)
 
 loop-holds : tie.Need-loop-holds Inv-loop μ-loop
 loop-holds c =
-    let t = c .before in
-    let p = t .before .before in
+    let t : tie.After-tasks Inv-loop μ-loop = search in
+    let p : tie.Start Inv-loop μ-loop = search in
     let ws = p .args .table .now in
     let T = taskCount ws in (
       omega (arith, last-is-task ws (p .pre), c .dispatched .ensures),
@@ -54,37 +55,24 @@ module _ (c : tie.After-following Inv-loop μ-loop) where
   next-low : c .following .result < taskCount (begun .args .table .now)
   next-low = omega (arith, c .following .ensures .1, counted .tasks .ensures)
 
-cast-following : tie.Need-cast-following Inv-loop μ-loop
-cast-following c = search needs
-
-cast-following-2 : tie.Need-cast-following-2 Inv-loop μ-loop
-cast-following-2 c = search needs
-
 following-requires : tie.Need-following-requires Inv-loop μ-loop
-following-requires c κs = omega (arith, c .before .loop .inv .0, c .before .before .before .tasks .ensures)
-
-cast-k : tie.Need-cast-k Inv-loop μ-loop
-cast-k c = search needs
+following-requires c κs =
+    let after-tasks : tie.After-tasks Inv-loop μ-loop = search in
+    omega (arith, c .before .loop .inv .0, after-tasks .tasks .ensures)
 
 is-busy-requires : tie.Need-is-busy-requires Inv-loop μ-loop
 is-busy-requires c κs = (begun c .pre, next-low c)
 
 returns : tie.Need-returns Inv-loop μ-loop
 returns c =
-    let asked = c .before in
+    let asked : tie.After-is-busy Inv-loop μ-loop = search in
     let l = turn (asked .before) .before .loop in
     choice-ends (begun (asked .before) .args .table .now) (l .left) (l .k) (l .inv .1) (next-is (asked .before))
     (omega arith) (sym (asked .is-busy .ensures) ∙ c .if1 .taken)
 
-sub-left : tie.Need-sub-left Inv-loop μ-loop
-sub-left c = omega arith
-
-loop-less : tie.Need-loop-less Inv-loop μ-loop
-loop-less c = omega arith
-
 loop-again : tie.Need-loop-again Inv-loop μ-loop
 loop-again c =
-    let asked = c .before in
+    let asked : tie.After-is-busy Inv-loop μ-loop = search in
     let l = turn (asked .before) .before .loop in (
       next-low (asked .before),
       choice-goes-on (begun (asked .before) .args .table .now) (l .left) (l .k) (l .inv .1) (next-is (asked .before))
@@ -93,10 +81,11 @@ loop-again c =
 
 returns-2 : tie.Need-returns-2 Inv-loop μ-loop
 returns-2 c =
-    let t = c .before .before .before in
+    let start : tie.Start Inv-loop μ-loop = search in
+    let t : tie.After-tasks Inv-loop μ-loop = search in
     let l = c .before .loop in
     t .tasks .ensures
-    ∙ none-left (t .before .before .args .table .now) (l .left) (l .k) (l .inv .1) (omega arith)
+    ∙ none-left (start .args .table .now) (l .left) (l .k) (l .inv .1) (omega arith)
 
 pub next-busy-spec : {M : Type 1} → statement M
 next-busy-spec =
@@ -107,13 +96,10 @@ next-busy-spec =
     tasks-requires
     dispatched-requires
     loop-holds
-    cast-following
-    cast-following-2
     following-requires
-    cast-k
     is-busy-requires
     returns
-    sub-left
-    loop-less
+    (λ c. omega arith)
+    (λ c. omega arith)
     loop-again
     returns-2)

@@ -25,18 +25,21 @@ use Rattle.call_sheet.proofs.Laws.Written.{line-begun, line-done, tag-p
 use Rattle.call_sheet.proofs.pages.put_line.Statement.{statement}
 use Rattle.call_sheet.proofs.pages.put_line.Tie as tie
 
+-- What holds before each turn.
+record Turn (table out₀ out : List ℕ) (from at n x c : ℕ) : Type 0 where
+  put-within : c ≤ n
+  out-long : length out ≡ length out₀
+  node-reached : x ≡ nodeAfter table c from
+  out-is : out ≡ sets out₀ at (line (cells (take c (tagsFound (ahead table from)))))
+
 abbrev Inv-loop : tie.InvT-loop
-Inv-loop table from left out₀ at n x₀ c₀ out x c =
-    (c ≤ n)
-    × (length out ≡ length out₀)
-    × (x ≡ nodeAfter table c from)
-    × (out ≡ sets out₀ at (line (cells (take c (tagsFound (ahead table from))))))
+Inv-loop table from left out₀ at n x₀ c₀ out x c = Turn table out₀ out from at n x c
 
 abbrev μ-loop : tie.MeasureT-loop
 μ-loop table from left out₀ at n x₀ c₀ out x c = n - c
 
 abbrev blanked : tie.At-loop Inv-loop μ-loop → tie.After-put-blank-line Inv-loop μ-loop
-blanked c = c .before .before .before .before
+blanked c = search
 
 abbrev start : tie.At-loop Inv-loop μ-loop → tie.Start Inv-loop μ-loop
 start c = blanked c .before .before .before .before
@@ -46,21 +49,23 @@ table c = start c .args .table .now
 
 -- There is a tag for each turn.
 enough : (c : tie.In-loop Inv-loop μ-loop) → c .before .loop .c < start (c .before) .args .left
-enough c = omega (arith, c .before .before .on-line .ensures)
+enough c =
+    let after-on-line : tie.After-on-line Inv-loop μ-loop = search in
+    omega (arith, after-on-line .on-line .ensures)
 
 bag : (c : tie.In-loop Inv-loop μ-loop)
     → let at = c .before in
     let from = start at .args .from in
     TagAt (table at) from (tagsFound (ahead (table at) from)) (at .loop .c)
 bag c =
-    let at = c .before in
+    let at : tie.At-loop Inv-loop μ-loop = search in
     let s = start at in
     next-tag (table at) (s .args .from) (s .args .left) (s .pre .0 .1) (at .loop .c) (enough c)
 
 -- The walk is at its node.
 is-node : (c : tie.In-loop Inv-loop μ-loop) → c .before .loop .x < nodeCount (table (c .before))
 is-node c =
-    subst (λ (x : ℕ). x < nodeCount (table (c .before))) (sym (c .before .loop .inv .2)) (bag c .is-node)
+    subst (λ (x : ℕ). x < nodeCount (table (c .before))) (sym (c .before .loop .inv .node-reached)) (bag c .is-node)
 
 abbrev read : (c : tie.After-value Inv-loop μ-loop) → Stored
 read c = c .value .result
@@ -69,8 +74,8 @@ value-read : (c : tie.After-value Inv-loop μ-loop)
     → let at = c .before .before in
     read c ≡ valueWords (table at) (nodeAfter (table at) (at .loop .c) (start at .args .from))
 value-read c =
-    let at = c .before .before in
-    c .value .ensures ∙ ap (valueWords (table at)) (at .loop .inv .2)
+    let at : tie.At-loop Inv-loop μ-loop = search in
+    c .value .ensures ∙ ap (valueWords (table at)) (at .loop .inv .node-reached)
 
 is-tag : (c : tie.After-value Inv-loop μ-loop) → bagOk (read c) ≡ true
 is-tag c = ap bagOk (value-read c) ∙ bag (c .before) .is-tag
@@ -79,51 +84,48 @@ room : (c : tie.In-loop Inv-loop μ-loop)
     → let at = c .before in
     start at .args .at + cellLength * at .loop .c + 10 ≤ length (at .loop .out)
 room c =
-    let at = c .before in
-    omega (arith, at .loop .inv .1, blanked at .put-blank-line .kept .0, start at .pre .1, at .before .on-line .ensures)
-
-put-blank-line-requires : tie.Need-put-blank-line-requires Inv-loop μ-loop
-put-blank-line-requires c κs = search needs
-
-on-line-requires : tie.Need-on-line-requires Inv-loop μ-loop
-on-line-requires c κs = search needs
+    let at : tie.At-loop Inv-loop μ-loop = search in
+    omega (
+      arith,
+      at .loop .inv .out-long,
+      blanked at .put-blank-line .kept .0,
+      start at .pre .1,
+      at .before .on-line .ensures,
+    )
 
 loop-holds : tie.Need-loop-holds Inv-loop μ-loop
 loop-holds c =
-    let b = c .before .before .before in
-    let a = b .before .before .before .before .args in (
-      omega arith,
-      refl,
-      begins-at (a .table .now) (a .from),
-      line-begun (a .out .now) (a .at) (b .put-blank-line .ensures) (tagsFound (ahead (a .table .now) (a .from))),
-    )
+    let start : tie.Start Inv-loop μ-loop = search in
+    let b : tie.After-put-blank-line Inv-loop μ-loop = search in
+    let a = start .args in record {
+      put-within = omega arith;
+      out-long = refl;
+      node-reached = begins-at (a .table .now) (a .from);
+      out-is = line-begun (a .out .now) (a .at) (b .put-blank-line .ensures)
+          (tagsFound (ahead (a .table .now) (a .from)));
+    }
 
 value-requires : tie.Need-value-requires Inv-loop μ-loop
 value-requires c κs = (start (c .before) .pre .0 .0, is-node c)
 
 next-requires : tie.Need-next-requires Inv-loop μ-loop
 next-requires c κs =
-    let turn = c .before in
+    let turn : tie.In-loop Inv-loop μ-loop = search in
     (start (turn .before) .pre .0 .0, is-node turn)
 
-cast-put-tag : tie.Need-cast-put-tag Inv-loop μ-loop
-cast-put-tag c = omega arith
-
 mul-put-tag : tie.Need-mul-put-tag Inv-loop μ-loop
-mul-put-tag c = omega (arith, room (c .before .before .before))
+mul-put-tag c =
+    let in-loop : tie.In-loop Inv-loop μ-loop = search in
+    omega (arith, room in-loop)
 
 add-put-tag : tie.Need-add-put-tag Inv-loop μ-loop
-add-put-tag c = omega (arith, room (c .before .before .before))
-
-tag-digit-requires : tie.Need-tag-digit-requires Inv-loop μ-loop
-tag-digit-requires c κs = is-tag (c .before .before)
-
-tag-low-requires : tie.Need-tag-low-requires Inv-loop μ-loop
-tag-low-requires c κs = is-tag (c .before .before .before)
+add-put-tag c =
+    let in-loop : tie.In-loop Inv-loop μ-loop = search in
+    omega (arith, room in-loop)
 
 put-tag-requires : tie.Need-put-tag-requires Inv-loop μ-loop
 put-tag-requires c κs =
-    let v = c .before .before .before .before in
+    let v : tie.After-value Inv-loop μ-loop = search in
     let digit = c .before .tag-digit .ensures in
     let low = c .tag-low .ensures in (
       digit-fits refl (is-tag v) digit low,
@@ -131,47 +133,41 @@ put-tag-requires c κs =
       room (v .before),
     )
 
-add-c : tie.Need-add-c Inv-loop μ-loop
-add-c c = omega arith
-
-loop-less : tie.Need-loop-less Inv-loop μ-loop
-loop-less c = omega arith
-
 loop-again : tie.Need-loop-again Inv-loop μ-loop
 loop-again c =
-    let put = c .before .before in
-    let low = put .before in
-    let digit = low .before in
-    let gone = digit .before .before in
-    let v = gone .before in
-    let turn = v .before in
-    let at = turn .before in
+    let put : tie.After-put-tag Inv-loop μ-loop = search in
+    let low : tie.After-tag-low Inv-loop μ-loop = search in
+    let digit : tie.After-tag-digit Inv-loop μ-loop = search in
+    let gone : tie.After-next Inv-loop μ-loop = search in
+    let v : tie.After-value Inv-loop μ-loop = search in
+    let turn : tie.In-loop Inv-loop μ-loop = search in
+    let at : tie.At-loop Inv-loop μ-loop = search in
     let l = at .loop in
     let s = start at in
     let few : l .c < perLine = omega (arith, at .before .on-line .ensures) in
-    let tag = words-tag (value-read v) (bag turn .is-tag) (digit .tag-digit .ensures) (low .tag-low .ensures) in (
-      omega arith,
-      put .put-tag .kept .0 ∙ l .inv .1,
-      gone .next .ensures ∙ gone-on (table at) (l .c) (s .args .from) (l .inv .2),
-      tag-put (table at) (s .args .from) (s .args .left) (s .pre .0 .1) (l .c) (enough turn) few
-          (blanked at .put-blank-line .last .0) (s .args .at) (l .inv .3) tag (put .put-tag .ensures),
-    )
+    let tag = words-tag (value-read v) (bag turn .is-tag) (digit .tag-digit .ensures) (low .tag-low .ensures) in record {
+      put-within = omega arith;
+      out-long = put .put-tag .kept .0 ∙ l .inv .out-long;
+      node-reached = gone .next .ensures ∙ gone-on (table at) (l .c) (s .args .from) (l .inv .node-reached);
+      out-is = tag-put (table at) (s .args .from) (s .args .left) (s .pre .0 .1) (l .c) (enough turn) few
+          (blanked at .put-blank-line .last .0) (s .args .at) (l .inv .out-is) tag (put .put-tag .ensures);
+    }
 
 same-length : tie.Need-same-length Inv-loop μ-loop
-same-length c = c .before .loop .inv .1 ∙ blanked (c .before) .put-blank-line .kept .0
+same-length c = c .before .loop .inv .out-long ∙ blanked (c .before) .put-blank-line .kept .0
 
 returns : tie.Need-returns Inv-loop μ-loop
 returns c =
-    let at = c .before in
+    let at : tie.At-loop Inv-loop μ-loop = search in
     let l = at .loop in
     let s = start at in
     let a = s .args in
     let all : l .c ≡ min (a .left) perLine = omega (arith, at .before .on-line .ensures) in
     let tags = tagsFound (ahead (table at) (a .from)) in
     let long : length tags ≡ a .left = tags-left (ahead (table at) (a .from)) (a .left) (s .pre .0 .1) in (
-      l .inv .2 ∙ ap (λ (n : ℕ). nodeAfter (table at) n (a .from)) all,
+      l .inv .node-reached ∙ ap (λ (n : ℕ). nodeAfter (table at) n (a .from)) all,
       line-done (a .out .now) (a .at) (blanked at .put-blank-line .ensures) tags (l .c)
-          (all ∙ ap (λ (n : ℕ). min n perLine) (sym long)) (l .inv .3),
+          (all ∙ ap (λ (n : ℕ). min n perLine) (sym long)) (l .inv .out-is),
     )
 
 pub put-line-spec : {M : Type 1} → statement M
@@ -180,19 +176,19 @@ put-line-spec =
     (tie.spec
     Inv-loop
     μ-loop
-    put-blank-line-requires
-    on-line-requires
+    (λ c κs. search needs)
+    (λ c κs. search needs)
     loop-holds
     value-requires
     next-requires
-    cast-put-tag
+    (λ c. omega arith)
     mul-put-tag
     add-put-tag
-    tag-digit-requires
-    tag-low-requires
+    (λ c κs. is-tag search)
+    (λ c κs. is-tag search)
     put-tag-requires
-    add-c
-    loop-less
+    (λ c. omega arith)
+    (λ c. omega arith)
     loop-again
     same-length
     returns)

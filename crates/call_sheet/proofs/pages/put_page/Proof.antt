@@ -6,23 +6,14 @@ use Rattle.call_sheet.proofs.Laws.Written.{page-stored}
 use Rattle.call_sheet.proofs.pages.put_page.Statement.{statement}
 use Rattle.call_sheet.proofs.pages.put_page.Tie as tie
 
-put-heading-requires : tie.Need-put-heading-requires
-put-heading-requires c κs = search needs
-
-put-lines-requires : tie.Need-put-lines-requires
-put-lines-requires c κs = search needs
-
-same-length : tie.Need-same-length
-same-length c = search needs
-
 returns : tie.Need-returns
 returns c =
-    let lines = c .before .before in
-    let headed = lines .before .before .before .before in
-    let s = headed .before .before .before .before in
+    let lines : tie.After-put-lines = search in
+    let headed : tie.After-put-heading = search in
+    let s : tie.Start = search in
     let a = s .args in
     page-stored (a .out .now) (tagsFound (ahead (a .table .now) (a .from))) (a .count) (s .pre .1 .1)
     (headed .put-heading .ensures) (lines .put-lines .ensures)
 
 pub put-page-spec : {M : Type 1} → statement M
-put-page-spec = tie.close (tie.spec put-heading-requires put-lines-requires same-length returns)
+put-page-spec = tie.close (tie.spec (λ c κs. search needs) (λ c κs. search needs) (λ c. search needs) returns)

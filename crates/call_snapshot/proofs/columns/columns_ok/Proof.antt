@@ -16,68 +16,43 @@ use Rattle.call_snapshot.proofs.columns.columns_ok.Statement.{statement
 use Rattle.call_snapshot.proofs.columns.columns_ok.Tie as tie
 
 slots-requires : tie.Need-slots-requires
-slots-requires c κs = let s = c .before in omega (arith, has-nodes (s .args .snapshot .now) (s .pre))
-
-cast-n : tie.Need-cast-n
-cast-n c = search needs
+slots-requires c κs = let s : tie.Start = search in omega (arith, has-nodes (s .args .snapshot .now) (s .pre))
 
 part-requires : tie.Need-part-requires
-part-requires c κs = let s = c .before .before in has-nodes (s .args .snapshot .now) (s .pre)
+part-requires c κs = let s : tie.Start = search in has-nodes (s .args .snapshot .now) (s .pre)
 
 -- Four columns of so many words.
 four : (c : tie.After-part) → length (c .part .result .now) ≡ nodeLength * c .before .slots .result
 four c =
-    let k = c .before in
-    let s = k .before .before in
+    let k : tie.After-slots = search in
+    let s : tie.Start = search in
     let ss = s .args .snapshot .now in
-    let all = ap length (c .part .ensures) ∙ part-long ss (has-nodes ss (s .pre)) in omega (arith, all, k .slots .ensures)
-
-mul-links-ok : tie.Need-mul-links-ok
-mul-links-ok c = search needs
+    let all = ap length (c .part .ensures) ∙ part-long ss (has-nodes ss (s .pre)) in omega
+    (arith, all, k .slots .ensures)
 
 slice-aggregate-links-ok : tie.Need-slice-aggregate-links-ok
 slice-aggregate-links-ok c =
-    let q = c .before in sym (length-take-le (2 * q .before .slots .result) (q .part .result .now) (omega (arith, four q)))
-
-links-ok-requires : tie.Need-links-ok-requires
-links-ok-requires c κs = search needs
-
-mul-values-ok : tie.Need-mul-values-ok
-mul-values-ok c = search needs
-
-mul-values-ok-2 : tie.Need-mul-values-ok-2
-mul-values-ok-2 c = search needs
-
-mul-values-ok-3 : tie.Need-mul-values-ok-3
-mul-values-ok-3 c = search needs
-
-sub-values-ok : tie.Need-sub-values-ok
-sub-values-ok c = search needs
-
-part-values-ok-start : tie.Need-part-values-ok-start
-part-values-ok-start c = search needs
+    let q : tie.After-part = search in sym (length-take-le (2 * q .before .slots .result) (q .part .result .now)
+    (omega (arith, four q)))
 
 part-values-ok-end : tie.Need-part-values-ok-end
-part-values-ok-end c = omega (arith, four (c .before .before))
-
-mul-values-ok-4 : tie.Need-mul-values-ok-4
-mul-values-ok-4 c = search needs
-
-mul-values-ok-5 : tie.Need-mul-values-ok-5
-mul-values-ok-5 c = search needs
+part-values-ok-end c =
+    let after-part : tie.After-part = search in
+    omega (arith, four after-part)
 
 sub-values-ok-2 : tie.Need-sub-values-ok-2
-sub-values-ok-2 c = omega (arith, four (c .before .before .before))
+sub-values-ok-2 c =
+    let after-part : tie.After-part = search in
+    omega (arith, four after-part)
 
 part-values-ok-start-2 : tie.Need-part-values-ok-start-2
-part-values-ok-start-2 c = omega (arith, four (c .before .before .before))
-
-part-values-ok-end-2 : tie.Need-part-values-ok-end-2
-part-values-ok-end-2 c = search needs
+part-values-ok-start-2 c =
+    let after-part : tie.After-part = search in
+    omega (arith, four after-part)
 
 values-ok-requires : tie.Need-values-ok-requires
 values-ok-requires c κs =
-    let q = c .before .before .before .before in
+    let q : tie.After-part = search in
     let S = q .before .slots .result in
     let cs = q .part .result .now in
     let digits = mid-len (3 * S) (length cs) cs (omega (arith, four q)) in
@@ -86,34 +61,35 @@ values-ok-requires c κs =
 
 returns : tie.Need-returns
 returns c =
-    let l = c .before .before .before in
-    let q = l .before .before in
-    let k = q .before in
+    let start : tie.Start = search in
+    let l : tie.After-links-ok = search in
+    let q : tie.After-part = search in
+    let k : tie.After-slots = search in
     let S = k .slots .result in
     ap (λ b. b && c .values-ok .result) (l .links-ok .ensures)
     ∙ ap (λ b. linksOk S (take (2 * S) (q .part .result .now)) && b) (c .values-ok .ensures)
-    ∙ columns-lent (k .before .before .args .snapshot .now) (k .slots .ensures) (q .part .ensures)
+    ∙ columns-lent (start .args .snapshot .now) (k .slots .ensures) (q .part .ensures)
 
 pub columns-ok-spec : {M : Type 1} → statement M
 columns-ok-spec =
     tie.close
     (tie.spec
     slots-requires
-    cast-n
+    (λ c. search needs)
     part-requires
-    mul-links-ok
+    (λ c. search needs)
     slice-aggregate-links-ok
-    links-ok-requires
-    mul-values-ok
-    mul-values-ok-2
-    mul-values-ok-3
-    sub-values-ok
-    part-values-ok-start
+    (λ c κs. search needs)
+    (λ c. search needs)
+    (λ c. search needs)
+    (λ c. search needs)
+    (λ c. search needs)
+    (λ c. search needs)
     part-values-ok-end
-    mul-values-ok-4
-    mul-values-ok-5
+    (λ c. search needs)
+    (λ c. search needs)
     sub-values-ok-2
     part-values-ok-start-2
-    part-values-ok-end-2
+    (λ c. search needs)
     values-ok-requires
     returns)

@@ -19,31 +19,19 @@ abbrev μ-loop : tie.MeasureT-loop
 loop-holds : tie.Need-loop-holds Inv-loop μ-loop
 loop-holds c = (omega arith, sym (none-below (linkOk (c .before .args .slots) (c .before .args .links .now))))
 
-mul-node-or-none : tie.Need-mul-node-or-none Inv-loop μ-loop
-mul-node-or-none c = search needs
-
-shared-slice-read-node-or-none : tie.Need-shared-slice-read-node-or-none Inv-loop μ-loop
-shared-slice-read-node-or-none c = search needs
-
-node-or-none-requires : tie.Need-node-or-none-requires Inv-loop μ-loop
-node-or-none-requires c κs = search needs
-
-add-x : tie.Need-add-x Inv-loop μ-loop
-add-x c = search needs
-
-loop-less : tie.Need-loop-less Inv-loop μ-loop
-loop-less c = search needs
-
 loop-again : tie.Need-loop-again Inv-loop μ-loop
 loop-again c =
-    let l = c .before .before .before .loop in
-    let a = c .before .before .before .before .before .args in
+    let start : tie.Start Inv-loop μ-loop = search in
+    let at-loop : tie.At-loop Inv-loop μ-loop = search in
+    let l = at-loop .loop in
+    let a = start .args in
     (omega arith, one-tested (linkOk (a .slots) (a .links .now)) (l .x) (l .inv .1) (c .node-or-none .ensures))
 
 returns : tie.Need-returns Inv-loop μ-loop
 returns c =
+    let start : tie.Start Inv-loop μ-loop = search in
     let l = c .before .loop in
-    let a = c .before .before .before .args in
+    let a = start .args in
     let e : l .x ≡ length (a .links .now) = omega arith in
     l .inv .1 ∙ ap (λ n. allBelow n (linkOk (a .slots) (a .links .now))) e
 
@@ -54,10 +42,10 @@ links-ok-spec =
     Inv-loop
     μ-loop
     loop-holds
-    mul-node-or-none
-    shared-slice-read-node-or-none
-    node-or-none-requires
-    add-x
-    loop-less
+    (λ c. search needs)
+    (λ c. search needs)
+    (λ c κs. search needs)
+    (λ c. search needs)
+    (λ c. search needs)
     loop-again
     returns)

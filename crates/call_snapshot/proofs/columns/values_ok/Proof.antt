@@ -19,37 +19,16 @@ abbrev μ-loop : tie.MeasureT-loop
 
 loop-holds : tie.Need-loop-holds Inv-loop μ-loop
 loop-holds c =
-    let a = c .before .before .args in (omega arith, sym (none-below (storedOk (a .words .now) (a .digits .now))))
-
-mul-of-words : tie.Need-mul-of-words Inv-loop μ-loop
-mul-of-words c = search needs
-
-shared-slice-read-of-words : tie.Need-shared-slice-read-of-words Inv-loop μ-loop
-shared-slice-read-of-words c = search needs
-
-mul-of-words-2 : tie.Need-mul-of-words-2 Inv-loop μ-loop
-mul-of-words-2 c = search needs
-
-shared-slice-read-of-words-2 : tie.Need-shared-slice-read-of-words-2 Inv-loop μ-loop
-shared-slice-read-of-words-2 c = search needs
-
-of-words-requires : tie.Need-of-words-requires Inv-loop μ-loop
-of-words-requires c κs = search needs
-
-value-ok-requires : tie.Need-value-ok-requires Inv-loop μ-loop
-value-ok-requires c κs = search needs
-
-add-x : tie.Need-add-x Inv-loop μ-loop
-add-x c = search needs
-
-loop-less : tie.Need-loop-less Inv-loop μ-loop
-loop-less c = search needs
+    let start : tie.Start Inv-loop μ-loop = search in
+    let a = start .args in (omega arith, sym (none-below (storedOk (a .words .now) (a .digits .now))))
 
 loop-again : tie.Need-loop-again Inv-loop μ-loop
 loop-again c =
-    let n = c .before in
-    let l = n .before .before .before .before .loop in
-    let a = n .before .before .before .before .before .before .before .args in (
+    let start : tie.Start Inv-loop μ-loop = search in
+    let at-loop : tie.At-loop Inv-loop μ-loop = search in
+    let n : tie.After-of-words Inv-loop μ-loop = search in
+    let l = at-loop .loop in
+    let a = start .args in (
       omega arith,
       one-tested (storedOk (a .words .now) (a .digits .now)) (l .x) (l .inv .1)
           (c .value-ok .ensures ∙ ap valueOk (n .of-words .ensures)),
@@ -57,8 +36,9 @@ loop-again c =
 
 returns : tie.Need-returns Inv-loop μ-loop
 returns c =
+    let start : tie.Start Inv-loop μ-loop = search in
     let l = c .before .loop in
-    let a = c .before .before .before .before .args in
+    let a = start .args in
     let e : l .x ≡ length (a .words .now) = omega arith in
     l .inv .1 ∙ ap (λ n. allBelow n (storedOk (a .words .now) (a .digits .now))) e
 
@@ -69,13 +49,13 @@ values-ok-spec =
     Inv-loop
     μ-loop
     loop-holds
-    mul-of-words
-    shared-slice-read-of-words
-    mul-of-words-2
-    shared-slice-read-of-words-2
-    of-words-requires
-    value-ok-requires
-    add-x
-    loop-less
+    (λ c. search needs)
+    (λ c. search needs)
+    (λ c. search needs)
+    (λ c. search needs)
+    (λ c κs. search needs)
+    (λ c κs. search needs)
+    (λ c. search needs)
+    (λ c. search needs)
     loop-again
     returns)

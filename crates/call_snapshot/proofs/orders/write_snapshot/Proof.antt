@@ -13,66 +13,48 @@ use Rattle.call_snapshot.proofs.orders.write_snapshot.Tie as tie
 
 slots-requires : tie.Need-slots-requires
 slots-requires c κs =
-    let s = c .before .before in omega (arith, has-nodes (s .args .table .now) (s .pre .0))
-
-node-at-requires : tie.Need-node-at-requires
-node-at-requires c κs = search needs
-
-node-at-requires-2 : tie.Need-node-at-requires-2
-node-at-requires-2 c κs = search needs
+    let s : tie.Start = search in omega (arith, has-nodes (s .args .table .now) (s .pre .0))
 
 copy-ends-requires : tie.Need-copy-ends-requires
 copy-ends-requires c κs =
-    let n = c .before .before .before in
-    let s = n .before .before .before in
+    let n : tie.After-slots = search in
+    let s : tie.Start = search in
     (omega (arith, has-nodes (s .args .table .now) (s .pre .0), n .slots .ensures), s .pre .1)
 
 part-requires : tie.Need-part-requires
 part-requires c κs =
-    let s = c .before .before .before .before .before .before .before .before .before in
+    let s : tie.Start = search in
     has-nodes (s .args .table .now) (s .pre .0)
-
-mul-write-columns : tie.Need-mul-write-columns
-mul-write-columns c = search needs
-
-sub-write-columns : tie.Need-sub-write-columns
-sub-write-columns c = search needs
-
-part-write-columns-start : tie.Need-part-write-columns-start
-part-write-columns-start c = search needs
 
 part-write-columns-end : tie.Need-part-write-columns-end
 part-write-columns-end c =
-    let e = c .before .before .before in
-    let n = e .before .before in
-    let k = n .before .before in
-    let s = k .before .before .before in
+    let e : tie.After-copy-ends = search in
+    let n : tie.After-node-at2 = search in
+    let k : tie.After-slots = search in
+    let s : tie.Start = search in
     let enough = has-nodes (s .args .table .now) (s .pre .0) in
     omega (arith, n .node-at2 .ensures, k .slots .ensures, e .copy-ends .kept .1 .0, s .pre .1)
 
 write-columns-requires : tie.Need-write-columns-requires
 write-columns-requires c κs =
-    let q = c .before in
-    let e = q .before .before .before in
-    let n = e .before .before in
-    let k = n .before .before in
-    let s = k .before .before .before in
+    let q : tie.After-part = search in
+    let e : tie.After-copy-ends = search in
+    let n : tie.After-node-at2 = search in
+    let k : tie.After-slots = search in
+    let s : tie.Start = search in
     let enough = has-nodes (s .args .table .now) (s .pre .0) in
     let all = ap length (q .part .ensures) ∙ part-long (s .args .table .now) enough in
     (omega (arith, all, k .slots .ensures), search needs)
 
-same-length : tie.Need-same-length
-same-length c = search needs
-
 returns : tie.Need-returns
 returns c =
-    let w = c .before .before in
-    let q = w .before .before in
-    let e = q .before .before .before in
-    let n = e .before .before in
-    let f = n .before in
-    let k = f .before in
-    let s = k .before .before .before in
+    let w : tie.After-write-columns = search in
+    let q : tie.After-part = search in
+    let e : tie.After-copy-ends = search in
+    let n : tie.After-node-at2 = search in
+    let f : tie.After-node-at = search in
+    let k : tie.After-slots = search in
+    let s : tie.Start = search in
     let a = s .args in
     order-laid (λ S. transposed S nodeLength) (a .table .now) (a .snapshot .now) (w .write-columns .last .1 .0)
     (has-nodes (a .table .now) (s .pre .0)) (s .pre .1) (k .slots .ensures) (f .node-at .ensures) (n .node-at2 .ensures)
@@ -83,14 +65,14 @@ write-snapshot-spec =
     tie.close
     (tie.spec
     slots-requires
-    node-at-requires
-    node-at-requires-2
+    (λ c κs. search needs)
+    (λ c κs. search needs)
     copy-ends-requires
     part-requires
-    mul-write-columns
-    sub-write-columns
-    part-write-columns-start
+    (λ c. search needs)
+    (λ c. search needs)
+    (λ c. search needs)
     part-write-columns-end
     write-columns-requires
-    same-length
+    (λ c. search needs)
     returns)

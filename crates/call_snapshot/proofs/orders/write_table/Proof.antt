@@ -13,69 +13,52 @@ use Rattle.call_snapshot.proofs.orders.write_table.Tie as tie
 
 slots-requires : tie.Need-slots-requires
 slots-requires c κs =
-    let s = c .before .before in omega (arith, has-nodes (s .args .snapshot .now) (s .pre .0))
-
-node-at-requires : tie.Need-node-at-requires
-node-at-requires c κs = search needs
-
-node-at-requires-2 : tie.Need-node-at-requires-2
-node-at-requires-2 c κs = search needs
+    let s : tie.Start = search in omega (arith, has-nodes (s .args .snapshot .now) (s .pre .0))
 
 copy-ends-requires : tie.Need-copy-ends-requires
 copy-ends-requires c κs =
-    let n = c .before .before .before in
-    let s = n .before .before .before in
+    let n : tie.After-slots = search in
+    let s : tie.Start = search in
     (omega (arith, has-nodes (s .args .snapshot .now) (s .pre .0), n .slots .ensures), s .pre .1)
 
 part-requires : tie.Need-part-requires
 part-requires c κs =
-    let s = c .before .before .before .before .before .before .before .before .before in
+    let s : tie.Start = search in
     has-nodes (s .args .snapshot .now) (s .pre .0)
-
-mul-write-nodes : tie.Need-mul-write-nodes
-mul-write-nodes c = search needs
-
-sub-write-nodes : tie.Need-sub-write-nodes
-sub-write-nodes c = search needs
-
-part-write-nodes-start : tie.Need-part-write-nodes-start
-part-write-nodes-start c = search needs
 
 part-write-nodes-end : tie.Need-part-write-nodes-end
 part-write-nodes-end c =
-    let e = c .before .before .before in
-    let n = e .before .before in
-    let k = n .before .before in
-    let s = k .before .before .before in
+    let e : tie.After-copy-ends = search in
+    let n : tie.After-node-at2 = search in
+    let k : tie.After-slots = search in
+    let s : tie.Start = search in
     let enough = has-nodes (s .args .snapshot .now) (s .pre .0) in
     omega (arith, n .node-at2 .ensures, k .slots .ensures, e .copy-ends .kept .1 .0, s .pre .1)
 
 write-nodes-requires : tie.Need-write-nodes-requires
 write-nodes-requires c κs =
-    let q = c .before in
-    let e = q .before .before .before in
-    let n = e .before .before in
-    let k = n .before .before in
-    let s = k .before .before .before in
+    let q : tie.After-part = search in
+    let e : tie.After-copy-ends = search in
+    let n : tie.After-node-at2 = search in
+    let k : tie.After-slots = search in
+    let s : tie.Start = search in
     let enough = has-nodes (s .args .snapshot .now) (s .pre .0) in
     let all = ap length (q .part .ensures) ∙ part-long (s .args .snapshot .now) enough in
     (omega (arith, all, k .slots .ensures), search needs)
 
-same-length : tie.Need-same-length
-same-length c = search needs
-
 returns : tie.Need-returns
 returns c =
-    let w = c .before .before in
-    let q = w .before .before in
-    let e = q .before .before .before in
-    let n = e .before .before in
-    let f = n .before in
-    let k = f .before in
-    let s = k .before .before .before in
+    let w : tie.After-write-nodes = search in
+    let q : tie.After-part = search in
+    let e : tie.After-copy-ends = search in
+    let n : tie.After-node-at2 = search in
+    let f : tie.After-node-at = search in
+    let k : tie.After-slots = search in
+    let s : tie.Start = search in
     let a = s .args in
     order-laid (λ S. transposed nodeLength S) (a .snapshot .now) (a .table .now) (w .write-nodes .last .1 .0)
-    (has-nodes (a .snapshot .now) (s .pre .0)) (s .pre .1) (k .slots .ensures) (f .node-at .ensures) (n .node-at2 .ensures)
+    (has-nodes (a .snapshot .now) (s .pre .0)) (s .pre .1) (k .slots .ensures) (f .node-at .ensures)
+    (n .node-at2 .ensures)
     (e .copy-ends .ensures) (q .part .ensures) (w .write-nodes .ensures)
 
 pub write-table-spec : {M : Type 1} → statement M
@@ -83,14 +66,14 @@ write-table-spec =
     tie.close
     (tie.spec
     slots-requires
-    node-at-requires
-    node-at-requires-2
+    (λ c κs. search needs)
+    (λ c κs. search needs)
     copy-ends-requires
     part-requires
-    mul-write-nodes
-    sub-write-nodes
-    part-write-nodes-start
+    (λ c. search needs)
+    (λ c. search needs)
+    (λ c. search needs)
     part-write-nodes-end
     write-nodes-requires
-    same-length
+    (λ c. search needs)
     returns)

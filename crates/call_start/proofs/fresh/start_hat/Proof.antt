@@ -14,12 +14,6 @@ use Rattle.call_start.proofs.fresh.start_hat.Tie as tie
 use Rattle.call_start.proofs.fresh.start_hat.Reads as reads
 use Rattle.call_start.proofs.fresh.start_hat.Lts as lts
 
-mul-result : tie.Need-mul-result
-mul-result c = search needs
-
-add-result : tie.Need-add-result
-add-result c = search needs
-
 returns : tie.Need-returns
 returns c =
     let a = c .before .args in
@@ -34,4 +28,4 @@ returns-2 c =
     sym (if-no (a .l <? a .lanes) (2 * a .l + sideNumber (sideOf (a .side))) noNode (λ h. refute (omega arith)))
 
 pub start-hat-spec : {M : Type 1} → statement M
-start-hat-spec = tie.close (tie.spec mul-result add-result returns returns-2)
+start-hat-spec = tie.close (tie.spec (λ c. search needs) (λ c. search needs) returns returns-2)

@@ -10,23 +10,12 @@ use borrow.Author.Needs.{needs}
 use Rattle.call_start.proofs.fresh.write_nodes.Statement.{statement}
 use Rattle.call_start.proofs.fresh.write_nodes.Tie as tie
 
-write-sentinels-requires : tie.Need-write-sentinels-requires
-write-sentinels-requires c κs = search needs
-
-mul-write-unused : tie.Need-mul-write-unused
-mul-write-unused c = search needs
-
-write-unused-requires : tie.Need-write-unused-requires
-write-unused-requires c κs = search needs
-
-same-length : tie.Need-same-length
-same-length c = search needs
-
 returns : tie.Need-returns
 returns c =
-    let unused = c .before .before in
-    let first = unused .before .before .before .before in
-    let a = first .before .before .before .args in
+    let start : tie.Start = search in
+    let unused : tie.After-write-unused = search in
+    let first : tie.After-write-sentinels = search in
+    let a = start .args in
     unused .write-unused .ensures
     ∙ ap (λ (l : List ℕ). l ++ times (a .slots - 2 * a .lanes) (nodeWords noNode noNode never))
     (first .write-sentinels .ensures)
@@ -34,4 +23,4 @@ returns c =
 pub write-nodes-spec : {M : Type 1} → statement M
 write-nodes-spec =
     tie.close
-    (tie.spec write-sentinels-requires mul-write-unused write-unused-requires same-length returns)
+    (tie.spec (λ c κs. search needs) (λ c. search needs) (λ c κs. search needs) (λ c. search needs) returns)

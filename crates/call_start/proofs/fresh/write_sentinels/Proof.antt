@@ -32,52 +32,27 @@ abbrev μ-loop : tie.MeasureT-loop
 
 loop-holds : tie.Need-loop-holds Inv-loop μ-loop
 loop-holds c =
-    let s = c .before in
+    let s : tie.Start Inv-loop μ-loop = search in
     (omega arith, refl, ap (λ (n : ℕ). startNodes n 0) (sub-zero (s .args .lanes)))
 
-mul-write : tie.Need-mul-write Inv-loop μ-loop
-mul-write c = omega arith
-
-mul-write-2 : tie.Need-mul-write-2 Inv-loop μ-loop
-mul-write-2 c = omega arith
-
-add-write : tie.Need-add-write Inv-loop μ-loop
-add-write c = omega arith
-
-x-of-requires : tie.Need-x-of-requires Inv-loop μ-loop
-x-of-requires c κs = search needs
-
 write-requires : tie.Need-write-requires Inv-loop μ-loop
-write-requires c κs = omega (arith, c .before .before .before .loop .inv .1)
-
-mul-write-3 : tie.Need-mul-write-3 Inv-loop μ-loop
-mul-write-3 c = omega arith
-
-add-write-2 : tie.Need-add-write-2 Inv-loop μ-loop
-add-write-2 c = omega arith
-
-mul-write-4 : tie.Need-mul-write-4 Inv-loop μ-loop
-mul-write-4 c = omega arith
-
-x-of-requires-2 : tie.Need-x-of-requires-2 Inv-loop μ-loop
-x-of-requires-2 c κs = search needs
+write-requires c κs =
+    let at-loop : tie.At-loop Inv-loop μ-loop = search in
+    omega (arith, at-loop .loop .inv .1)
 
 write-requires-2 : tie.Need-write-requires-2 Inv-loop μ-loop
-write-requires-2 c κs = omega (arith, c .before .before .before .before .before .before .before .before .loop .inv .1)
-
-add-l : tie.Need-add-l Inv-loop μ-loop
-add-l c = omega arith
-
-loop-less : tie.Need-loop-less Inv-loop μ-loop
-loop-less c = omega arith
+write-requires-2 c κs =
+    let at-loop : tie.At-loop Inv-loop μ-loop = search in
+    omega (arith, at-loop .loop .inv .1)
 
 loop-again : tie.Need-loop-again Inv-loop μ-loop
 unfolding ℕ-discrete
 loop-again c =
-    let second = c .before .before in
-    let first = second .before .before .before .before .before in
-    let l = first .before .before .before .before .loop in
-    let s = first .before .before .before .before .before .before in
+    let at-loop : tie.At-loop Inv-loop μ-loop = search in
+    let second : tie.After-write2 Inv-loop μ-loop = search in
+    let first : tie.After-write Inv-loop μ-loop = search in
+    let l = at-loop .loop in
+    let s : tie.Start Inv-loop μ-loop = search in
     let n = s .args .lanes in
     let one =
     first .write .ensures ∙ ap (setNodeIn (l .ns) (2 * l .l) noNode (2 * l .l + 1)) (first .before .x-of .ensures) in
@@ -97,8 +72,9 @@ same-length c = c .before .loop .inv .1
 
 returns : tie.Need-returns Inv-loop μ-loop
 returns c =
+    let start : tie.Start Inv-loop μ-loop = search in
     let l = c .before .loop in
-    let n = c .before .before .before .args .lanes in
+    let n = start .args .lanes in
     let e : nodeLength * (2 * n) ≡ nodeLength * (2 * l .l) = omega arith in
     rw e (sym (sentinels-done (l .ns) (nodeLength * (2 * l .l)) (n - l .l) (l .l) (omega arith)) ∙ l .inv .2)
 
@@ -109,18 +85,18 @@ write-sentinels-spec =
     Inv-loop
     μ-loop
     loop-holds
-    mul-write
-    mul-write-2
-    add-write
-    x-of-requires
+    (λ c. omega arith)
+    (λ c. omega arith)
+    (λ c. omega arith)
+    (λ c κs. search needs)
     write-requires
-    mul-write-3
-    add-write-2
-    mul-write-4
-    x-of-requires-2
+    (λ c. omega arith)
+    (λ c. omega arith)
+    (λ c. omega arith)
+    (λ c κs. search needs)
     write-requires-2
-    add-l
-    loop-less
+    (λ c. omega arith)
+    (λ c. omega arith)
     loop-again
     same-length
     returns)

@@ -30,21 +30,18 @@ abbrev μ-loop : tie.MeasureT-loop
 loop-holds : tie.Need-loop-holds Inv-loop μ-loop
 loop-holds c = (omega arith, refl, refl)
 
-record-at-requires : tie.Need-record-at-requires Inv-loop μ-loop
-record-at-requires c κs = search needs
-
 -- The record is where it should be, and within the table.
 at-record :
     (c : tie.After-record-at Inv-loop μ-loop)
     → let l = c .before .before .loop in
     let a = c .before .before .before .before .args in
-    (c .record-at .result ≡ recordAt (a .slots) (l .k)) × (recordAt (a .slots) (l .k) + recordLength ≤ length (l .table))
+    (c .record-at .result ≡ recordAt (a .slots) (l .k)) × (recordAt (a .slots) (l .k) + recordLength ≤ length
+    (l .table))
 at-record c =
-    let l = c .before .before .loop in
-    (c .record-at .ensures, omega (arith, l .inv .1, c .before .before .before .before .pre))
-
-fresh-requires : tie.Need-fresh-requires Inv-loop μ-loop
-fresh-requires c κs = search needs
+    let start : tie.Start Inv-loop μ-loop = search in
+    let at-loop : tie.At-loop Inv-loop μ-loop = search in
+    let l = at-loop .loop in
+    (c .record-at .ensures, omega (arith, l .inv .1, start .pre))
 
 add-write : tie.Need-add-write Inv-loop μ-loop
 add-write c = omega (arith, at-record (c .before))
@@ -52,34 +49,26 @@ add-write c = omega (arith, at-record (c .before))
 mul-write : tie.Need-mul-write Inv-loop μ-loop
 mul-write c = omega (arith, at-record (c .before))
 
-sub-write : tie.Need-sub-write Inv-loop μ-loop
-sub-write c = omega arith
-
-part-write-start : tie.Need-part-write-start Inv-loop μ-loop
-part-write-start c = omega arith
-
 part-write-end : tie.Need-part-write-end Inv-loop μ-loop
 part-write-end c = omega (arith, at-record (c .before))
 
 write-requires : tie.Need-write-requires Inv-loop μ-loop
 write-requires c κs =
-    let r = c .before .before in
-    record-part-long (r .before .before .loop .table) (r .record-at .ensures) (at-record r .1)
-
-add-k : tie.Need-add-k Inv-loop μ-loop
-add-k c = omega arith
-
-loop-less : tie.Need-loop-less Inv-loop μ-loop
-loop-less c = omega arith
+    let at-loop : tie.At-loop Inv-loop μ-loop = search in
+    let r : tie.After-record-at Inv-loop μ-loop = search in
+    record-part-long (at-loop .loop .table) (r .record-at .ensures) (at-record r .1)
 
 loop-again : tie.Need-loop-again Inv-loop μ-loop
 loop-again c =
-    let r = c .before .before .before .before .before in
-    let l = r .before .before .loop in
-    let s = r .before .before .before .before in
+    let at-loop : tie.At-loop Inv-loop μ-loop = search in
+    let after-fresh : tie.After-fresh Inv-loop μ-loop = search in
+    let after-write : tie.After-write Inv-loop μ-loop = search in
+    let r : tie.After-record-at Inv-loop μ-loop = search in
+    let l = at-loop .loop in
+    let s : tie.Start Inv-loop μ-loop = search in
     let a = s .args in
-    let w = c .before .before .write in
-    let f = c .before .before .before .before .fresh in
+    let w = after-write .write in
+    let f = after-fresh .fresh in
     let words = w .ensures ∙ ap recordOf (f .ensures) in
     let at = r .record-at .result in
     let put =
@@ -98,8 +87,9 @@ same-length c = c .before .loop .inv .1
 
 returns : tie.Need-returns Inv-loop μ-loop
 returns c =
-    let a = c .before .before .before .args in
-    let h = c .before .before .before .pre in
+    let start : tie.Start Inv-loop μ-loop = search in
+    let a = start .args in
+    let h = start .pre in
     let l = c .before .loop in
     let n = recordAt (a .slots) (l .k) in
     let e : a .tasks - 0 ≡ a .tasks = omega arith in
@@ -116,16 +106,16 @@ write-tasks-spec =
     Inv-loop
     μ-loop
     loop-holds
-    record-at-requires
-    fresh-requires
+    (λ c κs. search needs)
+    (λ c κs. search needs)
     add-write
     mul-write
-    sub-write
-    part-write-start
+    (λ c. omega arith)
+    (λ c. omega arith)
     part-write-end
     write-requires
-    add-k
-    loop-less
+    (λ c. omega arith)
+    (λ c. omega arith)
     loop-again
     same-length
     returns)

@@ -28,24 +28,21 @@ abbrev μ-loop : tie.MeasureT-loop
 loop-holds : tie.Need-loop-holds Inv-loop μ-loop
 loop-holds c = (c .before .pre .0, refl, refl)
 
-never-requires : tie.Need-never-requires Inv-loop μ-loop
-never-requires c κs = search needs
-
 write-requires : tie.Need-write-requires Inv-loop μ-loop
-write-requires c κs = omega (arith, c .before .before .before .loop .inv .1)
-
-add-x : tie.Need-add-x Inv-loop μ-loop
-add-x c = omega arith
-
-loop-less : tie.Need-loop-less Inv-loop μ-loop
-loop-less c = omega arith
+write-requires c κs =
+    let at-loop : tie.At-loop Inv-loop μ-loop = search in
+    omega (arith, at-loop .loop .inv .1)
 
 loop-again : tie.Need-loop-again Inv-loop μ-loop
 loop-again c =
-    let l = c .before .before .before .before .before .before .loop in
-    let n = c .before .before .before .before .before .before .before .before .args .slots in
-    let w = c .before .before .write in
-    let v = c .before .before .before .never in
+    let start : tie.Start Inv-loop μ-loop = search in
+    let at-loop : tie.At-loop Inv-loop μ-loop = search in
+    let after-never : tie.After-never Inv-loop μ-loop = search in
+    let after-write : tie.After-write Inv-loop μ-loop = search in
+    let l = at-loop .loop in
+    let n = start .args .slots in
+    let w = after-write .write in
+    let v = after-never .never in
     let written = w .ensures ∙ ap (setNodeIn (l .ns) (l .x) noNode noNode) (v .ensures) in (
       omega arith,
       w .kept .0 ∙ l .inv .1,
@@ -60,8 +57,9 @@ same-length c = c .before .loop .inv .1
 
 returns : tie.Need-returns Inv-loop μ-loop
 returns c =
+    let start : tie.Start Inv-loop μ-loop = search in
     let l = c .before .loop in
-    let n = c .before .before .before .args .slots in
+    let n = start .args .slots in
     let e : nodeLength * n ≡ nodeLength * l .x = omega arith in
     rw e (sym (filling-done (l .ns) unused (nodeLength * l .x) (n - l .x) (omega arith)) ∙ l .inv .2)
 
@@ -72,10 +70,10 @@ write-unused-spec =
     Inv-loop
     μ-loop
     loop-holds
-    never-requires
+    (λ c κs. search needs)
     write-requires
-    add-x
-    loop-less
+    (λ c. omega arith)
+    (λ c. omega arith)
     loop-again
     same-length
     returns)

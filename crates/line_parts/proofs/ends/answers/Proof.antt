@@ -3,11 +3,8 @@ use borrow.Author.Needs.{needs}
 use Rattle.line_parts.proofs.ends.answers.Statement.{statement}
 use Rattle.line_parts.proofs.ends.answers.Tie as tie
 
-fresh-requires : tie.Need-fresh-requires
-fresh-requires c κs = search needs
-
 returns : tie.Need-returns
 returns c = rw (c .fresh .ensures)
 
 pub answers-spec : {M : Type 1} → statement M
-answers-spec = tie.close (tie.spec fresh-requires returns)
+answers-spec = tie.close (tie.spec (λ c κs. search needs) returns)

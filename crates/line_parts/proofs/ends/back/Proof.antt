@@ -6,21 +6,17 @@ use borrow.Author.Needs.{needs}
 use Rattle.line_parts.proofs.ends.back.Statement.{statement}
 use Rattle.line_parts.proofs.ends.back.Tie as tie
 
-element-copy-out-d : tie.Need-element-copy-out-d
-element-copy-out-d c = search needs
-
-either-requires : tie.Need-either-requires
-either-requires c κs = search needs
-
 returns : tie.Need-returns
 returns c =
-    let t = c .before .before .before .args .t1 in
+    let start : tie.Start = search in
+    let t = start .args .t1 in
     c .either .ensures ∙ push-back (getD (t .registers) 3 0) (t .operation) (c .before .if1 .taken)
 
 returns-2 : tie.Need-returns-2
 returns-2 c =
-    let t = c .before .before .args .t1 in
+    let start : tie.Start = search in
+    let t = start .args .t1 in
     other-back (getD (t .registers) 3 0) (t .operation) (c .if1 .left)
 
 pub back-spec : {M : Type 1} → statement M
-back-spec = tie.close (tie.spec element-copy-out-d either-requires returns returns-2)
+back-spec = tie.close (tie.spec (λ c. search needs) (λ c κs. search needs) returns returns-2)

@@ -3,11 +3,8 @@ use borrow.Author.Needs.{needs}
 use Rattle.line_parts.proofs.ends.next.Statement.{statement}
 use Rattle.line_parts.proofs.ends.next.Tie as tie
 
-at-requires : tie.Need-at-requires
-at-requires c κs = search needs
-
 returns : tie.Need-returns
 returns c = rw (c .at .ensures)
 
 pub next-spec : {M : Type 1} → statement M
-next-spec = tie.close (tie.spec at-requires returns)
+next-spec = tie.close (tie.spec (λ c κs. search needs) returns)

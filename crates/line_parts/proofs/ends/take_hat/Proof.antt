@@ -3,14 +3,8 @@ use borrow.Author.Needs.{needs}
 use Rattle.line_parts.proofs.ends.take_hat.Statement.{statement}
 use Rattle.line_parts.proofs.ends.take_hat.Tie as tie
 
-with-requires : tie.Need-with-requires
-with-requires c κs = search needs
-
-next-requires : tie.Need-next-requires
-next-requires c κs = search needs
-
 returns : tie.Need-returns
 returns c = rw (c .next .ensures, c .before .with .ensures)
 
 pub take-hat-spec : {M : Type 1} → statement M
-take-hat-spec = tie.close (tie.spec with-requires next-requires returns)
+take-hat-spec = tie.close (tie.spec (λ c κs. search needs) (λ c κs. search needs) returns)

@@ -5,9 +5,6 @@ use borrow.Author.Needs.{needs}
 use Rattle.line_parts.proofs.marks.is_n.Statement.{statement}
 use Rattle.line_parts.proofs.marks.is_n.Tie as tie
 
-n-of-requires : tie.Need-n-of-requires
-n-of-requires c κs = search needs
-
 same-requires : tie.Need-same-requires
 same-requires c κs =
     let s = sideOf (c .before .args .side) in
@@ -15,8 +12,9 @@ same-requires c κs =
 
 returns : tie.Need-returns
 returns c =
-    let s = sideOf (c .before .before .args .side) in
+    let start : tie.Start = search in
+    let s = sideOf (start .args .side) in
     rw (c .same .ensures, c .before .n-of .ensures, mark-has-word {s = s} N-mark)
 
 pub is-n-spec : {M : Type 1} → statement M
-is-n-spec = tie.close (tie.spec n-of-requires same-requires returns)
+is-n-spec = tie.close (tie.spec (λ c κs. search needs) same-requires returns)

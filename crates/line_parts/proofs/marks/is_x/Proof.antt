@@ -5,9 +5,6 @@ use borrow.Author.Needs.{needs}
 use Rattle.line_parts.proofs.marks.is_x.Statement.{statement}
 use Rattle.line_parts.proofs.marks.is_x.Tie as tie
 
-x-of-requires : tie.Need-x-of-requires
-x-of-requires c κs = search needs
-
 same-requires : tie.Need-same-requires
 same-requires c κs =
     let s = sideOf (c .before .args .side) in
@@ -15,8 +12,9 @@ same-requires c κs =
 
 returns : tie.Need-returns
 returns c =
-    let s = sideOf (c .before .before .args .side) in
+    let start : tie.Start = search in
+    let s = sideOf (start .args .side) in
     rw (c .same .ensures, c .before .x-of .ensures, mark-has-word {s = s} X-mark)
 
 pub is-x-spec : {M : Type 1} → statement M
-is-x-spec = tie.close (tie.spec x-of-requires same-requires returns)
+is-x-spec = tie.close (tie.spec (λ c κs. search needs) same-requires returns)

@@ -1,12 +1,12 @@
 -- `line_parts::marks::is_y` meets its contract: a mark has a word, so that comparing with its word compares with it.
+use mathlib.Core.Path.{_≡_, ap, _∙_}
 use Rattle.machine.specs.Sides.{sideOf}
+use Rattle.machine.specs.Values.{Y, decode}
+use Rattle.table_values.specs.Tests.{isSame}
 use Rattle.machine.proofs.Words.ValueLaws.{Y-mark, mark-has-word, mark-value-ok}
 use borrow.Author.Needs.{needs}
 use Rattle.line_parts.proofs.marks.is_y.Statement.{statement}
 use Rattle.line_parts.proofs.marks.is_y.Tie as tie
-
-y-of-requires : tie.Need-y-of-requires
-y-of-requires c κs = search needs
 
 same-requires : tie.Need-same-requires
 same-requires c κs =
@@ -15,8 +15,11 @@ same-requires c κs =
 
 returns : tie.Need-returns
 returns c =
-    let s = sideOf (c .before .before .args .side) in
-    rw (c .same .ensures, c .before .y-of .ensures, mark-has-word {s = s} Y-mark)
+    let start : tie.Start = search in
+    let a = start .args in
+    let its-mark : decode (c .before .y-of .result) ≡ Y (sideOf (a .side)) =
+    ap decode (c .before .y-of .ensures) ∙ mark-has-word Y-mark
+    in c .same .ensures ∙ ap (isSame (decode (a .v))) its-mark
 
 pub is-y-spec : {M : Type 1} → statement M
-is-y-spec = tie.close (tie.spec y-of-requires same-requires returns)
+is-y-spec = tie.close (tie.spec (λ c κs. search needs) same-requires returns)

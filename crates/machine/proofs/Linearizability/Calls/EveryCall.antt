@@ -250,32 +250,32 @@ module _ {ws : List ℕ} {ρ : Row} (A : Agrees ws ρ) where
       → Told ws ρ c
   told-by E fed inside = record { explains = E; fed-what-it-did = fed (E .given-by-row); within = inside }
 
-  pub told : (c : Call) → Told ws ρ c
+  pub call-told : (c : Call) → Told ws ρ c
   unfolding feedMadeTicks pushByList
-  told (start-call S T g L) = told-by (start-explained A S T g L) (start-fed ρ T L (start ws S T g L .reply)) tt
-  told (begin-call k l op side argument) =
+  call-told (start-call S T g L) = told-by (start-explained A S T g L) (start-fed ρ T L (start ws S T g L .reply)) tt
+  call-told (begin-call k l op side argument) =
       told-by (begin-explained A k l op side argument)
       (begin-fed ρ k l op side argument (begin ws k l op side argument .reply)) tt
-  told (tick-call k h) = told-by (tick-explained A k h) (tick-fed ρ k _) tt
-  told (ticks-call k h n) = told-by (ticks-explained k h A n) (ticks-fed ρ k n _) (ticks-within k h A n)
-  told (dispatch-call h) = told-by (dispatch-explained A h) (dispatch-fed ρ _) tt
-  told (dispatches-call h n) =
+  call-told (tick-call k h) = told-by (tick-explained A k h) (tick-fed ρ k _) tt
+  call-told (ticks-call k h n) = told-by (ticks-explained k h A n) (ticks-fed ρ k n _) (ticks-within k h A n)
+  call-told (dispatch-call h) = told-by (dispatch-explained A h) (dispatch-fed ρ _) tt
+  call-told (dispatches-call h n) =
       told-by (dispatches-explained h n A) (dispatches-fed ρ n _ _) (dispatches-within h n A)
-  told (run-call list answers) =
+  call-told (run-call list answers) =
       told-by (run-explained A list answers) (run-fed ρ _ list _) (run-within A list answers)
-  told (panel-call list answers) =
+  call-told (panel-call list answers) =
       told-by (panel-explained A list answers) (run-fed ρ _ list _) (panel-within A list answers)
-  told (read-call l out) =
+  call-told (read-call l out) =
       told-by (record { row = ρ; given-by-row = read-looks l out; agrees = A }) (λ _. refl) tt
-  told (sheet-call l page out) =
+  call-told (sheet-call l page out) =
       told-by (record { row = ρ; given-by-row = sheet-looks l page out; agrees = A }) (λ _. refl) tt
-  told (push-by-list-call list k l argument) =
+  call-told (push-by-list-call list k l argument) =
       let x = by-list-told (sent (verdict list) (number argument)) k l argument in
       told-by (record { row = x .row; given-by-row = x .given-by-row; agrees = x .agrees })
       (λ _. x .fed-what-it-did) tt
-  told (lent-begin-call lent whole k l op side argument) =
+  call-told (lent-begin-call lent whole k l op side argument) =
       told-by (record { row = ρ; given-by-row = lent-looks lent k l op side argument; agrees = A })
       (λ _. lent-fed ρ k (newNote l op side argument) (beginLent ws lent k l op side argument .reply) _) tt
 
   abbrev pub call-explained : (c : Call) → Explains ws ρ c
-  call-explained c = told c .explains
+  call-explained c = call-told c .explains

@@ -40,16 +40,16 @@ use Rattle.machine.specs.Kinds.{
 use Rattle.machine.proofs.Basics.Contradiction.{clash}
 
 -- ---- Options taken apart.
-pub bound : {T U : Type 0} (o : Option T) (f : T → Option U) {y : U} → bind o f ≡ some y
+pub bind-some : {T U : Type 0} (o : Option T) (f : T → Option U) {y : U} → bind o f ≡ some y
     → (x : T) × (o ≡ some x) × (f x ≡ some y)
 unfolding bind
-bound none f e = clash (cc)
-bound (some x) f e = (x, refl, e)
+bind-some none f e = clash (cc)
+bind-some (some x) f e = (x, refl, e)
 
-pub mapped : {T U : Type 0} (o : Option T) (f : T → U) {y : U} → Option·map f o ≡ some y
+pub map-some : {T U : Type 0} (o : Option T) (f : T → U) {y : U} → Option·map f o ≡ some y
     → (x : T) × (o ≡ some x) × (f x ≡ y)
-mapped none f e = clash (cc)
-mapped (some x) f e = (x, refl, cc)
+map-some none f e = clash (cc)
+map-some (some x) f e = (x, refl, cc)
 
 -- A row that passes a test is left as it is.
 pub same-if : {ρ ρ′ : Row} (b : Bool) → cond b (some ρ) none ≡ some ρ′ → (b ≡ true) × (ρ ≡ ρ′)
@@ -81,7 +81,8 @@ made-fed : (ρ : Row) {ρ′ : Row} (t : Tick) → feedMadeTick ρ t ≡ some ρ
 unfolding feedMadeTicks bind
 made-fed ρ t e = rw e
 
-pub tick-fed : (ρ : Row) {ρ′ : Row} (k : ℕ) (a : Answer) → feedTick ρ k a ≡ some ρ′ → feedMadeTicks ρ (tickDid k a) ≡ some ρ′
+pub tick-fed : (ρ : Row) {ρ′ : Row} (k : ℕ) (a : Answer) → feedTick ρ k a ≡ some ρ′ → feedMadeTicks ρ (tickDid k a)
+    ≡ some ρ′
 unfolding feedTick feedMadeTicks
 tick-fed ρ {ρ′} k a e = go (refusalOf a) e
   where
@@ -107,8 +108,8 @@ run-fed ρ (suc n) (k ∷ h ∷ list) [] e = clash (cc)
 run-fed ρ (suc n) (k ∷ h ∷ list) (kind ∷ []) e = clash (cc)
 run-fed ρ (suc n) (k ∷ h ∷ list) (kind ∷ digit ∷ []) e = clash (cc)
 run-fed ρ (suc n) (k ∷ h ∷ list) (kind ∷ digit ∷ low ∷ answers) e =
-    let a = bound (answerOf kind digit low) _ e in
-    let m = bound (feedMade ρ k (a .0)) _ (a .2) in
+    let a = bind-some (answerOf kind digit low) _ e in
+    let m = bind-some (feedMade ρ k (a .0)) _ (a .2) in
     rw (a .1, runDid, m .1) (run-fed (m .0) n list answers (m .2))
 
 -- ---- Dispatches.
@@ -137,5 +138,5 @@ dispatches-fed ρ {ρ′} zero zero d e = let same : ρ ≡ ρ′ = same-if (dis
 dispatches-fed ρ zero (suc m) d e = clash (cc)
 dispatches-fed ρ (suc n) zero d e = dispatch-fed ρ d (unless-going (dispatchGoesOn d) e)
 dispatches-fed ρ (suc n) (suc m) d e =
-    let x = bound (feedDispatch ρ (Answered Going)) _ e in
+    let x = bind-some (feedDispatch ρ (Answered Going)) _ e in
     rw (x .1) (dispatches-fed (x .0) n m d (x .2))

@@ -19,7 +19,7 @@ use Rattle.machine.specs.Row.{
   answeredBy,
   answered,
 }
-use Rattle.machine.proofs.Basics.Choices.{equal}
+use Rattle.machine.proofs.Basics.Choices.{test-equal}
 use Rattle.machine.proofs.Linearizability.Model.Invariant.{RowStep}
 use Rattle.machine.proofs.Linearizability.Model.RowViews.{rowFrom, rowFrom-rowFrom}
 
@@ -37,7 +37,7 @@ put-last left b r r′ e =
     ∙ ap (_∷_ b) (reverse-reverse r)
 
 take-first : (b : ℕ) (r : List ℕ) → takeFirst b (b ∷ r) ≡ some r
-take-first b r = rw (equal {x = b} refl)
+take-first b r = rw (test-equal {x = b} refl)
 
 -- The bag at a side's end is taken.
 take-put : (s : Side) (b : ℕ) (r : List ℕ) → takeBag s b (put s b r) ≡ some r

@@ -77,7 +77,7 @@ use Rattle.machine.proofs.Words.Kinds.{
   is-lent-begun,
   are-ticked,
   are-dispatched,
-  comes,
+  call-comes,
   run-ends,
 }
 use Rattle.machine.proofs.Shape.TickKeeps.{tick-allowed, busy-passes}
@@ -85,7 +85,7 @@ use Rattle.machine.proofs.Shape.DispatchCases.{by-dispatch}
 use Rattle.machine.proofs.Shape.ShapeKept.{tick-passes, tick-call-kept}
 use Rattle.machine.proofs.Linearizability.Calls.Agreement.{Agrees, noted-if-busy}
 use Rattle.machine.proofs.Linearizability.Calls.MadeTicks.{made-tick}
-use Rattle.machine.proofs.Linearizability.Calls.RowDid.{bound}
+use Rattle.machine.proofs.Linearizability.Calls.RowDid.{bind-some}
 use Rattle.machine.proofs.Linearizability.Calls.ConsecutiveTicks.{going-keeps}
 use Rattle.machine.proofs.Linearizability.Calls.Runs.{run-explained, panel-explained}
 
@@ -175,7 +175,7 @@ run-unmade ρ (suc n) (k ∷ h ∷ list) [] e q = clash (cc)
 run-unmade ρ (suc n) (k ∷ h ∷ list) (kind ∷ []) e q = clash (cc)
 run-unmade ρ (suc n) (k ∷ h ∷ list) (kind ∷ digit ∷ []) e q = clash (cc)
 run-unmade ρ (suc n) (k ∷ h ∷ list) (kind ∷ digit ∷ low ∷ answers) e q =
-    let a = bound (answerOf kind digit low) _ e in clash (cc (rw (a .1, runDid) at q))
+    let a = bind-some (answerOf kind digit low) _ e in clash (cc (rw (a .1, runDid) at q))
 
 tested-unmade : (r : Option ℕ) (ws list answers : List ℕ) → tested r ws list answers .ran .made ≡ 0
     → tested r ws list answers .words ≡ ws
@@ -210,8 +210,8 @@ sent-ticks-none (NotSent n line) k l argument = tt
 module _ {ws : List ℕ} {ρ : Row} (A : Agrees ws ρ) where
   pub none-made : (c : Call) → did c (given c ws) ≡ ticked [] → after c ws ≡ ws
   unfolding ticks run panel
-  none-made (start-call S T g L) e = refused-or-look (comes (start-call S T g L) ws) tt e
-  none-made (begin-call k l op side argument) e = refused-or-look (comes (begin-call k l op side argument) ws) tt e
+  none-made (start-call S T g L) e = refused-or-look (call-comes (start-call S T g L) ws) tt e
+  none-made (begin-call k l op side argument) e = refused-or-look (call-comes (begin-call k l op side argument) ws) tt e
   none-made (tick-call k h) e =
       let one = one-consecutive ws k h in
       let a = tick ws k h .answer in
@@ -233,7 +233,7 @@ module _ {ws : List ℕ} {ρ : Row} (A : Agrees ws ρ) where
   none-made (read-call l out) e = refl
   none-made (sheet-call l page out) e = refl
   none-made (push-by-list-call list k l argument) e =
-      refused-or-look (comes (push-by-list-call list k l argument) ws)
+      refused-or-look (call-comes (push-by-list-call list k l argument) ws)
       (sent-ticks-none (sent (verdict list) (number argument)) k l argument) e
   none-made (lent-begin-call lent whole k l op side argument) e = refl
 
@@ -241,7 +241,7 @@ module _ {ws : List ℕ} {ρ : Row} (A : Agrees ws ρ) where
 pub only-lent : (c : Call) (ws : List ℕ) {k : ℕ} {n : Note} {words : List ℕ}
     → did c (given c ws) ≡ lent-begun k n words
     → after c ws ≡ ws
-only-lent c ws {k} {n} {words} = go (comes c ws)
+only-lent c ws {k} {n} {words} = go (call-comes c ws)
   where
     go : {a : Asked} {vs : List ℕ} {d : Did} → Comes ws a vs d → d ≡ lent-begun k n words → vs ≡ ws
     go (left-alone a e) q = refl

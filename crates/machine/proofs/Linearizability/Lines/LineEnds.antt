@@ -35,18 +35,18 @@ fresh-ok h = record { relies = tt; chain = record { none-new = h; no-head = refl
 
 module _ {held : ℕ → Bool} {L k : ℕ} {s o : Side} {m : View} {class : ℕ → Class} {r : ℕ → List ℕ} {t : Task} where
   -- Through a register that is not none.
-  pub past : {x : ℕ} {e : Effect}
+  pub line-past : {x : ℕ} {e : Effect}
       → x ≢ noNode
       → TickOk held L k s o m class r t e
       → TickOk held L k s o m class r t (through x t e)
-  past some h = ok-through (TickOk held L k s o m class r t) (λ e. absurd (some e)) (λ _. h)
+  line-past some h = ok-through (TickOk held L k s o m class r t) (λ e. absurd (some e)) (λ _. h)
 
-  pub goes : Lanes L s o m class r
+  pub line-continues : Lanes L s o m class r
       → {t' : Task}
       → noteOf t' ≡ noteOf t
       → TaskOk k s o m class (t' .step) t'
       → TickOk held L k s o m class r t (record { writes = []; task = t'; answer = Going })
-  goes D e h =
+  line-continues D e h =
       record {
         class' = class;
         r' = r;

@@ -46,7 +46,7 @@ use Rattle.machine.proofs.Linearizability.Model.Reliance.{PopPair, Empt
 use Rattle.machine.proofs.Linearizability.Model.Phases.{TaskOk}
 use Rattle.machine.proofs.Linearizability.Model.Invariant.{Lane, Lanes, every-lane, TickOk}
 use Rattle.machine.proofs.Linearizability.Lines.Connectives.{ok-if, ok-dcas}
-use Rattle.machine.proofs.Linearizability.Lines.LineEnds.{past, goes, answers-ok}
+use Rattle.machine.proofs.Linearizability.Lines.LineEnds.{line-past, line-continues, answers-ok}
 
 module _ (held : ℕ → Bool) (k : ℕ) {L : ℕ} {s o : Side} {m : View} {class : ℕ → Class} {r : ℕ → List ℕ}
     (D : Lanes L s o m class r) (t : Task) (own : t .lane < L) (g f : ℕ) where
@@ -70,15 +70,15 @@ module _ (held : ℕ → Bool) (k : ℕ) {L : ℕ} {s o : Side} {m : View} {clas
   -- ---- Pop.
   pub line39-ok : LineOk line39
   unfolding act
-  line39-ok h = goes D refl (record { relies = hat-old S; chain = h .chain; belongs = h .belongs })
+  line39-ok h = line-continues D refl (record { relies = hat-old S; chain = h .chain; belongs = h .belongs })
 
   pub line40-ok : LineOk line40
   unfolding act
   line40-ok h =
-      past (some _ (h .relies))
+      line-past (some _ (h .relies))
       (ok-if Ok (λ st. next (withB t (m .inn (t .A))) st) (_ ≟ _)
-      (λ e. goes D refl (record { relies = tt; chain = h .chain; belongs = h .belongs }))
-      (λ e. goes D refl (record { relies = pair e; chain = h .chain; belongs = h .belongs })))
+      (λ e. line-continues D refl (record { relies = tt; chain = h .chain; belongs = h .belongs }))
+      (λ e. line-continues D refl (record { relies = pair e; chain = h .chain; belongs = h .belongs })))
     where
       pair : m .inn (t .A) ≢ noNode → PopPair o m class (t .A) (m .inn (t .A))
       pair e =
@@ -90,22 +90,22 @@ module _ (held : ℕ → Bool) (k : ℕ) {L : ℕ} {s o : Side} {m : View} {clas
 
   pub line42-ok : LineOk line42
   unfolding act
-  line42-ok h = past (some _ (h .relies .B-old)) (by-value (m .val (t .B)))
+  line42-ok h = line-past (some _ (h .relies .B-old)) (by-value (m .val (t .B)))
     where
       again : (v : Value) → Ok (next (withValue t v) line39)
-      again v = goes D refl (record { relies = tt; chain = h .chain; belongs = h .belongs })
+      again v = line-continues D refl (record { relies = tt; chain = h .chain; belongs = h .belongs })
 
       empty-pair : (v : Value) → (v ≡ N o) ⊎ (v ≡ X o) → EmptyPair o m class (t .A) (t .B) v
       empty-pair v e = record { pair = h .relies; read-mark = e }
 
       to-48 : (v : Value) → (v ≡ N o) ⊎ (v ≡ X o) → Ok (next (withValue t v) line48)
-      to-48 v e = goes D refl (record { relies = empty-pair v e; chain = h .chain; belongs = h .belongs })
+      to-48 v e = line-continues D refl (record { relies = empty-pair v e; chain = h .chain; belongs = h .belongs })
 
       bag-pair : (b : ℕ) → BagPair o m class (t .A) (t .B) (bag b)
       bag-pair b = record { pair = h .relies; bag-read = b; read-bag = refl }
 
       to-51 : (b : ℕ) → Ok (next (withValue t (bag b)) line51)
-      to-51 b = goes D refl (record { relies = bag-pair b; chain = h .chain; belongs = h .belongs })
+      to-51 b = line-continues D refl (record { relies = bag-pair b; chain = h .chain; belongs = h .belongs })
 
       by-value : (v : Value) → Ok (next (withValue t v) (afterRead o v))
       by-value never = again never
@@ -138,20 +138,20 @@ module _ (held : ℕ → Bool) (k : ℕ) {L : ℕ} {s o : Side} {m : View} {clas
   pub line48-ok : LineOk line48
   unfolding act
   line48-ok h =
-      past (some _ (h .relies .pair .B-old))
+      line-past (some _ (h .relies .pair .B-old))
       (ok-dcas Ok _ _
       (λ hat-A B-value.
       let q = row-empty (h .relies) (cc) (cc) in
       answers-ok D Empty (λ e. refute (cc)) (h .belongs, q, q) (h .chain))
-      (goes D refl (record { relies = tt; chain = h .chain; belongs = h .belongs })))
+      (line-continues D refl (record { relies = tt; chain = h .chain; belongs = h .belongs })))
 
   -- ---- Remove.
   pub line54-ok : LineOk line54
   unfolding act
   line54-ok h =
       ok-if Ok (λ st. next (withA t (m .hats (t .lane) s)) st) (_ ≟ _)
-      (λ _. goes D refl (record { relies = hat-old S; chain = h .chain; belongs = h .belongs }))
-      (λ _. goes D refl (record { relies = hat-old S; chain = h .chain; belongs = h .belongs }))
+      (λ _. line-continues D refl (record { relies = hat-old S; chain = h .chain; belongs = h .belongs }))
+      (λ _. line-continues D refl (record { relies = hat-old S; chain = h .chain; belongs = h .belongs }))
 
   answers-yes : t .operation ≡ remove → NoChain k class (t .D) → Ok (answers Yes)
   answers-yes e h = answers-ok D Yes (λ e. refute (cc)) (inr e, refl) h
@@ -159,20 +159,20 @@ module _ (held : ℕ → Bool) (k : ℕ) {L : ℕ} {s o : Side} {m : View} {clas
   pub line56-ok : LineOk line56
   unfolding act
   line56-ok h =
-      past (some _ (h .relies))
+      line-past (some _ (h .relies))
       (ok-if Ok (λ e. e) (_ ≟ᵛ _)
       (λ _. answers-yes (h .belongs) (h .chain))
-      (λ _. goes D refl (record { relies = h .relies; chain = h .chain; belongs = h .belongs })))
+      (λ _. line-continues D refl (record { relies = h .relies; chain = h .chain; belongs = h .belongs })))
 
   pub line58-ok : LineOk line58
   unfolding act
   line58-ok h =
-      past (some _ (h .relies))
+      line-past (some _ (h .relies))
       (ok-if Ok (λ e. e) (_ ≟ _)
       (λ _. answers-yes (h .belongs) (h .chain))
       (λ e. ok-if Ok F (_ ≟ _)
-      (λ _. goes D refl (record { relies = A-old e; chain = h .chain; belongs = h .belongs }))
-      (λ _. goes D refl (record { relies = A-old e; chain = h .chain; belongs = h .belongs }))))
+      (λ _. line-continues D refl (record { relies = A-old e; chain = h .chain; belongs = h .belongs }))
+      (λ _. line-continues D refl (record { relies = A-old e; chain = h .chain; belongs = h .belongs }))))
     where
       A-old : m .out (t .A) ≢ noNode → Old class (m .out (t .A))
       A-old e = out-old S (every-lane D) _ (h .relies) e
@@ -183,10 +183,10 @@ module _ (held : ℕ → Bool) (k : ℕ) {L : ℕ} {s o : Side} {m : View} {clas
   pub line60-ok : LineOk line60
   unfolding act
   line60-ok h =
-      past (some _ (h .relies))
+      line-past (some _ (h .relies))
       (ok-if Ok (λ e. e) (_ ≟ _)
       (λ _. answers-yes (h .belongs) (h .chain))
-      (λ e. goes D refl (record { relies = pair e; chain = h .chain; belongs = h .belongs })))
+      (λ e. line-continues D refl (record { relies = pair e; chain = h .chain; belongs = h .belongs })))
     where
       pair : m .out (t .A) ≢ noNode → CutPair s m class (t .A) (m .out (t .A))
       pair e =
@@ -204,10 +204,10 @@ module _ (held : ℕ → Bool) (k : ℕ) {L : ℕ} {s o : Side} {m : View} {clas
   pub line74-ok : LineOk line74
   unfolding act
   line74-ok h =
-      past (spur-some S _ (h .relies))
+      line-past (spur-some S _ (h .relies))
       (ok-if Ok F (_ ≟ _)
-      (λ e. goes D refl (record { relies = h .relies; chain = h .chain; belongs = h .belongs }))
-      (λ e. goes D refl (record { relies = pair e; chain = h .chain; belongs = h .belongs })))
+      (λ e. line-continues D refl (record { relies = h .relies; chain = h .chain; belongs = h .belongs }))
+      (λ e. line-continues D refl (record { relies = pair e; chain = h .chain; belongs = h .belongs })))
     where
       pair : m .out (t .B) ≢ noNode → SpurPair s class (t .B) (m .out (t .B))
       pair e = spur-pair (t .B) (h .relies) e
@@ -218,18 +218,18 @@ module _ (held : ℕ → Bool) (k : ℕ) {L : ℕ} {s o : Side} {m : View} {clas
   pub line77-ok : LineOk line77
   unfolding act
   line77-ok h =
-      past (spur-some S _ (h .relies .B-spur))
-      (goes D refl (record { relies = h .relies; chain = h .chain; belongs = h .belongs }))
+      line-past (spur-some S _ (h .relies .B-spur))
+      (line-continues D refl (record { relies = h .relies; chain = h .chain; belongs = h .belongs }))
 
   pub line81-ok : LineOk line81
   unfolding act
   line81-ok h =
-      past (spur-some S _ (h .relies))
+      line-past (spur-some S _ (h .relies))
       (ok-if Ok F (_ ≟ _)
-      (λ e. goes D refl (record { relies = h .relies; chain = h .chain; belongs = h .belongs }))
+      (λ e. line-continues D refl (record { relies = h .relies; chain = h .chain; belongs = h .belongs }))
       (λ e. ok-if Ok F (_ ≟ᵛ _)
-      (λ _. goes D refl (record { relies = h .relies; chain = h .chain; belongs = h .belongs }))
-      (λ _. goes D refl (record { relies = pair e; chain = h .chain; belongs = h .belongs }))))
+      (λ _. line-continues D refl (record { relies = h .relies; chain = h .chain; belongs = h .belongs }))
+      (λ _. line-continues D refl (record { relies = pair e; chain = h .chain; belongs = h .belongs }))))
     where
       pair : m .out (t .A) ≢ noNode → SpurPair s class (t .A) (m .out (t .A))
       pair e = spur-pair (t .A) (h .relies) e

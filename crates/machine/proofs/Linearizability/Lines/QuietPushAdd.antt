@@ -36,7 +36,7 @@ use Rattle.machine.proofs.Linearizability.Model.Phases.{with-chain, wit
 use Rattle.machine.proofs.Linearizability.Model.Structure.{Structure}
 use Rattle.machine.proofs.Linearizability.Model.Invariant.{Lane, Lanes, every-lane, TickOk}
 use Rattle.machine.proofs.Linearizability.Lines.Connectives.{ok-if}
-use Rattle.machine.proofs.Linearizability.Lines.LineEnds.{past, goes, back-ok}
+use Rattle.machine.proofs.Linearizability.Lines.LineEnds.{line-past, line-continues, back-ok}
 
 module _ (held : ℕ → Bool) (k : ℕ) {L : ℕ} {s o : Side} {m : View} {class : ℕ → Class} {r : ℕ → List ℕ}
     (D : Lanes L s o m class r) (t : Task) (own : t .lane < L) (g f : ℕ) where
@@ -57,15 +57,15 @@ module _ (held : ℕ → Bool) (k : ℕ) {L : ℕ} {s o : Side} {m : View} {clas
 
   pub line2-ok : LineOk line2
   unfolding act
-  line2-ok h = goes D refl (record { relies = hat-old S; chain = h .chain; belongs = h .belongs })
+  line2-ok h = line-continues D refl (record { relies = hat-old S; chain = h .chain; belongs = h .belongs })
 
   pub line3-ok : LineOk line3
   unfolding act
   line3-ok h =
-      past (some _ (h .relies))
+      line-past (some _ (h .relies))
       (ok-if Ok (λ st. next (withB t (m .out (t .A))) st) (_ ≟ _)
-      (λ e. goes D refl (record { relies = h .relies; chain = h .chain; belongs = h .belongs }))
-      (λ e. goes D refl (record { relies = pair e; chain = h .chain; belongs = h .belongs })))
+      (λ e. line-continues D refl (record { relies = h .relies; chain = h .chain; belongs = h .belongs }))
+      (λ e. line-continues D refl (record { relies = pair e; chain = h .chain; belongs = h .belongs })))
     where
       pair : m .out (t .A) ≢ noNode → PushPair s m class (t .A) (m .out (t .A))
       pair e =
@@ -79,22 +79,22 @@ module _ (held : ℕ → Bool) (k : ℕ) {L : ℕ} {s o : Side} {m : View} {clas
   unfolding act
   line8-ok h =
       let no-chain = without-chain (h .chain) (h .belongs) in
-      past (some _ (h .relies))
+      line-past (some _ (h .relies))
       (ok-if Ok (λ st. next t st) (_ ≟ᵛ _)
-      (λ e. goes D refl (record { relies = tt; chain = h .chain; belongs = inl (h .belongs) }))
-      (λ e. goes D refl (record { relies = tt; chain = no-chain; belongs = inl (h .belongs) })))
+      (λ e. line-continues D refl (record { relies = tt; chain = h .chain; belongs = inl (h .belongs) }))
+      (λ e. line-continues D refl (record { relies = tt; chain = no-chain; belongs = inl (h .belongs) })))
 
   pub line67-ok : LineOk line67
   unfolding act
-  line67-ok h = goes D refl (record { relies = hat-old S; chain = h .chain; belongs = h .belongs })
+  line67-ok h = line-continues D refl (record { relies = hat-old S; chain = h .chain; belongs = h .belongs })
 
   pub line68-ok : LineOk line68
   unfolding act
   line68-ok h =
-      past (some _ (h .relies))
+      line-past (some _ (h .relies))
       (ok-if Ok (λ st. next t st) (_ ≟ᵛ _)
-      (λ e. goes D refl (record { relies = on-Y e; chain = h .chain; belongs = h .belongs }))
-      (λ e. goes D refl goes-back))
+      (λ e. line-continues D refl (record { relies = on-Y e; chain = h .chain; belongs = h .belongs }))
+      (λ e. line-continues D refl goes-back))
     where
       on-Y : m .val (t .A) ≡ Y s → OnY s m class (t .A)
       on-Y e = record { A-spur = Y-in-spur S (every-lane D) _ (h .relies) e; A-Y = e }
@@ -107,8 +107,8 @@ module _ (held : ℕ → Bool) (k : ℕ) {L : ℕ} {s o : Side} {m : View} {clas
   pub line69-ok : LineOk line69
   unfolding act
   line69-ok h =
-      past (spur-some S _ (h .relies .A-spur))
-      (goes D refl (record { relies = behind-Y; chain = h .chain; belongs = h .belongs }))
+      line-past (spur-some S _ (h .relies .A-spur))
+      (line-continues D refl (record { relies = behind-Y; chain = h .chain; belongs = h .belongs }))
     where
       behind-Y : BehindY s m class (t .A) (m .inn (t .A))
       behind-Y = record { A-spur = h .relies .A-spur; A-Y = h .relies .A-Y; B-inward = refl }
@@ -116,10 +116,10 @@ module _ (held : ℕ → Bool) (k : ℕ) {L : ℕ} {s o : Side} {m : View} {clas
   pub line70-ok : LineOk line70
   unfolding act
   line70-ok h =
-      past (some _ B-old)
+      line-past (some _ B-old)
       (ok-if Ok (λ st. next (withC t (m .out (t .B))) st) (_ ≟ _)
-      (λ e. goes D refl goes-back)
-      (λ e. goes D refl (record { relies = past-Y e; chain = h .chain; belongs = h .belongs })))
+      (λ e. line-continues D refl goes-back)
+      (λ e. line-continues D refl (record { relies = past-Y e; chain = h .chain; belongs = h .belongs })))
     where
       B-old : Old class (t .B)
       B-old = cc (h .relies .B-inward, S .near-spur .inward-old (t .A) (h .relies .A-spur))
@@ -142,19 +142,19 @@ module _ (held : ℕ → Bool) (k : ℕ) {L : ℕ} {s o : Side} {m : View} {clas
 
   pub line15-ok : LineOk line15
   unfolding act
-  line15-ok h = goes D refl (record { relies = hat-old S; chain = h .chain; belongs = h .belongs })
+  line15-ok h = line-continues D refl (record { relies = hat-old S; chain = h .chain; belongs = h .belongs })
 
   pub line17-ok : LineOk line17
   unfolding act
   line17-ok h =
-      past (some _ (h .relies))
+      line-past (some _ (h .relies))
       (ok-if Ok F (_ ≟ᵛ _)
-      (λ _. goes D refl (record { relies = h .relies; chain = h .chain; belongs = h .belongs }))
+      (λ _. line-continues D refl (record { relies = h .relies; chain = h .chain; belongs = h .belongs }))
       (λ _. ok-if Ok F (_ ≟ᵛ _)
-      (λ _. goes D refl (record { relies = tt; chain = with-chain (h .chain); belongs = h .belongs }))
+      (λ _. line-continues D refl (record { relies = tt; chain = with-chain (h .chain); belongs = h .belongs }))
       (λ _. ok-if Ok F (_ ≟ᵛ _)
-      (λ _. goes D refl (record { relies = h .relies; chain = h .chain; belongs = h .belongs }))
-      (λ _. goes D refl (record { relies = tt; chain = h .chain; belongs = h .belongs })))))
+      (λ _. line-continues D refl (record { relies = h .relies; chain = h .chain; belongs = h .belongs }))
+      (λ _. line-continues D refl (record { relies = tt; chain = h .chain; belongs = h .belongs })))))
     where
       F : Step → Effect
       F st = next (withValue t (m .val (t .A))) st
@@ -162,10 +162,10 @@ module _ (held : ℕ → Bool) (k : ℕ) {L : ℕ} {s o : Side} {m : View} {clas
   pub line18-ok : LineOk line18
   unfolding act
   line18-ok h =
-      past (some _ (h .relies))
+      line-past (some _ (h .relies))
       (ok-if Ok (λ st. next (withA t (m .out (t .A))) st) (_ ≟ _)
-      (λ e. goes D refl (record { relies = tt; chain = h .chain; belongs = h .belongs }))
-      (λ e. goes D refl (record { relies = A-old e; chain = h .chain; belongs = h .belongs })))
+      (λ e. line-continues D refl (record { relies = tt; chain = h .chain; belongs = h .belongs }))
+      (λ e. line-continues D refl (record { relies = A-old e; chain = h .chain; belongs = h .belongs })))
     where
       A-old : m .out (t .A) ≢ noNode → Old class (m .out (t .A))
       A-old e = out-old S (every-lane D) _ (h .relies) e

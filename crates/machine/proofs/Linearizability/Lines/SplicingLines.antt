@@ -68,7 +68,7 @@ use Rattle.machine.proofs.Linearizability.Model.Invariant.{
   TickOk,
 }
 use Rattle.machine.proofs.Linearizability.Lines.Connectives.{ok-dcas}
-use Rattle.machine.proofs.Linearizability.Lines.LineEnds.{fresh-ok, past, goes}
+use Rattle.machine.proofs.Linearizability.Lines.LineEnds.{fresh-ok, line-past, line-continues}
 
 module _ (held : ℕ → Bool) (k : ℕ) {L : ℕ} {s o : Side} {m : View} {class : ℕ → Class} {r : ℕ → List ℕ}
     (D : Lanes L s o m class r) (t : Task) (own : t .lane < L) (g f : ℕ) where
@@ -155,10 +155,10 @@ module _ (held : ℕ → Bool) (k : ℕ) {L : ℕ} {s o : Side} {m : View} {clas
   pub line24-ok : LineOk line24
   unfolding act
   line24-ok h =
-      past (some _ (h .relies))
-      (past (head-some (h .chain) (S .none-free)) (line24-done h))
+      line-past (some _ (h .relies))
+      (line-past (head-some (h .chain) (S .none-free)) (line24-done h))
 
-  -- ---- Line 25: the chain joins the class of A; then a push goes on and an add answers.
+  -- ---- Line 25: the chain joins the class of A; then a push line-continues on and an add answers.
   module _ (l : List Write) {class' : ℕ → Class} (D' : Lanes L s o (written (t .lane) s l m) class' r)
       (G : GuaranteesIn held k s o m class (written (t .lane) s l m) class')
       (none-new : (x : ℕ) → class' x ≢ new k) (b : Belongs growing (t .operation)) where
@@ -305,6 +305,6 @@ module _ (held : ℕ → Bool) (k : ℕ) {L : ℕ} {s o : Side} {m : View} {clas
   pub line25-ok : LineOk line25
   unfolding act
   line25-ok h =
-      past (some _ (h .relies .A-old))
+      line-past (some _ (h .relies .A-old))
       (ok-dcas Ok _ _ (λ link-B A-X. line25-done h (cc))
-      (goes D refl (record { relies = tt; chain = h .chain; belongs = h .belongs })))
+      (line-continues D refl (record { relies = tt; chain = h .chain; belongs = h .belongs })))

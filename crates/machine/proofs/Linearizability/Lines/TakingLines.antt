@@ -23,9 +23,9 @@ use Rattle.machine.proofs.Linearizability.Model.Chain.{HasChainIn, NoCh
 use Rattle.machine.proofs.Linearizability.Writes.ChainGrowth.{first-node, head-new, head-some, one-more}
 use Rattle.machine.proofs.Linearizability.Model.Phases.{growing, Belongs, TaskOk}
 use Rattle.machine.proofs.Linearizability.Model.Structure.{Structure}
-use Rattle.machine.proofs.Linearizability.Model.Invariant.{Lane, Lanes, every-lane, TickOk}
+use Rattle.machine.proofs.Linearizability.Model.Invariant.{Lane, Lanes, TickOk}
 use Rattle.machine.proofs.Linearizability.Lines.Connectives.{ok-if}
-use Rattle.machine.proofs.Linearizability.Lines.LineEnds.{past, goes, answers-ok}
+use Rattle.machine.proofs.Linearizability.Lines.LineEnds.{line-past, line-continues, answers-ok}
 use Rattle.machine.proofs.Linearizability.Writes.Take.{
   TakeOk,
   taken-new,
@@ -157,7 +157,7 @@ module _ (held : ℕ → Bool) (k : ℕ) {L : ℕ} {s o : Side} {m : View} {clas
   pub line31-ok : (f ≢ noNode → TakeOk L held m class f) → LineOk line31
   unfolding act
   line31-ok free-f h =
-      past (head-some (h .chain) (S .none-free))
+      line-past (head-some (h .chain) (S .none-free))
       (ok-if Ok (λ e. e) (_ ≟ _)
-      (λ _. goes D refl (record { relies = tt; chain = h .chain; belongs = h .belongs }))
+      (λ _. line-continues D refl (record { relies = tt; chain = h .chain; belongs = h .belongs }))
       (λ f-some. line31-taken h (free-f f-some) f-some))

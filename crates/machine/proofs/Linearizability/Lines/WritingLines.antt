@@ -47,7 +47,7 @@ use Rattle.machine.proofs.Linearizability.Model.Guarantee.{Guarantees, 
 use Rattle.machine.proofs.Linearizability.Model.Nodes.{old-some, spur-some, own-mark-not-far}
 use Rattle.machine.proofs.Linearizability.Writes.MainWrites.{value-guarantee, value-chains-kept}
 use Rattle.machine.proofs.Linearizability.Writes.OtherLanes.{LeftAlone, other-lane}
-use Rattle.machine.proofs.Linearizability.Writes.Push.{push-main, push-keeps, pushedFrame}
+use Rattle.machine.proofs.Linearizability.Writes.Push.{push-main, push-keeps}
 use Rattle.machine.proofs.Linearizability.Writes.Pop.{pop-main, pop-in-row, pop-bag, pop-keeps, poppedFrame}
 use Rattle.machine.proofs.Linearizability.Writes.Unspur.{unspur-keeps}
 use Rattle.machine.proofs.Linearizability.Writes.Cut.{
@@ -80,7 +80,13 @@ use Rattle.machine.proofs.Linearizability.Model.Invariant.{
   rowOf,
 }
 use Rattle.machine.proofs.Linearizability.Lines.Connectives.{ok-if, ok-dcas}
-use Rattle.machine.proofs.Linearizability.Lines.LineEnds.{fresh-ok, past, goes, answers-ok, back-ok}
+use Rattle.machine.proofs.Linearizability.Lines.LineEnds.{
+  fresh-ok,
+  line-past,
+  line-continues,
+  answers-ok,
+  back-ok,
+}
 
 module _ (held : ℕ → Bool) (k : ℕ) {L : ℕ} {s o : Side} {m : View} {class : ℕ → Class} {r : ℕ → List ℕ}
     (D : Lanes L s o m class r) (t : Task) (own : t .lane < L) (g f : ℕ) where
@@ -148,10 +154,10 @@ module _ (held : ℕ → Bool) (k : ℕ) {L : ℕ} {s o : Side} {m : View} {clas
   pub line5-ok : LineOk line5
   unfolding act
   line5-ok h =
-      past (some _ (h .relies .A-old))
-      (past (some _ (h .relies .B-old))
+      line-past (some _ (h .relies .A-old))
+      (line-past (some _ (h .relies .B-old))
       (ok-dcas Ok _ _ (λ hat-A read. done (cc) (cc))
-      (goes D refl (record { relies = h .relies .A-old; chain = h .chain; belongs = h .belongs }))))
+      (line-continues D refl (record { relies = h .relies .A-old; chain = h .chain; belongs = h .belongs }))))
     where
       done : m .hats (t .lane) s ≡ t .A
           → m .val (t .A) ≡ N s
@@ -178,9 +184,9 @@ module _ (held : ℕ → Bool) (k : ℕ) {L : ℕ} {s o : Side} {m : View} {clas
   pub line51-ok : LineOk line51
   unfolding act
   line51-ok h =
-      past (some _ (h .relies .pair .B-old))
+      line-past (some _ (h .relies .pair .B-old))
       (ok-dcas Ok _ _ (λ hat-A read. done (cc) (cc))
-      (goes D refl (record { relies = tt; chain = h .chain; belongs = h .belongs })))
+      (line-continues D refl (record { relies = tt; chain = h .chain; belongs = h .belongs })))
     where
       done : m .hats (t .lane) s ≡ t .A
           → m .val (t .B) ≡ t .value
@@ -216,8 +222,9 @@ module _ (held : ℕ → Bool) (k : ℕ) {L : ℕ} {s o : Side} {m : View} {clas
   pub line72-ok : LineOk line72
   unfolding act
   line72-ok h =
-      past (some _ (h .relies .C-old))
-      (ok-if Ok (λ l. writing l (next t (back t))) (_ ≟ _) (λ e. done (cc)) (λ _. goes D refl (goes-back (m .hats))))
+      line-past (some _ (h .relies .C-old))
+      (ok-if Ok (λ l. writing l (next t (back t))) (_ ≟ _) (λ e. done (cc))
+      (λ _. line-continues D refl (goes-back (m .hats))))
     where
       goes-back : (hats : ℕ → Side → ℕ)
           → TaskOk k s o (record { out = m .out; inn = m .inn; val = m .val; hats = hats }) class (back t)
@@ -279,9 +286,9 @@ module _ (held : ℕ → Bool) (k : ℕ) {L : ℕ} {s o : Side} {m : View} {clas
   pub line64-ok : LineOk line64
   unfolding act
   line64-ok h =
-      past (some _ (h .relies .A-old))
+      line-past (some _ (h .relies .A-old))
       (ok-if Ok (λ l. writing l (next t line74)) (_ ≟ _) (λ e. done (cc))
-      (λ e. goes D refl (record { relies = h .relies .B-spur; chain = h .chain; belongs = h .belongs })))
+      (λ e. line-continues D refl (record { relies = h .relies .B-spur; chain = h .chain; belongs = h .belongs })))
     where
       done : m .out (t .A) ≡ t .B → Ok (writing (out≔ (t .A) noNode ∷ []) (next t line74))
       done e =
@@ -294,9 +301,9 @@ module _ (held : ℕ → Bool) (k : ℕ) {L : ℕ} {s o : Side} {m : View} {clas
   pub line78-ok : LineOk line78
   unfolding act
   line78-ok h =
-      past (spur-some S _ (h .relies .B-spur))
+      line-past (spur-some S _ (h .relies .B-spur))
       (ok-if Ok (λ e. e) (_ ≟ᵛ _) (λ _. done)
-      (λ e. goes D refl (record { relies = h .relies; chain = h .chain; belongs = h .belongs })))
+      (λ e. line-continues D refl (record { relies = h .relies; chain = h .chain; belongs = h .belongs })))
     where
       done : Ok (writing (val≔ (t .B) (Y s) ∷ []) (next t line79))
       done =
@@ -310,7 +317,7 @@ module _ (held : ℕ → Bool) (k : ℕ) {L : ℕ} {s o : Side} {m : View} {clas
   line79-ok h =
       let w = update-wrote (m .out) (t .A) noNode in
       let T = spur-unlink S k w (h .relies .A-spur) in
-      past (spur-some S _ (h .relies .A-spur))
+      line-past (spur-some S _ (h .relies .A-spur))
       (spur-written (out≔ (t .A) noNode ∷ []) refl refl T refl (goes-on refl refl)
       (record { relies = h .relies .B-spur; chain = h .chain; belongs = h .belongs }))
 
@@ -319,7 +326,7 @@ module _ (held : ℕ → Bool) (k : ℕ) {L : ℕ} {s o : Side} {m : View} {clas
   line82-ok h =
       let w = update-wrote (m .out) (t .A) noNode in
       let T = spur-unlink S k w (h .relies) in
-      past (spur-some S _ (h .relies))
+      line-past (spur-some S _ (h .relies))
       (spur-written (out≔ (t .A) noNode ∷ []) refl refl T
       (inr (h .belongs), refl) (has-answered (λ e. refute (cc)) refl) (fresh-ok (h .chain .none-new)))
 
@@ -443,7 +450,7 @@ module _ (held : ℕ → Bool) (k : ℕ) {L : ℕ} {s o : Side} {m : View} {clas
   pub line62-ok : LineOk line62
   unfolding act
   line62-ok h =
-      past (some _ (h .relies .A-old))
-      (past (some _ (h .relies .B-old))
+      line-past (some _ (h .relies .A-old))
+      (line-past (some _ (h .relies .B-old))
       (ok-dcas Ok _ _ (λ A-N B-N. line62-done h (cc) (cc))
       (answers-ok D No (λ e. refute (cc)) (inr (h .belongs), refl) (h .chain))))

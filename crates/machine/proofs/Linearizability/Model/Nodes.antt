@@ -171,7 +171,7 @@ module _ {ℓ : ℕ} {s o : Side} {m : View} {class : ℕ → Class} {F : Frame}
       ]
 
 -- The same from the other side.
-pub in-lanes-reversed : {s o : Side} {m : View} {class : ℕ → Class} → InLanes s o m class
+in-lanes-reversed : {s o : Side} {m : View} {class : ℕ → Class} → InLanes s o m class
     → InLanes o s (swapped m) class
 in-lanes-reversed every x j c = (reversedFrame (every x j c .0), reversed (every x j c .1))
 

@@ -1,4 +1,4 @@
--- The steps by phase: whose they are, and whether the task has a chain; with what each step relies on.
+-- The steps by phase: whose they are, and whether the task has a chain; with what everywhere-at step relies on.
 use mathlib.Core.Path.{_≡_, refl}
 use mathlib.Core.Logic.{_⊎_}
 use mathlib.Core.Bool.{true}
@@ -10,7 +10,7 @@ use Rattle.machine.specs.Steps.{Step, rest}
 use Rattle.machine.specs.Steps as Steps
 use Rattle.machine.specs.Tasks.{Task, Register, inD}
 use Rattle.machine.specs.Registers.{among, holds}
-use Rattle.machine.proofs.Basics.Everywhere.{each, implies, implied}
+use Rattle.machine.proofs.Basics.Everywhere.{everywhere-at, implies, implies-true}
 use Rattle.machine.proofs.Words.Memories.{View}
 use Rattle.machine.proofs.Linearizability.Model.Classes.{Class}
 use Rattle.machine.proofs.Linearizability.Model.Chain.{HasChainIn, NoChain}
@@ -119,13 +119,13 @@ facts Steps.line82 = on-spur-A during removing
 -- What a step relies on is held there, and so is what leads to a chain.
 pub relied-holds : (st : Step) (r : Register) → among (relied (facts st .reliance)) r ≡ true → holds st r ≡ true
 relied-holds st r =
-    implied (among (relied (facts st .reliance)) r) (holds st r)
-    (each (λ x y. implies (among (relied (facts x .reliance)) y) (holds x y)) refl st r)
+    implies-true (among (relied (facts st .reliance)) r) (holds st r)
+    (everywhere-at (λ x y. implies (among (relied (facts x .reliance)) y) (holds x y)) refl st r)
 
 pub leading-holds : (st : Step) (r : Register) → among (leading (facts st .phase)) r ≡ true → holds st r ≡ true
 leading-holds st r =
-    implied (among (leading (facts st .phase)) r) (holds st r)
-    (each (λ x y. implies (among (leading (facts x .phase)) y) (holds x y)) refl st r)
+    implies-true (among (leading (facts st .phase)) r) (holds st r)
+    (everywhere-at (λ x y. implies (among (leading (facts x .phase)) y) (holds x y)) refl st r)
 
 -- What holds of task k, at step st, seen from its side s.
 pub record TaskOk (k : ℕ) (s o : Side) (m : View) (class : ℕ → Class) (st : Step) (t : Task) : Type 0 where

@@ -4,7 +4,7 @@ use Prim.Native.Nat.{ℕ, suc, _-_}
 use native.Mathlib.Omega.{arith}
 use Rattle.machine.specs.Sides.{Side}
 use Rattle.machine.proofs.Words.Memories.{View, swapped}
-use Rattle.machine.proofs.Linearizability.Model.Sides.{exchanged}
+use Rattle.machine.proofs.Linearizability.Model.Sides.{opposite-exchanged}
 use Rattle.machine.proofs.Linearizability.Model.Classes.{Class}
 use Rattle.machine.proofs.Linearizability.Model.Structure.{Main, Frame, MainValues, Linked, Structure}
 
@@ -75,7 +75,7 @@ module _ {ℓ : ℕ} {s o : Side} {m : View} {class : ℕ → Class} {F : Frame}
   pub reversed : Structure ℓ o s (swapped m) class (reversedFrame F)
   reversed =
       record {
-        sides = exchanged (S .sides);
+        sides = opposite-exchanged (S .sides);
         none-free = S .none-free;
         a<b = omega (arith, S .a<b, S .b≤n);
         b≤n = omega arith;

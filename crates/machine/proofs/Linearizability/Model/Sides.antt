@@ -30,8 +30,8 @@ sides right =
       either = λ z. elim z [ left ↦ inr refl | right ↦ inl refl ];
     }
 
-pub exchanged : {s o : Side} → Opposite s o → Opposite o s
-exchanged w =
+pub opposite-exchanged : {s o : Side} → Opposite s o → Opposite o s
+opposite-exchanged w =
     record {
       tag = λ z. not (w .tag z);
       tag-near = cc;
@@ -40,7 +40,7 @@ exchanged w =
     }
 
 -- What is written at one side is not written at the other.
-pub updateSide-other : {T : Type 0} (f : Side → T) (s o : Side) (v : T) → Opposite s o → updateSide f s v o ≡ f o
+updateSide-other : {T : Type 0} (f : Side → T) (s o : Side) (v : T) → Opposite s o → updateSide f s v o ≡ f o
 updateSide-other f left left v w = clash (cc (w .tag-near, w .tag-far))
 updateSide-other f left right v w = refl
 updateSide-other f right left v w = refl

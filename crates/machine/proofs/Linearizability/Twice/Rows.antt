@@ -36,7 +36,13 @@ use Rattle.machine.specs.Twice.{PushNoted, rowsBelow, allBags, OnceInRow
 use Rattle.machine.proofs.Basics.Contradiction.{clash, equal?, less?}
 use Rattle.machine.proofs.Basics.Choices.{if-yes, if-no}
 use Rattle.machine.proofs.Basics.Counts.{count-append}
-use Rattle.machine.proofs.Linearizability.Calls.RowDid.{bound, mapped, feedMadeTick, feedMadeTicks, feedDid}
+use Rattle.machine.proofs.Linearizability.Calls.RowDid.{
+  bind-some,
+  map-some,
+  feedMadeTick,
+  feedMadeTicks,
+  feedDid,
+}
 use Rattle.machine.proofs.Linearizability.Histories.{count-put, bag-taken}
 use Rattle.machine.proofs.Linearizability.Twice.Lists.{
   not-counted,
@@ -310,7 +316,7 @@ module _ {ρ : Row} (O : Once ρ) (k : ℕ) (n : Note) (is-noted : ρ .notes k �
 
 once-made : {ρ ρ′ : Row} → Once ρ → (k : ℕ) (a : Answer) → feedMade ρ k a ≡ some ρ′ → Once ρ′
 unfolding feedMade
-once-made {ρ} {ρ′} O k a e = let n = bound (ρ .notes k) _ e in by-answer (n .0) (n .1) (isGoing a) (n .2)
+once-made {ρ} {ρ′} O k a e = let n = bind-some (ρ .notes k) _ e in by-answer (n .0) (n .1) (isGoing a) (n .2)
   where
     by-answer : (n : Note) → ρ .notes k ≡ some n → (g : Bool)
         → cond g (some ρ)
@@ -319,7 +325,7 @@ once-made {ρ} {ρ′} O k a e = let n = bound (ρ .notes k) _ e in by-answer (n
         → Once ρ′
     by-answer n is true q = same-row q O
     by-answer n is false q =
-        let x = mapped (answered n a (ρ .bags (n .lane))) _ q in
+        let x = map-some (answered n a (ρ .bags (n .lane))) _ q in
         same-row (ap some (x .2))
         (once-ended O k n is (x .0)
         (all-leave O k n is (x .0) (answer-leaves n (ρ .bags (n .lane)) (x .0) a (x .1))))
@@ -328,8 +334,8 @@ once-made {ρ} {ρ′} O k a e = let n = bound (ρ .notes k) _ e in by-answer (n
 once-next : {ρ ρ′ : Row} → Once ρ → (a : Answer) → feedDispatched ρ a ≡ some ρ′ → Once ρ′
 unfolding feedDispatched
 once-next {ρ} {ρ′} O a e =
-    let x = bound (nextNoted (ρ .notes) (ρ .tasks) (ρ .dispatched)) _ e in
-    let y = mapped (feedMade ρ (x .0) a) _ (x .2) in
+    let x = bind-some (nextNoted (ρ .notes) (ρ .tasks) (ρ .dispatched)) _ e in
+    let y = map-some (feedMade ρ (x .0) a) _ (x .2) in
     same-row (ap some (y .2)) (turned (x .0) (once-made O (x .0) a (y .1)))
   where
     turned : (k : ℕ) {σ : Row} → Once σ → Once (withDispatched k σ)
@@ -350,7 +356,7 @@ once-ticks : {ρ ρ′ : Row} → Once ρ → (ts : List Tick) → feedMadeTicks
 unfolding feedMadeTicks
 once-ticks O [] e = same-row e O
 once-ticks {ρ} O (t ∷ ts) e =
-    let x = bound (feedMadeTick ρ t) _ e in
+    let x = bind-some (feedMadeTick ρ t) _ e in
     once-ticks (once-tick O t (x .1)) ts (x .2)
 
 -- ---- What a call did.

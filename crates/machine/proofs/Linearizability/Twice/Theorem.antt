@@ -31,11 +31,11 @@ use Rattle.machine.proofs.Words.Kinds.{
   is-lent-begun,
   are-ticked,
   are-dispatched,
-  comes,
+  call-comes,
 }
 use Rattle.machine.proofs.Linearizability.Calls.Agreement.{Agrees, lanes-are-rows, all-lanes-are-rows}
-use Rattle.machine.proofs.Linearizability.Calls.RowDid.{bound}
-use Rattle.machine.proofs.Linearizability.Calls.EveryCall.{told, call-explained}
+use Rattle.machine.proofs.Linearizability.Calls.RowDid.{bind-some}
+use Rattle.machine.proofs.Linearizability.Calls.EveryCall.{call-told, call-explained}
 use Rattle.machine.proofs.Linearizability.Theorem.{started-agrees}
 use Rattle.machine.proofs.Linearizability.Corollaries.{begun-inside-runs}
 use Rattle.machine.proofs.Linearizability.Twice.Rows.{Once, once-in-row, once-empty, NewWhereBegun, once-did}
@@ -44,7 +44,7 @@ use Rattle.machine.proofs.Linearizability.Twice.Begins.{busy-noted, acc
 -- ---- Every call, on a table that agrees with the row.
 module _ {ws : List ℕ} {ρ : Row} (A : Agrees ws ρ) where
   new-where-begun : (c : Call) → NewWhereBegun ρ (did c (given c ws))
-  new-where-begun c = go (comes c ws)
+  new-where-begun c = go (call-comes c ws)
     where
       go : {a : Asked} {vs : List ℕ} {d : Did} → Comes ws a vs d → NewWhereBegun ρ d
       go (left-alone a e) = tt
@@ -55,7 +55,7 @@ module _ {ws : List ℕ} {ρ : Row} (A : Agrees ws ρ) where
       go (are-dispatched h n ts) = tt
 
   pub once-called : Once ρ → (c : Call) → Once (call-explained A c .row)
-  once-called O c = once-did (did c (given c ws)) O (new-where-begun c) (told A c .fed-what-it-did)
+  once-called O c = once-did (did c (given c ws)) O (new-where-begun c) (call-told A c .fed-what-it-did)
 
 -- ---- Rows.
 rows-agree : (cs : List Call) {ws : List ℕ} {ρ ρ′ : Row} → Agrees ws ρ → Once ρ → rowAfter cs ws ρ ≡ some ρ′
@@ -88,7 +88,7 @@ row-one-more : (cs : List Call) (c : Call) (ws : List ℕ) (ρ : Row) {ρ′ ρ�
 unfolding rowAfter afterAll bind
 row-one-more [] c ws ρ {ρ′} e f = let same : ρ ≡ ρ′ = cc in rw (same, f)
 row-one-more (d ∷ cs) c ws ρ e f =
-    let x = bound (feed ρ d (given d ws)) _ e in
+    let x = bind-some (feed ρ d (given d ws)) _ e in
     rw (x .1) (row-one-more cs c (after d ws) (x .0) (x .2) f)
 
 pub one-more : {ws : List ℕ} {ρ ρ′ : Row} (c : Call) → RowSince ws ρ → feed ρ c (given c ws) ≡ some ρ′

@@ -10,28 +10,17 @@ use Rattle.program_answer.proofs.Laws.FormLaws.{begin-done}
 use Rattle.program_answer.proofs.forms.begin_command.Statement.{statement}
 use Rattle.program_answer.proofs.forms.begin_command.Tie as tie
 
-slice-relend-prefix-begin : tie.Need-slice-relend-prefix-begin
-slice-relend-prefix-begin c = search needs
-
 slice-aggregate-begin : tie.Need-slice-aggregate-begin
 slice-aggregate-begin c =
-    let p = c .before .before in
+    let p : tie.Start = search in
     sym (length-take-le (p .args .len) (p .args .space .now) (p .pre))
-
-of-words-requires : tie.Need-of-words-requires
-of-words-requires c κs = search needs
-
-begin-requires : tie.Need-begin-requires
-begin-requires c κs = search needs
-
-same-length : tie.Need-same-length
-same-length c = search needs
 
 returns : tie.Need-returns
 returns c =
-    let done = c .before .before .begin in
-    let n = c .before .before .before in
-    let p = n .before .before .before in
+    let after-begin : tie.After-begin = search in
+    let done = after-begin .begin in
+    let n : tie.After-of-words = search in
+    let p : tie.Start = search in
     let a = p .args in
     let t = take (a .len) (a .space .now) in
     let begun = done .ensures ∙ ap (begin t (a .task) theLane (a .operation) (a .side)) (n .of-words .ensures) in
@@ -42,9 +31,9 @@ pub begin-command-spec : {M : Type 1} → statement M
 begin-command-spec =
     tie.close
     (tie.spec
-    slice-relend-prefix-begin
+    (λ c. search needs)
     slice-aggregate-begin
-    of-words-requires
-    begin-requires
-    same-length
+    (λ c κs. search needs)
+    (λ c κs. search needs)
+    (λ c. search needs)
     returns)

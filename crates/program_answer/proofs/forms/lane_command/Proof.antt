@@ -10,19 +10,17 @@ use Rattle.program_answer.proofs.forms.lane_command.Tie as tie
 
 slice-aggregate-read : tie.Need-slice-aggregate-read
 slice-aggregate-read c =
-    let p = c .before .before in
+    let p : tie.Start = search in
     sym (length-take-le (p .args .len) (p .args .space .now) (p .pre))
-
-read-requires : tie.Need-read-requires
-read-requires c κs = search needs
 
 returns : tie.Need-returns
 returns c =
-    let a = c .before .before .before .before .args in
+    let start : tie.Start = search in
+    let a = start .args in
     let done =
     lane-done (a .bags .now) (c .before .read-arg2 .given .0 .1) (take (a .len) (a .space .now)) (c .read .ensures)
     in
     (done .0, (done .1, ap (λ (d : ReadDone). d .out) (c .read .ensures)))
 
 pub lane-command-spec : {M : Type 1} → statement M
-lane-command-spec = tie.close (tie.spec slice-aggregate-read read-requires returns)
+lane-command-spec = tie.close (tie.spec slice-aggregate-read (λ c κs. search needs) returns)

@@ -18,89 +18,68 @@ not-right : (c : tie.Else2)
     (beginText "push" "right") ≡ false
 not-right c = sym (c .before .is-text2 .ensures) ∙ c .if2 .left
 
-element-copy-out-a : tie.Need-element-copy-out-a
-element-copy-out-a c = search needs
-
-element-copy-out-b : tie.Need-element-copy-out-b
-element-copy-out-b c = search needs
-
-element-copy-out-c : tie.Need-element-copy-out-c
-element-copy-out-c c = search needs
-
-slice-aggregate-is-text : tie.Need-slice-aggregate-is-text
-slice-aggregate-is-text c = search needs
-
-is-text-requires : tie.Need-is-text-requires
-is-text-requires c κs = search needs
-
 push-of-requires : tie.Need-push-of-requires
-push-of-requires c κs = c .before .before .before .before .before .before .before .pre 1
+push-of-requires c κs =
+    let start : tie.Start = search in
+    start .pre 1
 
 returns : tie.Need-returns
 unfolding commandWith
-returns c = rw (sym (c .before .before .is-text .ensures) ∙ c .before .if1 .taken) (c .push-of .ensures)
-
-slice-aggregate-is-text-2 : tie.Need-slice-aggregate-is-text-2
-slice-aggregate-is-text-2 c = search needs
-
-is-text-requires-2 : tie.Need-is-text-requires-2
-is-text-requires-2 c κs = search needs
+returns c =
+    let after-is-text : tie.After-is-text = search in
+    rw (sym (after-is-text .is-text .ensures) ∙ c .before .if1 .taken) (c .push-of .ensures)
 
 push-of-requires-2 : tie.Need-push-of-requires-2
 push-of-requires-2 c κs =
-    c .before .before .before .before .before .before .before .before .before .before .pre 1
+    let start : tie.Start = search in
+    start .pre 1
 
 returns-2 : tie.Need-returns-2
 unfolding commandWith
 returns-2 c =
-    let e = c .before .before in
-    rw (not-left (e .before .before), sym (e .is-text2 .ensures) ∙ c .before .if2 .taken) (c .push-of2 .ensures)
+    let else1 : tie.Else1 = search in
+    let e : tie.After-is-text2 = search in
+    rw (not-left else1, sym (e .is-text2 .ensures) ∙ c .before .if2 .taken) (c .push-of2 .ensures)
 
 returns-3 : tie.Need-returns-3
 unfolding commandWith
 returns-3 c =
-    let e = c .before in
-    rw (not-left (e .before .before .before), not-right e, lt-leb _ _ (c .if3 .taken))
+    let else1 : tie.Else1 = search in
+    let e : tie.Else2 = search in
+    rw (not-left else1, not-right e, lt-leb _ _ (c .if3 .taken))
 
 returns-4 : tie.Need-returns-4
 unfolding commandWith
 returns-4 c =
-    let e = c .before .before in
-    rw (not-left (e .before .before .before), not-right e, le-leb _ _ (c .before .if3 .left), lt-leb _ _ (c .if4 .taken))
+    let else1 : tie.Else1 = search in
+    let e : tie.Else2 = search in
+    rw (not-left else1, not-right e, le-leb _ _ (c .before .if3 .left), lt-leb _ _ (c .if4 .taken))
 
 returns-5 : tie.Need-returns-5
 unfolding commandWith
 returns-5 c =
-    let e = c .before .before .before in
+    let else1 : tie.Else1 = search in
+    let else3 : tie.Else3 = search in
+    let e : tie.Else2 = search in
     rw (
-      not-left (e .before .before .before),
+      not-left else1,
       not-right e,
-      le-leb _ _ (c .before .before .if3 .left),
+      le-leb _ _ (else3 .if3 .left),
       le-leb _ _ (c .before .if4 .left),
       lt-leb _ _ (c .if5 .taken),
     )
 
-cast-form-of : tie.Need-cast-form-of
-cast-form-of c = search needs
-
-cast-form-of-2 : tie.Need-cast-form-of-2
-cast-form-of-2 c = search needs
-
-cast-form-of-3 : tie.Need-cast-form-of-3
-cast-form-of-3 c = search needs
-
-form-of-requires : tie.Need-form-of-requires
-form-of-requires c κs = search needs
-
 returns-6 : tie.Need-returns-6
 unfolding commandWith
 returns-6 c =
-    let f = c .before in
-    let e = f .before .before .before in
+    let else1 : tie.Else1 = search in
+    let else3 : tie.Else3 = search in
+    let f : tie.Else5 = search in
+    let e : tie.Else2 = search in
     rw (
-      not-left (e .before .before .before),
+      not-left else1,
       not-right e,
-      le-leb _ _ (f .before .before .if3 .left),
+      le-leb _ _ (else3 .if3 .left),
       le-leb _ _ (f .before .if4 .left),
       le-leb _ _ (f .if5 .left),
     )
@@ -110,22 +89,22 @@ pub command-with-spec : {M : Type 1} → statement M
 command-with-spec =
     tie.close
     (tie.spec
-    element-copy-out-a
-    element-copy-out-b
-    element-copy-out-c
-    slice-aggregate-is-text
-    is-text-requires
+    (λ c. search needs)
+    (λ c. search needs)
+    (λ c. search needs)
+    (λ c. search needs)
+    (λ c κs. search needs)
     push-of-requires
     returns
-    slice-aggregate-is-text-2
-    is-text-requires-2
+    (λ c. search needs)
+    (λ c κs. search needs)
     push-of-requires-2
     returns-2
     returns-3
     returns-4
     returns-5
-    cast-form-of
-    cast-form-of-2
-    cast-form-of-3
-    form-of-requires
+    (λ c. search needs)
+    (λ c. search needs)
+    (λ c. search needs)
+    (λ c κs. search needs)
     returns-6)

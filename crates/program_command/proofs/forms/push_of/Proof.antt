@@ -19,24 +19,17 @@ returns c =
 returns-2 : tie.Need-returns-2
 unfolding pushOf
 returns-2 c =
-    let a = c .before .before .args in
+    let start : tie.Start = search in
+    let a = start .args in
     let fits : a .task ≤ largestNumber = omega arith in
     let other : a .width ≢ tagWidth = λ e. absurd (omega arith) in
     rw (le-leb (a .task) largestNumber fits, ne-eqb (a .width) tagWidth other)
 
-digit-requires : tie.Need-digit-requires
-digit-requires c κs = search needs
-
-low-requires : tie.Need-low-requires
-low-requires c κs = search needs
-
-cast-t8 : tie.Need-cast-t8
-cast-t8 c = search needs
-
 returns-3 : tie.Need-returns-3
 unfolding pushOf
 returns-3 c =
-    let a = c .before .before .before .before .args in
+    let start : tie.Start = search in
+    let a = start .args in
     let fits : a .task ≤ largestNumber = omega arith in
     let ten : a .width ≡ tagWidth = omega arith in
     rw (
@@ -47,4 +40,5 @@ returns-3 c =
     )
 
 pub push-of-spec : {M : Type 1} → statement M
-push-of-spec = tie.close (tie.spec returns returns-2 digit-requires low-requires cast-t8 returns-3)
+push-of-spec =
+    tie.close (tie.spec returns returns-2 (λ c κs. search needs) (λ c κs. search needs) (λ c. search needs) returns-3)

@@ -16,14 +16,16 @@ returns c =
 returns-2 : tie.Need-returns-2
 unfolding ticks
 returns-2 c =
-    let t = c .before .before .args .times in
+    let start : tie.Start = search in
+    let t = start .args .times in
     let h : t ≤ 1_000 = omega arith in
     rw (le-leb 1 t (omega arith), le-leb t 1_000 h)
 
 returns-3 : tie.Need-returns-3
 unfolding ticks
 returns-3 c =
-    let t = c .before .before .args .times in
+    let start : tie.Start = search in
+    let t = start .args .times in
     let h : 1_000 < t = omega arith in
     rw (le-leb 1 t (omega arith), lt-leb t 1_000 h)
 

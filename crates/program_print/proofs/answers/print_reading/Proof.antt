@@ -4,50 +4,37 @@ use borrow.Author.Needs.{needs}
 use Rattle.program_print.proofs.answers.print_reading.Statement.{statement}
 use Rattle.program_print.proofs.answers.print_reading.Tie as tie
 
-enum-known-reading : tie.Need-enum-known-reading
-enum-known-reading c = search needs
-
-cast-put-lane : tie.Need-cast-put-lane
-cast-put-lane c = search needs
-
 put-lane-requires : tie.Need-put-lane-requires
 put-lane-requires c κs =
-    let known = c .before .before in
-    let counted = rw (known .reading .given .1) at (known .before .before .before .before .pre) in
+    let start : tie.Start = search in
+    let known : tie.After-reading = search in
+    let counted = rw (known .reading .given .1) at (start .pre) in
     (counted .0, omega (arith, counted .1))
-
-enum-known-reading-2 : tie.Need-enum-known-reading-2
-enum-known-reading-2 c = search needs
-
-put-refused-requires : tie.Need-put-refused-requires
-put-refused-requires c κs = search needs
-
-same-length : tie.Need-same-length
-same-length c = search needs
 
 returns : tie.Need-returns
 returns c =
-    let put = c .before .before .put-lane .ensures in
-    rw (c .before .before .before .before .before .reading .given .1) (put .0, omega (arith, put .1))
-
-same-length-2 : tie.Need-same-length-2
-same-length-2 c = search needs
+    let after-reading : tie.After-reading = search in
+    let after-put-lane : tie.After-put-lane = search in
+    let put = after-put-lane .put-lane .ensures in
+    rw (after-reading .reading .given .1) (put .0, omega (arith, put .1))
 
 returns-2 : tie.Need-returns-2
 returns-2 c =
-    let put = c .before .before .put-refused .ensures in
-    rw (c .before .before .before .before .before .reading2 .given .1) (put .0, omega (arith, put .1))
+    let after-reading2 : tie.After-reading2 = search in
+    let after-put-refused : tie.After-put-refused = search in
+    let put = after-put-refused .put-refused .ensures in
+    rw (after-reading2 .reading2 .given .1) (put .0, omega (arith, put .1))
 
 pub print-reading-spec : {M : Type 1} → statement M
 print-reading-spec =
     tie.close
     (tie.spec
-    enum-known-reading
-    cast-put-lane
+    (λ c. search needs)
+    (λ c. search needs)
     put-lane-requires
-    enum-known-reading-2
-    put-refused-requires
-    same-length
+    (λ c. search needs)
+    (λ c κs. search needs)
+    (λ c. search needs)
     returns
-    same-length-2
+    (λ c. search needs)
     returns-2)

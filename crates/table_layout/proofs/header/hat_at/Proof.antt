@@ -7,15 +7,6 @@ use borrow.Author.Needs.{needs}
 use Rattle.table_layout.proofs.header.hat_at.Statement.{statement}
 use Rattle.table_layout.proofs.header.hat_at.Tie as tie
 
-mul-result : tie.Need-mul-result
-mul-result c = search needs
-
-add-result : tie.Need-add-result
-add-result c = search needs
-
-add-result-2 : tie.Need-add-result-2
-add-result-2 c = search needs
-
 returns : tie.Need-returns
 returns c =
     let a = c .args in
@@ -24,4 +15,4 @@ returns c =
     (ap (λ (n : ℕ). 6 + 2 * a .lane + n) (sym (number-of-side (a .side) (omega arith))), omega arith)
 
 pub hat-at-spec : {M : Type 1} → statement M
-hat-at-spec = tie.close (tie.spec mul-result add-result add-result-2 returns)
+hat-at-spec = tie.close (tie.spec (λ c. search needs) (λ c. search needs) (λ c. search needs) returns)

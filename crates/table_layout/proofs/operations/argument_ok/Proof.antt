@@ -7,18 +7,6 @@ use borrow.Author.Needs.{needs}
 use Rattle.table_layout.proofs.operations.argument_ok.Statement.{statement}
 use Rattle.table_layout.proofs.operations.argument_ok.Tie as tie
 
-bag-ok-requires : tie.Need-bag-ok-requires
-bag-ok-requires c κs = search needs
-
-number-requires : tie.Need-number-requires
-number-requires c κs = search needs
-
-number-requires-2 : tie.Need-number-requires-2
-number-requires-2 c κs = search needs
-
-number-requires-3 : tie.Need-number-requires-3
-number-requires-3 c κs = search needs
-
 returns : tie.Need-returns
 unfolding ℕ-discrete
 returns c = rw (c .before .match .keys1) (c .bag-ok .ensures)
@@ -33,9 +21,11 @@ returns-3 c = rw (c .before .match .keys3, c .number2 .ensures)
 
 returns-4 : tie.Need-returns-4
 returns-4 c =
+    let start : tie.Start = search in
     let k = c .before .match .rest in
     rw (
-      remove-else (c .before .before .args .operation) (λ e. k .0 .1 (inl e)) (k .0 .0 .1) (λ e. k .0 .1 (inr e)) (k .1),
+      remove-else (start .args .operation) (λ e. k .0 .1 (inl e)) (k .0 .0 .1) (λ e. k .0 .1 (inr e))
+          (k .1),
       c .number3 .ensures,
     )
 
@@ -43,10 +33,10 @@ pub argument-ok-spec : {M : Type 1} → statement M
 argument-ok-spec =
     tie.close
     (tie.spec
-    bag-ok-requires
-    number-requires
-    number-requires-2
-    number-requires-3
+    (λ c κs. search needs)
+    (λ c κs. search needs)
+    (λ c κs. search needs)
+    (λ c κs. search needs)
     returns
     returns-2
     returns-3

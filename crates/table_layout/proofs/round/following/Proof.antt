@@ -6,12 +6,6 @@ use borrow.Author.Needs.{needs}
 use Rattle.table_layout.proofs.round.following.Statement.{statement}
 use Rattle.table_layout.proofs.round.following.Tie as tie
 
-add-if1 : tie.Need-add-if1
-add-if1 c = search needs
-
-add-result : tie.Need-add-result
-add-result c = search needs
-
 returns : tie.Need-returns
 returns c =
     let a = c .before .args in
@@ -23,4 +17,4 @@ returns-2 c =
     (rw (le-ltb (a .i + 1) (a .n) (omega arith)), omega arith)
 
 pub following-spec : {M : Type 1} → statement M
-following-spec = tie.close (tie.spec add-if1 add-result returns returns-2)
+following-spec = tie.close (tie.spec (λ c. search needs) (λ c. search needs) returns returns-2)

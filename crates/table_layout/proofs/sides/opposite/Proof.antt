@@ -4,11 +4,8 @@ use borrow.Author.Needs.{needs}
 use Rattle.table_layout.proofs.sides.opposite.Statement.{statement}
 use Rattle.table_layout.proofs.sides.opposite.Tie as tie
 
-sub-result : tie.Need-sub-result
-sub-result c = search needs
-
 returns : tie.Need-returns
 returns c = other-side (c .args .side) (c .pre)
 
 pub opposite-spec : {M : Type 1} → statement M
-opposite-spec = tie.close (tie.spec sub-result returns)
+opposite-spec = tie.close (tie.spec (λ c. search needs) returns)

@@ -10,42 +10,21 @@ use borrow.Author.Needs.{needs}
 use Rattle.table_layout.proofs.table.set_further.Statement.{statement}
 use Rattle.table_layout.proofs.table.set_further.Tie as tie
 
-place-requires : tie.Need-place-requires
-place-requires c κs = search needs
-
-add-write-further : tie.Need-add-write-further
-add-write-further c = search needs
-
-mul-write-further : tie.Need-mul-write-further
-mul-write-further c = search needs
-
-sub-write-further : tie.Need-sub-write-further
-sub-write-further c = search needs
-
-part-write-further-start : tie.Need-part-write-further-start
-part-write-further-start c = search needs
-
-part-write-further-end : tie.Need-part-write-further-end
-part-write-further-end c = search needs
-
 write-further-requires : tie.Need-write-further-requires
 write-further-requires c κs =
-    let r = c .before in
-    let s = r .before .before .before in
+    let r : tie.After-place = search in
+    let s : tie.Start = search in
     let a = s .args in (
       record-part-long (a .table .now) (r .place .ensures) (s .pre .0),
       subst (λ (l : List ℕ). SameCall (structOf l) (a .new)) (sym (record-part (a .table .now) (r .place .ensures)))
           (s .pre .1),
     )
 
-same-length : tie.Need-same-length
-same-length c = search needs
-
 returns : tie.Need-returns
 returns c =
-    let w = c .before .before in
-    let r = w .before .before in
-    let s = r .before .before .before in
+    let w : tie.After-write-further = search in
+    let r : tie.After-place = search in
+    let s : tie.Start = search in
     let at = r .place .result in
     ap (putMid at (at + recordLength - at) (s .args .table .now)) (w .write-further .ensures)
     ∙ record-put (s .args .table .now) (recordOf (s .args .new)) (r .place .ensures) refl (s .pre .0)
@@ -54,12 +33,12 @@ pub set-further-spec : {M : Type 1} → statement M
 set-further-spec =
     tie.close
     (tie.spec
-    place-requires
-    add-write-further
-    mul-write-further
-    sub-write-further
-    part-write-further-start
-    part-write-further-end
+    (λ c κs. search needs)
+    (λ c. search needs)
+    (λ c. search needs)
+    (λ c. search needs)
+    (λ c. search needs)
+    (λ c. search needs)
     write-further-requires
-    same-length
+    (λ c. search needs)
     returns)

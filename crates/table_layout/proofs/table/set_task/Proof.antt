@@ -9,35 +9,11 @@ use borrow.Author.Needs.{needs}
 use Rattle.table_layout.proofs.table.set_task.Statement.{statement}
 use Rattle.table_layout.proofs.table.set_task.Tie as tie
 
-place-requires : tie.Need-place-requires
-place-requires c κs = search needs
-
-add-write : tie.Need-add-write
-add-write c = search needs
-
-mul-write : tie.Need-mul-write
-mul-write c = search needs
-
-sub-write : tie.Need-sub-write
-sub-write c = search needs
-
-part-write-start : tie.Need-part-write-start
-part-write-start c = search needs
-
-part-write-end : tie.Need-part-write-end
-part-write-end c = search needs
-
-write-requires : tie.Need-write-requires
-write-requires c κs = search needs
-
-same-length : tie.Need-same-length
-same-length c = search needs
-
 returns : tie.Need-returns
 returns c =
-    let w = c .before .before in
-    let r = w .before .before in
-    let s = r .before .before .before in
+    let w : tie.After-write = search in
+    let r : tie.After-place = search in
+    let s : tie.Start = search in
     let at = r .place .result in
     ap (putMid at (at + recordLength - at) (s .args .table .now)) (w .write .ensures)
     ∙ record-put (s .args .table .now) (recordOf (s .args .new)) (r .place .ensures) refl (s .pre)
@@ -46,12 +22,12 @@ pub set-task-spec : {M : Type 1} → statement M
 set-task-spec =
     tie.close
     (tie.spec
-    place-requires
-    add-write
-    mul-write
-    sub-write
-    part-write-start
-    part-write-end
-    write-requires
-    same-length
+    (λ c κs. search needs)
+    (λ c. search needs)
+    (λ c. search needs)
+    (λ c. search needs)
+    (λ c. search needs)
+    (λ c. search needs)
+    (λ c κs. search needs)
+    (λ c. search needs)
     returns)

@@ -6,41 +6,21 @@ use borrow.Author.Needs.{needs}
 use Rattle.table_layout.proofs.table.task.Statement.{statement}
 use Rattle.table_layout.proofs.table.task.Tie as tie
 
-place-requires : tie.Need-place-requires
-place-requires c κs = search needs
-
-add-read : tie.Need-add-read
-add-read c = search needs
-
-mul-read : tie.Need-mul-read
-mul-read c = search needs
-
-sub-read : tie.Need-sub-read
-sub-read c = search needs
-
-part-read-start : tie.Need-part-read-start
-part-read-start c = search needs
-
-part-read-end : tie.Need-part-read-end
-part-read-end c = search needs
-
-read-requires : tie.Need-read-requires
-read-requires c κs = search needs
-
 returns : tie.Need-returns
 returns c =
-    let r = c .before .before in
-    c .read .ensures ∙ ap structOf (record-part (r .before .before .args .table .now) (r .place .ensures))
+    let start : tie.Start = search in
+    let r : tie.After-place = search in
+    c .read .ensures ∙ ap structOf (record-part (start .args .table .now) (r .place .ensures))
 
 pub task-spec : {M : Type 1} → statement M
 task-spec =
     tie.close
     (tie.spec
-    place-requires
-    add-read
-    mul-read
-    sub-read
-    part-read-start
-    part-read-end
-    read-requires
+    (λ c κs. search needs)
+    (λ c. search needs)
+    (λ c. search needs)
+    (λ c. search needs)
+    (λ c. search needs)
+    (λ c. search needs)
+    (λ c κs. search needs)
     returns)

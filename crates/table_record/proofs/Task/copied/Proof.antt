@@ -1,5 +1,5 @@
 -- `table_record::Task::copied` meets its contract: the four registers, one by one, are the array of them.
-use mathlib.Core.Path.{_≡_, refl}
+use mathlib.Core.Path.{_≡_, refl, ap}
 use mathlib.Core.List.{List, [], _∷_}
 use Prim.Native.Nat.{ℕ}
 use native.Mathlib.Omega.{arith}
@@ -17,25 +17,23 @@ four-elements (a ∷ b ∷ []) e = absurd (omega arith)
 four-elements (a ∷ b ∷ c ∷ []) e = absurd (omega arith)
 four-elements (a ∷ b ∷ c ∷ d ∷ x ∷ xs) e = absurd (omega arith)
 
-element-copy-out-a : tie.Need-element-copy-out-a
-element-copy-out-a c = search needs
-
-element-copy-out-b : tie.Need-element-copy-out-b
-element-copy-out-b c = search needs
-
-element-copy-out-c : tie.Need-element-copy-out-c
-element-copy-out-c c = search needs
-
-element-copy-out-d : tie.Need-element-copy-out-d
-element-copy-out-d c = search needs
-
 returns : tie.Need-returns
 returns c =
-    let t = c .before .before .before .before .before .before .args .t1 in
+    let start : tie.Start = search in
+    let t = start .args .t1 in
     let four : length (t .registers) ≡ 4 = search needs in
-    rw (four-elements (t .registers) four)
+    ap (λ (rs : List ℕ). record {
+      operation = t .operation;
+      step = t .step;
+      side = t .side;
+      argument = t .argument;
+      counted = t .counted;
+      value = t .value;
+      registers = rs;
+      lane = t .lane;
+    }) (four-elements (t .registers) four)
 
 pub copied-spec : {M : Type 1} → statement M
 copied-spec =
     tie.close
-    (tie.spec element-copy-out-a element-copy-out-b element-copy-out-c element-copy-out-d returns)
+    (tie.spec (λ c. search needs) (λ c. search needs) (λ c. search needs) (λ c. search needs) returns)

@@ -7,41 +7,30 @@ use borrow.Author.Needs.{needs}
 use Rattle.table_record.proofs.Task.write.Statement.{statement}
 use Rattle.table_record.proofs.Task.write.Tie as tie
 
-slice-write-words : tie.Need-slice-write-words
-slice-write-words c = search needs
-
-slice-write-words-2 : tie.Need-slice-write-words-2
-slice-write-words-2 c = search needs
-
-slice-write-words-3 : tie.Need-slice-write-words-3
-slice-write-words-3 c = search needs
-
-slice-write-words-4 : tie.Need-slice-write-words-4
-slice-write-words-4 c = search needs
-
 slice-write-words-5 : tie.Need-slice-write-words-5
-slice-write-words-5 c = simp length-set (omega (arith, c .before .before .pre))
+slice-write-words-5 c =
+    let start : tie.Start = search in
+    simp length-set (omega (arith, start .pre))
 
 write-further-requires : tie.Need-write-further-requires
 write-further-requires c κs =
-    let p = c .before .before .before in
+    let p : tie.Start = search in
     (simp length-set (p .pre), call-written (p .args .words .now) (p .pre) (p .args .self))
 
 same-length : tie.Need-same-length
-same-length c = c .before .before .write-further .kept .1 .0 ∙ simp length-set
-
-returns : tie.Need-returns
-returns c = search needs
+same-length c =
+    let after-write-further : tie.After-write-further = search in
+    after-write-further .write-further .kept .1 .0 ∙ simp length-set
 
 pub write-spec : {M : Type 1} → statement M
 write-spec =
     tie.close
     (tie.spec
-    slice-write-words
-    slice-write-words-2
-    slice-write-words-3
-    slice-write-words-4
+    (λ c. search needs)
+    (λ c. search needs)
+    (λ c. search needs)
+    (λ c. search needs)
     slice-write-words-5
     write-further-requires
     same-length
-    returns)
+    (λ c. search needs))

@@ -10,30 +10,24 @@ use borrow.Author.Needs.{needs}
 use Rattle.table_shape.proofs.records.record_ok.Statement.{statement}
 use Rattle.table_shape.proofs.records.record_ok.Tie as tie
 
-is-idle-requires : tie.Need-is-idle-requires
-is-idle-requires c κs = search needs
-
 by-word : (c : tie.After-is-idle) {b : Bool} → c .is-idle .result ≡ b → eqb (c .before .args .t .operation) 0 ≡ b
 by-word c e = idle-number (c .before .args .t .operation) ∙ sym (c .is-idle .ensures) ∙ e
 
-is-fresh-requires : tie.Need-is-fresh-requires
-is-fresh-requires c κs = search needs
-
 returns : tie.Need-returns
 unfolding recordOk
-returns c = let i = c .before in rw (by-word (i .before) (i .if1 .taken)) (c .is-fresh .ensures)
+returns c = let i : tie.Then1 = search in rw (by-word (i .before) (i .if1 .taken)) (c .is-fresh .ensures)
 
 busy-ok-requires : tie.Need-busy-ok-requires
 busy-ok-requires c κs =
-    let i = c .before in
+    let i : tie.After-is-idle = search in
     let t = i .before .args .t in
     let busy = eqb-false (t .operation) 0 (by-word i (c .if1 .left)) in
     (i .before .pre, omega arith)
 
 returns-2 : tie.Need-returns-2
 unfolding recordOk
-returns-2 c = let i = c .before in rw (by-word (i .before) (i .if1 .left)) (c .busy-ok .ensures)
+returns-2 c = let i : tie.Else1 = search in rw (by-word (i .before) (i .if1 .left)) (c .busy-ok .ensures)
 
 pub record-ok-spec : {M : Type 1} → statement M
 record-ok-spec =
-    tie.close (tie.spec is-idle-requires is-fresh-requires returns busy-ok-requires returns-2)
+    tie.close (tie.spec (λ c κs. search needs) (λ c κs. search needs) returns busy-ok-requires returns-2)

@@ -21,42 +21,32 @@ abbrev μ-loop : tie.MeasureT-loop
 loop-holds : tie.Need-loop-holds Inv-loop μ-loop
 loop-holds c = (omega arith, first-start reading (c .before .args .tags) (c .before .args .bytes .now))
 
-mul-take-five : tie.Need-mul-take-five Inv-loop μ-loop
-mul-take-five c = omega arith
-
-take-five-requires : tie.Need-take-five-requires Inv-loop μ-loop
-take-five-requires c κs = omega arith
-
-is-packed-requires : tie.Need-is-packed-requires Inv-loop μ-loop
-is-packed-requires c κs = search needs
-
 returns : tie.Need-returns Inv-loop μ-loop
 returns c =
-    let turn = c .before .before .before in
+    let start : tie.Start Inv-loop μ-loop = search in
+    let after-take-five : tie.After-take-five Inv-loop μ-loop = search in
+    let turn : tie.In-loop Inv-loop μ-loop = search in
     let l = turn .before .loop in
-    let a = turn .before .before .before .args in
-    let tested = c .before .is-packed .ensures ∙ ap isPacked (c .before .before .take-five .ensures) in
+    let a = start .args in
+    let tested = c .before .is-packed .ensures ∙ ap isPacked (after-take-five .take-five .ensures) in
     sym (first-found reading (a .tags) (a .bytes .now) (l .i) (omega arith) tested (c .if1 .taken)) ∙ l .inv .1
-
-add-i : tie.Need-add-i Inv-loop μ-loop
-add-i c = omega arith
-
-loop-less : tie.Need-loop-less Inv-loop μ-loop
-loop-less c = omega arith
 
 loop-again : tie.Need-loop-again Inv-loop μ-loop
 loop-again c =
-    let turn = c .before .before .before in
+    let start : tie.Start Inv-loop μ-loop = search in
+    let after-take-five : tie.After-take-five Inv-loop μ-loop = search in
+    let turn : tie.In-loop Inv-loop μ-loop = search in
     let l = turn .before .loop in
-    let a = turn .before .before .before .args in
-    let tested = c .before .is-packed .ensures ∙ ap isPacked (c .before .before .take-five .ensures) in
+    let a = start .args in
+    let tested = c .before .is-packed .ensures ∙ ap isPacked (after-take-five .take-five .ensures) in
     let next = first-passed reading (a .tags) (a .bytes .now) (l .i) (omega arith) tested (c .if1 .left) in
     (omega arith, rw add-one (next ∙ l .inv .1))
 
 returns-2 : tie.Need-returns-2 Inv-loop μ-loop
 returns-2 c =
+    let start : tie.Start Inv-loop μ-loop = search in
     let l = c .before .loop in
-    let a = c .before .before .before .args in
+    let a = start .args in
     sym (first-none reading (a .tags) (a .bytes .now) (l .i) (omega arith)) ∙ l .inv .1
 
 pub first-bad-spec : {M : Type 1} → statement M
@@ -66,11 +56,11 @@ first-bad-spec =
     Inv-loop
     μ-loop
     loop-holds
-    mul-take-five
-    take-five-requires
-    is-packed-requires
+    (λ c. omega arith)
+    (λ c κs. omega arith)
+    (λ c κs. search needs)
     returns
-    add-i
-    loop-less
+    (λ c. omega arith)
+    (λ c. omega arith)
     loop-again
     returns-2)

@@ -22,54 +22,30 @@ abbrev μ-loop : tie.MeasureT-loop
 loop-holds : tie.Need-loop-holds Inv-loop μ-loop
 loop-holds c = (omega arith, first-start writing (c .before .args .tags) (c .before .args .words .now))
 
-mul-at : tie.Need-mul-at Inv-loop μ-loop
-mul-at c = omega arith
-
-mul-is-tag : tie.Need-mul-is-tag Inv-loop μ-loop
-mul-is-tag c = omega arith
-
-shared-slice-read-is-tag : tie.Need-shared-slice-read-is-tag Inv-loop μ-loop
-shared-slice-read-is-tag c = omega arith
-
-add-is-tag : tie.Need-add-is-tag Inv-loop μ-loop
-add-is-tag c = omega arith
-
-mul-is-tag-2 : tie.Need-mul-is-tag-2 Inv-loop μ-loop
-mul-is-tag-2 c = omega arith
-
-shared-slice-read-is-tag-2 : tie.Need-shared-slice-read-is-tag-2 Inv-loop μ-loop
-shared-slice-read-is-tag-2 c = omega arith
-
-is-tag-requires : tie.Need-is-tag-requires Inv-loop μ-loop
-is-tag-requires c κs = search needs
-
 returns : tie.Need-returns Inv-loop μ-loop
 returns c =
-    let turn = c .before .before .before .before in
+    let start : tie.Start Inv-loop μ-loop = search in
+    let turn : tie.In-loop Inv-loop μ-loop = search in
     let l = turn .before .loop in
-    let a = turn .before .before .before .args in
+    let a = start .args in
     let tested = c .before .is-tag .ensures ∙ words-at isTag (a .words .now) (l .i) in
     sym (first-found writing (a .tags) (a .words .now) (l .i) (omega arith) tested (c .if1 .taken)) ∙ l .inv .1
 
-add-i : tie.Need-add-i Inv-loop μ-loop
-add-i c = omega arith
-
-loop-less : tie.Need-loop-less Inv-loop μ-loop
-loop-less c = omega arith
-
 loop-again : tie.Need-loop-again Inv-loop μ-loop
 loop-again c =
-    let turn = c .before .before .before .before in
+    let start : tie.Start Inv-loop μ-loop = search in
+    let turn : tie.In-loop Inv-loop μ-loop = search in
     let l = turn .before .loop in
-    let a = turn .before .before .before .args in
+    let a = start .args in
     let tested = c .before .is-tag .ensures ∙ words-at isTag (a .words .now) (l .i) in
     let next = first-passed writing (a .tags) (a .words .now) (l .i) (omega arith) tested (c .if1 .left) in
     (omega arith, rw add-one (next ∙ l .inv .1))
 
 returns-2 : tie.Need-returns-2 Inv-loop μ-loop
 returns-2 c =
+    let start : tie.Start Inv-loop μ-loop = search in
     let l = c .before .loop in
-    let a = c .before .before .before .args in
+    let a = start .args in
     sym (first-none writing (a .tags) (a .words .now) (l .i) (omega arith)) ∙ l .inv .1
 
 pub first-bad-spec : {M : Type 1} → statement M
@@ -79,15 +55,15 @@ first-bad-spec =
     Inv-loop
     μ-loop
     loop-holds
-    mul-at
-    mul-is-tag
-    shared-slice-read-is-tag
-    add-is-tag
-    mul-is-tag-2
-    shared-slice-read-is-tag-2
-    is-tag-requires
+    (λ c. omega arith)
+    (λ c. omega arith)
+    (λ c. omega arith)
+    (λ c. omega arith)
+    (λ c. omega arith)
+    (λ c. omega arith)
+    (λ c κs. search needs)
     returns
-    add-i
-    loop-less
+    (λ c. omega arith)
+    (λ c. omega arith)
     loop-again
     returns-2)

@@ -7,18 +7,12 @@ use borrow.Author.Needs.{needs}
 use Rattle.tag_packed.proofs.digits.leading.Statement.{statement}
 use Rattle.tag_packed.proofs.digits.leading.Tie as tie
 
-array-read-wide : tie.Need-array-read-wide
-array-read-wide c = search needs
-
-wide-requires : tie.Need-wide-requires
-wide-requires c κs = search needs
-
 returns : tie.Need-returns
 returns c =
-    let start = c .before in
+    let start : tie.Start = search in
     let digits = start .args .t1 in
     let ten = good-length (eInt w8) 10 digits _ (start .good .0) in
     c .wide .ensures ∙ leading-digit digits ten (start .pre)
 
 pub leading-spec : {M : Type 1} → statement M
-leading-spec = tie.close (tie.spec array-read-wide wide-requires returns)
+leading-spec = tie.close (tie.spec (λ c. search needs) (λ c κs. search needs) returns)

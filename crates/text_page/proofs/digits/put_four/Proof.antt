@@ -4,24 +4,15 @@ use Rattle.text_page.proofs.Laws.Digits.{four-stored}
 use Rattle.text_page.proofs.digits.put_four.Statement.{statement}
 use Rattle.text_page.proofs.digits.put_four.Tie as tie
 
-put-two-requires : tie.Need-put-two-requires
-put-two-requires c κs = search needs
-
-add-put-two : tie.Need-add-put-two
-add-put-two c = search needs
-
-put-two-requires-2 : tie.Need-put-two-requires-2
-put-two-requires-2 c κs = search needs
-
-same-length : tie.Need-same-length
-same-length c = search needs
-
 returns : tie.Need-returns
 returns c =
-    let first = c .before .before .before .before .before .before .put-two in
-    let a = c .before .before .before .before .before .before .before .before .before .args in
-    four-stored (a .out .now) (a .at) (a .n) (first .ensures) (c .before .before .put-two2 .ensures)
+    let start : tie.Start = search in
+    let after-put-two : tie.After-put-two = search in
+    let after-put-two2 : tie.After-put-two2 = search in
+    let first = after-put-two .put-two in
+    let a = start .args in
+    four-stored (a .out .now) (a .at) (a .n) (first .ensures) (after-put-two2 .put-two2 .ensures)
 
 pub put-four-spec : {M : Type 1} → statement M
 put-four-spec =
-    tie.close (tie.spec put-two-requires add-put-two put-two-requires-2 same-length returns)
+    tie.close (tie.spec (λ c κs. search needs) (λ c. search needs) (λ c κs. search needs) (λ c. search needs) returns)

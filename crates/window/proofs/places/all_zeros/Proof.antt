@@ -21,30 +21,21 @@ abbrev μ-loop : tie.MeasureT-loop
 loop-holds : tie.Need-loop-holds Inv-loop μ-loop
 loop-holds c = (omega arith, refl)
 
-mul-gathered : tie.Need-mul-gathered Inv-loop μ-loop
-mul-gathered c = omega arith
-
-shared-slice-read-gathered : tie.Need-shared-slice-read-gathered Inv-loop μ-loop
-shared-slice-read-gathered c = omega arith
-
-add-i : tie.Need-add-i Inv-loop μ-loop
-add-i c = omega arith
-
-loop-less : tie.Need-loop-less Inv-loop μ-loop
-loop-less c = omega arith
-
 loop-again : tie.Need-loop-again Inv-loop μ-loop
 loop-again c =
-    let l = c .before .before .loop in
-    let words = c .before .before .before .args .words .now in (
+    let start : tie.Start Inv-loop μ-loop = search in
+    let at-loop : tie.At-loop Inv-loop μ-loop = search in
+    let l = at-loop .loop in
+    let words = start .args .words .now in (
       omega arith,
       rw add-one (test-passed 0 words (l .i) 0 (l .gathered) refl (omega arith) ∙ l .inv .1),
     )
 
 returns : tie.Need-returns Inv-loop μ-loop
 returns c =
+    let start : tie.Start Inv-loop μ-loop = search in
     let l = c .before .loop in
-    let words = c .before .before .args .words .now in
+    let words = start .args .words .now in
     is-zero (l .gathered) ∙ sym (test-done 0 words (l .i) (l .gathered) (omega arith)) ∙ l .inv .1
 
 pub all-zeros-spec : {M : Type 1} → statement M
@@ -54,9 +45,9 @@ all-zeros-spec =
     Inv-loop
     μ-loop
     loop-holds
-    mul-gathered
-    shared-slice-read-gathered
-    add-i
-    loop-less
+    (λ c. omega arith)
+    (λ c. omega arith)
+    (λ c. omega arith)
+    (λ c. omega arith)
     loop-again
     returns)

@@ -6,12 +6,6 @@ use borrow.Author.Needs.{needs}
 use Rattle.window.proofs.places.go_round.Statement.{statement}
 use Rattle.window.proofs.places.go_round.Tie as tie
 
-add-if1 : tie.Need-add-if1
-add-if1 c = search needs
-
-add-result : tie.Need-add-result
-add-result c = search needs
-
 returns : tie.Need-returns
 returns c = let a = c .before .args in rw (lt-ltb (a .next + 1) (a .width) (omega arith))
 
@@ -19,4 +13,4 @@ returns-2 : tie.Need-returns-2
 returns-2 c = let a = c .before .args in rw (le-ltb (a .next + 1) (a .width) (omega arith))
 
 pub go-round-spec : {M : Type 1} → statement M
-go-round-spec = tie.close (tie.spec add-if1 add-result returns returns-2)
+go-round-spec = tie.close (tie.spec (λ c. search needs) (λ c. search needs) returns returns-2)

@@ -30,13 +30,11 @@ header c = sym (c .before .header-ok .ensures) ∙ not-false (c .before .header-
 ends : (c : tie.Else1) → (4 + fedCount (words c) ≤ length (words c)) × (length (words c) ≤ 4_100)
 ends c = fed-end (words c) (header c)
 
-header-ok-requires : tie.Need-header-ok-requires
-header-ok-requires c κs = search needs
-
 returns : tie.Need-returns
 returns c =
+    let start : tie.Start = search in
     let h = c .before .header-ok in
-    let ws = c .before .before .before .args .window .now in
+    let ws = start .args .window .now in
     let failed = sym (h .ensures) ∙ not-true (h .result) (c .if1 .taken) in
     let no = ap (λ (b : Bool). b && placesOk (fedCount ws) (places ws)) failed in
     (sym no, λ t. clash (cc))
@@ -50,38 +48,35 @@ cast-end c = let e = ends (c .before) in omega (arith, e .0, e .1)
 add-end : tie.Need-add-end
 add-end c = let e = ends (c .before) in omega (arith, e .0, e .1)
 
-sub-tally : tie.Need-sub-tally
-sub-tally c = search needs
-
-part-tally-start : tie.Need-part-tally-start
-part-tally-start c = search needs
-
 part-tally-end : tie.Need-part-tally-end
 part-tally-end c = let e = ends (c .before) in omega (arith, e .0)
 
 tally-requires : tie.Need-tally-requires
-tally-requires c κs = fed-part-short (words (c .before .before)) (header (c .before .before))
+tally-requires c κs =
+    let else1 : tie.Else1 = search in
+    fed-part-short (words else1) (header else1)
 
 mul-all-zeros : tie.Need-mul-all-zeros
-mul-all-zeros c = let e = ends (c .before .before .before) in omega (arith, e .0, e .1)
+mul-all-zeros c =
+    let else1 : tie.Else1 = search in
+    let e = ends else1 in omega (arith, e .0, e .1)
 
 sub-all-zeros : tie.Need-sub-all-zeros
-sub-all-zeros c = let e = ends (c .before .before .before) in omega (arith, e .0)
+sub-all-zeros c =
+    let else1 : tie.Else1 = search in
+    let e = ends else1 in omega (arith, e .0)
 
 part-all-zeros-start : tie.Need-part-all-zeros-start
-part-all-zeros-start c = let e = ends (c .before .before .before) in omega (arith, e .0)
-
-part-all-zeros-end : tie.Need-part-all-zeros-end
-part-all-zeros-end c = search needs
-
-all-zeros-requires : tie.Need-all-zeros-requires
-all-zeros-requires c κs = search needs
+part-all-zeros-start c =
+    let else1 : tie.Else1 = search in
+    let e = ends else1 in omega (arith, e .0)
 
 returns-2 : tie.Need-returns-2
 returns-2 c =
-    let fed = c .before .before .before .tally in
+    let after-tally : tie.After-tally = search in
+    let fed = after-tally .tally in
     let others = c .before .all-zeros in
-    let passed = c .before .before .before .before .before .before in
+    let passed : tie.Else1 = search in
     let ws = words passed in
     let h = header passed in (
       scan-ok ws h (fed-part ws h) (other-part ws h) (fed .ensures .0) (others .ensures),
@@ -92,18 +87,18 @@ pub scan-spec : {M : Type 1} → statement M
 scan-spec =
     tie.close
     (tie.spec
-    header-ok-requires
+    (λ c κs. search needs)
     returns
     shared-slice-read-end
     cast-end
     add-end
-    sub-tally
-    part-tally-start
+    (λ c. search needs)
+    (λ c. search needs)
     part-tally-end
     tally-requires
     mul-all-zeros
     sub-all-zeros
     part-all-zeros-start
-    part-all-zeros-end
-    all-zeros-requires
+    (λ c. search needs)
+    (λ c κs. search needs)
     returns-2)

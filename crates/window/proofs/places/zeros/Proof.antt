@@ -18,15 +18,6 @@ abbrev μ-loop : tie.MeasureT-loop
 loop-holds : tie.Need-loop-holds Inv-loop μ-loop
 loop-holds c = (omega arith, refl, refl)
 
-mul-window : tie.Need-mul-window Inv-loop μ-loop
-mul-window c = omega arith
-
-slice-write-window : tie.Need-slice-write-window Inv-loop μ-loop
-slice-write-window c = omega arith
-
-add-i : tie.Need-add-i Inv-loop μ-loop
-add-i c = omega arith
-
 loop-less : tie.Need-loop-less Inv-loop μ-loop
 loop-less c = simp length-set (omega arith)
 
@@ -44,9 +35,10 @@ same-length c = c .before .loop .inv .1
 
 returns : tie.Need-returns Inv-loop μ-loop
 returns c =
+    let start : tie.Start Inv-loop μ-loop = search in
     let l = c .before .loop in
-    let w = c .before .before .args .window .now in
-    sym (filling-done (l .window) (l .i) (omega arith)) ∙ l .inv .2 ∙ filling-first w (c .before .before .pre)
+    let w = start .args .window .now in
+    sym (filling-done (l .window) (l .i) (omega arith)) ∙ l .inv .2 ∙ filling-first w (start .pre)
 
 pub zeros-spec : {M : Type 1} → statement M
 zeros-spec =
@@ -55,9 +47,9 @@ zeros-spec =
     Inv-loop
     μ-loop
     loop-holds
-    mul-window
-    slice-write-window
-    add-i
+    (λ c. omega arith)
+    (λ c. omega arith)
+    (λ c. omega arith)
     loop-less
     loop-again
     same-length
