@@ -1,10 +1,12 @@
 // The task record by value: its words read and written, and the record with one thing changed. Only this file and the
 // definitions of tasks say where in a record a word stands.
 use machine::Stored;
+ghost use mathlib.Core.Bool.{_&&_};
 ghost use mathlib.Core.Path.{_≡_};
 ghost use Prim.Native.Nat.{_<_};
+ghost use lib.Dec.{eqb};
 ghost use lib.ListN.{length};
-ghost use Rattle.machine.specs.Tasks.{fresh, recordLength, wordsOf};
+ghost use Rattle.machine.specs.Tasks.{fresh, noNode, recordLength, wordsOf};
 ghost use Rattle.machine.specs.Shape.{sameWords};
 ghost use Rattle.table_record.specs.Coded.{
   freshTask,
@@ -27,6 +29,13 @@ pub struct Task {
     pub value: Stored,
     pub registers: [u32; 4],
     pub lane: u32,
+}
+
+// Whether two words are none: compared as one number, so that the compiler makes one compare of them.
+fn are_none(a: u32, b: u32) -> bool
+    ensures { λ r. ⌜ r ≡ eqb a noNode && eqb b noNode ⌝ }
+{
+    a as u64 + 4_294_967_296 * (b as u64) == 281_470_681_808_895
 }
 
 impl Task {
@@ -143,10 +152,8 @@ impl Task {
             & (self.counted == 0)
             & (value.word == 0)
             & (value.digit == 0)
-            & (self.registers[Task::A] == Task::NONE)
-            & (self.registers[Task::B] == Task::NONE)
-            & (self.registers[Task::C] == Task::NONE)
-            & (self.registers[Task::D] == Task::NONE)
+            & are_none(self.registers[Task::A], self.registers[Task::B])
+            & are_none(self.registers[Task::C], self.registers[Task::D])
             & (self.lane == 0)
     }
 

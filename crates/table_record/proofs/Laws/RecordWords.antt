@@ -2,8 +2,10 @@
 use mathlib.Core.Path.{_≡_, refl, sym, ap, _∙_, subst}
 use mathlib.Core.Bool.{Bool, _&&_, and-true, and-assoc}
 use mathlib.Core.List.{List, [], _∷_}
-use Prim.Native.Nat.{ℕ, zero, suc, _+_, _-_}
+use Prim.Native.Nat.{ℕ, zero, suc, _+_, _*_, _-_, _<_}
+use native.Mathlib.Decide.{ℕ-discrete}
 use native.Mathlib.Omega.{arith}
+use borrow.Author.Tests.{ne-eqb}
 use lib.Dec.{eqb}
 use lib.ListN.{length, getD, set, drop, drop-of-length-le}
 use lib.Seq.{drop-cons}
@@ -76,12 +78,25 @@ isFresh t =
     && eqb (t .counted) 0
     && eqb (t .value .word) 0
     && eqb (t .value .digit) 0
-    && eqb (getD (t .registers) 0 0) noNode
-    && eqb (getD (t .registers) 1 0) noNode
-    && eqb (getD (t .registers) 2 0) noNode
-    && eqb (getD (t .registers) 3 0) noNode
+    && (eqb (getD (t .registers) 0 0) noNode && eqb (getD (t .registers) 1 0) noNode)
+    && (eqb (getD (t .registers) 2 0) noNode && eqb (getD (t .registers) 3 0) noNode)
     && eqb (t .lane) 0
 
 pub fresh-words : (t : Tasks.Task) → isFresh t ≡ sameWords (recordOf t) (wordsOf fresh)
 unfolding sameWords
 fresh-words t = simp (and-assoc, and-true)
+
+-- Two words are none where the number of 64 bits is that of two nones.
+pub pair-none : (a b : ℕ) → a < 4_294_967_296 → b < 4_294_967_296
+    → eqb (a + 4_294_967_296 * b) 281_470_681_808_895 ≡ eqb a noNode && eqb b noNode
+pair-none a b a-low b-low = go (ℕ-discrete a noNode) (ℕ-discrete b noNode)
+  where
+    go : Dec (a ≡ noNode) → Dec (b ≡ noNode)
+        → eqb (a + 4_294_967_296 * b) 281_470_681_808_895 ≡ eqb a noNode && eqb b noNode
+    go (yes a-none) (yes b-none) = rw (a-none, b-none) refl
+    go (yes a-none) (no b-some) =
+        ne-eqb (a + 4_294_967_296 * b) 281_470_681_808_895 (λ e. b-some (omega (arith, e, a-none)))
+        ∙ rw (a-none, ne-eqb b noNode b-some) refl
+    go (no a-some) b-any =
+        ne-eqb (a + 4_294_967_296 * b) 281_470_681_808_895 (λ e. a-some (omega (arith, e)))
+        ∙ rw (ne-eqb a noNode a-some) refl

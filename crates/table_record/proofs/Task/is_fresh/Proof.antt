@@ -7,7 +7,9 @@ use Rattle.table_record.proofs.Task.is_fresh.Tie as tie
 returns : tie.Need-returns
 returns c =
     let start : tie.Start = search in
-    fresh-words (start .args .t1)
+    let ab : tie.After-are-none = search in
+    let cd : tie.After-are-none2 = search in
+    rw (ab .are-none .ensures, cd .are-none2 .ensures) (fresh-words (start .args .t1))
 
 pub is-fresh-spec : {M : Type 1} → statement M
 is-fresh-spec =
@@ -15,6 +17,8 @@ is-fresh-spec =
     (tie.spec
     (λ c. search needs)
     (λ c. search needs)
+    (λ c κs. search needs)
     (λ c. search needs)
     (λ c. search needs)
+    (λ c κs. search needs)
     returns)
