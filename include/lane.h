@@ -385,7 +385,7 @@ uint32_t lane_begin_record(struct lane_record *record, const uint32_t *table, si
 /*
  * Makes one tick of a busy task. If the tick takes a free slot, it is the first one from `hint` (below the number of
  * slots) upward, going round. 0 always works: whether a slot is found does not depend on the hint. The slot after the
- * one last taken shortens the search, by a quarter to two fifths of the tick at 128 to 1,024 slots: docs/USE.md says
+ * one last taken shortens the search, by about a sixth of the tick at 128 to 1,024 slots: docs/USE.md says
  * how a caller keeps it.
  * Returns LANE_KIND: the kind; LANE_VALUE: the tag for LANE_BAG, the refusal (3, 4, 5, 9, 10, 11) for LANE_REFUSED,
  * else 0; that is the kind times 2^40 plus the value. Writes the tick count, the task's words and what this one tick of
