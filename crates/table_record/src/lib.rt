@@ -31,7 +31,8 @@ pub struct Task {
     pub lane: u32,
 }
 
-// Whether two words are none: compared as one number, so that the compiler makes one compare of them.
+// Whether two words are none: compared as one number of 64 bits with that of two nones, 65,535 times 2^32 + 1, so that
+// the compiler makes one compare of them.
 fn are_none(a: u32, b: u32) -> bool
     ensures { λ r. ⌜ r ≡ eqb a noNode && eqb b noNode ⌝ }
 {
