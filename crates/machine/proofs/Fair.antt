@@ -1,5 +1,4 @@
--- Request 2026-07: a busy task gets its tick within T dispatches. Each one that ticks another task call-comes nearer to
--- it.
+-- Request 2026-07: a busy task gets its tick within T dispatches. Each one that ticks another task comes nearer to it.
 use mathlib.Core.Path.{_≡_, refl, sym, ap, _∙_, subst}
 use mathlib.Core.Logic.{_≢_, inl, inr}
 use mathlib.Core.Bool.{Bool, true, false}
@@ -7,49 +6,19 @@ use mathlib.Core.List.{List, [], _∷_}
 use mathlib.Core.Option.{Option, some, none}
 use Prim.Native.Nat.{ℕ, zero, suc, _+_, _<_, _≤_}
 use native.Mathlib.Omega.{arith}
-use native.Mathlib.Decide.{ℕ-discrete, decLt, decLe}
 use Rattle.machine.specs.declared.Dispatch.the-variants.{Answered}
-use Rattle.machine.specs.Round.{following, firstFrom}
-use Rattle.machine.specs.Values.{Value-discrete, decode}
-use Rattle.machine.specs.Steps.{stepIn, stepOf, isStepIn}
+use Rattle.machine.specs.Round.{following}
 use Rattle.machine.specs.Tasks.{Task}
-use Rattle.machine.specs.Table.{taskCount, dispatched, hat, link, value, task, setDispatched}
-use Rattle.machine.specs.Shape.{
-  allBelow,
-  sameWords,
-  nodeOk,
-  busyOk,
-  recordOk,
-  shapeOk,
-  WellFormed,
-  sizesOf,
-  WellSized,
-}
-use Rattle.machine.specs.Allocate.{
-  heldFrom,
-  hatsFrom,
-  roots,
-  mark,
-  markAll,
-  visit,
-  visitFrom,
-  marked,
-  firstUnmarked,
-  allocate,
-}
-use Rattle.machine.specs.Lines.{writeAll, dcas, act}
+use Rattle.machine.specs.Table.{taskCount, dispatched, task, setDispatched}
+use Rattle.machine.specs.Shape.{WellFormed, sizesOf, WellSized}
 use Rattle.machine.specs.Answers.{refusalOf, dispatchRefusalOf, dispatchGoesOn}
 use Rattle.machine.specs.Calls.{
   startRefusal,
   tickRefusal,
   changed,
-  times,
-  startNodes,
   startWords,
   start,
-  begin,
   effectOf,
-  applied,
   Ticked,
   tickOn,
   tick,
@@ -57,8 +26,6 @@ use Rattle.machine.specs.Calls.{
   isBusyTask,
   nextBusy,
   Dispatched,
-  dispatchTo,
-  dispatchOn,
   dispatch,
   dispatches,
   dispatchesMade,
@@ -66,7 +33,6 @@ use Rattle.machine.specs.Calls.{
 }
 use Rattle.machine.specs.Demand3.{Call, dispatch-call, after}
 use Rattle.machine.specs.Kinds.{Asked, a-start, a-begin, ticks-of, dispatches-with, a-look, asked, Did}
-use Rattle.machine.specs.Begun.{afterAll}
 use Rattle.machine.specs.Fair.{
   LeavesDispatched,
   OthersLeaveDispatched,
@@ -86,10 +52,6 @@ use Rattle.machine.specs.Fair.{
   ends-first,
   still-busy,
   FairUnlessEnded,
-  turns,
-  beginPops,
-  numbersFrom,
-  LastOfAll,
 }
 use Rattle.machine.proofs.Basics.Contradiction.{clash, refute, equal?}
 use Rattle.machine.proofs.Basics.Tests.{test-passed, tests-left}
@@ -420,12 +382,3 @@ fair ws passes k calls B unrefused enough =
         → isBusyTask ws k ≡ true
     first [] B enough one = absurd (omega arith)
     first (c ∷ cs) B enough one = B .0
-
--- ---- T - 1 dispatches are not enough.
-pub last-of-all : LastOfAll
-unfolding turns beginPops numbersFrom afterAll hat hatsFrom startNodes firstFrom dispatchTo dispatchOn dispatch
-    ℕ-discrete decLt decLe
-    Value-discrete decode stepIn stepOf isStepIn link value task allBelow sameWords nodeOk busyOk recordOk shapeOk
-    heldFrom roots mark markAll visit visitFrom marked firstUnmarked allocate writeAll dcas act times startWords start
-    begin effectOf applied tickOn tick
-last-of-all = refl

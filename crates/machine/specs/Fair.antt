@@ -1,18 +1,14 @@
 -- Request 2026-07: a busy task gets its tick within T dispatches, in every accepted table, whatever calls are between.
 use mathlib.Core.Path.{_≡_}
 use mathlib.Core.Bool.{true, false}
-use mathlib.Core.List.{List, [], _∷_, map}
+use mathlib.Core.List.{List, [], _∷_}
 use mathlib.Core.Option.{Option, some, none}
-use Prim.Native.Nat.{ℕ, zero, suc, _+_, _≤_, _<_}
+use Prim.Native.Nat.{ℕ, _+_, _≤_, _<_}
 use Rattle.machine.specs.declared.Dispatch.the-variants.{Answered}
-use Rattle.machine.specs.Sides.{left, sideNumber}
-use Rattle.machine.specs.Values.{stored}
-use Rattle.machine.specs.Operations.{pop, operationNumber}
 use Rattle.machine.specs.Table.{taskCount, dispatched, setDispatched}
 use Rattle.machine.specs.Answers.{refusalOf, dispatchRefusalOf}
 use Rattle.machine.specs.Calls.{
   tableRefusal,
-  startWords,
   tick,
   isBusyTask,
   Dispatched,
@@ -20,9 +16,8 @@ use Rattle.machine.specs.Calls.{
   dispatches,
   dispatchesMade,
 }
-use Rattle.machine.specs.Demand3.{Call, begin-call, after}
+use Rattle.machine.specs.Demand3.{Call, after}
 use Rattle.machine.specs.Kinds.{Asked, a-start, a-begin, ticks-of, dispatches-with, a-look, asked}
-use Rattle.machine.specs.Begun.{afterAll}
 
 -- ---- The task last dispatched.
 
@@ -142,28 +137,3 @@ FairUnlessEnded =
     → NoneRefused calls ws
     → taskCount ws ≤ dispatchCount calls ws
     → TickedOrEnded k calls ws
-
--- ---- T - 1 dispatches are not enough.
-
--- The tasks last dispatched after each of n dispatches with hint 0.
-unfoldable pub turns : (n : ℕ) → List ℕ → List ℕ
-turns zero ws = []
-turns (suc n) ws = let vs = dispatch ws 0 .words in dispatched vs ∷ turns n vs
-
--- Pops begun for tasks k, k + 1, .., n of them.
-unfoldable pub beginPops : (n k : ℕ) → List Call
-beginPops zero k = []
-beginPops (suc n) k =
-    begin-call k 0 (operationNumber pop) (sideNumber left) (stored 0) ∷ beginPops n (suc k)
-
--- The numbers from k on, n of them.
-unfoldable pub numbersFrom : (n k : ℕ) → List ℕ
-numbersFrom zero k = []
-numbersFrom (suc n) k = k ∷ numbersFrom n (suc k)
-
--- Of T tasks, all busy since the start, each gets its tick in turn, and the last one at the T-th dispatch: for every T
--- that a table may have.
-abbrev pub LastOfAll : Type 0
-LastOfAll =
-    map (λ T. turns T (afterAll (beginPops T 0) (startWords 2 T 0 1))) (numbersFrom 16 1)
-    ≡ map (λ T. numbersFrom T 0) (numbersFrom 16 1)

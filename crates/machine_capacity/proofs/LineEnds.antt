@@ -72,7 +72,7 @@ module _ {held : ℕ → Bool} {class : ℕ → Class} {ℓ : ℕ} {s o : Side} 
       → RemoversAfter held class ℓ s o m (duty st) t (through x t e)
   duty-past {st} e u h = ok-through (RemoversAfter held class ℓ s o m (duty st) t) (λ _. duty-stays e u) h
 
-  -- A task without a duty duty-goes to a step without a duty, and writes nothing.
+  -- A task without a duty goes to a step without a duty, and writes nothing.
   pub duty-off : {t' : Task} {a : Answer} → duty (t' .step) ≡ no-duty
       → RemoversAfter held class ℓ s o m no-duty t (record { writes = []; task = t'; answer = a })
   duty-off {t'} e =
@@ -82,7 +82,7 @@ module _ {held : ℕ → Bool} {class : ℕ → Class} {ℓ : ℕ} {s o : Side} 
         sure = subst (λ (d : Duty). Sure d s m t') (sym e) tt;
       }
 
-  -- The task duty-goes on to a step with a duty of its own, and writes nothing.
+  -- The task goes on to a step with a duty of its own, and writes nothing.
   pub duty-goes : (d : Duty) {t' : Task} {a : Answer}
       → Sure (duty (t' .step)) s m t'
       → ((μ : Mark) (n : ℕ) → Cuts d μ t n (m .out n) → Cuts (duty (t' .step)) μ t' n (m .out n))

@@ -1,3 +1,4 @@
+pub mod LastOfAll
 pub mod Solo
 pub mod LockFree
 pub mod CopiesPutOff

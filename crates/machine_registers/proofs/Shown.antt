@@ -1,5 +1,5 @@
--- Nothing in the columns of Registers.antt is too much: everywhere-at use shows in the line's effect for some table,
--- and everywhere-at way on is gone for some table.
+-- Nothing in the columns of Registers.antt is too much: each use shows in the line's effect for some table, and each
+-- way on is gone for some table.
 use mathlib.Core.Path.{_≡_, refl, sym, ap, _∙_}
 use mathlib.Core.Logic.{_≢_, inl, inr}
 use mathlib.Core.Bool.{Bool, true, false, not, _&&_, _||_, Bool·beq}
@@ -159,7 +159,7 @@ ways-tried : (st : Step) → everyWay (ways st) (wayTried st) ≡ true
 unfolding act dcas ℕ-discrete Value-discrete
 ways-tried = each-step (λ st. everyWay (ways st) (wayTried st)) refl
 
--- ---- Each use and everywhere-at way.
+-- ---- Each use and each way.
 differs-from : (st : Step) (r : Register) (x : ℕ) (a : Sample) → differsAt st r x a ≡ true → UseShows st r
 differs-from st r x a d =
     record {

@@ -9,7 +9,15 @@ ghost use Prim.Native.Nat.{_<_};
 ghost use Rattle.machine.specs.Sides.{sideOf};
 ghost use Rattle.machine.specs.Values.{number, bagOk};
 ghost use Rattle.machine.specs.Table.{nodePart};
-ghost use Rattle.table_layout.specs.Words.{HoldsNodes, HoldsNode, linkIn, setLinkIn, storedIn, setStoredIn, setNodeIn};
+ghost use Rattle.table_layout.specs.Words.{
+  HoldsNodes,
+  HoldsNode,
+  linkIn,
+  setLinkIn,
+  storedIn,
+  setStoredIn,
+  setNodeIn,
+};
 
 // They of a table.
 pub fn part(table: &[u32]) -> &[u32]

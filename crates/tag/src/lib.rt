@@ -46,7 +46,8 @@ fn twos(digit: u32, low: u32) -> [u8; 5]
     requires { ⌜ (digit ≤ 9) × (low < billion) ⌝ }
     ensures { λ r.
         let tag = tagOf digit low in
-        ⌜ r ≡ tag / 100_000_000 % 100 ∷ tag / 1_000_000 % 100 ∷ tag / 10_000 % 100 ∷ tag / 100 % 100 ∷ tag % 100 ∷ [] ⌝ }
+        ⌜ r ≡ tag / 100_000_000 % 100 ∷ tag / 1_000_000 % 100 ∷ tag / 10_000 % 100
+        ∷ tag / 100 % 100 ∷ tag % 100 ∷ [] ⌝ }
 {
     let upper = (low / 10_000 % 10_000) as u16;
     let lower = (low % 10_000) as u16;

@@ -66,7 +66,7 @@ module _ (ws : List ℕ) (x left : ℕ) (counted : countOf (ahead ws x) ≡ some
   pub taken-long : (n : ℕ) → n ≤ left → length (take n tags) ≡ n
   taken-long n h = length-take-le n tags (omega (arith, long))
 
-  -- After the tags before a place, the walked-others are ahead.
+  -- After the tags before a place, the others are ahead.
   others-ahead : (n : ℕ) → ahead ws (nodeAfter ws (min left n) x) ≡ some (drop n tags)
   others-ahead n =
       let e : min left n ≡ min n (length tags) = omega (arith, long) in

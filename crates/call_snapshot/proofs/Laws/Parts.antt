@@ -1,5 +1,4 @@
--- The parts that the code lends, put together: header and records copied, and the nodes' words written parts-between
--- them.
+-- The parts that the code lends, put together: header and records copied, and the nodes' words written between them.
 use mathlib.Core.Path.{_≡_, sym, ap, _∙_}
 use mathlib.Core.Bool.{_&&_}
 use mathlib.Core.List.{List, [], _++_, append-nil, append-assoc}
@@ -52,7 +51,7 @@ module _ (S : ℕ) (from to : List ℕ) (enough : nodeAt S ≤ length from) (sam
       ∙ ap (λ (l : List ℕ). (take (nodeAt 0) from ++ nodes) ++ l) rest
       ∙ append-assoc (take (nodeAt 0) from) nodes (drop (nodeAt S) from)
 
-  -- Words written parts-between them.
+  -- Words written between them.
   pub parts-between : (ys : List ℕ) {first end : ℕ} → first ≡ nodeAt 0 → end ≡ nodeAt S
       → putMid first (end - first) (withEnds S from to) ys ≡ take (nodeAt 0) from ++ (ys ++ drop (nodeAt S) from)
   parts-between ys {first} {end} at-first at =

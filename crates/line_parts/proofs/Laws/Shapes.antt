@@ -1,4 +1,4 @@
--- The shapes that several lines share, over the definitions: a link link-followed, and a step by a mark.
+-- The shapes that several lines share, over the definitions: a link followed, and a step by a mark.
 use mathlib.Core.Path.{_≡_, refl, ap, _∙_}
 use mathlib.Core.List.{List}
 use Prim.Native.Nat.{ℕ}

@@ -15,14 +15,14 @@ decided-no : {P : Type 0} (d : Dec P) (h : ¬ P) → d ≡ no h
 decided-no (yes g) h = absurd (h g)
 decided-no (no g) h = ap no (¬-prop g h)
 
--- Two numbers known to be test-equal, or not.
+-- Two numbers known to be equal, or not.
 pub test-equal : {x y : ℕ} (h : x ≡ y) → (x ≟ y) ≡ yes h
 test-equal {x} {y} h = decided-yes (ℕ-set x y) (x ≟ y) h
 
 pub test-unequal : {x y : ℕ} (h : x ≢ y) → (x ≟ y) ≡ no h
 test-unequal {x} {y} h = decided-no (x ≟ y) h
 
--- Two values known to be test-equal, or not.
+-- Two values known to be equal, or not.
 pub equalᵛ : {u v : Value} (h : u ≡ v) → (u ≟ᵛ v) ≡ yes h
 equalᵛ {u} {v} h = decided-yes (hedberg Value-discrete u v) (u ≟ᵛ v) h
 

@@ -41,7 +41,7 @@ module _ (n k : ℕ) (is-below : k < n) where
         | inr l ↦ rw (if-no (k <? i) (n + k - i) (k - i) (λ m. omega arith)) (omega arith)
       ]
 
-  -- One step brings it following-nearer, where it is not there.
+  -- One step brings it nearer, where it is not there.
   pub following-nearer : (i : ℕ) → i < n → i ≢ k → suc (away n (following n i) k) ≡ away n i k
   following-nearer i h ne =
       elim (less? k i) [
@@ -107,7 +107,7 @@ module _ (n : ℕ) (test : ℕ → Bool) where
       go false q later f (inl same) = rw (← same) q
       go false q later f (inr ne) = later f k l (omega (arith, following-nearer n k l i h ne))
 
-  -- What is found is below n; and a number that passes is found, or is following-nearer from there on.
+  -- What is found is below n; and a number that passes is found, or is nearer from there on.
   pub first-below : (m i : ℕ) {j : ℕ} → i < n → firstFrom n test m i ≡ some j → j < n
   unfolding firstFrom
   first-below zero i h e = clash (cc)
@@ -141,7 +141,7 @@ module _ (n : ℕ) (test : ℕ → Bool) where
       go false q later f (inl same) = clash (cc)
       go false q later f (inr d) = let step = following-nearer n k l i h d in omega (arith, later f)
 
-  -- No number that passes is following-nearer than the one found.
+  -- No number that passes is nearer than the one found.
   first-nearest : (m i : ℕ) {j : ℕ} → i < n → firstFrom n test m i ≡ some j → (k : ℕ) → k < n → test k ≡ true
       → away n i j ≤ away n i k
   unfolding firstFrom

@@ -1,5 +1,5 @@
--- Each call is of its kind: what it leaves, and what it did, are what call-comes of a call that asks for the same. So
--- what starts, begins, ticks and dispatches keep, every call keeps.
+-- Each call is of its kind: what it leaves, and what it did, are what comes of a call that asks for the same. So what
+-- starts, begins, ticks and dispatches keep, every call keeps.
 use mathlib.Core.Path.{_≡_, refl, sym, ap, _∙_, subst}
 use mathlib.Core.Bool.{Bool, true, false}
 use mathlib.Core.List.{List, [], _∷_}
@@ -90,7 +90,7 @@ use Rattle.machine.proofs.Basics.Contradiction.{clash}
 use Rattle.machine.proofs.Words.RunLaws.{first-goes-on, first-is-last}
 use Rattle.machine.proofs.Words.DispatchLaws.{one-dispatch, kept-in-dispatches}
 
--- What call-comes of a call on the table ws, by what it asks for: the table that it leaves, and what it did. A look, a
+-- What comes of a call on the table ws, by what it asks for: the table that it leaves, and what it did. A look, a
 -- refused start and a refused begin leave it alone, and so does a begin over a lent record.
 pub data Comes (ws : List ℕ) : Asked → (vs : List ℕ) → Did → Type 0 where
   left-alone : (a : Asked) → dispatchesIn a ≡ none → Comes ws a ws (ticked [])

@@ -114,7 +114,7 @@ ends-not-going Yes e = refl
 ends-not-going No e = refl
 ends-not-going (Refused n) e = clash (cc)
 
--- The call-rows after an answer.
+-- The rows after an answer.
 pub record RowsThen (n : Note) (L : ℕ) (r : ℕ → List ℕ) (a : Answer) (vs : List ℕ) : Type 0 where
   pub bags : List ℕ
   pub given : answered n a (r (n .lane)) ≡ some bags

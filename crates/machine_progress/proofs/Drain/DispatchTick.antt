@@ -179,7 +179,7 @@ module _ {ws : List ℕ} (X : Led ws) (k h : ℕ) (p : tickRefusal ws k h ≡ no
           | inr ne ↦ others-then j ne
         ])
 
-    -- The potential afterwards allows dispatch-fewer ticks, where c tasks are in a call and i are not.
+    -- The potential afterwards allows fewer ticks, where c tasks are in a call and i are not.
     pub record Fewer (c i D P : ℕ) : Type 0 where
       pub D' : ℕ
       pub P' : ℕ

@@ -158,7 +158,7 @@ module _ (held : ℕ → Bool) (k : ℕ) {L : ℕ} {s o : Side} {m : View} {clas
       line-past (some _ (h .relies))
       (line-past (head-some (h .chain) (S .none-free)) (line24-done h))
 
-  -- ---- Line 25: the chain joins the class of A; then a push line-continues on and an add answers.
+  -- ---- Line 25: the chain joins the class of A; then a push goes on and an add answers.
   module _ (l : List Write) {class' : ℕ → Class} (D' : Lanes L s o (written (t .lane) s l m) class' r)
       (G : GuaranteesIn held k s o m class (written (t .lane) s l m) class')
       (none-new : (x : ℕ) → class' x ≢ new k) (b : Belongs growing (t .operation)) where

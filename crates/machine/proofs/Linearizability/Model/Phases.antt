@@ -1,4 +1,4 @@
--- The steps by phase: whose they are, and whether the task has a chain; with what everywhere-at step relies on.
+-- The steps by phase: whose they are, and whether the task has a chain; with what each step relies on.
 use mathlib.Core.Path.{_≡_, refl}
 use mathlib.Core.Logic.{_⊎_}
 use mathlib.Core.Bool.{true}
