@@ -13,7 +13,7 @@ pub record Example : Type 0 where
   pub is : Verdict
 
 infix 80 _comes-to_
-abbrev pub _comes-to_ : List ℕ → Verdict → Example
+abbrev _comes-to_ : List ℕ → Verdict → Example
 list comes-to v = record { given = verdict list; is = v }
 
 -- n airlines, with the codes from c on.
@@ -66,7 +66,7 @@ pub record Sending : Type 0 where
   pub is : Sent
 
 infix 80 _goes_
-abbrev pub _goes_ : (tag : ℕ) → Sent → Sending
+abbrev _goes_ : (tag : ℕ) → Sent → Sending
 tag goes s = record {
   given = sent (verdict (bytes "(airline (code 125) left)\n(airline (code 012) left)\n(others right)\n")) tag;
   is = s;

@@ -19,7 +19,7 @@ use Rattle.machine.specs.declared.ByList.the-variants.{Replied, Faulty}
 use Rattle.machine.specs.PushByList.{sideAt, PushedByList, repliedOf, pushByList}
 use Rattle.call_push_by_list.specs.Examples.{good, bad, fresh}
 
-abbrev pub Pusher : Type 0
+abbrev Pusher : Type 0
 Pusher = (list ws : List ℕ) (k lane : ℕ) (argument : Stored) → PushedByList
 
 -- 3 and 4 are tested before the list.
@@ -72,7 +72,7 @@ case P list table argument r w =
       wrong-comes-to = w;
     }
 
-abbrev pub comesTo : Pusher → Case → Outcome
+abbrev comesTo : Pusher → Case → Outcome
 comesTo P c =
     let pushed = P (c .list) (c .table) 0 0 (c .argument) in
     record { answer = pushed .answer; side = task (pushed .words) 0 .side }

@@ -22,10 +22,10 @@ pairOf high low = high * 2 ^ 32 + low
 
 -- Which library this is: the format of its tables, and its version, major times 1,000,000, minor times 1,000 and the
 -- patch.
-abbrev pub tableFormat : ℕ
+abbrev tableFormat : ℕ
 tableFormat = 4
 
-abbrev pub versionNumber : ℕ
+abbrev versionNumber : ℕ
 versionNumber = 6_006_000
 
 abbrev pub libraryVersion : ℕ

@@ -100,7 +100,7 @@ history (c ∷ cs) ws η = history cs (after c ws) (recordDid η (did c (given c
 -- ---- The bags.
 
 -- A finished operation is this one, on lane l, with an answer of this kind.
-abbrev pub isOf : (l : ℕ) → Operation → Answer → Finished → Bool
+abbrev isOf : (l : ℕ) → Operation → Answer → Finished → Bool
 isOf l op a f =
     eqb (operationNumber (f .note .operation)) (operationNumber op)
     && eqb (kindOf (f .answer)) (kindOf a)

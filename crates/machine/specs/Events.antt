@@ -28,7 +28,7 @@ pub data Event : Type 0 where
   write-event : (words : List ℕ) → Event
 
 -- What an event gives back, and the table as it leaves it.
-abbrev pub EventGiven : Event → Type 0
+abbrev EventGiven : Event → Type 0
 EventGiven (call-event c) = Given c
 EventGiven (take-event out) = Reply × List ℕ
 EventGiven (put-event ss) = Reply

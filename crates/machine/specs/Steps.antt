@@ -55,7 +55,7 @@ stepIn [] n = rest
 stepIn (st ∷ sts) n = let found = stepIn sts n in if n ≟ stepNumber st then st else found
 
 -- 01's list, operation by operation.
-abbrev pub addSteps : List Step
+abbrev addSteps : List Step
 addSteps =
     line28 ∷ line31 ∷ line15 ∷ line17 ∷ line18 ∷ line24 ∷ line25 ∷ line67 ∷ line68 ∷ line69 ∷ line70 ∷ line72 ∷ []
 

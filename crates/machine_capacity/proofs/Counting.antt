@@ -69,7 +69,7 @@ addAll p f zero = p
 addAll p f (suc N) = update (addAll p f N) (f N) true
 
 module _ (p : ℕ → Bool) (f : ℕ → ℕ) where
-  pub added-is : (N x : ℕ) → addAll p f N x ≡ true → (p x ≡ true) ⊎ ((i : ℕ) × (i < N) × (f i ≡ x))
+  added-is : (N x : ℕ) → addAll p f N x ≡ true → (p x ≡ true) ⊎ ((i : ℕ) × (i < N) × (f i ≡ x))
   unfolding addAll
   added-is zero x h = inl h
   added-is (suc N) x h =
@@ -82,7 +82,7 @@ module _ (p : ℕ → Bool) (f : ℕ → ℕ) where
             ]
       ]
 
-  pub added-keeps : (N x : ℕ) → p x ≡ true → addAll p f N x ≡ true
+  added-keeps : (N x : ℕ) → p x ≡ true → addAll p f N x ≡ true
   unfolding addAll
   added-keeps zero x h = h
   added-keeps (suc N) x h =
@@ -91,7 +91,7 @@ module _ (p : ℕ → Bool) (f : ℕ → ℕ) where
         | it-is-not ne q ↦ q ∙ added-keeps N x h
       ]
 
-  pub added-has : (N i : ℕ) → i < N → addAll p f N (f i) ≡ true
+  added-has : (N i : ℕ) → i < N → addAll p f N (f i) ≡ true
   unfolding addAll
   added-has zero i l = absurd (omega arith)
   added-has (suc N) i l =
@@ -134,7 +134,7 @@ addLanes p f N (suc L) = addAll (addLanes p f N L) (f L) (N L)
 
 module _ (p : ℕ → Bool) (f : ℕ → ℕ → ℕ) (N : ℕ → ℕ) where
   -- One of the numbers of the first L lanes.
-  abbrev pub OfLane : (L x : ℕ) → Type 0
+  abbrev OfLane : (L x : ℕ) → Type 0
   OfLane L x = (ℓ : ℕ) × (ℓ < L) × ((i : ℕ) × (i < N ℓ) × (f ℓ i ≡ x))
 
   pub lanes-is : (L x : ℕ) → addLanes p f N L x ≡ true → (p x ≡ true) ⊎ OfLane L x

@@ -56,7 +56,7 @@ module _ {ws : List ℕ} (B : Begun ws) (idle-now : Idle ws) where
   some-spare : (ℓ : ℕ) → ℓ < laneCount ws → (s : Side) → 1 ≤ spareOf s (tableOf .shape ℓ)
   some-spare ℓ h s = idle-end (tableOf .idle-lane ℓ h) s .spares .some
 
-  abbrev pub roomOf : (ℓ : ℕ) → Side → ℕ
+  abbrev roomOf : (ℓ : ℕ) → Side → ℕ
   roomOf ℓ s = spareOf s (tableOf .shape ℓ) + spurOf s (tableOf .shape ℓ) + countOf .free - 1
 
   -- What it leaves, and whether there was room.
@@ -89,13 +89,13 @@ module _ {ws : List ℕ} (B : Begun ws) (idle-now : Idle ws) where
       }
 
   -- "Full" says that there was no room, "pushed" that there was.
-  pub full-room : {ℓ : ℕ} {s : Side} {a : Answer} {vs : List ℕ} → PushDone ℓ s a vs → a ≡ Full → roomOf ℓ s ≡ 0
+  full-room : {ℓ : ℕ} {s : Side} {a : Answer} {vs : List ℕ} → PushDone ℓ s a vs → a ≡ Full → roomOf ℓ s ≡ 0
   full-room D e = elim (D .by-room) [ Outcomes.one-more n m m' p k ↦ clash (cc (D .answers)) | no-room m m' p k ↦ m ]
 
 -- The room afterwards.
 module _ {ws vs : List ℕ} (B : Begun ws) (idle-now : Idle ws) {ℓ : ℕ} {s : Side} {a : Answer}
     (D : PushDone B idle-now ℓ s a vs) where
-  abbrev pub begun-then : Begun vs
+  abbrev begun-then : Begun vs
   begun-then = D .left-idle .begun
 
   abbrev pub idle-then : Idle vs

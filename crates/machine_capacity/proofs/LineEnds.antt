@@ -52,7 +52,7 @@ read-off o (Y z) = refl
 
 module _ {held : ℕ → Bool} {class : ℕ → Class} {ℓ : ℕ} {s o : Side} {m : View} {t : Task} where
   -- A tick that is refused leaves the task with its duty.
-  pub duty-stays : {st : Step} → t .step ≡ st → Sure (duty st) s m t
+  duty-stays : {st : Step} → t .step ≡ st → Sure (duty st) s m t
       → RemoversAfter held class ℓ s o m (duty st) t (refused t)
   duty-stays {st} e u =
       record {

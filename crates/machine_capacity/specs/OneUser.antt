@@ -34,7 +34,7 @@ pub record State : Type 0 where
   pub free : ℕ
 
 -- An accepted start.
-abbrev pub emptyLane : LaneState
+abbrev emptyLane : LaneState
 emptyLane = record { bags = []; spare = λ s. 1; spur = λ s. 0 }
 
 abbrev pub startState : (S T growth lanes : ℕ) → State

@@ -114,7 +114,7 @@ abbrev pub rowThen : Reply → (times : ℕ) → List ℕ → (k hint : ℕ) →
 rowThen Accepted n ws k h = ticks n ws k h
 rowThen (Reply-Refused r) n ws k h = record { answer = Refused r; words = ws }
 
-abbrev pub rowCall : List ℕ → WholeCall → (times hint : ℕ) → Ticked
+abbrev rowCall : List ℕ → WholeCall → (times hint : ℕ) → Ticked
 rowCall ws c n h =
     let begun = begin ws (c .task) (c .lane) (c .operation) (c .side) (c .argument) in
     rowThen (begun .reply) n (begun .words) (c .task) h

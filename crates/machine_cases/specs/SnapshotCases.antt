@@ -99,11 +99,11 @@ pub data Told : Type 0 where
   noted : Told
   not-noted : Told
 
-abbrev pub toldByNote : Option Note → Told
+abbrev toldByNote : Option Note → Told
 toldByNote none = not-noted
 toldByNote (some n) = noted
 
-abbrev pub toldByRow : Option Row → Told
+abbrev toldByRow : Option Row → Told
 toldByRow none = nothing-known
 toldByRow (some ρ) = toldByNote (ρ .notes 0)
 

@@ -11,10 +11,12 @@ pub mod TickProgress
 pub mod QuietOutcomes
 pub mod CalmOutcomes
 pub mod DisturbingOutcomes
+pub mod HatOutcome
 pub mod LineOutcomes
 -- The potential, and the theorem.
 pub mod Sums
 pub mod TableTick
+pub mod HatMoves
 pub mod Potential
 pub mod BeginKeeps
 pub mod DispatchKeeps

@@ -35,7 +35,7 @@ ticksOf (begun k n) = []
 ticksOf (lent-begun k n words) = []
 ticksOf (ticked ts) = ts
 
-abbrev pub eventTicks : Event → List ℕ → List Tick
+abbrev eventTicks : Event → List ℕ → List Tick
 eventTicks (call-event c) ws = ticksOf (did c (given c ws))
 eventTicks (take-event out) ws = []
 eventTicks (put-event ss) ws = []

@@ -52,7 +52,7 @@ DrainsByAt enough ws =
     → Drained (busyTasks ws) hints ws
 
 -- So it is from any table that start and our calls can reach.
-abbrev pub DrainsBy : (enough : (ws : List ℕ) → ℕ → Type 0) → Type 0
+abbrev DrainsBy : (enough : (ws : List ℕ) → ℕ → Type 0) → Type 0
 DrainsBy enough = (ws : List ℕ) → Begun ws → DrainsByAt enough ws
 
 -- T times the ticks of lock-freedom are enough.

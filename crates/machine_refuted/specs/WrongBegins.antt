@@ -58,7 +58,7 @@ withRefusal ticks refuses =
     }
 
 -- What a begin of task k on a lane tests after 7, of an operation and its argument.
-abbrev pub After7 : Type 0
+abbrev After7 : Type 0
 After7 = List ℕ → (k lane : ℕ) → Operation → (n : ℕ) → Option ℕ
 
 -- The right machine but for its ticks, and for what its begin tests after 7.
@@ -75,7 +75,7 @@ abbrev pub testsBusy : List ℕ → (k : ℕ) → Option ℕ → Option ℕ
 testsBusy ws k others = unless (isIdle (task ws k .operation)) 8 others
 
 -- 11 where a lane has no end, 16 where the bags meet a test, and then what the tests after it give.
-abbrev pub testsBags : (List ℕ → Bool) → (bags : Option (List ℕ)) → Option ℕ → Option ℕ
+abbrev testsBags : (List ℕ → Bool) → (bags : Option (List ℕ)) → Option ℕ → Option ℕ
 testsBags test none others = some 11
 testsBags test (some bags) others = unless (not (test bags)) 16 others
 
@@ -99,7 +99,7 @@ abbrev pub searchesPushesAlone : Machine
 searchesPushesAlone = refusesWhere (λ ws k l n bags. isBegun ws (taskCount ws) n)
 
 -- Of the lane only the left end is searched.
-abbrev pub isFirst : ℕ → List ℕ → Bool
+abbrev isFirst : ℕ → List ℕ → Bool
 isFirst n [] = false
 isFirst n (b ∷ bs) = eqb n b
 

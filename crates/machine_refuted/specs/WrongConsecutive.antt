@@ -24,7 +24,7 @@ use Rattle.machine_refuted.specs.Judged.{not-the-row's-answer, other-ans
 use Rattle.machine_refuted.specs.Entries.{Entry, entry, begins}
 
 -- The right machine but for its consecutive dispatches.
-abbrev pub withDispatches : (Turns → (times : ℕ) → List ℕ → (hint : ℕ) → DispatchedMany) → Machine
+abbrev withDispatches : (Turns → (times : ℕ) → List ℕ → (hint : ℕ) → DispatchedMany) → Machine
 withDispatches consecutiveDispatches =
     record {
       starts = rightMachine .starts;
@@ -53,7 +53,7 @@ staysWithTask =
     ])
 
 -- They end at "idle" and at a refusal alone, and count what they passed.
-abbrev pub isEnd : Dispatch → Bool
+abbrev isEnd : Dispatch → Bool
 isEnd Idle = true
 isEnd (Answered a) = eqb (kindOf a) (kindOf (Refused 0))
 

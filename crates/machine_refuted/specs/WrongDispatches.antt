@@ -19,7 +19,7 @@ use Rattle.machine_refuted.specs.Entries.{Entry, entry, begins, ticks, d
 -- ---- 2026-07: "A dispatcher ticks the next busy task after the one it last ticked, going round by task number".
 
 -- The right machine but for its dispatches, and for the task that they choose.
-abbrev pub withDispatch : (Ticks → Turns) → Machine
+abbrev withDispatch : (Ticks → Turns) → Machine
 withDispatch dispatches =
     record {
       starts = rightMachine .starts;
@@ -34,11 +34,11 @@ withDispatch dispatches =
       consecutiveDispatches = rightMachine .consecutiveDispatches;
     }
 
-abbrev pub choosing : (List ℕ → Option ℕ) → Machine
+abbrev choosing : (List ℕ → Option ℕ) → Machine
 choosing choice = withDispatch (dispatchChoosing choice)
 
 -- The first of m tasks from k on, going round, that is busy.
-abbrev pub busyFrom : (m k : ℕ) → List ℕ → Option ℕ
+abbrev busyFrom : (m k : ℕ) → List ℕ → Option ℕ
 busyFrom m k ws = firstFrom (taskCount ws) (isBusyTask ws) m k
 
 -- The round begins again at task 0 each time.

@@ -82,7 +82,7 @@ abbrev pub freesOtherLanes : Machine
 freesOtherLanes = byLines act (takeFrom (λ ws. hatsFrom ws 1 0 ++ heldFrom ws (taskCount ws) 0))
 
 -- The right machine but for its reads.
-abbrev pub withRead : (List ℕ → (lane : ℕ) → (out : List ℕ) → ReadDone) → Machine
+abbrev withRead : (List ℕ → (lane : ℕ) → (out : List ℕ) → ReadDone) → Machine
 withRead reads =
     record {
       starts = rightMachine .starts;
@@ -116,7 +116,7 @@ abbrev pub searchesOwnPushes : Machine
 searchesOwnPushes = refusesWhere (λ ws k l n bags. isAmong n bags || isBegunOn ws l (taskCount ws) n)
 
 -- ---- "26, lane out of range at begin, read or sheet, straight after 4": it is tested after 5, or never.
-abbrev pub withLaneTest : (List ℕ → (k lane : ℕ) → Option ℕ → Option ℕ) → Machine
+abbrev withLaneTest : (List ℕ → (k lane : ℕ) → Option ℕ → Option ℕ) → Machine
 withLaneTest test =
     withRefusal (rightMachine .tickOn) (λ ws k l op side argument.
     tableRefusal ws
@@ -136,7 +136,7 @@ takesAnyLane = withLaneTest (λ ws k l others. unless (ltb k (taskCount ws)) 5 o
 -- 0, starts with slots 2k and 2k + 1".
 
 -- The right machine but for the test that its start makes of the sizes, and for the words that it writes.
-abbrev pub withStart : ((S T growth lanes : ℕ) → Option ℕ → Option ℕ) → ((S T growth lanes : ℕ) → List ℕ) → Machine
+abbrev withStart : ((S T growth lanes : ℕ) → Option ℕ → Option ℕ) → ((S T growth lanes : ℕ) → List ℕ) → Machine
 withStart test words =
     record {
       starts = λ ws S T g lanes.
@@ -171,11 +171,11 @@ startTakesNodeLess =
     (λ S T g lanes. take (tableLength S T) (startWords S T g lanes))
 
 -- The tests of a start.
-abbrev pub testsStart : (S T growth lanes : ℕ) → Option ℕ → Option ℕ
+abbrev testsStart : (S T growth lanes : ℕ) → Option ℕ → Option ℕ
 testsStart S T g lanes others = unless (lanesOk lanes) 25 (unless (sizesOk S T g lanes) 1 others)
 
 -- The words of a start with other hats, and with the sentinels of so many lanes.
-abbrev pub startWith : (hats : (lanes lane : ℕ) → Side → ℕ) → (made S T growth lanes : ℕ) → List ℕ
+abbrev startWith : (hats : (lanes lane : ℕ) → Side → ℕ) → (made S T growth lanes : ℕ) → List ℕ
 startWith hats made S T g lanes =
     headerWords S T g lanes 0 (T - 1) (hats lanes)
     ++ (startNodes made 0 ++ (times (S - 2 * made) (nodeWords noNode noNode never) ++ times T (wordsOf fresh)))

@@ -83,7 +83,7 @@ feedsBegin κ lent whole n r words =
 abbrev feedsCopy : Known → (k : ℕ) → (words : List ℕ) → Known
 feedsCopy κ k words = feedCopy everyCopy κ k words (pendingOf k words (κ .pending))
 
-abbrev pub rightFeeding : Feeding
+abbrev rightFeeding : Feeding
 rightFeeding = record { at-begin = feedsBegin; at-copy = feedsCopy }
 
 -- ---- Actions: a call; a begin over a lent record; a copy of the record that was lent last, as it is then.

@@ -63,7 +63,7 @@ reportsUnmadeTick = withReports oneMore
 -- ---- Consecutive ticks are as many as asked for, and end at an answer.
 
 -- The right machine but for its consecutive ticks.
-abbrev pub withConsecutive : (Ticks → (times : ℕ) → Ticks) → Machine
+abbrev withConsecutive : (Ticks → (times : ℕ) → Ticks) → Machine
 withConsecutive consecutiveTicks =
     record {
       starts = rightMachine .starts;
@@ -98,7 +98,7 @@ ticksAfterAnswer = withConsecutive toRefusal
 -- ---- 2026-01: "15, panel list over 64 words, tested where 13 is tested and straight after it".
 
 -- The right machine but for its panel: what it refuses, and what it takes of a list.
-abbrev pub withPanel : ((ws list answers : List ℕ) → Option ℕ) → (List ℕ → List ℕ) → Machine
+abbrev withPanel : ((ws list answers : List ℕ) → Option ℕ) → (List ℕ → List ℕ) → Machine
 withPanel refuses takes =
     record {
       starts = rightMachine .starts;
@@ -113,7 +113,7 @@ withPanel refuses takes =
       consecutiveDispatches = rightMachine .consecutiveDispatches;
     }
 
-abbrev pub overLong : (list : List ℕ) → Option ℕ → Option ℕ
+abbrev overLong : (list : List ℕ) → Option ℕ → Option ℕ
 overLong list others = unless (leb (length list) 64) 15 others
 
 -- 14 is tested before 15.

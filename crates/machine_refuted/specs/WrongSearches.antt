@@ -38,11 +38,11 @@ unfoldable pub heldFromBy : (Task → List ℕ) → List ℕ → (n k : ℕ) →
 heldFromBy held ws zero k = []
 heldFromBy held ws (suc n) k = held (task ws k) ++ heldFromBy held ws n (suc k)
 
-abbrev pub rootsBy : (Task → List ℕ) → List ℕ → List ℕ
+abbrev rootsBy : (Task → List ℕ) → List ℕ → List ℕ
 rootsBy held ws = hatsFrom ws (laneCount ws) 0 ++ heldFromBy held ws (taskCount ws) 0
 
 -- A or B of a push or pop does not hold.
-abbrev pub letsGo : Operation → Task → List ℕ
+abbrev letsGo : Operation → Task → List ℕ
 letsGo push t = heldIn t inC ∷ heldIn t inD ∷ []
 letsGo pop t = heldIn t inC ∷ heldIn t inD ∷ []
 letsGo idle t = heldBy t

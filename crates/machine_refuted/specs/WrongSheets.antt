@@ -14,7 +14,7 @@ use Rattle.machine.specs.Calls.{unless, laneRefusal, lane, startWords, Changed,
 use Rattle.machine.specs.Sheets.{lastPage, pageRefusal, sheetInto, sheet}
 
 -- The page and the slice are tested before the lane is walked, by this test of them.
-abbrev pub testedFirst : ((page : ℕ) → (out : List ℕ) → Option ℕ) → List ℕ → (lane page : ℕ) → (out : List ℕ) → Changed
+abbrev testedFirst : ((page : ℕ) → (out : List ℕ) → Option ℕ) → List ℕ → (lane page : ℕ) → (out : List ℕ) → Changed
 testedFirst test ws l page out =
     elim (laneRefusal ws l (test page out)) as (λ _. Changed) [
       | some n ↦ changed (some n) out out

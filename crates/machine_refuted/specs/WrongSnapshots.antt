@@ -75,7 +75,7 @@ abbrev pub other : Bool → Bool
 other true = false
 other false = true
 
-abbrev pub madeTake : Copying → (ws out : List ℕ) → Known → Made
+abbrev madeTake : Copying → (ws out : List ℕ) → Known → Made
 madeTake M ws out κ =
     let one = M .takes ws out in
     let is = takeSnapshot ws out in
@@ -87,7 +87,7 @@ madeTake M ws out κ =
       left-other = false;
     }
 
-abbrev pub madePut : Feeding → Copying → (ws kept snapshot : List ℕ) → Known → Made
+abbrev madePut : Feeding → Copying → (ws kept snapshot : List ℕ) → Known → Made
 madePut feeds M ws kept ss κ =
     let one = M .puts ss ws in
     let is = putBack ss ws in

@@ -34,7 +34,7 @@ use Rattle.machine_refuted.specs.WrongBegins.{withRefusal, refusesWhere}
 -- ---- 2026-04: "A swap compares and writes the digit with V as one thing, and 16 compares whole tags."
 
 -- The value with the nine digits below alone.
-abbrev pub lowValue : Value → Value
+abbrev lowValue : Value → Value
 lowValue (bag n) = bag (lowOf n)
 lowValue never = never
 lowValue (N z) = N z
@@ -60,7 +60,7 @@ pushWritesLow =
     (next t line8))))
 
 -- A pop that answers a bag leaves its digit behind: V is written alone.
-abbrev pub writesFirstWord : ℕ → Value → List ℕ → List ℕ
+abbrev writesFirstWord : ℕ → Value → List ℕ → List ℕ
 writesFirstWord x v ws = sets ws (valueAt x) (take 1 (storedWords (encode v)))
 
 abbrev pub popLeavesDigit : Machine
@@ -81,7 +81,7 @@ searchesLow =
     refusesWhere (λ ws k l n bags. isAmong (lowOf n) (map lowOf bags) || isBegun ws (taskCount ws) n)
 
 -- ---- "V 0 with a digit of 1 to 9 is a tag": 42 takes it for never used.
-abbrev pub zeroUnused : Value → Value
+abbrev zeroUnused : Value → Value
 zeroUnused (bag n) = if lowOf n ≟ 0 then never else bag n
 zeroUnused never = never
 zeroUnused (N z) = N z

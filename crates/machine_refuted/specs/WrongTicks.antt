@@ -36,7 +36,7 @@ use Rattle.machine_refuted.specs.Entries.{Entry, entry, wholly, eachCall
 -- ---- "One doing a whole call in its first tick and saying "going" after."
 
 -- What is still to be said is kept as the step: 24 and then 25 for a call that was done, 17 and then 18 for another.
-abbrev pub stepAfter : Answer → Step
+abbrev stepAfter : Answer → Step
 stepAfter Pushed = line24
 stepAfter Yes = line24
 stepAfter Going = line17
@@ -46,21 +46,21 @@ stepAfter Full = line17
 stepAfter No = line17
 stepAfter (Refused n) = line17
 
-abbrev pub doneAnswer : Operation → Answer
+abbrev doneAnswer : Operation → Answer
 doneAnswer push = Pushed
 doneAnswer add = Yes
 doneAnswer idle = Yes
 doneAnswer pop = Yes
 doneAnswer remove = Yes
 
-abbrev pub saysLater : Line
+abbrev saysLater : Line
 saysLater st s o m t g f =
     if stepNumber st ≟ stepNumber line24 then next t line25 else
     if stepNumber st ≟ stepNumber line25 then answers (doneAnswer (t .operation)) else
     if stepNumber st ≟ stepNumber line17 then next t line18 else
     answers (noneFree (t .operation))
 
-abbrev pub laterFor : Operation → Line
+abbrev laterFor : Operation → Line
 laterFor op st s o m t g f =
     if operationNumber (t .operation) ≟ operationNumber op then saysLater st s o m t g f else act st s o m t g f
 

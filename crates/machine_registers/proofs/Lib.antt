@@ -9,4 +9,5 @@ pub mod Agreeing
 pub mod AlikeTables
 pub mod AlikeTicks
 pub mod AlikeCalls
+pub mod AlikeLists
 pub mod Unseen

@@ -25,7 +25,7 @@ use Rattle.machine.proofs.Shape.ShapeKept.{is-accepted}
 use Rattle.machine_registers.specs.LinesUse.{AgreeOn}
 use Rattle.machine_registers.proofs.Agreeing.{plain, agree-from, agree-self, mixed-inside}
 use Rattle.machine_registers.proofs.AlikeTables.{unrecorded, AlikeColumns}
-use Rattle.machine_registers.proofs.AlikeCalls.{calls-alike}
+use Rattle.machine_registers.proofs.AlikeLists.{calls-alike}
 
 -- ---- Tables that are alike have the same columns but for registers that do not hold.
 records-agree : {t u : Task} → SameButUnneeded t u → AgreeOn (holds (t .step)) t u

@@ -43,7 +43,7 @@ use Rattle.machine_separation.proofs.ApartTick.{tick-leaves}
 use Rattle.machine_separation.proofs.BegunApart.{begun-apart}
 
 -- ---- A table and its view.
-abbrev pub LeadsIn : List ℕ → (l : ℕ) → ℕ → Type 0
+abbrev LeadsIn : List ℕ → (l : ℕ) → ℕ → Type 0
 LeadsIn ws l = Leads (laneCount ws) (viewed right ws) (task ws) l
 
 pub in-view : {ws : List ℕ} {l x : ℕ} → LedTo ws l x → LeadsIn ws l x
@@ -59,7 +59,7 @@ in-words (along left c n) = link-led left (in-words c) n
 in-words (along right c n) = link-led right (in-words c) n
 
 -- From ws to vs lane m stays.
-abbrev pub LaneStays : (m : ℕ) → (ws vs : List ℕ) → Type 0
+abbrev LaneStays : (m : ℕ) → (ws vs : List ℕ) → Type 0
 LaneStays m ws vs = Stays (laneCount ws) (viewed right ws) (task ws) (viewed right vs) (task vs) m
 
 pub same-lane : {m : ℕ} {ws vs : List ℕ} → laneCount vs ≡ laneCount ws → LaneStays m ws vs → SameLane m ws vs

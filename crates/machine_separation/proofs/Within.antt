@@ -39,7 +39,7 @@ module _ (P : ℕ → Type 0) where
   LeadsInto From link = (x : ℕ) → From x → OrNone (link x)
 
   -- A write is to a node of the set, and what it sets there leads into it.
-  abbrev pub WriteIn : Write → Type 0
+  abbrev WriteIn : Write → Type 0
   WriteIn (out≔ x y) = P x × OrNone y
   WriteIn (inn≔ x y) = P x × OrNone y
   WriteIn (val≔ x v) = P x

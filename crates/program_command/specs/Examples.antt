@@ -9,7 +9,7 @@ pub record Example : Type 0 where
   pub says : Command
 
 infix 80 _reads-as_
-abbrev pub _reads-as_ : String → Command → Example
+abbrev _reads-as_ : String → Command → Example
 line reads-as said = record { line = line; says = said }
 
 unfoldable pub examples : List Example

@@ -65,7 +65,7 @@ abbrev pub freshTask : Tasks.Task
 freshTask = codedTask fresh
 
 -- The struct of the same call further on, and with one thing changed.
-abbrev pub furtherOn : Tasks.Task → (step counted : ℕ) → Stored → (registers : List ℕ) → Tasks.Task
+abbrev furtherOn : Tasks.Task → (step counted : ℕ) → Stored → (registers : List ℕ) → Tasks.Task
 furtherOn t st n v rs =
     record {
       operation = t .operation;

@@ -9,7 +9,7 @@ use Rattle.machine.specs.Steps.{stepOf}
 use Rattle.machine.specs.Tasks.{Register, inA, inB, inC, inD}
 use Rattle.machine.specs.Registers.{holds}
 
-abbrev pub bitOf : Register → ℕ
+abbrev bitOf : Register → ℕ
 bitOf inA = 1
 bitOf inB = 2
 bitOf inC = 4

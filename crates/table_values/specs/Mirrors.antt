@@ -9,7 +9,7 @@ use Rattle.machine.specs.Sides.{left, right}
 use Rattle.machine.specs.Shape.{sameWords}
 
 -- Words up to a border go up by so much, the others down.
-abbrev pub sumBy : (border step w : ℕ) → ℕ
+abbrev sumBy : (border step w : ℕ) → ℕ
 sumBy border step w = if w ≤? border then w + step else w - step
 
 -- 02: "The mirror of a mark up to 1,000,000,003 is that mark plus 3, of the others minus 3."

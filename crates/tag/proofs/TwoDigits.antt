@@ -27,7 +27,7 @@ unfolding lastDigits
 no-digits n = refl
 
 -- The last ten digits of a number, each two as a number.
-abbrev pub twosOf : (tag : ℕ) → List ℕ
+abbrev twosOf : (tag : ℕ) → List ℕ
 twosOf tag =
     tag / 100_000_000 % 100 ∷ tag / 1_000_000 % 100 ∷ tag / 10_000 % 100 ∷ tag / 100 % 100 ∷ tag % 100 ∷ []
 

@@ -59,7 +59,7 @@ PagePrinted = (tags : List ℕ) (page i : ℕ) → i < pageLength → isPrinted 
 abbrev pub lineAt : (line : ℕ) → ℕ
 lineAt l = lineLength * suc l
 
-abbrev pub cellAt : (line cell : ℕ) → ℕ
+abbrev cellAt : (line cell : ℕ) → ℕ
 cellAt l c = lineAt l + cellLength * c
 
 abbrev pub tagNumber : (page line cell : ℕ) → ℕ

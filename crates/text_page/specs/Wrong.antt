@@ -25,7 +25,7 @@ use Rattle.text_page.specs.Claims.{isPrinted}
 use Rattle.text_page.specs.Examples.{upFrom, eight}
 
 -- ---- A page, with each of its parts as a parameter.
-abbrev pub Writer : Type 0
+abbrev Writer : Type 0
 Writer = (tags : List ℕ) → (page : ℕ) → List ℕ
 
 unfoldable pub cellsBy : (cell : ℕ → List ℕ) → List ℕ → List ℕ
@@ -54,7 +54,7 @@ wholeCount tags page = withZeros 4 (length tags)
 abbrev fromPage : (tags : List ℕ) → (page : ℕ) → List ℕ
 fromPage tags page = drop (perPage * page) tags
 
-abbrev pub rightPage : Writer
+abbrev rightPage : Writer
 rightPage = pageBy line cell perLine wholeCount fromPage
 
 -- The right one but for a part.

@@ -37,7 +37,7 @@ use Rattle.window.specs.Window.{
 use Rattle.window.specs.History.{Feed, answersBy}
 
 -- ---- Feeding, with each of its parts as a parameter.
-abbrev pub Feeder : Type 0
+abbrev Feeder : Type 0
 Feeder = List ℕ → (count before after : ℕ) → FeedOutcome
 
 -- What 23 and 24 test, which pairs are lost, the words with one tick more, the number answered by the words before and
@@ -63,7 +63,7 @@ newSum ws vs word = total (places vs)
 abbrev unchanged : List ℕ → ℕ → List ℕ
 unchanged ws count = ws
 
-abbrev pub rightFeed : Feeder
+abbrev rightFeed : Feeder
 rightFeed = feedBy isWindow inTurn isLost fedWords newSum unchanged
 
 -- The right one but for a part.
@@ -240,7 +240,7 @@ sameAnswers (got ∷ gots) [] n = other-answer n
 sameAnswers (got ∷ gots) (due ∷ dues) n =
     elim (sameAnswer got due) as (λ _. Verdict) [ false ↦ other-answer n | true ↦ sameAnswers gots dues (suc n) ]
 
-abbrev pub byHistory : Feeder → (W : ℕ) → List Feed → Verdict
+abbrev byHistory : Feeder → (W : ℕ) → List Feed → Verdict
 byHistory F W fs = sameAnswers (answersOfFeeder F (freshWords W) fs) (answersBy W [] fs) 1
 
 -- ---- From a fresh window: what the history and the definition say of the right one and of a wrong one.

@@ -20,7 +20,7 @@ pub record Tick : Type 0 where
   pub after : List ℕ
   pub task : ℕ
 
-abbrev pub tickOf : (before after : List ℕ) → (k : ℕ) → Tick
+abbrev tickOf : (before after : List ℕ) → (k : ℕ) → Tick
 tickOf before after k = record { before = before; after = after; task = k }
 
 -- The ways to make one, on any table.

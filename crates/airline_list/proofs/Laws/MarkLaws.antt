@@ -78,10 +78,10 @@ module _ (seen : List ℕ) (size : length seen ≡ 16) (new : ℕ) (small : new 
   word-set : getD (withBit seen new) (new / 64) 0 ≡ bitOr (getD seen (new / 64) 0) (2 ^ (new % 64))
   word-set = getD-set-same seen (new / 64) (bitOr (getD seen (new / 64) 0) (2 ^ (new % 64))) 0 inside
 
-  pub new-bit : hasBit (withBit seen new) new ≡ true
+  new-bit : hasBit (withBit seen new) new ≡ true
   new-bit = rw (word-set, bit-set (getD seen (new / 64) 0) (new % 64))
 
-  pub other-bit : (code : ℕ) → (code ≡ new → ⊥) → hasBit (withBit seen new) code ≡ hasBit seen code
+  other-bit : (code : ℕ) → (code ≡ new → ⊥) → hasBit (withBit seen new) code ≡ hasBit seen code
   other-bit code n = go (ℕ-discrete (code / 64) (new / 64))
     where
       go : Dec (code / 64 ≡ new / 64) → hasBit (withBit seen new) code ≡ hasBit seen code

@@ -52,7 +52,7 @@ module _ (S : ℕ) (from to : List ℕ) (enough : nodeAt S ≤ length from) (sam
       ∙ append-assoc (take (nodeAt 0) from) nodes (drop (nodeAt S) from)
 
   -- Words written between them.
-  pub parts-between : (ys : List ℕ) {first end : ℕ} → first ≡ nodeAt 0 → end ≡ nodeAt S
+  parts-between : (ys : List ℕ) {first end : ℕ} → first ≡ nodeAt 0 → end ≡ nodeAt S
       → putMid first (end - first) (withEnds S from to) ys ≡ take (nodeAt 0) from ++ (ys ++ drop (nodeAt S) from)
   parts-between ys {first} {end} at-first at =
       let whole = withEnds S from to in

@@ -28,7 +28,7 @@ abbrev pub everyRegister : (Register → Bool) → Bool
 everyRegister p = p inA && (p inB && (p inC && p inD))
 
 -- A test passes at every step, and for every register there.
-abbrev pub everyStep : (Step → Bool) → Bool
+abbrev everyStep : (Step → Bool) → Bool
 everyStep p = everyStepIn (rest ∷ (pushSteps ++ (popSteps ++ removeSteps))) p
 
 abbrev pub everywhere : (Step → Register → Bool) → Bool

@@ -42,7 +42,7 @@ module _ (n k : ℕ) (is-below : k < n) where
       ]
 
   -- One step brings it nearer, where it is not there.
-  pub following-nearer : (i : ℕ) → i < n → i ≢ k → suc (away n (following n i) k) ≡ away n i k
+  following-nearer : (i : ℕ) → i < n → i ≢ k → suc (away n (following n i) k) ≡ away n i k
   following-nearer i h ne =
       elim (less? k i) [
         | inl l ↦

@@ -5,6 +5,7 @@ pub mod LineEnds
 pub mod QuietPushAdd
 pub mod QuietPopRemove
 pub mod WritingLines
+pub mod CuttingLines
 pub mod TakingLines
 pub mod SplicingLines
 pub mod Tick

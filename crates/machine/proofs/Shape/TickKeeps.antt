@@ -90,7 +90,7 @@ allocated-node ws h l = first-unmarked-node (nodeCount ws) (marked ws .marks) (n
 
 -- ---- What a task finds in a table of the right shape.
 module _ (ws : List ℕ) (W : WellShaped (columns ws)) where
-  pub memory-fits : (l : ℕ) → l < laneCount ws → (s : Side) → MemoryFits (nodeCount ws) (seen l s ws)
+  memory-fits : (l : ℕ) → l < laneCount ws → (s : Side) → MemoryFits (nodeCount ws) (seen l s ws)
   unfolding value
   memory-fits l is-lane s =
       record {

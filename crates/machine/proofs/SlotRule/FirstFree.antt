@@ -27,17 +27,17 @@ use Rattle.machine.proofs.SlotRule.Reached.{
 
 -- ---- The way in closed form.
 module _ (S : ℕ) where
-  pub nth-node : (i x : ℕ) → x < S → nth S x i < S
+  nth-node : (i x : ℕ) → x < S → nth S x i < S
   nth-node zero x h = h
   nth-node (suc i) x h = nth-node i (following S x) (following-below S x h)
 
   -- Up to S - 1 each step adds one.
-  pub nth-up : (i x : ℕ) → x + i < S → nth S x i ≡ x + i
+  nth-up : (i x : ℕ) → x + i < S → nth S x i ≡ x + i
   nth-up zero x h = omega arith
   nth-up (suc i) x h = rw (following-up S x (omega arith)) (nth-up i (x + 1) (omega arith) ∙ omega arith)
 
   -- Past S - 1 it goes on from 0.
-  pub nth-round : (i x : ℕ) → x < S → i < S → S ≤ x + i → nth S x i ≡ x + i - S
+  nth-round : (i x : ℕ) → x < S → i < S → S ≤ x + i → nth S x i ≡ x + i - S
   nth-round zero x h l r = absurd (omega arith)
   nth-round (suc i) x h l r = by (x + 1 <? S) (λ h′. nth-round i (x + 1) h′ (omega arith) (omega arith))
     where
@@ -46,7 +46,7 @@ module _ (S : ℕ) where
       by (no h′) later = rw (following-round S x (omega arith)) (nth-up i 0 (omega arith) ∙ omega arith)
 
   -- So the S nodes met from any node on, itself the first, are all nodes.
-  pub nth-meets : (x y : ℕ) → x < S → y < S → (i : ℕ) × (i < S) × (nth S x i ≡ y)
+  nth-meets : (x y : ℕ) → x < S → y < S → (i : ℕ) × (i < S) × (nth S x i ≡ y)
   nth-meets x y h l = by (x ≤? y)
     where
       by : Dec (x ≤ y) → (i : ℕ) × (i < S) × (nth S x i ≡ y)

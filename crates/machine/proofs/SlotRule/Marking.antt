@@ -92,7 +92,7 @@ module _ {S : ℕ} {m : Marking} (r : Room S m) (x : ℕ) (h : x < S) (e : getD 
   one-mark-more = markCount-set (m .marks) x x-in-marks e
 
   -- While a node has no mark, the queue is not full.
-  pub tail-low : m .tail < largestCount
+  tail-low : m .tail < largestCount
   tail-low =
       let a = one-mark-more in
       let b = markCount-le-length (set (m .marks) x 1) in
@@ -110,7 +110,7 @@ module _ {S : ℕ} {m : Marking} (r : Room S m) (x : ℕ) (h : x < S) (e : getD 
   pub enqueue-before : (i : ℕ) → i ≢ m .tail → getD (enqueue m x .queue) i 0 ≡ getD (m .queue) i 0
   enqueue-before i n = getD-set-other (m .queue) (m .tail) i x 0 n
 
-  pub room-enqueue : Room S (enqueue m x)
+  room-enqueue : Room S (enqueue m x)
   room-enqueue =
       record {
         few = r .few;
@@ -124,10 +124,10 @@ module _ {S : ℕ} {m : Marking} (r : Room S m) (x : ℕ) (h : x < S) (e : getD 
       at i b (yes q) = rw (q, enqueue-last) h
       at i b (no q) = rw (enqueue-before i q) (r .below i (omega arith))
 
-  pub enqueue-marks : HasMark (enqueue m x) x
+  enqueue-marks : HasMark (enqueue m x) x
   enqueue-marks z = let q : _≡_ {A = ℕ} 1 0 = sym (getD-set-same (m .marks) x 1 0 x-in-marks) ∙ z in omega arith
 
-  pub enqueue-grows : Grows m (enqueue m x)
+  enqueue-grows : Grows m (enqueue m x)
   enqueue-grows =
       record {
         longer = omega arith;

@@ -143,7 +143,7 @@ module _ (ws : List ℕ) (P : ℕ → Type 0) where
       (each-held f (taskCount ws) 0)
 
   -- Every hat of a lane is a root.
-  pub root-hat : Each P (roots ws) → (l : ℕ) (s : Side) → l < laneCount ws → P (hat ws l s)
+  root-hat : Each P (roots ws) → (l : ℕ) (s : Side) → l < laneCount ws → P (hat ws l s)
   unfolding roots
   root-hat e l s h = hat-among (laneCount ws) 0 (heldFrom ws (taskCount ws) 0) e l s (omega arith) (omega arith)
 
@@ -162,7 +162,7 @@ module _ (ws : List ℕ) (P : ℕ → Type 0) where
       by (no q) later = later (omega arith)
 
   -- What a register of a task holds is a root.
-  pub root-register : Each P (roots ws) → (k : ℕ) (r : Register) → k < taskCount ws → P (heldIn (task ws k) r)
+  root-register : Each P (roots ws) → (k : ℕ) (r : Register) → k < taskCount ws → P (heldIn (task ws k) r)
   unfolding roots
   root-register e k r l =
       held-register (taskCount ws) 0 k r (beside-hats (laneCount ws) 0 (heldFrom ws (taskCount ws) 0) e)

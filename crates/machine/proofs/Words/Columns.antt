@@ -87,7 +87,7 @@ abbrev pub tasks : Columns → ℕ → Task
 tasks c k = taskOf (c .records k)
 
 -- ---- Writes to the columns: in the header, and after it.
-abbrev pub putHeader : (hats : ℕ → Side → ℕ) → Counts → Columns → Columns
+abbrev putHeader : (hats : ℕ → Side → ℕ) → Counts → Columns → Columns
 putHeader hats counts c =
     record {
       sizes = c .sizes;

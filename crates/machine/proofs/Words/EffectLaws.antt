@@ -112,7 +112,7 @@ module _ (j : ℕ) (is-lane : j < mostLanes) (s : Side) where
   columns-write-one (val≔ x v) ws sized h = columns-setValue ws sized x v (h .0)
   columns-write-one (hat≔ x) ws sized h = columns-setHat ws sized j is-lane s x
 
-  pub columns-write-all :
+  columns-write-all :
       (l : List Write) (ws : List ℕ)
       → Sized (sizesOf ws)
       → AllInRange (nodeCount ws) l

@@ -97,7 +97,7 @@ module _ (ws : List ℕ) (k : ℕ) (r : List ℕ) where
   pub lent-sizes : sizesOf (lentTo ws k r) ≡ sizesOf ws
   lent-sizes = same-sizes wrote (omega arith)
 
-  pub same-node-count : nodeCount (lentTo ws k r) ≡ nodeCount ws
+  same-node-count : nodeCount (lentTo ws k r) ≡ nodeCount ws
   same-node-count = ap (λ (z : Sizes). z .nodeCount) lent-sizes
 
   pub same-task-count : taskCount (lentTo ws k r) ≡ taskCount ws

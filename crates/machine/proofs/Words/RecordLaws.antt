@@ -159,7 +159,7 @@ read-value-ok s step u = go (eqb step 51) (eqb step 48)
     go false false h = h
 
 -- The words as they are read, by their names.
-abbrev pub wordsRead : List ℕ → List ℕ
+abbrev wordsRead : List ℕ → List ℕ
 wordsRead r =
     operationWord r
     ∷ stepWord r

@@ -139,7 +139,7 @@ abbrev pub Digits : Stored → Type 0
 Digits u = (u .word ≤ 999_999_999) × (u .digit ≤ 9)
 
 -- From LN's word to RY's, with digit 0.
-abbrev pub MarkRange : Stored → Type 0
+abbrev MarkRange : Stored → Type 0
 MarkRange u = (1000000001 ≤ u .word) × (u .word ≤ 1000000006) × (u .digit ≡ 0)
 
 pub value-range : (u : Stored) → valueOk u ≡ true → Digits u ⊎ MarkRange u

@@ -115,7 +115,7 @@ module _ (end : CallEnd) where
     G = goal g t0
 
     -- With the chain made, as long as the goal wants it or no node is left; the hats stay.
-    abbrev pub Built : Type 0
+    abbrev Built : Type 0
     Built =
         (m : View) (d n : ℕ) (new : ℕ → ℕ)
         → Stage end m

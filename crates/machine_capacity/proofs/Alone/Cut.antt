@@ -300,7 +300,7 @@ module _ (end : CallEnd) (k v : ℕ) where
     -- ---- Lines 62 to 74: the cut.
     module _ (x b : ℕ) (e : x ≡ spare end v) (eb : b ≡ spare end (suc v))
         (more : v + 2 < spares end) where
-      abbrev pub m62 : View
+      abbrev m62 : View
       m62 = record { out = m0 .out; inn = m0 .inn; val = update (update (m0 .val) x (X s)) b (Y s); hats = m0 .hats }
 
       abbrev m64 : View

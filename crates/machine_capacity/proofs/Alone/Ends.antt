@@ -117,7 +117,13 @@ abbrev pub sparePlace : Side → LaneShape → (i : ℕ) → ℕ
 sparePlace left I i = I .l - suc i
 sparePlace right I i = I .l + length (I .bags) + i
 
-abbrev pub innerPlace : Side → LaneShape → ℕ
+pub places-differ : (I : LaneShape) (s : Side) (i j : ℕ) → i < spareOf s I → j < spareOf s I
+    → sparePlace s I i ≡ sparePlace s I j
+    → i ≡ j
+places-differ I left i j hi hj e = omega arith
+places-differ I right i j hi hj e = omega arith
+
+abbrev innerPlace : Side → LaneShape → ℕ
 innerPlace left I = I .l
 innerPlace right I = I .l + length (I .bags) - 1
 

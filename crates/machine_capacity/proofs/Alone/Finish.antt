@@ -5,13 +5,12 @@ use mathlib.Core.List.{List}
 use Prim.Native.Nat.{ℕ, zero, suc, _+_, _-_, _≤_, _<_}
 use native.Mathlib.Omega.{arith}
 use Rattle.machine.specs.Choice.{_<?_, if_then_else_}
-use Rattle.machine.specs.Sides.{Side, left, right}
+use Rattle.machine.specs.Sides.{Side}
 use Rattle.machine.specs.Values.{bag, N, X}
 use Rattle.machine.specs.Tasks.{noNode}
 use Rattle.machine.specs.Table.{nodeCount, growth, laneCount, hat, value}
 use Rattle.machine.specs.Reach.{Reachable}
-use Rattle.machine_capacity.specs.NoLeak.{in-list, LaneShape, IdleTable}
-use Rattle.machine_capacity.specs.Alone.{spareOf}
+use Rattle.machine_capacity.specs.NoLeak.{in-list, IdleTable}
 use Rattle.machine.proofs.Basics.Contradiction.{equal?, less?}
 use Rattle.machine.proofs.Basics.Choices.{if-yes, if-no}
 use Rattle.machine.proofs.Basics.Updates.{update, update-same, update-other, updateHat, updateHat-same}
@@ -22,7 +21,7 @@ use Rattle.machine_capacity.proofs.Alone.Ends.{
   other-hat,
   Spares,
   not-Y,
-  sparePlace,
+  places-differ,
   spare-listed,
   idle-end,
   last-none,
@@ -42,12 +41,6 @@ use Rattle.machine_capacity.proofs.Alone.Others.{
 }
 use Rattle.machine_capacity.proofs.Alone.Build.{Chain}
 use Rattle.machine_capacity.proofs.Alone.CallEnds.{CallEnd, spares, spare, inner}
-
-places-differ : (I : LaneShape) (s : Side) (i j : ℕ) → i < spareOf s I → j < spareOf s I
-    → sparePlace s I i ≡ sparePlace s I j
-    → i ≡ j
-places-differ I left i j hi hj e = omega arith
-places-differ I right i j hi hj e = omega arith
 
 module _ (end : CallEnd) where
   abbrev pub ws : List ℕ
@@ -79,7 +72,7 @@ module _ (end : CallEnd) where
     pub hat-at : m .hats ℓ s ≡ at' 0
 
   -- So it is left.
-  abbrev pub AnsweredAt : View → List ℕ → Type 0
+  abbrev AnsweredAt : View → List ℕ → Type 0
   AnsweredAt = Answered s (nodeCount ws) (laneCount ws) (growth ws)
 
   pub left-by : {m : View} {at' : ℕ → ℕ} {c : ℕ} {vs : List ℕ} → Others end m → OwnList m at' c → AnsweredAt m vs

@@ -92,7 +92,7 @@ module _ (end : CallEnd) where
   to-reach : {x : ℕ} → Reachable ws x → Reach (laneCount ws) (viewed s ws) noNode x
   to-reach c = to-view s ws (idle-root (end .begun) (end .idle-now)) c
 
-  pub list-alive : (j i : ℕ) (h : j < laneCount ws) → i < listOf (T .shape j) → Alive (T .shape j .at i)
+  list-alive : (j i : ℕ) (h : j < laneCount ws) → i < listOf (T .shape j) → Alive (T .shape j .at i)
   list-alive j i h l =
       record {
         reached = to-reach (T .idle-lane j h .reached i l);
@@ -106,7 +106,7 @@ module _ (end : CallEnd) where
   inner-alive = list-alive ℓ _ (end .is-lane) (inner-listed own-lane s)
 
   -- The other hats are (spare end) other nodes than a spur.
-  pub other-hat-alive : (j : ℕ) (z : Side) → j < laneCount ws → OtherEnd ℓ (opposite s) j z → Alive (hat ws j z)
+  other-hat-alive : (j : ℕ) (z : Side) → j < laneCount ws → OtherEnd ℓ (opposite s) j z → Alive (hat ws j z)
   other-hat-alive j z h other =
       record {
         reached = at-hat j z h;

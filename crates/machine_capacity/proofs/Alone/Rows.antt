@@ -138,7 +138,7 @@ fed-answer ρ k {ρ′} n is-noted a ends f = go (answered n a (ρ .bags (n .lan
     go none q e = clash (cc)
 
 module _ (k : ℕ) (n : Note) where
-  pub rows-alone : {a : Answer} {vs ws : List ℕ} (r : ℕ → List ℕ) → Begun ws → noteIn (task ws k) ≡ some n
+  rows-alone : {a : Answer} {vs ws : List ℕ} (r : ℕ → List ℕ) → Begun ws → noteIn (task ws k) ≡ some n
       → n .lane < laneCount ws
       → ((j : ℕ) → j < laneCount ws → lane ws j ≡ some (r j))
       → AloneTo k a vs ws

@@ -205,10 +205,10 @@ module _ (end : CallEnd) where
     Next″ = Next k ℓ s (nodeCount ws) (laneCount ws) g Q
 
     -- The view spare end 25.
-    abbrev pub linkedBack : (x : ℕ) → View
+    abbrev linkedBack : (x : ℕ) → View
     linkedBack x = record { out = m .out; inn = update (m .inn) d x; val = m .val; hats = m .hats }
 
-    abbrev pub Spliced : Type 0
+    abbrev Spliced : Type 0
     Spliced =
         (x : ℕ) (u : Value) (b c : ℕ)
         → x ≡ spare end (spares end - 1)

@@ -260,7 +260,7 @@ full-push σ c = go (refusal σ c) refl
 
 -- Whether it is "full" is a matter of the room at its end.
 module _ {σ : State} (H : EndsHold σ) (c : WholeCall) (P : IsPush σ c) where
-  abbrev pub ownRoom : ℕ
+  abbrev ownRoom : ℕ
   ownRoom = room σ (c .lane) (sideOf (c .side))
 
   pushed-to : Pushed-to (room σ (c .lane) (sideOf (c .side))) (c .lane) (sideOf (c .side)) (oneCall σ c)

@@ -20,7 +20,8 @@ use Rattle.machine_progress.proofs.LockFree.Disturbances.{HatDisturbs, 
 use Rattle.machine_progress.proofs.LockFree.Sums.{sum}
 use Rattle.machine_progress.proofs.SoloBound.AtFirst.{most}
 use Rattle.machine_progress.proofs.LockFree.TableTick.{DisturbsIn, CalmlyLeft}
-use Rattle.machine_progress.proofs.LockFree.Potential.{bothHats, Potential, patient-first}
+use Rattle.machine_progress.proofs.LockFree.HatMoves.{bothHats}
+use Rattle.machine_progress.proofs.LockFree.Potential.{Potential, patient-first}
 
 -- The begin is accepted: one task is another, and nothing else.
 module _ {ws after : List ℕ} (X : Led after) {k : ℕ} {t : Task} (B : BegunTable ws after k t) {D P : ℕ}
@@ -44,7 +45,7 @@ module _ {ws after : List ℕ} (X : Led after) {k : ℕ} {t : Task} (B : BegunTa
   share : (suc (taskCount ws) ≤ Φ .d k) × (Φ .p k ≡ most 2 (nodeCount ws))
   share = Φ .idle-yet k (ap (λ (x : Task). isBusy (x .operation)) (B .was-fresh))
 
-  pub begun-keeps : Potential after D P
+  begun-keeps : Potential after D P
   begun-keeps =
       record {
         d = Φ .d;

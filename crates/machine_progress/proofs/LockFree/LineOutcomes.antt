@@ -50,12 +50,8 @@ use Rattle.machine_progress.proofs.LockFree.CalmOutcomes.{
   line78-outcome,
   line79-outcome,
 }
-use Rattle.machine_progress.proofs.LockFree.DisturbingOutcomes.{
-  line25-outcome,
-  line62-outcome,
-  line64-outcome,
-  line72-outcome,
-}
+use Rattle.machine_progress.proofs.LockFree.DisturbingOutcomes.{line25-outcome, line62-outcome, line64-outcome}
+use Rattle.machine_progress.proofs.LockFree.HatOutcome.{line72-outcome}
 
 module _ (T : ℕ) {held : ℕ → Bool} (k : ℕ) {L : ℕ} {s o : Side} {m : View} {class : ℕ → Class} {r : ℕ → List ℕ}
     (D : Lanes L s o m class r) (H : ClosedSet L held m) (t : Task) (own : t .lane < L) (g f n : ℕ)

@@ -77,7 +77,7 @@ module _ {ws : List ℕ} (led : Led ws) (k h : ℕ) (passes : tickRefusal ws k h
   abbrev ℓ : ℕ
   ℓ = task ws k .lane
 
-  pub lanes-from : (z : Side)
+  lanes-from : (z : Side)
       → Lanes L z (opposite z) (view z M) (A .class) (λ l. rowFrom z (led .row .bags l))
   lanes-from z = lanes-view z (A .invariant .lanes)
 

@@ -56,7 +56,7 @@ module _ {ℓ : ℕ} {s o : Side} {m : View} {class : ℕ → Class} {F : Frame}
   unfolding j
   j-next = omega (arith, S .a<b)
 
-  pub b-value : (val (at b) ≡ N s) ⊎ (val (at b) ≡ X s)
+  b-value : (val (at b) ≡ N s) ⊎ (val (at b) ≡ X s)
   b-value =
       elim (less? b n) [
         | inl l ↦ inl (S .values .N-near b (omega arith) l)

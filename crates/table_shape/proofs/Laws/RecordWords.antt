@@ -41,7 +41,7 @@ callOk g t =
     && (countedOk (t .step) (goalOf (operationOf (t .operation)) g (number (t .argument))) (t .counted)
     && valueReadOk (sideOf (t .side)) (t .step) (t .value))
 
-abbrev pub registersOk : (S lanes : ℕ) → List ℕ → (lane : ℕ) → Bool
+abbrev registersOk : (S lanes : ℕ) → List ℕ → (lane : ℕ) → Bool
 registersOk S L rs l =
     nodeOrNone S (getD rs 0 0)
     && nodeOrNone S (getD rs 1 0)

@@ -177,7 +177,7 @@ module _ {ws : List ℕ} {k hint : ℕ} (tick : Tick ws k hint) where
         (subst (SameCall (codedTask (taskMeant record-read))) (sym (ap (λ (o : LineOutcome). o .done .task) out))
         (coded-call (taskMeant record-read) (effect .task) note))
 
-    pub keeps-call :
+    keeps-call :
         length ns ≡ nodeLength * nodeCount ws → GoesOn (withNodes ns ws) k (isGoing (d .answer)) (d .task)
     keeps-call long g =
         subst (λ (r : List ℕ). SameCall (structOf r) (d .task)) (sym (record-laid ns ws nodes-room long k))

@@ -88,7 +88,7 @@ module _ (ws : List ℕ) (Z : WellSized (sizesOf ws)) (W : WellShaped (columns w
   canonical : codedTask (taskMeant (structOf (recordWords ws k))) ≡ structOf (recordWords ws k)
   canonical = ap structOf (words-of-task (nodeCount ws) (growth ws) (laneCount ws) (recordWords ws k) record-passes)
 
-  pub side-back : sideNumber (sideOf (record-at .side)) ≡ record-at .side
+  side-back : sideNumber (sideOf (record-at .side)) ≡ record-at .side
   side-back = ap (λ (t : Tasks.Task). t .side) canonical
 
   pub side-low : record-at .side < 2
@@ -128,7 +128,7 @@ module _ (ws : List ℕ) (Z : WellSized (sizesOf ws)) (W : WellShaped (columns w
     pub lane-low : record-at .lane < mostLanes
     lane-low = let few = Z .most-lanes in let l = facts .lane-ok in omega arith
 
-    pub step-back : stepNumber (stepOf (record-at .step)) ≡ record-at .step
+    step-back : stepNumber (stepOf (record-at .step)) ≡ record-at .step
     step-back = ap (λ (t : Tasks.Task). t .step) canonical
 
     pub argument-fits : argumentOk (operationOf (record-at .operation)) (record-at .argument) ≡ true

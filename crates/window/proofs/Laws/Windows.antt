@@ -117,7 +117,7 @@ module _ (ws : List ℕ) (t : isWindow ws ≡ true) where
   pub passed-header : headerOk ws ≡ true
   passed-header = and-left (headerOk ws) (placesOk (fedCount ws) (places ws)) t
 
-  pub passed-places : placesOk (fedCount ws) (places ws) ≡ true
+  passed-places : placesOk (fedCount ws) (places ws) ≡ true
   passed-places = and-right (headerOk ws) (placesOk (fedCount ws) (places ws)) t
 
   pub ones-passed : ones ≡ true

@@ -26,11 +26,11 @@ module _ {ws : List ℕ} {ρ : Row} (A : Agrees ws ρ) (k h : ℕ) (passes : tic
   after = tickOn ws k h .words
 
   -- The view that the line leaves, from the task's side and from the right.
-  abbrev pub lineLeaves : View
+  abbrev lineLeaves : View
   lineLeaves =
       written (task ws k .lane) (task ws k .side) (effectOf ws k h .writes) (view (task ws k .side) (viewed right ws))
 
-  abbrev pub tickLeaves : View
+  abbrev tickLeaves : View
   tickLeaves = view (task ws k .side) lineLeaves
 
   sizes : WellSized (sizesOf ws)

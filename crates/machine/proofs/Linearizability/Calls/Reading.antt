@@ -57,7 +57,7 @@ module _ {ℓ : ℕ} {s o : Side} {m : View} {class : ℕ → Class} {r : List �
         | inr y ↦ y .leads-back
       ]
 
-  pub reads-row : Reads (m .out) (m .val) (m .out (m .hats ℓ o)) r
+  reads-row : Reads (m .out) (m .val) (m .out (m .hats ℓ o)) r
   reads-row =
       rw (first-place, ← L .row-is)
       (reads-from (b - suc a) (suc a) (omega arith) (omega (arith, L .structure .a<b)))
@@ -96,7 +96,7 @@ module _ (ws : List ℕ) where
       go (X y) q = rw (q, laneFrom) (if-no (x ≟ noNode) none (some []) ne)
       go (Y y) q = rw (q, laneFrom) (if-no (x ≟ noNode) none (some []) ne)
 
-  pub laneFrom-reads : (n x : ℕ) {l : List ℕ}
+  laneFrom-reads : (n x : ℕ) {l : List ℕ}
       → Reads (link ws right) (value ws) x l
       → length l < n
       → laneFrom ws n x ≡ some l
@@ -106,7 +106,7 @@ module _ (ws : List ℕ) where
       laneFrom-bag n x b ne v
       ∙ ap (Option·map (_∷_ b)) (laneFrom-reads n (link ws right x) R (omega arith))
 
-  pub laneFrom-row : {ℓ : ℕ} {class : ℕ → Class} {r : List ℕ}
+  laneFrom-row : {ℓ : ℕ} {class : ℕ → Class} {r : List ℕ}
       → Lane ℓ right left (viewed right ws) class r
       → (n : ℕ)
       → length r < n

@@ -39,12 +39,10 @@ use Rattle.machine.proofs.Linearizability.Lines.QuietPopRemove.{
   line77-ok,
   line81-ok,
 }
-use Rattle.machine.proofs.Linearizability.Lines.WritingLines.{
-  line5-ok,
-  line51-ok,
+use Rattle.machine.proofs.Linearizability.Lines.WritingLines.{line5-ok, line51-ok, line72-ok}
+use Rattle.machine.proofs.Linearizability.Lines.CuttingLines.{
   line62-ok,
   line64-ok,
-  line72-ok,
   line78-ok,
   line79-ok,
   line82-ok,

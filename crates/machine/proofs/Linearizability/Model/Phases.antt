@@ -77,7 +77,7 @@ pub record StepFacts : Type 0 where
   pub phase : Phase
 
 infix 4 _during_
-abbrev pub _during_ : Reliance → Phase → StepFacts
+abbrev _during_ : Reliance → Phase → StepFacts
 _during_ r p = record { reliance = r; phase = p }
 
 abbrev pub facts : Step → StepFacts

@@ -15,7 +15,7 @@ use Rattle.machine.proofs.Linearizability.Model.Nodes.{at-apart, N-befo
 use Rattle.machine.proofs.Linearizability.Writes.MainWrites.{cut-from-kept, spur-kept}
 
 -- The bag v at the near hat's index, and the hat one further.
-abbrev pub pushedFrame : Frame → (v : ℕ) → Frame
+abbrev pushedFrame : Frame → (v : ℕ) → Frame
 pushedFrame F v =
     record { at = F .at; index = F .index; n = F .n; a = F .a; b = suc (F .b); bags = update (F .bags) (F .b) v }
 
