@@ -5,7 +5,7 @@ use crate::End;
 use crate::words::eight;
 
 // The end for all others; or nothing is told: such a line can stand there all the same.
-#[derive(Drop)]
+#[derive(Clone, Copy)]
 pub enum Closing {
     At(End),
     Untold,

@@ -11,7 +11,7 @@ use text::is_text;
 use text_scan::is_digit;
 
 // What a line says: the end of the airline with a code; that of all others; or neither form.
-#[derive(Drop)]
+#[derive(Clone, Copy)]
 pub enum Form {
     Airline { code: usize, end: End },
     Others { end: End },

@@ -1,5 +1,7 @@
 // Airline lists: texts that say at which end each airline is loaded. A list is read in one pass, with a bit for each
 // code.
+#![tactic(auto)]
+
 mod airline;
 mod closing;
 mod codes;
@@ -27,28 +29,28 @@ use codes::{Seen, WORDS, add, has};
 use forms::{Form, code_in, first_form, form_length};
 
 // The ends of the lane.
-#[derive(Drop)]
+#[derive(Clone, Copy)]
 pub enum End {
     Left,
     Right,
 }
 
 // Whether a list is accepted; or the number of its fault, 27 to 29, and the faulty line, from 1.
-#[derive(Drop)]
+#[derive(Clone, Copy)]
 pub enum Checked {
     Accepted,
     Faulty { number: u32, line: u32 },
 }
 
 // The end to which a list sends a tag; or the list's fault.
-#[derive(Drop)]
+#[derive(Clone, Copy)]
 pub enum Sent {
     To(End),
     NotSent { number: u32, line: u32 },
 }
 
 // What a line comes to: one is read after it; it closes the list, at this end for all others; or it has this fault.
-#[derive(Drop)]
+#[derive(Clone, Copy)]
 enum Turn {
     More,
     Closed(End),
@@ -56,7 +58,7 @@ enum Turn {
 }
 
 // How far a list is read: the place where the next line begins, that line's number, and the mark of the wanted code.
-#[derive(Drop)]
+#[derive(Clone, Copy)]
 struct Place {
     from: usize,
     line: u32,

@@ -1,5 +1,7 @@
 // A tick's answer by its numbers: the kind and what comes with it, whether the task goes on or is refused, and by which
 // number; its three words put, and the answer that such words stand for.
+#![tactic(auto)]
+
 ghost use Rattle.std.specs.Prelude.{◌≡◌, ◌+◌, ◌≤◌, length};
 ghost use Rattle.std.proofs.Math.Option.{some};
 ghost use Rattle.std.proofs.lemmas.List.Edits.{sets};

@@ -1,4 +1,6 @@
 // The call begin, on the table and over a record by value: any slice, record and numbers. A refusal changes no word.
+#![tactic(auto)]
+
 ghost use Rattle.std.specs.Prelude.{◌≡◌, true, ◌&&◌, List, ℕ, ◌≤◌, ◌<◌, leb};
 ghost use Rattle.std.proofs.Math.Option.{none};
 ghost use Rattle.machine.specs.Sides.{side_of};
@@ -270,7 +272,7 @@ pub fn begin(
 }
 
 // What a begin by value gives: the task's record afterwards, and 0 or the refusal.
-#[derive(Drop)]
+#[derive(Clone, Copy)]
 pub struct BegunRecord {
     pub task: Task,
     pub refusal: u32,

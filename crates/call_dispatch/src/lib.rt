@@ -1,4 +1,6 @@
 // The call dispatch, and consecutive dispatches: any slice, any numbers. A refusal and "idle" change no lent word.
+#![tactic(auto)]
+
 mod consecutive;
 mod turn;
 

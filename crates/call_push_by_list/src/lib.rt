@@ -1,4 +1,6 @@
 // The call push by list: any text, any slice, any numbers. A refusal changes no lent word.
+#![tactic(auto)]
+
 ghost use Rattle.std.specs.Prelude.{◌≡◌};
 ghost use Rattle.machine.specs.Sides.{side_number};
 ghost use Rattle.machine.specs.PushByList.{side_at, replied_of, push_by_list};

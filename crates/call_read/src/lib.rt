@@ -1,4 +1,6 @@
 // The call read, on any slices: the bags of a lane are counted and then written. A refusal changes no lent word.
+#![tactic(auto)]
+
 ghost use Rattle.std.specs.Prelude.{◌≡◌, ◌*◌, ◌≤◌, ◌<◌, length};
 ghost use Rattle.std.proofs.Math.Option.{some};
 ghost use Rattle.machine.specs.Calls.{lane, read_into, read};

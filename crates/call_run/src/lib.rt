@@ -1,4 +1,6 @@
 // The calls run and panel: any slices. A refusal changes no lent word, but for the ticks made before it.
+#![tactic(auto)]
+
 ghost use Rattle.std.specs.Prelude.{◌≡◌};
 ghost use Rattle.std.proofs.Math.Option.{none};
 ghost use Rattle.machine.specs.Calls.{list_refusal, room_refusal, tested, run, panel};

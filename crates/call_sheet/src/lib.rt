@@ -1,5 +1,7 @@
 // The call sheet (2026-09), on any slices: the lane is walked once, to its end, and then a page of its tags is written.
 // A refusal changes no lent byte.
+#![tactic(auto)]
+
 mod pages;
 
 ghost use Rattle.std.specs.Prelude.{◌≡◌, ◌<◌};

@@ -1,5 +1,7 @@
 // The calls take and put (2026-10), on any slices: a snapshot of a table by columns, and the table put back. A refusal
 // changes no lent word. A put is tested by the snapshot's own words, so its result needs no other place.
+#![tactic(auto)]
+
 mod columns;
 mod orders;
 

@@ -1,4 +1,6 @@
 // The call start: any slice, any numbers. A refusal changes no lent word.
+#![tactic(auto)]
+
 mod fresh;
 
 ghost use Rattle.std.specs.Prelude.{◌≡◌};

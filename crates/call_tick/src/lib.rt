@@ -1,4 +1,6 @@
 // The call tick, and consecutive ticks: any slice, any numbers. A refusal changes no lent word.
+#![tactic(auto)]
+
 mod consecutive;
 pub mod pairs;
 

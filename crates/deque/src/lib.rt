@@ -1,4 +1,6 @@
 // The calls for C and Rust: tables, lists and out slices as a pointer and a length, answers as numbers.
+#![tactic(auto)]
+
 ghost use Rattle.std.specs.Prelude.{◌≡◌, ◌≤◌, length};
 ghost use Rattle.tag.specs.Tags.{largest_tag};
 ghost use Rattle.machine.specs.Values.{stored_of};

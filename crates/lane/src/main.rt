@@ -1,4 +1,6 @@
 // The lane program: reads the lines of a belt run from standard input, and writes their answers to standard output.
+#![tactic(auto)]
+
 ghost use Rattle.std.specs.Prelude.{◌≡◌, ◌≤◌, length};
 ghost use Rattle.text_scan.specs.Kept.{text_places};
 ghost use Rattle.program_answer.specs.Space.{largest_table};
@@ -13,7 +15,7 @@ use text_scan::{NUMBER_PLACES, Numbers, TEXT_PLACES, Text};
 
 // What a turn leaves: what is carried, how many bytes it took, and whether the session goes on. It ends with its input,
 // and when a write fails.
-#[derive(Drop)]
+#[derive(Clone, Copy)]
 struct Left {
     pub carried: Carried,
     pub taken: usize,

@@ -1,5 +1,7 @@
 // The walk along a lane, for every call that reads one: from its first node to the next, what a node holds, and all its
 // bags counted, a tag sought among them. 01: "the lane is read from the left hat's R along R while V is a bag".
+#![tactic(auto)]
+
 ghost use Rattle.std.specs.Prelude.{◌≡◌, ◌<◌, cond, ◌||◌, leb, eqb};
 ghost use Rattle.machine.specs.Sides.{left, right};
 ghost use Rattle.machine.specs.Values.{number, bag_ok};
@@ -14,7 +16,7 @@ use table_record::Task;
 
 // How a walk along R ends: at a node without a bag, after that many bags and with the bag sought among them or not; or
 // without one.
-#[derive(Drop)]
+#[derive(Clone, Copy)]
 pub enum Walk {
     Bags(u32, bool),
     NoEnd,
@@ -22,7 +24,7 @@ pub enum Walk {
 
 // How a walk to a place of a lane ends: the bags of the lane, and the node of that place, or past the last bag the node
 // after it; or without an end.
-#[derive(Drop)]
+#[derive(Clone, Copy)]
 pub enum Located {
     Node(u32, u32),
     NoEnd,

@@ -1,4 +1,6 @@
 // Lines 15, 17, 18, 24 and 25: a chain of new nodes is joined to the lane's end.
+#![tactic(auto)]
+
 ghost use Rattle.std.specs.Prelude.{◌≡◌};
 ghost use Rattle.machine.specs.Steps.{line15, line17, line18, line24, line25};
 ghost use Rattle.table_record.specs.Coded.{coded_task, task_meant};

@@ -1,4 +1,6 @@
 // Lines 74, 77, 78, 79, 81 and 82: a remove breaks the chain that it cut off, link by link.
+#![tactic(auto)]
+
 ghost use Rattle.machine.specs.Steps.{line74, line77, line78, line79, line81, line82};
 ghost use Rattle.line_parts.specs.Lent.{Ready, Does, outcome_of};
 

@@ -1,5 +1,7 @@
 // The line of the figure that a tick makes, by the step number at which its task stands: all lines but 28 and 31, which
 // take a node.
+#![tactic(auto)]
+
 ghost use Rattle.std.specs.Prelude.{◌≡◌, ℕ};
 ghost use Rattle.machine.specs.Steps.{step_of};
 ghost use Rattle.line_parts.specs.Lent.{Does, line_of, outcome_of};

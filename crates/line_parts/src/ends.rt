@@ -9,7 +9,7 @@ use machine::Answer;
 use table_record::Task;
 
 // The hat afterwards, the lane's on that side, the task's record and the answer.
-#[derive(Drop)]
+#[derive(Clone, Copy)]
 pub struct Done {
     pub hat: u32,
     pub task: Task,

@@ -1,4 +1,6 @@
 // Lines 39, 40, 42, 48 and 51: a pop at the hat.
+#![tactic(auto)]
+
 ghost use Rattle.std.specs.Prelude.{◌≡◌, true};
 ghost use Rattle.machine.specs.Sides.{side_of};
 ghost use Rattle.machine.specs.Values.{decode, bag_ok, value_ok};

@@ -1,4 +1,6 @@
 // Lines 2, 3, 5 and 8: a push at the hat.
+#![tactic(auto)]
+
 ghost use Rattle.std.specs.Prelude.{◌≡◌};
 ghost use Rattle.machine.specs.Steps.{line2, line3, line5, line8};
 ghost use Rattle.table_record.specs.Coded.{coded_task, task_meant};

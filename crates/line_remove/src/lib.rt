@@ -1,4 +1,6 @@
 // Lines 54, 56, 58, 60, 62 and 64: a remove finds the link outside the hat where it may cut the chain, and cuts it.
+#![tactic(auto)]
+
 ghost use Rattle.std.specs.Prelude.{◌≡◌, List, ℕ};
 ghost use Rattle.machine.specs.Steps.{line54, line56, line58, line60, line62, line64};
 ghost use Rattle.table_record.specs.Coded.{coded_task, task_meant};

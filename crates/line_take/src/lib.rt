@@ -1,4 +1,6 @@
 // Lines 28 and 31: a node is taken, if one was found, and a chain of new nodes begun with it or lengthened by it.
+#![tactic(auto)]
+
 ghost use Rattle.std.specs.Prelude.{◌≡◌, ◌≢◌};
 ghost use Rattle.machine.specs.Steps.{line28, line31};
 ghost use Rattle.machine.specs.Tasks.{no_node};

@@ -1,4 +1,6 @@
 // Lines 67 to 70 and 72: a hat that stands on a spur is moved back to the lane.
+#![tactic(auto)]
+
 ghost use Rattle.std.specs.Prelude.{◌≡◌};
 ghost use Rattle.machine.specs.Steps.{line67, line68, line69, line70, line72};
 ghost use Rattle.table_record.specs.Coded.{coded_task, task_meant};

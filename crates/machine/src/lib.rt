@@ -1,10 +1,12 @@
 // What the definitions and the code share by value: the words of a value, and the answers of the calls.
+#![tactic(auto)]
+
 
 // A value as the table holds it, in a node or in a record: V and, since 2026-04, the leading digit that belongs to it.
 // The argument of a call is held the same way. Only the definitions of values and the crates of the table's words name
 // its words.
 #[repr(C)]
-#[derive(Drop)]
+#[derive(Clone, Copy)]
 pub struct Stored {
     pub word: u32,
     pub digit: u32,
@@ -26,7 +28,7 @@ impl Stored {
 }
 
 // What a tick answers.
-#[derive(Drop)]
+#[derive(Clone, Copy)]
 pub enum Answer {
     Going,
     Pushed,
@@ -39,14 +41,14 @@ pub enum Answer {
 }
 
 // What a dispatch answers: "idle", or what the tick answers that it makes. Its refusals are those of a tick.
-#[derive(Drop)]
+#[derive(Clone, Copy)]
 pub enum Dispatch {
     Idle,
     Answered(Answer),
 }
 
 // What start and begin answer.
-#[derive(Drop)]
+#[derive(Clone, Copy)]
 pub enum Reply {
     Accepted,
     Refused(u32),
@@ -54,21 +56,21 @@ pub enum Reply {
 
 // What a push by list answers (2026-13): the reply of its begin; or the number of the list's fault, 27 to 29, and the
 // faulty line, from 1.
-#[derive(Drop)]
+#[derive(Clone, Copy)]
 pub enum ByList {
     Replied(Reply),
     Faulty { number: u32, line: u32 },
 }
 
 // What reading a lane answers: how many bags it wrote, or the refusal.
-#[derive(Drop)]
+#[derive(Clone, Copy)]
 pub enum Reading {
     Count(u32),
     Refused(u32),
 }
 
 // What a run answers: how many ticks it made, and the number that stopped it or 0.
-#[derive(Drop)]
+#[derive(Clone, Copy)]
 pub struct Ran {
     pub made: u32,
     pub refusal: u32,

@@ -21,7 +21,7 @@ const LANES: u32 = 1;
 const LANE: u32 = 0;
 
 // What a start answers, and how many words of the space the table takes afterwards.
-#[derive(Drop)]
+#[derive(Clone, Copy)]
 pub struct Started {
     pub reply: Reply,
     pub len: usize,

@@ -1,4 +1,6 @@
 // A command of the belt run answered over the program's table: the first words of one lent space.
+#![tactic(auto)]
+
 mod forms;
 
 ghost use Rattle.std.specs.Prelude.{◌≡◌, ◌*◌, ◌≤◌, length, take};
@@ -16,7 +18,7 @@ pub const BAG_WORDS: usize = 2_048;
 pub type Bags = [u32; BAG_WORDS];
 
 // What a command comes to, and how many words of the space the table takes afterwards.
-#[derive(Drop)]
+#[derive(Clone, Copy)]
 pub struct Served {
     pub outcome: CommandOutcome,
     pub len: usize,

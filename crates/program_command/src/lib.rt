@@ -1,4 +1,6 @@
 // The commands of the belt run: the form of a line is read off what is kept of it.
+#![tactic(auto)]
+
 mod forms;
 
 ghost use Rattle.std.specs.Prelude.{◌≡◌};
@@ -10,7 +12,7 @@ use text_scan::{Numbers, Scan};
 
 // What a line says. Operations are 1 push, 2 pop, 3 add, 4 remove; sides 0 left, 1 right. The tag of a push is its
 // leading digit and, as the argument, the nine digits below; the others have digit 0.
-#[derive(Drop)]
+#[derive(Clone, Copy)]
 pub enum Command {
     Start {
         slots: u32,

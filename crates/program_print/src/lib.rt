@@ -1,4 +1,6 @@
 // The outcomes of the belt run as lines of text, written into a lent buffer.
+#![tactic(auto)]
+
 mod answers;
 mod lines;
 
@@ -12,7 +14,7 @@ use machine::{Answer, Reading, Reply};
 use text::put;
 
 // What a line of the belt run comes to: the answer of a call, or that the line is not read.
-#[derive(Drop)]
+#[derive(Clone, Copy)]
 pub enum CommandOutcome {
     Replied(Reply),
     Ticked(Answer),

@@ -1,4 +1,6 @@
 // A session of the belt run: its input comes in chunks, cut anywhere, and each line is answered where it ends.
+#![tactic(auto)]
+
 ghost use Rattle.std.specs.Prelude.{◌≡◌, ◌||◌, List, ℕ, ◌+◌, ◌≤◌, ltb, length};
 ghost use Rattle.std.proofs.Math.Seq.{slice};
 ghost use Rattle.text_scan.specs.Kept.{text_places};
@@ -27,7 +29,7 @@ pub const LINE_ROOM: usize = 11_285;
 
 // What is carried from chunk to chunk beside the lent words: how many words of the space are the table, the scan of the
 // line so far, and whether that line has a byte.
-#[derive(Drop)]
+#[derive(Clone, Copy)]
 pub struct Carried {
     pub len: usize,
     pub scan: Scan,
@@ -35,7 +37,7 @@ pub struct Carried {
 }
 
 // What the end of a line leaves: what is carried, and the place after the answer.
-#[derive(Drop)]
+#[derive(Clone, Copy)]
 pub struct Ended {
     pub carried: Carried,
     pub at: usize,
@@ -43,7 +45,7 @@ pub struct Ended {
 
 // What a call leaves: the place of the chunk after the bytes taken, what is carried, and the place after what is
 // printed.
-#[derive(Drop)]
+#[derive(Clone, Copy)]
 pub struct Served {
     pub from: usize,
     pub carried: Carried,

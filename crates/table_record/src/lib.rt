@@ -1,5 +1,7 @@
 // The task record by value: its words read and written, and the record with one thing changed. Only this file and the
 // definitions of tasks say where in a record a word stands.
+#![tactic(auto)]
+
 ghost use Rattle.std.specs.Prelude.{◌&&◌, ◌≡◌, ◌<◌, eqb, length};
 ghost use Rattle.machine.specs.Tasks.{fresh, no_node, record_length, words_of};
 ghost use Rattle.machine.specs.Shape.{same_words};
@@ -17,7 +19,7 @@ ghost use Rattle.table_record.specs.Coded.{
 use machine::Stored;
 
 #[repr(C)]
-#[derive(Drop)]
+#[derive(Clone, Copy)]
 pub struct Task {
     pub operation: u32,
     pub step: u32,

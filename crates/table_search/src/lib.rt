@@ -1,6 +1,8 @@
 // The search for a free node: what the hats and the tasks reach is marked, and the first node without a mark is it.
 // In each function n is the number of the table's nodes. The marks, one a node, and the queue of marked nodes,
 // which ends at tail, have a place for each of them.
+#![tactic(auto)]
+
 ghost use Rattle.std.specs.Prelude.{◌≡◌, true, cond, not, [], ◌∷◌, ◌<◌, ◌≤◌, eqb, length};
 ghost use Rattle.machine.specs.Tasks.{no_node};
 ghost use Rattle.machine.specs.Table.{node_count, task_count};

@@ -1,4 +1,6 @@
 // Which tables are accepted: the tests of refusals 3 and 4, for a slice of any words.
+#![tactic(auto)]
+
 pub mod records;
 
 ghost use Rattle.std.specs.Prelude.{◌≡◌, true, ◌+◌, ◌*◌, ◌≤◌, ◌<◌, length};

@@ -1,3 +1,5 @@
 // What the code knows by a step's number: whose step it is, and which registers hold their nodes there.
+#![tactic(auto)]
+
 pub mod held;
 pub mod owners;

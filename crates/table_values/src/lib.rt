@@ -1,4 +1,6 @@
 // A value as the table holds it: its tests, the marks of a side and their mirrors.
+#![tactic(auto)]
+
 ghost use Rattle.std.specs.Prelude.{◌≡◌, true, ◌+◌, ◌≤◌, length};
 ghost use Rattle.std.proofs.lemmas.List.Edits.{sets};
 ghost use Rattle.tag.specs.Tags.{digit_of, low_of, tag_words};

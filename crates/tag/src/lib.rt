@@ -1,4 +1,6 @@
 // A tag as one number, as two words, the leading digit and the nine digits below, and as ten digits.
+#![tactic(auto)]
+
 ghost use Rattle.std.specs.Prelude.{◌≡◌, [], ◌∷◌, ◌/◌, ◌%◌, ◌≤◌, ◌<◌};
 ghost use Rattle.tag.specs.Tags.{billion, largest_tag, tag_of, digit_of, low_of, is_tag, ten_digits};
 

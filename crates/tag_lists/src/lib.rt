@@ -1,5 +1,7 @@
 // Tag lists in packed decimal: the baggage office's bytes read into words, and words written as such bytes. One pass
 // tests every tag, and only then another one writes.
+#![tactic(auto)]
+
 mod reading;
 mod writing;
 
@@ -8,7 +10,7 @@ ghost use Rattle.tag_lists.specs.TagLists.{length_ok, read_tags, write_tags, out
 
 // What reading and writing answer: the number of tags; or refusal 17; 18, with the place of the first tag that is none;
 // or 19.
-#[derive(Drop)]
+#[derive(Clone, Copy)]
 pub enum Listed {
     Count(u32),
     BadLength,

@@ -1,4 +1,6 @@
 // One tag in packed decimal: ten digits and the five bytes that hold them, both arrays by value.
+#![tactic(auto)]
+
 pub mod digits;
 
 ghost use Rattle.std.specs.Prelude.{◌≡◌, true, ◌+◌, ◌≤◌, leb, length, take, drop};

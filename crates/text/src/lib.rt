@@ -1,4 +1,6 @@
 // Texts compared; and texts, numbers and rows of tags, put at a place of a buffer.
+#![tactic(auto)]
+
 ghost use Rattle.std.specs.Prelude.{◌≡◌, ◌++◌, ◌+◌, ◌*◌, ◌≤◌, length};
 ghost use Rattle.tag.specs.Tags.{tags_in};
 ghost use Rattle.text.specs.Text.{bytes, same};

@@ -1,4 +1,6 @@
 // The lines of a page of the shift sheet, put into a buffer: blank ones, the heading, and a tag at its column.
+#![tactic(auto)]
+
 pub mod digits;
 
 ghost use Rattle.std.specs.Prelude.{◌≡◌, [], ◌+◌, ◌≤◌, length};

@@ -1,4 +1,6 @@
 // Scanning a line, byte by byte: the front of its text stands in an array of bytes, its numbers in an array of words.
+#![tactic(auto)]
+
 ghost use Rattle.std.specs.Prelude.{List, ◌≡◌, ℕ, ◌+◌, ◌*◌, ◌≤◌, ◌<◌, min, length};
 ghost use Rattle.text_scan.specs.Scanned.{is_digit};
 ghost use Rattle.text_scan.specs.Kept.{
@@ -32,7 +34,7 @@ const COUNTED_DIGITS: usize = 11;
 
 // How far a scan is: the bytes of text kept, the numbers counted up to 4, the digits of the last one counted up to 11,
 // and whether the last byte was a digit.
-#[derive(Drop)]
+#[derive(Clone, Copy)]
 pub struct Scan {
     pub length: usize,
     pub count: usize,
@@ -41,7 +43,7 @@ pub struct Scan {
 }
 
 // Where the scan of a line stopped, and how far it is.
-#[derive(Drop)]
+#[derive(Clone, Copy)]
 pub struct Stop {
     pub at: usize,
     pub scan: Scan,

@@ -1,4 +1,6 @@
 // One tick on a table that has passed the tests of refusals 3 and 4.
+#![tactic(auto)]
+
 ghost use Rattle.std.specs.Prelude.{◌≡◌, ◌<◌};
 ghost use Rattle.machine.specs.Table.{node_count, record_words};
 ghost use Rattle.machine.specs.Allocate.{allocate};

@@ -1,4 +1,6 @@
 // What a line's outcome comes to in the table: a refusal changes nothing, a tick that is made is stored.
+#![tactic(auto)]
+
 ghost use Rattle.std.specs.Prelude.{◌≡◌, ◌<◌};
 ghost use Rattle.machine.specs.Sides.{side_of};
 ghost use Rattle.machine.specs.Table.{most_lanes};

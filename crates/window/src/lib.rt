@@ -1,4 +1,6 @@
 // Request 2026-11: the lost swaps among the last W ticks, kept in a lent window.
+#![tactic(auto)]
+
 mod places;
 
 ghost use Rattle.std.specs.Prelude.{◌≡◌, length};
@@ -8,7 +10,7 @@ ghost use Rattle.window.specs.Window as specs;
 use std::num::wrapping_sub_u32;
 
 // What a feed answers: the lost swaps among the last W ticks fed; refusal 23; or 24.
-#[derive(Drop)]
+#[derive(Clone, Copy)]
 pub enum Fed {
     Lost(u32),
     BadWindow,

@@ -19,14 +19,14 @@ pub const LAST: usize = 3;
 pub const PLACES: usize = 4;
 
 // Whether places are all 0 or 1, and how many are 1.
-#[derive(Drop)]
+#[derive(Clone, Copy)]
 pub struct Tallied {
     pub bits: bool,
     pub lost: u32,
 }
 
 // Whether a window is one, and how many lost swaps its places hold.
-#[derive(Drop)]
+#[derive(Clone, Copy)]
 pub struct Found {
     pub ok: bool,
     pub lost: u32,
