@@ -1,5 +1,5 @@
 -- The order of the airlines does not matter.
-use mathlib.Core.Path.{◌≡◌, refl, sym, ap, ◌∙◌}
+use mathlib.Core.Path.{◌≡◌, refl, sym, ap, ◌∙◌, subst}
 use mathlib.Core.Bool.{Bool, true, false}
 use mathlib.Core.Logic.{◌⊎◌, inl, inr}
 use mathlib.Core.List.{List, [], ◌∷◌}
@@ -34,6 +34,7 @@ back (twice r s) = twice (back s) (back r)
 
 in-named : (e : Entry) (es : List Entry) → In e es → named e.code es ≡ true
 unfolding named
+in-named e [] i = elim i [ ]
 in-named e (d ∷ es) (inl p) = rw (eq-eqb e.code d.code (ap (λ x. x.code) p))
 in-named e (d ∷ es) (inr i) = go (eqb e.code d.code) refl (in-named e es i)
   where
@@ -43,6 +44,7 @@ in-named e (d ∷ es) (inr i) = go (eqb e.code d.code) refl (in-named e es i)
 
 end-in : (e : Entry) (es : List Entry) (closing : End) → Distinct es → In e es → end_for e.code es closing ≡ e.end
 unfolding end_for
+end-in e [] closing D i = elim i [ ]
 end-in e (d ∷ es) closing D (inl p) =
     rw (eq-eqb e.code d.code (ap (λ x. x.code) p)) (ap (λ x. x.end) (sym p))
 end-in e (d ∷ es) closing D (inr i) = go (eqb e.code d.code) refl (end-in e es closing D.1 i)
@@ -68,7 +70,9 @@ found code (d ∷ es) closing = go (eqb code d.code) refl (found code es closing
   where
     go : (b : Bool) → eqb code d.code ≡ b → Found code es closing → Found code (d ∷ es) closing
     go true h r = let c = eqb-true code d.code h in inl (inl (rw h (λ i. entry (c i) d.end)))
-    go false h (inl i) = inl (inr (rw h i))
+    go false h (inl i) =
+        let further : end_for code (d ∷ es) closing ≡ end_for code es closing = rw h refl in
+        inl (inr (subst (λ (x : End). In (entry code x) es) (sym further) i))
     go false h (inr n) = inr (rw h n)
 
 same_end : (code : ℕ) (es fs : List Entry) (closing : End) → Distinct fs → Reordered es fs

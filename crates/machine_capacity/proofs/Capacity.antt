@@ -137,35 +137,39 @@ record Filled (ws : List ℕ) (ℓ : ℕ) (s : Side) (vs : List ℕ) : Type 0 wh
       (j : ℕ) (z : Side) → j < lane_count ws → OtherEnd ℓ (opposite s) j z → EndFilled ws j z → EndFilled vs j z
 
 fills : {ws vs : List ℕ} {ℓ : ℕ} {s : Side} → Begun ws → Idle ws → FilledFrom ℓ s vs ws → Filled ws ℓ s vs
-fills B idle_now (is_full P) =
-    let D = push-done B idle_now P in
-    let K = D.left-idle in
-    let F = full-end B idle_now D refl in
-    record {
-      begun = K.begun;
-      idle_now = K.idle_now;
-      same_nodes = K.same_nodes;
-      same-lanes = K.same-lanes;
-      own-end = F.0;
-      none_free = F.1;
-      other-ends = others-stay B idle_now D;
-    }
-fills B idle_now (one_more P more) =
-    let D = push-done B idle_now P in
-    let K = D.left-idle in
-    let F = fills K.begun K.idle_now more in
-    record {
-      begun = F.begun;
-      idle_now = F.idle_now;
-      same_nodes = F.same_nodes ∙ K.same_nodes;
-      same-lanes = F.same-lanes ∙ K.same-lanes;
-      own-end = F.own-end;
-      none_free = F.none_free;
-      other-ends =
-          λ j z h other E.
-          F.other-ends j z (subst (λ (n : ℕ). j < n) (sym K.same-lanes) h) other
-          (others-stay B idle_now D j z h other E);
-    }
+fills {ws} {vs} {ℓ} {s} = go
+  where
+    -- The recursion changes only the table that the pushes begin at.
+    go : {us : List ℕ} → Begun us → Idle us → FilledFrom ℓ s vs us → Filled us ℓ s vs
+    go B idle_now (is_full P) =
+        let D = push-done B idle_now P in
+        let K = D.left-idle in
+        let F = full-end B idle_now D refl in
+        record {
+          begun = K.begun;
+          idle_now = K.idle_now;
+          same_nodes = K.same_nodes;
+          same-lanes = K.same-lanes;
+          own-end = F.0;
+          none_free = F.1;
+          other-ends = others-stay B idle_now D;
+        }
+    go B idle_now (one_more P more) =
+        let D = push-done B idle_now P in
+        let K = D.left-idle in
+        let F = go K.begun K.idle_now more in
+        record {
+          begun = F.begun;
+          idle_now = F.idle_now;
+          same_nodes = F.same_nodes ∙ K.same_nodes;
+          same-lanes = F.same-lanes ∙ K.same-lanes;
+          own-end = F.own-end;
+          none_free = F.none_free;
+          other-ends =
+              λ j z h other E.
+              F.other-ends j z (subst (λ (n : ℕ). j < n) (sym K.same-lanes) h) other
+              (others-stay B idle_now D j z h other E);
+        }
 
 -- A filled end stays so, whichever it is.
 ends_stay : {ws vs : List ℕ} {ℓ : ℕ} {s : Side} → Filled ws ℓ s vs → (j : ℕ) (z : Side) → j < lane_count ws
@@ -213,25 +217,28 @@ one-end-more {ws} {us} {vs} {ℓ} {s} {ends} F G =
     there j z h (later a) = G.at-ends j z (still j h) a
 
 fill-ends : {ws vs : List ℕ} {ends : List End} → Begun ws → Idle ws → FilledEnds vs ends ws → AllFilled ws ends vs
-fill-ends {ws} {vs} B idle_now all_filled =
-    record {
-      begun = B;
-      idle_now = idle_now;
-      same_nodes = refl;
-      same-lanes = refl;
-      stay = λ j z h E. E;
-      at-ends = λ j z h a. not_there a;
-      none_free = by_start;
-    }
+fill-ends {ws} {vs} = go
   where
     not_there : {e : End} {Q : Type 0} → Among e [] → Q
     not_there a = elim a [ ]
 
-    by_start : NoneFree ws ⊎ ((e : End) × Among e []) → NoneFree ws
+    by_start : NoneFree vs ⊎ ((e : End) × Among e []) → NoneFree vs
     by_start (inl n) = n
     by_start (inr (e, a)) = not_there a
-fill-ends B idle_now (next_filled ℓ s first-end others) =
-    let F = fills B idle_now first-end in one-end-more F (fill-ends F.begun F.idle_now others)
+
+    go : {us : List ℕ} {es : List End} → Begun us → Idle us → FilledEnds vs es us → AllFilled us es vs
+    go B idle_now all_filled =
+        record {
+          begun = B;
+          idle_now = idle_now;
+          same_nodes = refl;
+          same-lanes = refl;
+          stay = λ j z h E. E;
+          at-ends = λ j z h a. not_there a;
+          none_free = by_start;
+        }
+    go B idle_now (next_filled ℓ s first-end others) =
+        let F = fills B idle_now first-end in one-end-more F (go F.begun F.idle_now others)
 
 pub capacity : Capacity.Capacity
 capacity ws vs ends B idle_now all-ends filled-so =

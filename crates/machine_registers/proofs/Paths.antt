@@ -25,6 +25,7 @@ some_way (w ∷ ws) p = p w || some_way ws p
 
 module _ (p : Way → Bool) where
   pub each_way : (ws : List Way) → every_way ws p ≡ true → (w : Way) → OneOf w ws → p w ≡ true
+  each_way [] e w h = elim h [ ]
   each_way (x ∷ ws) e w (inl q) = ap p q ∙ and_left (p x) (every_way ws p) e
   each_way (x ∷ ws) e w (inr h) = each_way ws (and_right (p x) (every_way ws p) e) w h
 

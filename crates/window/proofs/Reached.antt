@@ -150,7 +150,8 @@ unfolding answers_of window_after
 led-filling zero l small F = ([], tt, none-fed F)
 led-filling {W} {last} (suc fed) l small F =
     let F₀ = one_less fed (suc fed) F (last_before fed last) (last_none fed last) in
-    led_on F₀ last (led-filling fed (omega arith) (last-small fed last) F₀) (last-follows fed last small)
+    led_on F₀ last (led-filling {last = last_before fed last} fed (omega arith) (last-small fed last) F₀)
+    (last-follows fed last small)
     (by-more (λ n. n ≡ suc fed) W fed (λ m. omega arith) (λ m. clash (omega arith)))
     (by-round (λ n. n ≡ suc fed) W fed (λ m. omega arith) (λ m. clash (omega arith)))
     (F.bits fed)
@@ -181,7 +182,7 @@ led-full {W} {last} (suc next) {ps} small F =
       bits = F.bits;
       zeros = F.zeros;
     } in
-    led_on F₀ last (led-full next (omega arith) F₀) (count-follows W last small)
+    led_on F₀ last (led-full {last = count_before last} next (omega arith) F₀) (count-follows W last small)
     (by-more (λ m. m ≡ W) W W (λ l. clash (omega arith)) (λ l. refl))
     (by-round (λ m. m ≡ suc next) W next (λ l. omega arith) (λ l. clash (omega (arith, F.is-place))))
     (F.bits next)

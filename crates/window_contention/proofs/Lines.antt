@@ -28,6 +28,7 @@ module _ {s o : Side} {m : Memory} {t : Task} {g f : ℕ} where
   says-5 : {e : Effect} → B.Branch s o m t g f line5 e → Says line5 (LostSwap s m t line5) e
   says-5 (B.stuck _) made = clash (cc)
   says-5 (B.moves (B.lost-5 n)) made = ((λ _. at_5 n), λ _. refl)
+  says-5 (B.writes w) made = elim w [ ]
   says-5 (B.ends (B.done-5 _ _ h v)) made = ((λ i. clash (cc)), λ l. elim l [ at_5 n ↦ absurd (n (h, v)) ])
 
   says-25 : {e : Effect} → B.Branch s o m t g f line25 e → Says line25 (LostSwap s m t line25) e
@@ -39,15 +40,18 @@ module _ {s o : Side} {m : Memory} {t : Task} {g f : ℕ} where
   says-48 : {e : Effect} → B.Branch s o m t g f line48 e → Says line48 (LostSwap s m t line48) e
   says-48 (B.stuck _) made = clash (cc)
   says-48 (B.moves (B.lost-48 n)) made = ((λ _. at_48 n), λ _. refl)
+  says-48 (B.writes w) made = elim w [ ]
   says-48 (B.ends (B.done-48 _ h v)) made = ((λ i. clash (cc)), λ l. elim l [ at_48 n ↦ absurd (n (h, v)) ])
 
   says-51 : {e : Effect} → B.Branch s o m t g f line51 e → Says line51 (LostSwap s m t line51) e
   says-51 (B.stuck _) made = clash (cc)
   says-51 (B.moves (B.lost-51 n)) made = ((λ _. at_51 n), λ _. refl)
+  says-51 (B.writes w) made = elim w [ ]
   says-51 (B.ends (B.done-51 _ h v)) made = ((λ i. clash (cc)), λ l. elim l [ at_51 n ↦ absurd (n (h, v)) ])
 
   says-62 : {e : Effect} → B.Branch s o m t g f line62 e → Says line62 (LostSwap s m t line62) e
   says-62 (B.stuck _) made = clash (cc)
+  says-62 (B.moves w) made = elim w [ ]
   says-62 (B.writes (B.done-62 _ _ h v)) made = ((λ i. clash (cc)), λ l. elim l [ at_62 n ↦ absurd (n (h, v)) ])
   says-62 (B.ends (B.lost-62 n)) made = ((λ _. at_62 n), λ _. refl)
 
@@ -68,11 +72,11 @@ lost-from-swap before after = go (eqb before 5) (eqb before 25) (eqb before 48) 
     go false false false false e h = and_left e (eqb after 0) h
 
 swap-lost : {s : Side} {m : Memory} {t : Task} (st : Step) → LostSwap s m t st → is_swap (step_number st) ≡ true
-swap-lost line5 (at_5 n) = refl
-swap-lost line25 (at_25 n) = refl
-swap-lost line48 (at_48 n) = refl
-swap-lost line51 (at_51 n) = refl
-swap-lost line62 (at_62 n) = refl
+swap-lost st (at_5 n) = refl
+swap-lost st (at_25 n) = refl
+swap-lost st (at_48 n) = refl
+swap-lost st (at_51 n) = refl
+swap-lost st (at_62 n) = refl
 
 -- ---- A line is one of the five, or none of them.
 by-swap : (P : Step → Type 0) → P line5 → P line25 → P line48 → P line51 → P line62

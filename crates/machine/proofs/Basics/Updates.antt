@@ -71,8 +71,8 @@ pub is-update_side :
     → f' s ≡ v
     → f' (opposite s) ≡ f (opposite s)
     → f' ≡ update_side f s v
-is-update_side f f' left v here there = fun_ext (λ z. elim z [ left ↦ here | right ↦ there ])
-is-update_side f f' right v here there = fun_ext (λ z. elim z [ left ↦ there | right ↦ here ])
+is-update_side f f' left v here there = fun_ext (elim [ left ↦ here | right ↦ there ])
+is-update_side f f' right v here there = fun_ext (elim [ left ↦ there | right ↦ here ])
 
 pub update_side-all :
     {T : Type 0} (f : Side → T) (s : Side) (v : T) (P : T → Type 0)

@@ -110,6 +110,6 @@ module _ {S g L : ℕ} {st : Step} (t : Task) (F : BusyAt S g L st t) where
   D-fits = F.D-ok
 
   pub value-fits : ValueFits t.value
-  value-fits = (F.Has-word, value-read-ok F)
+  value-fits = (F.has_word, value-read-ok F)
 
 pub ruleset fitting = (A-fits, B-fits, C-fits, D-fits, value-fits, N-fits, X-fits, Y-fits, none-fits)

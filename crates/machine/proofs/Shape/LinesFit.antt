@@ -108,18 +108,18 @@ module _ (S g L : ℕ) (m : Memory) (M : MemoryFits S m) (t : Task) (f : ℕ) (f
   moved (B.reached-54 _) F = moves-A F (lands (part F) refl) (λ _. M.hat-ok)
   moved (B.hat-54 n) F =
       let none-counted = eqb-true t.counted 0 F.counted-ok in
-      busy-stands F Steps.line56 (part F) (lt-ltb t.counted (goal g t) (omega arith)) F.value-ok F.Has-word
+      busy-stands F Steps.line56 (part F) (lt-ltb t.counted (goal g t) (omega arith)) F.value-ok F.has_word
       (λ _. M.hat-ok) F.B-ok F.C-ok F.D-ok
   moved (B.else-56 _ _) F =
-      busy-stands F Steps.line58 (part F) F.counted-ok F.value-ok F.Has-word
+      busy-stands F Steps.line58 (part F) F.counted-ok F.value-ok F.has_word
       F.A-ok F.B-ok F.C-ok F.D-ok
   moved (B.reached-58 _ _ e) F =
       busy-stands F Steps.line60 (part F) (le-leb (suc t.counted) (goal g t) (omega arith)) F.value-ok
-      F.Has-word (M.out-ok t.A) F.B-ok F.C-ok F.D-ok
+      F.has_word (M.out-ok t.A) F.B-ok F.C-ok F.D-ok
   moved (B.some-58 _ _ n) F =
       let below = ltb-true t.counted (goal g t) F.counted-ok in
       busy-stands F Steps.line56 (part F) (lt-ltb (suc t.counted) (goal g t) (omega arith)) F.value-ok
-      F.Has-word (M.out-ok t.A) F.B-ok F.C-ok F.D-ok
+      F.has_word (M.out-ok t.A) F.B-ok F.C-ok F.D-ok
   moved (B.some-60 _ _) F = moves-B F (lands (part F) refl) (M.out-ok t.A)
   moved (B.lost-64 _ _) F = busy-moves F (lands (part F) refl)
   moved (B.none-74 _ _) F =
@@ -139,7 +139,7 @@ module _ (S g L : ℕ) (m : Memory) (M : MemoryFits S m) (t : Task) (f : ℕ) (f
       → value_read_ok t.side (step_number st') (encode t.value) ≡ true
       → {d : ℕ} → NodeOrNone S d
       → Facts (with_counted (with_d t d) n) st'
-  chained F st' p n v d = busy-stands F st' p n v F.Has-word F.A-ok F.B-ok F.C-ok d
+  chained F st' p n v d = busy-stands F st' p n v F.has_word F.A-ok F.B-ok F.C-ok d
 
   wrote : {st st' : Step} {l : List Write} {u : Task}
       → B.Writes t.side (opposite t.side) m t (goal g t) f st l u st' → At st → WritesFit S l × Facts u st'

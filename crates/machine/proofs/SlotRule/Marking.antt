@@ -178,19 +178,22 @@ Each P (x ∷ xs) = P x × Each P xs
 pub room-mark_all : {S : ℕ} {m : Marking} → Room S m → (xs : List ℕ) → Room S (mark_all S m xs)
 unfolding mark_all
 room-mark_all r [] = r
-room-mark_all r (x ∷ xs) = room-mark_all (room-mark r x) xs
+room-mark_all {S} {m} r (x ∷ xs) = room-mark_all {m = mark S m x} (room-mark r x) xs
 
 mark_all-grows : {S : ℕ} {m : Marking} → Room S m → (xs : List ℕ) → Grows m (mark_all S m xs)
 unfolding mark_all
 mark_all-grows {m} r [] = grows-refl m
-mark_all-grows r (x ∷ xs) = grows-trans (mark-grows r x) (mark_all-grows (room-mark r x) xs)
+mark_all-grows {S} {m} r (x ∷ xs) =
+    grows-trans (mark-grows r x) (mark_all-grows {m = mark S m x} (room-mark r x) xs)
 
 pub mark_all-marks : {S : ℕ} {m : Marking} → Room S m → (xs : List ℕ)
     → Each (λ x. x < S → HasMark (mark_all S m xs) x) xs
 unfolding mark_all
 mark_all-marks r [] = record {}
-mark_all-marks r (x ∷ xs) =
-    (λ l. (mark_all-grows (room-mark r x) xs).stays x (mark-marks r x l), mark_all-marks (room-mark r x) xs)
+mark_all-marks {S} {m} r (x ∷ xs) = (
+  λ l. (mark_all-grows (room-mark r x) xs).stays x (mark-marks r x l),
+  mark_all-marks {m = mark S m x} (room-mark r x) xs,
+)
 
 -- ---- A visit: both links of a queued node marked. Of the two, those that are nodes have a mark.
 abbrev pub LinksMarked : List ℕ → Marking → ℕ → Type 0

@@ -209,7 +209,8 @@ module _ (ws : List ℕ) where
       → Sound ws (mark_all S m xs)
   unfolding mark_all
   mark_all-sound r d [] c = d
-  mark_all-sound r d (x ∷ xs) c = mark_all-sound (room-mark r x) (mark-sound r d x c.0) xs c.1
+  mark_all-sound {m} r d (x ∷ xs) c =
+      mark_all-sound {m = mark S m x} (room-mark r x) (mark-sound r d x c.0) xs c.1
 
   -- ---- How far the visiting has come: the links of each node queued before place i are marked.
   record Visited (m : Marking) (i : ℕ) : Type 0 where
@@ -259,7 +260,7 @@ module _ (ws : List ℕ) where
   visit_from-done : {m : Marking} (n i : ℕ) → Visited m i → largest_count ≤ n + i → AllVisited m (visit_from ws n i m)
   visit_from-done zero i v e = at-end 0 i v (let t = tail-le v.room in omega arith)
   visit_from-done {m} (suc n) i v e =
-      by (i <? m.tail) (λ l. visit_from-done n (suc i) (visit-visited i v l) (omega arith))
+      by (i <? m.tail) (λ l. visit_from-done {m = visit ws m i} n (suc i) (visit-visited i v l) (omega arith))
     where
       by : Dec (i < m.tail) → (i < m.tail → AllVisited (visit ws m i) (visit_from ws n (suc i) (visit ws m i)))
           → AllVisited m (visit_from ws (suc n) i m)

@@ -49,7 +49,7 @@ pub fit_effect :
     → refusal_of e.answer ≡ none
     → AllInRange S e.writes × HasWord e.task.value
 fit_effect S g L turns-back made = clash (cc)
-fit_effect S g L (goes_on {l} fit F) made = (all-in-range S l fit, F.Has-word)
+fit_effect S g L (goes_on {l} fit F) made = (all-in-range S l fit, F.has_word)
 fit_effect S g L (ends {l} fit answers) made = (all-in-range S l fit, never-has-word)
 
 applied-answer : (j : ℕ) (s : Side) (ws : List ℕ) (k : ℕ) (e : Effect) → (applied j s ws k e).answer ≡ e.answer

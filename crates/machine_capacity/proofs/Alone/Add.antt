@@ -105,7 +105,7 @@ module _ (end : CallEnd) (k v : ℕ) where
       (few : i ≤ v) (all : (i ≡ v) ⊎ AllBut m d)
       (spur-same : value ws (hat ws ℓ s) ≡ Y s → m.val (hat ws ℓ s) ≡ Y s) where
     d-some : d ≢ no_node
-    d-some e = C.not_None 0 (omega arith) (sym C.head ∙ e)
+    d-some e = C.not_none 0 (omega arith) (sym C.head ∙ e)
 
     module _ (x : ℕ) (x-last : x ≡ spare end (spares end - 1)) where
       abbrev m_a : View

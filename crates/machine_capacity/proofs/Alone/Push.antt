@@ -229,7 +229,7 @@ module _ (end : CallEnd) (k v : ℕ) where
         hat₁ = ap (λ (h : ℕ → Side → ℕ). h ℓ s) same_hats ∙ hat-at
 
         d-some : d ≢ no_node
-        d-some e = C.not_None 0 (omega arith) (sym C.head ∙ e)
+        d-some e = C.not_none 0 (omega arith) (sym C.head ∙ e)
 
         module _ (x : ℕ) (x-last : x ≡ spare end (spares end - 1)) where
           abbrev m_a : View

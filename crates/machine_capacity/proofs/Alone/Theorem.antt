@@ -214,7 +214,7 @@ to-answer k {ws = ws} (answers_later {h} {moves} is-going more) (h' ∷ hints) q
     let goes = subst (λ (i : ℕ). (tick ws k i).answer ≡ Going) same is-going in
     rw (ap is_going goes, ticks_with)
     (ends-later h' goes
-    (to-answer k (subst (λ (i : ℕ). AnswersAlone k moves (tick ws k i).words) same more) hints others))
+    (to-answer k {moves = moves} (subst (λ (i : ℕ). AnswersAlone k moves (tick ws k i).words) same more) hints others))
 to-answer k (dispatch-answers a says e) [] q = clash (cc)
 to-answer k (dispatch-answers a says e) (h' ∷ hints) q = clash (cc)
 to-answer k (dispatch-goes-on says more) [] q = clash (cc)

@@ -237,7 +237,7 @@ module _ {ws : List ℕ} (X : Led ws) (k h : ℕ) (p : tick_refusal ws k h ≡ n
                   viewed-set-dispatched us sized k right,
                   task-set-dispatched us sized k,
                 )
-                C.left_After.left;
+                C.left_after.left;
           },
         )
 

@@ -78,7 +78,7 @@ module _ {ws : List ℕ} (X : Led ws) (k n h : ℕ) (busy : is_busy (task ws k).
       answers_later says
       (others (led-call X (tick_call k h))
       (subst (λ (vs : List ℕ). is_busy (task vs k).operation ≡ true) on C.busy-after)
-      (subst (λ (vs : List ℕ). LeftIn 0 vs k (n - 1)) on C.left_After) (omega (arith, C.some)) (alone.1 says)))
+      (subst (λ (vs : List ℕ). LeftIn 0 vs k (n - 1)) on C.left_after) (omega (arith, C.some)) (alone.1 says)))
 
   -- A dispatch that reaches the task is its tick.
   by_dispatch : Alone k (dispatch-to h ∷ moves) ws → Others k (n - 1) moves (dispatch ws h).words

@@ -39,6 +39,8 @@ tenth-least n k h = (le-div_iff_mul-le {k = 10} {x = 10 ^ k} {y = n} (omega arit
 
 -- The k + 1 digits of a number that has no fewer.
 digits_are : (k f n : ℕ) → n < f → n < 10 ^ suc k → (0 < k → 10 ^ k ≤ n) → last_digits 10 (suc k) n ≡ digits_in f n
+digits_are zero zero n l u m = elim l [ ]
+digits_are (suc k) zero n l u m = elim l [ ]
 digits_are zero (suc f) n l u m =
     let below : n < 10 = rw pow-suc at u in
     rw (last-digit n, mod-eq_of_lt below) (sym (one-digit f n below))

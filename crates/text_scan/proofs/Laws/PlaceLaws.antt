@@ -112,7 +112,7 @@ byte-well {σ} W b = go (is_digit b) σ.in_number refl refl
 bytes-well : {σ : Scanned} → WellScanned σ → (bytes : List ℕ) → WellScanned (scan_bytes σ bytes)
 unfolding scan_bytes
 bytes-well W [] = W
-bytes-well W (b ∷ bs) = bytes-well (byte-well W b) bs
+bytes-well {σ} W (b ∷ bs) = bytes-well {σ = scan_byte σ b} (byte-well W b) bs
 
 pub line-well : (line : List ℕ) → WellScanned (scan_bytes nothing line)
 line-well line = bytes-well nothing-well line

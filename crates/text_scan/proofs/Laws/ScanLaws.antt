@@ -235,10 +235,11 @@ byte-represents {k} {σ} K R b = go (is_digit b) k.scan.in_number refl refl
 pub bytes-scan-kept : {k : Kept} → ScanKept k → (bytes : List ℕ) → ScanKept (keep_bytes k bytes)
 unfolding keep_bytes
 bytes-scan-kept K [] = K
-bytes-scan-kept K (b ∷ bs) = bytes-scan-kept (byte-scan-kept K b) bs
+bytes-scan-kept {k} K (b ∷ bs) = bytes-scan-kept {k = keep_byte k b} (byte-scan-kept K b) bs
 
 bytes-represents : {k : Kept} {σ : Scanned} → ScanKept k → Represents k σ → (bytes : List ℕ)
     → Represents (keep_bytes k bytes) (scan_bytes σ bytes)
 unfolding keep_bytes scan_bytes
 bytes-represents K R [] = R
-bytes-represents K R (b ∷ bs) = bytes-represents (byte-scan-kept K b) (byte-represents K R b) bs
+bytes-represents {k} {σ} K R (b ∷ bs) =
+    bytes-represents {k = keep_byte k b} {σ = scan_byte σ b} (byte-scan-kept K b) (byte-represents K R b) bs

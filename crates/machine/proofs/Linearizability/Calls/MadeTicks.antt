@@ -261,7 +261,7 @@ module _ {ws : List ℕ} {ρ : Row} (A : Agrees ws ρ) (k h : ℕ) (passes : tic
           subst
           (λ (a : Answer).
           RowStep (task ws k).operation (task ws k).argument a (row_from s (ρ.bags ℓ)) (row_from s (T.r' ℓ)))
-          e T.Row-step in
+          e T.row_step in
           record {
             row = ρ;
             no_number = no-answer-number;
@@ -272,7 +272,7 @@ module _ {ws : List ℕ} {ρ : Row} (A : Agrees ws ρ) (k h : ℕ) (passes : tic
           }
       go (has_answered n fresh-now) =
           let bags =
-          given-by-row (note_of (task ws k)) (ρ.bags ℓ) (T.r' ℓ) (effect_of ws k h).answer n T.Row-step in
+          given-by-row (note_of (task ws k)) (ρ.bags ℓ) (T.r' ℓ) (effect_of ws k h).answer n T.row_step in
           record {
             row = noted (with_bags ρ ℓ (T.r' ℓ)) k none;
             no_number = no-answer-number;

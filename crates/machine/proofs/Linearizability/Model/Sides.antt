@@ -20,14 +20,14 @@ sides left =
       tag = λ z. elim z [ left ↦ true | right ↦ false ];
       tag-near = refl;
       tag-far = refl;
-      either = λ z. elim z [ left ↦ inl refl | right ↦ inr refl ];
+      either = elim [ left ↦ inl refl | right ↦ inr refl ];
     }
 sides right =
     record {
       tag = λ z. elim z [ left ↦ false | right ↦ true ];
       tag-near = refl;
       tag-far = refl;
-      either = λ z. elim z [ left ↦ inr refl | right ↦ inl refl ];
+      either = elim [ left ↦ inr refl | right ↦ inl refl ];
     }
 
 pub opposite-exchanged : {s o : Side} → Opposite s o → Opposite o s

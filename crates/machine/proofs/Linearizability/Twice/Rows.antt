@@ -357,7 +357,7 @@ unfolding feed_made_ticks
 once-ticks O [] e = same_row e O
 once-ticks {ρ} O (t ∷ ts) e =
     let x = bind-some (feed_made_tick ρ t) _ e in
-    once-ticks (once-tick O t x.1) ts x.2
+    once-ticks {ρ = x.0} (once-tick O t x.1) ts x.2
 
 -- ---- What a call did.
 pub once-did : (d : Did) {ρ ρ' : Row} → Once ρ → NewWhereBegun ρ d → feed_did ρ d ≡ some ρ' → Once ρ'

@@ -126,12 +126,12 @@ module _ {k : ℕ} {s : Side} {out inn : ℕ → ℕ} {val : ℕ → Value} {cla
   front-links =
       record {
         links-out =
-            λ j. elim j [
+            elim [
               | zero ↦ λ h. w-out.here ∙ H.head
               | suc i ↦ λ h. same_out i (omega arith) ∙ H.chain.links.links-out i (omega arith)
             ];
         links-in =
-            λ j. elim j [
+            elim [
               | zero ↦ λ h. cc (w-d.here, H.head)
               | suc i ↦ λ h. same-inn i (omega arith) ∙ H.chain.links.links-in i (omega arith)
             ];
@@ -148,9 +148,9 @@ module _ {k : ℕ} {s : Side} {out inn : ℕ → ℕ} {val : ℕ → Value} {cla
         chain =
             record {
               is_new =
-                  λ j. elim j [ zero ↦ λ h. f-new | suc i ↦ λ h. stays (H.node i) (C.is_new i (omega arith)) ];
+                  elim [ zero ↦ λ h. f-new | suc i ↦ λ h. stays (H.node i) (C.is_new i (omega arith)) ];
               place-node =
-                  λ j. elim j [ zero ↦ λ h. w-place.here | suc i ↦ λ h. place-shifted i (omega arith) ];
+                  elim [ zero ↦ λ h. w-place.here | suc i ↦ λ h. place-shifted i (omega arith) ];
               place-le =
                   λ x h. elim (wrote? w-place x) [
                     | it-is e p ↦ omega arith
@@ -162,7 +162,7 @@ module _ {k : ℕ} {s : Side} {out inn : ℕ → ℕ} {val : ℕ → Value} {cla
                     | it-is-not e p ↦ cc (C.node-place x (was x e h))
                   ];
               N-before =
-                  λ j. elim j [
+                  elim [
                     | zero ↦ λ h. w-val.here
                     | suc i ↦ λ h. same-val i (omega arith) ∙ C.N-before i (omega arith)
                   ];
