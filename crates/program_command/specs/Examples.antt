@@ -8,8 +8,8 @@ pub record Example : Type 0 where
   pub line : String
   pub says : Command
 
-infix 80 ◌reads-as◌
-abbrev ◌reads-as◌ : String → Command → Example
+infix 80 ◌reads_as◌
+abbrev ◌reads_as◌ : String → Command → Example
 line reads_as said = record { line = line; says = said }
 
 unfoldable pub examples : List Example
