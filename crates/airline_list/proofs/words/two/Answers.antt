@@ -1,0 +1,19 @@
+-- `airline_list::words::two` meets its contract: its two parts stand one behind the other.
+use native.Mathlib.Omega.{arith}
+use Rattle.airline_list.proofs.Laws.WordLaws.{joined}
+use borrow.Author.Rules.{rules}
+use Rattle.airline_list.proofs.words.two.Goals as goal
+
+pub overflow_mul-result : goal.overflow_mul-result
+overflow_mul-result c = omega (arith, c.byte-2.ensures.small)
+
+pub overflow_add-result : goal.overflow_add-result
+overflow_add-result c = omega (arith, c.byte.ensures.small, c.byte-2.ensures.small)
+
+pub returns : goal.returns
+returns c =
+    let a = c.args in
+    let low = c.byte in
+    let high = c.byte-2 in
+    joined a.text.now a.at 1 low.result high.result low.ensures high.ensures
+    (omega (arith, low.ensures.small, high.ensures.small))

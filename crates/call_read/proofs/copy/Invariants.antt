@@ -1,0 +1,33 @@
+-- `call_read::copy` meets its contract: the words written and the bags ahead are the out slice wanted.
+use mathlib.Core.Path.{◌≡◌, refl, sym, ap, ◌∙◌, subst}
+use mathlib.Core.Bool.{true}
+use mathlib.Core.List.{List}
+use mathlib.Core.Option.{Option, some}
+use Prim.Native.Nat.{ℕ, suc, ◌+◌, ◌*◌, ◌-◌, ◌≤◌}
+use native.Mathlib.Omega.{arith}
+use native.Mathlib.Nat.{sub-zero}
+use lib.ListN.{length}
+use lib.Seq.{sets}
+use Rattle.tag.specs.Tags.{tag_words}
+use Rattle.machine.specs.declared.Stored.{Stored}
+use Rattle.machine.specs.Values.{number, bag_ok}
+use Rattle.machine.specs.Sides.{right}
+use Rattle.machine.specs.Table.{node_count, link, value_words}
+use Rattle.lane_walk.specs.Walks.{ahead, count_of}
+use Rattle.lane_walk.proofs.Laws.Ahead.{BagAhead, bag-ahead}
+use Rattle.call_read.specs.Laid.{laid}
+use Rattle.call_read.proofs.ReadLaws.{written, one_written, write-ends}
+use Rattle.call_read.proofs.copy.Given as goal
+
+-- What holds before each turn.
+pub record Turn (table out₀ out : List ℕ) (from n x i : ℕ) : Type 0 where
+  pub copied-within : i ≤ n
+  pub out-long : length out ≡ length out₀
+  pub bags-left : count_of (ahead table x) ≡ some (n - i)
+  pub out-alike : written i (ahead table x) out ≡ laid (ahead table from) out₀
+
+abbrev pub invariant-loop-i : goal.invariant-loop-i
+invariant-loop-i l = Turn l.table l.initial.out l.out l.from l.n l.x l.i
+
+abbrev pub decreases-loop-i : goal.decreases-loop-i
+decreases-loop-i l = l.n - l.i

@@ -1,0 +1,43 @@
+-- `call_read::read` meets its contract: refusals 3 and 4, then `read_lane`.
+use mathlib.Core.Path.{◌∙◌}
+use native.Mathlib.Omega.{arith}
+use Rattle.machine.specs.Shape.{WellLinked}
+use Rattle.machine.proofs.Shape.ShapeLaws.{well-linked}
+use Rattle.table_shape.proofs.Laws.TableWords.{header-long}
+use Rattle.table_shape.proofs.Laws.PassedTable.{table-passed}
+use Rattle.call_read.proofs.ReadLaws.{read-refused, read-no-lane, read-goes-on}
+use borrow.Author.Rules.{rules}
+use Rattle.call_read.proofs.read.Goals as goal
+
+pub returns-then-n-ne0 : goal.returns-then-n-ne0
+returns-then-n-ne0 c =
+    let a = c.args in
+    read-refused a.table.now c.table_refusal-n.ensures a.l a.out.now c.if-n-ne0.true
+
+-- What passed.
+passes : (c : goal.Else-n-ne0) → WellLinked c.args.table.now
+passes c =
+    let ws = c.args.table.now in
+    well-linked ws (table-passed ws c.table_refusal-n.ensures c.if-n-ne0.false)
+
+pub lanes-requires : goal.lanes-requires
+lanes-requires c =
+    header-long c.args.table.now (passes c).length_passes
+
+pub returns-then-lanes-l : goal.returns-then-lanes-l
+returns-then-lanes-l c =
+    let a = c.args in
+    read-no-lane a.table.now c.table_refusal-n.ensures a.l a.out.now c.if-n-ne0.false
+    (omega (arith, c.lanes.ensures, c.if-lanes-l.true))
+
+pub read_lane-requires : goal.read_lane-requires
+read_lane-requires c =
+    let n : goal.After-lanes = search in (passes (search), omega (arith, n.lanes.ensures, c.if-lanes-l.false))
+
+pub returns : goal.returns
+returns c =
+    let l : goal.Else-lanes-l = search in
+    let a = c.args in
+    c.read_lane.ensures
+    ∙ read-goes-on a.table.now c.table_refusal-n.ensures a.l a.out.now
+    c.if-n-ne0.false (omega (arith, c.lanes.ensures, l.if-lanes-l.false))

@@ -1,0 +1,44 @@
+use mathlib.Core.Path.{◌≡◌, refl, sym, ap, ◌∙◌}
+use mathlib.Core.List.{List}
+use Prim.Native.Nat.{ℕ, ◌+◌, ◌*◌, ◌-◌, ◌≤◌}
+use native.Mathlib.Omega.{arith}
+use lib.ListN.{length}
+use Rattle.machine.specs.Values.{never}
+use Rattle.machine.specs.Tasks.{no_node}
+use Rattle.machine.specs.Table.{node_length, node_words}
+use Rattle.table_layout.specs.Words.{set_node_in}
+use Rattle.call_start.proofs.Filling.{filling, filling-more, filling-done}
+use borrow.Author.Rules.{rules}
+use Rattle.call_start.proofs.fresh.write_unused.Goals as goal
+
+abbrev unused : List ℕ
+unused = node_words no_node no_node never
+
+pub loop-x-init : goal.loop-x-init
+loop-x-init c = (c.requires.0, refl, refl)
+
+pub write-requires : goal.write-requires
+write-requires c =
+    omega (arith, c.loop-x.invariant.1)
+
+pub loop-x-preserved : goal.loop-x-preserved
+loop-x-preserved c =
+    let l = c.loop-x in
+    let n = c.args.slots in
+    let w = c.write in
+    let v = c.never in
+    let written = w.ensures ∙ ap (set_node_in l.ns l.x no_node no_node) v.ensures in (
+      omega arith,
+      w.auto.nodes ∙ l.invariant.1,
+      rw written
+          (filling-more l.ns unused (node_length * l.x) (node_length * (l.x + 1)) (n - l.x) (n - (l.x + 1))
+          (omega arith) (omega (arith, l.invariant.1)) (omega arith)
+          ∙ l.invariant.2),
+    )
+
+pub returns : goal.returns
+returns c =
+    let l = c.loop-x in
+    let n = c.args.slots in
+    let e : node_length * n ≡ node_length * l.x = omega arith in
+    rw e (sym (filling-done l.ns unused (node_length * l.x) (n - l.x) (omega arith)) ∙ l.invariant.2)

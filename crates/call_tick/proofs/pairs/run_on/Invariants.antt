@@ -1,0 +1,35 @@
+-- `call_tick::pairs::run_on` meets its contract: the ticks made and the run of the pairs ahead are the run of the list.
+use mathlib.Core.Path.{◌≡◌, refl, sym, ap, ◌∙◌}
+use mathlib.Core.List.{List}
+use Prim.Native.Nat.{ℕ, ◌+◌, ◌*◌, ◌<◌, ◌≤◌}
+use native.Mathlib.Omega.{arith}
+use lib.ListN.{length, length-drop}
+use borrow.Author.Rules.{rules}
+use Rattle.machine.specs.Answers.{answer_length}
+use Rattle.machine.specs.Calls.{run_on}
+use Rattle.machine.specs.Shape.{WellFormed}
+use Rattle.table_shape.proofs.Laws.FirstNode.{moved_on}
+use Rattle.call_tick.proofs.Laws.ConsecutiveTicks.{tick-passed}
+use Rattle.call_tick.proofs.Laws.RunWords.{
+  ahead,
+  tick-tag,
+  run-begins,
+  run_ends,
+  run-refused,
+  run-made,
+}
+use Rattle.call_tick.proofs.pairs.run_on.Given as goal
+
+-- What holds before each turn.
+pub record Turn (t₀ list answers₀ t answers rest : List ℕ) (made : ℕ) : Type 0 where
+  pub pairs-left : 2 * made + length rest ≡ length list
+  pub table-long : length t ≡ length t₀
+  pub answers-long : length answers ≡ length answers₀
+  pub well-formed : WellFormed t
+  pub rest-alike : ahead made rest t answers ≡ run_on list t₀ answers₀
+
+abbrev pub invariant-loop-rest : goal.invariant-loop-rest
+invariant-loop-rest l = Turn l.initial.table l.list l.initial.answers l.table l.answers l.rest l.made
+
+abbrev pub decreases-loop-rest : goal.decreases-loop-rest
+decreases-loop-rest l = length l.rest

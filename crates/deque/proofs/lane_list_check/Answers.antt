@@ -1,0 +1,9 @@
+-- `deque::lane_list_check` meets its contract: the number of `check`.
+use mathlib.Core.Path.{ap, ◌∙◌}
+use Rattle.airline_list.specs.declared.Checked.{Checked}
+use borrow.Author.Rules.{rules}
+use Rattle.deque.specs.Exports.{checked_number}
+use Rattle.deque.proofs.lane_list_check.Goals as goal
+
+pub returns : goal.returns
+returns c = c.checked_number.ensures ∙ ap (λ (d : Checked). checked_number d) c.check.ensures

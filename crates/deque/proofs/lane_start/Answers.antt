@@ -1,0 +1,10 @@
+-- `deque::lane_start` meets its contract: the number and the words of `start`.
+use mathlib.Core.Path.{ap, ◌∙◌}
+use Rattle.machine.specs.Answers.{reply_number}
+use Rattle.machine.specs.Calls.{Changed}
+use borrow.Author.Rules.{rules}
+use Rattle.deque.proofs.lane_start.Goals as goal
+
+pub returns : goal.returns
+returns c =
+    let e = c.start.ensures in record { value = c.reply_number.ensures ∙ ap (λ (d : Changed). reply_number d.reply) e; table_after = ap (λ (d : Changed). d.words) e }

@@ -1,0 +1,45 @@
+-- `lane_walk::locate` meets its contract: the bags counted and those of the walk ahead are all, and the node of the
+-- place is had, or the last that was gone to.
+use mathlib.Core.Path.{◌≡◌, sym, ◌∙◌}
+use mathlib.Core.Bool.{Bool}
+use mathlib.Core.List.{List}
+use Prim.Native.Nat.{ℕ, ◌-◌, ◌≤◌, ◌<◌, min}
+use native.Mathlib.Omega.{arith}
+use borrow.Author.Rules.{rules}
+use borrow.Author.Tests.{not-true, not-false}
+use Rattle.machine.specs.Sides.{left, right}
+use Rattle.machine.specs.Values.{bag_ok}
+use Rattle.machine.specs.Table.{node_count, hat, link, value_words}
+use Rattle.machine.specs.Calls.{lane_from, lane}
+use Rattle.machine.proofs.Shape.BusyLaws.{NodeOrNone}
+use Rattle.lane_walk.specs.Walks.{count_of, node_after}
+use Rattle.lane_walk.proofs.Laws.Nodes.{header-room, next-in}
+use Rattle.lane_walk.proofs.Laws.Places.{
+  counted,
+  counting-begins,
+  counting-ends,
+  counting-at-none,
+  counting-at-no-bag,
+  counting-at-bag,
+  begins-at,
+  begins-there,
+  gone-on,
+  had-next,
+  located-nowhere,
+  located-there,
+}
+use Rattle.lane_walk.proofs.locate.Given as goal
+
+-- What holds before each turn.
+pub record Turn (table : List ℕ) (l place x there n : ℕ) : Type 0 where
+  pub counted-within : n ≤ node_count table
+  pub node-or-none : NodeOrNone (node_count table) x
+  pub node-reached : x ≡ node_after table n (link table right (hat table l left))
+  pub node_had : there ≡ node_after table (min place n) (link table right (hat table l left))
+  pub count-alike : counted n (lane_from table (node_count table - n) x) ≡ count_of (lane table l)
+
+abbrev pub invariant-loop-n : goal.invariant-loop-n
+invariant-loop-n l = Turn l.table l.l l.place l.x l.there l.n
+
+abbrev pub decreases-loop-n : goal.decreases-loop-n
+decreases-loop-n l = l.slots - l.n

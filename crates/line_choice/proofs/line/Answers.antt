@@ -1,0 +1,117 @@
+-- `line_choice::line` meets its contract: of each arm's numbers and ranges one computed test names the group.
+use mathlib.Core.Path.{refl}
+use mathlib.Core.Logic.{inl, inr}
+use mathlib.Core.List.{List, [], ◌∷◌}
+use native.Mathlib.Omega.{arith}
+use Rattle.machine.specs.Steps.{Step, is_step_in, line5, line8, line15, line42, line48, line51, line72}
+use Rattle.line_choice.specs.Groups.{push_lines, add_lines, pop_lines, remove_lines, unspur_lines, break_lines}
+use Rattle.line_choice.proofs.StepChoice.{ready-within, ready-keyed, no_key, ready-nowhere, step-bound}
+use borrow.Author.Rules.{rules}
+use Rattle.line_choice.proofs.line.Goals as goal
+
+-- ---- The single numbers of each arm, where they are not all of its group.
+abbrev push_keys : List Step
+push_keys = line5 ∷ line8 ∷ []
+
+abbrev add_keys : List Step
+add_keys = line15 ∷ []
+
+abbrev pop_keys : List Step
+pop_keys = line42 ∷ line48 ∷ line51 ∷ []
+
+abbrev unspur_keys : List Step
+unspur_keys = line72 ∷ []
+
+pub push_line-requires : goal.push_line-requires
+unfolding is_step_in
+push_line-requires c =
+    let p = c.requires in
+    elim c.in-2-to-3-1.branch [
+      | inl k ↦ ready-keyed push_keys push_lines refl p k.keys1
+      | inr q ↦ ready-within [] push_lines 2 3 refl p (omega (arith, q.2.left)) (omega (arith, q.3.true)) refl
+    ]
+
+pub add_line-requires : goal.add_line-requires
+unfolding is_step_in
+add_line-requires c =
+    let p = c.requires in
+    elim c.in-15-1.branch [
+      | inl k ↦ ready-keyed add_keys add_lines refl p k.keys2
+      | inr (inl q) ↦ ready-within [] add_lines 17 18 refl p (omega (arith, q.4.left)) (omega (arith, q.5.true))
+          refl
+      | inr (inr q) ↦ ready-within [] add_lines 24 25 refl p (omega (arith, q.6.left)) (omega (arith, q.1.true))
+          refl
+    ]
+
+pub pop_line-requires : goal.pop_line-requires
+unfolding is_step_in
+pop_line-requires c =
+    let p = c.requires in
+    elim c.in-39-to-40-1.branch [
+      | inl k ↦ ready-keyed pop_keys pop_lines refl p k.keys3
+      | inr q ↦ ready-within [] pop_lines 39 40 refl p (omega (arith, q.2.left)) (omega (arith, q.3.true)) refl
+    ]
+
+pub remove_line-requires : goal.remove_line-requires
+unfolding is_step_in
+remove_line-requires c =
+    let p = c.requires in
+    ready-keyed remove_lines remove_lines refl p c.in-54.keys4
+
+pub unspur_line-requires : goal.unspur_line-requires
+unfolding is_step_in
+unspur_line-requires c =
+    let p = c.requires in
+    elim c.in-67-to-70-1.branch [
+      | inl k ↦ ready-keyed unspur_keys unspur_lines refl p k.keys5
+      | inr q ↦ ready-within [] unspur_lines 67 70 refl p (omega (arith, q.4.left)) (omega (arith, q.5.true)) refl
+    ]
+
+-- Between the ranges there are the numbers of the arms above; past them, 72 and the last group.
+pub break_line-requires : goal.break_line-requires
+unfolding is_step_in
+break_line-requires c =
+    let p = c.requires in
+    let rest = c.in_default-1.rest in
+    elim c.in_default.branch [
+      | inl q ↦ ready-nowhere (ready-within [] [] 0 1 refl p (omega arith) (omega (arith, q.1.true)) refl) refl
+      | inr (inl q) ↦
+          ready-nowhere (ready-within push_keys add_keys 4 16 refl p (omega (arith, q.2.left))
+          (omega (arith, q.3.true))
+          (no_key push_keys _ rest.0.0.0.0.1)) (no_key add_keys _ rest.0.0.0.1)
+      | inr (inr (inl q)) ↦ ready-nowhere (ready-within [] [] 19 23 refl p (omega (arith, q.4.left))
+          (omega (arith, q.5.true)) refl) refl
+      | inr (inr (inr (inl q))) ↦ ready-nowhere (ready-within [] [] 26 38 refl p (omega (arith, q.0.left))
+          (omega (arith, q.1.true)) refl) refl
+      | inr (inr (inr (inr (inl q)))) ↦
+          ready-nowhere (ready-within pop_keys remove_lines 41 66 refl p (omega (arith, q.2.left))
+          (omega (arith, q.3.true))
+          (no_key pop_keys _ rest.0.0.1)) (no_key remove_lines _ rest.0.1)
+      | inr (inr (inr (inr (inr q)))) ↦
+          ready-within unspur_keys break_lines 71 82 refl p (omega (arith, q.4.left)) (step-bound _ p.in_group)
+          (no_key unspur_keys _ rest.1)
+    ]
+
+pub returns-in-54 : goal.returns-in-54
+returns-in-54 c =
+    c.remove_line.ensures f
+
+pub returns-in_default : goal.returns-in_default
+returns-in_default c =
+    c.break_line.ensures _ f
+
+pub returns-in-67-to-70 : goal.returns-in-67-to-70
+returns-in-67-to-70 c =
+    c.unspur_line.ensures _ f
+
+pub returns-in-39-to-40 : goal.returns-in-39-to-40
+returns-in-39-to-40 c =
+    c.pop_line.ensures _ f
+
+pub returns-in-15 : goal.returns-in-15
+returns-in-15 c =
+    c.add_line.ensures _ f
+
+pub returns-in-2-to-3 : goal.returns-in-2-to-3
+returns-in-2-to-3 c =
+    c.push_line.ensures _ f

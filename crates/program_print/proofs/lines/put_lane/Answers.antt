@@ -1,0 +1,12 @@
+-- `program_print::lines::put_lane` meets its contract.
+use native.Mathlib.Omega.{arith}
+use borrow.Author.Rules.{rules}
+use Rattle.text.proofs.Laws.WritingLaws.{written-append}
+use Rattle.program_print.proofs.lines.put_lane.Goals as goal
+
+pub returns : goal.returns
+returns c =
+    let name = c.put-after_name.ensures in
+    let row = c.put_tags-after_tags.ensures in
+    let end = c.put.ensures in
+    record { written = written-append (written-append name row.0) end; upper_bound = omega (arith, row.1, name.end, end.end) }

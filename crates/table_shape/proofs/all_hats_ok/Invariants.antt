@@ -1,0 +1,17 @@
+-- The invariant: the hats of all lanes below the loop's number have passed.
+use mathlib.Core.Path.{◌≡◌, ap, sym, ◌∙◌}
+use mathlib.Core.Bool.{true}
+use Prim.Native.Nat.{◌-◌, ◌≤◌}
+use native.Mathlib.Omega.{arith}
+use borrow.Author.Tests.{not-true, not-false}
+use Rattle.machine.specs.Table.{most_lanes}
+use Rattle.machine.specs.Shape.{all_below}
+use Rattle.table_shape.specs.Promised.{hats_ok}
+use Rattle.table_shape.proofs.Laws.Below.{none_below, one_more, one-fails}
+use Rattle.table_shape.proofs.all_hats_ok.Given as goal
+
+abbrev pub invariant-loop-l : goal.invariant-loop-l
+invariant-loop-l l = (l.l ≤ most_lanes) × (all_below l.l (hats_ok l.table) ≡ true)
+
+abbrev pub decreases-loop-l : goal.decreases-loop-l
+decreases-loop-l l = most_lanes - l.l

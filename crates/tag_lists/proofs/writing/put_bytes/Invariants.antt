@@ -1,0 +1,31 @@
+-- `tag_lists::writing::put_bytes` meets its contract: storing the bytes of the tags left gives what storing all gives.
+use mathlib.Core.Path.{◌≡◌, refl, sym, ap, ◌∙◌}
+use mathlib.Core.List.{List}
+use Prim.Native.Nat.{ℕ, ◌+◌, ◌*◌, ◌-◌, ◌≤◌}
+use native.Mathlib.Numerals.{add-one}
+use native.Mathlib.Omega.{arith}
+use lib.ListN.{length, get_or, take, drop}
+use lib.Seq.{sets}
+use Rattle.tag.specs.Tags.{tag_of, is_tag, ten_digits}
+use Rattle.tag.proofs.TagLaws.{tag-range}
+use Rattle.tag.proofs.DigitLaws.{last-are-digits}
+use Rattle.tag_packed.specs.Packed.{pairs, packed}
+use Rattle.tag_packed.proofs.Laws.Filling.{sets-front}
+use Rattle.tag_packed.proofs.Laws.OneTag.{words-at, length-packed}
+use Rattle.tag_lists.specs.TagLists.{writing, first_bad, turned_all}
+use Rattle.tag_lists.proofs.Laws.Ways.{length-turned, good_start, good-at, put-start, put_next, put-end}
+use Rattle.tag_lists.proofs.writing.put_bytes.Given as goal
+
+-- What holds before each turn.
+pub record Turn (words bytes₀ bytes : List ℕ) (tags put : ℕ) : Type 0 where
+  pub put-within : put ≤ tags
+  pub bytes-long : length bytes ≡ length bytes₀
+  pub rest-good : first_bad writing (tags - put) (drop (2 * put) words) ≡ tags - put
+  pub bytes-alike : sets bytes (5 * put) (turned_all writing (tags - put) (drop (2 * put) words))
+      ≡ sets bytes₀ 0 (turned_all writing tags words)
+
+abbrev pub invariant-loop-put : goal.invariant-loop-put
+invariant-loop-put l = Turn l.words l.initial.bytes l.bytes l.tags l.put
+
+abbrev pub decreases-loop-put : goal.decreases-loop-put
+decreases-loop-put l = l.tags - l.put

@@ -1,0 +1,18 @@
+-- `tag_packed::not_zero` meets its contract: those tested and those left decide.
+use mathlib.Core.Path.{◌≡◌, sym, ◌∙◌}
+use Prim.Native.Nat.{◌-◌, ◌≤◌}
+use native.Mathlib.Numerals.{add-one}
+use native.Mathlib.Omega.{arith}
+use lib.Dec.{leb}
+use lib.ListN.{drop}
+use borrow.Kind.Array.{e_int, good_length}
+use mir.Syntax.{w8}
+use Rattle.tag_packed.specs.Packed.{packed_number}
+use Rattle.tag_packed.proofs.Laws.Zero.{some_from, some_number, some_next, some_end}
+use Rattle.tag_packed.proofs.not_zero.Given as goal
+
+abbrev pub invariant-loop-i : goal.invariant-loop-i
+invariant-loop-i l = (l.i ≤ 5) × (some_from l.some (drop l.i l.five) ≡ leb 1 (packed_number l.five))
+
+abbrev pub decreases-loop-i : goal.decreases-loop-i
+decreases-loop-i l = 5 - l.i

@@ -1,0 +1,6 @@
+-- One byte more.
+use borrow.Author.Rules.{rules}
+use Rattle.text_scan.proofs.append_byte.Goals as goal
+
+pub returns : goal.returns
+returns c = λ numbers. rw (c.put-length.ensures.0, c.put-length.ensures.1)
