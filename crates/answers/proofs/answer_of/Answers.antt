@@ -18,46 +18,46 @@ pub returns-in-0 : goal.returns-in-0
 unfolding plain_answer_of ℕ_discrete
 returns-in-0 c =
     let p = c.requires in
-    stands-for p.1 (plain-words _ _ p.0 p.1 (λ q. absurd (omega (arith, q, c.in-0.keys1))) _
-    (rw c.in-0.keys1 refl))
+    stands-for p.1 (plain-words _ _ p.0 p.1 (λ q. absurd (omega (arith, q, c.in-0.is))) _
+    (rw c.in-0.is refl))
 
 pub returns-in-1 : goal.returns-in-1
 unfolding plain_answer_of ℕ_discrete
 returns-in-1 c =
     let p = c.requires in
-    stands-for p.1 (plain-words _ _ p.0 p.1 (λ q. absurd (omega (arith, q, c.in-1.keys2))) _
-    (rw c.in-1.keys2 refl))
+    stands-for p.1 (plain-words _ _ p.0 p.1 (λ q. absurd (omega (arith, q, c.in-1.is))) _
+    (rw c.in-1.is refl))
 
 pub returns-in-2 : goal.returns-in-2
 returns-in-2 c =
     let p = c.requires in
-    stands-for p.1 (ap Bag c.number.ensures ∙ bag-words _ _ c.in-2.keys3 p.0 p.1)
+    stands-for p.1 (ap Bag c.number.ensures ∙ bag-words _ _ c.in-2.is p.0 p.1)
 
 pub returns-in-3 : goal.returns-in-3
 unfolding plain_answer_of ℕ_discrete
 returns-in-3 c =
     let p = c.requires in
-    stands-for p.1 (plain-words _ _ p.0 p.1 (λ q. absurd (omega (arith, q, c.in-3.keys4))) _
-    (rw c.in-3.keys4 refl))
+    stands-for p.1 (plain-words _ _ p.0 p.1 (λ q. absurd (omega (arith, q, c.in-3.is))) _
+    (rw c.in-3.is refl))
 
 pub returns-in-4 : goal.returns-in-4
 unfolding plain_answer_of ℕ_discrete
 returns-in-4 c =
     let p = c.requires in
-    stands-for p.1 (plain-words _ _ p.0 p.1 (λ q. absurd (omega (arith, q, c.in-4.keys5))) _
-    (rw c.in-4.keys5 refl))
+    stands-for p.1 (plain-words _ _ p.0 p.1 (λ q. absurd (omega (arith, q, c.in-4.is))) _
+    (rw c.in-4.is refl))
 
 pub returns-in-5 : goal.returns-in-5
 unfolding plain_answer_of ℕ_discrete
 returns-in-5 c =
     let p = c.requires in
-    stands-for p.1 (plain-words _ _ p.0 p.1 (λ q. absurd (omega (arith, q, c.in-5.keys6))) _
-    (rw c.in-5.keys6 refl))
+    stands-for p.1 (plain-words _ _ p.0 p.1 (λ q. absurd (omega (arith, q, c.in-5.is))) _
+    (rw c.in-5.is refl))
 
 pub returns-in_default : goal.returns-in_default
 returns-in_default c =
     let p = c.requires in
-    let k = c.in_default.rest in
+    let k = c.in_default-own.rest in
     stands-for p.1
     (last-words _ _ p.0 p.1 k.0.0.0.0.0.1 k.0.0.0.0.1 k.0.0.0.1 k.0.0.1 k.0.1
     k.1)

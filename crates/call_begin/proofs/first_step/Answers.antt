@@ -5,21 +5,21 @@ use Rattle.call_begin.proofs.first_step.Goals as goal
 
 pub returns-in-0 : goal.returns-in-0
 unfolding ℕ_discrete
-returns-in-0 c = rw c.in-0.keys1
+returns-in-0 c = rw c.in-0.is
 
 pub returns-in-1 : goal.returns-in-1
 unfolding ℕ_discrete
-returns-in-1 c = rw c.in-1.keys2
+returns-in-1 c = rw c.in-1.is
 
 pub returns-in-2 : goal.returns-in-2
 unfolding ℕ_discrete
-returns-in-2 c = rw c.in-2.keys3
+returns-in-2 c = rw c.in-2.is
 
 pub returns-in-3 : goal.returns-in-3
 unfolding ℕ_discrete
-returns-in-3 c = rw c.in-3.keys4
+returns-in-3 c = rw c.in-3.is
 
 pub returns-in_default : goal.returns-in_default
 returns-in_default c =
-    let k = c.in_default.rest in
+    let k = c.in_default-own.rest in
     rw (remove-else c.args.operation k.0.0.0.1 k.0.0.1 k.0.1 k.1)

@@ -44,7 +44,7 @@ copy-requires c =
     let walk = sought (search) in
     let told = known.walk-1.given in
     let counted = bags-counted _ (bags walk) told.0.0 told.0.1.0 (sym walk.seek-walk.ensures ∙ told.1) in
-    (((start walk).requires.0, omega (arith, c.if-n-out.true)), ap count_of (first-ahead (search)) ∙ counted)
+    record { well_linked = ((start walk).requires.0, omega (arith, c.if-n-out.true)); from_value = ap count_of (first-ahead (search)) ∙ counted }
 
 pub returns-then-n-out : goal.returns-then-n-out
 returns-then-n-out c =

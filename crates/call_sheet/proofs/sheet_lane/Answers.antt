@@ -77,10 +77,7 @@ put_page-requires c =
     let a = s.args in
     let few = count_small (table w) (first w) a.page a.out.now (bags w) (is-ahead w) (told known) in
     let there = left_there (table w) (first w) a.page a.out.now (bags w) (is-ahead w) (told known) in
-    let sizes = well_sized (table w) s.requires.0.length_passes in (
-      (s.requires.0, there ∙ ap some (sym c.left_from.ensures)),
-      (omega (arith, few, sizes.most_nodes), omega (arith, c.if-out-ne-PAGE.false)),
-    )
+    let sizes = well_sized (table w) s.requires.0.length_passes in record { well_linked = (s.requires.0, there ∙ ap some (sym c.left_from.ensures)); count_bound = (omega (arith, few, sizes.most_nodes), omega (arith, c.if-out-ne-PAGE.false)) }
 
 pub returns-in-Node : goal.returns-in-Node
 returns-in-Node c =

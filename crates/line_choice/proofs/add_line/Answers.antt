@@ -7,22 +7,22 @@ use borrow.Author.Rules.{rules}
 use Rattle.line_choice.proofs.add_line.Goals as goal
 
 pub returns-in-15 : goal.returns-in-15
-returns-in-15 c = c.line15.ensures _ _ _ ∙ line_at line15 c.in-15.keys1 _ _ _ _ _
+returns-in-15 c = c.line15.ensures _ _ _ ∙ line_at line15 c.in-15.is _ _ _ _ _
 
 pub returns-in-17 : goal.returns-in-17
 returns-in-17 c =
-    c.line17.ensures _ _ ∙ line_at line17 c.in-17.keys2 _ _ _ _ _
+    c.line17.ensures _ _ ∙ line_at line17 c.in-17.is _ _ _ _ _
 
 pub returns-in-18 : goal.returns-in-18
 returns-in-18 c =
-    c.line18.ensures _ _ ∙ line_at line18 c.in-18.keys3 _ _ _ _ _
+    c.line18.ensures _ _ ∙ line_at line18 c.in-18.is _ _ _ _ _
 
 pub returns-in-24 : goal.returns-in-24
 returns-in-24 c =
-    c.line24.ensures _ _ ∙ line_at line24 c.in-24.keys4 _ _ _ _ _
+    c.line24.ensures _ _ ∙ line_at line24 c.in-24.is _ _ _ _ _
 
 pub returns-in_default : goal.returns-in_default
 returns-in_default c =
     let others = line15 ∷ line17 ∷ line18 ∷ line24 ∷ [] in
-    let at_25 = left_over _ others line25 _ c.in_default.rest c.requires.in_group in
+    let at_25 = left_over _ others line25 _ c.in_default-own.rest c.requires.in_group in
     c.line25.ensures _ _ ∙ line_at line25 at_25 _ _ _ _ _

@@ -8,26 +8,26 @@ use Rattle.line_choice.proofs.break_line.Goals as goal
 
 pub returns-in-74 : goal.returns-in-74
 returns-in-74 c =
-    c.line74.ensures _ _ ∙ line_at line74 c.in-74.keys1 _ _ _ _ _
+    c.line74.ensures _ _ ∙ line_at line74 c.in-74.is _ _ _ _ _
 
 pub returns-in-77 : goal.returns-in-77
 returns-in-77 c =
-    c.line77.ensures _ _ ∙ line_at line77 c.in-77.keys2 _ _ _ _ _
+    c.line77.ensures _ _ ∙ line_at line77 c.in-77.is _ _ _ _ _
 
 pub returns-in-78 : goal.returns-in-78
 returns-in-78 c =
-    c.line78.ensures _ _ ∙ line_at line78 c.in-78.keys3 _ _ _ _ _
+    c.line78.ensures _ _ ∙ line_at line78 c.in-78.is _ _ _ _ _
 
 pub returns-in-79 : goal.returns-in-79
 returns-in-79 c =
-    c.line79.ensures _ _ ∙ line_at line79 c.in-79.keys4 _ _ _ _ _
+    c.line79.ensures _ _ ∙ line_at line79 c.in-79.is _ _ _ _ _
 
 pub returns-in-81 : goal.returns-in-81
 returns-in-81 c =
-    c.line81.ensures _ _ ∙ line_at line81 c.in-81.keys5 _ _ _ _ _
+    c.line81.ensures _ _ ∙ line_at line81 c.in-81.is _ _ _ _ _
 
 pub returns-in_default : goal.returns-in_default
 returns-in_default c =
     let others = line74 ∷ line77 ∷ line78 ∷ line79 ∷ line81 ∷ [] in
-    let at-82 = left_over _ others line82 _ c.in_default.rest c.requires.in_group in
+    let at-82 = left_over _ others line82 _ c.in_default-own.rest c.requires.in_group in
     c.line82.ensures _ _ ∙ line_at line82 at-82 _ _ _ _ _

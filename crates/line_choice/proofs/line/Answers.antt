@@ -56,7 +56,7 @@ pub remove_line-requires : goal.remove_line-requires
 unfolding is_step_in
 remove_line-requires c =
     let p = c.requires in
-    ready-keyed remove_lines remove_lines refl p c.in-54.keys4
+    ready-keyed remove_lines remove_lines refl p c.in-54.is
 
 pub unspur_line-requires : goal.unspur_line-requires
 unfolding is_step_in

@@ -9,26 +9,26 @@ use Rattle.line_choice.proofs.pop_line.Goals as goal
 -- The last arm is at 51.
 at_51 : (c : goal.In_default) → c.args.t.step ≡ 51
 at_51 c =
-    left_over _ (line39 ∷ line40 ∷ line42 ∷ line48 ∷ []) line51 _ c.in_default.rest c.requires.in_group
+    left_over _ (line39 ∷ line40 ∷ line42 ∷ line48 ∷ []) line51 _ c.in_default-own.rest c.requires.in_group
 
 pub line51-requires : goal.line51-requires
 line51-requires c =
     let p = c.requires in (p.ready, p.bag_at_51 (at_51 (search)))
 
 pub returns-in-39 : goal.returns-in-39
-returns-in-39 c = c.line39.ensures _ _ _ ∙ line_at line39 c.in-39.keys1 _ _ _ _ _
+returns-in-39 c = c.line39.ensures _ _ _ ∙ line_at line39 c.in-39.is _ _ _ _ _
 
 pub returns-in-40 : goal.returns-in-40
 returns-in-40 c =
-    c.line40.ensures _ _ ∙ line_at line40 c.in-40.keys2 _ _ _ _ _
+    c.line40.ensures _ _ ∙ line_at line40 c.in-40.is _ _ _ _ _
 
 pub returns-in-42 : goal.returns-in-42
 returns-in-42 c =
-    c.line42.ensures _ _ ∙ line_at line42 c.in-42.keys3 _ _ _ _ _
+    c.line42.ensures _ _ ∙ line_at line42 c.in-42.is _ _ _ _ _
 
 pub returns-in-48 : goal.returns-in-48
 returns-in-48 c =
-    c.line48.ensures _ _ ∙ line_at line48 c.in-48.keys4 _ _ _ _ _
+    c.line48.ensures _ _ ∙ line_at line48 c.in-48.is _ _ _ _ _
 
 pub returns-in_default : goal.returns-in_default
 returns-in_default c =

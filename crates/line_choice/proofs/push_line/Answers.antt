@@ -7,18 +7,18 @@ use borrow.Author.Rules.{rules}
 use Rattle.line_choice.proofs.push_line.Goals as goal
 
 pub returns-in-2 : goal.returns-in-2
-returns-in-2 c = c.line2.ensures _ _ _ ∙ line_at line2 c.in-2.keys1 _ _ _ _ _
+returns-in-2 c = c.line2.ensures _ _ _ ∙ line_at line2 c.in-2.is _ _ _ _ _
 
 pub returns-in-3 : goal.returns-in-3
 returns-in-3 c =
-    c.line3.ensures _ _ ∙ line_at line3 c.in-3.keys2 _ _ _ _ _
+    c.line3.ensures _ _ ∙ line_at line3 c.in-3.is _ _ _ _ _
 
 pub returns-in-5 : goal.returns-in-5
 returns-in-5 c =
-    c.line5.ensures _ _ ∙ line_at line5 c.in-5.keys3 _ _ _ _ _
+    c.line5.ensures _ _ ∙ line_at line5 c.in-5.is _ _ _ _ _
 
 pub returns-in_default : goal.returns-in_default
 returns-in_default c =
     let others = line2 ∷ line3 ∷ line5 ∷ [] in
-    let at_8 = left_over _ others line8 _ c.in_default.rest c.requires.in_group in
+    let at_8 = left_over _ others line8 _ c.in_default-own.rest c.requires.in_group in
     c.line8.ensures _ _ ∙ line_at line8 at_8 _ _ _ _ _

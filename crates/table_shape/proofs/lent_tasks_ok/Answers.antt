@@ -51,10 +51,7 @@ after-nodes c = c.node_at-first.ensures ∙ ap node_at c.slots.ensures
 pub range_ok-requires : goal.range_ok-requires
 range_ok-requires c =
     let f : goal.After-node_at-first = search in
-    let e = placed f in (
-      (header-long (table e) (start e).requires, c.owners-owners.ensures),
-      (omega arith, omega (arith, after-nodes f, is_task e, sized e)),
-    )
+    let e = placed f in record { holds_header = (header-long (table e) (start e).requires, c.owners-owners.ensures); from_le_to = (omega arith, omega (arith, after-nodes f, is_task e, sized e)) }
 
 -- What a range of the table's records tells.
 abbrev first : goal.After-range_ok → goal.After-node_at-first

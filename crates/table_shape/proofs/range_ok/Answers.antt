@@ -22,7 +22,7 @@ loop-k-init c =
 
 pub nth_ok-requires : goal.nth_ok-requires
 nth_ok-requires c =
-    let p = (start (search)).requires in (p.0, omega (arith, p.1.1, c.loop-k-test.true))
+    let p = (start (search)).requires in record { holds_header = p.0; record_length_in_bounds = omega (arith, p.1.1, c.loop-k-test.true) }
 
 pub returns-then-not-nth_ok : goal.returns-then-not-nth_ok
 returns-then-not-nth_ok c =

@@ -32,10 +32,7 @@ range_ok-requires c =
     let f : goal.After-node_at-first = search in
     let o = owned f in
     let ws = (start o).args.table.now in
-    let passes = (start o).requires in (
-      (header-long ws passes, o.owners-owners.ensures),
-      (omega arith, omega (arith, after-nodes f, c.tasks.ensures, (well_sized ws passes).sized)),
-    )
+    let passes = (start o).requires in record { holds_header = (header-long ws passes, o.owners-owners.ensures); from_le_to = (omega arith, omega (arith, after-nodes f, c.tasks.ensures, (well_sized ws passes).sized)) }
 
 pub returns : goal.returns
 returns c =

@@ -78,10 +78,7 @@ make-requires c =
     let i : goal.After-is_idle = search in
     let p = start i in
     let a = p.args in
-    let busy = busy-task a.table.now p.requires a.task (is_task (e1 i)) (idle-is i c.if-is_idle.false) in (
-      record { table = p.requires; is_task = is_task (e1 i); is_hint = is_hint (e2 i); busy = busy },
-      (read i).task-old.ensures,
-    )
+    let busy = busy-task a.table.now p.requires a.task (is_task (e1 i)) (idle-is i c.if-is_idle.false) in record { may_tick = record { table = p.requires; is_task = is_task (e1 i); is_hint = is_hint (e2 i); busy = busy }; value = (read i).task-old.ensures }
 
 pub returns : goal.returns
 returns c =

@@ -9,7 +9,7 @@ returns-then-is_refusal c = rw (sym c.is_refusal.ensures ∙ c.if-is_refusal.tru
 pub store-requires : goal.store-requires
 store-requires c =
     let p = c.requires in
-    (p.0, λ g. p.1 (sym c.is_going.ensures ∙ g))
+    record { lane_lt_most_lanes = p.0; goes_on = λ g. p.1 (sym c.is_going.ensures ∙ g) }
 
 pub returns : goal.returns
 returns c =

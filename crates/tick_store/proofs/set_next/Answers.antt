@@ -4,4 +4,4 @@ use Rattle.tick_store.proofs.set_next.Goals as goal
 
 pub set_further-requires : goal.set_further-requires
 set_further-requires c =
-    (c.requires.0, c.requires.1 c.if-going.true)
+    record { holds_record = c.requires.0; same_call = c.requires.1 c.if-going.true }

@@ -30,7 +30,7 @@ pub put_line-x-requires : goal.put_line-x-requires
 put_line-x-requires c =
     let at : goal.At-loop-i = search in
     let s = start at in
-    ((s.requires.well_linked.0, at.loop-i.invariant.bags-left), omega (arith, at.loop-i.invariant.out-long, s.requires.out_len))
+    record { well_linked = (s.requires.well_linked.0, at.loop-i.invariant.bags-left); line_length_in_bounds = omega (arith, at.loop-i.invariant.out-long, s.requires.out_len) }
 
 pub loop-i-preserved : goal.loop-i-preserved
 loop-i-preserved c =

@@ -12,4 +12,4 @@ bounds-words-12 c =
 
 pub write_further-requires : goal.write_further-requires
 write_further-requires c =
-    (simp length-set c.requires, call-written c.args.words.now c.requires c.args.self)
+    record { words_len = simp length-set c.requires; same_call = call-written c.args.words.now c.requires c.args.self }

@@ -21,7 +21,7 @@ busy_ok-requires c =
     let i : goal.After-is_idle = search in
     let t = i.args.t in
     let busy = eqb-false t.operation 0 (by_word i c.if-is_idle.false) in
-    (i.requires, omega arith)
+    record { owners_ok = i.requires; le_operation = omega arith }
 
 pub returns : goal.returns
 unfolding record_ok
