@@ -1,11 +1,8 @@
-use mathlib.Core.Path.{◌≡◌, refl, sym, ◌∙◌}
-use Prim.Native.Nat.{◌-◌, ◌≤◌}
+use mathlib.Core.Path.{refl, sym, ◌∙◌}
 use native.Mathlib.Numerals.{add-one}
 use native.Mathlib.Omega.{arith}
-use lib.ListN.{drop}
 use borrow.Kind.Array.{e_int, good_length}
 use mir.Syntax.{w8}
-use Rattle.tag.specs.Tags.{are_digits}
 use Rattle.tag_packed.proofs.Laws.Digits.{digit-passed, digit-failed, digits-passed}
 use Rattle.tag_packed.proofs.are_digits.Goals as goal
 

@@ -1,13 +1,8 @@
 -- `tag_packed::are_digits` meets its contract: the digits left decide.
-use mathlib.Core.Path.{◌≡◌, refl, sym, ◌∙◌}
+use mathlib.Core.Path.{◌≡◌}
 use Prim.Native.Nat.{◌-◌, ◌≤◌}
-use native.Mathlib.Numerals.{add-one}
-use native.Mathlib.Omega.{arith}
 use lib.ListN.{drop}
-use borrow.Kind.Array.{e_int, good_length}
-use mir.Syntax.{w8}
 use Rattle.tag.specs.Tags.{are_digits}
-use Rattle.tag_packed.proofs.Laws.Digits.{digit-passed, digit-failed, digits-passed}
 use Rattle.tag_packed.proofs.are_digits.Given as goal
 
 abbrev pub invariant-loop-i : goal.invariant-loop-i

@@ -1,5 +1,4 @@
 -- `tag_packed::is_packed` meets its contract: both tests are the definition's.
-use borrow.Author.Rules.{rules}
 use Rattle.tag_packed.proofs.is_packed.Goals as goal
 
 pub returns : goal.returns

@@ -1,13 +1,9 @@
-use mathlib.Core.Path.{◌≡◌, sym, ◌∙◌}
-use Prim.Native.Nat.{◌-◌, ◌≤◌}
+use mathlib.Core.Path.{sym, ◌∙◌}
 use native.Mathlib.Numerals.{add-one}
 use native.Mathlib.Omega.{arith}
-use lib.Dec.{leb}
-use lib.ListN.{drop}
 use borrow.Kind.Array.{e_int, good_length}
 use mir.Syntax.{w8}
-use Rattle.tag_packed.specs.Packed.{packed_number}
-use Rattle.tag_packed.proofs.Laws.Zero.{some_from, some_number, some_next, some_end}
+use Rattle.tag_packed.proofs.Laws.Zero.{some_number, some_next, some_end}
 use Rattle.tag_packed.proofs.not_zero.Goals as goal
 
 pub loop-i-init : goal.loop-i-init

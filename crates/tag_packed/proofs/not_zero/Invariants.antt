@@ -1,14 +1,10 @@
 -- `tag_packed::not_zero` meets its contract: those tested and those left decide.
-use mathlib.Core.Path.{◌≡◌, sym, ◌∙◌}
+use mathlib.Core.Path.{◌≡◌}
 use Prim.Native.Nat.{◌-◌, ◌≤◌}
-use native.Mathlib.Numerals.{add-one}
-use native.Mathlib.Omega.{arith}
 use lib.Dec.{leb}
 use lib.ListN.{drop}
-use borrow.Kind.Array.{e_int, good_length}
-use mir.Syntax.{w8}
 use Rattle.tag_packed.specs.Packed.{packed_number}
-use Rattle.tag_packed.proofs.Laws.Zero.{some_from, some_number, some_next, some_end}
+use Rattle.tag_packed.proofs.Laws.Zero.{some_from}
 use Rattle.tag_packed.proofs.not_zero.Given as goal
 
 abbrev pub invariant-loop-i : goal.invariant-loop-i

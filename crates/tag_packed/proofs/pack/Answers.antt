@@ -1,8 +1,8 @@
-use mathlib.Core.Path.{◌≡◌, refl, sym}
-use Prim.Native.Nat.{◌*◌, ◌+◌, ◌-◌, ◌≤◌}
+use mathlib.Core.Path.{refl, sym}
+use Prim.Native.Nat.{◌*◌, ◌+◌}
 use native.Mathlib.Numerals.{add-one}
 use native.Mathlib.Omega.{arith}
-use lib.ListN.{length, length-set, get_or, take}
+use lib.ListN.{length-set, get_or}
 use Rattle.tag_packed.specs.Packed.{pairs}
 use Rattle.tag.proofs.Stores.{filled_next, filled-end}
 use Rattle.tag.proofs.DigitLaws.{digit_at}

@@ -1,13 +1,8 @@
 -- `tag_packed::pack` meets its contract: after i turns the first i bytes are those of the pairs.
-use mathlib.Core.Path.{◌≡◌, refl, sym}
-use Prim.Native.Nat.{◌*◌, ◌+◌, ◌-◌, ◌≤◌}
-use native.Mathlib.Numerals.{add-one}
-use native.Mathlib.Omega.{arith}
-use lib.ListN.{length, length-set, get_or, take}
+use mathlib.Core.Path.{◌≡◌}
+use Prim.Native.Nat.{◌-◌, ◌≤◌}
+use lib.ListN.{length, take}
 use Rattle.tag_packed.specs.Packed.{pairs}
-use Rattle.tag.proofs.Stores.{filled_next, filled-end}
-use Rattle.tag.proofs.DigitLaws.{digit_at}
-use Rattle.tag_packed.proofs.Laws.Halves.{length_pairs, pair-at}
 use Rattle.tag_packed.proofs.pack.Given as goal
 
 abbrev pub invariant-loop-i : goal.invariant-loop-i

@@ -1,14 +1,8 @@
 -- `tag_packed::put_five` meets its contract: storing the bytes left gives what storing all gives.
-use mathlib.Core.Path.{◌≡◌, refl, sym, ◌∙◌}
+use mathlib.Core.Path.{◌≡◌}
 use Prim.Native.Nat.{◌+◌, ◌-◌, ◌≤◌}
-use native.Mathlib.Nat.{add-zero}
-use native.Mathlib.Numerals.{add-one}
-use native.Mathlib.Omega.{arith}
-use lib.ListN.{length, length-set, drop}
+use lib.ListN.{length, drop}
 use lib.Seq.{sets}
-use borrow.Kind.Array.{e_int, good_length}
-use mir.Syntax.{w8}
-use Rattle.tag.proofs.Stores.{sets-next, sets_end}
 use Rattle.tag_packed.proofs.put_five.Given as goal
 
 abbrev pub invariant-loop-i : goal.invariant-loop-i

@@ -1,8 +1,7 @@
-use mathlib.Core.Path.{◌≡◌, refl}
-use Prim.Native.Nat.{◌-◌, ◌≤◌}
+use mathlib.Core.Path.{refl}
 use native.Mathlib.Numerals.{add-one}
 use native.Mathlib.Omega.{arith}
-use lib.ListN.{length, length-set, take, drop}
+use lib.ListN.{length-set, take, drop}
 use Rattle.tag.proofs.Stores.{filled_next, filled-end}
 use Rattle.tag_packed.proofs.Laws.Filling.{length_part, part_at}
 use Rattle.tag_packed.proofs.take_five.Goals as goal

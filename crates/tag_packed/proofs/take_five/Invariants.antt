@@ -1,11 +1,7 @@
 -- `tag_packed::take_five` meets its contract: after i turns the first i bytes are there.
-use mathlib.Core.Path.{◌≡◌, refl}
+use mathlib.Core.Path.{◌≡◌}
 use Prim.Native.Nat.{◌-◌, ◌≤◌}
-use native.Mathlib.Numerals.{add-one}
-use native.Mathlib.Omega.{arith}
-use lib.ListN.{length, length-set, take, drop}
-use Rattle.tag.proofs.Stores.{filled_next, filled-end}
-use Rattle.tag_packed.proofs.Laws.Filling.{length_part, part_at}
+use lib.ListN.{length, take, drop}
 use Rattle.tag_packed.proofs.take_five.Given as goal
 
 abbrev pub invariant-loop-i : goal.invariant-loop-i

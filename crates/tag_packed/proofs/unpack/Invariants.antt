@@ -1,14 +1,8 @@
 -- `tag_packed::unpack` meets its contract: after i bytes the first 2i digits are their halves.
-use mathlib.Core.Path.{◌≡◌, refl}
+use mathlib.Core.Path.{◌≡◌}
 use Prim.Native.Nat.{◌*◌, ◌-◌, ◌≤◌}
-use native.Mathlib.Numerals.{add-one}
-use native.Mathlib.Omega.{arith}
-use lib.ListN.{length, length-set, take}
-use borrow.Kind.Array.{e_int, good_length}
-use mir.Syntax.{w8}
+use lib.ListN.{length, take}
 use Rattle.tag_packed.specs.Packed.{halves}
-use Rattle.tag.proofs.Stores.{filled-end}
-use Rattle.tag_packed.proofs.Laws.Halves.{length-halves, halves-next}
 use Rattle.tag_packed.proofs.unpack.Given as goal
 
 abbrev pub invariant-loop-i : goal.invariant-loop-i

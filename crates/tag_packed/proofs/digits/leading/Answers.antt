@@ -3,7 +3,6 @@ use mathlib.Core.Path.{◌∙◌}
 use borrow.Kind.Array.{e_int, good_length}
 use mir.Syntax.{w8}
 use Rattle.tag_packed.proofs.Laws.Words.{leading-digit}
-use borrow.Author.Rules.{rules}
 use Rattle.tag_packed.proofs.digits.leading.Goals as goal
 
 pub returns : goal.returns

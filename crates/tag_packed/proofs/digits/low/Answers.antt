@@ -4,7 +4,6 @@ use borrow.Kind.Array.{e_int, good_length}
 use mir.Syntax.{w8}
 use Rattle.tag.proofs.DigitLaws.{digit_at}
 use Rattle.tag_packed.proofs.Laws.Words.{low-digits}
-use borrow.Author.Rules.{rules}
 use Rattle.tag_packed.proofs.digits.low.Goals as goal
 
 pub overflow_mul-result : goal.overflow_mul-result
