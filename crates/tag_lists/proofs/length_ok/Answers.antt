@@ -1,6 +1,5 @@
 -- `tag_lists::length_ok` meets its contract: the first test decides unless it passes.
 use borrow.Author.Tests.{eq-eqb, ne_eqb}
-use borrow.Author.Rules.{rules}
 use Rattle.tag_lists.proofs.length_ok.Goals as goal
 
 pub returns-then-length-width-eq0 : goal.returns-then-length-width-eq0

@@ -1,13 +1,8 @@
 -- `tag_lists::reading::first_bad` meets its contract: the place of the first bad tag among those left, counted on.
-use mathlib.Core.Path.{◌≡◌, sym, ap, ◌∙◌}
+use mathlib.Core.Path.{◌≡◌}
 use Prim.Native.Nat.{◌+◌, ◌*◌, ◌-◌, ◌≤◌}
-use native.Mathlib.Numerals.{add-one}
-use native.Mathlib.Omega.{arith}
 use lib.ListN.{drop}
-use Rattle.tag_packed.specs.Packed.{is_packed}
 use Rattle.tag_lists.specs.TagLists.{reading, first_bad}
-use Rattle.tag_lists.proofs.Laws.Ways.{first-start, first-passed, first_found, first-none}
-use borrow.Author.Rules.{rules}
 use Rattle.tag_lists.proofs.reading.first_bad.Given as goal
 
 abbrev pub invariant-loop-i : goal.invariant-loop-i

@@ -1,19 +1,16 @@
 use mathlib.Core.Path.{◌≡◌, refl, sym, ap, ◌∙◌}
 use mathlib.Core.Bool.{true}
 use mathlib.Core.List.{List}
-use Prim.Native.Nat.{ℕ, ◌*◌, ◌-◌, ◌≤◌}
+use Prim.Native.Nat.{ℕ, ◌*◌, ◌-◌, ◌<◌}
 use native.Mathlib.Numerals.{add-one}
 use native.Mathlib.Omega.{arith}
-use lib.ListN.{length, length-set, take, drop}
-use lib.Seq.{sets}
+use lib.ListN.{length-set, take, drop}
 use Rattle.tag.specs.Tags.{digit_of, low_of, number_of, are_digits}
-use Rattle.tag_packed.specs.Packed.{packed_number}
+use Rattle.tag_packed.specs.Packed.{packed_number, halves}
 use Rattle.tag_packed.proofs.Laws.Filling.{sets-front}
 use Rattle.tag_packed.proofs.Laws.OneTag.{packed-are-digits, length-unpacked, words-stored}
 use Rattle.tag_lists.specs.TagLists.{reading, first_bad, turned_all}
 use Rattle.tag_lists.proofs.Laws.Ways.{length-turned, good_start, good-at, put-start, put_next, put-end}
-use borrow.Author.Rules.{rules}
-use Rattle.tag_lists.proofs.reading.put_words.Invariants.{Turn}
 use Rattle.tag_lists.proofs.reading.put_words.Goals as goal
 
 pub loop-put-init : goal.loop-put-init
@@ -27,20 +24,24 @@ loop-put-init c =
     }
 
 -- The halves of a good tag are digits.
-are-digits : (turn : goal.After-unpack-tag) → are_digits turn.unpack-tag.result ≡ true
-are-digits turn =
-    let five = turn.take_five in
-    let l = turn.loop-put in
-    let a = turn.args in
-    let bytes = a.bytes.now in
-    let good = (good-at reading a.tags bytes l.put (omega arith) l.invariant.rest-good).0 in
-    rw (turn.unpack-tag.ensures, five.ensures) (packed-are-digits (take 5 (drop (5 * l.put) bytes)) good)
+are-digits : (bytes : List ℕ) (tags put : ℕ) {five digits : List ℕ} → put < tags
+    → first_bad reading (tags - put) (drop (5 * put) bytes) ≡ tags - put
+    → five ≡ take 5 (drop (5 * put) bytes)
+    → digits ≡ halves five
+    → are_digits digits ≡ true
+are-digits bytes tags put h all-good five-is digits-is =
+    let good = (good-at reading tags bytes put h all-good).0 in
+    rw (digits-is, five-is) (packed-are-digits (take 5 (drop (5 * put) bytes)) good)
 
 pub leading-requires : goal.leading-requires
-leading-requires c = are-digits c
+leading-requires c =
+    are-digits c.args.bytes.now c.args.tags c.loop-put.put c.loop-put-test.true c.loop-put.invariant.rest-good
+    c.take_five.ensures c.unpack-tag.ensures
 
 pub low-requires : goal.low-requires
-low-requires c = are-digits (search)
+low-requires c =
+    are-digits c.args.bytes.now c.args.tags c.loop-put.put c.loop-put-test.true c.loop-put.invariant.rest-good
+    c.take_five.ensures c.unpack-tag.ensures
 
 pub bounds-words-at-in-loop-put : goal.bounds-words-at-in-loop-put
 bounds-words-at-in-loop-put c = simp length-set (omega arith)

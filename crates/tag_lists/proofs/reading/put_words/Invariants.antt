@@ -1,19 +1,10 @@
 -- `tag_lists::reading::put_words` meets its contract: storing the words of the tags left gives what storing all gives.
-use mathlib.Core.Path.{◌≡◌, refl, sym, ap, ◌∙◌}
-use mathlib.Core.Bool.{true}
+use mathlib.Core.Path.{◌≡◌}
 use mathlib.Core.List.{List}
 use Prim.Native.Nat.{ℕ, ◌*◌, ◌-◌, ◌≤◌}
-use native.Mathlib.Numerals.{add-one}
-use native.Mathlib.Omega.{arith}
-use lib.ListN.{length, length-set, take, drop}
+use lib.ListN.{length, drop}
 use lib.Seq.{sets}
-use Rattle.tag.specs.Tags.{digit_of, low_of, number_of, are_digits}
-use Rattle.tag_packed.specs.Packed.{packed_number}
-use Rattle.tag_packed.proofs.Laws.Filling.{sets-front}
-use Rattle.tag_packed.proofs.Laws.OneTag.{packed-are-digits, length-unpacked, words-stored}
 use Rattle.tag_lists.specs.TagLists.{reading, first_bad, turned_all}
-use Rattle.tag_lists.proofs.Laws.Ways.{length-turned, good_start, good-at, put-start, put_next, put-end}
-use borrow.Author.Rules.{rules}
 use Rattle.tag_lists.proofs.reading.put_words.Given as goal
 
 -- What holds before each turn.

@@ -1,19 +1,16 @@
 use mathlib.Core.Path.{◌≡◌, refl, sym, ap, ◌∙◌}
-use mathlib.Core.List.{List}
-use Prim.Native.Nat.{ℕ, ◌+◌, ◌*◌, ◌-◌, ◌≤◌}
+use Prim.Native.Nat.{◌+◌, ◌*◌}
 use native.Mathlib.Numerals.{add-one}
 use native.Mathlib.Omega.{arith}
-use lib.ListN.{length, get_or, take, drop}
-use lib.Seq.{sets}
+use lib.ListN.{get_or, take, drop}
 use Rattle.tag.specs.Tags.{tag_of, is_tag, ten_digits}
 use Rattle.tag.proofs.TagLaws.{tag-range}
 use Rattle.tag.proofs.DigitLaws.{last-are-digits}
 use Rattle.tag_packed.specs.Packed.{pairs, packed}
 use Rattle.tag_packed.proofs.Laws.Filling.{sets-front}
 use Rattle.tag_packed.proofs.Laws.OneTag.{words-at, length-packed}
-use Rattle.tag_lists.specs.TagLists.{writing, first_bad, turned_all}
+use Rattle.tag_lists.specs.TagLists.{writing, turned_all}
 use Rattle.tag_lists.proofs.Laws.Ways.{length-turned, good_start, good-at, put-start, put_next, put-end}
-use Rattle.tag_lists.proofs.writing.put_bytes.Invariants.{Turn}
 use Rattle.tag_lists.proofs.writing.put_bytes.Goals as goal
 
 pub loop-put-init : goal.loop-put-init

@@ -1,19 +1,10 @@
 -- `tag_lists::writing::put_bytes` meets its contract: storing the bytes of the tags left gives what storing all gives.
-use mathlib.Core.Path.{◌≡◌, refl, sym, ap, ◌∙◌}
+use mathlib.Core.Path.{◌≡◌}
 use mathlib.Core.List.{List}
-use Prim.Native.Nat.{ℕ, ◌+◌, ◌*◌, ◌-◌, ◌≤◌}
-use native.Mathlib.Numerals.{add-one}
-use native.Mathlib.Omega.{arith}
-use lib.ListN.{length, get_or, take, drop}
+use Prim.Native.Nat.{ℕ, ◌*◌, ◌-◌, ◌≤◌}
+use lib.ListN.{length, drop}
 use lib.Seq.{sets}
-use Rattle.tag.specs.Tags.{tag_of, is_tag, ten_digits}
-use Rattle.tag.proofs.TagLaws.{tag-range}
-use Rattle.tag.proofs.DigitLaws.{last-are-digits}
-use Rattle.tag_packed.specs.Packed.{pairs, packed}
-use Rattle.tag_packed.proofs.Laws.Filling.{sets-front}
-use Rattle.tag_packed.proofs.Laws.OneTag.{words-at, length-packed}
 use Rattle.tag_lists.specs.TagLists.{writing, first_bad, turned_all}
-use Rattle.tag_lists.proofs.Laws.Ways.{length-turned, good_start, good-at, put-start, put_next, put-end}
 use Rattle.tag_lists.proofs.writing.put_bytes.Given as goal
 
 -- What holds before each turn.
