@@ -1,5 +1,5 @@
 -- `window::feed` meets its contract: each test of the code is the definition's.
-use Rattle.std.proofs.Common.{◌≡◌, ℕ, true, List, sym, ◌∙◌, arith, rules}
+use Rattle.std.proofs.Common.{◌≡◌, ℕ, Bool, true, false, not, List, sym, ◌∙◌, arith}
 use borrow.Author.Tests.{not-true, not-false}
 use Rattle.window.specs.Window.{next_place, places, total, is_window, in_turn}
 use Rattle.window.proofs.Laws.Counting.{at-total}
@@ -7,28 +7,18 @@ use Rattle.window.proofs.Laws.Scans.{few-lost}
 use Rattle.window.proofs.Laws.Feeds.{bad-window, out-of-turn, next-in, lost-is-bit, one-fed}
 use Rattle.window.proofs.feed.Goals as goal
 
--- Past the first test the words are a window, and past the second the count is in turn.
-abbrev words : goal.Else-not-found → List ℕ
-words c = c.args.window.now
+-- Past the first test the words are a window, and what was counted is its sum.
+module _ (words : List ℕ) {ok : Bool} (tested : ok ≡ is_window words) (passed : not ok ≡ false) where
+  window : is_window words ≡ true
+  window = sym tested ∙ not-false ok passed
 
-window : (c : goal.Else-not-found) → is_window (words c) ≡ true
-window c =
-    let found = c.scan-found in
-    sym found.ensures.ok_value ∙ not-false found.result.ok c.if-not-found.false
+  lost : {counted : ℕ} → (is_window words ≡ true → counted ≡ total (places words)) → counted ≡ total (places words)
+  lost counted-is = counted-is window
 
-abbrev passed : goal.Else-not-in_turn → goal.Else-not-found
-passed c = search
-
-in-turn : (c : goal.Else-not-in_turn)
-    → in_turn (words (passed c)) (passed c).args.count ≡ true
-in-turn c =
-    let tested = c.in_turn in
-    sym tested.ensures ∙ not-false tested.result c.if-not-in_turn.false
-
--- What was counted.
-lost : (c : goal.Else-not-found) → c.scan-found.result.lost ≡ total (places (words c))
-lost c =
-    c.scan-found.ensures.lost_value (window c)
+-- Past the second the count is in turn.
+in-turn : (words : List ℕ) (count : ℕ) {passed : Bool} → passed ≡ in_turn words count → passed ≡ true
+    → in_turn words count ≡ true
+in-turn words count tested ok = sym tested ∙ ok
 
 pub returns-then-not-found : goal.returns-then-not-found
 returns-then-not-found c =
@@ -38,51 +28,58 @@ returns-then-not-found c =
     (sym found.ensures.ok_value ∙ not-true found.result.ok c.if-not-found.true)
 
 pub bounds-window-1 : goal.bounds-window-1
-bounds-window-1 c = omega (arith, (next-in (words (search)) (window (search))).1)
+bounds-window-1 c =
+    let a = c.args in
+    let ok = window a.window.now c.scan-found.ensures.ok_value c.if-not-found.false in
+    omega (arith, (next-in a.window.now ok).1)
 
 pub bounds-window-3 : goal.bounds-window-3
 bounds-window-3 c =
-    let else1 : goal.Else-not-found = search in
-    omega (arith, (next-in (words else1) (window else1)).1)
+    let a = c.args in
+    let ok = window a.window.now c.scan-found.ensures.ok_value c.if-not-found.false in
+    omega (arith, (next-in a.window.now ok).1)
 
 pub returns-then-not-in_turn : goal.returns-then-not-in_turn
 returns-then-not-in_turn c =
     let tested = c.in_turn in
-    let ok : goal.Else-not-found = search in
     let a = c.args in
-    out-of-turn a.window.now a.count a.before a.after (window ok)
-    (sym tested.ensures ∙ not-true tested.result c.if-not-in_turn.true)
+    let ok = window a.window.now c.scan-found.ensures.ok_value c.if-not-found.false in
+    out-of-turn a.window.now a.count a.before a.after ok
+    (sym tested.ensures ∙ c.if-not-in_turn.true)
 
 pub put-oldest-requires : goal.put-oldest-requires
 put-oldest-requires c =
-    let else2 : goal.Else-not-in_turn = search in
-    let ok = passed else2 in next-in (words ok) (window ok)
+    let a = c.args in
+    let ok = window a.window.now c.scan-found.ensures.ok_value c.if-not-found.false in next-in a.window.now ok
 
 pub overflow_sub-result : goal.overflow_sub-result
 overflow_sub-result c =
-    let else2 : goal.Else-not-in_turn = search in
-    let ok = passed else2 in
-    let ws = words ok in
-    omega (arith, lost ok, c.put-oldest.ensures.value, at-total (places ws) (next_place ws))
+    let a = c.args in
+    let ws = a.window.now in
+    let found = c.scan-found.ensures in
+    let counted = lost a.window.now found.ok_value c.if-not-found.false found.lost_value in
+    omega (arith, counted, c.put-oldest.ensures.value, at-total (places ws) (next_place ws))
 
 pub overflow_add-result : goal.overflow_add-result
 overflow_add-result c =
-    let else2 : goal.Else-not-in_turn = search in
-    let ok = passed else2 in
-    let a = ok.args in
+    let a = c.args in
+    let found = c.scan-found.ensures in
+    let counted = lost a.window.now found.ok_value c.if-not-found.false found.lost_value in
     omega (
       arith,
-      lost ok,
-      few-lost (words ok) (window ok),
+      counted,
+      few-lost a.window.now (window a.window.now found.ok_value c.if-not-found.false),
       c.lost_word-lost.ensures,
       lost-is-bit a.before a.after,
     )
 
 pub returns : goal.returns
 returns c =
-    let turn : goal.Else-not-in_turn = search in
-    let ok = passed turn in
-    let a = ok.args in
+    let a = c.args in
     let put = c.put-oldest in
-    one-fed a.window.now (window ok) a.count a.before a.after (in-turn turn) (lost ok) put.ensures.value
+    let found = c.scan-found.ensures in
+    let ok = window a.window.now found.ok_value c.if-not-found.false in
+    let counted = lost a.window.now found.ok_value c.if-not-found.false found.lost_value in
+    let turn = in-turn a.window.now a.count c.in_turn.ensures c.if-not-in_turn.false in
+    one-fed a.window.now ok a.count a.before a.after turn counted put.ensures.value
     c.lost_word-lost.ensures put.ensures.window_after

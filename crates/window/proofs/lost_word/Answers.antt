@@ -1,5 +1,5 @@
 -- `window::lost_word` meets its contract: the test is the definition's.
-use Rattle.std.proofs.Common.{sym, ◌∙◌, rules}
+use Rattle.std.proofs.Common.{sym, ◌∙◌}
 use Rattle.window.proofs.lost_word.Goals as goal
 
 pub returns-then-is_lost : goal.returns-then-is_lost

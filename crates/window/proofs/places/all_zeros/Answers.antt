@@ -1,5 +1,4 @@
-use Rattle.std.proofs.Common.{◌≡◌, ◌-◌, ◌≤◌, ◌&&◌, leb, length, drop, sym, refl, ◌∙◌, add-one, arith}
-use Rattle.window.specs.Window.{at_most}
+use Rattle.std.proofs.Common.{sym, refl, ◌∙◌, add-one, arith}
 use Rattle.window.proofs.Laws.Counting.{test-passed, test-done, is_zero}
 use Rattle.window.proofs.places.all_zeros.Goals as goal
 

@@ -1,7 +1,6 @@
 -- `window::places::all_zeros` meets its contract: the words left decide.
-use Rattle.std.proofs.Common.{◌≡◌, ◌-◌, ◌≤◌, ◌&&◌, leb, length, drop, sym, refl, ◌∙◌, add-one, arith}
+use Rattle.std.proofs.Common.{◌≡◌, ◌-◌, ◌≤◌, ◌&&◌, leb, length, drop}
 use Rattle.window.specs.Window.{at_most}
-use Rattle.window.proofs.Laws.Counting.{test-passed, test-done, is_zero}
 use Rattle.window.proofs.places.all_zeros.Given as goal
 
 abbrev pub invariant-loop-i : goal.invariant-loop-i

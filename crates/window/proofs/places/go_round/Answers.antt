@@ -1,5 +1,5 @@
 -- `window::places::go_round` meets its contract: the test is the definition's.
-use Rattle.std.proofs.Common.{◌+◌, arith, rules, le-ltb, lt-ltb}
+use Rattle.std.proofs.Common.{◌+◌, arith, le-ltb, lt-ltb}
 use Rattle.window.proofs.places.go_round.Goals as goal
 
 pub returns-then-next-width : goal.returns-then-next-width

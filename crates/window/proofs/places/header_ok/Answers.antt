@@ -1,5 +1,5 @@
 -- `window::places::header_ok` meets its contract: a window has four words, and the tests are the definition's.
-use Rattle.std.proofs.Common.{sym, rules}
+use Rattle.std.proofs.Common.{sym}
 use Rattle.window.proofs.Laws.Windows.{short-window}
 use Rattle.window.proofs.places.header_ok.Goals as goal
 

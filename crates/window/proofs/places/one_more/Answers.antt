@@ -1,5 +1,5 @@
 -- `window::places::one_more` meets its contract: the test is the definition's.
-use Rattle.std.proofs.Common.{rules, le-ltb, lt-ltb}
+use Rattle.std.proofs.Common.{le-ltb, lt-ltb}
 use Rattle.window.proofs.places.one_more.Goals as goal
 
 pub returns-then-fed-width : goal.returns-then-fed-width

@@ -1,5 +1,4 @@
-use Rattle.std.proofs.Common.{◌≡◌, ◌+◌, ◌-◌, ◌≤◌, true, ◌&&◌, leb, length, drop, sym, refl, ◌∙◌, add-one, arith, rules}
-use Rattle.window.specs.Window.{at_most, total}
+use Rattle.std.proofs.Common.{sym, refl, ◌∙◌, add-one, arith}
 use Rattle.window.proofs.Laws.Counting.{test-passed, test-done, total-few, sum-passed, sum_done}
 use Rattle.window.proofs.places.tally.Goals as goal
 
@@ -13,7 +12,7 @@ loop-i-preserved c =
       omega arith,
       rw add-one (test-passed 1 words l.i 1 l.gathered refl (omega arith) ∙ l.invariant.1),
       λ t.
-          rw (add-one, c.wrapping_add_u32-lost.ensures)
+          rw (add-one, c.wrapping_add_u32-lost.ensures.value)
           (sum-passed words l.i l.lost (omega (arith, total-few words t, c.requires)) (omega arith) (l.invariant.2 t)),
     )
 

@@ -1,7 +1,6 @@
 -- `window::places::tally` meets its contract: the words left decide, and are still to be added.
-use Rattle.std.proofs.Common.{◌≡◌, ◌+◌, ◌-◌, ◌≤◌, true, ◌&&◌, leb, length, drop, sym, refl, ◌∙◌, add-one, arith, rules}
+use Rattle.std.proofs.Common.{◌≡◌, ◌+◌, ◌-◌, ◌≤◌, true, ◌&&◌, leb, length, drop}
 use Rattle.window.specs.Window.{at_most, total}
-use Rattle.window.proofs.Laws.Counting.{test-passed, test-done, total-few, sum-passed, sum_done}
 use Rattle.window.proofs.places.tally.Given as goal
 
 abbrev pub invariant-loop-i : goal.invariant-loop-i

@@ -1,5 +1,5 @@
-use Rattle.std.proofs.Common.{◌≡◌, ◌-◌, ◌≤◌, length, sym, refl, ◌∙◌, add-one, arith, length-set}
-use Rattle.window.proofs.Laws.Filling.{filling, filling-more, filling-done, filling-first}
+use Rattle.std.proofs.Common.{sym, refl, ◌∙◌, add-one, arith, length-set}
+use Rattle.window.proofs.Laws.Filling.{filling-more, filling-done, filling-first}
 use Rattle.window.proofs.places.zeros.Goals as goal
 
 pub loop-i-init : goal.loop-i-init

@@ -1,6 +1,6 @@
 -- `window::places::zeros` meets its contract: what is written, and the zeros to come.
-use Rattle.std.proofs.Common.{◌≡◌, ◌-◌, ◌≤◌, length, sym, refl, ◌∙◌, add-one, arith, length-set}
-use Rattle.window.proofs.Laws.Filling.{filling, filling-more, filling-done, filling-first}
+use Rattle.std.proofs.Common.{◌≡◌, ◌-◌, ◌≤◌, length}
+use Rattle.window.proofs.Laws.Filling.{filling}
 use Rattle.window.proofs.places.zeros.Given as goal
 
 abbrev pub invariant-loop-i : goal.invariant-loop-i
