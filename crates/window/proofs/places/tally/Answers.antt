@@ -19,4 +19,7 @@ loop-i-preserved c =
 pub returns : goal.returns
 returns c =
     let l = c.loop-i in
-    let words = c.args.words.now in record { bits_value = sym (test-done 1 words l.i l.gathered (omega arith)) ∙ l.invariant.1; lost_value = λ t. sym (sum_done words l.i l.lost (omega arith)) ∙ l.invariant.2 t }
+    let words = c.args.words.now in record {
+      bits_value = sym (test-done 1 words l.i l.gathered (omega arith)) ∙ l.invariant.1;
+      lost_value = λ t. sym (sum_done words l.i l.lost (omega arith)) ∙ l.invariant.2 t;
+    }
