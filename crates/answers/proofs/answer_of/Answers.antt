@@ -57,7 +57,7 @@ returns-in-5 c =
 pub returns-in_default : goal.returns-in_default
 returns-in_default c =
     let p = c.requires in
-    let k = c.in_default-own.rest in
+    let k = c.in_default.in_default-own.rest in
     stands-for p.1
     (last-words _ _ p.0 p.1 k.0.0.0.0.0.1 k.0.0.0.0.1 k.0.0.0.1 k.0.0.1 k.0.1
     k.1)

@@ -21,5 +21,5 @@ returns-in-3 c = rw c.in-3.is
 
 pub returns-in_default : goal.returns-in_default
 returns-in_default c =
-    let k = c.in_default-own.rest in
+    let k = c.in_default.in_default-own.rest in
     rw (remove-else c.args.operation k.0.0.0.1 k.0.0.1 k.0.1 k.1)

@@ -24,5 +24,5 @@ returns-in-24 c =
 pub returns-in_default : goal.returns-in_default
 returns-in_default c =
     let others = line15 ∷ line17 ∷ line18 ∷ line24 ∷ [] in
-    let at_25 = left_over _ others line25 _ c.in_default-own.rest c.requires.in_group in
+    let at_25 = left_over _ others line25 _ c.in_default.in_default-own.rest c.requires.in_group in
     c.line25.ensures _ _ ∙ line_at line25 at_25 _ _ _ _ _

@@ -29,5 +29,5 @@ returns-in-81 c =
 pub returns-in_default : goal.returns-in_default
 returns-in_default c =
     let others = line74 ∷ line77 ∷ line78 ∷ line79 ∷ line81 ∷ [] in
-    let at-82 = left_over _ others line82 _ c.in_default-own.rest c.requires.in_group in
+    let at-82 = left_over _ others line82 _ c.in_default.in_default-own.rest c.requires.in_group in
     c.line82.ensures _ _ ∙ line_at line82 at-82 _ _ _ _ _

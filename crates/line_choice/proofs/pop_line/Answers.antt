@@ -9,7 +9,7 @@ use Rattle.line_choice.proofs.pop_line.Goals as goal
 -- The last arm is at 51.
 at_51 : (c : goal.In_default) → c.args.t.step ≡ 51
 at_51 c =
-    left_over _ (line39 ∷ line40 ∷ line42 ∷ line48 ∷ []) line51 _ c.in_default-own.rest c.requires.in_group
+    left_over _ (line39 ∷ line40 ∷ line42 ∷ line48 ∷ []) line51 _ c.in_default.in_default-own.rest c.requires.in_group
 
 pub line51-requires : goal.line51-requires
 line51-requires c =

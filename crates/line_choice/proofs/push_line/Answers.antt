@@ -20,5 +20,5 @@ returns-in-5 c =
 pub returns-in_default : goal.returns-in_default
 returns-in_default c =
     let others = line2 ∷ line3 ∷ line5 ∷ [] in
-    let at_8 = left_over _ others line8 _ c.in_default-own.rest c.requires.in_group in
+    let at_8 = left_over _ others line8 _ c.in_default.in_default-own.rest c.requires.in_group in
     c.line8.ensures _ _ ∙ line_at line8 at_8 _ _ _ _ _

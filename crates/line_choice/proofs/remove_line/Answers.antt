@@ -28,5 +28,5 @@ returns-in-62 c =
 pub returns-in_default : goal.returns-in_default
 returns-in_default c =
     let others = line54 ∷ line56 ∷ line58 ∷ line60 ∷ line62 ∷ [] in
-    let at-64 = left_over _ others line64 _ c.in_default-own.rest c.requires.in_group in
+    let at-64 = left_over _ others line64 _ c.in_default.in_default-own.rest c.requires.in_group in
     c.line64.ensures _ _ ∙ line_at line64 at-64 _ _ _ _ _

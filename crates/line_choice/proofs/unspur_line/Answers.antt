@@ -24,5 +24,5 @@ returns-in-70 c =
 pub returns-in_default : goal.returns-in_default
 returns-in_default c =
     let others = line67 ∷ line68 ∷ line69 ∷ line70 ∷ [] in
-    let at-72 = left_over _ others line72 _ c.in_default-own.rest c.requires.in_group in
+    let at-72 = left_over _ others line72 _ c.in_default.in_default-own.rest c.requires.in_group in
     c.line72.ensures _ _ _ ∙ line_at line72 at-72 _ _ _ _ _

@@ -20,7 +20,7 @@ returns-in-3 c = rw (c.in-3.is, c.number-in-3.ensures)
 
 pub returns-in_default : goal.returns-in_default
 returns-in_default c =
-    let k = c.in_default-own.rest in
+    let k = c.in_default.in_default-own.rest in
     rw (
       remove-else c.args.operation (λ e. k.0.1 (inl e)) k.0.0.1 (λ e. k.0.1 (inr e))
           k.1,

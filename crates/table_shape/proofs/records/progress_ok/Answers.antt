@@ -54,7 +54,7 @@ returns-else-counted-goal-3 c = rw (c.in-48.is, lt-leb _ _ c.if-counted-goal-3.f
 pub returns-then-counted-goal-4 : goal.returns-then-counted-goal-4
 unfolding is_step_in
 returns-then-counted-goal-4 c =
-    let k = c.in_default-own.rest in
+    let k = c.in_default.in_default-own.rest in
     let n = c.args.step in
     rw (
       ne_eqb n 54 k.0.0.0.1,
@@ -69,7 +69,7 @@ returns-then-counted-goal-4 c =
 pub returns-else-counted-goal-4 : goal.returns-else-counted-goal-4
 unfolding is_step_in
 returns-else-counted-goal-4 c =
-    let k = c.in_default-own.rest in
+    let k = c.in_default.in_default-own.rest in
     let n = c.args.step in
     rw (
       ne_eqb n 54 k.0.0.0.1,
