@@ -22,20 +22,20 @@ returns-then-not-call_ok c =
     let f = c.call_ok in
     let a = c.args in
     call-6 ws a.k a.operation a.side a.argument
-    (sym f.ensures ∙ not-true f.result c.if-not-call_ok.true)
+    (sym f.ensures ∙ c.if-not-call_ok.true)
 
 -- ---- What the tests passed so far say.
 call-passed :
     (c : goal.Else-not-call_ok)
     → let a = c.args in
     leb 1 a.operation && leb a.operation 4 && leb a.side 1 ≡ true
-call-passed c = let f = c.call_ok in sym f.ensures ∙ not-false f.result c.if-not-call_ok.false
+call-passed c = let f = c.call_ok in sym f.ensures ∙ c.if-not-call_ok.false
 
 argument-passed :
     (c : goal.Else-not-argument_ok)
     → let a = c.args in
     argument_ok (operation_of a.operation) a.argument ≡ true
-argument-passed c = let g = c.argument_ok in sym g.ensures ∙ not-false g.result c.if-not-argument_ok.false
+argument-passed c = let g = c.argument_ok in sym g.ensures ∙ c.if-not-argument_ok.false
 
 pub returns-then-not-argument_ok : goal.returns-then-not-argument_ok
 returns-then-not-argument_ok c =
@@ -44,7 +44,7 @@ returns-then-not-argument_ok c =
     let e1 : goal.Else-not-call_ok = search in
     let a = c.args in
     call-7 ws a.k a.operation a.side a.argument (call-passed e1)
-    (sym g.ensures ∙ not-true g.result c.if-not-argument_ok.true)
+    (sym g.ensures ∙ c.if-not-argument_ok.true)
 
 pub returns-then-n-ne0 : goal.returns-then-n-ne0
 returns-then-n-ne0 c =
@@ -63,7 +63,7 @@ returns-then-not-is_idle c =
     let a = c.args in
     let i = c.is_idle in
     let busy = ap (λ (t : Task). is_idle t.operation) W.its_task ∙ sym i.ensures
-    ∙ not-true i.result c.if-not-is_idle.true in
+    ∙ c.if-not-is_idle.true in
     call-8 ws a.k a.operation a.side a.argument (call-passed e1) (argument-passed e2)
     (c.twice_refusal-n.ensures ws W) c.if-n-ne0.false busy
 
@@ -75,6 +75,6 @@ returns c =
     let a = c.args in
     let i = c.is_idle in
     let idle = ap (λ (t : Task). is_idle t.operation) W.its_task ∙ sym i.ensures
-    ∙ not-false i.result c.if-not-is_idle.false in
+    ∙ c.if-not-is_idle.false in
     call_passes ws a.k a.operation a.side a.argument (call-passed e1) (argument-passed e2)
     (c.twice_refusal-n.ensures ws W) c.if-n-ne0.false idle

@@ -36,8 +36,7 @@ read_lane-requires c =
 
 pub returns : goal.returns
 returns c =
-    let l : goal.Else-lanes-l = search in
     let a = c.args in
     c.read_lane.ensures
     ∙ read-goes-on a.table.now c.table_refusal-n.ensures a.l a.out.now
-    c.if-n-ne0.false (omega (arith, c.lanes.ensures, l.if-lanes-l.false))
+    c.if-n-ne0.false (omega (arith, c.lanes.ensures, c.if-lanes-l.false))

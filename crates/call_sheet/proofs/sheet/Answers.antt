@@ -39,9 +39,8 @@ sheet_lane-requires c =
 
 pub returns : goal.returns
 returns c =
-    let l : goal.Else-lanes-l = search in
     let e : goal.Else-n-ne0 = search in
     let a = (start (search)).args in
     c.sheet_lane.ensures
     ∙ sheet-goes-on a.table.now e.table_refusal-n.ensures a.l a.page a.out.now e.if-n-ne0.false
-    (omega (arith, c.lanes.ensures, l.if-lanes-l.false))
+    (omega (arith, c.lanes.ensures, c.if-lanes-l.false))

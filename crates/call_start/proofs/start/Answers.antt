@@ -23,17 +23,17 @@ returns-then-not-lanes_ok c =
     let a = c.args in
     let s = c.lanes_ok in
     start-25 a.table.now a.slots a.tasks a.growth a.lanes
-    (sym s.ensures ∙ not-true s.result c.if-not-lanes_ok.true)
+    (sym s.ensures ∙ c.if-not-lanes_ok.true)
 
 -- The lanes passed, and the sizes.
 lanes-passed : (c : goal.Else-not-lanes_ok) → lanes_ok c.args.lanes ≡ true
-lanes-passed c = let s = c.lanes_ok in sym s.ensures ∙ not-false s.result c.if-not-lanes_ok.false
+lanes-passed c = let s = c.lanes_ok in sym s.ensures ∙ c.if-not-lanes_ok.false
 
 sizes-passed :
     (c : goal.Else-not-sizes_ok)
     → let a = c.args in
     sizes_ok a.slots a.tasks a.growth a.lanes ≡ true
-sizes-passed c = let s = c.sizes_ok in sym s.ensures ∙ not-false s.result c.if-not-sizes_ok.false
+sizes-passed c = let s = c.sizes_ok in sym s.ensures ∙ c.if-not-sizes_ok.false
 
 pub returns-then-not-sizes_ok : goal.returns-then-not-sizes_ok
 returns-then-not-sizes_ok c =
@@ -41,7 +41,7 @@ returns-then-not-sizes_ok c =
     let a = c.args in
     let s = c.sizes_ok in
     start-1 a.table.now a.slots a.tasks a.growth a.lanes (lanes-passed l)
-    (sym s.ensures ∙ not-true s.result c.if-not-sizes_ok.true)
+    (sym s.ensures ∙ c.if-not-sizes_ok.true)
 
 pub returns-then-table-table_length : goal.returns-then-table-table_length
 returns-then-table-table_length c =

@@ -90,7 +90,7 @@ returns-then-not-holds_bag c =
     let node : goal.Else-x-eq-NONE = search in
     let at : goal.At-loop-n = search in
     let l = at.loop-n in
-    let no-bag = told tested (not-true tested.holds_bag.result c.if-not-holds_bag.true) in
+    let no-bag = told tested (c.if-not-holds_bag.true) in
     located-there (table at) (start at).args.place (first-node at) (lane (table at) (start at).args.l) l.n
     (sym l.invariant.count-alike
     ∙ counting-at-no-bag (table at) l.n l.x (omega (arith, all-nodes at)) node.if-x-eq-NONE.false (node-there node)
@@ -110,7 +110,7 @@ loop-n-preserved c =
     let at : goal.At-loop-n = search in
     let l = at.loop-n in
     let ws = table at in
-    let bag = told tested (not-false tested.holds_bag.result c.if-not-holds_bag.false) in
+    let bag = told tested (c.if-not-holds_bag.false) in
     let on = c.next-x.ensures ∙ gone-on ws l.n (first-node at) l.invariant.node-reached in record {
       counted-within = omega (arith, all-nodes at);
       node-or-none = rw c.next-x.ensures (next-in ws (start at).requires.0 l.x);

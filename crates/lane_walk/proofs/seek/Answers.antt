@@ -76,7 +76,7 @@ returns-then-not-holds_bag c =
     let node : goal.Else-x-eq-NONE = search in
     let at : goal.At-loop-n = search in
     let l = at.loop-n in
-    let no-bag = told tested (not-true tested.holds_bag.result c.if-not-holds_bag.true) in
+    let no-bag = told tested (c.if-not-holds_bag.true) in
     sym
     (count-at-no-bag (table at) (start at).args.sought l.n l.x l.found (omega (arith, all-nodes at))
     node.if-x-eq-NONE.false
@@ -101,7 +101,7 @@ loop-n-preserved c =
     let node : goal.Else-x-eq-NONE = search in
     let at : goal.At-loop-n = search in
     let l = at.loop-n in
-    let bag = told tested (not-false tested.holds_bag.result c.if-not-holds_bag.false) in (
+    let bag = told tested (c.if-not-holds_bag.false) in (
       omega (arith, all-nodes at),
       rw c.next-x.ensures (next-in (table at) (start at).requires.0 l.x),
       rw (c.next-x.ensures, c.found_now-found.ensures, c.bag.ensures)

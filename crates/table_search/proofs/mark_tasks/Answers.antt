@@ -67,7 +67,6 @@ loop-k-preserved c =
 pub returns : goal.returns
 returns c =
     let l = c.loop-k in
-    let k : goal.After-tasks-count = search in
     let w = c.args.table.now in
     held-end w c.slots-n.result _ l.k _ _ c.loop-k-test.false
-    (l.invariant.3 ∙ rw (c.slots-n.ensures, k.tasks-count.ensures))
+    (l.invariant.3 ∙ rw (c.slots-n.ensures, c.tasks-count.ensures))

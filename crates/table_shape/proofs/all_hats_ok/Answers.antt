@@ -21,14 +21,14 @@ returns-then-not-hats_ok c =
     let t = c.args.table.now in
     let l = c.loop-l in
     let r = c.hats_ok in
-    one-fails (hats_ok t) most_lanes l.l (omega arith) (sym r.ensures ∙ not-true r.result c.if-not-hats_ok.true)
+    one-fails (hats_ok t) most_lanes l.l (omega arith) (sym r.ensures ∙ c.if-not-hats_ok.true)
 
 pub loop-l-preserved : goal.loop-l-preserved
 loop-l-preserved c =
     let t = c.args.table.now in
     let l = c.loop-l in
     let r = c.hats_ok in
-    (omega arith, one_more (hats_ok t) l.l l.invariant.1 (sym r.ensures ∙ not-false r.result c.if-not-hats_ok.false))
+    (omega arith, one_more (hats_ok t) l.l l.invariant.1 (sym r.ensures ∙ c.if-not-hats_ok.false))
 
 pub returns : goal.returns
 returns c =

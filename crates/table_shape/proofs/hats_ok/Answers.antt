@@ -8,13 +8,11 @@ use Rattle.table_shape.proofs.hats_ok.Goals as goal
 pub returns-then-l-lanes : goal.returns-then-l-lanes
 unfolding ℕ_discrete
 returns-then-l-lanes c =
-    let l : goal.After-lanes = search in
     hats-used c.args.table.now c.args.l c.requires.1 c.hat-left.ensures c.hat-right.ensures
-    c.slots-slots.ensures (omega (arith, l.lanes.ensures, c.if-l-lanes.true))
+    c.slots-slots.ensures (omega (arith, c.lanes.ensures, c.if-l-lanes.true))
 
 pub returns : goal.returns
 unfolding ℕ_discrete
 returns c =
-    let l : goal.After-lanes = search in
     hats-unused c.args.table.now c.args.l c.requires.1 c.hat-left.ensures c.hat-right.ensures
-    (omega (arith, l.lanes.ensures, c.if-l-lanes.false))
+    (omega (arith, c.lanes.ensures, c.if-l-lanes.false))

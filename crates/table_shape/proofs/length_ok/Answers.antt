@@ -45,7 +45,7 @@ pub returns-then-not-lanes_ok : goal.returns-then-not-lanes_ok
 returns-then-not-lanes_ok c =
     let l : goal.After-lanes_ok = search in
     wrong-lanes c.args.table.now c.if-table-lt-LEAST_LENGTH.false
-    (lanes-say l (not-true l.lanes_ok.result c.if-not-lanes_ok.true))
+    (lanes-say l (c.if-not-lanes_ok.true))
 
 pub returns-then-not-sizes_ok : goal.returns-then-not-sizes_ok
 returns-then-not-sizes_ok c =
@@ -53,8 +53,8 @@ returns-then-not-sizes_ok c =
     let e2 = passed s in
     let e = e2.before.before.before in
     wrong-sizes e.before.before.args.table.now e.if1.false
-    (lanes-say (search) (not-false e2.lanes_ok.result e2.if-not-lanes_ok.false))
-    (sizes-say s (not-true s.sizes_ok.result c.if-not-sizes_ok.true))
+    (lanes-say (search) (e2.if-not-lanes_ok.false))
+    (sizes-say s (c.if-not-sizes_ok.true))
 
 pub returns : goal.returns
 returns c =
@@ -66,5 +66,5 @@ returns c =
     ∙ ap (λ (n : ℕ). eqb (length ws) (table_length n c.tasks-tasks.result)) c.slots-slots.ensures
     ∙ ap (λ (n : ℕ). eqb (length ws) (table_length (node_count ws) n)) c.tasks-tasks.ensures
     ∙ right-sizes ws e.if1.false
-    (lanes-say (search) (not-false e2.lanes_ok.result e2.if-not-lanes_ok.false))
-    (sizes-say s (not-false s.sizes_ok.result c.if-not-sizes_ok.false))
+    (lanes-say (search) (e2.if-not-lanes_ok.false))
+    (sizes-say s (c.if-not-sizes_ok.false))

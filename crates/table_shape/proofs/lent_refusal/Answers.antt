@@ -20,18 +20,18 @@ length-there c h =
 
 pub returns-then-not-length_ok : goal.returns-then-not-length_ok
 returns-then-not-length_ok c =
-    let l : goal.After-length_ok = search in rw (length-there l (not-true l.length_ok.result c.if-not-length_ok.true))
+    let l : goal.After-length_ok = search in rw (length-there l (c.if-not-length_ok.true))
 
 pub lent_shape_ok-requires : goal.lent_shape_ok-requires
-lent_shape_ok-requires c = let l = c.length_ok in sym l.ensures ∙ not-false l.result c.if-not-length_ok.false
+lent_shape_ok-requires c = let l = c.length_ok in sym l.ensures ∙ c.if-not-length_ok.false
 
 pub returns-then-not-lent_shape_ok : goal.returns-then-not-lent_shape_ok
 returns-then-not-lent_shape_ok c =
     let l : goal.After-length_ok = search in
     let s = c.lent_shape_ok in
     rw (
-      length-there l (not-false l.length_ok.result c.if-not-length_ok.false),
-      sym s.ensures ∙ not-true s.result c.if-not-lent_shape_ok.true,
+      length-there l (c.if-not-length_ok.false),
+      sym s.ensures ∙ c.if-not-lent_shape_ok.true,
     )
 
 pub returns : goal.returns
@@ -39,6 +39,6 @@ returns c =
     let l : goal.After-length_ok = search in
     let s = c.lent_shape_ok in
     rw (
-      length-there l (not-false l.length_ok.result c.if-not-length_ok.false),
-      sym s.ensures ∙ not-false s.result c.if-not-lent_shape_ok.false,
+      length-there l (c.if-not-length_ok.false),
+      sym s.ensures ∙ c.if-not-lent_shape_ok.false,
     )

@@ -73,12 +73,12 @@ returns-then-not-range_ok c =
     let e = placed (first r) in
     let a = (start e).args in
     before-fails a.table.now a.k (record_of a.own) (is_task e) (sized e) refl
-    (before-told r (not-true r.range_ok.result c.if-not-range_ok.true))
+    (before-told r (c.if-not-range_ok.true))
 
 before-passed :
     (c : goal.Else-not-range_ok)
     → let e = placed (first (search)) in all_from 0 (start e).args.k (task_ok (table e)) ≡ true
-before-passed c = let r : goal.After-range_ok = search in before-told r (not-false r.range_ok.result c.if-not-range_ok.false)
+before-passed c = let r : goal.After-range_ok = search in before-told r (c.if-not-range_ok.false)
 
 -- ---- The record lent, by its words.
 abbrev written : goal.After-owners-2-1 → goal.After-write
@@ -113,7 +113,7 @@ returns-then-not-range_ok-2 c =
     let e = placed (first e2.before) in
     let a = (start e).args in
     own-fails a.table.now a.k (record_of a.own) (is_task e) (sized e) refl (before-passed e2)
-    (own-told r (not-true r.range_ok-2.result c.if-not-range_ok-2.true))
+    (own-told r (c.if-not-range_ok-2.true))
 
 pub range_ok-requires-3 : goal.range_ok-requires-3
 range_ok-requires-3 c =
@@ -138,4 +138,4 @@ returns c =
     ∙ ap (λ (n : ℕ). all_from (a.k + 1) n (nth_ok (table e) (table e) f.node_at-first.result)) e.tasks-n.ensures
     ∙ ap (λ (p : ℕ). all_from (a.k + 1) (task_count (table e)) (nth_ok (table e) (table e) p)) (after-nodes f)
     ∙ after-decides a.table.now a.k (record_of a.own) (is_task e) (sized e) refl (before-passed e2)
-    (own-told r (not-false r.range_ok-2.result c.if-not-range_ok-2.false))
+    (own-told r (c.if-not-range_ok-2.false))

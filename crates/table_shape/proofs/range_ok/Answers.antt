@@ -30,7 +30,7 @@ returns-then-not-nth_ok c =
     let at : goal.At-loop-k = search in
     let a = (start at).args in
     range-fails (tested (start at)) a.from a.to at.loop-k.k at.loop-k.invariant.0 c.loop-k-test.true
-    (sym r.ensures ∙ not-true r.result c.if-not-nth_ok.true)
+    (sym r.ensures ∙ c.if-not-nth_ok.true)
 
 pub loop-k-preserved : goal.loop-k-preserved
 loop-k-preserved c =
@@ -41,7 +41,7 @@ loop-k-preserved c =
       omega (arith, l.invariant.0),
       omega (arith, c.loop-k-test.true),
       range-goes-on (tested (start at)) a.from a.to l.k l.invariant.0 l.invariant.2
-          (sym r.ensures ∙ not-false r.result c.if-not-nth_ok.false),
+          (sym r.ensures ∙ c.if-not-nth_ok.false),
     )
 
 pub returns : goal.returns

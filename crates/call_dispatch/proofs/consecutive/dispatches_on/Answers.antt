@@ -35,7 +35,7 @@ returns-then-not-goes_on c =
     let going = c.goes_on in
     let e : suc (a.times - (l.made + 1)) ≡ a.times - l.made = omega arith in
     is_last l.table a.hint l.invariant.passes done.ensures
-    (sym going.ensures ∙ not-true going.result c.if-not-goes_on.true) (a.times - (l.made + 1))
+    (sym going.ensures ∙ c.if-not-goes_on.true) (a.times - (l.made + 1))
     ∙ ap (λ (n : ℕ). dispatches n l.table a.hint) e
     ∙ l.invariant.rest-alike
 
@@ -50,7 +50,7 @@ loop-made-preserved c =
       table-long = done.auto.table ∙ l.invariant.table-long;
       passes = still-passed l.table a.hint l.invariant.passes done.ensures;
       rest-alike = sym (goes_on l.table a.hint l.invariant.passes done.ensures
-          (sym going.ensures ∙ not-false going.result c.if-not-goes_on.false) (a.times - (l.made + 1)))
+          (sym going.ensures ∙ c.if-not-goes_on.false) (a.times - (l.made + 1)))
           ∙ ap (λ (n : ℕ). dispatches n l.table a.hint) e
           ∙ l.invariant.rest-alike;
     }

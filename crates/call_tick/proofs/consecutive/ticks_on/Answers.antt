@@ -33,7 +33,7 @@ returns-then-not-is_going c =
     let going = c.is_going in
     let e : suc (a.times - (l.made + 1)) ≡ a.times - l.made = omega arith in
     is_last l.table l.invariant.well-formed a.task a.hint done.ensures
-    (sym going.ensures ∙ not-true going.result c.if-not-is_going.true) (a.times - (l.made + 1))
+    (sym going.ensures ∙ c.if-not-is_going.true) (a.times - (l.made + 1))
     ∙ ap (λ (n : ℕ). ticks n l.table a.task a.hint) e
     ∙ l.invariant.rest-alike
 
@@ -48,7 +48,7 @@ loop-made-preserved c =
       table-long = done.auto.table ∙ l.invariant.table-long;
       well-formed = tick-passed l.table l.invariant.well-formed a.task a.hint done.ensures;
       rest-alike = sym (goes_on l.table l.invariant.well-formed a.task a.hint done.ensures
-          (sym going.ensures ∙ not-false going.result c.if-not-is_going.false) (a.times - (l.made + 1)))
+          (sym going.ensures ∙ c.if-not-is_going.false) (a.times - (l.made + 1)))
           ∙ ap (λ (n : ℕ). ticks n l.table a.task a.hint) e
           ∙ l.invariant.rest-alike;
     }

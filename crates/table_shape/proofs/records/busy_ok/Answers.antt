@@ -16,7 +16,7 @@ argument_passes :
     →     let t = c.args.t in
     argument_ok (operation_of t.operation) t.argument ≡ true
 argument_passes c =
-    sym c.argument_ok.ensures ∙ not-false c.argument_ok.result c.if-not-argument_ok.false
+    sym c.argument_ok.ensures ∙ c.if-not-argument_ok.false
 
 flag :
     (c : goal.Joined-is_step_of)
@@ -48,7 +48,7 @@ pub returns-then-not-argument_ok : goal.returns-then-not-argument_ok
 returns-then-not-argument_ok c =
     let a = c.args in
     argument-fails a.slots a.growth a.lanes a.t c.if-t-gt-REMOVE.false c.if-t-gt1.false
-    (sym c.argument_ok.ensures ∙ not-true c.argument_ok.result c.if-not-argument_ok.true)
+    (sym c.argument_ok.ensures ∙ c.if-not-argument_ok.true)
 
 pub goal_of-goal-requires : goal.goal_of-goal-requires
 goal_of-goal-requires c = argument_passes c
