@@ -1,7 +1,6 @@
 -- `tag::digits` meets its contract: the digits above the last ten are of no account.
 use mathlib.Core.Path.{ap, ◌∙◌}
 use Prim.Native.Nat.{ℕ, ◌/◌, ◌%◌}
-use borrow.Author.Rules.{rules}
 use Rattle.tag.specs.Tags.{billion, tag_of, ten_digits}
 use Rattle.tag.proofs.TwoDigits.{last-ten}
 use Rattle.tag.proofs.digits.Goals as goal

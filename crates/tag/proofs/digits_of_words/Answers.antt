@@ -2,7 +2,7 @@ use mathlib.Core.Path.{◌≡◌, refl, ap, ◌∙◌}
 use Prim.Native.Nat.{◌*◌, ◌-◌, ◌/◌, ◌%◌, ◌≤◌}
 use native.Mathlib.Numerals.{add-one}
 use native.Mathlib.Omega.{arith}
-use lib.ListN.{length, length-set, get_or, take}
+use lib.ListN.{length, length-set, get_or}
 use Rattle.tag.specs.Tags.{tag_of}
 use Rattle.tag.proofs.Stores.{filled-end}
 use Rattle.tag.proofs.Twofold.{length-twofold, twofold-next}

@@ -1,5 +1,4 @@
 -- `tag::is_tag` meets its contract: the last test is of the tag's number.
-use borrow.Author.Rules.{rules}
 use Rattle.tag.proofs.is_tag.Goals as goal
 
 pub returns : goal.returns

@@ -3,7 +3,6 @@ use mathlib.Core.Path.{◌≡◌}
 use Prim.Native.Nat.{◌+◌, ◌*◌, ◌/◌, ◌%◌}
 use native.Mathlib.Omega.{arith}
 use Rattle.tag.specs.Tags.{tag_of}
-use borrow.Author.Rules.{rules}
 use Rattle.tag.proofs.twos.Goals as goal
 
 pub returns : goal.returns

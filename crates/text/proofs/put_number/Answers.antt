@@ -3,7 +3,6 @@ use mathlib.Core.Path.{◌≡◌, ap, ◌∙◌}
 use Prim.Native.Nat.{◌<◌, ◌^◌}
 use native.Mathlib.Omega.{arith}
 use lib.ListN.{length, take}
-use borrow.Author.Rules.{rules}
 use Rattle.text.specs.Numerals.{decimal}
 use Rattle.text.proofs.Laws.Decimals.{fewest-digits, decimal-length}
 use Rattle.text.proofs.put_number.Goals as goal
@@ -13,12 +12,12 @@ put-requires c =
     let n = c.args.n in
     let d = c.decimal-k in
     let word : n < 2 ^ 32 = omega arith in
-    let text : take d.result d.last.1.0 ≡ decimal n =
-    d.ensures.1.1 ∙ fewest-digits n d.result d.ensures.1.0 in
+    let text : take d.result d.new.out ≡ decimal n =
+    d.ensures.digits ∙ fewest-digits n d.result d.ensures.len in
     omega (arith, decimal-length n word, ap length text)
 
 pub returns : goal.returns
 returns c =
     let d = c.decimal-k in
     let n = c.args.n in
-    rw (d.ensures.1.1 ∙ fewest-digits n d.result d.ensures.1.0) at c.put.ensures
+    rw (d.ensures.digits ∙ fewest-digits n d.result d.ensures.len) at c.put.ensures

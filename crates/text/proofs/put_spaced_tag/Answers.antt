@@ -1,5 +1,4 @@
 -- `text::put_spaced_tag` meets its contract.
-use borrow.Author.Rules.{rules}
 use Rattle.text.proofs.Laws.WritingLaws.{written-append}
 use Rattle.text.proofs.put_spaced_tag.Goals as goal
 

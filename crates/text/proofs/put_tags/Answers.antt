@@ -1,12 +1,6 @@
 use mathlib.Core.Path.{◌≡◌, refl, ◌∙◌}
-use Prim.Native.Nat.{◌+◌, ◌-◌, ◌*◌, ◌≤◌}
 use native.Mathlib.Numerals.{add-one}
 use native.Mathlib.Omega.{arith}
-use borrow.Author.Rules.{rules}
-use lib.ListN.{length}
-use Rattle.tag.specs.Tags.{tags_in}
-use Rattle.text.specs.Numerals.{spaced}
-use Rattle.text.specs.Writing.{Written}
 use Rattle.text.proofs.Laws.Rows.{tag-length, no-tag-written, tag-written}
 use Rattle.text.proofs.put_tags.Goals as goal
 

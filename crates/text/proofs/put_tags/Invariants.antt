@@ -1,14 +1,10 @@
 -- `text::put_tags` meets its contract. The loop's invariant: the tags so far are written.
-use mathlib.Core.Path.{◌≡◌, refl, ◌∙◌}
+use mathlib.Core.Path.{◌≡◌}
 use Prim.Native.Nat.{◌+◌, ◌-◌, ◌*◌, ◌≤◌}
-use native.Mathlib.Numerals.{add-one}
-use native.Mathlib.Omega.{arith}
-use borrow.Author.Rules.{rules}
 use lib.ListN.{length}
 use Rattle.tag.specs.Tags.{tags_in}
 use Rattle.text.specs.Numerals.{spaced}
 use Rattle.text.specs.Writing.{Written}
-use Rattle.text.proofs.Laws.Rows.{tag-length, no-tag-written, tag-written}
 use Rattle.text.proofs.put_tags.Given as goal
 
 abbrev pub invariant-loop-i : goal.invariant-loop-i
