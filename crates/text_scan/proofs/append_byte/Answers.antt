@@ -1,5 +1,4 @@
 -- One byte more.
-use borrow.Author.Rules.{rules}
 use Rattle.text_scan.proofs.append_byte.Goals as goal
 
 pub returns : goal.returns

@@ -1,6 +1,5 @@
 -- The number at the last place used gets one digit more.
 use native.Mathlib.Omega.{arith}
-use borrow.Author.Rules.{rules}
 use Rattle.text_scan.proofs.extend_number.Goals as goal
 
 pub overflow_sub-place : goal.overflow_sub-place

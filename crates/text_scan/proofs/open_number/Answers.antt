@@ -1,5 +1,4 @@
 -- One byte and one number more.
-use borrow.Author.Rules.{rules}
 use Rattle.text_scan.proofs.open_number.Goals as goal
 
 pub returns : goal.returns

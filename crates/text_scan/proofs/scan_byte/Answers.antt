@@ -3,8 +3,6 @@ use mathlib.Core.Bool.{true}
 use mathlib.Core.Path.{◌≡◌, sym, ◌∙◌}
 use Prim.Native.Nat.{◌≤◌}
 use native.Mathlib.Omega.{arith}
-use borrow.Author.Rules.{rules}
-use borrow.Author.Tests.{not-true, not-false}
 use Rattle.text_scan.specs.Scanned.{is_digit}
 use Rattle.text_scan.specs.Kept.{keep_byte}
 use Rattle.text_scan.proofs.Laws.PlaceLaws.{digit-range}
@@ -12,7 +10,7 @@ use Rattle.text_scan.proofs.scan_byte.Goals as goal
 
 -- Past the first test the byte is a digit.
 a-digit : (c : goal.Else-not-is_digit) → is_digit c.args.b ≡ true
-a-digit c = sym c.is_digit.ensures ∙ not-false c.is_digit.result c.if-not-is_digit.false
+a-digit c = sym c.is_digit.ensures ∙ c.if-not-is_digit.false
 
 in-range : (c : goal.Else-not-is_digit) → (48 ≤ c.args.b) × (c.args.b ≤ 57)
 in-range c =
@@ -22,7 +20,7 @@ pub returns-then-not-is_digit : goal.returns-then-not-is_digit
 unfolding keep_byte
 returns-then-not-is_digit c =
     let d = c.is_digit in
-    let h = sym d.ensures ∙ not-true d.result c.if-not-is_digit.true in
+    let h = sym d.ensures ∙ c.if-not-is_digit.true in
     rw h (c.append_byte.ensures _)
 
 pub overflow_sub-d : goal.overflow_sub-d
@@ -32,7 +30,7 @@ pub extend_number-requires : goal.extend_number-requires
 extend_number-requires c =
     let else1 : goal.Else-not-is_digit = search in
     let h = in-range else1 in
-    record { counts = c.requires; is_open = c.if-in_number.true; is_digit = omega arith }
+    record { counts = c.requires; is_open = c.if-in_number.true; is-digit = omega arith }
 
 pub returns-then-in_number : goal.returns-then-in_number
 unfolding keep_byte

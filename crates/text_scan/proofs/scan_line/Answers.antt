@@ -1,9 +1,6 @@
-use Prim.Native.Nat.{◌-◌}
 use native.Mathlib.Omega.{arith}
-use lib.ListN.{length}
 use Rattle.text.proofs.Laws.FirstLine.{line-fed, chunk-ends}
-use Rattle.text_scan.specs.Kept.{kept_of}
-use Rattle.text_scan.proofs.Laws.LineLaws.{Scanning, scanning-starts, scanning-goes-on, scanning-ends}
+use Rattle.text_scan.proofs.Laws.LineLaws.{scanning-starts, scanning-goes-on, scanning-ends}
 use Rattle.text_scan.proofs.scan_line.Goals as goal
 
 pub loop-i-init : goal.loop-i-init

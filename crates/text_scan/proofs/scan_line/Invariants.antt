@@ -1,10 +1,8 @@
 -- What is left of the line gives what the whole of it gives.
 use Prim.Native.Nat.{◌-◌}
-use native.Mathlib.Omega.{arith}
 use lib.ListN.{length}
-use Rattle.text.proofs.Laws.FirstLine.{line-fed, chunk-ends}
 use Rattle.text_scan.specs.Kept.{kept_of}
-use Rattle.text_scan.proofs.Laws.LineLaws.{Scanning, scanning-starts, scanning-goes-on, scanning-ends}
+use Rattle.text_scan.proofs.Laws.LineLaws.{Scanning}
 use Rattle.text_scan.proofs.scan_line.Given as goal
 
 abbrev pub invariant-loop-i : goal.invariant-loop-i
