@@ -1,5 +1,5 @@
 -- Lists and tags, with what each comes to; `proofs/Worked` computes them.
-use Rattle.std.specs.Prelude.{List, [], ◌∷◌, ◌++◌, ℕ, zero, suc, ◌+◌, take}
+use Rattle.std.specs.Prelude.{List, [], ◌∷◌, ◌++◌, ℕ, zero, suc, take}
 use Rattle.text.specs.Text.{bytes}
 use Rattle.airline_list.specs.declared.End.TheVariants.{Left, Right}
 use Rattle.airline_list.specs.declared.Sent.{Sent}

@@ -5,7 +5,6 @@ use Rattle.airline_list.specs.Lists.{verdict}
 use Rattle.airline_list.specs.Marks.{sent_to}
 use Rattle.airline_list.proofs.Laws.PackedLaws.{answer-told}
 use Rattle.airline_list.proofs.Laws.ReadingLaws.{tag-sent}
-use borrow.Author.Rules.{rules}
 use Rattle.airline_list.proofs.end_for.Goals as goal
 
 pub returns : goal.returns

@@ -6,8 +6,8 @@ use lib.ListN.{length, drop, length-drop}
 use lib.Seq.{take_all}
 use Rattle.text.specs.Lines.{first_line}
 use Rattle.airline_list.specs.declared.Sent.TheVariants.{To}
+use Rattle.airline_list.specs.declared.Turn.TheVariants.{More}
 use Rattle.airline_list.specs.Forms.{form_text, form_of}
-use Rattle.airline_list.specs.Marks.{Reading}
 use Rattle.airline_list.proofs.Laws.FormLaws.{form-in-range}
 use Rattle.airline_list.proofs.Laws.LineLaws.{form_at, is_last, form-within}
 use Rattle.airline_list.proofs.Laws.ReadingLaws.{
@@ -20,12 +20,12 @@ use Rattle.airline_list.proofs.Laws.ReadingLaws.{
   turn-goes-on,
   turn_more,
 }
-use borrow.Author.Rules.{rules}
 use Rattle.airline_list.proofs.read_lines.Goals as goal
+use Rattle.airline_list.proofs.read_lines.Goals.{After-take_line-turn, After-first_form-form}
 
 -- The form found is that of the line at the place, and the length that of its text.
 form-found :
-    (c : goal.After-first_form-form)
+    (c : After-first_form-form)
     → c.first_form-form.result
     ≡ form_at c.args.list.now
     c.loop-from.from
@@ -37,54 +37,54 @@ form-found c =
     (take_all (length list - from) (drop from list) (simp length-drop (omega arith)))
 
 length_found :
-    (c : goal.After-form_length)
-    → c.form_length.result
+    (c : After-first_form-form) (n : ℕ)
+    → n ≡ length (form_text c.first_form-form.result)
+    → n
     ≡ length (form_text (form_at c.args.list.now
     c.loop-from.from))
-length_found c = c.form_length.ensures ∙ ap (λ form. length (form_text form)) (form-found (search))
+length_found c n found = found ∙ ap (λ form. length (form_text form)) (form-found c)
 
 within :
-    (c : goal.After-form_length)
-    → c.loop-from.from + c.form_length.result
+    (c : After-first_form-form) (n : ℕ)
+    → n ≡ length (form_text c.first_form-form.result)
+    → c.loop-from.from + n
     ≤ length c.args.list.now
-within c =
+within c n found =
     let l = c.loop-from in
-    rw (length_found c) (form-within c.args.list.now l.from
+    rw (length_found c n found) (form-within c.args.list.now l.from
     l.invariant.within)
 
 here :
-    (c : goal.After-take_line-turn)
-    → let m = c.before.before in
-    let l = m.before.before.before.before.before.before.loop in
-    let a = m.before.before.before.before.before.before.before.before.args in
-    Taken a.wanted a.list.now l.from l.line l.seen l.mark (l.from + m.before.form-length.result)
-    c.take_line-turn.result c.take_line-turn.new.0 m.mark-with.result
-here c =
-    let f : goal.After-form_length = search in
+    (c : After-take_line-turn)
+    → c.first_form-form.result ≡ form_at c.args.list.now c.loop-from.from
+    → let l = c.loop-from in
+    let a = c.args in
+    Taken a.wanted a.list.now l.from l.line l.seen l.mark (l.from + c.form_length.result)
+    c.take_line-turn.result c.take_line-turn.new.seen c.mark_with-mark.result
+here c found =
     let l = c.loop-from in
     let list = c.args.list.now in
     record {
       reading = l.invariant;
       before = omega arith;
       few = omega arith;
-      form = f.first_form-form.result;
-      its-form = form-found (search);
-      ends = ap (λ n. l.from + n) f.form_length.ensures;
+      form = c.first_form-form.result;
+      its-form = found;
+      ends = ap (λ n. l.from + n) c.form_length.ensures;
       last = _;
       turns = c.take_line-turn.ensures;
       marks = c.mark_with-mark.ensures;
-      is_last = is_last list (l.from + f.form_length.result);
+      is_last = is_last list (l.from + c.form_length.result);
     }
 
 -- A line is read after it.
 goes_on :
-    (c : goal.In-More)
-    → let f = c.before.before.before.before.before in
-    f.before.before.before.before.before.loop.from + f.form-length.result + 1
-    < length f.before.before.before.before.before.before.before.args.list.now
-goes_on c =
-    let after-take-line : goal.After-take_line-turn = search in
-    turn-goes-on (here after-take-line) c.enum_told-1.given.1
+    (c : After-take_line-turn)
+    → c.first_form-form.result ≡ form_at c.args.list.now c.loop-from.from
+    → c.take_line-turn.result ≡ More
+    → c.loop-from.from + c.form_length.result + 1
+    < length c.args.list.now
+goes_on c found more = turn-goes-on (here c found) more
 
 pub loop-from-init : goal.loop-from-init
 loop-from-init c = c.requires
@@ -96,41 +96,44 @@ returns-then-line-gt-MOST_LINES c =
     read-faulty a.wanted a.list.now 27 l.line (line-65 l.invariant (omega arith) c.if-line-gt-MOST_LINES.true)
 
 pub overflow_add-to : goal.overflow_add-to
-overflow_add-to c = omega (arith, within c)
+overflow_add-to c = omega (arith, within (goal.at.overflow_add-to c).After-first_form-form _ c.form_length.ensures)
 
 pub overflow_sub-last : goal.overflow_sub-last
-overflow_sub-last c = within c
+overflow_sub-last c = within (goal.at.overflow_sub-last c).After-first_form-form _ c.form_length.ensures
 
 pub take_line-turn-requires : goal.take_line-turn-requires
 take_line-turn-requires c =
-    let f : goal.After-first_form-form = search in
+    let f = (goal.at.take_line-turn-requires c).After-first_form-form in
     let from = c.loop-from.from in
     let list = c.args.list.now in
     rw (form-found f) (form-in-range (first_line (drop from list)))
 
 pub overflow_add-from : goal.overflow_add-from
 overflow_add-from c =
-    let after-form-length : goal.After-form_length = search in
-    omega (arith, goes_on c, within after-form-length)
+    let at = goal.at.overflow_add-from c in
+    let f = at.After-first_form-form in
+    omega (arith, goes_on at.After-take_line-turn (form-found f) c.in-More.is, within f _ c.form_length.ensures)
 
 pub loop-from-smaller : goal.loop-from-smaller
-loop-from-smaller c = omega (arith, goes_on c)
+loop-from-smaller c =
+    let at = goal.at.loop-from-smaller c in
+    omega (arith, goes_on at.After-take_line-turn (form-found at.After-first_form-form) c.in-More.is)
 
 pub loop-from-preserved : goal.loop-from-preserved
 loop-from-preserved c =
-    let after-take-line : goal.After-take_line-turn = search in
-    turn_more (here after-take-line) c.enum_told-1.given.1
+    let at = goal.at.loop-from-preserved c in
+    turn_more (here at.After-take_line-turn (form-found at.After-first_form-form)) c.in-More.is
 
 pub returns-in-Closed : goal.returns-in-Closed
 returns-in-Closed c =
-    let after-take-line : goal.After-take_line-turn = search in
-    let turn = c.turn-1.given in
-    ap To c.marked_end.ensures ∙ turn-closed (here after-take-line) turn.0.0 turn.1
+    let at = goal.at.returns-in-Closed c in
+    let turn = c.in-Closed in
+    ap To c.marked_end.ensures ∙ turn-closed (here at.After-take_line-turn (form-found at.After-first_form-form)) turn.end turn.is
 
 pub returns-in-Fault : goal.returns-in-Fault
 returns-in-Fault c =
-    let after-take-line : goal.After-take_line-turn = search in
-    let turn = c.turn-in-Fault-1.given in turn-fault (here after-take-line) turn.0.0 turn.1
+    let at = goal.at.returns-in-Fault c in
+    let turn = c.in-Fault in turn-fault (here at.After-take_line-turn (form-found at.After-first_form-form)) turn.number turn.is
 
 pub returns : goal.returns
 returns c =

@@ -2,7 +2,6 @@
 use mathlib.Core.Path.{ap, ◌∙◌}
 use Rattle.airline_list.specs.Packed.{packed}
 use Rattle.airline_list.proofs.Laws.MarkLaws.{none_kept}
-use borrow.Author.Rules.{rules}
 use Rattle.airline_list.proofs.read_list.Goals as goal
 
 pub read_airlines-place-requires : goal.read_airlines-place-requires

@@ -8,7 +8,6 @@ use lib.Seq.{take_all}
 use Rattle.airline_list.specs.declared.Sent.TheVariants.{To}
 use Rattle.airline_list.specs.Closing.{Told}
 use Rattle.airline_list.proofs.Laws.ClosingLaws.{too_many, closed}
-use borrow.Author.Rules.{rules}
 use Rattle.airline_list.proofs.read_rest.Goals as goal
 
 pub returns-then-line-gt-MOST_LINES : goal.returns-then-line-gt-MOST_LINES
@@ -17,10 +16,10 @@ returns-then-line-gt-MOST_LINES c =
 
 pub returns-in-At : goal.returns-in-At
 returns-in-At c =
-    let end = c.closing-1.given in
+    let end = c.in-At in
     let list = c.args.list.now in
     let from = c.args.place.from in
     let part = take_all (length list - from) (drop from list) (simp length-drop (omega arith)) in
-    let told = subst (Told (drop from list)) end.1 (subst (λ (t : List ℕ). Told t c.closing_line-closing.result) part
+    let told = subst (Told (drop from list)) end.is (subst (λ (t : List ℕ). Told t c.closing_line-closing.result) part
     c.closing_line-closing.ensures) in
-    ap To c.marked_end.ensures ∙ closed c.requires end.0.0 told (omega arith)
+    ap To c.marked_end.ensures ∙ closed c.requires end.end told (omega arith)

@@ -1,7 +1,6 @@
 -- `airline_list::unpack` meets its contract: the tests are those of the definition.
 use mathlib.Core.Path.{sym}
 use borrow.Author.Tests.{ne_eqb}
-use borrow.Author.Rules.{rules}
 use Rattle.airline_list.proofs.unpack.Goals as goal
 
 pub returns-then-answer-eq1 : goal.returns-then-answer-eq1

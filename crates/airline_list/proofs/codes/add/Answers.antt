@@ -5,7 +5,6 @@ use native.Mathlib.Omega.{arith}
 use lib.Bits.{bit_or}
 use lib.ListN.{get_or, set}
 use Rattle.airline_list.proofs.Laws.BitLaws.{one_shifted}
-use borrow.Author.Rules.{rules}
 use Rattle.airline_list.proofs.codes.add.Goals as goal
 
 pub returns : goal.returns

@@ -10,29 +10,29 @@ use lib.Seq.{take_all}
 use Rattle.text.specs.Lines.{first_line}
 use Rattle.airline_list.specs.FirstForm.{has_code, airline_behind}
 use Rattle.airline_list.proofs.Laws.HeadLaws.{digits_long, three, airline-ahead, others-ahead}
-use borrow.Author.Rules.{rules}
 use Rattle.airline_list.proofs.forms.first_form.Goals as goal
+use Rattle.airline_list.proofs.forms.first_form.Goals.{Then-has_code}
 
-has-code : (c : goal.Then-has_code) → has_code c.args.text.now ≡ true
+has-code : (c : Then-has_code) → has_code c.args.text.now ≡ true
 has-code c = sym c.has_code.ensures ∙ c.if-has_code.true
 
-long : (c : goal.Then-has_code) → 18 ≤ length c.args.text.now
+long : (c : Then-has_code) → 18 ≤ length c.args.text.now
 long c =
     let text = c.args.text.now in digits_long text (three text (has-code c))
 
 pub code_in-code-requires : goal.code_in-code-requires
 code_in-code-requires c =
-    three c.args.text.now (has-code c)
+    three c.args.text.now (has-code (goal.at.code_in-code-requires c).Then-has_code)
 
 pub slice_bounds-airline_behind-count : goal.slice_bounds-airline_behind-count
-slice_bounds-airline_behind-count c = long (search)
+slice_bounds-airline_behind-count c = long (goal.at.slice_bounds-airline_behind-count c).Then-has_code
 
 pub slice_bounds-airline_behind-start : goal.slice_bounds-airline_behind-start
-slice_bounds-airline_behind-start c = long (search)
+slice_bounds-airline_behind-start c = long (goal.at.slice_bounds-airline_behind-start c).Then-has_code
 
 pub returns-then-has_code : goal.returns-then-has_code
 returns-then-has_code c =
-    let t : goal.Then-has_code = search in
+    let t = (goal.at.returns-then-has_code c).Then-has_code in
     let text = c.args.text.now in
     let code = c.code_in-code in
     let rest = take_all (length text - 18) (drop 18 text) (simp length-drop (omega arith)) in

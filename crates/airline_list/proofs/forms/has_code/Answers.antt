@@ -3,14 +3,13 @@
 use mathlib.Core.Bool.{Bool, true, and-false, ◌&&◌}
 use mathlib.Core.Path.{◌≡◌, refl, sym, ap, ◌∙◌}
 use native.Mathlib.Omega.{arith}
-use borrow.Author.Tests.{not-true, not-false}
 use lib.ListN.{take}
 use lib.Seq.{length-take-le}
 use Rattle.text.specs.Text.{bytes, same}
 use Rattle.airline_list.specs.FirstForm.{three_digits}
 use Rattle.airline_list.proofs.Laws.HeadLaws.{head-in-parts, short-no-digits}
-use borrow.Author.Rules.{rules}
 use Rattle.airline_list.proofs.forms.has_code.Goals as goal
+use Rattle.airline_list.proofs.forms.has_code.Goals.{Else-not-is_text}
 
 pub returns-then-text-lt18 : goal.returns-then-text-lt18
 returns-then-text-lt18 c =
@@ -25,26 +24,26 @@ pub returns-then-not-is_text : goal.returns-then-not-is_text
 returns-then-not-is_text c =
     let r = c.is_text in
     let text = c.args.text.now in
-    let head = head-in-parts text (sym r.ensures ∙ not-true r.result c.if-not-is_text.true) refl in
+    let head = head-in-parts text (sym r.ensures ∙ c.if-not-is_text.true) refl in
     sym (ap (λ (b : Bool). b && three_digits text) head)
 
 -- The first part is there.
-begins : (c : goal.Else-not-is_text)
+begins : (c : Else-not-is_text)
     → same (take 8 c.args.text.now) (bytes "(airline") ≡ true
-begins c = let r = c.is_text in sym r.ensures ∙ not-false r.result c.if-not-is_text.false
+begins c = let r = c.is_text in sym r.ensures ∙ c.if-not-is_text.false
 
 pub returns-then-not-is_text-2 : goal.returns-then-not-is_text-2
 returns-then-not-is_text-2 c =
     let r = c.is_text-2 in
-    let e : goal.Else-not-is_text = search in
+    let e = (goal.at.returns-then-not-is_text-2 c).Else-not-is_text in
     let text = c.args.text.now in
-    let head = head-in-parts text (begins e) (sym r.ensures ∙ not-true r.result c.if-not-is_text-2.true) in
+    let head = head-in-parts text (begins e) (sym r.ensures ∙ c.if-not-is_text-2.true) in
     sym (ap (λ (b : Bool). b && three_digits text) head)
 
 pub returns : goal.returns
 returns c =
     let r = c.is_text-2 in
-    let e : goal.Else-not-is_text = search in
+    let e = (goal.at.returns c).Else-not-is_text in
     let text = c.args.text.now in
-    let head = head-in-parts text (begins e) (sym r.ensures ∙ not-false r.result c.if-not-is_text-2.false) in
+    let head = head-in-parts text (begins e) (sym r.ensures ∙ c.if-not-is_text-2.false) in
     rw (c.is_digit.ensures, c.is_digit-2.ensures, c.is_digit-3.ensures, head)

@@ -1,10 +1,9 @@
 -- `airline_list::words::byte` meets its contract: a byte is below 256.
 use native.Mathlib.Omega.{arith}
 use Rattle.airline_list.proofs.Laws.WordLaws.{one_byte}
-use borrow.Author.Rules.{rules}
 use Rattle.airline_list.proofs.words.byte.Goals as goal
 
 pub returns : goal.returns
 returns c =
     let a = c.args in
-    one_byte a.text.now a.at c.requires (omega (arith, c.shared_slice_known-1.given a.at))
+    one_byte a.text.now a.at c.requires (omega (arith, c.type_inv.text a.at))

@@ -1,7 +1,6 @@
 -- `airline_list::words::eight` meets its contract: its two parts stand one behind the other.
 use native.Mathlib.Omega.{arith}
 use Rattle.airline_list.proofs.Laws.WordLaws.{joined}
-use borrow.Author.Rules.{rules}
 use Rattle.airline_list.proofs.words.eight.Goals as goal
 
 pub overflow_mul-result : goal.overflow_mul-result
