@@ -1,5 +1,5 @@
 -- Wrong pages as definitions, each with a lane that tells it from the right one, and how; `proofs/Refuted` computes it.
-use Rattle.std.specs.Prelude.{◌≡◌, Bool, true, false, ◌&&◌, List, [], ◌∷◌, ◌++◌, map, reverse, ℕ, zero, suc, ◌+◌, ◌*◌, ◌-◌, eqb, length, take, drop, replicate}
+use Rattle.std.specs.Prelude.{◌≡◌, Bool, true, false, ◌&&◌, List, [], ◌∷◌, ◌++◌, map, reverse, ℕ, zero, suc, ◌*◌, ◌-◌, eqb, length, take, drop, replicate}
 use Rattle.std.proofs.Math.Option.{Option, some, none}
 use Rattle.text.specs.Text.{bytes, same}
 use Rattle.text.specs.Lines.{line_feed, lines_of}

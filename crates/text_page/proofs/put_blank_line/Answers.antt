@@ -1,11 +1,8 @@
-use mathlib.Core.Path.{◌≡◌, refl, sym, ◌∙◌}
-use Prim.Native.Nat.{◌+◌, ◌-◌, ◌≤◌}
+use mathlib.Core.Path.{refl, sym, ◌∙◌}
 use native.Mathlib.Numerals.{add-one}
 use native.Mathlib.Omega.{arith}
-use lib.ListN.{length, drop, length-set}
-use lib.Seq.{sets}
+use lib.ListN.{length-set}
 use Rattle.text.proofs.Laws.WritingLaws.{sets-from-zero}
-use Rattle.text_page.specs.Page.{column_count}
 use Rattle.text_page.proofs.Laws.LineStores.{blanks, blank-next, blanks-end, feed-stored}
 use Rattle.text_page.proofs.put_blank_line.Goals as goal
 

@@ -1,14 +1,11 @@
 -- `text_page::put_blank_line` meets its contract. The loop's invariant: storing the blanks left gives what storing all
 -- gives.
-use mathlib.Core.Path.{◌≡◌, refl, sym, ◌∙◌}
+use mathlib.Core.Path.{◌≡◌}
 use Prim.Native.Nat.{◌+◌, ◌-◌, ◌≤◌}
-use native.Mathlib.Numerals.{add-one}
-use native.Mathlib.Omega.{arith}
-use lib.ListN.{length, drop, length-set}
+use lib.ListN.{length, drop}
 use lib.Seq.{sets}
-use Rattle.text.proofs.Laws.WritingLaws.{sets-from-zero}
 use Rattle.text_page.specs.Page.{column_count}
-use Rattle.text_page.proofs.Laws.LineStores.{blanks, blank-next, blanks-end, feed-stored}
+use Rattle.text_page.proofs.Laws.LineStores.{blanks}
 use Rattle.text_page.proofs.put_blank_line.Given as goal
 
 abbrev pub invariant-loop-i : goal.invariant-loop-i

@@ -1,7 +1,6 @@
 -- `text_page::put_heading` meets its contract: the title stands over a blank line.
 use mathlib.Core.Path.{ap, ◌∙◌}
 use Prim.Native.Nat.{ℕ}
-use borrow.Author.Rules.{rules}
 use lib.Seq.{sets}
 use Rattle.text.specs.Numerals.{with_zeros}
 use Rattle.text_page.proofs.Laws.LineStores.{heading-stored}

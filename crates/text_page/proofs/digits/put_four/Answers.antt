@@ -1,5 +1,4 @@
 -- `text_page::digits::put_four` meets its contract.
-use borrow.Author.Rules.{rules}
 use Rattle.text_page.proofs.Laws.Digits.{four-stored}
 use Rattle.text_page.proofs.digits.put_four.Goals as goal
 

@@ -1,14 +1,14 @@
 -- `text_page::digits::put_tag` meets its contract.
-use mathlib.Core.Path.{◌≡◌, ◌∙◌}
+use mathlib.Core.Path.{◌≡◌}
 use Prim.Native.Nat.{◌+◌, ◌/◌}
 use native.Mathlib.Omega.{arith}
 use lib.ListN.{length, set, length-set}
-use borrow.Author.Rules.{rules}
 use Rattle.text_page.proofs.Laws.Digits.{tag-stored}
 use Rattle.text_page.proofs.digits.put_tag.Goals as goal
+use Rattle.text_page.proofs.digits.put_tag.Goals.{Start}
 
 -- The first two stores keep the length.
-long : (c : goal.Start)
+long : (c : Start)
     → let a = c.args in
     length (set (set a.out.now a.at (48 + a.digit)) (a.at + 1) (48 + a.low / 100_000_000))
     ≡ length a.out.now
@@ -22,7 +22,7 @@ put_four-requires c = (omega arith, simp length-set (omega arith))
 
 pub put_four-requires-2 : goal.put_four-requires-2
 put_four-requires-2 c =
-    let start : goal.Start = search in
+    let start = (goal.at.put_four-requires-2 c).Start in
     (omega arith, omega (arith, c.put_four.auto.out, long start))
 
 pub returns : goal.returns

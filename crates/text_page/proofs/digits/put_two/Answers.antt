@@ -2,7 +2,6 @@
 use mathlib.Core.Path.{refl}
 use native.Mathlib.Omega.{arith}
 use lib.ListN.{length-set}
-use borrow.Author.Rules.{rules}
 use Rattle.text_page.proofs.Laws.Digits.{two-stored}
 use Rattle.text_page.proofs.digits.put_two.Goals as goal
 
