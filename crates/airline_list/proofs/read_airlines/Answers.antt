@@ -1,4 +1,5 @@
 use mathlib.Core.Path.{◌≡◌, sym, ap, ◌∙◌, subst}
+use Rattle.std.specs.Prelude.{◌≢◌}
 use mathlib.Core.Bool.{true}
 use mathlib.Core.List.{List}
 use mathlib.Core.Logic.{inl, inr}
@@ -14,7 +15,7 @@ use Rattle.airline_list.proofs.Laws.AirlineLaws.{mark-small, airline-more}
 use Rattle.airline_list.proofs.Laws.HeadLaws.{three, code-in-range}
 use Rattle.airline_list.proofs.Laws.ReadingLaws.{nothing_read}
 use Rattle.airline_list.proofs.read_airlines.Goals as goal
-use Rattle.airline_list.proofs.read_airlines.Goals.{Else-new-eq0}
+use Rattle.airline_list.proofs.read_airlines.Goals.{Else-new-eq0, After-code_in-code}
 
 -- The part lent is the text from the place on.
 part : (list : List ℕ) (from : ℕ) → from ≤ length list → take (length list - from) (drop from list) ≡ drop from list
@@ -26,16 +27,21 @@ list_at e = e.args.list.now
 abbrev text_at : Else-new-eq0 → List ℕ
 text_at e = drop e.loop-from.from (list_at e)
 
+-- A mark that is not 0 tells of an airline's line, also where a part of the text is lent.
+names_lent :
+    (list : List ℕ) (from mark : ℕ)
+    → from ≤ length list
+    → Told (take (length list - from) (drop from list)) mark
+    → mark ≢ 0
+    → Names (drop from list) mark
+names_lent list from mark h (inl none) not_none = absurd (not_none none)
+names_lent list from mark h (inr told) not_none = subst (λ (t : List ℕ). Names t mark) (part list from h) told
+
 -- The mark that is not 0 tells of an airline's line.
 names : (e : Else-new-eq0) → Names (text_at e) e.airline_mark-new.result
-names e = go e.airline_mark-new.ensures
-  where
-    go : Told (take (length (list_at e) - e.loop-from.from) (text_at e)) e.airline_mark-new.result
-        → Names (text_at e) e.airline_mark-new.result
-    go (inl none) = absurd (e.if-new-eq0.false none)
-    go (inr told) =
-        subst (λ (t : List ℕ). Names t e.airline_mark-new.result)
-        (part (list_at e) e.loop-from.from (omega arith)) told
+names e =
+    names_lent (list_at e) e.loop-from.from e.airline_mark-new.result (omega arith) e.airline_mark-new.ensures
+    e.if-new-eq0.false
 
 new-small : (e : Else-new-eq0) → e.airline_mark-new.result ≤ 2
 new-small e = let n = names e in rw n.marked (mark-small n.end)
@@ -43,18 +49,16 @@ new-small e = let n = names e in rw n.marked (mark-small n.end)
 has-digits : (e : Else-new-eq0) → three_digits (text_at e) ≡ true
 has-digits e = three (text_at e) (names e).has-code
 
--- The code of the part lent is that of the text, and below the number of codes.
-code-found :
-    (e : Else-new-eq0) (code : ℕ)
-    → code ≡ code_in (take (length (list_at e) - e.loop-from.from) (text_at e))
-    → code ≡ code_in (text_at e)
-code-found e code found = found ∙ ap code_in (part (list_at e) e.loop-from.from (omega arith))
+code-found : (c : After-code_in-code) → c.code_in-code.result ≡ code_in (drop c.loop-from.from c.args.list.now)
+code-found c = c.code_in-code.ensures ∙ ap code_in (part c.args.list.now c.loop-from.from (omega arith))
 
-code-small :
-    (e : Else-new-eq0) (code : ℕ)
-    → code ≡ code_in (take (length (list_at e) - e.loop-from.from) (text_at e))
-    → code < codes
-code-small e code found = rw (code-found e code found) (code-in-range (text_at e) (has-digits e))
+code-small : (c : After-code_in-code) → c.code_in-code.result < codes
+code-small c =
+    let list = c.args.list.now in
+    let from = c.loop-from.from in
+    let mark = c.airline_mark-new in
+    let n = names_lent list from mark.result (omega arith) mark.ensures c.if-new-eq0.false in
+    rw (code-found c) (code-in-range (drop from list) (three (drop from list) n.has-code))
 
 pub returns-then-list-lt-LINE_AND_MORE : goal.returns-then-list-lt-LINE_AND_MORE
 returns-then-list-lt-LINE_AND_MORE c =
@@ -84,7 +88,7 @@ code_in-code-requires c =
     rw (part (list_at e) e.loop-from.from (omega arith)) (has-digits e)
 
 pub has-requires : goal.has-requires
-has-requires c = code-small (goal.at.has-requires c).Else-new-eq0 _ c.code_in-code.ensures
+has-requires c = code-small (goal.at.has-requires c).After-code_in-code
 
 pub returns-then-has : goal.returns-then-has
 returns-then-has c =
@@ -111,7 +115,7 @@ loop-from-preserved c =
     let l = e.loop-from in (
       l.invariant.0,
       airline-more l.invariant.1 (names e) c.code_in-code.result c.add.new.seen c.chosen-mark.result
-          (omega (arith, l.invariant.0)) (omega arith) (code-found e c.code_in-code.result c.code_in-code.ensures) (sym c.has.ensures ∙ c.if-has.false)
+          (omega (arith, l.invariant.0)) (omega arith) (code-found (goal.at.loop-from-preserved c).After-code_in-code) (sym c.has.ensures ∙ c.if-has.false)
           c.add.ensures c.chosen-mark.ensures,
     )
 
@@ -119,4 +123,4 @@ pub returns : goal.returns
 returns c = c.loop-from.invariant.1
 
 pub add-requires : goal.add-requires
-add-requires c = code-small (goal.at.add-requires c).Else-new-eq0 _ c.code_in-code.ensures
+add-requires c = code-small (goal.at.add-requires c).After-code_in-code
