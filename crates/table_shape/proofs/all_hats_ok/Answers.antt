@@ -1,8 +1,5 @@
 use mathlib.Core.Path.{◌≡◌, ap, sym, ◌∙◌}
-use mathlib.Core.Bool.{true}
-use Prim.Native.Nat.{◌-◌, ◌≤◌}
 use native.Mathlib.Omega.{arith}
-use borrow.Author.Tests.{not-true, not-false}
 use Rattle.machine.specs.Table.{most_lanes}
 use Rattle.machine.specs.Shape.{all_below}
 use Rattle.table_shape.specs.Promised.{hats_ok}

@@ -1,13 +1,10 @@
 -- The invariant: the hats of all lanes below the loop's number have passed.
-use mathlib.Core.Path.{◌≡◌, ap, sym, ◌∙◌}
+use mathlib.Core.Path.{◌≡◌}
 use mathlib.Core.Bool.{true}
 use Prim.Native.Nat.{◌-◌, ◌≤◌}
-use native.Mathlib.Omega.{arith}
-use borrow.Author.Tests.{not-true, not-false}
 use Rattle.machine.specs.Table.{most_lanes}
 use Rattle.machine.specs.Shape.{all_below}
 use Rattle.table_shape.specs.Promised.{hats_ok}
-use Rattle.table_shape.proofs.Laws.Below.{none_below, one_more, one-fails}
 use Rattle.table_shape.proofs.all_hats_ok.Given as goal
 
 abbrev pub invariant-loop-l : goal.invariant-loop-l

@@ -4,7 +4,6 @@ use Prim.Native.Nat.{ℕ}
 use Rattle.machine.specs.Table.{node_count, growth}
 use Rattle.machine.specs.Shape.{record_ok}
 use Rattle.table_record.specs.Coded.{record_of}
-use borrow.Author.Rules.{rules}
 use Rattle.table_shape.proofs.fits_in.Goals as goal
 
 pub returns : goal.returns

@@ -2,7 +2,6 @@
 use native.Mathlib.Omega.{arith}
 use native.Mathlib.Decide.{ℕ_discrete}
 use Rattle.table_shape.proofs.Laws.TableWords.{hats-used, hats-unused}
-use borrow.Author.Rules.{rules}
 use Rattle.table_shape.proofs.hats_ok.Goals as goal
 
 pub returns-then-l-lanes : goal.returns-then-l-lanes

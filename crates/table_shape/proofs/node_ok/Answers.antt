@@ -1,6 +1,5 @@
 -- `table_shape::node_ok` meets its contract: each test is one of the definition's.
 use native.Mathlib.Decide.{ℕ_discrete}
-use borrow.Author.Rules.{rules}
 use Rattle.table_shape.proofs.node_ok.Goals as goal
 
 pub returns : goal.returns

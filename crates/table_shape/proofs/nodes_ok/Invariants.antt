@@ -1,18 +1,10 @@
 -- The invariant: the flag is the test of all nodes below the loop's number, and what is left are the words from there
 -- on.
-use mathlib.Core.Path.{◌≡◌, ap, sym, ◌∙◌}
-use Prim.Native.Nat.{ℕ, ◌+◌, ◌-◌, ◌≤◌, ◌<◌}
-use native.Mathlib.Omega.{arith}
-use mathlib.Core.List.{List}
-use lib.ListN.{length, drop}
-use Rattle.machine.specs.Table.{node_length, node_at, node_count}
+use mathlib.Core.Path.{◌≡◌}
+use Prim.Native.Nat.{◌-◌, ◌≤◌}
+use lib.ListN.{drop}
+use Rattle.machine.specs.Table.{node_at, node_count}
 use Rattle.machine.specs.Shape.{all_below, node_ok}
-use Rattle.machine.proofs.Shape.ShapeLaws.{well_sized}
-use Rattle.table_shape.specs.Promised.{first_ok}
-use Rattle.table_shape.proofs.Laws.TableWords.{header-long}
-use Rattle.table_shape.proofs.Laws.Below.{none_below, one-tested}
-use Rattle.table_shape.proofs.Laws.FirstNode.{node-first, moved_on, left-long, next-left}
-use borrow.Author.Rules.{rules}
 use Rattle.table_shape.proofs.nodes_ok.Given as goal
 
 abbrev pub invariant-loop-x : goal.invariant-loop-x

@@ -8,7 +8,6 @@ use Rattle.table_record.specs.declared.Task as Tasks
 use Rattle.table_record.specs.Coded.{record_of}
 use Rattle.table_record.proofs.Laws.RecordWords.{words-of-struct}
 use Rattle.table_shape.specs.Promised.{fits_in}
-use borrow.Author.Rules.{rules}
 use Rattle.table_shape.proofs.nth_ok.Goals as goal
 
 pub returns : goal.returns

@@ -1,12 +1,8 @@
 -- The invariant: all tasks from the first up to the loop's number have passed.
-use mathlib.Core.Path.{◌≡◌, ap, sym, ◌∙◌}
-use mathlib.Core.Bool.{Bool, true}
-use Prim.Native.Nat.{ℕ, ◌-◌, ◌≤◌}
-use native.Mathlib.Omega.{arith}
-use borrow.Author.Tests.{not-true, not-false}
+use mathlib.Core.Path.{◌≡◌}
+use mathlib.Core.Bool.{true}
+use Prim.Native.Nat.{◌-◌, ◌≤◌}
 use Rattle.table_shape.specs.Promised.{nth_ok, all_from}
-use Rattle.table_shape.proofs.Laws.Below.{range-begins, range-goes-on, range-fails}
-use borrow.Author.Rules.{rules}
 use Rattle.table_shape.proofs.range_ok.Given as goal
 
 abbrev pub invariant-loop-k : goal.invariant-loop-k

@@ -2,7 +2,6 @@
 use mathlib.Core.Path.{refl, ap, ◌∙◌}
 use Rattle.table_record.specs.Coded.{struct_of}
 use Rattle.table_layout.proofs.Laws.RecordParts.{record-part}
-use borrow.Author.Rules.{rules}
 use Rattle.table_shape.proofs.record_in.Goals as goal
 
 pub returns : goal.returns

@@ -1,7 +1,5 @@
 -- The two tests decide the refusal.
 use mathlib.Core.Path.{sym, ◌∙◌}
-use borrow.Author.Tests.{not-true, not-false}
-use borrow.Author.Rules.{rules}
 use Rattle.table_shape.proofs.table_refusal.Goals as goal
 
 pub returns-then-not-length_ok : goal.returns-then-not-length_ok

@@ -1,7 +1,6 @@
 -- The marks are those of the opposite side.
 use mathlib.Core.Path.{sym, ◌∙◌}
 use Rattle.table_shape.proofs.Laws.RecordWords.{read-n, read-not-n}
-use borrow.Author.Rules.{rules}
 use Rattle.table_shape.proofs.records.end_mark_ok.Goals as goal
 
 pub returns-then-equal : goal.returns-then-equal

@@ -2,7 +2,6 @@
 use mathlib.Core.Logic.{inl, inr}
 use borrow.Author.Tests.{eq-eqb, ne_eqb, lt-ltb, le-ltb, le-leb, lt-leb}
 use Rattle.machine.specs.Steps.{is_step_in}
-use borrow.Author.Rules.{rules}
 use Rattle.table_shape.proofs.records.progress_ok.Goals as goal
 
 pub returns-then-counted-eq0 : goal.returns-then-counted-eq0

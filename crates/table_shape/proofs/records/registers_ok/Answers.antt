@@ -1,5 +1,4 @@
 -- `table_shape::records::registers_ok` meets its contract: the four tests.
-use borrow.Author.Rules.{rules}
 use Rattle.table_shape.proofs.records.registers_ok.Goals as goal
 
 pub returns : goal.returns
