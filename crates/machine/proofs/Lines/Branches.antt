@@ -261,7 +261,7 @@ module _ (s o : Side) (m : Memory) (t : Task) (g f : ℕ) where
       by-step (λ y. with_b y (m.inn t.A)) (_ ≟ _) (λ e. moves (none-40 a e)) (λ e. moves (some-40 a e)))
   branch Steps.line42 = past B-42 (λ b. moves (value-42 b (read_is o (m.val t.B))))
   branch Steps.line48 = past B-48 (λ b.
-      ok-swap (Branch Steps.line48) _ _ (λ h v. ends (done-48 b h v)) (λ n. moves (lost-48 n)))
+      ok-swap (Branch Steps.line48) _ _ (λ h v. ends (done-48 b (cc) (cc))) (λ n. moves (lost-48 (λ p. n (cc, cc)))))
   branch Steps.line51 = past B-51 (λ b.
       ok-swap (Branch Steps.line51) _ _ (λ h v. ends (done-51 b h v)) (λ n. moves (lost-51 n)))
   branch Steps.line54 = by-step (λ y. with_a y m.hat) (_ ≟ _) (λ e. moves (reached-54 e)) (λ e. moves (hat-54 e))
@@ -274,7 +274,7 @@ module _ (s o : Side) (m : Memory) (t : Task) (g f : ℕ) where
   branch Steps.line60 = past A-60 (λ a.
       ok-if (Branch Steps.line60) (λ e. e) (_ ≟ _) (λ e. ends (none-60 a e)) (λ e. moves (some-60 a e)))
   branch Steps.line62 = past A-62 (λ a. past B-62 (λ b.
-      ok-swap (Branch Steps.line62) _ _ (λ h v. writes (done-62 a b h v)) (λ n. ends (lost-62 n))))
+      ok-swap (Branch Steps.line62) _ _ (λ h v. writes (done-62 a b (cc) (cc))) (λ n. ends (lost-62 (λ p. n (cc, cc))))))
   branch Steps.line64 = past A-64 (λ a.
       ok-if (Branch Steps.line64) (λ l. writing l (next t Steps.line74)) (_ ≟ _)
       (λ e. writes (done-64 a e)) (λ e. moves (lost-64 a e)))
