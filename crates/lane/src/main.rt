@@ -7,11 +7,14 @@ ghost use Rattle.program_answer.specs.Space.{largest_table};
 ghost use Rattle.program_stream.specs.Carried.{loan_of, InOrder, line_room};
 ghost use Rattle.lane.specs.Turns.{Taken, Turned, Ran};
 
-use libc::{STDERR_FILENO, STDIN_FILENO, STDOUT_FILENO};
 use program_answer::{BAG_WORDS, Bags};
 use program_stream::{Carried, begin_session, finish, serve_lines};
+use std::io::Read;
 use table_layout::places::LARGEST_LENGTH;
 use text_scan::{NUMBER_PLACES, Numbers, TEXT_PLACES, Text};
+
+// How many bytes one read takes at most, and how many bytes of answers are written at once.
+const BUFFER: usize = 65_536;
 
 // What a turn leaves: what is carried, how many bytes it took, and whether the session goes on. It ends with its input,
 // and when a write fails.
@@ -22,24 +25,42 @@ struct Left {
     pub going: bool,
 }
 
-// Writes answers. Where they cannot be written, it says so on standard error.
-fn put(answers: &[u8]) -> bool {
-    if io::write_all(STDOUT_FILENO, answers) {
-        return true;
+// Says on standard error what went wrong. Where even that cannot be written, nobody is left to be told.
+fn tell(rt: &impl Eprint, what: &str) {
+    match rt.eprintln(what) {
+        Ok(()) => {}
+        Err(_) => {}
     }
-    io::write_all(STDERR_FILENO, b"lane: standard output cannot be written\n");
-    false
 }
 
-// Says on standard error where a read failed: its end is then not the input's.
-fn tell_failed_read(got: isize) {
-    if got < 0 {
-        io::write_all(STDERR_FILENO, b"lane: standard input cannot be read\n");
+// Writes answers. Where they cannot be written, it says so on standard error.
+fn put(rt: &(impl Print + Eprint), answers: &[u8]) -> bool {
+    match rt.write_all(answers) {
+        Ok(()) => true,
+        Err(_) => {
+            tell(rt, "lane: standard output cannot be written");
+            false
+        }
+    }
+}
+
+// Reads once, and answers how many bytes came. A read that fails ends the input too, and is told: its end is then not the
+// input's.
+fn read(rt: &(impl Input + Eprint), input: &mut [u8]) -> usize
+    ensures { result ≤ length input.new }
+{
+    match rt.reader().read(input) {
+        Ok(n) => n,
+        Err(_) => {
+            tell(rt, "lane: standard input cannot be read");
+            0
+        }
     }
 }
 
 // Answers the lines of a chunk, and writes the answers.
 fn answer_chunk(
+    rt: &(impl Print + Eprint),
     chunk: &[u8],
     space: &mut [u32],
     bags: &mut Bags,
@@ -62,7 +83,7 @@ fn answer_chunk(
         carried = served.carried;
         from = served.from;
         let end = served.at;
-        if !put(&out[..end]) {
+        if !put(rt, &out[..end]) {
             return Left {
                 carried,
                 taken: from,
@@ -79,6 +100,7 @@ fn answer_chunk(
 
 // Reads once, and answers what came before anything more is read. A read that fails ends the input too, and is told.
 fn turn(
+    rt: &(impl Input + Print + Eprint),
     input: &mut [u8],
     space: &mut [u32],
     bags: &mut Bags,
@@ -94,26 +116,25 @@ fn turn(
         (loan_of space.new text.new numbers.new result.carried)
         out.old out.new }
 {
-    let got = libc::read(STDIN_FILENO, input);
-    let n = io::count(got, input);
+    let n = read(rt, input);
     if n == 0 {
-        tell_failed_read(got);
         let ended = finish(space, bags, text, numbers, carried, out);
         let carried = ended.carried;
         let end = ended.at;
-        put(&out[..end]);
+        put(rt, &out[..end]);
         return Left {
             carried,
             taken: 0,
             going: false,
         };
     }
-    answer_chunk(&input[..n], space, bags, text, numbers, carried, out)
+    answer_chunk(rt, &input[..n], space, bags, text, numbers, carried, out)
 }
 
 // Turns until the session ends. A proved loop has to end, and nothing says that an input does: the loop counts its
 // turns down, from a number that no run uses up.
 fn run(
+    rt: &(impl Input + Print + Eprint),
     input: &mut [u8],
     space: &mut [u32],
     bags: &mut Bags,
@@ -130,7 +151,7 @@ fn run(
     let mut carried = begin_session(numbers);
     let mut turns = u64::MAX;
     while turns > 0 {
-        let made = turn(input, space, bags, text, numbers, carried, out);
+        let made = turn(rt, input, space, bags, text, numbers, carried, out);
         let going = made.going;
         if !going {
             return;
@@ -140,15 +161,16 @@ fn run(
     }
 }
 
-fn main() {
-    let mut input = io::large_buffer();
+fn main(rt: HostRuntime) {
+    let mut input = [0u8; BUFFER];
     // The largest table: 1,024 nodes, 16 tasks.
     let mut space = [0u32; LARGEST_LENGTH];
     let mut bags = [0u32; BAG_WORDS];
     let mut text = [0u8; TEXT_PLACES];
     let mut numbers = [0u64; NUMBER_PLACES];
-    let mut out = io::large_buffer();
+    let mut out = [0u8; BUFFER];
     run(
+        &rt,
         &mut input,
         &mut space,
         &mut bags,
