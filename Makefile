@@ -1,8 +1,8 @@
 # Builds the library and the program where they are missing or old, installs them, and measures the library's footprint.
 PREFIX = /usr/local
-LIBRARY = target/staticlib/libdeque.a
-PROGRAM = target/bin/lane
-SOURCES = crates.txt $(shell find crates -name '*.rt' -o -name '*.antt')
+LIBRARY = crates/deque/out/libdeque.a
+PROGRAM = crates/lane/out/lane
+SOURCES = crates.txt $(shell find crates -path '*/out' -prune -o \( -name '*.rt' -o -name '*.antt' \) -print)
 INSTALL = install
 VERSION = $(shell sed -n 's/^.define LANE_VERSION "\(.*\)"/\1/p' include/lane.h)
 # In shell words, as a path may have spaces: where it is used, and where it is put.
@@ -10,16 +10,18 @@ PLACE = place=$$(realpath -ms -- "$$PREFIX") && root=$$DESTDIR$$place
 INSTALLED = lib/liblane.a lib/pkgconfig/lane.pc include/lane.h bin/lane share/man/man1/lane.1
 
 export PREFIX DESTDIR
-.PHONY: all install uninstall footprint
-all: $(LIBRARY) $(PROGRAM)
+.PHONY: all library program install uninstall footprint
+all: library program
+library: $(LIBRARY)
+program: $(PROGRAM)
 
-# rt proves what they stand on, too; it skips what is proved.
+# rt proves what they stand on, too; it skips what is proved. To build the program is to run it, here on no lines.
 $(LIBRARY): $(SOURCES)
-	rt staticlib deque
+	cd crates/deque && rt lib --jobs 4 </dev/null
 	@touch $@
 
 $(PROGRAM): $(SOURCES)
-	rt check lane
+	cd crates/lane && rt run --jobs 4 </dev/null
 	@touch $@
 
 # The library is installed under its header's name.

@@ -6,8 +6,8 @@ use std::process::{Command, Stdio};
 
 use crate::measure::{interleaved, nanoseconds, Figures};
 
-/// The proved program, made by `rt check lane`.
-const PROVED: &str = "target/bin/lane";
+/// The proved program, made by `make program`.
+const PROVED: &str = "crates/lane/out/lane";
 /// The second program in its fastest form, made by `bench/run`.
 const RUST: &str = "bench/target/release/lane";
 
@@ -36,7 +36,7 @@ const ROWS: [Row; 7] = [
 pub fn rows(rounds: usize, one_in: usize) {
     println!("The lane program, T 1: whole processes, a file of lines read, answers to /dev/null.");
     if !Path::new(PROVED).is_file() {
-        println!("Not measured: {PROVED} is missing; `rt check lane` makes it.");
+        println!("Not measured: {PROVED} is missing; `make program` makes it.");
         return;
     }
     println!("Both gave the same bytes first. Medians of {rounds} rounds in turn.");

@@ -9,8 +9,8 @@ fn main() {
     let (folder, from) = match env::var_os("LANE_LIBRARY") {
         Some(folder) => (PathBuf::from(folder), "LANE_LIBRARY names this folder"),
         None => (
-            PathBuf::from(env!("CARGO_MANIFEST_DIR")).join("../../target/staticlib"),
-            "run `rt staticlib deque`, or let LANE_LIBRARY name the folder that has it",
+            PathBuf::from(env!("CARGO_MANIFEST_DIR")).join("../../crates/deque/out"),
+            "run `make library`, or let LANE_LIBRARY name the folder that has it",
         ),
     };
     if folder.is_relative() {

@@ -115,7 +115,7 @@
 //!
 //! # Where the library is
 //!
-//! The build looks for `libdeque.a` in `target/staticlib` of the repository, where `rt staticlib deque` puts it, or for
+//! The build looks for `libdeque.a` in `crates/deque/out` of the repository, where `make library` puts it, or for
 //! `libdeque.a` or `liblane.a` in the folder that the environment's `LANE_LIBRARY` names, an absolute path.
 
 #![no_std]

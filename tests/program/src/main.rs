@@ -44,7 +44,7 @@ fn main() -> ExitCode {
     };
     if !options.program.is_file() {
         let program = options.program.display();
-        eprintln!("{program} is missing; `rt check lane` makes target/bin/lane");
+        eprintln!("{program} is missing; `make program` makes crates/lane/out/lane");
         return ExitCode::from(2);
     }
     if child::bytes_read(std::process::id()).is_none() {
@@ -79,7 +79,7 @@ fn options() -> Option<Options> {
     let mut options = Options {
         seed: 1,
         seconds: None,
-        program: PathBuf::from("target/bin/lane"),
+        program: PathBuf::from("crates/lane/out/lane"),
     };
     let mut words = std::env::args().skip(1);
     while let Some(word) = words.next() {

@@ -8,11 +8,15 @@ use std::os::unix::net::UnixStream;
 use std::path::{Path, PathBuf};
 use std::process::{Command, Output, Stdio};
 use std::sync::atomic::{AtomicU32, Ordering};
+use std::time::SystemTime;
 
 /// What `./belt` calls, but for `rt`.
-const TOOLS: [&str; 11] = [
-    "bash", "env", "dirname", "readlink", "mktemp", "rm", "tac", "awk", "tee", "cat", "sh",
+const TOOLS: [&str; 13] = [
+    "bash", "env", "dirname", "readlink", "mktemp", "rm", "tac", "awk", "tee", "cat", "sh", "find",
+    "touch",
 ];
+/// What the program is, once it is built.
+const PROGRAM: &str = "crates/lane/out/lane";
 const PRINTS: &str = "cat";
 const LINES: &str = "(lane)\n(lane)\n";
 const PAPERS: &str = include_str!("../../../examples/belt.lines");
@@ -27,7 +31,7 @@ impl Scratch {
         let name = format!("belt {} {number}", std::process::id());
         let scratch = Scratch(std::env::temp_dir().join(name));
         let repository = Path::new(env!("CARGO_MANIFEST_DIR")).join("../..");
-        for folder in ["examples", "target/bin", "tools"] {
+        for folder in ["examples", "crates/lane/out", "tools"] {
             fs::create_dir_all(scratch.0.join(folder)).expect("a folder");
         }
         for file in ["belt", "crates.txt", "examples/belt.lines"] {
@@ -40,7 +44,7 @@ impl Scratch {
             let found = found.unwrap_or_else(|| panic!("no {tool}"));
             symlink(found, scratch.0.join("tools").join(tool)).expect("a link");
         }
-        scratch.script("target/bin/lane", program);
+        scratch.script(PROGRAM, program);
         scratch
     }
 
@@ -48,6 +52,13 @@ impl Scratch {
         let file = self.0.join(name);
         fs::write(&file, format!("#!/bin/sh\n{text}\n")).expect("a script");
         fs::set_permissions(&file, fs::Permissions::from_mode(0o755)).expect("a program");
+    }
+
+    /// Makes the program older than what it is made from.
+    fn age(&self) {
+        let program = File::options().append(true).open(self.0.join(PROGRAM));
+        let aged = program.and_then(|file| file.set_modified(SystemTime::UNIX_EPOCH));
+        aged.expect("an old program");
     }
 
     fn command(&self, program: &Path) -> Command {
@@ -163,35 +174,48 @@ fn without_rt_it_says_that_nothing_was_checked() {
     let (_, _, said) = scratch.belt(Stdio::null());
     assert!(said.contains("nothing was checked"), "{said}");
 
-    fs::remove_file(scratch.0.join("target/bin/lane")).expect("a program");
+    fs::remove_file(scratch.0.join(PROGRAM)).expect("a program");
     let (status, printed, said) = scratch.belt(Stdio::null());
     assert_eq!((status, printed.as_str()), (Some(1), ""));
     assert!(said.contains("is missing"), "{said}");
 }
 
+/// What `rt` says of a crate that is proved, and in how many modules that had to be checked.
+fn said_of(name: &str, checked: u32) -> String {
+    format!(
+        "echo 'fn {name}::f: proved'\n\
+         echo 'crate {name}: modules loaded=7 checked={checked}'\n\
+         echo 'logic=proved functions=1'\n"
+    )
+}
+
 #[test]
 fn it_counts_what_it_proves() {
     let scratch = Scratch::new(PRINTS);
-    let listed = "echo 'rt: tag proved (unchanged since it was last proved)'\n\
-                  echo 'rt: line_push proved (3 s)'\n\
-                  echo 'rt: lane proved (1 s)'\n";
-    scratch.script("tools/rt", listed);
+    let listed = said_of("tag", 0) + &said_of("line_push", 3) + &said_of("lane", 1);
+    scratch.script("tools/rt", &listed);
     fs::write(
         scratch.0.join("crates.txt"),
-        "# Some\ntag:\nunused: tag\nline_push: tag io\nlane: line_push libc\n",
+        "# Some\ntag:\nunused: tag\nline_push: tag io\nffi staticlib: line_push unused\nlane: line_push\n",
     )
     .expect("a list");
+    scratch.age();
     let (status, printed, said) = scratch.belt(Stdio::null());
-    assert_eq!((status, printed.as_str()), (Some(0), PAPERS));
+    assert_eq!((status, printed.as_str()), (Some(0), PAPERS), "{said}");
     assert!(!said.contains("nothing was checked"), "{said}");
     let counted: Vec<&str> = said.lines().filter(|line| line.contains(" of ")).collect();
     let wanted = [
-        "belt: line_push proved (3 s), 2 of 3",
-        "belt: lane proved (1 s), 3 of 3",
+        "belt: line_push proved, 2 of at most 3",
+        "belt: lane proved, 3 of at most 3",
     ];
     assert_eq!(counted, wanted, "{said}");
 
     scratch.script("tools/rt", &format!("{listed}exit 1"));
+    let (status, printed, said) = scratch.belt(Stdio::null());
+    assert_eq!((status, printed.as_str()), (Some(0), PAPERS));
+    assert!(!said.contains("proved"), "nothing is new: {said}");
+
+    scratch.age();
     let (status, printed, said) = scratch.belt(Stdio::null());
     assert_eq!((status, printed.as_str()), (Some(1), ""));
     assert!(said.ends_with("is not proved\n"), "{said}");

@@ -5,9 +5,9 @@ use std::path::PathBuf;
 use std::process::{Command, Stdio};
 
 #[allow(dead_code)]
-/// What the proved program prints for an input. `rt check lane` makes it.
+/// What the proved program prints for an input. `make program` makes it.
 pub fn program(input: &[u8]) -> String {
-    let file = PathBuf::from(env!("CARGO_MANIFEST_DIR")).join("../../target/bin/lane");
+    let file = PathBuf::from(env!("CARGO_MANIFEST_DIR")).join("../../crates/lane/out/lane");
     let mut child = Command::new(&file)
         .stdin(Stdio::piped())
         .stdout(Stdio::piped())
