@@ -77,7 +77,9 @@ impl Trials {
             Ok(given) => difference(input, &wanted, &given),
             Err(fault) => fault,
         };
-        let folder = Path::new(DIFFERING).parent().map_or(Ok(()), fs::create_dir_all);
+        let folder = Path::new(DIFFERING)
+            .parent()
+            .map_or(Ok(()), fs::create_dir_all);
         let kept = match folder.and_then(|()| fs::write(DIFFERING, input)) {
             Ok(()) => format!("the whole input is in {DIFFERING}"),
             Err(error) => format!("the input could not be written to {DIFFERING}: {error}"),
