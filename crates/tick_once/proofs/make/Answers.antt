@@ -149,7 +149,7 @@ finish-requires-in-31 c =
 pub line-done-requires : goal.line-done-requires
 line-done-requires c =
     let n : goal.After-node_at-end = search in
-    others-ready (tick n) (part-is n) c.in_default.in_default-own.rest.0.1 c.in_default-own.rest.1
+    others-ready (tick n) (part-is n) c.in_default.in_default-own.rest.0.1 c.in_default.in_default-own.rest.1
 
 pub finish-requires-in_default : goal.finish-requires-in_default
 finish-requires-in_default c =

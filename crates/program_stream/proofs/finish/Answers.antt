@@ -1,0 +1,19 @@
+-- `program_stream::finish` meets its contract: a line that has a byte is answered, and else nothing is printed.
+use native.Mathlib.Omega.{arith}
+use Rattle.program_stream.proofs.Laws.CarriedLaws.{last_line, no-last-line}
+use Rattle.program_stream.proofs.Laws.MeantLaws.{end-made}
+use borrow.Author.Rules.{rules}
+use Rattle.program_stream.proofs.finish.Goals as goal
+
+pub returns-then-begun : goal.returns-then-begun
+returns-then-begun c =
+    let done = c.end_line in
+    let served = last_line _ c.if-begun.true done.ensures.serves in (
+      served,
+      (end-made c.requires.in_order served, omega (arith, done.ensures.at_bound, done.auto.out)),
+    )
+
+pub returns : goal.returns
+returns c =
+    let served = no-last-line _ c.if-begun.false in
+    (served, (end-made c.requires.in_order served, omega arith))
