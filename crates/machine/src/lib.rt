@@ -1,7 +1,6 @@
 // What the definitions and the code share by value: the words of a value, and the answers of the calls.
 #![tactic(auto)]
 
-
 // A value as the table holds it, in a node or in a record: V and, since 2026-04, the leading digit that belongs to it.
 // The argument of a call is held the same way. Only the definitions of values and the crates of the table's words name
 // its words.

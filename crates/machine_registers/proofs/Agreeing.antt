@@ -5,7 +5,6 @@ use Rattle.machine.specs.Steps.{Step}
 use Rattle.machine.specs.Tasks.{Task, no_node, Register, in_a, in_b, in_c, in_d, register, with_registers}
 use Rattle.machine.specs.Registers.{among, holds}
 use Rattle.machine_registers.specs.Paths.{uses, Way, ways, OneOf, here, later}
-use Rattle.machine.specs.Table.{value}
 use Rattle.machine.specs.Lines.{Effect}
 use Rattle.machine_registers.proofs.Paths.{needed-holds, holds-needed}
 use Rattle.machine_registers.specs.LinesUse.{mixed, AgreeOn, After, goes_on, has_answered, turned_back}

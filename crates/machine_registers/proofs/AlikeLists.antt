@@ -8,7 +8,7 @@ use Rattle.machine.specs.Answers.{is_going, dispatch_goes_on}
 use Rattle.machine.specs.Sides.{Side}
 use Rattle.machine.specs.Tasks.{Task}
 use Rattle.machine.specs.Registers.{holds}
-use Rattle.machine.specs.Table.{value, task}
+use Rattle.machine.specs.Table.{task}
 use Rattle.machine.specs.Calls.{tick, ticks, dispatch, dispatches, went_on}
 use Rattle.machine_registers.specs.Unseen.{Alike, SameFor}
 use Rattle.machine.specs.Demand3.{Call, given, after}
@@ -31,19 +31,7 @@ use Rattle.machine.proofs.Words.RunLaws.{first-goes-on, first-is-last}
 use Rattle.machine.proofs.Words.DispatchLaws.{others-follow, one-went-on, none-follows, none-went-on}
 use Rattle.machine.proofs.Shape.ShapeKept.{table-passes}
 use Rattle.machine_registers.proofs.Agreeing.{mixed-inside}
-use Rattle.machine_registers.proofs.AlikeTables.{
-  AlikeColumns,
-  same_nodes,
-  same_count,
-  same_growth,
-  same_ticks,
-  same_dispatched,
-  same-lanes,
-  same-hat,
-  same_links,
-  same_operation,
-  same_argument,
-}
+use Rattle.machine_registers.proofs.AlikeTables.{AlikeColumns, same_nodes, same_count, same_growth, same_ticks, same_dispatched, same-lanes, same-hat, same_links}
 use Rattle.machine_registers.proofs.AlikeCalls.{
   TicksAlike,
   same_value,

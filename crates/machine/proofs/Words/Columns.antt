@@ -3,26 +3,12 @@ use mathlib.Core.Path.{◌≡◌, refl, ap, ◌∙◌, fun_ext}
 use mathlib.Core.Logic.{◌≢◌}
 use mathlib.Core.List.{List, [], ◌∷◌}
 use Prim.Native.Nat.{ℕ, ◌-◌, ◌<◌}
-use lib.ListN.{length}
 use Rattle.machine.specs.declared.Stored.{Stored}
 use Rattle.machine.specs.Choice.{◌<?◌, if◌then◌else◌}
 use Rattle.machine.specs.Sides.{Side, opposite}
 use Rattle.machine.specs.Values.{never, encode, decode}
 use Rattle.machine.specs.Tasks.{Task, fresh, words_of, task_of}
-use Rattle.machine.specs.Table.{
-  node_count,
-  task_count,
-  growth,
-  lane_count,
-  tick_count,
-  dispatched,
-  hat,
-  word14,
-  word15,
-  link,
-  value_words,
-  record_words,
-}
+use Rattle.machine.specs.Table.{node_count, task_count, tick_count, dispatched, hat, word14, word15, link, value_words, record_words}
 use Rattle.machine.specs.Shape.{Sizes, sizes_of}
 use Rattle.machine.specs.Lines.{Write, out≔, inn≔, val≔, hat≔}
 use Rattle.machine.proofs.Basics.Updates.{is-update, update, update_side, update_hat}

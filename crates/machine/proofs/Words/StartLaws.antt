@@ -10,27 +10,7 @@ use Rattle.machine.specs.Choice.{◌≟◌, ◌<?◌, if◌then◌else◌}
 use Rattle.machine.specs.Sides.{Side, left, right, side_number}
 use Rattle.machine.specs.Values.{Value, never, X, encode, stored_at}
 use Rattle.machine.specs.Tasks.{Task, no_node, fresh, record_length, words_of}
-use Rattle.machine.specs.Table.{
-  node_length,
-  node_at,
-  table_length,
-  node_count,
-  task_count,
-  most_lanes,
-  hat_word,
-  hat,
-  header_words,
-  node_words,
-  link_word,
-  value_at,
-  value_words,
-  link,
-  value,
-  record_at,
-  record_words,
-  task,
-  links_length,
-}
+use Rattle.machine.specs.Table.{node_length, node_at, table_length, most_lanes, hat_word, hat, header_words, node_words, link_word, value_at, value_words, link, value, record_at, record_words, task, links_length}
 use Rattle.machine.specs.Calls.{times, start_hat, start_nodes, start_words}
 use Rattle.machine.proofs.Basics.Choices.{by-if, if_no, if_yes}
 use Rattle.machine.proofs.Words.Memories.{View, viewed, view-equal}

@@ -40,7 +40,7 @@ use Rattle.machine_capacity.proofs.Alone.Others.{
   others-kept,
 }
 use Rattle.machine_capacity.proofs.Alone.Build.{Chain}
-use Rattle.machine_capacity.proofs.Alone.CallEnds.{CallEnd, spares, spare, inner}
+use Rattle.machine_capacity.proofs.Alone.CallEnds.{CallEnd, spares, spare}
 
 module _ (end : CallEnd) where
   abbrev pub ws : List ℕ

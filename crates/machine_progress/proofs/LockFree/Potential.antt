@@ -8,7 +8,7 @@ use mathlib.Core.Option.{none}
 use Prim.Native.Nat.{ℕ, suc, ◌+◌, ◌*◌, ◌-◌, ◌≤◌, ◌<◌}
 use native.Mathlib.Omega.{arith}
 use Rattle.machine.specs.declared.Answer.TheVariants.{Going}
-use Rattle.machine.specs.Sides.{Side, left, right, opposite}
+use Rattle.machine.specs.Sides.{Side, right, opposite}
 use Rattle.machine.specs.Values.{Y}
 use Rattle.machine.specs.Tasks.{Task}
 use Rattle.machine.specs.Table.{node_count, task_count, growth, lane_count, task}
