@@ -8,12 +8,11 @@ use Rattle.machine.proofs.Basics.Choices.{test-equal}
 use Rattle.line_parts.specs.Lent.{line_of, refused_done}
 use Rattle.line_parts.proofs.Laws.Compared.{value-compared}
 use Rattle.line_parts.proofs.Laws.Cases.{read-at-A}
-use borrow.Author.Rules.{rules}
 use Rattle.line_add.proofs.line17.Goals as goal
 
 pub returns-then-a-eq-NONE : goal.returns-then-a-eq-NONE
 unfolding line_of act
-returns-then-a-eq-NONE c =
+returns-then-a-eq-NONE c g f =
     rw (c.refused.ensures, test-equal c.if-a-eq-NONE.true) (by_code c.requires (refused_done c.args.hat))
 
 pub value-v-requires : goal.value-v-requires
@@ -33,7 +32,7 @@ is_n-requires c =
     node-value-ok c.requires 0 (omega arith) c.if-a-eq-NONE.false c.value-v.ensures
 
 pub returns : goal.returns
-returns c =
+returns c g f =
     let s = side_of c.args.t.side in
     let read = c.value-v.ensures in
     rw (

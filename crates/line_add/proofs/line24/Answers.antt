@@ -9,17 +9,16 @@ use Rattle.table_record.specs.Coded.{with_register}
 use Rattle.table_layout.specs.Words.{link_in, set_link_in}
 use Rattle.line_parts.specs.Lent.{line_of, next_done, refused_done}
 use Rattle.line_parts.proofs.Laws.Ready.{by_code, by-record, number-of-a-side, side-below-two, side-meant}
-use borrow.Author.Rules.{rules}
 use Rattle.line_add.proofs.line24.Goals as goal
 
 pub returns-then-a-eq-NONE : goal.returns-then-a-eq-NONE
 unfolding line_of act
-returns-then-a-eq-NONE c =
+returns-then-a-eq-NONE c g f =
     rw (c.refused.ensures, test-equal c.if-a-eq-NONE.true) (by_code c.requires (refused_done c.args.hat))
 
 pub returns-then-d-eq-NONE : goal.returns-then-d-eq-NONE
 unfolding line_of act
-returns-then-d-eq-NONE c =
+returns-then-d-eq-NONE c g f =
     rw (c.refused-then-d-eq-NONE.ensures, test-unequal c.if-a-eq-NONE.false, test-equal c.if-d-eq-NONE.true)
     (by_code c.requires (refused_done c.args.hat))
 
@@ -41,7 +40,7 @@ set_link-requires c =
 
 pub returns : goal.returns
 unfolding line_of act
-returns c =
+returns c g f =
     let ns = c.args.ns.now in
     let t = c.args.t in
     let a = get_or t.registers 0 0 in

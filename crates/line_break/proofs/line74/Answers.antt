@@ -12,12 +12,11 @@ use Rattle.table_layout.specs.Words.{link_in}
 use Rattle.line_parts.specs.Lent.{line_of, next_done, refused_done}
 use Rattle.line_parts.proofs.Laws.Ready.{by_code, side-below-two}
 use Rattle.line_parts.proofs.Laws.Chosen.{step-chosen}
-use borrow.Author.Rules.{rules}
 use Rattle.line_break.proofs.line74.Goals as goal
 
 pub returns-then-a-eq-NONE : goal.returns-then-a-eq-NONE
 unfolding line_of act
-returns-then-a-eq-NONE c =
+returns-then-a-eq-NONE c g f =
     rw (c.refused.ensures, test-equal c.if-a-eq-NONE.true) (by_code c.requires (refused_done c.args.hat))
 
 pub link-b-requires : goal.link-b-requires
@@ -26,7 +25,7 @@ link-b-requires c =
 
 pub returns : goal.returns
 unfolding line_of act
-returns c =
+returns c g f =
     let t = c.args.t in
     let a = get_or t.registers 1 0 in
     let b = link_in c.args.ns.now (side_of t.side) a in

@@ -8,12 +8,11 @@ use Rattle.table_record.specs.Coded.{with_value_read}
 use Rattle.table_layout.specs.Words.{stored_in}
 use Rattle.line_parts.specs.Lent.{line_of, next_done, refused_done}
 use Rattle.line_parts.proofs.Laws.Ready.{by_code}
-use borrow.Author.Rules.{rules}
 use Rattle.line_break.proofs.line77.Goals as goal
 
 pub returns-then-b-eq-NONE : goal.returns-then-b-eq-NONE
 unfolding line_of act
-returns-then-b-eq-NONE c =
+returns-then-b-eq-NONE c g f =
     rw (c.refused.ensures, test-equal c.if-b-eq-NONE.true) (by_code c.requires (refused_done c.args.hat))
 
 pub value-requires : goal.value-requires
@@ -22,7 +21,7 @@ value-requires c =
 
 pub returns : goal.returns
 unfolding line_of act
-returns c =
+returns c g f =
     let b = get_or c.args.t.registers 1 0 in
     let b-some = c.if-b-eq-NONE.false in
     let w = stored_in c.args.ns.now b in

@@ -14,7 +14,6 @@ use Rattle.line_parts.specs.Lent.{line_of}
 use Rattle.line_parts.proofs.Laws.Ready.{side-below-two, value-read-ok}
 use Rattle.line_parts.proofs.Laws.Chosen.{chosenᵛ}
 use Rattle.line_parts.proofs.Laws.Shapes.{link-followed}
-use borrow.Author.Rules.{rules}
 use Rattle.line_break.proofs.line81.Goals as goal
 
 pub is_x-requires : goal.is_x-requires
@@ -27,7 +26,7 @@ follow-requires c =
 
 pub returns : goal.returns
 unfolding line_of act
-returns c =
+returns c g f =
     let t = c.args.t in
     let s = side_of t.side in
     let read = (task_meant t).value in

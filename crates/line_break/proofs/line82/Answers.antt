@@ -4,12 +4,11 @@ use Rattle.machine.specs.Lines.{act}
 use Rattle.machine.proofs.Basics.Choices.{test-equal, test-unequal}
 use Rattle.line_parts.specs.Lent.{line_of, refused_done}
 use Rattle.line_parts.proofs.Laws.Ready.{by_code, side-below-two}
-use borrow.Author.Rules.{rules}
 use Rattle.line_break.proofs.line82.Goals as goal
 
 pub returns-then-a-eq-NONE : goal.returns-then-a-eq-NONE
 unfolding line_of act
-returns-then-a-eq-NONE c =
+returns-then-a-eq-NONE c g f =
     rw (c.refused.ensures, test-equal c.if-a-eq-NONE.true) (by_code c.requires (refused_done c.args.hat))
 
 pub set_link-requires : goal.set_link-requires
@@ -18,5 +17,5 @@ set_link-requires c =
 
 pub returns : goal.returns
 unfolding line_of act
-returns c =
+returns c g f =
     rw (c.answers.ensures, c.set_link.ensures, test-unequal c.if-a-eq-NONE.false)

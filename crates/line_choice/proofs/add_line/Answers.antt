@@ -3,26 +3,25 @@ use mathlib.Core.Path.{◌∙◌}
 use mathlib.Core.List.{[], ◌∷◌}
 use Rattle.machine.specs.Steps.{line15, line17, line18, line24, line25}
 use Rattle.line_choice.proofs.StepChoice.{left_over, line_at}
-use borrow.Author.Rules.{rules}
 use Rattle.line_choice.proofs.add_line.Goals as goal
 
 pub returns-in-15 : goal.returns-in-15
-returns-in-15 c = c.line15.ensures _ _ _ ∙ line_at line15 c.in-15.is _ _ _ _ _
+returns-in-15 c g f = c.line15.ensures _ _ _ ∙ line_at line15 c.in-15.is _ _ _ _ _
 
 pub returns-in-17 : goal.returns-in-17
-returns-in-17 c =
+returns-in-17 c g f =
     c.line17.ensures _ _ ∙ line_at line17 c.in-17.is _ _ _ _ _
 
 pub returns-in-18 : goal.returns-in-18
-returns-in-18 c =
+returns-in-18 c g f =
     c.line18.ensures _ _ ∙ line_at line18 c.in-18.is _ _ _ _ _
 
 pub returns-in-24 : goal.returns-in-24
-returns-in-24 c =
+returns-in-24 c g f =
     c.line24.ensures _ _ ∙ line_at line24 c.in-24.is _ _ _ _ _
 
 pub returns-in_default : goal.returns-in_default
-returns-in_default c =
+returns-in_default c g f =
     let others = line15 ∷ line17 ∷ line18 ∷ line24 ∷ [] in
     let at_25 = left_over _ others line25 _ c.in_default.in_default-own.rest c.requires.in_group in
     c.line25.ensures _ _ ∙ line_at line25 at_25 _ _ _ _ _

@@ -1,12 +1,10 @@
 -- `line_choice::line` meets its contract: of each arm's numbers and ranges one computed test names the group.
 use mathlib.Core.Path.{refl}
-use mathlib.Core.Logic.{inl, inr}
 use mathlib.Core.List.{List, [], ◌∷◌}
 use native.Mathlib.Omega.{arith}
 use Rattle.machine.specs.Steps.{Step, is_step_in, line5, line8, line15, line42, line48, line51, line72}
 use Rattle.line_choice.specs.Groups.{push_lines, add_lines, pop_lines, remove_lines, unspur_lines, break_lines}
 use Rattle.line_choice.proofs.StepChoice.{ready-within, ready-keyed, no_key, ready-nowhere, step-bound}
-use borrow.Author.Rules.{rules}
 use Rattle.line_choice.proofs.line.Goals as goal
 
 -- ---- The single numbers of each arm, where they are not all of its group.
@@ -27,8 +25,9 @@ unfolding is_step_in
 push_line-requires c =
     let p = c.requires in
     elim c.in-2-to-3-1.branch [
-      | inl k ↦ ready-keyed push_keys push_lines refl p k.keys1
-      | inr q ↦ ready-within [] push_lines 2 3 refl p (omega (arith, q.2.left)) (omega (arith, q.3.true)) refl
+      | goal.in-5-1 w ↦ ready-keyed push_keys push_lines refl p w.in-5-1.keys1
+      | goal.in_default+then-step-lt26+else-step-lt2+then-step-lt4 w ↦
+          ready-within [] push_lines 2 3 refl p (omega arith) (omega arith) refl
     ]
 
 pub add_line-requires : goal.add_line-requires
@@ -36,11 +35,11 @@ unfolding is_step_in
 add_line-requires c =
     let p = c.requires in
     elim c.in-15-1.branch [
-      | inl k ↦ ready-keyed add_keys add_lines refl p k.keys2
-      | inr (inl q) ↦ ready-within [] add_lines 17 18 refl p (omega (arith, q.4.left)) (omega (arith, q.5.true))
-          refl
-      | inr (inr q) ↦ ready-within [] add_lines 24 25 refl p (omega (arith, q.6.left)) (omega (arith, q.1.true))
-          refl
+      | goal.in-15-1 w ↦ ready-keyed add_keys add_lines refl p w.in-15-1.keys2
+      | goal.in_default+then-step-lt26+else-step-lt2+else-step-lt4+else-step-lt17+then-step-lt19 w ↦
+          ready-within [] add_lines 17 18 refl p (omega arith) (omega arith) refl
+      | goal.in_default+then-step-lt26+else-step-lt2+else-step-lt4+else-step-lt17+else-step-lt19+else-step-lt24 w ↦
+          ready-within [] add_lines 24 25 refl p (omega arith) (omega arith) refl
     ]
 
 pub pop_line-requires : goal.pop_line-requires
@@ -48,8 +47,9 @@ unfolding is_step_in
 pop_line-requires c =
     let p = c.requires in
     elim c.in-39-to-40-1.branch [
-      | inl k ↦ ready-keyed pop_keys pop_lines refl p k.keys3
-      | inr q ↦ ready-within [] pop_lines 39 40 refl p (omega (arith, q.2.left)) (omega (arith, q.3.true)) refl
+      | goal.in-42-1 w ↦ ready-keyed pop_keys pop_lines refl p w.in-42-1.keys3
+      | goal.in_default+else-step-lt26+else-step-lt39+then-step-lt41 w ↦
+          ready-within [] pop_lines 39 40 refl p (omega arith) (omega arith) refl
     ]
 
 pub remove_line-requires : goal.remove_line-requires
@@ -63,8 +63,9 @@ unfolding is_step_in
 unspur_line-requires c =
     let p = c.requires in
     elim c.in-67-to-70-1.branch [
-      | inl k ↦ ready-keyed unspur_keys unspur_lines refl p k.keys5
-      | inr q ↦ ready-within [] unspur_lines 67 70 refl p (omega (arith, q.4.left)) (omega (arith, q.5.true)) refl
+      | goal.in-72-1 w ↦ ready-keyed unspur_keys unspur_lines refl p w.in-72-1.keys5
+      | goal.in_default+else-step-lt26+else-step-lt39+else-step-lt41+else-step-lt67+then-step-lt71 w ↦
+          ready-within [] unspur_lines 67 70 refl p (omega arith) (omega arith) refl
     ]
 
 -- Between the ranges there are the numbers of the arms above; past them, 72 and the last group.
@@ -74,44 +75,43 @@ break_line-requires c =
     let p = c.requires in
     let rest = c.in_default-1.rest in
     elim c.in_default.branch [
-      | inl q ↦ ready-nowhere (ready-within [] [] 0 1 refl p (omega arith) (omega (arith, q.1.true)) refl) refl
-      | inr (inl q) ↦
-          ready-nowhere (ready-within push_keys add_keys 4 16 refl p (omega (arith, q.2.left))
-          (omega (arith, q.3.true))
+      | goal.in_default-via-then-step-lt26+then-step-lt2 w ↦
+          ready-nowhere (ready-within [] [] 0 1 refl p (omega arith) (omega arith) refl) refl
+      | goal.in_default-via-then-step-lt26+else-step-lt2+else-step-lt4+then-step-lt17 w ↦
+          ready-nowhere (ready-within push_keys add_keys 4 16 refl p (omega arith) (omega arith)
           (no_key push_keys _ rest.0.0.0.0.1)) (no_key add_keys _ rest.0.0.0.1)
-      | inr (inr (inl q)) ↦ ready-nowhere (ready-within [] [] 19 23 refl p (omega (arith, q.4.left))
-          (omega (arith, q.5.true)) refl) refl
-      | inr (inr (inr (inl q))) ↦ ready-nowhere (ready-within [] [] 26 38 refl p (omega (arith, q.0.left))
-          (omega (arith, q.1.true)) refl) refl
-      | inr (inr (inr (inr (inl q)))) ↦
-          ready-nowhere (ready-within pop_keys remove_lines 41 66 refl p (omega (arith, q.2.left))
-          (omega (arith, q.3.true))
+      | goal.in_default-via-then-step-lt26+else-step-lt2+else-step-lt4+else-step-lt17+else-step-lt19+then-step-lt24 w ↦
+          ready-nowhere (ready-within [] [] 19 23 refl p (omega arith) (omega arith) refl) refl
+      | goal.in_default-via-else-step-lt26+then-step-lt39 w ↦
+          ready-nowhere (ready-within [] [] 26 38 refl p (omega arith) (omega arith) refl) refl
+      | goal.in_default-via-else-step-lt26+else-step-lt39+else-step-lt41+then-step-lt67 w ↦
+          ready-nowhere (ready-within pop_keys remove_lines 41 66 refl p (omega arith) (omega arith)
           (no_key pop_keys _ rest.0.0.1)) (no_key remove_lines _ rest.0.1)
-      | inr (inr (inr (inr (inr q)))) ↦
-          ready-within unspur_keys break_lines 71 82 refl p (omega (arith, q.4.left)) (step-bound _ p.in_group)
+      | goal.in_default-via-else-step-lt26+else-step-lt39+else-step-lt41+else-step-lt67+else-step-lt71 w ↦
+          ready-within unspur_keys break_lines 71 82 refl p (omega arith) (step-bound _ p.in_group)
           (no_key unspur_keys _ rest.1)
     ]
 
 pub returns-in-54 : goal.returns-in-54
-returns-in-54 c =
+returns-in-54 c f =
     c.remove_line.ensures f
 
 pub returns-in_default : goal.returns-in_default
-returns-in_default c =
+returns-in_default c f =
     c.break_line.ensures _ f
 
 pub returns-in-67-to-70 : goal.returns-in-67-to-70
-returns-in-67-to-70 c =
+returns-in-67-to-70 c f =
     c.unspur_line.ensures _ f
 
 pub returns-in-39-to-40 : goal.returns-in-39-to-40
-returns-in-39-to-40 c =
+returns-in-39-to-40 c f =
     c.pop_line.ensures _ f
 
 pub returns-in-15 : goal.returns-in-15
-returns-in-15 c =
+returns-in-15 c f =
     c.add_line.ensures _ f
 
 pub returns-in-2-to-3 : goal.returns-in-2-to-3
-returns-in-2-to-3 c =
+returns-in-2-to-3 c f =
     c.push_line.ensures _ f

@@ -1,36 +1,35 @@
 -- `line_choice::pop_line` meets its contract: each arm is its line's, and the last arm is what is left of the group.
-use mathlib.Core.Path.{◌≡◌, ◌∙◌}
-use mathlib.Core.List.{[], ◌∷◌}
-use Rattle.machine.specs.Steps.{line39, line40, line42, line48, line51}
+use mathlib.Core.Path.{◌∙◌}
+use mathlib.Core.List.{List, [], ◌∷◌}
+use Rattle.machine.specs.Steps.{Step, line39, line40, line42, line48, line51}
 use Rattle.line_choice.proofs.StepChoice.{left_over, line_at}
-use borrow.Author.Rules.{rules}
 use Rattle.line_choice.proofs.pop_line.Goals as goal
 
 -- The last arm is at 51.
-at_51 : (c : goal.In_default) → c.args.t.step ≡ 51
-at_51 c =
-    left_over _ (line39 ∷ line40 ∷ line42 ∷ line48 ∷ []) line51 _ c.in_default.in_default-own.rest c.requires.in_group
+abbrev others : List Step
+others = line39 ∷ line40 ∷ line42 ∷ line48 ∷ []
 
 pub line51-requires : goal.line51-requires
 line51-requires c =
-    let p = c.requires in (p.ready, p.bag_at_51 (at_51 (search)))
+    let p = c.requires in
+    (p.ready, p.bag_at_51 (left_over _ others line51 _ c.in_default.in_default-own.rest p.in_group))
 
 pub returns-in-39 : goal.returns-in-39
-returns-in-39 c = c.line39.ensures _ _ _ ∙ line_at line39 c.in-39.is _ _ _ _ _
+returns-in-39 c g f = c.line39.ensures _ _ _ ∙ line_at line39 c.in-39.is _ _ _ _ _
 
 pub returns-in-40 : goal.returns-in-40
-returns-in-40 c =
+returns-in-40 c g f =
     c.line40.ensures _ _ ∙ line_at line40 c.in-40.is _ _ _ _ _
 
 pub returns-in-42 : goal.returns-in-42
-returns-in-42 c =
+returns-in-42 c g f =
     c.line42.ensures _ _ ∙ line_at line42 c.in-42.is _ _ _ _ _
 
 pub returns-in-48 : goal.returns-in-48
-returns-in-48 c =
+returns-in-48 c g f =
     c.line48.ensures _ _ ∙ line_at line48 c.in-48.is _ _ _ _ _
 
 pub returns-in_default : goal.returns-in_default
-returns-in_default c =
-    let at-match-rest : goal.In_default = search in
-    c.line51.ensures _ _ ∙ line_at line51 (at_51 at-match-rest) _ _ _ _ _
+returns-in_default c g f =
+    let at_51 = left_over _ others line51 _ c.in_default.in_default-own.rest c.requires.in_group in
+    c.line51.ensures _ _ ∙ line_at line51 at_51 _ _ _ _ _

@@ -3,30 +3,29 @@ use mathlib.Core.Path.{◌∙◌}
 use mathlib.Core.List.{[], ◌∷◌}
 use Rattle.machine.specs.Steps.{line54, line56, line58, line60, line62, line64}
 use Rattle.line_choice.proofs.StepChoice.{left_over, line_at}
-use borrow.Author.Rules.{rules}
 use Rattle.line_choice.proofs.remove_line.Goals as goal
 
 pub returns-in-54 : goal.returns-in-54
-returns-in-54 c = c.line54.ensures _ _ ∙ line_at line54 c.in-54.is _ _ _ _ _
+returns-in-54 c f = c.line54.ensures _ _ ∙ line_at line54 c.in-54.is _ _ _ _ _
 
 pub returns-in-56 : goal.returns-in-56
-returns-in-56 c =
+returns-in-56 c f =
     c.line56.ensures _ _ ∙ line_at line56 c.in-56.is _ _ _ _ _
 
 pub returns-in-58 : goal.returns-in-58
-returns-in-58 c =
+returns-in-58 c f =
     c.line58.ensures _ ∙ line_at line58 c.in-58.is _ _ _ _ _
 
 pub returns-in-60 : goal.returns-in-60
-returns-in-60 c =
+returns-in-60 c f =
     c.line60.ensures _ _ ∙ line_at line60 c.in-60.is _ _ _ _ _
 
 pub returns-in-62 : goal.returns-in-62
-returns-in-62 c =
+returns-in-62 c f =
     c.line62.ensures _ _ ∙ line_at line62 c.in-62.is _ _ _ _ _
 
 pub returns-in_default : goal.returns-in_default
-returns-in_default c =
+returns-in_default c f =
     let others = line54 ∷ line56 ∷ line58 ∷ line60 ∷ line62 ∷ [] in
     let at-64 = left_over _ others line64 _ c.in_default.in_default-own.rest c.requires.in_group in
     c.line64.ensures _ _ ∙ line_at line64 at-64 _ _ _ _ _

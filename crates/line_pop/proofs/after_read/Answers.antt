@@ -5,7 +5,6 @@ use Rattle.machine.specs.Values.{X, decode}
 use Rattle.machine.specs.Steps.{line39, line48}
 use Rattle.line_parts.proofs.Laws.Chosen.{chosenᵛ}
 use Rattle.line_parts.proofs.Laws.Choosing.{read-bag, read-N, read-other}
-use borrow.Author.Rules.{rules}
 use Rattle.line_pop.proofs.after_read.Goals as goal
 
 pub returns-then-bag_ok : goal.returns-then-bag_ok

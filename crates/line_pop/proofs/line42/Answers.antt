@@ -11,12 +11,11 @@ use Rattle.table_record.specs.Coded.{with_value_read}
 use Rattle.table_layout.specs.Words.{stored_in}
 use Rattle.line_parts.specs.Lent.{line_of, next_done, refused_done}
 use Rattle.line_parts.proofs.Laws.Ready.{side-meant, by_code, side-below-two, node-value-ok}
-use borrow.Author.Rules.{rules}
 use Rattle.line_pop.proofs.line42.Goals as goal
 
 pub returns-then-b-eq-NONE : goal.returns-then-b-eq-NONE
 unfolding line_of act
-returns-then-b-eq-NONE c =
+returns-then-b-eq-NONE c g f =
     rw (c.refused.ensures, test-equal c.if-b-eq-NONE.true) (by_code c.requires (refused_done c.args.hat))
 
 pub value-v-requires : goal.value-v-requires
@@ -33,7 +32,7 @@ after_read-requires c =
 
 pub returns : goal.returns
 unfolding line_of act
-returns c =
+returns c g f =
     let t = c.args.t in
     let o = opposite (side_of t.side) in
     let b = get_or t.registers 1 0 in

@@ -16,5 +16,5 @@ follow-requires c =
 
 pub returns : goal.returns
 unfolding line_of act
-returns c =
+returns c g f =
     rw c.follow.ensures (link-followed c.requires c.args.hat (side_of c.args.t.side) 0 in_b line8 line5)

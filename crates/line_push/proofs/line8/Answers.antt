@@ -6,7 +6,6 @@ use Rattle.machine.specs.Lines.{act}
 use Rattle.machine.proofs.Words.ValueLaws.{X-mark, mark-has-word, mark-value-ok}
 use Rattle.line_parts.specs.Lent.{line_of}
 use Rattle.line_parts.proofs.Laws.Shapes.{by-mark}
-use borrow.Author.Rules.{rules}
 use Rattle.line_push.proofs.line8.Goals as goal
 
 pub by_mark-requires : goal.by_mark-requires
@@ -15,7 +14,7 @@ by_mark-requires c =
 
 pub returns : goal.returns
 unfolding line_of act
-returns c =
+returns c g f =
     let s = side_of c.args.t.side in
     rw (c.by_mark.ensures, c.x_of.ensures, mark-has-word {s = s} X-mark)
     (by-mark c.requires c.args.hat (X s) line28 line67)

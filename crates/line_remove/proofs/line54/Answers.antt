@@ -6,12 +6,11 @@ use Rattle.table_record.specs.Coded.{with_register}
 use Rattle.line_parts.specs.Lent.{line_of, next_done}
 use Rattle.line_parts.proofs.Laws.Ready.{by-record}
 use Rattle.line_parts.proofs.Laws.Chosen.{step-chosen}
-use borrow.Author.Rules.{rules}
 use Rattle.line_remove.proofs.line54.Goals as goal
 
 pub returns : goal.returns
 unfolding line_of act
-returns c =
+returns c ns f =
     let h = c.args.hat in
     let g = c.args.goal in
     rw (c.take_hat.ensures, c.either.ensures, step-chosen g 0 line60 line56)

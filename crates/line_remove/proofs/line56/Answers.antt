@@ -11,12 +11,11 @@ use Rattle.line_parts.specs.Lent.{line_of, next_done, refused_done}
 use Rattle.line_parts.proofs.Laws.Ready.{by_code, node-value-ok}
 use Rattle.line_parts.proofs.Laws.Compared.{value-compared}
 use Rattle.line_parts.proofs.Laws.Choosing.{effect-same, effect-other}
-use borrow.Author.Rules.{rules}
 use Rattle.line_remove.proofs.line56.Goals as goal
 
 pub returns-then-a-eq-NONE : goal.returns-then-a-eq-NONE
 unfolding line_of act
-returns-then-a-eq-NONE c =
+returns-then-a-eq-NONE c g f =
     rw (c.refused.ensures, test-equal c.if-a-eq-NONE.true) (by_code c.requires (refused_done c.args.hat))
 
 pub value-requires : goal.value-requires
@@ -29,7 +28,7 @@ is_x-requires c =
 
 pub returns-then-is_x : goal.returns-then-is_x
 unfolding line_of act
-returns-then-is_x c =
+returns-then-is_x c g f =
     let t = c.args.t in
     let v = decode (stored_in c.args.ns.now (get_or t.registers 0 0)) in
     let x = X (side_of t.side) in
@@ -39,7 +38,7 @@ returns-then-is_x c =
 
 pub returns : goal.returns
 unfolding line_of act
-returns c =
+returns c g f =
     let t = c.args.t in
     let v = decode (stored_in c.args.ns.now (get_or t.registers 0 0)) in
     let x = X (side_of t.side) in

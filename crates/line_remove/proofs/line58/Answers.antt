@@ -6,12 +6,11 @@ use Rattle.machine.proofs.Basics.Choices.{test-equal, test-unequal}
 use Rattle.line_parts.specs.Lent.{line_of, refused_done}
 use Rattle.line_parts.proofs.Laws.Ready.{by_code, side-below-two}
 use Rattle.line_parts.proofs.Laws.Cases.{node-further}
-use borrow.Author.Rules.{rules}
 use Rattle.line_remove.proofs.line58.Goals as goal
 
 pub returns-then-a-eq-NONE : goal.returns-then-a-eq-NONE
 unfolding line_of act
-returns-then-a-eq-NONE c =
+returns-then-a-eq-NONE c f =
     rw (c.refused.ensures, test-equal c.if-a-eq-NONE.true) (by_code c.requires (refused_done c.args.hat))
 
 pub link-x-requires : goal.link-x-requires
@@ -20,7 +19,7 @@ link-x-requires c =
 
 pub returns-then-x-eq-NONE : goal.returns-then-x-eq-NONE
 unfolding line_of act
-returns-then-x-eq-NONE c =
+returns-then-x-eq-NONE c f =
     rw (
       c.answers.ensures,
       test-unequal c.if-a-eq-NONE.false,
@@ -28,7 +27,7 @@ returns-then-x-eq-NONE c =
     )
 
 pub returns : goal.returns
-returns c =
+returns c f =
     let link = c.link-x in
     rw (
       c.next.ensures,

@@ -9,12 +9,11 @@ use Rattle.table_record.specs.Coded.{with_register}
 use Rattle.table_layout.specs.Words.{link_in}
 use Rattle.line_parts.specs.Lent.{line_of, next_done, refused_done}
 use Rattle.line_parts.proofs.Laws.Ready.{by_code, side-below-two}
-use borrow.Author.Rules.{rules}
 use Rattle.line_remove.proofs.line60.Goals as goal
 
 pub returns-then-a-eq-NONE : goal.returns-then-a-eq-NONE
 unfolding line_of act
-returns-then-a-eq-NONE c =
+returns-then-a-eq-NONE c g f =
     rw (c.refused.ensures, test-equal c.if-a-eq-NONE.true) (by_code c.requires (refused_done c.args.hat))
 
 pub link-b-requires : goal.link-b-requires
@@ -23,7 +22,7 @@ link-b-requires c =
 
 pub returns-then-b-eq-NONE : goal.returns-then-b-eq-NONE
 unfolding line_of act
-returns-then-b-eq-NONE c =
+returns-then-b-eq-NONE c g f =
     rw (
       c.answers.ensures,
       test-unequal c.if-a-eq-NONE.false,
@@ -32,7 +31,7 @@ returns-then-b-eq-NONE c =
 
 pub returns : goal.returns
 unfolding line_of act
-returns c =
+returns c g f =
     let t = c.args.t in
     let link = c.link-b in
     let b = link_in c.args.ns.now (side_of t.side) (get_or t.registers 0 0) in

@@ -9,12 +9,11 @@ use Rattle.machine.proofs.Basics.Choices.{test-equal, test-unequal}
 use Rattle.table_layout.specs.Words.{set_link_in}
 use Rattle.line_parts.specs.Lent.{line_of, next_done, refused_done}
 use Rattle.line_parts.proofs.Laws.Ready.{by-record, by_code, side-below-two}
-use borrow.Author.Rules.{rules}
 use Rattle.line_remove.proofs.line64.Goals as goal
 
 pub returns-then-a-eq-NONE : goal.returns-then-a-eq-NONE
 unfolding line_of act
-returns-then-a-eq-NONE c =
+returns-then-a-eq-NONE c g f =
     rw (c.refused.ensures, test-equal c.if-a-eq-NONE.true) (by_code c.requires (refused_done c.args.hat))
 
 pub link-requires : goal.link-requires
@@ -23,7 +22,7 @@ link-requires c =
 
 pub returns-then-link-b : goal.returns-then-link-b
 unfolding line_of act
-returns-then-link-b c =
+returns-then-link-b c g f =
     rw (
       c.next.ensures,
       test-unequal c.if-a-eq-NONE.false,
@@ -37,7 +36,7 @@ set_link-requires c =
 
 pub returns : goal.returns
 unfolding line_of act
-returns c =
+returns c g f =
     let t = c.args.t in
     let a = get_or t.registers 0 0 in
     rw (

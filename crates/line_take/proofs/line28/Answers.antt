@@ -1,9 +1,7 @@
 -- `line_take::line28` meets its contract: a node is found or not, and its words are stored in order (Laws/Cases).
-use mathlib.Core.Path.{◌∙◌}
 use Rattle.machine.specs.Sides.{opposite, side_of}
 use Rattle.line_parts.proofs.Laws.Ready.{number-of-a-side, side-below-two, side-meant}
 use Rattle.line_parts.proofs.Laws.Cases.{push-has-none, other-has-none, outermost-made}
-use borrow.Author.Rules.{rules}
 use Rattle.line_take.proofs.line28.Goals as goal
 
 pub returns-then-operation-eq-PUSH : goal.returns-then-operation-eq-PUSH

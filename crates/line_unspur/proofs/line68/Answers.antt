@@ -7,7 +7,6 @@ use Rattle.machine.proofs.Words.ValueLaws.{Y-mark, mark-has-word, mark-value-ok}
 use Rattle.table_record.specs.Coded.{task_meant}
 use Rattle.line_parts.specs.Lent.{line_of}
 use Rattle.line_parts.proofs.Laws.Shapes.{by-mark}
-use borrow.Author.Rules.{rules}
 use Rattle.line_unspur.proofs.line68.Goals as goal
 
 pub by_mark-requires : goal.by_mark-requires
@@ -16,7 +15,7 @@ by_mark-requires c =
 
 pub returns : goal.returns
 unfolding line_of act
-returns c =
+returns c g f =
     let t = c.args.t in
     let s = side_of t.side in
     rw (c.by_mark.ensures, c.back.ensures, c.y_of.ensures, mark-has-word {s = s} Y-mark)

@@ -24,7 +24,7 @@ follow-requires c =
 
 pub returns : goal.returns
 unfolding line_of act
-returns c =
+returns c g f =
     let inward = opposite (side_of c.args.t.side) in
     rw (c.follow.ensures, side-meant inward c.opposite.ensures)
     (followed-on c.requires c.args.hat inward 0 in_b line70)

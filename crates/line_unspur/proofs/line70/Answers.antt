@@ -8,7 +8,6 @@ use Rattle.table_record.specs.Coded.{task_meant}
 use Rattle.line_parts.specs.Lent.{line_of}
 use Rattle.line_parts.proofs.Laws.Ready.{side-below-two}
 use Rattle.line_parts.proofs.Laws.Shapes.{link-followed}
-use borrow.Author.Rules.{rules}
 use Rattle.line_unspur.proofs.line70.Goals as goal
 
 pub follow-requires : goal.follow-requires
@@ -18,7 +17,7 @@ follow-requires c =
 
 pub returns : goal.returns
 unfolding line_of act
-returns c =
+returns c g f =
     let t = c.args.t in
     rw (c.follow.ensures, c.back.ensures)
     (link-followed c.requires c.args.hat (side_of t.side) 1 in_c (back (task_meant t)) line72)

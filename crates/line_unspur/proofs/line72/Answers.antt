@@ -11,18 +11,17 @@ use Rattle.table_record.specs.Coded.{task_meant}
 use Rattle.line_parts.specs.Lent.{line_of, next_done, refused_done, hat_after}
 use Rattle.line_parts.proofs.Laws.Ready.{by-record}
 use Rattle.line_parts.proofs.Laws.Chosen.{swapped, hat-swapped, no-node-written}
-use borrow.Author.Rules.{rules}
 use Rattle.line_unspur.proofs.line72.Goals as goal
 
 pub returns-then-c-eq-NONE : goal.returns-then-c-eq-NONE
 unfolding line_of act
-returns-then-c-eq-NONE c =
+returns-then-c-eq-NONE c ns g f =
     let c-is-none : get_or c.args.t.registers 2 0 ≡ no_node = c.if-c-eq-NONE.true in
     rw (c.refused.ensures, test-equal c-is-none) (by-record c.requires ns (refused_done c.args.hat))
 
 pub returns : goal.returns
 unfolding line_of act
-returns c =
+returns c ns g f =
     let t = c.args.t in
     let h = c.args.hat in
     let a = get_or t.registers 0 0 in
