@@ -1,22 +1,12 @@
 -- `call_read::copy` meets its contract: the words written and the bags ahead are the out slice wanted.
-use mathlib.Core.Path.{◌≡◌, refl, sym, ap, ◌∙◌, subst}
-use mathlib.Core.Bool.{true}
+use mathlib.Core.Path.{◌≡◌}
 use mathlib.Core.List.{List}
-use mathlib.Core.Option.{Option, some}
-use Prim.Native.Nat.{ℕ, suc, ◌+◌, ◌*◌, ◌-◌, ◌≤◌}
-use native.Mathlib.Omega.{arith}
-use native.Mathlib.Nat.{sub-zero}
+use mathlib.Core.Option.{some}
+use Prim.Native.Nat.{ℕ, ◌-◌, ◌≤◌}
 use lib.ListN.{length}
-use lib.Seq.{sets}
-use Rattle.tag.specs.Tags.{tag_words}
-use Rattle.machine.specs.declared.Stored.{Stored}
-use Rattle.machine.specs.Values.{number, bag_ok}
-use Rattle.machine.specs.Sides.{right}
-use Rattle.machine.specs.Table.{node_count, link, value_words}
 use Rattle.lane_walk.specs.Walks.{ahead, count_of}
-use Rattle.lane_walk.proofs.Laws.Ahead.{BagAhead, bag-ahead}
 use Rattle.call_read.specs.Laid.{laid}
-use Rattle.call_read.proofs.ReadLaws.{written, one_written, write-ends}
+use Rattle.call_read.proofs.ReadLaws.{written}
 use Rattle.call_read.proofs.copy.Given as goal
 
 -- What holds before each turn.

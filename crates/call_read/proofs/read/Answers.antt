@@ -1,12 +1,16 @@
 -- `call_read::read` meets its contract: refusals 3 and 4, then `read_lane`.
-use mathlib.Core.Path.{◌∙◌}
+use mathlib.Core.Path.{◌≡◌, ◌∙◌}
+use mathlib.Core.List.{List}
+use mathlib.Core.Option.{none}
+use Prim.Native.Nat.{ℕ}
 use native.Mathlib.Omega.{arith}
+use Rattle.answers.specs.Refusals.{number_of}
+use Rattle.machine.specs.Calls.{table_refusal}
 use Rattle.machine.specs.Shape.{WellLinked}
 use Rattle.machine.proofs.Shape.ShapeLaws.{well-linked}
 use Rattle.table_shape.proofs.Laws.TableWords.{header-long}
 use Rattle.table_shape.proofs.Laws.PassedTable.{table-passed}
 use Rattle.call_read.proofs.ReadLaws.{read-refused, read-no-lane, read-goes-on}
-use borrow.Author.Rules.{rules}
 use Rattle.call_read.proofs.read.Goals as goal
 
 pub returns-then-n-ne0 : goal.returns-then-n-ne0
@@ -15,14 +19,12 @@ returns-then-n-ne0 c =
     read-refused a.table.now c.table_refusal-n.ensures a.l a.out.now c.if-n-ne0.true
 
 -- What passed.
-passes : (c : goal.Else-n-ne0) → WellLinked c.args.table.now
-passes c =
-    let ws = c.args.table.now in
-    well-linked ws (table-passed ws c.table_refusal-n.ensures c.if-n-ne0.false)
+passes : (ws : List ℕ) {n : ℕ} → n ≡ number_of (table_refusal ws none) → n ≡ 0 → WellLinked ws
+passes ws is_number e = well-linked ws (table-passed ws is_number e)
 
 pub lanes-requires : goal.lanes-requires
 lanes-requires c =
-    header-long c.args.table.now (passes c).length_passes
+    header-long c.args.table.now (passes c.args.table.now c.table_refusal-n.ensures c.if-n-ne0.false).length_passes
 
 pub returns-then-lanes-l : goal.returns-then-lanes-l
 returns-then-lanes-l c =
@@ -31,8 +33,10 @@ returns-then-lanes-l c =
     (omega (arith, c.lanes.ensures, c.if-lanes-l.true))
 
 pub read_lane-requires : goal.read_lane-requires
-read_lane-requires c =
-    let n : goal.After-lanes = search in (passes (search), omega (arith, n.lanes.ensures, c.if-lanes-l.false))
+read_lane-requires c = (
+  passes c.args.table.now c.table_refusal-n.ensures c.if-n-ne0.false,
+  omega (arith, c.lanes.ensures, c.if-lanes-l.false),
+)
 
 pub returns : goal.returns
 returns c =

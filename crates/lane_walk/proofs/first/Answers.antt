@@ -12,15 +12,15 @@ hat-requires c =
     let ws = c.args.table.now in
     (header-room ws c.requires.0, one-of-four ws c.requires.0 c.args.l c.requires.1, omega arith)
 
-hat_is : (c : goal.After-hat) → let a = c.args in c.hat.result ≡ hat a.table.now a.l left
-unfolding ℕ_discrete
-hat_is c = c.hat.ensures
-
 pub next-requires : goal.next-requires
+unfolding ℕ_discrete
 next-requires c =
-    (c.requires.0, rw (hat_is c) (hat-is-node c.args.table.now c.requires.0 c.args.l c.requires.1))
+    let ws = c.args.table.now in
+    let l = c.args.l in
+    let hat_is : c.hat.result ≡ hat ws l left = c.hat.ensures in
+    (c.requires.0, rw hat_is (hat-is-node ws c.requires.0 l c.requires.1))
 
 pub returns : goal.returns
+unfolding ℕ_discrete
 returns c =
-    let h : goal.After-hat = search in
-    c.next.ensures ∙ ap (link c.args.table.now right) (hat_is h)
+    c.next.ensures ∙ ap (link c.args.table.now right) c.hat.ensures

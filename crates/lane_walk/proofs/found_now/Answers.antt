@@ -1,5 +1,4 @@
 -- `lane_walk::found_now` meets its contract: what was found before stays found.
-use borrow.Author.Rules.{rules}
 use Rattle.lane_walk.proofs.found_now.Goals as goal
 
 pub returns : goal.returns

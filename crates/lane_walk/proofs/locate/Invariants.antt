@@ -1,33 +1,14 @@
 -- `lane_walk::locate` meets its contract: the bags counted and those of the walk ahead are all, and the node of the
 -- place is had, or the last that was gone to.
-use mathlib.Core.Path.{◌≡◌, sym, ◌∙◌}
-use mathlib.Core.Bool.{Bool}
+use mathlib.Core.Path.{◌≡◌}
 use mathlib.Core.List.{List}
-use Prim.Native.Nat.{ℕ, ◌-◌, ◌≤◌, ◌<◌, min}
-use native.Mathlib.Omega.{arith}
-use borrow.Author.Rules.{rules}
-use borrow.Author.Tests.{not-true, not-false}
+use Prim.Native.Nat.{ℕ, ◌-◌, ◌≤◌, min}
 use Rattle.machine.specs.Sides.{left, right}
-use Rattle.machine.specs.Values.{bag_ok}
-use Rattle.machine.specs.Table.{node_count, hat, link, value_words}
+use Rattle.machine.specs.Table.{node_count, hat, link}
 use Rattle.machine.specs.Calls.{lane_from, lane}
 use Rattle.machine.proofs.Shape.BusyLaws.{NodeOrNone}
 use Rattle.lane_walk.specs.Walks.{count_of, node_after}
-use Rattle.lane_walk.proofs.Laws.Nodes.{header-room, next-in}
-use Rattle.lane_walk.proofs.Laws.Places.{
-  counted,
-  counting-begins,
-  counting-ends,
-  counting-at-none,
-  counting-at-no-bag,
-  counting-at-bag,
-  begins-at,
-  begins-there,
-  gone-on,
-  had-next,
-  located-nowhere,
-  located-there,
-}
+use Rattle.lane_walk.proofs.Laws.Places.{counted}
 use Rattle.lane_walk.proofs.locate.Given as goal
 
 -- What holds before each turn.

@@ -1,26 +1,11 @@
 -- `lane_walk::seek` meets its contract: the bags tallied and those of the walk ahead are those of the whole walk.
-use mathlib.Core.Path.{◌≡◌, sym, ◌∙◌}
-use mathlib.Core.Bool.{Bool}
-use mathlib.Core.List.{List}
-use Prim.Native.Nat.{ℕ, ◌-◌, ◌≤◌, ◌<◌}
-use native.Mathlib.Omega.{arith}
-use borrow.Author.Rules.{rules}
-use borrow.Author.Tests.{not-true, not-false}
-use Rattle.machine.specs.Values.{bag_ok}
-use Rattle.machine.specs.Sides.{left}
-use Rattle.machine.specs.Table.{node_count, hat, value_words}
+use mathlib.Core.Path.{◌≡◌}
+use Prim.Native.Nat.{◌-◌, ◌≤◌}
+use Rattle.machine.specs.Table.{node_count}
 use Rattle.machine.specs.Calls.{lane_from, lane}
 use Rattle.machine.proofs.Shape.BusyLaws.{NodeOrNone}
 use Rattle.lane_walk.specs.Walks.{walk_of}
-use Rattle.lane_walk.proofs.Laws.Nodes.{header-room, next-in}
-use Rattle.lane_walk.proofs.Laws.Tally.{
-  tallied,
-  count-begins,
-  count-ends,
-  count-at-none,
-  count-at-no-bag,
-  count-at-bag,
-}
+use Rattle.lane_walk.proofs.Laws.Tally.{tallied}
 use Rattle.lane_walk.proofs.seek.Given as goal
 
 abbrev pub invariant-loop-n : goal.invariant-loop-n

@@ -1,6 +1,4 @@
-use Prim.Native.Nat.{◌-◌, ◌≤◌}
 use native.Mathlib.Omega.{arith}
-use Rattle.table_search.specs.Tables.{AllMarked}
 use Rattle.table_search.proofs.Laws.Searched.{none_passed, one-passed}
 use Rattle.table_search.proofs.first_unmarked.Goals as goal
 

@@ -1,8 +1,6 @@
 -- The places passed have marks.
 use Prim.Native.Nat.{◌-◌, ◌≤◌}
-use native.Mathlib.Omega.{arith}
 use Rattle.table_search.specs.Tables.{AllMarked}
-use Rattle.table_search.proofs.Laws.Searched.{none_passed, one-passed}
 use Rattle.table_search.proofs.first_unmarked.Given as goal
 
 abbrev pub invariant-loop-i : goal.invariant-loop-i

@@ -5,7 +5,6 @@ use Prim.Native.Nat.{ℕ}
 use lib.ListN.{replicate}
 use Rattle.table_search.specs.Tables.{padded}
 use Rattle.table_search.proofs.Laws.Marked.{cleared, hats-first}
-use borrow.Author.Rules.{rules}
 use Rattle.table_search.proofs.free_of_few.Goals as goal
 
 abbrev zeros : List ℕ

@@ -5,7 +5,6 @@ use lib.ListN.{length}
 use borrow.Author.Tests.{le-ltb}
 use Rattle.machine.specs.Allocate.{mark}
 use Rattle.table_search.proofs.Laws.Padded.{queue-open, mark-new, mark-old}
-use borrow.Author.Rules.{rules}
 use Rattle.table_search.proofs.mark.Goals as goal
 
 not_full : (c : goal.Then-marks-i-eq0) → let a = c.args in a.tail < length a.queue.now

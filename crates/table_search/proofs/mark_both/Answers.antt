@@ -2,7 +2,6 @@
 use Rattle.machine.proofs.SlotRule.Marking.{room-of-mark}
 use Rattle.table_search.proofs.Laws.Marked.{both-marked}
 use Rattle.table_search.proofs.Laws.Padded.{ready-after}
-use borrow.Author.Rules.{rules}
 use Rattle.table_search.proofs.mark_both.Goals as goal
 
 pub mark-requires : goal.mark-requires

@@ -1,7 +1,6 @@
 -- A register that does not hold counts as none, which is never marked.
 use borrow.Author.Tests.{eq-eqb, ne_eqb}
 use Rattle.table_search.proofs.Laws.Marked.{none-unmarked}
-use borrow.Author.Rules.{rules}
 use Rattle.table_search.proofs.mark_found.Goals as goal
 
 pub returns-then-found-eq0 : goal.returns-then-found-eq0

@@ -1,15 +1,9 @@
 -- Marking the hats of the lanes from l on gives what marking the hats of all lanes gives at the start.
-use mathlib.Core.Path.{◌≡◌, refl, ◌∙◌}
-use Prim.Native.Nat.{◌-◌, ◌≤◌, ◌<◌}
-use native.Mathlib.Omega.{arith}
-use native.Mathlib.Nat.{sub-zero}
-use native.Mathlib.Decide.{ℕ_discrete}
-use Rattle.machine.specs.Table.{most_lanes}
+use mathlib.Core.Path.{◌≡◌}
+use Prim.Native.Nat.{◌-◌, ◌≤◌}
 use Rattle.machine.specs.Allocate.{hats_from, mark_all}
 use Rattle.table_search.specs.Tables.{marking_of, Ready}
-use Rattle.table_search.proofs.Laws.Marked.{hats-kept, hats-end, room-of-list}
-use Rattle.table_search.proofs.Laws.Padded.{AsLong, ready_for, ready-after}
-use borrow.Author.Rules.{rules}
+use Rattle.table_search.proofs.Laws.Padded.{AsLong}
 use Rattle.table_search.proofs.mark_hats.Given as goal
 
 abbrev pub invariant-loop-l : goal.invariant-loop-l

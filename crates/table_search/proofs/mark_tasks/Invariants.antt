@@ -1,14 +1,9 @@
 -- Marking what the tasks from k on hold gives what marking all that the tasks hold gives at the start.
-use mathlib.Core.Path.{◌≡◌, refl, ◌∙◌}
-use Prim.Native.Nat.{◌-◌, ◌≤◌, ◌<◌}
-use native.Mathlib.Omega.{arith}
-use native.Mathlib.Nat.{sub-zero}
-use Rattle.machine.specs.Table.{task_count}
+use mathlib.Core.Path.{◌≡◌}
+use Prim.Native.Nat.{◌-◌, ◌≤◌}
 use Rattle.machine.specs.Allocate.{held_from, mark_all}
 use Rattle.table_search.specs.Tables.{marking_of, Ready}
-use Rattle.table_search.proofs.Laws.Marked.{held-marked, held_kept, held-end, room-of-list}
-use Rattle.table_search.proofs.Laws.Padded.{AsLong, ready_for, ready-after}
-use borrow.Author.Rules.{rules}
+use Rattle.table_search.proofs.Laws.Padded.{AsLong}
 use Rattle.table_search.proofs.mark_tasks.Given as goal
 
 abbrev pub invariant-loop-k : goal.invariant-loop-k

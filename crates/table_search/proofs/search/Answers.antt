@@ -1,6 +1,5 @@
 -- Each answer is one case of what two scans find.
 use Rattle.table_search.proofs.Laws.Searched.{found-above, found_below, none_found}
-use borrow.Author.Rules.{rules}
 use Rattle.table_search.proofs.search.Goals as goal
 
 pub returns-then-above-n : goal.returns-then-above-n

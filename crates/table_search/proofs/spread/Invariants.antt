@@ -1,12 +1,10 @@
 -- Visiting the queue from the head on gives what visiting all of it gives at the start.
-use mathlib.Core.Path.{◌≡◌, refl, sym, ◌∙◌}
-use Prim.Native.Nat.{◌-◌, ◌≤◌}
-use native.Mathlib.Omega.{arith}
+use mathlib.Core.Path.{◌≡◌}
+use Prim.Native.Nat.{◌-◌}
 use Rattle.machine.specs.Table.{node_count}
 use Rattle.machine.specs.Allocate.{largest_count, visit_from}
-use Rattle.machine.proofs.SlotRule.Marking.{tail-le, room-of-visit, visit_from-kept, visit_from-end}
 use Rattle.table_search.specs.Tables.{marking_of, Ready}
-use Rattle.table_search.proofs.Laws.Padded.{AsLong, ready-after}
+use Rattle.table_search.proofs.Laws.Padded.{AsLong}
 use Rattle.table_search.proofs.spread.Given as goal
 
 abbrev pub invariant-loop-head : goal.invariant-loop-head

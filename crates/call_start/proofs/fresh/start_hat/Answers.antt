@@ -8,9 +8,6 @@ use Rattle.machine.specs.Tasks.{no_node}
 use Rattle.machine.proofs.Basics.Choices.{if_yes, if_no}
 use Rattle.machine.proofs.Basics.Contradiction.{refute}
 use Rattle.machine.proofs.Words.RecordLaws.{number-of-side}
-use borrow.Author.Rules.{rules}
-use Rattle.call_start.proofs.fresh.start_hat.Reads as reads
-use Rattle.call_start.proofs.fresh.start_hat.Lts as lts
 use Rattle.call_start.proofs.fresh.start_hat.Goals as goal
 
 pub returns-then-l-lanes : goal.returns-then-l-lanes

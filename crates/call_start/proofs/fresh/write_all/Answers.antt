@@ -5,7 +5,6 @@ use native.Mathlib.Omega.{arith}
 use lib.ListN.{length}
 use borrow.Rule.Slice.PartMut.{mid_len}
 use Rattle.call_start.proofs.Filling.{table-started}
-use borrow.Author.Rules.{rules}
 use Rattle.call_start.proofs.fresh.write_all.Goals as goal
 
 pub returns : goal.returns

@@ -2,7 +2,6 @@
 use mathlib.Core.Path.{◌∙◌}
 use native.Mathlib.Decide.{ℕ_discrete}
 use Rattle.call_start.proofs.Filling.{header-written}
-use borrow.Author.Rules.{rules}
 use Rattle.call_start.proofs.fresh.write_header.Goals as goal
 
 pub returns : goal.returns

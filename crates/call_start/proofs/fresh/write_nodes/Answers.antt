@@ -6,7 +6,6 @@ use Rattle.machine.specs.Values.{never}
 use Rattle.machine.specs.Tasks.{no_node}
 use Rattle.machine.specs.Table.{node_words}
 use Rattle.machine.specs.Calls.{times}
-use borrow.Author.Rules.{rules}
 use Rattle.call_start.proofs.fresh.write_nodes.Goals as goal
 
 pub returns : goal.returns

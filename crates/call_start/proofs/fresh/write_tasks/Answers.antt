@@ -1,61 +1,54 @@
 use mathlib.Core.Path.{◌≡◌, refl, sym, ap, ◌∙◌}
-use mathlib.Core.List.{List}
-use Prim.Native.Nat.{ℕ, ◌+◌, ◌-◌, ◌≤◌}
+use Prim.Native.Nat.{ℕ, ◌+◌, ◌-◌, ◌≤◌, ◌<◌}
 use native.Mathlib.Omega.{arith}
 use lib.ListN.{length}
 use lib.Seq.{take_all, length-sets}
-use borrow.Author.Rules.{rules}
 use borrow.Rule.Slice.PartMut.{put_mid}
-use Rattle.machine.specs.Tasks.{fresh, record_length, words_of}
+use Rattle.machine.specs.Tasks.{record_length}
 use Rattle.machine.specs.Table.{node_at, record_at}
 use Rattle.table_record.specs.Coded.{record_of}
 use Rattle.table_layout.proofs.Laws.RecordParts.{record-part-long, record-put}
-use Rattle.call_start.proofs.Filling.{filling, filling-more, filling-done}
+use Rattle.call_start.proofs.Filling.{filling-more, filling-done}
+use Rattle.call_start.proofs.fresh.write_tasks.Invariants.{idle}
 use Rattle.call_start.proofs.fresh.write_tasks.Goals as goal
-
-abbrev idle : List ℕ
-idle = words_of fresh
 
 pub loop-k-init : goal.loop-k-init
 loop-k-init c = (omega arith, refl, refl)
 
--- The record is where it should be, and within the table.
-at-record :
-    (c : goal.After-record_at-at)
-    → let l = c.loop-k in
-    let a = c.args in
-    (c.record_at-at.result ≡ record_at a.slots l.k) × (record_at a.slots l.k + record_length ≤ length
-    l.table)
-at-record c =
-    let l = c.loop-k in
-    (c.record_at-at.ensures, omega (arith, l.invariant.1, c.requires))
+-- The record is within the table.
+record-in : (S : ℕ) {k n tasks : ℕ} → k < tasks → n ≡ record_at S tasks → record_at S k + record_length ≤ n
+record-in S h e = omega (arith, h, e)
 
 pub overflow_add-at : goal.overflow_add-at
-overflow_add-at c = omega (arith, at-record (search))
+overflow_add-at c =
+    let long = c.loop-k.invariant.1 ∙ c.requires in
+    omega (arith, c.record_at-at.ensures, record-in c.args.slots c.loop-k-test.true long)
 
 pub offset_bounds-table-at : goal.offset_bounds-table-at
-offset_bounds-table-at c = omega (arith, at-record (search))
+offset_bounds-table-at c =
+    let long = c.loop-k.invariant.1 ∙ c.requires in
+    omega (arith, c.record_at-at.ensures, record-in c.args.slots c.loop-k-test.true long)
 
 pub slice_bounds-write-end : goal.slice_bounds-write-end
-slice_bounds-write-end c = omega (arith, at-record (search))
+slice_bounds-write-end c =
+    let long = c.loop-k.invariant.1 ∙ c.requires in
+    omega (arith, c.record_at-at.ensures, record-in c.args.slots c.loop-k-test.true long)
 
 pub write-requires : goal.write-requires
 write-requires c =
-    let r : goal.After-record_at-at = search in
-    record-part-long c.loop-k.table r.record_at-at.ensures (at-record r).1
+    let long = c.loop-k.invariant.1 ∙ c.requires in
+    record-part-long c.loop-k.table c.record_at-at.ensures (record-in c.args.slots c.loop-k-test.true long)
 
 pub loop-k-preserved : goal.loop-k-preserved
 loop-k-preserved c =
-    let r : goal.After-record_at-at = search in
     let l = c.loop-k in
     let a = c.args in
-    let w = c.write in
-    let f = c.fresh in
-    let words = w.ensures ∙ ap record_of f.ensures in
-    let at = r.record_at-at.result in
+    let at = c.record_at-at in
+    let words = c.write.ensures ∙ ap record_of c.fresh.ensures in
+    let within = record-in a.slots c.loop-k-test.true (l.invariant.1 ∙ c.requires) in
     let put =
-    ap (put_mid at (at + record_length - at) l.table) words
-    ∙ record-put l.table idle r.record_at-at.ensures refl (at-record r).1 in (
+    ap (put_mid at.result (at.result + record_length - at.result) l.table) words
+    ∙ record-put l.table idle at.ensures refl within in (
       omega arith,
       ap length put ∙ length-sets l.table (record_at a.slots l.k) idle ∙ l.invariant.1,
       rw put

@@ -1,18 +1,12 @@
 use mathlib.Core.Path.{◌≡◌, refl, sym, ap, ◌∙◌}
-use mathlib.Core.List.{List}
-use Prim.Native.Nat.{ℕ, ◌+◌, ◌*◌, ◌-◌, ◌≤◌}
+use Prim.Native.Nat.{◌+◌, ◌*◌, ◌-◌}
 use native.Mathlib.Omega.{arith}
-use lib.ListN.{length}
-use Rattle.machine.specs.Values.{never}
 use Rattle.machine.specs.Tasks.{no_node}
-use Rattle.machine.specs.Table.{node_length, node_words}
+use Rattle.machine.specs.Table.{node_length}
 use Rattle.table_layout.specs.Words.{set_node_in}
-use Rattle.call_start.proofs.Filling.{filling, filling-more, filling-done}
-use borrow.Author.Rules.{rules}
+use Rattle.call_start.proofs.Filling.{filling-more, filling-done}
+use Rattle.call_start.proofs.fresh.write_unused.Invariants.{unused}
 use Rattle.call_start.proofs.fresh.write_unused.Goals as goal
-
-abbrev unused : List ℕ
-unused = node_words no_node no_node never
 
 pub loop-x-init : goal.loop-x-init
 loop-x-init c = (c.requires.0, refl, refl)

@@ -1,16 +1,16 @@
 -- `call_start::fresh::write_unused` meets its contract.
-use mathlib.Core.Path.{◌≡◌, refl, sym, ap, ◌∙◌}
+use mathlib.Core.Path.{◌≡◌}
 use mathlib.Core.List.{List}
-use Prim.Native.Nat.{ℕ, ◌+◌, ◌*◌, ◌-◌, ◌≤◌}
-use native.Mathlib.Omega.{arith}
+use Prim.Native.Nat.{ℕ, ◌*◌, ◌-◌, ◌≤◌}
 use lib.ListN.{length}
 use Rattle.machine.specs.Values.{never}
 use Rattle.machine.specs.Tasks.{no_node}
 use Rattle.machine.specs.Table.{node_length, node_words}
-use Rattle.table_layout.specs.Words.{set_node_in}
-use Rattle.call_start.proofs.Filling.{filling, filling-more, filling-done}
-use borrow.Author.Rules.{rules}
+use Rattle.call_start.proofs.Filling.{filling}
 use Rattle.call_start.proofs.fresh.write_unused.Given as goal
+
+abbrev pub unused : List ℕ
+unused = node_words no_node no_node never
 
 abbrev pub invariant-loop-x : goal.invariant-loop-x
 invariant-loop-x l =
