@@ -1,7 +1,6 @@
 -- The text kept is the front of its array.
 use mathlib.Core.Path.{sym}
 use native.Mathlib.Omega.{arith}
-use borrow.Author.Rules.{rules}
 use lib.Seq.{length-take-le}
 use Rattle.program_command.specs.KeptCommand.{kept_command}
 use Rattle.program_command.proofs.scanned_command.Goals as goal

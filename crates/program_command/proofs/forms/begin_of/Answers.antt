@@ -1,6 +1,5 @@
 -- The three operations, the last one first.
 use mathlib.Core.Path.{◌∙◌}
-use borrow.Author.Rules.{rules}
 use Rattle.program_command.specs.Commands.{begin_of}
 use Rattle.program_command.proofs.forms.begin_of.Goals as goal
 

@@ -1,6 +1,5 @@
 -- Each branch is one case of the definition.
 use mathlib.Core.Path.{sym, ◌∙◌}
-use borrow.Author.Rules.{rules}
 use Rattle.program_command.specs.Commands.{form_of}
 use Rattle.program_command.proofs.forms.form_of.Goals as goal
 

@@ -1,7 +1,6 @@
 -- `program_print::lines::put_bag` meets its contract.
 use mathlib.Core.Path.{refl}
 use native.Mathlib.Omega.{arith}
-use borrow.Author.Rules.{rules}
 use Rattle.text.proofs.Laws.WritingLaws.{written-append}
 use Rattle.text.proofs.Laws.Rows.{tag-length}
 use Rattle.program_print.proofs.Laws.LineLaws.{line-written, bag-length}
@@ -16,7 +15,6 @@ put-requires c =
 
 pub returns : goal.returns
 returns c =
-    line-written refl
-    (written-append (written-append c.put-after_name.ensures c.put_tag-after_tag.ensures)
-    c.put.ensures)
-    (bag-length c.args.tag)
+    let line = written-append (written-append c.put-after_name.ensures c.put_tag-after_tag.ensures) c.put.ensures in
+    let put = line-written refl line (bag-length c.args.tag) in
+    record { written = put.0; upper_bound = put.1 }

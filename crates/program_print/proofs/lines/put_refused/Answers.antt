@@ -1,7 +1,6 @@
 -- `program_print::lines::put_refused` meets its contract.
 use mathlib.Core.Path.{refl}
 use native.Mathlib.Omega.{arith}
-use borrow.Author.Rules.{rules}
 use Rattle.text.proofs.Laws.WritingLaws.{written-append}
 use Rattle.text.proofs.Laws.Decimals.{decimal-length}
 use Rattle.program_print.proofs.Laws.LineLaws.{line-written, refused-length}
@@ -18,7 +17,6 @@ put-requires c =
 pub returns : goal.returns
 returns c =
     let n = c.args.n in
-    line-written refl
-    (written-append (written-append c.put-after_name.ensures c.put_number-after_number.ensures)
-    c.put.ensures)
-    (refused-length n (omega arith))
+    let line = written-append (written-append c.put-after_name.ensures c.put_number-after_number.ensures) c.put.ensures in
+    let put = line-written refl line (refused-length n (omega arith)) in
+    record { written = put.0; upper_bound = put.1 }
