@@ -3,7 +3,6 @@ use Rattle.machine.specs.Shape.{WellFormed}
 use Rattle.table_shape.proofs.Laws.TableWords.{header-long}
 use Rattle.table_shape.proofs.Laws.PassedTable.{table-passed}
 use Rattle.call_begin.proofs.BeginTests.{refused-by-table, refused-by-place, place-passed, begin-refused}
-use borrow.Author.Rules.{rules}
 use Rattle.call_begin.proofs.begin.Goals as goal
 
 pub returns-then-n-ne0 : goal.returns-then-n-ne0

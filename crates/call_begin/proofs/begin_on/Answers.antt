@@ -2,13 +2,17 @@
 use mathlib.Core.Path.{◌≡◌, ap, ◌∙◌}
 use lib.Seq.{sets}
 use Rattle.machine.specs.declared.Reply.TheVariants.{Accepted}
-use Rattle.machine.specs.Table.{node_count, record_at}
+use mathlib.Core.List.{List}
+use Prim.Native.Nat.{ℕ, ◌<◌}
+use Rattle.machine.specs.declared.Stored.{Stored}
+use Rattle.machine.specs.Table.{node_count, task_count, record_at, record_words}
+use Rattle.call_begin.specs.OwnRecord.{WithOwn}
 use Rattle.machine.specs.Calls.{call_refusal}
 use Rattle.machine.specs.Results.{changed_of}
 use Rattle.machine.proofs.Shape.ShapeLaws.{well-linked}
 use Rattle.answers.specs.Refusals.{number_of}
 use Rattle.table_record.specs.declared.Task as Tasks
-use Rattle.table_record.specs.Coded.{record_of}
+use Rattle.table_record.specs.Coded.{record_of, struct_of}
 use Rattle.table_shape.proofs.Laws.TableWords.{record-within}
 use Rattle.call_begin.proofs.BeginTests.{
   refused-by-call,
@@ -20,51 +24,47 @@ use Rattle.call_begin.proofs.BeginTests.{
   argument-passed,
   own-in-place,
 }
-use borrow.Author.Rules.{rules}
 use Rattle.call_begin.proofs.begin_on.Goals as goal
-
-pub task-own-requires : goal.task-own-requires
-task-own-requires c =
-    record-within c.args.table.now c.requires.0.length_passes c.args.task c.requires.1.is_task
-
-pub call_refusal-n-requires : goal.call_refusal-n-requires
-call_refusal-n-requires c =
-    well-linked c.args.table.now c.requires.0
 
 -- The number of the refusal, by the record that was read.
 number :
-    (c : goal.After-call_refusal-n)
-    → let a = c.args in
-    c.call_refusal-n.result ≡ number_of (call_refusal a.table.now a.task a.operation a.side a.argument)
-number c =
-    let a = c.args in
-    c.call_refusal-n.ensures a.table.now
-    (own-in-place a.table.now a.task c.task-own.result c.requires.1.is_task c.task-own.ensures)
+    (ws : List ℕ) (k : ℕ) (own : Tasks.Task) (op side : ℕ) (argument : Stored) {n : ℕ}
+    → k < task_count ws
+    → own ≡ struct_of (record_words ws k)
+    → ((vs : List ℕ) → WithOwn ws k own vs → n ≡ number_of (call_refusal vs k op side argument))
+    → n ≡ number_of (call_refusal ws k op side argument)
+number ws k own op side argument is_task read says = says ws (own-in-place ws k own is_task read)
+
+pub task-own-requires : goal.task-own-requires
+task-own-requires c = record-within c.args.table.now c.requires.0.length_passes c.args.task c.requires.1.is_task
+
+pub call_refusal-n-requires : goal.call_refusal-n-requires
+call_refusal-n-requires c = well-linked c.args.table.now c.requires.0
 
 pub returns-then-n-ne0 : goal.returns-then-n-ne0
 returns-then-n-ne0 c =
-    let r : goal.After-call_refusal-n = search in
     let a = c.args in
     begin-refused a.table.now a.task a.l a.operation a.side a.argument
     (refused-by-call a.table.now a.task a.l a.operation a.side a.argument c.requires.0 c.requires.1
-    (number r) c.if-n-ne0.true)
+    (number a.table.now a.task c.task-own.result a.operation a.side a.argument c.requires.1.is_task c.task-own.ensures
+    c.call_refusal-n.ensures) c.if-n-ne0.true)
 
 pub begun-requires : goal.begun-requires
 begun-requires c =
-    let r : goal.After-call_refusal-n = search in
-    let a = c.args in (
-      operation-low a.table.now a.task a.operation a.side a.argument (number r) c.if-n-ne0.false,
-      side-low a.table.now a.task a.operation a.side a.argument (number r) c.if-n-ne0.false,
-      argument-passed a.table.now a.task a.operation a.side a.argument (number r) c.if-n-ne0.false,
+    let a = c.args in
+    let n =
+    number a.table.now a.task c.task-own.result a.operation a.side a.argument c.requires.1.is_task c.task-own.ensures
+    c.call_refusal-n.ensures in (
+      operation-low a.table.now a.task a.operation a.side a.argument n c.if-n-ne0.false,
+      side-low a.table.now a.task a.operation a.side a.argument n c.if-n-ne0.false,
+      argument-passed a.table.now a.task a.operation a.side a.argument n c.if-n-ne0.false,
     )
 
 pub set_task-requires : goal.set_task-requires
-set_task-requires c =
-    record-within c.args.table.now c.requires.0.length_passes c.args.task c.requires.1.is_task
+set_task-requires c = record-within c.args.table.now c.requires.0.length_passes c.args.task c.requires.1.is_task
 
 pub returns : goal.returns
 returns c =
-    let r : goal.After-call_refusal-n = search in
     let a = c.args in
     let ws = a.table.now in
     ap (changed_of Accepted)
@@ -72,4 +72,5 @@ returns c =
     ∙ ap (λ (t : Tasks.Task). sets ws (record_at (node_count ws) a.task) (record_of t)) c.begun.ensures)
     ∙ begin-accepted ws a.task a.l a.operation a.side a.argument
     (not-refused ws a.task a.l a.operation a.side a.argument c.requires.0 c.requires.1
-    (number r) c.if-n-ne0.false)
+    (number ws a.task c.task-own.result a.operation a.side a.argument c.requires.1.is_task c.task-own.ensures
+    c.call_refusal-n.ensures) c.if-n-ne0.false)

@@ -2,11 +2,14 @@
 -- for its task's words, and the record is the one begun.
 use mathlib.Core.Path.{◌≡◌, ap, ◌∙◌}
 use mathlib.Core.List.{List}
+use mathlib.Core.Option.{none}
 use Prim.Native.Nat.{ℕ}
+use Rattle.machine.specs.declared.Stored.{Stored}
+use Rattle.call_begin.specs.OwnRecord.{WithOwn}
 use Rattle.machine.specs.declared.Reply.TheVariants.{Refused}
 use Rattle.machine.specs.Shape.{sizes_of, Sized, WellFormed, WellLinked}
 use Rattle.machine.specs.Answers.{reply_number}
-use Rattle.machine.specs.Calls.{call_refusal, Changed}
+use Rattle.machine.specs.Calls.{table_refusal, call_refusal, Changed}
 use Rattle.machine.specs.Lent.{lent_to}
 use Rattle.machine.specs.Results.{changed_of}
 use Rattle.machine.proofs.Shape.ShapeLaws.{well_sized}
@@ -31,15 +34,7 @@ use Rattle.call_begin.proofs.BeginTests.{
   same_place,
   placed-there,
 }
-use borrow.Author.Rules.{rules}
 use Rattle.call_begin.proofs.begin_record.Goals as goal
-
-abbrev start : goal.After-lent_refusal-n → goal.Start
-start c = search
-
--- The table with the record in its place.
-abbrev lent : goal.Start → List ℕ
-lent s = lent_to s.args.table.now s.args.task (record_of s.args.own)
 
 -- The number and the words of what it comes to.
 abbrev Gives : Changed → ℕ → Tasks.Task → Type 0
@@ -53,111 +48,111 @@ refused-gives :
 refused-gives own e is = (
   is.1 ∙ ap (λ (d : Changed). reply_number d.reply) e,
   ap record_of is.0 ∙ ap (λ (d : Changed). d.words) e,
-
 )
+
+-- ---- The table with the record in its place, whose tests have passed.
+module _ (ws : List ℕ) (k l op side : ℕ) (own : Tasks.Task) (argument : Stored) where
+  abbrev lent : List ℕ
+  lent = lent_to ws k (record_of own)
+
+  module _ {n : ℕ} (says : n ≡ number_of (table_refusal lent none)) (passed : n ≡ 0) where
+    passes : WellFormed lent
+    passes = table-passed lent says passed
+
+    linked : WellLinked ws
+    linked = lent-linked ws k (record_of own) passes
+
+    sized : Sized (sizes_of ws)
+    sized = (well_sized ws linked.length_passes).sized
+
+    -- There is such a lane and such a task.
+    module _ (placed : Placed ws k l) where
+      there : Placed lent k l
+      there = placed-there ws k own placed
+
+      -- The number of the call's refusal, by the record that is lent.
+      number :
+          {p : ℕ}
+          → ((vs : List ℕ) → WithOwn ws k own vs → p ≡ number_of (call_refusal vs k op side argument))
+          → p ≡ number_of (call_refusal lent k op side argument)
+      number told = told lent (lent-stands ws k own placed.is_task sized)
 
 pub returns-then-n-ne0 : goal.returns-then-n-ne0
 returns-then-n-ne0 c =
-    let t : goal.Then-n-ne0 = search in
-    let s = start (search) in
-    let a = s.args in
+    let a = c.args in
     refused-gives a.own
     (lent-refused a.table.now (record_of a.own) a.task a.l a.operation a.side a.argument _
-    (refused-by-table (lent s) a.task a.l a.operation a.side a.argument
-    t.lent_refusal-n.ensures t.if-n-ne0.true))
+    (refused-by-table (lent_to a.table.now a.task (record_of a.own)) a.task a.l a.operation a.side a.argument
+    c.lent_refusal-n.ensures c.if-n-ne0.true))
     c.refused.ensures
 
--- ---- The tests of the table passed.
-passes : (c : goal.Else-n-ne0) → WellFormed (lent (start (search)))
-passes c = table-passed (lent (start (search))) c.lent_refusal-n.ensures c.if-n-ne0.false
-
-linked : (c : goal.Else-n-ne0) → WellLinked (start (search)).args.table.now
-linked c =
-    let a = (start (search)).args in lent-linked a.table.now a.task (record_of a.own) (passes c)
-
 pub place_refusal-m-requires : goal.place_refusal-m-requires
-place_refusal-m-requires c = header-long (start (search)).args.table.now (linked c).length_passes
+place_refusal-m-requires c =
+    let a = c.args in
+    let l =
+    linked a.table.now a.task a.l a.operation a.side a.own a.argument c.lent_refusal-n.ensures c.if-n-ne0.false in
+    header-long a.table.now l.length_passes
 
 pub returns-then-m-ne0 : goal.returns-then-m-ne0
 returns-then-m-ne0 c =
-    let e : goal.Else-n-ne0 = search in
-    let s = start (search) in
-    let a = s.args in
+    let a = c.args in
     refused-gives a.own
     (lent-refused a.table.now (record_of a.own) a.task a.l a.operation a.side a.argument _
-    (refused-by-place (lent s) a.task a.l a.operation a.side a.argument (passes e)
+    (refused-by-place (lent_to a.table.now a.task (record_of a.own)) a.task a.l a.operation a.side a.argument
+    (passes a.table.now a.task a.l a.operation a.side a.own a.argument c.lent_refusal-n.ensures c.if-n-ne0.false)
     (c.place_refusal-m.ensures ∙ ap number_of (same_place a.table.now a.task a.own a.l)) c.if-m-ne0.true))
     c.refused-then-m-ne0.ensures
 
--- ---- There is such a lane and such a task.
-abbrev passed : goal.Else-m-ne0 → goal.Else-n-ne0
-passed c = search
-
-placed :
-    (c : goal.Else-m-ne0)
-    → let a = (start (passed c).before).args in Placed a.table.now a.task a.l
-placed c =
-    let a = (start (passed c).before).args in
-    place-passed a.table.now a.task a.l c.place_refusal-m.ensures c.if-m-ne0.false
-
-sized : (c : goal.Else-m-ne0) → Sized (sizes_of (start (passed c).before).args.table.now)
-sized c = (well_sized (start (passed c).before).args.table.now (linked (passed c)).length_passes).sized
-
 pub call_refusal-p-requires : goal.call_refusal-p-requires
-call_refusal-p-requires c = linked (passed c)
-
--- The number of the call's refusal, by the record that is lent.
-number :
-    (c : goal.After-call_refusal-p)
-    → let s = start (passed (search)).before in
-    let a = s.args in
-    c.call_refusal-p.result ≡ number_of (call_refusal (lent s) a.task a.operation a.side a.argument)
-number c =
-    let e : goal.Else-m-ne0 = search in
-    let s = start (passed e).before in
-    let a = s.args in
-    c.call_refusal-p.ensures (lent s)
-    (lent-stands a.table.now a.task a.own (placed e).is_task (sized e))
-
-there :
-    (c : goal.Else-m-ne0)
-    → let s = start (passed c).before in Placed (lent s) s.args.task s.args.l
-there c =
-    let a = (start (passed c).before).args in placed-there a.table.now a.task a.own (placed c)
+call_refusal-p-requires c =
+    let a = c.args in
+    linked a.table.now a.task a.l a.operation a.side a.own a.argument c.lent_refusal-n.ensures c.if-n-ne0.false
 
 pub returns-then-p-ne0 : goal.returns-then-p-ne0
 returns-then-p-ne0 c =
-    let r : goal.After-call_refusal-p = search in
-    let e : goal.Else-m-ne0 = search in
-    let s = start (passed e).before in
-    let a = s.args in
+    let a = c.args in
+    let ws = a.table.now in
+    let says = c.lent_refusal-n.ensures in
+    let passed = c.if-n-ne0.false in
+    let placed = place-passed ws a.task a.l c.place_refusal-m.ensures c.if-m-ne0.false in
     refused-gives a.own
-    (lent-refused a.table.now (record_of a.own) a.task a.l a.operation a.side a.argument _
-    (refused-by-call (lent s) a.task a.l a.operation a.side a.argument (passes (passed e)) (there e)
-    (number r) c.if-p-ne0.true))
+    (lent-refused ws (record_of a.own) a.task a.l a.operation a.side a.argument _
+    (refused-by-call (lent_to ws a.task (record_of a.own)) a.task a.l a.operation a.side a.argument
+    (passes ws a.task a.l a.operation a.side a.own a.argument says passed)
+    (there ws a.task a.l a.operation a.side a.own a.argument says passed placed)
+    (number ws a.task a.l a.operation a.side a.own a.argument says passed placed c.call_refusal-p.ensures)
+    c.if-p-ne0.true))
     c.refused-then-p-ne0.ensures
 
 pub begun-t-requires : goal.begun-t-requires
 begun-t-requires c =
-    let r : goal.After-call_refusal-p = search in
-    let s = start (passed (search)).before in
-    let a = s.args in (
-      operation-low (lent s) a.task a.operation a.side a.argument (number r) c.if-p-ne0.false,
-      side-low (lent s) a.task a.operation a.side a.argument (number r) c.if-p-ne0.false,
-      argument-passed (lent s) a.task a.operation a.side a.argument (number r) c.if-p-ne0.false,
+    let a = c.args in
+    let ws = a.table.now in
+    let placed = place-passed ws a.task a.l c.place_refusal-m.ensures c.if-m-ne0.false in
+    let lent = lent_to ws a.task (record_of a.own) in
+    let p =
+    number ws a.task a.l a.operation a.side a.own a.argument c.lent_refusal-n.ensures c.if-n-ne0.false placed
+    c.call_refusal-p.ensures in (
+      operation-low lent a.task a.operation a.side a.argument p c.if-p-ne0.false,
+      side-low lent a.task a.operation a.side a.argument p c.if-p-ne0.false,
+      argument-passed lent a.task a.operation a.side a.argument p c.if-p-ne0.false,
     )
 
 pub returns : goal.returns
 returns c =
-    let r : goal.After-call_refusal-p = search in
-    let e : goal.Else-m-ne0 = search in
-    let s = start (passed e).before in
-    let a = s.args in
+    let a = c.args in
+    let ws = a.table.now in
+    let says = c.lent_refusal-n.ensures in
+    let passed = c.if-n-ne0.false in
+    let placed = place-passed ws a.task a.l c.place_refusal-m.ensures c.if-m-ne0.false in
     let one =
-    lent-accepted a.table.now (record_of a.own) a.task a.l a.operation a.side a.argument
-    (not-refused (lent s) a.task a.l a.operation a.side a.argument (passes (passed e)) (there e)
-    (number r) c.if-p-ne0.false)
-    (sized e) (placed e).is_task in (
+    lent-accepted ws (record_of a.own) a.task a.l a.operation a.side a.argument
+    (not-refused (lent_to ws a.task (record_of a.own)) a.task a.l a.operation a.side a.argument
+    (passes ws a.task a.l a.operation a.side a.own a.argument says passed)
+    (there ws a.task a.l a.operation a.side a.own a.argument says passed placed)
+    (number ws a.task a.l a.operation a.side a.own a.argument says passed placed c.call_refusal-p.ensures)
+    c.if-p-ne0.false)
+    (sized ws a.task a.l a.operation a.side a.own a.argument says passed) placed.is_task in (
       ap (λ (d : Changed). reply_number d.reply) one,
       ap record_of c.begun-t.ensures ∙ ap (λ (d : Changed). d.words) one,
     )

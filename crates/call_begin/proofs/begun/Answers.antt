@@ -1,6 +1,5 @@
 -- `call_begin::begun` meets its contract: a fresh record, at its first step, with the numbers of the call.
 use Rattle.call_begin.proofs.BeginTests.{begun-record}
-use borrow.Author.Rules.{rules}
 use Rattle.call_begin.proofs.begun.Goals as goal
 
 pub returns : goal.returns

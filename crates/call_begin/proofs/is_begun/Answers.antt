@@ -1,11 +1,8 @@
-use mathlib.Core.Path.{◌≡◌, sym, ap, ◌∙◌}
-use mathlib.Core.List.{List}
-use Prim.Native.Nat.{ℕ, ◌≤◌}
+use mathlib.Core.Path.{sym, ap, ◌∙◌}
+use Prim.Native.Nat.{ℕ}
 use native.Mathlib.Omega.{arith}
-use Rattle.machine.specs.Table.{task_count}
 use Rattle.machine.specs.Calls.{is_begun}
 use Rattle.table_shape.proofs.Laws.TableWords.{header-long}
-use Rattle.call_begin.specs.OwnRecord.{WithOwn}
 use Rattle.call_begin.proofs.SeenTests.{begun-ends, begun-here, begun-below}
 use Rattle.call_begin.proofs.is_begun.Goals as goal
 

@@ -1,13 +1,10 @@
 -- `call_begin::is_begun` meets its contract: what the tasks still to test say is what all say.
-use mathlib.Core.Path.{◌≡◌, sym, ap, ◌∙◌}
+use mathlib.Core.Path.{◌≡◌}
 use mathlib.Core.List.{List}
 use Prim.Native.Nat.{ℕ, ◌≤◌}
-use native.Mathlib.Omega.{arith}
 use Rattle.machine.specs.Table.{task_count}
 use Rattle.machine.specs.Calls.{is_begun}
-use Rattle.table_shape.proofs.Laws.TableWords.{header-long}
 use Rattle.call_begin.specs.OwnRecord.{WithOwn}
-use Rattle.call_begin.proofs.SeenTests.{begun-ends, begun-here, begun-below}
 use Rattle.call_begin.proofs.is_begun.Given as goal
 
 abbrev pub invariant-loop-j : goal.invariant-loop-j

@@ -2,7 +2,6 @@
 use mathlib.Core.Path.{ap, ◌∙◌}
 use lib.Dec.{eqb}
 use Rattle.call_begin.proofs.SeenTests.{other-record, push-record}
-use borrow.Author.Rules.{rules}
 use Rattle.call_begin.proofs.is_push_of.Goals as goal
 
 pub returns-then-t-ne-PUSH : goal.returns-then-t-ne-PUSH

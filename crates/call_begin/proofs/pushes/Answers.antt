@@ -5,7 +5,6 @@ use Rattle.machine.specs.Table.{task}
 use Rattle.table_layout.proofs.Laws.Views.{task-read}
 use Rattle.table_shape.proofs.Laws.TableWords.{record-within}
 use Rattle.call_begin.specs.OwnRecord.{is_push_of}
-use borrow.Author.Rules.{rules}
 use Rattle.call_begin.proofs.pushes.Goals as goal
 
 pub returns-then-j-k : goal.returns-then-j-k

@@ -1,5 +1,5 @@
 use mathlib.Core.Path.{◌≡◌, refl, sym, ap, ◌∙◌}
-use Prim.Native.Nat.{ℕ, ◌+◌, ◌-◌, ◌≤◌}
+use Prim.Native.Nat.{ℕ, ◌+◌, ◌-◌}
 use native.Mathlib.Omega.{arith}
 use Rattle.machine.specs.Table.{lane_count}
 use Rattle.machine.specs.Calls.{lanes_below}
@@ -22,19 +22,6 @@ pub stands-requires : goal.stands-requires
 stands-requires c =
     (c.requires, omega (arith, c.loop-l.invariant.1))
 
-pub first_of-says-requires : goal.first_of-says-requires
-first_of-says-requires c = tt
-
--- What the lanes say with the one just walked.
-says-now :
-    (c : goal.After-first_of-says)
-    → let l = c.loop-l in
-    let a = c.args in
-    c.first_of-says.result ≡ standing a.tag (lanes_below a.table.now (l.l + 1))
-says-now c =
-    let a = c.args in
-    c.first_of-says.ensures ∙ one_more a.table.now a.tag c.loop-l.l c.loop-l.invariant.2 c.stands.ensures
-
 pub returns-then-says-eq11 : goal.returns-then-says-eq11
 returns-then-says-eq11 c =
     let a = c.args in
@@ -43,7 +30,8 @@ returns-then-says-eq11 c =
     omega (arith, c.loop-l.invariant.1, c.loop-l-test) in
     let all =
     no-end-stays t a.tag (c.loop-l.l + 1) (lane_count t - (c.loop-l.l + 1))
-    (sym c.if-says-eq11.true ∙ says-now (search)) in
+    (sym c.if-says-eq11.true ∙ c.first_of-says.ensures
+    ∙ one_more t a.tag c.loop-l.l c.loop-l.invariant.2 c.stands.ensures) in
     c.if-says-eq11.true ∙ all ∙ ap (λ (n : ℕ). standing a.tag (lanes_below t n)) left
 
 pub overflow_add-l : goal.overflow_add-l
@@ -51,12 +39,12 @@ overflow_add-l c =
     omega (arith, c.loop-l.invariant.1, (well_sized c.args.table.now c.requires.length_passes).most-lanes)
 
 pub loop-l-preserved : goal.loop-l-preserved
-loop-l-preserved c =
-    (
-      omega arith,
-      c.loop-l.invariant.1,
-      says-now (search),
-    )
+loop-l-preserved c = (
+  omega arith,
+  c.loop-l.invariant.1,
+  c.first_of-says.ensures
+      ∙ one_more c.args.table.now c.args.tag c.loop-l.l c.loop-l.invariant.2 c.stands.ensures,
+)
 
 pub returns : goal.returns
 returns c =

@@ -1,7 +1,6 @@
 -- `call_begin::twice_refusal` meets its contract: the other operations are not refused, a push as `seen_refusal` says.
 use mathlib.Core.Path.{ap, ◌∙◌}
 use mathlib.Core.Option.{none}
-use borrow.Author.Rules.{rules}
 use Rattle.machine.specs.Values.{number}
 use Rattle.machine.specs.Calls.{all_lanes, seen_refusal}
 use Rattle.answers.specs.Refusals.{number_of}
