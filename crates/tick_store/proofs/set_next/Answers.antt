@@ -1,5 +1,4 @@
 -- `tick_store::set_next` meets its contract: both ways of writing a record leave the same words.
-use Rattle.std.proofs.Common.{rules}
 use Rattle.tick_store.proofs.set_next.Goals as goal
 
 pub set_further-requires : goal.set_further-requires

@@ -29,7 +29,7 @@ pub returns : goal.returns
 returns c =
     rw (
       c.set_tick_count.ensures,
-      c.wrapping_add_u32-n.ensures,
+      c.wrapping_add_u32-n.ensures.value,
       c.tick_count.ensures,
       c.set_next.ensures,
       c.set_hat.ensures,
