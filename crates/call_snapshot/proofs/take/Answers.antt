@@ -2,7 +2,6 @@
 use Rattle.machine.specs.Snapshots.{by_columns, take_snapshot}
 use Rattle.table_shape.proofs.Laws.PassedTable.{table-passed}
 use Rattle.call_snapshot.proofs.Laws.Replies.{differ-in-length, refused-with, reply-accepted}
-use borrow.Author.Rules.{rules}
 use Rattle.call_snapshot.proofs.take.Goals as goal
 
 pub returns-then-snapshot-table : goal.returns-then-snapshot-table

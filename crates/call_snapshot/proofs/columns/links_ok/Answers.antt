@@ -1,11 +1,9 @@
 use mathlib.Core.Path.{◌≡◌, sym, ap, ◌∙◌}
-use Prim.Native.Nat.{◌-◌, ◌≤◌}
 use native.Mathlib.Omega.{arith}
 use lib.ListN.{length}
 use Rattle.machine.specs.Shape.{all_below}
 use Rattle.call_snapshot.specs.Promised.{link_ok}
 use Rattle.table_shape.proofs.Laws.Below.{none_below, one-tested}
-use borrow.Author.Rules.{rules}
 use Rattle.call_snapshot.proofs.columns.links_ok.Goals as goal
 
 pub loop-x-init : goal.loop-x-init

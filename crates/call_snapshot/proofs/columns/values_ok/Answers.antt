@@ -1,12 +1,10 @@
 use mathlib.Core.Path.{◌≡◌, sym, ap, ◌∙◌}
-use Prim.Native.Nat.{◌-◌, ◌≤◌}
 use native.Mathlib.Omega.{arith}
 use lib.ListN.{length}
 use Rattle.machine.specs.Shape.{all_below}
 use Rattle.machine.specs.Values.{value_ok}
 use Rattle.call_snapshot.specs.Promised.{stored_ok}
 use Rattle.table_shape.proofs.Laws.Below.{none_below, one-tested}
-use borrow.Author.Rules.{rules}
 use Rattle.call_snapshot.proofs.columns.values_ok.Goals as goal
 
 pub loop-x-init : goal.loop-x-init

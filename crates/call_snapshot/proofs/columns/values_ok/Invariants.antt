@@ -1,13 +1,9 @@
 -- The invariant: the flag is the test of all values before the loop's number.
-use mathlib.Core.Path.{◌≡◌, sym, ap, ◌∙◌}
+use mathlib.Core.Path.{◌≡◌}
 use Prim.Native.Nat.{◌-◌, ◌≤◌}
-use native.Mathlib.Omega.{arith}
 use lib.ListN.{length}
 use Rattle.machine.specs.Shape.{all_below}
-use Rattle.machine.specs.Values.{value_ok}
 use Rattle.call_snapshot.specs.Promised.{stored_ok}
-use Rattle.table_shape.proofs.Laws.Below.{none_below, one-tested}
-use borrow.Author.Rules.{rules}
 use Rattle.call_snapshot.proofs.columns.values_ok.Given as goal
 
 abbrev pub invariant-loop-x : goal.invariant-loop-x

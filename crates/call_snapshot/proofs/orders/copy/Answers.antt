@@ -1,10 +1,8 @@
-use mathlib.Core.Path.{◌≡◌, refl, sym, ◌∙◌}
-use Prim.Native.Nat.{◌-◌, ◌≤◌}
+use mathlib.Core.Path.{refl, sym, ◌∙◌}
 use native.Mathlib.Omega.{arith}
-use lib.ListN.{length, take, length-set}
+use lib.ListN.{length-set}
 use lib.Seq.{take_all}
 use Rattle.call_snapshot.proofs.Laws.Fronts.{one-copied}
-use borrow.Author.Rules.{rules}
 use Rattle.call_snapshot.proofs.orders.copy.Goals as goal
 
 pub loop-i-init : goal.loop-i-init
@@ -12,8 +10,7 @@ loop-i-init c = (omega arith, refl, refl)
 
 pub loop-i-preserved : goal.loop-i-preserved
 loop-i-preserved c =
-    let l = c.loop-i in
-    (
+    let l = c.loop-i in (
       omega arith,
       length-set l.to l.i _ ∙ l.invariant.1,
       one-copied c.args.from.now l.to l.i (omega arith) (omega (arith, l.invariant.1, c.requires)) l.invariant.2,

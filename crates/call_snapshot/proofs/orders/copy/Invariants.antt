@@ -1,11 +1,7 @@
 -- The invariant: the words before the loop's number are copied.
-use mathlib.Core.Path.{◌≡◌, refl, sym, ◌∙◌}
+use mathlib.Core.Path.{◌≡◌}
 use Prim.Native.Nat.{◌-◌, ◌≤◌}
-use native.Mathlib.Omega.{arith}
-use lib.ListN.{length, take, length-set}
-use lib.Seq.{take_all}
-use Rattle.call_snapshot.proofs.Laws.Fronts.{one-copied}
-use borrow.Author.Rules.{rules}
+use lib.ListN.{length, take}
 use Rattle.call_snapshot.proofs.orders.copy.Given as goal
 
 abbrev pub invariant-loop-i : goal.invariant-loop-i

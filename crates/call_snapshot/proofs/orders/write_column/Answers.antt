@@ -1,15 +1,13 @@
 use mathlib.Core.Path.{◌≡◌, refl, sym, ap, ◌∙◌}
 use mathlib.Core.List.{List}
-use Prim.Native.Nat.{ℕ, ◌+◌, ◌*◌, ◌-◌, ◌≤◌}
+use Prim.Native.Nat.{ℕ, ◌+◌, ◌*◌, ◌≤◌, ◌<◌}
 use native.Mathlib.Omega.{arith}
-use lib.ListN.{length, get_or, take, drop, length-set}
+use lib.ListN.{length, get_or, drop, length-set}
 use lib.Seq.{take_all}
 use Rattle.machine.specs.Table.{node_length}
 use Rattle.call_snapshot.specs.Promised.{column_of}
 use Rattle.table_shape.proofs.Laws.FirstNode.{moved_on}
 use Rattle.call_snapshot.proofs.Laws.Fronts.{nothing-listed, one-listed, node-left, next-left, word-left}
-use borrow.Author.Rules.{rules}
-use Rattle.call_snapshot.proofs.orders.write_column.Invariants.{Turn}
 use Rattle.call_snapshot.proofs.orders.write_column.Goals as goal
 
 pub loop-x-init : goal.loop-x-init
@@ -22,20 +20,31 @@ loop-x-init c =
     }
 
 -- The words left begin with a node.
-words_left : (c : goal.In-loop-x) → node_length ≤ length c.loop-x.rest
-words_left c =
-    let l = c.loop-x in
-    node-left c.args.ns.now l.x l.invariant.rest-is (omega (arith, l.invariant.column-long, c.requires))
+words_left : (ns : List ℕ) (x : ℕ) {rest : List ℕ} {n m : ℕ} → rest ≡ drop (node_length * x) ns → x < n → n ≡ m
+    → length ns ≡ node_length * m → node_length ≤ length rest
+words_left ns x is h e long = node-left ns x is (omega (arith, h, e, long))
 
 pub bounds-rest-c : goal.bounds-rest-c
 bounds-rest-c c =
-    omega (arith, words_left (search), c.requires)
+    let l = c.loop-x in
+    let T = l.invariant in
+    omega (
+      arith,
+      words_left c.args.ns.now l.x T.rest-is c.loop-x-test.true T.column-long c.requires.1,
+      c.requires,
+    )
 
 pub slice_bounds-rest-count-in-loop-x : goal.slice_bounds-rest-count-in-loop-x
-slice_bounds-rest-count-in-loop-x c = words_left (search)
+slice_bounds-rest-count-in-loop-x c =
+    let l = c.loop-x in
+    let T = l.invariant in
+    words_left c.args.ns.now l.x T.rest-is c.loop-x-test.true T.column-long c.requires.1
 
 pub slice_bounds-rest-start-in-loop-x : goal.slice_bounds-rest-start-in-loop-x
-slice_bounds-rest-start-in-loop-x c = words_left (search)
+slice_bounds-rest-start-in-loop-x c =
+    let l = c.loop-x in
+    let T = l.invariant in
+    words_left c.args.ns.now l.x T.rest-is c.loop-x-test.true T.column-long c.requires.1
 
 pub loop-x-smaller : goal.loop-x-smaller
 loop-x-smaller c =

@@ -1,15 +1,10 @@
 -- The invariant: the words before the loop's number are the column's, and what is left are the nodes from there on.
-use mathlib.Core.Path.{◌≡◌, refl, sym, ap, ◌∙◌}
+use mathlib.Core.Path.{◌≡◌}
 use mathlib.Core.List.{List}
-use Prim.Native.Nat.{ℕ, ◌+◌, ◌*◌, ◌-◌, ◌≤◌}
-use native.Mathlib.Omega.{arith}
-use lib.ListN.{length, get_or, take, drop, length-set}
-use lib.Seq.{take_all}
+use Prim.Native.Nat.{ℕ, ◌*◌, ◌-◌, ◌≤◌}
+use lib.ListN.{length, take, drop}
 use Rattle.machine.specs.Table.{node_length}
 use Rattle.call_snapshot.specs.Promised.{column_of}
-use Rattle.table_shape.proofs.Laws.FirstNode.{moved_on}
-use Rattle.call_snapshot.proofs.Laws.Fronts.{nothing-listed, one-listed, node-left, next-left, word-left}
-use borrow.Author.Rules.{rules}
 use Rattle.call_snapshot.proofs.orders.write_column.Given as goal
 
 -- What holds before each turn.

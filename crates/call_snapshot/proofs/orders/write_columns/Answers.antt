@@ -1,21 +1,15 @@
 use mathlib.Core.Path.{◌≡◌, refl, sym, ap, ◌∙◌}
-use mathlib.Core.List.{List}
-use Prim.Native.Nat.{ℕ, ◌+◌, ◌*◌, ◌-◌, ◌≤◌}
+use Prim.Native.Nat.{ℕ, ◌+◌, ◌*◌, ◌-◌, ◌≤◌, ◌<◌}
 use native.Mathlib.Omega.{arith}
-use lib.ListN.{length, get_or, take}
+use lib.ListN.{length}
 use lib.Seq.{take_all}
 use borrow.Rule.Slice.PartMut.{mid_len, same_len_mid}
 use Rattle.machine.specs.Table.{node_length}
 use Rattle.machine.specs.Snapshots.{rows, transposed}
 use Rattle.call_snapshot.specs.Promised.{column_of}
 use Rattle.call_snapshot.proofs.Laws.Fronts.{no_row, one-column, column-starts, column-ends}
-use borrow.Author.Rules.{rules}
-use Rattle.call_snapshot.proofs.orders.write_columns.Invariants.{Turn}
+use Rattle.call_snapshot.proofs.orders.write_columns.Invariants.{word_in}
 use Rattle.call_snapshot.proofs.orders.write_columns.Goals as goal
-
--- Word c of node x.
-abbrev word_in : List ℕ → (c x : ℕ) → ℕ
-word_in ns c x = get_or ns (node_length * x + c) 0
 
 pub loop-c-init : goal.loop-c-init
 loop-c-init c =
@@ -27,31 +21,36 @@ loop-c-init c =
     }
 
 -- The column is within the words of four.
-within :
-    (c : goal.In-loop-c)
-    → let a = c.args in
-    c.loop-c.at + a.slots ≤ node_length * a.slots
-within c =
-    let l = c.loop-c in
-    column-ends c.args.slots l.c l.at l.invariant.place_is (omega arith)
+within : (slots k at : ℕ) → k < node_length → at ≡ slots * k → at + slots ≤ node_length * slots
+within slots k at h place = column-ends slots k at place (omega (arith, h))
 
 pub overflow_add-end : goal.overflow_add-end
-overflow_add-end c = omega (arith, within c)
+overflow_add-end c =
+    let l = c.loop-c in
+    omega (arith, within c.args.slots l.c l.at c.loop-c-test.true l.invariant.place_is)
 
 pub offset_bounds-columns-at : goal.offset_bounds-columns-at
-offset_bounds-columns-at c = omega (arith, within c)
+offset_bounds-columns-at c =
+    let l = c.loop-c in
+    omega (arith, within c.args.slots l.c l.at c.loop-c-test.true l.invariant.place_is)
 
 pub slice_bounds-write_column-end : goal.slice_bounds-write_column-end
 slice_bounds-write_column-end c =
-    omega (arith, within c, c.loop-c.invariant.columns-long, c.requires)
+    let l = c.loop-c in
+    omega (
+      arith,
+      within c.args.slots l.c l.at c.loop-c-test.true l.invariant.place_is,
+      l.invariant.columns-long,
+      c.requires,
+    )
 
 pub loop-c-preserved : goal.loop-c-preserved
 loop-c-preserved c =
-    let turn : goal.In-loop-c = search in
-    let l = turn.loop-c in
+    let l = c.loop-c in
     let a = c.args in
+    let ends = within a.slots l.c l.at c.loop-c-test.true l.invariant.place_is in
     let ys = c.write_column.new.column in
-    let fits : l.at + a.slots ≤ length l.columns = omega (arith, within turn, l.invariant.columns-long, c.requires) in
+    let fits : l.at + a.slots ≤ length l.columns = omega (arith, ends, l.invariant.columns-long, c.requires) in
     let part = mid_len l.at (l.at + a.slots) l.columns fits in
     let n : (l.at + a.slots) - l.at ≡ a.slots = omega arith in
     let long : length ys ≡ a.slots = c.write_column.auto.column ∙ part ∙ n in record {

@@ -1,17 +1,15 @@
 -- The invariant: the columns before the loop's number are written, one after another.
-use mathlib.Core.Path.{◌≡◌, refl, sym, ap, ◌∙◌}
+use mathlib.Core.Path.{◌≡◌}
 use mathlib.Core.List.{List}
 use Prim.Native.Nat.{ℕ, ◌+◌, ◌*◌, ◌-◌, ◌≤◌}
-use native.Mathlib.Omega.{arith}
 use lib.ListN.{length, get_or, take}
-use lib.Seq.{take_all}
-use borrow.Rule.Slice.PartMut.{mid_len, same_len_mid}
 use Rattle.machine.specs.Table.{node_length}
-use Rattle.machine.specs.Snapshots.{rows, transposed}
-use Rattle.call_snapshot.specs.Promised.{column_of}
-use Rattle.call_snapshot.proofs.Laws.Fronts.{no_row, one-column, column-starts, column-ends}
-use borrow.Author.Rules.{rules}
+use Rattle.machine.specs.Snapshots.{rows}
 use Rattle.call_snapshot.proofs.orders.write_columns.Given as goal
+
+-- Word c of node x.
+abbrev pub word_in : List ℕ → (c x : ℕ) → ℕ
+word_in ns c x = get_or ns (node_length * x + c) 0
 
 -- What holds before each turn.
 pub record Turn (ns columns₀ columns : List ℕ) (slots at c : ℕ) : Type 0 where

@@ -1,19 +1,14 @@
 use mathlib.Core.Path.{◌≡◌, refl, sym, ap, ◌∙◌}
-use mathlib.Core.List.{List}
-use Prim.Native.Nat.{ℕ, ◌+◌, ◌*◌, ◌-◌, ◌≤◌}
+use Prim.Native.Nat.{◌+◌, ◌*◌}
 use native.Mathlib.Omega.{arith}
-use lib.ListN.{length, get_or, take}
+use lib.ListN.{take}
 use lib.Seq.{take_all, length-take-le}
 use Rattle.machine.specs.Table.{node_length}
 use Rattle.machine.specs.Snapshots.{rows, transposed}
 use Rattle.table_layout.specs.Words.{set_node_in}
 use Rattle.call_snapshot.proofs.Laws.Fronts.{no_row, in_left, node-words, one-node}
-use borrow.Author.Rules.{rules}
+use Rattle.call_snapshot.proofs.orders.write_nodes.Invariants.{word_in}
 use Rattle.call_snapshot.proofs.orders.write_nodes.Goals as goal
-
--- Word c of node x, in columns of n words.
-abbrev word_in : (n : ℕ) → List ℕ → (x c : ℕ) → ℕ
-word_in n cs x c = get_or cs (n * c + x) 0
 
 pub slice_bounds-left-end : goal.slice_bounds-left-end
 slice_bounds-left-end c =

@@ -1,16 +1,15 @@
 -- The invariant: the nodes before the loop's number are written, each with its word of every column.
-use mathlib.Core.Path.{◌≡◌, refl, sym, ap, ◌∙◌}
+use mathlib.Core.Path.{◌≡◌}
 use mathlib.Core.List.{List}
 use Prim.Native.Nat.{ℕ, ◌+◌, ◌*◌, ◌-◌, ◌≤◌}
-use native.Mathlib.Omega.{arith}
 use lib.ListN.{length, get_or, take}
-use lib.Seq.{take_all, length-take-le}
 use Rattle.machine.specs.Table.{node_length}
-use Rattle.machine.specs.Snapshots.{rows, transposed}
-use Rattle.table_layout.specs.Words.{set_node_in}
-use Rattle.call_snapshot.proofs.Laws.Fronts.{no_row, in_left, node-words, one-node}
-use borrow.Author.Rules.{rules}
+use Rattle.machine.specs.Snapshots.{rows}
 use Rattle.call_snapshot.proofs.orders.write_nodes.Given as goal
+
+-- Word c of node x, in columns of n words.
+abbrev pub word_in : (n : ℕ) → List ℕ → (x c : ℕ) → ℕ
+word_in n cs x c = get_or cs (n * c + x) 0
 
 abbrev pub invariant-loop-x : goal.invariant-loop-x
 invariant-loop-x l =
