@@ -7,7 +7,19 @@ use Rattle.machine.specs.Values.{bag_ok}
 use Rattle.machine.specs.Table.{hat, link, value_words}
 use Rattle.machine.specs.Calls.{lane}
 use Rattle.lane_walk.proofs.Laws.Nodes.{header-room, next-in}
-use Rattle.lane_walk.proofs.Laws.Places.{counting-begins, counting-ends, counting-at-none, counting-at-no-bag, counting-at-bag, begins-at, begins-there, gone-on, had-next, located-nowhere, located-there}
+use Rattle.lane_walk.proofs.Laws.Places.{
+  counting-begins,
+  counting-ends,
+  counting-at-none,
+  counting-at-no-bag,
+  counting-at-bag,
+  begins-at,
+  begins-there,
+  gone-on,
+  had-next,
+  located-nowhere,
+  located-there,
+}
 use Rattle.lane_walk.proofs.locate.Goals as goal
 
 -- What the test of a node's value tells.

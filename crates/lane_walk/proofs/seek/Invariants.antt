@@ -12,7 +12,8 @@ abbrev pub invariant-loop-n : goal.invariant-loop-n
 invariant-loop-n l =
     (l.n ≤ node_count l.table)
     × NodeOrNone (node_count l.table) l.x
-    × (tallied l.sought l.n l.found (lane_from l.table (node_count l.table - l.n) l.x) ≡ walk_of l.sought (lane l.table l.l))
+    × (tallied l.sought l.n l.found (lane_from l.table (node_count l.table - l.n) l.x)
+    ≡ walk_of l.sought (lane l.table l.l))
 
 abbrev pub decreases-loop-n : goal.decreases-loop-n
 decreases-loop-n l = l.slots - l.n

@@ -20,14 +20,17 @@ lane_low ws z e h = omega (arith, h, e, z.most-lanes)
 
 pub hat-left-requires : goal.hat-left-requires
 hat-left-requires c =
-    let z = c.requires.well_sized in (omega (arith, z.sized), lane_low c.args.table.now z c.lanes-count.ensures c.loop-l-test.true, omega arith)
+    let z = c.requires.well_sized in
+    (omega (arith, z.sized), lane_low c.args.table.now z c.lanes-count.ensures c.loop-l-test.true, omega arith)
 
 pub hat-right-requires : goal.hat-right-requires
 hat-right-requires c =
-    let z = c.requires.well_sized in (omega (arith, z.sized), lane_low c.args.table.now z c.lanes-count.ensures c.loop-l-test.true, omega arith)
+    let z = c.requires.well_sized in
+    (omega (arith, z.sized), lane_low c.args.table.now z c.lanes-count.ensures c.loop-l-test.true, omega arith)
 
 pub overflow_add-l : goal.overflow_add-l
-overflow_add-l c = omega (arith, lane_low c.args.table.now c.requires.well_sized c.lanes-count.ensures c.loop-l-test.true)
+overflow_add-l c =
+    omega (arith, lane_low c.args.table.now c.requires.well_sized c.lanes-count.ensures c.loop-l-test.true)
 
 pub loop-l-smaller : goal.loop-l-smaller
 loop-l-smaller c = omega (arith, c.loop-l-test.true)

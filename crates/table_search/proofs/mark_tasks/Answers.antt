@@ -25,7 +25,8 @@ mark_held-tail-requires c =
     (c.held-held.ensures, c.loop-k.invariant.1)
 
 pub overflow_add-k : goal.overflow_add-k
-overflow_add-k c = omega (arith, c.requires.well_sized.sized, task-low c.args.table.now c.tasks-count.ensures c.loop-k-test.true)
+overflow_add-k c =
+    omega (arith, c.requires.well_sized.sized, task-low c.args.table.now c.tasks-count.ensures c.loop-k-test.true)
 
 pub loop-k-smaller : goal.loop-k-smaller
 loop-k-smaller c = omega (arith, c.loop-k-test.true)

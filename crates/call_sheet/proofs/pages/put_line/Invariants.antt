@@ -1,27 +1,12 @@
 -- `call_sheet::pages::put_line` meets its contract. The loop's invariant: the line of the tags so far is written.
-use mathlib.Core.Path.{◌≡◌, refl, sym, ap, ◌∙◌, subst}
-use mathlib.Core.Bool.{true}
+use mathlib.Core.Path.{◌≡◌}
 use mathlib.Core.List.{List}
-use Prim.Native.Nat.{ℕ, ◌+◌, ◌*◌, ◌-◌, ◌≤◌, ◌<◌, min}
-use native.Mathlib.Omega.{arith}
-use borrow.Author.Rules.{rules}
+use Prim.Native.Nat.{ℕ, ◌-◌, ◌≤◌}
 use lib.ListN.{length, take}
 use lib.Seq.{sets}
-use Rattle.text_page.specs.Page.{line, cell_length, cells, per_line}
-use Rattle.machine.specs.declared.Stored.{Stored}
-use Rattle.machine.specs.Values.{bag_ok}
-use Rattle.machine.specs.Table.{node_count, value_words}
+use Rattle.text_page.specs.Page.{line, cells}
 use Rattle.lane_walk.specs.Walks.{ahead, node_after}
-use Rattle.lane_walk.proofs.Laws.Places.{TagAt, begins-at, gone-on}
 use Rattle.call_sheet.specs.Found.{tags_found}
-use Rattle.call_sheet.proofs.Laws.Walked.{
-  tags-left,
-  next-tag,
-  digit-fits,
-  low_fits,
-  words-tag,
-}
-use Rattle.call_sheet.proofs.Laws.Written.{line-begun, line-done, tag-put}
 use Rattle.call_sheet.proofs.pages.put_line.Given as goal
 
 -- What holds before each turn.

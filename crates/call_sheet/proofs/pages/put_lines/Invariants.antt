@@ -1,18 +1,14 @@
 -- `call_sheet::pages::put_lines` meets its contract. The loop's invariant: storing the lines left gives what storing
 -- all gives.
-use mathlib.Core.Path.{◌≡◌, refl, sym, ap, ◌∙◌}
+use mathlib.Core.Path.{◌≡◌}
 use mathlib.Core.Option.{some}
 use mathlib.Core.List.{List}
 use Prim.Native.Nat.{ℕ, ◌*◌, ◌-◌, ◌≤◌}
-use native.Mathlib.Omega.{arith}
-use borrow.Author.Rules.{rules}
 use lib.ListN.{length}
 use lib.Seq.{sets}
-use Rattle.text_page.specs.Page.{line_count, line_length, per_line, tag_line_count, tag_lines}
+use Rattle.text_page.specs.Page.{line_count, line_length, tag_line_count, tag_lines}
 use Rattle.lane_walk.specs.Walks.{ahead, count_of}
 use Rattle.call_sheet.specs.Found.{tags_found}
-use Rattle.call_sheet.proofs.Laws.Walked.{others-left, walked_others}
-use Rattle.call_sheet.proofs.Laws.Written.{lines_next, lines_end}
 use Rattle.call_sheet.proofs.pages.put_lines.Given as goal
 
 -- What holds before each turn.

@@ -1,5 +1,4 @@
 -- `call_sheet::pages::put_page` meets its contract: the heading and the lines after it are the whole slice.
-use borrow.Author.Rules.{rules}
 use Rattle.lane_walk.specs.Walks.{ahead}
 use Rattle.call_sheet.specs.Found.{tags_found}
 use Rattle.call_sheet.proofs.Laws.Written.{page-stored}

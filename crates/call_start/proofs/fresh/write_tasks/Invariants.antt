@@ -15,7 +15,8 @@ abbrev pub invariant-loop-k : goal.invariant-loop-k
 invariant-loop-k l =
     (l.k ≤ l.tasks)
     × (length l.table ≡ length l.initial.table)
-    × (filling l.table (record_at l.slots l.k) (l.tasks - l.k) idle ≡ filling l.initial.table (record_at l.slots 0) (l.tasks - 0) idle)
+    × (filling l.table (record_at l.slots l.k) (l.tasks - l.k) idle
+    ≡ filling l.initial.table (record_at l.slots 0) (l.tasks - 0) idle)
 
 abbrev pub decreases-loop-k : goal.decreases-loop-k
 decreases-loop-k l = l.tasks - l.k

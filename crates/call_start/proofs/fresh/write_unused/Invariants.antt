@@ -16,7 +16,8 @@ abbrev pub invariant-loop-x : goal.invariant-loop-x
 invariant-loop-x l =
     (l.x ≤ l.slots)
     × (length l.ns ≡ length l.initial.ns)
-    × (filling l.ns (node_length * l.x) (l.slots - l.x) unused ≡ filling l.initial.ns (node_length * l.first) (l.slots - l.first) unused)
+    × (filling l.ns (node_length * l.x) (l.slots - l.x) unused
+    ≡ filling l.initial.ns (node_length * l.first) (l.slots - l.first) unused)
 
 abbrev pub decreases-loop-x : goal.decreases-loop-x
 decreases-loop-x l = l.slots - l.x
