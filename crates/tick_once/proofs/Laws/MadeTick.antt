@@ -17,19 +17,7 @@ use Rattle.machine.specs.Values.{number}
 use Rattle.machine.specs.Operations.{operation_of, argument_ok, goal_of}
 use Rattle.machine.specs.Steps.{line28, line31, step_of, is_step_in}
 use Rattle.machine.specs.Tasks.{Task, no_node, words_of, goal}
-use Rattle.machine.specs.Table.{
-  node_length,
-  record_at,
-  node_count,
-  growth,
-  lane_count,
-  most_lanes,
-  task_count,
-  hat,
-  node_part,
-  record_words,
-  task,
-}
+use Rattle.machine.specs.Table.{node_length, record_at, node_count, growth, lane_count, most_lanes, task_count, hat, node_part, record_words}
 use Rattle.machine.specs.Allocate.{allocate}
 use Rattle.machine.specs.Lines.{Effect, write_all}
 use Rattle.machine.specs.Answers.{refusal_of, is_going}

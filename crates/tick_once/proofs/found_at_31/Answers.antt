@@ -1,6 +1,5 @@
 -- `tick_once::found_at_31` meets its contract: D decides whether there is a search.
 use Rattle.machine.proofs.Basics.Choices.{test-equal, test-unequal}
-use borrow.Author.Rules.{rules}
 use Rattle.tick_once.proofs.found_at_31.Goals as goal
 
 pub returns-then-d-eq-NONE : goal.returns-then-d-eq-NONE
