@@ -2,7 +2,6 @@
 use mathlib.Core.Path.{◌∙◌}
 use Rattle.table_shape.proofs.Laws.PassedTable.{table-passed}
 use Rattle.tick_once.proofs.Laws.TickTests.{tick-refused, tick-goes-on}
-use borrow.Author.Rules.{rules}
 use Rattle.call_tick.proofs.tick.Goals as goal
 
 pub returns-then-n-ne0 : goal.returns-then-n-ne0

@@ -2,7 +2,6 @@
 use Rattle.table_shape.proofs.Laws.PassedTable.{table-passed}
 use Rattle.tick_once.proofs.Laws.TickTests.{ticks-refused}
 use Rattle.call_tick.proofs.Laws.ConsecutiveTicks.{none_left}
-use borrow.Author.Rules.{rules}
 use Rattle.call_tick.proofs.ticks.Goals as goal
 
 pub returns-then-times-eq0 : goal.returns-then-times-eq0

@@ -1,15 +1,11 @@
 -- `call_tick::consecutive::ticks_on` meets its contract. The loop's invariant: the ticks that are left give what all
 -- give.
-use mathlib.Core.Path.{◌≡◌, refl, sym, ap, ◌∙◌}
+use mathlib.Core.Path.{◌≡◌}
 use mathlib.Core.List.{List}
-use Prim.Native.Nat.{ℕ, suc, ◌+◌, ◌-◌, ◌≤◌}
-use native.Mathlib.Omega.{arith}
+use Prim.Native.Nat.{ℕ, ◌-◌, ◌≤◌}
 use lib.ListN.{length}
-use borrow.Author.Rules.{rules}
-use borrow.Author.Tests.{not-true, not-false}
 use Rattle.machine.specs.Shape.{WellFormed}
 use Rattle.machine.specs.Calls.{ticks}
-use Rattle.call_tick.proofs.Laws.ConsecutiveTicks.{tick-passed, goes_on, is_last, none_left}
 use Rattle.call_tick.proofs.consecutive.ticks_on.Given as goal
 
 -- What holds before each turn.

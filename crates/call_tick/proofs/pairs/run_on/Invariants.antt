@@ -1,23 +1,11 @@
 -- `call_tick::pairs::run_on` meets its contract: the ticks made and the run of the pairs ahead are the run of the list.
-use mathlib.Core.Path.{◌≡◌, refl, sym, ap, ◌∙◌}
+use mathlib.Core.Path.{◌≡◌}
 use mathlib.Core.List.{List}
-use Prim.Native.Nat.{ℕ, ◌+◌, ◌*◌, ◌<◌, ◌≤◌}
-use native.Mathlib.Omega.{arith}
-use lib.ListN.{length, length-drop}
-use borrow.Author.Rules.{rules}
-use Rattle.machine.specs.Answers.{answer_length}
+use Prim.Native.Nat.{ℕ, ◌+◌, ◌*◌}
+use lib.ListN.{length}
 use Rattle.machine.specs.Calls.{run_on}
 use Rattle.machine.specs.Shape.{WellFormed}
-use Rattle.table_shape.proofs.Laws.FirstNode.{moved_on}
-use Rattle.call_tick.proofs.Laws.ConsecutiveTicks.{tick-passed}
-use Rattle.call_tick.proofs.Laws.RunWords.{
-  ahead,
-  tick-tag,
-  run-begins,
-  run_ends,
-  run-refused,
-  run-made,
-}
+use Rattle.call_tick.proofs.Laws.RunWords.{ahead}
 use Rattle.call_tick.proofs.pairs.run_on.Given as goal
 
 -- What holds before each turn.

@@ -2,7 +2,6 @@
 use mathlib.Core.Path.{refl}
 use mathlib.Core.List.{[], ◌∷◌}
 use native.Mathlib.Omega.{arith}
-use borrow.Author.Rules.{rules}
 use Rattle.machine.specs.Calls.{tick_on}
 use Rattle.call_tick.proofs.Laws.OnePair.{pair-refused, pair-said, pair_made}
 use Rattle.call_tick.proofs.pairs.tick_on.Goals as goal
