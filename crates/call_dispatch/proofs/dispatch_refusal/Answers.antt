@@ -1,10 +1,8 @@
 -- `call_dispatch::dispatch_refusal` meets its contract: refusals 3 and 4, then 9, or none.
 use native.Mathlib.Omega.{arith}
-use Rattle.machine.specs.Shape.{WellFormed}
 use Rattle.table_shape.proofs.Laws.PassedTable.{table-passed}
 use Rattle.table_shape.proofs.Laws.TableWords.{header-long}
 use Rattle.call_dispatch.proofs.DispatchRefusals.{is-3-or-4, is-9, is_none}
-use borrow.Author.Rules.{rules}
 use Rattle.call_dispatch.proofs.dispatch_refusal.Goals as goal
 
 pub returns-then-n-ne0 : goal.returns-then-n-ne0
@@ -12,23 +10,20 @@ returns-then-n-ne0 c =
     let a = c.args in
     is-3-or-4 a.table.now c.table_refusal-n.ensures c.if-n-ne0.true a.hint
 
--- The table has passed 3 and 4.
-is-well-formed : (c : goal.Else-n-ne0) → WellFormed c.args.table.now
-is-well-formed c =
-    table-passed c.args.table.now c.table_refusal-n.ensures c.if-n-ne0.false
-
 pub slots-requires : goal.slots-requires
 slots-requires c =
-    header-long c.args.table.now (is-well-formed c).length_passes
+    let a = c.args in
+    let passed = table-passed a.table.now c.table_refusal-n.ensures c.if-n-ne0.false in
+    header-long a.table.now passed.length_passes
 
 pub returns-then-slots-hint : goal.returns-then-slots-hint
 returns-then-slots-hint c =
-    let e : goal.Else-n-ne0 = search in
     let a = c.args in
-    is-9 a.table.now (is-well-formed e) a.hint (omega (arith, c.slots.ensures, c.if-slots-hint.true))
+    let passed = table-passed a.table.now c.table_refusal-n.ensures c.if-n-ne0.false in
+    is-9 a.table.now passed a.hint (omega (arith, c.slots.ensures, c.if-slots-hint.true))
 
 pub returns : goal.returns
 returns c =
-    let e : goal.Else-n-ne0 = search in
     let a = c.args in
-    is_none a.table.now (is-well-formed e) a.hint (omega (arith, c.slots.ensures, c.if-slots-hint.false))
+    let passed = table-passed a.table.now c.table_refusal-n.ensures c.if-n-ne0.false in
+    is_none a.table.now passed a.hint (omega (arith, c.slots.ensures, c.if-slots-hint.false))

@@ -1,7 +1,6 @@
 -- `call_dispatch::dispatches` meets its contract: none asked for, refusals 3, 4 and 9, then `dispatches_on`.
 use Rattle.call_dispatch.proofs.DispatchRefusals.{none-refused}
 use Rattle.call_dispatch.proofs.ConsecutiveDispatches.{none_left, all-refused}
-use borrow.Author.Rules.{rules}
 use Rattle.call_dispatch.proofs.dispatches.Goals as goal
 
 pub returns-then-times-eq0 : goal.returns-then-times-eq0

@@ -1,14 +1,7 @@
 -- `call_run::list_refusal` meets its contract: each test is the definition's.
-use borrow.Author.Rules.{rules}
-use Rattle.machine.specs.Shape.{WellFormed}
 use Rattle.table_shape.proofs.Laws.PassedTable.{table-passed}
 use Rattle.call_run.proofs.RunTests.{list-3-4, list-13-odd, list-13-long, list-passes}
 use Rattle.call_run.proofs.list_refusal.Goals as goal
-
--- The table has passed 3 and 4.
-is-well-formed : (c : goal.Else-refusal-ne0) → WellFormed c.args.table.now
-is-well-formed c =
-    table-passed c.args.table.now c.table_refusal-refusal.ensures c.if-refusal-ne0.false
 
 pub returns-then-refusal-ne0 : goal.returns-then-refusal-ne0
 returns-then-refusal-ne0 c =
@@ -18,16 +11,17 @@ returns-then-refusal-ne0 c =
 pub returns-then-list-ne0 : goal.returns-then-list-ne0
 returns-then-list-ne0 c =
     let a = c.args in
-    list-13-odd a.table.now a.list.now (is-well-formed (search)) c.if-list-ne0.true
+    let passed = table-passed a.table.now c.table_refusal-refusal.ensures c.if-refusal-ne0.false in
+    list-13-odd a.table.now a.list.now passed c.if-list-ne0.true
 
 pub returns-then-list-gt8192 : goal.returns-then-list-gt8192
 returns-then-list-gt8192 c =
-    let else1 : goal.Else-refusal-ne0 = search in
     let a = c.args in
-    list-13-long a.table.now a.list.now (is-well-formed else1) c.if-list-ne0.false c.if-list-gt8192.true
+    let passed = table-passed a.table.now c.table_refusal-refusal.ensures c.if-refusal-ne0.false in
+    list-13-long a.table.now a.list.now passed c.if-list-ne0.false c.if-list-gt8192.true
 
 pub returns : goal.returns
 returns c =
-    let else1 : goal.Else-refusal-ne0 = search in
     let a = c.args in
-    list-passes a.table.now a.list.now (is-well-formed else1) c.if-list-ne0.false c.if-list-gt8192.false
+    let passed = table-passed a.table.now c.table_refusal-refusal.ensures c.if-refusal-ne0.false in
+    list-passes a.table.now a.list.now passed c.if-list-ne0.false c.if-list-gt8192.false

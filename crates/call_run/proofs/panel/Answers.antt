@@ -1,18 +1,11 @@
 -- `call_run::panel` meets its contract: 15 is tested as defined, and what passes is `run_in_room`'s.
 use mathlib.Core.Path.{◌∙◌}
-use borrow.Author.Rules.{rules}
-use Rattle.call_tick.specs.Runs.{MayTake}
 use Rattle.call_run.proofs.RunTests.{may-take, panel-refused-first, panel-15, panel-goes-on}
 use Rattle.call_run.proofs.panel.Goals as goal
 
--- The first tests are passed.
-taken :
-    (c : goal.Else-refusal-ne0)
-    → MayTake c.args.table.now
-    c.args.list.now
-taken c =
-    let a = c.args in
-    may-take a.table.now a.list.now c.list_refusal-refusal.ensures c.if-refusal-ne0.false
+pub run_in_room-requires : goal.run_in_room-requires
+run_in_room-requires c =
+    may-take c.args.table.now c.args.list.now c.list_refusal-refusal.ensures c.if-refusal-ne0.false
 
 pub returns-then-refusal-ne0 : goal.returns-then-refusal-ne0
 returns-then-refusal-ne0 c =
@@ -23,11 +16,11 @@ returns-then-refusal-ne0 c =
 pub returns-then-list-gt64 : goal.returns-then-list-gt64
 returns-then-list-gt64 c =
     let a = c.args in
-    panel-15 a.table.now a.list.now a.answers.now (taken (search)) c.if-list-gt64.true
+    let taken = may-take a.table.now a.list.now c.list_refusal-refusal.ensures c.if-refusal-ne0.false in
+    panel-15 a.table.now a.list.now a.answers.now taken c.if-list-gt64.true
 
 pub returns : goal.returns
 returns c =
-    let e : goal.Else-list-gt64 = search in
     let a = c.args in
-    c.run_in_room.ensures
-    ∙ panel-goes-on a.table.now a.list.now a.answers.now (taken (search)) e.if-list-gt64.false
+    let taken = may-take a.table.now a.list.now c.list_refusal-refusal.ensures c.if-refusal-ne0.false in
+    c.run_in_room.ensures ∙ panel-goes-on a.table.now a.list.now a.answers.now taken c.if-list-gt64.false

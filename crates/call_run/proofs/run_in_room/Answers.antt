@@ -1,6 +1,5 @@
 -- `call_run::run_in_room` meets its contract: the test is the definition's, and what passes is `run_on`'s.
 use mathlib.Core.Path.{◌∙◌}
-use borrow.Author.Rules.{rules}
 use Rattle.call_run.proofs.RunTests.{room-14, room-passes}
 use Rattle.call_run.proofs.run_in_room.Goals as goal
 

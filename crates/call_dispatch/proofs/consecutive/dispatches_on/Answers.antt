@@ -1,15 +1,10 @@
+-- `call_dispatch::consecutive::dispatches_on` meets its contract: the dispatches that are left give what all give.
 use mathlib.Core.Path.{◌≡◌, refl, sym, ap, ◌∙◌}
-use mathlib.Core.Option.{none}
-use mathlib.Core.List.{List}
-use Prim.Native.Nat.{ℕ, suc, ◌+◌, ◌-◌, ◌≤◌}
+use Prim.Native.Nat.{ℕ, suc, ◌+◌, ◌-◌}
 use native.Mathlib.Omega.{arith}
-use lib.ListN.{length}
-use borrow.Author.Rules.{rules}
-use borrow.Author.Tests.{not-true, not-false}
-use Rattle.machine.specs.Calls.{dispatch_refusal, dispatches}
+use Rattle.machine.specs.Calls.{dispatches}
 use Rattle.call_dispatch.proofs.DispatchRefusals.{table-passed}
 use Rattle.call_dispatch.proofs.ConsecutiveDispatches.{still-passed, goes_on, is_last, none_left}
-use Rattle.call_dispatch.proofs.consecutive.dispatches_on.Invariants.{Turn}
 use Rattle.call_dispatch.proofs.consecutive.dispatches_on.Goals as goal
 
 pub loop-made-init : goal.loop-made-init

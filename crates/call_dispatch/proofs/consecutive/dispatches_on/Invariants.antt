@@ -1,16 +1,11 @@
 -- `call_dispatch::consecutive::dispatches_on` meets its contract. The loop's invariant: the dispatches that are left
 -- give what all give.
-use mathlib.Core.Path.{◌≡◌, refl, sym, ap, ◌∙◌}
+use mathlib.Core.Path.{◌≡◌}
 use mathlib.Core.Option.{none}
 use mathlib.Core.List.{List}
-use Prim.Native.Nat.{ℕ, suc, ◌+◌, ◌-◌, ◌≤◌}
-use native.Mathlib.Omega.{arith}
+use Prim.Native.Nat.{ℕ, ◌-◌, ◌≤◌}
 use lib.ListN.{length}
-use borrow.Author.Rules.{rules}
-use borrow.Author.Tests.{not-true, not-false}
 use Rattle.machine.specs.Calls.{dispatch_refusal, dispatches}
-use Rattle.call_dispatch.proofs.DispatchRefusals.{table-passed}
-use Rattle.call_dispatch.proofs.ConsecutiveDispatches.{still-passed, goes_on, is_last, none_left}
 use Rattle.call_dispatch.proofs.consecutive.dispatches_on.Given as goal
 
 -- What holds before each turn.

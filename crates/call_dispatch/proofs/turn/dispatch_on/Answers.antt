@@ -2,7 +2,6 @@
 use mathlib.Core.Path.{sym, ◌∙◌}
 use Rattle.table_shape.proofs.Laws.TableWords.{header-long}
 use Rattle.call_dispatch.proofs.DispatchTests.{none-busy, one-busy, on-idle, on-ticks}
-use borrow.Author.Rules.{rules}
 use Rattle.call_dispatch.proofs.turn.dispatch_on.Goals as goal
 
 pub tasks-requires : goal.tasks-requires

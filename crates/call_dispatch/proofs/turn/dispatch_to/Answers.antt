@@ -6,7 +6,6 @@ use Rattle.machine.specs.declared.Dispatch.TheVariants.{Answered}
 use Rattle.machine.specs.Results.{dispatched_of}
 use Rattle.table_shape.proofs.Laws.TableWords.{header-long}
 use Rattle.call_dispatch.proofs.DispatchTests.{to-refused, to_made}
-use borrow.Author.Rules.{rules}
 use Rattle.call_dispatch.proofs.turn.dispatch_to.Goals as goal
 
 pub returns-then-is_refusal : goal.returns-then-is_refusal

@@ -3,7 +3,6 @@ use mathlib.Core.Path.{ap}
 use Rattle.table_record.specs.declared.Task as Tasks
 use Rattle.table_shape.proofs.Laws.TableWords.{record-within}
 use Rattle.call_dispatch.proofs.DispatchTests.{busy-by-word}
-use borrow.Author.Rules.{rules}
 use Rattle.call_dispatch.proofs.turn.is_busy.Goals as goal
 
 pub task-requires : goal.task-requires

@@ -1,12 +1,9 @@
 -- `call_dispatch::turn::next_busy` meets its contract: asking the tasks left gives what asking all gives.
-use mathlib.Core.Path.{◌≡◌, sym, ap, ◌∙◌}
-use Prim.Native.Nat.{ℕ, ◌<◌}
-use native.Mathlib.Omega.{arith}
+use mathlib.Core.Path.{◌≡◌}
+use Prim.Native.Nat.{◌<◌}
 use Rattle.machine.specs.Round.{following, first_from}
 use Rattle.machine.specs.Table.{task_count}
 use Rattle.machine.specs.Calls.{is_busy_task, next_busy}
-use Rattle.table_shape.proofs.Laws.TableWords.{header-long}
-use Rattle.call_dispatch.proofs.DispatchTests.{last-is-task, choice-ends, choice-goes-on, none_left}
 use Rattle.call_dispatch.proofs.turn.next_busy.Given as goal
 
 abbrev pub invariant-loop-left : goal.invariant-loop-left
