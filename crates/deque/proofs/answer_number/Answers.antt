@@ -4,7 +4,6 @@ use native.Mathlib.Omega.{arith}
 use Rattle.machine.specs.declared.Answer.{Answer}
 use Rattle.machine.specs.declared.Answer.TheVariants.{Going, Pushed, Bag, Empty, Full, Yes, No, Refused}
 use Rattle.machine.specs.Answers.{kind_of}
-use borrow.Author.Rules.{rules}
 use Rattle.deque.proofs.answer_number.Goals as goal
 
 kind-small : (a : Answer) → kind_of a ≤ 7

@@ -5,7 +5,6 @@ use Rattle.machine.specs.Answers.{reply_number}
 use Rattle.machine.specs.Calls.{Changed}
 use Rattle.machine.specs.Lent.{begin_lent}
 use Rattle.table_record.specs.Coded.{record_of}
-use borrow.Author.Rules.{rules}
 use Rattle.deque.proofs.begin_numbered.Goals as goal
 
 pub returns : goal.returns

@@ -2,7 +2,6 @@
 use mathlib.Core.Path.{ap, ◌∙◌}
 use Rattle.machine.specs.Answers.{reply_number}
 use Rattle.machine.specs.Calls.{Changed, begin}
-use borrow.Author.Rules.{rules}
 use Rattle.deque.proofs.lane_begin.Goals as goal
 
 pub returns : goal.returns

@@ -6,7 +6,6 @@ use Rattle.machine.specs.Answers.{dispatch_payload_of}
 use Rattle.machine.specs.Calls.{Dispatched}
 use Rattle.machine.proofs.Words.DispatchLaws.{dispatches-number}
 use Rattle.deque.specs.Exports.{dispatch_number}
-use borrow.Author.Rules.{rules}
 use Rattle.deque.proofs.lane_dispatches.Goals as goal
 
 pub dispatch_number-requires : goal.dispatch_number-requires

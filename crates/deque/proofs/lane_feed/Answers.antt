@@ -2,7 +2,6 @@
 use mathlib.Core.Path.{ap, ◌∙◌}
 use Rattle.window.specs.Window.{FeedOutcome}
 use Rattle.deque.specs.Exports.{fed_number}
-use borrow.Author.Rules.{rules}
 use Rattle.deque.proofs.lane_feed.Goals as goal
 
 pub returns : goal.returns

@@ -1,7 +1,6 @@
 -- `deque::lane_list_check` meets its contract: the number of `check`.
 use mathlib.Core.Path.{ap, ◌∙◌}
 use Rattle.airline_list.specs.declared.Checked.{Checked}
-use borrow.Author.Rules.{rules}
 use Rattle.deque.specs.Exports.{checked_number}
 use Rattle.deque.proofs.lane_list_check.Goals as goal
 

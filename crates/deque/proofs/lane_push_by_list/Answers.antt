@@ -1,7 +1,6 @@
 -- `deque::lane_push_by_list` meets its contract: the number and the words of `push_by_list`.
 use mathlib.Core.Path.{ap, ◌∙◌}
 use Rattle.machine.specs.PushByList.{PushedByList, push_by_list}
-use borrow.Author.Rules.{rules}
 use Rattle.deque.specs.Exports.{by_list_number}
 use Rattle.deque.proofs.lane_push_by_list.Goals as goal
 

@@ -2,7 +2,6 @@
 use mathlib.Core.Path.{ap, ◌∙◌}
 use Rattle.machine.specs.Calls.{ReadDone}
 use Rattle.deque.specs.Exports.{reading_number}
-use borrow.Author.Rules.{rules}
 use Rattle.deque.proofs.lane_read.Goals as goal
 
 pub returns : goal.returns

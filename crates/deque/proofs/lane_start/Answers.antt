@@ -2,7 +2,6 @@
 use mathlib.Core.Path.{ap, ◌∙◌}
 use Rattle.machine.specs.Answers.{reply_number}
 use Rattle.machine.specs.Calls.{Changed}
-use borrow.Author.Rules.{rules}
 use Rattle.deque.proofs.lane_start.Goals as goal
 
 pub returns : goal.returns

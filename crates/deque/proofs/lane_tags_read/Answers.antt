@@ -2,7 +2,6 @@
 use mathlib.Core.Path.{ap, ◌∙◌}
 use Rattle.tag_lists.specs.TagLists.{ListOutcome}
 use Rattle.deque.specs.Exports.{list_number}
-use borrow.Author.Rules.{rules}
 use Rattle.deque.proofs.lane_tags_read.Goals as goal
 
 pub returns : goal.returns

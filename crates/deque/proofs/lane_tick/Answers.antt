@@ -6,7 +6,6 @@ use Rattle.machine.specs.Answers.{payload_of}
 use Rattle.machine.specs.Calls.{Ticked}
 use Rattle.machine.proofs.Words.TickLaws.{tick-number}
 use Rattle.deque.specs.Exports.{answer_number}
-use borrow.Author.Rules.{rules}
 use Rattle.deque.proofs.lane_tick.Goals as goal
 
 pub answer_number-requires : goal.answer_number-requires

@@ -1,7 +1,6 @@
 -- `deque::lane_window` meets its contract: the number and the window of `fresh`.
 use mathlib.Core.Path.{sym, ap, ◌∙◌}
 use Rattle.deque.specs.Exports.{fresh_number}
-use borrow.Author.Rules.{rules}
 use Rattle.deque.proofs.lane_window.Goals as goal
 
 pub returns-then-fresh : goal.returns-then-fresh

@@ -1,5 +1,4 @@
 -- `deque::ran_number` meets its contract: the refusal above the ticks made.
-use borrow.Author.Rules.{rules}
 use Rattle.deque.proofs.ran_number.Goals as goal
 
 pub returns : goal.returns
