@@ -1,5 +1,4 @@
 -- `program_stream::has_byte` meets its contract.
-use borrow.Author.Rules.{rules}
 use Rattle.program_stream.proofs.has_byte.Goals as goal
 
 pub returns : goal.returns

@@ -10,7 +10,6 @@ use Rattle.program_stream.proofs.Laws.CarriedLaws.{
   part-served,
   line-served,
 }
-use borrow.Author.Rules.{rules}
 use Rattle.program_stream.proofs.serve.Goals as goal
 
 pub end_line-ended-requires : goal.end_line-ended-requires
@@ -18,8 +17,8 @@ end_line-ended-requires c =
     let a = c.args in
     let l = loan_of a.space.now a.text.now a.numbers.now a.carried in
     let in_order =
-    scanned-in-order l c.scan_line-stop.ensures c.has_byte-begun.ensures c.requires.in_order.0 in
-    record { in_order = in_order; line_room_in_bounds = c.requires.in_order.1 }
+    scanned-in-order l c.scan_line-stop.ensures c.has_byte-begun.ensures c.requires.in_order in
+    record { in_order = in_order; line_room_in_bounds = c.requires.line_room_in_bounds }
 
 pub overflow_add-from : goal.overflow_add-from
 overflow_add-from c =
@@ -34,7 +33,7 @@ returns-then-to-chunk c =
     line-served l c.scan_line-stop.ensures c.has_byte-begun.ensures c.if-to-chunk.true
     c.end_line-ended.ensures.serves in
     let onward = line-onward c.requires.from_in_bounds c.scan_line-stop.ensures c.if-to-chunk.true in
-    (onward, (served, c.end_line-ended.ensures.at_bound))
+    record { onward = onward; serves = served; at_bound = c.end_line-ended.ensures.at_bound }
 
 pub returns : goal.returns
 returns c =
@@ -42,4 +41,5 @@ returns c =
     let l = loan_of a.space.now a.text.now a.numbers.now a.carried in
     let served =
     part-served l c.scan_line-stop.ensures c.has_byte-begun.ensures a.out.now a.at in
-    (part-onward c.requires.from_in_bounds c.scan_line-stop.ensures c.if-to-chunk.false, (served, omega arith))
+    let onward = part-onward c.requires.from_in_bounds c.scan_line-stop.ensures c.if-to-chunk.false in
+    record { onward = onward; serves = served; at_bound = omega arith }

@@ -1,16 +1,8 @@
 -- `program_stream::serve_lines` meets its contract. The loop keeps what holds after each line.
 use Prim.Native.Nat.{◌-◌}
-use native.Mathlib.Omega.{arith}
 use lib.ListN.{length}
 use Rattle.program_stream.specs.Carried.{loan_of}
-use Rattle.program_stream.proofs.Laws.MeantLaws.{bytes-made}
-use Rattle.program_stream.proofs.Laws.ServingLaws.{
-  Serving,
-  serving-starts,
-  serving-goes-on,
-  stops-for-room,
-  stops-at-end,
-}
+use Rattle.program_stream.proofs.Laws.ServingLaws.{Serving}
 use Rattle.program_stream.proofs.serve_lines.Given as goal
 
 abbrev pub invariant-loop-from : goal.invariant-loop-from

@@ -3,7 +3,6 @@ use mathlib.Core.Path.{sym, ap, ◌∙◌}
 use lib.ListN.{take}
 use lib.Seq.{length-take-le}
 use Rattle.machine.specs.Calls.{begin}
-use borrow.Author.Rules.{rules}
 use Rattle.program_answer.specs.Forms.{the_lane}
 use Rattle.program_answer.proofs.Laws.SpaceLaws.{front-leaves}
 use Rattle.program_answer.proofs.Laws.FormLaws.{begin-done}

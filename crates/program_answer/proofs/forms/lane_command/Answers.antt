@@ -2,7 +2,6 @@
 use mathlib.Core.Path.{sym, ap}
 use lib.ListN.{take}
 use lib.Seq.{length-take-le}
-use borrow.Author.Rules.{rules}
 use Rattle.machine.specs.Calls.{ReadDone}
 use Rattle.program_answer.proofs.Laws.LaneLaws.{lane_done}
 use Rattle.program_answer.proofs.forms.lane_command.Goals as goal
@@ -15,6 +14,10 @@ pub returns : goal.returns
 returns c =
     let a = c.args in
     let done =
-    lane_done a.bags.now c.read-arg2.given.0.1 (take a.len a.space.now) c.read.ensures
+    lane_done a.bags.now c.told-bags (take a.len a.space.now) c.read.ensures
     in
-    (done.0, (done.1, ap (λ (d : ReadDone). d.out) c.read.ensures))
+    record {
+      space_after = done.0;
+      result_in_bounds = done.1;
+      bags_after = ap (λ (d : ReadDone). d.out) c.read.ensures;
+    }

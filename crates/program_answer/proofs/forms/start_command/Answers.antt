@@ -3,7 +3,6 @@ use mathlib.Core.Path.{sym, ◌∙◌}
 use native.Mathlib.Omega.{arith}
 use lib.ListN.{take, take-append-drop}
 use lib.Seq.{length-take-le}
-use borrow.Author.Rules.{rules}
 use Rattle.program_answer.proofs.Laws.SpaceLaws.{front-leaves, same-leaves}
 use Rattle.program_answer.proofs.Laws.FormLaws.{too_large, start-done, start-kept}
 use Rattle.program_answer.proofs.forms.start_command.Goals as goal
@@ -25,7 +24,7 @@ returns-in-Accepted c =
     let a = c.args in
     let need = c.table_length-need.result in
     let fits = c.if-space-need.false in
-    let is = c.enum_told-1.given.1 in
+    let is = c.in-Accepted.is in
     rw is
     (front-leaves a.space.now done.new.table need fits done.auto.table
     (start-done (take a.len a.space.now) a.slots a.tasks a.growth
@@ -38,7 +37,7 @@ returns-in-Refused c =
     let need = c.table_length-need.result in
     let long = length-take-le need a.space.now c.if-space-need.false ∙ c.table_length-need.ensures in
     let ws = take a.len a.space.now in
-    let is = c.enum_told-in-Refused-1.given.1 in
+    let is = c.in-Refused.is in
     let done = rw is at c.start-reply.ensures in
     let kept = start-kept ws a.slots a.tasks a.growth (take need a.space.now) long done in
     rw (is, kept, take-append-drop need a.space.now)

@@ -1,7 +1,6 @@
 -- `program_answer::forms::tick_command` meets its contract: the ticks are of the table's own words.
 use mathlib.Core.Path.{sym}
 use lib.Seq.{length-take-le}
-use borrow.Author.Rules.{rules}
 use Rattle.program_answer.proofs.Laws.FormLaws.{ticks-done}
 use Rattle.program_answer.proofs.Laws.SpaceLaws.{front-leaves}
 use Rattle.program_answer.proofs.forms.tick_command.Goals as goal
