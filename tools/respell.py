@@ -6,7 +6,8 @@ usage: tools/respell.py            in the repository, once, after the kit's own 
 
 In .antt files whole words turn; in .rt files those of `ghost use` items, clauses and ghost blocks; in must-fail edits
 those of the lines about .antt files, and of `false:`. Code of Rust keeps its names. Modules that Rattle now names
-itself, `Contracts`, become `Promised`.
+itself, `Contracts`, become `Promised`. The choice by a decision, `if x ≟ y then a else b`, is `if? x ≟ y then a else b`:
+the library's own `if` chooses by a test.
 """
 
 import os
@@ -49,8 +50,16 @@ def words(text, table):
     return WORD.sub(lambda m: table.get(m[0], m[0]), text)
 
 
+def decided(text):
+    return re.sub(r"(?<![^\s({;,])if(?=◌then◌else◌|\s)", "if?", text)
+
+
 def antt(text, table):
-    return words(text, table)
+    text = words(text, table)
+    # The files that choose by a decision; comments keep their words.
+    if re.search(r"(?<![^\s{,])if◌then◌else◌", text) and "Bool.{if" not in text:
+        text = "\n".join(line if line.lstrip().startswith("--") else decided(line) for line in text.split("\n"))
+    return text
 
 
 def braces(text, at):
@@ -84,7 +93,7 @@ def edit(text, table):
             of_antt = line.rstrip().endswith(".antt")
         if line.startswith("false:") or (of_antt and line.startswith(("old:", "new:"))):
             head, rest = line.split(":", 1)
-            line = head + ":" + words(rest, table)
+            line = head + ":" + (decided(words(rest, table)) if head != "false" else words(rest, table))
         out.append(line)
     return "\n".join(out)
 

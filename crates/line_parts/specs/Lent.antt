@@ -2,7 +2,7 @@
 use Rattle.std.specs.Prelude.{◌≡◌, ◌≢◌, true, cond, List, [], ◌∷◌, ℕ, ◌<◌, eqb, get_or}
 use Rattle.machine.specs.declared.Answer.{Answer}
 use Rattle.machine.specs.declared.Answer.TheVariants.{Going, Refused}
-use Rattle.machine.specs.Choice.{◌≟◌, if◌then◌else◌}
+use Rattle.machine.specs.Choice.{◌≟◌, if?◌then◌else◌}
 use Rattle.machine.specs.Sides.{Side, opposite, side_of}
 use Rattle.machine.specs.Values.{Value, decode, encode, value_ok}
 use Rattle.machine.specs.Steps.{Step}
@@ -31,13 +31,13 @@ abbrev pub follow_done : List ℕ → (hat : ℕ) → Tasks.Task → (z : Side) 
 follow_done ns h t z i j n m =
     let x = get_or t.registers i 0 in
     let y = link_in ns z x in
-    if x ≟ no_node then refused_done h t else next_done h (with_register t j y) (cond (eqb y no_node) n m)
+    if? x ≟ no_node then refused_done h t else next_done h (with_register t j y) (cond (eqb y no_node) n m)
 
 -- The value of A's node is the mark, which goes to step n, or not: to m.
 abbrev pub mark_done : List ℕ → (hat : ℕ) → Tasks.Task → (mark : Value) → (n m : ℕ) → Done
 mark_done ns h t v n m =
     let a = get_or t.registers 0 0 in
-    if a ≟ no_node then refused_done h t else next_done h t (cond (is_same (decode (stored_in ns a)) v) n m)
+    if? a ≟ no_node then refused_done h t else next_done h t (cond (is_same (decode (stored_in ns a)) v) n m)
 
 -- ---- The line that the definitions give.
 

@@ -9,7 +9,7 @@ use Rattle.machine.specs.declared.Dispatch.{Dispatch}
 use Rattle.machine.specs.declared.Dispatch.TheVariants.{Idle, Answered}
 use Rattle.machine.specs.declared.Reply.{Reply}
 use Rattle.machine.specs.declared.Reply.TheVariants.{Accepted, Refused as Reply-Refused}
-use Rattle.machine.specs.Choice.{◌≟◌, if◌then◌else◌}
+use Rattle.machine.specs.Choice.{◌≟◌, if?◌then◌else◌}
 
 -- Of start and begin: 0, or the refusal.
 abbrev pub reply_number : Reply → ℕ
@@ -107,18 +107,18 @@ ends_call (Refused n) = false
 -- The answer other than a bag that a kind stands for, or nothing.
 unfoldable pub plain_answer_of : (kind : ℕ) → Option Answer
 plain_answer_of kind =
-    if kind ≟ 0 then some Going else
-    if kind ≟ 1 then some Pushed else
-    if kind ≟ 3 then some Empty else
-    if kind ≟ 4 then some Full else
-    if kind ≟ 5 then some Yes else
-    if kind ≟ 6 then some No else
+    if? kind ≟ 0 then some Going else
+    if? kind ≟ 1 then some Pushed else
+    if? kind ≟ 3 then some Empty else
+    if? kind ≟ 4 then some Full else
+    if? kind ≟ 5 then some Yes else
+    if? kind ≟ 6 then some No else
     none
 
 -- The answer that three words of a run stand for, or nothing: a bag's are those of a tag, and where there is no tag
 -- both are 0.
 unfoldable pub answer_of : (kind digit low : ℕ) → Option Answer
 answer_of kind digit low =
-    if kind ≟ 2 then cond (is_tag digit low) (some (Bag (tag_of digit low))) none else
-    if tag_of digit low ≟ 0 then plain_answer_of kind else
+    if? kind ≟ 2 then cond (is_tag digit low) (some (Bag (tag_of digit low))) none else
+    if? tag_of digit low ≟ 0 then plain_answer_of kind else
     none

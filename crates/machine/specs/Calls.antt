@@ -12,7 +12,7 @@ use Rattle.machine.specs.declared.Reading.{Reading}
 use Rattle.machine.specs.declared.Reading.TheVariants.{Count, Refused as Reading-Refused}
 use Rattle.machine.specs.declared.Ran.{Ran}
 use Rattle.machine.specs.declared.Stored.{Stored}
-use Rattle.machine.specs.Choice.{◌≟◌, ◌<?◌, if◌then◌else◌}
+use Rattle.machine.specs.Choice.{◌≟◌, ◌<?◌, if?◌then◌else◌}
 use Rattle.machine.specs.Round.{next_after}
 use Rattle.machine.specs.Sides.{Side, left, right, opposite, side_number, side_of}
 use Rattle.machine.specs.Values.{never, bag, N, X, Y, number}
@@ -48,7 +48,7 @@ use Rattle.machine.specs.Answers.{answer_length, answer_words, refusal_of, is_go
 unfoldable pub lane_from : List ℕ → (n x : ℕ) → Option (List ℕ)
 lane_from ws zero x = none
 lane_from ws (suc n) x =
-    if x ≟ no_node then none else
+    if? x ≟ no_node then none else
     elim (value ws x) as (λ _. Option (List ℕ)) [
       | never ↦ some []
       | bag b ↦ map (◌∷◌ b) (lane_from ws n (link ws right x))
@@ -196,7 +196,7 @@ times (suc n) l = l ++ times n l
 
 -- 02: "Lane k, from 0, starts with slots 2k and 2k + 1"; "unused ones none". 01: the hats are 0 and 1.
 abbrev pub start_hat : (lanes l : ℕ) → Side → ℕ
-start_hat lanes l s = if l <? lanes then 2 * l + side_number s else no_node
+start_hat lanes l s = if? l <? lanes then 2 * l + side_number s else no_node
 
 -- The nodes of n lanes, from lane l on. 01: slot 0 as L none, R 1, V LX and slot 1 as L 0, R none, V RX.
 unfoldable pub start_nodes : (n l : ℕ) → List ℕ

@@ -4,13 +4,13 @@ use Rattle.std.specs.Prelude.{List, ℕ}
 use Rattle.machine.specs.declared.Reply.{Reply}
 use Rattle.machine.specs.declared.Reply.TheVariants.{Accepted, Refused}
 use Rattle.machine.specs.declared.Stored.{Stored}
-use Rattle.machine.specs.Choice.{◌<?◌, if◌then◌else◌}
+use Rattle.machine.specs.Choice.{◌<?◌, if?◌then◌else◌}
 use Rattle.machine.specs.Table.{task_count, record_words, set_record}
 use Rattle.machine.specs.Calls.{Changed, begin}
 
 -- 02: "in every test the lent record stands for that task's words there". A number that is no task has no words there.
 unfoldable pub lent_to : List ℕ → (k : ℕ) → (lent : List ℕ) → List ℕ
-lent_to ws k lent = if k <? task_count ws then set_record k lent ws else ws
+lent_to ws k lent = if? k <? task_count ws then set_record k lent ws else ws
 
 -- 02: "a refusal changes no word of the record".
 abbrev pub lent_after : Reply → (before after : List ℕ) → List ℕ

@@ -3,7 +3,7 @@
 use Rattle.std.specs.Prelude.{◌≡◌, List, [], ◌∷◌, ℕ, suc}
 use Rattle.machine.specs.declared.Answer.{Answer}
 use Rattle.machine.specs.declared.Answer.TheVariants.{Going, Pushed, Bag, Empty, Full, Yes, No, Refused}
-use Rattle.machine.specs.Choice.{◌≟◌, if◌then◌else◌}
+use Rattle.machine.specs.Choice.{◌≟◌, if?◌then◌else◌}
 use Rattle.machine.specs.Sides.{Side, opposite}
 use Rattle.machine.specs.Values.{Value, never, bag, N, X, Y, ◌≟ᵛ◌}
 use Rattle.machine.specs.Operations.{Operation, idle, push, pop, add, remove}
@@ -114,7 +114,7 @@ abbrev pub refused : Task → Effect
 refused t = record { writes = []; task = t; answer = Refused 11 }
 
 abbrev pub through : ℕ → Task → Effect → Effect
-through x t e = if x ≟ no_node then refused t else e
+through x t e = if? x ≟ no_node then refused t else e
 
 -- 01's swap (the figure's DCAS): both places are compared, then both are written. 02: "A swap compares and writes the
 -- digit with V as one thing": a value is compared and written whole.
@@ -157,8 +157,8 @@ spliced remove l t = writing l (answers Yes)
 abbrev pub after_read : (o : Side) → Value → Step
 after_read o never = line39
 after_read o (bag n) = line51
-after_read o (N z) = if N z ≟ᵛ N o then line48 else line39
-after_read o (X z) = if X z ≟ᵛ X o then line48 else line39
+after_read o (N z) = if? N z ≟ᵛ N o then line48 else line39
+after_read o (X z) = if? X z ≟ᵛ X o then line48 else line39
 after_read o (Y z) = line39
 
 -- The bag number of a value that is a bag.
@@ -178,7 +178,7 @@ act line2 s o m t g f = next (with_a t m.hat) line3
 -- 3: B = A.R; none 8, else 5.
 act line3 s o m t g f =
     through t.A t
-    (let b = m.out t.A in next (with_b t b) (if b ≟ no_node then line8 else line5))
+    (let b = m.out t.A in next (with_b t b) (if? b ≟ no_node then line8 else line5))
 -- 5: swap hat A to B and A.V RN to the argument; done "pushed", failed 8.
 act line5 s o m t g f =
     through t.A t (through t.B t
@@ -187,35 +187,35 @@ act line5 s o m t g f =
     (next t line8)))
 -- 8: A.V is RX 28, else 67.
 act line8 s o m t g f =
-    through t.A t (next t (if m.val t.A ≟ᵛ X s then line28 else line67))
+    through t.A t (next t (if? m.val t.A ≟ᵛ X s then line28 else line67))
 -- 67: A = hat; 68.
 act line67 s o m t g f = next (with_a t m.hat) line68
 -- 68: A.V is RY 69, else back.
 act line68 s o m t g f =
-    through t.A t (next t (if m.val t.A ≟ᵛ Y s then line69 else back t))
+    through t.A t (next t (if? m.val t.A ≟ᵛ Y s then line69 else back t))
 -- 69: B = A.L; 70.
 act line69 s o m t g f = through t.A t (next (with_b t (m.inn t.A)) line70)
 -- 70: C = B.R; none back, else 72.
 act line70 s o m t g f =
     through t.B t
-    (let c = m.out t.B in next (with_c t c) (if c ≟ no_node then back t else line72))
+    (let c = m.out t.B in next (with_c t c) (if? c ≟ no_node then back t else line72))
 -- 72: swap hat A to C; back either way.
 act line72 s o m t g f =
     through t.C t
-    (writing (if m.hat ≟ t.A then hat≔ t.C ∷ [] else []) (next t (back t)))
+    (writing (if? m.hat ≟ t.A then hat≔ t.C ∷ [] else []) (next t (back t)))
 -- 28: take a free slot, links none, V RX; D = it; counted 0; goal 0 then 15, else 31.
 -- None free: push answers "full", add "no".
 act line28 s o m t g f =
-    if f ≟ no_node then answers (none_free t.operation) else
+    if? f ≟ no_node then answers (none_free t.operation) else
     writing (out≔ f no_node ∷ inn≔ f no_node ∷ val≔ f (X s) ∷ [])
-    (next (with_counted (with_d t f) 0) (if g ≟ 0 then line15 else line31))
+    (next (with_counted (with_d t f) 0) (if? g ≟ 0 then line15 else line31))
 -- 31: take a free slot N, V RN, N.L none, N.R = D, D.L = N, D = N, counted + 1; goal reached 15, else 31.
 -- None free: 15 with the chain so far.
 act line31 s o m t g f =
     through t.D t
-    (if f ≟ no_node then next t line15 else
+    (if? f ≟ no_node then next t line15 else
     writing (val≔ f (N s) ∷ inn≔ f no_node ∷ out≔ f t.D ∷ inn≔ t.D f ∷ [])
-    (next (with_counted (with_d t f) (suc t.counted)) (if suc t.counted ≟ g then line15 else line31)))
+    (next (with_counted (with_d t f) (suc t.counted)) (if? suc t.counted ≟ g then line15 else line31)))
 -- 15: A = hat; 17.
 act line15 s o m t g f = next (with_a t m.hat) line17
 -- 17: value = A.V; RN 18, RY 67, RX 24, else 15.
@@ -223,11 +223,11 @@ act line17 s o m t g f =
     through t.A t
     (let v = m.val t.A in
     next (with_value t v)
-    (if v ≟ᵛ N s then line18 else if v ≟ᵛ Y s then line67 else if v ≟ᵛ X s then line24 else line15))
+    (if? v ≟ᵛ N s then line18 else if? v ≟ᵛ Y s then line67 else if? v ≟ᵛ X s then line24 else line15))
 -- 18: A = A.R; none 15, else 17.
 act line18 s o m t g f =
     through t.A t
-    (let a = m.out t.A in next (with_a t a) (if a ≟ no_node then line15 else line17))
+    (let a = m.out t.A in next (with_a t a) (if? a ≟ no_node then line15 else line17))
 -- 24: D.L = A, B = A.R; 25.
 act line24 s o m t g f =
     through t.A t (through t.D t
@@ -243,7 +243,7 @@ act line39 s o m t g f = next (with_a t m.hat) line40
 -- 40: B = A.L; none 39, else 42.
 act line40 s o m t g f =
     through t.A t
-    (let b = m.inn t.A in next (with_b t b) (if b ≟ no_node then line39 else line42))
+    (let b = m.inn t.A in next (with_b t b) (if? b ≟ no_node then line39 else line42))
 -- 42: value = B.V; a bag 51, LN or LX 48, else 39.
 act line42 s o m t g f =
     through t.B t
@@ -259,20 +259,20 @@ act line51 s o m t g f =
     (writing (hat≔ t.B ∷ val≔ t.B (N s) ∷ []) (answers (Bag (bag_of t.value))))
     (next t line39))
 -- 54: A = hat; goal 0 then 60, else 56.
-act line54 s o m t g f = next (with_a t m.hat) (if g ≟ 0 then line60 else line56)
+act line54 s o m t g f = next (with_a t m.hat) (if? g ≟ 0 then line60 else line56)
 -- 56: A.V is RX: "yes", else 58.
 act line56 s o m t g f =
-    through t.A t (if m.val t.A ≟ᵛ X s then answers Yes else next t line58)
+    through t.A t (if? m.val t.A ≟ᵛ X s then answers Yes else next t line58)
 -- 58: A = A.R; none "yes"; counted + 1; goal reached 60, else 56.
 act line58 s o m t g f =
     through t.A t
     (let a = m.out t.A in
-    if a ≟ no_node then answers Yes else
-    next (with_counted (with_a t a) (suc t.counted)) (if suc t.counted ≟ g then line60 else line56))
+    if? a ≟ no_node then answers Yes else
+    next (with_counted (with_a t a) (suc t.counted)) (if? suc t.counted ≟ g then line60 else line56))
 -- 60: B = A.R; none "yes", else 62.
 act line60 s o m t g f =
     through t.A t
-    (let b = m.out t.A in if b ≟ no_node then answers Yes else next (with_b t b) line62)
+    (let b = m.out t.A in if? b ≟ no_node then answers Yes else next (with_b t b) line62)
 -- 62: swap A.V RN to RX and B.V RN to RY; failed "no", else 64.
 act line62 s o m t g f =
     through t.A t (through t.B t
@@ -282,17 +282,17 @@ act line62 s o m t g f =
 -- 64: swap A.R B to none; 74 either way.
 act line64 s o m t g f =
     through t.A t
-    (writing (if m.out t.A ≟ t.B then out≔ t.A no_node ∷ [] else []) (next t line74))
+    (writing (if? m.out t.A ≟ t.B then out≔ t.A no_node ∷ [] else []) (next t line74))
 -- 74: A = B, then B = A.R; none 82, else 77.
 act line74 s o m t g f =
     through t.B t
-    (let b = m.out t.B in next (with_b (with_a t t.B) b) (if b ≟ no_node then line82 else line77))
+    (let b = m.out t.B in next (with_b (with_a t t.B) b) (if? b ≟ no_node then line82 else line77))
 -- 77: value = B.V; 78.
 act line77 s o m t g f = through t.B t (next (with_value t (m.val t.B)) line78)
 -- 78: swap B.V from value to RY; failed 77, done 79.
 act line78 s o m t g f =
     through t.B t
-    (if m.val t.B ≟ᵛ t.value then writing (val≔ t.B (Y s) ∷ []) (next t line79) else next t line77)
+    (if? m.val t.B ≟ᵛ t.value then writing (val≔ t.B (Y s) ∷ []) (next t line79) else next t line77)
 -- 79: A.R = none, A = B; 81.
 act line79 s o m t g f =
     through t.A t (writing (out≔ t.A no_node ∷ []) (next (with_a t t.B) line81))
@@ -300,6 +300,6 @@ act line79 s o m t g f =
 act line81 s o m t g f =
     through t.A t
     (let b = m.out t.A in
-    next (with_b t b) (if b ≟ no_node then line82 else if t.value ≟ᵛ X s then line82 else line77))
+    next (with_b t b) (if? b ≟ no_node then line82 else if? t.value ≟ᵛ X s then line82 else line77))
 -- 82: A.R = none; "yes".
 act line82 s o m t g f = through t.A t (writing (out≔ t.A no_node ∷ []) (answers Yes))

@@ -1,7 +1,7 @@
 -- The operations of a task: their numbers, arguments and goals.
 use Rattle.std.specs.Prelude.{Bool, ℕ, leb, eqb}
 use Rattle.machine.specs.declared.Stored.{Stored}
-use Rattle.machine.specs.Choice.{◌≟◌, if◌then◌else◌}
+use Rattle.machine.specs.Choice.{◌≟◌, if?◌then◌else◌}
 use Rattle.machine.specs.Values.{number, bag_ok}
 
 -- The figure's push, pop, add and remove, of a side; idle: a task that is in no call.
@@ -19,10 +19,10 @@ operation_number remove = 4
 -- The operation of a number that is 0 to 4.
 abbrev pub operation_of : ℕ → Operation
 operation_of n =
-    if n ≟ 0 then idle else
-    if n ≟ 1 then push else
-    if n ≟ 2 then pop else
-    if n ≟ 3 then add else
+    if? n ≟ 0 then idle else
+    if? n ≟ 1 then push else
+    if? n ≟ 2 then pop else
+    if? n ≟ 3 then add else
     remove
 
 -- 01: argument: push a bag number, pop 0, add 0 to 64, remove 0 to 1,023. Those of pop, add and remove have digit 0,

@@ -1,7 +1,7 @@
 -- Going round by number: past the last one comes 0. In this order free nodes are looked for and tasks dispatched.
 use Rattle.std.specs.Prelude.{◌≡◌, Bool, true, false, cond, ℕ, zero, suc, ◌+◌, ◌-◌, ◌≤◌, ◌<◌, ltb}
 use Rattle.std.proofs.Math.Option.{Option, some, none}
-use Rattle.machine.specs.Choice.{◌<?◌, if◌then◌else◌}
+use Rattle.machine.specs.Choice.{◌<?◌, if?◌then◌else◌}
 
 -- The number after i of those below n. 01: upward, going round past S - 1 to 0.
 abbrev pub following : (n i : ℕ) → ℕ
@@ -21,7 +21,7 @@ next_after n test i = first_from n test n (following n i)
 
 -- How many steps lead from i to k: 1 to the number after it, n round to i itself.
 abbrev pub steps : (n i k : ℕ) → ℕ
-steps n i k = if i <? k then k - i else n + k - i
+steps n i k = if? i <? k then k - i else n + k - i
 
 -- j passes the test, and no number that does is fewer steps away.
 pub record IsNext (n : ℕ) (test : ℕ → Bool) (i j : ℕ) : Type 0 where

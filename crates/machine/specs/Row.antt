@@ -5,7 +5,7 @@ use Rattle.machine.specs.declared.Answer.{Answer}
 use Rattle.machine.specs.declared.Answer.TheVariants.{Going, Pushed, Bag, Empty, Full, Yes, No, Refused}
 use Rattle.machine.specs.declared.Dispatch.{Dispatch}
 use Rattle.machine.specs.declared.Dispatch.TheVariants.{Idle, Answered}
-use Rattle.machine.specs.Choice.{◌≟◌, if◌then◌else◌}
+use Rattle.machine.specs.Choice.{◌≟◌, if?◌then◌else◌}
 use Rattle.machine.specs.Round.{next_after}
 use Rattle.machine.specs.declared.Stored.{Stored}
 use Rattle.machine.specs.Sides.{Side, left, right, side_of}
@@ -43,7 +43,7 @@ empty_row T lanes =
 
 -- The notes, with that of task k replaced.
 abbrev pub with_note : (ℕ → Option Note) → ℕ → Option Note → ℕ → Option Note
-with_note notes k n = λ j. if j ≟ k then n else notes j
+with_note notes k n = λ j. if? j ≟ k then n else notes j
 
 -- With one thing set.
 abbrev pub noted : Row → ℕ → Option Note → Row
@@ -60,7 +60,7 @@ abbrev pub with_bags : Row → (lane : ℕ) → List ℕ → Row
 with_bags ρ l bags =
     record {
       lanes = ρ.lanes;
-      bags = λ j. if j ≟ l then bags else ρ.bags j;
+      bags = λ j. if? j ≟ l then bags else ρ.bags j;
       notes = ρ.notes;
       tasks = ρ.tasks;
       dispatched = ρ.dispatched;
@@ -78,7 +78,7 @@ put right b bags = bags ++ (b ∷ [])
 -- The bags without the one at a side's end, where that one is b.
 abbrev pub take_first : ℕ → List ℕ → Option (List ℕ)
 take_first b [] = none
-take_first b (x ∷ xs) = if x ≟ b then some xs else none
+take_first b (x ∷ xs) = if? x ≟ b then some xs else none
 
 abbrev pub take_bag : Side → ℕ → List ℕ → Option (List ℕ)
 take_bag left b bags = take_first b bags

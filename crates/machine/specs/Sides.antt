@@ -1,6 +1,6 @@
 -- The two sides of the deque and their numbers.
 use Rattle.std.specs.Prelude.{ℕ}
-use Rattle.machine.specs.Choice.{◌≟◌, if◌then◌else◌}
+use Rattle.machine.specs.Choice.{◌≟◌, if?◌then◌else◌}
 
 pub data Side : Type 0 where
   left right : Side
@@ -17,4 +17,4 @@ side_number right = 1
 
 -- The side of a number that is 0 or 1.
 abbrev pub side_of : ℕ → Side
-side_of n = if n ≟ 0 then left else right
+side_of n = if? n ≟ 0 then left else right

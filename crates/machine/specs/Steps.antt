@@ -1,6 +1,6 @@
 -- The steps, numbered by the lines of the figure, and which of them belong to which operation.
 use Rattle.std.specs.Prelude.{Bool, false, ◌||◌, List, [], ◌∷◌, ◌++◌, ℕ, eqb}
-use Rattle.machine.specs.Choice.{◌≟◌, if◌then◌else◌}
+use Rattle.machine.specs.Choice.{◌≟◌, if?◌then◌else◌}
 use Rattle.machine.specs.Operations.{Operation, idle, push, pop, add, remove}
 
 -- The line of the figure at which a task stands; rest: the step 0 of an idle task.
@@ -49,7 +49,7 @@ step_number line82 = 82
 -- The step in a list that has a number, or rest.
 unfoldable pub step_in : List Step → ℕ → Step
 step_in [] n = rest
-step_in (st ∷ sts) n = let found = step_in sts n in if n ≟ step_number st then st else found
+step_in (st ∷ sts) n = let found = step_in sts n in if? n ≟ step_number st then st else found
 
 -- 01's list, operation by operation.
 abbrev add_steps : List Step

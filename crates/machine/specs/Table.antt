@@ -3,7 +3,7 @@
 use Rattle.std.specs.Prelude.{List, [], ◌∷◌, ℕ, ◌+◌, ◌*◌, get_or, set, take, drop}
 use Rattle.std.proofs.lemmas.List.Edits.{sets}
 use Rattle.machine.specs.declared.Stored.{Stored}
-use Rattle.machine.specs.Choice.{◌<?◌, if◌then◌else◌}
+use Rattle.machine.specs.Choice.{◌<?◌, if?◌then◌else◌}
 use Rattle.machine.specs.Sides.{Side, left, right, side_number}
 use Rattle.machine.specs.Values.{Value, never, encode, decode, stored_words, stored_at, stored_length}
 use Rattle.machine.specs.Tasks.{Task, fresh, no_node, record_length, words_of, task_of}
@@ -79,7 +79,7 @@ hat_word ws l s = get_or ws (hat_at l s) 0
 
 -- A lane's hat on a side. A number past the four pairs has none.
 unfoldable pub hat : List ℕ → (lane : ℕ) → Side → ℕ
-hat ws l s = if l <? most_lanes then hat_word ws l s else no_node
+hat ws l s = if? l <? most_lanes then hat_word ws l s else no_node
 
 -- The two words that are always 0.
 abbrev pub word14_at : ℕ
@@ -122,11 +122,11 @@ node_words l r v = l ∷ r ∷ stored_words (encode v)
 
 -- A node's link on a side: L on the left, R on the right. A number that is no node has none.
 unfoldable pub link : List ℕ → Side → ℕ → ℕ
-link ws s x = if x <? node_count ws then link_word ws s x else no_node
+link ws s x = if? x <? node_count ws then link_word ws s x else no_node
 
 -- A node's value.
 unfoldable pub value : List ℕ → ℕ → Value
-value ws x = decode (if x <? node_count ws then value_words ws x else encode never)
+value ws x = decode (if? x <? node_count ws then value_words ws x else encode never)
 
 -- ---- A task's record.
 abbrev pub record_from : List ℕ → ℕ → List ℕ
@@ -137,7 +137,7 @@ record_words ws k = record_from ws (record_at (node_count ws) k)
 
 -- The record of a task. A number that is no task has a fresh one.
 unfoldable pub task : List ℕ → ℕ → Task
-task ws k = if k <? task_count ws then task_of (record_words ws k) else fresh
+task ws k = if? k <? task_count ws then task_of (record_words ws k) else fresh
 
 -- ---- Writes.
 abbrev pub set_hat : (lane : ℕ) → Side → ℕ → List ℕ → List ℕ

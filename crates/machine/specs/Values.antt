@@ -3,7 +3,7 @@ use Rattle.std.specs.Prelude.{◌≡◌, Bool, cond, ◌&&◌, ◌||◌, List, [
 use Rattle.std.proofs.Math.Decide.{ℕ_discrete}
 use Rattle.tag.specs.Tags.{tag_of, digit_of, low_of, is_tag}
 use Rattle.machine.specs.declared.Stored.{Stored}
-use Rattle.machine.specs.Choice.{◌≟◌, if◌then◌else◌}
+use Rattle.machine.specs.Choice.{◌≟◌, if?◌then◌else◌}
 use Rattle.machine.specs.Sides.{Side, left, right, opposite, Side-discrete}
 
 -- A mark carries its side: the figure's RN is `N right`, its LX is `X left`. A bag is its tag, one number.
@@ -80,11 +80,11 @@ unfoldable pub decode : Stored → Value
 decode u =
     cond (same_stored u (encode never)) never
     (cond (bag_ok u) (bag (number u))
-    (if u.word ≟ (encode (N left)).word then N left else
-    if u.word ≟ (encode (X left)).word then X left else
-    if u.word ≟ (encode (Y left)).word then Y left else
-    if u.word ≟ (encode (N right)).word then N right else
-    if u.word ≟ (encode (X right)).word then X right else
+    (if? u.word ≟ (encode (N left)).word then N left else
+    if? u.word ≟ (encode (X left)).word then X left else
+    if? u.word ≟ (encode (Y left)).word then Y left else
+    if? u.word ≟ (encode (N right)).word then N right else
+    if? u.word ≟ (encode (X right)).word then X right else
     Y right))
 
 -- What 01's table of mirrors gave: LN with RN, LX with RX, LY with RY. (2026-02's sum is shown to give the same:

@@ -2,7 +2,7 @@
 use mathlib.Core.Path.{◌≡◌, refl, sym, ap, ◌∙◌, subst}
 use mathlib.Core.List.{List}
 use Prim.Native.Nat.{ℕ, ◌+◌, ◌*◌, ◌-◌, ◌%◌, ◌<◌}
-use Rattle.machine.specs.Choice.{◌≟◌, ◌<?◌, if◌then◌else◌}
+use Rattle.machine.specs.Choice.{◌≟◌, ◌<?◌, if?◌then◌else◌}
 use Rattle.machine.specs.Sides.{Side, left, right}
 use Rattle.machine.specs.Values.{never, X}
 use Rattle.machine.specs.Operations.{Operation, idle, push, pop, add, remove}
@@ -50,8 +50,8 @@ start-no-link : (L : ℕ) (s : Side) (μ : Mark) (n : ℕ)
 start-no-link L left μ n v = go μ (n <? 2 * L) (n % 2 ≟ 0) v
   where
     go : (μ : Mark) (d : Dec (n < 2 * L)) (p : Dec (n % 2 ≡ 0))
-        → (if d then (if p then X left else X right) else never) ≡ marked μ left
-        → (if d then (if p then no_node else n - 1) else no_node) ≡ no_node
+        → (if? d then (if? p then X left else X right) else never) ≡ marked μ left
+        → (if? d then (if? p then no_node else n - 1) else no_node) ≡ no_node
     go μ (no h) p v = refl
     go μ (yes h) (yes e) v = refl
     go end (yes h) (no e) v = clash (cc)
@@ -59,8 +59,8 @@ start-no-link L left μ n v = go μ (n <? 2 * L) (n % 2 ≟ 0) v
 start-no-link L right μ n v = go μ (n <? 2 * L) (n % 2 ≟ 0) v
   where
     go : (μ : Mark) (d : Dec (n < 2 * L)) (p : Dec (n % 2 ≡ 0))
-        → (if d then (if p then X left else X right) else never) ≡ marked μ right
-        → (if d then (if p then n + 1 else no_node) else no_node) ≡ no_node
+        → (if? d then (if? p then X left else X right) else never) ≡ marked μ right
+        → (if? d then (if? p then n + 1 else no_node) else no_node) ≡ no_node
     go μ (no h) p v = refl
     go end (yes h) (yes e) v = clash (cc)
     go cut (yes h) (yes e) v = clash (cc)

@@ -1,7 +1,7 @@
 -- Calls alone, exactly: on a table with no task in a call, what a call that gets all the ticks answers, and the five
 -- numbers of its lane that it leaves.
 use Rattle.std.specs.Prelude.{◌≡◌, ◌≢◌, true, false, List, [], ◌∷◌, reverse, ℕ, suc, ◌+◌, ◌*◌, ◌-◌, ◌≤◌, ◌<◌, length}
-use Rattle.machine.specs.Choice.{◌≟◌, ◌<?◌, if◌then◌else◌}
+use Rattle.machine.specs.Choice.{◌≟◌, ◌<?◌, if?◌then◌else◌}
 use Rattle.machine.specs.declared.Answer.{Answer}
 use Rattle.machine.specs.declared.Answer.TheVariants.{Going, Pushed, Bag, Empty, Full, Yes, No}
 use Rattle.machine.specs.declared.Reply.TheVariants.{Accepted}
@@ -34,14 +34,14 @@ from_end left bags = bags
 from_end right bags = reverse bags
 
 abbrev pub least : ℕ → ℕ → ℕ
-least a b = if a <? b then a else b
+least a b = if? a <? b then a else b
 
 -- A push of v, with growth g and f free nodes. Where no spare node but the last is left, it leaves its spur and then
 -- takes nodes, that one among them.
 abbrev pub push_alone : Side → (v g f : ℕ) → (bags : List ℕ) → (r y : ℕ) → CallOutcome
 push_alone s v g f bags r y =
-    if 1 <? r then leaves Pushed (put s v bags) (r - 1) 0 else
-    if f + y ≟ 0 then leaves Full bags r y else
+    if? 1 <? r then leaves Pushed (put s v bags) (r - 1) 0 else
+    if? f + y ≟ 0 then leaves Full bags r y else
     leaves Pushed (put s v bags) (least (f + y) (suc g)) 0
 
 -- A pop, which finds these bags from its end on.
@@ -55,16 +55,16 @@ pop_alone s bags r y = pop_from s (from_end s bags) r y
 -- An add of n, which leaves its spur when it has taken its nodes.
 abbrev pub add_alone : (n f : ℕ) → (bags : List ℕ) → (r y : ℕ) → CallOutcome
 add_alone n f bags r y =
-    if f ≟ 0 then leaves No bags r y else
+    if? f ≟ 0 then leaves No bags r y else
     leaves Yes bags (r + least f (suc n)) 0
 
 -- A remove of n: it keeps n spare nodes and the last, and what it cuts off is free. A single node more is the last one,
 -- which it cannot mark.
 abbrev pub remove_alone : (n : ℕ) → (bags : List ℕ) → (r y : ℕ) → CallOutcome
 remove_alone n bags r y =
-    if y ≟ 1 then leaves Yes bags r y else
-    if r <? n + 2 then leaves Yes bags r y else
-    if r ≟ n + 2 then leaves No bags r y else
+    if? y ≟ 1 then leaves Yes bags r y else
+    if? r <? n + 2 then leaves Yes bags r y else
+    if? r ≟ n + 2 then leaves No bags r y else
     leaves Yes bags (suc n) 0
 
 -- An operation on side s, with its argument, the table's growth and f free nodes. ("Idle" is never begun.)

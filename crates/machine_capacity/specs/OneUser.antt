@@ -5,7 +5,7 @@ use Rattle.std.proofs.Math.Option.{Option, some, none}
 use Rattle.machine.specs.declared.Answer.{Answer}
 use Rattle.machine.specs.declared.Answer.TheVariants.{Refused}
 use Rattle.machine.specs.declared.Stored.{Stored}
-use Rattle.machine.specs.Choice.{◌≟◌, if◌then◌else◌}
+use Rattle.machine.specs.Choice.{◌≟◌, if?◌then◌else◌}
 use Rattle.machine.specs.Sides.{Side, left, right, side_number, side_of}
 use Rattle.machine.specs.Values.{number, stored}
 use Rattle.machine.specs.Operations.{Operation, operation_number, operation_of, argument_ok}
@@ -93,7 +93,7 @@ state_then σ l s o =
       tasks = σ.tasks;
       growth = σ.growth;
       lanes = σ.lanes;
-      lane = λ j. if j ≟ l then lane_then (σ.lane l) s o else σ.lane j;
+      lane = λ j. if? j ≟ l then lane_then (σ.lane l) s o else σ.lane j;
       free = free_then σ l s o;
     }
 

@@ -1,7 +1,7 @@
 -- What fits, by the machine for one user alone: how many new tags an end takes before "full", and what to do then.
 use Rattle.std.specs.Prelude.{◌≡◌, ◌⊎◌, true, false, List, [], ◌∷◌, ℕ, zero, suc, ◌+◌, ◌*◌, ◌-◌, ◌≤◌, ◌<◌, length}
 use Rattle.std.proofs.Math.Option.{none}
-use Rattle.machine.specs.Choice.{◌≟◌, ◌<?◌, if◌then◌else◌}
+use Rattle.machine.specs.Choice.{◌≟◌, ◌<?◌, if?◌then◌else◌}
 use Rattle.machine.specs.declared.Answer.{Answer}
 use Rattle.machine.specs.declared.Answer.TheVariants.{Pushed, Full}
 use Rattle.machine.specs.Sides.{Side, opposite, side_of}
@@ -101,14 +101,14 @@ pop_and_remove σ p =
 abbrev pub give_back : State → Loader → State
 give_back σ p =
     let pushed = one_call σ (call_of p.task p.lane push p.side p.tag) in
-    if kind_of pushed.answer ≟ kind_of Pushed then pop_and_remove pushed.state p else pushed.state
+    if? kind_of pushed.answer ≟ kind_of Pushed then pop_and_remove pushed.state p else pushed.state
 
 -- How many nodes are free afterwards, where none was before, by what was spare at that end and its spur: all but the
 -- last spare node; of two spare nodes none, since a remove does not cut off a single one, but the spur.
 abbrev pub given_back : (spare spur : ℕ) → ℕ
 given_back r y =
-    if r <? 2 then 0 else
-    if r ≟ 2 then y else r + y - 1
+    if? r <? 2 then 0 else
+    if? r ≟ 2 then y else r + y - 1
 
 -- So a call that was "full" is then "pushed", if that end had room for two tags, and else it is "full" again.
 pub record GivenBack (σ : State) (c : WholeCall) (p : Loader) : Type 0 where
@@ -132,13 +132,13 @@ unfoldable pub last_answer : State → WholeCall → List Loader → Answer
 last_answer σ c [] = (one_call σ c).answer
 last_answer σ c (p ∷ ps) =
     let tried = one_call σ c in
-    if kind_of tried.answer ≟ kind_of Full then last_answer (give_back tried.state p) c ps else tried.answer
+    if? kind_of tried.answer ≟ kind_of Full then last_answer (give_back tried.state p) c ps else tried.answer
 
 -- It is "pushed" if one of the ends had room for two tags. docs/USE.md: "Full to the last ..: no other end has place
 -- for more than one bag".
 abbrev pub found_room : State → List Loader → Answer
 found_room σ [] = Full
-found_room σ (p ∷ ps) = if 1 <? room_at σ p then Pushed else found_room σ ps
+found_room σ (p ∷ ps) = if? 1 <? room_at σ p then Pushed else found_room σ ps
 
 abbrev pub AllCanPush : State → List Loader → Type 0
 AllCanPush σ [] = Unit {0}

@@ -5,7 +5,7 @@ use mathlib.Core.Option.{Option, some, none, bind}
 use Prim.Native.Nat.{ℕ, zero, suc, ◌+◌, ◌%◌, ◌^◌}
 use native.Mathlib.Decide.{ℕ_discrete, dec_lt}
 use Rattle.machine.specs.declared.Answer.TheVariants.{Going}
-use Rattle.machine.specs.Choice.{◌≟◌, if◌then◌else◌}
+use Rattle.machine.specs.Choice.{◌≟◌, if?◌then◌else◌}
 use Rattle.machine.specs.Sides.{right, side_number}
 use Rattle.machine.specs.Operations.{push, operation_number}
 use Rattle.machine.specs.Values.{stored, decode}
@@ -49,7 +49,7 @@ known notes =
 
 -- The notes after a copy.
 pushing : (ℕ → Option Note) → ℕ → Option Note
-pushing notes j = if j ≟ 0 then some (new_note 0 (operation_number push) (side_number right) (stored 51)) else notes j
+pushing notes j = if? j ≟ 0 then some (new_note 0 (operation_number push) (side_number right) (stored 51)) else notes j
 
 -- Events that begin with a round: the tick of it says "going".
 one_more : {n : ℕ} (es others : List Event) {ws vs : List ℕ} {κ κ' : Known} → PutOff n others vs κ'

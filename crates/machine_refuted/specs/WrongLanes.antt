@@ -2,7 +2,7 @@
 use Rattle.std.specs.Prelude.{Bool, false, ◌&&◌, ◌||◌, List, ◌++◌, [], ◌∷◌, ℕ, zero, suc, ◌-◌, ◌*◌, leb, ltb, eqb, length, take, replicate}
 use Rattle.std.proofs.Math.Option.{Option, some, none}
 use Rattle.machine.specs.declared.Answer.TheVariants.{Refused}
-use Rattle.machine.specs.Choice.{◌<?◌, if◌then◌else◌}
+use Rattle.machine.specs.Choice.{◌<?◌, if?◌then◌else◌}
 use Rattle.machine.specs.Sides.{Side, opposite, side_number, right}
 use Rattle.machine.specs.Values.{never, number}
 use Rattle.machine.specs.Operations.{operation_of, argument_ok, push, pop}
@@ -182,7 +182,7 @@ start_makes_first_lane = with_start tests_start (start_with (λ lanes. start_hat
 
 -- Every lane gets the nodes and the hats of lane 0.
 abbrev pub start_shares_nodes : Machine
-start_shares_nodes = with_start tests_start (start_with (λ lanes l s. if l <? lanes then side_number s else no_node) 1)
+start_shares_nodes = with_start tests_start (start_with (λ lanes l s. if? l <? lanes then side_number s else no_node) 1)
 
 -- ---- The lists that tell them from the right machine.
 abbrev pub lane_entries : List Entry

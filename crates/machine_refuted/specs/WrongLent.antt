@@ -6,7 +6,7 @@ use Rattle.machine.specs.declared.Reply.{Reply}
 use Rattle.machine.specs.declared.Reply.TheVariants.{Accepted, Refused}
 use Rattle.machine.specs.declared.Stored.{Stored}
 use Rattle.machine.specs.Sides.{right, side_number, side_of}
-use Rattle.machine.specs.Choice.{◌≟◌, if◌then◌else◌}
+use Rattle.machine.specs.Choice.{◌≟◌, if?◌then◌else◌}
 use Rattle.machine.specs.Values.{stored, number}
 use Rattle.machine.specs.Operations.{Operation, push, pop, operation_number, operation_of}
 use Rattle.machine.specs.Tasks.{fresh, record_length, words_of}
@@ -208,7 +208,7 @@ alone_noted k (some ρ) =
     (record {
       lanes = ρ.lanes;
       bags = ρ.bags;
-      notes = λ j. if j ≟ k then ρ.notes j else none;
+      notes = λ j. if? j ≟ k then ρ.notes j else none;
       tasks = ρ.tasks;
       dispatched = ρ.dispatched;
     })

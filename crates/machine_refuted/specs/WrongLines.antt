@@ -2,7 +2,7 @@
 use Rattle.std.specs.Prelude.{List, [], ◌∷◌, ◌++◌}
 use Rattle.machine.specs.declared.Answer.TheVariants.{Pushed, Bag, Empty, No}
 use Rattle.machine.specs.Sides.{left}
-use Rattle.machine.specs.Choice.{◌≟◌, if◌then◌else◌}
+use Rattle.machine.specs.Choice.{◌≟◌, if?◌then◌else◌}
 use Rattle.machine.specs.Values.{bag, N, X, Y, ◌≟ᵛ◌}
 use Rattle.machine.specs.Operations.{push, pop, add}
 use Rattle.machine.specs.Steps.{
@@ -69,7 +69,7 @@ use Rattle.machine_refuted.specs.Entries.{
 -- Lines that are others at one step.
 abbrev pub but : Line → Step → Line → Line
 but line at other = λ st s o m t g f.
-    if step_number st ≟ step_number at then other st s o m t g f else line st s o m t g f
+    if? step_number st ≟ step_number at then other st s o m t g f else line st s o m t g f
 
 -- The right machine but for one line.
 abbrev pub with_line : Step → Line → Machine
@@ -85,27 +85,27 @@ empty_uncompared =
     with_line line42 (λ st s o m t g f.
     through t.B t
     (let v = m.val t.B in
-    if step_number (after_read o v) ≟ step_number line48 then answers Empty else next (with_value t v) (after_read o v)))
+    if? step_number (after_read o v) ≟ step_number line48 then answers Empty else next (with_value t v) (after_read o v)))
 
 -- ---- "Reading 48 as two ticks": the hat in the first, after which C is not none, the value in the second.
 abbrev pub empty_in_two_ticks : Machine
 empty_in_two_ticks =
     with_line line48 (λ st s o m t g f.
     through t.B t
-    (if t.C ≟ no_node
-    then if m.hat ≟ t.A then next (with_c t t.B) line48 else next t line39
-    else if m.val t.B ≟ᵛ t.value then answers Empty else next (with_c t no_node) line39))
+    (if? t.C ≟ no_node
+    then if? m.hat ≟ t.A then next (with_c t t.B) line48 else next t line39
+    else if? m.val t.B ≟ᵛ t.value then answers Empty else next (with_c t no_node) line39))
 
 -- 48 with one of its two compares.
 abbrev pub empty_without_hat : Machine
 empty_without_hat =
     with_line line48 (λ st s o m t g f.
-    through t.B t (if m.val t.B ≟ᵛ t.value then answers Empty else next t line39))
+    through t.B t (if? m.val t.B ≟ᵛ t.value then answers Empty else next t line39))
 
 abbrev pub empty_without_value : Machine
 empty_without_value =
     with_line line48 (λ st s o m t g f.
-    through t.B t (if m.hat ≟ t.A then answers Empty else next t line39))
+    through t.B t (if? m.hat ≟ t.A then answers Empty else next t line39))
 
 -- ---- "One that pops the same bag always": nothing is written.
 abbrev pub pop_leaves_bag : Machine
@@ -155,7 +155,7 @@ rereads_link =
     with_line line5 (λ st s o m t g f.
     through t.A t
     (let b = m.out t.A in
-    if b ≟ no_node then next t line8 else
+    if? b ≟ no_node then next t line8 else
     dcas (m.hat ≟ t.A) (m.val t.A ≟ᵛ N s)
     (writing (hat≔ b ∷ val≔ t.A (bag t.argument) ∷ []) (answers Pushed))
     (next t line8)))
@@ -184,12 +184,12 @@ trusts_hat =
     by_lines
     (but
     (but act line8
-    (λ st s o m t g f. through t.A t (next t (if m.val t.A ≟ᵛ X s then line28 else line2))))
+    (λ st s o m t g f. through t.A t (next t (if? m.val t.A ≟ᵛ X s then line28 else line2))))
     line17
     (λ st s o m t g f.
     through t.A t
     (let v = m.val t.A in
-    next (with_value t v) (if v ≟ᵛ N s then line18 else if v ≟ᵛ X s then line24 else line15))))
+    next (with_value t v) (if? v ≟ᵛ N s then line18 else if? v ≟ᵛ X s then line24 else line15))))
     allocate
 
 -- ---- "The figure's lines 32 and 37 lose that chain and fail for n = 0": 37 returns the last node that 31 made, and
@@ -197,8 +197,8 @@ trusts_hat =
 abbrev pub figure_line37 : Machine
 figure_line37 =
     with_line line28 (λ st s o m t g f.
-    if f ≟ no_node then answers (none_free t.operation) else
-    if g ≟ 0
+    if? f ≟ no_node then answers (none_free t.operation) else
+    if? g ≟ 0
     then writing (out≔ f no_node ∷ inn≔ f no_node ∷ val≔ f (X s) ∷ []) (answers (none_free t.operation))
     else act line28 s o m t g f)
 
@@ -206,7 +206,7 @@ figure_line37 =
 abbrev pub figure_line32 : Machine
 figure_line32 =
     with_line line31 (λ st s o m t g f.
-    through t.D t (if f ≟ no_node then answers (none_free t.operation) else act line31 s o m t g f))
+    through t.D t (if? f ≟ no_node then answers (none_free t.operation) else act line31 s o m t g f))
 
 -- ---- Removes that the row has no objection to, but the theorems of progress and of capacity.
 
@@ -215,7 +215,7 @@ abbrev pub failed_swap_spins : Machine
 failed_swap_spins =
     with_line line78 (λ st s o m t g f.
     through t.B t
-    (if m.val t.B ≟ᵛ t.value then writing (val≔ t.B (Y s) ∷ []) (next t line79) else next t line78))
+    (if? m.val t.B ≟ᵛ t.value then writing (val≔ t.B (Y s) ∷ []) (next t line79) else next t line78))
 
 -- 82 begins again until there is nothing to cut: with a push that splices a chain in each time neither ever answers.
 abbrev pub remove_cuts_again : Machine

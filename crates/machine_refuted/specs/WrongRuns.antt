@@ -3,7 +3,7 @@ use Rattle.std.specs.Prelude.{◌&&◌, List, [], ◌∷◌, ◌++◌, ℕ, zero
 use Rattle.std.proofs.Math.Option.{Option, some, none}
 use Rattle.machine.specs.declared.Answer.TheVariants.{Going}
 use Rattle.machine.specs.Sides.{right}
-use Rattle.machine.specs.Choice.{◌≟◌, if◌then◌else◌}
+use Rattle.machine.specs.Choice.{◌≟◌, if?◌then◌else◌}
 use Rattle.machine.specs.Operations.{push, pop, add}
 use Rattle.machine.specs.Answers.{answer_length, refusal_of}
 use Rattle.machine.specs.Calls.{unless, table_refusal, list_refusal, room_refusal, run_refusal, Ticked, RunDone, times}
@@ -29,7 +29,7 @@ use Rattle.machine_refuted.specs.Entries.{Entry, entry, begins, wholly}
 abbrev pub one_more : RunDone → RunDone
 one_more r =
     let words = answer_length * r.ran.made in
-    if r.ran.refusal ≟ 9
+    if? r.ran.refusal ≟ 9
     then record {
       ran = record { made = suc r.ran.made; refusal = r.ran.refusal };
       words = r.words;

@@ -1,7 +1,7 @@
 -- Wrong searches for a free slot: they take one to which links lead from a hat or from a register of a task.
 use Rattle.std.specs.Prelude.{List, [], ◌∷◌, ◌++◌, map, ℕ, zero, suc}
 use Rattle.machine.specs.Sides.{left, right}
-use Rattle.machine.specs.Choice.{◌≟◌, if◌then◌else◌}
+use Rattle.machine.specs.Choice.{◌≟◌, if?◌then◌else◌}
 use Rattle.machine.specs.Operations.{Operation, idle, push, pop, add, remove}
 use Rattle.machine.specs.Steps.{line15, step_number}
 use Rattle.machine.specs.Tasks.{Task, in_c, in_d}
@@ -54,7 +54,7 @@ frees_held_node = by_lines act (take_from (roots_by (λ t. lets_go t.operation t
 -- The chain that a task has built does not hold at 15.
 abbrev pub frees_chain : Machine
 frees_chain =
-    by_lines act (take_from (roots_by (λ t. if step_number t.step ≟ step_number line15 then [] else held_by t)))
+    by_lines act (take_from (roots_by (λ t. if? step_number t.step ≟ step_number line15 then [] else held_by t)))
 
 -- The right hat does not hold its node.
 abbrev pub frees_hats_node : Machine

@@ -5,7 +5,7 @@ use Rattle.std.proofs.lemmas.List.Edits.{sets}
 use Rattle.tag.specs.Tags.{low_of}
 use Rattle.machine.specs.declared.Answer.TheVariants.{Pushed, Bag}
 use Rattle.machine.specs.Sides.{right, side_number}
-use Rattle.machine.specs.Choice.{◌≟◌, if◌then◌else◌}
+use Rattle.machine.specs.Choice.{◌≟◌, if?◌then◌else◌}
 use Rattle.machine.specs.Values.{Value, never, bag, N, X, Y, ◌≟ᵛ◌, number, stored_words, encode, stored_of}
 use Rattle.machine.specs.Operations.{push, pop, operation_number, operation_of}
 use Rattle.machine.specs.Steps.{line5, line8, line39, line42, line51}
@@ -78,7 +78,7 @@ searches_low =
 
 -- ---- "V 0 with a digit of 1 to 9 is a tag": 42 takes it for never used.
 abbrev zero_unused : Value → Value
-zero_unused (bag n) = if low_of n ≟ 0 then never else bag n
+zero_unused (bag n) = if? low_of n ≟ 0 then never else bag n
 zero_unused never = never
 zero_unused (N z) = N z
 zero_unused (X z) = X z

@@ -4,7 +4,7 @@ use Rattle.std.proofs.Math.Option.{some, none}
 use Rattle.machine.specs.declared.Answer.{Answer}
 use Rattle.machine.specs.declared.Answer.TheVariants.{Going, Pushed, Bag, Empty, Full, Yes, No, Refused}
 use Rattle.machine.specs.declared.Dispatch.TheVariants.{Answered}
-use Rattle.machine.specs.Choice.{◌≟◌, if◌then◌else◌}
+use Rattle.machine.specs.Choice.{◌≟◌, if?◌then◌else◌}
 use Rattle.machine.specs.Operations.{Operation, idle, push, pop, add, remove, operation_number}
 use Rattle.machine.specs.Steps.{Step, line17, line18, line24, line25, step_number, first_step}
 use Rattle.machine.specs.Tasks.{Task, goto}
@@ -53,14 +53,14 @@ done_answer remove = Yes
 
 abbrev says_later : Line
 says_later st s o m t g f =
-    if step_number st ≟ step_number line24 then next t line25 else
-    if step_number st ≟ step_number line25 then answers (done_answer t.operation) else
-    if step_number st ≟ step_number line17 then next t line18 else
+    if? step_number st ≟ step_number line24 then next t line25 else
+    if? step_number st ≟ step_number line25 then answers (done_answer t.operation) else
+    if? step_number st ≟ step_number line17 then next t line18 else
     answers (none_free t.operation)
 
 abbrev later_for : Operation → Line
 later_for op st s o m t g f =
-    if operation_number t.operation ≟ operation_number op then says_later st s o m t g f else act st s o m t g f
+    if? operation_number t.operation ≟ operation_number op then says_later st s o m t g f else act st s o m t g f
 
 -- The first tick of a call of this operation does the call whole, and says "going".
 unfoldable pub whole_on : Operation → List ℕ → (k hint : ℕ) → Ticked
@@ -69,8 +69,8 @@ whole_on op ws k h =
     elim (tick_refusal ws k h) as (λ _. Ticked) [
       | some n ↦ record { answer = Refused n; words = ws }
       | none ↦
-          if step_number t.step ≟ step_number (first_step op) then
-          if operation_number t.operation ≟ operation_number op then
+          if? step_number t.step ≟ step_number (first_step op) then
+          if? operation_number t.operation ≟ operation_number op then
           (let all = consecutive tick_on 101 ws k h in
           record {
             answer = Going;

@@ -11,7 +11,7 @@ use Rattle.machine.specs.Round.{next_after}
 use Rattle.machine.specs.Answers.{refusal_of}
 use Rattle.machine.specs.declared.Dispatch.TheVariants.{Answered}
 use Rattle.machine.specs.declared.Stored.{Stored}
-use Rattle.machine.specs.Choice.{◌≟◌, if◌then◌else◌}
+use Rattle.machine.specs.Choice.{◌≟◌, if?◌then◌else◌}
 use Rattle.machine.specs.Sides.{right, left, side_of}
 use Rattle.machine.specs.Values.{number}
 use Rattle.machine.specs.Operations.{operation_of}
@@ -138,8 +138,8 @@ module _ {ws vs : List ℕ} (A : AlikeColumns ws vs) where
       is-task' = rw (same_count A) is_task
 
       go : (j : ℕ) (d : Dec (j ≡ k))
-          → AgreeOn (holds (if d then t else task ws j).step) (if d then t else task ws j)
-          (if d then t else task vs j)
+          → AgreeOn (holds (if? d then t else task ws j).step) (if? d then t else task ws j)
+          (if? d then t else task vs j)
       go j (yes e) = agree-self (holds t.step) t
       go j (no n) = A.same_tasks j
 

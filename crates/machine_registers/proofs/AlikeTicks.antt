@@ -8,7 +8,7 @@ use lib.ListN.{drop}
 use Rattle.machine.specs.Shape.{WellFormed, sizes_of, WellSized}
 use Rattle.machine.specs.declared.Answer.{Answer}
 use Rattle.machine.specs.declared.Ran.{Ran}
-use Rattle.machine.specs.Choice.{◌≟◌, if◌then◌else◌}
+use Rattle.machine.specs.Choice.{◌≟◌, if?◌then◌else◌}
 use Rattle.machine.specs.Sides.{Side, opposite}
 use Rattle.machine.specs.Tasks.{Task, goal}
 use Rattle.machine.specs.Registers.{holds}
@@ -147,8 +147,8 @@ module _ {ws vs : List ℕ} (A : AlikeColumns ws vs) (k h : ℕ) where
           (go (j ≟ k))
         where
           go : (d : Dec (j ≡ k))
-              → AgreeOn (holds (if d then (effect_of ws k h).task else task ws j).step)
-              (if d then (effect_of ws k h).task else task ws j) (if d then (effect_of vs k h).task else task vs j)
+              → AgreeOn (holds (if? d then (effect_of ws k h).task else task ws j).step)
+              (if? d then (effect_of ws k h).task else task ws j) (if? d then (effect_of vs k h).task else task vs j)
           go (yes e) = agree_after t u (A.same_tasks k) (effect_of ws k h) (effect_of vs k h) effects-same.after
           go (no n) = A.same_tasks j
 

@@ -6,7 +6,7 @@ use mathlib.Core.List.{List, [], ◌∷◌}
 use Prim.Native.Nat.{ℕ, suc}
 use Rattle.machine.specs.declared.Answer.{Answer}
 use Rattle.machine.specs.declared.Answer.TheVariants.{Going}
-use Rattle.machine.specs.Choice.{◌≟◌, if◌then◌else◌}
+use Rattle.machine.specs.Choice.{◌≟◌, if?◌then◌else◌}
 use Rattle.machine.specs.Sides.{Side}
 use Rattle.machine.specs.Values.{Value, never, bag, N, X, Y, ◌≟ᵛ◌}
 use Rattle.machine.specs.Operations.{Operation, idle, push, pop, add, remove}
@@ -104,7 +104,7 @@ module _ {st : Step} {t u : Task} where
 
   -- ---- How a line branches.
   by-either : {P : Type 0} {e e' f f' : Effect} (d : Dec P) → SameEffect st t u e f → SameEffect st t u e' f'
-      → SameEffect st t u (if d then e else e') (if d then f else f')
+      → SameEffect st t u (if? d then e else e') (if? d then f else f')
   by-either (yes p) a b = a
   by-either (no p) a b = b
 

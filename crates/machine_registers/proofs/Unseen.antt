@@ -5,7 +5,7 @@ use mathlib.Core.List.{List}
 use Prim.Native.Nat.{ℕ, ◌<◌}
 use lib.ListN.{length}
 use Rattle.machine.specs.Shape.{WellFormed, sizes_of, WellSized}
-use Rattle.machine.specs.Choice.{◌≟◌, if◌then◌else◌}
+use Rattle.machine.specs.Choice.{◌≟◌, if?◌then◌else◌}
 use Rattle.machine.specs.Values.{encode}
 use Rattle.machine.specs.Tasks.{Task, fresh, no_node, words_of, in_a, in_b, in_c, in_d}
 use Rattle.machine.specs.Registers.{holds}
@@ -155,7 +155,7 @@ module _ {ws : List ℕ} (accepted : WellFormed ws) (k : ℕ) (is_task : k < tas
       }
     where
       go : (j : ℕ) (d : Dec (j ≡ k))
-          → AgreeOn (holds (task ws j).step) (task ws j) (if d then cleared t else task ws j)
+          → AgreeOn (holds (task ws j).step) (task ws j) (if? d then cleared t else task ws j)
       go j (yes e) =
           subst (λ (i : ℕ). AgreeOn (holds (task ws i).step) (task ws i) (cleared t)) (sym e)
           (agree-from {p = holds t.step} refl (λ r h. mixed-inside (holds t.step) t fresh (cleared t) refl r h))

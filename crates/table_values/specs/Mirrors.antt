@@ -1,13 +1,13 @@
 -- Request 2026-02: the mirror of a mark by a sum, and the table of mirrors that the sum replaces.
 use Rattle.std.specs.Prelude.{◌≡◌, false, List, [], ◌∷◌, map, ℕ, ◌+◌, ◌-◌}
-use Rattle.machine.specs.Choice.{◌≤?◌, if◌then◌else◌}
+use Rattle.machine.specs.Choice.{◌≤?◌, if?◌then◌else◌}
 use Rattle.machine.specs.Values.{N, X, Y, mark, number, encode, decode, mirror}
 use Rattle.machine.specs.Sides.{left, right}
 use Rattle.machine.specs.Shape.{same_words}
 
 -- Words up to a border go up by so much, the others down.
 abbrev sum_by : (border step w : ℕ) → ℕ
-sum_by border step w = if w ≤? border then w + step else w - step
+sum_by border step w = if? w ≤? border then w + step else w - step
 
 -- 02: "The mirror of a mark up to 1,000,000,003 is that mark plus 3, of the others minus 3."
 abbrev pub mirror_sum : ℕ → ℕ

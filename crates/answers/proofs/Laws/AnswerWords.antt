@@ -12,7 +12,7 @@ use native.Mathlib.Decide.{ℕ_discrete}
 use Rattle.tag.specs.Tags.{tag_of, is_tag, digit_of, low_of}
 use Rattle.machine.specs.declared.Answer.{Answer}
 use Rattle.machine.specs.declared.Answer.TheVariants.{Bag, No}
-use Rattle.machine.specs.Choice.{◌≟◌, if◌then◌else◌}
+use Rattle.machine.specs.Choice.{◌≟◌, if?◌then◌else◌}
 use Rattle.machine.specs.Answers.{kind_of, payload_of, answer_words, plain_answer_of, answer_of}
 use Rattle.machine.proofs.Basics.Choices.{test-unequal}
 use Rattle.machine.proofs.Basics.Contradiction.{clash}
@@ -32,7 +32,7 @@ module _ {kind : ℕ} (digit low : ℕ) (a : Answer) (e : answer_of kind digit l
   unfolding answer_of
   plain-says ne = go (tag_of digit low ≟ 0) (rw (test-unequal ne) at e)
     where
-      go : (d : Dec (tag_of digit low ≡ 0)) → (if d then plain_answer_of kind else none) ≡ some a
+      go : (d : Dec (tag_of digit low ≡ 0)) → (if? d then plain_answer_of kind else none) ≡ some a
           → plain_answer_of kind ≡ some a
       go (yes z) e = e
       go (no z) e = clash (cc)
@@ -46,7 +46,7 @@ module _ {kind : ℕ} (digit low : ℕ) (a : Answer) (e : answer_of kind digit l
       go (kind ≟ 6) (rw (test-unequal n₀, test-unequal n₁, test-unequal n₃, test-unequal n₄, test-unequal n₅) at
       plain-says n₂)
     where
-      go : (d : Dec (kind ≡ 6)) → (if d then some No else none) ≡ some a → No ≡ a
+      go : (d : Dec (kind ≡ 6)) → (if? d then some No else none) ≡ some a → No ≡ a
       go (yes s) e = cc
       go (no s) e = clash (cc)
 

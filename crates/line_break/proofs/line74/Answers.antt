@@ -1,7 +1,7 @@
 -- `line_break::line74` meets its contract: the tests decide the line's choices.
 use native.Mathlib.Omega.{arith}
 use lib.ListN.{get_or}
-use Rattle.machine.specs.Choice.{◌≟◌, if◌then◌else◌}
+use Rattle.machine.specs.Choice.{◌≟◌, if?◌then◌else◌}
 use Rattle.machine.specs.Sides.{side_of}
 use Rattle.machine.specs.Steps.{step_number, line77, line82}
 use Rattle.machine.specs.Tasks.{no_node}
@@ -40,4 +40,4 @@ returns c g f =
     )
     (by_code c.requires (λ u.
     next_done c.args.hat (with_register (with_register u 0 a) 1 b)
-    (step_number (if b ≟ no_node then line82 else line77))))
+    (step_number (if? b ≟ no_node then line82 else line77))))

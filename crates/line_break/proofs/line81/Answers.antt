@@ -3,7 +3,7 @@ use mathlib.Core.Path.{ap, ◌∙◌}
 use mathlib.Core.Bool.{Bool, cond}
 use Prim.Native.Nat.{ℕ}
 use native.Mathlib.Omega.{arith}
-use Rattle.machine.specs.Choice.{if◌then◌else◌}
+use Rattle.machine.specs.Choice.{if?◌then◌else◌}
 use Rattle.machine.specs.Sides.{side_of}
 use Rattle.machine.specs.Values.{X, ◌≟ᵛ◌}
 use Rattle.machine.specs.Steps.{line77, line82}
@@ -30,7 +30,7 @@ returns c g f =
     let t = c.args.t in
     let s = side_of t.side in
     let read = (task_meant t).value in
-    let after = if read ≟ᵛ X s then line82 else line77 in
+    let after = if? read ≟ᵛ X s then line82 else line77 in
     let is_x = ap {B = ℕ} (λ (b : Bool). cond b 82 77) c.is_x.ensures in
     rw (c.follow.ensures, c.either-after.ensures ∙ is_x ∙ chosenᵛ read (X s) line82 line77)
     (link-followed c.requires c.args.hat s 0 in_b line82 after)

@@ -10,7 +10,7 @@ use lib.Dec.{eqb}
 use lib.ListN.{get_or}
 use Rattle.machine.specs.declared.Stored.{Stored}
 use Rattle.machine.specs.declared.Answer.TheVariants.{Pushed, Full, Yes, No}
-use Rattle.machine.specs.Choice.{◌≟◌, if◌then◌else◌}
+use Rattle.machine.specs.Choice.{◌≟◌, if?◌then◌else◌}
 use Rattle.machine.specs.Sides.{Side, opposite, side_of}
 use Rattle.machine.specs.Values.{Value, N, X, Y, encode, decode, ◌≟ᵛ◌}
 use Rattle.machine.specs.Steps.{
@@ -103,9 +103,9 @@ module _ {ns : List ℕ} {t : Tasks.Task} (R : Ready ns t) (h g f : ℕ) where
     unfolding line_of act
     read-at-A =
         let v = decode read in
-        let at-X = if v ≟ᵛ X s then line24 else line15 in
-        let at-Y = if v ≟ᵛ Y s then line67 else at-X in
-        let step = step_number (if v ≟ᵛ N s then line18 else at-Y) in
+        let at-X = if? v ≟ᵛ X s then line24 else line15 in
+        let at-Y = if? v ≟ᵛ Y s then line67 else at-X in
+        let step = step_number (if? v ≟ᵛ N s then line18 else at-Y) in
         rw (
           test-unequal through-a,
           chosenᵛ v (X s) line24 line15,
@@ -125,7 +125,7 @@ module _ {ns : List ℕ} {t : Tasks.Task} (R : Ready ns t) (h g f : ℕ) where
     unfolding line_of act
     node-further =
         let n = suc t.counted in
-        let step = step_number (if n ≟ g then line60 else line56) in
+        let step = step_number (if? n ≟ g then line60 else line56) in
         rw (test-unequal through-a, test-unequal linked, add-one t.counted, step-chosen n g line60 line56)
         (by_code R (λ u. next_done h (with_count (with_register u 0 (link_in ns s a)) n) step))
 
@@ -181,7 +181,7 @@ module _ {ns : List ℕ} {t : Tasks.Task} (R : Ready ns t) (h g f : ℕ) where
         ≡ line_of line28 ns h t g f
     unfolding line_of act
     outermost-made =
-        let step = step_number (if g ≟ 0 then line15 else line31) in
+        let step = step_number (if? g ≟ 0 then line15 else line31) in
         rw (test-unequal found, step-chosen g 0 line15 line31)
         (by-record R.canonical outermost (λ u. next_done h (with_count (with_register u 3 f) 0) step))
 
@@ -203,6 +203,6 @@ module _ {ns : List ℕ} {t : Tasks.Task} (R : Ready ns t) (h g f : ℕ) where
       unfolding line_of act
       chain-grows =
           let n = suc t.counted in
-          let step = step_number (if n ≟ g then line15 else line31) in
+          let step = step_number (if? n ≟ g then line15 else line31) in
           rw (test-unequal through-d, test-unequal found, add-one t.counted, step-chosen n g line15 line31)
           (by-record R.canonical longer (λ u. next_done h (with_count (with_register u 3 f) n) step))

@@ -2,7 +2,7 @@
 use mathlib.Core.Path.{◌≡◌, refl}
 use mathlib.Core.Bool.{true, false}
 use Rattle.machine.specs.declared.Stored.{Stored}
-use Rattle.machine.specs.Choice.{if◌then◌else◌}
+use Rattle.machine.specs.Choice.{if?◌then◌else◌}
 use Rattle.machine.specs.Sides.{Side}
 use Rattle.machine.specs.Values.{Value, never, bag, N, X, Y, ◌≟ᵛ◌, decode, bag_ok}
 use Rattle.machine.specs.Steps.{line39, line48, line51}
@@ -19,20 +19,20 @@ read-bag o u h = rw (bag-decoded u h)
 pub read-N : (o : Side) (v : Value) → is_same v (N o) ≡ true → after_read o v ≡ line48
 read-N o v h = go (v ≟ᵛ N o) h
   where
-    go : (d : Dec (v ≡ N o)) → (if d then true else false) ≡ true → after_read o v ≡ line48
+    go : (d : Dec (v ≡ N o)) → (if? d then true else false) ≡ true → after_read o v ≡ line48
     go (yes e) h = rw (e, equalᵛ {u = N o} refl)
     go (no n) h = clash (cc)
 
 pub read-other : (o : Side) (u : Stored) → bag_ok u ≡ false → is_same (decode u) (N o) ≡ false
-    → after_read o (decode u) ≡ (if decode u ≟ᵛ X o then line48 else line39)
+    → after_read o (decode u) ≡ (if? decode u ≟ᵛ X o then line48 else line39)
 read-other o u h k = go (decode u) refl k
   where
-    no-N : (z : Side) (d : Dec (N z ≡ N o)) → (if d then true else false) ≡ false → (if d then line48 else line39)
+    no-N : (z : Side) (d : Dec (N z ≡ N o)) → (if? d then true else false) ≡ false → (if? d then line48 else line39)
         ≡ line39
     no-N z (yes e) k = clash (cc)
     no-N z (no n) k = refl
 
-    go : (v : Value) → decode u ≡ v → is_same v (N o) ≡ false → after_read o v ≡ (if v ≟ᵛ X o then line48 else line39)
+    go : (v : Value) → decode u ≡ v → is_same v (N o) ≡ false → after_read o v ≡ (if? v ≟ᵛ X o then line48 else line39)
     go never e k = rw (unequalᵛ {u = never} {v = X o} (λ e. refute (cc)))
     go (bag b) e k = clash (cc (h, (decoded-bag u b e).0))
     go (N z) e k = rw (unequalᵛ {u = N z} {v = X o} (λ e. refute (cc))) (no-N z (N z ≟ᵛ N o) k)
@@ -41,16 +41,16 @@ read-other o u h k = go (decode u) refl k
 
 -- ---- An effect chosen by a comparison.
 module _ (u v : Value) where
-  pub effect-same : is_same u v ≡ true → (x y : Effect) → (if u ≟ᵛ v then x else y) ≡ x
+  pub effect-same : is_same u v ≡ true → (x y : Effect) → (if? u ≟ᵛ v then x else y) ≡ x
   effect-same h x y = go (u ≟ᵛ v) h
     where
-      go : (d : Dec (u ≡ v)) → (if d then true else false) ≡ true → (if d then x else y) ≡ x
+      go : (d : Dec (u ≡ v)) → (if? d then true else false) ≡ true → (if? d then x else y) ≡ x
       go (yes e) h = refl
       go (no n) h = clash (cc)
 
-  pub effect-other : is_same u v ≡ false → (x y : Effect) → (if u ≟ᵛ v then x else y) ≡ y
+  pub effect-other : is_same u v ≡ false → (x y : Effect) → (if? u ≟ᵛ v then x else y) ≡ y
   effect-other h x y = go (u ≟ᵛ v) h
     where
-      go : (d : Dec (u ≡ v)) → (if d then true else false) ≡ false → (if d then x else y) ≡ y
+      go : (d : Dec (u ≡ v)) → (if? d then true else false) ≡ false → (if? d then x else y) ≡ y
       go (yes e) h = clash (cc)
       go (no n) h = refl

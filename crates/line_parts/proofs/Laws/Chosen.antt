@@ -7,7 +7,7 @@ use Prim.Native.Nat.{ℕ}
 use lib.Dec.{eqb}
 use borrow.Author.Tests.{eq-eqb, ne_eqb}
 use Rattle.machine.specs.declared.Answer.TheVariants.{Full, Yes, No}
-use Rattle.machine.specs.Choice.{◌≟◌, if◌then◌else◌}
+use Rattle.machine.specs.Choice.{◌≟◌, if?◌then◌else◌}
 use Rattle.machine.specs.Sides.{Side}
 use Rattle.machine.specs.Values.{Value, ◌≟ᵛ◌}
 use Rattle.machine.specs.Operations.{Operation, idle, push, pop, add, remove, operation_of}
@@ -21,21 +21,21 @@ use Rattle.line_parts.specs.Lent.{writes_in, hat_after}
 -- ---- The next step, by a comparison of numbers and of values.
 pub step-chosen :
     (x y : ℕ) (a b : Step)
-    → cond (eqb x y) (step_number a) (step_number b) ≡ step_number (if x ≟ y then a else b)
+    → cond (eqb x y) (step_number a) (step_number b) ≡ step_number (if? x ≟ y then a else b)
 step-chosen x y a b = go (x ≟ y)
   where
-    go : (d : Dec (x ≡ y)) → cond (eqb x y) (step_number a) (step_number b) ≡ step_number (if d then a else b)
+    go : (d : Dec (x ≡ y)) → cond (eqb x y) (step_number a) (step_number b) ≡ step_number (if? d then a else b)
     go (yes e) = rw (eq-eqb x y e)
     go (no e) = rw (ne_eqb x y e)
 
 pub chosenᵛ :
     (u v : Value) (a b : Step)
-    → cond (is_same u v) (step_number a) (step_number b) ≡ step_number (if u ≟ᵛ v then a else b)
+    → cond (is_same u v) (step_number a) (step_number b) ≡ step_number (if? u ≟ᵛ v then a else b)
 chosenᵛ u v a b = go (u ≟ᵛ v)
   where
     go :
         (d : Dec (u ≡ v))
-        → cond (if d then true else false) (step_number a) (step_number b) ≡ step_number (if d then a else b)
+        → cond (if? d then true else false) (step_number a) (step_number b) ≡ step_number (if? d then a else b)
     go (yes e) = refl
     go (no e) = refl
 
@@ -46,7 +46,7 @@ not-push P i p a r n h = go (n ≟ 0) (n ≟ 1) (n ≟ 2) (n ≟ 3)
   where
     go :
         (d0 : Dec (n ≡ 0)) (d1 : Dec (n ≡ 1)) (d2 : Dec (n ≡ 2)) (d3 : Dec (n ≡ 3))
-        → P (if d0 then idle else if d1 then push else if d2 then pop else if d3 then add else remove)
+        → P (if? d0 then idle else if? d1 then push else if? d2 then pop else if? d3 then add else remove)
     go (yes e) d1 d2 d3 = i
     go (no e) (yes e1) d2 d3 = absurd (h e1)
     go (no e) (no e1) (yes e2) d3 = p
@@ -85,7 +85,7 @@ other-spliced l t = not-push (λ (op : Operation). spliced op l t ≡ writing l 
 -- ---- 72's swap of the hat alone: it writes no node.
 module _ (h a x : ℕ) where
   abbrev pub swapped : Dec (h ≡ a) → List Write
-  swapped d = if d then hat≔ x ∷ [] else []
+  swapped d = if? d then hat≔ x ∷ [] else []
 
   pub hat-swapped : cond (eqb h a) x h ≡ hat_after (swapped (h ≟ a)) h
   hat-swapped = go (h ≟ a)

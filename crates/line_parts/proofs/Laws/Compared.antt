@@ -4,7 +4,7 @@ use mathlib.Core.Bool.{Bool, true, false, ◌&&◌}
 use Prim.Native.Nat.{ℕ}
 use lib.Dec.{eqb}
 use borrow.Author.Tests.{eq-eqb, ne_eqb}
-use Rattle.machine.specs.Choice.{◌≟◌, if◌then◌else◌}
+use Rattle.machine.specs.Choice.{◌≟◌, if?◌then◌else◌}
 use Rattle.machine.specs.Values.{Value, decode, ◌≟ᵛ◌}
 use Rattle.machine.specs.Lines.{Effect, dcas}
 use Rattle.machine.proofs.Basics.Contradiction.{clash}
@@ -33,7 +33,7 @@ module _ (x y : ℕ) (u v : Value) where
     where
       go :
           (d : Dec (x ≡ y)) (e : Dec (u ≡ v))
-          → eqb x y && (if e then true else false) ≡ true
+          → eqb x y && (if? e then true else false) ≡ true
           → dcas d e done failed ≡ done
       go (yes p) (yes q) h = refl
       go (yes p) (no q) h = let k = rw (eq-eqb x y p) at h in clash (cc)
@@ -46,7 +46,7 @@ module _ (x y : ℕ) (u v : Value) where
     where
       go :
           (d : Dec (x ≡ y)) (e : Dec (u ≡ v))
-          → eqb x y && (if e then true else false) ≡ false
+          → eqb x y && (if? e then true else false) ≡ false
           → dcas d e done failed ≡ failed
       go (yes p) (yes q) h = let k = rw (eq-eqb x y p) at h in clash (cc)
       go (yes p) (no q) h = refl

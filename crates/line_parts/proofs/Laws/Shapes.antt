@@ -3,7 +3,7 @@ use mathlib.Core.Path.{◌≡◌, refl, ap, ◌∙◌}
 use mathlib.Core.List.{List}
 use Prim.Native.Nat.{ℕ}
 use lib.ListN.{get_or}
-use Rattle.machine.specs.Choice.{◌≟◌, if◌then◌else◌}
+use Rattle.machine.specs.Choice.{◌≟◌, if?◌then◌else◌}
 use Rattle.machine.specs.Sides.{Side, side_of}
 use Rattle.machine.specs.Values.{Value, decode, ◌≟ᵛ◌}
 use Rattle.machine.specs.Steps.{Step, step_number}
@@ -44,7 +44,7 @@ coded-setting t in_b x = refl
 coded-setting t in_c x = refl
 coded-setting t in_d x = refl
 
-either_way : {P : Type 0} (d : Dec P) (n : Step) → (if d then n else n) ≡ n
+either_way : {P : Type 0} (d : Dec P) (n : Step) → (if? d then n else n) ≡ n
 either_way (yes h) n = refl
 either_way (no h) n = refl
 
@@ -56,8 +56,8 @@ module _ {ns : List ℕ} {t : Tasks.Task} (R : Ready ns t) (h : ℕ) where
   past-none :
       {P : Type 0} (no_node? : Dec P) (d : Done) (e : Effect)
       → outcome_of ns d ≡ effect_in s ns h e
-      → outcome_of ns (if no_node? then refused_done h t else d)
-      ≡ effect_in s ns h (if no_node? then refused (task_meant t) else e)
+      → outcome_of ns (if? no_node? then refused_done h t else d)
+      ≡ effect_in s ns h (if? no_node? then refused (task_meant t) else e)
   past-none (yes p) d e same = by_code R (refused_done h)
   past-none (no p) d e same = same
 
@@ -79,9 +79,9 @@ module _ {ns : List ℕ} {t : Tasks.Task} (R : Ready ns t) (h : ℕ) where
         (n m : Step)
         → outcome_of ns (follow_done ns h t z i (place r) (step_number n) (step_number m))
         ≡ effect_in s ns h
-        (through x (task_meant t) (next (setting (task_meant t) r y) (if y ≟ no_node then n else m)))
+        (through x (task_meant t) (next (setting (task_meant t) r y) (if? y ≟ no_node then n else m)))
     link-followed n m =
-        let step = if y ≟ no_node then n else m in
+        let step = if? y ≟ no_node then n else m in
         rw (step-chosen y no_node n m)
         (past-none (x ≟ no_node) (next_done h (with_register t (place r) y) (step_number step))
         (next (setting (task_meant t) r y) step) (set-and-at step))
@@ -104,9 +104,9 @@ module _ {ns : List ℕ} {t : Tasks.Task} (R : Ready ns t) (h : ℕ) where
     pub by-mark :
         outcome_of ns (mark_done ns h t mark (step_number n) (step_number m))
         ≡ effect_in s ns h
-        (through a (task_meant t) (next (task_meant t) (if decode (stored_in ns a) ≟ᵛ mark then n else m)))
+        (through a (task_meant t) (next (task_meant t) (if? decode (stored_in ns a) ≟ᵛ mark then n else m)))
     by-mark =
-        let step = if decode (stored_in ns a) ≟ᵛ mark then n else m in
+        let step = if? decode (stored_in ns a) ≟ᵛ mark then n else m in
         rw (chosenᵛ (decode (stored_in ns a)) mark n m)
         (past-none (a ≟ no_node) (next_done h t (step_number step)) (next (task_meant t) step)
         (by_code R (λ u. next_done h u (step_number step))))

@@ -7,7 +7,7 @@ use Prim.Native.Nat.{ℕ}
 use lib.Dec.{eqb}
 use lib.ListN.{get_or}
 use Rattle.machine.specs.declared.Answer.TheVariants.{Bag, Empty, No}
-use Rattle.machine.specs.Choice.{if◌then◌else◌}
+use Rattle.machine.specs.Choice.{if?◌then◌else◌}
 use Rattle.machine.specs.Sides.{Side, side_of}
 use Rattle.machine.specs.Values.{Value, bag, N, X, Y, encode, decode, number, bag_ok, ◌≟ᵛ◌}
 use Rattle.machine.specs.Steps.{line48, line51, line62, line78}
@@ -35,7 +35,7 @@ module _ (u v x y : Value) where
     where
       go :
           (d : Dec (u ≡ v)) (e : Dec (x ≡ y))
-          → (if d then true else false) && (if e then true else false) ≡ true
+          → (if? d then true else false) && (if? e then true else false) ≡ true
           → dcas d e done failed ≡ done
       go (yes p) (yes q) h = refl
       go (yes p) (no q) h = clash (cc)
@@ -48,7 +48,7 @@ module _ (u v x y : Value) where
     where
       go :
           (d : Dec (u ≡ v)) (e : Dec (x ≡ y))
-          → (if d then true else false) && (if e then true else false) ≡ false
+          → (if? d then true else false) && (if? e then true else false) ≡ false
           → dcas d e done failed ≡ failed
       go (yes p) (yes q) h = clash (cc)
       go (yes p) (no q) h = refl

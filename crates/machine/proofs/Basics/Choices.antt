@@ -4,7 +4,7 @@ use mathlib.Core.Logic.{◌≢◌}
 use mathlib.Core.HLevel.{hedberg, ¬_prop}
 use Prim.Native.Nat.{ℕ}
 use native.Mathlib.Nat.{ℕ_set}
-use Rattle.machine.specs.Choice.{◌≟◌, if◌then◌else◌}
+use Rattle.machine.specs.Choice.{◌≟◌, if?◌then◌else◌}
 use Rattle.machine.specs.Values.{Value, Value-discrete, ◌≟ᵛ◌}
 
 decided-yes : {P : Type 0} → IsProp P → (d : Dec P) (h : P) → d ≡ yes h
@@ -30,14 +30,14 @@ pub unequalᵛ : {u v : Value} (h : u ≢ v) → (u ≟ᵛ v) ≡ no h
 unequalᵛ {u} {v} h = decided-no (u ≟ᵛ v) h
 
 -- What holds of both ends of a choice, each where it is taken, holds of the choice.
-pub by-if : {T Q : Type 0} (P : T → Type 0) {a b : T} (d : Dec Q) → (Q → P a) → (¬ Q → P b) → P (if d then a else b)
+pub by-if : {T Q : Type 0} (P : T → Type 0) {a b : T} (d : Dec Q) → (Q → P a) → (¬ Q → P b) → P (if? d then a else b)
 by-if P (yes h) f g = f h
 by-if P (no h) f g = g h
 
 -- A choice whose proposition is known.
 module _ {T P : Type 0} (d : Dec P) (a b : T) where
-  pub if_yes : P → (if d then a else b) ≡ a
+  pub if_yes : P → (if? d then a else b) ≡ a
   if_yes h = by-if (λ x. x ≡ a) d (λ _. refl) (λ n. absurd (n h))
 
-  pub if_no : ¬ P → (if d then a else b) ≡ b
+  pub if_no : ¬ P → (if? d then a else b) ≡ b
   if_no n = by-if (λ x. x ≡ b) d (λ h. absurd (n h)) (λ _. refl)

@@ -6,7 +6,7 @@ use mathlib.Core.Option.{Option, some, none}
 use Prim.Native.Nat.{ℕ, zero, suc, ◌+◌, ◌-◌, ◌<◌, ◌≤◌}
 use native.Mathlib.Omega.{arith}
 use borrow.Author.Tests.{lt-ltb, le-ltb}
-use Rattle.machine.specs.Choice.{◌<?◌, if◌then◌else◌}
+use Rattle.machine.specs.Choice.{◌<?◌, if?◌then◌else◌}
 use Rattle.machine.specs.Round.{following, first_from, steps, FindsNext}
 use Rattle.machine.proofs.Basics.Contradiction.{clash, equal?, less?}
 use Rattle.machine.proofs.Basics.Choices.{if_yes, if_no}
@@ -31,7 +31,7 @@ less-than i k ne l = elim (less? i k) [ inl m ↦ m | inr m ↦ absurd (ne (omeg
 
 -- ---- How many steps lead from i to k, going round below n; none where they are the same.
 abbrev pub away : (n i k : ℕ) → ℕ
-away n i k = if k <? i then n + k - i else k - i
+away n i k = if? k <? i then n + k - i else k - i
 
 module _ (n k : ℕ) (is_below : k < n) where
   pub away-below : (i : ℕ) → i < n → away n i k < n

@@ -2,21 +2,21 @@
 use mathlib.Core.Path.{◌≡◌, refl, sym, ap, subst, ◌∙◌, fun_ext}
 use mathlib.Core.Logic.{◌≢◌, inl, inr}
 use Prim.Native.Nat.{ℕ}
-use Rattle.machine.specs.Choice.{◌≟◌, if◌then◌else◌}
+use Rattle.machine.specs.Choice.{◌≟◌, if?◌then◌else◌}
 use Rattle.machine.specs.Sides.{Side, left, right, opposite}
 use Rattle.machine.proofs.Basics.Contradiction.{equal?}
 use Rattle.machine.proofs.Basics.Choices.{if_yes, if_no}
 
 -- ---- A function with one place written.
 unfoldable pub update : {T : Type 0} → (ℕ → T) → ℕ → T → ℕ → T
-update f x v y = if y ≟ x then v else f y
+update f x v y = if? y ≟ x then v else f y
 
 module _ {T : Type 0} (f : ℕ → T) (x : ℕ) (v : T) where
   pub update_same : update f x v x ≡ v
   unfolding update
   update_same = go (x ≟ x)
     where
-      go : (d : Dec (x ≡ x)) → (if d then v else f x) ≡ v
+      go : (d : Dec (x ≡ x)) → (if? d then v else f x) ≡ v
       go (yes h) = refl
       go (no h) = absurd (h refl)
 
@@ -24,7 +24,7 @@ module _ {T : Type 0} (f : ℕ → T) (x : ℕ) (v : T) where
   unfolding update
   update_other y n = go (y ≟ x)
     where
-      go : (d : Dec (y ≡ x)) → (if d then v else f y) ≡ f y
+      go : (d : Dec (y ≡ x)) → (if? d then v else f y) ≡ f y
       go (yes h) = absurd (n h)
       go (no h) = refl
 
@@ -42,7 +42,7 @@ module _ {T : Type 0} (f : ℕ → T) (x : ℕ) (v : T) where
   unfolding update
   update_all P here others y = go (y ≟ x)
     where
-      go : (d : Dec (y ≡ x)) → P (if d then v else f y)
+      go : (d : Dec (y ≡ x)) → P (if? d then v else f y)
       go (yes h) = here
       go (no h) = others y
 

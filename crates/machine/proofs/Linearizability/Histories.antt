@@ -9,7 +9,7 @@ use Prim.Native.Nat.{ℕ, ◌+◌}
 use native.Mathlib.Omega.{arith}
 use Rattle.machine.specs.declared.Answer.{Answer}
 use Rattle.machine.specs.declared.Answer.TheVariants.{Going, Pushed, Bag, Empty, Full, Yes, No, Refused}
-use Rattle.machine.specs.Choice.{◌≟◌, if◌then◌else◌}
+use Rattle.machine.specs.Choice.{◌≟◌, if?◌then◌else◌}
 use Rattle.machine.specs.Counts.{count}
 use Rattle.machine.specs.Sides.{Side, left, right}
 use Rattle.machine.specs.Operations.{Operation, idle, push, pop, add, remove}
@@ -70,7 +70,7 @@ first_taken : (x : ℕ) (bags bags' : List ℕ) → take_first x bags ≡ some b
 first_taken x [] bags' e = clash (cc)
 first_taken x (y ∷ bags) bags' e = go (y ≟ x) e
   where
-    go : (d : Dec (y ≡ x)) → (if d then some bags else none) ≡ some bags' → y ∷ bags ≡ x ∷ bags'
+    go : (d : Dec (y ≡ x)) → (if? d then some bags else none) ≡ some bags' → y ∷ bags ≡ x ∷ bags'
     go (yes h) e = cc
     go (no h) e = clash (cc)
 

@@ -6,7 +6,7 @@ use mathlib.Core.List.{List, [], ◌∷◌}
 use Prim.Native.Nat.{ℕ, suc}
 use Rattle.machine.specs.declared.Answer.{Answer}
 use Rattle.machine.specs.declared.Answer.TheVariants.{Going, Pushed, Bag, Empty, Full, Yes, No}
-use Rattle.machine.specs.Choice.{◌≟◌, if◌then◌else◌}
+use Rattle.machine.specs.Choice.{◌≟◌, if?◌then◌else◌}
 use Rattle.machine.specs.Sides.{Side}
 use Rattle.machine.specs.Values.{Value, never, bag, N, X, Y, ◌≟ᵛ◌}
 use Rattle.machine.specs.Operations.{Operation, idle, push, pop, add, remove}
@@ -197,7 +197,7 @@ module _ (s o : Side) (m : Memory) (t : Task) (g f : ℕ) where
   by-step : {st : Step} {A : Type 0} (F : Task → Task) {x y : Step} (d : Dec A)
       → (A → Branch st (next (F t) x))
       → (¬ A → Branch st (next (F t) y))
-      → Branch st (next (F t) (if d then x else y))
+      → Branch st (next (F t) (if? d then x else y))
   by-step {st} F = ok-if (Branch st) (λ n. next (F t) n)
 
   none-taken : f ≡ no_node → (op : Operation) → t.operation ≡ op → Branch Steps.line28 (answers (none_free op))

@@ -3,7 +3,7 @@
 use mathlib.Core.Path.{◌≡◌}
 use mathlib.Core.Logic.{◌≢◌}
 use Prim.Native.Nat.{ℕ}
-use Rattle.machine.specs.Choice.{◌≟◌, if◌then◌else◌}
+use Rattle.machine.specs.Choice.{◌≟◌, if?◌then◌else◌}
 use Rattle.machine.specs.Tasks.{Task, no_node}
 use Rattle.machine.specs.Lines.{Effect, refused, through, dcas}
 
@@ -11,7 +11,7 @@ module _ (P : Effect → Type 0) where
   pub ok-if : {A T : Type 0} (F : T → Effect) {x y : T} (d : Dec A)
       → (A → P (F x))
       → (¬ A → P (F y))
-      → P (F (if◌then◌else◌ d x y))
+      → P (F (if?◌then◌else◌ d x y))
   ok-if F (yes h) f g = f h
   ok-if F (no h) f g = g h
 

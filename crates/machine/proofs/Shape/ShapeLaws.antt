@@ -7,7 +7,7 @@ use lib.Dec.{leb, ltb, eqb}
 use lib.ListN.{length}
 use native.Mathlib.Omega.{arith}
 use borrow.Author.Tests.{leb-true, le-leb, ltb-true, lt-ltb, le-ltb, eqb-true, eq-eqb}
-use Rattle.machine.specs.Choice.{◌<?◌, ◌≟◌, if◌then◌else◌}
+use Rattle.machine.specs.Choice.{◌<?◌, ◌≟◌, if?◌then◌else◌}
 use Rattle.machine.specs.Sides.{Side, left, right}
 use Rattle.machine.specs.Values.{never, encode, value_ok}
 use Rattle.machine.specs.Tasks.{no_node, fresh, words_of}
@@ -172,7 +172,7 @@ column-all :
     → P (column n other f x)
 column-all P n other f p q x = go (x <? n)
   where
-    go : (d : Dec (x < n)) → P (if d then f x else other)
+    go : (d : Dec (x < n)) → P (if? d then f x else other)
     go (yes h) = q x h
     go (no h) = p
 
@@ -217,7 +217,7 @@ module _ (ws : List ℕ) where
       both left q = and_left (hat_ok ws l left) (hat_ok ws l right) q
       both right q = and_right (hat_ok ws l left) (hat_ok ws l right) q
 
-      go : (d : Dec (l < most_lanes)) → HatFits (node_count ws) (lane_count ws) l (if d then hat_word ws l s else no_node)
+      go : (d : Dec (l < most_lanes)) → HatFits (node_count ws) (lane_count ws) l (if? d then hat_word ws l s else no_node)
       go (yes q) = hat-fits l s (both s (below_all most_lanes hats-test h l q))
       go (no q) = record { used = λ p. absurd (omega arith); unused = λ p. refl }
 

@@ -9,7 +9,7 @@ use lib.Dec.{ltb, eqb}
 use lib.ListN.{get_or}
 use borrow.Author.Tests.{ltb-true, lt-ltb}
 use Rattle.machine.specs.declared.Answer.TheVariants.{Refused}
-use Rattle.machine.specs.Choice.{◌<?◌, if◌then◌else◌}
+use Rattle.machine.specs.Choice.{◌<?◌, if?◌then◌else◌}
 use Rattle.machine.specs.Sides.{Side, opposite}
 use Rattle.machine.specs.Operations.{idle}
 use Rattle.machine.specs.Tasks.{Task, fresh, words_of, value_read_words, task_of}
@@ -116,7 +116,7 @@ module _ (ws : List ℕ) (W : WellShaped (columns ws)) where
       r : List ℕ
       r = record_words ws k
 
-      go : (d : Dec (k < task_count ws)) → record_ok S g L (words_of (if d then task_of r else fresh)) ≡ true
+      go : (d : Dec (k < task_count ws)) → record_ok S g L (words_of (if? d then task_of r else fresh)) ≡ true
       go (no n) = record-of-fresh S g L
       go (yes l) =
           let ok : record_ok S g L r ≡ true = rw (if_yes (k <? task_count ws) r (words_of fresh) l) at (W.records-ok k) in
@@ -170,7 +170,7 @@ busy-is-task ws k = go (k <? task_count ws)
   where
     go :
         (d : Dec (k < task_count ws))
-        → is_busy (if d then task_of (record_words ws k) else fresh).operation ≡ true
+        → is_busy (if? d then task_of (record_words ws k) else fresh).operation ≡ true
         → k < task_count ws
     go (yes l) b = l
     go (no l) b = clash (cc)

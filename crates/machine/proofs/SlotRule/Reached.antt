@@ -10,7 +10,7 @@ use lib.Dec.{eqb, ltb}
 use lib.ListN.{get_or, length-replicate, get_or-replicate, get_or-eq_default}
 use lib.Seq.{get_or-set_other}
 use borrow.Author.Tests.{lt-ltb, ne_eqb, ltb-true, eqb-false, not-true}
-use Rattle.machine.specs.Choice.{◌≟◌, ◌<?◌, if◌then◌else◌}
+use Rattle.machine.specs.Choice.{◌≟◌, ◌<?◌, if?◌then◌else◌}
 use Rattle.machine.specs.Sides.{Side, left, right}
 use Rattle.machine.specs.Tasks.{Task, no_node, fresh, task_of, Register, in_a, in_b, in_c, in_d, register}
 use Rattle.machine.specs.Registers.{holds, held_in}
@@ -82,7 +82,7 @@ register-task ws k r n = by (k <? task_count ws) n
     fresh-none in_c = refl
     fresh-none in_d = refl
 
-    by : (d : Dec (k < task_count ws)) → register (if d then task_of (record_words ws k) else fresh) r ≢ no_node
+    by : (d : Dec (k < task_count ws)) → register (if? d then task_of (record_words ws k) else fresh) r ≢ no_node
         → k < task_count ws
     by (yes l) f = l
     by (no l) f = absurd (f (fresh-none r))

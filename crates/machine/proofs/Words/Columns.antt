@@ -4,7 +4,7 @@ use mathlib.Core.Logic.{◌≢◌}
 use mathlib.Core.List.{List, [], ◌∷◌}
 use Prim.Native.Nat.{ℕ, ◌-◌, ◌<◌}
 use Rattle.machine.specs.declared.Stored.{Stored}
-use Rattle.machine.specs.Choice.{◌<?◌, if◌then◌else◌}
+use Rattle.machine.specs.Choice.{◌<?◌, if?◌then◌else◌}
 use Rattle.machine.specs.Sides.{Side, opposite}
 use Rattle.machine.specs.Values.{never, encode, decode}
 use Rattle.machine.specs.Tasks.{Task, fresh, words_of, task_of}
@@ -16,7 +16,7 @@ use Rattle.machine.proofs.Words.Memories.{View}
 
 -- A function below a bound, with one value from the bound on.
 abbrev pub column : {T : Type 0} → ℕ → T → (ℕ → T) → ℕ → T
-column n other f x = if x <? n then f x else other
+column n other f x = if? x <? n then f x else other
 
 -- The header's other words but the hats: the counts that change, and the last two words.
 pub record Counts : Type 0 where
@@ -161,7 +161,7 @@ module _ {T : Type 0} (other : T) (f f' : ℕ → T) {n n' : ℕ} (bound : n' �
   pub column-kept : ((x : ℕ) → x < n → f' x ≡ f x) → column n' other f' ≡ column n other f
   column-kept same = ap (λ m. column m other f') bound ∙ fun_ext (λ x. go x (x <? n))
     where
-      go : (x : ℕ) (d : Dec (x < n)) → (if d then f' x else other) ≡ (if d then f x else other)
+      go : (x : ℕ) (d : Dec (x < n)) → (if? d then f' x else other) ≡ (if? d then f x else other)
       go x (yes h) = same x h
       go x (no h) = refl
 
@@ -174,13 +174,13 @@ module _ {T : Type 0} (other : T) (f f' : ℕ → T) {n n' : ℕ} (bound : n' �
   column-written y v l here same =
       ap (λ m. column m other f') bound ∙ is-update (column n other f) y v (column n other f') (at_y (y <? n)) elsewhere
     where
-      at_y : (d : Dec (y < n)) → (if d then f' y else other) ≡ v
+      at_y : (d : Dec (y < n)) → (if? d then f' y else other) ≡ v
       at_y (yes h) = here
       at_y (no h) = absurd (h l)
 
       elsewhere : (x : ℕ) → x ≢ y → column n other f' x ≡ column n other f x
       elsewhere x k = go (x <? n)
         where
-          go : (d : Dec (x < n)) → (if d then f' x else other) ≡ (if d then f x else other)
+          go : (d : Dec (x < n)) → (if? d then f' x else other) ≡ (if? d then f x else other)
           go (yes h) = same x h k
           go (no h) = refl

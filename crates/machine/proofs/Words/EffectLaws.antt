@@ -2,7 +2,7 @@
 use mathlib.Core.Path.{◌≡◌, refl, ap, sym, ◌∙◌, subst, fun_ext}
 use mathlib.Core.List.{List, [], ◌∷◌}
 use Prim.Native.Nat.{ℕ, ◌+◌, ◌%◌, ◌^◌, ◌<◌}
-use Rattle.machine.specs.Choice.{◌<?◌, if◌then◌else◌}
+use Rattle.machine.specs.Choice.{◌<?◌, if?◌then◌else◌}
 use Rattle.machine.specs.Sides.{Side, left, right, opposite}
 use Rattle.machine.specs.Values.{encode, decode}
 use Rattle.machine.specs.Tasks.{Task, fresh, words_of, task_of}
@@ -137,7 +137,7 @@ task-by-columns ws = fun_ext (λ k. go k (k <? task_count ws))
   where
     go :
         (k : ℕ) (d : Dec (k < task_count ws))
-        → (if d then task_of (record_words ws k) else fresh) ≡ task_of (if d then record_words ws k else words_of fresh)
+        → (if? d then task_of (record_words ws k) else fresh) ≡ task_of (if? d then record_words ws k else words_of fresh)
     go k (yes h) = refl
     go k (no h) = sym fresh-of-words
 

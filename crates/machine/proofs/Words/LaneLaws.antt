@@ -3,7 +3,7 @@ use mathlib.Core.Path.{◌≡◌, refl, ap, ◌∙◌}
 use mathlib.Core.List.{List, [], ◌∷◌}
 use mathlib.Core.Option.{Option, some, none, map}
 use Prim.Native.Nat.{ℕ, zero, suc}
-use Rattle.machine.specs.Choice.{◌≟◌, if◌then◌else◌}
+use Rattle.machine.specs.Choice.{◌≟◌, if?◌then◌else◌}
 use Rattle.machine.specs.Sides.{left, right}
 use Rattle.machine.specs.Values.{Value, never, bag, N, X, Y}
 use Rattle.machine.specs.Tasks.{no_node}
@@ -31,7 +31,7 @@ module _
   lane-from-same zero x = refl
   lane-from-same (suc n) x =
       let rest = (λ i. lane_from vs n (links i right x)) ∙ lane-from-same n (link ws right x) in
-      λ i. if x ≟ no_node then none else at_value (values i x) (rest i)
+      λ i. if? x ≟ no_node then none else at_value (values i x) (rest i)
 
   pub lane-same : (l : ℕ) → hat vs l left ≡ hat ws l left → lane vs l ≡ lane ws l
   unfolding lane

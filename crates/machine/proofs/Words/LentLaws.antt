@@ -10,7 +10,7 @@ use lib.Dec.{leb, ltb, eqb}
 use lib.ListN.{length, get_or, take, drop, take-append-drop}
 use lib.Seq.{sets, sets-eq, length-sets, length-take-le, take_at, drop_at, drop-drop}
 use Rattle.machine.specs.declared.Stored.{Stored}
-use Rattle.machine.specs.Choice.{◌<?◌, if◌then◌else◌}
+use Rattle.machine.specs.Choice.{◌<?◌, if?◌then◌else◌}
 use Rattle.machine.specs.Sides.{Side, left, right, side_of}
 use Rattle.machine.specs.Values.{number, decode, value_ok}
 use Rattle.machine.specs.Operations.{operation_of}
@@ -192,12 +192,12 @@ module _
   pub own-task : task (lent_to ws k r) k ≡ task_of r
   unfolding task
   own-task =
-      (λ i. if k <? same-task-count ws k r i then task_of (own-words i) else fresh)
+      (λ i. if? k <? same-task-count ws k r i then task_of (own-words i) else fresh)
       ∙ if_yes (k <? task_count ws) (task_of r) fresh is_task
 
   pub far-task : (j : ℕ) → j ≢ k → task (lent_to ws k r) j ≡ task ws j
   unfolding task
-  far-task j n = λ i. if j <? same-task-count ws k r i then task_of (far-words j n i) else fresh
+  far-task j n = λ i. if? j <? same-task-count ws k r i then task_of (far-words j n i) else fresh
 
 -- ---- The words that stand there already.
 pub own-lent : (ws : List ℕ) (k : ℕ) → Sized (sizes_of ws) → k < task_count ws → lent_to ws k (record_words ws k) ≡ ws

@@ -10,7 +10,7 @@ use native.Mathlib.Decide.{ℕ_discrete}
 use borrow.Author.Tests.{leb-true}
 use Rattle.text.proofs.Laws.SameTexts.{same-equal, same-itself}
 use Rattle.machine.specs.declared.Stored.{Stored}
-use Rattle.machine.specs.Choice.{◌≟◌, if◌then◌else◌}
+use Rattle.machine.specs.Choice.{◌≟◌, if?◌then◌else◌}
 use Rattle.machine.specs.Sides.{Side, left, right, opposite, side_number, side_of}
 use Rattle.machine.specs.Values.{N, X, encode, stored_words, same_stored, bag_ok, value_ok}
 use Rattle.machine.specs.Operations.{
@@ -73,7 +73,7 @@ number-of-operation n h = go (n ≟ 0) (n ≟ 1) (n ≟ 2) (n ≟ 3)
   where
     go :
         (a : Dec (n ≡ 0)) (b : Dec (n ≡ 1)) (c : Dec (n ≡ 2)) (d : Dec (n ≡ 3))
-        → operation_number (if a then idle else if b then push else if c then pop else if d then add else remove) ≡ n
+        → operation_number (if? a then idle else if? b then push else if? c then pop else if? d then add else remove) ≡ n
     go (yes a) b c d = sym a
     go (no a) (yes b) c d = sym b
     go (no a) (no b) (yes c) d = sym c
@@ -88,7 +88,7 @@ side-of-number right = refl
 pub number-of-side : (n : ℕ) → n ≤ 1 → side_number (side_of n) ≡ n
 number-of-side n h = go (n ≟ 0)
   where
-    go : (d : Dec (n ≡ 0)) → side_number (if d then left else right) ≡ n
+    go : (d : Dec (n ≡ 0)) → side_number (if? d then left else right) ≡ n
     go (yes d) = sym d
     go (no d) = omega arith
 

@@ -6,7 +6,7 @@ use lib.ListN.{length, get_or, length-append, get_or-append}
 use lib.Seq.{get_or-append-add}
 use native.Mathlib.Omega.{arith}
 use native.Mathlib.Nat.{add_assoc}
-use Rattle.machine.specs.Choice.{◌≟◌, ◌<?◌, if◌then◌else◌}
+use Rattle.machine.specs.Choice.{◌≟◌, ◌<?◌, if?◌then◌else◌}
 use Rattle.machine.specs.Sides.{Side, left, right, side_number}
 use Rattle.machine.specs.Values.{Value, never, X, encode, stored_at}
 use Rattle.machine.specs.Tasks.{Task, no_node, fresh, record_length, words_of}
@@ -46,11 +46,11 @@ times-at (suc n) l (suc i) c h k =
 
 -- ---- 02's started table, as functions: node x is of lane x / 2, and of its left side where x is even.
 abbrev pub start_link : (lanes : ℕ) → Side → ℕ → ℕ
-start_link L left x = if x <? 2 * L then (if x % 2 ≟ 0 then no_node else x - 1) else no_node
-start_link L right x = if x <? 2 * L then (if x % 2 ≟ 0 then x + 1 else no_node) else no_node
+start_link L left x = if? x <? 2 * L then (if? x % 2 ≟ 0 then no_node else x - 1) else no_node
+start_link L right x = if? x <? 2 * L then (if? x % 2 ≟ 0 then x + 1 else no_node) else no_node
 
 abbrev pub start_value : (lanes : ℕ) → ℕ → Value
-start_value L x = if x <? 2 * L then (if x % 2 ≟ 0 then X left else X right) else never
+start_value L x = if? x <? 2 * L then (if? x % 2 ≟ 0 then X left else X right) else never
 
 abbrev pub start_view : (lanes : ℕ) → View
 start_view L =
@@ -179,24 +179,24 @@ module _ (S T g L : ℕ) (room : 2 * L ≤ S) where
 
   -- ---- A node's words, by its place in its pair.
   pair_left : (x : ℕ) (d : Dec (x % 2 ≡ 0))
-      → get_or (pair (x / 2)) (node_length * (x % 2) + side_number left) 0 ≡ (if d then no_node else x - 1)
+      → get_or (pair (x / 2)) (node_length * (x % 2) + side_number left) 0 ≡ (if? d then no_node else x - 1)
   pair_left x (yes e) = rw e
   pair_left x (no e) = let q : x % 2 ≡ 1 = omega arith in rw q (omega arith)
 
   pair-right : (x : ℕ) (d : Dec (x % 2 ≡ 0))
-      → get_or (pair (x / 2)) (node_length * (x % 2) + side_number right) 0 ≡ (if d then x + 1 else no_node)
+      → get_or (pair (x / 2)) (node_length * (x % 2) + side_number right) 0 ≡ (if? d then x + 1 else no_node)
   pair-right x (yes e) = rw e (omega arith)
   pair-right x (no e) = let q : x % 2 ≡ 1 = omega arith in rw q
 
   pair-link : (s : Side) (x : ℕ) → x < 2 * L
       → get_or (pair (x / 2)) (node_length * (x % 2) + side_number s) 0 ≡ start_link L s x
   pair-link left x h =
-      pair_left x (x % 2 ≟ 0) ∙ sym (if_yes (x <? 2 * L) (if x % 2 ≟ 0 then no_node else x - 1) no_node h)
+      pair_left x (x % 2 ≟ 0) ∙ sym (if_yes (x <? 2 * L) (if? x % 2 ≟ 0 then no_node else x - 1) no_node h)
   pair-link right x h =
-      pair-right x (x % 2 ≟ 0) ∙ sym (if_yes (x <? 2 * L) (if x % 2 ≟ 0 then x + 1 else no_node) no_node h)
+      pair-right x (x % 2 ≟ 0) ∙ sym (if_yes (x <? 2 * L) (if? x % 2 ≟ 0 then x + 1 else no_node) no_node h)
 
   pair-value : (x : ℕ) (d : Dec (x % 2 ≡ 0))
-      → stored_at (pair (x / 2)) (node_length * (x % 2) + links_length) ≡ encode (if d then X left else X right)
+      → stored_at (pair (x / 2)) (node_length * (x % 2) + links_length) ≡ encode (if? d then X left else X right)
   pair-value x (yes e) = rw e
   pair-value x (no e) = let q : x % 2 ≡ 1 = omega arith in rw q
 
@@ -206,15 +206,15 @@ module _ (S T g L : ℕ) (room : 2 * L ≤ S) where
   spare-link right = refl
 
   link-else : (s : Side) (x : ℕ) → 2 * L ≤ x → start_link L s x ≡ no_node
-  link-else left x h = if_no (x <? 2 * L) (if x % 2 ≟ 0 then no_node else x - 1) no_node (λ l. omega arith)
-  link-else right x h = if_no (x <? 2 * L) (if x % 2 ≟ 0 then x + 1 else no_node) no_node (λ l. omega arith)
+  link-else left x h = if_no (x <? 2 * L) (if? x % 2 ≟ 0 then no_node else x - 1) no_node (λ l. omega arith)
+  link-else right x h = if_no (x <? 2 * L) (if? x % 2 ≟ 0 then x + 1 else no_node) no_node (λ l. omega arith)
 
   link_start : (s : Side) (x : ℕ) → link (start_words S T g L) s x ≡ start_link L s x
   unfolding link start_words
   link_start s x = go (x <? S) (x <? 2 * L)
     where
       go : (d : Dec (x < S)) → Dec (x < 2 * L)
-          → (if d then link_word (start_words S T g L) s x else no_node) ≡ start_link L s x
+          → (if? d then link_word (start_words S T g L) s x else no_node) ≡ start_link L s x
       go (yes l) (yes h) = node-at x (side_number s) h (omega (arith, side-small s)) ∙ pair-link s x h
       go (yes l) (no h) =
           spare-at x (side_number s) (omega arith) l (omega (arith, side-small s))
@@ -223,20 +223,20 @@ module _ (S T g L : ℕ) (room : 2 * L ≤ S) where
       go (no l) d = sym (link-else s x (omega arith))
 
   value-else : (x : ℕ) → 2 * L ≤ x → encode (start_value L x) ≡ encode never
-  value-else x h = ap encode (if_no (x <? 2 * L) (if x % 2 ≟ 0 then X left else X right) never (λ l. omega arith))
+  value-else x h = ap encode (if_no (x <? 2 * L) (if? x % 2 ≟ 0 then X left else X right) never (λ l. omega arith))
 
   value-start : (x : ℕ) → (columns (start_words S T g L)).values x ≡ encode (start_value L x)
   unfolding start_words spare
   value-start x = go (x <? S) (x <? 2 * L)
     where
       go : (d : Dec (x < S)) → Dec (x < 2 * L)
-          → (if d then value_words (start_words S T g L) x else encode never) ≡ encode (start_value L x)
+          → (if? d then value_words (start_words S T g L) x else encode never) ≡ encode (start_value L x)
       go (yes l) (yes h) =
           stored-alike (pair (x / 2)) (start_words S T g L) (value_at x) (node_length * (x % 2) + links_length) (λ c k.
           rw (add_assoc (node_at x) links_length c, add_assoc (node_length * (x % 2)) links_length c)
           (node-at x (links_length + c) h (omega arith)))
           ∙ pair-value x (x % 2 ≟ 0)
-          ∙ sym (ap encode (if_yes (x <? 2 * L) (if x % 2 ≟ 0 then X left else X right) never h))
+          ∙ sym (ap encode (if_yes (x <? 2 * L) (if? x % 2 ≟ 0 then X left else X right) never h))
       go (yes l) (no h) =
           stored-alike spare (start_words S T g L) (value_at x) links_length (λ c k.
           rw (add_assoc (node_at x) links_length c)
@@ -248,7 +248,7 @@ module _ (S T g L : ℕ) (room : 2 * L ≤ S) where
   unfolding start_words
   record-start k = go (k <? T)
     where
-      go : (d : Dec (k < T)) → (if d then record_words (start_words S T g L) k else words_of fresh) ≡ words_of fresh
+      go : (d : Dec (k < T)) → (if? d then record_words (start_words S T g L) k else words_of fresh) ≡ words_of fresh
       go (yes h) =
           record-alike (start_words S T g L) (words_of fresh) (record_at S k) refl (omega (arith, length-start))
           (λ c q. record-at k c h q)
@@ -272,7 +272,7 @@ module _ (S T g L : ℕ) (room : 2 * L ≤ S) where
     unfolding hat
     hat-start l s = go (l <? most_lanes)
       where
-        go : (d : Dec (l < most_lanes)) → (if d then hat_word (start_words S T g L) l s else no_node) ≡ start_hat L l s
+        go : (d : Dec (l < most_lanes)) → (if? d then hat_word (start_words S T g L) l s else no_node) ≡ start_hat L l s
         go (yes h) = hat-word l s h
         go (no h) = sym (if_no (l <? L) (2 * l + side_number s) no_node (λ q. omega arith))
 

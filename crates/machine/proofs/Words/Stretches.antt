@@ -17,7 +17,7 @@ use lib.Seq.{
   ext_get_or,
 }
 use native.Mathlib.Omega.{arith}
-use Rattle.machine.specs.Choice.{◌<?◌, if◌then◌else◌}
+use Rattle.machine.specs.Choice.{◌<?◌, if?◌then◌else◌}
 use Rattle.machine.specs.Sides.{Side, left, right, side_number}
 use Rattle.machine.specs.Values.{never, encode}
 use Rattle.machine.specs.Tasks.{no_node, fresh, record_length, words_of}
@@ -139,7 +139,7 @@ unfolding hat
 hats-kept ws vs same = fun_ext (λ l. fun_ext (λ s. go l s (l <? most_lanes)))
   where
     go : (l : ℕ) (s : Side) (d : Dec (l < most_lanes))
-        → (if d then hat_word vs l s else no_node) ≡ (if d then hat_word ws l s else no_node)
+        → (if? d then hat_word vs l s else no_node) ≡ (if? d then hat_word ws l s else no_node)
     go l s (yes h) = same l s h
     go l s (no h) = refl
 

@@ -6,7 +6,7 @@ use Prim.Native.Nat.{ℕ, ◌+◌, ◌≤◌, ◌<◌}
 use lib.ListN.{length}
 use lib.Seq.{get_or-set_same, get_or-set_other}
 use native.Mathlib.Omega.{arith}
-use Rattle.machine.specs.Choice.{◌<?◌, ◌≟◌, if◌then◌else◌}
+use Rattle.machine.specs.Choice.{◌<?◌, ◌≟◌, if?◌then◌else◌}
 use Rattle.machine.specs.Sides.{Side, left, right, opposite}
 use Rattle.machine.specs.Values.{Value, never, encode, stored_length, stored_words}
 use Rattle.machine.specs.Tasks.{Task, no_node, fresh, record_length, words_of}
@@ -92,7 +92,7 @@ module _ (ws : List ℕ) (sized : Sized (sizes_of ws)) (l : ℕ) (is_lane : l < 
   other-hats j ne = fun_ext (λ z. go z (j <? most_lanes))
     where
       go : (z : Side) (d : Dec (j < most_lanes))
-          → (if d then hat_word (set_hat l s x ws) j z else no_node) ≡ (if d then hat_word ws j z else no_node)
+          → (if? d then hat_word (set_hat l s x ws) j z else no_node) ≡ (if? d then hat_word ws j z else no_node)
       go z (yes h) =
           get_or-set_other ws (hat_at l s) (hat_at j z) x 0
           (λ e. let a = side-small s in let b = side-small z in absurd (ne (omega arith)))

@@ -23,7 +23,7 @@ use Rattle.tag.proofs.TagLaws.{
   number-is-tag,
 }
 use Rattle.machine.specs.declared.Stored.{Stored}
-use Rattle.machine.specs.Choice.{◌≟◌, if◌then◌else◌}
+use Rattle.machine.specs.Choice.{◌≟◌, if?◌then◌else◌}
 use Rattle.machine.specs.Sides.{Side, left, right}
 use Rattle.machine.specs.Values.{
   Value,
@@ -228,11 +228,11 @@ decoded u =
         → Decoded u
         (cond a never
         (cond b (bag (number u))
-        (if c then N left else
-        if d then X left else
-        if e then Y left else
-        if f then N right else
-        if g then X right else
+        (if? c then N left else
+        if? d then X left else
+        if? e then Y left else
+        if? f then N right else
+        if? g then X right else
         Y right)))
     go true b p q c d e f g = as-never (same-stored {w = encode never} p)
     go false true p q c d e f g = as-bag q

@@ -4,7 +4,7 @@ use mathlib.Core.Logic.{◌≢◌, inl, inr}
 use mathlib.Core.List.{List}
 use Prim.Native.Nat.{ℕ, zero, suc, ◌+◌, ◌-◌, ◌≤◌, ◌<◌}
 use native.Mathlib.Omega.{arith}
-use Rattle.machine.specs.Choice.{◌<?◌, if◌then◌else◌}
+use Rattle.machine.specs.Choice.{◌<?◌, if?◌then◌else◌}
 use Rattle.machine.specs.Sides.{Side}
 use Rattle.machine.specs.Values.{bag, N, X}
 use Rattle.machine.specs.Tasks.{no_node}
@@ -255,7 +255,7 @@ module _ (end : CallEnd) where
 
     -- The spare nodes, and then the chain.
     abbrev pub joined : ℕ → ℕ
-    joined i = if i <? spares end then spare end i else new (i - spares end)
+    joined i = if? i <? spares end then spare end i else new (i - spares end)
 
     pub joined-old : (i : ℕ) → i < spares end → joined i ≡ spare end i
     joined-old i l = if_yes (i <? spares end) _ _ l

@@ -7,7 +7,7 @@ use mathlib.Core.Option.{Option, some, none, bind, map}
 use Prim.Native.Nat.{ℕ, zero, suc, ◌<◌}
 use native.Mathlib.Omega.{arith}
 use lib.ListN.{length, length-append}
-use Rattle.machine.specs.Choice.{◌≟◌, if◌then◌else◌}
+use Rattle.machine.specs.Choice.{◌≟◌, if?◌then◌else◌}
 use Rattle.machine.specs.declared.Answer.{Answer}
 use Rattle.machine.specs.declared.Answer.TheVariants.{Going, Pushed, Bag, Empty, Full, Yes, No, Refused}
 use Rattle.machine.specs.declared.Reply.{Reply}
@@ -150,7 +150,7 @@ module _ (k : ℕ) (n : Note) where
       let F = fed-answer ρ k n (A.notes k ∙ is-noted) a (ends-not-going a is-end)
       (subst (λ (x : Answer). feed_made ρ k x ≡ some (tick-made B k h made).row) is-a (fed B k h made)) in
       let row_is : (j : ℕ) → j < lane_count ws → ρ.bags j ≡ r j = λ j l. same_some (sym (row_of A j l) ∙ lanes j l) in
-      let lane-now : (j : ℕ) → j < lane_count ws → lane vs j ≡ some (if j ≟ n.lane then F.0 else ρ.bags j) =
+      let lane-now : (j : ℕ) → j < lane_count ws → lane vs j ≡ some (if? j ≟ n.lane then F.0 else ρ.bags j) =
       λ j l.
       ap (λ (us : List ℕ). lane us j) (sym leaves)
       ∙ lane-then B k h made j l

@@ -7,7 +7,7 @@ use mathlib.Core.Option.{Option}
 use Prim.Native.Nat.{ℕ, ◌+◌, ◌≤◌, ◌<◌}
 use native.Mathlib.Omega.{arith}
 use lib.ListN.{length}
-use Rattle.machine.specs.Choice.{◌≟◌, ◌<?◌, if◌then◌else◌}
+use Rattle.machine.specs.Choice.{◌≟◌, ◌<?◌, if?◌then◌else◌}
 use Rattle.machine.specs.declared.Answer.{Answer}
 use Rattle.machine.specs.declared.Answer.TheVariants.{Pushed, Full}
 use Rattle.machine.specs.Sides.{Side, left, right, opposite, side_of}
@@ -301,8 +301,8 @@ full-again {σ} {τ} H K c full =
 found-same : {σ τ : State} → Like σ τ → (ps : List Loader) → found_room τ ps ≡ found_room σ ps
 found-same K [] = refl
 found-same {σ} {τ} K (p ∷ ps) =
-    ap (λ (n : ℕ). if 1 <? n then Pushed else found_room τ ps) (K.same-room p.lane p.side)
-    ∙ ap (λ (a : Answer). if 1 <? room_at σ p then Pushed else a) (found-same K ps)
+    ap (λ (n : ℕ). if? 1 <? n then Pushed else found_room τ ps) (K.same-room p.lane p.side)
+    ∙ ap (λ (a : Answer). if? 1 <? room_at σ p then Pushed else a) (found-same K ps)
 
 pushed-ends : (σ : State) (c : WholeCall) → (one_call σ c).answer ≡ Pushed → (ps : List Loader)
     → last_answer σ c ps ≡ Pushed

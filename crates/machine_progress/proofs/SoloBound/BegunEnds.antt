@@ -4,7 +4,7 @@ use mathlib.Core.Logic.{◌≢◌}
 use mathlib.Core.List.{List}
 use Prim.Native.Nat.{ℕ, ◌+◌, ◌*◌, ◌-◌, ◌%◌, ◌≤◌, ◌<◌}
 use native.Mathlib.Omega.{arith}
-use Rattle.machine.specs.Choice.{◌≟◌, ◌<?◌, if◌then◌else◌}
+use Rattle.machine.specs.Choice.{◌≟◌, ◌<?◌, if?◌then◌else◌}
 use Rattle.machine.specs.Sides.{Side, left, right, opposite}
 use Rattle.machine.specs.Tasks.{Task, no_node}
 use Rattle.machine.specs.Table.{most_lanes}
@@ -30,25 +30,25 @@ ends-view right m E = E
 module _ (L x : ℕ) (h : x < 2 * L) where
   left-even : x % 2 ≡ 0 → start_link L left x ≡ no_node
   left-even e =
-      if_yes (x <? 2 * L) (if x % 2 ≟ 0 then no_node else x - 1) no_node h ∙ if_yes (x % 2 ≟ 0) no_node (x - 1) e
+      if_yes (x <? 2 * L) (if? x % 2 ≟ 0 then no_node else x - 1) no_node h ∙ if_yes (x % 2 ≟ 0) no_node (x - 1) e
 
   left-odd : x % 2 ≢ 0 → start_link L left x ≡ x - 1
   left-odd ne =
-      if_yes (x <? 2 * L) (if x % 2 ≟ 0 then no_node else x - 1) no_node h ∙ if_no (x % 2 ≟ 0) no_node (x - 1) ne
+      if_yes (x <? 2 * L) (if? x % 2 ≟ 0 then no_node else x - 1) no_node h ∙ if_no (x % 2 ≟ 0) no_node (x - 1) ne
 
   right-even : x % 2 ≡ 0 → start_link L right x ≡ x + 1
   right-even e =
-      if_yes (x <? 2 * L) (if x % 2 ≟ 0 then x + 1 else no_node) no_node h ∙ if_yes (x % 2 ≟ 0) (x + 1) no_node e
+      if_yes (x <? 2 * L) (if? x % 2 ≟ 0 then x + 1 else no_node) no_node h ∙ if_yes (x % 2 ≟ 0) (x + 1) no_node e
 
   right-odd : x % 2 ≢ 0 → start_link L right x ≡ no_node
   right-odd ne =
-      if_yes (x <? 2 * L) (if x % 2 ≟ 0 then x + 1 else no_node) no_node h ∙ if_no (x % 2 ≟ 0) (x + 1) no_node ne
+      if_yes (x <? 2 * L) (if? x % 2 ≟ 0 then x + 1 else no_node) no_node h ∙ if_no (x % 2 ≟ 0) (x + 1) no_node ne
 
 -- Start: one link each way in each pair, between nodes of the same pair.
 start-walks : (L : ℕ) (s : Side) → L ≤ most_lanes → WalksEnd (start_link L s)
 start-walks L left few x =
     elim (x <? 2 * L) [
-      | no h ↦ (0, stops (if_no (x <? 2 * L) (if x % 2 ≟ 0 then no_node else x - 1) no_node h))
+      | no h ↦ (0, stops (if_no (x <? 2 * L) (if? x % 2 ≟ 0 then no_node else x - 1) no_node h))
       | yes h ↦
           elim (x % 2 ≟ 0) [
             | yes e ↦ (0, stops (left-even L x h e))
@@ -57,7 +57,7 @@ start-walks L left few x =
     ]
 start-walks L right few x =
     elim (x <? 2 * L) [
-      | no h ↦ (0, stops (if_no (x <? 2 * L) (if x % 2 ≟ 0 then x + 1 else no_node) no_node h))
+      | no h ↦ (0, stops (if_no (x <? 2 * L) (if? x % 2 ≟ 0 then x + 1 else no_node) no_node h))
       | yes h ↦
           elim (x % 2 ≟ 0) [
             | no ne ↦ (0, stops (right-odd L x h ne))

@@ -8,7 +8,7 @@ use native.Mathlib.Decide.{ℕ_discrete}
 use lib.Dec.{eqb}
 use borrow.Author.Tests.{ne_eqb, eqb-true, leb-true}
 use Rattle.machine.specs.declared.Stored.{Stored}
-use Rattle.machine.specs.Choice.{◌≟◌, if◌then◌else◌}
+use Rattle.machine.specs.Choice.{◌≟◌, if?◌then◌else◌}
 use Rattle.machine.specs.Sides.{left, right, opposite, side_number, side_of}
 use Rattle.machine.specs.Values.{number}
 use Rattle.machine.specs.Operations.{Operation, idle, push, pop, add, remove, operation_of, argument_ok, goal_of}
@@ -19,7 +19,7 @@ use Rattle.machine.proofs.Basics.Choices.{test-unequal, by-if}
 pub other-side : (n : ℕ) → n < 2 → 1 - n ≡ side_number (opposite (side_of n))
 other-side n h = go (n ≟ 0)
   where
-    go : (d : Dec (n ≡ 0)) → 1 - n ≡ side_number (opposite (if d then left else right))
+    go : (d : Dec (n ≡ 0)) → 1 - n ≡ side_number (opposite (if? d then left else right))
     go (yes e) = rw e
     go (no e) = omega arith
 
@@ -59,7 +59,7 @@ pub goal-else :
 goal-else n g u b ok = rw (test-unequal b) (go (n ≟ 0) (n ≟ 2) (n ≟ 3) (rw (test-unequal b) at ok))
   where
     other : Dec (n ≡ 0) → Dec (n ≡ 2) → Dec (n ≡ 3) → Operation
-    other d₀ d₂ d₃ = if d₀ then idle else if d₂ then pop else if d₃ then add else remove
+    other d₀ d₂ d₃ = if? d₀ then idle else if? d₂ then pop else if? d₃ then add else remove
 
     go :
         (d₀ : Dec (n ≡ 0)) (d₂ : Dec (n ≡ 2)) (d₃ : Dec (n ≡ 3))

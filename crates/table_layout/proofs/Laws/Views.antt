@@ -8,7 +8,7 @@ use native.Mathlib.Omega.{arith}
 use lib.ListN.{length, get_or, drop, length-drop, get_or-eq_default}
 use lib.Seq.{get_or-take, get_or-drop, length-take-le}
 use borrow.Rule.Slice.PartMut.{mid_of}
-use Rattle.machine.specs.Choice.{◌<?◌, if◌then◌else◌}
+use Rattle.machine.specs.Choice.{◌<?◌, if?◌then◌else◌}
 use Rattle.machine.specs.Sides.{Side, left, right, side_number}
 use Rattle.machine.specs.Values.{never, encode, decode}
 use Rattle.machine.specs.Tasks.{no_node, fresh, task_of}
@@ -98,7 +98,7 @@ module _ (ws : List ℕ) (sized : Sized (sizes_of ws)) where
   unfolding link
   link-in s x = go (x <? node_count ws)
     where
-      go : (d : Dec (x < node_count ws)) → (if d then link_word ws s x else no_node) ≡ link_in (node_part ws) s x
+      go : (d : Dec (x < node_count ws)) → (if? d then link_word ws s x else no_node) ≡ link_in (node_part ws) s x
       go (yes h) = link-there ws (node_length * node_count ws) x (omega arith) (omega arith) s
       go (no h) = sym (past_end x (side_number s) no_node (omega arith))
 
@@ -106,7 +106,7 @@ module _ (ws : List ℕ) (sized : Sized (sizes_of ws)) where
   unfolding value
   value_in x = ap decode (go (x <? node_count ws))
     where
-      go : (d : Dec (x < node_count ws)) → (if d then value_words ws x else encode never) ≡ stored_in (node_part ws) x
+      go : (d : Dec (x < node_count ws)) → (if? d then value_words ws x else encode never) ≡ stored_in (node_part ws) x
       go (yes h) = words-in x h
       go (no h) =
           stored-alike (node_part ws) [] 0 (node_length * x + links_length) (λ c l.

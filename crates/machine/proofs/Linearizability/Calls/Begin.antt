@@ -5,7 +5,7 @@ use mathlib.Core.Logic.{◌≢◌, inr}
 use mathlib.Core.Bool.{true}
 use mathlib.Core.List.{List}
 use Prim.Native.Nat.{ℕ, ◌<◌}
-use Rattle.machine.specs.Choice.{◌≟◌, if◌then◌else◌}
+use Rattle.machine.specs.Choice.{◌≟◌, if?◌then◌else◌}
 use Rattle.machine.specs.Sides.{Side, left, right, opposite}
 use Rattle.machine.specs.Operations.{Operation, idle, push, pop, add, remove}
 use Rattle.machine.specs.Steps.{first_step}
@@ -35,7 +35,7 @@ abbrev let_go : (k : ℕ) → Class → Class
 let_go k free = free
 let_go k (main l) = main l
 let_go k (spur z) = spur z
-let_go k (new j) = if j ≟ k then free else new j
+let_go k (new j) = if? j ≟ k then free else new j
 
 gone : (k : ℕ) (c : Class) → let_go k c ≢ new k
 gone k free e = refute (cc)
@@ -43,7 +43,7 @@ gone k (main l) e = refute (cc)
 gone k (spur z) e = refute (cc)
 gone k (new j) e = go (j ≟ k) e
   where
-    go : (d : Dec (j ≡ k)) → (if d then free else new j) ≡ new k → ⊥
+    go : (d : Dec (j ≡ k)) → (if? d then free else new j) ≡ new k → ⊥
     go (yes q) e = refute (cc)
     go (no q) e = q (cc)
 
@@ -57,7 +57,7 @@ was k (main l) d n e = e
 was k (spur z) d n e = e
 was k (new j) d n e = go (j ≟ k) e
   where
-    go : (q : Dec (j ≡ k)) → (if q then free else new j) ≡ d → new j ≡ d
+    go : (q : Dec (j ≡ k)) → (if? q then free else new j) ≡ d → new j ≡ d
     go (yes q) e = absurd (n (sym e))
     go (no q) e = e
 

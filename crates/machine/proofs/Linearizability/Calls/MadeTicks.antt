@@ -8,7 +8,7 @@ use Prim.Native.Nat.{ℕ, ◌<◌}
 use Rattle.machine.specs.Shape.{WellFormed, sizes_of, WellSized}
 use Rattle.machine.specs.declared.Answer.{Answer}
 use Rattle.machine.specs.declared.Answer.TheVariants.{Going, Pushed, Bag, Empty, Full, Yes, No, Refused}
-use Rattle.machine.specs.Choice.{◌≟◌, if◌then◌else◌}
+use Rattle.machine.specs.Choice.{◌≟◌, if?◌then◌else◌}
 use Rattle.machine.specs.Sides.{Side, left, right, opposite}
 use Rattle.machine.specs.Operations.{Operation, idle, push, pop, add, remove}
 use Rattle.machine.specs.Tasks.{Task, fresh, no_node, goal, Register, register, in_a, in_b, in_c, in_d}
@@ -210,7 +210,7 @@ module _ {ws : List ℕ} {ρ : Row} (A : Agrees ws ρ) (k h : ℕ) (passes : tic
       same-note = ap (λ (n : Note). note_under n.operation n) (sym same)
 
   notes-ended : (effect_of ws k h).task ≡ fresh → (j : ℕ)
-      → (if j ≟ k then none else ρ.notes j) ≡ note_in (tasks-after j)
+      → (if? j ≟ k then none else ρ.notes j) ≡ note_in (tasks-after j)
   notes-ended fresh-now j =
       by-if (λ (n : Option Note). n ≡ note_in (tasks-after j)) (j ≟ k)
       (λ e. sym (ap note_in (ap tasks-after e ∙ update_same (task ws) k _ ∙ fresh-now)))

@@ -4,7 +4,7 @@ use mathlib.Core.Logic.{◌≢◌, inl}
 use mathlib.Core.List.{[]}
 use Prim.Native.Nat.{ℕ, ◌+◌, ◌*◌, ◌-◌, ◌/◌, ◌%◌, ◌≤◌, ◌<◌}
 use native.Mathlib.Omega.{arith}
-use Rattle.machine.specs.Choice.{◌≟◌, ◌<?◌, if◌then◌else◌}
+use Rattle.machine.specs.Choice.{◌≟◌, ◌<?◌, if?◌then◌else◌}
 use Rattle.machine.specs.Sides.{Side, left, right, side_number}
 use Rattle.machine.specs.Values.{Value, never, X}
 use Rattle.machine.specs.Tasks.{Task, fresh, no_node}
@@ -21,7 +21,7 @@ use Rattle.machine.proofs.Linearizability.Lines.LineEnds.{fresh_ok}
 
 -- The nodes of the first L pairs are in main, each of the lane of its pair.
 pub start_class : (L : ℕ) → ℕ → Class
-start_class L x = if x <? 2 * L then main (x / 2) else free
+start_class L x = if? x <? 2 * L then main (x / 2) else free
 
 module _ (L : ℕ) where
   in_pair : (x : ℕ) → x < 2 * L → start_class L x ≡ main (x / 2)

@@ -8,7 +8,7 @@ use Prim.Native.Nat.{ℕ, zero, suc, ◌+◌, ◌≤◌, ◌<◌}
 use native.Mathlib.Omega.{arith}
 use Rattle.machine.specs.declared.Answer.{Answer}
 use Rattle.machine.specs.declared.Answer.TheVariants.{Going, Pushed, Bag, Empty, Full, Yes, No, Refused}
-use Rattle.machine.specs.Choice.{◌≟◌, if◌then◌else◌}
+use Rattle.machine.specs.Choice.{◌≟◌, if?◌then◌else◌}
 use Rattle.machine.specs.Sides.{Side}
 use Rattle.machine.specs.Operations.{Operation, idle, push, pop, add, remove}
 use Rattle.machine.specs.Answers.{is_going}
@@ -97,7 +97,7 @@ noted-there : (ρ : Row) (k : ℕ) (m : Option Note) (j b : ℕ) → PushNoted (
 noted-there ρ k m j b N = go (j ≟ k) N.note_is
   where
     go : (d : Dec (j ≡ k))
-        → (if d then m else ρ.notes j)
+        → (if? d then m else ρ.notes j)
         ≡ some (record { lane = N.lane; operation = push; side = N.side; argument = b })
         → NotedThere ρ k m j b
     go (yes e) q = the-new-one e N.lane N.side q

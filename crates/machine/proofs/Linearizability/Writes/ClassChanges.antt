@@ -4,7 +4,7 @@ use mathlib.Core.Logic.{◌≢◌}
 use mathlib.Core.Bool.{Bool, true, false}
 use Prim.Native.Nat.{ℕ, suc, ◌+◌, ◌-◌, ◌≤◌, ◌<◌}
 use native.Mathlib.Omega.{arith}
-use Rattle.machine.specs.Choice.{◌≟◌, ◌<?◌, ◌≤?◌, if◌then◌else◌}
+use Rattle.machine.specs.Choice.{◌≟◌, ◌<?◌, ◌≤?◌, if?◌then◌else◌}
 use Rattle.machine.specs.Sides.{Side}
 use Rattle.machine.proofs.Basics.Contradiction.{clash, refute}
 use Rattle.machine.proofs.Basics.Choices.{if_no, if_yes}
@@ -17,7 +17,7 @@ pub data Cut (ℓ : ℕ) (s : Side) (class : ℕ → Class) (index : ℕ → ℕ
 
 cut_one : (ℓ : ℕ) → Side → {i p : ℕ} → Dec (i < p) → ((l : ℕ) → Dec (l ≡ ℓ)) → Class → Class
 cut_one ℓ s d own free = free
-cut_one ℓ s d own (main l) = if◌then◌else◌ (own l) (if◌then◌else◌ d (spur s) (main l)) (main l)
+cut_one ℓ s d own (main l) = if?◌then◌else◌ (own l) (if?◌then◌else◌ d (spur s) (main l)) (main l)
 cut_one ℓ s d own (spur z) = spur z
 cut_one ℓ s d own (new j) = new j
 
@@ -55,7 +55,7 @@ join_one : Class → Class → (k : ℕ) → ((j : ℕ) → Dec (j ≡ k)) → C
 join_one free c k d = free
 join_one (main l) c k d = main l
 join_one (spur z) c k d = spur z
-join_one (new j) c k d = if◌then◌else◌ (d j) c (new j)
+join_one (new j) c k d = if?◌then◌else◌ (d j) c (new j)
 
 pub joined_class : ℕ → Class → (ℕ → Class) → ℕ → Class
 joined_class k c class x = join_one (class x) c k (λ j. j ≟ k)
@@ -88,7 +88,7 @@ pub record Extended (ℓ k : ℕ) (class : ℕ → Class) (at index : ℕ → �
   pub index-new : (x : ℕ) → class x ≡ new k → index' x ≡ suc (n + place x)
 
 pub extended_at : (ℕ → ℕ) → ℕ → (ℕ → ℕ) → ℕ → ℕ
-extended_at at n node i = if i ≤? n then at i else node (i - suc n)
+extended_at at n node i = if? i ≤? n then at i else node (i - suc n)
 
 index_one : Class → ℕ → ℕ → ℕ
 index_one free p q = p
@@ -129,7 +129,7 @@ drop_one false (spur z) = free
 drop_one h (new j) = new j
 
 pub taken_class : ℕ → (ℕ → Bool) → ℕ → (ℕ → Class) → ℕ → Class
-taken_class k held f class x = if x ≟ f then new k else drop_one (held x) (class x)
+taken_class k held f class x = if? x ≟ f then new k else drop_one (held x) (class x)
 
 pub taken_class-taken : (k : ℕ) (held : ℕ → Bool) (f : ℕ) (class : ℕ → Class) (x : ℕ)
     → Taken k held f class (taken_class k held f class) x

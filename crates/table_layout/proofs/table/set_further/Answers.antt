@@ -11,8 +11,11 @@ use Rattle.table_layout.proofs.table.set_further.Goals as goal
 
 pub write_further-requires : goal.write_further-requires
 write_further-requires c =
-    let a = c.args in record { words_len = record-part-long a.table.now c.place-at.ensures c.requires.holds_record; same_call = subst (λ (l : List ℕ). SameCall (struct_of l) a.new) (sym (record-part a.table.now c.place-at.ensures))
-          c.requires.same_call }
+    let a = c.args in record {
+      words_len = record-part-long a.table.now c.place-at.ensures c.requires.holds_record;
+      same_call = subst (λ (l : List ℕ). SameCall (struct_of l) a.new) (sym (record-part a.table.now c.place-at.ensures))
+          c.requires.same_call;
+    }
 
 pub returns : goal.returns
 returns c =
