@@ -64,6 +64,7 @@ fn pop_line(ns: &mut [u32], hat: u32, t: Task) -> Done
 }
 
 // A remove, up to its cut.
+#[tactic(auto, using(crate::proofs::StepChoice::line_at))]
 fn remove_line(ns: &mut [u32], hat: u32, t: Task, goal: u32) -> Done
     requires { ReadyIn remove_lines ns.old t }
     ensures { (f : ℕ) → outcome_of ns.new result

@@ -106,6 +106,7 @@ pub fn same(u: Stored, v: Stored) -> bool
 }
 
 // The mirror of a mark: up to LY that mark plus 3, of the others minus 3. Any other value is its own.
+#[tactic(auto, using(crate::proofs::Laws::ValueWords::mirrors))]
 pub fn mirror(v: Stored) -> Stored
     requires { value_ok v ≡ true }
     ensures { result ≡ encode (mirror (decode v)) }

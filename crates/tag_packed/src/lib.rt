@@ -37,6 +37,7 @@ pub fn pack(digits: [u8; 10]) -> [u8; 5]
 }
 
 // Whether half bytes are digits: each is 0 to 9.
+#[tactic(auto, using(crate::proofs::Laws::Digits::digit_tests))]
 fn are_digits(digits: [u8; 10]) -> bool
     ensures { result ≡ are_digits digits }
 {

@@ -12,14 +12,6 @@ pub returns-in-56 : goal.returns-in-56
 returns-in-56 c f =
     c.line56.ensures _ _ ∙ line_at line56 c.in-56.is _ _ _ _ _
 
-pub returns-in-58 : goal.returns-in-58
-returns-in-58 c f =
-    c.line58.ensures _ ∙ line_at line58 c.in-58.is _ _ _ _ _
-
-pub returns-in-60 : goal.returns-in-60
-returns-in-60 c f =
-    c.line60.ensures _ _ ∙ line_at line60 c.in-60.is _ _ _ _ _
-
 pub returns-in-62 : goal.returns-in-62
 returns-in-62 c f =
     c.line62.ensures _ _ ∙ line_at line62 c.in-62.is _ _ _ _ _

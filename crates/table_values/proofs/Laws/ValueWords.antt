@@ -132,3 +132,6 @@ pub marks-of :
     → mark_of s (encode (m right)) ≡ encode (m s)
 marks-of left m e = e
 marks-of right m e = refl
+
+-- What a check of `mirror` finds by itself.
+pub ruleset mirrors = (mirror-below)

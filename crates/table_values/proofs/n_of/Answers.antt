@@ -4,7 +4,6 @@ use native.Mathlib.Decide.{ℕ_discrete, dec_le}
 use Rattle.machine.specs.Sides.{side_of}
 use Rattle.machine.specs.Values.{N, decode}
 use Rattle.table_values.proofs.Laws.ValueWords.{marks-of}
-use borrow.Author.Rules.{rules}
 use Rattle.table_values.proofs.n_of.Goals as goal
 
 pub returns : goal.returns

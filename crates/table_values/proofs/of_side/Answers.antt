@@ -1,6 +1,5 @@
 -- `table_values::of_side` meets its contract.
 use Rattle.machine.proofs.Basics.Choices.{test-equal, test-unequal}
-use borrow.Author.Rules.{rules}
 use Rattle.table_values.proofs.of_side.Goals as goal
 
 pub returns-then-side-eq0 : goal.returns-then-side-eq0

@@ -2,7 +2,6 @@
 use native.Mathlib.Omega.{arith}
 use lib.ListN.{length-set}
 use Rattle.table_values.proofs.Laws.ValueWords.{tag-put}
-use borrow.Author.Rules.{rules}
 use Rattle.table_values.proofs.put_tag.Goals as goal
 
 pub bounds-out-at-2 : goal.bounds-out-at-2

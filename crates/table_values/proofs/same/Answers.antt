@@ -1,7 +1,6 @@
 -- `table_values::same` meets its contract.
 use mathlib.Core.Path.{◌∙◌}
 use Rattle.table_values.proofs.Laws.ValueWords.{same-words}
-use borrow.Author.Rules.{rules}
 use Rattle.table_values.proofs.same.Goals as goal
 
 pub returns : goal.returns

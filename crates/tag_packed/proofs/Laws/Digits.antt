@@ -22,3 +22,6 @@ module _ (digits : List ℕ) (i : ℕ) where
   pub digits-passed : length digits ≤ i → are_digits (drop i digits) ≡ true
   unfolding are_digits
   digits-passed h = rw (drop_of_length-le digits {i = i} h)
+
+-- What a check of `are_digits` finds by itself.
+pub ruleset digit_tests = (digit-failed)
