@@ -22,6 +22,7 @@ use text_page::{PAGE, PER_PAGE};
 const LAST_PAGE: u32 = 2;
 
 // A page of a table that has passed the tests of refusals 3, 4 and 26.
+#[tactic(auto, using(crate::proofs::Laws::Refused::pages_refused))]
 fn sheet_lane(table: &[u32], l: u32, page: u32, out: &mut [u8]) -> Reply
     requires { WellLinked table.now × (l < lane_count table.now) }
     ensures { changed_of result out.new

@@ -16,6 +16,7 @@ const LARGEST: u64 = 4_294_967_295;
 const TAG_WIDTH: usize = 10;
 
 // 01: "times (1 to 1,000)".
+#[tactic(auto, unfolding(crate::specs::Commands::ticks))]
 fn ticks_of(task: u32, hint: u32, times: u32) -> Command
     ensures { result ≡ ticks task hint times }
 {
@@ -116,6 +117,7 @@ fn form_of(text: &[u8], a: u32, b: u32, c: u32) -> Command
 }
 
 // 02: "a push of another width is `(unread)`, and 01's top number does not bind tags".
+#[tactic(auto, unfolding(crate::specs::Commands::push_of))]
 fn push_of(side: u32, task: u64, tag: u64, width: usize) -> Command
     requires { tag ≤ largest_tag }
     ensures { result ≡ push_of side task tag width }

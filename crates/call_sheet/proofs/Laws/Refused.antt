@@ -102,3 +102,6 @@ module _ (ws : List ℕ) (first page : ℕ) (out : List ℕ) where
       let there = from_place bags is-ahead told in
       ap (changed_of Accepted) (w ∙ rw (e, there))
       ∙ page-there bags h k
+
+-- What a check of `sheet_lane` finds by itself.
+pub ruleset pages_refused = (no-such-page, no-page-long)

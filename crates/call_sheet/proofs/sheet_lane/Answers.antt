@@ -13,8 +13,6 @@ use Rattle.lane_walk.specs.Walks.{ahead}
 use Rattle.lane_walk.proofs.Laws.Ahead.{lane-ahead}
 use Rattle.call_sheet.proofs.Laws.Refused.{
   sheet-no-end,
-  no-such-page,
-  no-page-long,
   left_there,
   count_small,
   page-written,
@@ -34,20 +32,6 @@ returns-in-NoEnd c =
     let ws = a.table.now in
     sheet-no-end ws (first ws a.l) a.page a.out.now (lane ws a.l) (sym c.locate-located.ensures ∙ c.in-NoEnd.is)
 
-pub returns-then-page-gt-LAST_PAGE : goal.returns-then-page-gt-LAST_PAGE
-returns-then-page-gt-LAST_PAGE c =
-    let a = c.args in
-    let ws = a.table.now in
-    no-such-page ws (first ws a.l) a.page a.out.now (lane ws a.l) (sym c.locate-located.ensures ∙ c.in-Node.is)
-    (omega (arith, c.if-page-gt-LAST_PAGE.true))
-
-pub returns-then-out-ne-PAGE : goal.returns-then-out-ne-PAGE
-returns-then-out-ne-PAGE c =
-    let a = c.args in
-    let ws = a.table.now in
-    no-page-long ws (first ws a.l) a.page a.out.now (lane ws a.l) (sym c.locate-located.ensures ∙ c.in-Node.is)
-    (omega (arith, c.if-page-gt-LAST_PAGE.false)) (λ e. absurd (omega (arith, c.if-out-ne-PAGE.true, e)))
-
 pub put_page-requires : goal.put_page-requires
 put_page-requires c =
     let a = c.args in
@@ -57,7 +41,7 @@ put_page-requires c =
     let there = left_there ws (first ws a.l) a.page a.out.now (lane ws a.l) (is-ahead ws a.l) told in
     let sizes = well_sized ws c.requires.0.length_passes in record {
       well_linked = (c.requires.0, there ∙ ap some (sym c.left_from.ensures));
-      count_bound = (omega (arith, few, sizes.most_nodes), omega (arith, c.if-out-ne-PAGE.false));
+      count_bound = (omega (arith, few, sizes.most_nodes), omega arith);
     }
 
 pub returns-in-Node : goal.returns-in-Node
@@ -65,5 +49,5 @@ returns-in-Node c =
     let a = c.args in
     let ws = a.table.now in
     page-written ws (first ws a.l) a.page a.out.now (lane ws a.l) (is-ahead ws a.l)
-    (sym c.locate-located.ensures ∙ c.in-Node.is) (omega (arith, c.if-page-gt-LAST_PAGE.false))
-    (omega (arith, c.if-out-ne-PAGE.false)) c.put_page.ensures
+    (sym c.locate-located.ensures ∙ c.in-Node.is) (omega arith)
+    (omega arith) c.put_page.ensures
