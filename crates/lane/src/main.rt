@@ -44,15 +44,19 @@ fn put(rt: &(impl Print + Eprint), answers: &[u8]) -> bool {
     }
 }
 
-// Reads once, and answers how many bytes came. A read that fails ends the input too, and is told: its end is then not the
-// input's.
+// Says on standard error that a read failed: its end is then not the input's.
+fn tell_failed_read(rt: &impl Eprint) {
+    tell(rt, "lane: standard input cannot be read");
+}
+
+// Reads once, and answers how many bytes came. A read that fails ends the input too, and is told.
 fn read(rt: &(impl Input + Eprint), input: &mut [u8]) -> usize
     ensures { result ≤ length input.new }
 {
     match rt.reader().read(input) {
         Ok(n) => n,
         Err(_) => {
-            tell(rt, "lane: standard input cannot be read");
+            tell_failed_read(rt);
             0
         }
     }

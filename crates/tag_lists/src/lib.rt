@@ -32,6 +32,7 @@ fn length_ok(length: usize, width: usize, longest: usize) -> bool
 }
 
 // Reads five bytes a tag into two words a tag.
+#[tactic(auto, using(crate::proofs::Laws::Taken::tags_refused))]
 pub fn read_tags(bytes: &[u8], words: &mut [u32]) -> Listed
     ensures { outcome_of result words.new ≡ read_tags bytes.now words.old }
 {

@@ -133,3 +133,6 @@ refusal-untouched w list out refusal =
       | taken n a ↦ absurd (refusal n (sym (ap (λ o. o.answer) a.done)))
       | left done other ↦ sym (ap (λ o. o.out) done)
     ]
+
+-- What a check of `read_tags` finds by itself.
+pub ruleset tags_refused = (bad-tag)

@@ -6,7 +6,7 @@ use Prim.Native.Nat.{ℕ, ◌/◌, ◌≤◌}
 use native.Mathlib.Omega.{arith}
 use lib.ListN.{length}
 use Rattle.tag_lists.specs.TagLists.{count, outcome, reading, first_bad, length_ok}
-use Rattle.tag_lists.proofs.Laws.Taken.{bad-length, not-long, bad-tag, none-bad, too_short, all-taken}
+use Rattle.tag_lists.proofs.Laws.Taken.{bad-length, not-long, none-bad, too_short, all-taken}
 use Rattle.tag_lists.proofs.read_tags.Goals as goal
 
 -- A list whose length has passed is not too long.
@@ -33,24 +33,18 @@ overflow_cast-place c =
     let a = c.args in
     omega (arith, few a.bytes.now a.words.now c.length_ok.ensures c.if-not-length_ok.false)
 
-pub returns-then-unreadable-tags : goal.returns-then-unreadable-tags
-returns-then-unreadable-tags c =
-    let a = c.args in
-    bad-tag reading a.bytes.now a.words.now c.length_ok.ensures (ap not c.if-not-length_ok.false)
-    c.first_bad-unreadable.ensures c.if-unreadable-tags.true
-
 pub returns-then-words-tags : goal.returns-then-words-tags
 returns-then-words-tags c =
     let a = c.args in
     too_short reading a.bytes.now a.words.now c.length_ok.ensures (ap not c.if-not-length_ok.false)
-    c.first_bad-unreadable.ensures c.if-unreadable-tags.false c.if-words-tags.true
+    c.first_bad-unreadable.ensures (omega arith) c.if-words-tags.true
 
 pub put_words-requires : goal.put_words-requires
 put_words-requires c =
     let a = c.args in record {
       tags_in_bounds = (omega arith, omega arith);
       bytes_value = all-good a.bytes.now a.words.now c.length_ok.ensures c.if-not-length_ok.false
-          c.first_bad-unreadable.ensures c.if-unreadable-tags.false;
+          c.first_bad-unreadable.ensures (omega arith);
     }
 
 pub overflow_cast-count : goal.overflow_cast-count
@@ -63,4 +57,4 @@ returns c =
     let a = c.args in
     ap (outcome (count (length a.bytes.now / 5))) c.put_words.ensures
     ∙ all-taken reading a.bytes.now a.words.now c.length_ok.ensures (ap not c.if-not-length_ok.false)
-    c.first_bad-unreadable.ensures c.if-unreadable-tags.false c.if-words-tags.false
+    c.first_bad-unreadable.ensures (omega arith) c.if-words-tags.false
