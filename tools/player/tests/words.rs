@@ -182,7 +182,7 @@ fn the_registers_that_hold_are_those_of_the_definitions() {
     {
         let (step, holding) = row.split_once(" = ").expect("a row of the table");
         let line = line_at(step.parse().expect("a number")).expect("a line of the figure");
-        let names = REGISTERS.map(|register| format!("in{register:?}"));
+        let names = REGISTERS.map(|register| format!("in_{register:?}").to_lowercase());
         let holds = REGISTERS.map(|register| line.holds.contains(&register));
         let defined = names.map(|name| holding.contains(&name));
         assert_eq!(holds, defined, "line {step}");
