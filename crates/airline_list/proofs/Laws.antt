@@ -5,10 +5,9 @@ pub mod FormLaws
 pub mod HeadLaws
 pub mod LineLaws
 pub mod BitLaws
-pub mod MarkLaws
+pub mod KeptLaws
 pub mod ReadingLaws
 pub mod WordLaws
 pub mod AirlineLaws
 pub mod ClosingLaws
-pub mod PackedLaws
 pub mod AcceptedLaws

@@ -8,7 +8,7 @@ use borrow.Author.Tests.{eq-eqb, eqb-true}
 use lib.Dec.{eqb}
 use Rattle.tag.proofs.TagLaws.{clash}
 use Rattle.airline_list.specs.declared.End.{End}
-use Rattle.airline_list.specs.declared.Sent.TheVariants.{To}
+use Rattle.airline_list.specs.Outcomes.{To}
 use Rattle.airline_list.specs.Lists.{code_of, Entry, entry, named, end_for}
 use Rattle.airline_list.specs.Accepted.{Reordered, empty, first, swapped, twice, OrderDoesNotMatter}
 use Rattle.airline_list.proofs.Laws.AcceptedLaws.{Distinct, accepted}

@@ -7,9 +7,7 @@ use Rattle.tag.proofs.TagLaws.{clash}
 use Rattle.text.specs.Lines.{line_feed, lines_of}
 use Rattle.text.proofs.Laws.AllLines.{joined, Joins, lines-joined}
 use Rattle.airline_list.specs.declared.End.{End}
-use Rattle.airline_list.specs.declared.forms.Form.{Form}
-use Rattle.airline_list.specs.declared.forms.Form.TheVariants.{Airline, Others, Neither}
-use Rattle.airline_list.specs.Forms.{form_text, form_of}
+use Rattle.airline_list.specs.Forms.{Form, Airline, Others, Neither, form_text, form_of}
 use Rattle.airline_list.specs.Lists.{Entry, list_text}
 use Rattle.airline_list.specs.Accepted.{IsItsText}
 use Rattle.airline_list.proofs.Laws.FormLaws.{form-text}

@@ -4,9 +4,7 @@ use mathlib.Core.List.{List, [], ◌∷◌, ◌++◌, map}
 use Prim.Native.Nat.{ℕ, suc}
 use Rattle.tag.specs.Tags.{last_digits, number_from}
 use Rattle.text.specs.Lines.{lines_of}
-use Rattle.airline_list.specs.declared.forms.Form.{Form}
-use Rattle.airline_list.specs.declared.forms.Form.TheVariants.{Airline, Others, Neither}
-use Rattle.airline_list.specs.Forms.{form_of}
+use Rattle.airline_list.specs.Forms.{Form, Airline, Others, Neither, form_of}
 use Rattle.airline_list.specs.Lists.{Entry, entry, Verdict, says, faulty, named, judged, verdict, end_for, sent}
 use Rattle.airline_list.specs.Wrong.{
   judged_by,

@@ -13,9 +13,8 @@ use Rattle.text.proofs.Laws.AllLines.{line-cut}
 use Rattle.text_scan.specs.Scanned.{zero_digit}
 use Rattle.airline_list.specs.declared.End.{End}
 use Rattle.airline_list.specs.declared.End.TheVariants.{Left, Right}
-use Rattle.airline_list.specs.declared.Sent.TheVariants.{To}
-use Rattle.airline_list.specs.declared.forms.Form.TheVariants.{Airline, Others}
-use Rattle.airline_list.specs.Forms.{end_text, form_text, form_of}
+use Rattle.airline_list.specs.Outcomes.{To}
+use Rattle.airline_list.specs.Forms.{Airline, Others, end_text, form_text, form_of}
 use Rattle.airline_list.specs.Lists.{code_of, Entry, judged, verdict, end_for, sent, list_text}
 use Rattle.airline_list.specs.Accepted.{WrittenIsRead, EveryTagIsSent}
 use Rattle.airline_list.proofs.Laws.CodeLaws.{three-digits}

@@ -3,7 +3,7 @@ use Rattle.std.specs.Prelude.{List, [], ◌∷◌, ◌++◌, ◌⊎◌, ◌≡�
 use Rattle.text.specs.Lines.{line_feed}
 use Rattle.airline_list.specs.declared.End.{End}
 use Rattle.airline_list.specs.declared.End.TheVariants.{Left, Right}
-use Rattle.airline_list.specs.declared.Sent.TheVariants.{To}
+use Rattle.airline_list.specs.Outcomes.{To}
 use Rattle.airline_list.specs.Lists.{Entry, says, verdict, sent, list_text}
 
 -- The same airlines in another order.

@@ -2,17 +2,10 @@
 use Rattle.std.specs.Prelude.{List, ◌≡◌, ℕ, ◌+◌, ◌≤◌, ◌<◌, length}
 use Rattle.text.specs.Lines.{first_line}
 use Rattle.airline_list.specs.declared.End.{End}
-use Rattle.airline_list.specs.declared.closing.Closing.{Closing}
-use Rattle.airline_list.specs.declared.closing.Closing.TheVariants.{At, Untold}
-use Rattle.airline_list.specs.declared.forms.Form.TheVariants.{Others}
-use Rattle.airline_list.specs.Forms.{form_text, form_of}
+use Rattle.airline_list.specs.Forms.{Others, form_text, form_of}
 
 -- The text's first line is a closing one with this end, and no other follows.
 pub record Closes (text : List ℕ) (end : End) : Type 0 where
   pub some : 0 < length text
   pub form : form_of (first_line text) ≡ Others end
   pub short : length text ≤ length (form_text (Others end)) + 1
-
-abbrev pub Told : (text : List ℕ) → Closing → Type 0
-Told text (At end) = Closes text end
-Told text Untold = Unit {0}

@@ -1,12 +1,27 @@
 -- The lines of an airline list: the two forms, and the form of a line.
-use Rattle.std.specs.Prelude.{cond, List, [], ◌∷◌, ◌++◌, map, ℕ, ◌+◌, ◌-◌, take, drop}
+use Rattle.std.specs.Prelude.{cond, Option, Some, None, List, [], ◌∷◌, ◌++◌, map, ℕ, ◌+◌, ◌-◌, take, drop}
 use Rattle.tag.specs.Tags.{last_digits, number_of}
 use Rattle.text.specs.Text.{bytes, same}
 use Rattle.text_scan.specs.Scanned.{zero_digit}
 use Rattle.airline_list.specs.declared.End.{End}
 use Rattle.airline_list.specs.declared.End.TheVariants.{Left, Right}
-use Rattle.airline_list.specs.declared.forms.Form.{Form}
-use Rattle.airline_list.specs.declared.forms.Form.TheVariants.{Airline, Others, Neither}
+use Rattle.airline_list.specs.declared.forms.Form.{Form as Read}
+use Rattle.airline_list.specs.declared.forms.Form.TheVariants.{Airline as Airline-read, Others as Others-read}
+
+-- What a line says: the end of the airline with a code; that of all others; or neither form.
+pub data Form : Type 0 where
+  Airline : (code : ℕ) (end : End) → Form
+  Others : (end : End) → Form
+  Neither : Form
+
+-- The same of a form that the code tells, and of a line that it tells to have none.
+abbrev pub said : Read → Form
+said (Airline-read code end) = Airline code end
+said (Others-read end) = Others end
+
+abbrev pub told : Option Read → Form
+told None = Neither
+told (Some form) = said form
 
 -- 02: "Each code has three digits".
 abbrev pub code_text : (code : ℕ) → List ℕ

@@ -1,11 +1,10 @@
+pub mod Outcomes
 pub mod Forms
 pub mod Lists
 pub mod Accepted
 pub mod FirstForm
-pub mod Words
-pub mod Marks
+pub mod Read
 pub mod Airline
 pub mod Closing
-pub mod Packed
 pub mod Examples
 pub mod Wrong

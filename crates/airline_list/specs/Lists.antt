@@ -3,13 +3,8 @@ use Rattle.std.specs.Prelude.{Bool, true, false, cond, ◌||◌, List, [], ◌�
 use Rattle.tag.specs.Tags.{ten_digits, number_of}
 use Rattle.text.specs.Lines.{line_feed, lines_of}
 use Rattle.airline_list.specs.declared.End.{End}
-use Rattle.airline_list.specs.declared.Checked.{Checked}
-use Rattle.airline_list.specs.declared.Checked.TheVariants.{Accepted, Faulty}
-use Rattle.airline_list.specs.declared.Sent.{Sent}
-use Rattle.airline_list.specs.declared.Sent.TheVariants.{To, NotSent}
-use Rattle.airline_list.specs.declared.forms.Form.{Form}
-use Rattle.airline_list.specs.declared.forms.Form.TheVariants.{Airline, Others, Neither}
-use Rattle.airline_list.specs.Forms.{form_text, form_of}
+use Rattle.airline_list.specs.Outcomes.{Checked, Accepted, Faulty, Sent, To, NotSent}
+use Rattle.airline_list.specs.Forms.{Form, Airline, Others, Neither, form_text, form_of}
 
 -- 02: "The second to fourth digits of a tag are the airline's code."
 abbrev pub code_of : (tag : ℕ) → ℕ

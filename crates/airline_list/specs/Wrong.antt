@@ -6,11 +6,8 @@ use Rattle.text.specs.Text.{bytes}
 use Rattle.text.specs.Lines.{line_feed, in_front, lines_of}
 use Rattle.airline_list.specs.declared.End.{End}
 use Rattle.airline_list.specs.declared.End.TheVariants.{Left, Right}
-use Rattle.airline_list.specs.declared.Sent.{Sent}
-use Rattle.airline_list.specs.declared.Sent.TheVariants.{To, NotSent}
-use Rattle.airline_list.specs.declared.forms.Form.{Form}
-use Rattle.airline_list.specs.declared.forms.Form.TheVariants.{Airline, Others, Neither}
-use Rattle.airline_list.specs.Forms.{form_of}
+use Rattle.airline_list.specs.Outcomes.{Sent, To, NotSent}
+use Rattle.airline_list.specs.Forms.{Form, Airline, Others, Neither, form_of}
 use Rattle.airline_list.specs.Lists.{
   code_of,
   Entry,

@@ -1,28 +1,35 @@
 // The codes of the lines so far, a bit each: they are few to clear for each list.
-ghost use Rattle.std.specs.Prelude.{◌≡◌, ◌<◌};
-ghost use Rattle.airline_list.specs.Marks.{codes, has_bit, with_bit};
+ghost use Rattle.std.specs.Prelude.{cond, not, ◌≡◌, ◌<◌, replicate};
+ghost use Rattle.airline_list.specs.Read.{codes, has_bit, with_bit};
 
-pub const WORDS: usize = 16;
+const WORDS: usize = 16;
 
 const BITS: usize = 64;
 
-pub type Seen = [u64; WORDS];
-
-// Whether a code is among them.
-pub fn has(seen: &Seen, code: usize) -> bool
-    requires { code < codes }
-    ensures { result ≡ has_bit seen.now code }
-{
-    let word = seen[code / BITS];
-    (word >> (code % BITS)) % 2 == 1
+#[derive(Drop)]
+pub struct Codes {
+    bits: [u64; WORDS],
 }
 
-// Adds a code.
-pub fn add(seen: &mut Seen, code: usize)
-    requires { code < codes }
-    ensures { seen.new ≡ with_bit seen.old code }
-{
-    let at = code / BITS;
-    let word = seen[at];
-    seen[at] = word | (1u64 << (code % BITS));
+impl Codes {
+    pub fn none() -> Codes
+        ensures { result.bits ≡ replicate 16 0 }
+    {
+        Codes { bits: [0; WORDS] }
+    }
+
+    // Adds a code, and answers whether it is new, as a set's `insert`.
+    pub fn insert(&mut self, code: usize) -> bool
+        requires { code < codes }
+        ensures is_new { has_bit self.old.bits code ≡ not result }
+        ensures with_code { self.new.bits
+            ≡ cond result (with_bit self.old.bits code) self.old.bits }
+    {
+        let word = self.bits[code / BITS];
+        if (word >> (code % BITS)) % 2 == 1 {
+            return false;
+        }
+        self.bits[code / BITS] = word | (1u64 << (code % BITS));
+        true
+    }
 }

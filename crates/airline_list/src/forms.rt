@@ -3,19 +3,18 @@ ghost use Rattle.std.specs.Prelude.{true, ◌≡◌, ◌-◌, ◌≤◌, length}
 ghost use Rattle.text.specs.Text.{same};
 ghost use Rattle.text.specs.Lines.{first_line, one_line};
 ghost use Rattle.text_scan.specs.Scanned.{zero_digit, is_digit};
-ghost use Rattle.airline_list.specs.Forms.{end_text, form_text, code_in, form_of};
-ghost use Rattle.airline_list.specs.FirstForm.{three_digits, has_code, airline_behind, others_in};
+ghost use Rattle.airline_list.specs.Forms.{said, told, end_text, form_text, code_in, form_of};
+ghost use Rattle.airline_list.specs.FirstForm.{three_digits, has_code, end_of_two};
 
 use crate::End;
 use text::is_text;
 use text_scan::is_digit;
 
-// What a line says: the end of the airline with a code; that of all others; or neither form.
+// What a line says: the end of the airline with a code; or that of all others.
 #[derive(Clone, Copy)]
 pub enum Form {
     Airline { code: usize, end: End },
     Others { end: End },
-    Neither,
 }
 
 // Whether the first line of a text is this one.
@@ -69,65 +68,52 @@ pub fn code_in(text: &[u8]) -> usize
     100 * value(text[15]) + 10 * value(text[16]) + value(text[17])
 }
 
-// An airline's line, by what stands behind its code.
-fn airline_behind(code: usize, rest: &[u8]) -> Form
-    ensures { result ≡ airline_behind code (first_line rest.now) }
+// The end for which a text's first line is the one of two.
+fn end_of_two(text: &[u8], left: &[u8], right: &[u8]) -> Option<End>
+    requires left_line { one_line left.now ≡ true }
+    requires right_line { one_line right.now ≡ true }
+    ensures { result ≡ end_of_two (first_line text.now) left.now right.now }
 {
-    if is_line(rest, b") left)") {
-        return Form::Airline {
-            code,
-            end: End::Left,
-        };
+    if is_line(text, left) {
+        return Some(End::Left);
     }
-    if is_line(rest, b") right)") {
-        return Form::Airline {
-            code,
-            end: End::Right,
-        };
+    if is_line(text, right) {
+        return Some(End::Right);
     }
-    Form::Neither
+    None
 }
 
-// The form of a line that does not begin as an airline's.
-fn others_in(text: &[u8]) -> Form
-    ensures { result ≡ others_in (first_line text.now) }
-{
-    if is_line(text, b"(others left)") {
-        return Form::Others { end: End::Left };
-    }
-    if is_line(text, b"(others right)") {
-        return Form::Others { end: End::Right };
-    }
-    Form::Neither
-}
-
-// The form of the first line of a text.
-pub fn first_form(text: &[u8]) -> Form
-    ensures { result ≡ form_of (first_line text.now) }
+// The form of the first line of a text, where it has one.
+pub fn first_form(text: &[u8]) -> Option<Form>
+    ensures { told result ≡ form_of (first_line text.now) }
 {
     if has_code(text) {
         let code = code_in(text);
-        return airline_behind(code, &text[18..]);
+        let end = end_of_two(&text[18..], b") left)", b") right)")?;
+        return Some(Form::Airline { code, end });
     }
-    others_in(text)
+    let end = end_of_two(text, b"(others left)", b"(others right)")?;
+    Some(Form::Others { end })
 }
 
-fn end_length(end: End) -> usize
-    ensures { result ≡ length (end_text end) }
-{
-    match end {
-        End::Left => 4,
-        End::Right => 5,
+impl End {
+    // The bytes of its name: "left" and "right". Its number is read, with no branch: with a `match` a list took a quarter
+    // longer.
+    pub(crate) fn length(self) -> usize
+        ensures { result ≡ length (end_text self) }
+    {
+        4 + self as usize
     }
 }
 
-// The bytes of a line of this form; 0 where it is neither.
-pub fn form_length(form: Form) -> usize
-    ensures { result ≡ length (form_text form) }
-{
-    match form {
-        Form::Airline { code: _, end } => 21 + end_length(end),
-        Form::Others { end } => 9 + end_length(end),
-        Form::Neither => 0,
+impl Form {
+    // The bytes of a line of this form.
+    pub fn length(self) -> usize
+        ensures { result ≡ length (form_text (said self)) }
+    {
+        match self {
+            Form::Airline { code: _, end } => 21 + end.length(),
+            Form::Others { end } => 9 + end.length(),
+        }
     }
 }

@@ -1,57 +1,39 @@
--- The tests of a begin, in 01's order: each refusal, and the record that passes them all.
-use mathlib.Core.Path.{◌≡◌, refl, sym, ap, ◌∙◌, subst}
+-- The tests of a begin, in 01's order, two by two; and the record that passes them all.
+use mathlib.Core.Path.{◌≡◌, refl, sym, ap, ◌∙◌}
 use mathlib.Core.Bool.{Bool, true, false, ◌&&◌}
-use mathlib.Core.Logic.{◌≢◌}
 use mathlib.Core.List.{List, [], ◌∷◌}
 use mathlib.Core.Option.{Option, some, none}
-use Prim.Native.Nat.{ℕ, ◌≤◌, ◌<◌}
-use native.Mathlib.Omega.{arith}
+use Prim.Native.Nat.{ℕ, ◌<◌}
 use lib.Dec.{leb, ltb}
-use borrow.Author.Tests.{lt-ltb, ltb-true, leb-true}
-use Rattle.machine.specs.declared.Reply.TheVariants.{Accepted, Refused}
+use borrow.Author.Tests.{ltb-true}
 use Rattle.machine.specs.declared.Stored.{Stored}
-use Rattle.machine.specs.Sides.{side_of}
+use Rattle.machine.specs.Sides.{Side, side_number, side_of}
 use Rattle.machine.specs.Values.{never, number, encode}
-use Rattle.machine.specs.Operations.{operation_of, argument_ok}
+use Rattle.machine.specs.Operations.{Operation, operation_number, operation_of, argument_ok}
 use Rattle.machine.specs.Steps.{step_number, first_step}
 use Rattle.machine.specs.Tasks.{no_node}
-use Rattle.machine.specs.Table.{task_count, lane_count, record_words, task, set_task}
-use Rattle.machine.specs.Shape.{Sizes, sizes_of, Sized, WellFormed}
-use Rattle.machine.specs.Calls.{unless, is_idle, table_refusal, twice_refusal, call_refusal, begin_refusal, begun_task, begin}
-use Rattle.machine.proofs.Basics.Tests.{and_left, and_right, test-passed, tests_left}
-use Rattle.machine.proofs.Words.ValueLaws.{argument-stored}
-use Rattle.machine.proofs.Words.RecordLaws.{number-of-operation, number-of-side}
-use Rattle.machine.proofs.Words.LentLaws.{
-  lent-sizes,
-  same-task-count,
-  same-lane-count,
-  lent-lanes,
-  own-task,
-  far-task,
-}
+use Rattle.machine.specs.Table.{task_count, lane_count, record_words, set_task}
+use Rattle.machine.specs.Shape.{Sizes, sizes_of, Sized, length_ok, shape_ok}
+use Rattle.machine.specs.Calls.{unless, table_refusal, begin_refusal, begun_task, changed, begin}
 use Rattle.machine.specs.Lent.{lent_to}
-use Rattle.machine.specs.Results.{changed_of}
+use Rattle.machine.proofs.Words.ValueLaws.{argument-stored}
+use Rattle.machine.proofs.Words.LentLaws.{lent-sizes, same-task-count, lent-lanes, own-task, far-task}
 use Rattle.table_record.specs.declared.Task as Tasks
 use Rattle.table_record.specs.Coded.{struct_of, record_of, coded_task, task_meant}
-use Rattle.answers.specs.Refusals.{number_of}
-use Rattle.answers.proofs.Laws.Refusals.{refusal-due, NoneAt0, none-due, unless-decided, both-pass}
+use Rattle.answers.proofs.Laws.Refusals.{two_pass}
 use Rattle.table_layout.proofs.Laws.Views.{task-read}
-use Rattle.table_shape.proofs.Laws.PassedTable.{table-refused}
+use Rattle.call_begin.specs.declared.call.Call.{Call}
+use Rattle.machine.specs.Asked.{operation_meant, side_meant}
 use Rattle.call_begin.specs.OwnRecord.{WithOwn}
-use Rattle.call_begin.specs.Places.{place_refusal, Placed}
-use Rattle.call_begin.proofs.SeenTests.{twice-refused, twice-passed}
+use Rattle.call_begin.specs.Tests.{place_refusal, Placed, asked_refusal, own_refusal}
 
--- The numbers of a call: push, pop, add or remove, of a side.
-abbrev call_ok : (operation side : ℕ) → Bool
-call_ok op side = leb 1 op && leb op 4 && leb side 1
-
--- The record that is begun, by the words of the call.
-abbrev begun_of : (lane operation step side : ℕ) → Stored → Tasks.Task
-begun_of l op st side u =
+-- ---- The record that is begun, by the words of the call.
+abbrev begun_of : (lane : ℕ) → Operation → Side → Stored → Tasks.Task
+begun_of l op s u =
     record {
-      operation = op;
-      step = st;
-      side = side;
+      operation = operation_number op;
+      step = step_number (first_step op);
+      side = side_number s;
       argument = u;
       counted = 0;
       value = encode never;
@@ -60,125 +42,86 @@ begun_of l op st side u =
     }
 
 pub begun-record :
-    (l op side : ℕ) (u : Stored)
-    → op ≤ 4
-    → side ≤ 1
-    → argument_ok (operation_of op) u ≡ true
-    → begun_of l op (step_number (first_step (operation_of op))) side u
-    ≡ coded_task (begun_task l (operation_of op) (side_of side) (number u))
-begun-record l op side u h k ok =
-    λ i. begun_of l (sym (number-of-operation op h) i) (step_number (first_step (operation_of op)))
-    (sym (number-of-side side k) i) (sym (argument-stored (operation_of op) u ok) i)
+    (l : ℕ) (op : Operation) (s : Side) (u : Stored)
+    → argument_ok op u ≡ true
+    → begun_of l op s u ≡ coded_task (begun_task l op s (number u))
+begun-record l op s u ok = ap (begun_of l op s) (sym (argument-stored op u ok))
 
--- ---- The tests of the call, by their numbers.
-module _ (ws : List ℕ) (k op side : ℕ) (argument : Stored) where
-  pub call-6 : call_ok op side ≡ false → 6 ≡ number_of (call_refusal ws k op side argument)
-  call-6 h = rw h
+-- The call that was asked for.
+abbrev pub Asked : Call → (l op side : ℕ) → Stored → Type 0
+Asked c l op side u =
+    (c.lane ≡ l)
+    × (operation_meant c.operation ≡ operation_of op)
+    × (side_meant c.side ≡ side_of side)
+    × (c.argument ≡ u)
 
-  module _ (call : call_ok op side ≡ true) where
-    pub call-7 : argument_ok (operation_of op) argument ≡ false → 7 ≡ number_of (call_refusal ws k op side argument)
-    call-7 h = rw (call, h)
+pub begun-asked :
+    (c : Call) {l : ℕ} (op side : ℕ) {u : Stored}
+    → Asked c l op side u
+    → begun_task c.lane (operation_meant c.operation) (side_meant c.side) (number c.argument)
+    ≡ begun_task l (operation_of op) (side_of side) (number u)
+begun-asked c op side is = λ i. begun_task (is.0 i) (is.1 i) (is.2 i) (number (is.3 i))
 
-    module _ (is-argument : argument_ok (operation_of op) argument ≡ true) {n : ℕ}
-        (is_number : n ≡ number_of (twice_refusal ws (operation_of op) (number argument) none)) where
-      pub call-twice : n ≢ 0 → n ≡ number_of (call_refusal ws k op side argument)
-      call-twice h =
-          let twice = twice-refused ws (number argument) (operation_of op)
-          (unless (is_idle (task ws k).operation) 8 none)
-          is_number h in
-          rw (call, is-argument, twice)
+-- ---- Tests before others.
+abbrev before : Option ℕ → Option ℕ → Option ℕ
+before (some n) others = some n
+before none others = others
 
-      module _ (is_new : n ≡ 0) where
-        new : (others : Option ℕ) → twice_refusal ws (operation_of op) (number argument) others ≡ others
-        new others = twice-passed ws (number argument) (operation_of op) others none (sym is_number ∙ is_new)
+two_before : (a b : Bool) (m n : ℕ) (others : Option ℕ)
+    → unless a m (unless b n others) ≡ before (unless a m (unless b n none)) others
+two_before true true m n others = refl
+two_before true false m n others = refl
+two_before false b m n others = refl
 
-        pub call-8 : is_idle (task ws k).operation ≡ false → 8 ≡ number_of (call_refusal ws k op side argument)
-        call-8 h = rw (call, is-argument, new (unless (is_idle (task ws k).operation) 8 none), h)
-
-        pub call_passes : is_idle (task ws k).operation ≡ true → 0 ≡ number_of (call_refusal ws k op side argument)
-        call_passes h = rw (call, is-argument, new (unless (is_idle (task ws k).operation) 8 none), h)
-
-  -- With the number 0 all of them passed.
-  none-at-0 : NoneAt0 (call_refusal ws k op side argument)
-  none-at-0 =
-      none-due (call_ok op side) (λ e. absurd (omega (arith, e)))
-      (none-due (argument_ok (operation_of op) argument) (λ e. absurd (omega (arith, e)))
-      (λ e.
-      let passed = twice-passed ws (number argument) (operation_of op) (unless (is_idle (task ws k).operation) 8 none)
-      (unless (is_idle (task ws k).operation) 8 none) e in
-      passed ∙ none-due (is_idle (task ws k).operation) (λ e. absurd (omega (arith, e))) (λ _. refl)
-      (ap number_of (sym passed) ∙ e)))
-
-  module _ {n : ℕ} (is_number : n ≡ number_of (call_refusal ws k op side argument)) where
-    none-refused : n ≡ 0 → call_refusal ws k op side argument ≡ none
-    none-refused e = none-at-0 (sym is_number ∙ e)
-
-    call-passed : n ≡ 0 → call_ok op side ≡ true
-    call-passed e = let all = none-refused e in search test-passed
-
-    pub operation-low : n ≡ 0 → op ≤ 4
-    operation-low e = let call = call-passed e in leb-true op 4 (search (and_left, and_right))
-
-    pub side-low : n ≡ 0 → side ≤ 1
-    side-low e = let call = call-passed e in leb-true side 1 (search (and_left, and_right))
-
-    pub argument-passed : n ≡ 0 → argument_ok (operation_of op) argument ≡ true
-    argument-passed e = let all = none-refused e in search (test-passed, tests_left)
-
--- ---- What refuses a begin, of any table: 3 and 4 by their number.
 module _ (ws : List ℕ) (k l op side : ℕ) (argument : Stored) where
-  pub refused-by-table :
-      {n : ℕ} → n ≡ number_of (table_refusal ws none) → n ≢ 0 → begin_refusal ws k l op side argument ≡ some n
-  refused-by-table is_number h = table-refused ws is_number h _
+  abbrev tested : Option ℕ
+  tested = begin_refusal ws k l op side argument
 
-  -- ---- The others, of a table that passes.
-  module _ (P : WellFormed ws) where
-    pub refused-by-place :
-        {n : ℕ} → n ≡ number_of (place_refusal ws k l) → n ≢ 0 → begin_refusal ws k l op side argument ≡ some n
-    refused-by-place is_number h =
-        rw (P.length_passes, P.shape_passes)
-        (unless-decided (ltb l (lane_count ws)) (ltb k (task_count ws)) 26 5 (call_refusal ws k op side argument)
-        (λ e. h (is_number ∙ e))
-        ∙ ap some (sym is_number))
+  two-by-two :
+      tested
+      ≡ before (table_refusal ws none)
+      (before (place_refusal ws k l)
+      (before (asked_refusal op side argument) (own_refusal ws k (operation_of op) argument)))
+  two-by-two =
+      two_before (length_ok ws) (shape_ok ws) 3 4 _
+      ∙ ap (before (table_refusal ws none))
+      (two_before (ltb l (lane_count ws)) (ltb k (task_count ws)) 26 5 _
+      ∙ ap (before (place_refusal ws k l))
+      (two_before (leb 1 op && leb op 4 && leb side 1) (argument_ok (operation_of op) argument) 6 7 _))
 
-    module _ (at : Placed ws k l) {n : ℕ} (is_number : n ≡ number_of (call_refusal ws k op side argument)) where
-      of-lane : ltb l (lane_count ws) ≡ true
-      of-lane = lt-ltb l (lane_count ws) at.is_lane
+  pub by_table : {n : ℕ} → some n ≡ table_refusal ws none → tested ≡ some n
+  by_table e = two-by-two ∙ rw (sym e)
 
-      of_task : ltb k (task_count ws) ≡ true
-      of_task = lt-ltb k (task_count ws) at.is_task
+  module _ (passes : none ≡ table_refusal ws none) where
+    pub by_place : {n : ℕ} → some n ≡ place_refusal ws k l → tested ≡ some n
+    by_place e = two-by-two ∙ rw (sym passes, sym e)
 
-      pub refused-by-call : n ≢ 0 → begin_refusal ws k l op side argument ≡ some n
-      refused-by-call h =
-          rw (P.length_passes, P.shape_passes, of-lane, of_task)
-          (refusal-due (call_refusal ws k op side argument) is_number h)
+    module _ (placed : none ≡ place_refusal ws k l) where
+      pub by_numbers : {n : ℕ} → some n ≡ asked_refusal op side argument → tested ≡ some n
+      by_numbers e = two-by-two ∙ rw (sym passes, sym placed, sym e)
 
-      pub not-refused : n ≡ 0 → begin_refusal ws k l op side argument ≡ none
-      not-refused e =
-          rw (P.length_passes, P.shape_passes, of-lane, of_task) (none-refused ws k op side argument is_number e)
+      pub by_own : {o : Option ℕ} (call : Call) → none ≡ asked_refusal op side argument
+          → Asked call l op side argument → o ≡ own_refusal ws k (operation_meant call.operation) call.argument
+          → tested ≡ o
+      by_own call asked is e =
+          two-by-two
+          ∙ rw (sym passes, sym placed, sym asked)
+          (sym (e ∙ λ i. own_refusal ws k (is.1 i) (is.3 i)))
 
-  -- ---- What a begin leaves.
-  pub begin-refused :
-      {n : ℕ} → begin_refusal ws k l op side argument ≡ some n → changed_of (Refused n) ws ≡ begin ws k l op side argument
-  unfolding begin
-  begin-refused e = rw (e, begin)
-
-  pub begin-accepted :
-      begin_refusal ws k l op side argument ≡ none
-      → changed_of Accepted (set_task k (begun_task l (operation_of op) (side_of side) (number argument)) ws)
+  -- What a begin leaves, by its tests.
+  pub begin-tested :
+      {o : Option ℕ}
+      → tested ≡ o
+      → changed o ws (set_task k (begun_task l (operation_of op) (side_of side) (number argument)) ws)
       ≡ begin ws k l op side argument
   unfolding begin
-  begin-accepted e = rw (e, begin)
+  begin-tested e = rw (e, begin)
 
 -- There is such a lane and such a task.
-pub place-passed : (ws : List ℕ) (k l : ℕ) {n : ℕ} → n ≡ number_of (place_refusal ws k l) → n ≡ 0 → Placed ws k l
-place-passed ws k l is_number e =
-    let L = lane_count ws in
-    let T = task_count ws in
-    let both =
-    both-pass (ltb l L) (ltb k T) (λ z. absurd (omega (arith, z))) (λ z. absurd (omega (arith, z)))
-    (sym is_number ∙ e) in
-    record { is_lane = ltb-true l L both.0; is_task = ltb-true k T both.1 }
+pub place-passed : (ws : List ℕ) (k l : ℕ) → none ≡ place_refusal ws k l → Placed ws k l
+place-passed ws k l passed =
+    let both = two_pass (ltb l (lane_count ws)) (ltb k (task_count ws)) 26 5 (sym passed) in
+    record { is_lane = ltb-true l (lane_count ws) both.0; is_task = ltb-true k (task_count ws) both.1 }
 
 -- ---- The record that stands in the table stands for itself.
 pub own-in-place :
@@ -211,10 +154,3 @@ module _ (ws : List ℕ) (k : ℕ) (own : Tasks.Task) where
   same_place l =
       ap (λ (z : Sizes). unless (ltb l z.lane_count) 26 (unless (ltb k z.task_count) 5 none))
       (sym (lent-sizes ws k (record_of own)))
-
-  pub placed-there : {l : ℕ} → Placed ws k l → Placed lent k l
-  placed-there {l} at =
-      record {
-        is_lane = subst (λ (n : ℕ). l < n) (sym (same-lane-count ws k (record_of own))) at.is_lane;
-        is_task = subst (λ (n : ℕ). k < n) (sym (same-task-count ws k (record_of own))) at.is_task;
-      }

@@ -1,2 +1,2 @@
-pub mod BeginTests
 pub mod SeenTests
+pub mod BeginTests

@@ -1,3 +1,3 @@
 pub mod OwnRecord
 pub mod Seen
-pub mod Places
+pub mod Tests

@@ -1,59 +1,72 @@
 -- Consecutive dispatches, one after another: the one made, and those left on the table that it leaves.
-use mathlib.Core.Path.{◌≡◌, refl, sym, ap, ◌∙◌, subst}
-use mathlib.Core.Bool.{true, false}
-use mathlib.Core.Logic.{◌≢◌}
-use mathlib.Core.List.{List}
-use mathlib.Core.Option.{none}
-use Prim.Native.Nat.{ℕ, zero, suc, ◌<◌}
-use Rattle.machine.specs.declared.Answer.TheVariants.{Going, Refused}
-use Rattle.machine.specs.declared.Dispatch.{Dispatch}
-use Rattle.machine.specs.declared.Dispatch.TheVariants.{Answered}
+use Rattle.std.proofs.Common.{◌≡◌, ◌≢◌, refl, sym, ap, ◌∙◌, subst, arith, true, false, List, ℕ, zero, suc, ◌+◌, ◌-◌, ◌<◌}
+use Rattle.std.proofs.Math.Option.{some, none}
+use Rattle.machine.specs.Outcomes.Answer.{Going, Refused}
+use Rattle.machine.specs.Outcomes.Dispatch.{Answered}
 use Rattle.machine.specs.Answers.{dispatch_goes_on}
 use Rattle.machine.specs.Calls.{dispatch_refusal, Dispatched, dispatch_on, dispatch, dispatches}
 use Rattle.machine.specs.Demand3.{dispatch_call}
-use Rattle.machine.specs.Results.{dispatched_of}
 use Rattle.machine.proofs.Words.DispatchLaws.{others-follow, none-follows}
 use Rattle.machine.proofs.Shape.ShapeKept.{dispatch-same-sizes, call-accepted}
-use Rattle.answers.specs.Refusals.{number_of}
 use Rattle.call_dispatch.proofs.DispatchRefusals.{
   dispatch-passes,
   dispatch-refused,
   dispatch-on,
-  table-passed,
+  dispatch-tested,
   hint-passed,
 }
 
-module _ (ws : List ℕ) (h : ℕ) (passed : dispatch_refusal ws h ≡ none) {d : Dispatch} {vs : List ℕ}
-    (done : dispatched_of d vs ≡ dispatch_on ws h) where
-  is-dispatch : dispatched_of d vs ≡ dispatch ws h
-  is-dispatch = done ∙ dispatch-on ws h passed
+module _ (ws : List ℕ) (h : ℕ) (passed : dispatch_refusal ws h ≡ none) {d : Dispatched} (done : d ≡ dispatch_on ws h) where
+  is-dispatch : d ≡ dispatch ws h
+  is-dispatch = done ∙ dispatch-on ws h (sym passed)
 
   -- A dispatch leaves a table and sizes that pass the tests again.
-  pub still-passed : dispatch_refusal vs h ≡ none
+  pub still-passed : dispatch_refusal d.words h ≡ none
   still-passed =
-      let A = table-passed ws h passed in
+      let A = dispatch-tested ws h (sym passed) in
       let same_nodes = ap (λ z. z.node_count) (dispatch-same-sizes ws A h) in
       subst (λ (r : Dispatched). dispatch_refusal r.words h ≡ none) (sym is-dispatch)
-      (dispatch-passes (dispatch ws h).words (call-accepted ws A (dispatch_call h)) h
-      (subst (λ (n : ℕ). h < n) (sym same_nodes) (hint-passed ws h passed)))
+      (sym
+      (dispatch-passes (dispatch ws h).words h (call-accepted ws A (dispatch_call h))
+      (subst (λ (n : ℕ). h < n) (sym same_nodes) (hint-passed ws h (sym passed)))))
 
-  same-going : dispatch_goes_on (dispatch ws h).answer ≡ dispatch_goes_on d
+  same-going : dispatch_goes_on (dispatch ws h).answer ≡ dispatch_goes_on d.answer
   same-going = ap (λ (r : Dispatched). dispatch_goes_on r.answer) (sym is-dispatch)
 
-  pub goes_on : dispatch_goes_on d ≡ true → (n : ℕ) → dispatches (suc n) ws h ≡ dispatches n vs h
-  goes_on g n =
-      others-follow n ws h (same-going ∙ g) ∙ ap (λ (r : Dispatched). dispatches n r.words h) (sym is-dispatch)
+  -- It is the last of those left, or the others follow.
+  module _ (times made : ℕ) (left : made < times) {all : Dispatched} (so_far : dispatches (times - made) ws h ≡ all) where
+    one-of-them : suc (times - (made + 1)) ≡ times - made
+    one-of-them = omega arith
 
-  pub is_last : dispatch_goes_on d ≡ false → (n : ℕ) → dispatched_of d vs ≡ dispatches (suc n) ws h
-  is_last g n = is-dispatch ∙ sym (none-follows n ws h (same-going ∙ g))
+    as_left : dispatches (suc (times - (made + 1))) ws h ≡ all
+    as_left = ap (λ (n : ℕ). dispatches n ws h) one-of-them ∙ so_far
 
-pub none_left : (ws : List ℕ) (h : ℕ) {n : ℕ} → n ≡ 0 → dispatched_of (Answered Going) ws ≡ dispatches n ws h
+    pub dispatches_end : dispatch_goes_on d.answer ≡ false → d ≡ all
+    dispatches_end g = is-dispatch ∙ sym (none-follows (times - (made + 1)) ws h (same-going ∙ g)) ∙ as_left
+
+    pub others-left : dispatch_goes_on d.answer ≡ true → dispatches (times - (made + 1)) d.words h ≡ all
+    others-left g =
+        ap (λ (r : Dispatched). dispatches (times - (made + 1)) r.words h) is-dispatch
+        ∙ sym (others-follow (times - (made + 1)) ws h (same-going ∙ g))
+        ∙ as_left
+
+-- Before the first all are left, and after the last none.
+pub all_left : (ws : List ℕ) (h times : ℕ) → dispatches (times - 0) ws h ≡ dispatches times ws h
+all_left ws h times = let e : times - 0 ≡ times = omega arith in ap (λ (n : ℕ). dispatches n ws h) e
+
+pub none_left : (ws : List ℕ) (h : ℕ) {n : ℕ} → n ≡ 0
+    → record { answer = Answered Going; words = ws } ≡ dispatches n ws h
 unfolding dispatches
 none_left ws h e = rw e
 
-pub all-refused : (ws : List ℕ) (h : ℕ) {n : ℕ} → n ≡ number_of (dispatch_refusal ws h) → n ≢ 0 → (times : ℕ) → times ≢ 0
-    → dispatched_of (Answered (Refused n)) ws ≡ dispatches times ws h
-all-refused ws h is_number r zero asked = absurd (asked refl)
-all-refused ws h is_number r (suc m) asked =
-    let e = dispatch-refused ws h is_number r in
+pub all-refused : (ws : List ℕ) (h : ℕ) {n : ℕ} → some n ≡ dispatch_refusal ws h → (times : ℕ) → times ≢ 0
+    → record { answer = Answered (Refused n); words = ws } ≡ dispatches times ws h
+all-refused ws h said zero asked = absurd (asked refl)
+all-refused ws h said (suc m) asked =
+    let e = dispatch-refused ws h said in
     e ∙ sym (none-follows m ws h (ap (λ (d : Dispatched). dispatch_goes_on d.answer) (sym e)))
+
+-- What consecutive dispatches rest on.
+pub ruleset made = (all_left, none_left)
+
+pub ruleset refused = (none_left, all-refused)

@@ -4,33 +4,30 @@ ghost use Rattle.std.proofs.Math.Option.{none};
 ghost use Rattle.machine.specs.Answers.{dispatch_goes_on};
 ghost use Rattle.machine.specs.Calls.{dispatch_refusal, dispatches};
 ghost use Rattle.machine.specs.Results.{dispatched_of};
+ghost use Rattle.call_dispatch.specs.Chosen.{made_in};
 
 use crate::turn::dispatch_on;
-use answers::is_going;
-use machine::{Answer, Dispatch};
+use machine::answer::Answer;
+use machine::refusal::Refusal;
 
 // Whether the tick that a dispatch made goes on.
-fn goes_on(d: Dispatch) -> bool
-    ensures { result ≡ dispatch_goes_on d }
+fn goes_on(answer: Option<Answer>) -> bool
+    ensures { result ≡ dispatch_goes_on (made_in answer) }
 {
-    match d {
-        Dispatch::Idle => false,
-        Dispatch::Answered(a) => is_going(a),
-    }
+    matches!(answer, Some(Answer::Going))
 }
 
-// Until one does not go on, or so many.
-pub fn dispatches_on(table: &mut [u32], hint: u32, times: u32) -> Dispatch
+// Until one does not go on, or so many. Kept beside consecutive ticks, which say why.
+#[tactic(auto, using(crate::proofs::ConsecutiveDispatches::made))]
+pub fn dispatches_on(table: &mut [u32], hint: u32, times: u32) -> Result<Option<Answer>, Refusal>
     requires { dispatch_refusal table.old hint ≡ none }
     ensures { dispatched_of result table.new ≡ dispatches times table.old hint }
 {
-    let mut made = 0;
-    while made < times {
-        let answer = dispatch_on(table, hint);
+    for _ in 0..times {
+        let answer = dispatch_on(table, hint)?;
         if !goes_on(answer) {
-            return answer;
+            return Ok(answer);
         }
-        made += 1;
     }
-    Dispatch::Answered(Answer::Going)
+    Ok(Some(Answer::Going))
 }

@@ -6,51 +6,46 @@ mod turn;
 
 ghost use Rattle.std.specs.Prelude.{◌≡◌};
 ghost use Rattle.machine.specs.Calls.{dispatch_refusal, dispatch, dispatches};
-ghost use Rattle.machine.specs.Results.{dispatched_of};
-ghost use Rattle.answers.specs.Refusals.{number_of};
+ghost use Rattle.machine.specs.Results.{refusal_in, dispatched_of};
 
 use consecutive::dispatches_on;
-use machine::{Answer, Dispatch};
+use machine::answer::Answer;
+use machine::refusal::Refusal;
 use table_layout::header;
 use table_shape::table_refusal;
 use turn::dispatch_on;
 
-// 02: refusals 3, 4 and 9, by number; 0 where none of them is due.
-fn dispatch_refusal(table: &[u32], hint: u32) -> u32
-    ensures { result ≡ number_of (dispatch_refusal table.now hint) }
+// 02: refusals 3, 4 and 9.
+#[tactic(auto, using(crate::proofs::DispatchRefusals::tested))]
+#[inline(never)]
+fn dispatch_refusal(table: &[u32], hint: u32) -> Result<(), Refusal>
+    ensures { refusal_in result ≡ dispatch_refusal table.now hint }
 {
-    let n = table_refusal(table);
-    if n != 0 {
-        return n;
-    }
+    table_refusal(table)?;
     if header::slots(table) <= hint {
-        return 9;
+        return Err(Refusal::Hint);
     }
-    0
+    Ok(())
 }
 
-// 02: after these, "idle" where no task is busy, or one tick of the next busy one, which 11 may refuse.
-pub fn dispatch(table: &mut [u32], hint: u32) -> Dispatch
+// 02: after these, "idle", which is None, where no task is busy, or one tick of the next busy one, which 11 may refuse.
+#[tactic(auto, using(crate::proofs::DispatchRefusals::passed))]
+pub fn dispatch(table: &mut [u32], hint: u32) -> Result<Option<Answer>, Refusal>
     ensures { dispatched_of result table.new ≡ dispatch table.old hint }
 {
-    let n = dispatch_refusal(table, hint);
-    if n != 0 {
-        return Dispatch::Answered(Answer::Refused(n));
-    }
+    dispatch_refusal(table, hint)?;
     dispatch_on(table, hint)
 }
 
 // Dispatches until a call ends, every task is idle, a refusal, or so many; the last outcome. A dispatch keeps what the
 // tests of refusals 3, 4 and 9 found, so they are made once; and not at all where none is asked for.
-pub fn dispatches(table: &mut [u32], hint: u32, times: u32) -> Dispatch
+#[tactic(auto, using(crate::proofs::ConsecutiveDispatches::refused))]
+pub fn dispatches(table: &mut [u32], hint: u32, times: u32) -> Result<Option<Answer>, Refusal>
     ensures { dispatched_of result table.new ≡ dispatches times table.old hint }
 {
     if times == 0 {
-        return Dispatch::Answered(Answer::Going);
+        return Ok(Some(Answer::Going));
     }
-    let n = dispatch_refusal(table, hint);
-    if n != 0 {
-        return Dispatch::Answered(Answer::Refused(n));
-    }
+    dispatch_refusal(table, hint)?;
     dispatches_on(table, hint, times)
 }

@@ -2,7 +2,7 @@
 use mathlib.Core.Path.{ap}
 use Rattle.machine.specs.Values.{number}
 use Rattle.airline_list.specs.Lists.{Verdict, sent}
-use Rattle.airline_list.specs.declared.Sent.{Sent}
+use Rattle.airline_list.specs.Outcomes.{Sent}
 use Rattle.airline_list.proofs.Orders.{order-does-not-matter}
 use Rattle.machine.specs.PushByList.{push_to, push_by_list}
 use Rattle.call_push_by_list.specs.Alike.{IsThatBegin, IsNoCall, PushAlike}

@@ -2,18 +2,18 @@
 use mathlib.Core.List.{List}
 use mathlib.Core.Path.{◌≡◌, sym, ap, ◌∙◌}
 use Prim.Native.Nat.{ℕ}
-use Rattle.machine.specs.declared.Reply.{Reply}
 use Rattle.machine.specs.declared.Stored.{Stored}
 use Rattle.machine.specs.Sides.{side_number}
 use Rattle.machine.specs.Values.{number}
 use Rattle.machine.specs.Operations.{push, operation_number}
 use Rattle.machine.specs.Calls.{Changed, begin}
-use Rattle.machine.specs.Results.{changed_of}
+use Rattle.std.specs.Prelude.{Result}
+use Rattle.machine.specs.declared.refusal.Refusal.{Refusal}
+use Rattle.machine.specs.Results.{replied, changed_of}
 use Rattle.airline_list.specs.declared.End.{End}
-use Rattle.airline_list.specs.declared.Sent.{Sent}
-use Rattle.airline_list.specs.declared.Sent.TheVariants.{To, NotSent}
+use Rattle.airline_list.specs.Outcomes.{Sent, To, NotSent}
 use Rattle.airline_list.specs.Lists.{verdict, sent}
-use Rattle.machine.specs.declared.ByList.TheVariants.{Replied, Faulty}
+use Rattle.machine.specs.Outcomes.ByList.{Replied, Faulty}
 use Rattle.machine.specs.PushByList.{side_at, replied_of, push_to, push_by_list}
 
 module _ (list ws : List ℕ) (k l : ℕ) (argument : Stored) (s : Sent) (tag : ℕ) (its-tag : tag ≡ number argument)
@@ -21,9 +21,10 @@ module _ (list ws : List ℕ) (k l : ℕ) (argument : Stored) (s : Sent) (tag : 
   sent-so : (other : Sent) → s ≡ other → other ≡ sent (verdict list) (number argument)
   sent-so other e = sym e ∙ sends ∙ ap (sent (verdict list)) its-tag
 
-  pub begun-at : (end : End) → s ≡ To end → (side : ℕ) → side ≡ side_number (side_at end) → (r : Reply) (after : List ℕ)
+  pub begun-at : (end : End) → s ≡ To end → (side : ℕ) → side ≡ side_number (side_at end) → (r : Result (Unit {0}) Refusal)
+      → (after : List ℕ)
       → changed_of r after ≡ begin ws k l (operation_number push) side argument
-      → replied_of (Replied r) after ≡ push_by_list list ws k l argument
+      → replied_of (Replied (replied r)) after ≡ push_by_list list ws k l argument
   unfolding push_by_list
   begun-at end e side its-side r after begun =
       ap (λ (c : Changed). replied_of (Replied c.reply) c.words)

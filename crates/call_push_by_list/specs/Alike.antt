@@ -5,7 +5,7 @@ use Rattle.machine.specs.Values.{number}
 use Rattle.airline_list.specs.declared.End.{End}
 use Rattle.airline_list.specs.Lists.{code_of, Entry, says, faulty, verdict, end_for}
 use Rattle.airline_list.specs.Accepted.{Reordered}
-use Rattle.machine.specs.declared.ByList.TheVariants.{Replied, Faulty}
+use Rattle.machine.specs.Outcomes.ByList.{Replied, Faulty}
 use Rattle.machine.specs.PushByList.{replied_of, push_at, push_by_list}
 
 -- 02: "is otherwise the same push": with an accepted list it is the begin of a push at the end that is named for the

@@ -1,15 +1,14 @@
 -- Pushes by list on small tables, with what each answers and the side of the task's call afterwards; `proofs/Worked`
 -- computes them.
 use Rattle.std.specs.Prelude.{List, [], ◌∷◌, ℕ}
-use Rattle.machine.specs.declared.Reply.TheVariants.{Accepted, Refused}
+use Rattle.machine.specs.Outcomes.Reply.{Accepted, Refused}
 use Rattle.machine.specs.declared.Stored.{Stored}
 use Rattle.machine.specs.Sides.{Side, left, right}
 use Rattle.machine.specs.Values.{stored, stored_of}
 use Rattle.machine.specs.Table.{task}
 use Rattle.machine.specs.Calls.{start_words}
 use Rattle.text.specs.Text.{bytes}
-use Rattle.machine.specs.declared.ByList.{ByList}
-use Rattle.machine.specs.declared.ByList.TheVariants.{Replied, Faulty}
+use Rattle.machine.specs.Outcomes.ByList.{ByList, Replied, Faulty}
 use Rattle.machine.specs.PushByList.{PushedByList, push_by_list}
 
 -- A push by list.

@@ -1,3 +1,4 @@
+pub mod Replies
 pub mod Alike
 pub mod Examples
 pub mod Wrong

@@ -1,18 +1,16 @@
 -- Wrong pushes by list as definitions, each with a push that tells it from the right one; `proofs/Refuted` computes it.
 use Rattle.std.specs.Prelude.{◌≡◌, cond, List, [], ◌∷◌, map, ℕ}
 use Rattle.std.proofs.Math.Option.{Option, some, none}
-use Rattle.machine.specs.declared.Reply.TheVariants.{Accepted, Refused}
+use Rattle.machine.specs.Outcomes.Reply.{Accepted, Refused}
 use Rattle.machine.specs.declared.Stored.{Stored}
 use Rattle.machine.specs.Sides.{Side, left, right, opposite, side_number}
 use Rattle.machine.specs.Values.{number, stored, bag_ok}
 use Rattle.machine.specs.Operations.{push, operation_number}
 use Rattle.machine.specs.Table.{task}
 use Rattle.machine.specs.Calls.{table_refusal, begin}
-use Rattle.airline_list.specs.declared.Sent.{Sent}
-use Rattle.airline_list.specs.declared.Sent.TheVariants.{To, NotSent}
+use Rattle.airline_list.specs.Outcomes.{Sent, To, NotSent}
 use Rattle.airline_list.specs.Lists.{verdict, sent}
-use Rattle.machine.specs.declared.ByList.{ByList}
-use Rattle.machine.specs.declared.ByList.TheVariants.{Replied, Faulty}
+use Rattle.machine.specs.Outcomes.ByList.{ByList, Replied, Faulty}
 use Rattle.machine.specs.PushByList.{side_at, PushedByList, replied_of, push_by_list}
 use Rattle.call_push_by_list.specs.Examples.{good, bad, fresh}
 

@@ -2,14 +2,42 @@
 #![tactic(auto)]
 
 ghost use Rattle.std.specs.Prelude.{◌≡◌};
+ghost use Rattle.airline_list.specs.Outcomes.{sent_of, checked_of};
+ghost use Rattle.airline_list.specs.Lists.{verdict, sent, checked};
 ghost use Rattle.machine.specs.Sides.{side_number};
 ghost use Rattle.machine.specs.PushByList.{side_at, replied_of, push_by_list};
+ghost use Rattle.call_push_by_list.specs.Replies.{by_list};
+ghost use Rattle.call_push_by_list.specs.declared.ListRefusal.TheVariants.{Begin, List};
 
-use airline_list::{End, Sent, end_for};
+use airline_list::{End, Fault, end_for};
 use call_begin::begin;
-use machine::{ByList, Stored};
+use machine::Stored;
+use machine::refusal::Refusal;
 use table_record::Task;
 use table_values::number;
+
+// What a push by list is refused for: its list, or its begin.
+#[derive(Clone, Copy, PartialEq, Eq)]
+pub enum ListRefusal {
+    List(Fault),
+    Begin(Refusal),
+}
+
+impl From<Fault> for ListRefusal {
+    ghost from_gives = { λ fault e. e ≡ List fault };
+
+    fn from(fault: Fault) -> Self {
+        ListRefusal::List(fault)
+    }
+}
+
+impl From<Refusal> for ListRefusal {
+    ghost from_gives = { λ refusal e. e ≡ Begin refusal };
+
+    fn from(refusal: Refusal) -> Self {
+        ListRefusal::Begin(refusal)
+    }
+}
 
 // 01: 0 left, 1 right.
 fn side(end: End) -> u32
@@ -21,14 +49,34 @@ fn side(end: End) -> u32
     }
 }
 
+// The end to which a list sends a tag. Not inlined, as the reader of a list is: the library has it once.
+#[inline(never)]
+fn end_of(list: &[u8], tag: u64) -> Result<End, Fault>
+    ensures { sent_of result ≡ sent (verdict list.now) tag }
+{
+    end_for(list, tag)
+}
+
+// Whether a list is accepted, or its fault, by the same reader: `airline_list::check` has one of its own.
+pub fn check(list: &[u8]) -> Result<(), Fault>
+    ensures { checked_of result ≡ checked (verdict list.now) }
+{
+    end_of(list, 0)?;
+    Ok(())
+}
+
 // 2026-13: refusals 27, 28 and 29 of the list, then those of a begin, which is made at the end for the tag.
-pub fn push_by_list(list: &[u8], table: &mut [u32], task: u32, l: u32, argument: Stored) -> ByList
-    ensures { replied_of result table.new
+pub fn push_by_list(
+    list: &[u8],
+    table: &mut [u32],
+    task: u32,
+    l: u32,
+    argument: Stored,
+) -> Result<(), ListRefusal>
+    ensures { replied_of (by_list result) table.new
         ≡ push_by_list list.now table.old task l argument }
 {
-    let sent = end_for(list, number(argument));
-    match sent {
-        Sent::To(end) => ByList::Replied(begin(table, task, l, Task::PUSH, side(end), argument)),
-        Sent::NotSent { number, line } => ByList::Faulty { number, line },
-    }
+    let end = end_of(list, number(argument))?;
+    begin(table, task, l, Task::PUSH, side(end), argument)?;
+    Ok(())
 }

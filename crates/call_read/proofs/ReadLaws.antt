@@ -1,26 +1,25 @@
 -- What a read writes, bag by bag, and what it answers, by what the walk answers.
-use mathlib.Core.Path.{◌≡◌, refl, sym, ap, ◌∙◌}
-use mathlib.Core.Logic.{◌≢◌}
-use mathlib.Core.Bool.{Bool}
+use mathlib.Core.Path.{◌≡◌, sym, ap, ◌∙◌}
+use mathlib.Core.Bool.{true}
 use mathlib.Core.List.{List, [], ◌∷◌, ◌++◌, append_assoc}
 use mathlib.Core.Option.{Option, some, none, map}
-use Prim.Native.Nat.{ℕ, suc, ◌+◌, ◌*◌, ◌≤◌, ◌<◌}
+use Prim.Native.Nat.{ℕ, suc, ◌+◌, ◌*◌, ◌≤◌, ◌-◌, ◌<◌}
 use native.Mathlib.Omega.{arith}
-use lib.Dec.{ltb}
 use lib.ListN.{length, take, drop, take-append-drop}
 use lib.Seq.{sets, drop-drop}
-use borrow.Author.Tests.{le-leb, lt-leb, lt-ltb, le-ltb}
+use borrow.Author.Tests.{le-leb}
 use Rattle.tag.specs.Tags.{tag_words, all_tag_words}
-use Rattle.machine.specs.declared.Reading.TheVariants.{Count, Refused}
-use Rattle.machine.specs.Table.{lane_count}
-use Rattle.machine.specs.Calls.{unless, table_refusal, lane, read_into, read}
+use Rattle.std.specs.Prelude.{Ok}
+use Rattle.machine.specs.declared.Stored.{Stored}
+use Rattle.machine.specs.Values.{bag_ok}
+use Rattle.machine.specs.Table.{node_count, value_words}
+use Rattle.machine.specs.Calls.{is_among, read_into}
 use Rattle.machine.specs.Results.{read_of}
 use Rattle.machine.proofs.Basics.Contradiction.{clash}
-use Rattle.answers.specs.Refusals.{number_of}
 use Rattle.table_layout.proofs.Laws.Fronts.{front-grows, rest-stays}
-use Rattle.table_shape.proofs.Laws.PassedTable.{table-refused, table-passed}
-use Rattle.lane_walk.specs.declared.Walk.TheVariants.{Bags, NoEnd}
-use Rattle.lane_walk.specs.Walks.{count_of, walk_of}
+use Rattle.lane_walk.specs.declared.Walk.{Walk}
+use Rattle.lane_walk.specs.Walks.{ahead, count_of, walk_of}
+use Rattle.lane_walk.proofs.Laws.Ahead.{lane-ahead, BagAhead, bag-ahead}
 use Rattle.call_read.specs.Laid.{laid}
 
 -- ---- The loop that writes: i bags are written, two words each, and those ahead come after them.
@@ -48,51 +47,36 @@ write-ends i none out h = clash (cc)
 write-ends i (some []) out h = take-append-drop (2 * i) out
 write-ends i (some (b ∷ bags)) out h = clash (cc)
 
--- ---- Refusals 3 and 4 by their number.
-module _ (ws : List ℕ) {n : ℕ} (is_number : n ≡ number_of (table_refusal ws none)) (l : ℕ) (out : List ℕ) where
-  pub read-refused : n ≢ 0 → read_of (Refused n) out ≡ read ws l out
-  unfolding read
-  read-refused h = rw (table-refused ws is_number h (unless (ltb l (lane_count ws)) 26 none), read)
+-- ---- While there are bags to write, one is ahead.
+module _ (ws : List ℕ) (n i x : ℕ) (more : i < n) (left : count_of (ahead ws x) ≡ some (n - i)) where
+  pub here : BagAhead ws (node_count ws) x (n - (i + 1))
+  here =
+      let e : n - i ≡ suc (n - (i + 1)) = omega arith in
+      bag-ahead ws x (n - (i + 1)) (node_count ws) (left ∙ ap some e)
 
-  pub read-no-lane : n ≡ 0 → lane_count ws ≤ l → read_of (Refused 26) out ≡ read ws l out
-  unfolding read
-  read-no-lane e h =
-      let P = table-passed ws is_number e in rw (P.length_passes, P.shape_passes, le-ltb l (lane_count ws) h, read)
+  pub node-here : x < node_count ws
+  node-here = here.is_node
 
-  pub read-goes-on : n ≡ 0 → l < lane_count ws → read_into (lane ws l) out ≡ read ws l out
-  unfolding read
-  read-goes-on e h =
-      let P = table-passed ws is_number e in rw (P.length_passes, P.shape_passes, lt-ltb l (lane_count ws) h, read)
+  pub tag-here : {u : Stored} → u ≡ value_words ws x → bag_ok u ≡ true
+  tag-here read = rw read here.is-tag
 
--- ---- What the walk says of its count.
-pub bags-counted :
-    (w : ℕ) (l : Option (List ℕ)) (n : ℕ) (found : Bool) → walk_of w l ≡ Bags n found → count_of l ≡ some n
-bags-counted w none n found h = clash (cc)
-bags-counted w (some bags) n found h = cc
+pub ruleset turns = (node-here, tag-here, write-ends)
 
--- ---- What the read answers, by what the walk does.
-module _ (w : ℕ) (out : List ℕ) where
-  pub read-no-end : (l : Option (List ℕ)) → walk_of w l ≡ NoEnd → read_of (Refused 11) out ≡ read_into l out
+-- ---- What the walk says of its count, and what the read answers by it.
+module _ (w : ℕ) where
+  pub bags-counted : (l : Option (List ℕ)) {r : Walk} → Ok r ≡ walk_of w l → count_of l ≡ some r.bags
+  bags-counted none e = clash (cc)
+  bags-counted (some bags) {r} e =
+      let said : r ≡ record { bags = length bags; found = is_among w bags } = cc in
+      ap (λ (q : Walk). some q.bags) (sym said)
+
+  pub read_all : (out : List ℕ) (l : Option (List ℕ)) {r : Walk} → Ok r ≡ walk_of w l → 2 * r.bags ≤ length out
+      → read_of (Ok r.bags) (laid l out) ≡ read_into l out
   unfolding read_into
-  read-no-end none h = refl
-  read-no-end (some bags) h = clash (cc)
+  read_all out none e room = clash (cc)
+  read_all out (some bags) {r} e room =
+      let said : r ≡ record { bags = length bags; found = is_among w bags } = cc in
+      let n : r.bags ≡ length bags = ap (λ (q : Walk). q.bags) said in
+      rw (n, le-leb (2 * length bags) (length out) (omega arith), read_into)
 
-  pub read_short :
-      (l : Option (List ℕ)) (n : ℕ) (found : Bool)
-      → walk_of w l ≡ Bags n found
-      → length out < 2 * n
-      → read_of (Refused 12) out ≡ read_into l out
-  unfolding read_into
-  read_short none n found h s = clash (cc)
-  read_short (some bags) n found h s =
-      let e : length bags ≡ n = cc in rw (lt-leb (2 * length bags) (length out) (omega arith), read_into)
-
-  pub read_all :
-      (l : Option (List ℕ)) (n : ℕ) (found : Bool)
-      → walk_of w l ≡ Bags n found
-      → 2 * n ≤ length out
-      → read_of (Count n) (laid l out) ≡ read_into l out
-  unfolding read_into
-  read_all none n found h s = clash (cc)
-  read_all (some bags) n found h s =
-      let e : n ≡ length bags = cc in rw (e, le-leb (2 * length bags) (length out) (omega arith), read_into)
+pub ruleset whole = (bags-counted, read_all, lane-ahead)

@@ -9,33 +9,33 @@ use table_values::{of_words, value_ok};
 
 // 01: a slot number below S, or 65,535 for none. One pass that does not stop at the first word that fails, as in the
 // test of a table's nodes.
+#[tactic(auto, using(crate::proofs::Laws::AllBelow::testing))]
 fn links_ok(links: &[u32], slots: u32) -> bool
     ensures { result ≡ links_ok slots links.now }
 {
     let mut ok = true;
-    let mut x = 0;
-    while x < links.len() {
-        ok = ok & node_or_none(slots, links[x]);
-        x += 1;
+    for link in links {
+        ok &= node_or_none(slots, *link);
     }
     ok
 }
 
-// 01: V; 02: with its leading digit.
+// 01: V; 02: with its leading digit. Kept beside `links_ok`: that reads one column and this two, and one function over
+// any test would be longer than both.
+#[tactic(auto, using(crate::proofs::Laws::AllBelow::testing))]
 fn values_ok(words: &[u32], digits: &[u32]) -> bool
     requires { length digits.now ≡ length words.now }
     ensures { result ≡ values_ok words.now digits.now }
 {
     let mut ok = true;
-    let mut x = 0;
-    while x < words.len() {
-        ok = ok & value_ok(of_words(digits[x], words[x]));
-        x += 1;
+    for (x, word) in words.iter().enumerate() {
+        ok &= value_ok(of_words(digits[x], *word));
     }
     ok
 }
 
 // The two columns of links, which stand side by side, and the two of values.
+#[tactic(auto, using(crate::proofs::Laws::Parts::parts))]
 pub fn columns_ok(snapshot: &[u32]) -> bool
     requires { length_ok snapshot.now ≡ true }
     ensures { result ≡ columns_ok snapshot.now }

@@ -9,32 +9,30 @@ ghost use Rattle.std.specs.Prelude.{◌≡◌, true};
 ghost use Rattle.std.proofs.Math.Option.{none};
 ghost use Rattle.machine.specs.Shape.{length_ok, shape_ok};
 ghost use Rattle.machine.specs.Calls.{table_refusal};
-ghost use Rattle.machine.specs.Results.{changed_of};
+ghost use Rattle.machine.specs.Results.{changed_of, refusal_in};
 ghost use Rattle.machine.specs.Snapshots.{by_nodes, take_snapshot, put_back};
-ghost use Rattle.answers.specs.Refusals.{number_of};
 
 use columns::columns_ok;
-use machine::Reply;
-use orders::{write_snapshot, write_table};
+use machine::refusal::Refusal;
+use orders::{ByColumns, ByNodes, write_in};
 use table_shape::{header_ok, length_ok, table_refusal, tasks_ok};
 
 // 02: refusal 22 first, then 3 and 4 of the table.
-pub fn take(table: &[u32], snapshot: &mut [u32]) -> Reply
+#[tactic(auto, using(crate::proofs::Laws::Replies::takes))]
+pub fn take(table: &[u32], snapshot: &mut [u32]) -> Result<(), Refusal>
     ensures { changed_of result snapshot.new
         ≡ take_snapshot table.now snapshot.old }
 {
     if snapshot.len() != table.len() {
-        return Reply::Refused(22);
+        return Err(Refusal::Snapshot);
     }
-    let n = table_refusal(table);
-    if n != 0 {
-        return Reply::Refused(n);
-    }
-    write_snapshot(table, snapshot);
-    Reply::Accepted
+    table_refusal(table)?;
+    write_in::<ByColumns>(table, snapshot);
+    Ok(())
 }
 
 // The shape of the table that a snapshot puts back. Header and records stand at the same places in both.
+#[tactic(auto, using(crate::proofs::Laws::ResultTests::results))]
 fn result_shape_ok(snapshot: &[u32]) -> bool
     requires { length_ok snapshot.now ≡ true }
     ensures { result ≡ shape_ok (by_nodes snapshot.now) }
@@ -42,30 +40,30 @@ fn result_shape_ok(snapshot: &[u32]) -> bool
     header_ok(snapshot) && columns_ok(snapshot) && tasks_ok(snapshot)
 }
 
-// The refusal of that table, or 0 where it is accepted.
-fn result_refusal(snapshot: &[u32]) -> u32
-    ensures { result ≡ number_of (table_refusal (by_nodes snapshot.now) none) }
+// Whether that table is accepted, or why it is refused.
+#[tactic(auto, using(crate::proofs::Laws::ResultTests::results))]
+fn result_refusal(snapshot: &[u32]) -> Result<(), Refusal>
+    ensures { refusal_in result ≡ table_refusal (by_nodes snapshot.now) none }
 {
     if !length_ok(snapshot) {
-        return 3;
+        return Err(Refusal::Table);
     }
     if !result_shape_ok(snapshot) {
-        return 4;
+        return Err(Refusal::Shape);
     }
-    0
+    Ok(())
 }
 
-// 02: refusal 22 first, then 3 and 4 of the result, before it is written.
-pub fn put(snapshot: &[u32], table: &mut [u32]) -> Reply
+// 02: refusal 22 first, then 3 and 4 of the result, before it is written. Kept beside `take`: the two test other words,
+// and lend table and snapshot the other way round.
+#[tactic(auto, using(crate::proofs::Laws::Replies::puts))]
+pub fn put(snapshot: &[u32], table: &mut [u32]) -> Result<(), Refusal>
     ensures { changed_of result table.new ≡ put_back snapshot.now table.old }
 {
     if snapshot.len() != table.len() {
-        return Reply::Refused(22);
+        return Err(Refusal::Snapshot);
     }
-    let n = result_refusal(snapshot);
-    if n != 0 {
-        return Reply::Refused(n);
-    }
-    write_table(snapshot, table);
-    Reply::Accepted
+    result_refusal(snapshot)?;
+    write_in::<ByNodes>(snapshot, table);
+    Ok(())
 }

@@ -1,15 +1,15 @@
 -- A list filled from the front: what is written so far, and what is still to come.
 use mathlib.Core.Path.{◌≡◌, sym, ap, ◌∙◌}
-use mathlib.Core.List.{List, [], ◌∷◌, ◌++◌, append_assoc, append-nil}
-use Prim.Native.Nat.{ℕ, suc, ◌+◌, ◌-◌, ◌*◌, ◌≤◌}
+use mathlib.Core.List.{List, ◌++◌, append_assoc, append-nil}
+use Prim.Native.Nat.{ℕ, suc, ◌+◌, ◌-◌, ◌*◌, ◌≤◌, ◌<◌}
 use native.Mathlib.Omega.{arith}
 use lib.ListN.{length, take}
 use lib.Seq.{sets, length-sets, length-take-le, take-append-le, take-append-add}
 use borrow.Rule.Slice.PartMut.{put_mid, post_of}
-use Rattle.machine.specs.Sides.{left, right}
+use Rattle.machine.specs.Sides.{Side, left, right}
 use Rattle.machine.specs.Values.{never, X}
 use Rattle.machine.specs.Tasks.{no_node, fresh, words_of}
-use Rattle.machine.specs.Table.{node_length, header_words, node_words, node_at}
+use Rattle.machine.specs.Table.{node_length, header_words, node_words, node_at, most_lanes}
 use Rattle.machine.specs.Calls.{times, start_hat, start_nodes, start_words}
 use Rattle.table_layout.specs.Words.{HoldsHeader, hat_in}
 use Rattle.table_layout.proofs.Laws.Fronts.{front-grows}
@@ -70,20 +70,23 @@ pub sentinels-done : (ns : List ℕ) (n m l : ℕ) → m ≡ 0 → sentinels ns 
 unfolding start_nodes
 sentinels-done ns n m l q = rw q (append-nil (take n ns))
 
--- ---- The header, with the hats that were made one by one.
-pub header-written :
-    (S T g lanes : ℕ) (t : List ℕ) {l₀ r₀ l₁ r₁ l₂ r₂ l₃ r₃ : ℕ}
-    → l₀ ≡ start_hat lanes 0 left
-    → r₀ ≡ start_hat lanes 0 right
-    → l₁ ≡ start_hat lanes 1 left
-    → r₁ ≡ start_hat lanes 1 right
-    → l₂ ≡ start_hat lanes 2 left
-    → r₂ ≡ start_hat lanes 2 right
-    → l₃ ≡ start_hat lanes 3 left
-    → r₃ ≡ start_hat lanes 3 right
-    → sets t 0 (header_words S T g lanes 0 (T - 1) (hat_in (l₀ ∷ r₀ ∷ l₁ ∷ r₁ ∷ l₂ ∷ r₂ ∷ l₃ ∷ r₃ ∷ [])))
+-- ---- The header, with the hats of all lanes.
+pub header-started :
+    (S T g lanes : ℕ) (t hats : List ℕ)
+    → ((l : ℕ) → (s : Side) → l < most_lanes → hat_in hats l s ≡ start_hat lanes l s)
+    → sets t 0 (header_words S T g lanes 0 (T - 1) (hat_in hats))
     ≡ sets t 0 (header_words S T g lanes 0 (T - 1) (start_hat lanes))
-header-written S T g lanes t a b c d e f g' h = rw (a, b, c, d, e, f, g', h)
+header-started S T g lanes t hats h =
+    rw (
+      h 0 left (omega arith),
+      h 0 right (omega arith),
+      h 1 left (omega arith),
+      h 1 right (omega arith),
+      h 2 left (omega arith),
+      h 2 right (omega arith),
+      h 3 left (omega arith),
+      h 3 right (omega arith),
+    )
 
 -- ---- The table, piece by piece: the header, which stands before node 0, the nodes' part, the tasks.
 module _ (S T g lanes : ℕ) (t₀ t₁ ns t₂ : List ℕ) (m : ℕ) (long : HoldsHeader t₀) where

@@ -7,24 +7,37 @@ ghost use Rattle.std.specs.Prelude.{◌≡◌};
 ghost use Rattle.machine.specs.Results.{changed_of};
 ghost use Rattle.machine.specs.Calls.{start};
 
-use fresh::write_all;
-use machine::Reply;
+use fresh::Sizes;
+use machine::refusal::Refusal;
 use table_layout::places::table_length;
 use table_shape::{lanes_ok, sizes_ok};
 
 // 02: refusal 25; 01: refusals 1 and 2, then the words of a table with all tasks idle and no bag.
-pub fn start(table: &mut [u32], slots: u32, tasks: u32, growth: u32, lanes: u32) -> Reply
+#[tactic(auto, unfolding(machine::specs::Calls::start))]
+pub fn start(
+    table: &mut [u32],
+    slots: u32,
+    tasks: u32,
+    growth: u32,
+    lanes: u32,
+) -> Result<(), Refusal>
     ensures { changed_of result table.new ≡ start table.old slots tasks growth lanes }
 {
     if !lanes_ok(lanes) {
-        return Reply::Refused(25);
+        return Err(Refusal::Lanes);
     }
     if !sizes_ok(slots, tasks, growth, lanes) {
-        return Reply::Refused(1);
+        return Err(Refusal::Sizes);
     }
     if table.len() != table_length(slots, tasks) {
-        return Reply::Refused(2);
+        return Err(Refusal::Length);
     }
-    write_all(table, slots, tasks, growth, lanes);
-    Reply::Accepted
+    Sizes {
+        slots,
+        tasks,
+        growth,
+        lanes,
+    }
+    .write(table);
+    Ok(())
 }

@@ -1,15 +1,12 @@
 -- The answers as single numbers, for C and Rust.
 use Rattle.std.specs.Prelude.{Bool, cond, ℕ, ◌+◌, ◌*◌, ◌^◌}
-use Rattle.machine.specs.declared.Answer.{Answer}
-use Rattle.machine.specs.declared.Dispatch.{Dispatch}
-use Rattle.machine.specs.declared.Reading.{Reading}
-use Rattle.machine.specs.declared.Reading.TheVariants.{Count, Refused}
-use Rattle.machine.specs.declared.Ran.{Ran}
+use Rattle.machine.specs.Outcomes.Answer.{Answer}
+use Rattle.machine.specs.Outcomes.Dispatch.{Dispatch}
+use Rattle.machine.specs.Outcomes.Reading.{Reading, Count, Refused}
+use Rattle.machine.specs.Outcomes.Ran.{Ran}
 use Rattle.machine.specs.Answers.{kind_of, payload_of, dispatch_kind_of, dispatch_payload_of, reply_number}
-use Rattle.airline_list.specs.declared.Checked.{Checked}
-use Rattle.airline_list.specs.declared.Checked.TheVariants.{Accepted, Faulty as Checked-Faulty}
-use Rattle.machine.specs.declared.ByList.{ByList}
-use Rattle.machine.specs.declared.ByList.TheVariants.{Replied, Faulty}
+use Rattle.airline_list.specs.Outcomes.{Checked, Accepted, Faulty as Checked-Faulty}
+use Rattle.machine.specs.Outcomes.ByList.{ByList, Replied, Faulty}
 use Rattle.tag_lists.specs.TagLists as TagLists
 use Rattle.window.specs.Window as Window
 

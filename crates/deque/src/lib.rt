@@ -5,11 +5,14 @@ ghost use Rattle.std.specs.Prelude.{◌≡◌, ◌≤◌, length};
 ghost use Rattle.tag.specs.Tags.{largest_tag};
 ghost use Rattle.machine.specs.Values.{stored_of};
 ghost use Rattle.machine.specs.Answers.{reply_number, payload_of, dispatch_payload_of};
+ghost use Rattle.machine.specs.Results.{refusal_number, answered, dispatch_in, replied, ran_in, reading_in};
 ghost use Rattle.machine.specs.Calls as calls;
+ghost use Rattle.call_push_by_list.specs.Replies.{by_list};
 ghost use Rattle.machine.specs.Lent.{begin_lent};
 ghost use Rattle.machine.specs.Snapshots.{take_snapshot, put_back};
 ghost use Rattle.deque.specs.Exports.{pair_of, answer_number, dispatch_number, ran_number, reading_number, list_number};
 ghost use Rattle.deque.specs.Exports.{fresh_number, fed_number, checked_number, by_list_number, library_version};
+ghost use Rattle.airline_list.specs.Outcomes.{checked_of};
 ghost use Rattle.airline_list.specs.Lists.{verdict, checked};
 ghost use Rattle.table_record.specs.Coded.{record_of};
 ghost use Rattle.machine.specs.PushByList.{push_by_list};
@@ -17,22 +20,22 @@ ghost use Rattle.machine.specs.Sheets as sheets;
 ghost use Rattle.tag_lists.specs.TagLists.{answer_of, read_tags, write_tags};
 ghost use Rattle.window.specs.Window as windows;
 
-use airline_list::{Checked, check};
-use answers::{IDLE, kind, payload};
-use call_begin::{BegunRecord, begin, begin_record};
+use airline_list::Fault;
+use call_begin::{begin, begin_record};
 use call_dispatch::{dispatch, dispatches};
-use call_push_by_list::push_by_list;
+use call_push_by_list::{ListRefusal, check, push_by_list};
 use call_read::read;
 use call_run::{panel, run};
 use call_sheet::sheet;
 use call_snapshot::{put, take};
 use call_start::start;
 use call_tick::{tick, ticks};
-use machine::{Answer, ByList, Dispatch, Ran, Reading, Reply};
+use machine::answer::{Answer, Ran};
+use machine::refusal::Refusal;
 use table_record::Task;
 use table_values::of_words;
-use tag_lists::{Listed, read_tags, write_tags};
-use window::{Fed, feed, fresh};
+use tag_lists::{ListError, read_tags, write_tags};
+use window::{WindowError, feed, fresh};
 
 // Two words in one number of 64 bits.
 fn pair(high: u32, low: u32) -> u64
@@ -57,85 +60,107 @@ pub extern "C" fn lane_version() -> u64
 // What a kind is multiplied with: 2^40.
 const KIND: u64 = 1_099_511_627_776;
 
-// The kind times 2^40 plus the tag, or plus the number of a refusal.
-fn answer_number(a: Answer) -> u64
-    requires { payload_of a ≤ largest_tag }
-    ensures { result ≡ answer_number a }
+// The kinds of a refused tick, and of a dispatch that finds no task busy.
+const REFUSED: u64 = 7;
+
+const IDLE: u64 = 8;
+
+// Kept: a function for each kind of answer. Each is an equation with a definition of its own, and a trait of refusals with
+// their halves would be longer than the arms that it saved.
+
+// One function and not inlined: a table of the numbers stands in it, once for all calls.
+#[inline(never)]
+fn number(refusal: Refusal) -> u32
+    ensures { result ≡ refusal_number refusal }
 {
-    (kind(a) as u64) * KIND + payload(a)
+    refusal.number()
 }
 
-// The same of the tick that a dispatch made, or the kind of "idle".
-fn dispatch_number(d: Dispatch) -> u64
-    requires { dispatch_payload_of d ≤ largest_tag }
-    ensures { result ≡ dispatch_number d }
+// The kind times 2^40 plus the tag, or plus the number of a refusal.
+#[inline(never)]
+fn answer_number(ticked: Result<Answer, Refusal>) -> u64
+    requires { payload_of (answered ticked) ≤ largest_tag }
+    ensures { result ≡ answer_number (answered ticked) }
 {
-    match d {
-        Dispatch::Idle => (IDLE as u64) * KIND,
-        Dispatch::Answered(a) => answer_number(a),
+    match ticked {
+        Ok(a) => (a.kind() as u64) * KIND + a.payload(),
+        Err(refusal) => REFUSED * KIND + number(refusal) as u64,
     }
 }
 
-fn reply_number(r: Reply) -> u32
-    ensures { result ≡ reply_number r }
+// The same of the tick that a dispatch made, or the kind of "idle".
+fn dispatch_number(dispatched: Result<Option<Answer>, Refusal>) -> u64
+    requires { dispatch_payload_of (dispatch_in dispatched) ≤ largest_tag }
+    ensures { result ≡ dispatch_number (dispatch_in dispatched) }
 {
-    match r {
-        Reply::Accepted => 0,
-        Reply::Refused(n) => n,
+    match dispatched {
+        Ok(Some(a)) => answer_number(Ok(a)),
+        Ok(None) => IDLE * KIND,
+        Err(refusal) => answer_number(Err(refusal)),
+    }
+}
+
+fn reply_number(reply: Result<(), Refusal>) -> u32
+    ensures { result ≡ reply_number (replied reply) }
+{
+    match reply {
+        Ok(()) => 0,
+        Err(refusal) => number(refusal),
     }
 }
 
 fn ran_number(ran: Ran) -> u64
-    ensures { result ≡ ran_number ran }
+    ensures { result ≡ ran_number (ran_in ran) }
 {
-    pair(ran.refusal, ran.made)
-}
-
-fn reading_number(r: Reading) -> u64
-    ensures { result ≡ reading_number r }
-{
-    match r {
-        Reading::Count(n) => pair(0, n),
-        Reading::Refused(n) => pair(n, 0),
+    match ran.refusal {
+        None => pair(0, ran.made),
+        Some(refusal) => pair(number(refusal), ran.made),
     }
 }
 
-fn list_number(l: Listed) -> u64
-    ensures { result ≡ list_number (answer_of l) }
+fn reading_number(read: Result<u32, Refusal>) -> u64
+    ensures { result ≡ reading_number (reading_in read) }
 {
-    match l {
-        Listed::Count(n) => pair(0, n),
-        Listed::BadLength => pair(17, 0),
-        Listed::BadTag(place) => pair(18, place),
-        Listed::TooShort => pair(19, 0),
+    match read {
+        Ok(bags) => pair(0, bags),
+        Err(unread) => pair(number(unread), 0),
     }
 }
 
-fn fed_number(f: Fed) -> u64
-    ensures { result ≡ fed_number (windows.answer_of f) }
+fn list_number(read: Result<u32, ListError>) -> u64
+    ensures { result ≡ list_number (answer_of read) }
 {
-    match f {
-        Fed::Lost(n) => pair(0, n),
-        Fed::BadWindow => pair(23, 0),
-        Fed::OutOfTurn => pair(24, 0),
+    match read {
+        Ok(tags) => pair(0, tags),
+        Err(refusal) => pair(refusal.number(), refusal.place()),
     }
 }
 
-fn checked_number(c: Checked) -> u64
-    ensures { result ≡ checked_number c }
+fn fed_number(fed: Result<u32, WindowError>) -> u64
+    ensures { result ≡ fed_number (windows.answer_of fed) }
+{
+    match fed {
+        Ok(swaps) => pair(0, swaps),
+        Err(refusal) => pair(refusal.number(), 0),
+    }
+}
+
+fn checked_number(c: Result<(), Fault>) -> u64
+    ensures { result ≡ checked_number (checked_of c) }
 {
     match c {
-        Checked::Accepted => pair(0, 0),
-        Checked::Faulty { number, line } => pair(number, line),
+        Ok(()) => 0,
+        Err(fault) => pair(fault.flaw.number(), fault.line),
     }
 }
 
-fn by_list_number(b: ByList) -> u64
-    ensures { result ≡ by_list_number b }
+fn by_list_number(reply: Result<(), ListRefusal>) -> u64
+    ensures { result ≡ by_list_number (by_list reply) }
 {
-    match b {
-        ByList::Replied(r) => pair(reply_number(r), 0),
-        ByList::Faulty { number, line } => pair(number, line),
+    match reply {
+        Ok(()) => 0,
+        Err(ListRefusal::List(fault)) => pair(fault.flaw.number(), fault.line),
+        Err(ListRefusal::Begin(refusal)) => pair(number(refusal), 0),
     }
 }
 
@@ -173,31 +198,6 @@ pub extern "C" fn lane_begin(
     reply_number(begin(table, task, lane, operation, side, of_words(digit, low)))
 }
 
-// The begin by value, with the argument's words as two numbers.
-fn begin_numbered(
-    own: Task,
-    table: &[u32],
-    task: u32,
-    lane: u32,
-    operation: u32,
-    side: u32,
-    digit: u32,
-    low: u32,
-) -> BegunRecord
-    ensures { let one = begin_lent table.now (record_of own) task lane operation side (stored_of digit low) in
-        (result.refusal ≡ reply_number one.reply) × (record_of result.task ≡ one.words) }
-{
-    begin_record(
-        own,
-        table,
-        task,
-        lane,
-        operation,
-        side,
-        of_words(digit, low),
-    )
-}
-
 // 2026-14: a begin over the record that a panel lends, to be changed where it is; 0, or the refusal. The table is only
 // read.
 #[unsafe(no_mangle)]
@@ -215,9 +215,14 @@ pub extern "C" fn lane_begin_record(
         let one = begin_lent table.now before task lane operation side (stored_of digit low) in
         (result ≡ reply_number one.reply) × (record_of own.new ≡ one.words) }
 {
-    let b = begin_numbered(*own, table, task, lane, operation, side, digit, low);
-    *own = b.task;
-    b.refusal
+    let argument = of_words(digit, low);
+    match begin_record(*own, table, task, lane, operation, side, argument) {
+        Ok(begun) => {
+            *own = begun;
+            0
+        }
+        Err(refused) => number(refused),
+    }
 }
 
 // The kind times 2^40 plus the tag or 0; kind 7 for a refusal, with its number.
@@ -341,7 +346,10 @@ pub extern "C" fn lane_window(window: &mut [u32], width: u32) -> u32
     ensures value { result ≡ fresh_number (windows.sizes_ok (length window.old) width) }
     ensures window_after { window.new ≡ windows.fresh_leaves window.old width }
 {
-    if fresh(window, width) { 0 } else { 23 }
+    match fresh(window, width) {
+        Ok(()) => 0,
+        Err(refusal) => refusal.number(),
+    }
 }
 
 // The refusal, or 0, times 2^32, plus the lost swaps among the last W ticks fed.

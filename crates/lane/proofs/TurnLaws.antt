@@ -8,9 +8,8 @@ use lib.ListN.{length, take}
 use lib.Seq.{slice, sets, length-sets, take-take, length-take-le}
 use Rattle.machine.proofs.Basics.Contradiction.{clash}
 use Rattle.program_answer.specs.Run.{belt_run}
-use Rattle.program_stream.specs.declared.Carried.{Carried}
 use Rattle.program_stream.specs.Session.{Step, after, take_bytes, end_input, at_first, meant}
-use Rattle.program_stream.specs.Carried.{Loan, loan_of, lent, lent_at_first, Serves, InOrder, Onward}
+use Rattle.program_stream.specs.Carried.{Loan, lent, lent_at_first, Serves, InOrder, Onward}
 use Rattle.program_stream.proofs.Laws.Chunks.{take_bytes-append}
 use Rattle.program_stream.proofs.Laws.TakenLaws.{parts-taken}
 use Rattle.program_stream.proofs.Laws.MeantLaws.{Agrees, first_holds, bytes-follow, input-follows}
@@ -98,25 +97,23 @@ pub record Answering (chunk : List ℕ) (first : Loan) (out₀ : List ℕ) (from
   where
     pub within : from ≤ length chunk
     pub answers : Answers (take_bytes lent (take from chunk)) first loan out₀ out
-    pub same-space : length loan.space ≡ length first.space
     pub same_out : length out ≡ length out₀
 
 module _ (chunk : List ℕ) {first : Loan} {out₀ : List ℕ} where
   pub answering-starts : InOrder first → Answering chunk first out₀ 0 first out₀
   answering-starts in_order =
-      record { within = omega arith; answers = answers-nothing refl in_order; same-space = refl; same_out = refl }
+      record { within = omega arith; answers = answers-nothing refl in_order; same_out = refl }
 
   pub answering-goes-on : {from : ℕ} {loan : Loan} {out : List ℕ} → Answering chunk first out₀ from loan out
       → (to : ℕ) → Onward chunk from to → {next : Loan} {out' : List ℕ} {at : ℕ}
       → Serves (take_bytes lent (slice from to chunk)) loan next out 0 out' at → InOrder next → at ≤ length out'
-      → length next.space ≡ length loan.space → length out' ≡ length out
+      → length out' ≡ length out
       → Answering chunk first out₀ to next out'
-  answering-goes-on {from} A to onward served in_order room same-space same_out =
+  answering-goes-on {from} A to onward served in_order room same_out =
       let e = parts-taken lent chunk 0 from to first (omega arith) onward.forward onward.within in
       record {
         within = onward.within;
         answers = answers-as e (answers-then A.answers (answers-served served in_order room));
-        same-space = same-space ∙ A.same-space;
         same_out = same_out ∙ A.same_out;
       }
 
@@ -186,34 +183,33 @@ module _ {first loan next : Loan} {out₀ out out' : List ℕ} (R : Running firs
       }
 
 -- What a run did, whatever ended it.
-module _ (space text : List ℕ) {out₀ space' text' numbers' out' : List ℕ} {carried : Carried}
+module _ (space text : List ℕ) {next : Loan} {out₀ out' : List ℕ}
     (in_order : InOrder (lent_at_first space text)) where
   ran : (bytes : List ℕ) (ended : Bool)
-      → Answers (input_taken lent bytes ended) (lent_at_first space text) (loan_of space' text' numbers' carried) out₀ out'
+      → Answers (input_taken lent bytes ended) (lent_at_first space text) next out₀ out'
       → Agrees (input_taken lent bytes ended (lent_at_first space text)) (input_taken meant bytes ended at_first)
       → (ended ≡ true → (input_taken meant bytes ended at_first).text ≡ belt_run bytes)
-      → Ran space text out₀ space' text' numbers' out'
+      → Ran space text out₀ next out'
   ran bytes ended A agrees run =
       record {
         bytes = bytes;
         ended = ended;
-        carried = carried;
         answers = A;
         holds = rw A.leaves agrees.holds;
         prints = λ e. A.whole ∙ agrees.same_text ∙ run e;
       }
 
   -- It stopped with its input still open.
-  pub ran-so-far : Running (lent_at_first space text) (loan_of space' text' numbers' carried) out₀ out'
-      → Ran space text out₀ space' text' numbers' out'
+  pub ran-so-far : Running (lent_at_first space text) next out₀ out'
+      → Ran space text out₀ next out'
   ran-so-far R =
       ran R.bytes false R.answers
       (bytes-follow R.bytes (lent_at_first space text) in_order at_first (first_holds space text)) (λ e. clash (cc))
 
   -- The turn that ended it: its input had no further byte, or a write failed.
   module _ {loan : Loan} {out : List ℕ} (R : Running (lent_at_first space text) loan out₀ out) where
-    stopped : (bytes : List ℕ) → Answers (turn_with bytes) loan (loan_of space' text' numbers' carried) out out'
-        → Ran space text out₀ space' text' numbers' out'
+    stopped : (bytes : List ℕ) → Answers (turn_with bytes) loan next out out'
+        → Ran space text out₀ next out'
     stopped [] A =
         ran R.bytes true (answers-then R.answers A)
         (input-follows R.bytes (lent_at_first space text) in_order at_first (first_holds space text))
@@ -222,6 +218,6 @@ module _ (space text : List ℕ) {out₀ space' text' numbers' out' : List ℕ} 
         ran-so-far (record { bytes = R.bytes ++ (b ∷ bs); answers = bytes-then R.bytes (b ∷ bs) R.answers A })
 
     pub ran-to-stop : {input : List ℕ} {taken : ℕ} {going : Bool}
-        → Turned input taken going loan (loan_of space' text' numbers' carried) out out'
-        → Ran space text out₀ space' text' numbers' out'
+        → Turned input taken going loan next out out'
+        → Ran space text out₀ next out'
     ran-to-stop {input} {taken} T = stopped (take taken input) T.answers

@@ -1,12 +1,13 @@
 -- What the turns of the program do with the bytes that they take. That these are the bytes read, and that what comes to
 -- stand at the front of the output is written, no contract can say.
-use Rattle.std.specs.Prelude.{◌≡◌, Bool, true, cond, ℕ, ◌≤◌, ◌<◌, length, take}
+use Rattle.std.specs.Prelude.{◌≡◌, Bool, true, false, cond, ℕ, ◌≤◌, ◌<◌, length, take}
+use Rattle.std.specs.declared.ops.ControlFlow.{ControlFlow}
+use Rattle.std.specs.declared.ops.ControlFlow.TheVariants.{Continue, Break}
 use mathlib.Core.List.{List, [], ◌∷◌, flatten}
 use Rattle.std.proofs.lemmas.List.Edits.{sets}
 use Rattle.program_answer.specs.Run.{belt_run}
-use Rattle.program_stream.specs.declared.Carried.{Carried}
 use Rattle.program_stream.specs.Session.{Step, Service, take_bytes, end_input, take_input, at_first, meant}
-use Rattle.program_stream.specs.Carried.{Loan, loan_of, lent, lent_at_first, InOrder, Holds, Onward}
+use Rattle.program_stream.specs.Carried.{Loan, lent, lent_at_first, InOrder, Holds, Onward}
 
 -- Texts laid at the front of the output, one after another.
 abbrev pub laid_in : (out : List ℕ) → List (List ℕ) → List ℕ
@@ -27,6 +28,15 @@ pub record Answers (step : Loan → Step Loan) (before after : Loan) (out out' :
   pub whole : flatten pieces ≡ (step before).text
   pub fitting : EachFits (length out) pieces
   pub laid : out' ≡ laid_in out pieces
+
+-- How many bytes are taken, and whether the session goes on.
+abbrev pub bytes_taken : ControlFlow ℕ ℕ → ℕ
+bytes_taken (Continue taken) = taken
+bytes_taken (Break taken) = taken
+
+abbrev pub goes_on : ControlFlow ℕ ℕ → Bool
+goes_on (Continue taken) = true
+goes_on (Break taken) = false
 
 -- The first bytes of a chunk are answered, and all of them if the session goes on.
 pub record Taken (chunk : List ℕ) (taken : ℕ) (going : Bool) (before after : Loan) (out out' : List ℕ) : Type 0 where
@@ -49,13 +59,11 @@ pub record Turned (input : List ℕ) (taken : ℕ) (going : Bool) (before after 
 abbrev pub input_taken : {S : Type 0} → Service S → (bytes : List ℕ) (ended : Bool) → S → Step S
 input_taken v bytes ended s = cond ended (take_input v bytes s) (take_bytes v bytes s)
 
--- A run from the start of a session: the bytes taken, whether the input came to its end, and what is carried then. A
--- run that the end of the input does not end is ended by a write that fails, or by the count of its turns.
-pub record Ran (space text out space' text' numbers' out' : List ℕ) : Type 0 where
+-- A run from the start of a session: the bytes taken, whether the input came to its end, and what is held then. A run
+-- that the end of the input does not end is ended by a write that fails, or by the count of its turns.
+pub record Ran (space text out : List ℕ) (after : Loan) (out' : List ℕ) : Type 0 where
   pub bytes : List ℕ
   pub ended : Bool
-  pub carried : Carried
-  pub answers : Answers (input_taken lent bytes ended) (lent_at_first space text)
-      (loan_of space' text' numbers' carried) out out'
-  pub holds : Holds (loan_of space' text' numbers' carried) (input_taken meant bytes ended at_first).state
+  pub answers : Answers (input_taken lent bytes ended) (lent_at_first space text) after out out'
+  pub holds : Holds after (input_taken meant bytes ended at_first).state
   pub prints : ended ≡ true → flatten answers.pieces ≡ belt_run bytes

@@ -2,137 +2,135 @@
 // bags counted, a tag sought among them. 01: "the lane is read from the left hat's R along R while V is a bag".
 #![tactic(auto)]
 
-ghost use Rattle.std.specs.Prelude.{◌≡◌, ◌<◌, cond, ◌||◌, leb, eqb};
+ghost use Rattle.std.specs.Prelude.{◌≡◌, ◌≢◌, ◌<◌, MatchResult};
 ghost use Rattle.machine.specs.Sides.{left, right};
 ghost use Rattle.machine.specs.Values.{number, bag_ok};
+ghost use Rattle.machine.specs.Tasks.{no_node};
 ghost use Rattle.machine.specs.Table.{node_count, lane_count, hat, link, value_words};
 ghost use Rattle.machine.specs.Shape.{WellLinked};
 ghost use Rattle.machine.specs.Calls.{lane};
-ghost use Rattle.lane_walk.specs.Walks.{walk_of, located_of};
 
 use machine::Stored;
+use machine::refusal::Refusal;
 use table_layout::{header, nodes};
 use table_record::Task;
 
-// How a walk along R ends: at a node without a bag, after that many bags and with the bag sought among them or not; or
-// without one.
+// What a walk along R to a node without a bag finds: how many bags, and whether the one sought is among them.
 #[derive(Clone, Copy)]
-pub enum Walk {
-    Bags(u32, bool),
-    NoEnd,
+pub struct Walk {
+    pub bags: u32,
+    pub found: bool,
 }
 
-// How a walk to a place of a lane ends: the bags of the lane, and the node of that place, or past the last bag the node
-// after it; or without an end.
+// What a walk to a place of a lane finds: how many bags the lane has, and the node of that place, or past the last bag
+// the node after it.
 #[derive(Clone, Copy)]
-pub enum Located {
-    Node(u32, u32),
-    NoEnd,
+pub struct Located {
+    pub bags: u32,
+    pub node: u32,
 }
 
-// The words of a node's value.
-pub fn value(table: &[u32], x: u32) -> Stored
-    requires { WellLinked table.now × (x < node_count table.now) }
-    ensures { result ≡ value_words table.now x }
-{
-    nodes::value(nodes::part(table), x)
+// A table whose lanes can be walked: its length, header and links pass the tests of refusals 3 and 4.
+#[derive(Clone, Copy)]
+pub struct Lanes<'a> {
+    pub table: &'a [u32],
+    ghost linked: { WellLinked table.now },
 }
 
-// Whether a node holds a bag.
-fn holds_bag(table: &[u32], x: u32) -> bool
-    requires { WellLinked table.now × (x < node_count table.now) }
-    ensures { result ≡ bag_ok (value_words table.now x) }
-{
-    nodes::holds_bag(nodes::part(table), x)
-}
+impl<'a> Lanes<'a> {
+    ghost use Rattle.lane_walk.specs.Walks.{walk_of, located_of};
 
-// The number of a node's bag.
-fn bag(table: &[u32], x: u32) -> u64
-    requires { WellLinked table.now × (x < node_count table.now) }
-    ensures { result ≡ number (value_words table.now x) }
-{
-    nodes::bag(nodes::part(table), x)
-}
-
-// The node after a node, or none.
-pub fn next(table: &[u32], x: u32) -> u32
-    requires { WellLinked table.now × (x < node_count table.now) }
-    ensures { result ≡ link table.now right x }
-{
-    nodes::link(nodes::part(table), 1, x)
-}
-
-// The first node of a lane, or none.
-pub fn first(table: &[u32], l: u32) -> u32
-    requires { WellLinked table.now × (l < lane_count table.now) }
-    ensures { result ≡ link table.now right (hat table.now l left) }
-{
-    next(table, header::hat(table, l, 0))
-}
-
-// Whether a bag is the one sought, or that was found before.
-fn found_now(found: bool, sought: u64, bag: u64) -> bool
-    ensures { result ≡ (found || eqb sought bag) }
-{
-    if found {
-        return true;
+    // The words of a node's value.
+    #[tactic(auto, using(crate::proofs::Laws::Nodes::reads))]
+    pub fn value(self, x: u32) -> Stored
+        requires { x < node_count self.table.now }
+        ensures { result ≡ value_words self.entry.table.now x }
+    {
+        nodes::value(nodes::part(self.table), x)
     }
-    sought == bag
-}
 
-// A lane walked for a tag that is sought. 01: link none before a slot without a bag, or S bags with no end.
-pub fn seek(table: &[u32], l: u32, sought: u64) -> Walk
-    requires { WellLinked table.now × (l < lane_count table.now) }
-    ensures { result ≡ walk_of sought (lane table.now l) }
-{
-    let slots = header::slots(table);
-    let mut x = first(table, l);
-    let mut n = 0;
-    let mut found = false;
-    while n < slots {
+    // Whether a node holds a bag. 01: a link none before a slot without a bag is refused.
+    // Kept: a node or none is one word, as the table has it: those who walk over bags that were counted meet no none,
+    // and would have to open an Option at each of them.
+    #[tactic(auto, using(crate::proofs::Laws::Nodes::reads))]
+    fn holds_bag(self, x: u32) -> Result<bool, Refusal>
+        requires { x ≢ no_node → x < node_count self.table.now }
+        ensures { MatchResult result (λ b. (x ≢ no_node) × (b ≡ bag_ok (value_words self.entry.table.now x)))
+            (λ e. (x ≡ no_node) × (e ≡ Refusal.NoSlot)) }
+    {
         if x == Task::NONE {
-            return Walk::NoEnd;
+            return Err(Refusal::NoSlot);
         }
-        if !holds_bag(table, x) {
-            return Walk::Bags(n, found);
-        }
-        found = found_now(found, sought, bag(table, x));
-        x = next(table, x);
-        n += 1;
+        Ok(nodes::holds_bag(nodes::part(self.table), x))
     }
-    Walk::NoEnd
-}
 
-// The node that n links lead to, unless the place is passed.
-fn up_to(place: usize, n: u32, node: u32, before: u32) -> u32
-    ensures { result ≡ cond (leb n place) node before }
-{
-    if n as usize <= place {
-        return node;
+    // The number of a node's bag.
+    #[tactic(auto, using(crate::proofs::Laws::Nodes::reads))]
+    fn bag(self, x: u32) -> u64
+        requires { x < node_count self.table.now }
+        ensures { result ≡ number (value_words self.entry.table.now x) }
+    {
+        nodes::bag(nodes::part(self.table), x)
     }
-    before
-}
 
-// A lane walked to a place, from 0, and on to its end.
-pub fn locate(table: &[u32], l: u32, place: usize) -> Located
-    requires { WellLinked table.now × (l < lane_count table.now) }
-    ensures { let ws = table.now in
-        result ≡ located_of ws place (link ws right (hat ws l left)) (lane ws l) }
-{
-    let slots = header::slots(table);
-    let mut x = first(table, l);
-    let mut there = x;
-    let mut n = 0;
-    while n < slots {
-        if x == Task::NONE {
-            return Located::NoEnd;
-        }
-        if !holds_bag(table, x) {
-            return Located::Node(n, there);
-        }
-        x = next(table, x);
-        n += 1;
-        there = up_to(place, n, x, there);
+    // The node after a node, or none.
+    #[tactic(auto, using(crate::proofs::Laws::Nodes::reads))]
+    pub fn next(self, x: u32) -> u32
+        requires { x < node_count self.table.now }
+        ensures { result ≡ link self.entry.table.now right x }
+    {
+        nodes::link(nodes::part(self.table), 1, x)
     }
-    Located::NoEnd
+
+    // The first node of a lane, or none.
+    #[tactic(auto, using(crate::proofs::Laws::Nodes::reads))]
+    pub fn first(self, l: u32) -> u32
+        requires { l < lane_count self.table.now }
+        ensures { result ≡ link self.entry.table.now right (hat self.entry.table.now l left) }
+    {
+        self.next(header::hat(self.table, l, 0))
+    }
+
+    // A lane walked for a tag that is sought. 01: link none before a slot without a bag, or S bags with no end.
+    #[tactic(auto, using(crate::proofs::Laws::Tally::ends))]
+    pub fn seek(self, l: u32, sought: u64) -> Result<Walk, Refusal>
+        requires { l < lane_count self.table.now }
+        ensures { result ≡ walk_of sought (lane self.entry.table.now l) }
+    {
+        let mut x = self.first(l);
+        let mut found = false;
+        for n in 0..header::slots(self.table) {
+            if !self.holds_bag(x)? {
+                return Ok(Walk { bags: n, found });
+            }
+            found |= sought == self.bag(x);
+            x = self.next(x);
+        }
+        Err(Refusal::NoSlot)
+    }
+
+    // A lane walked to a place, from 0, and on to its end. Kept beside `seek`: the two share a loop's head, and what they do
+    // at a node is different.
+    #[tactic(auto, using(crate::proofs::Laws::Places::ends))]
+    pub fn locate(self, l: u32, place: usize) -> Result<Located, Refusal>
+        requires { l < lane_count self.table.now }
+        ensures { let ws = self.entry.table.now in
+            result ≡ located_of ws place (link ws right (hat ws l left)) (lane ws l) }
+    {
+        let mut x = self.first(l);
+        let mut there = x;
+        for n in 0..header::slots(self.table) {
+            if !self.holds_bag(x)? {
+                return Ok(Located {
+                    bags: n,
+                    node: there,
+                });
+            }
+            x = self.next(x);
+            if (n as usize) < place {
+                there = x;
+            }
+        }
+        Err(Refusal::NoSlot)
+    }
 }

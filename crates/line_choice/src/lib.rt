@@ -1,6 +1,6 @@
 // The line of the figure that a tick makes, by the step number at which its task stands: all lines but 28 and 31, which
 // take a node.
-#![tactic(auto)]
+#![tactic(auto, using(crate::proofs::StepChoice::line_at))]
 
 ghost use Rattle.std.specs.Prelude.{◌≡◌, ℕ};
 ghost use Rattle.machine.specs.Steps.{step_of};
@@ -17,16 +17,16 @@ ghost use Rattle.line_choice.specs.Groups.{
 };
 
 use line_parts::ends::Done;
+use machine::refusal::Refusal;
 use table_record::Task;
 
 // A push at the hat.
-fn push_line(ns: &mut [u32], hat: u32, t: Task) -> Done
+fn push_line(ns: &mut [u32], hat: u32, t: Task) -> Result<Done, Refusal>
     requires { ReadyIn push_lines ns.old t }
-    ensures { Does (step_of t.step) ns.old hat t (outcome_of ns.new result) }
+    ensures { Does (step_of t.step) ns.old hat t (outcome_of ns.new hat t result) }
 {
-    let step = t.step;
-    match step {
-        2 => line_push::line2(hat, t),
+    match t.step {
+        2 => Ok(line_push::line2(hat, t)),
         3 => line_push::line3(ns, hat, t),
         5 => line_push::line5(ns, hat, t),
         _ => line_push::line8(ns, hat, t),
@@ -34,13 +34,12 @@ fn push_line(ns: &mut [u32], hat: u32, t: Task) -> Done
 }
 
 // A chain of new nodes, joined.
-fn add_line(ns: &mut [u32], hat: u32, t: Task) -> Done
+fn add_line(ns: &mut [u32], hat: u32, t: Task) -> Result<Done, Refusal>
     requires { ReadyIn add_lines ns.old t }
-    ensures { Does (step_of t.step) ns.old hat t (outcome_of ns.new result) }
+    ensures { Does (step_of t.step) ns.old hat t (outcome_of ns.new hat t result) }
 {
-    let step = t.step;
-    match step {
-        15 => line_add::line15(hat, t),
+    match t.step {
+        15 => Ok(line_add::line15(hat, t)),
         17 => line_add::line17(ns, hat, t),
         18 => line_add::line18(ns, hat, t),
         24 => line_add::line24(ns, hat, t),
@@ -49,13 +48,12 @@ fn add_line(ns: &mut [u32], hat: u32, t: Task) -> Done
 }
 
 // A pop at the hat.
-fn pop_line(ns: &mut [u32], hat: u32, t: Task) -> Done
+fn pop_line(ns: &mut [u32], hat: u32, t: Task) -> Result<Done, Refusal>
     requires { ReadyIn pop_lines ns.old t }
-    ensures { Does (step_of t.step) ns.old hat t (outcome_of ns.new result) }
+    ensures { Does (step_of t.step) ns.old hat t (outcome_of ns.new hat t result) }
 {
-    let step = t.step;
-    match step {
-        39 => line_pop::line39(hat, t),
+    match t.step {
+        39 => Ok(line_pop::line39(hat, t)),
         40 => line_pop::line40(ns, hat, t),
         42 => line_pop::line42(ns, hat, t),
         48 => line_pop::line48(ns, hat, t),
@@ -64,15 +62,13 @@ fn pop_line(ns: &mut [u32], hat: u32, t: Task) -> Done
 }
 
 // A remove, up to its cut.
-#[tactic(auto, using(crate::proofs::StepChoice::line_at))]
-fn remove_line(ns: &mut [u32], hat: u32, t: Task, goal: u32) -> Done
+fn remove_line(ns: &mut [u32], hat: u32, t: Task, goal: u32) -> Result<Done, Refusal>
     requires { ReadyIn remove_lines ns.old t }
-    ensures { (f : ℕ) → outcome_of ns.new result
+    ensures { (f : ℕ) → outcome_of ns.new hat t result
         ≡ line_of (step_of t.step) ns.old hat t goal f }
 {
-    let step = t.step;
-    match step {
-        54 => line_remove::line54(hat, t, goal),
+    match t.step {
+        54 => Ok(line_remove::line54(hat, t, goal)),
         56 => line_remove::line56(ns, hat, t),
         58 => line_remove::line58(ns, hat, t, goal),
         60 => line_remove::line60(ns, hat, t),
@@ -82,13 +78,12 @@ fn remove_line(ns: &mut [u32], hat: u32, t: Task, goal: u32) -> Done
 }
 
 // The hat brought back from a spur.
-fn unspur_line(ns: &mut [u32], hat: u32, t: Task) -> Done
+fn unspur_line(ns: &mut [u32], hat: u32, t: Task) -> Result<Done, Refusal>
     requires { ReadyIn unspur_lines ns.old t }
-    ensures { Does (step_of t.step) ns.old hat t (outcome_of ns.new result) }
+    ensures { Does (step_of t.step) ns.old hat t (outcome_of ns.new hat t result) }
 {
-    let step = t.step;
-    match step {
-        67 => line_unspur::line67(hat, t),
+    match t.step {
+        67 => Ok(line_unspur::line67(hat, t)),
         68 => line_unspur::line68(ns, hat, t),
         69 => line_unspur::line69(ns, hat, t),
         70 => line_unspur::line70(ns, hat, t),
@@ -97,12 +92,11 @@ fn unspur_line(ns: &mut [u32], hat: u32, t: Task) -> Done
 }
 
 // The chain that was cut off, broken up.
-fn break_line(ns: &mut [u32], hat: u32, t: Task) -> Done
+fn break_line(ns: &mut [u32], hat: u32, t: Task) -> Result<Done, Refusal>
     requires { ReadyIn break_lines ns.old t }
-    ensures { Does (step_of t.step) ns.old hat t (outcome_of ns.new result) }
+    ensures { Does (step_of t.step) ns.old hat t (outcome_of ns.new hat t result) }
 {
-    let step = t.step;
-    match step {
+    match t.step {
         74 => line_break::line74(ns, hat, t),
         77 => line_break::line77(ns, hat, t),
         78 => line_break::line78(ns, hat, t),
@@ -113,14 +107,14 @@ fn break_line(ns: &mut [u32], hat: u32, t: Task) -> Done
 }
 
 // 01: the tick decides by a match on the step number, which is the figure's line number, with ranges such as 67 to 70.
-// The numbers of an arm are those of its lines, so that the compiler makes one table of this match and the ones above.
-pub fn line(ns: &mut [u32], hat: u32, t: Task, goal: u32) -> Done
+// Kept for that, in place of closures or of an enum of steps: the number is the table's word. The numbers of an arm are
+// those of its lines, so that the compiler makes one table of this match and the ones above.
+pub fn line(ns: &mut [u32], hat: u32, t: Task, goal: u32) -> Result<Done, Refusal>
     requires { ReadyIn other_lines ns.old t }
-    ensures { (f : ℕ) → outcome_of ns.new result
+    ensures { (f : ℕ) → outcome_of ns.new hat t result
         ≡ line_of (step_of t.step) ns.old hat t goal f }
 {
-    let step = t.step;
-    match step {
+    match t.step {
         2..=3 | 5 | 8 => push_line(ns, hat, t),
         15 | 17..=18 | 24..=25 => add_line(ns, hat, t),
         39..=40 | 42 | 48 | 51 => pop_line(ns, hat, t),

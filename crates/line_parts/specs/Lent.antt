@@ -1,43 +1,53 @@
 -- A line over what it is lent: the nodes' words and the hat of its lane and side, with the task record by value.
-use Rattle.std.specs.Prelude.{◌≡◌, ◌≢◌, true, cond, List, [], ◌∷◌, ℕ, ◌<◌, eqb, get_or}
-use Rattle.machine.specs.declared.Answer.{Answer}
-use Rattle.machine.specs.declared.Answer.TheVariants.{Going, Refused}
+use Rattle.std.specs.Prelude.{◌≡◌, ◌≢◌, true, List, [], ◌∷◌, ℕ, ◌<◌, get_or, Result, Ok, Err}
+use Rattle.machine.specs.declared.answer.Answer.{Answer as Made}
+use Rattle.machine.specs.declared.answer.Answer.TheVariants as made
+use Rattle.machine.specs.declared.refusal.Refusal.{Refusal}
+use Rattle.machine.specs.declared.refusal.Refusal.TheVariants.{NoSlot}
+use Rattle.machine.specs.Outcomes.Answer.{Answer, Refused}
+use Rattle.machine.specs.Results.{said, refusal_number}
 use Rattle.machine.specs.Choice.{◌≟◌, if?◌then◌else◌}
 use Rattle.machine.specs.Sides.{Side, opposite, side_of}
-use Rattle.machine.specs.Values.{Value, decode, encode, value_ok}
+use Rattle.machine.specs.Values.{Value, ◌≟ᵛ◌, decode, encode, value_ok}
 use Rattle.machine.specs.Steps.{Step}
 use Rattle.machine.specs.Tasks.{no_node}
 use Rattle.machine.specs.Lines.{Memory, Write, out≔, inn≔, val≔, hat≔, Effect, act}
 use Rattle.table_record.specs.declared.Task as Tasks
-use Rattle.table_values.specs.Tests.{is_same}
 use Rattle.table_record.specs.Coded.{coded_task, fresh_task, task_meant, at_step, with_register}
 use Rattle.table_layout.specs.Words.{HoldsNode, link_in, stored_in, set_link_in, set_stored_in}
 use Rattle.line_parts.specs.declared.ends.Done.{Done}
 
 -- ---- How a line ends, in code.
 abbrev pub next_done : ℕ → Tasks.Task → (step : ℕ) → Done
-next_done h t n = record { hat = h; task = at_step t n; answer = Going }
+next_done h t n = record { hat = h; task = at_step t n; answer = made.Going }
 
-abbrev pub answer_done : ℕ → Answer → Done
+abbrev pub answer_done : ℕ → Made → Done
 answer_done h a = record { hat = h; task = fresh_task; answer = a }
 
-abbrev pub refused_done : ℕ → Tasks.Task → Done
-refused_done h t = record { hat = h; task = t; answer = Refused 11 }
+-- x is the node in register i; and the refusal where it is none.
+pub record NodeIn (t : Tasks.Task) (i x : ℕ) : Type 0 where
+  pub is : x ≡ get_or t.registers i 0
+  pub through : get_or t.registers i 0 ≢ no_node
+
+pub record NoNodeIn (t : Tasks.Task) (i : ℕ) (r : Refusal) : Type 0 where
+  pub is : r ≡ NoSlot
+  pub none : get_or t.registers i 0 ≡ no_node
 
 -- ---- The shapes that several lines share.
 
 -- Register j is set to the link on side z of the node in register i; none goes to step n, else to m.
-abbrev pub follow_done : List ℕ → (hat : ℕ) → Tasks.Task → (z : Side) → (i j n m : ℕ) → Done
+abbrev pub follow_done :
+    List ℕ → (hat : ℕ) → Tasks.Task → (z : Side) → (i j n m : ℕ) → Result Done Refusal
 follow_done ns h t z i j n m =
     let x = get_or t.registers i 0 in
     let y = link_in ns z x in
-    if? x ≟ no_node then refused_done h t else next_done h (with_register t j y) (cond (eqb y no_node) n m)
+    if? x ≟ no_node then Err NoSlot else Ok (next_done h (with_register t j y) (if? y ≟ no_node then n else m))
 
 -- The value of A's node is the mark, which goes to step n, or not: to m.
-abbrev pub mark_done : List ℕ → (hat : ℕ) → Tasks.Task → (mark : Value) → (n m : ℕ) → Done
+abbrev pub mark_done : List ℕ → (hat : ℕ) → Tasks.Task → (mark : Value) → (n m : ℕ) → Result Done Refusal
 mark_done ns h t v n m =
     let a = get_or t.registers 0 0 in
-    if? a ≟ no_node then refused_done h t else next_done h t (cond (is_same (decode (stored_in ns a)) v) n m)
+    if? a ≟ no_node then Err NoSlot else Ok (next_done h t (if? decode (stored_in ns a) ≟ᵛ v then n else m))
 
 -- ---- The line that the definitions give.
 
@@ -63,19 +73,29 @@ hat_after (inn≔ x y ∷ l) h = hat_after l h
 hat_after (val≔ x v ∷ l) h = hat_after l h
 hat_after (hat≔ x ∷ l) h = hat_after l x
 
--- The nodes' words after a line, and what it gives back.
+-- What a line leaves: the nodes' words, the hat and the task's record, and what it answers.
 pub record LineOutcome : Type 0 where
   pub nodes : List ℕ
-  pub done : Done
+  pub hat : ℕ
+  pub task : Tasks.Task
+  pub answer : Answer
 
-abbrev pub outcome_of : List ℕ → Done → LineOutcome
-outcome_of ns d = record { nodes = ns; done = d }
+-- The same of what a line gives back in code, with the nodes' words that it leaves: one that is made, and one that may
+-- be refused, which leaves the hat h and the task t as they were.
+abbrev pub line_done : List ℕ → Done → LineOutcome
+line_done ns d = record { nodes = ns; hat = d.hat; task = d.task; answer = said d.answer }
+
+abbrev pub outcome_of : List ℕ → (h : ℕ) → (t : Tasks.Task) → Result Done Refusal → LineOutcome
+outcome_of ns h t (Ok d) = line_done ns d
+outcome_of ns h t (Err r) = record { nodes = ns; hat = h; task = t; answer = Refused (refusal_number r) }
 
 abbrev pub effect_in : Side → List ℕ → ℕ → Effect → LineOutcome
 effect_in s ns h e =
     record {
       nodes = writes_in s e.writes ns;
-      done = record { hat = hat_after e.writes h; task = coded_task e.task; answer = e.answer };
+      hat = hat_after e.writes h;
+      task = coded_task e.task;
+      answer = e.answer;
     }
 
 unfoldable pub line_of : Step → List ℕ → ℕ → Tasks.Task → (g f : ℕ) → LineOutcome
@@ -88,8 +108,8 @@ abbrev pub Does : Step → List ℕ → ℕ → Tasks.Task → LineOutcome → T
 Does st ns h t r = (g f : ℕ) → r ≡ line_of st ns h t g f
 
 -- The same of a line that looks at no node and writes none: whatever the nodes' words are.
-abbrev pub DoesAnywhere : Step → ℕ → Tasks.Task → Done → Type 0
-DoesAnywhere st h t r = (ns : List ℕ) → Does st ns h t (outcome_of ns r)
+abbrev pub DoesAnywhere : Step → ℕ → Tasks.Task → Result Done Refusal → Type 0
+DoesAnywhere st h t r = (ns : List ℕ) → Does st ns h t (outcome_of ns h t r)
 
 -- ---- What a line may rely on.
 pub record Ready (ns : List ℕ) (t : Tasks.Task) : Type 0 where

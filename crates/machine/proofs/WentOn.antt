@@ -5,9 +5,8 @@ use mathlib.Core.List.{List}
 use mathlib.Core.Option.{some, none}
 use Prim.Native.Nat.{ℕ, zero, suc, ◌+◌, ◌%◌, ◌^◌, ◌<◌, ◌≤◌}
 use native.Mathlib.Omega.{arith}
-use Rattle.machine.specs.declared.Answer.TheVariants.{Going, Pushed, Bag, Empty, Full, Yes, No, Refused}
-use Rattle.machine.specs.declared.Dispatch.{Dispatch}
-use Rattle.machine.specs.declared.Dispatch.TheVariants.{Idle, Answered}
+use Rattle.machine.specs.Outcomes.Answer.{Going, Pushed, Bag, Empty, Full, Yes, No, Refused}
+use Rattle.machine.specs.Outcomes.Dispatch.{Dispatch, Idle, Answered}
 use Rattle.machine.specs.Table.{tick_count, set_dispatched}
 use Rattle.machine.specs.Shape.{WellFormed, sizes_of, WellSized}
 use Rattle.machine.specs.Answers.{refusal_of, dispatch_goes_on, ends_call}

@@ -3,12 +3,9 @@
 use Rattle.std.specs.Prelude.{Bool, true, false, cond, List, ◌∷◌, ℕ, eqb}
 use Rattle.std.proofs.Math.Option.{Option, some, none}
 use Rattle.tag.specs.Tags.{tag_of, is_tag, tag_words}
-use Rattle.machine.specs.declared.Answer.{Answer}
-use Rattle.machine.specs.declared.Answer.TheVariants.{Going, Pushed, Bag, Empty, Full, Yes, No, Refused}
-use Rattle.machine.specs.declared.Dispatch.{Dispatch}
-use Rattle.machine.specs.declared.Dispatch.TheVariants.{Idle, Answered}
-use Rattle.machine.specs.declared.Reply.{Reply}
-use Rattle.machine.specs.declared.Reply.TheVariants.{Accepted, Refused as Reply-Refused}
+use Rattle.machine.specs.Outcomes.Answer.{Answer, Going, Pushed, Bag, Empty, Full, Yes, No, Refused}
+use Rattle.machine.specs.Outcomes.Dispatch.{Dispatch, Idle, Answered}
+use Rattle.machine.specs.Outcomes.Reply.{Reply, Accepted, Refused as Reply-Refused}
 use Rattle.machine.specs.Choice.{◌≟◌, if?◌then◌else◌}
 
 -- Of start and begin: 0, or the refusal.

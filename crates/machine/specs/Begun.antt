@@ -1,9 +1,8 @@
 -- What the corollaries of demand 3 speak of: the tables that our calls lead to, the operations finished, the bags.
 use Rattle.std.specs.Prelude.{◌≡◌, Bool, cond, ◌&&◌, List, [], ◌∷◌, ℕ, ◌-◌, eqb}
 use Rattle.std.proofs.Math.Option.{Option, some, none}
-use Rattle.machine.specs.declared.Answer.{Answer}
-use Rattle.machine.specs.declared.Answer.TheVariants.{Pushed, Bag}
-use Rattle.machine.specs.declared.Reply.TheVariants.{Accepted}
+use Rattle.machine.specs.Outcomes.Answer.{Answer, Pushed, Bag}
+use Rattle.machine.specs.Outcomes.Reply.{Accepted}
 use Rattle.machine.specs.Operations.{Operation, push, pop, operation_number}
 use Rattle.machine.specs.Answers.{kind_of, payload_of, is_going}
 use Rattle.machine.specs.Calls.{start}

@@ -2,15 +2,11 @@
 use Rattle.std.specs.Prelude.{Bool, true, false, cond, not, ◌&&◌, ◌||◌, List, [], ◌∷◌, ◌++◌, ℕ, zero, suc, ◌+◌, ◌*◌, ◌-◌, ◌/◌, ◌%◌, ◌^◌, leb, ltb, eqb, length, drop}
 use Rattle.std.proofs.Math.Option.{Option, some, none, map, bind}
 use Rattle.tag.specs.Tags.{all_tag_words}
-use Rattle.machine.specs.declared.Answer.{Answer}
-use Rattle.machine.specs.declared.Answer.TheVariants.{Going, Refused}
-use Rattle.machine.specs.declared.Dispatch.{Dispatch}
-use Rattle.machine.specs.declared.Dispatch.TheVariants.{Idle, Answered}
-use Rattle.machine.specs.declared.Reply.{Reply}
-use Rattle.machine.specs.declared.Reply.TheVariants.{Accepted, Refused as Reply-Refused}
-use Rattle.machine.specs.declared.Reading.{Reading}
-use Rattle.machine.specs.declared.Reading.TheVariants.{Count, Refused as Reading-Refused}
-use Rattle.machine.specs.declared.Ran.{Ran}
+use Rattle.machine.specs.Outcomes.Answer.{Answer, Going, Refused}
+use Rattle.machine.specs.Outcomes.Dispatch.{Dispatch, Idle, Answered}
+use Rattle.machine.specs.Outcomes.Reply.{Reply, Accepted, Refused as Reply-Refused}
+use Rattle.machine.specs.Outcomes.Reading.{Reading, Count, Refused as Reading-Refused}
+use Rattle.machine.specs.Outcomes.Ran.{Ran}
 use Rattle.machine.specs.declared.Stored.{Stored}
 use Rattle.machine.specs.Choice.{◌≟◌, ◌<?◌, if?◌then◌else◌}
 use Rattle.machine.specs.Round.{next_after}

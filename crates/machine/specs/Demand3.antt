@@ -2,21 +2,15 @@
 use Rattle.std.specs.Prelude.{◌≡◌, Bool, cond, ◌&&◌, List, [], ◌∷◌, ℕ, zero, suc, ◌*◌, ◌≤◌, ◌<◌, leb, ltb, eqb, length, take}
 use Rattle.std.proofs.Math.Option.{Option, some, none, bind}
 use Rattle.tag.specs.Tags.{all_tag_words}
-use Rattle.machine.specs.declared.Answer.{Answer}
-use Rattle.machine.specs.declared.Answer.TheVariants.{Going}
-use Rattle.machine.specs.declared.Dispatch.{Dispatch}
-use Rattle.machine.specs.declared.Dispatch.TheVariants.{Answered}
-use Rattle.machine.specs.declared.Reply.{Reply}
-use Rattle.machine.specs.declared.Reply.TheVariants.{Accepted, Refused as Reply-Refused}
-use Rattle.machine.specs.declared.Reading.{Reading}
-use Rattle.machine.specs.declared.Reading.TheVariants.{Count, Refused as Reading-Refused}
-use Rattle.machine.specs.declared.Ran.{Ran}
+use Rattle.machine.specs.Outcomes.Answer.{Answer, Going}
+use Rattle.machine.specs.Outcomes.Dispatch.{Dispatch, Answered}
+use Rattle.machine.specs.Outcomes.Reply.{Reply, Accepted, Refused as Reply-Refused}
+use Rattle.machine.specs.Outcomes.Reading.{Reading, Count, Refused as Reading-Refused}
+use Rattle.machine.specs.Outcomes.Ran.{Ran}
 use Rattle.machine.specs.declared.Stored.{Stored}
-use Rattle.machine.specs.declared.ByList.{ByList}
-use Rattle.machine.specs.declared.ByList.TheVariants.{Replied, Faulty}
+use Rattle.machine.specs.Outcomes.ByList.{ByList, Replied, Faulty}
 use Rattle.text_page.specs.Page.{page_text}
-use Rattle.airline_list.specs.declared.Sent.{Sent}
-use Rattle.airline_list.specs.declared.Sent.TheVariants.{To, NotSent}
+use Rattle.airline_list.specs.Outcomes.{Sent, To, NotSent}
 use Rattle.airline_list.specs.Lists.{verdict, sent}
 use Rattle.machine.specs.Sides.{side_number, side_of}
 use Rattle.machine.specs.Values.{number}

@@ -2,8 +2,7 @@
 -- of a panel; and what is claimed where a row is known. Of calls alone it is `Demand3.Demand3`.
 use Rattle.std.specs.Prelude.{◌≡◌, Bool, true, false, cond, not, ◌&&◌, ◌||◌, List, [], ◌∷◌, ℕ, ◌<◌, eqb, length}
 use Rattle.std.proofs.Math.Option.{Option, some, none, bind}
-use Rattle.machine.specs.declared.Reply.{Reply}
-use Rattle.machine.specs.declared.Reply.TheVariants.{Accepted, Refused as Reply-Refused}
+use Rattle.machine.specs.Outcomes.Reply.{Reply, Accepted, Refused as Reply-Refused}
 use Rattle.machine.specs.Shape.{same_words}
 use Rattle.machine.specs.Snapshots.{take_snapshot, put_back}
 use Rattle.machine.specs.Lent.{lent_to}

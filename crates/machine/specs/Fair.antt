@@ -1,7 +1,7 @@
 -- Request 2026-07: a busy task gets its tick within T dispatches, in every accepted table, whatever calls are between.
 use Rattle.std.specs.Prelude.{◌≡◌, true, false, List, [], ◌∷◌, ℕ, ◌+◌, ◌≤◌, ◌<◌}
 use Rattle.std.proofs.Math.Option.{Option, some, none}
-use Rattle.machine.specs.declared.Dispatch.TheVariants.{Answered}
+use Rattle.machine.specs.Outcomes.Dispatch.{Answered}
 use Rattle.machine.specs.Table.{task_count, dispatched, set_dispatched}
 use Rattle.machine.specs.Answers.{refusal_of, dispatch_refusal_of}
 use Rattle.machine.specs.Calls.{

@@ -2,17 +2,12 @@
 -- of every call is said by these.
 use Rattle.std.specs.Prelude.{List, [], ◌∷◌, ℕ, zero, suc}
 use Rattle.std.proofs.Math.Option.{some, none}
-use Rattle.machine.specs.declared.Answer.{Answer}
-use Rattle.machine.specs.declared.Answer.TheVariants.{Going}
-use Rattle.machine.specs.declared.Dispatch.{Dispatch}
-use Rattle.machine.specs.declared.Dispatch.TheVariants.{Idle, Answered}
-use Rattle.machine.specs.declared.Reply.{Reply}
-use Rattle.machine.specs.declared.Reply.TheVariants.{Accepted, Refused as Reply-Refused}
+use Rattle.machine.specs.Outcomes.Answer.{Answer, Going}
+use Rattle.machine.specs.Outcomes.Dispatch.{Dispatch, Idle, Answered}
+use Rattle.machine.specs.Outcomes.Reply.{Reply, Accepted, Refused as Reply-Refused}
 use Rattle.machine.specs.declared.Stored.{Stored}
-use Rattle.machine.specs.declared.ByList.{ByList}
-use Rattle.machine.specs.declared.ByList.TheVariants.{Replied, Faulty}
-use Rattle.airline_list.specs.declared.Sent.{Sent}
-use Rattle.airline_list.specs.declared.Sent.TheVariants.{To, NotSent}
+use Rattle.machine.specs.Outcomes.ByList.{ByList, Replied, Faulty}
+use Rattle.airline_list.specs.Outcomes.{Sent, To, NotSent}
 use Rattle.airline_list.specs.Lists.{verdict, sent}
 use Rattle.machine.specs.Sides.{side_number}
 use Rattle.machine.specs.Values.{number}

@@ -1,8 +1,7 @@
 -- Request 2026-14: a begin over a record that a panel lends. For every table, every record and all numbers, the answer
 -- and every word of the record afterwards. The table is only read.
 use Rattle.std.specs.Prelude.{List, ℕ}
-use Rattle.machine.specs.declared.Reply.{Reply}
-use Rattle.machine.specs.declared.Reply.TheVariants.{Accepted, Refused}
+use Rattle.machine.specs.Outcomes.Reply.{Reply, Accepted, Refused}
 use Rattle.machine.specs.declared.Stored.{Stored}
 use Rattle.machine.specs.Choice.{◌<?◌, if?◌then◌else◌}
 use Rattle.machine.specs.Table.{task_count, record_words, set_record}

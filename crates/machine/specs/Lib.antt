@@ -12,9 +12,11 @@ pub mod Shape
 pub mod Reach
 pub mod Allocate
 pub mod Lines
+pub mod Outcomes
 pub mod Answers
 pub mod Calls
 pub mod Results
+pub mod Asked
 pub mod Panel
 pub mod PushByList
 pub mod Lent

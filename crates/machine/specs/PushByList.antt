@@ -8,11 +8,9 @@ use Rattle.machine.specs.Operations.{push, operation_number}
 use Rattle.machine.specs.Calls.{Changed, begin}
 use Rattle.airline_list.specs.declared.End.{End}
 use Rattle.airline_list.specs.declared.End.TheVariants.{Left, Right}
-use Rattle.airline_list.specs.declared.Sent.{Sent}
-use Rattle.airline_list.specs.declared.Sent.TheVariants.{To, NotSent}
+use Rattle.airline_list.specs.Outcomes.{Sent, To, NotSent}
 use Rattle.airline_list.specs.Lists.{verdict, sent}
-use Rattle.machine.specs.declared.ByList.{ByList}
-use Rattle.machine.specs.declared.ByList.TheVariants.{Replied, Faulty}
+use Rattle.machine.specs.Outcomes.ByList.{ByList, Replied, Faulty}
 
 -- The deque's side at an end of the lane.
 abbrev pub side_at : End → Side

@@ -1,7 +1,7 @@
 -- Request 2026-10: a snapshot of a table, by columns; taking it and putting it back.
 use Rattle.std.specs.Prelude.{◌≡◌, List, [], ◌∷◌, ◌++◌, ℕ, zero, suc, ◌+◌, ◌*◌, ◌≤◌, ◌<◌, eqb, length, get_or, take, drop}
 use Rattle.std.proofs.Math.Option.{Option, none}
-use Rattle.machine.specs.declared.Reply.TheVariants.{Accepted}
+use Rattle.machine.specs.Outcomes.Reply.{Accepted}
 use Rattle.machine.specs.Counts.{count}
 use Rattle.machine.specs.Table.{header_length, node_length, node_at, node_count, node_part}
 use Rattle.machine.specs.Calls.{unless, table_refusal, Changed, changed}

@@ -1,8 +1,7 @@
 -- Consecutive dispatches: how many went on is told by the tick count.
 use Rattle.std.specs.Prelude.{◌≡◌, cond, List, ℕ, ◌+◌, ◌-◌, ◌%◌, ◌^◌, ◌<◌}
 use Rattle.std.proofs.Math.Option.{none}
-use Rattle.machine.specs.declared.Dispatch.{Dispatch}
-use Rattle.machine.specs.declared.Dispatch.TheVariants.{Idle, Answered}
+use Rattle.machine.specs.Outcomes.Dispatch.{Dispatch, Idle, Answered}
 use Rattle.machine.specs.Table.{tick_count}
 use Rattle.machine.specs.Answers.{ends_call}
 use Rattle.machine.specs.Calls.{table_refusal, dispatches, went_on}

@@ -6,9 +6,8 @@ use mathlib.Core.List.{List}
 use Prim.Native.Nat.{ℕ, zero, suc, ◌+◌, ◌*◌, ◌-◌, ◌≤◌, ◌<◌}
 use native.Mathlib.Omega.{arith}
 use lib.ListN.{replicate, length-replicate}
-use Rattle.machine.specs.declared.Answer.{Answer}
-use Rattle.machine.specs.declared.Answer.TheVariants.{Pushed, Full}
-use Rattle.machine.specs.declared.Reply.TheVariants.{Accepted}
+use Rattle.machine.specs.Outcomes.Answer.{Answer, Pushed, Full}
+use Rattle.machine.specs.Outcomes.Reply.{Accepted}
 use Rattle.machine.specs.Sides.{Side, left, right, side_number}
 use Rattle.machine.specs.Values.{stored, bag_ok}
 use Rattle.machine.specs.Operations.{push, operation_number}

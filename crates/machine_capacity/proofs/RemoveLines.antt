@@ -4,7 +4,7 @@ use mathlib.Core.Logic.{◌≢◌, inl, inr}
 use mathlib.Core.Bool.{Bool}
 use mathlib.Core.List.{[], ◌∷◌}
 use Prim.Native.Nat.{ℕ}
-use Rattle.machine.specs.declared.Answer.{Answer}
+use Rattle.machine.specs.Outcomes.Answer.{Answer}
 use Rattle.machine.specs.Sides.{Side}
 use Rattle.machine.specs.Values.{N, X, Y}
 use Rattle.machine.specs.Steps.{Step}

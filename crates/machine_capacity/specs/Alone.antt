@@ -2,9 +2,8 @@
 -- numbers of its lane that it leaves.
 use Rattle.std.specs.Prelude.{◌≡◌, ◌≢◌, true, false, List, [], ◌∷◌, reverse, ℕ, suc, ◌+◌, ◌*◌, ◌-◌, ◌≤◌, ◌<◌, length}
 use Rattle.machine.specs.Choice.{◌≟◌, ◌<?◌, if?◌then◌else◌}
-use Rattle.machine.specs.declared.Answer.{Answer}
-use Rattle.machine.specs.declared.Answer.TheVariants.{Going, Pushed, Bag, Empty, Full, Yes, No}
-use Rattle.machine.specs.declared.Reply.TheVariants.{Accepted}
+use Rattle.machine.specs.Outcomes.Answer.{Answer, Going, Pushed, Bag, Empty, Full, Yes, No}
+use Rattle.machine.specs.Outcomes.Reply.{Accepted}
 use Rattle.machine.specs.Sides.{Side, left, right, opposite, side_number}
 use Rattle.machine.specs.Values.{stored}
 use Rattle.machine.specs.Operations.{Operation, idle, push, pop, add, remove, operation_number}

@@ -1,10 +1,8 @@
 -- What is claimed of the machine for one user: the table gives its answers, and stands as it says.
 use Rattle.std.specs.Prelude.{◌≡◌, ◌≢◌, ◌⊎◌, Bool, true, false, List, [], ◌∷◌, ℕ, ◌+◌, ◌*◌, ◌≤◌, ◌<◌, ltb, length, replicate}
 use Rattle.std.proofs.Math.Option.{some}
-use Rattle.machine.specs.declared.Answer.{Answer}
-use Rattle.machine.specs.declared.Answer.TheVariants.{Going, Refused}
-use Rattle.machine.specs.declared.Reply.{Reply}
-use Rattle.machine.specs.declared.Reply.TheVariants.{Accepted, Refused as Reply-Refused}
+use Rattle.machine.specs.Outcomes.Answer.{Answer, Going, Refused}
+use Rattle.machine.specs.Outcomes.Reply.{Reply, Accepted, Refused as Reply-Refused}
 use Rattle.machine.specs.Sides.{Side}
 use Rattle.machine.specs.Table.{node_count, task_count, growth, lane_count}
 use Rattle.machine.specs.Reach.{Free}

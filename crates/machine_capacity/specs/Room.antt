@@ -2,8 +2,7 @@
 use Rattle.std.specs.Prelude.{◌≡◌, ◌⊎◌, true, false, List, [], ◌∷◌, ℕ, zero, suc, ◌+◌, ◌*◌, ◌-◌, ◌≤◌, ◌<◌, length}
 use Rattle.std.proofs.Math.Option.{none}
 use Rattle.machine.specs.Choice.{◌≟◌, ◌<?◌, if?◌then◌else◌}
-use Rattle.machine.specs.declared.Answer.{Answer}
-use Rattle.machine.specs.declared.Answer.TheVariants.{Pushed, Full}
+use Rattle.machine.specs.Outcomes.Answer.{Answer, Pushed, Full}
 use Rattle.machine.specs.Sides.{Side, opposite, side_of}
 use Rattle.machine.specs.Values.{stored, bag_ok}
 use Rattle.machine.specs.Operations.{push, pop, remove, operation_of}

@@ -1,7 +1,7 @@
 -- 2026-14: cases of a begin over a lent record, of the panel's copy of it, and of what is known then.
 use Rattle.std.specs.Prelude.{refl, List, [], ◌∷◌, ◌++◌, ℕ, replicate, set}
 use Rattle.std.proofs.Math.Option.{some}
-use Rattle.machine.specs.declared.Answer.TheVariants.{Going, Pushed, Full, Yes, No}
+use Rattle.machine.specs.Outcomes.Answer.{Going, Pushed, Full, Yes, No}
 use Rattle.machine.specs.declared.Stored.{Stored}
 use Rattle.machine.specs.Sides.{right}
 use Rattle.machine.specs.Values.{stored_of}

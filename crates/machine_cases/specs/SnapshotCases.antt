@@ -1,7 +1,7 @@
 -- 2026-10: cases of taking a snapshot and putting it back, and of what is known then.
 use Rattle.std.specs.Prelude.{List, [], ◌∷◌, ◌++◌, ℕ, replicate, set}
 use Rattle.std.proofs.Math.Option.{Option, some, none}
-use Rattle.machine.specs.declared.Reply.TheVariants.{Accepted, Refused}
+use Rattle.machine.specs.Outcomes.Reply.{Accepted, Refused}
 use Rattle.machine.specs.Values.{stored_of}
 use Rattle.machine.specs.Tasks.{no_node, fresh, words_of}
 use Rattle.machine.specs.Sides.{right}

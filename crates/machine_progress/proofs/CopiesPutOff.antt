@@ -4,7 +4,7 @@ use mathlib.Core.List.{List, [], ◌∷◌}
 use mathlib.Core.Option.{Option, some, none, bind}
 use Prim.Native.Nat.{ℕ, zero, suc, ◌+◌, ◌%◌, ◌^◌}
 use native.Mathlib.Decide.{ℕ_discrete, dec_lt}
-use Rattle.machine.specs.declared.Answer.TheVariants.{Going}
+use Rattle.machine.specs.Outcomes.Answer.{Going}
 use Rattle.machine.specs.Choice.{◌≟◌, if?◌then◌else◌}
 use Rattle.machine.specs.Sides.{right, side_number}
 use Rattle.machine.specs.Operations.{push, operation_number}

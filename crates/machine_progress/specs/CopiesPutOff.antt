@@ -2,7 +2,7 @@
 -- of it is never answered.
 use Rattle.std.specs.Prelude.{◌≡◌, refl, List, [], ◌∷◌, ◌++◌, ℕ, zero, suc, replicate}
 use Rattle.std.proofs.Math.Option.{some}
-use Rattle.machine.specs.declared.Answer.TheVariants.{Going}
+use Rattle.machine.specs.Outcomes.Answer.{Going}
 use Rattle.machine.specs.Sides.{right, side_number}
 use Rattle.machine.specs.Values.{stored}
 use Rattle.machine.specs.Operations.{push, operation_number}

@@ -1,8 +1,7 @@
 -- The cabinet drains: dispatches alone come to "idle", within a bound, and by then every call has answered.
 use Rattle.std.specs.Prelude.{◌≡◌, true, false, cond, List, ◌∷◌, ℕ, zero, suc, ◌+◌, ◌*◌, ◌≤◌, ◌<◌, length}
-use Rattle.machine.specs.declared.Answer.{Answer}
-use Rattle.machine.specs.declared.Answer.TheVariants.{Going}
-use Rattle.machine.specs.declared.Dispatch.TheVariants.{Idle, Answered}
+use Rattle.machine.specs.Outcomes.Answer.{Answer, Going}
+use Rattle.machine.specs.Outcomes.Dispatch.{Idle, Answered}
 use Rattle.machine.specs.Answers.{ends_call}
 use Rattle.machine.specs.Table.{node_count, task_count, lane_count}
 use Rattle.machine.specs.Calls.{is_busy_task, dispatch}

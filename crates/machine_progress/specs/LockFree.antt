@@ -1,7 +1,7 @@
 -- Lock-freedom with a bound: some call answers, whoever ticks and in whatever order.
 use Rattle.std.specs.Prelude.{◌≡◌, true, List, [], ◌∷◌, ℕ, suc, ◌+◌, ◌*◌, ◌≤◌, ◌<◌, length}
-use Rattle.machine.specs.declared.Answer.TheVariants.{Going, Refused}
-use Rattle.machine.specs.declared.Dispatch.TheVariants.{Idle, Answered}
+use Rattle.machine.specs.Outcomes.Answer.{Going, Refused}
+use Rattle.machine.specs.Outcomes.Dispatch.{Idle, Answered}
 use Rattle.machine.specs.declared.Stored.{Stored}
 use Rattle.machine.specs.Table.{node_count, task_count, lane_count, task}
 use Rattle.machine.specs.Calls.{is_busy, begin, tick, dispatch}

@@ -1,9 +1,8 @@
 -- Request 2026-08: a call that gets all the ticks answers, within a bound by the number of nodes.
 use Rattle.std.specs.Prelude.{◌≡◌, true, List, [], ◌∷◌, ℕ, suc, ◌+◌, ◌*◌, ◌<◌}
 use Rattle.std.proofs.Math.Option.{some}
-use Rattle.machine.specs.declared.Answer.{Answer}
-use Rattle.machine.specs.declared.Answer.TheVariants.{Going}
-use Rattle.machine.specs.declared.Dispatch.TheVariants.{Answered}
+use Rattle.machine.specs.Outcomes.Answer.{Answer, Going}
+use Rattle.machine.specs.Outcomes.Dispatch.{Answered}
 use Rattle.machine.specs.Answers.{ends_call}
 use Rattle.machine.specs.Table.{node_count, task}
 use Rattle.machine.specs.Calls.{is_busy, tick, next_busy, dispatch}

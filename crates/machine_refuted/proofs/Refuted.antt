@@ -8,7 +8,7 @@ use lib.ListN.{replicate, length-replicate}
 use borrow.Author.Tests.{eq-eqb}
 use native.Mathlib.Decide.{ℕ_discrete, dec_lt, dec_le}
 use Rattle.tag.specs.Tags.{all_tag_words}
-use Rattle.machine.specs.declared.Reply.TheVariants.{Accepted}
+use Rattle.machine.specs.Outcomes.Reply.{Accepted}
 use Rattle.machine.specs.Round.{first_from}
 use Rattle.machine.specs.Values.{Value-discrete, decode}
 use Rattle.machine.specs.Steps.{step_in, step_of, is_step_in}

@@ -7,11 +7,10 @@ use Prim.Native.Nat.{ℕ, zero, suc}
 use lib.ListN.{get_or}
 use native.Mathlib.Omega.{arith}
 use borrow.Author.Tests.{eq-eqb}
-use Rattle.machine.specs.declared.Dispatch.{Dispatch}
-use Rattle.machine.specs.declared.Reply.TheVariants.{Accepted}
-use Rattle.machine.specs.declared.Ran.{Ran}
-use Rattle.machine.specs.declared.Reading.{Reading}
-use Rattle.machine.specs.declared.Reading.TheVariants.{Count, Refused}
+use Rattle.machine.specs.Outcomes.Dispatch.{Dispatch}
+use Rattle.machine.specs.Outcomes.Reply.{Accepted}
+use Rattle.machine.specs.Outcomes.Ran.{Ran}
+use Rattle.machine.specs.Outcomes.Reading.{Reading, Count, Refused}
 use Rattle.machine.specs.Shape.{same_words}
 use Rattle.machine.specs.Answers.{
   reply_number,

@@ -1,12 +1,10 @@
 -- How a list of calls judges a machine: by the row (demand 3), and by the definitions (demand 2).
 use Rattle.std.specs.Prelude.{Bool, true, false, cond, ◌&&◌, List, [], ◌∷◌, ℕ, zero, suc, eqb, get_or}
 use Rattle.std.proofs.Math.Option.{Option, some, none}
-use Rattle.machine.specs.declared.Answer.{Answer}
-use Rattle.machine.specs.declared.Dispatch.{Dispatch}
-use Rattle.machine.specs.declared.Dispatch.TheVariants.{Idle, Answered}
-use Rattle.machine.specs.declared.Ran.{Ran}
-use Rattle.machine.specs.declared.Reading.{Reading}
-use Rattle.machine.specs.declared.Reading.TheVariants.{Count, Refused as Reading-Refused}
+use Rattle.machine.specs.Outcomes.Answer.{Answer}
+use Rattle.machine.specs.Outcomes.Dispatch.{Dispatch, Idle, Answered}
+use Rattle.machine.specs.Outcomes.Ran.{Ran}
+use Rattle.machine.specs.Outcomes.Reading.{Reading, Count, Refused as Reading-Refused}
 use Rattle.machine.specs.Shape.{all_below, same_words}
 use Rattle.machine.specs.Answers.{reply_number, kind_of, payload_of, dispatch_kind_of, dispatch_payload_of, is_going}
 use Rattle.machine.specs.Allocate.{Marking}

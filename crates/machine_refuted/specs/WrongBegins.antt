@@ -1,7 +1,7 @@
 -- Wrong begins: they refuse in another order, or what they should not, or too little.
 use Rattle.std.specs.Prelude.{Bool, false, not, cond, ◌&&◌, ◌||◌, List, [], ◌∷◌, ◌++◌, ℕ, zero, suc, leb, ltb, eqb}
 use Rattle.std.proofs.Math.Option.{Option, some, none}
-use Rattle.machine.specs.declared.Answer.TheVariants.{Pushed, Refused}
+use Rattle.machine.specs.Outcomes.Answer.{Pushed, Refused}
 use Rattle.machine.specs.declared.Stored.{Stored}
 use Rattle.machine.specs.Sides.{right}
 use Rattle.machine.specs.Values.{number, stored}

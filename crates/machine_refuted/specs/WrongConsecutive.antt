@@ -1,9 +1,8 @@
 -- Wrong consecutive dispatches: they are to be as many as asked for, in turn, and to end at an answer.
 use Rattle.std.specs.Prelude.{Bool, true, false, ◌||◌, List, [], ◌∷◌, ◌++◌, ℕ, zero, suc, eqb}
 use Rattle.std.proofs.Math.Option.{some, none}
-use Rattle.machine.specs.declared.Answer.TheVariants.{Going, Refused}
-use Rattle.machine.specs.declared.Dispatch.{Dispatch}
-use Rattle.machine.specs.declared.Dispatch.TheVariants.{Idle, Answered}
+use Rattle.machine.specs.Outcomes.Answer.{Going, Refused}
+use Rattle.machine.specs.Outcomes.Dispatch.{Dispatch, Idle, Answered}
 use Rattle.machine.specs.Sides.{right}
 use Rattle.machine.specs.Operations.{push, pop}
 use Rattle.machine.specs.Answers.{kind_of, dispatch_kind_of, dispatch_goes_on}

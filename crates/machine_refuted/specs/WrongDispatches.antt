@@ -1,8 +1,8 @@
 -- 2026-07: wrong dispatches, each under the words of the papers that name it.
 use Rattle.std.specs.Prelude.{cond, List, [], ◌∷◌, ◌++◌, ℕ, ◌-◌, eqb}
 use Rattle.std.proofs.Math.Option.{Option, some}
-use Rattle.machine.specs.declared.Answer.TheVariants.{Refused}
-use Rattle.machine.specs.declared.Dispatch.TheVariants.{Idle}
+use Rattle.machine.specs.Outcomes.Answer.{Refused}
+use Rattle.machine.specs.Outcomes.Dispatch.{Idle}
 use Rattle.machine.specs.Round.{following, first_from}
 use Rattle.machine.specs.Sides.{right}
 use Rattle.machine.specs.Operations.{push, pop}

@@ -1,7 +1,7 @@
 -- 2026-12: the wrong machines with lanes, each under the words of 02 that name it.
 use Rattle.std.specs.Prelude.{Bool, false, ◌&&◌, ◌||◌, List, ◌++◌, [], ◌∷◌, ℕ, zero, suc, ◌-◌, ◌*◌, leb, ltb, eqb, length, take, replicate}
 use Rattle.std.proofs.Math.Option.{Option, some, none}
-use Rattle.machine.specs.declared.Answer.TheVariants.{Refused}
+use Rattle.machine.specs.Outcomes.Answer.{Refused}
 use Rattle.machine.specs.Choice.{◌<?◌, if?◌then◌else◌}
 use Rattle.machine.specs.Sides.{Side, opposite, side_number, right}
 use Rattle.machine.specs.Values.{never, number}

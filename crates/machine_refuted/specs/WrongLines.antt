@@ -1,6 +1,6 @@
 -- Machines with one wrong line, or two, each under the words of the papers that name it.
 use Rattle.std.specs.Prelude.{List, [], ◌∷◌, ◌++◌}
-use Rattle.machine.specs.declared.Answer.TheVariants.{Pushed, Bag, Empty, No}
+use Rattle.machine.specs.Outcomes.Answer.{Pushed, Bag, Empty, No}
 use Rattle.machine.specs.Sides.{left}
 use Rattle.machine.specs.Choice.{◌≟◌, if?◌then◌else◌}
 use Rattle.machine.specs.Values.{bag, N, X, Y, ◌≟ᵛ◌}

@@ -2,7 +2,7 @@
 use Rattle.std.specs.Prelude.{◌≡◌, List, [], ℕ, leb, eqb, length}
 use Rattle.std.proofs.Math.Option.{Option, some, none}
 use Rattle.text_page.specs.Page.{page_length}
-use Rattle.machine.specs.declared.Reply.TheVariants.{Refused}
+use Rattle.machine.specs.Outcomes.Reply.{Refused}
 use Rattle.machine.specs.Sides.{right}
 use Rattle.machine.specs.Tasks.{no_node}
 use Rattle.machine.specs.Table.{set_link}

@@ -2,7 +2,7 @@
 -- how.
 use Rattle.std.specs.Prelude.{◌≡◌, Bool, true, false, ◌&&◌, List, [], ◌∷◌, ◌++◌, map, ℕ, zero, suc, ◌*◌, ◌+◌, ◌-◌, eqb, length, get_or, set, take, drop, replicate}
 use Rattle.std.proofs.Math.Option.{Option, some, none}
-use Rattle.machine.specs.declared.Reply.{Reply}
+use Rattle.machine.specs.Outcomes.Reply.{Reply}
 use Rattle.machine.specs.Values.{stored}
 use Rattle.machine.specs.Sides.{Side, left, right, side_number}
 use Rattle.machine.specs.Operations.{Operation, push, pop, add, operation_number}

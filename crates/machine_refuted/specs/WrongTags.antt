@@ -3,7 +3,7 @@ use Rattle.std.specs.Prelude.{cond, ◌&&◌, ◌||◌, List, [], ◌∷◌, ◌
 use Rattle.std.proofs.Math.Option.{none}
 use Rattle.std.proofs.lemmas.List.Edits.{sets}
 use Rattle.tag.specs.Tags.{low_of}
-use Rattle.machine.specs.declared.Answer.TheVariants.{Pushed, Bag}
+use Rattle.machine.specs.Outcomes.Answer.{Pushed, Bag}
 use Rattle.machine.specs.Sides.{right, side_number}
 use Rattle.machine.specs.Choice.{◌≟◌, if?◌then◌else◌}
 use Rattle.machine.specs.Values.{Value, never, bag, N, X, Y, ◌≟ᵛ◌, number, stored_words, encode, stored_of}

@@ -9,7 +9,7 @@ use borrow.Author.Tests.{ltb-true}
 use Rattle.machine.specs.Shape.{WellFormed, sizes_of, Sized, WellSized}
 use Rattle.machine.specs.Round.{next_after}
 use Rattle.machine.specs.Answers.{refusal_of}
-use Rattle.machine.specs.declared.Dispatch.TheVariants.{Answered}
+use Rattle.machine.specs.Outcomes.Dispatch.{Answered}
 use Rattle.machine.specs.declared.Stored.{Stored}
 use Rattle.machine.specs.Choice.{◌≟◌, if?◌then◌else◌}
 use Rattle.machine.specs.Sides.{right, left, side_of}

@@ -6,8 +6,8 @@ use mathlib.Core.Option.{Option, some, none}
 use Prim.Native.Nat.{ℕ, suc, ◌+◌, ◌%◌, ◌^◌}
 use lib.ListN.{drop}
 use Rattle.machine.specs.Shape.{WellFormed, sizes_of, WellSized}
-use Rattle.machine.specs.declared.Answer.{Answer}
-use Rattle.machine.specs.declared.Ran.{Ran}
+use Rattle.machine.specs.Outcomes.Answer.{Answer}
+use Rattle.machine.specs.Outcomes.Ran.{Ran}
 use Rattle.machine.specs.Choice.{◌≟◌, if?◌then◌else◌}
 use Rattle.machine.specs.Sides.{Side, opposite}
 use Rattle.machine.specs.Tasks.{Task, goal}

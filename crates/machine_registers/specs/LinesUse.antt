@@ -1,6 +1,6 @@
 -- Request 2026-06: the columns of Registers are those of the lines, with nothing left out and nothing too much.
 use Rattle.std.specs.Prelude.{◌≡◌, ◌≢◌, Bool, true, not, cond, ℕ, eqb}
-use Rattle.machine.specs.declared.Answer.TheVariants.{Going}
+use Rattle.machine.specs.Outcomes.Answer.{Going}
 use Rattle.machine.specs.Sides.{Side, left, right}
 use Rattle.machine.specs.Steps.{Step}
 use Rattle.machine.specs.Tasks.{

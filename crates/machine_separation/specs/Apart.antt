@@ -2,7 +2,7 @@
 -- other lanes can see, but which nodes are free.
 use Rattle.std.specs.Prelude.{◌≡◌, ◌≢◌, true, List, [], ◌∷◌, ℕ, ◌<◌}
 use Rattle.std.proofs.Math.Option.{some}
-use Rattle.machine.specs.declared.Reply.TheVariants.{Accepted}
+use Rattle.machine.specs.Outcomes.Reply.{Accepted}
 use Rattle.machine.specs.Sides.{Side, opposite}
 use Rattle.machine.specs.Steps.{line28, line31}
 use Rattle.machine.specs.Tasks.{no_node, Register, register, goal}

@@ -3,8 +3,7 @@
 use Rattle.std.specs.Prelude.{List, ℕ, replicate}
 use Rattle.std.proofs.Math.Option.{Option, some, none}
 use Rattle.machine.specs.Values.{stored_of}
-use Rattle.machine.specs.declared.Reply.{Reply}
-use Rattle.machine.specs.declared.Reply.TheVariants.{Accepted, Refused}
+use Rattle.machine.specs.Outcomes.Reply.{Reply, Accepted, Refused}
 use Rattle.machine.specs.Table.{table_length}
 use Rattle.machine.specs.Calls.{lane_refusal, start, begin, ticks, lane}
 use Rattle.program_print.specs.Lines.{refused_text, reply_text, answer_text, lane_text}

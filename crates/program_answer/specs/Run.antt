@@ -1,8 +1,8 @@
 -- The belt run: what each command does, and what all the lines of an input print.
 use Rattle.std.specs.Prelude.{List, [], ◌∷◌, ◌++◌, map, ℕ}
 use Rattle.text.specs.Lines.{lines_of}
-use Rattle.program_command.specs.declared.Command.{Command}
-use Rattle.program_command.specs.declared.Command.TheVariants as Commands
+use Rattle.program_command.specs.Said.{Command}
+use Rattle.program_command.specs.Said as Commands
 use Rattle.program_command.specs.Commands.{command_read}
 use Rattle.program_print.specs.Lines.{unread_text}
 use Rattle.machine.specs.Calls.{read}

@@ -4,8 +4,7 @@ use Prim.Native.String.{String, ◌++◌}
 use Rattle.tag.specs.Tags.{digit_of, low_of}
 use Rattle.text.specs.Text.{bytes, same}
 use Rattle.text_scan.specs.Scanned.{Scanned, nothing, scan_bytes}
-use Rattle.program_command.specs.declared.Command.{Command}
-use Rattle.program_command.specs.declared.Command.TheVariants.{Start, Begin, Tick, Lane, Unread}
+use Rattle.program_command.specs.Said.{Command, Start, Begin, Tick, Lane, Unread}
 
 -- 01: "a number above 4,294,967,295" is unread
 abbrev pub largest_number : ℕ

@@ -1,8 +1,7 @@
 -- Lines that are read and lines close to them, with what each says; `proofs/Worked` shows it.
 use Rattle.std.specs.Prelude.{List, [], ◌∷◌}
 use Prim.Native.String.{String}
-use Rattle.program_command.specs.declared.Command.{Command}
-use Rattle.program_command.specs.declared.Command.TheVariants.{Start, Begin, Tick, Lane, Unread}
+use Rattle.program_command.specs.Said.{Command, Start, Begin, Tick, Lane, Unread}
 
 pub record Example : Type 0 where
   pub line : String

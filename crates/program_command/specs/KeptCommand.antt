@@ -2,7 +2,7 @@
 use Rattle.std.specs.Prelude.{List, [], ◌∷◌, ℕ, get_or, take}
 use Rattle.text_scan.specs.Kept.{Kept}
 use Rattle.program_command.specs.Commands.{command_with}
-use Rattle.program_command.specs.declared.Command.{Command}
+use Rattle.program_command.specs.Said.{Command}
 
 -- as many numbers as a form has at most
 abbrev pub first_three : List ℕ → List ℕ

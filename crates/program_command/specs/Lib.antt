@@ -1,3 +1,4 @@
+pub mod Said
 pub mod Commands
 pub mod KeptCommand
 pub mod Examples

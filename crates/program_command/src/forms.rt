@@ -1,166 +1,106 @@
 // The form of a line, by its text.
-ghost use Rattle.std.specs.Prelude.{◌≡◌, ◌≤◌};
+ghost use Rattle.std.specs.Prelude.{◌≡◌, ◌<◌, ◌≤◌, slice_index, MatchOption};
 ghost use Rattle.tag.specs.Tags.{largest_tag};
-ghost use Rattle.text_scan.specs.Kept.{UpToTag};
-ghost use Rattle.program_command.specs.Commands.{ticks, begin_or, begin_of, form_of, push_of, command_with};
-ghost use Rattle.program_command.specs.KeptCommand.{first_three};
+ghost use Rattle.program_command.specs.Said.{said};
+ghost use Rattle.program_command.specs.Commands.{largest_number, ticks, begin_of, form_of, push_of};
 
 use crate::Command;
+use machine::operation::Operation;
+use machine::side::Side;
 use text::is_text;
-use text_scan::Numbers;
-
-// 01: "a number above 4,294,967,295".
-const LARGEST: u64 = 4_294_967_295;
+use text_scan::Line;
 
 // 02: "ten digits with their zeros".
 const TAG_WIDTH: usize = 10;
 
+// 01: "a number above 4,294,967,295" is unread.
+pub fn within_word(n: u64) -> Option<u32>
+    ensures { MatchOption result (largest_number < n) (λ m. (m ≡ n) × (n ≤ largest_number)) }
+{
+    u32::try_from(n).ok()
+}
+
 // 01: "times (1 to 1,000)".
 #[tactic(auto, unfolding(crate::specs::Commands::ticks))]
-fn ticks_of(task: u32, hint: u32, times: u32) -> Command
-    ensures { result ≡ ticks task hint times }
+fn ticks_of(task: u32, hint: u32, times: u32) -> Option<Command>
+    ensures { said result ≡ ticks task hint times }
 {
-    if times < 1 {
-        return Command::Unread;
+    match times {
+        1..=1_000 => Some(Command::Tick { task, hint, times }),
+        _ => None,
     }
-    if times <= 1_000 {
-        return Command::Tick { task, hint, times };
-    }
-    Command::Unread
 }
 
-// A begin of an operation, on the side whose text this is, or else another command.
-fn begin_or(
-    text: &[u8],
-    left: &[u8],
-    right: &[u8],
-    operation: u32,
-    task: u32,
-    low: u32,
-    other: Command,
-) -> Command
-    ensures { result ≡ begin_or text.now left.now right.now operation task low
-        other }
+// The begin of pop, add or remove with this text.
+// Kept: a chain of tests, and no match on the text. At arms of so many bytes the proof did not close, and a test of
+// `is_text` compares eight bytes at once.
+#[tactic(auto, unfolding(crate::specs::Commands::begin_of, crate::specs::Commands::begin_or))]
+fn begin_of(text: &[u8], task: u32, low: u32) -> Option<Command>
+    ensures { said result ≡ begin_of text.now task low }
 {
-    if is_text(text, left) {
-        return Command::Begin {
-            task,
-            operation,
-            side: 0,
-            digit: 0,
-            low,
-        };
-    }
-    if is_text(text, right) {
-        return Command::Begin {
-            task,
-            operation,
-            side: 1,
-            digit: 0,
-            low,
-        };
-    }
-    other
-}
-
-// The begin of pop, add or remove with this text, or no form.
-fn begin_of(text: &[u8], task: u32, low: u32) -> Command
-    ensures { result ≡ begin_of text.now task low }
-{
-    let remove = begin_or(
-        text,
-        b"(begin 0 (remove left 0))",
-        b"(begin 0 (remove right 0))",
-        4,
+    let (operation, side) = if is_text(text, b"(begin 0 (pop left 0))") {
+        (Operation::Pop as u32, Side::Left as u32)
+    } else if is_text(text, b"(begin 0 (pop right 0))") {
+        (Operation::Pop as u32, Side::Right as u32)
+    } else if is_text(text, b"(begin 0 (add left 0))") {
+        (Operation::Add as u32, Side::Left as u32)
+    } else if is_text(text, b"(begin 0 (add right 0))") {
+        (Operation::Add as u32, Side::Right as u32)
+    } else if is_text(text, b"(begin 0 (remove left 0))") {
+        (Operation::Remove as u32, Side::Left as u32)
+    } else if is_text(text, b"(begin 0 (remove right 0))") {
+        (Operation::Remove as u32, Side::Right as u32)
+    } else {
+        return None;
+    };
+    Some(Command::Begin {
         task,
+        operation,
+        side,
+        digit: 0,
         low,
-        Command::Unread,
-    );
-    let add = begin_or(
-        text,
-        b"(begin 0 (add left 0))",
-        b"(begin 0 (add right 0))",
-        3,
-        task,
-        low,
-        remove,
-    );
-    begin_or(
-        text,
-        b"(begin 0 (pop left 0))",
-        b"(begin 0 (pop right 0))",
-        2,
-        task,
-        low,
-        add,
-    )
+    })
 }
 
 // The form other than a push with this text and these numbers.
-fn form_of(text: &[u8], a: u32, b: u32, c: u32) -> Command
-    ensures { result ≡ form_of text.now a b c }
+#[tactic(auto, unfolding(crate::specs::Commands::form_of))]
+pub fn form_of(text: &[u8], a: u32, b: u32, c: u32) -> Option<Command>
+    ensures { said result ≡ form_of text.now a b c }
 {
     if is_text(text, b"(tick 0 0 0)") {
         return ticks_of(a, b, c);
     }
     if is_text(text, b"(lane)") {
-        return Command::Lane;
+        return Some(Command::Lane);
     }
     if is_text(text, b"(start (slots 0) (tasks 0) (growth 0))") {
-        return Command::Start {
+        return Some(Command::Start {
             slots: a,
             tasks: b,
             growth: c,
-        };
+        });
     }
     begin_of(text, a, b)
 }
 
-// 02: "a push of another width is `(unread)`, and 01's top number does not bind tags".
+// The push on this side, whose tag is the second number. 02: "a push of another width is `(unread)`, and 01's top number
+// does not bind tags".
 #[tactic(auto, unfolding(crate::specs::Commands::push_of))]
-fn push_of(side: u32, task: u64, tag: u64, width: usize) -> Command
-    requires { tag ≤ largest_tag }
-    ensures { result ≡ push_of side task tag width }
+pub fn push_of(side: u32, line: &Line) -> Option<Command>
+    requires { slice_index line.now.numbers 1 ≤ largest_tag }
+    ensures { said result ≡ push_of side
+        (slice_index line.now.numbers 0) (slice_index line.now.numbers 1) line.now.scan.width }
 {
-    if LARGEST < task {
-        return Command::Unread;
+    let task = within_word(line.number(0))?;
+    let tag = line.number(1);
+    if !line.has_width(TAG_WIDTH) {
+        return None;
     }
-    if width != TAG_WIDTH {
-        return Command::Unread;
-    }
-    let digit = tag::digit(tag);
-    let low = tag::low(tag);
-    Command::Begin {
-        task: task as u32,
-        operation: 1,
+    Some(Command::Begin {
+        task,
+        operation: Operation::Push as u32,
         side,
-        digit,
-        low,
-    }
-}
-
-// The command of a line with this text and these numbers, the last of them so many digits wide.
-pub fn command_with(text: &[u8], numbers: &Numbers, width: usize) -> Command
-    requires { UpToTag numbers.now }
-    ensures { result ≡ command_with text.now (first_three numbers.now) width }
-{
-    let a = numbers[0];
-    let b = numbers[1];
-    let c = numbers[2];
-    if is_text(text, b"(begin 0 (push left 0))") {
-        return push_of(0, a, b, width);
-    }
-    if is_text(text, b"(begin 0 (push right 0))") {
-        return push_of(1, a, b, width);
-    }
-    if LARGEST < a {
-        return Command::Unread;
-    }
-    if LARGEST < b {
-        return Command::Unread;
-    }
-    if LARGEST < c {
-        return Command::Unread;
-    }
-    form_of(text, a as u32, b as u32, c as u32)
+        digit: tag::digit(tag),
+        low: tag::low(tag),
+    })
 }

@@ -4,14 +4,17 @@
 mod forms;
 
 ghost use Rattle.std.specs.Prelude.{◌≡◌};
-ghost use Rattle.text_scan.specs.Kept.{kept_of, ScanKept};
+ghost use Rattle.text_scan.specs.Kept.{ScanKept};
+ghost use Rattle.program_command.specs.Said.{said};
 ghost use Rattle.program_command.specs.KeptCommand.{kept_command};
 
-use forms::command_with;
-use text_scan::{Numbers, Scan};
+use forms::{form_of, push_of, within_word};
+use machine::side::Side;
+use text::is_text;
+use text_scan::Line;
 
-// What a line says. Operations are 1 push, 2 pop, 3 add, 4 remove; sides 0 left, 1 right. The tag of a push is its
-// leading digit and, as the argument, the nine digits below; the others have digit 0.
+// What a line says. The tag of a push is its leading digit and, as the argument, the nine digits below; the others have
+// digit 0. Kept: operation and side are numbers, since `program_answer::answer` promises an answer to each.
 #[derive(Clone, Copy)]
 pub enum Command {
     Start {
@@ -32,15 +35,25 @@ pub enum Command {
         times: u32,
     },
     Lane,
-    Unread,
 }
 
-// The command of a scanned line, read off what is kept of it.
-pub fn scanned_command(text: &[u8], numbers: &Numbers, s: Scan) -> Command
-    requires { ScanKept (kept_of text.now numbers.now s) }
-    ensures { result ≡ kept_command (kept_of text.now numbers.now s) }
+// The command of a scanned line, read off what is kept of it. A line that is no command is unread.
+#[tactic(auto, unfolding(crate::specs::Commands::command_with, crate::specs::KeptCommand::kept_command))]
+pub fn scanned_command(line: &Line) -> Option<Command>
+    requires { ScanKept line.now }
+    ensures { said result ≡ kept_command line.now }
 {
-    let length = s.length;
-    let width = s.width;
-    command_with(&text[..length], numbers, width)
+    let text = line.text();
+    if is_text(text, b"(begin 0 (push left 0))") {
+        return push_of(Side::Left as u32, line);
+    }
+    if is_text(text, b"(begin 0 (push right 0))") {
+        return push_of(Side::Right as u32, line);
+    }
+    form_of(
+        text,
+        within_word(line.number(0))?,
+        within_word(line.number(1))?,
+        within_word(line.number(2))?,
+    )
 }

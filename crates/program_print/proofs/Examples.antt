@@ -3,9 +3,8 @@ use mathlib.Core.Path.{◌≡◌, refl}
 use mathlib.Core.List.{List, [], ◌∷◌, ◌++◌}
 use Prim.Native.Nat.{ℕ}
 use Rattle.tag.specs.Tags.{last_digits, tags_in}
-use Rattle.machine.specs.declared.Reply.TheVariants as Replies
-use Rattle.machine.specs.declared.Answer.TheVariants as Answers
-use Rattle.machine.specs.declared.Reading.TheVariants as Readings
+use Rattle.std.proofs.Common.{Ok, Err}
+use Rattle.machine.specs.declared.answer.Answer.TheVariants as Answers
 use Rattle.text.specs.Text.{bytes}
 use Rattle.text.specs.Numerals.{digits_in, spaced}
 use Rattle.program_print.specs.declared.CommandOutcome.{CommandOutcome}
@@ -18,16 +17,16 @@ printed [] words = []
 printed (o ∷ os) words = text_of o words ++ printed os words
 
 pub belt-run : printed
-    (Replied Replies.Accepted
-    ∷ Replied Replies.Accepted
-    ∷ Ticked Answers.Going
-    ∷ Ticked Answers.Pushed
-    ∷ Lane (Readings.Count 1)
-    ∷ Replied Replies.Accepted
-    ∷ Ticked (Answers.Bag 51)
-    ∷ Replied Replies.Accepted
-    ∷ Ticked Answers.Empty
-    ∷ Ticked (Answers.Refused 10)
+    (Replied (Ok (record {}))
+    ∷ Replied (Ok (record {}))
+    ∷ Ticked (Ok Answers.Going)
+    ∷ Ticked (Ok Answers.Pushed)
+    ∷ Lane (Ok 1)
+    ∷ Replied (Ok (record {}))
+    ∷ Ticked (Ok (Answers.Bag 51))
+    ∷ Replied (Ok (record {}))
+    ∷ Ticked (Ok Answers.Empty)
+    ∷ Ticked (Err 10)
     ∷ [])
     (0 ∷ 51 ∷ [])
     ≡ bytes "(ok)\n(ok)\n(going)\n(pushed)\n(lane 0000000051)\n(ok)\n(bag 0000000051)\n(ok)\n(empty)\n(refused 10)\n"
@@ -35,14 +34,14 @@ unfolding last_digits tags_in spaced digits_in
 belt-run = refl
 
 pub other-lines : printed
-    (Ticked Answers.Full
-    ∷ Ticked Answers.Yes
-    ∷ Ticked Answers.No
+    (Ticked (Ok Answers.Full)
+    ∷ Ticked (Ok Answers.Yes)
+    ∷ Ticked (Ok Answers.No)
     ∷ Unread
-    ∷ Lane (Readings.Count 0)
-    ∷ Lane (Readings.Count 2)
-    ∷ Lane (Readings.Refused 3)
-    ∷ Replied (Replies.Refused 1)
+    ∷ Lane (Ok 0)
+    ∷ Lane (Ok 2)
+    ∷ Lane (Err 3)
+    ∷ Replied (Err 1)
     ∷ [])
     (0 ∷ 51 ∷ 9 ∷ 999_999_999 ∷ 0 ∷ 7 ∷ [])
     ≡ bytes "(full)\n(yes)\n(no)\n(unread)\n(lane)\n(lane 0000000051 9999999999)\n(refused 3)\n(refused 1)\n"

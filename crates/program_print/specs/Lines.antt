@@ -1,9 +1,9 @@
 -- The lines that the belt run prints, as bytes, each with its line feed.
 use Rattle.std.specs.Prelude.{List, ◌++◌, ℕ}
-use Rattle.machine.specs.declared.Reply.{Reply}
-use Rattle.machine.specs.declared.Reply.TheVariants as Replies
-use Rattle.machine.specs.declared.Answer.{Answer}
-use Rattle.machine.specs.declared.Answer.TheVariants as Answers
+use Rattle.machine.specs.Outcomes.Reply.{Reply}
+use Rattle.machine.specs.Outcomes.Reply as Replies
+use Rattle.machine.specs.Outcomes.Answer.{Answer}
+use Rattle.machine.specs.Outcomes.Answer as Answers
 use Rattle.text.specs.Text.{bytes}
 use Rattle.text.specs.Numerals.{decimal, tag_text, spaced}
 

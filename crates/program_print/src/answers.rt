@@ -1,53 +1,56 @@
-// The answers of the calls as lines of text, put at a place of a buffer; the place after the line is given back.
-ghost use Rattle.std.specs.Prelude.{◌+◌, ◌*◌, ◌≤◌, length};
-ghost use Rattle.text.specs.Writing.{Written};
+// The answers of the calls as lines of text.
+ghost use Rattle.std.specs.Prelude.{◌≡◌, ◌+◌, ◌*◌, ◌≤◌, length};
+ghost use Rattle.text.specs.Writing.{Writes};
 ghost use Rattle.program_print.specs.Lines.{reply_text, answer_text};
-ghost use Rattle.program_print.specs.Outcomes.{reading_text, reading_count};
+ghost use Rattle.program_print.specs.Outcomes.{replied, answered, reading_in, reading_text, reading_count};
 ghost use Rattle.program_print.specs.Room.{short_room, room_for};
 
 use crate::lines::{put_bag, put_lane, put_refused};
-use machine::{Answer, Reading, Reply};
-use text::put;
+use machine::answer::Answer;
+use text::Writer;
 
 // What start and begin answer.
-pub fn print_reply(reply: Reply, out: &mut [u8], at: usize) -> usize
-    requires { at + short_room ≤ length out.old }
-    ensures written { Written out.old at (reply_text reply) out.new result }
-    ensures upper_bound { result ≤ at + short_room }
+pub fn print_reply(reply: Result<(), u32>, writer: &mut Writer)
+    requires { writer.old.at + short_room ≤ length writer.old.out.now }
+    ensures written { Writes writer.old (reply_text (replied reply)) writer.new }
+    ensures same_buffer { writer.new.out.ghost_name ≡ writer.old.out.ghost_name }
+    ensures upper_bound { writer.new.at ≤ writer.old.at + short_room }
 {
     match reply {
-        Reply::Accepted => put(out, at, b"(ok)\n"),
-        Reply::Refused(n) => put_refused(out, at, n),
+        Ok(()) => writer.put(b"(ok)\n"),
+        Err(n) => put_refused(writer, n),
     }
 }
 
 // What a tick answers.
-pub fn print_answer(answer: Answer, out: &mut [u8], at: usize) -> usize
-    requires { at + short_room ≤ length out.old }
-    ensures written { Written out.old at (answer_text answer) out.new result }
-    ensures upper_bound { result ≤ at + short_room }
+pub fn print_answer(ticked: Result<Answer, u32>, writer: &mut Writer)
+    requires { writer.old.at + short_room ≤ length writer.old.out.now }
+    ensures written { Writes writer.old (answer_text (answered ticked)) writer.new }
+    ensures same_buffer { writer.new.out.ghost_name ≡ writer.old.out.ghost_name }
+    ensures upper_bound { writer.new.at ≤ writer.old.at + short_room }
 {
-    match answer {
-        Answer::Going => put(out, at, b"(going)\n"),
-        Answer::Pushed => put(out, at, b"(pushed)\n"),
-        Answer::Bag(tag) => put_bag(out, at, tag),
-        Answer::Empty => put(out, at, b"(empty)\n"),
-        Answer::Full => put(out, at, b"(full)\n"),
-        Answer::Yes => put(out, at, b"(yes)\n"),
-        Answer::No => put(out, at, b"(no)\n"),
-        Answer::Refused(n) => put_refused(out, at, n),
+    match ticked {
+        Ok(Answer::Going) => writer.put(b"(going)\n"),
+        Ok(Answer::Pushed) => writer.put(b"(pushed)\n"),
+        Ok(Answer::Bag(tag)) => put_bag(writer, tag),
+        Ok(Answer::Empty) => writer.put(b"(empty)\n"),
+        Ok(Answer::Full) => writer.put(b"(full)\n"),
+        Ok(Answer::Yes) => writer.put(b"(yes)\n"),
+        Ok(Answer::No) => writer.put(b"(no)\n"),
+        Err(n) => put_refused(writer, n),
     }
 }
 
 // What reading a lane answers. The tags that it counted are the first of those in the words.
-pub fn print_reading(reading: Reading, words: &[u32], out: &mut [u8], at: usize) -> usize
-    requires reading_in_bounds { 2 * reading_count reading ≤ length words.now }
-    requires room { at + room_for (reading_count reading) ≤ length out.old }
-    ensures written { Written out.old at (reading_text reading words.now) out.new result }
-    ensures upper_bound { result ≤ at + room_for (reading_count reading) }
+pub fn print_reading(read: Result<u32, u32>, words: &[u32], writer: &mut Writer)
+    requires reading_in_bounds { 2 * reading_count (reading_in read) ≤ length words.now }
+    requires room { writer.old.at + room_for (reading_count (reading_in read)) ≤ length writer.old.out.now }
+    ensures written { Writes writer.old (reading_text (reading_in read) words.now) writer.new }
+    ensures same_buffer { writer.new.out.ghost_name ≡ writer.old.out.ghost_name }
+    ensures upper_bound { writer.new.at ≤ writer.old.at + room_for (reading_count (reading_in read)) }
 {
-    match reading {
-        Reading::Count(n) => put_lane(out, at, words, n as usize),
-        Reading::Refused(n) => put_refused(out, at, n),
+    match read {
+        Ok(bags) => put_lane(writer, &words[..2 * (bags as usize)]),
+        Err(n) => put_refused(writer, n),
     }
 }

@@ -6,7 +6,7 @@ use Prim.Native.Nat.{ℕ}
 use lib.Dec.{eqb}
 use Rattle.text.specs.Lines.{line_feed, in_front, lines_of}
 use Rattle.text_scan.specs.Scanned.{scan_bytes}
-use Rattle.program_command.specs.declared.Command.{Command}
+use Rattle.program_command.specs.Said.{Command}
 use Rattle.program_command.specs.Commands.{command_of, command_read}
 use Rattle.program_answer.specs.Run.{printed, belt_run}
 use Rattle.program_stream.specs.Session.{

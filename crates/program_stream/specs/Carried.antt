@@ -1,13 +1,20 @@
 -- What the lent words, and what is carried beside them, hold of a session, and what a call makes of it.
 use Rattle.std.specs.Prelude.{◌≡◌, Bool, true, false, List, ◌++◌, ℕ, ◌≤◌, ◌<◌, length, take, drop}
 use Rattle.text.specs.Writing.{Written}
-use Rattle.text_scan.specs.Kept.{Kept, kept_of, kept_at_first, keep_byte, ScanKept, Represents}
+use Rattle.text_scan.specs.Kept.{Scan, Kept, kept_of, kept_at_first, keep_byte, ScanKept, Represents}
 use Rattle.program_command.specs.KeptCommand.{kept_command}
 use Rattle.program_print.specs.Room.{room_for}
 use Rattle.program_answer.specs.Run.{answer}
 use Rattle.program_answer.specs.Space.{largest_table, most_bags}
 use Rattle.program_stream.specs.Session.{Step, Service, State}
-use Rattle.program_stream.specs.declared.Carried.{Carried}
+use Rattle.program_stream.specs.declared.Session.{Session}
+
+-- What is carried from chunk to chunk beside the lent words: how many words of the space are the table, the scan of the
+-- line so far, and whether that line has a byte.
+pub record Carried : Type 0 where
+  pub len : ℕ
+  pub scan : Scan
+  pub begun : Bool
 
 -- What is lent to a call to hold a session, with what is carried beside it.
 pub record Loan : Type 0 where
@@ -27,6 +34,10 @@ line_of l = kept_of l.text l.numbers l.carried.scan
 abbrev pub loan_with : (space : List ℕ) (len : ℕ) → Kept → (begun : Bool) → Loan
 loan_with space len k begun =
     loan_of space k.text k.numbers (record { len = len; scan = k.scan; begun = begun })
+
+-- What the code's session holds.
+abbrev pub loan : Session → Loan
+loan s = loan_with s.space.words.now s.space.len s.line s.begun
 
 -- ---- A session over the lent words: every one of them after a line that ends, and after a byte.
 

@@ -1,13 +1,13 @@
 // A session of the belt run: its input comes in chunks, cut anywhere, and each line is answered where it ends.
 #![tactic(auto)]
 
-ghost use Rattle.std.specs.Prelude.{◌≡◌, ◌||◌, List, ℕ, ◌+◌, ◌≤◌, ltb, length};
+ghost use Rattle.std.specs.Prelude.{◌≡◌, ◌+◌, ◌≤◌, length};
 ghost use Rattle.std.proofs.Math.Seq.{slice};
-ghost use Rattle.text_scan.specs.Kept.{text_places};
+ghost use Rattle.text_scan.specs.Kept.{no_text};
 ghost use Rattle.program_answer.specs.Space.{largest_table};
 ghost use Rattle.program_stream.specs.Session.{take_bytes, end_input, at_first, meant};
 ghost use Rattle.program_stream.specs.Carried.{
-  loan_of,
+  loan,
   end_line_in,
   lent,
   lent_at_first,
@@ -19,207 +19,121 @@ ghost use Rattle.program_stream.specs.Carried.{
   Onward,
 };
 
-use program_answer::{Bags, answer};
+use program_answer::{Bags, Space, answer};
 use program_command::scanned_command;
 use program_print::print;
-use text_scan::{Numbers, Scan, Text, scan_line, start};
+use text::Writer;
+use text_scan::Line;
 
 // The most bytes that one line prints: a lane of 1,024 bags.
 pub const LINE_ROOM: usize = 11_285;
 
-// What is carried from chunk to chunk beside the lent words: how many words of the space are the table, the scan of the
-// line so far, and whether that line has a byte.
-#[derive(Clone, Copy)]
-pub struct Carried {
-    pub len: usize,
-    pub scan: Scan,
+// A session, from chunk to chunk: the space of words that it is lent, with its table; places for the bags of a lane,
+// which are scratch; the line so far, and whether it has a byte.
+// Kept: that it is in order is a clause, `InOrder`, and no fact of the type, since a session begins (`new`) whatever the
+// length of its space.
+#[derive(Drop)]
+pub struct Session<'a> {
+    pub space: Space<'a>,
+    pub bags: &'a mut Bags,
+    pub line: Line,
     pub begun: bool,
 }
 
-// What the end of a line leaves: what is carried, and the place after the answer.
-#[derive(Clone, Copy)]
-pub struct Ended {
-    pub carried: Carried,
-    pub at: usize,
-}
-
-// What a call leaves: the place of the chunk after the bytes taken, what is carried, and the place after what is
-// printed.
+// How far a chunk is served: the place after the bytes taken, and the place after what is printed.
 #[derive(Clone, Copy)]
 pub struct Served {
     pub from: usize,
-    pub carried: Carried,
     pub at: usize,
 }
 
-// The start of a session: no table, and no line.
-pub fn begin_session(numbers: &mut Numbers) -> Carried
-    ensures fresh { (space text : List ℕ) → loan_of space text numbers.new result ≡ lent_at_first space text }
-    ensures in_order { (space text : List ℕ) → largest_table ≤ length space → length text ≡ text_places
-        → InOrder (loan_of space text numbers.new result) }
-    ensures holds { (space text : List ℕ) → Holds (loan_of space text numbers.new result) at_first }
-{
-    let scan = start(numbers);
-    Carried {
-        len: 0,
-        scan,
-        begun: false,
-    }
-}
-
-// Answers the line so far, at a place of the output. The bags are scratch: what stands there is of no account.
-fn end_line(
-    space: &mut [u32],
-    bags: &mut Bags,
-    text: &Text,
-    numbers: &mut Numbers,
-    carried: Carried,
-    out: &mut [u8],
-    at: usize,
-) -> Ended
-    requires in_order { InOrder (loan_of space.old text.now numbers.old carried) }
-    requires line_room_in_bounds { at + line_room ≤ length out.old }
-    ensures serves { Serves end_line_in
-        (loan_of space.old text.now numbers.old carried)
-        (loan_of space.new text.now numbers.new result.carried)
-        out.old at out.new result.at }
-    ensures at_bound { result.at ≤ at + line_room }
-{
-    let scan = carried.scan;
-    let len = carried.len;
-    let command = scanned_command(text, numbers, scan);
-    let done = answer(command, space, len, bags);
-    let outcome = done.outcome;
-    let next = print(outcome, bags, out, at);
-    let fresh = start(numbers);
-    let left = Carried {
-        len: done.len,
-        scan: fresh,
-        begun: false,
-    };
-    Ended {
-        carried: left,
-        at: next,
-    }
-}
-
-// Whether a line has a byte once it is scanned from one place to another.
-fn has_byte(begun: bool, from: usize, to: usize) -> bool
-    ensures { result ≡ begun || ltb from to }
-{
-    if begun {
-        return true;
-    }
-    from < to
-}
-
-// Takes bytes of a chunk from a place on, up to and with the first line feed, and answers the line that ends there.
-fn serve(
-    chunk: &[u8],
-    from: usize,
-    space: &mut [u32],
-    bags: &mut Bags,
-    text: &mut Text,
-    numbers: &mut Numbers,
-    carried: Carried,
-    out: &mut [u8],
-    at: usize,
-) -> Served
-    requires from_in_bounds { from ≤ length chunk.now }
-    requires in_order { InOrder (loan_of space.old text.old numbers.old carried) }
-    requires line_room_in_bounds { at + line_room ≤ length out.old }
-    ensures onward { Onward chunk.now from result.from }
-    ensures serves { Serves (take_bytes lent (slice from result.from chunk.now))
-        (loan_of space.old text.old numbers.old carried)
-        (loan_of space.new text.new numbers.new result.carried)
-        out.old at out.new result.at }
-    ensures at_bound { result.at ≤ at + line_room }
-{
-    let scan = carried.scan;
-    let stop = scan_line(chunk, from, text, numbers, scan);
-    let to = stop.at;
-    let begun = has_byte(carried.begun, from, to);
-    let len = carried.len;
-    let scan = stop.scan;
-    let carried = Carried { len, scan, begun };
-    if to < chunk.len() {
-        let ended = end_line(space, bags, text, numbers, carried, out, at);
-        let from = to + 1;
-        let carried = ended.carried;
-        let at = ended.at;
-        return Served { from, carried, at };
-    }
-    Served {
-        from: to,
-        carried,
-        at,
-    }
-}
-
-// Takes bytes of a chunk from a place on, line by line, until the chunk ends or the output has no room for a line more.
-pub fn serve_lines(
-    chunk: &[u8],
-    start: usize,
-    space: &mut [u32],
-    bags: &mut Bags,
-    text: &mut Text,
-    numbers: &mut Numbers,
-    carried: Carried,
-    out: &mut [u8],
-) -> Served
-    requires start_in_bounds { start ≤ length chunk.now }
-    requires in_order { InOrder (loan_of space.old text.old numbers.old carried) }
-    requires line_room_in_bounds { line_room ≤ length out.old }
-    ensures onward { Onward chunk.now start result.from }
-    ensures serves { Serves (take_bytes lent (slice start result.from chunk.now))
-        (loan_of space.old text.old numbers.old carried)
-        (loan_of space.new text.new numbers.new result.carried)
-        out.old 0 out.new result.at }
-    ensures makes { Makes (take_bytes meant (slice start result.from chunk.now))
-        (loan_of space.old text.old numbers.old carried)
-        (loan_of space.new text.new numbers.new result.carried)
-        out.old 0 out.new result.at }
-    ensures at_in_bounds { result.at ≤ length out.new }
-{
-    let mut from = start;
-    let mut carried = carried;
-    let mut at = 0;
-    while from < chunk.len() {
-        if out.len() < at + LINE_ROOM {
-            return Served { from, carried, at };
+impl<'a> Session<'a> {
+    // The start of a session: no table, and no line. What stands in the places for the bags is of no account.
+    pub fn new(words: &'a mut [u32], bags: &'a mut Bags) -> Session<'a>
+        ensures same_space { result.space.words.ghost_name ≡ words.entry.ghost_name }
+        ensures fresh { loan result ≡ lent_at_first words.old no_text }
+        ensures in_order { largest_table ≤ length words.old → InOrder (loan result) }
+        ensures holds { Holds (loan result) at_first }
+    {
+        Session {
+            space: Space { words, len: 0 },
+            bags,
+            line: Line::new(),
+            begun: false,
         }
-        let served = serve(chunk, from, space, bags, text, numbers, carried, out, at);
-        from = served.from;
-        carried = served.carried;
-        at = served.at;
     }
-    Served { from, carried, at }
-}
 
-// The end of the input: a line that has a byte ends there.
-pub fn finish(
-    space: &mut [u32],
-    bags: &mut Bags,
-    text: &Text,
-    numbers: &mut Numbers,
-    carried: Carried,
-    out: &mut [u8],
-) -> Ended
-    requires in_order { InOrder (loan_of space.old text.now numbers.old carried) }
-    requires line_room_in_bounds { line_room ≤ length out.old }
-    ensures serves { Serves (end_input lent)
-        (loan_of space.old text.now numbers.old carried)
-        (loan_of space.new text.now numbers.new result.carried)
-        out.old 0 out.new result.at }
-    ensures makes { Makes (end_input meant)
-        (loan_of space.old text.now numbers.old carried)
-        (loan_of space.new text.now numbers.new result.carried)
-        out.old 0 out.new result.at }
-    ensures at_in_bounds { result.at ≤ length out.new }
-{
-    let begun = carried.begun;
-    if begun {
-        return end_line(space, bags, text, numbers, carried, out, 0);
+    // Answers the line so far, at a place of the output, and begins the next. Answers the place after what is printed.
+    fn end_line(&mut self, out: &mut [u8], at: usize) -> usize
+        requires in_order { InOrder (loan self.old) }
+        requires line_room_in_bounds { at + line_room ≤ length out.old }
+        ensures same_space { self.new.space.words.ghost_name ≡ self.old.space.words.ghost_name }
+        ensures serves { Serves end_line_in (loan self.old) (loan self.new) out.old at out.new result }
+        ensures at_bound { result ≤ at + line_room }
+    {
+        let command = scanned_command(&self.line);
+        let outcome = answer(command, &mut self.space, self.bags);
+        self.line.clear();
+        self.begun = false;
+        let mut writer = Writer { out, at };
+        print(outcome, self.bags, &mut writer);
+        writer.at
     }
-    Ended { carried, at: 0 }
+
+    // Takes bytes of a chunk from a place on, up to and with the first line feed, and answers the line that ends there.
+    fn serve(&mut self, chunk: &[u8], from: usize, out: &mut [u8], at: usize) -> Served
+        requires from_in_bounds { from ≤ length chunk.now }
+        requires in_order { InOrder (loan self.old) }
+        requires line_room_in_bounds { at + line_room ≤ length out.old }
+        ensures same_space { self.new.space.words.ghost_name ≡ self.old.space.words.ghost_name }
+        ensures onward { Onward chunk.now from result.from }
+        ensures serves { Serves (take_bytes lent (slice from result.from chunk.now))
+            (loan self.old) (loan self.new) out.old at out.new result.at }
+        ensures at_bound { result.at ≤ at + line_room }
+    {
+        let to = self.line.scan_line(chunk, from);
+        self.begun |= from < to;
+        if to < chunk.len() {
+            let at = self.end_line(out, at);
+            return Served { from: to + 1, at };
+        }
+        Served { from: to, at }
+    }
+
+    // Takes bytes of a chunk from a place on, line by line, until the chunk ends or the output has no room for a line
+    // more. A `while`: how far a turn goes is known only when its line is answered.
+    pub fn serve_lines(&mut self, chunk: &[u8], start: usize, out: &mut [u8]) -> Served
+        requires start_in_bounds { start ≤ length chunk.now }
+        requires in_order { InOrder (loan self.old) }
+        requires line_room_in_bounds { line_room ≤ length out.old }
+        ensures same_space { self.new.space.words.ghost_name ≡ self.old.space.words.ghost_name }
+        ensures onward { Onward chunk.now start result.from }
+        ensures serves { Serves (take_bytes lent (slice start result.from chunk.now))
+            (loan self.old) (loan self.new) out.old 0 out.new result.at }
+        ensures makes { Makes (take_bytes meant (slice start result.from chunk.now))
+            (loan self.old) (loan self.new) out.old 0 out.new result.at }
+        ensures at_in_bounds { result.at ≤ length out.new }
+    {
+        let mut from = start;
+        let mut at = 0;
+        while from < chunk.len() && at + LINE_ROOM <= out.len() {
+            Served { from, at } = self.serve(chunk, from, out, at);
+        }
+        Served { from, at }
+    }
+
+    // The end of the input: a line that has a byte ends there. Answers the place after what is printed.
+    pub fn finish(&mut self, out: &mut [u8]) -> usize
+        requires in_order { InOrder (loan self.old) }
+        requires line_room_in_bounds { line_room ≤ length out.old }
+        ensures same_space { self.new.space.words.ghost_name ≡ self.old.space.words.ghost_name }
+        ensures serves { Serves (end_input lent) (loan self.old) (loan self.new) out.old 0 out.new result }
+        ensures makes { Makes (end_input meant) (loan self.old) (loan self.new) out.old 0 out.new result }
+        ensures at_in_bounds { result ≤ length out.new }
+    {
+        if self.begun {
+            return self.end_line(out, 0);
+        }
+        0
+    }
 }

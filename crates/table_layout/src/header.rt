@@ -1,5 +1,7 @@
 // The header of a table, word by word. Only this file and the definitions of tables say where in a header a word
 // stands.
+// Kept: a function for each word, named as its definition is. One reader of any place would have the crates above name
+// places.
 ghost use Rattle.std.specs.Prelude.{◌≡◌, ◌<◌};
 ghost use Rattle.std.proofs.lemmas.List.Edits.{sets};
 ghost use Rattle.machine.specs.Sides.{side_of};
@@ -159,14 +161,7 @@ pub fn write(
     table[LANE_COUNT] = lanes;
     table[TICK_COUNT] = 0;
     table[DISPATCHED] = last;
-    table[HATS] = hats[0];
-    table[HATS + 1] = hats[1];
-    table[HATS + 2] = hats[2];
-    table[HATS + 3] = hats[3];
-    table[HATS + 4] = hats[4];
-    table[HATS + 5] = hats[5];
-    table[HATS + 6] = hats[6];
-    table[HATS + 7] = hats[7];
+    table[HATS..WORD_14].copy_from_slice(hats);
     table[WORD_14] = 0;
     table[WORD_15] = 0;
 }

@@ -1,4 +1,6 @@
 // The operations by their numbers: whether there is one, what each takes as its argument, and its goal.
+// Kept: an operation is its number, as it stands in the words of the table and in the calls (the C interface); the test
+// of a table meets numbers of no operation too.
 ghost use Rattle.std.specs.Prelude.{◌≡◌, true};
 ghost use Rattle.machine.specs.Values.{number};
 ghost use Rattle.machine.specs.Operations.{operation_of, argument_ok, goal_of};

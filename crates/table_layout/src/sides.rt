@@ -1,4 +1,6 @@
 // The two sides by their numbers.
+// Kept: a side is its number, 0 or 1, as the words of the table and the calls have it (the C interface), so that a link
+// or a hat is read at a place plus the side, without a choice.
 ghost use Rattle.std.specs.Prelude.{◌≡◌, ◌<◌};
 ghost use Rattle.machine.specs.Sides.{side_number, side_of, opposite};
 

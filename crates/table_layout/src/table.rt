@@ -36,7 +36,8 @@ pub fn set_task(table: &mut [u32], k: u32, new: Task)
     new.write(&mut table[at..at + RECORD_WORDS]);
 }
 
-// The same, where the record goes on with the call that stands there: fewer words are written.
+// The same, where the record goes on with the call that stands there. Kept beside the one above, since a tick that goes
+// on writes fewer words so.
 pub fn set_further(table: &mut [u32], k: u32, new: Task)
     requires holds_record { HoldsRecord table.old k }
     requires same_call { SameCall (struct_of (record_words table.old k)) new }

@@ -1,5 +1,5 @@
 -- What the proofs of the search share.
 
+pub mod Arrays
 pub mod Marked
-pub mod Padded
 pub mod Searched

@@ -1,4 +1,6 @@
 // Which tables are accepted: the tests of refusals 3 and 4, for a slice of any words.
+// Kept: that a table is accepted stands in clauses, `WellFormed` and `length_ok`, and in no type: a tick writes the words
+// lent to it one after another, and a struct that holds a `&mut` would have to keep it between any two of them.
 #![tactic(auto)]
 
 pub mod records;
@@ -20,10 +22,11 @@ ghost use Rattle.machine.specs.Calls.{table_refusal};
 ghost use Rattle.machine.specs.Lent.{lent_to};
 ghost use Rattle.table_layout.specs.Words.{HoldsHeader};
 ghost use Rattle.table_record.specs.Coded.{struct_of, record_of};
-ghost use Rattle.answers.specs.Refusals.{number_of};
+ghost use Rattle.machine.specs.Results.{refusal_in};
 ghost use Rattle.table_shape.specs.Promised.{first_ok, hats_ok, fits_in, nth_ok, task_ok, all_from};
 ghost use Rattle.table_steps.specs.Owners.{OwnersOk};
 
+use machine::refusal::Refusal;
 use table_layout::places::{LEAST_LENGTH, NODE_WORDS, RECORD_WORDS, node_at, table_length};
 use table_layout::{header, nodes};
 use table_record::Task;
@@ -82,12 +85,10 @@ fn all_hats_ok(table: &[u32]) -> bool
     requires { HoldsHeader table.now }
     ensures { result ≡ all_below most_lanes (hats_ok table.now) }
 {
-    let mut l = 0;
-    while l < 4 {
+    for l in 0..4 {
         if !hats_ok(table, l) {
             return false;
         }
-        l += 1;
     }
     true
 }
@@ -124,11 +125,9 @@ fn nodes_ok(table: &[u32]) -> bool
     let first = node_at(0);
     let mut rest = &table[first..];
     let mut ok = true;
-    let mut x = 0;
-    while x < n {
+    for _ in 0..n {
         ok = ok & node_ok(rest, n);
         rest = &rest[NODE_WORDS..];
-        x += 1;
     }
     ok
 }
@@ -174,12 +173,10 @@ fn range_ok(table: &[u32], words: &[u32], first: usize, owners: &Owners, from: u
     requires from_le_to { (from ≤ to) × (first + record_length * to ≤ length words.now) }
     ensures { result ≡ all_from from to (nth_ok table.now words.now first) }
 {
-    let mut k = from;
-    while k < to {
+    for k in from..to {
         if !nth_ok(table, words, first, owners, k) {
             return false;
         }
-        k += 1;
     }
     true
 }
@@ -202,17 +199,17 @@ pub fn shape_ok(table: &[u32]) -> bool
     header_ok(table) && nodes_ok(table) && tasks_ok(table)
 }
 
-// The refusal of a table, in the order of 01's list, or 0 for a table that is accepted.
-pub fn table_refusal(table: &[u32]) -> u32
-    ensures { result ≡ number_of (table_refusal table.now none) }
+// Whether a table is accepted, or why it is refused, in the order of 01's list.
+pub fn table_refusal(table: &[u32]) -> Result<(), Refusal>
+    ensures { refusal_in result ≡ table_refusal table.now none }
 {
     if !length_ok(table) {
-        return 3;
+        return Err(Refusal::Table);
     }
     if !shape_ok(table) {
-        return 4;
+        return Err(Refusal::Shape);
     }
-    0
+    Ok(())
 }
 
 // 02 (2026-14): the record of every task where own stands for that of task k. A number that is no task has no place
@@ -248,15 +245,16 @@ fn lent_shape_ok(table: &[u32], k: u32, own: Task) -> bool
     header_ok(table) && nodes_ok(table) && lent_tasks_ok(table, k, own)
 }
 
-// Its refusal, or 0.
-pub fn lent_refusal(table: &[u32], k: u32, own: Task) -> u32
-    ensures { result ≡ number_of (table_refusal (lent_to table.now k (record_of own)) none) }
+// Whether that table is accepted, or why it is refused. Kept beside `table_refusal`: two tests each, of other words, and
+// a closure for the second would have the first's result in its `requires`.
+pub fn lent_refusal(table: &[u32], k: u32, own: Task) -> Result<(), Refusal>
+    ensures { refusal_in result ≡ table_refusal (lent_to table.now k (record_of own)) none }
 {
     if !length_ok(table) {
-        return 3;
+        return Err(Refusal::Table);
     }
     if !lent_shape_ok(table, k, own) {
-        return 4;
+        return Err(Refusal::Shape);
     }
-    0
+    Ok(())
 }

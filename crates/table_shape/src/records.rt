@@ -1,4 +1,4 @@
-// The test of a task's record, word by word.
+// The test of a task's record, word by word. Kept: the sizes are given one by one, since each test takes others of them.
 ghost use Rattle.std.specs.Prelude.{◌≡◌, ◌&&◌, ◌≤◌, ◌<◌, ltb, get_or};
 ghost use Rattle.machine.specs.Sides.{side_of};
 ghost use Rattle.machine.specs.Shape.{
@@ -16,6 +16,7 @@ use table_layout::operations::{argument_ok, goal_of, is_idle};
 use table_layout::sides::opposite;
 use table_record::Task;
 use table_steps::owners::{Owners, is_step_of};
+use table_values::Mark;
 
 // 01: a slot number below S, or 65,535 for none.
 pub fn node_or_none(slots: u32, x: u32) -> bool
@@ -30,8 +31,7 @@ fn end_mark_ok(side: u32, v: Stored) -> bool
     ensures { result ≡ value_read_ok (side_of side) 48 v }
 {
     let far = opposite(side);
-    table_values::equal(v, table_values::n_of(far))
-        || table_values::equal(v, table_values::x_of(far))
+    v == Mark::N.of(far) || v == Mark::X.of(far)
 }
 
 // 01: counted is 0 at step 54, below the goal at steps 31, 56, 58 and at most the goal elsewhere; value read is as V

@@ -5,6 +5,8 @@ ghost use Rattle.machine.specs.Tasks.{Register};
 ghost use Rattle.machine.specs.Registers.{holds};
 ghost use Rattle.table_steps.specs.Bits.{is_in, Exact};
 
+use crate::by_step::{ByStep, set_at};
+
 // The bit of each register in an entry of the table.
 const NOTHING: u8 = 0;
 
@@ -16,7 +18,7 @@ pub const C: u8 = 4;
 
 pub const D: u8 = 8;
 
-pub type Held = [u8; 83];
+pub type Held = ByStep;
 
 // By the step's number: the bits of the registers that hold there.
 const HELD: Held = [
@@ -117,9 +119,5 @@ pub fn entry(held: &Held, step: u32) -> u8
     requires { Exact held.now }
     ensures { (r : Register) → is_in result r ≡ holds (step_of step) r }
 {
-    let i = step as usize;
-    if i >= held.len() {
-        return NOTHING;
-    }
-    held[i]
+    set_at(held, step)
 }

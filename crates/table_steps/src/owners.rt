@@ -2,7 +2,9 @@
 ghost use Rattle.std.specs.Prelude.{◌≡◌, ◌≤◌};
 ghost use Rattle.machine.specs.Operations.{operation_of};
 ghost use Rattle.machine.specs.Steps.{steps_of, is_step_in};
-ghost use Rattle.table_steps.specs.Owners.{OwnerOk, OwnersOk};
+ghost use Rattle.table_steps.specs.Owners.{OwnersOk};
+
+use crate::by_step::{ByStep, set_at};
 
 // The bit of each operation in an entry of the table: two to the power of the operation's number.
 const NO_CALL: u8 = 0;
@@ -15,7 +17,7 @@ const ADD: u8 = 8;
 
 const REMOVE: u8 = 16;
 
-pub type Owners = [u8; 83];
+pub type Owners = ByStep;
 
 // 01's list, by the step's number: the bits of the operations that have the step. 01: push 2, 3, 5, 8 and every add
 // step.
@@ -112,24 +114,12 @@ pub fn owners() -> Owners
     OWNER
 }
 
-// The bits of the operations that have a step; no step is past the table's end.
-fn owner(owners: &Owners, step: u32) -> u8
-    requires { OwnersOk owners.now }
-    ensures { OwnerOk step result }
-{
-    let i = step as usize;
-    if i >= owners.len() {
-        return NO_CALL;
-    }
-    owners[i]
-}
-
 // One bit tells, so that the test of a record makes one choice here.
 pub fn is_step_of(owners: &Owners, operation: u32, step: u32) -> bool
     requires owners_ok { OwnersOk owners.now }
     requires le_operation { (1 ≤ operation) × (operation ≤ 4) }
     ensures { result ≡ is_step_in (steps_of (operation_of operation)) step }
 {
-    let o = owner(owners, step) as u32;
-    (o >> operation) % 2 == 1
+    let set = set_at(owners, step) as u32;
+    (set >> operation) % 2 == 1
 }

@@ -1,16 +1,14 @@
 // A value as the table holds it: its tests, the marks of a side and their mirrors.
+// Kept: that two words are a value stands in clauses, and in no type: they are read from a table that was tested whole,
+// where a type of tested words would be made anew at each read.
 #![tactic(auto)]
 
 ghost use Rattle.std.specs.Prelude.{◌≡◌, true, ◌+◌, ◌≤◌, length};
 ghost use Rattle.std.proofs.lemmas.List.Edits.{sets};
 ghost use Rattle.tag.specs.Tags.{digit_of, low_of, tag_words};
-ghost use Rattle.machine.specs.Sides.{side_of};
+ghost use Rattle.machine.specs.Sides.{right, side_of};
 ghost use Rattle.machine.specs.Values.{
-  N,
-  X,
-  Y,
   never,
-  same_stored,
   stored_of,
   number,
   encode,
@@ -19,21 +17,22 @@ ghost use Rattle.machine.specs.Values.{
   bag_ok,
   value_ok,
 };
-ghost use Rattle.table_values.specs.Tests.{is_same, mark_of};
+ghost use Rattle.table_values.specs.Tests.{is_same, marked};
 
 use machine::Stored;
 
 // 02: the mirror of a mark is 3 higher or lower.
 const MIRROR_STEP: u32 = 3;
 
-// The words of an argument, or of a tag, as a caller gives them: the digit first.
+// The words of an argument, or of a tag, as a caller gives them: the digit first. Kept as a function: a `From` of two
+// numbers would not say which is the digit.
 pub fn of_words(digit: u32, low: u32) -> Stored
     ensures { result ≡ stored_of digit low }
 {
     Stored { word: low, digit }
 }
 
-// The words of a node that was never used.
+// The words of a node that was never used. Kept in place of `Default`, which would say zeros and not what they mean.
 pub fn never() -> Stored
     ensures { result ≡ encode never }
 {
@@ -63,7 +62,7 @@ pub fn tag_low(v: Stored) -> u32
     v.word
 }
 
-// 02: two words for a tag, digit first.
+// 02: two words for a tag, digit first. Kept with a place: the slice and its layout are the C caller's.
 pub fn put_tag(out: &mut [u32], at: usize, v: Stored)
     requires { (bag_ok v ≡ true) × (at + 2 ≤ length out.old) }
     ensures { out.new ≡ sets out.old at (tag_words (number v)) }
@@ -90,19 +89,13 @@ pub fn value_ok(v: Stored) -> bool
         | ((Stored::LN <= word) & (word <= Stored::RY) & (digit == 0))
 }
 
-// Whether two have the same words.
-pub fn equal(u: Stored, v: Stored) -> bool
-    ensures { result ≡ same_stored u v }
-{
-    (u.word == v.word) & (u.digit == v.digit)
-}
-
-// Whether two values are the same.
+// Whether two values are the same: their words are.
+#[tactic(auto, using(crate::proofs::Laws::ValueWords::compares))]
 pub fn same(u: Stored, v: Stored) -> bool
     requires { (value_ok u ≡ true) × (value_ok v ≡ true) }
     ensures { result ≡ is_same (decode u) (decode v) }
 {
-    equal(u, v)
+    u == v
 }
 
 // The mirror of a mark: up to LY that mark plus 3, of the others minus 3. Any other value is its own.
@@ -113,63 +106,56 @@ pub fn mirror(v: Stored) -> Stored
 {
     let w = v.word;
     if w < Stored::LN {
-        return v;
-    }
-    if w <= Stored::LY {
-        return Stored {
+        v
+    } else if w <= Stored::LY {
+        Stored {
             word: w + MIRROR_STEP,
             digit: 0,
+        }
+    } else {
+        Stored {
+            word: w - MIRROR_STEP,
+            digit: 0,
+        }
+    }
+}
+
+// 01's marks by their letters.
+#[derive(Clone, Copy)]
+pub enum Mark {
+    N,
+    X,
+    Y,
+}
+
+impl Mark {
+    // The right side's.
+    fn of_right(self) -> Stored
+        ensures { result ≡ encode (marked self right) }
+    {
+        let word = match self {
+            Mark::N => Stored::RN,
+            Mark::X => Stored::RX,
+            Mark::Y => Stored::RY,
         };
+        Stored { word, digit: 0 }
     }
-    Stored {
-        word: w - MIRROR_STEP,
-        digit: 0,
+
+    // The mark of a side: the left one's is the mirror of the right one's.
+    #[tactic(auto, using(crate::proofs::Laws::ValueWords::marks))]
+    pub fn of(self, side: u32) -> Stored
+        ensures { result ≡ encode (marked self (side_of side)) }
+    {
+        let right = self.of_right();
+        if side == 0 { mirror(right) } else { right }
     }
-}
 
-// The mark of a side, of which the right one is given: 01's left side has the mirror.
-fn of_side(v: Stored, side: u32) -> Stored
-    requires { value_ok v ≡ true }
-    ensures { result ≡ mark_of (side_of side) v }
-{
-    if side == 0 {
-        return mirror(v);
+    // Whether a value is the mark of a side.
+    #[tactic(auto, using(crate::proofs::Laws::ValueWords::marks))]
+    pub fn is(self, v: Stored, side: u32) -> bool
+        requires { value_ok v ≡ true }
+        ensures { result ≡ is_same (decode v) (marked self (side_of side)) }
+    {
+        same(v, self.of(side))
     }
-    v
-}
-
-pub fn n_of(side: u32) -> Stored
-    ensures { result ≡ encode (N (side_of side)) }
-{
-    of_side(
-        Stored {
-            word: Stored::RN,
-            digit: 0,
-        },
-        side,
-    )
-}
-
-pub fn x_of(side: u32) -> Stored
-    ensures { result ≡ encode (X (side_of side)) }
-{
-    of_side(
-        Stored {
-            word: Stored::RX,
-            digit: 0,
-        },
-        side,
-    )
-}
-
-pub fn y_of(side: u32) -> Stored
-    ensures { result ≡ encode (Y (side_of side)) }
-{
-    of_side(
-        Stored {
-            word: Stored::RY,
-            digit: 0,
-        },
-        side,
-    )
 }

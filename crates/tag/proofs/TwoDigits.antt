@@ -1,9 +1,8 @@
 -- The ten digits of a tag, each two as a number.
 use mathlib.Core.Path.{◌≡◌, refl, sym, ap, ◌∙◌}
 use mathlib.Core.List.{List, [], ◌∷◌, ◌++◌}
-use Prim.Native.Nat.{ℕ, zero, suc, ◌+◌, ◌*◌, ◌/◌, ◌%◌, ◌≤◌, ◌<◌}
+use Prim.Native.Nat.{ℕ, suc, ◌+◌, ◌*◌, ◌/◌, ◌%◌, ◌<◌}
 use native.Mathlib.Omega.{arith}
-use lib.ListN.{get_or}
 use lib.Seq.{append_snoc}
 use Rattle.tag.specs.Tags.{billion, tag_of, low_of, last_digits, ten_digits}
 use Rattle.tag.proofs.Twofold.{twofold}
@@ -30,14 +29,6 @@ no-digits n = refl
 abbrev twos_of : (tag : ℕ) → List ℕ
 twos_of tag =
     tag / 100_000_000 % 100 ∷ tag / 1_000_000 % 100 ∷ tag / 10_000 % 100 ∷ tag / 100 % 100 ∷ tag % 100 ∷ []
-
-pub twos_small : (tag i : ℕ) → get_or (twos_of tag) i 0 ≤ 99
-twos_small tag zero = omega arith
-twos_small tag (suc zero) = omega arith
-twos_small tag (suc (suc zero)) = omega arith
-twos_small tag (suc (suc (suc zero))) = omega arith
-twos_small tag (suc (suc (suc (suc zero)))) = omega arith
-twos_small tag (suc (suc (suc (suc (suc i))))) = omega arith
 
 pub twos-parted : (tag : ℕ) → parted (twos_of tag) ≡ ten_digits tag
 unfolding twofold

@@ -60,7 +60,7 @@ fn twos(digit: u32, low: u32) -> [u8; 5]
 }
 
 // The tens of a number of two digits, by a product: of products several are made at once, of quotients not.
-fn tens(two: u8) -> u8
+pub fn tens(two: u8) -> u8
     requires { two ≤ 99 }
     ensures { result ≡ two / 10 }
 {
@@ -74,12 +74,10 @@ pub fn digits_of_words(digit: u32, low: u32) -> [u8; 10]
 {
     let twos = twos(digit, low);
     let mut digits = [0u8; 10];
-    let mut i: usize = 0;
-    while i < 5 {
-        let ten = tens(twos[i]);
+    for (i, two) in twos.iter().enumerate() {
+        let ten = tens(*two);
         digits[2 * i] = ten;
-        digits[2 * i + 1] = twos[i] - 10 * ten;
-        i += 1;
+        digits[2 * i + 1] = *two - 10 * ten;
     }
     digits
 }

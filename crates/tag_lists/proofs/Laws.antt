@@ -2,3 +2,4 @@
 
 pub mod Ways
 pub mod Taken
+pub mod Forms

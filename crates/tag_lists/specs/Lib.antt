@@ -1,3 +1,4 @@
 pub mod TagLists
+pub mod Forms
 pub mod RoundTrips
 pub mod Examples

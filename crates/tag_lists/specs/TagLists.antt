@@ -1,9 +1,9 @@
 -- Lists of tags, read from packed decimal and written to it: for every list and out slice, the answer and the out slice
 -- afterwards.
-use Rattle.std.specs.Prelude.{Bool, cond, ◌&&◌, List, [], ◌++◌, ℕ, zero, suc, ◌*◌, ◌/◌, ◌%◌, leb, ltb, eqb, length, take, drop}
+use Rattle.std.specs.Prelude.{Bool, cond, ◌&&◌, List, [], ◌++◌, ℕ, zero, suc, ◌*◌, ◌/◌, ◌%◌, leb, ltb, eqb, length, take, drop, Result, Ok, Err}
 use Rattle.tag_packed.specs.Packed.{is_packed, unpacked, are_tag, packed}
-use Rattle.tag_lists.specs.declared.Listed.{Listed}
-use Rattle.tag_lists.specs.declared.Listed.TheVariants.{Count, BadLength, BadTag, TooShort}
+use Rattle.tag_lists.specs.declared.ListError.{ListError}
+use Rattle.tag_lists.specs.declared.ListError.TheVariants.{Tags, NoTag, TagsOut}
 
 -- ---- Answers.
 
@@ -13,12 +13,23 @@ pub data Answer : Type 0 where
   refused : (number : ℕ) → Answer
   refused_at : (number place : ℕ) → Answer
 
+-- Of a refusal in code: its number, and the place of 18 or 0.
+abbrev pub refusal_number : ListError → ℕ
+refusal_number Tags = 17
+refusal_number (NoTag place) = 18
+refusal_number TagsOut = 19
+
+abbrev pub refused_place : ListError → ℕ
+refused_place Tags = 0
+refused_place (NoTag place) = place
+refused_place TagsOut = 0
+
 -- 02's answer for each of the code's.
-abbrev pub answer_of : Listed → Answer
-answer_of (Count n) = count n
-answer_of BadLength = refused 17
-answer_of (BadTag place) = refused_at 18 place
-answer_of TooShort = refused 19
+abbrev pub answer_of : Result ℕ ListError → Answer
+answer_of (Ok n) = count n
+answer_of (Err Tags) = refused 17
+answer_of (Err (NoTag place)) = refused_at 18 place
+answer_of (Err TagsOut) = refused 19
 
 pub record ListOutcome : Type 0 where
   pub answer : Answer
@@ -84,5 +95,5 @@ abbrev pub write_tags : (words bytes : List ℕ) → ListOutcome
 write_tags words bytes = list_taken writing words bytes
 
 -- What a call in code gives back, with the out slice that it leaves.
-abbrev pub outcome_of : Listed → (out : List ℕ) → ListOutcome
-outcome_of l out = outcome (answer_of l) out
+abbrev pub outcome_of : Result ℕ ListError → (out : List ℕ) → ListOutcome
+outcome_of r out = outcome (answer_of r) out

@@ -1,7 +1,6 @@
 -- What the proofs of one packed tag share.
 
 pub mod Filling
-pub mod Digits
 pub mod Zero
 pub mod Words
 pub mod Halves

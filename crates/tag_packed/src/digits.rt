@@ -2,13 +2,6 @@
 ghost use Rattle.std.specs.Prelude.{◌≡◌, true, ◌+◌, ◌*◌, ◌≤◌};
 ghost use Rattle.tag.specs.Tags.{digit_of, low_of, number_of, are_digits};
 
-// A digit as a word. Of a parameter the range is known, of an array's element it is not.
-fn wide(digit: u8) -> u32
-    ensures { result ≡ digit }
-{
-    digit as u32
-}
-
 // The number of four digits, and how far four bytes of any value reach.
 fn four(a: u8, b: u8, c: u8, d: u8) -> u32
     ensures { (result ≡ a * 1_000 + b * 100 + c * 10 + d) × (result ≤ 283_305) }
@@ -21,7 +14,7 @@ pub fn leading(digits: [u8; 10]) -> u32
     requires { are_digits digits ≡ true }
     ensures { result ≡ digit_of (number_of digits) }
 {
-    wide(digits[0])
+    digits[0] as u32
 }
 
 // The number of the nine digits below.
@@ -31,5 +24,5 @@ pub fn low(digits: [u8; 10]) -> u32
 {
     let upper = four(digits[2], digits[3], digits[4], digits[5]);
     let lower = four(digits[6], digits[7], digits[8], digits[9]);
-    wide(digits[1]) * 100_000_000 + upper * 10_000 + lower
+    (digits[1] as u32) * 100_000_000 + upper * 10_000 + lower
 }

@@ -1,14 +1,14 @@
-// Texts compared; and texts, numbers and rows of tags, put at a place of a buffer.
+// Texts compared; and texts, numbers and rows of tags, written into a lent buffer one after another.
 #![tactic(auto)]
 
-ghost use Rattle.std.specs.Prelude.{◌≡◌, ◌++◌, ◌+◌, ◌*◌, ◌≤◌, length};
+ghost use Rattle.std.specs.Prelude.{◌≡◌, ◌+◌, ◌*◌, ◌/◌, ◌≤◌, length};
 ghost use Rattle.tag.specs.Tags.{tags_in};
-ghost use Rattle.text.specs.Text.{bytes, same};
+ghost use Rattle.text.specs.Text.{same};
 ghost use Rattle.text.specs.Numerals.{decimal, tag_text, spaced};
-ghost use Rattle.text.specs.Writing.{Written};
+ghost use Rattle.text.specs.Writing.{Writes};
 
 // Whether two byte strings are the same. One flag and no branch: of a text whose length it knows the compiler then
-// compares eight bytes at once.
+// compares eight bytes at once. Kept where `==` would say it, since that took twice the time.
 pub fn is_text(text: &[u8], want: &[u8]) -> bool
     ensures { result ≡ same text.now want.now }
 {
@@ -16,72 +16,65 @@ pub fn is_text(text: &[u8], want: &[u8]) -> bool
         return false;
     }
     let mut ok = true;
-    let mut i = 0;
-    while i < want.len() {
-        ok = ok & (text[i] == want[i]);
-        i += 1;
+    for (byte, wanted) in text.iter().zip(want) {
+        ok = ok & (byte == wanted);
     }
     ok
 }
 
-// Puts a text at a place, and answers the place after it.
-pub fn put(out: &mut [u8], at: usize, text: &[u8]) -> usize
-    requires { at + length text.now ≤ length out.old }
-    ensures { Written out.old at text.now out.new result }
-{
-    let mut i = 0;
-    while i < text.len() {
-        out[at + i] = text[i];
-        i += 1;
+// A lent buffer, and the place in it where the next text goes.
+#[derive(Drop)]
+pub struct Writer<'a> {
+    pub out: &'a mut [u8],
+    pub at: usize,
+}
+
+impl<'a> Writer<'a> {
+    // Puts a text.
+    pub fn put(&mut self, text: &[u8])
+        requires { self.old.at + length text.now ≤ length self.old.out.now }
+        ensures written { Writes self.old text.now self.new }
+        ensures same_buffer { self.new.out.ghost_name ≡ self.old.out.ghost_name }
+    {
+        let end = self.at + text.len();
+        self.out[self.at..end].copy_from_slice(text);
+        self.at = end;
     }
-    at + i
-}
 
-// A number.
-pub fn put_number(out: &mut [u8], at: usize, n: u32) -> usize
-    requires { at + 10 ≤ length out.old }
-    ensures { Written out.old at (decimal n) out.new result }
-{
-    let mut digits = [0u8; 20];
-    let k = io::decimal(n as u64, &mut digits);
-    put(out, at, &digits[..k])
-}
-
-// A tag.
-pub fn put_tag(out: &mut [u8], at: usize, tag: u64) -> usize
-    requires { at + 10 ≤ length out.old }
-    ensures { Written out.old at (tag_text tag) out.new result }
-{
-    let digits = tag::digits(tag);
-    let mut i = 0;
-    while i < 10 {
-        out[at + i] = b'0' + digits[i];
-        i += 1;
+    // A number.
+    pub fn put_number(&mut self, n: u32)
+        requires { self.old.at + 10 ≤ length self.old.out.now }
+        ensures written { Writes self.old (decimal n) self.new }
+        ensures same_buffer { self.new.out.ghost_name ≡ self.old.out.ghost_name }
+    {
+        let mut digits = [0u8; 20];
+        let k = io::decimal(n as u64, &mut digits);
+        self.put(&digits[..k]);
     }
-    at + i
-}
 
-// A space and a tag.
-fn put_spaced_tag(out: &mut [u8], at: usize, tag: u64) -> usize
-    requires { at + 11 ≤ length out.old }
-    ensures { Written out.old at (bytes " " ++ tag_text tag) out.new result }
-{
-    let after_space = put(out, at, b" ");
-    put_tag(out, after_space, tag)
-}
-
-// The first n tags of the words, a space before each.
-pub fn put_tags(out: &mut [u8], at: usize, words: &[u32], n: usize) -> usize
-    requires { (2 * n ≤ length words.now) × (at + 11 * n ≤ length out.old) }
-    ensures written { Written out.old at (spaced (tags_in n words.now)) out.new result }
-    ensures upper_bound { result ≤ at + 11 * n }
-{
-    let mut next = at;
-    let mut i = 0;
-    while i < n {
-        let tag = tag::number(words[2 * i], words[2 * i + 1]);
-        next = put_spaced_tag(out, next, tag);
-        i += 1;
+    // A tag.
+    pub fn put_tag(&mut self, tag: u64)
+        requires { self.old.at + 10 ≤ length self.old.out.now }
+        ensures written { Writes self.old (tag_text tag) self.new }
+        ensures same_buffer { self.new.out.ghost_name ≡ self.old.out.ghost_name }
+    {
+        let mut digits = tag::digits(tag);
+        for digit in &mut digits {
+            *digit += b'0';
+        }
+        self.put(&digits);
     }
-    next
+
+    // The tags of words, two for a tag, a space before each.
+    pub fn put_tags(&mut self, words: &[u32])
+        requires { self.old.at + 11 * (length words.now / 2) ≤ length self.old.out.now }
+        ensures written { Writes self.old (spaced (tags_in (length words.now / 2) words.now)) self.new }
+        ensures same_buffer { self.new.out.ghost_name ≡ self.old.out.ghost_name }
+        ensures upper_bound { self.new.at ≤ self.old.at + 11 * (length words.now / 2) }
+    {
+        for pair in words.chunks_exact(2) {
+            self.put(b" ");
+            self.put_tag(tag::number(pair[0], pair[1]));
+        }
+    }
 }

@@ -1,9 +1,9 @@
-// The lines of a page of the shift sheet, put into a buffer: blank ones, the heading, and a tag at its column.
+// The lines of a page of the shift sheet, put at the front of a buffer: blank ones, the heading, and a tag's digits.
 #![tactic(auto)]
 
 pub mod digits;
 
-ghost use Rattle.std.specs.Prelude.{◌≡◌, [], ◌+◌, ◌≤◌, length};
+ghost use Rattle.std.specs.Prelude.{◌≡◌, [], ◌≤◌, length};
 ghost use Rattle.std.proofs.lemmas.List.Edits.{sets};
 ghost use Rattle.text_page.specs.Page.{line_length, line, heading};
 
@@ -27,16 +27,12 @@ pub const PER_LINE: u32 = 7;
 pub const PER_PAGE: u32 = 413;
 
 // A line of blanks.
-pub fn put_blank_line(out: &mut [u8], at: usize)
-    requires { at + line_length ≤ length out.old }
-    ensures { out.new ≡ sets out.old at (line []) }
+pub fn put_blank_line(out: &mut [u8])
+    requires { line_length ≤ length out.old }
+    ensures { out.new ≡ sets out.old 0 (line []) }
 {
-    let mut i = 0;
-    while i < COLUMNS {
-        out[at + i] = b' ';
-        i += 1;
-    }
-    out[at + COLUMNS] = b'\n';
+    out[..COLUMNS].fill(b' ');
+    out[COLUMNS] = b'\n';
 }
 
 // The first line. 02: "`LANE`, a space and the whole lane's bag count in four digits, blanks after".
@@ -44,7 +40,7 @@ pub fn put_heading(out: &mut [u8], count: u32)
     requires { (count ≤ 9_999) × (line_length ≤ length out.old) }
     ensures { out.new ≡ sets out.old 0 (heading count) }
 {
-    put_blank_line(out, 0);
-    let after_name = text::put(out, 0, b"LANE ");
-    digits::put_four(out, after_name, count);
+    put_blank_line(out);
+    out[..5].copy_from_slice(b"LANE ");
+    digits::put_four(&mut out[5..], count);
 }

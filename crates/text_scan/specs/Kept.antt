@@ -1,10 +1,8 @@
 -- What the code keeps of a line in constant memory, byte by byte, and what that stands for.
-use Rattle.std.specs.Prelude.{true, false, cond, List, [], ◌∷◌, ◌≡◌, ℕ, ◌+◌, ◌-◌, ◌≤◌, ◌<◌, min, ltb, length, get_or, take, drop, set, replicate}
+use Rattle.std.specs.Prelude.{Bool, true, false, cond, List, [], ◌∷◌, ◌≡◌, ℕ, ◌+◌, ◌-◌, ◌≤◌, ◌<◌, min, ltb, length, get_or, take, drop, set, replicate}
 use Rattle.tag.specs.Tags.{largest_tag}
 use Rattle.text.specs.Lines.{first_line}
 use Rattle.text_scan.specs.Scanned.{Scanned, zero_digit, is_digit, with_digit, WellScanned}
-use Rattle.text_scan.specs.declared.Scan.{Scan}
-use Rattle.text_scan.specs.declared.Stop.{Stop}
 
 -- places for the first bytes of a text: one more than the longest form has
 abbrev pub text_places : ℕ
@@ -23,6 +21,14 @@ kept_number n = min largest_tag n
 abbrev pub counted_digits : ℕ
 counted_digits = 11
 
+-- how far a scan is: the bytes of text kept, the numbers counted up to 4, the digits of the last one counted up to 11,
+-- and whether the last byte was a digit
+pub record Scan : Type 0 where
+  pub length : ℕ
+  pub count : ℕ
+  pub width : ℕ
+  pub in_number : Bool
+
 -- the two arrays and the scan
 pub record Kept : Type 0 where
   pub text : List ℕ
@@ -40,6 +46,10 @@ no_numbers = replicate number_places 0
 -- the scan of a line of which nothing is scanned
 abbrev pub no_scan : Scan
 no_scan = record { length = 0; count = 0; width = 0; in_number = false }
+
+-- an array of the text in which nothing stands yet
+abbrev pub no_text : List ℕ
+no_text = replicate text_places 0
 
 -- at first, whatever stands in the array of the text
 abbrev pub kept_at_first : (text : List ℕ) → Kept
@@ -83,9 +93,9 @@ keep_bytes k [] = k
 keep_bytes k (b ∷ bs) = keep_bytes (keep_byte k b) bs
 
 -- The chunk is scanned from a place up to the next line feed or its end.
-pub record ScansLine (chunk : List ℕ) (from : ℕ) (before : Kept) (text numbers : List ℕ) (r : Stop) : Type 0 where
-  pub stops : r.at ≡ from + length (first_line (drop from chunk))
-  pub keeps : kept_of text numbers r.scan ≡ keep_bytes before (first_line (drop from chunk))
+pub record ScansLine (chunk : List ℕ) (from : ℕ) (before after : Kept) (at : ℕ) : Type 0 where
+  pub stops : at ≡ from + length (first_line (drop from chunk))
+  pub keeps : after ≡ keep_bytes before (first_line (drop from chunk))
 
 -- ---- What holds of it at all times.
 
@@ -94,12 +104,6 @@ pub record Counts (s : Scan) : Type 0 where
   pub short : s.length ≤ text_places
   pub few : s.count ≤ number_places
   pub some : s.in_number ≡ true → 0 < s.count
-
--- a number is open, and the digit d is to be put to it
-pub record MoreDigits (s : Scan) (d : ℕ) : Type 0 where
-  pub counts : Counts s
-  pub is_open : s.in_number ≡ true
-  pub is-digit : d < 10
 
 -- no number kept is above the largest tag
 abbrev pub UpToTag : List ℕ → Type 0

@@ -1,77 +1,62 @@
-// Scanning a line, byte by byte: the front of its text stands in an array of bytes, its numbers in an array of words.
+// Scanning a line, byte by byte: what is kept of it is one value in constant memory.
 #![tactic(auto)]
 
-ghost use Rattle.std.specs.Prelude.{List, ◌≡◌, ℕ, ◌+◌, ◌*◌, ◌≤◌, ◌<◌, min, length};
+ghost use Rattle.std.specs.Prelude.{◌≡◌, true, ◌+◌, ◌*◌, ◌≤◌, ◌<◌, min, eqb, length, take, slice_index};
 ghost use Rattle.text_scan.specs.Scanned.{is_digit};
 ghost use Rattle.text_scan.specs.Kept.{
   text_places,
+  number_places,
   kept_number,
   kept_of,
-  no_numbers,
-  no_scan,
+  no_text,
+  kept_at_first,
   text_with,
   keep_other,
   keep_opened,
   keep_extended,
   keep_byte,
   ScansLine,
-  Counts,
-  MoreDigits,
 };
 
-pub const TEXT_PLACES: usize = 39;
+use std::marker::Model;
 
-pub const NUMBER_PLACES: usize = 4;
+// One byte more than the longest form has.
+const TEXT_PLACES: usize = 39;
 
-// The front of a line's text, one byte more than the longest form has.
-pub type Text = [u8; TEXT_PLACES];
-
-// The first three numbers of a line, and the last.
-pub type Numbers = [u64; NUMBER_PLACES];
+// One number more than any form has.
+const NUMBER_PLACES: usize = 4;
 
 // One digit more than a tag has.
 const COUNTED_DIGITS: usize = 11;
 
-// How far a scan is: the bytes of text kept, the numbers counted up to 4, the digits of the last one counted up to 11,
-// and whether the last byte was a digit.
-#[derive(Clone, Copy)]
-pub struct Scan {
-    pub length: usize,
-    pub count: usize,
-    pub width: usize,
-    pub in_number: bool,
+// What is kept of a line so far: the front of its text, and how many bytes of it are kept; its first three numbers and
+// the last, and how many there are, up to 4; how many digits the last one has, up to 11; and whether the last byte was
+// a digit.
+#[derive(Drop)]
+pub struct Line {
+    text: [u8; TEXT_PLACES],
+    length: usize,
+    numbers: [u64; NUMBER_PLACES],
+    count: usize,
+    width: usize,
+    in_number: bool,
 }
 
-// Where the scan of a line stopped, and how far it is.
-#[derive(Clone, Copy)]
-pub struct Stop {
-    pub at: usize,
-    pub scan: Scan,
-}
+// Clauses see both arrays whole, beside the counts. Kept: of `ScanKept` only the counts are of the type, since `scan_line`
+// asks nothing of the numbers; a caller that reads them says so.
+impl Model for Line {
+    ghost use Rattle.text_scan.specs.Kept.{Scan, Kept, Counts};
 
-// The scan of a line of which nothing is scanned.
-pub fn start(numbers: &mut Numbers) -> Scan
-    ensures { (numbers.new ≡ no_numbers) × (result ≡ no_scan) }
-{
-    *numbers = [0; NUMBER_PLACES];
-    Scan {
-        length: 0,
-        count: 0,
-        width: 0,
-        in_number: false,
-    }
-}
+    ghost Value = { Kept };
 
-// Puts a byte at the end of the text, if it is among the first 39. Answers how many are kept.
-fn put(text: &mut Text, n: usize, b: u8) -> usize
-    requires { n ≤ text_places }
-    ensures { (text.new ≡ text_with text.old n b) × (result ≡ min text_places (n + 1)) }
-{
-    if n < TEXT_PLACES {
-        text[n] = b;
-        return n + 1;
-    }
-    n
+    ghost view = { λ a. record {
+      text = a.text;
+      numbers = a.numbers;
+      scan = record { length = a.length; count = a.count; width = a.width; in_number = a.in_number };
+    } };
+
+    ghost invariant = { λ a. Counts
+        (record { length = a.length; count = a.count; width = a.width; in_number = a.in_number }) };
 }
 
 // A number with a further digit, of value d. Above the largest tag, it is kept as the largest tag.
@@ -85,108 +70,130 @@ fn with_digit(n: u64, d: u64) -> u64
     tag::LARGEST
 }
 
-// One more, counted up to a limit.
-fn one_more(n: usize, most: usize) -> usize
-    ensures { result ≡ min most (n + 1) }
-{
-    if n < most {
-        return n + 1;
-    }
-    most
-}
-
-// A further digit with the value d of the number that is open.
-fn extend_number(numbers: &mut Numbers, s: Scan, d: u64) -> Scan
-    requires { MoreDigits s d }
-    ensures { (text : List ℕ) → kept_of text numbers.new result
-        ≡ keep_extended (kept_of text numbers.old s) d }
-{
-    let place = s.count - 1;
-    numbers[place] = with_digit(numbers[place], d);
-    let width = one_more(s.width, COUNTED_DIGITS);
-    Scan {
-        length: s.length,
-        count: s.count,
-        width,
-        in_number: true,
-    }
-}
-
-// A digit with the value d that opens a number. From the fourth number on they share the last place.
-fn open_number(text: &mut Text, numbers: &mut Numbers, s: Scan, d: u64) -> Scan
-    requires { Counts s }
-    ensures { kept_of text.new numbers.new result
-        ≡ keep_opened (kept_of text.old numbers.old s) d }
-{
-    let n = s.length;
-    let length = put(text, n, b'0');
-    let count = one_more(s.count, NUMBER_PLACES);
-    numbers[count - 1] = d;
-    Scan {
-        length,
-        count,
-        width: 1,
-        in_number: true,
-    }
-}
-
-// A byte that is no digit.
-fn append_byte(text: &mut Text, s: Scan, b: u8) -> Scan
-    requires { Counts s }
-    ensures { (numbers : List ℕ) → kept_of text.new numbers result
-        ≡ keep_other (kept_of text.old numbers s) b }
-{
-    let n = s.length;
-    let length = put(text, n, b);
-    Scan {
-        length,
-        count: s.count,
-        width: s.width,
-        in_number: false,
-    }
-}
-
 pub fn is_digit(b: u8) -> bool
     ensures { result ≡ is_digit b }
 {
-    if b < b'0' {
-        return false;
-    }
-    b <= b'9'
+    b.is_ascii_digit()
 }
 
-// Scans one byte.
-fn scan_byte(text: &mut Text, numbers: &mut Numbers, s: Scan, b: u8) -> Scan
-    requires { Counts s }
-    ensures { kept_of text.new numbers.new result
-        ≡ keep_byte (kept_of text.old numbers.old s) b }
-{
-    if !is_digit(b) {
-        return append_byte(text, s, b);
-    }
-    let d = (b - b'0') as u64;
-    let in_number = s.in_number;
-    if in_number {
-        return extend_number(numbers, s, d);
-    }
-    open_number(text, numbers, s, d)
-}
-
-// Scans a line on from a place of a chunk, until its line feed or the end of the chunk.
-pub fn scan_line(chunk: &[u8], from: usize, text: &mut Text, numbers: &mut Numbers, s: Scan) -> Stop
-    requires { (from ≤ length chunk.now) × Counts s }
-    ensures { ScansLine chunk.now from (kept_of text.old numbers.old s)
-        text.new numbers.new result }
-{
-    let mut scan = s;
-    let mut i = from;
-    while i < chunk.len() {
-        let b = chunk[i];
-        if b == b'\n' {
-            return Stop { at: i, scan };
+impl Line {
+    // A line of which nothing is scanned.
+    pub fn new() -> Line
+        ensures { result ≡ kept_at_first no_text }
+    {
+        Line {
+            text: [0; TEXT_PLACES],
+            length: 0,
+            numbers: [0; NUMBER_PLACES],
+            count: 0,
+            width: 0,
+            in_number: false,
         }
-        scan = scan_byte(text, numbers, scan, b);
-        i += 1;
     }
-    Stop { at: i, scan }
+
+    // Begins a line of which nothing is scanned. What stands in the array of the text is then of no account.
+    pub fn clear(&mut self)
+        ensures { self.new ≡ kept_at_first self.old.text }
+    {
+        self.length = 0;
+        self.numbers = [0; NUMBER_PLACES];
+        self.count = 0;
+        self.width = 0;
+        self.in_number = false;
+    }
+
+    // The front of the text.
+    pub fn text(&self) -> &[u8]
+        ensures { result.now ≡ take self.now.scan.length self.now.text }
+    {
+        &self.text[..self.length]
+    }
+
+    // One of the first three numbers, 0 where there are fewer.
+    pub fn number(&self, i: usize) -> u64
+        requires { i < number_places }
+        ensures { result ≡ slice_index self.now.numbers i }
+    {
+        self.numbers[i]
+    }
+
+    // Whether the last number has so many digits. Above 11 they are not counted.
+    pub fn has_width(&self, digits: usize) -> bool
+        ensures { result ≡ eqb self.now.scan.width digits }
+    {
+        self.width == digits
+    }
+
+    // Puts a byte at the end of the text, if it is among the first 39.
+    fn put(&mut self, b: u8)
+        ensures { let s = self.old.scan in
+            self.new ≡ kept_of (text_with self.old.text s.length b) self.old.numbers
+            (record s { length = min text_places (s.length + 1) }) }
+    {
+        if self.length < TEXT_PLACES {
+            self.text[self.length] = b;
+            self.length += 1;
+        }
+    }
+
+    // A byte that is no digit.
+    fn append(&mut self, b: u8)
+        ensures { self.new ≡ keep_other self.old b }
+    {
+        self.put(b);
+        self.in_number = false;
+    }
+
+    // A digit with the value d that opens a number. From the fourth number on they share the last place.
+    fn open_number(&mut self, d: u64)
+        ensures { self.new ≡ keep_opened self.old d }
+    {
+        self.put(b'0');
+        self.count = (self.count + 1).min(NUMBER_PLACES);
+        self.numbers[self.count - 1] = d;
+        self.width = 1;
+        self.in_number = true;
+    }
+
+    // A further digit with the value d of the number that is open.
+    fn extend_number(&mut self, d: u64)
+        requires is_open { self.old.scan.in_number ≡ true }
+        requires is_digit { d < 10 }
+        ensures { self.new ≡ keep_extended self.old d }
+    {
+        let place = self.count - 1;
+        self.numbers[place] = with_digit(self.numbers[place], d);
+        self.width = self.width.saturating_add(1).min(COUNTED_DIGITS);
+    }
+
+    // Scans one byte.
+    #[tactic(auto, unfolding(crate::specs::Kept::keep_byte))]
+    fn scan_byte(&mut self, b: u8)
+        ensures { self.new ≡ keep_byte self.old b }
+    {
+        if !is_digit(b) {
+            return self.append(b);
+        }
+        let d = u64::from(b - b'0');
+        if self.in_number {
+            self.extend_number(d)
+        } else {
+            self.open_number(d)
+        }
+    }
+
+    // Scans a line on from a place of a chunk, until its line feed or the end of the chunk, and answers where it stopped.
+    pub fn scan_line(&mut self, chunk: &[u8], from: usize) -> usize
+        requires { from ≤ length chunk.now }
+        ensures { ScansLine chunk.now from self.old self.new result }
+    {
+        for i in from..chunk.len() {
+            let b = chunk[i];
+            if b == b'\n' {
+                return i;
+            }
+            self.scan_byte(b);
+        }
+        chunk.len()
+    }
 }

@@ -1,11 +1,10 @@
--- What a line's outcome comes to in the words of the table.
-use Rattle.std.specs.Prelude.{◌≡◌, ℕ, Bool, true, cond, List}
+-- What a line that is made comes to in the words of the table.
+use Rattle.std.specs.Prelude.{◌≡◌, ℕ, Bool, true, List, Ok}
 use Rattle.std.proofs.lemmas.List.Edits.{sets}
 use Rattle.machine.specs.Sides.{Side}
 use Rattle.machine.specs.Table.{node_count, record_at, record_words, set_hat}
 use Rattle.machine.specs.Calls.{Ticked, tick_counted}
 use Rattle.machine.specs.Results.{ticked_of}
-use Rattle.answers.specs.Refusals.{is_refused}
 use Rattle.table_record.specs.declared.Task as Tasks
 use Rattle.table_record.specs.Coded.{struct_of, record_of, SameCall}
 use Rattle.line_parts.specs.declared.ends.Done.{Done}
@@ -22,7 +21,6 @@ recorded ws k t = sets ws (record_at (node_count ws) k) (record_of t)
 abbrev pub stored : List ℕ → (lane : ℕ) → Side → (hat k : ℕ) → Tasks.Task → List ℕ
 stored ws l s h k t = tick_counted (recorded (set_hat l s h ws) k t)
 
--- What a line's outcome comes to: refused, the words stay.
+-- What a line that is made comes to.
 abbrev pub finished : List ℕ → (lane : ℕ) → Side → (k : ℕ) → Done → Ticked
-finished ws l s k d =
-    cond (is_refused d.answer) (ticked_of d.answer ws) (ticked_of d.answer (stored ws l s d.hat k d.task))
+finished ws l s k d = ticked_of (Ok d.answer) (stored ws l s d.hat k d.task)

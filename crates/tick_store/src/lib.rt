@@ -1,17 +1,16 @@
-// What a line's outcome comes to in the table: a refusal changes nothing, a tick that is made is stored.
+// What a tick that is made leaves in the table.
 #![tactic(auto)]
 
-ghost use Rattle.std.specs.Prelude.{◌≡◌, ◌<◌};
+ghost use Rattle.std.specs.Prelude.{◌≡◌, ◌<◌, Ok};
 ghost use Rattle.machine.specs.Sides.{side_of};
 ghost use Rattle.machine.specs.Table.{most_lanes};
 ghost use Rattle.table_layout.specs.Words.{HoldsRecord};
-ghost use Rattle.machine.specs.Results.{ticked_of};
+ghost use Rattle.machine.specs.Results.{said, ticked_of};
 ghost use Rattle.machine.specs.Answers.{is_going};
-ghost use Rattle.tick_store.specs.Outcomes.{GoesOn, recorded, stored, finished};
+ghost use Rattle.tick_store.specs.Outcomes.{GoesOn, recorded, finished};
 
-use answers::{is_going, is_refusal};
 use line_parts::ends::Done;
-use machine::Answer;
+use machine::answer::Answer;
 use std::num::wrapping_add_u32;
 use table_layout::header::{set_hat, set_tick_count, tick_count};
 use table_layout::table;
@@ -29,29 +28,16 @@ fn set_next(table: &mut [u32], task: u32, next: Task, going: bool)
     table::set_task(table, task, next);
 }
 
-// The lane's hat, the record and the tick count after a tick that is made.
-fn store(table: &mut [u32], lane: u32, side: u32, hat: u32, task: u32, next: Task, going: bool)
-    requires lane_lt_most_lanes { (lane < most_lanes) × (side < 2) × HoldsRecord table.old task }
-    requires goes_on { GoesOn table.old task going next }
-    ensures { table.new ≡ stored table.old lane (side_of side) hat task next }
-{
-    set_hat(table, lane, side, hat);
-    set_next(table, task, next, going);
-    let n = wrapping_add_u32(tick_count(table), 1);
-    set_tick_count(table, n);
-}
-
-// The answer, and its words where the line was not refused. The hat is that of a lane and a side.
+// The lane's hat, the record and the tick count after a tick that is made, and its answer. The hat is that of a lane and
+// a side.
 pub fn finish(table: &mut [u32], lane: u32, side: u32, k: u32, done: Done) -> Answer
     requires lane_lt_most_lanes { (lane < most_lanes) × (side < 2) × HoldsRecord table.old k }
-    requires goes_on { GoesOn table.old k (is_going done.answer) done.task }
-    ensures { ticked_of result table.new ≡ finished table.old lane (side_of side) k done }
+    requires goes_on { GoesOn table.old k (is_going (said done.answer)) done.task }
+    ensures { ticked_of (Ok result) table.new ≡ finished table.old lane (side_of side) k done }
 {
-    let answer = done.answer;
-    if is_refusal(answer) {
-        return answer;
-    }
-    let next = done.task;
-    store(table, lane, side, done.hat, k, next, is_going(answer));
-    answer
+    set_hat(table, lane, side, done.hat);
+    set_next(table, k, done.task, done.answer.is_going());
+    let n = wrapping_add_u32(tick_count(table), 1);
+    set_tick_count(table, n);
+    done.answer
 }

@@ -1,7 +1,6 @@
 pub mod Tests
 pub mod Counting
 pub mod Filling
-pub mod Turns
 pub mod Windows
 pub mod Scans
 pub mod Feeds

@@ -1,7 +1,7 @@
 -- Request 2026-11: the window; for all words and numbers, what making it fresh and feeding it answer and leave.
-use Rattle.std.specs.Prelude.{ℕ, ◌+◌, ◌%◌, ◌^◌, Bool, true, cond, ◌&&◌, ◌||◌, List, [], ◌∷◌, length, take, drop, replicate, ◌==◌, nat_le, nat_lt, slice_index, slice_set}
-use Rattle.window.specs.declared.Fed.{Fed}
-use Rattle.window.specs.declared.Fed.TheVariants.{Lost, BadWindow, OutOfTurn}
+use Rattle.std.specs.Prelude.{ℕ, ◌+◌, ◌%◌, ◌^◌, Bool, true, cond, ◌&&◌, ◌||◌, List, [], ◌∷◌, length, take, drop, replicate, ◌==◌, nat_le, nat_lt, slice_index, slice_set, Result, Ok, Err}
+use Rattle.window.specs.declared.WindowError.{WindowError}
+use Rattle.window.specs.declared.WindowError.TheVariants.{Window, Count}
 use Rattle.window.specs.Lost.{lost_word}
 
 -- ---- The words. No other definition says where in a window a word stands.
@@ -135,10 +135,13 @@ feed ws count before after =
     (outcome (refused 23) ws)
 
 -- ---- 02's answer for each of the code's, with the window that a call leaves.
-abbrev pub answer_of : Fed → Answer
-answer_of (Lost n) = lost n
-answer_of BadWindow = refused 23
-answer_of OutOfTurn = refused 24
+abbrev pub refusal_number : WindowError → ℕ
+refusal_number Window = 23
+refusal_number Count = 24
 
-abbrev pub outcome_of : Fed → (words : List ℕ) → FeedOutcome
-outcome_of f ws = outcome (answer_of f) ws
+abbrev pub answer_of : Result ℕ WindowError → Answer
+answer_of (Ok n) = lost n
+answer_of (Err e) = refused (refusal_number e)
+
+abbrev pub outcome_of : Result ℕ WindowError → (words : List ℕ) → FeedOutcome
+outcome_of r ws = outcome (answer_of r) ws

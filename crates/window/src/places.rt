@@ -1,8 +1,7 @@
 // The words of a window: tested and counted in one pass over its places, and the writes.
-ghost use Rattle.std.specs.Prelude.{◌≡◌, ◌+◌, ◌-◌, ◌≤◌, true, ◌∷◌, length, replicate, slice_index};
+ghost use Rattle.std.specs.Prelude.{◌≡◌, ◌+◌, ◌≤◌, length, slice_index};
+ghost use Rattle.std.specs.Bool.{then_some};
 ghost use Rattle.window.specs.Window as specs;
-
-use std::num::wrapping_add_u32;
 
 // 02: "W from 1 to 4,096".
 pub const WIDEST: u32 = 4_096;
@@ -18,20 +17,6 @@ pub const LAST: usize = 3;
 
 pub const PLACES: usize = 4;
 
-// Whether places are all 0 or 1, and how many are 1.
-#[derive(Clone, Copy)]
-pub struct Tallied {
-    pub bits: bool,
-    pub lost: u32,
-}
-
-// Whether a window is one, and how many lost swaps its places hold.
-#[derive(Clone, Copy)]
-pub struct Found {
-    pub ok: bool,
-    pub lost: u32,
-}
-
 pub fn sizes_ok(words: usize, width: u32) -> bool
     ensures { result ≡ specs.sizes_ok words width }
 {
@@ -42,9 +27,10 @@ fn next_ok(width: u32, fed: u32, next: u32) -> bool
     ensures { result ≡ specs.next_ok width fed next }
 {
     if fed < width {
-        return next == fed;
+        next == fed
+    } else {
+        next < width
     }
-    next < width
 }
 
 fn last_ok(fed: u32, last: u32) -> bool
@@ -56,80 +42,45 @@ fn last_ok(fed: u32, last: u32) -> bool
 fn header_ok(window: &[u32]) -> bool
     ensures { result ≡ specs.header_ok window.now }
 {
-    if window.len() < PLACES {
+    let [width, fed, next, last, ..] = *window else {
         return false;
-    }
-    let width = window[WIDTH];
-    let fed = window[FED];
-    sizes_ok(window.len(), width)
-        & (fed <= width)
-        & next_ok(width, fed, window[NEXT])
-        & last_ok(fed, window[LAST])
+    };
+    sizes_ok(window.len(), width) & (fed <= width) & next_ok(width, fed, next) & last_ok(fed, last)
 }
 
-// Places that are fed. Each word is gathered and added, with no branch; a sum that wraps is of words that are not bits.
-fn tally(words: &[u32]) -> Tallied
+// How many places that are fed are 1, where all are 0 or 1. Each word is gathered and added, with no branch; a sum that
+// wraps is of words that are not bits.
+fn tally(words: &[u32]) -> Option<u32>
     requires { length words.now ≤ 4_096 }
-    ensures bits_value { result.bits ≡ specs.at_most 1 words.now }
-    ensures lost_value { specs.at_most 1 words.now ≡ true → result.lost ≡ specs.total words.now }
+    ensures { result ≡ then_some (specs.at_most 1 words.now) (specs.total words.now) }
 {
     let mut lost: u32 = 0;
     let mut gathered: u32 = 0;
-    let mut i: usize = 0;
-    while i < words.len() {
-        let word = words[i];
-        lost = wrapping_add_u32(lost, word);
-        gathered = gathered | word;
-        i += 1;
+    for word in words {
+        lost = lost.wrapping_add(*word);
+        gathered |= *word;
     }
-    Tallied {
-        bits: gathered <= 1,
-        lost: lost,
-    }
+    (gathered <= 1).then_some(lost)
 }
 
-// Places that are not fed.
+// Whether places that are not fed are 0. No branch: a test that leaves at the first other word is slower. Kept beside
+// `tally`, which adds as well: one of both would add where nothing is asked of the sum.
 fn all_zeros(words: &[u32]) -> bool
     ensures { result ≡ specs.at_most 0 words.now }
 {
-    let mut gathered: u32 = 0;
-    let mut i: usize = 0;
-    while i < words.len() {
-        gathered = gathered | words[i];
-        i += 1;
-    }
-    gathered == 0
+    words.iter().fold(0, |gathered, word| gathered | *word) == 0
 }
 
-// The places fed, then those not fed: one pass in all.
-pub fn scan(window: &[u32]) -> Found
-    ensures ok_value { result.ok ≡ specs.is_window window.now }
-    ensures lost_value { specs.is_window window.now ≡ true
-        → result.lost ≡ specs.total (specs.places window.now) }
+// How many lost swaps the places of a window hold: the places fed, then those not fed, one pass in all.
+pub fn scan(window: &[u32]) -> Option<u32>
+    ensures { result ≡ then_some (specs.is_window window.now) (specs.total (specs.places window.now)) }
 {
     if !header_ok(window) {
-        return Found { ok: false, lost: 0 };
+        return None;
     }
-    let end = PLACES + (window[FED] as usize);
-    let fed = tally(&window[PLACES..end]);
-    let others_zero = all_zeros(&window[end..]);
-    Found {
-        ok: fed.bits & others_zero,
-        lost: fed.lost,
-    }
-}
-
-// Every word but the first becomes 0.
-pub fn zeros(window: &mut [u32])
-    requires { 1 ≤ length window.old }
-    ensures { let ws = window.old in
-        window.new ≡ slice_index ws 0 ∷ replicate (length ws - 1) 0 }
-{
-    let mut i: usize = 1;
-    while i < window.len() {
-        window[i] = 0;
-        i += 1;
-    }
+    let (fed, others) = window[PLACES..].split_at(window[FED] as usize);
+    let lost = tally(fed)?;
+    all_zeros(others).then_some(lost)
 }
 
 // Puts the words of one more tick; gives back the word that stood in its place.

@@ -7,9 +7,8 @@ use Prim.Native.Nat.{ℕ, zero, suc, ◌*◌, ◌<◌}
 use lib.ListN.{drop}
 use lib.Dec.{ltb}
 use native.Mathlib.Omega.{arith}
-use Rattle.machine.specs.declared.Answer.{Answer}
-use Rattle.machine.specs.declared.Answer.TheVariants.{Refused}
-use Rattle.machine.specs.declared.Dispatch.TheVariants.{Answered}
+use Rattle.machine.specs.Outcomes.Answer.{Answer, Refused}
+use Rattle.machine.specs.Outcomes.Dispatch.{Answered}
 use Rattle.machine.specs.Choice.{◌<?◌}
 use Rattle.machine.specs.Sides.{opposite}
 use Rattle.machine.specs.Steps.{step_number}

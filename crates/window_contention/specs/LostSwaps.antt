@@ -1,8 +1,8 @@
 -- Request 2026-11: what a lost swap is, by the lines of the figure; and that the steps before and after a tick tell it.
 use Rattle.std.specs.Prelude.{◌≡◌, ◌↔◌, true, List, ℕ, suc, ◌+◌, ◌*◌, ◌%◌, ◌^◌, ◌<◌, get_or}
 use Rattle.std.proofs.Math.Option.{none}
-use Rattle.machine.specs.declared.Answer.{Answer}
-use Rattle.machine.specs.declared.Dispatch.TheVariants.{Answered}
+use Rattle.machine.specs.Outcomes.Answer.{Answer}
+use Rattle.machine.specs.Outcomes.Dispatch.{Answered}
 use Rattle.machine.specs.Sides.{Side}
 use Rattle.machine.specs.Values.{N, X}
 use Rattle.machine.specs.Steps.{Step, step_number, line5, line25, line48, line51, line62}

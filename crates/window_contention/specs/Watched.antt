@@ -1,8 +1,8 @@
 -- Request 2026-11: a window that is fed after each tick counts the lost swaps.
 use Rattle.std.specs.Prelude.{◌≡◌, List, [], ◌∷◌, ℕ, suc, ◌*◌, ◌≤◌, ◌<◌, get_or, take}
 use Rattle.std.proofs.Math.Option.{none}
-use Rattle.machine.specs.declared.Answer.{Answer}
-use Rattle.machine.specs.declared.Dispatch.TheVariants.{Answered}
+use Rattle.machine.specs.Outcomes.Answer.{Answer}
+use Rattle.machine.specs.Outcomes.Dispatch.{Answered}
 use Rattle.machine.specs.Table.{tick_count, dispatched}
 use Rattle.machine.specs.Answers.{refusal_of}
 use Rattle.machine.specs.Calls.{tick, dispatch, run, panel}

@@ -9,11 +9,9 @@ use lib.Dec.{eqb, ltb}
 use Rattle.tag.proofs.TagLaws.{clash}
 use Rattle.text.specs.Lines.{lines_of}
 use Rattle.airline_list.specs.declared.End.{End}
-use Rattle.airline_list.specs.declared.forms.Form.{Form}
-use Rattle.airline_list.specs.declared.forms.Form.TheVariants.{Airline, Others, Neither}
-use Rattle.airline_list.specs.Forms.{form_of}
+use Rattle.airline_list.specs.Forms.{Form, Airline, Others, Neither, form_of}
 use Rattle.airline_list.specs.Lists.{Entry, entry, says, faulty, named, none_left, judged, verdict}
-use Rattle.airline_list.specs.Marks.{codes, InRange}
+use Rattle.airline_list.specs.Read.{codes, InRange}
 use Rattle.airline_list.proofs.Laws.FormLaws.{form-in-range}
 
 -- The forms of a list that says this.

@@ -1,11 +1,11 @@
 -- The bits of words: a bit set, and all others as they were.
 use mathlib.Core.Path.{◌≡◌, sym, ap, ◌∙◌}
-use Prim.Native.Nat.{ℕ, suc, ◌+◌, ◌-◌, ◌*◌, ◌/◌, ◌%◌, ◌^◌, ◌<◌, max}
+use Prim.Native.Nat.{ℕ, suc, ◌+◌, ◌-◌, ◌/◌, ◌%◌, ◌^◌, ◌<◌, max}
 use native.Mathlib.Decide.{dec_lt}
 use native.Mathlib.Nat.{div-eq_of_lt, mul-add-mod_self_right, max-zero, mod-eq_of_lt, one-mul}
 use native.Mathlib.Omega.{arith}
 use lib.Bits.{bit_or, or_shr, or_step, shifted_even}
-use lib.Pow.{pow-add, pow-lt, shl_exact, shl-shr}
+use lib.Pow.{pow-add, pow-lt, shl-shr}
 
 -- ---- A power of two has one bit.
 power-bit : (k : ℕ) → 2 ^ k / 2 ^ k % 2 ≡ 1
@@ -26,9 +26,6 @@ power-other k j n = go (dec_lt j k)
     go (no above) =
         let less : k < j = omega arith in
         ap (λ (x : ℕ). x % 2) (div-eq_of_lt (pow-lt less))
-
-pub one_shifted : (k : ℕ) → k < 64 → 1 * 2 ^ k % 2 ^ 64 ≡ 2 ^ k
-one_shifted k h = shl_exact 1 k 64 (omega arith) (omega arith) ∙ one-mul (2 ^ k)
 
 -- ---- A bit of two numbers' union.
 last_bit : (a b : ℕ) → bit_or a b % 2 ≡ max (a % 2) (b % 2)

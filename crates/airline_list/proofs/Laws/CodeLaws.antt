@@ -5,7 +5,7 @@ use Prim.Native.Nat.{ℕ, ◌/◌, ◌%◌}
 use native.Mathlib.Omega.{arith}
 use Rattle.tag.specs.Tags.{last_digits, number_from}
 use Rattle.airline_list.specs.Lists.{code_of}
-use Rattle.airline_list.specs.Marks.{codes}
+use Rattle.airline_list.specs.Read.{codes}
 
 pub three-digits : (n : ℕ) → last_digits 3 n ≡ n / 100 % 10 ∷ n / 10 % 10 ∷ n % 10 ∷ []
 unfolding last_digits

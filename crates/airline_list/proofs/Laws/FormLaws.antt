@@ -7,16 +7,15 @@ use Prim.Native.Nat.{ℕ, ◌+◌, ◌%◌, ◌≤◌, ◌<◌}
 use native.Mathlib.Omega.{arith}
 use borrow.Author.Tests.{eq-eqb}
 use lib.ListN.{length}
+use Rattle.std.specs.Prelude.{Some, None}
 use Rattle.tag.specs.Tags.{last_digits, number_from}
 use Rattle.text.specs.Text.{bytes, same}
 use Rattle.text.proofs.Laws.SameTexts.{same-equal}
 use Rattle.airline_list.specs.declared.End.{End}
 use Rattle.airline_list.specs.declared.End.TheVariants.{Left, Right}
-use Rattle.airline_list.specs.declared.forms.Form.{Form}
-use Rattle.airline_list.specs.declared.forms.Form.TheVariants.{Airline, Others, Neither}
-use Rattle.airline_list.specs.Forms.{code_text, end_text, form_text, code_in, first_with, form_of}
-use Rattle.airline_list.specs.FirstForm.{airline_behind}
-use Rattle.airline_list.specs.Marks.{codes, InRange}
+use Rattle.airline_list.specs.Forms.{Form, Airline, Others, Neither, code_text, end_text, form_text, code_in, first_with, form_of}
+use Rattle.airline_list.specs.FirstForm.{end_of_two, airline_with, airline_behind}
+use Rattle.airline_list.specs.Read.{codes, InRange}
 
 -- ---- Lines that begin as an airline's.
 same-behind : (front xs ys : List ℕ) → same (front ++ xs) (front ++ ys) ≡ same xs ys
@@ -33,12 +32,19 @@ code-written code rest = omega arith
 -- The form of such a line is told by what stands behind the code.
 pub airline-form : (code : ℕ) (rest : List ℕ) → code < codes
     → form_of (airline_line code rest) ≡ airline_behind code rest
-unfolding form_of airline_behind
+unfolding form_of airline_behind end_of_two
 airline-form code rest small =
     let written : code_in (airline_line code rest) ≡ code = code-written code rest ∙ omega arith in
     let left = same-behind (code_text code) rest (bytes ") left)") in
     let right = same-behind (code_text code) rest (bytes ") right)") in
-    rw (written, left, right)
+    rw (written, left, right) (go (same rest (bytes ") left)")) (same rest (bytes ") right)")))
+  where
+    go : (left right : Bool)
+        → cond left (Airline code Left) (cond right (Airline code Right) Neither)
+        ≡ airline_with code (cond left (Some Left) (cond right (Some Right) None))
+    go true right = refl
+    go false true = refl
+    go false false = refl
 
 -- ---- A line that has a form is its text.
 with-text : (line : List ℕ) (forms : List Form)
@@ -85,7 +91,7 @@ form-in-range line =
 
 -- ---- A form's text has this form.
 pub form-written : (form : Form) → InRange form → form_of (form_text form) ≡ form
-unfolding form_of airline_behind
+unfolding form_of airline_behind end_of_two
 form-written (Airline code Left) small = airline-form code (bytes ") left)") small
 form-written (Airline code Right) small = airline-form code (bytes ") right)") small
 form-written (Others Left) r = refl
@@ -96,10 +102,6 @@ pub airline-length : (code : ℕ) (end : End) → length (form_text (Airline cod
 unfolding last_digits
 airline-length code Left = refl
 airline-length code Right = refl
-
-pub others-length : (end : End) → length (form_text (Others end)) ≡ 9 + length (end_text end)
-others-length Left = refl
-others-length Right = refl
 
 pub end_short : (end : End) → length (end_text end) ≤ 5
 end_short Left = omega arith

@@ -9,6 +9,7 @@ use borrow.Author.Tests.{ne_eqb, eqb-true, eqb-false, le-leb}
 use lib.Dec.{eqb}
 use lib.ListN.{length, get_or, take, drop, take-append-drop, length-take, get_or-eq_default}
 use lib.Seq.{drop-cons, take-take}
+use Rattle.std.specs.Prelude.{Some, None}
 use Rattle.tag.specs.Tags.{number_from}
 use Rattle.tag.proofs.TagLaws.{clash, both_true}
 use Rattle.text.specs.Text.{bytes, same}
@@ -19,10 +20,9 @@ use Rattle.text_scan.proofs.Laws.PlaceLaws.{digit-range}
 use Rattle.text_scan.specs.Scanned.{zero_digit, is_digit}
 use Rattle.airline_list.specs.declared.End.{End}
 use Rattle.airline_list.specs.declared.End.TheVariants.{Left, Right}
-use Rattle.airline_list.specs.declared.forms.Form.TheVariants.{Airline}
-use Rattle.airline_list.specs.Forms.{code_text, end_text, form_text, code_in, form_of}
-use Rattle.airline_list.specs.FirstForm.{three_digits, has_code, airline_behind, others_in}
-use Rattle.airline_list.specs.Marks.{codes}
+use Rattle.airline_list.specs.Forms.{Airline, Others, Neither, code_text, end_text, form_text, code_in, form_of}
+use Rattle.airline_list.specs.FirstForm.{three_digits, has_code, end_of_two, others_with, airline_behind, others_in}
+use Rattle.airline_list.specs.Read.{codes}
 use Rattle.airline_list.proofs.Laws.CodeLaws.{three-digits}
 use Rattle.airline_list.proofs.Laws.FormLaws.{airline_line, airline-form}
 
@@ -217,7 +217,14 @@ not-airline text h code end = go (same (first_line text) (form_text (Airline cod
         clash (cc)
 
 pub others-ahead : (text : List ℕ) → has_code text ≡ false → others_in (first_line text) ≡ form_of (first_line text)
-unfolding form_of others_in
+unfolding form_of others_in end_of_two
 others-ahead text h =
-    let code = code_in (first_line text) in
-    sym (rw (not-airline text h code Left, not-airline text h code Right))
+    rw (not-airline text h (code_in (first_line text)) Left, not-airline text h (code_in (first_line text)) Right)
+    (go (same (first_line text) (bytes "(others left)")) (same (first_line text) (bytes "(others right)")))
+  where
+    go : (left right : Bool)
+        → others_with (cond left (Some Left) (cond right (Some Right) None))
+        ≡ cond left (Others Left) (cond right (Others Right) Neither)
+    go true right = refl
+    go false true = refl
+    go false false = refl

@@ -1,24 +1,20 @@
 -- The lines of a list from a place on, and their forms.
-use mathlib.Core.Path.{◌≡◌, sym, ap, ◌∙◌}
+use mathlib.Core.Path.{◌≡◌, sym, ap, ◌∙◌, subst}
 use mathlib.Core.Bool.{true, false}
 use mathlib.Core.Logic.{◌⊎◌, inl, inr}
 use mathlib.Core.List.{List, [], ◌∷◌, map}
 use Prim.Native.Nat.{ℕ, suc, ◌+◌, ◌-◌, ◌≤◌, ◌<◌}
-use native.Mathlib.Decide.{dec_le, dec_lt}
 use native.Mathlib.Omega.{arith}
-use borrow.Author.Tests.{le-leb, lt-leb}
-use lib.Dec.{leb}
-use lib.ListN.{length, drop, drop_of_length-le, length-drop}
-use lib.Seq.{drop-drop}
-use Rattle.tag.proofs.TagLaws.{clash}
+use lib.ListN.{length, take, drop, drop_of_length-le, length-drop}
+use lib.Seq.{take_all, drop-drop}
 use Rattle.text.specs.Lines.{first_line, lines_of}
 use Rattle.text.proofs.Laws.AllLines.{first-of-lines}
 use Rattle.text.proofs.Laws.FirstLine.{line-within}
-use Rattle.airline_list.specs.declared.forms.Form.{Form}
-use Rattle.airline_list.specs.declared.forms.Form.TheVariants.{Neither}
-use Rattle.airline_list.specs.Forms.{form_text, form_of}
+use Rattle.airline_list.specs.declared.End.{End}
+use Rattle.airline_list.specs.Forms.{Form, Airline, Neither, form_text, form_of}
 use Rattle.airline_list.specs.Lists.{none_left}
-use Rattle.airline_list.proofs.Laws.FormLaws.{form-text}
+use Rattle.airline_list.specs.Read.{codes, InRange}
+use Rattle.airline_list.proofs.Laws.FormLaws.{form-text, form-in-range}
 
 -- ---- The forms from a place of the list on.
 abbrev pub form_at : (list : List ℕ) (from : ℕ) → Form
@@ -36,22 +32,12 @@ some-forms list from h =
     let some : 0 < length (drop from list) = simp length-drop (omega arith) in
     rw (first-of-lines (drop from list) some)
 
-pub forms-left : (list : List ℕ) (from : ℕ) → none_left (forms_at list from) ≡ false → from < length list
-forms-left list from h = go (dec_lt from (length list))
-  where
-    go : Dec (from < length list) → from < length list
-    go (yes before) = before
-    go (no past) =
-        let z : true ≡ false = sym (ap none_left (forms-end list from (omega arith))) ∙ h in
-        clash (cc)
-
 -- Whether a line follows is told by the place where one ends.
-pub is_last : (list : List ℕ) (to : ℕ) → leb (length list - to) 1 ≡ none_left (forms_at list (to + 1))
-is_last list to = go (dec_le (length list - to) 1)
-  where
-    go : Dec (length list - to ≤ 1) → leb (length list - to) 1 ≡ none_left (forms_at list (to + 1))
-    go (yes h) = rw (le-leb (length list - to) 1 h, forms-end list (to + 1) (omega arith))
-    go (no h) = rw (lt-leb (length list - to) 1 (omega arith), some-forms list (to + 1) (omega arith))
+pub none-follows : (list : List ℕ) (to : ℕ) → length list - to ≤ 1 → none_left (forms_at list (to + 1)) ≡ true
+none-follows list to h = rw (forms-end list (to + 1) (omega arith))
+
+pub one-follows : (list : List ℕ) (to : ℕ) → 1 < length list - to → none_left (forms_at list (to + 1)) ≡ false
+one-follows list to h = some-forms list (to + 1) (omega arith)
 
 module _ (list : List ℕ) (from : ℕ) where
   -- The forms behind the first line feed.
@@ -79,3 +65,19 @@ module _ (list : List ℕ) (from : ℕ) where
           → from + length (form_text (form_at list from)) ≤ length list
       go (inl e) = rw e (omega arith)
       go (inr e) = rw (← e) (line-within list from h)
+
+-- What a part of the list tells that is lent from a place on, it tells of the list.
+module _ (list : List ℕ) (from : ℕ) (within : from ≤ length list) where
+  part : take (length list - from) (drop from list) ≡ drop from list
+  part = take_all (length list - from) (drop from list) (simp length-drop (omega arith))
+
+  pub form-lent : {form : Form} → form ≡ form_of (first_line (take (length list - from) (drop from list)))
+      → form_at list from ≡ form
+  form-lent e = sym (e ∙ ap (λ t. form_of (first_line t)) part)
+
+  pub length-lent : length (take (length list - from) (drop from list)) + from ≡ length list
+  length-lent = rw part (simp length-drop (omega arith))
+
+-- The code of a line is of three digits.
+pub code-small : (list : List ℕ) (from : ℕ) {code : ℕ} {end : End} → form_at list from ≡ Airline code end → code < codes
+code-small list from e = subst InRange e (form-in-range (first_line (drop from list)))

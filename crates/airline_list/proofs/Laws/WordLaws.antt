@@ -1,45 +1,82 @@
--- Numbers of bytes: two, one behind the other, are one of all their bytes.
-use mathlib.Core.Path.{◌≡◌, refl, sym, ap, ◌∙◌}
-use mathlib.Core.List.{List, [], ◌∷◌, ◌++◌}
-use Prim.Native.Nat.{ℕ, zero, suc, ◌+◌, ◌*◌, ◌/◌, ◌%◌, ◌^◌, ◌<◌}
-use native.Mathlib.Nat.{zero-add, suc-add, mul_comm, mul_assoc, pow-suc}
+-- Words of eight bytes are the same numbers where they are the same bytes.
+use Rattle.std.proofs.Common.{◌≡◌, refl, sym, ap, ◌∙◌}
+use Rattle.std.specs.Prelude.{ℕ, suc, ◌+◌, ◌≤◌, ◌<◌, Bool, true, false, List, [], ◌∷◌, length, get_or, take, drop, eqb}
+use Rattle.std.specs.Int.{w64, from_le_bytes, to_le_bytes}
+use Rattle.std.proofs.lemmas.Nat.{le_bytes_8}
 use native.Mathlib.Omega.{arith}
-use lib.ListN.{length, get_or, take, drop}
-use lib.Seq.{drop-cons, drop-drop}
-use Rattle.airline_list.specs.Words.{bytes_of, NumberAt}
+use native.Mathlib.Decide.{dec_lt}
+use lib.ListN.{length-take, length-drop, get_or-eq_default}
+use lib.Seq.{drop-cons}
+use Rattle.std.proofs.lemmas.List.{get_or-take, get_or-drop}
+use borrow.Author.Tests.{eq-eqb, eqb-true}
+use Rattle.tag.proofs.TagLaws.{clash}
+use Rattle.text.specs.Text.{same}
+use Rattle.text.proofs.Laws.SameTexts.{same-equal, same-itself}
 
-pub one_byte : (text : List ℕ) (at : ℕ) → at < length text → get_or text at 0 < 256 → NumberAt text at 1 (get_or text at 0)
-one_byte text at h small =
-    let low : get_or text at 0 % 256 ≡ get_or text at 0 = omega arith in
-    record { bytes_are = rw (drop-cons text at 0 h, low); small = small }
+abbrev pub Bytes : List ℕ → Type 0
+Bytes word = (length word ≡ 8) × ((i : ℕ) → get_or word i 0 < 256)
 
-none-taken : (n : ℕ) → take {A = ℕ} n [] ≡ []
-none-taken zero = refl
-none-taken (suc n) = refl
+words_same : (one other : List ℕ) → Bytes one → Bytes other
+    → eqb (from_le_bytes w64 one) (from_le_bytes w64 other) ≡ same one other
+words_same one other B C =
+    go (eqb (from_le_bytes w64 one) (from_le_bytes w64 other)) refl (same one other) refl
+  where
+    go : (numbers : Bool) → eqb (from_le_bytes w64 one) (from_le_bytes w64 other) ≡ numbers
+        → (bytes : Bool) → same one other ≡ bytes → numbers ≡ bytes
+    go true e true f = refl
+    go false e false f = refl
+    go true e false f =
+        let n = eqb-true (from_le_bytes w64 one) (from_le_bytes w64 other) e in
+        let is : one ≡ other =
+        sym (le_bytes_8 one (from_le_bytes w64 one) B.0 B.1 refl) ∙ ap (to_le_bytes w64) n
+        ∙ le_bytes_8 other (from_le_bytes w64 other) C.0 C.1 refl in
+        let z : true ≡ false = sym (same-itself one) ∙ ap (same one) is ∙ f in
+        clash (cc)
+    go false e true f =
+        let n = eq-eqb (from_le_bytes w64 one) (from_le_bytes w64 other)
+        (ap (from_le_bytes w64) (same-equal one other f)) in
+        clash (cc)
 
-take-parts : (m n : ℕ) (xs : List ℕ) → take (m + n) xs ≡ take m xs ++ take n (drop m xs)
-take-parts zero n xs = rw (zero-add n)
-take-parts (suc m) n [] = rw (suc-add m n, none-taken n)
-take-parts (suc m) n (x ∷ xs) = rw (suc-add m n) (ap (λ (ys : List ℕ). x ∷ ys) (take-parts m n xs))
+-- ---- The bytes of a word, one by one.
+at-drop : (text : List ℕ) (i j : ℕ) → i < length text → j ≡ i + 1 → drop i text ≡ get_or text i 0 ∷ drop j text
+at-drop text i j h e =
+    let next : suc i ≡ j = omega arith in
+    drop-cons text i 0 h ∙ ap (λ n. get_or text i 0 ∷ drop n text) next
 
-bytes-parts : (m n a b : ℕ) → a < 256 ^ m → bytes_of (m + n) (a + 256 ^ m * b) ≡ bytes_of m a ++ bytes_of n b
-bytes-parts zero n a b h = let z : a + 1 * b ≡ b = omega arith in rw (zero-add n, z)
-bytes-parts (suc m) n a b h =
-    let power = pow-suc 256 m in
-    let p : 256 ^ suc m * b ≡ 256 * (256 ^ m * b) =
-    ap (λ (x : ℕ). x * b) (power ∙ mul_comm (256 ^ m) 256) ∙ mul_assoc 256 (256 ^ m) b in
-    let low : (a + 256 ^ suc m * b) % 256 ≡ a % 256 = omega arith in
-    let high : (a + 256 ^ suc m * b) / 256 ≡ a / 256 + 256 ^ m * b = omega arith in
-    rw (suc-add m n, low, high) (ap (λ (ys : List ℕ). a % 256 ∷ ys) (bytes-parts m n (a / 256) b (omega arith)))
+eight_bytes : (text : List ℕ) (at : ℕ) → at + 8 ≤ length text
+    → take 8 (drop at text)
+    ≡ get_or text at 0 ∷ get_or text (at + 1) 0 ∷ get_or text (at + 2) 0 ∷ get_or text (at + 3) 0
+    ∷ get_or text (at + 4) 0 ∷ get_or text (at + 5) 0 ∷ get_or text (at + 6) 0 ∷ get_or text (at + 7) 0 ∷ []
+eight_bytes text at h =
+    rw (
+      at-drop text at (at + 1) (omega arith) refl,
+      at-drop text (at + 1) (at + 2) (omega arith) (omega arith),
+      at-drop text (at + 2) (at + 3) (omega arith) (omega arith),
+      at-drop text (at + 3) (at + 4) (omega arith) (omega arith),
+      at-drop text (at + 4) (at + 5) (omega arith) (omega arith),
+      at-drop text (at + 5) (at + 6) (omega arith) (omega arith),
+      at-drop text (at + 6) (at + 7) (omega arith) (omega arith),
+      at-drop text (at + 7) (at + 8) (omega arith) (omega arith),
+    )
 
-pub joined : (text : List ℕ) (at m a b : ℕ) → NumberAt text at m a → NumberAt text (at + m) m b
-    → a + 256 ^ m * b < 256 ^ (m + m) → NumberAt text at (m + m) (a + 256 ^ m * b)
-joined text at m a b low high small =
-    record {
-      bytes_are =
-          take-parts m m (drop at text)
-          ∙ (λ i. low.bytes_are i ++ take m (drop-drop m at text i))
-          ∙ ap (λ (ys : List ℕ). bytes_of m a ++ ys) high.bytes_are
-          ∙ sym (bytes-parts m m a b low.small);
-      small = small;
-    }
+-- A word read at a place.
+module _ (text : List ℕ) (at : ℕ) (room : at + 8 ≤ length text) (small : (i : ℕ) → get_or text i 0 < 256) where
+  long : length (take 8 (drop at text)) ≡ 8
+  long = simp (length-take, length-drop) (omega arith)
+
+  here_bytes : Bytes (take 8 (drop at text))
+  here_bytes = (long, λ i. go i (dec_lt i 8))
+    where
+      go : (i : ℕ) → Dec (i < 8) → get_or (take 8 (drop at text)) i 0 < 256
+      go i (yes within) = rw (get_or-take 8 (drop at text) i 0 within, get_or-drop at text i 0) (small (at + i))
+      go i (no past) = rw (get_or-eq_default (take 8 (drop at text)) 0 {n = i} (omega (arith, long))) (omega arith)
+
+  pub word-same : (word : List ℕ) → Bytes word
+      → eqb (from_le_bytes w64 (
+      get_or text at 0 ∷ get_or text (at + 1) 0 ∷ get_or text (at + 2) 0 ∷ get_or text (at + 3) 0
+      ∷ get_or text (at + 4) 0 ∷ get_or text (at + 5) 0 ∷ get_or text (at + 6) 0 ∷ get_or text (at + 7) 0 ∷ []
+      )) (from_le_bytes w64 word)
+      ≡ same (take 8 (drop at text)) word
+  word-same word B =
+      ap (λ bytes. eqb (from_le_bytes w64 bytes) (from_le_bytes w64 word)) (sym (eight_bytes text at room))
+      ∙ words_same (take 8 (drop at text)) word here_bytes B

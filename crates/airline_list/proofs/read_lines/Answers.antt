@@ -1,143 +1,123 @@
-use mathlib.Core.Path.{◌≡◌, ap, ◌∙◌}
+-- `airline_list::read_lines` meets its contract: each way out is one case of what a list comes to.
+use mathlib.Core.Path.{◌≡◌, sym, ap, ◌∙◌}
 use mathlib.Core.List.{List}
-use Prim.Native.Nat.{ℕ, ◌+◌, ◌-◌, ◌≤◌, ◌<◌}
+use mathlib.Core.Logic.{inl, inr}
+use Prim.Native.Nat.{ℕ, ◌+◌, ◌-◌, ◌≤◌}
 use native.Mathlib.Omega.{arith}
-use lib.ListN.{length, take, drop, length-drop}
-use lib.Seq.{take_all}
+use lib.ListN.{length, take, drop}
 use Rattle.text.specs.Lines.{first_line}
-use Rattle.airline_list.specs.declared.Sent.TheVariants.{To}
-use Rattle.airline_list.specs.declared.Turn.TheVariants.{More}
-use Rattle.airline_list.specs.Forms.{form_text, form_of}
-use Rattle.airline_list.proofs.Laws.FormLaws.{form-in-range}
-use Rattle.airline_list.proofs.Laws.LineLaws.{form_at, is_last, form-within}
+use Rattle.airline_list.specs.declared.forms.Form.{Form as Found}
+use Rattle.airline_list.specs.Outcomes.{To, NotSent}
+use Rattle.airline_list.specs.Forms.{Form, said, form_text, form_of}
+use Rattle.airline_list.specs.Read.{sent_to}
+use Rattle.airline_list.proofs.Laws.LineLaws.{form_at, form-lent, form-within, code-small}
 use Rattle.airline_list.proofs.Laws.ReadingLaws.{
-  read-faulty,
-  no_line,
-  line-65,
-  Taken,
-  turn-fault,
-  turn-closed,
-  turn-goes-on,
-  turn_more,
+  no-form,
+  too_many,
+  closes,
+  closes-early,
+  named-again,
+  not-closed,
+  airline_more,
 }
 use Rattle.airline_list.proofs.read_lines.Goals as goal
-use Rattle.airline_list.proofs.read_lines.Goals.{After-first_form-form, After-form_length, After-take_line-turn}
+use Rattle.airline_list.proofs.read_lines.Goals.{then-code-wanted, else-code-wanted}
 
--- The part lent is the text from the place on, so its first line's form is that of the line at the place.
-form_lent :
-    (list : List ℕ) (from : ℕ)
-    → from ≤ length list
-    → form_of (first_line (take (length list - from) (drop from list))) ≡ form_at list from
-form_lent list from h =
-    ap (λ (part : List ℕ). form_of (first_line part))
-    (take_all (length list - from) (drop from list) (simp length-drop (omega arith)))
+-- The form that is found in the part lent is that of the line at the place, which ends where the form's text does.
+module _ (list : List ℕ) (from : ℕ) (within : from ≤ length list) (found : Found)
+    (is : said found ≡ form_of (first_line (take (length list - from) (drop from list)))) where
+  its : {form : Form} → said found ≡ form → form_at list from ≡ form
+  its e = form-lent list from within (sym e ∙ is)
 
--- The form found is that of the line at the place, and the length that of its text.
-form-found :
-    (c : After-first_form-form)
-    → c.first_form-form.result
-    ≡ form_at c.args.list.now
-    c.loop-from.from
-form-found c = c.first_form-form.ensures ∙ form_lent c.args.list.now c.loop-from.from (omega arith)
+  ends : {n : ℕ} → n ≡ length (form_text (said found)) → {form : Form} → said found ≡ form
+      → from + n ≡ from + length (form_text form)
+  ends l e = ap (λ n. from + n) (l ∙ ap (λ f. length (form_text f)) e)
 
-length_found :
-    (c : After-form_length)
-    → c.form_length.result
-    ≡ length (form_text (form_at c.args.list.now
-    c.loop-from.from))
-length_found c =
-    let form = c.first_form-form.ensures ∙ form_lent c.args.list.now c.loop-from.from (omega arith) in
-    c.form_length.ensures ∙ ap (λ form. length (form_text form)) form
+  inside : {n : ℕ} → n ≡ length (form_text (said found)) → from + n ≤ length list
+  inside l =
+      let e = ap (λ f. length (form_text f)) (form-lent list from within is) in
+      omega (arith, form-within list from within)
 
-within :
-    (c : After-form_length)
-    → c.loop-from.from + c.form_length.result
-    ≤ length c.args.list.now
-within c =
-    let l = c.loop-from in
-    rw (length_found c) (form-within c.args.list.now l.from
-    l.invariant.within)
-
-here :
-    (c : After-take_line-turn)
-    → let l = c.loop-from in
-    let a = c.args in
-    Taken a.wanted a.list.now l.from l.line l.seen l.mark (l.from + c.form_length.result)
-    c.take_line-turn.result c.take_line-turn.new.seen c.mark_with-mark.result
-here c =
-    let l = c.loop-from in
-    let list = c.args.list.now in
-    record {
-      reading = l.invariant;
-      before = omega arith;
-      few = omega arith;
-      form = c.first_form-form.result;
-      its-form = c.first_form-form.ensures ∙ form_lent list l.from (omega arith);
-      ends = ap (λ n. l.from + n) c.form_length.ensures;
-      last = _;
-      turns = c.take_line-turn.ensures;
-      marks = c.mark_with-mark.ensures;
-      is_last = is_last list (l.from + c.form_length.result);
-    }
-
--- A line is read after it.
-goes_on :
-    (c : After-take_line-turn)
-    → c.take_line-turn.result ≡ More
-    → c.loop-from.from + c.form_length.result + 1
-    < length c.args.list.now
-goes_on c more = turn-goes-on (here c) more
-
-pub loop-from-init : goal.loop-from-init
-loop-from-init c = c.requires
-
-pub returns-then-line-gt-MOST_LINES : goal.returns-then-line-gt-MOST_LINES
-returns-then-line-gt-MOST_LINES c =
-    let l = c.loop-from in
-    let a = c.args in
-    read-faulty a.wanted a.list.now 27 l.line (line-65 l.invariant (omega arith) c.if-line-gt-MOST_LINES.true)
+pub returns-in_default : goal.returns-in_default
+returns-in_default c =
+    let line = c.loop-line in
+    ap (sent_to c.args.wanted)
+    (no-form line.invariant (form-lent c.args.list.now line.from line.invariant.within c.in_default.ensures))
 
 pub overflow_add-to : goal.overflow_add-to
-overflow_add-to c = omega (arith, within (goal.at.overflow_add-to c).After-form_length)
+overflow_add-to c =
+    let line = c.loop-line in
+    let within = inside c.args.list.now line.from line.invariant.within c.in-Some.form c.in-Some.ensures c.length.ensures in
+    omega arith
 
 pub overflow_sub-last : goal.overflow_sub-last
-overflow_sub-last c = within (goal.at.overflow_sub-last c).After-form_length
+overflow_sub-last c =
+    let line = c.loop-line in
+    inside c.args.list.now line.from line.invariant.within c.in-Some.form c.in-Some.ensures c.length.ensures
 
-pub take_line-turn-requires : goal.take_line-turn-requires
-take_line-turn-requires c =
-    let f = (goal.at.take_line-turn-requires c).After-first_form-form in
-    let from = c.loop-from.from in
+pub insert-requires : goal.insert-requires
+insert-requires c =
+    let line = c.loop-line in
+    code-small c.args.list.now line.from
+    (its c.args.list.now line.from line.invariant.within c.in-Some.form c.in-Some.ensures (ap said c.in-Airline.is))
+
+pub returns-then-not-insert : goal.returns-then-not-insert
+returns-then-not-insert c =
     let list = c.args.list.now in
-    rw (form-found f) (form-in-range (first_line (drop from list)))
+    let line = c.loop-line in
+    let within = line.invariant.within in
+    let is = ap said c.in-Airline.is in
+    ap (sent_to c.args.wanted)
+    (named-again line.invariant (omega arith) (its list line.from within c.in-Some.form c.in-Some.ensures is)
+    (ends list line.from within c.in-Some.form c.in-Some.ensures c.length.ensures is) c.if-not-insert.ensures.is_new)
 
-pub overflow_add-from : goal.overflow_add-from
-overflow_add-from c =
-    let at = goal.at.overflow_add-from c in
-    omega (arith, goes_on at.After-take_line-turn c.in-More.is, within at.After-form_length)
+pub returns-then-last : goal.returns-then-last
+returns-then-last c =
+    let list = c.args.list.now in
+    let line = c.loop-line in
+    let within = line.invariant.within in
+    let is = ap said c.in-Airline.is in
+    ap (sent_to c.args.wanted)
+    (not-closed line.invariant (omega arith) (its list line.from within c.in-Some.form c.in-Some.ensures is)
+    (ends list line.from within c.in-Some.form c.in-Some.ensures c.length.ensures is) c.if-not-insert.ensures.is_new c.if-last.true)
 
-pub loop-from-smaller : goal.loop-from-smaller
-loop-from-smaller c =
-    let at = goal.at.loop-from-smaller c in
-    omega (arith, goes_on at.After-take_line-turn c.in-More.is)
+pub returns-then-last-2 : goal.returns-then-last-2
+returns-then-last-2 c =
+    let list = c.args.list.now in
+    let line = c.loop-line in
+    let within = line.invariant.within in
+    let is = ap said c.in-Others.is in
+    ap To c.unwrap_or.ensures
+    ∙ closes line.invariant (omega arith) (its list line.from within c.in-Some.form c.in-Some.ensures is)
+    (ends list line.from within c.in-Some.form c.in-Some.ensures c.length.ensures is) c.if-last-2.true
 
-pub loop-from-preserved : goal.loop-from-preserved
-loop-from-preserved c =
-    let at = goal.at.loop-from-preserved c in
-    turn_more (here at.After-take_line-turn) c.in-More.is
+pub returns-in-Others : goal.returns-in-Others
+returns-in-Others c =
+    let list = c.args.list.now in
+    let line = c.loop-line in
+    let within = line.invariant.within in
+    let is = ap said c.in-Others.is in
+    ap (sent_to c.args.wanted)
+    (closes-early line.invariant (omega arith) (its list line.from within c.in-Some.form c.in-Some.ensures is)
+    (ends list line.from within c.in-Some.form c.in-Some.ensures c.length.ensures is) c.if-last-2.false)
 
-pub returns-in-Closed : goal.returns-in-Closed
-returns-in-Closed c =
-    let at = goal.at.returns-in-Closed c in
-    let turn = c.in-Closed in
-    ap To c.marked_end.ensures ∙ turn-closed (here at.After-take_line-turn) turn.end turn.is
-
-pub returns-in-Fault : goal.returns-in-Fault
-returns-in-Fault c =
-    let at = goal.at.returns-in-Fault c in
-    let turn = c.in-Fault in turn-fault (here at.After-take_line-turn) turn.number turn.is
+pub loop-line-preserved : goal.loop-line-preserved
+loop-line-preserved c =
+    let list = c.args.list.now in
+    let line = c.loop-line in
+    let within = line.invariant.within in
+    let is = ap said c.in-Airline.is in
+    rw c.if-not-insert.ensures.with_code
+    (airline_more line.invariant (omega arith) (its list line.from within c.in-Some.form c.in-Some.ensures is)
+    (ends list line.from within c.in-Some.form c.in-Some.ensures c.length.ensures is) c.if-not-insert.ensures.is_new c.if-last.false
+    c.if-code-wanted.named
+    (elim c.if-code-wanted.branch [
+      | then-code-wanted w ↦ inl (w.if-code-wanted.true, w.named-is)
+      | else-code-wanted w ↦ inr (w.if-code-wanted.false, w.named-is)
+    ]))
 
 pub returns : goal.returns
 returns c =
-    let l = c.loop-from in
-    let a = c.args in
-    read-faulty a.wanted a.list.now 27 l.line (no_line l.invariant (omega arith))
+    let line = c.loop-line in
+    let last : 65 ≡ line.line = omega arith in
+    ap (λ n. NotSent 27 n) last ∙ ap (sent_to c.args.wanted) (too_many line.invariant (omega arith))

@@ -10,8 +10,7 @@ use lib.ListN.{set}
 use lib.Seq.{sets}
 use native.Mathlib.Decide.{ℕ_discrete}
 use Rattle.tag.specs.Tags.{tag_of, is_tag, digit_of, low_of}
-use Rattle.machine.specs.declared.Answer.{Answer}
-use Rattle.machine.specs.declared.Answer.TheVariants.{Bag, No}
+use Rattle.machine.specs.Outcomes.Answer.{Answer, Bag, No}
 use Rattle.machine.specs.Choice.{◌≟◌, if?◌then◌else◌}
 use Rattle.machine.specs.Answers.{kind_of, payload_of, answer_words, plain_answer_of, answer_of}
 use Rattle.machine.proofs.Basics.Choices.{test-unequal}

@@ -4,8 +4,7 @@ use mathlib.Core.Option.{Option, some}
 use native.Mathlib.Omega.{arith}
 use native.Mathlib.Decide.{ℕ_discrete}
 use borrow.Author.Rules.{rules}
-use Rattle.machine.specs.declared.Answer.{Answer}
-use Rattle.machine.specs.declared.Answer.TheVariants.{Bag}
+use Rattle.machine.specs.Outcomes.Answer.{Answer, Bag}
 use Rattle.machine.specs.Answers.{plain_answer_of}
 use Rattle.answers.proofs.Laws.AnswerWords.{bag-words, plain-words, last-words}
 use Rattle.answers.proofs.answer_of.Goals as goal

@@ -1,46 +1,8 @@
--- `call_read::read` meets its contract: refusals 3 and 4, then `read_lane`.
-use mathlib.Core.Path.{◌≡◌, ◌∙◌}
-use mathlib.Core.List.{List}
-use mathlib.Core.Option.{none}
-use Prim.Native.Nat.{ℕ}
-use native.Mathlib.Omega.{arith}
-use Rattle.answers.specs.Refusals.{number_of}
-use Rattle.machine.specs.Calls.{table_refusal}
-use Rattle.machine.specs.Shape.{WellLinked}
+-- `call_read::read` meets its contract: a table that passes has lanes to walk.
 use Rattle.machine.proofs.Shape.ShapeLaws.{well-linked}
-use Rattle.table_shape.proofs.Laws.TableWords.{header-long}
 use Rattle.table_shape.proofs.Laws.PassedTable.{table-passed}
-use Rattle.call_read.proofs.ReadLaws.{read-refused, read-no-lane, read-goes-on}
 use Rattle.call_read.proofs.read.Goals as goal
 
-pub returns-then-n-ne0 : goal.returns-then-n-ne0
-returns-then-n-ne0 c =
-    let a = c.args in
-    read-refused a.table.now c.table_refusal-n.ensures a.l a.out.now c.if-n-ne0.true
-
--- What passed.
-passes : (ws : List ℕ) {n : ℕ} → n ≡ number_of (table_refusal ws none) → n ≡ 0 → WellLinked ws
-passes ws is_number e = well-linked ws (table-passed ws is_number e)
-
-pub lanes-requires : goal.lanes-requires
-lanes-requires c =
-    header-long c.args.table.now (passes c.args.table.now c.table_refusal-n.ensures c.if-n-ne0.false).length_passes
-
-pub returns-then-lanes-l : goal.returns-then-lanes-l
-returns-then-lanes-l c =
-    let a = c.args in
-    read-no-lane a.table.now c.table_refusal-n.ensures a.l a.out.now c.if-n-ne0.false
-    (omega (arith, c.lanes.ensures, c.if-lanes-l.true))
-
-pub read_lane-requires : goal.read_lane-requires
-read_lane-requires c = (
-  passes c.args.table.now c.table_refusal-n.ensures c.if-n-ne0.false,
-  omega (arith, c.lanes.ensures, c.if-lanes-l.false),
-)
-
-pub returns : goal.returns
-returns c =
-    let a = c.args in
-    c.read_lane.ensures
-    ∙ read-goes-on a.table.now c.table_refusal-n.ensures a.l a.out.now
-    c.if-n-ne0.false (omega (arith, c.lanes.ensures, c.if-lanes-l.false))
+pub invariant_of-read_lane : goal.invariant_of-read_lane
+invariant_of-read_lane c =
+    let ws = c.args.table.now in record { linked = well-linked ws (table-passed ws c.in_ok-table_refusal.ensures) }

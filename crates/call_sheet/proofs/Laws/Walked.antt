@@ -12,7 +12,7 @@ use Rattle.tag.specs.Tags.{billion, largest_tag, tag_of, digit_of, low_of}
 use Rattle.tag.proofs.TagLaws.{tag-of-words, low_small}
 use Rattle.machine.specs.declared.Stored.{Stored}
 use Rattle.machine.specs.Values.{number, bag_ok}
-use Rattle.machine.specs.Table.{value_words}
+use Rattle.machine.specs.Table.{node_count, value_words}
 use Rattle.machine.proofs.Basics.Contradiction.{clash}
 use Rattle.machine.proofs.Words.ValueLaws.{bag-range}
 use Rattle.lane_walk.specs.Walks.{ahead, count_of, node_after}
@@ -58,6 +58,14 @@ module _ (ws : List ℕ) (x left : ℕ) (counted : count_of (ahead ws x) ≡ som
   pub next-tag : (n : ℕ) → n < left → TagAt ws x tags n
   next-tag n h = tag_at ws x tags (tags-ahead (ahead ws x) left counted) n (omega (arith, long))
 
+  -- At the node that the walk has come to.
+  module _ (n : ℕ) {y : ℕ} (more : n < left) (reached : y ≡ node_after ws n x) where
+    pub node-here : y < node_count ws
+    node-here = rw reached (next-tag n more).is_node
+
+    pub tag-here : {u : Stored} → u ≡ value_words ws y → bag_ok u ≡ true
+    tag-here read = rw (read, reached) (next-tag n more).is-tag
+
   pub one-more-taken : (n : ℕ) → n < left
       → take n tags ++ (number (value_words ws (node_after ws n x)) ∷ []) ≡ take (suc n) tags
   one-more-taken n h =
@@ -83,6 +91,8 @@ module _ (ws : List ℕ) (x left : ℕ) (counted : count_of (ahead ws x) ≡ som
 
     pub walked_others : tags_found (ahead ws y) ≡ drop n tags
     walked_others = ap (λ (z : ℕ). tags_found (ahead ws z)) gone ∙ ap tags_found (others-ahead n)
+
+pub ruleset readable = (node-here, tag-here)
 
 -- ---- The words of a tag.
 module _ {v u : Stored} {digit low : ℕ}

@@ -32,39 +32,40 @@ use Rattle.call_sheet.specs.Found.{tags_found}
 use Rattle.call_sheet.proofs.Laws.Walked.{fewer-taken, one-more-taken, taken-long}
 
 -- ---- A line, over a blank one: tags are put on it one by one.
-module _ (out : List ℕ) (at : ℕ) {blanked : List ℕ} (e : blanked ≡ sets out at (line [])) where
-  over-blanks : (text : List ℕ) → length text ≤ column_count → sets blanked at (line text) ≡ sets out at (line text)
+module _ (out : List ℕ) {blanked : List ℕ} (e : blanked ≡ sets out 0 (line [])) where
+  over-blanks : (text : List ℕ) → length text ≤ column_count → sets blanked 0 (line text) ≡ sets out 0 (line text)
   over-blanks text short =
       let empty = line-length [] (omega arith) in
-      ap (λ (l : List ℕ). sets l at (line text)) e
-      ∙ stored-over (line text) (line []) out at (line-length text short ∙ sym empty)
+      ap (λ (l : List ℕ). sets l 0 (line text)) e
+      ∙ stored-over (line text) (line []) out 0 (line-length text short ∙ sym empty)
 
-  pub line-begun : (tags : List ℕ) → blanked ≡ sets blanked at (line (cells (take 0 tags)))
+  pub line-begun : (tags : List ℕ) → blanked ≡ sets blanked 0 (line (cells (take 0 tags)))
   unfolding cells
   line-begun tags = e ∙ sym (over-blanks [] (omega arith))
 
   pub line-done : (tags : List ℕ) (n : ℕ) {done : List ℕ} → n ≡ min (length tags) per_line
-      → done ≡ sets blanked at (line (cells (take n tags))) → done ≡ sets out at (line (cells (take per_line tags)))
+      → done ≡ sets blanked 0 (line (cells (take n tags))) → done ≡ sets out 0 (line (cells (take per_line tags)))
   line-done tags n few f =
       f
-      ∙ ap (λ (l : List ℕ). sets blanked at (line (cells l)))
+      ∙ ap (λ (l : List ℕ). sets blanked 0 (line (cells l)))
       (ap (λ (m : ℕ). take m tags) few ∙ fewer-taken per_line tags)
       ∙ over-blanks (cells (take per_line tags)) (omega (arith, cells_fit tags))
 
 pub tag-put :
     (ws : List ℕ) (x left : ℕ) (counted : count_of (ahead ws x) ≡ some left) (n : ℕ) → n < left → n < per_line
-    → (out : List ℕ) (at : ℕ) {before after : List ℕ} {tag : ℕ}
-    → before ≡ sets out at (line (cells (take n (tags_found (ahead ws x)))))
-    → tag ≡ number (value_words ws (node_after ws n x)) → after ≡ sets before (at + cell_length * n) (tag_text tag)
-    → after ≡ sets out at (line (cells (take (n + 1) (tags_found (ahead ws x)))))
-tag-put ws x left counted n more few out at {before} {after} {tag} so_far is-tag put =
+    → (out : List ℕ) {before after : List ℕ} {tag : ℕ}
+    → before ≡ sets out 0 (line (cells (take n (tags_found (ahead ws x)))))
+    → tag ≡ number (value_words ws (node_after ws n x)) → after ≡ sets before (cell_length * n) (tag_text tag)
+    → after ≡ sets out 0 (line (cells (take (n + 1) (tags_found (ahead ws x)))))
+tag-put ws x left counted n more few out {before} {after} {tag} so_far is-tag put =
     let tags = tags_found (ahead ws x) in
     let long = taken-long ws x left counted n (omega arith) in
+    let column : cell_length * n ≡ 0 + cell_length * length (take n tags) = omega (arith, long) in
     put
-    ∙ ap (λ (l : List ℕ). sets l (at + cell_length * n) (tag_text tag)) so_far
-    ∙ ap (λ (m : ℕ). sets (sets out at (line (cells (take n tags)))) (at + cell_length * m) (tag_text tag)) (sym long)
-    ∙ tag-more out (take n tags) at tag (omega arith)
-    ∙ ap (λ (l : List ℕ). sets out at (line (cells l)))
+    ∙ ap (λ (l : List ℕ). sets l (cell_length * n) (tag_text tag)) so_far
+    ∙ ap (λ (m : ℕ). sets (sets out 0 (line (cells (take n tags)))) m (tag_text tag)) column
+    ∙ tag-more out (take n tags) 0 tag (omega arith)
+    ∙ ap (λ (l : List ℕ). sets out 0 (line (cells l)))
     (ap (λ (b : ℕ). take n tags ++ (b ∷ [])) is-tag ∙ one-more-taken ws x left counted n more ∙ rw add-one)
 
 -- ---- The lines from line i on.
@@ -90,6 +91,8 @@ unfolding tag_lines
 lines_end out tags i h =
     let n : line_count - i ≡ 0 = omega arith in
     rw n
+
+pub ruleset ends = (lines_end)
 
 -- ---- The heading, and the lines after it.
 pub page-stored : (out tags : List ℕ) (count : ℕ) → length out ≡ page_length → {one two : List ℕ}

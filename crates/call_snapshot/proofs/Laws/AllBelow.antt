@@ -1,15 +1,10 @@
--- Tests of all numbers below a bound: alike, joined, one bound after another.
+-- Tests of all numbers below a bound: two tests joined, one bound after another.
 use mathlib.Core.Path.{◌≡◌, refl, ap, ◌∙◌}
 use mathlib.Core.Bool.{Bool, true, false, ◌&&◌, and_assoc, and-true}
-use Prim.Native.Nat.{ℕ, zero, suc, ◌+◌, ◌<◌}
-use native.Mathlib.Omega.{arith}
+use Prim.Native.Nat.{ℕ, zero, suc, ◌+◌}
 use native.Mathlib.Nat.{add-zero, add-suc}
 use Rattle.machine.specs.Shape.{all_below}
-
-pub all_alike : (n : ℕ) (p q : ℕ → Bool) → ((x : ℕ) → x < n → p x ≡ q x) → all_below n p ≡ all_below n q
-unfolding all_below
-all_alike zero p q same = refl
-all_alike (suc n) p q same = rw (all_alike n p q (λ x h. same x (omega arith)), same n (omega arith))
+use Rattle.table_shape.proofs.Laws.Below.{none_below, one-tested}
 
 and-swap : (a b c d : Bool) → (a && b) && (c && d) ≡ (a && c) && (b && d)
 and-swap true true c d = refl
@@ -31,3 +26,6 @@ all-joined n (suc m) p =
     rw (add-suc n m)
     (ap (λ (b : Bool). b && p (n + m)) (all-joined n m p)
     ∙ and_assoc (all_below n p) (all_below m (λ x. p (n + x))) (p (n + m)))
+
+-- What a test of one number after another rests on.
+pub ruleset testing = (none_below, one-tested)

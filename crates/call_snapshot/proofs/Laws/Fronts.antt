@@ -2,26 +2,16 @@
 use mathlib.Core.Path.{◌≡◌, refl, sym, ap, ◌∙◌}
 use mathlib.Core.List.{List, [], ◌∷◌, ◌++◌, append_assoc, append-nil}
 use Prim.Native.Nat.{ℕ, zero, suc, ◌+◌, ◌*◌, ◌-◌, ◌≤◌, ◌<◌}
-use native.Mathlib.Nat.{mul-suc}
 use native.Mathlib.Numerals.{add-one}
 use native.Mathlib.Omega.{arith}
-use lib.ListN.{length, get_or, set, take, drop, length-append, length-drop}
-use lib.Seq.{sets, take-suc, take-suc-set, take_at, length-take-le, drop-drop, get_or-take, get_or-drop}
+use lib.ListN.{length, get_or, set, take, drop, length-append}
+use lib.Seq.{sets, take-suc-set, take_at, length-take-le, get_or-take, get_or-drop}
 use borrow.Rule.Slice.PartMut.{put_mid, post_of}
 use Rattle.machine.specs.Table.{node_length}
 use Rattle.machine.specs.Snapshots.{listed, rows}
 use Rattle.table_layout.proofs.Laws.Fronts.{front-grows}
-use Rattle.table_shape.proofs.Laws.FirstNode.{moved_on}
 
 -- ---- One word more.
-pub one-copied : (from to : List ℕ) (i : ℕ) → i < length from → i < length to → take i to ≡ take i from
-    → take (i + 1) (set to i (get_or from i 0)) ≡ take (i + 1) from
-one-copied from to i h k e =
-    rw (add-one i)
-    (take-suc-set to i (get_or from i 0) k
-    ∙ ap (λ (l : List ℕ). l ++ (get_or from i 0 ∷ [])) e
-    ∙ sym (take-suc from i 0 h))
-
 last-listed : (n : ℕ) (f : ℕ → ℕ) → listed (suc n) f ≡ listed n f ++ (f n ∷ [])
 unfolding listed
 last-listed zero f = refl
@@ -40,22 +30,6 @@ one-listed out f x v h e is =
     ∙ ap (λ (w : ℕ). listed x f ++ (w ∷ [])) is
     ∙ sym (last-listed x f))
 
--- What is left of the nodes from node x on, and then from the next one.
-module _ (ns : List ℕ) (x : ℕ) {rest : List ℕ} (here : rest ≡ drop (node_length * x) ns) where
-  pub node-left : node_length * x + node_length ≤ length ns → node_length ≤ length rest
-  node-left h = let e = ap length here ∙ length-drop (node_length * x) ns in omega arith
-
-  pub next-left : take (length rest - node_length) (drop node_length rest) ≡ drop (node_length * (x + 1)) ns
-  next-left =
-      let next : node_length * x + node_length ≡ node_length * (x + 1) = omega arith in
-      moved_on rest node_length
-      ∙ ap (drop node_length) here
-      ∙ drop-drop node_length (node_length * x) ns
-      ∙ ap (λ (i : ℕ). drop i ns) next
-
-  pub word-left : (c : ℕ) → get_or rest c 0 ≡ get_or ns (node_length * x + c) 0
-  word-left c = ap (λ (l : List ℕ). get_or l c 0) here ∙ get_or-drop (node_length * x) ns c 0
-
 -- ---- One row more.
 last_row : (m n : ℕ) (f : ℕ → ℕ → ℕ) → rows (suc m) n f ≡ rows m n f ++ listed n (f m)
 unfolding rows
@@ -70,9 +44,6 @@ no_row out n f = refl
 
 -- A node's words, out of the four columns as the code lends them.
 module _ (n : ℕ) (cs : List ℕ) (long : length cs ≡ node_length * n) (x : ℕ) (h : x < n) where
-  pub in_left : x < length (take n cs)
-  in_left = let f = length-take-le n cs (omega (arith, long)) in omega arith
-
   in-column : (at k : ℕ) → n ≤ k → get_or (take k (drop at cs)) x 0 ≡ get_or cs (at + x) 0
   in-column at k enough = get_or-take k (drop at cs) x 0 (omega arith) ∙ get_or-drop at cs x 0
 
@@ -127,13 +98,13 @@ one-column cs f n c at ys h e is long =
     ∙ sym (last_row c n f)
     ∙ ap (λ (m : ℕ). rows m n f) (sym (add-one c))
 
--- Column c begins after c columns, and is within the words of four.
-pub column-starts : (n c at : ℕ) → at ≡ n * c → at + n ≡ n * (c + 1)
-column-starts n c at e = omega (arith, mul-suc n c)
-
+-- Column c is within the words of four.
 pub column-ends : (n c at : ℕ) → at ≡ n * c → c < node_length → at + n ≤ node_length * n
 column-ends n zero at e h = omega arith
 column-ends n (suc zero) at e h = omega arith
 column-ends n (suc (suc zero)) at e h = omega arith
 column-ends n (suc (suc (suc zero))) at e h = omega arith
 column-ends n (suc (suc (suc (suc c)))) at e h = absurd (omega arith)
+
+-- What a column rests on.
+pub ruleset listing = (one-listed)

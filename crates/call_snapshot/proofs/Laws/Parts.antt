@@ -12,6 +12,8 @@ use Rattle.machine.specs.Snapshots.{reordered}
 use Rattle.machine.proofs.Snapshots.Reordered.{Order}
 use Rattle.table_shape.proofs.Laws.FirstNode.{moved_on}
 use Rattle.table_layout.specs.Words.{HoldsNodes}
+use Rattle.machine.proofs.Snapshots.RoundTrips.{has-nodes}
+use Rattle.table_layout.proofs.Laws.Views.{part-long}
 use Rattle.call_snapshot.specs.Promised.{with_ends, links_ok, values_ok, columns_ok}
 
 module _ (S : ℕ) (from to : List ℕ) (enough : node_at S ≤ length from) (same : length to ≡ length from) where
@@ -105,3 +107,6 @@ columns-lent ss {S} {cs} count is =
     ∙ ap (λ (n : ℕ).
     let l = node_part ss in links_ok n (take (2 * n) l) && values_ok (take n (drop (2 * n) l)) (drop (3 * n) l))
     count
+
+-- What the columns of a snapshot, and the words written in an order, rest on.
+pub ruleset parts = (columns-lent, ends-laid, order-laid, has-nodes, part-long)

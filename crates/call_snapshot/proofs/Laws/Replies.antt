@@ -1,31 +1,58 @@
 -- The tests of a take and of a put, in 02's order: 22, then 3 and 4 of the words that are tested.
-use mathlib.Core.Path.{◌≡◌, ap, ◌∙◌}
-use mathlib.Core.Logic.{◌≢◌}
-use mathlib.Core.List.{List}
-use mathlib.Core.Option.{none}
-use Prim.Native.Nat.{ℕ}
-use lib.ListN.{length}
-use borrow.Author.Tests.{eq-eqb, ne_eqb}
-use Rattle.machine.specs.declared.Reply.TheVariants.{Accepted, Refused}
-use Rattle.machine.specs.Calls.{table_refusal, Changed, changed}
-use Rattle.machine.specs.Results.{changed_of}
-use Rattle.machine.specs.Snapshots.{snapshot_refusal}
+use Rattle.std.proofs.Common.{◌≡◌, ◌≢◌, sym, ap, ◌∙◌, true, List, ℕ, length, eq-eqb, ne_eqb}
+use Rattle.std.proofs.Math.Option.{some, none}
+use Rattle.machine.specs.Outcomes.Reply.{Reply, Accepted, Refused}
+use Rattle.machine.specs.Shape.{length_ok}
+use Rattle.machine.specs.Calls.{table_refusal, Changed}
+use Rattle.machine.specs.Snapshots.{by_columns, by_nodes, take_snapshot, put_back}
 use Rattle.machine.proofs.Shape.ShapeKept.{table-passes}
-use Rattle.answers.specs.Refusals.{number_of}
 use Rattle.table_shape.proofs.Laws.PassedTable.{table-refused, table-passed}
+use Rattle.call_snapshot.proofs.Laws.ResultTests.{result-length}
 
-module _ (ss ws tested before after : List ℕ) where
-  abbrev outcome : Changed
-  outcome = changed (snapshot_refusal ss ws (table_refusal tested none)) before after
+-- What is answered, with the words that are left.
+abbrev left-with : Reply → List ℕ → Changed
+left-with reply words = record { reply = reply; words = words }
 
-  pub differ-in-length : length ss ≢ length ws → changed_of (Refused 22) before ≡ outcome
-  differ-in-length h = rw (ne_eqb (length ss) (length ws) h)
+-- A snapshot ss and a table ws.
+module _ (ss ws : List ℕ) where
+  pub take-differs : length ss ≢ length ws → left-with (Refused 22) ss ≡ take_snapshot ws ss
+  unfolding take_snapshot
+  take-differs h = rw (ne_eqb (length ss) (length ws) h)
 
-  module _ (same : length ss ≡ length ws) {n : ℕ} (is_number : n ≡ number_of (table_refusal tested none)) where
-    pub refused-with : n ≢ 0 → changed_of (Refused n) before ≡ outcome
-    refused-with h = rw (eq-eqb (length ss) (length ws) same, table-refused tested is_number h none)
+  pub put-differs : length ss ≢ length ws → left-with (Refused 22) ws ≡ put_back ss ws
+  unfolding put_back
+  put-differs h = rw (ne_eqb (length ss) (length ws) h)
 
-    pub reply-accepted : n ≡ 0 → {words : List ℕ} → words ≡ after → changed_of Accepted words ≡ outcome
-    reply-accepted h e =
-        ap (changed_of Accepted) e
-        ∙ rw (eq-eqb (length ss) (length ws) same, table-passes tested (table-passed tested is_number h) none)
+  module _ (same : length ss ≡ length ws) where
+    pub take-refused : {n : ℕ} → some n ≡ table_refusal ws none → left-with (Refused n) ss ≡ take_snapshot ws ss
+    unfolding take_snapshot
+    take-refused said = rw (eq-eqb (length ss) (length ws) same, table-refused ws said none)
+
+    pub put-refused : {n : ℕ} → some n ≡ table_refusal (by_nodes ss) none → left-with (Refused n) ws ≡ put_back ss ws
+    unfolding put_back
+    put-refused said = rw (eq-eqb (length ss) (length ws) same, table-refused (by_nodes ss) said none)
+
+    pub taken : none ≡ table_refusal ws none → {words : List ℕ} → words ≡ by_columns ws
+        → left-with Accepted words ≡ take_snapshot ws ss
+    unfolding take_snapshot
+    taken said e =
+        ap (left-with Accepted) e
+        ∙ rw (eq-eqb (length ss) (length ws) same, table-passes ws (table-passed ws said) none)
+
+    pub put : none ≡ table_refusal (by_nodes ss) none → {words : List ℕ} → words ≡ by_nodes ss
+        → left-with Accepted words ≡ put_back ss ws
+    unfolding put_back
+    put said e =
+        ap (left-with Accepted) e
+        ∙ rw (eq-eqb (length ss) (length ws) same, table-passes (by_nodes ss) (table-passed (by_nodes ss) said) none)
+
+pub taken-long : (ws : List ℕ) → none ≡ table_refusal ws none → length_ok ws ≡ true
+taken-long ws said = (table-passed ws said).length_passes
+
+pub put-long : (ss : List ℕ) → none ≡ table_refusal (by_nodes ss) none → length_ok ss ≡ true
+put-long ss said = sym (result-length ss) ∙ taken-long (by_nodes ss) said
+
+-- What a take and a put rest on.
+pub ruleset takes = (take-differs, take-refused, taken, taken-long)
+
+pub ruleset puts = (put-differs, put-refused, put, put-long)

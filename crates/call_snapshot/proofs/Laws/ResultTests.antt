@@ -38,8 +38,10 @@ use Rattle.machine.proofs.Snapshots.Reordered.{
 }
 use Rattle.machine.proofs.Snapshots.RoundTrips.{has-nodes, has-columns}
 use Rattle.table_shape.specs.Promised.{task_ok}
+use Rattle.table_shape.proofs.Laws.TableWords.{header-long}
 use Rattle.call_snapshot.specs.Promised.{link_ok, links_ok, stored_ok, values_ok, columns_ok}
-use Rattle.call_snapshot.proofs.Laws.AllBelow.{all_alike, all_both, all-joined}
+use Rattle.machine.proofs.Words.LentLaws.{all_alike}
+use Rattle.call_snapshot.proofs.Laws.AllBelow.{all_both, all-joined}
 
 -- ---- Where the snapshot has all its columns.
 module _ (ss : List ℕ) (enough : node_at (node_count ss) ≤ length ss) where
@@ -215,3 +217,6 @@ result-length ss = go (length ss <? node_at (node_count ss))
 pub result-shape : (ss : List ℕ) → length_ok ss ≡ true
     → header_ok ss && columns_ok ss && all_below (task_count ss) (task_ok ss) ≡ shape_ok (by_nodes ss)
 result-shape ss passes = sym (shape-alike ss (has-nodes ss passes))
+
+-- What the tests of a result rest on.
+pub ruleset results = (result-length, header-long)

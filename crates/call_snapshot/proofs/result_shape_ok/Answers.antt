@@ -3,14 +3,10 @@ use mathlib.Core.Path.{◌≡◌, refl, ◌∙◌}
 use mathlib.Core.Bool.{◌&&◌}
 use Rattle.machine.specs.Shape.{header_ok}
 use Rattle.table_layout.proofs.Laws.Conjunctions.{and-passed, and-failed}
-use Rattle.table_shape.proofs.Laws.TableWords.{header-long}
 use Rattle.call_snapshot.specs.Promised.{columns_ok}
 use Rattle.call_snapshot.proofs.Laws.ResultTests.{result-shape}
 use Rattle.call_snapshot.proofs.result_shape_ok.Goals as goal
 use Rattle.call_snapshot.proofs.result_shape_ok.Goals.{then-header_ok, else-header_ok}
-
-pub header_ok-requires : goal.header_ok-requires
-header_ok-requires c = header-long c.args.snapshot.now c.requires
 
 pub returns-then-columns_ok : goal.returns-then-columns_ok
 returns-then-columns_ok c =

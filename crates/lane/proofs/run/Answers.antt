@@ -1,26 +1,28 @@
 -- `lane::run` meets its contract: each turn goes on from what the turns before it led to.
+use mathlib.Core.Path.{refl, ap, ◌∙◌}
+use Rattle.text_scan.specs.Kept.{no_text}
 use Rattle.program_stream.proofs.Laws.MeantLaws.{first-in-order}
+use Rattle.lane.specs.Turns.{goes_on}
 use Rattle.lane.proofs.TurnLaws.{running-starts, running-goes-on, ran-so-far, ran-to-stop}
 use Rattle.lane.proofs.run.Goals as goal
 
-pub loop-turns-init : goal.loop-turns-init
-loop-turns-init g c =
-    let a = c.args in
-    let begun = c.begin_session-carried.ensures in
-    let in_order = begun.in_order a.space.now a.text.now c.requires.largest_table_in_bounds c.requires.text_len in
-    running-starts _ (begun.fresh a.space.now a.text.now) in_order
+pub loop-init : goal.loop-init
+loop-init g c = record { same_space = refl; running = running-starts _ c.requires.at_first c.requires.in_order }
 
-pub returns-then-not-going : goal.returns-then-not-going
-returns-then-not-going g c =
-    let a = c.args in
-    let first = first-in-order a.space.now a.text.now c.requires.largest_table_in_bounds c.requires.text_len in
-    ran-to-stop _ _ first c.loop-turns.invariant c.turn-made.ensures
+pub loop-preserved : goal.loop-preserved
+loop-preserved g c =
+    let kept = c.loop.invariant in
+    record {
+      same_space = c.turn.ensures.same_space ∙ kept.same_space;
+      running = running-goes-on kept.running (ap goes_on c.in_default.is) c.turn.ensures.turned;
+    }
 
-pub loop-turns-preserved : goal.loop-turns-preserved
-loop-turns-preserved g c = running-goes-on c.loop-turns.invariant c.if-not-going.false c.turn-made.ensures
+pub returns-in-Break-clause-ran : goal.returns-in-Break-clause-ran
+returns-in-Break-clause-ran g c =
+    let first = first-in-order c.args.session.now.space.words.now no_text c.requires.in_order.largest refl in
+    ran-to-stop _ _ first c.loop.invariant.running c.turn.ensures.turned
 
-pub returns : goal.returns
-returns g c =
-    let a = c.args in
-    let first = first-in-order a.space.now a.text.now c.requires.largest_table_in_bounds c.requires.text_len in
-    ran-so-far _ _ first c.loop-turns.invariant
+pub returns-clause-ran : goal.returns-clause-ran
+returns-clause-ran g c =
+    let first = first-in-order c.args.session.now.space.words.now no_text c.requires.in_order.largest refl in
+    ran-so-far _ _ first c.loop.invariant.running

@@ -1,18 +1,16 @@
 -- The walk to a place: n bags are counted, and the node of the place is had, or the last that was gone to.
 use mathlib.Core.Path.{◌≡◌, refl, sym, ap, ◌∙◌}
 use mathlib.Core.Logic.{◌≢◌}
-use mathlib.Core.Bool.{true, false, cond}
+use mathlib.Core.Bool.{true, false}
 use mathlib.Core.List.{List, [], ◌∷◌}
 use mathlib.Core.Option.{Option, some, none, map}
 use Prim.Native.Nat.{ℕ, zero, suc, ◌+◌, ◌-◌, ◌≤◌, ◌<◌, min}
 use native.Mathlib.Omega.{arith}
 use native.Mathlib.Numerals.{add-one}
 use native.Mathlib.Nat.{add-zero, zero-add, sub-zero}
-use native.Mathlib.Decide.{dec_le}
-use lib.Dec.{leb}
 use lib.ListN.{length, get_or, drop}
 use lib.Seq.{drop-cons}
-use borrow.Author.Tests.{le-leb, lt-leb}
+use Rattle.std.specs.Prelude.{Ok, Err}
 use Rattle.machine.specs.Sides.{left, right}
 use Rattle.machine.specs.Choice.{◌≟◌}
 use Rattle.machine.specs.Values.{Value, never, bag, N, X, Y, number, bag_ok}
@@ -21,7 +19,7 @@ use Rattle.machine.specs.Table.{node_count, hat, link, value, value_words}
 use Rattle.machine.specs.Calls.{lane_from, lane}
 use Rattle.machine.proofs.Basics.Contradiction.{clash}
 use Rattle.machine.proofs.Words.LaneLaws.{at_value}
-use Rattle.lane_walk.specs.declared.Located.TheVariants.{Node, NoEnd}
+use Rattle.machine.specs.declared.refusal.Refusal.TheVariants.{NoSlot}
 use Rattle.lane_walk.specs.Walks.{ahead, count_of, node_after, located_of}
 use Rattle.lane_walk.proofs.Laws.Turns.{after, no-turn, no-node, at-node, no-bag, one-bag}
 use Rattle.lane_walk.proofs.Laws.Ahead.{BagAhead, bag-ahead}
@@ -83,27 +81,21 @@ module _ (ws : List ℕ) where
   unfolding node_after
   gone-on n first at = rw add-one (ap (link ws right) at)
 
-  pub had-next : (place n first : ℕ) {x there : ℕ}
-      → x ≡ node_after ws (n + 1) first → there ≡ node_after ws (min place n) first
-      → cond (leb (n + 1) place) x there ≡ node_after ws (min place (n + 1)) first
-  had-next place n first {x} {there} at had = go (dec_le (n + 1) place)
-    where
-      go : Dec (n + 1 ≤ place) → cond (leb (n + 1) place) x there ≡ node_after ws (min place (n + 1)) first
-      go (yes h) =
-          let e : min place (n + 1) ≡ n + 1 = omega arith in
-          rw (le-leb (n + 1) place h, e) at
-      go (no h) =
-          let e : min place (n + 1) ≡ min place n = omega arith in
-          rw (lt-leb (n + 1) place (omega arith), e) had
+  pub had-next : (place n first : ℕ) → n < place → node_after ws (n + 1) first ≡ node_after ws (min place (n + 1)) first
+  had-next place n first h = let e : min place (n + 1) ≡ n + 1 = omega arith in rw e
+
+  pub had-before : (place n first : ℕ) → place ≤ n
+      → node_after ws (min place n) first ≡ node_after ws (min place (n + 1)) first
+  had-before place n first h = let e : min place (n + 1) ≡ min place n = omega arith in rw e
 
   -- ---- What the walk answers, by its count.
   module _ (place first : ℕ) where
-    pub located-nowhere : (l : Option (List ℕ)) → count_of l ≡ none → NoEnd ≡ located_of ws place first l
+    pub located-nowhere : (l : Option (List ℕ)) → count_of l ≡ none → Err NoSlot ≡ located_of ws place first l
     located-nowhere none h = refl
     located-nowhere (some bags) h = clash (cc)
 
     pub located-there : (l : Option (List ℕ)) (n : ℕ) {there : ℕ} → count_of l ≡ some n
-        → there ≡ node_after ws (min place n) first → Node n there ≡ located_of ws place first l
+        → there ≡ node_after ws (min place n) first → Ok (record { bags = n; node = there }) ≡ located_of ws place first l
     located-there none n h had = clash (cc)
     located-there (some bags) n h had = let e : length bags ≡ n = cc in rw (e, had)
 
@@ -170,3 +162,12 @@ few-bags ws (suc n) x bags h = go (x ≟ no_node) (few-bags ws n (link ws right 
     go : Dec (x ≡ no_node) → ((r : List ℕ) → after ws n x ≡ some r → length r ≤ n) → length bags ≤ suc n
     go (yes e) few = let z = no-node ws (suc n) x e in clash (cc)
     go (no node) few = by (value ws x) few (sym (at-node ws n x node) ∙ h)
+
+-- ---- Where the walk to a place ends.
+pub ruleset ends = (
+  counting-ends,
+  counting-at-none,
+  counting-at-no-bag,
+  located-nowhere,
+  located-there,
+)

@@ -1,18 +1,11 @@
 -- `line_add::line18` meets its contract: it follows A's outward link into A.
-use native.Mathlib.Omega.{arith}
 use Rattle.machine.specs.Sides.{side_of}
 use Rattle.machine.specs.Steps.{line15, line17}
 use Rattle.machine.specs.Tasks.{in_a}
 use Rattle.machine.specs.Lines.{act}
 use Rattle.line_parts.specs.Lent.{line_of}
-use Rattle.line_parts.proofs.Laws.Ready.{side-below-two}
 use Rattle.line_parts.proofs.Laws.Shapes.{link-followed}
 use Rattle.line_add.proofs.line18.Goals as goal
-
-pub follow-requires : goal.follow-requires
-follow-requires c =
-    let R = c.requires in
-    record { ready = R; of_a_side = side-below-two R; reads_register = omega arith; sets_register = omega arith }
 
 pub returns : goal.returns
 unfolding line_of act

@@ -1,36 +1,52 @@
--- `line_break::line81` meets its contract: it follows A's outward link into B, and the value read gives the step.
-use mathlib.Core.Path.{ap, ◌∙◌}
-use mathlib.Core.Bool.{Bool, cond}
+-- `line_break::line81` meets its contract: it follows A's outward link into B, and the value read may end it.
+use mathlib.Core.Path.{sym, ◌∙◌}
+use borrow.Author.Tests.{eq-eqb}
+use Rattle.machine.proofs.Basics.Contradiction.{clash}
 use Prim.Native.Nat.{ℕ}
-use native.Mathlib.Omega.{arith}
-use Rattle.machine.specs.Choice.{if?◌then◌else◌}
+use lib.ListN.{get_or}
 use Rattle.machine.specs.Sides.{side_of}
-use Rattle.machine.specs.Values.{X, ◌≟ᵛ◌}
-use Rattle.machine.specs.Steps.{line77, line82}
-use Rattle.machine.specs.Tasks.{in_b}
 use Rattle.machine.specs.Lines.{act}
-use Rattle.table_record.specs.Coded.{task_meant}
-use Rattle.line_parts.specs.Lent.{line_of}
-use Rattle.line_parts.proofs.Laws.Ready.{side-below-two, value-read-ok}
-use Rattle.line_parts.proofs.Laws.Chosen.{chosenᵛ}
-use Rattle.line_parts.proofs.Laws.Shapes.{link-followed}
+use Rattle.machine.proofs.Basics.Choices.{test-equal, test-unequal, equalᵛ, unequalᵛ}
+use Rattle.table_record.specs.Coded.{with_register}
+use Rattle.table_layout.specs.Words.{link_in}
+use Rattle.line_parts.specs.Lent.{line_of, next_done}
+use Rattle.line_parts.proofs.Laws.Ready.{by_code, value-read-ok}
+use Rattle.line_parts.proofs.Laws.Compared.{are-same, are-other}
 use Rattle.line_break.proofs.line81.Goals as goal
+use Rattle.line_break.proofs.line81.Goals.{then-b-eq-NONE, else-b-eq-NONE, then-last, else-last}
 
-pub is_x-requires : goal.is_x-requires
-is_x-requires c = value-read-ok c.requires
-
-pub follow-requires : goal.follow-requires
-follow-requires c =
-    let R = c.requires in
-    record { ready = R; of_a_side = side-below-two R; reads_register = omega arith; sets_register = omega arith }
+pub is-last-requires : goal.is-last-requires
+is-last-requires c = value-read-ok c.requires
 
 pub returns : goal.returns
 unfolding line_of act
 returns c g f =
     let t = c.args.t in
-    let s = side_of t.side in
-    let read = (task_meant t).value in
-    let after = if? read ≟ᵛ X s then line82 else line77 in
-    let is_x = ap {B = ℕ} (λ (b : Bool). cond b 82 77) c.is_x.ensures in
-    rw (c.follow.ensures, c.either-after.ensures ∙ is_x ∙ chosenᵛ read (X s) line82 line77)
-    (link-followed c.requires c.args.hat s 0 in_b line82 after)
+    let a = c.in_ok-a.ensures.node in
+    let b = link_in c.args.ns.now (side_of t.side) (get_or t.registers 0 0) in
+    let to = λ (step : ℕ). by_code c.requires (λ u. next_done c.args.hat (with_register u 1 b) step) in
+    rw (c.next.ensures, c.with.ensures, c.link-b.ensures, a.is, test-unequal a.through)
+    (elim c.if-last.branch [
+      | then-last w ↦ elim c.if-b-eq-NONE.branch [
+        | then-b-eq-NONE v ↦ rw (w.step-is, test-equal (rw (c.link-b.ensures, a.is) at v.if-b-eq-NONE.true)) (to 82)
+        | else-b-eq-NONE v ↦
+            let x = are-same v.is-last.ensures (sym v.last-is ∙ w.if-last.true) in
+            rw (
+              w.step-is,
+              test-unequal (rw (c.link-b.ensures, a.is) at v.if-b-eq-NONE.false),
+              equalᵛ x,
+            )
+            (to 82)
+      ]
+      | else-last w ↦ elim c.if-b-eq-NONE.branch [
+        | then-b-eq-NONE v ↦ clash (cc (sym (eq-eqb _ _ v.if-b-eq-NONE.true) ∙ (sym v.last-is ∙ w.if-last.false)))
+        | else-b-eq-NONE v ↦
+            let x = are-other v.is-last.ensures (sym v.last-is ∙ w.if-last.false) in
+            rw (
+              w.step-is,
+              test-unequal (rw (c.link-b.ensures, a.is) at v.if-b-eq-NONE.false),
+              unequalᵛ x,
+            )
+            (to 77)
+      ]
+    ])

@@ -5,21 +5,6 @@ use Rattle.machine.specs.Steps.{line15, line17, line18, line24, line25}
 use Rattle.line_choice.proofs.StepChoice.{left_over, line_at}
 use Rattle.line_choice.proofs.add_line.Goals as goal
 
-pub returns-in-15 : goal.returns-in-15
-returns-in-15 c g f = c.line15.ensures _ _ _ ∙ line_at line15 c.in-15.is _ _ _ _ _
-
-pub returns-in-17 : goal.returns-in-17
-returns-in-17 c g f =
-    c.line17.ensures _ _ ∙ line_at line17 c.in-17.is _ _ _ _ _
-
-pub returns-in-18 : goal.returns-in-18
-returns-in-18 c g f =
-    c.line18.ensures _ _ ∙ line_at line18 c.in-18.is _ _ _ _ _
-
-pub returns-in-24 : goal.returns-in-24
-returns-in-24 c g f =
-    c.line24.ensures _ _ ∙ line_at line24 c.in-24.is _ _ _ _ _
-
 pub returns-in_default : goal.returns-in_default
 returns-in_default c g f =
     let others = line15 ∷ line17 ∷ line18 ∷ line24 ∷ [] in

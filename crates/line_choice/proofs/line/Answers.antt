@@ -26,7 +26,7 @@ push_line-requires c =
     let p = c.requires in
     elim c.in-2-to-3-1.branch [
       | goal.in-5-1 w ↦ ready-keyed push_keys push_lines refl p w.in-5-1.keys1
-      | goal.in_default+then-step-lt26+else-step-lt2+then-step-lt4 w ↦
+      | goal.in_default+then-t-lt26+else-t-lt2+then-t-lt4 w ↦
           ready-within [] push_lines 2 3 refl p (omega arith) (omega arith) refl
     ]
 
@@ -36,9 +36,9 @@ add_line-requires c =
     let p = c.requires in
     elim c.in-15-1.branch [
       | goal.in-15-1 w ↦ ready-keyed add_keys add_lines refl p w.in-15-1.keys2
-      | goal.in_default+then-step-lt26+else-step-lt2+else-step-lt4+else-step-lt17+then-step-lt19 w ↦
+      | goal.in_default+then-t-lt26+else-t-lt2+else-t-lt4+else-t-lt17+then-t-lt19 w ↦
           ready-within [] add_lines 17 18 refl p (omega arith) (omega arith) refl
-      | goal.in_default+then-step-lt26+else-step-lt2+else-step-lt4+else-step-lt17+else-step-lt19+else-step-lt24 w ↦
+      | goal.in_default+then-t-lt26+else-t-lt2+else-t-lt4+else-t-lt17+else-t-lt19+else-t-lt24 w ↦
           ready-within [] add_lines 24 25 refl p (omega arith) (omega arith) refl
     ]
 
@@ -48,7 +48,7 @@ pop_line-requires c =
     let p = c.requires in
     elim c.in-39-to-40-1.branch [
       | goal.in-42-1 w ↦ ready-keyed pop_keys pop_lines refl p w.in-42-1.keys3
-      | goal.in_default+else-step-lt26+else-step-lt39+then-step-lt41 w ↦
+      | goal.in_default+else-t-lt26+else-t-lt39+then-t-lt41 w ↦
           ready-within [] pop_lines 39 40 refl p (omega arith) (omega arith) refl
     ]
 
@@ -64,7 +64,7 @@ unspur_line-requires c =
     let p = c.requires in
     elim c.in-67-to-70-1.branch [
       | goal.in-72-1 w ↦ ready-keyed unspur_keys unspur_lines refl p w.in-72-1.keys5
-      | goal.in_default+else-step-lt26+else-step-lt39+else-step-lt41+else-step-lt67+then-step-lt71 w ↦
+      | goal.in_default+else-t-lt26+else-t-lt39+else-t-lt41+else-t-lt67+then-t-lt71 w ↦
           ready-within [] unspur_lines 67 70 refl p (omega arith) (omega arith) refl
     ]
 
@@ -75,43 +75,19 @@ break_line-requires c =
     let p = c.requires in
     let rest = c.in_default-1.rest in
     elim c.in_default.branch [
-      | goal.in_default-via-then-step-lt26+then-step-lt2 w ↦
+      | goal.in_default-via-then-t-lt26+then-t-lt2 w ↦
           ready-nowhere (ready-within [] [] 0 1 refl p (omega arith) (omega arith) refl) refl
-      | goal.in_default-via-then-step-lt26+else-step-lt2+else-step-lt4+then-step-lt17 w ↦
+      | goal.in_default-via-then-t-lt26+else-t-lt2+else-t-lt4+then-t-lt17 w ↦
           ready-nowhere (ready-within push_keys add_keys 4 16 refl p (omega arith) (omega arith)
           (no_key push_keys _ rest.0.0.0.0.1)) (no_key add_keys _ rest.0.0.0.1)
-      | goal.in_default-via-then-step-lt26+else-step-lt2+else-step-lt4+else-step-lt17+else-step-lt19+then-step-lt24 w ↦
+      | goal.in_default-via-then-t-lt26+else-t-lt2+else-t-lt4+else-t-lt17+else-t-lt19+then-t-lt24 w ↦
           ready-nowhere (ready-within [] [] 19 23 refl p (omega arith) (omega arith) refl) refl
-      | goal.in_default-via-else-step-lt26+then-step-lt39 w ↦
+      | goal.in_default-via-else-t-lt26+then-t-lt39 w ↦
           ready-nowhere (ready-within [] [] 26 38 refl p (omega arith) (omega arith) refl) refl
-      | goal.in_default-via-else-step-lt26+else-step-lt39+else-step-lt41+then-step-lt67 w ↦
+      | goal.in_default-via-else-t-lt26+else-t-lt39+else-t-lt41+then-t-lt67 w ↦
           ready-nowhere (ready-within pop_keys remove_lines 41 66 refl p (omega arith) (omega arith)
           (no_key pop_keys _ rest.0.0.1)) (no_key remove_lines _ rest.0.1)
-      | goal.in_default-via-else-step-lt26+else-step-lt39+else-step-lt41+else-step-lt67+else-step-lt71 w ↦
+      | goal.in_default-via-else-t-lt26+else-t-lt39+else-t-lt41+else-t-lt67+else-t-lt71 w ↦
           ready-within unspur_keys break_lines 71 82 refl p (omega arith) (step-bound _ p.in_group)
           (no_key unspur_keys _ rest.1)
     ]
-
-pub returns-in-54 : goal.returns-in-54
-returns-in-54 c f =
-    c.remove_line.ensures f
-
-pub returns-in_default : goal.returns-in_default
-returns-in_default c f =
-    c.break_line.ensures _ f
-
-pub returns-in-67-to-70 : goal.returns-in-67-to-70
-returns-in-67-to-70 c f =
-    c.unspur_line.ensures _ f
-
-pub returns-in-39-to-40 : goal.returns-in-39-to-40
-returns-in-39-to-40 c f =
-    c.pop_line.ensures _ f
-
-pub returns-in-15 : goal.returns-in-15
-returns-in-15 c f =
-    c.add_line.ensures _ f
-
-pub returns-in-2-to-3 : goal.returns-in-2-to-3
-returns-in-2-to-3 c f =
-    c.push_line.ensures _ f

@@ -14,21 +14,6 @@ line51-requires c =
     let p = c.requires in
     (p.ready, p.bag_at_51 (left_over _ others line51 _ c.in_default.in_default-own.rest p.in_group))
 
-pub returns-in-39 : goal.returns-in-39
-returns-in-39 c g f = c.line39.ensures _ _ _ ∙ line_at line39 c.in-39.is _ _ _ _ _
-
-pub returns-in-40 : goal.returns-in-40
-returns-in-40 c g f =
-    c.line40.ensures _ _ ∙ line_at line40 c.in-40.is _ _ _ _ _
-
-pub returns-in-42 : goal.returns-in-42
-returns-in-42 c g f =
-    c.line42.ensures _ _ ∙ line_at line42 c.in-42.is _ _ _ _ _
-
-pub returns-in-48 : goal.returns-in-48
-returns-in-48 c g f =
-    c.line48.ensures _ _ ∙ line_at line48 c.in-48.is _ _ _ _ _
-
 pub returns-in_default : goal.returns-in_default
 returns-in_default c g f =
     let at_51 = left_over _ others line51 _ c.in_default.in_default-own.rest c.requires.in_group in

@@ -5,17 +5,6 @@ use Rattle.machine.specs.Steps.{line2, line3, line5, line8}
 use Rattle.line_choice.proofs.StepChoice.{left_over, line_at}
 use Rattle.line_choice.proofs.push_line.Goals as goal
 
-pub returns-in-2 : goal.returns-in-2
-returns-in-2 c g f = c.line2.ensures _ _ _ ∙ line_at line2 c.in-2.is _ _ _ _ _
-
-pub returns-in-3 : goal.returns-in-3
-returns-in-3 c g f =
-    c.line3.ensures _ _ ∙ line_at line3 c.in-3.is _ _ _ _ _
-
-pub returns-in-5 : goal.returns-in-5
-returns-in-5 c g f =
-    c.line5.ensures _ _ ∙ line_at line5 c.in-5.is _ _ _ _ _
-
 pub returns-in_default : goal.returns-in_default
 returns-in_default c g f =
     let others = line2 ∷ line3 ∷ line5 ∷ [] in

@@ -5,17 +5,6 @@ use Rattle.machine.specs.Steps.{line54, line56, line58, line60, line62, line64}
 use Rattle.line_choice.proofs.StepChoice.{left_over, line_at}
 use Rattle.line_choice.proofs.remove_line.Goals as goal
 
-pub returns-in-54 : goal.returns-in-54
-returns-in-54 c f = c.line54.ensures _ _ ∙ line_at line54 c.in-54.is _ _ _ _ _
-
-pub returns-in-56 : goal.returns-in-56
-returns-in-56 c f =
-    c.line56.ensures _ _ ∙ line_at line56 c.in-56.is _ _ _ _ _
-
-pub returns-in-62 : goal.returns-in-62
-returns-in-62 c f =
-    c.line62.ensures _ _ ∙ line_at line62 c.in-62.is _ _ _ _ _
-
 pub returns-in_default : goal.returns-in_default
 returns-in_default c f =
     let others = line54 ∷ line56 ∷ line58 ∷ line60 ∷ line62 ∷ [] in

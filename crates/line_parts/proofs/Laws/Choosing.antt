@@ -1,12 +1,17 @@
--- The step after a pop has read a value, on the side whose opposite is o; an effect chosen by a comparison of values.
+-- The step after a pop has read a value, on the side whose opposite is o; the end of a push's chain.
 use mathlib.Core.Path.{◌≡◌, refl}
 use mathlib.Core.Bool.{true, false}
+use mathlib.Core.List.{List}
+use Prim.Native.Nat.{ℕ}
 use Rattle.machine.specs.declared.Stored.{Stored}
 use Rattle.machine.specs.Choice.{if?◌then◌else◌}
 use Rattle.machine.specs.Sides.{Side}
 use Rattle.machine.specs.Values.{Value, never, bag, N, X, Y, ◌≟ᵛ◌, decode, bag_ok}
-use Rattle.machine.specs.Steps.{line39, line48, line51}
-use Rattle.machine.specs.Lines.{Effect, after_read}
+use Rattle.machine.specs.Steps.{line2, line39, line48, line51}
+use Rattle.machine.specs.Lines.{Write, after_read, spliced, next, writing}
+use Rattle.machine.specs.Operations.{push, operation_of}
+use Rattle.machine.specs.Tasks.{Task, no_node, with_counted, with_d}
+use Rattle.machine.proofs.Words.RecordLaws.{operation-of-number}
 use Rattle.machine.proofs.Basics.Contradiction.{clash, refute}
 use Rattle.machine.proofs.Basics.Choices.{equalᵛ, unequalᵛ}
 use Rattle.machine.proofs.Words.ValueLaws.{bag-decoded, decoded-bag}
@@ -39,18 +44,9 @@ read-other o u h k = go (decode u) refl k
     go (X z) e k = refl
     go (Y z) e k = rw (unequalᵛ {u = Y z} {v = X o} (λ e. refute (cc)))
 
--- ---- An effect chosen by a comparison.
-module _ (u v : Value) where
-  pub effect-same : is_same u v ≡ true → (x y : Effect) → (if? u ≟ᵛ v then x else y) ≡ x
-  effect-same h x y = go (u ≟ᵛ v) h
-    where
-      go : (d : Dec (u ≡ v)) → (if? d then true else false) ≡ true → (if? d then x else y) ≡ x
-      go (yes e) h = refl
-      go (no n) h = clash (cc)
-
-  pub effect-other : is_same u v ≡ false → (x y : Effect) → (if? u ≟ᵛ v then x else y) ≡ y
-  effect-other h x y = go (u ≟ᵛ v) h
-    where
-      go : (d : Dec (u ≡ v)) → (if? d then true else false) ≡ false → (if? d then x else y) ≡ y
-      go (yes e) h = clash (cc)
-      go (no n) h = refl
+-- ---- How 25 ends where its swap is done, of a push.
+pub push-spliced :
+    (l : List Write) (t : Task) (n : ℕ)
+    → n ≡ 1
+    → spliced (operation_of n) l t ≡ writing l (next (with_counted (with_d t no_node) 0) line2)
+push-spliced l t n e = rw (e, operation-of-number push)

@@ -1,29 +1,29 @@
 -- The shapes that several lines share, over the definitions: a link followed, and a step by a mark.
-use mathlib.Core.Path.{◌≡◌, refl, ap, ◌∙◌}
+use mathlib.Core.Path.{◌≡◌, refl, sym, ap, ◌∙◌}
 use mathlib.Core.List.{List}
 use Prim.Native.Nat.{ℕ}
 use lib.ListN.{get_or}
+use Rattle.std.specs.Prelude.{Ok, Err}
+use Rattle.machine.specs.declared.refusal.Refusal.TheVariants.{NoSlot}
 use Rattle.machine.specs.Choice.{◌≟◌, if?◌then◌else◌}
 use Rattle.machine.specs.Sides.{Side, side_of}
 use Rattle.machine.specs.Values.{Value, decode, ◌≟ᵛ◌}
 use Rattle.machine.specs.Steps.{Step, step_number}
 use Rattle.machine.specs.Tasks.{Task, Register, in_a, in_b, in_c, in_d, no_node, with_a, with_b, with_c, with_d}
-use Rattle.machine.specs.Lines.{Effect, next, refused, through}
+use Rattle.machine.specs.Lines.{next, refused, through}
 use Rattle.table_record.specs.declared.Task as Tasks
 use Rattle.table_record.specs.Coded.{coded_task, task_meant, with_register}
 use Rattle.table_layout.specs.Words.{link_in, stored_in}
 use Rattle.line_parts.specs.Lent.{
   Ready,
+  line_done,
   outcome_of,
   effect_in,
   next_done,
-  refused_done,
   follow_done,
   mark_done,
 }
-use Rattle.line_parts.specs.declared.ends.Done.{Done}
 use Rattle.line_parts.proofs.Laws.Ready.{by_code}
-use Rattle.line_parts.proofs.Laws.Chosen.{step-chosen, chosenᵛ}
 
 -- A register set by its name, and its place in the code's record.
 abbrev pub setting : Task → Register → ℕ → Task
@@ -52,14 +52,9 @@ module _ {ns : List ℕ} {t : Tasks.Task} (R : Ready ns t) (h : ℕ) where
   abbrev s : Side
   s = side_of t.side
 
-  -- Through a register that is none or not.
-  past-none :
-      {P : Type 0} (no_node? : Dec P) (d : Done) (e : Effect)
-      → outcome_of ns d ≡ effect_in s ns h e
-      → outcome_of ns (if? no_node? then refused_done h t else d)
-      ≡ effect_in s ns h (if? no_node? then refused (task_meant t) else e)
-  past-none (yes p) d e same = by_code R (refused_done h)
-  past-none (no p) d e same = same
+  -- A refused line leaves all as it was.
+  as-it-was : outcome_of ns h t (Err NoSlot) ≡ effect_in s ns h (refused (task_meant t))
+  as-it-was = ap (λ (u : Tasks.Task). outcome_of ns h u (Err NoSlot)) (sym R.canonical)
 
   -- The link on side z of the node in register i, into the register r.
   module _ (z : Side) (i : ℕ) (r : Register) where
@@ -69,27 +64,34 @@ module _ {ns : List ℕ} {t : Tasks.Task} (R : Ready ns t) (h : ℕ) where
     abbrev y : ℕ
     y = link_in ns z x
 
-    set-and-at : (n : Step) → outcome_of ns (next_done h (with_register t (place r) y) (step_number n))
+    set-and-at : (n : Step) → line_done ns (next_done h (with_register t (place r) y) (step_number n))
         ≡ effect_in s ns h (next (setting (task_meant t) r y) n)
     set-and-at n =
         by_code R (λ u. next_done h (with_register u (place r) y) (step_number n))
-        ∙ ap (λ (u : Tasks.Task). outcome_of ns (next_done h u (step_number n))) (coded-setting (task_meant t) r y)
+        ∙ ap (λ (u : Tasks.Task). line_done ns (next_done h u (step_number n))) (coded-setting (task_meant t) r y)
 
     pub link-followed :
         (n m : Step)
-        → outcome_of ns (follow_done ns h t z i (place r) (step_number n) (step_number m))
+        → outcome_of ns h t (follow_done ns h t z i (place r) (step_number n) (step_number m))
         ≡ effect_in s ns h
         (through x (task_meant t) (next (setting (task_meant t) r y) (if? y ≟ no_node then n else m)))
-    link-followed n m =
-        let step = if? y ≟ no_node then n else m in
-        rw (step-chosen y no_node n m)
-        (past-none (x ≟ no_node) (next_done h (with_register t (place r) y) (step_number step))
-        (next (setting (task_meant t) r y) step) (set-and-at step))
+    link-followed n m = go (x ≟ no_node) (y ≟ no_node)
+      where
+        go :
+            (d : Dec (x ≡ no_node)) (e : Dec (y ≡ no_node))
+            → outcome_of ns h t
+            (if? d then Err NoSlot else
+            Ok (next_done h (with_register t (place r) y) (if? e then step_number n else step_number m)))
+            ≡ effect_in s ns h
+            (if? d then refused (task_meant t) else next (setting (task_meant t) r y) (if? e then n else m))
+        go (yes p) e = as-it-was
+        go (no p) (yes q) = set-and-at n
+        go (no p) (no q) = set-and-at m
 
     -- The same where both ways lead to one step.
     pub followed-on :
         (n : Step)
-        → outcome_of ns (follow_done ns h t z i (place r) (step_number n) (step_number n))
+        → outcome_of ns h t (follow_done ns h t z i (place r) (step_number n) (step_number n))
         ≡ effect_in s ns h (through x (task_meant t) (next (setting (task_meant t) r y) n))
     followed-on n =
         link-followed n n
@@ -102,11 +104,17 @@ module _ {ns : List ℕ} {t : Tasks.Task} (R : Ready ns t) (h : ℕ) where
     a = get_or t.registers 0 0
 
     pub by-mark :
-        outcome_of ns (mark_done ns h t mark (step_number n) (step_number m))
+        outcome_of ns h t (mark_done ns h t mark (step_number n) (step_number m))
         ≡ effect_in s ns h
         (through a (task_meant t) (next (task_meant t) (if? decode (stored_in ns a) ≟ᵛ mark then n else m)))
-    by-mark =
-        let step = if? decode (stored_in ns a) ≟ᵛ mark then n else m in
-        rw (chosenᵛ (decode (stored_in ns a)) mark n m)
-        (past-none (a ≟ no_node) (next_done h t (step_number step)) (next (task_meant t) step)
-        (by_code R (λ u. next_done h u (step_number step))))
+    by-mark = go (a ≟ no_node) (decode (stored_in ns a) ≟ᵛ mark)
+      where
+        go :
+            (d : Dec (a ≡ no_node)) (e : Dec (decode (stored_in ns a) ≡ mark))
+            → outcome_of ns h t
+            (if? d then Err NoSlot else Ok (next_done h t (if? e then step_number n else step_number m)))
+            ≡ effect_in s ns h
+            (if? d then refused (task_meant t) else next (task_meant t) (if? e then n else m))
+        go (yes p) e = as-it-was
+        go (no p) (yes q) = by_code R (λ u. next_done h u (step_number n))
+        go (no p) (no q) = by_code R (λ u. next_done h u (step_number m))

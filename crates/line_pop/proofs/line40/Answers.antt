@@ -1,26 +1,12 @@
 -- `line_pop::line40` meets its contract: it follows A's inward link into B.
-use native.Mathlib.Omega.{arith}
 use Rattle.machine.specs.Sides.{opposite, side_of}
 use Rattle.machine.specs.Steps.{line39, line42}
 use Rattle.machine.specs.Tasks.{in_b}
 use Rattle.machine.specs.Lines.{act}
 use Rattle.line_parts.specs.Lent.{line_of}
-use Rattle.line_parts.proofs.Laws.Ready.{number-of-a-side, side-below-two, side-meant}
+use Rattle.line_parts.proofs.Laws.Ready.{side-meant}
 use Rattle.line_parts.proofs.Laws.Shapes.{link-followed}
 use Rattle.line_pop.proofs.line40.Goals as goal
-
-pub opposite-requires : goal.opposite-requires
-opposite-requires c = side-below-two c.requires
-
-pub follow-requires : goal.follow-requires
-follow-requires c =
-    let inward = opposite (side_of c.args.t.side) in
-    record {
-      ready = c.requires;
-      of_a_side = number-of-a-side inward c.opposite.ensures;
-      reads_register = omega arith;
-      sets_register = omega arith;
-    }
 
 pub returns : goal.returns
 unfolding line_of act

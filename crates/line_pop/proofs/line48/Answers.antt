@@ -1,39 +1,27 @@
--- `line_pop::line48` meets its contract: both compares decide whether the lane is empty.
-use mathlib.Core.Path.{sym, ◌∙◌}
+-- `line_pop::line48` meets its contract: the two comparisons decide.
 use native.Mathlib.Omega.{arith}
-use Rattle.machine.specs.Values.{decode}
-use Rattle.machine.specs.Lines.{act}
-use Rattle.machine.proofs.Basics.Choices.{test-equal}
-use Rattle.line_parts.specs.Lent.{line_of, refused_done}
-use Rattle.line_parts.proofs.Laws.Ready.{by_code, value-read-ok, node-value-ok}
-use Rattle.line_parts.proofs.Laws.Compared.{value-compared}
-use Rattle.line_parts.proofs.Laws.Swaps.{swap-empty, not-empty}
+use Rattle.machine.specs.Lines.{act, dcas}
+use Rattle.machine.proofs.Basics.Choices.{test-equal, test-unequal, unequalᵛ}
+use Rattle.line_parts.specs.Lent.{line_of, next_done}
+use Rattle.line_parts.proofs.Laws.Ready.{by_code, value-read-ok}
+use Rattle.line_parts.proofs.Laws.Compared.{are-other}
 use Rattle.line_pop.proofs.line48.Goals as goal
+use Rattle.line_pop.proofs.line48.Goals.{else-hat-t-via-then-hat-t+else-as_read, else-hat-t-via-else-hat-t}
 
-pub returns-then-b-eq-NONE : goal.returns-then-b-eq-NONE
-unfolding line_of act
-returns-then-b-eq-NONE c g f =
-    rw (c.refused.ensures, test-equal c.if-b-eq-NONE.true) (by_code c.requires (refused_done c.args.hat))
-
-pub value-v-requires : goal.value-v-requires
-value-v-requires c = c.requires.held 1 (omega arith) c.if-b-eq-NONE.false
-
-pub same-requires : goal.same-requires
-same-requires c =
-    let R = c.requires in
-    (node-value-ok R 1 (omega arith) c.if-b-eq-NONE.false c.value-v.ensures, value-read-ok R)
-
--- `compared` is what both compares say.
-pub returns-then-both : goal.returns-then-both
-returns-then-both c g f =
-    let v = decode c.args.t.value in
-    let compared = rw (value-compared v c.same.ensures c.value-v.ensures) at c.both.ensures in
-    rw c.answers.ensures
-    (swap-empty c.requires c.args.hat g f c.if-b-eq-NONE.false (sym compared ∙ c.if-both.true))
+pub same-as_read-requires : goal.same-as_read-requires
+same-as_read-requires c =
+    let b = c.in_ok-b.ensures.node in
+    (rw c.value-v.ensures (rw b.is (c.requires.values _ (c.requires.held 1 (omega arith) b.through))), value-read-ok c.requires)
 
 pub returns : goal.returns
+unfolding line_of act dcas
 returns c g f =
-    let v = decode c.args.t.value in
-    let compared = rw (value-compared v c.same.ensures c.value-v.ensures) at c.both.ensures in
-    rw c.next.ensures
-    (not-empty c.requires c.args.hat g f c.if-b-eq-NONE.false (sym compared ∙ c.if-both.false))
+    let b = c.in_ok-b.ensures.node in
+    let kept = by_code c.requires (λ u. next_done c.args.hat u 39) in
+    let v = rw (c.value-v.ensures, b.is) at c.same-as_read.ensures in
+    rw (c.next.ensures, test-unequal b.through)
+    (elim c.else-hat-t.branch [
+      | else-hat-t-via-then-hat-t+else-as_read w ↦
+          rw (test-equal w.if-hat-t.true, unequalᵛ (are-other v w.if-as_read.false)) kept
+      | else-hat-t-via-else-hat-t w ↦ rw (test-unequal w.if-hat-t.false) kept
+    ])

@@ -1,18 +1,11 @@
 -- `line_push::line3` meets its contract: it follows A's outward link into B.
-use native.Mathlib.Omega.{arith}
 use Rattle.machine.specs.Sides.{side_of}
 use Rattle.machine.specs.Steps.{line5, line8}
 use Rattle.machine.specs.Tasks.{in_b}
 use Rattle.machine.specs.Lines.{act}
 use Rattle.line_parts.specs.Lent.{line_of}
-use Rattle.line_parts.proofs.Laws.Ready.{side-below-two}
 use Rattle.line_parts.proofs.Laws.Shapes.{link-followed}
 use Rattle.line_push.proofs.line3.Goals as goal
-
-pub follow-requires : goal.follow-requires
-follow-requires c =
-    let R = c.requires in
-    record { ready = R; of_a_side = side-below-two R; reads_register = omega arith; sets_register = omega arith }
 
 pub returns : goal.returns
 unfolding line_of act

@@ -1,41 +1,38 @@
--- `line_remove::line58` meets its contract: the link decides, and then whether the goal is reached.
-use mathlib.Core.Path.{sym, ◌∙◌}
-use native.Mathlib.Omega.{arith}
+-- `line_remove::line58` meets its contract: a node further, and whether the goal is reached.
+use Prim.Native.Nat.{ℕ, suc}
+use native.Mathlib.Numerals.{add-one}
+use lib.ListN.{get_or}
+use Rattle.machine.specs.Sides.{side_of}
 use Rattle.machine.specs.Lines.{act}
 use Rattle.machine.proofs.Basics.Choices.{test-equal, test-unequal}
-use Rattle.line_parts.specs.Lent.{line_of, refused_done}
-use Rattle.line_parts.proofs.Laws.Ready.{by_code, side-below-two}
-use Rattle.line_parts.proofs.Laws.Cases.{node-further}
+use Rattle.table_record.specs.Coded.{with_register, with_count}
+use Rattle.table_layout.specs.Words.{link_in}
+use Rattle.line_parts.specs.Lent.{line_of, next_done}
+use Rattle.line_parts.proofs.Laws.Ready.{by_code}
 use Rattle.line_remove.proofs.line58.Goals as goal
-
-pub returns-then-a-eq-NONE : goal.returns-then-a-eq-NONE
-unfolding line_of act
-returns-then-a-eq-NONE c f =
-    rw (c.refused.ensures, test-equal c.if-a-eq-NONE.true) (by_code c.requires (refused_done c.args.hat))
-
-pub link-x-requires : goal.link-x-requires
-link-x-requires c =
-    (c.requires.held 0 (omega arith) c.if-a-eq-NONE.false, side-below-two c.requires)
-
-pub returns-then-x-eq-NONE : goal.returns-then-x-eq-NONE
-unfolding line_of act
-returns-then-x-eq-NONE c f =
-    rw (
-      c.answers.ensures,
-      test-unequal c.if-a-eq-NONE.false,
-      test-equal (sym c.link-x.ensures ∙ c.if-x-eq-NONE.true),
-    )
+use Rattle.line_remove.proofs.line58.Goals.{then-counted-goal, else-counted-goal}
 
 pub returns : goal.returns
+unfolding line_of act
 returns c f =
-    let link = c.link-x in
+    let t = c.args.t in
+    let a = c.in_ok-a.ensures.node in
+    let x = link_in c.args.ns.now (side_of t.side) (get_or t.registers 0 0) in
+    let linked = rw (c.link-x.ensures, a.is) at c.if-x-eq-NONE.false in
+    let to = λ (step : ℕ). by_code c.requires
+    (λ u. next_done c.args.hat (with_count (with_register u 0 x) (suc t.counted)) step)
+    in
     rw (
       c.next.ensures,
-      c.either.ensures,
-      c.counting-u.ensures,
+      c.counting.ensures,
       c.with.ensures,
-      link.ensures,
+      c.link-x.ensures,
+      a.is,
+      test-unequal a.through,
+      test-unequal linked,
+      add-one,
     )
-    (node-further c.requires c.args.hat c.args.goal f
-    c.if-a-eq-NONE.false
-    (λ e. c.if-x-eq-NONE.false (link.ensures ∙ e)))
+    (elim c.if-counted-goal.branch [
+      | then-counted-goal w ↦ rw (w.step-is, test-equal (rw add-one at w.if-counted-goal.true)) (to 60)
+      | else-counted-goal w ↦ rw (w.step-is, test-unequal (rw add-one at w.if-counted-goal.false)) (to 56)
+    ])

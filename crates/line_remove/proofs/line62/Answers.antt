@@ -1,65 +1,44 @@
 -- `line_remove::line62` meets its contract: both compares decide, then both values are written, A's first.
-use mathlib.Core.Path.{sym, ◌∙◌}
-use native.Mathlib.Omega.{arith}
-use Rattle.machine.specs.Sides.{side_of}
-use Rattle.machine.specs.Values.{N}
-use Rattle.machine.specs.Lines.{act}
-use Rattle.machine.proofs.Basics.Choices.{test-equal, test-unequal}
-use Rattle.line_parts.specs.Lent.{line_of, refused_done}
-use Rattle.line_parts.proofs.Laws.Ready.{by_code, node-value-ok}
-use Rattle.line_parts.proofs.Laws.Compared.{value-compared, both_told}
-use Rattle.line_parts.proofs.Laws.Swaps.{swap-cut, not-cut}
+use Rattle.machine.specs.Lines.{act, dcas}
+use Rattle.machine.proofs.Basics.Choices.{test-unequal, equalᵛ, unequalᵛ}
+use Rattle.line_parts.specs.Lent.{line_of, next_done}
+use Rattle.line_parts.proofs.Laws.Ready.{by-record}
+use Rattle.line_parts.proofs.Laws.Compared.{are-same, are-other}
 use Rattle.line_remove.proofs.line62.Goals as goal
+use Rattle.line_remove.proofs.line62.Goals.{else-is-via-then-is+else-is-2, else-is-via-else-is}
 
-pub returns-then-a-eq-NONE : goal.returns-then-a-eq-NONE
-unfolding line_of act
-returns-then-a-eq-NONE c g f =
-    rw (c.refused.ensures, test-equal c.if-a-eq-NONE.true) (by_code c.requires (refused_done c.args.hat))
-
-pub returns-then-b-eq-NONE : goal.returns-then-b-eq-NONE
-unfolding line_of act
-returns-then-b-eq-NONE c g f =
-    rw (c.refused-then-b-eq-NONE.ensures, test-unequal c.if-a-eq-NONE.false, test-equal c.if-b-eq-NONE.true)
-    (by_code c.requires (refused_done c.args.hat))
-
-pub value-v-requires : goal.value-v-requires
-value-v-requires c = c.requires.held 0 (omega arith) c.if-a-eq-NONE.false
-
-pub value-w-requires : goal.value-w-requires
-value-w-requires c = c.requires.held 1 (omega arith) c.if-b-eq-NONE.false
-
--- What was read of A and B is as V may be.
-pub is_n-requires : goal.is_n-requires
-is_n-requires c = node-value-ok c.requires 0 (omega arith) c.if-a-eq-NONE.false c.value-v.ensures
-
-pub is_n-requires-2 : goal.is_n-requires-2
-is_n-requires-2 c = node-value-ok c.requires 1 (omega arith) c.if-b-eq-NONE.false c.value-w.ensures
-
-pub set_value-requires : goal.set_value-requires
-set_value-requires c = c.requires.held 0 (omega arith) c.if-a-eq-NONE.false
-
-pub set_value-requires-then-both : goal.set_value-requires-then-both
-set_value-requires-then-both c =
-    rw c.set_value.auto.nodes (c.requires.held 1 (omega arith) c.if-b-eq-NONE.false)
-
--- `compared` is what both compares say.
-pub returns-then-both : goal.returns-then-both
-returns-then-both c g f =
-    let n = N (side_of c.args.t.side) in
-    let A-n = value-compared n c.is_n.ensures c.value-v.ensures in
-    let B-n = value-compared n c.is_n-2.ensures c.value-w.ensures in
-    let compared = both_told A-n B-n c.both.ensures in
-    rw c.next.ensures
-    (swap-cut c.requires c.args.hat g f c.if-a-eq-NONE.false c.if-b-eq-NONE.false
-    (sym compared ∙ c.if-both.true) c.x_of-x.ensures c.y_of-y.ensures
-    c.set_value.ensures c.set_value-then-both.ensures)
+pub returns-then-is-2 : goal.returns-then-is-2
+unfolding line_of act dcas
+returns-then-is-2 c g f =
+    let a = c.in_ok-a.ensures.node in
+    let b = c.in_ok-b.ensures.node in
+    let at-A = rw (c.value-v.ensures, a.is) at c.is.ensures in
+    let at-B = rw (c.value-w.ensures, b.is) at c.is-then-is.ensures in
+    rw (
+      c.next.ensures,
+      c.set_value-then-is-2.ensures,
+      c.of-then-is-2.ensures,
+      c.set_value.ensures,
+      c.of.ensures,
+      a.is,
+      b.is,
+      test-unequal a.through,
+      test-unequal b.through,
+      equalᵛ (are-same at-A c.if-is.true),
+      equalᵛ (are-same at-B c.if-is-2.true),
+    )
+    (by-record c.requires.canonical _ (λ u. next_done c.args.hat u 64))
 
 pub returns : goal.returns
+unfolding line_of act dcas
 returns c g f =
-    let n = N (side_of c.args.t.side) in
-    let A-n = value-compared n c.is_n.ensures c.value-v.ensures in
-    let B-n = value-compared n c.is_n-2.ensures c.value-w.ensures in
-    let compared = both_told A-n B-n c.both.ensures in
-    rw c.answers.ensures
-    (not-cut c.requires c.args.hat g f c.if-a-eq-NONE.false c.if-b-eq-NONE.false
-    (sym compared ∙ c.if-both.false))
+    let a = c.in_ok-a.ensures.node in
+    let b = c.in_ok-b.ensures.node in
+    let at-A = rw (c.value-v.ensures, a.is) at c.is.ensures in
+    rw (c.answers.ensures, test-unequal a.through, test-unequal b.through)
+    (elim c.else-is.branch [
+      | else-is-via-then-is+else-is-2 w ↦
+          let at-B = rw (c.value-w.ensures, b.is) at w.is-then-is.ensures in
+          rw (equalᵛ (are-same at-A w.if-is.true), unequalᵛ (are-other at-B w.if-is-2.false))
+      | else-is-via-else-is w ↦ rw (unequalᵛ (are-other at-A w.if-is.false))
+    ])

@@ -1,19 +1,12 @@
 -- `line_unspur::line70` meets its contract: it follows B's outward link into C.
-use native.Mathlib.Omega.{arith}
 use Rattle.machine.specs.Sides.{side_of}
 use Rattle.machine.specs.Steps.{line72}
 use Rattle.machine.specs.Tasks.{in_c}
 use Rattle.machine.specs.Lines.{act, back}
 use Rattle.table_record.specs.Coded.{task_meant}
 use Rattle.line_parts.specs.Lent.{line_of}
-use Rattle.line_parts.proofs.Laws.Ready.{side-below-two}
 use Rattle.line_parts.proofs.Laws.Shapes.{link-followed}
 use Rattle.line_unspur.proofs.line70.Goals as goal
-
-pub follow-requires : goal.follow-requires
-follow-requires c =
-    let R = c.requires in
-    record { ready = R; of_a_side = side-below-two R; reads_register = omega arith; sets_register = omega arith }
 
 pub returns : goal.returns
 unfolding line_of act

@@ -8,8 +8,7 @@ use mathlib.Core.Option.{Option, some, none, bind}
 use Prim.Native.Nat.{ℕ}
 use lib.Dec.{eqb}
 use lib.ListN.{length}
-use Rattle.machine.specs.declared.Reply.{Reply}
-use Rattle.machine.specs.declared.Reply.TheVariants.{Accepted, Refused as Reply-Refused}
+use Rattle.machine.specs.Outcomes.Reply.{Reply, Accepted, Refused as Reply-Refused}
 use Rattle.machine.specs.Shape.{same_words, length_ok, shape_ok}
 use Rattle.machine.specs.Calls.{unless, table_refusal, Changed, start}
 use Rattle.machine.specs.Snapshots.{by_nodes, take_snapshot, put_back}

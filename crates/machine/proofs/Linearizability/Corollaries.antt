@@ -10,10 +10,10 @@ use lib.Dec.{leb, ltb, eqb}
 use lib.ListN.{length, drop}
 use Rattle.tag.specs.Tags.{all_tag_words}
 use borrow.Author.Tests.{le-leb, lt-leb, lt-ltb}
-use Rattle.machine.specs.declared.Answer.TheVariants.{Refused}
-use Rattle.machine.specs.declared.Dispatch.TheVariants.{Answered}
-use Rattle.machine.specs.declared.Reply.TheVariants.{Accepted, Refused as Reply-Refused}
-use Rattle.machine.specs.declared.Reading.TheVariants.{Count}
+use Rattle.machine.specs.Outcomes.Answer.{Refused}
+use Rattle.machine.specs.Outcomes.Dispatch.{Answered}
+use Rattle.machine.specs.Outcomes.Reply.{Accepted, Refused as Reply-Refused}
+use Rattle.machine.specs.Outcomes.Reading.{Count}
 use Rattle.machine.specs.declared.Stored.{Stored}
 use Rattle.machine.specs.Counts.{count}
 use Rattle.machine.specs.Sides.{side_of}

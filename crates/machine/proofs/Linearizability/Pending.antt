@@ -11,7 +11,7 @@ use native.Mathlib.Omega.{arith}
 use lib.Dec.{eqb}
 use lib.ListN.{length}
 use borrow.Author.Tests.{eqb-true}
-use Rattle.machine.specs.declared.Reply.TheVariants.{Accepted}
+use Rattle.machine.specs.Outcomes.Reply.{Accepted}
 use Rattle.machine.specs.declared.Stored.{Stored}
 use Rattle.machine.specs.Choice.{◌≟◌, ◌<?◌}
 use Rattle.machine.specs.Sides.{side_of}

@@ -4,8 +4,7 @@ use mathlib.Core.Path.{◌≡◌, refl, sym, ap, ◌∙◌, subst}
 use mathlib.Core.List.{List, [], ◌∷◌, map}
 use mathlib.Core.Option.{Option, some, none}
 use Prim.Native.Nat.{ℕ}
-use Rattle.machine.specs.declared.Reply.{Reply}
-use Rattle.machine.specs.declared.Reply.TheVariants.{Accepted}
+use Rattle.machine.specs.Outcomes.Reply.{Reply, Accepted}
 use Rattle.machine.specs.Calls.{start_refusal, changed, start_words, start}
 use Rattle.machine.specs.Lent.{lent_to}
 use Rattle.machine.specs.Row.{Note, new_note, Row, empty_row, noted}

@@ -6,7 +6,7 @@ use mathlib.Core.List.{List}
 use Prim.Native.Nat.{ℕ, suc}
 use native.Mathlib.Omega.{arith}
 use borrow.Author.Tests.{eqb-true, ltb-true, lt-ltb, le-leb}
-use Rattle.machine.specs.declared.Answer.{Answer}
+use Rattle.machine.specs.Outcomes.Answer.{Answer}
 use Rattle.machine.specs.declared.Stored.{Stored}
 use Rattle.machine.specs.Sides.{opposite}
 use Rattle.machine.specs.Values.{bag, N, X, stored, encode, bag_ok, same_stored}

@@ -9,9 +9,8 @@ use native.Mathlib.Omega.{arith}
 use lib.Dec.{ltb}
 use lib.ListN.{length}
 use Rattle.machine.specs.declared.Stored.{Stored}
-use Rattle.machine.specs.declared.ByList.TheVariants.{Replied}
-use Rattle.airline_list.specs.declared.Sent.{Sent}
-use Rattle.airline_list.specs.declared.Sent.TheVariants.{To, NotSent}
+use Rattle.machine.specs.Outcomes.ByList.{Replied}
+use Rattle.airline_list.specs.Outcomes.{Sent, To, NotSent}
 use Rattle.airline_list.specs.Lists.{verdict, sent}
 use Rattle.machine.specs.Choice.{◌<?◌}
 use Rattle.machine.specs.Sides.{side_of, side_number}

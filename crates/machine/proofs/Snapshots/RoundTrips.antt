@@ -10,7 +10,7 @@ use lib.Dec.{eqb}
 use lib.ListN.{length, get_or, length-take}
 use lib.Seq.{get_or-drop}
 use borrow.Author.Tests.{eqb-true, eq-eqb}
-use Rattle.machine.specs.declared.Reply.TheVariants.{Accepted, Refused as Reply-Refused}
+use Rattle.machine.specs.Outcomes.Reply.{Accepted, Refused as Reply-Refused}
 use Rattle.machine.specs.Choice.{◌<?◌}
 use Rattle.machine.specs.Counts.{count}
 use Rattle.machine.specs.Table.{header_length, node_length, node_at, node_count}

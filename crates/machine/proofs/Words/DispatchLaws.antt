@@ -8,9 +8,8 @@ use native.Mathlib.Decide.{dec_lt}
 use lib.Dec.{ltb}
 use borrow.Author.Tests.{lt-ltb, le-ltb}
 use Rattle.tag.specs.Tags.{largest_tag}
-use Rattle.machine.specs.declared.Answer.TheVariants.{Going}
-use Rattle.machine.specs.declared.Dispatch.{Dispatch}
-use Rattle.machine.specs.declared.Dispatch.TheVariants.{Idle, Answered}
+use Rattle.machine.specs.Outcomes.Answer.{Going}
+use Rattle.machine.specs.Outcomes.Dispatch.{Dispatch, Idle, Answered}
 use Rattle.machine.specs.Answers.{dispatch_goes_on, dispatch_payload_of}
 use Rattle.machine.specs.Calls.{Dispatched, dispatch, dispatches, went_on, dispatches_made}
 use Rattle.machine.proofs.Basics.Contradiction.{clash}

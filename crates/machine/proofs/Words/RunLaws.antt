@@ -7,8 +7,7 @@ use Prim.Native.Nat.{ℕ, zero, suc, ◌≤◌}
 use native.Mathlib.Omega.{arith}
 use lib.ListN.{drop}
 use Rattle.tag.specs.Tags.{largest_tag}
-use Rattle.machine.specs.declared.Answer.{Answer}
-use Rattle.machine.specs.declared.Answer.TheVariants.{Going, Pushed, Bag, Empty, Full, Yes, No, Refused}
+use Rattle.machine.specs.Outcomes.Answer.{Answer, Going, Pushed, Bag, Empty, Full, Yes, No, Refused}
 use Rattle.machine.specs.Answers.{answer_length, payload_of, refusal_of, is_going}
 use Rattle.machine.specs.Calls.{Ticked, tick_on, tick, ticks, RunDone, stopped, after_tick, run_on}
 use Rattle.machine.proofs.Basics.Contradiction.{clash}

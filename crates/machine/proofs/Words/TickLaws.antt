@@ -7,7 +7,7 @@ use Prim.Native.Nat.{ℕ, ◌+◌, ◌%◌, ◌^◌, ◌≤◌, zero-le, ◌<◌
 use native.Mathlib.Omega.{arith}
 use lib.Dec.{ltb}
 use Rattle.tag.specs.Tags.{largest_tag}
-use Rattle.machine.specs.declared.Answer.TheVariants.{Refused}
+use Rattle.machine.specs.Outcomes.Answer.{Refused}
 use Rattle.machine.specs.Sides.{Side, right}
 use Rattle.machine.specs.Tasks.{words_of}
 use Rattle.machine.specs.Table.{node_count, task_count, growth, lane_count, most_lanes, tick_count, task}

@@ -6,7 +6,7 @@ use Prim.Native.Nat.{ℕ, suc, ◌+◌, ◌-◌, ◌≤◌, ◌<◌}
 use native.Mathlib.Omega.{arith}
 use lib.ListN.{length}
 use Rattle.machine.specs.Choice.{◌≟◌, ◌<?◌}
-use Rattle.machine.specs.declared.Answer.TheVariants.{Pushed, Bag, Empty, Full, Yes, No}
+use Rattle.machine.specs.Outcomes.Answer.{Pushed, Bag, Empty, Full, Yes, No}
 use Rattle.machine.specs.Sides.{Side, left, right}
 use Rattle.machine.specs.Row.{put}
 use Rattle.machine_capacity.specs.Alone.{

@@ -4,7 +4,7 @@ use mathlib.Core.Logic.{◌≢◌, inl, inr}
 use mathlib.Core.List.{List}
 use Prim.Native.Nat.{ℕ, zero, suc, ◌+◌, ◌-◌, ◌<◌}
 use native.Mathlib.Omega.{arith}
-use Rattle.machine.specs.declared.Answer.TheVariants.{Yes}
+use Rattle.machine.specs.Outcomes.Answer.{Yes}
 use Rattle.machine.specs.Choice.{◌≟◌}
 use Rattle.machine.specs.Sides.{Side}
 use Rattle.machine.specs.Values.{Value, never, N, X, Y, ◌≟ᵛ◌}

@@ -4,7 +4,7 @@ use mathlib.Core.List.{List, [], ◌∷◌}
 use mathlib.Core.Option.{bind}
 use native.Mathlib.Decide.{ℕ_discrete, dec_lt, dec_le}
 use lib.ListN.{replicate}
-use Rattle.machine.specs.declared.Answer.TheVariants.{Pushed, Bag, Empty, Full, Yes, No, Refused}
+use Rattle.machine.specs.Outcomes.Answer.{Pushed, Bag, Empty, Full, Yes, No, Refused}
 use Rattle.machine.specs.Sides.{left, right}
 use Rattle.machine.specs.Operations.{push, pop, add, remove}
 use Rattle.machine.specs.Values.{Value-discrete, decode}

@@ -8,8 +8,7 @@ use Prim.Native.Nat.{ℕ, ◌+◌, ◌≤◌, ◌<◌}
 use native.Mathlib.Omega.{arith}
 use lib.ListN.{length}
 use Rattle.machine.specs.Choice.{◌≟◌, ◌<?◌, if?◌then◌else◌}
-use Rattle.machine.specs.declared.Answer.{Answer}
-use Rattle.machine.specs.declared.Answer.TheVariants.{Pushed, Full}
+use Rattle.machine.specs.Outcomes.Answer.{Answer, Pushed, Full}
 use Rattle.machine.specs.Sides.{Side, left, right, opposite, side_of}
 use Rattle.machine.specs.Values.{number}
 use Rattle.machine.specs.Operations.{Operation, push}

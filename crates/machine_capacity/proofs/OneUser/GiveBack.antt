@@ -9,8 +9,7 @@ use native.Mathlib.Decide.{ℕ_discrete}
 use lib.ListN.{length}
 use borrow.Author.Tests.{lt-ltb}
 use Rattle.machine.specs.Choice.{◌≟◌, ◌<?◌}
-use Rattle.machine.specs.declared.Answer.{Answer}
-use Rattle.machine.specs.declared.Answer.TheVariants.{Pushed, Bag, Full, Yes, No}
+use Rattle.machine.specs.Outcomes.Answer.{Answer, Pushed, Bag, Full, Yes, No}
 use Rattle.machine.specs.Sides.{Side}
 use Rattle.machine.specs.Operations.{push, pop, remove}
 use Rattle.machine.specs.Answers.{kind_of}

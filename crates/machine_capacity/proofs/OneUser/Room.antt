@@ -10,8 +10,7 @@ use native.Mathlib.Decide.{ℕ_discrete}
 use lib.Dec.{leb, ltb, eqb}
 use lib.ListN.{length}
 use borrow.Author.Tests.{eqb-false, ltb-true, lt-ltb}
-use Rattle.machine.specs.declared.Answer.{Answer}
-use Rattle.machine.specs.declared.Answer.TheVariants.{Pushed, Full}
+use Rattle.machine.specs.Outcomes.Answer.{Answer, Pushed, Full}
 use Rattle.machine.specs.Choice.{◌≟◌, ◌<?◌}
 use Rattle.machine.specs.Sides.{Side, left, right, side_number, side_of}
 use Rattle.machine.specs.Values.{stored, number, bag_ok}

@@ -7,8 +7,8 @@ use mathlib.Core.Option.{Option, some, none}
 use Prim.Native.Nat.{ℕ, zero, suc, ◌+◌, ◌*◌, ◌-◌, ◌≤◌, ◌<◌}
 use native.Mathlib.Omega.{arith}
 use borrow.Author.Tests.{lt-ltb}
-use Rattle.machine.specs.declared.Answer.TheVariants.{Going}
-use Rattle.machine.specs.declared.Dispatch.TheVariants.{Idle, Answered}
+use Rattle.machine.specs.Outcomes.Answer.{Going}
+use Rattle.machine.specs.Outcomes.Dispatch.{Idle, Answered}
 use Rattle.machine.specs.Sides.{right}
 use Rattle.machine.specs.Tasks.{Task}
 use Rattle.machine.specs.Table.{node_count, task_count, lane_count, dispatched, task, set_dispatched}

@@ -2,8 +2,8 @@
 use mathlib.Core.Path.{◌≡◌, refl, ap, subst}
 use mathlib.Core.List.{List}
 use Prim.Native.Nat.{ℕ, ◌<◌}
-use Rattle.machine.specs.declared.Answer.TheVariants.{Refused}
-use Rattle.machine.specs.declared.Dispatch.TheVariants.{Idle, Answered}
+use Rattle.machine.specs.Outcomes.Answer.{Refused}
+use Rattle.machine.specs.Outcomes.Dispatch.{Idle, Answered}
 use Rattle.machine.specs.Sides.{right}
 use Rattle.machine.specs.Table.{node_count, task_count, growth, lane_count, set_dispatched}
 use Rattle.machine.specs.Answers.{dispatch_refusal_of}

@@ -7,7 +7,7 @@ use mathlib.Core.List.{List}
 use mathlib.Core.Option.{none}
 use Prim.Native.Nat.{ℕ, suc, ◌+◌, ◌*◌, ◌-◌, ◌≤◌, ◌<◌}
 use native.Mathlib.Omega.{arith}
-use Rattle.machine.specs.declared.Answer.TheVariants.{Going}
+use Rattle.machine.specs.Outcomes.Answer.{Going}
 use Rattle.machine.specs.Sides.{Side, right, opposite}
 use Rattle.machine.specs.Values.{Y}
 use Rattle.machine.specs.Tasks.{Task}

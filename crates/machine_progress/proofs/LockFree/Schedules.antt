@@ -7,7 +7,7 @@ use mathlib.Core.Option.{none}
 use Prim.Native.Nat.{ℕ, ◌<◌}
 use native.Mathlib.Omega.{arith}
 use lib.ListN.{length}
-use Rattle.machine.specs.declared.Answer.TheVariants.{Going}
+use Rattle.machine.specs.Outcomes.Answer.{Going}
 use Rattle.machine.specs.Tasks.{Task}
 use Rattle.machine.specs.Table.{task}
 use Rattle.machine.specs.Calls.{is_busy, tick_refusal, effect_of, Ticked, tick_on}

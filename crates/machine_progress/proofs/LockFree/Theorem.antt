@@ -4,8 +4,8 @@ use mathlib.Core.List.{List}
 use mathlib.Core.Option.{Option, some, none}
 use Prim.Native.Nat.{ℕ, zero, suc, ◌+◌, ◌*◌, ◌≤◌, ◌<◌}
 use native.Mathlib.Omega.{arith}
-use Rattle.machine.specs.declared.Answer.TheVariants.{Going, Refused}
-use Rattle.machine.specs.declared.Dispatch.TheVariants.{Answered}
+use Rattle.machine.specs.Outcomes.Answer.{Going, Refused}
+use Rattle.machine.specs.Outcomes.Dispatch.{Answered}
 use Rattle.machine.specs.Table.{node_count, task_count, lane_count, set_dispatched}
 use Rattle.machine.specs.Answers.{refusal_of, dispatch_refusal_of}
 use Rattle.machine.specs.Calls.{

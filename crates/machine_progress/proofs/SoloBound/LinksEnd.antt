@@ -6,7 +6,7 @@ use mathlib.Core.Bool.{Bool}
 use mathlib.Core.List.{List, [], ◌∷◌}
 use Prim.Native.Nat.{ℕ, suc}
 use native.Mathlib.Omega.{arith}
-use Rattle.machine.specs.declared.Answer.{Answer}
+use Rattle.machine.specs.Outcomes.Answer.{Answer}
 use Rattle.machine.specs.Sides.{Side}
 use Rattle.machine.specs.Values.{X, Value, N}
 use Rattle.machine.specs.Steps.{Step}

@@ -7,7 +7,7 @@ use mathlib.Core.Option.{none}
 use Prim.Native.Nat.{ℕ, ◌-◌, ◌≤◌, ◌<◌}
 use native.Mathlib.Omega.{arith}
 use borrow.Author.Tests.{ltb-true, leb-true}
-use Rattle.machine.specs.declared.Answer.TheVariants.{Going}
+use Rattle.machine.specs.Outcomes.Answer.{Going}
 use Rattle.machine.specs.Choice.{◌<?◌}
 use Rattle.machine.specs.Sides.{Side, left, right, opposite}
 use Rattle.machine.specs.Operations.{idle, push, add, goal_of}

@@ -9,18 +9,18 @@ use lib.Dec.{ltb}
 use lib.ListN.{length, length-append, drop}
 use borrow.Author.Tests.{le-leb}
 use Rattle.tag.proofs.TagLaws.{length-tag-words, tags-in-words}
-use Rattle.machine.specs.declared.Reading.{Reading}
 use Rattle.machine.specs.Choice.{◌≟◌}
 use Rattle.machine.specs.Sides.{left, right}
 use Rattle.machine.specs.Values.{Value, never, bag, N, X, Y}
 use Rattle.machine.specs.Tasks.{no_node}
 use Rattle.machine.specs.Table.{node_count, lane_count, hat, link, value}
 use Rattle.machine.specs.Calls.{unless, lane_refusal, lane_from, lane, ReadDone, read_into, read}
-use Rattle.machine.specs.Results.{read_of}
+use Rattle.machine.specs.Results.{reading_in, read_of}
 use Rattle.machine.specs.Shape.{length_ok, shape_ok}
 use Rattle.machine.proofs.Basics.Choices.{by-if}
 use Rattle.machine.proofs.Basics.Contradiction.{clash}
-use Rattle.answers.specs.Refusals.{number_of}
+use Rattle.std.proofs.Common.{Result}
+use Rattle.machine.specs.declared.refusal.Refusal.{Refusal}
 use Rattle.table_shape.proofs.Laws.PassedTable.{table-passed, few-nodes}
 use Rattle.program_print.specs.Lines.{lane_text}
 use Rattle.program_print.specs.Outcomes.{reading_text, reading_count}
@@ -62,7 +62,7 @@ lane-from-short ws (suc n) x =
 table-passes :
     (a b c : Bool)
     → unless a 3 (unless b 4 (unless c 26 none)) ≡ none
-    → 0 ≡ number_of (unless a 3 (unless b 4 none))
+    → none ≡ unless a 3 (unless b 4 none)
 table-passes true true c h = refl
 table-passes true false c h = clash (cc)
 table-passes false b c h = clash (cc)
@@ -70,8 +70,8 @@ table-passes false b c h = clash (cc)
 lane-short : (ws : List ℕ) (l : ℕ) → lane_refusal ws l none ≡ none → counted_in (lane ws l) ≤ most_bags
 unfolding lane
 lane-short ws l e =
-    let zero_is = table-passes (length_ok ws) (shape_ok ws) (ltb l (lane_count ws)) e in
-    let few : node_count ws ≤ most_bags = few-nodes ws (table-passed ws {n = 0} zero_is refl) in
+    let passes = table-passes (length_ok ws) (shape_ok ws) (ltb l (lane_count ws)) e in
+    let few : node_count ws ≤ most_bags = few-nodes ws (table-passed ws passes) in
     omega (arith, lane-from-short ws (node_count ws) (link ws right (hat ws l left)), few)
 
 -- ---- The read.
@@ -96,9 +96,10 @@ module _ (out : List ℕ) (places : length out ≡ 2 * most_bags) where
       go (some n) e = rw (e, read, lane_command) (refl, omega arith)
       go none e = rw (e, read, lane_command) (row-prints (lane ws the_lane) (lane-short ws the_lane e))
 
-  pub lane_done : (ws : List ℕ) {r : Reading} {ys : List ℕ} → read_of r ys ≡ read ws the_lane out
-      → (answered_of (reading_text r ys) ws ≡ lane_command ws) × (2 * reading_count r ≤ length ys)
+  pub lane_done : (ws : List ℕ) (r : Result ℕ Refusal) {ys : List ℕ} → read_of r ys ≡ read ws the_lane out
+      → (answered_of (reading_text (reading_in r) ys) ws ≡ lane_command ws)
+      × (2 * reading_count (reading_in r) ≤ length ys)
   unfolding lane_command
-  lane_done ws {r} {ys} e =
+  lane_done ws r {ys} e =
       let prints = subst (Prints (lane_command ws).text) (sym e) (read-prints ws) in
       (ap (λ (text : List ℕ). answered_of text ws) prints.0, prints.1)

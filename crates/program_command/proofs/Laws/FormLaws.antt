@@ -25,7 +25,7 @@ use Rattle.program_command.specs.Commands.{
   push_of,
   command_with,
 }
-use Rattle.program_command.specs.declared.Command.TheVariants.{Unread}
+use Rattle.program_command.specs.Said.{Unread}
 use Rattle.program_command.specs.KeptCommand.{first_three}
 
 -- ---- No form has as many bytes as are kept.

@@ -11,16 +11,14 @@ use Rattle.text.specs.Lines.{first_line}
 use Rattle.text.proofs.Laws.FirstLine.{line-within}
 use Rattle.text.specs.Writing.{Written}
 use Rattle.text.proofs.Laws.WritingLaws.{written-append}
-use Rattle.text_scan.specs.declared.Scan.{Scan}
-use Rattle.text_scan.specs.declared.Stop.{Stop}
-use Rattle.text_scan.specs.Kept.{Kept, kept_of, no_numbers, no_scan, kept_at_first, ScansLine}
+use Rattle.text_scan.specs.Kept.{Kept, kept_at_first, ScansLine}
 use Rattle.text_scan.proofs.Laws.ScanLaws.{bytes-scan-kept}
-use Rattle.program_command.specs.declared.Command.{Command}
+use Rattle.program_command.specs.Said.{Command}
 use Rattle.program_command.specs.KeptCommand.{kept_command}
 use Rattle.program_answer.specs.Run.{answer}
 use Rattle.program_answer.specs.Space.{Leaves}
 use Rattle.program_stream.specs.Session.{silent, take_bytes, end_input}
-use Rattle.program_stream.specs.Carried.{Loan, loan_of, line_of, loan_with, end_line_in, lent, Serves, InOrder, Onward}
+use Rattle.program_stream.specs.Carried.{Loan, line_of, loan_with, end_line_in, lent, Serves, InOrder, Onward}
 use Rattle.program_stream.proofs.Laws.TakenLaws.{
   any-between,
   kept_on,
@@ -30,13 +28,6 @@ use Rattle.program_stream.proofs.Laws.TakenLaws.{
   none-taken,
 }
 
--- Nothing scanned, by its parts.
-pub loan-cleared : (space text : List ℕ) (len : ℕ) {numbers : List ℕ} {scan : Scan} → numbers ≡ no_numbers → scan
-    ≡ no_scan
-    → loan_of space text numbers (record { len = len; scan = scan; begun = false })
-    ≡ loan_with space len (kept_at_first text) false
-loan-cleared space text len e f = rw (e, f)
-
 -- ---- The end of a line.
 module _ (l : Loan) {command : Command} (read : command ≡ kept_command (line_of l)) {space : List ℕ} {len : ℕ}
     {printed : List ℕ}
@@ -45,31 +36,19 @@ module _ (l : Loan) {command : Command} (read : command ≡ kept_command (line_o
   laid : take len space ++ drop (length (take len space)) l.space ≡ space
   laid = rw (length-take-le len space answers.room, ← answers.others) (take-append-drop len space)
 
-  pub line-ends : {numbers : List ℕ} {scan : Scan} → numbers ≡ no_numbers → scan ≡ no_scan
-      → {out out' : List ℕ} {at at' : ℕ} → Written out at printed out' at'
-      → Serves end_line_in l (loan_of space l.text numbers (record { len = len; scan = scan; begun = false }))
-      out at out' at'
+  pub line-ends : {next : Kept} → next ≡ kept_at_first l.text → {out out' : List ℕ} {at at' : ℕ}
+      → Written out at printed out' at' → Serves end_line_in l (loan_with space len next false) out at out' at'
   unfolding end_line_in
-  line-ends e f written =
+  line-ends cleared written =
       record {
-        leaves =
-            loan-cleared space l.text len e f
-            ∙ rw (← read, ← answers.answers, laid, length-take-le len space answers.room);
+        leaves = rw (cleared, ← read, ← answers.answers, laid, length-take-le len space answers.room);
         writes = rw (← read, ← answers.answers) written;
       }
 
 -- ---- The bytes of a line.
-module _ {chunk : List ℕ} {from : ℕ} {before : Kept} {text numbers : List ℕ} {stop : Stop}
-    (within : from ≤ length chunk) (scanned : ScansLine chunk from before text numbers stop) where
-  pub line-onward : stop.at < length chunk → Onward chunk from (stop.at + 1)
-  line-onward h =
-      record {
-        forward = omega (arith, scanned.stops);
-        within = omega arith;
-        further = λ _. omega (arith, scanned.stops);
-      }
-
-  pub part-onward : length chunk ≤ stop.at → Onward chunk from stop.at
+module _ {chunk : List ℕ} {from to : ℕ} {before now : Kept} (within : from ≤ length chunk)
+    (scanned : ScansLine chunk from before now to) where
+  pub part-onward : length chunk ≤ to → Onward chunk from to
   part-onward h =
       record {
         forward = omega (arith, scanned.stops);
@@ -77,11 +56,10 @@ module _ {chunk : List ℕ} {from : ℕ} {before : Kept} {text numbers : List �
         further = λ some. omega arith;
       }
 
-module _ (l : Loan) {chunk : List ℕ} {from : ℕ} {text numbers : List ℕ} {stop : Stop} {begun : Bool}
-    (scanned : ScansLine chunk from (line_of l) text numbers stop)
-    (begun-now : begun ≡ (l.carried.begun || ltb from stop.at)) where
+module _ (l : Loan) {chunk : List ℕ} {from to : ℕ} {now : Kept} {begun : Bool}
+    (scanned : ScansLine chunk from (line_of l) now to) (begun-now : begun ≡ (l.carried.begun || ltb from to)) where
   abbrev scanned_loan : Loan
-  scanned_loan = loan_with l.space l.carried.len (kept_of text numbers stop.scan) begun
+  scanned_loan = loan_with l.space l.carried.len now begun
 
   scanned-on : scanned_loan ≡ kept_on (first_line (drop from chunk)) l
   scanned-on =
@@ -99,17 +77,17 @@ module _ (l : Loan) {chunk : List ℕ} {from : ℕ} {text numbers : List ℕ} {s
 
   -- The chunk ends before the line does.
   pub part-served : (out : List ℕ) (at : ℕ)
-      → Serves (take_bytes lent (slice from stop.at chunk)) l scanned_loan out at out at
+      → Serves (take_bytes lent (slice from to chunk)) l scanned_loan out at out at
   part-served out at =
-      let e = part-taken chunk from stop.at l scanned.stops in
+      let e = part-taken chunk from to l scanned.stops in
       record { leaves = rw e scanned-on; writes = rw e (record { buffer = refl; end = omega arith }) }
 
   -- The line ends.
-  pub line-served : stop.at < length chunk → {left : Loan} {out out' : List ℕ} {at at' : ℕ}
+  pub line-served : to < length chunk → {left : Loan} {out out' : List ℕ} {at at' : ℕ}
       → Serves end_line_in scanned_loan left out at out' at'
-      → Serves (take_bytes lent (slice from (stop.at + 1) chunk)) l left out at out' at'
+      → Serves (take_bytes lent (slice from (to + 1) chunk)) l left out at out' at'
   line-served h served =
-      let e = whole-taken chunk from stop.at l scanned.stops h in
+      let e = whole-taken chunk from to l scanned.stops h in
       record { leaves = rw (e, ← scanned-on) served.leaves; writes = rw (e, ← scanned-on) served.writes }
 
 -- ---- Part after part.

@@ -20,7 +20,6 @@ pub record Serving (chunk : List ℕ) (start : ℕ) (first : Loan) (out₀ : Lis
   pub serves : Serves (take_bytes lent (slice start from chunk)) first loan out₀ 0 out at
   pub in_order : InOrder loan
   pub in-out : at ≤ length out
-  pub same-space : length loan.space ≡ length first.space
   pub same_out : length out ≡ length out₀
 
 module _ (chunk : List ℕ) (start : ℕ) {first : Loan} {out₀ : List ℕ} where
@@ -33,7 +32,6 @@ module _ (chunk : List ℕ) (start : ℕ) {first : Loan} {out₀ : List ℕ} whe
         serves = none-served chunk start first out₀;
         in_order = in_order;
         in-out = omega arith;
-        same-space = refl;
         same_out = refl;
       }
 
@@ -41,9 +39,9 @@ module _ (chunk : List ℕ) (start : ℕ) {first : Loan} {out₀ : List ℕ} whe
     pub serving-goes-on : from < length chunk → at + line_room ≤ length out
         → (to : ℕ) → Onward chunk from to → {next : Loan} {out' : List ℕ} {at' : ℕ}
         → Serves (take_bytes lent (slice from to chunk)) loan next out at out' at' → at' ≤ at + line_room
-        → length next.space ≡ length loan.space → length out' ≡ length out
+        → length out' ≡ length out
         → Serving chunk start first out₀ to next out' at'
-    serving-goes-on more room to onward served few same-space same_out =
+    serving-goes-on more room to onward served few same_out =
         record {
           forward = omega (arith, S.forward, onward.forward);
           within = onward.within;
@@ -51,23 +49,5 @@ module _ (chunk : List ℕ) (start : ℕ) {first : Loan} {out₀ : List ℕ} whe
           serves = next-served chunk start first from to S.forward onward S.serves served;
           in_order = (bytes-made (slice from to chunk) S.in_order served).in_order;
           in-out = omega arith;
-          same-space = same-space ∙ S.same-space;
           same_out = same_out ∙ S.same_out;
         }
-
-    -- There is no room for one more line.
-    pub stops-for-room : line_room ≤ length out₀ → length out < at + line_room → Onward chunk start from
-    stops-for-room room h =
-        record {
-          forward = S.forward;
-          within = S.within;
-          further = λ _. go S.further;
-        }
-      where
-        go : (start < from) ⊎ (at ≡ 0) → start < from
-        go (inl further) = further
-        go (inr e) = absurd (omega (arith, S.same_out))
-
-    -- The chunk is at its end.
-    pub stops-at-end : length chunk ≤ from → Onward chunk start from
-    stops-at-end h = record { forward = S.forward; within = S.within; further = λ some. omega arith }

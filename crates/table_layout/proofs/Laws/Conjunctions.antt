@@ -9,14 +9,3 @@ and-passed e h k = rw (sym e ∙ h) k
 
 pub and-failed : {f F g : Bool} (t : Bool) → f ≡ F → f ≡ false → g ≡ f → g ≡ F && t
 and-failed t e h k = rw (sym e ∙ h) (k ∙ h)
-
--- Where the two ways meet: P is what is known on the way of a true flag, Q on the other.
-pub and-met :
-    {P Q : Type 0} {f F g : Bool} (t : Bool)
-    → P ⊎ Q
-    → (P → (f ≡ true) × (g ≡ t))
-    → (Q → (f ≡ false) × (g ≡ f))
-    → f ≡ F
-    → g ≡ F && t
-and-met t (inl k) p q e = and-passed e (p k).0 (p k).1
-and-met t (inr k) p q e = and-failed t e (q k).0 (q k).1

@@ -2,10 +2,8 @@
 use mathlib.Core.Path.{◌≡◌, refl, sym, ap, ◌∙◌, subst}
 use mathlib.Core.Bool.{Bool, ◌&&◌, and-true, and_assoc}
 use mathlib.Core.List.{List, [], ◌∷◌}
-use Prim.Native.Nat.{ℕ, zero, suc, ◌+◌, ◌*◌, ◌-◌, ◌<◌}
-use native.Mathlib.Decide.{ℕ_discrete}
+use Prim.Native.Nat.{ℕ, zero, suc, ◌+◌}
 use native.Mathlib.Omega.{arith}
-use borrow.Author.Tests.{ne_eqb}
 use lib.Dec.{eqb}
 use lib.ListN.{length, get_or, set, drop, drop_of_length-le}
 use lib.Seq.{drop-cons}
@@ -85,18 +83,3 @@ is_fresh t =
 pub fresh-words : (t : Tasks.Task) → is_fresh t ≡ same_words (record_of t) (words_of fresh)
 unfolding same_words
 fresh-words t = simp (and_assoc, and-true)
-
--- Two words are none where the number of 64 bits is that of two nones.
-pub pair-none : (a b : ℕ) → a < 4_294_967_296 → b < 4_294_967_296
-    → eqb (a + 4_294_967_296 * b) 281_470_681_808_895 ≡ eqb a no_node && eqb b no_node
-pair-none a b a-low b-low = go (ℕ_discrete a no_node) (ℕ_discrete b no_node)
-  where
-    go : Dec (a ≡ no_node) → Dec (b ≡ no_node)
-        → eqb (a + 4_294_967_296 * b) 281_470_681_808_895 ≡ eqb a no_node && eqb b no_node
-    go (yes a-none) (yes b-none) = rw (a-none, b-none) refl
-    go (yes a-none) (no b-some) =
-        ne_eqb (a + 4_294_967_296 * b) 281_470_681_808_895 (λ e. b-some (omega (arith, e, a-none)))
-        ∙ rw (a-none, ne_eqb b no_node b-some) refl
-    go (no a-some) b-any =
-        ne_eqb (a + 4_294_967_296 * b) 281_470_681_808_895 (λ e. a-some (omega (arith, e)))
-        ∙ rw (ne_eqb a no_node a-some) refl

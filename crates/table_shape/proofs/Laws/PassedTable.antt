@@ -1,11 +1,8 @@
--- Refusals 3 and 4 by their number, which every call but start begins with; and what a table that passes gives the
--- code.
-use mathlib.Core.Path.{◌≡◌, sym, ap, ◌∙◌}
-use mathlib.Core.Logic.{◌≢◌}
+-- Refusals 3 and 4, which every call but start begins with; and what a table that passes gives the code.
+use mathlib.Core.Path.{◌≡◌, sym, ap}
 use mathlib.Core.List.{List}
 use mathlib.Core.Option.{Option, some, none}
 use Prim.Native.Nat.{ℕ, ◌≤◌, ◌<◌}
-use native.Mathlib.Omega.{arith}
 use Rattle.machine.specs.Choice.{◌<?◌}
 use Rattle.machine.specs.Operations.{operation_of}
 use Rattle.machine.specs.Tasks.{Task, operation_word, task_of}
@@ -14,19 +11,15 @@ use Rattle.machine.specs.Shape.{length_ok, shape_ok, WellFormed, sizes_of, WellS
 use Rattle.machine.specs.Calls.{table_refusal}
 use Rattle.machine.proofs.Basics.Choices.{if_yes}
 use Rattle.machine.proofs.Shape.ShapeLaws.{well_sized}
-use Rattle.answers.specs.Refusals.{number_of}
-use Rattle.answers.proofs.Laws.Refusals.{unless-decided, both-pass}
+use Rattle.answers.proofs.Laws.Refusals.{two_refuse, two_pass}
 
-module _ (ws : List ℕ) {n : ℕ} (is_number : n ≡ number_of (table_refusal ws none)) where
-  pub table-refused : n ≢ 0 → (others : Option ℕ) → table_refusal ws others ≡ some n
-  table-refused h others =
-      unless-decided (length_ok ws) (shape_ok ws) 3 4 others (λ e. h (is_number ∙ e)) ∙ ap some (sym is_number)
+module _ (ws : List ℕ) where
+  pub table-refused : {n : ℕ} → some n ≡ table_refusal ws none → (others : Option ℕ) → table_refusal ws others ≡ some n
+  table-refused said others = two_refuse (length_ok ws) (shape_ok ws) 3 4 others (sym said)
 
-  pub table-passed : n ≡ 0 → WellFormed ws
-  table-passed e =
-      let both =
-      both-pass (length_ok ws) (shape_ok ws) (λ z. absurd (omega (arith, z))) (λ z. absurd (omega (arith, z)))
-      (sym is_number ∙ e) in
+  pub table-passed : none ≡ table_refusal ws none → WellFormed ws
+  table-passed said =
+      let both = two_pass (length_ok ws) (shape_ok ws) 3 4 (sym said) in
       record { length_passes = both.0; shape_passes = both.1 }
 
 -- ---- Its sizes, and a task's record.

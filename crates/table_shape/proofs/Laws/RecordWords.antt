@@ -1,36 +1,18 @@
 -- What the definitions say of a record where the code has compared its words with numbers.
-use mathlib.Core.Path.{◌≡◌, ap, ◌∙◌}
+use mathlib.Core.Path.{◌≡◌}
 use mathlib.Core.Bool.{Bool, true, false, ◌&&◌, and_assoc, and-true, and-false}
 use mathlib.Core.List.{List}
 use Prim.Native.Nat.{ℕ, ◌≤◌, ◌<◌}
 use lib.Dec.{ltb}
 use lib.ListN.{get_or}
 use borrow.Author.Tests.{le-leb, lt-leb}
-use Rattle.machine.specs.declared.Stored.{Stored}
-use Rattle.machine.specs.Sides.{Side, opposite, side_number, side_of}
-use Rattle.machine.specs.Values.{Value, N, X, same_stored, number, encode}
+use Rattle.machine.specs.Sides.{side_of}
+use Rattle.machine.specs.Values.{number}
 use Rattle.machine.specs.Operations.{operation_of, argument_ok, goal_of}
 use Rattle.machine.specs.Steps.{steps_of, is_step_in}
 use Rattle.machine.specs.Shape.{node_or_none, value_read_ok, counted_ok, busy_ok}
-use Rattle.machine.proofs.Words.RecordLaws.{side-of-number}
 use Rattle.table_record.specs.declared.Task as Tasks
 use Rattle.table_record.specs.Coded.{record_of}
-
--- ---- The value read at step 48: N or X of the opposite side.
-module _ (side far : ℕ) (is-far : far ≡ side_number (opposite (side_of side)))
-    (u n : Stored) (is-n : n ≡ encode (N (side_of far))) where
-  mark-of-far : (m : Side → Value) → encode (m (side_of far)) ≡ encode (m (opposite (side_of side)))
-  mark-of-far m = ap (λ (k : ℕ). encode (m (side_of k))) is-far ∙ ap (λ (s : Side). encode (m s)) (side-of-number _)
-
-  pub read-n : same_stored u n ≡ true → true ≡ value_read_ok (side_of side) 48 u
-  read-n e = rw (← mark-of-far N, ← is-n, e)
-
-  pub read-not-n :
-      same_stored u n ≡ false
-      → (x : Stored)
-      → x ≡ encode (X (side_of far))
-      → same_stored u x ≡ value_read_ok (side_of side) 48 u
-  read-not-n e x is_x = rw (← mark-of-far N, ← is-n, ← mark-of-far X, ← is_x, e)
 
 -- ---- A record of a task that is in a call.
 

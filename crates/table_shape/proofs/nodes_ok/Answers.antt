@@ -26,10 +26,9 @@ slice_bounds-rest-count c = first-within c.args.table.now c.node_at-first.ensure
 pub slice_bounds-rest-start : goal.slice_bounds-rest-start
 slice_bounds-rest-start c = first-within c.args.table.now c.node_at-first.ensures c.requires
 
-pub loop-x-init : goal.loop-x-init
-loop-x-init c =
+pub loop-init : goal.loop-init
+loop-init c =
     let t = c.args.table.now in (
-      omega arith,
       sym (none_below (node_ok t)),
       moved_on t c.node_at-first.result ∙ ap (λ (n : ℕ). drop n t) c.node_at-first.ensures,
     )
@@ -42,36 +41,36 @@ node-within t x passes counted low = omega (arith, (well_sized t passes).sized, 
 pub node_ok-ok-requires : goal.node_ok-ok-requires
 node_ok-ok-requires c =
     let t = c.args.table.now in
-    let l = c.loop-x in
-    left-long t l.x l.invariant.2 (node-within t l.x c.requires c.slots-n.ensures c.loop-x-test.true)
+    let l = c.loop in
+    left-long t l.counter l.invariant.1 (node-within t l.counter c.requires c.slots-n.ensures c.loop-test.true)
 
-pub slice_bounds-rest-count-in-loop-x : goal.slice_bounds-rest-count-in-loop-x
-slice_bounds-rest-count-in-loop-x c =
+pub slice_bounds-rest-count-in-loop : goal.slice_bounds-rest-count-in-loop
+slice_bounds-rest-count-in-loop c =
     let t = c.args.table.now in
-    let l = c.loop-x in
-    left-long t l.x l.invariant.2 (node-within t l.x c.requires c.slots-n.ensures c.loop-x-test.true)
+    let l = c.loop in
+    left-long t l.counter l.invariant.1 (node-within t l.counter c.requires c.slots-n.ensures c.loop-test.true)
 
-pub slice_bounds-rest-start-in-loop-x : goal.slice_bounds-rest-start-in-loop-x
-slice_bounds-rest-start-in-loop-x c =
+pub slice_bounds-rest-start-in-loop : goal.slice_bounds-rest-start-in-loop
+slice_bounds-rest-start-in-loop c =
     let t = c.args.table.now in
-    let l = c.loop-x in
-    left-long t l.x l.invariant.2 (node-within t l.x c.requires c.slots-n.ensures c.loop-x-test.true)
+    let l = c.loop in
+    left-long t l.counter l.invariant.1 (node-within t l.counter c.requires c.slots-n.ensures c.loop-test.true)
 
-pub loop-x-preserved : goal.loop-x-preserved
-loop-x-preserved c =
+pub loop-preserved : goal.loop-preserved
+loop-preserved c =
     let t = c.args.table.now in
-    let l = c.loop-x in
-    let low = c.loop-x-test.true in
+    let l = c.loop in
+    let low = c.loop-test.true in
     let tested =
     c.node_ok-ok.ensures
     ∙ ap (λ (S : ℕ). first_ok S l.rest.now) c.slots-n.ensures
-    ∙ ap (first_ok (node_count t)) l.invariant.2
-    ∙ sym (node-first t l.x (node-within t l.x c.requires c.slots-n.ensures low)) in
-    (omega (arith, low, c.slots-n.ensures), one-tested (node_ok t) l.x l.invariant.1 tested, next-left t l.x l.invariant.2)
+    ∙ ap (first_ok (node_count t)) l.invariant.1
+    ∙ sym (node-first t l.counter (node-within t l.counter c.requires c.slots-n.ensures low)) in
+    (one-tested (node_ok t) l.counter l.invariant.0 tested, next-left t l.counter l.invariant.1)
 
 pub returns : goal.returns
 returns c =
     let t = c.args.table.now in
-    let l = c.loop-x in
-    let e : l.x ≡ node_count t = omega (arith, c.loop-x-test.false, c.slots-n.ensures, l.invariant.0) in
-    l.invariant.1 ∙ ap (λ n. all_below n (node_ok t)) e
+    let l = c.loop in
+    let e : l.counter ≡ node_count t = omega (arith, c.loop-test.false, c.slots-n.ensures, l.auto.counter-end) in
+    l.invariant.0 ∙ ap (λ n. all_below n (node_ok t)) e

@@ -1,13 +1,8 @@
 -- The invariant: all tasks from the first up to the loop's number have passed.
 use mathlib.Core.Path.{◌≡◌}
 use mathlib.Core.Bool.{true}
-use Prim.Native.Nat.{◌-◌, ◌≤◌}
 use Rattle.table_shape.specs.Promised.{nth_ok, all_from}
 use Rattle.table_shape.proofs.range_ok.Given as goal
 
 abbrev pub invariant-loop-k : goal.invariant-loop-k
-invariant-loop-k l =
-    (l.from ≤ l.k) × (l.k ≤ l.to) × (all_from l.from l.k (nth_ok l.table l.words l.first) ≡ true)
-
-abbrev pub decreases-loop-k : goal.decreases-loop-k
-decreases-loop-k l = l.to - l.k
+invariant-loop-k l = all_from l.from l.k (nth_ok l.table l.words l.first) ≡ true

@@ -44,7 +44,7 @@ past_end : (s : ℕ) → 83 ≤ s → step_of s ≡ rest
 unfolding step_of
 past_end s h = absent (push_steps ++ (pop_steps ++ remove_steps)) s h refl
 
-pub none-past-end : (s : ℕ) → 83 ≤ s → (r : Register) → is_in 0 r ≡ holds (step_of s) r
+none-past-end : (s : ℕ) → 83 ≤ s → (r : Register) → is_in 0 r ≡ holds (step_of s) r
 none-past-end s h r = none-in-zero r ∙ rw (past_end s h)
   where
     none-in-zero : (r : Register) → is_in 0 r ≡ holds rest r

@@ -57,14 +57,14 @@ absent (st ∷ sts) s h t =
     rw (ne_eqb s (step_number st) (omega arith))
     (absent sts s h (and_right (leb (step_number st) 82) (in_table sts) t))
 
-pub past_end : (op : Operation) (s : ℕ) → 83 ≤ s → is_step_in (steps_of op) s ≡ false
+past_end : (op : Operation) (s : ℕ) → 83 ≤ s → is_step_in (steps_of op) s ≡ false
 past_end idle s h = absent (steps_of idle) s h refl
 past_end push s h = absent (steps_of push) s h refl
 past_end pop s h = absent (steps_of pop) s h refl
 past_end add s h = absent (steps_of add) s h refl
 past_end remove s h = absent (steps_of remove) s h refl
 
-pub none-past-end : (s : ℕ) → 83 ≤ s → OwnerOk s 0
+none-past-end : (s : ℕ) → 83 ≤ s → OwnerOk s 0
 none-past-end s h =
     record {
       answers =

@@ -2,45 +2,20 @@
 use mathlib.Core.Path.{◌≡◌, refl, sym, ap, ◌∙◌, subst}
 use mathlib.Core.Logic.{◌≢◌, inl, inr}
 use mathlib.Core.Bool.{Bool, true, false}
-use mathlib.Core.List.{List, [], ◌∷◌}
 use Prim.Native.Nat.{ℕ, zero, suc, ◌+◌, ◌-◌, ◌≤◌, ◌<◌}
 use native.Mathlib.Omega.{arith}
-use native.Mathlib.Numerals.{add-one}
-use lib.ListN.{set}
-use lib.Seq.{sets}
 use native.Mathlib.Decide.{ℕ_discrete, dec_le}
-use Rattle.tag.specs.Tags.{tag_words}
 use Rattle.machine.specs.declared.Stored.{Stored}
 use Rattle.machine.specs.Choice.{◌≤?◌}
 use Rattle.machine.specs.Sides.{Side, left, right}
-use Rattle.machine.specs.Values.{
-  Value,
-  never,
-  bag,
-  N,
-  X,
-  Y,
-  same_stored,
-  number,
-  mark,
-  encode,
-  decode,
-  mirror,
-  bag_ok,
-  value_ok,
-}
+use Rattle.machine.specs.Values.{Value, never, bag, N, X, Y, same_stored, mark, encode, decode, mirror, value_ok}
 use Rattle.machine.specs.Shape.{same_words}
 use Rattle.machine.proofs.Basics.Contradiction.{refute}
 use Rattle.machine.proofs.Basics.Choices.{equalᵛ, unequalᵛ, if_yes, if_no}
-use Rattle.machine.proofs.Words.ValueLaws.{
-  same-stored,
-  stored_same,
-  stored-number,
-  value-range,
-  encode-decode,
-  decode-one-to-one,
-}
-use Rattle.table_values.specs.Tests.{is_same, mark_of}
+use Rattle.machine.proofs.Words.ValueLaws.{same-stored, stored_same, value-range, encode-decode, decode-one-to-one, IsMark, mark-has-word, mark-value-ok, N-mark, X-mark, Y-mark}
+use Rattle.table_values.specs.declared.Mark.{Mark}
+use Rattle.table_values.specs.declared.Mark.TheVariants as letter
+use Rattle.table_values.specs.Tests.{is_same, marked}
 use Rattle.table_values.specs.Mirrors.{mirror_sum, SumIsTable, OtherSumsAreNot}
 
 -- Words that V may be are equal exactly where their values are.
@@ -54,14 +29,6 @@ same-words u v hu hv = go (same_stored u v) refl
       where
         apart : decode u ≢ decode v
         apart q = refute (cc (e, stored_same {u = u} {w = v} (decode-one-to-one u v hu hv q)))
-
--- A bag's words, the digit first, are its tag's.
-pub tag-put :
-    (out : List ℕ) (at : ℕ) (u : Stored)
-    → bag_ok u ≡ true
-    → set (set out at u.digit) (at + 1) u.word ≡ sets out at (tag_words (number u))
-tag-put out at u ok =
-    rw (add-one at) (ap (λ (v : Stored). sets out at (v.digit ∷ v.word ∷ [])) (sym (stored-number u ok)))
 
 -- Request 2026-02: the sum is what the table of mirrors gave, and other sums are not.
 pub sum-is-table : SumIsTable
@@ -125,13 +92,27 @@ module _ (u : Stored) (ok : value_ok u ≡ true) where
       go (Y left) e = absurd (low _ (omega arith) e)
       go (Y right) e = absurd (low _ (omega arith) e)
 
--- The marks of a side by the right one.
-pub marks-of :
-    (s : Side) (m : Side → Value)
-    → encode (mirror (decode (encode (m right)))) ≡ encode (m left)
-    → mark_of s (encode (m right)) ≡ encode (m s)
-marks-of left m e = e
-marks-of right m e = refl
+-- The left side's mark is the mirror of the right side's.
+pub mark-mirrored : (m : Mark) → encode (mirror (decode (encode (marked m right)))) ≡ encode (marked m left)
+unfolding decode ℕ_discrete dec_le
+mark-mirrored letter.N = refl
+mark-mirrored letter.X = refl
+mark-mirrored letter.Y = refl
 
--- What a check of `mirror` finds by itself.
-pub ruleset mirrors = (mirror-below)
+pub is-mark : (s : Side) (m : Mark) → IsMark s (marked m s)
+is-mark s letter.N = N-mark
+is-mark s letter.X = X-mark
+is-mark s letter.Y = Y-mark
+
+pub mark-word : (s : Side) (m : Mark) → decode (encode (marked m s)) ≡ marked m s
+mark-word s m = mark-has-word (is-mark s m)
+
+pub mark-ok : (s : Side) (m : Mark) → value_ok (encode (marked m s)) ≡ true
+mark-ok s m = mark-value-ok (is-mark s m)
+
+-- What the checks of `same`, `mirror` and the marks find by themselves.
+pub ruleset compares = (same-words)
+
+pub ruleset mirrors = (mirror-below, sum-up, sum-down)
+
+pub ruleset marks = (mark-mirrored, mark-word, mark-ok)

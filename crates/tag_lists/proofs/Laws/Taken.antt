@@ -46,10 +46,6 @@ module _
     bad-length bad = rw (← length-test, not-true passed bad)
 
     module _ (length-passed : not passed ≡ false) where
-      pub not-long : length list ≤ w.longest
-      not-long =
-          (whole-tags w.width w.longest (length list) (sym length-test ∙ not-false passed length-passed)).1
-
       module _ {bad : ℕ} (tag-test : bad ≡ first_bad w tags list) where
         pub bad-tag : bad < tags → outcome (refused_at 18 bad) out ≡ list_taken w list out
         bad-tag h = rw (← length-test, not-false passed length-passed, ← tag-test, lt-ltb bad tags h)
@@ -133,6 +129,3 @@ refusal-untouched w list out refusal =
       | taken n a ↦ absurd (refusal n (sym (ap (λ o. o.answer) a.done)))
       | left done other ↦ sym (ap (λ o. o.out) done)
     ]
-
--- What a check of `read_tags` finds by itself.
-pub ruleset tags_refused = (bad-tag)

@@ -4,13 +4,11 @@ use mathlib.Core.Bool.{true}
 use mathlib.Core.List.{List, [], ◌∷◌}
 use Prim.Native.Nat.{ℕ, ◌+◌, ◌*◌, ◌≤◌}
 use native.Mathlib.Nat.{add-zero}
-use native.Mathlib.Numerals.{add-one}
 use native.Mathlib.Omega.{arith}
 use lib.Dec.{leb}
-use lib.ListN.{length, get_or, set, take, drop}
-use lib.Seq.{sets}
+use lib.ListN.{length, get_or, take, drop}
 use borrow.Author.Tests.{le-leb, leb-true}
-use Rattle.tag.specs.Tags.{largest_tag, tag_of, digit_of, low_of, tag_words, ten_digits, are_digits}
+use Rattle.tag.specs.Tags.{largest_tag, tag_of, ten_digits, are_digits}
 use Rattle.tag.proofs.TagLaws.{clash, both_true}
 use Rattle.tag.proofs.DigitLaws.{
   length_last,
@@ -63,11 +61,6 @@ pub words-at : {T : Type 0} (f : ℕ → ℕ → T) (words : List ℕ) (i : ℕ)
 words-at f words i =
     let first = rw (add-zero (2 * i)) at (part_at words (2 * i) 2 0 (omega arith)) in
     rw (first, part_at words (2 * i) 2 1 (omega arith))
-
--- Two stores put the words of a tag.
-pub words-stored : (out : List ℕ) (at tag : ℕ) {digit low : ℕ} → digit ≡ digit_of tag → low ≡ low_of tag
-    → set (set out at digit) (at + 1) low ≡ sets out at (tag_words tag)
-words-stored out at tag d l = rw (add-one at, d, l)
 
 -- ---- What is put out has its room.
 pub length-unpacked : (five : List ℕ) → length (unpacked five) ≡ 2

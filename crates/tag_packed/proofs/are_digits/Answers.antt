@@ -1,20 +1,9 @@
-use mathlib.Core.Path.{refl, sym, ◌∙◌}
-use native.Mathlib.Numerals.{add-one}
-use native.Mathlib.Omega.{arith}
-use borrow.Kind.Array.{e_int, good_length}
-use mir.Syntax.{w8}
-use Rattle.tag_packed.proofs.Laws.Digits.{digit-passed, digits-passed}
+-- `tag_packed::are_digits` meets its contract: the test of each is the definition's.
+use Rattle.std.proofs.Common.{leb, refl, rules}
+use Rattle.std.proofs.lemmas.List.Recursion.{and_is}
+use Rattle.tag.specs.Tags.{are_digits}
 use Rattle.tag_packed.proofs.are_digits.Goals as goal
 
-pub loop-i-init : goal.loop-i-init
-loop-i-init c = (omega arith, good_length (e_int w8) 10 c.args.digits _ c.well_formed.0, refl)
-
-pub loop-i-preserved : goal.loop-i-preserved
-loop-i-preserved c =
-    let l = c.loop-i in
-    (omega arith, l.invariant.1, rw add-one (digit-passed c.args.digits l.i (omega arith) (omega arith) ∙ l.invariant.2))
-
 pub returns : goal.returns
-returns c =
-    let l = c.loop-i in
-    sym (digits-passed c.args.digits l.i (omega arith)) ∙ l.invariant.2
+unfolding are_digits
+returns c = and_is are_digits (λ d. leb d 9) refl (λ _ _. refl) c.args.digits 0 _ (search rules) (search rules)

@@ -10,14 +10,14 @@ use Rattle.tag_packed.proofs.Laws.Halves.{length_pairs, pair-at}
 use Rattle.tag_packed.proofs.pack.Goals as goal
 
 pub loop-i-init : goal.loop-i-init
-loop-i-init c = (omega arith, refl, refl)
+loop-i-init c = (refl, refl)
 
-pub overflow_mul-five-in-loop-i : goal.overflow_mul-five-in-loop-i
-overflow_mul-five-in-loop-i c =
+pub overflow_mul-byte-in-loop-i : goal.overflow_mul-byte-in-loop-i
+overflow_mul-byte-in-loop-i c =
     omega (arith, digit_at c.args.digits (2 * c.loop-i.i) c.requires)
 
-pub overflow_add-five-in-loop-i : goal.overflow_add-five-in-loop-i
-overflow_add-five-in-loop-i c =
+pub overflow_add-byte-in-loop-i : goal.overflow_add-byte-in-loop-i
+overflow_add-byte-in-loop-i c =
     let digits = c.args.digits in
     let i = c.loop-i.i in
     omega (arith, digit_at digits (2 * i) c.requires, digit_at digits (2 * i + 1) c.requires)
@@ -27,15 +27,14 @@ loop-i-preserved c =
     let l = c.loop-i in
     let digits = c.args.digits in
     let wanted = length_pairs 5 digits in (
-      omega arith,
-      simp length-set l.invariant.1,
+      simp length-set l.invariant.0,
       rw (add-one l.i)
-          (filled_next l.five (pairs 5 digits) l.i (get_or digits (2 * l.i) 0 * 16 + get_or digits (2 * l.i + 1) 0)
-          (omega arith) (omega arith) (sym (pair-at 5 digits l.i (omega arith))) l.invariant.2),
+          (filled_next l.byte-items (pairs 5 digits) l.i (get_or digits (2 * l.i) 0 * 16 + get_or digits (2 * l.i + 1) 0)
+          (omega arith) (omega arith) (sym (pair-at 5 digits l.i (omega arith))) l.invariant.1),
     )
 
 pub returns : goal.returns
 returns c =
     let l = c.loop-i in
     let digits = c.args.digits in
-    filled-end l.five (pairs 5 digits) l.i (omega arith) (omega (arith, length_pairs 5 digits)) l.invariant.2
+    filled-end l.byte-items (pairs 5 digits) l.i (omega arith) (omega (arith, length_pairs 5 digits)) l.invariant.1

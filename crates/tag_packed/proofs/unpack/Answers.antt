@@ -1,8 +1,4 @@
-use mathlib.Core.Path.{refl}
-use Prim.Native.Nat.{◌*◌}
-use native.Mathlib.Numerals.{add-one}
-use native.Mathlib.Omega.{arith}
-use lib.ListN.{length-set}
+use Rattle.std.proofs.Common.{◌*◌, arith, add-one, length-set}
 use borrow.Kind.Array.{e_int, good_length}
 use mir.Syntax.{w8}
 use Rattle.tag_packed.specs.Packed.{halves}
@@ -10,17 +6,13 @@ use Rattle.tag.proofs.Stores.{filled-end}
 use Rattle.tag_packed.proofs.Laws.Halves.{length-halves, halves-next}
 use Rattle.tag_packed.proofs.unpack.Goals as goal
 
-pub loop-i-init : goal.loop-i-init
-loop-i-init c = (omega arith, refl, refl)
-
 pub loop-i-preserved : goal.loop-i-preserved
 loop-i-preserved c =
     let l = c.loop-i in
     let five = c.args.five in
     let long = good_length (e_int w8) 5 five _ c.well_formed.0 in (
-      omega arith,
-      simp length-set l.invariant.1,
-      rw (add-one l.i) (halves-next l.digits five l.i (omega arith) (omega arith) l.invariant.2),
+      simp length-set l.invariant.0,
+      rw (add-one l.i) (halves-next l.digits five l.i (omega arith) (omega arith) l.invariant.1),
     )
 
 pub returns : goal.returns
@@ -28,4 +20,4 @@ returns c =
     let l = c.loop-i in
     let five = c.args.five in
     let long = good_length (e_int w8) 5 five _ c.well_formed.0 in
-    filled-end l.digits (halves five) (2 * l.i) (omega arith) (omega (arith, length-halves five)) l.invariant.2
+    filled-end l.digits (halves five) (2 * l.i) (omega arith) (omega (arith, length-halves five)) l.invariant.1

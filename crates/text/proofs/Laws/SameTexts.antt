@@ -2,14 +2,13 @@
 use mathlib.Core.Bool.{Bool, true, false, ◌&&◌, and-false, and_assoc, false≢true}
 use mathlib.Core.List.{List, [], ◌∷◌}
 use mathlib.Core.Path.{◌≡◌, refl, sym, ap, ◌∙◌}
-use Prim.Native.Nat.{ℕ, zero, suc, ◌+◌, ◌<◌, ◌≤◌}
+use Prim.Native.Nat.{ℕ, zero, suc, ◌+◌, ◌<◌}
 use native.Mathlib.Nat.{zero-add, suc-add}
-use native.Mathlib.Numerals.{add-one}
 use native.Mathlib.Omega.{arith}
 use borrow.Author.Tests.{eq-eqb, eqb-true}
 use lib.Dec.{eqb}
-use lib.ListN.{length, get_or, take, drop, drop_of_length-le}
-use lib.Seq.{drop-cons, take-nil}
+use lib.ListN.{length, take, drop}
+use lib.Seq.{take-nil}
 use Rattle.tag.proofs.TagLaws.{both_true}
 use Rattle.text.specs.Text.{same}
 
@@ -26,33 +25,12 @@ pub same-itself : (l : List ℕ) → same l l ≡ true
 same-itself [] = refl
 same-itself (x ∷ l) = rw (eq-eqb x x refl) (same-itself l)
 
--- ---- Two texts compared byte by byte.
 pub same-lengths-differ : (xs ys : List ℕ) → (length xs ≡ length ys → ⊥) → same xs ys ≡ false
 same-lengths-differ [] [] h = absurd (h refl)
 same-lengths-differ [] (y ∷ ys) h = refl
 same-lengths-differ (x ∷ xs) [] h = refl
 same-lengths-differ (x ∷ xs) (y ∷ ys) h =
     rw (same-lengths-differ xs ys (λ e. h (ap suc e))) (and-false (eqb x y))
-
-module _ (xs ys : List ℕ) (i : ℕ) (long : length xs ≡ length ys) (h : i < length ys) where
-  byte-first : same (drop i xs) (drop i ys)
-      ≡ (eqb (get_or xs i 0) (get_or ys i 0) && same (drop (suc i) xs) (drop (suc i) ys))
-  byte-first =
-      let g : i < length xs = omega arith in
-      rw (drop-cons xs i 0 g, drop-cons ys i 0 h)
-
-  -- One byte more is compared, after others of which a flag tells.
-  pub same_next : (so_far : Bool) → (so_far && eqb (get_or xs i 0) (get_or ys i 0) && same (drop (i + 1) xs)
-      (drop (i + 1) ys))
-      ≡ (so_far && same (drop i xs) (drop i ys))
-  same_next so_far =
-      sym (rw (byte-first, add-one)
-      (sym (and_assoc so_far (eqb (get_or xs i 0) (get_or ys i 0)) (same (drop (suc i) xs) (drop (suc i) ys)))))
-
-pub same_ends : (xs ys : List ℕ) (i : ℕ) → length xs ≡ length ys → length ys ≤ i → same (drop i xs) (drop i ys) ≡ true
-same_ends xs ys i long h =
-    let g : length xs ≤ i = omega arith in
-    rw (drop_of_length-le xs {i = i} g, drop_of_length-le ys {i = i} h)
 
 -- ---- Two texts compared in two parts.
 pub same-in-parts : (i : ℕ) (xs ys : List ℕ)

@@ -3,9 +3,9 @@ use mathlib.Core.Path.{◌≡◌, refl, sym, ap, ◌∙◌, subst}
 use mathlib.Core.List.{List, [], ◌∷◌, ◌++◌, append_assoc, append-nil}
 use Prim.Native.Nat.{ℕ, suc, ◌+◌, ◌*◌, ◌-◌, ◌≤◌, ◌<◌}
 use native.Mathlib.Omega.{arith}
-use lib.ListN.{length, set, drop, replicate, length-append, length-replicate, get_or-replicate}
-use lib.Seq.{sets, sets-eq, take_at, drop-append-add}
-use Rattle.tag.proofs.Stores.{sets-next, sets_end, sets-append}
+use lib.ListN.{length, set, take, drop, replicate, length-append, length-replicate}
+use lib.Seq.{sets, sets-eq, take_at, drop-append-add, length-take-le}
+use Rattle.tag.proofs.Stores.{sets-append}
 use Rattle.text.specs.Text.{bytes}
 use Rattle.text.specs.Lines.{line_feed}
 use Rattle.text.specs.Numerals.{with_zeros, tag_text}
@@ -29,17 +29,14 @@ use Rattle.text_page.proofs.Laws.Storing.{stored-inside}
 abbrev pub blanks : List ℕ
 blanks = replicate column_count blank
 
-module _ (out : List ℕ) (at i : ℕ) where
-  pub blank-next : i < column_count
-      → sets (set out (at + i) blank) (at + suc i) (drop (suc i) blanks) ≡ sets out (at + i) (drop i blanks)
-  blank-next h =
-      let long = length-replicate column_count blank in
-      subst (λ (b : ℕ). sets (set out (at + i) b) (at + suc i) (drop (suc i) blanks)
-      ≡ sets out (at + i) (drop i blanks))
-      (get_or-replicate column_count i blank 0 h) (sets-next out blanks at i (omega arith))
-
-  pub blanks-end : column_count ≤ i → sets out (at + i) (drop i blanks) ≡ out
-  blanks-end h = sets_end out blanks (at + i) i (omega (arith, length-replicate column_count blank))
+pub blanks-stored : (out : List ℕ) → column_count ≤ length out → {stored : List ℕ}
+    → stored ≡ replicate (length (take column_count out)) blank → stored ++ drop column_count out ≡ sets out 0 blanks
+blanks-stored out h e =
+    let long = length-replicate column_count blank in
+    let all = length-take-le column_count out h in
+    let start : 0 + length blanks ≡ column_count = omega arith in
+    let front = sets-eq blanks out 0 (omega arith) in
+    rw (e, all) (sym (front ∙ ap (λ (n : ℕ). blanks ++ drop n out) start))
 
 pub feed-stored : (out : List ℕ) (at : ℕ) {stored : List ℕ} → stored ≡ sets out at blanks
     → set stored (at + column_count) line_feed ≡ sets out at (line [])

@@ -1,24 +1,15 @@
-use mathlib.Core.Path.{refl, sym, ◌∙◌}
-use native.Mathlib.Numerals.{add-one}
+-- `text_page::put_blank_line` meets its contract.
+use mathlib.Core.Path.{sym}
 use native.Mathlib.Omega.{arith}
-use lib.ListN.{length-set}
-use Rattle.text.proofs.Laws.WritingLaws.{sets-from-zero}
-use Rattle.text_page.proofs.Laws.LineStores.{blanks, blank-next, blanks-end, feed-stored}
+use lib.Seq.{length-take-le}
+use Rattle.text_page.specs.Page.{column_count}
+use Rattle.text_page.proofs.Laws.LineStores.{blanks-stored, feed-stored}
 use Rattle.text_page.proofs.put_blank_line.Goals as goal
 
-pub loop-i-init : goal.loop-i-init
-loop-i-init c = (omega arith, refl, sets-from-zero c.args.out.now blanks c.args.at)
-
-pub loop-i-preserved : goal.loop-i-preserved
-loop-i-preserved c =
-    let l = c.loop-i in (
-      omega arith,
-      simp length-set l.invariant.1,
-      rw add-one (blank-next l.out c.args.at l.i (omega arith)) ∙ l.invariant.2,
-    )
+pub slice_bounds-fill-end-2 : goal.slice_bounds-fill-end-2
+slice_bounds-fill-end-2 c = sym (length-take-le column_count c.args.out.now (omega arith))
 
 pub returns : goal.returns
 returns c =
-    let l = c.loop-i in
-    let a = c.args in
-    feed-stored a.out.now a.at (sym (blanks-end l.out a.at l.i (omega arith)) ∙ l.invariant.2)
+    let out = c.args.out.now in
+    feed-stored out 0 (blanks-stored out (omega arith) (c.fill.ensures.after (λ y h. h)))

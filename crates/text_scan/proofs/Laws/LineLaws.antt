@@ -6,19 +6,16 @@ use native.Mathlib.Omega.{arith}
 use lib.ListN.{length, get_or, drop}
 use Rattle.text.specs.Lines.{line_feed, first_line}
 use Rattle.text.proofs.Laws.FirstLine.{line-goes-on}
-use Rattle.text_scan.specs.Kept.{Kept, keep_byte, keep_bytes, ScansLine, Counts}
-use Rattle.text_scan.proofs.Laws.ScanLaws.{byte-counts}
+use Rattle.text_scan.specs.Kept.{Kept, keep_byte, keep_bytes, ScansLine}
 
 -- ---- At a place i of the chunk, what is left of the line gives what the whole of it gives.
 pub record Scanning (chunk : List ℕ) (from : ℕ) (before now : Kept) (i : ℕ) : Type 0 where
   pub within : i ≤ length chunk
-  pub counts : Counts now.scan
   pub ends : i + length (first_line (drop i chunk)) ≡ from + length (first_line (drop from chunk))
   pub keeps : keep_bytes now (first_line (drop i chunk)) ≡ keep_bytes before (first_line (drop from chunk))
 
-pub scanning-starts : (chunk : List ℕ) (from : ℕ) (k : Kept) → from ≤ length chunk → Counts k.scan
-    → Scanning chunk from k k from
-scanning-starts chunk from k h C = record { within = h; counts = C; ends = refl; keeps = refl }
+pub scanning-starts : (chunk : List ℕ) (from : ℕ) (k : Kept) → from ≤ length chunk → Scanning chunk from k k from
+scanning-starts chunk from k h = record { within = h; ends = refl; keeps = refl }
 
 module _ {chunk : List ℕ} {from i : ℕ} {before now : Kept} (S : Scanning chunk from before now i) where
   pub scanning-goes-on : {next : Kept} → i < length chunk → (get_or chunk i 0 ≡ line_feed → ⊥)
@@ -28,13 +25,11 @@ module _ {chunk : List ℕ} {from i : ℕ} {before now : Kept} (S : Scanning chu
       let l = line-goes-on chunk i h e in
       record {
         within = omega arith;
-        counts = rw kept (byte-counts now S.counts (get_or chunk i 0));
         ends = let z = ap length l in let y = S.ends in omega arith;
         keeps = rw kept (sym (ap (keep_bytes now) l) ∙ S.keeps);
       }
 
-  pub scanning-ends : first_line (drop i chunk) ≡ []
-      → ScansLine chunk from before now.text now.numbers (record { at = i; scan = now.scan })
+  pub scanning-ends : first_line (drop i chunk) ≡ [] → ScansLine chunk from before now i
   unfolding keep_bytes
   scanning-ends e =
       record {

@@ -95,17 +95,6 @@ module _ (k : Kept) (C : Counts k.scan) where
   extended-counts : (d : ℕ) → k.scan.in_number ≡ true → Counts (keep_extended k d).scan
   extended-counts d e = record { short = C.short; few = C.few; some = λ _. C.some e }
 
-  pub byte-counts : (b : ℕ) → Counts (keep_byte k b).scan
-  unfolding keep_byte
-  byte-counts b = go (is_digit b) k.scan.in_number refl
-    where
-      go : (digit within : Bool) → k.scan.in_number ≡ within
-          → Counts (cond digit (cond within (keep_extended k (b - zero_digit)) (keep_opened k (b - zero_digit)))
-          (keep_other k b)).scan
-      go true true e = extended-counts (b - zero_digit) e
-      go true false e = opened-counts (b - zero_digit)
-      go false within e = other-counts b
-
 -- ---- The arrays after one byte more of each kind.
 module _ {k : Kept} (K : ScanKept k) where
   text-length : (b : ℕ) → length (text_with k.text k.scan.length b) ≡ text_places

@@ -3,7 +3,7 @@
 use mathlib.Core.Path.{◌≡◌, refl, ap}
 use mathlib.Core.List.{List}
 use Prim.Native.Nat.{ℕ}
-use Rattle.machine.specs.declared.Answer.TheVariants.{Going}
+use Rattle.machine.specs.Outcomes.Answer.{Going}
 use Rattle.machine.specs.Sides.{Side, opposite, side_number}
 use Rattle.machine.specs.Values.{stored}
 use Rattle.machine.specs.Operations.{operation_number}

@@ -1,6 +1,6 @@
 -- A tick in code, from the line's outcome to the words: what `call_tick::make` relies on and comes to.
 use mathlib.Core.Path.{◌≡◌, refl, sym, ap, ◌∙◌, subst}
-use mathlib.Core.Bool.{Bool, true, false, cond, ◌||◌}
+use mathlib.Core.Bool.{Bool, true, ◌||◌}
 use mathlib.Core.Logic.{◌≢◌}
 use mathlib.Core.List.{List}
 use mathlib.Core.Option.{none}
@@ -10,8 +10,11 @@ use lib.ListN.{length}
 use lib.Seq.{sets}
 use lib.Dec.{eqb}
 use borrow.Author.Tests.{ne_eqb}
-use Rattle.machine.specs.declared.Answer.{Answer}
-use Rattle.machine.specs.declared.Answer.TheVariants.{Going}
+use Rattle.std.specs.Prelude.{Result, Ok, Err, IsErrAnd}
+use Rattle.machine.specs.declared.answer.Answer.{Answer as Made}
+use Rattle.machine.specs.declared.answer.Answer.TheVariants as made-answer
+use Rattle.machine.specs.declared.refusal.Refusal.{Refusal}
+use Rattle.machine.specs.Outcomes.Answer.{Answer, Going, Refused}
 use Rattle.machine.specs.Sides.{Side, side_of}
 use Rattle.machine.specs.Values.{number}
 use Rattle.machine.specs.Operations.{operation_of, argument_ok, goal_of}
@@ -22,7 +25,7 @@ use Rattle.machine.specs.Allocate.{allocate}
 use Rattle.machine.specs.Lines.{Effect, write_all}
 use Rattle.machine.specs.Answers.{refusal_of, is_going}
 use Rattle.machine.specs.Calls.{effect_of, applied, tick_counted}
-use Rattle.machine.specs.Results.{ticked_of}
+use Rattle.machine.specs.Results.{said, ticked_of}
 use Rattle.machine.specs.Shape.{sizes_of, WellSized}
 use Rattle.machine.proofs.Words.Columns.{columns}
 use Rattle.machine.proofs.Words.EffectLaws.{effect_words}
@@ -38,11 +41,9 @@ use Rattle.table_layout.specs.Words.{HoldsHeader, HoldsNodes, HoldsNode, HoldsRe
 use Rattle.table_layout.proofs.Laws.Views.{part-long}
 use Rattle.table_layout.proofs.Laws.LaidNodes.{with_nodes, count-laid, length-laid, record-laid}
 use Rattle.line_parts.specs.declared.ends.Done.{Done}
-use Rattle.line_parts.specs.Lent.{writes_in, hat_after, LineOutcome, outcome_of, effect_in, line_of}
+use Rattle.line_parts.specs.Lent.{writes_in, hat_after, LineOutcome, line_done, outcome_of, effect_in, line_of}
 use Rattle.line_choice.specs.Groups.{other_lines, all_steps, ReadyIn}
 use Rattle.line_choice.proofs.StepChoice.{every-at, ready-regrouped, line_at}
-use Rattle.answers.specs.Refusals.{is_refused}
-use Rattle.answers.proofs.Laws.Refusals.{refused-answer, refusal-number, made-answer}
 use Rattle.tick_store.specs.Outcomes.{GoesOn, recorded, stored, finished}
 use Rattle.tick_once.specs.Steps.{MayTick, found_at31, made}
 use Rattle.tick_once.proofs.Laws.FoundAt31.{found-enough, found-node}
@@ -55,14 +56,24 @@ use Rattle.tick_once.proofs.Laws.TickReady.{
   argument-fits,
   ready-task,
 }
-use Rattle.tick_once.proofs.Laws.TickWords.{line-is-effect, refused-words, made-words}
+use Rattle.tick_once.proofs.Laws.TickWords.{told, line-is-effect, refused-words, made-words}
 
 applied-made :
     (ℓ : ℕ) (s : Side) (ws : List ℕ) (k : ℕ) (e : Effect)
     → refusal_of e.answer ≡ none
-    → applied ℓ s ws k e ≡ ticked_of e.answer (effect_words ℓ s e.writes k e.task ws)
+    → applied ℓ s ws k e ≡ told e.answer (effect_words ℓ s e.writes k e.task ws)
 unfolding applied
 applied-made ℓ s ws k e h = rw (h, applied)
+
+-- What is made is not refused.
+none-of-made : (a : Made) → refusal_of (said a) ≡ none
+none-of-made made-answer.Going = refl
+none-of-made made-answer.Pushed = refl
+none-of-made (made-answer.Bag b) = refl
+none-of-made made-answer.Empty = refl
+none-of-made made-answer.Full = refl
+none-of-made made-answer.Yes = refl
+none-of-made made-answer.No = refl
 
 -- A step of a line that takes a node, or of another.
 abbrev taking-or-other : ℕ → Bool
@@ -73,6 +84,23 @@ pub record Tick (ws : List ℕ) (k hint : ℕ) : Type 0 where
   pub may : MayTick ws k hint
   pub old : Tasks.Task
   pub old-is : old ≡ struct_of (record_words ws k)
+
+-- A line of it that is made, with the hat h and the goal g, over the nodes' part: the table afterwards, and how it ends.
+pub record LineMade {ws : List ℕ} {k hint : ℕ} (tick : Tick ws k hint) (h g : ℕ) (part after : List ℕ) (d : Done)
+    : Type 0 where
+  pub ns : List ℕ
+  pub laid : after ≡ with_nodes ns ws
+  pub kept : length ns ≡ length part
+  pub line-is : line_done ns d ≡ line_of (step_of tick.old.step) part h tick.old g (allocate ws hint)
+
+pub line-made :
+    {ws : List ℕ} {k hint : ℕ} (tick : Tick ws k hint) {h g : ℕ} {part ns after : List ℕ} (d r : Done)
+    → after ≡ with_nodes ns ws
+    → length ns ≡ length part
+    → d ≡ r
+    → line_done ns r ≡ line_of (step_of tick.old.step) part h tick.old g (allocate ws hint)
+    → LineMade tick h g part after d
+line-made tick {ns = ns} d r laid kept is line = record { ns = ns; laid = laid; kept = kept; line-is = rw is line }
 
 module _ {ws : List ℕ} {k hint : ℕ} (tick : Tick ws k hint) where
   abbrev is_task : k < task_count ws
@@ -121,11 +149,11 @@ module _ {ws : List ℕ} {k hint : ℕ} (tick : Tick ws k hint) where
   record-lane = lane_low ws table-sized table-shaped k is_task tick.may.busy
 
   -- The outcome of the line that the code makes is the effect of the definitions.
-  outcome : {g h : ℕ} {ns : List ℕ} {d : Done}
+  outcome : {g h : ℕ} {o : LineOutcome}
       → h ≡ hat ws lane side
       → g ≡ goal_of (operation_of record-read.operation) (growth ws) (number record-read.argument)
-      → outcome_of ns d ≡ line_of (step_of record-read.step) (node_part ws) h record-read g (allocate ws hint)
-      → outcome_of ns d ≡ effect_in side (node_part ws) (hat ws lane side) effect
+      → o ≡ line_of (step_of record-read.step) (node_part ws) h record-read g (allocate ws hint)
+      → o ≡ effect_in side (node_part ws) (hat ws lane side) effect
   outcome {g} is-hat eg line =
       line
       ∙ ap (λ (x : ℕ). line_of (step_of record-read.step) (node_part ws) x record-read g (allocate ws hint)) is-hat
@@ -133,67 +161,70 @@ module _ {ws : List ℕ} {k hint : ℕ} (tick : Tick ws k hint) where
       (eg ∙ ap (goal (growth ws)) (meant-task ws table-sized table-shaped k is_task))
 
   -- ---- The words.
-  module _ {ns : List ℕ} {d : Done}
-      (out : outcome_of ns d ≡ effect_in side (node_part ws) (hat ws lane side) (effect_of ws k hint)) where
+  fits : Fits (node_count ws) (growth ws) (lane_count ws) (effect_of ws k hint)
+  fits = effect-fits ws table-shaped k hint tick.may.is_hint tick.may.busy
+
+  own-end : applied lane side ws k (effect_of ws k hint) ≡ made ws k hint
+  own-end =
+      ap (λ (t : Task). applied t.lane t.side ws k (effect_of ws k hint))
+      (meant-task ws table-sized table-shaped k is_task)
+
+  -- Of a line that is refused.
+  refused-tick :
+      {n : ℕ} {ns : List ℕ} {h : ℕ} {t : Tasks.Task}
+      → record { nodes = ns; hat = h; task = t; answer = Refused n }
+      ≡ effect_in side (node_part ws) (hat ws lane side) effect
+      → told (Refused n) (with_nodes ns ws) ≡ made ws k hint
+  refused-tick out =
+      refused-words lane side ws k effect fits (sym (ap (λ (o : LineOutcome). o.answer) out))
+      (ap (λ (o : LineOutcome). o.nodes) out)
+      ∙ own-end
+
+  -- Of one that is made.
+  module _ {ns : List ℕ} (d : Done)
+      (out : line_done ns d ≡ effect_in side (node_part ws) (hat ws lane side) (effect_of ws k hint)) where
     nodes-are : ns ≡ writes_in side effect.writes (node_part ws)
     nodes-are = ap (λ (o : LineOutcome). o.nodes) out
 
     hat_is : d.hat ≡ hat_after effect.writes (hat ws lane side)
-    hat_is = ap (λ (o : LineOutcome). o.done.hat) out
+    hat_is = ap (λ (o : LineOutcome). o.hat) out
 
-    answer-is : d.answer ≡ effect.answer
-    answer-is = ap (λ (o : LineOutcome). o.done.answer) out
+    answer-is : said d.answer ≡ effect.answer
+    answer-is = ap (λ (o : LineOutcome). o.answer) out
 
     record_is : record_of d.task ≡ words_of effect.task
-    record_is = ap (λ (o : LineOutcome). record_of o.done.task) out
-
-    fits : Fits (node_count ws) (growth ws) (lane_count ws) (effect_of ws k hint)
-    fits = effect-fits ws table-shaped k hint tick.may.is_hint tick.may.busy
-
-    own-end : applied lane side ws k (effect_of ws k hint) ≡ made ws k hint
-    own-end =
-        ap (λ (t : Task). applied t.lane t.side ws k (effect_of ws k hint))
-        (meant-task ws table-sized table-shaped k is_task)
+    record_is = ap (λ (o : LineOutcome). record_of o.task) out
 
     -- A task that goes on keeps its call.
-    same-call : is_going d.answer ≡ true → SameCall record-read d.task
+    same-call : is_going (said d.answer) ≡ true → SameCall record-read d.task
     same-call g =
-        let going : effect.answer ≡ Going = sym answer-is ∙ going-answer d.answer g in
+        let going : effect.answer ≡ Going = sym answer-is ∙ going-answer (said d.answer) g in
         let note = ap note_of (meant-task ws table-sized table-shaped k is_task)
         ∙ sym ((effect-keeps ws k hint).kept going) in
         subst (λ (u : Tasks.Task). SameCall u d.task) line-ready.ready.canonical
-        (subst (SameCall (coded_task (task_meant record-read))) (sym (ap (λ (o : LineOutcome). o.done.task) out))
+        (subst (SameCall (coded_task (task_meant record-read))) (sym (ap (λ (o : LineOutcome). o.task) out))
         (coded-call (task_meant record-read) effect.task note))
 
     keeps-call :
-        length ns ≡ node_length * node_count ws → GoesOn (with_nodes ns ws) k (is_going d.answer) d.task
+        length ns ≡ node_length * node_count ws → GoesOn (with_nodes ns ws) k (is_going (said d.answer)) d.task
     keeps-call long g =
         subst (λ (r : List ℕ). SameCall (struct_of r) d.task) (sym (record-laid ns ws nodes-room long k))
         (same-call g)
 
-    pub refused-tick : is_refused d.answer ≡ true → ticked_of d.answer (with_nodes ns ws) ≡ made ws k hint
-    refused-tick r =
-        let a = refused-answer d.answer (refusal-number d.answer r).1 in
-        ap (λ (x : Answer). ticked_of x (with_nodes ns ws)) a
-        ∙ refused-words lane side ws k effect fits (sym answer-is ∙ a) nodes-are
-        ∙ own-end
-
-    pub made-tick :
-        is_refused d.answer ≡ false
-        → ticked_of d.answer (stored (with_nodes ns ws) lane side d.hat k d.task) ≡ made ws k hint
-    made-tick r =
+    pub made-tick : ticked_of (Ok d.answer) (stored (with_nodes ns ws) lane side d.hat k d.task) ≡ made ws k hint
+    made-tick =
         let none-refused : refusal_of (effect_of ws k hint).answer ≡ none
-        = ap refusal_of (sym answer-is) ∙ made-answer d.answer r in
+        = ap refusal_of (sym answer-is) ∙ none-of-made d.answer in
         let in-range = (fit_effect (node_count ws) (growth ws) (lane_count ws) fits none-refused).0 in
         let written = made-words lane side ws k effect record-lane nodes-room in-range nodes-are hat_is in
-        ap (ticked_of d.answer)
+        ap (told (said d.answer))
         (ap (λ (l : List ℕ). tick_counted (recorded l k d.task)) written
         ∙ ap
         (λ (l : List ℕ).
         tick_counted (sets (write_all lane side effect.writes ws)
         (record_at (node_count (write_all lane side effect.writes ws)) k) l))
         record_is)
-        ∙ ap (λ (a : Answer). ticked_of a (effect_words lane side effect.writes k effect.task ws)) answer-is
+        ∙ ap (λ (a : Answer). told a (effect_words lane side effect.writes k effect.task ws)) answer-is
         ∙ sym (applied-made lane side ws k effect none-refused)
         ∙ own-end
 
@@ -265,45 +296,49 @@ module _ {ws : List ℕ} {k hint : ℕ} (tick : Tick ws k hint) where
         ∙ found-enough part h old g (allocate ws hint)
         ∙ line_at line31 step part _ old g (allocate ws hint)
 
-    module _ {h g : ℕ} {ns after : List ℕ} {d : Done} (is-hat : h ≡ hat ws old.lane (side_of old.side))
-        (goal-is : g ≡ goal_of (operation_of old.operation) (growth ws) (number old.argument))
-        (is-after : after ≡ with_nodes ns ws)
-        (line-is : outcome_of ns d ≡ line_of (step_of old.step) part h old g (allocate ws hint)) where
-      done-is : outcome_of ns d ≡ effect_in side (node_part ws) (hat ws lane side) effect
-      done-is =
+    module _ {h g : ℕ} (is-hat : h ≡ hat ws old.lane (side_of old.side))
+        (goal-is : g ≡ goal_of (operation_of old.operation) (growth ws) (number old.argument)) where
+      done-is : {o : LineOutcome}
+          → o ≡ line_of (step_of old.step) part h old g (allocate ws hint)
+          → o ≡ effect_in side (node_part ws) (hat ws lane side) effect
+      done-is {o} line-is =
           subst
           (λ (u : Tasks.Task).
           h ≡ hat ws u.lane (side_of u.side)
           → g ≡ goal_of (operation_of u.operation) (growth ws) (number u.argument)
-          → outcome_of ns d ≡ line_of (step_of u.step) (node_part ws) h u g (allocate ws hint)
-          → outcome_of ns d ≡ effect_in side (node_part ws) (hat ws lane side) effect)
+          → o ≡ line_of (step_of u.step) (node_part ws) h u g (allocate ws hint)
+          → o ≡ effect_in side (node_part ws) (hat ws lane side) effect)
           (sym old-is) outcome is-hat goal-is
           (line-is ∙ ap (λ (l : List ℕ). line_of (step_of old.step) l h old g (allocate ws hint)) is-part)
 
-      -- What `finish` relies on.
-      pub its-finish :
-          length ns ≡ length part
-          → ((old.lane < most_lanes) × (old.side < 2) × HoldsRecord after k)
-          × GoesOn after k (is_going d.answer) d.task
-      its-finish kept =
-          let long : length ns ≡ node_length * node_count ws = kept ∙ ap length is-part ∙ part-long ws nodes-room in
-          let room : HoldsRecord (with_nodes ns ws) k
-          = omega (arith, record-room, length-laid ns ws nodes-room long, count-laid ns ws nodes-room) in (
-            (its-lane, its-side, subst (λ (l : List ℕ). HoldsRecord l k) (sym is-after) room),
-            subst (λ (l : List ℕ). GoesOn l k (is_going d.answer) d.task) (sym is-after) (keeps-call done-is long),
-          )
+      -- A line that is refused by e; r is what the tick gives back.
+      pub its-refusal :
+          {ns after : List ℕ}
+          → after ≡ with_nodes ns ws
+          → (e : Refusal) (r : Result Made Refusal)
+          → IsErrAnd r (λ x. x ≡ e)
+          → outcome_of ns h old (Err e) ≡ line_of (step_of old.step) part h old g (allocate ws hint)
+          → ticked_of r after ≡ made ws k hint
+      its-refusal is-after e (Ok a) wrong line-is = absurd wrong
+      its-refusal is-after e (Err x) same line-is = rw (is-after, same) (refused-tick (done-is line-is))
 
-      pub its-tick : finished after old.lane (side_of old.side) k d ≡ made ws k hint
-      its-tick =
-          ap (λ (l : List ℕ). finished l old.lane (side_of old.side) k d) is-after
-          ∙ ap (λ (u : Tasks.Task). finished (with_nodes ns ws) u.lane (side_of u.side) k d) old-is
-          ∙ go (is_refused d.answer) refl
-        where
-          go :
-              (b : Bool)
-              → is_refused d.answer ≡ b
-              → cond b (ticked_of d.answer (with_nodes ns ws))
-              (ticked_of d.answer (stored (with_nodes ns ws) lane side d.hat k d.task))
-              ≡ made ws k hint
-          go true a = refused-tick done-is a
-          go false a = made-tick done-is a
+      -- A line that is made.
+      module _ {after : List ℕ} {d : Done} (m : LineMade tick h g part after d) where
+        -- What `finish` relies on.
+        pub its-finish :
+            ((old.lane < most_lanes) × (old.side < 2) × HoldsRecord after k)
+            × GoesOn after k (is_going (said d.answer)) d.task
+        its-finish =
+            let long : length m.ns ≡ node_length * node_count ws = m.kept ∙ ap length is-part ∙ part-long ws nodes-room in
+            let room : HoldsRecord (with_nodes m.ns ws) k
+            = omega (arith, record-room, length-laid m.ns ws nodes-room long, count-laid m.ns ws nodes-room) in (
+              (its-lane, its-side, subst (λ (l : List ℕ). HoldsRecord l k) (sym m.laid) room),
+              subst (λ (l : List ℕ). GoesOn l k (is_going (said d.answer)) d.task) (sym m.laid)
+                  (keeps-call d (done-is m.line-is) long),
+            )
+
+        pub its-tick : finished after old.lane (side_of old.side) k d ≡ made ws k hint
+        its-tick =
+            ap (λ (l : List ℕ). finished l old.lane (side_of old.side) k d) m.laid
+            ∙ ap (λ (u : Tasks.Task). finished (with_nodes m.ns ws) u.lane (side_of u.side) k d) old-is
+            ∙ made-tick d (done-is m.line-is)

@@ -3,34 +3,34 @@ use mathlib.Core.Path.{◌≡◌, refl, sym, ap, ◌∙◌}
 use mathlib.Core.Bool.{Bool, true, false, not}
 use mathlib.Core.Logic.{◌≢◌}
 use mathlib.Core.List.{List}
-use mathlib.Core.Option.{none}
+use mathlib.Core.Option.{some, none}
 use Prim.Native.Nat.{ℕ, zero, suc, ◌≤◌, ◌<◌}
 use borrow.Author.Tests.{lt-ltb, le-ltb}
-use Rattle.machine.specs.declared.Answer.TheVariants.{Refused}
+use Rattle.machine.specs.Outcomes.Answer.{Refused}
 use Rattle.machine.specs.Operations.{operation_of}
 use Rattle.machine.specs.Tasks.{operation_word}
 use Rattle.machine.specs.Table.{node_count, task_count, record_words, task}
 use Rattle.machine.specs.Shape.{WellFormed}
 use Rattle.machine.specs.Calls.{is_idle, is_busy, table_refusal, Ticked, tick_on, tick, ticks}
 use Rattle.machine.specs.Answers.{is_going}
-use Rattle.machine.specs.Results.{ticked_of}
 use Rattle.machine.proofs.Words.RunLaws.{first-is-last}
-use Rattle.answers.specs.Refusals.{number_of}
 use Rattle.table_layout.proofs.Laws.Numbers.{not-busy}
 use Rattle.tick_once.specs.Steps.{made}
+use Rattle.tick_once.proofs.Laws.TickWords.{told}
 use Rattle.table_shape.proofs.Laws.PassedTable.{table-refused, table-passed, operation-is}
 
--- ---- Refusals 3 and 4 by their number.
-module _ (ws : List ℕ) {n : ℕ} (is_number : n ≡ number_of (table_refusal ws none)) (k h : ℕ) where
-  pub tick-refused : n ≢ 0 → ticked_of (Refused n) ws ≡ tick ws k h
+-- ---- Refusals 3 and 4.
+module _ (ws : List ℕ) (k h : ℕ) where
+  pub tick-refused : {n : ℕ} → some n ≡ table_refusal ws none → told (Refused n) ws ≡ tick ws k h
   unfolding tick
-  tick-refused r = rw (table-refused ws is_number r none, tick)
+  tick-refused r = rw (table-refused ws r none, tick)
 
-  pub tick-goes-on : n ≡ 0 → tick_on ws k h ≡ tick ws k h
+  pub tick-goes-on : none ≡ table_refusal ws none → tick_on ws k h ≡ tick ws k h
   unfolding tick
-  tick-goes-on e = let P = table-passed ws is_number e in rw (P.length_passes, P.shape_passes, tick)
+  tick-goes-on e = let P = table-passed ws e in rw (P.length_passes, P.shape_passes, tick)
 
-  pub ticks-refused : n ≢ 0 → (times : ℕ) → times ≢ 0 → ticked_of (Refused n) ws ≡ ticks times ws k h
+  pub ticks-refused :
+      {n : ℕ} → some n ≡ table_refusal ws none → (times : ℕ) → times ≢ 0 → told (Refused n) ws ≡ ticks times ws k h
   ticks-refused r zero asked = absurd (asked refl)
   ticks-refused r (suc m) asked =
       let e = tick-refused r in
@@ -49,17 +49,17 @@ module _ (ws : List ℕ) (P : WellFormed ws) (k : ℕ) (is_task : k < task_count
   busy-task e = busy-by-word e
 
 module _ (ws : List ℕ) (P : WellFormed ws) (k h : ℕ) where
-  pub tick-5 : task_count ws ≤ k → ticked_of (Refused 5) ws ≡ tick_on ws k h
+  pub tick-5 : task_count ws ≤ k → told (Refused 5) ws ≡ tick_on ws k h
   unfolding tick_on
   tick-5 a = rw (le-ltb k (task_count ws) a, tick_on)
 
   module _ (is_task : k < task_count ws) where
-    pub tick-9 : node_count ws ≤ h → ticked_of (Refused 9) ws ≡ tick_on ws k h
+    pub tick-9 : node_count ws ≤ h → told (Refused 9) ws ≡ tick_on ws k h
     unfolding tick_on
     tick-9 b = rw (lt-ltb k (task_count ws) is_task, le-ltb h (node_count ws) b, tick_on)
 
     module _ (is_hint : h < node_count ws) where
-      pub tick-10 : is-idle ws P k is_task ≡ true → ticked_of (Refused 10) ws ≡ tick_on ws k h
+      pub tick-10 : is-idle ws P k is_task ≡ true → told (Refused 10) ws ≡ tick_on ws k h
       unfolding tick_on
       tick-10 e =
           rw (

@@ -2,7 +2,7 @@
 use mathlib.Core.Path.{◌≡◌, refl, sym, ap, ◌∙◌}
 use mathlib.Core.List.{List, []}
 use Prim.Native.Nat.{ℕ, ◌<◌}
-use Rattle.machine.specs.declared.Answer.TheVariants.{Refused}
+use Rattle.machine.specs.Outcomes.Answer.{Answer, Refused}
 use Rattle.machine.specs.Sides.{Side, opposite, side_of}
 use Rattle.machine.specs.Steps.{step_of}
 use Rattle.machine.specs.Tasks.{Task, goal}
@@ -20,8 +20,7 @@ use Rattle.machine.specs.Table.{
 use Rattle.machine.specs.Allocate.{allocate}
 use Rattle.machine.specs.Lines.{Memory, Effect, seen, write_all, act}
 use Rattle.machine.specs.Answers.{refusal_of}
-use Rattle.machine.specs.Calls.{effect_of, applied}
-use Rattle.machine.specs.Results.{ticked_of}
+use Rattle.machine.specs.Calls.{effect_of, applied, Ticked}
 use Rattle.machine.specs.Shape.{sizes_of, WellSized}
 use Rattle.machine.proofs.Basics.Contradiction.{clash}
 use Rattle.machine.proofs.Words.Columns.{columns}
@@ -68,6 +67,10 @@ module _ (ws : List ℕ) (Z : WellSized (sizes_of ws)) (W : WellShaped (columns 
         act u.step u.side (opposite u.side) (seen u.lane u.side ws) u (goal (growth ws) u) f)
         meant)
 
+-- An answer with the words that a tick leaves.
+abbrev pub told : Answer → List ℕ → Ticked
+told a ws = record { answer = a; words = ws }
+
 -- ---- Refused, the words stay; made, they are the effect's.
 none_written : {S g L n : ℕ} {e : Effect} → Fits S g L e → e.answer ≡ Refused n → e.writes ≡ []
 none_written turns-back r = refl
@@ -81,10 +84,10 @@ module _ (ℓ : ℕ) (s : Side) (ws : List ℕ) (k : ℕ) (e : Effect) where
       → Fits (node_count ws) g L e
       → e.answer ≡ Refused n
       → ns ≡ writes_in s e.writes (node_part ws)
-      → ticked_of (Refused n) (with_nodes ns ws) ≡ applied ℓ s ws k e
+      → told (Refused n) (with_nodes ns ws) ≡ applied ℓ s ws k e
   unfolding applied
   refused-words {n = n} fit r q =
-      let w = none_written fit r in rw (r, applied, r, q, w) (ap (ticked_of (Refused n)) (own-nodes ws))
+      let w = none_written fit r in rw (r, applied, r, q, w) (ap (told (Refused n)) (own-nodes ws))
 
   -- The part and the hat as a line that is made leaves them.
   pub made-words :

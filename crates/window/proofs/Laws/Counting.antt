@@ -1,7 +1,8 @@
 -- Words in a list: tested against a bound and added, one after another.
-use Rattle.std.proofs.Common.{◌≡◌, ℕ, zero, suc, ◌+◌, ◌%◌, ◌^◌, ◌<◌, ◌≤◌, true, ◌&&◌, eqb, leb, List, [], ◌∷◌, ◌++◌, length, get_or, drop, set, refl, arith, drop_of_length-le, drop-cons, eq-eqb, eqb-true, le-leb, leb-true}
+use Rattle.std.proofs.Common.{◌≡◌, ℕ, zero, suc, ◌+◌, ◌%◌, ◌^◌, ◌<◌, ◌≤◌, true, ◌&&◌, eqb, leb, List, [], ◌∷◌, ◌++◌, length, get_or, drop, set, refl, sym, ◌∙◌, arith, drop_of_length-le, drop-cons, eq-eqb, eqb-true, le-leb, leb-true}
 use mathlib.Core.Bool.{and-true, and_assoc}
 use lib.Bits.{bit_or, or_lt, or_add_and, and_le_l, and_le_r}
+use Rattle.std.specs.List.{fold}
 use Rattle.window.specs.Window.{at_most, total}
 use Rattle.window.proofs.Laws.Tests.{clash, and_left, and_right, both_hold, same_test}
 
@@ -20,6 +21,15 @@ gathered k m a b power =
     let q = leb-true b m (and_right (leb a m) (leb b m) t) in
     let r : bit_or a b < 2 ^ k = or_lt k a b (omega arith) (omega arith) in
     le-leb (bit_or a b) m (omega arith))
+
+-- All are gathered.
+pub gathered-all : (k m : ℕ) (words : List ℕ) (g : ℕ) → m + 1 ≡ 2 ^ k
+    → leb (fold bit_or g words) m ≡ (leb g m && at_most m words)
+unfolding at_most
+gathered-all k m [] g power = sym (and-true (leb g m))
+gathered-all k m (w ∷ words) g power =
+    gathered-all k m words (bit_or g w) power
+    ∙ rw (gathered k m g w power) (and_assoc (leb g m) (leb w m) (at_most m words))
 
 -- The words from i on: one is gathered, and after the last the gathered word decides.
 module _ (m : ℕ) (words : List ℕ) (i : ℕ) where

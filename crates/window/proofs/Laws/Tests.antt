@@ -1,5 +1,6 @@
 -- Tests, taken apart and put together; contradictions.
-use Rattle.std.proofs.Common.{◌≡◌, ℕ, Bool, true, false, ◌&&◌, refl, arith}
+use Rattle.std.proofs.Common.{◌≡◌, ℕ, Bool, true, false, ◌&&◌, Some, None, refl, ap, arith}
+use Rattle.std.specs.Bool.{then_some}
 
 pub clash : {T : Type 0} → ◌≡◌ {A = ℕ} 0 1 → T
 clash h = absurd (omega arith)
@@ -21,3 +22,19 @@ same_test true true f g = refl
 same_test true false f g = clash (cc (f refl))
 same_test false true f g = clash (cc (g refl))
 same_test false false f g = refl
+
+-- ---- A value where a test passes.
+
+pub same-then : (a b : Bool) {m n : ℕ} → a ≡ b → (b ≡ true → m ≡ n) → then_some a m ≡ then_some b n
+same-then true true e same = ap Some (same refl)
+same-then true false e same = clash (cc)
+same-then false true e same = clash (cc)
+same-then false false e same = refl
+
+pub passed-then : (a : Bool) {m n : ℕ} → Some n ≡ then_some a m → (a ≡ true) × (n ≡ m)
+passed-then true e = (refl, cc e)
+passed-then false e = clash (cc)
+
+pub failed-then : (a : Bool) (m : ℕ) → None ≡ then_some a m → a ≡ false
+failed-then true m e = clash (cc)
+failed-then false m e = refl

@@ -1,6 +1,5 @@
 -- What a window that passes the tests of refusal 23 is.
-use Rattle.std.proofs.Common.{◌≡◌, ℕ, ◌+◌, ◌-◌, ◌<◌, ◌≤◌, Bool, true, false, cond, ◌&&◌, eqb, ltb, leb, List, ◌∷◌, length, get_or, take, drop, set, replicate, refl, ◌∙◌, arith, length-set, get_or-set_same, ltb-false, ltb-true, ne_eqb, eqb-true, leb-true}
-use mathlib.Core.Bool.{and-false}
+use Rattle.std.proofs.Common.{◌≡◌, ℕ, ◌+◌, ◌<◌, ◌≤◌, Bool, true, false, cond, ◌&&◌, eqb, ltb, leb, List, length, take, drop, set, replicate, refl, arith, ltb-false, ltb-true, eqb-true, leb-true}
 use Rattle.window.specs.Window.{
   width,
   fed_count,
@@ -20,11 +19,6 @@ use Rattle.window.specs.Window.{
 use Rattle.window.proofs.Laws.Tests.{clash, and_left, and_right}
 use Rattle.window.proofs.Laws.Filling.{fresh-filled}
 
-pub short-window : (ws : List ℕ) → length ws < 4 → header_ok ws ≡ false
-short-window ws h =
-    let other = ne_eqb (length ws) (width ws + 4) (λ e. omega arith) in
-    rw (other, and-false (leb 1 (width ws) && leb (width ws) 4_096)) refl
-
 -- ---- The sizes.
 pub record Sized (l W : ℕ) : Type 0 where
   pub least : 1 ≤ W
@@ -41,18 +35,10 @@ sizes-sized l W t =
     }
 
 -- ---- A fresh window.
-pub not_made : (ws : List ℕ) (W : ℕ) → sizes_ok (length ws) W ≡ false → fresh_leaves ws W ≡ ws
-not_made ws W t = rw t
-
-pub leaves-fresh :
-    (ws : List ℕ) (W : ℕ) {vs : List ℕ}
-    → sizes_ok (length ws) W ≡ true
-    → (let first = set ws 0 W in vs ≡ get_or first 0 0 ∷ replicate (length first - 1) 0)
-    → vs ≡ fresh_leaves ws W
-leaves-fresh ws W t filled =
-    let l = (sizes-sized (length ws) W t).long in
-    filled
-    ∙ rw (length-set ws 0 W, get_or-set_same ws 0 W 0 (omega arith), t) (fresh-filled W (length ws) l)
+pub leaves-fresh : (ws : List ℕ) (W : ℕ) {zeros : List ℕ} → sizes_ok (length ws) W ≡ true
+    → zeros ≡ replicate (length ws) 0
+    → set zeros 0 W ≡ fresh_leaves ws W
+leaves-fresh ws W t filled = rw (filled, t) (fresh-filled W (length ws) (sizes-sized (length ws) W t).long)
 
 -- ---- The next place.
 record InRing (W fed next : ℕ) : Type 0 where

@@ -5,43 +5,58 @@ use mathlib.Core.Path.{◌≡◌, sym, ap, ◌∙◌}
 use mathlib.Core.List.{List}
 use Prim.Native.Nat.{ℕ, ◌-◌, ◌≤◌}
 use native.Mathlib.Omega.{arith}
-use lib.ListN.{length, drop, length-drop}
+use lib.ListN.{length, take, drop, length-drop}
 use lib.Seq.{take_all}
+use Rattle.std.specs.Prelude.{Option}
+use Rattle.text.specs.Text.{bytes}
 use Rattle.text.specs.Lines.{first_line}
-use Rattle.airline_list.specs.FirstForm.{has_code, airline_behind}
+use Rattle.airline_list.specs.declared.End.{End}
+use Rattle.airline_list.specs.Forms.{told, code_in, form_of}
+use Rattle.airline_list.specs.FirstForm.{has_code, end_of_two, airline_with, others_with, airline_behind, others_in}
 use Rattle.airline_list.proofs.Laws.HeadLaws.{digits_long, three, airline-ahead, others-ahead}
 use Rattle.airline_list.proofs.forms.first_form.Goals as goal
-use Rattle.airline_list.proofs.forms.first_form.Goals.{Then-has_code}
 
-has-code : (c : Then-has_code) → has_code c.args.text.now ≡ true
-has-code c = sym c.has_code.ensures ∙ c.if-has_code.true
+module _ (text : List ℕ) where
+  long : true ≡ has_code text → 18 ≤ length text
+  long h = digits_long text (three text (sym h))
 
-long : (c : Then-has_code) → 18 ≤ length c.args.text.now
-long c =
-    let text = c.args.text.now in digits_long text (three text (has-code c))
+  airline : true ≡ has_code text → (code : ℕ) → code ≡ code_in text → (end : Option End)
+      → end
+      ≡ end_of_two (first_line (take (length text - 18) (drop 18 text))) (bytes ") left)") (bytes ") right)")
+      → airline_with code end ≡ form_of (first_line text)
+  unfolding airline_behind
+  airline h code is end found =
+      let part = take_all (length text - 18) (drop 18 text) (simp length-drop (omega arith)) in
+      (λ i. airline_with (is i) (found i))
+      ∙ ap (λ t. airline_with (code_in text) (end_of_two (first_line t) (bytes ") left)") (bytes ") right)"))) part
+      ∙ airline-ahead text (sym h)
 
-pub code_in-code-requires : goal.code_in-code-requires
-code_in-code-requires c =
-    three c.args.text.now (has-code (goal.at.code_in-code-requires c).Then-has_code)
+pub slice_bounds-end_of_two-count : goal.slice_bounds-end_of_two-count
+slice_bounds-end_of_two-count c = long c.args.text.now c.if-has_code.ensures
 
-pub slice_bounds-airline_behind-count : goal.slice_bounds-airline_behind-count
-slice_bounds-airline_behind-count c = long (goal.at.slice_bounds-airline_behind-count c).Then-has_code
+pub slice_bounds-end_of_two-start : goal.slice_bounds-end_of_two-start
+slice_bounds-end_of_two-start c = long c.args.text.now c.if-has_code.ensures
 
-pub slice_bounds-airline_behind-start : goal.slice_bounds-airline_behind-start
-slice_bounds-airline_behind-start c = long (goal.at.slice_bounds-airline_behind-start c).Then-has_code
+pub returns-in_err-end : goal.returns-in_err-end
+returns-in_err-end c =
+    let code = c.code_in-code in
+    ap told c.from_residual.ensures ∙ ap (airline_with code.result) (sym c.in_err-end.was)
+    ∙ airline c.args.text.now c.if-has_code.ensures code.result code.ensures c.end_of_two.result c.end_of_two.ensures
 
 pub returns-then-has_code : goal.returns-then-has_code
 returns-then-has_code c =
-    let t = (goal.at.returns-then-has_code c).Then-has_code in
-    let text = c.args.text.now in
     let code = c.code_in-code in
-    let rest = take_all (length text - 18) (drop 18 text) (simp length-drop (omega arith)) in
-    c.airline_behind.ensures
-    ∙ ap (λ (part : List ℕ). airline_behind code.result (first_line part)) rest
-    ∙ ap (λ n. airline_behind n (first_line (drop 18 text))) code.ensures
-    ∙ airline-ahead text (has-code t)
+    ap (airline_with code.result) (sym c.in_ok-end.was)
+    ∙ airline c.args.text.now c.if-has_code.ensures code.result code.ensures c.end_of_two.result c.end_of_two.ensures
+
+pub returns-in_err-end-2 : goal.returns-in_err-end-2
+unfolding others_in
+returns-in_err-end-2 c =
+    ap told c.from_residual-in_err-end-2.ensures ∙ ap others_with (sym c.in_err-end-2.was ∙ c.end_of_two-2.ensures)
+    ∙ others-ahead c.args.text.now (sym c.if-has_code.ensures)
 
 pub returns : goal.returns
+unfolding others_in
 returns c =
-    let text = c.args.text.now in
-    c.others_in.ensures ∙ others-ahead text (sym c.has_code.ensures ∙ c.if-has_code.false)
+    ap others_with (sym c.in_ok-end-2.was ∙ c.end_of_two-2.ensures)
+    ∙ others-ahead c.args.text.now (sym c.if-has_code.ensures)

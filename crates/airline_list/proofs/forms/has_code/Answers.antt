@@ -1,10 +1,8 @@
 -- `airline_list::forms::has_code` meets its contract: the bytes are tested as the definition does, and a text too short
 -- has no code.
 use mathlib.Core.Bool.{Bool, true, and-false, ◌&&◌}
-use mathlib.Core.Path.{◌≡◌, refl, sym, ap, ◌∙◌}
-use native.Mathlib.Omega.{arith}
+use mathlib.Core.Path.{◌≡◌, sym, ap, ◌∙◌}
 use lib.ListN.{take}
-use lib.Seq.{length-take-le}
 use Rattle.text.specs.Text.{bytes, same}
 use Rattle.airline_list.specs.FirstForm.{three_digits}
 use Rattle.airline_list.proofs.Laws.HeadLaws.{head-in-parts, short-no-digits}
@@ -15,17 +13,6 @@ pub returns-then-text-lt18 : goal.returns-then-text-lt18
 returns-then-text-lt18 c =
     let text = c.args.text.now in
     sym (rw (short-no-digits text c.if-text-lt18.true) (and-false (same (take 15 text) (bytes "(airline (code "))))
-
-pub slice_bounds-is_text-end : goal.slice_bounds-is_text-end
-slice_bounds-is_text-end c =
-    sym (length-take-le 8 c.args.text.now (omega arith))
-
-pub returns-then-not-is_text : goal.returns-then-not-is_text
-returns-then-not-is_text c =
-    let r = c.is_text in
-    let text = c.args.text.now in
-    let head = head-in-parts text (sym r.ensures ∙ c.if-not-is_text.true) refl in
-    sym (ap (λ (b : Bool). b && three_digits text) head)
 
 -- The first part is there.
 begins : (c : Else-not-is_text)

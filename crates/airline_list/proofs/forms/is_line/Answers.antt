@@ -3,7 +3,6 @@ use mathlib.Core.Bool.{true}
 use mathlib.Core.Path.{◌≡◌, sym, ◌∙◌}
 use native.Mathlib.Omega.{arith}
 use lib.ListN.{length, take}
-use lib.Seq.{length-take-le}
 use Rattle.text.specs.Text.{same}
 use Rattle.airline_list.proofs.Laws.HeadLaws.{not_first, too_short, first-whole, first-fed}
 use Rattle.airline_list.proofs.forms.is_line.Goals as goal
@@ -12,11 +11,6 @@ use Rattle.airline_list.proofs.forms.is_line.Goals.{Else-not-is_text}
 pub returns-then-text-n : goal.returns-then-text-n
 returns-then-text-n c =
     too_short c.args.text.now c.args.line.now c.requires c.if-text-n.true
-
-pub slice_bounds-is_text-end : goal.slice_bounds-is_text-end
-slice_bounds-is_text-end c =
-    let a = c.args in
-    sym (length-take-le (length a.line.now) a.text.now (omega arith))
 
 pub returns-then-not-is_text : goal.returns-then-not-is_text
 returns-then-not-is_text c =

@@ -1,57 +1,29 @@
 -- `call_dispatch::consecutive::dispatches_on` meets its contract: the dispatches that are left give what all give.
-use mathlib.Core.Path.{◌≡◌, refl, sym, ap, ◌∙◌}
-use Prim.Native.Nat.{ℕ, suc, ◌+◌, ◌-◌}
-use native.Mathlib.Omega.{arith}
-use Rattle.machine.specs.Calls.{dispatches}
-use Rattle.call_dispatch.proofs.DispatchRefusals.{table-passed}
-use Rattle.call_dispatch.proofs.ConsecutiveDispatches.{still-passed, goes_on, is_last, none_left}
+use Rattle.std.proofs.Common.{refl, sym, ◌∙◌, arith}
+use Rattle.std.proofs.lemmas.Result.{err_from_is_err_and}
+use Rattle.call_dispatch.proofs.ConsecutiveDispatches.{still-passed, dispatches_end, others-left}
 use Rattle.call_dispatch.proofs.consecutive.dispatches_on.Goals as goal
 
-pub loop-made-init : goal.loop-made-init
-loop-made-init c =
+pub returns-in_err-answer : goal.returns-in_err-answer
+returns-in_err-answer c =
     let a = c.args in
-    let e : a.times - 0 ≡ a.times = omega arith in record {
-      made-within = omega arith;
-      table-long = refl;
-      passes = c.requires;
-      rest-alike = ap (λ (n : ℕ). dispatches n a.table.now a.hint) e;
-    }
-
-pub dispatch_on-answer-requires : goal.dispatch_on-answer-requires
-dispatch_on-answer-requires c =
-    let l = c.loop-made in
-    table-passed l.table c.args.hint l.invariant.passes
+    let l = c.loop in
+    let passed_on = err_from_is_err_and c.from_residual.result c.from_residual.ensures.1 in
+    rw (passed_on.1, passed_on.2)
+    (dispatches_end l.table a.hint l.invariant.0 c.in_err-answer.ensures a.times l.counter (omega arith) l.invariant.1 refl)
 
 pub returns-then-not-goes_on : goal.returns-then-not-goes_on
 returns-then-not-goes_on c =
     let a = c.args in
-    let l = c.loop-made in
-    let done = c.dispatch_on-answer in
-    let going = c.goes_on in
-    let e : suc (a.times - (l.made + 1)) ≡ a.times - l.made = omega arith in
-    is_last l.table a.hint l.invariant.passes done.ensures
-    (sym going.ensures ∙ c.if-not-goes_on.true) (a.times - (l.made + 1))
-    ∙ ap (λ (n : ℕ). dispatches n l.table a.hint) e
-    ∙ l.invariant.rest-alike
+    let l = c.loop in
+    dispatches_end l.table a.hint l.invariant.0 c.in_ok-answer.ensures a.times l.counter (omega arith) l.invariant.1
+    (sym c.goes_on.ensures ∙ c.if-not-goes_on.true)
 
-pub loop-made-preserved : goal.loop-made-preserved
-loop-made-preserved c =
+pub loop-preserved : goal.loop-preserved
+loop-preserved c =
     let a = c.args in
-    let l = c.loop-made in
-    let done = c.dispatch_on-answer in
-    let going = c.goes_on in
-    let e : suc (a.times - (l.made + 1)) ≡ a.times - l.made = omega arith in record {
-      made-within = omega arith;
-      table-long = done.auto.table ∙ l.invariant.table-long;
-      passes = still-passed l.table a.hint l.invariant.passes done.ensures;
-      rest-alike = sym (goes_on l.table a.hint l.invariant.passes done.ensures
-          (sym going.ensures ∙ c.if-not-goes_on.false) (a.times - (l.made + 1)))
-          ∙ ap (λ (n : ℕ). dispatches n l.table a.hint) e
-          ∙ l.invariant.rest-alike;
-    }
-
-pub returns : goal.returns
-returns c =
-    let a = c.args in
-    let l = c.loop-made in
-    none_left l.table a.hint (omega arith) ∙ l.invariant.rest-alike
+    let l = c.loop in (
+      still-passed l.table a.hint l.invariant.0 c.in_ok-answer.ensures,
+      others-left l.table a.hint l.invariant.0 c.in_ok-answer.ensures a.times l.counter (omega arith) l.invariant.1
+          (sym c.goes_on.ensures ∙ c.if-not-goes_on.false),
+    )

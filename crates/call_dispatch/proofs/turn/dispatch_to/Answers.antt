@@ -1,27 +1,10 @@
--- `call_dispatch::turn::dispatch_to` meets its contract: the table of the tick, and the word of the task last
--- dispatched.
-use mathlib.Core.Path.{sym, ap, ◌∙◌}
-use native.Mathlib.Omega.{arith}
-use Rattle.machine.specs.declared.Dispatch.TheVariants.{Answered}
-use Rattle.machine.specs.Results.{dispatched_of}
-use Rattle.table_shape.proofs.Laws.TableWords.{header-long}
-use Rattle.call_dispatch.proofs.DispatchTests.{to-refused, to_made}
+-- `call_dispatch::turn::dispatch_to` meets its contract: a refusal of the tick is the dispatch's.
+use Rattle.std.proofs.lemmas.Result.{err_from_is_err_and}
+use Rattle.call_dispatch.proofs.DispatchTests.{to-refused}
 use Rattle.call_dispatch.proofs.turn.dispatch_to.Goals as goal
 
-pub returns-then-is_refusal : goal.returns-then-is_refusal
-returns-then-is_refusal c =
+pub returns-in_err-answer : goal.returns-in_err-answer
+returns-in_err-answer c =
     let a = c.args in
-    to-refused a.table.now a.k a.hint c.tick_on-answer.result c.tick_on-answer.new.table
-    c.tick_on-answer.ensures
-    (sym c.is_refusal.ensures ∙ c.if-is_refusal.true)
-
-pub set_dispatched-requires : goal.set_dispatched-requires
-set_dispatched-requires c =
-    omega (arith, header-long c.args.table.now c.requires.length_passes, c.tick_on-answer.auto.table)
-
-pub returns : goal.returns
-returns c =
-    let a = c.args in
-    ap (dispatched_of (Answered c.tick_on-answer.result)) c.set_dispatched.ensures
-    ∙ to_made a.table.now a.k a.hint c.tick_on-answer.result c.tick_on-answer.new.table c.tick_on-answer.ensures
-    (sym c.is_refusal.ensures ∙ c.if-is_refusal.false)
+    let passed_on = err_from_is_err_and c.from_residual.result c.from_residual.ensures.1 in
+    rw (passed_on.1, passed_on.2) (to-refused a.table.now a.k a.hint c.in_err-answer.ensures)

@@ -1,55 +1,29 @@
 -- `call_tick::consecutive::ticks_on` meets its contract: the ticks that are left give what all give.
-use mathlib.Core.Path.{◌≡◌, refl, sym, ap, ◌∙◌}
-use Prim.Native.Nat.{ℕ, suc, ◌+◌, ◌-◌}
-use native.Mathlib.Omega.{arith}
-use Rattle.machine.specs.Calls.{ticks}
-use Rattle.call_tick.proofs.Laws.ConsecutiveTicks.{tick-passed, goes_on, is_last, none_left}
+use Rattle.std.proofs.Common.{refl, sym, ◌∙◌, arith}
+use Rattle.std.proofs.lemmas.Result.{err_from_is_err_and}
+use Rattle.call_tick.proofs.Laws.ConsecutiveTicks.{tick-passed, ticks_end, others-follow}
 use Rattle.call_tick.proofs.consecutive.ticks_on.Goals as goal
 
-pub loop-made-init : goal.loop-made-init
-loop-made-init c =
+pub returns-in_err-answer : goal.returns-in_err-answer
+returns-in_err-answer c =
     let a = c.args in
-    let e : a.times - 0 ≡ a.times = omega arith in record {
-      made-within = omega arith;
-      table-long = refl;
-      well-formed = c.requires;
-      rest-alike = ap (λ (n : ℕ). ticks n a.table.now a.task a.hint) e;
-    }
-
-pub tick_on-answer-requires : goal.tick_on-answer-requires
-tick_on-answer-requires c =
-    c.loop-made.invariant.well-formed
+    let l = c.loop in
+    let passed_on = err_from_is_err_and c.from_residual.result c.from_residual.ensures.1 in
+    rw (passed_on.1, passed_on.2)
+    (ticks_end l.table l.invariant.0 a.task a.hint c.in_err-answer.ensures a.times l.counter (omega arith) l.invariant.1 refl)
 
 pub returns-then-not-is_going : goal.returns-then-not-is_going
 returns-then-not-is_going c =
     let a = c.args in
-    let l = c.loop-made in
-    let done = c.tick_on-answer in
-    let going = c.is_going in
-    let e : suc (a.times - (l.made + 1)) ≡ a.times - l.made = omega arith in
-    is_last l.table l.invariant.well-formed a.task a.hint done.ensures
-    (sym going.ensures ∙ c.if-not-is_going.true) (a.times - (l.made + 1))
-    ∙ ap (λ (n : ℕ). ticks n l.table a.task a.hint) e
-    ∙ l.invariant.rest-alike
+    let l = c.loop in
+    ticks_end l.table l.invariant.0 a.task a.hint c.in_ok-answer.ensures a.times l.counter (omega arith) l.invariant.1
+    (sym c.is_going.ensures ∙ c.if-not-is_going.true)
 
-pub loop-made-preserved : goal.loop-made-preserved
-loop-made-preserved c =
+pub loop-preserved : goal.loop-preserved
+loop-preserved c =
     let a = c.args in
-    let l = c.loop-made in
-    let done = c.tick_on-answer in
-    let going = c.is_going in
-    let e : suc (a.times - (l.made + 1)) ≡ a.times - l.made = omega arith in record {
-      made-within = omega arith;
-      table-long = done.auto.table ∙ l.invariant.table-long;
-      well-formed = tick-passed l.table l.invariant.well-formed a.task a.hint done.ensures;
-      rest-alike = sym (goes_on l.table l.invariant.well-formed a.task a.hint done.ensures
-          (sym going.ensures ∙ c.if-not-is_going.false) (a.times - (l.made + 1)))
-          ∙ ap (λ (n : ℕ). ticks n l.table a.task a.hint) e
-          ∙ l.invariant.rest-alike;
-    }
-
-pub returns : goal.returns
-returns c =
-    let a = c.args in
-    let l = c.loop-made in
-    none_left l.table a.task a.hint (omega arith) ∙ l.invariant.rest-alike
+    let l = c.loop in (
+      tick-passed l.table l.invariant.0 a.task a.hint c.in_ok-answer.ensures,
+      others-follow l.table l.invariant.0 a.task a.hint c.in_ok-answer.ensures a.times l.counter (omega arith)
+          l.invariant.1 (sym c.is_going.ensures ∙ c.if-not-is_going.false),
+    )

@@ -1,8 +1,5 @@
 -- `call_tick::pairs::run_on` meets its contract: the ticks made and the run of the pairs ahead are the run of the list.
-use mathlib.Core.Path.{◌≡◌}
-use mathlib.Core.List.{List}
-use Prim.Native.Nat.{ℕ, ◌+◌, ◌*◌}
-use lib.ListN.{length}
+use Rattle.std.proofs.Common.{◌≡◌, ℕ, ◌+◌, ◌*◌, List, length}
 use Rattle.machine.specs.Calls.{run_on}
 use Rattle.machine.specs.Shape.{WellFormed}
 use Rattle.call_tick.proofs.Laws.RunWords.{ahead}
@@ -11,8 +8,6 @@ use Rattle.call_tick.proofs.pairs.run_on.Given as goal
 -- What holds before each turn.
 pub record Turn (t₀ list answers₀ t answers rest : List ℕ) (made : ℕ) : Type 0 where
   pub pairs-left : 2 * made + length rest ≡ length list
-  pub table-long : length t ≡ length t₀
-  pub answers-long : length answers ≡ length answers₀
   pub well-formed : WellFormed t
   pub rest-alike : ahead made rest t answers ≡ run_on list t₀ answers₀
 

@@ -5,7 +5,7 @@ use mathlib.Core.List.{List}
 use mathlib.Core.Option.{Option, some, none, bind}
 use Prim.Native.Nat.{ℕ, ◌<◌}
 use borrow.Author.Tests.{lt-ltb, le-leb}
-use Rattle.machine.specs.declared.Dispatch.TheVariants.{Idle, Answered}
+use Rattle.machine.specs.Outcomes.Dispatch.{Idle, Answered}
 use Rattle.machine.specs.Round.{next_after}
 use Rattle.machine.specs.Values.{number}
 use Rattle.machine.specs.declared.Stored.{Stored}

@@ -4,9 +4,8 @@ use mathlib.Core.Bool.{Bool, true, false}
 use mathlib.Core.List.{List}
 use mathlib.Core.Option.{some, bind}
 use Prim.Native.Nat.{ℕ, zero, suc}
-use Rattle.machine.specs.declared.Answer.TheVariants.{Going}
-use Rattle.machine.specs.declared.Dispatch.{Dispatch}
-use Rattle.machine.specs.declared.Dispatch.TheVariants.{Answered}
+use Rattle.machine.specs.Outcomes.Answer.{Going}
+use Rattle.machine.specs.Outcomes.Dispatch.{Dispatch, Answered}
 use Rattle.machine.specs.Answers.{dispatch_goes_on}
 use Rattle.machine.specs.Calls.{Dispatched, dispatch, dispatches, went_on}
 use Rattle.machine.specs.Row.{Row, feed_dispatch}

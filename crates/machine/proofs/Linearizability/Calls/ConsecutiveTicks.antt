@@ -4,8 +4,7 @@ use mathlib.Core.Bool.{Bool, true, false}
 use mathlib.Core.List.{List}
 use mathlib.Core.Option.{Option, some, none, bind}
 use Prim.Native.Nat.{ℕ, zero, suc}
-use Rattle.machine.specs.declared.Answer.{Answer}
-use Rattle.machine.specs.declared.Answer.TheVariants.{Going}
+use Rattle.machine.specs.Outcomes.Answer.{Answer, Going}
 use Rattle.machine.specs.Answers.{is_going}
 use Rattle.machine.specs.Calls.{Ticked, tick, ticks}
 use Rattle.machine.specs.Row.{Note, Row, feed_made}

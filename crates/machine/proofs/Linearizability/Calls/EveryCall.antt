@@ -11,12 +11,10 @@ use lib.Seq.{take_at}
 use borrow.Author.Tests.{eq-eqb, leb-false, lt-ltb, le-ltb}
 use Rattle.tag.specs.Tags.{all_tag_words}
 use Rattle.tag.proofs.TagLaws.{length-tag-words}
-use Rattle.machine.specs.declared.Reply.{Reply}
-use Rattle.machine.specs.declared.Reply.TheVariants.{Accepted, Refused as Reply-Refused}
+use Rattle.machine.specs.Outcomes.Reply.{Reply, Accepted, Refused as Reply-Refused}
 use Rattle.machine.specs.declared.Stored.{Stored}
 use Rattle.text_page.specs.Page.{page_text}
-use Rattle.airline_list.specs.declared.Sent.{Sent}
-use Rattle.airline_list.specs.declared.Sent.TheVariants.{To, NotSent}
+use Rattle.airline_list.specs.Outcomes.{Sent, To, NotSent}
 use Rattle.airline_list.specs.Lists.{verdict, sent}
 use Rattle.machine.specs.Choice.{◌<?◌}
 use Rattle.machine.specs.Sides.{side_number, side_of}

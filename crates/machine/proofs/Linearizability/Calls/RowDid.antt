@@ -5,10 +5,8 @@ use mathlib.Core.Bool.{Bool, true, false, cond}
 use mathlib.Core.List.{List, [], ◌∷◌}
 use mathlib.Core.Option.{Option, some, none, map, bind}
 use Prim.Native.Nat.{ℕ, zero, suc}
-use Rattle.machine.specs.declared.Answer.{Answer}
-use Rattle.machine.specs.declared.Answer.TheVariants.{Going}
-use Rattle.machine.specs.declared.Dispatch.{Dispatch}
-use Rattle.machine.specs.declared.Dispatch.TheVariants.{Idle, Answered}
+use Rattle.machine.specs.Outcomes.Answer.{Answer, Going}
+use Rattle.machine.specs.Outcomes.Dispatch.{Dispatch, Idle, Answered}
 use Rattle.machine.specs.Answers.{refusal_of, is_going, dispatch_goes_on, answer_of}
 use Rattle.machine.specs.Row.{
   Row,

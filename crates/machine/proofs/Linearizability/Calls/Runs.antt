@@ -8,8 +8,7 @@ use native.Mathlib.Decide.{ℕ_discrete}
 use lib.ListN.{drop}
 use Rattle.tag.specs.Tags.{digit_of, low_of}
 use Rattle.tag.proofs.TagLaws.{tag-of-words}
-use Rattle.machine.specs.declared.Answer.{Answer}
-use Rattle.machine.specs.declared.Answer.TheVariants.{Going, Pushed, Bag, Empty, Full, Yes, No, Refused}
+use Rattle.machine.specs.Outcomes.Answer.{Answer, Going, Pushed, Bag, Empty, Full, Yes, No, Refused}
 use Rattle.machine.specs.Answers.{
   kind_of,
   payload_of,

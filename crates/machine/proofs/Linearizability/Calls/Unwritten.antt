@@ -6,8 +6,7 @@ use mathlib.Core.List.{List, [], ◌∷◌}
 use mathlib.Core.Option.{Option, some, none, bind}
 use Prim.Native.Nat.{ℕ, zero, suc, ◌<◌}
 use Rattle.machine.specs.declared.Stored.{Stored}
-use Rattle.airline_list.specs.declared.Sent.{Sent}
-use Rattle.airline_list.specs.declared.Sent.TheVariants.{To, NotSent}
+use Rattle.airline_list.specs.Outcomes.{Sent, To, NotSent}
 use Rattle.airline_list.specs.Lists.{verdict, sent}
 use Rattle.machine.specs.Values.{number}
 use Rattle.machine.specs.Answers.{refusal_of, is_going, dispatch_goes_on, answer_of}

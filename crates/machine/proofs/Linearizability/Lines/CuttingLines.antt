@@ -4,8 +4,7 @@ use mathlib.Core.Logic.{◌≢◌, inr}
 use mathlib.Core.Bool.{Bool, true}
 use mathlib.Core.List.{List, [], ◌∷◌}
 use Prim.Native.Nat.{ℕ, ◌<◌}
-use Rattle.machine.specs.declared.Answer.{Answer}
-use Rattle.machine.specs.declared.Answer.TheVariants.{Yes}
+use Rattle.machine.specs.Outcomes.Answer.{Answer, Yes}
 use Rattle.machine.specs.Sides.{Side}
 use Rattle.machine.specs.Values.{N, X, Y}
 use Rattle.machine.specs.Steps.{line81, line62, line64, line74, line78, line79, line82}

@@ -5,8 +5,7 @@ use mathlib.Core.Bool.{Bool}
 use mathlib.Core.List.{List, []}
 use Prim.Native.Nat.{ℕ}
 use native.Mathlib.Omega.{arith}
-use Rattle.machine.specs.declared.Answer.{Answer}
-use Rattle.machine.specs.declared.Answer.TheVariants.{Going}
+use Rattle.machine.specs.Outcomes.Answer.{Answer, Going}
 use Rattle.machine.specs.Sides.{Side}
 use Rattle.machine.specs.Steps.{Step, rest}
 use Rattle.machine.specs.Tasks.{goto, with_c, Task, fresh, no_node}

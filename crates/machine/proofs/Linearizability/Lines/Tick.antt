@@ -4,8 +4,7 @@ use mathlib.Core.Logic.{◌≢◌, inl, inr}
 use mathlib.Core.Bool.{Bool}
 use mathlib.Core.List.{List}
 use Prim.Native.Nat.{ℕ, ◌<◌}
-use Rattle.machine.specs.declared.Answer.{Answer}
-use Rattle.machine.specs.declared.Answer.TheVariants.{Going, Empty, Full, Yes, No}
+use Rattle.machine.specs.Outcomes.Answer.{Answer, Going, Empty, Full, Yes, No}
 use Rattle.machine.specs.Sides.{Side}
 use Rattle.machine.specs.Operations.{idle}
 use Rattle.machine.specs.Steps.{Step}

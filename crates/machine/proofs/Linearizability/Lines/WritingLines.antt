@@ -5,7 +5,7 @@ use mathlib.Core.Bool.{Bool, true}
 use mathlib.Core.List.{List, [], ◌∷◌, ◌++◌}
 use Prim.Native.Nat.{ℕ, suc, ◌-◌, ◌<◌}
 use native.Mathlib.Omega.{arith}
-use Rattle.machine.specs.declared.Answer.TheVariants.{Pushed, Bag}
+use Rattle.machine.specs.Outcomes.Answer.{Pushed, Bag}
 use Rattle.machine.specs.Sides.{Side}
 use Rattle.machine.specs.Values.{Value, bag, N, Y}
 use Rattle.machine.specs.Steps.{Step, line5, line51, line72}
@@ -27,7 +27,7 @@ use Rattle.machine.proofs.Linearizability.Model.Phases.{with-chain, without-chai
 use Rattle.machine.proofs.Linearizability.Model.Invariant.{Lane, same-places, Lanes, one_lane, goes_on}
 use Rattle.machine.proofs.Linearizability.Model.Invariant.{has_answered, TickOk, row_of}
 use Rattle.machine.proofs.Lines.Branches.{Back, onward}
-use Rattle.machine.specs.declared.Answer.TheVariants.{Going}
+use Rattle.machine.specs.Outcomes.Answer.{Going}
 use Rattle.machine.proofs.Linearizability.Lines.LineEnds.{fresh_ok, back-ok}
 
 module _ (held : ℕ → Bool) (k : ℕ) {L : ℕ} {s o : Side} {m : View} {class : ℕ → Class} {r : ℕ → List ℕ}

@@ -9,7 +9,7 @@ use native.Mathlib.Omega.{arith}
 use native.Mathlib.Decide.{ℕ_discrete}
 use lib.Dec.{leb, eqb}
 use borrow.Author.Tests.{eq-eqb, eqb-true, lt-ltb}
-use Rattle.machine.specs.declared.Reply.TheVariants.{Accepted, Refused as Reply-Refused}
+use Rattle.machine.specs.Outcomes.Reply.{Accepted, Refused as Reply-Refused}
 use Rattle.machine.specs.declared.Stored.{Stored}
 use Rattle.machine.specs.Sides.{Side, left, right, side_number}
 use Rattle.machine.specs.Values.{number, bag_ok}

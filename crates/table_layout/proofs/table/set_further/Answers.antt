@@ -1,21 +1,11 @@
 -- `table_layout::table::set_further` meets its contract: the part written is the record.
-use mathlib.Core.Path.{refl, sym, ap, ◌∙◌, subst}
-use mathlib.Core.List.{List}
-use Prim.Native.Nat.{ℕ, ◌+◌, ◌-◌}
+use mathlib.Core.Path.{refl, ap, ◌∙◌}
+use Prim.Native.Nat.{◌+◌, ◌-◌}
 use borrow.Rule.Slice.PartMut.{put_mid}
 use Rattle.machine.specs.Tasks.{record_length}
-use Rattle.table_record.specs.Coded.{struct_of, record_of, SameCall}
-use Rattle.table_layout.proofs.Laws.RecordParts.{record-part, record-part-long, record-put}
-use borrow.Author.Rules.{rules}
+use Rattle.table_record.specs.Coded.{record_of}
+use Rattle.table_layout.proofs.Laws.RecordParts.{record-put}
 use Rattle.table_layout.proofs.table.set_further.Goals as goal
-
-pub write_further-requires : goal.write_further-requires
-write_further-requires c =
-    let a = c.args in record {
-      words_len = record-part-long a.table.now c.place-at.ensures c.requires.holds_record;
-      same_call = subst (λ (l : List ℕ). SameCall (struct_of l) a.new) (sym (record-part a.table.now c.place-at.ensures))
-          c.requires.same_call;
-    }
 
 pub returns : goal.returns
 returns c =

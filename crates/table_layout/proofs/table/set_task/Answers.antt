@@ -5,7 +5,6 @@ use borrow.Rule.Slice.PartMut.{put_mid}
 use Rattle.machine.specs.Tasks.{record_length}
 use Rattle.table_record.specs.Coded.{record_of}
 use Rattle.table_layout.proofs.Laws.RecordParts.{record-put}
-use borrow.Author.Rules.{rules}
 use Rattle.table_layout.proofs.table.set_task.Goals as goal
 
 pub returns : goal.returns

@@ -1,6 +1,5 @@
 -- `table_record::Task::is_fresh` meets its contract: its tests are those of `same_words`.
 use Rattle.table_record.proofs.Laws.RecordWords.{fresh-words}
-use borrow.Author.Rules.{rules}
 use Rattle.table_record.proofs.Task.is_fresh.Goals as goal
 
 pub returns : goal.returns

@@ -1,14 +1,7 @@
 -- `table_record::Task::write` meets its contract: the words of the call, then the others.
-use mathlib.Core.Path.{◌∙◌}
-use native.Mathlib.Omega.{arith}
 use lib.ListN.{length-set}
 use Rattle.table_record.proofs.Laws.RecordWords.{call-written}
-use borrow.Author.Rules.{rules}
 use Rattle.table_record.proofs.Task.write.Goals as goal
-
-pub bounds-words-12 : goal.bounds-words-12
-bounds-words-12 c =
-    simp length-set (omega (arith, c.requires))
 
 pub write_further-requires : goal.write_further-requires
 write_further-requires c =

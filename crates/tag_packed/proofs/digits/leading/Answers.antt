@@ -1,5 +1,4 @@
 -- `tag_packed::digits::leading` meets its contract: the first digit is the tag's leading one.
-use mathlib.Core.Path.{◌∙◌}
 use borrow.Kind.Array.{e_int, good_length}
 use mir.Syntax.{w8}
 use Rattle.tag_packed.proofs.Laws.Words.{leading-digit}
@@ -8,5 +7,4 @@ use Rattle.tag_packed.proofs.digits.leading.Goals as goal
 pub returns : goal.returns
 returns c =
     let digits = c.args.digits in
-    let ten = good_length (e_int w8) 10 digits _ c.well_formed.0 in
-    c.wide.ensures ∙ leading-digit digits ten c.requires
+    leading-digit digits (good_length (e_int w8) 10 digits _ c.well_formed.0) c.requires

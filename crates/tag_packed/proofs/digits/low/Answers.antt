@@ -8,12 +8,12 @@ use Rattle.tag_packed.proofs.digits.low.Goals as goal
 
 pub overflow_mul-result : goal.overflow_mul-result
 overflow_mul-result c =
-    omega (arith, c.wide.ensures, digit_at c.args.digits 1 c.requires)
+    omega (arith, digit_at c.args.digits 1 c.requires)
 
 pub overflow_add-result : goal.overflow_add-result
 overflow_add-result c =
     let upper = c.four-upper in
-    omega (arith, c.wide.ensures, digit_at c.args.digits 1 c.requires, upper.ensures.1)
+    omega (arith, digit_at c.args.digits 1 c.requires, upper.ensures.1)
 
 pub overflow_add-result-2 : goal.overflow_add-result-2
 overflow_add-result-2 c =
@@ -21,7 +21,6 @@ overflow_add-result-2 c =
     let lower = c.four-lower in
     omega (
       arith,
-      c.wide.ensures,
       digit_at c.args.digits 1 c.requires,
       upper.ensures.1,
       lower.ensures.1,
@@ -31,5 +30,5 @@ pub returns : goal.returns
 returns c =
     let digits = c.args.digits in
     let ten = good_length (e_int w8) 10 digits _ c.well_formed.0 in
-    rw (c.wide.ensures, c.four-upper.ensures.0, c.four-lower.ensures.0)
+    rw (c.four-upper.ensures.0, c.four-lower.ensures.0)
     (low-digits digits ten c.requires)

@@ -1,33 +1,26 @@
 -- `text_page::digits::put_tag` meets its contract.
-use mathlib.Core.Path.{◌≡◌}
-use Prim.Native.Nat.{◌+◌, ◌/◌}
+use mathlib.Core.Path.{◌≡◌, refl, ap, ◌∙◌}
+use Prim.Native.Nat.{◌+◌, ◌/◌, ◌%◌}
 use native.Mathlib.Omega.{arith}
 use lib.ListN.{length, set, length-set}
+use lib.Seq.{length-sets}
+use Rattle.text.specs.Numerals.{with_zeros}
+use Rattle.text.proofs.Laws.WritingLaws.{part-stored}
 use Rattle.text_page.proofs.Laws.Digits.{tag-stored}
+use Rattle.text_page.proofs.Laws.Lengths.{zeros-length}
 use Rattle.text_page.proofs.digits.put_tag.Goals as goal
-use Rattle.text_page.proofs.digits.put_tag.Goals.{Start}
-
--- The first two stores keep the length.
-long : (c : Start)
-    → let a = c.args in
-    length (set (set a.out.now a.at (48 + a.digit)) (a.at + 1) (48 + a.low / 100_000_000))
-    ≡ length a.out.now
-long c = simp length-set
-
-pub bounds-out-at-2 : goal.bounds-out-at-2
-bounds-out-at-2 c = simp length-set (omega arith)
-
-pub put_four-requires : goal.put_four-requires
-put_four-requires c = (omega arith, simp length-set (omega arith))
-
-pub put_four-requires-2 : goal.put_four-requires-2
-put_four-requires-2 c =
-    let start = (goal.at.put_four-requires-2 c).Start in
-    (omega arith, omega (arith, c.put_four.auto.out, long start))
 
 pub returns : goal.returns
 returns c =
-    let first = c.put_four in
     let a = c.args in
-    tag-stored a.out.now a.at a.digit a.low c.requires.0 c.requires.1 first.ensures
-    c.put_four-2.ensures
+    let out = a.out.now in
+    let two = set (set out 0 (48 + a.digit)) 1 (48 + a.low / 100_000_000) in
+    let middle = with_zeros 4 (a.low / 10_000 % 10_000) in
+    let low = with_zeros 4 (a.low % 10_000) in
+    let long : length two ≡ length out = simp length-set refl in
+    let four = zeros-length 4 (a.low / 10_000 % 10_000) in
+    let last = zeros-length 4 (a.low % 10_000) in
+    let first = part-stored two middle 2 (omega (arith, four, long)) c.put_four.ensures in
+    let long-six = ap length first ∙ length-sets two 2 middle in
+    tag-stored out 0 a.digit a.low c.requires.0 c.requires.1 first
+    (part-stored _ low 6 (omega (arith, last, long, long-six)) c.put_four-2.ensures)

@@ -1,3 +1,0 @@
--- What the proofs of the printer share.
-
-pub mod LineLaws

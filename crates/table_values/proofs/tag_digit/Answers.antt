@@ -1,9 +1,0 @@
--- `table_values::tag_digit` meets its contract.
-use mathlib.Core.Path.{sym}
-use Rattle.tag.proofs.TagLaws.{tag-range, digit-of-tag}
-use Rattle.table_values.proofs.tag_digit.Goals as goal
-
-pub returns : goal.returns
-returns c =
-    let v = c.args.v in
-    sym (digit-of-tag v.digit v.word (tag-range v.digit v.word c.requires).low_small)
