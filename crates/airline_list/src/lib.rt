@@ -149,9 +149,8 @@ fn code_of(tag: u64) -> usize
 // The end to which a list sends a tag, or the list's fault. What is left where no line is told is a closing line, or it
 // is read line by line.
 //
-// Inlined into both its callers, so that the answer stays in registers: through memory the test of a list of two lines
-// took a third longer.
-#[inline(always)]
+// Not inlined: the library has it once, for the test of a list and for the push by list.
+#[inline(never)]
 pub fn end_for(list: &[u8], tag: u64) -> Result<End, Fault>
     ensures { sent_of result ≡ sent (verdict list.now) tag }
 {

@@ -2,13 +2,12 @@
 #![tactic(auto)]
 
 ghost use Rattle.std.specs.Prelude.{◌≡◌};
-ghost use Rattle.airline_list.specs.Outcomes.{sent_of, checked_of};
-ghost use Rattle.airline_list.specs.Lists.{verdict, sent, checked};
 ghost use Rattle.machine.specs.Sides.{side_number};
 ghost use Rattle.machine.specs.PushByList.{side_at, replied_of, push_by_list};
 ghost use Rattle.call_push_by_list.specs.Replies.{by_list};
 ghost use Rattle.call_push_by_list.specs.declared.ListRefusal.TheVariants.{Begin, List};
 
+pub use airline_list::check;
 use airline_list::{End, Fault, end_for};
 use call_begin::begin;
 use machine::Stored;
@@ -49,22 +48,6 @@ fn side(end: End) -> u32
     }
 }
 
-// The end to which a list sends a tag. Not inlined, as the reader of a list is: the library has it once.
-#[inline(never)]
-fn end_of(list: &[u8], tag: u64) -> Result<End, Fault>
-    ensures { sent_of result ≡ sent (verdict list.now) tag }
-{
-    end_for(list, tag)
-}
-
-// Whether a list is accepted, or its fault, by the same reader: `airline_list::check` has one of its own.
-pub fn check(list: &[u8]) -> Result<(), Fault>
-    ensures { checked_of result ≡ checked (verdict list.now) }
-{
-    end_of(list, 0)?;
-    Ok(())
-}
-
 // 2026-13: refusals 27, 28 and 29 of the list, then those of a begin, which is made at the end for the tag.
 pub fn push_by_list(
     list: &[u8],
@@ -76,7 +59,7 @@ pub fn push_by_list(
     ensures { replied_of (by_list result) table.new
         ≡ push_by_list list.now table.old task l argument }
 {
-    let end = end_of(list, number(argument))?;
+    let end = end_for(list, number(argument))?;
     begin(table, task, l, Task::PUSH, side(end), argument)?;
     Ok(())
 }

@@ -33,7 +33,7 @@ pub fn run_on(table: &mut [u32], list: &[u32], answers: &mut [u32]) -> Ran
                     refusal: Some(refusal),
                 };
             }
-            Ok(answer) => put_answer(answers, ANSWER_WORDS * (made as usize), answer),
+            Ok(answer) => put_answer(answers, ANSWER_WORDS * (made as usize), Ok(answer)),
         }
         rest = &rest[2..];
         made += 1;

@@ -12,7 +12,7 @@ ghost use Rattle.machine.specs.Lent.{begin_lent};
 ghost use Rattle.machine.specs.Snapshots.{take_snapshot, put_back};
 ghost use Rattle.deque.specs.Exports.{pair_of, answer_number, dispatch_number, ran_number, reading_number, list_number};
 ghost use Rattle.deque.specs.Exports.{fresh_number, fed_number, checked_number, by_list_number, library_version};
-ghost use Rattle.airline_list.specs.Outcomes.{checked_of};
+ghost use Rattle.airline_list.specs.Outcomes.{checked_of, flaw_number};
 ghost use Rattle.airline_list.specs.Lists.{verdict, checked};
 ghost use Rattle.table_record.specs.Coded.{record_of};
 ghost use Rattle.machine.specs.PushByList.{push_by_list};
@@ -20,10 +20,11 @@ ghost use Rattle.machine.specs.Sheets as sheets;
 ghost use Rattle.tag_lists.specs.TagLists.{answer_of, read_tags, write_tags};
 ghost use Rattle.window.specs.Window as windows;
 
-use airline_list::Fault;
+use airline_list::{Fault, check};
+use answers::IDLE;
 use call_begin::{begin, begin_record};
 use call_dispatch::{dispatch, dispatches};
-use call_push_by_list::{ListRefusal, check, push_by_list};
+use call_push_by_list::{ListRefusal, push_by_list};
 use call_read::read;
 use call_run::{panel, run};
 use call_sheet::sheet;
@@ -60,10 +61,8 @@ pub extern "C" fn lane_version() -> u64
 // What a kind is multiplied with: 2^40.
 const KIND: u64 = 1_099_511_627_776;
 
-// The kinds of a refused tick, and of a dispatch that finds no task busy.
+// The kind of a refused tick.
 const REFUSED: u64 = 7;
-
-const IDLE: u64 = 8;
 
 // Kept: a function for each kind of answer. Each is an equation with a definition of its own, and a trait of refusals with
 // their halves would be longer than the arms that it saved.
@@ -95,7 +94,7 @@ fn dispatch_number(dispatched: Result<Option<Answer>, Refusal>) -> u64
 {
     match dispatched {
         Ok(Some(a)) => answer_number(Ok(a)),
-        Ok(None) => IDLE * KIND,
+        Ok(None) => (IDLE as u64) * KIND,
         Err(refusal) => answer_number(Err(refusal)),
     }
 }
@@ -145,12 +144,20 @@ fn fed_number(fed: Result<u32, WindowError>) -> u64
     }
 }
 
+// Not inlined: set into the test of a list, the fault would be read from memory also where there is none.
+#[inline(never)]
+fn fault_number(fault: Fault) -> u64
+    ensures { result ≡ pair_of (flaw_number fault.flaw) fault.line }
+{
+    pair(fault.flaw.number(), fault.line)
+}
+
 fn checked_number(c: Result<(), Fault>) -> u64
     ensures { result ≡ checked_number (checked_of c) }
 {
     match c {
         Ok(()) => 0,
-        Err(fault) => pair(fault.flaw.number(), fault.line),
+        Err(fault) => fault_number(fault),
     }
 }
 
@@ -159,7 +166,7 @@ fn by_list_number(reply: Result<(), ListRefusal>) -> u64
 {
     match reply {
         Ok(()) => 0,
-        Err(ListRefusal::List(fault)) => pair(fault.flaw.number(), fault.line),
+        Err(ListRefusal::List(fault)) => fault_number(fault),
         Err(ListRefusal::Begin(refusal)) => pair(number(refusal), 0),
     }
 }

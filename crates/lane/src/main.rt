@@ -2,8 +2,9 @@
 #![tactic(auto)]
 
 ghost use Rattle.std.specs.Prelude.{◌≡◌, ◌≤◌, length};
-ghost use Rattle.text_scan.specs.Kept.{no_text};
-ghost use Rattle.program_stream.specs.Carried.{loan, lent_at_first, InOrder, line_room};
+ghost use Rattle.text_scan.specs.Kept.{text_places};
+ghost use Rattle.program_answer.specs.Space.{largest_table};
+ghost use Rattle.program_stream.specs.Carried.{loan, InOrder, line_room};
 ghost use Rattle.lane.specs.Turns.{bytes_taken, goes_on, Taken, Turned, Ran};
 
 use program_answer::BAG_WORDS;
@@ -92,15 +93,16 @@ fn turn(
     answer_chunk(rt, session, &input[..n], out)
 }
 
-// Turns from the start of a session until one breaks. A proved loop has to end, and nothing says that an input does: the
+// A session from its start, turn by turn until one breaks. A proved loop has to end, and nothing says that an input does: the
 // loop counts its turns, up to a number that no run reaches.
 fn run(rt: &(impl Input + Print + Eprint), session: &mut Session, input: &mut [u8], out: &mut [u8])
-    requires at_first { loan session.old ≡ lent_at_first session.old.space.words.now no_text }
-    requires in_order { InOrder (loan session.old) }
+    requires largest_table_in_bounds { largest_table ≤ length session.old.space.words.now }
+    requires text_len { length session.old.line.text ≡ text_places }
     requires line_room_in_bounds { line_room ≤ length out.old }
     ensures same_space { session.new.space.words.ghost_name ≡ session.old.space.words.ghost_name }
-    ensures ran { Ran session.old.space.words.now no_text out.old (loan session.new) out.new }
+    ensures ran { Ran session.old.space.words.now session.old.line.text out.old (loan session.new) out.new }
 {
+    session.restart();
     for _ in 0..u64::MAX {
         if let ControlFlow::Break(_) = turn(rt, session, input, out) {
             return;

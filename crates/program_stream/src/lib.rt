@@ -3,7 +3,7 @@
 
 ghost use Rattle.std.specs.Prelude.{◌≡◌, ◌+◌, ◌≤◌, length};
 ghost use Rattle.std.proofs.Math.Seq.{slice};
-ghost use Rattle.text_scan.specs.Kept.{no_text};
+ghost use Rattle.text_scan.specs.Kept.{no_text, text_places};
 ghost use Rattle.program_answer.specs.Space.{largest_table};
 ghost use Rattle.program_stream.specs.Session.{take_bytes, end_input, at_first, meant};
 ghost use Rattle.program_stream.specs.Carried.{
@@ -61,6 +61,19 @@ impl<'a> Session<'a> {
             line: Line::new(),
             begun: false,
         }
+    }
+
+    // Begins again over the same words: no table, and no line, whatever stands in the array of its text.
+    pub fn restart(&mut self)
+        ensures same_space { self.new.space.words.ghost_name ≡ self.old.space.words.ghost_name }
+        ensures fresh { loan self.new ≡ lent_at_first self.old.space.words.now self.old.line.text }
+        ensures in_order { largest_table ≤ length self.old.space.words.now
+            → length self.old.line.text ≡ text_places → InOrder (loan self.new) }
+        ensures holds { Holds (loan self.new) at_first }
+    {
+        self.space.len = 0;
+        self.line.clear();
+        self.begun = false;
     }
 
     // Answers the line so far, at a place of the output, and begins the next. Answers the place after what is printed.

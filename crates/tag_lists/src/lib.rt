@@ -45,6 +45,11 @@ impl ListError {
 // 02: 1,024 tags.
 pub const MOST_TAGS: usize = 1_024;
 
+// The longest list in each form.
+pub const LONGEST_BYTES: usize = 5 * MOST_TAGS;
+
+pub const LONGEST_WORDS: usize = 2 * MOST_TAGS;
+
 // The place of the first tag that is none.
 fn first_bad<T: Form>(tags: &[T]) -> Option<usize>
     ensures { result ≡ position (λ tag. not (T.good tag)) tags.now }

@@ -21,25 +21,25 @@ ghost use Rattle.text_scan.specs.Kept.{
 use std::marker::Model;
 
 // One byte more than the longest form has.
-const TEXT_PLACES: usize = 39;
+pub const TEXT_PLACES: usize = 39;
 
 // One number more than any form has.
-const NUMBER_PLACES: usize = 4;
+pub const NUMBER_PLACES: usize = 4;
 
 // One digit more than a tag has.
 const COUNTED_DIGITS: usize = 11;
 
 // What is kept of a line so far: the front of its text, and how many bytes of it are kept; its first three numbers and
 // the last, and how many there are, up to 4; how many digits the last one has, up to 11; and whether the last byte was
-// a digit.
-#[derive(Drop)]
+// a digit. Its parts are anybody's: a scan goes on from whatever stands in them.
+#[derive(Clone, Copy)]
 pub struct Line {
-    text: [u8; TEXT_PLACES],
-    length: usize,
-    numbers: [u64; NUMBER_PLACES],
-    count: usize,
-    width: usize,
-    in_number: bool,
+    pub text: [u8; TEXT_PLACES],
+    pub length: usize,
+    pub numbers: [u64; NUMBER_PLACES],
+    pub count: usize,
+    pub width: usize,
+    pub in_number: bool,
 }
 
 // Clauses see both arrays whole, beside the counts. Kept: of `ScanKept` only the counts are of the type, since `scan_line`
@@ -53,6 +53,15 @@ impl Model for Line {
       text = a.text;
       numbers = a.numbers;
       scan = record { length = a.length; count = a.count; width = a.width; in_number = a.in_number };
+    } };
+
+    ghost inverse = { λ k. record {
+      text = k.text;
+      length = k.scan.length;
+      numbers = k.numbers;
+      count = k.scan.count;
+      width = k.scan.width;
+      in_number = k.scan.in_number;
     } };
 
     ghost invariant = { λ a. Counts

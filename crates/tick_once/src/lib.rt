@@ -46,18 +46,22 @@ fn make(table: &mut [u32], k: u32, old: Task, hint: u32) -> Result<Answer, Refus
     let hat = header::hat(table, lane, side);
     let from = node_at(0);
     let end = node_at(header::slots(table));
-    let done = match old.step {
+    match old.step {
         28 => {
             let found = first_free(table, hint);
-            line28(&mut table[from..end], hat, old, goal, found)
+            let done = line28(&mut table[from..end], hat, old, goal, found);
+            finish(table, lane, side, k, Ok(done))
         }
         31 => {
             let found = found_at_31(table, old, hint);
-            line31(&mut table[from..end], hat, old, goal, found)?
+            let done = line31(&mut table[from..end], hat, old, goal, found);
+            finish(table, lane, side, k, done)
         }
-        _ => line(&mut table[from..end], hat, old, goal)?,
-    };
-    Ok(finish(table, lane, side, k, done))
+        _ => {
+            let done = line(&mut table[from..end], hat, old, goal);
+            finish(table, lane, side, k, done)
+        }
+    }
 }
 
 // 01: checks 5, 9, 10, 11.

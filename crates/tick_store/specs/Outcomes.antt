@@ -1,6 +1,7 @@
--- What a line that is made comes to in the words of the table.
-use Rattle.std.specs.Prelude.{◌≡◌, ℕ, Bool, true, List, Ok}
+-- What a line's outcome comes to in the words of the table.
+use Rattle.std.specs.Prelude.{◌≡◌, ℕ, Bool, true, List, Result, Ok, Err}
 use Rattle.std.proofs.lemmas.List.Edits.{sets}
+use Rattle.machine.specs.declared.refusal.Refusal.{Refusal}
 use Rattle.machine.specs.Sides.{Side}
 use Rattle.machine.specs.Table.{node_count, record_at, record_words, set_hat}
 use Rattle.machine.specs.Calls.{Ticked, tick_counted}
@@ -21,6 +22,7 @@ recorded ws k t = sets ws (record_at (node_count ws) k) (record_of t)
 abbrev pub stored : List ℕ → (lane : ℕ) → Side → (hat k : ℕ) → Tasks.Task → List ℕ
 stored ws l s h k t = tick_counted (recorded (set_hat l s h ws) k t)
 
--- What a line that is made comes to.
-abbrev pub finished : List ℕ → (lane : ℕ) → Side → (k : ℕ) → Done → Ticked
-finished ws l s k d = ticked_of (Ok d.answer) (stored ws l s d.hat k d.task)
+-- What a line comes to: a refusal leaves the words, and a tick that is made is stored.
+abbrev pub finished : List ℕ → (lane : ℕ) → Side → (k : ℕ) → Result Done Refusal → Ticked
+finished ws l s k (Err e) = ticked_of (Err e) ws
+finished ws l s k (Ok d) = ticked_of (Ok d.answer) (stored ws l s d.hat k d.task)

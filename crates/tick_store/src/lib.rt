@@ -1,7 +1,7 @@
-// What a tick that is made leaves in the table.
+// What a line's outcome comes to in the table: a refusal changes nothing, a tick that is made is stored.
 #![tactic(auto)]
 
-ghost use Rattle.std.specs.Prelude.{◌≡◌, ◌<◌, Ok};
+ghost use Rattle.std.specs.Prelude.{◌≡◌, ◌<◌, IfOk};
 ghost use Rattle.machine.specs.Sides.{side_of};
 ghost use Rattle.machine.specs.Table.{most_lanes};
 ghost use Rattle.table_layout.specs.Words.{HoldsRecord};
@@ -11,6 +11,7 @@ ghost use Rattle.tick_store.specs.Outcomes.{GoesOn, recorded, finished};
 
 use line_parts::ends::Done;
 use machine::answer::Answer;
+use machine::refusal::Refusal;
 use std::num::wrapping_add_u32;
 use table_layout::header::{set_hat, set_tick_count, tick_count};
 use table_layout::table;
@@ -28,16 +29,23 @@ fn set_next(table: &mut [u32], task: u32, next: Task, going: bool)
     table::set_task(table, task, next);
 }
 
-// The lane's hat, the record and the tick count after a tick that is made, and its answer. The hat is that of a lane and
-// a side.
-pub fn finish(table: &mut [u32], lane: u32, side: u32, k: u32, done: Done) -> Answer
+// The lane's hat, the record and the tick count after a tick that is made, and its answer; or the refusal of its line,
+// which leaves the table. The hat is that of a lane and a side.
+pub fn finish(
+    table: &mut [u32],
+    lane: u32,
+    side: u32,
+    k: u32,
+    done: Result<Done, Refusal>,
+) -> Result<Answer, Refusal>
     requires lane_lt_most_lanes { (lane < most_lanes) × (side < 2) × HoldsRecord table.old k }
-    requires goes_on { GoesOn table.old k (is_going (said done.answer)) done.task }
-    ensures { ticked_of (Ok result) table.new ≡ finished table.old lane (side_of side) k done }
+    requires goes_on { IfOk done (λ d. GoesOn table.old k (is_going (said d.answer)) d.task) }
+    ensures { ticked_of result table.new ≡ finished table.old lane (side_of side) k done }
 {
-    set_hat(table, lane, side, done.hat);
-    set_next(table, k, done.task, done.answer.is_going());
+    let made = done?;
+    set_hat(table, lane, side, made.hat);
+    set_next(table, k, made.task, made.answer.is_going());
     let n = wrapping_add_u32(tick_count(table), 1);
     set_tick_count(table, n);
-    done.answer
+    Ok(made.answer)
 }

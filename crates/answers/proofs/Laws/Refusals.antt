@@ -1,8 +1,18 @@
--- Two tests before others: the refusal that the two give alone is that of all, and where they give none the others say.
-use Rattle.std.proofs.Common.{◌≡◌, refl, Bool, true, false, ℕ}
+-- A refusal is known by its number. Two tests before others: the refusal that the two give alone is that of all, and
+-- where they give none the others say.
+use Rattle.std.proofs.Common.{◌≡◌, ◌≢◌, refl, sym, ap, Bool, true, false, ℕ}
 use Rattle.std.proofs.Math.Option.{Option, some, none}
 use Rattle.machine.specs.Calls.{unless}
 use Rattle.machine.proofs.Basics.Contradiction.{clash}
+
+-- The number of a refusal; 0, which is none of 01's, where a call is not refused.
+abbrev pub number_of : Option ℕ → ℕ
+number_of none = 0
+number_of (some n) = n
+
+pub refusal-due : (o : Option ℕ) {n : ℕ} → n ≡ number_of o → n ≢ 0 → o ≡ some n
+refusal-due none e h = absurd (h e)
+refusal-due (some m) e h = ap some (sym e)
 
 pub two_refuse :
     (a b : Bool) (m n : ℕ) {k : ℕ} (others : Option ℕ)

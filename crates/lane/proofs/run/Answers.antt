@@ -1,13 +1,14 @@
 -- `lane::run` meets its contract: each turn goes on from what the turns before it led to.
 use mathlib.Core.Path.{refl, ap, ◌∙◌}
-use Rattle.text_scan.specs.Kept.{no_text}
 use Rattle.program_stream.proofs.Laws.MeantLaws.{first-in-order}
 use Rattle.lane.specs.Turns.{goes_on}
 use Rattle.lane.proofs.TurnLaws.{running-starts, running-goes-on, ran-so-far, ran-to-stop}
 use Rattle.lane.proofs.run.Goals as goal
 
 pub loop-init : goal.loop-init
-loop-init g c = record { same_space = refl; running = running-starts _ c.requires.at_first c.requires.in_order }
+loop-init g c =
+    let ordered = c.restart.ensures.in_order c.requires.largest_table_in_bounds c.requires.text_len in
+    record { same_space = refl; running = running-starts _ refl ordered }
 
 pub loop-preserved : goal.loop-preserved
 loop-preserved g c =
@@ -19,10 +20,12 @@ loop-preserved g c =
 
 pub returns-in-Break-clause-ran : goal.returns-in-Break-clause-ran
 returns-in-Break-clause-ran g c =
-    let first = first-in-order c.args.session.now.space.words.now no_text c.requires.in_order.largest refl in
-    ran-to-stop _ _ first c.loop.invariant.running c.turn.ensures.turned
+    let s = c.args.session.now in
+    let first = first-in-order s.space.words.now s.line.text c.requires.largest_table_in_bounds c.requires.text_len in
+    ran-to-stop _ _ first (rw c.restart.ensures.fresh at c.loop.invariant.running) c.turn.ensures.turned
 
 pub returns-clause-ran : goal.returns-clause-ran
 returns-clause-ran g c =
-    let first = first-in-order c.args.session.now.space.words.now no_text c.requires.in_order.largest refl in
-    ran-so-far _ _ first c.loop.invariant.running
+    let s = c.args.session.now in
+    let first = first-in-order s.space.words.now s.line.text c.requires.largest_table_in_bounds c.requires.text_len in
+    ran-so-far _ _ first (rw c.restart.ensures.fresh at c.loop.invariant.running)

@@ -1,4 +1,4 @@
--- A tick in code, from the line's outcome to the words: what `call_tick::make` relies on and comes to.
+-- A tick in code, from the line's outcome to the words: what `tick_once::make` relies on and comes to.
 use mathlib.Core.Path.{◌≡◌, refl, sym, ap, ◌∙◌, subst}
 use mathlib.Core.Bool.{Bool, true, ◌||◌}
 use mathlib.Core.Logic.{◌≢◌}
@@ -10,7 +10,7 @@ use lib.ListN.{length}
 use lib.Seq.{sets}
 use lib.Dec.{eqb}
 use borrow.Author.Tests.{ne_eqb}
-use Rattle.std.specs.Prelude.{Result, Ok, Err, IsErrAnd}
+use Rattle.std.specs.Prelude.{Result, Ok, Err, IfOk}
 use Rattle.machine.specs.declared.answer.Answer.{Answer as Made}
 use Rattle.machine.specs.declared.answer.Answer.TheVariants as made-answer
 use Rattle.machine.specs.declared.refusal.Refusal.{Refusal}
@@ -84,23 +84,6 @@ pub record Tick (ws : List ℕ) (k hint : ℕ) : Type 0 where
   pub may : MayTick ws k hint
   pub old : Tasks.Task
   pub old-is : old ≡ struct_of (record_words ws k)
-
--- A line of it that is made, with the hat h and the goal g, over the nodes' part: the table afterwards, and how it ends.
-pub record LineMade {ws : List ℕ} {k hint : ℕ} (tick : Tick ws k hint) (h g : ℕ) (part after : List ℕ) (d : Done)
-    : Type 0 where
-  pub ns : List ℕ
-  pub laid : after ≡ with_nodes ns ws
-  pub kept : length ns ≡ length part
-  pub line-is : line_done ns d ≡ line_of (step_of tick.old.step) part h tick.old g (allocate ws hint)
-
-pub line-made :
-    {ws : List ℕ} {k hint : ℕ} (tick : Tick ws k hint) {h g : ℕ} {part ns after : List ℕ} (d r : Done)
-    → after ≡ with_nodes ns ws
-    → length ns ≡ length part
-    → d ≡ r
-    → line_done ns r ≡ line_of (step_of tick.old.step) part h tick.old g (allocate ws hint)
-    → LineMade tick h g part after d
-line-made tick {ns = ns} d r laid kept is line = record { ns = ns; laid = laid; kept = kept; line-is = rw is line }
 
 module _ {ws : List ℕ} {k hint : ℕ} (tick : Tick ws k hint) where
   abbrev is_task : k < task_count ws
@@ -311,34 +294,38 @@ module _ {ws : List ℕ} {k hint : ℕ} (tick : Tick ws k hint) where
           (sym old-is) outcome is-hat goal-is
           (line-is ∙ ap (λ (l : List ℕ). line_of (step_of old.step) l h old g (allocate ws hint)) is-part)
 
-      -- A line that is refused by e; r is what the tick gives back.
-      pub its-refusal :
-          {ns after : List ℕ}
+      -- What `finish` relies on: the hat and the record are there, and a task that goes on keeps its call.
+      pub its-finish :
+          (ns : List ℕ) {after : List ℕ} (d : Result Done Refusal)
           → after ≡ with_nodes ns ws
-          → (e : Refusal) (r : Result Made Refusal)
-          → IsErrAnd r (λ x. x ≡ e)
-          → outcome_of ns h old (Err e) ≡ line_of (step_of old.step) part h old g (allocate ws hint)
-          → ticked_of r after ≡ made ws k hint
-      its-refusal is-after e (Ok a) wrong line-is = absurd wrong
-      its-refusal is-after e (Err x) same line-is = rw (is-after, same) (refused-tick (done-is line-is))
+          → outcome_of ns h old d ≡ line_of (step_of old.step) part h old g (allocate ws hint)
+          → length ns ≡ length part
+          → ((old.lane < most_lanes) × (old.side < 2) × HoldsRecord after k)
+          × IfOk d (λ m. GoesOn after k (is_going (said m.answer)) m.task)
+      its-finish ns {after} d is-after line-is kept =
+          ((its-lane, its-side, subst (λ (l : List ℕ). HoldsRecord l k) (sym is-after) room), on d line-is)
+        where
+          long : length ns ≡ node_length * node_count ws
+          long = kept ∙ ap length is-part ∙ part-long ws nodes-room
 
-      -- A line that is made.
-      module _ {after : List ℕ} {d : Done} (m : LineMade tick h g part after d) where
-        -- What `finish` relies on.
-        pub its-finish :
-            ((old.lane < most_lanes) × (old.side < 2) × HoldsRecord after k)
-            × GoesOn after k (is_going (said d.answer)) d.task
-        its-finish =
-            let long : length m.ns ≡ node_length * node_count ws = m.kept ∙ ap length is-part ∙ part-long ws nodes-room in
-            let room : HoldsRecord (with_nodes m.ns ws) k
-            = omega (arith, record-room, length-laid m.ns ws nodes-room long, count-laid m.ns ws nodes-room) in (
-              (its-lane, its-side, subst (λ (l : List ℕ). HoldsRecord l k) (sym m.laid) room),
-              subst (λ (l : List ℕ). GoesOn l k (is_going (said d.answer)) d.task) (sym m.laid)
-                  (keeps-call d (done-is m.line-is) long),
-            )
+          room : HoldsRecord (with_nodes ns ws) k
+          room = omega (arith, record-room, length-laid ns ws nodes-room long, count-laid ns ws nodes-room)
 
-        pub its-tick : finished after old.lane (side_of old.side) k d ≡ made ws k hint
-        its-tick =
-            ap (λ (l : List ℕ). finished l old.lane (side_of old.side) k d) m.laid
-            ∙ ap (λ (u : Tasks.Task). finished (with_nodes m.ns ws) u.lane (side_of u.side) k d) old-is
-            ∙ made-tick d (done-is m.line-is)
+          on : (r : Result Done Refusal)
+              → outcome_of ns h old r ≡ line_of (step_of old.step) part h old g (allocate ws hint)
+              → IfOk r (λ m. GoesOn after k (is_going (said m.answer)) m.task)
+          on (Ok m) e =
+              subst (λ (l : List ℕ). GoesOn l k (is_going (said m.answer)) m.task) (sym is-after)
+              (keeps-call m (done-is e) long)
+          on (Err x) e = tt
+
+      pub its-tick :
+          (ns : List ℕ) {after : List ℕ} (d : Result Done Refusal)
+          → after ≡ with_nodes ns ws
+          → outcome_of ns h old d ≡ line_of (step_of old.step) part h old g (allocate ws hint)
+          → finished after old.lane (side_of old.side) k d ≡ made ws k hint
+      its-tick ns (Ok m) is-after line-is =
+          ap (λ (l : List ℕ). finished l old.lane (side_of old.side) k (Ok m)) is-after
+          ∙ ap (λ (u : Tasks.Task). finished (with_nodes ns ws) u.lane (side_of u.side) k (Ok m)) old-is
+          ∙ made-tick m (done-is line-is)
+      its-tick ns (Err x) is-after line-is = rw is-after (refused-tick (done-is line-is))

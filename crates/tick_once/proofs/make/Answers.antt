@@ -2,6 +2,7 @@
 use mathlib.Core.Path.{◌≡◌, ap, ◌∙◌}
 use mathlib.Core.List.{List}
 use Prim.Native.Nat.{ℕ, ◌-◌, ◌≤◌}
+use Rattle.std.specs.Prelude.{Ok}
 use native.Mathlib.Omega.{arith}
 use lib.ListN.{length}
 use borrow.Rule.Slice.PartMut.{mid_of, put_mid}
@@ -14,9 +15,8 @@ use Rattle.table_layout.proofs.Laws.LaidNodes.{with_nodes, nodes-laid}
 use Rattle.table_record.specs.declared.Task as Tasks
 use Rattle.table_record.specs.Coded.{struct_of}
 use Rattle.tick_once.specs.Steps.{MayTick}
-use Rattle.tick_once.proofs.Laws.MadeTick.{Tick, header-room, nodes-room, its-side, its-lane, its-argument, its-ready, others-ready, found-28, found-31, at-28, at-31, its-refusal, its-finish, its-tick, LineMade, line-made}
+use Rattle.tick_once.proofs.Laws.MadeTick.{Tick, header-room, nodes-room, its-side, its-lane, its-argument, its-ready, others-ready, found-28, found-31, at-28, at-31, its-finish, its-tick}
 use Rattle.tick_once.proofs.make.Goals as goal
-use Rattle.tick_once.proofs.make.Goals.{in-28, in-31+in_ok-done-in-31, in_default+in_ok-done-in_default}
 
 -- The tick that begins, by what its tests have found out.
 abbrev tick-at : {ws : List ℕ} {k hint : ℕ} {old : Tasks.Task} → MayTick ws k hint → old ≡ struct_of (record_words ws k) → Tick ws k hint
@@ -62,81 +62,74 @@ line28-done-requires c =
     let part = part-is tick c.node_at-from.ensures c.slots.ensures c.node_at-end.ensures in
     ((its-ready tick part).ready, found-28 tick part c.first_free-found.ensures)
 
-pub line31-requires : goal.line31-requires
-line31-requires c =
+pub line31-done-requires : goal.line31-done-requires
+line31-done-requires c =
     let tick = tick-at c.requires.may_tick c.requires.value in
     let part = part-is tick c.node_at-from.ensures c.slots.ensures c.node_at-end.ensures in
     ((its-ready tick part).ready, found-31 tick part c.found_at_31-found.ensures)
 
 -- The other lines look at no node that they would be given.
-pub line-requires : goal.line-requires
-line-requires c =
+pub line-done-requires : goal.line-done-requires
+line-done-requires c =
     let tick = tick-at c.requires.may_tick c.requires.value in
     let part = part-is tick c.node_at-from.ensures c.slots.ensures c.node_at-end.ensures in
     others-ready tick part c.in_default.in_default-own.rest.0.1 c.in_default.in_default-own.rest.1
 
--- ---- A line that is refused.
-pub returns-in_err-done-in-31 : goal.returns-in_err-done-in-31
-returns-in_err-done-in-31 c =
-    let tick = tick-at c.requires.may_tick c.requires.value in
-    let part = part-is tick c.node_at-from.ensures c.slots.ensures c.node_at-end.ensures in
-    let after = after_is tick c.node_at-from.ensures c.slots.ensures c.node_at-end.ensures c.line31.new.ns in
-    let is-goal = goal-is c.args.table.now c.args.old c.growth.ensures c.goal_of-goal.ensures in
-    let e = c.in_err-done-in-31.field-0.0 in
-    its-refusal tick part c.hat-hat.ensures is-goal after e c.from_residual.result c.from_residual.ensures.1
-    (at-31 tick part _ _ c.in-31.is c.found_at_31-found.ensures c.in_err-done-in-31.ensures)
-
-pub returns-in_err-done-in_default : goal.returns-in_err-done-in_default
-returns-in_err-done-in_default c =
-    let tick = tick-at c.requires.may_tick c.requires.value in
-    let part = part-is tick c.node_at-from.ensures c.slots.ensures c.node_at-end.ensures in
-    let after = after_is tick c.node_at-from.ensures c.slots.ensures c.node_at-end.ensures c.line.new.ns in
-    let is-goal = goal-is c.args.table.now c.args.old c.growth.ensures c.goal_of-goal.ensures in
-    let e = c.in_err-done-in_default.field-0.0 in
-    its-refusal tick part c.hat-hat.ensures is-goal after e c.from_residual-in_err-done-in_default.result
-    c.from_residual-in_err-done-in_default.ensures.1
-    (c.in_err-done-in_default.ensures (allocate c.args.table.now c.args.hint))
-
--- ---- A line that is made.
+-- ---- What is laid back.
 pub finish-requires : goal.finish-requires
 finish-requires c =
     let tick = tick-at c.requires.may_tick c.requires.value in
     let part = part-is tick c.node_at-from.ensures c.slots.ensures c.node_at-end.ensures in
-    let after = after_is tick c.node_at-from.ensures c.slots.ensures c.node_at-end.ensures in
+    let after = after_is tick c.node_at-from.ensures c.slots.ensures c.node_at-end.ensures c.line28-done.new.ns in
     let is-goal = goal-is c.args.table.now c.args.old c.growth.ensures c.goal_of-goal.ensures in
-    let line : LineMade tick c.hat-hat.result c.goal_of-goal.result _ c.match-old.table c.match-old.done =
-    elim c.match-old.branch [
-      | in-28 w ↦
-          line-made tick _ _ (w.table-is ∙ after _) w.line28-done.auto.ns w.done-is
-          (at-28 tick part _ _ w.in-28.is w.first_free-found.ensures w.line28-done.ensures)
-      | in-31+in_ok-done-in-31 w ↦
-          line-made tick _ _ (w.table-is ∙ after _) w.line31.auto.ns w.done-is
-          (at-31 tick part _ _ w.in-31.is w.found_at_31-found.ensures w.in_ok-done-in-31.ensures)
-      | in_default+in_ok-done-in_default w ↦
-          line-made tick _ _ (w.table-is ∙ after _) w.line.auto.ns w.done-is
-          (w.in_ok-done-in_default.ensures (allocate c.args.table.now c.args.hint))
-    ]
-    in
-    let made = its-finish tick part c.hat-hat.ensures is-goal line in
-    record { lane_lt_most_lanes = made.0; goes_on = made.1 }
+    let line-is = at-28 tick part _ _ c.in-28.is c.first_free-found.ensures c.line28-done.ensures in
+    let laid = its-finish tick part c.hat-hat.ensures is-goal _ (Ok c.line28-done.result) after line-is c.line28-done.auto.ns in
+    record { lane_lt_most_lanes = laid.0; goes_on = laid.1 }
 
-pub returns : goal.returns
-returns c =
+pub finish-requires-in-31 : goal.finish-requires-in-31
+finish-requires-in-31 c =
     let tick = tick-at c.requires.may_tick c.requires.value in
     let part = part-is tick c.node_at-from.ensures c.slots.ensures c.node_at-end.ensures in
-    let after = after_is tick c.node_at-from.ensures c.slots.ensures c.node_at-end.ensures in
+    let after = after_is tick c.node_at-from.ensures c.slots.ensures c.node_at-end.ensures c.line31-done.new.ns in
     let is-goal = goal-is c.args.table.now c.args.old c.growth.ensures c.goal_of-goal.ensures in
-    let line : LineMade tick c.hat-hat.result c.goal_of-goal.result _ c.match-old.table c.match-old.done =
-    elim c.match-old.branch [
-      | in-28 w ↦
-          line-made tick _ _ (w.table-is ∙ after _) w.line28-done.auto.ns w.done-is
-          (at-28 tick part _ _ w.in-28.is w.first_free-found.ensures w.line28-done.ensures)
-      | in-31+in_ok-done-in-31 w ↦
-          line-made tick _ _ (w.table-is ∙ after _) w.line31.auto.ns w.done-is
-          (at-31 tick part _ _ w.in-31.is w.found_at_31-found.ensures w.in_ok-done-in-31.ensures)
-      | in_default+in_ok-done-in_default w ↦
-          line-made tick _ _ (w.table-is ∙ after _) w.line.auto.ns w.done-is
-          (w.in_ok-done-in_default.ensures (allocate c.args.table.now c.args.hint))
-    ]
-    in
-    c.finish.ensures ∙ its-tick tick part c.hat-hat.ensures is-goal line
+    let line-is = at-31 tick part _ _ c.in-31.is c.found_at_31-found.ensures c.line31-done.ensures in
+    let laid = its-finish tick part c.hat-hat.ensures is-goal _ c.line31-done.result after line-is c.line31-done.auto.ns in
+    record { lane_lt_most_lanes = laid.0; goes_on = laid.1 }
+
+pub finish-requires-in_default : goal.finish-requires-in_default
+finish-requires-in_default c =
+    let tick = tick-at c.requires.may_tick c.requires.value in
+    let part = part-is tick c.node_at-from.ensures c.slots.ensures c.node_at-end.ensures in
+    let after = after_is tick c.node_at-from.ensures c.slots.ensures c.node_at-end.ensures c.line-done.new.ns in
+    let is-goal = goal-is c.args.table.now c.args.old c.growth.ensures c.goal_of-goal.ensures in
+    let line-is = c.line-done.ensures (allocate c.args.table.now c.args.hint) in
+    let laid = its-finish tick part c.hat-hat.ensures is-goal _ c.line-done.result after line-is c.line-done.auto.ns in
+    record { lane_lt_most_lanes = laid.0; goes_on = laid.1 }
+
+-- ---- What each comes to.
+pub returns-in-28 : goal.returns-in-28
+returns-in-28 c =
+    let tick = tick-at c.requires.may_tick c.requires.value in
+    let part = part-is tick c.node_at-from.ensures c.slots.ensures c.node_at-end.ensures in
+    let after = after_is tick c.node_at-from.ensures c.slots.ensures c.node_at-end.ensures c.line28-done.new.ns in
+    let is-goal = goal-is c.args.table.now c.args.old c.growth.ensures c.goal_of-goal.ensures in
+    let line-is = at-28 tick part _ _ c.in-28.is c.first_free-found.ensures c.line28-done.ensures in
+    c.finish.ensures ∙ its-tick tick part c.hat-hat.ensures is-goal _ (Ok c.line28-done.result) after line-is
+
+pub returns-in-31 : goal.returns-in-31
+returns-in-31 c =
+    let tick = tick-at c.requires.may_tick c.requires.value in
+    let part = part-is tick c.node_at-from.ensures c.slots.ensures c.node_at-end.ensures in
+    let after = after_is tick c.node_at-from.ensures c.slots.ensures c.node_at-end.ensures c.line31-done.new.ns in
+    let is-goal = goal-is c.args.table.now c.args.old c.growth.ensures c.goal_of-goal.ensures in
+    let line-is = at-31 tick part _ _ c.in-31.is c.found_at_31-found.ensures c.line31-done.ensures in
+    c.finish-in-31.ensures ∙ its-tick tick part c.hat-hat.ensures is-goal _ c.line31-done.result after line-is
+
+pub returns-in_default : goal.returns-in_default
+returns-in_default c =
+    let tick = tick-at c.requires.may_tick c.requires.value in
+    let part = part-is tick c.node_at-from.ensures c.slots.ensures c.node_at-end.ensures in
+    let after = after_is tick c.node_at-from.ensures c.slots.ensures c.node_at-end.ensures c.line-done.new.ns in
+    let is-goal = goal-is c.args.table.now c.args.old c.growth.ensures c.goal_of-goal.ensures in
+    let line-is = c.line-done.ensures (allocate c.args.table.now c.args.hint) in
+    c.finish-in_default.ensures ∙ its-tick tick part c.hat-hat.ensures is-goal _ c.line-done.result after line-is
